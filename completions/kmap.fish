@@ -17,7 +17,7 @@ complete -c kmap -n '__kmap_after' -a lint -d 'Tells what is wrong or doubtful i
 complete -c kmap -n '__kmap_after' -a fmt -d 'Writes keymap texts in one layout, and changes nothing else'
 complete -c kmap -n '__kmap_after' -a play -d 'Prints what the console answers to a script of key presses'
 complete -c kmap -n '__kmap_after' -a type -d 'Prints a script of key presses that types a sentence'
-complete -c kmap -n '__kmap_after' -a cover -d 'Prints a script that tests a console with all that a keymap can do'
+complete -c kmap -n '__kmap_after' -a cover -d 'Prints a script that tests a console with a keymap'
 complete -c kmap -n '__kmap_after' -a compile -d 'Writes the table file of a keymap text'
 complete -c kmap -n '__kmap_after' -a dump -d 'Prints a table file as keymap text'
 complete -c kmap -n '__kmap_after' -a draw -d 'Draws a keymap as one SVG picture'

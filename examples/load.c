@@ -31,7 +31,7 @@ static int load(const char *name, size_t length)
 	}
 	if (kmap_accepts(tables.bytes, sizeof tables.bytes, &finding) != KMAP_OK) {
 		kmap_finding_words(&finding, words, sizeof words);
-		fprintf(stderr, "load: %s: a modifier can stick: %s\n", name, (char *)words);
+		fprintf(stderr, "load: %s: not safe: %s\n", name, (char *)words);
 		return 1;
 	}
 	return 0;

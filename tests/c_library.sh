@@ -123,7 +123,7 @@ if is_there "$cc"; then
     done
     finding=$("$program" check "$examples/trap.kbd" | sed -n 2p)
     holds 'the loader refuses an unsafe keymap' [ "$(./load "$examples/trap.kbd" 2>&1 < /dev/null)" = \
-        "load: $examples/trap.kbd: a modifier can stick: $finding" ]
+        "load: $examples/trap.kbd: not safe: $finding" ]
     printf '030 "a"\n' > faulty.kbd
     holds 'the loader refuses a faulty text' \
         says 1 'load: faulty.kbd: line 1, offset 4: a byte that begins no token' empty ./load faulty.kbd

@@ -97,9 +97,11 @@ refuses replay-word
 refuses sticking
 refuses sticking_between
 refuses sights_of
-refuses events_that_show
+refuses Planner::new
+refuses Planner::visit
+refuses Planner::events_to
+refuses find_onward
 yields type_characters
-refuses plan_for
 yields cover_of
 refuses Seen::new
 refuses cells

@@ -180,7 +180,7 @@ if is_there python3; then
     holds 'another word at a place is seen' misses "$runs" LOCK_SETTINGS '"lock settings"' '"settings"'
     holds 'another word of a list is seen' misses "$runs" BOTH_LOCKS 'clock+nlock' 'clock nlock'
     holds 'another word of a run of slots is seen' misses "$runs" SLOTS 'slots {} to {}' 'slots {} - {}'
-    holds 'another name of a part is seen' misses "$runs" ONE_WAY 'one-way' 'oneway'
+    holds 'another name of a part is seen' misses "$runs" ONE_WAY_PART 'one-way' 'oneway'
     checked=$top/crates/keymap_check/src/words.rt
     faults=$top/crates/kmap_runs/src/fault_line.rt
     library=$top/crates/kmap_c/src/words.rt

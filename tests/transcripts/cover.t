@@ -7,7 +7,7 @@ prints the comments before the events, and `parts` those that name a part.
   >         [ "$(wc -l < answers)" -eq "$(grep -vc '^#' script)" ] && tail -n 1 answers | grep -q 'mods none'
   > }
   $ begins() {
-  >     sed '/^# looks$/,$d' script
+  >     sed '/^# cells$/,$d' script
   > }
   $ parts() {
   >     grep '^# [a-z-]*$' script
@@ -31,9 +31,9 @@ most 4,000 events.
   # pairs: 54, left out 0, never 0
   # never: slots 128 to 255; columns 0 1 2 3 4 5 6 7; locks none nlock clock clock+nlock
   $ parts
-  # looks
-  # accents
-  # rules
+  # cells
+  # pairs
+  # trials
   $ possible
   $ [ "$(grep -vc '^#' script)" -le 4000 ]
   $ covers "$examples/de.kbd"
@@ -43,9 +43,9 @@ most 4,000 events.
   # pairs: 52, left out 0, never 0
   # never: slots 128 to 255; columns 0 1 2 3 4 5 6 7; locks none nlock clock clock+nlock
   $ parts
-  # looks
-  # accents
-  # rules
+  # cells
+  # pairs
+  # trials
   $ possible
   $ [ "$(grep -vc '^#' script)" -le 4000 ]
 
@@ -88,7 +88,7 @@ alock turns on by a key of the lower half that is a letter in the upper one: its
   > END
   $ covers oneway
   $ parts
-  # looks
+  # cells
   # one-way
   $ grep '^# cells' script
   # cells: 256, left out 0, never 1792

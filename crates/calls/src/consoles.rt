@@ -1,14 +1,13 @@
-//! The calls of console_core, and of keymap_tour and keymap_cover, which stand on it.
+//! The calls of console_core, and of keymap_cover, which stands on it.
 use crate::devices::mark;
 use crate::inputs::{TRAP, map_of, sample};
 use crate::outcome::{Outcome, ended, ended_keeping};
 use console_core::{
-    Event, PlainConsole, Sight, Sticking, Translator, WordConsole, events_that_show, replay,
+    Event, PlainConsole, Planner, Sight, Sticking, Translator, WordConsole, find_onward, replay,
     sights_of, sticking, sticking_between, type_characters,
 };
 use keymap_core::{KeyCode, Lock, Modifier, Write};
 use keymap_cover::{Seen, cells, cover_of, lock_settings};
-use keymap_tour::plan_for;
 use std::alloc::{AllocError, Global};
 
 /// Makes the call of this name. There is none where no call has the name.
@@ -23,9 +22,11 @@ pub(crate) fn outcome_of<W: Write>(
         "sticking" => searches(alloc, marks)?,
         "sticking_between" => searches_between(alloc, marks)?,
         "sights_of" => finds_sights(alloc, marks)?,
-        "events_that_show" => shows_sights(alloc, marks)?,
+        "Planner::new" => plans_visits(alloc, marks)?,
+        "Planner::visit" => visits(alloc, marks)?,
+        "Planner::events_to" => goes_out(alloc, marks)?,
+        "find_onward" => goes_onward(alloc, marks)?,
         "type_characters" => types_characters(alloc, marks)?,
-        "plan_for" => plans(alloc, marks)?,
         "cover_of" => covers(alloc, marks)?,
         "Seen::new" => sees_nothing(alloc, marks),
         "cells" => lists_cells(alloc, marks),
@@ -130,33 +131,52 @@ fn types_characters<W: Write>(alloc: Global, marks: &mut W) -> Result<Outcome, A
     Ok(ended_keeping(given.map(|typing| typing.keyed.len() == 5), map == twin))
 }
 
-/// What a press of the letter sees under shift, and with the accent pending.
-static SIGHTS: [Sight; 2] = [
-    Sight::Cell {
-        slot: 18,
-        column: 1,
-    },
-    Sight::Pair {
-        accent: 1,
-        character: 'e',
-    },
-];
-
-fn shows_sights<W: Write>(alloc: Global, marks: &mut W) -> Result<Outcome, AllocError> {
+fn plans_visits<W: Write>(alloc: Global, marks: &mut W) -> Result<Outcome, AllocError> {
     let (map, twin) = (sample(alloc)?, sample(alloc)?);
     mark(marks);
-    let given = events_that_show(alloc, &map, &SIGHTS);
+    let given = Planner::new(alloc, &map);
     mark(marks);
-    let shown = given.map(|events| events.is_some_and(|events| !events.is_empty()));
-    Ok(ended_keeping(shown, map == twin))
+    Ok(ended_keeping(given.map(|planner| planner.is_some()), map == twin))
 }
 
-fn plans<W: Write>(alloc: Global, marks: &mut W) -> Result<Outcome, AllocError> {
-    let (map, twin) = (sample(alloc)?, sample(alloc)?);
+/// A visit that composes an accent with a letter.
+fn visits<W: Write>(alloc: Global, marks: &mut W) -> Result<Outcome, AllocError> {
+    let map = sample(alloc)?;
+    let Some(mut planner) = Planner::new(alloc, &map)? else {
+        return Ok(ended::<AllocError>(Ok(false)));
+    };
+    let pair = Sight::Pair {
+        accent: 1,
+        character: 'e',
+    };
+    let is_found = planner.find(pair);
     mark(marks);
-    let given = plan_for(alloc, &map);
+    let given = planner.visit(alloc, &[]);
     mark(marks);
-    Ok(ended_keeping(given.map(|plan| !plan.events.is_empty()), map == twin))
+    Ok(ended(given.map(|events| is_found && !events.is_empty())))
+}
+
+fn goes_out<W: Write>(alloc: Global, marks: &mut W) -> Result<Outcome, AllocError> {
+    let map = sample(alloc)?;
+    let Some(planner) = Planner::new(alloc, &map)? else {
+        return Ok(ended::<AllocError>(Ok(false)));
+    };
+    mark(marks);
+    let given = planner.events_to(alloc, 1);
+    mark(marks);
+    Ok(ended(given.map(|events| !events.is_empty())))
+}
+
+fn goes_onward<W: Write>(alloc: Global, marks: &mut W) -> Result<Outcome, AllocError> {
+    let map = sample(alloc)?;
+    let cell = Sight::Cell {
+        slot: 18,
+        column: 1,
+    };
+    mark(marks);
+    let given = find_onward(alloc, &map, &PlainConsole::new(&map), cell);
+    mark(marks);
+    Ok(ended(given.map(|onward| onward.is_some())))
 }
 
 fn covers<W: Write>(alloc: Global, marks: &mut W) -> Result<Outcome, AllocError> {

@@ -1,29 +1,21 @@
 -- That what a console keeps agrees with a list of resolved events is kept by each kind of resolved event.
-use Prim.Native.Nat.{suc}
-use Rattle.std.proofs.Common.{subst, ◌≡◌, ℕ, ◌<◌, false, ◌&&◌, not, List, [], ◌∷◌, None, refl}
-use Rattle.std.proofs.Common.{ap, sym, ◌∙◌, if◌then◌else◌}
-use Rattle.std.specs.Prelude.{◌==◌}
-use Rattle.console_core.specs.Types.{Action, Modifier, Meta, Cell, Char, Act, Event, Press, Load, Answer}
-use Rattle.keymap_core.specs.declared.action.Holding.TheVariants as holding
-use Rattle.keymap_core.specs.Maps.{MapValue}
-use Rattle.console_core.specs.Positions.{is_odd, count_where}
-use Rattle.keymap_core.specs.Borne.{is_borne}
-use Rattle.console_core.specs.Columns.{look_with}
-use Rattle.console_core.specs.Resolved.{answer_resolved, ResolvedEvent, locked, remembered, taken_over}
-use Rattle.console_core.specs.Resolved.{look, on, resolve_press}
-use Rattle.console_core.specs.History.{Maps, in_force, loaded, is_second_in_force, is_load, resolved_event, answer_to}
-use Rattle.console_core.specs.History.{resolved}
-use Rattle.console_core.specs.Agrees.{Agrees, StandsAt, Kept, nothing_kept}
-use Rattle.console_core.specs.Answers.{answer_char, answer_action, answer_release}
-use Rattle.console_core.specs.Inner.Kept.{after_character, after_action, after_release, after_reset, after_load}
-use Rattle.console_core.specs.Resolved.ResolvedEvent.{PressedCharacter, PressedAction, ReleasedKey, WasReset, WasLoaded}
+use Rattle.console_core.proofs.Common.{suc, subst, ◌≡◌, ℕ, ◌<◌, false, ◌&&◌, not, List, [], ◌∷◌, None, refl, ap, sym}
+use Rattle.console_core.proofs.Common.{◌∙◌, if◌then◌else◌, ◌==◌, Action, Modifier, Meta, Cell, Char, Act, Event, Press}
+use Rattle.console_core.proofs.Common.{Load, Answer, MapValue, is_odd, count_where, is_borne, look_with}
+use Rattle.console_core.proofs.Common.{answer_resolved, ResolvedEvent, locked, remembered, taken_over, look, on}
+use Rattle.console_core.proofs.Common.{resolve_press, Maps, in_force, loaded, is_second_in_force, is_load}
+use Rattle.console_core.proofs.Common.{resolved_event, answer_to, resolved, StandsAt, Kept, answer_char, answer_action}
+use Rattle.console_core.proofs.Common.{answer_release, after_character, after_action, after_release, after_reset}
+use Rattle.console_core.proofs.Common.{after_load, PressedCharacter, PressedAction, ReleasedKey, WasReset, WasLoaded}
+use Rattle.console_core.proofs.Common.{fun_ext}
+use Rattle.console_core.specs.Agrees.{Agrees, nothing_kept}
 use Rattle.console_core.proofs.OneMore.{resolved-start, resolved-more, held-start, held-character, held-action}
 use Rattle.console_core.proofs.OneMore.{held-release, held-reset, locked-start, locked-character, locked-action}
 use Rattle.console_core.proofs.OneMore.{locked-release, locked-reset, remembered-start, remembered-character}
 use Rattle.console_core.proofs.OneMore.{remembered-action, remembered-release, remembered-reset, pending-start}
 use Rattle.console_core.proofs.OneMore.{pending-character, pending-action, pending-release, pending-reset, held-load}
 use Rattle.console_core.proofs.OneMore.{locked-load, remembered-load, pending-load}
-use mathlib.Core.Path.{fun_ext}
+use Rattle.keymap_core.specs.declared.action.Holding.TheVariants as holding
 
 -- a look by what is kept is the look of the events
 pub agrees-look : (m : MapValue) (h : List ResolvedEvent) (k : Kept) (key : ℕ) → Agrees m h k

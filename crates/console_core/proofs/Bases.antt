@@ -1,19 +1,13 @@
 -- What can be tapped to type a character while an accent is pending: a base of its pairs, the blank or its dead key.
-use Prim.Native.Nat.{suc}
-use Rattle.std.proofs.Common.{◌≡◌, ℕ, Bool, true, false, List, [], ◌∷◌, Option, Some, None, refl, ap, subst, sym, ◌∙◌}
-use Rattle.std.proofs.Common.{arith, if◌then◌else◌, MatchOption, slice_get, length, ◌<◌, ◌≤◌, inl, inr}
-use Rattle.std.specs.Prelude.{◌==◌}
-use Rattle.std.specs.List.{Contains}
-use Rattle.std.proofs.lemmas.Bool.{eqb-true, cases_lt, true≢false}
-use Rattle.std.proofs.lemmas.Option.{none-some, slice_get-get_or, slice_get_within}
-use Rattle.keymap_core.specs.Accents.{AccentValue, first_result, own_of}
-use Rattle.keymap_core.specs.Maps.{MapValue, accent_at}
-use Rattle.console_core.specs.declared.explored.Explored.{Explored}
-use Rattle.console_core.specs.declared.explored.Symbol.{Symbol}
-use Rattle.console_core.specs.declared.explored.Symbol.TheVariants as symbol
-use Rattle.console_core.specs.Answers.{composed_by, has_own, usable}
-use Rattle.console_core.specs.Inner.Exploring.{IsBase}
+use Rattle.console_core.proofs.Common.{suc, ◌≡◌, ℕ, Bool, true, false, List, [], ◌∷◌, Option, Some, None, refl, ap}
+use Rattle.console_core.proofs.Common.{subst, sym, ◌∙◌, arith, if◌then◌else◌, MatchOption, slice_get, length, ◌<◌, ◌≤◌}
+use Rattle.console_core.proofs.Common.{inl, inr, ◌==◌, Contains, eqb-true, cases_lt, true≢false, none-some}
+use Rattle.console_core.proofs.Common.{slice_get-get_or, slice_get_within, own_of, MapValue, accent_at, Explored}
+use Rattle.console_core.proofs.Common.{Symbol, composed_by, usable, IsBase}
+use Rattle.keymap_core.specs.Accents.{AccentValue, first_result}
+use Rattle.console_core.specs.Answers.{has_own}
 use Rattle.console_core.proofs.Strokes.{same-dead}
+use Rattle.console_core.specs.declared.explored.Symbol.TheVariants as symbol
 
 -- a pair has the base of a result
 first-member : (pairs : List (ℕ × ℕ)) (b c : ℕ) → first_result pairs b ≡ Some c

@@ -1,26 +1,19 @@
 -- Held, remembered and pressed: how they follow from one another.
-use Rattle.std.proofs.Common.{◌≡◌, ℕ, ◌<◌, ◌⊎◌, Bool, true, false, not, eqb, List, [], ◌∷◌, Option, Some, None}
-use Rattle.std.proofs.Common.{refl, ap, subst, sym, ◌∙◌, inl, inr, if◌then◌else◌}
-use Rattle.std.specs.Prelude.{◌==◌}
-use Rattle.std.proofs.lemmas.Bool.{eqb-true, eq-eqb, and_parts, or_cases, cases_Bool, true≢false, both_ways, not-true}
-use Rattle.std.specs.Option.{option_or}
-use Rattle.std.proofs.lemmas.Option.{none-some, same_Some}
-use Rattle.std.proofs.lemmas.Bool.{or_right}
-use Rattle.console_core.specs.Types.{Action, Holding, Cell, Char, Act, Event, Press, Release, Reset, Load}
-use Rattle.keymap_core.specs.declared.action.Action.TheVariants as act
-use Rattle.keymap_core.specs.Actions.{same_action, holding_action}
-use Rattle.keymap_core.specs.Maps.{MapValue}
-use Rattle.console_core.specs.Resolved.{ResolvedEvent, held, remembered, taken_over, unless_nop, is_this_action, look}
-use Rattle.console_core.specs.Resolved.{resolve_press}
-use Rattle.console_core.specs.History.{Maps, in_force, resolved, pressed}
-use Rattle.console_core.specs.Resolved.ResolvedEvent.{PressedCharacter, PressedAction, ReleasedKey, WasReset, WasLoaded}
-use Rattle.keymap_core.specs.Bearers.{IsCellOf, Bears, IsAlone}
+use Rattle.console_core.proofs.Common.{◌≡◌, ℕ, ◌<◌, ◌⊎◌, Bool, true, false, not, eqb, List, [], ◌∷◌, Option, Some, None}
+use Rattle.console_core.proofs.Common.{refl, ap, subst, sym, ◌∙◌, inl, inr, if◌then◌else◌, ◌==◌, eqb-true, eq-eqb}
+use Rattle.console_core.proofs.Common.{and_parts, or_cases, cases_Bool, true≢false, both_ways, not-true, option_or}
+use Rattle.console_core.proofs.Common.{none-some, same_Some, or_right, Action, Holding, Cell, Char, Act, Event, Press}
+use Rattle.console_core.proofs.Common.{Release, Reset, Load, same_action, holding_action, MapValue, ResolvedEvent, held}
+use Rattle.console_core.proofs.Common.{remembered, taken_over, unless_nop, is_this_action, look, resolve_press, Maps}
+use Rattle.console_core.proofs.Common.{in_force, resolved, pressed, PressedCharacter, PressedAction, ReleasedKey}
+use Rattle.console_core.proofs.Common.{WasReset, WasLoaded, IsCellOf, Bears, same_action-true, same_action-refl}
+use Rattle.keymap_core.specs.Bearers.{IsAlone}
 use Rattle.console_core.proofs.OneMore.{resolved-start, resolved-more, held-start, held-character, held-action}
 use Rattle.console_core.proofs.OneMore.{held-release, held-reset, remembered-start, remembered-character}
 use Rattle.console_core.proofs.OneMore.{remembered-action, remembered-release, remembered-reset, pressed-press}
 use Rattle.console_core.proofs.OneMore.{pressed-release, held-load, remembered-load}
-use Rattle.keymap_core.proofs.SameActions.{same_action-true, same_action-refl}
 use Rattle.console_core.proofs.Borne.{AllLooked, taken-holding}
+use Rattle.keymap_core.specs.declared.action.Action.TheVariants as act
 
 -- a conditional that forgets
 kept_if : (t : Bool) (o : Option Action) (a : Action) → (if t then None else o) ≡ Some a → (t ≡ false) × (o ≡ Some a)

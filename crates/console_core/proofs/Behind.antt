@@ -1,9 +1,6 @@
 -- The states behind where an accent is offered.
-use Rattle.std.proofs.Common.{◌≡◌, ℕ, List, [], ◌∷◌, ◌++◌, refl, ap, subst, sym}
-use Rattle.console_core.specs.Types.{Move}
-use Rattle.console_core.specs.Moves.{Under, State, IsMove, moved, IsPath, state_after, IsPathFrom, state_from}
-use Rattle.console_core.specs.Sights.{IsOfferedIn}
-use Rattle.console_core.specs.Inner.Noting.{IsBehind}
+use Rattle.console_core.proofs.Common.{◌≡◌, ℕ, List, [], ◌∷◌, ◌++◌, refl, ap, subst, sym, Move, Under, State, IsMove}
+use Rattle.console_core.proofs.Common.{moved, IsPath, state_after, IsPathFrom, state_from, IsOfferedIn, IsBehind}
 
 -- where it is offered
 pub behind-offered : (u : Under) (path : List Move) (accent : ℕ) → IsPath u path

@@ -1,29 +1,23 @@
 -- What the resolved events of a map's looks say of its keys: a remembered action is borne by its key, and a holding
 -- action that is held is remembered.
-use Rattle.std.proofs.Common.{◌≡◌, ℕ, ◌<◌, ◌⊎◌, Bool, true, false, not, List, [], ◌∷◌, Option, Some, None, refl, ap}
-use Rattle.std.proofs.Common.{subst, sym, ◌∙◌, inl, inr, if◌then◌else◌, lit<}
-use Rattle.std.proofs.lemmas.Bool.{and_parts, or_cases, true≢false}
-use Rattle.std.proofs.lemmas.List.Elements.{All-head, All-tail}
-use Rattle.std.specs.Option.{option_or}
-use Rattle.console_core.specs.Types.{Action, Lock, Holding, Cell, Char, Act, Event, Press, Release, Reset, Load}
+use Rattle.console_core.proofs.Common.{◌≡◌, ℕ, ◌<◌, ◌⊎◌, Bool, true, false, not, List, [], ◌∷◌, Option, Some, None}
+use Rattle.console_core.proofs.Common.{refl, ap, subst, sym, ◌∙◌, inl, inr, if◌then◌else◌, lit<, and_parts, or_cases}
+use Rattle.console_core.proofs.Common.{true≢false, All-head, All-tail, option_or, Action, Lock, Holding, Cell, Char}
+use Rattle.console_core.proofs.Common.{Act, Event, Press, Release, Reset, Load, same_action, holding_action, MapValue}
+use Rattle.console_core.proofs.Common.{cell_at, slot_of, exactly_one, ResolvedEvent, held, locked, remembered}
+use Rattle.console_core.proofs.Common.{taken_over, unless_nop, look, resolve_press, Maps, in_force, loaded, resolved}
+use Rattle.console_core.proofs.Common.{HasKey, HasKeys, PressedCharacter, PressedAction, ReleasedKey, WasReset}
+use Rattle.console_core.proofs.Common.{WasLoaded, IsCellOf, is_borne, bears-borne, same_action-true}
+use Rattle.console_core.specs.Columns.{column_of}
+use Rattle.keymap_core.specs.Bearers.{StandsIn, IsUpperLive}
+use Rattle.console_core.proofs.OneMore.{resolved-start, resolved-more, held-start, held-character, held-action}
+use Rattle.console_core.proofs.OneMore.{held-release, held-reset, locked-start, locked-character, locked-action}
+use Rattle.console_core.proofs.OneMore.{locked-release, locked-reset, held-load, locked-load}
+use Rattle.keymap_core.proofs.BorneTests.{borne-upper}
 use Rattle.keymap_core.specs.declared.action.Action.TheVariants as act
 use Rattle.keymap_core.specs.declared.action.Modifier.TheVariants as modifier
 use Rattle.keymap_core.specs.declared.action.Lock.TheVariants as lock
 use Rattle.keymap_core.specs.declared.action.Holding.TheVariants as holding
-use Rattle.keymap_core.specs.Actions.{same_action, holding_action}
-use Rattle.keymap_core.specs.Maps.{MapValue, cell_at}
-use Rattle.console_core.specs.Columns.{slot_of, column_of, exactly_one}
-use Rattle.console_core.specs.Resolved.{ResolvedEvent, held, locked, remembered, taken_over, unless_nop, look}
-use Rattle.console_core.specs.Resolved.{resolve_press}
-use Rattle.console_core.specs.History.{Maps, in_force, loaded, resolved, HasKey, HasKeys}
-use Rattle.console_core.specs.Resolved.ResolvedEvent.{PressedCharacter, PressedAction, ReleasedKey, WasReset, WasLoaded}
-use Rattle.keymap_core.specs.Bearers.{StandsIn, IsUpperLive, IsCellOf}
-use Rattle.console_core.proofs.OneMore.{resolved-start, resolved-more, held-start, held-character, held-action}
-use Rattle.console_core.proofs.OneMore.{held-release, held-reset, locked-start, locked-character, locked-action}
-use Rattle.console_core.proofs.OneMore.{locked-release, locked-reset, held-load, locked-load}
-use Rattle.keymap_core.specs.Borne.{is_borne}
-use Rattle.keymap_core.proofs.BorneTests.{borne-upper, bears-borne}
-use Rattle.keymap_core.proofs.SameActions.{same_action-true}
 
 -- the resolved event's key is a key, and its look is a cell of the key
 abbrev pub Looked : MapValue → ResolvedEvent → Type 0

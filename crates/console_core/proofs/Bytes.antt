@@ -1,9 +1,7 @@
 -- The bits of a packed console's word that are cut out of it as a byte.
-use Rattle.std.proofs.Common.{◌≡◌, ℕ, ◌/◌, ◌%◌, ◌^◌, ◌==◌, ap, arith}
-use Rattle.keymap_core.specs.Actions.{modifier_index, lock_index}
-use Rattle.console_core.specs.Types.{Modifier, LeftShift, RightShift, LeftControl, RightControl, LeftAlt, RightAlt}
-use Rattle.console_core.specs.Types.{AltShift, Meta, Lock, Caps, Num, Scroll, Alt}
-use Rattle.console_core.specs.PackedWord.{bit_is_set, lock_bit}
+use Rattle.console_core.proofs.Common.{◌≡◌, ℕ, ◌/◌, ◌%◌, ◌^◌, ◌==◌, ap, arith, modifier_index, lock_index, Modifier}
+use Rattle.console_core.proofs.Common.{LeftShift, RightShift, LeftControl, RightControl, LeftAlt, RightAlt, AltShift}
+use Rattle.console_core.proofs.Common.{Meta, Lock, Caps, Num, Scroll, Alt, bit_is_set, lock_bit}
 
 -- the modifiers: the lowest eight bits
 pub modifier-bits : (word : ℕ) (i : Modifier)

@@ -1,28 +1,18 @@
 -- Which keys a character is typed with, by what was explored.
-use Rattle.std.proofs.Common.{◌≡◌, ◌+◌, ℕ, true, false, List, [], ◌∷◌, ◌++◌, slice_get, Some, ap, subst, sym}
-use Rattle.std.proofs.Common.{◌∙◌, inl, inr, arith}
-use Rattle.std.proofs.lemmas.Bool.{cases_Bool}
-use Rattle.keymap_core.specs.Maps.{MapValue}
-use Rattle.console_core.specs.Types.{Event, Move}
-use Rattle.console_core.specs.declared.explored.Explored.{Explored}
-use Rattle.console_core.specs.declared.explored.Symbol.{Symbol}
-use Rattle.console_core.specs.declared.explored.Symbol.TheVariants as symbol
-use Rattle.console_core.specs.declared.explored.Tap.{Tap}
-use Rattle.console_core.specs.declared.held.Held.{Held}
+use Rattle.console_core.proofs.Common.{◌≡◌, ◌+◌, ℕ, true, false, List, [], ◌∷◌, ◌++◌, slice_get, Some, ap, subst, sym}
+use Rattle.console_core.proofs.Common.{◌∙◌, inl, inr, arith, cases_Bool, MapValue, Event, Move, Explored, Symbol, Tap}
+use Rattle.console_core.proofs.Common.{Held, Under, alone, State, start, IsPath, state_after, IsPathFrom, state_from}
+use Rattle.console_core.proofs.Common.{presses_along, ReachesMoreThanFrom, state_limit, CanTap, CanType, ComesHome}
+use Rattle.console_core.proofs.Common.{IsTapOf, HasRoute, map_of_explored, origin_in, IsStand, HasTap, IsStroke, IsView}
+use Rattle.console_core.proofs.Common.{CanAccent, LeadsByTap, TypesOne, dead_tap, state_of, Entry}
 use Rattle.console_core.specs.declared.ways.Accented.{Accented}
 use Rattle.console_core.specs.declared.typing.Typed.{Typed}
-use Rattle.console_core.specs.declared.typing.Typed.TheVariants as typed
-use Rattle.console_core.specs.Moves.{Under, alone, State, start, IsPath, state_after, IsPathFrom, state_from}
-use Rattle.console_core.specs.Moves.{presses_along}
-use Rattle.console_core.specs.Sticking.{ReachesMoreThan, ReachesMoreThanFrom, state_limit}
-use Rattle.console_core.specs.Typing.{CanTap, CanType, ComesHome, IsTapOf}
-use Rattle.console_core.specs.Inner.Routes.{HasRoute}
-use Rattle.console_core.specs.Inner.Exploring.{map_of_explored, origin_in, IsStand, HasTap, IsStroke}
-use Rattle.console_core.specs.Inner.Exploring.{IsView, CanAccent, IsAccented, LeadsByTap, Leads, TypesOne, plain_tap}
-use Rattle.console_core.specs.Inner.Exploring.{dead_tap}
-use Rattle.console_core.specs.Inner.Searching.{state_of, Entry}
+use Rattle.console_core.specs.Sticking.{ReachesMoreThan}
+use Rattle.console_core.specs.Inner.Exploring.{IsAccented, Leads, plain_tap}
 use Rattle.console_core.proofs.Exploring.{comes-route, path-append, can-tap-met, tap-can, types-direct, types-composed}
 use Rattle.console_core.proofs.Exploring.{stand-next}
+use Rattle.console_core.specs.declared.explored.Symbol.TheVariants as symbol
+use Rattle.console_core.specs.declared.typing.Typed.TheVariants as typed
 
 -- ---- an exploration of a stand
 

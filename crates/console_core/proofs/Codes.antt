@@ -1,12 +1,10 @@
 -- Actions kept by their codes.
-use Rattle.std.proofs.Common.{◌≡◌, ℕ, ◌<◌, Bool, true, false, eqb, List, length, set, replicate, Option, None}
-use Rattle.std.proofs.Common.{Some, refl, ap, sym, ◌∙◌, if◌then◌else◌}
-use Rattle.std.specs.Prelude.{◌==◌, ◌≢◌, option_map}
-use Rattle.std.proofs.lemmas.Bool.{eqb-true}
-use Rattle.keymap_core.proofs.SameActions.{same_action-true}
-use Rattle.keymap_core.proofs.Lists.{get_or-replicate_default}
-use Rattle.console_core.specs.Types.{Action}
-use Rattle.keymap_core.specs.Actions.{same_action, code_of, action_of}
+use Rattle.console_core.proofs.Common.{◌≡◌, ℕ, ◌<◌, Bool, true, false, eqb, List, length, set, Option, None, Some, refl}
+use Rattle.console_core.proofs.Common.{ap, sym, ◌∙◌, if◌then◌else◌, ◌==◌, ◌≢◌, eqb-true, same_action-true}
+use Rattle.console_core.proofs.Common.{get_or-replicate_default, Action, same_action}
+use Rattle.std.proofs.Common.{replicate}
+use Rattle.std.specs.Prelude.{option_map}
+use Rattle.keymap_core.specs.Actions.{code_of, action_of}
 use Rattle.console_core.specs.PackedWord.{action_of_byte, code_memory}
 use Rattle.console_core.proofs.Places.{get_or-set_if}
 

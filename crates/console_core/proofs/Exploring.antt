@@ -1,38 +1,23 @@
 -- What an exploration met, and which taps can be made.
-use Rattle.std.proofs.Common.{◌≡◌, ◌⊎◌, ℕ, Bool, true, false, List, [], ◌∷◌, ◌++◌, length, slice_get, Some}
-use Rattle.std.proofs.Common.{None, refl, ap, subst, sym, ◌∙◌, inl, inr, reverse, append_assoc}
-use Rattle.std.proofs.Common.{eqb}
-use mathlib.Core.Bool.{beq}
-use Rattle.std.specs.Option.{is_some}
-use Rattle.std.specs.Map.{lookup}
-use Rattle.std.proofs.lemmas.Bool.{cases_Bool, eqb-true, eq-eqb}
-use Rattle.console_core.specs.declared.held.Held.{Held}
-use Rattle.console_core.specs.Inner.HeldBytes.{held-equal, bool_equal}
-use Rattle.console_core.proofs.Reaching.{tables-test, beq-self}
-use Rattle.console_core.proofs.RoutesHome.{are_same, none-found, found-has, is-nothing}
-use Rattle.console_core.proofs.Searching.{same-state}
+use Rattle.console_core.proofs.Common.{◌≡◌, ◌⊎◌, ℕ, Bool, true, false, List, [], ◌∷◌, ◌++◌, length, slice_get, Some}
+use Rattle.console_core.proofs.Common.{None, refl, ap, subst, sym, ◌∙◌, inl, inr, reverse, append_assoc, is_some}
+use Rattle.console_core.proofs.Common.{lookup, cases_Bool, Held, MapValue, Event, Press, Release, Move, Explored}
+use Rattle.console_core.proofs.Common.{Symbol, Tap, usable, Under, alone, State, start, IsMove, moved, state_after}
+use Rattle.console_core.proofs.Common.{IsPathFrom, state_from, events_along, IsHome, ComesHome, IsTapOf, CanTap}
+use Rattle.console_core.proofs.Common.{CanType, composed_of, map_of_explored, origin_in, IsExplored, IsStand, HasTap}
+use Rattle.console_core.proofs.Common.{LetsGo, IsStroke, HasTyped, TypesOne, LeadsHome, Routes, AllLeadHome, HasRoute}
+use Rattle.console_core.proofs.Common.{AreSettled, freed, state_of, Entry, Entries, IsTrail, IsReached, Searched}
+use Rattle.console_core.proofs.Common.{unscrolled, fun_ext}
+use Rattle.console_core.proofs.Entries.{none-found, found-has}
+use Rattle.console_core.proofs.RoutesHome.{is-nothing}
+use Rattle.console_core.proofs.SameStates.{are_same}
 use Rattle.keymap_core.specs.declared.action.Lock.{Lock}
 use Rattle.keymap_core.specs.declared.action.Lock.TheVariants.{Caps, Num, Scroll, Alt}
-use Rattle.keymap_core.specs.Maps.{MapValue}
-use Rattle.console_core.specs.Types.{Event, Press, Release, Move}
-use Rattle.console_core.specs.declared.explored.Explored.{Explored}
-use Rattle.console_core.specs.declared.explored.Symbol.{Symbol}
-use Rattle.console_core.specs.declared.explored.Symbol.TheVariants as symbol
-use Rattle.console_core.specs.declared.explored.Tap.{Tap}
-use Rattle.console_core.specs.Answers.{usable}
-use Rattle.console_core.specs.Moves.{Under, alone, State, start, IsMove, moved, state_after, IsPathFrom}
-use Rattle.console_core.specs.Moves.{state_from, events_along}
-use Rattle.console_core.specs.Returning.{IsHome}
-use Rattle.console_core.specs.Typing.{ComesHome, IsTapOf, CanTap, CanType, composed_of}
-use Rattle.console_core.specs.Inner.Exploring.{map_of_explored, origin_in, IsOrigin, IsExplored, IsStand, HasTap}
-use Rattle.console_core.specs.Inner.Exploring.{LetsGo, IsStroke, HasTyped, TypesOne}
-use Rattle.console_core.specs.Inner.Routes.{LeadsHome, Routes, AllLeadHome, HasRoute, AreSettled, freed}
-use Rattle.console_core.specs.Inner.Searching.{state_of, Entry, Entries, IsTrail, IsReached, Searched}
-use Rattle.console_core.specs.Inner.Standing.{unscrolled}
+use Rattle.console_core.specs.Inner.Exploring.{IsOrigin}
 use Rattle.console_core.proofs.Returning.{near-met, strays-on, StraysTo, is-astray, near-is_home}
 use Rattle.console_core.proofs.Strokes.{added-by, adds, stroke-types, tap-direct, tap-dead, tap-composed}
 use Rattle.console_core.proofs.Visits.{near-path, path-first, home-near}
-use mathlib.Core.Path.{fun_ext}
+use Rattle.console_core.specs.declared.explored.Symbol.TheVariants as symbol
 
 -- a route that begins at a state leads home
 pub has-leads : (u : Under) (routes : Routes) (s : State) → AllLeadHome u routes → HasRoute routes s
@@ -171,12 +156,10 @@ route-or-none : (routes : Routes) (k : Held) → HasRoute routes (state_of k) �
 route-or-none routes k = elim (cases_Bool (is_some (lookup (are_same k) routes))) [
   | inl e ↦
       inl
-      (found-has are_same
-      (λ x y f. same-state x y (held-equal _ _ (λ a b g. eqb-true a b g) (λ a b g. bool_equal a b g) x y f)) routes k e)
+      (found-has routes k e)
   | inr e ↦
       inr
-      (none-found are_same (λ x y f. tables-test eqb beq (λ a. eq-eqb a a refl) (λ b. beq-self b) x y f) routes k
-      (is-nothing (lookup (are_same k) routes) e))
+      (none-found routes k (is-nothing (lookup (are_same k) routes) e))
 ]
 
 -- so one begins where moves lead home from

@@ -1,28 +1,22 @@
 -- The facts on which the main theorem stands.
-use Rattle.std.proofs.Common.{◌≡◌, ℕ, ◌<◌, Bool, true, false, List, [], ◌∷◌, ◌++◌, Option, Some, None, inl, inr, refl}
-use Rattle.std.proofs.Common.{ap, subst, sym, ◌∙◌, if◌then◌else◌}
-use Rattle.std.specs.Prelude.{◌==◌}
-use Rattle.std.proofs.lemmas.Bool.{eqb-true, eq-eqb, true≢false, false_from_ne_true}
-use Rattle.std.proofs.lemmas.List.Elements.{All-tail}
-use Rattle.console_core.specs.Types.{Action, Modifier, Holding, Cell, Char, Act, Event, Press, Release, Reset, Load}
+use Rattle.console_core.proofs.Common.{◌≡◌, ℕ, ◌<◌, Bool, true, false, List, [], ◌∷◌, ◌++◌, Option, Some, None, inl}
+use Rattle.console_core.proofs.Common.{inr, refl, ap, subst, sym, ◌∙◌, if◌then◌else◌, ◌==◌, eqb-true, eq-eqb}
+use Rattle.console_core.proofs.Common.{true≢false, false_from_ne_true, All-tail, Action, Modifier, Holding, Cell, Char}
+use Rattle.console_core.proofs.Common.{Act, Event, Press, Release, Reset, Load, holding_action, MapValue, IsCellOf}
+use Rattle.console_core.proofs.Common.{ResolvedEvent, remembered, is_this_action, look, resolve_press, Maps, in_force}
+use Rattle.console_core.proofs.Common.{pressed, resolved, is_on_after, is_locked_after, HasKey, HasKeys}
+use Rattle.console_core.proofs.Common.{remembered_after, raises_at, lowers_at, NoneOf, SomeSince, taken_of, IsSafe}
+use Rattle.console_core.proofs.Common.{same_action-refl}
+use Rattle.console_core.specs.Facts.{LooksAreCells, DeadUpperHalfIsNotLookedAt, lets_go, HoldingIsRemembered}
+use Rattle.console_core.specs.Facts.{IsRaisedByPressed, OnByPressedKey}
+use Rattle.console_core.proofs.OneMore.{resolved-more, remembered-character, remembered-action, remembered-release}
+use Rattle.console_core.proofs.Borne.{AllLooked, taken-holding, held-upper, locked-upper, look-cell, resolved-looked}
+use Rattle.console_core.proofs.Bearing.{remembered-cell, remembered-pressed, first_kept}
+use Rattle.console_core.proofs.Readings.{held-positions}
 use Rattle.keymap_core.specs.declared.action.Action.TheVariants as act
 use Rattle.keymap_core.specs.declared.action.Lock.TheVariants as lock
 use Rattle.keymap_core.specs.declared.action.Modifier.TheVariants as modifier
 use Rattle.keymap_core.specs.declared.action.Holding.TheVariants as holding
-use Rattle.keymap_core.specs.Actions.{holding_action}
-use Rattle.keymap_core.specs.Maps.{MapValue}
-use Rattle.keymap_core.specs.Bearers.{IsCellOf}
-use Rattle.console_core.specs.Resolved.{ResolvedEvent, remembered, is_this_action, look, resolve_press}
-use Rattle.console_core.specs.History.{Maps, in_force, pressed, resolved, is_on_after, is_locked_after, HasKey, HasKeys}
-use Rattle.console_core.specs.Reading.{remembered_after, raises_at, lowers_at, NoneOf, SomeSince, taken_of}
-use Rattle.console_core.specs.Headline.{IsSafe}
-use Rattle.console_core.specs.Facts.{LooksAreCells, DeadUpperHalfIsNotLookedAt, lets_go, HoldingIsRemembered}
-use Rattle.console_core.specs.Facts.{IsRaisedByPressed, OnByPressedKey}
-use Rattle.console_core.proofs.OneMore.{resolved-more, remembered-character, remembered-action, remembered-release}
-use Rattle.keymap_core.proofs.SameActions.{same_action-refl}
-use Rattle.console_core.proofs.Borne.{AllLooked, taken-holding, held-upper, locked-upper, look-cell, resolved-looked}
-use Rattle.console_core.proofs.Bearing.{remembered-cell, remembered-pressed, first_kept}
-use Rattle.console_core.proofs.Readings.{held-positions}
 
 -- what a key looks up is one of its cells
 pub looks_are_cells : LooksAreCells

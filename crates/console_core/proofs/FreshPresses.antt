@@ -1,29 +1,20 @@
 -- A lock that one key alone bears throughout turns at each fresh press of the key.
-use Prim.Native.Nat.{suc}
-use Rattle.std.proofs.Common.{◌⊎◌, inl, inr, lit<, ◌≡◌, ℕ, ◌<◌, Bool, true, false, ◌&&◌, not, List, [], ◌∷◌, Option}
-use Rattle.std.proofs.Common.{Some, None, refl, ap, subst, sym, ◌∙◌, if◌then◌else◌}
-use Rattle.std.proofs.lemmas.Bool.{eqb-true, eq-eqb, true≢false, false_from_ne_true}
-use Rattle.std.proofs.lemmas.List.Elements.{All-head, All-tail}
-use Rattle.std.specs.Prelude.{◌==◌}
-use Rattle.console_core.specs.Types.{Action, Lock, Cell, Char, Act, Holding, Event, Press, Release, Reset, Load}
-use Rattle.keymap_core.specs.declared.action.Action.TheVariants as act
-use Rattle.keymap_core.specs.declared.action.Holding.TheVariants as holding
-use Rattle.keymap_core.specs.Actions.{same_action}
-use Rattle.keymap_core.specs.Maps.{MapValue, cell_at}
-use Rattle.keymap_core.specs.Borne.{is_borne}
-use Rattle.keymap_core.proofs.BorneTests.{bears-borne}
-use Rattle.console_core.specs.Positions.{count_where, is_odd}
-use Rattle.console_core.specs.Resolved.{unlocks, ResolvedEvent, held, locked, remembered, taken_over, look}
-use Rattle.console_core.specs.Resolved.{resolve_press, turns}
-use Rattle.console_core.specs.History.{Maps, in_force, loaded, is_second_in_force, resolved_event, resolved, pressed}
-use Rattle.console_core.specs.History.{HasKey, HasKeys, IsNoLoad, HasNoLoads}
-use Rattle.keymap_core.specs.Bearers.{IsCellOf, BearsThroughout}
-use Rattle.console_core.specs.Headline.{is_fresh_press, LockedByFreshPresses}
+use Rattle.console_core.proofs.Common.{suc, ◌⊎◌, inl, inr, lit<, ◌≡◌, ℕ, ◌<◌, Bool, true, false, ◌&&◌, not, List, []}
+use Rattle.console_core.proofs.Common.{◌∷◌, Option, Some, None, refl, ap, subst, sym, ◌∙◌, if◌then◌else◌, eqb-true}
+use Rattle.console_core.proofs.Common.{eq-eqb, true≢false, false_from_ne_true, All-head, All-tail, ◌==◌, Action, Lock}
+use Rattle.console_core.proofs.Common.{Cell, Char, Act, Holding, Event, Press, Release, Reset, Load, same_action}
+use Rattle.console_core.proofs.Common.{MapValue, cell_at, is_borne, bears-borne, count_where, is_odd, unlocks}
+use Rattle.console_core.proofs.Common.{ResolvedEvent, held, locked, remembered, taken_over, look, resolve_press, turns}
+use Rattle.console_core.proofs.Common.{Maps, in_force, loaded, is_second_in_force, resolved_event, resolved, pressed}
+use Rattle.console_core.proofs.Common.{HasKey, HasKeys, IsNoLoad, HasNoLoads, IsCellOf, BearsThroughout, is_fresh_press}
+use Rattle.console_core.proofs.Common.{same_action-refl}
+use Rattle.console_core.specs.Headline.{LockedByFreshPresses}
 use Rattle.console_core.proofs.OneMore.{resolved-start, resolved-more, locked-start, locked-more, press-unlocks}
-use Rattle.keymap_core.proofs.SameActions.{same_action-refl}
 use Rattle.console_core.proofs.Borne.{AllLooked, taken-holding, look-cell, resolved-looked}
 use Rattle.console_core.proofs.Bearing.{remembered-cell}
 use Rattle.console_core.proofs.Headline.{throughout_held, act_act}
+use Rattle.keymap_core.specs.declared.action.Action.TheVariants as act
+use Rattle.keymap_core.specs.declared.action.Holding.TheVariants as holding
 
 -- what a key that bears it throughout takes
 takes : (m : MapValue) (k : ℕ) (l : Lock) (r : List ResolvedEvent) → BearsThroughout m k (holding.Lock l)

@@ -1,30 +1,24 @@
 -- What a press sees where a path leads from the state of a console.
-use Rattle.std.proofs.Common.{◌≡◌, ℕ, true, List, [], ◌∷◌, ◌++◌, Some, None, refl, ap, subst, sym, ◌∙◌}
-use Rattle.std.proofs.Common.{append_assoc, if◌then◌else◌}
-use Rattle.std.proofs.lemmas.Bool.{false≢true}
-use Rattle.keymap_core.specs.declared.action.Action.TheVariants as act
+use Rattle.console_core.proofs.Common.{◌≡◌, ℕ, true, List, [], ◌∷◌, ◌++◌, Some, None, refl, ap, subst, sym, ◌∙◌}
+use Rattle.console_core.proofs.Common.{append_assoc, if◌then◌else◌, false≢true, MapValue, ResolvedEvent, pending}
+use Rattle.console_core.proofs.Common.{remembered, taken_over, usable, next_pending, pending_after_dead_key, between}
+use Rattle.console_core.proofs.Common.{resolved, is_second_in_force, accent_pending_after, alone, State, IsIdle}
+use Rattle.console_core.proofs.Common.{look_in, IsMove, events_of_move, events_along, state_from, IsPathFrom, SeesBy}
+use Rattle.console_core.proofs.Common.{SeesNext, IsPendingFor, selection_of, Stands}
 use Rattle.keymap_core.specs.declared.entry.Cell.TheVariants.{Act}
-use Rattle.keymap_core.specs.Maps.{MapValue}
 use Rattle.console_core.specs.declared.event.Event.{Event}
 use Rattle.console_core.specs.declared.event.Event.TheVariants.{Press, Release}
 use Rattle.console_core.specs.declared.held.Move.{Move}
 use Rattle.console_core.specs.declared.held.Move.TheVariants.{Hold, Turn, LetGo, Exchange}
 use Rattle.console_core.specs.declared.selection.Sight.{Sight}
-use Rattle.console_core.specs.declared.selection.Sight.TheVariants as sight
-use Rattle.console_core.specs.Resolved.{ResolvedEvent, pending, remembered, taken_over}
-use Rattle.console_core.specs.Answers.{usable}
-use Rattle.console_core.specs.Inner.Kept.{next_pending, pending_after_dead_key}
-use Rattle.console_core.specs.History.{between, resolved, is_second_in_force, accent_pending_after}
-use Rattle.console_core.specs.Moves.{alone, State, IsIdle, look_in, IsMove, events_of_move, events_along, state_from}
-use Rattle.console_core.specs.Moves.{IsPathFrom}
-use Rattle.console_core.specs.Sights.{SeesBy, SeesNext, IsPendingFor, selection_of}
 use Rattle.console_core.proofs.OneMore.{resolved-more, pending-action, pending-release}
-use Rattle.console_core.specs.Inner.Standing.{Stands}
 use Rattle.console_core.proofs.Scripts.{stands-from, idle-none, pressed-look}
 use Rattle.console_core.proofs.Seeing.{follows-selection, one_map}
+use Rattle.keymap_core.specs.declared.action.Action.TheVariants as act
+use Rattle.console_core.specs.declared.selection.Sight.TheVariants as sight
 
 -- a move leaves the accent that is pending
-pending-move : (m : MapValue) (h : List Event) (s : State) (move : Move) → IsMove (alone m) s move
+pub pending-move : (m : MapValue) (h : List Event) (s : State) (move : Move) → IsMove (alone m) s move
     → Stands (alone m) h s
     → pending m (resolved (between m m) (events_of_move move ++ h)) ≡ pending m (resolved (between m m) h)
 pending-move m h s (Hold k i) (lt, idle, seen, free) x =

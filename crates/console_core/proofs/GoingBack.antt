@@ -1,13 +1,10 @@
 -- The way back from an entry to the start, and the script that is written on it.
-use Rattle.std.proofs.Common.{◌≡◌, ℕ, ◌+◌, ◌<◌, IfSome, List, [], ◌∷◌, ◌++◌, length, get_or, take, slice_get, Option}
-use Rattle.std.proofs.Common.{Some, None, refl, ap, subst, sym, ◌∙◌, arith, append_assoc}
-use Rattle.std.proofs.lemmas.Option.{slice_get_within, same_Some}
-use Rattle.std.proofs.lemmas.List.{append-nil, take_more}
-use Rattle.console_core.specs.Types.{Modifier, Event, Press, Move}
-use Rattle.keymap_core.specs.Actions.{modifiers}
-use Rattle.console_core.specs.Moves.{Under, State, state_after, script_of_path, events_of_move, events_along}
-use Rattle.console_core.specs.Moves.{release_of, releases}
-use Rattle.console_core.specs.Inner.Searching.{Entry, Entries, IsTrail, IsReached, Searched, GoBack}
+use Rattle.console_core.proofs.Common.{◌≡◌, ℕ, ◌+◌, ◌<◌, IfSome, List, [], ◌∷◌, ◌++◌, length, get_or, take, slice_get}
+use Rattle.console_core.proofs.Common.{Option, Some, None, refl, ap, subst, sym, ◌∙◌, arith, append_assoc}
+use Rattle.console_core.proofs.Common.{slice_get_within, same_Some, append-nil, take_more, Modifier, Event, Press, Move}
+use Rattle.console_core.proofs.Common.{modifiers, Under, State, state_after, script_of_path, events_of_move}
+use Rattle.console_core.proofs.Common.{events_along, release_of, releases, Entry, Entries, IsTrail, IsReached, Searched}
+use Rattle.console_core.specs.Inner.Searching.{GoBack}
 
 -- the way back from a place
 pub searched-back : {o : State} (u : Under) (es : Entries) (a b : ℕ) → Searched u o es a b → GoBack es

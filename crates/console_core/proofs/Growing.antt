@@ -1,17 +1,13 @@
 -- What was met stays met when the entries grow.
-use Prim.Native.Nat.{zero, suc}
-use Rattle.std.proofs.Common.{◌≡◌, ℕ, ◌+◌, ◌<◌, ◌≤◌, Bool, true, false, ◌&&◌, ◌⊎◌, inl, inr, All, List, [], ◌∷◌, ◌++◌}
-use Rattle.std.proofs.Common.{length, slice_get, Some, None, refl, ap, subst, sym, ◌∙◌, arith, append_assoc}
-use Rattle.std.proofs.lemmas.Bool.{cases_lt, true≢false}
-use Rattle.std.proofs.lemmas.Option.{slice_get_within, get_or_from_slice_get, none-some, same_Some}
+use Rattle.console_core.proofs.Common.{zero, suc, ◌≡◌, ℕ, ◌+◌, ◌<◌, ◌≤◌, Bool, true, false, ◌&&◌, ◌⊎◌, inl, inr, All}
+use Rattle.console_core.proofs.Common.{List, [], ◌∷◌, ◌++◌, length, slice_get, Some, refl, ap, subst, sym, ◌∙◌, arith}
+use Rattle.console_core.proofs.Common.{append_assoc, cases_lt, true≢false, slice_get_within, none-some, same_Some}
+use Rattle.console_core.proofs.Common.{Scroll, Move, Turn, Exchange, is_borne, Under, State, next_map, IsMove, moved}
+use Rattle.console_core.proofs.Common.{presses_of, state_of, Entry, Entries, Grows, IsMetBy, AreMet, IsFrom, AreAdded}
+use Rattle.console_core.proofs.Common.{IsTrail, IsReached, LeavesScroll}
+use Rattle.std.proofs.lemmas.Option.{get_or_from_slice_get}
 use Rattle.std.proofs.lemmas.List.Elements.{All-append}
-use Rattle.console_core.specs.Types.{Modifier, Scroll, Move, Turn, Exchange}
-use Rattle.keymap_core.specs.Borne.{is_borne}
 use Rattle.keymap_core.specs.declared.action.Holding.TheVariants as holding
-use Rattle.console_core.specs.Moves.{Under, State, with_holder, with_lock_turned, next_map, IsMove, moved, presses_of}
-use Rattle.console_core.specs.Inner.Searching.{state_of, Entry, Entries, Grows, IsMetBy, IsLetGoMet, IsExchangeMet}
-use Rattle.console_core.specs.Inner.Searching.{ArePressesMet, IsFrom, AreAdded, IsTrail, IsReached, IsClosed}
-use Rattle.console_core.specs.Inner.Searching.{IsPressed, LeavesScroll}
 
 -- entries by their places
 -- an entry stays at its place when more are added
@@ -94,34 +90,11 @@ met-grows es now p s g (j, x, at, is, le) = (j, x, at-now es now j x g at, is, l
 pub met-last : (es : Entries) (p : ℕ) (x : Entry) → x.1.presses ≤ p → IsMetBy (es ++ x ∷ []) p (state_of x.0)
 met-last es p x le = (length es, x, at_last es x, refl, le)
 
--- that letting go is met stays so when the entries grow
-pub let_go-grows : (es now : Entries) (p : ℕ) (s : State) (i : Modifier) → Grows es now → IsLetGoMet es p s i
-    → IsLetGoMet now p s i
-let_go-grows es now p s i g met k h = met-grows es now p (with_holder s i None) g (met k h)
-
--- that presses are met stays so when the entries grow
-pub presses-grow : (u : Under) (es now : Entries) (p : ℕ) (s : State) (k : ℕ) → Grows es now
-    → ArePressesMet u es p s k → ArePressesMet u now p s k
-presses-grow u es now p s k g met idle = (
-  (λ i seen free. met-grows es now p (with_holder s i (Some k)) g ((met idle).0 i seen free)),
-  (λ l other seen. met-grows es now p (with_lock_turned s l) g ((met idle).1 l other seen)),
-)
-
--- that a load is met stays so when the entries grow
-pub exchange-grows : (u : Under) (es now : Entries) (p : ℕ) (s : State) → Grows es now → IsExchangeMet u es p s
-    → IsExchangeMet u now p s
-exchange-grows u es now p s g met is = met-grows es now p (moved u s Exchange) g (met is)
-
--- that an entry's releases and loads are met stays so when the entries grow
-pub closed-grows : (u : Under) (es now : Entries) (x : Entry) → Grows es now → IsClosed u es x → IsClosed u now x
-closed-grows u es now x g (met, load) = (
-  (λ i. let_go-grows es now x.1.presses (state_of x.0) i g (met i)),
-  exchange-grows u es now x.1.presses (state_of x.0) g load,
-)
-
--- that an entry's presses are met stays so when the entries grow
-pub pressed-grows : (u : Under) (es now : Entries) (x : Entry) → Grows es now → IsPressed u es x → IsPressed u now x
-pressed-grows u es now x g met k lt = presses-grow u es now (x.1.presses + 1) (state_of x.0) k g (met k lt)
+-- where moves lead stays met when the entries grow
+pub moves-grow : (u : Under) (es now : Entries) (n p : ℕ) (s : State) → Grows es now → AreMet u es n p s
+    → AreMet u now n p s
+moves-grow u es now n p s g met move is leaves takes =
+    met-grows es now p (moved u s move) g (met move is leaves takes)
 
 -- a trail stays one when the entries grow
 trail-grows : (es now : Entries) (j : ℕ) (path : List Move) → Grows es now → IsTrail es j path → IsTrail now j path

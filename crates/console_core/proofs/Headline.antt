@@ -1,29 +1,18 @@
 -- The main theorem.
-use Prim.Native.Nat.{suc}
-use Rattle.std.proofs.Common.{◌≡◌, ◌≢◌, ℕ, ◌<◌, Bool, true, false, ◌&&◌, not, List, [], ◌∷◌, ◌++◌, Option, Some, None}
-use Rattle.std.proofs.Common.{refl, ap, subst, sym, ◌∙◌, inl, inr, if◌then◌else◌}
-use Rattle.std.specs.Prelude.{◌==◌, reverse}
-use Rattle.std.proofs.lemmas.Bool.{eqb-true, cases_Bool, true≢false, false_from_ne_true}
-use Rattle.std.proofs.lemmas.List.Elements.{All-head, All-tail}
-use Rattle.console_core.specs.Types.{Action, Lock, Modifier, Holding, Cell, Char, Act, Event, Press, Release, Reset}
-use Rattle.console_core.specs.Types.{Load}
-use Rattle.keymap_core.specs.declared.action.Action.TheVariants as act
-use Rattle.keymap_core.specs.declared.action.Modifier.TheVariants as modifier
-use Rattle.keymap_core.specs.declared.action.Holding.TheVariants as holding
-use Rattle.keymap_core.specs.Actions.{same_action, holding_action}
-use Rattle.keymap_core.specs.Maps.{MapValue}
-use Rattle.console_core.specs.Positions.{is_odd, count_where}
-use Rattle.keymap_core.specs.Borne.{is_borne}
-use Rattle.console_core.specs.Columns.{look_with}
-use Rattle.console_core.specs.Resolved.{ResolvedEvent, held, locked, remembered, pending, taken_over, unless_nop, look}
-use Rattle.console_core.specs.Resolved.{resolve, resolve_press, turns, answer_resolved, on}
-use Rattle.console_core.specs.History.{Maps, in_force, loaded, is_second_in_force, is_load, resolved_event, resolved}
-use Rattle.console_core.specs.History.{pressed, accent_pending_after, answers_to, answer_to, HasKey, HasKeys, IsQuiet}
-use Rattle.console_core.specs.Resolved.ResolvedEvent.{PressedCharacter, PressedAction, ReleasedKey, WasReset, WasLoaded}
-use Rattle.keymap_core.specs.Bearers.{IsCellOf, BearsThroughout}
-use Rattle.console_core.specs.Headline.{IsSafe, IsSteady, IsActing, AreRepeats, OnOnlyWhilePressed}
-use Rattle.console_core.specs.Headline.{OnExactlyWhilePressed, RepeatsTurnNoSteadyLock, OffOnceQuiet}
-use Rattle.console_core.specs.Headline.{GoesOnAsAfterReset}
+use Rattle.console_core.proofs.Common.{suc, ◌≡◌, ◌≢◌, ℕ, ◌<◌, Bool, true, false, ◌&&◌, not, List, [], ◌∷◌, ◌++◌, Option}
+use Rattle.console_core.proofs.Common.{Some, None, refl, ap, subst, sym, ◌∙◌, inl, inr, if◌then◌else◌, ◌==◌, reverse}
+use Rattle.console_core.proofs.Common.{eqb-true, cases_Bool, true≢false, false_from_ne_true, All-head, All-tail, Action}
+use Rattle.console_core.proofs.Common.{Lock, Modifier, Holding, Cell, Char, Act, Event, Press, Release, Reset, Load}
+use Rattle.console_core.proofs.Common.{same_action, holding_action, MapValue, is_odd, count_where, is_borne, look_with}
+use Rattle.console_core.proofs.Common.{ResolvedEvent, held, locked, remembered, pending, taken_over, unless_nop, look}
+use Rattle.console_core.proofs.Common.{resolve, resolve_press, turns, answer_resolved, on, Maps, in_force, loaded}
+use Rattle.console_core.proofs.Common.{is_second_in_force, is_load, resolved_event, resolved, pressed}
+use Rattle.console_core.proofs.Common.{accent_pending_after, answers_to, answer_to, HasKey, HasKeys, IsQuiet}
+use Rattle.console_core.proofs.Common.{PressedCharacter, PressedAction, ReleasedKey, WasReset, WasLoaded, IsCellOf}
+use Rattle.console_core.proofs.Common.{BearsThroughout, IsSafe, same_action-true, none_unless, fun_ext, option_or}
+use Rattle.console_core.proofs.Common.{none-some}
+use Rattle.console_core.specs.Headline.{IsSteady, IsActing, AreRepeats, OnOnlyWhilePressed, OnExactlyWhilePressed}
+use Rattle.console_core.specs.Headline.{RepeatsTurnNoSteadyLock, OffOnceQuiet, GoesOnAsAfterReset}
 use Rattle.console_core.proofs.OneMore.{resolved-more, locked-more, held-character, held-action, held-release}
 use Rattle.console_core.proofs.OneMore.{held-reset, locked-character, locked-action, locked-release, locked-reset}
 use Rattle.console_core.proofs.OneMore.{remembered-character, remembered-action, remembered-release, remembered-reset}
@@ -31,15 +20,13 @@ use Rattle.console_core.proofs.OneMore.{pending-character, pending-action, pendi
 use Rattle.console_core.proofs.OneMore.{pressed-start, pressed-press, pressed-release, pressed-reset, pressed-load}
 use Rattle.console_core.proofs.OneMore.{held-load, locked-load, remembered-load, pending-load, press-unlocks}
 use Rattle.console_core.proofs.Readings.{turns-event}
-use Rattle.keymap_core.proofs.SameActions.{same_action-true}
-use Rattle.keymap_core.proofs.Lists.{none_unless}
 use Rattle.console_core.proofs.Borne.{AllLooked, taken-holding, look-cell, resolved-looked}
 use Rattle.console_core.proofs.Bearing.{remembered-cell, remembered-pressed, held-remembered, remembered-held}
 use Rattle.console_core.proofs.Bearing.{RememberedBySome}
 use Rattle.console_core.proofs.Deliveries.{reverse-cons}
-use mathlib.Core.Path.{fun_ext}
-use Rattle.std.specs.Option.{option_or}
-use Rattle.std.proofs.lemmas.Option.{none-some}
+use Rattle.keymap_core.specs.declared.action.Action.TheVariants as act
+use Rattle.keymap_core.specs.declared.action.Modifier.TheVariants as modifier
+use Rattle.keymap_core.specs.declared.action.Holding.TheVariants as holding
 
 -- one cell is one cell
 act_char : (a : Action) (c : ℕ) → Char c ≡ Act a → ⊥

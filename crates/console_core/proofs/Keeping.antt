@@ -1,18 +1,11 @@
 -- What writing parts of what a console keeps leaves, after a release and after a load.
-use Rattle.std.proofs.Common.{◌≡◌, ℕ, Bool, true, false, ◌&&◌, not, eqb, None, Some, refl, ap, sym, ◌∙◌, if◌then◌else◌}
-use Rattle.std.specs.Prelude.{◌==◌}
-use Rattle.std.proofs.lemmas.Bool.{eqb-true}
-use mathlib.Core.Path.{fun_ext}
-use Rattle.console_core.specs.Types.{Action, Holding, Lock, Caps, Num, Scroll, Alt}
-use Rattle.keymap_core.specs.declared.action.Holding.TheVariants as holding
-use Rattle.keymap_core.specs.Actions.{holding_action, holding_index, holding_of}
-use Rattle.keymap_core.specs.Borne.{is_borne}
-use Rattle.keymap_core.specs.Maps.{MapValue}
-use Rattle.console_core.specs.Resolved.{is_this_action}
-use Rattle.console_core.specs.Agrees.{Kept}
-use Rattle.console_core.specs.Inner.Kept.{with_mark, with_memory, with_released, with_lock_borne}
-use Rattle.console_core.specs.Inner.Kept.{after_release, after_reset, exchanged, after_load}
+use Rattle.console_core.proofs.Common.{◌≡◌, ℕ, Bool, true, false, ◌&&◌, not, eqb, None, Some, refl, ap, sym, ◌∙◌}
+use Rattle.console_core.proofs.Common.{if◌then◌else◌, ◌==◌, eqb-true, fun_ext, Action, Holding, Lock, Caps, Num, Scroll}
+use Rattle.console_core.proofs.Common.{Alt, holding_action, holding_index, holding_of, is_borne, MapValue}
+use Rattle.console_core.proofs.Common.{is_this_action, Kept, after_release, after_reset, after_load}
+use Rattle.console_core.specs.Inner.Kept.{with_mark, with_memory, with_released, with_lock_borne, exchanged}
 use Rattle.console_core.proofs.Places.{holding_of-some, same_place}
+use Rattle.keymap_core.specs.declared.action.Holding.TheVariants as holding
 
 -- what is kept is known by its parts
 pub kept-same : (j k : Kept) → ((a : Holding) → j.mark a ≡ k.mark a) → ((l : Lock) → j.lock l ≡ k.lock l)

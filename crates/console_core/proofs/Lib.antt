@@ -1,5 +1,5 @@
 pub mod Agreeing
-pub mod Arriving
+pub mod Approaching
 pub mod Bases
 pub mod Bearing
 pub mod Behind
@@ -7,9 +7,11 @@ pub mod Borne
 pub mod Bytes
 pub mod Choosing
 pub mod Codes
+pub mod Common
 pub mod Concluding
 pub mod Deciding
 pub mod Deliveries
+pub mod Entries
 pub mod Exploring
 pub mod Facts
 pub mod FreshPresses
@@ -26,7 +28,6 @@ pub mod OneMap
 pub mod OneMore
 pub mod Places
 pub mod PlainLooks
-pub mod Planning
 pub mod Prefixes
 pub mod Reaching
 pub mod Readings
@@ -35,6 +36,7 @@ pub mod Returning
 pub mod Refused
 pub mod RoutesHome
 pub mod Runs
+pub mod SameStates
 pub mod Scripts
 pub mod Searching
 pub mod Seeing

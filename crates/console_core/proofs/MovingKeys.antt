@@ -1,13 +1,8 @@
 -- The keys whose presses are moves in some state: a search that presses these alone presses all.
-use Rattle.std.proofs.Common.{◌≡◌, ℕ, ◌+◌, ◌<◌, Bool, true, false, inl, inr, List, [], ◌∷◌, ◌++◌, subst, sym}
-use Rattle.std.proofs.Common.{below_more, get_or, length, ◌∙◌}
-use Rattle.std.proofs.lemmas.List.{get_or_default}
-use Rattle.std.specs.List.{Contains}
-use Rattle.std.proofs.lemmas.List.Elements.{Contains-push, Contains-append_left}
-use Rattle.keymap_core.specs.Maps.{MapValue, cell_at}
-use Rattle.console_core.specs.Columns.{slot_of, look_with}
-use Rattle.console_core.specs.Moves.{Under, State, look_in, map_of, is_held}
-use Rattle.console_core.specs.Inner.Searching.{Entries, ArePressesMet, IsUnmoving, HasMovingKeys}
+use Rattle.console_core.proofs.Common.{◌≡◌, ℕ, ◌+◌, ◌<◌, Bool, true, false, inl, inr, List, [], ◌∷◌, ◌++◌, subst, sym}
+use Rattle.console_core.proofs.Common.{below_more, get_or, length, ◌∙◌, get_or_default, Contains, Contains-push}
+use Rattle.console_core.proofs.Common.{Contains-append_left, MapValue, cell_at, slot_of, look_with, Under, State}
+use Rattle.console_core.proofs.Common.{look_in, map_of, is_held, PressesLead, IsUnmoving, HasMovingKeys}
 use Rattle.console_core.proofs.Borne.{column_of-lt}
 
 -- the cells of a key in its two slots are those that it may look up
@@ -52,18 +47,17 @@ moving-without u keys now n e still before =
     below_more _ _ (subst (λ xs. HasMovingKeys u xs n) (sym e) before) (inr still)
 
 -- a press of a key that looks up no modifier, and no lock but the scroll lock, leads nowhere
-pressed-unmoving : (u : Under) (es : Entries) (p : ℕ) (s : State) (k : ℕ) → IsUnmoving (look_in u s k)
-    → ArePressesMet u es p s k
-pressed-unmoving u es p s k (no_mod, no_lock) idle =
+pressed-unmoving : (P : State → Type 0) (u : Under) (s : State) (k : ℕ) → IsUnmoving (look_in u s k)
+    → PressesLead u s k P
+pressed-unmoving P u s k (no_mod, no_lock) idle =
     ((λ i seen free. absurd (no_mod i seen)), (λ l other seen. absurd (no_lock l other seen)))
 
--- where the presses of these keys lead was met, so where those of all keys lead was
-pub all-pressed : (u : Under) (es : Entries) (p : ℕ) (s : State) (keys : List ℕ) (n : ℕ) → HasMovingKeys u keys n
-    → ((j : ℕ) → j < length keys → ArePressesMet u es p s (get_or keys j 0))
-    → (k : ℕ) → k < n → ArePressesMet u es p s k
-all-pressed u es p s keys n moving met k lt =
+-- where the presses of these keys lead it is so, so where those of all keys lead it is
+pub all-pressed : (P : State → Type 0) (u : Under) (s : State) (keys : List ℕ) (n : ℕ) → HasMovingKeys u keys n
+    → ((j : ℕ) → j < length keys → PressesLead u s (get_or keys j 0) P)
+    → (k : ℕ) → k < n → PressesLead u s k P
+all-pressed P u s keys n moving lead k lt =
     elim (moving k lt) [
-      | inl (j, below, e) ↦
-          subst (λ q. ArePressesMet u es p s q) (get_or_default keys j 0 k below ∙ e) (met j below)
-      | inr still ↦ pressed-unmoving u es p s k (still s)
+      | inl (j, below, e) ↦ subst (λ q. PressesLead u s q P) (get_or_default keys j 0 k below ∙ e) (lead j below)
+      | inr still ↦ pressed-unmoving P u s k (still s)
     ]

@@ -1,38 +1,26 @@
 -- The states behind where an accent is offered, as a search collects them, and the selections there.
-use Prim.Native.Nat.{zero, suc}
-use Rattle.std.proofs.Common.{◌≡◌, ℕ, ◌+◌, ◌<◌, ◌≤◌, ◌⊎◌, Bool, true, false, inl, inr, List, [], ◌∷◌, ◌++◌, length}
-use Rattle.std.proofs.Common.{refl}
-use Rattle.std.proofs.Common.{slice_get, Option, Some, None, ap, subst, sym, ◌∙◌, arith}
-use Rattle.std.specs.List.{Contains, IsDistinct}
-use Rattle.std.specs.Map.{keys_of, lookup}
-use Rattle.std.specs.Option.{is_some}
-use Rattle.std.proofs.lemmas.Bool.{cases_lt, true≢false}
-use Rattle.std.proofs.lemmas.List.Elements.{Contains-push_cases}
-use Rattle.std.proofs.lemmas.Option.{slice_get_within}
+use Rattle.console_core.proofs.Common.{zero, suc, ◌≡◌, ℕ, ◌+◌, ◌<◌, ◌≤◌, ◌⊎◌, Bool, true, false, inl, inr, List, []}
+use Rattle.console_core.proofs.Common.{◌∷◌, ◌++◌, length, refl, slice_get, Option, Some, None, ap, subst, sym, ◌∙◌}
+use Rattle.console_core.proofs.Common.{arith, Contains, IsDistinct, keys_of, lookup, is_some, cases_lt, true≢false}
+use Rattle.console_core.proofs.Common.{append-nil, Contains-push_cases, slice_get_within, MapValue, Move, LetGo}
+use Rattle.console_core.proofs.Common.{Selection, Offer, Sights, Held, usable, Under, alone, State, start, IsMove}
+use Rattle.console_core.proofs.Common.{moved, IsPath, state_after, IsPathFrom, state_from, IsForgetful, Note}
+use Rattle.console_core.proofs.Common.{IsOfferedIn, AreSightsOf, selection_of, HasNoDoubles, IsMet, state_of, Entry}
+use Rattle.console_core.proofs.Common.{Entries, Grows, AreWithin, AreAdded, IsMetBy, AreMet, IsReached, LeavesScroll}
+use Rattle.console_core.proofs.Common.{Searched, AreSafe, IsStuck, unscrolled, IsBehind, AreSeedsTo, AreBehindTo}
+use Rattle.console_core.proofs.Common.{AreBehind, IsOfferedUnlocked, AreSelectionsOf, AreOffersOf}
 use Rattle.indexmap.proofs.IndexTableLemmas.Probe.{pigeonhole}
 use Rattle.keymap_core.specs.declared.action.Lock.TheVariants.{Scroll}
-use Rattle.keymap_core.specs.Maps.{MapValue}
-use Rattle.console_core.specs.Types.{Modifier, Move, Hold, Turn, LetGo, Exchange, Selection, Offer, Sights}
-use Rattle.console_core.specs.declared.held.Held.{Held}
-use Rattle.console_core.specs.Answers.{usable}
-use Rattle.console_core.specs.Moves.{Under, alone, State, start, IsMove, moved, IsPath, state_after, IsPathFrom}
-use Rattle.console_core.specs.Moves.{state_from, IsForgetful}
-use Rattle.console_core.specs.Sights.{Note, IsNoted, Has, IsOfferedIn, AreSightsOf, accents_in, selection_of}
-use Rattle.console_core.specs.Sights.{IsOfferedAlong, HasNoDoubles}
-use Rattle.console_core.specs.Inner.Routes.{IsMet}
-use Rattle.console_core.specs.Inner.Searching.{state_of, Entry, Entries, Grows, AreWithin, AreAdded, IsMetBy}
-use Rattle.console_core.specs.Inner.Searching.{IsLetGoMet, IsExchangeMet, ArePressesMet, IsReached, LeavesScroll}
-use Rattle.console_core.specs.Inner.Searching.{Searched}
-use Rattle.console_core.specs.Inner.Standing.{unscrolled}
-use Rattle.console_core.specs.Inner.Noting.{AddsState, IsBehind, AreSeedsTo, AreBehindTo, AreBehind, IsOfferedUnlocked}
-use Rattle.console_core.specs.Inner.Noting.{AreSelectionsOf, AreAccentsOf, AreComposing, AreOffersOf}
-use Rattle.console_core.proofs.Arriving.{same-scrolled}
+use Rattle.console_core.specs.Sights.{IsNoted, Has, accents_in, IsOfferedAlong}
+use Rattle.console_core.specs.Inner.Noting.{AddsState, AreAccentsOf, AreComposing}
+use Rattle.console_core.proofs.Unscrolled.{same-scrolled}
 use Rattle.console_core.proofs.Behind.{behind-offered, behind-more, behind-path, path-split}
 use Rattle.console_core.proofs.Exploring.{home-start}
 use Rattle.console_core.proofs.Growing.{at-now, at_old, at_new, at_last, from-cases, one_entry, scroll-left}
 use Rattle.console_core.proofs.Reaching.{distinct-at}
+use Rattle.console_core.proofs.SameStates.{are_same, same-tells}
 use Rattle.console_core.proofs.Returning.{AreClosed, IsNear, near-along, near-met}
-use Rattle.console_core.proofs.Searching.{place_last, same_entry, meet-old}
+use Rattle.console_core.proofs.Searching.{place_last, same_entry, meet-old, no-press_or_one}
 use Rattle.console_core.proofs.Staying.{emptied, emptied-kept, emptied-none}
 use Rattle.console_core.proofs.Visits.{path-first}
 
@@ -70,20 +58,16 @@ state-new es now k e within = record {
         ]
 
 -- one that was
-pub state-old : (E : Held → Held → Bool) → ((a b : Held) → E a b ≡ true → state_of a ≡ state_of b) → (es : Entries)
-    → (k : Held) → is_some (lookup (E k) es) ≡ true → AreWithin es 0 → AddsState (state_of k) es es
-state-old E same es k e within =
-    let (j, x, at, is, le) = meet-old E same es 0 k e within in
+pub state-old : (es : Entries) (k : Held) → is_some (lookup (are_same k) es) ≡ true → AreWithin es 0
+    → AddsState (state_of k) es es
+state-old es k e within =
+    let (j, x, at, is, le) = meet-old es 0 k e within in
     record {
       within = within;
-      grown = ([], sym (append-nothing es));
+      grown = ([], sym (append-nil es));
       added = (j, x, at, is);
       only = λ i y there. inl there;
     }
-  where
-    append-nothing : (es : Entries) → es ++ [] ≡ es
-    append-nothing [] = refl
-    append-nothing (x ∷ es) = ap (λ z. x ∷ z) (append-nothing es)
 
 -- ---- where the accent is offered
 
@@ -169,10 +153,9 @@ behind-added u accent met es now y n q before here added = record {
 -- where moves lead from one more state was added
 pub behind-step : (u : Under) (accent : ℕ) (met es mid now : Entries) (n : ℕ) (y : Entry)
     → AreBehindTo u accent met es n → slice_get es n ≡ Some y → AreAdded u (state_of y.0) n 0 0 es mid
-    → AreAdded u (state_of y.0) n 1 0 mid now → ((i : Modifier) → IsLetGoMet mid 0 (state_of y.0) i)
-    → IsExchangeMet u mid 0 (state_of y.0) → ((k : ℕ) → k < 128 → ArePressesMet u now 0 (state_of y.0) k)
+    → AreAdded u (state_of y.0) n 1 0 mid now → AreMet u mid 0 0 (state_of y.0) → AreMet u now 1 0 (state_of y.0)
     → AreBehindTo u accent met now (n + 1)
-behind-step u accent met es mid now n y before here first second let_go load press = record {
+behind-step u accent met es mid now n y before here first second frees presses = record {
   seeds =
       behind-added u accent met mid now y n 1 (behind-added u accent met es mid y n 0 before.seeds here first)
       (at-now es mid n y (first.0, first.1) here) second;
@@ -209,10 +192,10 @@ behind-step u accent met es mid now n y before here first second let_go load pre
     met-by es t (j, x, at, is, le) = (j, x, at, is)
 
     from_here : (move : Move) → IsMove u s move → LeavesScroll move → IsMet now (moved u s move)
-    from_here (Hold k i) (lt, idle, seen, free) leaves = met-by now _ ((press k lt idle).0 i seen free)
-    from_here (Turn k l) (lt, idle, seen) leaves = met-by now _ ((press k lt idle).1 l leaves seen)
-    from_here (LetGo k i) holds leaves = up _ (met-by mid _ (let_go i k holds))
-    from_here Exchange is leaves = up _ (met-by mid _ (load is))
+    from_here move is leaves = elim (no-press_or_one move) [
+      | inl none ↦ up (moved u s move) (met-by mid (moved u s move) (frees move is leaves none))
+      | inr one ↦ met-by now (moved u s move) (presses move is leaves one)
+    ]
 
 -- ---- there are no more than were met
 
@@ -242,10 +225,9 @@ same-met : (met : Entries) (i j : ℕ) (x y z w : Entry) → i ≡ j → slice_g
 same-met met i j x y z w e there there_j is is_j =
     sym is ∙ ap (λ q. state_of q.0) (sym (same_entry met i j z w e there there_j)) ∙ is_j
 
-pub behind-few : (E : Held → Held → Bool) → ((a b : Held) → state_of a ≡ state_of b → E a b ≡ true) → (u : Under)
-    → (accent : ℕ) (met es : Entries) → Searched u start met (length met) (length met)
-    → AreSeedsTo u accent met (length met) es → IsDistinct E (keys_of es) → length es ≤ length met
-behind-few E test u accent met es searched seeds distinct = pigeonhole (length es) (length met) place into one
+pub behind-few : (u : Under) (accent : ℕ) (met es : Entries) → Searched u start met (length met) (length met)
+    → AreSeedsTo u accent met (length met) es → IsDistinct are_same (keys_of es) → length es ≤ length met
+behind-few u accent met es searched seeds distinct = pigeonhole (length es) (length met) place into one
   where
     here : (j : ℕ) (o : Option Entry) → slice_get es j ≡ o → ℕ
     here j None e = 0
@@ -275,8 +257,8 @@ behind-few E test u accent met es searched seeds distinct = pigeonhole (length e
     apart i j lt lt_i lt_j e =
         let (x, z, at, there, is) = meets i lt_i in
         let (y, w, at_j, there_j, is_j) = meets j lt_j in
-        true≢false (sym (test x.0 y.0 (same-met met (place i) (place j) x y z w e there there_j is is_j))
-        ∙ distinct-at E es distinct i j x y lt at at_j)
+        true≢false (sym (same-tells x.0 y.0 (same-met met (place i) (place j) x y z w e there there_j is is_j))
+        ∙ distinct-at es distinct i j x y lt at at_j)
 
     one : (i j : ℕ) → i < length es → j < length es → place i ≡ place j → i ≡ j
     one i j lt_i lt_j e = elim (cases_lt i j) [
@@ -304,8 +286,7 @@ near-later u accent met es searched behind later before is goes offered =
     let (i, w, seed, same) =
     behind.seeds.seeds j z there (slice_get_within met j z there)
     (offered-near u (state_after u before) (state_of z.0) accent near offered) in
-    let closed : AreClosed u es = λ k x place move made leaves.
-    behind.moved k x place (slice_get_within es k x place) move made leaves in
+    let closed : AreClosed u es = λ k x place. behind.moved k x place (slice_get_within es k x place) in
     near-along u es closed (state_after u before) later (i, w, seed, ap (λ q. unscrolled q) same ∙ near) goes
 
 -- so one is near each behind it
@@ -331,10 +312,9 @@ composing-behind m accent met es ys searched behind are = record {
   all = λ y (path, is, (offered, e)).
       let (j, x, at, near) =
       near-behind (alone m) accent met es searched behind path is offered in
-      subst (λ z. Contains ys z) (ap (λ s. selection_of s) near ∙ e)
-      (are.all j x at (slice_get_within es j x at));
+      are.all y (j, x, at, slice_get_within es j x at, ap (λ s. selection_of s) near ∙ e);
   only = λ y has.
-      let (j, x, at, e) = are.only y has in
+      let (j, x, at, lt, e) = are.only y has in
       behind-noted m accent (state_of x.0) y (behind.seeds.behind j x at).0 e;
   once = are.once;
 }
@@ -360,10 +340,9 @@ pub composing-all : (m : MapValue) (accent : ℕ) (met : Entries) (ys : List Sel
 composing-all m accent met ys searched can offered are = record {
   all = λ y (path, is, (along, e)).
       let (j, x, at, near) = near-met (alone m) met searched path is in
-      subst (λ z. Contains ys z) (ap (λ s. selection_of s) near ∙ e)
-      (are.all j x at (slice_get_within met j x at));
+      are.all y (j, x, at, slice_get_within met j x at, ap (λ s. selection_of s) near ∙ e);
   only = λ y has.
-      let (j, x, at, e) = are.only y has in
+      let (j, x, at, lt, e) = are.only y has in
       let r : IsReached (alone m) start met j x = searched.reached j x at in
       behind-noted m accent (state_of x.0) y
       (subst (λ t. IsBehind (alone m) accent t) r.3
@@ -406,17 +385,11 @@ has-offer (o ∷ offers) accent (suc k, lt, at) =
     let (p, (n, below, is), same) = has-offer offers accent (k, omega (arith, lt), at) in
     (p, (suc n, omega (arith, below), is), same)
 
-offer-has : (offers : List Offer) (o : Offer) → Contains offers o → Contains (accents_in offers) o.accent
-offer-has [] o (k, lt, at) = absurd (omega (arith, lt))
-offer-has (p ∷ offers) o (zero, lt, at) = (0, omega arith, ap (λ q. q.accent) at)
-offer-has (p ∷ offers) o (suc k, lt, at) =
-    let (n, below, is) = offer-has offers o (k, omega (arith, lt), at) in (suc n, omega (arith, below), is)
-
 pub sights-are : (m : MapValue) (met : Entries) (x : Sights) (accents : List ℕ)
     → Searched (alone m) start met (length met) (length met) → AreSelectionsOf met x.selections.items
     → AreAccentsOf (alone m) met accents → AreOffersOf m accents x.offers.items
-    → (x.forgets ≡ true → (j : ℕ) × (z : Entry) × (slice_get met j ≡ Some z) × IsForgetful (alone m) (state_of z.0))
-    → (x.forgets ≡ false → (j : ℕ) (z : Entry) → slice_get met j ≡ Some z → IsForgetful (alone m) (state_of z.0) → ⊥)
+    → (x.forgets ≡ true → (j k : ℕ) × IsStuck (alone m) met j k)
+    → (x.forgets ≡ false → AreSafe (alone m) met (length met))
     → AreSightsOf m x
 sights-are m met x accents searched selections offered offers some none = record {
   noted = λ n. (only n, all n);
@@ -440,31 +413,36 @@ sights-are m met x accents searched selections offered offers some none = record
 
     only : (n : Note) → Has x n → IsNoted m n
     only (Note.Selected y) has =
-        let (j, z, at, e) = selections.only y has in reached j z at (λ s. selection_of s ≡ y) e
+        let (j, z, at, lt, e) = selections.only y has in reached j z at (λ s. selection_of s ≡ y) e
     only (Note.Offered accent) has =
-        let (j, z, at, is) = offered.only accent (subst (λ q. Contains q accent) offers.all has) in
+        let (j, z, at, lt, is) = offered.only accent (subst (λ q. Contains q accent) offers.all has) in
         reached j z at (λ s. IsOfferedIn u s accent) is
     only (Note.Composing accent y) (o, has, same, there) =
         subst (λ a. IsNoted m (Note.Composing a y)) same ((offers.each o has).only y there)
-    only Note.Forgets e = let (j, z, at, is) = some e in reached j z at (λ s. IsForgetful u s) is
+    only Note.Forgets e =
+        let (j, k, (z, at, (i, is))) = some e in reached j z at (λ s. IsForgetful u s) (i, k, is)
 
     all : (n : Note) → IsNoted m n → Has x n
     all (Note.Selected y) (path, is, e) =
         let (j, z, at, near) = near-met u met searched path is in
-        subst (λ q. Contains x.selections.items q) (ap (λ s. selection_of s) near ∙ e)
-        (selections.all j z at (slice_get_within met j z at))
+        selections.all y (j, z, at, slice_get_within met j z at, ap (λ s. selection_of s) near ∙ e)
     all (Note.Offered accent) (path, is, here) =
         let (j, z, at, near) = near-met u met searched path is in
         subst (λ q. Contains q accent) (sym offers.all)
-        (offered.all j z accent at (slice_get_within met j z at)
-        (offered-near u (state_after u path) (state_of z.0) accent near here))
+        (offered.all accent
+        (j, z, at, slice_get_within met j z at, offered-near u (state_after u path) (state_of z.0) accent near here))
     all (Note.Composing accent y) (path, is, ((later, before, at, here), e)) =
         let parts = path-split u start later before (subst (λ p. IsPath u p) at is) in
         let (o, has, same) =
         offer-of accent
         (let (j, z, place, near) = near-met u met searched before parts.0 in
-        offered.all j z accent place (slice_get_within met j z place)
-        (offered-near u (state_after u before) (state_of z.0) accent near here)) in (
+        offered.all accent (
+          j,
+          z,
+          place,
+          slice_get_within met j z place,
+          offered-near u (state_after u before) (state_of z.0) accent near here,
+        )) in (
           o,
           has,
           same,
@@ -477,4 +455,4 @@ sights-are m met x accents searched selections offered offers some none = record
         by true e = e
         by false e =
             let (j, z, at, near) = near-met u met searched path is in
-            absurd (none e j z at (subst (λ s. IsForgetful u s) (sym near) forgetful))
+            absurd (none e j z at (slice_get_within met j z at) (subst (λ s. IsForgetful u s) (sym near) forgetful))

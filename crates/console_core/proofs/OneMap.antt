@@ -1,24 +1,19 @@
 -- Histories where loads change nothing.
-use Rattle.std.proofs.Common.{◌≡◌, Bool, true, false, ◌&&◌, List, [], ◌∷◌, refl, ap, subst, sym, ◌∙◌, if◌then◌else◌}
-use Rattle.std.proofs.lemmas.Bool.{true≢false}
-use Rattle.std.proofs.lemmas.List.Elements.{All-head, All-tail, All-cons}
-use Rattle.console_core.specs.Types.{Lock, Event, Press, Release, Reset, Load}
-use Rattle.keymap_core.specs.declared.action.Holding.TheVariants as holding
-use Rattle.keymap_core.specs.Maps.{MapValue}
-use Rattle.console_core.specs.Positions.{count_where, count_since, is_odd}
-use Rattle.keymap_core.specs.Borne.{is_borne}
-use Rattle.console_core.specs.Resolved.{ResolvedEvent, resolve, locked, pending, answer_resolved}
-use Rattle.console_core.specs.History.{Maps, between, in_force, loaded, is_second_in_force, resolved, resolved_event}
-use Rattle.console_core.specs.History.{answer_to, answers_to, HasKey, HasKeys, IsNoLoad, HasNoLoads}
-use Rattle.console_core.specs.Resolved.ResolvedEvent.{WasReset, WasLoaded}
-use Rattle.console_core.specs.Reading.{turns_at, unlocks_at}
-use Rattle.console_core.specs.Loads.{WithoutLoads, as_reset, loads_as_resets, LoadsOfOneMapAreResets}
+use Rattle.console_core.proofs.Common.{◌≡◌, Bool, true, false, ◌&&◌, List, [], ◌∷◌, refl, ap, subst, sym, ◌∙◌}
+use Rattle.console_core.proofs.Common.{if◌then◌else◌, true≢false, All-head, All-tail, All-cons, Lock, Event, Press}
+use Rattle.console_core.proofs.Common.{Release, Reset, Load, MapValue, count_where, count_since, is_odd, is_borne}
+use Rattle.console_core.proofs.Common.{ResolvedEvent, resolve, locked, pending, answer_resolved, Maps, between}
+use Rattle.console_core.proofs.Common.{in_force, loaded, is_second_in_force, resolved, resolved_event, answer_to}
+use Rattle.console_core.proofs.Common.{answers_to, HasKey, HasKeys, IsNoLoad, HasNoLoads, WasReset, WasLoaded, turns_at}
+use Rattle.console_core.proofs.Common.{unlocks_at, as_reset, loads_as_resets}
+use Rattle.console_core.specs.Loads.{WithoutLoads, LoadsOfOneMapAreResets}
 use Rattle.console_core.proofs.OneMore.{resolved-start, resolved-more, held-reset, held-load, locked-reset, locked-load}
 use Rattle.console_core.proofs.OneMore.{remembered-reset, remembered-load, pending-reset, pending-load}
 use Rattle.console_core.proofs.Borne.{AllLooked, locked-borne, resolved-looked}
 use Rattle.console_core.proofs.FreshPresses.{no_loads-first}
 use Rattle.console_core.proofs.Headline.{Same, same-resolve, same-step, same-answer_resolved, resolve-key}
 use Rattle.console_core.proofs.Readings.{locked-count}
+use Rattle.keymap_core.specs.declared.action.Holding.TheVariants as holding
 
 -- without loads
 pub first_in_force : (ms : Maps) (h : List Event) → HasNoLoads h → in_force ms h ≡ ms.first

@@ -1,24 +1,16 @@
 -- What each notion of a history is after one more event, by what it was before.
-use Prim.Native.Nat.{suc}
-use Rattle.std.proofs.Common.{◌≡◌, ℕ, Bool, true, false, ◌&&◌, ◌||◌, not, eqb, List, [], ◌∷◌, Option, Some, None}
-use Rattle.std.proofs.Common.{refl, ap, subst, sym, if◌then◌else◌}
-use Rattle.std.proofs.Math.Bool.{and-true, and-false}
-use Rattle.std.specs.Prelude.{◌==◌}
-use Rattle.console_core.specs.Types.{Action, Lock, Holding, Cell, Char, Act, Event, Press, Release, Reset, Load}
+use Rattle.console_core.proofs.Common.{suc, ◌≡◌, ℕ, Bool, true, false, ◌&&◌, ◌||◌, not, eqb, List, [], ◌∷◌, Option}
+use Rattle.console_core.proofs.Common.{Some, None, refl, ap, subst, sym, if◌then◌else◌, and-true, and-false, ◌==◌}
+use Rattle.console_core.proofs.Common.{Action, Lock, Holding, Cell, Char, Act, Event, Press, Release, Reset, Load}
+use Rattle.console_core.proofs.Common.{same_action, holding_action, MapValue, is_borne, is_odd, last_where, unlocks}
+use Rattle.console_core.proofs.Common.{resolve_press, ResolvedEvent, remembered, held, locked, turns, taken_over}
+use Rattle.console_core.proofs.Common.{unless_nop, is_this_action, pending, pending_by_dead_keys, dead_keys_taken}
+use Rattle.console_core.proofs.Common.{keeps_taken, usable_dead_key, run_length, Maps, resolved_event, pressed}
+use Rattle.console_core.proofs.Common.{resolved, is_press, concerns, pending_after_dead_key, next_pending, eqb-true}
+use Rattle.console_core.proofs.Common.{eq-eqb, option_or, PressedCharacter, PressedAction, ReleasedKey, WasReset}
+use Rattle.console_core.proofs.Common.{WasLoaded, option_or-none}
+use Rattle.console_core.specs.Resolved.{taken}
 use Rattle.keymap_core.specs.declared.action.Holding.TheVariants as holding
-use Rattle.keymap_core.specs.Actions.{same_action, holding_action}
-use Rattle.keymap_core.specs.Maps.{MapValue}
-use Rattle.keymap_core.specs.Borne.{is_borne}
-use Rattle.console_core.specs.Positions.{is_odd, last_where}
-use Rattle.console_core.specs.Resolved.{unlocks, resolve_press, ResolvedEvent, remembered, held, locked, turns, taken}
-use Rattle.console_core.specs.Resolved.{taken_over, unless_nop, is_this_action, pending, pending_by_dead_keys}
-use Rattle.console_core.specs.Resolved.{dead_keys_taken, keeps_taken, usable_dead_key, run_length}
-use Rattle.console_core.specs.History.{Maps, resolved_event, pressed, resolved, is_press, concerns}
-use Rattle.console_core.specs.Inner.Kept.{pending_after_dead_key, next_pending}
-use Rattle.std.proofs.lemmas.Bool.{eqb-true, eq-eqb}
-use Rattle.std.specs.Option.{option_or}
-use Rattle.console_core.specs.Resolved.ResolvedEvent.{PressedCharacter, PressedAction, ReleasedKey, WasReset, WasLoaded}
-use Rattle.keymap_core.proofs.Lists.{option_or-none}
 
 -- resolved events
 pub resolved-start : (ms : Maps) → resolved ms [] ≡ []

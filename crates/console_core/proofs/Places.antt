@@ -1,13 +1,12 @@
 -- One place of a table after a write, by a test on the places.
-use Rattle.std.proofs.Common.{◌≡◌, ℕ, ◌<◌, Bool, true, false, cond, eqb, List, length, get_or, set, ◌+◌, ◌&&◌, not}
-use Rattle.std.proofs.Common.{Some, ap, lit<, refl, sym, subst, arith}
+use Rattle.console_core.proofs.Common.{◌≡◌, ℕ, ◌<◌, Bool, true, false, cond, eqb, List, length, get_or, set, ◌+◌, ◌&&◌}
+use Rattle.console_core.proofs.Common.{not, Some, ap, lit<, refl, sym, subst, arith, eqb-true, eqb-false, ne_eqb}
+use Rattle.console_core.proofs.Common.{Modifier, LeftShift, Lock, Caps, Num, Scroll, Alt, Holding, Action, holding_of}
+use Rattle.console_core.proofs.Common.{modifier_index, lock_index, holding_index, same_action, holding_action}
+use Rattle.console_core.proofs.Common.{modifiers}
 use Rattle.std.proofs.lemmas.List.{get_or-set_same, get_or-set_other, get_or-replicate}
-use Rattle.std.proofs.lemmas.Bool.{eqb-true, eqb-false, ne_eqb}
-use Rattle.console_core.specs.Types.{Modifier, LeftShift, Lock, Caps, Num, Scroll, Alt, Holding, Action}
 use Rattle.keymap_core.specs.declared.action.Holding.TheVariants as holding
 use Rattle.keymap_core.specs.declared.action.Action.TheVariants as act
-use Rattle.keymap_core.specs.Actions.{holding_of, modifier_index, lock_index, holding_index, same_action}
-use Rattle.keymap_core.specs.Actions.{holding_action, modifiers}
 
 -- an element after a write, by the test of its index
 place_cases : {X : Type 0} (xs : List X) (i j : ℕ) (v d : X) (b : Bool) → eqb i j ≡ b → i < length xs

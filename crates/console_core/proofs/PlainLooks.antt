@@ -1,21 +1,13 @@
 -- Looks in plain maps.
-use Rattle.std.proofs.Common.{◌≡◌, ℕ, ◌+◌, ◌<◌, Bool, true, false, ◌&&◌, List, refl, ap, subst, sym, ◌∙◌, inl, inr}
-use Rattle.std.proofs.Common.{lit<}
-use Rattle.std.proofs.lemmas.Bool.{or_cases, and_parts, false_from_ne_true, or_left, or_right}
-use Rattle.console_core.specs.Types.{Lock, Modifier, Holding, Act, Event}
-use Rattle.keymap_core.specs.declared.action.Lock.TheVariants as lock
-use Rattle.keymap_core.specs.declared.action.Modifier.TheVariants as modifier
-use Rattle.keymap_core.specs.declared.action.Holding.TheVariants as holding
-use Rattle.keymap_core.specs.Actions.{holding_action}
-use Rattle.keymap_core.specs.Maps.{MapValue, cell_at}
-use Rattle.keymap_core.specs.Bearers.{Bears, IsCellOf, BearsThroughout, NobodyBears}
+use Rattle.console_core.proofs.Common.{◌≡◌, ℕ, ◌+◌, ◌<◌, Bool, true, false, ◌&&◌, List, refl, ap, subst, sym, ◌∙◌, inl}
+use Rattle.console_core.proofs.Common.{inr, lit<, or_cases, and_parts, false_from_ne_true, or_right, Lock, Modifier}
+use Rattle.console_core.proofs.Common.{Holding, Act, Event, holding_action, MapValue, cell_at, Bears, IsCellOf}
+use Rattle.console_core.proofs.Common.{BearsThroughout, count_where, is_odd, look_with, ResolvedEvent, held, locked}
+use Rattle.console_core.proofs.Common.{look, Maps, in_force, resolved, pressed, is_on_after, is_locked_after, HasKeys}
+use Rattle.console_core.proofs.Common.{HasNoLoads, is_fresh_press, fun_ext}
+use Rattle.std.proofs.lemmas.Bool.{or_left}
+use Rattle.keymap_core.specs.Bearers.{NobodyBears}
 use Rattle.keymap_core.specs.Borne.{any_below, has_in_slot, is_upper_live}
-use Rattle.console_core.specs.Positions.{count_where, is_odd}
-use Rattle.console_core.specs.Columns.{look_with}
-use Rattle.console_core.specs.Resolved.{ResolvedEvent, held, locked, look}
-use Rattle.console_core.specs.History.{Maps, in_force, resolved, pressed, is_on_after, is_locked_after, HasKeys}
-use Rattle.console_core.specs.History.{HasNoLoads}
-use Rattle.console_core.specs.Headline.{is_fresh_press}
 use Rattle.console_core.specs.Plain.{IsPlainFor, IsPlain, bears_holding, plain_on, plain_locked, plain_look}
 use Rattle.console_core.specs.Plain.{LooksPlainly, PlainOnByKeys, PlainLockedByKeys}
 use Rattle.keymap_core.proofs.BorneTests.{any-some, some-any, slot-stands, stands-slot, live-upper, upper-is_live}
@@ -25,7 +17,9 @@ use Rattle.console_core.proofs.Bearing.{RememberedBySome, held-remembered, remem
 use Rattle.console_core.proofs.Headline.{throughout_held, same_by}
 use Rattle.console_core.proofs.FreshPresses.{locked_by_fresh_presses}
 use Rattle.console_core.proofs.OneMap.{first_in_force}
-use mathlib.Core.Path.{fun_ext}
+use Rattle.keymap_core.specs.declared.action.Lock.TheVariants as lock
+use Rattle.keymap_core.specs.declared.action.Modifier.TheVariants as modifier
+use Rattle.keymap_core.specs.declared.action.Holding.TheVariants as holding
 
 -- the test whether a key bears a holding action
 pub bears-is : (m : MapValue) (a : Holding) (k : ℕ) → bears_holding m a k ≡ true → Bears m k a

@@ -1,14 +1,10 @@
 -- Pressed by positions, what an event is resolved to, and the answers by cases.
-use Prim.Native.Nat.{suc}
-use Rattle.std.proofs.Common.{◌≡◌, ℕ, Bool, true, false, List, [], ◌∷◌, ◌++◌, length, Some, refl, ap, sym, ◌∙◌}
-use Rattle.std.proofs.Common.{if◌then◌else◌}
-use Rattle.std.proofs.lemmas.Bool.{eqb-true, eq-eqb, true≢false}
-use Rattle.console_core.specs.Types.{Cell, Char, Act, Event, Press, Release, Reset, Load}
-use Rattle.console_core.specs.Positions.{last_where}
-use Rattle.console_core.specs.Resolved.{ResolvedEvent, resolve_press, answer_resolved}
-use Rattle.console_core.specs.History.{Maps, in_force, concerns, is_press, pressed, resolved, resolved_event}
-use Rattle.console_core.specs.Reading.{look_after, NoneOf, LastPresses, PressedByPositions, ResolvedAtPrefix}
-use Rattle.console_core.specs.Reading.{answer_to_look, AnswersByCases}
+use Rattle.console_core.proofs.Common.{suc, ◌≡◌, ℕ, Bool, true, false, List, [], ◌∷◌, ◌++◌, length, Some, refl, ap, sym}
+use Rattle.console_core.proofs.Common.{◌∙◌, if◌then◌else◌, eqb-true, eq-eqb, true≢false, Cell, Char, Act, Event, Press}
+use Rattle.console_core.proofs.Common.{Release, Reset, Load, last_where, ResolvedEvent, resolve_press, answer_resolved}
+use Rattle.console_core.proofs.Common.{Maps, in_force, concerns, is_press, pressed, resolved, resolved_event}
+use Rattle.console_core.proofs.Common.{look_after, NoneOf, answer_to_look}
+use Rattle.console_core.specs.Reading.{LastPresses, PressedByPositions, ResolvedAtPrefix, AnswersByCases}
 use Rattle.console_core.proofs.OneMore.{resolved-more}
 
 -- one more event, by whether it concerns the key

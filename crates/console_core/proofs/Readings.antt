@@ -1,14 +1,15 @@
 -- That the notions by resolved events are those on the events.
-use Rattle.std.proofs.Common.{◌≡◌, ℕ, Bool, false, true, ◌&&◌, not, List, [], ◌∷◌, ◌++◌, refl, ap, sym, ◌∙◌, inl, inr}
-use Rattle.std.proofs.lemmas.Bool.{or_cases, and_parts, not-true, true≢false, or_right}
-use Rattle.console_core.specs.Types.{Holding, Lock, Cell, Char, Act, Event, Press, Release, Reset, Load}
-use Rattle.keymap_core.specs.declared.action.Holding.TheVariants as holding
-use Rattle.console_core.specs.Positions.{holds_since, count_since, is_odd}
-use Rattle.console_core.specs.Resolved.{unlocks, look, resolve_press, held, locked, raises, lowers, turns}
-use Rattle.console_core.specs.History.{Maps, in_force, resolved_event, resolved}
+use Rattle.console_core.proofs.Common.{◌≡◌, ℕ, Bool, false, true, ◌&&◌, not, List, [], ◌∷◌, ◌++◌, refl, ap, sym, ◌∙◌}
+use Rattle.console_core.proofs.Common.{inl, inr, or_cases, and_parts, not-true, true≢false, or_right, Holding, Lock}
+use Rattle.console_core.proofs.Common.{Cell, Char, Act, Event, Press, Release, Reset, Load, count_since, is_odd}
+use Rattle.console_core.proofs.Common.{unlocks, look, resolve_press, held, locked, turns, Maps, in_force}
+use Rattle.console_core.proofs.Common.{resolved_event, resolved, unlocks_at, raises_at, lowers_at, turns_at, NoneOf}
+use Rattle.console_core.proofs.Common.{SomeSince}
+use Rattle.console_core.specs.Positions.{holds_since}
+use Rattle.console_core.specs.Resolved.{raises, lowers}
 use Rattle.console_core.proofs.OneMore.{press-unlocks}
-use Rattle.console_core.specs.Reading.{unlocks_at, raises_at, lowers_at, turns_at, is_held_after, NoneOf, SomeSince}
-use Rattle.console_core.specs.Reading.{HeldByPositions, LockedByCount}
+use Rattle.console_core.specs.Reading.{is_held_after, HeldByPositions, LockedByCount}
+use Rattle.keymap_core.specs.declared.action.Holding.TheVariants as holding
 
 -- the step of the next lemma at a press, by the cell looked up
 raises_press : (ms : Maps) (a : Holding) (k : ℕ) (h : List Event) (x : Cell)

@@ -1,34 +1,18 @@
 -- What a list of presses, releases and resets types on its way home, moves and taps can type.
-use Rattle.std.proofs.Common.{◌≡◌, ◌⊎◌, ℕ, Bool, true, false, not, List, [], ◌∷◌, ◌++◌, Option, Some, None, refl, ap}
-use Rattle.std.proofs.Common.{subst, sym, ◌∙◌, inl, inr, arith, append_assoc, append-nil, if◌then◌else◌}
-use Prim.Native.Nat.{suc}
-use Rattle.std.proofs.lemmas.Bool.{true≢false, eqb-true, eq-eqb}
-use Rattle.std.proofs.lemmas.List.Elements.{All-head}
-use Rattle.std.proofs.lemmas.Option.{none-some}
-use Rattle.keymap_core.specs.declared.action.Action.TheVariants as act
-use Rattle.keymap_core.specs.Accents.{own_of}
-use Rattle.keymap_core.specs.Maps.{MapValue, accent_at}
-use Rattle.console_core.specs.Types.{Action, Answer, Meta, Cell, Char, Act, Event, Press, Release, Reset, Load, Move}
-use Rattle.console_core.specs.Types.{LetGo}
-use Rattle.console_core.specs.Types.{Hold, Turn}
-use Rattle.console_core.specs.declared.event.Answer.TheVariants as answer
-use Rattle.console_core.specs.declared.explored.Symbol.{Symbol}
-use Rattle.console_core.specs.declared.explored.Symbol.TheVariants as symbol
-use Rattle.console_core.specs.Answers.{usable, is_pending, char_or_error, answer_action, composed_by}
-use Rattle.console_core.specs.Resolved.{ResolvedEvent, look, remembered, taken_over, pending, keeps_taken}
-use Rattle.console_core.specs.Resolved.{usable_dead_key}
-use Rattle.console_core.specs.Resolved.{resolve, resolve_press}
-use Rattle.console_core.specs.Inner.Kept.{next_pending, pending_after_dead_key}
-use Rattle.console_core.specs.Inner.Standing.{Follows}
-use Rattle.console_core.specs.History.{between, in_force, resolved, is_second_in_force, is_on_after, HasKey, IsNoLoad}
-use Rattle.console_core.specs.History.{accent_pending_after}
-use Rattle.console_core.specs.Reading.{look_after, remembered_after}
-use Rattle.console_core.specs.Moves.{Under, alone, State, start, map_of, map_in, next_map, look_in, IsIdle, IsMove}
-use Rattle.console_core.specs.Moves.{moved, IsPathFrom, state_from, IsForgetful}
-use Rattle.console_core.specs.Returning.{IsHome}
-use Rattle.console_core.specs.Sights.{IsAdmitted}
-use Rattle.console_core.specs.Sticking.{NeverForgets, presses}
-use Rattle.console_core.specs.Typing.{ComesHome, IsTapOf, CanTap, CanType, IsAsNew, TypedCanBeTyped, cell_of, plainly}
+use Rattle.console_core.proofs.Common.{◌≡◌, ◌⊎◌, ℕ, Bool, true, false, not, List, [], ◌∷◌, ◌++◌, Option, Some, None}
+use Rattle.console_core.proofs.Common.{refl, ap, subst, sym, ◌∙◌, inl, inr, arith, append_assoc, if◌then◌else◌, suc}
+use Rattle.console_core.proofs.Common.{true≢false, eqb-true, eq-eqb, All-head, none-some, own_of, MapValue, accent_at}
+use Rattle.console_core.proofs.Common.{Action, Answer, Meta, Cell, Char, Act, Event, Press, Release, Reset, Load, Move}
+use Rattle.console_core.proofs.Common.{LetGo, Hold, Turn, Symbol, usable, is_pending, char_or_error, answer_action}
+use Rattle.console_core.proofs.Common.{composed_by, ResolvedEvent, look, remembered, taken_over, pending, keeps_taken}
+use Rattle.console_core.proofs.Common.{usable_dead_key, resolve, resolve_press, next_pending, pending_after_dead_key}
+use Rattle.console_core.proofs.Common.{Follows, between, in_force, resolved, is_second_in_force, is_on_after, HasKey}
+use Rattle.console_core.proofs.Common.{IsNoLoad, accent_pending_after, look_after, remembered_after, Under, alone}
+use Rattle.console_core.proofs.Common.{State, start, map_of, map_in, next_map, look_in, IsIdle, IsMove, moved}
+use Rattle.console_core.proofs.Common.{IsPathFrom, state_from, IsForgetful, IsHome, IsAdmitted, NeverForgets, presses}
+use Rattle.console_core.proofs.Common.{ComesHome, IsTapOf, CanTap, CanType, IsAsNew, cell_of, plainly}
+use Rattle.std.proofs.Common.{append-nil}
+use Rattle.console_core.specs.Typing.{TypedCanBeTyped}
 use Rattle.console_core.proofs.Exploring.{path-append}
 use Rattle.console_core.proofs.Going.{pending-is}
 use Rattle.console_core.proofs.OneMore.{resolved-start, resolved-more, pending-start, pending-character, pending-action}
@@ -38,9 +22,11 @@ use Rattle.console_core.proofs.RoutesHome.{is-nothing}
 use Rattle.console_core.proofs.Scripts.{Reached}
 use Rattle.console_core.proofs.Seeing.{one_map, admitted-before, taken-dead, pends}
 use Rattle.console_core.proofs.Staying.{Stays, KeepsLetGo, KeepsHeld, LeadsOn, follows-look, follows-start}
-use Rattle.console_core.proofs.Staying.{clean-spared}
-use Rattle.console_core.proofs.Staying.{stays-press, stays-release, stays-reset}
+use Rattle.console_core.proofs.Staying.{clean-spared, stays-press, stays-release, stays-reset}
 use Rattle.console_core.proofs.Strokes.{answer_at, look-answer}
+use Rattle.keymap_core.specs.declared.action.Action.TheVariants as act
+use Rattle.console_core.specs.declared.event.Answer.TheVariants as answer
+use Rattle.console_core.specs.declared.explored.Symbol.TheVariants as symbol
 
 -- ---- from a state on
 

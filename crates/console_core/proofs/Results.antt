@@ -1,5 +1,6 @@
 -- What holds of a result follows from what holds of it.
-use Rattle.std.proofs.Common.{Result, Ok, Err, OnOk, IfOk}
+use Rattle.console_core.proofs.Common.{Result, Ok, Err, IfOk}
+use Rattle.std.proofs.Common.{OnOk}
 
 pub ok-then : {A E : Type 0} {P Q : A → Type 0} (r : Result A E) → ((x : A) → P x → Q x) → IfOk r P → IfOk r Q
 ok-then (Ok x) f p = f x p

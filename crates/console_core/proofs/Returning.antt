@@ -1,20 +1,14 @@
--- Where a state that was met has no route home, some turn of a lock is one-way.
-use Rattle.std.proofs.Common.{◌≡◌, ◌≢◌, ℕ, false, List, [], ◌∷◌, ◌++◌, length, slice_get, Some, refl, ap}
-use Rattle.std.proofs.Common.{subst, sym, ◌∙◌, inl, inr}
-use Rattle.std.proofs.lemmas.Bool.{false≢true}
-use Rattle.std.proofs.lemmas.Option.{slice_get_within}
-use Rattle.keymap_core.specs.Maps.{MapValue}
+-- From a state that was met without a route home no moves lead there.
+use Rattle.console_core.proofs.Common.{suc, ◌≡◌, ◌≢◌, ℕ, ◌+◌, false, List, [], ◌∷◌, ◌++◌, length, slice_get, Some, refl}
+use Rattle.console_core.proofs.Common.{ap, arith, subst, sym, ◌∙◌, inl, inr, MapValue, Under, start, alone, State}
+use Rattle.console_core.proofs.Common.{IsMove, moved, IsPath, state_after, IsPathFrom, state_from, presses_of, IsHome}
+use Rattle.console_core.proofs.Common.{NoTurnIsOneWay, Routes, HasRoute, IsAstray, IsMet, AreSettled, state_of, Entry}
+use Rattle.console_core.proofs.Common.{Entries, IsMetBy, IsReached, LeavesScroll, Searched, unscrolled}
 use Rattle.keymap_core.specs.declared.action.Lock.{Lock}
 use Rattle.keymap_core.specs.declared.action.Lock.TheVariants.{Caps, Num, Scroll, Alt}
 use Rattle.console_core.specs.declared.held.Move.{Move}
-use Rattle.console_core.specs.declared.held.Move.TheVariants.{Hold, Turn, LetGo, Exchange}
-use Rattle.console_core.specs.Moves.{Under, start, alone, State, IsMove, moved, IsPath, state_after, IsPathFrom}
-use Rattle.console_core.specs.Moves.{state_from}
-use Rattle.console_core.specs.Returning.{IsHome, NoTurnIsOneWay}
-use Rattle.console_core.specs.Inner.Routes.{Routes, HasRoute, IsAstray, IsMet, AreSettled}
-use Rattle.console_core.specs.Inner.Searching.{state_of, Entry, Entries, IsMetBy, IsReached, LeavesScroll, Searched}
-use Rattle.console_core.specs.Inner.Standing.{unscrolled}
-use Rattle.console_core.proofs.Unscrolled.{moves-unscrolled, same_moved, scroll-moved}
+use Rattle.console_core.proofs.Searching.{all-done}
+use Rattle.console_core.proofs.Unscrolled.{leaves-scroll_or_turns, moves-unscrolled, same_moved, scroll-moved}
 
 -- home doesn't depend on the scroll lock
 pub near-is_home : (s t : State) → unscrolled t ≡ unscrolled s → IsHome s → IsHome t
@@ -30,22 +24,15 @@ near-is_home s t e (free, off) = ((λ i. ap (λ x. x.holder i) e ∙ free i), (�
 met-met : (es : Entries) (p : ℕ) (s : State) → IsMetBy es p s → IsMet es s
 met-met es p s (j, x, at, is, le) = (j, x, at, is)
 
-pub move-met : {o : State} (u : Under) (es : Entries) → Searched u o es (length es) (length es) → (j : ℕ) (x : Entry)
-    → slice_get es j ≡ Some x → (move : Move) → IsMove u (state_of x.0) move → LeavesScroll move
-    → IsMet es (moved u (state_of x.0) move)
-move-met u es s j x at (Hold k i) (lt, idle, seen, free) leaves =
-    met-met es _ _ ((s.pressed j x at (slice_get_within es j x at) k lt idle).0 i seen free)
-move-met u es s j x at (Turn k l) (lt, idle, seen) leaves =
-    met-met es _ _ ((s.pressed j x at (slice_get_within es j x at) k lt idle).1 l leaves seen)
-move-met u es s j x at (LetGo k i) holds leaves =
-    met-met es _ _ ((s.closed j x at (slice_get_within es j x at)).0 i k holds)
-move-met u es s j x at Exchange is leaves = met-met es _ _ ((s.closed j x at (slice_get_within es j x at)).1 is)
-
 -- where moves lead from these states is among them
 abbrev pub AreClosed : Under → Entries → Type 0
 AreClosed u es =
     (j : ℕ) (x : Entry) → slice_get es j ≡ Some x → (move : Move) → IsMove u (state_of x.0) move → LeavesScroll move
     → IsMet es (moved u (state_of x.0) move)
+
+pub move-met : {o : State} (u : Under) (es : Entries) → Searched u o es (length es) (length es) → AreClosed u es
+move-met u es s j x at move is leaves =
+    met-met es _ _ (all-done u es s (suc (x.1.presses + presses_of move)) j x at move is leaves (omega arith))
 
 -- a state near this one is among them
 abbrev pub IsNear : Entries → State → Type 0
@@ -55,32 +42,23 @@ IsNear es s = (j : ℕ) × (x : Entry) × (slice_get es j ≡ Some x) × (unscro
 pub near-along : (u : Under) (es : Entries) → AreClosed u es → (s : State) (path : List Move) → IsNear es s
     → IsPathFrom u s path → IsNear es (state_from u s path)
 near-along u es closed s [] near is = near
-near-along u es closed s (move ∷ path) near is = by move is.0 (near-along u es closed s path near is.1)
-  where
-    here : State
-    here = state_from u s path
-
-    on : (move : Move) → LeavesScroll move → IsMove u here move → IsNear es here → IsNear es (moved u here move)
-    on move leaves is (j, x, at, near) =
-        let (i, y, there, e) = closed j x at move (moves-unscrolled u here (state_of x.0) move near is) leaves in
-        (i, y, there, ap (λ z. unscrolled z) e ∙ same_moved u here (state_of x.0) move near)
-
-    by : (move : Move) → IsMove u here move → IsNear es here → IsNear es (moved u here move)
-    by (Hold k i) is q = on (Hold k i) tt is q
-    by (Turn k Caps) is q = on (Turn k Caps) (λ z. cc) is q
-    by (Turn k Num) is q = on (Turn k Num) (λ z. cc) is q
-    by (Turn k Scroll) is (j, x, at, near) = (j, x, at, near ∙ scroll-moved here)
-    by (Turn k Alt) is q = on (Turn k Alt) (λ z. cc) is q
-    by (LetGo k i) is q = on (LetGo k i) tt is q
-    by Exchange is q = on Exchange tt is q
+near-along u es closed s (move ∷ path) near is =
+    let here : State = state_from u s path in
+    let (j, x, at, e) = near-along u es closed s path near is.1 in
+    elim (leaves-scroll_or_turns move) [
+      | inl leaves ↦
+          let (i, y, there, f) = closed j x at move (moves-unscrolled u here (state_of x.0) move e is.0) leaves in
+          (i, y, there, ap (λ z. unscrolled z) f ∙ same_moved u here (state_of x.0) move e)
+      | inr (k, turns) ↦
+          subst (λ z. IsNear es (moved u here z)) (sym turns) (j, x, at, e ∙ scroll-moved here)
+    ]
 
 -- a finished search met one near each that a path leads to
 pub near-met : {o : State} (u : Under) (es : Entries) → Searched u o es (length es) (length es) → (path : List Move)
     → IsPathFrom u o path → IsNear es (state_from u o path)
 near-met {o} u es s path is =
     let (j, x, at, e, le) = s.start in
-    near-along u es (λ i y there move made leaves. move-met u es s i y there move made leaves) o path
-    (j, x, at, ap (λ z. unscrolled z) e) is
+    near-along u es (move-met u es s) o path (j, x, at, ap (λ z. unscrolled z) e) is
 
 -- a met state without a route, near the state where a path has led
 abbrev pub StraysTo : Entries → Routes → State → Type 0
@@ -97,49 +75,20 @@ pub strays-on : {o : State} (m : MapValue) (es : Entries) (routes : Routes)
     → Searched (alone m) o es (length es) (length es)
     → AreSettled (alone m) es routes → (s : State) (move : Move) → IsMove (alone m) s move → StraysTo es routes s
     → StraysTo es routes (moved (alone m) s move)
-strays-on m es routes searched settled s move is (j, x, at, near, none) = by move is
-  where
-    u : Under
-    u = alone m
-
-    on : (move : Move) → LeavesScroll move → IsMove u s move → StraysTo es routes (moved u s move)
-    on move leaves is =
-        let here : IsMove u (state_of x.0) move = moves-unscrolled u s (state_of x.0) move near is in
-        let (i, y, there, e) = move-met u es searched j x at move here leaves in (
-          i,
-          y,
-          there,
-          ap (λ z. unscrolled z) e ∙ same_moved u s (state_of x.0) move near,
-          (λ has.
-              (is-astray u es routes settled j x at none).1 move here leaves
-              (subst (λ z. HasRoute routes z) e has)),
-        )
-
-    by : (move : Move) → IsMove u s move → StraysTo es routes (moved u s move)
-    by (Hold k i) is = on (Hold k i) tt is
-    by (Turn k Caps) is = on (Turn k Caps) (λ q. cc) is
-    by (Turn k Num) is = on (Turn k Num) (λ q. cc) is
-    by (Turn k Scroll) is = (j, x, at, near ∙ scroll-moved s, none)
-    by (Turn k Alt) is = on (Turn k Alt) (λ q. cc) is
-    by (LetGo k i) is = on (LetGo k i) tt is
-    by Exchange (free, loads) = absurd (false≢true loads)
-
--- so do all moves behind a path
-strays-along : (m : MapValue) (es : Entries) (routes : Routes) → Searched (alone m) start es (length es) (length es)
-    → AreSettled (alone m) es routes → (path later : List Move) → IsPath (alone m) (later ++ path)
-    → StraysTo es routes (state_after (alone m) path) → StraysTo es routes (state_after (alone m) (later ++ path))
-strays-along m es routes searched settled path [] is strays = strays
-strays-along m es routes searched settled path (move ∷ later) is strays =
-    strays-on m es routes searched settled (state_after (alone m) (later ++ path)) move is.0
-    (strays-along m es routes searched settled path later is.1 strays)
-
-pub never-home : (m : MapValue) (es : Entries) (routes : Routes) → Searched (alone m) start es (length es) (length es)
-    → AreSettled (alone m) es routes → (j : ℕ) (x : Entry) → slice_get es j ≡ Some x
-    → (HasRoute routes (state_of x.0) → ⊥) → NoTurnIsOneWay m → ⊥
-never-home m es routes searched settled j x at none returns =
-    let r : IsReached (alone m) start es j x = searched.reached j x at in
-    let (later, is, home) = returns r.0 r.2 in
-    let (i, y, there, near, no_route) =
-    strays-along m es routes searched settled r.0 later is (j, x, at, ap (λ z. unscrolled z) (sym r.3), none) in
-    (is-astray (alone m) es routes settled i y there no_route).0
-    (near-is_home (state_after (alone m) (later ++ r.0)) (state_of y.0) near home)
+strays-on m es routes searched settled s move is (j, x, at, near, none) =
+    let u : Under = alone m in
+    elim (leaves-scroll_or_turns move) [
+      | inl leaves ↦
+          let here : IsMove u (state_of x.0) move = moves-unscrolled u s (state_of x.0) move near is in
+          let (i, y, there, e) = move-met u es searched j x at move here leaves in (
+            i,
+            y,
+            there,
+            ap (λ z. unscrolled z) e ∙ same_moved u s (state_of x.0) move near,
+            (λ has.
+                (is-astray u es routes settled j x at none).1 move here leaves
+                (subst (λ z. HasRoute routes z) e has)),
+          )
+      | inr (k, turns) ↦
+          subst (λ z. StraysTo es routes (moved u s z)) (sym turns) (j, x, at, near ∙ scroll-moved s, none)
+    ]

@@ -1,40 +1,22 @@
 -- Routes home, one move longer, and looked up by the state where they begin.
-use Prim.Native.Nat.{zero, suc}
-use Rattle.std.proofs.Common.{◌≡◌, ◌≢◌, ◌⊎◌, ℕ, ◌<◌, Bool, true, false, List, [], ◌∷◌, Option, Some, None, refl, ap}
-use Rattle.std.proofs.Common.{Result, Ok, Err, IfOk, not, subst, sym, ◌∙◌, inl, inr, cond, arith, IfSome, if◌then◌else◌}
-use Rattle.std.proofs.Common.{◌+◌, ◌≤◌, ◌++◌, length, take, get_or, reverse}
-use Rattle.std.specs.List.{Contains}
-use Rattle.std.proofs.Common.{eqb, ◌&&◌}
-use mathlib.Core.Bool.{beq}
-use Rattle.std.specs.Option.{option_eq, is_some}
-use Rattle.std.specs.Cmp.Lexicographic.{pointwise}
-use Rattle.std.specs.Map.{lookup}
-use Rattle.std.proofs.lemmas.List.{take_more, take_all, length_push, reverse-append}
-use Rattle.std.proofs.lemmas.List.Elements.{Contains-push, Contains-push_cases, Contains-append_left}
-use Rattle.std.proofs.lemmas.Bool.{true≢false}
-use Rattle.std.proofs.lemmas.Option.{same_Some, none-some}
-use Rattle.indexmap.specs.IndexMap.{insert_entry}
+use Rattle.console_core.proofs.Common.{◌≡◌, ◌≢◌, ◌⊎◌, ℕ, ◌<◌, Bool, true, false, List, [], ◌∷◌, Option, Some, None}
+use Rattle.console_core.proofs.Common.{refl, ap, Result, Ok, Err, IfOk, not, subst, sym, ◌∙◌, inl, inr, arith, IfSome}
+use Rattle.console_core.proofs.Common.{◌+◌, ◌≤◌, ◌++◌, length, take, get_or, reverse, Contains, is_some, take_more}
+use Rattle.console_core.proofs.Common.{take_all, reverse-append, Contains-push, Contains-push_cases}
+use Rattle.console_core.proofs.Common.{Contains-append_left, true≢false, Held, Step, Under, State, IsMove, moved, Holds}
+use Rattle.console_core.proofs.Common.{with_holder, state_from, IsPathFrom, IsHome, state_of, StepsTo, PressesLead}
+use Rattle.console_core.proofs.Common.{IsStep, LeavesScroll, LeadsHome, Routes, AllLeadHome, HasRoute, NoPressLeads}
+use Rattle.console_core.proofs.Common.{IsAstray}
+use Rattle.std.proofs.lemmas.List.{length_push}
 use Rattle.keymap_core.specs.declared.action.Lock.{Lock}
 use Rattle.keymap_core.specs.declared.action.Lock.TheVariants.{Caps, Num, Scroll, Alt}
 use Rattle.keymap_core.specs.declared.action.Modifier.{Modifier}
-use Rattle.console_core.specs.declared.held.Held.{Held}
 use Rattle.console_core.specs.declared.held.Move.{Move}
 use Rattle.console_core.specs.declared.held.Move.TheVariants.{Hold, Turn, LetGo, Exchange}
-use Rattle.console_core.specs.declared.held.Step.{Step}
 use Rattle.console_core.specs.declared.routes.Route.{Route}
-use Rattle.console_core.specs.Moves.{Under, State, IsMove, moved, Holds, with_holder, with_lock_turned}
-use Rattle.console_core.specs.Moves.{state_from, IsPathFrom}
-use Rattle.console_core.specs.Returning.{IsHome}
-use Rattle.console_core.specs.Inner.Searching.{state_of, Entries, IsMetBy, IsLetGoMet, ArePressesMet, IsStep}
-use Rattle.console_core.specs.Inner.Searching.{LeavesScroll}
-use Rattle.console_core.specs.Inner.Routes.{LeadsHome, Routes, AllLeadHome, HasRoute, NoLetGoLeads}
-use Rattle.console_core.specs.Inner.Routes.{NoPressLeads, IsAstray}
+use Rattle.console_core.specs.Inner.Routes.{NoLetGoLeads}
 use Rattle.console_core.proofs.Growing.{scroll-left}
-
--- what tests tables equal
-abbrev pub are_same : Held → Held → Bool
-are_same x y =
-    pointwise (option_eq eqb) x.holders y.holders && (pointwise beq x.locks y.locks && beq x.is_second y.is_second)
+use Rattle.console_core.proofs.Searching.{steps-to, presses-map}
 
 -- no lock is on but the scroll lock
 pub all-off : (on : Lock → Bool) → (on Caps ≡ false) × (on Num ≡ false) × (on Alt ≡ false) → (l : Lock) → l ≢ Scroll
@@ -71,109 +53,20 @@ step-home u s n x moves (is, to, presses, leaves) home =
           (subst (λ t. t.is_locked Scroll ≡ false) (sym path.1) (from.2 (scroll-left u s x.by leaves off)))),
     )
 
--- a route that is found begins at the state
-pub found-home : (E : Held → Held → Bool) → ((a b : Held) → E a b ≡ true → state_of a ≡ state_of b) → (u : Under)
-    → (routes : Routes) (k : Held) (r : Route) → AllLeadHome u routes → lookup (E k) routes ≡ Some r
-    → LeadsHome u (state_of k) r.moves.items
-found-home E same u [] k r all e = absurd (none-some r e)
-found-home E same u (x ∷ routes) k r all e = by (E k x.0) refl e (λ f. found-home E same u routes k r all.1 f)
-  where
-    by : (b : Bool) → E k x.0 ≡ b → cond b (Some x.1) (lookup (E k) routes) ≡ Some r
-        → (lookup (E k) routes ≡ Some r → LeadsHome u (state_of k) r.moves.items)
-        → LeadsHome u (state_of k) r.moves.items
-    by true t f later =
-        subst (λ z. LeadsHome u (state_of k) z.moves.items) (same_Some x.1 r f)
-        (subst (λ s. LeadsHome u s x.1.moves.items) (sym (same k x.0 t)) all.0)
-    by false t f later = later f
-
--- where none is found none begins
-pub none-found : (E : Held → Held → Bool) → ((a b : Held) → state_of a ≡ state_of b → E a b ≡ true)
-    → (routes : Routes) (k : Held) → lookup (E k) routes ≡ None → HasRoute routes (state_of k) → ⊥
-none-found E test [] k e has = has
-none-found E test (x ∷ routes) k e (inl is) =
-    none-some x.1 (sym e ∙ ap (λ b. cond b (Some x.1) (lookup (E k) routes)) (test k x.0 (sym is)))
-none-found E test (x ∷ routes) k e (inr later) = by (E k x.0) e (λ f. none-found E test routes k f later)
-  where
-    by : (b : Bool) → cond b (Some x.1) (lookup (E k) routes) ≡ None → (lookup (E k) routes ≡ None → ⊥) → ⊥
-    by true f none = none-some x.1 (sym f)
-    by false f none = none f
-
--- one route more
-pub home-more : (E : Held → Held → Bool) → ((a b : Held) → E a b ≡ true → state_of a ≡ state_of b) → (u : Under)
-    → (routes : Routes) (k : Held) (r : Route) → AllLeadHome u routes → LeadsHome u (state_of k) r.moves.items
-    → AllLeadHome u (insert_entry E routes k r)
-home-more E same u [] k r all home = (home, tt)
-home-more E same u (x ∷ routes) k r all home = by (E k x.0) refl (home-more E same u routes k r all.1 home)
-  where
-    by : (b : Bool) → E k x.0 ≡ b → AllLeadHome u (insert_entry E routes k r)
-        → AllLeadHome u (if b then (x.0, r) ∷ routes else x ∷ insert_entry E routes k r)
-    by true t more = (subst (λ s. LeadsHome u s r.moves.items) (same k x.0 t) home, all.1)
-    by false t more = (all.0, more)
-
-pub has-new : (E : Held → Held → Bool) → ((a b : Held) → E a b ≡ true → state_of a ≡ state_of b) → (routes : Routes)
-    → (k : Held) (r : Route) → HasRoute (insert_entry E routes k r) (state_of k)
-has-new E same [] k r = inl refl
-has-new E same (x ∷ routes) k r = by (E k x.0) refl (has-new E same routes k r)
-  where
-    by : (b : Bool) → E k x.0 ≡ b → HasRoute (insert_entry E routes k r) (state_of k)
-        → HasRoute (if b then (x.0, r) ∷ routes else x ∷ insert_entry E routes k r) (state_of k)
-    by true t later = inl (sym (same k x.0 t))
-    by false t later = inr later
-
-pub has-old : (E : Held → Held → Bool) (routes : Routes) (k : Held) (r : Route) (s : State) → HasRoute routes s
-    → HasRoute (insert_entry E routes k r) s
-has-old E [] k r s has = absurd has
-has-old E (x ∷ routes) k r s has = by (E k x.0) has (λ later. has-old E routes k r s later)
-  where
-    by : (b : Bool) → (state_of x.0 ≡ s) ⊎ HasRoute routes s
-        → (HasRoute routes s → HasRoute (insert_entry E routes k r) s)
-        → HasRoute (if b then (x.0, r) ∷ routes else x ∷ insert_entry E routes k r) s
-    by true (inl is) more = inl is
-    by true (inr later) more = inr later
-    by false (inl is) more = inl is
-    by false (inr later) more = inr (more later)
-
--- what letting go leads to is where its step leads
-abbrev OneMet : Held → Entries
-OneMet h = (h, record { presses = 0; last = None }) ∷ []
-
-one-met : (h : Held) (s : State) → IsMetBy (OneMet h) 0 s → state_of h ≡ s
-one-met h s (zero, x, at, is, le) = ap (λ z. state_of z.0) (same_Some _ x at) ∙ is
-one-met h s (suc j, x, at, is, le) = absurd (none-some x at)
-
-none-met : (s : State) (p : ℕ) → IsMetBy [] p s → ⊥
-none-met s p (j, x, at, is, le) = none-some x at
-
-abbrev MeetsLetGo : State → Modifier → Option Step → Type 0
-MeetsLetGo s i step = (es : Entries) (p : ℕ) → IfSome step (λ x. IsMetBy es p (state_of x.to)) → IsLetGoMet es p s i
-
-pub let_go-astray : (routes : Routes) (s : State) (i : Modifier) (step : Option Step) → MeetsLetGo s i step
+-- where a step leads no route begins, so none does where letting go leads, or a press
+pub let_go-astray : (routes : Routes) (s : State) (i : Modifier) (step : Option Step)
+    → ((k : ℕ) → Holds s k i → StepsTo step (with_holder s i None))
     → IfSome step (λ x. HasRoute routes (state_of x.to) → ⊥) → (k : ℕ) → Holds s k i
     → HasRoute routes (with_holder s i None) → ⊥
-let_go-astray routes s i None met none k holds has = none-met _ 0 (met [] 0 tt k holds)
-let_go-astray routes s i (Some x) met none k holds has =
-    none (subst (λ t. HasRoute routes t)
-    (sym (one-met x.to (with_holder s i None) (met (OneMet x.to) 0 (0, _, refl, refl, omega arith) k holds))) has)
+let_go-astray routes s i step leads none k holds =
+    steps-to (λ t. HasRoute routes t → ⊥) step (with_holder s i None) (leads k holds) none
 
-abbrev MeetsPress : Under → State → ℕ → Option Step → Type 0
-MeetsPress u s k step =
-    (es : Entries) (p : ℕ) → IfSome step (λ x. IsMetBy es p (state_of x.to)) → ArePressesMet u es p s k
-
-pub press-astray : (u : Under) (routes : Routes) (s : State) (k : ℕ) (step : Option Step) → MeetsPress u s k step
-    → IfSome step (λ x. HasRoute routes (state_of x.to) → ⊥) → NoPressLeads u routes s k
-press-astray u routes s k None met none idle = (
-  (λ i seen free has. none-met _ 0 ((met [] 0 tt idle).0 i seen free)),
-  (λ l other seen has. none-met _ 0 ((met [] 0 tt idle).1 l other seen)),
-)
-press-astray u routes s k (Some x) met none idle =
-    let here : ArePressesMet u (OneMet x.to) 0 s k = met (OneMet x.to) 0 (0, _, refl, refl, omega arith) in (
-      (λ i seen free has.
-          none (subst (λ t. HasRoute routes t)
-          (sym (one-met x.to (with_holder s i (Some k)) ((here idle).0 i seen free))) has)),
-      (λ l other seen has.
-          none (subst (λ t. HasRoute routes t)
-          (sym (one-met x.to (with_lock_turned s l) ((here idle).1 l other seen))) has)),
-    )
+pub press-astray : (u : Under) (routes : Routes) (s : State) (k : ℕ) (step : Option Step)
+    → PressesLead u s k (StepsTo step) → IfSome step (λ x. HasRoute routes (state_of x.to) → ⊥)
+    → NoPressLeads u routes s k
+press-astray u routes s k step leads none =
+    presses-map (StepsTo step) (λ t. HasRoute routes t → ⊥)
+    (λ t to. steps-to (λ z. HasRoute routes z → ⊥) step t to none) u s k leads
 
 -- what the loop over states keeps
 pub record Settled (u : Under) (old : Routes) (states : List Held) (n : ℕ) (routes : Routes) (rest : List Held)
@@ -297,15 +190,3 @@ not-false false e = absurd (true≢false e)
 pub is-nothing : {X : Type 0} (o : Option X) → is_some o ≡ false → o ≡ None
 is-nothing None e = refl
 is-nothing (Some x) e = absurd (true≢false e)
-
--- a route that is found begins at the state
-pub found-has : (E : Held → Held → Bool) → ((a b : Held) → E a b ≡ true → state_of a ≡ state_of b)
-    → (routes : Routes) (k : Held) → is_some (lookup (E k) routes) ≡ true → HasRoute routes (state_of k)
-found-has E same [] k e = absurd (true≢false (sym e))
-found-has E same (x ∷ routes) k e = by (E k x.0) refl e (λ f. found-has E same routes k f)
-  where
-    by : (b : Bool) → E k x.0 ≡ b → is_some (cond b (Some x.1) (lookup (E k) routes)) ≡ true
-        → (is_some (lookup (E k) routes) ≡ true → HasRoute routes (state_of k))
-        → (state_of x.0 ≡ state_of k) ⊎ HasRoute routes (state_of k)
-    by true t f later = inl (sym (same k x.0 t))
-    by false t f later = inr (later f)

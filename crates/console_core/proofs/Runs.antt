@@ -1,17 +1,14 @@
 -- What is pending, by the longest run at the end.
-use Prim.Native.Nat.{suc}
-use Rattle.std.proofs.Common.{◌≡◌, ℕ, Bool, false, true, List, [], ◌∷◌, ◌++◌, length, eqb, Option, None, Some, refl, ap}
-use Rattle.std.proofs.Common.{sym, subst, ◌∙◌, if◌then◌else◌}
-use Rattle.std.proofs.lemmas.Bool.{true≢false, eqb-true, eqb-false, eq-eqb, ne_eqb}
-use Rattle.std.proofs.lemmas.Option.{none-some, same_Some}
-use Rattle.console_core.specs.Types.{Cell, Char, Act, Event, Press, Release, Reset, Load}
-use Rattle.keymap_core.specs.Maps.{MapValue}
-use Rattle.console_core.specs.Positions.{is_odd, positions_without}
-use Rattle.console_core.specs.Resolved.{resolve_press, look, keeps, dead_key, dead_keys_taken, run_length}
-use Rattle.console_core.specs.Resolved.{pending_by_dead_keys}
-use Rattle.console_core.specs.History.{Maps, in_force, resolved, resolved_event}
+use Rattle.console_core.proofs.Common.{suc, ◌≡◌, ℕ, Bool, false, true, List, [], ◌∷◌, ◌++◌, length, eqb, Option, None}
+use Rattle.console_core.proofs.Common.{Some, refl, ap, sym, subst, ◌∙◌, if◌then◌else◌, true≢false, eqb-true, eqb-false}
+use Rattle.console_core.proofs.Common.{eq-eqb, ne_eqb, none-some, same_Some, Cell, Char, Act, Event, Press, Release}
+use Rattle.console_core.proofs.Common.{Reset, Load, MapValue, is_odd, resolve_press, look, dead_keys_taken, run_length}
+use Rattle.console_core.proofs.Common.{pending_by_dead_keys, Maps, in_force, resolved, resolved_event, taken_of}
+use Rattle.console_core.proofs.Common.{remembered_after}
+use Rattle.console_core.specs.Positions.{positions_without}
+use Rattle.console_core.specs.Resolved.{keeps, dead_key}
 use Rattle.console_core.specs.Reading.{keeps_at, dead_key_taken_at, AllTake, LastDoesNotTake, PendingByRun}
-use Rattle.console_core.specs.Reading.{keeps_option, dead_key_of, taken_of, remembered_after}
+use Rattle.console_core.specs.Reading.{keeps_option, dead_key_of}
 
 -- the step of the next lemma at a press, by the cell looked up
 keeps_press : (ms : Maps) (k : ℕ) (h : List Event) (x : Cell)

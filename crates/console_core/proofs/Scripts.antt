@@ -1,54 +1,45 @@
 -- The events along a path lead a console to the path's state, and a holder that looks up a character there leaves its
 -- modifier on.
-use Prim.Native.Nat.{suc}
-use Rattle.std.proofs.Common.{◌≡◌, ℕ, ◌<◌, ◌+◌, All, arith, Bool, true, false, ◌&&◌, ◌||◌, not, List, [], ◌∷◌, ◌++◌}
-use Rattle.std.proofs.Common.{Option, Some, None, refl, ap, subst, sym, ◌∙◌, inl, inr, if◌then◌else◌, append_assoc}
-use Rattle.std.specs.Prelude.{◌==◌}
-use Rattle.std.proofs.lemmas.Bool.{eqb-true, eq-eqb, cases_Bool, true≢false, false_from_ne_true, or_parts}
-use Rattle.std.proofs.lemmas.Bool.{and_parts, not-true}
-use Rattle.std.specs.List.{list_any}
-use Rattle.std.proofs.lemmas.List.Elements.{All-nil, All-cons}
-use Rattle.std.specs.Option.{is_some}
-use Rattle.std.proofs.lemmas.Option.{none-some, same_Some}
+use Rattle.console_core.proofs.Common.{suc, ◌≡◌, ℕ, ◌<◌, ◌+◌, All, arith, Bool, true, false, ◌&&◌, ◌||◌, not, List, []}
+use Rattle.console_core.proofs.Common.{◌∷◌, ◌++◌, Option, Some, None, refl, ap, subst, sym, ◌∙◌, inl, inr}
+use Rattle.console_core.proofs.Common.{if◌then◌else◌, append_assoc, ◌==◌, eqb-true, eq-eqb, cases_Bool, true≢false}
+use Rattle.console_core.proofs.Common.{false_from_ne_true, and_parts, not-true, list_any, All-nil, All-cons, is_some}
+use Rattle.console_core.proofs.Common.{none-some, same_Some, same_action, same_modifier, same_lock, modifiers, MapValue}
+use Rattle.console_core.proofs.Common.{same_action-true, same_action-refl, option_or-none, none_unless, ResolvedEvent}
+use Rattle.console_core.proofs.Common.{held, remembered, taken_over, is_this_action, look, resolve_press}
+use Rattle.console_core.proofs.Common.{PressedCharacter, PressedAction, ReleasedKey, WasLoaded, Maps, resolved}
+use Rattle.console_core.proofs.Common.{is_on_after, is_second_in_force, pressed, HasKey, HasKeys, HasNoLoads, IsQuiet}
+use Rattle.console_core.proofs.Common.{between, is_locked_after, Under, State, start, map_of, look_in, Holds, IsIdle}
+use Rattle.console_core.proofs.Common.{with_holder, with_lock_turned, exchanged, IsFree, IsMove, moved, HolderForgets}
+use Rattle.console_core.proofs.Common.{state_after, IsPath, events_of_move, events_along, release_of, releases}
+use Rattle.console_core.proofs.Common.{script_of_path, presses_of, presses_along, IsForgetful, state_from, IsPathFrom}
+use Rattle.console_core.proofs.Common.{alone, presses, IsSent, NeverForgets, ReleasesPressedKeys, Follows, HoldsSome}
+use Rattle.console_core.proofs.Common.{Exact, Stands}
+use Rattle.std.proofs.lemmas.Bool.{or_parts}
 use Rattle.keymap_core.specs.declared.action.Action.{Action}
-use Rattle.keymap_core.specs.declared.action.Action.TheVariants as act
 use Rattle.keymap_core.specs.declared.action.Lock.{Lock}
 use Rattle.keymap_core.specs.declared.action.Modifier.{Modifier}
 use Rattle.keymap_core.specs.declared.action.Modifier.TheVariants.{LeftShift, RightShift, LeftControl, RightControl}
 use Rattle.keymap_core.specs.declared.action.Modifier.TheVariants.{LeftAlt, RightAlt, AltShift, Meta}
-use Rattle.keymap_core.specs.declared.action.Holding.TheVariants as holding
 use Rattle.keymap_core.specs.declared.entry.Cell.{Cell}
 use Rattle.keymap_core.specs.declared.entry.Cell.TheVariants.{Char, Act}
-use Rattle.keymap_core.specs.Actions.{same_action, same_modifier, same_lock, modifiers}
-use Rattle.keymap_core.specs.Maps.{MapValue}
-use Rattle.keymap_core.proofs.SameActions.{same_action-true, same_action-refl}
-use Rattle.keymap_core.proofs.Lists.{option_or-none, none_unless}
 use Rattle.console_core.specs.declared.event.Event.{Event}
 use Rattle.console_core.specs.declared.event.Event.TheVariants.{Press, Release, Reset, Load}
-use Rattle.console_core.specs.Resolved.{ResolvedEvent, held, remembered, taken_over, is_this_action, look}
-use Rattle.console_core.specs.Resolved.{resolve_press}
-use Rattle.console_core.specs.Resolved.ResolvedEvent.{PressedCharacter, PressedAction, ReleasedKey, WasLoaded}
-use Rattle.console_core.specs.History.{Maps, resolved, is_on_after, is_second_in_force, pressed, HasKey}
-use Rattle.console_core.specs.History.{HasKeys, HasNoLoads, IsQuiet, between, is_locked_after}
 use Rattle.console_core.specs.declared.held.Move.{Move}
 use Rattle.console_core.specs.declared.held.Move.TheVariants.{Hold, Turn, LetGo, Exchange}
-use Rattle.console_core.specs.Moves.{Under, State, start, map_of, look_in, Holds, IsIdle, with_holder}
-use Rattle.console_core.specs.Moves.{with_lock_turned, exchanged, IsFree, IsMove, moved, HolderForgets, state_after}
-use Rattle.console_core.specs.Moves.{IsPath, events_of_move, events_along, release_of, releases, script_of_path}
-use Rattle.console_core.specs.Moves.{presses_of, presses_along, IsForgetful, state_from, IsPathFrom, free_with, alone}
-use Rattle.console_core.specs.Inner.Searching.{IsSent, NeverUnder}
-use Rattle.console_core.specs.Sticking.{presses, SticksBetween, NeverForgets, ReleasesPressedKeys}
+use Rattle.console_core.specs.Moves.{free_with}
 use Rattle.console_core.proofs.Bearing.{remembered-pressed}
 use Rattle.console_core.proofs.FreshPresses.{no_loads-first}
 use Rattle.console_core.proofs.OneMore.{resolved-start, resolved-more, held-start, held-character, held-action}
-use Rattle.console_core.proofs.OneMore.{held-reset, locked-reset, remembered-reset, pressed-reset}
-use Rattle.console_core.proofs.OneMore.{held-release, held-load, remembered-start, remembered-character}
-use Rattle.console_core.proofs.OneMore.{remembered-action, remembered-release, remembered-load, pressed-start}
-use Rattle.console_core.proofs.OneMore.{pressed-press, pressed-release, pressed-load}
-use Rattle.console_core.specs.Inner.Standing.{Follows, HoldsSome, Exact, Stands}
-use Rattle.console_core.proofs.Staying.{follows-look, follows-start, follows-hold, follows-turn}
-use Rattle.console_core.proofs.Staying.{follows-let_go, follows-release, follows-load, takes, same_mods, some_mods}
-use Rattle.console_core.proofs.Staying.{some_none, IsKeptBelow, IsSafeBelow, never-sticks}
+use Rattle.console_core.proofs.OneMore.{held-reset, locked-reset, remembered-reset, pressed-reset, held-release}
+use Rattle.console_core.proofs.OneMore.{held-load, remembered-start, remembered-character, remembered-action}
+use Rattle.console_core.proofs.OneMore.{remembered-release, remembered-load, pressed-start, pressed-press}
+use Rattle.console_core.proofs.OneMore.{pressed-release, pressed-load}
+use Rattle.console_core.proofs.Staying.{follows-look, follows-start, follows-hold, follows-turn, follows-let_go}
+use Rattle.console_core.proofs.Staying.{follows-release, follows-load, takes, same_mods, some_mods, some_none}
+use Rattle.console_core.proofs.Staying.{IsKeptBelow, IsSafeBelow, NeverIn, never-sticks}
+use Rattle.keymap_core.specs.declared.action.Action.TheVariants as act
+use Rattle.keymap_core.specs.declared.action.Holding.TheVariants as holding
 
 -- a key that is idle remembers nothing
 pub idle-none : (r : List ResolvedEvent) (s : State) (k : ℕ) → Exact r s → IsIdle s k → remembered k r ≡ None
@@ -60,7 +51,7 @@ pub other-remembered : (r : List ResolvedEvent) (k j : ℕ) (b : Action) → k =
 other-remembered r k j b e = rw (remembered-action j k b r, e) (option_or-none (remembered j r))
 
 -- the holders after a move
-hold-self : (s : State) (i : Modifier) (k : ℕ) → Holds (with_holder s i (Some k)) k i
+pub hold-self : (s : State) (i : Modifier) (k : ℕ) → Holds (with_holder s i (Some k)) k i
 hold-self s i k = ap (λ t. if t then Some k else s.holder i) (same_action-refl (act.Mod i))
 
 -- the step of the next lemma, by whether the modifiers are the same
@@ -110,6 +101,19 @@ pub up_again : (t x : Bool) → x ≡ false → ((t || x) && not t) ≡ false
 up_again true x e = refl
 up_again false x e = rw e refl
 
+-- after a tap of a key the others remember what they did
+pub tap-only : (r now : List ResolvedEvent) (s : State) (k : ℕ) → Exact r s
+    → ((n : ℕ) → k == n ≡ false → remembered n now ≡ remembered n r) → (n : ℕ) (a : Action)
+    → remembered n (ReleasedKey k ∷ now) ≡ Some a → HoldsSome s n
+tap-only r now s k x same n a q = elim (cases_Bool (k == n)) [
+  | inl t ↦
+      absurd (none-some a
+      (sym (remembered-release n k now ∙ ap (λ b. if b then None else remembered n now) t) ∙ q))
+  | inr t ↦
+      x.only n a
+      (sym (remembered-release n k now ∙ ap (λ b. if b then None else remembered n now) t ∙ same n t) ∙ q)
+]
+
 -- a press and release of an idle key that turns a lock
 exact-turn : (r : List ResolvedEvent) (s : State) (k : ℕ) (l : Lock) → Exact r s → IsIdle s k
     → Exact (ReleasedKey k ∷ (PressedAction k (act.Lock l) ∷ r)) (with_lock_turned s l)
@@ -122,19 +126,7 @@ exact-turn r s k l x idle =
       follows =
           follows-release (PressedAction k (act.Lock l) ∷ r) (with_lock_turned s l) k
           (follows-turn r s k (act.Lock l) l x.follows e (x.up l)) (λ i. ap (λ o. is_this_action o (act.Mod i)) now);
-      only = λ n a q. elim (cases_Bool (k == n)) [
-        | inl t ↦
-            absurd (none-some a
-            (sym (remembered-release n k (PressedAction k (act.Lock l) ∷ r)
-            ∙ ap (λ b. if b then None else remembered n (PressedAction k (act.Lock l) ∷ r)) t)
-            ∙ q))
-        | inr t ↦
-            x.only n a
-            (sym (remembered-release n k (PressedAction k (act.Lock l) ∷ r)
-            ∙ ap (λ b. if b then None else remembered n (PressedAction k (act.Lock l) ∷ r)) t
-            ∙ other-remembered r k n (act.Lock l) t)
-            ∙ q)
-      ];
+      only = tap-only r (PressedAction k (act.Lock l) ∷ r) s k x (λ n t. other-remembered r k n (act.Lock l) t);
       up = λ j. held-release (holding.Lock j) k (PressedAction k (act.Lock l) ∷ r)
           ∙ ap (λ o. held (holding.Lock j) (PressedAction k (act.Lock l) ∷ r)
           && not (is_this_action o (act.Lock j))) now
@@ -442,30 +434,30 @@ quiet-after u h s i k x holds n lt =
     ])
 
 -- presses, releases and, where there are any, loads
-sent-release : (u : Under) (o : Option ℕ) (h : List Event) → All (IsSent u) h → All (IsSent u) (release_of o ++ h)
+sent-release : (u : Under) (o : Option ℕ) (h : List Event) → All (IsSent u.has_loads) h → All (IsSent u.has_loads) (release_of o ++ h)
 sent-release u None h x = x
-sent-release u (Some k) h x = All-cons (IsSent u) (Release k) h tt x
+sent-release u (Some k) h x = All-cons (IsSent u.has_loads) (Release k) h tt x
 
 -- releases of holders are sent
-sent-releases : (u : Under) (s : State) (more : List Modifier) (h : List Event) → All (IsSent u) h
-    → All (IsSent u) (releases s more ++ h)
+sent-releases : (u : Under) (s : State) (more : List Modifier) (h : List Event) → All (IsSent u.has_loads) h
+    → All (IsSent u.has_loads) (releases s more ++ h)
 sent-releases u s [] h x = x
 sent-releases u s (i ∷ more) h x =
     rw (apart (s.holder i) (releases s more) h)
     (sent-release u (s.holder i) (releases s more ++ h) (sent-releases u s more h x))
 
 -- the events of a move are sent
-sent-move : (u : Under) (s : State) (move : Move) (h : List Event) → IsMove u s move → All (IsSent u) h
-    → All (IsSent u) (events_of_move move ++ h)
-sent-move u s (Hold k i) h is x = All-cons (IsSent u) (Press k) h tt x
+sent-move : (u : Under) (s : State) (move : Move) (h : List Event) → IsMove u s move → All (IsSent u.has_loads) h
+    → All (IsSent u.has_loads) (events_of_move move ++ h)
+sent-move u s (Hold k i) h is x = All-cons (IsSent u.has_loads) (Press k) h tt x
 sent-move u s (Turn k l) h is x =
-    All-cons (IsSent u) (Release k) (Press k ∷ h) tt (All-cons (IsSent u) (Press k) h tt x)
-sent-move u s (LetGo k i) h is x = All-cons (IsSent u) (Release k) h tt x
-sent-move u s Exchange h is x = All-cons (IsSent u) Load h is.1 x
+    All-cons (IsSent u.has_loads) (Release k) (Press k ∷ h) tt (All-cons (IsSent u.has_loads) (Press k) h tt x)
+sent-move u s (LetGo k i) h is x = All-cons (IsSent u.has_loads) (Release k) h tt x
+sent-move u s Exchange h is x = All-cons (IsSent u.has_loads) Load h is.1 x
 
 -- the events along a path are sent
-sent-along : (u : Under) (path : List Move) → IsPath u path → All (IsSent u) (events_along path)
-sent-along u [] is = All-nil (IsSent u)
+sent-along : (u : Under) (path : List Move) → IsPath u path → All (IsSent u.has_loads) (events_along path)
+sent-along u [] is = All-nil (IsSent u.has_loads)
 sent-along u (move ∷ path) is =
     sent-move u (state_after u path) move (events_along path) is.0 (sent-along u path is.1)
 
@@ -605,13 +597,13 @@ left-after u path is i k forgets =
 -- a path to a state where a holder looks up a character makes a modifier stick
 pub script-sticks : (u : Under) (path : List Move) → IsPath u path → (i : Modifier) (k : ℕ)
     → HolderForgets u (state_after u path) i k
-    → HasKeys (script_of_path u path k) × All (IsSent u) (script_of_path u path k)
-    × SticksBetween u.maps (script_of_path u path k) i
+    → HasKeys (script_of_path u path k) × All (IsSent u.has_loads) (script_of_path u path k)
+    × (IsQuiet (script_of_path u path k) × (is_on_after u.maps i (script_of_path u path k) ≡ true))
 script-sticks u path is i k forgets =
     let left : IsLeft u.maps (script_of_path u path k) i = left-after u path is i k forgets in (
       left.keys,
       sent-releases u (state_after u path) modifiers (Press k ∷ events_along path)
-          (All-cons (IsSent u) (Press k) (events_along path) tt (sent-along u path is)),
+          (All-cons (IsSent u.has_loads) (Press k) (events_along path) tt (sent-along u path is)),
       (quiet-after u (events_along path) (state_after u path) i k (stands u path is) forgets.0, left.on),
     )
 
@@ -620,7 +612,7 @@ abbrev pub Reached : Under → State → Type 0
 Reached u s = (path : List Move) × IsPath u path × (state_after u path ≡ s)
 
 -- a move from a state that is reached reaches the next
-reached-more : (u : Under) (s : State) (move : Move) → Reached u s → IsMove u s move → Reached u (moved u s move)
+pub reached-more : (u : Under) (s : State) (move : Move) → Reached u s → IsMove u s move → Reached u (moved u s move)
 reached-more u s move there is =
     (move ∷ there.0, (subst (λ x. IsMove u x move) (sym there.2) is, there.1), ap (λ x. moved u x move) there.2)
 
@@ -628,11 +620,8 @@ reached-more u s move there is =
 pub reached-kept : (u : Under) (n : ℕ) → IsKeptBelow u n (λ p s. Reached u s)
 reached-kept u n = record {
   start = ([], tt, refl);
-  let_go = λ p lt s k i there h. reached-more u s (LetGo k i) there h;
-  exchange = λ p lt s there is. reached-more u s Exchange there is;
   more = λ p s there. there;
-  hold = λ p lt s k i there is. reached-more u s (Hold k i) there is;
-  turn = λ p lt s k l there is. reached-more u s (Turn k l) there is;
+  moved = λ p q s move e lt there is. reached-more u s move there is;
 }
 
 -- where no path leads to a holder that looks up a character, they are safe
@@ -643,5 +632,5 @@ reached-safe u never n = record {
 }
 
 -- without such a path no modifier ever sticks
-pub never-unless_reached : (u : Under) → NeverForgets u → NeverUnder u
+pub never-unless_reached : (u : Under) → NeverForgets u → NeverIn u
 never-unless_reached u never = never-sticks u (λ p s. Reached u s) (reached-safe u never)

@@ -1,27 +1,17 @@
 -- The search level by level: it meets what a release, a load or a press leads to, and closes and presses each place.
-use Prim.Native.Nat.{suc}
-use Rattle.std.proofs.Common.{◌≡◌, ℕ, ◌+◌, ◌<◌, ◌≤◌, Bool, true, false, cond, ◌⊎◌, inl, inr, List, [], ◌∷◌, ◌++◌}
-use Rattle.std.proofs.Common.{length, slice_get, slice_index_or, Option, Some, None, refl, ap, subst, sym, ◌∙◌, arith}
-use Rattle.std.proofs.lemmas.Bool.{cases_lt, true≢false}
-use Rattle.std.proofs.lemmas.Option.{slice_get_within, same_Some}
-use Rattle.std.proofs.lemmas.List.Elements.{All-nil, All-cons}
-use Rattle.console_core.specs.Types.{Modifier, Lock, Scroll, Cell, Act}
-use Rattle.keymap_core.specs.Actions.{modifier_index, lock_index}
-use Rattle.keymap_core.specs.declared.action.Action.TheVariants as act
-use Rattle.console_core.specs.declared.held.Held.{Held}
-use Rattle.console_core.specs.declared.held.Step.{Step}
-use Rattle.console_core.specs.declared.search.Origin.{Origin}
-use Rattle.std.specs.Option.{is_some}
-use Rattle.std.specs.Map.{lookup}
-use Rattle.indexmap.specs.IndexMap.{insert_entry}
-use Rattle.console_core.specs.Moves.{Under, State, look_in, with_holder, with_lock_turned, IsForgetful}
-use Rattle.console_core.specs.Inner.Searching.{state_of, Entry, Entries, Grows, IsStep, IsMetBy, IsLetGoMet}
-use Rattle.console_core.specs.Inner.Searching.{IsExchangeMet, ArePressesMet, AreWithin, IsFrom, AreAdded, IsReached}
-use Rattle.console_core.specs.Inner.Searching.{IsClosed, IsPressed, Searched, AreSafe, AreInOrder}
-use Rattle.console_core.specs.Inner.HeldBytes.{AreSame}
+use Rattle.console_core.proofs.Common.{suc, ◌≡◌, ℕ, ◌+◌, ◌<◌, ◌≤◌, Bool, true, false, cond, ◌⊎◌, inl, inr, [], ◌∷◌}
+use Rattle.console_core.proofs.Common.{◌++◌, IfSome, length, slice_get, Option, Some, None, refl, ap, subst, sym, ◌∙◌}
+use Rattle.console_core.proofs.Common.{arith, cases_lt, true≢false, slice_get_within, same_Some, All-nil, All-cons}
+use Rattle.console_core.proofs.Common.{Modifier, Lock, Scroll, Cell, Act, Move, Hold, Turn, LetGo, Exchange, Held, Step}
+use Rattle.console_core.proofs.Common.{Origin, is_some, lookup, insert_entry, Under, State, look_in, with_holder}
+use Rattle.console_core.proofs.Common.{with_lock_turned, Holds, IsMove, moved, presses_of, state_of, Entry, Entries}
+use Rattle.console_core.proofs.Common.{Grows, IsStep, StepsTo, PressesLead, IsMetBy, AreMet, AreWithin, IsFrom}
+use Rattle.console_core.proofs.Common.{AreAdded, IsReached, AreDone, Searched, AreInOrder}
+use Rattle.console_core.specs.Inner.Searching.{IsClosed, IsPressed}
+use Rattle.console_core.proofs.SameStates.{are_same, tells-same}
 use Rattle.console_core.proofs.Growing.{at-now, at_old, at_new, all-at, from-cases, added-longer, one_entry}
-use Rattle.console_core.proofs.Growing.{grows-again, met-grows, met-last, closed-grows, pressed-grows, reached-grows}
-use Rattle.console_core.proofs.Growing.{reached-next}
+use Rattle.console_core.proofs.Growing.{grows-again, met-grows, met-last, moves-grow, reached-grows, reached-next}
+use Rattle.keymap_core.specs.declared.action.Action.TheVariants as act
 
 -- what was searched stays so when the entries grow
 pub searched-grows : {o : State} (u : Under) (es now : Entries) (place n p a b : ℕ) (y : Entry)
@@ -44,11 +34,11 @@ searched-grows {o} u es now place n p a b y here e added le_a le_b s =
             at (let le : length es ≤ j = new.0 in omega (arith, lt, le)) new.1
       ];
       pressed = λ j x at below. elim (either j x at) [
-        | inl old ↦ pressed-grows u es now x g (s.pressed j x old below)
+        | inl old ↦ moves-grow u es now 1 (x.1.presses + 1) (state_of x.0) g (s.pressed j x old below)
         | inr new ↦ let le : length es ≤ j = new.0 in absurd (omega (arith, below, le_a, le))
       ];
       closed = λ j x at below. elim (either j x at) [
-        | inl old ↦ closed-grows u es now x g (s.closed j x old below)
+        | inl old ↦ moves-grow u es now 0 x.1.presses (state_of x.0) g (s.closed j x old below)
         | inr new ↦ let le : length es ≤ j = new.0 in absurd (omega (arith, below, le_b, le))
       ];
     }
@@ -100,30 +90,59 @@ searched-pressed u es n b y here pressed s = record {
   ];
 }
 
--- the order by presses
-pub order-grows : (u : Under) (s : State) (place n p level : ℕ) (es now : Entries) → AreAdded u s place n p es now
-    → level ≤ length es → AreInOrder es level p → AreInOrder now level p
-order-grows u s place n p level es now added le order j x at =
-    elim (from-cases u s place n p es now added j x at) [
-      | inl old ↦ order j x old
-      | inr (after, from) ↦ ((λ lt. absurd (omega (arith, lt, le, after))), (λ le_j. from.1))
-    ]
-
 -- entries in order are within the number of presses
 pub order-within : (es : Entries) (level p : ℕ) → AreInOrder es level p → AreWithin es p
-order-within es level p order j x at =
+order-within es level p (order, ordered) j x at =
     elim (cases_lt j level) [
       | inl below ↦ let lt : x.1.presses < p = (order j x at).0 below in omega (arith, lt)
       | inr le ↦ let e : x.1.presses ≡ p = (order j x at).1 le in omega (arith, e)
     ]
 
+-- entries that no fewer presses lead to are added in order
+pub order-grows : (u : Under) (s : State) (place n p level : ℕ) (es now : Entries) → AreAdded u s place n p es now
+    → level ≤ length es → AreInOrder es level p → AreInOrder now level p
+order-grows u s place n p level es now added le order = (
+  (λ j x at. elim (either j x at) [
+    | inl old ↦ order.0 j x old
+    | inr (after, from) ↦ ((λ lt. absurd (omega (arith, lt, le, after))), (λ le_j. from.1))
+  ]),
+  (λ i j x y up at_i at_j. elim (either i x at_i) [
+    | inl old ↦ elim (either j y at_j) [
+      | inl old_j ↦ order.1 i j x y up old old_j
+      | inr (after, from) ↦
+          let within : x.1.presses ≤ p = order-within es level p order i x old in omega (arith, within, from.1)
+    ]
+    | inr (after, from) ↦ elim (either j y at_j) [
+      | inl old_j ↦
+          let lt : j < length es = slice_get_within es j y old_j in absurd (omega (arith, lt, up, after))
+      | inr (after_j, from_j) ↦ omega (arith, from.1, from_j.1)
+    ]
+  ]),
+)
+  where
+    either : (j : ℕ) (x : Entry) → slice_get now j ≡ Some x
+        → (slice_get es j ≡ Some x) ⊎ ((length es ≤ j) × IsFrom u s place n p x)
+    either = from-cases u s place n p es now added
+
 -- entries in order begin the next level
 pub order-next : (es : Entries) (level p : ℕ) → AreInOrder es level p → AreInOrder es (length es) (p + 1)
-order-next es level p order j x at =
-    let lt : j < length es = slice_get_within es j x at in (
-      (λ below. let le : x.1.presses ≤ p = order-within es level p order j x at in omega (arith, le)),
-      (λ le. absurd (omega (arith, lt, le))),
-    )
+order-next es level p order = (
+  (λ j x at.
+      let lt : j < length es = slice_get_within es j x at in (
+        (λ below. let le : x.1.presses ≤ p = order-within es level p order j x at in omega (arith, le)),
+        (λ le. absurd (omega (arith, lt, le))),
+      )),
+  order.1,
+)
+
+-- those met by fewer presses than the level stand below it
+pub below_level : (es : Entries) (level p : ℕ) → AreInOrder es level p → (j : ℕ) (x : Entry) → slice_get es j ≡ Some x
+    → x.1.presses < p → j < level
+below_level es level p order j x at lt =
+    elim (cases_lt j level) [
+      | inl less ↦ less
+      | inr le ↦ let e : x.1.presses ≡ p = (order.0 j x at).1 le in absurd (omega (arith, e, lt))
+    ]
 
 -- what a press of a key that looks up a modifier, or a lock, leads to
 look_mod : (i j : Modifier) (x : Cell) → x ≡ Act (act.Mod i) → x ≡ Act (act.Mod j) → i ≡ j
@@ -135,19 +154,58 @@ look_lock l n x e f = let g : Act (act.Lock l) ≡ Act (act.Lock n) = sym e ∙ 
 look_either : (i : Modifier) (l : Lock) (x : Cell) → x ≡ Act (act.Mod i) → x ≡ Act (act.Lock l) → ⊥
 look_either i l x e f = let g : Act (act.Mod i) ≡ Act (act.Lock l) = sym e ∙ f in cc
 
-pub pressed-mod : (u : Under) (es : Entries) (p : ℕ) (s : State) (k : ℕ) (i : Modifier)
-    → look_in u s k ≡ Act (act.Mod i) → IsMetBy es p (with_holder s i (Some k)) → ArePressesMet u es p s k
-pressed-mod u es p s k i seen met idle = (
-  (λ j f free. subst (λ n. IsMetBy es p (with_holder s n (Some k))) (look_mod i j (look_in u s k) seen f) met),
+pub pressed-mod : (u : Under) (s : State) (k : ℕ) (i : Modifier) (step : Option Step)
+    → look_in u s k ≡ Act (act.Mod i) → StepsTo step (with_holder s i (Some k)) → PressesLead u s k (StepsTo step)
+pressed-mod u s k i step seen to idle = (
+  (λ j f free. subst (λ n. StepsTo step (with_holder s n (Some k))) (look_mod i j (look_in u s k) seen f) to),
   (λ l other f. absurd (look_either i l (look_in u s k) seen f)),
 )
 
-pub pressed-lock : (u : Under) (es : Entries) (p : ℕ) (s : State) (k : ℕ) (l : Lock)
-    → look_in u s k ≡ Act (act.Lock l) → IsMetBy es p (with_lock_turned s l) → ArePressesMet u es p s k
-pressed-lock u es p s k l seen met idle = (
+pub pressed-lock : (u : Under) (s : State) (k : ℕ) (l : Lock) (step : Option Step)
+    → look_in u s k ≡ Act (act.Lock l) → StepsTo step (with_lock_turned s l) → PressesLead u s k (StepsTo step)
+pressed-lock u s k l step seen to idle = (
   (λ j f free. absurd (look_either j l (look_in u s k) f seen)),
-  (λ n other f. subst (λ q. IsMetBy es p (with_lock_turned s q)) (look_lock l n (look_in u s k) seen f) met),
+  (λ n other f. subst (λ q. StepsTo step (with_lock_turned s q)) (look_lock l n (look_in u s k) seen f) to),
 )
+
+-- where a step leads is as what it leads to
+pub steps-to : (P : State → Type 0) (step : Option Step) (s : State) → StepsTo step s
+    → IfSome step (λ x. P (state_of x.to)) → P s
+steps-to P step s (x, e, is) all = subst P is (subst (λ o. IfSome o (λ x. P (state_of x.to))) e all)
+
+-- what holds where presses lead
+pub presses-map : (P Q : State → Type 0) → ((t : State) → P t → Q t) → (u : Under) (s : State) (k : ℕ)
+    → PressesLead u s k P → PressesLead u s k Q
+presses-map P Q f u s k lead idle = (
+  (λ i seen free. f (with_holder s i (Some k)) ((lead idle).0 i seen free)),
+  (λ l other seen. f (with_lock_turned s l) ((lead idle).1 l other seen)),
+)
+
+-- the moves without a press, and those with one
+pub frees-met : (u : Under) (es : Entries) (p : ℕ) (s : State)
+    → ((k : ℕ) (i : Modifier) → Holds s k i → IsMetBy es p (with_holder s i None))
+    → (IsMove u s Exchange → IsMetBy es p (moved u s Exchange)) → AreMet u es 0 p s
+frees-met u es p s let_go load (Hold k i) is leaves none = absurd (omega (arith, none))
+frees-met u es p s let_go load (Turn k l) is leaves none = absurd (omega (arith, none))
+frees-met u es p s let_go load (LetGo k i) is leaves none = let_go k i is
+frees-met u es p s let_go load Exchange is leaves none = load is
+
+pub presses-met : (u : Under) (es : Entries) (p : ℕ) (s : State)
+    → ((k : ℕ) → k < 128 → PressesLead u s k (IsMetBy es p)) → AreMet u es 1 p s
+presses-met u es p s press (Hold k i) (lt, idle, seen, free) leaves one = (press k lt idle).0 i seen free
+presses-met u es p s press (Turn k l) (lt, idle, seen) leaves one = (press k lt idle).1 l leaves seen
+presses-met u es p s press (LetGo k i) is leaves one = absurd (omega (arith, one))
+presses-met u es p s press Exchange is leaves one = absurd (omega (arith, one))
+
+-- a move takes no press or one
+pub no-press_or_one : (move : Move) → (presses_of move ≡ 0) ⊎ (presses_of move ≡ 1)
+no-press_or_one (Hold k i) = inr refl
+no-press_or_one (Turn k l) = inr refl
+no-press_or_one _ = inl refl
+
+-- what is met by a number of presses is by each larger one
+pub met-up : (es : Entries) (p q : ℕ) (s : State) → p ≤ q → IsMetBy es p s → IsMetBy es q s
+met-up es p q s up (j, x, at, is, le) = (j, x, at, is, omega (arith, le, up))
 
 -- what a call of `meet` adds
 pub meet-new : (es now : Entries) (place p : ℕ) (x : Step)
@@ -177,36 +235,19 @@ meet-new es now place p x e within =
 abbrev IsFound : Entries → Held → Type 0
 IsFound es k = (j : ℕ) × (x : Entry) × (slice_get es j ≡ Some x) × (state_of k ≡ state_of x.0)
 
-found_by : (E : Held → Held → Bool) → ((a b : Held) → E a b ≡ true → state_of a ≡ state_of b)
-    → (y : Entry) (es : Entries) (k : Held) (b : Bool) → E k y.0 ≡ b
-    → is_some (cond b (Some y.1) (lookup (E k) es)) ≡ true → (is_some (lookup (E k) es) ≡ true → IsFound es k)
-    → IsFound (y ∷ es) k
-found_by E same y es k true q e rest = (0, y, refl, same k y.0 q)
-found_by E same y es k false q e rest = let r : IsFound es k = rest e in (suc r.0, r.1, r.2, r.3)
+found : (es : Entries) (k : Held) → is_some (lookup (are_same k) es) ≡ true → IsFound es k
+found [] k e = absurd (true≢false (sym e))
+found (y ∷ es) k e = by (are_same k y.0) refl e (λ f. found es k f)
+  where
+    by : (b : Bool) → are_same k y.0 ≡ b → is_some (cond b (Some y.1) (lookup (are_same k) es)) ≡ true
+        → (is_some (lookup (are_same k) es) ≡ true → IsFound es k) → IsFound (y ∷ es) k
+    by true q f later = (0, y, refl, tells-same k y.0 q)
+    by false q f later = let r : IsFound es k = later f in (suc r.0, r.1, r.2, r.3)
 
-found : (E : Held → Held → Bool) → ((a b : Held) → E a b ≡ true → state_of a ≡ state_of b) → (es : Entries) (k : Held)
-    → is_some (lookup (E k) es) ≡ true → IsFound es k
-found E same [] k e = absurd (true≢false (sym e))
-found E same (y ∷ es) k e = found_by E same y es k (E k y.0) refl e (found E same es k)
-
--- what the tables are says the state
-abbrev state_from : List (Option ℕ) → List Bool → Bool → State
-state_from holders locks is_second = record {
-  holder = λ i. slice_index_or holders (modifier_index i) None;
-  is_locked = λ l. slice_index_or locks (lock_index l) false;
-  is_second = is_second;
-}
-
-pub same-state : (x y : Held) → AreSame x y → state_of x ≡ state_of y
-same-state x y e =
-    ap (λ z. state_from z x.locks x.is_second) e.0 ∙ ap (λ z. state_from y.holders z x.is_second) e.1
-    ∙ ap (λ b. state_from y.holders y.locks b) e.2
-
-pub meet-old : (E : Held → Held → Bool) → ((a b : Held) → E a b ≡ true → state_of a ≡ state_of b)
-    → (es : Entries) (p : ℕ) (k : Held) → is_some (lookup (E k) es) ≡ true → AreWithin es p
+pub meet-old : (es : Entries) (p : ℕ) (k : Held) → is_some (lookup (are_same k) es) ≡ true → AreWithin es p
     → IsMetBy es p (state_of k)
-meet-old E same es p k e within =
-    let r : IsFound es k = found E same es k e in
+meet-old es p k e within =
+    let r : IsFound es k = found es k e in
     (r.0, r.1, r.2, sym r.3, within r.0 r.1 r.2)
 
 pub not_some : (o : Option Origin) → is_some o ≡ false → o ≡ None
@@ -217,55 +258,33 @@ not_some (Some x) e = absurd (true≢false e)
 pub close-step : {o : State} (u : Under) (es now : Entries) (level p n : ℕ) (y : Entry) → Searched u o es level n
     → AreInOrder es level p → level ≤ n → slice_get es n ≡ Some y
     → AreAdded u (state_of y.0) n 0 p es now
-    → ((i : Modifier) → IsLetGoMet now p (state_of y.0) i) → IsExchangeMet u now p (state_of y.0)
-    → Searched u o now level (n + 1) × AreInOrder now level p
-close-step {o} u es now level p n y s order le here added met load =
+    → AreMet u now 0 p (state_of y.0) → Searched u o now level (n + 1) × AreInOrder now level p
+close-step {o} u es now level p n y s order le here added met =
     let lt : n < length es = slice_get_within es n y here in
-    let e : y.1.presses ≡ p = (order n y here).1 le in
+    let e : y.1.presses ≡ p = (order.0 n y here).1 le in
     let below : level ≤ length es = omega (arith, le, lt) in
     let grown : Searched u o now level n =
     searched-grows u es now n 0 p level n y here (omega (arith, e)) added below (omega (arith, lt)) s in
-    let closed : IsClosed u now y = (
-      (λ i. subst (λ q. IsLetGoMet now q (state_of y.0) i) (sym e) (met i)),
-      subst (λ q. IsExchangeMet u now q (state_of y.0)) (sym e) load,
-    ) in (
+    let closed : IsClosed u now y = subst (λ q. AreMet u now 0 q (state_of y.0)) (sym e) met in (
       searched-closed u now level n y (at-now es now n y (added.0, added.1) here) closed grown,
       order-grows u (state_of y.0) n 0 p level es now added below order,
     )
-
--- what is safe stays so when the entries grow
-pub safe-grows : (u : Under) (es now : Entries) (n : ℕ) → Grows es now → n ≤ length es → AreSafe u es n
-    → AreSafe u now n
-safe-grows u es now n g le safe j x at lt =
-    safe j x (at_old es g.0 j x (omega (arith, lt, le)) (subst (λ z. slice_get z j ≡ Some x) g.1 at)) lt
-
--- one more entry where no holder looks up a character
-pub safe-more : (u : Under) (es : Entries) (n : ℕ) (y : Entry) → slice_get es n ≡ Some y
-    → (IsForgetful u (state_of y.0) → ⊥) → AreSafe u es n
-    → AreSafe u es (n + 1)
-safe-more u es n y here safe before j x at lt =
-    elim (place_last j n lt) [
-      | inl below ↦ before j x at below
-      | inr e ↦ λ forgetful.
-          safe (subst (λ z. IsForgetful u (state_of z.0)) (sym (same_entry es j n x y e at here)) forgetful)
-    ]
 
 -- one place of a level is pressed
 pub press-step : {o : State} (u : Under) (old es now : Entries) (level p n : ℕ) (y : Entry)
     → Searched u o es n (length old)
     → AreInOrder old level p → Grows old es
     → AreInOrder es (length old) (p + 1) → level ≤ n → n < length old → slice_get es n ≡ Some y
-    → AreAdded u (state_of y.0) n 1 (p + 1) es now → ((k : ℕ) → k < 128 → ArePressesMet u now (p + 1) (state_of y.0) k)
+    → AreAdded u (state_of y.0) n 1 (p + 1) es now → AreMet u now 1 (p + 1) (state_of y.0)
     → Searched u o now (n + 1) (length old) × AreInOrder now (length old) (p + 1) × Grows old now
 press-step {o} u old es now level p n y s before g order le lt here added met =
     let was : slice_get old n ≡ Some y = at_old old g.0 n y lt (subst (λ z. slice_get z n ≡ Some y) g.1 here) in
-    let e : y.1.presses ≡ p = (before n y was).1 le in
+    let e : y.1.presses ≡ p = (before.0 n y was).1 le in
     let longer : length old ≤ length es = added-longer old es g in
     let grown : Searched u o now n (length old) =
     searched-grows u es now n 1 (p + 1) n (length old) y here (omega (arith, e)) added (omega (arith, lt, longer))
     longer s in
-    let pressed : IsPressed u now y =
-    λ k below. subst (λ q. ArePressesMet u now (q + 1) (state_of y.0) k) (sym e) (met k below) in (
+    let pressed : IsPressed u now y = subst (λ q. AreMet u now 1 (q + 1) (state_of y.0)) (sym e) met in (
       searched-pressed u now n (length old) y (at-now es now n y (added.0, added.1) here) pressed grown,
       order-grows u (state_of y.0) n 1 (p + 1) (length old) es now added longer order,
       grows-again old es now g (added.0, added.1),
@@ -294,5 +313,48 @@ searched-start u h off es e =
         pressed = λ j y at lt. absurd (omega (arith, lt));
         closed = λ j y at lt. absurd (omega (arith, lt));
       },
-      (λ j y at. ((λ lt. absurd (omega (arith, lt))), (λ le. ap (λ z. z.1.presses) (only j y at).1))),
+      (
+        (λ j y at. ((λ lt. absurd (omega (arith, lt))), (λ le. ap (λ z. z.1.presses) (only j y at).1))),
+        (λ i j y z up at_i at_j.
+            let e : y.1.presses ≡ 0 = ap (λ w. w.1.presses) (only i y at_i).1 in omega (arith, e)),
+      ),
     )
+
+-- ---- what is done
+
+-- where moves lead from what is closed and pressed, by fewer than n presses
+done-by : (u : Under) (es : Entries) (n : ℕ)
+    → ((j : ℕ) (x : Entry) → slice_get es j ≡ Some x → x.1.presses < n → IsClosed u es x)
+    → ((j : ℕ) (x : Entry) → slice_get es j ≡ Some x → x.1.presses + 1 < n → IsPressed u es x) → AreDone u es n
+done-by u es n closed pressed j x at move is leaves lt = elim (no-press_or_one move) [
+  | inl none ↦
+      met-up es x.1.presses (x.1.presses + presses_of move) (moved u (state_of x.0) move) (omega (arith, none))
+      (closed j x at (omega (arith, lt, none)) move is leaves none)
+  | inr one ↦
+      met-up es (x.1.presses + 1) (x.1.presses + presses_of move) (moved u (state_of x.0) move) (omega (arith, one))
+      (pressed j x at (omega (arith, lt, one)) move is leaves one)
+]
+
+-- all that was met is
+pub all-done : {o : State} (u : Under) (es : Entries) → Searched u o es (length es) (length es) → (n : ℕ)
+    → AreDone u es n
+all-done u es s n =
+    done-by u es n (λ j x at lt. s.closed j x at (slice_get_within es j x at))
+    (λ j x at lt. s.pressed j x at (slice_get_within es j x at))
+
+-- what fewer presses than those of a level lead to is
+pub level-done : {o : State} (u : Under) (es : Entries) (level p : ℕ) → AreInOrder es level p
+    → Searched u o es level level → AreDone u es p
+level-done u es level p order s =
+    done-by u es p (λ j x at lt. s.closed j x at (below_level es level p order j x at lt))
+    (λ j x at lt. s.pressed j x at (below_level es level p order j x at (omega (arith, lt))))
+
+-- so is what as many lead to, where the level was closed, and some of the next one was met
+pub closed-done : {o : State} (u : Under) (old es : Entries) (level p : ℕ) → AreInOrder old level p → Grows old es
+    → AreInOrder es (length old) (p + 1) → Searched u o es level (length old) → AreDone u es (p + 1)
+closed-done u old es level p before g order s =
+    done-by u es (p + 1) (λ j x at lt. s.closed j x at (below_level es (length old) (p + 1) order j x at lt))
+    (λ j x at lt.
+    let here : j < length old = below_level es (length old) (p + 1) order j x at (omega (arith, lt)) in
+    let was : slice_get old j ≡ Some x = at_old old g.0 j x here (subst (λ z. slice_get z j ≡ Some x) g.1 at) in
+    s.pressed j x at (below_level old level p before j x was (omega (arith, lt))))

@@ -1,37 +1,24 @@
 -- What a press after a list sees can be seen in a state that a path leads to, and an accent is pending only behind
 -- where it is offered.
-use Prim.Native.Nat.{suc}
-use Rattle.std.proofs.Common.{◌≡◌, ℕ, ◌<◌, Bool, true, false, List, [], ◌∷◌, Option, Some, None, refl, ap, subst, sym}
-use Rattle.std.proofs.Common.{◌∙◌, ◌⊎◌, inl, inr, arith, if◌then◌else◌}
-use Rattle.std.proofs.lemmas.Bool.{true≢false}
-use Rattle.std.proofs.lemmas.List.Elements.{All-head, All-tail}
-use Rattle.console_core.specs.Types.{Action, Modifier, Lock, Cell, Char, Act, Event, Press, Release, Reset, Load}
-use Rattle.console_core.specs.Types.{Sight, Move, Hold, Turn, LetGo}
-use Rattle.console_core.specs.Resolved.ResolvedEvent.{PressedAction, ReleasedKey}
-use Rattle.std.proofs.lemmas.Option.{same_Some}
-use Rattle.keymap_core.specs.declared.action.Action.TheVariants as act
-use Rattle.keymap_core.specs.Actions.{same_action, holding_action}
-use Rattle.keymap_core.specs.Maps.{MapValue}
-use Rattle.keymap_core.proofs.SameActions.{same_action-true}
-use Rattle.console_core.specs.declared.selection.Sight.TheVariants as sight
-use Rattle.console_core.specs.Answers.{usable, is_pending}
-use Rattle.console_core.specs.Resolved.{ResolvedEvent, on, locked, look, remembered, taken_over, pending, keeps_taken}
-use Rattle.console_core.specs.Resolved.{usable_dead_key, resolve_press}
-use Rattle.console_core.specs.Inner.Kept.{next_pending, pending_after_dead_key}
-use Rattle.console_core.specs.History.{between, resolved, is_second_in_force, HasKey, IsNoLoad}
-use Rattle.console_core.specs.Moves.{Under, alone, State, is_held, IsIdle, look_in, state_after}
-use Rattle.console_core.specs.Sticking.{NeverForgets, presses}
-use Rattle.console_core.specs.Sights.{selection_with, selection_of, selection_after, look_selected, IsClean, IsAdmitted}
-use Rattle.console_core.specs.Sights.{SeesBy, IsOfferedIn, LooksAreSelected, SightsAreReachable}
+use Rattle.console_core.proofs.Common.{suc, ◌≡◌, ℕ, ◌<◌, Bool, true, false, List, [], ◌∷◌, Option, Some, None, refl, ap}
+use Rattle.console_core.proofs.Common.{subst, sym, ◌∙◌, ◌⊎◌, inl, inr, arith, if◌then◌else◌, true≢false, All-head}
+use Rattle.console_core.proofs.Common.{All-tail, Action, Modifier, Lock, Cell, Char, Act, Event, Press, Release, Reset}
+use Rattle.console_core.proofs.Common.{Load, Sight, Move, Hold, Turn, LetGo, PressedAction, ReleasedKey, same_Some}
+use Rattle.console_core.proofs.Common.{same_action, holding_action, MapValue, same_action-true, usable, is_pending}
+use Rattle.console_core.proofs.Common.{ResolvedEvent, on, locked, look, remembered, taken_over, pending, keeps_taken}
+use Rattle.console_core.proofs.Common.{usable_dead_key, resolve_press, next_pending, pending_after_dead_key, between}
+use Rattle.console_core.proofs.Common.{resolved, is_second_in_force, HasKey, IsNoLoad, Under, alone, State, is_held}
+use Rattle.console_core.proofs.Common.{IsIdle, look_in, state_after, NeverForgets, presses, selection_of, look_selected}
+use Rattle.console_core.proofs.Common.{IsClean, IsAdmitted, SeesBy, IsOfferedIn, Follows, IsBehind, fun_ext}
+use Rattle.console_core.specs.Sights.{selection_with, selection_after, LooksAreSelected, SightsAreReachable}
 use Rattle.console_core.proofs.OneMore.{resolved-start, resolved-more, pending-start, pending-character, pending-action}
 use Rattle.console_core.proofs.OneMore.{pending-release, pending-reset}
-use Rattle.console_core.specs.Inner.Standing.{Follows}
-use Rattle.console_core.specs.Inner.Noting.{IsBehind}
 use Rattle.console_core.proofs.Behind.{behind-offered, behind-more}
 use Rattle.console_core.proofs.Staying.{follows-look, follows-nothing, not_holding, stays, all-spared, clean-spared}
 use Rattle.console_core.proofs.Staying.{LeadsOn, stays-press, stays-release}
 use Rattle.console_core.proofs.Scripts.{Reached, reached-kept, reached-safe}
-use mathlib.Core.Path.{fun_ext}
+use Rattle.keymap_core.specs.declared.action.Action.TheVariants as act
+use Rattle.console_core.specs.declared.selection.Sight.TheVariants as sight
 
 -- one map is in force, whichever
 pub one_map : (m : MapValue) (b : Bool) → (if b then m else m) ≡ m

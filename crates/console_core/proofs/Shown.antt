@@ -1,41 +1,36 @@
 -- What can be seen is seen by a press after a clean list of presses and releases.
-use Rattle.std.proofs.Common.{◌≡◌, ◌<◌, ℕ, true, false, List, [], ◌∷◌, ◌++◌, All, Some, None, ap, subst, sym}
-use Rattle.std.proofs.Common.{◌∙◌, append_assoc}
-use Rattle.std.proofs.lemmas.Bool.{false≢true}
-use Rattle.std.proofs.lemmas.List.Elements.{All-nil, All-cons}
-use Rattle.std.proofs.lemmas.Option.{none-some}
-use Rattle.keymap_core.specs.declared.action.Action.TheVariants as act
-use Rattle.keymap_core.specs.Maps.{MapValue}
-use Rattle.console_core.specs.Types.{Modifier, Act, Char, Event, Press, Release, Move, Hold, Turn, LetGo, Exchange}
-use Rattle.console_core.specs.Types.{Sight}
-use Rattle.console_core.specs.declared.explored.Symbol.TheVariants as symbol
-use Rattle.console_core.specs.declared.selection.Sight.TheVariants as sight
-use Rattle.console_core.specs.History.{between, resolved}
-use Rattle.console_core.specs.Moves.{Under, alone, State, start, IsIdle, IsMove, IsPath, IsPathFrom, look_in}
-use Rattle.console_core.specs.Moves.{state_after}
-use Rattle.console_core.specs.Moves.{state_from, events_along, events_of_move}
-use Rattle.console_core.specs.Resolved.{pending, remembered}
-use Rattle.console_core.specs.Reading.{look_after}
-use Rattle.console_core.specs.Sights.{IsAdmitted, IsClean, IsPendingFor, ReachableIsSeen, SeesBy, SeesNext}
-use Rattle.console_core.specs.Sights.{selection_of}
-use Rattle.console_core.specs.Sticking.{IsPressOrRelease, ReleasesPressedKeys}
-use Rattle.console_core.specs.Inner.Routes.{GoesOn}
-use Rattle.console_core.specs.Inner.Standing.{Stands}
+use Rattle.console_core.proofs.Common.{◌≡◌, ◌<◌, ℕ, true, false, List, [], ◌∷◌, ◌++◌, All, Some, None, refl, ap, subst}
+use Rattle.console_core.proofs.Common.{sym, ◌∙◌, append_assoc, false≢true, All-nil, All-cons, none-some, MapValue}
+use Rattle.console_core.proofs.Common.{Modifier, Act, Char, Event, Press, Release, Move, Hold, Turn, LetGo, Exchange}
+use Rattle.console_core.proofs.Common.{Sight, between, resolved, pressed, HasNoLoads, IsNoLoad, Under, alone, State}
+use Rattle.console_core.proofs.Common.{start, IsIdle, IsMove, IsPath, IsPathFrom, look_in, state_after, state_from}
+use Rattle.console_core.proofs.Common.{events_along, events_of_move, pending, remembered, look_after, IsAdmitted}
+use Rattle.console_core.proofs.Common.{IsClean, IsPendingFor, SeesBy, SeesNext, selection_of, ReleasesPressedKeys}
+use Rattle.console_core.proofs.Common.{Stands}
+use Rattle.console_core.specs.Sights.{ReachableIsSeen}
+use Rattle.console_core.specs.Sticking.{IsPressOrRelease}
 use Rattle.console_core.proofs.Behind.{path-split}
 use Rattle.console_core.proofs.Going.{going-sees, pending-along, tap-pending}
 use Rattle.console_core.proofs.OneMore.{resolved-start, pending-start}
-use Rattle.console_core.proofs.Scripts.{idle-none, stands-from, stands-start}
+use Rattle.console_core.proofs.Scripts.{idle-none, stands-from, stands-start, holder-pressed}
 use Rattle.console_core.proofs.Strokes.{stands-tap}
-use Rattle.console_core.proofs.Visits.{goes-goes, path-goes, tap-goes}
+use Rattle.console_core.proofs.Visits.{press-presses}
+use Rattle.keymap_core.specs.declared.action.Action.TheVariants as act
+use Rattle.console_core.specs.declared.explored.Symbol.TheVariants as symbol
+use Rattle.console_core.specs.declared.selection.Sight.TheVariants as sight
 
--- presses and releases, of which no press forgets that its key holds a modifier
+-- presses, and releases of pressed keys, of which no press forgets that its key holds a modifier
 record IsPlain (m : MapValue) (h : List Event) : Type 0 where
   sent : All IsPressOrRelease h
+  loads : HasNoLoads h
+  releases : ReleasesPressedKeys h
   clean : IsClean (between m m) h
 
 plain-start : (m : MapValue) → IsPlain m []
 plain-start m = record {
   sent = All-nil IsPressOrRelease;
+  loads = All-nil IsNoLoad;
+  releases = tt;
   clean = λ later before k i c at held seen. nothing later before k at;
 }
   where
@@ -51,6 +46,8 @@ plain-press : (m : MapValue) (h : List Event) (k : ℕ) → remembered k (resolv
     → IsPlain m (Press k ∷ h)
 plain-press m h k none x = record {
   sent = All-cons IsPressOrRelease (Press k) h tt x.sent;
+  loads = All-cons IsNoLoad (Press k) h refl x.loads;
+  releases = (tt, x.releases);
   clean = λ later before j i c at held seen. by later before j i at held seen;
 }
   where
@@ -66,9 +63,11 @@ plain-press m h k none x = record {
     by (e ∷ later) before j i at held seen =
         x.clean later before j i _ (tail-same (Press k) e h (later ++ Press j ∷ before) at) held seen
 
-plain-release : (m : MapValue) (h : List Event) (k : ℕ) → IsPlain m h → IsPlain m (Release k ∷ h)
-plain-release m h k x = record {
+plain-release : (m : MapValue) (h : List Event) (k : ℕ) → pressed k h ≡ true → IsPlain m h → IsPlain m (Release k ∷ h)
+plain-release m h k down x = record {
   sent = All-cons IsPressOrRelease (Release k) h tt x.sent;
+  loads = All-cons IsNoLoad (Release k) h refl x.loads;
+  releases = (down, x.releases);
   clean = λ later before j i c at held seen. by later before j i at held seen;
 }
   where
@@ -87,8 +86,9 @@ plain-idle m h s k x idle plain = plain-press m h k (idle-none (resolved (betwee
 plain-move : (m : MapValue) (h : List Event) (s : State) (move : Move) → Stands (alone m) h s → IsMove (alone m) s move
     → IsPlain m h → IsPlain m (events_of_move move ++ h)
 plain-move m h s (Hold k i) x is plain = plain-idle m h s k x is.1 plain
-plain-move m h s (Turn k l) x is plain = plain-release m (Press k ∷ h) k (plain-idle m h s k x is.1 plain)
-plain-move m h s (LetGo k i) x is plain = plain-release m h k plain
+plain-move m h s (Turn k l) x is plain =
+    plain-release m (Press k ∷ h) k (press-presses k h) (plain-idle m h s k x is.1 plain)
+plain-move m h s (LetGo k i) x is plain = plain-release m h k (holder-pressed (alone m) h s i k x is) plain
 plain-move m h s Exchange x is plain = absurd (false≢true is.1)
 
 plain-along : (m : MapValue) (h : List Event) (s : State) (path : List Move) → Stands (alone m) h s
@@ -99,17 +99,15 @@ plain-along m h s (move ∷ path) x is plain =
     (plain-move m (events_along path ++ h) (state_from (alone m) s path) move (stands-from (alone m) h s path x is.1)
     is.0 (plain-along m h s path x is.1 plain))
 
--- After the list the console stands in the state; the list is plain, and releases pressed keys.
+-- After the list the console stands in the state; the list is plain.
 record IsShort (m : MapValue) (h : List Event) (s : State) : Type 0 where
   stands : Stands (alone m) h s
   plain : IsPlain m h
-  goes : GoesOn m [] h
 
 short-start : (m : MapValue) → IsShort m [] start
 short-start m = record {
   stands = stands-start (alone m);
   plain = plain-start m;
-  goes = record { keys = λ x. x; loads = λ x. x; releases = λ x. x; sees = λ x along. along };
 }
 
 short-along : (m : MapValue) (h : List Event) (s : State) (path : List Move) → IsShort m h s
@@ -117,7 +115,6 @@ short-along : (m : MapValue) (h : List Event) (s : State) (path : List Move) →
 short-along m h s path x is = record {
   stands = stands-from (alone m) h s path x.stands is;
   plain = plain-along m h s path x.stands is x.plain;
-  goes = goes-goes m [] h (events_along path ++ h) x.goes (path-goes m h s path x.stands is);
 }
 
 short-tap : (m : MapValue) (h : List Event) (s : State) (k accent : ℕ) → IsShort m h s → k < 128 → IsIdle s k
@@ -125,14 +122,13 @@ short-tap : (m : MapValue) (h : List Event) (s : State) (k accent : ℕ) → IsS
 short-tap m h s k accent x lt idle seen = record {
   stands = stands-tap (alone m) h s false (symbol.DeadKey accent) k x.stands
       (lt, idle, seen, (λ e. absurd (false≢true e)));
-  plain = plain-release m (Press k ∷ h) k (plain-idle m h s k x.stands idle x.plain);
-  goes = goes-goes m [] h (Release k ∷ Press k ∷ h) x.goes (tap-goes m h k lt);
+  plain = plain-release m (Press k ∷ h) k (press-presses k h) (plain-idle m h s k x.stands idle x.plain);
 }
 
 short-admitted : (m : MapValue) (h : List Event) (s : State) → IsShort m h s
     → All IsPressOrRelease h × ReleasesPressedKeys h × IsAdmitted m true h
 short-admitted m h s x =
-    (x.plain.sent, x.goes.releases tt, (x.stands.keys, x.goes.loads (All-nil _), (λ e. x.plain.clean)))
+    (x.plain.sent, x.plain.releases, (x.stands.keys, x.plain.loads, (λ e. x.plain.clean)))
 
 -- what needs no accent
 short-sees : (m : MapValue) (path : List Move) → IsPath (alone m) path → (k : ℕ) (x : Sight) → k < 128

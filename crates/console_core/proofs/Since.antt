@@ -1,20 +1,14 @@
 -- What is remembered, by positions.
-use Rattle.std.proofs.Common.{◌≡◌, ℕ, Bool, false, true, ◌&&◌, List, [], ◌∷◌, ◌++◌, Option, None, Some, refl, ap, sym}
-use Rattle.std.proofs.Common.{◌∙◌, if◌then◌else◌, append_assoc}
-use Rattle.std.specs.Prelude.{◌==◌}
-use Rattle.std.proofs.lemmas.Bool.{true≢false}
-use Rattle.std.specs.Option.{option_or, is_some}
-use Rattle.std.proofs.lemmas.Option.{none-some}
-use Rattle.console_core.specs.Types.{Action, Cell, Char, Act, Event, Press, Release, Reset, Load}
+use Rattle.console_core.proofs.Common.{◌≡◌, ℕ, Bool, false, true, ◌&&◌, List, [], ◌∷◌, ◌++◌, Option, None, Some, refl}
+use Rattle.console_core.proofs.Common.{ap, sym, ◌∙◌, if◌then◌else◌, append_assoc, ◌==◌, true≢false, option_or, is_some}
+use Rattle.console_core.proofs.Common.{none-some, Action, Cell, Char, Act, Event, Press, Release, Reset, Load}
+use Rattle.console_core.proofs.Common.{resolve_press, remembered, look, unless_nop, Maps, in_force, resolved}
+use Rattle.console_core.proofs.Common.{remembered_after, NoneOf, option_or-none}
 use Rattle.console_core.specs.Positions.{first_since_at}
-use Rattle.console_core.specs.Resolved.{resolve_press, remembered, look, unless_nop}
-use Rattle.console_core.specs.History.{Maps, in_force, resolved}
-use Rattle.console_core.specs.Reading.{forgets_at, offers_at, remembered_after, NoneOf, IsSinceLast}
-use Rattle.console_core.specs.Reading.{is_character, offered}
-use Rattle.console_core.specs.Reading.{FirstSince, NothingSince, RememberedByPositions, NothingRememberedByPositions}
+use Rattle.console_core.specs.Reading.{forgets_at, offers_at, IsSinceLast, is_character, offered, FirstSince}
+use Rattle.console_core.specs.Reading.{NothingSince, RememberedByPositions, NothingRememberedByPositions}
 use Rattle.console_core.proofs.OneMore.{resolved-start, resolved-more, remembered-start, remembered-character}
 use Rattle.console_core.proofs.OneMore.{remembered-action, remembered-release, remembered-reset, remembered-load}
-use Rattle.keymap_core.proofs.Lists.{option_or-none}
 
 -- a looked-up character, by the test of its key
 press_char : (t : Bool) (o : Option Action)

@@ -1,52 +1,38 @@
 -- A console stands in a state of sets that the moves keep, whatever presses, releases, resets and loads come.
-use Prim.Native.Nat.{suc}
-use Rattle.std.proofs.Common.{◌≡◌, ℕ, ◌<◌, ◌≤◌, ◌⊎◌, Bool, true, false, ◌&&◌, ◌||◌, not, eqb, List, [], ◌∷◌, Option}
-use Rattle.std.proofs.Common.{Some, None, refl, ap, subst, sym, ◌∙◌, inl, inr, arith, if◌then◌else◌}
-use Rattle.std.specs.Prelude.{◌==◌}
-use Rattle.std.proofs.Math.Bool.{and-true, and-false}
-use Rattle.std.proofs.lemmas.Bool.{eqb-true, eq-eqb, cases_Bool, cases_lt, true≢false, false_from_ne_true}
-use Rattle.std.proofs.lemmas.List.Elements.{All-head, All-tail}
+use Rattle.console_core.proofs.Common.{suc, ◌≡◌, ℕ, ◌+◌, ◌<◌, ◌≤◌, ◌⊎◌, Bool, true, false, ◌&&◌, ◌||◌, not, eqb, List}
+use Rattle.console_core.proofs.Common.{[], ◌∷◌, Option, Some, None, refl, ap, subst, sym, ◌∙◌, inl, inr, arith}
+use Rattle.console_core.proofs.Common.{if◌then◌else◌, ◌==◌, and-true, and-false, eqb-true, eq-eqb, cases_Bool, cases_lt}
+use Rattle.console_core.proofs.Common.{true≢false, false_from_ne_true, All-head, All-tail, same_action, same_modifier}
+use Rattle.console_core.proofs.Common.{same_lock, holding_action, is_borne, MapValue, IsCellOf, Bears, same_action-true}
+use Rattle.console_core.proofs.Common.{same_action-refl, look_with, ResolvedEvent, held, locked, on, remembered}
+use Rattle.console_core.proofs.Common.{taken_over, is_this_action, look, resolve, resolve_press, PressedCharacter}
+use Rattle.console_core.proofs.Common.{PressedAction, ReleasedKey, WasReset, WasLoaded, Maps, in_force, resolved}
+use Rattle.console_core.proofs.Common.{is_on_after, is_second_in_force, pressed, HasKey, HasKeys, IsNoLoad, IsQuiet}
+use Rattle.console_core.proofs.Common.{Under, State, start, is_held, map_of, map_in, look_in, Holds, IsIdle}
+use Rattle.console_core.proofs.Common.{with_holder, with_lock_turned, exchanged, next_map, IsFree, IsMove, IsForgetful}
+use Rattle.console_core.proofs.Common.{HolderForgets, moved, presses_of, IsClean, Admits, presses, Follows}
+use Rattle.console_core.proofs.Common.{IsOnOnlyWhilePressed, IsOffOnceQuiet, fun_ext, is_some, same_Some}
 use Rattle.keymap_core.specs.declared.action.Action.{Action}
-use Rattle.keymap_core.specs.declared.action.Action.TheVariants as act
 use Rattle.keymap_core.specs.declared.action.Lock.{Lock}
 use Rattle.keymap_core.specs.declared.action.Modifier.{Modifier}
 use Rattle.keymap_core.specs.declared.action.Modifier.TheVariants.{LeftShift, RightShift, LeftControl, RightControl}
 use Rattle.keymap_core.specs.declared.action.Modifier.TheVariants.{LeftAlt, RightAlt, AltShift, Meta}
 use Rattle.keymap_core.specs.declared.action.Holding.{Holding}
-use Rattle.keymap_core.specs.declared.action.Holding.TheVariants as holding
 use Rattle.keymap_core.specs.declared.entry.Cell.{Cell}
 use Rattle.keymap_core.specs.declared.entry.Cell.TheVariants.{Char, Act}
-use Rattle.keymap_core.specs.Actions.{same_action, same_modifier, same_lock, holding_action, action_kind}
-use Rattle.keymap_core.specs.Borne.{is_borne}
-use Rattle.keymap_core.specs.Maps.{MapValue}
-use Rattle.keymap_core.specs.Bearers.{IsCellOf, Bears}
-use Rattle.keymap_core.proofs.SameActions.{same_action-true, same_action-refl}
+use Rattle.keymap_core.specs.Actions.{action_kind}
 use Rattle.console_core.specs.declared.event.Event.{Event}
 use Rattle.console_core.specs.declared.event.Event.TheVariants.{Press, Release, Reset, Load}
-use Rattle.console_core.specs.Columns.{look_with}
-use Rattle.console_core.specs.Resolved.{ResolvedEvent, held, locked, on, remembered, taken_over, is_this_action, look}
-use Rattle.console_core.specs.Resolved.{resolve, resolve_press}
-use Rattle.console_core.specs.Resolved.ResolvedEvent.{PressedCharacter, PressedAction, ReleasedKey, WasReset, WasLoaded}
-use Rattle.console_core.specs.History.{Maps, in_force, resolved, is_on_after, is_second_in_force, pressed, HasKey}
-use Rattle.console_core.specs.History.{HasKeys, IsNoLoad}
-use Rattle.console_core.specs.Moves.{Under, State, start, is_held, map_of, map_in, look_in, Holds, IsIdle, with_holder}
-use Rattle.console_core.specs.Moves.{with_lock_turned, exchanged, next_map, IsFree, IsMove, IsForgetful}
-use Rattle.console_core.specs.Moves.{HolderForgets}
-use Rattle.console_core.specs.Sights.{IsClean}
-use Rattle.console_core.specs.declared.held.Move.TheVariants.{Hold, Turn, Exchange}
-use Rattle.console_core.specs.Sticking.{SticksBetween, presses}
-use Rattle.console_core.specs.Inner.Searching.{Admits, NeverUnder}
-use Rattle.console_core.specs.Inner.Standing.{Follows}
-use Rattle.console_core.specs.Headline.{IsOnOnlyWhilePressed, IsOffOnceQuiet}
+use Rattle.console_core.specs.declared.held.Move.{Move}
+use Rattle.console_core.specs.declared.held.Move.TheVariants.{Hold, Turn, LetGo, Exchange}
 use Rattle.console_core.proofs.OneMore.{resolved-start, resolved-more, held-start, held-character, held-action}
 use Rattle.console_core.proofs.OneMore.{held-release, held-reset, held-load, locked-start, locked-character}
-use Rattle.console_core.proofs.OneMore.{locked-action, locked-release, locked-reset, locked-load}
-use Rattle.console_core.proofs.OneMore.{remembered-character, remembered-action, remembered-release}
+use Rattle.console_core.proofs.OneMore.{locked-action, locked-release, locked-reset, locked-load, remembered-character}
+use Rattle.console_core.proofs.OneMore.{remembered-action, remembered-release}
 use Rattle.console_core.proofs.Borne.{taken-holding, resolved-looked}
 use Rattle.console_core.proofs.Bearing.{first_kept, remembered-cell, remembered-pressed}
-use mathlib.Core.Path.{fun_ext}
-use Rattle.std.specs.Option.{is_some}
-use Rattle.std.proofs.lemmas.Option.{same_Some}
+use Rattle.keymap_core.specs.declared.action.Action.TheVariants as act
+use Rattle.keymap_core.specs.declared.action.Holding.TheVariants as holding
 
 -- a look of the events is one in the state that they follow
 pub follows-look : (u : Under) (r : List ResolvedEvent) (s : State) (k : ℕ) → Follows r s
@@ -80,13 +66,13 @@ not_holding a (holding.Mod i) e f = rw e refl
 not_holding a (holding.Lock l) e f = rw f refl
 
 -- whether an action is a modifier, a lock or neither
-abbrev Kind : Action → Type 0
+abbrev pub Kind : Action → Type 0
 Kind a =
     ((i : Modifier) × (a ≡ act.Mod i))
     ⊎ (((l : Lock) × (a ≡ act.Lock l)) ⊎ ((h : Holding) → same_action a (holding_action h) ≡ false))
 
 -- each action is a modifier, a lock or neither
-kind_of : (a : Action) → Kind a
+pub kind_of : (a : Action) → Kind a
 kind_of (act.Mod i) = inl (i, refl)
 kind_of (act.Lock l) = inr (inl (l, refl))
 kind_of a = inr (inr (λ h. not_holding a h refl refl))
@@ -168,7 +154,7 @@ still_on i j true x s n t h e = sym (ap (λ y. is_held s y) (sym (same_mods i j 
 still_on i j false x s n t h e = e
 
 -- a press that takes a modifier, which is on
-follows-again : (r : List ResolvedEvent) (s : State) (k : ℕ) (b : Action) (i : Modifier) (n : ℕ) → Follows r s
+pub follows-again : (r : List ResolvedEvent) (s : State) (k : ℕ) (b : Action) (i : Modifier) (n : ℕ) → Follows r s
     → taken_over (remembered k r) b ≡ act.Mod i → Holds s n i → Follows (PressedAction k b ∷ r) s
 follows-again r s k b i n f e h = record {
   on =
@@ -479,17 +465,12 @@ follows-start = record {
   holds = λ i k h. absurd (some_none k None h refl);
 }
 
--- Sets of states by how many presses lead to them: below n letting go and exchanging the maps stay in a set, and a
--- press leads from a set to the next one.
+-- Sets of states by how many presses lead to them: below n a move leads from a set to that of its presses more.
 pub record IsKeptBelow (u : Under) (n : ℕ) (S : ℕ → State → Type 0) : Type 0 where
   pub start : S 0 start
-  pub let_go : (p : ℕ) → p < n → (s : State) (k : ℕ) (i : Modifier) → S p s → Holds s k i → S p (with_holder s i None)
-  pub exchange : (p : ℕ) → p < n → (s : State) → S p s → IsMove u s Exchange → S p (exchanged (next_map u s) s)
   pub more : (p : ℕ) (s : State) → S p s → S (suc p) s
-  pub hold : (p : ℕ) → p < n → (s : State) (k : ℕ) (i : Modifier) → S p s → IsMove u s (Hold k i)
-      → S (suc p) (with_holder s i (Some k))
-  pub turn : (p : ℕ) → p < n → (s : State) (k : ℕ) (l : Lock) → S p s → IsMove u s (Turn k l)
-      → S (suc p) (with_lock_turned s l)
+  pub moved : (p q : ℕ) (s : State) (move : Move) → p + presses_of move ≡ q → q < n → S p s → IsMove u s move
+      → S q (moved u s move)
 
 -- the same, and no holder looks up a character
 pub record IsSafeBelow (u : Under) (n : ℕ) (S : ℕ → State → Type 0) : Type 0 where
@@ -527,20 +508,20 @@ Below n S p s = p < n → S p s
 
 -- letting go stays in the sets below n
 below-lets_go : (u : Under) (n : ℕ) (S : ℕ → State → Type 0) → IsKeptBelow u n S → (p : ℕ) → KeepsLetGo (Below n S p)
-below-lets_go u n S kept p s k i there h lt = kept.let_go p lt s k i (there lt) h
+below-lets_go u n S kept p s k i there h lt = kept.moved p p s (LetGo k i) (omega arith) lt (there lt) h
 
 -- exchanging the maps stays in the sets below n
 below-exchanges : (u : Under) (n : ℕ) (S : ℕ → State → Type 0) → IsKeptBelow u n S → (p : ℕ)
     → KeepsExchange u (Below n S p)
-below-exchanges u n S kept p s there is lt = kept.exchange p lt s (there lt) is
+below-exchanges u n S kept p s there is lt = kept.moved p p s Exchange (omega arith) lt (there lt) is
 
 -- below n a press leads from a set to the next
-below-leads_on : (u : Under) (n : ℕ) (S : ℕ → State → Type 0) → IsKeptBelow u n S → (p : ℕ) → p < n
+below-leads_on : (u : Under) (n : ℕ) (S : ℕ → State → Type 0) → IsKeptBelow u n S → (p : ℕ)
     → LeadsOn u (S p) (Below n S (suc p))
-below-leads_on u n S kept p lt = record {
+below-leads_on u n S kept p = record {
   stay = λ s there next. kept.more p s there;
-  hold = λ s k i there is next. kept.hold p lt s k i there is;
-  turn = λ s k l there is next. kept.turn p lt s k l there is;
+  hold = λ s k i there is next. kept.moved p (suc p) s (Hold k i) (omega arith) next there is;
+  turn = λ s k l there is next. kept.moved p (suc p) s (Turn k l) (omega arith) next there is;
 }
 
 -- an event stays in the set of the presses so far
@@ -554,7 +535,7 @@ stays-event u n S P kept spared (Press k) h keeps key admitted le s there f is =
     let r : List ResolvedEvent = resolved u.maps h in
     let lt : presses h < n = omega (arith, le) in
     subst (λ b. Stays (Below n S (suc (presses h))) b (resolve (map_in u s) (next_map u s) r (Press k) ∷ r)) is
-    (stays-press u (S (presses h)) (Below n S (suc (presses h))) (below-leads_on u n S kept (presses h) lt) r s
+    (stays-press u (S (presses h)) (Below n S (suc (presses h))) (below-leads_on u n S kept (presses h)) r s
     (there lt) f k key (spared.keeps h k keeps lt s (there lt) f is) (look (map_in u s) r k)
     (sym (follows-look u r s k f)))
 stays-event u n S P kept spared (Release k) h keeps key admitted le s there f is =
@@ -624,8 +605,15 @@ within-on u n S safe h keys admitted le =
     stays u n S (λ g. Unit {0}) safe.kept (all-spared u n S safe) h tt keys admitted le in
     follows-on u.maps h s.0 s.2 keys
 
+-- after each list that is admitted a modifier is on only while a key that bears it is pressed
+abbrev pub NeverIn : Under → Type 0
+NeverIn u =
+    (h : List Event) → HasKeys h → Admits u h
+    → IsOnOnlyWhilePressed (in_force u.maps h) h (λ i. is_on_after u.maps i h)
+    × IsOffOnceQuiet h (λ i. is_on_after u.maps i h)
+
 -- sets that are safe below every number
-pub never-sticks : (u : Under) (S : ℕ → State → Type 0) → ((n : ℕ) → IsSafeBelow u n S) → NeverUnder u
+pub never-sticks : (u : Under) (S : ℕ → State → Type 0) → ((n : ℕ) → IsSafeBelow u n S) → NeverIn u
 never-sticks u S safe h keys admitted =
     let on : IsOnOnlyWhilePressed (in_force u.maps h) h (λ i. is_on_after u.maps i h) =
     within-on u (presses h) S (safe (presses h)) h keys admitted (omega arith) in
@@ -633,8 +621,8 @@ never-sticks u S safe h keys admitted =
 
 -- sets that are safe below n
 pub sticks-late : (u : Under) (n : ℕ) (S : ℕ → State → Type 0) → IsSafeBelow u n S → (h : List Event) → HasKeys h
-    → Admits u h → (i : Modifier) → SticksBetween u.maps h i → n < presses h
-sticks-late u n S safe h keys admitted i (quiet, on) =
+    → Admits u h → (i : Modifier) → IsQuiet h → is_on_after u.maps i h ≡ true → n < presses h
+sticks-late u n S safe h keys admitted i quiet on =
     elim (cases_lt n (presses h)) [
       | inl lt ↦ lt
       | inr le ↦

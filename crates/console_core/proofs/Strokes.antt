@@ -1,47 +1,34 @@
 -- Taps of keys in states that moves lead to: where they lead, and what they type.
-use Rattle.std.proofs.Common.{◌≡◌, ◌+◌, ◌<◌, ℕ, Bool, true, false, ◌&&◌, ◌||◌, not, List, [], ◌∷◌, ◌++◌, Option, Some}
-use Rattle.std.proofs.Common.{None, refl, ap, subst, sym, ◌∙◌, inl, inr, arith, append_assoc, map, reverse}
-use Rattle.std.proofs.Common.{if◌then◌else◌}
-use Rattle.std.specs.Prelude.{◌==◌}
-use Rattle.std.proofs.lemmas.Bool.{cases_Bool, true≢false, eqb-true, eq-eqb, false_from_ne_true}
-use Rattle.std.proofs.lemmas.List.{reverse-append}
-use Rattle.std.proofs.lemmas.List.Elements.{All-cons}
-use Rattle.std.proofs.lemmas.Option.{none-some}
-use Rattle.keymap_core.specs.declared.action.Action.TheVariants as act
-use Rattle.keymap_core.specs.declared.action.Holding.TheVariants as holding
-use Rattle.keymap_core.specs.Actions.{same_modifier, modifier_index, same_action}
-use Rattle.std.specs.Option.{option_or}
-use Rattle.keymap_core.specs.Accents.{own_of}
-use Rattle.keymap_core.specs.Maps.{MapValue, accent_at}
-use Rattle.console_core.specs.Types.{Action, Modifier, Meta, Cell, Char, Act, Event, Press, Release, Answer, Move}
-use Rattle.console_core.specs.Types.{Hold, Turn, LetGo, Exchange}
-use Rattle.console_core.specs.declared.event.Answer.TheVariants as answer
-use Rattle.console_core.specs.declared.explored.Symbol.{Symbol}
-use Rattle.console_core.specs.declared.explored.Symbol.TheVariants as symbol
-use Rattle.console_core.specs.Answers.{usable, answer_char, answer_action, answer_release, char_or_error, composed_by}
-use Rattle.console_core.specs.Answers.{answer_dead_key, is_pending}
-use Rattle.console_core.specs.Resolved.{ResolvedEvent, remembered, taken_over, pending, held, locked, look}
-use Rattle.console_core.specs.Resolved.{is_this_action, resolve_press}
-use Rattle.console_core.specs.Resolved.ResolvedEvent.{PressedCharacter, PressedAction, ReleasedKey}
-use Rattle.console_core.specs.Inner.Kept.{next_pending, pending_after_dead_key}
-use Rattle.console_core.specs.History.{between, resolved, is_second_in_force, accent_pending_after, HasKey}
-use Rattle.console_core.specs.History.{is_on_after, answer_to}
-use Rattle.console_core.specs.Reading.{remembered_after, look_after, answer_to_look}
-use Rattle.console_core.specs.Moves.{Under, alone, State, Holds, IsIdle, IsMove, look_in, is_held, with_holder}
-use Rattle.console_core.specs.Moves.{IsPathFrom, state_from, events_along, events_of_move, map_of}
-use Rattle.console_core.specs.Typing.{IsTapOf, cell_of, composed_of, types_something, plainly}
-use Rattle.console_core.specs.Inner.Exploring.{LetsGo, IsStroke, HasTyped, typed_along, kept_if}
-use Rattle.console_core.specs.Inner.Standing.{Follows, Exact, Stands}
+use Rattle.console_core.proofs.Common.{◌≡◌, ◌+◌, ◌<◌, ℕ, Bool, true, false, ◌&&◌, ◌||◌, not, List, [], ◌∷◌, ◌++◌}
+use Rattle.console_core.proofs.Common.{Option, Some, None, refl, ap, subst, sym, ◌∙◌, inl, inr, arith, append_assoc}
+use Rattle.console_core.proofs.Common.{map, reverse, if◌then◌else◌, ◌==◌, true≢false, eqb-true, eq-eqb, reverse-append}
+use Rattle.console_core.proofs.Common.{All-cons, none-some, same_modifier, modifier_index, same_action, holding_action}
+use Rattle.console_core.proofs.Common.{option_or, own_of, MapValue, accent_at, key_count, Action, Holding, Modifier}
+use Rattle.console_core.proofs.Common.{Meta, Cell, Char, Act, Event, Press, Release, Answer, Move, Hold, Turn, LetGo}
+use Rattle.console_core.proofs.Common.{Exchange, Symbol, usable, answer_char, answer_action, answer_release}
+use Rattle.console_core.proofs.Common.{char_or_error, composed_by, is_pending, ResolvedEvent, remembered, taken_over}
+use Rattle.console_core.proofs.Common.{pending, held, look, is_this_action, resolve_press, unless_nop, PressedCharacter}
+use Rattle.console_core.proofs.Common.{PressedAction, ReleasedKey, next_pending, pending_after_dead_key, between}
+use Rattle.console_core.proofs.Common.{resolved, is_second_in_force, accent_pending_after, HasKey, is_on_after}
+use Rattle.console_core.proofs.Common.{answer_to, remembered_after, look_after, answer_to_look, Under, alone, State}
+use Rattle.console_core.proofs.Common.{Holds, IsIdle, IsMove, look_in, is_held, with_holder, IsPathFrom, state_from}
+use Rattle.console_core.proofs.Common.{events_along, events_of_move, map_of, IsTapOf, cell_of, composed_of}
+use Rattle.console_core.proofs.Common.{types_something, plainly, LetsGo, IsStroke, HasTyped, typed_along, kept_if}
+use Rattle.console_core.proofs.Common.{Follows, Exact, Stands, fun_ext}
+use Rattle.console_core.specs.Answers.{answer_dead_key}
 use Rattle.console_core.proofs.Going.{pending-along, pending-is}
-use Rattle.console_core.proofs.OneMore.{resolved-more, held-character, held-action, held-release, locked-character}
-use Rattle.console_core.proofs.OneMore.{locked-action, remembered-character, remembered-release, pending-character}
-use Rattle.console_core.proofs.OneMore.{pending-action, pending-release, remembered-action}
+use Rattle.console_core.proofs.OneMore.{resolved-more, held-character, held-action, held-release, remembered-character}
+use Rattle.console_core.proofs.OneMore.{pending-character, pending-action, pending-release, remembered-action}
 use Rattle.console_core.proofs.Prefixes.{answers_by_cases}
-use Rattle.console_core.proofs.Scripts.{idle-none, other-remembered, pressed-look, stands-from, tapped-pressed}
+use Rattle.console_core.proofs.Scripts.{tap-only, idle-none, other-remembered, pressed-look, stands-from}
+use Rattle.console_core.proofs.Scripts.{tapped-pressed}
 use Rattle.console_core.proofs.Searching.{place_last}
 use Rattle.console_core.proofs.Seeing.{one_map}
-use Rattle.console_core.proofs.Staying.{follows-look, follows-release}
-use mathlib.Core.Path.{fun_ext}
+use Rattle.console_core.proofs.Staying.{follows-character, follows-look, follows-nothing, follows-release, not_holding}
+use Rattle.keymap_core.specs.declared.action.Action.TheVariants as act
+use Rattle.keymap_core.specs.declared.action.Holding.TheVariants as holding
+use Rattle.console_core.specs.declared.event.Answer.TheVariants as answer
+use Rattle.console_core.specs.declared.explored.Symbol.TheVariants as symbol
 
 -- ---- letting go of all holders
 
@@ -125,38 +112,7 @@ lets-go-all s h now t x = record {
 
 -- ---- a tap of a key
 
--- the key isn't a holder
-not-holder : (s : State) (k n : ℕ) (i : Modifier) → IsIdle s k → Holds s n i → (k == n) ≡ false
-not-holder s k n i idle holds =
-    false_from_ne_true (k == n) (λ e. idle i (subst (λ j. Holds s j i) (sym (eqb-true k n e)) holds))
-
--- a press that looks up a character, or a dead key, leaves the state
-follows-character : (r : List ResolvedEvent) (s : State) (k c : ℕ) → Follows r s → IsIdle s k
-    → Follows (PressedCharacter k c ∷ r) s
-follows-character r s k c f idle = record {
-  on = λ i. held-character (holding.Mod i) k c r ∙ f.on i;
-  locked = λ l. locked-character l k c r ∙ f.locked l;
-  holds = λ i n holds.
-      remembered-character n k c r ∙ ap (λ b. if b then None else remembered n r) (not-holder s k n i idle holds)
-      ∙ f.holds i n holds;
-}
-
-follows-dead : (r : List ResolvedEvent) (s : State) (k j : ℕ) → Exact r s → IsIdle s k
-    → Follows (PressedAction k (act.DeadKey j) ∷ r) s
-follows-dead r s k j x idle =
-    let e : remembered k r ≡ None = idle-none r s k x idle in
-    record {
-      on = λ i. held-action (holding.Mod i) k (act.DeadKey j) r
-          ∙ ap (λ o. same_action (taken_over o (act.DeadKey j)) (act.Mod i) || held (holding.Mod i) r) e
-          ∙ x.follows.on i;
-      locked = λ l. locked-action l k (act.DeadKey j) r
-          ∙ ap (λ o. if same_action (taken_over o (act.DeadKey j)) (act.Lock l) && not (held (holding.Lock l) r)
-          then not (locked l r) else locked l r) e
-          ∙ x.follows.locked l;
-      holds = λ i n holds.
-          other-remembered r k n (act.DeadKey j) (not-holder s k n i idle holds) ∙ x.follows.holds i n holds;
-    }
-
+-- A tap of a key that looks up a character, or an action that nothing holds, leaves the state.
 pub exact-character : (r : List ResolvedEvent) (s : State) (k c : ℕ) → Exact r s → IsIdle s k
     → Exact (ReleasedKey k ∷ (PressedCharacter k c ∷ r)) s
 exact-character r s k c x idle =
@@ -166,68 +122,67 @@ exact-character r s k c x idle =
     record {
       follows = follows-release now s k (follows-character r s k c x.follows idle)
           (λ i. ap (λ o. is_this_action o (act.Mod i)) none);
-      only = λ n a q. elim (cases_Bool (k == n)) [
-        | inl t ↦
-            absurd (none-some a (sym (remembered-release n k now ∙ ap (λ b. if b then None else remembered n now) t)
-            ∙ q))
-        | inr t ↦
-            x.only n a
-            (sym (remembered-release n k now ∙ ap (λ b. if b then None else remembered n now) t
-            ∙ remembered-character n k c r ∙ ap (λ b. if b then None else remembered n r) t)
-            ∙ q)
-      ];
+      only = tap-only r now s k x
+          (λ n t. remembered-character n k c r ∙ ap (λ b. if b then None else remembered n r) t);
       up = λ l. held-release (holding.Lock l) k now
           ∙ ap (λ b. b && not (is_this_action (remembered k now) (act.Lock l)))
           (held-character (holding.Lock l) k c r ∙ x.up l);
     }
 
-pub exact-dead : (r : List ResolvedEvent) (s : State) (k j : ℕ) → Exact r s → IsIdle s k
-    → Exact (ReleasedKey k ∷ (PressedAction k (act.DeadKey j) ∷ r)) s
-exact-dead r s k j x idle =
-    let now : List ResolvedEvent = PressedAction k (act.DeadKey j) ∷ r in
-    let e : remembered k r ≡ None = idle-none r s k x idle in
-    let holds : remembered k now ≡ Some (act.DeadKey j) =
-    remembered-action k k (act.DeadKey j) r
-    ∙ ap (λ o. option_or o (if k == k then Some (act.DeadKey j) else None)) e
-    ∙ ap (λ b. if b then Some (act.DeadKey j) else None) (eq-eqb k k refl) in
+-- what is remembered of an action that nothing holds is no modifier
+plain-mod : (a : Action) (i : Modifier) → ((h : Holding) → same_action a (holding_action h) ≡ false)
+    → is_this_action (unless_nop a) (act.Mod i) ≡ false
+plain-mod a i plain = by (same_action a act.Nop)
+  where
+    by : (t : Bool) → is_this_action (if t then None else Some a) (act.Mod i) ≡ false
+    by true = refl
+    by false = plain (holding.Mod i)
+
+pub exact-action : (r : List ResolvedEvent) (s : State) (k : ℕ) (a : Action) → Exact r s → IsIdle s k
+    → ((h : Holding) → same_action a (holding_action h) ≡ false)
+    → Exact (ReleasedKey k ∷ (PressedAction k a ∷ r)) s
+exact-action r s k a x idle plain =
+    let now : List ResolvedEvent = PressedAction k a ∷ r in
+    let none : remembered k r ≡ None = idle-none r s k x idle in
+    let takes : taken_over (remembered k r) a ≡ a = ap (λ o. taken_over o a) none in
+    let holds : remembered k now ≡ unless_nop a =
+    remembered-action k k a r
+    ∙ ap (λ o. option_or o (if k == k then unless_nop a else None)) none
+    ∙ ap (λ b. if b then unless_nop a else None) (eq-eqb k k refl) in
     record {
-      follows = follows-release now s k (follows-dead r s k j x idle)
-          (λ i. ap (λ o. is_this_action o (act.Mod i)) holds);
-      only = λ n a q. elim (cases_Bool (k == n)) [
-        | inl t ↦
-            absurd (none-some a (sym (remembered-release n k now ∙ ap (λ b. if b then None else remembered n now) t)
-            ∙ q))
-        | inr t ↦
-            x.only n a
-            (sym (remembered-release n k now ∙ ap (λ b. if b then None else remembered n now) t
-            ∙ other-remembered r k n (act.DeadKey j) t)
-            ∙ q)
-      ];
+      follows = follows-release now s k
+          (follows-nothing r s k a x.follows (λ h. ap (λ b. same_action b (holding_action h)) takes ∙ plain h))
+          (λ i. ap (λ o. is_this_action o (act.Mod i)) holds ∙ plain-mod a i plain);
+      only = tap-only r now s k x (λ n t. other-remembered r k n a t);
       up = λ l. held-release (holding.Lock l) k now
           ∙ ap (λ b. b && not (is_this_action (remembered k now) (act.Lock l)))
-          (held-action (holding.Lock l) k (act.DeadKey j) r
-          ∙ ap (λ o. same_action (taken_over o (act.DeadKey j)) (act.Lock l) || held (holding.Lock l) r) e ∙ x.up l);
+          (held-action (holding.Lock l) k a r
+          ∙ ap (λ b. same_action b (act.Lock l) || held (holding.Lock l) r) takes
+          ∙ ap (λ b. b || held (holding.Lock l) r) (plain (holding.Lock l)) ∙ x.up l);
     }
 
--- after a tap the console stands as before
-pub stands-tap : (u : Under) (h : List Event) (s : State) (plain : Bool) (x : Symbol) (k : ℕ) → Stands u h s
-    → IsTapOf u s plain x k
+pub stands-tapped : (u : Under) (h : List Event) (s : State) (k : ℕ) (c : Cell) → k < key_count → Stands u h s
+    → look_in u s k ≡ c → Exact (ReleasedKey k ∷ (resolve_press k c ∷ resolved u.maps h)) s
     → Stands u (Release k ∷ Press k ∷ h) s
-stands-tap u h s plain x k st (lt, idle, seen, meta) = record {
-  exact = rw (resolved-more u.maps (Press k ∷ h) (Release k)) (exact x seen);
+stands-tapped u h s k c lt st seen exact = record {
+  exact =
+      rw (resolved-more u.maps (Press k ∷ h) (Release k), pressed-look u h s k c st.exact.follows st.second seen) exact;
   second = st.second;
   key = st.key;
   pressed = λ n p. st.pressed n (tapped-pressed h k n p);
   keys = All-cons HasKey (Release k) (Press k ∷ h) lt (All-cons HasKey (Press k) h lt st.keys);
 }
-  where
-    exact : (x : Symbol) → look_in u s k ≡ cell_of x → Exact (ReleasedKey k ∷ resolved u.maps (Press k ∷ h)) s
-    exact (symbol.Character c) seen =
-        rw (pressed-look u h s k (Char c) st.exact.follows st.second seen)
-        (exact-character (resolved u.maps h) s k c st.exact idle)
-    exact (symbol.DeadKey j) seen =
-        rw (pressed-look u h s k (Act (act.DeadKey j)) st.exact.follows st.second seen)
-        (exact-dead (resolved u.maps h) s k j st.exact idle)
+
+-- after a tap the console stands as before
+pub stands-tap : (u : Under) (h : List Event) (s : State) (plain : Bool) (x : Symbol) (k : ℕ) → Stands u h s
+    → IsTapOf u s plain x k
+    → Stands u (Release k ∷ Press k ∷ h) s
+stands-tap u h s plain (symbol.Character c) k st (lt, idle, seen, meta) =
+    stands-tapped u h s k (Char c) lt st seen (exact-character (resolved u.maps h) s k c st.exact idle)
+stands-tap u h s plain (symbol.DeadKey j) k st (lt, idle, seen, meta) =
+    stands-tapped u h s k (Act (act.DeadKey j)) lt st seen
+    (exact-action (resolved u.maps h) s k (act.DeadKey j) st.exact idle
+    (λ a. not_holding (act.DeadKey j) a refl refl))
 
 -- ---- answers
 

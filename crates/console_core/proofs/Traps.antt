@@ -1,33 +1,26 @@
 -- A modifier without a trap is on only while a key that bears it is pressed.
-use Rattle.std.proofs.Common.{◌≡◌, ℕ, ◌<◌, Bool, true, false, ◌||◌, not, List, [], ◌∷◌, Some, refl, ap, subst, sym, ◌∙◌}
-use Rattle.std.proofs.Common.{inl, inr}
-use Rattle.std.specs.Prelude.{◌==◌}
-use Rattle.std.proofs.lemmas.Bool.{eqb-true, eq-eqb, and_parts, or_cases, cases_Bool, true≢false, both_ways, not-true}
-use Rattle.std.proofs.lemmas.List.Elements.{All-tail}
-use Rattle.std.proofs.lemmas.Bool.{or_right}
-use Rattle.keymap_core.specs.declared.action.Action.TheVariants as act
-use Rattle.keymap_core.specs.declared.action.Lock.TheVariants as lock
-use Rattle.console_core.specs.Types.{Modifier, LeftShift, RightShift, LeftControl, RightControl, LeftAlt, RightAlt}
-use Rattle.console_core.specs.Types.{AltShift, Meta, Cell, Char, Act, Event, Press, Release, Reset, Load}
-use Rattle.keymap_core.specs.declared.action.Holding.TheVariants as holding
+use Rattle.console_core.proofs.Common.{◌≡◌, ℕ, ◌<◌, Bool, true, false, ◌||◌, not, List, [], ◌∷◌, Some, refl, ap, subst}
+use Rattle.console_core.proofs.Common.{sym, ◌∙◌, inl, inr, ◌==◌, eqb-true, eq-eqb, and_parts, or_cases, cases_Bool}
+use Rattle.console_core.proofs.Common.{true≢false, both_ways, not-true, All-tail, or_right, Modifier, LeftShift}
+use Rattle.console_core.proofs.Common.{RightShift, LeftControl, RightControl, LeftAlt, RightAlt, AltShift, Meta, Cell}
+use Rattle.console_core.proofs.Common.{Char, Act, Event, Press, Release, Reset, Load, same_action, MapValue, entry_at}
+use Rattle.console_core.proofs.Common.{IsCellOf, exactly_one, slot_of, ResolvedEvent, held, locked, on, remembered}
+use Rattle.console_core.proofs.Common.{taken_over, is_this_action, look, resolve_press, Maps, in_force, resolved}
+use Rattle.console_core.proofs.Common.{HasKey, HasKeys, same_action-refl}
 use Rattle.keymap_core.specs.declared.entry.LockFlag.{LockFlag}
-use Rattle.keymap_core.specs.declared.entry.LockFlag.TheVariants as flag
-use Rattle.keymap_core.specs.Actions.{same_action}
-use Rattle.keymap_core.specs.Maps.{MapValue, entry_at}
-use Rattle.keymap_core.specs.Bearers.{IsCellOf}
-use Rattle.console_core.specs.Columns.{exactly_one, flips_shift, slot_of}
-use Rattle.console_core.specs.Resolved.{ResolvedEvent, held, locked, on, remembered, taken_over, is_this_action, look}
-use Rattle.console_core.specs.Resolved.{resolve_press}
-use Rattle.console_core.specs.History.{Maps, in_force, resolved, HasKey, HasKeys}
+use Rattle.console_core.specs.Columns.{flips_shift}
 use Rattle.console_core.specs.Traps.{Bits, cell_with, group_bit, NobodyBearsCellPickingLocks, HasNoTrap}
 use Rattle.console_core.specs.Traps.{OnOnlyWhilePressedWithoutTraps}
 use Rattle.console_core.proofs.OneMore.{resolved-start, resolved-more, held-start, held-character, held-action}
 use Rattle.console_core.proofs.OneMore.{held-release, held-reset, held-load, remembered-character, remembered-action}
 use Rattle.console_core.proofs.OneMore.{remembered-release}
-use Rattle.keymap_core.proofs.SameActions.{same_action-refl}
 use Rattle.console_core.proofs.Borne.{AllLooked, taken-holding, held-upper, resolved-looked}
 use Rattle.console_core.proofs.Bearing.{RememberedBySome, remembered-cell, remembered-pressed, first_kept}
 use Rattle.console_core.proofs.PlainLooks.{never-locked}
+use Rattle.keymap_core.specs.declared.action.Action.TheVariants as act
+use Rattle.keymap_core.specs.declared.action.Lock.TheVariants as lock
+use Rattle.keymap_core.specs.declared.action.Holding.TheVariants as holding
+use Rattle.keymap_core.specs.declared.entry.LockFlag.TheVariants as flag
 
 -- the bits of the cell that is looked up, where no lock is on
 abbrev pub bits_of : List ResolvedEvent → Bits

@@ -1,17 +1,13 @@
 -- What the search answers of a keymap twice: a load is then a reset.
-use Prim.Native.Nat.{suc}
-use Rattle.std.proofs.Common.{◌≡◌, ℕ, ◌<◌, ◌≤◌, ◌==◌, arith, true, false, List, [], ◌∷◌, refl, ap, sym, ◌∙◌}
-use Rattle.std.proofs.Common.{reverse, if◌then◌else◌}
-use Rattle.std.proofs.lemmas.Bool.{true≢false}
-use Rattle.std.proofs.lemmas.List.Elements.{All-nil, All-cons, All-head, All-tail}
-use Rattle.console_core.specs.Types.{Modifier, Event, Press, Release, Reset, Load, Sticks, Never, Undecided}
-use Rattle.keymap_core.specs.Maps.{MapValue}
-use Rattle.console_core.specs.History.{between, pressed, HasKey, HasKeys, IsNoLoad, HasNoLoads}
-use Rattle.console_core.specs.Loads.{as_reset, loads_as_resets}
-use Rattle.console_core.specs.Sticking.{SticksAfter, SticksBetween, presses, AnswersAlikeOfOneKeymap}
+use Rattle.console_core.proofs.Common.{suc, ◌≡◌, ℕ, ◌<◌, ◌≤◌, ◌==◌, arith, true, false, List, [], ◌∷◌, refl, ap, subst}
+use Rattle.console_core.proofs.Common.{sym, ◌∙◌, reverse, if◌then◌else◌, true≢false, All-nil, All-cons, All-head}
+use Rattle.console_core.proofs.Common.{All-tail, Modifier, Event, Press, Release, Reset, Load, Sticks, Never, Undecided}
+use Rattle.console_core.proofs.Common.{MapValue, alone, with_loads, between, is_on_after, pressed, HasKey, HasKeys}
+use Rattle.console_core.proofs.Common.{IsNoLoad, HasNoLoads, as_reset, loads_as_resets, AreUnder, SticksUnder, presses}
+use Rattle.console_core.specs.Sticking.{AnswersAlikeOfOneKeymap}
 use Rattle.console_core.proofs.OneMore.{pressed-press, pressed-release, pressed-reset, pressed-load}
 use Rattle.console_core.proofs.OneMap.{loads_of_one_map}
-use Rattle.console_core.proofs.Deciding.{on_alone}
+use Rattle.console_core.proofs.Deciding.{under-self, all-admitted, on-under}
 
 -- with loads as resets the same keys are pressed
 pressed_alike : (k : ℕ) (h : List Event) → pressed k (loads_as_resets h) ≡ pressed k h
@@ -55,17 +51,21 @@ no_loads_left [] = All-nil IsNoLoad
 no_loads_left (e ∷ h) = All-cons IsNoLoad (as_reset e) (loads_as_resets h) (reset_is_no_load e) (no_loads_left h)
 
 -- what sticks between the keymap and itself sticks under it alone, with loads as resets
-sticks_alone : (m : MapValue) (h : List Event) (i : Modifier) → HasKeys h → SticksBetween (between m m) h i
-    → SticksAfter m (loads_as_resets h) i
+sticks_alone : (m : MapValue) (h : List Event) (i : Modifier) → HasKeys h → SticksUnder (with_loads (between m m)) h i
+    → SticksUnder (alone m) (loads_as_resets h) i
 sticks_alone m h i keys (quiet, on) = (
   (λ k lt. pressed_alike k h ∙ quiet k lt),
-  (λ ms first. on_alone m ms i (loads_as_resets h) first (no_loads_left h)
-      ∙ sym ((loads_of_one_map m h keys).0 i) ∙ on),
+  (λ ms under. on-under (alone m) ms (loads_as_resets h) under (λ e. no_loads_left h) i
+      ∙ sym ((loads_of_one_map m h keys).0 i) ∙ on (between m m) (under-self (with_loads (between m m)))),
 )
 
 -- and what sticks under it alone sticks between it and itself
-sticks_twice : (m : MapValue) (h : List Event) (i : Modifier) → SticksAfter m h i → SticksBetween (between m m) h i
-sticks_twice m h i (quiet, on) = (quiet, on (between m m) refl)
+sticks_twice : (m : MapValue) (h : List Event) (i : Modifier) → SticksUnder (alone m) h i
+    → SticksUnder (with_loads (between m m)) h i
+sticks_twice m h i (quiet, on) = (
+  quiet,
+  (λ ms under. subst (λ n. is_on_after n i h ≡ true) (sym (under.1 refl)) (on (between m m) (under-self (alone m)))),
+)
 
 -- of a keymap twice the search answers as of the keymap alone
 pub answers_alike : AnswersAlikeOfOneKeymap
@@ -73,30 +73,35 @@ answers_alike m (Sticks events on) (Sticks others others_on) ((keys, made, (i, s
     ((other_keys, other_made, (j, other_sticks)), other_fewest, other_releases, others_are_on) =
     let h : List Event = reverse others.items in
     let le : presses (reverse events.items) ≤ presses (loads_as_resets h) =
-    fewest (loads_as_resets h) (keys_alike h other_keys) (no_loads_left h) j
+    fewest (loads_as_resets h) (keys_alike h other_keys) (λ e. no_loads_left h) j
     (sticks_alone m h j other_keys other_sticks) in
     let ge : presses h ≤ presses (reverse events.items) =
-    other_fewest (reverse events.items) keys i (sticks_twice m (reverse events.items) i sticks) in
+    other_fewest (reverse events.items) keys (all-admitted (between m m) (reverse events.items)) i
+    (sticks_twice m (reverse events.items) i sticks) in
     omega (arith, le, ge, presses_alike h)
 answers_alike m (Sticks events on) Never ((keys, made, (i, sticks)), fewest, releases, are_on) never =
-    let twice : SticksBetween (between m m) (reverse events.items) i =
-    sticks_twice m (reverse events.items) i sticks in
-    true≢false (sym twice.1 ∙ (never (reverse events.items) keys).1 twice.0 i)
+    let h : List Event = reverse events.items in
+    let two : AreUnder (with_loads (between m m)) (between m m) = under-self (with_loads (between m m)) in
+    let twice = sticks_twice m h i sticks in
+    true≢false (sym (twice.1 (between m m) two)
+    ∙ (never (between m m) h two keys (all-admitted (between m m) h)).1 twice.0 i)
 answers_alike m (Sticks events on) (Undecided p) ((keys, made, (i, sticks)), fewest, releases, are_on)
     (reaches, none_by) =
-    none_by (reverse events.items) keys i (sticks_twice m (reverse events.items) i sticks)
+    none_by (reverse events.items) keys (all-admitted (between m m) (reverse events.items)) i
+    (sticks_twice m (reverse events.items) i sticks)
 answers_alike m Never (Sticks events on) never ((keys, made, (i, sticks)), fewest, releases, are_on) =
     let h : List Event = reverse events.items in
-    let alone : SticksAfter m (loads_as_resets h) i = sticks_alone m h i keys sticks in
-    true≢false (sym (alone.1 (between m m) refl)
-    ∙ (never (between m m) (loads_as_resets h) refl (keys_alike h keys) (no_loads_left h)).1 alone.0 i)
+    let one : AreUnder (alone m) (between m m) = under-self (alone m) in
+    let left = sticks_alone m h i keys sticks in
+    true≢false (sym (left.1 (between m m) one)
+    ∙ (never (between m m) (loads_as_resets h) one (keys_alike h keys) (λ e. no_loads_left h)).1 left.0 i)
 answers_alike m Never Never never same = tt
 answers_alike m Never (Undecided p) never x = tt
 answers_alike m (Undecided p) (Sticks events on) (reaches, none_by)
     ((keys, made, (i, sticks)), fewest, releases, are_on) =
     let h : List Event = reverse events.items in
     let more : p < presses (loads_as_resets h) =
-    none_by (loads_as_resets h) (keys_alike h keys) (no_loads_left h) i (sticks_alone m h i keys sticks) in
+    none_by (loads_as_resets h) (keys_alike h keys) (λ e. no_loads_left h) i (sticks_alone m h i keys sticks) in
     omega (arith, more, presses_alike h)
 answers_alike m (Undecided p) Never x never = tt
 answers_alike m (Undecided p) (Undecided q) x y = tt

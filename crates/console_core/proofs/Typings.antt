@@ -1,31 +1,21 @@
 -- Characters typed one after another, and that a console is as new behind them.
-use Prim.Native.Nat.{zero, suc}
-use Rattle.std.proofs.Common.{◌≡◌, ◌+◌, ◌<◌, ◌≤◌, ◌⊎◌, ℕ, Bool, drop, inl, inr, true, false, List, [], ◌∷◌, ◌++◌, All}
-use Rattle.std.proofs.Common.{Some, None, refl, ap}
-use Rattle.std.proofs.Common.{subst, sym, ◌∙◌, arith, append_assoc, append-nil, map, reverse, take, length, get_or}
-use Rattle.std.proofs.Common.{slice_get}
-use Rattle.std.proofs.Common.{if◌then◌else◌}
-use Rattle.std.specs.Prelude.{filter}
-use Rattle.std.proofs.lemmas.Bool.{false_from_ne_true}
+use Rattle.console_core.proofs.Common.{zero, suc, ◌≡◌, ◌+◌, ◌<◌, ◌≤◌, ◌⊎◌, ℕ, Bool, drop, inl, inr, true, false, List}
+use Rattle.console_core.proofs.Common.{[], ◌∷◌, ◌++◌, All, Some, None, refl, ap, subst, sym, ◌∙◌, arith, append_assoc}
+use Rattle.console_core.proofs.Common.{map, reverse, take, length, get_or, slice_get, if◌then◌else◌, filter}
+use Rattle.console_core.proofs.Common.{false_from_ne_true, reverse-append, reverse-reverse, take_more, take_all}
+use Rattle.console_core.proofs.Common.{All-nil, none-some, same_Some, MapValue, Event, Answer, between, resolved}
+use Rattle.console_core.proofs.Common.{answers_to, answer_to, accent_pending_after, pressed, HasKey, HasKeys, alone}
+use Rattle.console_core.proofs.Common.{State, start, state_from, events_along, pending, CanType, IsAsNew, plainly}
+use Rattle.console_core.proofs.Common.{types_something, GoesHome, HasTyped, IsStand, TypesOne, kept_if, typed_along}
+use Rattle.console_core.proofs.Common.{HoldsSome, Stands}
+use Rattle.std.proofs.Common.{append-nil}
 use Rattle.std.proofs.Math.Seq.{drop-append_seam}
-use Rattle.std.proofs.lemmas.List.{reverse-append, reverse-reverse, take_more, take_all, map_push, length-append}
-use Rattle.std.proofs.lemmas.List.{length-map}
-use Rattle.std.proofs.lemmas.List.{length-take-le, take-append-le}
-use Rattle.std.proofs.lemmas.List.Elements.{All-push, All-nil}
-use Rattle.std.proofs.lemmas.Option.{none-some, same_Some}
-use Rattle.keymap_core.specs.Maps.{MapValue}
-use Rattle.console_core.specs.Types.{Event, Answer}
+use Rattle.std.proofs.lemmas.List.{map_push, length-append, length-map, length-take-le, take-append-le}
+use Rattle.std.proofs.lemmas.List.Elements.{All-push}
 use Rattle.console_core.specs.declared.typing.Keyed.{Keyed}
 use Rattle.console_core.specs.declared.typing.Typing.{Typing}
-use Rattle.console_core.specs.History.{between, resolved, answers_to, answer_to, accent_pending_after, pressed, HasKey}
-use Rattle.console_core.specs.History.{HasKeys}
 use Rattle.keymap_core.proofs.Lists.{All-reversed}
-use Rattle.console_core.specs.Moves.{alone, State, start, state_from, events_along}
-use Rattle.console_core.specs.Resolved.{pending}
-use Rattle.console_core.specs.Typing.{AreEnds, AreParts, AreTyped, CanType, IsAsNew, Types, characters_of, plainly}
-use Rattle.console_core.specs.Typing.{types_something}
-use Rattle.console_core.specs.Inner.Exploring.{GoesHome, HasTyped, IsStand, TypesOne, kept_if, typed_along}
-use Rattle.console_core.specs.Inner.Standing.{HoldsSome, Stands}
+use Rattle.console_core.specs.Typing.{AreEnds, AreParts, AreTyped, Types, characters_of}
 use Rattle.console_core.proofs.Deliveries.{reverse-cons}
 use Rattle.console_core.proofs.Exploring.{home-start, start-stand}
 use Rattle.console_core.proofs.Scripts.{idle-none, stands-start}

@@ -1,13 +1,19 @@
 -- No look depends on the scroll lock, so states that differ in it alone lead on alike.
-use Rattle.std.proofs.Common.{◌≡◌, Bool, ◌&&◌, not, Some, None, refl, ap, subst, sym, ◌∙◌, if◌then◌else◌}
-use Rattle.console_core.specs.Types.{Lock, Caps, Scroll, Move, Hold, Turn, LetGo, Exchange}
-use Rattle.keymap_core.specs.Actions.{same_lock}
-use Rattle.keymap_core.specs.Borne.{is_borne}
-use Rattle.keymap_core.specs.Maps.{MapValue}
+use Rattle.console_core.proofs.Common.{◌≡◌, ◌⊎◌, inl, inr, ℕ, Bool, ◌&&◌, not, Some, None, refl, ap, subst, sym, ◌∙◌}
+use Rattle.console_core.proofs.Common.{if◌then◌else◌, Lock, Caps, Num, Scroll, Alt, Move, Hold, Turn, LetGo, Exchange}
+use Rattle.console_core.proofs.Common.{same_lock, is_borne, MapValue, Under, State, with_holder, with_lock_turned}
+use Rattle.console_core.proofs.Common.{next_map, IsMove, moved, LeavesScroll, but_scroll, unscrolled, fun_ext}
 use Rattle.keymap_core.specs.declared.action.Holding.TheVariants as holding
-use Rattle.console_core.specs.Moves.{Under, State, with_holder, with_lock_turned, next_map, IsMove, moved}
-use Rattle.console_core.specs.Inner.Standing.{but_scroll, unscrolled}
-use mathlib.Core.Path.{fun_ext}
+
+-- a move leaves the scroll lock, or turns it
+pub leaves-scroll_or_turns : (move : Move) → LeavesScroll move ⊎ ((k : ℕ) × (move ≡ Turn k Scroll))
+leaves-scroll_or_turns (Turn k Scroll) = inr (k, refl)
+leaves-scroll_or_turns (Turn k Caps) = inl (λ e. cc)
+leaves-scroll_or_turns (Turn k Num) = inl (λ e. cc)
+leaves-scroll_or_turns (Turn k Alt) = inl (λ e. cc)
+leaves-scroll_or_turns (Hold k i) = inl tt
+leaves-scroll_or_turns (LetGo k i) = inl tt
+leaves-scroll_or_turns Exchange = inl tt
 
 -- moves don't depend on the scroll lock
 pub moves-unscrolled : (u : Under) (s t : State) (move : Move) → unscrolled t ≡ unscrolled s → IsMove u s move
@@ -69,3 +75,16 @@ pub scroll-moved : (s : State) → unscrolled s ≡ unscrolled (with_lock_turned
 scroll-moved s =
     ap (λ x. record { holder = s.holder; is_locked = x; is_second = s.is_second })
     (fun_ext (λ j. scroll_turned s.is_locked j))
+
+-- states that are the same but for the scroll lock, and in that too
+pub same-scrolled : (s t : State) → unscrolled s ≡ unscrolled t → s.is_locked Scroll ≡ t.is_locked Scroll → s ≡ t
+same-scrolled s t e scroll =
+    ap (λ x. record { holder = x; is_locked = s.is_locked; is_second = s.is_second }) (ap (λ x. x.holder) e)
+    ∙ ap (λ x. record { holder = t.holder; is_locked = x; is_second = s.is_second }) (fun_ext (λ l. locks l))
+    ∙ ap (λ x. record { holder = t.holder; is_locked = t.is_locked; is_second = x }) (ap (λ x. x.is_second) e)
+  where
+    locks : (l : Lock) → s.is_locked l ≡ t.is_locked l
+    locks Caps = ap (λ x. x.is_locked Caps) e
+    locks Num = ap (λ x. x.is_locked Num) e
+    locks Scroll = scroll
+    locks Alt = ap (λ x. x.is_locked Alt) e

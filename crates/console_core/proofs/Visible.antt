@@ -1,23 +1,15 @@
 -- What presses see and what can be seen, as tests: they pass exactly where it is so.
-use Prim.Native.Nat.{suc}
-use Rattle.std.proofs.Common.{◌≡◌, ◌⊎◌, inl, inr, ℕ, ◌<◌, Bool, true, false, ◌&&◌, List, [], ◌∷◌, refl, ap}
-use Rattle.std.proofs.Common.{subst, sym, ◌∙◌}
-use Rattle.std.proofs.Common.{arith}
-use Rattle.std.specs.Prelude.{◌==◌, ◌||◌, ◌%◌}
-use Rattle.std.specs.List.{Contains, list_any, range_with_len}
-use Rattle.std.proofs.lemmas.Bool.{and_parts, eqb-true, eq-eqb, true≢false}
+use Rattle.console_core.proofs.Common.{suc, ◌≡◌, ◌⊎◌, inl, inr, ℕ, ◌<◌, Bool, true, false, ◌&&◌, List, [], ◌∷◌, refl}
+use Rattle.console_core.proofs.Common.{ap, subst, sym, ◌∙◌, arith, ◌==◌, ◌||◌, ◌%◌, Contains, list_any, and_parts}
+use Rattle.console_core.proofs.Common.{eqb-true, eq-eqb, true≢false, Cell, Char, Act, Selection, Sight, Offer, Sights}
+use Rattle.console_core.proofs.Common.{MapValue, key_count, slot_of, alone, state_after, look_selected, SeesBy}
+use Rattle.console_core.proofs.Common.{is_selected, is_composed, can_see, Note, AreSightsOf, IsReachable, selection_of}
+use Rattle.std.specs.List.{range_with_len}
 use Rattle.std.proofs.lemmas.List.Folds.{list_any_at}
 use Rattle.std.proofs.lemmas.List.FromFn.{get_or-range_with_len}
-use Rattle.console_core.specs.Types.{Cell, Char, Act, Selection, Sight, Offer, Sights}
-use Rattle.keymap_core.specs.Maps.{MapValue}
-use Rattle.keymap_core.specs.Numbers.{key_count}
-use Rattle.console_core.specs.declared.selection.Sight.TheVariants as sight
-use Rattle.console_core.specs.Columns.{slot_of}
-use Rattle.console_core.specs.Moves.{alone, state_after}
-use Rattle.console_core.specs.Sights.{slot_in, column_in, look_selected, SeesBy, is_same, is_character, sees_by}
-use Rattle.console_core.specs.Sights.{is_seeing, is_selected, is_composed, can_see, Note, AreSightsOf, IsReachable}
-use Rattle.console_core.specs.Sights.{selection_of}
+use Rattle.console_core.specs.Sights.{slot_in, column_in, is_same, is_character, sees_by, is_seeing}
 use Rattle.console_core.specs.Inner.Noting.{IsSelectedBy, IsComposedBy}
+use Rattle.console_core.specs.declared.selection.Sight.TheVariants as sight
 
 -- two tests that pass alike are one
 pub same-truth : (r b : Bool) → (r ≡ true → b ≡ true) → (r ≡ false → b ≡ false) → r ≡ b

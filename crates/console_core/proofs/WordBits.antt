@@ -1,24 +1,23 @@
 -- One bit of a word after a write.
-use Rattle.std.proofs.Common.{◌≡◌, ℕ, ◌+◌, ◌*◌, ◌/◌, ◌%◌, ◌^◌, ◌<◌, ◌≤◌, ◌≢◌, ◌-◌, min, max, Bool, true, false, not}
-use Rattle.std.proofs.Common.{◌⊎◌, inl, inr, eqb, refl, ap, sym, ◌∙◌, if◌then◌else◌, arith, w32, lit<}
+use Rattle.console_core.proofs.Common.{◌≡◌, ℕ, ◌+◌, ◌/◌, ◌%◌, ◌^◌, ◌<◌, ◌≤◌, ◌≢◌, ◌-◌, Bool, true, false, not, ◌⊎◌, inl}
+use Rattle.console_core.proofs.Common.{inr, eqb, refl, ap, sym, ◌∙◌, if◌then◌else◌, arith, lit<, eqb-true, eqb-false}
+use Rattle.console_core.proofs.Common.{ne_eqb, eq-eqb, zero, suc, Holding, Lock, LeftShift, Caps, holding_index}
+use Rattle.console_core.proofs.Common.{lock_index, same_lock, bit_is_set, word_mark, word_lock, word_second, mark_bit}
+use Rattle.console_core.proofs.Common.{lock_bit}
+use Rattle.std.proofs.Common.{◌*◌, min, max, w32}
 use Rattle.std.specs.Prelude.{bit_and, bit_or, bit_xor}
 use Rattle.std.specs.Int.{bit_at, bit_not}
-use Rattle.std.proofs.lemmas.Bool.{eqb-true, eqb-false, ne_eqb, eq-eqb}
 use Rattle.std.proofs.lemmas.Nat.Bits.{bit_at_set_same, bit_at_set_other, bit_at_clear_same, bit_at_clear_other}
 use Rattle.std.proofs.lemmas.Nat.Bits.{bit_at_xor, bit_at-pow_same, bit_at-pow_other, and_pow, bit_at-lt, bit_at_and}
 use Rattle.std.proofs.lemmas.Nat.Bits.{bit_at_ones, bit_at_cat_low, bit_at_cat_high, bit_at_above, bit_at-zero}
 use Rattle.std.proofs.lemmas.Nat.Bits.{bit_at_or, same_from_bits_below}
-use Prim.Native.Nat.{zero, suc}
 use Rattle.std.proofs.Math.Pow.{pow-lt, pow_pos}
 use Rattle.std.proofs.Math.Nat.{mod-eq_of_lt, zero-mul, one-mul}
 use Rattle.std.proofs.lemmas.Nat.{and_le_r, pow-add}
 use native.Mathlib.Nat.{div-div-eq-div-mul}
-use Rattle.console_core.specs.Types.{Holding, Lock, LeftShift, Caps}
-use Rattle.keymap_core.specs.Actions.{holding_index, lock_index, same_lock}
-use Rattle.keymap_core.specs.declared.action.Holding.TheVariants as holding
 use Rattle.console_core.proofs.Places.{modifier_index-lt}
-use Rattle.console_core.specs.PackedWord.{bit_is_set, word_mark, word_lock, word_second, pending_field, mark_bit}
-use Rattle.console_core.specs.PackedWord.{lock_bit}
+use Rattle.console_core.specs.PackedWord.{pending_field}
+use Rattle.keymap_core.specs.declared.action.Holding.TheVariants as holding
 
 -- the step of the next lemma, by whether it is the same bit
 set_by : (n k i : ℕ) (b : Bool) → k < 32 → eqb k i ≡ b

@@ -15,16 +15,27 @@ use Rattle.console_core.specs.declared.held.Move.{Move}
 use Rattle.console_core.specs.Moves.{Under, alone, with_loads, State, start, IsPath, state_after, presses_along}
 use Rattle.console_core.specs.Moves.{IsForgetful, HolderForgets, script_of_path, IsPathFrom, state_from}
 
--- Sticks: no key is pressed after the list, and the modifier is on.
-abbrev pub SticksAfter : MapValue → List Event → Modifier → Type 0
-SticksAfter m h i = IsQuiet h × ((ms : Maps) → ms.first ≡ m → is_on_after ms i h ≡ true)
+-- The pairs of maps that a search under u speaks of. Where no loads come, the second map may be any.
+abbrev pub AreUnder : Under → Maps → Type 0
+AreUnder u ms = (ms.first ≡ u.maps.first) × (u.has_loads ≡ true → ms ≡ u.maps)
 
--- presses and releases of keys, without resets and loads
+-- the list has loads only where there are any
+abbrev pub Admits : Under → List Event → Type 0
+Admits u h = u.has_loads ≡ false → HasNoLoads h
+
+-- Sticks: no key is pressed after the list, and the modifier is on.
+abbrev pub SticksUnder : Under → List Event → Modifier → Type 0
+SticksUnder u h i = IsQuiet h × ((ms : Maps) → AreUnder u ms → is_on_after ms i h ≡ true)
+
+-- presses and releases of keys, and loads where there are any, without resets
+abbrev pub IsSent : Bool → Event → Type 0
+IsSent has_loads (Press k) = Unit {0}
+IsSent has_loads (Release k) = Unit {0}
+IsSent has_loads Reset = ⊥
+IsSent has_loads Load = has_loads ≡ true
+
 abbrev pub IsPressOrRelease : Event → Type 0
-IsPressOrRelease (Press k) = Unit {0}
-IsPressOrRelease (Release k) = Unit {0}
-IsPressOrRelease Reset = ⊥
-IsPressOrRelease Load = ⊥
+IsPressOrRelease e = IsSent false e
 
 -- how many presses there are in a list, repeats among them
 abbrev pub is_a_press : Event → List Event → Bool
@@ -34,14 +45,14 @@ is_a_press _ before = false
 abbrev pub presses : List Event → ℕ
 presses h = count_where is_a_press h
 
--- some modifier sticks after this list of presses and releases
-abbrev pub LeavesOn : MapValue → List Event → Type 0
-LeavesOn m h = HasKeys h × All IsPressOrRelease h × ((i : Modifier) × SticksAfter m h i)
+-- some modifier sticks after this list
+abbrev pub LeavesOnUnder : Under → List Event → Type 0
+LeavesOnUnder u h = HasKeys h × All (IsSent u.has_loads) h × ((i : Modifier) × SticksUnder u h i)
 
--- no list of presses, releases and resets after which a modifier sticks has fewer presses than this one
-abbrev pub HasFewestPresses : MapValue → List Event → Type 0
-HasFewestPresses m h =
-    (g : List Event) → HasKeys g → HasNoLoads g → (i : Modifier) → SticksAfter m g i → presses h ≤ presses g
+-- no list, with resets or without, after which a modifier sticks has fewer presses than this one
+abbrev pub HasFewestUnder : Under → List Event → Type 0
+HasFewestUnder u h =
+    (g : List Event) → HasKeys g → Admits u g → (i : Modifier) → SticksUnder u g i → presses h ≤ presses g
 
 -- each release is of a key that is pressed
 abbrev pub IsOfPressedKey : Event → List Event → Type 0
@@ -52,12 +63,12 @@ abbrev pub ReleasesPressedKeys : List Event → Type 0
 ReleasesPressedKeys [] = Unit {0}
 ReleasesPressedKeys (e ∷ h) = IsOfPressedKey e h × ReleasesPressedKeys h
 
--- After each list without loads a modifier is on only while a key that bears it is pressed. So none is on once no key
--- is pressed.
-abbrev pub NeverSticks : MapValue → Type 0
-NeverSticks m =
-    (ms : Maps) (h : List Event) → ms.first ≡ m → HasKeys h → HasNoLoads h
-    → IsOnOnlyWhilePressed m h (λ i. is_on_after ms i h) × IsOffOnceQuiet h (λ i. is_on_after ms i h)
+-- After each list a modifier is on only while a key is pressed that bears it in the map in force. So none is on once no
+-- key is pressed.
+abbrev pub NeverSticksUnder : Under → Type 0
+NeverSticksUnder u =
+    (ms : Maps) (h : List Event) → AreUnder u ms → HasKeys h → Admits u h
+    → IsOnOnlyWhilePressed (in_force ms h) h (λ i. is_on_after ms i h) × IsOffOnceQuiet h (λ i. is_on_after ms i h)
 
 -- Paths of at most p presses lead from the state to more than n distinct states in which the scroll lock, which picks
 -- no cell, is off.
@@ -72,9 +83,10 @@ ReachesMoreThanFrom u s n p =
 abbrev pub ReachesMoreThan : Under → ℕ → ℕ → Type 0
 ReachesMoreThan u n p = ReachesMoreThanFrom u start n p
 
--- each list of presses, releases and resets after which a modifier sticks has more than p presses
-abbrev pub NoneSticksBy : MapValue → ℕ → Type 0
-NoneSticksBy m p = (g : List Event) → HasKeys g → HasNoLoads g → (i : Modifier) → SticksAfter m g i → p < presses g
+-- each list after which a modifier sticks has more than p presses
+abbrev pub NoneSticksUnderBy : Under → ℕ → Type 0
+NoneSticksUnderBy u p =
+    (g : List Event) → HasKeys g → Admits u g → (i : Modifier) → SticksUnder u g i → p < presses g
 
 -- these modifiers are on after the list, in their order, and no others
 abbrev pub AreOnAfter : Maps → List Event → List Modifier → Type 0
@@ -84,53 +96,39 @@ AreOnAfter ms h on = on ≡ filter (λ i. is_on_after ms i h) modifiers
 abbrev pub state_limit : ℕ
 state_limit = 65536
 
--- what each answer says of the keymap
-abbrev pub IsAnswer : MapValue → Sticking → Type 0
-IsAnswer m (Sticks events on) =
-    LeavesOn m (reverse events.items) × HasFewestPresses m (reverse events.items)
+-- what each answer of a search says
+abbrev pub IsAnswerUnder : Under → Sticking → Type 0
+IsAnswerUnder u (Sticks events on) =
+    LeavesOnUnder u (reverse events.items) × HasFewestUnder u (reverse events.items)
     × ReleasesPressedKeys (reverse events.items)
-    × ((ms : Maps) → ms.first ≡ m → AreOnAfter ms (reverse events.items) on.items)
-IsAnswer m Never = NeverSticks m
-IsAnswer m (Undecided p) = ReachesMoreThan (alone m) state_limit p × NoneSticksBy m p
+    × ((ms : Maps) → AreUnder u ms → AreOnAfter ms (reverse events.items) on.items)
+IsAnswerUnder u Never = NeverSticksUnder u
+IsAnswerUnder u (Undecided p) = ReachesMoreThan u state_limit p × NoneSticksUnderBy u p
 
--- the same with loads that exchange two keymaps, of which the first is in force before any
-abbrev pub SticksBetween : Maps → List Event → Modifier → Type 0
-SticksBetween ms h i = IsQuiet h × (is_on_after ms i h ≡ true)
+-- of one keymap, without loads, and of two that loads exchange, of which the first is in force before any
+abbrev pub IsAnswer : MapValue → Sticking → Type 0
+IsAnswer m a = IsAnswerUnder (alone m) a
 
--- presses and releases of keys and loads, without resets
-abbrev pub IsNoReset : Event → Type 0
-IsNoReset (Press k) = Unit {0}
-IsNoReset (Release k) = Unit {0}
-IsNoReset Reset = ⊥
-IsNoReset Load = Unit {0}
-
--- some modifier sticks after this list of presses, releases and loads
-abbrev pub LeavesOnBetween : Maps → List Event → Type 0
-LeavesOnBetween ms h = HasKeys h × All IsNoReset h × ((i : Modifier) × SticksBetween ms h i)
-
--- no list of presses, releases, resets and loads after which a modifier sticks has fewer presses than this one
-abbrev pub HasFewestPressesBetween : Maps → List Event → Type 0
-HasFewestPressesBetween ms h =
-    (g : List Event) → HasKeys g → (i : Modifier) → SticksBetween ms g i → presses h ≤ presses g
-
--- After each list a modifier is on only while a key is pressed that bears it in the keymap in force. So none is on once
--- no key is pressed.
-abbrev pub NeverSticksBetween : Maps → Type 0
-NeverSticksBetween ms =
-    (h : List Event) → HasKeys h
-    → IsOnOnlyWhilePressed (in_force ms h) h (λ i. is_on_after ms i h) × IsOffOnceQuiet h (λ i. is_on_after ms i h)
-
--- each list of presses, releases, resets and loads after which a modifier sticks has more than p presses
-abbrev pub NoneSticksBetweenBy : Maps → ℕ → Type 0
-NoneSticksBetweenBy ms p = (g : List Event) → HasKeys g → (i : Modifier) → SticksBetween ms g i → p < presses g
-
--- what each answer says of the two keymaps
 abbrev pub IsAnswerBetween : Maps → Sticking → Type 0
-IsAnswerBetween ms (Sticks events on) =
-    LeavesOnBetween ms (reverse events.items) × HasFewestPressesBetween ms (reverse events.items)
-    × ReleasesPressedKeys (reverse events.items) × AreOnAfter ms (reverse events.items) on.items
-IsAnswerBetween ms Never = NeverSticksBetween ms
-IsAnswerBetween ms (Undecided p) = ReachesMoreThan (with_loads ms) state_limit p × NoneSticksBetweenBy ms p
+IsAnswerBetween ms a = IsAnswerUnder (with_loads ms) a
+
+abbrev pub LeavesOn : MapValue → List Event → Type 0
+LeavesOn m h = LeavesOnUnder (alone m) h
+
+abbrev pub LeavesOnBetween : Maps → List Event → Type 0
+LeavesOnBetween ms h = LeavesOnUnder (with_loads ms) h
+
+abbrev pub HasFewestPresses : MapValue → List Event → Type 0
+HasFewestPresses m h = HasFewestUnder (alone m) h
+
+abbrev pub HasFewestPressesBetween : Maps → List Event → Type 0
+HasFewestPressesBetween ms h = HasFewestUnder (with_loads ms) h
+
+abbrev pub NeverSticks : MapValue → Type 0
+NeverSticks m = NeverSticksUnder (alone m)
+
+abbrev pub NeverSticksBetween : Maps → Type 0
+NeverSticksBetween ms = NeverSticksUnder (with_loads ms)
 
 -- no path leads to where a holder looks up a character
 abbrev pub NeverForgets : Under → Type 0
@@ -138,25 +136,15 @@ NeverForgets u = (path : List Move) → IsPath u path → IsForgetful u (state_a
 
 -- If no path leads to where a holder looks up a character, no modifier sticks.
 abbrev pub NeverSticksUnlessReached : Type 0
-NeverSticksUnlessReached = (m : MapValue) → NeverForgets (alone m) → NeverSticks m
-
-abbrev pub NeverSticksBetweenUnlessReached : Type 0
-NeverSticksBetweenUnlessReached = (ms : Maps) → NeverForgets (with_loads ms) → NeverSticksBetween ms
+NeverSticksUnlessReached = (u : Under) → NeverForgets u → NeverSticksUnder u
 
 -- If a path leads to where the holder of a modifier looks up a character, that modifier sticks after the path's script.
 abbrev pub SticksIfReached : Type 0
 SticksIfReached =
-    (m : MapValue) (path : List Move) → IsPath (alone m) path → (i : Modifier) (k : ℕ)
-    → HolderForgets (alone m) (state_after (alone m) path) i k
-    → HasKeys (script_of_path (alone m) path k) × All IsPressOrRelease (script_of_path (alone m) path k)
-    × SticksAfter m (script_of_path (alone m) path k) i
-
-abbrev pub SticksBetweenIfReached : Type 0
-SticksBetweenIfReached =
-    (ms : Maps) (path : List Move) → IsPath (with_loads ms) path → (i : Modifier) (k : ℕ)
-    → HolderForgets (with_loads ms) (state_after (with_loads ms) path) i k
-    → HasKeys (script_of_path (with_loads ms) path k) × All IsNoReset (script_of_path (with_loads ms) path k)
-    × SticksBetween ms (script_of_path (with_loads ms) path k) i
+    (u : Under) (path : List Move) → IsPath u path → (i : Modifier) (k : ℕ)
+    → HolderForgets u (state_after u path) i k
+    → HasKeys (script_of_path u path k) × All (IsSent u.has_loads) (script_of_path u path k)
+    × SticksUnder u (script_of_path u path k) i
 
 -- Loads between two safe keymaps leave no modifier on, so the search neither comes to where a holder looks up a
 -- character nor answers that one sticks.

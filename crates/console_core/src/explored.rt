@@ -45,8 +45,8 @@ pub struct Tap {
 #[derive(Drop)]
 pub struct Explored<'m> {
     pub maps: Keymaps<'m>,
-    met: Met,
-    routes: Routes,
+    pub(crate) met: Met,
+    pub(crate) routes: Routes,
     /// Whether these are all states. Else they are more than 65,536.
     pub is_complete: bool,
 }
@@ -67,10 +67,9 @@ pub fn explore<'m>(
         origin: *origin,
     };
     let mut met = IndexMap::new(alloc);
-    let is_complete = match meet_all(alloc, &mut met, &maps, false)? {
+    let is_complete = match meet_all(alloc, &mut met, &maps)? {
         End::Complete => true,
         End::TooMany(_) => false,
-        End::AtStuck(_) => unreachable!(),
     };
     let routes = routes_home(alloc, &met, &maps)?;
     Ok(Explored {

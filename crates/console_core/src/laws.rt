@@ -11,7 +11,6 @@ ghost use Rattle.console_core.specs.Reading.{HeldByPositions, LockedByCount, Rem
 ghost use Rattle.console_core.specs.Reading.{NothingRememberedByPositions, PendingByRun, PressedByPositions};
 ghost use Rattle.console_core.specs.Reading.{ResolvedAtPrefix, AnswersByCases};
 ghost use Rattle.console_core.specs.Sticking.{NeverSticksUnlessReached, SticksIfReached};
-ghost use Rattle.console_core.specs.Sticking.{NeverSticksBetweenUnlessReached, SticksBetweenIfReached};
 ghost use Rattle.console_core.specs.Sticking.{SafeNeverSticksBetween, SafeNeverForgets, SafeNeverAnswersSticks};
 ghost use Rattle.console_core.specs.Sticking.{AnswersAlikeOfOneKeymap};
 ghost use Rattle.console_core.specs.Sights.{LooksAreSelected, SightsAreReachable, ReachableIsSeen};
@@ -59,19 +58,12 @@ pub fn modifiers_without_traps_follow_keys()
     ensures { OnOnlyWhilePressedWithoutTraps }
 {}
 
-/// A keymap can leave a modifier on while no key is pressed exactly if a path of moves leads to a state where a key
-/// that holds a modifier looks up a character: then the events along the path, a repeat of that key and the releases do
-/// so.
+/// A keymap, or two that loads exchange, can leave a modifier on while no key is pressed exactly if a path of moves
+/// leads to a state where a key that holds a modifier looks up a character: then the events along the path, a repeat of
+/// that key and the releases do so.
 pub fn modifiers_stick_where_paths_lead()
     ensures never { NeverSticksUnlessReached }
     ensures sticks { SticksIfReached }
-{}
-
-/// Between two keymaps that loads exchange a modifier can stay on exactly if a path of moves and loads leads to such a
-/// state.
-pub fn modifiers_stick_between_where_paths_lead()
-    ensures never { NeverSticksBetweenUnlessReached }
-    ensures sticks { SticksBetweenIfReached }
 {}
 
 /// After every list of events between two safe keymaps a modifier is on only while a key is pressed that bears it in

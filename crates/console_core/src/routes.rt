@@ -195,18 +195,3 @@ pub fn has_route(routes: &Routes, held: &Held) -> bool
 {
     routes.contains_key(held)
 }
-
-/// Whether a route begins at each state that was met.
-pub fn has_all(routes: &Routes, met: &Met) -> bool
-    ensures all { result ≡ true → (j : ℕ) (x : Entry) → slice_get met.now.entries j ≡ Some x
-        → HasRoute routes.now.entries (state_of x.0) }
-    ensures one { result ≡ false → (j : ℕ) × (x : Entry) × (slice_get met.now.entries j ≡ Some x)
-        × (HasRoute routes.now.entries (state_of x.0) → ⊥) }
-{
-    for place in 0..met.len() {
-        if !routes.contains_key(&state_at(met, place)) {
-            return false;
-        }
-    }
-    true
-}

@@ -1,19 +1,17 @@
 //! The search for sticking modifiers over the states that presses, releases and loads lead to, by the number of
 //! presses.
-ghost use Rattle.std.specs.Prelude.{◌≡◌, ◌+◌, ◌<◌, ◌≤◌, ◌⊎◌, ◌++◌, ◌∷◌, ℕ, [], true, None, Some, length, reverse};
+ghost use Rattle.std.specs.Prelude.{◌≡◌, ◌+◌, ◌<◌, ◌≤◌, ℕ, [], None, Some, length, reverse};
 ghost use Rattle.std.specs.Prelude.{slice_get, OnOk, IfOk, IfSome, MatchOption, false};
 ghost use Rattle.keymap_core.specs.Numbers.{key_count};
 ghost use Rattle.keymap_core.specs.declared.action.Modifier.{Modifier as ModifierValue};
+ghost use Rattle.keymap_core.specs.declared.action.Lock.TheVariants.{Scroll};
 ghost use Rattle.console_core.specs.declared.held.Held.{Held as HeldValue};
 ghost use Rattle.console_core.specs.Inner.Searching.{state_of, under_of, origin_of, IsMetBy, AreWithin, Grows, IsStep};
-ghost use Rattle.console_core.specs.Inner.Searching.{IsLetGoMet};
-ghost use Rattle.console_core.specs.Inner.Searching.{IsExchangeMet, ArePressesMet, AreAdded, Searched, AreInOrder};
-ghost use Rattle.console_core.specs.Inner.Searching.{IsStuck, AreSafe, HasEnded, GoBack, IsScriptTo};
-ghost use Rattle.console_core.specs.Inner.Searching.{IsAnswerUnder, HasMovingKeys};
+ghost use Rattle.console_core.specs.Inner.Searching.{AreMet, AreAdded, Searched, AreInOrder, HasMovingKeys, HasEnded};
+ghost use Rattle.console_core.specs.Inner.Searching.{IsStuck, AreSafe, GoBack, IsScriptTo};
 ghost use Rattle.console_core.specs.History.{between};
-ghost use Rattle.console_core.specs.Moves.{Under, start};
-ghost use Rattle.keymap_core.specs.declared.action.Lock.TheVariants.{Scroll};
-ghost use Rattle.console_core.specs.Sticking.{IsAnswer, IsAnswerBetween, ReachesMoreThan, state_limit};
+ghost use Rattle.console_core.specs.Moves.{Under, Holds, with_holder, start};
+ghost use Rattle.console_core.specs.Sticking.{IsAnswer, IsAnswerBetween, IsAnswerUnder, ReachesMoreThan, state_limit};
 
 use crate::event::Event;
 use crate::held::{Held, Keymaps, Move, Step};
@@ -45,8 +43,6 @@ pub struct Stuck {
 /// How a search ended.
 #[derive(Clone, Copy, Debug, PartialEq, Eq)]
 pub enum End {
-    /// At a place where a key that holds a modifier looks up a character.
-    AtStuck(Stuck),
     /// All states were met.
     Complete,
     /// More states were met than the search goes over, by at most so many presses.
@@ -91,7 +87,8 @@ fn meet(met: &mut Met, place: usize, step: Option<Step>, presses: usize) -> Resu
 /// Adds where letting go of the modifiers leads.
 fn meet_let_gos(met: &mut Met, place: usize, held: &Held, presses: usize) -> Result<(), AllocError>
     requires { AreWithin met.old.entries presses }
-    ensures met { OnOk result ((i : ModifierValue) → IsLetGoMet met.new.entries presses (state_of held.now) i) }
+    ensures met { OnOk result ((k : ℕ) (i : ModifierValue) → Holds (state_of held.now) k i
+        → IsMetBy met.new.entries presses (with_holder (state_of held.now) i None)) }
     ensures within { OnOk result (AreWithin met.new.entries presses) }
     ensures added { OnOk result ((u : Under)
         → AreAdded u (state_of held.now) place 0 presses met.old.entries met.new.entries) }
@@ -111,8 +108,7 @@ pub fn meet_frees(
     presses: usize,
 ) -> Result<(), AllocError>
     requires { AreWithin met.old.entries presses }
-    ensures met { OnOk result ((i : ModifierValue) → IsLetGoMet met.new.entries presses (state_of held.now) i) }
-    ensures exchanged { OnOk result (IsExchangeMet (under_of maps.now) met.new.entries presses (state_of held.now)) }
+    ensures met { OnOk result (AreMet (under_of maps.now) met.new.entries 0 presses (state_of held.now)) }
     ensures added { OnOk result (AreAdded (under_of maps.now) (state_of held.now) place 0 presses met.old.entries
         met.new.entries) }
 {
@@ -132,8 +128,7 @@ pub fn meet_presses(
 ) -> Result<(), AllocError>
     requires within { AreWithin met.old.entries presses }
     requires keys { HasMovingKeys (under_of maps.now) keys.now key_count }
-    ensures met { OnOk result ((k : ℕ) → k < key_count
-        → ArePressesMet (under_of maps.now) met.new.entries presses (state_of held.now) k) }
+    ensures met { OnOk result (AreMet (under_of maps.now) met.new.entries 1 presses (state_of held.now)) }
     ensures added { OnOk result (AreAdded (under_of maps.now) (state_of held.now) place 1 presses met.old.entries
         met.new.entries) }
 {
@@ -143,43 +138,25 @@ pub fn meet_presses(
     Ok(())
 }
 
-/// Adds where letting go and loads lead from the states of a level, which as many presses lead to. A search that stops
-/// does so at a state where a key that holds a modifier looks up a character, and tells which. Stops once too many were
-/// met.
-fn close(
-    met: &mut Met,
-    maps: &Keymaps,
-    level: usize,
-    presses: usize,
-    stops: bool,
-) -> Result<Option<Stuck>, AllocError>
+/// Adds where letting go and loads lead from the states of a level, which as many presses lead to. Stops once too many
+/// were met.
+fn close(met: &mut Met, maps: &Keymaps, level: usize, presses: usize) -> Result<(), AllocError>
     requires searched { Searched (under_of maps.now) (origin_of maps.now) met.old.entries level level }
-    requires safe { stops ≡ true → AreSafe (under_of maps.now) met.old.entries level }
     requires order { AreInOrder met.old.entries level presses }
     requires below { level ≤ length met.old.entries }
     ensures searched { OnOk result (Searched (under_of maps.now) (origin_of maps.now) met.new.entries level level) }
     ensures order { OnOk result (AreInOrder met.new.entries level presses) }
     ensures grown { OnOk result (Grows met.old.entries met.new.entries) }
-    ensures closed { IfOk result (λ stuck. stuck ≡ None → length met.new.entries ≤ state_limit
+    ensures closed { OnOk result (length met.new.entries ≤ state_limit
         → Searched (under_of maps.now) (origin_of maps.now) met.new.entries level (length met.new.entries)) }
-    ensures stuck { IfOk result (λ stuck. IfSome stuck (λ x. (stops ≡ true) × IsStuck (under_of maps.now)
-        met.new.entries x.place x.key)) }
-    ensures safe { IfOk result (λ stuck. stops ≡ true → AreSafe (under_of maps.now) met.new.entries level) }
-    ensures all_safe { IfOk result (λ stuck. stuck ≡ None → length met.new.entries ≤ state_limit → stops ≡ true
-        → AreSafe (under_of maps.now) met.new.entries (length met.new.entries)) }
 {
     let mut place = level;
     while place < met.len() && met.len() <= BOUND {
         let (held, _) = entry(met, place);
-        if stops {
-            if let Some(key) = held.forgetful(maps) {
-                return Ok(Some(Stuck { place, key }));
-            }
-        }
         meet_frees(met, maps, place, &held, presses)?;
         place += 1;
     }
-    Ok(None)
+    Ok(())
 }
 
 /// Adds where presses lead from the states of a level, which as many presses lead to. Stops once too many were met.
@@ -235,17 +212,11 @@ fn script(alloc: Global, met: &Met, stuck: Stuck) -> Result<Vec<Event>, AllocErr
     Ok(events)
 }
 
-/// Meets the states level by level. A search that stops does so at the first state where a key that holds a modifier
-/// looks up a character; one that doesn't goes on behind such states.
-pub fn meet_all(
-    alloc: Global,
-    met: &mut Met,
-    maps: &Keymaps,
-    stops: bool,
-) -> Result<End, AllocError>
+/// Meets the states level by level, in the order of the fewest presses.
+pub fn meet_all(alloc: Global, met: &mut Met, maps: &Keymaps) -> Result<End, AllocError>
     requires empty { met.old.entries ≡ [] }
     requires scroll { (origin_of maps.now).is_locked Scroll ≡ false }
-    ensures { IfOk result (λ end. HasEnded (under_of maps.now) (origin_of maps.now) stops met.new.entries end) }
+    ensures { IfOk result (λ end. HasEnded (under_of maps.now) (origin_of maps.now) met.new.entries end) }
 {
     let keys = moving_keys(alloc, maps)?;
     met.insert(
@@ -258,9 +229,7 @@ pub fn meet_all(
     let mut level = 0;
     let mut presses = 0;
     while level < met.len() {
-        if let Some(stuck) = close(met, maps, level, presses, stops)? {
-            return Ok(End::AtStuck(stuck));
-        }
+        close(met, maps, level, presses)?;
         if met.len() > BOUND {
             return Ok(End::TooMany(presses));
         }
@@ -282,11 +251,25 @@ pub fn all_states(alloc: Global, maps: &Keymaps) -> Result<Option<Met>, AllocErr
         (λ met. Searched (under_of maps.now) start met.entries (length met.entries) (length met.entries))) }
 {
     let mut met = IndexMap::new(alloc);
-    match meet_all(alloc, &mut met, maps, false)? {
+    match meet_all(alloc, &mut met, maps)? {
         End::Complete => Ok(Some(met)),
         End::TooMany(_) => Ok(None),
-        End::AtStuck(_) => unreachable!(),
     }
+}
+
+/// The first place where a key that holds a modifier looks up a character.
+pub fn first_stuck(met: &Met, maps: &Keymaps) -> Option<Stuck>
+    ensures { MatchOption result (AreSafe (under_of maps.now) met.now.entries (length met.now.entries))
+        (λ x. IsStuck (under_of maps.now) met.now.entries x.place x.key
+        × AreSafe (under_of maps.now) met.now.entries x.place) }
+{
+    for place in 0..met.len() {
+        let (held, _) = entry(met, place);
+        if let Some(key) = held.forgetful(maps) {
+            return Some(Stuck { place, key });
+        }
+    }
+    None
 }
 
 /// Decides whether presses, releases and, where there are any, loads can leave a modifier on while no key is pressed.
@@ -295,12 +278,13 @@ fn decide(alloc: Global, maps: &Keymaps) -> Result<Sticking, AllocError>
     ensures { IfOk result (λ answer. IsAnswerUnder (under_of maps.now) answer) }
 {
     let mut met = IndexMap::new(alloc);
-    match meet_all(alloc, &mut met, maps, true)? {
-        End::AtStuck(stuck) => {
-            let events = script(alloc, &met, stuck)?;
-            let modifiers = left_on(alloc, maps, events.as_slice())?;
-            Ok(Sticking::Sticks { events, modifiers })
-        }
+    let end = meet_all(alloc, &mut met, maps)?;
+    if let Some(stuck) = first_stuck(&met, maps) {
+        let events = script(alloc, &met, stuck)?;
+        let modifiers = left_on(alloc, maps, events.as_slice())?;
+        return Ok(Sticking::Sticks { events, modifiers });
+    }
+    match end {
         End::Complete => Ok(Sticking::Never),
         End::TooMany(presses) => Ok(Sticking::Undecided(presses)),
     }

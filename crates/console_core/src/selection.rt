@@ -84,8 +84,8 @@ impl Selection {
         }
     }
 
-    /// A key whose press sees it, where a pair's accent is pending.
-    pub fn key_seeing(self, map: &KeyMap, sight: Sight) -> Option<KeyCode>
+    /// The first key whose press sees it, where a pair's accent is pending.
+    fn first_seeing(self, map: &KeyMap, sight: Sight) -> Option<KeyCode>
         ensures { MatchOption result ((k : ℕ) → k < key_count → SeesBy map.now self k sight → ⊥)
             (λ k. (k < key_count) × SeesBy map.now self k sight) }
     {
@@ -98,19 +98,41 @@ impl Selection {
         None
     }
 
-    /// Whether a press of some key sees it, where a pair's accent is pending. Of a cell or a lock setting only the key
-    /// of the slot can.
+    /// The key of the slot, if its press sees it, where a pair's accent is pending.
+    fn slot_seeing(self, map: &KeyMap, slot: u8, sight: Sight) -> Option<KeyCode>
+        ensures { MatchOption result
+            ((k : ℕ) → k < key_count → slot_in self k ≡ slot → SeesBy map.now self k sight → ⊥)
+            (λ k. (k < key_count) × SeesBy map.now self k sight) }
+    {
+        let key = key_of(slot);
+        if self.sees(map, key, sight) {
+            Some(key)
+        } else {
+            None
+        }
+    }
+
+    /// A key whose press sees it, where a pair's accent is pending. Of a cell or a lock setting only the key of the slot
+    /// can.
+    pub fn key_seeing(self, map: &KeyMap, sight: Sight) -> Option<KeyCode>
+        ensures { MatchOption result ((k : ℕ) → k < key_count → SeesBy map.now self k sight → ⊥)
+            (λ k. (k < key_count) × SeesBy map.now self k sight) }
+    {
+        match sight {
+            Sight::Cell { slot, .. } => self.slot_seeing(map, slot, sight),
+            Sight::Locks { slot, .. } => self.slot_seeing(map, slot, sight),
+            Sight::Pair { .. } => self.first_seeing(map, sight),
+        }
+    }
+
+    /// Whether a press of some key sees it, where a pair's accent is pending.
     pub fn is_seeing(self, map: &KeyMap, sight: Sight) -> bool
         ensures seen { result ≡ true → (k : ℕ) × (k < key_count) × SeesBy map.now self k sight }
         ensures unseen { result ≡ false → (k : ℕ) → k < key_count → SeesBy map.now self k sight → ⊥ }
     {
-        match sight {
-            Sight::Cell { slot, .. } => self.sees(map, key_of(slot), sight),
-            Sight::Locks { slot, .. } => self.sees(map, key_of(slot), sight),
-            Sight::Pair { .. } => match self.key_seeing(map, sight) {
-                Some(_) => true,
-                None => false,
-            },
+        match self.key_seeing(map, sight) {
+            Some(_) => true,
+            None => false,
         }
     }
 }

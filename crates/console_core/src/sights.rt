@@ -1,15 +1,15 @@
 //! What presses of keys can see: what is noted of the states that the search meets.
-ghost use Rattle.std.specs.Prelude.{◌≡◌, ℕ, false, true, Some, slice_get, OnOk, IfOk, MatchOption};
+ghost use Rattle.std.specs.Prelude.{◌≡◌, ℕ, false, true, OnOk, IfOk, MatchOption};
 ghost use Rattle.std.specs.List.{Contains};
-ghost use Rattle.console_core.specs.Moves.{alone, IsForgetful};
+ghost use Rattle.console_core.specs.Moves.{alone};
 ghost use Rattle.console_core.specs.Sticking.{ReachesMoreThan, state_limit};
 ghost use Rattle.console_core.specs.Sights.{AreSightsOf, IsReachable, can_see, is_selected, is_composed};
-ghost use Rattle.console_core.specs.Inner.Searching.{state_of, under_of, Entry, HasMetAll};
+ghost use Rattle.console_core.specs.Inner.Searching.{HasMetAll};
 ghost use Rattle.console_core.specs.Inner.Noting.{IsWith, AreSelectionsOf};
 
 use crate::held::{Held, Keymaps};
 use crate::offers::offers_of;
-use crate::search::{Met, all_states, entry};
+use crate::search::{Met, all_states, entry, first_stuck};
 use crate::selection::{Selection, Sight};
 use keymap_core::KeyMap;
 use std::alloc::{AllocError, Global};
@@ -67,23 +67,6 @@ pub fn selections_of(alloc: Global, met: &Met) -> Result<Vec<Selection>, AllocEr
     Ok(selections)
 }
 
-/// Whether a key that holds a modifier looks up a character in a state that was met.
-fn forgets_in(met: &Met, maps: &Keymaps) -> bool
-    ensures some { result ≡ true → (j : ℕ) × (x : Entry) × (slice_get met.now.entries j ≡ Some x)
-        × IsForgetful (under_of maps.now) (state_of x.0) }
-    ensures none { result ≡ false → (j : ℕ) (x : Entry) → slice_get met.now.entries j ≡ Some x
-        → IsForgetful (under_of maps.now) (state_of x.0) → ⊥ }
-{
-    for place in 0..met.len() {
-        let (held, _) = entry(met, place);
-        match held.forgetful(maps) {
-            Some(_) => return true,
-            None => {}
-        }
-    }
-    false
-}
-
 /// Whether a press under one of the selections sees it, where a pair's accent is pending.
 fn is_selected(map: &KeyMap, selections: &[Selection], sight: Sight) -> bool
     ensures { result ≡ is_selected map.now selections.now sight }
@@ -132,7 +115,7 @@ fn noted(alloc: Global, met: &Met, maps: &Keymaps) -> Result<Sights, AllocError>
     Ok(Sights {
         selections,
         offers,
-        forgets: forgets_in(met, maps),
+        forgets: first_stuck(met, maps).is_some(),
     })
 }
 

@@ -4,9 +4,10 @@ ghost use Rattle.std.specs.Prelude.{◌≡◌, ◌≤◌, ◌++◌, ◌∷◌, [
 ghost use Rattle.std.specs.Prelude.{MatchOption};
 ghost use Rattle.keymap_core.specs.Maps.{MapValue};
 ghost use Rattle.console_core.specs.Typing.{AreTyped, IsTypingError};
-ghost use Rattle.console_core.specs.Inner.Exploring.{AreKnown, AreViews, HasView, IsExplored, IsOrigin, IsStand};
+ghost use Rattle.console_core.specs.Inner.Exploring.{AreKnown, AreViews, IsExplored, IsOrigin, IsStand};
 ghost use Rattle.console_core.specs.Inner.Exploring.{IsView};
 ghost use Rattle.console_core.specs.Inner.Exploring.{Leads, LeadsByTap, TypesOne};
+ghost use Rattle.console_core.specs.Inner.Routes.{HasEntry};
 ghost use Rattle.console_core.specs.Inner.Searching.{state_of};
 
 use crate::event::Event;
@@ -75,7 +76,7 @@ fn see<'m>(
     requires views { AreViews map.now views.old.entries }
     requires origin { IsOrigin (state_of from.now) }
     ensures views { OnOk result (AreViews map.now views.new.entries) }
-    ensures seen { OnOk result (HasView views.new.entries (state_of from.now)) }
+    ensures seen { OnOk result (HasEntry views.new.entries (state_of from.now)) }
 {
     if !views.contains_key(from) {
         let view = explore(alloc, map, from)?;
@@ -86,7 +87,7 @@ fn see<'m>(
 
 /// What was explored from the state.
 fn view_of<'t, 'm>(views: &'t Views<'m>, from: &Held) -> &'t Explored<'m>
-    requires { HasView views.now.entries (state_of from.now) }
+    requires { HasEntry views.now.entries (state_of from.now) }
     ensures { (m : MapValue) → AreViews m views.now.entries → IsView m (state_of from.now) result.now }
 {
     match views.get(from) {

@@ -1,9 +1,7 @@
 -- The bearer of an action among one more key.
-use Prim.Native.Nat.{suc}
-use Rattle.std.proofs.Common.{◌≡◌, ℕ, ◌+◌, Bool, true, false, refl, ap, sym, ◌∙◌, add-one, if◌then◌else◌}
-use Rattle.keymap_check.specs.Types.{Holding, Bearer, Nobody}
-use Rattle.keymap_core.specs.Maps.{MapValue}
-use Rattle.keymap_check.specs.Computed.{bearer_below, bearer_with, next_bearer, bears_holding}
+use Rattle.keymap_check.proofs.Common.{suc, ◌≡◌, ℕ, ◌+◌, Bool, true, false, refl, ap, sym, ◌∙◌, add-one, if◌then◌else◌}
+use Rattle.keymap_check.proofs.Common.{Holding, Bearer, Nobody, MapValue, bearer_below, bearer_with, next_bearer}
+use Rattle.keymap_check.proofs.Common.{bears_holding}
 
 -- among no keys nobody bears
 pub bearer_below-start : (m : MapValue) (a : Holding) → bearer_below m a 0 ≡ Nobody

@@ -1,36 +1,32 @@
 -- The bearers that are found, and the keys that bear.
-use Prim.Native.Nat.{zero, suc}
-use Rattle.std.proofs.Common.{◌≡◌, ◌≢◌, ℕ, ◌<◌, Bool, true, false, not, Option, Some, None, refl, ap, subst, sym, ◌∙◌}
-use Rattle.std.proofs.Common.{inl, inr, if◌then◌else◌, arith}
-use Rattle.std.proofs.lemmas.Bool.{cases_Bool, true≢false}
-use Rattle.std.specs.Option.{is_some, is_none}
-use Rattle.keymap_core.specs.declared.action.Modifier.TheVariants as modifier
-use Rattle.keymap_check.specs.Types.{Lock, Holding, Cell, Act, Bearer, Nobody, Throughout, Sole, Several}
-use Rattle.keymap_core.specs.declared.action.Lock.TheVariants as lock
-use Rattle.keymap_core.specs.declared.action.Holding.TheVariants as holding
-use Rattle.keymap_core.specs.Actions.{holding_action}
-use Rattle.keymap_core.specs.Maps.{MapValue}
-use Rattle.keymap_core.specs.Bearers.{IsCellOf, Bears, IsAlone, BearsThroughout}
-use Rattle.keymap_core.proofs.Below.{below-suc}
-use Rattle.console_core.specs.Plain.{IsPlainFor, IsPlain}
-use Rattle.console_core.specs.Headline.{IsSteady, IsActing}
-use Rattle.keymap_check.specs.declared.kind.Kind.TheVariants as kind
-use Rattle.keymap_check.specs.Cells.{first_place, cell_of, is_holding, is_character_or_nop}
-use Rattle.keymap_check.specs.Computed.{bears_holding, bearer_by, bearer_with, next_bearer, bearer_below, bearer_of}
-use Rattle.keymap_check.specs.Computed.{is_steady_by}
-use Rattle.keymap_check.specs.Report.{IsBearer, ReportValue, bearer_in, is_plain_bearer, picks_a_cell, HasPlainBearers}
-use Rattle.keymap_check.specs.Report.{BearersAreComputed, SteadyLocksAreComputed}
+use Rattle.keymap_check.proofs.Common.{zero, suc, ◌≡◌, ◌≢◌, ℕ, ◌<◌, Bool, true, false, not, Option, Some, None, refl}
+use Rattle.keymap_check.proofs.Common.{ap, subst, sym, ◌∙◌, inl, inr, if◌then◌else◌, arith, true≢false, is_some, Lock}
+use Rattle.keymap_check.proofs.Common.{Holding, Cell, Act, Bearer, Nobody, holding_action, MapValue, IsCellOf, Bears}
+use Rattle.keymap_check.proofs.Common.{BearsThroughout, below-suc, IsPlain, IsSteady, IsActing, first_place, cell_of}
+use Rattle.keymap_check.proofs.Common.{is_holding, bears_holding, bearer_with, next_bearer, bearer_below, bearer_of}
+use Rattle.keymap_check.proofs.Common.{IsBearer, ReportValue, bearer_in}
+use Rattle.std.proofs.lemmas.Bool.{cases_Bool}
+use Rattle.std.specs.Option.{is_none}
+use Rattle.keymap_check.specs.Types.{Throughout, Sole, Several}
+use Rattle.keymap_core.specs.Bearers.{IsAlone}
+use Rattle.console_core.specs.Plain.{IsPlainFor}
+use Rattle.keymap_check.specs.Computed.{bearer_by, is_steady_by}
+use Rattle.keymap_check.specs.Report.{is_plain_bearer, picks_a_cell, HasPlainBearers, BearersAreComputed}
+use Rattle.keymap_check.specs.Report.{SteadyLocksAreComputed}
 use Rattle.keymap_check.proofs.Same.{is_holding-true, is_holding-refl, not_holding-false, not_acting, acting-not}
 use Rattle.keymap_check.proofs.Places.{first_place-cell, no_place-cell}
 use Rattle.keymap_check.proofs.Bearers.{bearer_below-start, bearer_below-more}
+use Rattle.keymap_core.specs.declared.action.Modifier.TheVariants as modifier
+use Rattle.keymap_core.specs.declared.action.Lock.TheVariants as lock
+use Rattle.keymap_core.specs.declared.action.Holding.TheVariants as holding
+use Rattle.keymap_check.specs.declared.kind.Kind.TheVariants as kind
 
 -- a key bears an action exactly if the test says so
 bears_by : (m : MapValue) (k : ℕ) (a : Holding) (o : Option ℕ) → first_place m (kind.Holding a) k ≡ o
     → is_some o ≡ true → Bears m k a
 bears_by m k a None e t = absurd (true≢false (sym t))
 bears_by m k a (Some p) e t =
-    let s : IsCellOf m k (cell_of m k p) × (is_holding a (cell_of m k p) ≡ true) =
-    first_place-cell m (kind.Holding a) k p e in
+    let s = first_place-cell m (kind.Holding a) k p e in
     subst (λ x. IsCellOf m k x) (is_holding-true a (cell_of m k p) s.1) s.0
 
 -- a key that passes the test bears the holding action
@@ -167,8 +163,7 @@ acting_by : (m : MapValue) (k : ℕ) (o : Option ℕ) → first_place m kind.Cha
     → ((x : Cell) → IsCellOf m k x → IsActing x) → is_none o ≡ true
 acting_by m k None e f = refl
 acting_by m k (Some p) e f =
-    let s : IsCellOf m k (cell_of m k p) × (is_character_or_nop (cell_of m k p) ≡ true) =
-    first_place-cell m kind.CharacterOrNop k p e in
+    let s = first_place-cell m kind.CharacterOrNop k p e in
     absurd (true≢false (sym s.1 ∙ acting-not (cell_of m k p) (f (cell_of m k p) s.0)))
 
 -- a single bearer is steady exactly if no character and no nop is found on it

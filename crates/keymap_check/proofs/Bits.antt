@@ -1,16 +1,13 @@
 -- The bits of the cell that is looked up, where no lock is on.
-use Rattle.std.proofs.Common.{◌≡◌, ℕ, true, ◌||◌, List, [], ◌∷◌, None, refl, ap, ◌∙◌}
-use Rattle.keymap_core.specs.declared.action.Action.TheVariants as act
-use Rattle.keymap_check.specs.Types.{Modifier, LeftShift, RightShift, LeftControl, RightControl, LeftAlt, RightAlt}
-use Rattle.keymap_check.specs.Types.{AltShift}
-use Rattle.keymap_core.specs.declared.action.Holding.TheVariants as holding
+use Rattle.keymap_check.proofs.Common.{◌≡◌, ℕ, true, ◌||◌, List, [], ◌∷◌, None, refl, ap, ◌∙◌, Modifier, LeftShift}
+use Rattle.keymap_check.proofs.Common.{RightShift, LeftControl, RightControl, LeftAlt, RightAlt, AltShift, on}
+use Rattle.keymap_check.proofs.Common.{remembered, PressedAction, bits_of, group_of, with_bit, or_right}
 use Rattle.keymap_core.specs.Actions.{same_modifier}
-use Rattle.console_core.specs.Resolved.{ResolvedEvent, on, remembered}
-use Rattle.console_core.specs.Resolved.ResolvedEvent.{PressedAction}
-use Rattle.console_core.proofs.Traps.{bits_of}
+use Rattle.console_core.specs.Resolved.{ResolvedEvent}
 use Rattle.console_core.proofs.OneMore.{held-action, held-start}
-use Rattle.keymap_check.specs.Shown.{group_of, with_bit, no_bits}
-use Rattle.std.proofs.lemmas.Bool.{or_right}
+use Rattle.keymap_check.specs.Shown.{no_bits}
+use Rattle.keymap_core.specs.declared.action.Action.TheVariants as act
+use Rattle.keymap_core.specs.declared.action.Holding.TheVariants as holding
 
 -- the bits after one more press that raises a modifier
 on-more : (i y : Modifier) (j : ℕ) (r : List ResolvedEvent) → remembered j r ≡ None

@@ -1,30 +1,29 @@
 -- What the bits of a key tell of its cells.
-use Prim.Native.Nat.{zero, suc}
-use Rattle.std.proofs.Common.{◌≡◌, ℕ, ◌+◌, ◌*◌, ◌%◌, ◌^◌, ◌<◌, ◌≢◌, min, max, Bool, true, false, not, ◌||◌, Option}
-use Rattle.std.proofs.Common.{Some, None, eqb, refl, ap, sym, ◌∙◌, if◌then◌else◌, arith, add-one, inl, inr}
+use Rattle.keymap_check.proofs.Common.{zero, suc, ◌≡◌, ℕ, ◌+◌, ◌*◌, ◌%◌, ◌^◌, ◌<◌, ◌≢◌, Bool, true, false, not, ◌||◌}
+use Rattle.keymap_check.proofs.Common.{Option, Some, None, refl, ap, sym, ◌∙◌, if◌then◌else◌, arith, add-one, inl, inr}
+use Rattle.keymap_check.proofs.Common.{true≢false, eqb-true, eq-eqb, or_right, option_or, is_some, Modifier, LeftShift}
+use Rattle.keymap_check.proofs.Common.{AltShift, Lock, Holding, Cell, Char, Act, Kind, Caps, modifier_index, MapValue}
+use Rattle.keymap_check.proofs.Common.{first_below, is_of_kind, is_holding, is_of_group, cell_of, first_place}
+use Rattle.keymap_check.proofs.Common.{place_count, bits_below}
+use Rattle.std.proofs.Common.{min, max, eqb}
 use Rattle.std.specs.Prelude.{bit_and, bit_or, bit_xor}
 use Rattle.std.specs.Int.{bit_at}
 use Rattle.std.proofs.Math.Nat.{zero-mul, one-mul, mod-eq_of_lt}
 use Rattle.std.proofs.Math.Pow.{pow-lt}
-use Rattle.std.proofs.lemmas.Bool.{true≢false, eqb-true, eqb-false, eq-eqb, ne_eqb, or_right}
+use Rattle.std.proofs.lemmas.Bool.{eqb-false, ne_eqb}
 use Rattle.std.proofs.lemmas.Nat.{and_or_apart, and_comm}
 use Rattle.std.specs.Int.Bits.{and_zero_l}
 use Rattle.std.proofs.lemmas.Nat.Bits.{bit_at_and, bit_at_or, bit_at_xor, bit_at-pow_same, bit_at-pow_other, bit_at-lt}
 use Rattle.std.proofs.lemmas.Nat.Bits.{bit_at-zero, bit_at_ones, and_pow}
-use Rattle.std.specs.Option.{option_or, is_some}
-use Rattle.keymap_core.specs.declared.action.Action.TheVariants as act
-use Rattle.keymap_check.specs.Types.{Modifier, LeftShift, AltShift, Lock, Holding, Cell, Char, Act, Kind}
-use Rattle.keymap_core.specs.declared.action.Lock.TheVariants.{Caps, Alt}
-use Rattle.keymap_core.specs.declared.action.Holding.TheVariants as holding
-use Rattle.keymap_core.specs.Actions.{modifier_index, lock_index, holding_index}
-use Rattle.keymap_core.specs.Maps.{MapValue}
-use Rattle.keymap_core.specs.Below.{first_below}
-use Rattle.keymap_check.specs.declared.kind.Group.TheVariants as group
-use Rattle.keymap_check.specs.declared.kind.Kind.TheVariants as kind
-use Rattle.keymap_check.specs.Cells.{is_of_kind, is_holding, is_of_group, cell_of, first_place, place_count}
-use Rattle.keymap_check.specs.Inner.CellBits.{cell_bit, is_set, bits_below, bits_of, mask_of}
+use Rattle.keymap_core.specs.declared.action.Lock.TheVariants.{Alt}
+use Rattle.keymap_core.specs.Actions.{lock_index, holding_index}
+use Rattle.keymap_check.specs.Inner.CellBits.{cell_bit, is_set, bits_of, mask_of}
 use Rattle.console_core.proofs.Places.{modifier_index-lt}
 use Rattle.console_core.proofs.WordBits.{lock_index-lt, two_cases}
+use Rattle.keymap_core.specs.declared.action.Action.TheVariants as act
+use Rattle.keymap_core.specs.declared.action.Holding.TheVariants as holding
+use Rattle.keymap_check.specs.declared.kind.Group.TheVariants as group
+use Rattle.keymap_check.specs.declared.kind.Kind.TheVariants as kind
 
 -- one bit of a power of two
 pow_by : (k i : ℕ) (b : Bool) → eqb i k ≡ b → is_set (2 ^ k) i ≡ b
@@ -65,28 +64,20 @@ high_same i j false e = ne_eqb (8 + i) (8 + j) (λ s. eqb-false i j e (omega ari
 
 -- a cell has the bit of a holding action exactly if it is that action
 holding-bit : (a : Holding) (x : Cell) → is_set (2 ^ holding_index a) (cell_bit x) ≡ is_holding a x
-holding-bit (holding.Mod i) (Char c) =
-    let lt : modifier_index i < 8 = modifier_index-lt i in apart 12 (modifier_index i) (λ e. omega (arith, lt, e))
+holding-bit (holding.Mod i) (Char c) = apart 12 (modifier_index i) (λ e. omega (arith, modifier_index-lt i, e))
 holding-bit (holding.Mod i) (Act (act.Mod j)) = is_set-pow (modifier_index i) (modifier_index j)
 holding-bit (holding.Mod i) (Act (act.Lock l)) =
-    let lt : modifier_index i < 8 = modifier_index-lt i in
-    apart (8 + lock_index l) (modifier_index i) (λ e. omega (arith, lt, e))
-holding-bit (holding.Mod i) (Act act.Nop) =
-    let lt : modifier_index i < 8 = modifier_index-lt i in apart 13 (modifier_index i) (λ e. omega (arith, lt, e))
-holding-bit (holding.Mod i) (Act b) =
-    let lt : modifier_index i < 8 = modifier_index-lt i in apart 14 (modifier_index i) (λ e. omega (arith, lt, e))
-holding-bit (holding.Lock k) (Char c) =
-    let lt : lock_index k < 4 = lock_index-lt k in apart 12 (8 + lock_index k) (λ e. omega (arith, lt, e))
+    apart (8 + lock_index l) (modifier_index i) (λ e. omega (arith, modifier_index-lt i, e))
+holding-bit (holding.Mod i) (Act act.Nop) = apart 13 (modifier_index i) (λ e. omega (arith, modifier_index-lt i, e))
+holding-bit (holding.Mod i) (Act b) = apart 14 (modifier_index i) (λ e. omega (arith, modifier_index-lt i, e))
+holding-bit (holding.Lock k) (Char c) = apart 12 (8 + lock_index k) (λ e. omega (arith, lock_index-lt k, e))
 holding-bit (holding.Lock k) (Act (act.Mod j)) =
-    let lt : modifier_index j < 8 = modifier_index-lt j in
-    apart (modifier_index j) (8 + lock_index k) (λ e. omega (arith, lt, e))
+    apart (modifier_index j) (8 + lock_index k) (λ e. omega (arith, modifier_index-lt j, e))
 holding-bit (holding.Lock k) (Act (act.Lock l)) =
     is_set-pow (8 + lock_index k) (8 + lock_index l)
     ∙ high_same (lock_index l) (lock_index k) (eqb (lock_index l) (lock_index k)) refl
-holding-bit (holding.Lock k) (Act act.Nop) =
-    let lt : lock_index k < 4 = lock_index-lt k in apart 13 (8 + lock_index k) (λ e. omega (arith, lt, e))
-holding-bit (holding.Lock k) (Act b) =
-    let lt : lock_index k < 4 = lock_index-lt k in apart 14 (8 + lock_index k) (λ e. omega (arith, lt, e))
+holding-bit (holding.Lock k) (Act act.Nop) = apart 13 (8 + lock_index k) (λ e. omega (arith, lock_index-lt k, e))
+holding-bit (holding.Lock k) (Act b) = apart 14 (8 + lock_index k) (λ e. omega (arith, lock_index-lt k, e))
 
 -- all bits but that of a holding action
 cell_bit-lt : (x : Cell) → cell_bit x < 15

@@ -1,22 +1,16 @@
 -- A demonstration leaves a modifier on in the sense of the search.
-use Prim.Native.Nat.{zero, suc}
-use Rattle.std.proofs.Common.{◌≡◌, ℕ, ◌<◌, Bool, true, false, List, [], ◌∷◌, ◌++◌, Option, Some, None, refl, ap}
-use Rattle.std.proofs.Common.{◌∙◌, if◌then◌else◌}
-use Rattle.std.specs.Prelude.{reverse, All}
-use Rattle.std.proofs.lemmas.List.Elements.{All-append, All-nil, All-cons, All-weaker}
-use Rattle.keymap_core.specs.Held.{key_at}
-use Rattle.keymap_check.specs.Types.{Modifier, Event, Press, Release, Reset, Load}
-use Rattle.keymap_core.specs.Maps.{MapValue}
-use Rattle.keymap_core.specs.Below.{gathered}
+use Rattle.keymap_check.proofs.Common.{zero, suc, ◌≡◌, ℕ, ◌<◌, Bool, true, false, List, [], ◌∷◌, ◌++◌, Option, Some}
+use Rattle.keymap_check.proofs.Common.{None, refl, ap, sym, ◌∙◌, if◌then◌else◌, reverse, All, All-append, All-nil}
+use Rattle.keymap_check.proofs.Common.{All-cons, true≢false, key_at, Modifier, Event, Press, Release, Reset, Load}
+use Rattle.keymap_check.proofs.Common.{MapValue, gathered, on, Maps, between, is_on_after, HasKey, findings_at, bit_keys}
+use Rattle.keymap_check.proofs.Common.{event_if, event_at, events_of, script, is_chosen, scripts_for, has_some}
+use Rattle.keymap_check.proofs.Common.{tried_at, tried, leaves_modifier_on}
+use Rattle.std.proofs.lemmas.List.Elements.{All-weaker}
 use Rattle.keymap_core.specs.Actions.{modifiers}
-use Rattle.console_core.specs.Resolved.{on}
-use Rattle.console_core.specs.History.{Maps, between, is_on_after, HasKey, IsNoLoad, HasNoLoads}
-use Rattle.console_core.specs.Sticking.{IsPressOrRelease}
+use Rattle.console_core.specs.History.{IsNoLoad, HasNoLoads}
+use Rattle.console_core.specs.Moves.{alone}
+use Rattle.console_core.specs.Sticking.{AreUnder, IsPressOrRelease}
 use Rattle.console_core.proofs.OneMap.{without_loads}
-use Rattle.keymap_check.specs.Computed.{findings_at}
-use Rattle.keymap_check.specs.Scripts.{bit_keys, event_if, event_at, events_of, script, is_chosen}
-use Rattle.keymap_check.specs.Scripts.{scripts_for, has_some, tried_at, tried}
-use Rattle.keymap_check.specs.Scripts.{leaves_modifier_on}
 use Rattle.keymap_check.specs.Shown.{DemonstrationsLeaveModifiersOn}
 use Rattle.keymap_check.proofs.Quiet.{Every, every-script, every-below, first-every, given-quiet}
 use Rattle.keymap_check.proofs.Trapless.{AreKeys, bit_keys-keys}
@@ -85,18 +79,17 @@ no_load : (e : Event) → IsKeyEvent e → IsNoLoad e
 no_load (Press k) x = refl
 no_load (Release k) x = refl
 no_load Reset x = refl
-no_load Load x = absurd x.1
+no_load Load x = absurd (true≢false (sym x.1))
 
 -- what is on in a console of the map twice is on in each console whose first map it is
 on-first : (m : MapValue) (h : List Event) (i : Modifier) → HasNoLoads h → is_on_after (between m m) i h ≡ true
-    → (ms : Maps) → ms.first ≡ m → is_on_after ms i h ≡ true
-on-first m h i none e ms first =
+    → (ms : Maps) → AreUnder (alone m) ms → is_on_after ms i h ≡ true
+on-first m h i none e ms (first, loads) =
     ap (on i) (without_loads ms h none).1 ∙ ap (λ x. is_on_after (between x x) i h) first ∙ e
 
 pub demonstrations_leave_modifiers_on : DemonstrationsLeaveModifiersOn
 demonstrations_leave_modifiers_on m events e =
-    let keys : All IsKeyEvent (reverse events) =
-    All-reversed IsKeyEvent events (first-every (All IsKeyEvent) (leaves_modifier_on m) (tried m) events
+    let keys = All-reversed IsKeyEvent events (first-every (All IsKeyEvent) (leaves_modifier_on m) (tried m) events
     (tried-by_keys m) e) in
     let one : (i : Modifier) × (is_on_after (between m m) i (reverse events) ≡ true) =
     one-of-any (λ i. is_on_after (between m m) i (reverse events)) modifiers

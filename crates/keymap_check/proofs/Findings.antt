@@ -1,20 +1,12 @@
 -- A map has no findings exactly if it is safe.
-use Prim.Native.Nat.{zero, suc}
-use Rattle.std.proofs.Common.{◌≡◌, ℕ, ◌<◌, ◌++◌, List, [], ◌∷◌, true, Option, Some, None, refl, ap, subst, sym, ◌∙◌}
-use Rattle.std.proofs.Common.{inl, inr, arith}
-use Rattle.std.proofs.lemmas.Bool.{true≢false}
-use Rattle.keymap_check.specs.Types.{Holding, Char, Act}
-use Rattle.keymap_core.specs.Actions.{holding_action}
-use Rattle.keymap_core.specs.Maps.{MapValue}
-use Rattle.keymap_core.specs.Bearers.{IsCellOf, Bears}
-use Rattle.keymap_core.specs.Below.{gathered}
-use Rattle.keymap_core.proofs.Below.{below-suc}
-use Rattle.keymap_check.specs.declared.kind.Kind.TheVariants as kind
-use Rattle.keymap_check.specs.Cells.{first_place, cell_of, is_character, is_any_holding}
-use Rattle.keymap_check.specs.Computed.{held_by, finding_with, finding_by, findings_at}
+use Rattle.keymap_check.proofs.Common.{zero, suc, ◌≡◌, ℕ, ◌<◌, ◌++◌, List, [], ◌∷◌, Option, Some, None, refl, ap, subst}
+use Rattle.keymap_check.proofs.Common.{sym, ◌∙◌, inl, inr, arith, true≢false, Holding, Char, Act, holding_action}
+use Rattle.keymap_check.proofs.Common.{MapValue, IsCellOf, Bears, gathered, below-suc, first_place, cell_of, held_by}
+use Rattle.keymap_check.proofs.Common.{finding_with, finding_by, findings_at}
 use Rattle.keymap_check.specs.Report.{NoFindingsExactlyIfSafe}
 use Rattle.keymap_check.proofs.Same.{character-cell, IsHeldBy, holding-cell, holding-any}
 use Rattle.keymap_check.proofs.Places.{first_place-cell, no_place-cell}
+use Rattle.keymap_check.specs.declared.kind.Kind.TheVariants as kind
 
 -- lists gathered from all numbers
 append-none : {A : Type 0} (xs ys : List A) → xs ++ ys ≡ [] → (xs ≡ []) × (ys ≡ [])
@@ -52,8 +44,7 @@ safe_by m k None i e f s a is c char =
     true≢false (sym (holding-any a) ∙ no_place-cell m kind.AnyHolding k e (Act (holding_action a)) is)
 safe_by m k (Some p) None e f s a is c char = true≢false (no_place-cell m kind.Character k f (Char c) char)
 safe_by m k (Some p) (Some q) e f s a is c char =
-    let r : IsCellOf m k (cell_of m k p) × (is_any_holding (cell_of m k p) ≡ true) =
-    first_place-cell m kind.AnyHolding k p e in
+    let r = first_place-cell m kind.AnyHolding k p e in
     let h : IsHeldBy (cell_of m k p) = holding-cell (cell_of m k p) r.1 in
     finding-found k p q (held_by (cell_of m k p)) h.0 h.2 s
 
@@ -63,11 +54,9 @@ by_safe : (m : MapValue) (k : ℕ) (o i : Option ℕ) → first_place m kind.Any
 by_safe m k None i e f s = refl
 by_safe m k (Some p) None e f s = refl
 by_safe m k (Some p) (Some q) e f s =
-    let r : IsCellOf m k (cell_of m k p) × (is_any_holding (cell_of m k p) ≡ true) =
-    first_place-cell m kind.AnyHolding k p e in
+    let r = first_place-cell m kind.AnyHolding k p e in
     let h : IsHeldBy (cell_of m k p) = holding-cell (cell_of m k p) r.1 in
-    let t : IsCellOf m k (cell_of m k q) × (is_character (cell_of m k q) ≡ true) =
-    first_place-cell m kind.Character k q f in
+    let t = first_place-cell m kind.Character k q f in
     let c : (c : ℕ) × (cell_of m k q ≡ Char c) = character-cell (cell_of m k q) t.1 in
     absurd (s h.0 (subst (λ x. IsCellOf m k x) h.1 r.0) c.0 (subst (λ x. IsCellOf m k x) c.1 t.0))
 

@@ -1,12 +1,10 @@
 -- The first of the findings of a map is that of the least key.
-use Prim.Native.Nat.{zero, suc}
-use Rattle.std.proofs.Common.{◌≡◌, ℕ, ◌<◌, ◌≤◌, List, [], ◌∷◌, Option, refl, ap, sym, ◌∙◌, arith, length, subst}
-use Rattle.std.proofs.lemmas.Bool.{true≢false}
-use Rattle.std.specs.Prelude.{slice_get, slice_index_or, IsNone, IfSome}
-use Rattle.keymap_core.specs.Maps.{MapValue}
+use Rattle.keymap_check.proofs.Common.{zero, suc, ◌≡◌, ℕ, ◌<◌, ◌≤◌, List, [], ◌∷◌, Option, refl, ap, sym, ◌∙◌, arith}
+use Rattle.keymap_check.proofs.Common.{length, subst, true≢false, IsNone, IfSome, MapValue, Finding, AreFindings}
+use Rattle.keymap_check.proofs.Common.{IsUnsafeKey}
+use Rattle.std.specs.Prelude.{slice_get, slice_index_or}
 use Rattle.keymap_core.specs.Numbers.{key_count}
-use Rattle.keymap_check.specs.Types.{Finding}
-use Rattle.keymap_check.specs.Findings.{AreFindings, IsFirstFinding, IsUnsafeKey}
+use Rattle.keymap_check.specs.Findings.{IsFirstFinding}
 
 -- no finding of the list has a lesser key than the first
 least_at : (f : Finding) (fs : List Finding) (x : Finding) (k i : ℕ)

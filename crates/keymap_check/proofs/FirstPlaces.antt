@@ -1,37 +1,31 @@
 -- The findings, read as statements on the map.
-use Prim.Native.Nat.{zero, suc}
-use Rattle.std.proofs.Common.{◌≡◌, ℕ, ◌<◌, ◌≤◌, ◌+◌, ◌-◌, ◌⊎◌, Bool, true, false, List, [], ◌∷◌, ◌++◌, Option, Some}
-use Rattle.std.proofs.Common.{None, refl, ap, subst, sym, ◌∙◌, inl, inr, arith}
-use Rattle.std.specs.Prelude.{nat_lt, All, AllPairs, Any}
-use Rattle.std.proofs.lemmas.Bool.{cases_Bool, true≢false, ltb-true, ltb-false, lt-ltb, le-ltb}
-use Rattle.keymap_check.specs.Types.{Holding, Cell, Act, Kind, Finding, Place}
-use Rattle.keymap_core.specs.Actions.{holding_action}
-use Rattle.keymap_core.specs.Maps.{MapValue, cell_at}
-use Rattle.keymap_core.specs.Bearers.{IsUpperLive}
-use Rattle.keymap_core.specs.Below.{gathered}
-use Rattle.keymap_core.proofs.Below.{IsFirstBelow, below-suc}
-use Rattle.keymap_check.specs.declared.kind.Kind.TheVariants as kind
-use Rattle.keymap_core.specs.Borne.{is_upper_live}
-use Rattle.keymap_check.specs.Cells.{is_of_kind, cell_of, slot_at, column_at, place_at, place_count, first_place}
-use Rattle.keymap_check.specs.Cells.{is_character, is_any_holding}
-use Rattle.keymap_check.specs.Computed.{findings_at, findings_of, finding_by, finding_with, held_by}
-use Rattle.std.proofs.lemmas.List.Elements.{All-cons, All-nil}
-use Rattle.std.proofs.lemmas.List.Kept.{AllPairs-cons}
+use Rattle.keymap_check.proofs.Common.{zero, suc, ◌≡◌, ℕ, ◌<◌, ◌≤◌, ◌+◌, ◌-◌, Bool, true, false, List, [], ◌∷◌, ◌++◌}
+use Rattle.keymap_check.proofs.Common.{Option, Some, None, refl, ap, subst, sym, ◌∙◌, inl, inr, arith, All, true≢false}
+use Rattle.keymap_check.proofs.Common.{lt-ltb, le-ltb, Holding, Cell, Act, Kind, Finding, holding_action, MapValue}
+use Rattle.keymap_check.proofs.Common.{cell_at, IsUpperLive, gathered, IsFirstBelow, below-suc, is_upper_live}
+use Rattle.keymap_check.proofs.Common.{is_of_kind, cell_of, place_count, first_place, is_character, is_any_holding}
+use Rattle.keymap_check.proofs.Common.{findings_at, finding_by, finding_with, held_by, All-nil, IsUnsafeKey, live-upper}
+use Rattle.keymap_check.proofs.Common.{upper-is_live, cases_lt, append-nil}
+use Rattle.std.specs.Prelude.{AllPairs, Any}
+use Rattle.keymap_check.specs.Types.{Place}
+use Rattle.keymap_check.specs.Cells.{slot_at, column_at, place_at}
+use Rattle.std.proofs.lemmas.Grind.{common_steps}
+use Rattle.std.proofs.lemmas.List.Elements.{All-push}
+use Rattle.std.proofs.lemmas.List.Quantifiers.{Any-push, all_pairs_push}
 use Rattle.keymap_check.specs.Findings.{IsPlaceOf, NotAfter, IsFirstOf, IsHoldingCell, IsCharacterCell, IsFinding}
-use Rattle.keymap_check.specs.Findings.{IsUnsafeKey}
 use Rattle.keymap_check.specs.Report.{FindingsAreComputed}
 use Rattle.keymap_check.proofs.Same.{character-cell, holding-cell, IsHeldBy, holding-any}
 use Rattle.keymap_check.proofs.Places.{first_place-some, count_if, count_least}
-use Rattle.keymap_core.proofs.BorneTests.{live-upper, upper-is_live}
 use Rattle.keymap_check.proofs.Findings.{safe_by}
+use Rattle.keymap_check.specs.declared.kind.Kind.TheVariants as kind
 
 -- the place with a number
-place_low : (k p : ℕ) (t : Bool) → nat_lt p 8 ≡ t → t ≡ true → (slot_at k p ≡ k) × (column_at p ≡ p)
-place_low k p t e f = (rw (e, f) refl, rw (e, f) refl)
+place_low : (k p : ℕ) → p < 8 → (slot_at k p ≡ k) × (column_at p ≡ p)
+place_low k p h = (rw (lt-ltb p 8 h) refl, rw (lt-ltb p 8 h) refl)
 
 -- the slot and column of a place in the upper half
-place_high : (k p : ℕ) (t : Bool) → nat_lt p 8 ≡ t → t ≡ false → (slot_at k p ≡ k + 128) × (column_at p ≡ p - 8)
-place_high k p t e f = (rw (e, f) refl, rw (e, f) refl)
+place_high : (k p : ℕ) → 8 ≤ p → (slot_at k p ≡ k + 128) × (column_at p ≡ p - 8)
+place_high k p h = (rw (le-ltb p 8 h) refl, rw (le-ltb p 8 h) refl)
 
 -- a place of the key has a number
 abbrev HasNumber : MapValue → ℕ → Place → Type 0
@@ -40,20 +34,15 @@ HasNumber m k q = (n : ℕ) × (n < place_count m) × (slot_at k n ≡ q.slot) �
 -- each place of a key has a number
 number : (m : MapValue) (k : ℕ) (q : Place) → IsPlaceOf m k q → HasNumber m k q
 number m k q is =
+    let lt : q.column < 8 = is.0 in
     elim is.1 [
       | inl s ↦
-          let least : 8 ≤ place_count m = count_least m _ refl in
-          let lt : q.column < 8 = is.0 in
-          let p : (slot_at k q.column ≡ k) × (column_at q.column ≡ q.column) =
-          place_low k q.column (nat_lt q.column 8) refl (lt-ltb q.column 8 lt) in
-          (q.column, omega (arith, least, lt), p.0 ∙ sym s, p.1)
+          let p = place_low k q.column lt in
+          (q.column, omega (arith, count_least m _ refl, lt), p.0 ∙ sym s, p.1)
       | inr s ↦
-          let c : place_count m ≡ 16 = count_if m true (upper-is_live m s.0) in
-          let lt : q.column < 8 = is.0 in
-          let p : (slot_at k (q.column + 8) ≡ k + 128) × (column_at (q.column + 8) ≡ (q.column + 8) - 8) =
-          place_high k (q.column + 8) (nat_lt (q.column + 8) 8) refl (le-ltb (q.column + 8) 8 (omega arith)) in
+          let p = place_high k (q.column + 8) (omega arith) in
           let back : (q.column + 8) - 8 ≡ q.column = omega arith in
-          (q.column + 8, omega (arith, c, lt), p.0 ∙ sym s.1, p.1 ∙ back)
+          (q.column + 8, omega (arith, count_if m true (upper-is_live m s.0), lt), p.0 ∙ sym s.1, p.1 ∙ back)
     ]
 
 -- a place in the upper half is there only where that half is live, by the test
@@ -61,62 +50,37 @@ live_if : (m : MapValue) (p : ℕ) (t : Bool) → is_upper_live m ≡ t → p < 
 live_if m p true e lt le = let c : place_count m ≡ 16 = count_if m true e in (live-upper m e, omega (arith, c, lt))
 live_if m p false e lt le = let c : place_count m ≡ 8 = count_if m false e in absurd (omega (arith, c, lt, le))
 
--- a place in the upper half is there only where that half is live
-live_by : (m : MapValue) (p : ℕ) → p < place_count m → 8 ≤ p → IsUpperLive m × (p < 16)
-live_by m p lt le = live_if m p (is_upper_live m) refl lt le
-
 -- each number below the count is a place of the key
 is_place : (m : MapValue) (k p : ℕ) → p < place_count m → IsPlaceOf m k (place_at k p)
 is_place m k p lt =
-    elim (cases_Bool (nat_lt p 8)) [
-      | inl s ↦
-          let c : (slot_at k p ≡ k) × (column_at p ≡ p) = place_low k p (nat_lt p 8) refl s in
-          let l : p < 8 = ltb-true p 8 s in
-          let col : column_at p ≡ p = c.1 in
-          (omega (arith, col, l), inl c.0)
-      | inr s ↦
-          let c : (slot_at k p ≡ k + 128) × (column_at p ≡ p - 8) = place_high k p (nat_lt p 8) refl s in
-          let l : 8 ≤ p = ltb-false p 8 s in
-          let u : IsUpperLive m × (p < 16) = live_by m p lt l in
-          let col : column_at p ≡ p - 8 = c.1 in
-          (omega (arith, col, l, u.1), inr (u.0, c.0))
+    elim (cases_lt p 8) [
+      | inl l ↦ let c = place_low k p l in (omega (arith, c.1, l), inl c.0)
+      | inr l ↦
+          let c = place_high k p l in
+          let u = live_if m p (is_upper_live m) refl lt l in
+          (omega (arith, c.1, l, u.1), inr (u.0, c.0))
     ]
 
 -- lesser numbers come first
 not_after : (k p q : ℕ) → p ≤ q → k < 128 → NotAfter (place_at k p) (place_at k q)
 not_after k p q le lt =
-    elim (cases_Bool (nat_lt q 8)) [
-      | inl s ↦
-          let l : q < 8 = ltb-true q 8 s in
-          let c : (slot_at k q ≡ k) × (column_at q ≡ q) = place_low k q (nat_lt q 8) refl s in
-          let d : (slot_at k p ≡ k) × (column_at p ≡ p) =
-          place_low k p (nat_lt p 8) refl (lt-ltb p 8 (omega (arith, l, le))) in
-          let x : column_at q ≡ q = c.1 in
-          let y : column_at p ≡ p = d.1 in
-          inr (d.0 ∙ sym c.0, omega (arith, x, y, le))
-      | inr s ↦
-          let c : (slot_at k q ≡ k + 128) × (column_at q ≡ q - 8) = place_high k q (nat_lt q 8) refl s in
-          elim (cases_Bool (nat_lt p 8)) [
-            | inl t ↦
-                let d : (slot_at k p ≡ k) × (column_at p ≡ p) = place_low k p (nat_lt p 8) refl t in
-                let x : slot_at k q ≡ k + 128 = c.0 in
-                let y : slot_at k p ≡ k = d.0 in
-                inl (omega (arith, x, y))
-            | inr t ↦
-                let d : (slot_at k p ≡ k + 128) × (column_at p ≡ p - 8) = place_high k p (nat_lt p 8) refl t in
-                let x : column_at q ≡ q - 8 = c.1 in
-                let y : column_at p ≡ p - 8 = d.1 in
-                inr (d.0 ∙ sym c.0, omega (arith, x, y, le))
+    elim (cases_lt q 8) [
+      | inl l ↦
+          let c = place_low k q l in
+          let d = place_low k p (omega (arith, l, le)) in
+          inr (d.0 ∙ sym c.0, omega (arith, c.1, d.1, le))
+      | inr l ↦
+          let c = place_high k q l in
+          elim (cases_lt p 8) [
+            | inl t ↦ let d = place_low k p t in inl (omega (arith, c.0, d.0))
+            | inr t ↦ let d = place_high k p t in inr (d.0 ∙ sym c.0, omega (arith, c.1, d.1, le))
           ]
     ]
 
 -- the first number that passes is at most each that does
 at_least : (test : ℕ → Bool) (p n : ℕ) → ((j : ℕ) → j < p → test j ≡ false) → test n ≡ true → p ≤ n
 at_least test p n none e =
-    elim (cases_Bool (nat_lt n p)) [
-      | inl s ↦ absurd (true≢false (sym e ∙ none n (ltb-true n p s)))
-      | inr s ↦ ltb-false n p s
-    ]
+    elim (cases_lt n p) [ inl s ↦ absurd (true≢false (sym e ∙ none n s)) | inr s ↦ s ]
 
 -- the first place of a kind is the first of the key's places with a cell of it
 first-of : (m : MapValue) (x : Kind) (P : Cell → Type 0) (k p : ℕ) → k < 128
@@ -160,8 +124,7 @@ finding-held : (m : MapValue) (k p q : ℕ) (o : Option Holding) → k < 128 →
     → first_place m kind.Character k ≡ Some q → held_by (cell_of m k p) ≡ o → AreOf m k (finding_with k p q o)
 finding-held m k p q None lt e f h = tt
 finding-held m k p q (Some a) lt e f h =
-    let s : IsFirstBelow (λ j. is_of_kind kind.AnyHolding (cell_of m k j)) (place_count m) p =
-    first_place-some m kind.AnyHolding k p e in
+    let s = first_place-some m kind.AnyHolding k p e in
     let b : IsHeldBy (cell_of m k p) = holding-cell (cell_of m k p) s.1 in
     let same : b.0 ≡ a = some_same b.0 a (sym b.2 ∙ h) in (
       refl,
@@ -183,138 +146,76 @@ finding-of m k None i lt e f = tt
 finding-of m k (Some p) None lt e f = tt
 finding-of m k (Some p) (Some q) lt e f = finding-held m k p q (held_by (cell_of m k p)) lt e f refl
 
--- each is one, and their keys go up from one that is at least n
-abbrev AreInOrder : MapValue → ℕ → List Finding → Type 0
-AreInOrder m n [] = Unit {0}
-AreInOrder m n (f ∷ fs) = (n ≤ f.key) × IsFinding m f × AreInOrder m (f.key + 1) fs
-
--- one of the findings is of the key
-abbrev IsKeyOfOne : ℕ → List Finding → Type 0
-IsKeyOfOne k [] = ⊥
-IsKeyOfOne k (f ∷ fs) = (f.key ≡ k) ⊎ IsKeyOfOne k fs
-
--- lists in order, one after the other
-abbrev KeysBelow : ℕ → List Finding → Type 0
-KeysBelow b [] = Unit {0}
-KeysBelow b (f ∷ fs) = (f.key < b) × KeysBelow b fs
-
--- findings in order from b on are so from n on
-weaker : (m : MapValue) (n b : ℕ) (fs : List Finding) → n ≤ b → AreInOrder m b fs → AreInOrder m n fs
-weaker m n b [] le o = tt
-weaker m n b (f ∷ fs) le o = let l : b ≤ f.key = o.0 in (omega (arith, l, le), o.1, o.2)
-
--- findings in order, and then those of larger keys, are in order
-order-append : (m : MapValue) (n b : ℕ) (xs ys : List Finding) → n ≤ b → KeysBelow b xs → AreInOrder m n xs
-    → AreInOrder m b ys → AreInOrder m n (xs ++ ys)
-order-append m n b [] ys le below o p = weaker m n b ys le p
-order-append m n b (f ∷ xs) ys le below o p =
-    let l : f.key < b = below.0 in
-    let up : f.key + 1 ≤ b = omega (arith, l) in
-    (o.0, o.1, order-append m (f.key + 1) b xs ys up below.1 o.2 p)
-
--- findings of keys below b, and more of them
-below-append : (b : ℕ) (xs ys : List Finding) → KeysBelow b xs → KeysBelow b ys → KeysBelow b (xs ++ ys)
-below-append b [] ys f g = g
-below-append b (x ∷ xs) ys f g = (f.0, below-append b xs ys f.1 g)
-
--- keys below b are below c
-below-more : (b c : ℕ) (xs : List Finding) → b ≤ c → KeysBelow b xs → KeysBelow c xs
-below-more b c [] le f = tt
-below-more b c (x ∷ xs) le f = let l : x.key < b = f.0 in (omega (arith, l, le), below-more b c xs le f.1)
-
--- the findings of a key are of keys up to it
-one-below : (m : MapValue) (k : ℕ) (fs : List Finding) → AreOf m k fs → KeysBelow (suc k) fs
-one-below m k [] f = tt
-one-below m k (x ∷ fs) f = let e : x.key ≡ k = f.0 in (omega (arith, e), subst (λ t. KeysBelow (suc k) t) (sym f.2) tt)
-
--- the findings of a key are in order from it on
-one-order : (m : MapValue) (k : ℕ) (fs : List Finding) → AreOf m k fs → AreInOrder m k fs
-one-order m k [] f = tt
-one-order m k (x ∷ fs) f =
-    let e : x.key ≡ k = f.0 in (omega (arith, e), f.1, subst (λ t. AreInOrder m (x.key + 1) t) (sym f.2) tt)
-
 -- what is found of a key is its findings
 all-of : (m : MapValue) (k : ℕ) → k < 128 → AreOf m k (findings_at m k)
 all-of m k lt = finding-of m k (first_place m kind.AnyHolding k) (first_place m kind.Character k) lt refl refl
 
--- what is found of the keys below n is of keys below n
-all-below : (m : MapValue) (n : ℕ) → n ≤ 128 → KeysBelow n (gathered (findings_at m) n)
+-- The findings of the keys below n.
+record AreBelow (m : MapValue) (n : ℕ) (fs : List Finding) : Type 0 where
+  each : All (IsFinding m) fs
+  below : All (λ f. f.key < n) fs
+  in_order : AllPairs (λ f g. f.key < g.key) fs
+  complete : (k : ℕ) → k < n → IsUnsafeKey m k → Any (λ f. f.key ≡ k) fs
+
+none-below : (m : MapValue) → AreBelow m 0 []
+none-below m = record {
+  each = All-nil (IsFinding m);
+  below = All-nil (λ f. f.key < 0);
+  in_order = λ i j d before lt. absurd (omega (arith, lt));
+  complete = λ k lt is. absurd (omega (arith, lt));
+}
+
+-- those below n are below n + 1
+still-below : (n : ℕ) (fs : List Finding) → All (λ f. f.key < n) fs → All (λ f. f.key < suc n) fs
+still-below n fs h = λ i d lt. let l = h i d lt in omega (arith, l)
+
+-- a finding of the key stays one
+any-left : (k : ℕ) (fs : List Finding) (f : Finding) → Any (λ g. g.key ≡ k) fs → Any (λ g. g.key ≡ k) (fs ++ f ∷ [])
+any-left k fs f (i, g, lt, at, is) = (i, g, grind (arith, common_steps), grind (arith, common_steps), is)
+
+-- one key more, which has no finding
+quiet-more : (m : MapValue) (n : ℕ) (fs : List Finding) → AreBelow m n fs → (IsUnsafeKey m n → ⊥) → AreBelow m (suc n) fs
+quiet-more m n fs b safe = record {
+  each = b.each;
+  below = still-below n fs b.below;
+  in_order = b.in_order;
+  complete = λ k lt is. elim (below-suc k n lt) [
+    | inl l ↦ b.complete k l is
+    | inr q ↦ absurd (safe (subst (λ j. IsUnsafeKey m j) q is))
+  ];
+}
+
+-- one key more, which has one
+finding-more : (m : MapValue) (n : ℕ) (fs : List Finding) (f : Finding) → AreBelow m n fs → f.key ≡ n → IsFinding m f
+    → AreBelow m (suc n) (fs ++ f ∷ [])
+finding-more m n fs f b key is = record {
+  each = All-push (IsFinding m) fs f b.each is;
+  below = All-push (λ f. f.key < suc n) fs f (still-below n fs b.below) (omega (arith, key));
+  in_order =
+      all_pairs_push (λ f g. f.key < g.key) fs f b.in_order (λ i d lt. let l = b.below i d lt in omega (arith, l, key));
+  complete = λ k lt unsafe. elim (below-suc k n lt) [
+    | inl l ↦ any-left k fs f (b.complete k l unsafe)
+    | inr q ↦ Any-push (λ g. g.key ≡ k) fs f (key ∙ sym q)
+  ];
+}
+
+key-more : (m : MapValue) (n : ℕ) (fs gs : List Finding) → AreBelow m n fs → findings_at m n ≡ gs → AreOf m n gs
+    → AreBelow m (suc n) (fs ++ gs)
+key-more m n fs [] b e of =
+    subst (AreBelow m (suc n)) (sym (append-nil fs)) (quiet-more m n fs b (λ is.
+    safe_by m n (first_place m kind.AnyHolding n) (first_place m kind.Character n) refl refl e is.0 is.1 is.2.0 is.2.1))
+key-more m n fs (f ∷ gs) b e of =
+    subst (λ gs. AreBelow m (suc n) (fs ++ f ∷ gs)) (sym of.2) (finding-more m n fs f b of.0 of.1)
+
+all-below : (m : MapValue) (n : ℕ) → n ≤ 128 → AreBelow m n (gathered (findings_at m) n)
 unfolding gathered
-all-below m zero le = tt
+all-below m zero le = none-below m
 all-below m (suc n) le =
-    below-append (suc n) (gathered (findings_at m) n) (findings_at m n)
-    (below-more n (suc n) (gathered (findings_at m) n) (omega arith) (all-below m n (omega (arith, le))))
-    (one-below m n (findings_at m n) (all-of m n (omega (arith, le))))
-
--- what is found of the keys below n is in order
-all-order : (m : MapValue) (n : ℕ) → n ≤ 128 → AreInOrder m 0 (gathered (findings_at m) n)
-unfolding gathered
-all-order m zero le = tt
-all-order m (suc n) le =
-    order-append m 0 n (gathered (findings_at m) n) (findings_at m n) (omega arith) (all-below m n (omega (arith, le)))
-    (all-order m n (omega (arith, le))) (one-order m n (findings_at m n) (all-of m n (omega (arith, le))))
-
--- a finding of the key in the first list
-key-left : (k : ℕ) (xs ys : List Finding) → IsKeyOfOne k xs → IsKeyOfOne k (xs ++ ys)
-key-left k [] ys s = absurd s
-key-left k (x ∷ xs) ys (inl s) = inl s
-key-left k (x ∷ xs) ys (inr s) = inr (key-left k xs ys s)
-
--- a finding of the key in the second list
-key-right : (k : ℕ) (xs ys : List Finding) → IsKeyOfOne k ys → IsKeyOfOne k (xs ++ ys)
-key-right k [] ys s = s
-key-right k (x ∷ xs) ys s = inr (key-right k xs ys s)
-
--- findings of a key that are some have one of the key
-some-key : (m : MapValue) (k : ℕ) (fs : List Finding) → AreOf m k fs → (fs ≡ [] → ⊥) → IsKeyOfOne k fs
-some-key m k [] f g = absurd (g refl)
-some-key m k (x ∷ fs) f g = inl f.0
-
--- an unsafe key has a finding
-key-found : (m : MapValue) (k n : ℕ) → k < n → k < 128 → IsUnsafeKey m k → IsKeyOfOne k (gathered (findings_at m) n)
-unfolding gathered
-key-found m k zero lt in_range is = absurd (omega (arith, lt))
-key-found m k (suc n) lt in_range is =
-    elim (below-suc k n lt) [
-      | inl l ↦ key-left k (gathered (findings_at m) n) (findings_at m n) (key-found m k n l in_range is)
-      | inr q ↦
-          key-right k (gathered (findings_at m) n) (findings_at m n)
-          (subst (λ j. IsKeyOfOne k (findings_at m j)) q (some-key m k (findings_at m k) (all-of m k in_range)
-          (λ e. safe_by m k (first_place m kind.AnyHolding k) (first_place m kind.Character k) refl refl e is.0 is.1
-          is.2.0 is.2.1)))
-    ]
-
--- the same in the words of the report
-order-each : (m : MapValue) (n : ℕ) (fs : List Finding) → AreInOrder m n fs → All (IsFinding m) fs
-order-each m n [] o = All-nil (IsFinding m)
-order-each m n (f ∷ fs) o = All-cons (IsFinding m) f fs o.1 (order-each m (f.key + 1) fs o.2)
-
--- findings in order from n on are of keys above b
-order-above : (m : MapValue) (b n : ℕ) (fs : List Finding) → b < n → AreInOrder m n fs → All (λ g. b < g.key) fs
-order-above m b n [] lt o = All-nil (λ g. b < g.key)
-order-above m b n (f ∷ fs) lt o =
-    let le : n ≤ f.key = o.0 in
-    All-cons (λ g. b < g.key) f fs (omega (arith, lt, le)) (order-above m b (f.key + 1) fs (omega (arith, lt, le)) o.2)
-
--- of findings in order each is of a smaller key than those behind it
-order-pairs : (m : MapValue) (n : ℕ) (fs : List Finding) → AreInOrder m n fs → AllPairs (λ f g. f.key < g.key) fs
-order-pairs m n [] o = λ i j d before lt. absurd (omega (arith, lt))
-order-pairs m n (f ∷ fs) o =
-    AllPairs-cons (λ f g. f.key < g.key) f fs (order-above m f.key (f.key + 1) fs (omega arith) o.2)
-    (order-pairs m (f.key + 1) fs o.2)
-
--- some finding is of the key
-one-any : (k : ℕ) (fs : List Finding) → IsKeyOfOne k fs → Any (λ f. f.key ≡ k) fs
-one-any k [] is = absurd is
-one-any k (f ∷ fs) (inl e) = (0, f, omega arith, refl, e)
-one-any k (f ∷ fs) (inr is) =
-    let r : Any (λ f. f.key ≡ k) fs = one-any k fs is in
-    (suc r.0, r.1, omega (arith, r.2), r.3, r.4)
+    key-more m n (gathered (findings_at m) n) (findings_at m n) (all-below m n (omega (arith, le))) refl
+    (all-of m n (omega (arith, le)))
 
 -- the findings that are computed are one for each unsafe key, in order, at its first places
 pub findings_are_computed : FindingsAreComputed
-findings_are_computed m = record {
-  each = order-each m 0 (findings_of m) (all-order m 128 (omega arith));
-  in_order = order-pairs m 0 (findings_of m) (all-order m 128 (omega arith));
-  complete = λ k lt is. one-any k (findings_of m) (key-found m k 128 lt lt is);
-}
+findings_are_computed m =
+    let all = all-below m 128 (omega arith) in
+    record { each = all.each; in_order = all.in_order; complete = λ k lt is. all.complete k lt is }

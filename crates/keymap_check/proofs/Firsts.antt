@@ -1,12 +1,8 @@
 -- The first of a gathered list that passes a test.
-use Prim.Native.Nat.{zero, suc}
-use Rattle.std.proofs.Common.{◌≡◌, ℕ, ◌<◌, ◌+◌, Bool, List, Option, Some, None, refl, ap, subst, sym, ◌∙◌, inl, inr}
-use Rattle.std.proofs.Common.{arith, add-one}
-use Rattle.std.specs.Prelude.{find}
-use Rattle.std.specs.Option.{option_or}
+use Rattle.keymap_check.proofs.Common.{zero, suc, ◌≡◌, ℕ, ◌<◌, ◌+◌, Bool, List, Option, Some, None, refl, ap, subst}
+use Rattle.keymap_check.proofs.Common.{sym, ◌∙◌, inl, inr, arith, add-one, find, option_or, gathered, below-suc}
+use Rattle.keymap_check.proofs.Common.{gathered-none}
 use Rattle.std.proofs.lemmas.List.Folds.{find-append}
-use Rattle.keymap_core.specs.Below.{gathered}
-use Rattle.keymap_core.proofs.Below.{below-suc, gathered-none}
 
 -- where neither is given, neither is there
 none-both : {A : Type 0} (o p : Option A) → option_or o p ≡ None → (o ≡ None) × (p ≡ None)
@@ -29,6 +25,10 @@ module _ {A : Type 0} (test : A → Bool) where
       → find test (gathered f (n + 1)) ≡ None
   try-more f n e g = rw (add-one, find-more f n, e, g) refl
 
+  -- after all numbers
+  pub try-none : (f : ℕ → List A) (i n : ℕ) → i ≡ n → find test (gathered f i) ≡ None → None ≡ find test (gathered f n)
+  try-none f i n e none = sym (ap (λ k. find test (gathered f k)) (sym e) ∙ none)
+
   -- the first found in the list i, where nothing is before it, is the first of all
   pub try-found : (f : ℕ → List A) (i n : ℕ) (s : A) → i < n → find test (gathered f i) ≡ None
       → find test (f i) ≡ Some s → find test (gathered f n) ≡ Some s
@@ -47,6 +47,5 @@ module _ {A : Type 0} (test : A → Bool) where
   pub none-each : (f : ℕ → List A) (i n : ℕ) → i < n → find test (gathered f n) ≡ None → find test (f i) ≡ None
   none-each f i zero lt e = absurd (omega (arith, lt))
   none-each f i (suc n) lt e =
-      let s : (find test (gathered f n) ≡ None) × (find test (f n) ≡ None) =
-      none-both (find test (gathered f n)) (find test (f n)) (sym (find-more f n) ∙ e) in
+      let s = none-both (find test (gathered f n)) (find test (f n)) (sym (find-more f n) ∙ e) in
       elim (below-suc i n lt) [ inl l ↦ none-each f i n l s.0 | inr q ↦ ap (λ x. find test (f x)) q ∙ s.1 ]

@@ -1,13 +1,9 @@
 -- Which keys have a finding.
-use Rattle.std.proofs.Common.{◌≡◌, ℕ, ◌&&◌, Option, Some, None, refl}
-use Rattle.std.specs.Option.{is_some}
-use Rattle.keymap_core.specs.Maps.{MapValue}
-use Rattle.keymap_check.specs.declared.kind.Kind.TheVariants as kind
-use Rattle.keymap_check.specs.Cells.{first_place, cell_of}
-use Rattle.keymap_check.specs.Computed.{finding_by, findings_at}
-use Rattle.keymap_check.specs.Scripts.{has_some}
+use Rattle.keymap_check.proofs.Common.{◌≡◌, ℕ, ◌&&◌, Option, Some, None, refl, is_some, MapValue, first_place, cell_of}
+use Rattle.keymap_check.proofs.Common.{finding_by, findings_at, has_some}
 use Rattle.keymap_check.proofs.Places.{first_place-cell}
 use Rattle.keymap_check.proofs.Same.{IsHeldBy, holding-cell}
+use Rattle.keymap_check.specs.declared.kind.Kind.TheVariants as kind
 
 -- a key has a finding exactly if both places are found
 found_by : (m : MapValue) (k : ℕ) (p q : Option ℕ) → first_place m kind.AnyHolding k ≡ p

@@ -1,13 +1,10 @@
 -- What holds of the demonstration that is given, if there is one.
-use Rattle.std.proofs.Common.{◌≡◌, ℕ, List, Option, Some, None, refl, sym, ◌∙◌}
-use Rattle.std.specs.Prelude.{IfSome, IsSome, IsNone, option_map, reverse}
+use Rattle.keymap_check.proofs.Common.{◌≡◌, ℕ, List, Option, Some, None, refl, sym, ◌∙◌, IfSome, IsNone, reverse}
+use Rattle.keymap_check.proofs.Common.{Modifier, Event, MapValue, NobodyBearsCellPickingLocks, HasNoTrap}
+use Rattle.keymap_check.proofs.Common.{demonstration_of, HasShownTrap}
+use Rattle.std.specs.Prelude.{IsSome, option_map}
 use Rattle.std.proofs.lemmas.Option.{none-some}
-use Rattle.keymap_check.specs.Types.{Modifier, Event}
-use Rattle.keymap_core.specs.Maps.{MapValue}
 use Rattle.console_core.specs.Sticking.{LeavesOn}
-use Rattle.console_core.specs.Traps.{NobodyBearsCellPickingLocks, HasNoTrap}
-use Rattle.keymap_check.specs.Scripts.{demonstration_of}
-use Rattle.keymap_check.specs.Shown.{HasShownTrap}
 use Rattle.keymap_check.proofs.Demonstrated.{demonstrations_leave_modifiers_on}
 use Rattle.keymap_check.proofs.Shown.{shown_traps_are_demonstrated}
 use Rattle.keymap_check.proofs.Trapless.{none_given}

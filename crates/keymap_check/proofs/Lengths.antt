@@ -1,13 +1,9 @@
 -- How many events the sets of a script give.
-use Prim.Native.Nat.{zero, suc}
-use Rattle.std.proofs.Common.{◌≡◌, ℕ, ◌≤◌, ◌+◌, ◌*◌, Bool, true, false, ◌&&◌, not, List, [], length, length-append}
-use Rattle.std.proofs.Common.{Option, Some, None, ap, arith, if◌then◌else◌}
+use Rattle.keymap_check.proofs.Common.{zero, suc, ◌≡◌, ℕ, ◌≤◌, ◌+◌, ◌*◌, Bool, true, false, ◌&&◌, not, List, [], length}
+use Rattle.keymap_check.proofs.Common.{length-append, Option, Some, None, ap, arith, if◌then◌else◌, ◌==◌, ◌%◌, ◌^◌}
+use Rattle.keymap_check.proofs.Common.{gathered, has_bit, key_at, event_if, event_at, events_of, is_chosen}
 use Rattle.std.proofs.Math.Nat.{zero-div}
-use Rattle.std.specs.Prelude.{◌==◌, ◌%◌, ◌^◌}
-use Rattle.keymap_core.specs.Below.{gathered}
 use Rattle.console_core.specs.Columns.{bit}
-use Rattle.keymap_core.specs.Held.{has_bit, key_at}
-use Rattle.keymap_check.specs.Scripts.{event_if, event_at, events_of, is_chosen}
 
 -- a bit of a set gives at most one event
 one_each : (p t : Bool) (o : Option ℕ) → length (if t then event_if p o else []) ≤ bit t
@@ -38,20 +34,12 @@ pub lengths : (keys : List (Option ℕ)) (a b n : ℕ)
 unfolding gathered
 lengths keys a b zero = omega arith
 lengths keys a b (suc n) =
-    let h : length (gathered (event_at true keys a 0) n) + length (gathered (event_at false keys a b) n)
-    + length (gathered (event_at true keys b a) n) + length (gathered (event_at false keys b 0) n)
-    ≤ 2 * n =
-    lengths keys a b n in
-    let two : bit (is_chosen a 0 n) + bit (is_chosen a b n) + bit (is_chosen b a n) + bit (is_chosen b 0 n) ≤ 2 =
-    two_each (has_bit a n) (has_bit b n) (has_bit 0 n) (no_bit n) in
-    let p : length (event_at true keys a 0 n) ≤ bit (is_chosen a 0 n) =
-    one_each true (is_chosen a 0 n) (key_at keys n) in
-    let q : length (event_at false keys a b n) ≤ bit (is_chosen a b n) =
-    one_each false (is_chosen a b n) (key_at keys n) in
-    let r : length (event_at true keys b a n) ≤ bit (is_chosen b a n) =
-    one_each true (is_chosen b a n) (key_at keys n) in
-    let s : length (event_at false keys b 0 n) ≤ bit (is_chosen b 0 n) =
-    one_each false (is_chosen b 0 n) (key_at keys n) in
+    let h = lengths keys a b n in
+    let two = two_each (has_bit a n) (has_bit b n) (has_bit 0 n) (no_bit n) in
+    let p = one_each true (is_chosen a 0 n) (key_at keys n) in
+    let q = one_each false (is_chosen a b n) (key_at keys n) in
+    let r = one_each true (is_chosen b a n) (key_at keys n) in
+    let s = one_each false (is_chosen b 0 n) (key_at keys n) in
     omega (
       arith,
       h,

@@ -2,6 +2,7 @@ pub mod Bearers
 pub mod Bearing
 pub mod Bits
 pub mod CellBits
+pub mod Common
 pub mod Demonstrated
 pub mod Findings
 pub mod Found

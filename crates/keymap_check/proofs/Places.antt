@@ -1,15 +1,11 @@
 -- The places of a key's cells, and the cells that it has.
-use Rattle.std.proofs.Common.{◌≡◌, ℕ, ◌<◌, ◌≤◌, ◌+◌, ◌-◌, Bool, true, false, Some, None, refl, ap, subst, sym, ◌∙◌, inl}
-use Rattle.std.proofs.Common.{inr, if◌then◌else◌, arith}
-use Rattle.std.specs.Prelude.{nat_lt}
-use Rattle.std.proofs.lemmas.Bool.{cases_Bool, ltb-true, ltb-false, lt-ltb, le-ltb}
-use Rattle.keymap_check.specs.Types.{Cell, Kind}
-use Rattle.keymap_core.specs.Maps.{MapValue, cell_at}
-use Rattle.keymap_core.specs.Bearers.{StandsIn, IsCellOf}
-use Rattle.keymap_core.specs.Borne.{is_upper_live}
-use Rattle.keymap_core.proofs.BorneTests.{live-upper, upper-is_live}
-use Rattle.keymap_core.proofs.Below.{first_below-no, first_below-some, IsFirstBelow, NoneBelow}
-use Rattle.keymap_check.specs.Cells.{is_of_kind, place_count, cell_of, first_place}
+use Rattle.keymap_check.proofs.Common.{◌≡◌, ℕ, ◌<◌, ◌≤◌, ◌+◌, ◌-◌, Bool, true, false, Some, None, refl, ap, subst, sym}
+use Rattle.keymap_check.proofs.Common.{◌∙◌, inl, inr, if◌then◌else◌, arith, lt-ltb, le-ltb, Cell, Kind, MapValue}
+use Rattle.keymap_check.proofs.Common.{cell_at, IsCellOf, is_upper_live, live-upper, upper-is_live, first_below-no}
+use Rattle.keymap_check.proofs.Common.{first_below-some, IsFirstBelow, is_of_kind, place_count, cell_of, first_place}
+use Rattle.keymap_check.proofs.Common.{cases_lt}
+use Rattle.keymap_core.specs.Bearers.{StandsIn}
+use Rattle.keymap_core.proofs.Below.{NoneBelow}
 
 -- a key has 16 places where the upper half is live, and else 8
 pub count_if : (m : MapValue) (t : Bool) → is_upper_live m ≡ t → place_count m ≡ (if t then 16 else 8)
@@ -17,32 +13,24 @@ unfolding place_count
 count_if m t e = ap (λ x. if x then 16 else 8) e
 
 -- a place below 8 is in the lower slot
-low-cell : (m : MapValue) (k p : ℕ) (t : Bool) → nat_lt p 8 ≡ t → t ≡ true → cell_of m k p ≡ cell_at m k p
-low-cell m k p t e f = rw (e, f) refl
+low-cell : (m : MapValue) (k p : ℕ) → p < 8 → cell_of m k p ≡ cell_at m k p
+low-cell m k p h = rw (lt-ltb p 8 h) refl
 
 -- a place from 8 on is in the upper slot
-high-cell : (m : MapValue) (k p : ℕ) (t : Bool) → nat_lt p 8 ≡ t → t ≡ false
-    → cell_of m k p ≡ cell_at m (k + 128) (p - 8)
-high-cell m k p t e f = rw (e, f) refl
+high-cell : (m : MapValue) (k p : ℕ) → 8 ≤ p → cell_of m k p ≡ cell_at m (k + 128) (p - 8)
+high-cell m k p h = rw (le-ltb p 8 h) refl
 
 -- each place has a cell of the key, by whether the upper half is live
 place_by : (m : MapValue) (k p : ℕ) (t : Bool) → is_upper_live m ≡ t → p < place_count m → IsCellOf m k (cell_of m k p)
 place_by m k p true live lt =
     let lt16 : p < 16 = subst (λ n. p < n) (count_if m true live) lt in
-    elim (cases_Bool (nat_lt p 8)) [
-      | inl s ↦ inl (p, ltb-true p 8 s, sym (low-cell m k p (nat_lt p 8) refl s))
-      | inr s ↦
-          inr (
-            live-upper m live,
-            (p - 8, omega (arith, lt16, ltb-false p 8 s), sym (high-cell m k p (nat_lt p 8) refl s)),
-          )
+    elim (cases_lt p 8) [
+      | inl s ↦ inl (p, s, sym (low-cell m k p s))
+      | inr s ↦ inr (live-upper m live, (p - 8, omega (arith, lt16, s), sym (high-cell m k p s)))
     ]
 place_by m k p false live lt =
     let lt8 : p < 8 = subst (λ n. p < n) (count_if m false live) lt in
-    elim (cases_Bool (nat_lt p 8)) [
-      | inl s ↦ inl (p, lt8, sym (low-cell m k p (nat_lt p 8) refl s))
-      | inr s ↦ absurd (omega (arith, lt8, ltb-false p 8 s))
-    ]
+    inl (p, lt8, sym (low-cell m k p lt8))
 
 -- each place has a cell of the key
 pub place-cell : (m : MapValue) (k p : ℕ) → p < place_count m → IsCellOf m k (cell_of m k p)
@@ -61,7 +49,7 @@ count_least m false e = let c : place_count m ≡ 8 = count_if m false e in omeg
 pub cell-place : (m : MapValue) (k : ℕ) (x : Cell) → IsCellOf m k x → HasPlace m k x
 cell-place m k x (inl s) =
     let n : 8 ≤ place_count m = count_least m (is_upper_live m) refl in
-    (s.0, omega (arith, n, s.1), low-cell m k s.0 (nat_lt s.0 8) refl (lt-ltb s.0 8 s.1) ∙ s.2)
+    (s.0, omega (arith, n, s.1), low-cell m k s.0 s.1 ∙ s.2)
 cell-place m k x (inr s) =
     let c : place_count m ≡ 16 = count_if m true (upper-is_live m s.0) in
     let s1 : StandsIn m (k + 128) x = s.1 in
@@ -69,7 +57,7 @@ cell-place m k x (inr s) =
     let lt : s1.0 + 8 < 16 = omega (arith, s1.1) in (
       s1.0 + 8,
       omega (arith, c, lt),
-      high-cell m k (s1.0 + 8) (nat_lt (s1.0 + 8) 8) refl (le-ltb (s1.0 + 8) 8 (omega arith))
+      high-cell m k (s1.0 + 8) (omega arith)
           ∙ ap (λ j. cell_at m (k + 128) j) e ∙ s1.2,
     )
 

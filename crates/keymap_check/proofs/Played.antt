@@ -1,19 +1,15 @@
 -- What is left of a script once modifiers are off, and its events with the newest first.
-use Prim.Native.Nat.{zero, suc}
-use Rattle.std.proofs.Common.{◌≡◌, ℕ, ◌+◌, Bool, true, false, ◌&&◌, List, [], ◌∷◌, ◌++◌, Option, Some, None}
-use Rattle.std.proofs.Common.{refl, ap, sym, ◌∙◌, if◌then◌else◌}
-use Rattle.std.specs.Prelude.{reverse}
-use Rattle.std.proofs.lemmas.List.{reverse-append, append-nil}
-use Rattle.keymap_core.specs.Held.{key_at}
-use Rattle.keymap_check.specs.Types.{Modifier, Event, Press, Release}
-use Rattle.keymap_core.specs.declared.action.Holding.TheVariants as holding
-use Rattle.keymap_core.specs.Below.{gathered}
-use Rattle.keymap_core.proofs.Below.{gathered-more}
-use Rattle.keymap_core.proofs.HoldingTests.{no-modifier, no-modifiers}
-use Rattle.console_core.specs.History.{Maps, is_on_after, resolved, is_any_on_after}
+use Rattle.keymap_check.proofs.Common.{zero, suc, ◌≡◌, ℕ, ◌+◌, Bool, true, false, ◌&&◌, List, [], ◌∷◌, ◌++◌, Option}
+use Rattle.keymap_check.proofs.Common.{Some, None, refl, ap, sym, ◌∙◌, if◌then◌else◌, reverse, append-nil, key_at}
+use Rattle.keymap_check.proofs.Common.{Modifier, Event, Press, Release, gathered, gathered-more, no-modifiers, Maps}
+use Rattle.keymap_check.proofs.Common.{is_on_after, resolved, is_any_on_after, event_if, event_at, is_chosen, events_of}
+use Rattle.keymap_check.proofs.Common.{script}
+use Rattle.std.proofs.lemmas.List.{reverse-append}
+use Rattle.keymap_core.proofs.HoldingTests.{no-modifier}
 use Rattle.console_core.proofs.OneMore.{resolved-more, held-release}
 use Rattle.console_core.proofs.Deliveries.{reverse-push}
-use Rattle.keymap_check.specs.Scripts.{event_if, event_at, is_chosen, events_of, start_of, script}
+use Rattle.keymap_check.specs.Scripts.{start_of}
+use Rattle.keymap_core.specs.declared.action.Holding.TheVariants as holding
 
 -- the events of a script, the newest first
 pub played : (keys : List (Option ℕ)) (k a b : ℕ)

@@ -1,18 +1,14 @@
 -- The promises, from the laws over the two maps of a console.
-use Rattle.std.proofs.Common.{◌≡◌, ℕ, ◌⊎◌, inl, inr, ap, subst, sym, ◌∙◌}
-use Rattle.std.proofs.lemmas.List.Elements.{All-cons}
-use Rattle.keymap_check.specs.Types.{Lock, Modifier, Press}
-use Rattle.keymap_core.specs.declared.action.Holding.TheVariants as holding
-use Rattle.keymap_core.specs.Maps.{MapValue}
-use Rattle.keymap_core.specs.Bearers.{BearsThroughout}
-use Rattle.console_core.specs.History.{Maps, HasKey, is_on_after}
-use Rattle.console_core.specs.Headline.{IsSafe, IsSteady}
-use Rattle.console_core.specs.Plain.{IsPlain, plain_look, LooksPlainly}
-use Rattle.console_core.specs.Headline.{OnOnlyWhilePressed, OnExactlyWhilePressed, RepeatsTurnNoSteadyLock}
+use Rattle.keymap_check.proofs.Common.{◌≡◌, ℕ, inl, inr, ap, subst, sym, ◌∙◌, All-cons, Lock, Modifier, Press, MapValue}
+use Rattle.keymap_check.proofs.Common.{BearsThroughout, Maps, HasKey, is_on_after, IsSteady, IsPlain}
+use Rattle.std.proofs.Common.{◌⊎◌}
+use Rattle.console_core.specs.Headline.{IsSafe, OnOnlyWhilePressed, OnExactlyWhilePressed, RepeatsTurnNoSteadyLock}
 use Rattle.console_core.specs.Headline.{OffOnceQuiet, GoesOnAsAfterReset, LockedByFreshPresses, IsOnOnlyWhilePressed}
+use Rattle.console_core.specs.Plain.{plain_look, LooksPlainly}
 use Rattle.keymap_check.specs.Promises.{ModifiersAreOnOnlyWhilePressed, ModifierFollowsKey, NoRepeatTurns}
 use Rattle.keymap_check.specs.Promises.{ModifiersAreOffOnceQuiet, GoesOnAsAfterResetOnceQuiet, IsOnAfterOddFreshPresses}
 use Rattle.keymap_check.specs.Promises.{LooksPlainlyIn, KeepsPromise}
+use Rattle.keymap_core.specs.declared.action.Holding.TheVariants as holding
 
 -- in a safe map modifiers are on only while their keys are pressed
 pub only_while : OnOnlyWhilePressed → (m : MapValue) → IsSafe m → ModifiersAreOnOnlyWhilePressed m

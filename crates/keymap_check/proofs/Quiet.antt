@@ -1,22 +1,14 @@
 -- No key is pressed at the end of a script that is tried.
-use Prim.Native.Nat.{zero, suc}
-use Rattle.std.proofs.Common.{◌≡◌, ℕ, ◌<◌, Bool, true, false, ◌&&◌, ◌||◌, not, List, [], ◌∷◌, ◌++◌, Option, Some, None}
-use Rattle.std.proofs.Common.{refl, ap, subst, sym, ◌∙◌, arith, if◌then◌else◌}
-use Rattle.std.specs.Prelude.{◌==◌, reverse, find}
-use Rattle.std.proofs.lemmas.List.{append-nil}
+use Rattle.keymap_check.proofs.Common.{zero, suc, ◌≡◌, ℕ, ◌<◌, Bool, true, false, ◌&&◌, ◌||◌, not, List, [], ◌∷◌, ◌++◌}
+use Rattle.keymap_check.proofs.Common.{Option, Some, None, refl, ap, subst, sym, ◌∙◌, arith, if◌then◌else◌, ◌==◌}
+use Rattle.keymap_check.proofs.Common.{reverse, find, append-nil, MapValue, gathered, has_bit, key_at, lacks_key, Event}
+use Rattle.keymap_check.proofs.Common.{Press, Release, Reset, Load, pressed, IsQuiet, reverse-cons, findings_at}
+use Rattle.keymap_check.proofs.Common.{is_chosen, bit_keys, event_if, event_at, events_of, script, scripts_of}
+use Rattle.keymap_check.proofs.Common.{scripts_with, scripts_for, has_some, tried_at, tried}
 use Rattle.std.proofs.lemmas.Bool.{or_parts, and_right}
-use Rattle.keymap_core.specs.Maps.{MapValue}
 use Rattle.keymap_core.specs.Borne.{any_below}
-use Rattle.keymap_core.specs.Below.{gathered}
-use Rattle.keymap_core.specs.Held.{has_bit, key_at, lacks_key}
-use Rattle.keymap_check.specs.Types.{Event, Press, Release, Reset, Load}
-use Rattle.console_core.specs.History.{pressed, IsQuiet}
 use Rattle.console_core.proofs.OneMore.{pressed-start, pressed-press, pressed-release, pressed-reset, pressed-load}
-use Rattle.console_core.proofs.Deliveries.{reverse-cons}
 use Rattle.console_core.proofs.Keeping.{cleared}
-use Rattle.keymap_check.specs.Computed.{findings_at}
-use Rattle.keymap_check.specs.Scripts.{is_chosen, bit_keys, event_if, event_at, events_of, script}
-use Rattle.keymap_check.specs.Scripts.{scripts_of, scripts_with, scripts_for, has_some, tried_at, tried}
 use Rattle.keymap_check.proofs.Lengths.{no_bit}
 
 -- whether a key is pressed after events in the order of delivery
@@ -140,8 +132,7 @@ rest keys a b j zero e = (refl, refl)
 rest keys a b j (suc n) e =
     let s : (any_below (is_named keys b 0 j) n ≡ false) × (is_named keys b 0 j n ≡ false) = or_parts _ _ e in
     let r : Rest keys a b j n = rest keys a b j n s.0 in
-    let t : (is_named keys b a j n ≡ false) × (is_named keys a 0 j n ≡ is_named keys a b j n) =
-    bit_rest (has_bit a n) (has_bit b n) (has_bit 0 n) (is_key j (key_at keys n)) (no_bit n) s.1 in
+    let t = bit_rest (has_bit a n) (has_bit b n) (has_bit 0 n) (is_key j (key_at keys n)) (no_bit n) s.1 in
     (rw (r.0, t.0) refl, rw (r.1, t.1) refl)
 
 same_not : (q : Bool) → (((q && not q) || false) && true) ≡ false

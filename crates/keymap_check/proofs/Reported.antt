@@ -1,11 +1,9 @@
 -- What the report on a map says.
-use Rattle.std.proofs.Common.{◌≡◌, refl, ap, ◌∙◌}
-use Rattle.keymap_check.specs.Types.{LeftShift, Lock, Holding}
-use Rattle.keymap_core.specs.declared.action.Lock.TheVariants.{Caps}
+use Rattle.keymap_check.proofs.Common.{◌≡◌, refl, ap, ◌∙◌, LeftShift, Lock, Holding, Caps, MapValue, bearer_of}
+use Rattle.keymap_check.proofs.Common.{ReportValue, bearer_in}
+use Rattle.keymap_check.specs.Computed.{is_steady}
+use Rattle.keymap_check.specs.Report.{report_of, is_steady_in}
 use Rattle.keymap_core.specs.declared.action.Holding.TheVariants as holding
-use Rattle.keymap_core.specs.Maps.{MapValue}
-use Rattle.keymap_check.specs.Computed.{bearer_of, is_steady}
-use Rattle.keymap_check.specs.Report.{ReportValue, report_of, bearer_in, is_steady_in}
 
 -- the reported bearer is that of the map
 bearer-of_map : (m : MapValue) (a : Holding) → bearer_in (report_of m) a ≡ bearer_of m a

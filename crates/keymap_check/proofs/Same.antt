@@ -1,14 +1,11 @@
 -- Tests of a cell, and what they say of it.
-use Rattle.std.proofs.Common.{◌≡◌, ℕ, Bool, true, false, not, Some, refl, ap, sym, ◌∙◌}
-use Rattle.std.proofs.lemmas.Bool.{true≢false}
+use Rattle.keymap_check.proofs.Common.{◌≡◌, ℕ, Bool, true, false, not, Some, refl, ap, sym, ◌∙◌, true≢false, Holding}
+use Rattle.keymap_check.proofs.Common.{Cell, Char, Act, holding_action, IsActing, same_action-true, is_holding}
+use Rattle.keymap_check.proofs.Common.{is_character, is_any_holding, held_by}
+use Rattle.keymap_check.specs.Cells.{is_character_or_nop}
+use Rattle.keymap_core.proofs.SameActions.{same_action-refl}
 use Rattle.keymap_core.specs.declared.action.Action.TheVariants as act
-use Rattle.keymap_check.specs.Types.{Holding, Cell, Char, Act}
 use Rattle.keymap_core.specs.declared.action.Holding.TheVariants as holding
-use Rattle.keymap_core.specs.Actions.{holding_action}
-use Rattle.console_core.specs.Headline.{IsActing}
-use Rattle.keymap_core.proofs.SameActions.{same_action-true, same_action-refl}
-use Rattle.keymap_check.specs.Cells.{is_holding, is_character, is_any_holding, is_character_or_nop}
-use Rattle.keymap_check.specs.Computed.{held_by}
 
 -- a cell that passes the test is the holding action
 pub is_holding-true : (a : Holding) (x : Cell) → is_holding a x ≡ true → x ≡ Act (holding_action a)

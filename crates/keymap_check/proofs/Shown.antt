@@ -1,43 +1,36 @@
 -- A trap whose character cell has at most one bit more is demonstrated.
-use Rattle.std.proofs.Common.{◌≡◌, ◌≢◌, ℕ, ◌<◌, Bool, true, false, not, List, [], ◌∷◌, Option, Some, None, refl}
-use Rattle.std.proofs.Common.{ap, subst, sym, ◌∙◌, inl, inr, lit<, if◌then◌else◌}
-use Rattle.std.specs.Prelude.{◌==◌, reverse, find}
-use Rattle.std.proofs.lemmas.Bool.{true≢false, eq-eqb, eqb-true, and_parts, not-true, false_from_ne_true}
-use Rattle.std.specs.Option.{is_some}
-use Rattle.keymap_core.specs.declared.action.Action.TheVariants as act
-use Rattle.keymap_core.specs.Held.{is_other, lacks_key}
-use Rattle.keymap_check.specs.Types.{Lock, Modifier, LeftShift, RightShift, LeftControl, RightControl, LeftAlt}
-use Rattle.keymap_check.specs.Types.{RightAlt, AltShift, Cell, Char, Act, Event, Press, Release, Group, Finding}
-use Rattle.keymap_core.specs.declared.action.Lock.TheVariants as lock
-use Rattle.keymap_core.specs.declared.action.Holding.TheVariants as holding
-use Rattle.keymap_core.specs.Actions.{modifier_index}
-use Rattle.keymap_core.specs.Maps.{MapValue, cell_at}
-use Rattle.keymap_core.specs.Bearers.{IsCellOf, IsUpperLive}
-use Rattle.keymap_core.specs.Below.{gathered}
-use Rattle.keymap_core.proofs.Below.{first_below-some}
-use Rattle.console_core.specs.Resolved.{on, held, locked, remembered, look, resolve_press}
-use Rattle.console_core.specs.History.{Maps, between, is_on_after, resolved, is_any_on_after}
+use Rattle.keymap_check.proofs.Common.{◌≡◌, ◌≢◌, ℕ, ◌<◌, Bool, true, false, not, List, [], ◌∷◌, Option, Some, None}
+use Rattle.keymap_check.proofs.Common.{refl, ap, subst, sym, ◌∙◌, inl, inr, lit<, if◌then◌else◌, ◌==◌, reverse, find}
+use Rattle.keymap_check.proofs.Common.{true≢false, eq-eqb, eqb-true, and_parts, not-true, false_from_ne_true, is_some}
+use Rattle.keymap_check.proofs.Common.{is_other, lacks_key, Lock, Modifier, LeftShift, RightShift, LeftControl}
+use Rattle.keymap_check.proofs.Common.{RightControl, LeftAlt, RightAlt, AltShift, Cell, Char, Act, Event, Press}
+use Rattle.keymap_check.proofs.Common.{Release, Group, Finding, modifier_index, MapValue, cell_at, IsCellOf}
+use Rattle.keymap_check.proofs.Common.{IsUpperLive, gathered, first_below-some, on, remembered, Maps, between}
+use Rattle.keymap_check.proofs.Common.{is_on_after, resolved, is_any_on_after, PressedAction, same_action-true}
+use Rattle.keymap_check.proofs.Common.{first_place, cell_of, is_of_group, findings_at, group_at, bears_group, bit_key}
+use Rattle.keymap_check.proofs.Common.{bit_keys, script, scripts_of, scripts_with, scripts_for, tried_at, has_some}
+use Rattle.keymap_check.proofs.Common.{leaves_modifier_on, demonstration_of, group_of, bit_of_group, with_bit}
+use Rattle.keymap_check.proofs.Common.{HasShownTrap, bits_of}
+use Rattle.keymap_check.specs.Cells.{is_group_cell}
+use Rattle.console_core.specs.Resolved.{held, locked, look, resolve_press}
 use Rattle.console_core.specs.Columns.{slot_of, column_of}
-use Rattle.console_core.specs.Resolved.ResolvedEvent.{PressedCharacter, PressedAction, ReleasedKey}
+use Rattle.console_core.specs.Resolved.ResolvedEvent.{PressedCharacter, ReleasedKey}
 use Rattle.console_core.proofs.Borne.{AllLooked, look-cell, column_of-lt}
-use Rattle.keymap_core.proofs.SameActions.{same_action-true}
 use Rattle.keymap_core.proofs.HoldingTests.{some-modifier}
 use Rattle.console_core.specs.Traps.{Bits, cell_with}
-use Rattle.keymap_check.specs.declared.kind.Group.TheVariants as group
-use Rattle.keymap_check.specs.declared.kind.Kind.TheVariants as kind
-use Rattle.keymap_check.specs.Cells.{first_place, cell_of, is_of_group, is_group_cell}
-use Rattle.keymap_check.specs.Computed.{findings_at}
-use Rattle.keymap_check.specs.Scripts.{group_at, bears_group, bit_key, bit_keys, script, scripts_of, scripts_from}
-use Rattle.keymap_check.specs.Scripts.{scripts_with, scripts_for, tried_at, has_some, leaves_modifier_on}
-use Rattle.keymap_check.specs.Scripts.{demonstration_of}
-use Rattle.keymap_check.specs.Shown.{group_of, bit_of_group, with_bit, bits_with, HasCharacterWith, IsOneAction}
-use Rattle.keymap_check.specs.Shown.{HasFurtherKey, HasShownTrap}
-use Rattle.console_core.proofs.Traps.{bits_of, look-bits}
+use Rattle.keymap_check.specs.Scripts.{scripts_from}
+use Rattle.keymap_check.specs.Shown.{bits_with, HasCharacterWith, IsOneAction, HasFurtherKey}
+use Rattle.console_core.proofs.Traps.{look-bits}
 use Rattle.console_core.proofs.OneMore.{locked-start, remembered-start}
 use Rattle.keymap_check.proofs.Bits.{bits-more, bits-start}
 use Rattle.keymap_check.proofs.Places.{first_place-cell}
 use Rattle.keymap_check.proofs.Firsts.{none-each}
 use Rattle.keymap_check.proofs.Findings.{safe_by}
+use Rattle.keymap_core.specs.declared.action.Action.TheVariants as act
+use Rattle.keymap_core.specs.declared.action.Lock.TheVariants as lock
+use Rattle.keymap_core.specs.declared.action.Holding.TheVariants as holding
+use Rattle.keymap_check.specs.declared.kind.Group.TheVariants as group
+use Rattle.keymap_check.specs.declared.kind.Kind.TheVariants as kind
 
 -- a modifier turns no lock
 locked-one : (i : Modifier) (k : ℕ) (l : Lock) → locked l (PressedAction k (act.Mod i) ∷ []) ≡ false
@@ -156,36 +149,17 @@ HasSet keys k j =
     (b : ℕ) × (b < 16) × (lacks_key keys b ≡ false)
     × (script keys k 0 b ≡ Press k ∷ Press j ∷ Press k ∷ Release k ∷ Release j ∷ [])
 
--- the key of the first bit has a set
-set-0 : (p q r : Option ℕ) (k j : ℕ) → HasSet (Some j ∷ p ∷ q ∷ r ∷ []) k j
-unfolding gathered lacks_key
-set-0 p q r k j = (1, lit< tt, refl, refl)
-
--- the key of the second bit has a set
-set-1 : (p q r : Option ℕ) (k j : ℕ) → HasSet (p ∷ Some j ∷ q ∷ r ∷ []) k j
-unfolding gathered lacks_key
-set-1 p q r k j = (2, lit< tt, refl, refl)
-
--- the key of the third bit has a set
-set-2 : (p q r : Option ℕ) (k j : ℕ) → HasSet (p ∷ q ∷ Some j ∷ r ∷ []) k j
-unfolding gathered lacks_key
-set-2 p q r k j = (4, lit< tt, refl, refl)
-
--- the key of the fourth bit has a set
-set-3 : (p q r : Option ℕ) (k j : ℕ) → HasSet (p ∷ q ∷ r ∷ Some j ∷ []) k j
-unfolding gathered lacks_key
-set-3 p q r k j = (8, lit< tt, refl, refl)
-
 -- the key of each bit has a set
 has-set : (m : MapValue) (k j : ℕ) (g : Group) → bit_key m k (bit_of_group g) ≡ Some j → HasSet (bit_keys m k) k j
+unfolding gathered lacks_key
 has-set m k j group.Shift e =
-    subst (λ o. HasSet (o ∷ bit_key m k 1 ∷ bit_key m k 2 ∷ bit_key m k 3 ∷ []) k j) (sym e) (set-0 _ _ _ k j)
+    subst (λ o. HasSet (o ∷ bit_key m k 1 ∷ bit_key m k 2 ∷ bit_key m k 3 ∷ []) k j) (sym e) (1, lit< tt, refl, refl)
 has-set m k j group.Control e =
-    subst (λ o. HasSet (bit_key m k 0 ∷ o ∷ bit_key m k 2 ∷ bit_key m k 3 ∷ []) k j) (sym e) (set-1 _ _ _ k j)
+    subst (λ o. HasSet (bit_key m k 0 ∷ o ∷ bit_key m k 2 ∷ bit_key m k 3 ∷ []) k j) (sym e) (2, lit< tt, refl, refl)
 has-set m k j group.Alt e =
-    subst (λ o. HasSet (bit_key m k 0 ∷ bit_key m k 1 ∷ o ∷ bit_key m k 3 ∷ []) k j) (sym e) (set-2 _ _ _ k j)
+    subst (λ o. HasSet (bit_key m k 0 ∷ bit_key m k 1 ∷ o ∷ bit_key m k 3 ∷ []) k j) (sym e) (4, lit< tt, refl, refl)
 has-set m k j group.AltShift e =
-    subst (λ o. HasSet (bit_key m k 0 ∷ bit_key m k 1 ∷ bit_key m k 2 ∷ o ∷ []) k j) (sym e) (set-3 _ _ _ k j)
+    subst (λ o. HasSet (bit_key m k 0 ∷ bit_key m k 1 ∷ bit_key m k 2 ∷ o ∷ []) k j) (sym e) (8, lit< tt, refl, refl)
 
 -- a script that is tried leaves no modifier on where none is given
 if_here : {A : Type 0} (test : A → Bool) (t : Bool) (xs ys : List A) → t ≡ true
@@ -209,17 +183,13 @@ tried-none : (m : MapValue) (k b : ℕ) → k < 128 → b < 16 → has_some (fin
     → lacks_key (bit_keys m k) b ≡ false → demonstration_of m ≡ None
     → leaves_modifier_on m (script (bit_keys m k) k 0 b) ≡ false
 tried-none m k b lt le some lacks e =
-    let s1 : find (leaves_modifier_on m) (tried_at m k) ≡ None =
-    none-each (leaves_modifier_on m) (tried_at m) k 128 lt e in
-    let s2 : find (leaves_modifier_on m) (scripts_for (bit_keys m k) k) ≡ None =
-    if_here (leaves_modifier_on m) (has_some (findings_at m k)) (scripts_for (bit_keys m k) k) [] some s1 in
+    let s1 = none-each (leaves_modifier_on m) (tried_at m) k 128 lt e in
+    let s2 = if_here (leaves_modifier_on m) (has_some (findings_at m k)) (scripts_for (bit_keys m k) k) [] some s1 in
     let s3 : find (leaves_modifier_on m) (scripts_with (bit_keys m k) k 0) ≡ None =
     none-each (leaves_modifier_on m) (scripts_with (bit_keys m k) k) 0 16 (lit< tt) s2 in
-    let s4 : find (leaves_modifier_on m) (scripts_from (bit_keys m k) k 0) ≡ None =
-    if_there (leaves_modifier_on m) (lacks_key (bit_keys m k) 0) [] (scripts_from (bit_keys m k) k 0)
+    let s4 = if_there (leaves_modifier_on m) (lacks_key (bit_keys m k) 0) [] (scripts_from (bit_keys m k) k 0)
     (alone-complete (bit_keys m k)) s3 in
-    let s5 : find (leaves_modifier_on m) (scripts_of (bit_keys m k) k 0 b) ≡ None =
-    none-each (leaves_modifier_on m) (scripts_of (bit_keys m k) k 0) b 16 le s4 in
+    let s5 = none-each (leaves_modifier_on m) (scripts_of (bit_keys m k) k 0) b 16 le s4 in
     let s6 : find (leaves_modifier_on m) (script (bit_keys m k) k 0 b ∷ []) ≡ None =
     if_there (leaves_modifier_on m) (lacks_key (bit_keys m k) b) [] (script (bit_keys m k) k 0 b ∷ []) lacks s5 in
     alone_none (leaves_modifier_on m (script (bit_keys m k) k 0 b)) (script (bit_keys m k) k 0 b) s6
@@ -269,8 +239,7 @@ shown-alone : (m : MapValue) (i : Modifier) (k : ℕ) → k < 128 → cell_at m 
     → HasCharacterWith m k (bits_with i None) → demonstration_of m ≢ None
 shown-alone m i k lt e char none =
     let is : IsCellOf m k (Act (act.Mod i)) = inl (0, lit< tt, e) in
-    let finding : has_some (findings_at m k) ≡ true =
-    found-key m i k char.1.0 is (character-cell m k (bits_with i None) char) in
+    let finding = found-key m i k char.1.0 is (character-cell m k (bits_with i None) char) in
     let off : leaves_modifier_on m (script (bit_keys m k) k 0 0) ≡ false =
     tried-none m k 0 lt (lit< tt) finding (alone-complete (bit_keys m k)) none in
     let h : reverse (script (bit_keys m k) k 0 0) ≡ Release k ∷ Press k ∷ Press k ∷ [] =
@@ -311,10 +280,8 @@ further_by : (m : MapValue) (k : ℕ) (g : Group) (j : ℕ) (o : Option ℕ) →
     → first_place m (kind.Of g) j ≡ o → is_some o ≡ true → IsFurther m k g j
 further_by m k g j None ne one e t = absurd (true≢false (sym t))
 further_by m k g j (Some p) ne one e t =
-    let s : IsCellOf m j (cell_of m j p) × (is_group_cell g (cell_of m j p) ≡ true) =
-    first_place-cell m (kind.Of g) j p e in
-    let y : (y : Modifier) × (cell_of m j p ≡ Act (act.Mod y)) × (group_of y ≡ Some g) =
-    group-cell g (cell_of m j p) s.1 in
+    let s = first_place-cell m (kind.Of g) j p e in
+    let y = group-cell g (cell_of m j p) s.1 in
     let same : Act one.0 ≡ Act (act.Mod y.0) = sym (one.1 (cell_of m j p) s.0) ∙ y.1 in
     (ne, (y.0, y.2, λ c is. one.1 c is ∙ same))
 
@@ -323,9 +290,7 @@ further : (m : MapValue) (k : ℕ) (g : Group) (j : ℕ) → bit_key m k (bit_of
     → IsFurther m k g j
 unfolding bit_key
 further m k g j e one =
-    let s : (j < 128) × (is_other (bears_group m (bit_of_group g)) k j ≡ true)
-    × ((i : ℕ) → i < j → is_other (bears_group m (bit_of_group g)) k i ≡ false) =
-    first_below-some (is_other (bears_group m (bit_of_group g)) k) 128 j e in
+    let s = first_below-some (is_other (bears_group m (bit_of_group g)) k) 128 j e in
     let t : (not (j == k) ≡ true) × (is_some (first_place m (kind.Of (group_at (bit_of_group g))) j) ≡ true) =
     and_parts _ _ s.1 in
     let there : is_some (first_place m (kind.Of g) j) ≡ true =
@@ -348,8 +313,7 @@ shown-further : (m : MapValue) (i : Modifier) (k : ℕ) (g : Group) (j : ℕ) �
     → bit_key m k (bit_of_group g) ≡ Some j → IsOneAction m j → demonstration_of m ≢ None
 shown-further m i k g j lt e char other is_key one none =
     let is : IsCellOf m k (Act (act.Mod i)) = inl (0, lit< tt, e) in
-    let finding : has_some (findings_at m k) ≡ true =
-    found-key m i k char.1.0 is (character-cell m k (bits_with i (Some g)) char) in
+    let finding = found-key m i k char.1.0 is (character-cell m k (bits_with i (Some g)) char) in
     let s : HasSet (bit_keys m k) k j = has-set m k j g is_key in
     let f : IsFurther m k g j = further m k g j is_key one in
     let en : (k == j) ≡ false =
@@ -359,10 +323,8 @@ shown-further m i k g j lt e char other is_key one none =
     f.1.2 _ (look-cell m (PressedAction k (act.Mod i) ∷ []) j all) in
     let character : cell_with m k (bits_with i (group_of f.1.0)) ≡ Char char.1.0 =
     ap (λ o. cell_with m k (bits_with i o)) f.1.1 ∙ char.1.1 in
-    let off : leaves_modifier_on m (script (bit_keys m k) k 0 s.0) ≡ false =
-    tried-none m k s.0 lt s.1 finding s.2 none in
-    let h : reverse (script (bit_keys m k) k 0 s.0) ≡ Release j ∷ Release k ∷ Press k ∷ Press j ∷ Press k ∷ [] =
-    ap reverse s.3 in
+    let off = tried-none m k s.0 lt s.1 finding s.2 none in
+    let h = ap reverse s.3 in
     let is_on : is_on_after (between m m) i (Release j ∷ Release k ∷ Press k ∷ Press j ∷ Press k ∷ []) ≡ true =
     ap (λ r. on i r) (resolved-further m i f.1.0 k j char.1.0 en e seen character)
     ∙ on-further i f.1.0 k j char.1.0 f.0 en (other_modifier i f.1.0 g other f.1.1) in

@@ -1,30 +1,19 @@
 -- Where no key has a trap, no script that is tried leaves a modifier on.
-use Prim.Native.Nat.{zero, suc}
-use Rattle.std.proofs.Common.{◌≡◌, ℕ, ◌<◌, Bool, true, false, List, [], ◌∷◌, ◌++◌, Option, Some, None, refl, subst, sym}
-use Rattle.std.proofs.Common.{◌∙◌, if◌then◌else◌}
-use Rattle.std.specs.Prelude.{reverse, find}
-use Rattle.std.proofs.lemmas.List.{append-nil}
-use Rattle.std.proofs.lemmas.List.Elements.{All-head, All-tail, All-append, All-nil, All-cons}
-use Rattle.std.proofs.lemmas.Bool.{true≢false, false_from_ne_true}
-use Rattle.keymap_core.specs.Held.{key_at, is_other}
-use Rattle.keymap_check.specs.Types.{Modifier, Event, Press, Release}
-use Rattle.keymap_core.specs.declared.action.Holding.TheVariants as holding
-use Rattle.keymap_core.specs.Maps.{MapValue}
-use Rattle.keymap_core.specs.Below.{gathered}
-use Rattle.keymap_core.proofs.Below.{first_below-some}
-use Rattle.keymap_core.proofs.HoldingTests.{no-modifiers}
-use Rattle.keymap_core.specs.Bearers.{Bears}
-use Rattle.console_core.specs.History.{between, in_force, is_on_after, pressed, HasKey, HasKeys}
-use Rattle.console_core.specs.History.{IsQuiet, is_any_on_after}
-use Rattle.console_core.specs.Traps.{NobodyBearsCellPickingLocks, HasNoTrap}
-use Rattle.console_core.proofs.Deliveries.{reverse-cons}
+use Rattle.keymap_check.proofs.Common.{zero, suc, ◌≡◌, ℕ, ◌<◌, Bool, true, false, List, [], ◌∷◌, ◌++◌, Option, Some}
+use Rattle.keymap_check.proofs.Common.{None, refl, subst, sym, ◌∙◌, if◌then◌else◌, reverse, find, append-nil}
+use Rattle.keymap_check.proofs.Common.{All-append, All-nil, All-cons, true≢false, false_from_ne_true, key_at, is_other}
+use Rattle.keymap_check.proofs.Common.{Modifier, Event, Press, Release, MapValue, gathered, first_below-some}
+use Rattle.keymap_check.proofs.Common.{no-modifiers, Bears, between, is_on_after, pressed, HasKey, IsQuiet}
+use Rattle.keymap_check.proofs.Common.{is_any_on_after, NobodyBearsCellPickingLocks, HasNoTrap, reverse-cons}
+use Rattle.keymap_check.proofs.Common.{findings_at, bit_key, bears_group, bit_keys, event_if, event_at, events_of}
+use Rattle.keymap_check.proofs.Common.{script, scripts_for, has_some, tried_at, tried, leaves_modifier_on, is_chosen}
+use Rattle.keymap_check.proofs.Common.{demonstration_of}
+use Rattle.std.proofs.lemmas.List.Elements.{All-head, All-tail}
+use Rattle.console_core.specs.History.{in_force, HasKeys}
 use Rattle.console_core.proofs.Traps.{on_only_while_pressed_without_traps}
 use Rattle.console_core.proofs.OneMap.{one_in_force}
-use Rattle.keymap_check.specs.Computed.{findings_at}
-use Rattle.keymap_check.specs.Scripts.{bit_key, bears_group, bit_keys, event_if, event_at, events_of, script}
-use Rattle.keymap_check.specs.Scripts.{scripts_for, has_some, tried_at, tried}
-use Rattle.keymap_check.specs.Scripts.{leaves_modifier_on, is_chosen, demonstration_of}
 use Rattle.keymap_check.proofs.Quiet.{Every, every-script, every-below, script-quiet}
+use Rattle.keymap_core.specs.declared.action.Holding.TheVariants as holding
 
 -- a quiet list leaves no modifier on
 off-quiet : (m : MapValue) → NobodyBearsCellPickingLocks m → ((i : Modifier) → HasNoTrap m i) → (h : List Event)
@@ -95,8 +84,7 @@ reverse-keys (e ∷ es) h f g =
 pub script-keys : (keys : List (Option ℕ)) (k a b : ℕ) → AreKeys keys → k < 128 → HasKeys (reverse (script keys k a b))
 script-keys keys k a b f lt =
     let press : HasKeys (Press k ∷ []) = All-cons HasKey (Press k) [] lt (All-nil HasKey) in
-    let both : HasKeys (Press k ∷ Release k ∷ []) =
-    All-cons HasKey (Press k) (Release k ∷ []) lt (All-cons HasKey (Release k) [] lt (All-nil HasKey)) in
+    let both = All-cons HasKey (Press k) (Release k ∷ []) lt (All-cons HasKey (Release k) [] lt (All-nil HasKey)) in
     let s1 : HasKeys (events_of true keys a 0 ++ Press k ∷ []) =
     All-append HasKey _ _ (events-keys true keys a 0 4 f) press in
     let s2 : HasKeys ((events_of true keys a 0 ++ Press k ∷ []) ++ events_of false keys a b) =

@@ -1,28 +1,19 @@
 -- The keys that the tried scripts press.
-use Rattle.std.proofs.Common.{◌≡◌, ◌≢◌, ℕ, true, false, not, Option, Some, None, refl, subst, sym, ◌∙◌}
-use Rattle.std.specs.Prelude.{◌==◌}
-use Rattle.std.proofs.lemmas.Bool.{true≢false, eq-eqb, eqb-true, and_parts, not-true, false_from_ne_true}
-use Rattle.std.specs.Option.{is_some}
-use Rattle.keymap_core.specs.declared.action.Action.TheVariants as act
-use Rattle.keymap_core.specs.Held.{is_other}
-use Rattle.keymap_check.specs.Types.{Modifier, LeftShift, RightShift, LeftControl, RightControl, LeftAlt, RightAlt}
-use Rattle.keymap_check.specs.Types.{AltShift, Char, Act, Group}
-use Rattle.keymap_core.specs.Maps.{MapValue}
-use Rattle.keymap_core.specs.Bearers.{IsCellOf}
-use Rattle.keymap_core.specs.Below.{first_below}
-use Rattle.keymap_core.proofs.Below.{IsFirstBelow, first_below-some, first_below-no}
-use Rattle.keymap_check.specs.declared.kind.Group.TheVariants as group
-use Rattle.keymap_check.specs.declared.kind.Kind.TheVariants as kind
-use Rattle.keymap_check.specs.Cells.{first_place, cell_of, is_of_group, is_group_cell, is_any_holding, is_character}
-use Rattle.keymap_check.specs.Computed.{findings_at, finding_by}
-use Rattle.keymap_check.specs.Findings.{IsUnsafeKey}
-use Rattle.keymap_check.specs.Scripts.{group_at, bears_group, bit_key, has_some}
-use Rattle.keymap_check.specs.Shown.{group_of, bit_of_group}
+use Rattle.keymap_check.proofs.Common.{◌≡◌, ◌≢◌, ℕ, true, false, not, Option, Some, None, refl, subst, sym, ◌∙◌, ◌==◌}
+use Rattle.keymap_check.proofs.Common.{true≢false, eq-eqb, eqb-true, and_parts, not-true, false_from_ne_true, is_some}
+use Rattle.keymap_check.proofs.Common.{is_other, Modifier, LeftShift, RightShift, LeftControl, RightControl, LeftAlt}
+use Rattle.keymap_check.proofs.Common.{RightAlt, AltShift, Char, Act, Group, MapValue, IsCellOf, first_below}
+use Rattle.keymap_check.proofs.Common.{first_below-some, first_below-no, first_place, cell_of, is_of_group, findings_at}
+use Rattle.keymap_check.proofs.Common.{finding_by, IsUnsafeKey, group_at, bears_group, bit_key, has_some, group_of}
+use Rattle.keymap_check.proofs.Common.{bit_of_group}
 use Rattle.keymap_check.specs.Tried.{BearsGroup, IsBitKey, BitKeysAreLeast, TriedKeysAreUnsafe}
 use Rattle.keymap_check.proofs.Places.{first_place-cell, no_place-cell}
 use Rattle.keymap_check.proofs.Findings.{safe_by}
 use Rattle.keymap_check.proofs.Same.{IsHeldBy, holding-cell, character-cell}
 use Rattle.keymap_check.proofs.Shown.{group-cell, group-bit, some-finding}
+use Rattle.keymap_core.specs.declared.action.Action.TheVariants as act
+use Rattle.keymap_check.specs.declared.kind.Group.TheVariants as group
+use Rattle.keymap_check.specs.declared.kind.Kind.TheVariants as kind
 
 -- a modifier of the group passes its test
 group-of : (g : Group) (y : Modifier) → group_of y ≡ Some g → is_of_group g y ≡ true
@@ -40,10 +31,8 @@ bears_by : (m : MapValue) (g : Group) (j : ℕ) (o : Option ℕ) → first_place
     → BearsGroup m j g
 bears_by m g j None e t = absurd (true≢false (sym t))
 bears_by m g j (Some p) e t =
-    let s : IsCellOf m j (cell_of m j p) × (is_group_cell g (cell_of m j p) ≡ true) =
-    first_place-cell m (kind.Of g) j p e in
-    let y : (y : Modifier) × (cell_of m j p ≡ Act (act.Mod y)) × (group_of y ≡ Some g) =
-    group-cell g (cell_of m j p) s.1 in
+    let s = first_place-cell m (kind.Of g) j p e in
+    let y = group-cell g (cell_of m j p) s.1 in
     (y.0, y.2, subst (λ x. IsCellOf m j x) y.1 s.0)
 
 -- a key that bears the group has a place of it
@@ -75,8 +64,7 @@ least_by : (m : MapValue) (k : ℕ) (g : Group) (o : Option ℕ)
 least_by m k g None e =
     λ j lt. no_bit_key m k g j (first_below-no (is_other (bears_group m (bit_of_group g)) k) 128 e j lt)
 least_by m k g (Some j) e =
-    let s : IsFirstBelow (is_other (bears_group m (bit_of_group g)) k) 128 j = first_below-some
-    (is_other (bears_group m (bit_of_group g)) k) 128 j e in
+    let s = first_below-some (is_other (bears_group m (bit_of_group g)) k) 128 j e in
     let t : (not (j == k) ≡ true) × (is_some (first_place m (kind.Of (group_at (bit_of_group g))) j) ≡ true) =
     and_parts _ _ s.1 in
     let there : is_some (first_place m (kind.Of g) j) ≡ true =
@@ -98,11 +86,9 @@ unsafe_by : (m : MapValue) (k : ℕ) (o i : Option ℕ) → first_place m kind.A
 unsafe_by m k None i e f t = absurd (true≢false (sym t))
 unsafe_by m k (Some p) None e f t = absurd (true≢false (sym t))
 unsafe_by m k (Some p) (Some q) e f t =
-    let r : IsCellOf m k (cell_of m k p) × (is_any_holding (cell_of m k p) ≡ true) =
-    first_place-cell m kind.AnyHolding k p e in
+    let r = first_place-cell m kind.AnyHolding k p e in
     let h : IsHeldBy (cell_of m k p) = holding-cell (cell_of m k p) r.1 in
-    let s : IsCellOf m k (cell_of m k q) × (is_character (cell_of m k q) ≡ true) =
-    first_place-cell m kind.Character k q f in
+    let s = first_place-cell m kind.Character k q f in
     let c : (c : ℕ) × (cell_of m k q ≡ Char c) = character-cell (cell_of m k q) s.1 in
     (h.0, subst (λ x. IsCellOf m k x) h.1 r.0, (c.0, subst (λ x. IsCellOf m k x) c.1 s.0))
 

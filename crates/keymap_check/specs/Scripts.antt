@@ -1,11 +1,10 @@
 -- The scripts that a demonstration tries, as events in the order of delivery.
-use Rattle.std.specs.Prelude.{ℕ, ◌==◌, Bool, true, false, ◌&&◌, not, List, [], ◌∷◌, ◌++◌, Option}
-use Rattle.std.specs.Prelude.{None, Some, if◌then◌else◌, reverse, find}
-use Rattle.std.specs.Option.{is_some}
+use Rattle.std.specs.Prelude.{ℕ, ◌/◌, ◌%◌, ◌^◌, ◌==◌, Bool, true, false, ◌&&◌, ◌||◌, not, List, [], ◌∷◌, ◌++◌}
+use Rattle.std.specs.Prelude.{Option, None, Some, if◌then◌else◌, reverse, find, slice_index_or}
+use Rattle.std.specs.Option.{is_some, is_none}
 use Rattle.keymap_core.specs.Maps.{MapValue}
 use Rattle.keymap_core.specs.Numbers.{key_count}
-use Rattle.keymap_core.specs.Below.{gathered}
-use Rattle.keymap_core.specs.Held.{has_bit, key_at, least_other, lacks_key}
+use Rattle.keymap_core.specs.Below.{gathered, first_below}
 use Rattle.keymap_check.specs.Types.{Event, Press, Release, Group, Finding}
 use Rattle.console_core.specs.History.{between, is_any_on_after}
 use Rattle.keymap_check.specs.declared.kind.Group.TheVariants as group
@@ -13,7 +12,11 @@ use Rattle.keymap_check.specs.declared.kind.Kind.TheVariants as kind
 use Rattle.keymap_check.specs.Cells.{first_place}
 use Rattle.keymap_check.specs.Computed.{findings_at}
 
--- bit 0 is shift, bit 1 control, bit 2 alt, bit 3 ashift
+-- A set of shift, control, alt and ashift is a number: bit 0 is shift, bit 1 control, bit 2 alt, bit 3 ashift. The left
+-- and the right one count alike.
+abbrev pub has_bit : ℕ → ℕ → Bool
+has_bit set bit = ((set / 2 ^ bit) % 2) == 1
+
 abbrev pub group_at : ℕ → Group
 group_at bit =
     if bit == 0 then group.Shift else if bit == 1 then group.Control else if bit == 2 then group.Alt
@@ -23,12 +26,28 @@ group_at bit =
 abbrev pub bears_group : MapValue → ℕ → ℕ → Bool
 bears_group m bit k = is_some (first_place m (kind.Of (group_at bit)) k)
 
--- the key of a bit: the least one, other than the tried key k, that bears a modifier of its group
+-- the key j bears what is asked for, and isn't the tried key k
+abbrev pub is_other : (ℕ → Bool) → ℕ → ℕ → Bool
+is_other bears k j = not (j == k) && bears j
+
+-- the key of a bit, which is held for it: the least one, other than the tried key k, that bears a modifier of its group
 unfoldable pub bit_key : MapValue → ℕ → ℕ → Option ℕ
-bit_key m k bit = least_other (bears_group m bit) k
+bit_key m k bit = first_below (is_other (bears_group m bit) k) key_count
 
 abbrev pub bit_keys : MapValue → ℕ → List (Option ℕ)
 bit_keys m k = bit_key m k 0 ∷ bit_key m k 1 ∷ bit_key m k 2 ∷ bit_key m k 3 ∷ []
+
+-- the key that is held for a bit
+abbrev pub key_at : List (Option ℕ) → ℕ → Option ℕ
+key_at keys bit = slice_index_or keys bit None
+
+-- the set has the bit, and no key is held for it
+abbrev pub is_lacking : List (Option ℕ) → ℕ → ℕ → Bool
+is_lacking keys set bit = has_bit set bit && is_none (key_at keys bit)
+
+-- the set has a bit for which no key is held
+unfoldable pub lacks_key : List (Option ℕ) → ℕ → Bool
+lacks_key keys set = is_lacking keys set 0 || is_lacking keys set 1 || is_lacking keys set 2 || is_lacking keys set 3
 
 abbrev pub event_of : Bool → ℕ → Event
 event_of is_press k = if is_press then Press k else Release k

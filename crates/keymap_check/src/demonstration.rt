@@ -14,10 +14,10 @@ ghost use Rattle.keymap_check.specs.Inner.Surveyed.{IsSurvey};
 ghost use Rattle.keymap_check.specs.Shown.{HasShownTrap};
 
 use crate::finding::is_found;
-use crate::script::{Script, bit_keys, event_at, make_script};
+use crate::script::{BitKeys, Script, bit_keys, event_at, lacks_key, make_script};
 use crate::survey::Survey;
 use console_core::{Event, Translator, WordConsole, is_any_on};
-use keymap_core::{BitKeys, KEY_COUNT, KeyCode, KeyMap, key_with, lacks_key};
+use keymap_core::{KEY_COUNT, KeyCode, KeyMap, key_with};
 
 /// Delivers presses or releases of the keys of the bits that are in the set and not in the other one.
 #[inline(always)]

@@ -1,10 +1,7 @@
 //! The script that tries one key.
-ghost use Rattle.std.specs.Prelude.{◌≡◌, ℕ, ◌<◌, ◌≤◌, ◌+◌, ◌++◌, MatchOption, length, true, false, [], ◌∷◌};
-ghost use Rattle.std.specs.Prelude.{slice_index_or};
+ghost use Rattle.std.specs.Prelude.{◌≡◌, ◌<◌, ◌≤◌, ◌+◌, ◌++◌, MatchOption, length, true, false, [], ◌∷◌};
 ghost use Rattle.arrayvec.specs.ArrayVec.{array_vec_len};
-ghost use Rattle.keymap_check.specs.Scripts.{group_at as group_in, bears_group, event_of as event_by};
-ghost use Rattle.keymap_check.specs.Scripts.{bit_key as bit_key_of, bit_keys as bit_keys_of, event_at as event_in};
-ghost use Rattle.keymap_check.specs.Scripts.{is_chosen as is_chosen_of, events_of, script as script_of};
+ghost use Rattle.keymap_check.specs.Scripts as spec;
 ghost use Rattle.keymap_check.specs.Inner.Surveyed.{IsSurvey};
 ghost use Rattle.keymap_core.specs.Maps.{MapValue};
 ghost use Rattle.keymap_core.specs.Numbers.{key_count};
@@ -13,14 +10,25 @@ use crate::kind::{Group, Kind};
 use crate::survey::Survey;
 use arrayvec::ArrayVec;
 use console_core::Event;
-use keymap_core::{BitKeys, KEY_COUNT, KeyCode, has_bit, least_other};
+use keymap_core::{KEY_COUNT, KeyCode, key_with};
 
 /// The events that a demonstration delivers, in their order.
 pub type Script = ArrayVec<Event, 11>;
 
+/// For each of the four bits of a set the key that is held, where there is one.
+pub(crate) type BitKeys = [Option<KeyCode>; 4];
+
+/// Whether the set of shift, control, alt and ashift has the bit.
+fn has_bit(set: u8, bit: u8) -> bool
+    requires { bit < 4 }
+    ensures { result ≡ spec.has_bit set bit }
+{
+    (set >> bit) % 2 == 1
+}
+
 /// The modifiers that the bit of a set stands for.
 fn group_at(bit: u8) -> Group
-    ensures { result ≡ group_in bit }
+    ensures { result ≡ spec.group_at bit }
 {
     match bit {
         0 => Group::Shift,
@@ -33,33 +41,34 @@ fn group_at(bit: u8) -> Group
 /// Whether the bit is in the set and not in the other one.
 fn is_chosen(set: u8, except: u8, bit: u8) -> bool
     requires { bit < 4 }
-    ensures { result ≡ is_chosen_of set except bit }
+    ensures { result ≡ spec.is_chosen set except bit }
 {
     has_bit(set, bit) && !has_bit(except, bit)
 }
 
-/// Whether each key bears a modifier of the bit.
-fn bearers(survey: &Survey, bit: u8) -> [bool; KEY_COUNT]
-    ensures { (m : MapValue) → IsSurvey m survey.now
-        → (k : ℕ) → k < key_count → slice_index_or result k false ≡ bears_group m bit k }
+/// Whether the key bears a modifier of the bit, and isn't the tried one.
+fn is_other(survey: &Survey, tried: u8, bit: u8, key: u8) -> bool
+    requires { key < key_count }
+    ensures { (m : MapValue) → IsSurvey m survey.now → result ≡ spec.is_other (spec.bears_group m bit) tried key }
 {
-    let mut bearers = [false; KEY_COUNT];
-    for key in 0..KEY_COUNT as u8 {
-        bearers[key as usize] = survey.has(key, Kind::Of(group_at(bit)));
-    }
-    bearers
+    key != tried && survey.has(key, Kind::Of(group_at(bit)))
 }
 
 /// The least key, other than the tried one, that bears a modifier of the bit.
 fn bit_key(survey: &Survey, tried: u8, bit: u8) -> Option<KeyCode>
-    ensures { (m : MapValue) → IsSurvey m survey.now → result ≡ bit_key_of m tried bit }
+    ensures { (m : MapValue) → IsSurvey m survey.now → result ≡ spec.bit_key m tried bit }
 {
-    least_other(&bearers(survey, bit), tried)
+    for key in 0..KEY_COUNT as u8 {
+        if is_other(survey, tried, bit, key) {
+            return Some(key_with(key));
+        }
+    }
+    None
 }
 
 /// The keys of the bits, while the key is tried.
 pub(crate) fn bit_keys(survey: &Survey, tried: u8) -> BitKeys
-    ensures { (m : MapValue) → IsSurvey m survey.now → result ≡ bit_keys_of m tried }
+    ensures { (m : MapValue) → IsSurvey m survey.now → result ≡ spec.bit_keys m tried }
 {
     [
         bit_key(survey, tried, 0),
@@ -69,8 +78,27 @@ pub(crate) fn bit_keys(survey: &Survey, tried: u8) -> BitKeys
     ]
 }
 
+/// Whether the set has the bit and no key is held for it.
+fn is_lacking(keys: &BitKeys, set: u8, bit: u8) -> bool
+    requires { bit < 4 }
+    ensures { result ≡ spec.is_lacking keys.now set bit }
+{
+    has_bit(set, bit) && keys[bit as usize].is_none()
+}
+
+/// Whether the set has a bit for which no key is held.
+#[tactic(auto, unfolding(crate::specs::Scripts::lacks_key))]
+pub(crate) fn lacks_key(keys: &BitKeys, set: u8) -> bool
+    ensures { result ≡ spec.lacks_key keys.now set }
+{
+    is_lacking(keys, set, 0)
+        || is_lacking(keys, set, 1)
+        || is_lacking(keys, set, 2)
+        || is_lacking(keys, set, 3)
+}
+
 fn event_of(key: KeyCode, is_press: bool) -> Event
-    ensures { result ≡ event_by is_press key }
+    ensures { result ≡ spec.event_of is_press key }
 {
     if is_press {
         Event::Press(key)
@@ -88,8 +116,8 @@ pub(crate) fn event_at(
     is_press: bool,
 ) -> Option<Event>
     requires { bit < 4 }
-    ensures { MatchOption result (event_in is_press keys.now set except bit ≡ [])
-        (λ e. event_in is_press keys.now set except bit ≡ e ∷ []) }
+    ensures { MatchOption result (spec.event_at is_press keys.now set except bit ≡ [])
+        (λ e. spec.event_at is_press keys.now set except bit ≡ e ∷ []) }
 {
     if !is_chosen(set, except, bit) {
         return None;
@@ -102,10 +130,10 @@ pub(crate) fn event_at(
 
 /// Appends presses or releases of the keys of the bits that are in the set and not in the other one.
 fn push_events(script: &mut Script, keys: &BitKeys, set: u8, except: u8, is_press: bool)
-    requires { array_vec_len script.old + length (events_of is_press keys.now set except) ≤ 11 }
-    ensures items { script.new.items ≡ script.old.items ++ events_of is_press keys.now set except }
+    requires { array_vec_len script.old + length (spec.events_of is_press keys.now set except) ≤ 11 }
+    ensures items { script.new.items ≡ script.old.items ++ spec.events_of is_press keys.now set except }
     ensures len { array_vec_len script.new
-        ≡ array_vec_len script.old + length (events_of is_press keys.now set except) }
+        ≡ array_vec_len script.old + length (spec.events_of is_press keys.now set except) }
 {
     for bit in 0..4 {
         match event_at(keys, set, except, bit, is_press) {
@@ -117,7 +145,7 @@ fn push_events(script: &mut Script, keys: &BitKeys, set: u8, except: u8, is_pres
 
 /// The script that tries the key with the sets of bits.
 pub(crate) fn make_script(keys: &BitKeys, key: KeyCode, a: u8, b: u8) -> Script
-    ensures { result.items ≡ script_of keys.now key a b }
+    ensures { result.items ≡ spec.script keys.now key a b }
 {
     let mut script = ArrayVec::new();
     push_events(&mut script, keys, a, 0, true);

@@ -6,7 +6,6 @@ pub use Rattle.keymap_core.specs.Actions.{same_action}
 unfoldable pub use Rattle.keymap_core.specs.Below.{first_below}
 pub use Rattle.keymap_core.specs.Borne.{is_cell_of_action}
 unfoldable pub use Rattle.keymap_core.specs.Borne.{any_below, has_in_slot, is_borne, is_upper_live}
-unfoldable pub use Rattle.keymap_core.specs.Held.{is_other}
 pub use Rattle.keymap_core.specs.Maps.{MapValue, cell_at, undefined}
 pub use Rattle.keymap_core.specs.Names.{are_digits, combined_names, digits_value, meaning_of, number_behind}
 pub use Rattle.keymap_core.specs.declared.action.Action.{Action}

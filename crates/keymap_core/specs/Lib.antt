@@ -6,7 +6,6 @@ pub mod Borne
 pub mod Bounds
 pub mod CodePoints
 pub mod Devices
-pub mod Held
 pub mod Inner
 pub mod Maps
 pub mod Names

@@ -11,7 +11,8 @@ pub(crate) trait Bounded {
         ensures { Is self.now };
 }
 
-/// Reads each.
+/// Reads each. It is inlined, as the law over maps is, so that LLVM sees that nothing is done, and leaves it out.
+#[inline(always)]
 pub(crate) fn have_bounds<T: Bounded>(values: &[T])
     ensures { All T.Is values.now }
 {

@@ -125,6 +125,7 @@ pub fn an_accent_is_set_at_its_index()
 
 /// Each map holds at most 256 entries of eight cells and 15 accents of 52 pairs, each cell a scalar value or an action
 /// of the table, and no base 0.
+#[inline(always)]
 pub fn every_keymap_is_within_the_bounds(map: &KeyMap)
     ensures { IsMap map.now }
 {

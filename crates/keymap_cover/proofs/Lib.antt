@@ -1,7 +1,8 @@
-pub mod Beginning
+mod Common
 pub mod Listed
 pub mod Marking
 pub mod Showing
 pub mod Telling
 pub mod Touring
 pub mod Walking
+mod Ordered

@@ -1,9 +1,6 @@
 -- The lists of all sights are what is listed to the last place.
-use Rattle.std.proofs.Common.{◌≡◌, ℕ, List, ap, ◌∙◌}
-use Rattle.std.specs.Prelude.{map}
-use Rattle.std.specs.List.{range_with_len}
-use Rattle.console_core.specs.declared.selection.Sight.{Sight}
-use Rattle.keymap_cover.specs.SightLists.{cell_at_place, all_cells, lock_setting_at_place, all_lock_settings}
+use Rattle.keymap_cover.proofs.Common.{◌≡◌, ℕ, List, ap, ◌∙◌, map, range_with_len, Sight, cell_at_place, all_cells}
+use Rattle.keymap_cover.proofs.Common.{lock_setting_at_place, all_lock_settings}
 
 pub cells-listed : (xs : List Sight) (n : ℕ) → xs ≡ map cell_at_place (range_with_len 0 n) → n ≡ 2048 → xs ≡ all_cells
 unfolding all_cells

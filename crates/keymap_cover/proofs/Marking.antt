@@ -1,18 +1,15 @@
 -- What is seen, by the marks in a table and by a list of pairs.
-use Prim.Native.Nat.{zero, suc}
-use Rattle.std.proofs.Common.{◌≡◌, ℕ, ◌<◌, ◌≤◌, arith, Bool, true, false, ◌&&◌, List, []}
-use Rattle.std.proofs.Common.{refl, ap, subst, sym, ◌∙◌, length, if◌then◌else◌}
-use Rattle.std.specs.Prelude.{◌==◌, nat_lt, slice_set, slice_index_or, replicate}
-use Rattle.std.specs.List.{Contains, list_any}
-use Rattle.std.proofs.Math.Bool.{and-false}
-use Rattle.std.proofs.lemmas.Bool.{and_parts, eqb-true, eq-eqb, true≢false}
+use Rattle.keymap_cover.proofs.Common.{zero, suc, ◌≡◌, ℕ, ◌<◌, ◌≤◌, arith, Bool, true, false, List, [], refl, ap, subst}
+use Rattle.keymap_cover.proofs.Common.{sym, ◌∙◌, length, if◌then◌else◌, ◌==◌, slice_set, slice_index_or, replicate}
+use Rattle.keymap_cover.proofs.Common.{Contains, list_any, and-false, eqb-true, eq-eqb, true≢false, bit, Sight}
+use Rattle.keymap_cover.proofs.Common.{cell_place, lock_setting_place, is_pair}
+use Rattle.std.proofs.Common.{◌&&◌}
+use Rattle.std.specs.Prelude.{nat_lt}
+use Rattle.std.proofs.lemmas.Bool.{and_parts}
 use Rattle.std.proofs.lemmas.List.{get_or-set_same, get_or-set_other}
-use Rattle.console_core.specs.Columns.{bit}
-use Rattle.console_core.specs.declared.selection.Sight.{Sight}
-use Rattle.console_core.specs.declared.selection.Sight.TheVariants as sight
 use Rattle.console_core.proofs.Visible.{same-truth, fails, any-member, some-member, both}
-use Rattle.keymap_cover.specs.SightLists.{cell_place, lock_setting_place}
-use Rattle.keymap_cover.specs.SeenSights.{is_pair, seen_in}
+use Rattle.keymap_cover.specs.SeenSights.{seen_in}
+use Rattle.console_core.specs.declared.selection.Sight.TheVariants as sight
 
 -- an element after a write
 pub set-cases : (xs : List Bool) (i j : ℕ) (v : Bool) → i < length xs → (t : Bool) → (i == j) ≡ t

@@ -1,68 +1,85 @@
--- A tour along events that show everything leaves nothing out.
-use Rattle.std.proofs.Common.{◌≡◌, ℕ, ◌+◌, ◌<◌, Bool, true, false, List, [], ◌++◌, refl, ap, subst, sym, ◌∙◌}
-use Rattle.std.proofs.Common.{arith, append_assoc, append-nil, length, get_or}
-use Rattle.std.specs.Prelude.{◌==◌}
-use Rattle.std.specs.List.{Contains}
-use Rattle.std.proofs.lemmas.Bool.{eqb-true, eq-eqb, true≢false}
-use Rattle.std.proofs.lemmas.List.{get_or_default}
-use Rattle.keymap_core.specs.Maps.{MapValue}
-use Rattle.console_core.specs.declared.event.Event.{Event}
-use Rattle.console_core.specs.declared.selection.Sight.{Sight}
-use Rattle.console_core.specs.History.{Maps}
-use Rattle.console_core.specs.Returning.{AreEventsThatShow}
-use Rattle.console_core.specs.Sights.{SeesAlong, IsReachable}
-use Rattle.keymap_cover.specs.declared.tour.Tour.{Tour}
-use Rattle.keymap_cover.specs.Told.{AreTold}
-use Rattle.keymap_cover.specs.SeenSights.{has_seen}
-use Rattle.keymap_cover.specs.Inner.Tours.{RunsAlong, GoesAlongToRest, ComesAfter, IsTaken, AreUp, IsTourAlong}
-use Rattle.keymap_cover.specs.Inner.Tours.{EndsAtRest, SeesAll, LeavesNothingOut}
+-- A console goes from visit to visit, and sees what can be seen.
+use Rattle.keymap_cover.proofs.Common.{suc, ◌≡◌, ℕ, ◌+◌, ◌<◌, ◌≤◌, Bool, true, false, List, [], ◌∷◌, ◌++◌, Some, refl}
+use Rattle.keymap_cover.proofs.Common.{ap, subst, sym, inl, inr, ◌∙◌, arith, append_assoc, length, get_or, reverse}
+use Rattle.keymap_cover.proofs.Common.{Result, Ok, Err, ◌==◌, OnOk, Contains, eqb-true, eq-eqb, true≢false}
+use Rattle.keymap_cover.proofs.Common.{get_or_default, All-nil, All-cons, Contains-append_cases, MapValue, Event, Sight}
+use Rattle.keymap_cover.proofs.Common.{Maps, AreTaken, NoTurnIsOneWay, SeesAlong, IsReachable, Stroke, Tour, has_seen}
+use Rattle.keymap_cover.proofs.Common.{all_cells, all_lock_settings, event_of, events_of, is_down, IsTold, pairs_in}
+use Rattle.keymap_cover.proofs.Common.{GoesAlongToRest, ComesAfter, AreUp, GoesUnderWay, GoesResting}
+use Rattle.std.proofs.Common.{length-append}
+use Rattle.std.proofs.lemmas.List.{length-reverse}
+use Rattle.keymap_core.specs.declared.action.Lock.TheVariants.{Caps, Num, Alt}
+use Rattle.console_core.specs.History.{HasNoLoads, IsNoLoad}
+use Rattle.console_core.specs.Planning.{HasLocks, Planned, Visits}
+use Rattle.keymap_cover.specs.Inner.Tours.{RunsAlong, IsTourOf, IsUnderWay, GoesFurther, SeesAll, LeavesNothingOut}
+use Rattle.keymap_cover.specs.Inner.Tours.{EndsAtRest}
+use Rattle.keymap_cover.proofs.Telling.{all-told}
+use Rattle.keymap_cover.proofs.Touring.{at-rest_new}
+use Rattle.keymap_cover.proofs.Walking.{after-more}
+use Rattle.keymap_cover.specs.declared.stroke.Stroke.TheVariants as stroke
 
--- a new console goes along
-pub along-new : (m : MapValue) (later : List Event) (A : Maps → List Event → Type 0) (a : Tour)
-    (B : Maps → List Event → Type 0) (b : Tour) → RunsAlong m A [] a → GoesAlongToRest m later A a B b
-    → AreUp b.pressed → IsTourAlong m later b
-along-new m later A a B b start goes up =
-    let (g, run, rest, exact) = goes [] start in (
-      up,
-      (
-        g,
-        run.1,
-        rest,
-        (λ taken.
-            subst (λ z. ComesAfter z g) (append-nil later)
-            (exact (subst (λ z. IsTaken z) (sym (append-nil later)) taken))),
-      ),
-    )
+-- strokes make no loads
+strokes-loads : (xs : List Stroke) → HasNoLoads (events_of xs)
+strokes-loads [] = All-nil IsNoLoad
+strokes-loads (stroke.Down k ∷ xs) = All-cons IsNoLoad (event_of (stroke.Down k)) (events_of xs) refl (strokes-loads xs)
+strokes-loads (stroke.Repeat k ∷ xs) =
+    All-cons IsNoLoad (event_of (stroke.Repeat k)) (events_of xs) refl (strokes-loads xs)
+strokes-loads (stroke.Up k ∷ xs) = All-cons IsNoLoad (event_of (stroke.Up k)) (events_of xs) refl (strokes-loads xs)
+strokes-loads (stroke.Reset ∷ xs) = All-cons IsNoLoad (event_of stroke.Reset) (events_of xs) refl (strokes-loads xs)
 
-pub along-ends : (m : MapValue) (later : List Event) (t : Tour) → IsTourAlong m later t → EndsAtRest m t
-along-ends m later t (up, (g, tour, rest, exact)) = (up, (g, tour, rest))
+tour-loads : (m : MapValue) (h : List Event) (t : Tour) → IsTourOf m h t → HasNoLoads h
+tour-loads m h t tour = subst HasNoLoads tour.events (strokes-loads (reverse t.strokes.items))
 
 -- what is seen along a list is seen along a longer one
-sees-longer : (m : MapValue) (more h : List Event) (x : Sight) → SeesAlong m h x → SeesAlong m (more ++ h) x
-sees-longer m more h x (later, before, k, at, sees) =
+sees-longer : (m : MapValue) (h g : List Event) (x : Sight) → ComesAfter h g → SeesAlong m h x → SeesAlong m g x
+sees-longer m h g x (more, is) (later, before, k, at, sees) =
+    subst (λ z. SeesAlong m z x) (sym is)
     (more ++ later, before, k, ap (λ z. more ++ z) at ∙ sym (append_assoc more later _), sees)
 
-pub tour-shows : (m : MapValue) (xs : List Sight) (h : List Event) (t : Tour) → AreEventsThatShow m xs h
-    → IsTourAlong m h t → SeesAll m xs t
-tour-shows m xs h t (none, of, shows) (up, (g, tour, rest, exact)) steady x has reachable =
-    let (more, is) : ComesAfter h g = exact (none, of) in
-    tour.all_seen x
-    (subst (λ z. SeesAlong m z x) (sym is) (sees-longer m more h x (shows steady x has reachable)))
+-- so what was seen once was seen later
+pub seen-still : (m : MapValue) (h g : List Event) (a b : Tour) (x : Sight) → IsTourOf m h a → IsTourOf m g b
+    → ComesAfter h g → has_seen a.seen x ≡ true → has_seen b.seen x ≡ true
+seen-still m h g a b x before now after has = now.all_seen x (sees-longer m h g x after (before.seen x has))
 
--- where none of what is told of is left out
-pub none-out : (m : MapValue) (xs ys : List Sight) (t : Tour) → AreTold m xs → ys ≡ xs
-    → ((x : Sight) → Contains ys x → IsReachable m x → has_seen t.seen x ≡ true) → LeavesNothingOut m t
-none-out m xs ys t are same none steady x told reachable =
-    none x (subst (λ z. Contains z x) (sym same) ((are x).0 told)) reachable
+-- a visit goes on, and sees what was aimed at
+pub visit-goes : (m : MapValue) (A : Maps → List Event → Type 0) (p : Planned) (a : Tour)
+    (B : Maps → List Event → Type 0) (q : Planned) (b : Tour) (later : List Event) → q.map ≡ p.map
+    → Visits p.map p.locks q.locks p.aim later
+    → GoesAlongToRest m later A a B b → AreUp b.pressed
+    → GoesUnderWay m A p a B q b ((x : Sight) → p.aim ≡ Some x → IsReachable m x → has_seen b.seen x ≡ true)
+visit-goes m A p a B q b later same visits walk up h w =
+    let (g, run, rest, after, exact) = walk h w.runs in
+    let v = subst (λ z. Visits z p.locks q.locks p.aim later) w.map visits in
+    let (taken, locks, sees) = v h w.runs.1.keys (tour-loads m h a w.runs.1) w.locks in
+    let turns = exact taken in (
+      g,
+      record {
+        runs = run;
+        up = up;
+        rest = rest;
+        map = same ∙ w.map;
+        locks = (turns.1 Caps ∙ locks.0, turns.1 Num ∙ locks.1, turns.1 Alt ∙ locks.2);
+      },
+      after,
+      (λ x aim can. run.1.all_seen x (sees-longer m (later ++ h) g x turns.0 (sees x aim can))),
+    )
 
--- Where something is left out though the tour shows all if no turn is one-way, some turn is.
-pub some-out : (m : MapValue) (xs ys zs : List Sight) (t other : Tour) → ys ≡ xs → zs ≡ xs → SeesAll m zs t
-    → (x : Sight) × Contains ys x × IsReachable m x × (has_seen t.seen x ≡ false)
-    → LeavesNothingOut m other
-some-out m xs ys zs t other same equal sees (x, has, reachable, unseen) steady y told can =
-    let there : Contains xs x = subst (λ z. Contains z x) same has in
-    absurd (true≢false
-    (sym (sees steady x (subst (λ z. Contains z x) (sym equal) there) reachable) ∙ unseen))
+-- the planner aims at something else
+pub aims-else : (m : MapValue) (A : Maps → List Event → Type 0) (p q : Planned) (t : Tour) (h : List Event)
+    → (q.map ≡ p.map) × (q.locks ≡ p.locks) → IsUnderWay m A p t h → IsUnderWay m A q t h
+aims-else m A p q t h (map, locks) w = record {
+  runs = w.runs;
+  up = w.up;
+  rest = w.rest;
+  map = map ∙ w.map;
+  locks = subst (λ z. HasLocks m z h) (sym locks) w.locks;
+}
+
+-- nothing is done
+pub stays-so : (m : MapValue) (A : Maps → List Event → Type 0) (p q : Planned) (t : Tour) (P : Type 0)
+    → (q.map ≡ p.map) × (q.locks ≡ p.locks) → ((h : List Event) → IsUnderWay m A p t h → P)
+    → GoesUnderWay m A p t A q t P
+stays-so m A p q t P same holds h w = (h, aims-else m A p q t h same w, ([], refl), holds h w)
 
 -- what holds of the elements before a place, and of that at the place
 pub holds-more : (xs : List Sight) (i : ℕ) (d : Sight) (P : Sight → Type 0) → i < length xs → P (get_or xs i d)
@@ -77,3 +94,120 @@ holds-more xs i d P within here before n x lt at = which (n == i) refl
     which false e =
         let other : n ≡ i → ⊥ = λ f. true≢false (sym (eq-eqb n i f) ∙ e) in
         before n x (omega (arith, lt, other)) at
+
+-- what holds of the sights before a place, and of that at the place, as the tour goes on
+pub all-more : (m : MapValue) (A : Maps → List Event → Type 0) (p : Planned) (a : Tour) (B : Maps → List Event → Type 0)
+    (q : Planned) (b : Tour) (C : Maps → List Event → Type 0) (r : Planned) (c : Tour) (xs : List Sight) (i : ℕ)
+    (d : Sight)
+    → i < length xs
+    → GoesUnderWay m A p a B q b (NoTurnIsOneWay m → (n : ℕ) (x : Sight) → n < i → get_or xs n x ≡ x → IsReachable m x
+    → has_seen b.seen x ≡ true)
+    → GoesUnderWay m B q b C r c (NoTurnIsOneWay m → IsReachable m (get_or xs i d)
+    → has_seen c.seen (get_or xs i d) ≡ true)
+    → GoesUnderWay m A p a C r c (NoTurnIsOneWay m → (n : ℕ) (x : Sight) → n < i + 1 → get_or xs n x ≡ x
+    → IsReachable m x → has_seen c.seen x ≡ true)
+all-more m A p a B q b C r c xs i d lt first next h w =
+    let (g, v, after, before) = first h w in
+    let (f, u, more, here) = next g v in (
+      f,
+      u,
+      after-more h g f after more,
+      (λ steady.
+          holds-more xs i d (λ x. IsReachable m x → has_seen c.seen x ≡ true) lt (here steady)
+          (λ n x below at can. seen-still m g f b c x v.runs.1 u.runs.1 more (before steady n x below at can))),
+    )
+
+-- ---- the whole script
+
+length-events_of : (xs : List Stroke) → length (events_of xs) ≡ length xs
+length-events_of [] = refl
+length-events_of (x ∷ xs) = ap suc (length-events_of xs)
+
+tour-length : (m : MapValue) (h : List Event) (t : Tour) → IsTourOf m h t → length h ≡ length t.strokes.items
+tour-length m h t tour =
+    ap (λ z. length z) (sym tour.events) ∙ length-events_of (reverse t.strokes.items) ∙ length-reverse t.strokes.items
+
+-- a tour that goes on gets no shorter
+pub tour-longer : (m : MapValue) (h g : List Event) (a b : Tour) → IsTourOf m h a → IsTourOf m g b → ComesAfter h g
+    → length a.strokes.items ≤ length b.strokes.items
+tour-longer m h g a b before now (later, is) =
+    let e = tour-length m h a before in
+    let f = tour-length m g b now in
+    let more = ap (λ z. length z) is ∙ length-append later h in
+    omega (arith, e, f, more)
+
+-- before the first visit
+nothing-down : (xs : List Stroke) (k : ℕ) → events_of xs ≡ [] → is_down k xs ≡ false
+nothing-down [] k e = refl
+nothing-down (x ∷ xs) k e = let none : event_of x ∷ events_of xs ≡ [] = e in cc
+
+pub under-way-new : (m : MapValue) (A : Maps → List Event → Type 0) (p : Planned) (t : Tour)
+    → (p.map ≡ m) × HasLocks m p.locks [] → RunsAlong m A [] t → IsUnderWay m A p t []
+under-way-new m A p t plan run = record {
+  runs = run;
+  up = λ k lt. run.1.pressed k lt ∙ nothing-down (reverse t.strokes.items) k run.1.events;
+  rest = at-rest_new m;
+  map = plan.0;
+  locks = plan.1;
+}
+
+-- what can be seen of the keys and of the pairs was seen
+pub leaves-nothing : (m : MapValue) (xs ys : List Sight) (t : Tour) → xs ≡ all_cells ++ all_lock_settings
+    → ys ≡ pairs_in m → SeesAll m xs t → SeesAll m ys t → LeavesNothingOut m t
+leaves-nothing m xs ys t keys pairs first second steady x told can =
+    let has : Contains (xs ++ ys) x =
+    (all-told m (xs ++ ys) (ap (λ z. z ++ ys) keys ∙ ap (λ z. (all_cells ++ all_lock_settings) ++ z) pairs) x).0 told in
+    elim (Contains-append_cases xs ys x has) [
+      | inl key ↦ first steady x key can
+      | inr pair ↦ second steady x pair can
+    ]
+
+-- the keys first, and then the pairs
+pub told-shown : (m : MapValue) (A : Maps → List Event → Type 0) (p : Planned) (a : Tour)
+    (B : Maps → List Event → Type 0) (q : Planned) (b : Tour) (C : Maps → List Event → Type 0) (r : Planned) (d : Tour)
+    (xs ys : List Sight) (n : ℕ)
+    → xs ≡ all_cells ++ all_lock_settings → ys ≡ pairs_in m → n ≡ length b.strokes.items
+    → GoesUnderWay m A p a B q b (SeesAll m xs b) → GoesUnderWay m B q b C r d (SeesAll m ys d)
+    → GoesUnderWay m A p a C r d (LeavesNothingOut m d × (n ≤ length d.strokes.items))
+told-shown m A p a B q b C r d xs ys n keys pairs is first second h w =
+    let (g, v, after, seen) = first h w in
+    let (f, u, more, all) = second g v in
+    let still : SeesAll m xs d =
+    λ steady x has can. seen-still m g f b d x v.runs.1 u.runs.1 more (seen steady x has can) in (
+      f,
+      u,
+      after-more h g f after more,
+      (
+        leaves-nothing m xs ys d keys pairs still all,
+        subst (λ k. k ≤ length d.strokes.items) (sym is) (tour-longer m g f b d v.runs.1 u.runs.1 more),
+      ),
+    )
+
+-- one walk behind another
+pub walks-further : (m : MapValue) (x y : List Event) (A : Maps → List Event → Type 0) (a : Tour)
+    (B : Maps → List Event → Type 0) (b : Tour) (C : Maps → List Event → Type 0) (d : Tour)
+    → GoesAlongToRest m x A a B b → GoesAlongToRest m y B b C d → GoesFurther m A a C d
+walks-further m x y A a B b C d first second h at =
+    let (g, run, rest, after, exact) = first h at in
+    let (f, end, there, more, same) = second g run in
+    (f, end, there, after-more h g f after more)
+
+-- what is told of is seen, and then the script goes further, and onward
+pub script-whole : (m : MapValue) (A : Maps → List Event → Type 0) (p : Planned) (a : Tour)
+    (B : Maps → List Event → Type 0) (q : Planned) (b : Tour) (C : Maps → List Event → Type 0) (d : Tour)
+    (D : Maps → List Event → Type 0) (e : Tour) (n : ℕ)
+    → IsUnderWay m A p a [] → GoesUnderWay m A p a B q b (LeavesNothingOut m b × (n ≤ length b.strokes.items))
+    → GoesFurther m B b C d → AreUp d.pressed → GoesResting m C d D e
+    → EndsAtRest m e × LeavesNothingOut m e × (n ≤ length b.strokes.items)
+    × (length b.strokes.items ≤ length d.strokes.items) × (length d.strokes.items ≤ length e.strokes.items)
+script-whole m A p a B q b C d D e n new shown further up onward =
+    let (g, w, after, (nothing, le)) = shown [] new in
+    let (f, run, rest, more) = further g w.runs in
+    let (k, (end, ups, still), last) = onward f (run, up, rest) in (
+      (ups, (k, end.1, still)),
+      (λ steady x told can.
+          seen-still m g k b e x w.runs.1 end.1 (after-more g f k more last) (nothing steady x told can)),
+      le,
+      tour-longer m g f b d w.runs.1 run.1 more,
+      tour-longer m f k d e run.1 end.1 last,
+    )

@@ -1,26 +1,23 @@
 -- The list of what is told of has all of it, and nothing else.
-use Rattle.std.proofs.Common.{◌≡◌, ℕ, zero, suc, ◌+◌, ◌<◌, ◌⊎◌, inl, inr, Bool, true, false, List, [], ◌∷◌, ◌++◌}
-use Rattle.std.proofs.Common.{refl, ap, subst, sym, ◌∙◌, arith, add-one, append_assoc, append-nil, length, map}
-use Rattle.std.proofs.Common.{Option, None, Some, not, if◌then◌else◌}
-use Rattle.std.specs.Prelude.{◌==◌, ◌/◌, ◌%◌}
-use Rattle.std.specs.List.{Contains, flat_map, range_with_len}
-use Rattle.std.proofs.lemmas.Bool.{eq-eqb, true≢false}
+use Rattle.keymap_cover.proofs.Common.{◌≡◌, ℕ, ◌+◌, ◌<◌, ◌⊎◌, inl, inr, Bool, true, false, List, [], ◌∷◌, ◌++◌, refl}
+use Rattle.keymap_cover.proofs.Common.{ap, subst, sym, ◌∙◌, arith, append_assoc, length, map, Option, None, Some, not}
+use Rattle.keymap_cover.proofs.Common.{if◌then◌else◌, ◌==◌, Contains, flat_map, range_with_len, eq-eqb, true≢false}
+use Rattle.keymap_cover.proofs.Common.{Contains-append_left, Contains-append_cases, MapValue, bit, Sight, cell_at_place}
+use Rattle.keymap_cover.proofs.Common.{cell_place, all_cells, all_lock_settings, lock_setting_at_place}
+use Rattle.keymap_cover.proofs.Common.{lock_setting_place, IsTold, base_pair, pairs_at, pairs_in}
+use Rattle.std.proofs.Common.{zero, suc, add-one, append-nil}
+use Rattle.std.specs.Prelude.{◌/◌, ◌%◌}
 use Rattle.std.proofs.lemmas.List.{get_or-map, length-map}
-use Rattle.std.proofs.lemmas.List.Elements.{Contains-append_left, Contains-append_right}
-use Rattle.std.proofs.lemmas.List.Elements.{Contains-append_cases}
+use Rattle.std.proofs.lemmas.List.Elements.{Contains-append_right}
 use Rattle.std.proofs.lemmas.List.FromFn.{length-range_with_len, get_or-range_with_len}
 use Rattle.std.proofs.lemmas.Option.{slice_get_within}
 use Rattle.keymap_core.specs.Accents.{AccentValue}
-use Rattle.keymap_core.specs.Maps.{MapValue, accent_at}
+use Rattle.keymap_core.specs.Maps.{accent_at}
 use Rattle.console_core.specs.Answers.{has_own}
-use Rattle.console_core.specs.Columns.{bit}
-use Rattle.console_core.specs.declared.selection.Sight.{Sight}
-use Rattle.console_core.specs.declared.selection.Sight.TheVariants as sight
-use Rattle.keymap_cover.specs.SightLists.{cell_at_place, cell_place, all_cells, all_lock_settings}
-use Rattle.keymap_cover.specs.SightLists.{lock_setting_at_place, lock_setting_place}
 use Rattle.keymap_cover.proofs.Marking.{bit-small}
-use Rattle.keymap_cover.specs.Told.{IsBaseOf, IsTold, AreTold}
-use Rattle.keymap_cover.specs.Inner.Pairs.{base_pair, pairs_of, pairs_at, pairs_in}
+use Rattle.keymap_cover.specs.Told.{IsBaseOf, AreTold}
+use Rattle.keymap_cover.specs.Inner.Pairs.{pairs_of}
+use Rattle.console_core.specs.declared.selection.Sight.TheVariants as sight
 
 -- ---- what is in a list
 

@@ -1,46 +1,36 @@
 -- What one more stroke does to a tour.
-use Rattle.std.proofs.Common.{◌≡◌, ℕ, ◌<◌, ◌⊎◌, inl, inr, Bool, true, false, List, [], ◌∷◌, ◌++◌, Option, None, Some}
-use Rattle.std.proofs.Common.{refl, ap, subst, sym, ◌∙◌, length, reverse, if◌then◌else◌, not}
-use Rattle.std.specs.Prelude.{◌==◌, slice_set, slice_index_or, replicate}
+use Rattle.keymap_cover.proofs.Common.{◌≡◌, ℕ, ◌<◌, ◌⊎◌, inl, inr, Bool, true, false, List, [], ◌∷◌, ◌++◌, Option, None}
+use Rattle.keymap_cover.proofs.Common.{Some, refl, ap, subst, sym, ◌∙◌, length, reverse, if◌then◌else◌, not, ◌==◌}
+use Rattle.keymap_cover.proofs.Common.{slice_set, slice_index_or, replicate, All-nil, All-cons, and-false, true≢false}
+use Rattle.keymap_cover.proofs.Common.{reverse-append, MapValue, Event, Sight, between, resolved, SeesAlong, Stroke}
+use Rattle.keymap_cover.proofs.Common.{event_of, events_of, is_down, alone, NoTurnIsOneWay, AreSightsOf, IsReachable}
+use Rattle.keymap_cover.proofs.Common.{has_seen, IsTold, AddsPair, IsTour, AreUp, AreParts}
 use Rattle.std.specs.Option.{is_some}
-use Rattle.std.proofs.lemmas.List.Elements.{All-nil, All-cons}
-use Rattle.std.proofs.Math.Bool.{and-false}
-use Rattle.std.proofs.lemmas.Bool.{true≢false}
-use Rattle.std.proofs.lemmas.List.{reverse-append, get_or-replicate}
+use Rattle.std.proofs.lemmas.List.{get_or-replicate}
 use Rattle.keymap_core.specs.declared.action.Modifier.{Modifier}
 use Rattle.keymap_core.specs.declared.action.Lock.{Lock}
-use Rattle.keymap_core.specs.declared.action.Holding.TheVariants as holding
 use Rattle.keymap_core.specs.declared.entry.Cell.TheVariants.{Char}
-use Rattle.keymap_core.specs.Maps.{MapValue}
 use Rattle.keymap_core.specs.Numbers.{key_count}
-use Rattle.console_core.specs.declared.event.Event.{Event}
-use Rattle.console_core.specs.declared.event.Event.TheVariants as event
 use Rattle.console_core.specs.declared.selection.Selection.{Selection}
-use Rattle.console_core.specs.declared.selection.Sight.{Sight}
-use Rattle.console_core.specs.declared.selection.Sight.TheVariants as sight
 use Rattle.console_core.specs.Resolved.{held, dead_keys_taken, pending_by_dead_keys}
-use Rattle.console_core.specs.History.{between, pressed, resolved, is_on_after, HasKey, HasKeys}
-use Rattle.console_core.specs.History.{is_locked_after, accent_pending_after, is_any_on_after}
+use Rattle.console_core.specs.History.{pressed, is_on_after, HasKey, HasKeys, is_locked_after, accent_pending_after}
+use Rattle.console_core.specs.History.{is_any_on_after}
 use Rattle.console_core.proofs.OneMore.{pressed-start, pressed-press, pressed-release, pressed-reset}
 use Rattle.keymap_core.proofs.HoldingTests.{no-modifier}
 use mathlib.Core.Path.{fun_ext}
 use Rattle.console_core.specs.Sights.{selection_with, slot_in, column_in, look_selected, selection_after, SeesNext}
-use Rattle.console_core.specs.Sights.{SeesAlong}
-use Rattle.keymap_cover.specs.declared.stroke.Stroke.{Stroke}
-use Rattle.keymap_cover.specs.declared.stroke.Stroke.TheVariants as stroke
-use Rattle.keymap_cover.specs.Strokes.{event_of, events_of, is_down, CanFollow, ArePossible}
+use Rattle.console_core.specs.Sights.{Note}
+use Rattle.keymap_cover.specs.Strokes.{CanFollow, ArePossible}
 use Rattle.console_core.specs.declared.sights.Sights.{Sights}
-use Rattle.console_core.specs.Moves.{alone}
 use Rattle.console_core.specs.Sticking.{NeverForgets}
-use Rattle.console_core.specs.Returning.{NoTurnIsOneWay}
-use Rattle.console_core.specs.Sights.{Note, AreSightsOf, IsReachable}
 use Rattle.keymap_cover.specs.declared.parts.Cover.{Cover}
-use Rattle.keymap_cover.specs.SeenSights.{has_seen}
 use Rattle.keymap_cover.specs.Covering.{events, IsAtRest, Covers}
-use Rattle.keymap_cover.specs.Told.{IsTold}
 use Rattle.keymap_cover.proofs.Marking.{set-cases}
-use Rattle.keymap_cover.specs.Inner.Tours.{IsWith, IsPairOf, AddsPair, AddsSights, IsTour, AreUp}
-use Rattle.keymap_tour.specs.Plans.{AreParts}
+use Rattle.keymap_cover.specs.Inner.Tours.{IsWith, IsPairOf, AddsSights}
+use Rattle.keymap_core.specs.declared.action.Holding.TheVariants as holding
+use Rattle.console_core.specs.declared.event.Event.TheVariants as event
+use Rattle.console_core.specs.declared.selection.Sight.TheVariants as sight
+use Rattle.keymap_cover.specs.declared.stroke.Stroke.TheVariants as stroke
 
 -- the pair of a press was added
 pub pair-added : (m : MapValue) (y : Selection) (k accent c : ℕ) (old now : Sight → Bool) → look_selected m y k ≡ Char c
@@ -278,6 +268,11 @@ at-rest m h = (
   (λ i. and-false (held (holding.Mod i) (resolved (between m m) h))),
   refl,
 )
+
+-- nor is it before all events
+pub at-rest_new : (m : MapValue) → IsAtRest m []
+unfolding resolved held dead_keys_taken pending_by_dead_keys
+at-rest_new m = ((λ k lt. pressed-start k), (λ i. refl), refl)
 
 -- a key that isn't down isn't pressed: a reset lifts keys, and else they go up alone
 by-whether : (t v a b : Bool) → (a ≡ false → b ≡ false) → (if t then v else a) ≡ false

@@ -1,25 +1,47 @@
 -- How a console goes along a tour, by one event more and by many.
-use Rattle.std.proofs.Common.{◌≡◌, ◌≢◌, ℕ, ◌+◌, ◌<◌, Bool, true, false, List, [], ◌∷◌, ◌++◌, refl, ap, subst, sym, ◌∙◌}
-use Rattle.std.proofs.Common.{arith}
-use Rattle.std.proofs.Common.{append_assoc, get_or, length, reverse, take, Result, Ok, Err}
-use Rattle.std.specs.Prelude.{◌==◌, slice_index_or, OnOk}
-use Rattle.std.proofs.lemmas.Bool.{eqb-true, eq-eqb, true≢false}
-use Rattle.std.proofs.lemmas.List.{reverse-append, take_more}
-use Rattle.std.proofs.lemmas.List.Elements.{All-head, All-tail}
-use Rattle.keymap_core.specs.Maps.{MapValue}
-use Rattle.console_core.specs.declared.event.Event.{Event}
-use Rattle.console_core.specs.declared.event.Event.TheVariants as event
-use Rattle.console_core.specs.History.{Maps, IsNoLoad}
+use Rattle.keymap_cover.proofs.Common.{◌≡◌, ℕ, ◌+◌, ◌<◌, Bool, true, false, List, [], ◌∷◌, ◌++◌, refl, ap, subst, sym}
+use Rattle.keymap_cover.proofs.Common.{◌∙◌, arith, append_assoc, get_or, length, reverse, take, Result, Ok, Err, ◌==◌}
+use Rattle.keymap_cover.proofs.Common.{slice_index_or, OnOk, eqb-true, eq-eqb, true≢false, reverse-append, MapValue}
+use Rattle.keymap_cover.proofs.Common.{Event, Maps, between, resolved, AreTaken, Tour, ComesAfter, GoesIfTaken, GoesOn}
+use Rattle.keymap_cover.proofs.Common.{GoesAlong, GoesAlongToRest}
+use Rattle.std.proofs.Common.{◌≢◌}
+use Rattle.std.proofs.lemmas.List.{take_more}
+use Rattle.console_core.specs.Resolved.{locked}
 use Rattle.console_core.specs.Sticking.{IsOfPressedKey}
-use Rattle.keymap_cover.specs.declared.tour.Tour.{Tour}
-use Rattle.keymap_cover.specs.Inner.Tours.{GoesBy, GoesIfTaken, GoesOn, GoesToRest, IsTaken, GoesAlong}
-use Rattle.keymap_cover.specs.Inner.Tours.{GoesAlongToRest}
+use Rattle.keymap_cover.specs.Inner.Tours.{TurnsNone, GoesBy, GoesUp, GoesToRest}
+use Rattle.console_core.proofs.OneMore.{resolved-more, locked-release, locked-reset}
 use Rattle.keymap_cover.proofs.Touring.{at-rest}
+use Rattle.console_core.specs.declared.event.Event.TheVariants as event
 
 -- an event that is delivered
 pub by-taken : (m : MapValue) (e : Event) (A : Maps → List Event → Type 0) (a : Tour) (B : Maps → List Event → Type 0)
     (b : Tour) → GoesBy m e A a B b → GoesIfTaken m e A a B b
 by-taken m e A a B b goes h at = (e ∷ h, goes h at, (e ∷ [], refl), (λ none of. refl))
+
+-- a release, where it turns no lock
+pub up-taken : (m : MapValue) (k : ℕ) (A : Maps → List Event → Type 0) (a : Tour) (B : Maps → List Event → Type 0)
+    (b : Tour) → GoesUp m k A a B b → GoesIfTaken m (event.Release k) A a B b
+up-taken m k A a B b goes h at =
+    let (g, run, (after, locks), exact) = goes h at in (g, run, after, (λ none of. exact of))
+
+pub release-turns_none : (m : MapValue) (h : List Event) (k : ℕ) → TurnsNone m h (event.Release k ∷ h)
+release-turns_none m h k = (
+  (event.Release k ∷ [], refl),
+  (λ l. ap (λ r. locked l r) (resolved-more (between m m) h (event.Release k))
+      ∙ locked-release l k (resolved (between m m) h)),
+)
+
+reset-turns_none : (m : MapValue) (h : List Event) → TurnsNone m h (event.Reset ∷ h)
+reset-turns_none m h = (
+  (event.Reset ∷ [], refl),
+  (λ l. ap (λ r. locked l r) (resolved-more (between m m) h event.Reset) ∙ locked-reset l (resolved (between m m) h)),
+)
+
+pub after-more : (a b c : List Event) → ComesAfter a b → ComesAfter b c → ComesAfter a c
+after-more a b c (x, e) (y, f) = (y ++ x, f ∙ ap (λ z. y ++ z) e ∙ sym (append_assoc y x a))
+
+turns-more : (m : MapValue) (a b c : List Event) → TurnsNone m a b → TurnsNone m b c → TurnsNone m a c
+turns-more m a b c (x, e) (y, f) = (after-more a b c x y, (λ l. f l ∙ e l))
 
 -- a load, in whose place there is a reset
 pub no-load : (m : MapValue) (e : Event) (A : Maps → List Event → Type 0) (a : Tour) (B : Maps → List Event → Type 0)
@@ -34,16 +56,16 @@ no-load m (event.Release k) A a B b not-press not-release goes = absurd (not-rel
 -- a reset comes to rest
 pub to-rest : (m : MapValue) (A : Maps → List Event → Type 0) (a : Tour) (B : Maps → List Event → Type 0)
     (b : Tour) → GoesBy m event.Reset A a B b → GoesToRest m A a B b
-to-rest m A a B b goes h at = (event.Reset ∷ h, goes h at, (event.Reset ∷ [], refl), at-rest m h)
+to-rest m A a B b goes h at = (event.Reset ∷ h, goes h at, reset-turns_none m h, at-rest m h)
 
--- one event more behind some
-pub on-more : (m : MapValue) (e : Event) (A : Maps → List Event → Type 0) (a : Tour) (B : Maps → List Event → Type 0)
+-- one release more behind some
+pub on-more : (m : MapValue) (k : ℕ) (A : Maps → List Event → Type 0) (a : Tour) (B : Maps → List Event → Type 0)
     (b : Tour) (C : Maps → List Event → Type 0) (c : Tour)
-    → GoesOn m A a B b → GoesIfTaken m e B b C c → GoesOn m A a C c
-on-more m e A a B b C c first last h at =
-    let (g, run, (later, is)) = first h at in
-    let (f, end, (more, same), exact) = last g run in
-    (f, end, (more ++ later, same ∙ ap (λ z. more ++ z) is ∙ sym (append_assoc more later h)))
+    → GoesOn m A a B b → GoesUp m k B b C c → GoesOn m A a C c
+on-more m k A a B b C c first last h at =
+    let (g, run, turns) = first h at in
+    let (f, end, more, exact) = last g run in
+    (f, end, turns-more m h g f turns more)
 
 -- the keys below a number are up, and now that one too
 pub up-more : (old now : List Bool) (n k : ℕ) → k ≡ n → slice_index_or now k false ≡ false
@@ -68,14 +90,15 @@ along-more m events i e A a B b C c lt is first last h at =
     let next : reverse (take (i + 1) events) ≡ e ∷ later =
     ap reverse (take_more events i e lt) ∙ ap (λ x. reverse (take i events ++ x ∷ [])) (sym is)
     ∙ reverse-append (take i events) (e ∷ []) in
-    let (g, run, same) = first h at in
+    let (g, run, before, same) = first h at in
     let (f, end, after, exact) = last g run in (
       f,
       end,
+      after-more h g f before after,
       (λ taken.
-          let (none, (of, others)) : IsTaken (e ∷ (later ++ h)) = subst (λ z. IsTaken (z ++ h)) next taken in
-          let here : g ≡ later ++ h = same (All-tail IsNoLoad e (later ++ h) none, others) in
-          exact (All-head IsNoLoad e (later ++ h) none) (subst (λ z. IsOfPressedKey e z) (sym here) of)
+          let (none, of, others) : AreTaken h (e ∷ later) = subst (λ z. AreTaken h z) next taken in
+          let here : g ≡ later ++ h = same others in
+          exact none (subst (λ z. IsOfPressedKey e z) (sym here) of)
           ∙ ap (λ z. e ∷ z) here ∙ ap (λ z. z ++ h) (sym next)),
     )
 
@@ -85,17 +108,15 @@ pub along-rest : (m : MapValue) (later : List Event) (A : Maps → List Event �
     (D : Maps → List Event → Type 0) (d : Tour) → GoesAlong m later A a B b → GoesOn m B b C c → GoesToRest m C c D d
     → GoesAlongToRest m later A a D d
 along-rest m later A a B b C c D d first then last h at =
-    let (g, run, same) = first h at in
-    let (f, go, (more, e)) = then g run in
-    let (k, end, (closing, is), rest) = last f go in (
+    let (g, run, before, same) = first h at in
+    let (f, go, turns) = then g run in
+    let (k, end, more, rest) = last f go in
+    let on : TurnsNone m g k = turns-more m g f k turns more in (
       k,
       end,
       rest,
-      (λ taken. (
-        closing ++ more,
-        is ∙ ap (λ z. closing ++ z) (e ∙ ap (λ z. more ++ z) (same taken))
-            ∙ sym (append_assoc closing more (later ++ h)),
-      )),
+      after-more h g k before on.0,
+      (λ taken. subst (λ z. TurnsNone m z k) (same taken) on),
     )
 
 pub on-ok : {T E P Q : Type 0} (r : Result T E) → (P → Q) → OnOk r P → OnOk r Q

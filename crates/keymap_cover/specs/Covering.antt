@@ -19,7 +19,7 @@ use Rattle.keymap_cover.specs.declared.parts.Verdict.TheVariants.{Seen, LeftOut,
 use Rattle.keymap_cover.specs.SeenSights.{has_seen}
 use Rattle.keymap_cover.specs.Strokes.{events_of, is_down, ArePossible}
 use Rattle.keymap_cover.specs.Told.{IsTold}
-use Rattle.keymap_tour.specs.Plans.{AreParts}
+use Rattle.keymap_cover.specs.Parts.{AreParts}
 
 -- the events of the script, with the newest first
 abbrev pub events : Cover → List Event

@@ -4,3 +4,4 @@ pub mod Strokes
 pub mod SightLists
 pub mod SeenSights
 pub mod Told
+pub mod Parts

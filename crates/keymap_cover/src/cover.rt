@@ -1,23 +1,25 @@
 //! A script that looks up what can be looked up, all of it where no turn of a lock is one-way, and what it sees.
-ghost use Rattle.std.specs.Prelude.{◌≡◌, ℕ, nat_lt, true, false, filter, length, IfOk, MatchOption};
-ghost use Rattle.std.specs.List.{Contains};
+ghost use Rattle.std.specs.Prelude.{◌≡◌, ◌+◌, ◌≤◌, [], true, false, Some, length, OnOk, IfOk};
 ghost use Rattle.console_core.specs.declared.selection.Sight.{Sight as SightValue};
-ghost use Rattle.console_core.specs.Moves.{alone};
+ghost use Rattle.console_core.specs.History.{between};
+ghost use Rattle.console_core.specs.Returning.{NoTurnIsOneWay};
 ghost use Rattle.console_core.specs.Sights.{AreSightsOf, IsReachable, can_see};
-ghost use Rattle.console_core.specs.Sticking.{ReachesMoreThan, state_limit};
 ghost use Rattle.keymap_cover.specs.Covering.{NeverSees, Covers, IsVerdict, verdict_of, IsCover};
-ghost use Rattle.keymap_cover.specs.Inner.Tours.{EndsAtRest, SeesAll, LeavesNothingOut};
+ghost use Rattle.keymap_cover.specs.Inner.Tours.{AreUp, EndsAtRest, GoesFurther, GoesUnderWay, IsPlanFor};
+ghost use Rattle.keymap_cover.specs.Inner.Tours.{LeavesNothingOut, SeesAll};
 ghost use Rattle.keymap_cover.specs.SeenSights.{has_seen};
-ghost use Rattle.keymap_tour.specs.Plans.{AreParts};
+ghost use Rattle.keymap_cover.specs.Parts.{AreParts, part_place};
+ghost use Rattle.keymap_cover.specs.Inner.Adding.{ArePartsBelow};
 
-use crate::parts::{Cover, Verdict};
+use crate::families::trials;
+use crate::one_way::go_onward;
+use crate::parts::{Cover, Part, Start, Verdict};
 use crate::seen::Seen;
-use crate::told::told;
+use crate::told::{told_of_keys, told_pairs};
 use crate::tour::Tour;
 use console_core::laws::sights_are_reachable;
-use console_core::{PlainConsole, Sight, Sights, events_that_show, sights_of};
-use keymap_core::KeyMap;
-use keymap_tour::{Part, Plan, Start, plan_for};
+use console_core::{PlainConsole, Planner, Selection, Sight, Sights, Translator, sights_of};
+use keymap_core::{KEY_COUNT, KeyCode, KeyMap, key_with};
 use std::alloc::{AllocError, Global};
 
 /// Whether a press after some list that is spoken of may see it. The law says that what such a press sees can be seen.
@@ -48,7 +50,7 @@ impl Cover {
 }
 
 /// Whether it is left out: it can be seen, and wasn't.
-fn is_left_out(seen: &Seen, sights: &Sights, map: &KeyMap, sight: Sight) -> bool
+pub(crate) fn is_left_out(seen: &Seen, sights: &Sights, map: &KeyMap, sight: Sight) -> bool
     ensures none { AreSightsOf map.now sights.now → result ≡ false → IsReachable map.now sight
         → has_seen seen.now sight ≡ true }
     ensures some { AreSightsOf map.now sights.now → result ≡ true → IsReachable map.now sight
@@ -57,131 +59,212 @@ fn is_left_out(seen: &Seen, sights: &Sights, map: &KeyMap, sight: Sight) -> bool
     !seen.has(sight) && may_see(sights, map, sight)
 }
 
-/// Whether one of these is left out.
-fn leaves_out(seen: &Seen, sights: &Sights, map: &KeyMap, told: &[Sight]) -> bool
-    ensures none { AreSightsOf map.now sights.now → result ≡ false → (x : SightValue) → Contains told.now x
-        → IsReachable map.now x → has_seen seen.now x ≡ true }
-    ensures some { AreSightsOf map.now sights.now → result ≡ true → (x : SightValue) × Contains told.now x
-        × IsReachable map.now x × (has_seen seen.now x ≡ false) }
-{
-    for sight in told {
-        if is_left_out(seen, sights, map, *sight) {
-            return true;
-        }
-    }
-    false
+/// Whether a press of the key under the selection sees a cell or a lock setting that wasn't seen.
+pub(crate) fn sees_new(seen: &Seen, map: &KeyMap, selection: Selection, key: KeyCode) -> bool {
+    let slot = selection.slot(key);
+    let column = selection.column(map, key);
+    let Selection { caps, num, .. } = selection;
+    !seen.has(Sight::Cell { slot, column }) || !seen.has(Sight::Locks { slot, caps, num })
 }
 
-/// The only part of a script of so many strokes, if it has any.
-fn one_start(alloc: Global, strokes: usize) -> Result<Vec<Start>, AllocError>
-    ensures { IfOk result (λ starts. AreParts starts.items strokes) }
+/// The keys whose press sees something new where the next visit leads, but for the one that is pressed there last.
+fn new_keys(
+    alloc: Global,
+    planner: &Planner,
+    seen: &Seen,
+    map: &KeyMap,
+) -> Result<Vec<KeyCode>, AllocError> {
+    let mut keys = Vec::new(alloc);
+    if let Some((selection, pressed)) = planner.next_press() {
+        for code in 0..KEY_COUNT as u8 {
+            let key = key_with(code);
+            if key != pressed && sees_new(seen, map, selection, key) {
+                keys.push(key)?;
+            }
+        }
+    }
+    Ok(keys)
+}
+
+/// Goes where a press sees what the planner aims at.
+fn show<T: Translator>(
+    alloc: Global,
+    planner: &mut Planner,
+    tour: &mut Tour,
+    console: &mut T,
+    map: &KeyMap,
+) -> Result<(), AllocError>
+    ensures { OnOk result (GoesUnderWay map.now (T.stands console.old) planner.old tour.old (T.stands console.new)
+        planner.new tour.new ((x : SightValue) → planner.old.aim ≡ Some x → IsReachable map.now x
+        → has_seen tour.new.seen x ≡ true)) }
+{
+    let keys = new_keys(alloc, planner, &tour.seen, map)?;
+    let events = planner.visit(alloc, &keys)?;
+    tour.walk(console, map, &events)?;
+    Ok(())
+}
+
+/// Goes where a press sees it, if it is left out and the planner finds such a press.
+fn show_left_out<T: Translator>(
+    alloc: Global,
+    planner: &mut Planner,
+    tour: &mut Tour,
+    console: &mut T,
+    map: &KeyMap,
+    sights: &Sights,
+    sight: Sight,
+) -> Result<(), AllocError>
+    requires { AreSightsOf map.now sights.now }
+    ensures { OnOk result (GoesUnderWay map.now (T.stands console.old) planner.old tour.old (T.stands console.new)
+        planner.new tour.new (NoTurnIsOneWay map.now → IsReachable map.now sight
+        → has_seen tour.new.seen sight ≡ true)) }
+{
+    if !is_left_out(&tour.seen, sights, map, sight) {
+        return Ok(());
+    }
+    if !planner.find(sight) {
+        return Ok(());
+    }
+    show(alloc, planner, tour, console, map)?;
+    Ok(())
+}
+
+/// Goes where presses see what is left out of these.
+fn show_all<T: Translator>(
+    alloc: Global,
+    planner: &mut Planner,
+    tour: &mut Tour,
+    console: &mut T,
+    map: &KeyMap,
+    sights: &Sights,
+    told: &[Sight],
+) -> Result<(), AllocError>
+    requires { AreSightsOf map.now sights.now }
+    ensures { OnOk result (GoesUnderWay map.now (T.stands console.old) planner.old tour.old (T.stands console.new)
+        planner.new tour.new (SeesAll map.now told.now tour.new)) }
+{
+    for sight in told {
+        show_left_out(alloc, planner, tour, console, map, sights, *sight)?;
+    }
+    Ok(())
+}
+
+/// Adds that the part begins there, unless it ends there.
+fn begin(starts: &mut Vec<Start>, part: Part, at: usize, end: usize) -> Result<(), AllocError>
+    requires below { ArePartsBelow (part_place part) starts.old.items at }
+    requires order { at ≤ end }
+    ensures { OnOk result (ArePartsBelow (part_place part + 1) starts.new.items end) }
+{
+    if at < end {
+        starts.push(Start { part, at })?;
+    }
+    Ok(())
+}
+
+/// Where the parts begin of a script whose parts end behind so many strokes.
+fn starts_of(
+    alloc: Global,
+    first: usize,
+    second: usize,
+    third: usize,
+    last: usize,
+) -> Result<Vec<Start>, AllocError>
+    requires first { first ≤ second }
+    requires second { second ≤ third }
+    requires third { third ≤ last }
+    ensures { IfOk result (λ starts. AreParts starts.items last) }
 {
     let mut starts = Vec::new(alloc);
-    if strokes > 0 {
-        starts.push(Start {
-            part: Part::Looks,
-            at: 0,
-        })?;
-    }
+    begin(&mut starts, Part::Cells, 0, first)?;
+    begin(&mut starts, Part::Pairs, first, second)?;
+    begin(&mut starts, Part::Trials, second, third)?;
+    begin(&mut starts, Part::OneWay, third, last)?;
     Ok(starts)
 }
 
-/// Those of these that begin before one of so many strokes.
-fn starts_before(alloc: Global, starts: &[Start], strokes: usize) -> Result<Vec<Start>, AllocError>
-    ensures { IfOk result (λ v. v.items ≡ filter (λ x. nat_lt x.at strokes) starts.now) }
-{
-    starts
-        .iter()
-        .copied()
-        .filter(|start| start.at < strokes)
-        .collect(alloc)
-}
-
-/// Where the parts of a plan begin among the strokes that its events made. An event that can't be made is left out, so
-/// there can be fewer strokes than events.
-fn starts_among(alloc: Global, plan: &Plan, strokes: usize) -> Result<Vec<Start>, AllocError>
-    requires { AreParts plan.now.starts.items (length plan.now.events.items) }
-    ensures { IfOk result (λ starts. AreParts starts.items strokes) }
-{
-    if plan.starts.is_empty() {
-        one_start(alloc, strokes)
-    } else {
-        starts_before(alloc, &plan.starts, strokes)
-    }
-}
-
-/// The tour that is planned, and where its parts begin.
-fn tour_of(alloc: Global, map: &KeyMap) -> Result<(Tour, Vec<Start>), AllocError>
-    ensures tour { IfOk result (λ t. EndsAtRest map.now t.0) }
-    ensures parts { IfOk result (λ t. AreParts t.1.items (length t.0.strokes.items)) }
-{
-    let plan = plan_for(alloc, map)?;
-    let tour = Tour::along(alloc, &mut PlainConsole::new(map), map, &plan.events)?;
-    let starts = starts_among(alloc, &plan, tour.strokes.len())?;
-    Ok((tour, starts))
-}
-
-/// The tour along events that show all of these, if no turn of a lock is one-way, or nothing where the search gives up.
-fn tour_that_shows(
+/// Goes where presses see cells and lock settings, and then pairs. Answers how many strokes there were between.
+fn show_told<T: Translator>(
     alloc: Global,
-    map: &KeyMap,
-    told: &[Sight],
-) -> Result<Option<(Tour, Vec<Start>)>, AllocError>
-    ensures { IfOk result (λ x. MatchOption x ((p : ℕ) × ReachesMoreThan (alone map.now) state_limit p)
-        (λ t. EndsAtRest map.now t.0 × SeesAll map.now told.now t.0 × AreParts t.1.items (length t.0.strokes.items))) }
-{
-    match events_that_show(alloc, map, told)? {
-        Some(events) => {
-            let tour = Tour::along(alloc, &mut PlainConsole::new(map), map, &events)?;
-            let starts = one_start(alloc, tour.strokes.len())?;
-            Ok(Some((tour, starts)))
-        }
-        None => Ok(None),
-    }
-}
-
-/// The tour that is planned, or, if it leaves something out, one that doesn't, if no turn of a lock is one-way; or
-/// nothing where the search gives up.
-fn best_tour(
-    alloc: Global,
+    planner: &mut Planner,
+    tour: &mut Tour,
+    console: &mut T,
     map: &KeyMap,
     sights: &Sights,
-) -> Result<Option<(Tour, Vec<Start>)>, AllocError>
-    ensures { IfOk result (λ x. AreSightsOf map.now sights.now
-        → MatchOption x ((p : ℕ) × ReachesMoreThan (alone map.now) state_limit p)
-        (λ t. EndsAtRest map.now t.0 × LeavesNothingOut map.now t.0 × AreParts t.1.items (length t.0.strokes.items))) }
+) -> Result<usize, AllocError>
+    requires { AreSightsOf map.now sights.now }
+    ensures { IfOk result (λ first. GoesUnderWay map.now (T.stands console.old) planner.old tour.old
+        (T.stands console.new) planner.new tour.new (LeavesNothingOut map.now tour.new
+        × (first ≤ length tour.new.strokes.items))) }
 {
-    let planned = tour_of(alloc, map)?;
-    let told = told(alloc, map)?;
-    if !leaves_out(&planned.0.seen, sights, map, &told) {
-        return Ok(Some(planned));
-    }
-    match tour_that_shows(alloc, map, &told)? {
-        Some(shown) => {
-            if leaves_out(&shown.0.seen, sights, map, &told) {
-                Ok(Some(planned))
-            } else {
-                Ok(Some(shown))
-            }
-        }
-        None => Ok(None),
-    }
+    let keys = told_of_keys(alloc)?;
+    show_all(alloc, planner, tour, console, map, sights, &keys)?;
+    let first = tour.strokes.len();
+    let pairs = told_pairs(alloc, map)?;
+    show_all(alloc, planner, tour, console, map, sights, &pairs)?;
+    Ok(first)
+}
+
+/// Goes home, and makes the trials.
+fn try_keys<T: Translator>(
+    alloc: Global,
+    planner: &Planner,
+    tour: &mut Tour,
+    console: &mut T,
+    map: &KeyMap,
+) -> Result<(), AllocError>
+    ensures along { OnOk result (GoesFurther map.now (T.stands console.old) tour.old (T.stands console.new) tour.new) }
+    ensures up { OnOk result (AreUp tour.new.pressed) }
+{
+    let mut home = Vec::new(alloc);
+    planner.push_home(&mut home, &*console)?;
+    tour.walk(console, map, &home)?;
+    let trials = trials(alloc, map, planner)?;
+    tour.walk(console, map, &trials)?;
+    Ok(())
+}
+
+/// The script, and where its parts begin.
+fn tour_of<T: Translator>(
+    alloc: Global,
+    planner: &mut Planner,
+    console: &mut T,
+    map: &KeyMap,
+    sights: &Sights,
+) -> Result<(Tour, Vec<Start>), AllocError>
+    requires new { T.stands console.old (between map.now map.now) [] }
+    requires planner { IsPlanFor map.now planner.old }
+    requires sights { AreSightsOf map.now sights.now }
+    ensures { IfOk result (λ t. EndsAtRest map.now t.0 × LeavesNothingOut map.now t.0
+        × AreParts t.1.items (length t.0.strokes.items)) }
+{
+    let mut tour = Tour::new(alloc)?;
+    let first = show_told(alloc, planner, &mut tour, console, map, sights)?;
+    let second = tour.strokes.len();
+    try_keys(alloc, planner, &mut tour, console, map)?;
+    let third = tour.strokes.len();
+    go_onward(alloc, &mut tour, console, map, sights)?;
+    let starts = starts_of(alloc, first, second, third, tour.strokes.len())?;
+    Ok((tour, starts))
 }
 
 /// A script for the keymap, or nothing where the search gives up.
 pub fn cover_of(alloc: Global, map: &KeyMap) -> Result<Option<Cover>, AllocError>
     ensures { IfOk result (λ x. IsCover map.now x) }
 {
-    match sights_of(alloc, map)? {
-        Some(sights) => match best_tour(alloc, map, &sights)? {
-            Some((tour, starts)) => Ok(Some(Cover {
+    let Some(sights) = sights_of(alloc, map)? else {
+        return Ok(None);
+    };
+    match Planner::new(alloc, map)? {
+        Some(mut planner) => {
+            let mut console = PlainConsole::new(map);
+            let (tour, starts) = tour_of(alloc, &mut planner, &mut console, map, &sights)?;
+            Ok(Some(Cover {
                 strokes: tour.strokes,
                 starts,
                 seen: tour.seen,
                 sights,
-            })),
-            None => Ok(None),
-        },
+            }))
+        }
         None => Ok(None),
     }
 }

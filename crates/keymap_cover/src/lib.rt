@@ -1,9 +1,9 @@
 //! A script of key events after which a console has looked up every cell that can be looked up at all, where no turn of
 //! a lock is one-way, and what it sees.
 //!
-//! The crate stands on `keymap_tour`, which proposes the events, and on `console_core`: a console runs along while the
-//! script is made, so that what each press looks up is noted, however the events were chosen, and the search tells what
-//! can be looked up at all (`Sights`).
+//! The crate stands on `console_core`: a console runs along while the script is made, so that what each press looks up
+//! is noted, the search tells what can be looked up at all (`Sights`), and a `Planner` makes visits to what wasn't
+//! looked up yet. Behind these stand trials of what keys do to each other, of which nothing is promised.
 //!
 //! It promises (`cover_of`, `Cover::verdict`) that what is told as seen is what the script sees in its events from a
 //! new console, that what is told as left out can be seen, and that what is told as never seen no list of events sees,
@@ -14,18 +14,23 @@
 
 mod counts;
 mod cover;
+mod families;
+mod idle_keys;
+mod kind;
 mod noting;
+mod one_way;
 mod parts;
+mod probes;
 mod seen;
 mod sight_lists;
 mod stroke;
 mod told;
 mod tour;
+mod trials;
 mod walk;
 
 pub use cover::cover_of;
-pub use keymap_tour::{Part, Start};
-pub use parts::{Counts, Cover, Verdict};
+pub use parts::{Counts, Cover, Part, Start, Verdict};
 pub use seen::Seen;
 pub use sight_lists::{cells, lock_settings};
 pub use stroke::Stroke;

@@ -2,7 +2,6 @@
 use crate::seen::Seen;
 use crate::stroke::Stroke;
 use console_core::Sights;
-use keymap_tour::Start;
 
 /// A script, what it sees and what can be seen.
 #[derive(Drop)]
@@ -32,4 +31,24 @@ pub struct Counts {
     pub left_out: usize,
     /// Those that are never seen.
     pub rest: usize,
+}
+
+/// A part of a script.
+#[derive(Clone, Copy, Debug, PartialEq, Eq)]
+pub enum Part {
+    /// Cells, and slots under each setting of clock and nlock, are looked up.
+    Cells,
+    /// Accents are composed with their bases.
+    Pairs,
+    /// It is tried what keys do to each other.
+    Trials,
+    /// What only turns of locks lead to that can't be taken back.
+    OneWay,
+}
+
+/// Where a part begins: behind so many events.
+#[derive(Clone, Copy, Debug, PartialEq, Eq)]
+pub struct Start {
+    pub part: Part,
+    pub at: usize,
 }

@@ -2,7 +2,7 @@
 ghost use Rattle.std.specs.Prelude.{◌≡◌, ◌++◌, map, OnOk, IfOk};
 ghost use Rattle.keymap_core.specs.Maps.{accent_at};
 ghost use Rattle.keymap_cover.specs.Inner.Pairs.{base_pair, pairs_of, pairs_in};
-ghost use Rattle.keymap_cover.specs.Told.{AreTold};
+ghost use Rattle.keymap_cover.specs.SightLists.{all_cells, all_lock_settings};
 
 use crate::sight_lists::{cells, lock_settings};
 use console_core::Sight;
@@ -48,13 +48,21 @@ fn add_all_pairs(sights: &mut Vec<Sight>, map: &KeyMap) -> Result<(), AllocError
     Ok(())
 }
 
-/// All cells and lock settings, and the pairs of the accents that are usable.
-pub(crate) fn told(alloc: Global, map: &KeyMap) -> Result<Vec<Sight>, AllocError>
-    ensures { IfOk result (λ sights. AreTold map.now sights.items) }
+/// All cells and lock settings.
+pub(crate) fn told_of_keys(alloc: Global) -> Result<Vec<Sight>, AllocError>
+    ensures { IfOk result (λ sights. sights.items ≡ all_cells ++ all_lock_settings) }
 {
     let mut sights = cells(alloc)?;
     let settings = lock_settings(alloc)?;
     sights.extend_from_slice(settings.as_slice())?;
+    Ok(sights)
+}
+
+/// The pairs of the accents that are usable.
+pub(crate) fn told_pairs(alloc: Global, map: &KeyMap) -> Result<Vec<Sight>, AllocError>
+    ensures { IfOk result (λ sights. sights.items ≡ pairs_in map.now) }
+{
+    let mut sights = Vec::new(alloc);
     add_all_pairs(&mut sights, map)?;
     Ok(sights)
 }

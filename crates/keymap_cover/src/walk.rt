@@ -4,13 +4,13 @@ ghost use Rattle.std.specs.Prelude.{slice_index_or};
 ghost use Rattle.keymap_core.specs.Maps.{MapValue};
 ghost use Rattle.keymap_core.specs.Numbers.{key_count};
 ghost use Rattle.console_core.specs.declared.event.Event.{Event as EventValue};
-ghost use Rattle.console_core.specs.declared.event.Event.TheVariants.{Press, Release, Reset};
+ghost use Rattle.console_core.specs.declared.event.Event.TheVariants.{Press, Reset};
 ghost use Rattle.console_core.specs.History.{between};
 ghost use Rattle.console_core.specs.Sights.{selection_with};
 ghost use Rattle.keymap_cover.specs.SeenSights.{has_seen};
 ghost use Rattle.keymap_cover.specs.Inner.Tours.{AddsPair, AddsSights, IsTourOf, AreUp};
-ghost use Rattle.keymap_cover.specs.Inner.Tours.{GoesAlongToRest, IsTourAlong};
-ghost use Rattle.keymap_cover.specs.Inner.Tours.{GoesBy, GoesIfTaken, GoesOn, GoesToRest};
+ghost use Rattle.keymap_cover.specs.Inner.Tours.{GoesAlongToRest};
+ghost use Rattle.keymap_cover.specs.Inner.Tours.{GoesBy, GoesIfTaken, GoesUp, GoesOn, GoesToRest};
 ghost use Rattle.keymap_cover.specs.declared.stroke.Stroke.{Stroke as StrokeValue};
 ghost use Rattle.keymap_cover.specs.Strokes.{event_of, is_down, CanFollow};
 
@@ -130,7 +130,7 @@ impl Tour {
         map: &KeyMap,
         key: KeyCode,
     ) -> Result<(), AllocError>
-        ensures along { OnOk result (GoesIfTaken map.now (Release key) (T.stands console.old) self.old
+        ensures along { OnOk result (GoesUp map.now key (T.stands console.old) self.old
             (T.stands console.new) self.new) }
         ensures up { OnOk result (slice_index_or self.new.pressed key false ≡ false) }
         ensures others { OnOk result ((k : ℕ) → k ≢ key
@@ -198,7 +198,7 @@ impl Tour {
     }
 
     /// Delivers the events, whatever they are, releases all keys, and leaves no modifier on and no accent pending.
-    /// Where they have no load and release pressed keys alone, each of them is delivered.
+    /// Those that are taken are delivered one by one.
     pub fn walk<T: Translator>(
         &mut self,
         console: &mut T,
@@ -214,20 +214,5 @@ impl Tour {
         }
         self.let_go(console, map)?;
         self.settle(console, map)
-    }
-
-    /// The tour of a new console that is handed the events.
-    pub fn along<T: Translator>(
-        alloc: Global,
-        console: &mut T,
-        map: &KeyMap,
-        events: &[Event],
-    ) -> Result<Tour, AllocError>
-        requires { T.stands console.old (between map.now map.now) [] }
-        ensures { IfOk result (λ t. IsTourAlong map.now (reverse events.now) t) }
-    {
-        let mut tour = Tour::new(alloc)?;
-        tour.walk(console, map, events)?;
-        Ok(tour)
     }
 }

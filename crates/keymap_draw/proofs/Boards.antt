@@ -1,14 +1,9 @@
 -- The boards are keyboards.
-use Prim.Native.Nat.{zero, suc}
-use Rattle.std.proofs.Common.{◌≡◌, Bool, true, ◌&&◌, not, List, [], ◌∷◌, refl, arith}
-use Rattle.std.proofs.Common.{All, AllPairs, ◌==◌}
-use Rattle.std.specs.List.{list_all}
-use Rattle.std.proofs.lemmas.Bool.{and_parts, not-true, eqb-false}
-use Rattle.keymap_draw.specs.declared.board.Board.{Board}
-use Rattle.keymap_draw.specs.declared.board.Board.TheVariants.{Iso, Ansi}
-use Rattle.keymap_draw.specs.declared.board.Row.{Row}
-use Rattle.keymap_draw.specs.Keyboards.{BoardsAreKeyboards, EachKeyOnce, NoTwoOverlap, AllLieOnThePanel, keys_of}
-use Rattle.keymap_draw.specs.Keyboards.{are_apart, is_on_panel}
+use Rattle.keymap_draw.proofs.Common.{zero, suc, ◌≡◌, Bool, true, ◌&&◌, not, List, [], ◌∷◌, refl, arith, All, ◌==◌}
+use Rattle.keymap_draw.proofs.Common.{list_all, and_parts, not-true, Board, Iso, Ansi, Row, keys_of}
+use Rattle.std.proofs.Common.{AllPairs}
+use Rattle.std.proofs.lemmas.Bool.{eqb-false}
+use Rattle.keymap_draw.specs.Keyboards.{EachKeyOnce, NoTwoOverlap, AllLieOnThePanel, are_apart, is_on_panel}
 
 -- each with each behind it
 abbrev pub pairwise : {X : Type 0} → (X → X → Bool) → List X → Bool
@@ -30,12 +25,8 @@ pairs test (x ∷ xs) h (suc i) (suc j) d below l =
     pairs test xs (and_parts (list_all (test x) xs) (pairwise test xs) h).1 i j d (omega (arith, below))
     (omega (arith, l))
 
-pub boards_are_keyboards : BoardsAreKeyboards
-boards_are_keyboards Iso = refl
-boards_are_keyboards Ansi = refl
-
 differ : Row → Row → Bool
-differ a b = not (a.0 == b.0)
+differ a b = not (a.code == b.code)
 
 differ_all : (board : Board) → pairwise differ (keys_of board) ≡ true
 unfolding differ

@@ -1,12 +1,11 @@
 -- A pair of cells is one letter exactly if it is a small letter and its capital.
-use Rattle.std.proofs.Common.{◌≡◌, ℕ, ◌+◌, ◌-◌, ◌%◌, ◌<◌, ◌≤◌, ◌==◌, Bool, true, false, ◌&&◌, ◌||◌, not}
-use Rattle.std.proofs.Common.{length, get_or, refl, ap, sym, ◌∙◌, subst, arith, inl, inr}
-use Rattle.std.specs.List.{list_all, list_any, Any, Contains}
-use Rattle.std.proofs.lemmas.Bool.{and_parts, not-true, not_from_true, eqb-true, leb-true, eq-eqb, or_cases, true≢false}
-use Rattle.std.proofs.lemmas.Bool.{agree_below, agree_below_at, cases_order}
+use Rattle.keymap_draw.proofs.Common.{◌≡◌, ℕ, ◌+◌, ◌%◌, ◌<◌, ◌≤◌, ◌==◌, Bool, true, false, ◌&&◌, ◌||◌, not, length}
+use Rattle.keymap_draw.proofs.Common.{get_or, refl, ap, sym, ◌∙◌, subst, arith, inl, inr, list_all, list_any, Any}
+use Rattle.keymap_draw.proofs.Common.{Contains, and_parts, not-true, eqb-true, or_cases, agree_below, agree_below_at}
+use Rattle.keymap_draw.proofs.Common.{cases_order, All-contains, Any-from_list_any}
+use Rattle.std.proofs.Common.{◌-◌}
+use Rattle.std.proofs.lemmas.Bool.{not_from_true, leb-true, eq-eqb, true≢false}
 use Rattle.std.proofs.lemmas.List.{get_or_default}
-use Rattle.std.proofs.lemmas.List.Elements.{All-contains}
-use Rattle.std.proofs.lemmas.List.Folds.{Any-from_list_any}
 use Rattle.keymap_core.specs.Actions.{within}
 use Rattle.keymap_draw.specs.declared.tables.CaseRow.{CaseRow}
 use Rattle.keymap_draw.specs.declared.tables.TheConstants.{CASES}
@@ -143,3 +142,5 @@ letters_have_one_capital small capital other e f =
     ap (λ (p : ℕ × ℕ). p.1)
     (one_of small_differs small_once (small, capital) (small, other) (same_not small small refl)
     (same_not small small refl) (letter_of small capital e) (letter_of small other f))
+
+pub ruleset letter_laws = (pairs_are_letters, capitals_are_of_one_letter, letters_have_one_capital)

@@ -1,5 +1,5 @@
-mod Agreeing
 mod Boards
+mod Common
 mod Letters
 mod Loops
 mod Parts
@@ -7,7 +7,6 @@ mod Plain
 mod Red
 mod Scans
 mod Shown
-mod Squeezed
 mod Texts
 mod Titles
 mod Told

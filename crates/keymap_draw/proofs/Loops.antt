@@ -1,12 +1,10 @@
 -- Texts and lists that are put together in a loop.
-use Prim.Native.Nat.{zero, suc}
-use Rattle.std.proofs.Common.{◌≡◌, ℕ, ◌+◌, ◌<◌, ◌≤◌, Bool, true, false, List, [], ◌∷◌, ◌++◌, length, drop, get_or}
-use Rattle.std.proofs.Common.{append_assoc, append-nil, All, add-one, drop-cons, refl, sym, ap, ◌∙◌, arith}
+use Rattle.keymap_draw.proofs.Common.{zero, suc, ◌≡◌, ℕ, ◌+◌, ◌<◌, ◌≤◌, Bool, true, false, List, [], ◌∷◌, ◌++◌, length}
+use Rattle.keymap_draw.proofs.Common.{drop, get_or, append_assoc, append-nil, All, refl, sym, ap, ◌∙◌, arith}
+use Rattle.keymap_draw.proofs.Common.{All-append, All-nil, None, slice_get, slice_index_or, gathered, passing, passed}
+use Rattle.keymap_draw.proofs.Common.{Fact, numbered}
+use Rattle.std.proofs.Common.{add-one, drop-cons}
 use Rattle.std.proofs.Math.ListN.{drop_of_length-le}
-use Rattle.std.proofs.lemmas.List.Elements.{All-append, All-nil}
-use Rattle.std.specs.Prelude.{None, slice_get, slice_index_or}
-use Rattle.keymap_core.specs.Below.{gathered, passing, passed}
-use Rattle.keymap_draw.specs.Facts.{Fact, numbered}
 
 -- nothing is left to add
 pub numbered_end : {A : Type 0} (f : ℕ → A → List Fact) (xs : List A) (i : ℕ) (old all : List Fact) → length xs ≤ i
@@ -47,10 +45,6 @@ passing-more test n r old new e before added =
 pub passing-start : (test : ℕ → Bool) (old : List ℕ) → old ≡ [] → old ≡ passing test 0
 passing-start test old e = e ∙ sym (passing-none test)
 
--- a number of a list in front of another, or of that one
-all_join : (P : ℕ → Type 0) (xs ys : List ℕ) → All P xs → All P ys → All P (xs ++ ys)
-all_join P xs ys a b = All-append P xs ys a b
-
 passed-below : (b : Bool) (n k : ℕ) → n < k → All (λ i. i < k) (passed b n)
 passed-below true n k h = one n h
   where
@@ -64,7 +58,7 @@ pub passing-below : (test : ℕ → Bool) (n k : ℕ) → n ≤ k → All (λ i.
 unfolding passing gathered
 passing-below test zero k h = All-nil (λ i. i < k)
 passing-below test (suc n) k h =
-    all_join (λ i. i < k) (passing test n) (passed (test n) n) (passing-below test n k (omega arith))
+    All-append (λ i. i < k) (passing test n) (passed (test n) n) (passing-below test n k (omega arith))
     (passed-below (test n) n k (omega arith))
 
 -- past the end there is only what stands for it

@@ -1,32 +1,120 @@
--- How the parts of the picture are read that tell something.
-use Rattle.std.proofs.Common.{◌≡◌, ℕ, ◌==◌, Bool, true, false, List, [], ◌∷◌, ◌++◌, Option, Some, None, refl, sym, ap}
-use Rattle.std.proofs.Common.{◌∙◌, append_assoc}
-use Rattle.std.specs.Prelude.{◌||◌, codes, decimal, option_to_list}
-use Rattle.std.specs.List.{list_all, list_any}
-use Rattle.std.proofs.lemmas.Bool.{eqb-true}
+-- How words are read with what is told at their places.
+use Rattle.keymap_draw.proofs.Common.{suc, ◌≡◌, ℕ, ◌+◌, ◌==◌, Bool, true, false, List, [], ◌∷◌, ◌++◌, Option, Some}
+use Rattle.keymap_draw.proofs.Common.{None, refl, sym, ap, ◌∙◌, subst, map, take, arith, ◌||◌, not, codes, decimal}
+use Rattle.keymap_draw.proofs.Common.{if◌then◌else◌, list_all, list_any, flat_map, eqb-true, name_of, Finding}
+use Rattle.keymap_draw.proofs.Common.{finding_words, Told, Plain, Bytes, Fact, escaped, is_class, within, is_inner}
+use Rattle.keymap_draw.proofs.Common.{is_seen, over, ReadAs, IsWithin, facts_in, State, Read, Place, Element, at, scan}
+use Rattle.keymap_draw.proofs.Common.{saying, within_element, Text, Value}
+use Rattle.std.specs.Prelude.{slice_index}
+use Rattle.std.specs.List.{prefix_len}
+use Rattle.std.specs.Option.{option_and_then}
 use Rattle.keymap_core.specs.declared.action.Holding.{Holding}
+use Rattle.keymap_core.specs.Actions.{holding_action}
+use Rattle.keymap_draw.specs.declared.sheet.Told.TheVariants.{Characters}
+use Rattle.keymap_draw.specs.Sheets.{written, is_ready, taking}
+use Rattle.messages.specs.Filled.{filled, is_hole, words_before, words_behind}
+use Rattle.keymap_draw.proofs.Scans.{both_true, first_true, second_true, none-some, failed, scan-append, inside_from}
+use Rattle.keymap_draw.proofs.Scans.{was_inside, value_scan, text_scan, further, held, decimal_inner}
+use Rattle.keymap_draw.proofs.Shown.{joined, place, ends as ends_in, escaped_scan, tag_scan}
 use Rattle.keymap_core.specs.declared.action.Holding.TheVariants as h
 use Rattle.keymap_core.specs.declared.action.Modifier.TheVariants as m
 use Rattle.keymap_core.specs.declared.action.Lock.TheVariants as l
-use Rattle.keymap_core.specs.Actions.{name_of, holding_action}
-use Rattle.keymap_check.specs.declared.finding.Finding.{Finding}
-use Rattle.keymap_check.specs.Said.{finding_words}
-use Rattle.keymap_draw.specs.declared.board.Shape.{Shape}
-use Rattle.keymap_draw.specs.declared.board.Shape.TheVariants.{A}
-use Rattle.keymap_draw.specs.declared.words.TheConstants as words
-use Rattle.keymap_draw.specs.Boards.{letter}
-use Rattle.keymap_draw.specs.Facts.{Fact, place_at}
-use Rattle.keymap_draw.specs.Facts.Fact.{Title, Key}
-use Rattle.keymap_draw.specs.Keys.{finding_line}
-use Rattle.keymap_draw.specs.Markup.{group, text_begin, composed_begin}
-use Rattle.keymap_draw.specs.Places.{is_class}
-use Rattle.keymap_draw.specs.Sheets.{ids, within, in_svg, in_key, in_row, in_table, is_inner, are_inner, over}
-use Rattle.keymap_draw.specs.WellFormed.{State, Element, element, at}
-use Rattle.keymap_draw.specs.WellFormed.Place.{Text}
-use Rattle.keymap_draw.specs.WellFormed.Role.{Plain, Group, Titled, Lettered}
-use Rattle.messages.specs.Filled.{filled, words_before, words_behind}
-use Rattle.keymap_draw.proofs.Scans.{both_true, first_true, second_true, reading, Leads, filling, decimal_inner}
-use Rattle.keymap_draw.proofs.Shown.{joined, tag, Squares, spelling}
+
+-- ---- what is told at a place
+
+before_tag : (w : List ℕ) → words_before (60 ∷ w) ≡ 60 ∷ words_before w
+before_tag w = ap (λ n. take n (60 ∷ w)) (one_more (prefix_len (λ c. not (is_hole c)) w))
+  where
+    one_more : (n : ℕ) → 1 + n ≡ suc n
+    one_more n = omega arith
+
+-- bytes behind words that begin with a tag
+begins_tag : (w : List ℕ) (ts : List Told) → slice_index w 0 ≡ 60
+    → (bs : List ℕ) × (filled w (map written ts) ≡ 60 ∷ bs)
+unfolding filled
+begins_tag [] ts e = cc
+begins_tag (c ∷ w) ts e = subst (λ d. (bs : List ℕ) × (filled (d ∷ w) (map written ts) ≡ 60 ∷ bs)) (sym e) (by ts)
+  where
+    by : (ts : List Told) → (bs : List ℕ) × (filled (60 ∷ w) (map written ts) ≡ 60 ∷ bs)
+    by [] = (w, refl)
+    by (t ∷ ts) =
+        let rest : List ℕ = filled (words_behind (60 ∷ w)) (map written ts) in
+        ((words_before w ++ written t) ++ rest, ap (λ b. (b ++ written t) ++ rest) (before_tag w))
+
+-- the reader behind characters that have references, before a tag
+escaped_taken : (r : Read) (cs next : List ℕ) (ts : List Told) (b : Bool) (q : State) → list_all is_seen cs ≡ true
+    → slice_index next 0 == 60 ≡ b → (if b then within_element Text (saying cs r) else None) ≡ Some q
+    → scan (scan (Some (at Text r)) (flat_map escaped cs)) (filled next (map written ts))
+    ≡ scan (Some q) (filled next (map written ts))
+escaped_taken r cs next ts false q h t e = absurd (none-some q e)
+escaped_taken r cs next ts true q h t e =
+    let (i, f) = inside_from Text (saying cs r) q e in
+    let (bs, g) = begins_tag next ts (eqb-true (slice_index next 0) 60 t) in
+    ap (λ o. scan o (filled next (map written ts))) (escaped_scan r false cs (was_inside r cs i) h)
+    ∙ ap (scan (Some (at (place (ends_in false cs)) (saying cs r)))) g
+    ∙ tag_scan (saying cs r) (ends_in false cs) bs
+    ∙ sym (ap (scan (Some (at Text (saying cs r)))) g)
+    ∙ ap (λ o. scan o (filled next (map written ts))) f
+
+taken : (p : Place) (r : Read) (t : Told) (next : List ℕ) (ts : List Told) (q : State) → is_ready t ≡ true
+    → taking p r t next ≡ Some q
+    → scan (scan (Some (at p r)) (written t)) (filled next (map written ts))
+    ≡ scan (Some q) (filled next (map written ts))
+taken (Value tag name value) r (Plain t) next ts q h e =
+    ap (λ o. scan o (filled next (map written ts))) (value_scan tag name value r t.now h ∙ e)
+taken Text r (Plain t) next ts q h e =
+    let (i, f) = inside_from Text (saying t.now r) q e in
+    ap (λ o. scan o (filled next (map written ts))) (text_scan r t.now (was_inside r t.now i) h ∙ f)
+taken Text r (Bytes t) next ts q h e = escaped_taken r t.now next ts (slice_index next 0 == 60) q h refl e
+taken Text r (Characters t) next ts q h e = escaped_taken r t.now next ts (slice_index next 0 == 60) q h refl e
+taken _ r t next ts q h e = absurd (none-some q e)
+
+-- ---- words
+
+over_none : (ts : List Told) (w : List ℕ) → over None w ts ≡ None
+over_none [] w = failed w
+over_none (t ∷ ts) w =
+    ap (λ o. over (option_and_then (λ (u : State). taking u.place u.read t (words_behind w)) o) (words_behind w) ts)
+    (failed (words_before w)) ∙ over_none ts (words_behind w)
+
+pub over_scan : (ts : List Told) (s : Option State) (w : List ℕ) (u : State) → list_all is_ready ts ≡ true
+    → over s w ts ≡ Some u → scan s (filled w (map written ts)) ≡ Some u
+unfolding filled
+over_scan [] s w u h e = e
+over_scan (t ∷ ts) s w u h e =
+    scan-append s (words_before w ++ written t) (filled (words_behind w) (map written ts))
+    ∙ ap (λ o. scan o (filled (words_behind w) (map written ts))) (scan-append s (words_before w) (written t))
+    ∙ from (scan s (words_before w))
+    (λ q f. over_scan ts (Some q) (words_behind w) u (second_true (is_ready t) (list_all is_ready ts) h) f) e
+  where
+    text : (v : State) (q : Option State) → taking v.place v.read t (words_behind w) ≡ q
+        → ((q : State) → over (Some q) (words_behind w) ts ≡ Some u → scan (Some q) (filled (words_behind w) (map written ts)) ≡ Some u)
+        → over q (words_behind w) ts ≡ Some u → scan (scan (Some v) (written t)) (filled (words_behind w) (map written ts)) ≡ Some u
+    text v None f all e = absurd (none-some u (sym (over_none ts (words_behind w)) ∙ e))
+    text v (Some q) f all e =
+        taken v.place v.read t (words_behind w) ts q (first_true (is_ready t) (list_all is_ready ts) h) f ∙ all q e
+
+    from : (o : Option State) → ((q : State) → over (Some q) (words_behind w) ts ≡ Some u → scan (Some q) (filled (words_behind w) (map written ts)) ≡ Some u)
+        → over (option_and_then (λ (v : State). taking v.place v.read t (words_behind w)) o) (words_behind w) ts
+        ≡ Some u
+        → scan (scan o (written t)) (filled (words_behind w) (map written ts)) ≡ Some u
+    from None all e = absurd (none-some u (sym (over_none ts (words_behind w)) ∙ e))
+    from (Some v) all e = text v (taking v.place v.read t (words_behind w)) refl all e
+
+-- a text behind which words stand with what is told
+pub behind : {s t : State} {old new : List ℕ} (words : List ℕ) (told : List Told) → ReadAs s old
+    → new ≡ old ++ filled words (map written told) → list_all is_ready told ≡ true
+    → over (Some s) words told ≡ Some t → ReadAs t new
+behind {s} {t} words told h e r o =
+    further (filled words (map written told)) h e (over_scan told (Some s) words t r o)
+
+pub led : {begun next : List Element} {old new : List ℕ} {fs gs : List Fact} (words : List ℕ) (told : List Told)
+    → IsWithin begun old → facts_in old ≡ fs → new ≡ old ++ filled words (map written told)
+    → list_all is_ready told ≡ true → over (Some (within begun fs)) words told ≡ Some (within next gs)
+    → ReadAs (within next gs) new
+led words told h v = behind words told (held h v)
+
+-- ---- what is inner
 
 -- a letter of a list whose letters pass a test
 among : (test : ℕ → Bool) (letters : List ℕ) (c : ℕ) → list_all test letters ≡ true
@@ -83,94 +171,3 @@ said f =
 
 pub said_inner : (f : Finding) → list_all is_inner (finding_words f) ≡ true
 said_inner f = (said f).all
-
-pub line_inner : (o : Option Finding) → list_all is_inner (finding_line o) ≡ true
-line_inner None = refl
-line_inner (Some f) = joined is_inner (finding_words f) (codes "\n") (said_inner f) refl
-
--- ---- keys
-
-one_inner : (x : ℕ) → are_inner (decimal x ∷ []) ≡ true
-one_inner x = rw (decimal_inner x) refl
-
-two_inner : (x y : ℕ) → are_inner (decimal x ∷ decimal y ∷ []) ≡ true
-two_inner x y = rw (decimal_inner x, decimal_inner y) refl
-
--- in the title of a group
-abbrev pub in_title : List ℕ → List ℕ → List ℕ → List Fact → State
-in_title class place said fs =
-    at Text (reading (codes "title") (Titled said) (element (codes "g") (Group class place) ∷ in_svg) ids fs)
-
-pub group_in : {fs : List Fact} (class : Option ℕ) (x y : ℕ) → list_all is_class (option_to_list class) ≡ true
-    → Leads (within in_svg fs) (group class x y) (in_title (option_to_list class) (place_at x y) [] fs)
-group_in {fs} None x y h =
-    filling {s = within in_svg fs} {t = in_title [] (place_at x y) [] fs} words.GROUP.now (decimal x ∷ decimal y ∷ [])
-    (two_inner x y) refl
-group_in {fs} (Some c) x y h =
-    filling {s = within in_svg fs} {t = in_title (c ∷ []) (place_at x y) [] fs} words.GROUP_OF.now
-    ((c ∷ []) ∷ decimal x ∷ decimal y ∷ [])
-    (both_true _ _ (classes_inner (c ∷ []) h) (two_inner x y)) refl
-
-letter_inner : (s : Shape) → are_inner ((letter s ∷ []) ∷ []) ≡ true
-letter_inner A = refl
-letter_inner _ = refl
-
--- the link to a cap, behind the title of a key
-abbrev pub key_facts : List ℕ → List ℕ → List ℕ → Shape → List Fact → List Fact
-key_facts class place said s fs =
-    (fs ++ Title said ∷ []) ++ Key class place (codes "#" ++ letter s ∷ []) ∷ []
-
-pub key_told : (class place said : List ℕ) (s : Shape) (fs : List Fact)
-    → key_facts class place said s fs ≡ fs ++ Title said ∷ Key class place (codes "#" ++ letter s ∷ []) ∷ []
-key_told class place said s fs = append_assoc fs (Title said ∷ []) _
-
-cap_scan : {class place said : List ℕ} {fs : List Fact} (s : Shape) (l : ℕ) → l ≡ letter s
-    → Leads (in_title class place said fs) (filled words.CAP.now ((l ∷ []) ∷ []))
-    (within in_key (key_facts class place said s fs))
-cap_scan {class} {place} {said} {fs} s l e = rw e (filling _ _ (letter_inner s) (by s))
-  where
-    by : (s : Shape) → over (Some (in_title class place said fs)) words.CAP.now ((letter s ∷ []) ∷ [])
-        ≡ Some (within in_key (key_facts class place said s fs))
-    by A = refl
-    by _ = refl
-
-pub cap_in : {class place said : List ℕ} {fs : List Fact} (q : Squares) (s : Shape) (l : ℕ) → l ≡ letter s
-    → Leads (spelling (codes "title") (Titled said) (element (codes "g") (Group class place) ∷ in_svg) ids fs q)
-    (filled words.CAP.now ((l ∷ []) ∷ [])) (within in_key (key_facts class place said s fs))
-unfolding filled
-cap_in q s l e = tag q (filled words.CAP.now ((l ∷ []) ∷ [])) refl (cap_scan s l e)
-
--- in a text on a cap
-abbrev pub in_label : List ℕ → List ℕ → List ℕ → List Fact → State
-in_label x y said fs = at Text (reading (codes "text") (Lettered x y said) in_key ids fs)
-
-pub text_in : {fs : List Fact} (x y : ℕ) (classes : List ℕ) → list_all is_class classes ≡ true
-    → Leads (within in_key fs) (text_begin x y classes) (in_label (decimal x) (decimal y) [] fs)
-text_in {fs} x y [] h =
-    filling {s = within in_key fs} {t = in_label (decimal x) (decimal y) [] fs} words.TEXT.now
-    (decimal x ∷ decimal y ∷ []) (two_inner x y) refl
-text_in {fs} x y (c ∷ classes) h =
-    filling {s = within in_key fs} {t = in_label (decimal x) (decimal y) [] fs} words.TEXT_OF.now
-    (decimal x ∷ decimal y ∷ (c ∷ classes) ∷ [])
-    (both_true _ _ (decimal_inner x) (both_true _ _ (decimal_inner y) (both_true _ true (classes_inner (c ∷ classes) h)
-    refl))) refl
-
--- in a text that tells nothing
-abbrev pub in_quiet : List Element → List Fact → State
-in_quiet begun fs = at Text (reading (codes "text") Plain begun ids fs)
-
-pub composed_in : {fs : List Fact} (x : ℕ) (class : Option ℕ) → list_all is_class (option_to_list class) ≡ true
-    → Leads (within in_table fs) (composed_begin x class) (in_quiet in_table fs)
-composed_in {fs} x None h =
-    filling {s = within in_table fs} {t = in_quiet in_table fs} words.COMPOSED.now (decimal x ∷ [])
-    (one_inner x) refl
-composed_in {fs} x (Some c) h =
-    filling {s = within in_table fs} {t = in_quiet in_table fs} words.COMPOSED_OF.now (decimal x ∷ (c ∷ []) ∷ [])
-    (both_true _ _ (decimal_inner x) (both_true _ true (classes_inner (c ∷ []) h) refl)) refl
-
-pub name_in : {fs : List Fact} (q : Squares) (x name : List ℕ) → are_inner (x ∷ name ∷ []) ≡ true
-    → Leads (spelling (codes "text") Plain in_row ids fs q) (filled words.NAME.now (x ∷ name ∷ [])) (within in_row fs)
-unfolding filled
-name_in {fs} q x name h =
-    tag q (filled words.NAME.now (x ∷ name ∷ [])) refl
-    (filling {s = in_quiet in_row fs} {t = within in_row fs} words.NAME.now (x ∷ name ∷ []) h refl)

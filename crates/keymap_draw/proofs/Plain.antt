@@ -1,21 +1,11 @@
 -- What is scanned is plain.
-use Rattle.std.proofs.Common.{◌≡◌, ℕ, ◌<◌, Bool, true, false, List, [], ◌∷◌, Option, Some, None, refl, sym, ◌∙◌}
-use Rattle.std.proofs.Common.{All, get_or}
-use Rattle.std.specs.Prelude.{not, if◌then◌else◌}
-use Rattle.std.proofs.lemmas.Bool.{not-true}
-use Rattle.std.proofs.lemmas.List.Elements.{All-nil, All-cons}
-use Rattle.keymap_core.specs.Accents.{AccentValue}
-use Rattle.keymap_core.specs.Bounds.{IsCell}
-use Rattle.keymap_core.specs.Unseen.{is_unseen}
-use Rattle.keymap_core.specs.declared.entry.Cell.{Cell}
-use Rattle.keymap_core.specs.declared.entry.Entry.{Entry}
-use Rattle.keymap_text.specs.Printed.{slot_words, accent_words}
-use Rattle.keymap_draw.specs.Legends.{cell_legend}
-use Rattle.keymap_draw.specs.Facts.{Fact}
-use Rattle.keymap_draw.specs.WellFormed.{State, Tells, start, step, step_at, scan, is_plain, IsPlain, is_shown, IsShown}
-use Rattle.keymap_draw.specs.WellFormed.{IsSeen}
+use Rattle.keymap_draw.proofs.Common.{◌≡◌, ℕ, ◌<◌, Bool, true, false, List, [], ◌∷◌, Option, Some, None, refl, sym, ◌∙◌}
+use Rattle.keymap_draw.proofs.Common.{All, get_or, not, if◌then◌else◌, not-true, All-nil, All-cons, AccentValue, IsCell}
+use Rattle.keymap_draw.proofs.Common.{is_unseen, Cell, Entry, slot_words, accent_words, cell_legend, Fact, State, Tells}
+use Rattle.keymap_draw.proofs.Common.{start, step, scan, is_plain, is_shown, is_seen}
+use Rattle.keymap_draw.specs.WellFormed.{step_at, IsPlain, IsShown, IsSeen}
 use Rattle.keymap_draw.proofs.Scans.{first_true, second_true, none-some, failed}
-use Rattle.keymap_draw.proofs.Shown.{all_from, is_seen}
+use Rattle.keymap_draw.proofs.Shown.{all_from}
 use Rattle.keymap_draw.proofs.Texts.{AreShown, cell_shown, slot_words_shown, accent_words_shown}
 
 scanned_plain : (bs : List ℕ) (o : Option State) (t : State) → scan o bs ≡ Some t → All IsPlain bs
@@ -52,3 +42,5 @@ key_title_seen slot e low is = each_seen (slot_words slot e) (slot_words_shown s
 
 pub accent_title_seen : (i : ℕ) (accent : AccentValue) → All IsSeen (accent_words i accent)
 accent_title_seen i accent = each_seen (accent_words i accent) (accent_words_shown i accent)
+
+pub ruleset shown_laws = (legend_shown, legend_seen, key_title_seen, accent_title_seen)

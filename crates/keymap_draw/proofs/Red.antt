@@ -1,15 +1,12 @@
 -- A red cap is that of a key with a finding, and which classes a key has.
-use Rattle.std.proofs.Common.{◌≡◌, ℕ, ◌==◌, Bool, true, false, List, [], ◌∷◌, Option, Some, None, refl, sym, ap}
-use Rattle.std.proofs.Common.{◌∙◌, arith, All}
-use Rattle.std.specs.Prelude.{◌%◌, option_to_list, if◌then◌else◌}
-use Rattle.std.specs.List.{list_all}
+use Rattle.keymap_draw.proofs.Common.{◌≡◌, ℕ, ◌==◌, Bool, true, false, List, [], ◌∷◌, Option, Some, None, refl, sym, ap}
+use Rattle.keymap_draw.proofs.Common.{◌∙◌, arith, All, ◌%◌, if◌then◌else◌, list_all, key_count, Entry, Finding}
+use Rattle.keymap_draw.proofs.Common.{finding_of, is_class}
+use Rattle.std.specs.Prelude.{option_to_list}
 use Rattle.std.specs.Option.{is_some}
-use Rattle.keymap_core.specs.Numbers.{key_count}
-use Rattle.keymap_core.specs.declared.entry.Entry.{Entry}
-use Rattle.keymap_check.specs.declared.finding.Finding.{Finding}
 use Rattle.keymap_draw.specs.Drawn.{column}
-use Rattle.keymap_draw.specs.Keys.{finding_of, names_key, red, key_class, is_blank_entry, is_holding, is_doing}
-use Rattle.keymap_draw.specs.Places.{is_class, IsClass}
+use Rattle.keymap_draw.specs.Keys.{names_key, red, key_class, is_blank_entry, is_holding, is_doing}
+use Rattle.keymap_draw.specs.Places.{IsClass}
 use Rattle.keymap_draw.proofs.Shown.{all_from}
 
 -- by whether the first finding is the key's

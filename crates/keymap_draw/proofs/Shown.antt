@@ -1,39 +1,25 @@
 -- What the legends and the titles have, and how it is scanned.
-use Prim.Native.Nat.{zero, suc}
-use Rattle.std.proofs.Common.{◌≡◌, ℕ, ◌+◌, ◌*◌, ◌<◌, Bool, true, false, List, [], ◌∷◌, ◌++◌, Option, Some}
-use Rattle.std.proofs.Common.{None, refl, ap, sym, ◌∙◌, arith, length, get_or, All, ◌==◌}
-use Rattle.std.specs.Prelude.{map, ◌/◌, ◌%◌, ◌&&◌, not, nat_lt, codes, if◌then◌else◌, slice_index, slice_index_or}
+use Rattle.keymap_draw.proofs.Common.{zero, suc, ◌≡◌, ℕ, ◌+◌, ◌<◌, Bool, true, false, List, [], ◌∷◌, ◌++◌, Option, Some}
+use Rattle.keymap_draw.proofs.Common.{None, refl, ap, sym, ◌∙◌, arith, length, get_or, All, ◌==◌, map, ◌/◌, ◌%◌, not}
+use Rattle.keymap_draw.proofs.Common.{nat_lt, codes, if◌then◌else◌, slice_index_or, list_all, flat_map, range_with_len}
+use Rattle.keymap_draw.proofs.Common.{along, ltb-true, eqb-true, nat_tests, All-head, All-tail, All-nil, All-cons}
+use Rattle.keymap_draw.proofs.Common.{code_digits, upper_digits, digit_at, is_unseen, escaped, is_seen, State, Read}
+use Rattle.keymap_draw.proofs.Common.{Place, at, step, scan, saying, is_plain, is_shown, Text}
+use Rattle.std.proofs.Common.{◌*◌}
 use Rattle.std.specs.Char.{digit_char}
-use Rattle.std.specs.List.{list_all, flat_map, range_with_len}
-use Rattle.keymap_core.proofs.Lists.{along}
-use Rattle.std.proofs.lemmas.Bool.{ltb-true, eqb-true, false≢true}
-use Rattle.std.proofs.lemmas.Bool.Decides.{nat_tests}
-use Rattle.std.proofs.lemmas.List.Elements.{All-head, All-tail, All-nil, All-cons}
+use Rattle.std.proofs.lemmas.Bool.{false≢true}
 use Rattle.std.proofs.lemmas.List.Folds.{list_all-append}
-use Rattle.keymap_core.specs.CodePoints.{code_digits, upper_digits, digit_at}
-use Rattle.keymap_core.specs.Unseen.{is_unseen}
-use Rattle.keymap_draw.specs.Markup.{escaped, is_referred, reference}
-use Rattle.keymap_draw.specs.Facts.{Fact}
-use Rattle.keymap_draw.specs.WellFormed.{Role, Element, State, Read, Place, at, step, scan, in_text, saying}
-use Rattle.keymap_draw.specs.WellFormed.{with_characters, is_plain, is_shown}
-use Rattle.keymap_draw.specs.WellFormed.Place.{Text, Bracket, Brackets, Number}
-use Rattle.keymap_draw.proofs.Scans.{past, both_true, first_true, second_true, reading, no_characters}
-use Rattle.keymap_draw.proofs.Scans.{more_characters, is_textual, textual_step, Leads}
-
--- it may stand in a text, and a terminal shows it as it is
-abbrev pub is_seen : ℕ → Bool
-is_seen c = is_shown c && not (is_unseen c)
+use Rattle.keymap_draw.specs.Markup.{is_referred, reference}
+use Rattle.keymap_draw.specs.WellFormed.{in_text}
+use Rattle.keymap_draw.specs.WellFormed.Place.{Bracket, Number, Ampersand}
+use Rattle.keymap_draw.proofs.Scans.{past, both_true, first_true, second_true, IsInside, inside_is, still_inside}
+use Rattle.keymap_draw.proofs.Scans.{saying_none, saying_more, is_textual, textual_step}
 
 -- ---- tests of lists
 
 pub joined : (test : ℕ → Bool) (a b : List ℕ) → list_all test a ≡ true → list_all test b ≡ true
     → list_all test (a ++ b) ≡ true
 joined test a b e f = list_all-append test a b ∙ both_true (list_all test a) (list_all test b) e f
-
-pub chosen : (test : ℕ → Bool) (b : Bool) (x y : List ℕ) → (b ≡ true → list_all test x ≡ true)
-    → (b ≡ false → list_all test y ≡ true) → list_all test (if b then x else y) ≡ true
-chosen test true x y f g = f refl
-chosen test false x y f g = g refl
 
 pub flat_all : {A : Type 0} (test : ℕ → Bool) (P : A → Type 0) (f : A → List ℕ)
     → ((x : A) → P x → list_all test (f x) ≡ true) → (xs : List A) → All P xs → list_all test (flat_map f xs) ≡ true
@@ -142,26 +128,15 @@ digits_scan r c low = past _ _ (upper_digits c) _ _ (upper_scan r c low) (four_d
 pub below_all : (c : ℕ) → is_shown c ≡ true → c < 0x110000
 below_all c h = grind (arith, nat_tests)
 
--- how many brackets stand right before a place of a text: none, one, or more
-pub data Squares : Type 0 where
-  NoBracket : Squares
-  OneBracket : Squares
-  MoreBrackets : Squares
+-- where the reader is in a text, which may end in a bracket
+abbrev pub place : Bool → Place
+place false = Text
+place true = Bracket
 
-abbrev pub place : Squares → Place
-place NoBracket = Text
-place OneBracket = Bracket
-place MoreBrackets = Brackets
-
-abbrev pub more : Squares → Squares
-more NoBracket = OneBracket
-more OneBracket = MoreBrackets
-more MoreBrackets = MoreBrackets
-
--- behind some characters
-abbrev pub behind : Squares → List ℕ → Squares
-behind q [] = q
-behind q (c ∷ cs) = behind (if c == 93 then more q else NoBracket) cs
+-- whether a text ends in one behind some characters
+abbrev pub ends : Bool → List ℕ → Bool
+ends q [] = q
+ends q (c ∷ cs) = ends (c == 93) cs
 
 textual : (c : ℕ) → is_shown c ≡ true → is_referred c ≡ false → c == 93 ≡ false → is_textual c ≡ true
 textual c h f b = grind (arith, nat_tests)
@@ -172,91 +147,54 @@ no_greater c f = grind (arith, nat_tests)
 no_bracket : (c : ℕ) → is_referred c ≡ true → c ≡ 93 → false ≡ true
 no_bracket c f e = ap is_referred (sym e) ∙ f
 
--- where the last element has this role, behind brackets
-abbrev pub spelling : List ℕ → Role → List Element → List (List ℕ) → List Fact → Squares → State
-spelling name role begun ids facts q = at (place q) (reading name role begun ids facts)
-
 number_ends : (r : Read) (c : ℕ) → is_shown c ≡ true
     → scan (Some (at (Number 0) r)) (code_digits c ++ codes ";") ≡ Some (at Text (saying (c ∷ []) r))
 number_ends r c h =
     past _ _ (code_digits c) (codes ";") _ (digits_scan r c (below_all c h))
     (ap (λ b. if b then Some (at Text (saying (c ∷ []) r)) else None) h)
 
-reference_scan : (name : List ℕ) (role : Role) (begun : List Element) (ids : List (List ℕ)) (facts : List Fact)
-    (q : Squares) (c : ℕ) → is_shown c ≡ true
-    → scan (Some (spelling name role begun ids facts q)) (reference c)
-    ≡ Some (spelling name (with_characters role (c ∷ [])) begun ids facts NoBracket)
-reference_scan name role begun ids facts NoBracket c h = number_ends (reading name role begun ids facts) c h
-reference_scan name role begun ids facts OneBracket c h = number_ends (reading name role begun ids facts) c h
-reference_scan name role begun ids facts MoreBrackets c h = number_ends (reading name role begun ids facts) c h
+reference_scan : (r : Read) (q : Bool) (c : ℕ) → IsInside r → is_shown c ≡ true
+    → scan (Some (at (place q) r)) (reference c) ≡ Some (at Text (saying (c ∷ []) r))
+reference_scan r q c i h = ap (λ o. scan o (codes "#x" ++ (code_digits c ++ codes ";"))) (begins q) ∙ number_ends r c h
+  where
+    begins : (q : Bool) → step (Some (at (place q) r)) 38 ≡ Some (at Ampersand r)
+    begins false = inside_is Ampersand r i
+    begins true = inside_is Ampersand r i
 
-bracket_scan : (name : List ℕ) (role : Role) (begun : List Element) (ids : List (List ℕ)) (facts : List Fact)
-    (q : Squares)
-    → step (Some (spelling name role begun ids facts q)) 93
-    ≡ Some (spelling name (with_characters role (93 ∷ [])) begun ids facts (more q))
-bracket_scan name role begun ids facts NoBracket = refl
-bracket_scan name role begun ids facts OneBracket = refl
-bracket_scan name role begun ids facts MoreBrackets = refl
+bracket_scan : (r : Read) (q : Bool) → IsInside r
+    → step (Some (at (place q) r)) 93 ≡ Some (at Bracket (saying (93 ∷ []) r))
+bracket_scan r false i = inside_is Bracket (saying (93 ∷ []) r) (still_inside r (93 ∷ []) i)
+bracket_scan r true i = inside_is Bracket (saying (93 ∷ []) r) (still_inside r (93 ∷ []) i)
 
-plain_scan : (name : List ℕ) (role : Role) (begun : List Element) (ids : List (List ℕ)) (facts : List Fact)
-    (q : Squares) (c : ℕ) → is_textual c ≡ true → c == 93 ≡ false → c == 62 ≡ false
-    → step (Some (spelling name role begun ids facts q)) c
-    ≡ Some (spelling name (with_characters role (c ∷ [])) begun ids facts NoBracket)
-plain_scan name role begun ids facts NoBracket c h b g = textual_step name role begun ids facts c h
-plain_scan name role begun ids facts OneBracket c h b g =
-    ap (λ d. if is_plain c then (if d then Some (at Brackets (saying (c ∷ []) (reading name role begun ids facts)))
-    else in_text (reading name role begun ids facts) c) else None) b
-    ∙ textual_step name role begun ids facts c h
-plain_scan name role begun ids facts MoreBrackets c h b g =
-    ap (λ d. if is_plain c then (if d then Some (at Brackets (saying (c ∷ []) (reading name role begun ids facts)))
-    else if c == 62 then None else in_text (reading name role begun ids facts) c) else None) b
-    ∙ ap (λ d. if is_plain c then (if d then None else in_text (reading name role begun ids facts) c) else None) g
-    ∙ textual_step name role begun ids facts c h
+plain_scan : (r : Read) (q : Bool) (c : ℕ) → IsInside r → is_textual c ≡ true → c == 62 ≡ false
+    → step (Some (at (place q) r)) c ≡ Some (at Text (saying (c ∷ []) r))
+plain_scan r false c i h g = textual_step r c i h
+plain_scan r true c i h g =
+    ap (λ d. if is_plain c then (if d then None else in_text r c) else None) g ∙ textual_step r c i h
 
-escaped_by : (name : List ℕ) (role : Role) (begun : List Element) (ids : List (List ℕ)) (facts : List Fact)
-    (q : Squares) (c : ℕ) (b d : Bool) → is_shown c ≡ true → is_referred c ≡ b → c == 93 ≡ d
-    → scan (Some (spelling name role begun ids facts q)) (if b then reference c else c ∷ [])
-    ≡ Some (spelling name (with_characters role (c ∷ [])) begun ids facts (if d then more q else NoBracket))
-escaped_by name role begun ids facts q c true true h e f = absurd (false≢true (no_bracket c e (eqb-true c 93 f)))
-escaped_by name role begun ids facts q c true false h e f = reference_scan name role begun ids facts q c h
-escaped_by name role begun ids facts q c false true h e f =
-    rw (eqb-true c 93 f) (bracket_scan name role begun ids facts q)
-escaped_by name role begun ids facts q c false false h e f =
-    plain_scan name role begun ids facts q c (textual c h e f) f (no_greater c e)
+escaped_by : (r : Read) (q : Bool) (c : ℕ) (b d : Bool) → IsInside r → is_shown c ≡ true → is_referred c ≡ b
+    → c == 93 ≡ d
+    → scan (Some (at (place q) r)) (if b then reference c else c ∷ []) ≡ Some (at (place d) (saying (c ∷ []) r))
+escaped_by r q c true true i h e f = absurd (false≢true (no_bracket c e (eqb-true c 93 f)))
+escaped_by r q c true false i h e f = reference_scan r q c i h
+escaped_by r q c false true i h e f = rw (eqb-true c 93 f) (bracket_scan r q i)
+escaped_by r q c false false i h e f = plain_scan r q c i (textual c h e f) (no_greater c e)
 
 -- characters that are escaped, in a text
-escaped_scan : (name : List ℕ) (role : Role) (begun : List Element) (ids : List (List ℕ)) (facts : List Fact)
-    (q : Squares) (cs : List ℕ) → list_all is_seen cs ≡ true
-    → scan (Some (spelling name role begun ids facts q)) (flat_map escaped cs)
-    ≡ Some (spelling name (with_characters role cs) begun ids facts (behind q cs))
+pub escaped_scan : (r : Read) (q : Bool) (cs : List ℕ) → IsInside r → list_all is_seen cs ≡ true
+    → scan (Some (at (place q) r)) (flat_map escaped cs) ≡ Some (at (place (ends q cs)) (saying cs r))
 unfolding escaped
-escaped_scan name role begun ids facts q [] h =
-    ap (λ r. Some (spelling name r begun ids facts q)) (sym (no_characters role))
-escaped_scan name role begun ids facts q (c ∷ cs) h =
+escaped_scan r q [] i h = ap (λ s. Some (at (place q) s)) (sym (saying_none r))
+escaped_scan r q (c ∷ cs) i h =
     past _ _ (escaped c) (flat_map escaped cs) _
-    (escaped_by name role begun ids facts q c (is_referred c) (c == 93)
+    (escaped_by r q c (is_referred c) (c == 93) i
     (first_true (is_shown c) (not (is_unseen c)) (first_true (is_seen c) (list_all is_seen cs) h)) refl refl)
-    (escaped_scan name (with_characters role (c ∷ [])) begun ids facts (if c == 93 then more q else NoBracket) cs
+    (escaped_scan (saying (c ∷ []) r) (c == 93) cs (still_inside r (c ∷ []) i)
     (second_true (is_seen c) (list_all is_seen cs) h))
-    ∙ ap (λ r. Some (spelling name r begun ids facts (behind q (c ∷ cs)))) (more_characters role (c ∷ []) cs)
-
-pub escaped_in : {name : List ℕ} {role : Role} {begun : List Element} {ids : List (List ℕ)} {facts : List Fact}
-    (cs : List ℕ) → list_all is_seen cs ≡ true
-    → Leads (at Text (reading name role begun ids facts)) (flat_map escaped cs)
-    (spelling name (with_characters role cs) begun ids facts (behind NoBracket cs))
-escaped_in {name} {role} {begun} {ids} {facts} cs h =
-    record { scanned = escaped_scan name role begun ids facts NoBracket cs h }
-
-less_scan : (r : Read) (q : Squares) → step (Some (at (place q) r)) 60 ≡ step (Some (at Text r)) 60
-less_scan r NoBracket = refl
-less_scan r OneBracket = refl
-less_scan r MoreBrackets = refl
+    ∙ ap (λ s. Some (at (place (ends q (c ∷ cs))) s)) (saying_more r (c ∷ []) cs)
 
 -- a tag behind them
-pub tag : {r : Read} {t : State} (q : Squares) (bs : List ℕ) → slice_index bs 0 ≡ 60 → Leads (at Text r) bs t
-    → Leads (at (place q) r) bs t
-tag q [] e h = absurd (omega (arith, e))
-tag {r} {t} q (c ∷ bs) e h = record {
-  scanned = ap (λ k. scan (step (Some (at (place q) r)) k) bs) e ∙ ap (λ o. scan o bs) (less_scan r q)
-      ∙ sym (ap (λ k. scan (step (Some (at Text r)) k) bs) e) ∙ h.scanned;
-}
+pub tag_scan : (r : Read) (q : Bool) (bs : List ℕ)
+    → scan (Some (at (place q) r)) (60 ∷ bs) ≡ scan (Some (at Text r)) (60 ∷ bs)
+tag_scan r false bs = refl
+tag_scan r true bs = refl

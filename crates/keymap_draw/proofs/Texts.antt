@@ -1,40 +1,33 @@
 -- Each character of a legend and of a title may stand in a text.
-use Prim.Native.Nat.{zero, suc}
-use Rattle.std.proofs.Common.{◌≡◌, ◌≢◌, ℕ, ◌+◌, ◌<◌, ◌≤◌, ◌==◌, Bool, true, false, List, [], ◌∷◌, ◌++◌, Option, Some}
-use Rattle.std.proofs.Common.{refl, ap, arith, All}
-use Rattle.std.specs.Prelude.{◌/◌, ◌%◌, ◌||◌, ◌&&◌, not, nat_lt, codes, decimal, if◌then◌else◌, slice_index_or}
-use Rattle.std.specs.Prelude.{option_map}
+use Rattle.keymap_draw.proofs.Common.{zero, suc, ◌≡◌, ℕ, ◌+◌, ◌<◌, ◌≤◌, ◌==◌, Bool, true, false, List, [], ◌∷◌, ◌++◌}
+use Rattle.keymap_draw.proofs.Common.{Option, Some, refl, ap, arith, All, ◌/◌, ◌%◌, ◌||◌, ◌&&◌, not, nat_lt, codes}
+use Rattle.keymap_draw.proofs.Common.{decimal, if◌then◌else◌, slice_index_or, option_map, list_all, flat_map, filter}
+use Rattle.keymap_draw.proofs.Common.{ltb-true, nat_tests, All-head, All-tail, All-replicate, Cell, Char, Entry}
+use Rattle.keymap_draw.proofs.Common.{AccentValue, name_of, accent_names, IsCell, IsEntry, IsMap, code_digits}
+use Rattle.keymap_draw.proofs.Common.{upper_digits, digit_at, MapValue, entry_at, undefined, slot_words, accent_words}
+use Rattle.keymap_draw.proofs.Common.{word, is_unseen, unfilled, unseen_name, other_legend, character_legend}
+use Rattle.keymap_draw.proofs.Common.{cell_legend, is_shown, is_seen}
+use Rattle.std.proofs.Common.{◌≢◌}
 use Rattle.std.specs.Char.{IsScalar}
-use Rattle.std.specs.List.{list_all, flat_map, filter, find}
-use Rattle.std.proofs.lemmas.Bool.{ltb-true}
-use Rattle.std.proofs.lemmas.Bool.Decides.{nat_tests}
-use Rattle.std.proofs.lemmas.List.Elements.{All-head, All-tail, All-replicate}
+use Rattle.std.specs.List.{find}
 use Rattle.keymap_core.specs.declared.action.Action.{Action}
-use Rattle.keymap_core.specs.declared.action.Action.TheVariants as a
-use Rattle.keymap_core.specs.declared.action.Modifier.TheVariants as m
-use Rattle.keymap_core.specs.declared.action.Lock.TheVariants as l
-use Rattle.keymap_core.specs.declared.entry.Cell.{Cell}
-use Rattle.keymap_core.specs.declared.entry.Cell.TheVariants.{Char, Act}
-use Rattle.keymap_core.specs.declared.entry.Entry.{Entry}
+use Rattle.keymap_core.specs.declared.entry.Cell.TheVariants.{Act}
 use Rattle.keymap_core.specs.declared.entry.LockFlag.{LockFlag}
-use Rattle.keymap_core.specs.declared.entry.LockFlag.TheVariants as flag
-use Rattle.keymap_core.specs.Accents.{AccentValue}
-use Rattle.keymap_core.specs.Actions.{IsAction, name_of, two_digits, accent_names, within}
-use Rattle.keymap_core.specs.Bounds.{IsCell, IsEntry, IsMap}
-use Rattle.keymap_core.specs.CodePoints.{code_digits, code_text, upper_digits, digit_at}
-use Rattle.keymap_core.specs.Maps.{MapValue, entry_at, undefined}
-use Rattle.keymap_text.specs.Printed.{control_name, character_text, cell_text, hex, hex4, hex_at, slot_words, slot_text}
-use Rattle.keymap_text.specs.Printed.{pair_text, accent_words, flag_letter, word}
+use Rattle.keymap_core.specs.Actions.{IsAction, two_digits, within}
+use Rattle.keymap_core.specs.CodePoints.{code_text}
+use Rattle.keymap_text.specs.Printed.{control_name, character_text, cell_text, slot_text, pair_text, flag_letter}
 use Rattle.keymap_text.specs.Words.{control_names}
 use Rattle.keymap_draw.specs.declared.tables.UnseenName.{UnseenName}
 use Rattle.keymap_draw.specs.declared.tables.TheConstants.{UNSEEN_NAMES, ACCENT_MARKS}
-use Rattle.keymap_core.specs.Unseen.{is_unseen, is_control, is_unseen_above}
+use Rattle.keymap_core.specs.Unseen.{is_control, is_unseen_above}
 use Rattle.keymap_draw.specs.Characters.{is_numbered, is_mark}
-use Rattle.keymap_draw.specs.Legends.{name_in, unfilled, marked, is_coded, unseen_name, shown_legend, named_or}
-use Rattle.keymap_draw.specs.Legends.{other_legend, character_legend, accent_mark, action_legend, cell_legend}
-use Rattle.keymap_draw.specs.WellFormed.{is_shown}
+use Rattle.keymap_draw.specs.Legends.{name_in, marked, is_coded, shown_legend, named_or, accent_mark, action_legend}
 use Rattle.keymap_draw.proofs.Scans.{both_true, first_true, second_true, decimal_all, digit_passes}
-use Rattle.keymap_draw.proofs.Shown.{is_seen, joined as all_joined, flat_all, name_all, item_all, hex_shown}
+use Rattle.keymap_draw.proofs.Shown.{joined as all_joined, flat_all, name_all, item_all, hex_shown}
+use Rattle.keymap_core.specs.declared.action.Action.TheVariants as a
+use Rattle.keymap_core.specs.declared.action.Modifier.TheVariants as m
+use Rattle.keymap_core.specs.declared.action.Lock.TheVariants as l
+use Rattle.keymap_core.specs.declared.entry.LockFlag.TheVariants as flag
 
 -- each may stand in a text, and a terminal shows it as it is
 pub record AreShown (cs : List ℕ) : Type 0 where
@@ -116,12 +109,15 @@ upper_shown c =
     (λ _. chosen (nat_lt c 0x100000) (digit_at c 0x10000 ∷ []) (digit_at c 0x100000 ∷ digit_at c 0x10000 ∷ [])
     (λ _. five_shown c) (λ _. six_shown c))
 
+digits_shown : (c : ℕ) → AreShown (code_digits c)
+unfolding code_digits
+digits_shown c =
+    joined (upper_digits c) (digit_at c 0x1000 ∷ digit_at c 0x100 ∷ digit_at c 0x10 ∷ digit_at c 1 ∷ [])
+    (upper_shown c) (four_shown c)
+
 code_shown : (c : ℕ) → AreShown (code_text c)
-unfolding code_text code_digits
-code_shown c =
-    joined (codes "U+") (code_digits c) (shown refl)
-    (joined (upper_digits c) (digit_at c 0x1000 ∷ digit_at c 0x100 ∷ digit_at c 0x10 ∷ digit_at c 1 ∷ [])
-    (upper_shown c) (four_shown c))
+unfolding code_text
+code_shown c = joined (codes "U+") (code_digits c) (shown refl) (digits_shown c)
 
 decimal_shown : (n : ℕ) → AreShown (decimal n)
 decimal_shown n =
@@ -252,18 +248,6 @@ cell_shown (Act action) h = action_legend_shown action h
 
 -- ---- lines of the printed form
 
-hex_four : (c : ℕ) → AreShown (hex4 c)
-hex_four c = four_shown c
-
-hex_digits : (c : ℕ) → AreShown (hex c)
-unfolding hex
-hex_digits c =
-    chosen (nat_lt c 65536) (hex4 c) _ (λ _. hex_four c)
-    (λ _. chosen (nat_lt c 1048576) (hex_at c 65536 ∷ hex4 c) _
-    (λ _. before (hex_at c 65536) (hex4 c) (unit_shown c 65536 (omega arith)) (hex_four c))
-    (λ _. before (hex_at c 1048576) (hex_at c 65536 ∷ hex4 c) (unit_shown c 1048576 (omega arith))
-    (before (hex_at c 65536) (hex4 c) (unit_shown c 65536 (omega arith)) (hex_four c))))
-
 between_shown : (c : ℕ) → (nat_lt c 32 || c == 127) ≡ false → nat_lt c 127 ≡ true → is_seen c ≡ true
 between_shown c e f = low_shown c (not_low c e) (let h : c < 127 = ltb-true c 127 f in omega arith)
 
@@ -273,7 +257,7 @@ character_text_shown c =
     chosen (nat_lt c 32 || c == 127) (control_name c) _ (λ _. control_shown c)
     (λ e. chosen (nat_lt c 127) (39 ∷ c ∷ 39 ∷ []) _
     (λ f. before 39 (c ∷ 39 ∷ []) refl (before c (39 ∷ []) (between_shown c e f) (shown refl)))
-    (λ _. joined (codes "0x") (hex c) (shown refl) (hex_digits c)))
+    (λ _. joined (codes "0x") (code_digits c) (shown refl) (digits_shown c)))
 
 cell_text_shown : (cell : Cell) → IsCell cell → AreShown (word (cell_text cell))
 cell_text_shown (Char c) h = joined (codes " ") (character_text c) (shown refl) (character_text_shown c)

@@ -1,35 +1,24 @@
 -- The titles of a picture are those of the definitions that it tells.
-use Rattle.std.proofs.Common.{◌≡◌, ℕ, ◌+◌, Bool, true, false, List, [], ◌∷◌, ◌++◌, Option, Some, None, refl, sym, ap}
-use Rattle.std.proofs.Common.{subst, ◌∙◌, map}
-use Rattle.std.specs.Prelude.{option_map, if◌then◌else◌}
-use Rattle.std.specs.List.{flat_map, filter_map, cons_option}
+use Rattle.keymap_draw.proofs.Common.{◌≡◌, ℕ, ◌+◌, Bool, true, false, List, [], ◌∷◌, ◌++◌, Option, Some, None, refl}
+use Rattle.keymap_draw.proofs.Common.{sym, ap, subst, ◌∙◌, map, option_map, if◌then◌else◌, flat_map, filter_map}
+use Rattle.keymap_draw.proofs.Common.{cons_option, Cell, Entry, AccentValue, is_upper_live, entry_at, accent_at}
+use Rattle.keymap_draw.proofs.Common.{Definition, AccentDefinition, Shape, RUNS, Half, Lower, Upper, Row, keys_of}
+use Rattle.keymap_draw.proofs.Common.{Drawing, Fact, numbered, Title, Key, slot_of, run_keys, other_keys, other_key}
+use Rattle.keymap_draw.proofs.Common.{half_facts, named_accents, listed_accent, picture_facts, titles, told, told_in}
+use Rattle.keymap_draw.proofs.Common.{key_definition, accent_definition, title_of, State, Tells}
 use Rattle.std.proofs.lemmas.List.{map-append}
-use Rattle.keymap_core.specs.declared.entry.Cell.{Cell}
-use Rattle.keymap_core.specs.declared.entry.Entry.{Entry}
-use Rattle.keymap_core.specs.Accents.{AccentValue}
-use Rattle.keymap_core.specs.Borne.{is_upper_live}
-use Rattle.keymap_core.specs.Maps.{entry_at, accent_at}
-use Rattle.keymap_text.specs.Rows.{Definition, AccentDefinition}
-use Rattle.keymap_draw.specs.declared.board.Row.{Row}
-use Rattle.keymap_draw.specs.declared.board.Shape.{Shape}
-use Rattle.keymap_draw.specs.declared.board.TheConstants.{ISO}
+use Rattle.keymap_draw.specs.declared.board.Run.{Run}
 use Rattle.keymap_draw.specs.declared.drawn.DrawnCells.{DrawnCells}
-use Rattle.keymap_draw.specs.declared.half.Half.{Half}
-use Rattle.keymap_draw.specs.declared.half.Half.TheVariants.{Lower, Upper}
 use Rattle.keymap_draw.specs.declared.place.Column.{Column}
 use Rattle.keymap_draw.specs.declared.place.Column.TheVariants.{Base, Shift, Alt, AltShift}
-use Rattle.keymap_draw.specs.Boards.{row_on}
-use Rattle.keymap_draw.specs.Drawings.{Drawing}
+use Rattle.keymap_draw.specs.Boards.{keys_in}
 use Rattle.keymap_draw.specs.Drawn.{cell_in, drawn, stands_alone}
-use Rattle.keymap_draw.specs.Facts.{Fact, numbered}
-use Rattle.keymap_draw.specs.Facts.Fact.{Title, Key, Legend}
-use Rattle.keymap_draw.specs.Halves.{slot_of, board_row, some_key, other_keys, other_key, half_facts}
+use Rattle.keymap_draw.specs.Facts.Fact.{Legend}
+use Rattle.keymap_draw.specs.Halves.{board_key}
 use Rattle.keymap_draw.specs.Keys.{title, some_legend, drawn_legend, legends, key}
-use Rattle.keymap_draw.specs.Lists.{named_accents, listed_accent, some_accent}
-use Rattle.keymap_draw.specs.Pictures.{upper, upper_keys, parts, picture_facts}
-use Rattle.keymap_draw.specs.Titles.{titles}
-use Rattle.keymap_draw.specs.Told.{told, told_in, key_definition, accent_definition, title_of, TitlesTell}
-use Rattle.keymap_draw.specs.WellFormed.{State, Tells}
+use Rattle.keymap_draw.specs.Lists.{some_accent}
+use Rattle.keymap_draw.specs.Pictures.{upper, upper_keys, parts}
+use Rattle.keymap_draw.specs.Told.{TitlesTell}
 
 -- these are the titles among facts
 record Titled (fs : List Fact) (ts : List (List ℕ)) : Type 0 where
@@ -77,22 +66,36 @@ key_titled d slot x y shape = record {
 abbrev of : Drawing → List Definition → List (List ℕ)
 of d ds = map (title_of d.findings) ds
 
-abbrev pub on_board : Drawing → List Row → List ℕ
-on_board d rows = map (λ (row : Row). row.0) (filter_map (row_on d.board) rows)
-
-abbrev pub of_keys : Drawing → Half → List ℕ → List Definition
+abbrev of_keys : Drawing → Half → List ℕ → List Definition
 of_keys d half ks = map (key_definition d.map half) ks
 
+-- the titles of definitions behind others
+together : {a b : List Fact} (d : Drawing) (ds es : List Definition) → Titled a (of d ds) → Titled b (of d es)
+    → Titled (a ++ b) (of d (ds ++ es))
+together {a} {b} d ds es h k = record { are = (h ⊳ k).are ∙ sym (map-append (title_of d.findings) ds es) }
+
+keys_together : {a b : List Fact} (d : Drawing) (half : Half) (xs ys : List ℕ) → Titled a (of d (of_keys d half xs))
+    → Titled b (of d (of_keys d half ys)) → Titled (a ++ b) (of d (of_keys d half (xs ++ ys)))
+keys_together {a} {b} d half xs ys h k =
+    subst (λ ds. Titled (a ++ b) (of d ds)) (sym (map-append (key_definition d.map half) xs ys))
+    (together d (of_keys d half xs) (of_keys d half ys) h k)
+
+abbrev codes_in : List Row → List ℕ
+codes_in rows = map (λ (row : Row). row.code) rows
+
 rows_titled : (d : Drawing) (half : Half) (y : ℕ) (rows : List Row)
-    → Titled (flat_map (board_row d half y) rows) (of d (of_keys d half (on_board d rows)))
+    → Titled (flat_map (board_key d half y) rows) (of d (of_keys d half (codes_in rows)))
 rows_titled d half y [] = nothing
-rows_titled d half y (row ∷ rows) = by (row_on d.board row) (rows_titled d half y rows)
-  where
-    by : (o : Option Row) → Titled (flat_map (board_row d half y) rows) (of d (of_keys d half (on_board d rows)))
-        → Titled (some_key d half y o ++ flat_map (board_row d half y) rows)
-        (of d (of_keys d half (map (λ (row : Row). row.0) (cons_option o (filter_map (row_on d.board) rows)))))
-    by None h = h
-    by (Some r) h = key_titled d (slot_of half r.0) _ _ r.3 ⊳ h
+rows_titled d half y (row ∷ rows) = key_titled d (slot_of half row.code) _ _ row.shape ⊳ rows_titled d half y rows
+
+runs_titled : (d : Drawing) (half : Half) (y : ℕ) (runs : List Run)
+    → Titled (flat_map (run_keys d half y) runs) (of d (of_keys d half (codes_in (flat_map (keys_in d.board) runs))))
+runs_titled d half y [] = nothing
+runs_titled d half y (run ∷ runs) =
+    subst (λ ks. Titled (run_keys d half y run ++ flat_map (run_keys d half y) runs) (of d (of_keys d half ks)))
+    (sym (map-append (λ (row : Row). row.code) (keys_in d.board run) (flat_map (keys_in d.board) runs)))
+    (keys_together d half (codes_in (keys_in d.board run)) (codes_in (flat_map (keys_in d.board) runs))
+    (rows_titled d half y (keys_in d.board run)) (runs_titled d half y runs))
 
 others_titled : (d : Drawing) (half : Half) (y i : ℕ) (ks : List ℕ)
     → Titled (numbered (other_key d half y) i ks) (of d (of_keys d half ks))
@@ -100,23 +103,12 @@ unfolding numbered
 others_titled d half y i [] = nothing
 others_titled d half y i (k ∷ ks) = key_titled d (slot_of half k) _ _ _ ⊳ others_titled d half y (i + 1) ks
 
-pub keys_joined : (d : Drawing) (half : Half) (xs ys : List ℕ)
-    → of_keys d half xs ++ of_keys d half ys ≡ of_keys d half (xs ++ ys)
-keys_joined d half xs ys = sym (map-append (key_definition d.map half) xs ys)
-
--- the titles of definitions behind others
-together : {a b : List Fact} (d : Drawing) (ds es : List Definition) → Titled a (of d ds) → Titled b (of d es)
-    → Titled (a ++ b) (of d (ds ++ es))
-together {a} {b} d ds es h k = record { are = (h ⊳ k).are ∙ sym (map-append (title_of d.findings) ds es) }
-
 half_titled : (d : Drawing) (half : Half) (y : ℕ)
     → Titled (half_facts d half (other_keys d half) y) (of d (told_in d half))
 unfolding half_facts
 half_titled d half y =
-    subst (λ ds. Titled (half_facts d half (other_keys d half) y) (of d ds))
-    (keys_joined d half (on_board d ISO) (other_keys d half))
-    (together d (of_keys d half (on_board d ISO)) (of_keys d half (other_keys d half))
-    (rows_titled d half (y + 40) ISO) (others_titled d half (y + 472) 0 (other_keys d half)))
+    keys_together d half (codes_in (keys_of d.board)) (other_keys d half) (runs_titled d half (y + 40) RUNS)
+    (others_titled d half (y + 472) 0 (other_keys d half))
 
 -- ---- accents
 

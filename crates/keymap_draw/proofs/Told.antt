@@ -1,43 +1,30 @@
--- Two pictures that are one tell the same definitions.
-use Prim.Native.Nat.{zero, suc}
-use Rattle.std.proofs.Common.{◌≡◌, ℕ, ◌<◌, ◌==◌, Bool, true, false, List, [], ◌∷◌, ◌++◌, Option, Some, None}
-use Rattle.std.proofs.Common.{All, get_or, refl, sym, ap, ap₂, subst, ◌∙◌, arith, map, append_assoc}
-use Rattle.std.specs.Prelude.{◌%◌, ◌&&◌, not, codes, option_map, slice_get, slice_index_or, nat_lt, if◌then◌else◌}
-use Rattle.std.specs.List.{list_all, filter_map, cons_option}
-use Rattle.std.proofs.lemmas.Bool.Decides.{nat_tests}
-use Rattle.std.proofs.lemmas.Bool.{ltb-true}
-use Rattle.std.proofs.lemmas.List.Elements.{All-head, All-tail, All-append, All-replicate}
-use Rattle.keymap_core.specs.declared.entry.Cell.TheVariants.{Char}
-use Rattle.keymap_core.specs.declared.entry.Entry.{Entry}
-use Rattle.keymap_core.specs.Accents.{AccentValue}
-use Rattle.keymap_core.specs.Borne.{is_upper_live}
-use Rattle.keymap_core.specs.Bounds.{IsCell, IsEntry, IsAccent, IsMap}
-use Rattle.keymap_core.specs.Maps.{MapValue, accent_at, undefined}
-use Rattle.keymap_core.specs.Numbers.{key_count}
-use Rattle.keymap_check.specs.declared.finding.Finding.{Finding}
+-- Two pictures that are one tell the same definitions, and their keymaps are the same in what they show.
+use Rattle.keymap_draw.proofs.Common.{zero, suc, ◌≡◌, ℕ, ◌<◌, ◌==◌, Bool, true, false, List, [], ◌∷◌, ◌++◌, Option}
+use Rattle.keymap_draw.proofs.Common.{Some, None, All, refl, sym, ap, subst, ◌∙◌, arith, map, append_assoc, inl, inr}
+use Rattle.keymap_draw.proofs.Common.{◌%◌, ◌&&◌, ◌||◌, not, codes, option_map, slice_get, slice_index_or, nat_lt}
+use Rattle.keymap_draw.proofs.Common.{if◌then◌else◌, list_all, list_any, filter_map, cons_option, Any, Contains}
+use Rattle.keymap_draw.proofs.Common.{nat_tests, ltb-true, agree_below, agree_below_at, cases_order, or_cases}
+use Rattle.keymap_draw.proofs.Common.{and_parts, eqb-true, All-head, All-tail, All-nil, All-cons, All-append}
+use Rattle.keymap_draw.proofs.Common.{All-replicate, All-contains, Any-from_list_any, Char, Entry, AccentValue, blank}
+use Rattle.keymap_draw.proofs.Common.{gathered, passing, passed, is_upper_live, IsCell, IsEntry, IsMap, MapValue}
+use Rattle.keymap_draw.proofs.Common.{entry_at, accent_at, undefined, key_count, Finding, slot_words, accent_words}
+use Rattle.keymap_draw.proofs.Common.{Definition, AccentDefinition, Board, Iso, Ansi, Half, Lower, Upper, Row, keys_of}
+use Rattle.keymap_draw.proofs.Common.{Drawing, slot_of, is_other, other_keys, finding_words, finding_of, has_character}
+use Rattle.keymap_draw.proofs.Common.{named_accents, picture_facts, titles, told, told_in, key_definition}
+use Rattle.keymap_draw.proofs.Common.{accent_definition, title_of, is_shown, is_seen}
+use Rattle.std.proofs.Common.{ap₂}
+use Rattle.std.proofs.lemmas.List.Elements.{All-map, All-weaker, Contains-append_left, Contains-append_right}
+use Rattle.keymap_core.specs.Bounds.{IsAccent}
 use Rattle.keymap_text.specs.Definitions.{IsDefinition, definition_words}
-use Rattle.keymap_text.specs.Printed.{slot_words, accent_words}
-use Rattle.keymap_text.specs.Rows.{Definition, KeyDefinition, AccentDefinition}
+use Rattle.keymap_text.specs.Rows.{KeyDefinition}
 use Rattle.keymap_text.proofs.Leading.{same_head, same_tail}
 use Rattle.keymap_text.proofs.Told.{words_tell}
-use Rattle.keymap_draw.specs.declared.board.Board.{Board}
-use Rattle.keymap_draw.specs.declared.board.Board.TheVariants.{Iso, Ansi}
-use Rattle.keymap_draw.specs.declared.board.Row.{Row}
-use Rattle.keymap_draw.specs.declared.half.Half.{Half}
-use Rattle.keymap_draw.specs.declared.half.Half.TheVariants.{Lower, Upper}
-use Rattle.keymap_draw.specs.Drawings.{Drawing}
-use Rattle.keymap_draw.specs.Halves.{slot_of, is_other, other_keys}
-use Rattle.keymap_draw.specs.Keyboards.{keys_of}
-use Rattle.keymap_check.specs.Said.{finding_words}
-use Rattle.keymap_draw.specs.Keys.{finding_of, finding_line}
-use Rattle.keymap_draw.specs.Lists.{has_character, named_accents}
-use Rattle.keymap_draw.specs.Pictures.{picture_facts}
-use Rattle.keymap_draw.specs.Titles.{titles}
-use Rattle.keymap_draw.specs.Told.{told, told_in, key_definition, accent_definition, title_of, PicturesTellDefinitions}
-use Rattle.keymap_draw.specs.WellFormed.{is_shown}
-use Rattle.keymap_draw.proofs.Loops.{passing-below}
+use Rattle.keymap_draw.specs.Boards.{is_on}
+use Rattle.keymap_draw.specs.Keys.{finding_line}
+use Rattle.keymap_draw.specs.Told.{PicturesTellDefinitions, shows, PicturesTellKeymaps}
+use Rattle.keymap_draw.proofs.Loops.{none_is, passing-below}
 use Rattle.keymap_draw.proofs.Scans.{both_true, first_true, second_true}
-use Rattle.keymap_draw.proofs.Shown.{is_seen, all_from}
+use Rattle.keymap_draw.proofs.Shown.{all_from}
 use Rattle.keymap_draw.proofs.Texts.{AreShown, slot_words_shown, accent_words_shown}
 use Rattle.keymap_draw.proofs.Titles.{picture_titles, one_reading}
 
@@ -103,28 +90,20 @@ title_is fs gs d e p q h =
     (sym (last_of_title fs d (words_in_line (definition_words d) (words_shown d p).each)) ∙ ap last_line h
     ∙ last_of_title gs e (words_in_line (definition_words e) (words_shown e q).each))
 
--- each has a property
-abbrev pub Each : (Definition → Type 0) → List Definition → Type 0
-Each P [] = Unit {0}
-Each P (d ∷ ds) = P d × Each P ds
-
 no_title : (t : List ℕ) (ts : List (List ℕ)) → [] ≡ t ∷ ts → ⊥
 no_title t ts e = cc
 
-titles_are : (fs gs : List Finding) (ds es : List Definition) → Each IsDefinition ds → Each IsDefinition es
+titles_are : (fs gs : List Finding) (ds es : List Definition) → All IsDefinition ds → All IsDefinition es
     → map (title_of fs) ds ≡ map (title_of gs) es → ds ≡ es
 titles_are fs gs [] [] p q h = refl
 titles_are fs gs [] (e ∷ es) p q h = absurd (no_title _ _ h)
 titles_are fs gs (d ∷ ds) [] p q h = absurd (no_title _ _ (sym h))
-titles_are fs gs (d ∷ ds) (e ∷ es) (p, ps) (q, qs) h =
-    ap₂ (λ d ds. d ∷ ds) (title_is fs gs d e p q (same_head _ _ _ _ h))
-    (titles_are fs gs ds es ps qs (same_tail _ _ _ _ h))
+titles_are fs gs (d ∷ ds) (e ∷ es) p q h =
+    ap₂ (λ d ds. d ∷ ds)
+    (title_is fs gs d e (All-head IsDefinition d ds p) (All-head IsDefinition e es q) (same_head _ _ _ _ h))
+    (titles_are fs gs ds es (All-tail IsDefinition d ds p) (All-tail IsDefinition e es q) (same_tail _ _ _ _ h))
 
 -- ---- what is told
-
-each_both : (P : Definition → Type 0) (ds es : List Definition) → Each P ds → Each P es → Each P (ds ++ es)
-each_both P [] es p q = q
-each_both P (d ∷ ds) es (p, ps) q = (p, each_both P ds es ps q)
 
 entry_bound : (es : List Entry) (s : ℕ) → All IsEntry es → IsEntry (slice_index_or es s undefined)
 entry_bound [] s h = record { eight = refl; cells = All-replicate IsCell 8 (Char 0) refl }
@@ -135,9 +114,6 @@ slot_low : (half : Half) (k : ℕ) → k < 128 → slot_of half k < 256
 slot_low Lower k h = omega arith
 slot_low Upper k h = omega arith
 
-key_bound : (m : MapValue) (half : Half) (k : ℕ) → IsMap m → k < 128 → IsDefinition (key_definition m half k)
-key_bound m half k is below = (slot_low half k below, entry_bound m.entries (slot_of half k) is.entries)
-
 abbrev IsListed : Option AccentValue → Type 0
 IsListed None = Unit {0}
 IsListed (Some accent) = IsAccent accent
@@ -147,66 +123,194 @@ listed [] i h = tt
 listed (accent ∷ accents) zero h = All-head IsAccent accent accents h
 listed (accent ∷ accents) (suc i) h = listed accents i (All-tail IsAccent accent accents h)
 
-each_key : (P : Definition → Type 0) (m : MapValue) (half : Half)
-    → ((k : ℕ) → k < 128 → P (key_definition m half k)) → (ks : List ℕ) → All (λ k. k < 128) ks
-    → Each P (map (key_definition m half) ks)
-each_key P m half key [] h = tt
-each_key P m half key (k ∷ ks) h =
-    (key k (All-head (λ k. k < 128) k ks h), each_key P m half key ks (All-tail (λ k. k < 128) k ks h))
+abbrev codes_of : Board → List ℕ
+codes_of board = map (λ (row : Row). row.code) (keys_of board)
 
-abbrev is_low : ℕ → Bool
-is_low k = nat_lt k 128
-
-board_low : (board : Board) → list_all is_low (map (λ (row : Row). row.0) (keys_of board)) ≡ true
+board_low : (board : Board) → list_all (λ k. nat_lt k 128) (codes_of board) ≡ true
 board_low Iso = refl
 board_low Ansi = refl
 
-all_low : (ks : List ℕ) → list_all is_low ks ≡ true → All (λ k. k < 128) ks
-all_low ks h k d l = ltb-true (get_or ks k d) 128 (all_from is_low ks h k d l)
+abbrev IsLow : ℕ → Type 0
+IsLow k = k < 128
 
-other_keys_low : (d : Drawing) (half : Half) → All (λ k. k < 128) (other_keys d half)
+keys_low : (d : Drawing) (half : Half) → All IsLow (codes_of d.board ++ other_keys d half)
 unfolding other_keys
-other_keys_low d half = passing-below (is_other d half) 128 128 (omega arith)
+keys_low d half =
+    All-append IsLow (codes_of d.board) (other_keys d half)
+    (All-weaker (λ k. nat_lt k 128 ≡ true) IsLow (λ k. ltb-true k 128) (codes_of d.board)
+    (all_from (λ k. nat_lt k 128) (codes_of d.board) (board_low d.board)))
+    (passing-below (is_other d half) 128 128 (omega arith))
 
 each_in : (P : Definition → Type 0) (d : Drawing) (half : Half) → ((k : ℕ) → k < 128 → P (key_definition d.map half k))
-    → Each P (told_in d half)
+    → All P (told_in d half)
 each_in P d half key =
-    each_key P d.map half key _
-    (All-append (λ k. k < 128) _ (other_keys d half) (all_low _ (board_low d.board)) (other_keys_low d half))
+    let ks : List ℕ = codes_of d.board ++ other_keys d half in
+    All-map P (key_definition d.map half) ks
+    (All-weaker IsLow (λ k. P (key_definition d.map half k)) key ks (keys_low d half))
 
 each_accent : (P : Definition → Type 0) (m : MapValue)
     → ((i : ℕ) (a : AccentValue) → i < 15 → accent_at m i ≡ Some a → P (AccentDefinition i a)) → (is : List ℕ)
-    → All (λ i. i < 15) is → Each P (filter_map (accent_definition m) is)
-each_accent P m accent [] h = tt
+    → All (λ i. i < 15) is → All P (filter_map (accent_definition m) is)
+each_accent P m accent [] h = All-nil P
 each_accent P m accent (i ∷ is) h =
     by (accent_at m i) refl (each_accent P m accent is (All-tail (λ i. i < 15) i is h))
   where
-    by : (o : Option AccentValue) → accent_at m i ≡ o → Each P (filter_map (accent_definition m) is)
-        → Each P (cons_option (option_map (AccentDefinition i) o) (filter_map (accent_definition m) is))
+    by : (o : Option AccentValue) → accent_at m i ≡ o → All P (filter_map (accent_definition m) is)
+        → All P (cons_option (option_map (AccentDefinition i) o) (filter_map (accent_definition m) is))
     by None e more = more
-    by (Some a) e more = (accent i a (All-head (λ i. i < 15) i is h) e, more)
+    by (Some a) e more = All-cons P _ _ (accent i a (All-head (λ i. i < 15) i is h) e) more
+
+-- the definitions of the upper half, if it is drawn
+abbrev upper_told : Drawing → List Definition
+upper_told d = if is_upper_live d.map then told_in d Upper else []
 
 -- what holds of each slot and each accent of a map holds of what is told
-pub each_told : (P : Definition → Type 0) (d : Drawing)
+each_told : (P : Definition → Type 0) (d : Drawing)
     → ((half : Half) (k : ℕ) → k < 128 → P (key_definition d.map half k))
     → ((i : ℕ) (a : AccentValue) → i < 15 → accent_at d.map i ≡ Some a → P (AccentDefinition i a))
-    → Each P (told d)
+    → All P (told d)
 unfolding told named_accents
 each_told P d key accent =
-    each_both P (told_in d Lower ++ (if is_upper_live d.map then told_in d Upper else [])) _
-    (each_both P (told_in d Lower) _ (each_in P d Lower (key Lower)) (by (is_upper_live d.map)))
+    All-append P (told_in d Lower ++ upper_told d) _
+    (All-append P (told_in d Lower) (upper_told d) (each_in P d Lower (key Lower)) (by (is_upper_live d.map)))
     (each_accent P d.map accent (named_accents d.map) (passing-below (has_character d.map) 15 15 (omega arith)))
   where
-    by : (live : Bool) → Each P (if live then told_in d Upper else [])
+    by : (live : Bool) → All P (if live then told_in d Upper else [])
     by true = each_in P d Upper (key Upper)
-    by false = tt
+    by false = All-nil P
 
-each_defined : (d : Drawing) → IsMap d.map → Each IsDefinition (told d)
+each_defined : (d : Drawing) → IsMap d.map → All IsDefinition (told d)
 each_defined d is =
-    each_told IsDefinition d (λ half k low. key_bound d.map half k is low)
+    each_told IsDefinition d
+    (λ half k low. (slot_low half k low, entry_bound d.map.entries (slot_of half k) is.entries))
     (λ i a low e. (low, subst IsListed e (listed d.map.accents i is.accents)))
 
 pub pictures_tell : PicturesTellDefinitions
 pictures_tell d e bytes p q h k =
     titles_are d.findings e.findings (told d) (told e) (each_defined d p) (each_defined e q)
     (sym (picture_titles d) ∙ ap titles (one_reading (picture_facts d) (picture_facts e) bytes h k) ∙ picture_titles e)
+
+-- ---- what two keymaps have in common
+
+-- the definition is one of the map
+abbrev IsOf : MapValue → Definition → Type 0
+IsOf m (KeyDefinition s e) = e ≡ entry_at m s
+IsOf m (AccentDefinition i a) = accent_at m i ≡ Some a
+
+-- what one map tells, and another one too, is of the other one
+told_of : (d e : Drawing) (x : Definition) → told d ≡ told e → Contains (told d) x → IsOf e.map x
+told_of d e x same h =
+    All-contains (IsOf e.map) (told e) x (each_told (IsOf e.map) e (λ half k low. refl) (λ i a low at. at))
+    (subst (λ ds. Contains ds x) same h)
+
+found : (ns : List ℕ) (k : ℕ) → list_any (λ n. n == k) ns ≡ true → Contains ns k
+found ns k h = go (Any-from_list_any (λ n. n == k) ns h)
+  where
+    go : Any (λ n. n == k ≡ true) ns → Contains ns k
+    go (i, n, l, here, passes) = subst (Contains ns) (eqb-true n k passes) (i, l, here)
+
+passing_has : (test : ℕ → Bool) (n k : ℕ) → k < n → test k ≡ true → Contains (passing test n) k
+unfolding passing gathered
+passing_has test zero k h t = absurd (omega (arith, h))
+passing_has test (suc n) k h t = elim (cases_order k n) [
+  | inl same ↦ Contains-append_right (passing test n) (passed (test n) n) k
+      (here (test n) (ap test (sym same) ∙ t) (sym same))
+  | inr (inl less) ↦ Contains-append_left (passing test n) (passed (test n) n) k (passing_has test n k less t)
+  | inr (inr more) ↦ absurd (omega (arith, h, more))
+]
+  where
+    here : (b : Bool) → b ≡ true → n ≡ k → Contains (passed b n) k
+    here true e same = (zero, omega arith, same)
+    here false e same = cc
+
+on_has : Board → ℕ → Bool
+on_has board k = not (is_on board k) || list_any (λ n. n == k) (codes_of board)
+
+each_on : (board : Board) → agree_below (on_has board) (λ k. true) 128 ≡ true
+unfolding on_has is_on
+each_on Iso = refl
+each_on Ansi = refl
+
+on_board : (board : Board) (k : ℕ) → k < 128 → is_on board k ≡ true → Contains (codes_of board) k
+unfolding on_has
+on_board board k h on =
+    found (codes_of board) k (by (is_on board k) on (agree_below_at (on_has board) (λ k. true) 128 k (each_on board) h))
+  where
+    by : (b : Bool) → b ≡ true → (not b || list_any (λ n. n == k) (codes_of board)) ≡ true
+        → list_any (λ n. n == k) (codes_of board) ≡ true
+    by true on e = e
+    by false on e = cc
+
+mapped : {A B : Type 0} (f : A → B) (xs : List A) (x : A) → Contains xs x → Contains (map f xs) (f x)
+mapped f [] x (i, l, e) = absurd (omega (arith, l))
+mapped f (y ∷ xs) x (zero, l, e) = (zero, omega arith, ap f e)
+mapped f (y ∷ xs) x (suc i, l, e) = let (j, m, g) = mapped f xs x (i, omega (arith, l), e) in (suc j, omega (arith, m), g)
+
+in_half : (d : Drawing) (half : Half) (k : ℕ) → k < 128 → (is_on d.board k || is_other d half k) ≡ true
+    → Contains (told_in d half) (key_definition d.map half k)
+unfolding other_keys
+in_half d half k low h = mapped (key_definition d.map half) (codes_of d.board ++ other_keys d half) k
+    (elim (or_cases (is_on d.board k) (is_other d half k) h) [
+      | inl on ↦ Contains-append_left (codes_of d.board) (other_keys d half) k (on_board d.board k low on)
+      | inr other ↦ Contains-append_right (codes_of d.board) (other_keys d half) k
+          (passing_has (is_other d half) 128 k low other)
+    ])
+
+slot_told : (d : Drawing) (half : Half) (k : ℕ) → k < 128 → shows d half k ≡ true
+    → Contains (told d) (key_definition d.map half k)
+unfolding told
+slot_told d Lower k low h =
+    Contains-append_left (told_in d Lower ++ upper_told d) _ _
+    (Contains-append_left (told_in d Lower) (upper_told d) _ (in_half d Lower k low h))
+slot_told d Upper k low h =
+    let (live, here) = and_parts (is_upper_live d.map) (is_on d.board k || is_other d Upper k) h in
+    Contains-append_left (told_in d Lower ++ upper_told d) _ _
+    (Contains-append_right (told_in d Lower) (upper_told d) _
+    (by (is_upper_live d.map) live (in_half d Upper k low here)))
+  where
+    by : (b : Bool) → b ≡ true → Contains (told_in d Upper) (key_definition d.map Upper k)
+        → Contains (if b then told_in d Upper else []) (key_definition d.map Upper k)
+    by true e here = here
+    by false e here = cc
+
+accent_among : (m : MapValue) (is : List ℕ) (i : ℕ) (a : AccentValue) → accent_at m i ≡ Some a → Contains is i
+    → Contains (filter_map (accent_definition m) is) (AccentDefinition i a)
+accent_among m [] i a e (k, l, h) = absurd (omega (arith, l))
+accent_among m (j ∷ is) i a e (zero, l, h) = here (accent_at m j) (ap (accent_at m) h ∙ e) h
+  where
+    here : (o : Option AccentValue) → o ≡ Some a → j ≡ i → Contains
+        (cons_option (option_map (AccentDefinition j) o) (filter_map (accent_definition m) is)) (AccentDefinition i a)
+    here None h same = cc
+    here (Some b) h same = (zero, omega arith, ap₂ (λ i a. AccentDefinition i a) same (cc))
+accent_among m (j ∷ is) i a e (suc k, l, h) =
+    later (accent_at m j) (accent_among m is i a e (k, omega (arith, l), h))
+  where
+    later : (o : Option AccentValue) → Contains (filter_map (accent_definition m) is) (AccentDefinition i a) → Contains
+        (cons_option (option_map (AccentDefinition j) o) (filter_map (accent_definition m) is)) (AccentDefinition i a)
+    later None h = h
+    later (Some b) (k, l, h) = (suc k, omega (arith, l), h)
+
+-- an accent that has a character is there
+accent_is_there : (m : MapValue) (i : ℕ) → has_character m i ≡ true → (a : AccentValue) × (accent_at m i ≡ Some a)
+accent_is_there m i h = by (accent_at m i) refl
+  where
+    by : (o : Option AccentValue) → accent_at m i ≡ o → (a : AccentValue) × (accent_at m i ≡ Some a)
+    by (Some a) e = (a, e)
+    by None e = let none : has_character m i ≡ false =
+        ap (λ (a : AccentValue). not (a.own == 0)) (none_is m.accents i blank e) in cc
+
+accent_agrees : (d e : Drawing) → told d ≡ told e → (i : ℕ) → i < 15 → has_character d.map i ≡ true
+    → accent_at d.map i ≡ accent_at e.map i
+unfolding told named_accents
+accent_agrees d e same i low h =
+    let (a, at) = accent_is_there d.map i h in
+    at ∙ sym (told_of d e (AccentDefinition i a) same
+    (Contains-append_right (told_in d Lower ++ upper_told d) _ _
+    (accent_among d.map (named_accents d.map) i a at (passing_has (has_character d.map) 15 i low h))))
+
+pub pictures_tell_keymaps : PicturesTellKeymaps
+pictures_tell_keymaps d e bytes p q h k =
+    let same = pictures_tell d e bytes p q h k in record {
+      slots = λ half k low shown. told_of d e (key_definition d.map half k) same (slot_told d half k low shown);
+      accents = accent_agrees d e same;
+    }

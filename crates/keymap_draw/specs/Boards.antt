@@ -1,12 +1,14 @@
 -- The boards, and the shapes of their keys, in units of which 64 are one key.
-use Rattle.std.specs.Prelude.{ℕ, ◌==◌, ◌&&◌, not, Bool, List, Option, Some, None, if◌then◌else◌}
-use Rattle.std.specs.List.{list_any}
+use Rattle.std.specs.Prelude.{ℕ, ◌+◌, ◌==◌, ◌&&◌, not, Bool, true, false, List, [], ◌∷◌, if◌then◌else◌}
+use Rattle.std.specs.List.{list_any, flat_map}
 use Rattle.keymap_draw.specs.declared.board.Board.{Board}
 use Rattle.keymap_draw.specs.declared.board.Board.TheVariants.{Iso, Ansi}
-use Rattle.keymap_draw.specs.declared.board.Row.{Row}
+use Rattle.keymap_draw.specs.declared.board.On.{On}
+use Rattle.keymap_draw.specs.declared.board.On.TheVariants as on
+use Rattle.keymap_draw.specs.declared.board.Run.{Run}
 use Rattle.keymap_draw.specs.declared.board.Shape.{Shape}
 use Rattle.keymap_draw.specs.declared.board.Shape.TheVariants.{A, B, C, D, E, F, G, H, Tall, Enter}
-use Rattle.keymap_draw.specs.declared.board.TheConstants.{ISO}
+use Rattle.keymap_draw.specs.declared.board.TheConstants.{RUNS}
 
 -- the letter that names the shape in the picture
 abbrev pub letter : Shape → ℕ
@@ -38,28 +40,38 @@ height Tall = 128
 height Enter = 128
 height s = 64
 
-abbrev pub key_at : ℕ → ℕ → ℕ → Shape → Row
-key_at code x y s = record { 0 = code; 1 = x; 2 = y; 3 = s }
+-- a key of a board: its code, where its top left corner is, and its shape
+pub record Row : Type 0 where
+  pub code : ℕ
+  pub x : ℕ
+  pub y : ℕ
+  pub shape : Shape
 
--- The rows of the ANSI board that differ from those of the ISO board: it has no 102nd key, a flat Enter, and a longer
--- left Shift.
-abbrev pub ansi_row : Row → Option Row
-ansi_row r =
-    if r.0 == 86 then None
-    else if r.0 == 43 then Some (key_at 43 864 144 C)
-    else if r.0 == 28 then Some (key_at 28 816 208 F)
-    else if r.0 == 42 then Some (key_at 42 0 272 F)
-    else Some r
+-- keys one behind the other up to a code 0, the first with its corner at this place
+abbrev pub laid : ℕ → ℕ → Shape → List ℕ → List Row
+laid x y s [] = []
+laid x y s (code ∷ codes) =
+    if code == 0 then [] else record { code = code; x = x; y = y; shape = s } ∷ laid (x + width s) y s codes
 
--- what a board has in place of a row of the ISO board
-abbrev pub row_on : Board → Row → Option Row
-row_on Iso r = Some r
-row_on Ansi r = ansi_row r
+-- these keys stand on the board
+abbrev pub stand_on : On → Board → Bool
+stand_on on.Iso Ansi = false
+stand_on on.Ansi Iso = false
+stand_on _ _ = true
 
-abbrev pub has_code : List Row → ℕ → Bool
-has_code rows code = list_any (λ r. r.0 == code) rows
+abbrev pub has_run : Board → Run → Bool
+has_run board run = stand_on run.0 board
+
+abbrev pub keys_in : Board → Run → List Row
+keys_in board run = if has_run board run then laid run.1 run.2 run.3 run.4 else []
+
+-- the keys that a board draws, in their order
+abbrev pub keys_of : Board → List Row
+keys_of board = flat_map (keys_in board) RUNS
+
+abbrev pub has_code : List ℕ → ℕ → Bool
+has_code codes code = list_any (λ c. c == code && not (code == 0)) codes
 
 -- the key stands on the board
 unfoldable pub is_on : Board → ℕ → Bool
-is_on Iso code = has_code ISO code
-is_on Ansi code = has_code ISO code && not (code == 86)
+is_on board code = list_any (λ run. has_run board run && has_code run.4 code) RUNS

@@ -1,17 +1,17 @@
 -- What the drawing of one half of the slots tells: the keys of its board, and those that the board doesn't have. It
 -- begins at y.
-use Rattle.std.specs.Prelude.{ℕ, ◌+◌, ◌*◌, ◌/◌, ◌%◌, ◌==◌, Bool, ◌&&◌, not, List, [], ◌++◌, Option, Some, None}
+use Rattle.std.specs.Prelude.{ℕ, ◌+◌, ◌*◌, ◌/◌, ◌%◌, ◌==◌, Bool, ◌&&◌, not, List, ◌++◌}
 use Rattle.std.specs.Prelude.{if◌then◌else◌}
 use Rattle.std.specs.List.{flat_map}
 use Rattle.keymap_core.specs.Maps.{entry_at}
 use Rattle.keymap_core.specs.Numbers.{key_count}
 use Rattle.keymap_core.specs.Below.{passing}
-use Rattle.keymap_draw.specs.declared.board.Row.{Row}
+use Rattle.keymap_draw.specs.declared.board.Run.{Run}
 use Rattle.keymap_draw.specs.declared.board.Shape.TheVariants as shape
-use Rattle.keymap_draw.specs.declared.board.TheConstants.{ISO}
+use Rattle.keymap_draw.specs.declared.board.TheConstants.{RUNS}
 use Rattle.keymap_draw.specs.declared.half.Half.{Half}
 use Rattle.keymap_draw.specs.declared.half.Half.TheVariants.{Lower, Upper}
-use Rattle.keymap_draw.specs.Boards.{row_on, is_on}
+use Rattle.keymap_draw.specs.Boards.{Row, keys_in, is_on}
 use Rattle.keymap_draw.specs.Drawings.{Drawing}
 use Rattle.keymap_draw.specs.Facts.{Fact, numbered}
 use Rattle.keymap_draw.specs.Keys.{key, is_blank_entry}
@@ -21,14 +21,13 @@ abbrev pub slot_of : Half → ℕ → ℕ
 slot_of Lower k = k
 slot_of Upper k = k % key_count + key_count
 
--- a key of the board
-abbrev pub some_key : Drawing → Half → ℕ → Option Row → List Fact
-some_key d half y None = []
-some_key d half y (Some row) = key d (slot_of half row.0) (28 + row.1) (y + 12 + row.2) row.3
+-- a key of the board, which begins at y
+abbrev pub board_key : Drawing → Half → ℕ → Row → List Fact
+board_key d half y row = key d (slot_of half row.code) (28 + row.x) (y + 12 + row.y) row.shape
 
--- the key that the board has in place of that of a row of the ISO board
-abbrev pub board_row : Drawing → Half → ℕ → Row → List Fact
-board_row d half y row = some_key d half y (row_on d.board row)
+-- keys side by side, if the board has them
+abbrev pub run_keys : Drawing → Half → ℕ → Run → List Fact
+run_keys d half y run = flat_map (board_key d half y) (keys_in d.board run)
 
 -- the key isn't on the board, and its slot isn't blank
 unfoldable pub is_other : Drawing → Half → ℕ → Bool
@@ -47,4 +46,4 @@ half_height others = if others == 0 then 472 else 506 + (others + 21) / 22 * 64
 
 unfoldable pub half_facts : Drawing → Half → List ℕ → ℕ → List Fact
 half_facts d half keys y =
-    flat_map (board_row d half (y + 40)) ISO ++ numbered (other_key d half (y + 472)) 0 keys
+    flat_map (run_keys d half (y + 40)) RUNS ++ numbered (other_key d half (y + 472)) 0 keys

@@ -107,12 +107,14 @@ legends_of shape alone d =
 unfoldable pub legends : Shape → Entry → List Fact
 legends shape e = legends_of shape (stands_alone e) (drawn e)
 
+-- a title, and a cap by the letter of its shape
+abbrev pub titled_cap : List ℕ → List ℕ → ℕ → ℕ → Shape → List Fact
+titled_cap said class x y shape = Title said ∷ Key class (place_at x y) (codes "#" ++ letter shape ∷ []) ∷ []
+
 -- the title and the cap of a key
 abbrev pub cap : List Finding → ℕ → ℕ → ℕ → Shape → Entry → List Fact
 cap fs slot x y shape e =
-    Title (title fs slot e)
-    ∷ Key (option_to_list (key_class fs slot e)) (place_at x y) (codes "#" ++ letter shape ∷ [])
-    ∷ []
+    titled_cap (title fs slot e) (option_to_list (key_class fs slot e)) x y shape
 
 -- the key of a slot at a place
 unfoldable pub key : Drawing → ℕ → ℕ → ℕ → Shape → List Fact

@@ -1,10 +1,15 @@
 -- The text of a picture that isn't complete: where its end stands, and what it tells so far.
 use Rattle.std.specs.Prelude.{◌≡◌, ℕ, ◌&&◌, not, ◌==◌, ◌||◌, Bool, List, [], ◌∷◌, ◌++◌, codes, Option, Some, None}
-use Rattle.std.specs.List.{list_all}
+use Rattle.std.specs.Prelude.{if◌then◌else◌, slice_index}
+use Rattle.std.specs.List.{list_all, flat_map}
 use Rattle.std.specs.Option.{option_and_then}
+use Rattle.keymap_core.specs.Unseen.{is_unseen}
+use Rattle.keymap_draw.specs.declared.sheet.Told.{Told}
+use Rattle.keymap_draw.specs.declared.sheet.Told.TheVariants as told
 use Rattle.keymap_draw.specs.Facts.{Fact}
+use Rattle.keymap_draw.specs.Markup.{escaped}
 use Rattle.keymap_draw.specs.WellFormed.{Element, element, Place, Read, State, at, within_element, saying, scan}
-use Rattle.keymap_draw.specs.WellFormed.{start, is_plain}
+use Rattle.keymap_draw.specs.WellFormed.{start, is_plain, is_shown}
 use Rattle.keymap_draw.specs.WellFormed.Place.{Text, Value}
 use Rattle.keymap_draw.specs.WellFormed.Role.{Plain, Cap}
 use Rattle.messages.specs.Filled.{words_before, words_behind}
@@ -52,17 +57,38 @@ IsWithin begun bytes = ReadAs (within begun (facts_in bytes)) bytes
 abbrev pub is_inner : ℕ → Bool
 is_inner c = is_plain c && not (c == 34) && not (c == 38 || c == 60) && not (c == 93)
 
-abbrev pub are_inner : List (List ℕ) → Bool
-are_inner texts = list_all (list_all is_inner) texts
+-- it may stand in a text, and a terminal shows it as it is
+abbrev pub is_seen : ℕ → Bool
+is_seen c = is_shown c && not (is_unseen c)
 
--- the reader behind a text, in a value or between tags
-abbrev pub taking_at : Place → Read → List ℕ → Option State
-taking_at (Value tag name value) r t = Some (at (Value tag name (value ++ t)) r)
-taking_at Text r t = within_element Text (saying t r)
-taking_at p r t = None
+-- the characters that are told
+abbrev pub characters : Told → List ℕ
+characters (told.Plain t) = t.now
+characters (told.Bytes t) = t.now
+characters (told.Characters t) = t.now
 
--- the reader behind words with a text at each of their places
-abbrev pub over : Option State → List ℕ → List (List ℕ) → Option State
+abbrev pub written : Told → List ℕ
+written (told.Plain t) = t.now
+written t = flat_map escaped (characters t)
+
+abbrev pub is_ready : Told → Bool
+is_ready (told.Plain t) = list_all is_inner t.now
+is_ready t = list_all is_seen (characters t)
+
+-- the reader behind what is told, in a value or between tags, where a tag stands behind what has references
+abbrev pub taking : Place → Read → Told → List ℕ → Option State
+taking (Value tag name value) r (told.Plain t) behind = Some (at (Value tag name (value ++ t.now)) r)
+taking Text r (told.Plain t) behind = within_element Text (saying t.now r)
+taking Text r t behind = if slice_index behind 0 == 60 then within_element Text (saying (characters t) r) else None
+taking p r t behind = None
+
+-- the reader behind words with what is told at their places
+abbrev pub over : Option State → List ℕ → List Told → Option State
 over s words [] = scan s words
 over s words (t ∷ ts) =
-    over (option_and_then (λ u. taking_at u.place u.read t) (scan s (words_before words))) (words_behind words) ts
+    over (option_and_then (λ u. taking u.place u.read t (words_behind words)) (scan s (words_before words)))
+    (words_behind words) ts
+
+-- the facts that they tell
+abbrev pub facts_over : List Element → List ℕ → List Told → List Fact
+facts_over begun words ts = facts_of (over (Some (within begun [])) words ts)

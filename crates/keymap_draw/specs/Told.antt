@@ -14,11 +14,10 @@ use Rattle.keymap_text.specs.Printed.{accent_words}
 use Rattle.keymap_text.specs.Rows.{Definition, KeyDefinition, AccentDefinition}
 use Rattle.keymap_draw.specs.declared.half.Half.{Half}
 use Rattle.keymap_draw.specs.declared.half.Half.TheVariants.{Lower, Upper}
-use Rattle.keymap_draw.specs.Boards.{is_on}
+use Rattle.keymap_draw.specs.Boards.{keys_of, is_on}
 use Rattle.keymap_draw.specs.Drawings.{Drawing}
 use Rattle.keymap_draw.specs.Facts.{Fact}
 use Rattle.keymap_draw.specs.Halves.{slot_of, is_other, other_keys}
-use Rattle.keymap_draw.specs.Keyboards.{keys_of}
 use Rattle.keymap_draw.specs.Keys.{title}
 use Rattle.keymap_draw.specs.Lists.{has_character, named_accents}
 use Rattle.keymap_draw.specs.Pictures.{IsPicture}
@@ -33,7 +32,7 @@ accent_definition m i = option_map (AccentDefinition i) (accent_at m i)
 
 -- of the keys on the board, and of the other keys whose slot isn't blank
 abbrev pub told_in : Drawing → Half → List Definition
-told_in d half = map (key_definition d.map half) (map (λ row. row.0) (keys_of d.board) ++ other_keys d half)
+told_in d half = map (key_definition d.map half) (map (λ row. row.code) (keys_of d.board) ++ other_keys d half)
 
 unfoldable pub told : Drawing → List Definition
 told d =

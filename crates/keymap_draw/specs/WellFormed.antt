@@ -1,8 +1,8 @@
 -- What a reader makes of the bytes of a picture, told byte by byte. They are well formed as XML: one element that holds
 -- all others, texts, and tags of elements out of a fixed list, with attributes out of a fixed list, none twice in a
 -- tag. Each element ends by its own end tag. No two ids are the same, and a link leads to an id that stands before it.
--- A reference is of a character that XML 1.0 allows and that is no control character. `]]>` stands in no text. What
--- they tell are facts: the titles, the keys and the texts on their caps.
+-- A reference is of a character that XML 1.0 allows and that is no control character. `]>` stands in no text, and so
+-- `]]>` doesn't. What they tell are facts: the titles, the keys and the texts on their caps.
 use Rattle.std.specs.Prelude.{◌≡◌, ℕ, ◌+◌, ◌*◌, ◌==◌, nat_lt, nat_le, Bool, ◌||◌, ◌&&◌, not, true, false, List, [], ◌∷◌}
 use Rattle.std.specs.Prelude.{◌++◌, codes, Option, Some, None, if◌then◌else◌, bytes_eq}
 use Rattle.std.specs.Char.{digit_value}
@@ -89,9 +89,8 @@ pub data Place : Type 0 where
   Before : Place
   -- between tags, and behind that element
   Text : Place
-  -- in a text, behind one `]`, and behind more of them
+  -- in a text, behind a `]`
   Bracket : Place
-  Brackets : Place
   -- behind the `<` of a tag
   Opened : Place
   -- in the name of a begin tag, and of an end tag
@@ -155,12 +154,6 @@ in_text r c =
     else if c == 10 then Some (at Text (saying (c ∷ []) r))
     else if c == 93 then within_element Bracket (saying (c ∷ []) r)
     else within_element Text (saying (c ∷ []) r)
-
-abbrev pub in_brackets : Read → ℕ → Option State
-in_brackets r c =
-    if c == 93 then Some (at Brackets (saying (c ∷ []) r))
-    else if c == 62 then None
-    else in_text r c
 
 abbrev pub is_name_byte : ℕ → Bool
 is_name_byte c = within 97 122 c || within 65 90 c || c == 45
@@ -279,8 +272,7 @@ only wanted p r c = if c == wanted then Some (at p r) else None
 abbrev pub step_at : Place → Read → ℕ → Option State
 step_at Before r c = only 60 Opened r c
 step_at Text r c = in_text r c
-step_at Bracket r c = if c == 93 then Some (at Brackets (saying (c ∷ []) r)) else in_text r c
-step_at Brackets r c = in_brackets r c
+step_at Bracket r c = if c == 62 then None else in_text r c
 step_at Opened r c = if c == 47 then Some (at (EndName []) r) else in_name [] r c
 step_at (Name name) r c = in_name name r c
 step_at (EndName name) r c = in_end_name name r c

@@ -1,15 +1,17 @@
 //! The drawing of one half of the slots: its headline, its board, and the keys that the board doesn't have.
-ghost use Rattle.std.specs.Prelude.{◌≡◌, ◌++◌, ◌≤◌, ◌<◌, ◌^◌, IfOk, length, true};
+ghost use Rattle.std.specs.Prelude.{◌≡◌, ◌+◌, ◌*◌, ◌++◌, ◌≤◌, ◌<◌, ◌^◌, IfOk, length, true};
 ghost use Rattle.std.specs.List.{flat_map, list_all};
+ghost use Rattle.keymap_draw.specs.Boards.{laid};
 ghost use Rattle.keymap_draw.specs.Halves as spec;
 ghost use Rattle.keymap_draw.specs.Facts.{numbered};
 ghost use Rattle.keymap_draw.specs.Sheets.{is_inner};
 
-use crate::board::{ISO, Row, Shape};
+use crate::board::{RUNS, Run, Shape};
 use crate::drawing::Drawing;
 use crate::key::{is_blank_entry, push_key};
 use crate::markup::Added;
-use crate::sheet::{Sheet, adorn, digits};
+use crate::sheet::Told::Plain;
+use crate::sheet::{InPicture, Sheet, adorn, digits};
 use crate::words::{
     IS_ACCEPTED, KEY_CODE, KEYMAP, LOWER_HALF, MORE_FINDINGS, ONE_FINDING, OTHER_KEYS, PANEL,
     SAMPLE, SLOT, UPPER_HALF,
@@ -39,28 +41,63 @@ impl Half {
     }
 }
 
-/// Adds the key that the board has in place of one of the ISO board, where it has one.
-fn push_row(sheet: Sheet, drawing: &Drawing, half: Half, y: u32, row: &Row) -> Added<Sheet>
-    requires { y < 2 ^ 16 }
-    ensures { IfOk result (λ s. s ≡ sheet ++ spec.board_row drawing.now half y row.now) }
+/// Adds keys of a run side by side up to a code 0, the first one at x.
+fn push_keys(
+    sheet: Sheet<InPicture>,
+    drawing: &Drawing,
+    half: Half,
+    y: u32,
+    x: u32,
+    run: Run,
+    codes: &[u8],
+) -> Added<Sheet<InPicture>>
+    requires low { y < 2 ^ 16 }
+    requires few { x + 400 * length codes.now < 2 ^ 20 }
+    ensures { IfOk result (λ s. s
+        ≡ sheet ++ flat_map (spec.board_key drawing.now half y) (laid x run.2 run.3 codes.now)) }
 {
-    match drawing.board().row(*row) {
-        Some(row) => {
-            let x = 28 + u32::from(row.1);
-            let y = y + 12 + u32::from(row.2);
-            push_key(sheet, drawing, half.slot(row.0), x, y, row.3)
+    match codes {
+        [] => Ok(sheet),
+        [0, ..] => Ok(sheet),
+        [code, codes @ ..] => {
+            let (slot, top) = (half.slot(*code), y + 12 + u32::from(run.2));
+            let sheet = push_key(sheet, drawing, slot, 28 + x, top, run.3)?;
+            push_keys(sheet, drawing, half, y, x + run.3.width(), run, codes)
         }
-        None => Ok(sheet),
     }
 }
 
-fn push_rows(sheet: Sheet, drawing: &Drawing, half: Half, y: u32, rows: &[Row]) -> Added<Sheet>
+/// Adds the keys of a run, if the board has them.
+fn push_run(
+    sheet: Sheet<InPicture>,
+    drawing: &Drawing,
+    half: Half,
+    y: u32,
+    run: &Run,
+) -> Added<Sheet<InPicture>>
     requires { y < 2 ^ 16 }
-    ensures { IfOk result (λ s. s ≡ sheet ++ flat_map (spec.board_row drawing.now half y) rows.now) }
+    ensures { IfOk result (λ s. s ≡ sheet ++ spec.run_keys drawing.now half y run.now) }
+{
+    if drawing.board().has_run(run) {
+        push_keys(sheet, drawing, half, y, u32::from(run.1), *run, &run.4)
+    } else {
+        Ok(sheet)
+    }
+}
+
+fn push_runs(
+    sheet: Sheet<InPicture>,
+    drawing: &Drawing,
+    half: Half,
+    y: u32,
+    runs: &[Run],
+) -> Added<Sheet<InPicture>>
+    requires { y < 2 ^ 16 }
+    ensures { IfOk result (λ s. s ≡ sheet ++ flat_map (spec.run_keys drawing.now half y) runs.now) }
 {
     let mut sheet = sheet;
-    for row in rows {
-        sheet = push_row(sheet, drawing, half, y, row)?;
+    for run in runs {
+        sheet = push_run(sheet, drawing, half, y, run)?;
     }
     Ok(sheet)
 }
@@ -88,13 +125,13 @@ pub(crate) fn other_keys(drawing: &Drawing, half: Half) -> ArrayVec<u8, KEY_COUN
 
 /// Adds a key that the board doesn't have, at its place of the rows.
 fn push_other_key(
-    sheet: Sheet,
+    sheet: Sheet<InPicture>,
     drawing: &Drawing,
     half: Half,
     y: u32,
     place: u32,
     key: u8,
-) -> Added<Sheet>
+) -> Added<Sheet<InPicture>>
     requires low { y < 2 ^ 16 }
     requires few { place ≤ 128 }
     ensures { IfOk result (λ s. s ≡ sheet ++ spec.other_key drawing.now half y place key) }
@@ -105,14 +142,20 @@ fn push_other_key(
 }
 
 /// Adds the keys that the board doesn't have, below a line, if there are any.
-fn push_other_keys(sheet: Sheet, drawing: &Drawing, half: Half, y: u32, keys: &[u8]) -> Added<Sheet>
+fn push_other_keys(
+    sheet: Sheet<InPicture>,
+    drawing: &Drawing,
+    half: Half,
+    y: u32,
+    keys: &[u8],
+) -> Added<Sheet<InPicture>>
     requires low { y < 2 ^ 16 }
     requires few { length keys.now ≤ 128 }
     ensures { IfOk result (λ s. s ≡ sheet ++ numbered (spec.other_key drawing.now half y) 0 keys.now) }
 {
     let mut sheet = sheet;
     if !keys.is_empty() {
-        sheet = adorn(sheet, OTHER_KEYS, &[digits(y + 16).as_slice()])?;
+        sheet = adorn(sheet, OTHER_KEYS, &[Plain(digits(y + 16).as_slice())])?;
     }
     for i in 0..keys.len() {
         let key = keys[i];
@@ -135,33 +178,36 @@ pub(crate) fn half_height(others: usize) -> u32
 }
 
 /// Adds whether the keymap is accepted, and how many keys the check names.
-fn push_verdict(sheet: Sheet, y: u32, count: u32) -> Added<Sheet>
+fn push_verdict(sheet: Sheet<InPicture>, y: u32, count: u32) -> Added<Sheet<InPicture>>
     ensures { IfOk result (λ s. s ≡ sheet) }
 {
-    let high = digits(y);
+    let (high, count_words) = (digits(y), digits(count));
+    let high = Plain(high.as_slice());
     match count {
-        0 => adorn(sheet, IS_ACCEPTED, &[high.as_slice()]),
-        1 => adorn(sheet, ONE_FINDING, &[high.as_slice()]),
-        _ => adorn(
-            sheet,
-            MORE_FINDINGS,
-            &[high.as_slice(), digits(count).as_slice()],
-        ),
+        0 => adorn(sheet, IS_ACCEPTED, &[high]),
+        1 => adorn(sheet, ONE_FINDING, &[high]),
+        _ => adorn(sheet, MORE_FINDINGS, &[high, Plain(count_words.as_slice())]),
     }
 }
 
 /// Adds the headline of a half.
-fn push_headline(sheet: Sheet, drawing: &Drawing, half: Half, y: u32) -> Added<Sheet>
+fn push_headline(
+    sheet: Sheet<InPicture>,
+    drawing: &Drawing,
+    half: Half,
+    y: u32,
+) -> Added<Sheet<InPicture>>
     ensures { IfOk result (λ s. s ≡ sheet) }
 {
     let high = digits(y);
+    let high = Plain(high.as_slice());
     match half {
         Half::Lower => {
             let words = either(drawing.is_upper_live(), LOWER_HALF, KEYMAP);
-            let sheet = adorn(sheet, words, &[high.as_slice()])?;
+            let sheet = adorn(sheet, words, &[high])?;
             push_verdict(sheet, y, drawing.findings().len() as u32)
         }
-        Half::Upper => adorn(sheet, UPPER_HALF, &[high.as_slice()]),
+        Half::Upper => adorn(sheet, UPPER_HALF, &[high]),
     }
 }
 
@@ -175,26 +221,34 @@ fn number_name<'a>(half: Half) -> &'a [u8]
     }
 }
 
+/// Adds the key that shows where the legends stand.
+fn push_sample(sheet: Sheet<InPicture>, half: Half, y: u32) -> Added<Sheet<InPicture>>
+    ensures { IfOk result (λ s. s ≡ sheet) }
+{
+    let y = digits(y);
+    adorn(
+        sheet,
+        SAMPLE,
+        &[Plain(y.as_slice()), Plain(number_name(half))],
+    )
+}
+
 /// Adds the drawing of a half, from y on, with the keys that the board doesn't have.
 #[tactic(auto, unfolding(crate::specs::Halves::half_facts))]
 pub(crate) fn push_half(
-    sheet: Sheet,
+    sheet: Sheet<InPicture>,
     drawing: &Drawing,
     half: Half,
     keys: &[u8],
     y: u32,
-) -> Added<Sheet>
+) -> Added<Sheet<InPicture>>
     requires low { y < 2 ^ 15 }
     requires few { length keys.now ≤ 128 }
     ensures { IfOk result (λ s. s ≡ sheet ++ spec.half_facts drawing.now half keys.now y) }
 {
     let sheet = push_headline(sheet, drawing, half, y + 26)?;
-    let sheet = adorn(sheet, PANEL, &[digits(y + 40).as_slice()])?;
-    let sheet = push_rows(sheet, drawing, half, y + 40, &ISO)?;
-    let sheet = adorn(
-        sheet,
-        SAMPLE,
-        &[digits(y + 52).as_slice(), number_name(half)],
-    )?;
+    let sheet = adorn(sheet, PANEL, &[Plain(digits(y + 40).as_slice())])?;
+    let sheet = push_runs(sheet, drawing, half, y + 40, &RUNS)?;
+    let sheet = push_sample(sheet, half, y + 52)?;
     push_other_keys(sheet, drawing, half, y + 472, keys)
 }

@@ -1,24 +1,27 @@
 //! One key of the picture: its cap, its code and its legends. Its title is its line of the printed form.
-ghost use Rattle.std.specs.Prelude.{◌≡◌, ◌++◌, ◌∷◌, [], true, OnOk, IfOk, option_copied, option_to_list};
+ghost use Rattle.std.specs.Prelude.{◌≡◌, ◌++◌, ◌∷◌, [], true, IfOk, option_copied, option_to_list};
 ghost use Rattle.std.specs.List.{list_all};
-ghost use Rattle.keymap_core.specs.Bounds.{IsCell};
 ghost use Rattle.keymap_core.specs.Maps.{entry_at};
+ghost use Rattle.keymap_check.specs.Said.{finding_words as finding_words_of};
+ghost use Rattle.keymap_text.specs.Printed.{slot_words as slot_words_of};
 ghost use Rattle.keymap_draw.specs.Keys as spec;
 ghost use Rattle.keymap_draw.specs.Places.{is_class};
-ghost use Rattle.keymap_draw.specs.Sheets.{is_inner};
+ghost use Rattle.keymap_draw.specs.Sheets.{is_inner, is_seen};
 
 use crate::board::Shape;
 use crate::drawing::Drawing;
 use crate::drawn::{DrawnCells, drawn, is_blank, stands_alone};
 use crate::legend::{cell_legend, is_word};
-use crate::markup::{Added, push_characters, push_escaped, push_group, push_text_begin};
+use crate::markup::Added;
 use crate::place::{Column, code_x, legend_classes, legend_x, legend_y};
-use crate::sheet::{KeySheet, Sheet, digits};
-use crate::words::{BOTH, CAP, CAPS, CODE, GROUP_END, NUM, TEXT_END};
+use crate::sheet::Told::{Bytes, Characters, Plain};
+use crate::sheet::{InKey, InPicture, Sheet, adorn, digits, tell};
+use crate::words::{BOTH, CAPS, CODE, GROUP_END, KEY, KEY_OF, NUM, TEXT, TEXT_OF};
+use arrayvec::ArrayVec;
 use keymap_check::{Finding, finding_words};
 use keymap_core::{Action, Cell, Entry, KEY_COUNT, KeyMap, LockFlag};
 use keymap_text::slot_words;
-use messages::fill;
+use messages::Line;
 
 /// The finding of a key, if the check names it.
 fn finding_of(findings: &[Finding], key: u8) -> Option<&Finding>
@@ -58,36 +61,50 @@ pub(crate) fn is_blank_entry(entry: &Entry) -> bool
 
 /// The class for the colour of a key.
 #[tactic(auto, unfolding(crate::specs::Keys::key_class))]
-fn key_class(findings: &[Finding], slot: u8, entry: &Entry) -> Option<u8>
-    ensures value { result ≡ spec.key_class findings.now slot entry.now }
-    ensures class { list_all is_class (option_to_list result) ≡ true }
+fn key_class(findings: &[Finding], slot: u8, entry: &Entry) -> &'static [u8]
+    ensures value { result.now ≡ option_to_list (spec.key_class findings.now slot entry.now) }
+    ensures class { list_all is_class result.now ≡ true }
+    ensures inner { list_all is_inner result.now ≡ true }
 {
     let base = &entry.cells()[0];
     if finding_of(findings, slot % KEY_COUNT as u8).is_some() {
-        Some(b'f')
+        b"f"
     } else if is_blank_entry(entry) {
-        Some(b'p')
+        b"p"
     } else if is_holding(base) {
-        Some(b'm')
+        b"m"
     } else if is_doing(base) {
-        Some(b'g')
+        b"g"
     } else {
-        None
+        b""
     }
 }
 
-/// Adds what the check says of the key in a line of its own, if it names it.
-fn push_finding_line(text: &mut Vec<u8>, findings: &[Finding], key: u8) -> Added
-    ensures { OnOk result (text.new.items
-        ≡ text.old.items ++ spec.finding_line (spec.finding_of findings.now key)) }
+/// What the check says of a key.
+pub(crate) fn said(finding: &Finding) -> Line
+    ensures words { result.items ≡ finding_words_of finding.now }
+    ensures inner { list_all is_inner result.items ≡ true }
+{
+    finding_words(finding)
+}
+
+/// What the check says of the key and a line feed behind it, if it names it.
+fn finding_line(findings: &[Finding], key: u8) -> (Line, &'static [u8])
+    ensures words { result.0.items ++ result.1.now ≡ spec.finding_line (spec.finding_of findings.now key) }
+    ensures inner { (list_all is_inner result.0.items ≡ true) × (list_all is_inner result.1.now ≡ true) }
 {
     match finding_of(findings, key) {
-        Some(finding) => {
-            text.extend_from_slice(finding_words(finding).as_slice())?;
-            text.extend_from_slice(b"\n")
-        }
-        None => Ok(()),
+        Some(finding) => (said(finding), b"\n"),
+        None => (Line::new(), b""),
     }
+}
+
+/// The line of the printed form of a slot, with one blank between its parts.
+fn title(drawing: &Drawing, slot: u8) -> ArrayVec<u8, 80>
+    ensures words { result.items ≡ slot_words_of slot (entry_at drawing.now.map slot) }
+    ensures seen { list_all is_seen result.items ≡ true }
+{
+    slot_words(slot, drawing.map().entry(slot))
 }
 
 /// A blank and the letter of the locks, where one flips the key.
@@ -103,97 +120,114 @@ fn flag_words(flag: LockFlag) -> &'static [u8]
     }
 }
 
+/// Adds the group of a key with what the check says of it, the rest of its title, and its cap.
+fn push_group<'a>(
+    sheet: Sheet<InPicture>,
+    class: &'a [u8],
+    x: u32,
+    y: u32,
+    finding: &'a [u8],
+    feed: &'a [u8],
+    title: &'a [u8],
+    shape: Shape,
+) -> Added<Sheet<InKey>>
+    requires class { list_all is_inner class.now ≡ true }
+    requires finding { list_all is_inner finding.now ≡ true }
+    requires feed { list_all is_inner feed.now ≡ true }
+    requires title { list_all is_seen title.now ≡ true }
+    ensures { IfOk result (λ s. s
+        ≡ sheet ++ spec.titled_cap ((finding.now ++ feed.now) ++ title.now) class.now x y shape) }
+{
+    let (x, y) = (digits(x), digits(y));
+    let (x, y) = (Plain(x.as_slice()), Plain(y.as_slice()));
+    let (finding, feed, title) = (Plain(finding), Plain(feed), Bytes(title));
+    let cap = Plain(shape.letter());
+    match class {
+        [] => tell(sheet, KEY, &[x, y, finding, feed, title, cap]),
+        class => tell(
+            sheet,
+            KEY_OF,
+            &[Plain(class), x, y, finding, feed, title, cap],
+        ),
+    }
+}
+
 /// Adds the group of a key of a slot at a place, its title and its cap.
 fn begin_key(
-    sheet: Sheet,
+    sheet: Sheet<InPicture>,
     drawing: &Drawing,
     slot: u8,
     x: u32,
     y: u32,
     shape: Shape,
-) -> Added<KeySheet>
+) -> Added<Sheet<InKey>>
     ensures { IfOk result (λ s. s
         ≡ sheet ++ spec.cap drawing.now.findings slot x y shape (entry_at drawing.now.map slot)) }
 {
-    let Sheet { mut text } = sheet;
-    let entry = drawing.map().entry(slot);
     let findings = drawing.findings();
-    push_group(&mut text, key_class(findings, slot, entry), x, y)?;
-    push_finding_line(&mut text, findings, slot % KEY_COUNT as u8)?;
-    push_escaped(&mut text, slot_words(slot, entry).as_slice())?;
-    fill(&mut text, CAP, &[&[shape.letter()]])?;
-    Ok(KeySheet { text })
+    let (finding, feed) = finding_line(findings, slot % KEY_COUNT as u8);
+    let title = title(drawing, slot);
+    let class = key_class(findings, slot, drawing.map().entry(slot));
+    push_group(
+        sheet,
+        class,
+        x,
+        y,
+        finding.as_slice(),
+        feed,
+        title.as_slice(),
+        shape,
+    )
 }
 
 /// Adds the code of the key on its cap.
-fn push_code(sheet: KeySheet, slot: u8, flag: LockFlag, shape: Shape) -> Added<KeySheet>
+fn push_code(sheet: Sheet<InKey>, slot: u8, flag: LockFlag, shape: Shape) -> Added<Sheet<InKey>>
     ensures { IfOk result (λ s. s ≡ sheet ++ spec.code slot flag shape ∷ []) }
 {
-    let KeySheet { mut text } = sheet;
     let x = digits(code_x(shape));
     let y = digits(shape.height() - 7);
     let code = digits(u32::from(slot));
-    fill(
-        &mut text,
+    let (x, y) = (Plain(x.as_slice()), Plain(y.as_slice()));
+    tell(
+        sheet,
         CODE,
-        &[
-            x.as_slice(),
-            y.as_slice(),
-            code.as_slice(),
-            flag_words(flag),
-        ],
-    )?;
-    Ok(KeySheet { text })
-}
-
-/// For the prover alone: to read a cell tells the bounds of what stands in it.
-fn read_cell(cell: &Cell)
-    ensures { IsCell cell.now }
-{
-    match cell {
-        Cell::Char(c) => {
-            let _ = *c as u32;
-        }
-        Cell::Act(action) => {
-            let _ = action.code();
-        }
-    }
+        &[x, y, Plain(code.as_slice()), Plain(flag_words(flag))],
+    )
 }
 
 /// Adds the legend of a cell.
 fn push_legend(
-    sheet: KeySheet,
+    sheet: Sheet<InKey>,
     map: &KeyMap,
     shape: Shape,
     column: Column,
     cell: &Cell,
     alone: bool,
     tight: bool,
-) -> Added<KeySheet>
+) -> Added<Sheet<InKey>>
     ensures { IfOk result (λ s. s ≡ sheet ++ spec.legend shape column alone cell.now ∷ []) }
 {
-    read_cell(cell);
-    let KeySheet { mut text } = sheet;
     let legend = cell_legend(cell);
     let legend = legend.as_slice();
     let classes = legend_classes(map, column, cell, legend, alone, tight);
-    let x = legend_x(shape, column, alone);
-    let y = legend_y(shape, column, alone, is_word(legend));
-    push_text_begin(&mut text, x, y, classes.as_slice())?;
-    push_characters(&mut text, legend)?;
-    text.extend_from_slice(TEXT_END)?;
-    Ok(KeySheet { text })
+    let x = digits(legend_x(shape, column, alone));
+    let y = digits(legend_y(shape, column, alone, is_word(legend)));
+    let (x, y) = (Plain(x.as_slice()), Plain(y.as_slice()));
+    match classes.as_slice() {
+        [] => tell(sheet, TEXT, &[x, y, Characters(legend)]),
+        classes => tell(sheet, TEXT_OF, &[x, y, Plain(classes), Characters(legend)]),
+    }
 }
 
 /// Adds the legend of a column, if its cell is drawn. It is tight where another one stands beside it on a small cap.
 fn push_drawn(
-    sheet: KeySheet,
+    sheet: Sheet<InKey>,
     map: &KeyMap,
     shape: Shape,
     cells: &DrawnCells,
     alone: bool,
     column: Column,
-) -> Added<KeySheet>
+) -> Added<Sheet<InKey>>
     ensures { IfOk result (λ s. s ≡ sheet ++ spec.drawn_legend shape alone cells.now column) }
 {
     let tight = cells.cell(column.beside()).is_some() && shape.width() < 112;
@@ -205,7 +239,12 @@ fn push_drawn(
 
 /// Adds the legends of a slot.
 #[tactic(auto, unfolding(crate::specs::Keys::legends))]
-fn push_legends(sheet: KeySheet, map: &KeyMap, shape: Shape, entry: &Entry) -> Added<KeySheet>
+fn push_legends(
+    sheet: Sheet<InKey>,
+    map: &KeyMap,
+    shape: Shape,
+    entry: &Entry,
+) -> Added<Sheet<InKey>>
     ensures { IfOk result (λ s. s ≡ sheet ++ spec.legends shape entry.now) }
 {
     let cells = drawn(entry);
@@ -216,25 +255,16 @@ fn push_legends(sheet: KeySheet, map: &KeyMap, shape: Shape, entry: &Entry) -> A
     push_drawn(sheet, map, shape, &cells, alone, Column::AltShift)
 }
 
-/// Ends the group of a key.
-fn end_key(sheet: KeySheet) -> Added<Sheet>
-    ensures { IfOk result (λ s. s ≡ sheet) }
-{
-    let KeySheet { mut text } = sheet;
-    text.extend_from_slice(GROUP_END)?;
-    Ok(Sheet { text })
-}
-
 /// Adds the key of a slot at a place.
 #[tactic(auto, unfolding(crate::specs::Keys::key))]
 pub(crate) fn push_key(
-    sheet: Sheet,
+    sheet: Sheet<InPicture>,
     drawing: &Drawing,
     slot: u8,
     x: u32,
     y: u32,
     shape: Shape,
-) -> Added<Sheet>
+) -> Added<Sheet<InPicture>>
     ensures { IfOk result (λ s. s ≡ sheet ++ spec.key drawing.now slot x y shape) }
 {
     let map = drawing.map();
@@ -242,5 +272,5 @@ pub(crate) fn push_key(
     let sheet = begin_key(sheet, drawing, slot, x, y, shape)?;
     let sheet = push_code(sheet, slot, entry.flag, shape)?;
     let sheet = push_legends(sheet, map, shape, entry)?;
-    end_key(sheet)
+    adorn(sheet, GROUP_END, &[])
 }

@@ -6,10 +6,10 @@ ghost use Rattle.keymap_core.specs.Numbers.{key_count};
 ghost use Rattle.keymap_core.specs.declared.entry.Cell.{Cell as CellValue};
 ghost use Rattle.keymap_core.specs.declared.entry.Entry.{Entry as EntryValue};
 ghost use Rattle.keymap_check.specs.declared.finding.Finding.{Finding as FindingValue};
-ghost use Rattle.keymap_text.specs.Printed.{key_line, slot_words, accent_line, accent_words};
+ghost use Rattle.keymap_text.specs.Printed.{key_line, slot_words, accent_line, accent_words, column, word};
 ghost use Rattle.keymap_draw.specs.Drawings.{Drawing};
 ghost use Rattle.keymap_draw.specs.Keys.{key_class, names_key, red};
-ghost use Rattle.keymap_draw.specs.Keyboards.{BoardsAreKeyboards, EachKeyOnce, NoTwoOverlap, AllLieOnThePanel};
+ghost use Rattle.keymap_draw.specs.Keyboards.{EachKeyOnce, NoTwoOverlap, AllLieOnThePanel};
 ghost use Rattle.keymap_draw.specs.Letters.{PairsAreLetters, CapitalsAreOfOneLetter, LettersHaveOneCapital};
 ghost use Rattle.keymap_draw.specs.Letters.{MarksAreOfTheirAccents};
 ghost use Rattle.keymap_draw.specs.Legends.{cell_legend};
@@ -17,11 +17,12 @@ ghost use Rattle.keymap_draw.specs.Names.{LegendsAreNames, NoOthersAreNamed};
 ghost use Rattle.keymap_draw.specs.Pictures.{IsPicture};
 ghost use Rattle.keymap_draw.specs.Places.{IsClass};
 ghost use Rattle.keymap_draw.specs.Shapes.{CapsAreOfTheirKeys};
-ghost use Rattle.keymap_draw.specs.Titles.{squeezed};
+ghost use Rattle.keymap_draw.specs.Titles.{line};
 ghost use Rattle.keymap_draw.specs.Told.{TitlesTell, PicturesTellDefinitions, PicturesTellKeymaps};
 ghost use Rattle.keymap_draw.specs.WellFormed.{IsPlain, IsShown, IsSeen, IsWellFormed};
 
 /// A cap has the class of the red ones exactly if one of the findings is of its key.
+#[tactic(auto, using(crate::proofs::Red::red_named, crate::proofs::Red::named_red))]
 pub fn red_caps_are_findings()
     ensures red { (fs : List FindingValue) (slot : ℕ) (e : EntryValue) → key_class fs slot e ≡ Some red
         → names_key fs (slot % key_count) ≡ true }
@@ -43,6 +44,7 @@ pub fn pictures_are_plain()
 
 /// Each character of a legend is one that XML 1.0 allows, and no control character, whether it stands as it is or by a
 /// reference; and none, of legends and of titles, is one that nobody sees or that turns the direction of writing.
+#[tactic(auto, using(crate::proofs::Plain::shown_laws))]
 pub fn legends_are_shown()
     ensures shown { (cell : CellValue) → IsCell cell → All IsShown (cell_legend cell) }
     ensures seen { (cell : CellValue) → IsCell cell → All IsSeen (cell_legend cell) }
@@ -52,16 +54,18 @@ pub fn legends_are_shown()
 
 /// The class of a key is a letter out of a fixed list, whatever the keymap is. So are those of legends, which the
 /// functions of `place` ensure.
+#[tactic(auto, using(crate::proofs::Red::keys_classed))]
 pub fn classes_are_of_a_list()
     ensures { (fs : List FindingValue) (slot : ℕ) (e : EntryValue)
         → All IsClass (option_to_list (key_class fs slot e)) }
 {}
 
-/// What the title of a key tells is its line of the printed form with one blank between its words, and what that of an
-/// accent tells is its line.
+/// What the title of a key tells is its line of the printed form, without the blanks that fill its cells to columns, and
+/// what that of an accent tells is its line.
+#[tactic(auto, using(crate::proofs::ToldTwice::line_laws))]
 pub fn titles_are_printed_lines()
-    ensures key { (slot : ℕ) (e : EntryValue) → All IsCell e.cells
-        → squeezed (key_line slot e) ≡ slot_words slot e ++ codes "\n" }
+    ensures line { (slot : ℕ) (e : EntryValue) → key_line slot e ≡ line column slot e ++ codes "\n" }
+    ensures title { (slot : ℕ) (e : EntryValue) → slot_words slot e ≡ line word slot e }
     ensures accent { (i : ℕ) (accent : AccentValue) → accent_line i accent ≡ accent_words i accent ++ codes "\n" }
 {}
 
@@ -74,10 +78,8 @@ pub fn pictures_tell_keymaps()
     ensures keymap { PicturesTellKeymaps }
 {}
 
-/// A board is rows of keys, one behind the other: each key code stands on it once, no two caps overlap, and all lie on
-/// the panel.
+/// On a board each key code stands once, no two caps overlap, and all lie on the panel.
 pub fn boards_are_keyboards()
-    ensures rows { BoardsAreKeyboards }
     ensures once { EachKeyOnce }
     ensures apart { NoTwoOverlap }
     ensures on_panel { AllLieOnThePanel }
@@ -85,12 +87,14 @@ pub fn boards_are_keyboards()
 
 /// The cap that a key uses is as wide and as high as the key, but for the 4 units before the next one: it is named by
 /// the letter of the key's shape, and its edge has the key's width and height.
+#[tactic(auto, using(crate::proofs::ToldTwice::caps_are_of_their_keys))]
 pub fn caps_are_of_their_keys()
     ensures { CapsAreOfTheirKeys }
 {}
 
 /// A character that nobody sees has the name for a legend that Unicode abbreviates its name to, and no other character
 /// has such a name.
+#[tactic(auto, using(crate::proofs::ToldTwice::legends_are_names, crate::proofs::ToldTwice::no_others_are_named))]
 pub fn names_are_of_their_characters()
     ensures legends { LegendsAreNames }
     ensures no_others { NoOthersAreNamed }
@@ -98,6 +102,7 @@ pub fn names_are_of_their_characters()
 
 /// A capital stands for its small letter too exactly if the two are among the letters of five alphabets; each capital
 /// belongs to one small letter, and each small letter has one capital.
+#[tactic(auto, using(crate::proofs::Letters::letter_laws))]
 pub fn capitals_are_of_one_letter()
     ensures letters { PairsAreLetters }
     ensures capitals { CapitalsAreOfOneLetter }
@@ -105,6 +110,7 @@ pub fn capitals_are_of_one_letter()
 {}
 
 /// The mark on the cap of a dead key is that of the accent that the dead key's name says.
+#[tactic(auto, using(crate::proofs::Letters::marks_are_of_their_accents))]
 pub fn marks_are_of_their_accents()
     ensures { MarksAreOfTheirAccents }
 {}

@@ -1,7 +1,10 @@
 //! What is written on a cap for a cell: nothing, a sign (one character, or a mark on a dotted circle), or a word of
 //! letters and digits.
-ghost use Rattle.std.specs.Prelude.{◌≡◌, ◌<◌, ◌≤◌, ◌+◌, ◌++◌, ◌∷◌, [], length, decimal};
+ghost use Rattle.std.specs.Prelude.{◌≡◌, ◌<◌, ◌≤◌, ◌+◌, ◌++◌, ◌∷◌, [], true, length, decimal};
+ghost use Rattle.std.specs.List.{list_all};
+ghost use Rattle.keymap_core.specs.Bounds.{IsCell};
 ghost use Rattle.keymap_draw.specs.Legends as spec;
+ghost use Rattle.keymap_draw.specs.Sheets.{is_seen};
 
 use crate::characters::{is_mark, is_numbered};
 use crate::tables::{ACCENT_MARKS, UNSEEN_NAMES, UnseenName};
@@ -125,9 +128,8 @@ fn other_legend(c: char) -> Legend
     }
 }
 
-/// The legend of a character.
 #[tactic(auto, unfolding(crate::specs::Legends::character_legend))]
-pub(crate) fn character_legend(c: char) -> Legend
+fn legend_of(c: char) -> Legend
     ensures { result.items ≡ spec.character_legend c }
 {
     match c {
@@ -138,6 +140,14 @@ pub(crate) fn character_legend(c: char) -> Legend
         ' ' => sign('\u{2423}'),
         _ => other_legend(c),
     }
+}
+
+/// The legend of a character.
+pub(crate) fn character_legend(c: char) -> Legend
+    ensures value { result.items ≡ spec.character_legend c }
+    ensures seen { list_all is_seen result.items ≡ true }
+{
+    legend_of(c)
 }
 
 /// The legend of an action.
@@ -154,10 +164,26 @@ fn action_legend(action: Action) -> Legend
     }
 }
 
+/// For the prover alone: to read a cell tells the bounds of what stands in it.
+fn read_cell(cell: &Cell)
+    ensures { IsCell cell.now }
+{
+    match cell {
+        Cell::Char(c) => {
+            let _ = *c as u32;
+        }
+        Cell::Act(action) => {
+            let _ = action.code();
+        }
+    }
+}
+
 /// The legend of a cell.
 pub(crate) fn cell_legend(cell: &Cell) -> Legend
-    ensures { result.items ≡ spec.cell_legend cell.now }
+    ensures value { result.items ≡ spec.cell_legend cell.now }
+    ensures seen { list_all is_seen result.items ≡ true }
 {
+    read_cell(cell);
     match cell {
         Cell::Char(c) => character_legend(*c),
         Cell::Act(action) => action_legend(*action),

@@ -8,7 +8,8 @@
 //! It is proved that its bytes tell these facts and no other ones; and in [`laws`] that they are plain ASCII and well
 //! formed, that legends have characters of XML alone that can be seen and classes are out of a list, that titles are
 //! lines of the printed form and tell the keymap (`Told`), that a cap is red exactly if one of the findings is of its
-//! key, and that the tables of keys, capitals and marks are those of `Keyboards` and `Letters`.
+//! key, that no key of a board stands over another one (`Keyboards`), and that the tables of capitals and marks are
+//! those of `Letters`.
 #![tactic(auto)]
 
 mod board;

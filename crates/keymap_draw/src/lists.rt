@@ -2,42 +2,40 @@
 ghost use Rattle.std.specs.Prelude.{◌≡◌, ◌++◌, ◌≤◌, ◌<◌, ◌^◌, IfOk, All, length, true};
 ghost use Rattle.std.specs.List.{list_all};
 ghost use Rattle.keymap_core.specs.Numbers.{accent_limit};
+ghost use Rattle.keymap_text.specs.Printed.{accent_words as accent_words_of};
 ghost use Rattle.keymap_draw.specs.Facts.{numbered};
 ghost use Rattle.keymap_draw.specs.Lists as spec;
-ghost use Rattle.keymap_draw.specs.Places.{is_class};
-ghost use Rattle.keymap_draw.specs.Sheets.{is_inner};
+ghost use Rattle.keymap_draw.specs.Sheets.{is_inner, is_seen};
 
 use crate::drawing::Drawing;
 use crate::half::Half;
-use crate::legend::{character_legend, marked};
-use crate::markup::{Added, push_characters, push_composed_begin, push_escaped};
+use crate::key::said;
+use crate::legend::{Legend, character_legend, marked};
+use crate::markup::Added;
 use crate::place::{own_of, size_class};
-use crate::sheet::{RowSheet, Sheet, TableSheet, adorn, digits};
+use crate::sheet::Told::{Bytes, Characters, Plain};
+use crate::sheet::{InPicture, InRow, InTable, Sheet, adorn, digits, tell};
 use crate::tables::ACCENT_MARKS;
 use crate::words::{
-    ACCENT, ACCENT_ROW, ACCENTS, BASES, FINDINGS, GROUP_END, LISTED_FINDING, NAME, RESULTS, SIGN,
-    SILENT, TABLE_END, TEXT_END,
+    ACCENT, ACCENTS, BASES, COMPOSED, COMPOSED_OF, FINDINGS, GROUP_END, LISTED_FINDING, RESULTS,
+    SIGN, SILENT, TABLE_END,
 };
 use arrayvec::ArrayVec;
-use keymap_check::{Finding, finding_words};
+use keymap_check::Finding;
 use keymap_core::{
-    ACCENT_LIMIT, Accent, AccentIndex, Action, Cell, Entry, KEY_COUNT, KeyMap, push_if,
+    ACCENT_LIMIT, Accent, AccentIndex, Action, Cell, Entry, KEY_COUNT, KeyMap, Name, push_if,
 };
 use keymap_text::accent_words;
-use messages::{Line, fill};
 
 /// The accents by their indexes.
 pub(crate) type Accents = ArrayVec<u8, ACCENT_LIMIT>;
 
-/// What the check says of a key.
-fn said(finding: &Finding) -> Line
-    ensures { list_all is_inner result.items ≡ true }
-{
-    finding_words(finding)
-}
-
 /// Adds what the check says of each key that it names, two in a row, if there are any.
-pub(crate) fn push_findings(sheet: Sheet, findings: &[Finding], y: u32) -> Added<Sheet>
+pub(crate) fn push_findings(
+    sheet: Sheet<InPicture>,
+    findings: &[Finding],
+    y: u32,
+) -> Added<Sheet<InPicture>>
     requires few { length findings.now ≤ 128 }
     requires low { y < 2 ^ 15 }
     ensures { IfOk result (λ s. s ≡ sheet) }
@@ -45,13 +43,17 @@ pub(crate) fn push_findings(sheet: Sheet, findings: &[Finding], y: u32) -> Added
     if findings.is_empty() {
         return Ok(sheet);
     }
-    let mut sheet = adorn(sheet, FINDINGS, &[digits(y + 26).as_slice()])?;
+    let mut sheet: Sheet<InPicture> = adorn(sheet, FINDINGS, &[Plain(digits(y + 26).as_slice())])?;
     for i in 0..findings.len() {
         let place = i as u32;
         let x = digits(28 + place % 2 * 720);
         let y = digits(y + 52 + place / 2 * 20);
         let words = said(&findings[i]);
-        let texts = [x.as_slice(), y.as_slice(), words.as_slice()];
+        let texts = [
+            Plain(x.as_slice()),
+            Plain(y.as_slice()),
+            Plain(words.as_slice()),
+        ];
         sheet = adorn(sheet, LISTED_FINDING, &texts)?;
     }
     Ok(sheet)
@@ -89,26 +91,26 @@ pub(crate) fn named_accents(map: &KeyMap) -> Accents
 }
 
 /// Adds a character of an accent, at its place of a line of its table.
-fn push_composed(sheet: TableSheet, place: u32, c: char) -> Added<TableSheet>
+fn push_composed(sheet: Sheet<InTable>, place: u32, c: char) -> Added<Sheet<InTable>>
     requires { place ≤ 52 }
     ensures { IfOk result (λ s. s ≡ sheet) }
 {
-    let TableSheet { mut text } = sheet;
     let legend = character_legend(c);
-    let class = size_class(legend.as_slice(), false, true);
-    push_composed_begin(&mut text, 12 + 25 * place, class)?;
-    push_characters(&mut text, legend.as_slice())?;
-    text.extend_from_slice(TEXT_END)?;
-    Ok(TableSheet { text })
+    let x = digits(12 + 25 * place);
+    let (x, said) = (Plain(x.as_slice()), Characters(legend.as_slice()));
+    match size_class(legend.as_slice(), false, true) {
+        None => adorn(sheet, COMPOSED, &[x, said]),
+        Some(class) => adorn(sheet, COMPOSED_OF, &[x, Plain(&[class]), said]),
+    }
 }
 
 /// Adds the bases or the results of the pairs, behind a character that stands first.
 fn push_parts(
-    sheet: TableSheet,
+    sheet: Sheet<InTable>,
     first: char,
     results: bool,
     pairs: &[(char, char)],
-) -> Added<TableSheet>
+) -> Added<Sheet<InTable>>
     requires { length pairs.now ≤ 52 }
     ensures { IfOk result (λ s. s ≡ sheet) }
 {
@@ -120,79 +122,78 @@ fn push_parts(
     Ok(sheet)
 }
 
-/// Begins the table of an accent, with the line of the bases.
-fn begin_table(sheet: RowSheet) -> Added<TableSheet>
-    ensures { IfOk result (λ s. s ≡ sheet) }
-{
-    let RowSheet { mut text } = sheet;
-    text.extend_from_slice(BASES)?;
-    Ok(TableSheet { text })
-}
-
-/// Begins the line of the results.
-fn begin_results(sheet: TableSheet) -> Added<TableSheet>
-    ensures { IfOk result (λ s. s ≡ sheet) }
-{
-    let TableSheet { mut text } = sheet;
-    text.extend_from_slice(RESULTS)?;
-    Ok(TableSheet { text })
-}
-
-/// Ends the table and the row of an accent.
-fn end_table(sheet: TableSheet) -> Added<Sheet>
-    ensures { IfOk result (λ s. s ≡ sheet) }
-{
-    let TableSheet { mut text } = sheet;
-    text.extend_from_slice(TABLE_END)?;
-    Ok(Sheet { text })
-}
-
 /// Adds the bases above the results, first the blank and the accent's own character.
-fn push_table(sheet: RowSheet, own: char, pairs: &[(char, char)]) -> Added<Sheet>
+fn push_table(sheet: Sheet<InRow>, own: char, pairs: &[(char, char)]) -> Added<Sheet<InPicture>>
     requires { length pairs.now ≤ 52 }
     ensures { IfOk result (λ s. s ≡ sheet) }
 {
-    let sheet = begin_table(sheet)?;
+    let sheet = adorn(sheet, BASES, &[])?;
     let sheet = push_parts(sheet, ' ', false, pairs)?;
-    let sheet = begin_results(sheet)?;
+    let sheet = adorn(sheet, RESULTS, &[])?;
     let sheet = push_parts(sheet, own, true, pairs)?;
-    end_table(sheet)
+    adorn(sheet, TABLE_END, &[])
+}
+
+/// The sign of an accent.
+fn accent_sign(index: u8) -> Legend
+    requires { index < accent_limit }
+    ensures { list_all is_seen result.items ≡ true }
+{
+    marked(ACCENT_MARKS[index as usize])
+}
+
+/// The name of the dead key of an accent.
+fn accent_name(index: u8) -> Name
+    requires { index < accent_limit }
+    ensures { list_all is_inner result.items ≡ true }
+{
+    Action::DeadKey(AccentIndex::new(index)).name()
+}
+
+/// The line of the printed form of an accent.
+fn title(index: u8, accent: &Accent) -> ArrayVec<u8, 1160>
+    requires { index < accent_limit }
+    ensures words { result.items ≡ accent_words_of index accent.now }
+    ensures seen { list_all is_seen result.items ≡ true }
+{
+    accent_words(index, accent)
 }
 
 /// Adds the sign and the name of an accent, the sign in a class for its colour.
-fn push_heading(sheet: RowSheet, index: u8, x: u32, class: u8) -> Added<RowSheet>
+fn push_heading(sheet: Sheet<InRow>, index: u8, x: u32, class: u8) -> Added<Sheet<InRow>>
     requires known { index < accent_limit }
     requires near { x < 2 ^ 16 }
-    requires class { is_class class ≡ true }
+    requires class { is_inner class ≡ true }
     ensures { IfOk result (λ s. s ≡ sheet) }
 {
-    let RowSheet { mut text } = sheet;
-    let name = Action::DeadKey(AccentIndex::new(index)).name();
-    let sign = marked(ACCENT_MARKS[index as usize]);
-    fill(&mut text, SIGN, &[digits(x).as_slice(), &[class]])?;
-    push_characters(&mut text, sign.as_slice())?;
-    fill(
-        &mut text,
-        NAME,
-        &[digits(x + 28).as_slice(), name.as_slice()],
-    )?;
-    Ok(RowSheet { text })
+    let (sign, name) = (accent_sign(index), accent_name(index));
+    let (x, behind) = (digits(x), digits(x + 28));
+    let (sign, name) = (Characters(sign.as_slice()), Plain(name.as_slice()));
+    let (x, behind) = (Plain(x.as_slice()), Plain(behind.as_slice()));
+    adorn(sheet, SIGN, &[x, Plain(&[class]), sign, behind, name])
 }
 
 /// Begins the row of an accent with its title, which is its line of the printed form.
-fn begin_accent(sheet: Sheet, index: u8, accent: &Accent, y: u32) -> Added<RowSheet>
+fn begin_accent(sheet: Sheet<InPicture>, index: u8, accent: &Accent, y: u32) -> Added<Sheet<InRow>>
     requires { index < accent_limit }
     ensures { IfOk result (λ s. s ≡ sheet ++ spec.accent_title index accent.now) }
 {
-    let Sheet { mut text } = sheet;
-    fill(&mut text, ACCENT, &[digits(y).as_slice()])?;
-    push_escaped(&mut text, accent_words(index, accent).as_slice())?;
-    text.extend_from_slice(ACCENT_ROW)?;
-    Ok(RowSheet { text })
+    let (y, title) = (digits(y), title(index, accent));
+    tell(
+        sheet,
+        ACCENT,
+        &[Plain(y.as_slice()), Bytes(title.as_slice())],
+    )
 }
 
 /// Adds the row of an accent of the map, at its place of the list.
-fn push_accent(sheet: Sheet, map: &KeyMap, y: u32, place: u32, index: u8) -> Added<Sheet>
+fn push_accent(
+    sheet: Sheet<InPicture>,
+    map: &KeyMap,
+    y: u32,
+    place: u32,
+    index: u8,
+) -> Added<Sheet<InPicture>>
     requires known { index < accent_limit }
     requires low { y < 2 ^ 16 }
     requires few { place ≤ 15 }
@@ -209,7 +210,12 @@ fn push_accent(sheet: Sheet, map: &KeyMap, y: u32, place: u32, index: u8) -> Add
 }
 
 /// Adds the accents that have a character, if there are any.
-pub(crate) fn push_accents(sheet: Sheet, map: &KeyMap, accents: &[u8], y: u32) -> Added<Sheet>
+pub(crate) fn push_accents(
+    sheet: Sheet<InPicture>,
+    map: &KeyMap,
+    accents: &[u8],
+    y: u32,
+) -> Added<Sheet<InPicture>>
     requires low { y < 2 ^ 15 }
     requires few { length accents.now ≤ 15 }
     requires known { All (λ i. i < accent_limit) accents.now }
@@ -217,7 +223,7 @@ pub(crate) fn push_accents(sheet: Sheet, map: &KeyMap, accents: &[u8], y: u32) -
 {
     let mut sheet = sheet;
     if !accents.is_empty() {
-        sheet = adorn(sheet, ACCENTS, &[digits(y + 26).as_slice()])?;
+        sheet = adorn(sheet, ACCENTS, &[Plain(digits(y + 26).as_slice())])?;
     }
     for i in 0..accents.len() {
         let index = accents[i];
@@ -274,30 +280,12 @@ pub(crate) fn silent_accents(drawing: &Drawing) -> Accents
     accents
 }
 
-/// Begins the row of the dead keys without an accent, below a line that says what they are.
-fn begin_silent(sheet: Sheet, y: u32) -> Added<RowSheet>
-    requires { y < 2 ^ 15 }
-    ensures { IfOk result (λ s. s ≡ sheet) }
-{
-    let Sheet { mut text } = sheet;
-    fill(
-        &mut text,
-        SILENT,
-        &[digits(y + 16).as_slice(), digits(y + 26).as_slice()],
-    )?;
-    Ok(RowSheet { text })
-}
-
-fn end_row(sheet: RowSheet) -> Added<Sheet>
-    ensures { IfOk result (λ s. s ≡ sheet) }
-{
-    let RowSheet { mut text } = sheet;
-    text.extend_from_slice(GROUP_END)?;
-    Ok(Sheet { text })
-}
-
 /// Adds the dead keys without an accent, if there are any.
-pub(crate) fn push_silent(sheet: Sheet, accents: &[u8], y: u32) -> Added<Sheet>
+pub(crate) fn push_silent(
+    sheet: Sheet<InPicture>,
+    accents: &[u8],
+    y: u32,
+) -> Added<Sheet<InPicture>>
     requires low { y < 2 ^ 15 }
     requires few { length accents.now ≤ 15 }
     requires known { All (λ i. i < accent_limit) accents.now }
@@ -306,12 +294,14 @@ pub(crate) fn push_silent(sheet: Sheet, accents: &[u8], y: u32) -> Added<Sheet>
     if accents.is_empty() {
         return Ok(sheet);
     }
-    let mut sheet = begin_silent(sheet, y)?;
+    let (line, row) = (digits(y + 16), digits(y + 26));
+    let places = [Plain(line.as_slice()), Plain(row.as_slice())];
+    let mut sheet: Sheet<InRow> = adorn(sheet, SILENT, &places)?;
     for i in 0..accents.len() {
         let index = accents[i];
         sheet = push_heading(sheet, index, 36 + 94 * i as u32, b'e')?;
     }
-    end_row(sheet)
+    adorn(sheet, GROUP_END, &[])
 }
 
 pub(crate) fn silent_height(count: usize) -> u32

@@ -1,11 +1,9 @@
-//! The parts of the markup that aren't words alone: texts with references, and begin tags with or without a class.
+//! Texts with references where markup needs them.
 ghost use Rattle.std.specs.Prelude.{◌≡◌, ◌++◌, OnOk};
 ghost use Rattle.std.specs.List.{flat_map};
 ghost use Rattle.keymap_draw.specs.Markup as spec;
 
-use crate::words::{COMPOSED, COMPOSED_OF, GROUP, GROUP_OF, TEXT, TEXT_OF};
 use keymap_core::code_digits;
-use messages::{fill, number};
 use std::alloc::AllocError;
 
 /// What something is added to, or nothing: there may be no memory for it.
@@ -56,39 +54,4 @@ pub(crate) fn push_escaped(text: &mut Vec<u8>, bytes: &[u8]) -> Added
         push_character(text, *byte as char)?;
     }
     Ok(())
-}
-
-/// Adds the begin of a key, up to its title.
-pub(crate) fn push_group(text: &mut Vec<u8>, class: Option<u8>, x: u32, y: u32) -> Added
-    ensures { OnOk result (text.new.items ≡ text.old.items ++ spec.group class x y) }
-{
-    let x = number(u64::from(x));
-    let y = number(u64::from(y));
-    match class {
-        None => fill(text, GROUP, &[x.as_slice(), y.as_slice()]),
-        Some(class) => fill(text, GROUP_OF, &[&[class], x.as_slice(), y.as_slice()]),
-    }
-}
-
-/// Adds the begin of a text.
-pub(crate) fn push_text_begin(text: &mut Vec<u8>, x: u32, y: u32, classes: &[u8]) -> Added
-    ensures { OnOk result (text.new.items ≡ text.old.items ++ spec.text_begin x y classes.now) }
-{
-    let x = number(u64::from(x));
-    let y = number(u64::from(y));
-    match classes {
-        [] => fill(text, TEXT, &[x.as_slice(), y.as_slice()]),
-        _ => fill(text, TEXT_OF, &[x.as_slice(), y.as_slice(), classes]),
-    }
-}
-
-/// Adds the begin of a character in the table of an accent.
-pub(crate) fn push_composed_begin(text: &mut Vec<u8>, x: u32, class: Option<u8>) -> Added
-    ensures { OnOk result (text.new.items ≡ text.old.items ++ spec.composed_begin x class) }
-{
-    let x = number(u64::from(x));
-    match class {
-        None => fill(text, COMPOSED, &[x.as_slice()]),
-        Some(class) => fill(text, COMPOSED_OF, &[x.as_slice(), &[class]]),
-    }
 }

@@ -4,6 +4,7 @@ ghost use Rattle.std.specs.List.{list_all};
 ghost use Rattle.arrayvec.specs.ArrayVec.{array_vec_len};
 ghost use Rattle.keymap_draw.specs.Places as spec;
 ghost use Rattle.keymap_draw.specs.Places.{is_class};
+ghost use Rattle.keymap_draw.specs.Sheets.{is_inner};
 
 use crate::board::Shape;
 use crate::legend::is_word;
@@ -123,7 +124,8 @@ fn size_by(sizes: &[u8; 7], count: usize) -> u8
 
 /// The class for the size of a legend. One in a corner is tight where another one stands beside it on a small cap.
 pub(crate) fn size_class(legend: &[char], alone: bool, tight: bool) -> Option<u8>
-    ensures { list_all is_class (option_to_list result) ≡ true }
+    ensures class { list_all is_class (option_to_list result) ≡ true }
+    ensures inner { list_all is_inner (option_to_list result) ≡ true }
 {
     if !is_word(legend) {
         return if alone { Some(b'z') } else { None };
@@ -208,7 +210,8 @@ pub(crate) fn legend_classes(
     alone: bool,
     tight: bool,
 ) -> ArrayVec<u8, 6>
-    ensures { list_all is_class result.items ≡ true }
+    ensures classes { list_all is_class result.items ≡ true }
+    ensures inner { list_all is_inner result.items ≡ true }
 {
     let mut classes = ArrayVec::new();
     push_class(&mut classes, size_class(legend, alone, tight));

@@ -1,90 +1,79 @@
 //! The text of a picture as it is put together. What is seen of it is what a reader makes of it: the facts that it
-//! tells, and by its type the elements that its end stands in. Only functions that take the text out know bytes.
-ghost use Rattle.std.specs.Prelude.{◌≡◌, ◌∷◌, [], true, List, Some, IfOk, IsTrue, decimal, map};
+//! tells, and by its type the elements that its end stands in. Only the functions of this file know bytes.
+ghost use Rattle.std.specs.Prelude.{◌≡◌, ◌++◌, [], true, List, Some, IfOk, OnOk, decimal, map};
 ghost use Rattle.std.specs.List.{list_all};
-ghost use Rattle.messages.specs.Filled.{has_places};
+ghost use Rattle.messages.specs.Filled.{filled};
 ghost use Rattle.keymap_draw.specs.Facts.{Fact};
-ghost use Rattle.keymap_draw.specs.Sheets.{in_svg, within, over, is_inner, are_inner};
-ghost use Rattle.keymap_draw.specs.WellFormed.{Tells};
+ghost use Rattle.keymap_draw.specs.Sheets.{within, over, facts_over, written, is_inner, is_ready, in_svg, in_key};
+ghost use Rattle.keymap_draw.specs.Sheets.{in_row, in_table};
+ghost use Rattle.keymap_draw.specs.WellFormed.{Element, Tells};
 
 use crate::constants::{SHAPES, STYLE};
-use crate::markup::Added;
+use crate::markup::{Added, push_characters, push_escaped};
 use crate::words::{ACCEPTED, BEGIN, END, PAGE, REFUSED};
 use arrayvec::ArrayVec;
-use messages::{either, fill, number};
+use messages::{either, number, parted};
 use std::alloc::Global;
-use std::marker::Model;
+use std::marker::{Model, PhantomData};
 
-/// The text behind the head of a picture, between the parts.
-#[derive(Drop)]
-pub(crate) struct Sheet {
-    pub(crate) text: Vec<u8>,
+/// Where the end of a text stands, by the elements that have begun.
+pub(crate) trait Part {
+    ghost begun: { List Element };
 }
 
-impl Model for Sheet {
+/// Between the parts of a picture, behind its head.
+pub(crate) struct InPicture;
+
+impl Part for InPicture {
+    ghost begun = { in_svg };
+}
+
+/// In the group of a key, behind its cap.
+pub(crate) struct InKey;
+
+impl Part for InKey {
+    ghost begun = { in_key };
+}
+
+/// In a row below the keys.
+pub(crate) struct InRow;
+
+impl Part for InRow {
+    ghost begun = { in_row };
+}
+
+/// In a line of the table of an accent.
+pub(crate) struct InTable;
+
+impl Part for InTable {
+    ghost begun = { in_table };
+}
+
+/// The text of a picture up to a place in it.
+#[derive(Drop)]
+pub(crate) struct Sheet<P: Part> {
+    text: Vec<u8>,
+    part: PhantomData<P>,
+}
+
+impl<P: Part> Model for Sheet<P> {
     ghost use Rattle.std.specs.Prelude.{List};
     ghost use Rattle.keymap_draw.specs.Facts.{Fact};
-    ghost use Rattle.keymap_draw.specs.Sheets.{facts_in, IsWithin, in_svg};
+    ghost use Rattle.keymap_draw.specs.Sheets.{facts_in, IsWithin};
 
     ghost Value = { List Fact };
 
     ghost view = { λ s. facts_in s.text.items };
 
-    ghost invariant = { λ s. IsWithin in_svg s.text.items };
+    ghost invariant = { λ s. IsWithin P.begun s.text.items };
 }
 
-/// The text in the group of a key, behind its cap.
-#[derive(Drop)]
-pub(crate) struct KeySheet {
-    pub(crate) text: Vec<u8>,
-}
-
-impl Model for KeySheet {
-    ghost use Rattle.std.specs.Prelude.{List};
-    ghost use Rattle.keymap_draw.specs.Facts.{Fact};
-    ghost use Rattle.keymap_draw.specs.Sheets.{facts_in, IsWithin, in_key};
-
-    ghost Value = { List Fact };
-
-    ghost view = { λ s. facts_in s.text.items };
-
-    ghost invariant = { λ s. IsWithin in_key s.text.items };
-}
-
-/// The text in a row below the keys.
-#[derive(Drop)]
-pub(crate) struct RowSheet {
-    pub(crate) text: Vec<u8>,
-}
-
-impl Model for RowSheet {
-    ghost use Rattle.std.specs.Prelude.{List};
-    ghost use Rattle.keymap_draw.specs.Facts.{Fact};
-    ghost use Rattle.keymap_draw.specs.Sheets.{facts_in, IsWithin, in_row};
-
-    ghost Value = { List Fact };
-
-    ghost view = { λ s. facts_in s.text.items };
-
-    ghost invariant = { λ s. IsWithin in_row s.text.items };
-}
-
-/// The text in a line of the table of an accent.
-#[derive(Drop)]
-pub(crate) struct TableSheet {
-    pub(crate) text: Vec<u8>,
-}
-
-impl Model for TableSheet {
-    ghost use Rattle.std.specs.Prelude.{List};
-    ghost use Rattle.keymap_draw.specs.Facts.{Fact};
-    ghost use Rattle.keymap_draw.specs.Sheets.{facts_in, IsWithin, in_table};
-
-    ghost Value = { List Fact };
-
-    ghost view = { λ s. facts_in s.text.items };
-
-    ghost invariant = { λ s. IsWithin in_table s.text.items };
+/// What stands at a place of words: as it is, or with references where markup needs them.
+#[derive(Clone, Copy)]
+pub(crate) enum Told<'a> {
+    Plain(&'a [u8]),
+    Bytes(&'a [u8]),
+    Characters(&'a [char]),
 }
 
 /// A number in decimal digits.
@@ -95,42 +84,93 @@ pub(crate) fn digits(n: u32) -> ArrayVec<u8, 20>
     number(u64::from(n))
 }
 
+fn push_told(text: &mut Vec<u8>, told: &Told) -> Added
+    ensures { OnOk result (text.new.items ≡ text.old.items ++ written told.now) }
+{
+    match told {
+        Told::Plain(bytes) => text.extend_from_slice(bytes),
+        Told::Bytes(bytes) => push_escaped(text, bytes),
+        Told::Characters(characters) => push_characters(text, characters),
+    }
+}
+
+/// Adds words with what is told at their places.
+#[tactic(auto, unfolding(messages::specs::Filled::filled))]
+fn push_filled(text: &mut Vec<u8>, words: &[u8], told: &[Told]) -> Added
+    ensures { OnOk result (text.new.items ≡ text.old.items ++ filled words.now (map written told.now)) }
+{
+    match told {
+        [] => text.extend_from_slice(words),
+        [first, rest @ ..] => {
+            let (before, behind) = parted(words);
+            text.extend_from_slice(before)?;
+            push_told(text, first)?;
+            push_filled(text, behind, rest)
+        }
+    }
+}
+
 /// Adds words that tell nothing, with a text at each of their places.
-pub(crate) fn adorn(sheet: Sheet, words: &[u8], texts: &[&[u8]]) -> Added<Sheet>
-    requires places { IsTrue (has_places words.now (map (λ t. t.now) texts.now)) }
-    requires inner { are_inner (map (λ t. t.now) texts.now) ≡ true }
-    requires quiet { (fs : List Fact) → over (Some (within in_svg fs)) words.now (map (λ t. t.now) texts.now)
-        ≡ Some (within in_svg fs) }
+pub(crate) fn adorn<P: Part, Q: Part>(
+    sheet: Sheet<P>,
+    words: &[u8],
+    told: &[Told],
+) -> Added<Sheet<Q>>
+    requires ready { list_all is_ready told.now ≡ true }
+    requires quiet { (fs : List Fact) → over (Some (within P.begun fs)) words.now told.now
+        ≡ Some (within Q.begun fs) }
     ensures { IfOk result (λ s. s ≡ sheet) }
 {
-    let Sheet { mut text } = sheet;
-    fill(&mut text, words, texts)?;
-    Ok(Sheet { text })
+    let Sheet { mut text, part: _ } = sheet;
+    push_filled(&mut text, words, told)?;
+    Ok(Sheet {
+        text,
+        part: PhantomData,
+    })
+}
+
+/// Adds words that tell facts, with a text at each of their places.
+pub(crate) fn tell<P: Part, Q: Part>(
+    sheet: Sheet<P>,
+    words: &[u8],
+    told: &[Told],
+) -> Added<Sheet<Q>>
+    requires ready { list_all is_ready told.now ≡ true }
+    requires read { (fs : List Fact) → over (Some (within P.begun fs)) words.now told.now
+        ≡ Some (within Q.begun (fs ++ facts_over P.begun words.now told.now)) }
+    ensures { IfOk result (λ s. s ≡ sheet ++ facts_over P.begun words.now told.now) }
+{
+    let Sheet { mut text, part: _ } = sheet;
+    push_filled(&mut text, words, told)?;
+    Ok(Sheet {
+        text,
+        part: PhantomData,
+    })
 }
 
 /// The head of a picture of some height: its begin, the style, the shapes and the page.
-pub(crate) fn begin(alloc: Global, is_accepted: bool, height: u32) -> Added<Sheet>
+pub(crate) fn begin(alloc: Global, is_accepted: bool, height: u32) -> Added<Sheet<InPicture>>
     ensures { IfOk result (λ s. s ≡ []) }
 {
     let mut text = Vec::new(alloc);
-    let high = digits(height);
-    let verdict = either(is_accepted, ACCEPTED, REFUSED);
-    fill(
-        &mut text,
-        BEGIN,
-        &[high.as_slice(), high.as_slice(), verdict],
-    )?;
+    let height = digits(height);
+    let high = Told::Plain(height.as_slice());
+    let verdict = Told::Plain(either(is_accepted, ACCEPTED, REFUSED));
+    push_filled(&mut text, BEGIN, &[high, high, verdict])?;
     text.extend_from_slice(&STYLE)?;
     text.extend_from_slice(&SHAPES)?;
-    fill(&mut text, PAGE, &[high.as_slice()])?;
-    Ok(Sheet { text })
+    push_filled(&mut text, PAGE, &[high])?;
+    Ok(Sheet {
+        text,
+        part: PhantomData,
+    })
 }
 
 /// The text of a picture, with the key to its colours at its end.
-pub(crate) fn finish(sheet: Sheet, y: u32) -> Added<Vec<u8>>
+pub(crate) fn finish(sheet: Sheet<InPicture>, y: u32) -> Added<Vec<u8>>
     ensures { IfOk result (λ text. Tells sheet text.items) }
 {
-    let Sheet { mut text } = sheet;
-    fill(&mut text, END, &[digits(y).as_slice()])?;
+    let Sheet { mut text, part: _ } = sheet;
+    push_filled(&mut text, END, &[Told::Plain(digits(y).as_slice())])?;
     Ok(text)
 }

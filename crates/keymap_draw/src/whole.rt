@@ -12,7 +12,7 @@ use crate::lists::{
     silent_accents, silent_height,
 };
 use crate::markup::Added;
-use crate::sheet::{Sheet, begin, finish};
+use crate::sheet::{InPicture, Sheet, begin, finish};
 use arrayvec::ArrayVec;
 use keymap_check::Report;
 use keymap_core::{KEY_COUNT, KeyMap};
@@ -60,7 +60,12 @@ fn starts_of(drawing: &Drawing, lower: usize, upper: usize, named: usize, silent
 
 /// Adds the drawing of the upper half, if it is live.
 #[tactic(auto, unfolding(crate::specs::Pictures::upper))]
-fn push_upper(sheet: Sheet, drawing: &Drawing, keys: &[u8], y: u32) -> Added<Sheet>
+fn push_upper(
+    sheet: Sheet<InPicture>,
+    drawing: &Drawing,
+    keys: &[u8],
+    y: u32,
+) -> Added<Sheet<InPicture>>
     requires low { y ≤ 906 }
     requires few { length keys.now ≤ 128 }
     ensures { IfOk result (λ s. s ≡ sheet ++ spec.upper drawing.now keys.now y) }

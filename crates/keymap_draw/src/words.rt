@@ -52,14 +52,12 @@ pub(crate) const SLOT: &[u8] = b"slot";
 pub(crate) const OTHER_KEYS: &[u8] =
     b"<text x=\"28\" y=\"{}\" class=\"l\">Keys that this board doesn&#x0027;t have</text>\n";
 
-/// The begin of a key, with its place, and of one with a class, up to its title.
-pub(crate) const GROUP: &[u8] = b"<g role=\"img\" transform=\"translate({} {})\"><title>";
+/// The begin of a key with its place, and of one with a class: its title and its cap, by the letter of its shape.
+pub(crate) const KEY: &[u8] =
+    b"<g role=\"img\" transform=\"translate({} {})\"><title>{}{}{}</title><use href=\"#{}\"/>";
 
-pub(crate) const GROUP_OF: &[u8] =
-    b"<g role=\"img\" class=\"{}\" transform=\"translate({} {})\"><title>";
-
-/// The cap of a key behind its title, with the letter of its shape.
-pub(crate) const CAP: &[u8] = b"</title><use href=\"#{}\"/>";
+pub(crate) const KEY_OF: &[u8] =
+    b"<g role=\"img\" class=\"{}\" transform=\"translate({} {})\"><title>{}{}{}</title><use href=\"#{}\"/>";
 
 /// The code of a key, with where it stands, the code and the letter of its locks.
 pub(crate) const CODE: &[u8] = b"<text x=\"{}\" y=\"{}\">{}{}</text>";
@@ -73,12 +71,10 @@ pub(crate) const NUM: &[u8] = b" N";
 
 pub(crate) const BOTH: &[u8] = b" B";
 
-/// The begin of a text, with its place, and of one with classes; and the end.
-pub(crate) const TEXT: &[u8] = b"<text x=\"{}\" y=\"{}\">";
+/// A text with its place, and one with classes.
+pub(crate) const TEXT: &[u8] = b"<text x=\"{}\" y=\"{}\">{}</text>";
 
-pub(crate) const TEXT_OF: &[u8] = b"<text x=\"{}\" y=\"{}\" class=\"{}\">";
-
-pub(crate) const TEXT_END: &[u8] = b"</text>";
+pub(crate) const TEXT_OF: &[u8] = b"<text x=\"{}\" y=\"{}\" class=\"{}\">{}</text>";
 
 /// The headline of the findings, with where it stands.
 pub(crate) const FINDINGS: &[u8] = b"<text x=\"28\" y=\"{}\" class=\"h no\">Findings</text>\n";
@@ -89,11 +85,10 @@ pub(crate) const LISTED_FINDING: &[u8] = b"<text x=\"{}\" y=\"{}\" class=\"l no\
 /// The headline of the accents, with where it stands.
 pub(crate) const ACCENTS: &[u8] = b"<text x=\"28\" y=\"{}\" class=\"h\">Accents</text>\n";
 
-/// The begin of an accent, with where it stands, and what stands behind its title.
-pub(crate) const ACCENT: &[u8] = b"<g role=\"img\" transform=\"translate(16 {})\"><title>";
-
-pub(crate) const ACCENT_ROW: &[u8] =
-    b"</title><rect class=\"row\" width=\"1460\" height=\"48\" rx=\"8\"/>";
+/// The begin of an accent, with where it stands and its title.
+pub(crate) const ACCENT: &[u8] =
+    b"<g role=\"img\" transform=\"translate(16 {})\"><title>{}</title><rect class=\"row\" width=\"1460\" \
+height=\"48\" rx=\"8\"/>";
 
 // The table of an accent: before the bases of its pairs, before their results, and behind these.
 pub(crate) const BASES: &[u8] = b"<g class=\"i\" transform=\"translate(124 17)\">";
@@ -102,16 +97,14 @@ pub(crate) const RESULTS: &[u8] = b"</g><g class=\"j\" transform=\"translate(124
 
 pub(crate) const TABLE_END: &[u8] = b"</g></g>\n";
 
-/// The begin of a character of that table, with where it stands, and of one with a class.
-pub(crate) const COMPOSED: &[u8] = b"<text x=\"{}\">";
+/// A character of that table, with where it stands, and one with a class.
+pub(crate) const COMPOSED: &[u8] = b"<text x=\"{}\">{}</text>";
 
-pub(crate) const COMPOSED_OF: &[u8] = b"<text x=\"{}\" class=\"{}\">";
+pub(crate) const COMPOSED_OF: &[u8] = b"<text x=\"{}\" class=\"{}\">{}</text>";
 
-// The begin of the sign of an accent, with where it stands and the class for its colour, and its name behind it, with
-// where it stands.
-pub(crate) const SIGN: &[u8] = b"<text x=\"{}\" y=\"35\" class=\"z c {}\">";
-
-pub(crate) const NAME: &[u8] = b"</text><text x=\"{}\" y=\"30\" class=\"l\">{}</text>";
+/// The sign of an accent, with where it stands and the class for its colour, and its name, with where that stands.
+pub(crate) const SIGN: &[u8] =
+    b"<text x=\"{}\" y=\"35\" class=\"z c {}\">{}</text><text x=\"{}\" y=\"30\" class=\"l\">{}</text>";
 
 /// The line above the dead keys without an accent and the begin of their row, with where these stand.
 pub(crate) const SILENT: &[u8] =

@@ -1,10 +1,7 @@
 -- The pieces of what is written, and what is written of these.
-use Rattle.std.proofs.Common.{◌≡◌, ℕ, List, [], ◌∷◌, ◌++◌, map, refl, ◌∙◌, ap}
-use Rattle.keymap_fmt.specs.Types.{State, Standing, AtTop, Part, Comment, Code}
-use Rattle.keymap_fmt.specs.Pieces.{PieceValue, pieces_after, pieces, behind}
-use Rattle.keymap_fmt.specs.Layout.{before, after, ending, start}
-use Rattle.keymap_fmt.specs.Formatted.{rendered_from, formatted}
-use Rattle.keymap_fmt.specs.Same.{part_and_bytes}
+use Rattle.keymap_fmt.proofs.Common.{◌≡◌, ℕ, List, [], ◌∷◌, ◌++◌, map, refl, ◌∙◌, ap, State, Standing, AtTop, Part}
+use Rattle.keymap_fmt.proofs.Common.{Comment, Code, PieceValue, pieces_after, pieces, behind, before, after, ending}
+use Rattle.keymap_fmt.proofs.Common.{start, rendered_from, formatted, part_and_bytes}
 use Rattle.keymap_fmt.proofs.Reading.{token_read, comment_read}
 use Rattle.keymap_fmt.proofs.Texts.{ArePieces, no_piece, one_piece, Reads, text_pieces}
 use Rattle.keymap_fmt.proofs.Written.{IsAt, lowered_by, read_blanks, before_blanks, before_again, after_at}

@@ -1,19 +1,17 @@
 -- The tokens of a definition stand in their columns.
-use Rattle.std.proofs.Common.{◌≡◌, ℕ, ◌+◌, ◌-◌, ◌*◌, ◌<◌, ◌≤◌, ◌==◌, Bool, true, false, List, [], ◌∷◌, ◌++◌}
-use Rattle.std.proofs.Common.{refl, sym, ◌∙◌, ap, subst, arith, length, map, append_assoc, All, codes}
-use Rattle.std.specs.Prelude.{max, slice_index, nat_le, nat_lt, if◌then◌else◌}
-use Rattle.std.specs.List.{flat_map}
+use Rattle.keymap_fmt.proofs.Common.{◌≡◌, ℕ, ◌+◌, ◌-◌, ◌<◌, ◌≤◌, ◌==◌, Bool, true, false, List, [], ◌∷◌, ◌++◌, refl}
+use Rattle.keymap_fmt.proofs.Common.{sym, ◌∙◌, ap, subst, arith, length, map, append_assoc, slice_index, nat_le, nat_lt}
+use Rattle.keymap_fmt.proofs.Common.{if◌then◌else◌, flat_map, nat_tests, State, Row, Slot, Accent, PieceValue, is_open}
+use Rattle.keymap_fmt.proofs.Common.{is_over, row_of, opened, lead, advanced, before, after, start, rendered_from}
+use Rattle.keymap_fmt.proofs.Common.{rendered}
+use Rattle.std.proofs.Common.{◌*◌, All, codes}
+use Rattle.std.specs.Prelude.{max}
 use Rattle.std.proofs.lemmas.Bool.{lt-leb, lt-ltb, le-ltb, ne_eqb, eqb-true}
-use Rattle.std.proofs.lemmas.Bool.Decides.{nat_tests}
 use Rattle.std.proofs.lemmas.List.Elements.{All-head, All-tail}
 use Rattle.std.proofs.lemmas.List.{replicate-append-replicate}
 use Rattle.keymap_core.proofs.Lists.{along}
-use Rattle.keymap_fmt.specs.Types.{State}
-use Rattle.keymap_fmt.specs.declared.layout.Row.{Row}
-use Rattle.keymap_fmt.specs.declared.layout.Row.TheVariants.{Slot, Accent, Pair}
-use Rattle.keymap_fmt.specs.Pieces.{PieceValue}
-use Rattle.keymap_fmt.specs.Layout.{is_open, is_over, row_of, opened, stop_in, lead, advanced, before, after, start}
-use Rattle.keymap_fmt.specs.Formatted.{rendered_from, rendered}
+use Rattle.keymap_fmt.specs.declared.layout.Row.TheVariants.{Pair}
+use Rattle.keymap_fmt.specs.Layout.{stop_in}
 use Rattle.keymap_fmt.specs.Columns.{Written, piece_of, places, blanks, empty_line, begin, number_column, columns}
 use Rattle.keymap_fmt.specs.Columns.{cells_from, key_line, filled, aligned_line, PairWritten, tokens_of, BeginsPair}
 use Rattle.keymap_fmt.specs.Columns.{pair_text, pairs_from, pairs_behind, own_and_pairs, accent_lines}

@@ -1,24 +1,22 @@
 -- What the search for a piece finds at a place of the text.
-use Rattle.std.proofs.Common.{◌≡◌, ◌≢◌, ℕ, zero, suc, ◌+◌, ◌-◌, ◌<◌, ◌≤◌, ◌==◌, Bool, true, false, if◌then◌else◌, List}
-use Rattle.std.proofs.Common.{[], ◌∷◌, length, take, drop, get_or, refl, sym, ◌∙◌, ap, subst, arith, add-one, drop-cons}
-use Rattle.std.proofs.Common.{Option, Some, None, Result, Ok, Err, true≢false, length-drop, ◌⊎◌, ⊎_elim}
+use Rattle.keymap_fmt.proofs.Common.{◌≡◌, ℕ, zero, suc, ◌+◌, ◌-◌, ◌<◌, ◌≤◌, ◌==◌, Bool, true, false, if◌then◌else◌}
+use Rattle.keymap_fmt.proofs.Common.{List, [], ◌∷◌, length, take, drop, get_or, refl, sym, ◌∙◌, ap, subst, arith}
+use Rattle.keymap_fmt.proofs.Common.{add-one, Option, Some, None, Ok, true≢false, ◌⊎◌, ⊎_elim, nat_tests, drop-drop}
+use Rattle.keymap_fmt.proofs.Common.{length-take-le, TextFaultKind, TokenKind, Standing, Beside, Below, Comment, Code}
+use Rattle.keymap_fmt.proofs.Common.{is_blank, is_space, stays_on_line, leading, front_of, Front, Skipped, Found}
+use Rattle.keymap_fmt.proofs.Common.{Refused, Unfinished, TokenValue, tokens_after, stands_alone, leading_pass}
+use Rattle.keymap_fmt.proofs.Common.{leading_fail, PieceValue, pieces_after, lower, lowered, trimmed, width}
+use Rattle.std.proofs.Common.{◌≢◌, drop-cons, Result, Err, length-drop}
 use Rattle.std.specs.Prelude.{IsFalse}
-use Rattle.std.proofs.lemmas.Bool.Decides.{nat_tests}
-use Rattle.std.proofs.lemmas.List.{drop-drop, at_drop_all, length-take-le}
-use Rattle.keymap_fmt.specs.Types.{TextFaultKind, TokenKind, Standing, Beside, Below, Comment, Code}
+use Rattle.std.proofs.lemmas.List.{at_drop_all}
 use Rattle.keymap_text.specs.declared.fault.TextFaultKind.TheVariants.{EndInside}
 use Rattle.keymap_text.specs.declared.token.TokenKind.TheVariants.{ParenL, ParenR, Literal, Word}
 use Rattle.keymap_text.specs.declared.token.Token.{Token}
-use Rattle.keymap_text.specs.Lexical.{is_blank, is_space, separates, stays_on_line, leading, front_of, Front, Skipped}
-use Rattle.keymap_text.specs.Lexical.{Found, Refused, Unfinished, TokenValue, Tokens, Stops, Then, tokens_after}
-use Rattle.keymap_text.specs.Lexical.{token_before, first}
+use Rattle.keymap_text.specs.Lexical.{separates, Tokens, Stops, Then, token_before, first}
 use Rattle.keymap_text.specs.Tokens.{token_view}
-use Rattle.keymap_text.proofs.Alone.{stands_alone, skipped_separates}
+use Rattle.keymap_text.proofs.Alone.{skipped_separates}
 use Rattle.keymap_text.proofs.InFront.{front_fits}
-use Rattle.keymap_text.proofs.Leading.{leading_pass, leading_fail}
 use Rattle.keymap_text.proofs.Splitting.{split_found, split_refused, split_unfinished}
-use Rattle.keymap_fmt.specs.Pieces.{PieceValue, pieces_after, lower, lowered, trimmed}
-use Rattle.keymap_fmt.specs.Layout.{width}
 use Rattle.keymap_fmt.specs.Inner.Reading.{ComesNext}
 use Rattle.keymap_fmt.proofs.Reading.{read_after, read_nil, read_blank, read_hash, read_token, read_refused}
 use Rattle.keymap_fmt.proofs.Reading.{read_unfinished}

@@ -1,13 +1,12 @@
 -- What is left where the end of a line is cut.
-use Rattle.std.proofs.Common.{◌≡◌, ℕ, suc, ◌-◌, ◌<◌, ◌≤◌, Bool, false, List, ◌∷◌, ◌++◌, length, take, get_or, sym}
-use Rattle.std.proofs.Common.{◌∙◌, ap, arith, take_all, true≢false, eq-or-lt_of_le, ⊎_elim}
+use Rattle.keymap_fmt.proofs.Common.{◌≡◌, ℕ, suc, ◌-◌, ◌<◌, ◌≤◌, Bool, false, List, ◌∷◌, ◌++◌, length, take, get_or}
+use Rattle.keymap_fmt.proofs.Common.{sym, ◌∙◌, ap, arith, true≢false, ⊎_elim, suffix_len-take_no, suffix_len, leading}
+use Rattle.keymap_fmt.proofs.Common.{is_space, leading_fail, trimmed}
+use Rattle.std.proofs.Common.{take_all, eq-or-lt_of_le}
 use Rattle.std.proofs.lemmas.List.{get_or-reverse, length-reverse}
-use Rattle.std.proofs.lemmas.List.Sums.{prefix_len_passes, prefix_len_stops, suffix_len-take_no, suffix_len-le-length}
-use Rattle.std.specs.List.{suffix_len}
+use Rattle.std.proofs.lemmas.List.Sums.{prefix_len_passes, prefix_len_stops, suffix_len-le-length}
 use Rattle.std.specs.Prelude.{reverse}
-use Rattle.keymap_text.specs.Lexical.{leading, is_space}
-use Rattle.keymap_text.proofs.Leading.{leading_fail, leading_append}
-use Rattle.keymap_fmt.specs.Pieces.{trimmed}
+use Rattle.keymap_text.proofs.Leading.{leading_append}
 
 -- bytes that all pass, before one that fails
 pub leading_ended : (p : ℕ → Bool) (w : List ℕ) (c : ℕ) (y : List ℕ) → leading p w ≡ length w → p c ≡ false

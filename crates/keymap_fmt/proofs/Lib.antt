@@ -1,3 +1,4 @@
+pub mod Common
 pub mod Leading
 pub mod Reading
 pub mod Texts

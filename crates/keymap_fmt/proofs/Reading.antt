@@ -1,13 +1,12 @@
 -- What a text has as pieces, step by step.
-use Rattle.std.proofs.Common.{◌≡◌, ℕ, zero, suc, ◌-◌, ◌==◌, true, false, List, [], ◌∷◌, ◌++◌, length, take, drop}
-use Rattle.std.proofs.Common.{get_or, refl, sym, ◌∙◌, ap, arith, eq-eqb, slice_index}
-use Rattle.std.proofs.lemmas.Bool.Decides.{nat_tests}
-use Rattle.std.specs.List.{list_all}
+use Rattle.keymap_fmt.proofs.Common.{◌≡◌, ℕ, zero, suc, ◌-◌, ◌==◌, true, false, List, [], ◌∷◌, ◌++◌, length, take, drop}
+use Rattle.keymap_fmt.proofs.Common.{get_or, refl, sym, ◌∙◌, ap, arith, slice_index, nat_tests, list_all, is_space}
+use Rattle.keymap_fmt.proofs.Common.{is_blank, stays_on_line, leading, front_of, Found, Refused, Unfinished}
+use Rattle.keymap_fmt.proofs.Common.{TextFaultKind, TokenKind, Standing, Beside, Below, Comment, Code, PieceValue}
+use Rattle.keymap_fmt.proofs.Common.{pieces_after, lowered, comment, trimmed}
+use Rattle.std.proofs.Common.{eq-eqb}
 use Rattle.std.proofs.Math.Seq.{take-append_seam, drop-append_seam}
-use Rattle.keymap_text.specs.Lexical.{is_space, is_blank, stays_on_line, leading, front_of, Found, Refused, Unfinished}
 use Rattle.keymap_text.proofs.InFront.{front_blank, front_comment}
-use Rattle.keymap_fmt.specs.Types.{TextFaultKind, TokenKind, Standing, Beside, Below, Comment, Code}
-use Rattle.keymap_fmt.specs.Pieces.{PieceValue, pieces_after, lowered, comment, trimmed}
 use Rattle.keymap_fmt.proofs.Leading.{leading_ended, trim_kept}
 
 -- no bytes have no pieces

@@ -1,13 +1,11 @@
 -- A definition is written in the same way whatever stands before it.
-use Rattle.std.proofs.Common.{◌≡◌, ℕ, ◌&&◌, Bool, true, false, not, if◌then◌else◌, List, [], ◌∷◌, ◌++◌, replicate}
-use Rattle.std.proofs.Common.{refl, sym, ◌∙◌, ap, append_assoc, nat_lt, nat_le, slice_index}
-use Rattle.keymap_fmt.specs.Types.{TokenKind, State, Standing, Below, Code}
-use Rattle.keymap_fmt.specs.declared.layout.Row.{Row}
-use Rattle.keymap_fmt.specs.declared.layout.Row.TheVariants.{Slot, Accent}
-use Rattle.keymap_fmt.specs.Pieces.{PieceValue}
-use Rattle.keymap_fmt.specs.Layout.{is_open, is_apart, is_over, begins_line, row_of, opened, lead, advanced, width}
-use Rattle.keymap_fmt.specs.Layout.{before, after, ending, line_end, line_begun, lines_before, start}
-use Rattle.keymap_fmt.specs.Formatted.{rendered_from, rendered, state_behind}
+use Rattle.keymap_fmt.proofs.Common.{◌≡◌, ℕ, ◌&&◌, Bool, true, false, if◌then◌else◌, List, [], ◌∷◌, ◌++◌, replicate}
+use Rattle.keymap_fmt.proofs.Common.{refl, sym, ◌∙◌, ap, append_assoc, nat_lt, nat_le, slice_index, TokenKind, State}
+use Rattle.keymap_fmt.proofs.Common.{Standing, Below, Code, Row, Slot, Accent, PieceValue, is_open, is_apart, is_over}
+use Rattle.keymap_fmt.proofs.Common.{begins_line, row_of, opened, lead, advanced, width, before, after, ending}
+use Rattle.keymap_fmt.proofs.Common.{line_end, line_begun, lines_before, start, rendered_from, rendered}
+use Rattle.std.proofs.Common.{not}
+use Rattle.keymap_fmt.specs.Formatted.{state_behind}
 
 -- the state in which the first token of a definition is written
 abbrev begun_at : ℕ → Row → State

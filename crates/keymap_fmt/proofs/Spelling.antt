@@ -1,25 +1,21 @@
 -- The tokens among the pieces are those of the text, so what is written spells what the text spells.
-use Rattle.std.proofs.Common.{◌≡◌, ◌⊎◌, inl, inr, ℕ, zero, suc, ◌+◌, ◌==◌, Bool, true, false, List, [], ◌∷◌, ◌++◌}
-use Rattle.std.proofs.Common.{length, take, map, refl, sym, ◌∙◌, ap, subst, arith, add-one, if◌then◌else◌, Ok}
-use Rattle.std.proofs.lemmas.Bool.Decides.{nat_tests}
-use Rattle.std.specs.List.{flat_map}
-use Rattle.keymap_fmt.specs.Types.{TextFaultKind, TokenKind, State, Standing, AtTop, Beside, Below, Part, Comment, Code}
-use Rattle.keymap_text.specs.Lexical.{is_blank, stays_on_line, leading, front_of, Front, Skipped, Found, Refused}
-use Rattle.keymap_text.specs.Lexical.{Unfinished, TokenValue, tokens_after}
+use Rattle.keymap_fmt.proofs.Common.{◌≡◌, ◌⊎◌, inl, inr, ℕ, zero, suc, ◌+◌, ◌==◌, Bool, true, false, List, [], ◌∷◌}
+use Rattle.keymap_fmt.proofs.Common.{◌++◌, length, take, map, refl, sym, ◌∙◌, ap, subst, arith, add-one, if◌then◌else◌}
+use Rattle.keymap_fmt.proofs.Common.{Ok, nat_tests, flat_map, TextFaultKind, TokenKind, State, Standing, AtTop, Beside}
+use Rattle.keymap_fmt.proofs.Common.{Below, Part, Comment, Code, is_blank, stays_on_line, leading, front_of, Front}
+use Rattle.keymap_fmt.proofs.Common.{Skipped, Found, Refused, Unfinished, TokenValue, tokens_after, PieceValue}
+use Rattle.keymap_fmt.proofs.Common.{pieces_after, pieces, lowered, behind, before, after, line_end, start}
+use Rattle.keymap_fmt.proofs.Common.{rendered_from, formatted, part_and_bytes, leading_pass, leading_fail, skipped_by}
 use Rattle.keymap_text.specs.Meaning.{list_of, ending_of_tokens, tokens, items, item_of, ending, Spells}
 use Rattle.keymap_text.specs.Rows.{IsRow}
 use Rattle.keymap_text.specs.Words.{item}
 use Rattle.keymap_core.specs.Maps.{MapValue}
-use Rattle.keymap_fmt.specs.Pieces.{PieceValue, pieces_after, pieces, lowered, behind}
-use Rattle.keymap_fmt.specs.Layout.{before, after, ending as ending_of_part, line_end, start}
-use Rattle.keymap_fmt.specs.Formatted.{rendered_from, formatted}
-use Rattle.keymap_fmt.specs.Same.{part_and_bytes, kind_and_bytes, token_in, token_of}
-use Rattle.keymap_text.proofs.Leading.{leading_pass, leading_fail}
-use Rattle.keymap_text.proofs.InFront.{skipped_by}
+use Rattle.keymap_fmt.specs.Layout.{ending as ending_of_part}
+use Rattle.keymap_fmt.specs.Same.{kind_and_bytes, token_in, token_of}
 use Rattle.keymap_text.proofs.Splitting.{split_one, split_nil, split_comment, split_blank}
 use Rattle.keymap_fmt.proofs.Leading.{leading_ended}
-use Rattle.keymap_fmt.proofs.Reading.{BeginsBlank, ReadsToken, ReadsComment, read_nil}
-use Rattle.keymap_fmt.proofs.Reading.{read_one, read_blank, read_hash, read_token, read_refused, read_unfinished}
+use Rattle.keymap_fmt.proofs.Reading.{BeginsBlank, ReadsToken, ReadsComment, read_nil, read_one, read_blank, read_hash}
+use Rattle.keymap_fmt.proofs.Reading.{read_token, read_refused, read_unfinished}
 use Rattle.keymap_fmt.proofs.Texts.{ArePieces, no_piece, one_piece, Reads, text_pieces}
 use Rattle.keymap_fmt.proofs.Written.{AreBlanks, before_blanks, after_at, rendered_blank}
 use Rattle.keymap_fmt.proofs.Again.{parts_stay}

@@ -1,15 +1,12 @@
 -- The pieces of a text: each one reads alone, and stands where a piece can stand.
-use Rattle.std.proofs.Common.{◌≡◌, ◌⊎◌, inl, inr, ℕ, zero, suc, ◌==◌, Bool, true, false, List, [], ◌∷◌, if◌then◌else◌}
-use Rattle.std.proofs.Common.{take, refl, sym, ◌∙◌, ap, subst, length, slice_index, arith}
-use Rattle.std.proofs.lemmas.Bool.Decides.{nat_tests}
-use Rattle.std.proofs.lemmas.List.{length-take-le, get_or-take}
-use Rattle.keymap_text.specs.Lexical.{is_blank, is_space, stays_on_line, leading, front_of, Front, Skipped, Found}
-use Rattle.keymap_text.specs.Lexical.{Refused, Unfinished}
-use Rattle.keymap_text.proofs.Alone.{stands_alone}
-use Rattle.keymap_text.proofs.InFront.{skipped_by}
+use Rattle.keymap_fmt.proofs.Common.{◌≡◌, ◌⊎◌, inl, inr, ℕ, zero, suc, ◌==◌, Bool, true, false, List, [], ◌∷◌}
+use Rattle.keymap_fmt.proofs.Common.{if◌then◌else◌, take, refl, sym, ◌∙◌, ap, subst, length, slice_index, arith}
+use Rattle.keymap_fmt.proofs.Common.{nat_tests, length-take-le, is_blank, is_space, stays_on_line, leading, front_of}
+use Rattle.keymap_fmt.proofs.Common.{Front, Skipped, Found, Refused, Unfinished, stands_alone, skipped_by, TokenKind}
+use Rattle.keymap_fmt.proofs.Common.{Standing, AtTop, Beside, Below, Apart, Part, Comment, Code, PieceValue}
+use Rattle.keymap_fmt.proofs.Common.{pieces_after, lower, lowered, behind, trimmed, comment}
+use Rattle.std.proofs.lemmas.List.{get_or-take}
 use Rattle.keymap_text.proofs.Leading.{leading_front, leading_part}
-use Rattle.keymap_fmt.specs.Types.{TokenKind, Standing, AtTop, Beside, Below, Apart, Part, Comment, Code}
-use Rattle.keymap_fmt.specs.Pieces.{PieceValue, pieces_after, lower, lowered, behind, trimmed, comment}
 use Rattle.keymap_fmt.proofs.Leading.{trim_first}
 use Rattle.keymap_fmt.proofs.Reading.{ReadsToken, ReadsComment, read_nil, read_one, read_blank, read_hash, read_token}
 use Rattle.keymap_fmt.proofs.Reading.{read_refused, read_unfinished}
@@ -17,26 +14,17 @@ use Rattle.keymap_fmt.proofs.Reading.{read_refused, read_unfinished}
 -- may a piece stand at t that stands at s if nothing is before it?
 abbrev pub reaches : Standing → Standing → Bool
 reaches AtTop AtTop = true
-reaches AtTop other = false
-reaches Beside other = true
+reaches Beside t = true
 reaches Below Below = true
 reaches Below Apart = true
-reaches Below other = false
 reaches Apart Apart = true
-reaches Apart other = false
+reaches s t = false
 
 -- the end of a line leads on
 lower_reaches : (s t : Standing) → reaches (lower s) t ≡ true → reaches s t ≡ true
-lower_reaches AtTop AtTop h = refl
-lower_reaches AtTop Beside h = h
-lower_reaches AtTop Below h = h
-lower_reaches AtTop Apart h = h
 lower_reaches Beside t h = refl
-lower_reaches Below AtTop h = h
-lower_reaches Below Beside h = h
 lower_reaches Below Below h = refl
-lower_reaches Below Apart h = refl
-lower_reaches Apart t h = h
+lower_reaches s t h = h
 
 -- so does any blank
 blank_reaches : (c : ℕ) (s t : Standing) → reaches (lowered c s) t ≡ true → reaches s t ≡ true
@@ -49,9 +37,7 @@ blank_reaches c s t h = go (c == 10) refl
 -- a piece stands where nothing is before it
 reaches_itself : (s : Standing) → reaches s s ≡ true
 reaches_itself AtTop = refl
-reaches_itself Beside = refl
-reaches_itself Below = refl
-reaches_itself Apart = refl
+reaches_itself s = refl
 
 -- its bytes are the piece again
 abbrev pub Reads : Part → List ℕ → Type 0

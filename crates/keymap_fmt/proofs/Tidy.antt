@@ -1,19 +1,16 @@
 -- The lines of what is written.
-use Rattle.std.proofs.Common.{◌≡◌, inl, inr, ℕ, zero, suc, ◌==◌, ◌&&◌, Bool, true, false, if◌then◌else◌}
-use Rattle.std.proofs.Common.{List, [], ◌∷◌, ◌++◌, length, replicate, refl, sym, ◌∙◌, ap, subst, arith}
-use Rattle.std.proofs.Common.{slice_index, Option, Some, None, true≢false, append_assoc}
-use Rattle.std.specs.List.{list_all}
-use Rattle.std.proofs.lemmas.Bool.Decides.{nat_tests}
-use Rattle.keymap_fmt.specs.Types.{TokenKind, State, Standing, AtTop, Beside, Below, Apart, Part, Comment, Code}
-use Rattle.keymap_text.specs.Lexical.{is_space, stays_on_line, leading}
-use Rattle.keymap_fmt.specs.Pieces.{PieceValue, pieces, behind}
-use Rattle.keymap_fmt.specs.Layout.{is_open, begins_line, opened, lead, width, before, after, ending, line_end, start}
-use Rattle.keymap_fmt.specs.Layout.{line_begun, lines_before, comment_lead}
-use Rattle.keymap_fmt.specs.Formatted.{rendered_from, formatted}
+use Rattle.keymap_fmt.proofs.Common.{◌≡◌, inl, inr, ℕ, zero, suc, ◌==◌, ◌&&◌, Bool, true, false, if◌then◌else◌, List}
+use Rattle.keymap_fmt.proofs.Common.{[], ◌∷◌, ◌++◌, length, replicate, refl, sym, ◌∙◌, ap, subst, arith, slice_index}
+use Rattle.keymap_fmt.proofs.Common.{Option, Some, None, append_assoc, list_all, nat_tests, TokenKind}
+use Rattle.keymap_fmt.proofs.Common.{State, Standing, AtTop, Beside, Below, Apart, Part, Comment, Code, is_space}
+use Rattle.keymap_fmt.proofs.Common.{stays_on_line, leading, PieceValue, pieces, behind, is_open, begins_line, opened}
+use Rattle.keymap_fmt.proofs.Common.{lead, width, before, after, ending, line_end, start, line_begun, lines_before}
+use Rattle.keymap_fmt.proofs.Common.{comment_lead, rendered_from, formatted}
 use Rattle.keymap_fmt.specs.Lines.{Edge, Blank, Ink, LineEnd, EmptyLine, behind_byte, are_lines, HasTidyLines}
 use Rattle.keymap_text.proofs.Leading.{leading_tail}
 use Rattle.keymap_fmt.proofs.Texts.{ArePieces, no_piece, one_piece, Reads, reaches, text_pieces}
 use Rattle.keymap_fmt.proofs.Written.{IsAt, closed, after_at}
+use Rattle.std.proofs.lemmas.Bool.{and_parts}
 
 -- what stands behind some bytes
 abbrev run : Edge → List ℕ → Option Edge
@@ -24,9 +21,7 @@ run e (c ∷ cs) = elim (behind_byte e c) [ Some f ↦ run f cs | None ↦ None 
 one_passed : (e f : Edge) (c : ℕ) (y : List ℕ) → behind_byte e c ≡ Some f → are_lines e (c ∷ y) ≡ are_lines f y
 unfolding are_lines
 one_passed Blank f c y h = rw (h, are_lines) refl
-one_passed Ink f c y h = rw (h, are_lines) refl
-one_passed LineEnd f c y h = rw (h, are_lines) refl
-one_passed EmptyLine f c y h = rw (h, are_lines) refl
+one_passed e f c y h = rw (h, are_lines) refl
 
 -- some bytes
 all_passed : (g y : List ℕ) (e f : Edge) → run e g ≡ Some f → are_lines e (g ++ y) ≡ are_lines f y
@@ -39,11 +34,6 @@ all_passed (c ∷ g) y e f h = go (behind_byte e c) refl (all_passed g y) h
         → are_lines e (c ∷ (g ++ y)) ≡ are_lines f y
     go (Some d) k more l = one_passed e d c (g ++ y) k ∙ more d f l
     go None k more l = absurd (cc)
-
--- both of two tests
-both_true : (a b : Bool) → (a && b) ≡ true → (a ≡ true) × (b ≡ true)
-both_true true b h = (refl, h)
-both_true false b h = absurd (true≢false (sym h))
 
 not_end : (c : ℕ) → stays_on_line c ≡ true → (c == 10) ≡ false
 not_end c h = grind (arith, nat_tests)
@@ -60,9 +50,9 @@ ink_byte e c h k = in_line_byte e c h ∙ ap (λ b. Some (if b then Blank else I
 ink_passed : (c : ℕ) (w y : List ℕ) (e : Edge) → list_all stays_on_line (c ∷ w) ≡ true
     → is_space (slice_index (c ∷ w) (length w)) ≡ false → are_lines e (c ∷ (w ++ y)) ≡ are_lines Ink y
 ink_passed c [] y e h k =
-    let b = both_true (stays_on_line c) true h in one_passed e Ink c y (ink_byte e c b.0 k)
+    let b = and_parts (stays_on_line c) true h in one_passed e Ink c y (ink_byte e c b.0 k)
 ink_passed c (d ∷ w) y e h k =
-    let b = both_true (stays_on_line c) (list_all stays_on_line (d ∷ w)) h in
+    let b = and_parts (stays_on_line c) (list_all stays_on_line (d ∷ w)) h in
     one_passed e (if is_space c then Blank else Ink) c (d ∷ (w ++ y)) (in_line_byte e c b.0)
     ∙ ink_passed d w y (if is_space c then Blank else Ink) b.1 k
 
@@ -96,18 +86,12 @@ Runs e g = (f : Edge) × (run e g ≡ Some f)
 line_runs : (column : ℕ) (u t : Standing) → IsAt u column → reaches u t ≡ true
     → Runs (edge_at u) (line_begun column t)
 line_runs column AtTop AtTop h r = subst (λ n. Runs EmptyLine (line_begun n AtTop)) (sym h) (EmptyLine, refl)
-line_runs column AtTop Beside h r = absurd (cc)
-line_runs column AtTop Below h r = absurd (cc)
-line_runs column AtTop Apart h r = absurd (cc)
-line_runs column Below AtTop h r = absurd (cc)
-line_runs column Below Beside h r = absurd (cc)
 line_runs column Below Below h r = subst (λ n. Runs LineEnd (line_begun n Below)) (sym h) (LineEnd, refl)
 line_runs column Below Apart h r = subst (λ n. Runs LineEnd (line_begun n Apart)) (sym h) (EmptyLine, refl)
-line_runs column Beside AtTop h r = (LineEnd, rw (closed column h) refl)
-line_runs column Beside Beside h r = (LineEnd, rw (closed column h) refl)
-line_runs column Beside Below h r = (LineEnd, rw (closed column h) refl)
 line_runs column Beside Apart h r = (EmptyLine, rw (closed column h) refl)
+line_runs column Beside t h r = (LineEnd, rw (closed column h) refl)
 line_runs column Apart t h r = absurd h
+line_runs column s t h r = absurd (cc)
 
 -- the end of the open line
 below_runs : (column : ℕ) (u : Standing) → IsAt u column → Runs (edge_at u) (line_begun column Below)
@@ -118,13 +102,11 @@ below_runs column Apart h = absurd h
 
 comment_runs : (column : ℕ) (u t : Standing) → IsAt u column → reaches u t ≡ true
     → Runs (edge_at u) (comment_lead column t)
-comment_runs column u AtTop h r = line_runs column u AtTop h r
 comment_runs column u Beside h r = two (edge_at u)
   where
     two : (e : Edge) → Runs e (32 ∷ 32 ∷ [])
     two e = (Blank, refl)
-comment_runs column u Below h r = line_runs column u Below h r
-comment_runs column u Apart h r = line_runs column u Apart h r
+comment_runs column u t h r = line_runs column u t h r
 
 lines_run : (s : State) (kind : TokenKind) (u t : Standing) → IsAt u s.column → reaches u t ≡ true
     → Runs (edge_at u) (lines_before s kind t)

@@ -1,10 +1,7 @@
 -- What is written of a text, piece by piece.
-use Rattle.std.proofs.Common.{◌≡◌, ℕ, List, [], ◌∷◌, ◌++◌, sym, ◌∙◌, ap, append_assoc, ◌<◌, length, length-append}
-use Rattle.std.proofs.Common.{arith}
-use Rattle.keymap_fmt.specs.Types.{State}
-use Rattle.keymap_fmt.specs.Pieces.{PieceValue}
-use Rattle.keymap_fmt.specs.Layout.{before, after, ending, line_end}
-use Rattle.keymap_fmt.specs.Formatted.{rendered_from}
+use Rattle.keymap_fmt.proofs.Common.{◌≡◌, ℕ, List, [], ◌∷◌, ◌++◌, sym, ◌∙◌, ap, append_assoc, ◌<◌, length, arith, State}
+use Rattle.keymap_fmt.proofs.Common.{PieceValue, before, after, ending, line_end, rendered_from}
+use Rattle.std.proofs.Common.{length-append}
 
 -- one piece more is written
 pub piece_written : (laid new all : List ℕ) (s next : State) (p : PieceValue) (qs ps : List PieceValue)

@@ -1,13 +1,10 @@
 -- What is written before a piece, and how it is read again.
-use Rattle.std.proofs.Common.{◌≡◌, ℕ, zero, suc, ◌<◌, ◌==◌, Bool, true, false, if◌then◌else◌, List}
-use Rattle.std.proofs.Common.{[], ◌∷◌, ◌++◌, length, replicate, refl, sym, ◌∙◌, ap, subst, arith}
-use Rattle.std.proofs.lemmas.Bool.Decides.{nat_tests}
-use Rattle.keymap_fmt.specs.Types.{TokenKind, State, Standing, AtTop, Beside, Below, Apart, Part, Comment, Code}
-use Rattle.keymap_text.specs.Lexical.{is_blank}
-use Rattle.keymap_fmt.specs.Pieces.{PieceValue, pieces_after, lowered, behind}
-use Rattle.keymap_fmt.specs.Layout.{begins_line, is_open, is_apart, opened, lead, width, after, line_end, line_begun}
-use Rattle.keymap_fmt.specs.Layout.{lines_before, comment_lead, before}
-use Rattle.keymap_fmt.specs.Formatted.{rendered_from}
+use Rattle.keymap_fmt.proofs.Common.{◌≡◌, ℕ, zero, suc, ◌<◌, ◌==◌, Bool, true, false, if◌then◌else◌, List, [], ◌∷◌}
+use Rattle.keymap_fmt.proofs.Common.{◌++◌, length, replicate, refl, sym, ◌∙◌, ap, subst, arith, nat_tests, TokenKind}
+use Rattle.keymap_fmt.proofs.Common.{State, Standing, AtTop, Beside, Below, Apart, Part, Comment, Code, is_blank}
+use Rattle.keymap_fmt.proofs.Common.{PieceValue, pieces_after, lowered, behind, begins_line, is_open, is_apart, opened}
+use Rattle.keymap_fmt.proofs.Common.{lead, width, after, line_end, line_begun, lines_before, comment_lead, before}
+use Rattle.keymap_fmt.proofs.Common.{rendered_from}
 use Rattle.keymap_fmt.proofs.Reading.{BeginsBlank, read_blank, read_nil}
 use Rattle.keymap_fmt.proofs.Texts.{reaches}
 
@@ -64,10 +61,8 @@ line_begun_blanks column t = blanks_append (line_end column) _ (line_end_blanks 
     go false = tt
 
 comment_blanks : (column : ℕ) (t : Standing) → AreBlanks (comment_lead column t)
-comment_blanks column AtTop = line_begun_blanks column AtTop
 comment_blanks column Beside = (refl, (refl, tt))
-comment_blanks column Below = line_begun_blanks column Below
-comment_blanks column Apart = line_begun_blanks column Apart
+comment_blanks column t = line_begun_blanks column t
 
 lines_blanks : (s : State) (kind : TokenKind) (t : Standing) → AreBlanks (lines_before s kind t)
 lines_blanks s kind t = go (begins_line s kind)
@@ -100,20 +95,14 @@ line_again : (column : ℕ) (s t : Standing) → IsAt s column → reaches s t �
     → line_begun column (lowered_by (line_begun column t) s) ≡ line_begun column t
 line_again column AtTop AtTop h r = subst
     (λ n. line_begun n (lowered_by (line_begun n AtTop) AtTop) ≡ line_begun n AtTop) (sym h) refl
-line_again column AtTop Beside h r = absurd (cc)
-line_again column AtTop Below h r = absurd (cc)
-line_again column AtTop Apart h r = absurd (cc)
-line_again column Below AtTop h r = absurd (cc)
-line_again column Below Beside h r = absurd (cc)
 line_again column Below Below h r = subst
     (λ n. line_begun n (lowered_by (line_begun n Below) Below) ≡ line_begun n Below) (sym h) refl
 line_again column Below Apart h r = subst
     (λ n. line_begun n (lowered_by (line_begun n Apart) Below) ≡ line_begun n Apart) (sym h) refl
-line_again column Beside AtTop h r = rw (closed column h) refl
-line_again column Beside Beside h r = rw (closed column h) refl
-line_again column Beside Below h r = rw (closed column h) refl
 line_again column Beside Apart h r = rw (closed column h) refl
+line_again column Beside t h r = rw (closed column h) refl
 line_again column Apart t h r = absurd h
+line_again column s t h r = absurd (cc)
 
 -- what stands behind the end of the open line
 below_line : (column : ℕ) → 0 < column → lowered_by (line_begun column Below) Beside ≡ Below
@@ -127,11 +116,6 @@ comment_again : (column : ℕ) (s t : Standing) → IsAt s column → reaches s 
     → comment_lead column (lowered_by (comment_lead column t) s) ≡ comment_lead column t
 comment_again column AtTop AtTop h r = subst
     (λ n. comment_lead n (lowered_by (comment_lead n AtTop) AtTop) ≡ comment_lead n AtTop) (sym h) refl
-comment_again column AtTop Beside h r = absurd (cc)
-comment_again column AtTop Below h r = absurd (cc)
-comment_again column AtTop Apart h r = absurd (cc)
-comment_again column Below AtTop h r = absurd (cc)
-comment_again column Below Beside h r = absurd (cc)
 comment_again column Below Below h r = subst
     (λ n. comment_lead n (lowered_by (comment_lead n Below) Below) ≡ comment_lead n Below) (sym h) refl
 comment_again column Below Apart h r = subst
@@ -141,6 +125,7 @@ comment_again column Beside Beside h r = refl
 comment_again column Beside Below h r = ap (comment_lead column) (below_line column h)
 comment_again column Beside Apart h r = ap (comment_lead column) (apart_line column h)
 comment_again column Apart t h r = absurd h
+comment_again column s t h r = absurd (cc)
 
 -- likewise a token
 lines_again : (s : State) (kind : TokenKind) (u t : Standing) → IsAt u s.column → reaches u t ≡ true
@@ -185,10 +170,8 @@ line_begun_some : (column : ℕ) (t : Standing) → 0 < column → 0 < length (l
 line_begun_some column t h = rw (closed column h) (omega arith)
 
 comment_some : (column : ℕ) (t : Standing) → 0 < column → 0 < length (comment_lead column t)
-comment_some column AtTop h = line_begun_some column AtTop h
 comment_some column Beside h = omega arith
-comment_some column Below h = line_begun_some column Below h
-comment_some column Apart h = line_begun_some column Apart h
+comment_some column t h = line_begun_some column t h
 
 some_behind : (g : List ℕ) (n : ℕ) → 0 < n → 0 < length (g ++ replicate n 32)
 some_behind [] zero h = absurd (omega (arith, h))

@@ -1,9 +1,9 @@
 -- Loops that put one list together, element by element.
-use Rattle.std.proofs.Common.{◌≡◌, ◌+◌, ℕ, List, [], ◌∷◌, ◌++◌, map, ap, sym, ◌∙◌, arith, append_assoc}
-use Rattle.std.specs.List.{range_with_len}
+use Rattle.keymap_lint.proofs.Common.{◌≡◌, ◌+◌, ℕ, List, [], ◌∷◌, ◌++◌, map, ap, sym, ◌∙◌, arith, range_with_len}
+use Rattle.keymap_lint.proofs.Common.{gathered}
+use Rattle.std.proofs.Common.{append_assoc}
 use Rattle.std.proofs.lemmas.List.{append-nil}
 use Rattle.std.proofs.lemmas.List.FromFn.{map-range_with_len_more}
-use Rattle.keymap_core.specs.Below.{gathered}
 use Rattle.keymap_core.proofs.Below.{gathered-none, gathered-more}
 
 -- one more element behind those of the numbers below n

@@ -1,15 +1,12 @@
 -- Where no cell is a dead key of an accent that isn't defined, no accent is missing.
-use Rattle.std.proofs.Common.{◌≡◌, ℕ, Bool, true, false, List, [], ◌∷◌, ◌++◌, None, Some, Option, cond, refl, ap, sym}
-use Rattle.std.proofs.Common.{◌∙◌, zero, suc, arith, ◌||◌}
-use Rattle.std.specs.Prelude.{◌&&◌, not}
-use Rattle.std.specs.List.{find}
+use Rattle.keymap_lint.proofs.Common.{◌≡◌, ℕ, Bool, true, false, List, [], ◌∷◌, ◌++◌, None, Some, Option, cond, refl}
+use Rattle.keymap_lint.proofs.Common.{ap, sym, ◌∙◌, arith, ◌&&◌, not, find, gathered, Spelled, is_missing, is_given}
+use Rattle.keymap_lint.proofs.Common.{is_defined, missing_accent}
+use Rattle.std.proofs.Common.{zero, suc, ◌||◌}
 use Rattle.std.specs.Option.{is_some}
 use Rattle.std.proofs.lemmas.Bool.Decides.{nat_tests}
-use Rattle.keymap_core.specs.Below.{gathered}
-use Rattle.keymap_lint.specs.Spelled.{Spelled}
 use Rattle.keymap_lint.specs.declared.cells.CellInForce.{CellInForce}
-use Rattle.keymap_lint.specs.Kinds.{is_the, is_missing_of, is_missing, is_given, is_defined, live_accent}
-use Rattle.keymap_lint.specs.Kinds.{missing_accent}
+use Rattle.keymap_lint.specs.Kinds.{is_the, is_missing_of, live_accent}
 
 defined_there : (b : Bool) → not b ≡ false → b ≡ true
 defined_there true h = refl

@@ -1,50 +1,51 @@
 -- Some diagnostic names a key exactly if the check has findings.
+use Rattle.keymap_lint.proofs.Common.{◌≡◌, ℕ, ◌+◌, ◌<◌, Bool, true, false, ◌&&◌, not, cond, List, [], ◌∷◌, ◌++◌, length}
+use Rattle.keymap_lint.proofs.Common.{map, get_or, refl, sym, ◌∙◌, ap, subst, arith, Option, Some, None, find, flat_map}
+use Rattle.keymap_lint.proofs.Common.{range_with_len, true≢false, gathered, Faulty, Slot, Placed, Diagnostic, is_given}
+use Rattle.keymap_lint.proofs.Common.{mixed_key, missing_slot, selects, again, digit, zero_accent, pair_again}
+use Rattle.keymap_lint.proofs.Common.{accent_pairs, is_missing, is_above_in_force, has_base, get_or-map-range_with_len}
+use Rattle.keymap_lint.proofs.Common.{MapValue, last_of, Spelled, cell_in, cells_of}
 use Prim.Native.Nat.{zero, suc}
-use Rattle.std.proofs.Common.{◌≡◌, ◌↔◌, ℕ, ◌+◌, ◌-◌, ◌<◌, Bool, true, false, ◌||◌, ◌&&◌, not, cond, List, [], ◌∷◌, ◌++◌}
-use Rattle.std.proofs.Common.{length, map, get_or, refl, sym, ◌∙◌, ap, subst, arith, Option, Some, None, inl, inr, ◌==◌}
-use Rattle.std.specs.List.{find, flat_map, list_any, range_with_len, Any, Contains}
+use Rattle.std.proofs.Common.{◌↔◌, ◌-◌, ◌||◌, inl, inr, ◌==◌}
+use Rattle.std.specs.List.{list_any, Any, Contains}
 use Rattle.std.specs.Option.{is_some, option_or, option_to_list}
 use Rattle.std.specs.Prelude.{nat_lt}
-use Rattle.std.proofs.lemmas.Bool.{true≢false, or_cases, or_left, or_right, or_from, and_parts, and_from, lt-ltb}
-use Rattle.std.proofs.lemmas.Bool.{le-ltb, eqb-true, eq-eqb, not_from_false, cases_Bool}
+use Rattle.std.proofs.lemmas.Bool.{or_cases, or_left, or_right, or_from, and_parts, and_from, lt-ltb, le-ltb, eqb-true}
+use Rattle.std.proofs.lemmas.Bool.{eq-eqb, not_from_false, cases_Bool}
 use Rattle.std.proofs.lemmas.List.{get_or-replicate, length-append}
 use Rattle.std.proofs.lemmas.List.Elements.{All-head}
 use Rattle.std.proofs.lemmas.List.Sorted.{IsPermutation-sym, Contains-permutation}
 use Rattle.std.specs.List.Sorted.{IsPermutation}
 use Rattle.keymap_core.specs.Accents.{AccentValue, own_of}
-use Rattle.keymap_core.specs.Below.{first_below, gathered}
+use Rattle.keymap_core.specs.Below.{first_below}
 use Rattle.keymap_core.specs.Bearers.{IsCellOf, IsUpperLive}
 use Rattle.keymap_check.specs.Findings.{AreFindings, IsFinding, IsPlaceOf}
 use Rattle.console_core.specs.Headline.{IsSafe}
 use Rattle.keymap_text.proofs.InForce.{no_slot}
 use Rattle.keymap_text.proofs.Verdicts.{one_map, not_both}
-use Rattle.keymap_lint.specs.Types.{Diagnostics, Faulty, Spelled as OfSpelled, Holding, Cell, Char, Act, Finding}
-use Rattle.keymap_lint.specs.Types.{Defined, Slot, Accent, Placed, CellInForce, Diagnostic}
-use Rattle.keymap_lint.specs.Kinds.{is_zero, is_given, at, defines, is_mixed, mixed_by, mixed_key, mixed_keys, nul_keys}
-use Rattle.keymap_lint.specs.Kinds.{character_of, is_greatest, other_slot, missing_slot, missing_slots, selects}
-use Rattle.keymap_lint.specs.Kinds.{selector, selector_of, half, half_at, half_by, half_defined, is_some_in, no_key}
-use Rattle.keymap_lint.specs.Kinds.{no_shift, defined_again, dead_key, zero_accents, pairs_again, unused_half}
-use Rattle.keymap_lint.specs.Kinds.{bare_digits, again, again_by, digit, digit_by, zero_by, zero_accent, pair_by}
-use Rattle.keymap_lint.specs.Kinds.{pair_again, pairs_by, accent_pairs, has_keys, has_shift, unused_by, dead_key_by}
-use Rattle.keymap_lint.specs.Kinds.{is_missing, is_above_in_force, base_at, has_base}
+use Rattle.keymap_lint.specs.Types.{Diagnostics, Spelled as OfSpelled, Holding, Cell, Char, Act, Finding, Defined}
+use Rattle.keymap_lint.specs.Types.{Accent, CellInForce}
+use Rattle.keymap_lint.specs.Kinds.{is_zero, at, defines, is_mixed, mixed_by, mixed_keys, nul_keys, character_of}
+use Rattle.keymap_lint.specs.Kinds.{is_greatest, other_slot, missing_slots, selector, selector_of, half, half_at}
+use Rattle.keymap_lint.specs.Kinds.{half_by, half_defined, is_some_in, no_key, no_shift, defined_again, dead_key}
+use Rattle.keymap_lint.specs.Kinds.{zero_accents, pairs_again, unused_half, bare_digits, again_by, digit_by, zero_by}
+use Rattle.keymap_lint.specs.Kinds.{pair_by, pairs_by, has_keys, has_shift, unused_by, dead_key_by, base_at}
 use Rattle.keymap_lint.specs.Lists.{AreOf, spelled_by, all_of, of_keys, of_definitions, of_rest}
 use Rattle.keymap_lint.specs.Promises.{names_keys, KeysAreNamedExactlyIfRefused, names_a_key}
 use Rattle.std.proofs.lemmas.List.Folds.{list_any-append, list_any_at, Any-from_list_any, list_any-from_Any}
-use Rattle.std.proofs.lemmas.List.FromFn.{get_or-map-range_with_len}
 use Rattle.keymap_core.specs.declared.action.Action.{Action}
-use Rattle.keymap_core.specs.declared.action.Action.TheVariants as act
-use Rattle.keymap_core.specs.declared.action.Modifier.TheVariants as modifier
-use Rattle.keymap_core.specs.declared.action.Lock.TheVariants as lock
 use Rattle.keymap_core.specs.Actions.{holding_action}
 use Rattle.keymap_core.specs.Borne.{is_upper_live}
-use Rattle.keymap_core.specs.Maps.{MapValue, accent_at, cell_at, entry_at, undefined}
+use Rattle.keymap_core.specs.Maps.{accent_at, cell_at, entry_at, undefined}
 use Rattle.keymap_core.proofs.Below.{gathered-more, gathered-le}
 use Rattle.keymap_core.proofs.BorneTests.{upper-is_live}
 use Rattle.keymap_check.specs.declared.finding.Place.{Place}
-use Rattle.keymap_text.specs.Placed.{last_of, is_same}
+use Rattle.keymap_text.specs.Placed.{is_same}
+use Rattle.keymap_lint.specs.Spelled.{offset_at, cells_defined, cells_in_force, is_in_force, is_last, content}
+use Rattle.keymap_core.specs.declared.action.Action.TheVariants as act
+use Rattle.keymap_core.specs.declared.action.Modifier.TheVariants as modifier
+use Rattle.keymap_core.specs.declared.action.Lock.TheVariants as lock
 use Rattle.keymap_lint.specs.declared.diagnostic.Kind.TheVariants as kinds
-use Rattle.keymap_lint.specs.Spelled.{Spelled, offset_at, cell_in, cells_defined, cells_of, cells_in_force, is_in_force}
-use Rattle.keymap_lint.specs.Spelled.{is_last, content}
 
 -- whether a diagnostic names a key
 abbrev pub names : Diagnostic → Bool
@@ -103,8 +104,7 @@ find_some {X} p (x ∷ xs) h = go (p x) refl (find_some p xs) h
 -- what one number gives is among what is gathered
 gathered_some : {Y : Type 0} (f : ℕ → List Y) (i n : ℕ) → i < n → 0 < length (f i) → 0 < length (gathered f n)
 gathered_some f i n l h =
-    let here : length (gathered f (i + 1)) ≡ length (gathered f i) + length (f i) =
-    ap length (gathered-more f i) ∙ length-append (gathered f i) (f i) in
+    let here = ap length (gathered-more f i) ∙ length-append (gathered f i) (f i) in
     omega (arith, gathered-le f (i + 1) n (omega arith))
 
 -- ---- definitions
@@ -243,9 +243,8 @@ other_is m k p q low (few, inr (live, a)) (many, inr (alive, b)) ne = absurd (ne
 half_names : (t : Spelled) → HasUndefined t → (f : Finding) (fs : List Finding) → IsFinding t.map f
     → is_mixed t f ≡ false → list_any names (half_defined t (cells_in_force t) (f ∷ fs)) ≡ true
 half_names t h f fs is mixed =
-    let p : (p : Placed) × (last_of (Slot f.holding_at.slot) t.definitions ≡ Some p) =
-    acting_defined t h f.holding_at.slot f.holding_at.column is.first_holding.0.0
-    (holding_action f.holding) is.holding in
+    let p = acting_defined t h f.holding_at.slot f.holding_at.column is.first_holding.0.0 (holding_action f.holding)
+    is.holding in
     let held : defines t f.holding_at.slot ≡ true = ap is_some p.1 in
     let nul : defines t f.character_at.slot ≡ false =
     sym (ap (λ b. b && defines t f.character_at.slot) held) ∙ mixed in

@@ -1,58 +1,58 @@
 -- The diagnostics stand in the text, at what they tell of.
+use Rattle.keymap_lint.proofs.Common.{◌≡◌, ℕ, ◌+◌, ◌<◌, ◌≤◌, Bool, true, false, ◌&&◌, not, cond, List, [], ◌∷◌, ◌++◌}
+use Rattle.keymap_lint.proofs.Common.{length, map, take, get_or, refl, sym, ◌∙◌, ap, subst, arith, Option, Some, None}
+use Rattle.keymap_lint.proofs.Common.{find, flat_map, range_with_len, true≢false, get_or-map-range_with_len, Slot}
+use Rattle.keymap_lint.proofs.Common.{Placed, Diagnostic, Faulty, gathered, MapValue, last_of, mixed_key, selects}
+use Rattle.keymap_lint.proofs.Common.{again, is_missing, is_defined, zero_accent, is_given, pair_again, accent_pairs}
+use Rattle.keymap_lint.proofs.Common.{has_base, is_above_in_force, digit, Spelled, cell_in, cells_of}
 use Prim.Native.Nat.{zero, suc}
-use Rattle.std.proofs.Common.{◌≡◌, ℕ, ◌+◌, ◌-◌, ◌*◌, ◌<◌, ◌≤◌, Bool, true, false, ◌&&◌, not, cond, List, [], ◌∷◌, ◌++◌}
-use Rattle.std.proofs.Common.{length, map, take, drop, get_or, refl, sym, ◌∙◌, ap, subst, arith, Option, Some, None}
-use Rattle.std.proofs.Common.{inl, inr, All, Result, Ok, Err, ◌==◌, IfSome, nat_lt, length-drop}
-use Rattle.std.specs.List.{find, flat_map, range_with_len}
+use Rattle.std.proofs.Common.{◌-◌, ◌*◌, drop, inl, inr, All, Result, Ok, Err, ◌==◌, IfSome, nat_lt, length-drop}
 use Rattle.std.specs.Option.{option_to_list}
-use Rattle.std.proofs.lemmas.Bool.{true≢false, cases_lt, eqb-true}
+use Rattle.std.proofs.lemmas.Bool.{cases_lt, eqb-true}
 use Rattle.std.proofs.lemmas.List.{get_or_past, get_or-map, get_or-take, get_or-drop, length-take, length-map}
-use Rattle.std.proofs.lemmas.List.Elements.{All-weaker, All-contains, All-nil, All-cons, All-head, All-tail}
-use Rattle.std.proofs.lemmas.List.Elements.{All-append, Contains-get_or}
-use Rattle.std.proofs.lemmas.List.FromFn.{get_or-map-range_with_len, length-map-range_with_len}
+use Rattle.std.proofs.lemmas.List.Elements.{All-weaker, All-contains, All-nil, All-cons, All-head, All-tail, All-append}
+use Rattle.std.proofs.lemmas.List.Elements.{Contains-get_or}
+use Rattle.std.proofs.lemmas.List.FromFn.{length-map-range_with_len}
 use Rattle.std.proofs.lemmas.List.Sorted.{All-permutation}
-use Rattle.keymap_core.specs.declared.action.Action.TheVariants as act
-use Rattle.keymap_core.specs.declared.action.Modifier.TheVariants as modifier
-use Rattle.keymap_core.specs.declared.action.Lock.TheVariants as lock
-use Rattle.keymap_lint.specs.Types.{Holding, Cell, Char, Act, Finding, Defined, Slot, Accent, Placed, Span, CellInForce}
-use Rattle.keymap_lint.specs.Types.{Diagnostic, Lint, Faulty, Spelled as OfSpelled}
-use Rattle.keymap_core.specs.declared.action.Holding.TheVariants as holding
+use Rattle.keymap_lint.specs.Types.{Holding, Cell, Char, Act, Finding, Defined, Accent, Span, CellInForce, Lint}
+use Rattle.keymap_lint.specs.Types.{Spelled as OfSpelled}
 use Rattle.keymap_core.specs.declared.entry.Entry.{Entry}
 use Rattle.keymap_core.specs.Accents.{AccentValue, own_of}
 use Rattle.keymap_core.specs.Actions.{holding_action}
-use Rattle.keymap_core.specs.Below.{gathered, first_below}
+use Rattle.keymap_core.specs.Below.{first_below}
 use Rattle.keymap_core.specs.Borne.{is_upper_live, any_below}
-use Rattle.keymap_core.specs.Maps.{MapValue, accent_at, cell_at, undefined}
+use Rattle.keymap_core.specs.Maps.{accent_at, cell_at, undefined}
 use Rattle.keymap_check.specs.Findings.{IsFinding}
 use Rattle.keymap_text.specs.declared.token.TokenKind.TheVariants.{Word}
 use Rattle.keymap_text.specs.Items.{cell}
 use Rattle.keymap_text.specs.Lexical.{TokenValue}
 use Rattle.keymap_text.specs.Meaning.{item_of, tokens}
-use Rattle.keymap_text.specs.Placed.{Row, IsSpelledBy, IsPlaced, span_of, places_of, last_of, begins}
+use Rattle.keymap_text.specs.Placed.{Row, IsSpelledBy, IsPlaced, span_of, places_of, begins}
 use Rattle.keymap_text.specs.Rows.{Defines, KeyDefinition}
 use Rattle.keymap_text.specs.declared.fault.TextFaultKind.{TextFaultKind}
 use Rattle.keymap_text.specs.declared.wanted.DefinitionStart.{DefinitionStart}
-use Rattle.keymap_text.specs.Places.{RowPlace, AtDefinition, AtCell, AtLock, AtAccentCharacter, AfterPairs, AtBase}
-use Rattle.keymap_text.specs.Places.{AtResult, AtPairEnd, next}
+use Rattle.keymap_text.specs.Places.{RowPlace, AtDefinition, AtLock, AfterPairs, next}
 use Rattle.keymap_text.specs.Wanted.{definition_by, definition_behind, first_refused}
 use Rattle.keymap_text.proofs.InForce.{slot_in_force}
 use Rattle.keymap_text.proofs.Verdicts.{fault_to, fault_within}
 use Rattle.keymap_text.proofs.Parts.{slot_tokens}
-use Rattle.keymap_text.proofs.Parts as parts
 use Rattle.keymap_text.proofs.TokenPlaces.{tokens_are_placed}
-use Rattle.keymap_lint.specs.declared.diagnostic.Kind.TheVariants as kinds
-use Rattle.keymap_lint.specs.Kinds.{at, nowhere, no_key, no_shift, has_keys, has_shift, mixed_by, mixed_key, mixed_keys}
-use Rattle.keymap_lint.specs.Kinds.{is_mixed, character_of, is_greatest, half_at, half_by, half_defined, selects}
-use Rattle.keymap_lint.specs.Kinds.{selector, selector_of, is_some_in, missing_slots, nul_keys, again, again_by}
-use Rattle.keymap_lint.specs.Kinds.{defined_again, dead_key, dead_key_by, dead_key_of, live_accent, is_missing}
-use Rattle.keymap_lint.specs.Kinds.{is_missing_of, is_defined, zero_by, zero_accent, zero_accents, is_zero, is_given}
-use Rattle.keymap_lint.specs.Kinds.{pair_by, pair_again, pairs_by, accent_pairs, pairs_again, base_at, has_base, paren}
-use Rattle.keymap_lint.specs.Kinds.{unused_by, unused_half, is_above_in_force, digit, digit_by, bare_digits}
+use Rattle.keymap_lint.specs.Kinds.{at, nowhere, no_key, no_shift, has_keys, has_shift, mixed_by, mixed_keys, is_mixed}
+use Rattle.keymap_lint.specs.Kinds.{character_of, is_greatest, half_at, half_by, half_defined, selector, selector_of}
+use Rattle.keymap_lint.specs.Kinds.{is_some_in, missing_slots, nul_keys, again_by, defined_again, dead_key, dead_key_by}
+use Rattle.keymap_lint.specs.Kinds.{dead_key_of, live_accent, is_missing_of, zero_by, zero_accents, is_zero, pair_by}
+use Rattle.keymap_lint.specs.Kinds.{pairs_by, pairs_again, base_at, paren, unused_by, unused_half, digit_by}
+use Rattle.keymap_lint.specs.Kinds.{bare_digits}
 use Rattle.keymap_lint.specs.Lists.{spelled_by, all_of, of_keys, of_definitions, of_rest, IsLint}
-use Rattle.keymap_lint.specs.Positions.{SpellsCell, CellsInForceAreSpelled, StandsWithin}
-use Rattle.keymap_lint.specs.Positions.{DiagnosticsStandInTheText, IsWithin, LiesWithin}
-use Rattle.keymap_lint.specs.Spelled.{Spelled, offset_at, cell_in, cells_defined, cells_of, cells_in_force, is_in_force}
-use Rattle.keymap_lint.specs.Spelled.{is_last, content, is_live}
+use Rattle.keymap_lint.specs.Positions.{SpellsCell, CellsInForceAreSpelled, StandsWithin, DiagnosticsStandInTheText}
+use Rattle.keymap_lint.specs.Positions.{IsWithin, LiesWithin}
+use Rattle.keymap_lint.specs.Spelled.{offset_at, cells_defined, cells_in_force, is_in_force, is_last, content, is_live}
+use Rattle.keymap_core.specs.declared.action.Action.TheVariants as act
+use Rattle.keymap_core.specs.declared.action.Modifier.TheVariants as modifier
+use Rattle.keymap_core.specs.declared.action.Lock.TheVariants as lock
+use Rattle.keymap_core.specs.declared.action.Holding.TheVariants as holding
+use Rattle.keymap_text.proofs.Parts as parts
+use Rattle.keymap_lint.specs.declared.diagnostic.Kind.TheVariants as kinds
 
 -- ---- tokens
 
@@ -99,8 +99,7 @@ spelled_at text m rows by slot p e column few =
     let d : Defines (map item_of row) (KeyDefinition slot entry) = slot_in_force text m rows by slot p e in
     let ten : length row ≡ 10 = sym (length-map row item_of) ∙ slot_tokens (map item_of row) slot entry d in
     let some : length row ≤ length (drop p.first (tokens text)) = rw length-take (omega arith) in
-    let less : length (drop p.first (tokens text)) ≡ length (tokens text) - p.first = length-drop p.first
-    (tokens text) in
+    let less = length-drop p.first (tokens text) in
     let there : p.first + (1 + column) < length (tokens text) = omega (arith, ten, some, less) in
     let token : TokenValue = get_or (tokens text) (p.first + (1 + column)) nothing in
     let same : get_or row (column + 1) nothing ≡ token =
@@ -108,8 +107,7 @@ spelled_at text m rows by slot p e column few =
     ∙ get_or-drop p.first (tokens text) (column + 1) nothing
     ∙ ap (λ n. get_or (tokens text) n nothing) (omega arith) in
     let short : column + 1 < length row = omega (arith, ten) in
-    let its : get_or (map item_of row) (column + 1) (item_of nothing) ≡ item_of token =
-    get_or-map item_of row (column + 1) nothing (item_of nothing) short ∙ ap item_of same in
+    let its = get_or-map item_of row (column + 1) nothing (item_of nothing) short ∙ ap item_of same in
     record {
       token = token;
       among = Contains-get_or (tokens text) (p.first + (1 + column)) nothing there;
@@ -135,6 +133,11 @@ all_gathered P f h (suc n) = All-append P (gathered f n) (f n) (all_gathered P f
 
 all_one : {Y : Type 0} (P : Y → Type 0) (y : Y) → P y → All P (y ∷ [])
 all_one P y h = All-cons P y [] h (All-nil P)
+
+-- what is said only if the test says so
+all_if : {Y : Type 0} (P : Y → Type 0) (b : Bool) (y : Y) → P y → All P (option_to_list (cond b (Some y) None))
+all_if P true y h = all_one P y h
+all_if P false y h = All-nil P
 
 pub cells_in_force_are_spelled : CellsInForceAreSpelled
 cells_in_force_are_spelled text m rows by =
@@ -253,8 +256,7 @@ all_of_text text m rows by fs are =
     -- the place of a cell lies in the text
     low : (place : ℕ) (x : Cell) → SpellsCell text place x → place ≤ length text
     low place x h =
-        let p : IsPlaced text h.token = All-contains (IsPlaced text) (tokens text) h.token
-        (tokens_are_placed text) h.among in
+        let p = All-contains (IsPlaced text) (tokens text) h.token (tokens_are_placed text) h.among in
         omega (arith, p.within, h.start)
 
     mixed : (f : Finding) → IsFinding m f → All S (mixed_key t fs f)
@@ -263,24 +265,15 @@ all_of_text text m rows by fs are =
         go : (o : Option Placed) → last_of (Slot f.holding_at.slot) t.definitions ≡ o
             → All S (option_to_list (mixed_by t fs f o))
         go None e = All-nil S
-        go (Some p) e = by_test (is_mixed t f)
-          where
-            place : ℕ
-            place = offset_at t (p.first + (1 + f.holding_at.column))
-
-            d : Diagnostic
-            d =
-                at place (kinds.MixedKey f (character_of (cell_at m f.character_at.slot f.character_at.column))
-                (is_greatest t fs f.key))
-
-            here : SpellsCell text place (Act (holding_action f.holding))
-            here =
-                subst (SpellsCell text place) is.holding
-                (spelled_at text m rows by f.holding_at.slot p e f.holding_at.column is.first_holding.0.0)
-
-            by_test : (b : Bool) → All S (option_to_list (cond b (Some d) None))
-            by_test true = all_one S d ((w (p.first + (1 + f.holding_at.column)), tt), here)
-            by_test false = All-nil S
+        go (Some p) e =
+            let place : ℕ = offset_at t (p.first + (1 + f.holding_at.column)) in
+            all_if S (is_mixed t f)
+            (at place (kinds.MixedKey f (character_of (cell_at m f.character_at.slot f.character_at.column))
+            (is_greatest t fs f.key))) (
+              (w (p.first + (1 + f.holding_at.column)), tt),
+              subst (SpellsCell text place) is.holding
+                  (spelled_at text m rows by f.holding_at.slot p e f.holding_at.column is.first_holding.0.0),
+            )
 
     halves : (slots keys has_mixed : Bool) (o : Option CellInForce) → find (selects t) cells ≡ o
         → All S (option_to_list (cond slots (half_at t keys has_mixed o) None))
@@ -336,14 +329,9 @@ all_of_text text m rows by fs are =
 
     zero : (i : ℕ) (o : Option Placed) → All S (option_to_list (zero_by t cells i o))
     zero i None = All-nil S
-    zero i (Some p) = go (is_zero (own_of (accent_at m i)) && is_given t cells i)
-      where
-        d : Diagnostic
-        d = at (offset_at t (p.first + 1)) (kinds.ZeroAccent i)
-
-        go : (b : Bool) → All S (option_to_list (cond b (Some d) None))
-        go true = all_one S d ((w (p.first + 1), tt), tt)
-        go false = All-nil S
+    zero i (Some p) =
+        all_if S (is_zero (own_of (accent_at m i)) && is_given t cells i)
+        (at (offset_at t (p.first + 1)) (kinds.ZeroAccent i)) ((w (p.first + 1), tt), tt)
 
     pair : (i first : ℕ) (ps : List (ℕ × ℕ)) (j : ℕ) (o : Option ℕ)
         → All S (option_to_list (pair_by t i first (base_at ps j) j o))
@@ -366,14 +354,9 @@ all_of_text text m rows by fs are =
 
     digits : (c : CellInForce) (x : Cell) → SpellsCell text c.span.start x → All S (option_to_list (digit_by c x))
     digits c (Act a) h = All-nil S
-    digits c (Char n) h = go (c.span.end - c.span.start == 1)
-      where
-        d : Diagnostic
-        d = at c.span.start (kinds.BareDigit n)
-
-        go : (b : Bool) → All S (option_to_list (cond b (Some d) None))
-        go true = all_one S d ((low c.span.start (Char n) h, tt), h)
-        go false = All-nil S
+    digits c (Char n) h =
+        all_if S (c.span.end - c.span.start == 1) (at c.span.start (kinds.BareDigit n))
+        ((low c.span.start (Char n) h, tt), h)
 
 -- ---- a fault
 
@@ -395,11 +378,7 @@ begun_behind : (text : List ℕ) (p : RowPlace) (d : Option DefinitionStart) (to
 begun_behind text AtDefinition d token offset h l = begun_by text d token offset h l
 begun_behind text (AfterPairs n) d token offset h l = begun_by text d token offset h l
 begun_behind text AtLock d token offset h l = tt
-begun_behind text (AtCell n) d token offset h l = h
-begun_behind text AtAccentCharacter d token offset h l = h
-begun_behind text (AtBase n) d token offset h l = h
-begun_behind text (AtResult n) d token offset h l = h
-begun_behind text (AtPairEnd n) d token offset h l = h
+begun_behind text _ d token offset h l = h
 
 abbrev TellsPlaces : List ℕ → RowPlace × Option DefinitionStart × ℕ → Type 0
 TellsPlaces text r = BeginsWithin text r.1 × (r.2 ≤ length text)

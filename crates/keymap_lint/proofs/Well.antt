@@ -1,43 +1,33 @@
 -- Where no diagnostic is an error, no modifier sticks.
-use Rattle.std.proofs.Common.{◌≡◌, Bool, true, false, List, [], ◌∷◌, ap, subst, sym, ◌∙◌, Option, Some, None, refl}
+use Rattle.keymap_lint.proofs.Common.{◌≡◌, Bool, true, false, List, [], ◌∷◌, ap, subst, sym, ◌∙◌, Option, Some, None}
+use Rattle.keymap_lint.proofs.Common.{refl, true≢false, MapValue, Diagnostic, Faulty}
 use Rattle.std.specs.List.{list_any}
-use Rattle.std.proofs.lemmas.Bool.{true≢false, or_parts, or_from}
-use Rattle.keymap_core.specs.Maps.{MapValue}
-use Rattle.keymap_lint.specs.Types.{Sticking, Diagnostic, Kind, Diagnostics, Faulty, Spelled}
+use Rattle.std.proofs.lemmas.Bool.{or_parts, or_from}
+use Rattle.keymap_lint.specs.Types.{Sticking, Kind, Diagnostics, Spelled}
 use Rattle.console_core.specs.declared.outcome.Sticking.TheVariants.{Sticks, Never, Undecided}
-use Rattle.console_core.specs.History.{in_force, is_on_after}
-use Rattle.console_core.specs.Headline.{IsSafe, IsOnOnlyWhilePressed}
+use Rattle.console_core.specs.History.{in_force}
+use Rattle.console_core.specs.Headline.{IsSafe}
 use Rattle.console_core.specs.Sticking.{NeverSticks}
 use Rattle.console_core.proofs.Headline.{on_only_while_pressed, off_once_quiet}
 use Rattle.console_core.proofs.OneMap.{first_in_force}
-use Rattle.keymap_lint.specs.declared.diagnostic.Kind.TheVariants as kinds
 use Rattle.keymap_lint.specs.Lists.{IsSearched}
 use Rattle.keymap_lint.specs.Promises.{names_a_key, names_keys, WellTextsNeverStick}
 use Rattle.keymap_lint.specs.Severities.{never_sticks, severity_of, is_error, has_error}
 use Rattle.keymap_lint.proofs.Named.{keys_are_named_exactly_if_refused}
+use Rattle.keymap_lint.specs.declared.diagnostic.Kind.TheVariants as kinds
 
 -- under a safe keymap no modifier sticks
 safe_never_sticks : (m : MapValue) → IsSafe m → NeverSticks m
-safe_never_sticks m safe ms h first keys none =
-    let e : in_force ms h ≡ m = first_in_force ms h none ∙ first in
-    let held : IsSafe (in_force ms h) = subst IsSafe (sym e) safe in (
-      subst (λ n. IsOnOnlyWhilePressed n h (λ i. is_on_after ms i h)) e (on_only_while_pressed ms h held keys),
-      off_once_quiet ms h held keys,
-    )
+safe_never_sticks m safe ms h (first, loads) keys none =
+    let held : IsSafe (in_force ms h) = subst IsSafe (sym (first_in_force ms h (none refl) ∙ first)) safe in
+    (on_only_while_pressed ms h held keys, off_once_quiet ms h held keys)
 
 -- what names a key is an error, unless the search answers that no modifier sticks
 named_is_error : (k : Kind) → names_a_key k ≡ true → is_error (severity_of false k) ≡ true
 named_is_error kinds.NoKey h = refl
-named_is_error kinds.NoShift h = absurd (true≢false (sym h))
 named_is_error (kinds.MixedKey f c n) h = refl
 named_is_error (kinds.HalfDefined s true n) h = refl
-named_is_error (kinds.HalfDefined s false n) h = absurd (true≢false (sym h))
-named_is_error (kinds.DefinedAgain what last) h = absurd (true≢false (sym h))
-named_is_error (kinds.DeadKey d) h = absurd (true≢false (sym h))
-named_is_error (kinds.ZeroAccent a) h = absurd (true≢false (sym h))
-named_is_error (kinds.PairAgain a b f) h = absurd (true≢false (sym h))
-named_is_error kinds.UnusedHalf h = absurd (true≢false (sym h))
-named_is_error (kinds.BareDigit c) h = absurd (true≢false (sym h))
+named_is_error _ h = absurd (true≢false (sym h))
 
 none_by : {X : Type 0} (p q : X → Bool) → ((x : X) → q x ≡ true → p x ≡ true) → (xs : List X) → list_any p xs ≡ false
     → list_any q xs ≡ false

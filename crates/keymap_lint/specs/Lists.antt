@@ -8,7 +8,6 @@ use Rattle.keymap_lint.specs.Types.{Sticking, Finding, Span, Placed, CellInForce
 use Rattle.keymap_lint.specs.Types.{Spelled as IsSpelled}
 use Rattle.console_core.specs.Sticking.{IsAnswer}
 use Rattle.keymap_check.specs.Findings.{AreFindings}
-use Rattle.keymap_text.specs.declared.fault.TextFault.{TextFault}
 use Rattle.keymap_text.specs.declared.wanted.FaultPlace.{FaultPlace}
 use Rattle.keymap_text.specs.Meaning.{Spells, Fault as FaultOf, tokens}
 use Rattle.keymap_text.specs.Placed.{Row, IsSpelledBy, places_of, span_of}

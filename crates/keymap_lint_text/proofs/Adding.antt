@@ -1,20 +1,13 @@
 -- What the printer of diagnostics adds, remark by remark.
-use Rattle.std.proofs.Common.{◌≡◌, ℕ, ◌<◌, List, [], ◌∷◌, ◌++◌, true, refl, ap, sym, subst, ◌∙◌, append_assoc}
-use Rattle.std.proofs.Common.{append-nil, get_or, take}
-use Rattle.std.specs.Prelude.{◌+◌, length, if◌then◌else◌}
-use Rattle.std.specs.List.{flat_map}
-use Rattle.std.proofs.lemmas.Grind.{flat_map-append}
+use Rattle.keymap_lint_text.proofs.Common.{◌≡◌, ℕ, ◌<◌, List, [], ◌∷◌, ◌++◌, true, refl, ap, sym, subst, ◌∙◌}
+use Rattle.keymap_lint_text.proofs.Common.{append_assoc, append-nil, take, ◌+◌, length, if◌then◌else◌, flat_map}
+use Rattle.keymap_lint_text.proofs.Common.{flat_map-append, Diagnostic, Diagnostics, Severity, severity_of, Said}
+use Rattle.keymap_lint_text.proofs.Common.{Remark, remark, head, place_text, said_text, IsMessage, ArePrinted, Adds}
+use Rattle.keymap_lint_text.proofs.Common.{kind_text, is_noted, lines_text, answer, judged, of_diagnostic}
+use Rattle.std.proofs.Common.{get_or}
 use Rattle.std.proofs.lemmas.List.{take_more}
-use Rattle.keymap_lint.specs.declared.diagnostic.Diagnostic.{Diagnostic}
-use Rattle.keymap_lint.specs.declared.diagnostic.Diagnostics.{Diagnostics}
-use Rattle.keymap_lint.specs.declared.diagnostic.Severity.{Severity}
-use Rattle.keymap_lint.specs.Severities.{severity_of, never_sticks}
-use Rattle.keymap_lint_text.specs.Heads.{Said, Remark, remark, head, below, place_text, said_text, IsMessage}
-use Rattle.keymap_lint_text.specs.Heads.{ArePrinted}
-use Rattle.keymap_lint_text.specs.Inner.Adding.{Adds}
-use Rattle.keymap_lint_text.specs.Names.{kind_text, is_noted}
-use Rattle.keymap_lint_text.specs.Shown.{lines_text}
-use Rattle.keymap_lint_text.specs.Whole.{answer, judged, of_diagnostic}
+use Rattle.keymap_lint.specs.Severities.{never_sticks}
+use Rattle.keymap_lint_text.specs.Heads.{below}
 
 -- what is printed of remarks, and behind it what is printed of others
 printed_both : (file text : List ℕ) (es fs : List Remark) (a b : List ℕ) → ArePrinted file text es a

@@ -1,20 +1,14 @@
 -- A line tells the place of which it speaks, and whether it is an error, a warning or a note.
-use Rattle.std.proofs.Common.{◌≡◌, ℕ, ◌<◌, Bool, true, false, List, [], ◌∷◌, ◌++◌, codes, refl, ap, sym, ◌∙◌, arith}
-use Rattle.std.proofs.Common.{append_assoc, Option, Some, None}
-use Rattle.std.specs.Prelude.{◌==◌, ◌&&◌, not, decimal, length, slice_index, ◌+◌}
-use Rattle.std.specs.Fmt.{digit_glyph}
-use Rattle.std.specs.List.{list_all}
-use Rattle.std.proofs.lemmas.Bool.{and_parts}
+use Rattle.keymap_lint_text.proofs.Common.{◌≡◌, ℕ, ◌<◌, Bool, true, false, List, [], ◌∷◌, ◌++◌, codes, refl, ap, sym}
+use Rattle.keymap_lint_text.proofs.Common.{◌∙◌, arith, append_assoc, Option, Some, None, ◌==◌, not, decimal, length}
+use Rattle.keymap_lint_text.proofs.Common.{◌+◌, digit_glyph, list_all, and_parts, along, before_in_line, line, Severity}
+use Rattle.keymap_lint_text.proofs.Common.{Said, Remark, head, place_text, said_text}
+use Rattle.std.specs.Prelude.{◌&&◌, slice_index}
 use Rattle.std.proofs.lemmas.List.{append_cancel_left}
-use Rattle.keymap_core.proofs.Lists.{along}
-use Rattle.keymap_text.specs.LineOf.{before_in_line}
-use Rattle.keymap_text.specs.Meaning.{line}
-use Rattle.keymap_lint.specs.declared.diagnostic.Severity.{Severity}
-use Rattle.keymap_lint.specs.declared.diagnostic.Severity.TheVariants as severities
-use Rattle.keymap_lint_text.specs.Heads.{Said, Remark, head, place_text, said_text}
 use Rattle.keymap_lint_text.specs.Promises.{AreAlike, label}
 use Rattle.keymap_lint_text.proofs.Headed.{behind, head_is}
 use Rattle.keymap_lint_text.proofs.Lines.{decimal_all}
+use Rattle.keymap_lint.specs.declared.diagnostic.Severity.TheVariants as severities
 
 -- neither a colon nor a blank
 abbrev is_inner : ℕ → Bool

@@ -1,23 +1,16 @@
 -- Bytes of ASCII that are shown as they are.
-use Rattle.std.proofs.Common.{◌≡◌, ◌⊎◌, inl, inr, ℕ, ◌+◌, ◌-◌, ◌<◌, ◌≤◌, true, List, [], ◌∷◌, ◌++◌, length, map, take}
-use Rattle.std.proofs.Common.{drop}
-use Rattle.std.proofs.Common.{refl, ap, sym, ◌∙◌, arith, take_all, length-append, length-drop, take-append-drop}
-use Rattle.std.specs.Prelude.{min}
-use Rattle.std.proofs.Math.Seq.{take-append_seam, drop-append_seam}
-use Rattle.std.proofs.lemmas.List.{map-append, append-nil, drop_all, length-take}
-use Rattle.std.proofs.lemmas.Bool.{cases_lt}
-use Rattle.bstr.specs.Utf8.{pieces, or_replacement}
+use Rattle.keymap_lint_text.proofs.Common.{◌≡◌, ◌⊎◌, inl, inr, ℕ, ◌+◌, ◌-◌, ◌<◌, ◌≤◌, true, List, [], ◌∷◌, ◌++◌, length}
+use Rattle.keymap_lint_text.proofs.Common.{map, take, drop, refl, ap, sym, ◌∙◌, arith, take_all, length-append}
+use Rattle.keymap_lint_text.proofs.Common.{length-drop, min, take-append_seam, drop-append_seam, map-append, cases_lt}
+use Rattle.keymap_lint_text.proofs.Common.{pieces, or_replacement, list_all, and_parts, nat_tests, lossy_chars}
+use Rattle.keymap_lint_text.proofs.Common.{encode_ascii, shown_char, shown_chars, is_shown_byte, last}
+use Rattle.std.proofs.Common.{take-append-drop}
+use Rattle.std.proofs.lemmas.List.{append-nil, drop_all, length-take}
 use Rattle.bstr.proofs.lemmas.LossyLemmas.{lossy_chars-front}
 use Rattle.bstr.proofs.lemmas.PieceLemmas.{pieces-append, lossy_chars-nil, StartsClean}
 use Rattle.std.specs.Prelude.{encode_utf8_all}
-use Rattle.std.specs.List.{list_all}
-use Rattle.std.proofs.lemmas.Bool.{and_parts}
-use Rattle.std.proofs.lemmas.Bool.Decides.{nat_tests}
-use Rattle.bstr.specs.Utf8.{lossy_chars}
 use Rattle.bstr.proofs.lemmas.EncodeLemmas.{lossy_chars-encode}
 use Rattle.std.proofs.Math.Utf8.{scalars}
-use Rattle.std.proofs.lemmas.Str.{encode_ascii}
-use Rattle.keymap_lint_text.specs.Shown.{shown_char, shown_chars, is_shown_byte, last}
 
 pub small_byte : (c : ℕ) → is_shown_byte c ≡ true → c < 128
 small_byte c h = grind (arith, nat_tests, h)

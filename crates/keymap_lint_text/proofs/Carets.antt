@@ -1,20 +1,16 @@
 -- The caret stands below the place, and the note on modifiers that stay on tells its events.
-use Rattle.std.proofs.Common.{◌≡◌, ℕ, ◌+◌, ◌-◌, ◌≤◌, Bool, true, false, List, [], ◌∷◌, ◌++◌, codes, refl, ap, sym, ◌∙◌}
-use Rattle.std.proofs.Common.{append_assoc, append-nil, arith, length, length-append, length-drop, take, drop, nat_lt}
-use Rattle.std.specs.Prelude.{◌==◌, encode_utf8, map, if◌then◌else◌}
-use Rattle.std.specs.List.{flat_map, list_all}
+use Rattle.keymap_lint_text.proofs.Common.{◌≡◌, ℕ, ◌+◌, ◌-◌, ◌≤◌, Bool, true, false, List, [], ◌∷◌, ◌++◌, codes, refl}
+use Rattle.keymap_lint_text.proofs.Common.{ap, sym, ◌∙◌, append_assoc, append-nil, arith, length, length-append}
+use Rattle.keymap_lint_text.proofs.Common.{length-drop, take, drop, nat_lt, ◌==◌, encode_utf8, map, if◌then◌else◌}
+use Rattle.keymap_lint_text.proofs.Common.{flat_map, list_all, flat_map-append, drop-append-le, map-append, Event}
+use Rattle.keymap_lint_text.proofs.Common.{Modifier, filled, below, excerpt, left_out, lines_of, shown_before}
+use Rattle.keymap_lint_text.proofs.Common.{without_cr, shown_chars}
 use Rattle.std.proofs.Math.Seq.{take-append-add}
-use Rattle.std.proofs.lemmas.Grind.{flat_map-append}
-use Rattle.std.proofs.lemmas.List.{drop-append-le, map-append}
-use Rattle.console_core.specs.declared.event.Event.{Event}
-use Rattle.keymap_core.specs.declared.action.Modifier.{Modifier}
-use Rattle.messages.specs.Filled.{filled}
-use Rattle.keymap_lint_text.specs.Excerpt.{below, blanks, dots, excerpt, left_out, lines_of, shown_before, without_cr}
+use Rattle.keymap_lint_text.specs.Excerpt.{blanks, dots}
 use Rattle.keymap_lint_text.specs.Notes.{events_text, modifiers_text, sticks_text}
 use Rattle.keymap_lint_text.specs.Promises.{is_no_colon, HasCaretBelow, TellsEvents}
-use Rattle.keymap_lint_text.specs.Shown.{shown_chars}
-use Rattle.keymap_lint_text.specs.declared.words.TheConstants as words
 use Rattle.keymap_lint_text.proofs.Ascii.{encoded}
+use Rattle.keymap_lint_text.specs.declared.words.TheConstants as words
 
 -- two blanks and dots are of ASCII, and blanks stand below them
 abbrev dots_if : Bool → List ℕ

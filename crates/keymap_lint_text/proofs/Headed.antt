@@ -1,28 +1,22 @@
 -- Each remark has one head, and no other line begins without blanks.
-use Rattle.std.proofs.Common.{◌≡◌, ℕ, Bool, true, false, List, [], ◌∷◌, ◌++◌, codes, refl, ap, sym, subst, ◌∙◌}
-use Rattle.std.proofs.Common.{append_assoc, Option, Some, None}
-use Rattle.std.specs.Prelude.{decimal, length, map, not, ◌+◌, if◌then◌else◌}
-use Rattle.std.specs.List.{All, filter, flat_map}
-use Rattle.std.proofs.lemmas.Grind.{flat_map-append}
-use Rattle.std.proofs.lemmas.List.Elements.{All-nil, All-cons, All-append, filter-append}
+use Rattle.keymap_lint_text.proofs.Common.{◌≡◌, ℕ, Bool, true, false, List, [], ◌∷◌, ◌++◌, codes, refl, ap, sym, subst}
+use Rattle.keymap_lint_text.proofs.Common.{◌∙◌, append_assoc, Option, Some, None, decimal, length, map, not, ◌+◌}
+use Rattle.keymap_lint_text.proofs.Common.{if◌then◌else◌, flat_map, flat_map-append, All-nil, All-cons, All-append}
+use Rattle.keymap_lint_text.proofs.Common.{Diagnostic, Diagnostics, Error, fault_name, before_in_line, line}
+use Rattle.keymap_lint_text.proofs.Common.{TextFaultKind, excerpt, Said, Remark, remark, head, place_text, said_text}
+use Rattle.keymap_lint_text.proofs.Common.{ArePrinted, is_noted, ended, lines_text, shown_name, IsLine, IsPlainText}
+use Rattle.keymap_lint_text.proofs.Common.{answer, judged, of_diagnostic, beginning}
+use Rattle.std.specs.List.{All, filter}
+use Rattle.std.proofs.lemmas.List.Elements.{filter-append}
 use Rattle.console_core.specs.declared.outcome.Sticking.{Sticking}
 use Rattle.console_core.specs.declared.outcome.Sticking.TheVariants.{Sticks, Never, Undecided}
-use Rattle.keymap_lint.specs.declared.diagnostic.Diagnostic.{Diagnostic}
-use Rattle.keymap_lint.specs.declared.diagnostic.Diagnostics.{Diagnostics}
 use Rattle.keymap_lint.specs.declared.diagnostic.Lint.{Lint}
 use Rattle.keymap_lint.specs.declared.diagnostic.Lint.TheVariants.{Faulty, Spelled}
-use Rattle.keymap_lint.specs.declared.diagnostic.Severity.TheVariants.{Error}
-use Rattle.keymap_text.specs.FaultNames.{fault_name}
-use Rattle.keymap_text.specs.LineOf.{before_in_line, rest_of_line}
-use Rattle.keymap_text.specs.Meaning.{line}
-use Rattle.keymap_text.specs.declared.fault.TextFaultKind.{TextFaultKind}
+use Rattle.keymap_text.specs.LineOf.{rest_of_line}
 use Rattle.keymap_text.specs.declared.wanted.DefinitionStart.{DefinitionStart}
-use Rattle.keymap_lint_text.specs.Excerpt.{excerpt}
-use Rattle.keymap_lint_text.specs.Heads.{Said, Remark, remark, head, place_text, said_text, below, ArePrinted}
+use Rattle.keymap_lint_text.specs.Heads.{below}
 use Rattle.keymap_lint_text.specs.Promises.{is_indented, is_flush, AreHeads, HasHeads, is_judged, diagnostics}
-use Rattle.keymap_lint_text.specs.Names.{is_noted}
-use Rattle.keymap_lint_text.specs.Shown.{ended, lines_text, shown_name, IsLine, IsPlainText}
-use Rattle.keymap_lint_text.specs.Whole.{IsLintText, remarks, answer, judged, of_diagnostic, beginning}
+use Rattle.keymap_lint_text.specs.Whole.{IsLintText, remarks}
 use Rattle.keymap_lint_text.proofs.Lines.{excerpt_lines, head_line, name_line}
 
 -- what stands behind the file and a colon

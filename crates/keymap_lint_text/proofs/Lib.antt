@@ -2,6 +2,7 @@ mod Adding
 mod Alike
 mod Ascii
 mod Carets
+mod Common
 mod Headed
 mod Windows
 pub mod Lines

@@ -1,48 +1,40 @@
 -- What is shown of bytes, and what is told in words, stays in its line, and a terminal shows it.
+use Rattle.keymap_lint_text.proofs.Common.{◌≡◌, ℕ, ◌<◌, Bool, true, false, List, [], ◌∷◌, ◌++◌, refl, ap, sym, subst}
+use Rattle.keymap_lint_text.proofs.Common.{◌∙◌, arith, Option, Some, None, append-nil, take, drop, length, ◌==◌, ◌+◌}
+use Rattle.keymap_lint_text.proofs.Common.{◌-◌, not, nat_lt, codes, decimal, map, encode_utf8, if◌then◌else◌}
+use Rattle.keymap_lint_text.proofs.Common.{digit_glyph, flat_map, list_all, and_parts, nat_tests, flat_map-append}
+use Rattle.keymap_lint_text.proofs.Common.{All-nil, All-cons, All-append, All-take, encode_ascii, lossy_chars, pieces}
+use Rattle.keymap_lint_text.proofs.Common.{or_replacement, Event, along, Modifier, Severity, TextFaultKind, fault_name}
+use Rattle.keymap_lint_text.proofs.Common.{before_in_line, line, filled, excerpt, lines_of, below, left_out}
+use Rattle.keymap_lint_text.proofs.Common.{shown_before, without_cr, Said, Remark, IsMessage, head, place_text}
+use Rattle.keymap_lint_text.proofs.Common.{said_text, kind_text, shown_char, shown_chars, shown_name, is_shown_byte}
+use Rattle.keymap_lint_text.proofs.Common.{IsSeen, IsLine}
 use Prim.Native.Nat.{zero, suc}
-use Rattle.std.proofs.Common.{◌≡◌, ℕ, ◌<◌, Bool, true, false, List, [], ◌∷◌, ◌++◌, refl, ap, sym, subst, ◌∙◌, arith}
-use Rattle.std.proofs.Common.{rules}
-use Rattle.std.proofs.Common.{All, Option, Some, None, append-nil, take, drop, length}
-use Rattle.std.specs.Prelude.{◌/◌, ◌%◌, ◌==◌, ◌||◌, ◌+◌, ◌-◌, not, nat_lt, codes, decimal, map, encode_utf8, IsTrue}
-use Rattle.std.specs.Prelude.{if◌then◌else◌}
+use Rattle.std.proofs.Common.{rules, All}
+use Rattle.std.specs.Prelude.{◌/◌, ◌%◌, ◌||◌, IsTrue}
 use Rattle.std.specs.Char.{IsScalar, digit_char}
-use Rattle.std.specs.Fmt.{digits, digits_onto, digit_glyph}
-use Rattle.std.specs.List.{flat_map, list_all, position_or_len}
-use Rattle.std.proofs.lemmas.Bool.{and_parts}
-use Rattle.std.proofs.lemmas.Bool.Decides.{nat_tests}
-use Rattle.std.proofs.lemmas.Grind.{flat_map-append}
-use Rattle.std.proofs.lemmas.List.Elements.{All-nil, All-cons, All-append, All-map, All-weaker, All-take, All-drop}
-use Rattle.std.proofs.lemmas.List.Elements.{All-head, All-tail}
-use Rattle.std.proofs.lemmas.Str.{encode_ascii}
-use Rattle.bstr.specs.Utf8.{lossy_chars, pieces_from, pieces, decoded, or_replacement, Decoded}
+use Rattle.std.specs.Fmt.{digits, digits_onto}
+use Rattle.std.specs.List.{position_or_len}
+use Rattle.std.proofs.lemmas.List.Folds.{list_all-append}
+use Rattle.std.proofs.lemmas.List.Elements.{All-map, All-weaker, All-drop, All-head, All-tail}
+use Rattle.bstr.specs.Utf8.{pieces_from, decoded, Decoded}
 use Rattle.bstr.proofs.lemmas.SoundLemmas.{SpellsChar-decoded}
-use Rattle.console_core.specs.declared.event.Event.{Event}
 use Rattle.console_core.specs.declared.event.Event.TheVariants.{Press, Release, Reset, Load}
-use Rattle.keymap_core.proofs.Lists.{along}
 use Rattle.keymap_core.specs.Actions.{name_of}
 use Rattle.keymap_core.specs.Unseen.{is_unseen}
-use Rattle.keymap_core.specs.declared.action.Action.TheVariants as action
-use Rattle.keymap_core.specs.declared.action.Modifier.{Modifier}
-use Rattle.keymap_core.specs.declared.action.Modifier.TheVariants as mods
 use Rattle.keymap_lint.specs.declared.diagnostic.Kind.{Kind}
-use Rattle.keymap_lint.specs.declared.diagnostic.Kind.TheVariants as kinds
-use Rattle.keymap_lint.specs.declared.diagnostic.Severity.{Severity}
-use Rattle.keymap_lint.specs.declared.diagnostic.Severity.TheVariants as severities
-use Rattle.keymap_text.specs.declared.fault.TextFaultKind.{TextFaultKind}
-use Rattle.keymap_text.specs.declared.fault.TextFaultKind.TheVariants as faults
-use Rattle.keymap_text.specs.FaultNames.{fault_name}
-use Rattle.keymap_text.specs.LineOf.{before_in_line}
-use Rattle.keymap_text.specs.Meaning.{line}
-use Rattle.messages.specs.Filled.{filled, words_before, words_behind, is_hole}
-use Rattle.keymap_lint_text.specs.Excerpt.{excerpt, lines_of, shown_line, caret_line, below, left_out}
-use Rattle.keymap_lint_text.specs.Excerpt.{shown_before, without_cr}
-use Rattle.keymap_lint_text.specs.Heads.{Said, Remark, IsMessage, head, place_text, said_text}
-use Rattle.keymap_lint_text.specs.Notes as notes
-use Rattle.keymap_lint_text.specs.Names.{kind_text, severity_text}
-use Rattle.keymap_lint_text.specs.Shown.{shown_char, shown_chars, shown_name, is_seen, is_shown_byte, IsSeen, IsLine}
-use Rattle.keymap_lint_text.specs.Shown.{AreLines}
-use Rattle.keymap_lint_text.specs.declared.words.TheConstants as words
+use Rattle.messages.specs.Filled.{words_before, words_behind, is_hole}
+use Rattle.keymap_lint_text.specs.Excerpt.{shown_line, caret_line}
+use Rattle.keymap_lint_text.specs.Names.{severity_text}
+use Rattle.keymap_lint_text.specs.Shown.{is_seen, AreLines}
 use Rattle.keymap_lint_text.proofs.Ascii.{small_byte}
+use Rattle.keymap_core.specs.declared.action.Action.TheVariants as action
+use Rattle.keymap_core.specs.declared.action.Modifier.TheVariants as mods
+use Rattle.keymap_lint.specs.declared.diagnostic.Kind.TheVariants as kinds
+use Rattle.keymap_lint.specs.declared.diagnostic.Severity.TheVariants as severities
+use Rattle.keymap_text.specs.declared.fault.TextFaultKind.TheVariants as faults
+use Rattle.keymap_lint_text.specs.Notes as notes
+use Rattle.keymap_lint_text.specs.declared.words.TheConstants as words
 
 -- the character that is read in front is one
 read : (bs : List ℕ) (o : Option ℕ) → (decoded bs).char ≡ o → IsScalar (or_replacement o)
@@ -127,7 +119,7 @@ pub line_if : (t : Bool) (bs : List ℕ) → IsLine bs → IsLine (if t then bs 
 line_if true bs p = p
 line_if false bs p = line_none
 
-pub either : (b : Bool) (x y : List ℕ) → IsLine x → IsLine y → IsLine (if b then x else y)
+either : (b : Bool) (x y : List ℕ) → IsLine x → IsLine y → IsLine (if b then x else y)
 either true x y p q = p
 either false x y p q = q
 
@@ -180,40 +172,51 @@ glyph_printed : (d : ℕ) → d < 10 → is_shown_byte (digit_glyph false d) ≡
 glyph_printed d low = along (λ d. is_shown_byte (digit_glyph false d)) (λ d. true) 0 10 refl d (omega arith)
     (omega arith)
 
-digit_printed : (d : ℕ) → d < 16 → is_shown_byte (digit_char d) ≡ true
+pub digit_printed : (d : ℕ) → d < 16 → is_shown_byte (digit_char d) ≡ true
 digit_printed d low = along (λ d. is_shown_byte (digit_char d)) (λ d. true) 0 16 refl d (omega arith) (omega arith)
-
-in_front : (c : ℕ) (bs : List ℕ) → is_shown_byte c ≡ true → IsLine bs → IsLine (c ∷ bs)
-in_front c bs h p = line_append (c ∷ []) bs (ascii (c ∷ []) (rw h refl)) p
 
 pub decimal_line : (n : ℕ) → IsLine (decimal n)
 decimal_line n = ascii (decimal n) (decimal_all is_shown_byte glyph_printed n)
 
-pub digit_line : (d : ℕ) (bs : List ℕ) → d < 16 → IsLine bs → IsLine (digit_char d ∷ bs)
-digit_line d bs low p = in_front (digit_char d) bs (digit_printed d low) p
-
 -- ---- words, with what is told at their places, modifiers and events
 
-front_printed : (n : ℕ) (bs : List ℕ) → list_all is_shown_byte bs ≡ true → list_all is_shown_byte (take n bs) ≡ true
-front_printed zero bs h = refl
-front_printed (suc n) [] h = refl
-front_printed (suc n) (c ∷ bs) h =
-    let both = and_parts (is_shown_byte c) (list_all is_shown_byte bs) h in
-    rw (both.0, front_printed n bs both.1) refl
+front_all : (p : ℕ → Bool) (n : ℕ) (bs : List ℕ) → list_all p bs ≡ true → list_all p (take n bs) ≡ true
+front_all p zero bs h = refl
+front_all p (suc n) [] h = refl
+front_all p (suc n) (c ∷ bs) h =
+    let both = and_parts (p c) (list_all p bs) h in rw (both.0, front_all p n bs both.1) refl
 
-behind_printed : (n : ℕ) (bs : List ℕ) → list_all is_shown_byte bs ≡ true → list_all is_shown_byte (drop n bs) ≡ true
-behind_printed zero bs h = h
-behind_printed (suc n) [] h = refl
-behind_printed (suc n) (c ∷ bs) h =
-    behind_printed n bs (and_parts (is_shown_byte c) (list_all is_shown_byte bs) h).1
+behind_all : (p : ℕ → Bool) (n : ℕ) (bs : List ℕ) → list_all p bs ≡ true → list_all p (drop n bs) ≡ true
+behind_all p zero bs h = h
+behind_all p (suc n) [] h = refl
+behind_all p (suc n) (c ∷ bs) h = behind_all p n bs (and_parts (p c) (list_all p bs) h).1
+
+pub append_all : (p : ℕ → Bool) (a b : List ℕ) → list_all p a ≡ true → list_all p b ≡ true
+    → list_all p (a ++ b) ≡ true
+append_all p a b h k = list_all-append p a b ∙ rw (h, k) refl
+
+-- all bytes of these texts pass
+abbrev pub EachPasses : (ℕ → Bool) → List (List ℕ) → Type 0
+EachPasses p [] = Unit {0}
+EachPasses p (t ∷ ts) = (list_all p t ≡ true) × EachPasses p ts
+
+-- what the bytes of words and of the texts at their places pass
+pub filled_all : (p : ℕ → Bool) (w : List ℕ) (ts : List (List ℕ)) → list_all p w ≡ true → EachPasses p ts
+    → list_all p (filled w ts) ≡ true
+unfolding filled
+filled_all p w [] h ps = h
+filled_all p w (t ∷ ts) h ps =
+    append_all p (words_before w ++ t) (filled (words_behind w) ts)
+    (append_all p (words_before w) t (front_all p (position_or_len is_hole w) w h) ps.0)
+    (filled_all p (words_behind w) ts (behind_all p (position_or_len is_hole w + 2) w h) ps.1)
 
 pub fills : (w : List ℕ) (ts : List (List ℕ)) → list_all is_shown_byte w ≡ true → AreLines ts → IsLine (filled w ts)
 unfolding filled
 fills w [] h ps = ascii w h
 fills w (t ∷ ts) h ps =
     line_append (words_before w ++ t) (filled (words_behind w) ts)
-    (line_append (words_before w) t (ascii _ (front_printed (position_or_len is_hole w) w h)) ps.0)
-    (fills (words_behind w) ts (behind_printed (position_or_len is_hole w + 2) w h) ps.1)
+    (line_append (words_before w) t (ascii _ (front_all is_shown_byte (position_or_len is_hole w) w h)) ps.0)
+    (fills (words_behind w) ts (behind_all is_shown_byte (position_or_len is_hole w + 2) w h) ps.1)
 
 modifier_line : (modifier : Modifier) → IsLine (name_of (action.Mod modifier))
 modifier_line mods.LeftShift = ascii _ refl

@@ -1,9 +1,7 @@
 -- Lines that a terminal shows, one behind the other.
-use Rattle.std.proofs.Common.{◌≡◌, ℕ, List, [], ◌∷◌, ◌++◌, refl, ap, sym, ◌∙◌, append-nil}
-use Rattle.std.specs.List.{flat_map}
-use Rattle.std.proofs.lemmas.Grind.{flat_map-append}
-use Rattle.std.proofs.lemmas.List.Elements.{All-nil, All-cons, All-append}
-use Rattle.keymap_lint_text.specs.Shown.{ended, lines_text, IsLine, IsPlainText}
+use Rattle.keymap_lint_text.proofs.Common.{◌≡◌, ℕ, List, [], ◌∷◌, ◌++◌, refl, ap, sym, ◌∙◌, append-nil, flat_map}
+use Rattle.keymap_lint_text.proofs.Common.{flat_map-append, All-nil, All-cons, All-append, ended, lines_text, IsLine}
+use Rattle.keymap_lint_text.proofs.Common.{IsPlainText}
 
 pub plain_none : IsPlainText []
 plain_none = record { lines = []; spelled = refl; plain = All-nil IsLine }

@@ -1,16 +1,13 @@
 -- The characters of a line, before a place and from it on.
-use Rattle.std.proofs.Common.{◌≡◌, ◌⊎◌, inl, inr, ℕ, ◌+◌, ◌-◌, ◌≤◌, ◌<◌, Bool, true, false, nat_lt, List, [], ◌∷◌, ◌++◌}
-use Rattle.std.proofs.Common.{codes, length, take}
-use Rattle.std.proofs.Common.{drop, map, refl, ap, sym, ◌∙◌, arith, length-append, length-take, length-drop, take-take}
-use Rattle.std.proofs.Common.{drop-drop, take_all}
-use Rattle.std.specs.Prelude.{if◌then◌else◌, encode_utf8, min}
-use Rattle.std.specs.List.{flat_map}
-use Rattle.std.proofs.Math.Seq.{take-add, take-append_seam, drop-append_seam}
-use Rattle.std.proofs.lemmas.List.{drop-append-le, drop-take}
-use Rattle.std.proofs.lemmas.Bool.{cases_lt}
-use Rattle.std.proofs.lemmas.Bool.Decides.{nat_tests}
-use Rattle.keymap_lint_text.specs.Excerpt.{lines_of, excerpt, shown_before, without_cr, left_out, below, reach}
-use Rattle.keymap_lint_text.specs.Shown.{shown_chars, last}
+use Rattle.keymap_lint_text.proofs.Common.{◌≡◌, ◌⊎◌, inl, inr, ℕ, ◌+◌, ◌-◌, ◌≤◌, ◌<◌, Bool, true, false, nat_lt, List}
+use Rattle.keymap_lint_text.proofs.Common.{[], ◌∷◌, ◌++◌, codes, length, take, drop, map, refl, ap, sym, ◌∙◌, arith}
+use Rattle.keymap_lint_text.proofs.Common.{length-append, length-drop, take_all, if◌then◌else◌, encode_utf8, min}
+use Rattle.keymap_lint_text.proofs.Common.{flat_map, take-append_seam, drop-append_seam, drop-append-le, cases_lt}
+use Rattle.keymap_lint_text.proofs.Common.{nat_tests, lines_of, excerpt, shown_before, without_cr, left_out, below}
+use Rattle.keymap_lint_text.proofs.Common.{reach, shown_chars, last}
+use Rattle.std.proofs.Common.{length-take, take-take, drop-drop}
+use Rattle.std.proofs.Math.Seq.{take-add}
+use Rattle.std.proofs.lemmas.List.{drop-take}
 
 -- characters put one behind the other are parted at the length of the first ones
 parted : (bs rs cs : List ℕ) (n : ℕ) → cs ≡ bs ++ rs → n ≡ length bs

@@ -1,6 +1,6 @@
 -- Tables of rows, and the image of a map that fits: it has no fault, and gives the map.
-use Rattle.keymap_tables.proofs.Common.{◌≡◌, ℕ, ◌+◌, ◌-◌, ◌*◌, ◌^◌, ◌<◌, ◌≤◌, ◌==◌, List, ◌++◌, length, take, drop}
-use Rattle.keymap_tables.proofs.Common.{get_or, None, Some, cond, true, false, refl, sym, ap, ◌∙◌, subst, arith, inl}
+use Rattle.keymap_tables.proofs.Common.{eq-eqb, ne_eqb, ◌≡◌, ℕ, ◌+◌, ◌-◌, ◌*◌, ◌^◌, ◌<◌, ◌≤◌, ◌==◌, List, ◌++◌, length}
+use Rattle.keymap_tables.proofs.Common.{take, drop, get_or, None, Some, cond, refl, sym, ap, ◌∙◌, subst, arith, inl}
 use Rattle.keymap_tables.proofs.Common.{inr, length-append, All, flat_map, from_le_bytes, w16, cases_lt, lt-ltb, le-ltb}
 use Rattle.keymap_tables.proofs.Common.{nat_tests, take_at, drop_at, drop-drop, All-get_or, All-weaker, AccentValue}
 use Rattle.keymap_tables.proofs.Common.{IsEntry, IsAccent, IsMap, MapValue, entry_at, accent_or_blank, Entry, Layout}
@@ -153,12 +153,6 @@ first-content l bytes f whole first = record {
 }
 
 -- A wrong length.
-same_place : (p : ℕ) → (p == p) ≡ true
-same_place p = grind (arith, nat_tests)
-
-other_place : (p q : ℕ) → p < q → (p == q) ≡ false
-other_place p q below = grind (arith, nat_tests)
-
 -- a short file has one fault, at its end
 short-here : (l : Layout) (bytes : List ℕ) (p : ℕ) → length bytes < file_size l
     → fault_at l bytes p ≡ cond (p == length bytes) (Some Short) None
@@ -176,16 +170,16 @@ long-here l bytes p long =
 pub first-short : (l : Layout) (bytes : List ℕ) (f : TableFault) → length bytes < file_size l → f.offset ≡ length bytes
     → f.kind ≡ Short → IsFirstFault (fault_at l bytes) f
 first-short l bytes f short at kind = record {
-  here = rw (at, kind) (short-here l bytes (length bytes) short ∙ rw (same_place (length bytes)) refl);
-  before = λ p below. short-here l bytes p short ∙ rw (other_place p (length bytes) (omega (arith, below, at))) refl;
+  here = rw (at, kind) (short-here l bytes (length bytes) short ∙ rw (eq-eqb (length bytes) _ refl) refl);
+  before = λ p below. short-here l bytes p short ∙ rw (ne_eqb p (length bytes) (omega (arith, below, at))) refl;
 }
 
 -- the first fault of a long file is where a table would end
 pub first-long : (l : Layout) (bytes : List ℕ) (f : TableFault) → file_size l < length bytes → f.offset ≡ file_size l
     → f.kind ≡ Long → IsFirstFault (fault_at l bytes) f
 first-long l bytes f long at kind = record {
-  here = rw (at, kind) (long-here l bytes (file_size l) long ∙ rw (same_place (file_size l)) refl);
-  before = λ p below. long-here l bytes p long ∙ rw (other_place p (file_size l) (omega (arith, below, at))) refl;
+  here = rw (at, kind) (long-here l bytes (file_size l) long ∙ rw (eq-eqb (file_size l) _ refl) refl);
+  before = λ p below. long-here l bytes p long ∙ rw (ne_eqb p (file_size l) (omega (arith, below, at))) refl;
 }
 
 -- The image of a map.

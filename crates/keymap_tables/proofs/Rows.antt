@@ -89,8 +89,7 @@ module _ {X : Type 0} (f : X → List ℕ) (size : ℕ) where
   row-in (x ∷ xs) rest (suc i) d sized below =
       let first : length (f x) ≡ size = All-head (λ y. length (f y) ≡ size) x xs sized in
       let place : size * suc i ≡ size + size * i = omega (arith, mul-suc size i) in
-      let behind : drop size (f x ++ (flat_map f xs ++ rest)) ≡ flat_map f xs ++ rest =
-      drop_at (f x) (flat_map f xs ++ rest) size first in
+      let behind = drop_at (f x) (flat_map f xs ++ rest) size first in
       rw (place, append_assoc, ← drop-drop (size * i) size (f x ++ (flat_map f xs ++ rest)), behind)
       (row-in xs rest i d (All-tail (λ y. length (f y) ≡ size) x xs sized) (omega arith))
 

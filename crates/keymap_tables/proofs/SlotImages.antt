@@ -1,15 +1,15 @@
 -- The image of a slot: it has no fault, and gives the entry.
-use Rattle.keymap_tables.proofs.Common.{◌≡◌, ℕ, ◌+◌, ◌-◌, ◌*◌, ◌/◌, ◌%◌, ◌^◌, ◌<◌, ◌≤◌, ◌==◌, suc, zero, List, [], ◌∷◌}
-use Rattle.keymap_tables.proofs.Common.{◌++◌, drop, length, get_or, take, None, refl, sym, ap, ◌∙◌, subst, inl, inr}
-use Rattle.keymap_tables.proofs.Common.{arith, append_assoc, length-append, drop-cons, mul_comm, set, All, slice_index}
-use Rattle.keymap_tables.proofs.Common.{nat_le, Bool, true, false, IsScalar, from_le_bytes, flat_map, cases_lt}
-use Rattle.keymap_tables.proofs.Common.{nat_tests, common_steps, get_or-append_right, length-replicate, same_lists}
-use Rattle.keymap_tables.proofs.Common.{take-append-drop, take_all, take_more_set, All-get_or, All-push, undefined}
-use Rattle.keymap_tables.proofs.Common.{Cell, Char, Act, Entry, Layout, Wide, Narrow, BadPad, IsCell, IsEntry}
-use Rattle.keymap_tables.proofs.Common.{number_at, is_marked_at, char_fault, cell_fault, slot_end_fault, slot_fault}
-use Rattle.keymap_tables.proofs.Common.{zero_fault, HasNoFault, AreRows, IsEntryIn, cell_bytes, number_of, is_act}
-use Rattle.keymap_tables.proofs.Common.{marks_of, flag_number, slot_bytes, zeros, CellFits, EntryFits, number_width}
-use Rattle.keymap_tables.proofs.Common.{number_size, number_limit, pad_size, slot_size}
+use Rattle.keymap_tables.proofs.Common.{eq-eqb, ne_eqb, ◌≡◌, ℕ, ◌+◌, ◌-◌, ◌*◌, ◌/◌, ◌%◌, ◌^◌, ◌<◌, ◌≤◌, ◌==◌, suc, zero}
+use Rattle.keymap_tables.proofs.Common.{List, [], ◌∷◌, ◌++◌, drop, length, get_or, take, None, refl, sym, ap, ◌∙◌}
+use Rattle.keymap_tables.proofs.Common.{subst, inl, inr, arith, append_assoc, length-append, drop-cons, mul_comm, set}
+use Rattle.keymap_tables.proofs.Common.{All, slice_index, nat_le, Bool, true, false, IsScalar, from_le_bytes, flat_map}
+use Rattle.keymap_tables.proofs.Common.{cases_lt, nat_tests, common_steps, get_or-append_right, length-replicate}
+use Rattle.keymap_tables.proofs.Common.{same_lists, take-append-drop, take_all, take_more_set, All-get_or, All-push}
+use Rattle.keymap_tables.proofs.Common.{undefined, Cell, Char, Act, Entry, Layout, Wide, Narrow, BadPad, IsCell}
+use Rattle.keymap_tables.proofs.Common.{IsEntry, number_at, is_marked_at, char_fault, cell_fault, slot_end_fault}
+use Rattle.keymap_tables.proofs.Common.{slot_fault, zero_fault, HasNoFault, AreRows, IsEntryIn, cell_bytes, number_of}
+use Rattle.keymap_tables.proofs.Common.{is_act, marks_of, flag_number, slot_bytes, zeros, CellFits, EntryFits}
+use Rattle.keymap_tables.proofs.Common.{number_width, number_size, number_limit, pad_size, slot_size}
 use Rattle.std.specs.Prelude.{unwrap_or}
 use Rattle.keymap_core.specs.Actions.{IsAction, code_of, action_of, within}
 use Rattle.keymap_core.specs.declared.action.Action.{Action}
@@ -61,12 +61,6 @@ cell-again (Char c) known = refl
 cell-again (Act action) known = rw (code-read action known) refl
 
 -- The places behind the cells.
-isnt_at : (a b : ℕ) → b < a → (a == b) ≡ false
-isnt_at a b past = grind (arith, nat_tests)
-
-is_at : (a : ℕ) → (a == a) ≡ true
-is_at a = grind (arith, nat_tests)
-
 module _ (l : Layout) (bytes : List ℕ) where
   slot-behind : (p : ℕ) → 8 * number_size l ≤ p → slot_fault l bytes p ≡ slot_end_fault l bytes p
   slot-behind p past =
@@ -75,12 +69,16 @@ module _ (l : Layout) (bytes : List ℕ) where
   pub slot-flag : slot_fault l bytes (8 * number_size l + 1) ≡ flag_fault (slice_index bytes (8 * number_size l + 1))
   slot-flag =
       slot-behind (8 * number_size l + 1) (omega arith)
-      ∙ rw (isnt_at (8 * number_size l + 1) (8 * number_size l) (omega arith), is_at (8 * number_size l + 1)) refl
+      ∙ rw (
+        ne_eqb (8 * number_size l + 1) (8 * number_size l) (omega arith),
+        eq-eqb (8 * number_size l + 1) (8 * number_size l + 1) refl,
+      )
+      refl
 
   pub slot-pad : (p : ℕ) → 8 * number_size l + 2 ≤ p → slot_fault l bytes p ≡ zero_fault BadPad bytes p
   slot-pad p past =
       slot-behind p (omega arith)
-      ∙ rw (isnt_at p (8 * number_size l) (omega arith), isnt_at p (8 * number_size l + 1) (omega arith)) refl
+      ∙ rw (ne_eqb p (8 * number_size l) (omega arith), ne_eqb p (8 * number_size l + 1) (omega arith)) refl
 
   -- no fault before the flag, and before the pads
   pub slot-marks : HasNoFault (slot_fault l bytes) (8 * number_size l)
@@ -90,7 +88,7 @@ module _ (l : Layout) (bytes : List ℕ) where
         | inl front ↦ cells p front
         | inr from ↦ let same : 8 * number_size l ≡ p = omega arith in
             subst (λ (q : ℕ). slot_fault l bytes q ≡ None) same
-            (slot-behind (8 * number_size l) (omega arith) ∙ rw (is_at (8 * number_size l)) refl)
+            (slot-behind (8 * number_size l) (omega arith) ∙ rw (eq-eqb (8 * number_size l) _ refl) refl)
       ]
 
   pub slot-front : HasNoFault (slot_fault l bytes) (8 * number_size l)
@@ -169,10 +167,7 @@ pads-in : (l : Layout) (entry : Entry) (p : ℕ) → IsEntry entry → 8 * numbe
     → slice_index (slot_bytes l entry) p ≡ 0
 pads-in l entry p known past =
     let front = flat_map (cell_bytes l) entry.cells ++ marks_of entry.cells ∷ flag_number entry.flag ∷ [] in
-    let whole : (flat_map (cell_bytes l) entry.cells ++ marks_of entry.cells ∷ flag_number entry.flag ∷ [])
-    ++ zeros (pad_size l)
-    ≡ slot_bytes l entry =
-    append_assoc (flat_map (cell_bytes l) entry.cells) (marks_of entry.cells ∷ flag_number entry.flag ∷ [])
+    let whole = append_assoc (flat_map (cell_bytes l) entry.cells) (marks_of entry.cells ∷ flag_number entry.flag ∷ [])
     (zeros (pad_size l)) in
     let long : length (flat_map (cell_bytes l) entry.cells ++ marks_of entry.cells ∷ flag_number entry.flag ∷ [])
     ≡ 8 * number_size l + 2 =

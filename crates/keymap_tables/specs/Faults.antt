@@ -1,7 +1,6 @@
 -- Which fault stands at a place of a table file.
-use Rattle.std.specs.Prelude.{◌≡◌, ℕ, ◌+◌, ◌-◌, ◌*◌, ◌/◌, ◌%◌, ◌^◌, ◌<◌, ◌==◌, nat_lt, nat_le, List, length}
-use Rattle.std.specs.Prelude.{take, drop, take_while, slice_index, Bool, not, is_some, Option, None, Some}
-use Rattle.std.specs.Prelude.{if◌then◌else◌}
+use Rattle.std.specs.Prelude.{◌≡◌, ℕ, ◌+◌, ◌-◌, ◌*◌, ◌/◌, ◌%◌, ◌^◌, ◌<◌, ◌==◌, nat_lt, nat_le, List, length, take, drop}
+use Rattle.std.specs.Prelude.{take_while, slice_index, Bool, not, is_some, Option, None, Some, if◌then◌else◌}
 use lib.Utf8.{scalar}
 use Rattle.std.specs.Int.{Width, from_le_bytes, w16}
 use Rattle.std.specs.List.{range_with_len}

@@ -1,5 +1,5 @@
 //! The narrow file: which maps fit in it, and the writing of one.
-ghost use Rattle.std.specs.Prelude.{◌≡◌, ◌<◌, ◌||◌, All, OnOk, MatchOption};
+ghost use Rattle.std.specs.Prelude.{◌≡◌, ◌<◌, ◌||◌, All, MatchOption};
 ghost use Rattle.keymap_core.specs.Bounds.{IsMap};
 ghost use Rattle.keymap_tables.specs.Fits.{Fits, IsFirstWide};
 ghost use Rattle.keymap_tables.specs.Inner.Firsts.{IsFirstWideRow};
@@ -9,6 +9,7 @@ ghost use Rattle.keymap_tables.specs.Writing.{WritesNarrow, blames_writer};
 use crate::layout::Layout;
 use crate::row::Row;
 use crate::write::write_image;
+use keymap_core::laws::every_keymap_is_within_the_bounds;
 use keymap_core::{Accent, Entry, KeyMap, Write, WriteFault};
 use thiserror::Error;
 
@@ -69,8 +70,9 @@ fn too_wide(map: &KeyMap) -> Option<Wide>
 pub fn write_narrow<W: Write>(map: &KeyMap, writer: &mut W) -> Result<(), NarrowError>
     ensures bytes { WritesNarrow (W.contents writer.old) (W.contents writer.new) map.now result }
     ensures failed { W.has_failed writer.new ≡ (blames_writer result || W.has_failed writer.old) }
-    ensures known { OnOk result (IsMap map.now) }
+    ensures known { IsMap map.now }
 {
+    every_keymap_is_within_the_bounds(map);
     if let Some(wide) = too_wide(map) {
         return Err(NarrowError::TooWide(wide));
     }

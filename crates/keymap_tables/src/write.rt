@@ -43,9 +43,7 @@ pub(crate) fn write_image<W: Write>(
     ensures bytes { WritesText (λ f. f.written) (W.contents writer.old) (W.contents writer.new)
         (image_in layout map.now) result }
     ensures failed { W.has_failed writer.new ≡ (is_err result || W.has_failed writer.old) }
-    ensures known { IsMap map.now }
 {
-    every_keymap_is_within_the_bounds(map);
     let mut stream = Stream::new();
     push_table::<Entry, W>(&mut stream, writer, layout, map)?;
     push_table::<Accent, W>(&mut stream, writer, layout, map)?;
@@ -58,5 +56,6 @@ pub fn write_tables<W: Write>(map: &KeyMap, writer: &mut W) -> Result<(), WriteF
     ensures failed { W.has_failed writer.new ≡ (is_err result || W.has_failed writer.old) }
     ensures known { IsMap map.now }
 {
+    every_keymap_is_within_the_bounds(map);
     write_image(Layout::Wide, map, writer)
 }

@@ -1,11 +1,11 @@
 -- A token reads alone: its bytes are the same token wherever a blank stands behind them.
-use Rattle.keymap_text.proofs.Common.{◌≡◌, ⊎_elim, ℕ, ◌+◌, ◌<◌, ◌≤◌, Bool, true, false, List, [], ◌∷◌, ◌++◌, take, sym}
+use Rattle.keymap_text.proofs.Common.{◌≡◌, ⊎_elim, ℕ, ◌+◌, ◌≤◌, Bool, true, false, List, [], ◌∷◌, ◌++◌, take, sym}
 use Rattle.keymap_text.proofs.Common.{◌∙◌, ap, refl, subst, arith, add-one, ◌&&◌, slice_index, list_all, nat_tests}
-use Rattle.keymap_text.proofs.Common.{TokenKind, ParenL, ParenR, Literal, Word, leading, is_blank, is_word}
+use Rattle.keymap_text.proofs.Common.{TokenKind, Literal, leading, is_blank, is_word}
 use Rattle.keymap_text.proofs.Common.{stays_on_line, separates, word, Skipped, Found, front_of}
 use Rattle.keymap_text.specs.Alone.{IsWide, StandsAlone}
 use Rattle.keymap_text.proofs.InFront.{InFront, Left, Right, Quote, Letters, in_front_is, front_left, front_right}
-use Rattle.keymap_text.proofs.InFront.{front_quote, front_word, front_fits, skipped_by}
+use Rattle.keymap_text.proofs.InFront.{front_quote, front_word, front_fits, short_word, skipped_by}
 use Rattle.keymap_text.proofs.Leading.{leading_pass, leading_fail}
 use Rattle.keymap_text.proofs.Quoted.{literal_alone, literal_wide, literal_on_line}
 
@@ -32,9 +32,6 @@ front_alone : (c n b : ℕ) (k : TokenKind) (s y : List ℕ) → front_of c s �
     → front_of c (take n s ++ b ∷ y) ≡ Found k n
 front_alone c n b k s y h e = go k n (in_front_is c s (Found k n) h)
   where
-    short_word : (n : ℕ) → n < 32 → word n ≡ Found Word n
-    short_word n h = grind (arith, nat_tests)
-
     go : (k : TokenKind) (n : ℕ) → InFront c s (Found k n) → front_of c (take n s ++ b ∷ y) ≡ Found k n
     go k n (Left i) = front_left c (b ∷ y) i
     go k n (Right i) = front_right c (b ∷ y) i
@@ -100,15 +97,11 @@ front_wide c n k s h = go k n (in_front_is c s (Found k n) h)
   where
     wide : (k : TokenKind) (n : ℕ) → 2 ≤ n → IsWide k n
     wide (Literal d) n l = l
-    wide ParenL n l = tt
-    wide ParenR n l = tt
-    wide Word n l = tt
+    wide _ n l = tt
 
     go : (k : TokenKind) (n : ℕ) → InFront c s (Found k n) → IsWide k n
-    go k n (Left i) = tt
-    go k n (Right i) = tt
     go k n (Quote i q) = wide k n (literal_wide s k n q)
-    go k n (Letters w l) = tt
+    go k n _ = tt
 
 -- what is found stands alone
 pub stands_alone : (c n : ℕ) (k : TokenKind) (s : List ℕ) → front_of c s ≡ Found k n → StandsAlone k c n s

@@ -1,13 +1,15 @@
 -- The printed text of a character, and of an action, is one token, which is that character or action.
-use Rattle.keymap_text.proofs.Common.{◌≡◌, ◌≢◌, ℕ, suc, ◌+◌, ◌*◌, ◌/◌, ◌%◌, ◌<◌, ◌≤◌, ◌==◌, ◌&&◌, Bool, true, false}
+use Rattle.keymap_text.proofs.Common.{lt-ltb, le-ltb, ◌≡◌, ℕ, suc, ◌+◌, ◌*◌, ◌/◌, ◌%◌, ◌<◌, ◌≤◌, ◌==◌, ◌&&◌, Bool, true}
 use Rattle.keymap_text.proofs.Common.{cond, List, [], ◌∷◌, length, map, fold, refl, sym, ◌∙◌, ap, subst, arith, Ok, Err}
-use Rattle.keymap_text.proofs.Common.{Some, None, ne_eqb, nat_lt, nat_le, codes, slice_index_or, list_all}
-use Rattle.keymap_text.proofs.Common.{range_with_len, digit_char, digit_value, nat_tests, Value, Meaning, Number, Char}
-use Rattle.keymap_text.proofs.Common.{leading, is_word, meaning, digits_of, number_after, is_digit, named}
-use Rattle.keymap_text.proofs.Common.{control_names, character_text, hex, hex4, hex_at, along}
+use Rattle.keymap_text.proofs.Common.{Some, ne_eqb, nat_lt, nat_le, codes, slice_index_or, list_all, range_with_len}
+use Rattle.keymap_text.proofs.Common.{digit_char, digit_value, nat_tests, Value, Meaning, Number, Char, leading}
+use Rattle.keymap_text.proofs.Common.{is_word, meaning, digits_of, is_digit, named, control_names, character_text}
+use Rattle.keymap_text.proofs.Common.{along}
+use Rattle.keymap_core.specs.CodePoints.{code_digits}
 use lib.Utf8.{scalar}
 use Rattle.keymap_text.proofs.Leading.{leading_pass}
-use Rattle.keymap_text.proofs.Numbers.{digits_good, digits_bad}
+use Rattle.keymap_text.proofs.Numbers.{digits_good}
+use Rattle.keymap_text.proofs.Meanings.{hexadecimal}
 use Rattle.keymap_text.proofs.Lexed.{Lexes, NoWord, lexes_word, lexes_quoted}
 use Rattle.keymap_text.proofs.PrintedLines.{PrintsCharacter}
 use Rattle.keymap_text.specs.declared.fault.TextFaultKind.TheVariants as faults
@@ -46,13 +48,7 @@ control_meanings = refl
 -- a control character is printed as its name
 control_text : (c : ℕ) → c < 32 → character_text c ≡ slice_index_or control_names c []
 unfolding character_text
-control_text c h = rw (low c h, ne_eqb c 127 (apart c h)) refl
-  where
-    low : (c : ℕ) → c < 32 → nat_lt c 32 ≡ true
-    low c h = grind (arith, nat_tests)
-
-    apart : (c : ℕ) → c < 32 → c ≢ 127
-    apart c h = omega arith
+control_text c h = rw (lt-ltb c 32 h, ne_eqb c 127 (omega (arith, h))) refl
 
 -- a control character is printed as its name
 pub prints_control : (c : ℕ) → c < 32 → PrintsCharacter c
@@ -91,16 +87,7 @@ prints_delete = record {
 -- a character between apostrophes
 pub quoted_text : (c : ℕ) → 31 < c → c < 127 → character_text c ≡ 39 ∷ c ∷ 39 ∷ []
 unfolding character_text
-quoted_text c h k = rw (low c h, ne_eqb c 127 (apart c k), high c k) refl
-  where
-    low : (c : ℕ) → 31 < c → nat_lt c 32 ≡ false
-    low c h = grind (arith, nat_tests)
-
-    high : (c : ℕ) → c < 127 → nat_lt c 127 ≡ true
-    high c h = grind (arith, nat_tests)
-
-    apart : (c : ℕ) → c < 127 → c ≢ 127
-    apart c h = omega arith
+quoted_text c h k = rw (le-ltb c 32 (omega (arith, h)), ne_eqb c 127 (omega (arith, k)), lt-ltb c 127 k) refl
 
 -- a printable ASCII character is printed between apostrophes
 pub prints_quoted : (c : ℕ) → 31 < c → c < 127 → PrintsCharacter c
@@ -122,10 +109,7 @@ hex_word d h = grind (arith, nat_tests)
 
 -- and passes the test of digits
 hex_test : (d : ℕ) → d < 16 → is_digit 16 (digit_char d) ≡ true
-hex_test d h = rw (hex_value d h) (below d h)
-  where
-    below : (d : ℕ) → d < 16 → nat_lt d 16 ≡ true
-    below d h = grind (arith, nat_tests)
+hex_test d h = rw (hex_value d h) (lt-ltb d 16 h)
 
 abbrev pub AreSmall : List ℕ → Type 0
 AreSmall [] = Unit {0}
@@ -164,46 +148,20 @@ hex_digits : (ds : List ℕ) → 0 < length ds → AreSmall ds → digits_of 16 
 hex_digits ds h k =
     digits_good 16 (map digit_char ds) (omega (arith, hex_length ds)) (hex_tests ds k) ∙ ap Some (hex_number 0 ds k)
 
--- a word that is no decimal number, with digits after 0x
-meaning_hex : (w : List ℕ) (n : ℕ) → digits_of 10 (48 ∷ 120 ∷ w) ≡ None
-    → number_after (codes "0x") 16 (48 ∷ 120 ∷ w) ≡ Some n → meaning (48 ∷ 120 ∷ w) ≡ Number n
-unfolding meaning
-meaning_hex w n h k = rw (h, k, meaning) refl
-
--- a word with 0x is no decimal number
-no_decimal : (w : List ℕ) → digits_of 10 (48 ∷ 120 ∷ w) ≡ None
-no_decimal w = digits_bad 10 (48 ∷ 120 ∷ w) 1 (omega arith) (omega arith)
-
--- digits after 0x are the number
-after_prefix : (w : List ℕ) (n : ℕ) → digits_of 16 w ≡ Some n → number_after (codes "0x") 16 (48 ∷ 120 ∷ w) ≡ Some n
-after_prefix w n h = ap (λ b. cond (b && true) (digits_of 16 w) None) (long (length w)) ∙ h
-  where
-    long : (n : ℕ) → nat_le 2 (suc (suc n)) ≡ true
-    long n = grind (arith, nat_tests)
-
 -- digits after 0x are one token
 lexes_hex : (c : ℕ) (ds : List ℕ) → 0 < length ds → length ds ≤ 30 → AreSmall ds → horner 0 ds ≡ c
     → Lexes NoWord (48 ∷ 120 ∷ map digit_char ds) (Value (Number c) ∷ [])
 lexes_hex c ds z l h e =
     subst (λ (m : Meaning). Lexes NoWord (48 ∷ 120 ∷ map digit_char ds) (Value m ∷ []))
-    (meaning_hex (map digit_char ds) c (no_decimal (map digit_char ds))
-    (after_prefix (map digit_char ds) c (hex_digits ds z h ∙ ap Some e)))
+    (sym (hexadecimal 120 c (map digit_char ds) refl refl (sym (hex_digits ds z h ∙ ap Some e))))
     (lexes_word (48 ∷ 120 ∷ map digit_char ds) (omega arith) (omega (arith, hex_length ds, l))
     (omega (arith, hex_leads ds h, hex_length ds)))
 
 -- a character above 127 is printed as a number
-hex_text : (c : ℕ) → 127 < c → character_text c ≡ 48 ∷ 120 ∷ hex c
+hex_text : (c : ℕ) → 127 < c → character_text c ≡ 48 ∷ 120 ∷ code_digits c
 unfolding character_text
-hex_text c h = rw (low c h, ne_eqb c 127 (apart c h), high c h) refl
-  where
-    low : (c : ℕ) → 127 < c → nat_lt c 32 ≡ false
-    low c h = grind (arith, nat_tests)
-
-    high : (c : ℕ) → 127 < c → nat_lt c 127 ≡ false
-    high c h = grind (arith, nat_tests)
-
-    apart : (c : ℕ) → 127 < c → c ≢ 127
-    apart c h = omega arith
+hex_text c h =
+    rw (le-ltb c 32 (omega (arith, h)), ne_eqb c 127 (omega (arith, h)), le-ltb c 127 (omega (arith, h))) refl
 
 -- the digits of a number, from the fourth, fifth or sixth on
 abbrev pub four : ℕ → List ℕ
@@ -246,37 +204,22 @@ small_four : (c : ℕ) → AreSmall (four c)
 small_four c = (is_mod (c / 4096), (is_mod (c / 256), (is_mod (c / 16), (is_mod (c / 1), tt))))
 
 -- a number of four digits is printed with them
-hex_four : (c : ℕ) → c < 65536 → hex c ≡ map digit_char (four c)
-unfolding hex
-hex_four c h =
-    ap (λ b. cond b (hex4 c) (cond (nat_lt c 1048576) (hex_at c 65536 ∷ hex4 c)
-    (hex_at c 1048576 ∷ hex_at c 65536 ∷ hex4 c))) (below c h)
-  where
-    below : (c : ℕ) → c < 65536 → nat_lt c 65536 ≡ true
-    below c h = grind (arith, nat_tests)
-
--- a number of five digits isn't one of four
-not_four : (c : ℕ) → 65536 ≤ c → nat_lt c 65536 ≡ false
-not_four c h = grind (arith, nat_tests)
+hex_four : (c : ℕ) → c < 65536 → code_digits c ≡ map digit_char (four c)
+unfolding code_digits
+hex_four c h = rw (lt-ltb c 65536 h) refl
 
 -- five digits
-hex_five : (c : ℕ) → 65536 ≤ c → c < 1048576 → hex c ≡ map digit_char (c / 65536 % 16 ∷ four c)
-unfolding hex
-hex_five c h k = rw (not_four c h, below c k) refl
-  where
-    below : (c : ℕ) → c < 1048576 → nat_lt c 1048576 ≡ true
-    below c h = grind (arith, nat_tests)
+hex_five : (c : ℕ) → 65536 ≤ c → c < 1048576 → code_digits c ≡ map digit_char (c / 65536 % 16 ∷ four c)
+unfolding code_digits
+hex_five c h k = rw (le-ltb c 65536 h, lt-ltb c 1048576 k) refl
 
 -- six digits
-hex_six : (c : ℕ) → 1048576 ≤ c → hex c ≡ map digit_char (c / 1048576 % 16 ∷ c / 65536 % 16 ∷ four c)
-unfolding hex
-hex_six c h = rw (not_four c (omega arith), not_five c h) refl
-  where
-    not_five : (c : ℕ) → 1048576 ≤ c → nat_lt c 1048576 ≡ false
-    not_five c h = grind (arith, nat_tests)
+hex_six : (c : ℕ) → 1048576 ≤ c → code_digits c ≡ map digit_char (c / 1048576 % 16 ∷ c / 65536 % 16 ∷ four c)
+unfolding code_digits
+hex_six c h = rw (le-ltb c 65536 (omega (arith, h)), le-ltb c 1048576 h) refl
 
 -- a character that is printed in digits is one token
-prints_digits : (c : ℕ) (ds : List ℕ) → 127 < c → scalar c ≡ true → hex c ≡ map digit_char ds → 0 < length ds
+prints_digits : (c : ℕ) (ds : List ℕ) → 127 < c → scalar c ≡ true → code_digits c ≡ map digit_char ds → 0 < length ds
     → length ds ≤ 30 → AreSmall ds → horner 0 ds ≡ c → PrintsCharacter c
 prints_digits c ds h s e z l k n = record {
   token = Value (Number c);

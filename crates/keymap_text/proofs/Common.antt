@@ -41,8 +41,8 @@ unfoldable pub use Rattle.keymap_text.specs.Placed.{last_of, places_after}
 pub use Rattle.keymap_text.specs.Places.{AfterPairs, AtAccentCharacter, AtBase, AtCell, AtDefinition, AtLock, AtPairEnd}
 pub use Rattle.keymap_text.specs.Places.{AtResult, RowPlace, if_accepted, may_end, next, next_at_definition}
 pub use Rattle.keymap_text.specs.Printed.{accent_lines, accent_name, cell_text, column, control_name, filled}
-pub use Rattle.keymap_text.specs.Printed.{flag_letter, hex4, hex_at, key_lines, printed, slot_text}
-unfoldable pub use Rattle.keymap_text.specs.Printed.{accent_line, accent_words, character_text, hex, key_line}
+pub use Rattle.keymap_text.specs.Printed.{flag_letter, key_lines, printed, slot_text}
+unfoldable pub use Rattle.keymap_text.specs.Printed.{accent_line, accent_words, character_text, key_line}
 unfoldable pub use Rattle.keymap_text.specs.Printed.{pair_text, slot_words}
 pub use Rattle.keymap_text.specs.Rows.{AccentDefinition, AreCells, ArePairs, Defines, Definition, IsRow, KeyDefinition}
 pub use Rattle.keymap_text.specs.Rows.{accents_needed, map_of, no_cells, no_definition, no_pairs, of_accent, of_index}
@@ -52,7 +52,7 @@ pub use Rattle.keymap_text.specs.Sources.{FailsInside, HasNoEarlyFault, ReadsMap
 pub use Rattle.keymap_text.specs.Sources.{limit}
 pub use Rattle.keymap_text.specs.Standing.{FedAfter, StandsAfter}
 pub use Rattle.keymap_text.specs.Tokens.{result_view, token_view}
-pub use Rattle.keymap_text.specs.Types.{Accent, Act, Action, BadByte, BadLiteral, BadWord, Cell, Char, Close, Combined}
+pub use Rattle.keymap_text.specs.Types.{Accent, Act, Action, BadByte, BadLiteral, BadWord, Cell, Char, Close}
 pub use Rattle.keymap_text.specs.Types.{Defined, EndInside, Entry, Item, Letter, Literal, LockFlag, Meaning, Name}
 pub use Rattle.keymap_text.specs.Types.{Number, Open, ParenL, ParenR, Placed, Slot, Span, TextError, TextFault}
 pub use Rattle.keymap_text.specs.Types.{TextFaultKind, Token, TokenKind, Value, Word}
@@ -70,12 +70,12 @@ pub use Rattle.std.proofs.Common.{add-one, add-zero, ap, append-nil, append_asso
 pub use Rattle.std.proofs.Common.{cond, count_by, drop, drop-cons, drop_at, eq-eqb, eq-or-lt_of_le, eqb-true, false}
 pub use Rattle.std.proofs.Common.{fold, get_or, inl, inr, leb, length, length-append, length-drop, length-set}
 pub use Rattle.std.proofs.Common.{length-take, map, max, mul-le-mul_left, nat_le, nat_lt, ne_eqb, not, pow-add}
-pub use Rattle.std.proofs.Common.{pow_mono, refl, replicate, rules, set, slice_get, slice_index, slice_index_or, subst}
+pub use Rattle.std.proofs.Common.{pow_mono, refl, replicate, rules, set, slice_index, slice_index_or, subst}
 pub use Rattle.std.proofs.Common.{suc, sym, take, take_all, take_at, true, true≢false, vec_len, w8, zero, ℕ, ⊎_elim}
 pub use Rattle.std.proofs.Common.{◌%◌, ◌&&◌, ◌*◌, ◌++◌, ◌+◌, ◌-◌, ◌/◌, ◌<◌, ◌==◌, ◌^◌, ◌∙◌, ◌∷◌, ◌≡◌, ◌≢◌, ◌≤◌, ◌⊎◌}
 pub use Rattle.std.proofs.Math.Seq.{drop-append-add, get_or-append_seam, take-add, take-append_seam}
 pub use Rattle.std.proofs.lemmas.Bool.{agree_below, agree_below_at, cases_eq, cond-false, cond-true, le-ltb, lt-ltb}
-pub use Rattle.std.proofs.lemmas.Bool.{not-false, not-true}
+pub use Rattle.std.proofs.lemmas.Bool.{cases_lt, leb-true, ltb-true, not-false, not-true}
 pub use Rattle.std.proofs.lemmas.Bool.Decides.{nat_tests}
 pub use Rattle.std.proofs.lemmas.List.{at_drop_all, drop-append-le, drop-drop, drop-map, drop-take, drop_all, drop_more}
 pub use Rattle.std.proofs.lemmas.List.{ext_get_or, get_or-drop, get_or-map, get_or-replicate, get_or-set_other}
@@ -95,4 +95,4 @@ pub use Rattle.std.specs.Char.{digit_char, digit_value, to_ascii_lowercase}
 pub use Rattle.std.specs.Int.{from_le_bytes, w64}
 pub use Rattle.std.specs.List.{flat_map, list_all, prefix_len, range_with_len, suffix_len}
 pub use Rattle.std.specs.Option.{MatchOption, option_or}
-pub use Rattle.std.specs.Prelude.{IsFalse, option_copied}
+pub use Rattle.std.specs.Prelude.{IsFalse}

@@ -1,6 +1,6 @@
 -- The table of names begins with the names of the control characters.
-use Rattle.keymap_text.proofs.Common.{◌≡◌, ℕ, ◌<◌, ◌≤◌, ◌==◌, ◌⊎◌, inl, inr, true, cond, length, map, refl, sym, subst}
-use Rattle.keymap_text.proofs.Common.{arith, List, [], ◌∷◌, nat_le, get_or, range_with_len, nat_tests, letters}
+use Rattle.keymap_text.proofs.Common.{leb-true, ◌≡◌, ℕ, ◌<◌, ◌≤◌, ◌==◌, ◌⊎◌, inl, inr, true, cond, length, map, refl}
+use Rattle.keymap_text.proofs.Common.{sym, subst, arith, List, [], ◌∷◌, nat_le, get_or, range_with_len, letters}
 use Rattle.keymap_text.proofs.Common.{control_name, filled, NAMES, along}
 use Rattle.keymap_text.specs.declared.names.Name.{Name}
 
@@ -52,9 +52,6 @@ short_names = refl
 -- the name of a control character has at most three letters
 pub short_name : (c : ℕ) → (c < 32) ⊎ (c ≡ 127) → length (control_name c) ≤ 3
 short_name c (inl h) =
-    is_le (length (control_name c)) (along (λ c. nat_le (length (control_name c)) 3) (λ c. true) 0 32 short_names c
+    leb-true (length (control_name c)) 3 (along (λ c. nat_le (length (control_name c)) 3) (λ c. true) 0 32 short_names c
     (omega arith) h)
-  where
-    is_le : (n : ℕ) → nat_le n 3 ≡ true → n ≤ 3
-    is_le n h = grind (arith, nat_tests)
 short_name c (inr e) = subst (λ (c : ℕ). length (control_name c) ≤ 3) (sym e) (omega arith)

@@ -1,7 +1,7 @@
 -- The faults of the reader's machine are those of the places.
 use Rattle.keymap_text.proofs.Common.{◌≡◌, ℕ, ◌+◌, ◌==◌, Bool, true, false, cond, List, [], ◌∷◌, length, refl, sym, ◌∙◌}
 use Rattle.keymap_text.proofs.Common.{ap, Result, Ok, Err, Option, Some, None, length-append, nat_lt, TextFaultKind}
-use Rattle.keymap_text.proofs.Common.{Item, Open, Close, Value, Number, Char, Act, Combined, Entry, Cell, LockFlag}
+use Rattle.keymap_text.proofs.Common.{Item, Open, Close, Value, Number, Act, Entry, Cell, LockFlag}
 use Rattle.keymap_text.proofs.Common.{TokenValue, Tokens, Ends, Stops, Then, tokens_after, MapValue, undefined}
 use Rattle.keymap_text.proofs.Common.{with_entry, with_accent, character, cell, lock, accent_index, GrammarState}
 use Rattle.keymap_text.proofs.Common.{accept, at, at_end, first_of, RowPlace, AtDefinition, AtCell, AtLock}
@@ -18,15 +18,12 @@ led (Err f) = Err f
 
 -- the first token of a definition
 first_led : (m : MapValue) (t : Item) → next_at_definition t ≡ led (full.◌>>=◌ (first_of t) (λ p. Ok (at m p)))
-first_led m Open = refl
-first_led m Close = refl
 first_led m (Value (Number n)) = go (nat_lt n 256)
   where
     go : (b : Bool) → cond b (Ok (AtCell 0)) (Err faults.KeyTooLarge)
         ≡ led (full.◌>>=◌ (cond b (Ok (full.CellAt n 0 undefined)) (Err faults.KeyTooLarge)) (λ p. Ok (at m p)))
     go true = refl
     go false = refl
-first_led m (Value (Char c)) = refl
 first_led m (Value (Act a)) = go (accent_index a)
   where
     go : (o : Option ℕ) → (elim o as (λ o. Result RowPlace TextFaultKind)
@@ -35,7 +32,6 @@ first_led m (Value (Act a)) = go (accent_index a)
         [ Some i ↦ Ok (full.AccentCharacter i) | None ↦ Err faults.Unexpected ]) (λ p. Ok (at m p)))
     go (Some i) = refl
     go None = refl
-first_led m (Value Combined) = refl
 first_led m _ = refl
 
 -- a step of the machine leads to the place that the definitions name, or to their fault
@@ -130,12 +126,12 @@ ends m full.Definition q = refl
 ends m _ q = refl
 
 -- no token at the end
-list_ends : (q : ℕ) → list_of (Ends q) ≡ []
+pub list_ends : (q : ℕ) → list_of (Ends q) ≡ []
 unfolding list_of
 list_ends q = refl
 
 -- no token at a fault
-list_stops : (f : TextFaultKind) (q : ℕ) → list_of (Stops f q) ≡ []
+pub list_stops : (f : TextFaultKind) (q : ℕ) → list_of (Stops f q) ≡ []
 unfolding list_of
 list_stops f q = refl
 

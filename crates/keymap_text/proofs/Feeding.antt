@@ -1,9 +1,9 @@
 -- A text that is read from a device, piece by piece.
 use Rattle.keymap_text.proofs.Common.{◌≡◌, ℕ, zero, suc, ◌+◌, ◌≤◌, ◌<◌, List, [], ◌∷◌, ◌++◌, length, take, refl, sym}
-use Rattle.keymap_text.proofs.Common.{◌∙◌, subst, arith, Option, Some, None, Result, Ok, Err, length-append, append-nil}
-use Rattle.keymap_text.proofs.Common.{IfErr, MapValue, TextError, TextFault, verdict, judge, Spelled, tokens_after}
-use Rattle.keymap_text.proofs.Common.{empty_map, at_end, Concludes, StandsAfter, FedAfter, limit, HasNoEarlyFault}
-use Rattle.keymap_text.proofs.Common.{TakesWhole, FailsInside, TextGoesPast, ReadsMap, StopsAtOnce, length-take-le}
+use Rattle.keymap_text.proofs.Common.{◌∙◌, subst, arith, Option, Result, Ok, Err, length-append, append-nil, IfErr}
+use Rattle.keymap_text.proofs.Common.{MapValue, TextError, TextFault, verdict, judge, Spelled, tokens_after, empty_map}
+use Rattle.keymap_text.proofs.Common.{at_end, Concludes, StandsAfter, FedAfter, limit, HasNoEarlyFault, TakesWhole}
+use Rattle.keymap_text.proofs.Common.{FailsInside, TextGoesPast, ReadsMap, StopsAtOnce, length-take-le, none-some}
 use mathlib.Core.Logic.{inl, inr}
 use Rattle.std.specs.Io.KnownBytes.{Consumes, IsAtEnd, Keeps}
 use Rattle.std.proofs.KnownBytes.{Consumes-trans, Consumes-kept, Consumes-nil}
@@ -27,10 +27,7 @@ empty_verdict = refl
 
 -- no bytes have no early fault
 none_early : HasNoEarlyFault []
-none_early f e = never _ (sym (fault_or_map [] empty_map (spells_from [] empty_map empty_verdict)) ∙ e.0)
-  where
-    never : {A : Type 0} (x : A) → None ≡ Some x → ⊥
-    never x h = cc
+none_early f e = none-some _ (sym (fault_or_map [] empty_map (spells_from [] empty_map empty_verdict)) ∙ e.0)
 
 -- a reader that was fed nothing
 pub fed_none : (old : Option (List ℕ)) (r : Progress) → StandsAfter r [] → IsFed old old r 0
@@ -141,9 +138,6 @@ at_once_more {a = a} {b = b} {c = c} {n = n} f buffer fed h l few =
 pub at_once_whole : {a b : Option (List ℕ)} {r : Progress} {taken n : ℕ} → (c : Option (List ℕ)) → (buffer : List ℕ)
     → (result : Result MapValue TextError) → (fed : IsFed a b r taken) → n ≡ 0 → Consumes b c (take n buffer)
     → IfErr result (StopsAtOnce a c)
-at_once_whole c buffer (Ok m) fed z h = tt
-at_once_whole c buffer (Err errors.Memory) fed z h = tt
-at_once_whole c buffer (Err (errors.Read f)) fed z h = tt
 at_once_whole {a = a} {b = b} {n = n} c buffer (Err (errors.Fault f)) fed z h =
     record {
       before = fed.text;
@@ -152,3 +146,4 @@ at_once_whole {a = a} {b = b} {n = n} c buffer (Err (errors.Fault f)) fed z h =
       few = omega arith;
       sound = fed.sound;
     }
+at_once_whole c buffer _ fed z h = tt

@@ -8,7 +8,7 @@ use Rattle.keymap_text.proofs.Common.{tokens_after, token_before, Then, is_empty
 use Rattle.keymap_text.proofs.Common.{IsOpen}
 use Rattle.keymap_text.proofs.InFront.{InFront, Blank, Comment, Left, Right, Quote, Letters, Long, Nothing, in_front}
 use Rattle.keymap_text.proofs.InFront.{front_blank, front_comment, front_left, front_right, front_quote, front_word}
-use Rattle.keymap_text.proofs.InFront.{no_word}
+use Rattle.keymap_text.proofs.InFront.{no_word, short_word}
 use Rattle.keymap_text.proofs.Leading.{leading_pass, leading_le, leading_short, leading_grows}
 use Rattle.keymap_text.proofs.Literals.{literal_or, literal_found, printable_front}
 use Rattle.keymap_text.proofs.Splitting.{split_token}
@@ -81,15 +81,13 @@ refused_on c g b x h = ⊎_elim (λ s. s.on x ∙ h) (λ o. absurd (open_refused
 -- behind a word bytes are left, so it is settled
 pub is_whole : (k : TokenKind) (n : ℕ) (b x : List ℕ) → (k ≡ Word → n < length b)
     → not (is_word_kind k && is_empty (drop n b ++ x)) ≡ true
-is_whole ParenL n b x l = refl
-is_whole ParenR n b x l = refl
-is_whole (Literal c) n b x l = refl
 is_whole Word n b x l = ap not (some n b (l refl))
   where
     some : (n : ℕ) (b : List ℕ) → n < length b → is_empty (drop n b ++ x) ≡ false
     some n [] h = absurd (omega (arith, h))
     some zero (c ∷ b) h = refl
     some (suc n) (c ∷ b) h = some n b (omega (arith, h))
+is_whole _ n b x l = refl
 
 -- a token that is found is in front whatever follows
 pub found_fronts : (c n : ℕ) (k : TokenKind) (b : List ℕ) (i : Item) → front_of c b ≡ Found k n → n ≤ length b
@@ -116,9 +114,6 @@ word_fronts (suc k) (c ∷ w) e l t b =
     let size : leading is_word w ≡ k = omega (arith, e, leading_pass is_word c w t) in
     found_fronts c k Word w (Value (meaning (c ∷ take k w)))
     (front_word c w t ∙ ap word size ∙ short_word k (omega (arith, b))) (omega (arith, l)) (λ _. omega (arith, l)) refl
-  where
-    short_word : (n : ℕ) → n < 32 → word n ≡ Found Word n
-    short_word n h = grind (arith, nat_tests)
 
 -- a quoted printable character
 pub quoted_fronts : (rest : List ℕ) → 2 < length rest → get_or rest 0 0 ≡ 39 → 31 < get_or rest 1 0

@@ -181,17 +181,14 @@ pub slot_in_force : (text : List ℕ) (m : MapValue) (rows : List Row) → IsSpe
     → Defines (map item_of (take 10 (drop p.first (tokens text))))
     (KeyDefinition slot (get_or m.entries slot undefined))
 slot_in_force text m rows h slot p e =
-    let f : LastRow Entry (of_slot slot) (Slot slot) (tokens text) (definitions rows) 0 p =
-    last_row (of_slot slot) (Slot slot) (says_slot slot) h.are_rows 0 p e in
+    let f = last_row (of_slot slot) (Slot slot) (says_slot slot) h.are_rows 0 p e in
     let entry : or_default (of_slot slot f.row.definition) undefined ≡ get_or m.entries slot undefined =
     sym (ap (λ (m : MapValue). get_or m.entries slot undefined) h.spelled ∙ entry_of (definitions rows) slot
     ∙ ap (λ o. or_default o undefined) f.says_it) in
-    let d : Defines (map item_of f.row.tokens) (KeyDefinition slot (get_or m.entries slot undefined)) =
-    subst (Defines (map item_of f.row.tokens))
-    (slot_row f.row.definition slot f.is ∙ ap (KeyDefinition slot) entry) f.defines in
-    let ten : length f.row.tokens ≡ 10 =
-    sym (length-map f.row.tokens item_of)
-    ∙ slot_tokens (map item_of f.row.tokens) slot (get_or m.entries slot undefined) d in
+    let d = subst (Defines (map item_of f.row.tokens)) (slot_row f.row.definition slot f.is
+    ∙ ap (KeyDefinition slot) entry) f.defines in
+    let ten = sym (length-map f.row.tokens item_of) ∙ slot_tokens (map item_of f.row.tokens) slot
+    (get_or m.entries slot undefined) d in
     let place : f.skipped ≡ p.first = omega (arith, f.first) in
     let there : f.row.tokens ≡ take 10 (drop p.first (tokens text)) =
     sym f.there ∙ ap (λ n. take n (drop f.skipped (tokens text))) ten
@@ -210,18 +207,15 @@ pub accent_in_force : (text : List ℕ) (m : MapValue) (rows : List Row) → IsS
     → Defines (map item_of (take (4 * length (get_or m.accents i blank).pairs + 2) (drop p.first (tokens text))))
     (AccentDefinition i (get_or m.accents i blank))
 accent_in_force text m rows h i p e =
-    let f : LastRow AccentValue (of_index i) (Accent i) (tokens text) (definitions rows) 0 p =
-    last_row (of_index i) (Accent i) (says_index i) h.are_rows 0 p e in
+    let f = last_row (of_index i) (Accent i) (says_index i) h.are_rows 0 p e in
     let accent : or_default (of_index i f.row.definition) blank ≡ get_or m.accents i blank =
     sym (ap (λ (m : MapValue). get_or m.accents i blank) h.spelled ∙ accent_of (definitions rows) i
     ∙ ap (λ o. or_default o blank) f.says_it) in
-    let d : Defines (map item_of f.row.tokens) (AccentDefinition i (get_or m.accents i blank)) =
-    subst (Defines (map item_of f.row.tokens))
-    (index_row f.row.definition i f.is ∙ ap (AccentDefinition i) accent) f.defines in
+    let d = subst (Defines (map item_of f.row.tokens)) (index_row f.row.definition i f.is
+    ∙ ap (AccentDefinition i) accent) f.defines in
     let n = 4 * length (get_or m.accents i blank).pairs + 2 in
-    let many : length f.row.tokens ≡ n =
-    sym (length-map f.row.tokens item_of)
-    ∙ accent_tokens (map item_of f.row.tokens) i (get_or m.accents i blank) d in
+    let many = sym (length-map f.row.tokens item_of) ∙ accent_tokens (map item_of f.row.tokens) i
+    (get_or m.accents i blank) d in
     let place : f.skipped ≡ p.first = omega (arith, f.first) in
     let there : f.row.tokens ≡ take n (drop p.first (tokens text)) =
     sym f.there ∙ ap (λ n. take n (drop f.skipped (tokens text))) many

@@ -123,6 +123,10 @@ is_quote c s h = go (in_front_is c s Unfinished h)
     go : InFront c s Unfinished → c ≡ 39
     go (Quote i e) = i
 
+-- few letters and digits are a word
+pub short_word : (n : ℕ) → n < 32 → word n ≡ Found Word n
+short_word n h = grind (arith, nat_tests)
+
 -- a fault in front does not come of the end
 pub refused_early : (c : ℕ) (g : TextFaultKind) (s : List ℕ) → front_of c s ≡ Refused g → not (is_end_inside g) ≡ true
 refused_early c g s h = go g (in_front_is c s (Refused g) h)

@@ -1,5 +1,5 @@
 -- A quoted character that is complete stays so, whatever follows.
-use Rattle.keymap_text.proofs.Common.{◌≡◌, ◌≢◌, ◌⊎◌, inl, inr, ℕ, suc, ◌+◌, ◌<◌, ◌≤◌, ◌==◌, Bool, true, false, cond}
+use Rattle.keymap_text.proofs.Common.{lt-ltb, ◌≡◌, ◌≢◌, ◌⊎◌, inl, inr, ℕ, ◌+◌, ◌<◌, ◌≤◌, ◌==◌, Bool, true, false, cond}
 use Rattle.keymap_text.proofs.Common.{List, [], ◌∷◌, ◌++◌, length, get_or, refl, sym, ◌∙◌, ap, subst, arith, nat_lt}
 use Rattle.keymap_text.proofs.Common.{nat_le, slice_index, Option, Some, None, length-append, ⊎_elim, eq-eqb}
 use Rattle.keymap_text.proofs.Common.{true≢false, ne_eqb, nat_tests, get_or_append_left, le-ltb, decoded, decoded_by}
@@ -23,9 +23,8 @@ printable c y h k = grind (arith, nat_tests)
 -- such a character in front of bytes
 pub printable_front : (bytes : List ℕ) → 1 < length bytes → 31 < get_or bytes 0 0 → get_or bytes 0 0 < 127
     → get_or bytes 1 0 ≡ 39 → literal bytes ≡ Found (Literal (get_or bytes 0 0)) 2
-printable_front [] l a b e = absurd (omega (arith, l))
-printable_front (c ∷ []) l a b e = absurd (omega (arith, l))
 printable_front (c ∷ d ∷ y) l a b e = ap (λ n. literal (c ∷ n ∷ y)) e ∙ printable c y a b
+printable_front _ l a b e = absurd (omega (arith, l))
 
 -- z, and y that has more bytes to go by: they are the same, or all k bytes of z may begin a character, and y has them
 -- all
@@ -186,10 +185,8 @@ chosen false l q r h k = k h
 
 -- whether a lone byte is quoted, two bytes tell
 lone_same : (b c : ℕ) (s x : List ℕ) → is_lone (b ∷ c ∷ (s ++ x)) ≡ is_lone (b ∷ c ∷ s)
-lone_same b c s x = rw (above (length (b ∷ c ∷ (s ++ x))) (omega arith), above (length (b ∷ c ∷ s)) (omega arith)) refl
-  where
-    above : (n : ℕ) → 1 < n → nat_lt 1 n ≡ true
-    above n h = grind (arith, nat_tests)
+lone_same b c s x =
+    rw (lt-ltb 1 (length (b ∷ c ∷ (s ++ x))) (omega arith), lt-ltb 1 (length (b ∷ c ∷ s)) (omega arith)) refl
 
 -- what is not unfinished stays whatever follows
 pub literal_stable : (s x : List ℕ) → literal s ≢ Unfinished → literal (s ++ x) ≡ literal s
@@ -266,35 +263,29 @@ longer_quoted s x k n u h = let e =
     (decoded_grows s x)
 
 -- with two bytes or more
-longer_long : (b c : ℕ) (s x : List ℕ) (k : TokenKind) (n : ℕ) (p : Bool) (l q r : Front)
-    → (q ≡ Unfinished → r ≡ Found k n → suc (suc (length s)) < n) → cond p l q ≡ Unfinished → l ≢ Unfinished
-    → cond p l r ≡ Found k n → suc (suc (length s)) < n
-longer_long b c s x k n true l q r g u f h = absurd (f u)
-longer_long b c s x k n false l q r g u f h = g u h
+longer_long : (m n : ℕ) (k : TokenKind) (p : Bool) (l q r : Front) → (q ≡ Unfinished → r ≡ Found k n → m < n)
+    → cond p l q ≡ Unfinished → l ≢ Unfinished → cond p l r ≡ Found k n → m < n
+longer_long m n k true l q r g u f h = absurd (f u)
+longer_long m n k false l q r g u f h = g u h
 
--- with one byte
-longer_one : (n : ℕ) (k : TokenKind) (b : Bool) (ch : ℕ) (q : Front) → (q ≡ Found k n → 1 < n)
-    → cond b (Found (Literal ch) 2) q ≡ Found k n → 1 < n
-longer_one n k true ch q g h = grind arith
-longer_one n k false ch q g h = g h
-
--- with none
-positive : (n : ℕ) (k : TokenKind) (b : Bool) (ch : ℕ) (q : Front) → (q ≡ Found k n → 0 < n)
-    → cond b (Found (Literal ch) 2) q ≡ Found k n → 0 < n
-positive n k true ch q g h = grind arith
-positive n k false ch q g h = g h
+-- with one byte or none
+longer_one : (m n : ℕ) (k : TokenKind) (b : Bool) (ch : ℕ) (q : Front) → m < 2 → (q ≡ Found k n → m < n)
+    → cond b (Found (Literal ch) 2) q ≡ Found k n → m < n
+longer_one m n k true ch q l g h = grind arith
+longer_one m n k false ch q l g h = g h
 
 -- one that is found later has more bytes
 pub unfinished_longer : (s x : List ℕ) (k : TokenKind) (n : ℕ) → literal s ≡ Unfinished → literal (s ++ x) ≡ Found k n
     → length s < n
 unfolding literal
 unfinished_longer [] x k n u h =
-    positive n k (is_lone x) (slice_index x 0) (quoted (decoded x) x)
+    longer_one 0 n k (is_lone x) (slice_index x 0) (quoted (decoded x) x) (omega arith)
     (λ e. omega (arith, quoted_found (decoded x).char (decoded x).size n k x e)) h
 unfinished_longer (b ∷ []) x k n u h =
-    longer_one n k (is_lone (b ∷ x)) b _ (longer_quoted (b ∷ []) x k n (not_lone (b ∷ []) _ u).1) h
+    longer_one 1 n k (is_lone (b ∷ x)) b _ (omega arith) (longer_quoted (b ∷ []) x k n (not_lone (b ∷ []) _ u).1) h
 unfinished_longer (b ∷ c ∷ s) x k n u h =
-    longer_long b c s x k n (is_lone (b ∷ c ∷ s)) _ _ (quoted (decoded (b ∷ c ∷ (s ++ x))) (b ∷ c ∷ (s ++ x)))
+    longer_long (length (b ∷ c ∷ s)) n k (is_lone (b ∷ c ∷ s)) _ _
+    (quoted (decoded (b ∷ c ∷ (s ++ x))) (b ∷ c ∷ (s ++ x)))
     (longer_quoted (b ∷ c ∷ s) x k n) u (λ e. cc)
     (ap (λ p. cond p (Found (Literal b) 2) (quoted (decoded (b ∷ c ∷ (s ++ x))) (b ∷ c ∷ (s ++ x))))
     (sym (lone_same b c s x)) ∙ h)
@@ -315,9 +306,8 @@ quoted_fits None n m k s h = unclosed_fits n m k s h
 
 -- a quoted lone byte has an apostrophe behind it
 lone_long : (s : List ℕ) → is_lone s ≡ true → 2 ≤ length s
-lone_long [] h = absurd (true≢false (sym h))
-lone_long (b ∷ []) h = absurd (true≢false (sym h))
 lone_long (b ∷ c ∷ s) h = omega arith
+lone_long _ h = absurd (true≢false (sym h))
 
 -- a found one has no more bytes than there are
 pub literal_fits : (s : List ℕ) (k : TokenKind) (n : ℕ) → literal s ≡ Found k n → n ≤ length s
@@ -339,11 +329,8 @@ literal_no_skip s n h = subst LiteralFront h (literal_shape s)
 
 -- no bound of a second byte lets it pass
 never : (p q r s : Bool) → cond p false (cond q false (cond r false (cond s false false))) ≡ false
-never true q r s = refl
-never false true r s = refl
-never false false true s = refl
 never false false false true = refl
-never false false false false = refl
+never p q r s = refl
 
 -- every character between apostrophes is one, but LF
 no_second : (b : ℕ) → second b 39 ≡ false
@@ -358,14 +345,13 @@ no_char false false false a z h = refl
 
 -- a quoted lone byte is no UTF-8
 lone_decodes : (s : List ℕ) → is_lone s ≡ true → (decoded s).char ≡ None
-lone_decodes [] h = absurd (true≢false (sym h))
-lone_decodes (b ∷ []) h = absurd (true≢false (sym h))
 lone_decodes (b ∷ d ∷ s) h =
     let high : nat_lt b 0x80 ≡ false = grind (arith, nat_tests) in
     let close : d ≡ 39 = grind (arith, nat_tests) in
     let n = length (b ∷ d ∷ s) in
     rw (not_zero n (omega arith), le-ltb n 2 (omega arith), high)
     (no_char (nat_lt b 0xC2) (nat_lt 0xF4 b) (second b d) _ (bad 1) (ap (second b) close ∙ no_second b))
+lone_decodes _ h = absurd (true≢false (sym h))
 
 -- an apostrophe behind the character closes it
 closing_spelled : (c : ℕ) (e rest : List ℕ) → c ≢ 10

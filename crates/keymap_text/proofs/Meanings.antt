@@ -1,5 +1,5 @@
 -- Each row of the table of names says what its name means.
-use Rattle.keymap_text.proofs.Common.{◌≡◌, ℕ, suc, ◌+◌, ◌*◌, ◌<◌, Bool, true, false, cond, ◌&&◌, List, [], ◌∷◌, length}
+use Rattle.keymap_text.proofs.Common.{◌≡◌, ℕ, suc, ◌+◌, ◌*◌, ◌<◌, true, false, cond, ◌&&◌, List, [], ◌∷◌, length}
 use Rattle.keymap_text.proofs.Common.{take, drop, get_or, map, fold, All, refl, sym, ◌∙◌, ap, ap₂, arith, nat_lt}
 use Rattle.keymap_text.proofs.Common.{nat_le, Option, Some, None, IfSome, codes, bytes_eq, ◌≤◌, length-take, take_all}
 use Rattle.keymap_text.proofs.Common.{get_or-map, take-map, drop-map, length-map, lt-ltb, nat_tests, list_all}
@@ -13,7 +13,7 @@ use Rattle.keymap_core.specs.declared.named.Named.{Named}
 use Rattle.keymap_text.specs.Inner.Keys.{place_of}
 use Rattle.keymap_text.proofs.Keys.{unpack_packed, letters_front}
 use Rattle.keymap_text.proofs.Leading.{leading_pass, leading_fail}
-use Rattle.keymap_text.proofs.Numbers.{digits_good}
+use Rattle.keymap_text.proofs.Numbers.{digits_good, none_of}
 use Rattle.keymap_core.specs.declared.action.Action.TheVariants as a
 
 -- case has no effect
@@ -91,11 +91,6 @@ unfolding pick
 decimal_meaning w n h =
     ap (λ o. pick o (number_after (codes "0x") 16 w) (named table w) (named_of w)) h ∙ sym (meaning_picks w)
 
--- no digits, whatever the other test says
-none_of : (b : Bool) (x : Option ℕ) → cond (b && false) x None ≡ None
-none_of true x = refl
-none_of false x = refl
-
 -- a word with 0x is no decimal number
 not_decimal : (b : ℕ) (w : List ℕ) → nat_lt (digit_value b) 10 ≡ false → digits_of 10 (48 ∷ b ∷ w) ≡ None
 unfolding digits_of
@@ -112,7 +107,7 @@ behind_prefix b w l =
     ap₂ (λ m c. cond (m && bytes_eq (codes "0x") (48 ∷ c ∷ [])) (digits_of 16 w) None) (some_length (length w)) l
 
 -- they spell the number
-hexadecimal : (b n : ℕ) (w : List ℕ) → nat_lt (digit_value b) 10 ≡ false → to_ascii_lowercase b ≡ 120
+pub hexadecimal : (b n : ℕ) (w : List ℕ) → nat_lt (digit_value b) 10 ≡ false → to_ascii_lowercase b ≡ 120
     → Some n ≡ digits_of 16 w → Number n ≡ meaning (48 ∷ b ∷ w)
 unfolding pick
 hexadecimal b n w d l h =
@@ -125,10 +120,9 @@ hexadecimal b n w d l h =
 -- digits after 0x mean their number
 pub hexadecimal_meaning : (w : List ℕ) (b n : ℕ) → nat_lt (digit_value b) 10 ≡ false → to_ascii_lowercase b ≡ 120
     → 2 < length w → get_or w 0 0 ≡ 48 → get_or w 1 0 ≡ b → Some n ≡ digits_of 16 (drop 2 w) → Number n ≡ meaning w
-hexadecimal_meaning [] b n d l s x y h = absurd (omega (arith, s))
-hexadecimal_meaning (c ∷ []) b n d l s x y h = absurd (omega (arith, s))
 hexadecimal_meaning (c ∷ e ∷ w) b n d l s x y h =
     hexadecimal b n w d l h ∙ ap₂ (λ (x y : ℕ). meaning (x ∷ y ∷ w)) (sym x) (sym y)
+hexadecimal_meaning _ b n d l s x y h = absurd (omega (arith, s))
 
 -- decimal digits mean their number
 pub decimal_means : (r : Option ℕ) (w : List ℕ) → r ≡ digits_of 10 w → IfSome r (λ n. Number n ≡ meaning w)
@@ -167,13 +161,7 @@ four_digits (n ∷ x ∷ a ∷ b ∷ c ∷ d ∷ e ∷ z) l o t p q r s h =
           (sym (digits_good 16 (a ∷ b ∷ c ∷ d ∷ []) (omega arith)
           (rw (lt-ltb _ _ p, lt-ltb _ _ q, lt-ltb _ _ r, lt-ltb _ _ s) refl))),
     )
-four_digits (n ∷ x ∷ a ∷ b ∷ c ∷ d ∷ []) l o t p q r s h = absurd (omega (arith, l))
-four_digits (n ∷ x ∷ a ∷ b ∷ c ∷ []) l o t p q r s h = absurd (omega (arith, l))
-four_digits (n ∷ x ∷ a ∷ b ∷ []) l o t p q r s h = absurd (omega (arith, l))
-four_digits (n ∷ x ∷ a ∷ []) l o t p q r s h = absurd (omega (arith, l))
-four_digits (n ∷ x ∷ []) l o t p q r s h = absurd (omega (arith, l))
-four_digits (n ∷ []) l o t p q r s h = absurd (omega (arith, l))
-four_digits [] l o t p q r s h = absurd (omega (arith, l))
+four_digits _ l o t p q r s h = absurd (omega (arith, l))
 
 -- a name is true if the word with its key means so
 pub means_of : (key : ℕ) (m : Meaning) → m ≡ meaning (unpacked 8 key) → KeyMeans key m

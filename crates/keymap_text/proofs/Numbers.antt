@@ -1,4 +1,5 @@
 -- Names and numbers.
+use Rattle.keymap_text.proofs.Common.{lt-ltb, le-ltb}
 use Rattle.keymap_text.proofs.Common.{◌≡◌, ℕ, suc, ◌+◌, ◌*◌, ◌^◌, ◌<◌, ◌≤◌, Bool, true, false, cond, ◌&&◌, List, []}
 use Rattle.keymap_text.proofs.Common.{◌∷◌, length, take, drop, get_or, refl, sym, ◌∙◌, ap, arith, add-one, drop-cons}
 use Rattle.keymap_text.proofs.Common.{pow_mono, pow-add, nat_lt, Some, None, Option, mul-le-mul_left, ap₂, ◌==◌}
@@ -66,30 +67,25 @@ unfolding digits_of
 digits_none base [] h = refl
 digits_none base (x ∷ w) h = absurd (omega (arith, h))
 
+-- no number, whatever another test says
+pub none_of : (b : Bool) (x : Option ℕ) → cond (b && false) x None ≡ None
+none_of true x = refl
+none_of false x = refl
+
 -- a byte that is no digit spells no number
 pub digits_bad : (base : ℕ) (w : List ℕ) (i : ℕ) → i < length w → base ≤ digit_value (get_or w i 0)
     → digits_of base w ≡ None
 unfolding digits_of
 digits_bad base w i h e =
     ap (λ b. cond (nat_lt 0 (length w) && b) (Some (number base w)) None)
-    (list_all_at (is_digit base) w i 0 h (le-nltb base _ e)) ∙ never (nat_lt 0 (length w)) (Some (number base w))
-  where
-    never : (b : Bool) (x : Option ℕ) → cond (b && false) x None ≡ None
-    never true x = refl
-    never false x = refl
-
-    le-nltb : (n d : ℕ) → n ≤ d → nat_lt d n ≡ false
-    le-nltb n d h = grind (arith, nat_tests)
+    (list_all_at (is_digit base) w i 0 h (le-ltb _ base e)) ∙ none_of (nat_lt 0 (length w)) (Some (number base w))
 
 -- digits alone spell their number
 pub digits_good : (base : ℕ) (w : List ℕ) → 0 < length w → list_all (is_digit base) w ≡ true
     → digits_of base w ≡ Some (number base w)
 unfolding digits_of
 digits_good base [] h e = absurd (omega (arith, h))
-digits_good base (x ∷ w) h e = rw (some (length w), e) refl
-  where
-    some : (n : ℕ) → nat_lt 0 (suc n) ≡ true
-    some n = grind (arith, nat_tests)
+digits_good base (x ∷ w) h e = rw (lt-ltb 0 (suc (length w)) (omega arith), e) refl
 
 -- the number of one digit more
 number_more : (base : ℕ) (w : List ℕ) (i : ℕ) → i < length w
@@ -99,10 +95,7 @@ number_more base w i h = fold_more (λ n c. n * base + digit_value c) 0 w i 0 h
 -- one digit more
 digits_more : (base : ℕ) (w : List ℕ) (i : ℕ) → i < length w → list_all (is_digit base) (take i w) ≡ true
     → digit_value (get_or w i 0) < base → list_all (is_digit base) (take (i + 1) w) ≡ true
-digits_more base w i h e d = list_all_more (is_digit base) w i 0 h ∙ ap₂ (λ a b. a && b) e (lt-test _ _ d)
-  where
-    lt-test : (d n : ℕ) → d < n → nat_lt d n ≡ true
-    lt-test d n h = grind (arith, nat_tests)
+digits_more base w i h e d = list_all_more (is_digit base) w i 0 h ∙ ap₂ (λ a b. a && b) e (lt-ltb _ _ d)
 
 -- The first i bytes are digits, and spell n.
 pub record Spells (base : ℕ) (w : List ℕ) (i n : ℕ) : Type 0 where

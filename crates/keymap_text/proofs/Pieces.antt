@@ -1,7 +1,6 @@
 -- A text of lines, and its front up to one of them.
-use Rattle.keymap_text.proofs.Common.{◌≡◌, ℕ, zero, suc, ◌+◌, ◌-◌, ◌<◌, List, [], ◌∷◌, ◌++◌, sym, ◌∙◌, ap, arith, Some}
-use Rattle.keymap_text.proofs.Common.{None, append_assoc, append-nil, add-one, slice_get, slice_index_or, flat_map}
-use Rattle.keymap_text.proofs.Common.{range_with_len}
+use Rattle.keymap_text.proofs.Common.{◌≡◌, ℕ, zero, suc, ◌+◌, ◌-◌, ◌<◌, List, [], ◌++◌, sym, ◌∙◌, ap, arith}
+use Rattle.keymap_text.proofs.Common.{append_assoc, append-nil, add-one, flat_map, range_with_len}
 
 -- the pieces of the numbers from a on
 pieces_more : (f : ℕ → List ℕ) (a n : ℕ)
@@ -56,15 +55,3 @@ pub lines-cut : (line : ℕ → List ℕ) (i n : ℕ) (text piece : List ℕ) �
 lines-cut line i n text piece h e =
     let at = pieces_at line i n h in
     (at.0, ap (λ t. text ++ t) at.1 ∙ rw e (simp append_assoc))
-
--- the element at an index
-pub element_is : {A : Type 0} (xs : List A) (i : ℕ) (d x : A) → slice_get xs i ≡ Some x → x ≡ slice_index_or xs i d
-element_is [] i d x h = absurd (none_is x h)
-  where
-    none_is : {A : Type 0} (x : A) → None ≡ Some x → ⊥
-    none_is x h = cc
-element_is (y ∷ xs) zero d x h = sym (some_is y x h)
-  where
-    some_is : {A : Type 0} (x y : A) → Some x ≡ Some y → x ≡ y
-    some_is x y h = cc
-element_is (y ∷ xs) (suc i) d x h = element_is xs i d x h

@@ -67,13 +67,11 @@ tokens_on : {ts us : Tokens} → Continues ts us → (i : ℕ) (d : TokenValue) 
     → is_settled (slice_index_or (list_of ts) i d) ≡ true
     → (i < length (list_of us)) × IsSameToken (slice_index_or (list_of ts) i d) (slice_index_or (list_of us) i d)
 unfolding list_of
-tokens_on at_end i d l h = absurd (omega (arith, l))
-tokens_on unfinished i d l h = absurd (omega (arith, l))
-tokens_on stopped i d l h = absurd (omega (arith, l))
 tokens_on (open_word e) zero d l h = absurd (true≢false (sym h ∙ e))
 tokens_on (open_word e) (suc i) d l h = absurd (omega (arith, l))
 tokens_on (same s w k) zero d l h = (omega arith, s)
 tokens_on (same s w k) (suc i) d l h = let r = tokens_on k i d (omega (arith, l)) h in (omega (arith, r.0), r.1)
+tokens_on _ i d l h = absurd (omega (arith, l))
 
 -- a settled token of a text is that of every text that begins so
 pub tokens_stay : (text more : List ℕ) (i : ℕ) (d : TokenValue) → i < length (tokens text)

@@ -1,9 +1,9 @@
 -- The printed lines are definitions.
-use Rattle.keymap_text.proofs.Common.{◌≡◌, ◌≢◌, ℕ, zero, suc, ◌+◌, ◌-◌, ◌*◌, ◌/◌, ◌%◌, ◌<◌, ◌≤◌, true, List, [], ◌∷◌}
-use Rattle.keymap_text.proofs.Common.{◌++◌, length, replicate, refl, ◌∙◌, ap, subst, arith, Ok, Some, append-nil}
-use Rattle.keymap_text.proofs.Common.{nat_lt, flat_map, list_all, digit_value, nat_tests, Entry, Cell, LockFlag, Action}
-use Rattle.keymap_text.proofs.Common.{Item, Open, Close, Value, Number, Act, Letter, tokens_after, leading, is_word}
-use Rattle.keymap_text.proofs.Common.{meaning, digits_of, named, is_digit, AccentValue, character, cell, accent_index}
+use Rattle.keymap_text.proofs.Common.{lt-ltb, ◌≡◌, ◌≢◌, ℕ, zero, suc, ◌+◌, ◌-◌, ◌*◌, ◌/◌, ◌%◌, ◌<◌, ◌≤◌, true, List, []}
+use Rattle.keymap_text.proofs.Common.{◌∷◌, ◌++◌, length, replicate, refl, ◌∙◌, ap, subst, arith, Ok, Some, append-nil}
+use Rattle.keymap_text.proofs.Common.{flat_map, list_all, digit_value, nat_tests, Entry, Cell, LockFlag, Action, Item}
+use Rattle.keymap_text.proofs.Common.{Open, Close, Value, Number, Act, Letter, tokens_after, leading, is_word, meaning}
+use Rattle.keymap_text.proofs.Common.{digits_of, named, is_digit, AccentValue, character, cell, accent_index}
 use Rattle.keymap_text.proofs.Common.{KeyDefinition, AccentDefinition, AreCells, no_cells, one_cell, ArePairs, no_pairs}
 use Rattle.keymap_text.proofs.Common.{one_pair, Defines, of_key, of_accent, key_line, accent_line, slot_text, column}
 use Rattle.keymap_text.proofs.Common.{filled, cell_text, flag_letter, pair_text, character_text, accent_name}
@@ -94,10 +94,7 @@ decimal_word d h = grind (arith, nat_tests)
 
 -- and passes the test of digits
 decimal_digit : (d : ℕ) → d < 10 → is_digit 10 (48 + d) ≡ true
-decimal_digit d h = rw (decimal d h) (below d h)
-  where
-    below : (d : ℕ) → d < 10 → nat_lt d 10 ≡ true
-    below d h = grind (arith, nat_tests)
+decimal_digit d h = rw (decimal d h) (lt-ltb d 10 h)
 
 -- three digits are one word
 three_word : (a b c : ℕ) → is_word a ≡ true → is_word b ≡ true → is_word c ≡ true → leading is_word (a ∷ b ∷ c ∷ []) ≡ 3

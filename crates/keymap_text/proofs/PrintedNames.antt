@@ -1,7 +1,6 @@
 -- The name of each action is one word, which means that action.
-use Rattle.keymap_text.proofs.Common.{◌≡◌, ℕ, ◌<◌, ◌≤◌, Bool, true, false, map, refl, arith, nat_le, ◌⊎◌, inl, inr}
-use Rattle.keymap_text.proofs.Common.{nat_tests, range_with_len, IsAction, name_of, Action, Act, meaning, digits_of}
-use Rattle.keymap_text.proofs.Common.{named, along}
+use Rattle.keymap_text.proofs.Common.{cases_lt, ◌≡◌, ℕ, ◌≤◌, true, map, refl, arith, inl, inr, range_with_len, IsAction}
+use Rattle.keymap_text.proofs.Common.{name_of, Action, Act, meaning, digits_of, named, along}
 use Rattle.keymap_text.proofs.Characters.{is_one_word}
 use Rattle.keymap_core.specs.declared.action.Action.TheVariants as a
 use Rattle.keymap_core.specs.declared.action.Modifier.TheVariants as m
@@ -46,23 +45,9 @@ dead_key_meanings : map (λ k. meaning (name_of (a.DeadKey k))) (range_with_len 
 unfolding meaning digits_of named
 dead_key_meanings = refl
 
--- a number up to 48 or above
-low_or_high : (k : ℕ) → (k ≤ 48) ⊎ (48 < k)
-low_or_high k = go (nat_le k 48) refl
-  where
-    is_le : nat_le k 48 ≡ true → k ≤ 48
-    is_le t = grind (arith, nat_tests)
-
-    not_le : nat_le k 48 ≡ false → 48 < k
-    not_le t = grind (arith, nat_tests)
-
-    go : (b : Bool) → nat_le k 48 ≡ b → (k ≤ 48) ⊎ (48 < k)
-    go true t = inl (is_le t)
-    go false t = inr (not_le t)
-
 -- each function key
 function_meaning : (k : ℕ) → 1 ≤ k → k ≤ 96 → meaning (name_of (a.Function k)) ≡ Act (a.Function k)
-function_meaning k low high = elim (low_or_high k) [
+function_meaning k low high = elim (cases_lt k 49) [
   | inl h ↦ along (λ k. meaning (name_of (a.Function k))) (λ k. Act (a.Function k)) 1 48 low_function_meanings k low
       (omega (arith, h))
   | inr h ↦ along (λ k. meaning (name_of (a.Function k))) (λ k. Act (a.Function k)) 49 48 high_function_meanings k

@@ -1,14 +1,14 @@
 -- A printed map spells the map.
-use Rattle.keymap_text.proofs.Common.{◌≡◌, ◌≢◌, ℕ, zero, suc, ◌+◌, ◌<◌, ◌≤◌, ◌==◌, Bool, true, false, cond, max, List}
-use Rattle.keymap_text.proofs.Common.{[], ◌∷◌, ◌++◌, length, get_or, map, refl, sym, ◌∙◌, ap, ap₂, subst, arith, Result}
-use Rattle.keymap_text.proofs.Common.{Ok, Err, Option, Some, None, append_assoc, append-nil, eqb-true, eq-eqb, ne_eqb}
-use Rattle.keymap_text.proofs.Common.{true≢false, nat_lt, All, inl, inr, flat_map, range_with_len, option_or}
-use Rattle.keymap_text.proofs.Common.{eq-or-lt_of_le, nat_tests, blank, MapValue, undefined, name_of, Cell, Item, Open}
-use Rattle.keymap_text.proofs.Common.{Close, Value, Number, Char, Act, TextFaultKind, character, cell, tokens_after}
-use Rattle.keymap_text.proofs.Common.{Definition, KeyDefinition, AccentDefinition, Defines, IsRow, no_definition}
-use Rattle.keymap_text.proofs.Common.{one_definition, last, of_slot, of_index, greatest, slots_needed, accents_needed}
-use Rattle.keymap_text.proofs.Common.{or_default, map_of, key_line, accent_line, printed, key_lines, accent_lines}
-use Rattle.keymap_text.proofs.Common.{Spells, ending_of_tokens, list_of}
+use Rattle.keymap_text.proofs.Common.{cases_lt, ◌≡◌, ◌≢◌, ℕ, zero, suc, ◌+◌, ◌<◌, ◌≤◌, ◌==◌, Bool, true, false, cond}
+use Rattle.keymap_text.proofs.Common.{max, List, [], ◌∷◌, ◌++◌, length, get_or, map, refl, sym, ◌∙◌, ap, ap₂, subst}
+use Rattle.keymap_text.proofs.Common.{arith, Result, Ok, Err, Option, Some, None, append_assoc, append-nil, eqb-true}
+use Rattle.keymap_text.proofs.Common.{eq-eqb, ne_eqb, true≢false, All, inl, inr, flat_map, range_with_len, option_or}
+use Rattle.keymap_text.proofs.Common.{eq-or-lt_of_le, blank, MapValue, undefined, name_of, Cell, Item, Value, Number}
+use Rattle.keymap_text.proofs.Common.{Char, Act, TextFaultKind, character, cell, tokens_after, Definition}
+use Rattle.keymap_text.proofs.Common.{KeyDefinition, AccentDefinition, Defines, IsRow, no_definition, one_definition}
+use Rattle.keymap_text.proofs.Common.{last, of_slot, of_index, greatest, slots_needed, accents_needed, or_default}
+use Rattle.keymap_text.proofs.Common.{map_of, key_line, accent_line, printed, key_lines, accent_lines, Spells}
+use Rattle.keymap_text.proofs.Common.{ending_of_tokens, list_of}
 use lib.Utf8.{scalar, scalar_cases}
 use Rattle.keymap_core.specs.declared.action.Action.TheVariants.{DeadKey}
 use Rattle.keymap_core.specs.Bounds.{IsMap, IsCell, IsPair}
@@ -37,29 +37,16 @@ prints_character c s = below 32 (λ h. prints_control c h)
     bound = elim (scalar_cases c s) [ inl h ↦ omega (arith, h) | inr h ↦ omega (arith, h.1) ]
 
     below : (n : ℕ) → (c < n → PrintsCharacter c) → (n ≤ c → PrintsCharacter c) → PrintsCharacter c
-    below n f g = go (nat_lt c n) refl
-      where
-        is_lt : nat_lt c n ≡ true → c < n
-        is_lt t = grind (arith, nat_tests)
-
-        not_lt : nat_lt c n ≡ false → n ≤ c
-        not_lt t = grind (arith, nat_tests)
-
-        go : (b : Bool) → nat_lt c n ≡ b → PrintsCharacter c
-        go true t = f (is_lt t)
-        go false t = g (not_lt t)
+    below n f g = elim (cases_lt c n) [ inl h ↦ f h | inr h ↦ g h ]
 
 -- a character is a cell
 cell_of_character : (t : Item) (c : ℕ) → character t ≡ Ok c → cell t ≡ Ok (cells.Char c)
-cell_of_character Open c h = absurd (cc)
-cell_of_character Close c h = absurd (cc)
 cell_of_character (Value (Number n)) c h =
     ap (λ (r : Result ℕ TextFaultKind). elim r as
     (λ r. Result Cell TextFaultKind) [ Ok c ↦ Ok (cells.Char c) | Err f ↦ Err f ]) h
 cell_of_character (Value (Char d)) c h =
     ap (λ (r : Result ℕ TextFaultKind). elim r as
     (λ r. Result Cell TextFaultKind) [ Ok c ↦ Ok (cells.Char c) | Err f ↦ Err f ]) h
-cell_of_character (Value (Act a)) c h = absurd (cc)
 cell_of_character _ c h = absurd (cc)
 
 -- a cell is printed as one token
@@ -198,6 +185,11 @@ greatest_to : (f : Definition → ℕ) (def : ℕ → Definition) (n : ℕ) → 
 greatest_to f def zero e = greatest_none f
 greatest_to f def (suc n) e = greatest_of f def 0 n e ∙ omega arith
 
+-- no bytes have no tokens
+pub no_items : (q : ℕ) → items_of (tokens_after 0 q []) ≡ []
+unfolding list_of
+no_items q = ap items_of (split_none q)
+
 module _ (m : MapValue) (h : IsMap m) where
   key : ℕ → Definition
   key s = KeyDefinition s (get_or m.entries s undefined)
@@ -281,10 +273,6 @@ module _ (m : MapValue) (h : IsMap m) where
       (λ i k. entry_is i (omega (arith, k, keys_are))))
       (by_range m.accents _ _ blank (sym accents_are) (λ i k. accent_is i (omega (arith, k, accents_are))))
 
-  nothing : (q : ℕ) → items_of (tokens_after 0 q []) ≡ []
-  unfolding list_of
-  nothing q = ap items_of (split_none q)
-
   ends : (q : ℕ) → ending_of_tokens (tokens_after 0 q []) ≡ Ok q
   unfolding ending_of_tokens
   ends q = ap ending_of_tokens (split_none q)
@@ -294,7 +282,7 @@ module _ (m : MapValue) (h : IsMap m) where
     definitions = keys ++ dead_keys;
     row = subst (λ (ts : List Item). IsRow ts (keys ++ dead_keys))
         (sym (ap (λ t. items_of (tokens_after 0 0 t)) (sym (append-nil (printed m))) ∙ both.1.items 0 [] tt
-        ∙ ap (λ (r : List Item). both.0 ++ r) (nothing _) ∙ append-nil both.0)) both.2;
+        ∙ ap (λ (r : List Item). both.0 ++ r) (no_items _) ∙ append-nil both.0)) both.2;
     end = 0 + length (printed m);
     whole = ap (λ t. ending_of_tokens (tokens_after 0 0 t)) (sym (append-nil (printed m))) ∙ both.1.end 0 [] tt
         ∙ ends _;

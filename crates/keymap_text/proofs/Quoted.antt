@@ -229,9 +229,8 @@ three_begin b c d low high ok more =
 
 -- one byte from 0x80 on
 high_begins : (s : List ℕ) → length s ≡ 1 → 0x80 ≤ slice_index s 0 → IsUnfinished (39 ∷ s)
-high_begins [] l h = absurd (omega (arith, l))
 high_begins (b ∷ []) l h = needs (b ∷ []) [] b (inr (h, refl))
-high_begins (b ∷ c ∷ s) l h = absurd (omega (arith, l))
+high_begins _ l h = absurd (omega (arith, l))
 
 -- no byte
 nothing_begins : (s : List ℕ) → length s ≡ 0 → IsUnfinished (39 ∷ s)
@@ -241,10 +240,8 @@ nothing_begins (b ∷ s) l = absurd (omega (arith, l))
 -- two bytes of a list
 two_of : (s : List ℕ) → length s ≡ 2 → 0xE0 ≤ slice_index s 0 → slice_index s 0 ≤ 0xF4
     → second (slice_index s 0) (slice_index s 1) ≡ true → IsUnfinished (39 ∷ s)
-two_of [] l = absurd (omega (arith, l))
-two_of (b ∷ []) l = absurd (omega (arith, l))
 two_of (b ∷ c ∷ []) l = two_begin b c
-two_of (b ∷ c ∷ d ∷ s) l = absurd (omega (arith, l))
+two_of _ l = absurd (omega (arith, l))
 
 -- three bytes of a list
 three_of : (s : List ℕ) → length s ≡ 3 → 0xF0 ≤ slice_index s 0 → slice_index s 0 ≤ 0xF4
@@ -332,9 +329,7 @@ unfinished_literal s u = go (literal s) refl
 
     go : (f : Front) → literal s ≡ f → literal s ≡ Unfinished
     go Unfinished e = e
-    go (Skipped n) e = absurd (long (λ h. cc))
-    go (Found k n) e = absurd (long (λ h. cc))
-    go (Refused f) e = absurd (long (λ h. cc))
+    go f e = absurd (long (λ h. cc))
 
 -- a quoted character is found
 pub quoted_found : (q c : ℕ) (bytes more : List ℕ) → IsQuoted c bytes

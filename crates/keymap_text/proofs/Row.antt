@@ -2,15 +2,15 @@
 use Rattle.keymap_text.proofs.Common.{◌≡◌, ◌≢◌, ℕ, ◌+◌, ◌<◌, ◌≤◌, ◌==◌, Bool, true, false, cond, List, [], ◌∷◌, ◌++◌}
 use Rattle.keymap_text.proofs.Common.{length, take, set, refl, sym, ◌∙◌, ap, subst, arith, Result, Ok, Err, Option}
 use Rattle.keymap_text.proofs.Common.{Some, None, length-append, length-set, append_assoc, append-nil, nat_lt, eqb-true}
-use Rattle.keymap_text.proofs.Common.{ne_eqb, eq-eqb, true≢false, take_all, nat_tests, none-some, same_Some}
+use Rattle.keymap_text.proofs.Common.{ne_eqb, eq-eqb, true≢false, take_all, none-some, same_Some}
 use Rattle.keymap_text.proofs.Common.{take_more_set, TextFaultKind, Entry, Cell, LockFlag, Action, Item, Open, Close}
-use Rattle.keymap_text.proofs.Common.{Value, Number, Char, Act, Combined, Letter, AccentValue, MapValue, undefined}
+use Rattle.keymap_text.proofs.Common.{Value, Number, Act, Letter, AccentValue, MapValue, undefined}
 use Rattle.keymap_text.proofs.Common.{with_entry, with_accent, character, cell, lock, accent_index, GrammarState}
 use Rattle.keymap_text.proofs.Common.{GrammarPlace, CellAt, LockAt, AccentCharacter, AfterAccent, PairBase, PairResult}
 use Rattle.keymap_text.proofs.Common.{PairEnd, accept, at, at_end, start, step, first_of, empty_map, with_cell}
 use Rattle.keymap_text.proofs.Common.{with_pair, after_cell, after_base, ◌>>=◌, KeyDefinition, AccentDefinition}
 use Rattle.keymap_text.proofs.Common.{AreCells, no_cells, one_cell, ArePairs, no_pairs, one_pair, Defines, of_key}
-use Rattle.keymap_text.proofs.Common.{of_accent, IsRow, no_definition, one_definition}
+use Rattle.keymap_text.proofs.Common.{of_accent, IsRow, no_definition, one_definition, ltb-true, lt-ltb}
 use Rattle.keymap_text.specs.Inner.Grammar.{Definition}
 use Rattle.keymap_text.proofs.Folded.{put, puts, puts_push}
 use Rattle.keymap_text.specs.declared.fault.TextFaultKind.TheVariants as faults
@@ -29,10 +29,6 @@ bind_ok (Err e) f y h = absurd (err_ok e y h)
 -- equal answers
 pub ok_is : {A : Type 0} (x y : A) → ◌≡◌ {A = Result A TextFaultKind} (Ok x) (Ok y) → x ≡ y
 ok_is x y h = cc
-
--- a test of numbers
-below : (n k : ℕ) → nat_lt n k ≡ true → n < k
-below n k h = grind (arith, nat_tests)
 
 -- numbers that differ
 differ : (a b : ℕ) → (a == b) ≡ false → a ≢ b
@@ -86,16 +82,13 @@ data Moves (part : List Item) (m : MapValue) (t : Item) (s : GrammarState) : Typ
 
 -- the first token of a definition
 begins : (t : Item) (p : GrammarPlace) → first_of t ≡ Ok p → Part (t ∷ []) p
-begins Open p h = absurd (err_ok _ _ h)
-begins Close p h = absurd (err_ok _ _ h)
 begins (Value (Number n)) p h = go (nat_lt n 256) refl h
   where
     go : (b : Bool) → nat_lt n 256 ≡ b → cond b (Ok (CellAt n 0 undefined)) (Err faults.KeyTooLarge) ≡ Ok p
         → Part (Value (Number n) ∷ []) p
     go true e h =
-        subst (Part (Value (Number n) ∷ [])) (ok_is _ _ h) ([], refl, below n 256 e, omega arith, refl, no_cells)
+        subst (Part (Value (Number n) ∷ [])) (ok_is _ _ h) ([], refl, ltb-true n 256 e, omega arith, refl, no_cells)
     go false e h = absurd (err_ok _ _ h)
-begins (Value (Char c)) p h = absurd (err_ok _ _ h)
 begins (Value (Act a)) p h = go (accent_index a) refl h
   where
     go : (o : Option ℕ) → accent_index a ≡ o
@@ -106,7 +99,6 @@ begins (Value (Act a)) p h = go (accent_index a) refl h
         ]) ≡ Ok p → Part (Value (Act a) ∷ []) p
     go (Some i) e h = subst (Part (Value (Act a) ∷ [])) (ok_is _ _ h) (a, refl, e)
     go None e h = absurd (err_ok _ _ h)
-begins (Value Combined) p h = absurd (err_ok _ _ h)
 begins _ p h = absurd (err_ok _ _ h)
 
 -- a lock letter
@@ -197,7 +189,7 @@ moves part m (AfterAccent i a) Open s h k = go (nat_lt (length a.pairs) 52) refl
   where
     go : (b : Bool) → nat_lt (length a.pairs) 52 ≡ b
         → cond b (Ok (at m (PairBase i a))) (Err faults.TooManyPairs) ≡ Ok s → Moves part m Open s
-    go true e h = on part m Open (PairBase i a) s h (part, refl, k, below _ _ e)
+    go true e h = on part m Open (PairBase i a) s h (part, refl, k, ltb-true _ _ e)
     go false e h = absurd (err_ok _ _ h)
 moves part m (AfterAccent i a) Close s h k = begin_behind part m i a Close s h k
 moves part m (AfterAccent i a) (Value v) s h k = begin_behind part m i a (Value v) s h k
@@ -318,9 +310,6 @@ row_at_end ts m Definition m' k h = (
       (sym (k.tokens ∙ ap (λ r. k.row ++ r) k.part ∙ append-nil k.row)) k.is_row,
   sym (same_Some _ _ h) ∙ k.map,
 )
-row_at_end ts m (CellAt slot i e) m' k h = absurd (none-some _ h)
-row_at_end ts m (LockAt slot e) m' k h = absurd (none-some _ h)
-row_at_end ts m (AccentCharacter i) m' k h = absurd (none-some _ h)
 row_at_end ts m (AfterAccent i a) m' k h = (
   k.definitions ++ AccentDefinition i a ∷ [],
   subst (λ (ts : List Item). IsRow ts (k.definitions ++ AccentDefinition i a ∷ [])) (sym k.tokens)
@@ -328,9 +317,7 @@ row_at_end ts m (AfterAccent i a) m' k h = (
   sym (same_Some _ _ h) ∙ ap (λ m. with_accent m i a) k.map
       ∙ sym (puts_push empty_map k.definitions (AccentDefinition i a)),
 )
-row_at_end ts m (PairBase i a) m' k h = absurd (none-some _ h)
-row_at_end ts m (PairResult i a b) m' k h = absurd (none-some _ h)
-row_at_end ts m (PairEnd i a b r) m' k h = absurd (none-some _ h)
+row_at_end ts m _ m' k h = absurd (none-some _ h)
 
 -- each row is accepted
 steps_on : (s s' : GrammarState) (t : Item) (ts : List Item) → accept s t ≡ Ok s' → steps s (t ∷ ts) ≡ steps s' ts
@@ -348,16 +335,11 @@ ready : (m : MapValue) (p : GrammarPlace) (m' : MapValue) (t : Item) (q : Gramma
     → first_of t ≡ Ok q → accept (at m p) t ≡ Ok (at m' q)
 unfolding at_end accept
 ready m Definition m' t q h k = ap (λ r. r >>= (λ p. Ok (at m p))) k ∙ ap (λ m. Ok (at m q)) (same_Some _ _ h)
-ready m (CellAt slot i e) m' t q h k = absurd (none-some _ h)
-ready m (LockAt slot e) m' t q h k = absurd (none-some _ h)
-ready m (AccentCharacter i) m' t q h k = absurd (none-some _ h)
 ready m (AfterAccent i a) m' Open q h k = absurd (err_ok _ _ k)
 ready m (AfterAccent i a) m' Close q h k = absurd (err_ok _ _ k)
 ready m (AfterAccent i a) m' (Value v) q h k =
     ap (λ r. r >>= (λ p. Ok (at (with_accent m i a) p))) k ∙ ap (λ m. Ok (at m q)) (same_Some _ _ h)
-ready m (PairBase i a) m' t q h k = absurd (none-some _ h)
-ready m (PairResult i a b) m' t q h k = absurd (none-some _ h)
-ready m (PairEnd i a b r) m' t q h k = absurd (none-some _ h)
+ready m _ m' t q h k = absurd (none-some _ h)
 
 -- a cell is taken
 take_cell : (m : MapValue) (slot i : ℕ) (e : Entry) (t : Item) (c : Cell) → cell t ≡ Ok c
@@ -411,10 +393,8 @@ own_taken m i c t h = ap (λ r. r >>= (λ c. Ok (at m (AfterAccent i (record { o
 open_taken : (m : MapValue) (i : ℕ) (a : AccentValue) → length a.pairs < 52
     → accept (at m (AfterAccent i a)) Open ≡ Ok (at m (PairBase i a))
 unfolding accept
-open_taken m i a h = ap (λ b. cond b (Ok (at m (PairBase i a))) (Err faults.TooManyPairs)) (is_below (length a.pairs) h)
-  where
-    is_below : (n : ℕ) → n < 52 → nat_lt n 52 ≡ true
-    is_below n h = grind (arith, nat_tests)
+open_taken m i a h =
+    ap (λ b. cond b (Ok (at m (PairBase i a))) (Err faults.TooManyPairs)) (lt-ltb (length a.pairs) 52 h)
 
 -- a base is taken
 base_taken : (m : MapValue) (i : ℕ) (a : AccentValue) (t : Item) (b : ℕ) → character t ≡ Ok b → b ≢ 0
@@ -470,15 +450,12 @@ unfolding entry_of
 defined s m ts d (of_key {slot = slot} {e = e} {ts = cs} fits l cells) h = (
   at (with_entry m slot e) Definition,
   steps_on s _ _ _ (ready s.map s.place m (Value (Number slot)) (CellAt slot 0 undefined) h
-      (ap (λ b. cond b (Ok (CellAt slot 0 undefined)) (Err faults.KeyTooLarge)) (is_below slot fits)))
+      (ap (λ b. cond b (Ok (CellAt slot 0 undefined)) (Err faults.KeyTooLarge)) (lt-ltb slot 256 fits)))
       ∙ cells_done m slot 0 undefined cs e.cells (Value (Letter e.flag) ∷ []) cells (omega (arith, l))
       (omega (arith, l)) refl
       ∙ lock_taken m slot _ e.flag,
   ends_lock _,
 )
-  where
-    is_below : (n : ℕ) → n < 256 → nat_lt n 256 ≡ true
-    is_below n h = grind (arith, nat_tests)
 defined s m ts d (of_accent {i = i} {a = a} {t = t} {ts = us} name idx own le pairs) h = (
   at m (AfterAccent i a),
   steps_on s _ _ (t ∷ us) (ready s.map s.place m (Value (Act name)) (AccentCharacter i) h

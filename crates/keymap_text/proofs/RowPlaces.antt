@@ -71,15 +71,11 @@ starts n t ts what h e = rw (begun, h, e) refl
 -- an opening parenthesis is one
 open_is : (k : TokenKind) (w : List ℕ) → item k w ≡ Open → is_open k ≡ true
 open_is kinds.ParenL w h = refl
-open_is kinds.ParenR w h = absurd (cc)
-open_is (kinds.Literal c) w h = absurd (cc)
-open_is kinds.Word w h = absurd (cc)
+open_is _ w h = absurd (cc)
 
 not_open : (k : TokenKind) (w : List ℕ) (m : Meaning) → item k w ≡ Value m → is_open k ≡ false
 not_open kinds.ParenL w m h = absurd (cc)
-not_open kinds.ParenR w m h = refl
-not_open (kinds.Literal c) w m h = refl
-not_open kinds.Word w m h = refl
+not_open _ w m h = refl
 
 -- as many tokens as items
 as_many : (ts : List TokenValue) (us : List Item) → map item_of ts ≡ us → length ts ≡ length us

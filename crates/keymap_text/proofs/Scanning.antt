@@ -64,8 +64,7 @@ pub comment_advances : (s : GrammarState) (rest : List ℕ) (n : ℕ) → 0 < le
     → n ≡ leading stays_on_line rest → n < length rest → Advances s s rest n
 comment_advances s [] n l h e k = absurd (omega (arith, l))
 comment_advances s (c ∷ rest) n l h e k =
-    let size : n ≡ leading stays_on_line rest + 1 =
-    e ∙ leading_pass stays_on_line c rest (ap stays_on_line h) in
+    let size = e ∙ leading_pass stays_on_line c rest (ap stays_on_line h) in
     let m = leading stays_on_line rest in
     let whole : suc m ≡ n = omega (arith, size) in
     record {

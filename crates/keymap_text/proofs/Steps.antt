@@ -1,11 +1,11 @@
 -- How tokens are judged, and what stands at a byte.
 use Rattle.keymap_text.proofs.Common.{◌≡◌, ℕ, ◌+◌, ◌<◌, true, false, not, List, [], ◌++◌, refl, sym, ◌∙◌, ap, length}
-use Rattle.keymap_text.proofs.Common.{add-zero, arith, Result, Ok, Err, Option, Some, None, nat_tests, TextFaultKind}
+use Rattle.keymap_text.proofs.Common.{add-zero, Result, Ok, Err, Option, Some, None, TextFaultKind}
 use Rattle.keymap_text.proofs.Common.{EndInside, Word, leading, is_word, word, Found, front_of, tokens_after}
 use Rattle.keymap_text.proofs.Common.{TokenValue, Tokens, Ends, Stops, Then, item, MapValue, GrammarState, accept}
 use Rattle.keymap_text.proofs.Common.{at_end, is_settled, is_end_inside, judge, Faulty, ended}
 use Rattle.keymap_text.proofs.Leading.{leading_append}
-use Rattle.keymap_text.proofs.InFront.{front_word}
+use Rattle.keymap_text.proofs.InFront.{front_word, short_word}
 use Rattle.keymap_text.proofs.Splitting.{split_none}
 
 -- how tokens are judged
@@ -63,6 +63,3 @@ word_ended a p y h w e l =
     let n : leading is_word (p ++ y) ≡ length p =
     leading_append is_word p y w ∙ ap (λ k. length p + k) e ∙ add-zero _ in
     front_word a (p ++ y) h ∙ ap word n ∙ short_word (length p) l
-  where
-    short_word : (n : ℕ) → n < 32 → word n ≡ Found Word n
-    short_word n h = grind (arith, nat_tests)

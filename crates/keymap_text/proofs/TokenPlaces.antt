@@ -1,12 +1,12 @@
 -- The bytes of a token are those of the text at its place.
 use Rattle.keymap_text.proofs.Common.{◌≡◌, ℕ, zero, suc, ◌+◌, ◌≤◌, List, [], ◌∷◌, length, take, drop, refl, sym, ◌∙◌}
-use Rattle.keymap_text.proofs.Common.{ap, subst, arith, All, length-take-le, TextFaultKind, EndInside, TokenKind, Front}
+use Rattle.keymap_text.proofs.Common.{ap, subst, arith, All, length-take-le, EndInside, TokenKind, Front}
 use Rattle.keymap_text.proofs.Common.{Skipped, Found, Refused, Unfinished, front_of, tokens_after, TokenValue, Tokens}
-use Rattle.keymap_text.proofs.Common.{Ends, Stops, token_before, list_of, tokens, IsPlaced}
+use Rattle.keymap_text.proofs.Common.{token_before, list_of, tokens, IsPlaced}
 use Rattle.std.proofs.lemmas.List.Elements.{All-nil, All-cons, All-weaker}
 use Rattle.keymap_text.proofs.Splitting.{split_one, split_skipped, split_found, split_refused, split_nil}
 use Rattle.keymap_text.proofs.Splitting.{split_unfinished}
-use Rattle.keymap_text.proofs.Faults.{list_then}
+use Rattle.keymap_text.proofs.Faults.{list_ends, list_stops, list_then}
 use Rattle.keymap_text.proofs.InFront.{Fits, front_fits}
 
 -- the token is one of these bytes, which stand at q
@@ -38,16 +38,8 @@ in_front q c n kind bytes h =
 none_of : (P : TokenValue → Type 0) (ts : Tokens) → list_of ts ≡ [] → All P (list_of ts)
 none_of P ts e = subst (All P) (sym e) (All-nil P)
 
-ends_list : (q : ℕ) → list_of (Ends q) ≡ []
-unfolding list_of
-ends_list q = refl
-
-stops_list : (f : TextFaultKind) (q : ℕ) → list_of (Stops f q) ≡ []
-unfolding list_of
-stops_list f q = refl
-
 all_among : (bytes : List ℕ) (k q : ℕ) → All (Among q bytes) (list_of (tokens_after k q bytes))
-all_among [] k q = none_of (Among q []) (tokens_after k q []) (ap list_of (split_nil k q) ∙ ends_list q)
+all_among [] k q = none_of (Among q []) (tokens_after k q []) (ap list_of (split_nil k q) ∙ list_ends q)
 all_among (c ∷ bytes) (suc k) q =
     subst (λ ts. All (Among q (c ∷ bytes)) (list_of ts)) (sym (split_one k q c bytes))
     (All-weaker (Among (q + 1) bytes) (Among q (c ∷ bytes)) (one_more q c bytes)
@@ -66,18 +58,17 @@ all_among (c ∷ bytes) zero q = go (front_of c bytes) refl (λ n. all_among byt
     go (Skipped n) e ih =
         subst (λ ts. All (Among q (c ∷ bytes)) (list_of ts)) (sym (split_skipped q c n bytes e)) (later n (ih n))
     go (Found kind n) e ih =
-        let t : TokenValue =
-        token_before kind (c ∷ take n bytes) q (drop n bytes) in
+        let t = token_before kind (c ∷ take n bytes) q (drop n bytes) in
         subst (λ ts. All (Among q (c ∷ bytes)) (list_of ts)) (sym (split_found q c n kind bytes e))
         (subst (All (Among q (c ∷ bytes))) (sym (list_then t (tokens_after n (q + 1) bytes)))
         (All-cons (Among q (c ∷ bytes)) t (list_of (tokens_after n (q + 1) bytes)) (in_front q c n kind bytes e)
         (later n (ih n))))
     go (Refused f) e ih =
         none_of (Among q (c ∷ bytes)) (tokens_after 0 q (c ∷ bytes))
-        (ap list_of (split_refused q c f bytes e) ∙ stops_list f q)
+        (ap list_of (split_refused q c f bytes e) ∙ list_stops f q)
     go Unfinished e ih =
         none_of (Among q (c ∷ bytes)) (tokens_after 0 q (c ∷ bytes))
-        (ap list_of (split_unfinished q c bytes e) ∙ stops_list EndInside (q + 1 + length bytes))
+        (ap list_of (split_unfinished q c bytes e) ∙ list_stops EndInside (q + 1 + length bytes))
 
 pub tokens_are_placed : (text : List ℕ) → All (IsPlaced text) (tokens text)
 tokens_are_placed text = All-weaker (Among 0 text) (IsPlaced text) placed (tokens text) (all_among text 0 0)

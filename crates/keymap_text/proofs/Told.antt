@@ -1,13 +1,12 @@
 -- The words of a definition tell it.
-use Rattle.keymap_text.proofs.Common.{◌≡◌, ℕ, List, [], ◌++◌, refl, sym, ◌∙◌, ap, append-nil, tokens_after, list_of}
+use Rattle.keymap_text.proofs.Common.{◌≡◌, ℕ, List, [], ◌++◌, refl, sym, ◌∙◌, ap, append-nil, tokens_after}
 use Rattle.keymap_text.proofs.Common.{Definition, KeyDefinition, AccentDefinition, Defines}
 use Rattle.keymap_text.specs.declared.words.Item.{Item}
 use Rattle.keymap_text.specs.Definitions.{IsDefinition, definition_words}
 use Rattle.keymap_text.proofs.Lexed.{Lexes, NoWord}
 use Rattle.keymap_text.proofs.OneRow.{defined_is}
 use Rattle.keymap_text.proofs.PrintedLines.{slot_printed, accent_words_printed}
-use Rattle.keymap_text.proofs.Printing.{prints_character, prints_cells, prints_pairs, prints_name}
-use Rattle.keymap_text.proofs.Splitting.{split_none}
+use Rattle.keymap_text.proofs.Printing.{no_items, prints_character, prints_cells, prints_pairs, prints_name}
 use Rattle.keymap_text.proofs.Verdicts.{items_of}
 
 -- the words are tokens, which define it
@@ -16,10 +15,6 @@ are_tokens : (d : Definition) → IsDefinition d
 are_tokens (KeyDefinition slot e) (low, is) = slot_printed slot e low is.eight (prints_cells e.cells is.cells)
 are_tokens (AccentDefinition i a) (low, is) =
     accent_words_printed i a (prints_name i low) (prints_character a.own is.own) is.few (prints_pairs a.pairs is.pairs)
-
-no_items : (q : ℕ) → items_of (tokens_after 0 q []) ≡ []
-unfolding list_of
-no_items q = ap items_of (split_none q)
 
 -- the tokens of a text that is these and no more
 all_of : (w : List ℕ) (ts : List Item) → Lexes NoWord w ts → items_of (tokens_after 0 0 (w ++ [])) ≡ ts

@@ -7,7 +7,7 @@ use Rattle.keymap_text.proofs.Common.{Front, Skipped, Refused, Unfinished, token
 use Rattle.keymap_text.proofs.Common.{at_end, start, empty_map, RowPlace, AtDefinition, may_end, Definition, IsRow}
 use Rattle.keymap_text.proofs.Common.{line, list_of, ending_of_tokens, item_of, items, FaultInText, fault_of, Spells}
 use Rattle.keymap_text.proofs.Common.{Fault, Early, found_in, place_after, judge, verdict, Verdict, Spelled, Faulty}
-use Rattle.keymap_text.proofs.Common.{ended}
+use Rattle.keymap_text.proofs.Common.{ended, none-some, same_Some}
 use Rattle.keymap_text.proofs.Splitting.{split_one, split_skipped, split_found, split_refused, split_unfinished}
 use Rattle.keymap_text.proofs.Splitting.{split_nil}
 use Rattle.keymap_text.proofs.Prefixes.{early_from}
@@ -122,19 +122,8 @@ pub fault_to : (text : List ℕ) (f : TextFaultKind) (q : ℕ) (e : Bool)
 fault_to text f q e h = go (verdict text) (fault_is text ∙ h)
   where
     go : (v : Verdict) → found_of v ≡ Some (record { kind = f; offset = q; early = e }) → v ≡ Faulty f q e
-    go (Spelled m) k = absurd (never _ k)
-      where
-        never : (x : FaultInText) → None ≡ Some x → ⊥
-        never x h = cc
-    go (Faulty f' q' e') k = same f' q' e' k
-      where
-        same : (f' : TextFaultKind) (q' : ℕ) (e' : Bool)
-            → ◌≡◌ {A = Option FaultInText} (Some (record { kind = f'; offset = q'; early = e' }))
-            (Some (record { kind = f; offset = q; early = e })) → Faulty f' q' e' ≡ Faulty f q e
-        same f' q' e' k = ap (λ (x : FaultInText). Faulty x.kind x.offset x.early) (some_is _ _ k)
-          where
-            some_is : (x y : FaultInText) → Some x ≡ Some y → x ≡ y
-            some_is x y h = cc
+    go (Spelled m) k = absurd (none-some _ k)
+    go (Faulty f' q' e') k = ap (λ (x : FaultInText). Faulty x.kind x.offset x.early) (same_Some _ _ k)
 
 -- exactly one of the two
 pub fault_or_map : (text : List ℕ) (m : MapValue) → Spells text m → fault_of text ≡ None
@@ -180,10 +169,7 @@ row_of ts p h e = go (judge start (tokens_then ts)) refl
         let row = row_at_end (items_of (tokens_then ts)) r.last.map r.last.place m
         (stands_after [] (items_of (tokens_then ts)) start r.last stands_first r.steps) r.map in
         (row.0, subst (λ (ts : List TokenValue). IsRow (map item_of ts) row.0) (listed ts) row.1)
-    go (Faulty f q b) k = absurd (never _ (sym (ap found_of k) ∙ none))
-      where
-        never : (x : FaultInText) → Some x ≡ None → ⊥
-        never x h = cc
+    go (Faulty f q b) k = absurd (none-some _ (sym none ∙ ap found_of k))
 
 -- a row leads to a place where a text may end
 pub accepted_of : (ts : List TokenValue) (ds : List Definition) → IsRow (map item_of ts) ds
@@ -209,14 +195,8 @@ accepted_of ts ds row =
         ends : (b : Bool) → cond {A = Option FaultInText} b None (Some (record
             { kind = faults.EndInside; offset = 0; early = false })) ≡ None → b ≡ true
         ends true h = refl
-        ends false h = absurd (never _ h)
-          where
-            never : (x : FaultInText) → Some x ≡ None → ⊥
-            never x h = cc
-    go (Err (f, t)) e h = absurd (never _ h)
-      where
-        never : (x : FaultInText) → Some x ≡ None → ⊥
-        never x h = cc
+        ends false h = absurd (none-some _ (sym h))
+    go (Err (f, t)) e h = absurd (none-some _ (sym h))
 
 -- one map or one fault
 pub one_map : (text : List ℕ) (m n : MapValue) → Spells text m → Spells text n → m ≡ n
@@ -224,25 +204,19 @@ one_map text m n s t = spelled_is m n (sym (spells_to text m s) ∙ spells_to te
 
 -- no text spells a map and has a fault
 pub not_both : (text : List ℕ) (m : MapValue) (f : TextFault) → Spells text m → Fault text f → ⊥
-not_both text m f s (e, h) = never _ (sym (fault_or_map text m s) ∙ h.0)
-  where
-    never : (x : FaultInText) → None ≡ Some x → ⊥
-    never x h = cc
+not_both text m f s (e, h) = none-some _ (sym (fault_or_map text m s) ∙ h.0)
 
 -- a text has one fault at most
 pub one_fault : (text : List ℕ) (f g : TextFault) → Fault text f → Fault text g
     → (f.kind ≡ g.kind) × (f.offset ≡ g.offset) × (f.line ≡ g.line)
 one_fault text f g (e, h) (d, k) =
     let same : record { kind = f.kind; offset = f.offset; early = e }
-    ≡ record { kind = g.kind; offset = g.offset; early = d } = some_is _ _ (sym h.0 ∙ k.0) in (
+    ≡ record { kind = g.kind; offset = g.offset; early = d } = same_Some _ _ (sym h.0 ∙ k.0) in (
       ap (λ (x : FaultInText). x.kind) same,
       ap (λ (x : FaultInText). x.offset) same,
       h.1
           ∙ ap (λ (x : FaultInText). line text x.offset) same ∙ sym k.1,
     )
-  where
-    some_is : (x y : FaultInText) → Some x ≡ Some y → x ≡ y
-    some_is x y h = cc
 
 -- a text spells a map or has a fault
 pub one_of_them : (text : List ℕ) → ((m : MapValue) × Spells text m) ⊎ ((f : TextFault) × Fault text f)
@@ -253,18 +227,15 @@ one_of_them text = go (verdict text) refl
     go (Faulty f q e) h =
         inr (record { offset = q; line = line text q; kind = f }, (e, (fault_from text f q e h, refl)))
 
+-- equal faults have one place
+same_offset : (f f' : TextFaultKind) (o o' : ℕ) (e e' : Bool) → Faulty f o e ≡ Faulty f' o' e' → o ≡ o'
+same_offset f f' o o' e e' h = cc
+
 -- a fault stands within the text
 within : (o : Option MapValue) (q r : ℕ) (f : TextFaultKind) (o' : ℕ) (e : Bool) → q ≤ r → ended o q ≡ Faulty f o' e
     → o' ≤ r
 within (Some m) q r f o' e l h = absurd (faulty f o' e m (sym h))
-within None q r f o' e l h = subst (λ n. n ≤ r) (offset_of _ _ _ _ _ _ h) l
-  where
-    offset_of : (f f' : TextFaultKind) (o o' : ℕ) (e e' : Bool) → Faulty f o e ≡ Faulty f' o' e' → o ≡ o'
-    offset_of f f' o o' e e' h = cc
-
--- equal faults have one place
-same_offset : (f f' : TextFaultKind) (o o' : ℕ) (e e' : Bool) → Faulty f o e ≡ Faulty f' o' e' → o ≡ o'
-same_offset f f' o o' e e' h = cc
+within None q r f o' e l h = subst (λ n. n ≤ r) (same_offset _ _ _ _ _ _ h) l
 
 -- a fault stands in the bytes or at their end
 fits : (bytes : List ℕ) (s : GrammarState) (k q : ℕ) (f : TextFaultKind) (o : ℕ) (e : Bool)

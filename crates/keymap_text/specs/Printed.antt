@@ -1,10 +1,10 @@
 -- The printed form of a map.
 use Rattle.std.specs.Prelude.{ℕ, ◌+◌, ◌-◌, ◌/◌, ◌%◌, if◌then◌else◌, ◌==◌, ◌||◌, nat_lt, List, [], ◌∷◌, ◌++◌, length}
 use Rattle.std.specs.Prelude.{replicate, codes, slice_index_or}
-use Rattle.std.specs.Char.{digit_char}
 use Rattle.std.specs.List.{flat_map, range_with_len}
 use Rattle.keymap_core.specs.Accents.{AccentValue, blank}
 use Rattle.keymap_core.specs.Actions.{name_of, accent_names}
+use Rattle.keymap_core.specs.CodePoints.{code_digits}
 use Rattle.keymap_core.specs.Maps.{MapValue, entry_at}
 use Rattle.keymap_text.specs.Types.{Entry, Cell, LockFlag}
 use Rattle.keymap_core.specs.declared.entry.Cell.TheVariants as cells
@@ -14,26 +14,12 @@ use Rattle.keymap_text.specs.Words.{control_names}
 abbrev pub control_name : ℕ → List ℕ
 control_name c = if c == 127 then codes "del" else slice_index_or control_names c []
 
--- the lower case hexadecimal digit of 16 ^ k, where p is 16 ^ k
-abbrev pub hex_at : ℕ → ℕ → ℕ
-hex_at c p = digit_char (c / p % 16)
-
-abbrev pub hex4 : ℕ → List ℕ
-hex4 c = hex_at c 4096 ∷ hex_at c 256 ∷ hex_at c 16 ∷ hex_at c 1 ∷ []
-
--- four digits, or five or six where the number has as many
-unfoldable pub hex : ℕ → List ℕ
-hex c =
-    if nat_lt c 65536 then hex4 c
-    else if nat_lt c 1048576 then hex_at c 65536 ∷ hex4 c
-    else hex_at c 1048576 ∷ hex_at c 65536 ∷ hex4 c
-
 -- a name for a control character, between apostrophes where it is one of ASCII else, and a number for all others
 unfoldable pub character_text : ℕ → List ℕ
 character_text c =
     if nat_lt c 32 || c == 127 then control_name c
     else if nat_lt c 127 then 39 ∷ c ∷ 39 ∷ []
-    else codes "0x" ++ hex c
+    else codes "0x" ++ code_digits c
 
 abbrev pub cell_text : Cell → List ℕ
 cell_text (cells.Char c) = character_text c

@@ -1,6 +1,7 @@
 //! The lines of a printed map.
 ghost use Rattle.std.specs.Prelude.{◌≡◌, ◌+◌, ◌<◌, ◌≤◌, ◌++◌, length, codes, IfSome};
 ghost use Rattle.keymap_text.specs.Printed as spec;
+ghost use Rattle.keymap_core.specs.CodePoints as code_points;
 ghost use Rattle.keymap_core.specs.Numbers.{accent_limit};
 
 use crate::names::{control_name, control_places};
@@ -30,9 +31,8 @@ fn text_of(bytes: &[u8]) -> Text
 }
 
 /// The number of a character in hexadecimal, with four to six digits.
-#[tactic(auto, unfolding(crate::specs::Printed::hex, keymap_core::specs::CodePoints::code_digits))]
 fn hex_text(c: char) -> Text
-    ensures { result.items ≡ codes "0x" ++ spec.hex c }
+    ensures { result.items ≡ codes "0x" ++ code_points.code_digits c }
 {
     let mut text = text_of(b"0x");
     text.try_extend_from_slice(code_digits(c).as_slice())

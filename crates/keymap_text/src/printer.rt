@@ -35,7 +35,7 @@ fn print_accents<W: Write>(
     ensures failed { W.has_failed writer.new ≡ (is_err result || W.has_failed writer.old) }
 {
     for index in 0..map.n_accs() {
-        let line = accent_line(index, map.accent(index).unwrap());
+        let line = accent_line(index, map.accent_or_blank(index));
         stream.push(writer, line.as_slice())?;
     }
     Ok(())

@@ -104,7 +104,7 @@ static SUBCOMMANDS: [Described; 10] = [
     },
     Described {
         name: "cover",
-        about: "Prints a script that tests a console with all that a keymap can do",
+        about: "Prints a script that tests a console with a keymap",
         example: "Example: kmap cover us.kbd > us.script{n}{n}kmap(1) tells what the script tries.",
         words: &[STREAM],
     },

@@ -1,27 +1,20 @@
 -- What is said of numbers of events is what is said of the events.
-use Prim.Native.Nat.{suc}
-use Rattle.std.proofs.Common.{◌≡◌, ℕ, ◌<◌, ◌≤◌, ◌-◌, ◌==◌, nat_le, Bool, true, false, not, ◌&&◌, ◌||◌}
-use Rattle.std.proofs.Common.{List, [], ◌∷◌, ◌++◌}
-use Rattle.std.proofs.Common.{Option, Some, refl, ap, sym, ◌∙◌, subst, arith, ◌≢◌}
-use Rattle.std.specs.Prelude.{map, reverse, if◌then◌else◌}
+use Rattle.kmap_c.proofs.Common.{suc, ◌≡◌, ℕ, ◌<◌, ◌≤◌, ◌==◌, Bool, true, false, List, [], ◌∷◌, ◌++◌, refl, ap, sym}
+use Rattle.kmap_c.proofs.Common.{◌∙◌, subst, arith, ◌≢◌, map, reverse, map-append, Modifier, IsMap, MapValue, image}
+use Rattle.kmap_c.proofs.Common.{Event, between, event_of}
+use Rattle.std.proofs.Common.{◌-◌, nat_le, not, ◌&&◌, ◌||◌, Option, Some}
+use Rattle.std.specs.Prelude.{if◌then◌else◌}
 use Rattle.std.proofs.lemmas.Bool.{leb-true, le-leb, leb-false, lt-leb, eqb-true, eqb-false}
-use Rattle.std.proofs.lemmas.List.{map-append, reverse-append}
+use Rattle.std.proofs.lemmas.List.{reverse-append}
 use Rattle.std.proofs.lemmas.List.Elements.{All-cons}
-use Rattle.keymap_core.specs.declared.action.Modifier.{Modifier}
-use Rattle.keymap_core.specs.declared.action.Holding.TheVariants as holding
 use Rattle.keymap_core.specs.Bearers.{Bears}
-use Rattle.keymap_core.specs.Bounds.{IsMap}
-use Rattle.keymap_core.specs.Maps.{MapValue}
-use Rattle.keymap_tables.specs.Image.{image}
-use Rattle.console_core.specs.declared.word_store.WordStore.{WordStore}
-use Rattle.console_core.specs.declared.event.Event.{Event}
 use Rattle.console_core.specs.declared.event.Event.TheVariants.{Press, Release, Reset, Load}
 use Rattle.console_core.specs.Headline.{IsSafe, OnOnlyWhilePressed}
-use Rattle.console_core.specs.History.{Maps, between, is_load, is_second_in_force, HasKey, HasKeys, concerns}
-use Rattle.console_core.specs.History.{is_press, pressed, is_on_after}
+use Rattle.console_core.specs.History.{is_load, is_second_in_force, HasKey, HasKeys, concerns, is_press, pressed}
+use Rattle.console_core.specs.History.{is_on_after}
 use Rattle.console_core.specs.Positions.{last_where, count_where, is_odd}
-use Rattle.kmap_c.specs.Numbers.{event_of}
 use Rattle.kmap_c.specs.Calls.{AreAccepted, is_down, is_exchanged, in_force_after, Has, IsHeldDown}
+use Rattle.keymap_core.specs.declared.action.Holding.TheVariants as holding
 
 -- the event of a number, by the tests on it
 abbrev event_by : Bool → Bool → Bool → ℕ → Event

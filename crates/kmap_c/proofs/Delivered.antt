@@ -1,12 +1,10 @@
 -- A list of events, by their numbers, with one more at its end.
-use Rattle.std.proofs.Common.{◌≡◌, ℕ, ◌<◌, ◌+◌, List, [], ◌∷◌, ◌++◌, length, take, get_or, ap, sym, ◌∙◌}
-use Rattle.std.specs.Prelude.{map, reverse}
-use Rattle.std.proofs.lemmas.List.{take_more, map-append}
-use Rattle.console_core.specs.declared.event.Event.{Event}
-use Rattle.console_core.specs.History.{Maps, answer_to, answers_to}
-use Rattle.console_core.specs.Raw.{raw_of}
+use Rattle.kmap_c.proofs.Common.{◌≡◌, ℕ, ◌<◌, ◌+◌, List, [], ◌∷◌, ◌++◌, length, take, ap, sym, ◌∙◌, map, reverse}
+use Rattle.kmap_c.proofs.Common.{map-append, Event, Maps, answers_to, raw_of, event_of}
+use Rattle.std.proofs.Common.{get_or}
+use Rattle.std.proofs.lemmas.List.{take_more}
+use Rattle.console_core.specs.History.{answer_to}
 use Rattle.console_core.proofs.Deliveries.{answers_to-push}
-use Rattle.kmap_c.specs.Numbers.{event_of}
 
 -- the events delivered so far, with one more
 pub events-push : (numbers : List ℕ) (i : ℕ) (e : Event) → e ≡ event_of (get_or numbers i 0) → i < length numbers

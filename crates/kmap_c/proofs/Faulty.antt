@@ -1,10 +1,8 @@
 -- Tables that are those of a keymap have no fault.
-use Rattle.std.proofs.Common.{◌≡◌, ◌≢◌, ◌↔◌, subst, ℕ, List}
-use Rattle.std.specs.Prelude.{ℤ, negsuc}
-use Rattle.keymap_core.specs.Bounds.{IsMap}
-use Rattle.keymap_core.specs.Maps.{MapValue}
+use Rattle.kmap_c.proofs.Common.{◌≡◌, ◌≢◌, subst, ℕ, List, negsuc, IsMap, MapValue, image}
+use Rattle.std.proofs.Common.{◌↔◌}
+use Rattle.std.specs.Prelude.{ℤ}
 use Rattle.keymap_tables.specs.Faults.{IsTableFault}
-use Rattle.keymap_tables.specs.Image.{image}
 use Rattle.keymap_tables.specs.Layouts.{wide}
 use Rattle.keymap_tables.proofs.ReadingLaws.{map-wide, no-fault}
 use Rattle.kmap_c.specs.Told.{AreFaulty}

@@ -1,19 +1,17 @@
 -- A number that names no kind of fault has no sentence, and an index is that of one modifier or lock.
-use Prim.Native.Nat.{zero, suc}
-use Rattle.std.proofs.Common.{◌≡◌, ◌≢◌, ◌∙◌, ap, sym, refl, ℕ, ◌==◌, true, List, [], length}
+use Rattle.kmap_c.proofs.Common.{zero, suc, ◌≡◌, ◌≢◌, ◌∙◌, ap, sym, refl, ℕ, ◌==◌, true, List, [], length, Holding}
 use Rattle.std.specs.Prelude.{slice_index_or}
 use Rattle.keymap_core.specs.Actions.{holding_index}
-use Rattle.keymap_core.specs.declared.action.Holding.{Holding}
-use Rattle.keymap_core.specs.declared.action.Holding.TheVariants as h
-use Rattle.keymap_core.specs.declared.action.Lock.TheVariants as l
-use Rattle.keymap_core.specs.declared.action.Modifier.TheVariants as m
 use Rattle.keymap_tables.specs.declared.fault.TableFaultKind.{TableFaultKind}
-use Rattle.keymap_tables.specs.declared.fault.TableFaultKind.TheVariants as table
 use Rattle.keymap_text.specs.declared.fault.TextFaultKind.{TextFaultKind}
-use Rattle.keymap_text.specs.declared.fault.TextFaultKind.TheVariants as text
 use Rattle.kmap_c.specs.Numbers.{kind_number}
 use Rattle.kmap_c.specs.Sentences.{table_sentences, text_sentences}
 use Rattle.kmap_c.specs.TextFaults.{text_kind_number}
+use Rattle.keymap_core.specs.declared.action.Holding.TheVariants as h
+use Rattle.keymap_core.specs.declared.action.Lock.TheVariants as l
+use Rattle.keymap_core.specs.declared.action.Modifier.TheVariants as m
+use Rattle.keymap_tables.specs.declared.fault.TableFaultKind.TheVariants as table
+use Rattle.keymap_text.specs.declared.fault.TextFaultKind.TheVariants as text
 
 none_of_tables : (n : ℕ) → ((k : TableFaultKind) → n ≢ kind_number k) → slice_index_or table_sentences n [] ≡ []
 none_of_tables zero none = refl
@@ -69,17 +67,8 @@ at_index (suc (suc (suc (suc (suc (suc (suc (suc (suc (suc (suc n))))))))))) = h
 again : (a : Holding) → at_index (holding_index a) ≡ a
 unfolding at_index
 again (h.Mod m.LeftShift) = refl
-again (h.Mod m.RightShift) = refl
-again (h.Mod m.LeftControl) = refl
-again (h.Mod m.RightControl) = refl
-again (h.Mod m.LeftAlt) = refl
-again (h.Mod m.RightAlt) = refl
-again (h.Mod m.AltShift) = refl
-again (h.Mod m.Meta) = refl
 again (h.Lock l.Caps) = refl
-again (h.Lock l.Num) = refl
-again (h.Lock l.Scroll) = refl
-again (h.Lock l.Alt) = refl
+again _ = refl
 
 pub one_holding : (a b : Holding) → holding_index a ≡ holding_index b → a ≡ b
 one_holding a b same = sym (again a) ∙ ap at_index same ∙ again b

@@ -1,3 +1,4 @@
+pub mod Common
 pub mod Calls
 pub mod Delivered
 pub mod NoBits

@@ -1,13 +1,11 @@
 -- A byte is 0 where the bit of each modifier is not set.
-use Prim.Native.Nat.{zero, suc}
-use Rattle.std.proofs.Common.{◌≡◌, ◌≢◌, ◌∙◌, sym, arith, ℕ, ◌<◌, Bool, true, false}
+use Rattle.kmap_c.proofs.Common.{zero, suc, ◌≡◌, ◌≢◌, ◌∙◌, sym, arith, ℕ, ◌<◌, Bool, true, false, Modifier}
 use Rattle.std.specs.Int.{bit_at}
 use Rattle.std.proofs.lemmas.Bool.{eq-eqb}
 use Rattle.std.proofs.lemmas.Nat.Bits.{bit_at-lt, bit_at-zero, same_from_bits_below}
-use Rattle.keymap_core.specs.declared.action.Modifier.{Modifier}
-use Rattle.keymap_core.specs.declared.action.Modifier.TheVariants as m
 use Rattle.keymap_core.specs.Actions.{modifier_index}
 use Rattle.console_core.specs.PackedWord.{bit_is_set}
+use Rattle.keymap_core.specs.declared.action.Modifier.TheVariants as m
 
 abbrev pub IsNoneSet : ℕ → Type 0
 IsNoneSet n = (i : Modifier) → bit_is_set n (modifier_index i) ≡ true → ⊥

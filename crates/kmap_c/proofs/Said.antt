@@ -1,8 +1,7 @@
 -- A sentence that was put in front, and a 0 behind it.
-use Rattle.std.proofs.Common.{◌≡◌, ◌∙◌, ap, sym, arith, ℕ, ◌+◌, ◌<◌, ◌≤◌, List, [], ◌∷◌, ◌++◌, length, drop, set, refl}
-use Rattle.std.proofs.Common.{append_assoc}
+use Rattle.kmap_c.proofs.Common.{◌≡◌, ◌∙◌, ap, sym, arith, ℕ, ◌+◌, ◌<◌, List, [], ◌∷◌, ◌++◌, length, drop, refl, HasPut}
+use Rattle.std.proofs.Common.{set, append_assoc}
 use Rattle.std.proofs.lemmas.List.{drop_more}
-use Rattle.kmap_c.specs.Buffers.{HasPut}
 
 -- a 0 in place of the byte behind it
 pub set-behind : (sentence old new : List ℕ) (n : ℕ) → HasPut sentence old n new → length sentence < length old

@@ -1,6 +1,5 @@
 -- A second input that nobody asked.
-use Rattle.std.proofs.Common.{ℕ, List, Option, Some, None}
-use Rattle.std.proofs.KnownBytes.{Keeps-refl}
+use Rattle.kmap_runs.proofs.Common.{ℕ, List, Option, Some, None, Keeps-refl}
 use Rattle.kmap_runs.specs.Inputs.{StaysIf, moves_if}
 
 -- a reader that nobody asked has what it had

@@ -1,56 +1,42 @@
 -- What is printed to test a console is a script of its strokes.
-use Prim.Native.Nat.{suc}
-use Rattle.std.proofs.Common.{◌≡◌, ℕ, zero, ◌+◌, ◌<◌, ◌/◌, ◌%◌, ◌==◌, Bool, true, false, cond, eqb, ltb, List, [], ◌∷◌}
-use Rattle.std.proofs.Common.{◌++◌, length, map, drop, get_or, refl, sym, ap, subst, ◌∙◌, arith, append_assoc}
-use Rattle.std.proofs.Common.{append-nil}
-use Rattle.std.proofs.Common.{lit<, if◌then◌else◌, ne_eqb, decimal, add-one, ◌-◌, Option, Some, Ok}
-use Rattle.std.specs.Prelude.{codes, reverse, All}
-use Rattle.std.specs.List.{flat_map, list_any, range_with_len}
-use Rattle.std.specs.Fmt.{digits, digits_onto, digit_glyph}
-use Rattle.std.proofs.lemmas.Bool.{or_from, or_parts}
-use Rattle.std.proofs.lemmas.List.{reverse-append, reverse-reverse}
-use Rattle.std.proofs.lemmas.List.Elements.{All-nil, All-cons, All-head, All-tail}
-use Rattle.keymap_core.specs.Actions.{accent_names, name_of}
-use Rattle.keymap_core.specs.declared.action.Action.TheVariants as act
-use Rattle.keymap_core.specs.Maps.{MapValue}
-use Rattle.keymap_core.specs.Numbers.{key_count, column_count, slot_limit, accent_limit}
-use Rattle.keymap_core.proofs.Lists.{All-reversed}
-use Rattle.console_core.specs.declared.selection.Sight.{Sight}
-use Rattle.console_core.specs.declared.selection.Sight.TheVariants.{Cell, Locks, Pair}
-use Rattle.console_core.specs.History.{HasKey, HasKeys, between}
+use Rattle.kmap_runs.proofs.Common.{suc, ◌≡◌, ℕ, zero, ◌+◌, ◌<◌, ◌==◌, Bool, true, false, List, [], ◌∷◌, ◌++◌, length}
+use Rattle.kmap_runs.proofs.Common.{map, drop, get_or, refl, sym, ap, subst, ◌∙◌, append_assoc, append-nil, lit<}
+use Rattle.kmap_runs.proofs.Common.{if◌then◌else◌, decimal, add-one, ◌-◌, Option, Some, Ok, reverse, All, flat_map}
+use Rattle.kmap_runs.proofs.Common.{range_with_len, reverse-reverse, All-head, All-tail, name_of, MapValue}
+use Rattle.kmap_runs.proofs.Common.{All-reversed, Sight, Pair, HasKey, HasKeys, LeftOut, Never, Reset, Spells, Sent}
+use Rattle.kmap_runs.proofs.Common.{IsScript, Plays, moves, sends, played_text, script-nil, line-script, one_list}
+use Rattle.kmap_runs.proofs.Common.{comment, column_text, row_text, has_verdict, row_line, ListsSlots, AddsLists}
+use Rattle.kmap_runs.proofs.Common.{bases_at, character_text, accent_line, accent_lines, rest_word, start_line}
+use Rattle.kmap_runs.proofs.Common.{stroke_line, stroke_lines, script_lines, filled_all, EachPasses}
+use Rattle.std.proofs.lemmas.List.{reverse-append}
+use Rattle.std.proofs.lemmas.List.Elements.{All-nil, All-cons}
+use Rattle.keymap_core.specs.Numbers.{key_count, column_count, accent_limit}
+use Rattle.console_core.specs.declared.selection.Sight.TheVariants.{Cell, Locks}
+use Rattle.console_core.specs.History.{between}
 use Rattle.keymap_cover.specs.declared.parts.Counts.{Counts}
 use Rattle.keymap_cover.specs.declared.parts.Cover.{Cover}
 use Rattle.keymap_cover.specs.declared.parts.Verdict.{Verdict}
-use Rattle.keymap_cover.specs.declared.parts.Verdict.TheVariants.{LeftOut, Never}
 use Rattle.keymap_cover.specs.declared.stroke.Stroke.{Stroke}
-use Rattle.keymap_cover.specs.declared.stroke.Stroke.TheVariants.{Down, Repeat, Up, Reset}
-use Rattle.keymap_cover.specs.Covering.{events, is_verdict, verdict_of, counts_of}
+use Rattle.keymap_cover.specs.declared.stroke.Stroke.TheVariants.{Down, Repeat, Up}
+use Rattle.keymap_cover.specs.Covering.{events, verdict_of, counts_of}
 use Rattle.keymap_cover.specs.SightLists.{all_cells, all_lock_settings}
 use Rattle.keymap_cover.specs.Strokes.{event_of, events_of}
-use Rattle.keymap_tour.specs.declared.Part.{Part}
-use Rattle.keymap_tour.specs.declared.Part.TheVariants.{Looks, Accents, Rules, OneWay}
-use Rattle.keymap_tour.specs.declared.Start.{Start}
-use Rattle.keymap_text.specs.Meaning.{Spells}
-use Rattle.play_core.specs.declared.sent.Sent.{Sent}
+use Rattle.keymap_cover.specs.declared.parts.Part.{Part}
+use Rattle.keymap_cover.specs.declared.parts.Part.TheVariants.{Cells, Pairs, Trials, OneWay}
+use Rattle.keymap_cover.specs.declared.parts.Start.{Start}
 use Rattle.play_core.specs.declared.show.Show.{Show}
 use Rattle.play_core.specs.Delivery.{delivered}
-use Rattle.play_core.specs.Scripts.{IsScript, key_of}
-use Rattle.play_core.specs.Playing.{Plays}
-use Rattle.play_core.specs.Runs.{moves}
-use Rattle.play_core.specs.Spelling.{sends, says, has_line_feed}
-use Rattle.play_core.specs.Written.{played_text}
-use Rattle.play_core.proofs.Spelling.{script-nil, line-script, feed-append}
-use Rattle.play_core.proofs.Verdicts.{one_list}
-use Rattle.kmap_runs.specs.Cover.{number_text, headed, column_text, columns_text, if_told, settings_text, row_text}
-use Rattle.kmap_runs.specs.Cover.{rows_of, row_at, run_len, begins_run, line_of_row, run_line, slot_lines}
-use Rattle.kmap_runs.specs.Cover.{bases_at, character_text, line_of_characters, accent_line, accent_lines, rest_word}
-use Rattle.kmap_runs.specs.Cover.{counts_line, counts_text, lists_text, all_pairs, part_line, start_line, stroke_line}
-use Rattle.kmap_runs.specs.Cover.{what_of_stroke, sent_of_stroke, stroke_lines, script_lines, cover_text}
+use Rattle.play_core.specs.Scripts.{key_of}
+use Rattle.kmap_runs.specs.Cover.{number_text, headed, columns_text, setting_text, settings_text, IsCoverText}
+use Rattle.kmap_runs.specs.Cover.{line_of_characters, counts_line, counts_text, all_pairs, part_words, what_of_stroke}
+use Rattle.kmap_runs.specs.Cover.{sent_of_stroke}
 use Rattle.kmap_runs.specs.Replayed.{strokes_sent, ShowsCover, PlaysCover}
 use Rattle.kmap_runs.specs.Runs.{CoversText, IsCovered}
+use Rattle.kmap_runs.proofs.Replayed.{taken-whole, same-map}
+use Rattle.kmap_runs.proofs.Comments.{is_in_line, IsInLine, append-line, flat-line, if-line, decimal-line, name-line}
+use Rattle.kmap_runs.proofs.Comments.{comment-before}
+use Rattle.keymap_core.specs.declared.action.Action.TheVariants as act
 use Rattle.kmap_runs.specs.declared.words.TheConstants as words
-use Rattle.kmap_runs.proofs.Replayed.{feed-flat, taken-whole, same-map}
-use Rattle.messages.specs.Filled.{filled}
 
 -- ---- texts before a script
 
@@ -85,244 +71,139 @@ adds-script text sent h =
     subst (λ t. IsScript t sent) (append-nil text)
     (subst (λ l. IsScript (text ++ []) l) (append-nil sent) (h [] [] script-nil))
 
--- ---- texts within a line
-
-abbrev IsInLine : List ℕ → Type 0
-IsInLine text = has_line_feed text ≡ false
-
-feed-if : (t : Bool) (text : List ℕ) → IsInLine text → IsInLine (if t then text else [])
-feed-if true text h = h
-feed-if false text h = refl
-
--- a digit
-feed-digit : (t : Bool) (d : ℕ) → IsInLine (cond t (48 + d) (87 + d) ∷ [])
-feed-digit true d = or_from (eqb (48 + d) 10) false (ne_eqb (48 + d) 10 (λ e. omega arith)) refl
-feed-digit false d = or_from (eqb (87 + d) 10) false (ne_eqb (87 + d) 10 (λ e. omega arith)) refl
-
--- digits before others
-feed-onto : (k n : ℕ) (acc : List ℕ) → IsInLine acc → IsInLine (digits_onto k 10 false n acc)
-feed-onto zero n acc h = h
-feed-onto (suc k) n acc h =
-    let glyph : List ℕ = digit_glyph false (n % 10) ∷ [] in
-    let more : IsInLine (glyph ++ acc) = feed-append glyph acc (feed-digit (ltb (n % 10) 10) (n % 10)) h in
-    either (eqb (n / 10) 0) (glyph ++ acc) _ more (feed-onto k (n / 10) (glyph ++ acc) more)
-  where
-    either : (t : Bool) (xs ys : List ℕ) → IsInLine xs → IsInLine ys → IsInLine (cond t xs ys)
-    either true xs ys p q = p
-    either false xs ys p q = q
-
--- a number
-feed-decimal : (n : ℕ) → IsInLine (decimal n)
-unfolding digits
-feed-decimal n = feed-onto 64 n [] refl
-
--- the element of a list at a place, or nothing
-feed-at : {X : Type 0} (f : X → List ℕ) → ((x : X) → IsInLine (f x)) → (xs : List X) (i : ℕ)
-    → IsInLine (get_or (map f xs) i [])
-feed-at f each [] i = refl
-feed-at f each (x ∷ xs) zero = each x
-feed-at f each (x ∷ xs) (suc i) = feed-at f each xs i
-
--- one of some texts without a line feed, or nothing
-feed-in : (xs : List (List ℕ)) → list_any has_line_feed xs ≡ false → (i : ℕ) → IsInLine (get_or xs i [])
-feed-in [] e i = refl
-feed-in (x ∷ xs) e zero = (or_parts (has_line_feed x) (list_any has_line_feed xs) e).0
-feed-in (x ∷ xs) e (suc i) = feed-in xs (or_parts (has_line_feed x) (list_any has_line_feed xs) e).1 i
-
--- the name of an accent
-feed-name : (i : ℕ) → IsInLine (name_of (act.DeadKey i))
-feed-name i = feed-in accent_names refl i
-
--- a number in a list
-feed-number : (n : ℕ) → IsInLine (number_text n)
-unfolding filled
-feed-number n = feed-append (codes " ") (decimal n ++ []) refl (feed-append (decimal n) [] (feed-decimal n) refl)
-
-feed-headed : (head text : List ℕ) → IsInLine head → IsInLine text → IsInLine (headed head text)
-feed-headed head [] h t = refl
-feed-headed head (x ∷ xs) h t = feed-append head (x ∷ xs) h t
-
 -- ---- comments
 
--- the text has a line feed at its end alone
-abbrev Ends : List ℕ → Type 0
-Ends text = (body : List ℕ) × (text ≡ body ++ 10 ∷ []) × IsInLine body
+quiet-comment : (words : List ℕ) (told : List (List ℕ)) → IsInLine words → EachPasses is_in_line told
+    → Adds (comment words told) []
+quiet-comment words told w t = comment-before words told w t
 
-ends-feed : Ends (10 ∷ [])
-ends-feed = ([], refl, refl)
+quiet-counts : (rest name : List ℕ) (n : Counts) → IsInLine rest → IsInLine name → Adds (counts_line rest name n) []
+quiet-counts rest name n f g =
+    quiet-comment words.COUNTS.now (name ∷ decimal n.seen ∷ decimal n.left_out ∷ rest ∷ decimal n.rest ∷ []) refl
+    (g, (decimal-line n.seen, (decimal-line n.left_out, (f, (decimal-line n.rest, tt)))))
 
-ends-more : (a text : List ℕ) → IsInLine a → Ends text → Ends (a ++ text)
-ends-more a text feed (body, e, f) =
-    (a ++ body, ap (λ t. a ++ t) e ∙ sym (append_assoc a body (10 ∷ [])), feed-append a body feed f)
+-- a number in a list
+number-line : (n : ℕ) → IsInLine (number_text n)
+number-line n = filled_all is_in_line words.LISTED.now (decimal n ∷ []) refl (decimal-line n, tt)
 
--- a number sign and such a text are a comment
-quiet-comment : (text : List ℕ) → Ends text → Adds (35 ∷ text) []
-quiet-comment text (body, e, f) rest sent h =
-    subst (λ t. IsScript ((35 ∷ t) ++ rest) sent) (sym e) (line-script (says body) rest sent f h)
+headed-line : (head text : List ℕ) → IsInLine head → IsInLine text → IsInLine (headed head text)
+headed-line head [] h t = refl
+headed-line head (x ∷ xs) h t = append-line head (x ∷ xs) h t
 
--- how many sights of a kind are seen, left out, and the others
-quiet-counts : (name rest : List ℕ) (n : Counts) → IsInLine name → IsInLine rest → Adds (counts_line name rest n) []
-unfolding filled
-quiet-counts name rest n f g =
-    let others : List ℕ = codes " " ++ (decimal n.rest ++ codes "\n") in
-    let left_out : List ℕ = codes ", left out " ++ (decimal n.left_out ++ (codes ", " ++ (rest ++ others))) in
-    let ends : Ends others =
-    ends-more (codes " ") (decimal n.rest ++ codes "\n") refl
-    (ends-more (decimal n.rest) (codes "\n") (feed-decimal n.rest) ends-feed) in
-    let more : Ends left_out =
-    ends-more (codes ", left out ") (decimal n.left_out ++ (codes ", " ++ (rest ++ others))) refl
-    (ends-more (decimal n.left_out) (codes ", " ++ (rest ++ others)) (feed-decimal n.left_out)
-    (ends-more (codes ", ") (rest ++ others) refl (ends-more rest others g ends))) in
-    quiet-comment (codes " " ++ (name ++ (codes ": " ++ (decimal n.seen ++ left_out))))
-    (ends-more (codes " ") (name ++ (codes ": " ++ (decimal n.seen ++ left_out))) refl
-    (ends-more name (codes ": " ++ (decimal n.seen ++ left_out)) f
-    (ends-more (codes ": ") (decimal n.seen ++ left_out) refl
-    (ends-more (decimal n.seen) left_out (feed-decimal n.seen) more))))
+-- ---- what is listed
 
--- ---- what is listed of slots
+module _ (is_listed : Sight → Bool) where
+  columns-line : (slot : ℕ) → IsInLine (columns_text is_listed slot)
+  columns-line slot =
+      flat-line (column_text is_listed slot)
+      (λ n. if-line (is_listed (Cell slot n)) (number_text n) (number-line n)) (range_with_len 0 column_count)
 
-module _ (told : Sight → Verdict) (listed : Verdict) where
-  feed-columns : (slot : ℕ) → IsInLine (columns_text told listed slot)
-  feed-columns slot =
-      feed-flat (column_text told listed slot)
-      (λ n. feed-if (is_verdict listed (told (Cell slot n))) (number_text n) (feed-number n))
-      (range_with_len 0 column_count)
+  setting-line : (slot : ℕ) (caps num : Bool) (name : List ℕ) → IsInLine name
+      → IsInLine (setting_text is_listed slot caps num name)
+  setting-line slot caps num name h = if-line (is_listed (Locks slot caps num)) name h
 
-  feed-settings : (slot : ℕ) → IsInLine (settings_text told listed slot)
-  feed-settings slot =
-      let piece : Bool → Bool → List ℕ → List ℕ = λ caps num text. if_told listed (told (Locks slot caps num)) text in
-      let none = piece false false words.NO_LOCK.now in
-      let num = piece false true words.NLOCK.now in
-      let caps = piece true false words.CLOCK.now in
-      let both = piece true true words.BOTH_LOCKS.now in
-      feed-append (none ++ num ++ caps) both
-      (feed-append (none ++ num) caps
-      (feed-append none num (feed-if (is_verdict listed (told (Locks slot false false))) _ refl)
-      (feed-if (is_verdict listed (told (Locks slot false true))) _ refl))
-      (feed-if (is_verdict listed (told (Locks slot true false))) _ refl))
-      (feed-if (is_verdict listed (told (Locks slot true true))) _ refl)
+  settings-line : (slot : ℕ) → IsInLine (settings_text is_listed slot)
+  settings-line slot =
+      let none = setting_text is_listed slot false false words.NO_LOCK.now in
+      let num = setting_text is_listed slot false true words.NLOCK.now in
+      let caps = setting_text is_listed slot true false words.CLOCK.now in
+      let both = setting_text is_listed slot true true words.BOTH_LOCKS.now in
+      append-line (none ++ num ++ caps) both
+      (append-line (none ++ num) caps
+      (append-line none num (setting-line slot false false words.NO_LOCK.now refl)
+      (setting-line slot false true words.NLOCK.now refl))
+      (setting-line slot true false words.CLOCK.now refl))
+      (setting-line slot true true words.BOTH_LOCKS.now refl)
 
-  feed-row : (slot : ℕ) → IsInLine (row_text told listed slot)
-  feed-row slot =
-      feed-append (headed words.COLUMNS.now (columns_text told listed slot))
-      (headed words.LOCKS.now (settings_text told listed slot))
-      (feed-headed words.COLUMNS.now (columns_text told listed slot) refl (feed-columns slot))
-      (feed-headed words.LOCKS.now (settings_text told listed slot) refl (feed-settings slot))
+  row-line : (slot : ℕ) → IsInLine (row_text is_listed slot)
+  row-line slot =
+      append-line (headed words.COLUMNS.now (columns_text is_listed slot))
+      (headed words.LOCKS.now (settings_text is_listed slot))
+      (headed-line words.COLUMNS.now (columns_text is_listed slot) refl (columns-line slot))
+      (headed-line words.LOCKS.now (settings_text is_listed slot) refl (settings-line slot))
 
-  feed-characters : (i : ℕ) (bases : List ℕ) → IsInLine (flat_map (character_text told listed i) bases)
-  feed-characters i bases =
-      feed-flat (character_text told listed i)
-      (λ n. feed-if (is_verdict listed (told (Pair i n))) (number_text n) (feed-number n)) bases
+  characters-line : (i : ℕ) (bases : List ℕ) → IsInLine (flat_map (character_text is_listed i) bases)
+  characters-line i bases =
+      flat-line (character_text is_listed i) (λ n. if-line (is_listed (Pair i n)) (number_text n) (number-line n)) bases
 
--- the slots from one on that have a row
-quiet-slots : (t : Bool) (word : List ℕ) (slot count : ℕ) (row : List ℕ) → IsInLine word → IsInLine row
-    → Adds (if t then filled words.ONE_SLOT.now (word ∷ decimal slot ∷ row ∷ [])
-    else filled words.SLOTS.now (word ∷ decimal slot ∷ decimal (slot + count - 1) ∷ row ∷ [])) []
-unfolding filled
-quiet-slots true word slot count row f g =
-    quiet-comment (codes " " ++ (word ++ (codes ": slot " ++ (decimal slot ++ (row ++ codes "\n")))))
-    (ends-more (codes " ") (word ++ (codes ": slot " ++ (decimal slot ++ (row ++ codes "\n")))) refl
-    (ends-more word (codes ": slot " ++ (decimal slot ++ (row ++ codes "\n"))) f
-    (ends-more (codes ": slot ") (decimal slot ++ (row ++ codes "\n")) refl
-    (ends-more (decimal slot) (row ++ codes "\n") (feed-decimal slot) (ends-more row (codes "\n") g ends-feed)))))
-quiet-slots false word slot count row f g =
-    let last : ℕ = slot + count - 1 in
-    let end : List ℕ = codes " to " ++ (decimal last ++ (row ++ codes "\n")) in
-    let ends : Ends end =
-    ends-more (codes " to ") (decimal last ++ (row ++ codes "\n")) refl
-    (ends-more (decimal last) (row ++ codes "\n") (feed-decimal last) (ends-more row (codes "\n") g ends-feed)) in
-    quiet-comment (codes " " ++ (word ++ (codes ": slots " ++ (decimal slot ++ end))))
-    (ends-more (codes " ") (word ++ (codes ": slots " ++ (decimal slot ++ end))) refl
-    (ends-more word (codes ": slots " ++ (decimal slot ++ end)) f
-    (ends-more (codes ": slots ") (decimal slot ++ end) refl
-    (ends-more (decimal slot) end (feed-decimal slot) ends))))
+-- the slots from one on to before another that have a row
+quiet-slots : (one : Bool) (word : List ℕ) (first end : ℕ) (row : List ℕ) → IsInLine word → IsInLine row
+    → Adds (if one then comment words.ONE_SLOT.now (word ∷ decimal first ∷ row ∷ [])
+    else comment words.SLOTS.now (word ∷ decimal first ∷ decimal (end - 1) ∷ row ∷ [])) []
+quiet-slots true word first end row f g =
+    quiet-comment words.ONE_SLOT.now (word ∷ decimal first ∷ row ∷ []) refl (f, (decimal-line first, (g, tt)))
+quiet-slots false word first end row f g =
+    quiet-comment words.SLOTS.now (word ∷ decimal first ∷ decimal (end - 1) ∷ row ∷ []) refl
+    (f, (decimal-line first, (decimal-line (end - 1), (g, tt))))
 
-quiet-row : (word : List ℕ) (slot count : ℕ) (row : List ℕ) → IsInLine word → IsInLine row
-    → Adds (line_of_row word slot count row) []
-quiet-row word slot count [] f g = adds-nil
-quiet-row word slot count (x ∷ row) f g = quiet-slots (count == 1) word slot count (x ∷ row) f g
+quiet-row : (word : List ℕ) (first end : ℕ) (row : List ℕ) → IsInLine word → IsInLine row
+    → Adds (row_line word first end row) []
+quiet-row word first end [] f g = adds-nil
+quiet-row word first end (x ∷ row) f g = quiet-slots (end == first + 1) word first end (x ∷ row) f g
 
--- a line for each run of slots
-quiet-listed : (told : Sight → Verdict) (listed : Verdict) (word : List ℕ) → IsInLine word
-    → Adds (slot_lines word (rows_of told listed)) []
-quiet-listed told listed word f =
-    let rows : List (List ℕ) = rows_of told listed in
-    quiet-flat (run_line word rows)
-    (λ slot. quiet-if (begins_run rows slot) (line_of_row word slot (run_len rows slot) (row_at rows slot))
-    (quiet-row word slot (run_len rows slot) (row_at rows slot) f
-    (feed-at (row_text told listed) (feed-row told listed) (range_with_len 0 slot_limit) slot)))
-    (range_with_len 0 (length rows))
-
--- ---- what is listed of pairs
+quiet-listed : {is_listed : Sight → Bool} {word : List ℕ} {end : ℕ} {text : List ℕ} → IsInLine word
+    → ListsSlots is_listed word end text → Adds text []
+quiet-listed f ListsSlots.no_slot = adds-nil
+quiet-listed {is_listed} {word} f (ListsSlots.more_slots first end text before below alike ends) =
+    quiet-append text (row_line word first end (row_text is_listed first)) (quiet-listed f before)
+    (quiet-row word first end (row_text is_listed first) f (row-line is_listed first))
 
 quiet-characters : (word : List ℕ) (i : ℕ) (text : List ℕ) → IsInLine word → IsInLine text
     → Adds (line_of_characters word i text) []
-unfolding filled
 quiet-characters word i [] f g = adds-nil
 quiet-characters word i (x ∷ xs) f g =
-    let name : List ℕ = name_of (act.DeadKey i) in
-    let end : List ℕ = codes " with" ++ ((x ∷ xs) ++ codes "\n") in
-    let ends : Ends end =
-    ends-more (codes " with") ((x ∷ xs) ++ codes "\n") refl (ends-more (x ∷ xs) (codes "\n") g ends-feed) in
-    quiet-comment (codes " " ++ (word ++ (codes ": " ++ (name ++ end))))
-    (ends-more (codes " ") (word ++ (codes ": " ++ (name ++ end))) refl
-    (ends-more word (codes ": " ++ (name ++ end)) f
-    (ends-more (codes ": ") (name ++ end) refl (ends-more name end (feed-name i) ends))))
+    quiet-comment words.PAIRS.now (word ∷ name_of (act.DeadKey i) ∷ (x ∷ xs) ∷ []) refl (f, (name-line i, (g, tt)))
 
 -- a line for each accent
-quiet-accents : (told : Sight → Verdict) (listed : Verdict) (word : List ℕ) (m : MapValue) → IsInLine word
-    → Adds (accent_lines told listed word m) []
-quiet-accents told listed word m f =
-    quiet-flat (accent_line told listed word m)
-    (λ i. quiet-characters word i (flat_map (character_text told listed i) (bases_at m i)) f
-    (feed-characters told listed i (bases_at m i)))
+quiet-accents : (is_listed : Sight → Bool) (word : List ℕ) (m : MapValue) → IsInLine word
+    → Adds (accent_lines is_listed word m) []
+quiet-accents is_listed word m f =
+    quiet-flat (accent_line is_listed word m)
+    (λ i. quiet-characters word i (flat_map (character_text is_listed i) (bases_at m i)) f
+    (characters-line is_listed i (bases_at m i)))
     (range_with_len 0 accent_limit)
 
 -- ---- the comments before the strokes
 
-feed-rest : (t : Bool) → IsInLine (if t then words.UNSTUCK.now else words.NEVER.now)
-feed-rest true = refl
-feed-rest false = refl
+rest-line : (t : Bool) → IsInLine (if t then words.UNSTUCK.now else words.NEVER.now)
+rest-line true = refl
+rest-line false = refl
 
 quiet-all_counts : (m : MapValue) (c : Cover) → Adds (counts_text m c) []
 quiet-all_counts m c =
     let told : Sight → Verdict = verdict_of m c in
-    let rest : List ℕ = rest_word c in
-    let cells : List ℕ = counts_line words.CELLS.now rest (counts_of told all_cells) in
-    let settings : List ℕ = counts_line words.LOCK_SETTINGS.now rest (counts_of told all_lock_settings) in
-    let pairs : List ℕ = counts_line words.ALL_PAIRS.now rest (counts_of told (all_pairs m)) in
-    let feed : IsInLine rest = feed-rest c.sights.forgets in
+    let line : IsInLine (rest_word c) = rest-line c.sights.forgets in
+    let cells = counts_line (rest_word c) words.CELLS.now (counts_of told all_cells) in
+    let settings = counts_line (rest_word c) words.LOCK_SETTINGS.now (counts_of told all_lock_settings) in
+    let pairs = counts_line (rest_word c) words.ALL_PAIRS.now (counts_of told (all_pairs m)) in
     quiet-append (cells ++ settings) pairs
-    (quiet-append cells settings (quiet-counts words.CELLS.now rest (counts_of told all_cells) refl feed)
-    (quiet-counts words.LOCK_SETTINGS.now rest (counts_of told all_lock_settings) refl feed))
-    (quiet-counts words.ALL_PAIRS.now rest (counts_of told (all_pairs m)) refl feed)
+    (quiet-append cells settings (quiet-counts (rest_word c) words.CELLS.now (counts_of told all_cells) line refl)
+    (quiet-counts (rest_word c) words.LOCK_SETTINGS.now (counts_of told all_lock_settings) line refl))
+    (quiet-counts (rest_word c) words.ALL_PAIRS.now (counts_of told (all_pairs m)) line refl)
 
-quiet-lists : (m : MapValue) (c : Cover) → Adds (lists_text m c) []
-quiet-lists m c =
-    let told : Sight → Verdict = verdict_of m c in
-    let rest : List ℕ = rest_word c in
-    let feed : IsInLine rest = feed-rest c.sights.forgets in
-    let slots : List ℕ = slot_lines words.LEFT_OUT.now (rows_of told LeftOut) in
-    let slots_never : List ℕ = slot_lines rest (rows_of told Never) in
-    let accents : List ℕ = accent_lines told LeftOut words.LEFT_OUT.now m in
-    let accents_never : List ℕ = accent_lines told Never rest m in
-    quiet-append (slots ++ slots_never ++ accents) accents_never
-    (quiet-append (slots ++ slots_never) accents
-    (quiet-append slots slots_never (quiet-listed told LeftOut words.LEFT_OUT.now refl)
-    (quiet-listed told Never rest feed))
-    (quiet-accents told LeftOut words.LEFT_OUT.now m refl))
-    (quiet-accents told Never rest m feed)
+quiet-lists : (m : MapValue) (c : Cover) (old new : List ℕ) → Adds old [] → AddsLists m c old new → Adds new []
+quiet-lists m c old new quiet l =
+    let line : IsInLine (rest_word c) = rest-line c.sights.forgets in
+    let accents = accent_lines (has_verdict m c LeftOut) words.LEFT_OUT.now m in
+    let others = accent_lines (has_verdict m c Never) (rest_word c) m in
+    subst (λ t. Adds t []) (sym l.spelled)
+    (quiet-append (old ++ l.left_out ++ l.rest ++ accents) others
+    (quiet-append (old ++ l.left_out ++ l.rest) accents
+    (quiet-append (old ++ l.left_out) l.rest
+    (quiet-append old l.left_out quiet (quiet-listed refl l.lists_left_out)) (quiet-listed line l.lists_rest))
+    (quiet-accents (has_verdict m c LeftOut) words.LEFT_OUT.now m refl))
+    (quiet-accents (has_verdict m c Never) (rest_word c) m line))
 
 -- ---- strokes
 
-quiet-part : (part : Part) → Adds (part_line part) []
-quiet-part Looks = quiet-comment (codes " looks\n") (codes " looks", refl, refl)
-quiet-part Accents = quiet-comment (codes " accents\n") (codes " accents", refl, refl)
-quiet-part Rules = quiet-comment (codes " rules\n") (codes " rules", refl, refl)
-quiet-part OneWay = quiet-comment (codes " one-way\n") (codes " one-way", refl, refl)
+quiet-part : (part : Part) → Adds (comment (part_words part) []) []
+quiet-part Cells = quiet-comment words.CELLS_PART.now [] refl tt
+quiet-part Pairs = quiet-comment words.PAIRS_PART.now [] refl tt
+quiet-part Trials = quiet-comment words.TRIALS_PART.now [] refl tt
+quiet-part OneWay = quiet-comment words.ONE_WAY_PART.now [] refl tt
 
 quiet-start : (place : ℕ) (s : Start) → Adds (start_line place s) []
-quiet-start place s = quiet-if (s.at == place) (part_line s.part) (quiet-part s.part)
+quiet-start place s = quiet-if (s.at == place) (comment (part_words s.part) []) (quiet-part s.part)
 
 abbrev IsOfKey : Stroke → Type 0
 IsOfKey s = key_of (what_of_stroke s) < key_count
@@ -374,12 +255,13 @@ keys-of c keys =
 
 -- ---- the whole text
 
-pub cover-sends : (m : MapValue) (c : Cover) → HasKeys (events c) → IsScript (cover_text m c) (strokes_sent c)
-cover-sends m c keys =
-    adds-script (cover_text m c) (strokes_sent c)
-    (adds-append (counts_text m c ++ lists_text m c) (script_lines c.starts.items c.strokes.items) [] (strokes_sent c)
-    (quiet-append (counts_text m c) (lists_text m c) (quiet-all_counts m c) (quiet-lists m c))
-    (strokes-add c.starts.items c.strokes.items c.strokes.items 0 refl (keys-of c keys)))
+pub cover-sends : (m : MapValue) (c : Cover) (text : List ℕ) → IsCoverText m c text → HasKeys (events c)
+    → IsScript text (strokes_sent c)
+cover-sends m c text is keys =
+    adds-script text (strokes_sent c) (subst (λ t. Adds t (strokes_sent c)) (sym is.spelled)
+    (adds-append is.comments (script_lines c.starts.items c.strokes.items) [] (strokes_sent c)
+    (quiet-lists m c (counts_text m c) is.comments (quiet-all_counts m c) is.adds_lists)
+    (strokes-add c.starts.items c.strokes.items c.strokes.items 0 refl (keys-of c keys))))
 
 -- ---- what it delivers
 
@@ -406,8 +288,7 @@ cover-delivers c = ap reverse (strokes-deliver c.strokes.items) ∙ sym (events-
 
 pub shows-cover : (m : MapValue) (script : List ℕ) → IsCovered m tt script → ShowsCover m script
 shows-cover m script (c, covers, e) =
-    let is : IsScript script (strokes_sent c) =
-    subst (λ t. IsScript t (strokes_sent c)) (sym e) (cover-sends m c covers.keys) in
+    let is : IsScript script (strokes_sent c) = cover-sends m c script e covers.keys in
     record {
       cover = c;
       covers = covers;
@@ -424,11 +305,11 @@ pub covers-played : (show : Show) (text script told : List ℕ) (t u v : Option 
     → PlaysCover show text told
 covers-played show text script told t u v (m, printed, read, (c, covers, e), appends)
     ((n, bytes), played, (read_again, taken), (sent, is_script, same_shown), appended) =
-    let text_is : bytes ≡ cover_text m c = sym (taken-whole script bytes v taken) ∙ appends ∙ e in
+    let text_is : bytes ≡ printed = sym (taken-whole script bytes v taken) ∙ appends in
     let same : m ≡ n = same-map text t u m n read read_again in
     let sent_are : sent ≡ strokes_sent c =
-    one_list (cover_text m c) sent (strokes_sent c) (subst (λ x. IsScript x sent) text_is is_script)
-    (cover-sends m c covers.keys) in (
+    one_list printed sent (strokes_sent c) (subst (λ x. IsScript x sent) text_is is_script)
+    (cover-sends m c printed e covers.keys) in (
       m,
       c,
       subst (λ x. Spells x m) (sym (taken-whole text read.0 t read.1)) read.2,

@@ -1,5 +1,5 @@
 -- A file that is read whole, up to one byte more than it has.
-use Rattle.std.proofs.Common.{◌≡◌, ℕ, ◌<◌, ◌++◌, List, Option, None, Some, length, ap, append-nil, ◌∙◌}
+use Rattle.kmap_runs.proofs.Common.{◌≡◌, ℕ, ◌<◌, ◌++◌, List, Option, None, Some, length, ap, append-nil, ◌∙◌}
 use Rattle.keymap_core.specs.Transfers.{ReadsUpTo}
 
 -- bytes below the most that were asked for are all that there were

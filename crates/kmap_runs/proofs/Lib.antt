@@ -1,4 +1,6 @@
 mod Chained
+mod Comments
+mod Common
 mod CoverScripts
 mod Covered
 mod Dumped

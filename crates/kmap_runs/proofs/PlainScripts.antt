@@ -1,39 +1,20 @@
 -- The script that types a sentence is lines that a terminal shows.
-use Rattle.std.proofs.Common.{◌≡◌, ℕ, ◌==◌, Bool, true, false, List, [], ◌∷◌, refl}
-use Rattle.std.proofs.Common.{arith, All, ◌-◌, take, drop}
-use Rattle.std.specs.Prelude.{◌/◌, ◌%◌, nat_lt, codes, encode_utf8, if◌then◌else◌}
+use Rattle.kmap_runs.proofs.Common.{◌≡◌, ℕ, Bool, true, false, List, [], ◌∷◌, refl, All, ◌-◌, take, drop, codes}
+use Rattle.kmap_runs.proofs.Common.{encode_utf8, if◌then◌else◌, before_first, All-tail, All-take, Event, Keyed, Typing}
+use Rattle.kmap_runs.proofs.Common.{characters_of, code_text, is_unseen, event_line, shown, is_line_feed, comment_if}
+use Rattle.kmap_runs.proofs.Common.{lines_from, typing_script}
 use Rattle.std.specs.Char.{IsScalar}
-use Rattle.std.specs.List.{before_first, position_or_len}
-use Rattle.std.proofs.lemmas.List.Elements.{All-tail, All-take}
-use Rattle.console_core.specs.declared.event.Event.{Event}
-use Rattle.console_core.specs.declared.event.Event.TheVariants as event
-use Rattle.console_core.specs.declared.typing.Keyed.{Keyed}
-use Rattle.console_core.specs.declared.typing.Typing.{Typing}
-use Rattle.console_core.specs.Typing.{characters_of}
-use Rattle.keymap_core.specs.CodePoints.{code_text, code_digits, upper_digits, digit_at}
-use Rattle.keymap_core.specs.Unseen.{is_unseen}
-use Rattle.keymap_lint_text.proofs.Lines.{ascii, decimal_line, digit_line, either, itself, line_append, line_each}
-use Rattle.keymap_lint_text.proofs.Lines.{line_none}
+use Rattle.std.specs.List.{position_or_len}
+use Rattle.keymap_lint_text.proofs.Lines.{ascii, decimal_line, digit_printed, fills, itself, line_append, line_each}
 use Rattle.keymap_lint_text.proofs.Plain.{plain_append, plain_flat, plain_line, plain_none}
-use Rattle.keymap_lint_text.specs.Shown.{IsLine, IsPlainText}
-use Rattle.messages.specs.Filled.{filled}
-use Rattle.play_core.specs.Spelling.{event_line}
-use Rattle.kmap_runs.specs.Typing.{shown, is_line_feed, comment, comment_if, lines_from, typing_script}
+use Rattle.keymap_lint_text.specs.Shown.{IsLine, IsPlainText, is_shown_byte}
+use Rattle.kmap_runs.proofs.Comments.{code_all}
+use Rattle.kmap_runs.specs.Typing.{sentence_line}
+use Rattle.console_core.specs.declared.event.Event.TheVariants as event
 use Rattle.kmap_runs.specs.declared.words.TheConstants as words
 
-digit_at_line : (c unit : ℕ) (bs : List ℕ) → IsLine bs → IsLine (digit_at c unit ∷ bs)
-digit_at_line c unit bs p = digit_line ((c / unit) % 16) bs (omega arith) p
-
 code_line : (c : ℕ) → IsLine (code_text c)
-unfolding code_text code_digits
-code_line c =
-    line_append (codes "U+") _ (ascii _ refl)
-    (line_append (upper_digits c) _
-    (either (nat_lt c 0x10000) _ _ line_none
-    (either (nat_lt c 0x100000) _ _ (digit_at_line c 0x10000 _ line_none)
-    (digit_at_line c 0x100000 _ (digit_at_line c 0x10000 _ line_none))))
-    (digit_at_line c 0x1000 _
-    (digit_at_line c 0x100 _ (digit_at_line c 0x10 _ (digit_at_line c 1 _ line_none)))))
+code_line c = ascii _ (code_all is_shown_byte refl digit_printed c)
 
 shown_by : (c : ℕ) (hidden : Bool) → is_unseen c ≡ hidden → IsScalar c
     → IsLine (if hidden then code_text c else encode_utf8 c)
@@ -44,13 +25,15 @@ shown_line : (c : ℕ) → IsScalar c → IsLine (shown c)
 unfolding shown
 shown_line c s = shown_by c (is_unseen c) refl s
 
-comment_plain : (ks : List Keyed) → All IsScalar (characters_of ks) → IsPlainText (comment ks)
-unfolding filled
+comment_plain : (ks : List Keyed) → All IsScalar (characters_of ks) → IsPlainText (sentence_line ks)
 comment_plain ks h =
     let cs : List ℕ = characters_of ks in
-    plain_line _ (line_append (codes "# ") _ (ascii _ refl)
-    (line_each IsScalar shown shown_line (before_first is_line_feed cs)
-    (All-take IsScalar (position_or_len is_line_feed cs) cs h)))
+    plain_line _ (line_append (codes "#") _ (ascii _ refl)
+    (fills words.SENTENCE.now _ refl (
+      line_each IsScalar shown shown_line (before_first is_line_feed cs)
+          (All-take IsScalar (position_or_len is_line_feed cs) cs h),
+      tt,
+    )))
 
 comment_if_plain : (starts : Bool) (ks : List Keyed) → All IsScalar (characters_of ks)
     → IsPlainText (comment_if starts ks)

@@ -1,141 +1,70 @@
 -- The printed scripts are scripts, and what they do when they are played.
-use Prim.Native.Nat.{suc}
-use Rattle.std.proofs.Common.{take, drop, ◌-◌, ◌≡◌, ℕ, ◌+◌, ◌<◌, Bool, true, false, cond, eqb, List, [], ◌∷◌, ◌++◌}
-use Rattle.std.proofs.Common.{length, map, get_or}
-use Rattle.std.proofs.Common.{Option, Some, None, refl, sym, ap, subst, ◌∙◌, arith, append_assoc, append-nil, lit<}
-use Rattle.std.proofs.Common.{if◌then◌else◌, ne_eqb, decimal, ◌^◌, Ok}
-use Rattle.std.specs.Prelude.{codes, reverse, encode_utf8, ◌≢◌}
-use Rattle.std.specs.List.{flat_map, before_first}
-use Rattle.std.specs.Str.Parse.{AllDigits}
-use Rattle.std.proofs.lemmas.Fmt.{decimal_is_IsNumeral}
-use Rattle.std.proofs.lemmas.Bool.{or_from, true≢false}
-use Rattle.std.proofs.lemmas.List.{map-append, reverse-reverse, take-append-drop}
-use Rattle.std.proofs.lemmas.List.Elements.{All-head, All-tail, All-take, All-drop}
+use Rattle.kmap_runs.proofs.Common.{suc, take, drop, ◌-◌, ◌≡◌, ℕ, ◌<◌, Bool, true, false, List, [], ◌∷◌, ◌++◌, length}
+use Rattle.kmap_runs.proofs.Common.{map, get_or, Option, Some, None, refl, sym, ap, subst, ◌∙◌, arith, append_assoc}
+use Rattle.kmap_runs.proofs.Common.{append-nil, lit<, if◌then◌else◌, ne_eqb, decimal, Ok, reverse, encode_utf8}
+use Rattle.kmap_runs.proofs.Common.{flat_map, before_first, reverse-reverse, All-head, All-tail, All-take, MapValue}
+use Rattle.kmap_runs.proofs.Common.{Spells, Event, HasKey, HasKeys, Keyed, Typing, characters_of, Sent, Plays, moves}
+use Rattle.kmap_runs.proofs.Common.{IsScript, sends, event_line, played_text, line-script, one_list, code_text}
+use Rattle.kmap_runs.proofs.Common.{modifier_name, is_unseen, shown, is_line_feed, line_shown, comment_if, lines_from}
+use Rattle.kmap_runs.proofs.Common.{typing_script, All-reversed}
+use Rattle.std.specs.Prelude.{◌≢◌}
+use Rattle.std.proofs.lemmas.Bool.{true≢false}
+use Rattle.std.proofs.lemmas.List.{map-append, take-append-drop}
+use Rattle.std.proofs.lemmas.List.Elements.{All-drop}
 use Rattle.std.proofs.lemmas.Str.{inside_one}
 use Rattle.keymap_core.specs.declared.action.Modifier.{Modifier}
-use Rattle.keymap_core.specs.declared.action.Modifier.TheVariants.{LeftShift, RightShift, LeftControl, RightControl}
-use Rattle.keymap_core.specs.declared.action.Modifier.TheVariants.{LeftAlt, RightAlt, AltShift, Meta}
-use Rattle.keymap_core.specs.Maps.{MapValue}
-use Rattle.keymap_text.specs.Meaning.{Spells}
+use Rattle.keymap_core.specs.declared.action.Modifier.TheVariants.{LeftShift}
 use Rattle.keymap_text.specs.Sources.{TakesWhole, ReadsMap}
 use Rattle.keymap_text.proofs.Verdicts.{one_map}
-use Rattle.console_core.specs.declared.event.Event.{Event}
-use Rattle.console_core.specs.declared.event.Event.TheVariants as event
-use Rattle.console_core.specs.History.{Maps, HasKey, HasKeys, answers_to}
+use Rattle.console_core.specs.History.{Maps, answers_to}
 use Rattle.console_core.specs.declared.outcome.Sticking.{Sticking}
-use Rattle.console_core.specs.declared.typing.Keyed.{Keyed}
-use Rattle.console_core.specs.declared.typing.Typing.{Typing}
-use Rattle.console_core.specs.Typing.{AreTyped, characters_of}
+use Rattle.console_core.specs.Typing.{AreTyped}
 use Rattle.console_core.specs.declared.outcome.Sticking.TheVariants.{Sticks, Never, Undecided}
 use Rattle.console_core.specs.Sticking.{IsAnswer, IsAnswerBetween}
 use Rattle.keymap_check.specs.Report.{report_of}
 use Rattle.keymap_check.specs.Scripts.{demonstration_of}
 use Rattle.keymap_check.proofs.Demonstrated.{demonstrations_leave_modifiers_on}
-use Rattle.play_core.specs.declared.sent.Sent.{Sent}
-use Rattle.play_core.specs.declared.show.Show.TheVariants as show
-use Rattle.play_core.specs.Playing.{Plays}
-use Rattle.play_core.specs.Runs.{moves}
-use Rattle.play_core.specs.Scripts.{IsScript}
-use Rattle.play_core.specs.Spelling.{sends, says, line_text, has_line_feed, IsWritable, sent_of, event_line}
+use Rattle.play_core.specs.Spelling.{IsWritable, sent_of}
 use Rattle.play_core.specs.Typing.{alone, IsTyped}
-use Rattle.play_core.specs.Written.{typed_text, text_after, played_text}
-use Rattle.play_core.proofs.Spelling.{script-nil, line-script, events-script, delivers, feed-append, digits_feed}
-use Rattle.play_core.proofs.Verdicts.{one_list}
-use Rattle.keymap_core.specs.CodePoints.{digit_at, upper_digits, code_digits, code_text}
+use Rattle.play_core.specs.Written.{typed_text, text_after}
+use Rattle.play_core.proofs.Spelling.{events-script, delivers}
 use Rattle.kmap_runs.specs.Report.{check_text, demonstration_text, report}
-use Rattle.kmap_runs.specs.Search.{modifier_name, script_text, undecided_text}
+use Rattle.kmap_runs.specs.Search.{script_text, found_text}
 use Rattle.kmap_runs.specs.Runs.{TypesSentence}
-use Rattle.keymap_core.specs.Unseen.{is_unseen}
-use Rattle.kmap_runs.specs.Typing.{shown, is_line_feed, line_shown, comment_if, lines_from, typing_script}
-use Rattle.kmap_runs.specs.Replayed.{ScriptTypes, Delivers, AnswerReplays, AnswerReplaysBetween}
-use Rattle.kmap_runs.specs.Replayed.{ShowsDemonstration, ShowsScript}
-use Rattle.keymap_core.proofs.Lists.{All-reversed}
+use Rattle.kmap_runs.specs.Replayed.{ScriptTypes, Delivers, AnswerReplays, AnswerReplaysBetween, ShowsDemonstration}
+use Rattle.kmap_runs.specs.Replayed.{ShowsScript}
+use Rattle.kmap_runs.proofs.Comments.{IsInLine, flat-line, decimal-line, code-line, comment-before, comment-alone}
+use Rattle.console_core.specs.declared.event.Event.TheVariants as event
+use Rattle.play_core.specs.declared.show.Show.TheVariants as show
 use Rattle.kmap_runs.specs.declared.words.TheConstants as words
-use Rattle.messages.specs.Filled.{filled}
 
--- ---- comments stand in one line
-
--- texts without a line feed, one of each element
-pub feed-flat : {X : Type 0} (f : X → List ℕ) → ((x : X) → has_line_feed (f x) ≡ false) → (xs : List X)
-    → has_line_feed (flat_map f xs) ≡ false
-feed-flat f each [] = refl
-feed-flat f each (x ∷ xs) = feed-append (f x) (flat_map f xs) (each x) (feed-flat f each xs)
+-- ---- what comments show
 
 -- a text of which no byte is a line feed
-feed-each : (xs : List ℕ) → ((k : ℕ) → k < length xs → get_or xs k 0 ≢ 10) → has_line_feed xs ≡ false
-feed-each [] each = refl
-feed-each (x ∷ xs) each =
-    or_from (eqb x 10) (has_line_feed xs) (ne_eqb x 10 (each 0 (omega arith)))
-    (feed-each xs (λ k lt. each (suc k) (omega arith)))
-
--- the digit of a number, whether it is below ten
-feed-digit_by : (t : Bool) (d : ℕ) → has_line_feed (cond t (48 + d) (87 + d) ∷ []) ≡ false
-feed-digit_by true d = or_from (eqb (48 + d) 10) false (ne_eqb (48 + d) 10 (λ e. omega arith)) refl
-feed-digit_by false d = or_from (eqb (87 + d) 10) false (ne_eqb (87 + d) 10 (λ e. omega arith)) refl
-
--- a digit of a character's number
-feed-digit : (c unit : ℕ) → has_line_feed (digit_at c unit ∷ []) ≡ false
-feed-digit c unit = feed-digit_by _ _
-
--- the digits of a large number before the last four
-feed-upper : (s t : Bool) (c : ℕ)
-    → has_line_feed (if s then [] else if t then digit_at c 0x10000 ∷ []
-    else digit_at c 0x100000 ∷ digit_at c 0x10000 ∷ [])
-    ≡ false
-feed-upper true t c = refl
-feed-upper false true c = feed-digit c 0x10000
-feed-upper false false c =
-    feed-append (digit_at c 0x100000 ∷ []) (digit_at c 0x10000 ∷ []) (feed-digit c 0x100000) (feed-digit c 0x10000)
-
--- the last four digits of a number
-feed-lower : (c : ℕ)
-    → has_line_feed (digit_at c 0x1000 ∷ digit_at c 0x100 ∷ digit_at c 0x10 ∷ digit_at c 1 ∷ []) ≡ false
-feed-lower c =
-    let units : has_line_feed (digit_at c 0x10 ∷ digit_at c 1 ∷ []) ≡ false =
-    feed-append (digit_at c 0x10 ∷ []) (digit_at c 1 ∷ []) (feed-digit c 0x10) (feed-digit c 1) in
-    feed-append (digit_at c 0x1000 ∷ []) (digit_at c 0x100 ∷ digit_at c 0x10 ∷ digit_at c 1 ∷ []) (feed-digit c 0x1000)
-    (feed-append (digit_at c 0x100 ∷ []) (digit_at c 0x10 ∷ digit_at c 1 ∷ []) (feed-digit c 0x100) units)
-
--- the number of a character
-feed-code : (c : ℕ) → has_line_feed (code_text c) ≡ false
-unfolding code_text code_digits
-feed-code c =
-    let digits : List ℕ = digit_at c 0x1000 ∷ digit_at c 0x100 ∷ digit_at c 0x10 ∷ digit_at c 1 ∷ [] in
-    feed-append (codes "U+") (upper_digits c ++ digits) refl
-    (feed-append (upper_digits c) digits (feed-upper _ _ c) (feed-lower c))
+each-line : (xs : List ℕ) → ((k : ℕ) → k < length xs → get_or xs k 0 ≢ 10) → IsInLine xs
+each-line [] each = refl
+each-line (x ∷ xs) each =
+    rw (ne_eqb x 10 (each 0 (omega arith))) (each-line xs (λ k lt. each (suc k) (omega arith)))
 
 -- a line feed is hidden
 not_feed : (c : ℕ) → is_unseen c ≡ false → c ≢ 10
 not_feed c h e = true≢false (subst (λ x. is_unseen x ≡ false) e h)
 
--- the bytes of a character that is not hidden
-feed-encoded : (c : ℕ) → is_unseen c ≡ false → has_line_feed (encode_utf8 c) ≡ false
-feed-encoded c h =
+-- what is shown of a character, whether it is hidden
+shown_by : (t : Bool) (c : ℕ) → is_unseen c ≡ t → IsInLine (if t then code_text c else encode_utf8 c)
+shown_by true c h = code-line c
+shown_by false c h =
     let bytes : encode_utf8 c ≡ encode_utf8 c ++ [] = sym (append-nil (encode_utf8 c)) in
-    feed-each (encode_utf8 c)
+    each-line (encode_utf8 c)
     (λ k lt e. not_feed c h (inside_one c [] (encode_utf8 c) k bytes lt (omega (arith, e)) ∙ e))
 
--- what is shown of a character, whether it is hidden
-feed-shown_by : (t : Bool) (c : ℕ) → is_unseen c ≡ t
-    → has_line_feed (if t then code_text c else encode_utf8 c) ≡ false
-feed-shown_by true c e = feed-code c
-feed-shown_by false c e = feed-encoded c e
-
--- what is shown of a character
-feed-shown : (c : ℕ) → has_line_feed (shown c) ≡ false
+shown-line : (c : ℕ) → IsInLine (shown c)
 unfolding shown
-feed-shown c = feed-shown_by (is_unseen c) c refl
+shown-line c = shown_by (is_unseen c) c refl
 
--- the name of a modifier
-feed-name : (i : Modifier) → has_line_feed (modifier_name i) ≡ false
-feed-name LeftShift = refl
-feed-name RightShift = refl
-feed-name LeftControl = refl
-feed-name RightControl = refl
-feed-name LeftAlt = refl
-feed-name RightAlt = refl
-feed-name AltShift = refl
-feed-name Meta = refl
+modifier-line : (i : Modifier) → IsInLine (modifier_name i)
+modifier-line LeftShift = refl
+modifier-line _ = refl
 
 -- ---- lines before a script
 
@@ -157,36 +86,13 @@ events-before (e ∷ events) rest sent keys h =
     (writable e (All-head HasKey e events keys))
     (events-before events rest sent (All-tail HasKey e events keys) h))
 
--- the comments, as what they say
-sentence-line : (t : List ℕ) → filled words.SENTENCE.now (t ∷ []) ≡ line_text (says (codes " " ++ t))
-unfolding filled
-sentence-line t = refl
-
-sticks-line : (t : List ℕ) → filled words.STICKS.now (t ∷ []) ≡ line_text (says (codes " sticks:" ++ t))
-unfolding filled
-sticks-line t = refl
-
-never-line : filled words.NEVER_STICKS.now [] ≡ line_text (says (codes " never sticks"))
-unfolding filled
-never-line = refl
-
-undecided-line : (t : List ℕ)
-    → filled words.UNDECIDED.now (t ∷ [])
-    ≡ line_text (says (codes " undecided: no list of up to " ++ (t ++ codes " presses sticks")))
-unfolding filled
-undecided-line t =
-    ap (λ l. codes "# undecided: no list of up to " ++ l)
-    (sym (append_assoc t (codes " presses sticks") (codes "\n")))
-
 -- a comment before a script, if there is one
-comment-before : (starts : Bool) (ks : List Keyed) (rest : List ℕ) (sent : List Sent) → IsScript rest sent
+sentence-before : (starts : Bool) (ks : List Keyed) (rest : List ℕ) (sent : List Sent) → IsScript rest sent
     → IsScript (comment_if starts ks ++ rest) sent
-comment-before true ks rest sent h =
-    let line : List ℕ = line_shown (characters_of ks) in
-    subst (λ t. IsScript (t ++ rest) sent) (sym (sentence-line line))
-    (line-script (says (codes " " ++ line)) rest sent
-    (feed-append (codes " ") line refl (feed-flat shown feed-shown (before_first is_line_feed (characters_of ks)))) h)
-comment-before false ks rest sent h = h
+sentence-before true ks rest sent h =
+    comment-before words.SENTENCE.now (line_shown (characters_of ks) ∷ []) refl
+    (flat-line shown shown-line (before_first is_line_feed (characters_of ks)), tt) rest sent h
+sentence-before false ks rest sent h = h
 
 -- ---- the script that types a sentence
 
@@ -202,7 +108,7 @@ lines-typing starts from es (k ∷ ks) keys =
     let later : List ℕ = lines_from (is_line_feed k.character) k.end (drop n es) ks in
     let sent : List Sent = map sent_of (take n es) ++ map sent_of (drop n es) in
     let whole : IsScript (comment ++ (lines ++ later)) sent =
-    comment-before starts (k ∷ ks) (lines ++ later) sent
+    sentence-before starts (k ∷ ks) (lines ++ later) sent
     (events-before (take n es) later (map sent_of (drop n es)) (All-take HasKey n es keys)
     (lines-typing (is_line_feed k.character) k.end (drop n es) ks (All-drop HasKey n es keys))) in
     let both : map sent_of es ≡ sent =
@@ -258,33 +164,16 @@ lines-deliver events keys = delivers-these _ events (events-script events (keys-
 script-delivers : (on : List Modifier) (events : List Event) → HasKeys (reverse events)
     → Delivers (script_text on events) (reverse events)
 script-delivers on events keys =
-    let names : List ℕ = flat_map modifier_name on in
     delivers-these (script_text on events) events
-    (subst (λ t. IsScript (t ++ flat_map event_line events) (map sent_of events)) (sym (sticks-line names))
-    (line-script (says (codes " sticks:" ++ names)) (flat_map event_line events) (map sent_of events)
-    (feed-append (codes " sticks:") names refl (feed-flat modifier_name feed-name on))
-    (events-script events (keys-of events keys))))
+    (comment-before words.STICKS.now (flat_map modifier_name on ∷ []) refl
+    (flat-line modifier_name modifier-line on, tt) (flat_map event_line events) (map sent_of events)
+    (events-script events (keys-of events keys)))
 
--- a comment alone is a script of no events
-said : (line text : List ℕ) → line ≡ line_text (says text) → has_line_feed text ≡ false → IsScript line []
-said line text same feed =
-    subst (λ t. IsScript t []) (append-nil (line_text (says text)) ∙ sym same)
-    (line-script (says text) [] [] feed script-nil)
+said-never : IsScript (found_text Never) []
+said-never = comment-alone words.NEVER_STICKS.now [] refl tt
 
-said-never : IsScript (filled words.NEVER_STICKS.now []) []
-said-never = said (filled words.NEVER_STICKS.now []) (codes " never sticks") never-line refl
-
--- a number of 64 bits is written in digits
-number : (p : ℕ) → p < 2 ^ 64 → AllDigits 10 (decimal p)
-number p small = (decimal_is_IsNumeral p small).0.1
-
--- that the search gave up is a script of no events
-said-undecided : (p : ℕ) → p < 2 ^ 64 → IsScript (undecided_text p) []
-said-undecided p small =
-    said (undecided_text p) (codes " undecided: no list of up to " ++ (decimal p ++ codes " presses sticks"))
-    (undecided-line (decimal p))
-    (feed-append (codes " undecided: no list of up to ") (decimal p ++ codes " presses sticks") refl
-    (feed-append (decimal p) (codes " presses sticks") (digits_feed (decimal p) (number p small)) refl))
+said-undecided : (p : ℕ) → IsScript (found_text (Undecided p)) []
+said-undecided p = comment-alone words.UNDECIDED.now (decimal p ∷ []) refl (decimal-line p, tt)
 
 pub answer-replays : (m : MapValue) (found : Sticking) → IsAnswer m found → AnswerReplays m found
 answer-replays m (Sticks events on) answer =

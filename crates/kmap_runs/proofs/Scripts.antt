@@ -1,17 +1,12 @@
 -- The lines of the script that types a sentence, one character after another.
-use Prim.Native.Nat.{suc}
-use Rattle.std.proofs.Common.{◌≡◌, ℕ, ◌+◌, ◌-◌, ◌<◌, ◌≤◌, Bool, false, not, List, [], ◌∷◌, ◌++◌, length, take, drop}
-use Rattle.std.proofs.Common.{get_or}
-use Rattle.std.proofs.Common.{append_assoc, add-one, drop-cons, take_all, length-drop, arith, refl, sym, ap}
-use Rattle.std.proofs.Common.{◌∙◌, subst}
+use Rattle.kmap_runs.proofs.Common.{suc, ◌≡◌, ℕ, ◌+◌, ◌-◌, ◌<◌, ◌≤◌, Bool, false, not, List, [], ◌∷◌, ◌++◌, length}
+use Rattle.kmap_runs.proofs.Common.{take, drop, get_or, append_assoc, add-one, arith, refl, sym, ap, ◌∙◌, subst}
+use Rattle.kmap_runs.proofs.Common.{flat_map, Event, Keyed, AreEnds, characters_of, event_line, lines_from, comment_if}
+use Rattle.kmap_runs.proofs.Common.{is_line_feed, line_shown, shown}
+use Rattle.std.proofs.Common.{drop-cons, take_all, length-drop}
 use Rattle.std.proofs.Math.ListN.{drop_of_length-le}
 use Rattle.std.proofs.lemmas.List.{drop-drop}
-use Rattle.std.specs.List.{flat_map, prefix_len}
-use Rattle.console_core.specs.declared.event.Event.{Event}
-use Rattle.console_core.specs.declared.typing.Keyed.{Keyed}
-use Rattle.console_core.specs.Typing.{AreEnds, characters_of}
-use Rattle.play_core.specs.Spelling.{event_line}
-use Rattle.kmap_runs.specs.Typing.{lines_from, comment_if, is_line_feed, line_shown, shown}
+use Rattle.std.specs.List.{prefix_len}
 
 -- four pieces of which the middle ones belong together
 four_pieces : (a b c d : List ℕ) → ((a ++ b) ++ c) ++ d ≡ a ++ ((b ++ c) ++ d)

@@ -1,9 +1,8 @@
 -- What is printed of a script that shows a console what a keymap can do: how much it sees, what it doesn't see, and its
 -- events.
-use Rattle.std.specs.Prelude.{ℕ, ◌+◌, ◌-◌, ◌==◌, ◌||◌, Bool, true, false, not, List, [], ◌∷◌, ◌++◌, decimal}
-use Rattle.std.specs.Prelude.{length, map, drop, slice_index_or, if◌then◌else◌}
-use Rattle.std.specs.Cmp.Lexicographic.{pointwise}
-use Rattle.std.specs.List.{flat_map, list_any, prefix_len, range_with_len}
+use Rattle.std.specs.Prelude.{◌≡◌, ℕ, ◌<◌, ◌≤◌, ◌+◌, ◌-◌, ◌==◌, Bool, true, false, List, [], ◌∷◌, ◌++◌, decimal}
+use Rattle.std.specs.Prelude.{length, map, slice_index_or, if◌then◌else◌}
+use Rattle.std.specs.List.{flat_map, list_any, range_with_len}
 use Rattle.keymap_core.specs.Accents.{AccentValue}
 use Rattle.keymap_core.specs.Actions.{name_of}
 use Rattle.keymap_core.specs.declared.action.Action.TheVariants as act
@@ -19,21 +18,25 @@ use Rattle.keymap_cover.specs.declared.parts.Verdict.{Verdict}
 use Rattle.keymap_cover.specs.declared.parts.Verdict.TheVariants.{LeftOut, Never}
 use Rattle.keymap_cover.specs.declared.stroke.Stroke.{Stroke}
 use Rattle.keymap_cover.specs.declared.stroke.Stroke.TheVariants.{Down, Repeat, Up, Reset}
-use Rattle.keymap_tour.specs.declared.Part.{Part}
-use Rattle.keymap_tour.specs.declared.Part.TheVariants.{Looks, Accents, Rules, OneWay}
-use Rattle.keymap_tour.specs.declared.Start.{Start}
+use Rattle.keymap_cover.specs.declared.parts.Part.{Part}
+use Rattle.keymap_cover.specs.declared.parts.Part.TheVariants.{Cells, Pairs, Trials, OneWay}
+use Rattle.keymap_cover.specs.declared.parts.Start.{Start}
 use Rattle.play_core.specs.Spelling.{sent_line}
 use Rattle.play_core.specs.declared.sent.Sent.{Sent}
 use Rattle.play_core.specs.declared.sent.What.{What}
 use Rattle.play_core.specs.declared.sent.What.TheVariants as what
+use Rattle.kmap_runs.specs.declared.cover.Listing.{Listing}
+use Rattle.kmap_runs.specs.Comments.{comment}
 use Rattle.kmap_runs.specs.declared.words.TheConstants as words
 use Rattle.messages.specs.Filled.{filled}
 
--- ---- what is told of sights
+-- whether this is the verdict on a sight
+abbrev pub has_verdict : MapValue → Cover → Verdict → Sight → Bool
+has_verdict m c v x = is_verdict v (verdict_of m c x)
 
--- a text if the verdict on a sight is the one that is listed
-abbrev pub if_told : Verdict → Verdict → List ℕ → List ℕ
-if_told listed told text = if is_verdict listed told then text else []
+-- the sights of a listing
+abbrev pub is_in : Listing → Sight → Bool
+is_in l = has_verdict l.map.now l.cover.now l.listed
 
 abbrev pub number_text : ℕ → List ℕ
 number_text n = filled words.LISTED.now (decimal n ∷ [])
@@ -43,66 +46,54 @@ abbrev pub headed : List ℕ → List ℕ → List ℕ
 headed head [] = []
 headed head (x ∷ xs) = head ++ x ∷ xs
 
--- ---- slots
+-- ---- the slots of which something is listed
 
 -- a column of a slot, if its cell is listed
-abbrev pub column_text : (Sight → Verdict) → Verdict → ℕ → ℕ → List ℕ
-column_text told listed slot column = if_told listed (told (Cell slot column)) (number_text column)
+abbrev pub column_text : (Sight → Bool) → ℕ → ℕ → List ℕ
+column_text is_listed slot column = if is_listed (Cell slot column) then number_text column else []
 
--- the columns of a slot whose cells are listed
-abbrev pub columns_text : (Sight → Verdict) → Verdict → ℕ → List ℕ
-columns_text told listed slot = flat_map (column_text told listed slot) (range_with_len 0 column_count)
+abbrev pub columns_text : (Sight → Bool) → ℕ → List ℕ
+columns_text is_listed slot = flat_map (column_text is_listed slot) (range_with_len 0 column_count)
 
--- the settings of clock and nlock under which a slot is listed
-abbrev pub settings_text : (Sight → Verdict) → Verdict → ℕ → List ℕ
-settings_text told listed slot =
-    if_told listed (told (Locks slot false false)) words.NO_LOCK.now
-    ++ if_told listed (told (Locks slot false true)) words.NLOCK.now
-    ++ if_told listed (told (Locks slot true false)) words.CLOCK.now
-    ++ if_told listed (told (Locks slot true true)) words.BOTH_LOCKS.now
+-- the name of a setting of clock and nlock, if the slot is listed under it
+abbrev pub setting_text : (Sight → Bool) → ℕ → Bool → Bool → List ℕ → List ℕ
+setting_text is_listed slot caps num name = if is_listed (Locks slot caps num) then name else []
+
+abbrev pub settings_text : (Sight → Bool) → ℕ → List ℕ
+settings_text is_listed slot =
+    setting_text is_listed slot false false words.NO_LOCK.now ++ setting_text is_listed slot false true words.NLOCK.now
+    ++ setting_text is_listed slot true false words.CLOCK.now
+    ++ setting_text is_listed slot true true words.BOTH_LOCKS.now
 
 -- what is listed of a slot
-abbrev pub row_text : (Sight → Verdict) → Verdict → ℕ → List ℕ
-row_text told listed slot =
-    headed words.COLUMNS.now (columns_text told listed slot) ++ headed words.LOCKS.now (settings_text told listed slot)
+abbrev pub row_text : (Sight → Bool) → ℕ → List ℕ
+row_text is_listed slot =
+    headed words.COLUMNS.now (columns_text is_listed slot) ++ headed words.LOCKS.now (settings_text is_listed slot)
 
-abbrev pub rows_of : (Sight → Verdict) → Verdict → List (List ℕ)
-rows_of told listed = map (row_text told listed) (range_with_len 0 slot_limit)
+-- the same is listed of the slots from one on to before another
+abbrev pub AreAlike : (Sight → Bool) → ℕ → ℕ → Type 0
+AreAlike is_listed first end =
+    (slot : ℕ) → first ≤ slot → slot < end → row_text is_listed slot ≡ row_text is_listed first
 
-abbrev pub row_at : List (List ℕ) → ℕ → List ℕ
-row_at rows slot = slice_index_or rows slot []
+-- and not of the slot behind them, if there is one
+abbrev pub EndsAlike : (Sight → Bool) → ℕ → ℕ → Type 0
+EndsAlike is_listed first end = end < slot_limit → row_text is_listed end ≡ row_text is_listed first → ⊥
 
-abbrev pub are_same : List ℕ → List ℕ → Bool
-are_same xs ys = pointwise (λ x y. x == y) xs ys
+-- the line of slots from one on to before another, if something is listed of them
+abbrev pub row_line : List ℕ → ℕ → ℕ → List ℕ → List ℕ
+row_line word first end [] = []
+row_line word first end (x ∷ row) =
+    if end == first + 1 then comment words.ONE_SLOT.now (word ∷ decimal first ∷ (x ∷ row) ∷ [])
+    else comment words.SLOTS.now (word ∷ decimal first ∷ decimal (end - 1) ∷ (x ∷ row) ∷ [])
 
--- the first slot, or one of which another row is listed than of the slot before it
-abbrev pub begins_run : List (List ℕ) → ℕ → Bool
-begins_run rows slot = slot == 0 || not (are_same (row_at rows slot) (row_at rows (slot - 1)))
+-- The text lists each slot before this one: slots in a row of which the same is listed share a line, all of them.
+pub data ListsSlots (is_listed : Sight → Bool) (word : List ℕ) : ℕ → List ℕ → Type 0 where
+  no_slot : ListsSlots is_listed word 0 []
+  more_slots : (first end : ℕ) (text : List ℕ) → ListsSlots is_listed word first text → first < end
+      → AreAlike is_listed first end → EndsAlike is_listed first end
+      → ListsSlots is_listed word end (text ++ row_line word first end (row_text is_listed first))
 
--- how many slots from this one on have the same row
-abbrev pub run_len : List (List ℕ) → ℕ → ℕ
-run_len rows slot = prefix_len (λ row. are_same row (row_at rows slot)) (drop slot rows)
-
--- so many slots from this one on
-abbrev pub slots_line : List ℕ → ℕ → ℕ → List ℕ → List ℕ
-slots_line word slot count row =
-    if count == 1 then filled words.ONE_SLOT.now (word ∷ decimal slot ∷ row ∷ [])
-    else filled words.SLOTS.now (word ∷ decimal slot ∷ decimal (slot + count - 1) ∷ row ∷ [])
-
-abbrev pub line_of_row : List ℕ → ℕ → ℕ → List ℕ → List ℕ
-line_of_row word slot count [] = []
-line_of_row word slot count (x ∷ row) = slots_line word slot count (x ∷ row)
-
--- the line of the run that a slot begins, if something is listed
-abbrev pub run_line : List ℕ → List (List ℕ) → ℕ → List ℕ
-run_line word rows slot =
-    if begins_run rows slot then line_of_row word slot (run_len rows slot) (row_at rows slot) else []
-
--- a line for each run of slots of which the same is listed
-abbrev pub slot_lines : List ℕ → List (List ℕ) → List ℕ
-slot_lines word rows = flat_map (run_line word rows) (range_with_len 0 (length rows))
-
--- ---- pairs
+-- ---- the pairs that are listed
 
 -- a number behind others, if it isn't among them
 abbrev pub with_number : List ℕ → ℕ → List ℕ
@@ -125,21 +116,21 @@ abbrev pub all_pairs : MapValue → List Sight
 all_pairs m = flat_map (λ i. map (Pair i) (bases_at m i)) (range_with_len 0 accent_limit)
 
 -- a character, if its pair with an accent is listed
-abbrev pub character_text : (Sight → Verdict) → Verdict → ℕ → ℕ → List ℕ
-character_text told listed i c = if_told listed (told (Pair i c)) (number_text c)
+abbrev pub character_text : (Sight → Bool) → ℕ → ℕ → List ℕ
+character_text is_listed i c = if is_listed (Pair i c) then number_text c else []
 
 abbrev pub line_of_characters : List ℕ → ℕ → List ℕ → List ℕ
 line_of_characters word i [] = []
-line_of_characters word i (x ∷ text) = filled words.PAIRS.now (word ∷ name_of (act.DeadKey i) ∷ (x ∷ text) ∷ [])
+line_of_characters word i (x ∷ text) = comment words.PAIRS.now (word ∷ name_of (act.DeadKey i) ∷ (x ∷ text) ∷ [])
 
 -- a line for the characters whose pairs with an accent are listed, if there are any
-abbrev pub accent_line : (Sight → Verdict) → Verdict → List ℕ → MapValue → ℕ → List ℕ
-accent_line told listed word m i =
-    line_of_characters word i (flat_map (character_text told listed i) (bases_at m i))
+abbrev pub accent_line : (Sight → Bool) → List ℕ → MapValue → ℕ → List ℕ
+accent_line is_listed word m i =
+    line_of_characters word i (flat_map (character_text is_listed i) (bases_at m i))
 
 -- a line for each accent of whose pairs some are listed
-abbrev pub accent_lines : (Sight → Verdict) → Verdict → List ℕ → MapValue → List ℕ
-accent_lines told listed word m = flat_map (accent_line told listed word m) (range_with_len 0 accent_limit)
+abbrev pub accent_lines : (Sight → Bool) → List ℕ → MapValue → List ℕ
+accent_lines is_listed word m = flat_map (accent_line is_listed word m) (range_with_len 0 accent_limit)
 
 -- ---- all of them
 
@@ -148,34 +139,37 @@ abbrev pub rest_word : Cover → List ℕ
 rest_word c = if c.sights.forgets then words.UNSTUCK.now else words.NEVER.now
 
 abbrev pub counts_line : List ℕ → List ℕ → Counts → List ℕ
-counts_line name rest n =
-    filled words.COUNTS.now (name ∷ decimal n.seen ∷ decimal n.left_out ∷ rest ∷ decimal n.rest ∷ [])
+counts_line rest name n =
+    comment words.COUNTS.now (name ∷ decimal n.seen ∷ decimal n.left_out ∷ rest ∷ decimal n.rest ∷ [])
 
 abbrev pub counts_text : MapValue → Cover → List ℕ
 counts_text m c =
     let told = verdict_of m c in
-    counts_line words.CELLS.now (rest_word c) (counts_of told all_cells)
-    ++ counts_line words.LOCK_SETTINGS.now (rest_word c) (counts_of told all_lock_settings)
-    ++ counts_line words.ALL_PAIRS.now (rest_word c) (counts_of told (all_pairs m))
+    counts_line (rest_word c) words.CELLS.now (counts_of told all_cells)
+    ++ counts_line (rest_word c) words.LOCK_SETTINGS.now (counts_of told all_lock_settings)
+    ++ counts_line (rest_word c) words.ALL_PAIRS.now (counts_of told (all_pairs m))
 
-abbrev pub lists_text : MapValue → Cover → List ℕ
-lists_text m c =
-    let told = verdict_of m c in
-    slot_lines words.LEFT_OUT.now (rows_of told LeftOut) ++ slot_lines (rest_word c) (rows_of told Never)
-    ++ accent_lines told LeftOut words.LEFT_OUT.now m ++ accent_lines told Never (rest_word c) m
+-- Behind a text stand the slots with what is left out of them and then with the rest, and the pairs in the same way.
+pub record AddsLists (m : MapValue) (c : Cover) (old new : List ℕ) : Type 0 where
+  pub left_out : List ℕ
+  pub rest : List ℕ
+  pub lists_left_out : ListsSlots (has_verdict m c LeftOut) words.LEFT_OUT.now slot_limit left_out
+  pub lists_rest : ListsSlots (has_verdict m c Never) (rest_word c) slot_limit rest
+  pub spelled : new ≡ old ++ left_out ++ rest ++ accent_lines (has_verdict m c LeftOut) words.LEFT_OUT.now m
+      ++ accent_lines (has_verdict m c Never) (rest_word c) m
 
 -- ---- the events
 
 -- the comment that begins a part
-abbrev pub part_line : Part → List ℕ
-part_line Looks = words.LOOKS.now
-part_line Accents = words.ACCENTS.now
-part_line Rules = words.RULES.now
-part_line OneWay = words.ONE_WAY.now
+abbrev pub part_words : Part → List ℕ
+part_words Cells = words.CELLS_PART.now
+part_words Pairs = words.PAIRS_PART.now
+part_words Trials = words.TRIALS_PART.now
+part_words OneWay = words.ONE_WAY_PART.now
 
 -- a comment if the part begins at the place
 abbrev pub start_line : ℕ → Start → List ℕ
-start_line place s = if s.at == place then part_line s.part else []
+start_line place s = if s.at == place then comment (part_words s.part) [] else []
 
 -- what is sent to make a stroke
 abbrev pub what_of_stroke : Stroke → What
@@ -198,5 +192,8 @@ stroke_lines starts strokes place =
 abbrev pub script_lines : List Start → List Stroke → List ℕ
 script_lines starts strokes = flat_map (stroke_lines starts strokes) (range_with_len 0 (length strokes))
 
-abbrev pub cover_text : MapValue → Cover → List ℕ
-cover_text m c = counts_text m c ++ lists_text m c ++ script_lines c.starts.items c.strokes.items
+-- The text tells how much the script of the cover sees, lists what it doesn't see, and is this script.
+pub record IsCoverText (m : MapValue) (c : Cover) (text : List ℕ) : Type 0 where
+  pub comments : List ℕ
+  pub adds_lists : AddsLists m c (counts_text m c) comments
+  pub spelled : text ≡ comments ++ script_lines c.starts.items c.strokes.items

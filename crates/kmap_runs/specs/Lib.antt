@@ -1,3 +1,4 @@
+pub mod Comments
 pub mod Cover
 pub mod FaultLine
 pub mod FmtRuns

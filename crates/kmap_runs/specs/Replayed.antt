@@ -1,5 +1,5 @@
 -- What the printed scripts do when they are played back.
-use Rattle.std.specs.Prelude.{◌≡◌, ◌<◌, ◌^◌, ℕ, List, [], ◌++◌, Option, Some, None, codes, map, reverse}
+use Rattle.std.specs.Prelude.{◌≡◌, ℕ, List, [], ◌++◌, Option, Some, None, codes, map, reverse}
 use Rattle.keymap_core.specs.Maps.{MapValue}
 use Rattle.console_core.specs.declared.outcome.Sticking.{Sticking}
 use Rattle.console_core.specs.declared.outcome.Sticking.TheVariants.{Sticks, Never, Undecided}
@@ -36,12 +36,12 @@ pub record Delivers (script : List ℕ) (h : List Event) : Type 0 where
   pub delivers : reverse (delivered sent) ≡ h
 
 -- What is printed of an answer of the search: where a modifier sticks, a script that delivers exactly the events of the
--- answer, which are so; and else a script of no events. A number of presses has 64 bits.
+-- answer, which are so; and else a script of no events.
 abbrev pub FoundReplays : (List Event → Type 0) → Sticking → Type 0
 FoundReplays IsSo (Sticks events on) =
     Delivers (found_text (Sticks events on)) (reverse events.items) × IsSo (reverse events.items)
 FoundReplays IsSo Never = IsScript (found_text Never) []
-FoundReplays IsSo (Undecided p) = p < 2 ^ 64 → IsScript (found_text (Undecided p)) []
+FoundReplays IsSo (Undecided p) = IsScript (found_text (Undecided p)) []
 
 -- These events leave a modifier on, by the fewest presses.
 abbrev pub SticksSoonest : MapValue → List Event → Type 0

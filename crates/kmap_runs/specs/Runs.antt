@@ -8,7 +8,6 @@ use Rattle.keymap_text.specs.Printed.{printed}
 use Rattle.keymap_tables.specs.declared.fault.TableError.{TableError}
 use Rattle.keymap_tables.specs.Fits.{Fits, IsFirstWide}
 use Rattle.keymap_tables.specs.Image.{image, narrow_image}
-use Rattle.keymap_tables.specs.Sources.{ReadsNarrow, ReadsTables}
 use Rattle.keymap_draw.specs.declared.board.Board.{Board}
 use Rattle.keymap_draw.specs.Pictures.{IsPicture, drawing}
 use Rattle.keymap_draw.specs.Told.{AgreeWhereShown}
@@ -29,7 +28,7 @@ use Rattle.keymap_text.specs.Meaning.{Spells}
 use Rattle.keymap_text.specs.Sources.{TakesWhole}
 use Rattle.kmap_runs.specs.declared.fault_line.RunError.{RunError}
 use Rattle.kmap_runs.specs.declared.fault_line.RunError.TheVariants as error
-use Rattle.kmap_runs.specs.Cover.{cover_text}
+use Rattle.kmap_runs.specs.Cover.{IsCoverText}
 use Rattle.kmap_runs.specs.Inputs.{of_writer, ReadsBytes, ReadsFile, ReadsKeymaps, ReadsSentence, ReadsText}
 use Rattle.kmap_runs.specs.LintRuns.{IsLinted}
 use Rattle.kmap_runs.specs.Replayed.{ShowsCover}
@@ -113,7 +112,7 @@ LacksCover m _ = ⊥
 
 -- a script, with what it sees and doesn't see
 abbrev pub IsCovered : MapValue → Unit {0} → List ℕ → Type 0
-IsCovered m _ told = (c : Cover) × Covers m c × (told ≡ cover_text m c)
+IsCovered m _ told = (c : Cover) × Covers m c × IsCoverText m c told
 
 abbrev pub CoversText : Moves → Moves → Result (Unit {0}) RunError → Type 0
 CoversText text out r = Runs of_writer (ReadsText text) LacksCover IsCovered out r
@@ -144,19 +143,12 @@ AcceptedKeepTheirPromise =
     → (m : MapValue) × ReadsText text (Ok m) × KeepsPromise m
 
 -- One file is compiled of a text and then dumped as another text: both spell the same keymap.
-abbrev pub CompiledAreDumped : Type 0
-CompiledAreDumped =
+abbrev pub AreDumped : (Moves → Moves → Result (Unit {0}) RunError → Type 0)
+    → (Option (List ℕ) → Option (List ℕ) → Result MapValue TableError → Type 0) → Type 0
+AreDumped Compiles Reads =
     (text file told : List ℕ) (t u : Option (List ℕ))
-    → CompilesText (moves (Some text) t) (moves (Some []) (Some file)) (Ok (tt {0}))
-    → DumpsFile ReadsTables (moves (Some file) u) (moves (Some []) (Some told)) (Ok (tt {0}))
-    → (m : MapValue) × Spells text m × Spells told m
-
--- the same of a narrow file
-abbrev pub CompiledNarrowlyAreDumped : Type 0
-CompiledNarrowlyAreDumped =
-    (text file told : List ℕ) (t u : Option (List ℕ))
-    → CompilesNarrowly (moves (Some text) t) (moves (Some []) (Some file)) (Ok (tt {0}))
-    → DumpsFile ReadsNarrow (moves (Some file) u) (moves (Some []) (Some told)) (Ok (tt {0}))
+    → Compiles (moves (Some text) t) (moves (Some []) (Some file)) (Ok (tt {0}))
+    → DumpsFile Reads (moves (Some file) u) (moves (Some []) (Some told)) (Ok (tt {0}))
     → (m : MapValue) × Spells text m × Spells told m
 
 -- What is drawn, whatever the text is: bytes that are well formed and printable ASCII.

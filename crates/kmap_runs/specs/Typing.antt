@@ -10,7 +10,7 @@ use Rattle.console_core.specs.Typing.{characters_of}
 use Rattle.keymap_core.specs.CodePoints.{code_text}
 use Rattle.play_core.specs.Spelling.{event_line}
 use Rattle.kmap_runs.specs.declared.words.TheConstants as words
-use Rattle.messages.specs.Filled.{filled}
+use Rattle.kmap_runs.specs.Comments.{comment}
 
 -- a character, or its number where a terminal doesn't show it as it is
 unfoldable pub shown : ℕ → List ℕ
@@ -24,11 +24,11 @@ abbrev pub line_shown : List ℕ → List ℕ
 line_shown cs = flat_map shown (before_first is_line_feed cs)
 
 -- a comment that shows the first line of the characters
-abbrev pub comment : List Keyed → List ℕ
-comment ks = filled words.SENTENCE.now (line_shown (characters_of ks) ∷ [])
+abbrev pub sentence_line : List Keyed → List ℕ
+sentence_line ks = comment words.SENTENCE.now (line_shown (characters_of ks) ∷ [])
 
 abbrev pub comment_if : Bool → List Keyed → List ℕ
-comment_if true ks = comment ks
+comment_if true ks = sentence_line ks
 comment_if false ks = []
 
 -- The lines of the events of the characters, and before those of each line of the sentence a comment that shows it;

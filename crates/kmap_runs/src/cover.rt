@@ -1,35 +1,38 @@
 //! What is printed of a script that shows a console what a keymap can do: how much it sees, what it doesn't see, and
 //! its events.
-ghost use Rattle.std.specs.Prelude.{◌≡◌, ◌<◌, ◌≤◌, ◌+◌, ◌++◌, length, map, OnOk, IfOk};
+ghost use Rattle.std.specs.Prelude.{◌≡◌, ◌<◌, ◌≤◌, ◌+◌, ◌++◌, [], IsTrue, false, map, OnOk, IfOk};
 ghost use Rattle.std.specs.List.{flat_map};
 ghost use Rattle.keymap_core.specs.Numbers.{slot_limit, accent_limit};
 ghost use Rattle.console_core.specs.declared.selection.Sight.TheVariants as SightValue;
-ghost use Rattle.keymap_cover.specs.Covering.{verdict_of, is_verdict};
+ghost use Rattle.keymap_cover.specs.Covering.{verdict_of, counts_of};
+ghost use Rattle.messages.specs.Filled.{has_places};
 ghost use Rattle.kmap_runs.specs.Cover as spec;
 
-use crate::event_lines::event_line;
+use crate::event_lines::{event_line, push_comment};
 use crate::words::{
-    ACCENTS, ALL_PAIRS, BOTH_LOCKS, CELLS, CLOCK, COLUMNS, COUNTS, LEFT_OUT, LISTED, LOCK_SETTINGS,
-    LOCKS, LOOKS, NEVER, NLOCK, NO_LOCK, ONE_SLOT, ONE_WAY, PAIRS, REPEAT, RULES, SLOTS, UNSTUCK,
+    ALL_PAIRS, BOTH_LOCKS, CELLS, CELLS_PART, CLOCK, COLUMNS, COUNTS, LEFT_OUT, LISTED,
+    LOCK_SETTINGS, LOCKS, NEVER, NLOCK, NO_LOCK, ONE_SLOT, ONE_WAY_PART, PAIRS, PAIRS_PART, REPEAT,
+    SLOTS, TRIALS_PART, UNSTUCK,
 };
 use console_core::{Event, Sight};
 use keymap_core::{ACCENT_LIMIT, Accent, AccentIndex, Action, COLUMN_COUNT, KeyMap, SLOT_LIMIT};
-use keymap_cover::{Counts, Cover, Part, Start, Stroke, Verdict, cells, lock_settings};
+use keymap_cover::{Cover, Part, Start, Stroke, Verdict, cells, lock_settings};
 use messages::{either, fill, number, small};
 use std::alloc::{AllocError, Global};
 
-/// A script of a keymap, and which sights are listed.
+/// A script of a keymap, and which sights are listed, under which word.
 #[derive(Clone, Copy)]
 struct Listing<'a> {
     cover: &'a Cover,
     map: &'a KeyMap,
     listed: Verdict,
+    word: &'a [u8],
 }
 
 impl<'a> Listing<'a> {
     /// Whether the sight is listed.
     fn has(&self, sight: Sight) -> bool
-        ensures { result ≡ is_verdict self.now.listed (verdict_of self.now.map.now self.now.cover.now sight) }
+        ensures { result ≡ spec.is_in self.now sight }
     {
         self.cover.verdict(self.map, sight) == self.listed
     }
@@ -48,8 +51,8 @@ fn push_column(
     slot: u8,
     column: usize,
 ) -> Result<(), AllocError>
-    ensures { OnOk result (text.new.items ≡ text.old.items
-        ++ spec.column_text (verdict_of listing.now.map.now listing.now.cover.now) listing.now.listed slot column) }
+    ensures { OnOk result (text.new.items
+        ≡ text.old.items ++ spec.column_text (spec.is_in listing.now) slot column) }
 {
     if listing.has(Sight::Cell { slot, column }) {
         push_number(text, column as u64)
@@ -58,53 +61,33 @@ fn push_column(
     }
 }
 
-/// The columns of the slot whose cells are listed.
-fn columns(alloc: Global, listing: &Listing, slot: u8) -> Result<Vec<u8>, AllocError>
-    ensures { IfOk result (λ text. text.items
-        ≡ spec.columns_text (verdict_of listing.now.map.now listing.now.cover.now) listing.now.listed slot) }
+/// Adds the columns of the slot whose cells are listed.
+fn push_columns(text: &mut Vec<u8>, listing: &Listing, slot: u8) -> Result<(), AllocError>
+    ensures { OnOk result (text.new.items
+        ≡ text.old.items ++ spec.columns_text (spec.is_in listing.now) slot) }
 {
-    let mut text = Vec::new(alloc);
     for column in 0..COLUMN_COUNT {
-        push_column(&mut text, listing, slot, column)?;
+        push_column(text, listing, slot, column)?;
     }
-    Ok(text)
+    Ok(())
 }
 
-/// Adds the name of a setting, if the slot is listed under it.
-fn push_setting(
-    text: &mut Vec<u8>,
-    listing: &Listing,
-    sight: Sight,
-    name: &[u8],
-) -> Result<(), AllocError>
-    ensures { OnOk result (text.new.items ≡ text.old.items
-        ++ spec.if_told listing.now.listed (verdict_of listing.now.map.now listing.now.cover.now sight) name.now) }
+/// The name of a setting of clock and nlock, if the slot is listed under it.
+fn setting<'a>(listing: &Listing, slot: u8, caps: bool, num: bool, name: &'a [u8]) -> &'a [u8]
+    ensures { result.now ≡ spec.setting_text (spec.is_in listing.now) slot caps num name.now }
 {
-    if listing.has(sight) {
-        text.extend_from_slice(name)
-    } else {
-        Ok(())
-    }
-}
-
-/// The slot under a setting of clock and nlock.
-fn under(slot: u8, caps: bool, num: bool) -> Sight
-    ensures { result ≡ SightValue.Locks slot caps num }
-{
-    Sight::Locks { slot, caps, num }
+    either(listing.has(Sight::Locks { slot, caps, num }), name, b"")
 }
 
 /// The settings of clock and nlock under which the slot is listed.
-#[tactic(auto, using(std::proofs::Common::append_assoc))]
 fn settings(alloc: Global, listing: &Listing, slot: u8) -> Result<Vec<u8>, AllocError>
-    ensures { IfOk result (λ text. text.items
-        ≡ spec.settings_text (verdict_of listing.now.map.now listing.now.cover.now) listing.now.listed slot) }
+    ensures { IfOk result (λ text. text.items ≡ spec.settings_text (spec.is_in listing.now) slot) }
 {
     let mut text = Vec::new(alloc);
-    push_setting(&mut text, listing, under(slot, false, false), NO_LOCK)?;
-    push_setting(&mut text, listing, under(slot, false, true), NLOCK)?;
-    push_setting(&mut text, listing, under(slot, true, false), CLOCK)?;
-    push_setting(&mut text, listing, under(slot, true, true), BOTH_LOCKS)?;
+    text.extend_from_slice(setting(listing, slot, false, false, NO_LOCK))?;
+    text.extend_from_slice(setting(listing, slot, false, true, NLOCK))?;
+    text.extend_from_slice(setting(listing, slot, true, false, CLOCK))?;
+    text.extend_from_slice(setting(listing, slot, true, true, BOTH_LOCKS))?;
     Ok(text)
 }
 
@@ -122,11 +105,11 @@ fn push_headed(text: &mut Vec<u8>, head: &[u8], list: &[u8]) -> Result<(), Alloc
 }
 
 /// What is listed of the slot.
-fn row(alloc: Global, listing: &Listing, slot: u8) -> Result<Vec<u8>, AllocError>
-    ensures { IfOk result (λ text. text.items
-        ≡ spec.row_text (verdict_of listing.now.map.now listing.now.cover.now) listing.now.listed slot) }
+fn row_of(alloc: Global, listing: &Listing, slot: u8) -> Result<Vec<u8>, AllocError>
+    ensures { IfOk result (λ text. text.items ≡ spec.row_text (spec.is_in listing.now) slot) }
 {
-    let columns = columns(alloc, listing, slot)?;
+    let mut columns = Vec::new(alloc);
+    push_columns(&mut columns, listing, slot)?;
     let settings = settings(alloc, listing, slot)?;
     let mut text = Vec::new(alloc);
     push_headed(&mut text, COLUMNS, columns.as_slice())?;
@@ -134,105 +117,82 @@ fn row(alloc: Global, listing: &Listing, slot: u8) -> Result<Vec<u8>, AllocError
     Ok(text)
 }
 
-/// What is listed of each slot.
-fn rows(alloc: Global, listing: &Listing) -> Result<Vec<Vec<u8>>, AllocError>
-    ensures value { IfOk result (λ rows. map (λ row. row.items) rows.items
-        ≡ spec.rows_of (verdict_of listing.now.map.now listing.now.cover.now) listing.now.listed) }
-    ensures few { IfOk result (λ rows. length rows.items ≤ slot_limit) }
+/// Whether this is listed of the slot.
+fn has_row(alloc: Global, listing: &Listing, slot: u8, row: &[u8]) -> Result<bool, AllocError>
+    ensures same { IfOk result (λ same. IsTrue same → spec.row_text (spec.is_in listing.now) slot ≡ row.now) }
+    ensures other { IfOk result (λ same. same ≡ false → spec.row_text (spec.is_in listing.now) slot ≡ row.now → ⊥) }
 {
-    let mut rows = Vec::new(alloc);
-    for slot in 0..SLOT_LIMIT {
-        rows.push(row(alloc, listing, slot as u8)?)?;
+    let other = row_of(alloc, listing, slot)?;
+    Ok(other.as_slice() == row)
+}
+
+/// Before which slot those end of which the same is listed as of this one.
+fn run_end(alloc: Global, listing: &Listing, first: usize, row: &[u8]) -> Result<usize, AllocError>
+    requires place { first < slot_limit }
+    requires row { row.now ≡ spec.row_text (spec.is_in listing.now) first }
+    ensures within { IfOk result (λ end. (first < end) × (end ≤ slot_limit)) }
+    ensures alike { IfOk result (λ end. spec.AreAlike (spec.is_in listing.now) first end) }
+    ensures ends { IfOk result (λ end. spec.EndsAlike (spec.is_in listing.now) first end) }
+{
+    for slot in first + 1..SLOT_LIMIT {
+        if !has_row(alloc, listing, slot as u8, row)? {
+            return Ok(slot);
+        }
     }
-    Ok(rows)
+    Ok(SLOT_LIMIT)
 }
 
-/// Whether the slot is the first one, or another row is listed than of the slot before it.
-fn begins_run(rows: &[Vec<u8>], slot: usize) -> bool
-    requires { slot < length rows.now }
-    ensures { result ≡ spec.begins_run (map (λ row. row.items) rows.now) slot }
-{
-    slot == 0 || rows[slot].as_slice() != rows[slot - 1].as_slice()
-}
-
-/// How many slots from this one on have the same row.
-fn run_len(rows: &[Vec<u8>], slot: usize) -> usize
-    requires { slot < length rows.now }
-    ensures count { result ≡ spec.run_len (map (λ row. row.items) rows.now) slot }
-    ensures inside { slot + result ≤ length rows.now }
-{
-    let row = rows[slot].as_slice();
-    let mut end = slot;
-    while end < rows.len() && rows[end].as_slice() == row {
-        end += 1;
-    }
-    end - slot
-}
-
-/// Adds the line of so many slots from this one on.
-fn push_run(
+/// Adds the line of the slots from one on to before another, if something is listed of them.
+fn push_row(
     text: &mut Vec<u8>,
     word: &[u8],
-    slot: usize,
-    count: usize,
+    first: usize,
+    end: usize,
     row: &[u8],
 ) -> Result<(), AllocError>
-    requires { slot + count ≤ slot_limit }
-    ensures { OnOk result (text.new.items ≡ text.old.items ++ spec.slots_line word.now slot count row.now) }
+    requires within { first < end }
+    requires limit { end ≤ slot_limit }
+    ensures { OnOk result (text.new.items ≡ text.old.items ++ spec.row_line word.now first end row.now) }
 {
-    let first = number(slot as u64);
-    if count == 1 {
-        return fill(text, ONE_SLOT, &[word, first.as_slice(), row]);
-    }
-    let last = number((slot + count).saturating_sub(1) as u64);
-    fill(text, SLOTS, &[word, first.as_slice(), last.as_slice(), row])
-}
-
-/// Adds the line of the run that the slot begins, if something is listed.
-fn push_slot(
-    text: &mut Vec<u8>,
-    word: &[u8],
-    rows: &[Vec<u8>],
-    slot: usize,
-) -> Result<(), AllocError>
-    requires place { slot < length rows.now }
-    requires few { length rows.now ≤ slot_limit }
-    ensures { OnOk result (text.new.items
-        ≡ text.old.items ++ spec.run_line word.now (map (λ row. row.items) rows.now) slot) }
-{
-    let row = rows[slot].as_slice();
-    if row.is_empty() || !begins_run(rows, slot) {
-        Ok(())
-    } else {
-        push_run(text, word, slot, run_len(rows, slot), row)
+    let begin = number(first as u64);
+    let last = number((end - 1) as u64);
+    match row {
+        [] => Ok(()),
+        _ if end == first + 1 => push_comment(text, ONE_SLOT, &[word, begin.as_slice(), row]),
+        _ => push_comment(text, SLOTS, &[word, begin.as_slice(), last.as_slice(), row]),
     }
 }
 
-/// Adds a line for each run of slots of which the same is listed.
-fn push_slots(text: &mut Vec<u8>, word: &[u8], rows: &[Vec<u8>]) -> Result<(), AllocError>
-    requires { length rows.now ≤ slot_limit }
-    ensures { OnOk result (text.new.items
-        ≡ text.old.items ++ spec.slot_lines word.now (map (λ row. row.items) rows.now)) }
-{
-    for slot in 0..rows.len() {
-        push_slot(text, word, rows, slot)?;
-    }
-    Ok(())
-}
-
-/// Adds the lines of the slots with sights that are listed.
-fn push_listed(
+/// Adds the line of this slot and those behind it of which the same is listed, and tells before which slot they end.
+fn push_run(
     text: &mut Vec<u8>,
     alloc: Global,
-    word: &[u8],
     listing: &Listing,
-) -> Result<(), AllocError>
-    ensures { OnOk result (text.new.items ≡ text.old.items ++ spec.slot_lines word.now
-        (spec.rows_of (verdict_of listing.now.map.now listing.now.cover.now) listing.now.listed)) }
+    first: usize,
+) -> Result<usize, AllocError>
+    requires place { first < slot_limit }
+    requires before { spec.ListsSlots (spec.is_in listing.now) listing.now.word.now first text.old.items }
+    ensures within { IfOk result (λ end. (first < end) × (end ≤ slot_limit)) }
+    ensures lists { IfOk result (λ end.
+        spec.ListsSlots (spec.is_in listing.now) listing.now.word.now end text.new.items) }
 {
-    let rows = rows(alloc, listing)?;
-    push_slots(text, word, rows.as_slice())?;
-    Ok(())
+    let row = row_of(alloc, listing, first as u8)?;
+    let end = run_end(alloc, listing, first, row.as_slice())?;
+    push_row(text, listing.word, first, end, row.as_slice())?;
+    Ok(end)
+}
+
+/// The lines of the slots of which something is listed.
+fn slots(alloc: Global, listing: &Listing) -> Result<Vec<u8>, AllocError>
+    ensures { IfOk result (λ text.
+        spec.ListsSlots (spec.is_in listing.now) listing.now.word.now slot_limit text.items) }
+{
+    let mut text = Vec::new(alloc);
+    let mut first = 0;
+    while first < SLOT_LIMIT {
+        first = push_run(&mut text, alloc, listing, first)?;
+    }
+    Ok(text)
 }
 
 /// Adds a character, if it isn't there.
@@ -285,9 +245,8 @@ fn push_character(
     accent: u8,
     character: char,
 ) -> Result<(), AllocError>
-    ensures { OnOk result (text.new.items ≡ text.old.items
-        ++ spec.character_text
-        (verdict_of listing.now.map.now listing.now.cover.now) listing.now.listed accent character) }
+    ensures { OnOk result (text.new.items
+        ≡ text.old.items ++ spec.character_text (spec.is_in listing.now) accent character) }
 {
     if listing.has(Sight::Pair { accent, character }) {
         push_number(text, u64::from(character as u32))
@@ -296,61 +255,52 @@ fn push_character(
     }
 }
 
-/// The characters whose pairs with the accent are listed.
-fn characters(
-    alloc: Global,
+/// Adds the characters whose pairs with the accent are listed.
+fn push_characters(
+    text: &mut Vec<u8>,
     listing: &Listing,
     accent: u8,
     bases: &[char],
-) -> Result<Vec<u8>, AllocError>
-    ensures { IfOk result (λ text. text.items
-        ≡ flat_map (spec.character_text
-        (verdict_of listing.now.map.now listing.now.cover.now) listing.now.listed accent) bases.now) }
+) -> Result<(), AllocError>
+    ensures { OnOk result (text.new.items
+        ≡ text.old.items ++ flat_map (spec.character_text (spec.is_in listing.now) accent) bases.now) }
 {
-    let mut text = Vec::new(alloc);
     for base in bases {
-        push_character(&mut text, listing, accent, *base)?;
+        push_character(text, listing, accent, *base)?;
     }
-    Ok(text)
+    Ok(())
 }
 
 /// Adds a line for the pairs of the accent that are listed, if there are any.
 fn push_accent(
     text: &mut Vec<u8>,
     alloc: Global,
-    word: &[u8],
     listing: &Listing,
     accent: u8,
 ) -> Result<(), AllocError>
     requires { accent < accent_limit }
     ensures { OnOk result (text.new.items ≡ text.old.items
-        ++ spec.accent_line
-        (verdict_of listing.now.map.now listing.now.cover.now) listing.now.listed word.now listing.now.map.now accent) }
+        ++ spec.accent_line (spec.is_in listing.now) listing.now.word.now listing.now.map.now accent) }
 {
     let bases = bases(alloc, listing.map, accent)?;
-    let characters = characters(alloc, listing, accent, bases.as_slice())?;
+    let mut characters = Vec::new(alloc);
+    push_characters(&mut characters, listing, accent, bases.as_slice())?;
     match characters.as_slice() {
         [] => Ok(()),
         characters => {
             let name = Action::DeadKey(AccentIndex::new(accent)).name();
-            fill(text, PAIRS, &[word, name.as_slice(), characters])
+            push_comment(text, PAIRS, &[listing.word, name.as_slice(), characters])
         }
     }
 }
 
 /// Adds a line for each accent with pairs that are listed.
-fn push_accents(
-    text: &mut Vec<u8>,
-    alloc: Global,
-    word: &[u8],
-    listing: &Listing,
-) -> Result<(), AllocError>
+fn push_accents(text: &mut Vec<u8>, alloc: Global, listing: &Listing) -> Result<(), AllocError>
     ensures { OnOk result (text.new.items ≡ text.old.items
-        ++ spec.accent_lines
-        (verdict_of listing.now.map.now listing.now.cover.now) listing.now.listed word.now listing.now.map.now) }
+        ++ spec.accent_lines (spec.is_in listing.now) listing.now.word.now listing.now.map.now) }
 {
     for accent in 0..ACCENT_LIMIT as u8 {
-        push_accent(text, alloc, word, listing, accent)?;
+        push_accent(text, alloc, listing, accent)?;
     }
     Ok(())
 }
@@ -380,52 +330,52 @@ fn pairs(alloc: Global, map: &KeyMap) -> Result<Vec<Sight>, AllocError>
     Ok(pairs)
 }
 
+/// Adds how many of the sights are seen, left out, and neither.
 fn push_counts(
     text: &mut Vec<u8>,
+    map: &KeyMap,
+    cover: &Cover,
     name: &[u8],
-    rest: &[u8],
-    counts: Counts,
+    sights: &[Sight],
 ) -> Result<(), AllocError>
-    ensures { OnOk result (text.new.items ≡ text.old.items ++ spec.counts_line name.now rest.now counts) }
+    ensures { OnOk result (text.new.items ≡ text.old.items
+        ++ spec.counts_line (spec.rest_word cover.now) name.now (counts_of (verdict_of map.now cover.now) sights.now)) }
 {
-    let seen = number(counts.seen as u64);
-    let left_out = number(counts.left_out as u64);
-    let others = number(counts.rest as u64);
-    fill(
+    let counts = cover.count(map, sights);
+    push_comment(
         text,
         COUNTS,
         &[
             name,
-            seen.as_slice(),
-            left_out.as_slice(),
-            rest,
-            others.as_slice(),
+            number(counts.seen as u64).as_slice(),
+            number(counts.left_out as u64).as_slice(),
+            either(cover.sights.forgets, UNSTUCK, NEVER),
+            number(counts.rest as u64).as_slice(),
         ],
     )
 }
 
-/// Adds how much the script sees.
-fn push_all_counts(
-    text: &mut Vec<u8>,
-    alloc: Global,
-    map: &KeyMap,
-    cover: &Cover,
-) -> Result<(), AllocError>
-    ensures { OnOk result (text.new.items ≡ text.old.items ++ spec.counts_text map.now cover.now) }
+/// How much the script sees.
+fn counts(alloc: Global, map: &KeyMap, cover: &Cover) -> Result<Vec<u8>, AllocError>
+    ensures { IfOk result (λ text. text.items ≡ spec.counts_text map.now cover.now) }
 {
-    let rest = rest_word(cover);
-    let cells = cells(alloc)?;
-    push_counts(text, CELLS, rest, cover.count(map, cells.as_slice()))?;
-    let settings = lock_settings(alloc)?;
+    let mut text = Vec::new(alloc);
+    push_counts(&mut text, map, cover, CELLS, cells(alloc)?.as_slice())?;
     push_counts(
-        text,
+        &mut text,
+        map,
+        cover,
         LOCK_SETTINGS,
-        rest,
-        cover.count(map, settings.as_slice()),
+        lock_settings(alloc)?.as_slice(),
     )?;
-    let pairs = pairs(alloc, map)?;
-    push_counts(text, ALL_PAIRS, rest, cover.count(map, pairs.as_slice()))?;
-    Ok(())
+    push_counts(
+        &mut text,
+        map,
+        cover,
+        ALL_PAIRS,
+        pairs(alloc, map)?.as_slice(),
+    )?;
+    Ok(text)
 }
 
 /// What is told of the sights that are neither seen nor left out.
@@ -442,35 +392,39 @@ fn push_lists(
     map: &KeyMap,
     cover: &Cover,
 ) -> Result<(), AllocError>
-    ensures { OnOk result (text.new.items ≡ text.old.items ++ spec.lists_text map.now cover.now) }
+    ensures { OnOk result (spec.AddsLists map.now cover.now text.old.items text.new.items) }
 {
-    let rest = rest_word(cover);
     let left_out = Listing {
         cover,
         map,
         listed: Verdict::LeftOut,
+        word: LEFT_OUT,
     };
-    let never = Listing {
+    let rest = Listing {
         cover,
         map,
         listed: Verdict::Never,
+        word: rest_word(cover),
     };
-    push_listed(text, alloc, LEFT_OUT, &left_out)?;
-    push_listed(text, alloc, rest, &never)?;
-    push_accents(text, alloc, LEFT_OUT, &left_out)?;
-    push_accents(text, alloc, rest, &never)?;
+    let slots_left_out = slots(alloc, &left_out)?;
+    let other_slots = slots(alloc, &rest)?;
+    text.extend_from_slice(slots_left_out.as_slice())?;
+    text.extend_from_slice(other_slots.as_slice())?;
+    push_accents(text, alloc, &left_out)?;
+    push_accents(text, alloc, &rest)?;
     Ok(())
 }
 
 /// The comment that begins the part.
-fn part_line(part: Part) -> &'static [u8]
-    ensures { result.now ≡ spec.part_line part }
+fn part_words(part: Part) -> &'static [u8]
+    ensures words { result.now ≡ spec.part_words part }
+    ensures places { IsTrue (has_places result.now []) }
 {
     match part {
-        Part::Looks => LOOKS,
-        Part::Accents => ACCENTS,
-        Part::Rules => RULES,
-        Part::OneWay => ONE_WAY,
+        Part::Cells => CELLS_PART,
+        Part::Pairs => PAIRS_PART,
+        Part::Trials => TRIALS_PART,
+        Part::OneWay => ONE_WAY_PART,
     }
 }
 
@@ -479,7 +433,7 @@ fn push_start(text: &mut Vec<u8>, place: usize, start: &Start) -> Result<(), All
     ensures { OnOk result (text.new.items ≡ text.old.items ++ spec.start_line place start.now) }
 {
     if start.at == place {
-        text.extend_from_slice(part_line(start.part))
+        push_comment(text, part_words(start.part), &[])
     } else {
         Ok(())
     }
@@ -522,10 +476,9 @@ fn push_script(text: &mut Vec<u8>, starts: &[Start], strokes: &[Stroke]) -> Resu
 
 /// What is printed of the script of a keymap.
 pub(crate) fn cover_text(alloc: Global, map: &KeyMap, cover: &Cover) -> Result<Vec<u8>, AllocError>
-    ensures { IfOk result (λ text. text.items ≡ spec.cover_text map.now cover.now) }
+    ensures { IfOk result (λ text. spec.IsCoverText map.now cover.now text.items) }
 {
-    let mut text = Vec::new(alloc);
-    push_all_counts(&mut text, alloc, map, cover)?;
+    let mut text = counts(alloc, map, cover)?;
     push_lists(&mut text, alloc, map, cover)?;
     push_script(&mut text, cover.starts.as_slice(), cover.strokes.as_slice())?;
     Ok(text)

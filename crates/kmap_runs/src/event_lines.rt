@@ -1,13 +1,16 @@
-//! The lines of a script: one for each event.
-ghost use Rattle.std.specs.Prelude.{◌≡◌, ◌+◌, ◌≤◌, ◌++◌, decimal, length, OnOk};
+//! The lines of a script: one for each event, and comments.
+ghost use Rattle.std.specs.Prelude.{◌≡◌, ◌+◌, ◌≤◌, ◌++◌, IsTrue, decimal, length, map, OnOk};
 ghost use Rattle.std.specs.List.{flat_map};
 ghost use Rattle.arrayvec.specs.ArrayVec.{array_vec_len};
+ghost use Rattle.kmap_runs.specs.Comments.{comment};
+ghost use Rattle.messages.specs.Filled.{has_places};
 ghost use Rattle.play_core.specs.Spelling.{event_line as event_line_of};
 
 use arrayvec::ArrayVec;
 use console_core::Event;
 use itoa::Buffer;
 use keymap_core::KeyCode;
+use messages::fill;
 use std::alloc::AllocError;
 
 pub(crate) fn append<const N: usize>(text: &mut ArrayVec<u8, N>, piece: &[u8])
@@ -68,5 +71,20 @@ pub(crate) fn push_events(text: &mut Vec<u8>, events: &[Event]) -> Result<(), Al
     for event in events {
         text.extend_from_slice(event_line(*event).as_slice())?;
     }
+    Ok(())
+}
+
+/// Adds a comment: words with a text at each of their places.
+pub(crate) fn push_comment(
+    text: &mut Vec<u8>,
+    words: &[u8],
+    told: &[&[u8]],
+) -> Result<(), AllocError>
+    requires { IsTrue (has_places words.now (map (λ t. t.now) told.now)) }
+    ensures { OnOk result (text.new.items ≡ text.old.items ++ comment words.now (map (λ t. t.now) told.now)) }
+{
+    text.push(b'#')?;
+    fill(text, words, told)?;
+    text.push(b'\n')?;
     Ok(())
 }

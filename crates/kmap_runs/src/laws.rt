@@ -15,12 +15,13 @@ ghost use Rattle.play_core.specs.Scripts.{IsScript};
 ghost use Rattle.play_core.specs.declared.show.Show.{Show as ShowValue};
 ghost use Rattle.play_core.specs.declared.show.Show.TheVariants as show;
 ghost use Rattle.play_core.specs.Typing.{IsTyped};
-ghost use Rattle.kmap_runs.specs.Cover.{cover_text};
+ghost use Rattle.kmap_runs.specs.Cover.{IsCoverText};
 ghost use Rattle.kmap_runs.specs.Report.{report};
 ghost use Rattle.kmap_runs.specs.Replayed.{Delivers, ScriptTypes, AnswerReplays, AnswerReplaysBetween, ShowsScript};
 ghost use Rattle.kmap_runs.specs.Replayed.{PlaysCover, strokes_sent};
 ghost use Rattle.kmap_runs.specs.FmtRuns.{ChangedTextsSpellTheSame, PrintedLayoutsSpellTheSame};
-ghost use Rattle.kmap_runs.specs.Runs.{AcceptedKeepTheirPromise, CompiledAreDumped, CompiledNarrowlyAreDumped};
+ghost use Rattle.keymap_tables.specs.Sources.{ReadsNarrow, ReadsTables};
+ghost use Rattle.kmap_runs.specs.Runs.{AcceptedKeepTheirPromise, AreDumped, CompilesNarrowly, CompilesText};
 ghost use Rattle.kmap_runs.specs.Runs.{CoversText, DrawnAreWellFormed, DrawnTellKeymaps};
 ghost use Rattle.kmap_runs.specs.Runs.{PrintedCoversAreScripts, TypesSentence, WellLintedNeverStick};
 ghost use Rattle.kmap_runs.specs.Typing.{typing_script};
@@ -77,7 +78,8 @@ pub fn printed_demonstrations_leave_a_modifier_on()
 /// What is printed of a cover, its comments with counts and lists, the comment that begins each part and a line for
 /// each stroke, is a script of exactly these strokes.
 pub fn cover_scripts_send_the_strokes()
-    ensures { (m : MapValue) (c : CoverValue) → HasKeys (events c) → IsScript (cover_text m c) (strokes_sent c) }
+    ensures { (m : MapValue) (c : CoverValue) (text : List ℕ) → IsCoverText m c text → HasKeys (events c)
+        → IsScript text (strokes_sent c) }
 {}
 
 /// What the run that prints it wrote for a text is a script of the strokes of a cover of the keymap that the text
@@ -129,8 +131,8 @@ pub fn accepted_texts_keep_their_promise()
 /// What is compiled of a text and then dumped is a text that spells the same keymap, by way of a table file and of a
 /// narrow one.
 pub fn compiled_texts_are_dumped()
-    ensures tables { CompiledAreDumped }
-    ensures narrow { CompiledNarrowlyAreDumped }
+    ensures tables { AreDumped CompilesText ReadsTables }
+    ensures narrow { AreDumped CompilesNarrowly ReadsNarrow }
 {
     each_map_fits_in_a_table_file();
     images_are_whole();

@@ -94,7 +94,6 @@ pub fn compile_run<R: Read, W: Write>(
     ensures writer_failed { W.has_failed writer.new ≡ (blames_writer result || W.has_failed writer.old) }
 {
     let map = read_text(alloc, reader)?;
-    every_keymap_is_within_the_bounds(&map);
     write_tables(&map, writer).map_err(RunError::Write)
 }
 
@@ -111,7 +110,6 @@ pub fn compile_narrow_run<R: Read, W: Write>(
     ensures writer_failed { W.has_failed writer.new ≡ (blames_writer result || W.has_failed writer.old) }
 {
     let map = read_text(alloc, reader)?;
-    every_keymap_is_within_the_bounds(&map);
     match write_narrow(&map, writer) {
         Ok(()) => Ok(()),
         Err(NarrowError::TooWide(wide)) => Err(RunError::TooWide(wide)),

@@ -3,11 +3,11 @@ ghost use Rattle.std.specs.Prelude.{◌≡◌, ◌++◌, IfOk, OnOk};
 ghost use Rattle.std.specs.List.{flat_map};
 ghost use Rattle.kmap_runs.specs.Search as spec;
 
-use crate::event_lines::push_events;
+use crate::event_lines::{push_comment, push_events};
 use crate::words::{NEVER_STICKS, STICKS, UNDECIDED};
 use console_core::{Event, Sticking};
 use keymap_core::{Holding, Modifier};
-use messages::{fill, number, parted};
+use messages::{number, parted};
 use std::alloc::{AllocError, Global};
 
 /// The names of the modifiers, each after a blank.
@@ -30,9 +30,11 @@ fn push_script(
     ensures { OnOk result (text.new.items ≡ text.old.items ++ spec.script_text modifiers.now events.now) }
 {
     let (before, behind) = parted(STICKS);
+    text.push(b'#')?;
     text.extend_from_slice(before)?;
     push_names(text, modifiers)?;
     text.extend_from_slice(behind)?;
+    text.push(b'\n')?;
     push_events(text, events)
 }
 
@@ -40,7 +42,7 @@ fn push_script(
 fn push_undecided(text: &mut Vec<u8>, presses: usize) -> Result<(), AllocError>
     ensures { OnOk result (text.new.items ≡ text.old.items ++ spec.undecided_text presses) }
 {
-    fill(text, UNDECIDED, &[number(presses as u64).as_slice()])
+    push_comment(text, UNDECIDED, &[number(presses as u64).as_slice()])
 }
 
 /// The script that tells what was found.
@@ -50,7 +52,7 @@ pub(crate) fn found_text(alloc: Global, found: &Sticking) -> Result<Vec<u8>, All
     let mut text = Vec::new(alloc);
     match found {
         Sticking::Sticks { events, modifiers } => push_script(&mut text, modifiers, events)?,
-        Sticking::Never => fill(&mut text, NEVER_STICKS, &[])?,
+        Sticking::Never => push_comment(&mut text, NEVER_STICKS, &[])?,
         Sticking::Undecided(presses) => push_undecided(&mut text, *presses)?,
     }
     Ok(text)

@@ -38,13 +38,16 @@ fn push_line(text: &mut Vec<u8>, keyed: &[Keyed]) -> Result<(), AllocError>
 
 /// Adds a comment that shows the first line of the characters.
 #[tactic(auto, using(std::proofs::Common::append_assoc), unfolding(messages::specs::Filled::filled))]
-fn push_comment(text: &mut Vec<u8>, keyed: &[Keyed]) -> Result<(), AllocError>
-    ensures { OnOk result (text.new.items ≡ text.old.items ++ spec.comment keyed.now) }
+fn push_sentence_line(text: &mut Vec<u8>, keyed: &[Keyed]) -> Result<(), AllocError>
+    ensures { OnOk result (text.new.items ≡ text.old.items ++ spec.sentence_line keyed.now) }
 {
     let (before, behind) = parted(SENTENCE);
+    text.push(b'#')?;
     text.extend_from_slice(before)?;
     push_line(text, keyed)?;
-    text.extend_from_slice(behind)
+    text.extend_from_slice(behind)?;
+    text.push(b'\n')?;
+    Ok(())
 }
 
 /// Adds a comment that shows the first line of the characters, where it is asked for.
@@ -52,7 +55,7 @@ fn push_comment_if(text: &mut Vec<u8>, starts: bool, keyed: &[Keyed]) -> Result<
     ensures { OnOk result (text.new.items ≡ text.old.items ++ spec.comment_if starts keyed.now) }
 {
     if starts {
-        push_comment(text, keyed)
+        push_sentence_line(text, keyed)
     } else {
         Ok(())
     }

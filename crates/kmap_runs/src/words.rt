@@ -1,6 +1,7 @@
 //! The words of the report of the check and of the scripts that runs print, line by line. What is told stands at the
 //! places `{}`, in the order in which the contracts list it. The forms are those of docs/FORMATS.md, "The report of
-//! check", "What the search found", "The script that types a sentence" and "The script that tests a console".
+//! check", "What the search found", "The script that types a sentence" and "The script that tests a console". A comment
+//! stands here without the number sign before it and the line feed behind it.
 
 // The report: the verdict, and who bears a holding action. The line on a key that makes the keymap refused is
 // keymap_check's, which pictures and the C library show too. The definitions have these bytes of their own
@@ -24,17 +25,17 @@ pub(crate) const DEMONSTRATION: &[u8] = b"demonstration:\n";
 pub(crate) const NO_DEMONSTRATION: &[u8] = b"demonstration: none\n";
 
 // What the search found: the names of the modifiers that are on at the end, or up to how many presses none is.
-pub(crate) const STICKS: &[u8] = b"# sticks:{}\n";
+pub(crate) const STICKS: &[u8] = b" sticks:{}";
 
-pub(crate) const NEVER_STICKS: &[u8] = b"# never sticks\n";
+pub(crate) const NEVER_STICKS: &[u8] = b" never sticks";
 
-pub(crate) const UNDECIDED: &[u8] = b"# undecided: no list of up to {} presses sticks\n";
+pub(crate) const UNDECIDED: &[u8] = b" undecided: no list of up to {} presses sticks";
 
 // A line of the sentence, before what types it.
-pub(crate) const SENTENCE: &[u8] = b"# {}\n";
+pub(crate) const SENTENCE: &[u8] = b" {}";
 
 // How many sights of a kind the script that tests a console sees, leaves out and never sees, and these kinds.
-pub(crate) const COUNTS: &[u8] = b"# {}: {}, left out {}, {} {}\n";
+pub(crate) const COUNTS: &[u8] = b" {}: {}, left out {}, {} {}";
 
 pub(crate) const CELLS: &[u8] = b"cells";
 
@@ -43,11 +44,11 @@ pub(crate) const LOCK_SETTINGS: &[u8] = b"lock settings";
 pub(crate) const ALL_PAIRS: &[u8] = b"pairs";
 
 // What that script doesn't see: of slots, and of an accent with characters.
-pub(crate) const ONE_SLOT: &[u8] = b"# {}: slot {}{}\n";
+pub(crate) const ONE_SLOT: &[u8] = b" {}: slot {}{}";
 
-pub(crate) const SLOTS: &[u8] = b"# {}: slots {} to {}{}\n";
+pub(crate) const SLOTS: &[u8] = b" {}: slots {} to {}{}";
 
-pub(crate) const PAIRS: &[u8] = b"# {}: {} with{}\n";
+pub(crate) const PAIRS: &[u8] = b" {}: {} with{}";
 
 pub(crate) const LEFT_OUT: &[u8] = b"left out";
 
@@ -71,13 +72,13 @@ pub(crate) const BOTH_LOCKS: &[u8] = b" clock+nlock";
 pub(crate) const LISTED: &[u8] = b" {}";
 
 // Where its parts begin.
-pub(crate) const LOOKS: &[u8] = b"# looks\n";
+pub(crate) const CELLS_PART: &[u8] = b" cells";
 
-pub(crate) const ACCENTS: &[u8] = b"# accents\n";
+pub(crate) const PAIRS_PART: &[u8] = b" pairs";
 
-pub(crate) const RULES: &[u8] = b"# rules\n";
+pub(crate) const TRIALS_PART: &[u8] = b" trials";
 
-pub(crate) const ONE_WAY: &[u8] = b"# one-way\n";
+pub(crate) const ONE_WAY_PART: &[u8] = b" one-way";
 
 // A repeat, which no other printed script has.
 pub(crate) const REPEAT: &[u8] = b"repeat {}\n";

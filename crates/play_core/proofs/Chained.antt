@@ -1,7 +1,7 @@
 -- A run that reads one input and then does what another run does.
-use Rattle.std.proofs.Common.{ℕ, List, Result, Ok, Err, inl, inr}
+use Rattle.play_core.proofs.Common.{ℕ, List, Result, Ok, Err, inl, inr, ReadsBoth}
 use Rattle.keymap_core.specs.declared.transfer.WriteFault.{WriteFault}
-use Rattle.play_core.specs.Runs.{Moves, ReadsBoth, Runs}
+use Rattle.play_core.specs.Runs.{Moves, Runs}
 
 -- the first input was read, and the rest ran with its value
 pub after_first : {A B X E : Type 0} (told_as : WriteFault → E) (First : Result A E → Type 0)

@@ -1,7 +1,7 @@
 -- The digits of numbers, each pushed behind the others.
-use Rattle.std.proofs.Common.{◌≡◌, ℕ, ◌+◌, ◌/◌, ◌%◌, ◌^◌, ◌<◌, ◌≤◌, List, [], ◌∷◌, ◌++◌, length, refl, sym, ap, ◌∙◌}
-use Rattle.std.proofs.Common.{append_assoc, length-append, decimal, arith}
-use Rattle.std.proofs.lemmas.Fmt.{decimal_digit, decimal_step}
+use Rattle.play_core.proofs.Common.{◌≡◌, ℕ, ◌+◌, ◌/◌, ◌%◌, ◌<◌, ◌≤◌, List, [], ◌∷◌, ◌++◌, length, refl, sym, ap, ◌∙◌}
+use Rattle.play_core.proofs.Common.{append_assoc, length-append, decimal, arith, decimal_digit, decimal_step}
+use Rattle.std.proofs.Common.{◌^◌}
 
 -- a number below 10 is one digit
 pub last_digit : (text before new : List ℕ) (n : ℕ) → n < 10 → before ≡ text → new ≡ before ++ (48 + n % 10) ∷ []

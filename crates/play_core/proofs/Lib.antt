@@ -1,3 +1,4 @@
+pub mod Common
 pub mod Chained
 pub mod Digits
 pub mod LineWords

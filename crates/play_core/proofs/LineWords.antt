@@ -1,16 +1,11 @@
 -- The words of a line, one after another.
-use Prim.Native.Nat.{zero, suc}
-use Rattle.std.proofs.Common.{◌≡◌, ℕ, ◌+◌, ◌<◌, Bool, true, false, cond, not, List, [], ◌∷◌, length, take, drop, get_or}
-use Rattle.std.proofs.Common.{None, Some, refl, sym, ap, ◌∙◌, arith, ltb, drop-cons}
-use Rattle.std.specs.Option.{unwrap_or}
-use Rattle.std.specs.List.{position_or_len, position, filter, slice_split, onto_first}
-use Rattle.std.specs.Char.{digit_value}
-use Rattle.std.specs.Str.Parse.{AllDigits}
+use Rattle.play_core.proofs.Common.{zero, suc, ◌≡◌, ℕ, ◌+◌, ◌<◌, Bool, true, false, cond, not, List, [], ◌∷◌, length}
+use Rattle.play_core.proofs.Common.{take, drop, get_or, None, Some, refl, sym, ap, ◌∙◌, arith, ltb, drop-cons}
+use Rattle.play_core.proofs.Common.{unwrap_or, position_or_len, position, filter, slice_split, onto_first, digit_value}
+use Rattle.play_core.proofs.Common.{AllDigits, position-Some, ltb-false, separates_words, is_there, words_in}
 use Rattle.std.proofs.lemmas.List.Sums.{prefix_len-le-length}
-use Rattle.std.proofs.lemmas.List.Quantifiers.{position-Some}
 use Rattle.std.proofs.Math.Seq.{drop-length}
-use Rattle.std.proofs.lemmas.Bool.{ltb-false, not-true}
-use Rattle.play_core.specs.Scripts.{separates_words, is_there, words_in}
+use Rattle.std.proofs.lemmas.Bool.{not-true}
 
 -- a position that is found or not, under a condition
 at_cond : (b : Bool) (n len : ℕ) → (b ≡ false → len ≡ n) → unwrap_or (cond b (Some n) None) len ≡ n
@@ -107,8 +102,7 @@ pub next_words : (bs : List ℕ) (start end : ℕ) → position (λ b. not (sepa
 next_words bs start end e f =
     let found = position-Some (λ b. not (separates_words b)) bs start 0 e in
     let rest = drop-cons bs start 0 found.0 in
-    let last : end ≡ position_or_len separates_words (drop start bs) = f
-    ∙ unwrap_position separates_words (drop start bs) in
+    let last = f ∙ unwrap_position separates_words (drop start bs) in
     word_at bs start e ∙ words_from_first _ _ (not-true _ found.1)
     ∙ ap (λ l. take (position_or_len separates_words l) l ∷ words_in (drop (position_or_len separates_words l) l))
     (sym rest)

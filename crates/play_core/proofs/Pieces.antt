@@ -1,8 +1,8 @@
 -- Bytes of which only the first are counted.
-use Rattle.std.proofs.Common.{◌≡◌, ℕ, ◌+◌, ◌≤◌, List, ◌++◌, length, take, sym, ap, ◌∙◌, arith, append_assoc}
-use Rattle.std.proofs.Common.{length-append}
+use Rattle.play_core.proofs.Common.{◌≡◌, ℕ, ◌+◌, ◌≤◌, List, ◌++◌, length, take, sym, ap, ◌∙◌, arith, append_assoc}
+use Rattle.play_core.proofs.Common.{length-append, take-length}
 use Rattle.std.proofs.lemmas.List.{take-take}
-use Rattle.std.proofs.Math.Seq.{take-length, take-append-add}
+use Rattle.std.proofs.Math.Seq.{take-append-add}
 
 -- the first so many bytes stand behind others, and fewer of them are counted
 pub front_counted : (start bytes piece : List ℕ) (len all count : ℕ) → len ≡ length start → count ≤ all
@@ -24,6 +24,5 @@ between_counted start first second third before piece after len front all count 
     let one : take (len + front) first ≡ start ++ before = e1 ∙ ap (λ t. start ++ t) whole in
     let long : len + front ≡ length (take (len + front) first) =
     rw (one, length-append) (omega arith) in
-    let two : take (len + front + count) second ≡ take (len + front) first ++ take count piece =
-    front_counted (take (len + front) first) second piece (len + front) all count long few e2 in
+    let two = front_counted (take (len + front) first) second piece (len + front) all count long few e2 in
     e3 ∙ rw (two, one, rest) (simp append_assoc)

@@ -1,16 +1,11 @@
 -- Lines in their plainest spelling.
-use Prim.Native.Nat.{suc}
-use Rattle.std.proofs.Common.{◌≡◌, ℕ, ◌+◌, ◌*◌, ◌<◌, ◌≤◌, true, false, eqb, List, [], ◌∷◌, ◌++◌, length, take, drop}
-use Rattle.std.proofs.Common.{get_or, ◌-◌, refl, sym, ap, ◌∙◌, arith, drop-cons}
-use Rattle.std.specs.Prelude.{codes, ⊤}
-use Rattle.std.specs.List.{filter, slice_split, onto_first}
-use Rattle.std.specs.Char.{digit_value}
-use Rattle.std.specs.Str.Parse.{AllDigits}
+use Rattle.play_core.proofs.Common.{suc, ◌≡◌, ℕ, ◌+◌, ◌*◌, ◌<◌, ◌≤◌, true, false, eqb, List, [], ◌∷◌, ◌++◌, length}
+use Rattle.play_core.proofs.Common.{take, drop, get_or, ◌-◌, refl, sym, ap, ◌∙◌, arith, drop-cons, codes, ⊤, filter}
+use Rattle.play_core.proofs.Common.{slice_split, onto_first, digit_value, AllDigits, digit_from_value, Down, Repeat, Up}
+use Rattle.play_core.proofs.Common.{separates_words, is_there, parts_of, words_in, BeginsWithEvent}
 use Rattle.std.proofs.lemmas.Bool.{ne_eqb}
-use Rattle.std.proofs.lemmas.Str.Parse.{digit_from_value}
-use Rattle.play_core.specs.Types.{Down, Repeat, Up}
-use Rattle.play_core.specs.Scripts.{separates_words, is_there, parts_of, words_in, without_comment}
-use Rattle.play_core.specs.Inner.Readings.{BeginsWithKey, BeginsWithEvent}
+use Rattle.play_core.specs.Scripts.{without_comment}
+use Rattle.play_core.specs.Inner.Readings.{BeginsWithKey}
 use Rattle.keymap_text.proofs.Splitting.{to_end}
 
 -- the byte at a place, and what stands behind it

@@ -1,20 +1,17 @@
 -- The lines of a script, one after another.
-use Prim.Native.Nat.{zero, suc}
-use Rattle.std.proofs.Common.{◌≡◌, ℕ, ◌+◌, ◌<◌, ◌≤◌, true, false, Bool, cond, eqb, ◌==◌, List, [], ◌∷◌, ◌++◌, length}
-use Rattle.std.proofs.Common.{take, drop, get_or, map, Option, None, Some, Bor, refl, sym, ap, subst, ◌∙◌, append-nil}
-use Rattle.std.proofs.Common.{◌-◌, arith, add-one, drop-cons, take-append-drop, length-take-le, take_all, length-drop}
-use Rattle.std.specs.List.{AllZip, filter, slice_split, onto_first, position, position_or_len}
-use Rattle.std.proofs.lemmas.List.{take_more, get_or-map, length-map}
-use Rattle.std.proofs.lemmas.List.Elements.{filter-append}
-use Rattle.std.proofs.lemmas.List.Sums.{count_by-le-length}
+use Rattle.play_core.proofs.Common.{zero, suc, ◌≡◌, ℕ, ◌+◌, ◌<◌, ◌≤◌, true, false, Bool, cond, eqb, List, [], ◌∷◌, ◌++◌}
+use Rattle.play_core.proofs.Common.{length, take, drop, get_or, map, Option, None, Some, refl, sym, ap, subst, ◌∙◌}
+use Rattle.play_core.proofs.Common.{append-nil, ◌-◌, arith, drop-cons, take-append-drop, AllZip, filter, slice_split}
+use Rattle.play_core.proofs.Common.{onto_first, position, position_or_len, take_more, length-map, filter-append}
+use Rattle.play_core.proofs.Common.{count_by-le-length, unwrap_or, position-Some, What, Down, Repeat, Up, Reset, Load}
+use Rattle.play_core.proofs.Common.{Sent, ScriptFault, is_there, parts_of, words_of, lines_of, AreEvents, IsEvent}
+use Rattle.play_core.proofs.Common.{Sends, Tells, mark_of, IsScriptFault, IsFaultOf, IsReadTo, BeginsWithEvent}
+use Rattle.std.proofs.Common.{◌==◌, Bor, add-one, length-take-le, take_all, length-drop}
+use Rattle.std.proofs.lemmas.List.{get_or-map}
 use Rattle.std.proofs.lemmas.List.Splits.{length-slice_split, slice_split_first}
-use Rattle.std.specs.Option.{unwrap_or, MatchOption}
-use Rattle.std.proofs.lemmas.List.Quantifiers.{position-Some}
+use Rattle.std.specs.Option.{MatchOption}
 use Rattle.play_core.proofs.LineWords.{unwrap_position}
-use Rattle.play_core.specs.Types.{What, Down, Repeat, Up, Reset, Load, Sent, ScriptFault}
-use Rattle.play_core.specs.Scripts.{is_there, parts_of, words_of, lines_of, AreEvents, IsEvent, Sends, Tells, mark_of}
-use Rattle.play_core.specs.Scripts.{IsScriptFault, IsFaultOf, RunsOut}
-use Rattle.play_core.specs.Inner.Readings.{IsReadTo, BeginsWithEvent}
+use Rattle.play_core.specs.Scripts.{RunsOut}
 
 -- the part at a place is the line there
 pub record IsPart (script text : List ℕ) (n : ℕ) : Type 0 where

@@ -1,10 +1,7 @@
 -- How many events a script has.
-use Rattle.std.proofs.Common.{◌≡◌, ℕ, ◌+◌, ◌≤◌, List, [], ◌∷◌, length, refl, arith}
-use Rattle.std.specs.List.{AllZip, filter}
-use Rattle.std.proofs.lemmas.List.{length-map}
-use Rattle.std.proofs.lemmas.List.Sums.{length-filter, count_by-le-length}
-use Rattle.play_core.specs.Types.{Sent}
-use Rattle.play_core.specs.Scripts.{is_there, lines_of, IsEvent, IsScript}
+use Rattle.play_core.proofs.Common.{◌≡◌, ℕ, ◌+◌, ◌≤◌, List, [], ◌∷◌, length, refl, arith, AllZip, filter, length-map}
+use Rattle.play_core.proofs.Common.{count_by-le-length, Sent, is_there, lines_of, IsEvent, IsScript}
+use Rattle.std.proofs.lemmas.List.Sums.{length-filter}
 use Rattle.play_core.proofs.ScriptLines.{few_lines}
 
 -- lists that are related element by element are equally long

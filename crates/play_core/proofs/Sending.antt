@@ -1,17 +1,17 @@
 -- What the reading of a line means: it is an event exactly where its words say so.
-use Rattle.std.proofs.Common.{◌≡◌, ◌≢◌, ℕ, ◌<◌, ◌≤◌, min, Bool, true, false, not, cond, ltb, List, [], ◌∷◌, ◌++◌}
-use Rattle.std.proofs.Common.{Option, None, Some, Result, Ok, Err, refl, sym, ap, subst, ◌∙◌, arith, ◌↔◌, ⊎_elim, lit<}
-use Rattle.std.specs.Prelude.{codes, IsSome, IfSome, ⊤}
+use Rattle.play_core.proofs.Common.{◌≡◌, ℕ, ◌<◌, ◌≤◌, min, Bool, true, false, not, cond, ltb, List, [], ◌∷◌, ◌++◌}
+use Rattle.play_core.proofs.Common.{Option, None, Some, Result, Ok, Err, refl, sym, ap, subst, ◌∙◌, arith, lit<, codes}
+use Rattle.play_core.proofs.Common.{⊤, AllDigits, digits_value, lt-ltb, ltb-true, ltb-false, le-ltb, LineFault, Form}
+use Rattle.play_core.proofs.Common.{Key, What, Down, Repeat, Up, Reset, Load, Sent, IsNumber, Tells, Sends, mark_of}
+use Rattle.play_core.proofs.Common.{key_of, IsEvent, HasBadKey, HasBadForm, reading_of_lost, reading}
+use Rattle.std.proofs.Common.{◌≢◌, ◌↔◌, ⊎_elim}
+use Rattle.std.specs.Prelude.{IsSome, IfSome}
 use Rattle.std.specs.Option.{ok_or}
 use Rattle.std.specs.Str.{bytes_eq}
-use Rattle.std.specs.Str.Parse.{AllDigits, digits_value}
-use Rattle.std.proofs.lemmas.Bool.{and_from, and_parts, lt-ltb, ltb-true, ltb-false, le-ltb, cases_lt, not-false}
+use Rattle.std.proofs.lemmas.Bool.{and_from, and_parts, cases_lt, not-false}
 use Rattle.std.proofs.lemmas.Slice.Eq.{bytes_eq-Decides}
 use Rattle.keymap_core.specs.Numbers.{key_count}
-use Rattle.play_core.specs.Types.{LineFault, Form, Key, What, Down, Repeat, Up, Reset, Load, Sent}
-use Rattle.play_core.specs.Scripts.{IsNumber, Tells, Sends, mark_of, key_of, IsEvent, HasBadKey, HasBadForm}
 use Rattle.play_core.specs.Inner.Readings.{all_digits, key_in, of_key, what_with_key, what_alone, what_of, sent_by}
-use Rattle.play_core.specs.Inner.Readings.{reading_of_lost, reading}
 
 -- digits pass the test for digits
 digits_pass : (word : List ℕ) → AllDigits 10 word → all_digits word ≡ true

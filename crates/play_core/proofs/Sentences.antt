@@ -1,21 +1,15 @@
 -- What answers type, and the offset of a character in a text.
-use Rattle.std.proofs.Common.{◌≡◌, ℕ, ◌<◌, List, [], ◌∷◌, ◌++◌, refl, ap, sym, ◌∙◌, map, length}
-use Rattle.std.proofs.Common.{take, drop, get_or, ◌+◌, ◌≤◌, arith, length-append}
-use Prim.Native.Nat.{zero, suc}
+use Rattle.play_core.proofs.Common.{◌≡◌, ℕ, ◌<◌, List, [], ◌∷◌, ◌++◌, refl, ap, sym, ◌∙◌, map, length, take, drop}
+use Rattle.play_core.proofs.Common.{get_or, ◌+◌, ◌≤◌, arith, length-append, zero, suc, take_more, flat_map}
+use Rattle.play_core.proofs.Common.{encode_utf8_all, Answer, answers_to, AreTyped, typed_by, typed_text}
 use Rattle.std.specs.Char.{len_utf8}
 use Rattle.std.proofs.lemmas.Str.{encodes-append, length-encode}
-use Rattle.std.proofs.lemmas.List.{take_more}
 use Rattle.std.specs.Prelude.{filter, encode_utf8}
-use Rattle.std.specs.List.{flat_map}
-use Rattle.std.specs.Str.{encode_utf8_all}
 use Rattle.keymap_core.specs.Maps.{MapValue}
-use Rattle.play_core.specs.Types.{Answer}
-use Rattle.console_core.specs.declared.event.Answer.TheVariants as answer
 use Rattle.console_core.specs.declared.typing.Typing.{Typing}
-use Rattle.console_core.specs.History.{answers_to}
-use Rattle.console_core.specs.Typing.{AreTyped, plainly, types_something}
+use Rattle.console_core.specs.Typing.{plainly, types_something}
 use Rattle.play_core.specs.Typing.{alone, IsTyped}
-use Rattle.play_core.specs.Written.{typed_by, typed_text}
+use Rattle.console_core.specs.declared.event.Answer.TheVariants as answer
 
 -- ---- what is typed
 
@@ -62,9 +56,8 @@ split-item cs k c lt is = split-at cs k c lt ∙ ap (λ y. take k cs ++ y ∷ dr
 pub room-for : (cs : List ℕ) (k c : ℕ) → k < length cs → c ≡ get_or cs k c
     → length (encode_utf8_all (take k cs)) + len_utf8 c ≤ length (encode_utf8_all cs)
 room-for cs k c lt is =
-    let e : length (encode_utf8_all cs)
-    ≡ length (encode_utf8_all (take k cs) ++ (encode_utf8 c ++ encode_utf8_all (drop (suc k) cs))) =
-    ap length (ap encode_utf8_all (split-item cs k c lt is) ∙ encodes-append (take k cs) (c ∷ drop (suc k) cs)) in
+    let e = ap length (ap encode_utf8_all (split-item cs k c lt is) ∙ encodes-append (take k cs) (c ∷ drop (suc k) cs))
+    in
     let a = length-append (encode_utf8_all (take k cs)) (encode_utf8 c ++ encode_utf8_all (drop (suc k) cs)) in
     let b = length-append (encode_utf8 c) (encode_utf8_all (drop (suc k) cs)) in
     let l = length-encode c in
@@ -75,8 +68,7 @@ pub one-further : (cs : List ℕ) (k c : ℕ) → k < length cs → c ≡ get_or
     → length (encode_utf8_all (take k cs)) + len_utf8 c ≡ length (encode_utf8_all (take (k + 1) cs))
 one-further cs k c lt is =
     let t : take (k + 1) cs ≡ take k cs ++ c ∷ [] = take_more cs k c lt ∙ ap (λ y. take k cs ++ y ∷ []) (sym is) in
-    let e : length (encode_utf8_all (take (k + 1) cs)) ≡ length (encode_utf8_all (take k cs) ++ (encode_utf8 c ++ [])) =
-    ap length (ap encode_utf8_all t ∙ encodes-append (take k cs) (c ∷ [])) in
+    let e = ap length (ap encode_utf8_all t ∙ encodes-append (take k cs) (c ∷ [])) in
     let a = length-append (encode_utf8_all (take k cs)) (encode_utf8 c ++ []) in
     let b = length-append (encode_utf8 c) [] in
     let l = length-encode c in

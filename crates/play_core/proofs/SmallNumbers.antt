@@ -1,10 +1,9 @@
 -- The table of the numbers 0 to 127 has the digits of each.
-use Rattle.std.proofs.Common.{◌≡◌, ℕ, ◌+◌, ◌/◌, ◌%◌, ◌<◌, ◌≤◌, Bool, true, false, ltb, List, [], ◌∷◌, ◌++◌}
-use Rattle.std.proofs.Common.{take, map, get_or, refl, sym, ap, ◌∙◌, decimal, arith}
+use Rattle.play_core.proofs.Common.{◌≡◌, ℕ, ◌+◌, ◌/◌, ◌%◌, ◌<◌, ◌≤◌, Bool, true, false, ltb, List, [], ◌∷◌, ◌++◌, take}
+use Rattle.play_core.proofs.Common.{map, get_or, refl, sym, ap, ◌∙◌, decimal, arith, ltb-true, ltb-false, decimal_digit}
+use Rattle.play_core.proofs.Common.{decimal_step}
 use mir.Val.{bool_byte}
 use Rattle.std.specs.List.{range_with_len}
-use Rattle.std.proofs.lemmas.Bool.{ltb-true, ltb-false}
-use Rattle.std.proofs.lemmas.Fmt.{decimal_digit, decimal_step}
 use Rattle.keymap_core.proofs.Lists.{along}
 use Rattle.play_core.specs.declared.number.TheConstants.{SMALL_NUMBERS}
 

@@ -1,24 +1,22 @@
 -- The lines that are written are a script of what they send.
-use Rattle.std.proofs.Common.{◌≡◌, ℕ, ◌<◌, Bool, true, false, cond, eqb, List, [], ◌∷◌, ◌++◌, length, map}
-use Rattle.std.proofs.Common.{refl, sym, ap, subst, ◌∙◌, arith, decimal, append_assoc, lit<}
-use Rattle.std.specs.Prelude.{codes}
-use Rattle.std.specs.List.{AllZip, filter, slice_split, onto_first, flat_map}
-use Rattle.std.specs.Str.Parse.{AllDigits, digits_value, IsNumeral}
+use Rattle.play_core.proofs.Common.{◌≡◌, ℕ, ◌<◌, Bool, true, false, cond, eqb, List, [], ◌∷◌, ◌++◌, length, map, refl}
+use Rattle.play_core.proofs.Common.{sym, ap, subst, ◌∙◌, arith, decimal, append_assoc, lit<, codes, AllZip, filter}
+use Rattle.play_core.proofs.Common.{slice_split, onto_first, flat_map, AllDigits, digits_value, filter-append, Event}
+use Rattle.play_core.proofs.Common.{What, Down, Repeat, Up, Reset, Load, Sent, delivered, separates_words, is_there}
+use Rattle.play_core.proofs.Common.{parts_of, words_in, words_of, lines_of, IsNumber, Tells, key_of, IsEvent, IsScript}
+use Rattle.play_core.proofs.Common.{text_of, sent_in}
+use Rattle.std.specs.Str.Parse.{IsNumeral}
 use Rattle.std.proofs.lemmas.Bool.{or_parts, or_from}
 use Rattle.std.proofs.lemmas.Fmt.{decimal_is_IsNumeral}
 use Rattle.std.proofs.lemmas.List.{map-append}
-use Rattle.std.proofs.lemmas.List.Elements.{filter-append, All-head, All-tail}
+use Rattle.std.proofs.lemmas.List.Elements.{All-head, All-tail}
 use Rattle.std.proofs.lemmas.List.Folds.{list_any-append}
-use Rattle.play_core.specs.Types.{Event, What, Down, Repeat, Up, Reset, Load, Sent}
-use Rattle.console_core.specs.declared.event.Event.TheVariants as event
 use Rattle.console_core.specs.History.{HasKey, HasKeys}
-use Rattle.play_core.specs.Delivery.{delivered}
-use Rattle.play_core.specs.Scripts.{separates_words, is_there, parts_of, words_in, words_of, lines_of}
-use Rattle.play_core.specs.Scripts.{IsNumber, Tells, key_of, IsEvent, IsScript}
-use Rattle.play_core.specs.Spelling.{command_text, mark_text, sent_text, Line, sends, says, line_text, text_of, sent_by}
-use Rattle.play_core.specs.Spelling.{sent_in, has_line_feed, IsWritable, AreWritable, what_of, sent_of, event_line}
+use Rattle.play_core.specs.Spelling.{command_text, mark_text, sent_text, Line, sends, says, line_text, sent_by}
+use Rattle.play_core.specs.Spelling.{has_line_feed, IsWritable, AreWritable, what_of, sent_of, event_line}
 use Rattle.play_core.proofs.PlainLines.{not_at, IsPlain, plain_digits, plain_more, no_comment, line_words}
 use Rattle.play_core.proofs.ScriptLines.{event_there, parts_there}
+use Rattle.console_core.specs.declared.event.Event.TheVariants as event
 
 -- ---- scripts that are joined
 

@@ -1,24 +1,21 @@
 -- The tail of a line is known by the number of the modifiers and locks that are on.
-use Rattle.std.proofs.Common.{◌≡◌, ℕ, ◌-◌, codes, Bool, true, false, cond, List, [], ◌∷◌, ◌++◌, length, map, refl, sym}
-use Rattle.std.proofs.Common.{ap, ◌∙◌, append_assoc, length-append, arith, take, drop}
-use Rattle.std.proofs.Math.Seq.{drop-append_seam, take-length}
-use Rattle.play_core.specs.Types.{Modifier, Lock, Event, Answer}
+use Rattle.play_core.proofs.Common.{◌≡◌, ℕ, ◌-◌, codes, Bool, true, false, cond, List, [], ◌∷◌, ◌++◌, length, map, refl}
+use Rattle.play_core.proofs.Common.{sym, ap, ◌∙◌, append_assoc, length-append, arith, take, drop, take-length, Event}
+use Rattle.play_core.proofs.Common.{Answer, names_of_modifiers, names_of_locks, tail_of}
+use Rattle.std.proofs.Math.Seq.{drop-append_seam}
+use Rattle.play_core.specs.Types.{Modifier, Lock}
+use Rattle.keymap_core.specs.Actions.{modifiers, locks}
+use Rattle.play_core.specs.Written.{event_text, answer_text, line_of, name_if, or_none}
+use Rattle.play_core.specs.Inner.Tails.{number_with, shown_number, IsTail}
 use Rattle.keymap_core.specs.declared.action.Modifier.TheVariants as modifier
 use Rattle.keymap_core.specs.declared.action.Lock.TheVariants as lock
-use Rattle.keymap_core.specs.Actions.{modifiers, locks}
-use Rattle.play_core.specs.Written.{event_text, answer_text, line_of, name_if, or_none, names_of_modifiers}
-use Rattle.play_core.specs.Written.{names_of_locks}
-use Rattle.play_core.specs.Inner.Tails.{tail_of, number_with, shown_number, IsTail}
 
 -- truth values of the same number are the same
 same_bits : (xs ys : List Bool) → length xs ≡ length ys → number_with xs ≡ number_with ys → xs ≡ ys
 same_bits [] [] l e = refl
-same_bits [] (y ∷ ys) l e = absurd (omega arith)
-same_bits (x ∷ xs) [] l e = absurd (omega arith)
 same_bits (true ∷ xs) (true ∷ ys) l e = ap (λ bits. true ∷ bits) (same_bits xs ys (omega arith) (omega arith))
 same_bits (false ∷ xs) (false ∷ ys) l e = ap (λ bits. false ∷ bits) (same_bits xs ys (omega arith) (omega arith))
-same_bits (true ∷ xs) (false ∷ ys) l e = absurd (omega arith)
-same_bits (false ∷ xs) (true ∷ ys) l e = absurd (omega arith)
+same_bits _ _ l e = absurd (omega arith)
 
 -- the same modifiers and locks on have the same tail
 same_tail : (on still_on : Modifier → Bool) (locked still_locked : Lock → Bool)

@@ -1,18 +1,15 @@
 -- What is written of events, one after another.
-use Rattle.std.proofs.Common.{◌≡◌, ℕ, ◌+◌, ◌<◌, List, [], ◌∷◌, ◌++◌, length, take, drop}
-use Rattle.std.proofs.Common.{get_or, refl, sym, ap, ◌∙◌, append_assoc, append-nil, take-append-drop}
-use Rattle.std.specs.Prelude.{reverse}
+use Rattle.play_core.proofs.Common.{◌≡◌, ℕ, ◌+◌, ◌<◌, List, [], ◌∷◌, ◌++◌, length, take, drop, get_or, refl, sym, ap}
+use Rattle.play_core.proofs.Common.{◌∙◌, append_assoc, append-nil, take-append-drop, reverse, take_more, Event, Answer}
+use Rattle.play_core.proofs.Common.{Sent, Maps, answers_to, event_of, delivered, typed_by, typed_text, text_after}
 use Rattle.std.specs.List.{filter_map}
-use Rattle.std.proofs.lemmas.List.{take_more}
 use Rattle.std.proofs.lemmas.List.Elements.{filter_map-append}
 use Rattle.std.proofs.lemmas.Grind.{flat_map-append}
-use Rattle.play_core.specs.Types.{Event, Answer, Sent}
-use Rattle.console_core.specs.History.{Maps, answer_to, answers_to}
+use Rattle.console_core.specs.History.{answer_to}
 use Rattle.play_core.specs.declared.show.Show.{Show}
-use Rattle.play_core.specs.declared.show.Show.TheVariants as show
-use Rattle.play_core.specs.Delivery.{event_of, delivered}
-use Rattle.play_core.specs.Written.{lines_after, line_after, typed_by, typed_text, text_after, event_output}
+use Rattle.play_core.specs.Written.{lines_after, line_after, event_output}
 use Rattle.console_core.proofs.Deliveries.{reverse-cons}
+use Rattle.play_core.specs.declared.show.Show.TheVariants as show
 
 -- the lines of events, and then of the events behind them
 lines-append : (ms : Maps) (h xs ys : List Event)

@@ -1,13 +1,10 @@
 -- A script has one reading: its lines, read one after another, are events up to the end, or one is the first that is
 -- none.
-use Rattle.std.proofs.Common.{◌≡◌, ℕ, ◌+◌, List, [], ◌∷◌, ◌++◌, length, Option, None, Some, Result, Ok, Err, refl, ap}
-use Rattle.std.proofs.Common.{subst, ◌∙◌, arith, ◌⊎◌, inl, inr}
-use Rattle.std.proofs.lemmas.Bool.{lt-ltb, le-ltb}
-use Rattle.play_core.specs.Types.{LineFault, Form, Key, ScriptFault, Sent}
+use Rattle.play_core.proofs.Common.{◌≡◌, ℕ, ◌+◌, List, [], ◌∷◌, ◌++◌, length, Option, None, Some, Result, Ok, Err, refl}
+use Rattle.play_core.proofs.Common.{ap, subst, ◌∙◌, arith, ◌⊎◌, inl, inr, lt-ltb, le-ltb, LineFault, Form, Key}
+use Rattle.play_core.proofs.Common.{ScriptFault, Sent, reading, lines_of, key_of, AreEvents, IsEvent, HasBadKey}
+use Rattle.play_core.proofs.Common.{HasBadForm, IsScript, IsScriptFault, IsFaultOf}
 use Rattle.play_core.specs.declared.script.ScriptFault.TheVariants.{BadLine, BadKey}
-use Rattle.play_core.specs.Inner.Readings.{reading}
-use Rattle.play_core.specs.Scripts.{lines_of, key_of, AreEvents, IsEvent, HasBadKey, HasBadForm, IsScript}
-use Rattle.play_core.specs.Scripts.{IsScriptFault, IsFaultOf}
 use Rattle.play_core.proofs.Sending.{event_read, reading_is, IsReading}
 
 -- ---- a line

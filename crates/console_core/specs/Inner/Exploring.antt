@@ -1,7 +1,7 @@
 -- What an exploration keeps, and the events of one tap of a key. Mirrors `Explored` of src/explored.rt, src/ways.rt and
 -- src/typing.rt.
 use Rattle.std.specs.Prelude.{◌≡◌, ℕ, Bool, true, false, List, [], ◌∷◌, ◌++◌, length, reverse, None, Some, slice_get}
-use Rattle.std.specs.Prelude.{◌⊎◌, Option, map}
+use Rattle.std.specs.Prelude.{Option, map}
 use Rattle.keymap_core.specs.declared.action.Lock.TheVariants.{Scroll}
 use Rattle.keymap_core.specs.Maps.{MapValue}
 use Rattle.console_core.specs.Types.{Event, Press, Release, Move, Answer}
@@ -24,7 +24,7 @@ use Rattle.console_core.specs.declared.typing.Typed.{Typed}
 use Rattle.console_core.specs.declared.typing.Typed.TheVariants as typed
 use Rattle.console_core.specs.declared.ways.Way.{Way}
 use Rattle.console_core.specs.declared.ways.Way.TheVariants as way
-use Rattle.console_core.specs.Inner.Routes.{AllLeadHome, HasRoute, AreSettled, freed}
+use Rattle.console_core.specs.Inner.Routes.{AllEntries, AllLeadHome, HasRoute, AreSettled, freed}
 use Rattle.console_core.specs.Inner.Searching.{state_of, under_of, origin_of, Entry, Searched}
 use Rattle.console_core.specs.Inner.Standing.{Stands}
 
@@ -117,11 +117,6 @@ pub record HasTyped (m : MapValue) (h : List Event) (s : State) (p : Option ℕ)
   pub pending : accent_pending_after (between m m) h ≡ p
   pub typed : typed_along m h ≡ map plainly (reverse cs)
 
--- what holds of each entry of a map
-abbrev pub AllEntries : {K V : Type 0} → (K → V → Type 0) → List (K × V) → Type 0
-AllEntries P [] = Unit {0}
-AllEntries P (x ∷ es) = P x.0 x.1 × AllEntries P es
-
 -- explorations by the state where they begin
 abbrev pub Views : Type 0
 Views = List (Held × Explored)
@@ -131,10 +126,6 @@ IsView m s e = IsExplored e × (map_of_explored e ≡ m) × (origin_in e ≡ s)
 
 abbrev pub AreViews : MapValue → Views → Type 0
 AreViews m views = AllEntries (λ k e. IsView m (state_of k) e) views
-
-abbrev pub HasView : Views → State → Type 0
-HasView [] s = ⊥
-HasView (x ∷ views) s = (state_of x.0 ≡ s) ⊎ HasView views s
 
 -- the taps of a character or of what comes behind a dead key, and of the dead key of an accent
 abbrev pub plain_tap : Symbol → Tap

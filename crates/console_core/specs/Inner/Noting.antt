@@ -17,44 +17,39 @@ use Rattle.console_core.specs.Inner.Searching.{state_of, Entry, Entries, AreWith
 abbrev pub IsWith : {X : Type 0} → X → List X → List X → Type 0
 IsWith x old now = ((now ≡ old) × Contains old x) ⊎ ((now ≡ old ++ x ∷ []) × (Contains old x → ⊥))
 
--- it is the selection of a state that was met
-abbrev pub IsSelectionIn : Entries → Selection → Type 0
-IsSelectionIn es y = (j : ℕ) × (x : Entry) × (slice_get es j ≡ Some x) × (selection_of (state_of x.0) ≡ y)
+-- What was added is all of which P holds, and nothing else, and nothing twice.
+pub record Adds {X : Type 0} (P : X → Type 0) (old now : List X) : Type 0 where
+  pub kept : (x : X) → Contains old x → Contains now x
+  pub all : (x : X) → P x → Contains now x
+  pub only : (x : X) → Contains now x → Contains old x ⊎ P x
+  pub once : HasNoDoubles old → HasNoDoubles now
 
--- these are selections of states that were met, among them those of all below the place, each once
-pub record AreSelectionsTo (es : Entries) (place : ℕ) (ys : List Selection) : Type 0 where
-  pub all : (j : ℕ) (x : Entry) → slice_get es j ≡ Some x → j < place → Contains ys (selection_of (state_of x.0))
-  pub only : (y : Selection) → Contains ys y → IsSelectionIn es y
-  pub once : HasNoDoubles ys
+-- the list is all of which P holds, each once
+pub record Enumerates {X : Type 0} (P : X → Type 0) (xs : List X) : Type 0 where
+  pub all : (x : X) → P x → Contains xs x
+  pub only : (x : X) → Contains xs x → P x
+  pub once : HasNoDoubles xs
 
+-- it is so in a state that was met, below the place
+abbrev pub IsInSome : Entries → ℕ → (State → Type 0) → Type 0
+IsInSome es n Q = (j : ℕ) × (x : Entry) × (slice_get es j ≡ Some x) × (j < n) × Q (state_of x.0)
+
+-- these are the selections of the states that were met
 abbrev pub AreSelectionsOf : Entries → List Selection → Type 0
-AreSelectionsOf es ys = AreSelectionsTo es (length es) ys
+AreSelectionsOf es ys = Enumerates (λ y. IsInSome es (length es) (λ s. selection_of s ≡ y)) ys
 
--- the usable accent of this key was added, and no other one
-pub record AddsOffer (u : Under) (s : State) (k : ℕ) (old now : List ℕ) : Type 0 where
-  pub kept : (a : ℕ) → Contains old a → Contains now a
-  pub all : (a : ℕ) → usable u.maps.first a ≡ true → Offers u s k a → Contains now a
-  pub only : (a : ℕ) → Contains now a → Contains old a ⊎ ((usable u.maps.first a ≡ true) × Offers u s k a)
-  pub once : HasNoDoubles old → HasNoDoubles now
+-- the usable accent of this key was added
+abbrev pub AddsOffer : Under → State → ℕ → List ℕ → List ℕ → Type 0
+AddsOffer u s k old now = Adds (λ a. (usable u.maps.first a ≡ true) × Offers u s k a) old now
 
--- those of the keys below n were added, and no other ones
-pub record AddsOffers (u : Under) (s : State) (n : ℕ) (old now : List ℕ) : Type 0 where
-  pub kept : (a : ℕ) → Contains old a → Contains now a
-  pub all : (a k : ℕ) → k < n → usable u.maps.first a ≡ true → Offers u s k a → Contains now a
-  pub only : (a : ℕ) → Contains now a
-      → Contains old a ⊎ ((usable u.maps.first a ≡ true) × ((k : ℕ) × (k < n) × Offers u s k a))
-  pub once : HasNoDoubles old → HasNoDoubles now
+-- those of the keys below n were added
+abbrev pub AddsOffers : Under → State → ℕ → List ℕ → List ℕ → Type 0
+AddsOffers u s n old now =
+    Adds (λ a. (usable u.maps.first a ≡ true) × ((k : ℕ) × (k < n) × Offers u s k a)) old now
 
--- these accents are offered in states that were met, among them those in all below the place, each once
-pub record AreAccentsTo (u : Under) (es : Entries) (place : ℕ) (accents : List ℕ) : Type 0 where
-  pub all : (j : ℕ) (x : Entry) (a : ℕ) → slice_get es j ≡ Some x → j < place → IsOfferedIn u (state_of x.0) a
-      → Contains accents a
-  pub only : (a : ℕ) → Contains accents a
-      → (j : ℕ) × (x : Entry) × (slice_get es j ≡ Some x) × IsOfferedIn u (state_of x.0) a
-  pub once : HasNoDoubles accents
-
+-- these are the accents that are offered in the states that were met
 abbrev pub AreAccentsOf : Under → Entries → List ℕ → Type 0
-AreAccentsOf u es accents = AreAccentsTo u es (length es) accents
+AreAccentsOf u es accents = Enumerates (λ a. IsInSome es (length es) (λ s. IsOfferedIn u s a)) accents
 
 -- no lock is on but the scroll lock
 abbrev pub IsUnlocked : State → Type 0
@@ -96,11 +91,9 @@ pub record AreBehindTo (u : Under) (accent : ℕ) (met es : Entries) (n : ℕ) :
 abbrev pub AreBehind : Under → ℕ → Entries → Entries → Type 0
 AreBehind u accent met es = AreBehindTo u accent met es (length es)
 
--- these are the selections where the accent can be pending, each once
-pub record AreComposing (m : MapValue) (accent : ℕ) (ys : List Selection) : Type 0 where
-  pub all : (y : Selection) → IsNoted m (Note.Composing accent y) → Contains ys y
-  pub only : (y : Selection) → Contains ys y → IsNoted m (Note.Composing accent y)
-  pub once : HasNoDoubles ys
+-- these are the selections where the accent can be pending
+abbrev pub AreComposing : MapValue → ℕ → List Selection → Type 0
+AreComposing m accent ys = Enumerates (λ y. IsNoted m (Note.Composing accent y)) ys
 
 -- these are the offers of the accents
 pub record AreOffersOf (m : MapValue) (accents : List ℕ) (offers : List Offer) : Type 0 where

@@ -31,14 +31,22 @@ LeadsHome u s moves =
 abbrev pub Routes : Type 0
 Routes = List (Held × Route)
 
+-- what holds of each entry of a map
+abbrev pub AllEntries : {K V : Type 0} → (K → V → Type 0) → List (K × V) → Type 0
+AllEntries P [] = Unit {0}
+AllEntries P (x ∷ es) = P x.0 x.1 × AllEntries P es
+
+-- an entry of a map by states is of this one
+abbrev pub HasEntry : {V : Type 0} → List (Held × V) → State → Type 0
+HasEntry [] s = ⊥
+HasEntry (x ∷ es) s = (state_of x.0 ≡ s) ⊎ HasEntry es s
+
 abbrev pub AllLeadHome : Under → Routes → Type 0
-AllLeadHome u [] = Unit {0}
-AllLeadHome u (x ∷ routes) = LeadsHome u (state_of x.0) x.1.moves.items × AllLeadHome u routes
+AllLeadHome u routes = AllEntries (λ k r. LeadsHome u (state_of k) r.moves.items) routes
 
 -- one begins at the state
 abbrev pub HasRoute : Routes → State → Type 0
-HasRoute [] s = ⊥
-HasRoute (x ∷ routes) s = (state_of x.0 ≡ s) ⊎ HasRoute routes s
+HasRoute routes s = HasEntry routes s
 
 -- letting go of no modifier leads to where a route begins
 abbrev pub NoLetGoLeads : Routes → State → Type 0
@@ -63,30 +71,9 @@ AreSettled u es routes =
     (j : ℕ) (x : Entry) → slice_get es j ≡ Some x
     → HasRoute routes (state_of x.0) ⊎ IsAstray u routes (state_of x.0)
 
--- The search met all states, and a route home begins at each of them.
-pub record AreRoutesOf (u : Under) (es : Entries) (routes : Routes) : Type 0 where
-  pub searched : Searched u start es (length es) (length es)
-  pub home : AllLeadHome u routes
-  pub all : (j : ℕ) (x : Entry) → slice_get es j ≡ Some x → HasRoute routes (state_of x.0)
-
--- what holds of events holds of more of them
-pub record GoesOn (m : MapValue) (old now : List Event) : Type 0 where
-  pub keys : HasKeys old → HasKeys now
-  pub loads : HasNoLoads old → HasNoLoads now
-  pub releases : ReleasesPressedKeys old → ReleasesPressedKeys now
-  pub sees : (x : Sight) → SeesAlong m old x → SeesAlong m now x
-
 -- the state was met
 abbrev pub IsMet : Entries → State → Type 0
 IsMet es s = (j : ℕ) × (x : Entry) × (slice_get es j ≡ Some x) × (state_of x.0 ≡ s)
-
--- After the events and a reset the console stands in the state, but for the scroll lock, and the search met it.
-pub record IsPlan (m : MapValue) (es : Entries) (h : List Event) (s : State) : Type 0 where
-  pub keys : HasKeys h
-  pub loads : HasNoLoads h
-  pub releases : ReleasesPressedKeys h
-  pub free : unscrolled (free_after m h) ≡ unscrolled s
-  pub met : IsMet es s
 
 -- letting go of all holders, one after another
 abbrev pub freed : State → State

@@ -1,8 +1,7 @@
 -- What the search keeps: the states that it has met, in their order, each with how it was come to, and which of them
 -- are done. Mirrors `Held` and `Keymaps` of src/held.rt and the functions of src/search.rt.
-use Rattle.std.specs.Prelude.{◌≡◌, ◌≢◌, ℕ, ◌+◌, ◌<◌, ◌≤◌, Bool, false, true, length, List, [], ◌∷◌, ◌++◌, All, None}
-use Rattle.std.specs.Prelude.{Some, slice_get}
-use Rattle.std.specs.Prelude.{slice_index_or, reverse, ◌⊎◌}
+use Rattle.std.specs.Prelude.{◌≡◌, ◌≢◌, ℕ, ◌+◌, ◌<◌, ◌≤◌, ◌⊎◌, false, length, List, [], ◌∷◌, ◌++◌, All, Option, None}
+use Rattle.std.specs.Prelude.{Some, slice_get, slice_index_or}
 use Rattle.std.specs.List.{Contains}
 use Rattle.keymap_core.specs.declared.action.Modifier.{Modifier}
 use Rattle.keymap_core.specs.declared.action.Lock.{Lock}
@@ -11,9 +10,7 @@ use Rattle.keymap_core.specs.declared.action.Action.TheVariants as act
 use Rattle.keymap_core.specs.declared.entry.Cell.{Cell}
 use Rattle.keymap_core.specs.declared.entry.Cell.TheVariants.{Act}
 use Rattle.keymap_core.specs.Actions.{modifier_index, lock_index}
-use Rattle.keymap_core.specs.Numbers.{key_count}
 use Rattle.console_core.specs.declared.event.Event.{Event}
-use Rattle.console_core.specs.declared.event.Event.TheVariants.{Press, Release, Reset, Load}
 use Rattle.console_core.specs.declared.held.Held.{Held}
 use Rattle.console_core.specs.declared.held.Keymaps.{Keymaps}
 use Rattle.console_core.specs.declared.held.Move.{Move}
@@ -22,17 +19,11 @@ use Rattle.console_core.specs.declared.held.Step.{Step}
 use Rattle.console_core.specs.declared.search.Origin.{Origin}
 use Rattle.console_core.specs.declared.search.End.{End}
 use Rattle.console_core.specs.declared.search.End.TheVariants as end
-use Rattle.console_core.specs.declared.outcome.Sticking.{Sticking}
-use Rattle.console_core.specs.declared.outcome.Sticking.TheVariants.{Sticks, Never, Undecided}
-use Rattle.console_core.specs.History.{between, in_force, is_on_after, HasKeys, HasNoLoads}
-use Rattle.console_core.specs.Headline.{IsOnOnlyWhilePressed, IsOffOnceQuiet}
-use Rattle.console_core.specs.Moves.{Under, alone, State, start, look_in, Holds, IsIdle, HolderForgets, IsForgetful}
-use Rattle.console_core.specs.Moves.{IsMove}
+use Rattle.console_core.specs.History.{between}
+use Rattle.console_core.specs.Moves.{Under, alone, State, start, look_in, IsIdle, HolderForgets, IsForgetful, IsMove}
 use Rattle.console_core.specs.Moves.{moved, presses_of, presses_along, state_from, IsPathFrom}
 use Rattle.console_core.specs.Moves.{state_after, script_of_path, with_holder, with_lock_turned}
-use Rattle.console_core.specs.Sticking.{SticksBetween, ReachesMoreThan, ReachesMoreThanFrom, ReleasesPressedKeys}
-use Rattle.console_core.specs.Sticking.{presses, state_limit}
-use Rattle.console_core.specs.Sticking.{AreOnAfter}
+use Rattle.console_core.specs.Sticking.{ReachesMoreThanFrom, state_limit}
 
 -- the state that the tables are
 abbrev pub state_of : Held → State
@@ -71,20 +62,21 @@ IsStep u s n x = IsMove u s x.by × (state_of x.to ≡ moved u s x.by) × (press
 abbrev pub IsMetBy : Entries → ℕ → State → Type 0
 IsMetBy es p s = (j : ℕ) × (x : Entry) × (slice_get es j ≡ Some x) × (state_of x.0 ≡ s) × (x.1.presses ≤ p)
 
--- what letting go of the modifier leads to was met
-abbrev pub IsLetGoMet : Entries → ℕ → State → Modifier → Type 0
-IsLetGoMet es p s i = (k : ℕ) → Holds s k i → IsMetBy es p (with_holder s i None)
+-- the step leads to the state
+abbrev pub StepsTo : Option Step → State → Type 0
+StepsTo step s = (x : Step) × (step ≡ Some x) × (state_of x.to ≡ s)
 
--- what a load leads to was met
-abbrev pub IsExchangeMet : Under → Entries → ℕ → State → Type 0
-IsExchangeMet u es p s = IsMove u s Exchange → IsMetBy es p (moved u s Exchange)
-
--- What a press of the key leads to was met. The scroll lock picks no cell, so its turns are left out.
-abbrev pub ArePressesMet : Under → Entries → ℕ → State → ℕ → Type 0
-ArePressesMet u es p s k =
+-- where the moves of one press of the key lead, but for turns of the scroll lock, has the property
+abbrev pub PressesLead : Under → State → ℕ → (State → Type 0) → Type 0
+PressesLead u s k P =
     IsIdle s k
-    → ((i : Modifier) → look_in u s k ≡ Act (act.Mod i) → s.holder i ≡ None → IsMetBy es p (with_holder s i (Some k)))
-    × ((l : Lock) → l ≢ Scroll → look_in u s k ≡ Act (act.Lock l) → IsMetBy es p (with_lock_turned s l))
+    → ((i : Modifier) → look_in u s k ≡ Act (act.Mod i) → s.holder i ≡ None → P (with_holder s i (Some k)))
+    × ((l : Lock) → l ≢ Scroll → look_in u s k ≡ Act (act.Lock l) → P (with_lock_turned s l))
+
+-- Where moves of n presses lead was met, by at most p presses. Turns of the scroll lock are left out.
+abbrev pub AreMet : Under → Entries → ℕ → ℕ → State → Type 0
+AreMet u es n p s =
+    (move : Move) → IsMove u s move → LeavesScroll move → presses_of move ≡ n → IsMetBy es p (moved u s move)
 
 -- A press that looks up the cell is no move: it is no modifier, and no lock but the scroll lock.
 abbrev pub IsUnmoving : Cell → Type 0
@@ -125,14 +117,20 @@ IsReached u o es j x =
     (path : List Move) × IsTrail es j path × IsPathFrom u o path × (state_from u o path ≡ state_of x.0)
     × (presses_along path ≡ x.1.presses) × ((state_of x.0).is_locked Scroll ≡ false)
 
--- where letting go and a load lead was met by as many presses
+-- where moves without a press lead was met by as many presses
 abbrev pub IsClosed : Under → Entries → Entry → Type 0
-IsClosed u es x =
-    ((i : Modifier) → IsLetGoMet es x.1.presses (state_of x.0) i) × IsExchangeMet u es x.1.presses (state_of x.0)
+IsClosed u es x = AreMet u es 0 x.1.presses (state_of x.0)
 
 -- where presses lead was met by one press more
 abbrev pub IsPressed : Under → Entries → Entry → Type 0
-IsPressed u es x = (k : ℕ) → k < key_count → ArePressesMet u es (x.1.presses + 1) (state_of x.0) k
+IsPressed u es x = AreMet u es 1 (x.1.presses + 1) (state_of x.0)
+
+-- where moves lead from what was met, by fewer than n presses in all, was met by as many
+abbrev pub AreDone : Under → Entries → ℕ → Type 0
+AreDone u es n =
+    (j : ℕ) (x : Entry) → slice_get es j ≡ Some x → (move : Move) → IsMove u (state_of x.0) move → LeavesScroll move
+    → x.1.presses + presses_of move < n
+    → IsMetBy es (x.1.presses + presses_of move) (moved u (state_of x.0) move)
 
 -- The origin, where the search begins, was met, and what was met is reached; those below `pressed_to` are pressed, and
 -- those below `closed_to` are closed.
@@ -150,10 +148,16 @@ HasMetAll x es = (under_of x ≡ alone x.first.now) × Searched (alone x.first.n
 abbrev pub AreSafe : Under → Entries → ℕ → Type 0
 AreSafe u es n = (j : ℕ) (x : Entry) → slice_get es j ≡ Some x → j < n → IsForgetful u (state_of x.0) → ⊥
 
--- those below the place were met by fewer presses, and the others by p
+-- what stands behind another was met by no fewer presses
+abbrev pub AreOrdered : Entries → Type 0
+AreOrdered es =
+    (i j : ℕ) (x y : Entry) → i ≤ j → slice_get es i ≡ Some x → slice_get es j ≡ Some y → x.1.presses ≤ y.1.presses
+
+-- so those below the place were met by fewer than p presses, and the others by p
 abbrev pub AreInOrder : Entries → ℕ → ℕ → Type 0
 AreInOrder es level p =
-    (j : ℕ) (x : Entry) → slice_get es j ≡ Some x → (j < level → x.1.presses < p) × (level ≤ j → x.1.presses ≡ p)
+    ((j : ℕ) (x : Entry) → slice_get es j ≡ Some x → (j < level → x.1.presses < p) × (level ≤ j → x.1.presses ≡ p))
+    × AreOrdered es
 
 -- each was come to from one before it
 abbrev pub GoBack : Entries → Type 0
@@ -170,53 +174,11 @@ IsScriptTo u es j k h =
 abbrev pub IsStuck : Under → Entries → ℕ → ℕ → Type 0
 IsStuck u es j k = (x : Entry) × (slice_get es j ≡ Some x) × ((i : Modifier) × HolderForgets u (state_of x.0) i k)
 
--- a press, a release, or a load where there are any
-abbrev pub IsSent : Under → Event → Type 0
-IsSent u (Press k) = Unit {0}
-IsSent u (Release k) = Unit {0}
-IsSent u Reset = ⊥
-IsSent u Load = u.has_loads ≡ true
+-- a search that ends so met all states that moves lead to, or too many
+abbrev pub IsEnd : Under → State → Entries → End → Type 0
+IsEnd u o es end.Complete = Searched u o es (length es) (length es)
+IsEnd u o es (end.TooMany p) = ReachesMoreThanFrom u o state_limit p × AreWithin es p × AreDone u es p
 
--- the list has loads only where there are any
-abbrev pub Admits : Under → List Event → Type 0
-Admits u h = u.has_loads ≡ false → HasNoLoads h
-
--- some modifier sticks after this list, and after none that is admitted and has fewer presses
-abbrev pub LeavesOnUnder : Under → List Event → Type 0
-LeavesOnUnder u h =
-    HasKeys h × All (IsSent u) h × ((i : Modifier) × SticksBetween u.maps h i) × ReleasesPressedKeys h
-
-abbrev pub HasFewestUnder : Under → List Event → Type 0
-HasFewestUnder u h =
-    (g : List Event) → HasKeys g → Admits u g → (i : Modifier) → SticksBetween u.maps g i → presses h ≤ presses g
-
--- each list that is admitted and after which a modifier sticks has more than p presses
-abbrev pub NoneUnderBy : Under → ℕ → Type 0
-NoneUnderBy u p =
-    (g : List Event) → HasKeys g → Admits u g → (i : Modifier) → SticksBetween u.maps g i → p < presses g
-
--- after each list that is admitted a modifier is on only while a key that bears it is pressed
-abbrev pub NeverUnder : Under → Type 0
-NeverUnder u =
-    (h : List Event) → HasKeys h → Admits u h
-    → IsOnOnlyWhilePressed (in_force u.maps h) h (λ i. is_on_after u.maps i h)
-    × IsOffOnceQuiet h (λ i. is_on_after u.maps i h)
-
--- what each answer says of the keymaps, with loads or without
-abbrev pub IsAnswerUnder : Under → Sticking → Type 0
-IsAnswerUnder u (Sticks events on) =
-    LeavesOnUnder u (reverse events.items) × HasFewestUnder u (reverse events.items)
-    × AreOnAfter u.maps (reverse events.items) on.items
-IsAnswerUnder u Never = NeverUnder u
-IsAnswerUnder u (Undecided p) = ReachesMoreThan u state_limit p × NoneUnderBy u p
-
--- How a search ended, and what it had met then. One that stops does so where a holder looks up a character, and one
--- that doesn't goes on behind such a state.
-abbrev pub HasEnded : Under → State → Bool → Entries → End → Type 0
-HasEnded u o stops es (end.AtStuck x) =
-    (stops ≡ true) × IsStuck u es x.place x.key
-    × ((level p : ℕ) × AreInOrder es level p × Searched u o es level level × AreSafe u es level)
-HasEnded u o stops es end.Complete =
-    Searched u o es (length es) (length es) × (stops ≡ true → AreSafe u es (length es))
-HasEnded u o stops es (end.TooMany p) =
-    Searched u o es 0 0 × ReachesMoreThanFrom u o state_limit p × (stops ≡ true → o ≡ start → NoneUnderBy u p)
+-- It met them in the order of the fewest presses.
+abbrev pub HasEnded : Under → State → Entries → End → Type 0
+HasEnded u o es end = Searched u o es 0 0 × AreOrdered es × IsEnd u o es end

@@ -1,40 +1,26 @@
--- Events that show what can be seen, step by step. Mirrors src/showing.rt.
-use Rattle.std.specs.Prelude.{◌≡◌, ◌⊎◌, ℕ, List, ◌∷◌, ◌++◌, reverse, Some, slice_get}
-use Rattle.keymap_core.specs.Actions.{modifiers}
+-- How the events of a visit lead a console, step by step. Mirrors src/showing.rt and src/planner.rt.
+use Rattle.std.specs.Prelude.{◌≡◌, ◌⊎◌, ℕ, ◌<◌, true, false, List, ◌++◌, length, Option, None, Some, slice_get, IfSome}
 use Rattle.keymap_core.specs.declared.action.Action.TheVariants as act
-use Rattle.keymap_core.specs.declared.action.Lock.{Lock}
-use Rattle.keymap_core.specs.declared.action.Lock.TheVariants.{Scroll}
-use Rattle.keymap_core.specs.declared.entry.Cell.TheVariants.{Act}
 use Rattle.keymap_core.specs.Maps.{MapValue}
-use Rattle.console_core.specs.declared.event.Event.{Event}
-use Rattle.console_core.specs.declared.event.Event.TheVariants.{Press, Release, Reset}
-use Rattle.console_core.specs.declared.selection.Sight.{Sight}
+use Rattle.keymap_core.specs.Numbers.{key_count}
+use Rattle.console_core.specs.Types.{Action, Modifier, Lock, Caps, Num, Scroll, Alt, Act, Event, Sight}
+use Rattle.console_core.specs.declared.explored.Explored.{Explored}
+use Rattle.console_core.specs.declared.explored.KeyAt.{KeyAt}
+use Rattle.console_core.specs.declared.planner.Aim.{Aim}
 use Rattle.console_core.specs.declared.selection.Sight.TheVariants as sight
-use Rattle.console_core.specs.declared.showing.Guide.{Guide}
-use Rattle.console_core.specs.Moves.{Under, alone, State, IsIdle, look_in, releases, with_lock_turned}
-use Rattle.console_core.specs.Sights.{Note, IsNoted, IsPendingFor, IsReachable, SeesAlong, SeesBy}
-use Rattle.console_core.specs.Sights.{selection_of}
-use Rattle.console_core.specs.Inner.Routes.{AreRoutesOf, GoesOn, IsMet, IsPlan, freed}
-use Rattle.console_core.specs.Inner.Searching.{state_of, under_of, Entry, Entries}
-use Rattle.console_core.specs.Inner.Standing.{free_after, Stands, unscrolled}
+use Rattle.console_core.specs.Answers.{usable}
+use Rattle.console_core.specs.History.{between, accent_pending_after}
+use Rattle.console_core.specs.Moves.{Under, alone, State, start, IsFree, IsIdle, look_in, with_lock_turned}
+use Rattle.console_core.specs.Planning.{AreTaken, Locks}
+use Rattle.console_core.specs.Sights.{IsPendingFor, IsReachable, SeesBy, selection_of}
+use Rattle.console_core.specs.Inner.Exploring.{map_of_explored, origin_in, IsExplored, IsTapAt, dead_tap}
+use Rattle.console_core.specs.Inner.Routes.{AreSettled, HasRoute, freed}
+use Rattle.console_core.specs.Inner.Searching.{state_of, Entry, Searched}
+use Rattle.console_core.specs.Inner.Standing.{Stands, unscrolled}
 
--- the keymap of a guide, and the states that were met
-abbrev pub map_of_guide : Guide → MapValue
-map_of_guide g = g.maps.first.now
-
-abbrev pub entries_of : Guide → Entries
-entries_of g = g.met.now.entries
-
-abbrev pub IsGuide : Guide → Type 0
-IsGuide g =
-    (under_of g.maps ≡ alone (map_of_guide g))
-    × AreRoutesOf (alone (map_of_guide g)) (entries_of g) g.routes.now.entries
-
--- a press of the key, its release unless it holds a modifier, and the releases of the keys that do were added
-abbrev pub IsLookOf : State → ℕ → List Event → List Event → Type 0
-IsLookOf s k old now =
-    (IsIdle s k × (now ≡ releases s (reverse modifiers) ++ Release k ∷ Press k ∷ old))
-    ⊎ ((IsIdle s k → ⊥) × (now ≡ releases s (reverse modifiers) ++ Press k ∷ old))
+-- The states were explored from the start, and these are all.
+abbrev pub IsWhole : Explored → Type 0
+IsWhole e = IsExplored e × (origin_in e ≡ start) × (e.is_complete ≡ true)
 
 -- all let go, and the lock was turned; the scroll lock, which picks no cell, is left out
 abbrev pub IsTurned : State → Lock → State → Type 0
@@ -47,39 +33,86 @@ IsAfter u s k t =
     ((l : Lock) × IsIdle s k × (look_in u s k ≡ Act (act.Lock l)) × IsTurned s l t)
     ⊎ (((l : Lock) → IsIdle s k → look_in u s k ≡ Act (act.Lock l) → ⊥) × (t ≡ freed s))
 
--- the events go from the state to the place and see what the key sees there; after a reset the console stands in the
--- other state
-pub record Visits (g : Guide) (from : State) (place k : ℕ) (h now : List Event) (after : State) : Type 0 where
-  pub met : IsMet (entries_of g) after
-  pub goes : (t : State) → Stands (alone (map_of_guide g)) h t → unscrolled t ≡ unscrolled from
-      → GoesOn (map_of_guide g) h now × (unscrolled (free_after (map_of_guide g) now) ≡ unscrolled after)
-  pub sees : (t : State) (x : Entry) (y : Sight) → Stands (alone (map_of_guide g)) h t → unscrolled t ≡ unscrolled from
-      → slice_get (entries_of g) place ≡ Some x → SeesBy (map_of_guide g) (selection_of (state_of x.0)) k y
-      → IsPendingFor (map_of_guide g) h y → SeesAlong (map_of_guide g) now y
+-- A press of the key and its release leave the state, but for the scroll lock: the key holds nothing, and looks up no
+-- modifier that is held and no lock but that one.
+abbrev pub IsSteady : Under → State → ℕ → Type 0
+IsSteady u s k =
+    (k < key_count) × IsIdle s k × ((i : Modifier) → look_in u s k ≡ Act (act.Mod i) → s.holder i ≡ None)
+    × ((l : Lock) → look_in u s k ≡ Act (act.Lock l) → l ≡ Scroll)
 
--- the plan goes on, and sees what it saw
-pub record GoesOnAsPlanned (g : Guide) (s : State) (h now : List Event) (after : State) : Type 0 where
-  pub met : IsMet (entries_of g) after
-  pub plan : IsPlan (map_of_guide g) (entries_of g) h s → IsPlan (map_of_guide g) (entries_of g) now after
-  pub kept : (x : Sight) → IsPlan (map_of_guide g) (entries_of g) h s → SeesAlong (map_of_guide g) h x
-      → SeesAlong (map_of_guide g) now x
+-- the key holds a modifier, and looks up an action: a press of it leaves the state
+abbrev pub IsRepeated : Under → State → ℕ → Type 0
+IsRepeated u s k = (IsIdle s k → ⊥) × ((b : Action) × (look_in u s k ≡ Act b))
 
-abbrev pub ShowsAt : Guide → State → ℕ → ℕ → List Event → List Event → State → Type 0
-ShowsAt g s place k h now after =
-    GoesOnAsPlanned g s h now after
-    × ((x : Entry) (y : Sight) → IsPlan (map_of_guide g) (entries_of g) h s → slice_get (entries_of g) place ≡ Some x
-    → SeesBy (map_of_guide g) (selection_of (state_of x.0)) k y → IsPendingFor (map_of_guide g) (Reset ∷ h) y
-    → SeesAlong (map_of_guide g) now y)
+-- Behind h the events, which are taken, led a console to a state that is this one but for the scroll lock.
+pub record IsAt (m : MapValue) (s : State) (h later : List Event) : Type 0 where
+  pub at : State
+  pub stands : Stands (alone m) (later ++ h) at
+  pub near : unscrolled at ≡ unscrolled s
+  pub taken : AreTaken h later
 
-abbrev pub ShowsPairAt : Guide → State → ℕ → ℕ → ℕ → List Event → List Event → State → Type 0
-ShowsPairAt g s accent place k h now after =
-    GoesOnAsPlanned g s h now after
-    × ((x : Entry) (c : ℕ) → IsPlan (map_of_guide g) (entries_of g) h s → slice_get (entries_of g) place ≡ Some x
-    → IsNoted (map_of_guide g) (Note.Offered accent)
-    → SeesBy (map_of_guide g) (selection_of (state_of x.0)) k (sight.Pair accent c)
-    → SeesAlong (map_of_guide g) now (sight.Pair accent c))
+-- wherever the first events lead a console to the one state, the second lead it to the other
+abbrev pub Leads : MapValue → State → State → List Event → List Event → Type 0
+Leads m s t old now = (h : List Event) → IsAt m s h old → IsAt m t h now
 
-abbrev pub Shows : Guide → State → Sight → List Event → List Event → State → Type 0
-Shows g s x h now after =
-    GoesOnAsPlanned g s h now after
-    × (IsPlan (map_of_guide g) (entries_of g) h s → IsReachable (map_of_guide g) x → SeesAlong (map_of_guide g) now x)
+-- and leave the accent that is pending
+abbrev pub LeadsOn : MapValue → State → State → List Event → List Event → Type 0
+LeadsOn m s t old now =
+    (h : List Event) → IsAt m s h old
+    → IsAt m t h now
+    × (accent_pending_after (between m m) (now ++ h) ≡ accent_pending_after (between m m) (old ++ h))
+
+-- and leave the accent pending, if none was before and it is usable
+abbrev pub LeadsComposing : MapValue → ℕ → State → State → List Event → List Event → Type 0
+LeadsComposing m accent s t old now =
+    (h : List Event) → IsAt m s h old
+    → IsAt m t h now
+    × (accent_pending_after (between m m) (old ++ h) ≡ None → usable m accent ≡ true
+    → accent_pending_after (between m m) (now ++ h) ≡ Some accent)
+
+-- and what can be seen of it is seen there by the press that sees it
+abbrev pub LeadsToSee : MapValue → Sight → State → State → List Event → List Event → Type 0
+LeadsToSee m x s t old now =
+    (h : List Event) → IsAt m s h old
+    → IsAt m t h now
+    × (accent_pending_after (between m m) (old ++ h) ≡ None → IsReachable m x → IsPendingFor m (now ++ h) x)
+
+-- In the state of the place a press of the key sees it, and leads to a state from which a route leads home.
+abbrev pub IsPressAt : Explored → Sight → KeyAt → State → Type 0
+IsPressAt e x at t =
+    (y : Entry) × (slice_get e.met.entries at.place ≡ Some y) × (at.key < key_count)
+    × SeesBy (map_of_explored e) (selection_of (state_of y.0)) at.key x
+    × IsAfter (alone (map_of_explored e)) (state_of y.0) at.key t × HasRoute e.routes.entries t
+
+-- at the place no press sees it, or one does that leads to where no route begins
+abbrev pub ShowsNot : Explored → Sight → Entry → Type 0
+ShowsNot e x y =
+    ((k : ℕ) → k < key_count → SeesBy (map_of_explored e) (selection_of (state_of y.0)) k x → ⊥)
+    ⊎ ((k : ℕ) × (t : State) × (k < key_count) × IsAfter (alone (map_of_explored e)) (state_of y.0) k t
+    × (HasRoute e.routes.entries t → ⊥))
+
+-- before a pair the dead key of its accent is tapped, and before nothing else
+abbrev pub IsDeadFor : Explored → Sight → Option KeyAt → Type 0
+IsDeadFor e (sight.Pair accent c) (Some at) = IsTapAt e (dead_tap accent) at.place at.key
+IsDeadFor e (sight.Pair accent c) None = ⊥
+IsDeadFor e (sight.Cell slot column) (Some at) = ⊥
+IsDeadFor e (sight.Cell slot column) None = Unit {0}
+IsDeadFor e (sight.Locks slot caps num) (Some at) = ⊥
+IsDeadFor e (sight.Locks slot caps num) None = Unit {0}
+
+abbrev pub IsAim : Explored → Aim → Type 0
+IsAim e a = IsPressAt e a.sight a.at (state_of a.next) × IsDeadFor e a.sight a.dead
+
+abbrev pub locks_in : State → Locks
+locks_in s = record { caps = s.is_locked Caps; num = s.is_locked Num; alt = s.is_locked Alt }
+
+abbrev pub sight_aimed : Option Aim → Option Sight
+sight_aimed None = None
+sight_aimed (Some a) = Some a.sight
+
+-- nothing is held and the first map is in force, and a route home begins
+abbrev pub IsRest : Explored → State → Type 0
+IsRest e s = IsFree s × (s.is_second ≡ false) × HasRoute e.routes.entries s
+
+abbrev pub IsPlanner : Explored → State → Option Aim → Type 0
+IsPlanner e s aim = IsWhole e × IsRest e s × IfSome aim (λ a. IsAim e a)

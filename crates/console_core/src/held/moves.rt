@@ -1,29 +1,31 @@
 //! Where presses, releases and loads lead from a state of the search, and what they are as events.
-ghost use Rattle.std.specs.Prelude.{◌≡◌, ◌≢◌, ◌<◌, ℕ, false, true, None, ◌||◌, ◌&&◌, ◌++◌, reverse, OnOk};
+ghost use Rattle.std.specs.Prelude.{◌≡◌, ◌<◌, ℕ, false, true, None, ◌||◌, ◌&&◌, ◌++◌, reverse, OnOk};
 ghost use Rattle.std.specs.Prelude.{MatchOption, IfSome};
 ghost use Rattle.keymap_core.specs.Borne.{is_borne};
 ghost use Rattle.keymap_core.specs.Actions.{modifiers};
 ghost use Rattle.keymap_core.specs.Numbers.{key_count};
 ghost use Rattle.keymap_core.specs.declared.action.Modifier.{Modifier as ModifierValue};
 ghost use Rattle.keymap_core.specs.declared.action.Modifier.TheVariants.{Meta};
-ghost use Rattle.keymap_core.specs.declared.action.Lock.TheVariants.{Caps, Num, Alt};
+ghost use Rattle.keymap_core.specs.declared.action.Lock.TheVariants.{Caps, Num, Scroll, Alt};
 ghost use Rattle.keymap_core.specs.declared.action.Lock.{Lock as LockValue};
 ghost use Rattle.keymap_core.specs.declared.action.Action.TheVariants.{DeadKey, Lock as LockAction};
 ghost use Rattle.keymap_core.specs.declared.entry.Cell.TheVariants.{Act};
 ghost use Rattle.console_core.specs.Moves.{Under, start as start_state, is_held as is_held_in, look_in, IsIdle};
 ghost use Rattle.console_core.specs.Moves.{map_in, next_map, exchanged as exchanged_in, IsFree};
 ghost use Rattle.console_core.specs.Moves.{with_holder as with_holder_in, with_lock_turned, HolderForgets};
-ghost use Rattle.console_core.specs.Moves.{IsForgetful, events_of_move, releases};
+ghost use Rattle.console_core.specs.Moves.{IsForgetful, events_of_move, releases, Holds, IsMove, moved};
+ghost use Rattle.console_core.specs.declared.held.Move.TheVariants.{Exchange as ExchangeMove};
 ghost use Rattle.console_core.specs.Sights.{selection_of, Offers};
 ghost use Rattle.console_core.specs.Returning.{IsHome};
-ghost use Rattle.console_core.specs.Inner.Searching.{state_of, under_of, Entries, IsMetBy, IsLetGoMet};
-ghost use Rattle.console_core.specs.Inner.Searching.{IsExchangeMet, ArePressesMet, IsStep};
+ghost use Rattle.console_core.specs.Inner.Searching.{state_of, under_of, StepsTo, PressesLead, IsStep};
 ghost use Rattle.console_core.specs.Inner.Routes.{freed};
+ghost use Rattle.console_core.specs.Inner.Showing.{IsRepeated, IsSteady};
 ghost use Rattle.console_core.specs.Inner.HeldBytes.{holder_number, bytes_of, held-equal, bool_equal, same-bytes};
 
 use super::{Held, Keymaps, Move, Step};
 use crate::event::Event;
 use crate::selection::Selection;
+use crate::translator::Translator;
 use keymap_core::{
     Action, Cell, Holding, KEY_COUNT, KeyCode, KeyMap, Lock, MODIFIERS, Modifier, key_with,
 };
@@ -69,6 +71,23 @@ impl Held {
         Held {
             holders: [None; 8],
             locks: [false; 4],
+            is_second: false,
+        }
+    }
+
+    /// The state in which no key holds a modifier and the locks of the console are on.
+    pub fn free<T: Translator>(console: &T) -> Held
+        ensures off { (state_of result).is_locked Scroll ≡ false }
+        ensures first { (state_of result).is_second ≡ false }
+    {
+        Held {
+            holders: [None; 8],
+            locks: [
+                console.locked(Lock::Caps),
+                console.locked(Lock::Num),
+                false,
+                console.locked(Lock::Alt),
+            ],
             is_second: false,
         }
     }
@@ -320,6 +339,30 @@ impl Held {
         }
     }
 
+    /// Whether the key holds a modifier and looks up an action, so that one more press of it leaves the state.
+    pub fn is_repeated(&self, maps: &Keymaps, key: KeyCode) -> bool
+        ensures { result ≡ true → IsRepeated (under_of maps.now) (state_of self.now) key }
+    {
+        match self.look(maps, key) {
+            Cell::Act(_) => self.holds(key),
+            Cell::Char(_) => false,
+        }
+    }
+
+    /// Whether a press of the key and its release leave the state, but for the scroll lock.
+    pub fn is_steady(&self, maps: &Keymaps, key: KeyCode) -> bool
+        ensures { result ≡ true → IsSteady (under_of maps.now) (state_of self.now) key }
+    {
+        if self.holds(key) {
+            return false;
+        }
+        match self.look(maps, key) {
+            Cell::Act(Action::Mod(modifier)) => !self.is_held(modifier),
+            Cell::Act(Action::Lock(lock)) => lock == Lock::Scroll,
+            _ => true,
+        }
+    }
+
     /// No key holds a modifier any more.
     pub fn freed(&self) -> Held
         ensures { state_of result ≡ freed (state_of self.now) }
@@ -333,8 +376,8 @@ impl Held {
 
     /// Where letting go of the modifier leads.
     pub fn let_go(&self, modifier: Modifier) -> Option<Step>
-        ensures met { (es : Entries) (p : ℕ) → IfSome result (λ x. IsMetBy es p (state_of x.to))
-            → IsLetGoMet es p (state_of self.now) modifier }
+        ensures leads { (k : ℕ) → Holds (state_of self.now) k modifier
+            → StepsTo result (with_holder_in (state_of self.now) modifier None) }
         ensures step { (u : Under) → IfSome result (IsStep u (state_of self.now) 0) }
     {
         match self.holder(modifier) {
@@ -349,8 +392,8 @@ impl Held {
     /// Where a load of the other keymap leads, while no key holds a modifier. A load at other times leads where it does
     /// once the holders let go.
     pub fn exchange(&self, maps: &Keymaps) -> Option<Step>
-        ensures met { (es : Entries) (p : ℕ) → IfSome result (λ x. IsMetBy es p (state_of x.to))
-            → IsExchangeMet (under_of maps.now) es p (state_of self.now) }
+        ensures leads { IsMove (under_of maps.now) (state_of self.now) ExchangeMove
+            → StepsTo result (moved (under_of maps.now) (state_of self.now) ExchangeMove) }
         ensures step { IfSome result (IsStep (under_of maps.now) (state_of self.now) 0) }
     {
         if maps.has_loads && self.is_free() {
@@ -365,8 +408,7 @@ impl Held {
 
     /// Where a press of the key leads, with its release if it turns a lock.
     pub fn pressed(&self, maps: &Keymaps, key: KeyCode) -> Option<Step>
-        ensures met { (es : Entries) (p : ℕ) → IfSome result (λ x. IsMetBy es p (state_of x.to))
-            → ArePressesMet (under_of maps.now) es p (state_of self.now) key }
+        ensures leads { PressesLead (under_of maps.now) (state_of self.now) key (StepsTo result) }
         ensures step { IfSome result (IsStep (under_of maps.now) (state_of self.now) 1) }
     {
         match self.look(maps, key) {

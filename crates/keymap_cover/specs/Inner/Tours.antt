@@ -1,18 +1,21 @@
 -- A script while it is made. Mirrors src/noting.rt, src/walk.rt and src/cover.rt.
-use Rattle.std.specs.Prelude.{◌≡◌, ◌⊎◌, ℕ, ◌<◌, Bool, true, false, List, ◌∷◌, ◌++◌, Option, Some, reverse}
+use Rattle.std.specs.Prelude.{◌≡◌, ◌⊎◌, ℕ, ◌<◌, Bool, true, false, List, [], ◌∷◌, ◌++◌, Option, Some, reverse}
 use Rattle.std.specs.Prelude.{slice_index_or}
 use Rattle.std.specs.List.{Contains}
 use Rattle.keymap_core.specs.Maps.{MapValue}
 use Rattle.keymap_core.specs.Numbers.{key_count}
 use Rattle.console_core.specs.declared.event.Event.{Event}
+use Rattle.console_core.specs.declared.event.Event.TheVariants.{Release}
+use Rattle.keymap_core.specs.declared.action.Lock.{Lock}
 use Rattle.console_core.specs.declared.selection.Sight.{Sight}
 use Rattle.keymap_core.specs.declared.entry.Cell.TheVariants.{Char}
 use Rattle.console_core.specs.declared.selection.Selection.{Selection}
 use Rattle.console_core.specs.declared.selection.Sight.TheVariants as sight
-use Rattle.console_core.specs.History.{Maps, between, HasKeys, HasNoLoads, IsNoLoad}
+use Rattle.console_core.specs.History.{Maps, between, is_locked_after, pressed, HasKeys, IsNoLoad}
+use Rattle.console_core.specs.Planning.{AreTaken, HasLocks, Planned}
 use Rattle.console_core.specs.Returning.{NoTurnIsOneWay}
 use Rattle.console_core.specs.Sights.{look_selected, SeesNext, SeesAlong, IsReachable}
-use Rattle.console_core.specs.Sticking.{IsOfPressedKey, ReleasesPressedKeys}
+use Rattle.console_core.specs.Sticking.{IsOfPressedKey}
 use Rattle.keymap_cover.specs.declared.stroke.Stroke.{Stroke}
 use Rattle.keymap_cover.specs.declared.tour.Tour.{Tour}
 use Rattle.keymap_cover.specs.Strokes.{events_of, is_down, ArePossible}
@@ -75,49 +78,82 @@ GoesIfTaken m e stood before stands t =
     (h : List Event) → RunsAlong m stood h before
     → (g : List Event) × RunsAlong m stands g t × ComesAfter h g × (IsNoLoad e → IsOfPressedKey e h → g ≡ e ∷ h)
 
--- it runs along by some events more
+-- the events of the one list came after the other, and turned no lock
+abbrev pub TurnsNone : MapValue → List Event → List Event → Type 0
+TurnsNone m h g =
+    ComesAfter h g × ((l : Lock) → is_locked_after (between m m) l g ≡ is_locked_after (between m m) l h)
+
+-- it runs along by the release of the key, or not at all where that isn't pressed
+abbrev pub GoesUp : MapValue → ℕ → (Maps → List Event → Type 0) → Tour → (Maps → List Event → Type 0) → Tour → Type 0
+GoesUp m k stood before stands t =
+    (h : List Event) → RunsAlong m stood h before
+    → (g : List Event) × RunsAlong m stands g t × TurnsNone m h g × (pressed k h ≡ true → g ≡ Release k ∷ h)
+
+-- it runs along by some events more, that turn no lock
 abbrev pub GoesOn : MapValue → (Maps → List Event → Type 0) → Tour → (Maps → List Event → Type 0) → Tour → Type 0
 GoesOn m stood before stands t =
-    (h : List Event) → RunsAlong m stood h before → (g : List Event) × RunsAlong m stands g t × ComesAfter h g
+    (h : List Event) → RunsAlong m stood h before → (g : List Event) × RunsAlong m stands g t × TurnsNone m h g
 
 -- and comes to rest
 abbrev pub GoesToRest : MapValue → (Maps → List Event → Type 0) → Tour → (Maps → List Event → Type 0) → Tour → Type 0
 GoesToRest m stood before stands t =
     (h : List Event) → RunsAlong m stood h before
-    → (g : List Event) × RunsAlong m stands g t × ComesAfter h g × IsAtRest m g
+    → (g : List Event) × RunsAlong m stands g t × TurnsNone m h g × IsAtRest m g
 
--- no loads, and releases of pressed keys alone
-abbrev pub IsTaken : List Event → Type 0
-IsTaken h = HasNoLoads h × ReleasesPressedKeys h
-
--- it runs along by exactly these events, if there are no loads and releases of pressed keys alone
+-- it runs along by some events more, which are exactly these if they are taken
 abbrev pub GoesAlong : MapValue → List Event → (Maps → List Event → Type 0) → Tour → (Maps → List Event → Type 0) → Tour
     → Type 0
 GoesAlong m later stood before stands t =
     (h : List Event) → RunsAlong m stood h before
-    → (g : List Event) × RunsAlong m stands g t × (IsTaken (later ++ h) → g ≡ later ++ h)
+    → (g : List Event) × RunsAlong m stands g t × ComesAfter h g × (AreTaken h later → g ≡ later ++ h)
 
--- the same, and it comes to rest by some events more
+-- the same, and it comes to rest by some events more, that turn no lock
 abbrev pub GoesAlongToRest : MapValue → List Event → (Maps → List Event → Type 0) → Tour
     → (Maps → List Event → Type 0) → Tour → Type 0
 GoesAlongToRest m later stood before stands t =
     (h : List Event) → RunsAlong m stood h before
-    → (g : List Event) × RunsAlong m stands g t × IsAtRest m g × (IsTaken (later ++ h) → ComesAfter (later ++ h) g)
+    → (g : List Event) × RunsAlong m stands g t × IsAtRest m g × ComesAfter h g
+    × (AreTaken h later → TurnsNone m (later ++ h) g)
+
+-- the console runs along by some events more, and comes to rest
+abbrev pub GoesFurther : MapValue → (Maps → List Event → Type 0) → Tour → (Maps → List Event → Type 0) → Tour → Type 0
+GoesFurther m stood before stands t =
+    (h : List Event) → RunsAlong m stood h before
+    → (g : List Event) × RunsAlong m stands g t × IsAtRest m g × ComesAfter h g
 
 abbrev pub AreUp : List Bool → Type 0
 AreUp down = (k : ℕ) → k < key_count → slice_index_or down k false ≡ false
 
--- The tour of a new console that was handed these events: at its end no key is down, and it is at rest.
-abbrev pub IsTourAlong : MapValue → List Event → Tour → Type 0
-IsTourAlong m later t =
-    AreUp t.pressed
-    × ((g : List Event) × IsTourOf m g t × IsAtRest m g × (IsTaken later → ComesAfter later g))
+-- the console runs along a tour that is at rest with no key down
+abbrev pub IsResting : MapValue → (Maps → List Event → Type 0) → Tour → List Event → Type 0
+IsResting m stands t h = RunsAlong m stands h t × AreUp t.pressed × IsAtRest m h
+
+-- it goes on so by some events more
+abbrev pub GoesResting : MapValue → (Maps → List Event → Type 0) → Tour → (Maps → List Event → Type 0) → Tour → Type 0
+GoesResting m stood before stands t =
+    (h : List Event) → IsResting m stood before h → (g : List Event) × IsResting m stands t g × ComesAfter h g
+
+-- The console runs along a tour that is at rest with no key down, and the planner's locks are on.
+pub record IsUnderWay (m : MapValue) (stands : Maps → List Event → Type 0) (p : Planned) (t : Tour) (h : List Event)
+    : Type 0 where
+  pub runs : RunsAlong m stands h t
+  pub up : AreUp t.pressed
+  pub rest : IsAtRest m h
+  pub map : p.map ≡ m
+  pub locks : HasLocks m p.locks h
+
+-- it goes on so by some events more, and then this holds
+abbrev pub GoesUnderWay : MapValue → (Maps → List Event → Type 0) → Planned → Tour → (Maps → List Event → Type 0)
+    → Planned → Tour → Type 0 → Type 0
+GoesUnderWay m stood p before stands q t P =
+    (h : List Event) → IsUnderWay m stood p before h
+    → (g : List Event) × IsUnderWay m stands q t g × ComesAfter h g × P
 
 -- a tour of which no key is down at the end, and which is at rest
 abbrev pub EndsAtRest : MapValue → Tour → Type 0
 EndsAtRest m t = AreUp t.pressed × ((h : List Event) × IsTourOf m h t × IsAtRest m h)
 
--- if no turn of a lock is one-way, it sees what of these can be seen
+-- if no turn of a lock is one-way, what of these can be seen was seen
 abbrev pub SeesAll : MapValue → List Sight → Tour → Type 0
 SeesAll m xs t =
     NoTurnIsOneWay m → (x : Sight) → Contains xs x → IsReachable m x → has_seen t.seen x ≡ true
@@ -126,3 +162,7 @@ SeesAll m xs t =
 abbrev pub LeavesNothingOut : MapValue → Tour → Type 0
 LeavesNothingOut m t =
     NoTurnIsOneWay m → (x : Sight) → IsTold m x → IsReachable m x → has_seen t.seen x ≡ true
+
+-- the planner is of the map, and no locks are on
+abbrev pub IsPlanFor : MapValue → Planned → Type 0
+IsPlanFor m p = (p.map ≡ m) × HasLocks m p.locks []

@@ -1,8 +1,7 @@
 -- What a reader that stands in a text makes of the bytes to come. Mirrors `Reading` of src/reading.rt.
 use Rattle.keymap_core.specs.Maps.{MapValue}
 use Rattle.std.specs.Prelude.{◌≡◌, ℕ, ◌+◌, ◌<◌, ◌≤◌, Bool, true, List, [], ◌++◌, length, take, drop, Result, Ok, Err}
-use Rattle.std.specs.Prelude.{◌==◌}
-use Rattle.std.specs.Prelude.{count_by}
+use Rattle.std.specs.Prelude.{◌==◌, count_by}
 use Rattle.keymap_text.specs.Types.{TextFault}
 use Rattle.keymap_text.specs.declared.reading.Reading.{Reading}
 use Rattle.keymap_text.specs.Lexical.{tokens_after}

@@ -1,7 +1,6 @@
 -- What taking bytes in front of a text does to what is made of the text. Mirrors src/scanner.rt.
 use Rattle.std.specs.Prelude.{◌≡◌, ℕ, Bool, ◌+◌, ◌<◌, ◌≤◌, true, false, List, [], ◌∷◌, ◌++◌, length, take, drop, Result}
-use Rattle.std.specs.Prelude.{Ok, Err}
-use Rattle.std.specs.Prelude.{◌⊎◌, ◌-◌}
+use Rattle.std.specs.Prelude.{Ok, Err, ◌⊎◌, ◌-◌}
 use Rattle.keymap_core.specs.Maps.{MapValue}
 use Rattle.keymap_text.specs.Types.{TextFaultKind, Item, Word}
 use Rattle.keymap_text.specs.declared.grammar.Grammar.{Grammar}

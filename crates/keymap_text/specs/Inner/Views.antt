@@ -16,8 +16,7 @@ use Rattle.keymap_core.specs.Maps.{MapValue, undefined}
 use Rattle.keymap_core.specs.Numbers.{column_count, accent_limit, pair_limit}
 use Rattle.keymap_text.specs.Inner.Grammar as spec
 use Rattle.keymap_text.specs.Places.{RowPlace, AtDefinition, AtCell, AtLock, AtAccentCharacter, AfterPairs, AtBase}
-use Rattle.keymap_text.specs.Places.{AtResult}
-use Rattle.keymap_text.specs.Places.{AtPairEnd}
+use Rattle.keymap_text.specs.Places.{AtResult, AtPairEnd}
 
 abbrev pub front_view : Front → lexical.Front
 front_view (fronts.Found kind n) = lexical.Found kind n

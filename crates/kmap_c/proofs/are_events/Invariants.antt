@@ -1,4 +1,4 @@
-use Rattle.std.proofs.Common.{◌≡◌, drop}
+use Rattle.kmap_c.proofs.Common.{◌≡◌, drop}
 use Rattle.kmap_c.specs.Numbers.{are_events}
 use Rattle.kmap_c.proofs.are_events.Given as goal
 

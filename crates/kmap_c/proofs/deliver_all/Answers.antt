@@ -1,9 +1,6 @@
-use Rattle.std.proofs.Common.{◌≡◌, ◌∙◌, ◌++◌, ◌∷◌, [], ◌+◌, List, ℕ, ap, length, take, arith}
-use Rattle.std.specs.Prelude.{map}
+use Rattle.kmap_c.proofs.Common.{◌∙◌, ◌++◌, ◌∷◌, [], List, ℕ, ap, length, take, arith, map, raw_of, event_of}
 use Rattle.std.proofs.lemmas.List.{take_more_set, length-set, drop-set-lt}
-use Rattle.console_core.specs.Raw.{raw_of}
 use Rattle.console_core.proofs.Deliveries.{reverse-push}
-use Rattle.kmap_c.specs.Numbers.{event_of}
 use Rattle.kmap_c.proofs.Delivered.{events-push, answers-push}
 use Rattle.kmap_c.proofs.deliver_all.Goals as goal
 
@@ -12,9 +9,7 @@ loop-index-preserved g c =
     let i = c.loop-index.index in
     let numbers = c.args.events.now in
     let es = map event_of (take c.loop-index.index c.args.events.now) in
-    let more : map event_of (take (c.loop-index.index + 1) c.args.events.now)
-    ≡ map event_of (take c.loop-index.index c.args.events.now) ++ c.event_of.result ∷ [] =
-    events-push numbers i c.event_of.result c.event_of.ensures c.loop-index-test.true in
+    let more = events-push numbers i c.event_of.result c.event_of.ensures c.loop-index-test.true in
     record {
       long = length-set c.loop-index.answers i c.raw.result ∙ c.loop-index.invariant.long;
       rest =

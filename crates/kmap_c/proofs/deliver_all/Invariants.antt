@@ -1,10 +1,5 @@
-use Rattle.std.proofs.Common.{◌≡◌, ◌++◌, List, length, take, drop}
-use Rattle.std.specs.Prelude.{map, reverse}
-use Rattle.console_core.specs.declared.event.Event.{Event}
-use Rattle.console_core.specs.History.{Maps, answers_to}
-use Rattle.console_core.specs.Packed.{KeptAt}
-use Rattle.console_core.specs.Raw.{raw_of}
-use Rattle.kmap_c.specs.Numbers.{event_of}
+use Rattle.kmap_c.proofs.Common.{◌≡◌, ◌++◌, List, length, take, drop, map, reverse, Event, Maps, answers_to, KeptAt}
+use Rattle.kmap_c.proofs.Common.{raw_of, event_of}
 use Rattle.kmap_c.proofs.deliver_all.Given as goal
 
 -- The events so far are delivered, and their answers in place; the places past the events are as they were.

@@ -1,4 +1,5 @@
-use Rattle.std.proofs.Common.{refl, inl, inr}
+use Rattle.kmap_c.proofs.Common.{refl}
+use Rattle.std.proofs.Common.{inl, inr}
 use Rattle.kmap_c.proofs.Faulty.{unfaulty}
 use Rattle.kmap_c.proofs.kmap_accepts.Goals as goal
 

@@ -1,9 +1,7 @@
-use Rattle.std.proofs.Common.{◌≡◌, ◌∙◌, ap, sym, subst, refl, List, ℕ}
-use Rattle.std.specs.Prelude.{pos, negsuc}
+use Rattle.kmap_c.proofs.Common.{◌≡◌, ◌∙◌, ap, sym, subst, refl, List, ℕ, pos, negsuc, IsSaid}
 use Rattle.std.proofs.lemmas.Option.{same_Some}
 use Rattle.keymap_core.specs.Actions.{name_of, action_of}
 use Rattle.keymap_core.proofs.CodeLaws.{code-read, action-has_code}
-use Rattle.kmap_c.specs.Sentences.{IsSaid}
 use Rattle.kmap_c.proofs.kmap_action_name.Goals as goal
 
 pub returns-in-Some-clause-said : goal.returns-in-Some-clause-said

@@ -1,4 +1,4 @@
-use Rattle.std.proofs.Common.{◌≡◌, ◌∙◌}
+use Rattle.kmap_c.proofs.Common.{◌∙◌}
 use Rattle.kmap_c.proofs.NoBits.{up_down}
 use Rattle.kmap_c.proofs.KindNumbers.{no_table_sentence}
 use Rattle.kmap_c.proofs.kmap_fault_words.Goals as goal

@@ -1,7 +1,5 @@
-use Rattle.std.proofs.Common.{◌≡◌, ◌∙◌, ◌++◌, ap, sym, subst, refl, List, ℕ}
-use Rattle.std.specs.Prelude.{pos, negsuc}
-use Rattle.keymap_core.specs.declared.action.Holding.{Holding}
-use Rattle.kmap_c.specs.Sentences.{IsSaid, finding_sentence}
+use Rattle.kmap_c.proofs.Common.{◌≡◌, ◌∙◌, ◌++◌, ap, sym, subst, refl, List, ℕ, pos, negsuc, Holding, IsSaid}
+use Rattle.kmap_c.specs.Sentences.{finding_sentence}
 use Rattle.kmap_c.proofs.KindNumbers.{one_holding}
 use Rattle.kmap_c.proofs.kmap_finding_words.Goals as goal
 

@@ -1,7 +1,4 @@
-use Rattle.std.proofs.Common.{sym, ◌∙◌, arith}
-use Rattle.std.specs.Prelude.{map}
-use Rattle.console_core.specs.History.{between}
-use Rattle.kmap_c.specs.Numbers.{event_of}
+use Rattle.kmap_c.proofs.Common.{sym, ◌∙◌, arith, map, between, event_of}
 use Rattle.kmap_c.proofs.Calls.{held}
 use Rattle.kmap_c.proofs.NoBits.{none-set, up_down}
 use Rattle.kmap_c.proofs.kmap_modifiers.Goals as goal

@@ -1,4 +1,4 @@
-use Rattle.console_core.specs.History.{between}
+use Rattle.kmap_c.proofs.Common.{between}
 use Rattle.kmap_c.proofs.kmap_start.Goals as goal
 
 pub returns-clause-begins : goal.returns-clause-begins

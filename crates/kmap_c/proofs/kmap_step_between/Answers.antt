@@ -1,8 +1,4 @@
-use Rattle.std.proofs.Common.{subst, ◌∷◌}
-use Rattle.std.specs.Prelude.{map}
-use Rattle.console_core.specs.History.{between}
-use Rattle.console_core.specs.Packed.{KeptAt}
-use Rattle.kmap_c.specs.Numbers.{event_of}
+use Rattle.kmap_c.proofs.Common.{subst, ◌∷◌, map, between, KeptAt, event_of}
 use Rattle.kmap_c.proofs.kmap_step_between.Goals as goal
 
 pub returns-clause-delivers : goal.returns-clause-delivers

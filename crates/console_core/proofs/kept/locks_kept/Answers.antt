@@ -1,4 +1,4 @@
-use Rattle.std.proofs.Common.{◌∙◌}
+use Rattle.console_core.proofs.Common.{◌∙◌}
 use Rattle.console_core.proofs.Bytes.{lock-bits}
 use Rattle.console_core.proofs.kept.locks_kept.Goals as goal
 

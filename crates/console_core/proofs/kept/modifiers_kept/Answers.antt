@@ -1,4 +1,4 @@
-use Rattle.std.proofs.Common.{◌∙◌}
+use Rattle.console_core.proofs.Common.{◌∙◌}
 use Rattle.console_core.specs.Types.{Mod}
 use Rattle.console_core.proofs.Bytes.{modifier-bits}
 use Rattle.console_core.proofs.kept.modifiers_kept.Goals as goal

@@ -1,4 +1,4 @@
-use Rattle.std.proofs.Common.{◌∙◌}
+use Rattle.console_core.proofs.Common.{◌∙◌}
 use Rattle.console_core.proofs.kept.pending_kept.Goals as goal
 
 pub returns-clause-value : goal.returns-clause-value

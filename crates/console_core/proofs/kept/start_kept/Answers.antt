@@ -1,5 +1,4 @@
-use Rattle.std.proofs.Common.{subst, sym, []}
-use Rattle.console_core.specs.Agrees.{StandsAt}
+use Rattle.console_core.proofs.Common.{subst, sym, [], StandsAt}
 use Rattle.console_core.proofs.Agreeing.{stands-start}
 use Rattle.console_core.proofs.kept.start_kept.Goals as goal
 

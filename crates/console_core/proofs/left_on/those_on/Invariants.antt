@@ -1,7 +1,4 @@
-use Rattle.std.proofs.Common.{◌≡◌, take, List}
-use Rattle.std.specs.Prelude.{filter}
-use Rattle.console_core.specs.Types.{Event}
-use Rattle.console_core.specs.History.{Maps, is_on_after}
+use Rattle.console_core.proofs.Common.{◌≡◌, take, List, filter, Event, Maps, is_on_after}
 use Rattle.console_core.proofs.left_on.those_on.Given as goal
 
 -- those that are on among the modifiers so far

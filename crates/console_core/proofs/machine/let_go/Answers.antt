@@ -1,4 +1,4 @@
-use Rattle.std.proofs.Common.{◌∙◌, sym}
+use Rattle.console_core.proofs.Common.{◌∙◌, sym}
 use Rattle.console_core.proofs.Keeping.{released-cleared}
 use Rattle.console_core.proofs.machine.let_go.Goals as goal
 

@@ -1,7 +1,5 @@
 -- no cell of the columns that were passed is moving
-use Rattle.std.proofs.Common.{ℕ, ◌<◌}
-use Rattle.keymap_core.specs.Maps.{cell_at}
-use Rattle.console_core.specs.Inner.Searching.{IsUnmoving}
+use Rattle.console_core.proofs.Common.{ℕ, ◌<◌, cell_at, IsUnmoving}
 use Rattle.console_core.proofs.moving_keys.moves_in_slot.Given as goal
 
 abbrev pub invariant-loop-cell : goal.invariant-loop-cell

@@ -1,4 +1,4 @@
-use Rattle.console_core.specs.Inner.Searching.{under_of}
+use Rattle.console_core.proofs.Common.{under_of}
 use Rattle.console_core.proofs.MovingKeys.{unmoving-key}
 use Rattle.console_core.proofs.moving_keys.moves_in_some.Goals as goal
 

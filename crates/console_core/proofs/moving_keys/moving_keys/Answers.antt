@@ -1,9 +1,7 @@
-use Rattle.std.proofs.Common.{[], ◌∷◌, ◌++◌, ap, ◌∙◌, refl, subst, arith}
-use Rattle.console_core.specs.Moves.{look_in}
-use Rattle.console_core.specs.Inner.Searching.{under_of, IsUnmoving}
+use Rattle.console_core.proofs.Common.{[], ◌∷◌, ◌++◌, ap, ◌∙◌, refl, subst, arith, look_in, under_of, IsUnmoving}
 use Rattle.console_core.proofs.MovingKeys.{moving-with, moving-without}
-use Rattle.console_core.proofs.moving_keys.moving_keys.Goals as goal
 use Rattle.console_core.proofs.moving_keys.moving_keys.Goals.{then-moves_in_some+in_ok-push, else-moves_in_some}
+use Rattle.console_core.proofs.moving_keys.moving_keys.Goals as goal
 
 pub loop-code-preserved : goal.loop-code-preserved
 loop-code-preserved c =

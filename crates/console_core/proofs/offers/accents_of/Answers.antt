@@ -1,23 +1,23 @@
-use Rattle.std.proofs.Common.{◌≡◌, length, subst, arith}
-use Rattle.console_core.specs.Inner.Searching.{under_of}
-use Rattle.console_core.specs.Inner.Noting.{AreAccentsTo}
-use Rattle.console_core.proofs.Noting.{accents-none, accents-more}
+use Rattle.console_core.proofs.Common.{◌≡◌, [], length, subst, arith, Adds, IsInSome, under_of, IsOfferedIn}
+use Rattle.console_core.proofs.Noting.{adds-none, adds-place, enumerates}
 use Rattle.console_core.proofs.offers.accents_of.Goals as goal
 
 pub loop-place-init : goal.loop-place-init
 loop-place-init c =
-    accents-none (under_of c.args.maps.now) c.args.met.now.entries c.new-accents.result.items
-    c.new-accents.ensures.items
+    adds-none _ [] c.new-accents.result.items c.new-accents.ensures.items (λ a (j, x, at, lt, is). omega (arith, lt))
 
 pub loop-place-preserved : goal.loop-place-preserved
 loop-place-preserved c =
-    accents-more (under_of c.args.maps.now) c.args.met.now.entries c.loop-place.place c.entry-held.result
-    c.loop-place.accents.items c.add_offers.new.accents.items c.entry-held.ensures c.loop-place.invariant
-    c.in_ok-add_offers.ensures
+    adds-place (λ a s. IsOfferedIn (under_of c.args.maps.now) s a) c.args.met.now.entries c.loop-place.place
+    c.entry-held.result c.loop-place.accents.items c.add_offers.new.accents.items c.entry-held.ensures
+    c.loop-place.invariant c.in_ok-add_offers.ensures
 
 pub returns : goal.returns
 returns c =
+    let u = under_of c.args.maps.now in
     let es = c.args.met.now.entries in
     let e : c.loop-place.place ≡ length es =
     omega (arith, c.loop-place-test.false, c.loop-place.auto.place-end, c.len-place-end.ensures.len) in
-    subst (λ n. AreAccentsTo (under_of c.args.maps.now) es n c.loop-place.accents.items) e c.loop-place.invariant
+    enumerates _ c.loop-place.accents.items
+    (subst (λ n. Adds (λ a. IsInSome es n (λ s. IsOfferedIn u s a)) [] c.loop-place.accents.items) e
+    c.loop-place.invariant)

@@ -1,6 +1,5 @@
-use Rattle.std.proofs.Common.{refl, sym}
-use Rattle.console_core.specs.Inner.Searching.{state_of, under_of}
-use Rattle.console_core.proofs.Noting.{offer-added, offer-none, unusable-none}
+use Rattle.console_core.proofs.Common.{refl, sym, state_of, under_of}
+use Rattle.console_core.proofs.Noting.{adds-none, offer-added, unusable-none}
 use Rattle.console_core.proofs.offers.add_offer.Goals as goal
 
 pub returns-in_ok-add_accent : goal.returns-in_ok-add_accent
@@ -14,11 +13,11 @@ pub returns-else-is_usable : goal.returns-else-is_usable
 returns-else-is_usable c =
     let u = under_of c.args.maps.now in
     let s = state_of c.args.held.now in
-    offer-none u s c.args.key c.args.accents.now.items
-    (unusable-none u s c.args.key c.in-Some.accent c.in-Some.ensures
-    (sym (c.if-is_usable.ensures c.args.maps.now.first.now refl)))
+    adds-none _ c.args.accents.now.items c.args.accents.now.items refl
+    (λ a (can, is). unusable-none u s c.args.key c.in-Some.accent c.in-Some.ensures
+    (sym (c.if-is_usable.ensures c.args.maps.now.first.now refl)) a can is)
 
 pub returns-in_default : goal.returns-in_default
 returns-in_default c =
-    offer-none (under_of c.args.maps.now) (state_of c.args.held.now) c.args.key c.args.accents.now.items
-    (λ a can is. c.in_default.ensures a is.0 is.1)
+    adds-none _ c.args.accents.now.items c.args.accents.now.items refl
+    (λ a (can, is). c.in_default.ensures a is.0 is.1)

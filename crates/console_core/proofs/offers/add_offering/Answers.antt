@@ -1,9 +1,7 @@
-use Rattle.std.proofs.Common.{◌≡◌, length, subst, arith}
-use Rattle.console_core.specs.Inner.Searching.{under_of}
-use Rattle.console_core.specs.Inner.Noting.{AreSeedsTo}
+use Rattle.console_core.proofs.Common.{◌≡◌, length, subst, arith, under_of, AreSeedsTo}
 use Rattle.console_core.proofs.Offering.{seeds-none, seeds-more, seeds-skip}
-use Rattle.console_core.proofs.offers.add_offering.Goals as goal
 use Rattle.console_core.proofs.offers.add_offering.Goals.{in-Some+in_ok-add_state-in-Some, in-None}
+use Rattle.console_core.proofs.offers.add_offering.Goals as goal
 
 pub loop-place-init : goal.loop-place-init
 loop-place-init c =

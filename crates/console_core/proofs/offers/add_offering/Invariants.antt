@@ -1,6 +1,5 @@
 -- those below the place were added
-use Rattle.console_core.specs.Inner.Searching.{under_of}
-use Rattle.console_core.specs.Inner.Noting.{AreSeedsTo}
+use Rattle.console_core.proofs.Common.{under_of, AreSeedsTo}
 use Rattle.console_core.proofs.offers.add_offering.Given as goal
 
 abbrev pub invariant-loop-place : goal.invariant-loop-place

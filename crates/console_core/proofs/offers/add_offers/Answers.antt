@@ -1,11 +1,10 @@
-use Rattle.std.proofs.Common.{◌≡◌, subst, arith}
-use Rattle.console_core.specs.Inner.Searching.{state_of, under_of}
-use Rattle.console_core.specs.Inner.Noting.{AddsOffer, AddsOffers}
-use Rattle.console_core.proofs.Noting.{offers-none, offers-more}
+use Rattle.console_core.proofs.Common.{◌≡◌, refl, subst, arith, state_of, under_of, AddsOffer, AddsOffers}
+use Rattle.console_core.proofs.Noting.{adds-none, offers-more}
 use Rattle.console_core.proofs.offers.add_offers.Goals as goal
 
 pub loop-code-init : goal.loop-code-init
-loop-code-init c = offers-none (under_of c.args.maps.now) (state_of c.args.held.now) c.args.accents.now.items
+loop-code-init c =
+    adds-none _ c.args.accents.now.items c.args.accents.now.items refl (λ a (can, (k, lt, is)). omega (arith, lt))
 
 pub loop-code-preserved : goal.loop-code-preserved
 loop-code-preserved c =

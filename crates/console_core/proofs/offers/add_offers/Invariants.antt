@@ -1,6 +1,5 @@
 -- the accents of the keys below the code were added
-use Rattle.console_core.specs.Inner.Searching.{state_of, under_of}
-use Rattle.console_core.specs.Inner.Noting.{AddsOffers}
+use Rattle.console_core.proofs.Common.{state_of, under_of, AddsOffers}
 use Rattle.console_core.proofs.offers.add_offers.Given as goal
 
 abbrev pub invariant-loop-code : goal.invariant-loop-code

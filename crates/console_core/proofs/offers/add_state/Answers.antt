@@ -1,9 +1,6 @@
-use Rattle.std.proofs.Common.{None, sym, ◌∙◌}
-use Rattle.std.proofs.lemmas.Bool.{eqb-true}
-use Rattle.indexmap.proofs.CallerLemmas.{insert_entry-new}
-use Rattle.console_core.specs.Inner.HeldBytes.{held-equal, bool_equal}
+use Rattle.console_core.proofs.Common.{None, sym, ◌∙◌, insert_entry-new}
 use Rattle.console_core.proofs.Offering.{state-new, state-old}
-use Rattle.console_core.proofs.Searching.{not_some, same-state}
+use Rattle.console_core.proofs.Searching.{not_some}
 use Rattle.console_core.proofs.offers.add_state.Goals as goal
 
 pub returns-in_ok-insert : goal.returns-in_ok-insert
@@ -15,5 +12,4 @@ returns-in_ok-insert c =
 
 pub returns-else-not-contains_key : goal.returns-else-not-contains_key
 returns-else-not-contains_key c =
-    state-old _ (λ x y e. same-state x y (held-equal _ _ (λ a b f. eqb-true a b f) (λ a b f. bool_equal a b f) x y e))
-    c.args.states.now.entries c.args.held (sym c.if-not-contains_key.ensures) c.requires
+    state-old c.args.states.now.entries c.args.held (sym c.if-not-contains_key.ensures) c.requires

@@ -1,8 +1,5 @@
-use Rattle.std.proofs.Common.{◌≤◌, ◌<◌, length, refl, subst, sym, arith}
-use Rattle.std.proofs.lemmas.Bool.{eq-eqb}
-use Rattle.console_core.specs.Inner.Searching.{state_of, under_of, HasMovingKeys}
+use Rattle.console_core.proofs.Common.{◌≤◌, ◌<◌, length, subst, sym, arith, state_of, under_of, HasMovingKeys}
 use Rattle.console_core.proofs.Offering.{added-within, behind-start, behind-step, behind-few}
-use Rattle.console_core.proofs.Reaching.{tables-test, beq-self}
 use Rattle.console_core.proofs.offers.behind.Goals as goal
 
 pub loop-place-init : goal.loop-place-init
@@ -29,8 +26,7 @@ loop-place-smaller c =
     let es = c.loop-place.states.entries in
     let met = c.args.met.now.entries in
     let few : length es ≤ length met =
-    behind-few _ (λ x y e. tables-test _ _ (λ a. eq-eqb a a refl) (λ b. beq-self b) x y e) (under_of c.args.maps.now)
-    c.args.accent met es c.requires.searched c.loop-place.invariant.seeds c.len.ensures.unique in
+    behind-few (under_of c.args.maps.now) c.args.accent met es c.requires.searched c.loop-place.invariant.seeds c.len.ensures.unique in
     let lt : c.loop-place.place < length es = omega (arith, c.loop-place-test.true, c.len.ensures.len) in
     omega (arith, few, lt)
 
@@ -39,8 +35,7 @@ loop-place-preserved c =
     behind-step (under_of c.args.maps.now) c.args.accent c.args.met.now.entries c.loop-place.states.entries
     c.meet_frees.new.met.entries c.meet_presses.new.met.entries c.loop-place.place c.entry-held.result
     c.loop-place.invariant c.entry-held.ensures c.in_ok-meet_frees.ensures.added
-    c.in_ok-meet_presses.ensures.added c.in_ok-meet_frees.ensures.met c.in_ok-meet_frees.ensures.exchanged
-    c.in_ok-meet_presses.ensures.met
+    c.in_ok-meet_presses.ensures.added c.in_ok-meet_frees.ensures.met c.in_ok-meet_presses.ensures.met
 
 pub returns : goal.returns
 returns c =

@@ -1,7 +1,5 @@
 -- where moves lead from the states below the place is among them
-use Rattle.std.proofs.Common.{◌-◌, length}
-use Rattle.console_core.specs.Inner.Searching.{under_of}
-use Rattle.console_core.specs.Inner.Noting.{AreBehindTo}
+use Rattle.console_core.proofs.Common.{◌-◌, length, under_of, AreBehindTo}
 use Rattle.console_core.proofs.offers.behind.Given as goal
 
 abbrev pub invariant-loop-place : goal.invariant-loop-place

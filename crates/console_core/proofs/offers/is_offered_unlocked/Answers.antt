@@ -1,5 +1,4 @@
-use Rattle.std.proofs.Common.{refl}
-use Rattle.console_core.specs.Inner.Searching.{state_of}
+use Rattle.console_core.proofs.Common.{refl, state_of}
 use Rattle.console_core.proofs.RoutesHome.{all-off}
 use Rattle.console_core.proofs.offers.is_offered_unlocked.Goals as goal
 

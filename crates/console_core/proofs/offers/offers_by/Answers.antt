@@ -1,6 +1,4 @@
-use Rattle.std.proofs.Common.{take, subst, sym, get_or}
-use Rattle.std.proofs.lemmas.List.{take_more}
-use Rattle.console_core.specs.Inner.Noting.{AreOffersOf}
+use Rattle.console_core.proofs.Common.{take, subst, sym, get_or, take_more, AreOffersOf}
 use Rattle.console_core.proofs.Offering.{offers-more}
 use Rattle.console_core.proofs.offers.offers_by.Goals as goal
 

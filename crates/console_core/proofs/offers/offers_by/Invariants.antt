@@ -1,6 +1,5 @@
 -- those of the accents below the place
-use Rattle.std.proofs.Common.{take}
-use Rattle.console_core.specs.Inner.Noting.{AreOffersOf}
+use Rattle.console_core.proofs.Common.{take, AreOffersOf}
 use Rattle.console_core.proofs.offers.offers_by.Given as goal
 
 abbrev pub invariant-loop-accent : goal.invariant-loop-accent

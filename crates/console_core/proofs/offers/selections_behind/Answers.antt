@@ -1,5 +1,5 @@
-use Rattle.std.proofs.Common.{◌≡◌, ◌++◌, refl, ap, subst, sym, ◌∙◌}
-use Rattle.console_core.specs.Inner.Noting.{IsOfferedUnlocked, AreBehind, AreSelectionsOf}
+use Rattle.console_core.proofs.Common.{◌≡◌, ◌++◌, refl, ap, subst, sym, ◌∙◌, IsOfferedUnlocked, AreBehind}
+use Rattle.console_core.proofs.Common.{AreSelectionsOf}
 use Rattle.console_core.proofs.Offering.{composing-all, composing-behind}
 use Rattle.console_core.proofs.Results.{ok-then}
 use Rattle.console_core.proofs.offers.selections_behind.Goals as goal

@@ -1,5 +1,4 @@
-use Rattle.std.proofs.Common.{◌≡◌, ◌+◌, ◌∷◌, ◌++◌, [], take, arith}
-use Rattle.std.proofs.lemmas.Grind.{common_steps}
+use Rattle.console_core.proofs.Common.{◌≡◌, ◌+◌, ◌∷◌, ◌++◌, [], take, arith, common_steps}
 use Rattle.console_core.proofs.Deliveries.{take_event, reverse-push}
 use Rattle.console_core.proofs.replays.deliver_all.Goals as goal
 

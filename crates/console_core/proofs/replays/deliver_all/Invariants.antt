@@ -1,7 +1,4 @@
-use Rattle.std.proofs.Common.{◌++◌, take, List}
-use Rattle.std.specs.Prelude.{reverse}
-use Rattle.console_core.specs.Types.{Event}
-use Rattle.console_core.specs.History.{Maps}
+use Rattle.console_core.proofs.Common.{◌++◌, take, List, reverse, Event, Maps}
 use Rattle.console_core.proofs.replays.deliver_all.Given as goal
 
 abbrev pub invariant-loop-event : goal.invariant-loop-event

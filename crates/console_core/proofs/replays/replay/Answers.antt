@@ -1,12 +1,10 @@
-use Rattle.std.proofs.Common.{◌≡◌, ◌+◌, ◌∷◌, ◌++◌, [], take, ap, subst, sym, ◌∙◌, arith}
-use Rattle.std.specs.Prelude.{reverse}
-use Rattle.std.proofs.lemmas.Grind.{common_steps}
+use Rattle.console_core.proofs.Common.{◌≡◌, ◌+◌, ◌∷◌, ◌++◌, [], take, ap, subst, sym, ◌∙◌, arith, reverse, common_steps}
+use Rattle.console_core.proofs.Common.{answers_to, HasKeys, is_locked_after}
 use Rattle.console_core.proofs.Headline.{on_only_while_pressed, on_exactly_while_pressed, off_once_quiet}
 use Rattle.console_core.proofs.Headline.{goes_on_as_after_reset, repeats-kept}
 use Rattle.console_core.proofs.FreshPresses.{locked_by_fresh_presses}
 use Rattle.console_core.proofs.PlainLooks.{shown-plain}
 use Rattle.console_core.proofs.Traps.{on_only_while_pressed_without_traps}
-use Rattle.console_core.specs.History.{answers_to, HasKeys, is_locked_after}
 use Rattle.console_core.proofs.Deliveries.{take_event, answers_to-push, reverse-push, reverse-joined}
 use Rattle.console_core.proofs.replays.replay.Goals as goal
 

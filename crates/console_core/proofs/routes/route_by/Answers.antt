@@ -1,12 +1,7 @@
-use Rattle.std.proofs.Common.{refl, subst, sym, ◌∙◌, ap, eqb, IfSome, option_copied}
-use mathlib.Core.Bool.{beq}
-use Rattle.std.proofs.lemmas.Bool.{eqb-true, eq-eqb}
-use Rattle.console_core.specs.Inner.HeldBytes.{held-equal, bool_equal}
-use Rattle.console_core.specs.Inner.Routes.{HasRoute, LeadsHome}
-use Rattle.console_core.specs.Inner.Searching.{state_of, IsStep}
-use Rattle.console_core.proofs.Reaching.{tables-test, beq-self}
-use Rattle.console_core.proofs.RoutesHome.{are_same, step-home, found-home, none-found}
-use Rattle.console_core.proofs.Searching.{same-state}
+use Rattle.console_core.proofs.Common.{subst, sym, ◌∙◌, ap, IfSome, option_copied, HasRoute, LeadsHome, state_of}
+use Rattle.console_core.proofs.Common.{IsStep}
+use Rattle.console_core.proofs.Entries.{found-by_state, none-found}
+use Rattle.console_core.proofs.RoutesHome.{step-home}
 use Rattle.console_core.proofs.routes.route_by.Goals as goal
 
 pub returns-in_ok-longer-in-Some-get-clause-home : goal.returns-in_ok-longer-in-Some-get-clause-home
@@ -16,12 +11,10 @@ returns-in_ok-longer-in-Some-get-clause-home c =
     let step : IsStep u s n x = subst (λ o. IfSome o (IsStep u s n)) c.in-Some.is is in
     subst (λ moves. LeadsHome u s moves) (sym c.in_ok-longer-in-Some-get.ensures)
     (step-home u s n x c.in-Some-get.route.now.moves.items step
-    (found-home _ (λ x y e. same-state x y (held-equal _ _ (λ a b f. eqb-true a b f) (λ a b f. bool_equal a b f) x y e))
-    u c.args.routes.now.entries x.to _ all (sym c.get.ensures.value ∙ ap option_copied c.in-Some-get.is)))
+    (found-by_state (λ t r. LeadsHome u t r.moves.items) c.args.routes.now.entries x.to _ all (sym c.get.ensures.value ∙ ap option_copied c.in-Some-get.is)))
 
 pub returns-in-None-get-clause-astray : goal.returns-in-None-get-clause-astray
 returns-in-None-get-clause-astray c =
     λ none.
     subst (λ o. IfSome o (λ x. HasRoute c.args.routes.now.entries (state_of x.to) → ⊥)) (sym c.in-Some.is)
-    (none-found are_same (λ x y e. tables-test eqb beq (λ a. eq-eqb a a refl) (λ b. beq-self b) x y e)
-    c.args.routes.now.entries c.in-Some.step.to (sym c.get.ensures.value ∙ ap option_copied c.in-None-get.is))
+    (none-found c.args.routes.now.entries c.in-Some.step.to (sym c.get.ensures.value ∙ ap option_copied c.in-None-get.is))

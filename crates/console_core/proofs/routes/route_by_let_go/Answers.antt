@@ -1,9 +1,5 @@
-use Rattle.std.proofs.Common.{◌<◌, IfSome, below_more, subst, refl, arith}
-use Rattle.std.specs.Prelude.{None}
-use Rattle.keymap_core.specs.Actions.{modifier_index}
-use Rattle.console_core.specs.Moves.{Holds, with_holder}
-use Rattle.console_core.specs.Inner.Routes.{HasRoute, LeadsHome}
-use Rattle.console_core.specs.Inner.Searching.{state_of}
+use Rattle.console_core.proofs.Common.{◌<◌, IfSome, below_more, subst, refl, arith, None, modifier_index, Holds}
+use Rattle.console_core.proofs.Common.{with_holder, HasRoute, LeadsHome, state_of}
 use Rattle.console_core.proofs.Places.{modifier_index-lt, modifier-at}
 use Rattle.console_core.proofs.RoutesHome.{let_go-astray, is-none}
 use Rattle.console_core.proofs.routes.route_by_let_go.Goals as goal
@@ -22,7 +18,7 @@ loop-modifier-preserved c =
     (λ i e k.
     subst (λ j. Holds s k j → HasRoute routes (with_holder s j None) → ⊥)
     (modifier-at i c.loop-modifier.modifier-index _ e)
-    (let_go-astray routes s _ c.let_go.result c.let_go.ensures.met
+    (let_go-astray routes s _ c.let_go.result c.let_go.ensures.leads
     (c.in_ok-route.ensures.astray (is-none _ c.in_default.not-Some)) k))
 
 pub returns-clause-astray : goal.returns-clause-astray

@@ -1,10 +1,6 @@
 -- letting go of none of the modifiers below the place leads to where a route begins
-use Rattle.std.proofs.Common.{◌≡◌, ◌<◌, ℕ, None}
+use Rattle.console_core.proofs.Common.{◌≡◌, ◌<◌, ℕ, None, modifier_index, Holds, with_holder, state_of, HasRoute}
 use Rattle.keymap_core.specs.declared.action.Modifier.{Modifier}
-use Rattle.keymap_core.specs.Actions.{modifier_index}
-use Rattle.console_core.specs.Moves.{Holds, with_holder}
-use Rattle.console_core.specs.Inner.Searching.{state_of}
-use Rattle.console_core.specs.Inner.Routes.{HasRoute}
 use Rattle.console_core.proofs.routes.route_by_let_go.Given as goal
 
 abbrev pub invariant-loop-modifier : goal.invariant-loop-modifier

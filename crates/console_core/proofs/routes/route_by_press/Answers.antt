@@ -1,6 +1,4 @@
-use Rattle.std.proofs.Common.{below_more, subst, IfSome}
-use Rattle.console_core.specs.Inner.Routes.{LeadsHome, NoPressLeads}
-use Rattle.console_core.specs.Inner.Searching.{state_of, under_of}
+use Rattle.console_core.proofs.Common.{below_more, subst, IfSome, LeadsHome, NoPressLeads, state_of, under_of}
 use Rattle.console_core.proofs.RoutesHome.{press-astray, is-none}
 use Rattle.console_core.proofs.routes.route_by_press.Goals as goal
 
@@ -18,5 +16,5 @@ loop-code-preserved c =
     let routes = c.args.routes.now.entries in
     below_more _ _ c.loop-code.invariant
     (subst (λ k. NoPressLeads u routes s k) c.key_with.ensures
-    (press-astray u routes s c.key_with.result c.pressed.result c.pressed.ensures.met
+    (press-astray u routes s c.key_with.result c.pressed.result c.pressed.ensures.leads
     (c.in_ok-route.ensures.astray (is-none _ c.in_default.not-Some))))

@@ -1,7 +1,5 @@
 -- a press of none of the keys below the code leads to where a route begins
-use Rattle.std.proofs.Common.{◌<◌, ℕ}
-use Rattle.console_core.specs.Inner.Searching.{state_of, under_of}
-use Rattle.console_core.specs.Inner.Routes.{NoPressLeads}
+use Rattle.console_core.proofs.Common.{◌<◌, ℕ, state_of, under_of, NoPressLeads}
 use Rattle.console_core.proofs.routes.route_by_press.Given as goal
 
 abbrev pub invariant-loop-code : goal.invariant-loop-code

@@ -1,6 +1,4 @@
-use Rattle.std.proofs.Common.{refl, subst, IfSome}
-use Rattle.console_core.specs.Inner.Routes.{LeadsHome}
-use Rattle.console_core.specs.Inner.Searching.{state_of, under_of}
+use Rattle.console_core.proofs.Common.{refl, subst, IfSome, LeadsHome, state_of, under_of}
 use Rattle.console_core.proofs.RoutesHome.{astray-when}
 use Rattle.console_core.proofs.routes.route_from.Goals as goal
 

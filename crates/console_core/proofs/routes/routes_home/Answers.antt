@@ -1,6 +1,4 @@
-use Rattle.std.proofs.Common.{◌≡◌, length, inl, inr, ap, sym, subst, arith}
-use Rattle.std.specs.List.{Contains}
-use Rattle.console_core.specs.Inner.Searching.{state_of}
+use Rattle.console_core.proofs.Common.{◌≡◌, length, inl, inr, ap, sym, subst, arith, Contains, state_of}
 use Rattle.console_core.proofs.routes.routes_home.Goals as goal
 
 pub returns-then-len-clause-all : goal.returns-then-len-clause-all

@@ -1,8 +1,6 @@
 -- a route begins at each state that was met, or it is among those that are left
-use Rattle.std.proofs.Common.{◌≡◌, ◌⊎◌, ℕ, length, slice_get, Some}
-use Rattle.std.specs.List.{Contains}
-use Rattle.console_core.specs.Inner.Searching.{state_of, under_of, Entry}
-use Rattle.console_core.specs.Inner.Routes.{AllLeadHome, HasRoute}
+use Rattle.console_core.proofs.Common.{◌≡◌, ◌⊎◌, ℕ, length, slice_get, Some, Contains, state_of, under_of, Entry}
+use Rattle.console_core.proofs.Common.{AllLeadHome, HasRoute}
 use Rattle.console_core.proofs.routes.routes_home.Given as goal
 
 abbrev pub invariant-loop-states : goal.invariant-loop-states

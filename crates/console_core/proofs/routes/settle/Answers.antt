@@ -1,9 +1,7 @@
-use Rattle.std.proofs.Common.{arith, subst, IfSome}
-use Rattle.console_core.specs.Inner.Routes.{LeadsHome}
-use Rattle.console_core.specs.Inner.Searching.{under_of, state_of}
+use Rattle.console_core.proofs.Common.{arith, subst, IfSome, LeadsHome, under_of, state_of}
 use Rattle.console_core.proofs.RoutesHome.{settled-new, settled-some, settled-none, settled-all}
-use Rattle.console_core.proofs.routes.settle.Goals as goal
 use Rattle.console_core.proofs.routes.settle.Goals.{in-Some+in_ok-add_route-in-Some, in-None+in_ok-push-in-None}
+use Rattle.console_core.proofs.routes.settle.Goals as goal
 
 pub loop-held-init : goal.loop-held-init
 loop-held-init c =

@@ -1,5 +1,5 @@
 -- what the states before the place led to
-use Rattle.console_core.specs.Inner.Searching.{under_of}
+use Rattle.console_core.proofs.Common.{under_of}
 use Rattle.console_core.proofs.RoutesHome.{Settled}
 use Rattle.console_core.proofs.routes.settle.Given as goal
 

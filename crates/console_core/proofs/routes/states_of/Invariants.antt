@@ -1,7 +1,5 @@
 -- the states below the place stand there
-use Rattle.std.proofs.Common.{◌≡◌, ◌<◌, ℕ, slice_get, Some}
-use Rattle.std.specs.List.{Contains}
-use Rattle.console_core.specs.Inner.Searching.{Entry}
+use Rattle.console_core.proofs.Common.{◌≡◌, ◌<◌, ℕ, slice_get, Some, Contains, Entry}
 use Rattle.console_core.proofs.routes.states_of.Given as goal
 
 abbrev pub invariant-loop-place : goal.invariant-loop-place

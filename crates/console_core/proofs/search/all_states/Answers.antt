@@ -1,8 +1,6 @@
-use Rattle.std.proofs.Common.{◌≡◌, false, subst, ap}
+use Rattle.console_core.proofs.Common.{subst, ap, start, under_of, origin_of, HasEnded}
 use Rattle.keymap_core.specs.declared.action.Lock.TheVariants.{Scroll}
 use Rattle.console_core.specs.declared.search.End.TheVariants as end
-use Rattle.console_core.specs.Moves.{start}
-use Rattle.console_core.specs.Inner.Searching.{under_of, origin_of, HasEnded}
 use Rattle.console_core.proofs.search.all_states.Goals as goal
 
 pub meet_all-requires-clause-scroll : goal.meet_all-requires-clause-scroll
@@ -12,16 +10,16 @@ pub returns-in-Complete : goal.returns-in-Complete
 returns-in-Complete c =
     let u = under_of c.args.maps.now in
     let es = c.meet_all.new.met.entries in
-    let ended : HasEnded u start false es end.Complete =
-    subst (λ s. HasEnded u s false es end.Complete) c.requires
-    (subst (λ o. HasEnded u (origin_of c.args.maps.now) false es o) c.in-Complete.is c.in_ok-meet_all.ensures) in
-    ended.0
+    let ended : HasEnded u start es end.Complete =
+    subst (λ s. HasEnded u s es end.Complete) c.requires
+    (subst (λ o. HasEnded u (origin_of c.args.maps.now) es o) c.in-Complete.is c.in_ok-meet_all.ensures) in
+    ended.2
 
 pub returns-in-TooMany : goal.returns-in-TooMany
 returns-in-TooMany c =
     let u = under_of c.args.maps.now in
     let es = c.meet_all.new.met.entries in
-    let ended : HasEnded u start false es (end.TooMany c.in-TooMany.field-0) =
-    subst (λ s. HasEnded u s false es (end.TooMany c.in-TooMany.field-0)) c.requires
-    (subst (λ o. HasEnded u (origin_of c.args.maps.now) false es o) c.in-TooMany.is c.in_ok-meet_all.ensures) in
-    (c.in-TooMany.field-0, ended.1)
+    let ended : HasEnded u start es (end.TooMany c.in-TooMany.field-0) =
+    subst (λ s. HasEnded u s es (end.TooMany c.in-TooMany.field-0)) c.requires
+    (subst (λ o. HasEnded u (origin_of c.args.maps.now) es o) c.in-TooMany.is c.in_ok-meet_all.ensures) in
+    (c.in-TooMany.field-0, ended.2.0)

@@ -1,12 +1,10 @@
 -- the states of the level below the place are closed
-use Rattle.std.proofs.Common.{◌≡◌, ◌≤◌, ◌-◌, true}
-use Rattle.console_core.specs.Inner.Searching.{under_of, origin_of, Searched, AreSafe, AreInOrder, Grows}
+use Rattle.console_core.proofs.Common.{◌≤◌, ◌-◌, under_of, origin_of, Searched, AreInOrder, Grows}
 use Rattle.console_core.proofs.search.close.Given as goal
 
 abbrev pub invariant-loop-place : goal.invariant-loop-place
 invariant-loop-place l = record {
   searched : Searched (under_of l.maps) (origin_of l.maps) l.met.entries l.level l.place;
-  safe : l.stops ≡ true → AreSafe (under_of l.maps) l.met.entries l.place;
   order : AreInOrder l.met.entries l.level l.presses;
   grown : Grows l.fn.met.entries l.met.entries;
   after : l.level ≤ l.place;

@@ -1,66 +1,56 @@
-use Rattle.std.proofs.Common.{true, refl, reverse, subst, ap}
+use Rattle.console_core.proofs.Common.{◌≡◌, reverse, subst, ap, slice_get_within, End, TooMany, Under, State, start}
+use Rattle.console_core.proofs.Common.{AreOnAfter, under_of, Entries, HasEnded}
 use Rattle.keymap_core.specs.declared.action.Lock.TheVariants.{Scroll}
-use Rattle.std.proofs.lemmas.Option.{slice_get_within}
-use Rattle.console_core.specs.declared.search.End.TheVariants as end
-use Rattle.console_core.specs.Moves.{start}
-use Rattle.console_core.specs.Sticking.{AreOnAfter}
-use Rattle.console_core.specs.Inner.Searching.{under_of, origin_of, HasEnded}
-use Rattle.console_core.proofs.Concluding.{searched-never, stuck-sticks}
+use Rattle.console_core.proofs.Concluding.{complete-never, none-late, stuck-sticks}
+use Rattle.console_core.proofs.Deciding.{sent-admitted, are-on-under}
 use Rattle.console_core.proofs.GoingBack.{searched-back}
 use Rattle.console_core.proofs.search.decide.Goals as goal
 
+-- the search begins at the start
+from-start : (u : Under) (o : State) (es : Entries) (end : End) → o ≡ start → HasEnded u o es end
+    → HasEnded u start es end
+from-start u o es end e ended = subst (λ s. HasEnded u s es end) e ended
+
+pub meet_all-requires-clause-scroll : goal.meet_all-requires-clause-scroll
+meet_all-requires-clause-scroll c = ap (λ s. s.is_locked Scroll) c.requires
+
 pub script-requires-clause-place : goal.script-requires-clause-place
 script-requires-clause-place c =
-    let u = under_of c.args.maps.now in
-    let es = c.meet_all.new.met.entries in
-    let ended : HasEnded u start true es (end.AtStuck c.in-AtStuck.stuck) =
-    subst (λ s. HasEnded u s true es (end.AtStuck c.in-AtStuck.stuck)) c.requires
-    (subst (λ o. HasEnded u (origin_of c.args.maps.now) true es o) c.in-AtStuck.is c.in_ok-stuck.ensures) in
-    slice_get_within es c.in-AtStuck.stuck.place ended.1.0 ended.1.1
+    slice_get_within c.meet_all.new.met.entries c.in-Some.stuck.place c.in-Some.ensures.0.0 c.in-Some.ensures.0.1
 
 pub script-requires-clause-back : goal.script-requires-clause-back
 script-requires-clause-back c =
-    let u = under_of c.args.maps.now in
-    let es = c.meet_all.new.met.entries in
-    let ended : HasEnded u start true es (end.AtStuck c.in-AtStuck.stuck) =
-    subst (λ s. HasEnded u s true es (end.AtStuck c.in-AtStuck.stuck)) c.requires
-    (subst (λ o. HasEnded u (origin_of c.args.maps.now) true es o) c.in-AtStuck.is c.in_ok-stuck.ensures) in
-    searched-back u es ended.2.0 ended.2.0 ended.2.3
+    searched-back (under_of c.args.maps.now) c.meet_all.new.met.entries 0 0 c.in_ok-end.ensures.0
 
-pub returns-in-AtStuck : goal.returns-in-AtStuck
-returns-in-AtStuck c =
+pub returns-in-Some : goal.returns-in-Some
+returns-in-Some c =
     let u = under_of c.args.maps.now in
     let es = c.meet_all.new.met.entries in
-    let ended : HasEnded u start true es (end.AtStuck c.in-AtStuck.stuck) =
-    subst (λ s. HasEnded u s true es (end.AtStuck c.in-AtStuck.stuck)) c.requires
-    (subst (λ o. HasEnded u (origin_of c.args.maps.now) true es o) c.in-AtStuck.is c.in_ok-stuck.ensures) in
-    let events = c.in_ok-events-in-AtStuck.events.items in
+    let stuck = c.in-Some.ensures in
     let left =
-    stuck-sticks u es ended.2.0 ended.2.1 c.in-AtStuck.stuck.place c.in-AtStuck.stuck.key ended.2.2 ended.2.3 ended.2.4
-    ended.1 (reverse events) (c.in_ok-events-in-AtStuck.ensures u) in (
+    stuck-sticks u es _ c.in-Some.stuck.place c.in-Some.stuck.key (from-start u _ es _ c.requires c.in_ok-end.ensures)
+    stuck.0 stuck.1 (reverse c.in_ok-events.events.items) (c.in_ok-events.ensures u) in
+    let h = reverse c.in_ok-events.events.items in (
       left.0,
       left.1,
-      subst (λ es. AreOnAfter u.maps (reverse es) c.in_ok-modifiers-in-AtStuck.modifiers.items)
-          c.as_slice.ensures.value c.in_ok-modifiers-in-AtStuck.ensures,
+      left.2,
+      are-on-under u h c.in_ok-modifiers.modifiers.items (sent-admitted u h left.0.1)
+          (subst (λ es. AreOnAfter u.maps (reverse es) c.in_ok-modifiers.modifiers.items) c.as_slice.ensures.value
+          c.in_ok-modifiers.ensures),
     )
 
 pub returns-in-Complete : goal.returns-in-Complete
 returns-in-Complete c =
     let u = under_of c.args.maps.now in
     let es = c.meet_all.new.met.entries in
-    let ended : HasEnded u start true es end.Complete =
-    subst (λ s. HasEnded u s true es end.Complete) c.requires
-    (subst (λ o. HasEnded u (origin_of c.args.maps.now) true es o) c.in-Complete.is c.in_ok-stuck.ensures) in
-    searched-never u es ended.0 (ended.1 refl)
-
-pub meet_all-requires-clause-scroll : goal.meet_all-requires-clause-scroll
-meet_all-requires-clause-scroll c = ap (λ s. s.is_locked Scroll) c.requires
+    let ended = from-start u _ es _ c.requires c.in_ok-end.ensures in
+    complete-never u es (subst (λ o. HasEnded u start es o) c.in-Complete.is ended) c.in_default.ensures
 
 pub returns : goal.returns
 returns c =
     let u = under_of c.args.maps.now in
     let es = c.meet_all.new.met.entries in
-    let ended : HasEnded u start true es (end.TooMany c.in-TooMany.presses) =
-    subst (λ s. HasEnded u s true es (end.TooMany c.in-TooMany.presses)) c.requires
-    (subst (λ o. HasEnded u (origin_of c.args.maps.now) true es o) c.in-TooMany.is c.in_ok-stuck.ensures) in
-    (ended.1, ended.2 refl refl)
+    let ended = from-start u _ es _ c.requires c.in_ok-end.ensures in
+    let told : HasEnded u start es (TooMany c.in-TooMany.presses) =
+    subst (λ o. HasEnded u start es o) c.in-TooMany.is ended in
+    (told.2.0, none-late u es c.in-TooMany.presses told c.in_default.ensures)

@@ -1,9 +1,6 @@
-use Rattle.std.proofs.Common.{◌≡◌, [], ◌∷◌, ◌++◌, Some, subst, sym, ◌∙◌, IfSome}
-use Rattle.std.proofs.lemmas.Bool.{eqb-true}
-use Rattle.indexmap.proofs.CallerLemmas.{insert_entry-new}
-use Rattle.console_core.specs.Inner.HeldBytes.{held-equal, bool_equal}
-use Rattle.console_core.specs.Inner.Searching.{state_of, IsStep, IsMetBy}
-use Rattle.console_core.proofs.Searching.{meet-new, meet-old, not_some, same-state}
+use Rattle.console_core.proofs.Common.{◌≡◌, [], ◌∷◌, ◌++◌, Some, subst, sym, ◌∙◌, IfSome, insert_entry-new, state_of}
+use Rattle.console_core.proofs.Common.{IsStep, IsMetBy}
+use Rattle.console_core.proofs.Searching.{meet-new, meet-old, not_some}
 use Rattle.console_core.proofs.search.meet.Goals as goal
 
 new_entries : (c : goal.In_ok-insert)
@@ -42,5 +39,4 @@ returns-in_ok-insert-clause-added c =
 pub returns-else-not-contains_key-clause-met : goal.returns-else-not-contains_key-clause-met
 returns-else-not-contains_key-clause-met c =
     subst (λ o. IfSome o (λ x. IsMetBy c.args.met.now.entries c.args.presses (state_of x.to))) (sym c.in-Some.is)
-    (meet-old _ (λ x y e. same-state x y (held-equal _ _ (λ a b f. eqb-true a b f) (λ a b f. bool_equal a b f) x y e))
-    c.args.met.now.entries c.args.presses c.in-Some.step.to (sym c.if-not-contains_key.ensures) c.requires)
+    (meet-old c.args.met.now.entries c.args.presses c.in-Some.step.to (sym c.if-not-contains_key.ensures) c.requires)

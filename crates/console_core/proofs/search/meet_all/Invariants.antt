@@ -1,12 +1,10 @@
 -- the states below the level are pressed and closed, and as many presses lead to the others
-use Rattle.std.proofs.Common.{◌≡◌, ◌≤◌, ◌-◌, true, length}
-use Rattle.console_core.specs.Inner.Searching.{under_of, origin_of, Searched, AreSafe, AreInOrder}
+use Rattle.console_core.proofs.Common.{◌≤◌, ◌-◌, length, under_of, origin_of, Searched, AreInOrder}
 use Rattle.console_core.proofs.search.meet_all.Given as goal
 
 abbrev pub invariant-loop-level : goal.invariant-loop-level
 invariant-loop-level l = record {
   searched : Searched (under_of l.maps) (origin_of l.maps) l.met.entries l.level l.level;
-  safe : l.stops ≡ true → AreSafe (under_of l.maps) l.met.entries l.level;
   order : AreInOrder l.met.entries l.level l.presses;
   below : l.level ≤ length l.met.entries;
   levels : l.presses ≤ l.level;

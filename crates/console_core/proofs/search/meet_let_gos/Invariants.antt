@@ -1,15 +1,13 @@
 -- what letting go of the modifiers below the place leads to was met
-use Rattle.std.proofs.Common.{◌≡◌, ◌<◌, ℕ}
+use Rattle.console_core.proofs.Common.{◌≡◌, ◌<◌, ℕ, None, modifier_index, Under, Holds, with_holder, state_of}
+use Rattle.console_core.proofs.Common.{AreWithin, AreAdded, IsMetBy}
 use Rattle.keymap_core.specs.declared.action.Modifier.{Modifier}
-use Rattle.keymap_core.specs.Actions.{modifier_index}
-use Rattle.console_core.specs.Moves.{Under}
-use Rattle.console_core.specs.Inner.Searching.{state_of, AreWithin, AreAdded, IsLetGoMet}
 use Rattle.console_core.proofs.search.meet_let_gos.Given as goal
 
 abbrev pub invariant-loop-modifier : goal.invariant-loop-modifier
 invariant-loop-modifier l = record {
   within : AreWithin l.met.entries l.presses;
-  met : (n : ℕ) → n < l.modifier-index → (i : Modifier) → modifier_index i ≡ n
-      → IsLetGoMet l.met.entries l.presses (state_of l.held) i;
+  met : (n : ℕ) → n < l.modifier-index → (i : Modifier) → modifier_index i ≡ n → (k : ℕ) → Holds (state_of l.held) k i
+      → IsMetBy l.met.entries l.presses (with_holder (state_of l.held) i None);
   added : (u : Under) → AreAdded u (state_of l.held) l.place 0 l.presses l.fn.met.entries l.met.entries;
 }

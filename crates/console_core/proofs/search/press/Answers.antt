@@ -1,6 +1,5 @@
-use Rattle.std.proofs.Common.{◌≤◌, ◌<◌, ◌+◌, [], length, sym, arith}
-use Rattle.std.proofs.lemmas.List.{append-nil}
-use Rattle.console_core.specs.Inner.Searching.{under_of, origin_of, Searched, AreInOrder, Grows}
+use Rattle.console_core.proofs.Common.{◌≤◌, ◌<◌, ◌+◌, [], length, sym, arith, append-nil, under_of, origin_of, Searched}
+use Rattle.console_core.proofs.Common.{AreInOrder, Grows}
 use Rattle.console_core.proofs.Searching.{press-step, order-next, searched-fewer}
 use Rattle.console_core.proofs.search.press.Goals as goal
 

@@ -1,6 +1,5 @@
 -- the states of the level below the place are pressed
-use Rattle.std.proofs.Common.{◌+◌, length}
-use Rattle.console_core.specs.Inner.Searching.{under_of, origin_of, Searched, AreInOrder, Grows}
+use Rattle.console_core.proofs.Common.{◌+◌, length, under_of, origin_of, Searched, AreInOrder, Grows}
 use Rattle.console_core.proofs.search.press.Given as goal
 
 abbrev pub invariant-loop-place : goal.invariant-loop-place

@@ -1,6 +1,5 @@
 -- the events of the moves before the place were added
-use Rattle.std.proofs.Common.{◌≡◌, ◌++◌, reverse, take}
-use Rattle.console_core.specs.Moves.{events_along}
+use Rattle.console_core.proofs.Common.{◌≡◌, ◌++◌, reverse, take, events_along}
 use Rattle.console_core.proofs.showing.push_moves.Given as goal
 
 abbrev pub invariant-loop-by : goal.invariant-loop-by

@@ -1,5 +1,5 @@
 -- none below the place is it
-use Rattle.std.proofs.Common.{◌≡◌, ◌<◌, ℕ, get_or}
+use Rattle.console_core.proofs.Common.{◌≡◌, ◌<◌, ℕ, get_or}
 use Rattle.console_core.proofs.sights.has_selection.Given as goal
 
 abbrev pub invariant-loop-noted : goal.invariant-loop-noted

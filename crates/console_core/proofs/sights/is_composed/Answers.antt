@@ -1,7 +1,4 @@
-use Rattle.std.proofs.Common.{◌&&◌, sym, arith, ◌∙◌}
-use Rattle.std.specs.Prelude.{◌==◌}
-use Rattle.std.proofs.lemmas.Bool.{true≢false}
-use Rattle.console_core.specs.Sights.{is_selected, is_composed}
+use Rattle.console_core.proofs.Common.{◌&&◌, sym, arith, ◌∙◌, ◌==◌, true≢false, is_selected, is_composed}
 use Rattle.console_core.proofs.Visible.{some-member, fails}
 use Rattle.console_core.proofs.sights.is_composed.Goals as goal
 

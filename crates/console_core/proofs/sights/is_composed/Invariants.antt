@@ -1,8 +1,5 @@
 -- none of the offers below the place passes
-use Rattle.std.proofs.Common.{◌≡◌, ◌<◌, ℕ, ◌&&◌, false, get_or}
-use Rattle.std.specs.Prelude.{◌==◌}
-use Rattle.console_core.specs.Types.{Offer}
-use Rattle.console_core.specs.Sights.{is_selected}
+use Rattle.console_core.proofs.Common.{◌≡◌, ◌<◌, ℕ, ◌&&◌, false, get_or, ◌==◌, Offer, is_selected}
 use Rattle.console_core.proofs.sights.is_composed.Given as goal
 
 abbrev pub invariant-loop-offer : goal.invariant-loop-offer

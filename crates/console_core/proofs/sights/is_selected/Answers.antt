@@ -1,6 +1,5 @@
-use Rattle.std.proofs.Common.{◌<◌, length, get_or, refl, subst, sym, arith, below_more, ◌∙◌}
-use Rattle.std.proofs.lemmas.List.{get_or_default}
-use Rattle.console_core.specs.Sights.{SeesBy, is_selected}
+use Rattle.console_core.proofs.Common.{◌<◌, length, get_or, refl, subst, sym, arith, below_more, ◌∙◌, get_or_default}
+use Rattle.console_core.proofs.Common.{SeesBy, is_selected}
 use Rattle.console_core.proofs.Visible.{selected-true, true-selected, fails}
 use Rattle.console_core.proofs.sights.is_selected.Goals as goal
 

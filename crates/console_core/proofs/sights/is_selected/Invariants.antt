@@ -1,8 +1,5 @@
 -- no press sees it under a selection below the place
-use Rattle.std.proofs.Common.{◌≡◌, ◌<◌, ℕ, get_or}
-use Rattle.keymap_core.specs.Numbers.{key_count}
-use Rattle.console_core.specs.Types.{Selection}
-use Rattle.console_core.specs.Sights.{SeesBy}
+use Rattle.console_core.proofs.Common.{◌≡◌, ◌<◌, ℕ, get_or, key_count, Selection, SeesBy}
 use Rattle.console_core.proofs.sights.is_selected.Given as goal
 
 abbrev pub invariant-loop-selection : goal.invariant-loop-selection

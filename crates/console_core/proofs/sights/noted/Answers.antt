@@ -1,8 +1,7 @@
-use Rattle.std.proofs.Common.{subst, sym}
-use Rattle.console_core.specs.Types.{Sights}
-use Rattle.console_core.specs.Moves.{IsForgetful}
-use Rattle.console_core.specs.Inner.Searching.{state_of}
-use Rattle.console_core.specs.Inner.Noting.{AreSelectionsOf}
+use Rattle.console_core.proofs.Common.{◌≡◌, ℕ, Option, Some, None, true, false, MatchOption, length, subst, sym, ◌∙◌}
+use Rattle.console_core.proofs.Common.{is_some, true≢false, Sights, Under, alone, AreSelectionsOf, Entries, AreSafe}
+use Rattle.console_core.proofs.Common.{IsStuck}
+use Rattle.console_core.specs.declared.search.Stuck.{Stuck}
 use Rattle.console_core.proofs.Offering.{sights-are}
 use Rattle.console_core.proofs.sights.noted.Goals as goal
 
@@ -10,18 +9,30 @@ pub offers_of-requires-clause-all : goal.offers_of-requires-clause-all
 offers_of-requires-clause-all c =
     subst (λ z. AreSelectionsOf c.args.met.now.entries z) (sym c.deref.ensures.value) c.in_ok-selections.ensures
 
+-- what the first place where a holder looks up a character says
+abbrev IsFirst : Under → Entries → Option Stuck → Type 0
+IsFirst u es o = MatchOption o (AreSafe u es (length es)) (λ x. IsStuck u es x.place x.key × AreSafe u es x.place)
+
+some-place : (u : Under) (es : Entries) (o : Option Stuck) → IsFirst u es o → is_some o ≡ true
+    → (j k : ℕ) × IsStuck u es j k
+some-place u es (Some x) (stuck, safe) e = (x.place, x.key, stuck)
+some-place u es None safe e = absurd (true≢false (sym e))
+
+no-place : (u : Under) (es : Entries) (o : Option Stuck) → IsFirst u es o → is_some o ≡ false
+    → AreSafe u es (length es)
+no-place u es (Some x) first e = absurd (true≢false e)
+no-place u es None safe e = safe
+
 pub returns : goal.returns
 returns c =
     let m = c.args.maps.now.first.now in
+    let es = c.args.met.now.entries in
     let x : Sights = record {
       selections = c.in_ok-selections.selections;
       offers = c.in_ok-offers.offers;
-      forgets = c.forgets_in.result;
+      forgets = c.is_some.result;
     } in
-    sights-are m c.args.met.now.entries x c.in_ok-offers.ensures.0 c.requires.1 c.in_ok-selections.ensures
-    c.in_ok-offers.ensures.1 c.in_ok-offers.ensures.2
-    (λ e.
-    let (j, z, at, is) = c.forgets_in.ensures.some e in
-    (j, z, at, subst (λ u. IsForgetful u (state_of z.0)) c.requires.0 is))
-    (λ e j z at is.
-    c.forgets_in.ensures.none e j z at (subst (λ u. IsForgetful u (state_of z.0)) (sym c.requires.0) is))
+    let first = subst (λ u. IsFirst u es c.first_stuck.result) c.requires.0 c.first_stuck.ensures in
+    sights-are m es x c.in_ok-offers.ensures.0 c.requires.1 c.in_ok-selections.ensures c.in_ok-offers.ensures.1
+    c.in_ok-offers.ensures.2 (λ e. some-place (alone m) es c.first_stuck.result first (sym c.is_some.ensures ∙ e))
+    (λ e. no-place (alone m) es c.first_stuck.result first (sym c.is_some.ensures ∙ e))

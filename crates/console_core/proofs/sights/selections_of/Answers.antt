@@ -1,21 +1,25 @@
-use Rattle.std.proofs.Common.{◌≡◌, length, subst, arith}
-use Rattle.console_core.specs.Inner.Noting.{IsWith, AreSelectionsTo}
-use Rattle.console_core.proofs.Noting.{selections-none, selections-more}
+use Rattle.console_core.proofs.Common.{◌≡◌, [], length, subst, arith, IsWith, Adds, IsInSome, selection_of}
+use Rattle.console_core.proofs.Noting.{adds-none, adds-one, adds-place, enumerates}
 use Rattle.console_core.proofs.sights.selections_of.Goals as goal
 
 pub loop-place-init : goal.loop-place-init
-loop-place-init c = selections-none c.args.met.now.entries c.new-selections.result.items c.new-selections.ensures.items
+loop-place-init c =
+    adds-none _ [] c.new-selections.result.items c.new-selections.ensures.items
+    (λ y (j, x, at, lt, is). omega (arith, lt))
 
 pub loop-place-preserved : goal.loop-place-preserved
 loop-place-preserved c =
     let old = c.loop-place.selections.items in
     let now = c.add_selection.new.selections.items in
-    selections-more c.args.met.now.entries c.loop-place.place c.entry-held.result old now c.entry-held.ensures
-    c.loop-place.invariant (subst (λ y. IsWith y old now) c.selection.ensures c.in_ok-add_selection.ensures)
+    adds-place (λ y s. selection_of s ≡ y) c.args.met.now.entries c.loop-place.place c.entry-held.result old now
+    c.entry-held.ensures c.loop-place.invariant
+    (adds-one _ old now (subst (λ y. IsWith y old now) c.selection.ensures c.in_ok-add_selection.ensures))
 
 pub returns : goal.returns
 returns c =
     let es = c.args.met.now.entries in
     let e : c.loop-place.place ≡ length es =
     omega (arith, c.loop-place-test.false, c.loop-place.auto.place-end, c.len-place-end.ensures.len) in
-    subst (λ n. AreSelectionsTo es n c.loop-place.selections.items) e c.loop-place.invariant
+    enumerates _ c.loop-place.selections.items
+    (subst (λ n. Adds (λ y. IsInSome es n (λ s. selection_of s ≡ y)) [] c.loop-place.selections.items) e
+    c.loop-place.invariant)

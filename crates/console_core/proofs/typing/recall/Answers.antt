@@ -1,5 +1,4 @@
-use Rattle.std.proofs.Common.{ap, sym, ◌∙◌, ◌++◌, option_copied}
-use Rattle.console_core.specs.Inner.Searching.{state_of}
+use Rattle.console_core.proofs.Common.{ap, sym, ◌∙◌, ◌++◌, option_copied, state_of}
 use Rattle.console_core.proofs.Typings.{types-behind}
 use Rattle.console_core.proofs.Views.{are_same_sought, tells-sought, found-known}
 use Rattle.console_core.proofs.typing.recall.Goals as goal

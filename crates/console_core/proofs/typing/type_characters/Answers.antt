@@ -1,9 +1,6 @@
-use Rattle.std.proofs.Common.{Some, ap, subst, sym, ◌∙◌, reverse}
-use Rattle.std.proofs.lemmas.List.{take_all}
-use Rattle.std.proofs.lemmas.Option.{slice_get-get_or}
-use Rattle.console_core.specs.Moves.{alone}
-use Rattle.console_core.specs.Inner.Exploring.{AreKnown, AreViews, GoesHome, Leads, origin_in}
-use Rattle.console_core.specs.Inner.Searching.{state_of}
+use Rattle.console_core.proofs.Common.{Some, ap, subst, sym, ◌∙◌, reverse, take_all, slice_get-get_or, alone, AreKnown}
+use Rattle.console_core.proofs.Common.{AreViews, GoesHome, origin_in, state_of}
+use Rattle.console_core.specs.Inner.Exploring.{Leads}
 use Rattle.console_core.proofs.Choosing.{no-route}
 use Rattle.console_core.proofs.Exploring.{stand-origin}
 use Rattle.console_core.proofs.Typings.{typed-none, typed-one, typed-all}

@@ -1,7 +1,5 @@
 -- the characters before the place were typed
-use Rattle.std.proofs.Common.{length, ◌-◌}
-use Rattle.console_core.specs.Inner.Exploring.{AreKnown, AreViews}
-use Rattle.console_core.specs.Inner.Searching.{state_of}
+use Rattle.console_core.proofs.Common.{length, ◌-◌, AreKnown, AreViews, state_of}
 use Rattle.console_core.proofs.Typings.{HaveBeenTyped}
 use Rattle.console_core.proofs.typing.type_characters.Given as goal
 

@@ -1,6 +1,4 @@
-use Rattle.std.proofs.Common.{subst, reverse}
-use Rattle.console_core.specs.Inner.Exploring.{LeadsByTap}
-use Rattle.console_core.specs.Inner.Searching.{state_of}
+use Rattle.console_core.proofs.Common.{subst, reverse, LeadsByTap, state_of}
 use Rattle.console_core.proofs.Choosing.{no-way, too-many, leads-direct, behind-dead, composed-leads}
 use Rattle.console_core.proofs.Exploring.{stand-origin}
 use Rattle.console_core.proofs.typing.type_from.Goals as goal

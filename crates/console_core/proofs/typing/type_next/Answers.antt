@@ -1,6 +1,5 @@
-use Rattle.std.proofs.Common.{◌≤◌, ◌∙◌, [], drop, length, reverse, subst, sym}
-use Rattle.console_core.specs.Inner.Exploring.{AreKnown, Leads, TypesOne}
-use Rattle.console_core.specs.Inner.Searching.{state_of}
+use Rattle.console_core.proofs.Common.{◌≤◌, ◌∙◌, [], drop, length, reverse, subst, sym, AreKnown, TypesOne, state_of}
+use Rattle.console_core.specs.Inner.Exploring.{Leads}
 use Rattle.console_core.proofs.Typings.{types-alone, fits-behind}
 use Rattle.console_core.proofs.typing.type_next.Goals.{in-To+in_ok-keep, in_default-typed}
 use Rattle.console_core.proofs.typing.type_next.Goals as goal

@@ -1,9 +1,7 @@
-use Rattle.std.proofs.Common.{◌+◌, ℕ, take, get_or, inl, inr, ap, subst, sym, ◌∙◌}
-use Rattle.std.specs.List.{Contains}
-use Rattle.std.proofs.lemmas.List.{take_all, get_or_default}
-use Rattle.console_core.specs.declared.explored.Symbol.TheVariants as symbol
-use Rattle.console_core.specs.Inner.Exploring.{IsBase}
+use Rattle.console_core.proofs.Common.{◌+◌, ℕ, take, get_or, inl, inr, ap, subst, sym, ◌∙◌, Contains, take_all}
+use Rattle.console_core.proofs.Common.{get_or_default, IsBase}
 use Rattle.console_core.proofs.RoutesHome.{before-next}
+use Rattle.console_core.specs.declared.explored.Symbol.TheVariants as symbol
 use Rattle.console_core.proofs.ways.base_in.Goals as goal
 
 pub loop-pair-preserved : goal.loop-pair-preserved

@@ -1,8 +1,6 @@
 -- no base of the pairs before this one
-use Rattle.std.proofs.Common.{◌≡◌, ℕ, false, take}
-use Rattle.std.specs.List.{Contains}
+use Rattle.console_core.proofs.Common.{◌≡◌, ℕ, false, take, Contains, IsBase}
 use Rattle.console_core.specs.declared.explored.Symbol.TheVariants as symbol
-use Rattle.console_core.specs.Inner.Exploring.{IsBase}
 use Rattle.console_core.proofs.ways.base_in.Given as goal
 
 abbrev pub invariant-loop-pair : goal.invariant-loop-pair

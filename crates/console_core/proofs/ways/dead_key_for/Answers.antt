@@ -1,5 +1,4 @@
-use Rattle.std.proofs.Common.{inl, inr, subst, sym, arith}
-use Rattle.console_core.specs.Inner.Exploring.{CanAccent}
+use Rattle.console_core.proofs.Common.{inl, inr, subst, sym, arith, CanAccent}
 use Rattle.console_core.proofs.Bases.{usable-below}
 use Rattle.console_core.proofs.Searching.{place_last}
 use Rattle.console_core.proofs.ways.dead_key_for.Goals as goal

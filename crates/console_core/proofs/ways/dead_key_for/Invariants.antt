@@ -1,7 +1,5 @@
 -- no accent before this one serves
-use Rattle.std.proofs.Common.{◌≡◌, ◌<◌, ◌≤◌, ◌-◌, ℕ, false}
-use Rattle.console_core.specs.declared.explored.Symbol.{Symbol}
-use Rattle.console_core.specs.Inner.Exploring.{CanAccent}
+use Rattle.console_core.proofs.Common.{◌≡◌, ◌<◌, ◌≤◌, ◌-◌, ℕ, false, Symbol, CanAccent}
 use Rattle.console_core.proofs.ways.dead_key_for.Given as goal
 
 abbrev pub invariant-loop-accent : goal.invariant-loop-accent

@@ -1,5 +1,4 @@
-use Rattle.std.proofs.Common.{Some, ap, subst, sym, ◌∙◌}
-use Rattle.console_core.specs.Inner.Exploring.{HasTap}
+use Rattle.console_core.proofs.Common.{Some, ap, subst, sym, ◌∙◌, HasTap}
 use Rattle.console_core.proofs.ways.is_base.Goals as goal
 
 pub returns-then-made-c-clause-base : goal.returns-then-made-c-clause-base

@@ -1,5 +1,4 @@
-use Rattle.std.proofs.Common.{subst, sym}
-use Rattle.console_core.specs.Inner.Exploring.{HasTap, IsTapAt}
+use Rattle.console_core.proofs.Common.{subst, sym, HasTap, IsTapAt}
 use Rattle.console_core.proofs.ways.way_at.Goals as goal
 
 pub returns-in-Some : goal.returns-in-Some

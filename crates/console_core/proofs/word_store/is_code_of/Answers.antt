@@ -1,4 +1,4 @@
-use Rattle.std.proofs.Common.{sym, ◌∙◌}
+use Rattle.console_core.proofs.Common.{sym, ◌∙◌}
 use Rattle.console_core.proofs.Codes.{action_of_byte-other}
 use Rattle.console_core.proofs.word_store.is_code_of.Goals as goal
 

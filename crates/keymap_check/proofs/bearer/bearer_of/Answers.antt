@@ -1,8 +1,7 @@
-use Rattle.std.proofs.Common.{◌≡◌, ap, sym, ◌∙◌, arith}
-use Rattle.keymap_check.specs.Computed.{next_bearer, bearer_below}
+use Rattle.keymap_check.proofs.Common.{◌≡◌, ap, sym, ◌∙◌, arith, next_bearer, bearer_below}
 use Rattle.keymap_check.proofs.Bearers.{bearer_below-start, bearer-added, bearer-kept}
-use Rattle.keymap_check.proofs.bearer.bearer_of.Goals as goal
 use Rattle.keymap_check.proofs.bearer.bearer_of.Goals.{then-has, else-has}
+use Rattle.keymap_check.proofs.bearer.bearer_of.Goals as goal
 
 pub loop-key-init : goal.loop-key-init
 loop-key-init c = λ m is. sym (bearer_below-start m c.args.holding)

@@ -1,7 +1,4 @@
-use Rattle.std.proofs.Common.{◌≡◌}
-use Rattle.keymap_core.specs.Maps.{MapValue}
-use Rattle.keymap_check.specs.Computed.{bearer_below}
-use Rattle.keymap_check.specs.Inner.Surveyed.{IsSurvey}
+use Rattle.keymap_check.proofs.Common.{◌≡◌, MapValue, bearer_below, IsSurvey}
 use Rattle.keymap_check.proofs.bearer.bearer_of.Given as goal
 
 abbrev pub invariant-loop-key : goal.invariant-loop-key

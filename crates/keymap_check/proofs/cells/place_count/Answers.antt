@@ -1,5 +1,4 @@
-use Rattle.std.proofs.Common.{refl}
-use Rattle.keymap_check.specs.Cells.{place_count}
+use Rattle.keymap_check.proofs.Common.{refl, place_count}
 use Rattle.keymap_check.proofs.cells.place_count.Goals as goal
 
 pub returns-then-is_upper_live_in-clause-value : goal.returns-then-is_upper_live_in-clause-value

@@ -1,8 +1,7 @@
-use Rattle.keymap_core.proofs.Below.{gathered-none}
-use Rattle.keymap_check.specs.Scripts.{event_at}
+use Rattle.keymap_check.proofs.Common.{gathered-none, event_at}
 use Rattle.keymap_check.proofs.Played.{one_more, none_more}
-use Rattle.keymap_check.proofs.demonstration.deliver.Goals as goal
 use Rattle.keymap_check.proofs.demonstration.deliver.Goals.{in-Some, in-None}
+use Rattle.keymap_check.proofs.demonstration.deliver.Goals as goal
 
 pub loop-bit-init : goal.loop-bit-init
 loop-bit-init g c = λ ms h s. rw (gathered-none (event_at c.args.is_press c.args.keys.now c.args.set c.args.except)) s

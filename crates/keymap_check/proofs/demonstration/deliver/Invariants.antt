@@ -1,9 +1,4 @@
-use Rattle.std.proofs.Common.{◌++◌, List}
-use Rattle.std.specs.Prelude.{reverse}
-use Rattle.keymap_core.specs.Below.{gathered}
-use Rattle.console_core.specs.History.{Maps}
-use Rattle.keymap_check.specs.Types.{Event}
-use Rattle.keymap_check.specs.Scripts.{event_at}
+use Rattle.keymap_check.proofs.Common.{◌++◌, List, reverse, gathered, Maps, Event, event_at}
 use Rattle.keymap_check.proofs.demonstration.deliver.Given as goal
 
 abbrev pub invariant-loop-bit : goal.invariant-loop-bit

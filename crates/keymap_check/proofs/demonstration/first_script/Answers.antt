@@ -1,8 +1,5 @@
-use Rattle.std.proofs.Common.{◌≡◌, ◌<◌, arith, subst, sym, None}
-use Rattle.std.specs.Prelude.{find}
-use Rattle.keymap_core.specs.Below.{gathered}
-use Rattle.keymap_check.specs.Scripts.{leaves_modifier_on, tried_at}
-use Rattle.keymap_check.proofs.Firsts.{try-start, try-more, try-found}
+use Rattle.keymap_check.proofs.Common.{arith, sym, leaves_modifier_on, tried_at}
+use Rattle.keymap_check.proofs.Firsts.{try-start, try-more, try-found, try-none}
 use Rattle.keymap_check.proofs.demonstration.first_script.Goals as goal
 
 pub loop-key-init : goal.loop-key-init
@@ -15,17 +12,10 @@ loop-key-preserved c =
 
 pub returns-in-Some : goal.returns-in-Some
 returns-in-Some c =
-    let lt : c.loop-key.key < 128 = omega (arith, c.loop-key-test.true) in
-    sym (
-    try-found (leaves_modifier_on c.args.map.now) (tried_at c.args.map.now)
-    c.loop-key.key 128 c.in-Some.script.items lt c.loop-key.invariant
-    (sym c.in-Some.ensures)
-    )
+    sym (try-found (leaves_modifier_on c.args.map.now) (tried_at c.args.map.now) c.loop-key.key 128
+    c.in-Some.script.items (omega arith) c.loop-key.invariant (sym c.in-Some.ensures))
 
 pub returns : goal.returns
 returns c =
-    let e : c.loop-key.key ≡ 128 = omega (arith, c.loop-key-test.false, c.loop-key.auto.key-end) in
-    sym (
-    subst (λ n. find (leaves_modifier_on c.args.map.now) (gathered (tried_at c.args.map.now) n) ≡ None) e
-    c.loop-key.invariant
-    )
+    try-none (leaves_modifier_on c.args.map.now) (tried_at c.args.map.now) c.loop-key.key 128
+    (omega (arith, c.loop-key.auto.key-end)) c.loop-key.invariant

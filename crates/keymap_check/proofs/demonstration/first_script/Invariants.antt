@@ -1,7 +1,4 @@
-use Rattle.std.proofs.Common.{◌≡◌, None}
-use Rattle.std.specs.Prelude.{find}
-use Rattle.keymap_core.specs.Below.{gathered}
-use Rattle.keymap_check.specs.Scripts.{leaves_modifier_on, tried_at}
+use Rattle.keymap_check.proofs.Common.{◌≡◌, None, find, gathered, leaves_modifier_on, tried_at}
 use Rattle.keymap_check.proofs.demonstration.first_script.Given as goal
 
 abbrev pub invariant-loop-key : goal.invariant-loop-key

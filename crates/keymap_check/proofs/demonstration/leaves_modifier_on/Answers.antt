@@ -1,5 +1,4 @@
-use Rattle.std.proofs.Common.{sym, ◌∙◌}
-use Rattle.console_core.specs.History.{between}
+use Rattle.keymap_check.proofs.Common.{sym, ◌∙◌, between}
 use Rattle.keymap_check.proofs.Played.{played, stays_off}
 use Rattle.keymap_check.proofs.demonstration.leaves_modifier_on.Goals as goal
 

@@ -1,5 +1,4 @@
-use Rattle.std.proofs.Common.{[]}
-use Rattle.console_core.specs.History.{between}
+use Rattle.keymap_check.proofs.Common.{[], between}
 use Rattle.keymap_check.proofs.Played.{start_played}
 use Rattle.keymap_check.proofs.demonstration.start.Goals as goal
 

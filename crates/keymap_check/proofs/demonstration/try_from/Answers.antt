@@ -1,8 +1,5 @@
-use Rattle.std.proofs.Common.{◌≡◌, ◌<◌, arith, subst, sym, None}
-use Rattle.std.specs.Prelude.{find}
-use Rattle.keymap_core.specs.Below.{gathered}
-use Rattle.keymap_check.specs.Scripts.{leaves_modifier_on, scripts_of}
-use Rattle.keymap_check.proofs.Firsts.{try-start, try-more, try-found}
+use Rattle.keymap_check.proofs.Common.{arith, sym, leaves_modifier_on, scripts_of}
+use Rattle.keymap_check.proofs.Firsts.{try-start, try-more, try-found, try-none}
 use Rattle.keymap_check.proofs.demonstration.try_from.Goals as goal
 
 pub loop-b-init : goal.loop-b-init
@@ -16,19 +13,10 @@ loop-b-preserved c =
 
 pub returns-in-Some : goal.returns-in-Some
 returns-in-Some c =
-    let lt : c.loop-b.b < 16 = omega (arith, c.loop-b-test.true) in
-    sym (
-    try-found (leaves_modifier_on c.args.map.now) (scripts_of c.args.keys.now c.args.key c.args.a)
-    c.loop-b.b 16 c.in-Some.script.items lt c.loop-b.invariant
-    (sym (c.in-Some.ensures c.args.map.now c.start-start.ensures))
-    )
+    sym (try-found (leaves_modifier_on c.args.map.now) (scripts_of c.args.keys.now c.args.key c.args.a) c.loop-b.b 16
+    c.in-Some.script.items (omega arith) c.loop-b.invariant (sym (c.in-Some.ensures c.args.map.now c.start-start.ensures)))
 
 pub returns : goal.returns
 returns c =
-    let e : c.loop-b.b ≡ 16 = omega (arith, c.loop-b-test.false, c.loop-b.auto.b-end) in
-    sym (
-    subst
-    (λ n. find (leaves_modifier_on c.args.map.now) (gathered (scripts_of c.args.keys.now c.args.key c.args.a) n) ≡ None)
-    e
-    c.loop-b.invariant
-    )
+    try-none (leaves_modifier_on c.args.map.now) (scripts_of c.args.keys.now c.args.key c.args.a) c.loop-b.b 16
+    (omega (arith, c.loop-b.auto.b-end)) c.loop-b.invariant

@@ -1,8 +1,5 @@
-use Rattle.std.proofs.Common.{◌≡◌, ◌<◌, arith, subst, sym, None}
-use Rattle.std.specs.Prelude.{find}
-use Rattle.keymap_core.specs.Below.{gathered}
-use Rattle.keymap_check.specs.Scripts.{leaves_modifier_on, scripts_with}
-use Rattle.keymap_check.proofs.Firsts.{try-start, try-more, try-found}
+use Rattle.keymap_check.proofs.Common.{arith, sym, leaves_modifier_on, scripts_with}
+use Rattle.keymap_check.proofs.Firsts.{try-start, try-more, try-found, try-none}
 use Rattle.keymap_check.proofs.demonstration.try_key.Goals as goal
 
 pub loop-a-init : goal.loop-a-init
@@ -15,19 +12,10 @@ loop-a-preserved c =
 
 pub returns-in-Some : goal.returns-in-Some
 returns-in-Some c =
-    let lt : c.loop-a.a < 16 = omega (arith, c.loop-a-test.true) in
-    sym (
-    try-found (leaves_modifier_on c.args.map.now) (scripts_with c.args.keys.now c.args.key)
-    c.loop-a.a 16 c.in-Some.script.items lt c.loop-a.invariant
-    (sym c.in-Some.ensures)
-    )
+    sym (try-found (leaves_modifier_on c.args.map.now) (scripts_with c.args.keys.now c.args.key) c.loop-a.a 16
+    c.in-Some.script.items (omega arith) c.loop-a.invariant (sym c.in-Some.ensures))
 
 pub returns : goal.returns
 returns c =
-    let e : c.loop-a.a ≡ 16 = omega (arith, c.loop-a-test.false, c.loop-a.auto.a-end) in
-    sym (
-    subst
-    (λ n. find (leaves_modifier_on c.args.map.now) (gathered (scripts_with c.args.keys.now c.args.key) n) ≡ None)
-    e
-    c.loop-a.invariant
-    )
+    try-none (leaves_modifier_on c.args.map.now) (scripts_with c.args.keys.now c.args.key) c.loop-a.a 16
+    (omega (arith, c.loop-a.auto.a-end)) c.loop-a.invariant

@@ -1,11 +1,7 @@
-use Rattle.std.proofs.Common.{◌≡◌, ◌+◌, ap, sym, ◌∙◌, arith, length, refl}
-use Rattle.std.proofs.lemmas.List.{append-nil}
-use Rattle.arrayvec.specs.ArrayVec.{array_vec_len}
-use Rattle.keymap_core.specs.Below.{gathered}
-use Rattle.keymap_core.proofs.Below.{gathered-none, gathered-more}
-use Rattle.keymap_check.specs.Computed.{findings_at}
-use Rattle.keymap_check.proofs.finding.findings.Goals as goal
+use Rattle.keymap_check.proofs.Common.{◌≡◌, ap, sym, ◌∙◌, arith, length, refl, append-nil, array_vec_len, gathered}
+use Rattle.keymap_check.proofs.Common.{gathered-none, gathered-more, findings_at, MapValue}
 use Rattle.keymap_check.proofs.finding.findings.Goals.{in-Some, in-None}
+use Rattle.keymap_check.proofs.finding.findings.Goals as goal
 
 pub loop-key-init : goal.loop-key-init
 loop-key-init g c =
@@ -17,34 +13,21 @@ loop-key-init g c =
 
 pub loop-key-preserved : goal.loop-key-preserved
 loop-key-preserved g c =
+    let more = λ (m : MapValue). gathered-more (findings_at m) c.loop-key.key in
+    let before = c.loop-key.invariant.found in
     elim c.match-find_at.branch [
       | in-Some w ↦
-          let e : array_vec_len c.match-find_at.findings ≡ array_vec_len c.loop-key.findings + 1 =
-          ap array_vec_len w.findings-is ∙ w.push.ensures.len in
+          let e = ap array_vec_len w.findings-is ∙ w.push.ensures.len in
           record {
-            found =
-                λ m shows is. rw (
-                  w.findings-is,
-                  w.push.ensures.items,
-                  gathered-more (findings_at m) c.loop-key.key,
-                  c.loop-key.invariant.found m shows is,
-                  w.in-Some.ensures m shows is,
-                )
-                refl;
+            found = λ m shows is.
+                rw (w.findings-is, w.push.ensures.items, more m, before m shows is, w.in-Some.ensures m shows is) refl;
             room = omega (arith, e, c.loop-key.invariant.room);
           }
       | in-None w ↦
-          let e : array_vec_len c.match-find_at.findings ≡ array_vec_len c.loop-key.findings =
-          ap array_vec_len w.findings-is in
+          let e = ap array_vec_len w.findings-is in
           record {
-            found =
-                λ m shows is. rw (
-                  w.findings-is,
-                  gathered-more (findings_at m) c.loop-key.key,
-                  c.loop-key.invariant.found m shows is,
-                  w.in-None.ensures m shows is,
-                )
-                (sym (append-nil _));
+            found = λ m shows is.
+                rw (w.findings-is, more m, before m shows is, w.in-None.ensures m shows is) (sym (append-nil _));
             room = omega (arith, e, c.loop-key.invariant.room);
           }
     ]

@@ -1,9 +1,4 @@
-use Rattle.std.proofs.Common.{◌≡◌, ◌≤◌}
-use Rattle.arrayvec.specs.ArrayVec.{array_vec_len}
-use Rattle.keymap_core.specs.Below.{gathered}
-use Rattle.keymap_core.specs.Maps.{MapValue}
-use Rattle.keymap_check.specs.Computed.{findings_at}
-use Rattle.keymap_check.specs.Inner.Surveyed.{IsSurvey}
+use Rattle.keymap_check.proofs.Common.{◌≡◌, ◌≤◌, array_vec_len, gathered, MapValue, findings_at, IsSurvey}
 use Rattle.keymap_check.proofs.finding.findings.Given as goal
 
 abbrev pub invariant-loop-key : goal.invariant-loop-key

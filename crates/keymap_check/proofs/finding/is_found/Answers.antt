@@ -1,8 +1,6 @@
-use Rattle.std.proofs.Common.{◌&&◌, ap, sym, ◌∙◌}
-use Rattle.std.specs.Option.{is_some}
-use Rattle.keymap_check.specs.declared.kind.Kind.TheVariants as kind
-use Rattle.keymap_check.specs.Cells.{first_place}
+use Rattle.keymap_check.proofs.Common.{◌&&◌, ap, sym, ◌∙◌, is_some, first_place}
 use Rattle.keymap_check.proofs.Found.{found}
+use Rattle.keymap_check.specs.declared.kind.Kind.TheVariants as kind
 use Rattle.keymap_check.proofs.finding.is_found.Goals as goal
 
 pub returns-then-has : goal.returns-then-has

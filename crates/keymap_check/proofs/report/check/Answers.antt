@@ -1,7 +1,7 @@
-use Rattle.std.proofs.Common.{sym, refl, ◌∙◌}
+use Rattle.keymap_check.proofs.Common.{sym, refl, ◌∙◌}
 use Rattle.keymap_check.proofs.Reported.{reported-bearer}
-use Rattle.keymap_core.specs.declared.action.Holding.TheVariants as holding
 use Rattle.keymap_check.proofs.Bearing.{throughout-bears, plain_bearers}
+use Rattle.keymap_core.specs.declared.action.Holding.TheVariants as holding
 use Rattle.keymap_check.proofs.Promises as promise
 use Rattle.keymap_check.proofs.report.check.Goals as goal
 

@@ -1,6 +1,4 @@
-use Rattle.std.proofs.Common.{ap, subst, sym, ◌∙◌}
-use Rattle.keymap_check.specs.Findings.{AreFindings}
-use Rattle.keymap_check.specs.Report.{IsBearer}
+use Rattle.keymap_check.proofs.Common.{ap, subst, sym, ◌∙◌, AreFindings, IsBearer}
 use Rattle.keymap_check.proofs.Reported.{reported-bearer, reported-steady}
 use Rattle.keymap_check.proofs.report.check_shown.Goals as goal
 

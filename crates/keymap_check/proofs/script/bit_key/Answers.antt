@@ -1,6 +1,29 @@
-use Rattle.keymap_check.specs.Scripts.{bears_group, bit_key}
+use Rattle.keymap_check.proofs.Common.{◌≡◌, ◌<◌, sym, ◌∙◌, arith, subst, None, first_below, bears_group, bit_key}
+use Rattle.keymap_check.proofs.Common.{is_other}
+use Rattle.keymap_core.proofs.Below.{first_below-none, first_below-more, first_below-found}
 use Rattle.keymap_check.proofs.script.bit_key.Goals as goal
+
+pub loop-key-init : goal.loop-key-init
+loop-key-init c = λ m is. first_below-none _
+
+pub loop-key-preserved : goal.loop-key-preserved
+loop-key-preserved c =
+    λ m is. first_below-more _ c.loop-key.key (c.loop-key.invariant m is)
+    (sym (c.is_other.ensures m is) ∙ c.if-is_other.false)
+
+pub returns-then-is_other : goal.returns-then-is_other
+unfolding bit_key
+returns-then-is_other c =
+    λ m is.
+    let lt : c.loop-key.key < 128 = omega (arith, c.loop-key-test.true) in
+    rw c.key_with.ensures
+    (sym (first_below-found (is_other (bears_group m c.args.bit) c.args.tried) c.loop-key.key 128 lt
+    (c.loop-key.invariant m is) (sym (c.is_other.ensures m is) ∙ c.if-is_other.true)))
 
 pub returns : goal.returns
 unfolding bit_key
-returns c = λ m is. c.least_other.ensures (bears_group m c.args.bit) (c.bearers.ensures m is)
+returns c =
+    λ m is.
+    let e : c.loop-key.key ≡ 128 = omega (arith, c.loop-key-test.false, c.loop-key.auto.key-end) in
+    sym (subst (λ n. first_below (is_other (bears_group m c.args.bit) c.args.tried) n ≡ None) e
+    (c.loop-key.invariant m is))

@@ -1,5 +1,4 @@
-use Rattle.std.proofs.Common.{◌<◌, ap, arith, length, lit<}
-use Rattle.arrayvec.specs.ArrayVec.{array_vec_len}
+use Rattle.keymap_check.proofs.Common.{◌<◌, ap, arith, length, lit<, array_vec_len}
 use Rattle.keymap_check.proofs.Lengths.{room}
 use Rattle.keymap_check.proofs.script.make_script.Goals as goal
 

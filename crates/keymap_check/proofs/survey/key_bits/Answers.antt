@@ -1,6 +1,4 @@
-use Rattle.std.proofs.Common.{sym, ◌∙◌, ap, arith, ◌≡◌}
-use Rattle.keymap_check.specs.Cells.{place_count}
-use Rattle.keymap_check.specs.Inner.CellBits.{bits_below}
+use Rattle.keymap_check.proofs.Common.{sym, ◌∙◌, ap, arith, ◌≡◌, place_count, bits_below}
 use Rattle.keymap_check.proofs.CellBits.{bits_below-start, bits_below-more}
 use Rattle.keymap_check.proofs.survey.key_bits.Goals as goal
 

@@ -1,6 +1,4 @@
-use Rattle.std.proofs.Common.{◌≡◌}
-use Rattle.keymap_core.specs.Maps.{MapValue}
-use Rattle.keymap_check.specs.Inner.CellBits.{bits_below}
+use Rattle.keymap_check.proofs.Common.{◌≡◌, MapValue, bits_below}
 use Rattle.keymap_check.proofs.survey.key_bits.Given as goal
 
 abbrev pub invariant-loop-place : goal.invariant-loop-place

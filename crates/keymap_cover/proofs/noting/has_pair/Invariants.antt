@@ -1,5 +1,5 @@
 -- none below the place is it
-use Rattle.std.proofs.Common.{◌≡◌, ◌<◌, ℕ, get_or}
+use Rattle.keymap_cover.proofs.Common.{◌≡◌, ◌<◌, ℕ, get_or}
 use Rattle.keymap_cover.proofs.noting.has_pair.Given as goal
 
 abbrev pub invariant-loop-noted : goal.invariant-loop-noted

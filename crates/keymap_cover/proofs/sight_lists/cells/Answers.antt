@@ -1,7 +1,5 @@
-use Rattle.std.proofs.Common.{◌∷◌, [], ◌++◌, ap, sym, ◌∙◌, arith}
-use Rattle.std.proofs.lemmas.List.FromFn.{map-range_with_len_more}
+use Rattle.keymap_cover.proofs.Common.{◌∷◌, [], ◌++◌, ap, sym, ◌∙◌, arith, map-range_with_len_more, cell_at_place}
 use Rattle.keymap_cover.proofs.Listed.{cells-listed}
-use Rattle.keymap_cover.specs.SightLists.{cell_at_place}
 use Rattle.keymap_cover.proofs.sight_lists.cells.Goals as goal
 
 pub loop-place-preserved : goal.loop-place-preserved

@@ -1,8 +1,5 @@
 -- the cells below the place are there
-use Rattle.std.proofs.Common.{◌≡◌}
-use Rattle.std.specs.Prelude.{map}
-use Rattle.std.specs.List.{range_with_len}
-use Rattle.keymap_cover.specs.SightLists.{cell_at_place}
+use Rattle.keymap_cover.proofs.Common.{◌≡◌, map, range_with_len, cell_at_place}
 use Rattle.keymap_cover.proofs.sight_lists.cells.Given as goal
 
 abbrev pub invariant-loop-place : goal.invariant-loop-place

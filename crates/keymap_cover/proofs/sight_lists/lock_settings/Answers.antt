@@ -1,7 +1,6 @@
-use Rattle.std.proofs.Common.{◌∷◌, [], ◌++◌, ap, sym, ◌∙◌, arith}
-use Rattle.std.proofs.lemmas.List.FromFn.{map-range_with_len_more}
+use Rattle.keymap_cover.proofs.Common.{◌∷◌, [], ◌++◌, ap, sym, ◌∙◌, arith, map-range_with_len_more}
+use Rattle.keymap_cover.proofs.Common.{lock_setting_at_place}
 use Rattle.keymap_cover.proofs.Listed.{lock_settings-listed}
-use Rattle.keymap_cover.specs.SightLists.{lock_setting_at_place}
 use Rattle.keymap_cover.proofs.sight_lists.lock_settings.Goals as goal
 
 pub loop-place-preserved : goal.loop-place-preserved

@@ -1,4 +1,4 @@
-use Rattle.keymap_cover.specs.Inner.Pairs.{pairs_at}
+use Rattle.keymap_cover.proofs.Common.{pairs_at}
 use Rattle.keymap_cover.proofs.Telling.{piece-behind}
 use Rattle.keymap_cover.proofs.told.add_all_pairs.Goals as goal
 

@@ -1,7 +1,5 @@
 -- the pairs of the accents below the index are there
-use Rattle.std.proofs.Common.{◌≡◌, ◌++◌}
-use Rattle.std.specs.List.{flat_map, range_with_len}
-use Rattle.keymap_cover.specs.Inner.Pairs.{pairs_at}
+use Rattle.keymap_cover.proofs.Common.{◌≡◌, ◌++◌, flat_map, range_with_len, pairs_at}
 use Rattle.keymap_cover.proofs.told.add_all_pairs.Given as goal
 
 abbrev pub invariant-loop-index : goal.invariant-loop-index

@@ -1,6 +1,5 @@
 -- the pairs with the bases before the place are there
-use Rattle.std.proofs.Common.{◌≡◌, ◌++◌, map, take}
-use Rattle.keymap_cover.specs.Inner.Pairs.{base_pair}
+use Rattle.keymap_cover.proofs.Common.{◌≡◌, ◌++◌, map, take, base_pair}
 use Rattle.keymap_cover.proofs.told.add_bases.Given as goal
 
 abbrev pub invariant-loop-pair : goal.invariant-loop-pair

@@ -1,6 +1,4 @@
-use Rattle.std.proofs.Common.{subst, sym, ◌∙◌}
-use Rattle.keymap_cover.specs.SeenSights.{has_seen}
-use Rattle.keymap_cover.specs.Inner.Tours.{AddsPair}
+use Rattle.keymap_cover.proofs.Common.{subst, sym, ◌∙◌, has_seen, AddsPair}
 use Rattle.keymap_cover.proofs.Touring.{pair-added, pair-not}
 use Rattle.keymap_cover.proofs.walk.add_pair.Goals as goal
 

@@ -1,6 +1,4 @@
-use Rattle.std.proofs.Common.{sym, ◌∙◌}
-use Rattle.console_core.specs.History.{between}
-use Rattle.keymap_cover.specs.SeenSights.{has_seen}
+use Rattle.keymap_cover.proofs.Common.{sym, ◌∙◌, between, has_seen}
 use Rattle.keymap_cover.proofs.Touring.{note-added}
 use Rattle.keymap_cover.proofs.walk.note.Goals as goal
 

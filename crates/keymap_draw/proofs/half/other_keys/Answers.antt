@@ -1,4 +1,4 @@
-use Rattle.std.proofs.Common.{arith}
+use Rattle.keymap_draw.proofs.Common.{arith}
 use Rattle.keymap_draw.proofs.Loops.{passing-more}
 use Rattle.keymap_draw.proofs.half.other_keys.Goals as goal
 

@@ -1,6 +1,4 @@
-use Rattle.std.proofs.Common.{◌≡◌, ◌≤◌, length}
-use Rattle.keymap_draw.specs.Halves.{is_other}
-use Rattle.keymap_core.specs.Below.{passing}
+use Rattle.keymap_draw.proofs.Common.{◌≡◌, ◌≤◌, length, is_other, passing}
 use Rattle.keymap_draw.proofs.half.other_keys.Given as goal
 
 abbrev pub invariant-loop-key : goal.invariant-loop-key

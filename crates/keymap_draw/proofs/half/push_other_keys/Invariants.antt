@@ -1,6 +1,4 @@
-use Rattle.std.proofs.Common.{◌≡◌, ◌++◌, drop}
-use Rattle.keymap_draw.specs.Facts.{numbered}
-use Rattle.keymap_draw.specs.Halves.{other_key}
+use Rattle.keymap_draw.proofs.Common.{◌≡◌, ◌++◌, drop, numbered, other_key}
 use Rattle.keymap_draw.proofs.half.push_other_keys.Given as goal
 
 abbrev pub invariant-loop-i : goal.invariant-loop-i

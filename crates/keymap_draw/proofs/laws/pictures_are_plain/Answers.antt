@@ -1,4 +1,4 @@
-use Rattle.keymap_draw.specs.Pictures.{picture_facts}
+use Rattle.keymap_draw.proofs.Common.{picture_facts}
 use Rattle.keymap_draw.proofs.Plain.{told_plain}
 use Rattle.keymap_draw.proofs.laws.pictures_are_plain.Goals as goal
 

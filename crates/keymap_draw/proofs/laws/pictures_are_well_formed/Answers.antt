@@ -1,4 +1,4 @@
-use Rattle.keymap_draw.specs.Pictures.{picture_facts}
+use Rattle.keymap_draw.proofs.Common.{picture_facts}
 use Rattle.keymap_draw.proofs.laws.pictures_are_well_formed.Goals as goal
 
 pub returns : goal.returns

@@ -1,6 +1,5 @@
-use Rattle.keymap_draw.proofs.Agreeing as agreeing
 use Rattle.keymap_draw.proofs.Titles.{titles_tell}
-use Rattle.keymap_draw.proofs.Told.{pictures_tell}
+use Rattle.keymap_draw.proofs.Told.{pictures_tell, pictures_tell_keymaps}
 use Rattle.keymap_draw.proofs.laws.pictures_tell_keymaps.Goals as goal
 
 pub returns-clause-titles : goal.returns-clause-titles
@@ -10,4 +9,4 @@ pub returns-clause-definitions : goal.returns-clause-definitions
 returns-clause-definitions c = pictures_tell
 
 pub returns-clause-keymap : goal.returns-clause-keymap
-returns-clause-keymap c = agreeing.pictures_tell_keymaps
+returns-clause-keymap c = pictures_tell_keymaps

@@ -1,4 +1,4 @@
-use Rattle.std.proofs.Common.{◌≡◌, ◌++◌, take}
+use Rattle.keymap_draw.proofs.Common.{◌≡◌, ◌++◌, take}
 use Rattle.keymap_draw.proofs.legend.push_letters.Given as goal
 
 abbrev pub invariant-loop-letter : goal.invariant-loop-letter

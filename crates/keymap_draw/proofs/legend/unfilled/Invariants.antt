@@ -1,6 +1,4 @@
-use Rattle.std.proofs.Common.{◌≡◌, ◌≤◌, ◌==◌, length, take}
-use Rattle.std.specs.Prelude.{not}
-use Rattle.std.specs.List.{filter}
+use Rattle.keymap_draw.proofs.Common.{◌≡◌, ◌≤◌, ◌==◌, length, take, not, filter}
 use Rattle.keymap_draw.proofs.legend.unfilled.Given as goal
 
 abbrev pub invariant-loop-letter : goal.invariant-loop-letter

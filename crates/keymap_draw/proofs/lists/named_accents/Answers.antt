@@ -1,4 +1,4 @@
-use Rattle.std.proofs.Common.{arith, ◌≤◌}
+use Rattle.keymap_draw.proofs.Common.{arith, ◌≤◌}
 use Rattle.keymap_draw.proofs.Loops.{passing-more, passing-below}
 use Rattle.keymap_draw.proofs.lists.named_accents.Goals as goal
 

@@ -1,6 +1,4 @@
-use Rattle.std.proofs.Common.{◌≡◌, ◌≤◌, length}
-use Rattle.keymap_draw.specs.Lists.{has_character}
-use Rattle.keymap_core.specs.Below.{passing}
+use Rattle.keymap_draw.proofs.Common.{◌≡◌, ◌≤◌, length, has_character, passing}
 use Rattle.keymap_draw.proofs.lists.named_accents.Given as goal
 
 abbrev pub invariant-loop-index : goal.invariant-loop-index

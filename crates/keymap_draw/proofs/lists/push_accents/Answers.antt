@@ -1,4 +1,4 @@
-use Rattle.std.proofs.Common.{arith}
+use Rattle.keymap_draw.proofs.Common.{arith}
 use Rattle.keymap_draw.proofs.Loops.{numbered_at, numbered_end}
 use Rattle.keymap_draw.proofs.lists.push_accents.Goals as goal
 

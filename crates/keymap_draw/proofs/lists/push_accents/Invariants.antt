@@ -1,6 +1,4 @@
-use Rattle.std.proofs.Common.{◌≡◌, ◌++◌, drop}
-use Rattle.keymap_draw.specs.Facts.{numbered}
-use Rattle.keymap_draw.specs.Lists.{listed_accent}
+use Rattle.keymap_draw.proofs.Common.{◌≡◌, ◌++◌, drop, numbered, listed_accent}
 use Rattle.keymap_draw.proofs.lists.push_accents.Given as goal
 
 abbrev pub invariant-loop-i : goal.invariant-loop-i

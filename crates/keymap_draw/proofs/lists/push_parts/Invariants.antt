@@ -1,4 +1,4 @@
-use Rattle.std.proofs.Common.{◌≡◌}
+use Rattle.keymap_draw.proofs.Common.{◌≡◌}
 use Rattle.keymap_draw.proofs.lists.push_parts.Given as goal
 
 abbrev pub invariant-loop-i : goal.invariant-loop-i

@@ -1,4 +1,4 @@
-use Rattle.std.proofs.Common.{◌<◌, ◌≤◌, All, length}
+use Rattle.keymap_draw.proofs.Common.{◌<◌, ◌≤◌, All, length}
 use Rattle.keymap_core.specs.Numbers.{accent_limit}
 use Rattle.keymap_draw.proofs.lists.silent_accents.Given as goal
 

@@ -1,6 +1,4 @@
-use Rattle.std.proofs.Common.{◌≡◌, ◌++◌, take}
-use Rattle.std.specs.List.{flat_map}
-use Rattle.keymap_draw.specs.Markup.{escaped}
+use Rattle.keymap_draw.proofs.Common.{◌≡◌, ◌++◌, take, flat_map, escaped}
 use Rattle.keymap_draw.proofs.markup.push_characters.Given as goal
 
 abbrev pub invariant-loop-c : goal.invariant-loop-c

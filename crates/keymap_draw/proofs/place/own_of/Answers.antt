@@ -1,6 +1,5 @@
-use Rattle.std.proofs.Common.{sym, ap, ◌∙◌}
+use Rattle.keymap_draw.proofs.Common.{sym, ap, ◌∙◌, blank}
 use Rattle.std.specs.Prelude.{option_copied}
-use Rattle.keymap_core.specs.Accents.{blank}
 use Rattle.keymap_draw.proofs.Loops.{none_is}
 use Rattle.keymap_draw.proofs.place.own_of.Goals as goal
 

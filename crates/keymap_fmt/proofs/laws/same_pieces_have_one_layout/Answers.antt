@@ -1,5 +1,4 @@
-use Rattle.std.proofs.Common.{ap}
-use Rattle.keymap_fmt.specs.Formatted.{rendered}
+use Rattle.keymap_fmt.proofs.Common.{ap, rendered}
 use Rattle.keymap_fmt.proofs.laws.same_pieces_have_one_layout.Goals as goal
 
 pub returns : goal.returns

@@ -1,4 +1,4 @@
-use Rattle.std.proofs.Common.{◌≡◌, ◌++◌, replicate}
+use Rattle.keymap_fmt.proofs.Common.{◌≡◌, ◌++◌, replicate}
 use Rattle.keymap_fmt.proofs.layout.push_blanks.Given as goal
 
 abbrev pub invariant-loop-blank : goal.invariant-loop-blank

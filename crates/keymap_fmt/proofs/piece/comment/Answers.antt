@@ -1,7 +1,7 @@
-use Rattle.std.proofs.Common.{arith, inl, inr}
+use Rattle.keymap_fmt.proofs.Common.{arith, inl, inr}
 use Rattle.keymap_fmt.proofs.Finding.{comment_found}
-use Rattle.keymap_fmt.proofs.piece.comment.Goals as goal
 use Rattle.keymap_fmt.proofs.piece.comment.Goals.{then-end-text, else-end-text}
+use Rattle.keymap_fmt.proofs.piece.comment.Goals as goal
 
 pub returns : goal.returns
 returns c = elim c.if-end-text.branch [

@@ -1,6 +1,4 @@
-use Rattle.std.proofs.Common.{◌+◌, arith, sym, ◌∙◌, ap, drop}
-use Rattle.keymap_text.specs.Lexical.{is_blank}
-use Rattle.keymap_fmt.specs.Pieces.{pieces_after, lowered}
+use Rattle.keymap_fmt.proofs.Common.{◌+◌, arith, sym, ◌∙◌, ap, drop, is_blank, pieces_after, lowered}
 use Rattle.keymap_fmt.proofs.Finding.{blank_at, nothing_at, begins_token}
 use Rattle.keymap_fmt.proofs.piece.next_piece.Goals as goal
 

@@ -1,6 +1,4 @@
-use Rattle.std.proofs.Common.{length, ◌-◌, ◌≡◌, ◌≤◌, drop}
-use Rattle.keymap_text.specs.Lexical.{leading, is_space}
-use Rattle.keymap_fmt.specs.Pieces.{pieces_after}
+use Rattle.keymap_fmt.proofs.Common.{length, ◌-◌, ◌≡◌, ◌≤◌, drop, leading, is_space, pieces_after}
 use Rattle.keymap_fmt.proofs.piece.next_piece.Given as goal
 
 -- the pieces are those from the place on

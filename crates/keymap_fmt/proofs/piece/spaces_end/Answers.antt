@@ -1,9 +1,6 @@
-use Rattle.std.proofs.Common.{drop, sym, ◌∙◌, ap, arith}
-use Rattle.std.proofs.lemmas.List.{drop-drop}
-use Rattle.keymap_text.specs.Lexical.{is_space, leading}
+use Rattle.keymap_fmt.proofs.Common.{drop, sym, ◌∙◌, ap, arith, drop-drop, is_space, leading, pieces_after}
 use Rattle.keymap_text.proofs.Leading.{leading_rest}
 use Rattle.keymap_text.proofs.Splitting.{to_end}
-use Rattle.keymap_fmt.specs.Pieces.{pieces_after}
 use Rattle.keymap_fmt.proofs.Finding.{spaces_passed}
 use Rattle.keymap_fmt.proofs.piece.spaces_end.Goals as goal
 

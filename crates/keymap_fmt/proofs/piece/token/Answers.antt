@@ -1,4 +1,4 @@
-use Rattle.std.proofs.Common.{refl}
+use Rattle.keymap_fmt.proofs.Common.{refl}
 use Rattle.keymap_fmt.proofs.Finding.{piece_found, none_found}
 use Rattle.keymap_fmt.proofs.piece.token.Goals as goal
 

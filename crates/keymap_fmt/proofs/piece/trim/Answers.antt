@@ -1,10 +1,7 @@
-use Rattle.std.proofs.Common.{◌≡◌, take, sym, ◌∙◌, ap, arith}
-use Rattle.std.specs.List.{suffix_len}
-use Rattle.std.proofs.lemmas.List.Sums.{suffix_len-take_yes, suffix_len-take_no}
-use Rattle.keymap_text.specs.Lexical.{is_space}
-use Rattle.keymap_fmt.specs.Pieces.{trimmed}
-use Rattle.keymap_fmt.proofs.piece.trim.Goals as goal
+use Rattle.keymap_fmt.proofs.Common.{◌≡◌, take, sym, ◌∙◌, ap, arith, suffix_len, suffix_len-take_no, is_space, trimmed}
+use Rattle.std.proofs.lemmas.List.Sums.{suffix_len-take_yes}
 use Rattle.keymap_fmt.proofs.piece.trim.Goals.{then-loop-end-test+else-is_space_byte, else-loop-end-test}
+use Rattle.keymap_fmt.proofs.piece.trim.Goals as goal
 
 pub loop-end-preserved : goal.loop-end-preserved
 loop-end-preserved c =

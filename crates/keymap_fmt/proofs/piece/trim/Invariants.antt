@@ -1,6 +1,4 @@
-use Rattle.std.proofs.Common.{◌+◌, ◌≡◌, ◌≤◌, length, take}
-use Rattle.std.specs.List.{suffix_len}
-use Rattle.keymap_text.specs.Lexical.{is_space}
+use Rattle.keymap_fmt.proofs.Common.{◌+◌, ◌≡◌, ◌≤◌, length, take, suffix_len, is_space}
 use Rattle.keymap_fmt.proofs.piece.trim.Given as goal
 
 -- all bytes that were passed are blanks

@@ -1,6 +1,5 @@
-use Rattle.std.proofs.Common.{◌≡◌, ◌<◌, ◌∷◌, length, sym, ◌∙◌, ap, arith, drop}
-use Rattle.keymap_fmt.specs.Pieces.{pieces_after, behind}
-use Rattle.keymap_fmt.specs.Formatted.{rendered_from, formatted}
+use Rattle.keymap_fmt.proofs.Common.{◌<◌, ◌∷◌, length, sym, ◌∙◌, ap, arith, drop, pieces_after, behind}
+use Rattle.keymap_fmt.proofs.Common.{rendered_from, formatted}
 use Rattle.keymap_fmt.specs.Inner.Reading.{piece_view}
 use Rattle.keymap_fmt.proofs.Writing.{piece_written, end_written, longer}
 use Rattle.keymap_fmt.proofs.whole.laid_out.Goals as goal
@@ -42,8 +41,7 @@ returns-clause-laid c =
 
 pub returns-then-len-gt-LIMIT-2-clause-refused : goal.returns-then-len-gt-LIMIT-2-clause-refused
 returns-then-len-gt-LIMIT-2-clause-refused c =
-    let same : c.end_line.new.laid.items ≡ formatted c.args.text.now =
-    end_written c.loop-piece.laid.items c.end_line.new.laid.items (formatted c.args.text.now) c.loop-piece.state
-    (pieces_after 0 c.loop-piece.standing (drop c.loop-piece.at c.args.text.now)) c.in_default.ensures
-    c.in-Ok-end_line.ensures c.loop-piece.invariant.same in
+    let same = end_written c.loop-piece.laid.items c.end_line.new.laid.items (formatted c.args.text.now)
+    c.loop-piece.state (pieces_after 0 c.loop-piece.standing (drop c.loop-piece.at c.args.text.now))
+    c.in_default.ensures c.in-Ok-end_line.ensures c.loop-piece.invariant.same in
     omega (arith, c.if-len-gt-LIMIT-2.true, c.len-2.ensures, c.end_line.new.laid.ok.0, ap length same)

@@ -1,6 +1,5 @@
-use Rattle.std.proofs.Common.{length, ◌-◌, ◌≡◌, ◌≤◌, ◌++◌, drop, vec_len}
-use Rattle.keymap_fmt.specs.Pieces.{pieces_after}
-use Rattle.keymap_fmt.specs.Formatted.{rendered_from, formatted}
+use Rattle.keymap_fmt.proofs.Common.{length, ◌-◌, ◌≡◌, ◌≤◌, ◌++◌, drop, pieces_after, rendered_from, formatted}
+use Rattle.std.proofs.Common.{vec_len}
 use Rattle.keymap_fmt.proofs.whole.laid_out.Given as goal
 
 -- what is written, and the pieces to come, are the text in the layout

@@ -1,6 +1,4 @@
-use Rattle.std.proofs.Common.{◌≡◌, take}
-use Rattle.std.specs.List.{flat_map}
-use Rattle.keymap_lint.specs.Kinds.{digit}
+use Rattle.keymap_lint.proofs.Common.{◌≡◌, take, flat_map, digit}
 use Rattle.keymap_lint.proofs.bare_digit.bare_digits.Given as goal
 
 -- what is said of the cells that were passed

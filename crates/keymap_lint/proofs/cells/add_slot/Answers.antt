@@ -1,4 +1,4 @@
-use Rattle.keymap_lint.specs.Spelled.{cell_in}
+use Rattle.keymap_lint.proofs.Common.{cell_in}
 use Rattle.keymap_lint.proofs.Lists.{map_step}
 use Rattle.keymap_lint.proofs.cells.add_slot.Goals as goal
 

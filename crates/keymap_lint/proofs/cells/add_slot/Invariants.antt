@@ -1,6 +1,4 @@
-use Rattle.std.proofs.Common.{◌≡◌, ◌++◌, map}
-use Rattle.std.specs.List.{range_with_len}
-use Rattle.keymap_lint.specs.Spelled.{cell_in}
+use Rattle.keymap_lint.proofs.Common.{◌≡◌, ◌++◌, map, range_with_len, cell_in}
 use Rattle.keymap_lint.proofs.cells.add_slot.Given as goal
 
 -- the cells so far

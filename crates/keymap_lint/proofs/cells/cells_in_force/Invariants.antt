@@ -1,6 +1,4 @@
-use Rattle.std.proofs.Common.{◌≡◌, take}
-use Rattle.std.specs.List.{flat_map}
-use Rattle.keymap_lint.specs.Spelled.{cells_of}
+use Rattle.keymap_lint.proofs.Common.{◌≡◌, take, flat_map, cells_of}
 use Rattle.keymap_lint.proofs.cells.cells_in_force.Given as goal
 
 -- the cells of the definitions that were passed

@@ -1,6 +1,5 @@
-use Rattle.std.proofs.Common.{arith, sym, ◌∙◌}
+use Rattle.keymap_lint.proofs.Common.{arith, sym, ◌∙◌, is_defined}
 use Rattle.keymap_core.proofs.BorneTests.{any-start, any-none, any-some}
-use Rattle.keymap_lint.specs.Kinds.{is_defined}
 use Rattle.keymap_lint.proofs.dead_key.defines_some.Goals as goal
 
 pub loop-accent-init : goal.loop-accent-init

@@ -1,6 +1,5 @@
-use Rattle.std.proofs.Common.{◌≡◌, false}
+use Rattle.keymap_lint.proofs.Common.{◌≡◌, false, is_defined}
 use Rattle.keymap_core.specs.Borne.{any_below}
-use Rattle.keymap_lint.specs.Kinds.{is_defined}
 use Rattle.keymap_lint.proofs.dead_key.defines_some.Given as goal
 
 -- none of the accents so far

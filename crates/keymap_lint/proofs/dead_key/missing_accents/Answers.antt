@@ -1,7 +1,5 @@
-use Rattle.std.proofs.Common.{◌≡◌, arith, ap, length, cond, [], ◌∷◌, sym, ◌∙◌}
-use Rattle.std.specs.Prelude.{not}
-use Rattle.arrayvec.specs.ArrayVec.{array_vec_len}
-use Rattle.keymap_lint.specs.Kinds.{missing_accent}
+use Rattle.keymap_lint.proofs.Common.{◌≡◌, arith, ap, length, cond, [], ◌∷◌, sym, ◌∙◌, not, array_vec_len}
+use Rattle.keymap_lint.proofs.Common.{missing_accent}
 use Rattle.keymap_lint.proofs.Lists.{gathered_start, gathered_step}
 use Rattle.keymap_lint.proofs.Missing.{missing_none, no_some}
 use Rattle.keymap_lint.proofs.dead_key.missing_accents.Goals as goal

@@ -1,6 +1,4 @@
-use Rattle.std.proofs.Common.{◌≡◌, take}
-use Rattle.std.specs.List.{flat_map}
-use Rattle.keymap_lint.specs.Kinds.{again}
+use Rattle.keymap_lint.proofs.Common.{◌≡◌, take, flat_map, again}
 use Rattle.keymap_lint.proofs.defined_again.defined_again.Given as goal
 
 -- what is said of the definitions that were passed

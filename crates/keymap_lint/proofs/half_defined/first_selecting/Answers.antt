@@ -1,7 +1,4 @@
-use Rattle.std.proofs.Common.{◌∙◌, rules, tests}
-use Rattle.std.proofs.lemmas.Iterator.{YieldsList-from_slice}
-use Rattle.std.proofs.lemmas.Iterator.Search.{find_from_yields_List}
-use Rattle.keymap_lint.specs.Kinds.{selects}
+use Rattle.keymap_lint.proofs.Common.{◌∙◌, rules, tests, YieldsList-from_slice, find_from_yields_List, selects}
 use Rattle.keymap_lint.proofs.half_defined.first_selecting.Goals as goal
 
 pub returns : goal.returns

@@ -1,6 +1,4 @@
-use Rattle.std.proofs.Common.{◌≡◌, arith, ap, length, cond, [], ◌∷◌}
-use Rattle.arrayvec.specs.ArrayVec.{array_vec_len}
-use Rattle.keymap_lint.specs.Kinds.{missing_slot}
+use Rattle.keymap_lint.proofs.Common.{◌≡◌, arith, ap, length, cond, [], ◌∷◌, array_vec_len, missing_slot}
 use Rattle.keymap_lint.proofs.Lists.{gathered_start, gathered_step}
 use Rattle.keymap_lint.proofs.half_defined.undefined_halves.Goals as goal
 

@@ -1,7 +1,4 @@
-use Rattle.std.proofs.Common.{◌≡◌, ◌≤◌}
-use Rattle.arrayvec.specs.ArrayVec.{array_vec_len}
-use Rattle.keymap_core.specs.Below.{gathered}
-use Rattle.keymap_lint.specs.Kinds.{missing_slot}
+use Rattle.keymap_lint.proofs.Common.{◌≡◌, ◌≤◌, array_vec_len, gathered, missing_slot}
 use Rattle.keymap_lint.proofs.half_defined.undefined_halves.Given as goal
 
 -- those among the slots so far

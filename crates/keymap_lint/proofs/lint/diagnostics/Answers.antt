@@ -1,4 +1,5 @@
-use Rattle.keymap_lint.specs.Types.{Faulty, Spelled}
+use Rattle.keymap_lint.proofs.Common.{Faulty}
+use Rattle.keymap_lint.specs.Types.{Spelled}
 use Rattle.keymap_lint.proofs.Standing.{lies_within}
 use Rattle.keymap_lint.proofs.lint.diagnostics.Goals as goal
 

@@ -1,4 +1,4 @@
-use Rattle.std.proofs.Common.{subst}
+use Rattle.keymap_lint.proofs.Common.{subst}
 use Rattle.keymap_lint.specs.Lists.{AreOrdered}
 use Rattle.keymap_lint.proofs.lint.ordered.Goals as goal
 

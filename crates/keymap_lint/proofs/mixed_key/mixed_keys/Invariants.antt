@@ -1,6 +1,4 @@
-use Rattle.std.proofs.Common.{◌≡◌, take}
-use Rattle.std.specs.List.{flat_map}
-use Rattle.keymap_lint.specs.Kinds.{mixed_key}
+use Rattle.keymap_lint.proofs.Common.{◌≡◌, take, flat_map, mixed_key}
 use Rattle.keymap_lint.proofs.mixed_key.mixed_keys.Given as goal
 
 -- what is said of the findings that were passed

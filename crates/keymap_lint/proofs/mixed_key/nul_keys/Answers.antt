@@ -1,5 +1,4 @@
-use Rattle.std.proofs.Common.{◌≡◌, arith, ap, length}
-use Rattle.arrayvec.specs.ArrayVec.{array_vec_len}
+use Rattle.keymap_lint.proofs.Common.{◌≡◌, arith, ap, length, array_vec_len}
 use Rattle.keymap_lint.proofs.mixed_key.nul_keys.Goals as goal
 
 pub loop-finding-init : goal.loop-finding-init

@@ -1,6 +1,4 @@
-use Rattle.std.proofs.Common.{◌≡◌, ◌≤◌, take}
-use Rattle.std.specs.List.{flat_map}
-use Rattle.arrayvec.specs.ArrayVec.{array_vec_len}
+use Rattle.keymap_lint.proofs.Common.{◌≡◌, ◌≤◌, take, flat_map, array_vec_len}
 use Rattle.keymap_lint.specs.Kinds.{nul_key}
 use Rattle.keymap_lint.proofs.mixed_key.nul_keys.Given as goal
 

@@ -1,6 +1,4 @@
-use Rattle.std.proofs.Common.{◌≡◌, ◌++◌}
-use Rattle.keymap_core.specs.Below.{gathered}
-use Rattle.keymap_lint.specs.Kinds.{pair_again}
+use Rattle.keymap_lint.proofs.Common.{◌≡◌, ◌++◌, gathered, pair_again}
 use Rattle.keymap_lint.proofs.pair_again.add_pairs.Given as goal
 
 -- what is said of the pairs so far

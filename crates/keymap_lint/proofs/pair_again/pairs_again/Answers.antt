@@ -1,5 +1,4 @@
-use Rattle.std.proofs.Common.{refl}
-use Rattle.keymap_lint.specs.Kinds.{accent_pairs}
+use Rattle.keymap_lint.proofs.Common.{refl, accent_pairs}
 use Rattle.keymap_lint.proofs.Lists.{gathered_start, gathered_step}
 use Rattle.keymap_lint.proofs.pair_again.pairs_again.Goals as goal
 

@@ -1,6 +1,4 @@
-use Rattle.std.proofs.Common.{◌≡◌}
-use Rattle.keymap_core.specs.Below.{gathered}
-use Rattle.keymap_lint.specs.Kinds.{accent_pairs}
+use Rattle.keymap_lint.proofs.Common.{◌≡◌, gathered, accent_pairs}
 use Rattle.keymap_lint.proofs.pair_again.pairs_again.Given as goal
 
 -- what is said of the pairs of the accents so far

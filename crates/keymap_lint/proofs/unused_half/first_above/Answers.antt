@@ -1,7 +1,5 @@
-use Rattle.std.proofs.Common.{◌∙◌, rules, tests}
-use Rattle.std.proofs.lemmas.Iterator.{YieldsList-from_slice}
-use Rattle.std.proofs.lemmas.Iterator.Search.{find_from_yields_List}
-use Rattle.keymap_lint.specs.Kinds.{is_above_in_force}
+use Rattle.keymap_lint.proofs.Common.{◌∙◌, rules, tests, YieldsList-from_slice, find_from_yields_List}
+use Rattle.keymap_lint.proofs.Common.{is_above_in_force}
 use Rattle.keymap_lint.proofs.unused_half.first_above.Goals as goal
 
 pub returns : goal.returns

@@ -1,5 +1,4 @@
-use Rattle.std.proofs.Common.{◌≡◌, arith, ap, length, cond, [], ◌∷◌, ◌+◌}
-use Rattle.arrayvec.specs.ArrayVec.{array_vec_len}
+use Rattle.keymap_lint.proofs.Common.{◌≡◌, arith, ap, length, cond, [], ◌∷◌, ◌+◌, array_vec_len}
 use Rattle.keymap_lint.specs.Kinds.{slot_above}
 use Rattle.keymap_lint.proofs.Lists.{gathered_start, gathered_step}
 use Rattle.keymap_lint.proofs.unused_half.slots_above.Goals as goal

@@ -1,6 +1,4 @@
-use Rattle.std.proofs.Common.{◌≡◌, ◌≤◌}
-use Rattle.arrayvec.specs.ArrayVec.{array_vec_len}
-use Rattle.keymap_core.specs.Below.{gathered}
+use Rattle.keymap_lint.proofs.Common.{◌≡◌, ◌≤◌, array_vec_len, gathered}
 use Rattle.keymap_lint.specs.Kinds.{slot_above}
 use Rattle.keymap_lint.proofs.unused_half.slots_above.Given as goal
 

@@ -1,4 +1,4 @@
-use Rattle.keymap_lint.specs.Kinds.{zero_accent}
+use Rattle.keymap_lint.proofs.Common.{zero_accent}
 use Rattle.keymap_lint.proofs.Lists.{gathered_start, gathered_step}
 use Rattle.keymap_lint.proofs.zero_accent.zero_accents.Goals as goal
 

@@ -1,6 +1,4 @@
-use Rattle.std.proofs.Common.{◌≡◌}
-use Rattle.keymap_core.specs.Below.{gathered}
-use Rattle.keymap_lint.specs.Kinds.{zero_accent}
+use Rattle.keymap_lint.proofs.Common.{◌≡◌, gathered, zero_accent}
 use Rattle.keymap_lint.proofs.zero_accent.zero_accents.Given as goal
 
 -- what is said of the accents so far

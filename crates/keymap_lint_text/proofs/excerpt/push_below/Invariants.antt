@@ -1,6 +1,4 @@
-use Rattle.std.proofs.Common.{◌≡◌, ◌++◌, take}
-use Rattle.std.specs.Prelude.{map}
-use Rattle.keymap_lint_text.specs.Excerpt.{below}
+use Rattle.keymap_lint_text.proofs.Common.{◌≡◌, ◌++◌, take, map, below}
 use Rattle.keymap_lint_text.proofs.excerpt.push_below.Given as goal
 
 abbrev pub invariant-loop-c : goal.invariant-loop-c

@@ -1,7 +1,6 @@
-use Rattle.std.proofs.Common.{◌≡◌, ◌∙◌, ◌++◌, length, take, ap, arith, subst}
+use Rattle.keymap_lint_text.proofs.Common.{◌≡◌, ◌∙◌, ◌++◌, length, take, ap, arith, subst, shown_before, without_cr}
+use Rattle.keymap_lint_text.proofs.Common.{reach, shown_chars, last, lines_text}
 use Rattle.std.specs.Prelude.{OnOk}
-use Rattle.keymap_lint_text.specs.Excerpt.{shown_before, without_cr, reach}
-use Rattle.keymap_lint_text.specs.Shown.{shown_chars, last, lines_text}
 use Rattle.keymap_lint_text.proofs.Windows.{both_lines, looked_behind}
 use Rattle.keymap_lint_text.proofs.excerpt.push_excerpt.Goals as goal
 

@@ -1,4 +1,4 @@
-use Rattle.std.proofs.Common.{◌∙◌, ◌-◌, length, drop, take_all, length-drop, sym, arith}
+use Rattle.keymap_lint_text.proofs.Common.{◌∙◌, ◌-◌, length, drop, take_all, length-drop, sym, arith}
 use Rattle.keymap_lint_text.proofs.excerpt.shown_part.Goals as goal
 
 pub returns-then-rest-lt-SHOWN_LIMIT : goal.returns-then-rest-lt-SHOWN_LIMIT

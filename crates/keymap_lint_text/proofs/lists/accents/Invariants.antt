@@ -1,4 +1,4 @@
-use Rattle.keymap_lint_text.specs.Shown.{IsLine}
+use Rattle.keymap_lint_text.proofs.Common.{IsLine}
 use Rattle.keymap_lint_text.proofs.lists.accents.Given as goal
 
 abbrev pub invariant-loop-i : goal.invariant-loop-i

@@ -1,6 +1,4 @@
-use Rattle.std.proofs.Common.{map, subst, sym}
-use Rattle.std.proofs.lemmas.Result.{on_ok_weaker}
-use Rattle.keymap_lint_text.specs.Shown.{IsLine}
+use Rattle.keymap_lint_text.proofs.Common.{map, subst, sym, on_ok_weaker, IsLine}
 use Rattle.keymap_lint_text.proofs.Lines.{fills, line_append}
 use Rattle.keymap_lint_text.proofs.message.add.Goals as goal
 

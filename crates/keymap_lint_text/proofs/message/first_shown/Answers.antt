@@ -1,8 +1,5 @@
-use Rattle.std.proofs.Common.{subst, sym, ◌∙◌, take, ap, ◌++◌}
-use Rattle.std.specs.Prelude.{encode_utf8}
-use Rattle.std.specs.List.{flat_map}
-use Rattle.std.proofs.lemmas.List.Elements.{All-take}
-use Rattle.keymap_lint_text.specs.Shown.{IsLine, IsSeen, shown_chars}
+use Rattle.keymap_lint_text.proofs.Common.{subst, sym, ◌∙◌, take, ap, ◌++◌, encode_utf8, flat_map, All-take, IsLine}
+use Rattle.keymap_lint_text.proofs.Common.{IsSeen, shown_chars}
 use Rattle.keymap_lint_text.proofs.Lines.{all_seen, line_chars}
 use Rattle.keymap_lint_text.proofs.message.first_shown.Goals as goal
 

@@ -1,5 +1,4 @@
-use Rattle.std.proofs.Common.{◌≡◌, ◌++◌, take}
-use Rattle.std.specs.List.{flat_map}
+use Rattle.keymap_lint_text.proofs.Common.{◌≡◌, ◌++◌, take, flat_map}
 use Rattle.keymap_lint_text.specs.Notes.{further_modifier}
 use Rattle.keymap_lint_text.proofs.notes.push_further_modifiers.Given as goal
 

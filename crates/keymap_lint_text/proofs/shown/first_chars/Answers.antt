@@ -1,5 +1,4 @@
-use Rattle.std.proofs.Common.{◌≡◌, ◌∙◌, subst, sym}
-use Rattle.std.specs.Prelude.{IfOk}
+use Rattle.keymap_lint_text.proofs.Common.{◌≡◌, ◌∙◌, subst, sym, IfOk}
 use Rattle.keymap_lint_text.proofs.Ascii.{first_bytes}
 use Rattle.keymap_lint_text.proofs.shown.first_chars.Goals as goal
 

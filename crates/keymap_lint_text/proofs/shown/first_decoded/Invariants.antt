@@ -1,6 +1,4 @@
-use Rattle.std.proofs.Common.{◌≡◌, ◌-◌, ◌≤◌, ◌++◌, length}
-use Rattle.std.specs.Prelude.{map}
-use Rattle.keymap_lint_text.specs.Shown.{shown_char, shown_chars}
+use Rattle.keymap_lint_text.proofs.Common.{◌≡◌, ◌-◌, ◌≤◌, ◌++◌, length, map, shown_char, shown_chars}
 use Rattle.keymap_lint_text.proofs.shown.first_decoded.Given as goal
 
 -- the characters so far, and those of the bytes that are left

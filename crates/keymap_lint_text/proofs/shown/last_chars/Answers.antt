@@ -1,7 +1,5 @@
-use Rattle.std.proofs.Common.{◌≡◌, ◌-◌, ◌∙◌, true, length, take, drop, ap, subst, sym, arith, take_all, length-drop}
-use Rattle.std.specs.Prelude.{IfOk}
-use Rattle.std.specs.List.{list_all}
-use Rattle.keymap_lint_text.specs.Shown.{is_shown_byte, last}
+use Rattle.keymap_lint_text.proofs.Common.{◌≡◌, ◌-◌, ◌∙◌, true, length, take, drop, ap, subst, sym, arith, take_all}
+use Rattle.keymap_lint_text.proofs.Common.{length-drop, IfOk, list_all, is_shown_byte, last}
 use Rattle.keymap_lint_text.proofs.Ascii.{last_bytes}
 use Rattle.keymap_lint_text.proofs.shown.last_chars.Goals as goal
 

@@ -1,6 +1,5 @@
-use Rattle.std.proofs.Common.{◌≡◌, ◌-◌, ◌≤◌, ◌++◌, length, reverse}
-use Rattle.std.specs.Prelude.{map}
-use Rattle.keymap_lint_text.specs.Shown.{shown_char, shown_chars}
+use Rattle.keymap_lint_text.proofs.Common.{◌≡◌, ◌-◌, ◌≤◌, ◌++◌, length, map, shown_char, shown_chars}
+use Rattle.std.proofs.Common.{reverse}
 use Rattle.keymap_lint_text.proofs.shown.last_decoded.Given as goal
 
 -- those of the bytes that are left, and behind them the characters so far, the last one first

@@ -1,6 +1,4 @@
-use Rattle.std.proofs.Common.{◌≡◌, ◌++◌, take}
-use Rattle.std.specs.Prelude.{encode_utf8}
-use Rattle.std.specs.List.{flat_map}
+use Rattle.keymap_lint_text.proofs.Common.{◌≡◌, ◌++◌, take, encode_utf8, flat_map}
 use Rattle.keymap_lint_text.proofs.shown.push_characters.Given as goal
 
 abbrev pub invariant-loop-c : goal.invariant-loop-c

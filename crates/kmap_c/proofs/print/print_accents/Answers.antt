@@ -1,9 +1,6 @@
-use Rattle.std.proofs.Common.{arith, ◌≡◌, ◌∙◌, ap, subst, sym, append-nil, ℕ, List, ◌++◌, length}
-use Rattle.std.specs.List.{flat_map, range_with_len}
-use Rattle.keymap_core.specs.Maps.{accent_or_blank}
-use Rattle.keymap_text.specs.Printed.{accent_line}
-use Rattle.keymap_text.proofs.Pieces.{lines-next}
-use Rattle.kmap_c.specs.Buffers.{HasPut}
+use Rattle.kmap_c.proofs.Common.{arith, ◌≡◌, ◌∙◌, ap, subst, sym, ℕ, List, ◌++◌, length, flat_map, range_with_len}
+use Rattle.kmap_c.proofs.Common.{accent_or_blank, accent_line, lines-next, HasPut}
+use Rattle.std.proofs.Common.{append-nil}
 use Rattle.kmap_c.proofs.print.print_accents.Goals as goal
 
 pub put-end-requires : goal.put-end-requires
@@ -21,8 +18,7 @@ pub loop-index-preserved : goal.loop-index-preserved
 loop-index-preserved c = record {
   lines = λ m bytes old is same put. let line : ℕ → List ℕ = λ i. accent_line i (accent_or_blank m i) in
       let index = c.loop-index.index in
-      let piece : c.as_slice.result.now ≡ line index =
-      c.as_slice.ensures.value ∙ c.accent_line-line.ensures
+      let piece = c.as_slice.ensures.value ∙ c.accent_line-line.ensures
       ∙ ap (accent_line c.loop-index.index) (c.accent_at.ensures m (is, same)) in
       subst (λ front. HasPut front old c.put-end.result c.put-end.new.buffer)
       (lines-next line index bytes _ piece)

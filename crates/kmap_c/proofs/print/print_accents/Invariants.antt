@@ -1,10 +1,5 @@
-use Rattle.std.proofs.Common.{◌≡◌, ℕ, ◌≤◌, ◌+◌, ◌*◌, ◌++◌, List}
-use Rattle.std.specs.List.{flat_map, range_with_len}
-use Rattle.keymap_core.specs.Bounds.{IsMap}
-use Rattle.keymap_core.specs.Maps.{MapValue, accent_or_blank}
-use Rattle.keymap_tables.specs.Image.{image}
-use Rattle.keymap_text.specs.Printed.{accent_line}
-use Rattle.kmap_c.specs.Buffers.{HasPut}
+use Rattle.kmap_c.proofs.Common.{◌≡◌, ℕ, ◌≤◌, ◌+◌, ◌*◌, ◌++◌, List, flat_map, range_with_len, IsMap, MapValue}
+use Rattle.kmap_c.proofs.Common.{accent_or_blank, image, accent_line, HasPut}
 use Rattle.kmap_c.proofs.print.print_accents.Given as goal
 
 -- The lines of the accents so far stand behind the bytes.

@@ -1,9 +1,5 @@
-use Rattle.std.proofs.Common.{arith, refl, ◌≡◌, ◌∙◌, ap, subst, ℕ, List, ◌++◌, [], length}
-use Rattle.std.specs.List.{flat_map, range_with_len}
-use Rattle.keymap_core.specs.Maps.{entry_at}
-use Rattle.keymap_text.specs.Printed.{key_line}
-use Rattle.keymap_text.proofs.Pieces.{lines-next}
-use Rattle.kmap_c.specs.Buffers.{HasPut}
+use Rattle.kmap_c.proofs.Common.{arith, refl, ◌≡◌, ◌∙◌, ap, subst, ℕ, List, [], length, flat_map, range_with_len}
+use Rattle.kmap_c.proofs.Common.{entry_at, key_line, lines-next, HasPut}
 use Rattle.kmap_c.proofs.print.print_keys.Goals as goal
 
 pub put-end-requires : goal.put-end-requires
@@ -20,8 +16,7 @@ pub loop-slot-preserved : goal.loop-slot-preserved
 loop-slot-preserved c = record {
   lines = λ m is same. let line : ℕ → List ℕ = λ s. key_line s (entry_at m s) in
       let slot = c.loop-slot.slot in
-      let piece : c.as_slice.result.now ≡ line slot =
-      c.as_slice.ensures.value ∙ c.key_line-line.ensures
+      let piece = c.as_slice.ensures.value ∙ c.key_line-line.ensures
       ∙ ap (key_line c.loop-slot.slot) (c.entry_at.ensures m (is, same)) in
       subst (λ bytes. HasPut bytes c.args.text.now c.put-end.result c.put-end.new.buffer)
       (lines-next line slot [] _ piece)

@@ -1,10 +1,5 @@
-use Rattle.std.proofs.Common.{◌≡◌, ◌≤◌, ◌*◌}
-use Rattle.std.specs.List.{flat_map, range_with_len}
-use Rattle.keymap_core.specs.Bounds.{IsMap}
-use Rattle.keymap_core.specs.Maps.{MapValue, entry_at}
-use Rattle.keymap_tables.specs.Image.{image}
-use Rattle.keymap_text.specs.Printed.{key_line}
-use Rattle.kmap_c.specs.Buffers.{HasPut}
+use Rattle.kmap_c.proofs.Common.{◌≡◌, ◌≤◌, ◌*◌, flat_map, range_with_len, IsMap, MapValue, entry_at, image, key_line}
+use Rattle.kmap_c.proofs.Common.{HasPut}
 use Rattle.kmap_c.proofs.print.print_keys.Given as goal
 
 -- The lines of the slots so far stand in front.

@@ -1,4 +1,4 @@
-use Rattle.std.proofs.Common.{arith, refl, ◌≤◌, []}
+use Rattle.kmap_c.proofs.Common.{arith, refl, []}
 use Rattle.kmap_c.proofs.Said.{set-behind}
 use Rattle.kmap_c.proofs.sentences.say.Goals as goal
 

@@ -1,4 +1,4 @@
-use Rattle.std.proofs.Common.{◌≡◌, drop}
+use Rattle.kmap_runs.proofs.Common.{◌≡◌, drop}
 use Rattle.kmap_runs.specs.Cover.{with_bases}
 use Rattle.kmap_runs.proofs.cover.add_bases.Given as goal
 

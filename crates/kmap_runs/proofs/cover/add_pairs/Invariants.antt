@@ -1,5 +1,4 @@
-use Rattle.std.proofs.Common.{◌≡◌, ◌++◌, map, take}
-use Rattle.console_core.specs.declared.selection.Sight.TheVariants.{Pair}
+use Rattle.kmap_runs.proofs.Common.{◌≡◌, ◌++◌, map, take, Pair}
 use Rattle.kmap_runs.proofs.cover.add_pairs.Given as goal
 
 abbrev pub invariant-loop-character : goal.invariant-loop-character

@@ -1,4 +1,5 @@
-use Rattle.std.proofs.Common.{◌∙◌, ap, unwrap_or}
+use Rattle.kmap_runs.proofs.Common.{◌∙◌, ap}
+use Rattle.std.proofs.Common.{unwrap_or}
 use Rattle.std.proofs.lemmas.Option.{unwrap_or-slice_get}
 use Rattle.keymap_core.specs.Accents.{blank}
 use Rattle.kmap_runs.specs.Cover.{bases_of}

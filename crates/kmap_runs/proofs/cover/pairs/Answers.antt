@@ -1,6 +1,4 @@
-use Rattle.std.proofs.Common.{map}
-use Rattle.console_core.specs.declared.selection.Sight.TheVariants.{Pair}
-use Rattle.kmap_runs.specs.Cover.{bases_at}
+use Rattle.kmap_runs.proofs.Common.{map, Pair, bases_at}
 use Rattle.kmap_runs.proofs.Covered.{piece_more}
 use Rattle.kmap_runs.proofs.cover.pairs.Goals as goal
 

@@ -1,7 +1,4 @@
-use Rattle.std.proofs.Common.{◌≡◌, map}
-use Rattle.std.specs.List.{flat_map, range_with_len}
-use Rattle.console_core.specs.declared.selection.Sight.TheVariants.{Pair}
-use Rattle.kmap_runs.specs.Cover.{bases_at}
+use Rattle.kmap_runs.proofs.Common.{◌≡◌, map, flat_map, range_with_len, Pair, bases_at}
 use Rattle.kmap_runs.proofs.cover.pairs.Given as goal
 
 abbrev pub invariant-loop-accent : goal.invariant-loop-accent

@@ -1,8 +1,5 @@
-use Rattle.std.proofs.Common.{◌≡◌, ◌∙◌, ap, ◌++◌, append_assoc, get_or}
-use Rattle.std.proofs.lemmas.List.{get_or_default}
-use Rattle.std.specs.List.{flat_map}
-use Rattle.keymap_cover.specs.declared.stroke.Stroke.TheVariants.{Reset}
-use Rattle.kmap_runs.specs.Cover.{start_line, stroke_line, stroke_lines}
+use Rattle.kmap_runs.proofs.Common.{◌≡◌, ◌∙◌, ap, ◌++◌, append_assoc, get_or, get_or_default, flat_map, Reset}
+use Rattle.kmap_runs.proofs.Common.{start_line, stroke_line, stroke_lines}
 use Rattle.kmap_runs.proofs.Covered.{piece_behind}
 use Rattle.kmap_runs.proofs.cover.push_script.Goals as goal
 

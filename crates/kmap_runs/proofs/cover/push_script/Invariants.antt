@@ -1,6 +1,4 @@
-use Rattle.std.proofs.Common.{◌≡◌, ◌++◌}
-use Rattle.std.specs.List.{flat_map, range_with_len}
-use Rattle.kmap_runs.specs.Cover.{stroke_lines}
+use Rattle.kmap_runs.proofs.Common.{◌≡◌, ◌++◌, flat_map, range_with_len, stroke_lines}
 use Rattle.kmap_runs.proofs.cover.push_script.Given as goal
 
 abbrev pub invariant-loop-place : goal.invariant-loop-place

@@ -1,6 +1,4 @@
-use Rattle.std.proofs.Common.{◌≡◌, ◌++◌, take}
-use Rattle.std.specs.List.{flat_map}
-use Rattle.kmap_runs.specs.Cover.{start_line}
+use Rattle.kmap_runs.proofs.Common.{◌≡◌, ◌++◌, take, flat_map, start_line}
 use Rattle.kmap_runs.proofs.cover.push_starts.Given as goal
 
 abbrev pub invariant-loop-start : goal.invariant-loop-start

@@ -1,25 +1,15 @@
-use Rattle.std.proofs.Common.{Err, inl, inr, refl, subst, sym, ap, ◌∙◌}
-use Rattle.std.proofs.lemmas.Result.{err_from_is_err_and}
-use Rattle.std.proofs.KnownBytes.{Keeps-refl}
-use Rattle.play_core.specs.Runs.{moves}
-use Rattle.kmap_runs.specs.Runs.{CoversText}
+use Rattle.kmap_runs.proofs.Common.{inl, inr, refl, err_from_is_err_and, Keeps-refl}
 use Rattle.kmap_runs.proofs.cover_runs.cover_run.Goals as goal
 
 pub returns-in_err-map-clause-run : goal.returns-in_err-map-clause-run
 returns-in_err-map-clause-run g c =
     let p = err_from_is_err_and c.from_residual.result c.from_residual.ensures.1 in
-    let text = moves (g.R.Read.remaining c.args.reader.now) (g.R.Read.remaining c.read_text.new.reader) in
-    let out = g.W.Write.contents c.args.writer.now in
-    subst (λ r. CoversText text (moves out out) r) (sym (p.1 ∙ ap Err p.2))
-    (inr (inl c.in_err-map.ensures.reads, Keeps-refl out))
+    rw (p.1, p.2) (inr (inl c.in_err-map.ensures.reads, Keeps-refl _))
 
 pub returns-in_err-told-clause-run : goal.returns-in_err-told-clause-run
 returns-in_err-told-clause-run g c =
     let p = err_from_is_err_and c.from_residual-in_err-told.result c.from_residual-in_err-told.ensures.1 in
-    let text = moves (g.R.Read.remaining c.args.reader.now) (g.R.Read.remaining c.read_text.new.reader) in
-    let out = g.W.Write.contents c.args.writer.now in
-    subst (λ r. CoversText text (moves out out) r) (sym (p.1 ∙ ap Err p.2))
-    (inr (inr (c.in_ok-map.map, c.in_ok-map.ensures.reads, c.in_err-told.ensures.err), Keeps-refl out))
+    rw (p.1, p.2) (inr (inr (c.in_ok-map.map, c.in_ok-map.ensures.reads, c.in_err-told.ensures.err), Keeps-refl _))
 
 pub returns-in-Ok-clause-run : goal.returns-in-Ok-clause-run
 returns-in-Ok-clause-run g c =

@@ -1,4 +1,4 @@
-use Rattle.std.proofs.Common.{subst}
+use Rattle.kmap_runs.proofs.Common.{subst}
 use Rattle.keymap_cover.specs.Covering.{IsCover}
 use Rattle.kmap_runs.proofs.cover_runs.covered.Goals as goal
 

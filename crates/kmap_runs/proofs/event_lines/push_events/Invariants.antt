@@ -1,6 +1,4 @@
-use Rattle.std.proofs.Common.{◌≡◌, ◌++◌, take}
-use Rattle.std.specs.List.{flat_map}
-use Rattle.play_core.specs.Spelling.{event_line}
+use Rattle.kmap_runs.proofs.Common.{◌≡◌, ◌++◌, take, flat_map, event_line}
 use Rattle.kmap_runs.proofs.event_lines.push_events.Given as goal
 
 abbrev pub invariant-loop-event : goal.invariant-loop-event

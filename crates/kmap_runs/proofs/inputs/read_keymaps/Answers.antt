@@ -1,5 +1,4 @@
-use Rattle.std.proofs.Common.{inl, inr}
-use Rattle.std.proofs.lemmas.Result.{err_from_is_err_and}
+use Rattle.kmap_runs.proofs.Common.{inl, inr, err_from_is_err_and}
 use Rattle.kmap_runs.proofs.Chained.{stays-same}
 use Rattle.kmap_runs.proofs.inputs.read_keymaps.Goals as goal
 

@@ -1,4 +1,4 @@
-use Rattle.std.proofs.Common.{refl}
+use Rattle.kmap_runs.proofs.Common.{refl}
 use Rattle.kmap_runs.proofs.laws.accepted_texts_keep_their_promise.Goals as goal
 
 pub returns : goal.returns

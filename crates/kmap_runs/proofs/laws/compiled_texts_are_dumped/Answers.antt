@@ -1,5 +1,4 @@
-use Rattle.std.proofs.Common.{arith, sym, subst, ◌∙◌}
-use Rattle.keymap_text.specs.Meaning.{Spells}
+use Rattle.kmap_runs.proofs.Common.{arith, sym, subst, ◌∙◌, Spells}
 use Rattle.keymap_tables.specs.Layouts.{wide, narrow}
 use Rattle.keymap_text.specs.Printed.{printed}
 use Rattle.kmap_runs.proofs.Replayed.{taken-whole}

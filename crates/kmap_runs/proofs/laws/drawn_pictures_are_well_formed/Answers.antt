@@ -1,4 +1,4 @@
-use Rattle.keymap_draw.specs.Pictures.{drawing}
+use Rattle.kmap_runs.proofs.Common.{drawing}
 use Rattle.kmap_runs.proofs.laws.drawn_pictures_are_well_formed.Goals as goal
 
 pub returns : goal.returns

@@ -1,5 +1,5 @@
-use Rattle.std.proofs.Common.{sym, ◌∙◌, subst}
-use Rattle.keymap_draw.specs.Pictures.{IsPicture, drawing}
+use Rattle.kmap_runs.proofs.Common.{sym, subst, drawing}
+use Rattle.keymap_draw.specs.Pictures.{IsPicture}
 use Rattle.kmap_runs.proofs.laws.drawn_pictures_tell_keymaps.Goals as goal
 
 pub returns : goal.returns

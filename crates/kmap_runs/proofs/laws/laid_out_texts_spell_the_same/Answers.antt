@@ -1,5 +1,4 @@
-use Rattle.std.proofs.Common.{sym, subst, ◌∙◌}
-use Rattle.keymap_text.specs.Meaning.{Spells}
+use Rattle.kmap_runs.proofs.Common.{sym, subst, ◌∙◌, Spells}
 use Rattle.kmap_runs.proofs.Replayed.{taken-whole}
 use Rattle.kmap_runs.proofs.laws.laid_out_texts_spell_the_same.Goals as goal
 

@@ -1,5 +1,4 @@
-use Rattle.std.proofs.Common.{sym}
-use Rattle.std.proofs.lemmas.Bool.{not-true}
+use Rattle.kmap_runs.proofs.Common.{sym, not-true}
 use Rattle.keymap_lint.specs.Severities.{has_error}
 use Rattle.kmap_runs.proofs.laws.well_linted_texts_never_stick.Goals as goal
 

@@ -1,4 +1,4 @@
-use Rattle.std.proofs.Common.{ap, not}
+use Rattle.kmap_runs.proofs.Common.{ap, not}
 use Rattle.kmap_runs.proofs.lint_runs.linted.Goals as goal
 
 pub returns : goal.returns

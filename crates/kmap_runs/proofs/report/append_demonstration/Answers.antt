@@ -1,4 +1,4 @@
-use Rattle.std.proofs.Common.{append_assoc, refl, sym}
+use Rattle.kmap_runs.proofs.Common.{append_assoc, refl, sym}
 use Rattle.kmap_runs.proofs.report.append_demonstration.Goals as goal
 
 pub returns-in-Some : goal.returns-in-Some

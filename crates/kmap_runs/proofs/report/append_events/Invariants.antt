@@ -1,7 +1,4 @@
-use Rattle.std.proofs.Common.{◌≡◌, ◌+◌, ◌*◌, ◌≤◌, ◌++◌, take}
-use Rattle.std.specs.List.{flat_map}
-use Rattle.arrayvec.specs.ArrayVec.{array_vec_len}
-use Rattle.play_core.specs.Spelling.{event_line}
+use Rattle.kmap_runs.proofs.Common.{◌≡◌, ◌+◌, ◌*◌, ◌≤◌, ◌++◌, take, flat_map, array_vec_len, event_line}
 use Rattle.kmap_runs.proofs.report.append_events.Given as goal
 
 abbrev pub invariant-loop-event : goal.invariant-loop-event

@@ -1,6 +1,4 @@
-use Rattle.std.proofs.Common.{◌≡◌, ◌+◌, ◌*◌, ◌≤◌, ◌++◌, take}
-use Rattle.std.specs.List.{flat_map}
-use Rattle.arrayvec.specs.ArrayVec.{array_vec_len}
+use Rattle.kmap_runs.proofs.Common.{◌≡◌, ◌+◌, ◌*◌, ◌≤◌, ◌++◌, take, flat_map, array_vec_len}
 use Rattle.kmap_runs.specs.Report.{finding_line}
 use Rattle.kmap_runs.proofs.report.append_findings.Given as goal
 

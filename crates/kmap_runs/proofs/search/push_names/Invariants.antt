@@ -1,6 +1,4 @@
-use Rattle.std.proofs.Common.{◌≡◌, ◌++◌, take}
-use Rattle.std.specs.List.{flat_map}
-use Rattle.kmap_runs.specs.Search.{modifier_name}
+use Rattle.kmap_runs.proofs.Common.{◌≡◌, ◌++◌, take, flat_map, modifier_name}
 use Rattle.kmap_runs.proofs.search.push_names.Given as goal
 
 abbrev pub invariant-loop-modifier : goal.invariant-loop-modifier

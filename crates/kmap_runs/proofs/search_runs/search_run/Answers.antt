@@ -1,6 +1,4 @@
-use Rattle.std.proofs.Common.{inl, inr, refl}
-use Rattle.std.proofs.lemmas.Result.{err_from_is_err_and}
-use Rattle.std.proofs.KnownBytes.{Keeps-refl}
+use Rattle.kmap_runs.proofs.Common.{inl, inr, refl, err_from_is_err_and, Keeps-refl}
 use Rattle.kmap_runs.proofs.search_runs.search_run.Goals as goal
 
 pub returns-in_err-first-clause-run : goal.returns-in_err-first-clause-run

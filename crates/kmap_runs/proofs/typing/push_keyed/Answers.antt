@@ -1,6 +1,4 @@
-use Rattle.std.proofs.Common.{arith, get_or, length}
-use Rattle.std.proofs.lemmas.List.{get_or_default}
-use Rattle.console_core.specs.declared.typing.Keyed.{Keyed}
+use Rattle.kmap_runs.proofs.Common.{arith, get_or, length, get_or_default, Keyed}
 use Rattle.kmap_runs.proofs.Scripts.{ends-front, ends-within, line_more, lines_end}
 use Rattle.kmap_runs.proofs.typing.push_keyed.Goals as goal
 

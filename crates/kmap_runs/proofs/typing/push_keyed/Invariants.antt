@@ -1,6 +1,4 @@
-use Rattle.std.proofs.Common.{◌≡◌, ◌≤◌, ◌++◌, ◌-◌, true, length, drop}
-use Rattle.console_core.specs.Typing.{AreEnds}
-use Rattle.kmap_runs.specs.Typing.{lines_from}
+use Rattle.kmap_runs.proofs.Common.{◌≡◌, ◌≤◌, ◌++◌, ◌-◌, true, length, drop, AreEnds, lines_from}
 use Rattle.kmap_runs.proofs.typing.push_keyed.Given as goal
 
 -- what is written and what is left to write are all lines

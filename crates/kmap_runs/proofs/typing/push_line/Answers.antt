@@ -1,6 +1,4 @@
-use Rattle.std.proofs.Common.{get_or, ne_eqb}
-use Rattle.std.proofs.lemmas.List.{get_or_default}
-use Rattle.console_core.specs.declared.typing.Keyed.{Keyed}
+use Rattle.kmap_runs.proofs.Common.{get_or, ne_eqb, get_or_default, Keyed}
 use Rattle.kmap_runs.proofs.Scripts.{shown_more}
 use Rattle.kmap_runs.proofs.typing.push_line.Goals as goal
 

@@ -1,6 +1,4 @@
-use Rattle.std.proofs.Common.{◌≡◌, ◌++◌, drop}
-use Rattle.console_core.specs.Typing.{characters_of}
-use Rattle.kmap_runs.specs.Typing.{line_shown}
+use Rattle.kmap_runs.proofs.Common.{◌≡◌, ◌++◌, drop, characters_of, line_shown}
 use Rattle.kmap_runs.proofs.typing.push_line.Given as goal
 
 -- what is shown and what is left to show are the whole line

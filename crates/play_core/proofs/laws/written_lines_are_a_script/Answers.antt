@@ -1,4 +1,4 @@
-use Rattle.play_core.specs.Spelling.{text_of, sent_in}
+use Rattle.play_core.proofs.Common.{text_of, sent_in}
 use Rattle.play_core.proofs.Spelling.{lines-script}
 use Rattle.play_core.proofs.Verdicts.{one_list, not_both}
 use Rattle.play_core.proofs.laws.written_lines_are_a_script.Goals as goal

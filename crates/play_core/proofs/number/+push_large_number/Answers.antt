@@ -1,7 +1,7 @@
-use Rattle.std.proofs.Common.{refl, length-append, arith}
+use Rattle.play_core.proofs.Common.{refl, length-append, arith}
 use Rattle.play_core.proofs.Digits.{last_digit, one_more_digit, more_digits, digits_of_one}
-use Rattle.play_core.proofs.number.+push_large_number.Goals as goal
 use Rattle.play_core.proofs.number.+push_large_number.Goals.{then-number-gt9, else-number-gt9}
+use Rattle.play_core.proofs.number.+push_large_number.Goals as goal
 
 pub push_large_number-requires : goal.push_large_number-requires
 push_large_number-requires t c =

@@ -1,4 +1,4 @@
-use Rattle.std.proofs.Common.{◌≤◌, length, decimal, length-append, arith}
+use Rattle.play_core.proofs.Common.{◌≤◌, length, decimal, length-append, arith}
 use Rattle.std.proofs.lemmas.Fmt.{length-decimal-le}
 use Rattle.play_core.proofs.number.push_number.Goals as goal
 

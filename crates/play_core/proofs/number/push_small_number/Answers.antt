@@ -1,4 +1,4 @@
-use Rattle.std.proofs.Common.{◌++◌, ap, ◌∙◌}
+use Rattle.play_core.proofs.Common.{◌++◌, ap, ◌∙◌}
 use Rattle.play_core.proofs.SmallNumbers.{small_number}
 use Rattle.play_core.proofs.number.push_small_number.Goals as goal
 

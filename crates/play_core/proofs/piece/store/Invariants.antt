@@ -1,4 +1,4 @@
-use Rattle.std.proofs.Common.{◌≡◌, ◌+◌, ◌++◌, length, take}
+use Rattle.play_core.proofs.Common.{◌≡◌, ◌+◌, ◌++◌, length, take}
 use Rattle.play_core.proofs.piece.store.Given as goal
 
 abbrev pub invariant-loop-i : goal.invariant-loop-i

@@ -1,4 +1,4 @@
-use Rattle.std.proofs.Common.{refl}
+use Rattle.play_core.proofs.Common.{refl}
 use Rattle.play_core.proofs.PlainLines.{key_of_one, key_of_two, key_of_three}
 use Rattle.play_core.proofs.plain_line.plain_key.Goals as goal
 

@@ -1,4 +1,4 @@
-use Rattle.std.specs.Prelude.{codes}
+use Rattle.play_core.proofs.Common.{codes}
 use Rattle.play_core.proofs.PlainLines.{down_line, up_line, repeat_line, rest_of}
 use Rattle.play_core.proofs.plain_line.plain_line.Goals as goal
 

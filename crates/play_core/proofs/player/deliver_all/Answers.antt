@@ -1,11 +1,8 @@
-use Rattle.std.proofs.Common.{List, [], ◌∷◌, ◌++◌, take, length, refl, sym, ap, subst, ◌∙◌, arith}
-use Rattle.std.specs.Prelude.{reverse}
-use Rattle.play_core.specs.Types.{Event}
-use Rattle.keymap_core.proofs.Gathering.{Gathers-start, Gathers-same, Gathers-more, StopsIn-more, passed_on}
-use Rattle.play_core.specs.Delivery.{delivered}
+use Rattle.play_core.proofs.Common.{List, [], ◌∷◌, ◌++◌, take, length, refl, sym, ap, subst, ◌∙◌, arith, reverse, Event}
+use Rattle.play_core.proofs.Common.{Gathers-start, Gathers-same, Gathers-more, StopsIn-more, passed_on, delivered}
 use Rattle.play_core.proofs.Texts.{text-nil, text-more, text-rest, delivered-more}
-use Rattle.play_core.proofs.player.deliver_all.Goals as goal
 use Rattle.console_core.proofs.Deliveries.{reverse-joined}
+use Rattle.play_core.proofs.player.deliver_all.Goals as goal
 
 pub loop-one-init : goal.loop-one-init
 loop-one-init g c = record {

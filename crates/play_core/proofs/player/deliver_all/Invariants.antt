@@ -1,10 +1,5 @@
-use Rattle.std.proofs.Common.{◌≡◌, ◌≤◌, ◌*◌, ◌+◌, ◌++◌, List, length, take}
-use Rattle.std.specs.Prelude.{reverse}
-use Rattle.keymap_core.specs.Streams.{Gathers}
-use Rattle.play_core.specs.Types.{Event}
-use Rattle.console_core.specs.History.{Maps}
-use Rattle.play_core.specs.Delivery.{delivered}
-use Rattle.play_core.specs.Written.{text_after}
+use Rattle.play_core.proofs.Common.{◌≡◌, ◌≤◌, ◌*◌, ◌+◌, ◌++◌, List, length, take, reverse, Gathers, Event, Maps}
+use Rattle.play_core.proofs.Common.{delivered, text_after}
 use Rattle.play_core.proofs.player.deliver_all.Given as goal
 
 abbrev pub invariant-loop-one : goal.invariant-loop-one

@@ -1,7 +1,5 @@
-use Rattle.std.proofs.Common.{◌≡◌, [], ◌++◌, None, Some, sym, ap, ◌∙◌, append-nil}
+use Rattle.play_core.proofs.Common.{◌≡◌, [], ◌++◌, None, Some, sym, ap, ◌∙◌, append-nil, event_of, text_after}
 use Rattle.std.specs.List.{cons_option}
-use Rattle.play_core.specs.Delivery.{event_of}
-use Rattle.play_core.specs.Written.{text_after}
 use Rattle.play_core.proofs.Texts.{text-nil, text-one}
 use Rattle.play_core.proofs.player.play_sent.Goals as goal
 

@@ -1,6 +1,4 @@
-use Rattle.console_core.specs.History.{between}
-use Rattle.play_core.specs.Playing.{LacksEvents, ReadsScript, ReadsText, ShowsEvents, of_writer}
-use Rattle.play_core.specs.Runs.{Stays, moves}
+use Rattle.play_core.proofs.Common.{between, LacksEvents, ReadsScript, ReadsText, ShowsEvents, of_writer, Stays, moves}
 use Rattle.play_core.proofs.Chained.{after_first}
 use Rattle.play_core.proofs.playing.play.Goals as goal
 

@@ -1,9 +1,6 @@
-use Rattle.std.proofs.Common.{inl, inr}
-use Rattle.std.proofs.lemmas.Result.{err_from_is_err_and}
-use Rattle.std.proofs.KnownBytes.{Keeps-refl}
-use Rattle.console_core.specs.History.{between}
-use Rattle.play_core.specs.Playing.{LacksEvents, ReadsNext, ReadsScript, ReadsText, ShowsEvents, of_writer}
-use Rattle.play_core.specs.Runs.{ReadsBoth, Stays, moves}
+use Rattle.play_core.proofs.Common.{inl, inr, err_from_is_err_and, Keeps-refl, between, LacksEvents, ReadsScript}
+use Rattle.play_core.proofs.Common.{ReadsText, ShowsEvents, of_writer, ReadsBoth, Stays, moves}
+use Rattle.play_core.specs.Playing.{ReadsNext}
 use Rattle.play_core.proofs.Chained.{after_first}
 use Rattle.play_core.proofs.playing.play_next.Goals as goal
 

@@ -1,6 +1,4 @@
-use Rattle.std.proofs.Common.{inl, inr, refl}
-use Rattle.std.proofs.lemmas.Result.{err_from_is_err_and}
-use Rattle.std.proofs.KnownBytes.{Keeps-refl}
+use Rattle.play_core.proofs.Common.{inl, inr, refl, err_from_is_err_and, Keeps-refl}
 use Rattle.play_core.proofs.playing.play_script.Goals as goal
 
 pub returns-in_err-sent-clause-run : goal.returns-in_err-sent-clause-run

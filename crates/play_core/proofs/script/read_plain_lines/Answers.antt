@@ -1,7 +1,5 @@
-use Rattle.std.proofs.Common.{◌≡◌, ◌+◌, ◌++◌, ◌∷◌, [], false, length, subst, arith, length-append}
-use Rattle.std.proofs.lemmas.Result.{err_from_is_err_and}
-use Rattle.play_core.specs.Types.{Sent}
-use Rattle.play_core.specs.Inner.Readings.{IsReadTo}
+use Rattle.play_core.proofs.Common.{◌≡◌, ◌++◌, ◌∷◌, [], false, subst, arith, length-append}
+use Rattle.play_core.proofs.Common.{err_from_is_err_and, Sent, IsReadTo}
 use Rattle.play_core.proofs.ScriptLines.{read-more, read-out}
 use Rattle.play_core.proofs.script.read_plain_lines.Goals as goal
 
@@ -25,8 +23,7 @@ pub loop-told-preserved : goal.loop-told-preserved
 loop-told-preserved c =
     let one : Sent = record { lost = false; what = c.in-Some.told.0 } in
     let items : c.push.new.self.items ≡ c.loop-told.events.items ++ one ∷ [] = c.in_ok-push.ensures.items in
-    let long : length (c.loop-told.events.items ++ one ∷ []) ≡ length c.loop-told.events.items + 1 =
-    length-append c.loop-told.events.items (one ∷ []) in
+    let long = length-append c.loop-told.events.items (one ∷ []) in
     let more = c.loop-told.invariant.more in
     record {
       read = λ script number read.

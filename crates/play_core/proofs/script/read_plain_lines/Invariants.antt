@@ -1,5 +1,4 @@
-use Rattle.std.proofs.Common.{ℕ, ◌+◌, ◌-◌, ◌≤◌, List, length}
-use Rattle.play_core.specs.Inner.Readings.{IsReadTo}
+use Rattle.play_core.proofs.Common.{ℕ, ◌+◌, ◌-◌, ◌≤◌, List, length, IsReadTo}
 use Rattle.play_core.proofs.script.read_plain_lines.Given as goal
 
 -- what is left of the text follows the lines that were added

@@ -1,10 +1,8 @@
-use Rattle.std.proofs.Common.{◌+◌, ◌-◌, take, refl, ap, subst, ◌∙◌, arith, Some, None, Ok, Err}
-use Rattle.std.proofs.lemmas.Result.{err_from_is_err_and}
-use Rattle.play_core.specs.Scripts.{AreEvents, lines_of, words_of}
-use Rattle.play_core.specs.Types.{Form, Key}
+use Rattle.play_core.proofs.Common.{◌+◌, ◌-◌, take, refl, ap, subst, ◌∙◌, arith, Some, None, Ok, Err}
+use Rattle.play_core.proofs.Common.{err_from_is_err_and, AreEvents, lines_of, words_of, Form, Key}
 use Rattle.play_core.proofs.Sending.{reading_is}
-use Rattle.play_core.proofs.ScriptLines.{lines_more, blank_more, event_more, fault_at, out_at, next_part}
-use Rattle.play_core.proofs.ScriptLines.{after_split, no_part, parts_left, read-on, read-few}
+use Rattle.play_core.proofs.ScriptLines.{lines_more, blank_more, event_more, fault_at, out_at, next_part, after_split}
+use Rattle.play_core.proofs.ScriptLines.{no_part, parts_left, read-on, read-few}
 use Rattle.play_core.proofs.script.read_script.Goals as goal
 
 pub overflow_add-number : goal.overflow_add-number

@@ -1,5 +1,4 @@
-use Rattle.std.proofs.Common.{◌≡◌, take, drop}
-use Rattle.play_core.specs.Scripts.{AreEvents, parts_of, lines_of}
+use Rattle.play_core.proofs.Common.{◌≡◌, take, drop, AreEvents, parts_of, lines_of}
 use Rattle.play_core.proofs.ScriptLines.{parts_left, bytes_left}
 use Rattle.play_core.proofs.script.read_script.Given as goal
 

@@ -1,4 +1,4 @@
-use Rattle.std.proofs.Common.{sym, ◌∙◌}
+use Rattle.play_core.proofs.Common.{sym, ◌∙◌}
 use Rattle.play_core.proofs.Sending.{key_of_none, key_of_some}
 use Rattle.play_core.proofs.script_line.read_key.Goals as goal
 

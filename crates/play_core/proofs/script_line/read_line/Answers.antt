@@ -1,6 +1,4 @@
-use Rattle.std.proofs.Common.{sym, ap, ◌∙◌}
-use Rattle.play_core.specs.Scripts.{words_in}
-use Rattle.play_core.specs.Inner.Readings.{reading_of_lost}
+use Rattle.play_core.proofs.Common.{sym, ap, ◌∙◌, words_in, reading_of_lost}
 use Rattle.play_core.proofs.Sending.{lost_line, lost_command, lost_alone}
 use Rattle.play_core.proofs.script_line.read_line.Goals as goal
 

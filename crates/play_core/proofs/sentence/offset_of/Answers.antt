@@ -1,6 +1,6 @@
-use Rattle.std.proofs.Common.{◌≡◌, ◌∙◌, ◌+◌, ◌<◌, ap, take, length, get_or, arith}
-use Rattle.std.specs.Str.{encode_utf8_all}
-use Rattle.std.proofs.lemmas.List.{get_or-take, length-take-le}
+use Rattle.play_core.proofs.Common.{◌≡◌, ◌∙◌, ◌+◌, ◌<◌, ap, take, length, get_or, arith, encode_utf8_all}
+use Rattle.play_core.proofs.Common.{length-take-le}
+use Rattle.std.proofs.lemmas.List.{get_or-take}
 use Rattle.play_core.proofs.Sentences.{room-for, one-further}
 use Rattle.play_core.proofs.sentence.offset_of.Goals as goal
 

@@ -1,5 +1,4 @@
-use Rattle.std.proofs.Common.{◌≡◌, length, take}
-use Rattle.std.specs.Str.{encode_utf8_all}
+use Rattle.play_core.proofs.Common.{◌≡◌, length, take, encode_utf8_all}
 use Rattle.play_core.proofs.sentence.offset_of.Given as goal
 
 -- the bytes of the characters so far

@@ -1,9 +1,10 @@
-use Rattle.std.proofs.Common.{◌≡◌, ◌∙◌, ◌<◌, ◌++◌, ◌∷◌, true, sym, ap, subst, rules, take, drop, length, Some}
-use Prim.Native.Nat.{suc}
-use Rattle.std.specs.Str.{IsUtf8, chars, all_scalars, encode_utf8_all}
+use Rattle.play_core.proofs.Common.{◌≡◌, ◌∙◌, ◌<◌, ◌++◌, ◌∷◌, true, sym, ap, subst, take, drop, length, Some, suc}
+use Rattle.play_core.proofs.Common.{encode_utf8_all, AreTyped}
+use Rattle.std.proofs.Common.{rules}
+use Rattle.std.specs.Str.{IsUtf8, chars, all_scalars}
 use Rattle.std.proofs.lemmas.Str.{chars_from_encodes, encodes-chars, scalars-chars}
 use Rattle.std.proofs.lemmas.Option.{slice_get-get_or, slice_get_within, same_Some}
-use Rattle.console_core.specs.Typing.{AreTyped, CanType}
+use Rattle.console_core.specs.Typing.{CanType}
 use Rattle.play_core.proofs.Sentences.{split-item, typed-sentence}
 use Rattle.play_core.proofs.sentence.type_sentence.Goals as goal
 

@@ -1,6 +1,4 @@
-use Rattle.std.proofs.Common.{sym, append-nil}
-use Rattle.std.specs.Prelude.{codes}
-use Rattle.play_core.specs.Written.{names_of_locks}
+use Rattle.play_core.proofs.Common.{sym, append-nil, codes, names_of_locks}
 use Rattle.play_core.proofs.Tails.{name_added}
 use Rattle.play_core.proofs.tail.push_locks.Goals as goal
 

@@ -1,5 +1,4 @@
-use Rattle.std.proofs.Common.{◌∙◌}
-use Rattle.play_core.specs.Inner.Tails.{tail_of}
+use Rattle.play_core.proofs.Common.{◌∙◌, tail_of}
 use Rattle.play_core.proofs.Tails.{tail_by_number, tail_behind, tail_spelled}
 use Rattle.play_core.proofs.tail.push_new_tail.Goals as goal
 

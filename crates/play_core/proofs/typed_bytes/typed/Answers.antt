@@ -1,6 +1,5 @@
-use Rattle.std.proofs.Common.{drop, length, refl, sym, ap, ◌∙◌, arith}
-use Rattle.keymap_core.proofs.Gathering.{Gathers-start, Gathers-same, Gathers-more, StopsIn-more, passed_on}
-use Rattle.play_core.specs.Written.{typed_text}
+use Rattle.play_core.proofs.Common.{drop, length, refl, sym, ap, ◌∙◌, arith, Gathers-start, Gathers-same, Gathers-more}
+use Rattle.play_core.proofs.Common.{StopsIn-more, passed_on, typed_text}
 use Rattle.play_core.proofs.Texts.{typed-nil, typed-more, typed-rest}
 use Rattle.play_core.proofs.typed_bytes.typed.Goals as goal
 

@@ -1,6 +1,4 @@
-use Rattle.std.proofs.Common.{◌≡◌, ◌≤◌, ◌+◌, ◌*◌, length, take}
-use Rattle.keymap_core.specs.Streams.{Gathers}
-use Rattle.play_core.specs.Written.{typed_text}
+use Rattle.play_core.proofs.Common.{◌≡◌, ◌≤◌, ◌+◌, ◌*◌, length, take, Gathers, typed_text}
 use Rattle.play_core.proofs.typed_bytes.typed.Given as goal
 
 abbrev pub invariant-loop-answer : goal.invariant-loop-answer

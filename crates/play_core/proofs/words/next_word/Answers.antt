@@ -1,4 +1,4 @@
-use Rattle.std.proofs.Common.{sym}
+use Rattle.play_core.proofs.Common.{sym}
 use Rattle.play_core.proofs.LineWords.{no_word, next_words}
 use Rattle.play_core.proofs.words.next_word.Goals as goal
 

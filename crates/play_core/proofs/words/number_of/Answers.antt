@@ -1,7 +1,6 @@
-use Rattle.std.proofs.Common.{◌<◌, ◌≤◌, ◌⊎◌, inl, inr, arith, ℕ}
+use Rattle.play_core.proofs.Common.{◌<◌, ◌≤◌, ◌⊎◌, inl, inr, arith, ℕ, digit_from_value}
 use Rattle.std.proofs.lemmas.Int.Digits.{digits_more, digits_value_more}
 use Rattle.std.proofs.lemmas.Str.{digit_value_digit}
-use Rattle.std.proofs.lemmas.Str.Parse.{digit_from_value}
 use Rattle.play_core.proofs.LineWords.{digit_at}
 use Rattle.play_core.proofs.words.number_of.Goals as goal
 

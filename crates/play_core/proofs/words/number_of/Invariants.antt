@@ -1,5 +1,4 @@
-use Rattle.std.proofs.Common.{◌≡◌, min, take}
-use Rattle.std.specs.Str.Parse.{AllDigits, digits_value}
+use Rattle.play_core.proofs.Common.{◌≡◌, min, take, AllDigits, digits_value}
 use Rattle.play_core.proofs.words.number_of.Given as goal
 
 -- the digits so far, and their number

@@ -1,4 +1,4 @@
-use Rattle.std.proofs.Common.{sym}
+use Rattle.play_core.proofs.Common.{sym}
 use Rattle.play_core.proofs.ScriptLines.{first_part, last_part}
 use Rattle.play_core.proofs.words.split_line.Goals as goal
 

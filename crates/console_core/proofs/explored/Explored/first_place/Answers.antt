@@ -1,11 +1,5 @@
-use Rattle.std.proofs.Common.{◌≡◌, inl, inr, slice_get, Some, subst, sym, ◌∙◌, arith}
-use Rattle.std.proofs.lemmas.Bool.{true≢false}
-use Rattle.std.proofs.lemmas.Option.{slice_get_within}
-use Rattle.console_core.specs.Moves.{alone}
-use Rattle.console_core.specs.Typing.{IsTapOf}
-use Rattle.console_core.specs.Inner.Exploring.{map_of_explored}
-use Rattle.console_core.specs.Inner.Routes.{HasRoute}
-use Rattle.console_core.specs.Inner.Searching.{state_of}
+use Rattle.console_core.proofs.Common.{◌≡◌, inl, inr, slice_get, Some, subst, sym, ◌∙◌, arith, true≢false}
+use Rattle.console_core.proofs.Common.{slice_get_within, alone, IsTapOf, map_of_explored, HasRoute, state_of}
 use Rattle.console_core.proofs.Looking.{entry-at}
 use Rattle.console_core.proofs.Searching.{place_last}
 use Rattle.console_core.proofs.Seeing.{one_map}

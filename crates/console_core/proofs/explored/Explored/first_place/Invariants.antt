@@ -1,6 +1,5 @@
 -- no key at a place before this one is tapped so
-use Rattle.std.proofs.Common.{◌≡◌, ◌<◌, ℕ, false}
-use Rattle.console_core.specs.Inner.Exploring.{IsTapAt}
+use Rattle.console_core.proofs.Common.{◌≡◌, ◌<◌, ℕ, false, IsTapAt}
 use Rattle.console_core.proofs.explored.Explored.first_place.Given as goal
 
 abbrev pub invariant-loop-place : goal.invariant-loop-place

@@ -1,7 +1,4 @@
-use Rattle.std.proofs.Common.{reverse, sym}
-use Rattle.std.proofs.lemmas.Bool.{true≢false}
-use Rattle.console_core.specs.Moves.{alone}
-use Rattle.console_core.specs.Inner.Exploring.{map_of_explored}
+use Rattle.console_core.proofs.Common.{reverse, sym, true≢false, alone, map_of_explored}
 use Rattle.console_core.proofs.explored.Explored.go_home.Goals as goal
 
 pub come_home-requires : goal.come_home-requires

@@ -1,9 +1,5 @@
-use Rattle.std.proofs.Common.{subst, reverse, sym}
-use Rattle.std.proofs.lemmas.Option.{slice_get_within}
-use Rattle.console_core.specs.Moves.{alone}
-use Rattle.console_core.specs.Inner.Exploring.{map_of_explored, origin_in, LetsGo}
-use Rattle.console_core.specs.Inner.Routes.{HasRoute, LeadsHome, freed}
-use Rattle.console_core.specs.Inner.Searching.{state_of}
+use Rattle.console_core.proofs.Common.{subst, reverse, sym, slice_get_within, alone, map_of_explored, origin_in, LetsGo}
+use Rattle.console_core.proofs.Common.{HasRoute, LeadsHome, freed, state_of}
 use Rattle.console_core.proofs.Exploring.{stroke-freed, stroke-home}
 use Rattle.console_core.proofs.GoingBack.{searched-back}
 use Rattle.console_core.proofs.explored.Explored.stroke.Goals as goal

@@ -1,10 +1,10 @@
-use Rattle.std.proofs.Common.{ap, subst, ◌∙◌}
-use Rattle.console_core.specs.Moves.{exchanged}
-use Rattle.console_core.specs.Inner.Searching.{state_of, IsMetBy}
+use Rattle.console_core.proofs.Common.{refl, ap, ◌∙◌, exchanged, state_of}
 use Rattle.console_core.proofs.held.Held.exchange.Goals as goal
 
-pub returns-then-is_free-clause-met : goal.returns-then-is_free-clause-met
-returns-then-is_free-clause-met c =
-    λ es p met is.
-    subst (λ s. IsMetBy es p s)
-    (c.exchanged.ensures ∙ ap (λ m. exchanged m (state_of c.args.self.now)) c.next_in_force.ensures) met
+pub returns-then-is_free-clause-leads : goal.returns-then-is_free-clause-leads
+returns-then-is_free-clause-leads c =
+    λ is. (
+      _,
+      refl,
+      c.exchanged.ensures ∙ ap (λ m. exchanged m (state_of c.args.self.now)) c.next_in_force.ensures,
+    )

@@ -1,9 +1,5 @@
 -- no holder of a modifier below the place looks up a character
-use Rattle.std.proofs.Common.{◌≡◌, ◌<◌, ℕ}
-use Rattle.console_core.specs.Types.{Modifier}
-use Rattle.keymap_core.specs.Actions.{modifier_index}
-use Rattle.console_core.specs.Moves.{HolderForgets}
-use Rattle.console_core.specs.Inner.Searching.{state_of, under_of}
+use Rattle.console_core.proofs.Common.{◌≡◌, ◌<◌, ℕ, Modifier, modifier_index, HolderForgets, state_of, under_of}
 use Rattle.console_core.proofs.held.Held.forgetful.Given as goal
 
 abbrev pub invariant-loop-modifier : goal.invariant-loop-modifier

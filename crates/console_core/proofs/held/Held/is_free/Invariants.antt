@@ -1,8 +1,5 @@
 -- no modifier below the place is held
-use Rattle.std.proofs.Common.{◌≡◌, ◌<◌, ℕ, None}
-use Rattle.console_core.specs.Types.{Modifier}
-use Rattle.keymap_core.specs.Actions.{modifier_index}
-use Rattle.console_core.specs.Inner.Searching.{state_of}
+use Rattle.console_core.proofs.Common.{◌≡◌, ◌<◌, ℕ, None, Modifier, modifier_index, state_of}
 use Rattle.console_core.proofs.held.Held.is_free.Given as goal
 
 abbrev pub invariant-loop-modifier : goal.invariant-loop-modifier

@@ -1,6 +1,4 @@
-use Rattle.std.proofs.Common.{refl}
-use Rattle.std.proofs.lemmas.Bool.{not-true}
-use Rattle.console_core.specs.Inner.Searching.{state_of}
+use Rattle.console_core.proofs.Common.{refl, not-true, state_of}
 use Rattle.console_core.proofs.RoutesHome.{all-off, none-on, not-false}
 use Rattle.console_core.proofs.held.Held.is_home.Goals as goal
 

@@ -1,9 +1,7 @@
-use Rattle.std.proofs.Common.{subst, sym, below_more}
-use Rattle.console_core.specs.Sights.{Offers}
-use Rattle.console_core.specs.Inner.Searching.{state_of, under_of}
+use Rattle.console_core.proofs.Common.{subst, sym, below_more, Offers, state_of, under_of}
 use Rattle.console_core.proofs.Noting.{one_accent}
-use Rattle.console_core.proofs.held.Held.key_offering.Goals as goal
 use Rattle.console_core.proofs.held.Held.key_offering.Goals.{in-Some+else-offered-accent, in_default}
+use Rattle.console_core.proofs.held.Held.key_offering.Goals as goal
 
 pub loop-code-preserved : goal.loop-code-preserved
 loop-code-preserved c =

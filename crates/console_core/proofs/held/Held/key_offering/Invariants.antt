@@ -1,7 +1,5 @@
 -- no key below the code offers it
-use Rattle.std.proofs.Common.{◌<◌, ℕ}
-use Rattle.console_core.specs.Sights.{Offers}
-use Rattle.console_core.specs.Inner.Searching.{state_of, under_of}
+use Rattle.console_core.proofs.Common.{◌<◌, ℕ, Offers, state_of, under_of}
 use Rattle.console_core.proofs.held.Held.key_offering.Given as goal
 
 abbrev pub invariant-loop-code : goal.invariant-loop-code

@@ -1,8 +1,5 @@
-use Rattle.std.proofs.Common.{◌≡◌, ap, subst, sym, ◌∙◌, below_more, arith}
-use Rattle.console_core.specs.Moves.{IsIdle}
-use Rattle.console_core.specs.Sights.{look_selected, selection_of}
-use Rattle.console_core.specs.Typing.{cell_of}
-use Rattle.console_core.specs.Inner.Searching.{state_of}
+use Rattle.console_core.proofs.Common.{◌≡◌, ap, subst, sym, ◌∙◌, below_more, arith, IsIdle, look_selected, selection_of}
+use Rattle.console_core.proofs.Common.{cell_of, state_of}
 use Rattle.console_core.proofs.held.Held.key_tapping.Goals.{else-is_symbol-via-then-is_symbol+else-not-holds}
 use Rattle.console_core.proofs.held.Held.key_tapping.Goals.{else-is_symbol-via-else-is_symbol}
 use Rattle.console_core.proofs.held.Held.key_tapping.Goals as goal

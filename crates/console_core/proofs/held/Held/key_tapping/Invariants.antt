@@ -1,8 +1,5 @@
 -- no key below this one is tapped so
-use Rattle.std.proofs.Common.{◌≡◌, ◌<◌, ℕ}
-use Rattle.console_core.specs.Moves.{Under, map_in}
-use Rattle.console_core.specs.Typing.{IsTapOf}
-use Rattle.console_core.specs.Inner.Searching.{state_of}
+use Rattle.console_core.proofs.Common.{◌≡◌, ◌<◌, ℕ, Under, map_in, IsTapOf, state_of}
 use Rattle.console_core.proofs.held.Held.key_tapping.Given as goal
 
 abbrev pub invariant-loop-code : goal.invariant-loop-code

@@ -1,6 +1,4 @@
-use Rattle.std.proofs.Common.{arith, reverse, subst, sym, ap, ◌∙◌, ◌+◌, ◌∷◌}
-use Rattle.console_core.specs.Types.{Release}
-use Rattle.console_core.specs.Inner.Searching.{state_of}
+use Rattle.console_core.proofs.Common.{arith, reverse, subst, sym, ap, ◌∙◌, ◌+◌, ◌∷◌, Release, state_of}
 use Rattle.console_core.proofs.Looking.{push-reversed}
 use Rattle.console_core.proofs.Places.{modifier-at}
 use Rattle.console_core.proofs.Strokes.{LetsGoTo, lets-go-first, lets-go-some, lets-go-none, lets-go-all}

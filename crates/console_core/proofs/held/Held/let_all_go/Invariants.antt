@@ -1,6 +1,5 @@
 -- the holders of the modifiers so far have let go
-use Rattle.std.proofs.Common.{reverse}
-use Rattle.console_core.specs.Inner.Searching.{state_of}
+use Rattle.console_core.proofs.Common.{reverse, state_of}
 use Rattle.console_core.proofs.Strokes.{LetsGoTo}
 use Rattle.console_core.proofs.held.Held.let_all_go.Given as goal
 

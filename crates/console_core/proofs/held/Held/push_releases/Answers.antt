@@ -1,9 +1,5 @@
-use Rattle.std.proofs.Common.{◌<◌, [], ◌∷◌, ◌++◌, take, ap, sym, ◌∙◌, arith, append_assoc}
-use Rattle.std.proofs.lemmas.List.{append-nil}
-use Rattle.keymap_core.specs.Actions.{modifiers}
-use Rattle.console_core.specs.Types.{Release}
-use Rattle.console_core.specs.Moves.{releases, release_of}
-use Rattle.console_core.specs.Inner.Searching.{state_of}
+use Rattle.console_core.proofs.Common.{◌<◌, [], ◌∷◌, ◌++◌, take, ap, sym, ◌∙◌, arith, append_assoc, append-nil}
+use Rattle.console_core.proofs.Common.{modifiers, Release, releases, release_of, state_of}
 use Rattle.console_core.proofs.GoingBack.{releases-more}
 use Rattle.console_core.proofs.held.Held.push_releases.Goals.{in-Some+in_ok-push, in_default}
 use Rattle.console_core.proofs.held.Held.push_releases.Goals as goal

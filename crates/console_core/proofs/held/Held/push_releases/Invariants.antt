@@ -1,8 +1,5 @@
 -- the releases of the holders of the modifiers below the place were added
-use Rattle.std.proofs.Common.{◌≡◌, ◌++◌, take}
-use Rattle.keymap_core.specs.Actions.{modifiers}
-use Rattle.console_core.specs.Moves.{releases}
-use Rattle.console_core.specs.Inner.Searching.{state_of}
+use Rattle.console_core.proofs.Common.{◌≡◌, ◌++◌, take, modifiers, releases, state_of}
 use Rattle.console_core.proofs.held.Held.push_releases.Given as goal
 
 abbrev pub invariant-loop-modifier : goal.invariant-loop-modifier

@@ -1,5 +1,4 @@
-use Rattle.std.proofs.lemmas.List.Elements.{All-nil}
-use Rattle.console_core.specs.History.{HasKey}
+use Rattle.console_core.proofs.Common.{All-nil, HasKey}
 use Rattle.console_core.proofs.Agreeing.{stands-start}
 use Rattle.console_core.proofs.machine.Console.over.Goals as goal
 

@@ -1,6 +1,4 @@
-use Rattle.std.proofs.Common.{false, None, refl}
-use Rattle.keymap_core.proofs.Lists.{get_or-replicate_default}
-use Rattle.keymap_core.specs.Actions.{holding_index, lock_index}
+use Rattle.console_core.proofs.Common.{false, None, refl, get_or-replicate_default, holding_index, lock_index}
 use Rattle.console_core.proofs.Keeping.{kept-same}
 use Rattle.console_core.proofs.plain_store.PlainStore.new.Goals as goal
 

@@ -1,7 +1,5 @@
-use Rattle.std.proofs.Common.{◌≡◌, ap, sym, ◌∙◌}
-use Rattle.std.proofs.lemmas.Bool.{true≢false}
+use Rattle.console_core.proofs.Common.{◌≡◌, ap, sym, ◌∙◌, true≢false, can_see, is_composed}
 use Rattle.console_core.specs.declared.selection.Sight.TheVariants.{Pair}
-use Rattle.console_core.specs.Sights.{can_see, is_composed}
 use Rattle.console_core.proofs.Visible.{sees-all, all-seen, seen-otherwise}
 use Rattle.console_core.proofs.sights.Sights.can_see.Goals as goal
 

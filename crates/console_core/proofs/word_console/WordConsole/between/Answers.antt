@@ -1,4 +1,4 @@
-use Rattle.std.proofs.Common.{refl}
+use Rattle.console_core.proofs.Common.{refl}
 use Rattle.console_core.proofs.word_console.WordConsole.between.Goals as goal
 
 pub returns : goal.returns

@@ -1,4 +1,4 @@
-use Rattle.console_core.specs.History.{between}
+use Rattle.console_core.proofs.Common.{between}
 use Rattle.console_core.proofs.word_console.WordConsole.over.Goals as goal
 
 pub returns : goal.returns

@@ -1,5 +1,5 @@
-use Rattle.std.proofs.Common.{◌<◌, ◌∙◌, ap, arith, not, refl, if◌then◌else◌, lit<}
-use Rattle.console_core.specs.PackedWord.{lock_bit, mark_bit, pending_from, word_mark, word_lock}
+use Rattle.console_core.proofs.Common.{◌<◌, ◌∙◌, ap, arith, not, refl, if◌then◌else◌, lit<, lock_bit, mark_bit}
+use Rattle.console_core.proofs.Common.{pending_from, word_mark, word_lock}
 use Rattle.console_core.proofs.Keeping.{kept-same}
 use Rattle.console_core.proofs.WordBits.{bit-turn, flag_above, field-exchange, lock_bit-lt, mark_bit-lt}
 use Rattle.console_core.proofs.word_store.WordStoreStore.exchange.Goals as goal

@@ -1,5 +1,4 @@
-use Rattle.std.proofs.Common.{◌<◌, arith}
-use Rattle.console_core.specs.PackedWord.{lock_bit}
+use Rattle.console_core.proofs.Common.{◌<◌, arith, lock_bit}
 use Rattle.console_core.proofs.WordBits.{bit-test, lock_bit-lt}
 use Rattle.console_core.proofs.word_store.WordStoreStore.is_locked.Goals as goal
 

@@ -1,5 +1,4 @@
-use Rattle.std.proofs.Common.{◌<◌, arith}
-use Rattle.console_core.specs.PackedWord.{mark_bit}
+use Rattle.console_core.proofs.Common.{◌<◌, arith, mark_bit}
 use Rattle.console_core.proofs.WordBits.{bit-test, mark_bit-lt}
 use Rattle.console_core.proofs.word_store.WordStoreStore.is_marked.Goals as goal
 

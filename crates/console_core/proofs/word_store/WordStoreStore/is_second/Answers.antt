@@ -1,4 +1,4 @@
-use Rattle.std.proofs.Common.{lit<}
+use Rattle.console_core.proofs.Common.{lit<}
 use Rattle.console_core.proofs.WordBits.{bit-test}
 use Rattle.console_core.proofs.word_store.WordStoreStore.is_second.Goals as goal
 

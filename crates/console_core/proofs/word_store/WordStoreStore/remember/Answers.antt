@@ -1,4 +1,4 @@
-use Rattle.std.proofs.Common.{arith, refl}
+use Rattle.console_core.proofs.Common.{arith, refl}
 use Rattle.console_core.proofs.Codes.{codes-set}
 use Rattle.console_core.proofs.Keeping.{kept-same}
 use Rattle.console_core.proofs.word_store.WordStoreStore.remember.Goals as goal

@@ -1,6 +1,5 @@
-use Rattle.std.proofs.Common.{ap}
+use Rattle.console_core.proofs.Common.{ap, pending_from}
 use Rattle.console_core.proofs.Codes.{codes-start}
-use Rattle.console_core.specs.PackedWord.{pending_from}
 use Rattle.console_core.proofs.Keeping.{kept-same}
 use Rattle.console_core.proofs.WordBits.{mark-after_reset, lock-after_reset, second-after_reset, field-after_reset}
 use Rattle.console_core.proofs.word_store.WordStoreStore.reset.Goals as goal

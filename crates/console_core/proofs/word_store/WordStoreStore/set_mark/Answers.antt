@@ -1,5 +1,5 @@
-use Rattle.std.proofs.Common.{◌<◌, ◌∙◌, ap, arith, true, false, refl, if◌then◌else◌}
-use Rattle.console_core.specs.PackedWord.{mark_bit, lock_bit, pending_from, word_mark, word_lock, word_second}
+use Rattle.console_core.proofs.Common.{◌<◌, ◌∙◌, ap, arith, true, false, refl, if◌then◌else◌, mark_bit, lock_bit}
+use Rattle.console_core.proofs.Common.{pending_from, word_mark, word_lock, word_second}
 use Rattle.console_core.proofs.Keeping.{kept-same}
 use Rattle.console_core.proofs.WordBits.{bit-set, bit-clear, mark_lock, same_mark_bit, below_flag, field-set}
 use Rattle.console_core.proofs.WordBits.{field-clear, mark_bit-lt, lock_bit-lt}

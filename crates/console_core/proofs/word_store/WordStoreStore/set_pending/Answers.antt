@@ -1,5 +1,4 @@
-use Rattle.std.proofs.Common.{◌<◌, ◌∙◌, ap, arith, refl}
-use Rattle.console_core.specs.PackedWord.{mark_bit, lock_bit, pending_from}
+use Rattle.console_core.proofs.Common.{◌<◌, ◌∙◌, ap, arith, refl, mark_bit, lock_bit, pending_from}
 use Rattle.console_core.proofs.Keeping.{kept-same}
 use Rattle.console_core.proofs.WordBits.{low-bit, second-kept, field-written, mark_bit-lt, lock_bit-lt}
 use Rattle.console_core.proofs.word_store.WordStoreStore.set_pending.Goals as goal

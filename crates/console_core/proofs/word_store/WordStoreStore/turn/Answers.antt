@@ -1,5 +1,5 @@
-use Rattle.std.proofs.Common.{◌<◌, ◌∙◌, ap, arith, not, refl, if◌then◌else◌}
-use Rattle.console_core.specs.PackedWord.{lock_bit, mark_bit, pending_from, word_mark, word_lock, word_second}
+use Rattle.console_core.proofs.Common.{◌<◌, ◌∙◌, ap, arith, not, refl, if◌then◌else◌, lock_bit, mark_bit, pending_from}
+use Rattle.console_core.proofs.Common.{word_mark, word_lock, word_second}
 use Rattle.console_core.proofs.Keeping.{kept-same}
 use Rattle.console_core.proofs.WordBits.{bit-turn, lock_mark, same_lock_bit, below_flag, field-turn, lock_bit-lt}
 use Rattle.console_core.proofs.word_store.WordStoreStore.turn.Goals as goal

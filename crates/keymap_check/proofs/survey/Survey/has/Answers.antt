@@ -1,5 +1,4 @@
-use Rattle.std.proofs.Common.{subst, sym}
-use Rattle.keymap_check.specs.Inner.Surveyed.{IsSurvey}
+use Rattle.keymap_check.proofs.Common.{subst, sym, IsSurvey}
 use Rattle.keymap_check.proofs.CellBits.{bits_tell}
 use Rattle.keymap_check.proofs.survey.Survey.has.Goals as goal
 

@@ -1,5 +1,4 @@
-use Rattle.std.proofs.Common.{◌≡◌, arith, subst}
-use Rattle.keymap_check.specs.Inner.CellBits.{HasBitsBelow}
+use Rattle.keymap_check.proofs.Common.{◌≡◌, arith, subst, HasBitsBelow}
 use Rattle.keymap_check.proofs.survey.Survey.of.Goals as goal
 
 pub returns : goal.returns

@@ -1,6 +1,4 @@
-use Rattle.std.proofs.Common.{◌≡◌, length}
-use Rattle.keymap_core.specs.Maps.{MapValue}
-use Rattle.keymap_check.specs.Inner.CellBits.{HasBitsBelow}
+use Rattle.keymap_check.proofs.Common.{◌≡◌, length, MapValue, HasBitsBelow}
 use Rattle.keymap_check.proofs.survey.Survey.of.Given as goal
 
 abbrev pub invariant-loop-key : goal.invariant-loop-key

@@ -1,6 +1,5 @@
 -- the sights before the place are counted
-use Rattle.std.proofs.Common.{◌≡◌}
-use Rattle.std.specs.Prelude.{take}
+use Rattle.keymap_cover.proofs.Common.{◌≡◌, take}
 use Rattle.keymap_cover.specs.Covering.{verdict_of, counts_of}
 use Rattle.keymap_cover.proofs.parts.Cover.count.Given as goal
 

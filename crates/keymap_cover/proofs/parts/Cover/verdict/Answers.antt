@@ -1,5 +1,4 @@
-use Rattle.std.proofs.Common.{refl, sym, ◌∙◌}
-use Rattle.std.proofs.lemmas.Bool.{true≢false}
+use Rattle.keymap_cover.proofs.Common.{refl, sym, ◌∙◌, true≢false}
 use Rattle.keymap_cover.proofs.parts.Cover.verdict.Goals as goal
 
 pub returns-then-may_see-clause-told : goal.returns-then-may_see-clause-told

@@ -1,6 +1,4 @@
-use Rattle.std.proofs.Common.{◌≡◌, subst, sym, ap, ◌∙◌}
-use Rattle.std.specs.List.{list_any}
-use Rattle.keymap_cover.specs.SeenSights.{is_pair, has_seen}
+use Rattle.keymap_cover.proofs.Common.{◌≡◌, subst, sym, ap, ◌∙◌, list_any, is_pair, has_seen}
 use Rattle.keymap_cover.proofs.Marking.{pair-value}
 use Rattle.keymap_cover.proofs.seen.Seen.has.Goals as goal
 

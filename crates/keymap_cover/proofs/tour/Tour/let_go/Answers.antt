@@ -1,10 +1,9 @@
-use Rattle.console_core.specs.declared.event.Event.TheVariants.{Release}
 use Rattle.keymap_cover.proofs.Walking.{on-more, up-more}
 use Rattle.keymap_cover.proofs.tour.Tour.let_go.Goals as goal
 
 pub loop-code-preserved : goal.loop-code-preserved
 loop-code-preserved g c = (
-  on-more c.args.map.now (Release c.key_with.result) (g.T.Translator.stands c.args.console.now) c.args.self.now
+  on-more c.args.map.now c.key_with.result (g.T.Translator.stands c.args.console.now) c.args.self.now
       (g.T.Translator.stands c.loop-code.console) c.loop-code.self
       (g.T.Translator.stands c.up.new.console) c.up.new.self
       c.loop-code.invariant.0 c.in_ok-up.ensures.along,

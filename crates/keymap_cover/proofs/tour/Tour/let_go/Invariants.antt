@@ -1,7 +1,5 @@
 -- the console runs along, and the keys below the code are up
-use Rattle.std.proofs.Common.{◌≡◌, ◌<◌, ℕ, false}
-use Rattle.std.specs.Prelude.{slice_index_or}
-use Rattle.keymap_cover.specs.Inner.Tours.{GoesOn}
+use Rattle.keymap_cover.proofs.Common.{◌≡◌, ◌<◌, ℕ, false, slice_index_or, GoesOn}
 use Rattle.keymap_cover.proofs.tour.Tour.let_go.Given as goal
 
 abbrev pub invariant-loop-code : goal.invariant-loop-code

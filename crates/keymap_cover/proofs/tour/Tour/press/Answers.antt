@@ -1,9 +1,7 @@
-use Rattle.std.proofs.Common.{◌≡◌, ◌<◌, length, reverse, true, subst, sym, ◌∙◌, arith}
-use Rattle.std.specs.Prelude.{◌∷◌, slice_set}
-use Rattle.console_core.specs.declared.event.Event.TheVariants as event
-use Rattle.keymap_cover.specs.SeenSights.{has_seen}
-use Rattle.keymap_cover.specs.Inner.Tours.{IsTour}
+use Rattle.keymap_cover.proofs.Common.{◌≡◌, ◌<◌, length, reverse, true, subst, sym, ◌∙◌, arith, ◌∷◌, slice_set}
+use Rattle.keymap_cover.proofs.Common.{has_seen, IsTour}
 use Rattle.keymap_cover.proofs.Touring.{tour-press}
+use Rattle.console_core.specs.declared.event.Event.TheVariants as event
 use Rattle.keymap_cover.proofs.tour.Tour.press.Goals as goal
 
 pub returns : goal.returns

@@ -1,4 +1,4 @@
-use Rattle.keymap_cover.specs.SeenSights.{has_seen}
+use Rattle.keymap_cover.proofs.Common.{has_seen}
 use Rattle.keymap_cover.proofs.Touring.{tour-reset}
 use Rattle.keymap_cover.proofs.tour.Tour.reset.Goals as goal
 

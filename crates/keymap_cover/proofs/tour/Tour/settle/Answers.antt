@@ -1,6 +1,4 @@
-use Rattle.std.proofs.Common.{[], refl, sym, ◌∙◌}
-use Rattle.console_core.specs.History.{between}
-use Rattle.keymap_cover.specs.SeenSights.{has_seen}
+use Rattle.keymap_cover.proofs.Common.{[], refl, sym, ◌∙◌, between, has_seen}
 use Rattle.keymap_cover.proofs.Touring.{rests, not-some}
 use Rattle.keymap_cover.proofs.Walking.{to-rest}
 use Rattle.keymap_cover.proofs.tour.Tour.settle.Goals as goal
@@ -13,7 +11,7 @@ returns-else-is_some-clause-along g c =
     let t = c.args.console.now in (
       h,
       (stands, tour),
-      ([], refl),
+      (([], refl), (λ l. refl)),
       rests m h old.strokes.items old.pressed (has_seen old.seen) tour c.requires
           (sym (c.is_any_on.ensures (between m m) h stands) ∙ c.if-is_any_on.false)
           (sym (g.met.T.Translator.pending_where_it_stands t (between m m) h stands) ∙ sym c.pending.ensures

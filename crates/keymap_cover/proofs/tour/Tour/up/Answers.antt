@@ -1,9 +1,8 @@
-use Rattle.std.proofs.Common.{◌≡◌, ◌<◌, [], length, refl, false, subst, sym, ◌∙◌, arith}
-use Rattle.std.specs.Prelude.{◌∷◌, slice_set}
-use Rattle.console_core.specs.declared.event.Event.TheVariants as event
-use Rattle.keymap_cover.specs.SeenSights.{has_seen}
-use Rattle.keymap_cover.specs.Inner.Tours.{IsTour}
+use Rattle.keymap_cover.proofs.Common.{◌≡◌, ◌<◌, [], length, refl, false, subst, sym, ◌∙◌, arith, ◌∷◌, slice_set}
+use Rattle.keymap_cover.proofs.Common.{has_seen, IsTour}
 use Rattle.keymap_cover.proofs.Touring.{tour-up, up-not}
+use Rattle.keymap_cover.proofs.Walking.{release-turns_none}
+use Rattle.console_core.specs.declared.event.Event.TheVariants as event
 use Rattle.keymap_cover.proofs.tour.Tour.up.Goals as goal
 
 pub returns-in_ok-push-clause-along : goal.returns-in_ok-push-clause-along
@@ -25,8 +24,8 @@ returns-in_ok-push-clause-along g c =
             (has_seen old.seen) k c.in_ok-push.ensures.items t
             below within (sym c.is_pressed.ensures.value ∙ c.if-is_pressed.true)),
       ),
-      (event.Release k ∷ [], refl),
-      (λ none of. refl),
+      release-turns_none m h k,
+      (λ of. refl),
     )
 
 pub returns-else-is_pressed-clause-along : goal.returns-else-is_pressed-clause-along
@@ -35,8 +34,8 @@ returns-else-is_pressed-clause-along g c =
     let old = c.args.self.now in (
       h,
       (stands, t),
-      ([], refl),
-      (λ none of.
+      (([], refl), (λ l. refl)),
+      (λ of.
           absurd (up-not c.args.map.now h old.strokes.items old.pressed (has_seen old.seen) c.args.key t
           c.is_pressed.ensures.in_range (sym c.is_pressed.ensures.value ∙ c.if-is_pressed.false) of)),
     )

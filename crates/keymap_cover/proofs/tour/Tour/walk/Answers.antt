@@ -1,6 +1,5 @@
-use Rattle.std.proofs.Common.{reverse, subst, arith}
+use Rattle.keymap_cover.proofs.Common.{reverse, subst, arith, GoesAlong}
 use Rattle.std.proofs.lemmas.List.{take_all}
-use Rattle.keymap_cover.specs.Inner.Tours.{GoesAlong}
 use Rattle.keymap_cover.proofs.Walking.{along-more, along-rest, on-ok}
 use Rattle.keymap_cover.proofs.tour.Tour.walk.Goals as goal
 

@@ -1,6 +1,5 @@
 -- the console runs along by the events before the place
-use Rattle.std.proofs.Common.{reverse, take}
-use Rattle.keymap_cover.specs.Inner.Tours.{GoesAlong}
+use Rattle.keymap_cover.proofs.Common.{reverse, take, GoesAlong}
 use Rattle.keymap_cover.proofs.tour.Tour.walk.Given as goal
 
 abbrev pub invariant-loop-event : goal.invariant-loop-event

@@ -1,6 +1,4 @@
-use Rattle.std.proofs.Common.{arith, ap, ◌∙◌}
-use Rattle.keymap_lint.specs.Types.{Slot}
-use Rattle.keymap_text.specs.Placed.{last_of}
+use Rattle.keymap_lint.proofs.Common.{arith, ap, ◌∙◌, Slot, last_of}
 use Rattle.keymap_lint.proofs.Tables.{slot_in}
 use Rattle.keymap_lint.proofs.spelled.SpelledText.slot.Goals as goal
 

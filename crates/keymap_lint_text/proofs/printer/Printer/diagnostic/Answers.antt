@@ -1,6 +1,5 @@
-use Rattle.std.proofs.Common.{◌∙◌, ap}
-use Rattle.std.proofs.lemmas.Result.{on_ok_weaker}
-use Rattle.keymap_lint_text.specs.Heads.{Said, remark, judged_text}
+use Rattle.keymap_lint_text.proofs.Common.{◌∙◌, ap, on_ok_weaker, Said, remark}
+use Rattle.keymap_lint_text.specs.Heads.{judged_text}
 use Rattle.keymap_lint_text.proofs.Adding.{adds_one}
 use Rattle.keymap_lint_text.proofs.printer.Printer.diagnostic.Goals as goal
 

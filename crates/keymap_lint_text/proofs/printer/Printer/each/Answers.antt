@@ -1,4 +1,4 @@
-use Rattle.std.proofs.Common.{arith}
+use Rattle.keymap_lint_text.proofs.Common.{arith}
 use Rattle.keymap_lint_text.proofs.Adding.{adds_none, adds_more}
 use Rattle.keymap_lint_text.proofs.printer.Printer.each.Goals as goal
 

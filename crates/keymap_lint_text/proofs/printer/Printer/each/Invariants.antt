@@ -1,7 +1,4 @@
-use Rattle.std.proofs.Common.{take}
-use Rattle.std.specs.List.{flat_map}
-use Rattle.keymap_lint_text.specs.Inner.Adding.{Adds}
-use Rattle.keymap_lint_text.specs.Whole.{of_diagnostic}
+use Rattle.keymap_lint_text.proofs.Common.{take, flat_map, Adds, of_diagnostic}
 use Rattle.keymap_lint_text.proofs.printer.Printer.each.Given as goal
 
 abbrev pub invariant-loop-diagnostic : goal.invariant-loop-diagnostic

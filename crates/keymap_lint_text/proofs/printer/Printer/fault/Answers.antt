@@ -1,10 +1,5 @@
-use Rattle.std.proofs.Common.{subst, sym, ◌∷◌, [], Some}
-use Rattle.std.proofs.lemmas.Result.{on_ok_weaker}
-use Rattle.keymap_lint.specs.declared.diagnostic.Severity.TheVariants.{Error}
-use Rattle.keymap_lint_text.specs.Heads.{Said, remark}
-use Rattle.keymap_lint_text.specs.Inner.Adding.{Adds}
-use Rattle.keymap_lint_text.specs.Whole.{beginning}
-use Rattle.keymap_lint_text.specs.Shown.{IsLine}
+use Rattle.keymap_lint_text.proofs.Common.{subst, sym, ◌∷◌, [], Some, on_ok_weaker, Error, Said, remark, Adds}
+use Rattle.keymap_lint_text.proofs.Common.{beginning, IsLine}
 use Rattle.keymap_lint_text.proofs.Lines.{fault_name_line}
 use Rattle.keymap_lint_text.proofs.Adding.{adds_both}
 use Rattle.keymap_lint_text.proofs.printer.Printer.fault.Goals as goal

@@ -1,6 +1,4 @@
-use Rattle.std.proofs.Common.{◌∙◌}
-use Rattle.std.proofs.lemmas.Result.{on_ok_weaker}
-use Rattle.keymap_lint_text.specs.Heads.{Said, remark}
+use Rattle.keymap_lint_text.proofs.Common.{◌∙◌, on_ok_weaker, Said, remark}
 use Rattle.keymap_lint_text.proofs.Adding.{adds_one}
 use Rattle.keymap_lint_text.proofs.printer.Printer.note.Goals as goal
 

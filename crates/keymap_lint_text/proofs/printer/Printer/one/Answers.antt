@@ -1,7 +1,4 @@
-use Rattle.std.proofs.Common.{◌∙◌, sym, ap, subst}
-use Rattle.std.proofs.lemmas.Result.{on_ok_weaker}
-use Rattle.keymap_lint.specs.Severities.{severity_of}
-use Rattle.keymap_lint_text.specs.Shown.{IsLine}
+use Rattle.keymap_lint_text.proofs.Common.{◌∙◌, sym, ap, subst, on_ok_weaker, severity_of, IsLine}
 use Rattle.keymap_lint_text.proofs.Lines.{kind_line}
 use Rattle.keymap_lint_text.proofs.Adding.{adds_with_answer}
 use Rattle.keymap_lint_text.proofs.printer.Printer.one.Goals as goal

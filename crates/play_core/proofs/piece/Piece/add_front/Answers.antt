@@ -1,6 +1,4 @@
-use Rattle.std.proofs.Common.{◌++◌, take, sym, ap, ◌∙◌, arith}
-use Rattle.std.proofs.lemmas.List.{length-take-le}
-use Rattle.play_core.specs.Inner.Pieces.{PieceValue}
+use Rattle.play_core.proofs.Common.{◌++◌, take, sym, ap, ◌∙◌, arith, length-take-le, PieceValue}
 use Rattle.play_core.proofs.Pieces.{front_counted}
 use Rattle.play_core.proofs.piece.Piece.add_front.Goals as goal
 

@@ -1,0 +1,595 @@
+-- The events of a visit lead a console home, on to a state that was met, and to a press there.
+use Rattle.console_core.proofs.Common.{◌≡◌, ◌≢◌, ◌<◌, ℕ, Bool, true, false, List, [], ◌∷◌, ◌++◌, length, reverse}
+use Rattle.console_core.proofs.Common.{slice_get, Option, MatchOption, Some, None, refl, ap, subst, sym, ◌∙◌, inl, inr}
+use Rattle.console_core.proofs.Common.{append_assoc, if◌then◌else◌, ◌==◌, ◌||◌, cases_Bool, eqb-true, false≢true}
+use Rattle.console_core.proofs.Common.{All-cons, none-some, same_modifier, same_action, holding_action}
+use Rattle.console_core.proofs.Common.{same_action-true, MapValue, Action, Modifier, Lock, Caps, Num, Scroll, Alt, Cell}
+use Rattle.console_core.proofs.Common.{Char, Act, Event, Press, Release, Reset, Move, Hold, Turn, LetGo, Exchange}
+use Rattle.console_core.proofs.Common.{Sight, Explored, usable, between, resolved, pressed, HasKey}
+use Rattle.console_core.proofs.Common.{accent_pending_after, is_locked_after, HasKeys, HasNoLoads, ResolvedEvent, held}
+use Rattle.console_core.proofs.Common.{pending, remembered, resolve_press, taken_over, PressedAction, ReleasedKey}
+use Rattle.console_core.proofs.Common.{Under, alone, State, start, Holds, IsFree, IsIdle, look_in, IsMove, moved}
+use Rattle.console_core.proofs.Common.{IsPath, state_after, IsPathFrom, state_from, events_of_move, events_along}
+use Rattle.console_core.proofs.Common.{with_holder, with_lock_turned, Visits, NoTurnIsOneWay, IsHome, IsPendingFor}
+use Rattle.console_core.proofs.Common.{IsReachable, SeesAlong, SeesBy, selection_of, ComesHome, map_of_explored}
+use Rattle.console_core.proofs.Common.{origin_in, IsExplored, HasTap, IsTapAt, dead_tap, HasRoute, LeadsHome, freed}
+use Rattle.console_core.proofs.Common.{state_of, Entry, IsTrail, IsReached, IsWhole, IsAfter, IsRepeated, IsSteady}
+use Rattle.console_core.proofs.Common.{IsAt, Leads, LeadsOn, LeadsComposing, IsDeadFor, IsAim, ShowsNot, locks_in}
+use Rattle.console_core.proofs.Common.{Exact, HoldsSome, Stands, but_scroll, unscrolled, fun_ext}
+use Rattle.console_core.specs.declared.explored.KeyAt.{KeyAt}
+use Rattle.console_core.specs.declared.planner.Aim.{Aim}
+use Rattle.console_core.specs.Planning.{HasLocks, AreTaken}
+use Rattle.console_core.specs.Inner.Exploring.{IsMetAt}
+use Rattle.console_core.specs.Inner.Showing.{IsTurned, LeadsToSee, IsPressAt, IsRest}
+use Rattle.console_core.specs.Inner.Standing.{free_after}
+use Rattle.console_core.proofs.Behind.{path-split}
+use Rattle.console_core.proofs.Exploring.{comes-route}
+use Rattle.console_core.proofs.Going.{going-sees, pending-is, pending-move, tap-pending}
+use Rattle.console_core.proofs.OneMore.{resolved-more, held-action, pending-reset, pressed-press}
+use Rattle.console_core.proofs.Returning.{near-met, near-is_home}
+use Rattle.console_core.proofs.Scripts.{Reached, reached-more, hold-self, holder-pressed, stands-from, stands-move}
+use Rattle.console_core.proofs.Scripts.{stands-reset, pressed-look, other-remembered}
+use Rattle.console_core.proofs.Staying.{emptied, emptied-kept, emptied-none, follows-again, follows-nothing, kind_of}
+use Rattle.console_core.proofs.Staying.{not_holding, same_mods}
+use Rattle.console_core.proofs.Strokes.{exact-action, exact-character, stands-tap, stands-tapped}
+use Rattle.console_core.proofs.Unscrolled.{moves-unscrolled, same_moved, same-scrolled, scroll-moved}
+use Rattle.console_core.proofs.Visits.{home-near, path-first, press-presses, press-turns, press-turns_none}
+use Rattle.keymap_core.specs.declared.action.Action.TheVariants as act
+use Rattle.keymap_core.specs.declared.action.Holding.TheVariants as holding
+use Rattle.console_core.specs.declared.explored.Symbol.TheVariants as symbol
+use Rattle.console_core.specs.declared.selection.Sight.TheVariants as sight
+
+-- ---- along moves
+
+-- the accent that is pending
+abbrev pends : MapValue → List Event → Option ℕ
+pends m h = accent_pending_after (between m m) h
+
+-- a console goes along a move, and keeps the accent that is pending
+pends-move : (m : MapValue) (g : List Event) (s : State) (move : Move) → IsMove (alone m) s move → Stands (alone m) g s
+    → pends m (events_of_move move ++ g) ≡ pends m g
+pends-move m g s move is x =
+    pending-is m (events_of_move move ++ g) ∙ pending-move m g s move is x ∙ sym (pending-is m g)
+
+at-move : (m : MapValue) (s : State) (h l : List Event) (move : Move) → IsMove (alone m) s move → IsAt m s h l
+    → IsAt m (moved (alone m) s move) h (events_of_move move ++ l)
+    × (pends m ((events_of_move move ++ l) ++ h) ≡ pends m (l ++ h))
+at-move m s h l (Hold k i) is a =
+    let here : IsMove (alone m) a.at (Hold k i) = moves-unscrolled (alone m) s a.at (Hold k i) a.near is in (
+      record {
+        at = moved (alone m) a.at (Hold k i);
+        stands = stands-move (alone m) (l ++ h) a.at (Hold k i) here a.stands;
+        near = same_moved (alone m) s a.at (Hold k i) a.near;
+        taken = (refl, tt, a.taken);
+      },
+      pends-move m (l ++ h) a.at (Hold k i) here a.stands,
+    )
+at-move m s h l (Turn k j) is a =
+    let here : IsMove (alone m) a.at (Turn k j) = moves-unscrolled (alone m) s a.at (Turn k j) a.near is in (
+      record {
+        at = moved (alone m) a.at (Turn k j);
+        stands = stands-move (alone m) (l ++ h) a.at (Turn k j) here a.stands;
+        near = same_moved (alone m) s a.at (Turn k j) a.near;
+        taken = (refl, press-presses k (l ++ h), (refl, tt, a.taken));
+      },
+      pends-move m (l ++ h) a.at (Turn k j) here a.stands,
+    )
+at-move m s h l (LetGo k i) is a =
+    let here : IsMove (alone m) a.at (LetGo k i) = moves-unscrolled (alone m) s a.at (LetGo k i) a.near is in (
+      record {
+        at = moved (alone m) a.at (LetGo k i);
+        stands = stands-move (alone m) (l ++ h) a.at (LetGo k i) here a.stands;
+        near = same_moved (alone m) s a.at (LetGo k i) a.near;
+        taken = (refl, holder-pressed (alone m) (l ++ h) a.at i k a.stands here, a.taken);
+      },
+      pends-move m (l ++ h) a.at (LetGo k i) here a.stands,
+    )
+at-move m s h l Exchange (free, loads) a = absurd (false≢true loads)
+
+at-path : (m : MapValue) (s : State) (h l : List Event) (path : List Move) → IsPathFrom (alone m) s path → IsAt m s h l
+    → IsAt m (state_from (alone m) s path) h (events_along path ++ l)
+    × (pends m ((events_along path ++ l) ++ h) ≡ pends m (l ++ h))
+at-path m s h l [] is a = (a, refl)
+at-path m s h l (move ∷ path) is a =
+    let (b, p) = at-path m s h l path is.1 a in
+    let (c, q) = at-move m (state_from (alone m) s path) h (events_along path ++ l) move is.0 b in
+    subst (λ z. IsAt m (state_from (alone m) s (move ∷ path)) h z × (pends m (z ++ h) ≡ pends m (l ++ h)))
+    (sym (append_assoc (events_of_move move) (events_along path) l)) (c, q ∙ p)
+
+-- a console is at each state near the one where it is
+at-near : (m : MapValue) (s t : State) (h l : List Event) → unscrolled s ≡ unscrolled t → IsAt m s h l → IsAt m t h l
+at-near m s t h l e a = record { at = a.at; stands = a.stands; near = a.near ∙ e; taken = a.taken }
+
+-- the events to a place lead there
+pub out-leads : (e : Explored) → IsExplored e → (place : ℕ) (y : Entry) → slice_get e.met.entries place ≡ Some y
+    → (old now : List Event)
+    → ((path : List Move) → IsTrail e.met.entries place path → now ≡ events_along path ++ old)
+    → LeadsOn (map_of_explored e) (origin_in e) (state_of y.0) old now
+out-leads e x place y at old now is h a =
+    let m : MapValue = map_of_explored e in
+    let r : IsReached (alone m) (origin_in e) e.met.entries place y = x.searched.reached place y at in
+    subst (λ z. IsAt m (state_of y.0) h z × (pends m (z ++ h) ≡ pends m (old ++ h))) (sym (is r.0 r.1))
+    (subst (λ s. IsAt m s h (events_along r.0 ++ old) × (pends m ((events_along r.0 ++ old) ++ h) ≡ pends m (old ++ h)))
+    r.3 (at-path m (origin_in e) h old r.0 r.2 a))
+
+-- the events of a route lead home
+pub home-leads : (m : MapValue) (s : State) (moves : List Move) → s.is_second ≡ false → LeadsHome (alone m) s moves
+    → (old now : List Event) → now ≡ events_along (reverse moves) ++ old
+    → LeadsOn m s start old now
+home-leads m s moves first home old now is h a =
+    let (b, p) = at-path m s h old (reverse moves) home.0 a in
+    let ends : State = state_from (alone m) s (reverse moves) in
+    subst (λ z. IsAt m start h z × (pends m (z ++ h) ≡ pends m (old ++ h))) (sym is) (
+      at-near m ends start h (events_along (reverse moves) ++ old)
+          (home-near ends home.1 (path-first m s (reverse moves) home.0 ∙ first)) b,
+      p,
+    )
+
+-- the first map is in force in each state that was met
+pub met-first : (e : Explored) → IsExplored e → (place : ℕ) (y : Entry) → slice_get e.met.entries place ≡ Some y
+    → (state_of y.0).is_second ≡ false
+met-first e x place y at =
+    let r = x.searched.reached place y at in
+    ap (λ t. t.is_second) (sym r.3) ∙ path-first (map_of_explored e) (origin_in e) r.0 r.2 ∙ x.origin.1
+
+-- ---- taps
+
+-- a tap is taken
+at-tapped : (m : MapValue) (s at : State) (k : ℕ) (h l : List Event) → AreTaken h l
+    → Stands (alone m) (Release k ∷ Press k ∷ (l ++ h)) at → unscrolled at ≡ unscrolled s
+    → IsAt m s h (Release k ∷ Press k ∷ l)
+at-tapped m s at k h l taken x near = record {
+  at = at;
+  stands = x;
+  near = near;
+  taken = (refl, press-presses k (l ++ h), (refl, tt, taken));
+}
+
+-- a modifier that nobody held is let go again
+let_go-again : (s : State) (i : Modifier) (k : ℕ) → s.holder i ≡ None
+    → unscrolled (with_holder (with_holder s i (Some k)) i None) ≡ unscrolled s
+let_go-again s i k free =
+    ap (λ x. record { holder = x; is_locked = but_scroll s.is_locked; is_second = s.is_second })
+    (fun_ext (λ j. again j (same_modifier i j) refl))
+  where
+    again : (j : Modifier) (t : Bool) → same_modifier i j ≡ t
+        → (if t then None else (if t then Some k else s.holder j)) ≡ s.holder j
+    again j true e = sym (ap (λ z. s.holder z) (sym (same_mods i j e)) ∙ free)
+    again j false e = refl
+
+-- a tap of a steady key leaves the state
+pub steady-leads : (m : MapValue) (s : State) (k : ℕ) (l : List Event) → IsSteady (alone m) s k
+    → Leads m s s l (Release k ∷ Press k ∷ l)
+steady-leads m s k l steady h a = by (look_in u t k) refl
+  where
+    u : Under
+    u = alone m
+
+    t : State
+    t = a.at
+
+    g : List Event
+    g = l ++ h
+
+    here : IsSteady u t k
+    here = subst (λ z. IsSteady u z k) (sym a.near) steady
+
+    same : (c : Cell) → look_in u t k ≡ c → Exact (ReleasedKey k ∷ (resolve_press k c ∷ resolved (between m m) g)) t
+        → IsAt m s h (Release k ∷ Press k ∷ l)
+    same c seen exact =
+        at-tapped m s t k h l a.taken (stands-tapped u g t k c here.0 a.stands seen exact) a.near
+
+    by : (c : Cell) → look_in u t k ≡ c → IsAt m s h (Release k ∷ Press k ∷ l)
+    by (Char c) seen = same (Char c) seen (exact-character (resolved (between m m) g) t k c a.stands.exact here.1)
+    by (Act b) seen = elim (kind_of b) [
+      | inl p ↦
+          let i : Modifier = p.0 in
+          let look : look_in u t k ≡ Act (act.Mod i) = seen ∙ ap (λ x. Act x) p.1 in
+          let free : t.holder i ≡ None = here.2 i look in
+          at-tapped m s (with_holder (with_holder t i (Some k)) i None) k h l a.taken
+          (stands-from u g t (LetGo k i ∷ Hold k i ∷ []) a.stands
+          (hold-self t i k, ((here.0, here.1, look, free), tt)))
+          (let_go-again t i k free ∙ a.near)
+      | inr (inl p) ↦
+          let look : look_in u t k ≡ Act (act.Lock p.0) = seen ∙ ap (λ x. Act x) p.1 in
+          at-tapped m s (with_lock_turned t p.0) k h l a.taken
+          (stands-from u g t (Turn k p.0 ∷ []) a.stands ((here.0, here.1, look), tt))
+          (ap (λ z. unscrolled (with_lock_turned t z)) (here.3 p.0 look) ∙ sym (scroll-moved t) ∙ a.near)
+      | inr (inr plain) ↦
+          same (Act b) seen (exact-action (resolved (between m m) g) t k b a.stands.exact here.1 plain)
+    ]
+
+-- a tap of a dead key does, and leaves its accent pending
+pub dead-leads : (m : MapValue) (s : State) (k accent : ℕ) (l : List Event) → k < 128 → IsIdle s k
+    → look_in (alone m) s k ≡ Act (act.DeadKey accent)
+    → LeadsComposing m accent s s l (Release k ∷ Press k ∷ l)
+dead-leads m s k accent l lt idle seen h a =
+    let here : IsIdle a.at k = subst (λ z. IsIdle z k) (sym a.near) idle in
+    let look : look_in (alone m) a.at k ≡ Act (act.DeadKey accent) = ap (λ z. look_in (alone m) z k) a.near ∙ seen in (
+      at-tapped m s a.at k h l a.taken
+          (stands-tap (alone m) (l ++ h) a.at false (symbol.DeadKey accent) k a.stands
+          (lt, here, look, (λ e. absurd (false≢true e)))) a.near,
+      (λ none can. tap-pending m (l ++ h) a.at k accent a.stands here look can (sym (pending-is m (l ++ h)) ∙ none)),
+    )
+
+-- ---- one more press of a holder
+
+exact-repeat : (r : List ResolvedEvent) (s : State) (k : ℕ) (b : Action) (i : Modifier) → Exact r s → Holds s k i
+    → Exact (PressedAction k b ∷ r) s
+exact-repeat r s k b i x holds = by (same_action (act.Mod i) b) refl
+  where
+    taken : taken_over (remembered k r) b ≡ (if same_action (act.Mod i) b then b else act.Nop)
+    taken = ap (λ o. taken_over o b) (x.follows.holds i k holds)
+
+    only : (n : ℕ) (a : Action) → remembered n (PressedAction k b ∷ r) ≡ Some a → HoldsSome s n
+    only n a q = elim (cases_Bool (k == n)) [
+      | inl t ↦ (i, subst (λ j. Holds s j i) (eqb-true k n t) holds)
+      | inr t ↦ x.only n a (sym (other-remembered r k n b t) ∙ q)
+    ]
+
+    up : (a : Action) → taken_over (remembered k r) b ≡ a → ((l : Lock) → same_action a (act.Lock l) ≡ false)
+        → (l : Lock) → held (holding.Lock l) (PressedAction k b ∷ r) ≡ false
+    up a e none l =
+        held-action (holding.Lock l) k b r ∙ ap (λ z. same_action z (act.Lock l) || held (holding.Lock l) r) e
+        ∙ ap (λ z. z || held (holding.Lock l) r) (none l) ∙ x.up l
+
+    by : (t : Bool) → same_action (act.Mod i) b ≡ t → Exact (PressedAction k b ∷ r) s
+    by true e =
+        let takes : taken_over (remembered k r) b ≡ act.Mod i =
+        taken ∙ ap (λ t. if t then b else act.Nop) e ∙ sym (same_action-true (act.Mod i) b e) in
+        record {
+          follows = follows-again r s k b i k x.follows takes holds;
+          only = only;
+          up = up (act.Mod i) takes (λ l. refl);
+        }
+    by false e =
+        let takes : taken_over (remembered k r) b ≡ act.Nop = taken ∙ ap (λ t. if t then b else act.Nop) e in
+        record {
+          follows = follows-nothing r s k b x.follows
+              (λ a. ap (λ z. same_action z (holding_action a)) takes ∙ not_holding act.Nop a refl refl);
+          only = only;
+          up = up act.Nop takes (λ l. refl);
+        }
+
+pub repeat-leads : (m : MapValue) (s : State) (k : ℕ) (l : List Event) → IsRepeated (alone m) s k
+    → Leads m s s l (Press k ∷ l)
+repeat-leads m s k l (busy, (b, seen)) h a = by (remembered k r) refl
+  where
+    g : List Event
+    g = l ++ h
+
+    r : List ResolvedEvent
+    r = resolved (between m m) g
+
+    t : State
+    t = a.at
+
+    look : look_in (alone m) t k ≡ Act b
+    look = ap (λ z. look_in (alone m) z k) a.near ∙ seen
+
+    again : (i : Modifier) → Holds t k i → Stands (alone m) (Press k ∷ g) t
+    again i holds = record {
+      exact =
+          rw (pressed-look (alone m) g t k (Act b) a.stands.exact.follows a.stands.second look)
+          (exact-repeat r t k b i a.stands.exact holds);
+      second = a.stands.second;
+      key = a.stands.key;
+      pressed = λ n p. elim (cases_Bool (k == n)) [
+        | inl u ↦ (i, subst (λ j. Holds t j i) (eqb-true k n u) holds)
+        | inr u ↦
+            a.stands.pressed n (sym (pressed-press n k g ∙ ap (λ z. if z then true else pressed n g) u) ∙ p)
+      ];
+      keys = All-cons HasKey (Press k) g (a.stands.key i k holds) a.stands.keys;
+    }
+
+    by : (o : Option Action) → remembered k r ≡ o → IsAt m s h (Press k ∷ l)
+    by None e =
+        absurd (busy (subst (λ z. IsIdle z k) a.near
+        (λ i holds. none-some (act.Mod i) (sym e ∙ a.stands.exact.follows.holds i k holds))))
+    by (Some q) e =
+        let p : HoldsSome t k = a.stands.exact.only k q e in
+        record { at = t; stands = again p.0 p.1; near = a.near; taken = (refl, tt, a.taken) }
+
+-- ---- one behind another
+
+pub composing-leads : {m : MapValue} {accent : ℕ} {s t : State} {a b c d e : List Event} {r w : State}
+    → LeadsOn m r s a b → LeadsComposing m accent s s b c → LeadsOn m s t c d → LeadsOn m t w d e
+    → LeadsComposing m accent r w a e
+composing-leads f g p q h a =
+    let b = f h a in
+    let c = g h b.0 in
+    let d = p h c.0 in
+    let e = q h d.0 in
+    (e.0, (λ none can. e.1 ∙ d.1 ∙ c.1 (b.1 ∙ none) can))
+
+-- what is aimed at behind no dead key needs no accent
+pub sees-at : (e : Explored) (x : Sight) (m : MapValue) (s t : State) (old now : List Event) → IsDeadFor e x None
+    → Leads m s t old now → LeadsToSee m x s t old now
+sees-at e (sight.Pair accent c) m s t old now none f h a = absurd none
+sees-at e (sight.Cell slot column) m s t old now none f h a = (f h a, (λ p can. tt))
+sees-at e (sight.Locks slot caps num) m s t old now none f h a = (f h a, (λ p can. tt))
+
+-- and behind one it is a pair of its accent
+pub sees-behind : (e : Explored) (x : Sight) (d : KeyAt) (m : MapValue) (s t : State) (old now : List Event)
+    → IsDeadFor e x (Some d)
+    → ((accent : ℕ) → IsTapAt e (dead_tap accent) d.place d.key → LeadsComposing m accent s t old now)
+    → LeadsToSee m x s t old now
+sees-behind e (sight.Pair accent c) d m s t old now dead f h a =
+    let b = f accent dead h a in
+    (b.0, (λ none (path, made, (later, before, is, (can, offers)), sees). b.1 none can))
+sees-behind e (sight.Cell slot column) d m s t old now none f h a = absurd none
+sees-behind e (sight.Locks slot caps num) d m s t old now none f h a = absurd none
+
+pub dead-met : (e : Explored) (x : Sight) (d : KeyAt) → IsDeadFor e x (Some d) → IsMetAt e d.place
+dead-met e (sight.Pair accent c) d (y, at, has, tapped) = (y, at, has)
+dead-met e (sight.Cell slot column) d none = absurd none
+dead-met e (sight.Locks slot caps num) d none = absurd none
+
+-- ---- the press at the end
+
+-- locks that are the same but for the scroll lock
+locks-near : (s t : State) → unscrolled s ≡ unscrolled t → (l : Lock) → l ≢ Scroll → s.is_locked l ≡ t.is_locked l
+locks-near s t e Caps other = ap (λ x. x.is_locked Caps) e
+locks-near s t e Num other = ap (λ x. x.is_locked Num) e
+locks-near s t e Scroll other = absurd (other refl)
+locks-near s t e Alt other = ap (λ x. x.is_locked Alt) e
+
+-- a lock that is turned
+turned-near : (m : MapValue) (s t after : State) (l : Lock) → unscrolled t ≡ unscrolled s → IsTurned s l after
+    → unscrolled (freed (with_lock_turned t l)) ≡ unscrolled after
+turned-near m s t after Scroll e is = ap (λ x. freed x) (sym (scroll-moved t) ∙ e) ∙ ap (λ x. unscrolled x) (sym is)
+turned-near m s t after Caps e is =
+    ap (λ x. freed x) (same_moved (alone m) s t (Turn 0 Caps) e) ∙ ap (λ x. unscrolled x) (sym is)
+turned-near m s t after Num e is =
+    ap (λ x. freed x) (same_moved (alone m) s t (Turn 0 Num) e) ∙ ap (λ x. unscrolled x) (sym is)
+turned-near m s t after Alt e is =
+    ap (λ x. freed x) (same_moved (alone m) s t (Turn 0 Alt) e) ∙ ap (λ x. unscrolled x) (sym is)
+
+-- the locks behind a press are those of the state after it
+press-locks : (m : MapValue) (s : State) (h l : List Event) (k : ℕ) (after : State) → IsAt m s h l
+    → IsAfter (alone m) s k after → HasLocks m (locks_in after) (Press k ∷ (l ++ h))
+press-locks m s h l k after a is = (lock is Caps (λ e. cc), lock is Num (λ e. cc), lock is Alt (λ e. cc))
+  where
+    lock : IsAfter (alone m) s k after → (n : Lock) → n ≢ Scroll
+        → is_locked_after (between m m) n (Press k ∷ (l ++ h)) ≡ after.is_locked n
+    lock (inl (j, idle, seen, turned)) n other =
+        press-turns m (l ++ h) a.at k j a.stands (subst (λ x. IsIdle x k) (sym a.near) idle)
+        (ap (λ x. look_in (alone m) x k) a.near ∙ seen) n
+        ∙ locks-near (freed (with_lock_turned a.at j)) after (turned-near m s a.at after j a.near turned) n other
+    lock (inr (none, same)) n other =
+        press-turns_none m (l ++ h) a.at k a.stands
+        (λ j idle seen.
+        none j (subst (λ x. IsIdle x k) a.near idle) (sym (ap (λ x. look_in (alone m) x k) a.near) ∙ seen))
+        n
+        ∙ locks-near (freed a.at) after (ap (λ x. freed x) a.near ∙ ap (λ x. unscrolled x) (sym same)) n other
+
+-- and the press sees
+press-sees : (m : MapValue) (s : State) (h l : List Event) (k : ℕ) (x : Sight) → IsAt m s h l
+    → SeesBy m (selection_of s) k x → IsPendingFor m (l ++ h) x → SeesAlong m (Press k ∷ (l ++ h)) x
+press-sees m s h l k x a sees waits = (
+  [],
+  l ++ h,
+  k,
+  refl,
+  going-sees m (l ++ h) a.at [] k x a.stands tt
+      (subst (λ z. SeesBy m z k x) (sym (ap (λ z. selection_of z) a.near)) sees) waits,
+)
+
+-- behind a reset a console is where the locks tell
+at-reset : (m : MapValue) (s : State) (h : List Event) → IsFree s → s.is_second ≡ false → HasKeys h → HasNoLoads h
+    → HasLocks m (locks_in s) h → IsAt m s h (Reset ∷ [])
+at-reset m s h free first keys none locks = record {
+  at = free_after m h;
+  stands = stands-reset m h keys none;
+  near = ap (λ x. record { holder = λ i. None; is_locked = x; is_second = false }) (fun_ext (λ l. lock l))
+      ∙ ap (λ x. record { holder = x; is_locked = but_scroll s.is_locked; is_second = false })
+      (fun_ext (λ i. sym (free i)))
+      ∙ ap (λ x. record { holder = s.holder; is_locked = but_scroll s.is_locked; is_second = x }) (sym first);
+  taken = (refl, tt, tt);
+}
+  where
+    lock : (l : Lock) → but_scroll (λ j. is_locked_after (between m m) j h) l ≡ but_scroll s.is_locked l
+    lock Caps = locks.0
+    lock Num = locks.1
+    lock Scroll = refl
+    lock Alt = locks.2
+
+-- nothing is pending behind it
+reset-pends : (m : MapValue) (h : List Event) → pends m (Reset ∷ h) ≡ None
+reset-pends m h =
+    pending-is m (Reset ∷ h) ∙ ap (λ z. pending m z) (resolved-more (between m m) h Reset)
+    ∙ pending-reset m (resolved (between m m) h)
+
+-- A reset, the way home, on to the place, and the press there.
+pub visits : (e : Explored) → IsWhole e → (s next : State) → IsRest e s → (x : Sight) (at : KeyAt)
+    → IsPressAt e x at next
+    → (old home there now : List Event) → old ≡ Reset ∷ []
+    → LeadsOn (map_of_explored e) s start old home
+    → ((y : Entry) → slice_get e.met.entries at.place ≡ Some y
+    → LeadsToSee (map_of_explored e) x start (state_of y.0) home there)
+    → now ≡ Press at.key ∷ there
+    → Visits (map_of_explored e) (locks_in s) (locks_in next) (Some x) now
+visits e whole s next rest x at (y, here, lt, sees, after, route) old home there now is back on last h keys none locks =
+    let m : MapValue = map_of_explored e in
+    let a : IsAt m s h old = subst (λ z. IsAt m s h z) (sym is) (at-reset m s h rest.0 rest.1 keys none locks) in
+    let b = back h a in
+    let c = on y here h b.0 in
+    subst (λ z. AreTaken h z × HasLocks m (locks_in next) (z ++ h)
+    × ((w : Sight) → Some x ≡ Some w → IsReachable m w → SeesAlong m (z ++ h) w)) (sym last) (
+      (refl, tt, c.0.taken),
+      press-locks m (state_of y.0) h there at.key next c.0 after,
+      (λ w same can.
+          let e : x ≡ w = cc in
+          subst (λ z. SeesAlong m (Press at.key ∷ (there ++ h)) z) e
+          (press-sees m (state_of y.0) h there at.key x c.0 sees
+          (c.1 (b.1 ∙ ap (λ z. pends m (z ++ h)) is ∙ reset-pends m h) (subst (λ z. IsReachable m z) (sym e) can)))),
+    )
+
+-- ---- where nothing is to be aimed at
+
+-- all let go, one after another
+freed-emptied : (s : State) → freed s ≡ emptied s
+freed-emptied s =
+    ap (λ x. record { holder = x; is_locked = s.is_locked; is_second = s.is_second })
+    (fun_ext (λ i. sym (emptied-none s i)))
+
+freed-reached : (m : MapValue) (s : State) → Reached (alone m) s → Reached (alone m) (freed s)
+freed-reached m s there =
+    subst (λ z. Reached (alone m) z) (sym (freed-emptied s))
+    (emptied-kept (λ t. Reached (alone m) t)
+    (λ t k i here holds. reached-more (alone m) t (LetGo k i) here holds) s there)
+
+-- the state after a press is reached
+after-reached : (m : MapValue) (s : State) (k : ℕ) (t : State) → k < 128 → Reached (alone m) s
+    → IsAfter (alone m) s k t → Reached (alone m) t
+after-reached m s k t lt there (inl (l, idle, seen, turned)) = by l turned (lt, idle, seen)
+  where
+    turn : (l : Lock) → IsMove (alone m) s (Turn k l) → t ≡ freed (with_lock_turned s l) → Reached (alone m) t
+    turn l move is =
+        subst (λ z. Reached (alone m) z) (sym is)
+        (freed-reached m (with_lock_turned s l) (reached-more (alone m) s (Turn k l) there move))
+
+    by : (l : Lock) → IsTurned s l t → IsMove (alone m) s (Turn k l) → Reached (alone m) t
+    by Caps is move = turn Caps move is
+    by Num is move = turn Num move is
+    by Scroll is move = subst (λ z. Reached (alone m) z) (sym is) (freed-reached m s there)
+    by Alt is move = turn Alt move is
+after-reached m s k t lt there (inr (none, is)) =
+    subst (λ z. Reached (alone m) z) (sym is) (freed-reached m s there)
+
+-- nothing is held then, the first map is in force, and the scroll lock is off
+pub after-rest : (u : Under) (s : State) (k : ℕ) (t : State) → s.is_second ≡ false → s.is_locked Scroll ≡ false
+    → IsAfter u s k t → IsFree t × (t.is_second ≡ false) × (t.is_locked Scroll ≡ false)
+after-rest u s k t first off (inl (l, idle, seen, turned)) = by l turned
+  where
+    by : (l : Lock) → IsTurned s l t → IsFree t × (t.is_second ≡ false) × (t.is_locked Scroll ≡ false)
+    by Caps is = rw is ((λ i. refl), first, off)
+    by Num is = rw is ((λ i. refl), first, off)
+    by Scroll is = rw is ((λ i. refl), first, off)
+    by Alt is = rw is ((λ i. refl), first, off)
+after-rest u s k t first off (inr (none, is)) = rw is ((λ i. refl), first, off)
+
+-- where no turn is one-way, a route begins at each state that is reached, but for the scroll lock
+route-near : (e : Explored) → IsWhole e → NoTurnIsOneWay (map_of_explored e) → (s : State)
+    → Reached (alone (map_of_explored e)) s
+    → (j : ℕ) × (y : Entry) × (slice_get e.met.entries j ≡ Some y) × (unscrolled (state_of y.0) ≡ unscrolled s)
+    × HasRoute e.routes.entries (state_of y.0)
+route-near e (x, begins, complete) steady s (path, is, leads) =
+    let m : MapValue = map_of_explored e in
+    let u : Under = alone m in
+    let (searched, settled) = x.whole complete in
+    let (j, y, at, near) =
+    near-met u e.met.entries searched path (subst (λ o. IsPathFrom u o path) (sym begins) is) in
+    let r : IsReached u (origin_in e) e.met.entries j y = searched.reached j y at in
+    let made : IsPath u r.0 = subst (λ o. IsPathFrom u o r.0) begins r.2 in
+    let there : state_after u r.0 ≡ state_of y.0 = ap (λ o. state_from u o r.0) (sym begins) ∙ r.3 in
+    let (later, all, home) = steady r.0 made in
+    let parts = path-split u start later r.0 all in
+    let back : ComesHome u (state_of y.0) =
+    subst (λ t. ComesHome u t) there (later, parts.1, subst IsHome parts.2 home) in (
+      j,
+      y,
+      at,
+      near ∙ ap (λ o. unscrolled (state_from u o path)) begins ∙ ap (λ z. unscrolled z) leads,
+      comes-route m e.met.entries e.routes.entries searched settled j y at back,
+    )
+
+-- a sight that no press shows can't be seen there
+pub shows-not : (e : Explored) → IsWhole e → (x : Sight)
+    → ((j : ℕ) (y : Entry) → slice_get e.met.entries j ≡ Some y → ShowsNot e x y)
+    → NoTurnIsOneWay (map_of_explored e) → IsReachable (map_of_explored e) x → ⊥
+shows-not e whole x none steady (path, is, can, (k, lt, sees)) =
+    let m : MapValue = map_of_explored e in
+    let (j, y, at, near, route) = route-near e whole steady (state_after (alone m) path) (path, is, refl) in
+    elim (none j y at) [
+      | inl unseen ↦ unseen k lt (subst (λ z. SeesBy m z k x) (sym (ap (λ t. selection_of t) near)) sees)
+      | inr (n, t, key, after, astray) ↦
+          let r = whole.0.searched.reached j y at in
+          let here : Reached (alone m) (state_of y.0) = (
+            r.0,
+            subst (λ o. IsPathFrom (alone m) o r.0) whole.1 r.2,
+            ap (λ o. state_from (alone m) o r.0) (sym whole.1) ∙ r.3,
+          ) in
+          let rest = after-rest (alone m) (state_of y.0) n t (met-first e whole.0 j y at) r.5 after in
+          let (i, z, there, same, has) =
+          route-near e whole steady t (after-reached m (state_of y.0) n t key here after) in
+          let q = whole.0.searched.reached i z there in
+          astray (subst (λ w. HasRoute e.routes.entries w) (same-scrolled (state_of z.0) t same (q.5 ∙ sym rest.2)) has)
+    ]
+
+-- nor a pair whose dead key can't be tapped
+pub dead-not : (e : Explored) → IsWhole e → (accent c : ℕ) → (HasTap e (dead_tap accent) → ⊥)
+    → NoTurnIsOneWay (map_of_explored e) → IsReachable (map_of_explored e) (sight.Pair accent c) → ⊥
+dead-not e whole accent c none steady (path, is, (later, before, at, (can, (k, lt, (idle, seen)))), sees) =
+    let m : MapValue = map_of_explored e in
+    let u : Under = alone m in
+    let s : State = state_after u before in
+    let first : IsPath u before = (path-split u start later before (subst (λ p. IsPath u p) at is)).0 in
+    let (j, y, there, near, route) = route-near e whole steady s (before, first, refl) in
+    none (
+      j,
+      k,
+      (
+        y,
+        there,
+        route,
+        (
+          lt,
+          subst (λ z. IsIdle z k) (sym near) idle,
+          ap (λ z. look_in u z k) near ∙ seen,
+          (λ f. absurd (false≢true f)),
+        ),
+      ),
+    )
+
+-- what is found is aimed at
+pub found-aim : (e : Explored) → IsWhole e → (x : Sight) (d : Option KeyAt) → IsDeadFor e x d → (o : Option Aim)
+    → MatchOption o ((j : ℕ) (y : Entry) → slice_get e.met.entries j ≡ Some y → ShowsNot e x y)
+    (λ a. IsPressAt e x a.at (state_of a.next) × (a.sight ≡ x) × (a.dead ≡ d))
+    → MatchOption o (NoTurnIsOneWay (map_of_explored e) → IsReachable (map_of_explored e) x → ⊥)
+    (λ a. IsAim e a × (a.sight ≡ x))
+found-aim e whole x d dead None none = shows-not e whole x none
+found-aim e whole x d dead (Some a) (press, is, behind) = (
+  (
+    subst (λ z. IsPressAt e z a.at (state_of a.next)) (sym is) press,
+    subst (λ z. IsDeadFor e z a.dead) (sym is) (subst (λ o. IsDeadFor e x o) (sym behind) dead),
+  ),
+  is,
+)
+
+no-dead : (e : Explored) (x : Sight) → ((accent c : ℕ) → x ≡ sight.Pair accent c → ⊥) → IsDeadFor e x None
+no-dead e (sight.Pair accent c) other = absurd (other accent c refl)
+no-dead e (sight.Cell slot column) other = tt
+no-dead e (sight.Locks slot caps num) other = tt
+
+pub aims-at : (e : Explored) → IsWhole e → (x : Sight) → ((accent c : ℕ) → x ≡ sight.Pair accent c → ⊥)
+    → (o : Option Aim)
+    → MatchOption o ((j : ℕ) (y : Entry) → slice_get e.met.entries j ≡ Some y → ShowsNot e x y)
+    (λ a. IsPressAt e x a.at (state_of a.next) × (a.sight ≡ x) × (a.dead ≡ None))
+    → MatchOption o (NoTurnIsOneWay (map_of_explored e) → IsReachable (map_of_explored e) x → ⊥)
+    (λ a. IsAim e a × (a.sight ≡ x))
+aims-at e whole x other o found = found-aim e whole x None (no-dead e x other) o found
+
+-- behind a visit a console rests
+pub aim-rest : (e : Explored) → IsWhole e → (a : Aim) → IsAim e a → IsRest e (state_of a.next)
+aim-rest e whole a ((y, at, lt, sees, after, route), dead) =
+    let r = whole.0.searched.reached a.at.place y at in
+    let rest =
+    after-rest (alone (map_of_explored e)) (state_of y.0) a.at.key (state_of a.next)
+    (met-first e whole.0 a.at.place y at) r.5 after in
+    (rest.0, rest.1, route)
+
+-- at the start it rests too
+pub start-rest : (e : Explored) → IsWhole e → (s : State) → s ≡ start → IsRest e s
+start-rest e whole s is =
+    let (searched, settled) = whole.0.whole whole.2 in
+    let (j, y, at, here, le) = searched.start in
+    let home : ComesHome (alone (map_of_explored e)) (state_of y.0) =
+    subst (λ t. ComesHome (alone (map_of_explored e)) t) (sym (here ∙ whole.1))
+    ([], tt, ((λ i. refl), (λ l other. refl))) in
+    subst (λ t. IsRest e t) (sym is) (
+      (λ i. refl),
+      refl,
+      subst (λ t. HasRoute e.routes.entries t) (here ∙ whole.1)
+          (comes-route (map_of_explored e) e.met.entries e.routes.entries searched settled j y at home),
+    )

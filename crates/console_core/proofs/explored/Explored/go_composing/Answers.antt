@@ -1,0 +1,57 @@
+use Rattle.console_core.proofs.Common.{reverse, subst, sym, slice_get_within, map_of_explored, HasRoute, LeadsHome}
+use Rattle.console_core.proofs.Common.{state_of, LeadsComposing, LeadsOn, alone}
+use Rattle.console_core.proofs.Approaching.{out-leads, home-leads, dead-leads, met-first, composing-leads}
+use Rattle.console_core.proofs.GoingBack.{searched-back, same-place}
+use Rattle.console_core.proofs.Results.{on_ok-then}
+use Rattle.console_core.proofs.explored.Explored.go_composing.Goals as goal
+
+pub go_out-requires-clause-place : goal.go_out-requires-clause-place
+go_out-requires-clause-place c =
+    slice_get_within c.args.self.now.met.entries c.args.dead.place c.requires.dead.0 c.requires.dead.1
+
+pub go_out-requires-clause-back : goal.go_out-requires-clause-back
+go_out-requires-clause-back c =
+    searched-back (alone (map_of_explored c.args.self.now)) c.args.self.now.met.entries 0 0
+    c.requires.explored.0.searched
+
+pub state_at-requires : goal.state_at-requires
+state_at-requires c =
+    slice_get_within c.args.self.now.met.entries c.args.dead.place c.requires.dead.0 c.requires.dead.1
+
+pub come_home-requires : goal.come_home-requires
+come_home-requires c =
+    let e = c.args.self.now in
+    let (x, at, has) = c.requires.dead in
+    subst (λ h. HasRoute e.routes.entries (state_of h)) (sym (c.state_at.ensures x at)) has
+
+pub go_out-requires-2-clause-back : goal.go_out-requires-2-clause-back
+go_out-requires-2-clause-back c =
+    searched-back (alone (map_of_explored c.args.self.now)) c.args.self.now.met.entries 0 0
+    c.requires.explored.0.searched
+
+pub returns : goal.returns
+returns c =
+    let e = c.args.self.now in
+    let m = map_of_explored e in
+    let x = c.requires.explored.0 in
+    let d = c.args.dead in
+    let old = reverse c.args.events.now.items in
+    let out = reverse c.go_out.new.events.items in
+    let tapped = reverse c.tap.new.events.items in
+    let back = reverse c.come_home.new.events.items in
+    let now = reverse c.go_out-2.new.events.items in
+    on_ok-then c.go_out-2.result
+    (λ added y accent at (z, there, has, (lt, idle, seen, plain)).
+    let s = state_of z.0 in
+    let is = c.state_at.ensures z there in
+    let (moves, home, events) = c.in_ok-come_home.ensures (alone m) x.home in
+    composing-leads {a = old} {b = out} {c = tapped} {d = back} {e = now}
+    (subst (λ o. LeadsOn m o s old out) c.requires.explored.1
+    (out-leads e x d.place z there old out c.in_ok-go_out.ensures))
+    (subst (λ l. LeadsComposing m accent s s out l) (sym c.in_ok-tap.ensures)
+    (dead-leads m s d.key accent out lt idle seen))
+    (home-leads m s moves (met-first e x d.place z there)
+    (subst (λ h. LeadsHome (alone m) (state_of h) moves) is home) tapped back events)
+    (subst (λ o. LeadsOn m o (state_of y.0) back now) c.requires.explored.1
+    (out-leads e x c.args.place y at back now added)))
+    c.go_out-2.ensures

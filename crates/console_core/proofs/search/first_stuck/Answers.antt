@@ -1,0 +1,23 @@
+use Rattle.console_core.proofs.Common.{inl, inr, subst, sym, arith, IsForgetful, state_of, under_of}
+use Rattle.console_core.proofs.Searching.{place_last, same_entry}
+use Rattle.console_core.proofs.search.first_stuck.Goals as goal
+
+pub returns-in-Some : goal.returns-in-Some
+returns-in-Some c = ((c.entry-held.result, c.entry-held.ensures, c.in-Some.ensures), c.loop-place.invariant)
+
+pub loop-place-preserved : goal.loop-place-preserved
+loop-place-preserved c =
+    λ j x at lt forgetful. elim (place_last j c.loop-place.place lt) [
+      | inl below ↦ c.loop-place.invariant j x at below forgetful
+      | inr e ↦
+          c.in_default.ensures
+          (subst (λ z. IsForgetful (under_of c.args.maps.now) (state_of z.0))
+          (sym (same_entry c.args.met.now.entries j c.loop-place.place x c.entry-held.result e at c.entry-held.ensures))
+          forgetful)
+    ]
+
+pub returns : goal.returns
+returns c =
+    λ j x at lt forgetful.
+    c.loop-place.invariant j x at
+    (omega (arith, lt, c.loop-place-test.false, c.loop-place.auto.place-end, c.len-place-end.ensures.len)) forgetful

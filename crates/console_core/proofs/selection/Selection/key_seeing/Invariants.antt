@@ -1,7 +1,0 @@
--- no press of a key below the code sees it
-use Rattle.std.proofs.Common.{ℕ, ◌<◌}
-use Rattle.console_core.specs.Sights.{SeesBy}
-use Rattle.console_core.proofs.selection.Selection.key_seeing.Given as goal
-
-abbrev pub invariant-loop-code : goal.invariant-loop-code
-invariant-loop-code l = (k : ℕ) → k < l.code → SeesBy l.map l.self k l.sight → ⊥

@@ -1,0 +1,50 @@
+-- The parts that begin stand in their order, each with its events.
+use Rattle.keymap_cover.proofs.Common.{zero, suc, ◌≡◌, ℕ, ◌<◌, ◌+◌, inl, inr, List, [], ◌∷◌, ◌++◌, length, get_or, refl}
+use Rattle.keymap_cover.proofs.Common.{ap, subst, sym, arith, Contains-append_left, part_place, ArePartsBelow}
+use Rattle.std.proofs.lemmas.Bool.{cases_lt}
+use Rattle.std.proofs.lemmas.List.Elements.{All-push, Contains-push}
+use Rattle.std.proofs.lemmas.List.Quantifiers.{all_pairs_push}
+use Rattle.keymap_cover.specs.declared.parts.Part.{Part}
+use Rattle.keymap_cover.specs.declared.parts.Part.TheVariants.{Cells, Pairs, Trials, OneWay}
+use Rattle.keymap_cover.specs.declared.parts.Start.{Start}
+
+-- no events are in no part
+pub parts-none : (starts : List Start) (n : ℕ) → starts ≡ [] → n ≡ 0 → ArePartsBelow 0 starts n
+parts-none starts n none e = record {
+  parts = record {
+    in_order = λ i j d lt within. absurd (omega (arith, lt, within, zero_long));
+    within = λ k d lt. absurd (omega (arith, lt, zero_long));
+    first = λ some. absurd (omega (arith, some, e));
+  };
+  below = λ k d lt. absurd (omega (arith, lt, zero_long));
+}
+  where
+    zero_long : length starts ≡ 0
+    zero_long = ap (λ z. length z) none
+
+-- a part without events has no beginning
+pub parts-skip : (place : ℕ) (starts : List Start) (n : ℕ) → ArePartsBelow place starts n
+    → ArePartsBelow (place + 1) starts n
+parts-skip place starts n x = record { parts = x.parts; below = λ k d lt. omega (arith, x.below k d lt) }
+
+-- one with events begins behind those before it
+pub parts-more : (place : ℕ) (starts now : List Start) (start : Start) (n m : ℕ) → part_place start.part ≡ place
+    → ArePartsBelow place starts n → now ≡ starts ++ start ∷ [] → start.at ≡ n → n < m
+    → ArePartsBelow (place + 1) now m
+parts-more place starts now start n m at x e begins more =
+    subst (λ z. ArePartsBelow (place + 1) z m) (sym e) (record {
+      parts = record {
+        in_order = all_pairs_push (λ x y. (part_place x.part < part_place y.part) × (x.at < y.at)) starts start
+            x.parts.in_order
+            (λ k d lt. (omega (arith, at, x.below k d lt), omega (arith, begins, x.parts.within k d lt)));
+        within = All-push (λ x. x.at < m) starts start (λ k d lt. omega (arith, more, x.parts.within k d lt))
+            (omega (arith, begins, more));
+        first = λ some. elim (cases_lt 0 n) [
+          | inl before ↦
+              let (y, has, is) = x.parts.first before in (y, Contains-append_left starts (start ∷ []) y has, is)
+          | inr none ↦ (start, Contains-push starts start, omega (arith, begins, none))
+        ];
+      };
+      below = All-push (λ x. part_place x.part < place + 1) starts start (λ k d lt. omega (arith, x.below k d lt))
+          (omega (arith, at));
+    })

@@ -1,0 +1,26 @@
+use Rattle.keymap_cover.proofs.Common.{refl, ap, arith, get_or_default}
+use Rattle.keymap_cover.proofs.Showing.{all-more, stays-so}
+use Rattle.keymap_cover.proofs.cover.show_all.Goals as goal
+
+pub loop-sight-init : goal.loop-sight-init
+loop-sight-init g c =
+    stays-so c.args.map.now (g.T.Translator.stands c.args.console.now) c.args.planner.now c.args.planner.now
+    c.args.tour.now _ (refl, refl) (λ h w steady n x lt at. absurd (omega (arith, lt)))
+
+pub loop-sight-preserved : goal.loop-sight-preserved
+loop-sight-preserved g c =
+    all-more c.args.map.now (g.T.Translator.stands c.args.console.now) c.args.planner.now c.args.tour.now
+    (g.T.Translator.stands c.loop-sight.console) c.loop-sight.planner c.loop-sight.tour
+    (g.T.Translator.stands c.show_left_out.new.console) c.show_left_out.new.planner c.show_left_out.new.tour
+    c.args.told.now c.loop-sight.sight-index _ c.loop-sight-test.true c.loop-sight.invariant
+    c.in_ok-show_left_out.ensures
+
+pub returns : goal.returns
+returns g c =
+    λ h w.
+    let (f, v, after, seen) = c.loop-sight.invariant h w in (
+      f,
+      v,
+      after,
+      (λ steady x (n, lt, at) can. seen steady n x (omega (arith, lt, c.loop-sight-test.false)) at can),
+    )

@@ -1,0 +1,26 @@
+use Rattle.keymap_cover.proofs.Common.{refl, subst, sym, NoTurnIsOneWay, IsReachable}
+use Rattle.keymap_cover.proofs.Showing.{aims-else, stays-so}
+use Rattle.keymap_cover.proofs.cover.show_left_out.Goals as goal
+
+pub returns-then-not-is_left_out : goal.returns-then-not-is_left_out
+returns-then-not-is_left_out g c =
+    stays-so c.args.map.now (g.T.Translator.stands c.args.console.now) c.args.planner.now c.args.planner.now
+    c.args.tour.now _ (refl, refl)
+    (λ h w steady can. c.is_left_out.ensures.none c.requires c.if-not-is_left_out.true can)
+
+pub returns-then-not-find : goal.returns-then-not-find
+returns-then-not-find g c =
+    stays-so c.args.map.now (g.T.Translator.stands c.args.console.now) c.args.planner.now c.find.new.self
+    c.args.tour.now _ c.find.ensures.kept
+    (λ h w steady can.
+    absurd (c.find.ensures.never c.if-not-find.true (subst NoTurnIsOneWay (sym w.map) steady)
+    (subst (λ m. IsReachable m c.args.sight) (sym w.map) can)))
+
+pub returns : goal.returns
+returns g c =
+    λ h w.
+    let (f, v, after, sees) =
+    c.in_ok-show.ensures h
+    (aims-else c.args.map.now (g.T.Translator.stands c.args.console.now) c.args.planner.now c.find.new.self
+    c.args.tour.now h c.find.ensures.kept w) in
+    (f, v, after, (λ steady can. sees c.args.sight (c.find.ensures.found c.if-not-find.false) can))

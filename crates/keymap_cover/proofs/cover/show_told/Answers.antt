@@ -1,0 +1,12 @@
+use Rattle.keymap_cover.proofs.Common.{◌∙◌}
+use Rattle.keymap_cover.proofs.Showing.{told-shown}
+use Rattle.keymap_cover.proofs.cover.show_told.Goals as goal
+
+pub returns : goal.returns
+returns g c =
+    told-shown c.args.map.now (g.T.Translator.stands c.args.console.now) c.args.planner.now c.args.tour.now
+    (g.T.Translator.stands c.show_all.new.console) c.show_all.new.planner c.show_all.new.tour
+    (g.T.Translator.stands c.show_all-2.new.console) c.show_all-2.new.planner c.show_all-2.new.tour
+    c.deref.result.now c.deref-2.result.now c.len-first.result (c.deref.ensures.value ∙ c.in_ok-keys.ensures)
+    (c.deref-2.ensures.value ∙ c.in_ok-pairs.ensures) (c.len-first.ensures ∙ c.show_all.new.tour.strokes.ok.0)
+    c.in_ok-show_all.ensures c.in_ok-show_all-2.ensures

@@ -1,0 +1,39 @@
+-- The names of definitions and of std that more than one file of these proofs uses, passed on from one place.
+pub use Rattle.bstr.specs.Utf8.{lossy_chars, or_replacement, pieces}
+pub use Rattle.console_core.specs.declared.event.Event.{Event}
+pub use Rattle.keymap_core.proofs.Lists.{along}
+pub use Rattle.keymap_core.specs.declared.action.Modifier.{Modifier}
+pub use Rattle.keymap_lint.specs.Severities.{severity_of}
+pub use Rattle.keymap_lint.specs.declared.diagnostic.Diagnostic.{Diagnostic}
+pub use Rattle.keymap_lint.specs.declared.diagnostic.Diagnostics.{Diagnostics}
+pub use Rattle.keymap_lint.specs.declared.diagnostic.Severity.{Severity}
+pub use Rattle.keymap_lint.specs.declared.diagnostic.Severity.TheVariants.{Error}
+pub use Rattle.keymap_lint_text.specs.Excerpt.{below, left_out, lines_of, reach, shown_before, without_cr}
+unfoldable pub use Rattle.keymap_lint_text.specs.Excerpt.{excerpt}
+pub use Rattle.keymap_lint_text.specs.Heads.{ArePrinted, IsMessage, Remark, Said, head, place_text, remark, said_text}
+pub use Rattle.keymap_lint_text.specs.Inner.Adding.{Adds}
+pub use Rattle.keymap_lint_text.specs.Names.{is_noted}
+unfoldable pub use Rattle.keymap_lint_text.specs.Names.{kind_text}
+pub use Rattle.keymap_lint_text.specs.Shown.{IsLine, IsPlainText, IsSeen, ended, is_shown_byte, last, lines_text}
+pub use Rattle.keymap_lint_text.specs.Shown.{shown_char}
+unfoldable pub use Rattle.keymap_lint_text.specs.Shown.{shown_chars, shown_name}
+pub use Rattle.keymap_lint_text.specs.Whole.{answer, beginning, judged, of_diagnostic}
+pub use Rattle.keymap_text.specs.FaultNames.{fault_name}
+pub use Rattle.keymap_text.specs.LineOf.{before_in_line}
+pub use Rattle.keymap_text.specs.Meaning.{line}
+pub use Rattle.keymap_text.specs.declared.fault.TextFaultKind.{TextFaultKind}
+unfoldable pub use Rattle.messages.specs.Filled.{filled}
+pub use Rattle.std.proofs.Common.{Bool, List, None, Option, Some, [], ap, append-nil, append_assoc, arith, codes, drop}
+pub use Rattle.std.proofs.Common.{false, inl, inr, length, length-append, length-drop, map, nat_lt, refl, subst, sym}
+pub use Rattle.std.proofs.Common.{take, take_all, true, ℕ, ◌++◌, ◌+◌, ◌-◌, ◌<◌, ◌∙◌, ◌∷◌, ◌≡◌, ◌≤◌, ◌⊎◌}
+pub use Rattle.std.proofs.Math.Seq.{drop-append_seam, take-append_seam}
+pub use Rattle.std.proofs.lemmas.Bool.{and_parts, cases_lt}
+pub use Rattle.std.proofs.lemmas.Bool.Decides.{nat_tests}
+pub use Rattle.std.proofs.lemmas.Grind.{flat_map-append}
+pub use Rattle.std.proofs.lemmas.List.{drop-append-le, map-append}
+pub use Rattle.std.proofs.lemmas.List.Elements.{All-append, All-cons, All-nil, All-take}
+pub use Rattle.std.proofs.lemmas.Result.{on_ok_weaker}
+pub use Rattle.std.proofs.lemmas.Str.{encode_ascii}
+pub use Rattle.std.specs.Fmt.{digit_glyph}
+pub use Rattle.std.specs.List.{flat_map, list_all}
+pub use Rattle.std.specs.Prelude.{IfOk, decimal, encode_utf8, if◌then◌else◌, min, not, ◌==◌}

@@ -1,2 +1,0 @@
--- What mirrors functions of the code. Private contracts cite it; no public clause does.
-pub mod Adding

@@ -1,9 +1,0 @@
--- The parts of a plan while it is written. Mirrors `Plan::add` of src/lib.rt.
-use Rattle.std.specs.Prelude.{ℕ, ◌<◌, List, All}
-use Rattle.keymap_tour.specs.declared.Start.{Start}
-use Rattle.keymap_tour.specs.Plans.{part_place, AreParts}
-
--- the parts of n events, all of which stand before the part at the place
-pub record ArePartsBelow (place : ℕ) (starts : List Start) (n : ℕ) : Type 0 where
-  pub parts : AreParts starts n
-  pub below : All (λ x. part_place x.part < place) starts

@@ -27,7 +27,8 @@ import sys
 source = open(sys.argv[1], encoding="utf-8").read()
 page = open(sys.argv[2], encoding="utf-8").read()
 section = "".join(page.split(f"\n## {it}\n")[1].split("\n## ")[0] for it in sys.argv[3:])
-told = set(re.findall(r"`([^`]+)`", section))
+# a comment of a script stands in the source without its number sign
+told = {span.removeprefix("#") for span in re.findall(r"`([^`]+)`", section)}
 text = r'b"((?:[^"\\]|\\.)*)"'
 messages = dict(re.findall(r"const (\w+): &\[u8\] =\s*" + text, source))
 lists = re.findall(r"const (\w+): \[&\[u8\]; \d+\] = \[(.*?)\];", source, re.S)

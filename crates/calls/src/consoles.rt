@@ -174,7 +174,7 @@ fn goes_onward<W: Write>(alloc: Global, marks: &mut W) -> Result<Outcome, AllocE
         column: 1,
     };
     mark(marks);
-    let given = find_onward(alloc, &map, &PlainConsole::new(&map), cell);
+    let given = find_onward(alloc, &map, &PlainConsole::new(&map), &[cell]);
     mark(marks);
     Ok(ended(given.map(|onward| onward.is_some())))
 }

@@ -33,28 +33,56 @@ fn events_onward(
     Ok(events)
 }
 
-/// Goes where a press sees it, if it is left out.
+/// The cells and lock settings that are left out.
+fn left_out(
+    alloc: Global,
+    seen: &Seen,
+    sights: &Sights,
+    map: &KeyMap,
+) -> Result<Vec<Sight>, AllocError> {
+    let mut left = Vec::new(alloc);
+    for sight in &told_of_keys(alloc)? {
+        if is_left_out(seen, sights, map, *sight) {
+            left.push(*sight)?;
+        }
+    }
+    Ok(left)
+}
+
+/// Those of these that weren't seen.
+fn unseen(alloc: Global, seen: &Seen, sights: &[Sight]) -> Result<Vec<Sight>, AllocError> {
+    let mut left = Vec::new(alloc);
+    for sight in sights {
+        if !seen.has(*sight) {
+            left.push(*sight)?;
+        }
+    }
+    Ok(left)
+}
+
+/// Goes where a press sees one of these, and tells whether there is such a press.
 fn show_onward<T: Translator>(
     alloc: Global,
     tour: &mut Tour,
     console: &mut T,
     map: &KeyMap,
-    sights: &Sights,
-    sight: Sight,
-) -> Result<(), AllocError>
+    left: &[Sight],
+) -> Result<bool, AllocError>
     ensures { OnOk result (GoesResting map.now (T.stands console.old) tour.old (T.stands console.new) tour.new) }
 {
-    if !is_left_out(&tour.seen, sights, map, sight) {
-        return Ok(());
+    if left.is_empty() {
+        return Ok(false);
     }
-    if let Some(onward) = find_onward(alloc, map, &*console, sight)? {
-        let events = events_onward(alloc, map, &tour.seen, &onward)?;
-        tour.walk(console, map, &events)?;
-    }
-    Ok(())
+    let Some(onward) = find_onward(alloc, map, &*console, left)? else {
+        return Ok(false);
+    };
+    let events = events_onward(alloc, map, &tour.seen, &onward)?;
+    tour.walk(console, map, &events)?;
+    Ok(true)
 }
 
-/// Goes where presses see what is left out of the cells and lock settings, by turns that can't be taken back.
+/// Goes where presses see what is left out of the cells and lock settings, by turns that can't be taken back. Each time
+/// something more of it is seen, until nothing of it can be seen from where the console stands.
 pub(crate) fn go_onward<T: Translator>(
     alloc: Global,
     tour: &mut Tour,
@@ -64,8 +92,12 @@ pub(crate) fn go_onward<T: Translator>(
 ) -> Result<(), AllocError>
     ensures { OnOk result (GoesResting map.now (T.stands console.old) tour.old (T.stands console.new) tour.new) }
 {
-    for sight in &told_of_keys(alloc)? {
-        show_onward(alloc, tour, console, map, sights, *sight)?;
+    let mut left = left_out(alloc, &tour.seen, sights, map)?;
+    for _ in 0..left.len() {
+        if !show_onward(alloc, tour, console, map, &left)? {
+            return Ok(());
+        }
+        left = unseen(alloc, &tour.seen, &left)?;
     }
     Ok(())
 }

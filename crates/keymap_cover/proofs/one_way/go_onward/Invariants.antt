@@ -2,6 +2,6 @@
 use Rattle.keymap_cover.proofs.Common.{GoesResting}
 use Rattle.keymap_cover.proofs.one_way.go_onward.Given as goal
 
-abbrev pub invariant-loop-sight : goal.invariant-loop-sight
-invariant-loop-sight g l =
+abbrev pub invariant-loop : goal.invariant-loop
+invariant-loop g l =
     GoesResting l.map (g.T.Translator.stands l.fn.console) l.fn.tour (g.T.Translator.stands l.console) l.tour

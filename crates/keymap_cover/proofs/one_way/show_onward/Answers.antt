@@ -1,14 +1,14 @@
 use Rattle.keymap_cover.proofs.Common.{[], refl}
 use Rattle.keymap_cover.proofs.one_way.show_onward.Goals as goal
 
-pub returns-then-not-is_left_out : goal.returns-then-not-is_left_out
-returns-then-not-is_left_out g c = λ h w. (h, w, ([], refl))
+pub returns-then-is_empty : goal.returns-then-is_empty
+returns-then-is_empty g c = λ h w. (h, w, ([], refl))
 
 pub returns-in_default : goal.returns-in_default
 returns-in_default g c = λ h w. (h, w, ([], refl))
 
-pub returns-in_ok-walk : goal.returns-in_ok-walk
-returns-in_ok-walk g c =
+pub returns : goal.returns
+returns g c =
     λ h w.
     let (f, run, rest, after, exact) = c.in_ok-walk.ensures.along h w.0 in
     (f, (run, c.in_ok-walk.ensures.up, rest), after)

@@ -24,33 +24,19 @@ behind fs class x y f n t c = within in_key ((fs ++ Title ((f.now ++ n.now) ++ t
 record AreRead (w : List ℕ) (class : List ℕ) (x y f n t c : Words) (told : List Told) : Type 0 where
   all : (fs : List Fact) → over (Some (within in_svg fs)) w told ≡ Some (behind fs class x y f n t c.now)
 
-plain : (x y f n t c : Words) (s : Shape) → c.now ≡ letter s ∷ []
-    → AreRead words.KEY.now [] x y f n t c (in_group x y f n t c)
-plain x y f n t c s e = record {
-  all = λ fs. subst (λ l. over (Some (within in_svg fs)) words.KEY.now
-      (in_group x y f n t (record { ref_ptr = c.ref_ptr; now = l }))
-      ≡ Some (behind fs [] x y f n t l)) (sym e) (by s fs);
-}
-  where
-    by : (s : Shape) (fs : List Fact) → over (Some (within in_svg fs)) words.KEY.now
-        (in_group x y f n t (record { ref_ptr = c.ref_ptr; now = letter s ∷ [] }))
-        ≡ Some (behind fs [] x y f n t (letter s ∷ []))
-    by A fs = refl
-    by _ fs = refl
+-- the words without a class and those with one
+abbrev Both : Words → Words → Words → Words → Words → Words → Words → Type 0
+Both class x y f n t c =
+    AreRead words.KEY.now [] x y f n t c (in_group x y f n t c)
+    × AreRead words.KEY_OF.now class.now x y f n t c (Plain class ∷ in_group x y f n t c)
 
-classed : (class x y f n t c : Words) (s : Shape) → c.now ≡ letter s ∷ []
-    → AreRead words.KEY_OF.now class.now x y f n t c (Plain class ∷ in_group x y f n t c)
-classed class x y f n t c s e = record {
-  all = λ fs. subst (λ l. over (Some (within in_svg fs)) words.KEY_OF.now
-      (Plain class ∷ in_group x y f n t (record { ref_ptr = c.ref_ptr; now = l }))
-      ≡ Some (behind fs class.now x y f n t l)) (sym e) (by s fs);
-}
+both : (class x y f n t c : Words) (s : Shape) → c.now ≡ letter s ∷ [] → Both class x y f n t c
+both class x y f n t c s e =
+    subst (λ l. Both class x y f n t (record { ref_ptr = c.ref_ptr; now = l })) (sym e) (by s)
   where
-    by : (s : Shape) (fs : List Fact) → over (Some (within in_svg fs)) words.KEY_OF.now
-        (Plain class ∷ in_group x y f n t (record { ref_ptr = c.ref_ptr; now = letter s ∷ [] }))
-        ≡ Some (behind fs class.now x y f n t (letter s ∷ []))
-    by A fs = refl
-    by _ fs = refl
+    by : (s : Shape) → Both class x y f n t (record { ref_ptr = c.ref_ptr; now = letter s ∷ [] })
+    by A = (record { all = λ fs. refl }, record { all = λ fs. refl })
+    by _ = (record { all = λ fs. refl }, record { all = λ fs. refl })
 
 -- the facts that they tell
 facts : {w class : List ℕ} {x y f n t c : Words} {told : List Told} → AreRead w class x y f n t c told
@@ -74,21 +60,21 @@ empty (c ∷ cs) h = absurd (omega (arith, h))
 
 pub tell-requires-clause-read : goal.tell-requires-clause-read
 tell-requires-clause-read c =
-    read (plain c.as_slice.result c.as_slice-2.result c.args.finding c.args.feed c.args.title c.letter.result
-    c.args.shape c.letter.ensures.value)
+    read (both c.args.class c.as_slice.result c.as_slice-2.result c.args.finding c.args.feed c.args.title
+    c.letter.result c.args.shape c.letter.ensures.value).0
 
 pub tell-requires-in_default-clause-read : goal.tell-requires-in_default-clause-read
 tell-requires-in_default-clause-read c =
-    read (classed c.args.class c.as_slice.result c.as_slice-2.result c.args.finding c.args.feed c.args.title
-    c.letter.result c.args.shape c.letter.ensures.value)
+    read (both c.args.class c.as_slice.result c.as_slice-2.result c.args.finding c.args.feed c.args.title
+    c.letter.result c.args.shape c.letter.ensures.value).1
 
 pub returns-in-empty : goal.returns-in-empty
 returns-in-empty c =
     let none : c.args.class.now ≡ [] = empty c.args.class.now c.in-empty.len_below in
     rw none (subst (λ fs. IfOk c.tell.result (λ s. s ≡ c.args.sheet ++ fs))
     (told c.args.x c.args.y c.args.shape
-    (plain c.as_slice.result c.as_slice-2.result c.args.finding c.args.feed c.args.title c.letter.result
-    c.args.shape c.letter.ensures.value)
+    (both c.args.class c.as_slice.result c.as_slice-2.result c.args.finding c.args.feed c.args.title
+    c.letter.result c.args.shape c.letter.ensures.value).0
     (c.as_slice.ensures.value ∙ c.digits-x.ensures.value) (c.as_slice-2.ensures.value ∙ c.digits-y.ensures.value)
     c.letter.ensures.value) c.tell.ensures)
 
@@ -96,7 +82,7 @@ pub returns-in_default : goal.returns-in_default
 returns-in_default c =
     subst (λ fs. IfOk c.tell-in_default.result (λ s. s ≡ c.args.sheet ++ fs))
     (told c.args.x c.args.y c.args.shape
-    (classed c.args.class c.as_slice.result c.as_slice-2.result c.args.finding c.args.feed c.args.title
-    c.letter.result c.args.shape c.letter.ensures.value)
+    (both c.args.class c.as_slice.result c.as_slice-2.result c.args.finding c.args.feed c.args.title
+    c.letter.result c.args.shape c.letter.ensures.value).1
     (c.as_slice.ensures.value ∙ c.digits-x.ensures.value) (c.as_slice-2.ensures.value ∙ c.digits-y.ensures.value)
     c.letter.ensures.value) c.tell-in_default.ensures

@@ -85,14 +85,14 @@ over_scan (t ∷ ts) s w u h e =
     scan-append s (words_before w ++ written t) (filled (words_behind w) (map written ts))
     ∙ ap (λ o. scan o (filled (words_behind w) (map written ts))) (scan-append s (words_before w) (written t))
     ∙ from (scan s (words_before w))
-    (λ q f. over_scan ts (Some q) (words_behind w) u (second_true (is_ready t) (list_all is_ready ts) h) f) e
+    (λ q f. over_scan ts (Some q) (words_behind w) u (second_true _ h) f) e
   where
     text : (v : State) (q : Option State) → taking v.place v.read t (words_behind w) ≡ q
         → ((q : State) → over (Some q) (words_behind w) ts ≡ Some u → scan (Some q) (filled (words_behind w) (map written ts)) ≡ Some u)
         → over q (words_behind w) ts ≡ Some u → scan (scan (Some v) (written t)) (filled (words_behind w) (map written ts)) ≡ Some u
     text v None f all e = absurd (none-some u (sym (over_none ts (words_behind w)) ∙ e))
     text v (Some q) f all e =
-        taken v.place v.read t (words_behind w) ts q (first_true (is_ready t) (list_all is_ready ts) h) f ∙ all q e
+        taken v.place v.read t (words_behind w) ts q (first_true _ h) f ∙ all q e
 
     from : (o : Option State) → ((q : State) → over (Some q) (words_behind w) ts ≡ Some u → scan (Some q) (filled (words_behind w) (map written ts)) ≡ Some u)
         → over (option_and_then (λ (v : State). taking v.place v.read t (words_behind w)) o) (words_behind w) ts
@@ -121,20 +121,19 @@ among : (test : ℕ → Bool) (letters : List ℕ) (c : ℕ) → list_all test l
     → list_any (λ d. d == c) letters ≡ true → test c ≡ true
 among test [] c h e = cc
 among test (d ∷ letters) c h e =
-    by (d == c) refl (λ e. among test letters c (second_true (test d) (list_all test letters) h) e) e
+    by (d == c) refl (λ e. among test letters c (second_true _ h) e) e
   where
     by : (b : Bool) → d == c ≡ b → (list_any (λ d. d == c) letters ≡ true → test c ≡ true)
         → (b || list_any (λ d. d == c) letters) ≡ true → test c ≡ true
-    by true same rest e = ap test (sym (eqb-true d c same)) ∙ first_true (test d) (list_all test letters) h
+    by true same rest e = ap test (sym (eqb-true d c same)) ∙ first_true _ h
     by false other rest e = rest e
 
 -- classes may stand in a value
 pub classes_inner : (classes : List ℕ) → list_all is_class classes ≡ true → list_all is_inner classes ≡ true
 classes_inner [] h = refl
 classes_inner (c ∷ classes) h =
-    both_true (is_inner c) (list_all is_inner classes)
-    (among is_inner (codes " botuvwxyzcraedmfpg") c refl (first_true (is_class c) (list_all is_class classes) h))
-    (classes_inner classes (second_true (is_class c) (list_all is_class classes) h))
+    both_true (among is_inner (codes " botuvwxyzcraedmfpg") c refl (first_true _ h))
+    (classes_inner classes (second_true _ h))
 
 -- ---- what the check says
 

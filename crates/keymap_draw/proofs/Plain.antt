@@ -1,8 +1,8 @@
 -- What is scanned is plain.
 use Rattle.keymap_draw.proofs.Common.{◌≡◌, ℕ, ◌<◌, Bool, true, false, List, [], ◌∷◌, Option, Some, None, refl, sym, ◌∙◌}
-use Rattle.keymap_draw.proofs.Common.{All, get_or, not, if◌then◌else◌, not-true, All-nil, All-cons, AccentValue, IsCell}
+use Rattle.keymap_draw.proofs.Common.{All, get_or, if◌then◌else◌, not-true, All-nil, All-cons, AccentValue, IsCell}
 use Rattle.keymap_draw.proofs.Common.{is_unseen, Cell, Entry, slot_words, accent_words, cell_legend, Fact, State, Tells}
-use Rattle.keymap_draw.proofs.Common.{start, step, scan, is_plain, is_shown, is_seen}
+use Rattle.keymap_draw.proofs.Common.{start, step, scan, is_plain, is_seen}
 use Rattle.keymap_draw.specs.WellFormed.{step_at, IsPlain, IsShown, IsSeen}
 use Rattle.keymap_draw.proofs.Scans.{first_true, second_true, none-some, failed}
 use Rattle.keymap_draw.proofs.Shown.{all_from}
@@ -24,12 +24,12 @@ told_plain fs bytes h = scanned_plain bytes (Some start) _ h.scanned
 
 each_shown : (cs : List ℕ) → AreShown cs → All IsShown cs
 each_shown cs h k d l =
-    first_true (is_shown (get_or cs k d)) (not (is_unseen (get_or cs k d))) (all_from is_seen cs h.each k d l)
+    first_true _ (all_from is_seen cs h.each k d l)
 
 each_seen : (cs : List ℕ) → AreShown cs → All IsSeen cs
 each_seen cs h k d l =
     not-true (is_unseen (get_or cs k d))
-    (second_true (is_shown (get_or cs k d)) (not (is_unseen (get_or cs k d))) (all_from is_seen cs h.each k d l))
+    (second_true _ (all_from is_seen cs h.each k d l))
 
 pub legend_shown : (cell : Cell) → IsCell cell → All IsShown (cell_legend cell)
 legend_shown cell is = each_shown (cell_legend cell) (cell_shown cell is)

@@ -16,16 +16,16 @@ scan-append s (c ∷ a) b = scan-append (step s c) a b
 pub past : (s t : Option State) (a b : List ℕ) (r : Option State) → scan s a ≡ t → scan t b ≡ r → scan s (a ++ b) ≡ r
 past s t a b r e f = scan-append s a b ∙ ap (λ o. scan o b) e ∙ f
 
-pub both_true : (a b : Bool) → a ≡ true → b ≡ true → (a && b) ≡ true
-both_true a b e f = rw (e, f) refl
+pub both_true : {a b : Bool} → a ≡ true → b ≡ true → (a && b) ≡ true
+both_true e f = rw (e, f) refl
 
-pub first_true : (a b : Bool) → (a && b) ≡ true → a ≡ true
-first_true true b e = refl
-first_true false b e = e
+pub first_true : {a : Bool} (b : Bool) → (a && b) ≡ true → a ≡ true
+first_true {a = true} b e = refl
+first_true {a = false} b e = e
 
-pub second_true : (a b : Bool) → (a && b) ≡ true → b ≡ true
-second_true true b e = e
-second_true false b e = cc
+pub second_true : (a : Bool) {b : Bool} → (a && b) ≡ true → b ≡ true
+second_true true e = e
+second_true false e = cc
 
 pub none-some : {A : Type 0} (t : A) → None ≡ Some t → ⊥
 none-some t e = cc
@@ -100,9 +100,8 @@ pub value_scan : (tag : Tag) (name value : List ℕ) (r : Read) (bs : List ℕ) 
     → scan (Some (at (Value tag name value) r)) bs ≡ Some (at (Value tag name (value ++ bs)) r)
 value_scan tag name value r [] h = ap (λ v. Some (at (Value tag name v) r)) (sym (append-nil value))
 value_scan tag name value r (c ∷ bs) h =
-    ap (λ o. scan o bs) (valued_by (is_plain c) (c == 34) (c == 38 || c == 60) (c == 93) _ _ _
-    (first_true (is_inner c) (list_all is_inner bs) h))
-    ∙ value_scan tag name (value ++ c ∷ []) r bs (second_true (is_inner c) (list_all is_inner bs) h)
+    ap (λ o. scan o bs) (valued_by (is_plain c) (c == 34) (c == 38 || c == 60) (c == 93) _ _ _ (first_true _ h))
+    ∙ value_scan tag name (value ++ c ∷ []) r bs (second_true _ h)
     ∙ ap (λ v. Some (at (Value tag name v) r)) (append_assoc value (c ∷ []) bs)
 
 -- what a text may have as it is, but for brackets
@@ -140,8 +139,8 @@ pub text_scan : (r : Read) (bs : List ℕ) → IsInside r → list_all is_inner 
 text_scan r [] i h = ap (λ s. Some (at Text s)) (sym (saying_none r))
 text_scan r (c ∷ bs) i h =
     ap (λ o. scan o bs) (textual_step r c i
-    (inner_by (is_plain c) (c == 34) (c == 38) (c == 60) (c == 93) (first_true (is_inner c) (list_all is_inner bs) h)))
-    ∙ text_scan (saying (c ∷ []) r) bs (still_inside r (c ∷ []) i) (second_true (is_inner c) (list_all is_inner bs) h)
+    (inner_by (is_plain c) (c == 34) (c == 38) (c == 60) (c == 93) (first_true _ h)))
+    ∙ text_scan (saying (c ∷ []) r) bs (still_inside r (c ∷ []) i) (second_true _ h)
     ∙ ap (λ s. Some (at Text s)) (saying_more r (c ∷ []) bs)
 
 -- ---- the text of a picture
@@ -170,7 +169,7 @@ is_within {begun} h = record { scanned = h.scanned ∙ ap (λ fs. Some (within b
 
 onto_by : (test : ℕ → Bool) (d : ℕ) (acc more : List ℕ) (b : Bool) → test d ≡ true → list_all test acc ≡ true
     → list_all test more ≡ true → list_all test (if b then d ∷ acc else more) ≡ true
-onto_by test d acc more true e h m = both_true (test d) (list_all test acc) e h
+onto_by test d acc more true e h m = both_true e h
 onto_by test d acc more false e h m = m
 
 onto_all : (test : ℕ → Bool) → ((d : ℕ) → d < 10 → test (digit_glyph false d) ≡ true) → (k n : ℕ) (acc : List ℕ)
@@ -180,8 +179,7 @@ onto_all test each (suc k) n acc h =
     let d : test (digit_glyph false (n % 10)) ≡ true = each (n % 10) (omega arith) in
     onto_by test (digit_glyph false (n % 10)) acc
     (digits_onto k 10 false (n / 10) (digit_glyph false (n % 10) ∷ acc)) (n / 10 == 0) d h
-    (onto_all test each k (n / 10) (digit_glyph false (n % 10) ∷ acc)
-    (both_true (test (digit_glyph false (n % 10))) (list_all test acc) d h))
+    (onto_all test each k (n / 10) (digit_glyph false (n % 10) ∷ acc) (both_true d h))
 
 -- each digit passes
 pub decimal_all : (test : ℕ → Bool) → ((d : ℕ) → d < 10 → test (digit_glyph false d) ≡ true) → (n : ℕ)

@@ -1,9 +1,9 @@
 -- What the legends and the titles have, and how it is scanned.
 use Rattle.keymap_draw.proofs.Common.{zero, suc, ◌≡◌, ℕ, ◌+◌, ◌<◌, Bool, true, false, List, [], ◌∷◌, ◌++◌, Option, Some}
-use Rattle.keymap_draw.proofs.Common.{None, refl, ap, sym, ◌∙◌, arith, length, get_or, All, ◌==◌, map, ◌/◌, ◌%◌, not}
+use Rattle.keymap_draw.proofs.Common.{None, refl, ap, sym, ◌∙◌, arith, length, get_or, All, ◌==◌, map, ◌/◌, ◌%◌}
 use Rattle.keymap_draw.proofs.Common.{nat_lt, codes, if◌then◌else◌, slice_index_or, list_all, flat_map, range_with_len}
 use Rattle.keymap_draw.proofs.Common.{along, ltb-true, eqb-true, nat_tests, All-head, All-tail, All-nil, All-cons}
-use Rattle.keymap_draw.proofs.Common.{code_digits, upper_digits, digit_at, is_unseen, escaped, is_seen, State, Read}
+use Rattle.keymap_draw.proofs.Common.{code_digits, upper_digits, digit_at, escaped, is_seen, State, Read}
 use Rattle.keymap_draw.proofs.Common.{Place, at, step, scan, saying, is_plain, is_shown, Text}
 use Rattle.std.proofs.Common.{◌*◌}
 use Rattle.std.specs.Char.{digit_char}
@@ -19,7 +19,7 @@ use Rattle.keymap_draw.proofs.Scans.{saying_none, saying_more, is_textual, textu
 
 pub joined : (test : ℕ → Bool) (a b : List ℕ) → list_all test a ≡ true → list_all test b ≡ true
     → list_all test (a ++ b) ≡ true
-joined test a b e f = list_all-append test a b ∙ both_true (list_all test a) (list_all test b) e f
+joined test a b e f = list_all-append test a b ∙ both_true e f
 
 pub flat_all : {A : Type 0} (test : ℕ → Bool) (P : A → Type 0) (f : A → List ℕ)
     → ((x : A) → P x → list_all test (f x) ≡ true) → (xs : List A) → All P xs → list_all test (flat_map f xs) ≡ true
@@ -30,23 +30,20 @@ flat_all test P f each (x ∷ xs) h =
 pub name_all : (test : ℕ → Bool) (names : List (List ℕ)) → list_all (list_all test) names ≡ true → (i : ℕ)
     → list_all test (slice_index_or names i []) ≡ true
 name_all test [] h i = refl
-name_all test (name ∷ names) h zero = first_true (list_all test name) (list_all (list_all test) names) h
-name_all test (name ∷ names) h (suc i) =
-    name_all test names (second_true (list_all test name) (list_all (list_all test) names) h) i
+name_all test (name ∷ names) h zero = first_true _ h
+name_all test (name ∷ names) h (suc i) = name_all test names (second_true _ h) i
 
 pub item_all : (test : ℕ → Bool) (xs : List ℕ) (i d : ℕ) → i < length xs → list_all test xs ≡ true
     → test (get_or xs i d) ≡ true
 item_all test [] i d lt h = absurd (omega arith)
-item_all test (x ∷ xs) zero d lt h = first_true (test x) (list_all test xs) h
-item_all test (x ∷ xs) (suc i) d lt h =
-    item_all test xs i d (omega arith) (second_true (test x) (list_all test xs) h)
+item_all test (x ∷ xs) zero d lt h = first_true _ h
+item_all test (x ∷ xs) (suc i) d lt h = item_all test xs i d (omega arith) (second_true _ h)
 
 -- a test of each element is a fact of each
 pub all_from : (test : ℕ → Bool) (bs : List ℕ) → list_all test bs ≡ true → All (λ b. test b ≡ true) bs
 all_from test [] h = All-nil (λ b. test b ≡ true)
 all_from test (b ∷ bs) h =
-    All-cons (λ b. test b ≡ true) b bs (first_true (test b) (list_all test bs) h)
-    (all_from test bs (second_true (test b) (list_all test bs) h))
+    All-cons (λ b. test b ≡ true) b bs (first_true _ h) (all_from test bs (second_true _ h))
 
 -- ---- hexadecimal digits
 
@@ -187,10 +184,8 @@ unfolding escaped
 escaped_scan r q [] i h = ap (λ s. Some (at (place q) s)) (sym (saying_none r))
 escaped_scan r q (c ∷ cs) i h =
     past _ _ (escaped c) (flat_map escaped cs) _
-    (escaped_by r q c (is_referred c) (c == 93) i
-    (first_true (is_shown c) (not (is_unseen c)) (first_true (is_seen c) (list_all is_seen cs) h)) refl refl)
-    (escaped_scan (saying (c ∷ []) r) (c == 93) cs (still_inside r (c ∷ []) i)
-    (second_true (is_seen c) (list_all is_seen cs) h))
+    (escaped_by r q c (is_referred c) (c == 93) i (first_true _ (first_true _ h)) refl refl)
+    (escaped_scan (saying (c ∷ []) r) (c == 93) cs (still_inside r (c ∷ []) i) (second_true _ h))
     ∙ ap (λ s. Some (at (place (ends q (c ∷ cs))) s)) (saying_more r (c ∷ []) cs)
 
 -- a tag behind them

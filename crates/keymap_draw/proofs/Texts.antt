@@ -1,7 +1,7 @@
 -- Each character of a legend and of a title may stand in a text.
 use Rattle.keymap_draw.proofs.Common.{zero, suc, ◌≡◌, ℕ, ◌+◌, ◌<◌, ◌≤◌, ◌==◌, Bool, true, false, List, [], ◌∷◌, ◌++◌}
 use Rattle.keymap_draw.proofs.Common.{Option, Some, refl, ap, arith, All, ◌/◌, ◌%◌, ◌||◌, ◌&&◌, not, nat_lt, codes}
-use Rattle.keymap_draw.proofs.Common.{decimal, if◌then◌else◌, slice_index_or, option_map, list_all, flat_map, filter}
+use Rattle.keymap_draw.proofs.Common.{decimal, if◌then◌else◌, slice_index_or, option_map, list_all, flat_map}
 use Rattle.keymap_draw.proofs.Common.{ltb-true, nat_tests, All-head, All-tail, All-replicate, Cell, Char, Entry}
 use Rattle.keymap_draw.proofs.Common.{AccentValue, name_of, accent_names, IsCell, IsEntry, IsMap, code_digits}
 use Rattle.keymap_draw.proofs.Common.{upper_digits, digit_at, MapValue, entry_at, undefined, slot_words, accent_words}
@@ -36,13 +36,13 @@ pub record AreShown (cs : List ℕ) : Type 0 where
 shown : {cs : List ℕ} → list_all is_seen cs ≡ true → AreShown cs
 shown h = record { each = h }
 
-joined : (a b : List ℕ) → AreShown a → AreShown b → AreShown (a ++ b)
-joined a b h k = record { each = all_joined is_seen a b h.each k.each }
+joined : {a b : List ℕ} → AreShown a → AreShown b → AreShown (a ++ b)
+joined {a} {b} h k = record { each = all_joined is_seen a b h.each k.each }
 
-chosen : (b : Bool) (x y : List ℕ) → (b ≡ true → AreShown x) → (b ≡ false → AreShown y)
+chosen : (b : Bool) {x y : List ℕ} → (b ≡ true → AreShown x) → (b ≡ false → AreShown y)
     → AreShown (if b then x else y)
-chosen true x y f g = f refl
-chosen false x y f g = g refl
+chosen true f g = f refl
+chosen false f g = g refl
 
 ascii_shown : (c : ℕ) → 32 ≤ c → c ≤ 126 → is_shown c ≡ true
 ascii_shown c low high = grind (arith, nat_tests)
@@ -58,24 +58,18 @@ seen_by control above rest e f = rw (e, f) refl
 
 low_shown : (c : ℕ) → 32 ≤ c → c ≤ 126 → is_seen c ≡ true
 low_shown c low high =
-    both_true (is_shown c) (not (is_unseen c)) (ascii_shown c low high)
+    both_true (ascii_shown c low high)
     (seen_by (is_control c) (nat_lt 127 c) (is_unseen_above c) (no_control c low high) (not_above c high))
 
 scalar_shown : (c : ℕ) → 32 ≤ c → within 0x7f 0x9f c ≡ false → IsScalar c → c ≢ 0xfffe → c ≢ 0xffff
     → is_shown c ≡ true
 scalar_shown c low control s n k = grind (arith, nat_tests)
 
-alone : (c : ℕ) → is_seen c ≡ true → AreShown (c ∷ [])
-alone c h = record { each = both_true (is_seen c) true h refl }
+alone : {c : ℕ} → is_seen c ≡ true → AreShown (c ∷ [])
+alone {c} h = record { each = both_true h refl }
 
-before : (c : ℕ) (cs : List ℕ) → is_seen c ≡ true → AreShown cs → AreShown (c ∷ cs)
-before c cs h k = record { each = both_true (is_seen c) (list_all is_seen cs) h k.each }
-
-first_shown : (c : ℕ) (cs : List ℕ) → AreShown (c ∷ cs) → is_seen c ≡ true
-first_shown c cs h = first_true (is_seen c) (list_all is_seen cs) h.each
-
-rest_shown : (c : ℕ) (cs : List ℕ) → AreShown (c ∷ cs) → AreShown cs
-rest_shown c cs h = record { each = second_true (is_seen c) (list_all is_seen cs) h.each }
+before : {c : ℕ} {cs : List ℕ} → is_seen c ≡ true → AreShown cs → AreShown (c ∷ cs)
+before {c} {cs} h k = record { each = both_true h k.each }
 
 flat_shown : {A : Type 0} (P : A → Type 0) (f : A → List ℕ) → ((x : A) → P x → AreShown (f x)) → (xs : List A)
     → All P xs → AreShown (flat_map f xs)
@@ -92,49 +86,43 @@ unit_shown c unit h = hex_shown (c / unit % 16) (omega arith)
 
 four_shown : (c : ℕ) → AreShown (digit_at c 0x1000 ∷ digit_at c 0x100 ∷ digit_at c 0x10 ∷ digit_at c 1 ∷ [])
 four_shown c =
-    before (digit_at c 0x1000) _ (unit_shown c 0x1000 (omega arith))
-    (before (digit_at c 0x100) _ (unit_shown c 0x100 (omega arith))
-    (before (digit_at c 0x10) _ (unit_shown c 0x10 (omega arith))
-    (alone (digit_at c 1) (unit_shown c 1 (omega arith)))))
+    before (unit_shown c 0x1000 (omega arith)) (before (unit_shown c 0x100 (omega arith))
+    (before (unit_shown c 0x10 (omega arith)) (alone (unit_shown c 1 (omega arith)))))
 
 five_shown : (c : ℕ) → AreShown (digit_at c 0x10000 ∷ [])
-five_shown c = alone (digit_at c 0x10000) (unit_shown c 0x10000 (omega arith))
+five_shown c = alone (unit_shown c 0x10000 (omega arith))
 
 six_shown : (c : ℕ) → AreShown (digit_at c 0x100000 ∷ digit_at c 0x10000 ∷ [])
-six_shown c = before (digit_at c 0x100000) _ (unit_shown c 0x100000 (omega arith)) (five_shown c)
+six_shown c = before (unit_shown c 0x100000 (omega arith)) (five_shown c)
 
 upper_shown : (c : ℕ) → AreShown (upper_digits c)
 upper_shown c =
-    chosen (nat_lt c 0x10000) [] _ (λ _. shown refl)
-    (λ _. chosen (nat_lt c 0x100000) (digit_at c 0x10000 ∷ []) (digit_at c 0x100000 ∷ digit_at c 0x10000 ∷ [])
-    (λ _. five_shown c) (λ _. six_shown c))
+    chosen (nat_lt c 0x10000) (λ _. shown refl)
+    (λ _. chosen (nat_lt c 0x100000) (λ _. five_shown c) (λ _. six_shown c))
 
 digits_shown : (c : ℕ) → AreShown (code_digits c)
 unfolding code_digits
-digits_shown c =
-    joined (upper_digits c) (digit_at c 0x1000 ∷ digit_at c 0x100 ∷ digit_at c 0x10 ∷ digit_at c 1 ∷ [])
-    (upper_shown c) (four_shown c)
+digits_shown c = joined (upper_shown c) (four_shown c)
 
 code_shown : (c : ℕ) → AreShown (code_text c)
 unfolding code_text
-code_shown c = joined (codes "U+") (code_digits c) (shown refl) (digits_shown c)
+code_shown c = joined {a = codes "U+"} (shown refl) (digits_shown c)
 
 decimal_shown : (n : ℕ) → AreShown (decimal n)
 decimal_shown n =
     shown (decimal_all is_seen (digit_passes is_seen refl) n)
 
 control_shown : (c : ℕ) → AreShown (control_name c)
-control_shown c =
-    chosen (c == 127) (codes "del") _ (λ _. shown refl) (λ _. name_shown control_names refl c)
+control_shown c = chosen (c == 127) (λ _. shown refl) (λ _. name_shown control_names refl c)
 
 two_shown : (n : ℕ) → n < 100 → AreShown (two_digits n)
 two_shown n h =
-    before (48 + n / 10) _ (low_shown (48 + n / 10) (omega arith) (omega arith))
-    (alone (48 + n % 10) (low_shown (48 + n % 10) (omega arith) (omega arith)))
+    before (low_shown (48 + n / 10) (omega arith) (omega arith))
+    (alone (low_shown (48 + n % 10) (omega arith) (omega arith)))
 
 action_shown : (action : Action) → IsAction action → AreShown (name_of action)
-action_shown (a.Screen n) h = joined (codes "scr") (two_digits n) (shown refl) (two_shown n (omega (arith, h.1)))
-action_shown (a.Function n) h = joined (codes "fkey") (two_digits n) (shown refl) (two_shown n (omega (arith, h.1)))
+action_shown (a.Screen n) h = joined {a = codes "scr"} (shown refl) (two_shown n (omega (arith, h.1)))
+action_shown (a.Function n) h = joined {a = codes "fkey"} (shown refl) (two_shown n (omega (arith, h.1)))
 action_shown (a.DeadKey i) h = name_shown accent_names refl i
 action_shown (a.Mod m.LeftShift) h = shown refl
 action_shown (a.Lock l.Caps) h = shown refl
@@ -146,10 +134,8 @@ unfilled_shown : (name : List ℕ) → AreShown name → AreShown (unfilled name
 unfolding unfilled
 unfilled_shown [] h = shown refl
 unfilled_shown (c ∷ cs) h =
-    chosen (not (c == 32)) (c ∷ filter (λ letter. not (letter == 32)) cs) (filter (λ letter. not (letter == 32)) cs)
-    (λ _. before c (filter (λ letter. not (letter == 32)) cs) (first_shown c cs h)
-    (unfilled_shown cs (rest_shown c cs h)))
-    (λ _. unfilled_shown cs (rest_shown c cs h))
+    let rest = unfilled_shown cs (shown (second_true _ h.each)) in
+    chosen (not (c == 32)) (λ _. before (first_true _ h.each) rest) (λ _. rest)
 
 abbrev is_seen_row : UnseenName → Bool
 is_seen_row row = list_all is_seen row.1
@@ -165,8 +151,7 @@ named_shown : (rows : List UnseenName) (c : ℕ) (legend : List ℕ) → list_al
 named_shown [] c legend h k = k
 named_shown (row ∷ rows) c legend h k =
     named_by (row.0 == c) row (find (λ row. row.0 == c) rows) legend
-    (shown (first_true (is_seen_row row) (list_all is_seen_row rows) h))
-    (named_shown rows c legend (second_true (is_seen_row row) (list_all is_seen_row rows) h) k)
+    (shown (first_true _ h)) (named_shown rows c legend (second_true _ h) k)
 
 coded_fffe : is_coded 0xfffe ≡ true
 unfolding is_coded is_numbered
@@ -203,7 +188,7 @@ not_control c e f = grind (arith, nat_tests)
 -- a character that isn't coded may stand in a text
 plainly_shown : (c : ℕ) → (nat_lt c 32 || c == 127) ≡ false → IsScalar c → is_coded c ≡ false → is_seen c ≡ true
 plainly_shown c low s e =
-    both_true (is_shown c) (not (is_unseen c))
+    both_true
     (scalar_shown c (not_low c low) (not_control c low (not_upper_control c e)) s (not_coded c 0xfffe coded_fffe e)
     (not_coded c 0xffff coded_ffff e))
     (ap not (not_unseen c e))
@@ -211,10 +196,9 @@ plainly_shown c low s e =
 shown_shown : (c : ℕ) → (nat_lt c 32 || c == 127) ≡ false → IsScalar c → AreShown (shown_legend c)
 unfolding shown_legend
 shown_shown c low s =
-    chosen (is_coded c) (code_text c) _ (λ _. code_shown c)
-    (λ e. chosen (is_mark c) (marked c) (c ∷ [])
-    (λ _. before 0x25cc (c ∷ []) refl (alone c (plainly_shown c low s e)))
-    (λ _. alone c (plainly_shown c low s e)))
+    chosen (is_coded c) (λ _. code_shown c)
+    (λ e. chosen (is_mark c) (λ _. before refl (alone (plainly_shown c low s e)))
+    (λ _. alone (plainly_shown c low s e)))
 
 other_shown : (c : ℕ) → (nat_lt c 32 || c == 127) ≡ false → IsScalar c → AreShown (other_legend c)
 unfolding other_legend unseen_name
@@ -223,20 +207,19 @@ other_shown c low s = named_shown UNSEEN_NAMES c (shown_legend c) refl (shown_sh
 pub character_shown : (c : ℕ) → IsScalar c → AreShown (character_legend c)
 unfolding character_legend
 character_shown c s =
-    chosen (c == 0) [] _ (λ _. shown refl)
-    (λ _. chosen (c == 9) (codes "tab") _ (λ _. shown refl)
-    (λ _. chosen (c == 13) (codes "ret") _ (λ _. shown refl)
-    (λ _. chosen (nat_lt c 32 || c == 127) (control_name c) _ (λ _. control_shown c)
-    (λ e. chosen (c == 32) (0x2423 ∷ []) (other_legend c) (λ _. shown refl) (λ _. other_shown c e s)))))
+    chosen (c == 0) (λ _. shown refl)
+    (λ _. chosen (c == 9) (λ _. shown refl)
+    (λ _. chosen (c == 13) (λ _. shown refl)
+    (λ _. chosen (nat_lt c 32 || c == 127) (λ _. control_shown c)
+    (λ e. chosen (c == 32) (λ _. shown refl) (λ _. other_shown c e s)))))
 
 pub mark_shown : (i : ℕ) → i < 15 → AreShown (marked (accent_mark i))
-mark_shown i h =
-    before 0x25cc _ refl (alone (accent_mark i) (item_all is_seen ACCENT_MARKS i 0 h refl))
+mark_shown i h = before refl (alone (item_all is_seen ACCENT_MARKS i 0 h refl))
 
 action_legend_shown : (action : Action) → IsAction action → AreShown (action_legend action)
 unfolding action_legend
-action_legend_shown (a.Screen n) h = joined (codes "scr") (decimal n) (shown refl) (decimal_shown n)
-action_legend_shown (a.Function n) h = joined (codes "F") (decimal n) (shown refl) (decimal_shown n)
+action_legend_shown (a.Screen n) h = joined {a = codes "scr"} (shown refl) (decimal_shown n)
+action_legend_shown (a.Function n) h = joined {a = codes "F"} (shown refl) (decimal_shown n)
 action_legend_shown (a.DeadKey i) h = mark_shown i h
 action_legend_shown (a.Mod m) h = action_shown (a.Mod m) h
 action_legend_shown (a.Lock l) h = action_shown (a.Lock l) h
@@ -254,14 +237,13 @@ between_shown c e f = low_shown c (not_low c e) (let h : c < 127 = ltb-true c 12
 character_text_shown : (c : ℕ) → AreShown (character_text c)
 unfolding character_text
 character_text_shown c =
-    chosen (nat_lt c 32 || c == 127) (control_name c) _ (λ _. control_shown c)
-    (λ e. chosen (nat_lt c 127) (39 ∷ c ∷ 39 ∷ []) _
-    (λ f. before 39 (c ∷ 39 ∷ []) refl (before c (39 ∷ []) (between_shown c e f) (shown refl)))
-    (λ _. joined (codes "0x") (code_digits c) (shown refl) (digits_shown c)))
+    chosen (nat_lt c 32 || c == 127) (λ _. control_shown c)
+    (λ e. chosen (nat_lt c 127) (λ f. before refl (before (between_shown c e f) (shown refl)))
+    (λ _. joined {a = codes "0x"} (shown refl) (digits_shown c)))
 
 cell_text_shown : (cell : Cell) → IsCell cell → AreShown (word (cell_text cell))
-cell_text_shown (Char c) h = joined (codes " ") (character_text c) (shown refl) (character_text_shown c)
-cell_text_shown (Act action) h = joined (codes " ") (name_of action) (shown refl) (action_shown action h)
+cell_text_shown (Char c) h = joined {a = codes " "} (shown refl) (character_text_shown c)
+cell_text_shown (Act action) h = joined {a = codes " "} (shown refl) (action_shown action h)
 
 flag_shown : (f : LockFlag) → AreShown (flag_letter f ∷ [])
 flag_shown flag.O = shown refl
@@ -271,32 +253,28 @@ flag_shown flag.B = shown refl
 
 slot_shown : (s : ℕ) → s < 256 → AreShown (slot_text s)
 slot_shown s h =
-    before (48 + s / 100) _ (low_shown (48 + s / 100) (omega arith) (omega arith))
-    (before (48 + s / 10 % 10) _ (low_shown (48 + s / 10 % 10) (omega arith) (omega arith))
-    (alone (48 + s % 10) (low_shown (48 + s % 10) (omega arith) (omega arith))))
+    before (low_shown (48 + s / 100) (omega arith) (omega arith))
+    (before (low_shown (48 + s / 10 % 10) (omega arith) (omega arith))
+    (alone (low_shown (48 + s % 10) (omega arith) (omega arith))))
 
 pub slot_words_shown : (s : ℕ) (e : Entry) → s < 256 → All IsCell e.cells → AreShown (slot_words s e)
 unfolding slot_words
 slot_words_shown s e low cells =
-    joined (slot_text s) _ (slot_shown s low)
-    (joined (flat_map (λ c. word (cell_text c)) e.cells) _
-    (flat_shown IsCell (λ c. word (cell_text c)) cell_text_shown e.cells cells)
-    (joined (codes " ") (flag_letter e.flag ∷ []) (shown refl) (flag_shown e.flag)))
+    joined (slot_shown s low)
+    (joined (flat_shown IsCell (λ c. word (cell_text c)) cell_text_shown e.cells cells)
+    (joined {a = codes " "} (shown refl) (flag_shown e.flag)))
 
 pair_shown : (p : ℕ × ℕ) → AreShown (pair_text p)
 unfolding pair_text
 pair_shown p =
-    joined (codes " ( ") _ (shown refl)
-    (joined (character_text p.0) _ (character_text_shown p.0)
-    (joined (codes " ") _ (shown refl)
-    (joined (character_text p.1) (codes " )") (character_text_shown p.1) (shown refl))))
+    joined {a = codes " ( "} (shown refl) (joined (character_text_shown p.0)
+    (joined {a = codes " "} (shown refl) (joined (character_text_shown p.1) (shown refl))))
 
 pub accent_words_shown : (i : ℕ) (accent : AccentValue) → AreShown (accent_words i accent)
 unfolding accent_words
 accent_words_shown i accent =
-    joined (slice_index_or accent_names i []) _ (name_shown accent_names refl i)
-    (joined (codes " ") _ (shown refl)
-    (joined (character_text accent.own) _ (character_text_shown accent.own)
+    joined (name_shown accent_names refl i) (joined {a = codes " "} (shown refl)
+    (joined (character_text_shown accent.own)
     (flat_shown (λ p. Unit) pair_text (λ p _. pair_shown p) accent.pairs (λ k d _. tt))))
 
 -- the cells of each slot are cells of a keymap

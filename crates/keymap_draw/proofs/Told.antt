@@ -62,9 +62,7 @@ seen_in_line c h = grind (arith, nat_tests)
 words_in_line : (cs : List ℕ) → list_all is_seen cs ≡ true → list_all is_in_line cs ≡ true
 words_in_line [] h = refl
 words_in_line (c ∷ cs) h =
-    both_true (is_in_line c) (list_all is_in_line cs)
-    (seen_in_line c (first_true (is_shown c) _ (first_true (is_seen c) (list_all is_seen cs) h)))
-    (words_in_line cs (second_true (is_seen c) (list_all is_seen cs) h))
+    both_true (seen_in_line c (first_true _ (first_true _ h))) (words_in_line cs (second_true _ h))
 
 -- ---- titles
 

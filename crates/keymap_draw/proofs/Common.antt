@@ -60,6 +60,7 @@ pub use Rattle.std.proofs.lemmas.Bool.Decides.{nat_tests}
 pub use Rattle.std.proofs.lemmas.List.Elements.{All-append, All-cons, All-contains, All-head, All-nil, All-replicate}
 pub use Rattle.std.proofs.lemmas.List.Elements.{All-tail}
 pub use Rattle.std.proofs.lemmas.List.Folds.{Any-from_list_any}
+pub use Rattle.std.proofs.lemmas.Option.{none-some}
 unfoldable pub use Rattle.std.specs.Fmt.{digits}
 pub use Rattle.std.specs.List.{Any, Contains, cons_option, filter, filter_map, flat_map, list_all, list_any}
 pub use Rattle.std.specs.List.{range_with_len}

@@ -4,7 +4,7 @@ use Rattle.keymap_draw.proofs.Common.{None, refl, sym, ap, ◌∙◌, subst, map
 use Rattle.keymap_draw.proofs.Common.{if◌then◌else◌, list_all, list_any, flat_map, eqb-true, name_of, Finding}
 use Rattle.keymap_draw.proofs.Common.{finding_words, Told, Plain, Bytes, Fact, escaped, is_class, within, is_inner}
 use Rattle.keymap_draw.proofs.Common.{is_seen, over, ReadAs, IsWithin, facts_in, State, Read, Place, Element, at, scan}
-use Rattle.keymap_draw.proofs.Common.{saying, within_element, Text, Value}
+use Rattle.keymap_draw.proofs.Common.{none-some, saying, within_element, Text, Value}
 use Rattle.std.specs.Prelude.{slice_index}
 use Rattle.std.specs.List.{prefix_len}
 use Rattle.std.specs.Option.{option_and_then}
@@ -13,7 +13,7 @@ use Rattle.keymap_core.specs.Actions.{holding_action}
 use Rattle.keymap_draw.specs.declared.sheet.Told.TheVariants.{Characters}
 use Rattle.keymap_draw.specs.Sheets.{written, is_ready, taking}
 use Rattle.messages.specs.Filled.{filled, is_hole, words_before, words_behind}
-use Rattle.keymap_draw.proofs.Scans.{both_true, first_true, second_true, none-some, failed, scan-append, inside_from}
+use Rattle.keymap_draw.proofs.Scans.{both_true, first_true, second_true, failed, scan-append, inside_from}
 use Rattle.keymap_draw.proofs.Scans.{was_inside, value_scan, text_scan, further, held, decimal_inner}
 use Rattle.keymap_draw.proofs.Shown.{joined, place, ends as ends_in, escaped_scan, tag_scan}
 use Rattle.keymap_core.specs.declared.action.Holding.TheVariants as h

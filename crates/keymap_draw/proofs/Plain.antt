@@ -2,10 +2,10 @@
 use Rattle.keymap_draw.proofs.Common.{◌≡◌, ℕ, ◌<◌, Bool, true, false, List, [], ◌∷◌, Option, Some, None, refl, sym, ◌∙◌}
 use Rattle.keymap_draw.proofs.Common.{All, get_or, if◌then◌else◌, not-true, All-nil, All-cons, AccentValue, IsCell}
 use Rattle.keymap_draw.proofs.Common.{is_unseen, Cell, Entry, slot_words, accent_words, cell_legend, Fact, State, Tells}
-use Rattle.keymap_draw.proofs.Common.{start, step, scan, is_plain, is_seen}
+use Rattle.keymap_draw.proofs.Common.{none-some, start, step, scan, is_plain, is_seen}
 use Rattle.keymap_draw.specs.WellFormed.{step_at, IsPlain, IsShown, IsSeen}
-use Rattle.keymap_draw.proofs.Scans.{first_true, second_true, none-some, failed}
-use Rattle.keymap_draw.proofs.Shown.{all_from}
+use Rattle.keymap_draw.proofs.Scans.{first_true, second_true, failed}
+use Rattle.keymap_draw.proofs.Boards.{each}
 use Rattle.keymap_draw.proofs.Texts.{AreShown, cell_shown, slot_words_shown, accent_words_shown}
 
 scanned_plain : (bs : List ℕ) (o : Option State) (t : State) → scan o bs ≡ Some t → All IsPlain bs
@@ -24,12 +24,12 @@ told_plain fs bytes h = scanned_plain bytes (Some start) _ h.scanned
 
 each_shown : (cs : List ℕ) → AreShown cs → All IsShown cs
 each_shown cs h k d l =
-    first_true _ (all_from is_seen cs h.each k d l)
+    first_true _ (each is_seen cs h.each k d l)
 
 each_seen : (cs : List ℕ) → AreShown cs → All IsSeen cs
 each_seen cs h k d l =
     not-true (is_unseen (get_or cs k d))
-    (second_true _ (all_from is_seen cs h.each k d l))
+    (second_true _ (each is_seen cs h.each k d l))
 
 pub legend_shown : (cell : Cell) → IsCell cell → All IsShown (cell_legend cell)
 legend_shown cell is = each_shown (cell_legend cell) (cell_shown cell is)

@@ -7,7 +7,7 @@ use Rattle.std.specs.Option.{is_some}
 use Rattle.keymap_draw.specs.Drawn.{column}
 use Rattle.keymap_draw.specs.Keys.{names_key, red, key_class, is_blank_entry, is_holding, is_doing}
 use Rattle.keymap_draw.specs.Places.{IsClass}
-use Rattle.keymap_draw.proofs.Shown.{all_from}
+use Rattle.keymap_draw.proofs.Boards.{each}
 
 -- by whether the first finding is the key's
 found_by : (f : Finding) (fs : List Finding) (k : ℕ) (b : Bool) → f.key == k ≡ b
@@ -64,6 +64,6 @@ class_listed false false false false = refl
 pub keys_classed : (fs : List Finding) (slot : ℕ) (e : Entry) → All IsClass (option_to_list (key_class fs slot e))
 unfolding key_class
 keys_classed fs slot e =
-    all_from is_class _
+    each is_class _
     (class_listed (is_some (finding_of fs (slot % key_count))) (is_blank_entry e) (is_holding (column e 0))
     (is_doing (column e 0)))

@@ -2,7 +2,7 @@
 use Rattle.keymap_draw.proofs.Common.{zero, suc, ◌≡◌, ℕ, ◌<◌, ◌==◌, Bool, true, false, List, [], ◌∷◌, ◌++◌, Option}
 use Rattle.keymap_draw.proofs.Common.{Some, None, refl, ap, sym, ◌∙◌, arith, append_assoc, append-nil, map, ◌/◌, ◌%◌}
 use Rattle.keymap_draw.proofs.Common.{◌&&◌, ◌||◌, not, decimal, if◌then◌else◌, digits, list_all, range_with_len, along}
-use Rattle.keymap_draw.proofs.Common.{Fact, is_inner, within, facts_of, facts_in, ReadAs, IsWithin, Element, Place}
+use Rattle.keymap_draw.proofs.Common.{nat_tests, none-some, Fact, is_inner, within, facts_of, facts_in, ReadAs, IsWithin, Element, Place}
 use Rattle.keymap_draw.proofs.Common.{Read, State, at, saying, step, scan, start, is_plain, within_element, Text, Value}
 use Rattle.std.specs.Fmt.{digits_onto, digit_glyph}
 use Rattle.keymap_draw.specs.WellFormed.{Tag, Role, element, with_characters, longer, with_begun, is_empty}
@@ -26,9 +26,6 @@ first_true {a = false} b e = e
 pub second_true : (a : Bool) {b : Bool} → (a && b) ≡ true → b ≡ true
 second_true true e = e
 second_true false e = cc
-
-pub none-some : {A : Type 0} (t : A) → None ≡ Some t → ⊥
-none-some t e = cc
 
 -- where reading has failed it stays so
 pub failed : (bs : List ℕ) → scan None bs ≡ None
@@ -125,21 +122,14 @@ textual_step r c i e =
     textual_by (is_plain c) (c == 60) (c == 38) (c == 10) (c == 93) _ _ _ _ _ e
     (inside_is Text (saying (c ∷ []) r) (still_inside r (c ∷ []) i))
 
-inner_by : (plain quote and less bracket : Bool)
-    → (plain && not quote && not (and || less) && not bracket) ≡ true
-    → (plain && not less && not and && not bracket) ≡ true
-inner_by true true a l b h = cc
-inner_by true false true l b h = cc
-inner_by true false false true b h = cc
-inner_by true false false false b h = h
-inner_by false q a l b h = cc
+inner_textual : (c : ℕ) → is_inner c ≡ true → is_textual c ≡ true
+inner_textual c h = grind (arith, nat_tests)
 
 pub text_scan : (r : Read) (bs : List ℕ) → IsInside r → list_all is_inner bs ≡ true
     → scan (Some (at Text r)) bs ≡ Some (at Text (saying bs r))
 text_scan r [] i h = ap (λ s. Some (at Text s)) (sym (saying_none r))
 text_scan r (c ∷ bs) i h =
-    ap (λ o. scan o bs) (textual_step r c i
-    (inner_by (is_plain c) (c == 34) (c == 38) (c == 60) (c == 93) (first_true _ h)))
+    ap (λ o. scan o bs) (textual_step r c i (inner_textual c (first_true _ h)))
     ∙ text_scan (saying (c ∷ []) r) bs (still_inside r (c ∷ []) i) (second_true _ h)
     ∙ ap (λ s. Some (at Text s)) (saying_more r (c ∷ []) bs)
 

@@ -1,9 +1,9 @@
 -- What the legends and the titles have, and how it is scanned.
-use Rattle.keymap_draw.proofs.Common.{zero, suc, ◌≡◌, ℕ, ◌+◌, ◌<◌, Bool, true, false, List, [], ◌∷◌, ◌++◌, Option, Some}
+use Rattle.keymap_draw.proofs.Common.{zero, suc, ◌≡◌, ℕ, ◌+◌, ◌<◌, Bool, true, false, List, [], ◌∷◌, ◌++◌, Some}
 use Rattle.keymap_draw.proofs.Common.{None, refl, ap, sym, ◌∙◌, arith, length, get_or, All, ◌==◌, map, ◌/◌, ◌%◌}
 use Rattle.keymap_draw.proofs.Common.{nat_lt, codes, if◌then◌else◌, slice_index_or, list_all, flat_map, range_with_len}
-use Rattle.keymap_draw.proofs.Common.{along, ltb-true, eqb-true, nat_tests, All-head, All-tail, All-nil, All-cons}
-use Rattle.keymap_draw.proofs.Common.{code_digits, upper_digits, digit_at, escaped, is_seen, State, Read}
+use Rattle.keymap_draw.proofs.Common.{along, ltb-true, eqb-true, nat_tests, All-head, All-tail}
+use Rattle.keymap_draw.proofs.Common.{code_digits, upper_digits, digit_at, escaped, is_seen, Read}
 use Rattle.keymap_draw.proofs.Common.{Place, at, step, scan, saying, is_plain, is_shown, Text}
 use Rattle.std.proofs.Common.{◌*◌}
 use Rattle.std.specs.Char.{digit_char}
@@ -39,12 +39,6 @@ item_all test [] i d lt h = absurd (omega arith)
 item_all test (x ∷ xs) zero d lt h = first_true _ h
 item_all test (x ∷ xs) (suc i) d lt h = item_all test xs i d (omega arith) (second_true _ h)
 
--- a test of each element is a fact of each
-pub all_from : (test : ℕ → Bool) (bs : List ℕ) → list_all test bs ≡ true → All (λ b. test b ≡ true) bs
-all_from test [] h = All-nil (λ b. test b ≡ true)
-all_from test (b ∷ bs) h =
-    All-cons (λ b. test b ≡ true) b bs (first_true _ h) (all_from test bs (second_true _ h))
-
 -- ---- hexadecimal digits
 
 pub hex_passes : (test : ℕ → Bool)
@@ -61,13 +55,19 @@ hex_step r n d low =
     along (λ d. step (Some (at (Number n) r)) (digit_char d)) (λ d. Some (at (Number (16 * n + d)) r))
     0 16 refl d (omega arith) (omega arith)
 
-hex_then : (r : Read) (n d : ℕ) (rest : List ℕ) (o : Option State) → d < 16
-    → scan (Some (at (Number (16 * n + d)) r)) rest ≡ o
-    → scan (Some (at (Number n) r)) (digit_char d ∷ rest) ≡ o
-hex_then r n d rest o lt e = ap (λ q. scan q rest) (hex_step r n d lt) ∙ e
+-- a number with the last digits of others behind it
+abbrev number_on : ℕ → List ℕ → ℕ
+number_on n [] = n
+number_on n (d ∷ ds) = number_on (16 * n + d % 16) ds
 
-at_number : (r : Read) (a b : ℕ) → a ≡ b
-    → Some (at (Number a) r) ≡ Some (at (Number b) r)
+hex_scan : (r : Read) (n : ℕ) (ds : List ℕ)
+    → scan (Some (at (Number n) r)) (map (λ d. digit_char (d % 16)) ds) ≡ Some (at (Number (number_on n ds)) r)
+hex_scan r n [] = refl
+hex_scan r n (d ∷ ds) =
+    ap (λ q. scan q (map (λ d. digit_char (d % 16)) ds)) (hex_step r n (d % 16) (omega arith))
+    ∙ hex_scan r (16 * n + d % 16) ds
+
+at_number : (r : Read) (a b : ℕ) → a ≡ b → Some (at (Number a) r) ≡ Some (at (Number b) r)
 at_number r a b e = ap (λ n. Some (at (Number n) r)) e
 
 -- four digits behind a number
@@ -76,18 +76,8 @@ four_digits : (r : Read) (c : ℕ)
     (digit_at c 0x1000 ∷ digit_at c 0x100 ∷ digit_at c 0x10 ∷ digit_at c 1 ∷ [])
     ≡ Some (at (Number c) r)
 four_digits r c =
-    hex_then r (c / 0x10000) (c / 0x1000 % 16) (digit_at c 0x100 ∷ digit_at c 0x10 ∷ digit_at c 1 ∷ []) _
-    (omega arith)
-    (hex_then r (16 * (c / 0x10000) + c / 0x1000 % 16) (c / 0x100 % 16) (digit_at c 0x10 ∷ digit_at c 1 ∷ []) _
-    (omega arith)
-    (hex_then r (16 * (16 * (c / 0x10000) + c / 0x1000 % 16) + c / 0x100 % 16) (c / 0x10 % 16)
-    (digit_at c 1 ∷ []) _
-    (omega arith)
-    (hex_then r (16 * (16 * (16 * (c / 0x10000) + c / 0x1000 % 16) + c / 0x100 % 16) + c / 0x10 % 16)
-    (c / 1 % 16) [] _ (omega arith)
-    (at_number r
-    (16 * (16 * (16 * (16 * (c / 0x10000) + c / 0x1000 % 16) + c / 0x100 % 16) + c / 0x10 % 16) + c / 1 % 16) c
-    (omega arith)))))
+    hex_scan r (c / 0x10000) (c / 0x1000 ∷ c / 0x100 ∷ c / 0x10 ∷ c / 1 ∷ [])
+    ∙ at_number r (number_on (c / 0x10000) (c / 0x1000 ∷ c / 0x100 ∷ c / 0x10 ∷ c / 1 ∷ [])) c (omega arith)
 
 low_number : (c : ℕ) → nat_lt c 0x10000 ≡ true → 0 ≡ c / 0x10000
 low_number c e = let h : c < 0x10000 = ltb-true c 0x10000 e in omega arith
@@ -103,13 +93,9 @@ upper_by : (r : Read) (c : ℕ) (a b : Bool) → c < 0x110000 → nat_lt c 0x100
     → scan (Some (at (Number 0) r)) (if a then [] else if b then digit_at c 0x10000 ∷ []
     else digit_at c 0x100000 ∷ digit_at c 0x10000 ∷ []) ≡ Some (at (Number (c / 0x10000)) r)
 upper_by r c true b low e f = at_number r 0 (c / 0x10000) (low_number c e)
-upper_by r c false true low e f =
-    hex_then r 0 (c / 0x10000 % 16) [] _ (omega arith)
-    (at_number r (16 * 0 + c / 0x10000 % 16) (c / 0x10000) (middle_number c f))
+upper_by r c false true low e f = hex_scan r 0 (c / 0x10000 ∷ []) ∙ at_number r _ (c / 0x10000) (middle_number c f)
 upper_by r c false false low e f =
-    hex_then r 0 (c / 0x100000 % 16) (digit_at c 0x10000 ∷ []) _ (omega arith)
-    (hex_then r (16 * 0 + c / 0x100000 % 16) (c / 0x10000 % 16) [] _ (omega arith)
-    (at_number r (16 * (16 * 0 + c / 0x100000 % 16) + c / 0x10000 % 16) (c / 0x10000) (high_number c low)))
+    hex_scan r 0 (c / 0x100000 ∷ c / 0x10000 ∷ []) ∙ at_number r _ (c / 0x10000) (high_number c low)
 
 upper_scan : (r : Read) (c : ℕ) → c < 0x110000
     → scan (Some (at (Number 0) r)) (upper_digits c) ≡ Some (at (Number (c / 0x10000)) r)

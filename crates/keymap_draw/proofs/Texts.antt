@@ -3,8 +3,8 @@ use Rattle.keymap_draw.proofs.Common.{zero, suc, ◌≡◌, ℕ, ◌+◌, ◌<�
 use Rattle.keymap_draw.proofs.Common.{Option, Some, refl, ap, arith, All, ◌/◌, ◌%◌, ◌||◌, ◌&&◌, not, nat_lt, codes}
 use Rattle.keymap_draw.proofs.Common.{decimal, if◌then◌else◌, slice_index_or, option_map, list_all, flat_map}
 use Rattle.keymap_draw.proofs.Common.{ltb-true, nat_tests, All-head, All-tail, All-replicate, Cell, Char, Entry}
-use Rattle.keymap_draw.proofs.Common.{AccentValue, name_of, accent_names, IsCell, IsEntry, IsMap, code_digits}
-use Rattle.keymap_draw.proofs.Common.{upper_digits, digit_at, MapValue, entry_at, undefined, slot_words, accent_words}
+use Rattle.keymap_draw.proofs.Common.{AccentValue, name_of, accent_names, IsCell, IsEntry, code_digits}
+use Rattle.keymap_draw.proofs.Common.{upper_digits, digit_at, undefined, slot_words, accent_words}
 use Rattle.keymap_draw.proofs.Common.{word, is_unseen, unfilled, unseen_name, other_legend, character_legend}
 use Rattle.keymap_draw.proofs.Common.{cell_legend, is_shown, is_seen}
 use Rattle.std.proofs.Common.{◌≢◌}
@@ -89,16 +89,11 @@ four_shown c =
     before (unit_shown c 0x1000 (omega arith)) (before (unit_shown c 0x100 (omega arith))
     (before (unit_shown c 0x10 (omega arith)) (alone (unit_shown c 1 (omega arith)))))
 
-five_shown : (c : ℕ) → AreShown (digit_at c 0x10000 ∷ [])
-five_shown c = alone (unit_shown c 0x10000 (omega arith))
-
-six_shown : (c : ℕ) → AreShown (digit_at c 0x100000 ∷ digit_at c 0x10000 ∷ [])
-six_shown c = before (unit_shown c 0x100000 (omega arith)) (five_shown c)
-
 upper_shown : (c : ℕ) → AreShown (upper_digits c)
 upper_shown c =
+    let five : AreShown (digit_at c 0x10000 ∷ []) = alone (unit_shown c 0x10000 (omega arith)) in
     chosen (nat_lt c 0x10000) (λ _. shown refl)
-    (λ _. chosen (nat_lt c 0x100000) (λ _. five_shown c) (λ _. six_shown c))
+    (λ _. chosen (nat_lt c 0x100000) (λ _. five) (λ _. before (unit_shown c 0x100000 (omega arith)) five))
 
 digits_shown : (c : ℕ) → AreShown (code_digits c)
 unfolding code_digits
@@ -171,26 +166,19 @@ first_false : (a b : Bool) → (a || b) ≡ false → a ≡ false
 first_false true b e = e
 first_false false b e = refl
 
-upper_control : (c : ℕ) → is_control c ≡ false → within 0x80 0x9f c ≡ false
-upper_control c e = grind (arith, nat_tests)
-
 not_unseen : (c : ℕ) → is_coded c ≡ false → is_unseen c ≡ false
 unfolding is_coded
 not_unseen c e = first_false (is_unseen c) (is_numbered c) e
 
-not_upper_control : (c : ℕ) → is_coded c ≡ false → within 0x80 0x9f c ≡ false
-not_upper_control c e =
-    upper_control c (first_false (is_control c) (nat_lt 127 c && is_unseen_above c) (not_unseen c e))
-
-not_control : (c : ℕ) → (nat_lt c 32 || c == 127) ≡ false → within 0x80 0x9f c ≡ false → within 0x7f 0x9f c ≡ false
+not_control : (c : ℕ) → (nat_lt c 32 || c == 127) ≡ false → is_control c ≡ false → within 0x7f 0x9f c ≡ false
 not_control c e f = grind (arith, nat_tests)
 
 -- a character that isn't coded may stand in a text
 plainly_shown : (c : ℕ) → (nat_lt c 32 || c == 127) ≡ false → IsScalar c → is_coded c ≡ false → is_seen c ≡ true
 plainly_shown c low s e =
+    let inside : within 0x7f 0x9f c ≡ false = not_control c low (first_false (is_control c) _ (not_unseen c e)) in
     both_true
-    (scalar_shown c (not_low c low) (not_control c low (not_upper_control c e)) s (not_coded c 0xfffe coded_fffe e)
-    (not_coded c 0xffff coded_ffff e))
+    (scalar_shown c (not_low c low) inside s (not_coded c 0xfffe coded_fffe e) (not_coded c 0xffff coded_ffff e))
     (ap not (not_unseen c e))
 
 shown_shown : (c : ℕ) → (nat_lt c 32 || c == 127) ≡ false → IsScalar c → AreShown (shown_legend c)
@@ -277,12 +265,8 @@ accent_words_shown i accent =
     (joined (character_text_shown accent.own)
     (flat_shown (λ p. Unit) pair_text (λ p _. pair_shown p) accent.pairs (λ k d _. tt))))
 
--- the cells of each slot are cells of a keymap
-entry_cells_by : (es : List Entry) (s : ℕ) → All IsEntry es → All IsCell (slice_index_or es s undefined).cells
-entry_cells_by [] s h =
-    All-replicate IsCell 8 (Char 0) refl
-entry_cells_by (e ∷ es) zero h = (All-head IsEntry e es h).cells
-entry_cells_by (e ∷ es) (suc s) h = entry_cells_by es s (All-tail IsEntry e es h)
-
-pub entry_cells : (m : MapValue) (s : ℕ) → IsMap m → All IsCell (entry_at m s).cells
-entry_cells m s is = entry_cells_by m.entries s is.entries
+-- each slot is one of a keymap
+pub entry_bound : (es : List Entry) (s : ℕ) → All IsEntry es → IsEntry (slice_index_or es s undefined)
+entry_bound [] s h = record { eight = refl; cells = All-replicate IsCell 8 (Char 0) refl }
+entry_bound (e ∷ es) zero h = All-head IsEntry e es h
+entry_bound (e ∷ es) (suc s) h = entry_bound es s (All-tail IsEntry e es h)

@@ -8,7 +8,6 @@ use Rattle.keymap_draw.proofs.Common.{half_facts, named_accents, listed_accent, 
 use Rattle.keymap_draw.proofs.Common.{key_definition, accent_definition, title_of, State, Tells}
 use Rattle.std.proofs.lemmas.List.{map-append}
 use Rattle.keymap_draw.specs.declared.board.Run.{Run}
-use Rattle.keymap_draw.specs.declared.drawn.DrawnCells.{DrawnCells}
 use Rattle.keymap_draw.specs.declared.place.Column.{Column}
 use Rattle.keymap_draw.specs.declared.place.Column.TheVariants.{Base, Shift, Alt, AltShift}
 use Rattle.keymap_draw.specs.Boards.{keys_in}
@@ -46,13 +45,11 @@ some_legend_quiet : (shape : Shape) (c : Column) (alone : Bool) (o : Option Cell
 some_legend_quiet shape c alone None = nothing
 some_legend_quiet shape c alone (Some cell) = record { are = refl }
 
-legend_quiet : (shape : Shape) (alone : Bool) (d : DrawnCells) (c : Column) → Titled (drawn_legend shape alone d c) []
-legend_quiet shape alone d c = some_legend_quiet shape c alone (cell_in d c)
-
 legends_quiet : (shape : Shape) (e : Entry) → Titled (legends shape e) []
 unfolding legends
 legends_quiet shape e =
-    let quiet = legend_quiet shape (stands_alone e) (drawn e) in
+    let quiet : (c : Column) → Titled (drawn_legend shape (stands_alone e) (drawn e) c) [] =
+    λ c. some_legend_quiet shape c (stands_alone e) (cell_in (drawn e) c) in
     quiet Base ⊳ quiet Shift ⊳ quiet Alt ⊳ quiet AltShift
 
 key_titled : (d : Drawing) (slot x y : ℕ) (shape : Shape)

@@ -1,13 +1,13 @@
 -- Two pictures that are one tell the same definitions, and their keymaps are the same in what they show.
 use Rattle.keymap_draw.proofs.Common.{zero, suc, ◌≡◌, ℕ, ◌<◌, ◌==◌, Bool, true, false, List, [], ◌∷◌, ◌++◌, Option}
 use Rattle.keymap_draw.proofs.Common.{Some, None, All, refl, sym, ap, subst, ◌∙◌, arith, map, append_assoc, inl, inr}
-use Rattle.keymap_draw.proofs.Common.{◌%◌, ◌&&◌, ◌||◌, not, codes, option_map, slice_get, slice_index_or, nat_lt}
+use Rattle.keymap_draw.proofs.Common.{◌%◌, ◌&&◌, ◌||◌, not, codes, option_map, slice_get, nat_lt}
 use Rattle.keymap_draw.proofs.Common.{if◌then◌else◌, list_all, list_any, filter_map, cons_option, Any, Contains}
 use Rattle.keymap_draw.proofs.Common.{nat_tests, ltb-true, agree_below, agree_below_at, cases_order, or_cases}
 use Rattle.keymap_draw.proofs.Common.{and_parts, eqb-true, All-head, All-tail, All-nil, All-cons, All-append}
-use Rattle.keymap_draw.proofs.Common.{All-replicate, All-contains, Any-from_list_any, Char, Entry, AccentValue, blank}
-use Rattle.keymap_draw.proofs.Common.{gathered, passing, passed, is_upper_live, IsCell, IsEntry, IsMap, MapValue}
-use Rattle.keymap_draw.proofs.Common.{entry_at, accent_at, undefined, key_count, Finding, slot_words, accent_words}
+use Rattle.keymap_draw.proofs.Common.{All-contains, Any-from_list_any, AccentValue, blank}
+use Rattle.keymap_draw.proofs.Common.{gathered, passing, passed, is_upper_live, IsMap, MapValue}
+use Rattle.keymap_draw.proofs.Common.{entry_at, accent_at, key_count, Finding, slot_words, accent_words}
 use Rattle.keymap_draw.proofs.Common.{Definition, AccentDefinition, Board, Iso, Ansi, Half, Lower, Upper, Row, keys_of}
 use Rattle.keymap_draw.proofs.Common.{Drawing, slot_of, is_other, other_keys, finding_words, finding_of, has_character}
 use Rattle.keymap_draw.proofs.Common.{named_accents, picture_facts, titles, told, told_in, key_definition}
@@ -24,8 +24,8 @@ use Rattle.keymap_draw.specs.Keys.{finding_line}
 use Rattle.keymap_draw.specs.Told.{PicturesTellDefinitions, shows, PicturesTellKeymaps}
 use Rattle.keymap_draw.proofs.Loops.{none_is, passing-below}
 use Rattle.keymap_draw.proofs.Scans.{both_true, first_true, second_true}
-use Rattle.keymap_draw.proofs.Shown.{all_from}
-use Rattle.keymap_draw.proofs.Texts.{AreShown, slot_words_shown, accent_words_shown}
+use Rattle.keymap_draw.proofs.Boards.{each}
+use Rattle.keymap_draw.proofs.Texts.{AreShown, entry_bound, slot_words_shown, accent_words_shown}
 use Rattle.keymap_draw.proofs.Titles.{picture_titles, one_reading}
 
 -- ---- the last line of a title
@@ -103,11 +103,6 @@ titles_are fs gs (d ∷ ds) (e ∷ es) p q h =
 
 -- ---- what is told
 
-entry_bound : (es : List Entry) (s : ℕ) → All IsEntry es → IsEntry (slice_index_or es s undefined)
-entry_bound [] s h = record { eight = refl; cells = All-replicate IsCell 8 (Char 0) refl }
-entry_bound (e ∷ es) zero h = All-head IsEntry e es h
-entry_bound (e ∷ es) (suc s) h = entry_bound es s (All-tail IsEntry e es h)
-
 slot_low : (half : Half) (k : ℕ) → k < 128 → slot_of half k < 256
 slot_low Lower k h = omega arith
 slot_low Upper k h = omega arith
@@ -136,7 +131,7 @@ unfolding other_keys
 keys_low d half =
     All-append IsLow (codes_of d.board) (other_keys d half)
     (All-weaker (λ k. nat_lt k 128 ≡ true) IsLow (λ k. ltb-true k 128) (codes_of d.board)
-    (all_from (λ k. nat_lt k 128) (codes_of d.board) (board_low d.board)))
+    (each (λ k. nat_lt k 128) (codes_of d.board) (board_low d.board)))
     (passing-below (is_other d half) 128 128 (omega arith))
 
 each_in : (P : Definition → Type 0) (d : Drawing) (half : Half) → ((k : ℕ) → k < 128 → P (key_definition d.map half k))

@@ -8,6 +8,7 @@ use Rattle.keymap_draw.proofs.Common.{none-some, saying, within_element, Text, V
 use Rattle.std.specs.Prelude.{slice_index}
 use Rattle.std.specs.List.{prefix_len}
 use Rattle.std.specs.Option.{option_and_then}
+use Rattle.std.proofs.lemmas.Option.{option_and_then_some}
 use Rattle.keymap_core.specs.declared.action.Holding.{Holding}
 use Rattle.keymap_core.specs.Actions.{holding_action}
 use Rattle.keymap_draw.specs.declared.sheet.Told.TheVariants.{Characters}
@@ -77,29 +78,26 @@ over_none (t ∷ ts) w =
     ap (λ o. over (option_and_then (λ (u : State). taking u.place u.read t (words_behind w)) o) (words_behind w) ts)
     (failed (words_before w)) ∙ over_none ts (words_behind w)
 
+-- words are read past what is told at their first place, if they are read at all
+over_some : (o : Option State) (w : List ℕ) (ts : List Told) (u : State) → over o w ts ≡ Some u
+    → (q : State) × (o ≡ Some q)
+over_some None w ts u e = absurd (none-some u (sym (over_none ts w) ∙ e))
+over_some (Some q) w ts u e = (q, refl)
+
 pub over_scan : (ts : List Told) (s : Option State) (w : List ℕ) (u : State) → list_all is_ready ts ≡ true
     → over s w ts ≡ Some u → scan s (filled w (map written ts)) ≡ Some u
 unfolding filled
 over_scan [] s w u h e = e
 over_scan (t ∷ ts) s w u h e =
-    scan-append s (words_before w ++ written t) (filled (words_behind w) (map written ts))
-    ∙ ap (λ o. scan o (filled (words_behind w) (map written ts))) (scan-append s (words_before w) (written t))
-    ∙ from (scan s (words_before w))
-    (λ q f. over_scan ts (Some q) (words_behind w) u (second_true _ h) f) e
-  where
-    text : (v : State) (q : Option State) → taking v.place v.read t (words_behind w) ≡ q
-        → ((q : State) → over (Some q) (words_behind w) ts ≡ Some u → scan (Some q) (filled (words_behind w) (map written ts)) ≡ Some u)
-        → over q (words_behind w) ts ≡ Some u → scan (scan (Some v) (written t)) (filled (words_behind w) (map written ts)) ≡ Some u
-    text v None f all e = absurd (none-some u (sym (over_none ts (words_behind w)) ∙ e))
-    text v (Some q) f all e =
-        taken v.place v.read t (words_behind w) ts q (first_true _ h) f ∙ all q e
-
-    from : (o : Option State) → ((q : State) → over (Some q) (words_behind w) ts ≡ Some u → scan (Some q) (filled (words_behind w) (map written ts)) ≡ Some u)
-        → over (option_and_then (λ (v : State). taking v.place v.read t (words_behind w)) o) (words_behind w) ts
-        ≡ Some u
-        → scan (scan o (written t)) (filled (words_behind w) (map written ts)) ≡ Some u
-    from None all e = absurd (none-some u (sym (over_none ts (words_behind w)) ∙ e))
-    from (Some v) all e = text v (taking v.place v.read t (words_behind w)) refl all e
+    let next : List ℕ = words_behind w in
+    let rest : List ℕ = filled next (map written ts) in
+    let take_in : State → Option State = λ v. taking v.place v.read t next in
+    let (q, past_it) = over_some (option_and_then take_in (scan s (words_before w))) next ts u e in
+    option_and_then_some take_in (scan s (words_before w)) q past_it (λ v here taken_in.
+    scan-append s (words_before w ++ written t) rest
+    ∙ ap (λ o. scan o rest) (scan-append s (words_before w) (written t) ∙ ap (λ o. scan o (written t)) here)
+    ∙ taken v.place v.read t next ts q (first_true _ h) taken_in
+    ∙ over_scan ts (Some q) next u (second_true _ h) (ap (λ o. over o next ts) (sym past_it) ∙ e))
 
 -- a text behind which words stand with what is told
 pub behind : {s t : State} {old new : List ℕ} (words : List ℕ) (told : List Told) → ReadAs s old

@@ -2,8 +2,9 @@
 use Rattle.keymap_draw.proofs.Common.{zero, suc, ◌≡◌, ℕ, ◌<◌, ◌==◌, Bool, true, false, List, [], ◌∷◌, ◌++◌, Option}
 use Rattle.keymap_draw.proofs.Common.{Some, None, refl, ap, sym, ◌∙◌, arith, append_assoc, append-nil, map, ◌/◌, ◌%◌}
 use Rattle.keymap_draw.proofs.Common.{◌&&◌, ◌||◌, not, decimal, if◌then◌else◌, digits, list_all, range_with_len, along}
-use Rattle.keymap_draw.proofs.Common.{nat_tests, none-some, Fact, is_inner, within, facts_of, facts_in, ReadAs, IsWithin, Element, Place}
-use Rattle.keymap_draw.proofs.Common.{Read, State, at, saying, step, scan, start, is_plain, within_element, Text, Value}
+use Rattle.keymap_draw.proofs.Common.{nat_tests, none-some, Fact, is_inner, within, facts_of, facts_in, ReadAs}
+use Rattle.keymap_draw.proofs.Common.{IsWithin, Element, Place, Read, State, at, saying, step, scan, start, is_plain}
+use Rattle.keymap_draw.proofs.Common.{within_element, Text, Value}
 use Rattle.std.specs.Fmt.{digits_onto, digit_glyph}
 use Rattle.keymap_draw.specs.WellFormed.{Tag, Role, element, with_characters, longer, with_begun, is_empty}
 use Rattle.keymap_draw.specs.WellFormed.Role.{Titled, Lettered}

@@ -1,10 +1,10 @@
 -- What the legends and the titles have, and how it is scanned.
-use Rattle.keymap_draw.proofs.Common.{zero, suc, ◌≡◌, ℕ, ◌+◌, ◌<◌, Bool, true, false, List, [], ◌∷◌, ◌++◌, Some}
-use Rattle.keymap_draw.proofs.Common.{None, refl, ap, sym, ◌∙◌, arith, length, get_or, All, ◌==◌, map, ◌/◌, ◌%◌}
-use Rattle.keymap_draw.proofs.Common.{nat_lt, codes, if◌then◌else◌, slice_index_or, list_all, flat_map, range_with_len}
-use Rattle.keymap_draw.proofs.Common.{along, ltb-true, eqb-true, nat_tests, All-head, All-tail}
-use Rattle.keymap_draw.proofs.Common.{code_digits, upper_digits, digit_at, escaped, is_seen, Read}
-use Rattle.keymap_draw.proofs.Common.{Place, at, step, scan, saying, is_plain, is_shown, Text}
+use Rattle.keymap_draw.proofs.Common.{zero, suc, ◌≡◌, ℕ, ◌+◌, ◌<◌, Bool, true, false, List, [], ◌∷◌, ◌++◌, Some, None}
+use Rattle.keymap_draw.proofs.Common.{refl, ap, sym, ◌∙◌, arith, length, get_or, All, ◌==◌, map, ◌/◌, ◌%◌, nat_lt}
+use Rattle.keymap_draw.proofs.Common.{codes, if◌then◌else◌, slice_index_or, list_all, flat_map, range_with_len, along}
+use Rattle.keymap_draw.proofs.Common.{ltb-true, eqb-true, nat_tests, All-head, All-tail, code_digits, upper_digits}
+use Rattle.keymap_draw.proofs.Common.{digit_at, escaped, is_seen, Read, Place, at, step, scan, saying, is_plain}
+use Rattle.keymap_draw.proofs.Common.{is_shown, Text}
 use Rattle.std.proofs.Common.{◌*◌}
 use Rattle.std.specs.Char.{digit_char}
 use Rattle.std.proofs.lemmas.Bool.{false≢true}

@@ -1,12 +1,11 @@
 -- Each character of a legend and of a title may stand in a text.
 use Rattle.keymap_draw.proofs.Common.{zero, suc, ◌≡◌, ℕ, ◌+◌, ◌<◌, ◌≤◌, ◌==◌, Bool, true, false, List, [], ◌∷◌, ◌++◌}
 use Rattle.keymap_draw.proofs.Common.{Option, Some, refl, ap, arith, All, ◌/◌, ◌%◌, ◌||◌, ◌&&◌, not, nat_lt, codes}
-use Rattle.keymap_draw.proofs.Common.{decimal, if◌then◌else◌, slice_index_or, option_map, list_all, flat_map}
-use Rattle.keymap_draw.proofs.Common.{ltb-true, nat_tests, All-head, All-tail, All-replicate, Cell, Char, Entry}
-use Rattle.keymap_draw.proofs.Common.{AccentValue, name_of, accent_names, IsCell, IsEntry, code_digits}
-use Rattle.keymap_draw.proofs.Common.{upper_digits, digit_at, undefined, slot_words, accent_words}
-use Rattle.keymap_draw.proofs.Common.{word, is_unseen, unfilled, unseen_name, other_legend, character_legend}
-use Rattle.keymap_draw.proofs.Common.{cell_legend, is_shown, is_seen}
+use Rattle.keymap_draw.proofs.Common.{decimal, if◌then◌else◌, slice_index_or, option_map, list_all, flat_map, ltb-true}
+use Rattle.keymap_draw.proofs.Common.{nat_tests, All-head, All-tail, All-replicate, Cell, Char, Entry, AccentValue}
+use Rattle.keymap_draw.proofs.Common.{name_of, accent_names, IsCell, IsEntry, code_digits, upper_digits, digit_at}
+use Rattle.keymap_draw.proofs.Common.{undefined, slot_words, accent_words, word, is_unseen, unfilled, unseen_name}
+use Rattle.keymap_draw.proofs.Common.{other_legend, character_legend, cell_legend, is_shown, is_seen}
 use Rattle.std.proofs.Common.{◌≢◌}
 use Rattle.std.specs.Char.{IsScalar}
 use Rattle.std.specs.List.{find}

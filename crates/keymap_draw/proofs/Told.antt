@@ -1,15 +1,14 @@
 -- Two pictures that are one tell the same definitions, and their keymaps are the same in what they show.
 use Rattle.keymap_draw.proofs.Common.{zero, suc, ◌≡◌, ℕ, ◌<◌, ◌==◌, Bool, true, false, List, [], ◌∷◌, ◌++◌, Option}
 use Rattle.keymap_draw.proofs.Common.{Some, None, All, refl, sym, ap, subst, ◌∙◌, arith, map, append_assoc, inl, inr}
-use Rattle.keymap_draw.proofs.Common.{◌%◌, ◌&&◌, ◌||◌, not, codes, option_map, slice_get, nat_lt}
-use Rattle.keymap_draw.proofs.Common.{if◌then◌else◌, list_all, list_any, filter_map, cons_option, Any, Contains}
-use Rattle.keymap_draw.proofs.Common.{nat_tests, ltb-true, agree_below, agree_below_at, cases_order, or_cases}
-use Rattle.keymap_draw.proofs.Common.{and_parts, eqb-true, All-head, All-tail, All-nil, All-cons, All-append}
-use Rattle.keymap_draw.proofs.Common.{All-contains, Any-from_list_any, AccentValue, blank}
-use Rattle.keymap_draw.proofs.Common.{gathered, passing, passed, is_upper_live, IsMap, MapValue}
-use Rattle.keymap_draw.proofs.Common.{entry_at, accent_at, key_count, Finding, slot_words, accent_words}
-use Rattle.keymap_draw.proofs.Common.{Definition, AccentDefinition, Board, Iso, Ansi, Half, Lower, Upper, Row, keys_of}
-use Rattle.keymap_draw.proofs.Common.{Drawing, slot_of, is_other, other_keys, finding_words, finding_of, has_character}
+use Rattle.keymap_draw.proofs.Common.{◌%◌, ◌&&◌, ◌||◌, not, codes, option_map, slice_get, nat_lt, if◌then◌else◌}
+use Rattle.keymap_draw.proofs.Common.{list_all, list_any, filter_map, cons_option, Any, Contains, nat_tests, ltb-true}
+use Rattle.keymap_draw.proofs.Common.{agree_below, agree_below_at, cases_order, or_cases, and_parts, eqb-true, All-head}
+use Rattle.keymap_draw.proofs.Common.{All-tail, All-nil, All-cons, All-append, All-contains, Any-from_list_any}
+use Rattle.keymap_draw.proofs.Common.{AccentValue, blank, gathered, passing, passed, is_upper_live, IsMap, MapValue}
+use Rattle.keymap_draw.proofs.Common.{entry_at, accent_at, key_count, Finding, slot_words, accent_words, Definition}
+use Rattle.keymap_draw.proofs.Common.{AccentDefinition, Board, Iso, Ansi, Half, Lower, Upper, Row, keys_of, Drawing}
+use Rattle.keymap_draw.proofs.Common.{slot_of, is_other, other_keys, finding_words, finding_of, has_character}
 use Rattle.keymap_draw.proofs.Common.{named_accents, picture_facts, titles, told, told_in, key_definition}
 use Rattle.keymap_draw.proofs.Common.{accent_definition, title_of, is_shown, is_seen}
 use Rattle.std.proofs.Common.{ap₂}

@@ -81,6 +81,7 @@ fn key_class(findings: &[Finding], slot: u8, entry: &Entry) -> &'static [u8]
 }
 
 /// What the check says of a key.
+#[tactic(auto, using(crate::proofs::Parts::said_inner))]
 pub(crate) fn said(finding: &Finding) -> Line
     ensures words { result.items ≡ finding_words_of finding.now }
     ensures inner { list_all is_inner result.items ≡ true }

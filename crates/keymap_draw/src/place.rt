@@ -202,6 +202,7 @@ fn push_class(classes: &mut ArrayVec<u8, 6>, class: Option<u8>)
 }
 
 /// The classes of a legend: for its size, its side and its kind.
+#[tactic(auto, using(crate::proofs::Parts::classes_inner))]
 pub(crate) fn legend_classes(
     map: &KeyMap,
     column: Column,

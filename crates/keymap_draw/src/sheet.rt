@@ -77,6 +77,7 @@ pub(crate) enum Told<'a> {
 }
 
 /// A number in decimal digits.
+#[tactic(auto, using(crate::proofs::Scans::decimal_inner))]
 pub(crate) fn digits(n: u32) -> ArrayVec<u8, 20>
     ensures value { result.items ≡ decimal n }
     ensures inner { list_all is_inner result.items ≡ true }

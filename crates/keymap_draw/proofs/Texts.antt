@@ -74,19 +74,10 @@ flat_shown : {A : Type 0} (P : A → Type 0) (f : A → List ℕ) → ((x : A) �
     → All P xs → AreShown (flat_map f xs)
 flat_shown P f each xs h = record { each = flat_all is_seen P f (λ x k. (each x k).each) xs h }
 
-name_shown : (names : List (List ℕ)) → list_all (list_all is_seen) names ≡ true → (i : ℕ)
-    → AreShown (slice_index_or names i [])
-name_shown names h i = record { each = name_all is_seen names h i }
-
 -- ---- numbers and names
 
 unit_shown : (c unit : ℕ) → 0 < unit → is_seen (digit_at c unit) ≡ true
 unit_shown c unit h = hex_shown (c / unit % 16) (omega arith)
-
-four_shown : (c : ℕ) → AreShown (digit_at c 0x1000 ∷ digit_at c 0x100 ∷ digit_at c 0x10 ∷ digit_at c 1 ∷ [])
-four_shown c =
-    before (unit_shown c 0x1000 (omega arith)) (before (unit_shown c 0x100 (omega arith))
-    (before (unit_shown c 0x10 (omega arith)) (alone (unit_shown c 1 (omega arith)))))
 
 upper_shown : (c : ℕ) → AreShown (upper_digits c)
 upper_shown c =
@@ -96,18 +87,19 @@ upper_shown c =
 
 digits_shown : (c : ℕ) → AreShown (code_digits c)
 unfolding code_digits
-digits_shown c = joined (upper_shown c) (four_shown c)
+digits_shown c =
+    joined (upper_shown c) (before (unit_shown c 0x1000 (omega arith)) (before (unit_shown c 0x100 (omega arith))
+    (before (unit_shown c 0x10 (omega arith)) (alone (unit_shown c 1 (omega arith))))))
 
 code_shown : (c : ℕ) → AreShown (code_text c)
 unfolding code_text
 code_shown c = joined {a = codes "U+"} (shown refl) (digits_shown c)
 
 decimal_shown : (n : ℕ) → AreShown (decimal n)
-decimal_shown n =
-    shown (decimal_all is_seen (digit_passes is_seen refl) n)
+decimal_shown n = shown (decimal_all is_seen (digit_passes is_seen refl) n)
 
 control_shown : (c : ℕ) → AreShown (control_name c)
-control_shown c = chosen (c == 127) (λ _. shown refl) (λ _. name_shown control_names refl c)
+control_shown c = chosen (c == 127) (λ _. shown refl) (λ _. shown (name_all is_seen control_names refl c))
 
 two_shown : (n : ℕ) → n < 100 → AreShown (two_digits n)
 two_shown n h =
@@ -117,7 +109,7 @@ two_shown n h =
 action_shown : (action : Action) → IsAction action → AreShown (name_of action)
 action_shown (a.Screen n) h = joined {a = codes "scr"} (shown refl) (two_shown n (omega (arith, h.1)))
 action_shown (a.Function n) h = joined {a = codes "fkey"} (shown refl) (two_shown n (omega (arith, h.1)))
-action_shown (a.DeadKey i) h = name_shown accent_names refl i
+action_shown (a.DeadKey i) h = shown (name_all is_seen accent_names refl i)
 action_shown (a.Mod m.LeftShift) h = shown refl
 action_shown (a.Lock l.Caps) h = shown refl
 action_shown _ h = shown refl
@@ -260,7 +252,7 @@ pair_shown p =
 pub accent_words_shown : (i : ℕ) (accent : AccentValue) → AreShown (accent_words i accent)
 unfolding accent_words
 accent_words_shown i accent =
-    joined (name_shown accent_names refl i) (joined {a = codes " "} (shown refl)
+    joined (shown (name_all is_seen accent_names refl i)) (joined {a = codes " "} (shown refl)
     (joined (character_text_shown accent.own)
     (flat_shown (λ p. Unit) pair_text (λ p _. pair_shown p) accent.pairs (λ k d _. tt))))
 

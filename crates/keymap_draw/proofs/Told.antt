@@ -87,14 +87,11 @@ title_is fs gs d e p q h =
     (sym (last_of_title fs d (words_in_line (definition_words d) (words_shown d p).each)) ∙ ap last_line h
     ∙ last_of_title gs e (words_in_line (definition_words e) (words_shown e q).each))
 
-no_title : (t : List ℕ) (ts : List (List ℕ)) → [] ≡ t ∷ ts → ⊥
-no_title t ts e = cc
-
 titles_are : (fs gs : List Finding) (ds es : List Definition) → All IsDefinition ds → All IsDefinition es
     → map (title_of fs) ds ≡ map (title_of gs) es → ds ≡ es
 titles_are fs gs [] [] p q h = refl
-titles_are fs gs [] (e ∷ es) p q h = absurd (no_title _ _ h)
-titles_are fs gs (d ∷ ds) [] p q h = absurd (no_title _ _ (sym h))
+titles_are fs gs [] (e ∷ es) p q h = cc
+titles_are fs gs (d ∷ ds) [] p q h = cc
 titles_are fs gs (d ∷ ds) (e ∷ es) p q h =
     ap₂ (λ d ds. d ∷ ds)
     (title_is fs gs d e (All-head IsDefinition d ds p) (All-head IsDefinition e es q) (same_head _ _ _ _ h))

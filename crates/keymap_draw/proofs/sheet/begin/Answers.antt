@@ -14,12 +14,6 @@ verdict_inner : (b : Bool) → list_all is_inner (if b then words.ACCEPTED.now e
 verdict_inner true = refl
 verdict_inner false = refl
 
-style_read : scan (Some begun) STYLE ≡ Some begun
-style_read = refl
-
-shapes_read : scan (Some begun) SHAPES ≡ Some (within in_svg [])
-shapes_read = refl
-
 read : (c : goal.In_ok-push_filled-2) → ReadAs (within in_svg []) c.push_filled-2.new.text.items
 read c =
     let empty : ReadAs start c.new-text.result.items =
@@ -34,9 +28,9 @@ read c =
       verdict_inner c.args.is_accepted,
     ) refl) refl in
     let styled : ReadAs begun c.extend_from_slice.new.self.items =
-    further STYLE head c.in_ok-extend_from_slice.ensures.items style_read in
+    further STYLE head c.in_ok-extend_from_slice.ensures.items refl in
     let shaped : ReadAs (within in_svg []) c.extend_from_slice-2.new.self.items =
-    further SHAPES styled c.in_ok-extend_from_slice-2.ensures.items shapes_read in
+    further SHAPES styled c.in_ok-extend_from_slice-2.ensures.items refl in
     behind words.PAGE.now (Plain c.as_slice.result ∷ []) shaped c.in_ok-push_filled-2.ensures
     (rw (c.as_slice.ensures.value, c.digits-height.ensures.inner) refl) refl
 

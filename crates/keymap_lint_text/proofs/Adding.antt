@@ -1,9 +1,9 @@
 -- What the printer of diagnostics adds, remark by remark.
 use Rattle.keymap_lint_text.proofs.Common.{◌≡◌, ℕ, ◌<◌, List, [], ◌∷◌, ◌++◌, true, refl, ap, sym, subst, ◌∙◌}
-use Rattle.keymap_lint_text.proofs.Common.{append_assoc, append-nil, take, ◌+◌, length, if◌then◌else◌, flat_map}
+use Rattle.keymap_lint_text.proofs.Common.{append_assoc, append-nil, take, ◌+◌, length, flat_map}
 use Rattle.keymap_lint_text.proofs.Common.{flat_map-append, Diagnostic, Diagnostics, Severity, severity_of, Said}
 use Rattle.keymap_lint_text.proofs.Common.{Remark, remark, head, place_text, said_text, IsMessage, ArePrinted, Adds}
-use Rattle.keymap_lint_text.proofs.Common.{kind_text, is_noted, lines_text, answer, judged, of_diagnostic}
+use Rattle.keymap_lint_text.proofs.Common.{kind_text, is_noted, lines_text, answer, of_diagnostic}
 use Rattle.std.proofs.Common.{get_or}
 use Rattle.std.proofs.lemmas.List.{take_more}
 use Rattle.keymap_lint.specs.Severities.{never_sticks}
@@ -41,7 +41,7 @@ pub adds_both : (file text : List ℕ) (es fs : List Remark) (old mid new : List
 adds_both file text es fs old mid new p q = record {
   added = p.added ++ q.added;
   printed = printed_both file text es fs p.added q.added p.printed q.printed;
-  behind = q.behind ∙ ap (λ t. t ++ q.added) p.behind ∙ append_assoc old p.added q.added;
+  behind = cc (p.behind, q.behind, append_assoc old p.added q.added);
 }
 
 -- a diagnostic with what the search answered behind it
@@ -50,11 +50,8 @@ pub adds_with_answer : (file text : List ℕ) (l : Diagnostics) (d : Diagnostic)
     → is_noted d.kind ≡ true → Adds file text (remark d.place (Said.Judged severity kind) ∷ []) old mid
     → Adds file text (answer l.sticking) mid new → Adds file text (of_diagnostic l d) old new
 adds_with_answer file text l d severity kind old mid new e f noted p q =
-    let one : Adds file text (judged l d ∷ []) old mid =
-    subst (λ k. Adds file text (remark d.place (Said.Judged (severity_of (never_sticks l.sticking) d.kind) k) ∷ [])
-    old mid) f (subst (λ s. Adds file text (remark d.place (Said.Judged s kind) ∷ []) old mid) e p) in
-    subst (λ b. Adds file text (judged l d ∷ (if b then answer l.sticking else [])) old new) (sym noted)
-    (adds_both file text (judged l d ∷ []) (answer l.sticking) old mid new one q)
+    rw (noted, sym e, sym f)
+    (adds_both file text (remark d.place (Said.Judged severity kind) ∷ []) (answer l.sticking) old mid new p q)
 
 -- one more of a list
 pub adds_more : (file text : List ℕ) (l : Diagnostics) (ds : List Diagnostic) (d : Diagnostic) (i : ℕ)
@@ -64,9 +61,11 @@ pub adds_more : (file text : List ℕ) (l : Diagnostics) (ds : List Diagnostic) 
 adds_more file text l ds d i old mid new within is p q =
     let more : flat_map (of_diagnostic l) (take (i + 1) ds)
     ≡ flat_map (of_diagnostic l) (take i ds) ++ of_diagnostic l d =
-    ap (flat_map (of_diagnostic l)) (take_more ds i d within)
-    ∙ flat_map-append (of_diagnostic l) (take i ds) (get_or ds i d ∷ [])
-    ∙ ap (λ es. flat_map (of_diagnostic l) (take i ds) ++ es)
-    (append-nil (of_diagnostic l (get_or ds i d)) ∙ ap (of_diagnostic l) (sym is)) in
+    cc (
+      take_more ds i d within,
+      flat_map-append (of_diagnostic l) (take i ds) (get_or ds i d ∷ []),
+      append-nil (of_diagnostic l (get_or ds i d)),
+      is,
+    ) in
     subst (λ es. Adds file text es old new) (sym more)
     (adds_both file text (flat_map (of_diagnostic l) (take i ds)) (of_diagnostic l d) old mid new p q)

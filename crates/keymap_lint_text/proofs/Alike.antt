@@ -1,5 +1,5 @@
 -- A line tells the place of which it speaks, and whether it is an error, a warning or a note.
-use Rattle.keymap_lint_text.proofs.Common.{◌≡◌, ℕ, ◌<◌, Bool, true, false, List, [], ◌∷◌, ◌++◌, codes, refl, ap, sym}
+use Rattle.keymap_lint_text.proofs.Common.{◌≡◌, ℕ, Bool, true, false, List, [], ◌∷◌, ◌++◌, codes, refl, ap, sym}
 use Rattle.keymap_lint_text.proofs.Common.{◌∙◌, arith, append_assoc, Option, Some, None, ◌==◌, not, decimal, length}
 use Rattle.keymap_lint_text.proofs.Common.{◌+◌, digit_glyph, list_all, and_parts, along, before_in_line, line, Severity}
 use Rattle.keymap_lint_text.proofs.Common.{Said, Remark, head, place_text, said_text}
@@ -19,34 +19,23 @@ inner_digits n =
     decimal_all is_inner
     (λ d low. along (λ d. is_inner (digit_glyph false d)) (λ d. true) 0 10 refl d (omega arith) (omega arith)) n
 
-clash : (b : Bool) → b ≡ true → b ≡ false → true ≡ false
-clash b e f = sym e ∙ f
-
 -- what stands before the first colon
 same_front : (xs ys us vs : List ℕ) → list_all is_inner xs ≡ true → list_all is_inner ys ≡ true
     → xs ++ (58 ∷ us) ≡ ys ++ (58 ∷ vs) → (xs ≡ ys) × (us ≡ vs)
 same_front [] [] us vs h k e = (refl, cc)
 same_front [] (y ∷ ys) us vs h k e =
-    let same : 58 ≡ y = cc in
-    let never = clash (is_inner y) (and_parts (is_inner y) (list_all is_inner ys) k).0 (ap is_inner (sym same)) in cc
+    let same : y ≡ 58 = cc in cc (ap is_inner same, (and_parts (is_inner y) (list_all is_inner ys) k).0)
 same_front (x ∷ xs) [] us vs h k e =
-    let same : x ≡ 58 = cc in
-    let never = clash (is_inner x) (and_parts (is_inner x) (list_all is_inner xs) h).0 (ap is_inner same) in cc
+    let same : x ≡ 58 = cc in cc (ap is_inner same, (and_parts (is_inner x) (list_all is_inner xs) h).0)
 same_front (x ∷ xs) (y ∷ ys) us vs h k e =
-    let first : x ≡ y = cc in
     let more : xs ++ (58 ∷ us) ≡ ys ++ (58 ∷ vs) = cc in
     let rest = same_front xs ys us vs (and_parts (is_inner x) (list_all is_inner xs) h).1
-    (and_parts (is_inner y) (list_all is_inner ys) k).1 more in (
-      ap (λ t. x ∷ t) rest.0
-          ∙ ap (λ c. c ∷ ys) first,
-      rest.1,
-    )
+    (and_parts (is_inner y) (list_all is_inner ys) k).1 more in (cc (rest.0), rest.1)
 
 no_blank : (ds x y : List ℕ) → list_all is_inner ds ≡ true → 32 ∷ x ≡ ds ++ (58 ∷ y) → ⊥
 no_blank [] x y h e = let never : true ≡ false = ap (λ t. slice_index t 0 == 32) e in cc
 no_blank (d ∷ ds) x y h e =
-    let same : d ≡ 32 = cc in
-    let never = clash (is_inner d) (and_parts (is_inner d) (list_all is_inner ds) h).0 (ap is_inner same) in cc
+    let same : d ≡ 32 = cc in cc (ap is_inner same, (and_parts (is_inner d) (list_all is_inner ds) h).0)
 
 -- ---- what is said
 
@@ -98,8 +87,7 @@ alike_by file text (Some p) (Some q) s t m n e =
     let columns = same_front (column text p) (column text q) (32 ∷ said_text s m) (32 ∷ said_text t n)
     (inner_digits (length (before_in_line text p) + 1)) (inner_digits (length (before_in_line text q) + 1)) lines.1 in
     let said : said_text s m ≡ said_text t n = cc (columns.1) in (
-      ap (λ l. file ++ codes ":" ++ l ++ codes ":" ++ column text p ++ codes ": ") lines.0
-          ∙ ap (λ k. file ++ codes ":" ++ decimal (line text q) ++ codes ":" ++ k ++ codes ": ") columns.0,
+      cc (lines.0, columns.0),
       same_label s t m n said,
     )
 

@@ -32,11 +32,15 @@ spelled : (b c : Bool) (xs ys : List ℕ) → codes "  " ++ dots_if b ++ flat_ma
     ≡ flat_map encode_utf8 (codes "  " ++ dots_if b ++ xs ++ (ys ++ dots_if c))
 spelled b c xs ys =
     let front = codes "  " ++ dots_if b in
+    let front = codes "  " ++ dots_if b in
     let regrouped : front ++ xs ++ (ys ++ dots_if c) ≡ front ++ (xs ++ ys) ++ dots_if c = simp append_assoc in
-    sym (ap (flat_map encode_utf8) regrouped ∙ flat_map-append encode_utf8 (front ++ (xs ++ ys)) (dots_if c)
-    ∙ ap (λ t. t ++ flat_map encode_utf8 (dots_if c)) (flat_map-append encode_utf8 front (xs ++ ys))
-    ∙ ap (λ t. t ++ flat_map encode_utf8 (xs ++ ys) ++ flat_map encode_utf8 (dots_if c)) (front_spelled b)
-    ∙ ap (λ t. front ++ flat_map encode_utf8 (xs ++ ys) ++ t) (dots_spelled c))
+    cc (
+      regrouped,
+      flat_map-append encode_utf8 (front ++ (xs ++ ys)) (dots_if c),
+      flat_map-append encode_utf8 front (xs ++ ys),
+      front_spelled b,
+      dots_spelled c,
+    )
 
 -- the part that is shown has all that isn't left out before the place
 part : (bs rs : List ℕ) (s : ℕ) → s ≤ length bs → length bs ≤ s + 120

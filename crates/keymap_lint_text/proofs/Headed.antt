@@ -1,10 +1,10 @@
 -- Each remark has one head, and no other line begins without blanks.
 use Rattle.keymap_lint_text.proofs.Common.{◌≡◌, ℕ, Bool, true, false, List, [], ◌∷◌, ◌++◌, codes, refl, ap, sym, subst}
-use Rattle.keymap_lint_text.proofs.Common.{◌∙◌, append_assoc, Option, Some, None, decimal, length, map, not, ◌+◌}
+use Rattle.keymap_lint_text.proofs.Common.{◌∙◌, append_assoc, Option, Some, None, decimal, length, map, ◌+◌}
 use Rattle.keymap_lint_text.proofs.Common.{if◌then◌else◌, flat_map, flat_map-append, All-nil, All-cons, All-append}
 use Rattle.keymap_lint_text.proofs.Common.{Diagnostic, Diagnostics, Error, fault_name, before_in_line, line}
 use Rattle.keymap_lint_text.proofs.Common.{TextFaultKind, excerpt, Said, Remark, remark, head, place_text, said_text}
-use Rattle.keymap_lint_text.proofs.Common.{ArePrinted, is_noted, ended, lines_text, shown_name, IsLine, IsPlainText}
+use Rattle.keymap_lint_text.proofs.Common.{ArePrinted, is_noted, ended, shown_name, IsLine, IsPlainText}
 use Rattle.keymap_lint_text.proofs.Common.{answer, judged, of_diagnostic, beginning}
 use Rattle.std.specs.List.{All, filter}
 use Rattle.std.proofs.lemmas.List.Elements.{filter-append}
@@ -57,8 +57,7 @@ below_lines text (Some place) = excerpt_lines (before_in_line text place) (rest_
 filtered : (h : List ℕ) (bs ls : List (List ℕ)) → is_indented h ≡ false → filter is_flush bs ≡ []
     → filter is_flush (h ∷ (bs ++ ls)) ≡ h ∷ filter is_flush ls
 filtered h bs ls e f =
-    ap (λ b. if not b then h ∷ filter is_flush (bs ++ ls) else filter is_flush (bs ++ ls)) e
-    ∙ ap (λ t. h ∷ t) (filter-append is_flush bs ls ∙ ap (λ t. t ++ filter is_flush ls) f)
+    rw (e, filter-append is_flush bs ls, f) refl
 
 pub all_headed : (file text : List ℕ) (es : List Remark) (printed : List ℕ) → IsLine file
     → ArePrinted file text es printed → HasHeads file text es printed
@@ -70,8 +69,7 @@ all_headed file text (e ∷ es) printed name (first, rest, one, more, is) =
     let bs = below text e.place in record {
       lines = h ∷ (bs ++ others.lines);
       spelled =
-          is ∙ ap (λ t. t ++ rest) one.spelled ∙ ap (λ t. lines_text (h ∷ bs) ++ t) others.spelled
-          ∙ sym (flat_map-append ended (h ∷ bs) others.lines);
+          cc (is, one.spelled, others.spelled, flat_map-append ended (h ∷ bs) others.lines);
       plain =
           All-cons IsLine h (bs ++ others.lines) (head_line file text e one.message name one.is_message)
           (All-append IsLine bs others.lines (below_lines text e.place) others.plain);
@@ -113,10 +111,11 @@ each_judged : (l : Diagnostics) (ds : List Diagnostic)
     → filter is_judged (flat_map (of_diagnostic l) ds) ≡ map (judged l) ds
 each_judged l [] = refl
 each_judged l (d ∷ ds) =
-    filter-append is_judged (of_diagnostic l d) (flat_map (of_diagnostic l) ds)
-    ∙ ap (λ t. judged l d ∷ (t ++ filter is_judged (flat_map (of_diagnostic l) ds)))
-    (noted_if (is_noted d.kind) (answer l.sticking) (answer_noted l.sticking))
-    ∙ ap (λ t. judged l d ∷ t) (each_judged l ds)
+    cc (
+      filter-append is_judged (of_diagnostic l d) (flat_map (of_diagnostic l) ds),
+      noted_if (is_noted d.kind) (answer l.sticking) (answer_noted l.sticking),
+      each_judged l ds,
+    )
 
 pub all_judged : (text : List ℕ) (l : Lint) → filter is_judged (remarks text l) ≡ diagnostics l
 all_judged text (Faulty f place) =

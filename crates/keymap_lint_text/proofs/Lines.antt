@@ -52,19 +52,14 @@ scalar_pieces (suc n) (b ∷ rest) =
     All-cons ReadsScalar (decoded (b ∷ rest)) (pieces_from n (drop (decoded (b ∷ rest)).size (b ∷ rest)))
     (read (b ∷ rest) (decoded (b ∷ rest)).char refl) (scalar_pieces n (drop (decoded (b ∷ rest)).size (b ∷ rest)))
 
-first_true : (a h : Bool) → a ≡ true → IsTrue (a || not h)
-first_true true h e = search rules
-first_true false h e = cc
-
 last_true : (a h : Bool) → h ≡ false → IsTrue (a || not h)
-last_true true h e = search rules
-last_true false false e = cc
-last_true false true e = cc
+last_true true h e = refl
+last_true false h e = ap not e
 
 -- by whether the character is a tab, and whether a terminal doesn't show it
 shown_as : (c : ℕ) (tab hidden : Bool) → c == 9 ≡ tab → is_unseen c ≡ hidden → IsScalar c
     → IsSeen (if tab then c else if hidden then 0xfffd else c)
-shown_as c true hidden t h s = (s, first_true (c == 9) (is_unseen c) t)
+shown_as c true hidden t h s = (s, ap (λ tab. tab || not (is_unseen c)) t)
 shown_as c false true t h s = search rules
 shown_as c false false t h s = (s, last_true (c == 9) (is_unseen c) h)
 
@@ -83,12 +78,11 @@ all_seen bytes =
 
 -- ---- bytes behind bytes
 
-pub line_append : (a b : List ℕ) → IsLine a → IsLine b → IsLine (a ++ b)
-line_append a b p q = record {
+infixl 10 ◌⊳◌
+pub ◌⊳◌ : {a b : List ℕ} → IsLine a → IsLine b → IsLine (a ++ b)
+◌⊳◌ {a} {b} p q = record {
   characters = p.characters ++ q.characters;
-  spelled =
-      ap (λ x. x ++ b) p.spelled ∙ ap (λ x. flat_map encode_utf8 p.characters ++ x) q.spelled
-      ∙ sym (flat_map-append encode_utf8 p.characters q.characters);
+  spelled = cc (p.spelled, q.spelled, flat_map-append encode_utf8 p.characters q.characters);
   seen = All-append IsSeen p.characters q.characters p.seen q.seen;
 }
 
@@ -110,28 +104,22 @@ itself c s h = record {
 line_cons : (c : ℕ) (bs : List ℕ) → c < 128 → IsTrue (is_seen c) → IsLine bs → IsLine (c ∷ bs)
 line_cons c bs small seen p = record {
   characters = c ∷ p.characters;
-  spelled =
-      ap (λ x. c ∷ x) p.spelled ∙ ap (λ x. x ++ flat_map encode_utf8 p.characters) (sym (encode_ascii c small));
+  spelled = cc (p.spelled, encode_ascii c small);
   seen = All-cons IsSeen c p.characters (grind (arith, nat_tests), seen) p.seen;
 }
-
-pub line_if : (t : Bool) (bs : List ℕ) → IsLine bs → IsLine (if t then bs else [])
-line_if true bs p = p
-line_if false bs p = line_none
 
 either : (b : Bool) (x y : List ℕ) → IsLine x → IsLine y → IsLine (if b then x else y)
 either true x y p q = p
 either false x y p q = q
 
-implied : (p q : Bool) → (not p || q) ≡ true → p ≡ true → q ≡ true
-implied true q h e = h
-implied false q h e = cc
+pub line_if : (t : Bool) (bs : List ℕ) → IsLine bs → IsLine (if t then bs else [])
+line_if t bs p = either t bs [] p line_none
 
 shown_byte_seen : (c : ℕ) → is_shown_byte c ≡ true → IsTrue (is_seen c)
 shown_byte_seen c h =
-    implied (is_shown_byte c) (is_seen c)
-    (along (λ d. not (is_shown_byte d) || is_seen d) (λ d. true) 0 128 refl c (omega arith)
-    (omega (arith, small_byte c h))) h
+    sym (ap (λ b. not b || is_seen c) h)
+    ∙ along (λ d. not (is_shown_byte d) || is_seen d) (λ d. true) 0 128 refl c (omega arith)
+    (omega (arith, small_byte c h))
 
 pub ascii : (bs : List ℕ) → list_all is_shown_byte bs ≡ true → IsLine bs
 ascii [] h = line_none
@@ -143,7 +131,7 @@ pub line_each : {A : Type 0} (P : A → Type 0) (f : A → List ℕ) → ((x : A
     → All P xs → IsLine (flat_map f xs)
 line_each P f each [] h = line_none
 line_each P f each (x ∷ xs) h =
-    line_append (f x) (flat_map f xs) (each x (All-head P x xs h)) (line_each P f each xs (All-tail P x xs h))
+    each x (All-head P x xs h) ⊳ line_each P f each xs (All-tail P x xs h)
 
 line_flat : {A : Type 0} (f : A → List ℕ) → ((x : A) → IsLine (f x)) → (xs : List A) → IsLine (flat_map f xs)
 line_flat f each xs = line_each (λ _. Unit {0}) f (λ x _. each x) xs (λ k d _. tt)
@@ -214,34 +202,33 @@ pub fills : (w : List ℕ) (ts : List (List ℕ)) → list_all is_shown_byte w �
 unfolding filled
 fills w [] h ps = ascii w h
 fills w (t ∷ ts) h ps =
-    line_append (words_before w ++ t) (filled (words_behind w) ts)
-    (line_append (words_before w) t (ascii _ (front_all is_shown_byte (position_or_len is_hole w) w h)) ps.0)
-    (fills (words_behind w) ts (behind_all is_shown_byte (position_or_len is_hole w + 2) w h) ps.1)
+    ascii (words_before w) (front_all is_shown_byte (position_or_len is_hole w) w h) ⊳ ps.0
+    ⊳ fills (words_behind w) ts (behind_all is_shown_byte (position_or_len is_hole w + 2) w h) ps.1
 
 modifier_line : (modifier : Modifier) → IsLine (name_of (action.Mod modifier))
 modifier_line mods.LeftShift = ascii _ refl
 modifier_line _ = ascii _ refl
 
 further_modifier_line : (modifier : Modifier) → IsLine (notes.further_modifier modifier)
-further_modifier_line modifier = line_append _ _ (ascii (codes " and ") refl) (modifier_line modifier)
+further_modifier_line modifier = ascii (codes " and ") refl ⊳ modifier_line modifier
 
 modifiers_line : (ms : List Modifier) → IsLine (notes.modifiers_text ms)
 modifiers_line [] = line_none
 modifiers_line (modifier ∷ ms) =
-    line_append _ _ (modifier_line modifier) (line_flat notes.further_modifier further_modifier_line ms)
+    modifier_line modifier ⊳ line_flat notes.further_modifier further_modifier_line ms
 
 event_line : (e : Event) → IsLine (notes.event_text e)
-event_line (Press key) = line_append _ _ (ascii (codes "down ") refl) (decimal_line key)
-event_line (Release key) = line_append _ _ (ascii (codes "up ") refl) (decimal_line key)
+event_line (Press key) = ascii (codes "down ") refl ⊳ decimal_line key
+event_line (Release key) = ascii (codes "up ") refl ⊳ decimal_line key
 event_line Reset = ascii _ refl
 event_line Load = ascii _ refl
 
 further_event_line : (e : Event) → IsLine (notes.further_event e)
-further_event_line e = line_append _ _ (ascii (codes ", ") refl) (event_line e)
+further_event_line e = ascii (codes ", ") refl ⊳ event_line e
 
 events_line : (es : List Event) → IsLine (notes.events_text es)
 events_line [] = line_none
-events_line (e ∷ es) = line_append _ _ (event_line e) (line_flat notes.further_event further_event_line es)
+events_line (e ∷ es) = event_line e ⊳ line_flat notes.further_event further_event_line es
 
 pub sticks_line : (stuck : List Modifier) (events : List Event) → IsLine (notes.sticks_text stuck events)
 unfolding notes.sticks_text
@@ -270,28 +257,21 @@ severity_line severities.Error = ascii _ refl
 severity_line _ = ascii _ refl
 
 place_line : (file text : List ℕ) (place : Option ℕ) → IsLine file → IsLine (place_text file text place)
-place_line file text None p = line_append _ _ p (ascii _ refl)
+place_line file text None p = p ⊳ ascii (codes ": ") refl
 place_line file text (Some place) p =
-    line_append _ _ (
-    line_append _ _ (
-    line_append _ _ (line_append _ _ (line_append _ _ p (ascii _ refl)) (decimal_line (line text place)))
-    (ascii _ refl))
-    (decimal_line (length (before_in_line text place) + 1))) (ascii _ refl)
+    p ⊳ ascii (codes ":") refl ⊳ decimal_line (line text place) ⊳ ascii (codes ":") refl
+    ⊳ decimal_line (length (before_in_line text place) + 1) ⊳ ascii (codes ": ") refl
 
 said_line : (s : Said) (message : List ℕ) → IsMessage s message → IsLine (said_text s message)
 said_line (Said.Judged severity kind) message (p, q) =
-    line_append _ _ (
-    line_append _ _ (
-    line_append _ _ (line_append _ _ (line_append _ _ (severity_line severity) (ascii (codes ": ") refl)) q)
-    (ascii (codes " [") refl)) p)
-    (ascii (codes "]") refl)
-said_line Said.Noted message p = line_append _ _ (ascii (codes "note: ") refl) p
+    severity_line severity ⊳ ascii (codes ": ") refl ⊳ q ⊳ ascii (codes " [") refl ⊳ p ⊳ ascii (codes "]") refl
+said_line Said.Noted message p = ascii (codes "note: ") refl ⊳ p
 said_line (Said.Sticking modifiers events) message e =
-    line_append _ _ (ascii (codes "note: ") refl) (subst IsLine (sym e) (sticks_line modifiers events))
+    ascii (codes "note: ") refl ⊳ subst IsLine (sym e) (sticks_line modifiers events)
 
 pub head_line : (file text : List ℕ) (e : Remark) (message : List ℕ) → IsLine file → IsMessage e.said message
     → IsLine (head file text e message)
-head_line file text e message p q = line_append _ _ (place_line file text e.place p) (said_line e.said message q)
+head_line file text e message p q = place_line file text e.place p ⊳ said_line e.said message q
 
 -- ---- the line of a place and the caret, and a name
 
@@ -311,16 +291,13 @@ two_dots = ascii _ refl
 
 is_shown_line : (skipped : ℕ) (cs : List ℕ) → All IsSeen cs → IsLine (shown_line skipped cs)
 is_shown_line skipped cs p =
-    line_append _ _ (
-    line_append _ _ (line_append _ _ two_blanks (line_if (nat_lt 0 skipped) _ two_dots))
-    (line_chars _ (All-take IsSeen 120 _ (All-drop IsSeen skipped cs p))))
-    (line_if (nat_lt 0 (length cs - (skipped + 120))) _ two_dots)
+    two_blanks ⊳ line_if (nat_lt 0 skipped) _ two_dots
+    ⊳ line_chars _ (All-take IsSeen 120 _ (All-drop IsSeen skipped cs p))
+    ⊳ line_if (nat_lt 0 (length cs - (skipped + 120))) _ two_dots
 
 is_caret_line : (skipped : ℕ) (cs : List ℕ) → IsLine (caret_line skipped cs)
 is_caret_line skipped cs =
-    line_append _ _ (
-    line_append _ _ (line_append _ _ two_blanks (line_if (nat_lt 0 skipped) _ two_blanks))
-    (line_below (drop skipped cs))) (ascii (codes "^") refl)
+    two_blanks ⊳ line_if (nat_lt 0 skipped) _ two_blanks ⊳ line_below (drop skipped cs) ⊳ ascii (codes "^") refl
 
 both_lines : (bs rs : List ℕ) → All IsSeen bs → All IsSeen rs → All IsLine (lines_of bs rs)
 both_lines bs rs p q =

@@ -1,6 +1,6 @@
 -- Lines that a terminal shows, one behind the other.
-use Rattle.keymap_lint_text.proofs.Common.{◌≡◌, ℕ, List, [], ◌∷◌, ◌++◌, refl, ap, sym, ◌∙◌, append-nil, flat_map}
-use Rattle.keymap_lint_text.proofs.Common.{flat_map-append, All-nil, All-cons, All-append, ended, lines_text, IsLine}
+use Rattle.keymap_lint_text.proofs.Common.{ℕ, List, [], ◌∷◌, ◌++◌, refl, sym, append-nil, flat_map}
+use Rattle.keymap_lint_text.proofs.Common.{flat_map-append, All-nil, All-cons, All-append, ended, IsLine}
 use Rattle.keymap_lint_text.proofs.Common.{IsPlainText}
 
 pub plain_none : IsPlainText []
@@ -16,9 +16,7 @@ plain_line line p = record {
 pub plain_append : (a b : List ℕ) → IsPlainText a → IsPlainText b → IsPlainText (a ++ b)
 plain_append a b p q = record {
   lines = p.lines ++ q.lines;
-  spelled =
-      ap (λ x. x ++ b) p.spelled ∙ ap (λ x. lines_text p.lines ++ x) q.spelled
-      ∙ sym (flat_map-append ended p.lines q.lines);
+  spelled = cc (p.spelled, q.spelled, flat_map-append ended p.lines q.lines);
   plain = All-append IsLine p.lines q.lines p.plain q.plain;
 }
 

@@ -1,8 +1,8 @@
 -- The characters of a line, before a place and from it on.
-use Rattle.keymap_lint_text.proofs.Common.{◌≡◌, ◌⊎◌, inl, inr, ℕ, ◌+◌, ◌-◌, ◌≤◌, ◌<◌, Bool, true, false, nat_lt, List}
-use Rattle.keymap_lint_text.proofs.Common.{[], ◌∷◌, ◌++◌, codes, length, take, drop, map, refl, ap, sym, ◌∙◌, arith}
-use Rattle.keymap_lint_text.proofs.Common.{length-append, length-drop, take_all, if◌then◌else◌, encode_utf8, min}
-use Rattle.keymap_lint_text.proofs.Common.{flat_map, take-append_seam, drop-append_seam, drop-append-le, cases_lt}
+use Rattle.keymap_lint_text.proofs.Common.{◌≡◌, ◌⊎◌, inl, inr, ℕ, ◌+◌, ◌-◌, ◌≤◌, ◌<◌, nat_lt, List}
+use Rattle.keymap_lint_text.proofs.Common.{◌++◌, length, take, drop, map, ap, sym, ◌∙◌, arith}
+use Rattle.keymap_lint_text.proofs.Common.{length-append, length-drop, take_all, min}
+use Rattle.keymap_lint_text.proofs.Common.{take-append_seam, drop-append_seam, drop-append-le, cases_lt}
 use Rattle.keymap_lint_text.proofs.Common.{nat_tests, lines_of, excerpt, shown_before, without_cr, left_out, below}
 use Rattle.keymap_lint_text.proofs.Common.{reach, shown_chars, last}
 use Rattle.std.proofs.Common.{length-take, take-take, drop-drop}
@@ -19,19 +19,7 @@ parted bs rs cs n e k =
 
 -- both are zero, or both aren't
 same_test : (m n : ℕ) → (m ≡ 0 → n ≡ 0) → (n ≡ 0 → m ≡ 0) → nat_lt 0 m ≡ nat_lt 0 n
-same_test m n f g = go (nat_lt 0 m) (nat_lt 0 n) refl refl
-  where
-    none : (k : ℕ) → nat_lt 0 k ≡ false → k ≡ 0
-    none k e = grind (arith, nat_tests, e)
-
-    some : (k : ℕ) → nat_lt 0 k ≡ true → 0 < k
-    some k e = grind (arith, nat_tests, e)
-
-    go : (a b : Bool) → nat_lt 0 m ≡ a → nat_lt 0 n ≡ b → a ≡ b
-    go true true d e = refl
-    go false false d e = refl
-    go true false d e = absurd (omega (arith, some m d, g (none n e)))
-    go false true d e = absurd (omega (arith, some n e, f (none m d)))
+same_test m n f g = grind (arith, nat_tests, f, g)
 
 -- of what stands behind, only so many are looked at
 reached : (n m : ℕ) (xs ys : List ℕ) → n ≤ length xs + m → take n (xs ++ take m ys) ≡ take n (xs ++ ys)
@@ -40,13 +28,6 @@ reached n m xs ys h =
     take-add (length xs) m (xs ++ ys) ∙ ap (λ t. t ++ take m (drop (length xs) (xs ++ ys))) (take-append_seam xs ys)
     ∙ ap (λ t. xs ++ take m t) (drop-append_seam xs ys) in
     ap (take n) (sym whole) ∙ take-take n (length xs + m) (xs ++ ys) h
-
--- both lines by whether some are left out in front, the characters that are shown, whether some are left out behind,
--- and what stands below
-abbrev lines_by : Bool → List ℕ → Bool → List ℕ → List (List ℕ)
-lines_by some part more under =
-    (codes "  " ++ (if some then codes ".." else []) ++ flat_map encode_utf8 part ++ (if more then codes ".." else []))
-    ∷ (codes "  " ++ (if some then codes "  " else []) ++ under ++ codes "^") ∷ []
 
 -- where the ones behind are all there, none of them is cut off
 reached_or_all : (n m : ℕ) (xs ys : List ℕ) → (m < length ys → n ≤ length xs + m)
@@ -87,12 +68,7 @@ near_place m n bs rs m1 m2 n1 n2 =
     ∙ drop-take t 120 (cs ++ rs) ∙ ap (take 120) front in
     let under : map below (drop t cs) ≡ map below (drop s bs) =
     ap (map below) (drop-drop t k bs ∙ ap (λ i. drop i bs) (sym skip)) in
-    ap (λ b. lines_by b (take 120 (drop t (cs ++ ts))) (nat_lt 0 (length (cs ++ ts) - (t + 120)))
-    (map below (drop t cs)))
-    some
-    ∙ ap (λ x. lines_by (nat_lt 0 s) x (nat_lt 0 (length (cs ++ ts) - (t + 120))) (map below (drop t cs))) part
-    ∙ ap (λ b. lines_by (nat_lt 0 s) (take 120 (drop s (bs ++ rs))) b (map below (drop t cs))) more
-    ∙ ap (λ x. lines_by (nat_lt 0 s) (take 120 (drop s (bs ++ rs))) (nat_lt 0 (length (bs ++ rs) - (s + 120))) x) under
+    cc (some, part, more, under)
 
 -- as many as are looked at: the first ones from the place on, by how many of the last 61 before it there are, and the
 -- last ones before it, by how many those are

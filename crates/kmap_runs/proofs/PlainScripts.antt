@@ -5,7 +5,7 @@ use Rattle.kmap_runs.proofs.Common.{characters_of, code_text, is_unseen, event_l
 use Rattle.kmap_runs.proofs.Common.{lines_from, typing_script}
 use Rattle.std.specs.Char.{IsScalar}
 use Rattle.std.specs.List.{position_or_len}
-use Rattle.keymap_lint_text.proofs.Lines.{ascii, decimal_line, digit_printed, fills, itself, line_append, line_each}
+use Rattle.keymap_lint_text.proofs.Lines.{ascii, decimal_line, digit_printed, fills, itself, line_each, ◌⊳◌}
 use Rattle.keymap_lint_text.proofs.Plain.{plain_append, plain_flat, plain_line, plain_none}
 use Rattle.keymap_lint_text.specs.Shown.{IsLine, IsPlainText, is_shown_byte}
 use Rattle.kmap_runs.proofs.Comments.{code_all}
@@ -28,8 +28,7 @@ shown_line c s = shown_by c (is_unseen c) refl s
 comment_plain : (ks : List Keyed) → All IsScalar (characters_of ks) → IsPlainText (sentence_line ks)
 comment_plain ks h =
     let cs : List ℕ = characters_of ks in
-    plain_line _ (line_append (codes "#") _ (ascii _ refl)
-    (fills words.SENTENCE.now _ refl (
+    plain_line _ (ascii (codes "#") refl ⊳ (fills words.SENTENCE.now _ refl (
       line_each IsScalar shown shown_line (before_first is_line_feed cs)
           (All-take IsScalar (position_or_len is_line_feed cs) cs h),
       tt,
@@ -41,8 +40,8 @@ comment_if_plain true ks h = comment_plain ks h
 comment_if_plain false ks h = plain_none
 
 event_plain : (e : Event) → IsPlainText (event_line e)
-event_plain (event.Press k) = plain_line _ (line_append (codes "down ") _ (ascii _ refl) (decimal_line k))
-event_plain (event.Release k) = plain_line _ (line_append (codes "up ") _ (ascii _ refl) (decimal_line k))
+event_plain (event.Press k) = plain_line _ (ascii (codes "down ") refl ⊳ decimal_line k)
+event_plain (event.Release k) = plain_line _ (ascii (codes "up ") refl ⊳ decimal_line k)
 event_plain event.Reset = plain_line (codes "reset") (ascii _ refl)
 event_plain event.Load = plain_line (codes "load") (ascii _ refl)
 

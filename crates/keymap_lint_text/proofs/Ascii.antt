@@ -21,13 +21,13 @@ same_char c h = grind (arith, nat_tests, h)
 pub encoded : (bs : List ℕ) → list_all is_shown_byte bs ≡ true → encode_utf8_all bs ≡ bs
 encoded [] h = refl
 encoded (c ∷ bs) h =
-    let both = and_parts _ _ h in
-    ap (λ x. x ++ encode_utf8_all bs) (encode_ascii c (small_byte c both.0)) ∙ ap (λ x. c ∷ x) (encoded bs both.1)
+    let both = and_parts (is_shown_byte c) (list_all is_shown_byte bs) h in
+    cc (encode_ascii c (small_byte c both.0), encoded bs both.1)
 
 are_scalars : (bs : List ℕ) → list_all is_shown_byte bs ≡ true → scalars bs ≡ true
 are_scalars [] h = refl
 are_scalars (c ∷ bs) h =
-    let both = and_parts _ _ h in
+    let both = and_parts (is_shown_byte c) (list_all is_shown_byte bs) h in
     let small : c < 128 = small_byte c both.0 in
     let rest : scalars bs ≡ true = are_scalars bs both.1 in
     grind (arith, nat_tests, small, rest)
@@ -35,8 +35,8 @@ are_scalars (c ∷ bs) h =
 same_chars : (bs : List ℕ) → list_all is_shown_byte bs ≡ true → map shown_char bs ≡ bs
 same_chars [] h = refl
 same_chars (c ∷ bs) h =
-    let both = and_parts _ _ h in
-    ap (λ x. x ∷ map shown_char bs) (same_char c both.0) ∙ ap (λ x. c ∷ x) (same_chars bs both.1)
+    let both = and_parts (is_shown_byte c) (list_all is_shown_byte bs) h in
+    cc (same_char c both.0, same_chars bs both.1)
 
 -- such bytes are shown as they are
 pub shown_bytes : (bs : List ℕ) → list_all is_shown_byte bs ≡ true → shown_chars bs ≡ bs
@@ -54,24 +54,20 @@ first_bytes n m bs e h =
     let front = take m bs in
     let rest = drop m bs in
     let read : lossy_chars bs ≡ front ++ lossy_chars rest =
-    ap lossy_chars (sym (take-append-drop m bs) ∙ ap (λ t. t ++ rest) (sym (encoded front h)))
-    ∙ lossy_chars-front front rest (are_scalars front h) in
+    cc (take-append-drop m bs, encoded front h, lossy_chars-front front rest (are_scalars front h)) in
     let shown : map shown_char (lossy_chars bs) ≡ front ++ map shown_char (lossy_chars rest) =
-    ap (map shown_char) read ∙ map-append shown_char front (lossy_chars rest)
-    ∙ ap (λ t. t ++ map shown_char (lossy_chars rest)) (same_chars front h) in
+    cc (read, map-append shown_char front (lossy_chars rest), same_chars front h) in
     ap (take n) shown ∙ go (cases_lt n (length bs + 1))
   where
     go : (n < length bs + 1) ⊎ (length bs + 1 ≤ n)
         → take n (take m bs ++ map shown_char (lossy_chars (drop m bs))) ≡ take m bs
     go (inl l) =
         let size : n ≡ length (take m bs) = omega (arith, e, l, length-take m bs) in
-        ap (λ k. take k (take m bs ++ map shown_char (lossy_chars (drop m bs)))) size
-        ∙ take-append_seam (take m bs) (map shown_char (lossy_chars (drop m bs)))
+        cc (size, take-append_seam (take m bs) (map shown_char (lossy_chars (drop m bs))))
     go (inr l) =
         let none : drop m bs ≡ [] = drop_all m bs (omega (arith, e, l)) in
-        ap (λ t. take n (take m bs ++ map shown_char (lossy_chars t))) none
-        ∙ ap (λ t. take n (take m bs ++ map shown_char t)) lossy_chars-nil ∙ ap (take n) (append-nil (take m bs))
-        ∙ take_all n (take m bs) (omega (arith, e, l, length-take m bs))
+        let all = take_all n (take m bs) (omega (arith, e, l, length-take m bs)) in
+        cc (none, lossy_chars-nil, append-nil (take m bs), all)
 
 -- such a byte begins no piece inside one
 clean : (ys : List ℕ) → list_all is_shown_byte ys ≡ true → StartsClean ys

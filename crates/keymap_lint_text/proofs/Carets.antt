@@ -1,6 +1,6 @@
 -- The caret stands below the place, and the note on modifiers that stay on tells its events.
 use Rattle.keymap_lint_text.proofs.Common.{◌≡◌, ℕ, ◌+◌, ◌-◌, ◌≤◌, Bool, true, false, List, [], ◌∷◌, ◌++◌, codes, refl}
-use Rattle.keymap_lint_text.proofs.Common.{ap, sym, ◌∙◌, append_assoc, append-nil, arith, length, length-append}
+use Rattle.keymap_lint_text.proofs.Common.{◌∙◌, append_assoc, append-nil, arith, length, length-append}
 use Rattle.keymap_lint_text.proofs.Common.{length-drop, take, drop, nat_lt, ◌==◌, encode_utf8, map, if◌then◌else◌}
 use Rattle.keymap_lint_text.proofs.Common.{flat_map, list_all, flat_map-append, drop-append-le, map-append, Event}
 use Rattle.keymap_lint_text.proofs.Common.{Modifier, filled, below, excerpt, left_out, lines_of, shown_before}
@@ -47,9 +47,7 @@ part : (bs rs : List ℕ) (s : ℕ) → s ≤ length bs → length bs ≤ s + 12
     → take 120 (drop s (bs ++ rs)) ≡ drop s bs ++ take (120 - length (drop s bs)) rs
 part bs rs s e f =
     let whole : 120 ≡ length (drop s bs) + (120 - length (drop s bs)) = omega (arith, length-drop s bs) in
-    ap (take 120) (drop-append-le s bs rs e)
-    ∙ ap (λ n. take n (drop s bs ++ rs)) whole
-    ∙ take-append-add (drop s bs) rs (120 - length (drop s bs))
+    cc (drop-append-le s bs rs e, whole, take-append-add (drop s bs) rs (120 - length (drop s bs)))
 
 below_place : (bs rs : List ℕ) → HasCaretBelow bs rs (lines_of bs rs)
 below_place bs rs =
@@ -61,19 +59,16 @@ below_place bs rs =
     let few : length bs ≤ s + 120 = omega (arith, length-append bs rs) in
     let line : front ++ flat_map encode_utf8 (take 120 (drop s (bs ++ rs))) ++ dots left
     ≡ flat_map encode_utf8 (front ++ drop s bs ++ (some ++ dots left)) =
-    ap (λ t. front ++ flat_map encode_utf8 t ++ dots left) (part bs rs s within few)
-    ∙ spelled (nat_lt 0 s) (nat_lt 0 left) (drop s bs) some in
+    cc (part bs rs s within few, spelled (nat_lt 0 s) (nat_lt 0 left) (drop s bs) some) in
     let under : codes "  " ++ blanks s ++ map below (drop s bs) ≡ map below (front ++ drop s bs) =
-    ap (λ t. t ++ map below (drop s bs)) (sym (front_below (nat_lt 0 s))) ∙ sym (map-append below front (drop s bs)) in
+    cc (front_below (nat_lt 0 s), map-append below front (drop s bs)) in
     record {
       skipped = s;
       shown = 120 - length (drop s bs);
       left = left;
       front = front ++ drop s bs;
       stands_before = refl;
-      line =
-          ap (λ t. t ∷ (codes "  " ++ blanks s ++ map below (drop s bs) ++ codes "^") ∷ []) line
-          ∙ ap (λ t. flat_map encode_utf8 (front ++ drop s bs ++ (some ++ dots left)) ∷ (t ++ codes "^") ∷ []) under;
+      line = cc (line, under);
     }
 
 pub caret_below : (before rest : List ℕ)

@@ -13,9 +13,8 @@ use Rattle.std.proofs.lemmas.List.{drop-take}
 parted : (bs rs cs : List ℕ) (n : ℕ) → cs ≡ bs ++ rs → n ≡ length bs
     → lines_of (take n cs) (drop n cs) ≡ lines_of bs rs
 parted bs rs cs n e k =
-    let whole : take n cs ≡ bs = ap (take n) e ∙ ap (λ i. take i (bs ++ rs)) k ∙ take-append_seam bs rs in
-    let other : drop n cs ≡ rs = ap (drop n) e ∙ ap (λ i. drop i (bs ++ rs)) k ∙ drop-append_seam bs rs in
-    ap (λ xs. lines_of xs (drop n cs)) whole ∙ ap (λ xs. lines_of bs xs) other
+    let whole : take n cs ≡ bs = cc (e, k, take-append_seam bs rs) in
+    let other : drop n cs ≡ rs = cc (e, k, drop-append_seam bs rs) in cc (whole, other)
 
 -- both are zero, or both aren't
 same_test : (m n : ℕ) → (m ≡ 0 → n ≡ 0) → (n ≡ 0 → m ≡ 0) → nat_lt 0 m ≡ nat_lt 0 n
@@ -25,8 +24,7 @@ same_test m n f g = grind (arith, nat_tests, f, g)
 reached : (n m : ℕ) (xs ys : List ℕ) → n ≤ length xs + m → take n (xs ++ take m ys) ≡ take n (xs ++ ys)
 reached n m xs ys h =
     let whole : take (length xs + m) (xs ++ ys) ≡ xs ++ take m ys =
-    take-add (length xs) m (xs ++ ys) ∙ ap (λ t. t ++ take m (drop (length xs) (xs ++ ys))) (take-append_seam xs ys)
-    ∙ ap (λ t. xs ++ take m t) (drop-append_seam xs ys) in
+    cc (take-add (length xs) m (xs ++ ys), take-append_seam xs ys, drop-append_seam xs ys) in
     ap (take n) (sym whole) ∙ take-take n (length xs + m) (xs ++ ys) h
 
 -- where the ones behind are all there, none of them is cut off
@@ -60,14 +58,12 @@ near_place m n bs rs m1 m2 n1 n2 =
     same_test _ _ (λ e. omega (arith, c, d, p, q, m1, m2, n1, n2, e))
     (λ e. omega (arith, c, d, p, q, m1, m2, n1, n2, e)) in
     let front : drop t (cs ++ rs) ≡ drop s (bs ++ rs) =
-    ap (drop t) (sym (drop-append-le k bs rs (omega arith))) ∙ drop-drop t k (bs ++ rs)
-    ∙ ap (λ i. drop i (bs ++ rs)) (sym skip) in
+    cc (drop-append-le k bs rs (omega arith), drop-drop t k (bs ++ rs), skip) in
     let part : take 120 (drop t (cs ++ ts)) ≡ take 120 (drop s (bs ++ rs)) =
-    sym (drop-take t 120 (cs ++ ts))
-    ∙ ap (drop t) (reached_or_all (t + 120) n cs rs (λ l. omega (arith, c, d, p, q, m1, m2, n1, n2, l)))
-    ∙ drop-take t 120 (cs ++ rs) ∙ ap (take 120) front in
+    let same = reached_or_all (t + 120) n cs rs (λ l. omega (arith, c, d, p, q, m1, m2, n1, n2, l)) in
+    cc (drop-take t 120 (cs ++ ts), same, drop-take t 120 (cs ++ rs), front) in
     let under : map below (drop t cs) ≡ map below (drop s bs) =
-    ap (map below) (drop-drop t k bs ∙ ap (λ i. drop i bs) (sym skip)) in
+    cc (drop-drop t k bs, skip) in
     cc (some, part, more, under)
 
 -- as many as are looked at: the first ones from the place on, by how many of the last 61 before it there are, and the

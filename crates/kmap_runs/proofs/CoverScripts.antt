@@ -4,7 +4,7 @@ use Rattle.kmap_runs.proofs.Common.{map, drop, get_or, refl, sym, ap, subst, ◌
 use Rattle.kmap_runs.proofs.Common.{if◌then◌else◌, decimal, add-one, ◌-◌, Option, Some, Ok, reverse, All, flat_map}
 use Rattle.kmap_runs.proofs.Common.{range_with_len, reverse-reverse, All-head, All-tail, name_of, MapValue}
 use Rattle.kmap_runs.proofs.Common.{All-reversed, Sight, Pair, HasKey, HasKeys, LeftOut, Never, Reset, Spells, Sent}
-use Rattle.kmap_runs.proofs.Common.{IsScript, Plays, moves, sends, played_text, script-nil, line-script, one_list}
+use Rattle.kmap_runs.proofs.Common.{IsScript, Plays, moves, sends, script-nil, line-script, one_list}
 use Rattle.kmap_runs.proofs.Common.{comment, column_text, row_text, has_verdict, row_line, ListsSlots, AddsLists}
 use Rattle.kmap_runs.proofs.Common.{bases_at, character_text, accent_line, accent_lines, rest_word, start_line}
 use Rattle.kmap_runs.proofs.Common.{stroke_line, stroke_lines, script_lines, filled_all, EachPasses}
@@ -12,7 +12,6 @@ use Rattle.std.proofs.lemmas.List.{reverse-append}
 use Rattle.std.proofs.lemmas.List.Elements.{All-nil, All-cons}
 use Rattle.keymap_core.specs.Numbers.{key_count, column_count, accent_limit}
 use Rattle.console_core.specs.declared.selection.Sight.TheVariants.{Cell, Locks}
-use Rattle.console_core.specs.History.{between}
 use Rattle.keymap_cover.specs.declared.parts.Counts.{Counts}
 use Rattle.keymap_cover.specs.declared.parts.Cover.{Cover}
 use Rattle.keymap_cover.specs.declared.parts.Verdict.{Verdict}
@@ -49,9 +48,7 @@ adds-nil rest sent h = h
 
 adds-append : (a b : List ℕ) (xs ys : List Sent) → Adds a xs → Adds b ys → Adds (a ++ b) (xs ++ ys)
 adds-append a b xs ys h k rest sent script =
-    subst (λ t. IsScript t ((xs ++ ys) ++ sent)) (sym (append_assoc a b rest))
-    (subst (λ l. IsScript (a ++ (b ++ rest)) l) (sym (append_assoc xs ys sent))
-    (h (b ++ rest) (ys ++ sent) (k rest sent script)))
+    rw (append_assoc a b rest, append_assoc xs ys sent) (h (b ++ rest) (ys ++ sent) (k rest sent script))
 
 -- comments, one behind the other
 quiet-append : (a b : List ℕ) → Adds a [] → Adds b [] → Adds (a ++ b) []
@@ -68,8 +65,7 @@ quiet-if false text h = adds-nil
 -- a text that sends this is a script of it
 adds-script : (text : List ℕ) (sent : List Sent) → Adds text sent → IsScript text sent
 adds-script text sent h =
-    subst (λ t. IsScript t sent) (append-nil text)
-    (subst (λ l. IsScript (text ++ []) l) (append-nil sent) (h [] [] script-nil))
+    subst (λ t. IsScript t sent) (append-nil text) (subst (IsScript _) (append-nil sent) (h [] [] script-nil))
 
 -- ---- comments
 
@@ -227,7 +223,7 @@ strokes-add starts all [] place e keys = adds-nil
 strokes-add starts all (s ∷ strokes) place e keys =
     let at = drop_is all place s Reset strokes e in
     let line : Adds (stroke_lines starts all place) (sent_of_stroke s ∷ []) =
-    subst (λ x. Adds (flat_map (start_line place) starts ++ stroke_line x) (sent_of_stroke s ∷ [])) at.0
+    rw (sym at.0)
     (adds-append (flat_map (start_line place) starts) (stroke_line s) [] (sent_of_stroke s ∷ [])
     (quiet-flat (start_line place) (quiet-start place) starts)
     (stroke-adds s (All-head IsOfKey s strokes keys))) in
@@ -272,8 +268,12 @@ events-append (x ∷ xs) ys = ap (λ l. event_of x ∷ l) (events-append xs ys)
 events-reverse : (xs : List Stroke) → events_of (reverse xs) ≡ reverse (events_of xs)
 events-reverse [] = refl
 events-reverse (x ∷ xs) =
-    ap events_of (reverse-append (x ∷ []) xs) ∙ events-append (reverse xs) (x ∷ [])
-    ∙ ap (λ l. l ++ event_of x ∷ []) (events-reverse xs) ∙ sym (reverse-append (event_of x ∷ []) (events_of xs))
+    cc (
+      reverse-append (x ∷ []) xs,
+      events-append (reverse xs) (x ∷ []),
+      events-reverse xs,
+      reverse-append (event_of x ∷ []) (events_of xs),
+    )
 
 -- what is sent to make strokes delivers their events
 strokes-deliver : (xs : List Stroke) → delivered (map sent_of_stroke xs) ≡ events_of xs
@@ -314,6 +314,5 @@ covers-played show text script told t u v (m, printed, read, (c, covers, e), app
       c,
       subst (λ x. Spells x m) (sym (taken-whole text read.0 t read.1)) read.2,
       covers,
-      appended ∙ same_shown ∙ ap (λ x. played_text show (between x x) sent) (sym same)
-          ∙ ap (λ l. played_text show (between m m) l) sent_are,
+      cc (appended, same_shown, same, sent_are),
     )

@@ -80,8 +80,7 @@ events-before : (events : List Event) (rest : List ℕ) (sent : List Sent) → H
     → IsScript (flat_map event_line events ++ rest) (map sent_of events ++ sent)
 events-before [] rest sent keys h = h
 events-before (e ∷ events) rest sent keys h =
-    subst (λ t. IsScript t (sent_of e ∷ (map sent_of events ++ sent)))
-    (sym (append_assoc (event_line e) (flat_map event_line events) rest))
+    rw (append_assoc (event_line e) (flat_map event_line events) rest)
     (line-script (sends (sent_of e)) (flat_map event_line events ++ rest) (map sent_of events ++ sent)
     (writable e (All-head HasKey e events keys))
     (events-before events rest sent (All-tail HasKey e events keys) h))
@@ -111,10 +110,8 @@ lines-typing starts from es (k ∷ ks) keys =
     sentence-before starts (k ∷ ks) (lines ++ later) sent
     (events-before (take n es) later (map sent_of (drop n es)) (All-take HasKey n es keys)
     (lines-typing (is_line_feed k.character) k.end (drop n es) ks (All-drop HasKey n es keys))) in
-    let both : map sent_of es ≡ sent =
-    ap (λ l. map sent_of l) (sym (take-append-drop n es)) ∙ map-append sent_of (take n es) (drop n es) in
-    subst (λ l. IsScript ((comment ++ lines) ++ later) l) (sym both)
-    (subst (λ t. IsScript t sent) (sym (append_assoc comment lines later)) whole)
+    let both : map sent_of es ≡ sent = cc (take-append-drop n es, map-append sent_of (take n es) (drop n es)) in
+    rw (both, append_assoc comment lines later) whole
 
 typing-sends : (x : Typing) → HasKeys x.events.items → IsScript (typing_script x) (map sent_of x.events.items)
 typing-sends x keys = lines-typing true 0 x.events.items x.keyed.items keys

@@ -53,12 +53,16 @@ line_more starts from es ks i x old mid new all inside at le comment lines befor
     let later : List ℕ = lines_from (is_line_feed x.character) x.end (drop (x.end - from) (drop from es)) rest in
     let slice : take (length ks - i) (drop i ks) ≡ x ∷ rest =
     take_all (length ks - i) (drop i ks) (omega (arith, length-drop i ks)) ∙ first in
-    ap (λ z. new ++ lines_from (is_line_feed x.character) x.end z rest) (sym (drop-end from x.end es le))
-    ∙ ap (λ l. l ++ later) (lines ∙ ap (λ l. l ++ here) (comment ∙ ap (λ l. old ++ comment_if starts l) slice))
-    ∙ four_pieces old (comment_if starts (x ∷ rest)) here later
-    ∙ ap (λ l. old ++ l) (sym (opened starts from (drop from es) x rest))
-    ∙ ap (λ l. old ++ lines_from starts from (drop from es) l) (sym first)
-    ∙ before
+    cc (
+      drop-end from x.end es le,
+      lines,
+      comment,
+      slice,
+      four_pieces old (comment_if starts (x ∷ rest)) here later,
+      opened starts from (drop from es) x rest,
+      first,
+      before,
+    )
 
 -- behind the last character stand the lines of the events that are left
 last_lines : (starts : Bool) (from : ℕ) (es : List Event) → lines_from starts from es [] ≡ flat_map event_line es
@@ -69,11 +73,8 @@ pub lines_end : (starts : Bool) (from : ℕ) (es : List Event) (ks : List Keyed)
     → length ks ≤ i → new ≡ old ++ flat_map event_line (take (length es - from) (drop from es))
     → old ++ lines_from starts from (drop from es) (drop i ks) ≡ all → new ≡ all
 lines_end starts from es ks i old new all past lines before =
-    lines
-    ∙ ap (λ z. old ++ flat_map event_line z)
-    (take_all (length es - from) (drop from es) (omega (arith, length-drop from es)))
-    ∙ ap (λ l. old ++ l) (sym (last_lines starts from (drop from es)))
-    ∙ ap (λ l. old ++ lines_from starts from (drop from es) l) (sym (drop_of_length-le ks past)) ∙ before
+    let all_left = take_all (length es - from) (drop from es) (omega (arith, length-drop from es)) in
+    cc (lines, all_left, last_lines starts from (drop from es), drop_of_length-le ks past, before)
 
 -- ---- the first line of the characters
 
@@ -93,6 +94,10 @@ pub shown_more : (ks : List Keyed) (i : ℕ) (x : Keyed) (old new all : List ℕ
     → new ++ line_shown (characters_of (drop (i + 1) ks)) ≡ all
 shown_more ks i x old new all inside at none now before =
     let rest : List ℕ = characters_of (drop (i + 1) ks) in
-    ap (λ l. l ++ line_shown rest) now ∙ append_assoc old (shown x.character) (line_shown rest)
-    ∙ ap (λ l. old ++ l) (sym (line_on x.character rest none))
-    ∙ ap (λ l. old ++ line_shown (characters_of l)) (sym (front ks i x inside at)) ∙ before
+    cc (
+      now,
+      append_assoc old (shown x.character) (line_shown rest),
+      line_on x.character rest none,
+      front ks i x inside at,
+      before,
+    )

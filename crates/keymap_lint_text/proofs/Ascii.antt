@@ -63,7 +63,7 @@ first_bytes n m bs e h =
         → take n (take m bs ++ map shown_char (lossy_chars (drop m bs))) ≡ take m bs
     go (inl l) =
         let size : n ≡ length (take m bs) = omega (arith, e, l, length-take m bs) in
-        cc (size, take-append_seam (take m bs) (map shown_char (lossy_chars (drop m bs))))
+        cc (take-append_seam (take m bs) (map shown_char (lossy_chars (drop m bs))))
     go (inr l) =
         let none : drop m bs ≡ [] = drop_all m bs (omega (arith, e, l)) in
         let all = take_all n (take m bs) (omega (arith, e, l, length-take m bs)) in

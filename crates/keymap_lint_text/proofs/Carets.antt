@@ -34,13 +34,8 @@ spelled b c xs ys =
     let front = codes "  " ++ dots_if b in
     let front = codes "  " ++ dots_if b in
     let regrouped : front ++ xs ++ (ys ++ dots_if c) ≡ front ++ (xs ++ ys) ++ dots_if c = simp append_assoc in
-    cc (
-      regrouped,
-      flat_map-append encode_utf8 (front ++ (xs ++ ys)) (dots_if c),
-      flat_map-append encode_utf8 front (xs ++ ys),
-      front_spelled b,
-      dots_spelled c,
-    )
+    let dotted = flat_map-append encode_utf8 (front ++ (xs ++ ys)) (dots_if c) in
+    cc (flat_map-append encode_utf8 front (xs ++ ys), front_spelled b, dots_spelled c)
 
 -- the part that is shown has all that isn't left out before the place
 part : (bs rs : List ℕ) (s : ℕ) → s ≤ length bs → length bs ≤ s + 120

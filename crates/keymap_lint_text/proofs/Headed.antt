@@ -111,11 +111,8 @@ each_judged : (l : Diagnostics) (ds : List Diagnostic)
     → filter is_judged (flat_map (of_diagnostic l) ds) ≡ map (judged l) ds
 each_judged l [] = refl
 each_judged l (d ∷ ds) =
-    cc (
-      filter-append is_judged (of_diagnostic l d) (flat_map (of_diagnostic l) ds),
-      noted_if (is_noted d.kind) (answer l.sticking) (answer_noted l.sticking),
-      each_judged l ds,
-    )
+    let noted = noted_if (is_noted d.kind) (answer l.sticking) (answer_noted l.sticking) in
+    cc (filter-append is_judged (of_diagnostic l d) (flat_map (of_diagnostic l) ds), each_judged l ds)
 
 pub all_judged : (text : List ℕ) (l : Lint) → filter is_judged (remarks text l) ≡ diagnostics l
 all_judged text (Faulty f place) =

@@ -13,8 +13,7 @@ use Rattle.std.proofs.lemmas.List.{drop-take}
 parted : (bs rs cs : List ℕ) (n : ℕ) → cs ≡ bs ++ rs → n ≡ length bs
     → lines_of (take n cs) (drop n cs) ≡ lines_of bs rs
 parted bs rs cs n e k =
-    let whole : take n cs ≡ bs = cc (e, k, take-append_seam bs rs) in
-    let other : drop n cs ≡ rs = cc (e, k, drop-append_seam bs rs) in cc (whole, other)
+    cc (take-append_seam bs rs, drop-append_seam bs rs)
 
 -- both are zero, or both aren't
 same_test : (m n : ℕ) → (m ≡ 0 → n ≡ 0) → (n ≡ 0 → m ≡ 0) → nat_lt 0 m ≡ nat_lt 0 n

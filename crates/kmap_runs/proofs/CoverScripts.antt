@@ -268,12 +268,8 @@ events-append (x ∷ xs) ys = ap (λ l. event_of x ∷ l) (events-append xs ys)
 events-reverse : (xs : List Stroke) → events_of (reverse xs) ≡ reverse (events_of xs)
 events-reverse [] = refl
 events-reverse (x ∷ xs) =
-    cc (
-      reverse-append (x ∷ []) xs,
-      events-append (reverse xs) (x ∷ []),
-      events-reverse xs,
-      reverse-append (event_of x ∷ []) (events_of xs),
-    )
+    let last = events-append (reverse xs) (x ∷ []) in
+    cc (reverse-append (x ∷ []) xs, events-reverse xs, reverse-append (event_of x ∷ []) (events_of xs))
 
 -- what is sent to make strokes delivers their events
 strokes-deliver : (xs : List Stroke) → delivered (map sent_of_stroke xs) ≡ events_of xs

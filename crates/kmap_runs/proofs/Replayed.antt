@@ -54,9 +54,8 @@ not_feed c h e = true≢false (subst (λ x. is_unseen x ≡ false) e h)
 shown_by : (t : Bool) (c : ℕ) → is_unseen c ≡ t → IsInLine (if t then code_text c else encode_utf8 c)
 shown_by true c h = code-line c
 shown_by false c h =
-    let bytes : encode_utf8 c ≡ encode_utf8 c ++ [] = sym (append-nil (encode_utf8 c)) in
     each-line (encode_utf8 c)
-    (λ k lt e. not_feed c h (inside_one c [] (encode_utf8 c) k bytes lt (omega (arith, e)) ∙ e))
+    (λ k lt e. not_feed c h (inside_one c [] (encode_utf8 c) k (sym (append-nil _)) lt (omega (arith, e)) ∙ e))
 
 shown-line : (c : ℕ) → IsInLine (shown c)
 unfolding shown
@@ -202,9 +201,8 @@ same-map text s t m n h k =
 typed-once : (m : MapValue) (x : Typing) (bytes : List ℕ) (sent : List Sent) → IsTyped m bytes x
     → IsScript (typing_script x) sent → played_text show.Typed (alone m) sent ≡ bytes
 typed-once m x bytes sent t h =
-    ap (λ l. played_text show.Typed (alone m) l)
-    (one_list (typing_script x) sent (map sent_of x.events.items) h (typing-sends x t.are.keys))
-    ∙ typed-back m x.events.items bytes t.typed
+    let same = one_list (typing_script x) sent (map sent_of x.events.items) h (typing-sends x t.are.keys) in
+    cc (typed-back m x.events.items bytes t.typed)
 
 pub comes-back : (text sentence script typed : List ℕ) (t s u v : Option (List ℕ))
     → TypesSentence (moves (Some text) t) (moves (Some sentence) s) (moves (Some []) (Some script)) (Ok tt)

@@ -53,16 +53,8 @@ line_more starts from es ks i x old mid new all inside at le comment lines befor
     let later : List ℕ = lines_from (is_line_feed x.character) x.end (drop (x.end - from) (drop from es)) rest in
     let slice : take (length ks - i) (drop i ks) ≡ x ∷ rest =
     take_all (length ks - i) (drop i ks) (omega (arith, length-drop i ks)) ∙ first in
-    cc (
-      drop-end from x.end es le,
-      lines,
-      comment,
-      slice,
-      four_pieces old (comment_if starts (x ∷ rest)) here later,
-      opened starts from (drop from es) x rest,
-      first,
-      before,
-    )
+    let begun = opened starts from (drop from es) x rest in
+    cc (drop-end from x.end es le, four_pieces old (comment_if starts (x ∷ rest)) here later)
 
 -- behind the last character stand the lines of the events that are left
 last_lines : (starts : Bool) (from : ℕ) (es : List Event) → lines_from starts from es [] ≡ flat_map event_line es
@@ -94,10 +86,5 @@ pub shown_more : (ks : List Keyed) (i : ℕ) (x : Keyed) (old new all : List ℕ
     → new ++ line_shown (characters_of (drop (i + 1) ks)) ≡ all
 shown_more ks i x old new all inside at none now before =
     let rest : List ℕ = characters_of (drop (i + 1) ks) in
-    cc (
-      now,
-      append_assoc old (shown x.character) (line_shown rest),
-      line_on x.character rest none,
-      front ks i x inside at,
-      before,
-    )
+    let on = line_on x.character rest none in
+    cc (append_assoc old (shown x.character) (line_shown rest), front ks i x inside at)

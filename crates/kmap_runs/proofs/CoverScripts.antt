@@ -7,7 +7,7 @@ use Rattle.kmap_runs.proofs.Common.{All-reversed, Sight, Pair, HasKey, HasKeys, 
 use Rattle.kmap_runs.proofs.Common.{IsScript, Plays, moves, sends, script-nil, line-script, one_list}
 use Rattle.kmap_runs.proofs.Common.{comment, column_text, row_text, has_verdict, row_line, ListsSlots, AddsLists}
 use Rattle.kmap_runs.proofs.Common.{bases_at, character_text, accent_line, accent_lines, rest_word, start_line}
-use Rattle.kmap_runs.proofs.Common.{stroke_line, stroke_lines, script_lines, filled_all, EachPasses}
+use Rattle.kmap_runs.proofs.Common.{stroke_line, stroke_lines, filled_all, EachPasses}
 use Rattle.std.proofs.lemmas.List.{reverse-append}
 use Rattle.std.proofs.lemmas.List.Elements.{All-nil, All-cons}
 use Rattle.keymap_core.specs.Numbers.{key_count, column_count, accent_limit}
@@ -40,23 +40,23 @@ use Rattle.kmap_runs.specs.declared.words.TheConstants as words
 -- ---- texts before a script
 
 -- before any script the text sends this first
-abbrev Adds : List ℕ → List Sent → Type 0
-Adds text first = (rest : List ℕ) (sent : List Sent) → IsScript rest sent → IsScript (text ++ rest) (first ++ sent)
+record Adds (text : List ℕ) (first : List Sent) : Type 0 where
+  before : (rest : List ℕ) (sent : List Sent) → IsScript rest sent → IsScript (text ++ rest) (first ++ sent)
 
 adds-nil : Adds [] []
-adds-nil rest sent h = h
+adds-nil = record { before = λ rest sent h. h }
 
-adds-append : (a b : List ℕ) (xs ys : List Sent) → Adds a xs → Adds b ys → Adds (a ++ b) (xs ++ ys)
-adds-append a b xs ys h k rest sent script =
-    rw (append_assoc a b rest, append_assoc xs ys sent) (h (b ++ rest) (ys ++ sent) (k rest sent script))
-
--- comments, one behind the other
-quiet-append : (a b : List ℕ) → Adds a [] → Adds b [] → Adds (a ++ b) []
-quiet-append a b h k = adds-append a b [] [] h k
+infixl 10 ◌⊳◌
+◌⊳◌ : {a b : List ℕ} {xs ys : List Sent} → Adds a xs → Adds b ys → Adds (a ++ b) (xs ++ ys)
+◌⊳◌ {a} {b} {xs} {ys} h k = record {
+  before = λ rest sent script.
+      rw (append_assoc a b rest, append_assoc xs ys sent)
+      (h.before (b ++ rest) (ys ++ sent) (k.before rest sent script));
+}
 
 quiet-flat : {X : Type 0} (f : X → List ℕ) → ((x : X) → Adds (f x) []) → (xs : List X) → Adds (flat_map f xs) []
 quiet-flat f each [] = adds-nil
-quiet-flat f each (x ∷ xs) = quiet-append (f x) (flat_map f xs) (each x) (quiet-flat f each xs)
+quiet-flat f each (x ∷ xs) = each x ⊳ quiet-flat f each xs
 
 quiet-if : (t : Bool) (text : List ℕ) → Adds text [] → Adds (if t then text else []) []
 quiet-if true text h = h
@@ -65,13 +65,13 @@ quiet-if false text h = adds-nil
 -- a text that sends this is a script of it
 adds-script : (text : List ℕ) (sent : List Sent) → Adds text sent → IsScript text sent
 adds-script text sent h =
-    subst (λ t. IsScript t sent) (append-nil text) (subst (IsScript _) (append-nil sent) (h [] [] script-nil))
+    subst (λ t. IsScript t sent) (append-nil text) (subst (IsScript _) (append-nil sent) (h.before [] [] script-nil))
 
 -- ---- comments
 
 quiet-comment : (words : List ℕ) (told : List (List ℕ)) → IsInLine words → EachPasses is_in_line told
     → Adds (comment words told) []
-quiet-comment words told w t = comment-before words told w t
+quiet-comment words told w t = record { before = comment-before words told w t }
 
 quiet-counts : (rest name : List ℕ) (n : Counts) → IsInLine rest → IsInLine name → Adds (counts_line rest name n) []
 quiet-counts rest name n f g =
@@ -141,8 +141,7 @@ quiet-listed : {is_listed : Sight → Bool} {word : List ℕ} {end : ℕ} {text 
     → ListsSlots is_listed word end text → Adds text []
 quiet-listed f ListsSlots.no_slot = adds-nil
 quiet-listed {is_listed} {word} f (ListsSlots.more_slots first end text before below alike ends) =
-    quiet-append text (row_line word first end (row_text is_listed first)) (quiet-listed f before)
-    (quiet-row word first end (row_text is_listed first) f (row-line is_listed first))
+    quiet-listed f before ⊳ quiet-row word first end (row_text is_listed first) f (row-line is_listed first)
 
 quiet-characters : (word : List ℕ) (i : ℕ) (text : List ℕ) → IsInLine word → IsInLine text
     → Adds (line_of_characters word i text) []
@@ -169,26 +168,17 @@ quiet-all_counts : (m : MapValue) (c : Cover) → Adds (counts_text m c) []
 quiet-all_counts m c =
     let told : Sight → Verdict = verdict_of m c in
     let line : IsInLine (rest_word c) = rest-line c.sights.forgets in
-    let cells = counts_line (rest_word c) words.CELLS.now (counts_of told all_cells) in
-    let settings = counts_line (rest_word c) words.LOCK_SETTINGS.now (counts_of told all_lock_settings) in
-    let pairs = counts_line (rest_word c) words.ALL_PAIRS.now (counts_of told (all_pairs m)) in
-    quiet-append (cells ++ settings) pairs
-    (quiet-append cells settings (quiet-counts (rest_word c) words.CELLS.now (counts_of told all_cells) line refl)
-    (quiet-counts (rest_word c) words.LOCK_SETTINGS.now (counts_of told all_lock_settings) line refl))
-    (quiet-counts (rest_word c) words.ALL_PAIRS.now (counts_of told (all_pairs m)) line refl)
+    quiet-counts (rest_word c) words.CELLS.now (counts_of told all_cells) line refl
+    ⊳ quiet-counts (rest_word c) words.LOCK_SETTINGS.now (counts_of told all_lock_settings) line refl
+    ⊳ quiet-counts (rest_word c) words.ALL_PAIRS.now (counts_of told (all_pairs m)) line refl
 
 quiet-lists : (m : MapValue) (c : Cover) (old new : List ℕ) → Adds old [] → AddsLists m c old new → Adds new []
 quiet-lists m c old new quiet l =
     let line : IsInLine (rest_word c) = rest-line c.sights.forgets in
-    let accents = accent_lines (has_verdict m c LeftOut) words.LEFT_OUT.now m in
-    let others = accent_lines (has_verdict m c Never) (rest_word c) m in
     subst (λ t. Adds t []) (sym l.spelled)
-    (quiet-append (old ++ l.left_out ++ l.rest ++ accents) others
-    (quiet-append (old ++ l.left_out ++ l.rest) accents
-    (quiet-append (old ++ l.left_out) l.rest
-    (quiet-append old l.left_out quiet (quiet-listed refl l.lists_left_out)) (quiet-listed line l.lists_rest))
-    (quiet-accents (has_verdict m c LeftOut) words.LEFT_OUT.now m refl))
-    (quiet-accents (has_verdict m c Never) (rest_word c) m line))
+    (quiet ⊳ quiet-listed refl l.lists_left_out ⊳ quiet-listed line l.lists_rest
+    ⊳ quiet-accents (has_verdict m c LeftOut) words.LEFT_OUT.now m refl
+    ⊳ quiet-accents (has_verdict m c Never) (rest_word c) m line)
 
 -- ---- strokes
 
@@ -205,7 +195,7 @@ abbrev IsOfKey : Stroke → Type 0
 IsOfKey s = key_of (what_of_stroke s) < key_count
 
 stroke-adds : (s : Stroke) → IsOfKey s → Adds (stroke_line s) (sent_of_stroke s ∷ [])
-stroke-adds s lt rest sent h = line-script (sends (sent_of_stroke s)) rest sent lt h
+stroke-adds s lt = record { before = λ rest sent h. line-script (sends (sent_of_stroke s)) rest sent lt h }
 
 -- what is left of a list begins with the element at this place
 drop_is : {X : Type 0} (xs : List X) (n : ℕ) (x d : X) (rest : List X) → drop n xs ≡ x ∷ rest
@@ -224,13 +214,9 @@ strokes-add starts all (s ∷ strokes) place e keys =
     let at = drop_is all place s Reset strokes e in
     let line : Adds (stroke_lines starts all place) (sent_of_stroke s ∷ []) =
     rw (sym at.0)
-    (adds-append (flat_map (start_line place) starts) (stroke_line s) [] (sent_of_stroke s ∷ [])
-    (quiet-flat (start_line place) (quiet-start place) starts)
-    (stroke-adds s (All-head IsOfKey s strokes keys))) in
-    adds-append (stroke_lines starts all place)
-    (flat_map (stroke_lines starts all) (range_with_len (place + 1) (length strokes))) (sent_of_stroke s ∷ [])
-    (map sent_of_stroke strokes) line
-    (strokes-add starts all strokes (place + 1) (rw add-one at.1) (All-tail IsOfKey s strokes keys))
+    (quiet-flat (start_line place) (quiet-start place) starts
+    ⊳ stroke-adds s (All-head IsOfKey s strokes keys)) in
+    line ⊳ strokes-add starts all strokes (place + 1) (rw add-one at.1) (All-tail IsOfKey s strokes keys)
 
 -- the strokes of events on keys are of keys
 strokes-keys : (strokes : List Stroke) → HasKeys (events_of strokes) → All IsOfKey strokes
@@ -255,9 +241,8 @@ pub cover-sends : (m : MapValue) (c : Cover) (text : List ℕ) → IsCoverText m
     → IsScript text (strokes_sent c)
 cover-sends m c text is keys =
     adds-script text (strokes_sent c) (subst (λ t. Adds t (strokes_sent c)) (sym is.spelled)
-    (adds-append is.comments (script_lines c.starts.items c.strokes.items) [] (strokes_sent c)
-    (quiet-lists m c (counts_text m c) is.comments (quiet-all_counts m c) is.adds_lists)
-    (strokes-add c.starts.items c.strokes.items c.strokes.items 0 refl (keys-of c keys))))
+    (quiet-lists m c (counts_text m c) is.comments (quiet-all_counts m c) is.adds_lists
+    ⊳ strokes-add c.starts.items c.strokes.items c.strokes.items 0 refl (keys-of c keys)))
 
 -- ---- what it delivers
 

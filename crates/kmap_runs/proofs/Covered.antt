@@ -27,8 +27,7 @@ pub piece_behind : {X : Type 0} (f : ℕ → List X) (i : ℕ) (old all more : L
     → all ≡ old ++ flat_map f (range_with_len 0 i) → more ≡ all ++ f i
     → more ≡ old ++ flat_map f (range_with_len 0 (i + 1))
 piece_behind f i old all more e piece =
-    piece ∙ ap (λ t. t ++ f i) e ∙ append_assoc old (flat_map f (range_with_len 0 i)) (f i)
-    ∙ ap (λ t. old ++ t) (sym (pieces_on f i))
+    cc (append_assoc old (flat_map f (range_with_len 0 i)) (f i), pieces_on f i)
 
 -- the same where nothing stands before
 pub piece_more : {X : Type 0} (f : ℕ → List X) (i : ℕ) (all more : List X)
@@ -39,13 +38,9 @@ piece_more f i all more e piece = piece ∙ ap (λ t. t ++ f i) e ∙ sym (piece
 pub taken_behind : {X A : Type 0} (f : X → List A) (xs : List X) (i : ℕ) (x : X) (old all more : List A)
     → x ≡ get_or xs i x → i < length xs → all ≡ old ++ flat_map f (take i xs) → more ≡ all ++ f x
     → more ≡ old ++ flat_map f (take (i + 1) xs)
-taken_behind {A = A} f xs i x old all more is low e piece =
-    let those : List A = flat_map f (take i xs) in
-    piece ∙ ap (λ t. t ++ f x) e ∙ append_assoc old those (f x)
-    ∙ ap (λ t. old ++ t) (
-    ap (λ t. those ++ t) (sym (append-nil (f x))) ∙ sym (flat_map-append f (take i xs) (x ∷ []))
-    ∙ ap (λ y. flat_map f (take i xs ++ y ∷ [])) is
-    ∙ ap (flat_map f) (sym (take_more xs i x low)))
+taken_behind f xs i x old all more is low e piece =
+    let these = flat_map-append f (take i xs) (x ∷ []) in
+    cc (append_assoc old (flat_map f (take i xs)) (f x), append-nil (f x), take_more xs i x low)
 
 -- a slot is like itself
 pub alike_one : (is_listed : Sight → Bool) (first : ℕ) → AreAlike is_listed first (first + 1)

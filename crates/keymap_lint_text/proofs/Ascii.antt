@@ -84,11 +84,9 @@ last_bytes n bs h =
     ap pieces (sym (take-append-drop k bs))
     ∙ pieces-append (length (take k bs)) (take k bs) (drop k bs) (omega arith) (clean (drop k bs) h) in
     let read : lossy_chars bs ≡ lossy_chars (take k bs) ++ lossy_chars (drop k bs) =
-    ap (map (λ p. or_replacement p.char)) parted
-    ∙ map-append (λ p. or_replacement p.char) (pieces (take k bs)) (pieces (drop k bs)) in
+    cc (map-append (λ p. or_replacement p.char) (pieces (take k bs)) (pieces (drop k bs))) in
     let shown : shown_chars bs ≡ shown_chars (take k bs) ++ drop k bs =
-    ap (map shown_char) read ∙ map-append shown_char (lossy_chars (take k bs)) (lossy_chars (drop k bs))
-    ∙ ap (λ t. shown_chars (take k bs) ++ t) (shown_bytes (drop k bs) h) in
+    cc (map-append shown_char (lossy_chars (take k bs)) (lossy_chars (drop k bs)), shown_bytes (drop k bs) h) in
     ap (last n) shown ∙ at_seam n k bs (length bs) refl refl
   where
     at_seam : (n k : ℕ) (bs : List ℕ) (m : ℕ) → m ≡ length bs → k ≡ m - n

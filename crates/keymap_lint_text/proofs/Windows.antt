@@ -1,6 +1,6 @@
 -- The characters of a line, before a place and from it on.
 use Rattle.keymap_lint_text.proofs.Common.{◌≡◌, ◌⊎◌, inl, inr, ℕ, ◌+◌, ◌-◌, ◌≤◌, ◌<◌, nat_lt, List}
-use Rattle.keymap_lint_text.proofs.Common.{◌++◌, length, take, drop, map, ap, sym, ◌∙◌, arith}
+use Rattle.keymap_lint_text.proofs.Common.{◌++◌, length, take, drop, map, ap, ◌∙◌, arith}
 use Rattle.keymap_lint_text.proofs.Common.{length-append, length-drop, take_all, min}
 use Rattle.keymap_lint_text.proofs.Common.{take-append_seam, drop-append_seam, drop-append-le, cases_lt}
 use Rattle.keymap_lint_text.proofs.Common.{nat_tests, lines_of, excerpt, shown_before, without_cr, left_out, below}
@@ -22,9 +22,8 @@ same_test m n f g = grind (arith, nat_tests, f, g)
 -- of what stands behind, only so many are looked at
 reached : (n m : ℕ) (xs ys : List ℕ) → n ≤ length xs + m → take n (xs ++ take m ys) ≡ take n (xs ++ ys)
 reached n m xs ys h =
-    let whole : take (length xs + m) (xs ++ ys) ≡ xs ++ take m ys =
-    cc (take-add (length xs) m (xs ++ ys), take-append_seam xs ys, drop-append_seam xs ys) in
-    ap (take n) (sym whole) ∙ take-take n (length xs + m) (xs ++ ys) h
+    let less = take-take n (length xs + m) (xs ++ ys) h in
+    cc (take-add (length xs) m (xs ++ ys), take-append_seam xs ys, drop-append_seam xs ys)
 
 -- where the ones behind are all there, none of them is cut off
 reached_or_all : (n m : ℕ) (xs ys : List ℕ) → (m < length ys → n ≤ length xs + m)
@@ -92,5 +91,4 @@ both_lines before rest bs rs cs n r b e k =
     let front = shown_chars (shown_before before rest) in
     let behind = shown_chars (without_cr rest) in
     let whole : bs ≡ looked_before front behind = b ∙ ap (λ xs. last (reach (length xs)) front) r in
-    parted bs rs cs n e k ∙ ap (λ xs. lines_of xs rs) whole
-    ∙ ap (λ xs. lines_of (looked_before front behind) xs) r ∙ enough front behind
+    cc (parted bs rs cs n e k, enough front behind)

@@ -19,8 +19,7 @@ pieces_more f a (suc n) =
 pub pieces_on : {X : Type 0} (f : ℕ → List X) (n : ℕ)
     → flat_map f (range_with_len 0 (n + 1)) ≡ flat_map f (range_with_len 0 n) ++ f n
 pieces_on f n =
-    ap (λ k. flat_map f (range_with_len 0 k)) (add-one n) ∙ pieces_more f 0 n
-    ∙ ap (λ k. flat_map f (range_with_len 0 n) ++ f k) (omega arith)
+    let same : 0 + n ≡ n = omega arith in cc (add-one n, pieces_more f 0 n)
 
 -- what stands before, the pieces below a number, and the piece of that number behind these
 pub piece_behind : {X : Type 0} (f : ℕ → List X) (i : ℕ) (old all more : List X)

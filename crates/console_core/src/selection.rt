@@ -66,6 +66,7 @@ impl Selection {
     }
 
     /// Whether a press of the key sees it, where a pair's accent is pending.
+    #[inline(always)]
     pub fn sees(self, map: &KeyMap, key: KeyCode, sight: Sight) -> bool
         ensures seen { result ≡ true → SeesBy map.now self key sight }
         ensures unseen { result ≡ false → SeesBy map.now self key sight → ⊥ }
@@ -99,6 +100,7 @@ impl Selection {
     }
 
     /// The key of the slot, if its press sees it, where a pair's accent is pending.
+    #[inline(always)]
     fn slot_seeing(self, map: &KeyMap, slot: u8, sight: Sight) -> Option<KeyCode>
         ensures { MatchOption result
             ((k : ℕ) → k < key_count → slot_in self k ≡ slot → SeesBy map.now self k sight → ⊥)
@@ -126,6 +128,7 @@ impl Selection {
     }
 
     /// Whether a press of some key sees it, where a pair's accent is pending.
+    #[inline(always)]
     pub fn is_seeing(self, map: &KeyMap, sight: Sight) -> bool
         ensures seen { result ≡ true → (k : ℕ) × (k < key_count) × SeesBy map.now self k sight }
         ensures unseen { result ≡ false → (k : ℕ) → k < key_count → SeesBy map.now self k sight → ⊥ }

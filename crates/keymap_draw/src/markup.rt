@@ -33,7 +33,8 @@ pub(crate) fn push_character(text: &mut Vec<u8>, c: char) -> Added
     if is_referred(c) {
         return push_reference(text, c);
     }
-    text.extend_from_slice(&[c as u8])
+    text.push(c as u8)?;
+    Ok(())
 }
 
 /// Adds characters.

@@ -90,7 +90,7 @@ alock turns on by a key of the lower half that is a letter in the upper one: its
   $ parts
   # cells
   # one-way
-  $ grep '^# cells' script
+  $ grep '^# cells:' script
   # cells: 256, left out 0, never 1792
 
 A dead key that only a lock which stays on leads to, and a base that no key has behind it: each is looked up, and no list

@@ -11,15 +11,12 @@ pub map_step : {X : Type 0} (f : ℕ → X) (old xs ys : List X) (n : ℕ) (x : 
     → xs ≡ old ++ map f (range_with_len 0 n) → x ≡ f n → ys ≡ xs ++ x ∷ []
     → ys ≡ old ++ map f (range_with_len 0 (n + 1))
 map_step f old xs ys n x so_far is push =
-    push ∙ ap (λ z. z ++ x ∷ []) so_far ∙ append_assoc old (map f (range_with_len 0 n)) (x ∷ [])
-    ∙ ap (λ z. old ++ z) (ap (λ y. map f (range_with_len 0 n) ++ y ∷ []) is
-    ∙ sym (map-range_with_len_more f 0 n n (omega arith)))
+    cc (append_assoc old (map f (range_with_len 0 n)) (x ∷ []), map-range_with_len_more f 0 n n (omega arith))
 
 -- what the numbers below n give, and n gives
 pub gathered_step : {X : Type 0} (f : ℕ → List X) (xs ys more : List X) (n : ℕ)
     → xs ≡ gathered f n → more ≡ f n → ys ≡ xs ++ more → ys ≡ gathered f (n + 1)
-gathered_step f xs ys more n so_far is push =
-    push ∙ ap (λ z. z ++ more) so_far ∙ ap (λ z. gathered f n ++ z) is ∙ sym (gathered-more f n)
+gathered_step f xs ys more n so_far is push = cc (gathered-more f n)
 
 -- nothing so far
 pub gathered_start : {X : Type 0} (f : ℕ → List X) (xs : List X) → xs ≡ [] → xs ≡ gathered f 0
@@ -29,8 +26,7 @@ gathered_start f xs h = h ∙ sym (gathered-none f)
 pub gathered_step_behind : {X : Type 0} (f : ℕ → List X) (old xs ys more : List X) (n : ℕ)
     → xs ≡ old ++ gathered f n → more ≡ f n → ys ≡ xs ++ more → ys ≡ old ++ gathered f (n + 1)
 gathered_step_behind f old xs ys more n so_far is push =
-    push ∙ ap (λ z. z ++ more) so_far ∙ append_assoc old (gathered f n) more
-    ∙ ap (λ z. old ++ z) (ap (λ z. gathered f n ++ z) is ∙ sym (gathered-more f n))
+    cc (append_assoc old (gathered f n) more, gathered-more f n)
 
 pub gathered_start_behind : {X : Type 0} (f : ℕ → List X) (old : List X) → old ≡ old ++ gathered f 0
 gathered_start_behind f old = sym (append-nil old) ∙ ap (λ z. old ++ z) (sym (gathered-none f))

@@ -1,9 +1,10 @@
 -- Where no cell is a dead key of an accent that isn't defined, no accent is missing.
-use Rattle.keymap_lint.proofs.Common.{◌≡◌, ℕ, Bool, true, false, List, [], ◌∷◌, ◌++◌, None, Some, Option, cond, refl}
+use Rattle.keymap_lint.proofs.Common.{◌≡◌, ℕ, Bool, true, false, List, [], ◌∷◌, None, Some, Option, cond, refl}
 use Rattle.keymap_lint.proofs.Common.{ap, sym, ◌∙◌, arith, ◌&&◌, not, find, gathered, Spelled, is_missing, is_given}
 use Rattle.keymap_lint.proofs.Common.{is_defined, missing_accent}
-use Rattle.std.proofs.Common.{zero, suc, ◌||◌}
+use Rattle.std.proofs.Common.{zero, suc}
 use Rattle.std.specs.Option.{is_some}
+use Rattle.std.proofs.Math.Bool.{and-false}
 use Rattle.std.proofs.lemmas.Bool.Decides.{nat_tests}
 use Rattle.keymap_lint.specs.declared.cells.CellInForce.{CellInForce}
 use Rattle.keymap_lint.specs.Kinds.{is_the, is_missing_of, live_accent}
@@ -11,10 +12,6 @@ use Rattle.keymap_lint.specs.Kinds.{is_the, is_missing_of, live_accent}
 defined_there : (b : Bool) → not b ≡ false → b ≡ true
 defined_there true h = refl
 defined_there false h = sym h
-
-no_more : (b : Bool) → b && false ≡ false
-no_more true = refl
-no_more false = refl
 
 -- an accent that a cell gives, and that isn't missing there, is defined
 given_defined : (t : Spelled) (i : ℕ) (o : Option ℕ) → is_the i o ≡ true → is_missing_of t o ≡ false
@@ -35,23 +32,21 @@ not_given t i o found undefined = go (is_the i o) refl
 none_given : (t : Spelled) (cells : List CellInForce) (i : ℕ) → find (is_missing t) cells ≡ None
     → is_defined t i ≡ false → is_given t cells i ≡ false
 none_given t [] i none undefined = refl
-none_given t (c ∷ cells) i none undefined = go (is_missing t c) refl (λ n. none_given t cells i n undefined)
+none_given t (c ∷ cells) i none undefined =
+    go (is_missing t c) refl none (λ n. none_given t cells i n undefined)
   where
-    go : (b : Bool) → is_missing t c ≡ b → (find (is_missing t) cells ≡ None → is_given t cells i ≡ false)
-        → is_given t (c ∷ cells) i ≡ false
-    go true e later =
-        let h : Some c ≡ None = sym (ap (λ b. cond b (Some c) (find (is_missing t) cells)) e) ∙ none in cc
-    go false e later =
-        ap (λ b. b || is_given t cells i) (not_given t i (live_accent t c) e undefined)
-        ∙ later (sym (ap (λ b. cond b (Some c) (find (is_missing t) cells)) e) ∙ none)
+    go : (b : Bool) → is_missing t c ≡ b → cond b (Some c) (find (is_missing t) cells) ≡ None
+        → (find (is_missing t) cells ≡ None → is_given t cells i ≡ false) → is_given t (c ∷ cells) i ≡ false
+    go true e none later = absurd (cc)
+    go false e none later = simp (not_given t i (live_accent t c) e undefined) (later none)
 
 missing_not : (t : Spelled) (cells : List CellInForce) (i : ℕ) → find (is_missing t) cells ≡ None
     → missing_accent t cells i ≡ []
 missing_not t cells i none = ap (λ b. cond b (i ∷ []) []) (go (is_defined t i) refl)
   where
     go : (b : Bool) → is_defined t i ≡ b → is_given t cells i && not (is_defined t i) ≡ false
-    go true e = ap (λ d. is_given t cells i && not d) e ∙ no_more (is_given t cells i)
-    go false e = ap (λ g. g && not (is_defined t i)) (none_given t cells i none e)
+    go true e = simp (e, and-false)
+    go false e = simp (none_given t cells i none e)
 
 -- none of the accents
 pub missing_none : (t : Spelled) (cells : List CellInForce) (n : ℕ) → find (is_missing t) cells ≡ None
@@ -59,7 +54,7 @@ pub missing_none : (t : Spelled) (cells : List CellInForce) (n : ℕ) → find (
 unfolding gathered
 missing_none t cells zero none = refl
 missing_none t cells (suc n) none =
-    ap (λ xs. xs ++ missing_accent t cells n) (missing_none t cells n none) ∙ missing_not t cells n none
+    simp (missing_none t cells n none, missing_not t cells n none)
 
 -- what isn't there is none
 pub no_some : {X : Type 0} (o : Option X) → is_some o ≡ false → o ≡ None

@@ -1,7 +1,7 @@
 -- The diagnostics stand in the text, at what they tell of.
 use Rattle.keymap_lint.proofs.Common.{◌≡◌, ℕ, ◌+◌, ◌<◌, ◌≤◌, Bool, true, false, ◌&&◌, not, cond, List, [], ◌∷◌, ◌++◌}
 use Rattle.keymap_lint.proofs.Common.{length, map, take, get_or, refl, sym, ◌∙◌, ap, subst, arith, Option, Some, None}
-use Rattle.keymap_lint.proofs.Common.{find, flat_map, range_with_len, true≢false, get_or-map-range_with_len, Slot}
+use Rattle.keymap_lint.proofs.Common.{find, flat_map, true≢false, get_or-map-range_with_len, Slot}
 use Rattle.keymap_lint.proofs.Common.{Placed, Diagnostic, Faulty, gathered, MapValue, last_of, mixed_key, selects}
 use Rattle.keymap_lint.proofs.Common.{again, is_missing, is_defined, zero_accent, is_given, pair_again, accent_pairs}
 use Rattle.keymap_lint.proofs.Common.{has_base, is_above_in_force, digit, Spelled, cell_in, cells_of}
@@ -134,10 +134,13 @@ all_gathered P f h (suc n) = All-append P (gathered f n) (f n) (all_gathered P f
 all_one : {Y : Type 0} (P : Y → Type 0) (y : Y) → P y → All P (y ∷ [])
 all_one P y h = All-cons P y [] h (All-nil P)
 
+all_either : {X : Type 0} (P : X → Type 0) (b : Bool) (x y : X) → P x → P y → P (cond b x y)
+all_either P true x y h k = h
+all_either P false x y h k = k
+
 -- what is said only if the test says so
 all_if : {Y : Type 0} (P : Y → Type 0) (b : Bool) (y : Y) → P y → All P (option_to_list (cond b (Some y) None))
-all_if P true y h = all_one P y h
-all_if P false y h = All-nil P
+all_if P b y h = all_either (λ o. All P (option_to_list o)) b (Some y) None (all_one P y h) (All-nil P)
 
 pub cells_in_force_are_spelled : CellsInForceAreSpelled
 cells_in_force_are_spelled text m rows by =
@@ -154,19 +157,15 @@ cells_in_force_are_spelled text m rows by =
     in_force p slot (Some q) e f = (q, e, eqb-true q.first p.first f)
     in_force p slot None e f = absurd (true≢false (sym f))
 
-    of_slot : (p : Placed) (slot first : ℕ) → is_last p (last_of (Slot slot) t.definitions) ≡ true → p.first ≡ first
-        → All IsThere (map (cell_in t slot first) (range_with_len 0 8))
-    of_slot p slot first f g =
-        let q = in_force p slot (last_of (Slot slot) t.definitions) refl f in
-        λ k d l.
-        let few : k < 8 = omega (arith, l, length-map-range_with_len (cell_in t slot first) 0 8) in
-        let here = spelled_at text m rows by slot q.0 q.1 k few in
-        subst IsThere (sym (get_or-map-range_with_len (cell_in t slot first) 0 8 k k d few (omega arith)))
-        (subst (λ (n : ℕ). SpellsCell text (offset_at t (n + (1 + k))) (cell_at m slot k)) (q.2 ∙ g) here)
-
     of_what : (p : Placed) (w : Defined) → is_last p (last_of w t.definitions) ≡ true
         → All IsThere (cells_defined t w p.first)
-    of_what p (Slot slot) f = of_slot p slot p.first f refl
+    of_what p (Slot slot) f =
+        let q = in_force p slot (last_of (Slot slot) t.definitions) refl f in
+        λ k d l.
+        let few : k < 8 = omega (arith, l, length-map-range_with_len (cell_in t slot p.first) 0 8) in
+        subst IsThere (sym (get_or-map-range_with_len (cell_in t slot p.first) 0 8 k k d few (omega arith)))
+        (subst (λ (n : ℕ). SpellsCell text (offset_at t (n + (1 + k))) (cell_at m slot k)) q.2
+        (spelled_at text m rows by slot q.0 q.1 k few))
     of_what p (Accent i) f = All-nil IsThere
 
     of_one : (p : Placed) → Unit {0} → All IsThere (cells_of t p)
@@ -194,12 +193,10 @@ find_all : {X : Type 0} (P : X → Type 0) (p : X → Bool) (xs : List X) → Al
 find_all P p [] all x e = absurd (cc)
 find_all {X} P p (y ∷ ys) all x e = go (p y) refl (find_all P p ys (All-tail P y ys all) x) e
   where
-    go : (b : Bool) → p y ≡ b → (find p ys ≡ Some x → P x × (p x ≡ true))
-        → cond (p y) (Some y) (find p ys) ≡ Some x → P x × (p x ≡ true)
-    go true f later e =
-        let s : Some y ≡ Some x = sym (ap (λ b. cond b (Some y) (find p ys)) f) ∙ e in
-        let same : y ≡ x = cc in (subst P same (All-head P y ys all), sym (ap p same) ∙ f)
-    go false f later e = later (sym (ap (λ b. cond b (Some y) (find p ys)) f) ∙ e)
+    go : (b : Bool) → p y ≡ b → (find p ys ≡ Some x → P x × (p x ≡ true)) → cond b (Some y) (find p ys) ≡ Some x
+        → P x × (p x ≡ true)
+    go true f later e = let same : y ≡ x = cc in (subst P same (All-head P y ys all), cc (ap p same))
+    go false f later e = later e
 
 all_of_text : (text : List ℕ) (m : MapValue) (rows : List Row) → IsSpelledBy text m rows → (fs : List Finding)
     → All (IsFinding m) fs
@@ -209,7 +206,10 @@ all_of_text text m rows by fs are =
     (join (of_keys t cells fs) (of_definitions t cells)
     (join ((no_key m ++ no_shift m) ++ mixed_keys t fs) (half_defined t cells fs)
     (join (no_key m ++ no_shift m) (mixed_keys t fs)
-    (join (no_key m) (no_shift m) (keyless (has_keys m)) (shiftless (has_keys m && not (has_shift m))))
+    (join (no_key m) (no_shift m)
+    (all_either (All S) (has_keys m) [] (nowhere kinds.NoKey ∷ []) (All-nil S) (all_one S _ ((tt, tt), tt)))
+    (all_either (All S) (has_keys m && not (has_shift m)) (nowhere kinds.NoShift ∷ []) []
+    (all_one S _ ((tt, tt), tt)) (All-nil S)))
     (all_flat S (IsFinding m) (mixed_key t fs) mixed fs are))
     (halves (is_some_in (missing_slots t)) (is_some_in (nul_keys t fs)) (is_some_in (mixed_keys t fs))
     (find (selects t) cells) refl))
@@ -244,14 +244,6 @@ all_of_text text m rows by fs are =
 
     join : (xs ys : List Diagnostic) → All S xs → All S ys → All S (xs ++ ys)
     join xs ys h k = All-append S xs ys h k
-
-    keyless : (b : Bool) → All S (cond b [] (nowhere kinds.NoKey ∷ []))
-    keyless true = All-nil S
-    keyless false = all_one S (nowhere kinds.NoKey) ((tt, tt), tt)
-
-    shiftless : (b : Bool) → All S (cond b (nowhere kinds.NoShift ∷ []) [])
-    shiftless true = all_one S (nowhere kinds.NoShift) ((tt, tt), tt)
-    shiftless false = All-nil S
 
     -- the place of a cell lies in the text
     low : (place : ℕ) (x : Cell) → SpellsCell text place x → place ≤ length text
@@ -299,14 +291,10 @@ all_of_text text m rows by fs are =
 
     againby : (p : Placed) (o : Option Placed) → All S (option_to_list (again_by t p o))
     againby p None = All-nil S
-    againby p (Some q) = go (q.first == p.first)
-      where
-        d : Diagnostic
-        d = at (offset_at t p.first) (kinds.DefinedAgain p.what (offset_at t q.first))
-
-        go : (b : Bool) → All S (option_to_list (cond b None (Some d)))
-        go true = All-nil S
-        go false = all_one S d ((w p.first, w q.first), tt)
+    againby p (Some q) =
+        let d = at (offset_at t p.first) (kinds.DefinedAgain p.what (offset_at t q.first)) in
+        all_either (λ o. All S (option_to_list o)) (q.first == p.first) None (Some d) (All-nil S)
+        (all_one S d ((w p.first, w q.first), tt))
 
     dead : (o : Option CellInForce) → find (is_missing t) cells ≡ o → All S (dead_key_by t o)
     dead None e = All-nil S

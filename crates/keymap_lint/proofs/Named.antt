@@ -10,7 +10,7 @@ use Rattle.std.proofs.Common.{◌↔◌, ◌-◌, ◌||◌, inl, inr, ◌==◌}
 use Rattle.std.specs.List.{list_any, Any}
 use Rattle.std.specs.Option.{is_some, option_or, option_to_list}
 use Rattle.std.specs.Prelude.{nat_lt}
-use Rattle.std.proofs.lemmas.Bool.{or_cases, or_left, or_right, or_from, and_parts, lt-ltb, le-ltb, eqb-true}
+use Rattle.std.proofs.lemmas.Bool.{or_cases, or_left, or_right, and_parts, lt-ltb, le-ltb, eqb-true}
 use Rattle.std.proofs.lemmas.Bool.{eq-eqb, cases_Bool}
 use Rattle.std.proofs.lemmas.List.{get_or-replicate, length-append}
 use Rattle.std.proofs.lemmas.List.Elements.{All-head}
@@ -25,8 +25,8 @@ use Rattle.keymap_text.proofs.InForce.{no_slot}
 use Rattle.keymap_text.proofs.Verdicts.{one_map, not_both}
 use Rattle.keymap_lint.specs.Types.{Diagnostics, Spelled as OfSpelled, Holding, Cell, Char, Act, Finding, Defined}
 use Rattle.keymap_lint.specs.Types.{Accent, CellInForce}
-use Rattle.keymap_lint.specs.Kinds.{is_zero, at, defines, is_mixed, mixed_by, mixed_keys, nul_keys, character_of}
-use Rattle.keymap_lint.specs.Kinds.{is_greatest, other_slot, missing_slots, selector, selector_of, half_at}
+use Rattle.keymap_lint.specs.Kinds.{is_zero, defines, is_mixed, mixed_by, mixed_keys, nul_keys}
+use Rattle.keymap_lint.specs.Kinds.{other_slot, missing_slots, selector, selector_of, half_at}
 use Rattle.keymap_lint.specs.Kinds.{half_by, half_defined, is_some_in, no_key, no_shift, dead_key}
 use Rattle.keymap_lint.specs.Kinds.{unused_half, again_by, digit_by, zero_by}
 use Rattle.keymap_lint.specs.Kinds.{pair_by, pairs_by, has_keys, has_shift, unused_by, dead_key_by, base_at}
@@ -41,11 +41,10 @@ use Rattle.keymap_core.proofs.Below.{gathered-more, gathered-le}
 use Rattle.keymap_core.proofs.BorneTests.{upper-is_live}
 use Rattle.keymap_check.specs.declared.finding.Place.{Place}
 use Rattle.keymap_text.specs.Placed.{is_same}
-use Rattle.keymap_lint.specs.Spelled.{offset_at, cells_in_force, content}
+use Rattle.keymap_lint.specs.Spelled.{cells_in_force, content}
 use Rattle.keymap_core.specs.declared.action.Action.TheVariants as act
 use Rattle.keymap_core.specs.declared.action.Modifier.TheVariants as modifier
 use Rattle.keymap_core.specs.declared.action.Lock.TheVariants as lock
-use Rattle.keymap_lint.specs.declared.diagnostic.Kind.TheVariants as kinds
 
 -- whether a diagnostic names a key
 abbrev pub names : Diagnostic → Bool
@@ -56,27 +55,21 @@ names d = names_a_key d.kind
 pub any_flat : {X Y : Type 0} (p : Y → Bool) (f : X → List Y) (xs : List X) → list_any (λ x. list_any p (f x)) xs ≡ true
     → list_any p (flat_map f xs) ≡ true
 any_flat p f [] h = absurd (true≢false (sym h))
-any_flat p f (x ∷ xs) h =
-    list_any-append p (f x) (flat_map f xs)
-    ∙ elim (or_cases (list_any p (f x)) (list_any (λ x. list_any p (f x)) xs) h) [
-      | inl e ↦ or_left (list_any p (f x)) (list_any p (flat_map f xs)) e
-      | inr e ↦ or_right (list_any p (f x)) (list_any p (flat_map f xs)) (any_flat p f xs e)
-    ]
+any_flat p f (x ∷ xs) h = elim (or_cases (list_any p (f x)) (list_any (λ x. list_any p (f x)) xs) h) [
+  | inl e ↦ simp (list_any-append, e)
+  | inr e ↦ simp (list_any-append, any_flat p f xs e, or-true)
+]
 
 pub none_flat : {X Y : Type 0} (p : Y → Bool) (f : X → List Y) → ((x : X) → list_any p (f x) ≡ false) → (xs : List X)
     → list_any p (flat_map f xs) ≡ false
 none_flat p f h [] = refl
-none_flat p f h (x ∷ xs) =
-    list_any-append p (f x) (flat_map f xs)
-    ∙ or_from (list_any p (f x)) (list_any p (flat_map f xs)) (h x) (none_flat p f h xs)
+none_flat p f h (x ∷ xs) = simp (list_any-append, h x, none_flat p f h xs)
 
 pub none_gathered : {Y : Type 0} (p : Y → Bool) (f : ℕ → List Y) → ((n : ℕ) → list_any p (f n) ≡ false) → (n : ℕ)
     → list_any p (gathered f n) ≡ false
 unfolding gathered
 none_gathered p f h zero = refl
-none_gathered p f h (suc n) =
-    list_any-append p (gathered f n) (f n)
-    ∙ or_from (list_any p (gathered f n)) (list_any p (f n)) (none_gathered p f h n) (h n)
+none_gathered p f h (suc n) = simp (list_any-append, none_gathered p f h n, h n)
 
 -- an element that passes is found
 find_some : {X : Type 0} (p : X → Bool) (xs : List X) → list_any p xs ≡ true
@@ -138,23 +131,15 @@ same_slot (Accent i) slot e = absurd (true≢false (sym e))
 
 -- ---- a finding names a key
 
-first_true : (a b : Bool) → (a && b) ≡ true → a ≡ true
-first_true a b h = (and_parts a b h).0
-
 -- both slots of the finding are defined
 mixed_names : (t : Spelled) (fs : List Finding) (f : Finding) → is_mixed t f ≡ true
     → list_any names (mixed_key t fs f) ≡ true
 mixed_names t fs f h =
     go (last_of (Slot f.holding_at.slot) t.definitions)
-    (first_true (defines t f.holding_at.slot) (defines t f.character_at.slot) h)
+    (and_parts (defines t f.holding_at.slot) (defines t f.character_at.slot) h).0
   where
-    told : Placed → Diagnostic
-    told p =
-        at (offset_at t (p.first + (1 + f.holding_at.column))) (kinds.MixedKey f
-        (character_of (cell_at t.map f.character_at.slot f.character_at.column)) (is_greatest t fs f.key))
-
     go : (o : Option Placed) → is_some o ≡ true → list_any names (option_to_list (mixed_by t fs f o)) ≡ true
-    go (Some p) e = ap (λ b. list_any names (option_to_list (cond b (Some (told p)) None))) h
+    go (Some p) e = simp h
     go None e = absurd (true≢false (sym e))
 
 -- ashift or alock in a slot below 128 is a cell that selects

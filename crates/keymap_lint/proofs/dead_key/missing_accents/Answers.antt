@@ -1,4 +1,4 @@
-use Rattle.keymap_lint.proofs.Common.{◌≡◌, arith, ap, length, cond, [], ◌∷◌, sym, ◌∙◌, not, array_vec_len}
+use Rattle.keymap_lint.proofs.Common.{arith, ap, length, sym, ◌∙◌, not}
 use Rattle.keymap_lint.proofs.Common.{missing_accent}
 use Rattle.keymap_lint.proofs.Lists.{gathered_start, gathered_step}
 use Rattle.keymap_lint.proofs.Missing.{missing_none, no_some}
@@ -6,10 +6,9 @@ use Rattle.keymap_lint.proofs.dead_key.missing_accents.Goals as goal
 
 pub loop-accent-init : goal.loop-accent-init
 loop-accent-init c =
-    let e : array_vec_len c.new-accents.result ≡ 0 = ap length c.new-accents.ensures in
     record {
       found = gathered_start (missing_accent c.args.text.now c.args.cells.now) _ c.new-accents.ensures;
-      room = omega (arith, e);
+      room = omega (arith, ap length c.new-accents.ensures);
     }
 
 pub loop-accent-preserved : goal.loop-accent-preserved
@@ -18,7 +17,7 @@ loop-accent-preserved c =
       found =
           gathered_step (missing_accent c.args.text.now c.args.cells.now) c.loop-accent.accents.items _ _
           c.loop-accent.accent c.loop-accent.invariant.found
-          (ap (λ b. cond b (c.loop-accent.accent ∷ []) []) c.is_absent.ensures) c.push_if.ensures.items;
+          (simp c.is_absent.ensures) c.push_if.ensures.items;
       room = omega (arith, c.push_if.ensures.room, c.loop-accent.invariant.room);
     }
 

@@ -1,4 +1,4 @@
-use Rattle.keymap_lint.proofs.Common.{◌≡◌, arith, ap, length, cond, [], ◌∷◌, array_vec_len, missing_slot}
+use Rattle.keymap_lint.proofs.Common.{◌≡◌, arith, ap, length, array_vec_len, missing_slot}
 use Rattle.keymap_lint.proofs.Lists.{gathered_start, gathered_step}
 use Rattle.keymap_lint.proofs.half_defined.undefined_halves.Goals as goal
 
@@ -13,6 +13,6 @@ loop-number-preserved c =
       found =
           gathered_step (missing_slot c.args.text.now) c.loop-number.slots.items _ _
           c.loop-number.number c.loop-number.invariant.found
-          (ap (λ b. cond b (c.loop-number.number ∷ []) []) c.is_missing.ensures) c.push_if.ensures.items;
+          (simp c.is_missing.ensures) c.push_if.ensures.items;
       room = omega (arith, c.push_if.ensures.room, c.loop-number.invariant.room);
     }

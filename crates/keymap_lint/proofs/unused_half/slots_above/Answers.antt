@@ -1,12 +1,14 @@
-use Rattle.keymap_lint.proofs.Common.{◌≡◌, arith, ap, length, cond, [], ◌∷◌, ◌+◌, array_vec_len}
+use Rattle.keymap_lint.proofs.Common.{arith, ap, length}
 use Rattle.keymap_lint.specs.Kinds.{slot_above}
 use Rattle.keymap_lint.proofs.Lists.{gathered_start, gathered_step}
 use Rattle.keymap_lint.proofs.unused_half.slots_above.Goals as goal
 
 pub loop-key-init : goal.loop-key-init
 loop-key-init c =
-    let e : array_vec_len c.new-slots.result ≡ 0 = ap length c.new-slots.ensures in
-    record { found = gathered_start (slot_above c.args.text.now) _ c.new-slots.ensures; room = omega (arith, e) }
+    record {
+      found = gathered_start (slot_above c.args.text.now) _ c.new-slots.ensures;
+      room = omega (arith, ap length c.new-slots.ensures);
+    }
 
 pub loop-key-preserved : goal.loop-key-preserved
 loop-key-preserved c =
@@ -14,6 +16,6 @@ loop-key-preserved c =
       found =
           gathered_step (slot_above c.args.text.now) c.loop-key.slots.items _ _ c.loop-key.key
           c.loop-key.invariant.found
-          (ap (λ b. cond b ((c.loop-key.key + 128) ∷ []) []) c.defines.ensures) c.push_if.ensures.items;
+          (simp c.defines.ensures) c.push_if.ensures.items;
       room = omega (arith, c.push_if.ensures.room, c.loop-key.invariant.room);
     }

@@ -136,7 +136,11 @@ fn plans_visits<W: Write>(alloc: Global, marks: &mut W) -> Result<Outcome, Alloc
     mark(marks);
     let given = Planner::new(alloc, &map);
     mark(marks);
-    Ok(ended_keeping(given.map(|planner| planner.is_some()), map == twin))
+    let made = match given {
+        Ok(planner) => Ok(planner.is_some()),
+        Err(error) => Err(error),
+    };
+    Ok(ended_keeping(made, map == twin))
 }
 
 /// A visit that composes an accent with a letter.

@@ -5,17 +5,13 @@ use Rattle.keymap_lint.proofs.unused_half.slots_above.Goals as goal
 
 pub loop-key-init : goal.loop-key-init
 loop-key-init c =
-    record {
-      found = gathered_start (slot_above c.args.text.now) _ c.new-slots.ensures;
-      room = omega (arith, ap length c.new-slots.ensures);
-    }
+    let e = ap length c.new-slots.ensures in
+    record { found = gathered_start (slot_above c.args.text.now) _ c.new-slots.ensures; room = omega (arith, e) }
 
 pub loop-key-preserved : goal.loop-key-preserved
-loop-key-preserved c =
-    record {
-      found =
-          gathered_step (slot_above c.args.text.now) c.loop-key.slots.items _ _ c.loop-key.key
-          c.loop-key.invariant.found
-          (simp c.defines.ensures) c.push_if.ensures.items;
-      room = omega (arith, c.push_if.ensures.room, c.loop-key.invariant.room);
-    }
+loop-key-preserved c = record {
+  found =
+      gathered_step (slot_above c.args.text.now) c.loop-key.slots.items _ _ c.loop-key.key
+      c.loop-key.invariant.found (simp c.defines.ensures) c.push_if.ensures.items;
+  room = omega (arith, c.push_if.ensures.room, c.loop-key.invariant.room);
+}

@@ -122,7 +122,7 @@ last_among what (d ∷ ds) q e = go (last_of what ds) (is_same d.what what) refl
     go (Some r) b s later e = ((later e).0, λ p h. or_right (p d) (list_any p ds) ((later e).1 p h))
     go None true s later e =
         let same : d ≡ q = cc in
-        (subst (λ (x : Placed). is_same x.what what ≡ true) same s, λ p h. or_left (p d) (list_any p ds) (ap p same ∙ h))
+        ((simp same at s), λ p h. or_left (p d) (list_any p ds) (ap p same ∙ h))
     go None false s later e = absurd (cc)
 
 same_slot : (w : Defined) (slot : ℕ) → is_same w (Slot slot) ≡ true → w ≡ Slot slot

@@ -434,7 +434,8 @@ quiet-after u h s i k x holds n lt =
     ])
 
 -- presses, releases and, where there are any, loads
-sent-release : (u : Under) (o : Option ℕ) (h : List Event) → All (IsSent u.has_loads) h → All (IsSent u.has_loads) (release_of o ++ h)
+sent-release : (u : Under) (o : Option ℕ) (h : List Event) → All (IsSent u.has_loads) h
+    → All (IsSent u.has_loads) (release_of o ++ h)
 sent-release u None h x = x
 sent-release u (Some k) h x = All-cons (IsSent u.has_loads) (Release k) h tt x
 

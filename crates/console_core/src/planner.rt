@@ -312,7 +312,8 @@ impl<'m> Planner<'m> {
         }
     }
 
-    /// What picks the cells where the next visit leads, and the key that is pressed there, if others may be tapped before.
+    /// What picks the cells where the next visit leads, and the key that is pressed there, if others may be tapped
+    /// before.
     pub fn next_press(&self) -> Option<(Selection, KeyCode)> {
         match &self.aim {
             Some(Aim { at, dead: None, .. }) => {

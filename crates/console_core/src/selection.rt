@@ -114,8 +114,8 @@ impl Selection {
         }
     }
 
-    /// A key whose press sees it, where a pair's accent is pending. Of a cell or a lock setting only the key of the slot
-    /// can.
+    /// A key whose press sees it, where a pair's accent is pending. Of a cell or a lock setting only the key of the
+    /// slot can.
     #[inline(always)]
     pub fn key_seeing(self, map: &KeyMap, sight: Sight) -> Option<KeyCode>
         ensures { MatchOption result ((k : ℕ) → k < key_count → SeesBy map.now self k sight → ⊥)

@@ -2,9 +2,9 @@
 use Rattle.keymap_check.proofs.Common.{zero, suc, ◌≡◌, ℕ, ◌<◌, Bool, true, false, List, [], ◌∷◌, ◌++◌, Option, Some}
 use Rattle.keymap_check.proofs.Common.{None, refl, ap, sym, ◌∙◌, if◌then◌else◌, reverse, All, All-append, All-nil}
 use Rattle.keymap_check.proofs.Common.{All-cons, true≢false, key_at, Modifier, Event, Press, Release, Reset, Load}
-use Rattle.keymap_check.proofs.Common.{MapValue, gathered, on, Maps, between, is_on_after, HasKey, findings_at, bit_keys}
-use Rattle.keymap_check.proofs.Common.{event_if, event_at, events_of, script, is_chosen, scripts_for, has_some}
-use Rattle.keymap_check.proofs.Common.{tried_at, tried, leaves_modifier_on}
+use Rattle.keymap_check.proofs.Common.{MapValue, gathered, on, Maps, between, is_on_after, HasKey, findings_at}
+use Rattle.keymap_check.proofs.Common.{bit_keys, event_if, event_at, events_of, script, is_chosen, scripts_for}
+use Rattle.keymap_check.proofs.Common.{has_some, tried_at, tried, leaves_modifier_on}
 use Rattle.std.proofs.lemmas.List.Elements.{All-weaker}
 use Rattle.keymap_core.specs.Actions.{modifiers}
 use Rattle.console_core.specs.History.{IsNoLoad, HasNoLoads}

@@ -174,7 +174,8 @@ any-left : (k : ℕ) (fs : List Finding) (f : Finding) → Any (λ g. g.key ≡ 
 any-left k fs f (i, g, lt, at, is) = (i, g, grind (arith, common_steps), grind (arith, common_steps), is)
 
 -- one key more, which has no finding
-quiet-more : (m : MapValue) (n : ℕ) (fs : List Finding) → AreBelow m n fs → (IsUnsafeKey m n → ⊥) → AreBelow m (suc n) fs
+quiet-more : (m : MapValue) (n : ℕ) (fs : List Finding) → AreBelow m n fs → (IsUnsafeKey m n → ⊥)
+    → AreBelow m (suc n) fs
 quiet-more m n fs b safe = record {
   each = b.each;
   below = still-below n fs b.below;

@@ -49,7 +49,8 @@ fn trials_along<'t, 'm, T: Translator>(
     Ok(trials.events)
 }
 
-/// Whether it is tried together with locks: not the scroll lock, and of left and right, which pick cells alike, the left.
+/// Whether it is tried together with locks: not the scroll lock, and of left and right, which pick cells alike, the
+/// left.
 fn is_tried_with_locks(holding: Holding) -> bool {
     !matches!(
         holding,
@@ -165,7 +166,8 @@ impl<'t, 'm, T: Translator> Trials<'t, 'm, T> {
         Ok(())
     }
 
-    /// Keys that look up two kinds of cells with and without the modifier that this key holds, kinds that weren't tried.
+    /// Keys that look up two kinds of cells with and without the modifier that this key holds, kinds that weren't
+    /// tried.
     fn try_columns(
         &mut self,
         done: &mut Vec<(Kind, Kind)>,

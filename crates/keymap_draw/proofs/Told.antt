@@ -233,7 +233,8 @@ on_board board k h on =
 mapped : {A B : Type 0} (f : A → B) (xs : List A) (x : A) → Contains xs x → Contains (map f xs) (f x)
 mapped f [] x (i, l, e) = absurd (omega (arith, l))
 mapped f (y ∷ xs) x (zero, l, e) = (zero, omega arith, ap f e)
-mapped f (y ∷ xs) x (suc i, l, e) = let (j, m, g) = mapped f xs x (i, omega (arith, l), e) in (suc j, omega (arith, m), g)
+mapped f (y ∷ xs) x (suc i, l, e) =
+    let (j, m, g) = mapped f xs x (i, omega (arith, l), e) in (suc j, omega (arith, m), g)
 
 in_half : (d : Drawing) (half : Half) (k : ℕ) → k < 128 → (is_on d.board k || is_other d half k) ≡ true
     → Contains (told_in d half) (key_definition d.map half k)

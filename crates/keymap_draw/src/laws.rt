@@ -60,8 +60,8 @@ pub fn classes_are_of_a_list()
         → All IsClass (option_to_list (key_class fs slot e)) }
 {}
 
-/// What the title of a key tells is its line of the printed form, without the blanks that fill its cells to columns, and
-/// what that of an accent tells is its line.
+/// What the title of a key tells is its line of the printed form, without the blanks that fill its cells to columns,
+/// and what that of an accent tells is its line.
 #[tactic(auto, using(crate::proofs::ToldTwice::line_laws))]
 pub fn titles_are_printed_lines()
     ensures line { (slot : ℕ) (e : EntryValue) → key_line slot e ≡ line column slot e ++ codes "\n" }

@@ -61,6 +61,10 @@ pub adds_more : (file text : List ℕ) (l : Diagnostics) (ds : List Diagnostic) 
 adds_more file text l ds d i old mid new within is p q =
     let more : flat_map (of_diagnostic l) (take (i + 1) ds)
     ≡ flat_map (of_diagnostic l) (take i ds) ++ of_diagnostic l d =
-    cc (take_more ds i d within, flat_map-append (of_diagnostic l) (take i ds) (d ∷ []), append-nil (of_diagnostic l d)) in
+    cc (
+      take_more ds i d within,
+      flat_map-append (of_diagnostic l) (take i ds) (d ∷ []),
+      append-nil (of_diagnostic l d),
+    ) in
     subst (λ es. Adds file text es old new) (sym more)
     (adds_both file text (flat_map (of_diagnostic l) (take i ds)) (of_diagnostic l d) old mid new p q)

@@ -26,7 +26,8 @@ loop-place-smaller c =
     let es = c.loop-place.states.entries in
     let met = c.args.met.now.entries in
     let few : length es ≤ length met =
-    behind-few (under_of c.args.maps.now) c.args.accent met es c.requires.searched c.loop-place.invariant.seeds c.len.ensures.unique in
+    behind-few (under_of c.args.maps.now) c.args.accent met es c.requires.searched c.loop-place.invariant.seeds
+    c.len.ensures.unique in
     let lt : c.loop-place.place < length es = omega (arith, c.loop-place-test.true, c.len.ensures.len) in
     omega (arith, few, lt)
 

@@ -11,10 +11,12 @@ returns-in_ok-longer-in-Some-get-clause-home c =
     let step : IsStep u s n x = subst (λ o. IfSome o (IsStep u s n)) c.in-Some.is is in
     subst (λ moves. LeadsHome u s moves) (sym c.in_ok-longer-in-Some-get.ensures)
     (step-home u s n x c.in-Some-get.route.now.moves.items step
-    (found-by_state (λ t r. LeadsHome u t r.moves.items) c.args.routes.now.entries x.to _ all (sym c.get.ensures.value ∙ ap option_copied c.in-Some-get.is)))
+    (found-by_state (λ t r. LeadsHome u t r.moves.items) c.args.routes.now.entries x.to _ all
+    (sym c.get.ensures.value ∙ ap option_copied c.in-Some-get.is)))
 
 pub returns-in-None-get-clause-astray : goal.returns-in-None-get-clause-astray
 returns-in-None-get-clause-astray c =
     λ none.
     subst (λ o. IfSome o (λ x. HasRoute c.args.routes.now.entries (state_of x.to) → ⊥)) (sym c.in-Some.is)
-    (none-found c.args.routes.now.entries c.in-Some.step.to (sym c.get.ensures.value ∙ ap option_copied c.in-None-get.is))
+    (none-found c.args.routes.now.entries c.in-Some.step.to
+    (sym c.get.ensures.value ∙ ap option_copied c.in-None-get.is))

@@ -5,7 +5,8 @@ use Rattle.console_core.proofs.showing.come_home.Goals as goal
 
 pub unreachable-requires : goal.unreachable-requires
 unreachable-requires c =
-    none-found c.args.routes.now.entries c.args.held.now (sym c.get.ensures.value ∙ ap option_copied c.in-None.is) c.requires
+    none-found c.args.routes.now.entries c.args.held.now (sym c.get.ensures.value ∙ ap option_copied c.in-None.is)
+    c.requires
 
 pub returns : goal.returns
 returns c =
@@ -13,7 +14,8 @@ returns c =
     (λ e u all. (
       c.deref.result.now,
       subst (λ moves. LeadsHome u (state_of c.args.held.now) moves) (sym c.deref.ensures.value)
-          (found-by_state (λ s r. LeadsHome u s r.moves.items) c.args.routes.now.entries c.args.held.now _ all (sym c.get.ensures.value ∙ ap option_copied c.in-Some.is)),
+          (found-by_state (λ s r. LeadsHome u s r.moves.items) c.args.routes.now.entries c.args.held.now _ all
+          (sym c.get.ensures.value ∙ ap option_copied c.in-Some.is)),
       e,
     ))
     c.push_moves.ensures

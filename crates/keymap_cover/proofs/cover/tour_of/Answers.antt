@@ -12,7 +12,8 @@ starts_of-requires-clause-first g c =
     let A = g.T.Translator.stands c.args.console.now in
     let whole =
     script-whole m A c.args.planner.now a (g.T.Translator.stands c.show_told.new.console) c.show_told.new.planner b
-    (g.T.Translator.stands c.try_keys.new.console) d (g.T.Translator.stands c.go_onward.new.console) e c.in_ok-first.first
+    (g.T.Translator.stands c.try_keys.new.console) d (g.T.Translator.stands c.go_onward.new.console) e
+    c.in_ok-first.first
     (under-way-new m A c.args.planner.now a c.requires.planner (c.requires.new, c.in_ok-tour.ensures m))
     c.in_ok-first.ensures c.in_ok-try_keys.ensures.along c.in_ok-try_keys.ensures.up c.in_ok-go_onward.ensures in
     subst (λ n. c.in_ok-first.first ≤ n) (sym (c.len-second.ensures ∙ b.strokes.ok.0)) whole.2
@@ -27,7 +28,8 @@ starts_of-requires-clause-second g c =
     let A = g.T.Translator.stands c.args.console.now in
     let whole =
     script-whole m A c.args.planner.now a (g.T.Translator.stands c.show_told.new.console) c.show_told.new.planner b
-    (g.T.Translator.stands c.try_keys.new.console) d (g.T.Translator.stands c.go_onward.new.console) e c.in_ok-first.first
+    (g.T.Translator.stands c.try_keys.new.console) d (g.T.Translator.stands c.go_onward.new.console) e
+    c.in_ok-first.first
     (under-way-new m A c.args.planner.now a c.requires.planner (c.requires.new, c.in_ok-tour.ensures m))
     c.in_ok-first.ensures c.in_ok-try_keys.ensures.along c.in_ok-try_keys.ensures.up c.in_ok-go_onward.ensures in
     subst (λ n. n ≤ c.len-third.result) (sym (c.len-second.ensures ∙ b.strokes.ok.0))
@@ -43,7 +45,8 @@ starts_of-requires-clause-third g c =
     let A = g.T.Translator.stands c.args.console.now in
     let whole =
     script-whole m A c.args.planner.now a (g.T.Translator.stands c.show_told.new.console) c.show_told.new.planner b
-    (g.T.Translator.stands c.try_keys.new.console) d (g.T.Translator.stands c.go_onward.new.console) e c.in_ok-first.first
+    (g.T.Translator.stands c.try_keys.new.console) d (g.T.Translator.stands c.go_onward.new.console) e
+    c.in_ok-first.first
     (under-way-new m A c.args.planner.now a c.requires.planner (c.requires.new, c.in_ok-tour.ensures m))
     c.in_ok-first.ensures c.in_ok-try_keys.ensures.along c.in_ok-try_keys.ensures.up c.in_ok-go_onward.ensures in
     subst (λ n. n ≤ c.len.result) (sym (c.len-third.ensures ∙ d.strokes.ok.0))
@@ -59,7 +62,8 @@ returns g c =
     let A = g.T.Translator.stands c.args.console.now in
     let whole =
     script-whole m A c.args.planner.now a (g.T.Translator.stands c.show_told.new.console) c.show_told.new.planner b
-    (g.T.Translator.stands c.try_keys.new.console) d (g.T.Translator.stands c.go_onward.new.console) e c.in_ok-first.first
+    (g.T.Translator.stands c.try_keys.new.console) d (g.T.Translator.stands c.go_onward.new.console) e
+    c.in_ok-first.first
     (under-way-new m A c.args.planner.now a c.requires.planner (c.requires.new, c.in_ok-tour.ensures m))
     c.in_ok-first.ensures c.in_ok-try_keys.ensures.along c.in_ok-try_keys.ensures.up c.in_ok-go_onward.ensures in (
       whole.0,

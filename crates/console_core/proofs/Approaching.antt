@@ -1,11 +1,11 @@
 -- The events of a visit lead a console home, on to a state that was met, and to a press there.
-use Rattle.console_core.proofs.Common.{◌≡◌, ◌≢◌, ◌<◌, ℕ, Bool, true, false, List, [], ◌∷◌, ◌++◌, length, reverse}
+use Rattle.console_core.proofs.Common.{◌≡◌, ◌≢◌, ◌<◌, ℕ, Bool, true, false, List, [], ◌∷◌, ◌++◌, reverse}
 use Rattle.console_core.proofs.Common.{slice_get, Option, MatchOption, Some, None, refl, ap, subst, sym, ◌∙◌, inl, inr}
 use Rattle.console_core.proofs.Common.{append_assoc, if◌then◌else◌, ◌==◌, ◌||◌, cases_Bool, eqb-true, false≢true}
 use Rattle.console_core.proofs.Common.{All-cons, none-some, same_modifier, same_action, holding_action}
 use Rattle.console_core.proofs.Common.{same_action-true, MapValue, Action, Modifier, Lock, Caps, Num, Scroll, Alt, Cell}
 use Rattle.console_core.proofs.Common.{Char, Act, Event, Press, Release, Reset, Move, Hold, Turn, LetGo, Exchange}
-use Rattle.console_core.proofs.Common.{Sight, Explored, usable, between, resolved, pressed, HasKey}
+use Rattle.console_core.proofs.Common.{Sight, Explored, between, resolved, pressed, HasKey}
 use Rattle.console_core.proofs.Common.{accent_pending_after, is_locked_after, HasKeys, HasNoLoads, ResolvedEvent, held}
 use Rattle.console_core.proofs.Common.{pending, remembered, resolve_press, taken_over, PressedAction, ReleasedKey}
 use Rattle.console_core.proofs.Common.{Under, alone, State, start, Holds, IsFree, IsIdle, look_in, IsMove, moved}
@@ -26,7 +26,7 @@ use Rattle.console_core.proofs.Behind.{path-split}
 use Rattle.console_core.proofs.Exploring.{comes-route}
 use Rattle.console_core.proofs.Going.{going-sees, pending-is, pending-move, tap-pending}
 use Rattle.console_core.proofs.OneMore.{resolved-more, held-action, pending-reset, pressed-press}
-use Rattle.console_core.proofs.Returning.{near-met, near-is_home}
+use Rattle.console_core.proofs.Returning.{near-met}
 use Rattle.console_core.proofs.Scripts.{Reached, reached-more, hold-self, holder-pressed, stands-from, stands-move}
 use Rattle.console_core.proofs.Scripts.{stands-reset, pressed-look, other-remembered}
 use Rattle.console_core.proofs.Staying.{emptied, emptied-kept, emptied-none, follows-again, follows-nothing, kind_of}

@@ -3,7 +3,7 @@ use Rattle.console_core.proofs.Common.{suc, ◌≡◌, ℕ, ◌+◌, ◌<◌, �
 use Rattle.console_core.proofs.Common.{subst, sym, ◌∙◌, arith, cases_lt, slice_get_within, Modifier, Event, Move, End}
 use Rattle.console_core.proofs.Common.{TooMany, Under, State, start, IsMove, moved, presses_of, IsForgetful}
 use Rattle.console_core.proofs.Common.{HolderForgets, script_of_path, state_of, Entry, Entries, IsMetBy, IsReached}
-use Rattle.console_core.proofs.Common.{AreDone, Searched, AreSafe, IsStuck, HasEnded, unscrolled, presses}
+use Rattle.console_core.proofs.Common.{AreDone, AreSafe, IsStuck, HasEnded, unscrolled, presses}
 use Rattle.console_core.proofs.Common.{NeverSticksUnder, ReleasesPressedKeys}
 use Rattle.console_core.specs.declared.search.End.TheVariants.{Complete}
 use Rattle.console_core.specs.Inner.Searching.{IsScriptTo, IsEnd}
@@ -44,10 +44,6 @@ kept-below u es n met done = record {
   more = λ p s (t, there, near). (t, met-up es p (suc p) t (omega arith) there, near);
   moved = among-moved u es n done;
 }
-
-pub searched-kept : (u : Under) (es : Entries) → Searched u start es (length es) (length es) → (n : ℕ)
-    → IsKeptBelow u n (IsAmong es)
-searched-kept u es s n = kept-below u es n s.start (all-done u es s n)
 
 -- and they are safe where no holder looks up a character in those met by fewer than n presses
 safe-below : (u : Under) (es : Entries) (n : ℕ) → IsMetBy es 0 start → AreDone u es n

@@ -353,13 +353,7 @@ composing-all m accent met ys searched can offered are = record {
 
 -- ---- all together
 
--- the offers of no accents, and of one more
-pub offers-none : (m : MapValue) (offers : List Offer) → offers ≡ [] → AreOffersOf m [] offers
-offers-none m offers e = record {
-  all = ap accents_in e;
-  each = λ o (k, lt, at). let z : length offers ≡ 0 = ap (λ q. length q) e in absurd (omega (arith, lt, z));
-}
-
+-- the offers of one more accent
 accents-push : (offers : List Offer) (o : Offer) → accents_in (offers ++ o ∷ []) ≡ accents_in offers ++ o.accent ∷ []
 accents-push [] o = refl
 accents-push (x ∷ offers) o = ap (λ z. x.accent ∷ z) (accents-push offers o)

@@ -1,9 +1,9 @@
 -- From a state that was met without a route home no moves lead there.
-use Rattle.console_core.proofs.Common.{suc, ◌≡◌, ◌≢◌, ℕ, ◌+◌, false, List, [], ◌∷◌, ◌++◌, length, slice_get, Some, refl}
+use Rattle.console_core.proofs.Common.{suc, ◌≡◌, ◌≢◌, ℕ, ◌+◌, false, List, [], ◌∷◌, length, slice_get, Some, refl}
 use Rattle.console_core.proofs.Common.{ap, arith, subst, sym, ◌∙◌, inl, inr, MapValue, Under, start, alone, State}
-use Rattle.console_core.proofs.Common.{IsMove, moved, IsPath, state_after, IsPathFrom, state_from, presses_of, IsHome}
-use Rattle.console_core.proofs.Common.{NoTurnIsOneWay, Routes, HasRoute, IsAstray, IsMet, AreSettled, state_of, Entry}
-use Rattle.console_core.proofs.Common.{Entries, IsMetBy, IsReached, LeavesScroll, Searched, unscrolled}
+use Rattle.console_core.proofs.Common.{IsMove, moved, IsPathFrom, state_from, presses_of, IsHome}
+use Rattle.console_core.proofs.Common.{Routes, HasRoute, IsAstray, IsMet, AreSettled, state_of, Entry}
+use Rattle.console_core.proofs.Common.{Entries, IsMetBy, LeavesScroll, Searched, unscrolled}
 use Rattle.keymap_core.specs.declared.action.Lock.{Lock}
 use Rattle.keymap_core.specs.declared.action.Lock.TheVariants.{Caps, Num, Scroll, Alt}
 use Rattle.console_core.specs.declared.held.Move.{Move}

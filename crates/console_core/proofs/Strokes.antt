@@ -12,9 +12,9 @@ use Rattle.console_core.proofs.Common.{PressedAction, ReleasedKey, next_pending,
 use Rattle.console_core.proofs.Common.{resolved, is_second_in_force, accent_pending_after, HasKey, is_on_after}
 use Rattle.console_core.proofs.Common.{answer_to, remembered_after, look_after, answer_to_look, Under, alone, State}
 use Rattle.console_core.proofs.Common.{Holds, IsIdle, IsMove, look_in, is_held, with_holder, IsPathFrom, state_from}
-use Rattle.console_core.proofs.Common.{events_along, events_of_move, map_of, IsTapOf, cell_of, composed_of}
+use Rattle.console_core.proofs.Common.{events_along, events_of_move, map_of, IsTapOf, composed_of}
 use Rattle.console_core.proofs.Common.{types_something, plainly, LetsGo, IsStroke, HasTyped, typed_along, kept_if}
-use Rattle.console_core.proofs.Common.{Follows, Exact, Stands, fun_ext}
+use Rattle.console_core.proofs.Common.{Exact, Stands, fun_ext}
 use Rattle.console_core.specs.Answers.{answer_dead_key}
 use Rattle.console_core.proofs.Going.{pending-along, pending-is}
 use Rattle.console_core.proofs.OneMore.{resolved-more, held-character, held-action, held-release, remembered-character}

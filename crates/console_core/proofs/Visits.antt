@@ -1,15 +1,14 @@
 -- Where paths lead but for the scroll lock, and which locks a press turns.
-use Rattle.console_core.proofs.Common.{◌≡◌, ℕ, ◌<◌, Bool, true, false, ◌&&◌, not, List, [], ◌∷◌, ◌++◌, Option, Some}
-use Rattle.console_core.proofs.Common.{None, refl, ap, subst, sym, ◌∙◌, append_assoc, if◌then◌else◌, reverse, ◌==◌}
-use Rattle.console_core.proofs.Common.{true≢false, false_from_ne_true, eqb-true, eq-eqb, reverse-append, All-cons}
-use Rattle.console_core.proofs.Common.{none-some, same_action, modifiers, MapValue, same_action-true, ResolvedEvent}
+use Rattle.console_core.proofs.Common.{◌≡◌, ℕ, Bool, true, false, ◌&&◌, not, List, [], ◌∷◌, Option, Some}
+use Rattle.console_core.proofs.Common.{None, refl, ap, sym, ◌∙◌, if◌then◌else◌}
+use Rattle.console_core.proofs.Common.{true≢false, false_from_ne_true, eq-eqb}
+use Rattle.console_core.proofs.Common.{none-some, same_action, MapValue, same_action-true, ResolvedEvent}
 use Rattle.console_core.proofs.Common.{held, locked, remembered, taken_over, PressedAction, between, resolved}
-use Rattle.console_core.proofs.Common.{is_locked_after, HasKey, HasKeys, IsNoLoad, HasNoLoads, pressed, Under, alone}
-use Rattle.console_core.proofs.Common.{State, start, look_in, Holds, IsIdle, IsMove, moved, IsPath, state_after}
-use Rattle.console_core.proofs.Common.{state_from, IsPathFrom, events_of_move, events_along, release_of, releases}
-use Rattle.console_core.proofs.Common.{with_lock_turned, IsHome, SeesAlong, HoldsSome, Stands, but_scroll, unscrolled}
+use Rattle.console_core.proofs.Common.{is_locked_after, pressed, Under, alone}
+use Rattle.console_core.proofs.Common.{State, start, look_in, IsIdle}
+use Rattle.console_core.proofs.Common.{state_from, IsPathFrom}
+use Rattle.console_core.proofs.Common.{with_lock_turned, IsHome, HoldsSome, Stands, but_scroll, unscrolled}
 use Rattle.console_core.proofs.Common.{fun_ext}
-use Rattle.std.proofs.Common.{append-nil}
 use Rattle.keymap_core.specs.declared.action.Action.{Action}
 use Rattle.keymap_core.specs.declared.action.Lock.{Lock}
 use Rattle.keymap_core.specs.declared.action.Lock.TheVariants.{Caps, Num, Scroll, Alt}
@@ -17,13 +16,11 @@ use Rattle.keymap_core.specs.declared.action.Modifier.{Modifier}
 use Rattle.keymap_core.specs.declared.entry.Cell.{Cell}
 use Rattle.keymap_core.specs.declared.entry.Cell.TheVariants.{Char, Act}
 use Rattle.console_core.specs.declared.event.Event.{Event}
-use Rattle.console_core.specs.declared.event.Event.TheVariants.{Press, Release}
+use Rattle.console_core.specs.declared.event.Event.TheVariants.{Press}
 use Rattle.console_core.specs.declared.held.Move.{Move}
 use Rattle.console_core.specs.declared.held.Move.TheVariants.{Hold, Turn, LetGo, Exchange}
-use Rattle.console_core.specs.declared.selection.Sight.{Sight}
-use Rattle.console_core.proofs.OneMore.{resolved-more, locked-character, locked-action, locked-release, pressed-press}
-use Rattle.console_core.proofs.OneMore.{pressed-release}
-use Rattle.console_core.proofs.Scripts.{idle-none, pressed-look, stands-from, holder-pressed, apart, releases-holders}
+use Rattle.console_core.proofs.OneMore.{locked-character, locked-action, pressed-press}
+use Rattle.console_core.proofs.Scripts.{idle-none, pressed-look}
 use Rattle.console_core.proofs.Staying.{follows-turn}
 use Rattle.console_core.proofs.Unscrolled.{moves-unscrolled, same_moved}
 use Rattle.keymap_core.specs.declared.action.Action.TheVariants as act

@@ -1,10 +1,10 @@
 //! Plans a script that shows what presses can see: each visit leads from home to a state in which a press sees
 //! something, and to where a route leads home again.
-ghost use Rattle.std.specs.Prelude.{◌≡◌, ◌<◌, [], ℕ, List, false, true, None, Some, length, reverse, slice_get};
+ghost use Rattle.std.specs.Prelude.{◌≡◌, ◌<◌, [], ℕ, false, true, None, Some, length, reverse, slice_get};
 ghost use Rattle.std.specs.Prelude.{OnOk, IfOk, MatchOption};
 ghost use Rattle.keymap_core.specs.Maps.{MapValue};
 ghost use Rattle.keymap_core.specs.Numbers.{key_count};
-ghost use Rattle.console_core.specs.Moves.{Under, alone, start};
+ghost use Rattle.console_core.specs.Moves.{alone, start};
 ghost use Rattle.console_core.specs.Planning.{HasLocks, Visits};
 ghost use Rattle.console_core.specs.Returning.{NoTurnIsOneWay};
 ghost use Rattle.console_core.specs.Sights.{IsReachable};

@@ -1,6 +1,5 @@
 //! The events that lead home from a state that was met, and from where the search began to one.
 ghost use Rattle.std.specs.Prelude.{◌≡◌, ◌<◌, ◌++◌, ◌∷◌, List, length, reverse, OnOk, IfOk};
-ghost use Rattle.keymap_core.specs.Numbers.{key_count};
 ghost use Rattle.console_core.specs.declared.event.Event.TheVariants as event;
 ghost use Rattle.console_core.specs.declared.held.Move.{Move as MoveValue};
 ghost use Rattle.console_core.specs.Moves.{Under, events_along};

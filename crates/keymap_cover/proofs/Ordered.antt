@@ -1,11 +1,9 @@
 -- The parts that begin stand in their order, each with its events.
-use Rattle.keymap_cover.proofs.Common.{zero, suc, ◌≡◌, ℕ, ◌<◌, ◌+◌, inl, inr, List, [], ◌∷◌, ◌++◌, length, get_or, refl}
+use Rattle.keymap_cover.proofs.Common.{◌≡◌, ℕ, ◌<◌, ◌+◌, inl, inr, List, [], ◌∷◌, ◌++◌, length}
 use Rattle.keymap_cover.proofs.Common.{ap, subst, sym, arith, Contains-append_left, part_place, ArePartsBelow}
 use Rattle.std.proofs.lemmas.Bool.{cases_lt}
 use Rattle.std.proofs.lemmas.List.Elements.{All-push, Contains-push}
 use Rattle.std.proofs.lemmas.List.Quantifiers.{all_pairs_push}
-use Rattle.keymap_cover.specs.declared.parts.Part.{Part}
-use Rattle.keymap_cover.specs.declared.parts.Part.TheVariants.{Cells, Pairs, Trials, OneWay}
 use Rattle.keymap_cover.specs.declared.parts.Start.{Start}
 
 -- no events are in no part

@@ -1,10 +1,10 @@
 -- A console goes from visit to visit, and sees what can be seen.
 use Rattle.keymap_cover.proofs.Common.{suc, ◌≡◌, ℕ, ◌+◌, ◌<◌, ◌≤◌, Bool, true, false, List, [], ◌∷◌, ◌++◌, Some, refl}
 use Rattle.keymap_cover.proofs.Common.{ap, subst, sym, inl, inr, ◌∙◌, arith, append_assoc, length, get_or, reverse}
-use Rattle.keymap_cover.proofs.Common.{Result, Ok, Err, ◌==◌, OnOk, Contains, eqb-true, eq-eqb, true≢false}
+use Rattle.keymap_cover.proofs.Common.{◌==◌, Contains, eqb-true, eq-eqb, true≢false}
 use Rattle.keymap_cover.proofs.Common.{get_or_default, All-nil, All-cons, Contains-append_cases, MapValue, Event, Sight}
-use Rattle.keymap_cover.proofs.Common.{Maps, AreTaken, NoTurnIsOneWay, SeesAlong, IsReachable, Stroke, Tour, has_seen}
-use Rattle.keymap_cover.proofs.Common.{all_cells, all_lock_settings, event_of, events_of, is_down, IsTold, pairs_in}
+use Rattle.keymap_cover.proofs.Common.{Maps, NoTurnIsOneWay, SeesAlong, IsReachable, Stroke, Tour, has_seen}
+use Rattle.keymap_cover.proofs.Common.{all_cells, all_lock_settings, event_of, events_of, is_down, pairs_in}
 use Rattle.keymap_cover.proofs.Common.{GoesAlongToRest, ComesAfter, AreUp, GoesUnderWay, GoesResting}
 use Rattle.std.proofs.Common.{length-append}
 use Rattle.std.proofs.lemmas.List.{length-reverse}

@@ -1,25 +1,18 @@
 -- The moves that lead home from the states that a search met, and the events of a script that goes along them. Mirrors
 -- src/routes.rt and src/showing.rt.
-use Rattle.std.specs.Prelude.{◌≡◌, ◌≢◌, false, ◌⊎◌, ℕ, List, [], ◌∷◌, length, reverse, None, Some, slice_get}
+use Rattle.std.specs.Prelude.{◌≡◌, ◌≢◌, false, ◌⊎◌, ℕ, List, [], ◌∷◌, reverse, None, Some, slice_get}
 use Rattle.keymap_core.specs.declared.action.Modifier.{Modifier}
 use Rattle.keymap_core.specs.declared.action.Lock.{Lock}
 use Rattle.keymap_core.specs.declared.action.Lock.TheVariants.{Scroll}
-use Rattle.keymap_core.specs.Maps.{MapValue}
-use Rattle.console_core.specs.declared.event.Event.{Event}
 use Rattle.console_core.specs.declared.held.Held.{Held}
 use Rattle.console_core.specs.declared.held.Move.{Move}
 use Rattle.console_core.specs.declared.routes.Route.{Route}
-use Rattle.console_core.specs.declared.selection.Sight.{Sight}
-use Rattle.console_core.specs.History.{HasKeys, HasNoLoads}
 use Rattle.keymap_core.specs.declared.action.Action.TheVariants as act
 use Rattle.keymap_core.specs.declared.entry.Cell.TheVariants.{Act}
 use Rattle.console_core.specs.Moves.{Under, State, IsMove, moved, Holds, IsIdle, look_in, state_from, IsPathFrom}
-use Rattle.console_core.specs.Moves.{with_holder, with_lock_turned, start}
+use Rattle.console_core.specs.Moves.{with_holder, with_lock_turned}
 use Rattle.console_core.specs.Returning.{IsHome}
-use Rattle.console_core.specs.Sights.{SeesAlong}
-use Rattle.console_core.specs.Sticking.{ReleasesPressedKeys}
-use Rattle.console_core.specs.Inner.Searching.{state_of, Entry, Entries, LeavesScroll, Searched}
-use Rattle.console_core.specs.Inner.Standing.{free_after, unscrolled}
+use Rattle.console_core.specs.Inner.Searching.{state_of, Entry, Entries, LeavesScroll}
 
 -- the moves, the oldest first, lead home, and leave the scroll lock off
 abbrev pub LeadsHome : Under → State → List Move → Type 0

@@ -1,5 +1,5 @@
 -- How the events of a visit lead a console, step by step. Mirrors src/showing.rt and src/planner.rt.
-use Rattle.std.specs.Prelude.{◌≡◌, ◌⊎◌, ℕ, ◌<◌, true, false, List, ◌++◌, length, Option, None, Some, slice_get, IfSome}
+use Rattle.std.specs.Prelude.{◌≡◌, ◌⊎◌, ℕ, ◌<◌, true, false, List, ◌++◌, Option, None, Some, slice_get, IfSome}
 use Rattle.keymap_core.specs.declared.action.Action.TheVariants as act
 use Rattle.keymap_core.specs.Maps.{MapValue}
 use Rattle.keymap_core.specs.Numbers.{key_count}
@@ -14,8 +14,8 @@ use Rattle.console_core.specs.Moves.{Under, alone, State, start, IsFree, IsIdle,
 use Rattle.console_core.specs.Planning.{AreTaken, Locks}
 use Rattle.console_core.specs.Sights.{IsPendingFor, IsReachable, SeesBy, selection_of}
 use Rattle.console_core.specs.Inner.Exploring.{map_of_explored, origin_in, IsExplored, IsTapAt, dead_tap}
-use Rattle.console_core.specs.Inner.Routes.{AreSettled, HasRoute, freed}
-use Rattle.console_core.specs.Inner.Searching.{state_of, Entry, Searched}
+use Rattle.console_core.specs.Inner.Routes.{HasRoute, freed}
+use Rattle.console_core.specs.Inner.Searching.{state_of, Entry}
 use Rattle.console_core.specs.Inner.Standing.{Stands, unscrolled}
 
 -- The states were explored from the start, and these are all.

@@ -1,4 +1,4 @@
-use Rattle.console_core.proofs.Common.{◌∷◌, reverse, ap, subst, sym, ◌∙◌, Press, state_of, IsRepeated, Leads}
+use Rattle.console_core.proofs.Common.{reverse, ap, subst, sym, ◌∙◌, Press, state_of, IsRepeated, Leads}
 use Rattle.console_core.proofs.Approaching.{repeat-leads}
 use Rattle.console_core.proofs.Looking.{push-reversed}
 use Rattle.console_core.proofs.planner.press_steady.Goals as goal

@@ -1,4 +1,4 @@
-use Rattle.keymap_cover.proofs.Common.{refl, ap, arith, get_or_default}
+use Rattle.keymap_cover.proofs.Common.{refl, arith}
 use Rattle.keymap_cover.proofs.Showing.{all-more, stays-so}
 use Rattle.keymap_cover.proofs.cover.show_all.Goals as goal
 

@@ -1,4 +1,4 @@
-use Rattle.console_core.proofs.Common.{Some, None, reverse, subst, sym, slice_get_within, map_of_explored, state_of}
+use Rattle.console_core.proofs.Common.{reverse, subst, slice_get_within, map_of_explored, state_of}
 use Rattle.console_core.proofs.Common.{IsDeadFor, Leads, start}
 use Rattle.console_core.proofs.Approaching.{dead-met, sees-at, sees-behind}
 use Rattle.console_core.proofs.Results.{on_ok-then}

@@ -1,7 +1,7 @@
 use Rattle.console_core.proofs.Common.{reverse, subst, sym, slice_get_within, map_of_explored, HasRoute, LeadsHome}
 use Rattle.console_core.proofs.Common.{state_of, LeadsComposing, LeadsOn, alone}
 use Rattle.console_core.proofs.Approaching.{out-leads, home-leads, dead-leads, met-first, composing-leads}
-use Rattle.console_core.proofs.GoingBack.{searched-back, same-place}
+use Rattle.console_core.proofs.GoingBack.{searched-back}
 use Rattle.console_core.proofs.Results.{on_ok-then}
 use Rattle.console_core.proofs.explored.Explored.go_composing.Goals as goal
 

@@ -1,5 +1,5 @@
 use Rattle.console_core.proofs.Common.{◌≡◌, inl, inr, slice_get, Some, subst, sym, ap, arith, ◌∙◌, slice_get_within}
-use Rattle.console_core.proofs.Common.{map_of_explored, state_of, IsAfter, ShowsNot, alone, SeesBy, selection_of}
+use Rattle.console_core.proofs.Common.{map_of_explored, state_of, IsAfter, alone, SeesBy, selection_of}
 use Rattle.console_core.proofs.Looking.{entry-at}
 use Rattle.console_core.proofs.Searching.{place_last}
 use Rattle.console_core.proofs.explored.Explored.press_seeing.Goals.{in-Some+else-has_route, in_default}

@@ -1,5 +1,5 @@
 use Rattle.keymap_cover.proofs.Common.{subst, sym, GoesIfTaken}
-use Rattle.console_core.specs.declared.event.Event.TheVariants.{Press, Release}
+use Rattle.console_core.specs.declared.event.Event.TheVariants.{Press}
 use Rattle.keymap_cover.proofs.Walking.{by-taken, no-load, up-taken}
 use Rattle.keymap_cover.proofs.tour.Tour.deliver.Goals as goal
 

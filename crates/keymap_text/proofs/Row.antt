@@ -342,7 +342,7 @@ ready m (AfterAccent i a) m' (Value v) q h k =
 ready m _ m' t q h k = absurd (none-some _ h)
 
 -- a cell is taken
-take_cell : (m : MapValue) (slot i : ℕ) (e : Entry) (t : Item) (c : Cell) → cell t ≡ Ok c
+pub take_cell : (m : MapValue) (slot i : ℕ) (e : Entry) (t : Item) (c : Cell) → cell t ≡ Ok c
     → accept (at m (CellAt slot i e)) t ≡ Ok (at m (after_cell slot i (with_cell e i c)))
 unfolding accept
 take_cell m slot i e t c h = ap (λ r. r >>= (λ c. Ok (at m (after_cell slot i (with_cell e i c))))) h
@@ -390,14 +390,14 @@ unfolding accept
 own_taken m i c t h = ap (λ r. r >>= (λ c. Ok (at m (AfterAccent i (record { own = c; pairs = [] }))))) h
 
 -- a left parenthesis is taken
-open_taken : (m : MapValue) (i : ℕ) (a : AccentValue) → length a.pairs < 52
+pub open_taken : (m : MapValue) (i : ℕ) (a : AccentValue) → length a.pairs < 52
     → accept (at m (AfterAccent i a)) Open ≡ Ok (at m (PairBase i a))
 unfolding accept
 open_taken m i a h =
     ap (λ b. cond b (Ok (at m (PairBase i a))) (Err faults.TooManyPairs)) (lt-ltb (length a.pairs) 52 h)
 
 -- a base is taken
-base_taken : (m : MapValue) (i : ℕ) (a : AccentValue) (t : Item) (b : ℕ) → character t ≡ Ok b → b ≢ 0
+pub base_taken : (m : MapValue) (i : ℕ) (a : AccentValue) (t : Item) (b : ℕ) → character t ≡ Ok b → b ≢ 0
     → accept (at m (PairBase i a)) t ≡ Ok (at m (PairResult i a b))
 unfolding accept
 base_taken m i a t b h z =
@@ -405,13 +405,13 @@ base_taken m i a t b h z =
     ∙ ap (λ z. cond z (Err faults.ZeroBase) (Ok (at m (PairResult i a b)))) (ne_eqb b 0 z)
 
 -- a result is taken
-result_taken : (m : MapValue) (i : ℕ) (a : AccentValue) (t : Item) (b r : ℕ) → character t ≡ Ok r
+pub result_taken : (m : MapValue) (i : ℕ) (a : AccentValue) (t : Item) (b r : ℕ) → character t ≡ Ok r
     → accept (at m (PairResult i a b)) t ≡ Ok (at m (PairEnd i a b r))
 unfolding accept
 result_taken m i a t b r h = ap (λ r. r >>= (λ c. Ok (at m (PairEnd i a b c)))) h
 
 -- a right parenthesis is taken
-close_taken : (m : MapValue) (i : ℕ) (a : AccentValue) (b r : ℕ)
+pub close_taken : (m : MapValue) (i : ℕ) (a : AccentValue) (b r : ℕ)
     → accept (at m (PairEnd i a b r)) Close ≡ Ok (at m (AfterAccent i (with_pair a b r)))
 unfolding accept
 close_taken m i a b r = refl

@@ -1,16 +1,16 @@
 -- What taking cells, the lock letter and the pair of an accent makes of the rest of a text.
 use Rattle.keymap_text.proofs.Common.{◌≡◌, ◌≢◌, ℕ, ◌+◌, ◌-◌, ◌<◌, ◌≤◌, ◌==◌, Bool, true, false, cond, List, length}
 use Rattle.keymap_text.proofs.Common.{take, drop, get_or, refl, sym, ◌∙◌, ap, arith, Ok, Err, eqb-true, eq-eqb, ne_eqb}
-use Rattle.keymap_text.proofs.Common.{true≢false, lt-ltb, AccentValue, MapValue, with_entry, Entry, Cell, LockFlag}
-use Rattle.keymap_text.proofs.Common.{TextFaultKind, Item, Open, Close, cell, character, lock, leading, is_space}
-use Rattle.keymap_text.proofs.Common.{GrammarPlace, at, accept, after_base, after_cell, with_cell, with_pair, ◌>>=◌}
-use Rattle.keymap_text.proofs.Common.{Advances, Refuses, Fronts, FrontsBehind, FrontsCharacter}
+use Rattle.keymap_text.proofs.Common.{true≢false, AccentValue, MapValue, with_entry, Entry, Cell, LockFlag}
+use Rattle.keymap_text.proofs.Common.{TextFaultKind, Item, Open, Close, cell, lock, leading, is_space, GrammarPlace, at}
+use Rattle.keymap_text.proofs.Common.{accept, after_cell, with_cell, with_pair, ◌>>=◌, Advances, Refuses, Fronts}
+use Rattle.keymap_text.proofs.Common.{FrontsBehind, FrontsCharacter}
 use Rattle.keymap_core.specs.Numbers.{pair_limit}
 use Rattle.keymap_text.proofs.Fronts.{left_fronts}
 use Rattle.keymap_text.proofs.Scanning.{blanks_advance, token_advances, token_refuses, behind_advances, advances_on}
-use Rattle.keymap_text.proofs.Scanning.{refuses_on}
-use Rattle.keymap_text.specs.declared.fault.TextFaultKind.TheVariants as faults
+use Rattle.keymap_text.proofs.Scanning.{refuses_on, after_blanks}
 use Rattle.keymap_text.specs.Inner.Grammar as spec
+use Rattle.keymap_text.proofs.Row.{open_taken, base_taken, result_taken, close_taken, take_cell}
 
 -- the place of the cell with this index, or of the lock letter behind the eight cells
 abbrev pub cell_place : ℕ → ℕ → Entry → GrammarPlace
@@ -38,10 +38,7 @@ next_place slot i e = ap (λ b. cond b (spec.LockAt slot e) (spec.CellAt slot (i
 pub cell_taken : (m : MapValue) (slot i b n : ℕ) (e : Entry) (rest : List ℕ) (t : Item) (c : Cell)
     → b ≤ leading is_space rest → b ≤ length rest → Fronts (take (length rest - b) (drop b rest)) t n → cell t ≡ Ok c
     → Advances (at m (spec.CellAt slot i e)) (at m (after_cell slot i (with_cell e i c))) rest (b + n)
-unfolding accept
-cell_taken m slot i b n e rest t c h l f k =
-    advances_on _ _ _ rest _ b n (blanks_advance (at m (spec.CellAt slot i e)) b rest h l) refl
-    (token_advances _ _ _ t n f (ap (λ r. r >>= λ c. Ok (at m (after_cell slot i (with_cell e i c)))) k))
+cell_taken m slot i b n e rest t c h l f k = after_blanks _ _ rest t b n h l f (take_cell m slot i e t c k)
 
 -- a cell that is refused
 pub cell_refused : (m : MapValue) (slot i b n : ℕ) (e : Entry) (rest : List ℕ) (t : Item) (f : TextFaultKind)
@@ -59,35 +56,8 @@ pub letter_taken : (m : MapValue) (slot b n : ℕ) (e : Entry) (rest : List ℕ)
     (at (with_entry m slot (record { cells = e.cells; flag = f })) spec.Definition) rest (b + n)
 unfolding accept
 letter_taken m slot b n e rest t f h l r k =
-    advances_on _ _ _ rest _ b n (blanks_advance (at m (spec.LockAt slot e)) b rest h l) refl
-    (token_advances _ _ _ t n r (ap (λ r. r >>= λ f.
-    Ok (at (with_entry m slot (record { cells = e.cells; flag = f })) spec.Definition)) k))
-
--- where there is room a left parenthesis begins a pair
-opened : (m : MapValue) (i : ℕ) (a : AccentValue) → length a.pairs < pair_limit
-    → accept (at m (spec.AfterAccent i a)) Open ≡ Ok (at m (spec.PairBase i a))
-unfolding accept
-opened m i a l = ap (λ x. cond x (Ok (at m (spec.PairBase i a))) (Err faults.TooManyPairs)) (lt-ltb _ _ l)
-
--- then its base comes
-based : (m : MapValue) (i : ℕ) (a : AccentValue) (t : Item) (b : ℕ) → character t ≡ Ok b → b ≢ 0
-    → accept (at m (spec.PairBase i a)) t ≡ Ok (at m (spec.PairResult i a b))
-unfolding accept
-based m i a t b h z =
-    ap (λ r. r >>= λ c. after_base m i a c) h
-    ∙ ap (λ x. cond x (Err faults.ZeroBase) (Ok (at m (spec.PairResult i a b)))) (ne_eqb b 0 z)
-
--- then its result
-resulted : (m : MapValue) (i : ℕ) (a : AccentValue) (b : ℕ) (t : Item) (r : ℕ) → character t ≡ Ok r
-    → accept (at m (spec.PairResult i a b)) t ≡ Ok (at m (spec.PairEnd i a b r))
-unfolding accept
-resulted m i a b t r h = ap (λ r. r >>= λ c. Ok (at m (spec.PairEnd i a b c))) h
-
--- then a right parenthesis
-closed : (m : MapValue) (i : ℕ) (a : AccentValue) (b r : ℕ)
-    → accept (at m (spec.PairEnd i a b r)) Close ≡ Ok (at m (spec.AfterAccent i (with_pair a b r)))
-unfolding accept
-closed m i a b r = refl
+    after_blanks _ _ rest t b n h l r (ap (λ r. r >>= λ f.
+    Ok (at (with_entry m slot (record { cells = e.cells; flag = f })) spec.Definition)) k)
 
 -- a pair is taken
 pub pair_taken : (m : MapValue) (index : ℕ) (a : AccentValue) (b c i j n : ℕ) (rest : List ℕ) → 0 < length rest
@@ -98,9 +68,9 @@ pub pair_taken : (m : MapValue) (index : ℕ) (a : AccentValue) (b c i j n : ℕ
     → Advances (at m (spec.AfterAccent index a)) (at m (spec.AfterAccent index (with_pair a b c))) rest (1 + i + j + n)
 pair_taken m index a b c i j n rest s e room z f g k =
     let a1 = token_advances (at m (spec.AfterAccent index a)) (at m (spec.PairBase index a)) rest Open 1
-    (left_fronts rest s e) (opened m index a room) in
+    (left_fronts rest s e) (open_taken m index a room) in
     let a2 = advances_on _ _ _ rest _ 1 i a1 refl
-    (behind_advances _ (at m (spec.PairResult index a b)) _ f.item i f.behind (based m index a f.item b f.is z)) in
+    (behind_advances _ (at m (spec.PairResult index a b)) _ f.item i f.behind (base_taken m index a f.item b f.is z)) in
     let a3 = advances_on _ _ _ rest _ (1 + i) j a2 refl
-    (behind_advances _ (at m (spec.PairEnd index a b c)) _ g.item j g.behind (resulted m index a b g.item c g.is)) in
-    advances_on _ _ _ rest _ (1 + i + j) n a3 refl (behind_advances _ _ _ Close n k (closed m index a b c))
+    (behind_advances _ (at m (spec.PairEnd index a b c)) _ g.item j g.behind (result_taken m index a g.item b c g.is)) in
+    advances_on _ _ _ rest _ (1 + i + j) n a3 refl (behind_advances _ _ _ Close n k (close_taken m index a b c))

@@ -121,12 +121,16 @@ refuses_on old mid rest behind n m k f a e r0 size =
     }
 
 -- a token behind blanks is taken
+pub after_blanks : (s s' : GrammarState) (rest : List ℕ) (t : Item) (b n : ℕ) → b ≤ leading is_space rest
+    → b ≤ length rest → Fronts (take (length rest - b) (drop b rest)) t n → accept s t ≡ Ok s'
+    → Advances s s' rest (b + n)
+after_blanks s s' rest t b n h l f a =
+    advances_on s s s' rest _ b n (blanks_advance s b rest h l) refl (token_advances s s' _ t n f a)
+
 pub behind_advances : (s s' : GrammarState) (rest : List ℕ) (t : Item) (n : ℕ) → FrontsBehind rest t n
     → accept s t ≡ Ok s' → Advances s s' rest n
 behind_advances s s' rest t n f a =
-    subst (λ k. Advances s s' rest k) (sym f.sum)
-    (advances_on s s s' rest _ f.blanks f.size (blanks_advance s f.blanks rest f.are_blank f.inside) refl
-    (token_advances s s' _ t f.size f.fronts a))
+    rw f.sum (after_blanks s s' rest t f.blanks f.size f.are_blank f.inside f.fronts a)
 
 -- What takes definitions was not touched.
 pub takes_same : {D : Type 0} {shows : D → MapValue → Type 0} {d : D} {g : Grammar} {rest : List ℕ} {n : ℕ}

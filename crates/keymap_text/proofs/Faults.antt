@@ -1,16 +1,13 @@
 -- The faults of the reader's machine are those of the places.
-use Rattle.keymap_text.proofs.Common.{◌≡◌, ℕ, ◌+◌, ◌==◌, Bool, true, false, cond, List, [], ◌∷◌, length, refl, sym, ◌∙◌}
-use Rattle.keymap_text.proofs.Common.{ap, Result, Ok, Err, Option, Some, None, length-append, nat_lt, TextFaultKind}
-use Rattle.keymap_text.proofs.Common.{Item, Open, Close, Value, Number, Act, Entry, Cell, LockFlag}
-use Rattle.keymap_text.proofs.Common.{TokenValue, Tokens, Ends, Stops, Then, tokens_after, MapValue, undefined}
-use Rattle.keymap_text.proofs.Common.{with_entry, with_accent, character, cell, lock, accent_index, GrammarState}
-use Rattle.keymap_text.proofs.Common.{accept, at, at_end, first_of, RowPlace, AtDefinition, AtCell, AtLock}
-use Rattle.keymap_text.proofs.Common.{AtAccentCharacter, AfterPairs, AtBase, AtResult, AtPairEnd, if_accepted, next}
-use Rattle.keymap_text.proofs.Common.{next_at_definition, judge, verdict, Verdict, Spelled, Faulty, ended, list_of}
-use Rattle.keymap_text.proofs.Common.{ending_of_tokens, item_of, place_after, FaultInText, found_in, fault_of, place_of}
+use Rattle.keymap_text.proofs.Common.{◌≡◌, ℕ, List, [], ◌∷◌, refl, sym, ◌∙◌, ap, Result, Ok, Err, Option, Some, None}
+use Rattle.keymap_text.proofs.Common.{length-append, TextFaultKind, Item, Open, Close, Value, Number, Act, TokenValue}
+use Rattle.keymap_text.proofs.Common.{Tokens, Ends, Stops, Then, tokens_after, MapValue, with_accent, GrammarState}
+use Rattle.keymap_text.proofs.Common.{accept, at, at_end, first_of, RowPlace, AfterPairs, next, next_at_definition}
+use Rattle.keymap_text.proofs.Common.{judge, verdict, Verdict, Spelled, Faulty, ended, list_of, ending_of_tokens}
+use Rattle.keymap_text.proofs.Common.{item_of, place_after, FaultInText, found_in, fault_of, place_of, arith}
 use Rattle.keymap_text.proofs.Steps.{judge_then, judge_refused, judge_stops, judge_ends}
-use Rattle.keymap_text.specs.declared.fault.TextFaultKind.TheVariants as faults
 use Rattle.keymap_text.specs.Inner.Grammar as full
+use Rattle.keymap_core.specs.declared.action.Action.TheVariants.{DeadKey}
 
 abbrev pub led : Result GrammarState TextFaultKind → Result RowPlace TextFaultKind
 led (Ok s) = Ok (place_of s.place)
@@ -18,76 +15,21 @@ led (Err f) = Err f
 
 -- the first token of a definition
 first_led : (m : MapValue) (t : Item) → next_at_definition t ≡ led (full.◌>>=◌ (first_of t) (λ p. Ok (at m p)))
-first_led m (Value (Number n)) = go (nat_lt n 256)
-  where
-    go : (b : Bool) → cond b (Ok (AtCell 0)) (Err faults.KeyTooLarge)
-        ≡ led (full.◌>>=◌ (cond b (Ok (full.CellAt n 0 undefined)) (Err faults.KeyTooLarge)) (λ p. Ok (at m p)))
-    go true = refl
-    go false = refl
-first_led m (Value (Act a)) = go (accent_index a)
-  where
-    go : (o : Option ℕ) → (elim o as (λ o. Result RowPlace TextFaultKind)
-        [ Some i ↦ Ok AtAccentCharacter | None ↦ Err faults.Unexpected ])
-        ≡ led (full.◌>>=◌ (elim o as (λ o. Result full.GrammarPlace TextFaultKind)
-        [ Some i ↦ Ok (full.AccentCharacter i) | None ↦ Err faults.Unexpected ]) (λ p. Ok (at m p)))
-    go (Some i) = refl
-    go None = refl
+first_led m (Value (Number n)) = grind arith
+first_led m (Value (Act (DeadKey i))) = refl
 first_led m _ = refl
 
 -- a step of the machine leads to the place that the definitions name, or to their fault
 pub step_led : (m : MapValue) (p : full.GrammarPlace) (t : Item) → next (place_of p) t ≡ led (full.step m p t)
 step_led m full.Definition t = first_led m t
-step_led m (full.CellAt slot i e) t = go (cell t)
-  where
-    place : (b : Bool) (e : Entry) → ◌≡◌ {A = RowPlace} (cond b AtLock (AtCell (i + 1)))
-        (place_of (cond b (full.LockAt slot e) (full.CellAt slot (i + 1) e)))
-    place true e = refl
-    place false e = refl
-
-    go : (r : Result Cell TextFaultKind) → if_accepted r (λ c. Ok (cond (i == 7) AtLock (AtCell (i + 1))))
-        ≡ led (full.◌>>=◌ r (λ c. Ok (at m (full.after_cell slot i (full.with_cell e i c)))))
-    go (Ok c) = ap Ok (place (i == 7) (full.with_cell e i c))
-    go (Err f) = refl
-step_led m (full.LockAt slot e) t = go (lock t)
-  where
-    go : (r : Result LockFlag TextFaultKind)
-        → if_accepted r (λ f. Ok AtDefinition) ≡ led (full.◌>>=◌ r (λ f. Ok (at
-        (with_entry m slot (record { cells = e.cells; flag = f })) full.Definition)))
-    go (Ok c) = refl
-    go (Err f) = refl
-step_led m (full.AccentCharacter i) t = go (character t)
-  where
-    go : (r : Result ℕ TextFaultKind) → if_accepted r (λ c. Ok (AfterPairs 0))
-        ≡ led (full.◌>>=◌ r (λ c. Ok (at m (full.AfterAccent i (record { own = c; pairs = [] })))))
-    go (Ok c) = refl
-    go (Err f) = refl
-step_led m (full.AfterAccent i a) Open = go (nat_lt (length a.pairs) 52)
-  where
-    go : (b : Bool) → cond b (Ok (AtBase (length a.pairs))) (Err faults.TooManyPairs)
-        ≡ led (cond b (Ok (at m (full.PairBase i a))) (Err faults.TooManyPairs))
-    go true = refl
-    go false = refl
+step_led m (full.CellAt slot i e) t = grind arith
+step_led m (full.LockAt slot e) t = grind arith
+step_led m (full.AccentCharacter i) t = grind arith
+step_led m (full.AfterAccent i a) Open = grind arith
 step_led m (full.AfterAccent i a) Close = refl
 step_led m (full.AfterAccent i a) (Value v) = first_led (with_accent m i a) (Value v)
-step_led m (full.PairBase i a) t = go (character t)
-  where
-    base : (b : Bool) (c : ℕ) → ◌≡◌ {A = Result RowPlace TextFaultKind}
-        (cond b (Err faults.ZeroBase) (Ok (AtResult (length a.pairs))))
-        (led (cond b (Err faults.ZeroBase) (Ok (at m (full.PairResult i a c)))))
-    base true c = refl
-    base false c = refl
-
-    go : (r : Result ℕ TextFaultKind)
-        → if_accepted r (λ c. cond (c == 0) (Err faults.ZeroBase) (Ok (AtResult (length a.pairs))))
-        ≡ led (full.◌>>=◌ r (λ c. full.after_base m i a c))
-    go (Ok c) = base (c == 0) c
-    go (Err f) = refl
-step_led m (full.PairResult i a b) t = go (character t)
-  where
-    go : (r : Result ℕ TextFaultKind) → if_accepted r (λ c. Ok (AtPairEnd (length a.pairs)))
-        ≡ led (full.◌>>=◌ r (λ c. Ok (at m (full.PairEnd i a b c))))
-    go (Ok c) = refl
-    go (Err f) = refl
+step_led m (full.PairBase i a) t = grind arith
+step_led m (full.PairResult i a b) t = grind arith
 step_led m (full.PairEnd i a b r) Open = refl
 step_led m (full.PairEnd i a b r) Close = ap (λ n. Ok (AfterPairs n)) (sym (length-append a.pairs _))
 step_led m (full.PairEnd i a b r) (Value v) = refl

@@ -1,11 +1,12 @@
 -- The last definition of what a map has is the one in force.
-use Rattle.keymap_text.proofs.Common.{◌≡◌, ℕ, ◌+◌, ◌*◌, Bool, true, false, cond, List, [], ◌∷◌, ◌++◌, length, take}
-use Rattle.keymap_text.proofs.Common.{drop, map, get_or, refl, sym, ◌∙◌, ap, subst, arith, Option, Some, None, eqb-true}
+use Rattle.keymap_text.proofs.Common.{◌≡◌, ℕ, ◌+◌, ◌*◌, Bool, true, false, cond, List, [], ◌∷◌, length, take, drop, map}
+use Rattle.keymap_text.proofs.Common.{get_or, refl, sym, ◌∙◌, ap, subst, arith, Option, Some, None, eqb-true}
 use Rattle.keymap_text.proofs.Common.{length-map, none-some, same_Some, drop-append-add, take-append_seam, option_or}
 use Rattle.keymap_text.proofs.Common.{Entry, Defined, Slot, Accent, Placed, AccentValue, blank, MapValue, undefined}
 use Rattle.keymap_text.proofs.Common.{TokenValue, item_of, tokens, Definition, KeyDefinition, AccentDefinition, Defines}
-use Rattle.keymap_text.proofs.Common.{last, of_slot, of_index, or_default, map_of, Row, AreRows, no_row, one_row}
-use Rattle.keymap_text.proofs.Common.{IsSpelledBy, defined, places_after, places_of, is_same, last_of, empty_map}
+use Rattle.keymap_text.proofs.Common.{last, of_slot, of_index, or_default, Row, AreRows, no_row, one_row, IsSpelledBy}
+use Rattle.keymap_text.proofs.Common.{defined, places_after, places_of, is_same, last_of, empty_map, ap₂, ⊎_elim, ◌⊎◌}
+use Rattle.keymap_text.proofs.Common.{inl, inr, Item}
 use Rattle.keymap_text.proofs.Folded.{last_none, last_more, entries_of, accents_of, puts_are}
 use Rattle.keymap_text.proofs.Parts.{slot_tokens, accent_tokens}
 
@@ -30,8 +31,18 @@ last_nowhere : (what : Defined) (n : ℕ) → last_of what (places_after n []) �
 unfolding last_of places_after
 last_nowhere what n = refl
 
-some_none : {A : Type 0} (x : A) → Some x ≡ None → ⊥
-some_none x h = cc
+-- where a row and the others define something last
+last_or : (o : Option Placed) (b : Bool) (here p : Placed) → option_or o (cond b (Some here) None) ≡ Some p
+    → (o ≡ Some p) ⊎ ((o ≡ None) × (b ≡ true) × (here ≡ p))
+last_or (Some q) b here p h = inl h
+last_or None true here p h = inr (refl, refl, same_Some here p h)
+last_or None false here p h = absurd (none-some p h)
+
+last_neither : (o : Option Placed) (b : Bool) (here : Placed) → option_or o (cond b (Some here) None) ≡ None
+    → (o ≡ None) × (b ≡ false)
+last_neither (Some q) b here h = absurd (none-some q (sym h))
+last_neither None true here h = absurd (none-some here (sym h))
+last_neither None false here h = (refl, refl)
 
 -- What says something exactly of the definitions of one slot or accent.
 record SaysOf (A : Type 0) (says : Definition → Option A) (what : Defined) : Type 0 where
@@ -42,26 +53,10 @@ record SaysOf (A : Type 0) (says : Definition → Option A) (what : Defined) : T
 none_said : {A : Type 0} (says : Definition → Option A) (what : Defined) → SaysOf A says what → (rows : List Row)
     (n : ℕ) → last_of what (places_after n rows) ≡ None → last says (definitions rows) ≡ None
 none_said says what h [] n e = last_none says
-none_said {A} says what h (r ∷ rs) n e =
-    go (last_of what (places_after (n + length r.tokens) rs)) refl (is_same (defined r.definition) what) refl
-    (sym (last_place what n r rs) ∙ e) (none_said says what h rs (n + length r.tokens))
-  where
-    go : (o : Option Placed) → last_of what (places_after (n + length r.tokens) rs) ≡ o
-        → (b : Bool) → is_same (defined r.definition) what ≡ b
-        → option_or (last_of what (places_after (n + length r.tokens) rs))
-        (own what n r) ≡ None
-        → (last_of what (places_after (n + length r.tokens) rs) ≡ None → last says (definitions rs) ≡ None)
-        → last says (definitions (r ∷ rs)) ≡ None
-    go (Some q) f b g e ih =
-        absurd (some_none q (sym (ap (λ o. option_or o (own what n r)) f) ∙ e))
-    go None f true g e ih =
-        absurd (some_none (record { what = defined r.definition; first = n })
-        (sym (ap (λ o. option_or o (own what n r)) f
-        ∙ ap (λ b. cond b (Some (record { what = defined r.definition; first = n })) None) g) ∙ e))
-    go None f false g e ih =
-        last_more says r.definition (definitions rs)
-        ∙ ap (λ o. option_or o (says r.definition)) (ih f)
-        ∙ h.quiet r.definition g
+none_said says what h (r ∷ rs) n e =
+    let k = last_neither _ _ _ (sym (last_place what n r rs) ∙ e) in
+    last_more says r.definition (definitions rs)
+    ∙ ap₂ option_or (none_said says what h rs (n + length r.tokens) k.0) (h.quiet r.definition k.1)
 
 -- The row that defines something last.
 record LastRow (A : Type 0) (says : Definition → Option A) (what : Defined) (ts : List TokenValue)
@@ -78,54 +73,33 @@ last_row : {A : Type 0} (says : Definition → Option A) (what : Defined) → Sa
     {rows : List Row} → AreRows ts rows → (n : ℕ) (p : Placed) → last_of what (places_after n rows) ≡ Some p
     → LastRow A says what ts (definitions rows) n p
 last_row says what h no_row n p e = absurd (none-some p (sym (last_nowhere what n) ∙ e))
-last_row {A} says what h (one_row {ts = ts} {rs = rs} r d more) n p e =
-    go (last_of what (places_after (n + length r.tokens) rs)) refl (is_same (defined r.definition) what) refl
-    (sym (last_place what n r rs) ∙ e) (last_row says what h more (n + length r.tokens))
-  where
-    here : Placed
-    here = record { what = defined r.definition; first = n }
-
-    go : (o : Option Placed) → last_of what (places_after (n + length r.tokens) rs) ≡ o
-        → (b : Bool) → is_same (defined r.definition) what ≡ b
-        → option_or (last_of what (places_after (n + length r.tokens) rs))
-        (own what n r) ≡ Some p
-        → ((p : Placed) → last_of what (places_after (n + length r.tokens) rs) ≡ Some p
-        → LastRow A says what ts (definitions rs) (n + length r.tokens) p)
-        → LastRow A says what (r.tokens ++ ts) (definitions (r ∷ rs)) n p
-    go (Some q) f b g e ih =
-        let l : LastRow A says what ts (definitions rs) (n + length r.tokens) q = ih q f in
-        let same : q ≡ p = same_Some q p (sym (ap (λ o. option_or o (own what n r)) f) ∙ e) in
-        let told : (x : A) × (says l.row.definition ≡ Some x) = h.tells l.row.definition l.is in
-        record {
-          row = l.row;
-          skipped = length r.tokens + l.skipped;
-          first = ap (λ (p : Placed). p.first) (sym same) ∙ l.first ∙ omega arith;
-          there = ap (take (length l.row.tokens)) (drop-append-add r.tokens ts l.skipped) ∙ l.there;
-          defines = l.defines;
-          is = l.is;
-          says_it =
-              last_more says r.definition (definitions rs)
-              ∙ ap (λ o. option_or o (says r.definition)) (l.says_it ∙ told.1) ∙ sym told.1;
-        }
-    go None f true g e ih =
-        let same : record { what = defined r.definition; first = n } ≡ p =
-        same_Some (record { what = defined r.definition; first = n }) p
-        (sym (ap (λ o. option_or o (own what n r)) f
-        ∙ ap (λ b. cond b (Some (record { what = defined r.definition; first = n })) None) g) ∙ e) in
-        record {
-          row = r;
-          skipped = 0;
-          first = ap (λ (p : Placed). p.first) (sym same) ∙ omega arith;
-          there = take-append_seam r.tokens ts;
-          defines = d;
-          is = g;
-          says_it =
-              last_more says r.definition (definitions rs)
-              ∙ ap (λ o. option_or o (says r.definition)) (none_said says what h rs (n + length r.tokens) f);
-        }
-    go None f false g e ih =
-        absurd (none-some p (sym (ap (λ o. option_or o (own what n r)) f
-        ∙ ap (λ b. cond b (Some (record { what = defined r.definition; first = n })) None) g) ∙ e))
+last_row says what h (one_row {ts = ts} {rs = rs} r d more) n p e = ⊎_elim
+    (λ f.
+    let l = last_row says what h more (n + length r.tokens) p f in
+    let told = h.tells l.row.definition l.is in
+    record {
+      row = l.row;
+      skipped = length r.tokens + l.skipped;
+      first = l.first ∙ omega arith;
+      there = ap (take (length l.row.tokens)) (drop-append-add r.tokens ts l.skipped) ∙ l.there;
+      defines = l.defines;
+      is = l.is;
+      says_it =
+          last_more says r.definition (definitions rs)
+          ∙ ap (λ o. option_or o (says r.definition)) (l.says_it ∙ told.1) ∙ sym told.1;
+    })
+    (λ k. record {
+      row = r;
+      skipped = 0;
+      first = ap (λ (p : Placed). p.first) (sym k.2) ∙ omega arith;
+      there = take-append_seam r.tokens ts;
+      defines = d;
+      is = k.1;
+      says_it =
+          last_more says r.definition (definitions rs)
+          ∙ ap (λ o. option_or o (says r.definition)) (none_said says what h rs (n + length r.tokens) k.0);
+    })
+    (last_or _ _ _ p (sym (last_place what n r rs) ∙ e))
 
 -- what is said of a slot
 says_slot : (slot : ℕ) → SaysOf Entry (of_slot slot) (Slot slot)
@@ -166,40 +140,46 @@ index_row (AccentDefinition j a) i h =
     ap (λ j. AccentDefinition j a) (eqb-true j i h)
     ∙ ap (λ b. AccentDefinition i (or_default (cond b (Some a) None) blank)) (sym h)
 
--- the entry and the accent that definitions make
-entry_of : (ds : List Definition) (slot : ℕ)
-    → get_or (map_of ds).entries slot undefined ≡ or_default (last (of_slot slot) ds) undefined
-entry_of ds slot =
-    ap (λ (m : MapValue). get_or m.entries slot undefined) (sym (puts_are ds)) ∙ entries_of empty_map ds slot
+-- the entry and the accent that the definitions make
+entry_spelled : (text : List ℕ) (m : MapValue) (rows : List Row) → IsSpelledBy text m rows → (slot : ℕ)
+    → get_or m.entries slot undefined ≡ or_default (last (of_slot slot) (definitions rows)) undefined
+entry_spelled text m rows h slot =
+    ap (λ (m : MapValue). get_or m.entries slot undefined) (h.spelled ∙ sym (puts_are (definitions rows)))
+    ∙ entries_of empty_map (definitions rows) slot
 
-accent_of : (ds : List Definition) (i : ℕ)
-    → get_or (map_of ds).accents i blank ≡ or_default (last (of_index i) ds) blank
-accent_of ds i = ap (λ (m : MapValue). get_or m.accents i blank) (sym (puts_are ds)) ∙ accents_of empty_map ds i
+accent_spelled : (text : List ℕ) (m : MapValue) (rows : List Row) → IsSpelledBy text m rows → (i : ℕ)
+    → get_or m.accents i blank ≡ or_default (last (of_index i) (definitions rows)) blank
+accent_spelled text m rows h i =
+    ap (λ (m : MapValue). get_or m.accents i blank) (h.spelled ∙ sym (puts_are (definitions rows)))
+    ∙ accents_of empty_map (definitions rows) i
+
+-- the tokens of the row that defines something last are its definition in the map
+in_force : {A : Type 0} (says : Definition → Option A) (what : Defined) → SaysOf A says what → (text : List ℕ)
+    (m : MapValue) (rows : List Row) → IsSpelledBy text m rows → (n : ℕ) (d : Definition) (p : Placed)
+    → last_of what (places_of rows) ≡ Some p
+    → ((f : Definition) → is_same (defined f) what ≡ true → last says (definitions rows) ≡ says f → f ≡ d)
+    → ((ts : List Item) → Defines ts d → length ts ≡ n) → Defines (map item_of (take n (drop p.first (tokens text)))) d
+in_force says what k text m rows h n d p e is size =
+    let f = last_row says what k h.are_rows 0 p e in
+    let defines = subst (Defines (map item_of f.row.tokens)) (is f.row.definition f.is f.says_it) f.defines in
+    let many = sym (length-map f.row.tokens item_of) ∙ size (map item_of f.row.tokens) defines in
+    let place : f.skipped ≡ p.first = omega (arith, f.first) in
+    let there = sym f.there ∙ ap₂ (λ n k. take n (drop k (tokens text))) many place in
+    subst (λ (ts : List TokenValue). Defines (map item_of ts) d) there defines
 
 pub slot_in_force : (text : List ℕ) (m : MapValue) (rows : List Row) → IsSpelledBy text m rows → (slot : ℕ) (p : Placed)
     → last_of (Slot slot) (places_of rows) ≡ Some p
     → Defines (map item_of (take 10 (drop p.first (tokens text))))
     (KeyDefinition slot (get_or m.entries slot undefined))
 slot_in_force text m rows h slot p e =
-    let f = last_row (of_slot slot) (Slot slot) (says_slot slot) h.are_rows 0 p e in
-    let entry : or_default (of_slot slot f.row.definition) undefined ≡ get_or m.entries slot undefined =
-    sym (ap (λ (m : MapValue). get_or m.entries slot undefined) h.spelled ∙ entry_of (definitions rows) slot
-    ∙ ap (λ o. or_default o undefined) f.says_it) in
-    let d = subst (Defines (map item_of f.row.tokens)) (slot_row f.row.definition slot f.is
-    ∙ ap (KeyDefinition slot) entry) f.defines in
-    let ten = sym (length-map f.row.tokens item_of) ∙ slot_tokens (map item_of f.row.tokens) slot
-    (get_or m.entries slot undefined) d in
-    let place : f.skipped ≡ p.first = omega (arith, f.first) in
-    let there : f.row.tokens ≡ take 10 (drop p.first (tokens text)) =
-    sym f.there ∙ ap (λ n. take n (drop f.skipped (tokens text))) ten
-    ∙ ap (λ n. take 10 (drop n (tokens text))) place in
-    subst (λ (ts : List TokenValue). Defines (map item_of ts) (KeyDefinition slot (get_or m.entries slot undefined)))
-    there d
+    in_force (of_slot slot) (Slot slot) (says_slot slot) text m rows h 10 _ p e
+    (λ d is says. slot_row d slot is ∙ ap (KeyDefinition slot) (sym (entry_spelled text m rows h slot
+    ∙ ap (λ o. or_default o undefined) says))) (λ ts. slot_tokens ts slot _)
 
 pub no_slot : (text : List ℕ) (m : MapValue) (all : List Row) → IsSpelledBy text m all → (slot : ℕ)
     → last_of (Slot slot) (places_of all) ≡ None → get_or m.entries slot undefined ≡ undefined
 no_slot text m all h slot e =
-    ap (λ (m : MapValue). get_or m.entries slot undefined) h.spelled ∙ entry_of (definitions all) slot
+    entry_spelled text m all h slot
     ∙ ap (λ o. or_default o undefined) (none_said (of_slot slot) (Slot slot) (says_slot slot) all 0 e)
 
 pub accent_in_force : (text : List ℕ) (m : MapValue) (rows : List Row) → IsSpelledBy text m rows → (i : ℕ) (p : Placed)
@@ -207,23 +187,12 @@ pub accent_in_force : (text : List ℕ) (m : MapValue) (rows : List Row) → IsS
     → Defines (map item_of (take (4 * length (get_or m.accents i blank).pairs + 2) (drop p.first (tokens text))))
     (AccentDefinition i (get_or m.accents i blank))
 accent_in_force text m rows h i p e =
-    let f = last_row (of_index i) (Accent i) (says_index i) h.are_rows 0 p e in
-    let accent : or_default (of_index i f.row.definition) blank ≡ get_or m.accents i blank =
-    sym (ap (λ (m : MapValue). get_or m.accents i blank) h.spelled ∙ accent_of (definitions rows) i
-    ∙ ap (λ o. or_default o blank) f.says_it) in
-    let d = subst (Defines (map item_of f.row.tokens)) (index_row f.row.definition i f.is
-    ∙ ap (AccentDefinition i) accent) f.defines in
-    let n = 4 * length (get_or m.accents i blank).pairs + 2 in
-    let many = sym (length-map f.row.tokens item_of) ∙ accent_tokens (map item_of f.row.tokens) i
-    (get_or m.accents i blank) d in
-    let place : f.skipped ≡ p.first = omega (arith, f.first) in
-    let there : f.row.tokens ≡ take n (drop p.first (tokens text)) =
-    sym f.there ∙ ap (λ n. take n (drop f.skipped (tokens text))) many
-    ∙ ap (λ k. take n (drop k (tokens text))) place in
-    subst (λ (ts : List TokenValue). Defines (map item_of ts) (AccentDefinition i (get_or m.accents i blank))) there d
+    in_force (of_index i) (Accent i) (says_index i) text m rows h _ _ p e
+    (λ d is says. index_row d i is ∙ ap (AccentDefinition i) (sym (accent_spelled text m rows h i
+    ∙ ap (λ o. or_default o blank) says))) (λ ts. accent_tokens ts i _)
 
 pub no_accent : (text : List ℕ) (m : MapValue) (all : List Row) → IsSpelledBy text m all → (i : ℕ)
     → last_of (Accent i) (places_of all) ≡ None → get_or m.accents i blank ≡ blank
 no_accent text m all h i e =
-    ap (λ (m : MapValue). get_or m.accents i blank) h.spelled ∙ accent_of (definitions all) i
+    accent_spelled text m all h i
     ∙ ap (λ o. or_default o blank) (none_said (of_index i) (Accent i) (says_index i) all 0 e)

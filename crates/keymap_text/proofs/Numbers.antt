@@ -1,10 +1,10 @@
 -- Names and numbers.
-use Rattle.keymap_text.proofs.Common.{lt-ltb, le-ltb}
-use Rattle.keymap_text.proofs.Common.{◌≡◌, ℕ, suc, ◌+◌, ◌*◌, ◌^◌, ◌<◌, ◌≤◌, Bool, true, false, cond, ◌&&◌, List, []}
-use Rattle.keymap_text.proofs.Common.{◌∷◌, length, take, drop, get_or, refl, sym, ◌∙◌, ap, arith, add-one, drop-cons}
-use Rattle.keymap_text.proofs.Common.{pow_mono, pow-add, nat_lt, Some, None, Option, mul-le-mul_left, ap₂, ◌==◌}
-use Rattle.keymap_text.proofs.Common.{take_all, at_drop_all, fold_more, nat_tests, list_all, digit_value, Name}
-use Rattle.keymap_text.proofs.Common.{meaning_by_names, letters, sense_meaning, same_name, digits_of, number, is_digit}
+use Rattle.keymap_text.proofs.Common.{lt-ltb, le-ltb, ◌≡◌, ℕ, suc, ◌+◌, ◌*◌, ◌^◌, ◌<◌, ◌≤◌, Bool, true, false, cond}
+use Rattle.keymap_text.proofs.Common.{◌&&◌, List, [], ◌∷◌, length, take, drop, get_or, refl, sym, ◌∙◌, ap, arith}
+use Rattle.keymap_text.proofs.Common.{add-one, drop-cons, pow_mono, pow-add, nat_lt, Some, None, Option}
+use Rattle.keymap_text.proofs.Common.{mul-le-mul_left, ap₂, ◌==◌, take_all, at_drop_all, fold_more, nat_tests, list_all}
+use Rattle.keymap_text.proofs.Common.{digit_value, Name, meaning_by_names, letters, sense_meaning, same_name, digits_of}
+use Rattle.keymap_text.proofs.Common.{number, is_digit}
 use Rattle.std.proofs.lemmas.List.Folds.{list_all_at, list_all_more}
 
 -- no row has no name
@@ -54,13 +54,6 @@ bound_step n base d i h b e =
     four : (i : ℕ) → 4 * (i + 1) ≡ 4 * i + 4
     four i = omega arith
 
--- so it fits in four bits for each of the digits that there are at most
-pub more_fits : (most n base d i : ℕ) → n < 2 ^ (4 * i) → base ≤ 16 → d < base → i < most
-    → n * base + d < 2 ^ (4 * most)
-more_fits most n base d i h b e l =
-    let room : 2 ^ (4 * (i + 1)) ≤ 2 ^ (4 * most) = pow_mono {i = 4 * (i + 1)} {j = 4 * most} (omega arith) in
-    omega (arith, room, bound_step n base d i h b e)
-
 -- no digit spells no number
 pub digits_none : (base : ℕ) (w : List ℕ) → length w ≡ 0 → digits_of base w ≡ None
 unfolding digits_of
@@ -103,18 +96,25 @@ pub record Spells (base : ℕ) (w : List ℕ) (i n : ℕ) : Type 0 where
   pub digits : list_all (is_digit base) (take i w) ≡ true
   pub bound : n < 2 ^ (4 * i)
 
-pub spells_more : (base : ℕ) (w : List ℕ) (i n d : ℕ) → i < length w → base ≤ 16 → d ≡ digit_value (get_or w i 0)
+-- one digit more fits in four bits for each of the digits that there are at most
+pub more_fits : {base : ℕ} {w : List ℕ} {i n d : ℕ} (most : ℕ) → Spells base w i n → base ≤ 16 → d < base → i < most
+    → n * base + d < 2 ^ (4 * most)
+more_fits {base = base} {i = i} {n = n} {d = d} most s b e l =
+    let room : 2 ^ (4 * (i + 1)) ≤ 2 ^ (4 * most) = pow_mono {i = 4 * (i + 1)} {j = 4 * most} (omega arith) in
+    omega (arith, room, bound_step n base d i s.bound b e)
+
+pub spells_more : {base : ℕ} {w : List ℕ} {i n d : ℕ} → i < length w → base ≤ 16 → d ≡ digit_value (get_or w i 0)
     → d < base → Spells base w i n → Spells base w (i + 1) (n * base + d)
-spells_more base w i n d h b is e s = record {
+spells_more {base = base} {w = w} {i = i} {n = n} {d = d} h b is e s = record {
   value = ap₂ (λ n d. n * base + d) s.value is ∙ sym (number_more base w i h);
   digits = digits_more base w i h s.digits (omega (arith, is, e));
   bound = bound_step n base d i s.bound b e;
 }
 
 -- all of them spell the number
-pub spells_all : (base : ℕ) (w : List ℕ) (i n : ℕ) → (length w == 0) ≡ false → length w ≤ i → Spells base w i n
+pub spells_all : {base : ℕ} {w : List ℕ} {i n : ℕ} → (length w == 0) ≡ false → length w ≤ i → Spells base w i n
     → Some n ≡ digits_of base w
-spells_all base w i n some h s =
+spells_all {base = base} {w = w} {i = i} some h s =
     let e = take_all i w h in
     ap Some (s.value ∙ ap (number base) e)
     ∙ sym (digits_good base w (not_empty (length w) some) (sym (ap (list_all (is_digit base)) e) ∙ s.digits))

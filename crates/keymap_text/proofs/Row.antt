@@ -1,20 +1,21 @@
 -- The reader's machine accepts exactly the rows of definitions.
 use Rattle.keymap_text.proofs.Common.{◌≡◌, ◌≢◌, ℕ, ◌+◌, ◌<◌, ◌≤◌, ◌==◌, Bool, true, false, cond, List, [], ◌∷◌, ◌++◌}
 use Rattle.keymap_text.proofs.Common.{length, take, set, refl, sym, ◌∙◌, ap, subst, arith, Result, Ok, Err, Option}
-use Rattle.keymap_text.proofs.Common.{Some, None, length-append, length-set, append_assoc, append-nil, nat_lt, eqb-true}
-use Rattle.keymap_text.proofs.Common.{ne_eqb, eq-eqb, true≢false, take_all, none-some, same_Some}
-use Rattle.keymap_text.proofs.Common.{take_more_set, TextFaultKind, Entry, Cell, LockFlag, Action, Item, Open, Close}
-use Rattle.keymap_text.proofs.Common.{Value, Number, Act, Letter, AccentValue, MapValue, undefined}
-use Rattle.keymap_text.proofs.Common.{with_entry, with_accent, character, cell, lock, accent_index, GrammarState}
-use Rattle.keymap_text.proofs.Common.{GrammarPlace, CellAt, LockAt, AccentCharacter, AfterAccent, PairBase, PairResult}
-use Rattle.keymap_text.proofs.Common.{PairEnd, accept, at, at_end, start, step, first_of, empty_map, with_cell}
-use Rattle.keymap_text.proofs.Common.{with_pair, after_cell, after_base, ◌>>=◌, KeyDefinition, AccentDefinition}
-use Rattle.keymap_text.proofs.Common.{AreCells, no_cells, one_cell, ArePairs, no_pairs, one_pair, Defines, of_key}
-use Rattle.keymap_text.proofs.Common.{of_accent, IsRow, no_definition, one_definition, ltb-true, lt-ltb}
+use Rattle.keymap_text.proofs.Common.{Some, None, length-append, length-set, append_assoc, append-nil, nat_lt, ne_eqb}
+use Rattle.keymap_text.proofs.Common.{eq-eqb, true≢false, take_all, none-some, same_Some, take_more_set, TextFaultKind}
+use Rattle.keymap_text.proofs.Common.{Entry, Cell, LockFlag, Action, Item, Open, Close, Value, Number, Act, Letter}
+use Rattle.keymap_text.proofs.Common.{AccentValue, MapValue, undefined, with_entry, with_accent, character, cell, lock}
+use Rattle.keymap_text.proofs.Common.{accent_index, GrammarState, GrammarPlace, CellAt, LockAt, AccentCharacter}
+use Rattle.keymap_text.proofs.Common.{AfterAccent, PairBase, PairResult, PairEnd, accept, at, at_end, start, step}
+use Rattle.keymap_text.proofs.Common.{first_of, empty_map, with_cell, with_pair, after_cell, after_base, ◌>>=◌}
+use Rattle.keymap_text.proofs.Common.{KeyDefinition, AccentDefinition, AreCells, no_cells, one_cell, ArePairs, no_pairs}
+use Rattle.keymap_text.proofs.Common.{one_pair, Defines, of_key, of_accent, IsRow, no_definition, one_definition}
+use Rattle.keymap_text.proofs.Common.{ltb-true, lt-ltb, cases_eq, inl, inr}
 use Rattle.keymap_text.specs.Inner.Grammar.{Definition}
 use Rattle.keymap_text.proofs.Folded.{put, puts, puts_push}
 use Rattle.keymap_text.specs.declared.fault.TextFaultKind.TheVariants as faults
 use Rattle.keymap_text.specs.Rows as rows
+use Rattle.keymap_core.specs.declared.action.Action.TheVariants.{DeadKey}
 
 -- a fault is no answer
 err_ok : {A : Type 0} (e : TextFaultKind) (y : A) → ◌≡◌ {A = Result A TextFaultKind} (Err e) (Ok y) → ⊥
@@ -29,6 +30,17 @@ bind_ok (Err e) f y h = absurd (err_ok e y h)
 -- equal answers
 pub ok_is : {A : Type 0} (x y : A) → ◌≡◌ {A = Result A TextFaultKind} (Ok x) (Ok y) → x ≡ y
 ok_is x y h = cc
+
+-- a test that passed, and one that failed
+test_passed : {A : Type 0} (b : Bool) (x y : A) (f : TextFaultKind)
+    → ◌≡◌ {A = Result A TextFaultKind} (cond b (Ok x) (Err f)) (Ok y) → (b ≡ true) × (x ≡ y)
+test_passed true x y f h = (refl, ok_is x y h)
+test_passed false x y f h = absurd (err_ok f y h)
+
+test_failed : {A : Type 0} (b : Bool) (x y : A) (f : TextFaultKind)
+    → ◌≡◌ {A = Result A TextFaultKind} (cond b (Err f) (Ok x)) (Ok y) → (b ≡ false) × (x ≡ y)
+test_failed true x y f h = absurd (err_ok f y h)
+test_failed false x y f h = (refl, ok_is x y h)
 
 -- numbers that differ
 differ : (a b : ℕ) → (a == b) ≡ false → a ≢ b
@@ -82,23 +94,11 @@ data Moves (part : List Item) (m : MapValue) (t : Item) (s : GrammarState) : Typ
 
 -- the first token of a definition
 begins : (t : Item) (p : GrammarPlace) → first_of t ≡ Ok p → Part (t ∷ []) p
-begins (Value (Number n)) p h = go (nat_lt n 256) refl h
-  where
-    go : (b : Bool) → nat_lt n 256 ≡ b → cond b (Ok (CellAt n 0 undefined)) (Err faults.KeyTooLarge) ≡ Ok p
-        → Part (Value (Number n) ∷ []) p
-    go true e h =
-        subst (Part (Value (Number n) ∷ [])) (ok_is _ _ h) ([], refl, ltb-true n 256 e, omega arith, refl, no_cells)
-    go false e h = absurd (err_ok _ _ h)
-begins (Value (Act a)) p h = go (accent_index a) refl h
-  where
-    go : (o : Option ℕ) → accent_index a ≡ o
-        → (elim o as (λ o. Result GrammarPlace TextFaultKind) [
-          | Some i ↦ Ok
-              (AccentCharacter i)
-          | None ↦ Err faults.Unexpected
-        ]) ≡ Ok p → Part (Value (Act a) ∷ []) p
-    go (Some i) e h = subst (Part (Value (Act a) ∷ [])) (ok_is _ _ h) (a, refl, e)
-    go None e h = absurd (err_ok _ _ h)
+begins (Value (Number n)) p h =
+    let k = test_passed (nat_lt n 256) (CellAt n 0 undefined) p faults.KeyTooLarge h in
+    subst (Part (Value (Number n) ∷ [])) k.1 ([], refl, ltb-true n 256 k.0, omega arith, refl, no_cells)
+begins (Value (Act (DeadKey i))) p h =
+    subst (Part (Value (Act (DeadKey i)) ∷ [])) (ok_is _ _ h) (DeadKey i, refl, refl)
 begins _ p h = absurd (err_ok _ _ h)
 
 -- a lock letter
@@ -114,31 +114,17 @@ set_last xs i x h =
 -- one cell more
 cell_part : (ts : List Item) (t : Item) (slot i : ℕ) (e : Entry) (c : Cell) → Part ts (CellAt slot i e) → cell t ≡ Ok c
     → Part (ts ++ t ∷ []) (after_cell slot i (with_cell e i c))
-cell_part ts t slot i e c (cs, is, fits, lt, l, cells) h = go (i == 7) refl
-  where
-    go : (b : Bool) → (i == 7) ≡ b → Part (ts ++ t ∷ []) (cond b (LockAt slot (with_cell e i c))
-        (CellAt slot (i + 1) (with_cell e i c)))
-    go true k =
-        let i7 : i ≡ 7 = eqb-true _ _ k in (
-          cs ++ t ∷ [],
-          ap (λ ts. ts ++ t ∷ []) is,
-          fits,
-          length-set e.cells i c
-              ∙ l,
-          subst (AreCells (cs ++ t ∷ [])) (sym (set_last e.cells i c (omega (arith, l, i7))))
-              (cells_push t c cells h),
-        )
-    go false k =
-        let n7 : i ≢ 7 = differ i 7 k in (
-          cs ++ t ∷ [],
-          ap (λ ts. ts ++ t ∷ []) is,
-          fits,
-          omega (arith, lt, n7),
-          length-set e.cells i c
-              ∙ l,
-          subst (AreCells (cs ++ t ∷ [])) (sym (take_more_set e.cells i c (omega (arith, l, lt))))
-              (cells_push t c cells h),
-        )
+cell_part ts t slot i e c (cs, is, fits, lt, l, cells) h =
+    let whole = ap (λ ts. ts ++ t ∷ []) is in
+    let long = length-set e.cells i c ∙ l in
+    let more = cells_push t c cells h in
+    elim (cases_eq i 7) [
+      | inl k ↦ rw (eq-eqb i 7 k)
+          (cs ++ t ∷ [], whole, fits, long, rw (set_last e.cells i c (omega (arith, l, k))) more)
+      | inr k ↦ rw (ne_eqb i 7 k)
+          (cs ++ t ∷ [], whole, fits, omega (arith, lt, k), long,
+          rw (take_more_set e.cells i c (omega (arith, l, lt))) more)
+    ]
 
 -- a pair ends
 pair_done : (us : List Item) (t u : Item) (i : ℕ) (a : AccentValue) (b r : ℕ) → Defines us (AccentDefinition i a)
@@ -185,48 +171,20 @@ moves part m (AccentCharacter i) t s h (name, is, idx) =
     on part m t _ s b.2 (subst (λ (ts : List Item). Defines (ts ++ t ∷ [])
     (AccentDefinition i (record { own = b.0; pairs = [] }))) (sym is)
     (of_accent name idx b.1 (omega arith) no_pairs))
-moves part m (AfterAccent i a) Open s h k = go (nat_lt (length a.pairs) 52) refl h
-  where
-    go : (b : Bool) → nat_lt (length a.pairs) 52 ≡ b
-        → cond b (Ok (at m (PairBase i a))) (Err faults.TooManyPairs) ≡ Ok s → Moves part m Open s
-    go true e h = on part m Open (PairBase i a) s h (part, refl, k, ltb-true _ _ e)
-    go false e h = absurd (err_ok _ _ h)
+moves part m (AfterAccent i a) Open s h k =
+    let t = test_passed (nat_lt (length a.pairs) 52) (at m (PairBase i a)) s faults.TooManyPairs h in
+    on part m Open (PairBase i a) s (ap Ok t.1) (part, refl, k, ltb-true _ _ t.0)
 moves part m (AfterAccent i a) Close s h k = begin_behind part m i a Close s h k
 moves part m (AfterAccent i a) (Value v) s h k = begin_behind part m i a (Value v) s h k
 moves part m (PairBase i a) t s h (us, is, d, l) =
     let b = bind_ok (character t) (λ c. after_base m i a c) s h in
-    go b.0 b.1 b.2
-  where
-    go : (c : ℕ) → character t ≡ Ok c → after_base m i a c ≡ Ok s → Moves part m t s
-    go c e h = at_zero (c == 0) refl h
-      where
-        at_zero : (z : Bool) → (c == 0) ≡ z → cond z (Err faults.ZeroBase) (Ok (at m (PairResult i a c))) ≡ Ok s
-            → Moves part m t s
-        at_zero true k h = absurd (err_ok _ _ h)
-        at_zero false k h =
-            on part m t (PairResult i a c) s h (
-              us,
-              t,
-              ap (λ ts. ts ++ t ∷ []) is
-                  ∙ append_assoc us (Open ∷ []) (t ∷ []),
-              d,
-              l,
-              e,
-              differ c 0 k,
-            )
+    let z = test_failed (b.0 == 0) (at m (PairResult i a b.0)) s faults.ZeroBase b.2 in
+    let whole = ap (λ ts. ts ++ t ∷ []) is ∙ append_assoc us (Open ∷ []) (t ∷ []) in
+    on part m t (PairResult i a b.0) s (ap Ok z.1) (us, t, whole, d, l, b.1, differ b.0 0 z.0)
 moves part m (PairResult i a b) t s h (us, u, is, d, l, e, z) =
     let r = bind_ok (character t) (λ c. Ok (at m (PairEnd i a b c))) s h in
-    on part m t _ s r.2 (
-      us,
-      u,
-      t,
-      ap (λ ts. ts ++ t ∷ []) is ∙ append_assoc us (Open ∷ u ∷ []) (t ∷ []),
-      d,
-      l,
-      e,
-      z,
-      r.1,
-    )
+    let whole = ap (λ ts. ts ++ t ∷ []) is ∙ append_assoc us (Open ∷ u ∷ []) (t ∷ []) in
+    on part m t _ s r.2 (us, u, t, whole, d, l, e, z, r.1)
 moves part m (PairEnd i a b r) Open s h k = absurd (err_ok _ _ h)
 moves part m (PairEnd i a b r) Close s h (us, t, u, is, d, l, e, z, f) =
     on part m Close _ s h (subst (λ (ts : List Item). Defines ts (AccentDefinition i (with_pair a b r)))

@@ -7,7 +7,7 @@ use Rattle.keymap_text.proofs.Common.{drop-append-add, IfErr, MapValue, TextFaul
 use Rattle.keymap_text.proofs.Common.{stays_on_line, is_word, tokens_after, literal, Unfinished, line, Early, Means}
 use Rattle.keymap_text.proofs.Common.{GrammarState, GrammarPlace, at, judge, verdict, Faulty, resume, Says, IsReader}
 use Rattle.keymap_text.proofs.Common.{IsFaultOfPending, Lined, Moves, Breaks, Feeds, Passes, Advances, Refuses, IsOpen}
-use Rattle.keymap_text.proofs.Common.{state_view, IsPlace, StandsAfter, FedAfter, progress}
+use Rattle.keymap_text.proofs.Common.{state_view, IsPlace, StandsAfter, FedAfter, progress, grammar_view}
 use Rattle.keymap_text.specs.declared.reader.MapReader.TheInside.{Inside}
 use Rattle.keymap_text.proofs.InFront.{front_quote, word_found, is_quote}
 use Rattle.keymap_text.proofs.Leading.{leading_pass, leading_append, leading_le}
@@ -186,16 +186,30 @@ passed old new bytes w y n a e k p q l low place = record {
         ap₂ (λ n (t : List ℕ). drop n t) k e
         ∙ drop-append-add old.pending.items (w ++ y) (length w) ∙ drop_at w y (length w) refl
 
+-- A reader on the same line, at the same place of the grammar.
+pub record Stays (old new : Reading) : Type 0 where
+  pub map : new.map ≡ old.map
+  pub grammar : new.grammar ≡ old.grammar
+  pub line : new.line ≡ old.line
+
+-- it is one still where it has moved on
+stays_reader : {old new : Reading} → IsReader old → Stays old new → old.offset ≤ new.offset → IsOpen new.pending.items
+    → IsReader new
+stays_reader r s q t = record { place = rw s.grammar r.place; tail = t; low = omega (arith, r.low, s.line) }
+
+stays_view : {old new : Reading} → Stays old new → state_view old ≡ state_view new
+stays_view s = sym (ap₂ (λ m g. at m (grammar_view g)) s.map s.grammar)
+
 -- a comment goes on to the end of its line
 pub comment_ends : (old new : Reading) (w y : List ℕ) → 0 < length old.pending.items
-    → get_or old.pending.items 0 0 ≡ 35 → IsOpen old.pending.items → leading stays_on_line w ≡ length w
-    → ((x : List ℕ) → leading stays_on_line (y ++ x) ≡ 0) → state_view new ≡ state_view old → new.pending.items ≡ []
-    → new.offset ≡ old.offset + length old.pending.items + length w → new.line ≡ old.line → IsReader new
-    → Moves old new w y
-comment_ends old new w y some hash o all stops s p q l r =
-    still old new w y (on_line w stays_on_line refl all) (omega (arith, q)) l (omega (arith, q, ap length p)) r (λ x.
-    ends (state_view old) old.offset old.pending.items x some hash o
-    ∙ ap₂ (λ s q. judge s (tokens_after 0 q (y ++ x))) (sym s) (omega (arith, q))
+    → get_or old.pending.items 0 0 ≡ 35 → IsReader old → leading stays_on_line w ≡ length w
+    → ((x : List ℕ) → leading stays_on_line (y ++ x) ≡ 0) → Stays old new → new.pending.items ≡ []
+    → new.offset ≡ old.offset + length old.pending.items + length w → Moves old new w y
+comment_ends old new w y some hash r all stops s p q =
+    still old new w y (on_line w stays_on_line refl all) (omega (arith, q)) s.line (omega (arith, q, ap length p))
+    (stays_reader r s (omega (arith, q)) (rw p tt)) (λ x.
+    ends (state_view old) old.offset old.pending.items x some hash r.tail
+    ∙ ap₂ (λ s q. judge s (tokens_after 0 q (y ++ x))) (stays_view s) (omega (arith, q))
     ∙ ap (λ (t : List ℕ). judge (state_view new) (tokens_after 0 new.offset (t ++ (y ++ x)))) (sym p))
   where
     ends : (s : GrammarState) (q : ℕ) (p x : List ℕ) → 0 < length p → get_or p 0 0 ≡ 35 → IsOpen p
@@ -211,13 +225,13 @@ comment_ends old new w y some hash o all stops s p q l r =
 
 -- or behind these bytes
 pub comment_goes : (old new : Reading) (w y : List ℕ) → 0 < length old.pending.items
-    → get_or old.pending.items 0 0 ≡ 35 → IsOpen old.pending.items → leading stays_on_line w ≡ length w
-    → state_view new ≡ state_view old → new.pending.items ≡ old.pending.items → new.offset ≡ old.offset + length w
-    → new.line ≡ old.line → IsReader new → Moves old new w y
-comment_goes old new w y some hash o all s p q l r =
-    still old new w y (on_line w stays_on_line refl all) (omega (arith, q)) l (omega (arith, q, ap length p)) r (λ x.
-    goes (state_view old) old.offset old.pending.items x some hash o
-    ∙ ap₂ (λ s q. judge s (tokens_after 0 q (old.pending.items ++ (y ++ x)))) (sym s) (sym q)
+    → get_or old.pending.items 0 0 ≡ 35 → IsReader old → leading stays_on_line w ≡ length w → Stays old new
+    → new.pending.items ≡ old.pending.items → new.offset ≡ old.offset + length w → Moves old new w y
+comment_goes old new w y some hash r all s p q =
+    still old new w y (on_line w stays_on_line refl all) (omega (arith, q)) s.line (omega (arith, q, ap length p))
+    (stays_reader r s (omega (arith, q)) (rw p r.tail)) (λ x.
+    goes (state_view old) old.offset old.pending.items x some hash r.tail
+    ∙ ap₂ (λ s q. judge s (tokens_after 0 q (old.pending.items ++ (y ++ x)))) (stays_view s) (sym q)
     ∙ ap (λ (t : List ℕ). judge (state_view new) (tokens_after 0 new.offset (t ++ (y ++ x)))) (sym p))
   where
     goes : (s : GrammarState) (q : ℕ) (p x : List ℕ) → 0 < length p → get_or p 0 0 ≡ 35 → IsOpen p
@@ -232,16 +246,17 @@ comment_goes old new w y some hash o all s p q l r =
 
 -- a comment that goes on is kept as its first byte
 pub comment_kept : (old new : Reading) (tail : List ℕ) → old.pending.items ≡ [] → 0 < length tail
-    → get_or tail 0 0 ≡ 35 → IsOpen tail → state_view new ≡ state_view old → new.pending.items ≡ 35 ∷ []
-    → new.offset ≡ old.offset + (length tail - 1) → new.line ≡ old.line → IsReader new → Moves old new tail []
-comment_kept old new [] none some hash o s p q l r = absurd (omega (arith, some))
-comment_kept old new (a ∷ t) none some hash o s p q l r =
-    still old new (a ∷ t) [] (open_feeds (a ∷ t) o) (omega (arith, q)) l
-    (omega (arith, q, ap length p, ap length none)) r
+    → get_or tail 0 0 ≡ 35 → IsOpen tail → IsReader old → Stays old new → new.pending.items ≡ 35 ∷ []
+    → new.offset ≡ old.offset + (length tail - 1) → Moves old new tail []
+comment_kept old new [] none some hash o r s p q = absurd (omega (arith, some))
+comment_kept old new (a ∷ t) none some hash o r s p q =
+    still old new (a ∷ t) [] (open_feeds (a ∷ t) o) (omega (arith, q)) s.line
+    (omega (arith, q, ap length p, ap length none))
+    (stays_reader r s (omega (arith, q)) (rw p (inl (refl, refl))))
     (λ x. ap (λ (t' : List ℕ). judge (state_view old) (tokens_after 0 old.offset (t' ++ ((a ∷ t) ++ x)))) none
     ∙ comment_shift (state_view old) old.offset new.offset a 35 t [] x hash refl (open_line a t hash o) refl
     (omega (arith, q))
-    ∙ ap (λ s. judge s (tokens_after 0 new.offset (35 ∷ x))) (sym s)
+    ∙ ap (λ s. judge s (tokens_after 0 new.offset (35 ∷ x))) (stays_view s)
     ∙ ap (λ (t' : List ℕ). judge (state_view new) (tokens_after 0 new.offset (t' ++ x))) (sym p))
 
 -- bytes were taken behind others

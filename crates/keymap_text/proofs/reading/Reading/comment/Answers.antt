@@ -1,5 +1,5 @@
 use Rattle.keymap_text.proofs.Common.{◌≡◌, ◌++◌, ℕ, List, length, take, drop, refl, sym, ◌∙◌, ap, subst, arith}
-use Rattle.keymap_text.proofs.Common.{length-take-le, leading, stays_on_line, IsOpen}
+use Rattle.keymap_text.proofs.Common.{length-take-le, leading, stays_on_line}
 use Rattle.keymap_text.proofs.Leading.{leading_front, leading_behind}
 use Rattle.keymap_text.proofs.Standing.{comment_ends, comment_goes}
 use Rattle.keymap_text.proofs.reading.Reading.comment.Goals as goal
@@ -13,39 +13,29 @@ on_line piece n e =
 
 pub returns-then-n-piece : goal.returns-then-n-piece
 returns-then-n-piece c =
-    let r = c.args.self.now in
     let piece = c.args.piece.now in
     let n = c.line_len-n.result in
     let size = length-take-le n piece c.line_len-n.ensures.length in
     record {
       inside = c.line_len-n.ensures.length;
-      moves = comment_ends r _ (take n piece) (drop n piece) c.requires.some c.requires.comment
-          c.requires.reader.tail (on_line piece n c.line_len-n.ensures.value)
+      moves = comment_ends c.args.self.now _ (take n piece) (drop n piece) c.requires.some c.requires.comment
+          c.requires.reader (on_line piece n c.line_len-n.ensures.value)
           (λ x. ap (λ n. leading stays_on_line (drop n piece ++ x)) c.line_len-n.ensures.value
-          ∙ leading_behind stays_on_line piece x (omega (arith, c.line_len-n.ensures.value, c.if-n-piece.true))) refl
-          c.clear.ensures (omega (arith, size, c.len.ensures.value)) refl
-          (record {
-            place = c.requires.reader.place;
-            tail = subst IsOpen (sym c.clear.ensures) tt;
-            low = omega (arith, c.requires.reader.low);
-          });
+          ∙ leading_behind stays_on_line piece x (omega (arith, c.line_len-n.ensures.value, c.if-n-piece.true)))
+          (record { map = refl; grammar = refl; line = refl }) c.clear.ensures
+          (omega (arith, size, c.len.ensures.value));
       clear = λ _. c.clear.ensures;
     }
 
 pub returns-else-n-piece : goal.returns-else-n-piece
 returns-else-n-piece c =
-    let r = c.args.self.now in
     let piece = c.args.piece.now in
     let n = c.line_len-n.result in
-    let size = length-take-le n piece c.line_len-n.ensures.length in
     record {
       inside = c.line_len-n.ensures.length;
-      moves = comment_goes r _ (take n piece) (drop n piece) c.requires.some c.requires.comment
-          c.requires.reader.tail (on_line piece n c.line_len-n.ensures.value) refl refl (omega (arith, size)) refl
-          (record {
-            place = c.requires.reader.place;
-            tail = c.requires.reader.tail;
-            low = omega (arith, c.requires.reader.low);
-          });
+      moves = comment_goes c.args.self.now _ (take n piece) (drop n piece) c.requires.some c.requires.comment
+          c.requires.reader (on_line piece n c.line_len-n.ensures.value)
+          (record { map = refl; grammar = refl; line = refl }) refl
+          (omega (arith, length-take-le n piece c.line_len-n.ensures.length));
       clear = λ l. absurd (omega (arith, l, c.if-n-piece.false));
     }

@@ -1,5 +1,5 @@
 use Rattle.keymap_text.proofs.Common.{◌≡◌, ◌++◌, ℕ, List, [], ◌∷◌, length, refl, sym, ◌∙◌, ap, subst, arith, eqb-true}
-use Rattle.keymap_text.proofs.Common.{inl, IsOpen, state_view}
+use Rattle.keymap_text.proofs.Common.{IsOpen, state_view}
 use Rattle.keymap_text.proofs.Scanning.{not_none, stays}
 use Rattle.keymap_text.proofs.Standing.{extended, comment_kept, is_nil}
 use Rattle.keymap_text.proofs.Tails.{open_few}
@@ -22,14 +22,10 @@ returns-then-is_empty c =
 
 pub returns-then-tail-eq35 : goal.returns-then-tail-eq35
 returns-then-tail-eq35 c =
-    let p = c.push.ensures.items ∙ ap (λ (p : List ℕ). p ++ 35 ∷ []) c.requires.none in
     comment_kept c.args.self.now _ c.args.tail.now c.requires.none
-    (not_none _ (sym c.is_empty.ensures ∙ c.if-is_empty.false)) c.if-tail-eq35.true c.requires.tail refl p refl refl
-    (record {
-      place = c.requires.reader.place;
-      tail = subst IsOpen (sym p) (inl (refl, refl));
-      low = omega (arith, c.requires.reader.low);
-    })
+    (not_none _ (sym c.is_empty.ensures ∙ c.if-is_empty.false)) c.if-tail-eq35.true c.requires.tail c.requires.reader
+    (record { map = refl; grammar = refl; line = refl })
+    (c.push.ensures.items ∙ ap (λ (p : List ℕ). p ++ 35 ∷ []) c.requires.none) refl
 
 pub returns : goal.returns
 returns c =

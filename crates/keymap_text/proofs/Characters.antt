@@ -1,10 +1,9 @@
 -- The printed text of a character, and of an action, is one token, which is that character or action.
 use Rattle.keymap_text.proofs.Common.{lt-ltb, le-ltb, ◌≡◌, ℕ, suc, ◌+◌, ◌*◌, ◌/◌, ◌%◌, ◌<◌, ◌≤◌, ◌==◌, ◌&&◌, Bool, true}
 use Rattle.keymap_text.proofs.Common.{cond, List, [], ◌∷◌, length, map, fold, refl, sym, ◌∙◌, ap, subst, arith, Ok, Err}
-use Rattle.keymap_text.proofs.Common.{Some, ne_eqb, nat_lt, nat_le, codes, slice_index_or, list_all, range_with_len}
-use Rattle.keymap_text.proofs.Common.{digit_char, digit_value, nat_tests, Value, Meaning, Number, Char, leading}
-use Rattle.keymap_text.proofs.Common.{is_word, meaning, digits_of, is_digit, named, control_names, character_text}
-use Rattle.keymap_text.proofs.Common.{along}
+use Rattle.keymap_text.proofs.Common.{Some, ne_eqb, nat_lt, nat_le, codes, slice_index_or, list_all, digit_char}
+use Rattle.keymap_text.proofs.Common.{digit_value, nat_tests, Value, Meaning, Number, Char, leading, is_word, meaning}
+use Rattle.keymap_text.proofs.Common.{digits_of, is_digit, named, control_names, character_text, along}
 use Rattle.keymap_core.specs.CodePoints.{code_digits}
 use lib.Utf8.{scalar}
 use Rattle.keymap_text.proofs.Leading.{leading_pass}
@@ -34,55 +33,26 @@ lexes_as w m h e =
     whole : (n k : ℕ) → (nat_lt 0 n && (nat_le n 32 && (k == n))) ≡ true → k ≡ n
     whole n k h = grind (arith, nat_tests)
 
--- a control character, computed over the names
-control_words : map (λ c. is_one_word (slice_index_or control_names c [])) (range_with_len 0 32)
-    ≡ map (λ c. true) (range_with_len 0 32)
-control_words = refl
-
--- each control name means its character
-control_meanings : map (λ c. meaning (slice_index_or control_names c [])) (range_with_len 0 32)
-    ≡ map (λ c. Char c) (range_with_len 0 32)
-unfolding meaning digits_of named
-control_meanings = refl
-
 -- a control character is printed as its name
 control_text : (c : ℕ) → c < 32 → character_text c ≡ slice_index_or control_names c []
 unfolding character_text
 control_text c h = rw (lt-ltb c 32 h, ne_eqb c 127 (omega (arith, h))) refl
 
--- a control character is printed as its name
+-- which is one word and means the character, by computation
 pub prints_control : (c : ℕ) → c < 32 → PrintsCharacter c
+unfolding meaning digits_of named
 prints_control c h = record {
   token = Value (Char c);
-  lexes = subst (λ (t : List ℕ). Lexes NoWord t (Value (Char c) ∷ [])) (sym (control_text c h))
-      (lexes_as (slice_index_or control_names c []) (Char c)
-      (along (λ c. is_one_word (slice_index_or control_names c [])) (λ c. true) 0 32 control_words c (omega arith) h)
-      (along (λ c. meaning (slice_index_or control_names c [])) (λ c. Char c) 0 32 control_meanings c (omega arith) h));
+  lexes = rw (control_text c h) (lexes_as (slice_index_or control_names c []) (Char c)
+      (along (λ c. is_one_word (slice_index_or control_names c [])) (λ c. true) 0 32 refl c (omega arith) h)
+      (along (λ c. meaning (slice_index_or control_names c [])) (λ c. Char c) 0 32 refl c (omega arith) h));
   reads = refl;
 }
-
--- del is one word
-delete_word : is_one_word (codes "del") ≡ true
-delete_word = refl
-
--- and means the character 127
-delete_meaning : meaning (codes "del") ≡ Char 127
-unfolding meaning digits_of named
-delete_meaning = refl
-
--- which is printed so
-delete_text : character_text 127 ≡ codes "del"
-unfolding character_text
-delete_text = refl
 
 -- so is the character 127
 pub prints_delete : PrintsCharacter 127
-prints_delete = record {
-  token = Value (Char 127);
-  lexes = subst (λ (t : List ℕ). Lexes NoWord t (Value (Char 127) ∷ [])) (sym delete_text)
-      (lexes_as (codes "del") (Char 127) delete_word delete_meaning);
-  reads = refl;
-}
+unfolding meaning digits_of named character_text
+prints_delete = record { token = Value (Char 127); lexes = lexes_as (codes "del") (Char 127) refl refl; reads = refl }
 
 -- a character between apostrophes
 pub quoted_text : (c : ℕ) → 31 < c → c < 127 → character_text c ≡ 39 ∷ c ∷ 39 ∷ []
@@ -92,12 +62,7 @@ quoted_text c h k = rw (le-ltb c 32 (omega (arith, h)), ne_eqb c 127 (omega (ari
 -- a printable ASCII character is printed between apostrophes
 pub prints_quoted : (c : ℕ) → 31 < c → c < 127 → PrintsCharacter c
 prints_quoted c h k =
-    record {
-      token = Value (Char c);
-      lexes = subst (λ (t : List ℕ). Lexes NoWord t (Value (Char c) ∷ []))
-          (sym (quoted_text c h k)) (lexes_quoted c h k);
-      reads = refl;
-    }
+    record { token = Value (Char c); lexes = rw (quoted_text c h k) (lexes_quoted c h k); reads = refl }
 
 -- hexadecimal digits
 hex_value : (d : ℕ) → d < 16 → digit_value (digit_char d) ≡ d
@@ -223,8 +188,7 @@ prints_digits : (c : ℕ) (ds : List ℕ) → 127 < c → scalar c ≡ true → 
     → length ds ≤ 30 → AreSmall ds → horner 0 ds ≡ c → PrintsCharacter c
 prints_digits c ds h s e z l k n = record {
   token = Value (Number c);
-  lexes = subst (λ (t : List ℕ). Lexes NoWord t (Value (Number c) ∷ [])) (sym (hex_text c h ∙ ap (λ t. 48 ∷ 120 ∷ t) e))
-      (lexes_hex c ds z l k n);
+  lexes = rw (hex_text c h, e) (lexes_hex c ds z l k n);
   reads = ap (λ b. cond b (Ok c) (Err faults.BadChar)) s;
 }
 

@@ -4,54 +4,29 @@ use Rattle.keymap_text.proofs.Common.{sym, subst, arith, List, [], ◌∷◌, na
 use Rattle.keymap_text.proofs.Common.{control_name, filled, NAMES, along}
 use Rattle.keymap_text.specs.declared.names.Name.{Name}
 
--- computed over the table
-low_letters : (d : Name) → map (λ c. letters (get_or NAMES (cond (c == 127) 32 c) d).0) (range_with_len 0 32)
-    ≡ map control_name (range_with_len 0 32)
-low_letters d = refl
-
--- the row of del
-delete_letters : (d : Name) → letters (get_or NAMES 32 d).0 ≡ control_name 127
-delete_letters d = refl
+-- what two functions say of the control characters, computed over them
+along_controls : {X : Type 0} (f g : ℕ → X) → map f (range_with_len 0 32) ≡ map g (range_with_len 0 32)
+    → f 127 ≡ g 127 → (c : ℕ) → (c < 32) ⊎ (c ≡ 127) → f c ≡ g c
+along_controls f g low delete c (inl h) = along f g 0 32 low c (omega arith) h
+along_controls f g low delete c (inr e) = subst (λ (c : ℕ). f c ≡ g c) (sym e) delete
 
 -- the row of a control character has its name
 pub control_letters : (c : ℕ) (d : Name) → (c < 32) ⊎ (c ≡ 127)
     → letters (get_or NAMES (cond (c == 127) 32 c) d).0 ≡ control_name c
-control_letters c d (inl h) =
-    along (λ c. letters (get_or NAMES (cond (c == 127) 32 c) d).0) control_name 0 32 (low_letters d) c (omega arith) h
-control_letters c d (inr e) =
-    subst (λ (c : ℕ). letters (get_or NAMES (cond (c == 127) 32 c) d).0 ≡ control_name c) (sym e) (delete_letters d)
+control_letters c d =
+    along_controls (λ c. letters (get_or NAMES (cond (c == 127) 32 c) d).0) control_name refl refl c
 
 -- a name of three letters at most, filled with blanks to six
 abbrev pub six_of : List ℕ → List ℕ
 six_of name = get_or name 0 0 ∷ get_or name 1 0 ∷ get_or name 2 0 ∷ 32 ∷ 32 ∷ 32 ∷ []
 
--- computed over the table
-low_places : (d : Name) → map (λ c. six_of (get_or NAMES (cond (c == 127) 32 c) d).0) (range_with_len 0 32)
-    ≡ map (λ c. filled (control_name c)) (range_with_len 0 32)
-low_places d = refl
-
--- the row of del
-delete_places : (d : Name) → six_of (get_or NAMES 32 d).0 ≡ filled (control_name 127)
-delete_places d = refl
-
 -- the row of a control character has its name, filled
 pub control_six : (c : ℕ) (d : Name) → (c < 32) ⊎ (c ≡ 127)
     → six_of (get_or NAMES (cond (c == 127) 32 c) d).0 ≡ filled (control_name c)
-control_six c d (inl h) =
-    along (λ c. six_of (get_or NAMES (cond (c == 127) 32 c) d).0) (λ c. filled (control_name c)) 0 32 (low_places d) c
-    (omega arith) h
-control_six c d (inr e) =
-    subst (λ (c : ℕ). six_of (get_or NAMES (cond (c == 127) 32 c) d).0 ≡ filled (control_name c)) (sym e)
-    (delete_places d)
-
--- the names' lengths, by computation
-short_names : map (λ c. nat_le (length (control_name c)) 3) (range_with_len 0 32)
-    ≡ map (λ c. true) (range_with_len 0 32)
-short_names = refl
+control_six c d =
+    along_controls (λ c. six_of (get_or NAMES (cond (c == 127) 32 c) d).0) (λ c. filled (control_name c)) refl refl c
 
 -- the name of a control character has at most three letters
 pub short_name : (c : ℕ) → (c < 32) ⊎ (c ≡ 127) → length (control_name c) ≤ 3
-short_name c (inl h) =
-    leb-true (length (control_name c)) 3 (along (λ c. nat_le (length (control_name c)) 3) (λ c. true) 0 32 short_names c
-    (omega arith) h)
-short_name c (inr e) = subst (λ (c : ℕ). length (control_name c) ≤ 3) (sym e) (omega arith)
+short_name c h =
+    leb-true _ 3 (along_controls (λ c. nat_le (length (control_name c)) 3) (λ c. true) refl refl c h)

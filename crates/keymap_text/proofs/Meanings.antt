@@ -1,13 +1,13 @@
 -- Each row of the table of names says what its name means.
-use Rattle.keymap_text.proofs.Common.{◌≡◌, ℕ, suc, ◌+◌, ◌*◌, ◌<◌, true, false, cond, ◌&&◌, List, [], ◌∷◌, length}
-use Rattle.keymap_text.proofs.Common.{take, drop, get_or, map, fold, All, refl, sym, ◌∙◌, ap, ap₂, arith, nat_lt}
-use Rattle.keymap_text.proofs.Common.{nat_le, Option, Some, None, IfSome, codes, bytes_eq, ◌≤◌, length-take, take_all}
+use Rattle.keymap_text.proofs.Common.{◌≡◌, ℕ, suc, ◌+◌, ◌*◌, ◌<◌, true, false, cond, ◌&&◌, List, [], ◌∷◌, length, take}
+use Rattle.keymap_text.proofs.Common.{drop, get_or, map, fold, All, refl, sym, ◌∙◌, ap, ap₂, arith, nat_lt, nat_le}
+use Rattle.keymap_text.proofs.Common.{Option, Some, None, IfSome, codes, bytes_eq, ◌≤◌, length-take, take_all}
 use Rattle.keymap_text.proofs.Common.{get_or-map, take-map, drop-map, length-map, lt-ltb, nat_tests, list_all}
-use Rattle.keymap_text.proofs.Common.{range_with_len, to_ascii_lowercase, digit_value, named_of, meaning_of, Number}
-use Rattle.keymap_text.proofs.Common.{Act, Name, Meaning, NAMES, pack, unpacked, KeyMeans, IsTrueName, function_name}
-use Rattle.keymap_text.proofs.Common.{screen_name, name_key, ArePlaced, along, leading, is_word, from_le_bytes, w64}
-use Rattle.keymap_text.proofs.Common.{meaning, same_name, sense_meaning, letters, meaning_by_names, named, table}
-use Rattle.keymap_text.proofs.Common.{digits_of, number, number_after, is_digit, of_action}
+use Rattle.keymap_text.proofs.Common.{to_ascii_lowercase, digit_value, named_of, meaning_of, Number, Act, Name, Meaning}
+use Rattle.keymap_text.proofs.Common.{NAMES, pack, unpacked, KeyMeans, IsTrueName, function_name, screen_name, name_key}
+use Rattle.keymap_text.proofs.Common.{ArePlaced, along, leading, is_word, from_le_bytes, w64, meaning, same_name}
+use Rattle.keymap_text.proofs.Common.{sense_meaning, letters, meaning_by_names, named, table, digits_of, number}
+use Rattle.keymap_text.proofs.Common.{number_after, is_digit, of_action}
 use Rattle.std.proofs.lemmas.Str.Ascii.{lowercase-lowercase}
 use Rattle.keymap_core.specs.declared.named.Named.{Named}
 use Rattle.keymap_text.specs.Inner.Keys.{place_of}
@@ -168,56 +168,37 @@ pub means_of : (key : ℕ) (m : Meaning) → m ≡ meaning (unpacked 8 key) → 
 means_of key m e =
     λ w short letters h. e ∙ ap meaning (ap (unpacked 8) (sym h) ∙ unpack_packed 8 w short letters) ∙ meaning_lower w
 
--- computed over the names
-name_meanings : map (λ r. sense_meaning r.1) NAMES ≡ map (λ r. meaning (unpacked 8 (from_le_bytes w64 r.0))) NAMES
-unfolding meaning digits_of named
-name_meanings = refl
-
--- each function key's key means it, by computation
-functions : map (λ n. Act (a.Function n)) (range_with_len 1 96)
-    ≡ map (λ n. meaning (unpacked 8 (function_name n))) (range_with_len 1 96)
-unfolding meaning digits_of named
-functions = refl
-
--- each screen's key means it, by computation
-screens : map (λ n. Act (a.Screen n)) (range_with_len 1 16)
-    ≡ map (λ n. meaning (unpacked 8 (screen_name n))) (range_with_len 1 16)
-unfolding meaning digits_of named
-screens = refl
-
 -- two readings of the table agree at each row
 at_name : {X : Type 0} (f g : Name → X) → map f NAMES ≡ map g NAMES → (k : ℕ) (d : Name) → k < length NAMES
     → f (get_or NAMES k d) ≡ g (get_or NAMES k d)
 at_name f g h k d l =
     sym (get_or-map f NAMES k d (f d) l) ∙ ap (λ xs. get_or xs k (f d)) h ∙ get_or-map g NAMES k d (f d) l
 
--- each row of the table of names says what its name means
+-- each row of the table of names says what its name means, by computation
 pub names_true : All IsTrueName NAMES
+unfolding meaning digits_of named
 names_true =
     λ k d h. means_of (from_le_bytes w64 (get_or NAMES k d).0) (sense_meaning (get_or NAMES k d).1)
-    (at_name (λ r. sense_meaning r.1) (λ r. meaning (unpacked 8 (from_le_bytes w64 r.0))) name_meanings k d h)
+    (at_name (λ r. sense_meaning r.1) (λ r. meaning (unpacked 8 (from_le_bytes w64 r.0))) refl k d h)
 
--- the key of each name leads to its row, by computation
-places : (d : Name) → map (λ i. place_of (name_key (get_or NAMES i d))) (range_with_len 0 84)
-    ≡ map (λ i. i) (range_with_len 0 84)
-places d = refl
-
--- no name hides another
+-- no name hides another, by computation
 pub names_placed : ArePlaced NAMES
-names_placed i d h = along (λ i. place_of (name_key (get_or NAMES i d))) (λ i. i) 0 84 (places d) i (omega arith) h
+names_placed i d h = along (λ i. place_of (name_key (get_or NAMES i d))) (λ i. i) 0 84 refl i (omega arith) h
 
--- the key of a function key's name means that key
+-- the key of a function key's name means that key, by computation
 pub function_means : (n key : ℕ) → 0 < n → n ≤ 96 → key ≡ function_name n → KeyMeans key (Act (a.Function n))
+unfolding meaning digits_of named
 function_means n key l h e =
     means_of key (Act (a.Function n)) (along (λ n. Act (a.Function n))
-    (λ n. meaning (unpacked 8 (function_name n))) 1 96 functions n (omega (arith, l)) (omega (arith, h))
+    (λ n. meaning (unpacked 8 (function_name n))) 1 96 refl n l (omega (arith, h))
     ∙ ap (λ k. meaning (unpacked 8 k)) (sym e))
 
--- the key of a screen's name means that screen
+-- the key of a screen's name means that screen, by computation
 pub screen_means : (n key : ℕ) → 0 < n → n ≤ 16 → key ≡ screen_name n → KeyMeans key (Act (a.Screen n))
+unfolding meaning digits_of named
 screen_means n key l h e =
     means_of key (Act (a.Screen n)) (along (λ n. Act (a.Screen n))
-    (λ n. meaning (unpacked 8 (screen_name n))) 1 16 screens n (omega (arith, l)) (omega (arith, h))
+    (λ n. meaning (unpacked 8 (screen_name n))) 1 16 refl n l (omega (arith, h))
     ∙ ap (λ k. meaning (unpacked 8 k)) (sym e))
 
 -- what the code found by the key is the meaning of the word in front
@@ -240,14 +221,10 @@ look_named [] w = refl
 look_named (name ∷ names) w =
     ap (λ o. cond (same_name (letters name.0) w) (Some (sense_meaning name.1)) o) (look_named names w)
 
--- the first forty rows, by computation
-first_names : map sense_entry (take 40 NAMES) ≡ table
-unfolding sense_entry
-first_names = refl
-
--- the first forty rows are the table of characters and lock letters
+-- the first forty rows are the table of characters and lock letters, by computation
 pub look_in_table : (w : List ℕ) → meaning_by_names (take 40 NAMES) w ≡ named table w
-look_in_table w = look_named (take 40 NAMES) w ∙ ap (λ t. named t w) first_names
+unfolding sense_entry
+look_in_table w = look_named (take 40 NAMES) w
 
 -- the same of a whole word
 pub whole_means : (r : Option Meaning) (w : List ℕ) → IfSome r (λ m. m ≡ meaning (take (length w) w))

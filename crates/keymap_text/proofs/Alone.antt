@@ -1,8 +1,8 @@
 -- A token reads alone: its bytes are the same token wherever a blank stands behind them.
-use Rattle.keymap_text.proofs.Common.{◌≡◌, ⊎_elim, ℕ, ◌+◌, ◌≤◌, Bool, true, false, List, [], ◌∷◌, ◌++◌, take, sym}
-use Rattle.keymap_text.proofs.Common.{◌∙◌, ap, refl, subst, arith, add-one, ◌&&◌, slice_index, list_all, nat_tests}
-use Rattle.keymap_text.proofs.Common.{TokenKind, Literal, leading, is_blank, is_word}
-use Rattle.keymap_text.proofs.Common.{stays_on_line, separates, word, Skipped, Found, front_of}
+use Rattle.keymap_text.proofs.Common.{◌≡◌, ℕ, ◌+◌, ◌≤◌, Bool, true, false, List, [], ◌∷◌, ◌++◌, take, sym, ◌∙◌, ap}
+use Rattle.keymap_text.proofs.Common.{refl, subst, arith, add-one, ◌&&◌, slice_index, list_all, nat_tests, TokenKind}
+use Rattle.keymap_text.proofs.Common.{Literal, leading, is_blank, is_word, stays_on_line, separates, word, Skipped}
+use Rattle.keymap_text.proofs.Common.{Found, front_of}
 use Rattle.keymap_text.specs.Alone.{IsWide, StandsAlone}
 use Rattle.keymap_text.proofs.InFront.{InFront, Left, Right, Quote, Letters, in_front_is, front_left, front_right}
 use Rattle.keymap_text.proofs.InFront.{front_quote, front_word, front_fits, short_word, skipped_by}
@@ -62,12 +62,7 @@ front_on_line (c ∷ s) = go (is_word c) refl (front_on_line s)
 -- the last byte of a front passes
 front_end : (p : ℕ → Bool) (c : ℕ) (s : List ℕ) → p c ≡ true → p (slice_index (c ∷ s) (leading p s)) ≡ true
 front_end p c [] h = h
-front_end p c (d ∷ s) h = go (p d) refl (front_end p d s)
-  where
-    go : (b : Bool) → p d ≡ b → (p d ≡ true → p (slice_index (d ∷ s) (leading p s)) ≡ true)
-        → p (slice_index (c ∷ d ∷ s) (leading p (d ∷ s))) ≡ true
-    go true e k = ap (λ n. p (slice_index (c ∷ d ∷ s) n)) (leading_pass p d s e ∙ add-one (leading p s)) ∙ k e
-    go false e k = ap (λ n. p (slice_index (c ∷ d ∷ s) n)) (leading_fail p d s e) ∙ h
+front_end p c (d ∷ s) h = grind (arith, add-one, leading_fail, leading_pass, (front_end p d s))
 
 -- The bytes of a token stand in one line, and the last one is no blank.
 abbrev StandsInLine : ℕ → ℕ → List ℕ → Type 0
@@ -105,19 +100,8 @@ front_wide c n k s h = go k n (in_front_is c s (Found k n) h)
 
 -- what is found stands alone
 pub stands_alone : (c n : ℕ) (k : TokenKind) (s : List ℕ) → front_of c s ≡ Found k n → StandsAlone k c n s
-stands_alone c n k s h =
-    let l = token_in_line c n k s h in
-    record {
-      within = (front_fits c s k n h).within;
-      again = λ b y e. front_alone c n b k s y h e;
-      on_line = l.0;
-      end = l.1;
-      wide = front_wide c n k s h;
-    }
+stands_alone c n k s h = grind (arith, front_alone, front_fits, front_wide, token_in_line)
 
 -- what is passed over is a blank or a comment
 pub skipped_separates : (c n : ℕ) (s : List ℕ) → front_of c s ≡ Skipped n → separates c ≡ true
-skipped_separates c n s h = ⊎_elim blank (λ (e : c ≡ 35). ap separates e) (skipped_by c n s h)
-  where
-    blank : is_blank c ≡ true → separates c ≡ true
-    blank b = grind (arith, nat_tests)
+skipped_separates c n s h = grind (arith, skipped_by)

@@ -19,19 +19,7 @@ is_one_word w = nat_lt 0 (length w) && (nat_le (length w) 32 && (leading is_word
 
 -- one word is one token with its meaning
 pub lexes_as : (w : List ℕ) (m : Meaning) → is_one_word w ≡ true → meaning w ≡ m → Lexes NoWord w (Value m ∷ [])
-lexes_as w m h e =
-    subst (λ (m : Meaning). Lexes NoWord w (Value m ∷ [])) e
-    (lexes_word w (some (length w) (leading is_word w) h) (short (length w) (leading is_word w) h)
-    (whole (length w) (leading is_word w) h))
-  where
-    some : (n k : ℕ) → (nat_lt 0 n && (nat_le n 32 && (k == n))) ≡ true → 0 < n
-    some n k h = grind (arith, nat_tests)
-
-    short : (n k : ℕ) → (nat_lt 0 n && (nat_le n 32 && (k == n))) ≡ true → n ≤ 32
-    short n k h = grind (arith, nat_tests)
-
-    whole : (n k : ℕ) → (nat_lt 0 n && (nat_le n 32 && (k == n))) ≡ true → k ≡ n
-    whole n k h = grind (arith, nat_tests)
+lexes_as w m h e = grind (arith, lexes_word)
 
 -- a control character is printed as its name
 control_text : (c : ℕ) → c < 32 → character_text c ≡ slice_index_or control_names c []
@@ -93,15 +81,12 @@ hex_tests (d ∷ ds) (h, k) = ap (λ b. b && list_all (is_digit 16) (map digit_c
 hex_number : (n : ℕ) (ds : List ℕ) → AreSmall ds
     → fold (λ n c. n * 16 + digit_value c) n (map digit_char ds) ≡ horner n ds
 hex_number n [] h = refl
-hex_number n (d ∷ ds) (h, k) =
-    ap (λ v. fold (λ n c. n * 16 + digit_value c) (n * 16 + v) (map digit_char ds)) (hex_value d h)
-    ∙ hex_number (n * 16 + d) ds k
+hex_number n (d ∷ ds) (h, k) = grind (arith, hex_value, (hex_number (n * 16 + d) ds k))
 
 -- digits are one word
 hex_leads : (ds : List ℕ) → AreSmall ds → leading is_word (map digit_char ds) ≡ length ds
 hex_leads [] h = refl
-hex_leads (d ∷ ds) (h, k) =
-    leading_pass is_word (digit_char d) (map digit_char ds) (hex_word d h) ∙ omega (arith, hex_leads ds k)
+hex_leads (d ∷ ds) (h, k) = grind (arith, hex_word, leading_pass, (hex_leads ds k))
 
 -- one byte a digit
 hex_length : (ds : List ℕ) → length (map digit_char ds) ≡ length ds

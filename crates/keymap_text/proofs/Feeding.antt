@@ -4,7 +4,7 @@ use Rattle.keymap_text.proofs.Common.{◌∙◌, subst, arith, Option, Result, O
 use Rattle.keymap_text.proofs.Common.{MapValue, TextError, TextFault, verdict, judge, Spelled, tokens_after, empty_map}
 use Rattle.keymap_text.proofs.Common.{at_end, Concludes, StandsAfter, FedAfter, limit, HasNoEarlyFault, TakesWhole}
 use Rattle.keymap_text.proofs.Common.{FailsInside, TextGoesPast, ReadsMap, StopsAtOnce, length-take-le, none-some}
-use mathlib.Core.Logic.{inl, inr}
+use mathlib.Core.Logic.{inr}
 use Rattle.std.specs.Io.KnownBytes.{Consumes, IsAtEnd, Keeps}
 use Rattle.std.proofs.KnownBytes.{Consumes-trans, Consumes-kept, Consumes-nil}
 use Rattle.keymap_text.specs.Progress.{Progress}
@@ -37,28 +37,14 @@ fed_none old r h = record { text = []; consumed = Consumes-nil old; size = refl;
 pub fed_more : {a b c : Option (List ℕ)} {r r' : Progress} {taken n : ℕ} → (buffer : List ℕ) → (fed : IsFed a b r taken)
     → Consumes b c (take n buffer) → n ≤ length buffer → FedAfter (Ok tt) r' (fed.text ++ take n buffer)
     → IsFed a c r' (taken + n)
-fed_more {a = a} {b = b} {c = c} {n = n} buffer fed h l k = record {
-  text = fed.text ++ take n buffer;
-  consumed = Consumes-trans a b c _ _ fed.consumed h;
-  size = omega (arith, length-append fed.text (take n buffer), length-take-le n buffer l, fed.size);
-  stands = k.0;
-  sound = k.1;
-}
+fed_more {a = a} {b = b} {c = c} {n = n} buffer fed h l k = grind (arith, Consumes-trans, length-append, length-take-le)
 
 -- the piece has an early fault
 pub fed_early : {a b c : Option (List ℕ)} {r : Progress} {taken n : ℕ} {f : TextFault} → (r' : Progress)
     → (buffer : List ℕ) → (fed : IsFed a b r taken) → Consumes b c (take n buffer) → n ≤ length buffer
     → taken + n ≤ limit → FedAfter (Err f) r' (fed.text ++ take n buffer) → ReadsMap a c (Err (errors.Fault f))
-fed_early {a = a} {b = b} {c = c} {n = n} r' buffer fed h l few k = (
-  fed.text ++ take n buffer,
-  inl (
-    record {
-      taken = Consumes-trans a b c _ _ fed.consumed h;
-      few = omega (arith, length-append fed.text (take n buffer), length-take-le n buffer l, fed.size, few);
-    },
-    k.0,
-  ),
-)
+fed_early {a = a} {b = b} {c = c} {n = n} r' buffer fed h l few k =
+    grind (arith, Consumes-trans, length-append, length-take-le)
 
 -- the whole text was read
 concluded : (a c : Option (List ℕ)) (result : Result MapValue TextError) (text : List ℕ) → Concludes result text
@@ -76,27 +62,14 @@ none_taken b c n buffer z h = subst (λ (n : ℕ). Consumes b c (take n buffer))
 pub fed_whole : {a b : Option (List ℕ)} {r : Progress} {taken n : ℕ} → (c : Option (List ℕ)) → (buffer : List ℕ)
     → (result : Result MapValue TextError) → (fed : IsFed a b r taken) → taken ≤ limit → n ≡ 0
     → Consumes b c (take n buffer) → IsAtEnd c → Concludes result fed.text → ReadsMap a c result
-fed_whole {a = a} {b = b} {n = n} c buffer result fed few z h e k = concluded a c result fed.text k (record {
-  taken = subst (λ (t : List ℕ). Consumes a c t) (append-nil fed.text)
-      (Consumes-trans a b c _ _ fed.consumed (none_taken b c n buffer z h));
-  few = omega (arith, fed.size, few);
-  end = e;
-})
+fed_whole {a = a} {b = b} {n = n} c buffer result fed few z h e k =
+    grind (arith, Consumes-trans, append-nil, concluded, none_taken)
 
 -- the device fails after these bytes
 pub fed_fails : {a b : Option (List ℕ)} {r : Progress} {taken : ℕ} → (c : Option (List ℕ)) → (offset : ℕ)
     → (fed : IsFed a b r taken) → taken ≡ offset → taken ≤ limit → Keeps b c
     → FailsInside a c (record { offset = offset; kind = kinds.Device })
-fed_fails {a = a} {b = b} c offset fed e few k =
-    record {
-      text = fed.text;
-      takes = record {
-        taken = Consumes-kept a b c fed.text fed.consumed k;
-        few = omega (arith, fed.size, few);
-      };
-      offset = fed.size ∙ e;
-      sound = fed.sound;
-    }
+fed_fails {a = a} {b = b} c offset fed e few k = grind (arith, Consumes-kept)
 
 -- a buffer of one byte that is full
 one_byte : (n : ℕ) (buffer : List ℕ) → 0 < n → n ≤ length buffer → length buffer ≡ 1
@@ -110,40 +83,18 @@ one_byte (suc (suc n)) (c ∷ buffer) z l s = absurd (omega (arith, l, s))
 pub fed_past : {a b : Option (List ℕ)} {r : Progress} {taken n : ℕ} → (c : Option (List ℕ)) → (buffer : List ℕ)
     → (fed : IsFed a b r taken) → taken ≡ limit → 0 < n → n ≤ length buffer → length buffer ≡ 1
     → Consumes b c (take n buffer) → TextGoesPast a c (record { offset = limit; kind = kinds.Endless })
-fed_past {a = a} {b = b} {n = n} c buffer fed full z l s h =
-    let one = one_byte n buffer z l s in
-    record {
-      text = fed.text;
-      next = one.0;
-      taken = Consumes-trans a b c _ _ fed.consumed (subst (λ (t : List ℕ). Consumes b c t) one.1 h);
-      full = fed.size ∙ full;
-      offset = refl;
-      sound = fed.sound;
-    }
+fed_past {a = a} {b = b} {n = n} c buffer fed full z l s h = grind (arith, Consumes-trans, one_byte)
 
 -- nothing is read after a fault
 pub at_once_more : {a b c : Option (List ℕ)} {r : Progress} {taken n : ℕ} → (f : TextFault) → (buffer : List ℕ)
     → (fed : IsFed a b r taken) → Consumes b c (take n buffer) → n ≤ length buffer → n ≤ 512
     → StopsAtOnce a c (errors.Fault f)
-at_once_more {a = a} {b = b} {c = c} {n = n} f buffer fed h l few =
-    record {
-      before = fed.text;
-      last = take n buffer;
-      taken = Consumes-trans a b c _ _ fed.consumed h;
-      few = omega (arith, length-take-le n buffer l, few);
-      sound = fed.sound;
-    }
+at_once_more {a = a} {b = b} {c = c} {n = n} f buffer fed h l few = grind (arith, Consumes-trans, length-take-le)
 
 -- nothing was read after the end
 pub at_once_whole : {a b : Option (List ℕ)} {r : Progress} {taken n : ℕ} → (c : Option (List ℕ)) → (buffer : List ℕ)
     → (result : Result MapValue TextError) → (fed : IsFed a b r taken) → n ≡ 0 → Consumes b c (take n buffer)
     → IfErr result (StopsAtOnce a c)
 at_once_whole {a = a} {b = b} {n = n} c buffer (Err (errors.Fault f)) fed z h =
-    record {
-      before = fed.text;
-      last = [];
-      taken = Consumes-trans a b c _ _ fed.consumed (none_taken b c n buffer z h);
-      few = omega arith;
-      sound = fed.sound;
-    }
+    grind (arith, Consumes-trans, none_taken)
 at_once_whole c buffer _ fed z h = tt

@@ -1,12 +1,12 @@
 -- Definitions put into a map one by one, and the last ones.
-use Rattle.keymap_text.proofs.Common.{◌≡◌, ℕ, zero, suc, ◌+◌, ◌<◌, ◌==◌, Bool, true, false, cond, max, List, [], ◌∷◌}
-use Rattle.keymap_text.proofs.Common.{◌++◌, length, get_or, replicate, map, refl, sym, ◌∙◌, ap, arith, Option, Some}
-use Rattle.keymap_text.proofs.Common.{None, eqb-true, eq-eqb, true≢false, length-set, length-append, ◌-◌}
-use Rattle.keymap_text.proofs.Common.{range_with_len, option_or, get_or-set_same, get_or-set_other, length-map}
-use Rattle.keymap_text.proofs.Common.{get_or-map-range_with_len, length-range_with_len, Entry, AccentValue, blank}
-use Rattle.keymap_text.proofs.Common.{MapValue, with_entry, with_accent, undefined, placed, empty_map, Definition}
-use Rattle.keymap_text.proofs.Common.{KeyDefinition, AccentDefinition, last, of_slot, of_index, greatest, slots_needed}
-use Rattle.keymap_text.proofs.Common.{accents_needed, or_default, map_of, get_or-replicate_default}
+use Rattle.keymap_text.proofs.Common.{◌≡◌, ℕ, zero, suc, ◌+◌, ◌<◌, ◌==◌, cond, max, List, [], ◌∷◌, ◌++◌, length, get_or}
+use Rattle.keymap_text.proofs.Common.{replicate, map, refl, sym, ◌∙◌, ap, arith, Option, Some, None, eqb-true, eq-eqb}
+use Rattle.keymap_text.proofs.Common.{length-set, length-append, range_with_len, option_or, get_or-set_same}
+use Rattle.keymap_text.proofs.Common.{get_or-set_other, length-map, get_or-map-range_with_len, length-range_with_len}
+use Rattle.keymap_text.proofs.Common.{Entry, AccentValue, blank, MapValue, with_entry, with_accent, undefined, placed}
+use Rattle.keymap_text.proofs.Common.{empty_map, Definition, KeyDefinition, AccentDefinition, last, of_slot, of_index}
+use Rattle.keymap_text.proofs.Common.{greatest, slots_needed, accents_needed, or_default, map_of}
+use Rattle.keymap_text.proofs.Common.{get_or-replicate_default}
 
 abbrev pub put : MapValue → Definition → MapValue
 put m (KeyDefinition s e) = with_entry m s e
@@ -64,9 +64,7 @@ length_replicate (suc n) u = ap suc (length_replicate n u)
 
 -- how long a list is after a place was set
 placed_length : {X : Type 0} (u : X) (xs : List X) (i : ℕ) (x : X) → length (placed u xs i x) ≡ max (length xs) (i + 1)
-placed_length u xs i x =
-    length-set (xs ++ replicate (i + 1 - length xs) u) i x ∙ length-append xs (replicate (i + 1 - length xs) u)
-    ∙ ap (λ n. length xs + n) (length_replicate (i + 1 - length xs) u) ∙ omega arith
+placed_length u xs i x = grind (arith, length-append, length-set, length_replicate)
 
 -- how many entries there are after a definition
 entries_put : (m : MapValue) (d : Definition) → length (put m d).entries ≡ max (length m.entries) (slots_needed d)
@@ -84,9 +82,7 @@ length_after : (size : MapValue → ℕ) (needs : Definition → ℕ)
     → (m : MapValue) (ds : List Definition) → size (puts m ds) ≡ max (size m) (greatest needs ds)
 length_after size needs one m [] = rw greatest_none (omega arith)
 length_after size needs one m (d ∷ ds) =
-    length_after size needs one (put m d) ds ∙ ap (λ n. max n (greatest needs ds)) (one m d)
-    ∙ max_of (size m) (needs d) (greatest needs ds)
-    ∙ ap (λ n. max (size m) n) (sym (greatest_more needs d ds))
+    grind (arith, greatest_more, max_of, (length_after size needs one (put m d) ds))
 
 -- one of a list in which another is placed
 padded : {X : Type 0} (xs : List X) (n j : ℕ) (u : X) → get_or (xs ++ replicate n u) j u ≡ get_or xs j u
@@ -97,17 +93,8 @@ padded (x ∷ xs) n (suc j) u = padded xs n j u
 -- what stands at a place after one was set
 placed_says : {X : Type 0} (u : X) (xs : List X) (s i : ℕ) (x : X)
     → get_or (placed u xs s x) i u ≡ or_default (cond (s == i) (Some x) None) (get_or xs i u)
-placed_says u xs s i x = go (s == i) refl
-  where
-    room : s < length (xs ++ replicate (s + 1 - length xs) u)
-    room = omega (arith, length-append xs (replicate (s + 1 - length xs) u), length_replicate (s + 1 - length xs) u)
-
-    go : (b : Bool) → (s == i) ≡ b → get_or (placed u xs s x) i u ≡ or_default (cond b (Some x) None) (get_or xs i u)
-    go true e = ap (λ k. get_or (placed u xs s x) k u) (sym (eqb-true s i e))
-        ∙ get_or-set_same (xs ++ replicate (s + 1 - length xs) u) s x u room
-    go false e =
-        get_or-set_other (xs ++ replicate (s + 1 - length xs) u) s i x u
-        (λ k. true≢false (sym (eq-eqb s i (sym k)) ∙ e)) ∙ padded xs (s + 1 - length xs) i u
+placed_says u xs s i x =
+    grind (arith, eq-eqb, eqb-true, get_or-set_other, get_or-set_same, length-append, length_replicate, padded)
 
 -- a later answer wins
 later : {A : Type 0} (o p : Option A) (x y : A) → x ≡ or_default p y → or_default o x ≡ or_default (option_or o p) y
@@ -124,9 +111,7 @@ entry_put m (AccentDefinition i a) slot = refl
 pub entries_of : (m : MapValue) (ds : List Definition) (slot : ℕ)
     → get_or (puts m ds).entries slot undefined ≡ or_default (last (of_slot slot) ds) (get_or m.entries slot undefined)
 entries_of m [] slot = rw last_none refl
-entries_of m (d ∷ ds) slot =
-    entries_of (put m d) ds slot ∙ later (last (of_slot slot) ds) (of_slot slot d) _ _ (entry_put m d slot)
-    ∙ ap (λ o. or_default o (get_or m.entries slot undefined)) (sym (last_more (of_slot slot) d ds))
+entries_of m (d ∷ ds) slot = grind (arith, entry_put, last_more, later, (entries_of (put m d) ds slot))
 
 -- an accent after a definition
 accent_put : (m : MapValue) (d : Definition) (i : ℕ)
@@ -138,9 +123,7 @@ accent_put m (AccentDefinition j a) i = placed_says blank m.accents j i a
 pub accents_of : (m : MapValue) (ds : List Definition) (i : ℕ)
     → get_or (puts m ds).accents i blank ≡ or_default (last (of_index i) ds) (get_or m.accents i blank)
 accents_of m [] i = rw last_none refl
-accents_of m (d ∷ ds) i =
-    accents_of (put m d) ds i ∙ later (last (of_index i) ds) (of_index i d) _ _ (accent_put m d i)
-    ∙ ap (λ o. or_default o (get_or m.accents i blank)) (sym (last_more (of_index i) d ds))
+accents_of m (d ∷ ds) i = grind (arith, accent_put, last_more, later, (accents_of (put m d) ds i))
 
 -- a list is its elements
 pub by_range : {X : Type 0} (xs : List X) (f : ℕ → X) (n : ℕ) (u : X) → length xs ≡ n

@@ -128,17 +128,13 @@ says_index i = record { quiet = quiet; tells = tells }
 -- what a row of a slot defines
 slot_row : (d : Definition) (slot : ℕ) → is_same (defined d) (Slot slot) ≡ true
     → d ≡ KeyDefinition slot (or_default (of_slot slot d) undefined)
-slot_row (KeyDefinition s e) slot h =
-    ap (λ s. KeyDefinition s e) (eqb-true s slot h)
-    ∙ ap (λ b. KeyDefinition slot (or_default (cond b (Some e) None) undefined)) (sym h)
+slot_row (KeyDefinition s e) slot h = grind (arith, eqb-true)
 slot_row (AccentDefinition i a) slot h = absurd (cc)
 
 index_row : (d : Definition) (i : ℕ) → is_same (defined d) (Accent i) ≡ true
     → d ≡ AccentDefinition i (or_default (of_index i d) blank)
 index_row (KeyDefinition s e) i h = absurd (cc)
-index_row (AccentDefinition j a) i h =
-    ap (λ j. AccentDefinition j a) (eqb-true j i h)
-    ∙ ap (λ b. AccentDefinition i (or_default (cond b (Some a) None) blank)) (sym h)
+index_row (AccentDefinition j a) i h = grind (arith, eqb-true)
 
 -- the entry and the accent that the definitions make
 entry_spelled : (text : List ℕ) (m : MapValue) (rows : List Row) → IsSpelledBy text m rows → (slot : ℕ)

@@ -33,13 +33,7 @@ front_quote c s h = ap (λ c. front_of c s) h
 -- a letter or digit
 pub front_word : (c : ℕ) (s : List ℕ) → is_word c ≡ true → front_of c s ≡ word (leading is_word s)
 unfolding front_of
-front_word c s h =
-    let blank : is_blank c ≡ false = grind (arith, nat_tests) in
-    let hash : (c == 35) ≡ false = grind (arith, nat_tests) in
-    let left : (c == 40) ≡ false = grind (arith, nat_tests) in
-    let right : (c == 41) ≡ false = grind (arith, nat_tests) in
-    let quote : (c == 39) ≡ false = grind (arith, nat_tests) in
-    rw (blank, hash, left, right, quote, h) refl
+front_word c s h = grind arith
 
 -- What stands in front is one of these.
 pub data InFront (c : ℕ) (s : List ℕ) : Front → Type 0 where

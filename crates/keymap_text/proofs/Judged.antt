@@ -1,8 +1,8 @@
 -- A whole text, read into what takes its definitions.
 use Rattle.keymap_text.proofs.Common.{◌≡◌, ℕ, ◌-◌, Bool, true, List, [], length, take, drop, sym, ◌∙◌, ap, ap₂, subst}
-use Rattle.keymap_text.proofs.Common.{arith, append-nil, Some, Ok, Err, MapValue, TextFaultKind, TextFault, Grammar}
-use Rattle.keymap_text.proofs.Common.{Stop, tokens_after, line, Fault, start, at, judge, verdict, Faulty, Advances}
-use Rattle.keymap_text.proofs.Common.{Refuses, Takes, grammar_view, place_view}
+use Rattle.keymap_text.proofs.Common.{arith, append-nil, Ok, Err, MapValue, TextFaultKind, TextFault, Grammar, Stop}
+use Rattle.keymap_text.proofs.Common.{tokens_after, line, Fault, start, at, judge, verdict, Faulty, Advances, Refuses}
+use Rattle.keymap_text.proofs.Common.{Takes, grammar_view, place_view}
 use Rattle.keymap_text.specs.ReadInto.{no_keys}
 use Rattle.keymap_text.proofs.Splitting.{to_end}
 use Rattle.keymap_text.proofs.Verdicts.{fault_from}
@@ -39,11 +39,4 @@ refused_whole {g = g} {text = text} {f = f} t place h =
 -- the verdict is a fault
 pub fault_by : (text : List ℕ) (f : TextFaultKind) (q : ℕ) (early : Bool) (e : TextFault)
     → verdict text ≡ Faulty f q early → e.kind ≡ f → e.offset ≡ q → e.line ≡ line text q → Fault text e
-fault_by text f q early e h kind offset on = (
-  early,
-  (
-    fault_from text f q early h
-        ∙ ap₂ (λ k o. Some (record { kind = k; offset = o; early = early })) (sym kind) (sym offset),
-    on ∙ ap (λ o. line text o) (sym offset),
-  ),
-)
+fault_by text f q early e h kind offset on = grind (arith, fault_from)

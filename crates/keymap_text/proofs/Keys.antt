@@ -1,8 +1,8 @@
 -- The keys of words.
-use Rattle.keymap_text.proofs.Common.{◌≡◌, ℕ, zero, suc, ◌+◌, ◌*◌, ◌/◌, ◌%◌, ◌<◌, ◌≤◌, Bool, true, false, cond, List}
-use Rattle.keymap_text.proofs.Common.{[], ◌∷◌, length, take, get_or, map, refl, sym, ◌∙◌, ap, ap₂, arith, eq-eqb}
-use Rattle.keymap_text.proofs.Common.{ne_eqb, nat_tests, range_with_len, from_le_bytes, w64, to_ascii_lowercase}
-use Rattle.keymap_text.proofs.Common.{leading, is_word, pack, unpacked, AreWordBytes, LOW_BYTES, along}
+use Rattle.keymap_text.proofs.Common.{◌≡◌, ℕ, zero, suc, ◌+◌, ◌*◌, ◌<◌, ◌≤◌, true, cond, List, [], ◌∷◌, length, take}
+use Rattle.keymap_text.proofs.Common.{get_or, map, refl, sym, ◌∙◌, ap, ap₂, arith, eq-eqb, ne_eqb, nat_tests}
+use Rattle.keymap_text.proofs.Common.{range_with_len, from_le_bytes, w64, to_ascii_lowercase, leading, is_word, pack}
+use Rattle.keymap_text.proofs.Common.{unpacked, AreWordBytes, LOW_BYTES, along}
 use Rattle.std.proofs.lemmas.Nat.{and_block, or_block, or_disjoint, and_le_l, and_le_r}
 use lib.Bits.{bit_and, bit_or}
 use Rattle.keymap_text.proofs.Leading.{leading_pass, leading_fail}
@@ -23,12 +23,7 @@ lower_to c h = grind (arith, nat_tests)
 pub letters_front : (n : ℕ) (w : List ℕ) → n ≤ leading is_word w → AreWordBytes (take n w)
 letters_front zero w h = tt
 letters_front (suc n) [] h = absurd (omega (arith, h))
-letters_front (suc n) (c ∷ w) h = go (is_word c) refl (letters_front n w)
-  where
-    go : (b : Bool) → is_word c ≡ b → (n ≤ leading is_word w → AreWordBytes (take n w))
-        → (is_word c ≡ true) × AreWordBytes (take n w)
-    go true e k = (e, k (omega (arith, h, leading_pass is_word c w e)))
-    go false e k = absurd (omega (arith, h, leading_fail is_word c w e))
+letters_front (suc n) (c ∷ w) h = grind (arith, leading_fail, leading_pass, (letters_front n w))
 
 -- eight bytes at once
 low : ℕ → List ℕ → ℕ
@@ -56,10 +51,7 @@ raised_byte c h =
 
 -- a mask of zero leaves nothing
 and_none : (x p : ℕ) → bit_or (bit_and x 0) p ≡ p
-and_none x p =
-    let z : bit_and x 0 ≡ 0 = omega (arith, and_le_r x 0) in
-    let y : bit_and 0 p ≡ 0 = omega (arith, and_le_l 0 p) in
-    ap (λ z. bit_or z p) z ∙ or_disjoint 0 p y ∙ omega arith
+and_none x p = grind (arith, and_le_l, and_le_r, or_disjoint)
 
 -- the first bytes in lower case, blanks behind them
 packed_low : (k n : ℕ) (w : List ℕ) → n ≤ k → k ≤ length w → AreWordBytes (take n w)
@@ -99,18 +91,11 @@ packed_front w n x eight h l s a e =
 
 -- what is packed can be unpacked
 unpacked_end : (n p : ℕ) → unpacked (suc n) (p * 256 + 32) ≡ []
-unpacked_end n p =
-    ap (λ b. cond b [] ((p * 256 + 32) % 256 ∷ unpacked n ((p * 256 + 32) / 256)))
-    (eq-eqb ((p * 256 + 32) % 256) 32 (omega arith))
+unpacked_end n p = grind (arith, eq-eqb)
 
 -- the lowest byte of a key
 unpacked_byte : (n p c : ℕ) → 47 < c → c < 256 → unpacked (suc n) (p * 256 + c) ≡ c ∷ unpacked n p
-unpacked_byte n p c h l =
-    let m : (p * 256 + c) % 256 ≡ c = omega (arith, l) in
-    let d : (p * 256 + c) / 256 ≡ p = omega (arith, l) in
-    ap (λ b. cond b [] ((p * 256 + c) % 256 ∷ unpacked n ((p * 256 + c) / 256)))
-    (ne_eqb ((p * 256 + c) % 256) 32 (λ e. omega (arith, m, e, h)))
-    ∙ ap₂ (λ (x y : ℕ). x ∷ unpacked n y) m d
+unpacked_byte n p c h l = grind (arith, ne_eqb)
 
 -- the key of a word gives the word back, in lower case
 pub unpack_packed : (n : ℕ) (w : List ℕ) → length w ≤ n → AreWordBytes w
@@ -119,5 +104,4 @@ unpack_packed zero [] h s = refl
 unpack_packed zero (c ∷ w) h s = absurd (omega (arith, h))
 unpack_packed (suc n) [] h s = unpacked_end n (pack n [])
 unpack_packed (suc n) (c ∷ w) h s =
-    unpacked_byte n (pack n (map to_ascii_lowercase w)) (to_ascii_lowercase c) (lower_from c s.0) (lower_to c s.0)
-    ∙ ap (λ (xs : List ℕ). to_ascii_lowercase c ∷ xs) (unpack_packed n w (omega (arith, h)) s.1)
+    grind (arith, lower_from, lower_to, unpacked_byte, (unpack_packed n w (omega (arith, h)) s.1))

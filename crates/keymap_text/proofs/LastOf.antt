@@ -1,10 +1,10 @@
 -- The tables of the last definitions.
-use Rattle.keymap_text.proofs.Common.{◌≡◌, ◌≢◌, ℕ, ◌<◌, ◌≤◌, ◌==◌, Bool, true, false, cond, List, [], ◌∷◌, ◌++◌, length}
-use Rattle.keymap_text.proofs.Common.{set, get_or, map, refl, sym, ◌∙◌, ap, arith, Option, Some, None, eqb-true, eq-eqb}
-use Rattle.keymap_text.proofs.Common.{true≢false, length-set, ne_eqb, replicate, get_or-set_same, get_or-set_other}
-use Rattle.keymap_text.proofs.Common.{ext_get_or, get_or-replicate, length-map-range_with_len}
-use Rattle.keymap_text.proofs.Common.{get_or-map-range_with_len, range_with_len, option_or, Defined, Slot, Accent}
-use Rattle.keymap_text.proofs.Common.{Placed, is_same, last_of, HasLast}
+use Rattle.keymap_text.proofs.Common.{◌≡◌, ◌≢◌, ℕ, ◌<◌, ◌≤◌, ◌==◌, true, false, cond, List, [], ◌∷◌, ◌++◌, length, set}
+use Rattle.keymap_text.proofs.Common.{get_or, map, refl, sym, ◌∙◌, ap, arith, Option, Some, None, eqb-true, eq-eqb}
+use Rattle.keymap_text.proofs.Common.{length-set, ne_eqb, replicate, get_or-set_same, get_or-set_other, ext_get_or}
+use Rattle.keymap_text.proofs.Common.{get_or-replicate, length-map-range_with_len, get_or-map-range_with_len}
+use Rattle.keymap_text.proofs.Common.{range_with_len, option_or, Defined, Slot, Accent, Placed, is_same, last_of}
+use Rattle.keymap_text.proofs.Common.{HasLast}
 use Rattle.keymap_text.specs.declared.last.LastDefinitions.{LastDefinitions}
 
 -- one definition before the others
@@ -28,15 +28,8 @@ or_assoc None b c = refl
 -- one definition behind the others
 pub last_push : (what : Defined) (ps : List Placed) (p : Placed)
     → last_of what (ps ++ p ∷ []) ≡ option_or (cond (is_same p.what what) (Some p) None) (last_of what ps)
-last_push what [] p =
-    last_more what p [] ∙ ap (λ o. option_or o (cond (is_same p.what what) (Some p) None)) (last_nothing what)
-    ∙ sym (or_none (cond (is_same p.what what) (Some p) None))
-    ∙ ap (λ o. option_or (cond (is_same p.what what) (Some p) None) o) (sym (last_nothing what))
-last_push what (q ∷ ps) p =
-    last_more what q (ps ++ p ∷ [])
-    ∙ ap (λ o. option_or o (cond (is_same q.what what) (Some q) None)) (last_push what ps p)
-    ∙ or_assoc (cond (is_same p.what what) (Some p) None) (last_of what ps) (cond (is_same q.what what) (Some q) None)
-    ∙ ap (λ o. option_or (cond (is_same p.what what) (Some p) None) o) (sym (last_more what q ps))
+last_push what [] p = grind (arith, last_more, last_nothing, or_none)
+last_push what (q ∷ ps) p = grind (arith, last_more, or_assoc, (last_push what ps p))
 
 -- the same is defined behind the others
 last_same : (what : Defined) (ps : List Placed) (p : Placed) → is_same p.what what ≡ true
@@ -52,18 +45,8 @@ pub table_gets : (what : ℕ → Defined) (table : List (Option Placed)) (ps : L
     → ((m : ℕ) → is_same p.what (what m) ≡ (n == m)) → n < length table
     → ((m : ℕ) → m < length table → get_or table m None ≡ last_of (what m) ps) → (m : ℕ) → m < length table
     → get_or (set table n (Some p)) m None ≡ last_of (what m) (ps ++ p ∷ [])
-table_gets what table ps p n same fits h m l = go (n == m) refl
-  where
-    go : (b : Bool) → (n == m) ≡ b → get_or (set table n (Some p)) m None ≡ last_of (what m) (ps ++ p ∷ [])
-    go true e =
-        ap (λ m. get_or (set table n (Some p)) m None) (sym (eqb-true n m e))
-        ∙ get_or-set_same table n (Some p) None fits ∙ sym (last_same (what m) ps p (same m ∙ e))
-    go false e =
-        get_or-set_other table n m (Some p) None (differs e) ∙ h m l
-        ∙ sym (last_other (what m) ps p (same m ∙ e))
-      where
-        differs : (n == m) ≡ false → m ≢ n
-        differs e h = true≢false (sym (eq-eqb n m (sym h)) ∙ e)
+table_gets what table ps p n same fits h m l =
+    grind (arith, eq-eqb, eqb-true, get_or-set_other, get_or-set_same, last_other, last_same)
 
 -- A definition of something else behind the others.
 pub table_stays : (what : ℕ → Defined) (table : List (Option Placed)) (ps : List Placed) (p : Placed) (n : ℕ)

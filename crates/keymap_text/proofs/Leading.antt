@@ -1,8 +1,8 @@
 -- How many bytes at the front pass a test.
-use Rattle.keymap_text.proofs.Common.{◌≡◌, ◌==◌, ℕ, zero, suc, ◌+◌, ◌<◌, ◌≤◌, Bool, true, false, not, cond, List, []}
-use Rattle.keymap_text.proofs.Common.{◌∷◌, ◌++◌, length, take, drop, get_or, refl, sym, ◌∙◌, ap, arith, eq-eqb, ne_eqb}
-use Rattle.keymap_text.proofs.Common.{⊎_elim, eq-or-lt_of_le, drop-cons, append-nil, nat_tests, length-take-le}
-use Rattle.keymap_text.proofs.Common.{get_or-take, drop_all, prefix_len_is, prefix_len-drop_yes, prefix_len-drop_no}
+use Rattle.keymap_text.proofs.Common.{◌≡◌, ◌==◌, ℕ, zero, suc, ◌+◌, ◌<◌, ◌≤◌, Bool, true, false, cond, List, [], ◌∷◌}
+use Rattle.keymap_text.proofs.Common.{◌++◌, length, take, drop, get_or, sym, ◌∙◌, ap, arith, eq-eqb, ne_eqb, ⊎_elim}
+use Rattle.keymap_text.proofs.Common.{eq-or-lt_of_le, drop-cons, append-nil, nat_tests, length-take-le, get_or-take}
+use Rattle.keymap_text.proofs.Common.{drop_all, prefix_len_is, prefix_len-drop_yes, prefix_len-drop_no}
 use Rattle.keymap_text.proofs.Common.{prefix_len-drop_all, prefix_len-le-length, prefix_len_passes, prefix_len_stops}
 use Rattle.keymap_text.proofs.Common.{Some, None, IsFirstByte, is_byte, leading, is_space, stays_on_line}
 use Rattle.std.proofs.lemmas.List.Folds.{prefix_len-append}
@@ -27,16 +27,11 @@ leading_append p w y h =
 
 -- a run that ends before the bytes do
 pub leading_short : (p : ℕ → Bool) (b x : List ℕ) → leading p b < length b → leading p (b ++ x) ≡ leading p b
-leading_short p b x h =
-    prefix_len-append p b x
-    ∙ ap (λ t. cond t (length b + leading p x) (leading p b)) (ne_eqb _ _ (λ e. omega (arith, h, e)))
+leading_short p b x h = grind (arith, ne_eqb, prefix_len-append)
 
 -- more bytes behind make no front shorter
 pub leading_grows : (p : ℕ → Bool) (b x : List ℕ) → leading p b ≤ leading p (b ++ x)
-leading_grows p b x = ⊎_elim
-    (λ e. omega (arith, e, leading_append p b x e))
-    (λ l. omega (arith, leading_short p b x l))
-    (eq-or-lt_of_le (leading_le p b))
+leading_grows p b x = grind (arith, eq-or-lt_of_le, leading_append, leading_le, leading_short)
 
 -- all bytes of a front pass
 pub leading_part : (p : ℕ → Bool) (n : ℕ) (s : List ℕ) → n ≤ leading p s → leading p (take n s) ≡ length (take n s)
@@ -65,11 +60,7 @@ leading_rest p s = ⊎_elim
 -- where all bytes pass, the first does, and the others do
 pub leading_tail : (p : ℕ → Bool) (c : ℕ) (w : List ℕ) → leading p (c ∷ w) ≡ suc (length w)
     → (p c ≡ true) × (leading p w ≡ length w)
-leading_tail p c w h = go (p c) refl
-  where
-    go : (b : Bool) → p c ≡ b → (p c ≡ true) × (leading p w ≡ length w)
-    go true e = (e, omega (arith, leading_pass p c w e, h))
-    go false e = absurd (omega (arith, leading_fail p c w e, h))
+leading_tail p c w h = grind (arith, leading_fail, leading_pass)
 
 -- two lists that are the same in front
 pub same_head : {A : Type 0} (a c : A) (v w : List A) → a ∷ v ≡ c ∷ w → a ≡ c
@@ -89,34 +80,17 @@ leading_same p zero v w e h = omega arith
 leading_same p (suc n) v [] e h = absurd (omega (arith, h))
 leading_same p (suc n) [] (c ∷ w) e h = absurd (not_none c (take n w) e)
 leading_same p (suc n) (a ∷ v) (c ∷ w) e h =
-    go (p c) refl (leading_same p n v w (same_tail a c (take n v) (take n w) e))
-  where
-    go : (b : Bool) → p c ≡ b → (n ≤ leading p w → n ≤ leading p v) → suc n ≤ leading p (a ∷ v)
-    go true t k =
-        omega (
-          arith,
-          leading_pass p a v (ap p (same_head a c (take n v) (take n w) e) ∙ t),
-          k (omega (arith, h, leading_pass p c w t)),
-        )
-    go false t k = absurd (omega (arith, h, leading_fail p c w t))
+    grind (arith, leading_fail, leading_pass, same_head, same_tail,
+    (leading_same p n v w (same_tail a c (take n v) (take n w) e)))
 
 -- a byte that isn't the end of the line stays on it
 no_line_end : (c : ℕ) → ((c == 10) ≡ true → ⊥) → stays_on_line c ≡ true
-no_line_end c h = go (c == 10) h
-  where
-    go : (b : Bool) → (b ≡ true → ⊥) → not b ≡ true
-    go true h = absurd (h refl)
-    go false h = refl
+no_line_end c h = grind arith
 
 -- a line goes up to the first line feed
 pub line_found : (bytes : List ℕ) (n : ℕ) → IsFirstByte (is_byte 10) bytes (Some n)
     → (n ≤ length bytes) × (n ≡ leading stays_on_line bytes)
-line_found bytes n h =
-    let inside : n < length bytes = h.0.high in (
-      omega (arith, inside),
-      sym (prefix_len_is stays_on_line bytes n 0 (omega (arith, inside))
-          (λ k l. no_line_end _ (h.0.before k (omega arith) l)) (λ _. ap not h.1)),
-    )
+line_found bytes n h = grind (arith, no_line_end, prefix_len_is)
 
 -- or to the end where there is none
 pub line_whole : (bytes : List ℕ) → IsFirstByte (is_byte 10) bytes None
@@ -132,17 +106,6 @@ space_is_blank c h = grind (arith, nat_tests)
 -- so there are as many blanks in front as spaces
 pub plain_spaces : (xs : List ℕ) → leading (λ c. c == 32) xs ≤ leading is_space xs
 plain_spaces [] = omega arith
-plain_spaces (x ∷ xs) = go (x == 32) refl (plain_spaces xs)
-  where
-    go : (b : Bool) → x == 32 ≡ b → leading (λ c. c == 32) xs ≤ leading is_space xs
-        → leading (λ c. c == 32) (x ∷ xs) ≤ leading is_space (x ∷ xs)
-    go true e k =
-        omega (
-          arith,
-          leading_pass (λ c. c == 32) x xs e,
-          leading_pass is_space x xs (space_is_blank x e),
-          k,
-        )
-    go false e k = omega (arith, leading_fail (λ c. c == 32) x xs e)
+plain_spaces (x ∷ xs) = grind (arith, leading_fail, leading_pass, space_is_blank, (plain_spaces xs))
 
 pub ruleset leading_rules = (prefix_len-drop_yes, prefix_len-drop_no, prefix_len-drop_all, prefix_len-le-length)

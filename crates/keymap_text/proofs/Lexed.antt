@@ -1,9 +1,8 @@
 -- Texts whose tokens are known, whatever stands behind them.
-use Rattle.keymap_text.proofs.Common.{◌≡◌, ℕ, suc, ◌+◌, ◌<◌, ◌≤◌, true, false, List, [], ◌∷◌, ◌++◌, length, map, refl}
-use Rattle.keymap_text.proofs.Common.{sym, ◌∙◌, ap, arith, append_assoc, length-append, add-zero, TokenKind, ParenL}
-use Rattle.keymap_text.proofs.Common.{ParenR, Literal, Word, Item, Open, Close, Value, Char, tokens_after, leading}
-use Rattle.keymap_text.proofs.Common.{is_word, is_blank, Tokens, Found, front_of, meaning, item, ending_of_tokens}
-use Rattle.keymap_text.proofs.Common.{item_of}
+use Rattle.keymap_text.proofs.Common.{◌≡◌, ℕ, ◌+◌, ◌<◌, ◌≤◌, true, false, List, [], ◌∷◌, ◌++◌, length, refl, ◌∙◌, arith}
+use Rattle.keymap_text.proofs.Common.{append_assoc, length-append, add-zero, TokenKind, ParenL, ParenR, Literal, Word}
+use Rattle.keymap_text.proofs.Common.{Item, Open, Close, Value, Char, tokens_after, leading, is_word, is_blank, Found}
+use Rattle.keymap_text.proofs.Common.{front_of, meaning, item, ending_of_tokens}
 use Rattle.keymap_text.proofs.Leading.{leading_tail, leading_fail}
 use Rattle.keymap_text.proofs.InFront.{front_quote, front_left, front_right}
 use Rattle.keymap_text.proofs.Splitting.{split_blank, split_whole}
@@ -28,35 +27,16 @@ pub record Lexes (P : List ℕ → Type 0) (t : List ℕ) (is : List Item) : Typ
 
 -- no bytes are no tokens
 pub lexes_none : (P : List ℕ → Type 0) → Lexes P [] []
-lexes_none P =
-    record {
-      items = λ q y h. ap (λ n. items_of (tokens_after 0 n y)) (sym (add-zero q));
-      end = λ q y h. ap (λ n. ending_of_tokens (tokens_after 0 n y)) (sym (add-zero q));
-    }
+lexes_none P = grind (arith, add-zero)
 
 -- tokens of two texts, one after the other
 pub lexes_both : {P Q : List ℕ → Type 0} {t u : List ℕ} {is js : List Item} → Lexes P t is → Lexes Q u js
     → ((y : List ℕ) → Q y → P (u ++ y)) → Lexes Q (t ++ u) (is ++ js)
-lexes_both {t = t} {u = u} {is = is} {js = js} a b s = record {
-  items = λ q y h. ap (λ x. items_of (tokens_after 0 q x)) (append_assoc t u y) ∙ a.items q (u ++ y) (s y h)
-      ∙ ap (λ (l : List Item). is ++ l)
-      (b.items (q + length t) y h ∙ ap (λ n. js ++ items_of (tokens_after 0 n y)) (far q))
-      ∙ sym (append_assoc is js _);
-  end = λ q y h. ap (λ x. ending_of_tokens (tokens_after 0 q x)) (append_assoc t u y) ∙ a.end q (u ++ y) (s y h)
-      ∙ b.end (q + length t) y h ∙ ap (λ n. ending_of_tokens (tokens_after 0 n y)) (far q);
-}
-  where
-    far : (q : ℕ) → q + length t + length u ≡ q + length (t ++ u)
-    far q = omega (arith, length-append t u)
+lexes_both {t = t} {u = u} {is = is} {js = js} a b s = grind (arith, append_assoc, length-append)
 
 -- a blank is no token
 pub lexes_blank : (P : List ℕ → Type 0) (c : ℕ) → is_blank c ≡ true → Lexes P (c ∷ []) []
-lexes_blank P c h =
-    record {
-      items = λ q y k. ap items_of (split_blank q c y h);
-      end = λ q y k. ap ending_of_tokens
-          (split_blank q c y h);
-    }
+lexes_blank P c h = grind (arith, split_blank)
 
 -- a text that begins with a blank, and others that begin with no letter or digit
 pub blank_first : (c : ℕ) (u y : List ℕ) → is_word c ≡ false → leading is_word ((c ∷ u) ++ y) ≡ 0
@@ -66,15 +46,7 @@ blank_first c u y h = leading_fail is_word c (u ++ y) h
 lexes_one : (P : List ℕ → Type 0) (c : ℕ) (w : List ℕ) (kind : TokenKind) (i : Item)
     → ((y : List ℕ) → P y → front_of c (w ++ y) ≡ Found kind (length w)) → item kind (c ∷ w) ≡ i
     → Lexes P (c ∷ w) (i ∷ [])
-lexes_one P c w kind i f e = record {
-  items = λ q y h.
-      ap items_of (split_whole q c kind w y (f y h)) ∙ ap (map item_of) (list_then _ (behind q y))
-      ∙ ap (λ (i : Item). i ∷ items_of (behind q y)) e;
-  end = λ q y h. ap ending_of_tokens (split_whole q c kind w y (f y h)) ∙ behind_then _ (behind q y);
-}
-  where
-    behind : ℕ → List ℕ → Tokens
-    behind q y = tokens_after 0 (q + suc (length w)) y
+lexes_one P c w kind i f e = grind (arith, behind_then, list_then, split_whole)
 
 -- a word is one token where no letter or digit follows
 pub lexes_word : (w : List ℕ) → 0 < length w → length w ≤ 32 → leading is_word w ≡ length w

@@ -13,12 +13,7 @@ use Rattle.keymap_text.proofs.Lines.{line_more, feeds_run}
 leading_drop : (p : ℕ → Bool) (k : ℕ) (xs : List ℕ) → k ≤ leading p xs → k + leading p (drop k xs) ≡ leading p xs
 leading_drop p zero xs h = omega arith
 leading_drop p (suc k) [] h = absurd (omega (arith, h))
-leading_drop p (suc k) (c ∷ xs) h = go (p c) refl (leading_drop p k xs)
-  where
-    go : (b : Bool) → p c ≡ b → (k ≤ leading p xs → k + leading p (drop k xs) ≡ leading p xs)
-        → suc k + leading p (drop k xs) ≡ leading p (c ∷ xs)
-    go true e f = omega (arith, leading_pass p c xs e, f (omega (arith, h, leading_pass p c xs e)))
-    go false e f = absurd (omega (arith, h, leading_fail p c xs e))
+leading_drop p (suc k) (c ∷ xs) h = grind (arith, leading_fail, leading_pass, (leading_drop p k xs))
 
 -- the end of a line is that of each later place on it
 pub same_end : (b : List ℕ) (q p : ℕ) → q ≤ p → p ≤ line_end b q → line_end b p ≡ line_end b q
@@ -33,12 +28,7 @@ same_end b q p l h =
 pub before_is : (b : List ℕ) (start place : ℕ) → place ≤ length b
     → start + suffix_len stays_on_line (take place b) ≡ place
     → take (place - start) (drop start b) ≡ before_in_line b place
-before_is b start place l e =
-    let n : length (take place b) - suffix_len stays_on_line (take place b) ≡ start =
-    omega (arith, e, length-take place b, l) in
-    let cut : drop start (take place b) ≡ take (place - start) (drop start b) =
-    ap (λ k. drop start (take k b)) (omega (arith, e)) ∙ drop-take start (place - start) b in
-    sym cut ∙ sym (ap (λ k. drop k (take place b)) n)
+before_is b start place l e = grind (arith, drop-take, length-take)
 
 -- a place on a line
 pub on_line : (b : List ℕ) (n s place : ℕ) → IsLineStart b n s → s ≤ place → place ≤ line_end b s → place ≤ length b
@@ -94,16 +84,7 @@ next_start b n s h l =
 
 -- the first line
 pub first_start : (b : List ℕ) → AreStarts b (0 ∷ [])
-first_start b = record {
-  some = omega arith;
-  first = refl;
-  each = only;
-  next = λ i h. absurd (omega (arith, h));
-}
-  where
-    only : (i : ℕ) → i < 1 → IsLineStart b (i + 1) (get_or (0 ∷ []) i 0)
-    only zero h = record { inside = omega arith; begins = λ z. absurd (omega (arith, z)); number = refl }
-    only (suc i) h = absurd (omega (arith, h))
+first_start b = grind arith
 
 -- one line more
 pub start_pushed : (b old new : List ℕ) (e : ℕ) → AreStarts b old
@@ -150,15 +131,7 @@ start_pushed b old new e h last l pushed = subst (AreStarts b) (sym pushed) (rec
 -- the end of the line that is found
 pub found_end : (b ss : List ℕ) (i place : ℕ) → AreLines b ss → i < length ss → get_or ss i 0 ≤ place
     → (i + 1 < length ss → place < get_or ss (i + 1) 0) → place ≤ length b → place ≤ line_end b (get_or ss i 0)
-found_end b ss i place h l s n w = ⊎_elim
-    (λ (z : i + 1 ≡ length ss).
-    let k : length ss - 1 ≡ i = omega (arith, z) in
-    omega (arith, ap (λ k. line_end b (get_or ss k 0)) k, h.last, w))
-    (λ (m : i + 1 < length ss). omega (arith, h.lines.next i m, n m))
-    (eq-or-lt_of_le (le l))
-  where
-    le : i < length ss → i + 1 ≤ length ss
-    le l = omega (arith, l)
+found_end b ss i place h l s n w = grind (arith, eq-or-lt_of_le)
 
 -- a line ends within the text
 pub end_within : (b : List ℕ) (n s : ℕ) → IsLineStart b n s → line_end b s ≤ length b

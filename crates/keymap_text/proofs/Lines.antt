@@ -1,9 +1,9 @@
 -- Lines: one more than the line feeds before a place.
-use Rattle.keymap_text.proofs.Common.{◌≡◌, ℕ, zero, suc, ◌+◌, ◌-◌, ◌≤◌, ◌==◌, Bool, true, false, cond, List, [], ◌∷◌}
-use Rattle.keymap_text.proofs.Common.{◌++◌, length, take, drop, take_at, drop_at, refl, sym, ◌∙◌, ap, arith, count_by}
-use Rattle.keymap_text.proofs.Common.{eqb-true, length-append, true≢false, drop-drop, drop_all, drop-append-le}
-use Rattle.keymap_text.proofs.Common.{take-append-le, sum_by-append, sum_by-cons, sum_by-take-drop, take-add, leading}
-use Rattle.keymap_text.proofs.Common.{TextFault, Reading, line, IsFaultOfPending, Lined}
+use Rattle.keymap_text.proofs.Common.{◌≡◌, ℕ, zero, suc, ◌+◌, ◌-◌, ◌≤◌, ◌==◌, Bool, false, cond, List, [], ◌∷◌, ◌++◌}
+use Rattle.keymap_text.proofs.Common.{length, take, drop, take_at, drop_at, refl, sym, ◌∙◌, ap, arith, count_by}
+use Rattle.keymap_text.proofs.Common.{eqb-true, length-append, drop-drop, drop_all, drop-append-le, take-append-le}
+use Rattle.keymap_text.proofs.Common.{sum_by-append, sum_by-cons, sum_by-take-drop, take-add, leading, TextFault}
+use Rattle.keymap_text.proofs.Common.{Reading, line, IsFaultOfPending, Lined}
 use Rattle.keymap_text.proofs.Leading.{leading_pass, leading_fail}
 
 -- how many line feeds there are
@@ -48,14 +48,7 @@ lined_line r b l = l.line ∙ line_all b r.offset l.none
 pub lined_read : (old new : Reading) (b w : List ℕ) → Lined old b
     → new.offset ≡ old.offset + length old.pending.items + length w → new.pending.items ≡ []
     → new.line ≡ old.line + feeds w → Lined new (b ++ w)
-lined_read old new b w l o p n =
-    let all : new.offset ≡ length (b ++ w) = omega (arith, o, l.fed, length-append b w) in
-    let none : feeds (drop new.offset (b ++ w)) ≡ 0 = ap feeds (drop_all new.offset (b ++ w) (omega (arith, all))) in
-    record {
-      fed = omega (arith, all, ap length p);
-      line = omega (arith, n, lined_line old b l, feeds_append b w, line_all (b ++ w) new.offset none);
-      none = none;
-    }
+lined_read old new b w l o p n = grind (arith, drop_all, feeds_append, length-append, line_all, lined_line)
 
 -- bytes on one line were taken
 pub lined_same : (old new : Reading) (b w : List ℕ) → Lined old b → old.offset ≤ new.offset
@@ -75,31 +68,15 @@ lined_same old new b w l o f n z =
 -- a fault in bytes stands behind the line feeds before it
 pub line_behind : (old : Reading) (b w : List ℕ) (n : ℕ) → Lined old b
     → old.line + feeds (take n w) ≡ line (b ++ w) (old.offset + length old.pending.items + n)
-line_behind old b w n l =
-    let all : feeds (take (length b) (b ++ w)) ≡ feeds b = ap feeds (take_at b w (length b) refl) in
-    let few : feeds (take n (drop (length b) (b ++ w))) ≡ feeds (take n w) =
-    ap (λ t. feeds (take n t)) (drop_at b w (length b) refl) in
-    omega (arith, lined_line old b l, all, few, line_more (b ++ w) (length b) n)
-    ∙ ap (λ q. line (b ++ w) q) {x = length b + n} (omega (arith, l.fed))
+line_behind old b w n l = grind (arith, drop_at, line_more, lined_line, take_at)
 
 -- a fault at what is pending stands on the line of the reader
 pub pending_line : (old : Reading) (b more : List ℕ) (e : TextFault) → Lined old b → IsFaultOfPending e old
     → e.line ≡ line (b ++ more) e.offset
-pending_line old b more e l p =
-    let here : feeds (drop e.offset b) ≡ 0 = feeds_behind old.offset e.offset b p.from l.none in
-    p.line ∙ lined_line old b l ∙ sym (line_all b e.offset here)
-    ∙ sym (ap (λ (t : List ℕ). 1 + feeds t) (take-append-le e.offset b more (omega (arith, p.to, l.fed))))
+pending_line old b more e l p = grind (arith, feeds_behind, line_all, lined_line, take-append-le)
 
 -- bytes of a run that no line feed belongs to
 pub feeds_run : (p : ℕ → Bool) → p 10 ≡ false → (n : ℕ) (xs : List ℕ) → n ≤ leading p xs → feeds (take n xs) ≡ 0
 feeds_run p f zero xs h = refl
 feeds_run p f (suc n) [] h = refl
-feeds_run p f (suc n) (c ∷ xs) h = go (p c) refl (feeds_run p f n xs)
-  where
-    other : (t : Bool) → (c == 10) ≡ t → p c ≡ true → (c == 10) ≡ false
-    other true e k = absurd (true≢false (sym k ∙ ap p (eqb-true c 10 e) ∙ f))
-    other false e k = e
-
-    go : (t : Bool) → p c ≡ t → (n ≤ leading p xs → feeds (take n xs) ≡ 0) → feeds (take (suc n) (c ∷ xs)) ≡ 0
-    go true e k = no_feed c (take n xs) (other (c == 10) refl e) ∙ k (omega (arith, h, leading_pass p c xs e))
-    go false e k = absurd (omega (arith, h, leading_fail p c xs e))
+feeds_run p f (suc n) (c ∷ xs) h = grind (arith, eqb-true, leading_fail, leading_pass, no_feed, (feeds_run p f n xs))

@@ -1,11 +1,11 @@
 -- A quoted character that is complete stays so, whatever follows.
 use Rattle.keymap_text.proofs.Common.{lt-ltb, ◌≡◌, ◌≢◌, ◌⊎◌, inl, inr, ℕ, ◌+◌, ◌<◌, ◌≤◌, ◌==◌, Bool, true, false, cond}
 use Rattle.keymap_text.proofs.Common.{List, [], ◌∷◌, ◌++◌, length, get_or, refl, sym, ◌∙◌, ap, subst, arith, nat_lt}
-use Rattle.keymap_text.proofs.Common.{nat_le, slice_index, Option, Some, None, length-append, ⊎_elim, eq-eqb}
-use Rattle.keymap_text.proofs.Common.{true≢false, ne_eqb, nat_tests, get_or_append_left, le-ltb, decoded, decoded_by}
-use Rattle.keymap_text.proofs.Common.{Decoded, bad, good, second, continues, code_of_3, code_of_4, get_or-append_seam}
-use Rattle.keymap_text.proofs.Common.{TextFaultKind, BadLiteral, TokenKind, Literal, is_word_kind, Front, Skipped}
-use Rattle.keymap_text.proofs.Common.{Found, Refused, Unfinished, literal, quoted, closing, unclosed, is_lone}
+use Rattle.keymap_text.proofs.Common.{slice_index, Option, Some, None, length-append, ⊎_elim, eq-eqb, true≢false}
+use Rattle.keymap_text.proofs.Common.{ne_eqb, nat_tests, get_or_append_left, le-ltb, decoded, decoded_by, Decoded, bad}
+use Rattle.keymap_text.proofs.Common.{second, continues, get_or-append_seam, TextFaultKind, BadLiteral, TokenKind}
+use Rattle.keymap_text.proofs.Common.{Literal, is_word_kind, Front, Skipped, Found, Refused, Unfinished, literal}
+use Rattle.keymap_text.proofs.Common.{quoted, closing, unclosed, is_lone}
 use Rattle.bstr.proofs.lemmas.PieceLemmas.{size-bounds}
 use Rattle.bstr.proofs.lemmas.EncodeLemmas.{decoded-encode}
 use Rattle.std.specs.Prelude.{encode_utf8}
@@ -65,39 +65,16 @@ by_1 n b c d e h =
 -- two bytes
 by_2 : (n b c d e : ℕ) → 2 < n → Grows 2 (decoded_by n b c d e) (decoded_by 2 b c 0 0)
 unfolding Grows
-by_2 n b c d e h =
-    rw (not_zero n (omega arith), le-ltb n 2 (omega arith), le-ltb n 3 (omega arith))
-    (under 2 (nat_lt b 0x80) _ _ _ (under 2 (nat_lt b 0xC2) _ _ _
-    (under 2 (nat_lt 0xF4 b) _ _ _ (over 2 (second b c) _ _ _ (under 2 (nat_lt b 0xE0) _ _ _ (last n b c d e))))))
-  where
-    last : (n b c d e : ℕ) → Grows 2 (cond (continues d) (cond (nat_lt b 0xF0) (good (code_of_3 b c d) 3)
-        (cond (nat_lt n 4) (bad 3) (cond (continues e) (good (code_of_4 b c d e) 4) (bad 3)))) (bad 2)) (bad 2)
-    last n b c d e =
-        inr (
-          refl,
-          at_least 2 (continues d) _ _
-              (at_least 2 (nat_lt b 0xF0) _ _ (omega arith)
-              (at_least 2 (nat_lt n 4) _ _ (omega arith) (at_least 2 (continues e) _ _ (omega arith) (omega arith))))
-              (omega arith),
-        )
+by_2 n b c d e h = grind (arith, at_least, le-ltb, not_zero, over, under)
 
 -- three bytes
 by_3 : (n b c d e : ℕ) → 3 < n → Grows 3 (decoded_by n b c d e) (decoded_by 3 b c d 0)
 unfolding Grows
-by_3 n b c d e h =
-    rw (not_zero n (omega arith), le-ltb n 2 (omega arith), le-ltb n 3 (omega arith), le-ltb n 4 (omega arith))
-    (under 3 (nat_lt b 0x80) _ _ _ (under 3 (nat_lt b 0xC2) _ _ _
-    (under 3 (nat_lt 0xF4 b) _ _ _ (over 3 (second b c) _ _ _ (under 3 (nat_lt b 0xE0) _ _ _
-    (over 3 (continues d) _ _ _ (under 3 (nat_lt b 0xF0) _ _ _ (last b c d e))))))))
-  where
-    last : (b c d e : ℕ) → Grows 3 (cond (continues e) (good (code_of_4 b c d e) 4) (bad 3)) (bad 3)
-    last b c d e = inr (refl, at_least 3 (continues e) _ _ (omega arith) (omega arith))
+by_3 n b c d e h = grind (arith, at_least, le-ltb, not_zero, over, under)
 
 -- four bytes decide
 by_4 : (n b c d e : ℕ) → 3 < n → decoded_by n b c d e ≡ decoded_by 4 b c d e
-by_4 n b c d e h =
-    rw (not_zero n (omega arith), le-ltb n 2 (omega arith), le-ltb n 3 (omega arith), le-ltb n 4 (omega arith))
-    refl
+by_4 n b c d e h = grind (arith, le-ltb, not_zero)
 
 -- any bytes
 decoded_grows : (s x : List ℕ) → Grows (length s) (decoded (s ++ x)) (decoded s)
@@ -126,8 +103,7 @@ either false f g h k = k
 -- of a decoded character
 quoted_shape : (o : Option ℕ) (n : ℕ) (s : List ℕ) → LiteralFront (quoted (record { char = o; size = n }) s)
 unfolding LiteralFront
-quoted_shape (Some c) n s =
-    either (c == 10) _ _ refl (either (nat_le (length s) n) _ _ tt (either (slice_index s n == 39) _ _ refl refl))
+quoted_shape (Some c) n s = grind (arith, either)
 quoted_shape None n s = either (length s == n) _ _ tt refl
 
 -- of what stands at an apostrophe
@@ -221,11 +197,7 @@ quoted_open None n s h = unclosed_open n s h
 -- an unfinished one is no quoted lone byte
 not_lone : (s : List ℕ) (q : Front) → cond (is_lone s) (Found (Literal (slice_index s 0)) 2) q ≡ Unfinished
     → (is_lone s ≡ false) × (q ≡ Unfinished)
-not_lone s q h = go (is_lone s) h
-  where
-    go : (b : Bool) → cond b (Found (Literal (slice_index s 0)) 2) q ≡ Unfinished → (b ≡ false) × (q ≡ Unfinished)
-    go true e = absurd (cc)
-    go false e = (refl, e)
+not_lone s q h = grind arith
 
 -- a character has at most four bytes
 size_4 : (s : List ℕ) → (decoded s).size ≤ 4
@@ -345,40 +317,19 @@ no_char false false false a z h = refl
 
 -- a quoted lone byte is no UTF-8
 lone_decodes : (s : List ℕ) → is_lone s ≡ true → (decoded s).char ≡ None
-lone_decodes (b ∷ d ∷ s) h =
-    let high : nat_lt b 0x80 ≡ false = grind (arith, nat_tests) in
-    let close : d ≡ 39 = grind (arith, nat_tests) in
-    let n = length (b ∷ d ∷ s) in
-    rw (not_zero n (omega arith), le-ltb n 2 (omega arith), high)
-    (no_char (nat_lt b 0xC2) (nat_lt 0xF4 b) (second b d) _ (bad 1) (ap (second b) close ∙ no_second b))
+lone_decodes (b ∷ d ∷ s) h = grind (arith, nat_tests, le-ltb, no_char, no_second, not_zero)
 lone_decodes _ h = absurd (true≢false (sym h))
 
 -- an apostrophe behind the character closes it
 closing_spelled : (c : ℕ) (e rest : List ℕ) → c ≢ 10
     → closing c (length e) (e ++ 39 ∷ rest) ≡ Found (Literal c) (length e + 1)
-closing_spelled c e rest h = rw (ne_eqb c 10 h, longer_than e rest, get_or-append_seam e 39 rest 0) refl
-  where
-    longer_than : (e rest : List ℕ) → nat_le (length (e ++ 39 ∷ rest)) (length e) ≡ false
-    longer_than e rest = grind (arith, nat_tests, length-append)
+closing_spelled c e rest h = grind (arith, get_or-append_seam, length-append, ne_eqb)
 
 -- the UTF-8 of a character other than LF, and an apostrophe, are found
 pub literal_spelled : (c : ℕ) (rest : List ℕ) → scalar c ≡ true → c ≢ 10
     → literal (encode_utf8 c ++ 39 ∷ rest) ≡ Found (Literal c) (length (encode_utf8 c) + 1)
 unfolding literal
-literal_spelled c rest v h = go (is_lone (encode_utf8 c ++ 39 ∷ rest)) refl
-  where
-    clash : (n : Option ℕ) → n ≡ None → n ≡ Some c → ⊥
-    clash n a b = cc
-
-    go : (b : Bool) → is_lone (encode_utf8 c ++ 39 ∷ rest) ≡ b
-        → cond b (Found (Literal (slice_index (encode_utf8 c ++ 39 ∷ rest) 0)) 2)
-        (quoted (decoded (encode_utf8 c ++ 39 ∷ rest)) (encode_utf8 c ++ 39 ∷ rest))
-        ≡ Found (Literal c) (length (encode_utf8 c) + 1)
-    go true l = absurd (clash (decoded (encode_utf8 c ++ 39 ∷ rest)).char (lone_decodes (encode_utf8 c ++ 39 ∷ rest) l)
-        (ap (λ (x : Decoded). x.char) (decoded-encode c (39 ∷ rest) v)))
-    go false l =
-        ap (λ d. quoted d (encode_utf8 c ++ 39 ∷ rest)) (decoded-encode c (39 ∷ rest) v)
-        ∙ closing_spelled c (encode_utf8 c) rest h
+literal_spelled c rest v h = grind (arith, nat_tests, closing_spelled, decoded-encode, lone_decodes)
 
 -- no LF stands in an unfinished one
 at_most : (k : ℕ) (p : Bool) (y z : Decoded) → y.size ≤ k → z.size ≤ k → (cond p y z).size ≤ k

@@ -1,13 +1,13 @@
 -- Each row of the table of names says what its name means.
-use Rattle.keymap_text.proofs.Common.{◌≡◌, ℕ, suc, ◌+◌, ◌*◌, ◌<◌, true, false, cond, ◌&&◌, List, [], ◌∷◌, length, take}
-use Rattle.keymap_text.proofs.Common.{drop, get_or, map, fold, All, refl, sym, ◌∙◌, ap, ap₂, arith, nat_lt, nat_le}
-use Rattle.keymap_text.proofs.Common.{Option, Some, None, IfSome, codes, bytes_eq, ◌≤◌, length-take, take_all}
+use Rattle.keymap_text.proofs.Common.{rules, ◌≡◌, ℕ, suc, ◌+◌, ◌*◌, ◌<◌, true, false, cond, ◌&&◌, List, [], ◌∷◌, length}
+use Rattle.keymap_text.proofs.Common.{take, drop, get_or, map, fold, All, refl, sym, ◌∙◌, ap, ap₂, arith, nat_lt}
+use Rattle.keymap_text.proofs.Common.{nat_le, Option, Some, None, IfSome, codes, bytes_eq, ◌≤◌, length-take, take_all}
 use Rattle.keymap_text.proofs.Common.{get_or-map, take-map, drop-map, length-map, lt-ltb, nat_tests, list_all}
-use Rattle.keymap_text.proofs.Common.{to_ascii_lowercase, digit_value, named_of, meaning_of, Number, Act, Name, Meaning}
-use Rattle.keymap_text.proofs.Common.{NAMES, pack, unpacked, KeyMeans, IsTrueName, function_name, screen_name, name_key}
-use Rattle.keymap_text.proofs.Common.{ArePlaced, along, leading, is_word, from_le_bytes, w64, meaning, same_name}
-use Rattle.keymap_text.proofs.Common.{sense_meaning, letters, meaning_by_names, named, table, digits_of, number}
-use Rattle.keymap_text.proofs.Common.{number_after, is_digit, of_action}
+use Rattle.keymap_text.proofs.Common.{to_ascii_lowercase, digit_value, named_of, Number, Act, Name, Meaning, NAMES}
+use Rattle.keymap_text.proofs.Common.{pack, unpacked, KeyMeans, IsTrueName, function_name, screen_name, name_key}
+use Rattle.keymap_text.proofs.Common.{ArePlaced, along, leading, is_word, from_le_bytes, w64, meaning, sense_meaning}
+use Rattle.keymap_text.proofs.Common.{letters, meaning_by_names, named, table, digits_of, number, number_after}
+use Rattle.keymap_text.proofs.Common.{is_digit, of_action}
 use Rattle.std.proofs.lemmas.Str.Ascii.{lowercase-lowercase}
 use Rattle.keymap_core.specs.declared.named.Named.{Named}
 use Rattle.keymap_text.specs.Inner.Keys.{place_of}
@@ -35,8 +35,7 @@ number_lower : (base n : ℕ) (w : List ℕ)
     → fold (λ n c. n * base + digit_value c) n (map to_ascii_lowercase w) ≡ fold (λ n c. n * base + digit_value c) n w
 number_lower base n [] = refl
 number_lower base n (c ∷ w) =
-    number_lower base (n * base + digit_value (to_ascii_lowercase c)) w
-    ∙ ap (λ d. fold (λ n c. n * base + digit_value c) (n * base + d) w) (digit_lower c)
+    grind (arith, digit_lower, (number_lower base (n * base + digit_value (to_ascii_lowercase c)) w))
 
 -- nor has what digits spell
 digits_lower : (base : ℕ) (w : List ℕ) → digits_of base (map to_ascii_lowercase w) ≡ digits_of base w
@@ -46,19 +45,13 @@ digits_lower base w = rw (length-map, all_lower base w, number_lower base 0 w) r
 -- nor has the number after a prefix
 after_lower : (prefix : List ℕ) (base : ℕ) (w : List ℕ)
     → number_after prefix base (map to_ascii_lowercase w) ≡ number_after prefix base w
-after_lower prefix base w =
-    let n = length prefix in
-    ap₂ (λ b o. cond b o None)
-    (ap₂ (λ m l. nat_le n m && bytes_eq (map to_ascii_lowercase prefix) l) (length-map w to_ascii_lowercase)
-    (ap (map to_ascii_lowercase) (take-map to_ascii_lowercase n w) ∙ idem (take n w)))
-    (ap (digits_of base) (drop-map to_ascii_lowercase n w) ∙ digits_lower base (drop n w))
+after_lower prefix base w = grind (arith, digits_lower, drop-map, idem, length-map, take-map)
 
 -- nor has a name
 named_lower : (t : List (List ℕ × Meaning)) (w : List ℕ) → named t (map to_ascii_lowercase w) ≡ named t w
 unfolding named
 named_lower [] w = refl
-named_lower (e ∷ t) w =
-    ap₂ (λ l o. cond (bytes_eq (map to_ascii_lowercase e.0) l) (Some e.1) o) (idem w) (named_lower t w)
+named_lower (e ∷ t) w = grind (arith, idem, (named_lower t w))
 
 -- the first of the meanings that a word may have
 pick : Option ℕ → Option ℕ → Option Meaning → Named → Meaning
@@ -81,9 +74,7 @@ same_pick a a' b b' c c' d d' e f g h = cc
 
 -- the meaning of a word has no case
 pub meaning_lower : (w : List ℕ) → meaning (map to_ascii_lowercase w) ≡ meaning w
-meaning_lower w =
-    meaning_picks _ ∙ same_pick _ _ _ _ _ _ _ _ (digits_lower 10 w) (after_lower (codes "0x") 16 w)
-    (named_lower table w) (ap meaning_of (idem w)) ∙ sym (meaning_picks w)
+meaning_lower w = search (rules, after_lower, digits_lower, idem, meaning_picks, named_lower, same_pick)
 
 -- numbers
 pub decimal_meaning : (w : List ℕ) (n : ℕ) → Some n ≡ digits_of 10 w → Number n ≡ meaning w
@@ -110,18 +101,12 @@ behind_prefix b w l =
 pub hexadecimal : (b n : ℕ) (w : List ℕ) → nat_lt (digit_value b) 10 ≡ false → to_ascii_lowercase b ≡ 120
     → Some n ≡ digits_of 16 w → Number n ≡ meaning (48 ∷ b ∷ w)
 unfolding pick
-hexadecimal b n w d l h =
-    let e : number_after (codes "0x") 16 (48 ∷ b ∷ w) ≡ digits_of 16 w = behind_prefix b w l in
-    ap (λ o. pick None o (named table (48 ∷ b ∷ w)) (named_of (48 ∷ b ∷ w))) (h ∙ sym e)
-    ∙ ap (λ o. pick o (number_after (codes "0x") 16 (48 ∷ b ∷ w)) (named table (48 ∷ b ∷ w)) (named_of (48 ∷ b ∷ w)))
-    (sym (not_decimal b w d))
-    ∙ sym (meaning_picks (48 ∷ b ∷ w))
+hexadecimal b n w d l h = grind (arith, behind_prefix, meaning_picks, not_decimal)
 
 -- digits after 0x mean their number
 pub hexadecimal_meaning : (w : List ℕ) (b n : ℕ) → nat_lt (digit_value b) 10 ≡ false → to_ascii_lowercase b ≡ 120
     → 2 < length w → get_or w 0 0 ≡ 48 → get_or w 1 0 ≡ b → Some n ≡ digits_of 16 (drop 2 w) → Number n ≡ meaning w
-hexadecimal_meaning (c ∷ e ∷ w) b n d l s x y h =
-    hexadecimal b n w d l h ∙ ap₂ (λ (x y : ℕ). meaning (x ∷ y ∷ w)) (sym x) (sym y)
+hexadecimal_meaning (c ∷ e ∷ w) b n d l s x y h = grind (arith, hexadecimal)
 hexadecimal_meaning _ b n d l s x y h = absurd (omega (arith, s))
 
 -- decimal digits mean their number
@@ -204,10 +189,7 @@ screen_means n key l h e =
 -- what the code found by the key is the meaning of the word in front
 pub some_means : (r : Option Meaning) (key n : ℕ) (w : List ℕ) → IfSome r (KeyMeans key) → n ≤ 8 → n ≤ leading is_word w
     → key ≡ pack 8 (map to_ascii_lowercase (take n w)) → IfSome r (λ m. m ≡ meaning (take n w))
-some_means (Some m) key n w h s l e = h (take n w) (short n w s) (letters_front n w l) (sym e)
-  where
-    short : (n : ℕ) (w : List ℕ) → n ≤ 8 → length (take n w) ≤ 8
-    short n w s = omega (arith, s, length-take n w)
+some_means (Some m) key n w h s l e = grind (arith, length-take, letters_front)
 some_means None key n w h s l e = tt
 
 -- the names of characters and the lock letters stand first, in the order of the table
@@ -218,8 +200,7 @@ sense_entry name = (letters name.0, sense_meaning name.1)
 look_named : (names : List Name) (w : List ℕ) → meaning_by_names names w ≡ named (map sense_entry names) w
 unfolding meaning_by_names named sense_entry
 look_named [] w = refl
-look_named (name ∷ names) w =
-    ap (λ o. cond (same_name (letters name.0) w) (Some (sense_meaning name.1)) o) (look_named names w)
+look_named (name ∷ names) w = grind (arith, (look_named names w))
 
 -- the first forty rows are the table of characters and lock letters, by computation
 pub look_in_table : (w : List ℕ) → meaning_by_names (take 40 NAMES) w ≡ named table w

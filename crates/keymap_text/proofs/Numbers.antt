@@ -1,10 +1,9 @@
 -- Names and numbers.
 use Rattle.keymap_text.proofs.Common.{lt-ltb, le-ltb, ◌≡◌, ℕ, suc, ◌+◌, ◌*◌, ◌^◌, ◌<◌, ◌≤◌, Bool, true, false, cond}
-use Rattle.keymap_text.proofs.Common.{◌&&◌, List, [], ◌∷◌, length, take, drop, get_or, refl, sym, ◌∙◌, ap, arith}
-use Rattle.keymap_text.proofs.Common.{add-one, drop-cons, pow_mono, pow-add, nat_lt, Some, None, Option}
-use Rattle.keymap_text.proofs.Common.{mul-le-mul_left, ap₂, ◌==◌, take_all, at_drop_all, fold_more, nat_tests, list_all}
-use Rattle.keymap_text.proofs.Common.{digit_value, Name, meaning_by_names, letters, sense_meaning, same_name, digits_of}
-use Rattle.keymap_text.proofs.Common.{number, is_digit}
+use Rattle.keymap_text.proofs.Common.{◌&&◌, List, [], ◌∷◌, length, take, drop, get_or, refl, ◌∙◌, ap, arith, add-one}
+use Rattle.keymap_text.proofs.Common.{drop-cons, pow_mono, pow-add, Some, None, Option, mul-le-mul_left, ap₂, ◌==◌}
+use Rattle.keymap_text.proofs.Common.{take_all, at_drop_all, fold_more, list_all, digit_value, Name, meaning_by_names}
+use Rattle.keymap_text.proofs.Common.{letters, sense_meaning, same_name, digits_of, number, is_digit}
 use Rattle.std.proofs.lemmas.List.Folds.{list_all_at, list_all_more}
 
 -- no row has no name
@@ -38,9 +37,7 @@ look_here_at names i d w h e = ap (λ n. meaning_by_names n w) (drop-cons names 
 pub look_on_at : (names : List Name) (i : ℕ) (d : Name) (w : List ℕ) → i < length names
     → same_name (letters (get_or names i d).0) w ≡ false
     → meaning_by_names (drop i names) w ≡ meaning_by_names (drop (i + 1) names) w
-look_on_at names i d w h e =
-    ap (λ n. meaning_by_names n w) (drop-cons names i d h) ∙ look_on _ _ w e
-    ∙ ap (λ k. meaning_by_names (drop k names) w) (sym (add-one i))
+look_on_at names i d w h e = grind (arith, add-one, drop-cons, look_on)
 
 pub ruleset look_rules = (look_end, look_here_at, look_on_at)
 
@@ -69,9 +66,7 @@ none_of false x = refl
 pub digits_bad : (base : ℕ) (w : List ℕ) (i : ℕ) → i < length w → base ≤ digit_value (get_or w i 0)
     → digits_of base w ≡ None
 unfolding digits_of
-digits_bad base w i h e =
-    ap (λ b. cond (nat_lt 0 (length w) && b) (Some (number base w)) None)
-    (list_all_at (is_digit base) w i 0 h (le-ltb _ base e)) ∙ none_of (nat_lt 0 (length w)) (Some (number base w))
+digits_bad base w i h e = grind (arith, le-ltb, list_all_at, none_of)
 
 -- digits alone spell their number
 pub digits_good : (base : ℕ) (w : List ℕ) → 0 < length w → list_all (is_digit base) w ≡ true
@@ -105,19 +100,10 @@ more_fits {base = base} {i = i} {n = n} {d = d} most s b e l =
 
 pub spells_more : {base : ℕ} {w : List ℕ} {i n d : ℕ} → i < length w → base ≤ 16 → d ≡ digit_value (get_or w i 0)
     → d < base → Spells base w i n → Spells base w (i + 1) (n * base + d)
-spells_more {base = base} {w = w} {i = i} {n = n} {d = d} h b is e s = record {
-  value = ap₂ (λ n d. n * base + d) s.value is ∙ sym (number_more base w i h);
-  digits = digits_more base w i h s.digits (omega (arith, is, e));
-  bound = bound_step n base d i s.bound b e;
-}
+spells_more {base = base} {w = w} {i = i} {n = n} {d = d} h b is e s =
+    grind (arith, bound_step, digits_more, number_more)
 
 -- all of them spell the number
 pub spells_all : {base : ℕ} {w : List ℕ} {i n : ℕ} → (length w == 0) ≡ false → length w ≤ i → Spells base w i n
     → Some n ≡ digits_of base w
-spells_all {base = base} {w = w} {i = i} some h s =
-    let e = take_all i w h in
-    ap Some (s.value ∙ ap (number base) e)
-    ∙ sym (digits_good base w (not_empty (length w) some) (sym (ap (list_all (is_digit base)) e) ∙ s.digits))
-  where
-    not_empty : (n : ℕ) → (n == 0) ≡ false → 0 < n
-    not_empty n h = grind (arith, nat_tests)
+spells_all {base = base} {w = w} {i = i} some h s = grind (arith, digits_good, take_all)

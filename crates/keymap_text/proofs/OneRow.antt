@@ -1,10 +1,9 @@
 -- Tokens are the rows of one list at most.
 use Rattle.keymap_text.proofs.Common.{◌≡◌, ℕ, ◌+◌, List, [], ◌∷◌, ◌++◌, length, map, refl, sym, ◌∙◌, ap, ap₂, arith}
-use Rattle.keymap_text.proofs.Common.{append-nil, Entry, Cell, LockFlag, Action, Placed, Number, Act, Letter, Item}
-use Rattle.keymap_text.proofs.Common.{Open, Close, Value, AccentValue, character, cell, accent_index, TokenValue}
-use Rattle.keymap_text.proofs.Common.{item_of, Definition, KeyDefinition, AccentDefinition, AreCells, no_cells}
-use Rattle.keymap_text.proofs.Common.{one_cell, ArePairs, no_pairs, one_pair, Defines, of_key, of_accent, Row, AreRows}
-use Rattle.keymap_text.proofs.Common.{no_row, one_row, places_after, same_Some}
+use Rattle.keymap_text.proofs.Common.{append-nil, Entry, Cell, LockFlag, Action, Number, Act, Letter, Item, Open, Close}
+use Rattle.keymap_text.proofs.Common.{Value, AccentValue, character, TokenValue, item_of, Definition, AreCells}
+use Rattle.keymap_text.proofs.Common.{no_cells, one_cell, ArePairs, no_pairs, one_pair, Defines, of_key, of_accent, Row}
+use Rattle.keymap_text.proofs.Common.{AreRows, no_row, one_row, places_after, same_Some}
 use Rattle.keymap_text.proofs.RowPlaces.{places_are}
 use Rattle.keymap_text.proofs.Leading.{same_head, same_tail}
 use Rattle.keymap_text.proofs.Row.{ok_is}
@@ -19,9 +18,8 @@ cells_are no_cells no_cells n vs ws e = (refl, e)
 cells_are no_cells (one_cell h r) n vs ws e = absurd (omega (arith, n))
 cells_are (one_cell h r) no_cells n vs ws e = absurd (omega (arith, n))
 cells_are (one_cell {t = t} {c = c} {ts = ts} h r) (one_cell {t = u} {c = d} {ts = us} k s) n vs ws e =
-    let m = cells_are r s (omega (arith, n)) vs ws (same_tail t u (ts ++ vs) (us ++ ws) e) in
-    let same : c ≡ d = ok_is c d (sym h ∙ ap cell (same_head t u (ts ++ vs) (us ++ ws) e) ∙ k) in
-    (ap₂ (λ c cs. c ∷ cs) same m.0, m.1)
+    grind (arith, ok_is, same_head, same_tail, (cells_are r s (omega (arith,
+    n)) vs ws (same_tail t u (ts ++ vs) (us ++ ws) e)))
 
 -- the same pairs
 pairs_are : {ts us : List Item} {ps qs : List (ℕ × ℕ)} → ArePairs ts ps → ArePairs us qs → ts ≡ us → ps ≡ qs
@@ -59,21 +57,14 @@ accent_is a b h k = ap₂ (λ own pairs. record { own = own; pairs = pairs }) h 
 pub defined_is : {ts us : List Item} {d e : Definition} → Defines ts d → Defines us e → ts ≡ us → d ≡ e
 defined_is (of_key {slot = s} {e = e} {ts = ts} l eight cells)
     (of_key {slot = t} {e = f} {ts = us} l' eight' cells') h =
-    let slot : s ≡ t = number_is s t (same_head _ _ _ _ h) in
-    let m = cells_are cells cells' (eight ∙ sym eight') (Value (Letter e.flag) ∷ []) (Value (Letter f.flag) ∷ [])
-    (same_tail _ _ _ _ h) in
-    ap₂ (λ s e. KeyDefinition s e) slot (entry_is e f m.0 (letter_is e.flag f.flag (same_head _ _ [] [] m.1)))
+    grind (arith, cells_are, entry_is, letter_is, number_is, same_head, same_tail)
 defined_is (of_key {slot = s} l eight cells) (of_accent name index own few pairs) h =
-    absurd (no_number s name (same_head _ _ _ _ h))
+    grind (arith, no_number, same_head)
 defined_is (of_accent name index own few pairs) (of_key {slot = s} l eight cells) h =
-    absurd (no_number s name (sym (same_head _ _ _ _ h)))
+    grind (arith, no_number, same_head)
 defined_is (of_accent {i = i} {a = a} {t = t} {ts = ts} name index own few pairs)
     (of_accent {i = j} {a = b} {t = u} {ts = us} name' index' own' few' pairs') h =
-    let which : i ≡ j =
-    same_Some i j (sym index ∙ ap accent_index (action_is name name' (same_head _ _ _ _ h)) ∙ index') in
-    let rest : t ∷ ts ≡ u ∷ us = same_tail _ _ _ _ h in
-    let same : a.own ≡ b.own = ok_is a.own b.own (sym own ∙ ap character (same_head t u ts us rest) ∙ own') in
-    ap₂ (λ i a. AccentDefinition i a) which (accent_is a b same (pairs_are pairs pairs' (same_tail t u ts us rest)))
+    grind (arith, accent_is, action_is, ok_is, pairs_are, same_Some, same_head, same_tail)
 
 -- two lists whose first parts are as long
 parts_are : {A : Type 0} (xs ys us vs : List A) → length xs ≡ length ys → xs ++ us ≡ ys ++ vs
@@ -82,8 +73,8 @@ parts_are [] [] us vs n e = (refl, e)
 parts_are [] (y ∷ ys) us vs n e = absurd (omega (arith, n))
 parts_are (x ∷ xs) [] us vs n e = absurd (omega (arith, n))
 parts_are (x ∷ xs) (y ∷ ys) us vs n e =
-    let m = parts_are xs ys us vs (omega (arith, n)) (same_tail x y (xs ++ us) (ys ++ vs) e) in
-    (ap₂ (λ x xs. x ∷ xs) (same_head x y (xs ++ us) (ys ++ vs) e) m.0, m.1)
+    grind (arith, same_head, same_tail, (parts_are xs ys us vs (omega (arith,
+    n)) (same_tail x y (xs ++ us) (ys ++ vs) e)))
 
 -- no rows have no tokens
 none : {ts : List TokenValue} {rows : List Row} → AreRows ts rows → rows ≡ [] → ts ≡ []
@@ -94,8 +85,7 @@ next_place : (n m : ℕ) (a b : List Row) → places_after n a ≡ places_after 
     → (x : Row) (xs : List Row) → a ≡ x ∷ xs → n ≡ m
 unfolding places_after
 next_place n m a [] h x xs e = absurd (empty_more _ _ (sym h ∙ ap (places_after n) e))
-next_place n m a (y ∷ ys) h x xs e =
-    ap (λ (p : Placed). p.first) (same_head _ _ _ _ (ap (places_after n) (sym e) ∙ h))
+next_place n m a (y ∷ ys) h x xs e = grind (arith, same_head)
 
 no_places : (n m : ℕ) (b : List Row) → places_after n [] ≡ places_after m b → b ≡ []
 unfolding places_after

@@ -1,9 +1,9 @@
 -- Which tokens of a definition are its parts.
-use Rattle.keymap_text.proofs.Common.{◌≡◌, ℕ, zero, suc, ◌+◌, ◌*◌, ◌<◌, List, [], ◌∷◌, ◌++◌, length, take, drop, get_or}
-use Rattle.keymap_text.proofs.Common.{refl, sym, ◌∙◌, ap, subst, arith, Ok, add-one, length-append, Cell, Entry, Number}
-use Rattle.keymap_text.proofs.Common.{Act, Letter, Item, Open, Close, Value, AccentValue, character, cell}
-use Rattle.keymap_text.proofs.Common.{KeyDefinition, AccentDefinition, AreCells, no_cells, one_cell, ArePairs, no_pairs}
-use Rattle.keymap_text.proofs.Common.{one_pair, Defines, of_key, of_accent}
+use Rattle.keymap_text.proofs.Common.{rules, ◌≡◌, ℕ, zero, suc, ◌+◌, ◌*◌, ◌<◌, List, [], ◌∷◌, ◌++◌, length, take, drop}
+use Rattle.keymap_text.proofs.Common.{get_or, refl, ap, subst, arith, Ok, add-one, length-append, Cell, Entry, Letter}
+use Rattle.keymap_text.proofs.Common.{Item, Open, Close, Value, AccentValue, character, cell, KeyDefinition}
+use Rattle.keymap_text.proofs.Common.{AccentDefinition, AreCells, no_cells, one_cell, ArePairs, no_pairs, one_pair}
+use Rattle.keymap_text.proofs.Common.{Defines, of_key, of_accent}
 
 -- as many tokens as cells
 pub count_cells : {ts : List Item} {cs : List Cell} → AreCells ts cs → length ts ≡ length cs
@@ -26,8 +26,7 @@ behind_cells (one_cell h r) u rest t = behind_cells r u rest t
 -- four tokens a pair
 count_pairs : {ts : List Item} {ps : List (ℕ × ℕ)} → ArePairs ts ps → length ts ≡ 4 * length ps
 count_pairs no_pairs = refl
-count_pairs (one_pair {ts = ts} {ps = ps} h z k r) =
-    let e : length ts ≡ 4 * length ps = count_pairs r in omega (arith, e)
+count_pairs (one_pair {ts = ts} {ps = ps} h z k r) = grind (arith, (count_pairs r))
 
 -- the tokens of a pair
 in_pairs : {ts : List Item} {ps : List (ℕ × ℕ)} → ArePairs ts ps → (j : ℕ) → j < length ps → (p : ℕ × ℕ)
@@ -45,16 +44,11 @@ slot_tokens _ slot e (of_key {ts = ts} l eight cells) =
 
 pub cell_at : (ts : List Item) (slot : ℕ) (e : Entry) → Defines ts (KeyDefinition slot e) → (column : ℕ) → column < 8
     → (t : Item) (c : Cell) → cell (get_or ts (column + 1) t) ≡ Ok (get_or e.cells column c)
-cell_at _ slot e (of_key {ts = ts} l eight cells) column k t c =
-    let rest = Value (Letter e.flag) ∷ [] in
-    ap (λ n. cell (get_or (Value (Number slot) ∷ (ts ++ rest)) n t)) (add-one column)
-    ∙ in_cells cells rest column (omega (arith, eight, k)) t c
+cell_at _ slot e (of_key {ts = ts} l eight cells) column k t c = search (rules, add-one, in_cells)
 
 pub lock_at : (ts : List Item) (slot : ℕ) (e : Entry) → Defines ts (KeyDefinition slot e) → (t : Item)
     → get_or ts 9 t ≡ Value (Letter e.flag)
-lock_at _ slot e (of_key {ts = ts} l eight cells) t =
-    ap (λ n. get_or (ts ++ Value (Letter e.flag) ∷ []) n t) (sym eight)
-    ∙ behind_cells cells (Value (Letter e.flag)) [] t
+lock_at _ slot e (of_key {ts = ts} l eight cells) t = grind (arith, behind_cells)
 
 pub accent_tokens : (ts : List Item) (i : ℕ) (a : AccentValue) → Defines ts (AccentDefinition i a)
     → length ts ≡ 4 * length a.pairs + 2
@@ -66,7 +60,4 @@ own_at _ i a (of_accent name index own few pairs) t = own
 
 pub pair_at : (ts : List Item) (i : ℕ) (a : AccentValue) → Defines ts (AccentDefinition i a) → (j : ℕ)
     → j < length a.pairs → (p : ℕ × ℕ) → ArePairs (take 4 (drop (4 * j + 2) ts)) (get_or a.pairs j p ∷ [])
-pair_at _ i a (of_accent {t = t} {ts = ts} name index own few pairs) j l p =
-    let e : suc (suc (4 * j)) ≡ 4 * j + 2 = omega arith in
-    subst (λ (n : ℕ). ArePairs (take 4 (drop n (Value (Act name) ∷ t ∷ ts))) (get_or a.pairs j p ∷ [])) e
-    (in_pairs pairs j l p)
+pair_at _ i a (of_accent {t = t} {ts = ts} name index own few pairs) j l p = grind (arith, in_pairs)

@@ -6,16 +6,12 @@ use Rattle.keymap_text.proofs.Common.{append_assoc, append-nil, add-one, flat_ma
 pieces_more : (f : ℕ → List ℕ) (a n : ℕ)
     → flat_map f (range_with_len a (suc n)) ≡ flat_map f (range_with_len a n) ++ f (a + n)
 pieces_more f a zero = append-nil (f a) ∙ ap f (omega arith)
-pieces_more f a (suc n) =
-    ap (λ t. f a ++ t) (pieces_more f (a + 1) n) ∙ sym (append_assoc (f a) _ _)
-    ∙ ap (λ k. f a ++ flat_map f (range_with_len (a + 1) n) ++ f k) (omega arith)
+pieces_more f a (suc n) = grind (arith, append_assoc, (pieces_more f (a + 1) n))
 
 -- the text of one number more ends with its piece
 pub pieces_on : (f : ℕ → List ℕ) (n : ℕ)
     → flat_map f (range_with_len 0 (n + 1)) ≡ flat_map f (range_with_len 0 n) ++ f n
-pieces_on f n =
-    ap (λ k. flat_map f (range_with_len 0 k)) (add-one n) ∙ pieces_more f 0 n
-    ∙ ap (λ k. flat_map f (range_with_len 0 n) ++ f k) (omega arith)
+pieces_on f n = grind (arith, add-one, pieces_more)
 
 -- the text of more numbers begins with that of fewer
 pieces_after : (f : ℕ → List ℕ) (n k : ℕ)
@@ -44,9 +40,7 @@ pieces_at f i n h =
 -- a text with the line of the number i, after those of the numbers below
 pub lines-next : (line : ℕ → List ℕ) (i : ℕ) (text piece : List ℕ) → piece ≡ line i
     → (text ++ flat_map line (range_with_len 0 i)) ++ piece ≡ text ++ flat_map line (range_with_len 0 (i + 1))
-lines-next line i text piece e =
-    append_assoc text _ piece ∙ ap (λ t. text ++ t) (ap (λ t. flat_map line (range_with_len 0 i) ++ t) e
-    ∙ sym (pieces_on line i))
+lines-next line i text piece e = grind (arith, append_assoc, pieces_on)
 
 -- that text is the front of the text with all lines
 pub lines-cut : (line : ℕ → List ℕ) (i n : ℕ) (text piece : List ℕ) → i < n → piece ≡ line i

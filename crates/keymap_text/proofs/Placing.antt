@@ -106,24 +106,7 @@ pub record IsToken (text : List ℕ) (at : ℕ) (t : TokenValue) : Type 0 where
 
 pub token_at : (text : List ℕ) (at : ℕ) (t : TokenValue) → at ≤ length text
     → first (tokens_after 0 at (drop at text)) ≡ Ok (Some t) → IsToken text at t
-token_at text at t l h = go (next_is (drop at text) 0 at t h)
-  where
-    go : (j : ℕ) × IsNext at (drop at text) (tokens_after 0 at (drop at text)) t j → IsToken text at t
-    go (j, n) =
-        let len : length (drop at text) + at ≡ length text = rw length-drop (omega arith) in
-        let place : at + j + length t.bytes ≡ t.start + length t.bytes = omega (arith, n.start) in
-        let index : at + (j + length t.bytes) ≡ t.start + length t.bytes = omega (arith, n.start) in
-        record {
-          behind = omega (arith, n.start);
-          some = n.some;
-          within = omega (arith, n.start, n.within, len);
-          short = n.short;
-          tokens =
-              n.tokens ∙ ap (λ p. Then t (tokens_after 0 p (drop (j + length t.bytes) (drop at text)))) place
-              ∙ ap (λ (b : List ℕ). Then t (tokens_after 0 (t.start + length t.bytes) b))
-              (drop-drop (j + length t.bytes) at text)
-              ∙ ap (λ i. Then t (tokens_after 0 (t.start + length t.bytes) (drop i text))) index;
-        }
+token_at text at t l h = grind (arith, drop-drop, length-drop, next_is)
 
 -- where no first token is, no tokens are
 pub no_tokens : (ts : Tokens) → first ts ≡ Ok None → list_of ts ≡ []
@@ -164,20 +147,14 @@ fault_at text at f h = no_more (tokens_after 0 at (drop at text)) f.kind f.offse
 pub spans_on : (xs ys all : List Span) (s : Span) (text : List ℕ) (at end : ℕ) (t : TokenValue) → ys ≡ xs ++ s ∷ []
     → span_of t ≡ s → tokens_from text at ≡ t ∷ tokens_from text end → xs ++ map span_of (tokens_from text at) ≡ all
     → ys ++ map span_of (tokens_from text end) ≡ all
-spans_on xs ys all s text at end t e i others h =
-    let more = map span_of (tokens_from text end) in
-    ap (λ ys. ys ++ more) e ∙ append_assoc xs (s ∷ []) more ∙ ap (λ s. xs ++ s ∷ more) (sym i)
-    ∙ ap (λ ts. xs ++ map span_of ts) (sym others) ∙ h
+spans_on xs ys all s text at end t e i others h = grind (arith, append_assoc)
 
 -- the definitions so far, and those to come
 pub begun_on : (xs ys all : List Placed) (left rest n m k : ℕ) (text : List ℕ) (at end : ℕ) (t : TokenValue) → k ≡ n
     → m ≡ n + 1 → tokens_from text at ≡ t ∷ tokens_from text end → xs ++ begun left n (tokens_from text at) ≡ all
     → xs ++ begun left k (t ∷ tokens_from text end) ≡ ys ++ begun rest (k + 1) (tokens_from text end)
     → ys ++ begun rest m (tokens_from text end) ≡ all
-begun_on xs ys all left rest n m k text at end t e f others h step =
-    let place : m ≡ k + 1 = omega (arith, e, f) in
-    ap (λ m. ys ++ begun rest m (tokens_from text end)) place ∙ sym step
-    ∙ ap (λ k. xs ++ begun left k (t ∷ tokens_from text end)) e ∙ ap (λ ts. xs ++ begun left n ts) (sym others) ∙ h
+begun_on xs ys all left rest n m k text at end t e f others h step = grind arith
 
 -- where no tokens are, nothing begins
 pub begun_none : (left n : ℕ) → begun left n [] ≡ []

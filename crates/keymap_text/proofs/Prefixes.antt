@@ -85,20 +85,10 @@ tokens_stay text more i d l h = tokens_on (keeps text more 0 0) i d l h
 endings_on : {ts us : Tokens} → Continues ts us → (f : TextFaultKind) (q : ℕ) → ending_of_tokens ts ≡ Err (f, q)
     → is_end_inside f ≡ false → ending_of_tokens us ≡ Err (f, q)
 unfolding ending_of_tokens
-endings_on (at_end {q = p}) f q h e = absurd (never p _ h)
-  where
-    never : (x : ℕ) (y : TextFaultKind × ℕ) → ◌≡◌ {A = Result ℕ (TextFaultKind × ℕ)} (Ok x) (Err y) → ⊥
-    never x y h = cc
-endings_on (unfinished {q = p}) f q h e =
-    absurd (true≢false (ap (λ (p : TextFaultKind × ℕ). is_end_inside p.0) (err_is (EndInside, p) (f, q) h) ∙ e))
-  where
-    err_is : (x y : TextFaultKind × ℕ) → ◌≡◌ {A = Result ℕ (TextFaultKind × ℕ)} (Err x) (Err y) → x ≡ y
-    err_is x y h = cc
+endings_on (at_end {q = p}) f q h e = grind arith
+endings_on (unfinished {q = p}) f q h e = grind arith
 endings_on stopped f q h e = h
-endings_on (open_word {q = p} s) f q h e = absurd (never p _ h)
-  where
-    never : (x : ℕ) (y : TextFaultKind × ℕ) → ◌≡◌ {A = Result ℕ (TextFaultKind × ℕ)} (Ok x) (Err y) → ⊥
-    never x y h = cc
+endings_on (open_word {q = p} s) f q h e = grind arith
 endings_on (same s w k) f q h e = endings_on k f q h e
 
 -- so is what stands where no token does, unless bytes are missing

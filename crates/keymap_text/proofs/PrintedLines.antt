@@ -1,29 +1,23 @@
 -- The printed lines are definitions.
 use Rattle.keymap_text.proofs.Common.{lt-ltb, ◌≡◌, ◌≢◌, ℕ, zero, suc, ◌+◌, ◌-◌, ◌*◌, ◌/◌, ◌%◌, ◌<◌, ◌≤◌, true, List, []}
 use Rattle.keymap_text.proofs.Common.{◌∷◌, ◌++◌, length, replicate, refl, ◌∙◌, ap, subst, arith, Ok, Some, append-nil}
-use Rattle.keymap_text.proofs.Common.{flat_map, list_all, digit_value, nat_tests, Entry, Cell, LockFlag, Action, Item}
-use Rattle.keymap_text.proofs.Common.{Open, Close, Value, Number, Act, Letter, tokens_after, leading, is_word, meaning}
-use Rattle.keymap_text.proofs.Common.{digits_of, named, is_digit, AccentValue, character, cell, accent_index}
-use Rattle.keymap_text.proofs.Common.{KeyDefinition, AccentDefinition, AreCells, no_cells, one_cell, ArePairs, no_pairs}
-use Rattle.keymap_text.proofs.Common.{one_pair, Defines, of_key, of_accent, key_line, accent_line, slot_text, column}
-use Rattle.keymap_text.proofs.Common.{filled, cell_text, flag_letter, pair_text, character_text, accent_name}
-use Rattle.keymap_text.proofs.Common.{slot_words, accent_words, ending_of_tokens}
+use Rattle.keymap_text.proofs.Common.{flat_map, digit_value, nat_tests, Entry, Cell, LockFlag, Action, Item, Open}
+use Rattle.keymap_text.proofs.Common.{Close, Value, Number, Act, Letter, leading, is_word, meaning, digits_of, named}
+use Rattle.keymap_text.proofs.Common.{is_digit, AccentValue, character, cell, accent_index, KeyDefinition}
+use Rattle.keymap_text.proofs.Common.{AccentDefinition, AreCells, no_cells, one_cell, ArePairs, no_pairs, one_pair}
+use Rattle.keymap_text.proofs.Common.{Defines, of_key, of_accent, key_line, accent_line, slot_text, column, filled}
+use Rattle.keymap_text.proofs.Common.{cell_text, flag_letter, pair_text, character_text, accent_name, slot_words}
+use Rattle.keymap_text.proofs.Common.{accent_words}
 use Rattle.keymap_text.proofs.Leading.{leading_pass}
 use Rattle.keymap_text.proofs.Numbers.{digits_good}
 use Rattle.keymap_text.proofs.Splitting.{split_blank}
-use Rattle.keymap_text.proofs.Verdicts.{items_of}
 use Rattle.keymap_text.proofs.Lexed.{Lexes, NoWord, Any, lexes_none, lexes_both, lexes_blank, lexes_word, lexes_left}
 use Rattle.keymap_text.proofs.Lexed.{lexes_right}
 use Rattle.keymap_core.specs.declared.entry.LockFlag.TheVariants as flags
 
 -- a blank in front changes nothing
 lexes_behind_blank : {P : List ℕ → Type 0} {t : List ℕ} {is : List Item} → Lexes P t is → Lexes P (32 ∷ t) is
-lexes_behind_blank {t = t} {is = is} a = record {
-  items = λ q y h. ap items_of (split_blank q 32 (t ++ y) refl) ∙ a.items (q + 1) y h
-      ∙ ap (λ n. is ++ items_of (tokens_after 0 n y)) (omega arith);
-  end = λ q y h. ap ending_of_tokens (split_blank q 32 (t ++ y) refl) ∙ a.end (q + 1) y h
-      ∙ ap (λ n. ending_of_tokens (tokens_after 0 n y)) (omega arith);
-}
+lexes_behind_blank {t = t} {is = is} a = grind (arith, split_blank)
 
 -- blanks begin with no letter or digit
 pad_first : (n : ℕ) (y : List ℕ) → leading is_word y ≡ 0 → leading is_word (replicate n 32 ++ y) ≡ 0
@@ -98,22 +92,12 @@ decimal_digit d h = rw (decimal d h) (lt-ltb d 10 h)
 
 -- three digits are one word
 three_word : (a b c : ℕ) → is_word a ≡ true → is_word b ≡ true → is_word c ≡ true → leading is_word (a ∷ b ∷ c ∷ []) ≡ 3
-three_word a b c h k l =
-    leading_pass is_word a (b ∷ c ∷ []) h ∙ ap (λ n. n + 1) (leading_pass is_word b (c ∷ []) k
-    ∙ ap (λ n. n + 1) (leading_pass is_word c [] l))
+three_word a b c h k l = grind (arith, leading_pass)
 
 -- and spell their number
 three_number : (a b c : ℕ) → a < 10 → b < 10 → c < 10
     → digits_of 10 ((48 + a) ∷ (48 + b) ∷ (48 + c) ∷ []) ≡ Some (100 * a + 10 * b + c)
-three_number a b c h k l =
-    digits_good 10 _ (omega arith) all ∙ ap Some (value (digit_value (48 + a)) (digit_value (48 + b))
-    (digit_value (48 + c)) (decimal a h) (decimal b k) (decimal c l))
-  where
-    all : list_all (is_digit 10) ((48 + a) ∷ (48 + b) ∷ (48 + c) ∷ []) ≡ true
-    all = rw (decimal_digit a h, decimal_digit b k, decimal_digit c l) refl
-
-    value : (x y z : ℕ) → x ≡ a → y ≡ b → z ≡ c → ((0 * 10 + x) * 10 + y) * 10 + z ≡ 100 * a + 10 * b + c
-    value x y z e f g = omega arith
+three_number a b c h k l = grind (arith, decimal, decimal_digit, digits_good)
 
 -- a printed slot is its number
 lexes_slot : (s : ℕ) → s < 256 → Lexes NoWord (slot_text s) (Value (Number s) ∷ [])

@@ -17,12 +17,9 @@ function_meaning k low high = elim (cases_lt k 49) [
 
 -- the name of an action is one word, by computation
 pub action_word : (action : Action) → IsAction action → is_one_word (name_of action) ≡ true
-action_word (a.Screen k) known =
-    along (λ k. is_one_word (name_of (a.Screen k))) (λ k. true) 1 16 refl k (omega arith) (omega arith)
-action_word (a.Function k) known =
-    along (λ k. is_one_word (name_of (a.Function k))) (λ k. true) 1 96 refl k (omega arith) (omega arith)
-action_word (a.DeadKey k) known =
-    along (λ k. is_one_word (name_of (a.DeadKey k))) (λ k. true) 0 15 refl k (omega arith) (omega arith)
+action_word (a.Screen k) known = grind (arith, along)
+action_word (a.Function k) known = grind (arith, along)
+action_word (a.DeadKey k) known = grind (arith, along)
 action_word (a.Mod m.LeftShift) known = refl
 action_word (a.Lock l.Caps) known = refl
 action_word _ known = refl
@@ -30,12 +27,9 @@ action_word _ known = refl
 -- the name of an action means that action
 pub action_meaning : (action : Action) → IsAction action → meaning (name_of action) ≡ Act action
 unfolding meaning digits_of named
-action_meaning (a.Screen k) known =
-    along (λ k. meaning (name_of (a.Screen k))) (λ k. Act (a.Screen k)) 1 16 refl k (omega arith) (omega arith)
+action_meaning (a.Screen k) known = grind (arith, along)
 action_meaning (a.Function k) known = function_meaning k (omega arith) (omega arith)
-action_meaning (a.DeadKey k) known =
-    along (λ k. meaning (name_of (a.DeadKey k))) (λ k. Act (a.DeadKey k)) 0 15 refl k (omega arith)
-    (omega arith)
+action_meaning (a.DeadKey k) known = grind (arith, along)
 action_meaning (a.Mod m.LeftShift) known = refl
 action_meaning (a.Lock l.Caps) known = refl
 action_meaning _ known = refl

@@ -1,14 +1,13 @@
 -- A printed map spells the map.
 use Rattle.keymap_text.proofs.Common.{cases_lt, ◌≡◌, ◌≢◌, ℕ, zero, suc, ◌+◌, ◌<◌, ◌≤◌, ◌==◌, Bool, true, false, cond}
 use Rattle.keymap_text.proofs.Common.{max, List, [], ◌∷◌, ◌++◌, length, get_or, map, refl, sym, ◌∙◌, ap, ap₂, subst}
-use Rattle.keymap_text.proofs.Common.{arith, Result, Ok, Err, Option, Some, None, append_assoc, append-nil, eqb-true}
-use Rattle.keymap_text.proofs.Common.{eq-eqb, ne_eqb, true≢false, All, inl, inr, flat_map, range_with_len, option_or}
-use Rattle.keymap_text.proofs.Common.{eq-or-lt_of_le, blank, MapValue, undefined, name_of, Cell, Item, Value, Number}
-use Rattle.keymap_text.proofs.Common.{Char, Act, TextFaultKind, character, cell, tokens_after, Definition}
-use Rattle.keymap_text.proofs.Common.{KeyDefinition, AccentDefinition, Defines, IsRow, no_definition, one_definition}
-use Rattle.keymap_text.proofs.Common.{last, of_slot, of_index, greatest, slots_needed, accents_needed, or_default}
-use Rattle.keymap_text.proofs.Common.{map_of, key_line, accent_line, printed, key_lines, accent_lines, Spells}
-use Rattle.keymap_text.proofs.Common.{ending_of_tokens, list_of}
+use Rattle.keymap_text.proofs.Common.{arith, Ok, Option, Some, None, append_assoc, append-nil, eqb-true, eq-eqb, ne_eqb}
+use Rattle.keymap_text.proofs.Common.{true≢false, All, flat_map, range_with_len, option_or, eq-or-lt_of_le, blank}
+use Rattle.keymap_text.proofs.Common.{MapValue, undefined, name_of, Cell, Item, Value, Number, Char, Act, character}
+use Rattle.keymap_text.proofs.Common.{cell, tokens_after, Definition, KeyDefinition, AccentDefinition, Defines, IsRow}
+use Rattle.keymap_text.proofs.Common.{no_definition, one_definition, last, of_slot, of_index, greatest, slots_needed}
+use Rattle.keymap_text.proofs.Common.{accents_needed, or_default, map_of, key_line, accent_line, printed, key_lines}
+use Rattle.keymap_text.proofs.Common.{accent_lines, Spells, ending_of_tokens, list_of}
 use lib.Utf8.{scalar, scalar_cases}
 use Rattle.keymap_core.specs.declared.action.Action.TheVariants.{DeadKey}
 use Rattle.keymap_core.specs.Bounds.{IsMap, IsCell, IsPair}
@@ -25,28 +24,14 @@ use Rattle.keymap_core.specs.declared.entry.Cell.TheVariants as cells
 
 -- each character prints
 pub prints_character : (c : ℕ) → scalar c ≡ true → PrintsCharacter c
-prints_character c s = below 32 (λ h. prints_control c h)
-    (λ h. below 127 (λ k. prints_quoted c (omega (arith, h)) k)
-    (λ k. elim (eq-or-lt_of_le k) [
-      | inl e ↦ subst PrintsCharacter e prints_delete
-      | inr l ↦ below 65536 (λ b. prints_four c l b s)
-          (λ b. below 1048576 (λ d. prints_five c b d s) (λ d. prints_six c d (omega (arith, bound)) s))
-    ]))
-  where
-    bound : c < 16777216
-    bound = elim (scalar_cases c s) [ inl h ↦ omega (arith, h) | inr h ↦ omega (arith, h.1) ]
-
-    below : (n : ℕ) → (c < n → PrintsCharacter c) → (n ≤ c → PrintsCharacter c) → PrintsCharacter c
-    below n f g = elim (cases_lt c n) [ inl h ↦ f h | inr h ↦ g h ]
+prints_character c s =
+    grind (arith, cases_lt, eq-or-lt_of_le, prints_control, prints_delete, prints_five, prints_four, prints_quoted,
+    prints_six, scalar_cases)
 
 -- a character is a cell
 cell_of_character : (t : Item) (c : ℕ) → character t ≡ Ok c → cell t ≡ Ok (cells.Char c)
-cell_of_character (Value (Number n)) c h =
-    ap (λ (r : Result ℕ TextFaultKind). elim r as
-    (λ r. Result Cell TextFaultKind) [ Ok c ↦ Ok (cells.Char c) | Err f ↦ Err f ]) h
-cell_of_character (Value (Char d)) c h =
-    ap (λ (r : Result ℕ TextFaultKind). elim r as
-    (λ r. Result Cell TextFaultKind) [ Ok c ↦ Ok (cells.Char c) | Err f ↦ Err f ]) h
+cell_of_character (Value (Number n)) c h = grind arith
+cell_of_character (Value (Char d)) c h = grind arith
 cell_of_character _ c h = absurd (cc)
 
 -- a cell is printed as one token
@@ -110,9 +95,7 @@ beyond : {A : Type 0} (says : Definition → Option A) (def : ℕ → Definition
     → last says (map def (range_with_len b k)) ≡ None
 beyond says def value i b zero e g = last_none says
 beyond says def value i b (suc k) e g =
-    last_more says (def b) (map def (range_with_len (b + 1) k))
-    ∙ ap₂ option_or (beyond says def value i (b + 1) k e (omega (arith, g)))
-    (e b ∙ ap (λ t. cond t (Some (value b)) None) (ne_eqb b i (omega (arith, g))))
+    grind (arith, last_more, ne_eqb, (beyond says def value i (b + 1) k e (omega (arith, g))))
 
 -- the last of definitions one of which is of each number from a on
 last_of : {A : Type 0} (says : Definition → Option A) (def : ℕ → Definition) (value : ℕ → A) (i a n : ℕ)
@@ -137,47 +120,31 @@ last_not : {A : Type 0} (says : Definition → Option A) (def : ℕ → Definiti
     → ((s : ℕ) → a ≤ s → s < a + n → says (def s) ≡ None) → last says (map def (range_with_len a n)) ≡ None
 last_not says def a zero e = last_none says
 last_not says def a (suc n) e =
-    last_more says (def a) (map def (range_with_len (a + 1) n))
-    ∙ ap₂ option_or (last_not says def (a + 1) n (λ s l h. e s (omega (arith, l)) (omega (arith, h))))
-    (e a (omega arith) (omega arith))
+    grind (arith, last_more, (last_not says def (a + 1) n (λ s l h. e s (omega (arith, l)) (omega (arith, h)))))
 
 -- what the last says in two rows
 last_append : {A : Type 0} (says : Definition → Option A) (ds es : List Definition)
     → last says (ds ++ es) ≡ option_or (last says es) (last says ds)
-last_append {A = A} says [] es = sym (ap (λ o. option_or (last says es) o) (last_none says) ∙ or_none (last says es))
-  where
-    or_none : (o : Option A) → option_or o None ≡ o
-    or_none None = refl
-    or_none (Some x) = refl
-last_append {A = A} says (d ∷ ds) es =
-    last_more says d (ds ++ es) ∙ ap (λ o. option_or o (says d)) (last_append says ds es)
-    ∙ or_assoc (last says es) (last says ds) (says d) ∙ sym (ap (λ o. option_or (last says es) o) (last_more says d ds))
-  where
-    or_assoc : (o p q : Option A) → option_or (option_or o p) q ≡ option_or o (option_or p q)
-    or_assoc None p q = refl
-    or_assoc (Some x) p q = refl
+last_append {A = A} says [] es = grind (arith, last_none)
+last_append {A = A} says (d ∷ ds) es = grind (arith, last_more, (last_append says ds es))
 
 -- the greatest in two rows
 greatest_append : (f : Definition → ℕ) (ds es : List Definition)
     → greatest f (ds ++ es) ≡ max (greatest f ds) (greatest f es)
 greatest_append f [] es = rw greatest_none (omega arith)
-greatest_append f (d ∷ ds) es =
-    greatest_more f d (ds ++ es) ∙ omega (arith, greatest_append f ds es, greatest_more f d ds)
+greatest_append f (d ∷ ds) es = grind (arith, greatest_more, (greatest_append f ds es))
 
 -- definitions of the other kind
 greatest_zero : (f : Definition → ℕ) (def : ℕ → Definition) (a n : ℕ) → ((s : ℕ) → f (def s) ≡ 0)
     → greatest f (map def (range_with_len a n)) ≡ 0
 greatest_zero f def a zero e = greatest_none f
-greatest_zero f def a (suc n) e =
-    greatest_more f (def a) (map def (range_with_len (a + 1) n)) ∙ omega (arith, e a, greatest_zero f def (a + 1) n e)
+greatest_zero f def a (suc n) e = grind (arith, greatest_more, (greatest_zero f def (a + 1) n e))
 
 -- definitions of all numbers from one on
 greatest_of : (f : Definition → ℕ) (def : ℕ → Definition) (a n : ℕ) → ((s : ℕ) → f (def s) ≡ s + 1)
     → greatest f (map def (range_with_len a (suc n))) ≡ a + suc n
 greatest_of f def a zero e = greatest_more f (def a) [] ∙ omega (arith, e a, greatest_none f)
-greatest_of f def a (suc n) e =
-    greatest_more f (def a) (map def (range_with_len (a + 1) (suc n)))
-    ∙ omega (arith, e a, greatest_of f def (a + 1) n e)
+greatest_of f def a (suc n) e = grind (arith, greatest_more, (greatest_of f def (a + 1) n e))
 
 -- definitions of all numbers below one
 greatest_to : (f : Definition → ℕ) (def : ℕ → Definition) (n : ℕ) → ((s : ℕ) → f (def s) ≡ s + 1)

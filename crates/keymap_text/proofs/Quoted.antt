@@ -1,12 +1,12 @@
 -- What stands at an apostrophe, in the words of the format.
-use Rattle.keymap_text.proofs.Common.{◌≡◌, ◌≢◌, inl, inr, ℕ, suc, ◌+◌, ◌<◌, ◌≤◌, ◌==◌, Bool, true, false, cond, List}
-use Rattle.keymap_text.proofs.Common.{[], ◌∷◌, ◌++◌, length, take, drop, slice_index, refl, sym, ◌∙◌, ap, ap₂, subst}
-use Rattle.keymap_text.proofs.Common.{arith, nat_lt, Ok, Err, Option, Some, None, length-append, append_assoc}
-use Rattle.keymap_text.proofs.Common.{append-nil, ⊎_elim, true≢false, take_at, ◌&&◌, add-one, list_all, get_or_at}
-use Rattle.keymap_text.proofs.Common.{drop_more, drop_all, stays_on_line, Front, Skipped, Found, Refused, Unfinished}
-use Rattle.keymap_text.proofs.Common.{literal, quoted, closing, unclosed, is_lone, front_of, first, tokens_after}
-use Rattle.keymap_text.proofs.Common.{nat_tests, decoded, Decoded, good, second, continues, code_of_3, code_of_4}
-use Rattle.keymap_text.proofs.Common.{TextFaultKind, BadLiteral, EndInside, TokenKind, Literal}
+use Rattle.keymap_text.proofs.Common.{◌≡◌, ◌≢◌, inl, inr, ℕ, ◌+◌, ◌<◌, ◌≤◌, Bool, true, false, cond, List, [], ◌∷◌}
+use Rattle.keymap_text.proofs.Common.{◌++◌, length, take, drop, slice_index, refl, sym, ◌∙◌, ap, ap₂, subst, arith}
+use Rattle.keymap_text.proofs.Common.{nat_lt, Ok, Err, Option, Some, None, length-append, append_assoc, append-nil}
+use Rattle.keymap_text.proofs.Common.{⊎_elim, true≢false, take_at, ◌&&◌, add-one, list_all, get_or_at, drop_more}
+use Rattle.keymap_text.proofs.Common.{drop_all, stays_on_line, Front, Skipped, Found, Refused, Unfinished, literal}
+use Rattle.keymap_text.proofs.Common.{quoted, closing, unclosed, is_lone, front_of, first, tokens_after, nat_tests}
+use Rattle.keymap_text.proofs.Common.{decoded, Decoded, good, second, continues, code_of_3, code_of_4, TextFaultKind}
+use Rattle.keymap_text.proofs.Common.{BadLiteral, EndInside, TokenKind, Literal}
 use Rattle.std.proofs.lemmas.List.Folds.{list_all-append}
 use Rattle.std.specs.Char.{encode_utf8}
 use Rattle.bstr.proofs.lemmas.PieceLemmas.{by-shape, value-9, value-12}
@@ -25,11 +25,7 @@ lone_spelled c more h = grind (arith, nat_tests)
 -- a character and an apostrophe are found
 character_found : (c : ℕ) (b more : List ℕ) → IsCharacter c b
     → literal (b ++ 39 ∷ more) ≡ Found (Literal c) (length b + 1)
-character_found c b more h = ⊎_elim
-    (λ u. subst (λ l. literal (l ++ 39 ∷ more) ≡ Found (Literal c) (length l + 1)) (sym u.2)
-    (literal_spelled c more u.0 u.1))
-    (λ l. subst (λ l. literal (l ++ 39 ∷ more) ≡ Found (Literal c) (length l + 1)) (sym l.1) (lone_spelled c more l.0))
-    h
+character_found c b more h = grind (arith, literal_spelled, lone_spelled)
 
 -- What is found at an apostrophe, where these bytes stand after it.
 record Finds (s : List ℕ) (k : TokenKind) (n : ℕ) : Type 0 where
@@ -66,21 +62,11 @@ record Closes (c n : ℕ) (s : List ℕ) (k : TokenKind) (m : ℕ) : Type 0 wher
 
 -- a found character is closed
 closing_closes : (c n m : ℕ) (k : TokenKind) (s : List ℕ) → closing c n s ≡ Found k m → Closes c n s k m
-closing_closes c n m k s h = record {
-  other = grind (arith, nat_tests);
-  inside = grind (arith, nat_tests);
-  close = grind (arith, nat_tests);
-  kind = grind (arith, nat_tests);
-  size = grind (arith, nat_tests);
-}
+closing_closes c n m k s h = grind arith
 
 -- nothing is found where no character stands first
 unclosed_finds : (n m : ℕ) (k : TokenKind) (s : List ℕ) → unclosed n s ≡ Found k m → ⊥
-unclosed_finds n m k s h = never (length s == n) h
-  where
-    never : (b : Bool) → cond b Unfinished (Refused BadLiteral) ≡ Found k m → ⊥
-    never true h = cc
-    never false h = cc
+unclosed_finds n m k s h = grind arith
 
 -- by how the bytes decode
 decoded_finds : (s : List ℕ) (o : Option ℕ) (k : TokenKind) (m : ℕ) → (decoded s).char ≡ o
@@ -140,15 +126,7 @@ literal_wide s k n h =
 -- no byte of a character is an LF, but of that one
 character_on_line : (c : ℕ) (b : List ℕ) → IsCharacter c b → list_all stays_on_line b ≡ true
 unfolding encode_utf8
-character_on_line c b h = ⊎_elim
-    (λ u. ap (list_all stays_on_line) u.2 ∙ encoded c u.1)
-    (λ l. ap (list_all stays_on_line) l.1 ∙ lone c l.0) h
-  where
-    lone : (c : ℕ) → 0x80 ≤ c → list_all stays_on_line (c ∷ []) ≡ true
-    lone c h = grind (arith, nat_tests)
-
-    encoded : (c : ℕ) → c ≢ 10 → list_all stays_on_line (encode_utf8 c) ≡ true
-    encoded c h = grind (arith, nat_tests)
+character_on_line c b h = grind arith
 
 -- nor is one of what is found at an apostrophe, and the last one is an apostrophe
 pub literal_on_line : (s : List ℕ) (k : TokenKind) (n : ℕ) → literal s ≡ Found k n
@@ -347,14 +325,7 @@ quoted_found q c bytes more h =
 pub quoted_broken : (q : ℕ) (bytes : List ℕ) → 0 < length bytes → IsUnfinished bytes
     → first (tokens_after 0 q bytes) ≡ Err (EndInside, q + length bytes)
 quoted_broken q [] l u = absurd (omega (arith, l))
-quoted_broken q (b ∷ s) l u =
-    let quote : b ≡ 39 = head_same u.quoted.apostrophes in
-    subst (λ b. first (tokens_after 0 q (b ∷ s)) ≡ Err (EndInside, q + suc (length s))) (sym quote)
-    (ap first (split_unfinished q 39 s (front_quote 39 s refl ∙ unfinished_literal s
-    (subst (λ b. IsUnfinished (b ∷ s)) quote u))) ∙ ap (λ n. Err (EndInside, n)) (omega arith))
-  where
-    head_same : {a b : ℕ} {s t : List ℕ} → a ∷ s ≡ b ∷ t → a ≡ b
-    head_same e = cc
+quoted_broken q (b ∷ s) l u = grind (arith, front_quote, split_unfinished, unfinished_literal)
 
 -- what stands at an apostrophe, by what is found there
 begins : (rest : List ℕ) (k : TokenKind) (n : ℕ) → Finds rest k n → BeginsQuoted (39 ∷ rest)

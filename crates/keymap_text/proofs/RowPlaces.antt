@@ -1,12 +1,11 @@
 -- Where definitions begin is where their rows begin.
-use Rattle.keymap_text.proofs.Common.{◌≡◌, ℕ, suc, ◌+◌, ◌<◌, true, false, cond, List, [], ◌∷◌, ◌++◌, length, map, refl}
-use Rattle.keymap_text.proofs.Common.{sym, ◌∙◌, ap, ap₂, subst, arith, Some, None, length-append, append_assoc, nat_lt}
-use Rattle.keymap_text.proofs.Common.{nat_tests, length-map, Action, Defined, Slot, Accent, TokenKind, Meaning, Number}
-use Rattle.keymap_text.proofs.Common.{Act, Letter, Item, Open, Close, Value, MapValue, accent_index, item, TokenValue}
-use Rattle.keymap_text.proofs.Common.{item_of, tokens, Spells, Definition, ArePairs, no_pairs, one_pair, Defines}
-use Rattle.keymap_text.proofs.Common.{of_key, of_accent, IsRow, no_definition, one_definition, map_of, Row, AreRows}
-use Rattle.keymap_text.proofs.Common.{no_row, one_row, IsSpelledBy, defined, places_after, places_of, begins, behind}
-use Rattle.keymap_text.proofs.Common.{is_open, begun}
+use Rattle.keymap_text.proofs.Common.{◌≡◌, ℕ, suc, ◌+◌, ◌<◌, true, false, List, [], ◌∷◌, ◌++◌, length, map, refl, sym}
+use Rattle.keymap_text.proofs.Common.{◌∙◌, ap, ap₂, subst, arith, Some, length-append, append_assoc, length-map, Action}
+use Rattle.keymap_text.proofs.Common.{Defined, Slot, Accent, TokenKind, Meaning, Number, Act, Letter, Item, Open, Close}
+use Rattle.keymap_text.proofs.Common.{Value, MapValue, accent_index, item, TokenValue, item_of, tokens, Spells}
+use Rattle.keymap_text.proofs.Common.{Definition, ArePairs, no_pairs, one_pair, Defines, of_key, of_accent, IsRow}
+use Rattle.keymap_text.proofs.Common.{no_definition, one_definition, map_of, Row, AreRows, no_row, one_row, IsSpelledBy}
+use Rattle.keymap_text.proofs.Common.{defined, places_after, places_of, begins, behind, is_open, begun}
 use Rattle.keymap_text.proofs.Parts.{count_cells}
 use Rattle.keymap_text.specs.declared.token.TokenKind.TheVariants as kinds
 
@@ -51,9 +50,7 @@ in_it left n t ts = refl
 -- tokens that do
 all_in_it : (a ts : List TokenValue) (n : ℕ) → begun (length a) n (a ++ ts) ≡ begun 0 (n + length a) ts
 all_in_it [] ts n = ap (λ k. begun 0 k ts) (omega arith)
-all_in_it (t ∷ a) ts n =
-    let place : n + 1 + length a ≡ n + suc (length a) = omega arith in
-    in_it (length a) n t (a ++ ts) ∙ all_in_it a ts (n + 1) ∙ ap (λ k. begun 0 k ts) place
+all_in_it (t ∷ a) ts n = grind (arith, in_it, (all_in_it a ts (n + 1)))
 
 -- a pair begins
 opens : (n : ℕ) (t : TokenValue) (ts : List TokenValue) → is_open t.kind ≡ true
@@ -102,9 +99,7 @@ pairs_in_it (one_pair {t = t} {u = u} {ts = us} f z g more) a ts n h =
 
 -- a number in front begins a slot's definition
 slot_begins : (i : Item) (slot : ℕ) → i ≡ Value (Number slot) → slot < 256 → begins i ≡ Some (Slot slot)
-slot_begins i slot h l =
-    let test : nat_lt slot 256 ≡ true = grind (arith, nat_tests) in
-    ap begins h ∙ ap (λ b. cond b (Some (Slot slot)) None) test
+slot_begins i slot h l = grind arith
 
 -- a name in front begins an accent's definition
 accent_begins : (i : Item) (name : Action) (index : ℕ) → i ≡ Value (Act name) → accent_index name ≡ Some index
@@ -185,9 +180,7 @@ pub places_are : {ts : List TokenValue} {rows : List Row} → AreRows ts rows �
     → begun 0 n ts ≡ places_after n rows
 places_are no_row n = none_begin n
 places_are (one_row {ts = ts} {rs = rs} r d more) n =
-    row_begins d r.tokens ts n refl
-    ∙ ap (λ l. record { what = defined r.definition; first = n } ∷ l) (places_are more (n + length r.tokens))
-    ∙ sym (one_more n r rs)
+    grind (arith, one_more, row_begins, (places_are more (n + length r.tokens)))
 
 -- what begins in a text that spells a map are its rows
 pub spelled_by : (text : List ℕ) (m : MapValue) → Spells text m

@@ -1,10 +1,9 @@
 -- What taking cells, the lock letter and the pair of an accent makes of the rest of a text.
-use Rattle.keymap_text.proofs.Common.{◌≡◌, ◌≢◌, ℕ, ◌+◌, ◌-◌, ◌<◌, ◌≤◌, ◌==◌, Bool, true, false, cond, List, length}
-use Rattle.keymap_text.proofs.Common.{take, drop, get_or, refl, sym, ◌∙◌, ap, arith, Ok, Err, eqb-true, eq-eqb, ne_eqb}
-use Rattle.keymap_text.proofs.Common.{true≢false, AccentValue, MapValue, with_entry, Entry, Cell, LockFlag}
-use Rattle.keymap_text.proofs.Common.{TextFaultKind, Item, Open, Close, cell, lock, leading, is_space, GrammarPlace, at}
-use Rattle.keymap_text.proofs.Common.{accept, after_cell, with_cell, with_pair, ◌>>=◌, Advances, Refuses, Fronts}
-use Rattle.keymap_text.proofs.Common.{FrontsBehind, FrontsCharacter}
+use Rattle.keymap_text.proofs.Common.{◌≡◌, ◌≢◌, ℕ, ◌+◌, ◌-◌, ◌<◌, ◌≤◌, ◌==◌, cond, List, length, take, drop, get_or}
+use Rattle.keymap_text.proofs.Common.{refl, sym, ap, arith, Ok, Err, eqb-true, eq-eqb, ne_eqb, AccentValue, MapValue}
+use Rattle.keymap_text.proofs.Common.{with_entry, Entry, Cell, LockFlag, TextFaultKind, Item, Open, Close, cell, lock}
+use Rattle.keymap_text.proofs.Common.{leading, is_space, GrammarPlace, at, accept, after_cell, with_cell, with_pair}
+use Rattle.keymap_text.proofs.Common.{◌>>=◌, Advances, Refuses, Fronts, FrontsBehind, FrontsCharacter}
 use Rattle.keymap_core.specs.Numbers.{pair_limit}
 use Rattle.keymap_text.proofs.Fronts.{left_fronts}
 use Rattle.keymap_text.proofs.Scanning.{blanks_advance, token_advances, token_refuses, behind_advances, advances_on}
@@ -28,11 +27,7 @@ is_lock slot i e h =
 
 -- what is wanted behind a cell
 pub next_place : (slot i : ℕ) (e : Entry) → after_cell slot i e ≡ cell_place slot (i + 1) e
-next_place slot i e = ap (λ b. cond b (spec.LockAt slot e) (spec.CellAt slot (i + 1) e)) (go (i == 7) refl)
-  where
-    go : (b : Bool) → i == 7 ≡ b → (i == 7) ≡ (i + 1 == 8)
-    go true h = h ∙ sym (eq-eqb (i + 1) 8 (omega (arith, eqb-true i 7 h)))
-    go false h = h ∙ sym (ne_eqb (i + 1) 8 (λ k. true≢false (sym (eq-eqb i 7 (omega (arith, k))) ∙ h)))
+next_place slot i e = grind (arith, eq-eqb, eqb-true, ne_eqb)
 
 -- a cell that was taken, and the blanks before it
 pub cell_taken : (m : MapValue) (slot i b n : ℕ) (e : Entry) (rest : List ℕ) (t : Item) (c : Cell)

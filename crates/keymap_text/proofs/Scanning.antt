@@ -1,10 +1,10 @@
 -- What taking blanks, comments and whole tokens makes of the rest of a text.
-use Rattle.keymap_text.proofs.Common.{◌≡◌, ℕ, zero, suc, ◌+◌, ◌-◌, ◌<◌, ◌≤◌, ◌==◌, true, false, Bool, List, [], ◌∷◌}
-use Rattle.keymap_text.proofs.Common.{◌++◌, length, take, drop, get_or, refl, sym, ◌∙◌, ap, ap₂, subst, arith, Ok, Err}
-use Rattle.keymap_text.proofs.Common.{append-nil, length-append, length-drop, drop-cons, nat_tests, drop-drop}
-use Rattle.keymap_text.proofs.Common.{drop-append-le, MapValue, TextFaultKind, Item, Grammar, Stop, leading, is_blank}
-use Rattle.keymap_text.proofs.Common.{is_space, stays_on_line, tokens_after, GrammarState, accept, at, step, judge}
-use Rattle.keymap_text.proofs.Common.{Faulty, grammar_view, Advances, Refuses, Takes, Fronts, FrontsBehind}
+use Rattle.keymap_text.proofs.Common.{◌≡◌, ℕ, zero, suc, ◌+◌, ◌-◌, ◌<◌, ◌≤◌, ◌==◌, true, false, List, [], ◌∷◌, ◌++◌}
+use Rattle.keymap_text.proofs.Common.{length, take, drop, get_or, refl, sym, ◌∙◌, ap, subst, arith, Ok, Err, append-nil}
+use Rattle.keymap_text.proofs.Common.{length-append, length-drop, drop-cons, nat_tests, drop-drop, drop-append-le}
+use Rattle.keymap_text.proofs.Common.{MapValue, TextFaultKind, Item, Grammar, Stop, leading, is_blank, is_space}
+use Rattle.keymap_text.proofs.Common.{stays_on_line, tokens_after, GrammarState, accept, at, step, judge, grammar_view}
+use Rattle.keymap_text.proofs.Common.{Advances, Refuses, Takes, Fronts, FrontsBehind}
 use Rattle.keymap_text.proofs.Leading.{leading_pass, leading_fail, leading_short}
 use Rattle.keymap_text.proofs.Splitting.{split_blank, split_comment, split_after, to_end}
 use Rattle.keymap_text.proofs.Steps.{judge_then, judge_refused}
@@ -18,18 +18,8 @@ split_spaces : (n q : ℕ) (xs y : List ℕ) → n ≤ leading is_space xs
     → tokens_after 0 q (xs ++ y) ≡ tokens_after 0 (q + n) (drop n xs ++ y)
 split_spaces zero q xs y h = ap (λ k. tokens_after 0 k (xs ++ y)) (omega arith)
 split_spaces (suc n) q [] y h = absurd (omega (arith, h))
-split_spaces (suc n) q (c ∷ xs) y h = go (is_space c) refl (split_spaces n (q + 1) xs y)
-  where
-    on : (k : ℕ) → q + 1 + n ≡ k → tokens_after 0 (q + 1 + n) (drop n xs ++ y) ≡ tokens_after 0 k (drop n xs ++ y)
-    on k e = ap (λ k. tokens_after 0 k (drop n xs ++ y)) e
-
-    go : (b : Bool) → is_space c ≡ b → (n ≤ leading is_space xs
-        → tokens_after 0 (q + 1) (xs ++ y) ≡ tokens_after 0 (q + 1 + n) (drop n xs ++ y))
-        → tokens_after 0 q (c ∷ (xs ++ y)) ≡ tokens_after 0 (q + suc n) (drop n xs ++ y)
-    go true e k =
-        split_blank q c (xs ++ y) (space_blank c e) ∙ k (omega (arith, h, leading_pass is_space c xs e))
-        ∙ on (q + suc n) (omega arith)
-    go false e k = absurd (omega (arith, h, leading_fail is_space c xs e))
+split_spaces (suc n) q (c ∷ xs) y h =
+    grind (arith, leading_fail, leading_pass, space_blank, split_blank, (split_spaces n (q + 1) xs y))
 
 -- blanks at a place of a text
 pub spaces_at : (text rest : List ℕ) (at n : ℕ) → rest ≡ take (length text - at) (drop at text)
@@ -42,10 +32,7 @@ spaces_at text rest at n e h =
 
 -- nothing is taken
 pub stays : (s : GrammarState) (rest : List ℕ) → Advances s s rest 0
-stays s rest = record {
-  takes = λ q x. ap (λ n. judge s (tokens_after 0 n (rest ++ x))) (omega arith);
-  inside = omega arith;
-}
+stays s rest = grind arith
 
 -- blanks are taken
 pub blanks_advance : (s : GrammarState) (n : ℕ) (rest : List ℕ) → n ≤ leading is_space rest → n ≤ length rest
@@ -56,8 +43,7 @@ blanks_advance s n rest h l = record { takes = λ q x. ap (judge s) (split_space
 pub blank_advances : (s : GrammarState) (rest : List ℕ) → 0 < length rest → is_blank (get_or rest 0 0) ≡ true
     → Advances s s rest 1
 blank_advances s [] l h = absurd (omega (arith, l))
-blank_advances s (c ∷ rest) l h =
-    record { takes = λ q x. ap (judge s) (split_blank q c (rest ++ x) h); inside = omega arith }
+blank_advances s (c ∷ rest) l h = grind (arith, split_blank)
 
 -- a comment is taken up to the end of its line
 pub comment_advances : (s : GrammarState) (rest : List ℕ) (n : ℕ) → 0 < length rest → get_or rest 0 0 ≡ 35
@@ -82,43 +68,23 @@ comment_advances s (c ∷ rest) n l h e k =
 -- a token that is accepted is taken
 pub token_advances : (s s' : GrammarState) (rest : List ℕ) (i : Item) (n : ℕ) → Fronts rest i n → accept s i ≡ Ok s'
     → Advances s s' rest n
-token_advances s s' rest i n f a = record {
-  takes = λ q x. ap (judge s) (f.splits q x) ∙ judge_then s s' (f.token q x) _ (ap (accept s) (f.item q x) ∙ a);
-  inside = f.inside;
-}
+token_advances s s' rest i n f a = grind (arith, judge_then)
 
 -- one that is not accepted is refused
 pub token_refuses : (s : GrammarState) (rest : List ℕ) (i : Item) (n : ℕ) (f : TextFaultKind) → Fronts rest i n
     → accept s i ≡ Err f → Refuses s rest f 0
-token_refuses s rest i n e f a = record {
-  takes = λ q x.
-      ap (judge s) (f.splits q x) ∙ judge_refused s e (f.token q x) _ (ap (accept s) (f.item q x) ∙ a)
-      ∙ ap₂ (Faulty e) (f.start q x ∙ omega arith) (f.settled q x);
-  inside = omega arith;
-}
+token_refuses s rest i n e f a = grind (arith, judge_refused)
 
 -- bytes are taken behind others
 pub advances_on : (old mid new : GrammarState) (rest behind : List ℕ) (n m : ℕ) → Advances old mid rest n
     → behind ≡ take (length rest - n) (drop n rest) → Advances mid new behind m → Advances old new rest (n + m)
-advances_on old mid new rest behind n m a e b0 =
-    let b = subst (λ (t : List ℕ). Advances mid new t m) (e ∙ to_end rest n) b0 in
-    record {
-      takes = λ q x.
-          a.takes q x ∙ b.takes (q + n) x
-          ∙ ap₂ (λ p (r : List ℕ). judge new (tokens_after 0 p (r ++ x))) (omega arith) (drop-drop m n rest);
-      inside = omega (arith, b.inside, length-drop n rest, a.inside);
-    }
+advances_on old mid new rest behind n m a e b0 = grind (arith, drop-drop, length-drop, to_end)
 
 -- a fault behind bytes that were taken
 pub refuses_on : (old mid : GrammarState) (rest behind : List ℕ) (n m k : ℕ) (f : TextFaultKind)
     → Advances old mid rest n
     → behind ≡ take (length rest - n) (drop n rest) → Refuses mid behind f m → k ≡ n + m → Refuses old rest f k
-refuses_on old mid rest behind n m k f a e r0 size =
-    let r = subst (λ (t : List ℕ). Refuses mid t f m) (e ∙ to_end rest n) r0 in
-    record {
-      takes = λ q x. a.takes q x ∙ r.takes (q + n) x ∙ ap (λ p. Faulty f p true) (omega (arith, size));
-      inside = omega (arith, size, r.inside, length-drop n rest, a.inside);
-    }
+refuses_on old mid rest behind n m k f a e r0 size = grind (arith, length-drop, to_end)
 
 -- a token behind blanks is taken
 pub after_blanks : (s s' : GrammarState) (rest : List ℕ) (t : Item) (b n : ℕ) → b ≤ leading is_space rest

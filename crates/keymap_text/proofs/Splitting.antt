@@ -1,6 +1,6 @@
 -- What a text splits into, step by step.
 use Rattle.keymap_text.proofs.Common.{◌≡◌, ℕ, zero, suc, ◌+◌, ◌-◌, ◌<◌, ◌≤◌, true, List, [], ◌∷◌, length, take, drop}
-use Rattle.keymap_text.proofs.Common.{get_or, refl, sym, ◌∙◌, ap, ap₂, arith, add-one, add-zero, drop-cons, length-drop}
+use Rattle.keymap_text.proofs.Common.{get_or, refl, sym, ◌∙◌, ap, arith, add-one, add-zero, drop-cons, length-drop}
 use Rattle.keymap_text.proofs.Common.{take_all, take_at, drop_at, ◌++◌, drop-drop, drop_all, TextFaultKind, EndInside}
 use Rattle.keymap_text.proofs.Common.{TokenKind, leading, stays_on_line, is_blank, Front, Skipped, Found, Refused}
 use Rattle.keymap_text.proofs.Common.{Unfinished, front_of, tokens_after, Ends, Stops, Then, token_before}
@@ -17,9 +17,7 @@ pub split_after : (n q : ℕ) (bytes : List ℕ) → n ≤ length bytes
     → tokens_after n q bytes ≡ tokens_after 0 (q + n) (drop n bytes)
 split_after zero q bytes h = ap (λ k. tokens_after 0 k bytes) (sym (add-zero q))
 split_after (suc n) q [] h = absurd (omega (arith, h))
-split_after (suc n) q (c ∷ bytes) h =
-    split_one n q c bytes ∙ split_after n (q + 1) bytes (omega (arith, h))
-    ∙ ap (λ k. tokens_after 0 k (drop n bytes)) (omega arith)
+split_after (suc n) q (c ∷ bytes) h = grind (arith, split_one, (split_after n (q + 1) bytes (omega (arith, h))))
 
 -- by what stands in front
 pub split_none : (q : ℕ) → tokens_after 0 q [] ≡ Ends q
@@ -34,9 +32,7 @@ split_nil (suc k) q = refl
 
 -- all bytes are passed
 pub split_all : (n q : ℕ) (bytes : List ℕ) → n ≡ length bytes → tokens_after n q bytes ≡ Ends (q + n)
-split_all n q bytes e =
-    split_after n q bytes (omega (arith, e)) ∙ ap (tokens_after 0 (q + n)) (drop_all n bytes (omega (arith, e)))
-    ∙ split_none (q + n)
+split_all n q bytes e = grind (arith, drop_all, split_after, split_none)
 
 -- a blank or comment in front
 pub split_skipped : (q c n : ℕ) (bytes : List ℕ) → front_of c bytes ≡ Skipped n
@@ -55,20 +51,13 @@ split_found q c n kind bytes h = rw (h, tokens_after) refl
 pub split_token : (q c n : ℕ) (kind : TokenKind) (bytes : List ℕ) → front_of c bytes ≡ Found kind n
     → tokens_after 0 q (c ∷ bytes)
     ≡ Then (token_before kind (c ∷ take n bytes) q (drop n bytes)) (tokens_after 0 (q + suc n) (drop n bytes))
-split_token q c n kind bytes h =
-    split_found q c n kind bytes h
-    ∙ ap (Then (token_before kind (c ∷ take n bytes) q (drop n bytes)))
-    (split_after n (q + 1) bytes (front_fits c bytes kind n h).within
-    ∙ ap (λ p. tokens_after 0 p (drop n bytes)) (omega arith))
+split_token q c n kind bytes h = grind (arith, front_fits, split_after, split_found)
 
 -- a token of the bytes w, in front of others
 pub split_whole : (q c : ℕ) (kind : TokenKind) (w x : List ℕ) → front_of c (w ++ x) ≡ Found kind (length w)
     → tokens_after 0 q (c ∷ (w ++ x))
     ≡ Then (token_before kind (c ∷ w) q x) (tokens_after 0 (q + suc (length w)) x)
-split_whole q c kind w x h =
-    split_token q c (length w) kind (w ++ x) h
-    ∙ ap₂ (λ (t r : List ℕ). Then (token_before kind (c ∷ t) q r) (tokens_after 0 (q + suc (length w)) r))
-    (take_at w x (length w) refl) (drop_at w x (length w) refl)
+split_whole q c kind w x h = grind (arith, drop_at, split_token, take_at)
 
 -- a fault in front
 pub split_refused : (q c : ℕ) (f : TextFaultKind) (bytes : List ℕ) → front_of c bytes ≡ Refused f
@@ -95,24 +84,18 @@ split_comment q c bytes h = split_skipped q c _ bytes (front_comment c bytes h)
 -- a blank at an index
 pub split_blank_at : (xs : List ℕ) (i : ℕ) → i < length xs → is_blank (get_or xs i 0) ≡ true
     → tokens_after 0 i (drop i xs) ≡ tokens_after 0 (i + 1) (drop (i + 1) xs)
-split_blank_at xs i h e =
-    ap (tokens_after 0 i) (drop-cons xs i 0 h) ∙ split_blank i _ _ e
-    ∙ ap (λ n. tokens_after 0 (i + 1) (drop n xs)) (sym (add-one i))
+split_blank_at xs i h e = grind (arith, add-one, drop-cons, split_blank)
 
 -- a comment at an index
 pub split_comment_at : (xs : List ℕ) (i : ℕ) → i < length xs → get_or xs i 0 ≡ 35
     → tokens_after 0 i (drop i xs) ≡ tokens_after (leading stays_on_line (drop (i + 1) xs)) (i + 1) (drop (i + 1) xs)
-split_comment_at xs i h e =
-    ap (tokens_after 0 i) (drop-cons xs i 0 h) ∙ split_comment i _ _ e
-    ∙ ap (λ n. tokens_after (leading stays_on_line (drop n xs)) (i + 1) (drop n xs)) (sym (add-one i))
+split_comment_at xs i h e = grind (arith, add-one, drop-cons, split_comment)
 
 -- a comment to the end of its line
 pub split_line_at : (xs : List ℕ) (i : ℕ) → i < length xs → get_or xs i 0 ≡ 35
     → tokens_after 0 i (drop i xs) ≡ tokens_after 0 (i + 1 + leading stays_on_line (drop (i + 1) xs))
     (drop (i + 1 + leading stays_on_line (drop (i + 1) xs)) xs)
-split_line_at xs i h e =
-    split_comment_at xs i h e ∙ split_after _ (i + 1) _ (leading_le stays_on_line (drop (i + 1) xs))
-    ∙ ap (tokens_after 0 (i + 1 + leading stays_on_line (drop (i + 1) xs))) (drop-drop _ _ xs)
+split_line_at xs i h e = grind (arith, drop-drop, leading_le, split_after, split_comment_at)
 
 -- bytes, by the first and the rest
 pub first_and_rest : (xs : List ℕ) → 0 < length xs → xs ≡ get_or xs 0 0 ∷ drop 1 xs
@@ -137,10 +120,7 @@ pub at_found : (xs : List ℕ) (i n : ℕ) (kind : TokenKind) → i < length xs
     → front_of (get_or (drop i xs) 0 0) (drop 1 (drop i xs)) ≡ Found kind n
     → tokens_after 0 i (drop i xs) ≡ Then (token_before kind (take (i + 1 + n - i) (drop i xs)) i (drop (i + 1 + n) xs))
     (tokens_after n (i + 1) (drop 1 (drop i xs)))
-at_found xs i n kind h e =
-    ap (tokens_after 0 i) (first_and_rest (drop i xs) (room xs i h)) ∙ split_found i _ n kind _ e
-    ∙ ap₂ (λ (b r : List ℕ). Then (token_before kind b i r) (tokens_after n (i + 1) (drop 1 (drop i xs))))
-    (sym (front_bytes (drop i xs) i n (room xs i h))) (behind xs i n)
+at_found xs i n kind h e = grind (arith, behind, first_and_rest, front_bytes, room, split_found)
 
 -- a fault at a place
 pub at_refused : (xs : List ℕ) (i : ℕ) (f : TextFaultKind) → i < length xs
@@ -151,9 +131,7 @@ at_refused xs i f h e = ap (tokens_after 0 i) (first_and_rest (drop i xs) (room 
 pub at_unfinished : (xs : List ℕ) (i : ℕ) → i < length xs
     → front_of (get_or (drop i xs) 0 0) (drop 1 (drop i xs)) ≡ Unfinished
     → tokens_after 0 i (drop i xs) ≡ Stops EndInside (length xs)
-at_unfinished xs i h e =
-    ap (tokens_after 0 i) (first_and_rest (drop i xs) (room xs i h)) ∙ split_unfinished i _ _ e
-    ∙ ap (Stops EndInside) (rw (length-drop, length-drop) (omega arith))
+at_unfinished xs i h e = grind (arith, first_and_rest, length-drop, room, split_unfinished)
 
 -- the slice that begins at i
 pub to_end : (xs : List ℕ) (i : ℕ) → take (length xs - i) (drop i xs) ≡ drop i xs

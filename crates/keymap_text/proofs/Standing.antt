@@ -46,14 +46,7 @@ pub means_after : (result : Result MapValue TextFault) (old : Reading) (b : List
     → IfErr result (λ e. IsFaultOfPending e old) → ((x : List ℕ) → resume old x ≡ verdict (b ++ x)) → Lined old b
     → Means result b
 means_after (Ok m) old b s p rest l = spells_from b m (sym (rest [] ∙ ap verdict (append-nil b)) ∙ s)
-means_after (Err f) old b (e, s) p rest l = (
-  e,
-  (
-    fault_from b f.kind f.offset e (sym (rest [] ∙ ap verdict (append-nil b)) ∙ s),
-    pending_line old b [] f l p
-        ∙ ap (λ t. line t f.offset) (append-nil b),
-  ),
-)
+means_after (Err f) old b (e, s) p rest l = grind (arith, append-nil, fault_from, pending_line)
 
 -- the line facts of a reader
 pub lined_of : (r : Inside) (b : List ℕ) → StandsAfter (progress r) b → Lined r.reading b
@@ -81,21 +74,13 @@ fed_on r new b piece h g =
 comment_on : (s : GrammarState) (q c : ℕ) (p y : List ℕ) → c ≡ 35 → leading stays_on_line p ≡ length p
     → judge s (tokens_after 0 q (c ∷ (p ++ y)))
     ≡ judge s (tokens_after 0 (q + 1 + (length p + leading stays_on_line y)) (drop (leading stays_on_line y) y))
-comment_on s q c p y e h =
-    ap (judge s) (split_comment q c (p ++ y) e
-    ∙ split_after _ (q + 1) (p ++ y) (leading_le stays_on_line (p ++ y))
-    ∙ ap (λ n. tokens_after 0 (q + 1 + n) (drop n (p ++ y))) (leading_append stays_on_line p y h)
-    ∙ ap (tokens_after 0 (q + 1 + (length p + leading stays_on_line y)))
-    (drop-append-add p y (leading stays_on_line y)))
+comment_on s q c p y e h = grind (arith, drop-append-add, leading_append, leading_le, split_after, split_comment)
 
 -- so only its first byte matters, and where it ends
 comment_shift : (s : GrammarState) (q q' c c' : ℕ) (p p' y : List ℕ) → c ≡ 35 → c' ≡ 35
     → leading stays_on_line p ≡ length p → leading stays_on_line p' ≡ length p' → q + length p ≡ q' + length p'
     → judge s (tokens_after 0 q (c ∷ (p ++ y))) ≡ judge s (tokens_after 0 q' (c' ∷ (p' ++ y)))
-comment_shift s q q' c c' p p' y e e' h h' k =
-    comment_on s q c p y e h
-    ∙ ap (λ n. judge s (tokens_after 0 n (drop (leading stays_on_line y) y))) (omega (arith, k))
-    ∙ sym (comment_on s q' c' p' y e' h')
+comment_shift s q q' c c' p p' y e e' h h' k = grind (arith, comment_on)
 
 -- no line feed stands in bytes on one line
 on_line : (p : List ℕ) (t : ℕ → Bool) → t 10 ≡ false → leading t p ≡ length p → feeds p ≡ 0
@@ -149,15 +134,7 @@ still old new w y z o l f r t = record {
 pub extended : (old new : Reading) (bytes w y : List ℕ) (n : ℕ) → Advances (state_view old) (state_view new) bytes n
     → n ≡ 0 → bytes ≡ old.pending.items ++ w → new.pending.items ≡ bytes → new.offset ≡ old.offset
     → new.line ≡ old.line → IsReader new → Moves old new w y
-extended old new bytes w y n a z e p q l r =
-    still old new w y
-    (omega (arith, ap feeds (p ∙ e), open_feeds new.pending.items r.tail, feeds_append old.pending.items w))
-    (omega (arith, q)) l (omega (arith, q, ap length (p ∙ e), length-append old.pending.items w)) r
-    (λ x. ap (λ t. judge (state_view old) (tokens_after 0 old.offset t))
-    (sym (append_assoc old.pending.items w (y ++ x)) ∙ ap (λ (t : List ℕ). t ++ (y ++ x)) (sym e))
-    ∙ a.takes old.offset (y ++ x)
-    ∙ ap₂ (λ n q. judge (state_view new) (tokens_after 0 q (drop n bytes ++ (y ++ x)))) z (omega (arith, q, z))
-    ∙ ap (λ (t : List ℕ). judge (state_view new) (tokens_after 0 new.offset (t ++ (y ++ x)))) (sym p))
+extended old new bytes w y n a z e p q l r = grind (arith, append_assoc, feeds_append, length-append, open_feeds, still)
 
 -- tokens were taken, of which the first begins with what was pending
 pub passed : (old new : Reading) (bytes w y : List ℕ) (n : ℕ) → Advances (state_view old) (state_view new) bytes n
@@ -262,20 +239,12 @@ comment_kept old new (a ∷ t) none some hash o r s p q =
 -- bytes were taken behind others
 pub moves_on : (old mid new : Reading) (w v : List ℕ) → Moves old mid w v → Moves mid new v []
     → Moves old new (w ++ v) []
-moves_on old mid new w v a b = record {
-  takes = λ x. ap (λ (t : List ℕ). resume old t) (append_assoc w v x) ∙ a.takes x ∙ b.takes x;
-  reader = b.reader;
-  fed = omega (arith, a.fed, b.fed, length-append w v);
-  line = λ c h. subst (λ (t : List ℕ). Lined new t) (append_assoc c w v) (b.line (c ++ w) (a.line c h));
-}
+moves_on old mid new w v a b = grind (arith, append_assoc, length-append)
 
 -- or a fault stands there
 breaks_on : (old mid : Reading) (w v : List ℕ) (e : TextFault) → Moves old mid w v → Breaks mid v e
     → Breaks old (w ++ v) e
-breaks_on old mid w v e a b = record {
-  takes = λ x. ap (λ (t : List ℕ). resume old t) (append_assoc w v x) ∙ a.takes x ∙ b.takes x;
-  line = λ c h. b.line (c ++ w) (a.line c h) ∙ ap (λ t. line t e.offset) (append_assoc c w v);
-}
+breaks_on old mid w v e a b = grind (arith, append_assoc)
 
 -- what was made of a piece, behind what was pending
 pub feeds_on : (result : Result (Unit {0}) TextFault) (old mid new : Reading) (piece rest : List ℕ) (n : ℕ)
@@ -293,58 +262,30 @@ feeds_on result old mid new piece rest n p e f =
 -- all of a piece was taken
 pub moves_whole : (old mid : Reading) (piece : List ℕ) (n : ℕ) → Passes old mid piece n → n ≡ length piece
     → Moves old mid piece []
-moves_whole old mid piece n p e =
-    subst (λ (t : List ℕ). Moves old mid t []) (take_all n piece (omega (arith, e)))
-    (subst (Moves old mid (take n piece)) (drop_all n piece (omega (arith, e))) p.moves)
+moves_whole old mid piece n p e = grind (arith, drop_all, take_all)
 
 -- nothing was pending
 pub passes_none : (r : Reading) (piece : List ℕ) → IsReader r → r.pending.items ≡ [] → Passes r r piece 0
-passes_none r piece h p = record {
-  inside = omega arith;
-  moves = record {
-    takes = λ x. refl;
-    reader = h;
-    fed = omega arith;
-    line = λ b l. subst (λ (t : List ℕ). Lined r t) (sym (append-nil b)) l;
-  };
-  clear = λ _. p;
-}
+passes_none r piece h p = grind (arith, append-nil)
 
 -- a fault of tokens, of which the first begins with what is pending
 pub breaks : (old : Reading) (bytes w : List ℕ) (n : ℕ) (e : TextFault) → Refuses (state_view old) bytes e.kind n
     → bytes ≡ old.pending.items ++ w → e.offset ≡ old.offset + n
     → ((b : List ℕ) → Lined old b → e.line ≡ line (b ++ w) e.offset) → Breaks old w e
-breaks old bytes w n e r k q l = record {
-  takes = λ x.
-      ap (λ t. judge (state_view old) (tokens_after 0 old.offset t))
-      (sym (append_assoc old.pending.items w x) ∙ ap (λ (t : List ℕ). t ++ x) (sym k))
-      ∙ r.takes old.offset x ∙ ap (λ q. Faulty e.kind q true) (sym q);
-  line = l;
-}
+breaks old bytes w n e r k q l = grind (arith, append_assoc)
 
 -- more bytes behind change nothing of what was taken, or is refused
 pub advances_more : (s s' : GrammarState) (rest more : List ℕ) (n : ℕ) → Advances s s' rest n
     → Advances s s' (rest ++ more) n
-advances_more s s' rest more n a = record {
-  takes = λ q x.
-      ap (λ t. judge s (tokens_after 0 q t)) (append_assoc rest more x) ∙ a.takes q (more ++ x)
-      ∙ ap (λ t. judge s' (tokens_after 0 (q + n) t)) (sym (append_assoc (drop n rest) more x)
-      ∙ ap (λ (t : List ℕ). t ++ x) (sym (drop-append-le n rest more a.inside)));
-  inside = omega (arith, a.inside, length-append rest more);
-}
+advances_more s s' rest more n a = grind (arith, append_assoc, drop-append-le, length-append)
 
 pub refuses_more : (s : GrammarState) (rest more : List ℕ) (f : TextFaultKind) (n : ℕ) → Refuses s rest f n
     → Refuses s (rest ++ more) f n
-refuses_more s rest more f n r = record {
-  takes = λ q x. ap (λ t. judge s (tokens_after 0 q t)) (append_assoc rest more x) ∙ r.takes q (more ++ x);
-  inside = omega (arith, r.inside, length-append rest more);
-}
+refuses_more s rest more f n r = grind (arith, append_assoc, length-append)
 
 -- the bytes of a piece behind what is pending, of which few are read first
 pub joined : (p bytes piece : List ℕ) (few : ℕ) → bytes ≡ p ++ take few piece → bytes ++ drop few piece ≡ p ++ piece
-joined p bytes piece few e =
-    ap (λ (t : List ℕ). t ++ drop few piece) e ∙ append_assoc p (take few piece) (drop few piece)
-    ∙ ap (λ (t : List ℕ). p ++ t) (take-append-drop few piece)
+joined p bytes piece few e = grind (arith, append_assoc, take-append-drop)
 
 -- a map shows itself
 pub of_map : (s : GrammarState) (p : GrammarPlace) (d : MapValue) (bytes : List ℕ) (n : ℕ)

@@ -1,9 +1,9 @@
 -- How tokens are judged, and what stands at a byte.
-use Rattle.keymap_text.proofs.Common.{◌≡◌, ℕ, ◌+◌, ◌<◌, true, false, not, List, [], ◌++◌, refl, sym, ◌∙◌, ap, length}
-use Rattle.keymap_text.proofs.Common.{add-zero, Result, Ok, Err, Option, Some, None, TextFaultKind}
-use Rattle.keymap_text.proofs.Common.{EndInside, Word, leading, is_word, word, Found, front_of, tokens_after}
-use Rattle.keymap_text.proofs.Common.{TokenValue, Tokens, Ends, Stops, Then, item, MapValue, GrammarState, accept}
-use Rattle.keymap_text.proofs.Common.{at_end, is_settled, is_end_inside, judge, Faulty, ended}
+use Rattle.keymap_text.proofs.Common.{arith, ◌≡◌, ℕ, ◌<◌, true, false, not, List, [], ◌++◌, refl, sym, ◌∙◌, ap, length}
+use Rattle.keymap_text.proofs.Common.{add-zero, Result, Ok, Err, Option, Some, None, TextFaultKind, Word, leading}
+use Rattle.keymap_text.proofs.Common.{is_word, Found, front_of, tokens_after, TokenValue, Tokens, Ends, Stops, Then}
+use Rattle.keymap_text.proofs.Common.{item, MapValue, GrammarState, accept, at_end, is_settled, is_end_inside, judge}
+use Rattle.keymap_text.proofs.Common.{Faulty, ended}
 use Rattle.keymap_text.proofs.Leading.{leading_append}
 use Rattle.keymap_text.proofs.InFront.{front_word, short_word}
 use Rattle.keymap_text.proofs.Splitting.{split_none}
@@ -35,10 +35,7 @@ judge_ends s q = refl
 -- what is pending leads to no early fault
 pub late : (o : Option MapValue) (q : ℕ) (f : TextFaultKind) (p : ℕ) → ended o q ≡ Faulty f p true → ⊥
 late (Some m) q f p h = cc
-late None q f p h = absurd (false_true q f p h)
-  where
-    false_true : (q : ℕ) (f : TextFaultKind) (p : ℕ) → Faulty EndInside q false ≡ Faulty f p true → ⊥
-    false_true q f p h = cc
+late None q f p h = grind arith
 
 -- a fault that may change is no early one
 pub late_fault : (g f : TextFaultKind) (q p : ℕ) → Faulty g q false ≡ Faulty f p true → ⊥
@@ -59,7 +56,4 @@ late_word s t q f p e h = go (accept s (item t.kind t.bytes)) refl
 -- a word that another byte ends
 pub word_ended : (a : ℕ) (p y : List ℕ) → is_word a ≡ true → leading is_word p ≡ length p → leading is_word y ≡ 0
     → length p < 32 → front_of a (p ++ y) ≡ Found Word (length p)
-word_ended a p y h w e l =
-    let n : leading is_word (p ++ y) ≡ length p =
-    leading_append is_word p y w ∙ ap (λ k. length p + k) e ∙ add-zero _ in
-    front_word a (p ++ y) h ∙ ap word n ∙ short_word (length p) l
+word_ended a p y h w e l = grind (arith, add-zero, front_word, leading_append, short_word)

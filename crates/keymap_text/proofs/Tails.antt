@@ -1,11 +1,10 @@
 -- What bytes begin that show no whole token.
 use Rattle.keymap_text.proofs.Common.{◌≡◌, ◌≢◌, inl, inr, ℕ, suc, ◌+◌, ◌-◌, ◌<◌, ◌≤◌, List, [], ◌∷◌, ◌++◌, length, take}
-use Rattle.keymap_text.proofs.Common.{drop, get_or, refl, sym, ◌∙◌, ap, ap₂, subst, arith, Ok, Err, take_all, true}
-use Rattle.keymap_text.proofs.Common.{false, not, ◌&&◌, IsFalse, drop_all, nat_tests, TextFaultKind, EndInside}
-use Rattle.keymap_text.proofs.Common.{TokenKind, Word, Item, leading, stays_on_line, is_word, separates, word, Found}
-use Rattle.keymap_text.proofs.Common.{Refused, Unfinished, front_of, tokens_after, Ends, Then, token_before}
-use Rattle.keymap_text.proofs.Common.{is_word_kind, item, GrammarState, accept, at_end, judge, ended, Faulty, Refuses}
-use Rattle.keymap_text.proofs.Common.{Fronts, IsOpen}
+use Rattle.keymap_text.proofs.Common.{drop, get_or, refl, sym, ◌∙◌, ap, ap₂, subst, arith, Ok, Err, take_all, false}
+use Rattle.keymap_text.proofs.Common.{IsFalse, drop_all, TextFaultKind, EndInside, TokenKind, Word, Item, leading}
+use Rattle.keymap_text.proofs.Common.{stays_on_line, separates, Found, Refused, Unfinished, front_of, tokens_after}
+use Rattle.keymap_text.proofs.Common.{Ends, Then, token_before, item, GrammarState, accept, at_end, judge, ended}
+use Rattle.keymap_text.proofs.Common.{Faulty, Refuses, Fronts, IsOpen}
 use Rattle.keymap_text.proofs.Fronts.{found_fronts, refused_on, open_found, open_refused}
 use Rattle.keymap_text.proofs.InFront.{front_comment, front_quote, front_word, word_found, is_quote, refused_early}
 use Rattle.keymap_text.proofs.Leading.{leading_pass, leading_le, leading_append}
@@ -29,8 +28,7 @@ open_quote (c ∷ b) l h = inr (inr (sym h))
 pub open_comment : (rest : List ℕ) → 0 < length rest → get_or rest 0 0 ≡ 35
     → length rest ≤ leading stays_on_line rest → IsOpen rest
 open_comment [] l e h = absurd (omega (arith, l))
-open_comment (c ∷ b) l e h =
-    inl (e, omega (arith, h, leading_pass stays_on_line c b (ap stays_on_line e), leading_le stays_on_line b))
+open_comment (c ∷ b) l e h = grind (arith, leading_le, leading_pass)
 
 -- a comment has its first byte
 pub comment_some : (rest : List ℕ) → 0 < length rest → get_or rest 0 0 ≡ 35 → 0 < leading stays_on_line rest
@@ -42,11 +40,7 @@ pub found_here : (rest : List ℕ) (k : TokenKind) (n : ℕ) (i : Item) → 0 < 
     → Found k n ≡ front_of (get_or rest 0 0) (drop 1 rest) → n ≤ length (drop 1 rest)
     → (k ≡ Word → n + 1 < length rest) → i ≡ item k (take (n + 1) rest) → Fronts rest i (n + 1)
 found_here [] k n i l h f w e = absurd (omega (arith, l))
-found_here (c ∷ b) k n i l h f w e =
-    let size : suc n ≡ n + 1 = omega arith in
-    subst (λ (m : ℕ). Fronts (c ∷ b) i m) size
-    (found_fronts c n k b i (sym h) f (λ z. omega (arith, w z))
-    (ap (λ (m : ℕ). item k (take m (c ∷ b))) size ∙ sym e))
+found_here (c ∷ b) k n i l h f w e = grind (arith, found_fronts)
 
 -- a fault in front
 pub refused_here : (s : GrammarState) (rest : List ℕ) (f : TextFaultKind) → 0 < length rest
@@ -67,11 +61,7 @@ comment_tokens q c b h all = split_comment q c b h ∙ split_all _ (q + 1) b all
 -- of a word at their end
 pub word_tokens : (q c : ℕ) (b : List ℕ) → front_of c b ≡ Found Word (length b)
     → tokens_after 0 q (c ∷ b) ≡ Then (token_before Word (c ∷ b) q []) (Ends (q + suc (length b)))
-word_tokens q c b h =
-    split_token q c (length b) Word b h
-    ∙ ap₂ (λ (t r : List ℕ). Then (token_before Word (c ∷ t) q r) (tokens_after 0 (q + suc (length b)) r))
-    (take_all (length b) b (omega arith)) (drop_all (length b) b (omega arith))
-    ∙ ap (Then (token_before Word (c ∷ b) q [])) (split_none _)
+word_tokens q c b h = grind (arith, drop_all, split_none, split_token, take_all)
 
 -- where the text ends behind nothing
 pub end_none : (s : GrammarState) (tail : List ℕ) (q : ℕ) → length tail ≡ 0
@@ -94,10 +84,7 @@ end_comment s (c ∷ b) q l e h = ap (judge s) (comment_tokens q c b e (open_lin
 -- a word that is found in open bytes is the last token
 last_token : (q c n : ℕ) (k : TokenKind) (b : List ℕ) → IsOpen (c ∷ b) → front_of c b ≡ Found k n
     → tokens_after 0 q (c ∷ b) ≡ Then (token_before k (c ∷ b) q []) (Ends (q + suc (length b)))
-last_token q c n k b o h =
-    let is = open_found c n k b o h in
-    word_tokens q c b (h ∙ ap₂ Found is.0 is.1)
-    ∙ ap (λ k. Then (token_before k (c ∷ b) q []) (Ends (q + suc (length b)))) (sym is.0)
+last_token q c n k b o h = grind (arith, open_found, word_tokens)
 
 -- if it is accepted, the text ends behind it
 pub end_word : (s s' : GrammarState) (tail : List ℕ) (n q : ℕ) (k : TokenKind) → 0 < length tail
@@ -112,19 +99,14 @@ pub end_refused : (s : GrammarState) (tail : List ℕ) (n q : ℕ) (k : TokenKin
     → Found k n ≡ front_of (get_or tail 0 0) (drop 1 tail) → IsOpen tail → accept s (item k tail) ≡ Err f
     → judge s (tokens_after 0 q tail) ≡ Faulty f (q + 0) false
 end_refused s [] n q k f l h o a = absurd (omega (arith, l))
-end_refused s (c ∷ b) n q k f l h o a =
-    let is = open_found c n k b o (sym h) in
-    ap (judge s) (last_token q c n k b o (sym h)) ∙ judge_refused s f _ _ a
-    ∙ ap₂ (λ (p : ℕ) k. Faulty f p (not (is_word_kind k && true))) (omega arith) is.0
+end_refused s (c ∷ b) n q k f l h o a = grind (arith, judge_refused, last_token, open_found)
 
 -- a quoted character that is broken off
 pub end_quote : (s : GrammarState) (tail : List ℕ) (q : ℕ) → 0 < length tail
     → Unfinished ≡ front_of (get_or tail 0 0) (drop 1 tail)
     → judge s (tokens_after 0 q tail) ≡ Faulty EndInside (q + length tail) false
 end_quote s [] q l h = absurd (omega (arith, l))
-end_quote s (c ∷ b) q l h =
-    ap (judge s) (split_unfinished q c b (sym h)) ∙ judge_stops s EndInside _
-    ∙ ap (λ p. Faulty EndInside p false) (omega arith)
+end_quote s (c ∷ b) q l h = grind (arith, judge_stops, split_unfinished)
 
 -- no fault stands in open bytes
 pub open_not_refused : (tail : List ℕ) (f : TextFaultKind) → 0 < length tail
@@ -137,10 +119,7 @@ pub open_stands : (tail : List ℕ) → 0 < length tail → IsOpen tail → get_
     → IsFalse (separates (get_or tail 0 0))
 open_stands [] l h outside = absurd (omega (arith, l))
 open_stands (c ∷ b) l (inl h) outside = absurd (outside h.0)
-open_stands (c ∷ b) l (inr (inl h)) outside = of_word c (word_found c (length b) b h).0
-  where
-    of_word : (c : ℕ) → is_word c ≡ true → IsFalse (separates c)
-    of_word c w = grind (arith, nat_tests)
+open_stands (c ∷ b) l (inr (inl h)) outside = grind (arith, word_found)
 open_stands (c ∷ b) l (inr (inr h)) outside = subst (λ c. IsFalse (separates c)) (sym (is_quote c b h)) refl
 
 -- open bytes are few, but in a comment
@@ -148,35 +127,18 @@ pub open_few : (tail : List ℕ) → IsOpen tail → get_or tail 0 0 ≢ 35 → 
 open_few [] h outside = omega arith
 open_few (c ∷ b) (inl h) outside = absurd (outside h.0)
 open_few (c ∷ b) (inr (inl h)) outside = omega (arith, (word_found c (length b) b h).2)
-open_few (c ∷ b) (inr (inr h)) outside =
-    omega (arith, unfinished_short b (sym (front_quote c b (is_quote c b h)) ∙ h))
+open_few (c ∷ b) (inr (inr h)) outside = grind (arith, front_quote, is_quote, unfinished_short)
 
 -- a token that begins with open bytes has them all
 longer : (tail more : List ℕ) (k : TokenKind) (n : ℕ) → 0 < length tail → IsOpen tail → get_or tail 0 0 ≢ 35
     → front_of (get_or (tail ++ more) 0 0) (drop 1 (tail ++ more)) ≡ Found k n → length tail ≤ n + 1
 longer [] more k n l h outside f = absurd (omega (arith, l))
 longer (c ∷ b) more k n l (inl h) outside f = absurd (outside h.0)
-longer (c ∷ b) more k n l (inr (inl h)) outside f =
-    let w = word_found c (length b) b h in
-    let size = word_size (leading is_word (b ++ more)) (sym (front_word c (b ++ more) w.0) ∙ f) in
-    omega (arith, size, leading_append is_word b more w.1)
-  where
-    word_size : (m : ℕ) → word m ≡ Found k n → m ≡ n
-    word_size m e = grind (arith, nat_tests)
-longer (c ∷ b) more k n l (inr (inr h)) outside f =
-    let quote = is_quote c b h in
-    omega (
-      arith,
-      unfinished_longer b more k n (sym (front_quote c b quote) ∙ h) (sym (front_quote c (b ++ more) quote) ∙ f),
-    )
+longer (c ∷ b) more k n l (inr (inl h)) outside f = grind (arith, front_word, leading_append, word_found)
+longer (c ∷ b) more k n l (inr (inr h)) outside f = grind (arith, front_quote, is_quote, unfinished_longer)
 
 -- so it has as many bytes at least
 pub open_longer : (bytes tail more : List ℕ) (k : TokenKind) (n : ℕ) → bytes ≡ tail ++ more → 0 < length tail
     → IsOpen tail → get_or tail 0 0 ≢ 35 → front_of (get_or bytes 0 0) (drop 1 bytes) ≡ Found k (n - 1) → 0 < n
     → length tail ≤ n
-open_longer bytes tail more k n e l o outside f some = omega (
-  arith,
-  longer tail more k (n - 1) l o outside
-      (subst (λ (t : List ℕ). front_of (get_or t 0 0) (drop 1 t) ≡ Found k (n - 1)) e f),
-  some,
-)
+open_longer bytes tail more k n e l o outside f some = grind (arith, longer)

@@ -1,13 +1,13 @@
 -- The bytes of a token are those of the text at its place.
 use Rattle.keymap_text.proofs.Common.{◌≡◌, ℕ, zero, suc, ◌+◌, ◌≤◌, List, [], ◌∷◌, length, take, drop, refl, sym, ◌∙◌}
-use Rattle.keymap_text.proofs.Common.{ap, subst, arith, All, length-take-le, EndInside, TokenKind, Front}
-use Rattle.keymap_text.proofs.Common.{Skipped, Found, Refused, Unfinished, front_of, tokens_after, TokenValue, Tokens}
+use Rattle.keymap_text.proofs.Common.{ap, subst, arith, All, length-take-le, EndInside, TokenKind, Front, Skipped}
+use Rattle.keymap_text.proofs.Common.{Found, Refused, Unfinished, front_of, tokens_after, TokenValue, Tokens}
 use Rattle.keymap_text.proofs.Common.{token_before, list_of, tokens, IsPlaced}
 use Rattle.std.proofs.lemmas.List.Elements.{All-nil, All-cons, All-weaker}
 use Rattle.keymap_text.proofs.Splitting.{split_one, split_skipped, split_found, split_refused, split_nil}
 use Rattle.keymap_text.proofs.Splitting.{split_unfinished}
 use Rattle.keymap_text.proofs.Faults.{list_ends, list_stops, list_then}
-use Rattle.keymap_text.proofs.InFront.{Fits, front_fits}
+use Rattle.keymap_text.proofs.InFront.{front_fits}
 
 -- the token is one of these bytes, which stand at q
 record Among (q : ℕ) (bytes : List ℕ) (t : TokenValue) : Type 0 where
@@ -26,14 +26,7 @@ one_more q c bytes t h = record {
 
 in_front : (q c n : ℕ) (kind : TokenKind) (bytes : List ℕ) → front_of c bytes ≡ Found kind n
     → Among q (c ∷ bytes) (token_before kind (c ∷ take n bytes) q (drop n bytes))
-in_front q c n kind bytes h =
-    let f : Fits kind n bytes = front_fits c bytes kind n h in
-    let l : length (take n bytes) ≡ n = length-take-le n bytes f.within in record {
-      skipped = 0;
-      start = omega arith;
-      within = omega (arith, l, f.within);
-      there = ap (λ i. c ∷ take i bytes) l;
-    }
+in_front q c n kind bytes h = grind (arith, front_fits, length-take-le)
 
 none_of : (P : TokenValue → Type 0) (ts : Tokens) → list_of ts ≡ [] → All P (list_of ts)
 none_of P ts e = subst (All P) (sym e) (All-nil P)

@@ -1,5 +1,5 @@
 -- The words of a definition tell it.
-use Rattle.keymap_text.proofs.Common.{◌≡◌, ℕ, List, [], ◌++◌, refl, sym, ◌∙◌, ap, append-nil, tokens_after}
+use Rattle.keymap_text.proofs.Common.{arith, ◌≡◌, ℕ, List, [], ◌++◌, refl, ◌∙◌, ap, append-nil, tokens_after}
 use Rattle.keymap_text.proofs.Common.{Definition, KeyDefinition, AccentDefinition, Defines}
 use Rattle.keymap_text.specs.declared.words.Item.{Item}
 use Rattle.keymap_text.specs.Definitions.{IsDefinition, definition_words}
@@ -14,7 +14,7 @@ are_tokens : (d : Definition) → IsDefinition d
     → (ts : List Item) × Lexes NoWord (definition_words d) ts × Defines ts d
 are_tokens (KeyDefinition slot e) (low, is) = slot_printed slot e low is.eight (prints_cells e.cells is.cells)
 are_tokens (AccentDefinition i a) (low, is) =
-    accent_words_printed i a (prints_name i low) (prints_character a.own is.own) is.few (prints_pairs a.pairs is.pairs)
+    grind (arith, accent_words_printed, prints_character, prints_name, prints_pairs)
 
 -- the tokens of a text that is these and no more
 all_of : (w : List ℕ) (ts : List Item) → Lexes NoWord w ts → items_of (tokens_after 0 0 (w ++ [])) ≡ ts
@@ -22,8 +22,4 @@ all_of w ts l =
     l.items 0 [] refl ∙ ap (λ (r : List Item). ts ++ r) (no_items _) ∙ append-nil ts
 
 pub words_tell : (d e : Definition) → IsDefinition d → IsDefinition e → definition_words d ≡ definition_words e → d ≡ e
-words_tell d e p q h =
-    let a = are_tokens d p in
-    let b = are_tokens e q in
-    defined_is a.2 b.2 (sym (all_of (definition_words d) a.0 a.1)
-    ∙ ap (λ w. items_of (tokens_after 0 0 (w ++ []))) h ∙ all_of (definition_words e) b.0 b.1)
+words_tell d e p q h = grind (arith, all_of, are_tokens, defined_is)

@@ -1,7 +1,7 @@
 -- From the mask of sixteen bytes to the bytes in front that pass a test.
 use Rattle.keymap_text.proofs.Common.{◌≡◌, ℕ, ◌+◌, ◌%◌, ◌^◌, ◌<◌, ◌≤◌, Bool, true, false, not, List, [], ◌∷◌, map}
-use Rattle.keymap_text.proofs.Common.{length, get_or, replicate, Fits, w8, refl, sym, ap, ap₂, ◌∙◌, subst, arith, inl}
-use Rattle.keymap_text.proofs.Common.{inr, agree_below, agree_below_at, not-true, not-false, cases_eq, eq-eqb, ne_eqb}
+use Rattle.keymap_text.proofs.Common.{length, get_or, replicate, Fits, w8, refl, sym, ap, ap₂, ◌∙◌, subst, arith}
+use Rattle.keymap_text.proofs.Common.{agree_below, agree_below_at, not-true, not-false, cases_eq, eq-eqb, ne_eqb}
 use Rattle.keymap_text.proofs.Common.{cond-true, cond-false, map-map, mask_l-mod, length-chunk, get_or-chunk}
 use Rattle.keymap_text.proofs.Common.{leading_from_mask_l, trailing_mask_l, length-map, prefix_len-le-length}
 use Rattle.keymap_text.proofs.Common.{prefix_len_is, prefix_len_passes, prefix_len_stops, prefix_len, leading}
@@ -26,11 +26,7 @@ splat_is (x ∷ v) n y e = ap (λ k. replicate k y) (sym e) ∙ ap (λ r. y ∷ 
 -- the place of the lowest bit is how many bytes pass
 run_is : (p : ℕ → Bool) (v : List ℕ) → length v ≡ 16
     → first_of_sixteen (mask_l (map p v)) ≡ prefix_len (λ x. not (p x)) v
-run_is p v long =
-    elim (cases_eq (mask_l (map p v)) 0) [
-      | inl none ↦ cond-true _ _ _ (eq-eqb _ _ none) ∙ sym (leading_from_mask_l p v none ∙ long)
-      | inr some ↦ cond-false _ _ _ (ne_eqb _ _ some) ∙ trailing_mask_l p 64 v (omega arith) (omega arith)
-    ]
+run_is p v long = grind (arith, cases_eq, cond-false, cond-true, eq-eqb, leading_from_mask_l, ne_eqb, trailing_mask_l)
 
 -- the bytes of a vector are the first sixteen
 in_chunk : (d : List ℕ) (k : ℕ) → k < 16 → get_or (chunk 0 16 d) k 0 ≡ get_or d k 0

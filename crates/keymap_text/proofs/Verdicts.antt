@@ -1,9 +1,9 @@
 -- The verdict of the reader's machine is what the definitions say.
-use Rattle.keymap_text.proofs.Common.{take-append-le, ◌≡◌, ◌⊎◌, inl, inr, ℕ, Bool, true, false, cond, ap₂, zero, suc}
-use Rattle.keymap_text.proofs.Common.{◌+◌, ◌≤◌, ◌==◌, length, take, drop, arith, count_by, List, [], ◌∷◌, ◌++◌, map}
-use Rattle.keymap_text.proofs.Common.{refl, sym, ◌∙◌, ap, subst, Result, Ok, Err, Option, Some, None, TextFaultKind}
-use Rattle.keymap_text.proofs.Common.{Item, TextFault, TokenValue, Tokens, Ends, Stops, Then, tokens_after, front_of}
-use Rattle.keymap_text.proofs.Common.{Front, Skipped, Refused, Unfinished, token_before, MapValue, GrammarState, accept}
+use Rattle.keymap_text.proofs.Common.{take-append-le, ◌≡◌, ◌⊎◌, inl, inr, ℕ, Bool, true, false, cond, zero, suc, ◌+◌}
+use Rattle.keymap_text.proofs.Common.{◌≤◌, ◌==◌, length, take, drop, arith, count_by, List, [], ◌∷◌, ◌++◌, map, refl}
+use Rattle.keymap_text.proofs.Common.{sym, ◌∙◌, ap, subst, Result, Ok, Err, Option, Some, None, TextFaultKind, Item}
+use Rattle.keymap_text.proofs.Common.{TextFault, TokenValue, Tokens, Ends, Stops, Then, tokens_after, front_of, Front}
+use Rattle.keymap_text.proofs.Common.{Skipped, Refused, Unfinished, token_before, MapValue, GrammarState, accept}
 use Rattle.keymap_text.proofs.Common.{at_end, start, empty_map, RowPlace, AtDefinition, may_end, Definition, IsRow}
 use Rattle.keymap_text.proofs.Common.{line, list_of, ending_of_tokens, item_of, items, FaultInText, fault_of, Spells}
 use Rattle.keymap_text.proofs.Common.{Fault, Early, found_in, place_after, judge, verdict, Verdict, Spelled, Faulty}
@@ -149,9 +149,7 @@ behind_is (t ∷ ts) = behind_is ts
 -- the end of such tokens
 ended_at : (ts : List TokenValue)
     → found_of (judge start (tokens_then ts)) ≡ found_in (place_after AtDefinition ts) (Ok 0)
-ended_at ts =
-    same_fault start (tokens_then ts)
-    ∙ ap₂ (λ ts r. found_in (place_after AtDefinition ts) r) (listed ts) (behind_is ts)
+ended_at ts = grind (arith, behind_is, listed, same_fault)
 
 -- tokens that lead to a place where a text may end are a row
 pub row_of : (ts : List TokenValue) (p : RowPlace) → place_after AtDefinition ts ≡ Ok p → may_end p ≡ true
@@ -209,14 +207,7 @@ not_both text m f s (e, h) = none-some _ (sym (fault_or_map text m s) ∙ h.0)
 -- a text has one fault at most
 pub one_fault : (text : List ℕ) (f g : TextFault) → Fault text f → Fault text g
     → (f.kind ≡ g.kind) × (f.offset ≡ g.offset) × (f.line ≡ g.line)
-one_fault text f g (e, h) (d, k) =
-    let same : record { kind = f.kind; offset = f.offset; early = e }
-    ≡ record { kind = g.kind; offset = g.offset; early = d } = same_Some _ _ (sym h.0 ∙ k.0) in (
-      ap (λ (x : FaultInText). x.kind) same,
-      ap (λ (x : FaultInText). x.offset) same,
-      h.1
-          ∙ ap (λ (x : FaultInText). line text x.offset) same ∙ sym k.1,
-    )
+one_fault text f g (e, h) (d, k) = grind (arith, same_Some)
 
 -- a text spells a map or has a fault
 pub one_of_them : (text : List ℕ) → ((m : MapValue) × Spells text m) ⊎ ((f : TextFault) × Fault text f)

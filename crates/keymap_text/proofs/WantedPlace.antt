@@ -1,7 +1,7 @@
 -- Where tokens lead, one by one.
-use Rattle.keymap_text.proofs.Common.{◌≡◌, ℕ, List, [], ◌∷◌, Result, Ok, Err, Option, refl, sym, ◌∙◌, ap, IsErr}
-use Rattle.keymap_text.proofs.Common.{true≢false, TextFaultKind, Span, Item, TokenValue, item_of, span_of, RowPlace}
-use Rattle.keymap_text.proofs.Common.{next, definition_behind, first_refused}
+use Rattle.keymap_text.proofs.Common.{arith, ◌≡◌, ℕ, List, [], ◌∷◌, Ok, Err, Option, refl, IsErr, TextFaultKind, Span}
+use Rattle.keymap_text.proofs.Common.{Item, TokenValue, item_of, span_of, RowPlace, next, definition_behind}
+use Rattle.keymap_text.proofs.Common.{first_refused}
 use Rattle.keymap_text.specs.declared.wanted.DefinitionStart.{DefinitionStart}
 
 -- behind the last token
@@ -21,11 +21,7 @@ accepted p q d n t ts h = rw (first_refused, h) refl
 pub reached_on : (p q : RowPlace) (d e : Option DefinitionStart) (n : ℕ) (i : Item) (t : TokenValue) (s : Span)
     (ts us : List TokenValue) → us ≡ t ∷ ts → i ≡ item_of t → next p i ≡ Ok q → e ≡ definition_behind p d i t.start
     → span_of t ≡ s → first_refused p d n us ≡ first_refused q e s.end ts
-reached_on p q d e n i t s ts us h is f g place =
-    ap (first_refused p d n) h ∙ accepted p q d n t ts (ap (next p) (sym is) ∙ f)
-    ∙ ap (λ i. first_refused q (definition_behind p d i t.start) (span_of t).end ts) (sym is)
-    ∙ ap (λ e. first_refused q e (span_of t).end ts) (sym g)
-    ∙ ap (λ (s : Span). first_refused q e s.end ts) place
+reached_on p q d e n i t s ts us h is f g place = grind (arith, accepted)
 
 -- at a refused token
 refused : (p : RowPlace) (d : Option DefinitionStart) (n : ℕ) (t : TokenValue) (ts : List TokenValue)
@@ -35,8 +31,4 @@ refused p d n t ts f h = rw (first_refused, h) refl
 
 pub reached_fault : (p : RowPlace) (d : Option DefinitionStart) (n : ℕ) (i : Item) (t : TokenValue)
     (ts us : List TokenValue) → us ≡ t ∷ ts → i ≡ item_of t → IsErr (next p i) → first_refused p d n us ≡ (p, d, n)
-reached_fault p d n i t ts us h is f = go (next p i) refl f
-  where
-    go : (r : Result RowPlace TextFaultKind) → next p i ≡ r → IsErr r → first_refused p d n us ≡ (p, d, n)
-    go (Ok q) k f = absurd (true≢false (sym f))
-    go (Err g) k f = ap (first_refused p d n) h ∙ refused p d n t ts g (ap (next p) (sym is) ∙ k)
+reached_fault p d n i t ts us h is f = grind (arith, refused)

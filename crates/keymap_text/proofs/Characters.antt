@@ -195,3 +195,5 @@ prints_six c h k s =
     (omega arith) (is_mod (c / 1048576), (is_mod (c / 65536), small_four c))
     (four_of c ((0 * 16 + c / 1048576 % 16) * 16 + c / 65536 % 16)
     (omega (arith, digit_65536 c, same_below (c / 1048576) (omega arith))))
+
+pub ruleset prints_rules = (prints_control, prints_delete, prints_quoted, prints_four, prints_five, prints_six)

@@ -103,24 +103,16 @@ last_row says what h (one_row {ts = ts} {rs = rs} r d more) n p e = ⊎_elim
 
 -- what is said of a slot
 says_slot : (slot : ℕ) → SaysOf Entry (of_slot slot) (Slot slot)
-says_slot slot = record { quiet = quiet; tells = tells }
+says_slot slot = record { quiet = λ d h. grind arith; tells = tells }
   where
-    quiet : (d : Definition) → is_same (defined d) (Slot slot) ≡ false → of_slot slot d ≡ None
-    quiet (KeyDefinition s e) h = ap (λ b. cond b (Some e) None) h
-    quiet (AccentDefinition i a) h = refl
-
     tells : (d : Definition) → is_same (defined d) (Slot slot) ≡ true → (e : Entry) × (of_slot slot d ≡ Some e)
     tells (KeyDefinition s e) h = (e, ap (λ b. cond b (Some e) None) h)
     tells (AccentDefinition i a) h = absurd (cc)
 
 -- what is said of an accent
 says_index : (i : ℕ) → SaysOf AccentValue (of_index i) (Accent i)
-says_index i = record { quiet = quiet; tells = tells }
+says_index i = record { quiet = λ d h. grind arith; tells = tells }
   where
-    quiet : (d : Definition) → is_same (defined d) (Accent i) ≡ false → of_index i d ≡ None
-    quiet (KeyDefinition s e) h = refl
-    quiet (AccentDefinition j a) h = ap (λ b. cond b (Some a) None) h
-
     tells : (d : Definition) → is_same (defined d) (Accent i) ≡ true → (a : AccentValue) × (of_index i d ≡ Some a)
     tells (KeyDefinition s e) h = absurd (cc)
     tells (AccentDefinition j a) h = (a, ap (λ b. cond b (Some a) None) h)

@@ -80,8 +80,8 @@ leading_same p zero v w e h = omega arith
 leading_same p (suc n) v [] e h = absurd (omega (arith, h))
 leading_same p (suc n) [] (c ∷ w) e h = absurd (not_none c (take n w) e)
 leading_same p (suc n) (a ∷ v) (c ∷ w) e h =
-    grind (arith, leading_fail, leading_pass, same_head, same_tail,
-    (leading_same p n v w (same_tail a c (take n v) (take n w) e)))
+    let rest = same_tail a c (take n v) (take n w) e in
+    grind (arith, leading_fail, leading_pass, same_head, (leading_same p n v w rest))
 
 -- a byte that isn't the end of the line stays on it
 no_line_end : (c : ℕ) → ((c == 10) ≡ true → ⊥) → stays_on_line c ≡ true

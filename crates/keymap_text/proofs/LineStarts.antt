@@ -1,11 +1,11 @@
 -- Where lines begin, and the line of a place by them.
 use Rattle.keymap_text.proofs.Common.{◌≡◌, ℕ, zero, suc, ◌+◌, ◌-◌, ◌≤◌, ◌<◌, ◌==◌, Bool, true, false, not, List, []}
 use Rattle.keymap_text.proofs.Common.{◌∷◌, ◌++◌, length, take, drop, get_or, refl, ◌∙◌, sym, ap, subst, arith, count_by}
-use Rattle.keymap_text.proofs.Common.{drop-cons, eqb-true, length-append, length-drop, eq-or-lt_of_le, ⊎_elim}
-use Rattle.keymap_text.proofs.Common.{true≢false, suffix_len, length-take, length-take-le, drop-drop, drop-take}
-use Rattle.keymap_text.proofs.Common.{get_or_append_left, get_or-drop, get_or-take, suffix_len_is, prefix_len_passes}
-use Rattle.keymap_text.proofs.Common.{prefix_len_stops, get_or-append_seam, leading, stays_on_line, before_in_line}
-use Rattle.keymap_text.proofs.Common.{line_end, IsLineStart, AreStarts, AreLines, line}
+use Rattle.keymap_text.proofs.Common.{drop-cons, eqb-true, length-append, length-drop, eq-or-lt_of_le, true≢false}
+use Rattle.keymap_text.proofs.Common.{suffix_len, length-take, length-take-le, drop-drop, drop-take, get_or_append_left}
+use Rattle.keymap_text.proofs.Common.{get_or-drop, get_or-take, suffix_len_is, prefix_len_passes, prefix_len_stops}
+use Rattle.keymap_text.proofs.Common.{get_or-append_seam, leading, stays_on_line, before_in_line, line_end, IsLineStart}
+use Rattle.keymap_text.proofs.Common.{AreStarts, AreLines, line, cases_eq, inl, inr, ◌≢◌}
 use Rattle.keymap_text.proofs.Leading.{leading_pass, leading_fail, leading_le}
 use Rattle.keymap_text.proofs.Lines.{line_more, feeds_run}
 
@@ -89,44 +89,35 @@ first_start b = grind arith
 -- one line more
 pub start_pushed : (b old new : List ℕ) (e : ℕ) → AreStarts b old
     → e ≡ line_end b (get_or old (length old - 1) 0) → e < length b → new ≡ old ++ (e + 1) ∷ [] → AreStarts b new
-start_pushed b old new e h last l pushed = subst (AreStarts b) (sym pushed) (record {
+start_pushed b old new e h last l pushed = rw pushed (record {
   some = omega (arith, length-append old ((e + 1) ∷ []));
   first = get_or_append_left old ((e + 1) ∷ []) 0 0 h.some ∙ h.first;
-  each = λ i k. ⊎_elim (λ (z : i ≡ length old). here i z) (λ (m : i < length old). there i m) (eq-or-lt_of_le (le i k));
-  next = λ i k. ⊎_elim (λ (z : i + 1 ≡ length old). step i z) (λ (m : i + 1 < length old). kept i m)
-      (eq-or-lt_of_le (le (i + 1) k));
+  each = λ i k. elim (cases_eq i (length old)) [
+    | inl z ↦ rw (z, seam) here
+    | inr m ↦ rw (same i (below i k m)) (h.each i (below i k m))
+  ];
+  next = λ i k. elim (cases_eq (i + 1) (length old)) [
+    | inl z ↦ let n : i ≡ length old - 1 = omega (arith, z) in rw (same i (omega (arith, z)), z, seam, n, ← last) refl
+    | inr m ↦
+        let n = below (i + 1) k m in rw (same i (omega (arith, n)), same (i + 1) n) (h.next i n)
+  ];
 })
   where
-    le : (i : ℕ) → i < length (old ++ (e + 1) ∷ []) → i ≤ length old
-    le i k = omega (arith, k, length-append old ((e + 1) ∷ []))
+    below : (i : ℕ) → i < length (old ++ (e + 1) ∷ []) → i ≢ length old → i < length old
+    below i k m = omega (arith, k, m, length-append old ((e + 1) ∷ []))
 
     same : (i : ℕ) → i < length old → get_or (old ++ (e + 1) ∷ []) i 0 ≡ get_or old i 0
     same i m = get_or_append_left old ((e + 1) ∷ []) 0 i m
 
-    seam : (i : ℕ) → i ≡ length old → get_or (old ++ (e + 1) ∷ []) i 0 ≡ e + 1
-    seam i z = ap (λ i. get_or (old ++ (e + 1) ∷ []) i 0) z ∙ get_or-append_seam old (e + 1) [] 0
+    seam : get_or (old ++ (e + 1) ∷ []) (length old) 0 ≡ e + 1
+    seam = get_or-append_seam old (e + 1) [] 0
 
-    there : (i : ℕ) → i < length old → IsLineStart b (i + 1) (get_or (old ++ (e + 1) ∷ []) i 0)
-    there i m = subst (λ s. IsLineStart b (i + 1) s) (sym (same i m)) (h.each i m)
-
-    here : (i : ℕ) → i ≡ length old → IsLineStart b (i + 1) (get_or (old ++ (e + 1) ∷ []) i 0)
-    here i z =
+    here : IsLineStart b (length old + 1) (e + 1)
+    here =
         let k = length old - 1 in
-        let n : k + 1 + 1 ≡ i + 1 = omega (arith, z, h.some) in
+        let n : k + 1 ≡ length old = omega (arith, h.some) in
         let s = next_start b (k + 1) (get_or old k 0) (h.each k (omega (arith, h.some))) (omega (arith, last, l)) in
-        subst (λ n. IsLineStart b n (get_or (old ++ (e + 1) ∷ []) i 0)) n
-        (subst (λ s. IsLineStart b (k + 1 + 1) s) (ap (λ e. e + 1) (sym last) ∙ sym (seam i z)) s)
-
-    kept : (i : ℕ) → i + 1 < length old
-        → line_end b (get_or (old ++ (e + 1) ∷ []) i 0) + 1 ≡ get_or (old ++ (e + 1) ∷ []) (i + 1) 0
-    kept i m = ap (λ s. line_end b s + 1) (same i (omega (arith, m))) ∙ h.next i m ∙ sym (same (i + 1) m)
-
-    step : (i : ℕ) → i + 1 ≡ length old
-        → line_end b (get_or (old ++ (e + 1) ∷ []) i 0) + 1 ≡ get_or (old ++ (e + 1) ∷ []) (i + 1) 0
-    step i z =
-        let k : i ≡ length old - 1 = omega (arith, z) in
-        ap (λ s. line_end b s + 1) (same i (omega (arith, z)) ∙ ap (λ i. get_or old i 0) k) ∙ ap (λ e. e + 1) (sym last)
-        ∙ sym (seam (i + 1) z)
+        subst (λ n. IsLineStart b (n + 1) (e + 1)) n (subst (λ e. IsLineStart b (k + 1 + 1) (e + 1)) (sym last) s)
 
 -- the end of the line that is found
 pub found_end : (b ss : List ℕ) (i place : ℕ) → AreLines b ss → i < length ss → get_or ss i 0 ≤ place

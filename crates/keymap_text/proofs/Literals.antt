@@ -5,7 +5,7 @@ use Rattle.keymap_text.proofs.Common.{slice_index, Option, Some, None, length-ap
 use Rattle.keymap_text.proofs.Common.{ne_eqb, nat_tests, get_or_append_left, le-ltb, decoded, decoded_by, Decoded, bad}
 use Rattle.keymap_text.proofs.Common.{second, continues, get_or-append_seam, TextFaultKind, BadLiteral, TokenKind}
 use Rattle.keymap_text.proofs.Common.{Literal, is_word_kind, Front, Skipped, Found, Refused, Unfinished, literal}
-use Rattle.keymap_text.proofs.Common.{quoted, closing, unclosed, is_lone}
+use Rattle.keymap_text.proofs.Common.{quoted, closing, is_lone}
 use Rattle.bstr.proofs.lemmas.PieceLemmas.{size-bounds}
 use Rattle.bstr.proofs.lemmas.EncodeLemmas.{decoded-encode}
 use Rattle.std.specs.Prelude.{encode_utf8}
@@ -121,20 +121,11 @@ pub literal_found : (s : List ℕ) (k : TokenKind) (n : ℕ) → literal s ≡ F
 unfolding LiteralFront
 literal_found s k n h = subst LiteralFront h (literal_shape s)
 
--- the closing apostrophe
-closing_stable : (c n : ℕ) (s x : List ℕ) → closing c n s ≢ Unfinished → closing c n (s ++ x) ≡ closing c n s
-closing_stable c n s x h = grind (arith, nat_tests, length-append, get_or_append_left)
-
--- where no character stands first
-unclosed_stable : (n : ℕ) (s x : List ℕ) → n ≤ length s → unclosed n s ≢ Unfinished → unclosed n (s ++ x) ≡ unclosed n s
-unclosed_stable n s x l h = grind (arith, nat_tests, length-append)
-
--- in both cases
+-- with more bytes behind, once it is known what the first ones are
 char_stable : (o : Option ℕ) (n : ℕ) (s x : List ℕ) → n ≤ length s
     → quoted (record { char = o; size = n }) s ≢ Unfinished
     → quoted (record { char = o; size = n }) (s ++ x) ≡ quoted (record { char = o; size = n }) s
-char_stable (Some c) n s x l h = closing_stable c n s x h
-char_stable None n s x l h = unclosed_stable n s x l h
+char_stable o n s x l h = grind (arith, nat_tests, length-append, get_or_append_left)
 
 -- no more bytes than there are
 size_le : (s : List ℕ) → (decoded s).size ≤ length s
@@ -182,17 +173,8 @@ literal_or s = go (literal s) refl
     go f e = inr (λ x. literal_stable s x (λ u. cc))
 
 -- an unfinished one is short, and a longer one that begins so is longer than it
-closing_open : (c n : ℕ) (s : List ℕ) → closing c n s ≡ Unfinished → length s ≤ n
-closing_open c n s h = grind (arith, nat_tests)
-
--- where no character stands first
-unclosed_open : (n : ℕ) (s : List ℕ) → unclosed n s ≡ Unfinished → length s ≤ n
-unclosed_open n s h = grind (arith, nat_tests)
-
--- in both cases
 quoted_open : (o : Option ℕ) (n : ℕ) (s : List ℕ) → quoted (record { char = o; size = n }) s ≡ Unfinished → length s ≤ n
-quoted_open (Some c) n s h = closing_open c n s h
-quoted_open None n s h = unclosed_open n s h
+quoted_open o n s h = grind (arith, nat_tests)
 
 -- an unfinished one is no quoted lone byte
 not_lone : (s : List ℕ) (q : Front) → cond (is_lone s) (Found (Literal (slice_index s 0)) 2) q ≡ Unfinished
@@ -211,18 +193,9 @@ unfinished_short s h =
     omega (arith, quoted_open (decoded s).char (decoded s).size s (not_lone s (quoted (decoded s) s) h).1, size_4 s)
 
 -- a found one has the bytes of its character and an apostrophe
-closing_found : (c n m : ℕ) (k : TokenKind) (s : List ℕ) → closing c n s ≡ Found k m → m ≡ n + 1
-closing_found c n m k s h = grind (arith, nat_tests)
-
--- where no character stands first
-unclosed_found : (n m : ℕ) (k : TokenKind) (s : List ℕ) → unclosed n s ≡ Found k m → m ≡ n + 1
-unclosed_found n m k s h = grind (arith, nat_tests)
-
--- in both cases
 quoted_found : (o : Option ℕ) (n m : ℕ) (k : TokenKind) (s : List ℕ)
     → quoted (record { char = o; size = n }) s ≡ Found k m → m ≡ n + 1
-quoted_found (Some c) n m k s h = closing_found c n m k s h
-quoted_found None n m k s h = unclosed_found n m k s h
+quoted_found o n m k s h = grind (arith, nat_tests)
 
 -- by how the bytes decode
 longer_quoted : (s x : List ℕ) (k : TokenKind) (n : ℕ) → quoted (decoded s) s ≡ Unfinished
@@ -263,36 +236,28 @@ unfinished_longer (b ∷ c ∷ s) x k n u h =
     (sym (lone_same b c s x)) ∙ h)
 
 -- no more bytes than there are
-closing_fits : (c n m : ℕ) (k : TokenKind) (s : List ℕ) → closing c n s ≡ Found k m → m ≤ length s
-closing_fits c n m k s h = grind (arith, nat_tests)
-
--- where no character stands first
-unclosed_fits : (n m : ℕ) (k : TokenKind) (s : List ℕ) → unclosed n s ≡ Found k m → m ≤ length s
-unclosed_fits n m k s h = grind (arith, nat_tests)
-
--- in both cases
 quoted_fits : (o : Option ℕ) (n m : ℕ) (k : TokenKind) (s : List ℕ)
     → quoted (record { char = o; size = n }) s ≡ Found k m → m ≤ length s
-quoted_fits (Some c) n m k s h = closing_fits c n m k s h
-quoted_fits None n m k s h = unclosed_fits n m k s h
+quoted_fits o n m k s h = grind (arith, nat_tests)
 
 -- a quoted lone byte has an apostrophe behind it
 lone_long : (s : List ℕ) → is_lone s ≡ true → 2 ≤ length s
 lone_long (b ∷ c ∷ s) h = omega arith
 lone_long _ h = absurd (true≢false (sym h))
 
+-- a found one is a lone byte, or a character
+pub found_by : (b : Bool) (c n : ℕ) (k : TokenKind) (q : Front) → cond b (Found (Literal c) 2) q ≡ Found k n
+    → ((b ≡ true) × (k ≡ Literal c) × (n ≡ 2)) ⊎ ((b ≡ false) × (q ≡ Found k n))
+found_by true c n k q h = inl (refl, cc, cc)
+found_by false c n k q h = inr (refl, h)
+
 -- a found one has no more bytes than there are
 pub literal_fits : (s : List ℕ) (k : TokenKind) (n : ℕ) → literal s ≡ Found k n → n ≤ length s
 unfolding literal
-literal_fits s k n h = go (is_lone s) refl h
-  where
-    two : (b m : ℕ) → Found (Literal b) 2 ≡ Found k m → m ≡ 2
-    two b m e = cc
-
-    go : (b : Bool) → is_lone s ≡ b → cond b (Found (Literal (slice_index s 0)) 2) (quoted (decoded s) s) ≡ Found k n
-        → n ≤ length s
-    go true l e = omega (arith, two (slice_index s 0) n e, lone_long s l)
-    go false l e = quoted_fits (decoded s).char (decoded s).size n k s e
+literal_fits s k n h = ⊎_elim
+    (λ l. omega (arith, l.2, lone_long s l.0))
+    (λ q. quoted_fits (decoded s).char (decoded s).size n k s q.1)
+    (found_by (is_lone s) (slice_index s 0) n k (quoted (decoded s) s) h)
 
 -- no blank stands at an apostrophe
 pub literal_no_skip : (s : List ℕ) (n : ℕ) → literal s ≡ Skipped n → ⊥
@@ -363,15 +328,8 @@ size_before_lf (b ∷ c ∷ d ∷ e ∷ l) h = omega (arith, size_4 (b ∷ c ∷
 -- no LF ends an unfinished one
 pub lf_closes : (l : List ℕ) → literal (l ++ 10 ∷ []) ≡ Unfinished → ⊥
 unfolding literal
-lf_closes [] u = absurd (lf_alone u)
-  where
-    lf_alone : Refused BadLiteral ≡ Unfinished → ⊥
-    lf_alone u = cc
+lf_closes [] u = grind arith
 lf_closes (b ∷ l) u =
     let s = (b ∷ l) ++ 10 ∷ [] in
-    omega (
-      arith,
-      size_before_lf (b ∷ l) (omega arith),
-      length-append (b ∷ l) (10 ∷ []),
-      quoted_open (decoded s).char (decoded s).size s (not_lone s (quoted (decoded s) s) u).1,
-    )
+    let few = quoted_open (decoded s).char (decoded s).size s (not_lone s (quoted (decoded s) s) u).1 in
+    omega (arith, few, size_before_lf (b ∷ l) (omega arith), length-append (b ∷ l) (10 ∷ []))

@@ -18,8 +18,8 @@ cells_are no_cells no_cells n vs ws e = (refl, e)
 cells_are no_cells (one_cell h r) n vs ws e = absurd (omega (arith, n))
 cells_are (one_cell h r) no_cells n vs ws e = absurd (omega (arith, n))
 cells_are (one_cell {t = t} {c = c} {ts = ts} h r) (one_cell {t = u} {c = d} {ts = us} k s) n vs ws e =
-    grind (arith, ok_is, same_head, same_tail, (cells_are r s (omega (arith,
-    n)) vs ws (same_tail t u (ts ++ vs) (us ++ ws) e)))
+    let rest = same_tail t u (ts ++ vs) (us ++ ws) e in
+    grind (arith, ok_is, same_head, (cells_are r s (omega (arith, n)) vs ws rest))
 
 -- the same pairs
 pairs_are : {ts us : List Item} {ps qs : List (ℕ × ℕ)} → ArePairs ts ps → ArePairs us qs → ts ≡ us → ps ≡ qs
@@ -73,8 +73,8 @@ parts_are [] [] us vs n e = (refl, e)
 parts_are [] (y ∷ ys) us vs n e = absurd (omega (arith, n))
 parts_are (x ∷ xs) [] us vs n e = absurd (omega (arith, n))
 parts_are (x ∷ xs) (y ∷ ys) us vs n e =
-    grind (arith, same_head, same_tail, (parts_are xs ys us vs (omega (arith,
-    n)) (same_tail x y (xs ++ us) (ys ++ vs) e)))
+    let rest = same_tail x y (xs ++ us) (ys ++ vs) e in
+    grind (arith, same_head, (parts_are xs ys us vs (omega (arith, n)) rest))
 
 -- no rows have no tokens
 none : {ts : List TokenValue} {rows : List Row} → AreRows ts rows → rows ≡ [] → ts ≡ []

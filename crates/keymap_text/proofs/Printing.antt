@@ -17,16 +17,14 @@ use Rattle.keymap_text.proofs.Folded.{last_none, last_more, greatest_none, great
 use Rattle.keymap_text.proofs.Lexed.{Lexes, Any, lexes_none, lexes_both}
 use Rattle.keymap_text.proofs.PrintedLines.{EachCell, EachPair, PrintsCell, PrintsName, PrintsCharacter, key_printed}
 use Rattle.keymap_text.proofs.PrintedLines.{accent_printed}
-use Rattle.keymap_text.proofs.Characters.{lexes_as, prints_control, prints_delete, prints_quoted, prints_four}
-use Rattle.keymap_text.proofs.Characters.{prints_five, prints_six}
+use Rattle.keymap_text.proofs.Characters.{lexes_as, prints_rules}
 use Rattle.keymap_text.proofs.PrintedNames.{action_word, action_meaning}
 use Rattle.keymap_core.specs.declared.entry.Cell.TheVariants as cells
 
 -- each character prints
 pub prints_character : (c : ℕ) → scalar c ≡ true → PrintsCharacter c
 prints_character c s =
-    grind (arith, cases_lt, eq-or-lt_of_le, prints_control, prints_delete, prints_five, prints_four, prints_quoted,
-    prints_six, scalar_cases)
+    grind (arith, cases_lt, eq-or-lt_of_le, prints_rules, scalar_cases)
 
 -- a character is a cell
 cell_of_character : (t : Item) (c : ℕ) → character t ≡ Ok c → cell t ≡ Ok (cells.Char c)
@@ -193,22 +191,17 @@ module _ (m : MapValue) (h : IsMap m) where
 
   keys_are : greatest slots_needed (keys ++ dead_keys) ≡ length m.entries
   unfolding keys dead_keys key dead_key
-  keys_are = greatest_append slots_needed keys dead_keys
-      ∙ omega (
-        arith,
-        greatest_to slots_needed key (length m.entries) (λ s. refl),
-        greatest_zero slots_needed dead_key 0 (length m.accents) (λ i. refl),
-      )
+  keys_are =
+      let some = greatest_to slots_needed key (length m.entries) (λ s. refl) in
+      let none = greatest_zero slots_needed dead_key 0 (length m.accents) (λ i. refl) in
+      greatest_append slots_needed keys dead_keys ∙ omega arith
 
   accents_are : greatest accents_needed (keys ++ dead_keys) ≡ length m.accents
   unfolding keys dead_keys key dead_key
   accents_are =
-      greatest_append accents_needed keys dead_keys ∙ omega (
-        arith,
-        greatest_to accents_needed dead_key (length m.accents)
-            (λ s. refl),
-        greatest_zero accents_needed key 0 (length m.entries) (λ i. refl),
-      )
+      let some = greatest_to accents_needed dead_key (length m.accents) (λ s. refl) in
+      let none = greatest_zero accents_needed key 0 (length m.entries) (λ i. refl) in
+      greatest_append accents_needed keys dead_keys ∙ omega arith
 
   entry_is : (s : ℕ) → s < length m.entries
       → get_or m.entries s undefined ≡ or_default (last (of_slot s) (keys ++ dead_keys)) undefined

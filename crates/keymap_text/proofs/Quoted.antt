@@ -13,6 +13,7 @@ use Rattle.bstr.proofs.lemmas.PieceLemmas.{by-shape, value-9, value-12}
 use Rattle.bstr.proofs.lemmas.SoundLemmas.{SpellsChar-decoded}
 use Rattle.keymap_text.specs.Quoted.{IsCharacter, IsQuoted, BeginsQuoted, IsUnfinished, IsReason, quoted_token}
 use Rattle.keymap_text.proofs.Literals.{literal_stable, literal_refused, literal_fits, literal_no_skip, literal_spelled}
+use Rattle.keymap_text.proofs.Literals.{found_by}
 use Rattle.keymap_text.proofs.InFront.{front_quote}
 use Rattle.keymap_text.proofs.Splitting.{split_whole, split_found, split_refused, split_unfinished}
 use Rattle.keymap_text.proofs.Leading.{same_tail}
@@ -89,39 +90,36 @@ decoded_finds s (Some c) k m e h =
 -- by both cases
 literal_finds : (s : List ℕ) (k : TokenKind) (n : ℕ) → literal s ≡ Found k n → Finds s k n
 unfolding literal
-literal_finds s k n h = go (is_lone s) refl h
-  where
-    go : (b : Bool) → is_lone s ≡ b → cond b (Found (Literal (slice_index s 0)) 2) (quoted (decoded s) s) ≡ Found k n
-        → Finds s k n
-    go true l e =
-        let kinds : Literal (slice_index s 0) ≡ k = cc in
-        let sizes : 2 ≡ n = cc in
-        subst (λ k. Finds s k n) kinds (subst (λ n. Finds s (Literal (slice_index s 0)) n) sizes (lone_finds s l))
-    go false l e = decoded_finds s (decoded s).char k n refl e
+literal_finds s k n h = ⊎_elim
+    (λ l. rw (l.1, l.2) (lone_finds s l.0))
+    (λ q. decoded_finds s (decoded s).char k n refl q.1)
+    (found_by (is_lone s) (slice_index s 0) n k (quoted (decoded s) s) h)
+
+-- the bytes of what is found
+finds_front : (s : List ℕ) (k : TokenKind) (n : ℕ) → (f : Finds s k n) → take n s ≡ f.between ++ 39 ∷ []
+finds_front s k n f =
+    let w = f.between ++ 39 ∷ [] in
+    let whole : s ≡ w ++ drop n s = f.bytes ∙ sym (append_assoc f.between (39 ∷ []) (drop n s)) in
+    let size : length w ≡ n = length-append f.between (39 ∷ []) ∙ sym f.size in
+    ap (take n) whole ∙ take_at w (drop n s) n size
 
 -- what is found at an apostrophe is found there whatever stands behind it
 pub literal_alone : (s y : List ℕ) (k : TokenKind) (n : ℕ) → literal s ≡ Found k n → literal (take n s ++ y) ≡ Found k n
 literal_alone s y k n h =
     let f = literal_finds s k n h in
-    let w = f.between ++ 39 ∷ [] in
-    let whole : s ≡ w ++ drop n s = f.bytes ∙ sym (append_assoc f.between (39 ∷ []) (drop n s)) in
-    let size : length w ≡ n = length-append f.between (39 ∷ []) ∙ sym f.size in
-    let front : take n s ≡ w = ap (take n) whole ∙ take_at w (drop n s) n size in
-    ap literal (ap (λ (l : List ℕ). l ++ y) front ∙ append_assoc f.between (39 ∷ []) y)
+    ap literal (ap (λ (l : List ℕ). l ++ y) (finds_front s k n f) ∙ append_assoc f.between (39 ∷ []) y)
     ∙ character_found f.char f.between y f.character ∙ ap₂ Found (sym f.kind) (sym f.size)
+
+-- a character has some bytes
+character_some : (c : ℕ) (b : List ℕ) → IsCharacter c b → 0 < length b
+unfolding encode_utf8
+character_some c b h = grind arith
 
 -- it has two bytes at least behind the apostrophe
 pub literal_wide : (s : List ℕ) (k : TokenKind) (n : ℕ) → literal s ≡ Found k n → 2 ≤ n
-unfolding encode_utf8
 literal_wide s k n h =
     let f = literal_finds s k n h in
-    let some : 0 < length f.between = ⊎_elim
-    (λ u. subst (λ l. 0 < length l) (sym u.2) (encoded f.char))
-    (λ l. subst (λ l. 0 < length l) (sym l.1) (omega arith)) f.character in
-    omega (arith, some, f.size)
-  where
-    encoded : (c : ℕ) → 0 < length (encode_utf8 c)
-    encoded c = grind (arith, nat_tests)
+    omega (arith, character_some f.char f.between f.character, f.size)
 
 -- no byte of a character is an LF, but of that one
 character_on_line : (c : ℕ) (b : List ℕ) → IsCharacter c b → list_all stays_on_line b ≡ true
@@ -132,12 +130,8 @@ character_on_line c b h = grind arith
 pub literal_on_line : (s : List ℕ) (k : TokenKind) (n : ℕ) → literal s ≡ Found k n
     → (list_all stays_on_line (take n s) ≡ true) × (slice_index (39 ∷ s) n ≡ 39)
 literal_on_line s k n h =
-    let f = literal_finds s k n h in
-    let w = f.between ++ 39 ∷ [] in
-    let whole : s ≡ w ++ drop n s = f.bytes ∙ sym (append_assoc f.between (39 ∷ []) (drop n s)) in
-    let size : length w ≡ n = length-append f.between (39 ∷ []) ∙ sym f.size in
-    let front : take n s ≡ w = ap (take n) whole ∙ take_at w (drop n s) n size in (
-      ap (list_all stays_on_line) front ∙ list_all-append stays_on_line f.between (39 ∷ [])
+    let f = literal_finds s k n h in (
+      ap (list_all stays_on_line) (finds_front s k n f) ∙ list_all-append stays_on_line f.between (39 ∷ [])
           ∙ ap (λ b. b && true) (character_on_line f.char f.between f.character),
       ap (slice_index (39 ∷ s)) (f.size ∙ add-one (length f.between))
           ∙ ap (λ s. slice_index s (length f.between)) f.bytes
@@ -296,14 +290,10 @@ unfinished_literal s u = go (literal s) refl
     same h = sym (literal_stable s u.more h) ∙ found
 
     long : literal s ≢ Unfinished → ⊥
-    long h = omega (
-      arith,
-      literal_fits s _ _ (same h),
-      ap length whole,
-      length-append s u.more,
-      length-append u.quoted.between (39 ∷ []),
-      u.some,
-    )
+    long h =
+        let few = literal_fits s _ _ (same h) in
+        let more = length-append s u.more in
+        omega (arith, ap length whole, length-append u.quoted.between (39 ∷ []), u.some)
 
     go : (f : Front) → literal s ≡ f → literal s ≡ Unfinished
     go Unfinished e = e

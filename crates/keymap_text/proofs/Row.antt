@@ -121,9 +121,14 @@ cell_part ts t slot i e c (cs, is, fits, lt, l, cells) h =
     elim (cases_eq i 7) [
       | inl k ↦ rw (eq-eqb i 7 k)
           (cs ++ t ∷ [], whole, fits, long, rw (set_last e.cells i c (omega (arith, l, k))) more)
-      | inr k ↦ rw (ne_eqb i 7 k)
-          (cs ++ t ∷ [], whole, fits, omega (arith, lt, k), long,
-          rw (take_more_set e.cells i c (omega (arith, l, lt))) more)
+      | inr k ↦ rw (ne_eqb i 7 k) (
+        cs ++ t ∷ [],
+        whole,
+        fits,
+        omega (arith, lt, k),
+        long,
+        rw (take_more_set e.cells i c (omega (arith, l, lt))) more,
+      )
     ]
 
 -- a pair ends

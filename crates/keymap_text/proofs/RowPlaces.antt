@@ -112,14 +112,9 @@ row_begins : {us : List Item} {d : Definition} → Defines us d → (a ts : List
 row_begins (of_key {slot = slot} {e = e} {ts = us} l eight cells) a ts n h =
     let rest = us ++ Value (Letter e.flag) ∷ [] in
     let b : Begins a (Value (Number slot)) rest = begins_with a (Value (Number slot)) rest h in
-    let nine : 9 ≡ length b.rest =
-    omega (
-      arith,
-      as_many b.rest rest b.others,
-      length-append us (Value (Letter e.flag) ∷ []),
-      count_cells cells,
-      eight,
-    ) in
+    let many = as_many b.rest rest b.others in
+    let size = length-append us (Value (Letter e.flag) ∷ []) in
+    let nine : 9 ≡ length b.rest = omega (arith, count_cells cells) in
     let place : n + 1 + length b.rest ≡ n + length a = omega (arith, ap length b.whole) in
     ap (λ a. begun 0 n (a ++ ts)) b.whole
     ∙ starts n b.front (b.rest ++ ts) (Slot slot) (not_open b.front.kind b.front.bytes (Number slot) b.is)

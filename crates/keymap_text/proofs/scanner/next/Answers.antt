@@ -1,4 +1,4 @@
-use Rattle.keymap_text.proofs.Common.{◌+◌, refl, sym, ◌∙◌, ap, arith, length-take-le, Found}
+use Rattle.keymap_text.proofs.Common.{◌+◌, refl, sym, ◌∙◌, ap, arith, length-take-le, Found, ◌≤◌, length}
 use Rattle.keymap_text.proofs.Scanning.{takes_token, takes_fault}
 use Rattle.keymap_text.proofs.InFront.{front_fits}
 use Rattle.keymap_text.proofs.Tails.{open_word, open_quote, found_here, refused_here}
@@ -13,11 +13,8 @@ returns-then-not-is_whole-clause-open g c = λ _.
 pub item_of-requires : goal.item_of-requires
 item_of-requires g c = λ e.
     let short = (front_fits _ _ c.in-Found.kind c.in-Found.n (sym c.in-Found.ensures.value)).short e in
-    omega (
-      arith,
-      short,
-      length-take-le (c.in-Found.n + 1) c.args.rest.now (omega (arith, c.in-Found.ensures.fits, c.requires.some)),
-    )
+    let few : c.in-Found.n + 1 ≤ length c.args.rest.now = omega (arith, c.in-Found.ensures.fits, c.requires.some) in
+    omega (arith, length-take-le (c.in-Found.n + 1) c.args.rest.now few)
 
 pub returns-in-Ok-clause-takes : goal.returns-in-Ok-clause-takes
 returns-in-Ok-clause-takes g c =

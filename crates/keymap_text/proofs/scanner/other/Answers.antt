@@ -19,12 +19,8 @@ returns-then-n-rest-clause-takes g c =
 pub returns-then-n-rest-clause-open : goal.returns-then-n-rest-clause-open
 returns-then-n-rest-clause-open g c = λ z.
     let zero = ok_is c.line_len-n.result 0 z in
-    absurd (omega (
-      arith,
-      zero,
-      comment_some c.args.rest.now c.requires.some c.if-rest-ne35.false,
-      c.line_len-n.ensures.value,
-    ))
+    let some = comment_some c.args.rest.now c.requires.some c.if-rest-ne35.false in
+    absurd (omega (arith, c.line_len-n.ensures.value))
 
 pub returns-else-n-rest-clause-open : goal.returns-else-n-rest-clause-open
 returns-else-n-rest-clause-open g c = λ _.

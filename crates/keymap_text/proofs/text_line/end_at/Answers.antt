@@ -19,9 +19,5 @@ returns-else-next-starts-clause-value c =
     let e = c.line_index-next.ensures in
     let k : length ss - 1 ≡ i = omega (arith, c.if-next-starts.false, e.inside) in
     let last = ap (λ k. line_end b (get_or ss k 0)) k in
-    omega (
-      arith,
-      last,
-      c.requires.starts.last,
-      end_of_place b ss i c.args.place c.requires.starts e.inside e.begins e.next c.requires.place,
-    )
+    let there = end_of_place b ss i c.args.place c.requires.starts e.inside e.begins e.next c.requires.place in
+    omega (arith, c.requires.starts.last)

@@ -35,12 +35,5 @@ returns c =
     let b = c.args.text.now in
     let k = length l.starts.items - 1 in
     let each = l.invariant.starts.each k (omega (arith, l.invariant.starts.some)) in
-    record {
-      lines = l.invariant.starts;
-      last = omega (
-        arith,
-        l.invariant.end,
-        c.loop-end-test.false,
-        end_within b (k + 1) (get_or l.starts.items k 0) each,
-      );
-    }
+    let within = end_within b (k + 1) (get_or l.starts.items k 0) each in
+    record { lines = l.invariant.starts; last = omega (arith, l.invariant.end, c.loop-end-test.false) }

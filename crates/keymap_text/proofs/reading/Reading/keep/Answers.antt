@@ -6,11 +6,8 @@ use Rattle.keymap_text.proofs.Tails.{open_few}
 use Rattle.keymap_text.proofs.reading.Reading.keep.Goals as goal
 
 pub extend-requires : goal.extend-requires
-extend-requires c = omega (
-  arith,
-  open_few c.args.tail.now c.requires.tail c.if-tail-eq35.false,
-  ap length c.requires.none,
-)
+extend-requires c =
+    omega (arith, open_few c.args.tail.now c.requires.tail c.if-tail-eq35.false, ap length c.requires.none)
 
 pub returns-then-is_empty : goal.returns-then-is_empty
 returns-then-is_empty c =

@@ -9,11 +9,8 @@ use Rattle.keymap_text.proofs.Tails.{open_few, open_longer, open_stands}
 use Rattle.keymap_text.proofs.reading.Reading.token.Goals as goal
 
 pub few-few-requires : goal.few-few-requires
-few-few-requires c = omega (
-  arith,
-  c.len-had.ensures.value,
-  open_few c.args.self.now.pending.items c.requires.reader.tail c.requires.token,
-)
+few-few-requires c =
+    omega (arith, open_few c.args.self.now.pending.items c.requires.reader.tail c.requires.token)
 
 pub next-requires-clause-stands : goal.next-requires-clause-stands
 next-requires-clause-stands c =
@@ -40,6 +37,8 @@ returns-in-Ok-eq0 c =
     let bytes = c.as_slice.result.now in
     let joint = c.as_slice.ensures.value ∙ c.extend.ensures in
     let tail = c.in-Ok-eq0.ensures.open (ap Ok c.in-Ok-eq0.field-0-test) in
+    let long = ap length joint in
+    let more = length-append r.pending.items (take few piece) in
     let size = length-take-le few piece c.few-few.ensures.inside in
     let short = open_few bytes tail (λ e. c.requires.token (sym (ap (λ (t : List ℕ). get_or t 0 0) joint
     ∙ first_same r.pending.items _ c.requires.some) ∙ e)) in
@@ -55,15 +54,7 @@ returns-in-Ok-eq0 c =
             tail = subst IsOpen c.as_slice.ensures.value tail;
             low = c.requires.reader.low;
           });
-      clear = λ l. absurd (omega (
-        arith,
-        short,
-        c.few-few.ensures.enough l,
-        c.len-had.ensures.value,
-        ap length joint,
-        length-append r.pending.items (take few piece),
-        size,
-      ));
+      clear = λ l. absurd (omega (arith, c.few-few.ensures.enough l));
     }
 
 pub returns-in-Ok : goal.returns-in-Ok
@@ -82,16 +73,10 @@ returns-in-Ok c =
     let longer = open_longer bytes r.pending.items (take few piece) found.0 n joint c.requires.some
     c.requires.reader.tail c.requires.token found.1 some in
     let has : had ≤ n = omega (arith, longer, c.len-had.ensures.value) in
-    let inside : k ≤ length piece =
-    omega (
-      arith,
-      c.in-Ok.ensures.leaves.0,
-      ap length joint,
-      length-append r.pending.items (take few piece),
-      c.len-had.ensures.value,
-      length-take-le few piece c.few-few.ensures.inside,
-      c.few-few.ensures.inside,
-    ) in
+    let long = ap length joint in
+    let more = length-append r.pending.items (take few piece) in
+    let fed = length-take-le few piece c.few-few.ensures.inside in
+    let inside : k ≤ length piece = omega (arith, c.in-Ok.ensures.leaves.0, c.few-few.ensures.inside) in
     let size = length-take-le k piece inside in
     let pending = ap (λ (s : Reading). s.pending.items) c.pass.ensures ∙ c.clear.ensures in
     let offset : new.offset ≡ r.offset + had + length (take k piece) = ap (λ (s : Reading). s.offset) c.pass.ensures in

@@ -110,8 +110,7 @@ lexes_hex c ds z l h e =
 -- a character above 127 is printed as a number
 hex_text : (c : ℕ) → 127 < c → character_text c ≡ 48 ∷ 120 ∷ code_digits c
 unfolding character_text
-hex_text c h =
-    rw (le-ltb c 32 (omega (arith, h)), ne_eqb c 127 (omega (arith, h)), le-ltb c 127 (omega (arith, h))) refl
+hex_text c h = grind (arith, le-ltb, ne_eqb)
 
 -- the digits of a number, from the fourth, fifth or sixth on
 abbrev pub four : ℕ → List ℕ

@@ -22,8 +22,7 @@ leading_le p xs = prefix_len-le-length p xs
 -- bytes that all pass, and others behind them
 pub leading_append : (p : ℕ → Bool) (w y : List ℕ) → leading p w ≡ length w
     → leading p (w ++ y) ≡ length w + leading p y
-leading_append p w y h =
-    prefix_len-append p w y ∙ ap (λ b. cond b (length w + leading p y) (leading p w)) (eq-eqb _ _ h)
+leading_append p w y h = grind (arith, eq-eqb, prefix_len-append)
 
 -- a run that ends before the bytes do
 pub leading_short : (p : ℕ → Bool) (b x : List ℕ) → leading p b < length b → leading p (b ++ x) ≡ leading p b

@@ -152,8 +152,7 @@ chosen false l q r h k = k h
 
 -- whether a lone byte is quoted, two bytes tell
 lone_same : (b c : ℕ) (s x : List ℕ) → is_lone (b ∷ c ∷ (s ++ x)) ≡ is_lone (b ∷ c ∷ s)
-lone_same b c s x =
-    rw (lt-ltb 1 (length (b ∷ c ∷ (s ++ x))) (omega arith), lt-ltb 1 (length (b ∷ c ∷ s)) (omega arith)) refl
+lone_same b c s x = grind (arith, lt-ltb)
 
 -- what is not unfinished stays whatever follows
 pub literal_stable : (s x : List ℕ) → literal s ≢ Unfinished → literal (s ++ x) ≡ literal s

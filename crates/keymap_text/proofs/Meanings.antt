@@ -1,13 +1,13 @@
 -- Each row of the table of names says what its name means.
-use Rattle.keymap_text.proofs.Common.{rules, ◌≡◌, ℕ, suc, ◌+◌, ◌*◌, ◌<◌, true, false, cond, ◌&&◌, List, [], ◌∷◌, length}
-use Rattle.keymap_text.proofs.Common.{take, drop, get_or, map, fold, All, refl, sym, ◌∙◌, ap, ap₂, arith, nat_lt}
-use Rattle.keymap_text.proofs.Common.{nat_le, Option, Some, None, IfSome, codes, bytes_eq, ◌≤◌, length-take, take_all}
-use Rattle.keymap_text.proofs.Common.{get_or-map, take-map, drop-map, length-map, lt-ltb, nat_tests, list_all}
-use Rattle.keymap_text.proofs.Common.{to_ascii_lowercase, digit_value, named_of, Number, Act, Name, Meaning, NAMES}
-use Rattle.keymap_text.proofs.Common.{pack, unpacked, KeyMeans, IsTrueName, function_name, screen_name, name_key}
-use Rattle.keymap_text.proofs.Common.{ArePlaced, along, leading, is_word, from_le_bytes, w64, meaning, sense_meaning}
-use Rattle.keymap_text.proofs.Common.{letters, meaning_by_names, named, table, digits_of, number, number_after}
-use Rattle.keymap_text.proofs.Common.{is_digit, of_action}
+use Rattle.keymap_text.proofs.Common.{rules, ◌≡◌, ℕ, suc, ◌+◌, ◌*◌, ◌<◌, true, false, ◌&&◌, List, [], ◌∷◌, length, take}
+use Rattle.keymap_text.proofs.Common.{drop, get_or, map, fold, All, refl, sym, ◌∙◌, ap, ap₂, arith, nat_lt, nat_le}
+use Rattle.keymap_text.proofs.Common.{Option, Some, None, IfSome, codes, ◌≤◌, length-take, take_all, get_or-map}
+use Rattle.keymap_text.proofs.Common.{take-map, drop-map, length-map, lt-ltb, nat_tests, list_all, to_ascii_lowercase}
+use Rattle.keymap_text.proofs.Common.{digit_value, named_of, Number, Act, Name, Meaning, NAMES, pack, unpacked}
+use Rattle.keymap_text.proofs.Common.{KeyMeans, IsTrueName, function_name, screen_name, name_key, ArePlaced, along}
+use Rattle.keymap_text.proofs.Common.{leading, is_word, from_le_bytes, w64, meaning, sense_meaning, letters}
+use Rattle.keymap_text.proofs.Common.{meaning_by_names, named, table, digits_of, number, number_after, is_digit}
+use Rattle.keymap_text.proofs.Common.{of_action}
 use Rattle.std.proofs.lemmas.Str.Ascii.{lowercase-lowercase}
 use Rattle.keymap_core.specs.declared.named.Named.{Named}
 use Rattle.keymap_text.specs.Inner.Keys.{place_of}
@@ -79,8 +79,7 @@ meaning_lower w = search (rules, after_lower, digits_lower, idem, meaning_picks,
 -- numbers
 pub decimal_meaning : (w : List ℕ) (n : ℕ) → Some n ≡ digits_of 10 w → Number n ≡ meaning w
 unfolding pick
-decimal_meaning w n h =
-    ap (λ o. pick o (number_after (codes "0x") 16 w) (named table w) (named_of w)) h ∙ sym (meaning_picks w)
+decimal_meaning w n h = grind (arith, meaning_picks)
 
 -- a word with 0x is no decimal number
 not_decimal : (b : ℕ) (w : List ℕ) → nat_lt (digit_value b) 10 ≡ false → digits_of 10 (48 ∷ b ∷ w) ≡ None
@@ -94,8 +93,7 @@ some_length n = grind (arith, nat_tests)
 -- the digits behind 0x
 behind_prefix : (b : ℕ) (w : List ℕ) → to_ascii_lowercase b ≡ 120
     → number_after (codes "0x") 16 (48 ∷ b ∷ w) ≡ digits_of 16 w
-behind_prefix b w l =
-    ap₂ (λ m c. cond (m && bytes_eq (codes "0x") (48 ∷ c ∷ [])) (digits_of 16 w) None) (some_length (length w)) l
+behind_prefix b w l = grind (arith, some_length)
 
 -- they spell the number
 pub hexadecimal : (b n : ℕ) (w : List ℕ) → nat_lt (digit_value b) 10 ≡ false → to_ascii_lowercase b ≡ 120

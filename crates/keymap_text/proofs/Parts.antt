@@ -39,8 +39,7 @@ in_pairs (one_pair {t = t} {u = u} {ts = ts} {ps = ps} h z k r) (suc j) l p =
     (in_pairs r j (omega (arith, l)) p)
 
 pub slot_tokens : (ts : List Item) (slot : ℕ) (e : Entry) → Defines ts (KeyDefinition slot e) → length ts ≡ 10
-slot_tokens _ slot e (of_key {ts = ts} l eight cells) =
-    omega (arith, count_cells cells, eight, length-append ts (Value (Letter e.flag) ∷ []))
+slot_tokens _ slot e (of_key {ts = ts} l eight cells) = grind (arith, count_cells, length-append)
 
 pub cell_at : (ts : List Item) (slot : ℕ) (e : Entry) → Defines ts (KeyDefinition slot e) → (column : ℕ) → column < 8
     → (t : Item) (c : Cell) → cell (get_or ts (column + 1) t) ≡ Ok (get_or e.cells column c)

@@ -1,8 +1,8 @@
 -- The tokens of a text are those of a longer one that begins with it, but for what stands at its end. So an early fault
 -- stays.
 use Rattle.keymap_text.proofs.Common.{◌≡◌, ℕ, zero, suc, ◌+◌, ◌<◌, ◌≤◌, inl, inr, ⊎_elim, ◌&&◌, Bool, true, false, not}
-use Rattle.keymap_text.proofs.Common.{List, [], ◌∷◌, ◌++◌, length, refl, sym, ◌∙◌, ap, ap₂, subst, arith, Result, Ok}
-use Rattle.keymap_text.proofs.Common.{Err, slice_index_or, true≢false, take-append-le, drop-append-le, TextFaultKind}
+use Rattle.keymap_text.proofs.Common.{List, [], ◌∷◌, ◌++◌, length, refl, sym, ◌∙◌, ap, ap₂, arith, Result, Ok, Err}
+use Rattle.keymap_text.proofs.Common.{slice_index_or, true≢false, take-append-le, drop-append-le, TextFaultKind}
 use Rattle.keymap_text.proofs.Common.{EndInside, Front, Skipped, Found, Refused, Unfinished, front_of, tokens_after}
 use Rattle.keymap_text.proofs.Common.{TokenValue, Tokens, Ends, Stops, Then, is_empty, list_of, ending_of_tokens}
 use Rattle.keymap_text.proofs.Common.{tokens, ending, IsSameToken, is_settled, is_end_inside, is_word_kind, item}
@@ -26,8 +26,7 @@ data Continues : Tokens → Tokens → Type 0 where
 
 -- by equal tokens
 move : {ts ts' us us' : Tokens} → ts ≡ ts' → us ≡ us' → Continues ts' us' → Continues ts us
-move {ts = ts} {ts' = ts'} {us = us} {us' = us'} e f h =
-    subst (λ ts. Continues ts us) (sym e) (subst (λ us. Continues ts' us) (sym f) h)
+move {ts = ts} {ts' = ts'} {us = us} {us' = us'} e f h = grind arith
 
 -- the tokens of b go on as those of b and x
 Keeps : List ℕ → List ℕ → Type 0

@@ -23,8 +23,7 @@ use Rattle.keymap_core.specs.declared.entry.Cell.TheVariants as cells
 
 -- each character prints
 pub prints_character : (c : ℕ) → scalar c ≡ true → PrintsCharacter c
-prints_character c s =
-    grind (arith, cases_lt, eq-or-lt_of_le, prints_rules, scalar_cases)
+prints_character c s = grind (arith, cases_lt, eq-or-lt_of_le, prints_rules, scalar_cases)
 
 -- a character is a cell
 cell_of_character : (t : Item) (c : ℕ) → character t ≡ Ok c → cell t ≡ Ok (cells.Char c)

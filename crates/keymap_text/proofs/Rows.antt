@@ -1,6 +1,6 @@
 -- What taking cells, the lock letter and the pair of an accent makes of the rest of a text.
 use Rattle.keymap_text.proofs.Common.{◌≡◌, ◌≢◌, ℕ, ◌+◌, ◌-◌, ◌<◌, ◌≤◌, ◌==◌, cond, List, length, take, drop, get_or}
-use Rattle.keymap_text.proofs.Common.{refl, sym, ap, arith, Ok, Err, eqb-true, eq-eqb, ne_eqb, AccentValue, MapValue}
+use Rattle.keymap_text.proofs.Common.{refl, ap, arith, Ok, Err, eqb-true, eq-eqb, ne_eqb, AccentValue, MapValue}
 use Rattle.keymap_text.proofs.Common.{with_entry, Entry, Cell, LockFlag, TextFaultKind, Item, Open, Close, cell, lock}
 use Rattle.keymap_text.proofs.Common.{leading, is_space, GrammarPlace, at, accept, after_cell, with_cell, with_pair}
 use Rattle.keymap_text.proofs.Common.{◌>>=◌, Advances, Refuses, Fronts, FrontsBehind, FrontsCharacter}
@@ -17,13 +17,11 @@ cell_place slot i e = cond (i == 8) (spec.LockAt slot e) (spec.CellAt slot i e)
 
 -- before the eighth cell was taken a cell is wanted
 pub is_cell : (slot i : ℕ) (e : Entry) → i < 8 → spec.CellAt slot i e ≡ cell_place slot i e
-is_cell slot i e l =
-    sym (ap (λ b. cond b (spec.LockAt slot e) (spec.CellAt slot i e)) (ne_eqb i 8 (λ k. omega (arith, k, l))))
+is_cell slot i e l = grind (arith, ne_eqb)
 
 -- then the lock letter
 pub is_lock : (slot i : ℕ) (e : Entry) → i ≡ 8 → spec.LockAt slot e ≡ cell_place slot i e
-is_lock slot i e h =
-    sym (ap (λ b. cond b (spec.LockAt slot e) (spec.CellAt slot i e)) (eq-eqb i 8 h))
+is_lock slot i e h = grind (arith, eq-eqb)
 
 -- what is wanted behind a cell
 pub next_place : (slot i : ℕ) (e : Entry) → after_cell slot i e ≡ cell_place slot (i + 1) e

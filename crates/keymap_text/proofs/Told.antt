@@ -1,6 +1,6 @@
 -- The words of a definition tell it.
-use Rattle.keymap_text.proofs.Common.{arith, ◌≡◌, ℕ, List, [], ◌++◌, refl, ◌∙◌, ap, append-nil, tokens_after}
-use Rattle.keymap_text.proofs.Common.{Definition, KeyDefinition, AccentDefinition, Defines}
+use Rattle.keymap_text.proofs.Common.{arith, ◌≡◌, ℕ, List, [], ◌++◌, append-nil, tokens_after, Definition}
+use Rattle.keymap_text.proofs.Common.{KeyDefinition, AccentDefinition, Defines}
 use Rattle.keymap_text.specs.declared.words.Item.{Item}
 use Rattle.keymap_text.specs.Definitions.{IsDefinition, definition_words}
 use Rattle.keymap_text.proofs.Lexed.{Lexes, NoWord}
@@ -18,8 +18,7 @@ are_tokens (AccentDefinition i a) (low, is) =
 
 -- the tokens of a text that is these and no more
 all_of : (w : List ℕ) (ts : List Item) → Lexes NoWord w ts → items_of (tokens_after 0 0 (w ++ [])) ≡ ts
-all_of w ts l =
-    l.items 0 [] refl ∙ ap (λ (r : List Item). ts ++ r) (no_items _) ∙ append-nil ts
+all_of w ts l = grind (arith, append-nil, no_items)
 
 pub words_tell : (d e : Definition) → IsDefinition d → IsDefinition e → definition_words d ≡ definition_words e → d ≡ e
 words_tell d e p q h = grind (arith, all_of, are_tokens, defined_is)

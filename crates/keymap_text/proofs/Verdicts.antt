@@ -1,7 +1,7 @@
 -- The verdict of the reader's machine is what the definitions say.
 use Rattle.keymap_text.proofs.Common.{take-append-le, ◌≡◌, ◌⊎◌, inl, inr, ℕ, Bool, true, false, cond, zero, suc, ◌+◌}
-use Rattle.keymap_text.proofs.Common.{◌≤◌, ◌==◌, length, take, drop, arith, count_by, List, [], ◌∷◌, ◌++◌, map, refl}
-use Rattle.keymap_text.proofs.Common.{sym, ◌∙◌, ap, subst, Result, Ok, Err, Option, Some, None, TextFaultKind, Item}
+use Rattle.keymap_text.proofs.Common.{◌≤◌, length, take, drop, arith, count_by, List, [], ◌∷◌, ◌++◌, map, refl, sym}
+use Rattle.keymap_text.proofs.Common.{◌∙◌, ap, subst, Result, Ok, Err, Option, Some, None, TextFaultKind, Item}
 use Rattle.keymap_text.proofs.Common.{TextFault, TokenValue, Tokens, Ends, Stops, Then, tokens_after, front_of, Front}
 use Rattle.keymap_text.proofs.Common.{Skipped, Refused, Unfinished, token_before, MapValue, GrammarState, accept}
 use Rattle.keymap_text.proofs.Common.{at_end, start, empty_map, RowPlace, AtDefinition, may_end, Definition, IsRow}
@@ -267,8 +267,7 @@ fault_within text f o e h = omega (arith, fits text start 0 0 f o e h)
 
 -- more bytes behind change no line before
 pub line_stays : (text more : List ℕ) (o : ℕ) → o ≤ length text → line text o ≡ line (text ++ more) o
-line_stays text more o h =
-    ap (λ (bytes : List ℕ). 1 + count_by (λ c. c == 10) bytes) (sym (take-append-le o text more h))
+line_stays text more o h = grind (arith, count_by, take-append-le)
 
 -- an early fault stays in every text that begins so
 pub early_stays_in : (text more : List ℕ) (f : TextFault) → Early text f → Early (text ++ more) f

@@ -116,41 +116,18 @@ hex_text c h = grind (arith, le-ltb, ne_eqb)
 abbrev pub four : ℕ → List ℕ
 four c = c / 4096 % 16 ∷ c / 256 % 16 ∷ c / 16 % 16 ∷ c / 1 % 16 ∷ []
 
--- the last digit, and those before it
-digit_1 : (c : ℕ) → c / 16 * 16 + c / 1 % 16 ≡ c
-digit_1 c = omega arith
-
--- the same of the second digit from the right
-digit_16 : (c : ℕ) → c / 256 * 16 + c / 16 % 16 ≡ c / 16
-digit_16 c = omega arith
-
--- of the third
-digit_256 : (c : ℕ) → c / 4096 * 16 + c / 256 % 16 ≡ c / 256
-digit_256 c = omega arith
-
--- of the fourth
-digit_4096 : (c : ℕ) → c / 65536 * 16 + c / 4096 % 16 ≡ c / 4096
-digit_4096 c = omega arith
-
--- of the fifth
+-- the fifth digit from the right
 digit_65536 : (c : ℕ) → c / 1048576 * 16 + c / 65536 % 16 ≡ c / 65536
 digit_65536 c = omega arith
 
--- a digit is below 16
-is_mod : (n : ℕ) → n % 16 < 16
-is_mod n = omega arith
-
--- a number below 16 is its digit
-same_below : (n : ℕ) → n < 16 → n % 16 ≡ n
-same_below n h = omega arith
-
 -- four digits behind a number
 four_of : (c n : ℕ) → n ≡ c / 65536 → horner n (four c) ≡ c
-four_of c n e = omega (arith, e, digit_1 c, digit_16 c, digit_256 c, digit_4096 c)
-
--- four digits are digits
-small_four : (c : ℕ) → AreSmall (four c)
-small_four c = (is_mod (c / 4096), (is_mod (c / 256), (is_mod (c / 16), (is_mod (c / 1), tt))))
+four_of c n e =
+    let first : c / 65536 * 16 + c / 4096 % 16 ≡ c / 4096 = omega arith in
+    let second : c / 4096 * 16 + c / 256 % 16 ≡ c / 256 = omega arith in
+    let third : c / 256 * 16 + c / 16 % 16 ≡ c / 16 = omega arith in
+    let last : c / 16 * 16 + c / 1 % 16 ≡ c = omega arith in
+    omega (arith, e)
 
 -- a number of four digits is printed with them
 hex_four : (c : ℕ) → c < 65536 → code_digits c ≡ map digit_char (four c)
@@ -179,20 +156,19 @@ prints_digits c ds h s e z l k n = record {
 -- a number of four digits
 pub prints_four : (c : ℕ) → 127 < c → c < 65536 → scalar c ≡ true → PrintsCharacter c
 prints_four c h k s =
-    prints_digits c (four c) h s (hex_four c k) (omega arith) (omega arith) (small_four c) (four_of c 0 (omega arith))
+    prints_digits c (four c) h s (hex_four c k) (omega arith) (omega arith) (omega arith) (four_of c 0 (omega arith))
 
 -- a number of five digits
 pub prints_five : (c : ℕ) → 65536 ≤ c → c < 1048576 → scalar c ≡ true → PrintsCharacter c
 prints_five c h k s =
     prints_digits c (c / 65536 % 16 ∷ four c) (omega arith) s (hex_five c h k) (omega arith) (omega arith)
-    (is_mod (c / 65536), small_four c) (four_of c (0 * 16 + c / 65536 % 16) (omega (arith, digit_65536 c)))
+    (omega arith) (four_of c (0 * 16 + c / 65536 % 16) (omega (arith, digit_65536 c)))
 
 -- a number of six digits
 pub prints_six : (c : ℕ) → 1048576 ≤ c → c < 16777216 → scalar c ≡ true → PrintsCharacter c
 prints_six c h k s =
     prints_digits c (c / 1048576 % 16 ∷ c / 65536 % 16 ∷ four c) (omega arith) s (hex_six c h) (omega arith)
-    (omega arith) (is_mod (c / 1048576), (is_mod (c / 65536), small_four c))
-    (four_of c ((0 * 16 + c / 1048576 % 16) * 16 + c / 65536 % 16)
-    (omega (arith, digit_65536 c, same_below (c / 1048576) (omega arith))))
+    (omega arith) (omega arith) (four_of c ((0 * 16 + c / 1048576 % 16) * 16 + c / 65536 % 16)
+    (let top : c / 1048576 % 16 ≡ c / 1048576 = omega arith in omega (arith, digit_65536 c)))
 
 pub ruleset prints_rules = (prints_control, prints_delete, prints_quoted, prints_four, prints_five, prints_six)

@@ -37,14 +37,13 @@ fed_none old r h = record { text = []; consumed = Consumes-nil old; size = refl;
 pub fed_more : {a b c : Option (List ℕ)} {r r' : Progress} {taken n : ℕ} → (buffer : List ℕ) → (fed : IsFed a b r taken)
     → Consumes b c (take n buffer) → n ≤ length buffer → FedAfter (Ok tt) r' (fed.text ++ take n buffer)
     → IsFed a c r' (taken + n)
-fed_more {a = a} {b = b} {c = c} {n = n} buffer fed h l k = grind (arith, Consumes-trans, length-append, length-take-le)
+fed_more buffer fed h l k = grind (arith, Consumes-trans, length-append, length-take-le)
 
 -- the piece has an early fault
 pub fed_early : {a b c : Option (List ℕ)} {r : Progress} {taken n : ℕ} {f : TextFault} → (r' : Progress)
     → (buffer : List ℕ) → (fed : IsFed a b r taken) → Consumes b c (take n buffer) → n ≤ length buffer
     → taken + n ≤ limit → FedAfter (Err f) r' (fed.text ++ take n buffer) → ReadsMap a c (Err (errors.Fault f))
-fed_early {a = a} {b = b} {c = c} {n = n} r' buffer fed h l few k =
-    grind (arith, Consumes-trans, length-append, length-take-le)
+fed_early r' buffer fed h l few k = grind (arith, Consumes-trans, length-append, length-take-le)
 
 -- the whole text was read
 concluded : (a c : Option (List ℕ)) (result : Result MapValue TextError) (text : List ℕ) → Concludes result text
@@ -62,14 +61,13 @@ none_taken b c n buffer z h = subst (λ (n : ℕ). Consumes b c (take n buffer))
 pub fed_whole : {a b : Option (List ℕ)} {r : Progress} {taken n : ℕ} → (c : Option (List ℕ)) → (buffer : List ℕ)
     → (result : Result MapValue TextError) → (fed : IsFed a b r taken) → taken ≤ limit → n ≡ 0
     → Consumes b c (take n buffer) → IsAtEnd c → Concludes result fed.text → ReadsMap a c result
-fed_whole {a = a} {b = b} {n = n} c buffer result fed few z h e k =
-    grind (arith, Consumes-trans, append-nil, concluded, none_taken)
+fed_whole c buffer result fed few z h e k = grind (arith, Consumes-trans, append-nil, concluded, none_taken)
 
 -- the device fails after these bytes
 pub fed_fails : {a b : Option (List ℕ)} {r : Progress} {taken : ℕ} → (c : Option (List ℕ)) → (offset : ℕ)
     → (fed : IsFed a b r taken) → taken ≡ offset → taken ≤ limit → Keeps b c
     → FailsInside a c (record { offset = offset; kind = kinds.Device })
-fed_fails {a = a} {b = b} c offset fed e few k = grind (arith, Consumes-kept)
+fed_fails c offset fed e few k = grind (arith, Consumes-kept)
 
 -- a buffer of one byte that is full
 one_byte : (n : ℕ) (buffer : List ℕ) → 0 < n → n ≤ length buffer → length buffer ≡ 1
@@ -83,13 +81,13 @@ one_byte (suc (suc n)) (c ∷ buffer) z l s = absurd (omega (arith, l, s))
 pub fed_past : {a b : Option (List ℕ)} {r : Progress} {taken n : ℕ} → (c : Option (List ℕ)) → (buffer : List ℕ)
     → (fed : IsFed a b r taken) → taken ≡ limit → 0 < n → n ≤ length buffer → length buffer ≡ 1
     → Consumes b c (take n buffer) → TextGoesPast a c (record { offset = limit; kind = kinds.Endless })
-fed_past {a = a} {b = b} {n = n} c buffer fed full z l s h = grind (arith, Consumes-trans, one_byte)
+fed_past c buffer fed full z l s h = grind (arith, Consumes-trans, one_byte)
 
 -- nothing is read after a fault
 pub at_once_more : {a b c : Option (List ℕ)} {r : Progress} {taken n : ℕ} → (f : TextFault) → (buffer : List ℕ)
     → (fed : IsFed a b r taken) → Consumes b c (take n buffer) → n ≤ length buffer → n ≤ 512
     → StopsAtOnce a c (errors.Fault f)
-at_once_more {a = a} {b = b} {c = c} {n = n} f buffer fed h l few = grind (arith, Consumes-trans, length-take-le)
+at_once_more f buffer fed h l few = grind (arith, Consumes-trans, length-take-le)
 
 -- nothing was read after the end
 pub at_once_whole : {a b : Option (List ℕ)} {r : Progress} {taken n : ℕ} → (c : Option (List ℕ)) → (buffer : List ℕ)

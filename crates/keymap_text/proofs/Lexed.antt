@@ -32,7 +32,7 @@ lexes_none P = grind (arith, add-zero)
 -- tokens of two texts, one after the other
 pub lexes_both : {P Q : List ℕ → Type 0} {t u : List ℕ} {is js : List Item} → Lexes P t is → Lexes Q u js
     → ((y : List ℕ) → Q y → P (u ++ y)) → Lexes Q (t ++ u) (is ++ js)
-lexes_both {t = t} {u = u} {is = is} {js = js} a b s = grind (arith, append_assoc, length-append)
+lexes_both a b s = grind (arith, append_assoc, length-append)
 
 -- a blank is no token
 pub lexes_blank : (P : List ℕ → Type 0) (c : ℕ) → is_blank c ≡ true → Lexes P (c ∷ []) []

@@ -40,4 +40,3 @@ pub mod InForce
 pub mod WantedPlace
 pub mod OneRow
 pub mod TokenPlaces
-pub mod Told

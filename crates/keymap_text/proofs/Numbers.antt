@@ -100,10 +100,9 @@ more_fits {base = base} {i = i} {n = n} {d = d} most s b e l =
 
 pub spells_more : {base : ℕ} {w : List ℕ} {i n d : ℕ} → i < length w → base ≤ 16 → d ≡ digit_value (get_or w i 0)
     → d < base → Spells base w i n → Spells base w (i + 1) (n * base + d)
-spells_more {base = base} {w = w} {i = i} {n = n} {d = d} h b is e s =
-    grind (arith, bound_step, digits_more, number_more)
+spells_more h b is e s = grind (arith, bound_step, digits_more, number_more)
 
 -- all of them spell the number
 pub spells_all : {base : ℕ} {w : List ℕ} {i n : ℕ} → (length w == 0) ≡ false → length w ≤ i → Spells base w i n
     → Some n ≡ digits_of base w
-spells_all {base = base} {w = w} {i = i} some h s = grind (arith, digits_good, take_all)
+spells_all some h s = grind (arith, digits_good, take_all)

@@ -1,9 +1,8 @@
 -- Tokens are the rows of one list at most.
 use Rattle.keymap_text.proofs.Common.{◌≡◌, ℕ, ◌+◌, List, [], ◌∷◌, ◌++◌, length, map, refl, sym, ◌∙◌, ap, ap₂, arith}
-use Rattle.keymap_text.proofs.Common.{append-nil, Entry, Cell, LockFlag, Action, Number, Act, Letter, Item, Open, Close}
-use Rattle.keymap_text.proofs.Common.{Value, AccentValue, character, TokenValue, item_of, Definition, AreCells}
-use Rattle.keymap_text.proofs.Common.{no_cells, one_cell, ArePairs, no_pairs, one_pair, Defines, of_key, of_accent, Row}
-use Rattle.keymap_text.proofs.Common.{AreRows, no_row, one_row, places_after, same_Some}
+use Rattle.keymap_text.proofs.Common.{append-nil, Entry, Cell, Item, AccentValue, TokenValue, item_of, Definition}
+use Rattle.keymap_text.proofs.Common.{AreCells, no_cells, one_cell, ArePairs, no_pairs, one_pair, Defines, of_key}
+use Rattle.keymap_text.proofs.Common.{of_accent, Row, AreRows, no_row, one_row, places_after, same_Some}
 use Rattle.keymap_text.proofs.RowPlaces.{places_are}
 use Rattle.keymap_text.proofs.Leading.{same_head, same_tail}
 use Rattle.keymap_text.proofs.Row.{ok_is}
@@ -28,24 +27,9 @@ pairs_are no_pairs (one_pair h z k r) e = absurd (empty_more _ _ e)
 pairs_are (one_pair h z k r) no_pairs e = absurd (empty_more _ _ (sym e))
 pairs_are (one_pair {t = t} {u = u} {base = a} {result = b} {ts = ts} {ps = ps} h z k r)
     (one_pair {t = t'} {u = u'} {base = a'} {result = b'} {ts = ts'} {ps = ps'} h' z' k' r') e =
-    let one : t ∷ u ∷ Close ∷ ts ≡ t' ∷ u' ∷ Close ∷ ts' = same_tail Open Open _ _ e in
-    let two : u ∷ Close ∷ ts ≡ u' ∷ Close ∷ ts' = same_tail t t' _ _ one in
-    let rest : ts ≡ ts' = same_tail Close Close _ _ (same_tail u u' _ _ two) in
-    let base : a ≡ a' = ok_is a a' (sym h ∙ ap character (same_head t t' _ _ one) ∙ h') in
-    let result : b ≡ b' = ok_is b b' (sym k ∙ ap character (same_head u u' _ _ two) ∙ k') in
-    ap₂ (λ p ps. p ∷ ps) (ap₂ (λ a b. (a, b)) base result) (pairs_are r r' rest)
-
-no_number : (n : ℕ) (a : Action) → Value (Number n) ≡ Value (Act a) → ⊥
-no_number n a h = cc
-
-number_is : (n m : ℕ) → Value (Number n) ≡ Value (Number m) → n ≡ m
-number_is n m h = cc
-
-action_is : (a b : Action) → Value (Act a) ≡ Value (Act b) → a ≡ b
-action_is a b h = cc
-
-letter_is : (f g : LockFlag) → Value (Letter f) ≡ Value (Letter g) → f ≡ g
-letter_is f g h = cc
+    let rest : ts ≡ ts' = cc in
+    let more = pairs_are r r' rest in
+    cc
 
 entry_is : (e f : Entry) → e.cells ≡ f.cells → e.flag ≡ f.flag → e ≡ f
 entry_is e f h k = ap₂ (λ cells flag. record { cells = cells; flag = flag }) h k
@@ -57,14 +41,14 @@ accent_is a b h k = ap₂ (λ own pairs. record { own = own; pairs = pairs }) h 
 pub defined_is : {ts us : List Item} {d e : Definition} → Defines ts d → Defines us e → ts ≡ us → d ≡ e
 defined_is (of_key {slot = s} {e = e} {ts = ts} l eight cells)
     (of_key {slot = t} {e = f} {ts = us} l' eight' cells') h =
-    grind (arith, cells_are, entry_is, letter_is, number_is, same_head, same_tail)
+    grind (arith, cells_are, entry_is, same_head, same_tail)
 defined_is (of_key {slot = s} l eight cells) (of_accent name index own few pairs) h =
-    grind (arith, no_number, same_head)
+    grind (arith, same_head)
 defined_is (of_accent name index own few pairs) (of_key {slot = s} l eight cells) h =
-    grind (arith, no_number, same_head)
+    grind (arith, same_head)
 defined_is (of_accent {i = i} {a = a} {t = t} {ts = ts} name index own few pairs)
     (of_accent {i = j} {a = b} {t = u} {ts = us} name' index' own' few' pairs') h =
-    grind (arith, accent_is, action_is, ok_is, pairs_are, same_Some, same_head, same_tail)
+    grind (arith, accent_is, ok_is, pairs_are, same_Some, same_head, same_tail)
 
 -- two lists whose first parts are as long
 parts_are : {A : Type 0} (xs ys us vs : List A) → length xs ≡ length ys → xs ++ us ≡ ys ++ vs

@@ -26,7 +26,7 @@ data Continues : Tokens → Tokens → Type 0 where
 
 -- by equal tokens
 move : {ts ts' us us' : Tokens} → ts ≡ ts' → us ≡ us' → Continues ts' us' → Continues ts us
-move {ts = ts} {ts' = ts'} {us = us} {us' = us'} e f h = grind arith
+move e f h = grind arith
 
 -- the tokens of b go on as those of b and x
 Keeps : List ℕ → List ℕ → Type 0

@@ -17,7 +17,7 @@ use Rattle.keymap_core.specs.declared.entry.LockFlag.TheVariants as flags
 
 -- a blank in front changes nothing
 lexes_behind_blank : {P : List ℕ → Type 0} {t : List ℕ} {is : List Item} → Lexes P t is → Lexes P (32 ∷ t) is
-lexes_behind_blank {t = t} {is = is} a = grind (arith, split_blank)
+lexes_behind_blank a = grind (arith, split_blank)
 
 -- blanks begin with no letter or digit
 pad_first : (n : ℕ) (y : List ℕ) → leading is_word y ≡ 0 → leading is_word (replicate n 32 ++ y) ≡ 0

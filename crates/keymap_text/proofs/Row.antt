@@ -18,7 +18,7 @@ use Rattle.keymap_text.specs.Rows as rows
 use Rattle.keymap_core.specs.declared.action.Action.TheVariants.{DeadKey}
 
 -- a fault is no answer
-err_ok : {A : Type 0} (e : TextFaultKind) (y : A) → ◌≡◌ {A = Result A TextFaultKind} (Err e) (Ok y) → ⊥
+pub err_ok : {A : Type 0} (e : TextFaultKind) (y : A) → ◌≡◌ {A = Result A TextFaultKind} (Err e) (Ok y) → ⊥
 err_ok e y h = cc
 
 -- an answer of two steps is one of the first

@@ -14,7 +14,7 @@ use Rattle.keymap_text.proofs.Prefixes.{early_from}
 use Rattle.keymap_text.proofs.Steps.{judge_then, judge_refused, judge_stops, judge_ends}
 use Rattle.keymap_text.proofs.Faults.{found_of, fault_is, same_fault}
 use Rattle.keymap_text.proofs.Folded.{puts, puts_are}
-use Rattle.keymap_text.proofs.Row.{steps, stands_after, stands_first, row_at_end, row_defined}
+use Rattle.keymap_text.proofs.Row.{steps, stands_after, stands_first, row_at_end, row_defined, ok_is, err_ok}
 use Rattle.keymap_text.specs.declared.fault.TextFaultKind.TheVariants as faults
 use Rattle.keymap_text.specs.Lexical as lexical
 
@@ -61,29 +61,16 @@ runs s (Then t ts) m h = go (accept s (item_of t)) refl (λ s'. runs s' ts m)
 judged : (s : GrammarState) (ts : Tokens) (m : MapValue) → Runs s ts m → judge s ts ≡ Spelled m
 unfolding list_of ending_of_tokens
 judged s (Ends q) m r = judge_ends s q ∙ ap (λ o. ended o q) (ap at_end (ok_is _ _ r.steps) ∙ r.map)
-  where
-    ok_is : (x y : GrammarState) → ◌≡◌ {A = Result GrammarState TextFaultKind} (Ok x) (Ok y) → x ≡ y
-    ok_is x y h = cc
-judged s (Stops f q) m r = absurd (never _ _ r.whole)
-  where
-    never : (x : TextFaultKind × ℕ) (y : ℕ) → ◌≡◌ {A = Result ℕ (TextFaultKind × ℕ)} (Err x) (Ok y) → ⊥
-    never x y h = cc
+judged s (Stops f q) m r = absurd (let h = r.whole in cc)
 judged s (Then t ts) m r = go (accept s (item_of t)) refl (λ s'. judged s' ts m)
   where
-    never : (f : TextFaultKind) (y : GrammarState) → ◌≡◌ {A = Result GrammarState TextFaultKind} (Err f) (Ok y) → ⊥
-    never f y h = cc
-
     go : (a : Result GrammarState TextFaultKind) → accept s (item_of t) ≡ a
         → ((s' : GrammarState) → Runs s' ts m → judge s' ts ≡ Spelled m) → judge s (Then t ts) ≡ Spelled m
     go (Ok s') e ih =
-        judge_then s s' t ts e ∙ ih s' (record {
-          last = r.last;
-          end = r.end;
-          steps = rw e at r.steps;
-          whole = r.whole;
-          map = r.map;
-        })
-    go (Err f) e ih = absurd (never f r.last (rw e at r.steps))
+        let on : Runs s' ts m =
+        record { last = r.last; end = r.end; steps = rw e at r.steps; whole = r.whole; map = r.map } in
+        judge_then s s' t ts e ∙ ih s' on
+    go (Err f) e ih = absurd (err_ok f r.last (rw e at r.steps))
 
 -- a text begins with the empty map
 starts : at_end start ≡ Some empty_map
@@ -102,14 +89,9 @@ spells_from text m h =
 pub spells_to : (text : List ℕ) (m : MapValue) → Spells text m → verdict text ≡ Spelled m
 spells_to text m s =
     let r = row_defined start empty_map (items text) s.definitions s.row starts in
-    judged start (tokens_after 0 0 text) m (record {
-      last = r.0;
-      end = s.end;
-      steps = r.1;
-      whole = s.whole;
-      map = r.2
-          ∙ ap Some (puts_are s.definitions ∙ sym s.map);
-    })
+    let map = r.2 ∙ ap Some (puts_are s.definitions ∙ sym s.map) in
+    judged start (tokens_after 0 0 text) m
+    (record { last = r.0; end = s.end; steps = r.1; whole = s.whole; map = map })
 
 -- the machine's fault is that of the definitions
 pub fault_from : (text : List ℕ) (f : TextFaultKind) (q : ℕ) (e : Bool) → verdict text ≡ Faulty f q e
@@ -174,16 +156,8 @@ pub accepted_of : (ts : List TokenValue) (ds : List Definition) → IsRow (map i
     → (p : RowPlace) × (place_after AtDefinition ts ≡ Ok p) × (may_end p ≡ true)
 accepted_of ts ds row =
     let r = row_defined start empty_map (map item_of ts) ds row starts in
-    let m : judge start (tokens_then ts) ≡ Spelled (puts empty_map ds) =
-    judged start (tokens_then ts) (puts empty_map ds)
-    (record {
-      last = r.0;
-      end = 0;
-      steps = subst (λ (ts : List TokenValue). steps start (map item_of ts) ≡ Ok r.0)
-          (sym (listed ts)) r.1;
-      whole = behind_is ts;
-      map = r.2;
-    }) in
+    let m = judged start (tokens_then ts) (puts empty_map ds)
+    (record { last = r.0; end = 0; steps = rw listed r.1; whole = behind_is ts; map = r.2 }) in
     go (place_after AtDefinition ts) refl (sym (ended_at ts) ∙ ap found_of m)
   where
     go : (l : Result RowPlace (TextFaultKind × TokenValue)) → place_after AtDefinition ts ≡ l → found_in l (Ok 0) ≡ None

@@ -62,7 +62,7 @@ front_on_line (c ∷ s) = go (is_word c) refl (front_on_line s)
 -- the last byte of a front passes
 front_end : (p : ℕ → Bool) (c : ℕ) (s : List ℕ) → p c ≡ true → p (slice_index (c ∷ s) (leading p s)) ≡ true
 front_end p c [] h = h
-front_end p c (d ∷ s) h = grind (arith, add-one, leading_fail, leading_pass, (front_end p d s))
+front_end p c (d ∷ s) h = grind (arith, leading_fail, leading_pass, (front_end p d s))
 
 -- The bytes of a token stand in one line, and the last one is no blank.
 abbrev StandsInLine : ℕ → ℕ → List ℕ → Type 0

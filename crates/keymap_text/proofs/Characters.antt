@@ -81,12 +81,12 @@ hex_tests (d ∷ ds) (h, k) = ap (λ b. b && list_all (is_digit 16) (map digit_c
 hex_number : (n : ℕ) (ds : List ℕ) → AreSmall ds
     → fold (λ n c. n * 16 + digit_value c) n (map digit_char ds) ≡ horner n ds
 hex_number n [] h = refl
-hex_number n (d ∷ ds) (h, k) = grind (arith, hex_value, (hex_number (n * 16 + d) ds k))
+hex_number n (d ∷ ds) (h, k) = grind (arith, (hex_number (n * 16 + d) ds k))
 
 -- digits are one word
 hex_leads : (ds : List ℕ) → AreSmall ds → leading is_word (map digit_char ds) ≡ length ds
 hex_leads [] h = refl
-hex_leads (d ∷ ds) (h, k) = grind (arith, hex_word, leading_pass, (hex_leads ds k))
+hex_leads (d ∷ ds) (h, k) = grind (arith, leading_pass, (hex_leads ds k))
 
 -- one byte a digit
 hex_length : (ds : List ℕ) → length (map digit_char ds) ≡ length ds
@@ -110,7 +110,7 @@ lexes_hex c ds z l h e =
 -- a character above 127 is printed as a number
 hex_text : (c : ℕ) → 127 < c → character_text c ≡ 48 ∷ 120 ∷ code_digits c
 unfolding character_text
-hex_text c h = grind (arith, le-ltb, ne_eqb)
+hex_text c h = grind arith
 
 -- the digits of a number, from the fourth, fifth or sixth on
 abbrev pub four : ℕ → List ℕ

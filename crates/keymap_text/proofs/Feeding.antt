@@ -61,7 +61,7 @@ none_taken b c n buffer z h = subst (λ (n : ℕ). Consumes b c (take n buffer))
 pub fed_whole : {a b : Option (List ℕ)} {r : Progress} {taken n : ℕ} → (c : Option (List ℕ)) → (buffer : List ℕ)
     → (result : Result MapValue TextError) → (fed : IsFed a b r taken) → taken ≤ limit → n ≡ 0
     → Consumes b c (take n buffer) → IsAtEnd c → Concludes result fed.text → ReadsMap a c result
-fed_whole c buffer result fed few z h e k = grind (arith, Consumes-trans, append-nil, concluded, none_taken)
+fed_whole c buffer result fed few z h e k = grind (arith, Consumes-trans, append-nil)
 
 -- the device fails after these bytes
 pub fed_fails : {a b : Option (List ℕ)} {r : Progress} {taken : ℕ} → (c : Option (List ℕ)) → (offset : ℕ)
@@ -94,5 +94,5 @@ pub at_once_whole : {a b : Option (List ℕ)} {r : Progress} {taken n : ℕ} →
     → (result : Result MapValue TextError) → (fed : IsFed a b r taken) → n ≡ 0 → Consumes b c (take n buffer)
     → IfErr result (StopsAtOnce a c)
 at_once_whole {a = a} {b = b} {n = n} c buffer (Err (errors.Fault f)) fed z h =
-    grind (arith, Consumes-trans, none_taken)
+    grind (arith, Consumes-trans)
 at_once_whole c buffer _ fed z h = tt

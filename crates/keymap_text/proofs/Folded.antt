@@ -82,7 +82,7 @@ length_after : (size : MapValue → ℕ) (needs : Definition → ℕ)
     → (m : MapValue) (ds : List Definition) → size (puts m ds) ≡ max (size m) (greatest needs ds)
 length_after size needs one m [] = rw greatest_none (omega arith)
 length_after size needs one m (d ∷ ds) =
-    grind (arith, greatest_more, max_of, (length_after size needs one (put m d) ds))
+    grind (arith, greatest_more, (length_after size needs one (put m d) ds))
 
 -- one of a list in which another is placed
 padded : {X : Type 0} (xs : List X) (n j : ℕ) (u : X) → get_or (xs ++ replicate n u) j u ≡ get_or xs j u

@@ -1,8 +1,8 @@
 -- The last definition of what a map has is the one in force.
 use Rattle.keymap_text.proofs.Common.{◌≡◌, ℕ, ◌+◌, ◌*◌, Bool, true, false, cond, List, [], ◌∷◌, length, take, drop, map}
-use Rattle.keymap_text.proofs.Common.{get_or, refl, sym, ◌∙◌, ap, subst, arith, Option, Some, None, eqb-true}
-use Rattle.keymap_text.proofs.Common.{length-map, none-some, same_Some, drop-append-add, take-append_seam, option_or}
-use Rattle.keymap_text.proofs.Common.{Entry, Defined, Slot, Accent, Placed, AccentValue, blank, MapValue, undefined}
+use Rattle.keymap_text.proofs.Common.{get_or, refl, sym, ◌∙◌, ap, subst, arith, Option, Some, None, length-map}
+use Rattle.keymap_text.proofs.Common.{none-some, same_Some, drop-append-add, take-append_seam, option_or, Entry}
+use Rattle.keymap_text.proofs.Common.{Defined, Slot, Accent, Placed, AccentValue, blank, MapValue, undefined}
 use Rattle.keymap_text.proofs.Common.{TokenValue, item_of, tokens, Definition, KeyDefinition, AccentDefinition, Defines}
 use Rattle.keymap_text.proofs.Common.{last, of_slot, of_index, or_default, Row, AreRows, no_row, one_row, IsSpelledBy}
 use Rattle.keymap_text.proofs.Common.{defined, places_after, places_of, is_same, last_of, empty_map, ap₂, ⊎_elim, ◌⊎◌}
@@ -120,13 +120,13 @@ says_index i = record { quiet = λ d h. grind arith; tells = tells }
 -- what a row of a slot defines
 slot_row : (d : Definition) (slot : ℕ) → is_same (defined d) (Slot slot) ≡ true
     → d ≡ KeyDefinition slot (or_default (of_slot slot d) undefined)
-slot_row (KeyDefinition s e) slot h = grind (arith, eqb-true)
+slot_row (KeyDefinition s e) slot h = grind arith
 slot_row (AccentDefinition i a) slot h = absurd (cc)
 
 index_row : (d : Definition) (i : ℕ) → is_same (defined d) (Accent i) ≡ true
     → d ≡ AccentDefinition i (or_default (of_index i d) blank)
 index_row (KeyDefinition s e) i h = absurd (cc)
-index_row (AccentDefinition j a) i h = grind (arith, eqb-true)
+index_row (AccentDefinition j a) i h = grind arith
 
 -- the entry and the accent that the definitions make
 entry_spelled : (text : List ℕ) (m : MapValue) (rows : List Row) → IsSpelledBy text m rows → (slot : ℕ)

@@ -1,8 +1,8 @@
 -- The keys of words.
 use Rattle.keymap_text.proofs.Common.{◌≡◌, ℕ, zero, suc, ◌+◌, ◌*◌, ◌<◌, ◌≤◌, true, cond, List, [], ◌∷◌, length, take}
-use Rattle.keymap_text.proofs.Common.{get_or, map, refl, sym, ◌∙◌, ap, ap₂, arith, eq-eqb, ne_eqb, nat_tests}
-use Rattle.keymap_text.proofs.Common.{range_with_len, from_le_bytes, w64, to_ascii_lowercase, leading, is_word, pack}
-use Rattle.keymap_text.proofs.Common.{unpacked, AreWordBytes, LOW_BYTES, along}
+use Rattle.keymap_text.proofs.Common.{get_or, map, refl, sym, ◌∙◌, ap, ap₂, arith, nat_tests, range_with_len}
+use Rattle.keymap_text.proofs.Common.{from_le_bytes, w64, to_ascii_lowercase, leading, is_word, pack, unpacked}
+use Rattle.keymap_text.proofs.Common.{AreWordBytes, LOW_BYTES, along}
 use Rattle.std.proofs.lemmas.Nat.{and_block, or_block, or_disjoint, and_le_l, and_le_r}
 use lib.Bits.{bit_and, bit_or}
 use Rattle.keymap_text.proofs.Leading.{leading_pass, leading_fail}
@@ -91,11 +91,11 @@ packed_front w n x eight h l s a e =
 
 -- what is packed can be unpacked
 unpacked_end : (n p : ℕ) → unpacked (suc n) (p * 256 + 32) ≡ []
-unpacked_end n p = grind (arith, eq-eqb)
+unpacked_end n p = grind arith
 
 -- the lowest byte of a key
 unpacked_byte : (n p c : ℕ) → 47 < c → c < 256 → unpacked (suc n) (p * 256 + c) ≡ c ∷ unpacked n p
-unpacked_byte n p c h l = grind (arith, ne_eqb)
+unpacked_byte n p c h l = grind arith
 
 -- the key of a word gives the word back, in lower case
 pub unpack_packed : (n : ℕ) (w : List ℕ) → length w ≤ n → AreWordBytes w

@@ -1,10 +1,9 @@
 -- The tables of the last definitions.
 use Rattle.keymap_text.proofs.Common.{◌≡◌, ◌≢◌, ℕ, ◌<◌, ◌≤◌, ◌==◌, true, false, cond, List, [], ◌∷◌, ◌++◌, length, set}
-use Rattle.keymap_text.proofs.Common.{get_or, map, refl, sym, ◌∙◌, ap, arith, Option, Some, None, eqb-true, eq-eqb}
-use Rattle.keymap_text.proofs.Common.{length-set, ne_eqb, replicate, get_or-set_same, get_or-set_other, ext_get_or}
-use Rattle.keymap_text.proofs.Common.{get_or-replicate, length-map-range_with_len, get_or-map-range_with_len}
-use Rattle.keymap_text.proofs.Common.{range_with_len, option_or, Defined, Slot, Accent, Placed, is_same, last_of}
-use Rattle.keymap_text.proofs.Common.{HasLast}
+use Rattle.keymap_text.proofs.Common.{get_or, map, refl, sym, ◌∙◌, ap, arith, Option, Some, None, length-set, ne_eqb}
+use Rattle.keymap_text.proofs.Common.{replicate, get_or-set_same, get_or-set_other, ext_get_or, get_or-replicate}
+use Rattle.keymap_text.proofs.Common.{length-map-range_with_len, get_or-map-range_with_len, range_with_len, option_or}
+use Rattle.keymap_text.proofs.Common.{Defined, Slot, Accent, Placed, is_same, last_of, HasLast}
 use Rattle.keymap_text.specs.declared.last.LastDefinitions.{LastDefinitions}
 
 -- one definition before the others
@@ -46,7 +45,7 @@ pub table_gets : (what : ℕ → Defined) (table : List (Option Placed)) (ps : L
     → ((m : ℕ) → m < length table → get_or table m None ≡ last_of (what m) ps) → (m : ℕ) → m < length table
     → get_or (set table n (Some p)) m None ≡ last_of (what m) (ps ++ p ∷ [])
 table_gets what table ps p n same fits h m l =
-    grind (arith, eq-eqb, eqb-true, get_or-set_other, get_or-set_same, last_other, last_same)
+    grind (arith, get_or-set_other, get_or-set_same, last_other, last_same)
 
 -- A definition of something else behind the others.
 pub table_stays : (what : ℕ → Defined) (table : List (Option Placed)) (ps : List Placed) (p : Placed) (n : ℕ)

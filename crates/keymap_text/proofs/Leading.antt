@@ -1,10 +1,10 @@
 -- How many bytes at the front pass a test.
 use Rattle.keymap_text.proofs.Common.{◌≡◌, ◌==◌, ℕ, zero, suc, ◌+◌, ◌<◌, ◌≤◌, Bool, true, false, cond, List, [], ◌∷◌}
-use Rattle.keymap_text.proofs.Common.{◌++◌, length, take, drop, get_or, sym, ◌∙◌, ap, arith, eq-eqb, ne_eqb, ⊎_elim}
-use Rattle.keymap_text.proofs.Common.{eq-or-lt_of_le, drop-cons, append-nil, nat_tests, length-take-le, get_or-take}
-use Rattle.keymap_text.proofs.Common.{drop_all, prefix_len_is, prefix_len-drop_yes, prefix_len-drop_no}
-use Rattle.keymap_text.proofs.Common.{prefix_len-drop_all, prefix_len-le-length, prefix_len_passes, prefix_len_stops}
-use Rattle.keymap_text.proofs.Common.{Some, None, IsFirstByte, is_byte, leading, is_space, stays_on_line}
+use Rattle.keymap_text.proofs.Common.{◌++◌, length, take, drop, get_or, sym, ◌∙◌, ap, arith, ⊎_elim, eq-or-lt_of_le}
+use Rattle.keymap_text.proofs.Common.{drop-cons, append-nil, nat_tests, length-take-le, get_or-take, drop_all}
+use Rattle.keymap_text.proofs.Common.{prefix_len_is, prefix_len-drop_yes, prefix_len-drop_no, prefix_len-drop_all}
+use Rattle.keymap_text.proofs.Common.{prefix_len-le-length, prefix_len_passes, prefix_len_stops, Some, None}
+use Rattle.keymap_text.proofs.Common.{IsFirstByte, is_byte, leading, is_space, stays_on_line}
 use Rattle.std.proofs.lemmas.List.Folds.{prefix_len-append}
 
 -- the number, where the first byte passes and where it does not
@@ -22,11 +22,11 @@ leading_le p xs = prefix_len-le-length p xs
 -- bytes that all pass, and others behind them
 pub leading_append : (p : ℕ → Bool) (w y : List ℕ) → leading p w ≡ length w
     → leading p (w ++ y) ≡ length w + leading p y
-leading_append p w y h = grind (arith, eq-eqb, prefix_len-append)
+leading_append p w y h = grind (arith, prefix_len-append)
 
 -- a run that ends before the bytes do
 pub leading_short : (p : ℕ → Bool) (b x : List ℕ) → leading p b < length b → leading p (b ++ x) ≡ leading p b
-leading_short p b x h = grind (arith, ne_eqb, prefix_len-append)
+leading_short p b x h = grind (arith, prefix_len-append)
 
 -- more bytes behind make no front shorter
 pub leading_grows : (p : ℕ → Bool) (b x : List ℕ) → leading p b ≤ leading p (b ++ x)
@@ -80,7 +80,7 @@ leading_same p (suc n) v [] e h = absurd (omega (arith, h))
 leading_same p (suc n) [] (c ∷ w) e h = absurd (not_none c (take n w) e)
 leading_same p (suc n) (a ∷ v) (c ∷ w) e h =
     let rest = same_tail a c (take n v) (take n w) e in
-    grind (arith, leading_fail, leading_pass, same_head, (leading_same p n v w rest))
+    grind (arith, leading_fail, leading_pass, (leading_same p n v w rest))
 
 -- a byte that isn't the end of the line stays on it
 no_line_end : (c : ℕ) → ((c == 10) ≡ true → ⊥) → stays_on_line c ≡ true
@@ -89,7 +89,7 @@ no_line_end c h = grind arith
 -- a line goes up to the first line feed
 pub line_found : (bytes : List ℕ) (n : ℕ) → IsFirstByte (is_byte 10) bytes (Some n)
     → (n ≤ length bytes) × (n ≡ leading stays_on_line bytes)
-line_found bytes n h = grind (arith, no_line_end, prefix_len_is)
+line_found bytes n h = grind (arith, prefix_len_is)
 
 -- or to the end where there is none
 pub line_whole : (bytes : List ℕ) → IsFirstByte (is_byte 10) bytes None
@@ -105,6 +105,6 @@ space_is_blank c h = grind (arith, nat_tests)
 -- so there are as many blanks in front as spaces
 pub plain_spaces : (xs : List ℕ) → leading (λ c. c == 32) xs ≤ leading is_space xs
 plain_spaces [] = omega arith
-plain_spaces (x ∷ xs) = grind (arith, leading_fail, leading_pass, space_is_blank, (plain_spaces xs))
+plain_spaces (x ∷ xs) = grind (arith, leading_fail, leading_pass, (plain_spaces xs))
 
 pub ruleset leading_rules = (prefix_len-drop_yes, prefix_len-drop_no, prefix_len-drop_all, prefix_len-le-length)

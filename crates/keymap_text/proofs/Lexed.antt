@@ -1,8 +1,8 @@
 -- Texts whose tokens are known, whatever stands behind them.
 use Rattle.keymap_text.proofs.Common.{◌≡◌, ℕ, ◌+◌, ◌<◌, ◌≤◌, true, false, List, [], ◌∷◌, ◌++◌, length, refl, ◌∙◌, arith}
-use Rattle.keymap_text.proofs.Common.{append_assoc, length-append, add-zero, TokenKind, ParenL, ParenR, Literal, Word}
-use Rattle.keymap_text.proofs.Common.{Item, Open, Close, Value, Char, tokens_after, leading, is_word, is_blank, Found}
-use Rattle.keymap_text.proofs.Common.{front_of, meaning, item, ending_of_tokens}
+use Rattle.keymap_text.proofs.Common.{append_assoc, length-append, TokenKind, ParenL, ParenR, Literal, Word, Item, Open}
+use Rattle.keymap_text.proofs.Common.{Close, Value, Char, tokens_after, leading, is_word, is_blank, Found, front_of}
+use Rattle.keymap_text.proofs.Common.{meaning, item, ending_of_tokens}
 use Rattle.keymap_text.proofs.Leading.{leading_tail, leading_fail}
 use Rattle.keymap_text.proofs.InFront.{front_quote, front_left, front_right}
 use Rattle.keymap_text.proofs.Splitting.{split_blank, split_whole}
@@ -27,7 +27,7 @@ pub record Lexes (P : List ℕ → Type 0) (t : List ℕ) (is : List Item) : Typ
 
 -- no bytes are no tokens
 pub lexes_none : (P : List ℕ → Type 0) → Lexes P [] []
-lexes_none P = grind (arith, add-zero)
+lexes_none P = grind arith
 
 -- tokens of two texts, one after the other
 pub lexes_both : {P Q : List ℕ → Type 0} {t u : List ℕ} {is js : List Item} → Lexes P t is → Lexes Q u js

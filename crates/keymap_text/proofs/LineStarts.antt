@@ -1,8 +1,8 @@
 -- Where lines begin, and the line of a place by them.
 use Rattle.keymap_text.proofs.Common.{◌≡◌, ℕ, zero, suc, ◌+◌, ◌-◌, ◌≤◌, ◌<◌, ◌==◌, Bool, true, false, not, List, []}
 use Rattle.keymap_text.proofs.Common.{◌∷◌, ◌++◌, length, take, drop, get_or, refl, ◌∙◌, sym, ap, subst, arith, count_by}
-use Rattle.keymap_text.proofs.Common.{drop-cons, eqb-true, length-append, length-drop, eq-or-lt_of_le, true≢false}
-use Rattle.keymap_text.proofs.Common.{suffix_len, length-take, length-take-le, drop-drop, drop-take, get_or_append_left}
+use Rattle.keymap_text.proofs.Common.{drop-cons, eqb-true, length-append, length-drop, true≢false, suffix_len}
+use Rattle.keymap_text.proofs.Common.{length-take, length-take-le, drop-drop, drop-take, get_or_append_left}
 use Rattle.keymap_text.proofs.Common.{get_or-drop, get_or-take, suffix_len_is, prefix_len_passes, prefix_len_stops}
 use Rattle.keymap_text.proofs.Common.{get_or-append_seam, leading, stays_on_line, before_in_line, line_end, IsLineStart}
 use Rattle.keymap_text.proofs.Common.{AreStarts, AreLines, line, cases_eq, inl, inr, ◌≢◌}
@@ -122,7 +122,7 @@ start_pushed b old new e h last l pushed = rw pushed (record {
 -- the end of the line that is found
 pub found_end : (b ss : List ℕ) (i place : ℕ) → AreLines b ss → i < length ss → get_or ss i 0 ≤ place
     → (i + 1 < length ss → place < get_or ss (i + 1) 0) → place ≤ length b → place ≤ line_end b (get_or ss i 0)
-found_end b ss i place h l s n w = grind (arith, eq-or-lt_of_le)
+found_end b ss i place h l s n w = grind arith
 
 -- a line ends within the text
 pub end_within : (b : List ℕ) (n s : ℕ) → IsLineStart b n s → line_end b s ≤ length b

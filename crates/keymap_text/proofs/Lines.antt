@@ -1,9 +1,9 @@
 -- Lines: one more than the line feeds before a place.
 use Rattle.keymap_text.proofs.Common.{◌≡◌, ℕ, zero, suc, ◌+◌, ◌-◌, ◌≤◌, ◌==◌, Bool, false, cond, List, [], ◌∷◌, ◌++◌}
 use Rattle.keymap_text.proofs.Common.{length, take, drop, take_at, drop_at, refl, sym, ◌∙◌, ap, arith, count_by}
-use Rattle.keymap_text.proofs.Common.{eqb-true, length-append, drop-drop, drop_all, drop-append-le, take-append-le}
-use Rattle.keymap_text.proofs.Common.{sum_by-append, sum_by-cons, sum_by-take-drop, take-add, leading, TextFault}
-use Rattle.keymap_text.proofs.Common.{Reading, line, IsFaultOfPending, Lined}
+use Rattle.keymap_text.proofs.Common.{length-append, drop-drop, drop_all, drop-append-le, take-append-le, sum_by-append}
+use Rattle.keymap_text.proofs.Common.{sum_by-cons, sum_by-take-drop, take-add, leading, TextFault, Reading, line}
+use Rattle.keymap_text.proofs.Common.{IsFaultOfPending, Lined}
 use Rattle.keymap_text.proofs.Leading.{leading_pass, leading_fail}
 
 -- how many line feeds there are
@@ -79,4 +79,4 @@ pending_line old b more e l p = grind (arith, feeds_behind, line_all, lined_line
 pub feeds_run : (p : ℕ → Bool) → p 10 ≡ false → (n : ℕ) (xs : List ℕ) → n ≤ leading p xs → feeds (take n xs) ≡ 0
 feeds_run p f zero xs h = refl
 feeds_run p f (suc n) [] h = refl
-feeds_run p f (suc n) (c ∷ xs) h = grind (arith, eqb-true, leading_fail, leading_pass, no_feed, (feeds_run p f n xs))
+feeds_run p f (suc n) (c ∷ xs) h = grind (arith, leading_fail, leading_pass, no_feed, (feeds_run p f n xs))

@@ -1,11 +1,11 @@
 -- A quoted character that is complete stays so, whatever follows.
-use Rattle.keymap_text.proofs.Common.{lt-ltb, ◌≡◌, ◌≢◌, ◌⊎◌, inl, inr, ℕ, ◌+◌, ◌<◌, ◌≤◌, ◌==◌, Bool, true, false, cond}
-use Rattle.keymap_text.proofs.Common.{List, [], ◌∷◌, ◌++◌, length, get_or, refl, sym, ◌∙◌, ap, subst, arith, nat_lt}
+use Rattle.keymap_text.proofs.Common.{◌≡◌, ◌≢◌, ◌⊎◌, inl, inr, ℕ, ◌+◌, ◌<◌, ◌≤◌, ◌==◌, Bool, true, false, cond, List}
+use Rattle.keymap_text.proofs.Common.{[], ◌∷◌, ◌++◌, length, get_or, refl, sym, ◌∙◌, ap, subst, arith, nat_lt}
 use Rattle.keymap_text.proofs.Common.{slice_index, Option, Some, None, length-append, ⊎_elim, eq-eqb, true≢false}
-use Rattle.keymap_text.proofs.Common.{ne_eqb, nat_tests, get_or_append_left, le-ltb, decoded, decoded_by, Decoded, bad}
-use Rattle.keymap_text.proofs.Common.{second, continues, get_or-append_seam, TextFaultKind, BadLiteral, TokenKind}
-use Rattle.keymap_text.proofs.Common.{Literal, is_word_kind, Front, Skipped, Found, Refused, Unfinished, literal}
-use Rattle.keymap_text.proofs.Common.{quoted, closing, is_lone}
+use Rattle.keymap_text.proofs.Common.{nat_tests, get_or_append_left, le-ltb, decoded, decoded_by, Decoded, bad, second}
+use Rattle.keymap_text.proofs.Common.{continues, get_or-append_seam, TextFaultKind, BadLiteral, TokenKind, Literal}
+use Rattle.keymap_text.proofs.Common.{is_word_kind, Front, Skipped, Found, Refused, Unfinished, literal, quoted}
+use Rattle.keymap_text.proofs.Common.{closing, is_lone}
 use Rattle.bstr.proofs.lemmas.PieceLemmas.{size-bounds}
 use Rattle.bstr.proofs.lemmas.EncodeLemmas.{decoded-encode}
 use Rattle.std.specs.Prelude.{encode_utf8}
@@ -103,7 +103,7 @@ either false f g h k = k
 -- of a decoded character
 quoted_shape : (o : Option ℕ) (n : ℕ) (s : List ℕ) → LiteralFront (quoted (record { char = o; size = n }) s)
 unfolding LiteralFront
-quoted_shape (Some c) n s = grind (arith, either)
+quoted_shape (Some c) n s = grind arith
 quoted_shape None n s = either (length s == n) _ _ tt refl
 
 -- of what stands at an apostrophe
@@ -152,7 +152,7 @@ chosen false l q r h k = k h
 
 -- whether a lone byte is quoted, two bytes tell
 lone_same : (b c : ℕ) (s x : List ℕ) → is_lone (b ∷ c ∷ (s ++ x)) ≡ is_lone (b ∷ c ∷ s)
-lone_same b c s x = grind (arith, lt-ltb)
+lone_same b c s x = grind arith
 
 -- what is not unfinished stays whatever follows
 pub literal_stable : (s x : List ℕ) → literal s ≢ Unfinished → literal (s ++ x) ≡ literal s
@@ -281,13 +281,13 @@ no_char false false false a z h = refl
 
 -- a quoted lone byte is no UTF-8
 lone_decodes : (s : List ℕ) → is_lone s ≡ true → (decoded s).char ≡ None
-lone_decodes (b ∷ d ∷ s) h = grind (arith, nat_tests, le-ltb, no_char, no_second, not_zero)
+lone_decodes (b ∷ d ∷ s) h = grind (arith, nat_tests, no_char)
 lone_decodes _ h = absurd (true≢false (sym h))
 
 -- an apostrophe behind the character closes it
 closing_spelled : (c : ℕ) (e rest : List ℕ) → c ≢ 10
     → closing c (length e) (e ++ 39 ∷ rest) ≡ Found (Literal c) (length e + 1)
-closing_spelled c e rest h = grind (arith, get_or-append_seam, length-append, ne_eqb)
+closing_spelled c e rest h = grind (arith, get_or-append_seam, length-append)
 
 -- the UTF-8 of a character other than LF, and an apostrophe, are found
 pub literal_spelled : (c : ℕ) (rest : List ℕ) → scalar c ≡ true → c ≢ 10

@@ -93,7 +93,7 @@ some_length n = grind (arith, nat_tests)
 -- the digits behind 0x
 behind_prefix : (b : ℕ) (w : List ℕ) → to_ascii_lowercase b ≡ 120
     → number_after (codes "0x") 16 (48 ∷ b ∷ w) ≡ digits_of 16 w
-behind_prefix b w l = grind (arith, some_length)
+behind_prefix b w l = grind arith
 
 -- they spell the number
 pub hexadecimal : (b n : ℕ) (w : List ℕ) → nat_lt (digit_value b) 10 ≡ false → to_ascii_lowercase b ≡ 120

@@ -1,9 +1,9 @@
 -- Names and numbers.
-use Rattle.keymap_text.proofs.Common.{lt-ltb, le-ltb, ◌≡◌, ℕ, suc, ◌+◌, ◌*◌, ◌^◌, ◌<◌, ◌≤◌, Bool, true, false, cond}
-use Rattle.keymap_text.proofs.Common.{◌&&◌, List, [], ◌∷◌, length, take, drop, get_or, refl, ◌∙◌, ap, arith, add-one}
-use Rattle.keymap_text.proofs.Common.{drop-cons, pow_mono, pow-add, Some, None, Option, mul-le-mul_left, ap₂, ◌==◌}
-use Rattle.keymap_text.proofs.Common.{take_all, at_drop_all, fold_more, list_all, digit_value, Name, meaning_by_names}
-use Rattle.keymap_text.proofs.Common.{letters, sense_meaning, same_name, digits_of, number, is_digit}
+use Rattle.keymap_text.proofs.Common.{lt-ltb, ◌≡◌, ℕ, suc, ◌+◌, ◌*◌, ◌^◌, ◌<◌, ◌≤◌, Bool, true, false, cond, ◌&&◌, List}
+use Rattle.keymap_text.proofs.Common.{[], ◌∷◌, length, take, drop, get_or, refl, ◌∙◌, ap, arith, drop-cons, pow_mono}
+use Rattle.keymap_text.proofs.Common.{pow-add, Some, None, Option, mul-le-mul_left, ap₂, ◌==◌, take_all, at_drop_all}
+use Rattle.keymap_text.proofs.Common.{fold_more, list_all, digit_value, Name, meaning_by_names, letters, sense_meaning}
+use Rattle.keymap_text.proofs.Common.{same_name, digits_of, number, is_digit}
 use Rattle.std.proofs.lemmas.List.Folds.{list_all_at, list_all_more}
 
 -- no row has no name
@@ -37,7 +37,7 @@ look_here_at names i d w h e = ap (λ n. meaning_by_names n w) (drop-cons names 
 pub look_on_at : (names : List Name) (i : ℕ) (d : Name) (w : List ℕ) → i < length names
     → same_name (letters (get_or names i d).0) w ≡ false
     → meaning_by_names (drop i names) w ≡ meaning_by_names (drop (i + 1) names) w
-look_on_at names i d w h e = grind (arith, add-one, drop-cons, look_on)
+look_on_at names i d w h e = grind (arith, drop-cons, look_on)
 
 pub ruleset look_rules = (look_end, look_here_at, look_on_at)
 
@@ -66,7 +66,7 @@ none_of false x = refl
 pub digits_bad : (base : ℕ) (w : List ℕ) (i : ℕ) → i < length w → base ≤ digit_value (get_or w i 0)
     → digits_of base w ≡ None
 unfolding digits_of
-digits_bad base w i h e = grind (arith, le-ltb, list_all_at, none_of)
+digits_bad base w i h e = grind (arith, list_all_at)
 
 -- digits alone spell their number
 pub digits_good : (base : ℕ) (w : List ℕ) → 0 < length w → list_all (is_digit base) w ≡ true

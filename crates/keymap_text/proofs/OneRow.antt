@@ -2,7 +2,7 @@
 use Rattle.keymap_text.proofs.Common.{◌≡◌, ℕ, ◌+◌, List, [], ◌∷◌, ◌++◌, length, map, refl, sym, ◌∙◌, ap, ap₂, arith}
 use Rattle.keymap_text.proofs.Common.{append-nil, Entry, Cell, Item, AccentValue, TokenValue, item_of, Definition}
 use Rattle.keymap_text.proofs.Common.{AreCells, no_cells, one_cell, ArePairs, no_pairs, one_pair, Defines, of_key}
-use Rattle.keymap_text.proofs.Common.{of_accent, Row, AreRows, no_row, one_row, places_after, same_Some}
+use Rattle.keymap_text.proofs.Common.{of_accent, Row, AreRows, no_row, one_row, places_after}
 use Rattle.keymap_text.proofs.RowPlaces.{places_are}
 use Rattle.keymap_text.proofs.Leading.{same_head, same_tail}
 use Rattle.keymap_text.proofs.Row.{ok_is}
@@ -41,14 +41,14 @@ accent_is a b h k = ap₂ (λ own pairs. record { own = own; pairs = pairs }) h 
 pub defined_is : {ts us : List Item} {d e : Definition} → Defines ts d → Defines us e → ts ≡ us → d ≡ e
 defined_is (of_key {slot = s} {e = e} {ts = ts} l eight cells)
     (of_key {slot = t} {e = f} {ts = us} l' eight' cells') h =
-    grind (arith, cells_are, entry_is, same_head, same_tail)
+    grind (arith, cells_are)
 defined_is (of_key {slot = s} l eight cells) (of_accent name index own few pairs) h =
-    grind (arith, same_head)
+    grind arith
 defined_is (of_accent name index own few pairs) (of_key {slot = s} l eight cells) h =
-    grind (arith, same_head)
+    grind arith
 defined_is (of_accent {i = i} {a = a} {t = t} {ts = ts} name index own few pairs)
     (of_accent {i = j} {a = b} {t = u} {ts = us} name' index' own' few' pairs') h =
-    grind (arith, accent_is, ok_is, pairs_are, same_Some, same_head, same_tail)
+    grind (arith, pairs_are)
 
 -- two lists whose first parts are as long
 parts_are : {A : Type 0} (xs ys us vs : List A) → length xs ≡ length ys → xs ++ us ≡ ys ++ vs
@@ -69,7 +69,7 @@ next_place : (n m : ℕ) (a b : List Row) → places_after n a ≡ places_after 
     → (x : Row) (xs : List Row) → a ≡ x ∷ xs → n ≡ m
 unfolding places_after
 next_place n m a [] h x xs e = absurd (empty_more _ _ (sym h ∙ ap (places_after n) e))
-next_place n m a (y ∷ ys) h x xs e = grind (arith, same_head)
+next_place n m a (y ∷ ys) h x xs e = grind arith
 
 no_places : (n m : ℕ) (b : List Row) → places_after n [] ≡ places_after m b → b ≡ []
 unfolding places_after

@@ -1,6 +1,6 @@
 -- A text of lines, and its front up to one of them.
 use Rattle.keymap_text.proofs.Common.{◌≡◌, ℕ, zero, suc, ◌+◌, ◌-◌, ◌<◌, List, [], ◌++◌, sym, ◌∙◌, ap, arith}
-use Rattle.keymap_text.proofs.Common.{append_assoc, append-nil, add-one, flat_map, range_with_len}
+use Rattle.keymap_text.proofs.Common.{append_assoc, append-nil, flat_map, range_with_len}
 
 -- the pieces of the numbers from a on
 pieces_more : (f : ℕ → List ℕ) (a n : ℕ)
@@ -11,7 +11,7 @@ pieces_more f a (suc n) = grind (arith, append_assoc, (pieces_more f (a + 1) n))
 -- the text of one number more ends with its piece
 pub pieces_on : (f : ℕ → List ℕ) (n : ℕ)
     → flat_map f (range_with_len 0 (n + 1)) ≡ flat_map f (range_with_len 0 n) ++ f n
-pieces_on f n = grind (arith, add-one, pieces_more)
+pieces_on f n = grind (arith, pieces_more)
 
 -- the text of more numbers begins with that of fewer
 pieces_after : (f : ℕ → List ℕ) (n k : ℕ)

@@ -1,13 +1,13 @@
 -- A printed map spells the map, and the words of a definition tell it.
-use Rattle.keymap_text.proofs.Common.{cases_lt, ◌≡◌, ◌≢◌, ℕ, zero, suc, ◌+◌, ◌<◌, ◌≤◌, ◌==◌, Bool, true, false, cond}
-use Rattle.keymap_text.proofs.Common.{max, List, [], ◌∷◌, ◌++◌, length, get_or, map, refl, sym, ◌∙◌, ap, ap₂, subst}
-use Rattle.keymap_text.proofs.Common.{arith, Ok, Option, Some, None, append_assoc, append-nil, eqb-true, eq-eqb, ne_eqb}
-use Rattle.keymap_text.proofs.Common.{true≢false, All, flat_map, range_with_len, option_or, eq-or-lt_of_le, blank}
-use Rattle.keymap_text.proofs.Common.{MapValue, undefined, name_of, Cell, Item, Value, Number, Char, Act, character}
-use Rattle.keymap_text.proofs.Common.{cell, tokens_after, Definition, KeyDefinition, AccentDefinition, Defines, IsRow}
-use Rattle.keymap_text.proofs.Common.{no_definition, one_definition, last, of_slot, of_index, greatest, slots_needed}
-use Rattle.keymap_text.proofs.Common.{accents_needed, or_default, map_of, key_line, accent_line, printed, key_lines}
-use Rattle.keymap_text.proofs.Common.{accent_lines, Spells, ending_of_tokens, list_of}
+use Rattle.keymap_text.proofs.Common.{◌≡◌, ◌≢◌, ℕ, zero, suc, ◌+◌, ◌<◌, ◌≤◌, ◌==◌, Bool, true, false, cond, max, List}
+use Rattle.keymap_text.proofs.Common.{[], ◌∷◌, ◌++◌, length, get_or, map, refl, sym, ◌∙◌, ap, ap₂, subst, arith, Ok}
+use Rattle.keymap_text.proofs.Common.{Option, Some, None, append_assoc, append-nil, eqb-true, eq-eqb, ne_eqb}
+use Rattle.keymap_text.proofs.Common.{true≢false, All, flat_map, range_with_len, option_or, blank, MapValue, undefined}
+use Rattle.keymap_text.proofs.Common.{name_of, Cell, Item, Value, Number, Char, Act, character, cell, tokens_after}
+use Rattle.keymap_text.proofs.Common.{Definition, KeyDefinition, AccentDefinition, Defines, IsRow, no_definition}
+use Rattle.keymap_text.proofs.Common.{one_definition, last, of_slot, of_index, greatest, slots_needed, accents_needed}
+use Rattle.keymap_text.proofs.Common.{or_default, map_of, key_line, accent_line, printed, key_lines, accent_lines}
+use Rattle.keymap_text.proofs.Common.{Spells, ending_of_tokens, list_of}
 use lib.Utf8.{scalar, scalar_cases}
 use Rattle.keymap_core.specs.declared.action.Action.TheVariants.{DeadKey}
 use Rattle.keymap_core.specs.Bounds.{IsMap, IsCell, IsPair}
@@ -25,7 +25,7 @@ use Rattle.keymap_text.proofs.OneRow.{defined_is}
 
 -- each character prints
 pub prints_character : (c : ℕ) → scalar c ≡ true → PrintsCharacter c
-prints_character c s = grind (arith, cases_lt, eq-or-lt_of_le, prints_rules, scalar_cases)
+prints_character c s = grind (arith, prints_rules, scalar_cases)
 
 -- a character is a cell
 cell_of_character : (t : Item) (c : ℕ) → character t ≡ Ok c → cell t ≡ Ok (cells.Char c)

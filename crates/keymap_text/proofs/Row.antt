@@ -356,7 +356,7 @@ own_taken m i c t h = ap (λ r. r >>= (λ c. Ok (at m (AfterAccent i (record { o
 pub open_taken : (m : MapValue) (i : ℕ) (a : AccentValue) → length a.pairs < 52
     → accept (at m (AfterAccent i a)) Open ≡ Ok (at m (PairBase i a))
 unfolding accept
-open_taken m i a h = grind (arith, lt-ltb)
+open_taken m i a h = grind arith
 
 -- a base is taken
 pub base_taken : (m : MapValue) (i : ℕ) (a : AccentValue) (t : Item) (b : ℕ) → character t ≡ Ok b → b ≢ 0

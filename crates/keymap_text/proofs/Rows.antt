@@ -1,9 +1,9 @@
 -- What taking cells, the lock letter and the pair of an accent makes of the rest of a text.
 use Rattle.keymap_text.proofs.Common.{◌≡◌, ◌≢◌, ℕ, ◌+◌, ◌-◌, ◌<◌, ◌≤◌, ◌==◌, cond, List, length, take, drop, get_or}
-use Rattle.keymap_text.proofs.Common.{refl, ap, arith, Ok, Err, eqb-true, eq-eqb, ne_eqb, AccentValue, MapValue}
-use Rattle.keymap_text.proofs.Common.{with_entry, Entry, Cell, LockFlag, TextFaultKind, Item, Open, Close, cell, lock}
-use Rattle.keymap_text.proofs.Common.{leading, is_space, GrammarPlace, at, accept, after_cell, with_cell, with_pair}
-use Rattle.keymap_text.proofs.Common.{◌>>=◌, Advances, Refuses, Fronts, FrontsBehind, FrontsCharacter}
+use Rattle.keymap_text.proofs.Common.{refl, ap, arith, Ok, Err, AccentValue, MapValue, with_entry, Entry, Cell}
+use Rattle.keymap_text.proofs.Common.{LockFlag, TextFaultKind, Item, Open, Close, cell, lock, leading, is_space}
+use Rattle.keymap_text.proofs.Common.{GrammarPlace, at, accept, after_cell, with_cell, with_pair, ◌>>=◌, Advances}
+use Rattle.keymap_text.proofs.Common.{Refuses, Fronts, FrontsBehind, FrontsCharacter}
 use Rattle.keymap_core.specs.Numbers.{pair_limit}
 use Rattle.keymap_text.proofs.Fronts.{left_fronts}
 use Rattle.keymap_text.proofs.Scanning.{blanks_advance, token_advances, token_refuses, behind_advances, advances_on}
@@ -17,15 +17,15 @@ cell_place slot i e = cond (i == 8) (spec.LockAt slot e) (spec.CellAt slot i e)
 
 -- before the eighth cell was taken a cell is wanted
 pub is_cell : (slot i : ℕ) (e : Entry) → i < 8 → spec.CellAt slot i e ≡ cell_place slot i e
-is_cell slot i e l = grind (arith, ne_eqb)
+is_cell slot i e l = grind arith
 
 -- then the lock letter
 pub is_lock : (slot i : ℕ) (e : Entry) → i ≡ 8 → spec.LockAt slot e ≡ cell_place slot i e
-is_lock slot i e h = grind (arith, eq-eqb)
+is_lock slot i e h = grind arith
 
 -- what is wanted behind a cell
 pub next_place : (slot i : ℕ) (e : Entry) → after_cell slot i e ≡ cell_place slot (i + 1) e
-next_place slot i e = grind (arith, eq-eqb, eqb-true, ne_eqb)
+next_place slot i e = grind arith
 
 -- a cell that was taken, and the blanks before it
 pub cell_taken : (m : MapValue) (slot i b n : ℕ) (e : Entry) (rest : List ℕ) (t : Item) (c : Cell)

@@ -19,7 +19,7 @@ split_spaces : (n q : ℕ) (xs y : List ℕ) → n ≤ leading is_space xs
 split_spaces zero q xs y h = ap (λ k. tokens_after 0 k (xs ++ y)) (omega arith)
 split_spaces (suc n) q [] y h = absurd (omega (arith, h))
 split_spaces (suc n) q (c ∷ xs) y h =
-    grind (arith, leading_fail, leading_pass, space_blank, split_blank, (split_spaces n (q + 1) xs y))
+    grind (arith, leading_fail, leading_pass, split_blank, (split_spaces n (q + 1) xs y))
 
 -- blanks at a place of a text
 pub spaces_at : (text rest : List ℕ) (at n : ℕ) → rest ≡ take (length text - at) (drop at text)

@@ -1,9 +1,9 @@
 -- What a text splits into, step by step.
 use Rattle.keymap_text.proofs.Common.{◌≡◌, ℕ, zero, suc, ◌+◌, ◌-◌, ◌<◌, ◌≤◌, true, List, [], ◌∷◌, length, take, drop}
-use Rattle.keymap_text.proofs.Common.{get_or, refl, sym, ◌∙◌, ap, arith, add-one, add-zero, drop-cons, length-drop}
-use Rattle.keymap_text.proofs.Common.{take_all, take_at, drop_at, ◌++◌, drop-drop, drop_all, TextFaultKind, EndInside}
-use Rattle.keymap_text.proofs.Common.{TokenKind, leading, stays_on_line, is_blank, Front, Skipped, Found, Refused}
-use Rattle.keymap_text.proofs.Common.{Unfinished, front_of, tokens_after, Ends, Stops, Then, token_before}
+use Rattle.keymap_text.proofs.Common.{get_or, refl, sym, ◌∙◌, ap, arith, add-zero, drop-cons, length-drop, take_all}
+use Rattle.keymap_text.proofs.Common.{take_at, drop_at, ◌++◌, drop-drop, drop_all, TextFaultKind, EndInside, TokenKind}
+use Rattle.keymap_text.proofs.Common.{leading, stays_on_line, is_blank, Front, Skipped, Found, Refused, Unfinished}
+use Rattle.keymap_text.proofs.Common.{front_of, tokens_after, Ends, Stops, Then, token_before}
 use Rattle.keymap_text.proofs.InFront.{front_blank, front_comment, front_fits}
 use Rattle.keymap_text.proofs.Leading.{leading_le}
 
@@ -84,12 +84,12 @@ split_comment q c bytes h = split_skipped q c _ bytes (front_comment c bytes h)
 -- a blank at an index
 pub split_blank_at : (xs : List ℕ) (i : ℕ) → i < length xs → is_blank (get_or xs i 0) ≡ true
     → tokens_after 0 i (drop i xs) ≡ tokens_after 0 (i + 1) (drop (i + 1) xs)
-split_blank_at xs i h e = grind (arith, add-one, drop-cons, split_blank)
+split_blank_at xs i h e = grind (arith, drop-cons, split_blank)
 
 -- a comment at an index
 pub split_comment_at : (xs : List ℕ) (i : ℕ) → i < length xs → get_or xs i 0 ≡ 35
     → tokens_after 0 i (drop i xs) ≡ tokens_after (leading stays_on_line (drop (i + 1) xs)) (i + 1) (drop (i + 1) xs)
-split_comment_at xs i h e = grind (arith, add-one, drop-cons, split_comment)
+split_comment_at xs i h e = grind (arith, drop-cons, split_comment)
 
 -- a comment to the end of its line
 pub split_line_at : (xs : List ℕ) (i : ℕ) → i < length xs → get_or xs i 0 ≡ 35

@@ -1,11 +1,10 @@
 -- How tokens are judged, and what stands at a byte.
 use Rattle.keymap_text.proofs.Common.{arith, ◌≡◌, ℕ, ◌<◌, true, false, not, List, [], ◌++◌, refl, sym, ◌∙◌, ap, length}
-use Rattle.keymap_text.proofs.Common.{add-zero, Result, Ok, Err, Option, Some, None, TextFaultKind, Word, leading}
-use Rattle.keymap_text.proofs.Common.{is_word, Found, front_of, tokens_after, TokenValue, Tokens, Ends, Stops, Then}
-use Rattle.keymap_text.proofs.Common.{item, MapValue, GrammarState, accept, at_end, is_settled, is_end_inside, judge}
-use Rattle.keymap_text.proofs.Common.{Faulty, ended}
+use Rattle.keymap_text.proofs.Common.{Result, Ok, Err, Option, Some, None, TextFaultKind, Word, leading, is_word, Found}
+use Rattle.keymap_text.proofs.Common.{front_of, tokens_after, TokenValue, Tokens, Ends, Stops, Then, item, MapValue}
+use Rattle.keymap_text.proofs.Common.{GrammarState, accept, at_end, is_settled, is_end_inside, judge, Faulty, ended}
 use Rattle.keymap_text.proofs.Leading.{leading_append}
-use Rattle.keymap_text.proofs.InFront.{front_word, short_word}
+use Rattle.keymap_text.proofs.InFront.{front_word}
 use Rattle.keymap_text.proofs.Splitting.{split_none}
 
 -- how tokens are judged
@@ -56,4 +55,4 @@ late_word s t q f p e h = go (accept s (item t.kind t.bytes)) refl
 -- a word that another byte ends
 pub word_ended : (a : ℕ) (p y : List ℕ) → is_word a ≡ true → leading is_word p ≡ length p → leading is_word y ≡ 0
     → length p < 32 → front_of a (p ++ y) ≡ Found Word (length p)
-word_ended a p y h w e l = grind (arith, add-zero, front_word, leading_append, short_word)
+word_ended a p y h w e l = grind (arith, front_word, leading_append)

@@ -1,11 +1,10 @@
 -- From the mask of sixteen bytes to the bytes in front that pass a test.
 use Rattle.keymap_text.proofs.Common.{◌≡◌, ℕ, ◌+◌, ◌%◌, ◌^◌, ◌<◌, ◌≤◌, Bool, true, false, not, List, [], ◌∷◌, map}
 use Rattle.keymap_text.proofs.Common.{length, get_or, replicate, Fits, w8, refl, sym, ap, ap₂, ◌∙◌, subst, arith}
-use Rattle.keymap_text.proofs.Common.{agree_below, agree_below_at, not-true, not-false, cases_eq, eq-eqb, ne_eqb}
-use Rattle.keymap_text.proofs.Common.{cond-true, cond-false, map-map, mask_l-mod, length-chunk, get_or-chunk}
-use Rattle.keymap_text.proofs.Common.{leading_from_mask_l, trailing_mask_l, length-map, prefix_len-le-length}
-use Rattle.keymap_text.proofs.Common.{prefix_len_is, prefix_len_passes, prefix_len_stops, prefix_len, leading}
-use Rattle.keymap_text.proofs.Common.{first_of_sixteen}
+use Rattle.keymap_text.proofs.Common.{agree_below, agree_below_at, not-true, not-false, map-map, mask_l-mod}
+use Rattle.keymap_text.proofs.Common.{length-chunk, get_or-chunk, leading_from_mask_l, trailing_mask_l, length-map}
+use Rattle.keymap_text.proofs.Common.{prefix_len-le-length, prefix_len_is, prefix_len_passes, prefix_len_stops}
+use Rattle.keymap_text.proofs.Common.{prefix_len, leading, first_of_sixteen}
 use lib.Lanes.{chunk, zip2, mask_l, top}
 
 -- vectors that were computed lane by lane from v
@@ -26,7 +25,7 @@ splat_is (x ∷ v) n y e = ap (λ k. replicate k y) (sym e) ∙ ap (λ r. y ∷ 
 -- the place of the lowest bit is how many bytes pass
 run_is : (p : ℕ → Bool) (v : List ℕ) → length v ≡ 16
     → first_of_sixteen (mask_l (map p v)) ≡ prefix_len (λ x. not (p x)) v
-run_is p v long = grind (arith, cases_eq, cond-false, cond-true, eq-eqb, leading_from_mask_l, ne_eqb, trailing_mask_l)
+run_is p v long = grind (arith, leading_from_mask_l, trailing_mask_l)
 
 -- the bytes of a vector are the first sixteen
 in_chunk : (d : List ℕ) (k : ℕ) → k < 16 → get_or (chunk 0 16 d) k 0 ≡ get_or d k 0

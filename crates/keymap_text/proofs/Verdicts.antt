@@ -181,7 +181,7 @@ not_both text m f s (e, h) = none-some _ (sym (fault_or_map text m s) ∙ h.0)
 -- a text has one fault at most
 pub one_fault : (text : List ℕ) (f g : TextFault) → Fault text f → Fault text g
     → (f.kind ≡ g.kind) × (f.offset ≡ g.offset) × (f.line ≡ g.line)
-one_fault text f g (e, h) (d, k) = grind (arith, same_Some)
+one_fault text f g (e, h) (d, k) = grind arith
 
 -- a text spells a map or has a fault
 pub one_of_them : (text : List ℕ) → ((m : MapValue) × Spells text m) ⊎ ((f : TextFault) × Fault text f)

@@ -56,10 +56,6 @@ prints_quoted c h k =
 hex_value : (d : ℕ) → d < 16 → digit_value (digit_char d) ≡ d
 hex_value d h = grind (arith, nat_tests)
 
--- a hexadecimal digit is a letter or digit
-hex_word : (d : ℕ) → d < 16 → is_word (digit_char d) ≡ true
-hex_word d h = grind (arith, nat_tests)
-
 -- and passes the test of digits
 hex_test : (d : ℕ) → d < 16 → is_digit 16 (digit_char d) ≡ true
 hex_test d h = rw (hex_value d h) (lt-ltb d 16 h)

@@ -1,10 +1,9 @@
 -- A text that is read from a device, piece by piece.
 use Rattle.keymap_text.proofs.Common.{◌≡◌, ℕ, zero, suc, ◌+◌, ◌≤◌, ◌<◌, List, [], ◌∷◌, ◌++◌, length, take, refl, sym}
-use Rattle.keymap_text.proofs.Common.{◌∙◌, subst, arith, Option, Result, Ok, Err, length-append, append-nil, IfErr}
-use Rattle.keymap_text.proofs.Common.{MapValue, TextError, TextFault, verdict, judge, Spelled, tokens_after, empty_map}
-use Rattle.keymap_text.proofs.Common.{at_end, Concludes, StandsAfter, FedAfter, limit, HasNoEarlyFault, TakesWhole}
-use Rattle.keymap_text.proofs.Common.{FailsInside, TextGoesPast, ReadsMap, StopsAtOnce, length-take-le, none-some}
-use mathlib.Core.Logic.{inr}
+use Rattle.keymap_text.proofs.Common.{◌∙◌, arith, Option, Result, Ok, Err, length-append, append-nil, IfErr, MapValue}
+use Rattle.keymap_text.proofs.Common.{TextError, TextFault, verdict, judge, Spelled, tokens_after, empty_map, at_end}
+use Rattle.keymap_text.proofs.Common.{Concludes, StandsAfter, FedAfter, limit, HasNoEarlyFault, FailsInside}
+use Rattle.keymap_text.proofs.Common.{TextGoesPast, ReadsMap, StopsAtOnce, length-take-le, none-some}
 use Rattle.std.specs.Io.KnownBytes.{Consumes, IsAtEnd, Keeps}
 use Rattle.std.proofs.KnownBytes.{Consumes-trans, Consumes-kept, Consumes-nil}
 use Rattle.keymap_text.specs.Progress.{Progress}
@@ -44,18 +43,6 @@ pub fed_early : {a b c : Option (List ℕ)} {r : Progress} {taken n : ℕ} {f : 
     → (buffer : List ℕ) → (fed : IsFed a b r taken) → Consumes b c (take n buffer) → n ≤ length buffer
     → taken + n ≤ limit → FedAfter (Err f) r' (fed.text ++ take n buffer) → ReadsMap a c (Err (errors.Fault f))
 fed_early r' buffer fed h l few k = grind (arith, Consumes-trans, length-append, length-take-le)
-
--- the whole text was read
-concluded : (a c : Option (List ℕ)) (result : Result MapValue TextError) (text : List ℕ) → Concludes result text
-    → TakesWhole a c text → ReadsMap a c result
-concluded a c (Ok m) text h w = (text, w, h)
-concluded a c (Err errors.Memory) text h w = absurd h
-concluded a c (Err (errors.Read f)) text h w = absurd h
-concluded a c (Err (errors.Fault f)) text h w = (text, inr (w, h))
-
--- a read of no bytes took none
-none_taken : (b c : Option (List ℕ)) (n : ℕ) (buffer : List ℕ) → n ≡ 0 → Consumes b c (take n buffer) → Consumes b c []
-none_taken b c n buffer z h = subst (λ (n : ℕ). Consumes b c (take n buffer)) z h
 
 -- the device has no more bytes, so the text is whole
 pub fed_whole : {a b : Option (List ℕ)} {r : Progress} {taken n : ℕ} → (c : Option (List ℕ)) → (buffer : List ℕ)

@@ -53,10 +53,6 @@ pub greatest_more : (f : Definition → ℕ) (d : Definition) (ds : List Definit
 unfolding greatest
 greatest_more f d ds = refl
 
--- the counts
-max_of : (a b c : ℕ) → max (max a b) c ≡ max a (max b c)
-max_of a b c = omega arith
-
 -- how many were filled in
 length_replicate : {X : Type 0} (n : ℕ) (u : X) → length (replicate n u) ≡ n
 length_replicate zero u = refl

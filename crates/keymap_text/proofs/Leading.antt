@@ -1,10 +1,10 @@
 -- How many bytes at the front pass a test.
 use Rattle.keymap_text.proofs.Common.{◌≡◌, ◌==◌, ℕ, zero, suc, ◌+◌, ◌<◌, ◌≤◌, Bool, true, false, cond, List, [], ◌∷◌}
 use Rattle.keymap_text.proofs.Common.{◌++◌, length, take, drop, get_or, sym, ◌∙◌, ap, arith, ⊎_elim, eq-or-lt_of_le}
-use Rattle.keymap_text.proofs.Common.{drop-cons, append-nil, nat_tests, length-take-le, get_or-take, drop_all}
-use Rattle.keymap_text.proofs.Common.{prefix_len_is, prefix_len-drop_yes, prefix_len-drop_no, prefix_len-drop_all}
+use Rattle.keymap_text.proofs.Common.{drop-cons, append-nil, length-take-le, get_or-take, drop_all, prefix_len_is}
+use Rattle.keymap_text.proofs.Common.{prefix_len-drop_yes, prefix_len-drop_no, prefix_len-drop_all}
 use Rattle.keymap_text.proofs.Common.{prefix_len-le-length, prefix_len_passes, prefix_len_stops, Some, None}
-use Rattle.keymap_text.proofs.Common.{IsFirstByte, is_byte, leading, is_space, stays_on_line}
+use Rattle.keymap_text.proofs.Common.{IsFirstByte, is_byte, leading, stays_on_line, is_space}
 use Rattle.std.proofs.lemmas.List.Folds.{prefix_len-append}
 
 -- the number, where the first byte passes and where it does not
@@ -98,11 +98,7 @@ line_whole bytes h =
     sym (prefix_len_is stays_on_line bytes (length bytes) 0 (omega arith) (λ k l. no_line_end _ (h k (omega arith) l))
     (λ l. absurd (omega (arith, l))))
 
--- a space is a blank
-space_is_blank : (c : ℕ) → c == 32 ≡ true → is_space c ≡ true
-space_is_blank c h = grind (arith, nat_tests)
-
--- so there are as many blanks in front as spaces
+-- there are as many blanks in front as spaces
 pub plain_spaces : (xs : List ℕ) → leading (λ c. c == 32) xs ≤ leading is_space xs
 plain_spaces [] = omega arith
 plain_spaces (x ∷ xs) = grind (arith, leading_fail, leading_pass, (plain_spaces xs))

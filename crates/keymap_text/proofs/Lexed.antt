@@ -1,9 +1,9 @@
 -- Texts whose tokens are known, whatever stands behind them.
-use Rattle.keymap_text.proofs.Common.{◌≡◌, ℕ, ◌+◌, ◌<◌, ◌≤◌, true, false, List, [], ◌∷◌, ◌++◌, length, refl, ◌∙◌, arith}
+use Rattle.keymap_text.proofs.Common.{◌≡◌, ℕ, ◌+◌, ◌<◌, ◌≤◌, true, List, [], ◌∷◌, ◌++◌, length, refl, ◌∙◌, arith}
 use Rattle.keymap_text.proofs.Common.{append_assoc, length-append, TokenKind, ParenL, ParenR, Literal, Word, Item, Open}
 use Rattle.keymap_text.proofs.Common.{Close, Value, Char, tokens_after, leading, is_word, is_blank, Found, front_of}
 use Rattle.keymap_text.proofs.Common.{meaning, item, ending_of_tokens}
-use Rattle.keymap_text.proofs.Leading.{leading_tail, leading_fail}
+use Rattle.keymap_text.proofs.Leading.{leading_tail}
 use Rattle.keymap_text.proofs.InFront.{front_quote, front_left, front_right}
 use Rattle.keymap_text.proofs.Splitting.{split_blank, split_whole}
 use Rattle.keymap_text.proofs.Steps.{word_ended}
@@ -37,10 +37,6 @@ lexes_both a b s = grind (arith, append_assoc, length-append)
 -- a blank is no token
 pub lexes_blank : (P : List ℕ → Type 0) (c : ℕ) → is_blank c ≡ true → Lexes P (c ∷ []) []
 lexes_blank P c h = grind (arith, split_blank)
-
--- a text that begins with a blank, and others that begin with no letter or digit
-pub blank_first : (c : ℕ) (u y : List ℕ) → is_word c ≡ false → leading is_word ((c ∷ u) ++ y) ≡ 0
-blank_first c u y h = leading_fail is_word c (u ++ y) h
 
 -- one token
 lexes_one : (P : List ℕ → Type 0) (c : ℕ) (w : List ℕ) (kind : TokenKind) (i : Item)

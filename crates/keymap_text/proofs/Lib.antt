@@ -40,3 +40,4 @@ pub mod InForce
 pub mod WantedPlace
 pub mod OneRow
 pub mod TokenPlaces
+pub mod Told

@@ -268,10 +268,6 @@ never : (p q r s : Bool) → cond p false (cond q false (cond r false (cond s fa
 never false false false true = refl
 never p q r s = refl
 
--- every character between apostrophes is one, but LF
-no_second : (b : ℕ) → second b 39 ≡ false
-no_second b = never (b == 0xE0) (b == 0xED) (b == 0xF0) (b == 0xF4)
-
 -- a byte that no other follows begins no character
 no_char : (p q r : Bool) (a z : Decoded) → r ≡ false → (cond p (bad 1) (cond q (bad 1) (cond r a (bad 1)))).char ≡ None
 no_char true q r a z h = refl

@@ -1,8 +1,8 @@
 -- Each row of the table of names says what its name means.
-use Rattle.keymap_text.proofs.Common.{rules, ◌≡◌, ℕ, suc, ◌+◌, ◌*◌, ◌<◌, true, false, ◌&&◌, List, [], ◌∷◌, length, take}
-use Rattle.keymap_text.proofs.Common.{drop, get_or, map, fold, All, refl, sym, ◌∙◌, ap, ap₂, arith, nat_lt, nat_le}
-use Rattle.keymap_text.proofs.Common.{Option, Some, None, IfSome, codes, ◌≤◌, length-take, take_all, get_or-map}
-use Rattle.keymap_text.proofs.Common.{take-map, drop-map, length-map, lt-ltb, nat_tests, list_all, to_ascii_lowercase}
+use Rattle.keymap_text.proofs.Common.{rules, ◌≡◌, ℕ, ◌+◌, ◌*◌, ◌<◌, true, false, ◌&&◌, List, [], ◌∷◌, length, take}
+use Rattle.keymap_text.proofs.Common.{drop, get_or, map, fold, All, refl, sym, ◌∙◌, ap, ap₂, arith, nat_lt, Option}
+use Rattle.keymap_text.proofs.Common.{Some, None, IfSome, codes, ◌≤◌, length-take, take_all, get_or-map, take-map}
+use Rattle.keymap_text.proofs.Common.{drop-map, length-map, lt-ltb, nat_tests, list_all, to_ascii_lowercase}
 use Rattle.keymap_text.proofs.Common.{digit_value, named_of, Number, Act, Name, Meaning, NAMES, pack, unpacked}
 use Rattle.keymap_text.proofs.Common.{KeyMeans, IsTrueName, function_name, screen_name, name_key, ArePlaced, along}
 use Rattle.keymap_text.proofs.Common.{leading, is_word, from_le_bytes, w64, meaning, sense_meaning, letters}
@@ -85,10 +85,6 @@ decimal_meaning w n h = grind (arith, meaning_picks)
 not_decimal : (b : ℕ) (w : List ℕ) → nat_lt (digit_value b) 10 ≡ false → digits_of 10 (48 ∷ b ∷ w) ≡ None
 unfolding digits_of
 not_decimal b w h = rw (h, digits_of) (none_of _ _)
-
--- two bytes are enough for a prefix
-some_length : (n : ℕ) → nat_le 2 (suc (suc n)) ≡ true
-some_length n = grind (arith, nat_tests)
 
 -- the digits behind 0x
 behind_prefix : (b : ℕ) (w : List ℕ) → to_ascii_lowercase b ≡ 120

@@ -1,8 +1,8 @@
 -- Tokens are the rows of one list at most.
 use Rattle.keymap_text.proofs.Common.{◌≡◌, ℕ, ◌+◌, List, [], ◌∷◌, ◌++◌, length, map, refl, sym, ◌∙◌, ap, ap₂, arith}
-use Rattle.keymap_text.proofs.Common.{append-nil, Entry, Cell, Item, AccentValue, TokenValue, item_of, Definition}
-use Rattle.keymap_text.proofs.Common.{AreCells, no_cells, one_cell, ArePairs, no_pairs, one_pair, Defines, of_key}
-use Rattle.keymap_text.proofs.Common.{of_accent, Row, AreRows, no_row, one_row, places_after}
+use Rattle.keymap_text.proofs.Common.{append-nil, Cell, Item, TokenValue, item_of, Definition, AreCells, no_cells}
+use Rattle.keymap_text.proofs.Common.{one_cell, ArePairs, no_pairs, one_pair, Defines, of_key, of_accent, Row, AreRows}
+use Rattle.keymap_text.proofs.Common.{no_row, one_row, places_after}
 use Rattle.keymap_text.proofs.RowPlaces.{places_are}
 use Rattle.keymap_text.proofs.Leading.{same_head, same_tail}
 use Rattle.keymap_text.proofs.Row.{ok_is}
@@ -30,12 +30,6 @@ pairs_are (one_pair {t = t} {u = u} {base = a} {result = b} {ts = ts} {ps = ps} 
     let rest : ts ≡ ts' = cc in
     let more = pairs_are r r' rest in
     cc
-
-entry_is : (e f : Entry) → e.cells ≡ f.cells → e.flag ≡ f.flag → e ≡ f
-entry_is e f h k = ap₂ (λ cells flag. record { cells = cells; flag = flag }) h k
-
-accent_is : (a b : AccentValue) → a.own ≡ b.own → a.pairs ≡ b.pairs → a ≡ b
-accent_is a b h k = ap₂ (λ own pairs. record { own = own; pairs = pairs }) h k
 
 -- tokens define one thing
 pub defined_is : {ts us : List Item} {d e : Definition} → Defines ts d → Defines us e → ts ≡ us → d ≡ e

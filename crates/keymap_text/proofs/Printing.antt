@@ -1,4 +1,4 @@
--- A printed map spells the map, and the words of a definition tell it.
+-- A printed map spells the map.
 use Rattle.keymap_text.proofs.Common.{◌≡◌, ◌≢◌, ℕ, zero, suc, ◌+◌, ◌<◌, ◌≤◌, ◌==◌, Bool, true, false, cond, max, List}
 use Rattle.keymap_text.proofs.Common.{[], ◌∷◌, ◌++◌, length, get_or, map, refl, sym, ◌∙◌, ap, ap₂, subst, arith, Ok}
 use Rattle.keymap_text.proofs.Common.{Option, Some, None, append_assoc, append-nil, eqb-true, eq-eqb, ne_eqb}
@@ -14,14 +14,12 @@ use Rattle.keymap_core.specs.Bounds.{IsMap, IsCell, IsPair}
 use Rattle.keymap_text.proofs.Splitting.{split_none}
 use Rattle.keymap_text.proofs.Verdicts.{items_of}
 use Rattle.keymap_text.proofs.Folded.{last_none, last_more, greatest_none, greatest_more, by_range, same_map}
-use Rattle.keymap_text.proofs.Lexed.{Lexes, Any, lexes_none, lexes_both, NoWord}
+use Rattle.keymap_text.proofs.Lexed.{Lexes, Any, lexes_none, lexes_both}
 use Rattle.keymap_text.proofs.PrintedLines.{EachCell, EachPair, PrintsCell, PrintsName, PrintsCharacter, key_printed}
-use Rattle.keymap_text.proofs.PrintedLines.{accent_printed, slot_printed, accent_words_printed}
+use Rattle.keymap_text.proofs.PrintedLines.{accent_printed}
 use Rattle.keymap_text.proofs.Characters.{lexes_as, prints_rules}
 use Rattle.keymap_text.proofs.PrintedNames.{action_word, action_meaning}
 use Rattle.keymap_core.specs.declared.entry.Cell.TheVariants as cells
-use Rattle.keymap_text.specs.Definitions.{IsDefinition, definition_words}
-use Rattle.keymap_text.proofs.OneRow.{defined_is}
 
 -- each character prints
 pub prints_character : (c : ℕ) → scalar c ≡ true → PrintsCharacter c
@@ -249,17 +247,3 @@ module _ (m : MapValue) (h : IsMap m) where
         ∙ ends _;
     map = same;
   }
-
--- the words are tokens, which define it
-are_tokens : (d : Definition) → IsDefinition d
-    → (ts : List Item) × Lexes NoWord (definition_words d) ts × Defines ts d
-are_tokens (KeyDefinition slot e) (low, is) = slot_printed slot e low is.eight (prints_cells e.cells is.cells)
-are_tokens (AccentDefinition i a) (low, is) =
-    grind (arith, accent_words_printed, prints_character, prints_name, prints_pairs)
-
--- the tokens of a text that is these and no more
-all_of : (w : List ℕ) (ts : List Item) → Lexes NoWord w ts → items_of (tokens_after 0 0 (w ++ [])) ≡ ts
-all_of w ts l = grind (arith, append-nil, no_items)
-
-pub words_tell : (d e : Definition) → IsDefinition d → IsDefinition e → definition_words d ≡ definition_words e → d ≡ e
-words_tell d e p q h = grind (arith, all_of, are_tokens, defined_is)

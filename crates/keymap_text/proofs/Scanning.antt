@@ -9,10 +9,6 @@ use Rattle.keymap_text.proofs.Leading.{leading_pass, leading_fail, leading_short
 use Rattle.keymap_text.proofs.Splitting.{split_blank, split_comment, split_after, to_end}
 use Rattle.keymap_text.proofs.Steps.{judge_then, judge_refused}
 
--- blanks
-space_blank : (c : ℕ) → is_space c ≡ true → is_blank c ≡ true
-space_blank c h = grind (arith, nat_tests)
-
 -- blanks are passed
 split_spaces : (n q : ℕ) (xs y : List ℕ) → n ≤ leading is_space xs
     → tokens_after 0 q (xs ++ y) ≡ tokens_after 0 (q + n) (drop n xs ++ y)

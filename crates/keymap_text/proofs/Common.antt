@@ -6,7 +6,7 @@ pub use Rattle.keymap_core.proofs.Lists.{along, get_or-replicate_default}
 pub use Rattle.keymap_core.specs.Accents.{AccentValue, blank}
 pub use Rattle.keymap_core.specs.Actions.{IsAction, name_of}
 pub use Rattle.keymap_core.specs.Maps.{MapValue, entry_at, placed, undefined, with_accent, with_entry}
-pub use Rattle.keymap_core.specs.Names.{meaning_of, named_of}
+pub use Rattle.keymap_core.specs.Names.{named_of}
 pub use Rattle.keymap_core.specs.Streams.{Gathers, size_of}
 pub use Rattle.keymap_text.specs.Inner.Fields.{progress}
 pub use Rattle.keymap_text.specs.Inner.Grammar.{AccentCharacter, AfterAccent, CellAt, GrammarPlace, GrammarState}
@@ -38,24 +38,22 @@ unfoldable pub use Rattle.keymap_text.specs.Meaning.{ending_of_tokens, list_of, 
 pub use Rattle.keymap_text.specs.Placed.{AreRows, IsPlaced, IsSpelledBy, Row, StandsAmong, begins, defined, is_same}
 pub use Rattle.keymap_text.specs.Placed.{no_row, one_row, places_of, span_of}
 unfoldable pub use Rattle.keymap_text.specs.Placed.{last_of, places_after}
-pub use Rattle.keymap_text.specs.Places.{AfterPairs, AtAccentCharacter, AtBase, AtCell, AtDefinition, AtLock, AtPairEnd}
-pub use Rattle.keymap_text.specs.Places.{AtResult, RowPlace, if_accepted, may_end, next, next_at_definition}
+pub use Rattle.keymap_text.specs.Places.{AfterPairs, AtDefinition, RowPlace, may_end, next, next_at_definition}
 pub use Rattle.keymap_text.specs.Printed.{accent_lines, accent_name, cell_text, column, control_name, filled}
 pub use Rattle.keymap_text.specs.Printed.{flag_letter, key_lines, printed, slot_text}
-unfoldable pub use Rattle.keymap_text.specs.Printed.{accent_line, accent_words, character_text, key_line}
-unfoldable pub use Rattle.keymap_text.specs.Printed.{pair_text, slot_words}
+unfoldable pub use Rattle.keymap_text.specs.Printed.{accent_line, accent_words, character_text, key_line, pair_text}
+unfoldable pub use Rattle.keymap_text.specs.Printed.{slot_words}
 pub use Rattle.keymap_text.specs.Rows.{AccentDefinition, AreCells, ArePairs, Defines, Definition, IsRow, KeyDefinition}
 pub use Rattle.keymap_text.specs.Rows.{accents_needed, map_of, no_cells, no_definition, no_pairs, of_accent, of_index}
 pub use Rattle.keymap_text.specs.Rows.{of_key, of_slot, one_cell, one_definition, one_pair, or_default, slots_needed}
 unfoldable pub use Rattle.keymap_text.specs.Rows.{greatest, last}
-pub use Rattle.keymap_text.specs.Sources.{FailsInside, HasNoEarlyFault, ReadsMap, StopsAtOnce, TakesWhole, TextGoesPast}
-pub use Rattle.keymap_text.specs.Sources.{limit}
+pub use Rattle.keymap_text.specs.Sources.{FailsInside, HasNoEarlyFault, ReadsMap, StopsAtOnce, TextGoesPast, limit}
 pub use Rattle.keymap_text.specs.Standing.{FedAfter, StandsAfter}
 pub use Rattle.keymap_text.specs.Tokens.{result_view, token_view}
-pub use Rattle.keymap_text.specs.Types.{Accent, Act, Action, BadByte, BadLiteral, BadWord, Cell, Char, Close}
-pub use Rattle.keymap_text.specs.Types.{Defined, EndInside, Entry, Item, Letter, Literal, LockFlag, Meaning, Name}
-pub use Rattle.keymap_text.specs.Types.{Number, Open, ParenL, ParenR, Placed, Slot, Span, TextError, TextFault}
-pub use Rattle.keymap_text.specs.Types.{TextFaultKind, Token, TokenKind, Value, Word}
+pub use Rattle.keymap_text.specs.Types.{Accent, Act, Action, BadByte, BadLiteral, BadWord, Cell, Char, Close, Defined}
+pub use Rattle.keymap_text.specs.Types.{EndInside, Entry, Item, Letter, Literal, LockFlag, Meaning, Name, Number, Open}
+pub use Rattle.keymap_text.specs.Types.{ParenL, ParenR, Placed, Slot, Span, TextError, TextFault, TextFaultKind, Token}
+pub use Rattle.keymap_text.specs.Types.{TokenKind, Value, Word}
 pub use Rattle.keymap_text.specs.Wanted.{definition_behind}
 unfoldable pub use Rattle.keymap_text.specs.Wanted.{first_refused}
 pub use Rattle.keymap_text.specs.Words.{control_names, is_digit, is_letter, item, letters, number, number_after}
@@ -66,16 +64,16 @@ pub use Rattle.keymap_text.specs.declared.names.TheConstants.{LOW_BYTES, NAMES}
 pub use Rattle.keymap_text.specs.declared.reading.Reading.{Reading}
 pub use Rattle.keymap_text.specs.declared.scanner.Stop.{Stop}
 pub use Rattle.std.proofs.Common.{All, Bool, Err, Fits, IfErr, IfSome, IsErr, List, None, Ok, Option, Result, Some, []}
-pub use Rattle.std.proofs.Common.{add-one, add-zero, ap, append-nil, append_assoc, ap₂, arith, bit_and, bytes_eq, codes}
-pub use Rattle.std.proofs.Common.{cond, count_by, drop, drop-cons, drop_at, eq-eqb, eq-or-lt_of_le, eqb-true, false}
-pub use Rattle.std.proofs.Common.{fold, get_or, inl, inr, leb, length, length-append, length-drop, length-set}
-pub use Rattle.std.proofs.Common.{length-take, map, max, mul-le-mul_left, nat_le, nat_lt, ne_eqb, not, pow-add}
-pub use Rattle.std.proofs.Common.{pow_mono, refl, replicate, rules, set, slice_index, slice_index_or, subst}
-pub use Rattle.std.proofs.Common.{suc, sym, take, take_all, take_at, true, true≢false, vec_len, w8, zero, ℕ, ⊎_elim}
-pub use Rattle.std.proofs.Common.{◌%◌, ◌&&◌, ◌*◌, ◌++◌, ◌+◌, ◌-◌, ◌/◌, ◌<◌, ◌==◌, ◌^◌, ◌∙◌, ◌∷◌, ◌≡◌, ◌≢◌, ◌≤◌, ◌⊎◌}
+pub use Rattle.std.proofs.Common.{add-one, add-zero, ap, append-nil, append_assoc, ap₂, arith, bit_and, codes, cond}
+pub use Rattle.std.proofs.Common.{count_by, drop, drop-cons, drop_at, eq-eqb, eq-or-lt_of_le, eqb-true, false, fold}
+pub use Rattle.std.proofs.Common.{get_or, inl, inr, leb, length, length-append, length-drop, length-set, length-take}
+pub use Rattle.std.proofs.Common.{map, max, mul-le-mul_left, nat_le, nat_lt, ne_eqb, not, pow-add, pow_mono, refl}
+pub use Rattle.std.proofs.Common.{replicate, rules, set, slice_index, slice_index_or, subst, suc, sym, take, take_all}
+pub use Rattle.std.proofs.Common.{take_at, true, true≢false, vec_len, w8, zero, ℕ, ⊎_elim, ◌%◌, ◌&&◌, ◌*◌, ◌++◌, ◌+◌}
+pub use Rattle.std.proofs.Common.{◌-◌, ◌/◌, ◌<◌, ◌==◌, ◌^◌, ◌∙◌, ◌∷◌, ◌≡◌, ◌≢◌, ◌≤◌, ◌⊎◌}
 pub use Rattle.std.proofs.Math.Seq.{drop-append-add, get_or-append_seam, take-add, take-append_seam}
-pub use Rattle.std.proofs.lemmas.Bool.{agree_below, agree_below_at, cases_eq, cond-false, cond-true, le-ltb, lt-ltb}
-pub use Rattle.std.proofs.lemmas.Bool.{cases_lt, leb-true, ltb-true, not-false, not-true}
+pub use Rattle.std.proofs.lemmas.Bool.{agree_below, agree_below_at, cases_eq, le-ltb, lt-ltb, cases_lt, leb-true}
+pub use Rattle.std.proofs.lemmas.Bool.{ltb-true, not-false, not-true}
 pub use Rattle.std.proofs.lemmas.Bool.Decides.{nat_tests}
 pub use Rattle.std.proofs.lemmas.List.{at_drop_all, drop-append-le, drop-drop, drop-map, drop-take, drop_all, drop_more}
 pub use Rattle.std.proofs.lemmas.List.{ext_get_or, get_or-drop, get_or-map, get_or-replicate, get_or-set_other}

@@ -1,14 +1,13 @@
 -- The table of names begins with the names of the control characters.
-use Rattle.keymap_text.proofs.Common.{leb-true, ◌≡◌, ℕ, ◌<◌, ◌≤◌, ◌==◌, ◌⊎◌, inl, inr, true, cond, length, map, refl}
-use Rattle.keymap_text.proofs.Common.{sym, subst, arith, List, [], ◌∷◌, nat_le, get_or, range_with_len, letters}
-use Rattle.keymap_text.proofs.Common.{control_name, filled, NAMES, along}
+use Rattle.keymap_text.proofs.Common.{leb-true, ◌≡◌, ℕ, ◌<◌, ◌≤◌, ◌==◌, ◌⊎◌, true, cond, length, map, refl, arith, List}
+use Rattle.keymap_text.proofs.Common.{[], ◌∷◌, nat_le, get_or, range_with_len, letters, control_name, filled, NAMES}
+use Rattle.keymap_text.proofs.Common.{along}
 use Rattle.keymap_text.specs.declared.names.Name.{Name}
 
 -- what two functions say of the control characters, computed over them
 along_controls : {X : Type 0} (f g : ℕ → X) → map f (range_with_len 0 32) ≡ map g (range_with_len 0 32)
     → f 127 ≡ g 127 → (c : ℕ) → (c < 32) ⊎ (c ≡ 127) → f c ≡ g c
-along_controls f g low delete c (inl h) = along f g 0 32 low c (omega arith) h
-along_controls f g low delete c (inr e) = subst (λ (c : ℕ). f c ≡ g c) (sym e) delete
+along_controls f g low delete c o = grind (arith, along)
 
 -- the row of a control character has its name
 pub control_letters : (c : ℕ) (d : Name) → (c < 32) ⊎ (c ≡ 127)

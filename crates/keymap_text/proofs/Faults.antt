@@ -1,13 +1,12 @@
 -- The faults of the reader's machine are those of the places.
 use Rattle.keymap_text.proofs.Common.{◌≡◌, ℕ, List, [], ◌∷◌, refl, sym, ◌∙◌, ap, Result, Ok, Err, Option, Some, None}
-use Rattle.keymap_text.proofs.Common.{length-append, TextFaultKind, Item, Open, Close, Value, Number, Act, TokenValue}
-use Rattle.keymap_text.proofs.Common.{Tokens, Ends, Stops, Then, tokens_after, MapValue, with_accent, GrammarState}
-use Rattle.keymap_text.proofs.Common.{accept, at, at_end, first_of, RowPlace, AfterPairs, next, next_at_definition}
-use Rattle.keymap_text.proofs.Common.{judge, verdict, Verdict, Spelled, Faulty, ended, list_of, ending_of_tokens}
-use Rattle.keymap_text.proofs.Common.{item_of, place_after, FaultInText, found_in, fault_of, place_of, arith}
+use Rattle.keymap_text.proofs.Common.{length-append, TextFaultKind, Item, TokenValue, Tokens, Ends, Stops, Then}
+use Rattle.keymap_text.proofs.Common.{tokens_after, MapValue, GrammarState, accept, at, at_end, first_of, RowPlace}
+use Rattle.keymap_text.proofs.Common.{next, next_at_definition, judge, verdict, Verdict, Spelled, Faulty, ended}
+use Rattle.keymap_text.proofs.Common.{list_of, ending_of_tokens, item_of, place_after, FaultInText, found_in, fault_of}
+use Rattle.keymap_text.proofs.Common.{place_of, arith}
 use Rattle.keymap_text.proofs.Steps.{judge_then, judge_refused, judge_stops, judge_ends}
 use Rattle.keymap_text.specs.Inner.Grammar as full
-use Rattle.keymap_core.specs.declared.action.Action.TheVariants.{DeadKey}
 
 abbrev pub led : Result GrammarState TextFaultKind → Result RowPlace TextFaultKind
 led (Ok s) = Ok (place_of s.place)
@@ -15,24 +14,11 @@ led (Err f) = Err f
 
 -- the first token of a definition
 first_led : (m : MapValue) (t : Item) → next_at_definition t ≡ led (full.◌>>=◌ (first_of t) (λ p. Ok (at m p)))
-first_led m (Value (Number n)) = grind arith
-first_led m (Value (Act (DeadKey i))) = refl
-first_led m _ = refl
+first_led m o = grind arith
 
 -- a step of the machine leads to the place that the definitions name, or to their fault
 pub step_led : (m : MapValue) (p : full.GrammarPlace) (t : Item) → next (place_of p) t ≡ led (full.step m p t)
-step_led m full.Definition t = first_led m t
-step_led m (full.CellAt slot i e) t = grind arith
-step_led m (full.LockAt slot e) t = grind arith
-step_led m (full.AccentCharacter i) t = grind arith
-step_led m (full.AfterAccent i a) Open = grind arith
-step_led m (full.AfterAccent i a) Close = refl
-step_led m (full.AfterAccent i a) (Value v) = first_led (with_accent m i a) (Value v)
-step_led m (full.PairBase i a) t = grind arith
-step_led m (full.PairResult i a b) t = grind arith
-step_led m (full.PairEnd i a b r) Open = refl
-step_led m (full.PairEnd i a b r) Close = ap (λ n. Ok (AfterPairs n)) (sym (length-append a.pairs _))
-step_led m (full.PairEnd i a b r) (Value v) = refl
+step_led m o t = grind (arith, first_led, length-append)
 
 -- the same from a whole state
 pub accept_led : (s : GrammarState) (t : Item) → next (place_of s.place) t ≡ led (accept s t)
@@ -64,8 +50,7 @@ found_of (Faulty f q e) = Some (record { kind = f; offset = q; early = e })
 ends : (m : MapValue) (p : full.GrammarPlace) (q : ℕ)
     → found_of (ended (at_end (at m p)) q) ≡ found_in (Ok (place_of p)) (Ok q)
 unfolding at_end
-ends m full.Definition q = refl
-ends m _ q = refl
+ends m o q = grind arith
 
 -- no token at the end
 pub list_ends : (q : ℕ) → list_of (Ends q) ≡ []

@@ -56,15 +56,11 @@ stays_or_open c b = go (front_of c b) refl (in_front c b)
 -- what is found in open bytes is a word, and has them all
 pub open_found : (c n : ℕ) (k : TokenKind) (b : List ℕ) → IsOpen (c ∷ b) → front_of c b ≡ Found k n
     → (k ≡ Word) × (n ≡ length b)
-open_found c n k b (inl o) h = absurd (let g = front_comment c b o.0 in cc)
-open_found c n k b (inr (inl o)) h = (cc, cc)
-open_found c n k b (inr (inr o)) h = absurd (cc)
+open_found c n k b o h = grind (arith, front_comment)
 
 -- there is no fault in them
 pub open_refused : (c : ℕ) (f : TextFaultKind) (b : List ℕ) → IsOpen (c ∷ b) → front_of c b ≡ Refused f → ⊥
-open_refused c f b (inl o) h = let g = front_comment c b o.0 in cc
-open_refused c f b (inr (inl o)) h = cc
-open_refused c f b (inr (inr o)) h = cc
+open_refused c f b o h = grind (arith, front_comment)
 
 -- a token that is found stands there whatever follows, but for a word at the end
 pub found_on : (c n : ℕ) (k : TokenKind) (b x : List ℕ) → front_of c b ≡ Found k n → (k ≡ Word → n < length b)

@@ -6,7 +6,7 @@ use Rattle.keymap_text.proofs.Common.{Defined, Slot, Accent, Placed, AccentValue
 use Rattle.keymap_text.proofs.Common.{TokenValue, item_of, tokens, Definition, KeyDefinition, AccentDefinition, Defines}
 use Rattle.keymap_text.proofs.Common.{last, of_slot, of_index, or_default, Row, AreRows, no_row, one_row, IsSpelledBy}
 use Rattle.keymap_text.proofs.Common.{defined, places_after, places_of, is_same, last_of, empty_map, ap₂, ⊎_elim, ◌⊎◌}
-use Rattle.keymap_text.proofs.Common.{inl, inr, Item}
+use Rattle.keymap_text.proofs.Common.{Item}
 use Rattle.keymap_text.proofs.Folded.{last_none, last_more, entries_of, accents_of, puts_are}
 use Rattle.keymap_text.proofs.Parts.{slot_tokens, accent_tokens}
 
@@ -34,15 +34,11 @@ last_nowhere what n = refl
 -- where a row and the others define something last
 last_or : (o : Option Placed) (b : Bool) (here p : Placed) → option_or o (cond b (Some here) None) ≡ Some p
     → (o ≡ Some p) ⊎ ((o ≡ None) × (b ≡ true) × (here ≡ p))
-last_or (Some q) b here p h = inl h
-last_or None true here p h = inr (refl, refl, same_Some here p h)
-last_or None false here p h = absurd (none-some p h)
+last_or o b here p h = grind (arith, none-some, same_Some)
 
 last_neither : (o : Option Placed) (b : Bool) (here : Placed) → option_or o (cond b (Some here) None) ≡ None
     → (o ≡ None) × (b ≡ false)
-last_neither (Some q) b here h = absurd (none-some q (sym h))
-last_neither None true here h = absurd (none-some here (sym h))
-last_neither None false here h = (refl, refl)
+last_neither o b here h = grind (arith, none-some)
 
 -- What says something exactly of the definitions of one slot or accent.
 record SaysOf (A : Type 0) (says : Definition → Option A) (what : Defined) : Type 0 where
@@ -120,13 +116,11 @@ says_index i = record { quiet = λ d h. grind arith; tells = tells }
 -- what a row of a slot defines
 slot_row : (d : Definition) (slot : ℕ) → is_same (defined d) (Slot slot) ≡ true
     → d ≡ KeyDefinition slot (or_default (of_slot slot d) undefined)
-slot_row (KeyDefinition s e) slot h = grind arith
-slot_row (AccentDefinition i a) slot h = absurd (cc)
+slot_row o slot h = grind arith
 
 index_row : (d : Definition) (i : ℕ) → is_same (defined d) (Accent i) ≡ true
     → d ≡ AccentDefinition i (or_default (of_index i d) blank)
-index_row (KeyDefinition s e) i h = absurd (cc)
-index_row (AccentDefinition j a) i h = grind arith
+index_row o i h = grind arith
 
 -- the entry and the accent that the definitions make
 entry_spelled : (text : List ℕ) (m : MapValue) (rows : List Row) → IsSpelledBy text m rows → (slot : ℕ)

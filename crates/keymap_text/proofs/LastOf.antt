@@ -17,12 +17,10 @@ unfolding last_of
 last_nothing what = refl
 
 or_none : (o : Option Placed) → option_or o None ≡ o
-or_none (Some q) = refl
-or_none None = refl
+or_none o = grind arith
 
 or_assoc : (a b c : Option Placed) → option_or (option_or a b) c ≡ option_or a (option_or b c)
-or_assoc (Some x) b c = refl
-or_assoc None b c = refl
+or_assoc o b c = grind arith
 
 -- one definition behind the others
 pub last_push : (what : Defined) (ps : List Placed) (p : Placed)

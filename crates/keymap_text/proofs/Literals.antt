@@ -1,11 +1,10 @@
 -- A quoted character that is complete stays so, whatever follows.
 use Rattle.keymap_text.proofs.Common.{◌≡◌, ◌≢◌, ◌⊎◌, inl, inr, ℕ, ◌+◌, ◌<◌, ◌≤◌, ◌==◌, Bool, true, false, cond, List}
 use Rattle.keymap_text.proofs.Common.{[], ◌∷◌, ◌++◌, length, get_or, refl, sym, ◌∙◌, ap, subst, arith, nat_lt}
-use Rattle.keymap_text.proofs.Common.{slice_index, Option, Some, None, length-append, ⊎_elim, eq-eqb, true≢false}
-use Rattle.keymap_text.proofs.Common.{nat_tests, get_or_append_left, le-ltb, decoded, decoded_by, Decoded, bad, second}
-use Rattle.keymap_text.proofs.Common.{continues, get_or-append_seam, TextFaultKind, BadLiteral, TokenKind, Literal}
-use Rattle.keymap_text.proofs.Common.{is_word_kind, Front, Skipped, Found, Refused, Unfinished, literal, quoted}
-use Rattle.keymap_text.proofs.Common.{closing, is_lone}
+use Rattle.keymap_text.proofs.Common.{slice_index, Option, None, length-append, ⊎_elim, eq-eqb, true≢false, nat_tests}
+use Rattle.keymap_text.proofs.Common.{get_or_append_left, le-ltb, decoded, decoded_by, Decoded, bad, second, continues}
+use Rattle.keymap_text.proofs.Common.{get_or-append_seam, TextFaultKind, BadLiteral, TokenKind, Literal, is_word_kind}
+use Rattle.keymap_text.proofs.Common.{Front, Skipped, Found, Refused, Unfinished, literal, quoted, closing, is_lone}
 use Rattle.bstr.proofs.lemmas.PieceLemmas.{size-bounds}
 use Rattle.bstr.proofs.lemmas.EncodeLemmas.{decoded-encode}
 use Rattle.std.specs.Prelude.{encode_utf8}
@@ -34,19 +33,16 @@ Grows k y z = (y ≡ z) ⊎ ((z ≡ bad k) × (k ≤ y.size))
 -- two choices that differ in one branch at most
 under : (k : ℕ) (p : Bool) (g y z : Decoded) → Grows k y z → Grows k (cond p g y) (cond p g z)
 unfolding Grows
-under k true g y z h = inl refl
-under k false g y z h = h
+under k o g y z h = grind arith
 
 -- the same in the other branch
 over : (k : ℕ) (p : Bool) (g y z : Decoded) → Grows k y z → Grows k (cond p y g) (cond p z g)
 unfolding Grows
-over k true g y z h = h
-over k false g y z h = inl refl
+over k o g y z h = grind arith
 
 -- a size that both branches have
 at_least : (k : ℕ) (p : Bool) (y z : Decoded) → k ≤ y.size → k ≤ z.size → k ≤ (cond p y z).size
-at_least k true y z g h = g
-at_least k false y z g h = h
+at_least k o y z g h = grind arith
 
 -- with more bytes behind them, the first bytes decode alike, or all of them may begin a character
 by_1 : (n b c d e : ℕ) → 1 < n → Grows 1 (decoded_by n b c d e) (decoded_by 1 b 0 0 0)
@@ -97,14 +93,12 @@ LiteralFront Unfinished = Unit {0}
 
 -- by both branches
 either : (b : Bool) (f g : Front) → LiteralFront f → LiteralFront g → LiteralFront (cond b f g)
-either true f g h k = h
-either false f g h k = k
+either o f g h k = grind arith
 
 -- of a decoded character
 quoted_shape : (o : Option ℕ) (n : ℕ) (s : List ℕ) → LiteralFront (quoted (record { char = o; size = n }) s)
 unfolding LiteralFront
-quoted_shape (Some c) n s = grind arith
-quoted_shape None n s = either (length s == n) _ _ tt refl
+quoted_shape o n s = grind (arith, either)
 
 -- of what stands at an apostrophe
 literal_shape : (s : List ℕ) → LiteralFront (literal s)
@@ -147,8 +141,7 @@ quoted_stable s x h = ⊎_elim
 
 -- a choice that is not unfinished
 chosen : (p : Bool) (l q r : Front) → cond p l q ≢ Unfinished → (q ≢ Unfinished → r ≡ q) → cond p l r ≡ cond p l q
-chosen true l q r h k = refl
-chosen false l q r h k = k h
+chosen o l q r h k = grind arith
 
 -- whether a lone byte is quoted, two bytes tell
 lone_same : (b c : ℕ) (s x : List ℕ) → is_lone (b ∷ c ∷ (s ++ x)) ≡ is_lone (b ∷ c ∷ s)
@@ -209,14 +202,12 @@ longer_quoted s x k n u h = let e =
 -- with two bytes or more
 longer_long : (m n : ℕ) (k : TokenKind) (p : Bool) (l q r : Front) → (q ≡ Unfinished → r ≡ Found k n → m < n)
     → cond p l q ≡ Unfinished → l ≢ Unfinished → cond p l r ≡ Found k n → m < n
-longer_long m n k true l q r g u f h = absurd (f u)
-longer_long m n k false l q r g u f h = g u h
+longer_long m n k o l q r g u f h = grind arith
 
 -- with one byte or none
 longer_one : (m n : ℕ) (k : TokenKind) (b : Bool) (ch : ℕ) (q : Front) → m < 2 → (q ≡ Found k n → m < n)
     → cond b (Found (Literal ch) 2) q ≡ Found k n → m < n
-longer_one m n k true ch q l g h = grind arith
-longer_one m n k false ch q l g h = g h
+longer_one m n k o ch q l g h = grind arith
 
 -- one that is found later has more bytes
 pub unfinished_longer : (s x : List ℕ) (k : TokenKind) (n : ℕ) → literal s ≡ Unfinished → literal (s ++ x) ≡ Found k n
@@ -241,14 +232,12 @@ quoted_fits o n m k s h = grind (arith, nat_tests)
 
 -- a quoted lone byte has an apostrophe behind it
 lone_long : (s : List ℕ) → is_lone s ≡ true → 2 ≤ length s
-lone_long (b ∷ c ∷ s) h = omega arith
-lone_long _ h = absurd (true≢false (sym h))
+lone_long xs h = grind arith
 
 -- a found one is a lone byte, or a character
 pub found_by : (b : Bool) (c n : ℕ) (k : TokenKind) (q : Front) → cond b (Found (Literal c) 2) q ≡ Found k n
     → ((b ≡ true) × (k ≡ Literal c) × (n ≡ 2)) ⊎ ((b ≡ false) × (q ≡ Found k n))
-found_by true c n k q h = inl (refl, cc, cc)
-found_by false c n k q h = inr (refl, h)
+found_by o c n k q h = grind arith
 
 -- a found one has no more bytes than there are
 pub literal_fits : (s : List ℕ) (k : TokenKind) (n : ℕ) → literal s ≡ Found k n → n ≤ length s
@@ -265,15 +254,11 @@ literal_no_skip s n h = subst LiteralFront h (literal_shape s)
 
 -- no bound of a second byte lets it pass
 never : (p q r s : Bool) → cond p false (cond q false (cond r false (cond s false false))) ≡ false
-never false false false true = refl
-never p q r s = refl
+never p q r s = grind arith
 
 -- a byte that no other follows begins no character
 no_char : (p q r : Bool) (a z : Decoded) → r ≡ false → (cond p (bad 1) (cond q (bad 1) (cond r a (bad 1)))).char ≡ None
-no_char true q r a z h = refl
-no_char false true r a z h = refl
-no_char false false true a z h = absurd (true≢false h)
-no_char false false false a z h = refl
+no_char o q r a z h = grind arith
 
 -- a quoted lone byte is no UTF-8
 lone_decodes : (s : List ℕ) → is_lone s ≡ true → (decoded s).char ≡ None
@@ -293,8 +278,7 @@ literal_spelled c rest v h = grind (arith, nat_tests, closing_spelled, decoded-e
 
 -- no LF stands in an unfinished one
 at_most : (k : ℕ) (p : Bool) (y z : Decoded) → y.size ≤ k → z.size ≤ k → (cond p y z).size ≤ k
-at_most k true y z g h = g
-at_most k false y z g h = h
+at_most k o y z g h = grind arith
 
 -- no LF stands second in a character
 no_second_lf : (b : ℕ) → second b 10 ≡ false

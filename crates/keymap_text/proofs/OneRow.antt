@@ -1,8 +1,8 @@
 -- Tokens are the rows of one list at most.
 use Rattle.keymap_text.proofs.Common.{◌≡◌, ℕ, ◌+◌, List, [], ◌∷◌, ◌++◌, length, map, refl, sym, ◌∙◌, ap, ap₂, arith}
 use Rattle.keymap_text.proofs.Common.{append-nil, Cell, Item, TokenValue, item_of, Definition, AreCells, no_cells}
-use Rattle.keymap_text.proofs.Common.{one_cell, ArePairs, no_pairs, one_pair, Defines, of_key, of_accent, Row, AreRows}
-use Rattle.keymap_text.proofs.Common.{no_row, one_row, places_after}
+use Rattle.keymap_text.proofs.Common.{one_cell, ArePairs, no_pairs, one_pair, Defines, Row, AreRows, no_row, one_row}
+use Rattle.keymap_text.proofs.Common.{places_after}
 use Rattle.keymap_text.proofs.RowPlaces.{places_are}
 use Rattle.keymap_text.proofs.Leading.{same_head, same_tail}
 use Rattle.keymap_text.proofs.Row.{ok_is}
@@ -33,16 +33,7 @@ pairs_are (one_pair {t = t} {u = u} {base = a} {result = b} {ts = ts} {ps = ps} 
 
 -- tokens define one thing
 pub defined_is : {ts us : List Item} {d e : Definition} → Defines ts d → Defines us e → ts ≡ us → d ≡ e
-defined_is (of_key {slot = s} {e = e} {ts = ts} l eight cells)
-    (of_key {slot = t} {e = f} {ts = us} l' eight' cells') h =
-    grind (arith, cells_are)
-defined_is (of_key {slot = s} l eight cells) (of_accent name index own few pairs) h =
-    grind arith
-defined_is (of_accent name index own few pairs) (of_key {slot = s} l eight cells) h =
-    grind arith
-defined_is (of_accent {i = i} {a = a} {t = t} {ts = ts} name index own few pairs)
-    (of_accent {i = j} {a = b} {t = u} {ts = us} name' index' own' few' pairs') h =
-    grind (arith, pairs_are)
+defined_is o p h = grind (arith, cells_are, pairs_are)
 
 -- two lists whose first parts are as long
 parts_are : {A : Type 0} (xs ys us vs : List A) → length xs ≡ length ys → xs ++ us ≡ ys ++ vs
@@ -56,8 +47,7 @@ parts_are (x ∷ xs) (y ∷ ys) us vs n e =
 
 -- no rows have no tokens
 none : {ts : List TokenValue} {rows : List Row} → AreRows ts rows → rows ≡ [] → ts ≡ []
-none no_row h = refl
-none (one_row {rs = rs} r d more) h = absurd (empty_more r rs (sym h))
+none o h = grind (arith, empty_more)
 
 next_place : (n m : ℕ) (a b : List Row) → places_after n a ≡ places_after m b
     → (x : Row) (xs : List Row) → a ≡ x ∷ xs → n ≡ m

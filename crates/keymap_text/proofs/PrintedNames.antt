@@ -17,12 +17,7 @@ function_meaning k low high = elim (cases_lt k 49) [
 
 -- the name of an action is one word, by computation
 pub action_word : (action : Action) → IsAction action → is_one_word (name_of action) ≡ true
-action_word (a.Screen k) known = grind (arith, along)
-action_word (a.Function k) known = grind (arith, along)
-action_word (a.DeadKey k) known = grind (arith, along)
-action_word (a.Mod m.LeftShift) known = refl
-action_word (a.Lock l.Caps) known = refl
-action_word _ known = refl
+action_word o known = grind (arith, along)
 
 -- the name of an action means that action
 pub action_meaning : (action : Action) → IsAction action → meaning (name_of action) ≡ Act action

@@ -3,11 +3,11 @@ use Rattle.keymap_text.proofs.Common.{◌≡◌, ◌≢◌, ℕ, zero, suc, ◌+
 use Rattle.keymap_text.proofs.Common.{[], ◌∷◌, ◌++◌, length, get_or, map, refl, sym, ◌∙◌, ap, ap₂, subst, arith, Ok}
 use Rattle.keymap_text.proofs.Common.{Option, Some, None, append_assoc, append-nil, eqb-true, eq-eqb, ne_eqb}
 use Rattle.keymap_text.proofs.Common.{true≢false, All, flat_map, range_with_len, option_or, blank, MapValue, undefined}
-use Rattle.keymap_text.proofs.Common.{name_of, Cell, Item, Value, Number, Char, Act, character, cell, tokens_after}
-use Rattle.keymap_text.proofs.Common.{Definition, KeyDefinition, AccentDefinition, Defines, IsRow, no_definition}
-use Rattle.keymap_text.proofs.Common.{one_definition, last, of_slot, of_index, greatest, slots_needed, accents_needed}
-use Rattle.keymap_text.proofs.Common.{or_default, map_of, key_line, accent_line, printed, key_lines, accent_lines}
-use Rattle.keymap_text.proofs.Common.{Spells, ending_of_tokens, list_of}
+use Rattle.keymap_text.proofs.Common.{name_of, Cell, Item, Value, Char, Act, character, cell, tokens_after, Definition}
+use Rattle.keymap_text.proofs.Common.{KeyDefinition, AccentDefinition, Defines, IsRow, no_definition, one_definition}
+use Rattle.keymap_text.proofs.Common.{last, of_slot, of_index, greatest, slots_needed, accents_needed, or_default}
+use Rattle.keymap_text.proofs.Common.{map_of, key_line, accent_line, printed, key_lines, accent_lines, Spells}
+use Rattle.keymap_text.proofs.Common.{ending_of_tokens, list_of}
 use lib.Utf8.{scalar, scalar_cases}
 use Rattle.keymap_core.specs.declared.action.Action.TheVariants.{DeadKey}
 use Rattle.keymap_core.specs.Bounds.{IsMap, IsCell, IsPair}
@@ -27,9 +27,7 @@ prints_character c s = grind (arith, prints_rules, scalar_cases)
 
 -- a character is a cell
 cell_of_character : (t : Item) (c : ℕ) → character t ≡ Ok c → cell t ≡ Ok (cells.Char c)
-cell_of_character (Value (Number n)) c h = grind arith
-cell_of_character (Value (Char d)) c h = grind arith
-cell_of_character _ c h = absurd (cc)
+cell_of_character o c h = grind arith
 
 -- a cell is printed as one token
 prints_cell : (c : Cell) → IsCell c → PrintsCell c
@@ -146,8 +144,7 @@ greatest_of f def a (suc n) e = grind (arith, greatest_more, (greatest_of f def 
 -- definitions of all numbers below one
 greatest_to : (f : Definition → ℕ) (def : ℕ → Definition) (n : ℕ) → ((s : ℕ) → f (def s) ≡ s + 1)
     → greatest f (map def (range_with_len 0 n)) ≡ n
-greatest_to f def zero e = greatest_none f
-greatest_to f def (suc n) e = greatest_of f def 0 n e ∙ omega arith
+greatest_to f def o e = grind (arith, greatest_none, greatest_of)
 
 -- no bytes have no tokens
 pub no_items : (q : ℕ) → items_of (tokens_after 0 q []) ≡ []

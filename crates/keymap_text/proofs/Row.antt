@@ -24,8 +24,7 @@ err_ok e y h = cc
 -- an answer of two steps is one of the first
 bind_ok : {A B : Type 0} (r : Result A TextFaultKind) (f : A → Result B TextFaultKind) (y : B) → (r >>= f) ≡ Ok y
     → (x : A) × (r ≡ Ok x) × (f x ≡ Ok y)
-bind_ok (Ok x) f y h = (x, refl, h)
-bind_ok (Err e) f y h = absurd (err_ok e y h)
+bind_ok o f y h = grind (arith, err_ok)
 
 -- equal answers
 pub ok_is : {A : Type 0} (x y : A) → ◌≡◌ {A = Result A TextFaultKind} (Ok x) (Ok y) → x ≡ y
@@ -34,13 +33,11 @@ ok_is x y h = cc
 -- a test that passed, and one that failed
 test_passed : {A : Type 0} (b : Bool) (x y : A) (f : TextFaultKind)
     → ◌≡◌ {A = Result A TextFaultKind} (cond b (Ok x) (Err f)) (Ok y) → (b ≡ true) × (x ≡ y)
-test_passed true x y f h = (refl, ok_is x y h)
-test_passed false x y f h = absurd (err_ok f y h)
+test_passed o x y f h = grind (arith, err_ok, ok_is)
 
 test_failed : {A : Type 0} (b : Bool) (x y : A) (f : TextFaultKind)
     → ◌≡◌ {A = Result A TextFaultKind} (cond b (Err f) (Ok x)) (Ok y) → (b ≡ false) × (x ≡ y)
-test_failed true x y f h = absurd (err_ok f y h)
-test_failed false x y f h = (refl, ok_is x y h)
+test_failed o x y f h = grind (arith, err_ok, ok_is)
 
 -- numbers that differ
 differ : (a b : ℕ) → (a == b) ≡ false → a ≢ b
@@ -103,8 +100,7 @@ begins _ p h = absurd (err_ok _ _ h)
 
 -- a lock letter
 lock_is : (t : Item) (f : LockFlag) → lock t ≡ Ok f → t ≡ Value (Letter f)
-lock_is (Value (Letter g)) f h = ap (λ g. Value (Letter g)) (ok_is _ _ h)
-lock_is _ f h = absurd (err_ok _ _ h)
+lock_is o f h = grind (arith, err_ok, ok_is)
 
 -- the whole list where the last element was set
 set_last : {X : Type 0} (xs : List X) (i : ℕ) (x : X) → length xs ≡ i + 1 → set xs i x ≡ take i xs ++ x ∷ []
@@ -267,20 +263,7 @@ stands_first =
 pub row_at_end : (ts : List Item) (m : MapValue) (p : GrammarPlace) (m' : MapValue) → Stands ts (at m p)
     → at_end (at m p) ≡ Some m' → (ds : List rows.Definition) × IsRow ts ds × (m' ≡ puts empty_map ds)
 unfolding at_end
-row_at_end ts m Definition m' k h = (
-  k.definitions,
-  subst (λ (ts : List Item). IsRow ts k.definitions)
-      (sym (k.tokens ∙ ap (λ r. k.row ++ r) k.part ∙ append-nil k.row)) k.is_row,
-  sym (same_Some _ _ h) ∙ k.map,
-)
-row_at_end ts m (AfterAccent i a) m' k h = (
-  k.definitions ++ AccentDefinition i a ∷ [],
-  subst (λ (ts : List Item). IsRow ts (k.definitions ++ AccentDefinition i a ∷ [])) (sym k.tokens)
-      (row_push k.is_row k.part),
-  sym (same_Some _ _ h) ∙ ap (λ m. with_accent m i a) k.map
-      ∙ sym (puts_push empty_map k.definitions (AccentDefinition i a)),
-)
-row_at_end ts m _ m' k h = absurd (none-some _ h)
+row_at_end ts m o m' k h = grind (arith, append-nil, none-some, puts_push, row_push, same_Some)
 
 -- each row is accepted
 steps_on : (s s' : GrammarState) (t : Item) (ts : List Item) → accept s t ≡ Ok s' → steps s (t ∷ ts) ≡ steps s' ts
@@ -297,12 +280,7 @@ steps_append s s' (t ∷ ts) us h =
 ready : (m : MapValue) (p : GrammarPlace) (m' : MapValue) (t : Item) (q : GrammarPlace) → at_end (at m p) ≡ Some m'
     → first_of t ≡ Ok q → accept (at m p) t ≡ Ok (at m' q)
 unfolding at_end accept
-ready m Definition m' t q h k = ap (λ r. r >>= (λ p. Ok (at m p))) k ∙ ap (λ m. Ok (at m q)) (same_Some _ _ h)
-ready m (AfterAccent i a) m' Open q h k = absurd (err_ok _ _ k)
-ready m (AfterAccent i a) m' Close q h k = absurd (err_ok _ _ k)
-ready m (AfterAccent i a) m' (Value v) q h k =
-    ap (λ r. r >>= (λ p. Ok (at (with_accent m i a) p))) k ∙ ap (λ m. Ok (at m q)) (same_Some _ _ h)
-ready m _ m' t q h k = absurd (none-some _ h)
+ready m o m' t q h k = grind (arith, err_ok, none-some, same_Some)
 
 -- a cell is taken
 pub take_cell : (m : MapValue) (slot i : ℕ) (e : Entry) (t : Item) (c : Cell) → cell t ≡ Ok c

@@ -7,7 +7,6 @@ use Rattle.keymap_text.proofs.Common.{Definition, ArePairs, no_pairs, one_pair, 
 use Rattle.keymap_text.proofs.Common.{no_definition, one_definition, map_of, Row, AreRows, no_row, one_row, IsSpelledBy}
 use Rattle.keymap_text.proofs.Common.{defined, places_after, places_of, begins, behind, is_open, begun}
 use Rattle.keymap_text.proofs.Parts.{count_cells}
-use Rattle.keymap_text.specs.declared.token.TokenKind.TheVariants as kinds
 
 -- A list whose image begins with u.
 record Begins (ts : List TokenValue) (u : Item) (us : List Item) : Type 0 where
@@ -67,12 +66,10 @@ starts n t ts what h e = rw (begun, h, e) refl
 
 -- an opening parenthesis is one
 open_is : (k : TokenKind) (w : List ℕ) → item k w ≡ Open → is_open k ≡ true
-open_is kinds.ParenL w h = refl
-open_is _ w h = absurd (cc)
+open_is o w h = grind arith
 
 not_open : (k : TokenKind) (w : List ℕ) (m : Meaning) → item k w ≡ Value m → is_open k ≡ false
-not_open kinds.ParenL w m h = absurd (cc)
-not_open _ w m h = refl
+not_open o w m h = grind arith
 
 -- as many tokens as items
 as_many : (ts : List TokenValue) (us : List Item) → map item_of ts ≡ us → length ts ≡ length us

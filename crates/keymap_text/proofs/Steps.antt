@@ -1,8 +1,8 @@
 -- How tokens are judged, and what stands at a byte.
 use Rattle.keymap_text.proofs.Common.{arith, ◌≡◌, ℕ, ◌<◌, true, false, not, List, [], ◌++◌, refl, sym, ◌∙◌, ap, length}
-use Rattle.keymap_text.proofs.Common.{Result, Ok, Err, Option, Some, None, TextFaultKind, Word, leading, is_word, Found}
-use Rattle.keymap_text.proofs.Common.{front_of, tokens_after, TokenValue, Tokens, Ends, Stops, Then, item, MapValue}
-use Rattle.keymap_text.proofs.Common.{GrammarState, accept, at_end, is_settled, is_end_inside, judge, Faulty, ended}
+use Rattle.keymap_text.proofs.Common.{Result, Ok, Err, Option, TextFaultKind, Word, leading, is_word, Found, front_of}
+use Rattle.keymap_text.proofs.Common.{tokens_after, TokenValue, Tokens, Ends, Stops, Then, item, MapValue, GrammarState}
+use Rattle.keymap_text.proofs.Common.{accept, at_end, is_settled, is_end_inside, judge, Faulty, ended}
 use Rattle.keymap_text.proofs.Leading.{leading_append}
 use Rattle.keymap_text.proofs.InFront.{front_word}
 use Rattle.keymap_text.proofs.Splitting.{split_none}
@@ -33,8 +33,7 @@ judge_ends s q = refl
 
 -- what is pending leads to no early fault
 pub late : (o : Option MapValue) (q : ℕ) (f : TextFaultKind) (p : ℕ) → ended o q ≡ Faulty f p true → ⊥
-late (Some m) q f p h = cc
-late None q f p h = grind arith
+late o q f p h = grind arith
 
 -- a fault that may change is no early one
 pub late_fault : (g f : TextFaultKind) (q p : ℕ) → Faulty g q false ≡ Faulty f p true → ⊥

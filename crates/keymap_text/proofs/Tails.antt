@@ -71,9 +71,7 @@ end_none s (c ∷ b) q h = absurd (omega (arith, h))
 
 -- all bytes of a comment that is open stay on its line
 pub open_line : (c : ℕ) (b : List ℕ) → c ≡ 35 → IsOpen (c ∷ b) → leading stays_on_line b ≡ length b
-open_line c b e (inl h) = h.1
-open_line c b e (inr (inl h)) = absurd (let g = front_comment c b e in cc)
-open_line c b e (inr (inr h)) = absurd (let g = front_comment c b e in cc)
+open_line c b e o = grind (arith, front_comment)
 
 -- in a comment
 pub end_comment : (s : GrammarState) (tail : List ℕ) (q : ℕ) → 0 < length tail → get_or tail 0 0 ≡ 35 → IsOpen tail

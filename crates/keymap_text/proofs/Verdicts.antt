@@ -31,8 +31,7 @@ spelled_is m m' h = cc
 
 -- the text ends with this map
 ended_is : (o : Option MapValue) (q : ℕ) (m : MapValue) → ended o q ≡ Spelled m → o ≡ Some m
-ended_is (Some x) q m h = ap Some (spelled_is x m h)
-ended_is None q m h = absurd (faulty _ _ _ _ h)
+ended_is o q m h = grind (arith, faulty, spelled_is)
 
 -- what a spelled map says of the machine
 record Runs (s : GrammarState) (ts : Tokens) (m : MapValue) : Type 0 where
@@ -199,8 +198,7 @@ same_offset f f' o o' e e' h = cc
 -- a fault stands within the text
 within : (o : Option MapValue) (q r : ℕ) (f : TextFaultKind) (o' : ℕ) (e : Bool) → q ≤ r → ended o q ≡ Faulty f o' e
     → o' ≤ r
-within (Some m) q r f o' e l h = absurd (faulty f o' e m (sym h))
-within None q r f o' e l h = subst (λ n. n ≤ r) (same_offset _ _ _ _ _ _ h) l
+within o q r f o' e l h = grind (arith, faulty, same_offset)
 
 -- a fault stands in the bytes or at their end
 fits : (bytes : List ℕ) (s : GrammarState) (k q : ℕ) (f : TextFaultKind) (o : ℕ) (e : Bool)

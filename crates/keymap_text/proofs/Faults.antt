@@ -14,11 +14,11 @@ led (Err f) = Err f
 
 -- the first token of a definition
 first_led : (m : MapValue) (t : Item) → next_at_definition t ≡ led (full.◌>>=◌ (first_of t) (λ p. Ok (at m p)))
-first_led m o = grind arith
+first_led m t = grind arith
 
 -- a step of the machine leads to the place that the definitions name, or to their fault
 pub step_led : (m : MapValue) (p : full.GrammarPlace) (t : Item) → next (place_of p) t ≡ led (full.step m p t)
-step_led m o t = grind (arith, first_led, length-append)
+step_led m p t = grind (arith, first_led, length-append)
 
 -- the same from a whole state
 pub accept_led : (s : GrammarState) (t : Item) → next (place_of s.place) t ≡ led (accept s t)
@@ -50,7 +50,7 @@ found_of (Faulty f q e) = Some (record { kind = f; offset = q; early = e })
 ends : (m : MapValue) (p : full.GrammarPlace) (q : ℕ)
     → found_of (ended (at_end (at m p)) q) ≡ found_in (Ok (place_of p)) (Ok q)
 unfolding at_end
-ends m o q = grind arith
+ends m p q = grind arith
 
 -- no token at the end
 pub list_ends : (q : ℕ) → list_of (Ends q) ≡ []

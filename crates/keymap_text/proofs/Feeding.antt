@@ -80,4 +80,4 @@ at_once_more f buffer fed h l few = grind (arith, Consumes-trans, length-take-le
 pub at_once_whole : {a b : Option (List ℕ)} {r : Progress} {taken n : ℕ} → (c : Option (List ℕ)) → (buffer : List ℕ)
     → (result : Result MapValue TextError) → (fed : IsFed a b r taken) → n ≡ 0 → Consumes b c (take n buffer)
     → IfErr result (StopsAtOnce a c)
-at_once_whole c buffer o fed z h = grind (arith, Consumes-trans)
+at_once_whole c buffer result fed z h = grind (arith, Consumes-trans)

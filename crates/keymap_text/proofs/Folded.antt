@@ -64,11 +64,11 @@ placed_length u xs i x = grind (arith, length-append, length-set, length_replica
 
 -- how many entries there are after a definition
 entries_put : (m : MapValue) (d : Definition) → length (put m d).entries ≡ max (length m.entries) (slots_needed d)
-entries_put m o = grind (arith, placed_length)
+entries_put m d = grind (arith, placed_length)
 
 -- how many accents
 accents_put : (m : MapValue) (d : Definition) → length (put m d).accents ≡ max (length m.accents) (accents_needed d)
-accents_put m o = grind (arith, placed_length)
+accents_put m d = grind (arith, placed_length)
 
 -- how many there are after all definitions, by how many each needs
 length_after : (size : MapValue → ℕ) (needs : Definition → ℕ)
@@ -97,7 +97,7 @@ later o p x y h = grind arith
 -- the entry of a slot after a definition
 entry_put : (m : MapValue) (d : Definition) (slot : ℕ)
     → get_or (put m d).entries slot undefined ≡ or_default (of_slot slot d) (get_or m.entries slot undefined)
-entry_put m o slot = grind (arith, placed_says)
+entry_put m d slot = grind (arith, placed_says)
 
 -- the entry of a slot after all definitions
 pub entries_of : (m : MapValue) (ds : List Definition) (slot : ℕ)
@@ -108,7 +108,7 @@ entries_of m (d ∷ ds) slot = grind (arith, entry_put, last_more, later, (entri
 -- an accent after a definition
 accent_put : (m : MapValue) (d : Definition) (i : ℕ)
     → get_or (put m d).accents i blank ≡ or_default (of_index i d) (get_or m.accents i blank)
-accent_put m o i = grind (arith, placed_says)
+accent_put m d i = grind (arith, placed_says)
 
 -- an accent after all definitions
 pub accents_of : (m : MapValue) (ds : List Definition) (i : ℕ)

@@ -116,11 +116,11 @@ says_index i = record { quiet = λ d h. grind arith; tells = tells }
 -- what a row of a slot defines
 slot_row : (d : Definition) (slot : ℕ) → is_same (defined d) (Slot slot) ≡ true
     → d ≡ KeyDefinition slot (or_default (of_slot slot d) undefined)
-slot_row o slot h = grind arith
+slot_row d slot h = grind arith
 
 index_row : (d : Definition) (i : ℕ) → is_same (defined d) (Accent i) ≡ true
     → d ≡ AccentDefinition i (or_default (of_index i d) blank)
-index_row o i h = grind arith
+index_row d i h = grind arith
 
 -- the entry and the accent that the definitions make
 entry_spelled : (text : List ℕ) (m : MapValue) (rows : List Row) → IsSpelledBy text m rows → (slot : ℕ)

@@ -78,7 +78,7 @@ mask n h = along (λ n. get_or LOW_BYTES n 0) ones 0 9 masks n (omega arith) (om
 -- eight bytes as a number
 low_front : (w : List ℕ) → 8 ≤ length w → from_le_bytes w64 (take 8 w) ≡ low 8 w
 unfolding low
-low_front xs h = grind arith
+low_front w h = grind arith
 
 -- the first bytes in lower case, and blanks behind them, are the key of the word
 pub packed_front : (w : List ℕ) (n x : ℕ) (eight : List ℕ) → n ≤ 8 → 8 ≤ length w → n ≤ leading is_word w

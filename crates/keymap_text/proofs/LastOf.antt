@@ -20,7 +20,7 @@ or_none : (o : Option Placed) → option_or o None ≡ o
 or_none o = grind arith
 
 or_assoc : (a b c : Option Placed) → option_or (option_or a b) c ≡ option_or a (option_or b c)
-or_assoc o b c = grind arith
+or_assoc a b c = grind arith
 
 -- one definition behind the others
 pub last_push : (what : Defined) (ps : List Placed) (p : Placed)

@@ -33,16 +33,16 @@ Grows k y z = (y ≡ z) ⊎ ((z ≡ bad k) × (k ≤ y.size))
 -- two choices that differ in one branch at most
 under : (k : ℕ) (p : Bool) (g y z : Decoded) → Grows k y z → Grows k (cond p g y) (cond p g z)
 unfolding Grows
-under k o g y z h = grind arith
+under k p g y z h = grind arith
 
 -- the same in the other branch
 over : (k : ℕ) (p : Bool) (g y z : Decoded) → Grows k y z → Grows k (cond p y g) (cond p z g)
 unfolding Grows
-over k o g y z h = grind arith
+over k p g y z h = grind arith
 
 -- a size that both branches have
 at_least : (k : ℕ) (p : Bool) (y z : Decoded) → k ≤ y.size → k ≤ z.size → k ≤ (cond p y z).size
-at_least k o y z g h = grind arith
+at_least k p y z g h = grind arith
 
 -- with more bytes behind them, the first bytes decode alike, or all of them may begin a character
 by_1 : (n b c d e : ℕ) → 1 < n → Grows 1 (decoded_by n b c d e) (decoded_by 1 b 0 0 0)
@@ -93,7 +93,7 @@ LiteralFront Unfinished = Unit {0}
 
 -- by both branches
 either : (b : Bool) (f g : Front) → LiteralFront f → LiteralFront g → LiteralFront (cond b f g)
-either o f g h k = grind arith
+either b f g h k = grind arith
 
 -- of a decoded character
 quoted_shape : (o : Option ℕ) (n : ℕ) (s : List ℕ) → LiteralFront (quoted (record { char = o; size = n }) s)
@@ -141,7 +141,7 @@ quoted_stable s x h = ⊎_elim
 
 -- a choice that is not unfinished
 chosen : (p : Bool) (l q r : Front) → cond p l q ≢ Unfinished → (q ≢ Unfinished → r ≡ q) → cond p l r ≡ cond p l q
-chosen o l q r h k = grind arith
+chosen p l q r h k = grind arith
 
 -- whether a lone byte is quoted, two bytes tell
 lone_same : (b c : ℕ) (s x : List ℕ) → is_lone (b ∷ c ∷ (s ++ x)) ≡ is_lone (b ∷ c ∷ s)
@@ -202,12 +202,12 @@ longer_quoted s x k n u h = let e =
 -- with two bytes or more
 longer_long : (m n : ℕ) (k : TokenKind) (p : Bool) (l q r : Front) → (q ≡ Unfinished → r ≡ Found k n → m < n)
     → cond p l q ≡ Unfinished → l ≢ Unfinished → cond p l r ≡ Found k n → m < n
-longer_long m n k o l q r g u f h = grind arith
+longer_long m n k p l q r g u f h = grind arith
 
 -- with one byte or none
 longer_one : (m n : ℕ) (k : TokenKind) (b : Bool) (ch : ℕ) (q : Front) → m < 2 → (q ≡ Found k n → m < n)
     → cond b (Found (Literal ch) 2) q ≡ Found k n → m < n
-longer_one m n k o ch q l g h = grind arith
+longer_one m n k b ch q l g h = grind arith
 
 -- one that is found later has more bytes
 pub unfinished_longer : (s x : List ℕ) (k : TokenKind) (n : ℕ) → literal s ≡ Unfinished → literal (s ++ x) ≡ Found k n
@@ -232,12 +232,12 @@ quoted_fits o n m k s h = grind (arith, nat_tests)
 
 -- a quoted lone byte has an apostrophe behind it
 lone_long : (s : List ℕ) → is_lone s ≡ true → 2 ≤ length s
-lone_long xs h = grind arith
+lone_long s h = grind arith
 
 -- a found one is a lone byte, or a character
 pub found_by : (b : Bool) (c n : ℕ) (k : TokenKind) (q : Front) → cond b (Found (Literal c) 2) q ≡ Found k n
     → ((b ≡ true) × (k ≡ Literal c) × (n ≡ 2)) ⊎ ((b ≡ false) × (q ≡ Found k n))
-found_by o c n k q h = grind arith
+found_by b c n k q h = grind arith
 
 -- a found one has no more bytes than there are
 pub literal_fits : (s : List ℕ) (k : TokenKind) (n : ℕ) → literal s ≡ Found k n → n ≤ length s
@@ -258,7 +258,7 @@ never p q r s = grind arith
 
 -- a byte that no other follows begins no character
 no_char : (p q r : Bool) (a z : Decoded) → r ≡ false → (cond p (bad 1) (cond q (bad 1) (cond r a (bad 1)))).char ≡ None
-no_char o q r a z h = grind arith
+no_char p q r a z h = grind arith
 
 -- a quoted lone byte is no UTF-8
 lone_decodes : (s : List ℕ) → is_lone s ≡ true → (decoded s).char ≡ None
@@ -278,7 +278,7 @@ literal_spelled c rest v h = grind (arith, nat_tests, closing_spelled, decoded-e
 
 -- no LF stands in an unfinished one
 at_most : (k : ℕ) (p : Bool) (y z : Decoded) → y.size ≤ k → z.size ≤ k → (cond p y z).size ≤ k
-at_most k o y z g h = grind arith
+at_most k p y z g h = grind arith
 
 -- no LF stands second in a character
 no_second_lf : (b : ℕ) → second b 10 ≡ false

@@ -100,17 +100,17 @@ hexadecimal b n w d l h = grind (arith, behind_prefix, meaning_picks, not_decima
 -- digits after 0x mean their number
 pub hexadecimal_meaning : (w : List ℕ) (b n : ℕ) → nat_lt (digit_value b) 10 ≡ false → to_ascii_lowercase b ≡ 120
     → 2 < length w → get_or w 0 0 ≡ 48 → get_or w 1 0 ≡ b → Some n ≡ digits_of 16 (drop 2 w) → Number n ≡ meaning w
-hexadecimal_meaning xs b n d l s x y h = grind (arith, hexadecimal)
+hexadecimal_meaning w b n d l s x y h = grind (arith, hexadecimal)
 
 -- decimal digits mean their number
 pub decimal_means : (r : Option ℕ) (w : List ℕ) → r ≡ digits_of 10 w → IfSome r (λ n. Number n ≡ meaning w)
-decimal_means o w h = grind (arith, decimal_meaning)
+decimal_means r w h = grind (arith, decimal_meaning)
 
 -- the same where the code may have found none
 pub hexadecimal_means : (r : Option ℕ) (w : List ℕ) (b : ℕ) → nat_lt (digit_value b) 10 ≡ false
     → to_ascii_lowercase b ≡ 120 → 2 < length w → get_or w 0 0 ≡ 48 → get_or w 1 0 ≡ b → r ≡ digits_of 16 (drop 2 w)
     → IfSome r (λ n. Number n ≡ meaning w)
-hexadecimal_means o w b d l s x y h = grind (arith, hexadecimal_meaning)
+hexadecimal_means r w b d l s x y h = grind (arith, hexadecimal_meaning)
 
 -- a digit is a byte of a word
 digit_in_word : (c : ℕ) → digit_value c < 16 → is_word c ≡ true
@@ -180,7 +180,7 @@ screen_means n key l h e =
 -- what the code found by the key is the meaning of the word in front
 pub some_means : (r : Option Meaning) (key n : ℕ) (w : List ℕ) → IfSome r (KeyMeans key) → n ≤ 8 → n ≤ leading is_word w
     → key ≡ pack 8 (map to_ascii_lowercase (take n w)) → IfSome r (λ m. m ≡ meaning (take n w))
-some_means o key n w h s l e = grind (arith, length-take, letters_front)
+some_means r key n w h s l e = grind (arith, length-take, letters_front)
 
 -- the names of characters and the lock letters stand first, in the order of the table
 sense_entry : Name → List ℕ × Meaning
@@ -200,4 +200,4 @@ look_in_table w = look_named (take 40 NAMES) w
 -- the same of a whole word
 pub whole_means : (r : Option Meaning) (w : List ℕ) → IfSome r (λ m. m ≡ meaning (take (length w) w))
     → IfSome r (λ m. m ≡ meaning w)
-whole_means o w h = grind (arith, take_all)
+whole_means r w h = grind (arith, take_all)

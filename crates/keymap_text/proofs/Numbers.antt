@@ -59,7 +59,7 @@ digits_none base (x ∷ w) h = absurd (omega (arith, h))
 
 -- no number, whatever another test says
 pub none_of : (b : Bool) (x : Option ℕ) → cond (b && false) x None ≡ None
-none_of o x = grind arith
+none_of b x = grind arith
 
 -- a byte that is no digit spells no number
 pub digits_bad : (base : ℕ) (w : List ℕ) (i : ℕ) → i < length w → base ≤ digit_value (get_or w i 0)

@@ -111,11 +111,11 @@ token_at text at t l h = grind (arith, drop-drop, length-drop, next_is)
 -- where no first token is, no tokens are
 pub no_tokens : (ts : Tokens) → first ts ≡ Ok None → list_of ts ≡ []
 unfolding list_of
-no_tokens o h = grind arith
+no_tokens ts h = grind arith
 
 pub no_more : (ts : Tokens) (f : TextFaultKind) (q : ℕ) → first ts ≡ Err (f, q) → list_of ts ≡ []
 unfolding list_of
-no_more o f q h = grind arith
+no_more ts f q h = grind arith
 
 -- what the search for a token found
 pub found_at : (text : List ℕ) (at : ℕ) (o : Option Token) → at ≤ length text
@@ -155,4 +155,4 @@ begun_on xs ys all left rest n m k text at end t e f others h step = grind arith
 -- where no tokens are, nothing begins
 pub begun_none : (left n : ℕ) → begun left n [] ≡ []
 unfolding begun
-begun_none o n = grind arith
+begun_none left n = grind arith

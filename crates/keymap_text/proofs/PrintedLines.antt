@@ -21,7 +21,7 @@ lexes_behind_blank a = grind (arith, split_blank)
 
 -- blanks begin with no letter or digit
 pad_first : (n : ℕ) (y : List ℕ) → leading is_word y ≡ 0 → leading is_word (replicate n 32 ++ y) ≡ 0
-pad_first o y h = grind arith
+pad_first n y h = grind arith
 
 -- blanks are no token
 lexes_pad : (n : ℕ) → Lexes NoWord (replicate n 32) []

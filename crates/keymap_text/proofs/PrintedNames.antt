@@ -17,7 +17,7 @@ function_meaning k low high = elim (cases_lt k 49) [
 
 -- the name of an action is one word, by computation
 pub action_word : (action : Action) → IsAction action → is_one_word (name_of action) ≡ true
-action_word o known = grind (arith, along)
+action_word action known = grind (arith, along)
 
 -- the name of an action means that action
 pub action_meaning : (action : Action) → IsAction action → meaning (name_of action) ≡ Act action

@@ -27,7 +27,7 @@ prints_character c s = grind (arith, prints_rules, scalar_cases)
 
 -- a character is a cell
 cell_of_character : (t : Item) (c : ℕ) → character t ≡ Ok c → cell t ≡ Ok (cells.Char c)
-cell_of_character o c h = grind arith
+cell_of_character t c h = grind arith
 
 -- a cell is printed as one token
 prints_cell : (c : Cell) → IsCell c → PrintsCell c
@@ -144,7 +144,7 @@ greatest_of f def a (suc n) e = grind (arith, greatest_more, (greatest_of f def 
 -- definitions of all numbers below one
 greatest_to : (f : Definition → ℕ) (def : ℕ → Definition) (n : ℕ) → ((s : ℕ) → f (def s) ≡ s + 1)
     → greatest f (map def (range_with_len 0 n)) ≡ n
-greatest_to f def o e = grind (arith, greatest_none, greatest_of)
+greatest_to f def n e = grind (arith, greatest_none, greatest_of)
 
 -- no bytes have no tokens
 pub no_items : (q : ℕ) → items_of (tokens_after 0 q []) ≡ []

@@ -24,7 +24,7 @@ err_ok e y h = cc
 -- an answer of two steps is one of the first
 bind_ok : {A B : Type 0} (r : Result A TextFaultKind) (f : A → Result B TextFaultKind) (y : B) → (r >>= f) ≡ Ok y
     → (x : A) × (r ≡ Ok x) × (f x ≡ Ok y)
-bind_ok o f y h = grind (arith, err_ok)
+bind_ok r f y h = grind (arith, err_ok)
 
 -- equal answers
 pub ok_is : {A : Type 0} (x y : A) → ◌≡◌ {A = Result A TextFaultKind} (Ok x) (Ok y) → x ≡ y
@@ -33,11 +33,11 @@ ok_is x y h = cc
 -- a test that passed, and one that failed
 test_passed : {A : Type 0} (b : Bool) (x y : A) (f : TextFaultKind)
     → ◌≡◌ {A = Result A TextFaultKind} (cond b (Ok x) (Err f)) (Ok y) → (b ≡ true) × (x ≡ y)
-test_passed o x y f h = grind (arith, err_ok, ok_is)
+test_passed b x y f h = grind (arith, err_ok, ok_is)
 
 test_failed : {A : Type 0} (b : Bool) (x y : A) (f : TextFaultKind)
     → ◌≡◌ {A = Result A TextFaultKind} (cond b (Err f) (Ok x)) (Ok y) → (b ≡ false) × (x ≡ y)
-test_failed o x y f h = grind (arith, err_ok, ok_is)
+test_failed b x y f h = grind (arith, err_ok, ok_is)
 
 -- numbers that differ
 differ : (a b : ℕ) → (a == b) ≡ false → a ≢ b
@@ -100,7 +100,7 @@ begins _ p h = absurd (err_ok _ _ h)
 
 -- a lock letter
 lock_is : (t : Item) (f : LockFlag) → lock t ≡ Ok f → t ≡ Value (Letter f)
-lock_is o f h = grind (arith, err_ok, ok_is)
+lock_is t f h = grind (arith, err_ok, ok_is)
 
 -- the whole list where the last element was set
 set_last : {X : Type 0} (xs : List X) (i : ℕ) (x : X) → length xs ≡ i + 1 → set xs i x ≡ take i xs ++ x ∷ []
@@ -263,7 +263,7 @@ stands_first =
 pub row_at_end : (ts : List Item) (m : MapValue) (p : GrammarPlace) (m' : MapValue) → Stands ts (at m p)
     → at_end (at m p) ≡ Some m' → (ds : List rows.Definition) × IsRow ts ds × (m' ≡ puts empty_map ds)
 unfolding at_end
-row_at_end ts m o m' k h = grind (arith, append-nil, none-some, puts_push, row_push, same_Some)
+row_at_end ts m p m' k h = grind (arith, append-nil, none-some, puts_push, row_push, same_Some)
 
 -- each row is accepted
 steps_on : (s s' : GrammarState) (t : Item) (ts : List Item) → accept s t ≡ Ok s' → steps s (t ∷ ts) ≡ steps s' ts
@@ -280,7 +280,7 @@ steps_append s s' (t ∷ ts) us h =
 ready : (m : MapValue) (p : GrammarPlace) (m' : MapValue) (t : Item) (q : GrammarPlace) → at_end (at m p) ≡ Some m'
     → first_of t ≡ Ok q → accept (at m p) t ≡ Ok (at m' q)
 unfolding at_end accept
-ready m o m' t q h k = grind (arith, err_ok, none-some, same_Some)
+ready m p m' t q h k = grind (arith, err_ok, none-some, same_Some)
 
 -- a cell is taken
 pub take_cell : (m : MapValue) (slot i : ℕ) (e : Entry) (t : Item) (c : Cell) → cell t ≡ Ok c

@@ -66,10 +66,10 @@ starts n t ts what h e = rw (begun, h, e) refl
 
 -- an opening parenthesis is one
 open_is : (k : TokenKind) (w : List ℕ) → item k w ≡ Open → is_open k ≡ true
-open_is o w h = grind arith
+open_is k w h = grind arith
 
 not_open : (k : TokenKind) (w : List ℕ) (m : Meaning) → item k w ≡ Value m → is_open k ≡ false
-not_open o w m h = grind arith
+not_open k w m h = grind arith
 
 -- as many tokens as items
 as_many : (ts : List TokenValue) (us : List Item) → map item_of ts ≡ us → length ts ≡ length us

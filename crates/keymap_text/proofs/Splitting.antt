@@ -27,7 +27,7 @@ split_none q = refl
 -- no bytes have no tokens, wherever one would begin
 pub split_nil : (k q : ℕ) → tokens_after k q [] ≡ Ends q
 unfolding tokens_after
-split_nil o q = grind arith
+split_nil k q = grind arith
 
 -- all bytes are passed
 pub split_all : (n q : ℕ) (bytes : List ℕ) → n ≡ length bytes → tokens_after n q bytes ≡ Ends (q + n)

@@ -45,7 +45,7 @@ early_after old b piece f g rest l = (
 pub means_after : (result : Result MapValue TextFault) (old : Reading) (b : List ℕ) → Says result (resume old [])
     → IfErr result (λ e. IsFaultOfPending e old) → ((x : List ℕ) → resume old x ≡ verdict (b ++ x)) → Lined old b
     → Means result b
-means_after o old b s p rest l = grind (arith, append-nil, fault_from, pending_line, spells_from)
+means_after result old b s p rest l = grind (arith, append-nil, fault_from, pending_line, spells_from)
 
 -- the line facts of a reader
 pub lined_of : (r : Inside) (b : List ℕ) → StandsAfter (progress r) b → Lined r.reading b

@@ -65,5 +65,6 @@ pair_taken m index a b c i j n rest s e room z f g k =
     let a2 = advances_on _ _ _ rest _ 1 i a1 refl
     (behind_advances _ (at m (spec.PairResult index a b)) _ f.item i f.behind (base_taken m index a f.item b f.is z)) in
     let a3 = advances_on _ _ _ rest _ (1 + i) j a2 refl
-    (behind_advances _ (at m (spec.PairEnd index a b c)) _ g.item j g.behind (result_taken m index a g.item b c g.is)) in
+    (behind_advances _ (at m (spec.PairEnd index a b c)) _ g.item j g.behind
+    (result_taken m index a g.item b c g.is)) in
     advances_on _ _ _ rest _ (1 + i + j) n a3 refl (behind_advances _ _ _ Close n k (close_taken m index a b c))

@@ -1,13 +1,12 @@
 -- The image of an accent: it has no fault, and gives the accent.
-use Rattle.keymap_tables.proofs.Common.{◌≡◌, ◌≢◌, ℕ, ◌+◌, ◌-◌, ◌*◌, ◌<◌, ◌≤◌, ◌==◌, suc, zero, List, [], ◌∷◌, ◌++◌}
-use Rattle.keymap_tables.proofs.Common.{length, get_or, refl, sym, ap, ◌∙◌, arith, subst, add-zero, append_assoc, take}
+use Rattle.keymap_tables.proofs.Common.{common_steps, ◌≡◌, ◌≢◌, ℕ, ◌+◌, ◌-◌, ◌*◌, ◌<◌, ◌≤◌, ◌==◌, suc, zero, List, []}
+use Rattle.keymap_tables.proofs.Common.{◌∷◌, ◌++◌, length, get_or, refl, sym, ap, ◌∙◌, arith, subst, add-zero, take}
 use Rattle.keymap_tables.proofs.Common.{All, Bool, true, false, IsScalar, from_le_bytes, flat_map, nat_tests}
-use Rattle.keymap_tables.proofs.Common.{flat_map-append, get_or_past, All-nil, All-same, All-push, All-cons, All-head}
-use Rattle.keymap_tables.proofs.Common.{All-tail, All-get_or, AccentValue, blank, IsPair, IsAccent, number_at, base_at}
-use Rattle.keymap_tables.proofs.Common.{pairs_in, char_fault, number_fault, accent_fault, zero_fault, HasNoFault}
-use Rattle.keymap_tables.proofs.Common.{AreRows, IsAccentIn, number_bytes, numbers_of, accent_bytes, zeros}
-use Rattle.keymap_tables.proofs.Common.{number_width, number_size, number_limit, accent_size, Layout, Wide, Narrow}
-use Rattle.keymap_tables.proofs.Common.{NotEmpty}
+use Rattle.keymap_tables.proofs.Common.{get_or_past, All-nil, All-same, All-push, All-cons, All-head, All-tail}
+use Rattle.keymap_tables.proofs.Common.{All-get_or, AccentValue, blank, IsPair, IsAccent, number_at, base_at, pairs_in}
+use Rattle.keymap_tables.proofs.Common.{char_fault, number_fault, accent_fault, zero_fault, HasNoFault, AreRows}
+use Rattle.keymap_tables.proofs.Common.{IsAccentIn, number_bytes, numbers_of, accent_bytes, zeros, number_width}
+use Rattle.keymap_tables.proofs.Common.{number_size, number_limit, accent_size, Layout, Wide, Narrow, NotEmpty}
 use Rattle.std.specs.Prelude.{not}
 use Rattle.std.specs.List.{range_with_len, prefix_len}
 use Rattle.std.proofs.lemmas.List.Folds.{length-prefix_len}
@@ -22,9 +21,7 @@ use Rattle.keymap_tables.proofs.SlotImages.{char-sound}
 pub prefix_len-range : (test : ℕ → Bool) (a n k : ℕ) → n ≤ k → ((i : ℕ) → i < n → test (a + i) ≡ true)
     → (n < k → test (a + n) ≡ false) → prefix_len test (range_with_len a k) ≡ n
 prefix_len-range test a zero zero few passing stops = refl
-prefix_len-range test a zero (suc k) few passing stops =
-    let here : test a ≡ false = subst (λ (v : ℕ). test v ≡ false) (add-zero a) (stops (omega arith)) in
-    rw here refl
+prefix_len-range test a zero (suc k) few passing stops = grind arith
 prefix_len-range test a (suc n) zero few passing stops = absurd (omega arith)
 prefix_len-range test a (suc n) (suc k) few passing stops =
     let here : test a ≡ true = subst (λ (v : ℕ). test v ≡ true) (add-zero a) (passing 0 (omega arith)) in
@@ -111,9 +108,7 @@ same-flat (p ∷ xs) (q ∷ ys) same =
 -- one more pair
 pub flat-push : (own : ℕ) (pairs : List (ℕ × ℕ)) (p : ℕ × ℕ)
     → own ∷ flat (pairs ++ p ∷ []) ≡ ((own ∷ flat pairs) ++ p.0 ∷ []) ++ p.1 ∷ []
-flat-push own pairs p =
-    ap (λ (v : List ℕ). own ∷ v) (flat_map-append (λ pair. pair.0 ∷ pair.1 ∷ []) pairs (p ∷ [])
-    ∙ sym (append_assoc (flat pairs) (p.0 ∷ []) (p.1 ∷ [])))
+flat-push own pairs p = grind (arith, common_steps)
 
 -- they give the accent
 numbers-one : (x y : AccentValue) → numbers_of x ≡ numbers_of y → x ≡ y

@@ -1,6 +1,6 @@
 -- What is read at the places of a map's image.
-use Rattle.keymap_tables.proofs.Common.{◌≡◌, ℕ, ◌+◌, ◌*◌, ◌<◌, ◌≤◌, List, length, take, drop, get_or, refl, sym, ap}
-use Rattle.keymap_tables.proofs.Common.{◌∙◌, arith, rules, subst, add-zero, slice_index, from_le_bytes, w8, get_or-take}
+use Rattle.keymap_tables.proofs.Common.{common_steps, ◌≡◌, ℕ, ◌+◌, ◌*◌, ◌<◌, ◌≤◌, List, length, drop, get_or, refl, sym}
+use Rattle.keymap_tables.proofs.Common.{ap, ◌∙◌, arith, rules, subst, slice_index, from_le_bytes, w8, get_or-take}
 use Rattle.keymap_tables.proofs.Common.{get_or-drop, get_or-replicate, blank, MapValue, undefined, entry_at}
 use Rattle.keymap_tables.proofs.Common.{accent_or_blank, IsCell, IsEntry, IsAccent, IsMap, Char, Layout, TableFault}
 use Rattle.keymap_tables.proofs.Common.{FaultOf, IsFirstFault, number_at, is_marked_at, count_at, CellFits, EntryFits}
@@ -8,7 +8,7 @@ use Rattle.keymap_tables.proofs.Common.{FitsIn, image, image_in, number_of, is_a
 use Rattle.keymap_tables.proofs.Common.{part, number_width, number_size, slot_size, slots_place}
 use Rattle.keymap_core.specs.Maps.{cell_at}
 use Rattle.keymap_tables.proofs.Images.{count-part, n_keys-of, n_accs-of, part-part, slot-part}
-use Rattle.keymap_tables.proofs.ReadingLaws.{map-wide, some_none}
+use Rattle.keymap_tables.proofs.ReadingLaws.{map-wide}
 use Rattle.keymap_tables.proofs.Sizes.{row-inside, zero-fits, All-at}
 use Rattle.keymap_tables.proofs.SlotImages.{number-in, mark-in, flag-in}
 
@@ -30,9 +30,7 @@ accents-counted bytes n read m is same =
 pub faultless : {X : Type 0} {f : X → List ℕ} {size : ℕ} {fault_in : List ℕ → FaultOf} {Is : X → Type 0} {d : X}
     → AreRows f size fault_in Is d → (x : X) (bytes : List ℕ) (g : TableFault) → Is x → bytes ≡ f x
     → IsFirstFault (fault_in bytes) g × (g.offset < size) → ⊥
-faultless {fault_in = fault_in} rows x bytes g is same fault =
-    some_none g.kind (fault_in bytes g.offset) fault.0.here
-    (ap (λ (v : List ℕ). fault_in v g.offset) same ∙ rows.sound x is g.offset fault.1)
+faultless {fault_in = fault_in} rows x bytes g is same fault = grind arith
 
 -- a blank accent is known
 pub blank-known : IsAccent blank
@@ -87,9 +85,7 @@ cell-number l m is fits s column below inside =
 pub cell-mark : (l : Layout) (m : MapValue) → IsMap m → FitsIn l m → (s column : ℕ) → s < 256 → column < 8
     → is_marked_at l (part (image_in l m) (slots_place l + slot_size l * s) (slot_size l)) column
     ≡ is_act (cell_at m s column)
-cell-mark l m is fits s column below inside =
-    ap (λ (v : List ℕ). is_marked_at l v column) (slot-part l m is fits s below)
-    ∙ mark-in l (entry_at m s) (Char 0) column (entry-known m is s) inside
+cell-mark l m is fits s column below inside = search (rules, slot-part, mark-in, entry-known)
 
 -- the flag read at a slot's place is the entry's
 pub slot-flag-at : (l : Layout) (m : MapValue) → IsMap m → FitsIn l m → (s : ℕ) → s < 256
@@ -107,6 +103,4 @@ first-byte bytes = omega arith
 
 -- a narrow number is one byte
 pub number-byte : (bytes : List ℕ) (at : ℕ) → number_at narrow bytes at ≡ slice_index bytes at
-number-byte bytes at =
-    first-byte (take 1 (drop at bytes)) ∙ get_or-take 1 (drop at bytes) 0 0 (omega arith) ∙ get_or-drop at bytes 0 0
-    ∙ ap (λ (k : ℕ). get_or bytes k 0) (add-zero at)
+number-byte bytes at = grind (arith, common_steps)

@@ -1,22 +1,21 @@
 -- Tables of rows, and the image of a map that fits: it has no fault, and gives the map.
-use Rattle.keymap_tables.proofs.Common.{eq-eqb, ne_eqb, ◌≡◌, ℕ, ◌+◌, ◌-◌, ◌*◌, ◌^◌, ◌<◌, ◌≤◌, ◌==◌, List, ◌++◌, length}
-use Rattle.keymap_tables.proofs.Common.{take, drop, get_or, None, Some, cond, refl, sym, ap, ◌∙◌, subst, arith, inl}
-use Rattle.keymap_tables.proofs.Common.{inr, length-append, All, flat_map, from_le_bytes, w16, cases_lt, lt-ltb, le-ltb}
-use Rattle.keymap_tables.proofs.Common.{nat_tests, take_at, drop_at, drop-drop, All-get_or, All-weaker, AccentValue}
+use Rattle.keymap_tables.proofs.Common.{rules, eq-eqb, ne_eqb, ◌≡◌, ℕ, ◌+◌, ◌-◌, ◌*◌, ◌^◌, ◌<◌, ◌≤◌, ◌==◌, List, ◌++◌}
+use Rattle.keymap_tables.proofs.Common.{length, take, drop, get_or, None, Some, cond, refl, sym, ap, ◌∙◌, subst, arith}
+use Rattle.keymap_tables.proofs.Common.{inl, inr, length-append, All, flat_map, from_le_bytes, w16, cases_lt, lt-ltb}
+use Rattle.keymap_tables.proofs.Common.{le-ltb, take_at, drop_at, drop-drop, All-get_or, All-weaker, AccentValue}
 use Rattle.keymap_tables.proofs.Common.{IsEntry, IsAccent, IsMap, MapValue, entry_at, accent_or_blank, Entry, Layout}
 use Rattle.keymap_tables.proofs.Common.{BadPad, NotEmpty, TableFault, FaultOf, IsFirstFault, number_fault, zero_fault}
 use Rattle.keymap_tables.proofs.Common.{count_at, count_fault, used_fault, table_fault, slot_fault, accent_fault}
 use Rattle.keymap_tables.proofs.Common.{fault_at, EntryFits, AccentFits, FitsIn, count_bytes, rows_bytes, table_bytes}
 use Rattle.keymap_tables.proofs.Common.{slot_bytes, accent_bytes, image_in, zeros, HasNoFault, AreRows, IsEntryIn}
-use Rattle.keymap_tables.proofs.Common.{IsAccentIn, part, pad_size, count_size, slot_size, slots_place, accent_size}
-use Rattle.keymap_tables.proofs.Common.{n_accs_place}
+use Rattle.keymap_tables.proofs.Common.{IsAccentIn, part, count_size, slot_size, slots_place, accent_size, n_accs_place}
 use Rattle.std.proofs.lemmas.List.{take-take, drop-take}
 use Rattle.keymap_tables.specs.Types.{Short, Long}
 use Rattle.keymap_tables.specs.Faults.{count_over, content_fault}
 use Rattle.keymap_tables.specs.Layouts.{accents_place, file_size}
 use Rattle.keymap_tables.proofs.AccentImages.{accents-are}
-use Rattle.keymap_tables.proofs.Lifting.{row-past, number-passes, none-past, split-passes}
-use Rattle.keymap_tables.proofs.Numbers.{zero-none, zeros-behind, count-back}
+use Rattle.keymap_tables.proofs.Lifting.{row-past, split-passes}
+use Rattle.keymap_tables.proofs.Numbers.{zero-none, zeros-behind}
 use Rattle.keymap_tables.proofs.Rows.{length-rows, length-all, filled-row, rows-clean, same-rows}
 use Rattle.keymap_tables.proofs.Sizes.{length-count, row-inside}
 use Rattle.keymap_tables.proofs.SlotImages.{slots-are}
@@ -37,9 +36,7 @@ module _ (most : ℕ) (bytes : List ℕ) where
       row-past (λ i. number_fault w16 (count_over most)) 2 1 (zero_fault BadPad bytes) bytes p (omega arith) past
 
   pub count-front : count_at bytes 0 ≤ most → HasNoFault (count_fault most bytes) 2
-  count-front few =
-      number-passes w16 (λ i. count_over most) 2 1 (zero_fault BadPad bytes) bytes 0 (omega arith)
-      (λ p below. absurd (omega arith)) (grind (arith, nat_tests))
+  count-front few = grind arith
 
 -- a count in its part
 pub count-part : (bytes : List ℕ) (at n : ℕ) → 2 ≤ n → count_at (part bytes at n) 0 ≡ count_at bytes at
@@ -48,11 +45,7 @@ count-part bytes at n whole = ap (from_le_bytes w16) (take-take 2 n (drop at byt
 -- the bytes of a count within its bound have no fault
 pub count-sound : (l : Layout) (most n : ℕ) → n ≤ most → n < 2 ^ 16
     → HasNoFault (count_fault most (count_bytes l n)) (count_size l)
-count-sound l most n few small =
-    none-past BadPad (count_fault most (count_bytes l n)) (count_bytes l n) 2 (count_size l)
-    (λ p past inside. count-pad most (count_bytes l n) p past)
-    (count-front most (count_bytes l n) (omega (arith, count-back l n small)))
-    (λ p past. zeros-behind (take 2 (count_bytes l n)) (pad_size l) p past)
+count-sound l most n few small = grind arith
 
 -- A table of rows.
 module _ {X : Type 0} {f : X → List ℕ} {size : ℕ} {fault_in : List ℕ → FaultOf} {Is : X → Type 0} {d : X}
@@ -62,9 +55,7 @@ module _ {X : Type 0} {f : X → List ℕ} {size : ℕ} {fault_in : List ℕ →
 
   pub length-table : (xs : List X) → All Is xs → length xs ≤ most
       → length (table_bytes l f size most xs) ≡ count_size l + most * size
-  length-table xs known few =
-      length-append (count_bytes l (length xs)) (rows_bytes f size most xs)
-      ∙ omega (arith, length-count l (length xs), length-all f size most xs (sized xs known) few)
+  length-table xs known few = search (rules, length-append, length-count, length-all, sized)
 
   pub table-front : (xs : List X) → take (count_size l) (table_bytes l f size most xs) ≡ count_bytes l (length xs)
   table-front xs =
@@ -75,9 +66,7 @@ module _ {X : Type 0} {f : X → List ℕ} {size : ℕ} {fault_in : List ℕ →
       drop_at (count_bytes l (length xs)) (rows_bytes f size most xs) (count_size l) (length-count l (length xs))
 
   pub table-count : (xs : List X) → length xs ≤ most → count_at (table_bytes l f size most xs) 0 ≡ length xs
-  table-count xs few =
-      sym (count-part (table_bytes l f size most xs) 0 (count_size l) (omega arith))
-      ∙ ap (λ (v : List ℕ). count_at v 0) (table-front xs) ∙ count-back l (length xs) (omega arith)
+  table-count xs few = grind arith
 
   -- each row stands at its place, and blank ones behind them
   pub table-row : (xs : List X) → All Is xs → length xs ≤ most → (i : ℕ) → i < most
@@ -107,13 +96,7 @@ module _ {X : Type 0} {f : X → List ℕ} {size : ℕ} {fault_in : List ℕ →
   -- a table has no fault
   pub table-sound : (xs : List X) → All Is xs → length xs ≤ most → (p : ℕ)
       → table_fault l fault_in size most (table_bytes l f size most xs) p ≡ None
-  table-sound xs known few =
-      let bytes = table_bytes l f size most xs in
-      split-passes (count_size l) (count_fault most) (used_fault fault_in size (count_at bytes 0)) bytes
-      (subst (λ (v : List ℕ). HasNoFault (count_fault most v) (count_size l)) (sym (table-front xs))
-      (count-sound l most (length xs) few (omega arith)))
-      (λ q. ap (λ (n : ℕ). used_fault fault_in size n (drop (count_size l) bytes) q) (table-count xs few)
-      ∙ ap (λ (v : List ℕ). used_fault fault_in size (length xs) v q) (table-back xs) ∙ rows-sound xs known q)
+  table-sound xs known few = search (rules, split-passes, table-front, count-sound, table-count, table-back, rows-sound)
 
   -- and gives the rows
   pub same-table : (xs ys : List X) → All Is xs → All Is ys → length xs ≤ most → length ys ≤ most
@@ -196,16 +179,10 @@ module _ (l : Layout) (m : MapValue) (is : IsMap m) (fits : FitsIn l m) where
       m.entries entries-in is.few_entries
 
   pub image-front : take (n_accs_place l) (image_in l m) ≡ table_bytes l (slot_bytes l) (slot_size l) 256 m.entries
-  image-front =
-      ap (take (n_accs_place l)) (image-parts l m)
-      ∙ take_at (table_bytes l (slot_bytes l) (slot_size l) 256 m.entries)
-      (table_bytes l (accent_bytes l) (accent_size l) 15 m.accents) (n_accs_place l) length-slots
+  image-front = search (rules, image-parts, take_at, length-slots)
 
   pub image-back : drop (n_accs_place l) (image_in l m) ≡ table_bytes l (accent_bytes l) (accent_size l) 15 m.accents
-  image-back =
-      ap (drop (n_accs_place l)) (image-parts l m)
-      ∙ drop_at (table_bytes l (slot_bytes l) (slot_size l) 256 m.entries)
-      (table_bytes l (accent_bytes l) (accent_size l) 15 m.accents) (n_accs_place l) length-slots
+  image-back = search (rules, image-parts, drop_at, length-slots)
 
   pub length-image : length (image_in l m) ≡ file_size l
   length-image =
@@ -238,9 +215,7 @@ module _ (l : Layout) (m : MapValue) (is : IsMap m) (fits : FitsIn l m) where
       m.entries is.few_entries
 
   pub n_accs-of : count_at (image_in l m) (n_accs_place l) ≡ length m.accents
-  n_accs-of =
-      ap (λ (v : List ℕ). count_at v 0) image-back
-      ∙ table-count (accents-are l) l 15 (omega arith) m.accents is.few_accents
+  n_accs-of = search (rules, image-back, table-count, accents-are)
 
   pub image-n_keys : part (image_in l m) 0 (count_size l) ≡ count_bytes l (length m.entries)
   image-n_keys =
@@ -250,9 +225,7 @@ module _ (l : Layout) (m : MapValue) (is : IsMap m) (fits : FitsIn l m) where
       m.entries
 
   pub image-n_accs : part (image_in l m) (n_accs_place l) (count_size l) ≡ count_bytes l (length m.accents)
-  image-n_accs =
-      ap (take (count_size l)) image-back
-      ∙ table-front (accents-are l) l 15 (omega arith) m.accents
+  image-n_accs = search (rules, image-back, table-front, accents-are)
 
   -- each slot and accent
   pub slot-part : (s : ℕ) → s < 256

@@ -1,8 +1,7 @@
 -- What is read in place, in the bytes of an image.
-use Rattle.keymap_tables.proofs.Common.{◌≡◌, ℕ, ◌+◌, ◌*◌, ◌<◌, ◌≤◌, List, length, drop, get_or, ◌≢◌, ◌==◌, ◌∷◌, None}
-use Rattle.keymap_tables.proofs.Common.{Some, true, false, refl, sym, ap, ◌∙◌, inl, inr, arith, add-one, get_or_past}
-use Rattle.keymap_tables.proofs.Common.{All-get_or, drop-cons, cases_lt, nat_tests, AccentValue, first_result, IsPair}
-use Rattle.keymap_tables.proofs.Common.{IsAccent, base_at, number_at, accent_bytes, wide}
+use Rattle.keymap_tables.proofs.Common.{common_steps, rules, ◌≡◌, ℕ, ◌+◌, ◌*◌, ◌<◌, ◌≤◌, List, length, drop, get_or}
+use Rattle.keymap_tables.proofs.Common.{◌≢◌, ◌∷◌, None, Some, sym, ap, ◌∙◌, arith, get_or_past, All-get_or, cases_lt}
+use Rattle.keymap_tables.proofs.Common.{AccentValue, first_result, IsAccent, base_at, number_at, accent_bytes, wide}
 use Rattle.std.proofs.lemmas.List.{drop_all}
 use Rattle.keymap_tables.proofs.AccentImages.{base-in, result-in}
 use Rattle.keymap_tables.proofs.ReadingLaws.{accent-wide}
@@ -10,25 +9,19 @@ use Rattle.keymap_tables.proofs.ReadingLaws.{accent-wide}
 -- the pairs from a place on
 pairs-from : (accent : AccentValue) (i : ℕ) → i < length accent.pairs
     → drop i accent.pairs ≡ get_or accent.pairs i (0, 0) ∷ drop (i + 1) accent.pairs
-pairs-from accent i below =
-    drop-cons accent.pairs i (0, 0) below
-    ∙ ap (λ (k : ℕ). get_or accent.pairs i (0, 0) ∷ drop k accent.pairs) (sym (add-one i))
+pairs-from accent i below = grind (arith, common_steps)
 
 -- the result of the first of the pairs from a place on, where it is the one there, and where it isn't
 pub result-here : (accent : AccentValue) (i base : ℕ) → i < length accent.pairs
     → (get_or accent.pairs i (0, 0)).0 ≡ base
     → first_result (drop i accent.pairs) base ≡ Some (get_or accent.pairs i (0, 0)).1
-result-here accent i base below is =
-    let test : ((get_or accent.pairs i (0, 0)).0 == base) ≡ true = grind (arith, nat_tests) in
-    ap (λ (v : List (ℕ × ℕ)). first_result v base) (pairs-from accent i below) ∙ rw test refl
+result-here accent i base below is = grind (arith, common_steps)
 
 -- a pair of another base is passed over
 pub result-later : (accent : AccentValue) (i base : ℕ) → i < length accent.pairs
     → (get_or accent.pairs i (0, 0)).0 ≢ base
     → first_result (drop i accent.pairs) base ≡ first_result (drop (i + 1) accent.pairs) base
-result-later accent i base below other =
-    let test : ((get_or accent.pairs i (0, 0)).0 == base) ≡ false = grind (arith, nat_tests) in
-    ap (λ (v : List (ℕ × ℕ)). first_result v base) (pairs-from accent i below) ∙ rw test refl
+result-later accent i base below other = grind (arith, common_steps)
 
 -- behind the last pair no base is left
 pub result-none : (accent : AccentValue) (i base : ℕ) → length accent.pairs ≤ i
@@ -44,18 +37,10 @@ module _ (bytes : List ℕ) (a : AccentValue) (is : IsAccent a) (same : bytes �
 
   -- a base that isn't 0 is that of a pair, and behind a base 0 there is none
   pub below-of : n ≢ 0 → i < length a.pairs
-  below-of filled =
-      elim (cases_lt i (length a.pairs)) [
-        | inl below ↦ below
-        | inr past ↦ absurd (filled (sym base-of ∙ ap (λ (p : ℕ × ℕ). p.0) (get_or_past a.pairs i (0, 0) past)))
-      ]
+  below-of filled = search (rules, cases_lt, base-of, get_or_past)
 
   pub past-of : n ≡ 0 → length a.pairs ≤ i
-  past-of empty =
-      elim (cases_lt i (length a.pairs)) [
-        | inl below ↦ absurd ((All-get_or IsPair a.pairs i (0, 0) below is.pairs).1 (base-of ∙ empty))
-        | inr past ↦ past
-      ]
+  past-of empty = search (rules, cases_lt, All-get_or, base-of)
 
 -- a result that is read in the bytes of an accent is the pair's
 pub result-of : (bytes : List ℕ) (a : AccentValue) (i : ℕ) → IsAccent a → i < 52 → bytes ≡ accent_bytes wide a

@@ -1,12 +1,11 @@
 -- The faults of a part, in the whole.
-use Rattle.keymap_tables.proofs.Common.{◌≡◌, ℕ, ◌+◌, ◌-◌, ◌*◌, ◌/◌, ◌%◌, ◌<◌, ◌≤◌, ◌==◌, suc, zero, List, length, take}
-use Rattle.keymap_tables.proofs.Common.{drop, refl, ◌∙◌, subst, sym, ap, arith, None, Some, inl, inr, true, false}
-use Rattle.keymap_tables.proofs.Common.{mul_comm, from_le_bytes, slice_index, Option, nat_tests, cases_lt, lt-ltb}
-use Rattle.keymap_tables.proofs.Common.{le-ltb, FaultOf, zero_fault, number_fault, rows_fault, IsFirstFault, HasNoFault}
-use Rattle.keymap_tables.proofs.Common.{part, TableFault, TableFaultKind}
-use Rattle.std.proofs.Common.{nat_lt}
+use Rattle.keymap_tables.proofs.Common.{rules, ◌≡◌, ℕ, ◌+◌, ◌-◌, ◌*◌, ◌<◌, ◌≤◌, ◌==◌, suc, zero, List, length, take}
+use Rattle.keymap_tables.proofs.Common.{drop, refl, ◌∙◌, subst, sym, ap, arith, None, Some, inl, inr, false, mul_comm}
+use Rattle.keymap_tables.proofs.Common.{from_le_bytes, slice_index, Option, nat_tests, cases_lt, lt-ltb, FaultOf}
+use Rattle.keymap_tables.proofs.Common.{zero_fault, number_fault, rows_fault, IsFirstFault, HasNoFault, part}
+use Rattle.keymap_tables.proofs.Common.{TableFault, TableFaultKind}
 use Rattle.std.specs.Int.{Width}
-use Rattle.std.proofs.lemmas.Nat.{div-mul-add, mod-mul-add, le-div}
+use Rattle.std.proofs.lemmas.Nat.{div-mul-add, mod-mul-add}
 use Rattle.keymap_tables.specs.Faults.{split_fault}
 use Rattle.keymap_tables.specs.Inner.Firsts.{IsFirstFilled}
 use Rattle.keymap_tables.proofs.Sizes.{row-next}
@@ -39,12 +38,7 @@ first-after whole inner base size f same before first inside = record {
 pub none-past : (kind : TableFaultKind) (whole : FaultOf) (bytes : List ℕ) (from n : ℕ)
     → ((p : ℕ) → from ≤ p → p < n → whole p ≡ zero_fault kind bytes p) → HasNoFault whole from
     → ((p : ℕ) → from ≤ p → slice_index bytes p ≡ 0) → HasNoFault whole n
-none-past kind whole bytes from n same before empty p below =
-    elim (cases_lt p from) [
-      | inl front ↦ before p front
-      | inr past ↦ let is : slice_index bytes p ≡ 0 = empty p past in
-          same p past below ∙ rw is refl
-    ]
+none-past kind whole bytes from n same before empty p below = grind arith
 
 -- What follows has to be zeros, and isn't.
 pub first-past : (kind : TableFaultKind) (whole : FaultOf) (bytes : List ℕ) (from n : ℕ) (f : TableFault)
@@ -64,57 +58,30 @@ module _ (n : ℕ) (front back : List ℕ → FaultOf) (bytes : List ℕ) where
   split-front p below = rw (lt-ltb p n below) refl
 
   pub split-back : (q : ℕ) → split_fault n front back bytes (n + q) ≡ back (drop n bytes) q
-  split-back q =
-      let here : n + q - n ≡ q = omega arith in
-      rw (le-ltb (n + q) n (omega arith), here) refl
+  split-back q = grind arith
 
   -- the first fault of the front, and of what follows a front without one
   pub split-fails : (cut : List ℕ) (m : ℕ) (f : TableFault) → cut ≡ take n bytes → m ≤ n
       → IsFirstFault (front cut) f × (f.offset < m) → IsFirstFault (split_fault n front back bytes) f × (f.offset < n)
-  split-fails cut m f same few fault =
-      let first = subst (λ (v : List ℕ). IsFirstFault (front v) f) same fault.0 in
-      let inside : f.offset < n = omega (arith, fault.1) in (
-        record {
-          here = split-front f.offset inside ∙ first.here;
-          before = λ p below. split-front p (omega arith) ∙ first.before p below;
-        },
-        inside,
-      )
+  split-fails cut m f same few fault = grind arith
 
   pub split-fails_behind : (cut : List ℕ) (at : ℕ) (f g : TableFault) → cut ≡ drop n bytes → at ≡ n
       → HasNoFault (front (take n bytes)) n → IsFirstFault (back cut) f → g ≡ record f { offset = at + f.offset }
       → IsFirstFault (split_fault n front back bytes) g
-  split-fails_behind cut at f g same is sound fault after =
-      subst (IsFirstFault (split_fault n front back bytes))
-      (sym (after ∙ ap (λ (k : ℕ). record f { offset = k + f.offset }) is))
-      (first-after (split_fault n front back bytes) (back (drop n bytes)) n (f.offset + 1) f (λ q inside. split-back q)
-      (λ p below. split-front p below ∙ sound p below) (subst (λ (v : List ℕ). IsFirstFault (back v) f) same fault)
-      (omega arith))
+  split-fails_behind cut at f g same is sound fault after = grind arith
 
   pub split-passes : HasNoFault (front (take n bytes)) n → ((q : ℕ) → back (drop n bytes) q ≡ None) → (p : ℕ)
       → split_fault n front back bytes p ≡ None
-  split-passes sound clean p =
-      elim (cases_lt p n) [
-        | inl below ↦ split-front p below ∙ sound p below
-        | inr past ↦ subst (λ (r : ℕ). split_fault n front back bytes r ≡ None) (within-part n p past)
-            (split-back (p - n) ∙ clean (p - n))
-      ]
+  split-passes sound clean p = grind arith
 
 -- Rows in use, and what follows them.
 module _ (fault_in : ℕ → List ℕ → FaultOf) (size count : ℕ) (behind : FaultOf) (bytes : List ℕ) where
   pub row-at : (i q : ℕ) → i < count → q < size
       → rows_fault fault_in size count behind bytes (size * i + q) ≡ fault_in i (part bytes (size * i) size) q
-  row-at i q used inside =
-      let whole : (size * i + q) / size ≡ i = rw (mul_comm size i) (div-mul-add i size q inside) in
-      let rest : (size * i + q) % size ≡ q = rw (mul_comm size i) (mod-mul-add i size q inside) in
-      let test : nat_lt i count ≡ true = grind (arith, nat_tests) in
-      rw (whole, rest, test) refl
+  row-at i q used inside = search (rules, mul_comm, div-mul-add, mod-mul-add, nat_tests)
 
   pub row-past : (p : ℕ) → 0 < size → size * count ≤ p → rows_fault fault_in size count behind bytes p ≡ behind p
-  row-past p some past =
-      let whole : count ≤ p / size = le-div count p size some (rw (mul_comm count size) past) in
-      let test : nat_lt (p / size) count ≡ false = grind (arith, nat_tests) in
-      rw test refl
+  row-past p some past = grind arith
 
   -- one more row without a fault
   pub row-passes : (i : ℕ) → i < count → HasNoFault (rows_fault fault_in size count behind bytes) (size * i)
@@ -149,9 +116,7 @@ module _ (w : Width) (fault_in : ℕ → ℕ → Option TableFaultKind) (size co
         → HasNoFault (rows_fault (λ i. number_fault w (fault_in i)) size count behind bytes) (size * i)
         → fault_in i (from_le_bytes w (part bytes (size * i) size)) ≡ None
         → HasNoFault (rows_fault (λ i. number_fault w (fault_in i)) size count behind bytes) (size * (i + 1))
-    number-passes i used before clean =
-        row-passes (λ i. number_fault w (fault_in i)) size count behind bytes i used before
-        (number-clean w (fault_in i) (part bytes (size * i) size) size clean)
+    number-passes i used before clean = search (rules, row-passes, number-clean)
 
     pub number-fails : (i : ℕ) (f : TableFault) → 0 < size → i < count → f.offset ≡ size * i
         → HasNoFault (rows_fault (λ i. number_fault w (fault_in i)) size count behind bytes) (size * i)

@@ -1,7 +1,7 @@
 -- The marks of cells.
-use Rattle.keymap_tables.proofs.Common.{◌≡◌, ℕ, ◌+◌, ◌-◌, ◌*◌, ◌/◌, ◌%◌, ◌^◌, ◌<◌, ◌==◌, suc, zero, List, [], ◌∷◌}
-use Rattle.keymap_tables.proofs.Common.{length, take, get_or, set, cond, add-one, refl, sym, ap, ◌∙◌, arith, nat_tests}
-use Rattle.keymap_tables.proofs.Common.{take_more, take_more_set, Cell, Char, Act, is_act, marks_of}
+use Rattle.keymap_tables.proofs.Common.{rules, ◌≡◌, ℕ, ◌+◌, ◌-◌, ◌*◌, ◌/◌, ◌%◌, ◌^◌, ◌<◌, ◌==◌, suc, zero, List, []}
+use Rattle.keymap_tables.proofs.Common.{◌∷◌, length, take, get_or, set, cond, add-one, refl, sym, ap, ◌∙◌, arith}
+use Rattle.keymap_tables.proofs.Common.{nat_tests, take_more, take_more_set, Cell, Char, Act, is_act, marks_of}
 use Rattle.std.specs.List.{fold}
 use Rattle.std.proofs.lemmas.List.Sums.{fold-append}
 use Rattle.std.proofs.Math.Nat.{pow-suc, div-div-eq-div-mul}
@@ -64,10 +64,7 @@ half-of marks i small =
 pub marks-more : (marks : ℕ) (cells : List Cell) (i : ℕ) (cell : Cell) → i < 8 → i < length cells
     → marks_of (take i cells) ≡ marks / 2 ^ (8 - i) → is_act cell ≡ ((marks / 2 ^ (7 - i)) % 2 == 1)
     → marks_of (take (i + 1) (set cells i cell)) ≡ marks / 2 ^ (8 - (i + 1))
-marks-more marks cells i cell small below so_far mark =
-    let less : 8 - (i + 1) ≡ 7 - i = omega arith in
-    rw (take_more_set cells i cell below, fold-append, so_far, mark, half-of marks i small, less)
-    (halves (marks / 2 ^ (7 - i)))
+marks-more marks cells i cell small below so_far mark = search (rules, take_more_set, fold-append, half-of, halves)
 
 -- one more bit behind the marks so far is the mark of the next cell
 pub marks-next : (cells : List Cell) (i : ℕ) (cell : Cell) (old bit : ℕ) → i < length cells → cell ≡ get_or cells i cell

@@ -1,12 +1,11 @@
 -- The bytes of numbers, and bytes that have to be 0.
-use Rattle.keymap_tables.proofs.Common.{◌≡◌, ◌≢◌, ℕ, ◌+◌, ◌-◌, ◌%◌, ◌^◌, ◌<◌, ◌≤◌, List, [], ◌∷◌, ◌++◌, length, take}
-use Rattle.keymap_tables.proofs.Common.{drop, get_or, refl, sym, ap, ◌∙◌, arith, None, Some, inl, inr, length-drop}
-use Rattle.keymap_tables.proofs.Common.{slice_index, from_le_bytes, w8, w16, cases_lt, nat_tests, common_steps}
-use Rattle.keymap_tables.proofs.Common.{take-append-drop, get_or-take, get_or-drop, same_lists, get_or-replicate}
-use Rattle.keymap_tables.proofs.Common.{length-replicate, get_or_past, get_or-append_right, zero_fault, number_at}
-use Rattle.keymap_tables.proofs.Common.{count_at, zeros, count_bytes, number_bytes, Layout, Wide, Narrow}
-use Rattle.keymap_tables.proofs.Common.{TableFaultKind, part, pad_size, count_size, number_width, number_size}
-use Rattle.keymap_tables.proofs.Common.{number_limit}
+use Rattle.keymap_tables.proofs.Common.{◌≡◌, ◌≢◌, ℕ, ◌+◌, ◌-◌, ◌^◌, ◌<◌, ◌≤◌, List, [], ◌∷◌, ◌++◌, length, take, drop}
+use Rattle.keymap_tables.proofs.Common.{get_or, refl, sym, ap, ◌∙◌, arith, None, Some, length-drop, slice_index}
+use Rattle.keymap_tables.proofs.Common.{from_le_bytes, w8, w16, nat_tests, common_steps, take-append-drop, get_or-take}
+use Rattle.keymap_tables.proofs.Common.{get_or-drop, same_lists, get_or-replicate, length-replicate}
+use Rattle.keymap_tables.proofs.Common.{get_or-append_right, zero_fault, number_at, count_at, zeros, count_bytes}
+use Rattle.keymap_tables.proofs.Common.{number_bytes, Layout, Wide, Narrow, TableFaultKind, part, pad_size, count_size}
+use Rattle.keymap_tables.proofs.Common.{number_width, number_size, number_limit}
 use Rattle.std.specs.Int.{to_le_bytes, w32}
 use Rattle.std.proofs.lemmas.List.{length-take-le, get_or_default}
 use Rattle.std.proofs.lemmas.Nat.{le_bytes_2, le_bytes_4, from_le_bytes-to_le_bytes_2, from_le_bytes-to_le_bytes_4}
@@ -27,11 +26,7 @@ zero-none kind bytes p empty = rw empty refl
 
 -- zeros have zeros
 pub zeros-at : (n p : ℕ) → get_or (zeros n) p 0 ≡ 0
-zeros-at n p =
-    elim (cases_lt p n) [
-      | inl below ↦ get_or-replicate n p 0 0 below
-      | inr past ↦ get_or_past (zeros n) p 0 (omega (arith, length-replicate {A = ℕ} n 0))
-    ]
+zeros-at n p = grind (arith, common_steps)
 
 -- behind the front stand zeros
 pub zeros-behind : (front : List ℕ) (n p : ℕ) → length front ≤ p → slice_index (front ++ zeros n) p ≡ 0
@@ -61,10 +56,7 @@ part-small bytes at n small i = grind (arith, common_steps, get_or-take, get_or-
 one-byte : (bytes : List ℕ) (n : ℕ) → length bytes ≡ 1 → get_or bytes 0 0 < 256 → n ≡ from_le_bytes w8 bytes
     → to_le_bytes w8 n ≡ bytes
 one-byte [] n one small is = absurd (omega arith)
-one-byte (b ∷ []) n one small is =
-    let same : n ≡ b = omega (arith, is) in
-    let whole : n % 256 ≡ b = omega arith in
-    ap (λ (v : ℕ). v ∷ []) whole
+one-byte (b ∷ []) n one small is = grind arith
 one-byte (b ∷ c ∷ bytes) n one small is = absurd (omega arith)
 
 -- a number that was read has the bytes that were read

@@ -1,9 +1,9 @@
 -- What the reading of a file answers is the map of the image, or the one fault.
-use Rattle.keymap_tables.proofs.Common.{◌≡◌, ℕ, ◌<◌, List, None, Some, sym, ap, ◌∙◌, subst, inl, inr, arith, Result, Ok}
-use Rattle.keymap_tables.proofs.Common.{Err, Option, cases_lt, eq-or-lt_of_le, All-weaker, AccentValue, MapValue}
-use Rattle.keymap_tables.proofs.Common.{IsCell, IsEntry, IsAccent, IsMap, IsScalar, Cell, Char, Act, Entry, Layout}
-use Rattle.keymap_tables.proofs.Common.{TableFault, TableFaultKind, IsFirstFault, fault_at, CellFits, EntryFits}
-use Rattle.keymap_tables.proofs.Common.{AccentFits, FitsIn, image_in, numbers_of, wide, number_limit}
+use Rattle.keymap_tables.proofs.Common.{◌≡◌, ℕ, ◌<◌, List, None, Some, sym, ◌∙◌, subst, arith, Result, Ok, Err, Option}
+use Rattle.keymap_tables.proofs.Common.{All-weaker, AccentValue, MapValue, IsCell, IsEntry, IsAccent, IsMap, IsScalar}
+use Rattle.keymap_tables.proofs.Common.{Cell, Char, Act, Entry, Layout, TableFault, TableFaultKind, IsFirstFault}
+use Rattle.keymap_tables.proofs.Common.{fault_at, CellFits, EntryFits, AccentFits, FitsIn, image_in, numbers_of, wide}
+use Rattle.keymap_tables.proofs.Common.{number_limit}
 use Rattle.keymap_tables.specs.Types.{TableError, Memory, Read, Fault}
 use Rattle.keymap_tables.specs.Readings.{IsReadingIn, AnswersMap, AnswersFault}
 use Rattle.keymap_tables.proofs.AccentImages.{numbers-known}
@@ -47,17 +47,7 @@ same-kind o k l first second = cc
 
 -- A file has one fault.
 pub one-fault : (at : ℕ → Option TableFaultKind) (f g : TableFault) → IsFirstFault at f → IsFirstFault at g → f ≡ g
-one-fault at f g first second =
-    let place : f.offset ≡ g.offset = elim (cases_lt f.offset g.offset) [
-      | inl before ↦ absurd (some_none f.kind (at f.offset) first.here (second.before f.offset before))
-      | inr from ↦ elim (eq-or-lt_of_le from) [
-        | inl same ↦ sym same
-        | inr after ↦ absurd (some_none g.kind (at g.offset) second.here (first.before g.offset after))
-      ]
-    ] in
-    let kind : f.kind ≡ g.kind =
-    same-kind (at g.offset) f.kind g.kind (subst (λ (p : ℕ). at p ≡ Some f.kind) place first.here) second.here in
-    ap (λ (p : ℕ). record f { offset = p }) place ∙ ap (λ (k : TableFaultKind). record g { kind = k }) kind
+one-fault at f g first second = grind arith
 
 -- Reading the image of a map that fits gives the map.
 pub reading-image : (l : Layout) (bytes : List ℕ) (r : Result MapValue TableError) → IsReadingIn l bytes r

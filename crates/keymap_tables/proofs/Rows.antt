@@ -1,14 +1,13 @@
 -- Rows of equal size, of which those after the last one are blank.
-use Rattle.keymap_tables.proofs.Common.{◌≡◌, ℕ, ◌+◌, ◌-◌, ◌*◌, ◌/◌, ◌%◌, ◌<◌, ◌≤◌, zero, suc, List, [], ◌∷◌, ◌++◌}
-use Rattle.keymap_tables.proofs.Common.{length, take, drop, get_or, replicate, refl, sym, ap, ◌∙◌, arith, subst, inl}
-use Rattle.keymap_tables.proofs.Common.{inr, None, add-one, append_assoc, append-nil, length-append, length-drop}
-use Rattle.keymap_tables.proofs.Common.{mul-suc, mul-zero, mul_comm, All, flat_map-append, cases_lt, take-append-drop}
-use Rattle.keymap_tables.proofs.Common.{replicate-append-replicate, length-replicate, get_or-append_right}
-use Rattle.keymap_tables.proofs.Common.{get_or-replicate, get_or_past, take_more, take_all, take_at, drop_at, drop-drop}
-use Rattle.keymap_tables.proofs.Common.{same_lists, All-head, All-tail, All-get_or, All-append, All-replicate}
-use Rattle.keymap_tables.proofs.Common.{mul-le-mul_left, mul-sub, flat_map, placed, FaultOf, rows_fault, rows_bytes}
-use Rattle.keymap_tables.proofs.Common.{zeros, HasNoFault, part}
-use Rattle.std.proofs.lemmas.List.{get_or_append_left, set_at}
+use Rattle.keymap_tables.proofs.Common.{common_steps, rules, ◌≡◌, ℕ, ◌+◌, ◌-◌, ◌*◌, ◌/◌, ◌%◌, ◌<◌, ◌≤◌, zero, suc, List}
+use Rattle.keymap_tables.proofs.Common.{[], ◌∷◌, ◌++◌, length, take, drop, get_or, replicate, refl, sym, ap, ◌∙◌, arith}
+use Rattle.keymap_tables.proofs.Common.{subst, inl, inr, None, add-one, append_assoc, append-nil, length-append}
+use Rattle.keymap_tables.proofs.Common.{length-drop, mul-suc, mul-zero, mul_comm, All, flat_map-append, cases_lt}
+use Rattle.keymap_tables.proofs.Common.{take-append-drop, replicate-append-replicate, length-replicate, take_more}
+use Rattle.keymap_tables.proofs.Common.{take_all, take_at, drop_at, drop-drop, same_lists, All-head, All-tail}
+use Rattle.keymap_tables.proofs.Common.{All-get_or, All-append, All-replicate, mul-le-mul_left, mul-sub, flat_map}
+use Rattle.keymap_tables.proofs.Common.{placed, FaultOf, rows_fault, rows_bytes, zeros, HasNoFault, part}
+use Rattle.std.proofs.lemmas.List.{set_at}
 use Rattle.std.proofs.lemmas.Nat.{mod_below}
 use Rattle.std.proofs.Math.Nat.{mul-div-le, div-add-mod}
 use Rattle.std.proofs.Math.Seq.{take-add}
@@ -27,26 +26,16 @@ length-filled blank n xs few =
 -- filling up with blanks changes no element
 pub get_or-filled : {X : Type 0} (blank : X) (n : ℕ) (xs : List X) (i : ℕ) → i < n
     → get_or (filled blank n xs) i blank ≡ get_or xs i blank
-get_or-filled blank n xs i inside =
-    elim (cases_lt i (length xs)) [
-      | inl below ↦ get_or_append_left xs (replicate (n - length xs) blank) blank i below
-      | inr past ↦ get_or-append_right xs (replicate (n - length xs) blank) (length xs) i blank refl past
-          ∙ get_or-replicate (n - length xs) (i - length xs) blank blank (omega arith)
-          ∙ sym (get_or_past xs i blank past)
-    ]
+get_or-filled blank n xs i inside = grind (arith, common_steps)
 
 -- An element placed behind the last one.
 pub placed-end : {X : Type 0} (blank : X) (xs : List X) (i : ℕ) (x : X) → length xs ≡ i
     → placed blank xs i x ≡ xs ++ x ∷ []
-placed-end blank xs i x end =
-    let one : i + 1 - length xs ≡ 1 = omega arith in
-    rw one (set_at xs blank [] x i end)
+placed-end blank xs i x end = search (rules, set_at)
 
 -- a slice that is given by its ends, and one of the place and the size of a row
 pub cut : (bytes : List ℕ) (at n : ℕ) → take (at + n - at) (drop at bytes) ≡ part bytes at n
-cut bytes at n =
-    let size : at + n - at ≡ n = omega arith in
-    ap (λ (k : ℕ). take k (drop at bytes)) size
+cut bytes at n = grind arith
 
 pub cut-row : (bytes : List ℕ) (size i n : ℕ) → n ≡ size
     → take (n * i + n - n * i) (drop (n * i) bytes) ≡ part bytes (size * i) size
@@ -70,22 +59,13 @@ module _ {X : Type 0} (f : X → List ℕ) (size : ℕ) where
   -- rows in use and zeros for the others have the size of all
   pub length-all : (n : ℕ) (xs : List X) → All (λ x. length (f x) ≡ size) xs → length xs ≤ n
       → length (rows_bytes f size n xs) ≡ n * size
-  length-all n xs sized few =
-      length-append (flat_map f xs) (zeros (size * (n - length xs)))
-      ∙ omega (
-        arith,
-        rows-size size n (length xs) few,
-        length-rows xs sized,
-        length-replicate {A = ℕ} (size * (n - length xs)) 0,
-      )
+  length-all n xs sized few = search (rules, length-append, rows-size, length-rows, length-replicate)
 
   -- a row, cut out
   pub row-in : (xs : List X) (rest : List ℕ) (i : ℕ) (d : X) → All (λ x. length (f x) ≡ size) xs → i < length xs
       → part (flat_map f xs ++ rest) (size * i) size ≡ f (get_or xs i d)
   row-in [] rest i d sized below = absurd (omega arith)
-  row-in (x ∷ xs) rest zero d sized below =
-      let first : length (f x) ≡ size = All-head (λ y. length (f y) ≡ size) x xs sized in
-      rw (mul-zero, append_assoc) (take_at (f x) (flat_map f xs ++ rest) size first)
+  row-in (x ∷ xs) rest zero d sized below = search (rules, All-head, mul-zero, append_assoc, take_at)
   row-in (x ∷ xs) rest (suc i) d sized below =
       let first : length (f x) ≡ size = All-head (λ y. length (f y) ≡ size) x xs sized in
       let place : size * suc i ≡ size + size * i = omega (arith, mul-suc size i) in
@@ -134,9 +114,7 @@ module _ {X : Type 0} (f : X → List ℕ) (size : ℕ) where
   -- all rows
   pub rows-all : (blank : X) (n : ℕ) (xs : List X) (i : ℕ) → length xs ≤ n → n ≤ i → f blank ≡ zeros size
       → flat_map f (take i (filled blank n xs)) ≡ rows_bytes f size n xs
-  rows-all blank n xs i few past empty =
-      rw (take_all i (filled blank n xs) (omega (arith, length-filled blank n xs few)))
-      (flat_map-filled blank n xs empty)
+  rows-all blank n xs i few past empty = search (rules, take_all, length-filled, flat_map-filled)
 
   -- all rows, cut after one
   pub rows-cut : (blank : X) (n : ℕ) (xs : List X) (i : ℕ) (x : X) (text : List ℕ) → x ≡ get_or xs i blank
@@ -156,40 +134,24 @@ module _ {X : Type 0} (f : X → List ℕ) (size : ℕ) where
   -- one more row, written
   pub rows-written : (xs : List X) (i : ℕ) (x d : X) (old new : List ℕ) → i < length xs → x ≡ get_or xs i d
       → old ≡ flat_map f (take i xs) → new ≡ old ++ f x → new ≡ flat_map f (take (i + 1) xs)
-  rows-written xs i x d old new below here so_far grown =
-      rw (take_more xs i d below, ← here, flat_map-append)
-      (grown ∙ ap (λ (v : List ℕ). v ++ f x) so_far
-      ∙ ap (λ (v : List ℕ). flat_map f (take i xs) ++ v) (sym (append-nil (f x))))
+  rows-written xs i x d old new below here so_far grown = grind (arith, common_steps)
 
   -- all rows, written, and zeros behind them
   pub rows-ended : (n k : ℕ) (xs : List X) (i : ℕ) (old new : List ℕ) → i ≡ length xs → k ≡ n * size
       → old ≡ flat_map f (take i xs) → length old ≡ size * i → new ≡ old ++ zeros (k - length old)
       → new ≡ rows_bytes f size n xs
-  rows-ended n k xs i old new end whole so_far long filled =
-      let all : old ≡ flat_map f xs = so_far ∙ ap (flat_map f) (take_all i xs (omega arith)) in
-      let rest : k - length old ≡ size * (n - length xs) =
-      ap (λ (j : ℕ). j - length old) (whole ∙ mul_comm n size)
-      ∙ ap (λ (j : ℕ). size * n - j) (long ∙ ap (λ (j : ℕ). size * j) end) ∙ sym (mul-sub size n (length xs)) in
-      filled ∙ ap (λ (v : List ℕ). v ++ zeros (k - length old)) all ∙ ap (λ (j : ℕ). flat_map f xs ++ zeros j) rest
+  rows-ended n k xs i old new end whole so_far long filled = search (rules, take_all, mul_comm, mul-sub)
 
   -- one more row, read
   pub rows-read : (bytes : List ℕ) (xs : List X) (i : ℕ) (x : X) → flat_map f xs ≡ take (size * i) bytes
       → part bytes (size * i) size ≡ f x → flat_map f (xs ++ x ∷ []) ≡ take (size * (i + 1)) bytes
-  rows-read bytes xs i x so_far here =
-      let grown : size * (i + 1) ≡ size * i + size = rw add-one (mul-suc size i) in
-      rw (flat_map-append, grown, take-add (size * i) size bytes, so_far, here)
-      (ap (λ (v : List ℕ). take (size * i) bytes ++ v) (append-nil (f x)))
+  rows-read bytes xs i x so_far here = search (rules, add-one, mul-suc, flat_map-append, take-add, append-nil)
 
   -- all rows, read
   pub rows-whole : (n k : ℕ) (bytes : List ℕ) (xs : List X) → length xs ≡ k → length bytes ≡ n * size
       → flat_map f xs ≡ take (size * k) bytes → drop (size * k) bytes ≡ zeros (length bytes - size * k)
       → bytes ≡ rows_bytes f size n xs
-  rows-whole n k bytes xs counted whole so_far empty =
-      let rest : length bytes - size * k ≡ size * (n - length xs) =
-      ap (λ (j : ℕ). j - size * k) (whole ∙ mul_comm n size) ∙ sym (mul-sub size n k)
-      ∙ ap (λ (j : ℕ). size * (n - j)) (sym counted) in
-      sym (take-append-drop (size * k) bytes) ∙ ap (λ (v : List ℕ). v ++ drop (size * k) bytes) (sym so_far)
-      ∙ ap (λ (v : List ℕ). flat_map f xs ++ v) (empty ∙ ap zeros rest)
+  rows-whole n k bytes xs counted whole so_far empty = search (rules, mul_comm, mul-sub, take-append-drop)
 
   -- rows without a fault
   pub rows-clean : (fault_in : ℕ → List ℕ → FaultOf) (n : ℕ) (behind : FaultOf) (xs : List X) (rest : List ℕ) (d : X)

@@ -1,28 +1,23 @@
 -- Rows that are filled one by one.
-use Rattle.keymap_tables.proofs.Common.{◌≡◌, ℕ, ◌+◌, ◌-◌, ◌<◌, ◌≤◌, List, [], ◌∷◌, ◌++◌, length, replicate, set, refl}
-use Rattle.keymap_tables.proofs.Common.{sym, ap, ◌∙◌, arith, append_assoc, length-append, All}
+use Rattle.keymap_tables.proofs.Common.{common_steps, rules, ◌≡◌, ℕ, ◌+◌, ◌-◌, ◌<◌, ◌≤◌, List, [], ◌∷◌, ◌++◌, length}
+use Rattle.keymap_tables.proofs.Common.{replicate, set, refl, sym, ap, ◌∙◌, arith, append_assoc, length-append, All}
 use Rattle.keymap_tables.proofs.Common.{replicate-append-replicate, length-replicate, All-append, All-replicate}
 use Rattle.keymap_tables.proofs.Common.{flat_map, AccentValue, blank, IsEntry, IsAccent, MapValue, placed, undefined}
-use Rattle.keymap_tables.proofs.Common.{Entry, image, slot_bytes, accent_bytes, count_bytes, rows_bytes, table_bytes}
-use Rattle.keymap_tables.proofs.Common.{wide}
+use Rattle.keymap_tables.proofs.Common.{Entry, image, slot_bytes, accent_bytes, count_bytes, wide}
 use Rattle.std.proofs.Common.{max, map, ap₂}
-use Rattle.std.proofs.lemmas.List.{length-set, map-set, set-append_left}
+use Rattle.std.proofs.lemmas.List.{map-set, set-append_left}
 use Rattle.std.proofs.lemmas.List.Elements.{All-set}
 use Rattle.keymap_core.specs.Maps.{with_entry, with_accent}
 use Rattle.keymap_tables.specs.Files.{joined}
 use Rattle.keymap_tables.specs.declared.filling.Filling.{Filling}
 use Rattle.keymap_tables.specs.Filled.{Shows, rows}
 use Rattle.keymap_tables.proofs.AtPlaces.{undefined-known, blank-known}
-use Rattle.keymap_tables.proofs.Rows.{filled, flat_map-filled}
+use Rattle.keymap_tables.proofs.Rows.{flat_map-filled}
 use Rattle.keymap_tables.proofs.Images.{image-parts}
 
 -- a list reaches at least to what was placed
 placed-length : {X : Type 0} (x : X) (xs : List X) (i : ℕ) (y : X) → length (placed x xs i y) ≡ max (length xs) (i + 1)
-placed-length x xs i y =
-    let n = i + 1 - length xs in
-    let long : length (xs ++ replicate n x) ≡ length xs + n =
-    length-append xs (replicate n x) ∙ ap (λ k. length xs + k) (length-replicate n x) in
-    length-set (xs ++ replicate n x) i y ∙ omega (arith, long)
+placed-length x xs i y = grind (arith, common_steps)
 
 -- a row that is placed is set among those that are filled up
 filled-placed : {X : Type 0} (x : X) (n : ℕ) (xs : List X) (i : ℕ) (y : X) → length xs ≤ n → i < n
@@ -43,10 +38,7 @@ filled-placed {X = X} x n xs i y few inside =
 rows-placed : {X : Type 0} (f : X → List ℕ) (x : X) (n : ℕ) (xs : List X) (i : ℕ) (y : X) (row : List ℕ)
     (old : List (List ℕ)) → length xs ≤ n → i < n → row ≡ f y → old ≡ rows f x n xs
     → set old i row ≡ rows f x n (placed x xs i y)
-rows-placed f x n xs i y row old few inside is was =
-    ap₂ (λ (v : List (List ℕ)) w. set v i w) was is
-    ∙ sym (map-set f (xs ++ replicate (n - length xs) x) i y)
-    ∙ sym (ap (λ v. map f v) (filled-placed x n xs i y few inside))
+rows-placed f x n xs i y row old few inside is was = search (rules, ap₂, map-set, filled-placed)
 
 -- what is known of a list, and of what was placed
 placed-known : {X : Type 0} (P : X → Type 0) (x : X) (n : ℕ) (xs : List X) (i : ℕ) (y : X) → P x → length xs ≤ n
@@ -76,9 +68,7 @@ shows-entry t m slot n e row s inside known is count =
         accents = was.accents;
       };
       n_keys = omega (arith, count, keys, long);
-      slots =
-          rows-placed (slot_bytes wide) undefined 256 m.entries slot e row t.slots s.known.few_entries inside is
-          s.slots;
+      slots = search (rules, rows-placed);
       n_accs = s.n_accs;
       accents = s.accents;
     }
@@ -115,15 +105,4 @@ joined-map f (x ∷ xs) = ap (λ (v : List ℕ). f x ++ v) (joined-map f xs)
 -- the file of what is shown
 pub file-of : (t : Filling) (m : MapValue) (n k : List ℕ) → Shows t m → n ≡ count_bytes wide t.n_keys
     → k ≡ count_bytes wide t.n_accs → n ++ joined t.slots ++ k ++ joined t.accents ≡ image m
-file-of t m n k s keys accs =
-    let slots : joined t.slots ≡ rows_bytes (slot_bytes wide) 36 256 m.entries =
-    ap joined s.slots ∙ joined-map (slot_bytes wide) (filled undefined 256 m.entries)
-    ∙ flat_map-filled (slot_bytes wide) 36 undefined 256 m.entries refl in
-    let accents : joined t.accents ≡ rows_bytes (accent_bytes wide) 420 15 m.accents =
-    ap joined s.accents ∙ joined-map (accent_bytes wide) (filled blank 15 m.accents)
-    ∙ flat_map-filled (accent_bytes wide) 420 blank 15 m.accents refl in
-    let first : n ≡ count_bytes wide (length m.entries) = keys ∙ ap (count_bytes wide) s.n_keys in
-    let third : k ≡ count_bytes wide (length m.accents) = accs ∙ ap (count_bytes wide) s.n_accs in
-    rw (first, slots, third, accents) (append_assoc (table_bytes wide (slot_bytes wide) 36 256 m.entries)
-    (count_bytes wide (length m.accents)) (rows_bytes (accent_bytes wide) 420 15 m.accents)
-    ∙ sym (image-parts wide m))
+file-of t m n k s keys accs = search (rules, joined-map, flat_map-filled, append_assoc, image-parts)

@@ -1,9 +1,9 @@
 -- Sizes and places at both widths.
-use Rattle.keymap_tables.proofs.Common.{◌≡◌, ℕ, ◌+◌, ◌-◌, ◌*◌, ◌<◌, ◌≤◌, suc, List, length, get_or, refl, sym, subst}
-use Rattle.keymap_tables.proofs.Common.{inl, inr, All, arith, add-one, mul-suc, mul_comm, cases_lt, get_or_past}
-use Rattle.keymap_tables.proofs.Common.{All-get_or, mul-le-mul_left, mul-sub, blank, undefined, number_bytes}
-use Rattle.keymap_tables.proofs.Common.{count_bytes, slot_bytes, accent_bytes, zeros, number_size, number_limit}
-use Rattle.keymap_tables.proofs.Common.{pad_size, slot_size, accent_size, Layout, Wide, Narrow}
+use Rattle.keymap_tables.proofs.Common.{common_steps, ◌≡◌, ℕ, ◌+◌, ◌-◌, ◌*◌, ◌<◌, ◌≤◌, suc, List, length, get_or, refl}
+use Rattle.keymap_tables.proofs.Common.{All, arith, add-one, mul-suc, mul_comm, mul-le-mul_left, mul-sub, blank}
+use Rattle.keymap_tables.proofs.Common.{undefined, number_bytes, count_bytes, slot_bytes, accent_bytes, zeros}
+use Rattle.keymap_tables.proofs.Common.{number_size, number_limit, pad_size, slot_size, accent_size, Layout, Wide}
+use Rattle.keymap_tables.proofs.Common.{Narrow}
 
 -- row i of so many rows of one size
 pub row-inside : (size n i : ℕ) → i < n → size * i + size ≤ n * size
@@ -66,8 +66,4 @@ accent-blank Narrow = refl
 
 -- what holds of all of a list and of what stands past its end, holds at each place
 pub All-at : {X : Type 0} (P : X → Type 0) (xs : List X) (d : X) (i : ℕ) → P d → All P xs → P (get_or xs i d)
-All-at P xs d i past all =
-    elim (cases_lt i (length xs)) [
-      | inl below ↦ All-get_or P xs i d below all
-      | inr over ↦ subst P (sym (get_or_past xs i d over)) past
-    ]
+All-at P xs d i past all = grind (arith, common_steps)

@@ -1,15 +1,15 @@
 -- The image of a slot: it has no fault, and gives the entry.
-use Rattle.keymap_tables.proofs.Common.{eq-eqb, ne_eqb, ◌≡◌, ℕ, ◌+◌, ◌-◌, ◌*◌, ◌/◌, ◌%◌, ◌^◌, ◌<◌, ◌≤◌, ◌==◌, suc, zero}
+use Rattle.keymap_tables.proofs.Common.{rules, eq-eqb, ◌≡◌, ℕ, ◌+◌, ◌-◌, ◌*◌, ◌/◌, ◌%◌, ◌^◌, ◌<◌, ◌≤◌, ◌==◌, suc, zero}
 use Rattle.keymap_tables.proofs.Common.{List, [], ◌∷◌, ◌++◌, drop, length, get_or, take, None, refl, sym, ap, ◌∙◌}
 use Rattle.keymap_tables.proofs.Common.{subst, inl, inr, arith, append_assoc, length-append, drop-cons, mul_comm, set}
-use Rattle.keymap_tables.proofs.Common.{All, slice_index, nat_le, Bool, true, false, IsScalar, from_le_bytes, flat_map}
-use Rattle.keymap_tables.proofs.Common.{cases_lt, nat_tests, common_steps, get_or-append_right, length-replicate}
-use Rattle.keymap_tables.proofs.Common.{same_lists, take-append-drop, take_all, take_more_set, All-get_or, All-push}
-use Rattle.keymap_tables.proofs.Common.{undefined, Cell, Char, Act, Entry, Layout, Wide, Narrow, BadPad, IsCell}
-use Rattle.keymap_tables.proofs.Common.{IsEntry, number_at, is_marked_at, char_fault, cell_fault, slot_end_fault}
-use Rattle.keymap_tables.proofs.Common.{slot_fault, zero_fault, HasNoFault, AreRows, IsEntryIn, cell_bytes, number_of}
-use Rattle.keymap_tables.proofs.Common.{is_act, marks_of, flag_number, slot_bytes, zeros, CellFits, EntryFits}
-use Rattle.keymap_tables.proofs.Common.{number_width, number_size, number_limit, pad_size, slot_size}
+use Rattle.keymap_tables.proofs.Common.{All, slice_index, nat_le, Bool, true, false, IsScalar, flat_map, cases_lt}
+use Rattle.keymap_tables.proofs.Common.{nat_tests, common_steps, get_or-append_right, length-replicate, same_lists}
+use Rattle.keymap_tables.proofs.Common.{take-append-drop, take_more_set, All-get_or, All-push, undefined, Cell, Char}
+use Rattle.keymap_tables.proofs.Common.{Act, Entry, Layout, Wide, Narrow, BadPad, IsCell, IsEntry, number_at}
+use Rattle.keymap_tables.proofs.Common.{is_marked_at, char_fault, cell_fault, slot_end_fault, slot_fault, zero_fault}
+use Rattle.keymap_tables.proofs.Common.{HasNoFault, AreRows, IsEntryIn, cell_bytes, number_of, is_act, marks_of}
+use Rattle.keymap_tables.proofs.Common.{flag_number, slot_bytes, zeros, CellFits, EntryFits, number_width, number_size}
+use Rattle.keymap_tables.proofs.Common.{number_limit, pad_size, slot_size}
 use Rattle.std.specs.Prelude.{unwrap_or}
 use Rattle.keymap_core.specs.Actions.{IsAction, code_of, action_of, within}
 use Rattle.keymap_core.specs.declared.action.Action.{Action}
@@ -67,18 +67,10 @@ module _ (l : Layout) (bytes : List ℕ) where
       row-past (cell_faults l bytes) (number_size l) 8 (slot_end_fault l bytes) bytes p (some-number l) (omega arith)
 
   pub slot-flag : slot_fault l bytes (8 * number_size l + 1) ≡ flag_fault (slice_index bytes (8 * number_size l + 1))
-  slot-flag =
-      slot-behind (8 * number_size l + 1) (omega arith)
-      ∙ rw (
-        ne_eqb (8 * number_size l + 1) (8 * number_size l) (omega arith),
-        eq-eqb (8 * number_size l + 1) (8 * number_size l + 1) refl,
-      )
-      refl
+  slot-flag = grind arith
 
   pub slot-pad : (p : ℕ) → 8 * number_size l + 2 ≤ p → slot_fault l bytes p ≡ zero_fault BadPad bytes p
-  slot-pad p past =
-      slot-behind p (omega arith)
-      ∙ rw (ne_eqb p (8 * number_size l) (omega arith), ne_eqb p (8 * number_size l + 1) (omega arith)) refl
+  slot-pad p past = search rules
 
   -- no fault before the flag, and before the pads
   pub slot-marks : HasNoFault (slot_fault l bytes) (8 * number_size l)
@@ -130,22 +122,12 @@ tail_of l entry = marks_of entry.cells ∷ flag_number entry.flag ∷ zeros (pad
 -- The cells, the marks and the flag stand in their places, and zeros behind them.
 pub number-in : (l : Layout) (entry : Entry) (d : Cell) (i : ℕ) → IsEntry entry → EntryFits l entry → i < 8
     → number_at l (slot_bytes l entry) (number_size l * i) ≡ number_of (get_or entry.cells i d)
-number-in l entry d i known fits below =
-    let inside : i < length entry.cells = omega (arith, known.eight) in
-    ap (from_le_bytes (number_width l))
-    (row-in (cell_bytes l) (number_size l) entry.cells (tail_of l entry) i d (cells-sized l entry.cells) inside)
-    ∙ number-back l (number_of (get_or entry.cells i d))
-    (number-small l (get_or entry.cells i d) (All-get_or IsCell entry.cells i d inside known.cells)
-    (All-get_or (CellFits l) entry.cells i d inside fits))
+number-in l entry d i known fits below = search (rules, row-in, cells-sized, number-back, number-small, All-get_or)
 
 -- behind the cells of a slot stand their marks
 marks-in : (l : Layout) (entry : Entry) → IsEntry entry
     → slice_index (slot_bytes l entry) (8 * number_size l) ≡ marks_of entry.cells
-marks-in l entry known =
-    let none : 8 * number_size l - 8 * number_size l ≡ 0 = omega arith in
-    get_or-append_right (flat_map (cell_bytes l) entry.cells) (tail_of l entry) (8 * number_size l) (8 * number_size l)
-    0 (cells-long l entry known) (omega arith)
-    ∙ ap (λ (k : ℕ). get_or (tail_of l entry) k 0) none
+marks-in l entry known = search (rules, get_or-append_right, cells-long)
 
 -- the mark read in a slot tells whether the cell is an action
 pub mark-in : (l : Layout) (entry : Entry) (d : Cell) (i : ℕ) → IsEntry entry → i < 8
@@ -156,30 +138,16 @@ mark-in l entry d i known below =
 -- behind the marks of a slot stands the entry's flag
 pub flag-in : (l : Layout) (entry : Entry) → IsEntry entry
     → slice_index (slot_bytes l entry) (8 * number_size l + 1) ≡ flag_number entry.flag
-flag-in l entry known =
-    let one : 8 * number_size l + 1 - 8 * number_size l ≡ 1 = omega arith in
-    get_or-append_right (flat_map (cell_bytes l) entry.cells) (tail_of l entry) (8 * number_size l)
-    (8 * number_size l + 1) 0 (cells-long l entry known) (omega arith)
-    ∙ ap (λ (k : ℕ). get_or (tail_of l entry) k 0) one
+flag-in l entry known = search (rules, get_or-append_right, cells-long)
 
 -- behind the flag stand zeros
 pads-in : (l : Layout) (entry : Entry) (p : ℕ) → IsEntry entry → 8 * number_size l + 2 ≤ p
     → slice_index (slot_bytes l entry) p ≡ 0
-pads-in l entry p known past =
-    let front = flat_map (cell_bytes l) entry.cells ++ marks_of entry.cells ∷ flag_number entry.flag ∷ [] in
-    let whole = append_assoc (flat_map (cell_bytes l) entry.cells) (marks_of entry.cells ∷ flag_number entry.flag ∷ [])
-    (zeros (pad_size l)) in
-    let long : length (flat_map (cell_bytes l) entry.cells ++ marks_of entry.cells ∷ flag_number entry.flag ∷ [])
-    ≡ 8 * number_size l + 2 =
-    length-append (flat_map (cell_bytes l) entry.cells) (marks_of entry.cells ∷ flag_number entry.flag ∷ [])
-    ∙ ap (λ (n : ℕ). n + 2) (cells-long l entry known) in
-    ap (λ (v : List ℕ). slice_index v p) (sym whole) ∙ zeros-behind front (pad_size l) p (omega (arith, long, past))
+pads-in l entry p known past = grind (arith, common_steps, append_assoc, length-append, cells-long, zeros-behind)
 
 -- the bytes of a known entry have the size of a slot
 pub length-slot_bytes : (l : Layout) (entry : Entry) → IsEntry entry → length (slot_bytes l entry) ≡ slot_size l
-length-slot_bytes l entry known =
-    length-append (flat_map (cell_bytes l) entry.cells) (tail_of l entry)
-    ∙ omega (arith, cells-long l entry known, length-replicate {A = ℕ} (pad_size l) 0)
+length-slot_bytes l entry known = search (rules, length-append, cells-long, length-replicate)
 
 -- the bytes of a known entry that fits have no fault
 slot_bytes-sound : (l : Layout) (entry : Entry) → IsEntryIn l entry
@@ -223,9 +191,7 @@ same-flag x y same = sym (flag-again x) ∙ ap flag_of same ∙ flag-again y
 
 -- known cells are the same where their numbers and marks are
 pub same-cell : (x y : Cell) → IsCell x → IsCell y → number_of x ≡ number_of y → is_act x ≡ is_act y → x ≡ y
-same-cell x y known also same marked =
-    sym (cell-again x known) ∙ ap (λ (n : ℕ). cell_of n (is_act x)) same
-    ∙ ap (λ (t : Bool). cell_of (number_of y) t) marked ∙ cell-again y also
+same-cell x y known also same marked = grind arith
 
 -- known entries that fit are the same where their bytes are
 pub same-entry : (l : Layout) (x y : Entry) → IsEntryIn l x → IsEntryIn l y
@@ -262,10 +228,7 @@ pub slot-written : (l : Layout) (entry : Entry) (cells : List Cell) (i marks fla
     → marks ≡ marks_of (take i cells) → flag ≡ flag_number entry.flag → b ≡ a ++ marks ∷ [] → c ≡ b ++ flag ∷ []
     → e ≡ c ++ zeros n → n ≡ pad_size l → e ≡ slot_bytes l entry
 slot-written l entry cells i marks flag n a b c e same end written mark flagged first second third pads =
-    let all : take i cells ≡ entry.cells = take_all i cells end ∙ same in
-    let written' = rw all at written in
-    let mark' = rw all at mark in
-    rw (third, second, first, mark', flagged, written', pads) (simp append_assoc)
+    grind (arith, common_steps)
 
 -- what holds for the elements below i, and for one set at i, holds for those below i + 1
 pub All-more_set : {X : Type 0} (P : X → Type 0) (xs : List X) (i : ℕ) (x : X) → i < length xs → All P (take i xs) → P x
@@ -283,20 +246,12 @@ pub bytes-more : (l : Layout) (bytes : List ℕ) (cells : List Cell) (i : ℕ) (
     → flat_map (cell_bytes l) (take i cells) ≡ take (number_size l * i) bytes
     → number_of cell ≡ number_at l bytes (number_size l * i)
     → flat_map (cell_bytes l) (take (i + 1) (set cells i cell)) ≡ take (number_size l * (i + 1)) bytes
-bytes-more l bytes cells i cell small fits below so_far number =
-    ap (flat_map (cell_bytes l)) (take_more_set cells i cell below)
-    ∙ rows-read (cell_bytes l) (number_size l) bytes (take i cells) i cell so_far
-    (number-read l bytes (number_size l * i) (number_of cell) small fits number)
+bytes-more l bytes cells i cell small fits below so_far number = search (rules, take_more_set, rows-read, number-read)
 
 -- after eight cells the marks are those of the cells
 pub marks-all : (marks : ℕ) (cells : List Cell) (i : ℕ) → i ≡ 8 → length cells ≡ 8
     → marks_of (take i cells) ≡ marks / 2 ^ (8 - i) → marks ≡ marks_of cells
-marks-all marks cells i end whole so_far =
-    let all : take i cells ≡ cells = grind (arith, common_steps) in
-    let one : 8 - i ≡ 0 = omega arith in
-    let whole_marks = rw (all, one) at so_far in
-    let by_one : marks / 1 ≡ marks = omega arith in
-    sym (whole_marks ∙ by_one)
+marks-all marks cells i end whole so_far = grind (arith, common_steps)
 
 -- what follows the cells: the marks, the flag, and zeros
 pub slot-tail : (l : Layout) (bytes : List ℕ) → length bytes ≡ slot_size l
@@ -322,9 +277,4 @@ pub slot-whole : (l : Layout) (bytes : List ℕ) (entry : Entry) → length byte
     → slice_index bytes (8 * number_size l) ≡ marks_of entry.cells
     → flag_number entry.flag ≡ slice_index bytes (8 * number_size l + 1)
     → ((p : ℕ) → 8 * number_size l + 2 ≤ p → slice_index bytes p ≡ 0) → bytes ≡ slot_bytes l entry
-slot-whole l bytes entry whole cells marks flag empty =
-    let at = 8 * number_size l in
-    sym (take-append-drop at bytes) ∙ ap (λ (v : List ℕ). v ++ drop at bytes) cells
-    ∙ ap (λ (v : List ℕ). flat_map (cell_bytes l) entry.cells ++ v)
-    (slot-tail l bytes whole empty ∙ ap (λ (n : ℕ). n ∷ get_or bytes (at + 1) 0 ∷ zeros (pad_size l)) marks
-    ∙ ap (λ (n : ℕ). marks_of entry.cells ∷ n ∷ zeros (pad_size l)) (sym flag))
+slot-whole l bytes entry whole cells marks flag empty = grind (arith, common_steps, take-append-drop, slot-tail)

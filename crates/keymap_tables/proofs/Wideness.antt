@@ -1,26 +1,22 @@
 -- Where the characters above 255 of a map stand.
-use Rattle.keymap_tables.proofs.Common.{ℕ, ◌+◌, ◌*◌, ◌<◌, ◌≤◌, suc, [], ap, arith, inl, inr, mul-suc, All, cases_lt}
-use Rattle.keymap_tables.proofs.Common.{eq-or-lt_of_le, mul-le-mul_left, All-nil, All-cons, AccentValue, blank}
-use Rattle.keymap_tables.proofs.Common.{MapValue, undefined, entry_at, accent_or_blank, Char, Entry, CellFits}
-use Rattle.keymap_tables.proofs.Common.{EntryFits, AccentFits, FitsIn, character_in, number_in, numbers_of, narrow}
+use Rattle.keymap_tables.proofs.Common.{common_steps, rules, ℕ, ◌+◌, ◌*◌, ◌<◌, ◌≤◌, suc, [], ap, arith, inl, inr}
+use Rattle.keymap_tables.proofs.Common.{mul-suc, All, cases_lt, eq-or-lt_of_le, mul-le-mul_left, All-nil, All-cons}
+use Rattle.keymap_tables.proofs.Common.{AccentValue, blank, MapValue, undefined, entry_at, Entry, EntryFits, AccentFits}
+use Rattle.keymap_tables.proofs.Common.{FitsIn, character_in, number_in, narrow}
 use Rattle.keymap_tables.specs.Fits.{IsWide, IsFirstWide, place_of}
 use Rattle.keymap_tables.specs.Inner.Firsts.{IsFirstWideRow}
 use Rattle.keymap_tables.specs.declared.narrow.Wide.{Wide}
-use Rattle.keymap_tables.proofs.Sizes.{All-at, zero-fits}
+use Rattle.keymap_tables.proofs.Sizes.{All-at}
 use Rattle.keymap_tables.proofs.AtPlaces.{undefined-fits}
 use Rattle.keymap_tables.specs.declared.narrow.Wide.TheVariants as at
 
 -- each character of an entry that fits is at most 255
 entry-small : (entry : Entry) (k : ℕ) → EntryFits narrow entry → character_in entry k ≤ 255
-entry-small entry k fits =
-    let small : character_in entry k < 256 = All-at (CellFits narrow) entry.cells (Char 0) k (zero-fits narrow) fits in
-    omega arith
+entry-small entry k fits = grind (arith, common_steps)
 
 -- each number of an accent that fits is at most 255
 accent-small : (accent : AccentValue) (k : ℕ) → AccentFits narrow accent → number_in accent k ≤ 255
-accent-small accent k fits =
-    let small : number_in accent k < 256 = All-at (λ n. n < 256) (numbers_of accent) 0 k (zero-fits narrow) fits in
-    omega arith
+accent-small accent k fits = grind (arith, common_steps)
 
 -- where all entries fit, the characters of each slot are at most 255, also past the last one
 cells-small : (m : MapValue) (s k : ℕ) → All (EntryFits narrow) m.entries → character_in (entry_at m s) k ≤ 255
@@ -50,12 +46,7 @@ first-cell m s column few found = record { here = found.here.here; first = behin
   where
     behind : (v : Wide) → IsWide m v → place_of (at.Cell s column) ≤ place_of v
     behind (at.Accent accent number) wide = omega (arith, found.here.inside)
-    behind (at.Cell t k) wide =
-        omega (
-          arith,
-          least (λ t k. character_in (entry_at m t) k) 10 s column found.here.inside
-              (λ t earlier k. entry-small (entry_at m t) k (found.before t earlier)) found.here.before t k wide,
-        )
+    behind (at.Cell t k) wide = search (rules, least, entry-small)
 
 -- where the cells fit, the first number above 255 of the first accent that doesn't fit is the first of the map
 pub first-number : (m : MapValue) (i number : ℕ) → All (EntryFits narrow) m.entries
@@ -64,13 +55,7 @@ first-number m i number cells found = record { here = found.here.here; first = b
   where
     behind : (v : Wide) → IsWide m v → place_of (at.Accent i number) ≤ place_of v
     behind (at.Cell t k) wide = absurd (omega (arith, wide, cells-small m t k cells))
-    behind (at.Accent j k) wide =
-        omega (
-          arith,
-          least (λ j k. number_in (accent_or_blank m j) k) 105 i number found.here.inside
-              (λ j earlier k. accent-small (accent_or_blank m j) k (found.before j earlier)) found.here.before j k
-              wide,
-        )
+    behind (at.Accent j k) wide = grind (arith, common_steps)
 
 blank-fits : AccentFits narrow blank
 blank-fits = All-cons (λ n. n < 256) 0 [] (omega arith) (All-nil (λ n. n < 256))
@@ -79,10 +64,4 @@ blank-fits = All-cons (λ n. n < 256) 0 [] (omega arith) (All-nil (λ n. n < 256
 pub fits-no-wide : (m : MapValue) (w : Wide) → FitsIn narrow m → IsWide m w → ⊥
 fits-no-wide m (at.Cell slot column) fits wide =
     absurd (omega (arith, wide, cells-small m slot column fits.entries))
-fits-no-wide m (at.Accent accent number) fits wide =
-    absurd (omega (
-      arith,
-      wide,
-      accent-small (accent_or_blank m accent) number
-          (All-at (AccentFits narrow) m.accents blank accent blank-fits fits.accents),
-    ))
+fits-no-wide m (at.Accent accent number) fits wide = grind (arith, common_steps)

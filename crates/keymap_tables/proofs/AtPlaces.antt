@@ -97,10 +97,6 @@ slot-flag-at l m is fits s below =
     ∙ ap (λ (v : List ℕ). slice_index v (8 * number_size l + 1)) (slot-part l m is fits s below)
     ∙ flag-in l (entry_at m s) (entry-known m is s)
 
--- a number of one byte
-first-byte : (bytes : List ℕ) → from_le_bytes w8 bytes ≡ get_or bytes 0 0
-first-byte bytes = omega arith
-
 -- a narrow number is one byte
 pub number-byte : (bytes : List ℕ) (at : ℕ) → number_at narrow bytes at ≡ slice_index bytes at
 number-byte bytes at = grind (arith, common_steps)

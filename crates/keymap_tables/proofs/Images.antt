@@ -1,14 +1,15 @@
 -- Tables of rows, and the image of a map that fits: it has no fault, and gives the map.
-use Rattle.keymap_tables.proofs.Common.{rules, eq-eqb, ne_eqb, ◌≡◌, ℕ, ◌+◌, ◌-◌, ◌*◌, ◌^◌, ◌<◌, ◌≤◌, ◌==◌, List, ◌++◌}
-use Rattle.keymap_tables.proofs.Common.{length, take, drop, get_or, None, Some, cond, refl, sym, ap, ◌∙◌, subst, arith}
-use Rattle.keymap_tables.proofs.Common.{inl, inr, length-append, All, flat_map, from_le_bytes, w16, cases_lt, lt-ltb}
-use Rattle.keymap_tables.proofs.Common.{le-ltb, take_at, drop_at, drop-drop, All-get_or, All-weaker, AccentValue}
-use Rattle.keymap_tables.proofs.Common.{IsEntry, IsAccent, IsMap, MapValue, entry_at, accent_or_blank, Entry, Layout}
-use Rattle.keymap_tables.proofs.Common.{BadPad, NotEmpty, TableFault, FaultOf, IsFirstFault, number_fault, zero_fault}
-use Rattle.keymap_tables.proofs.Common.{count_at, count_fault, used_fault, table_fault, slot_fault, accent_fault}
-use Rattle.keymap_tables.proofs.Common.{fault_at, EntryFits, AccentFits, FitsIn, count_bytes, rows_bytes, table_bytes}
-use Rattle.keymap_tables.proofs.Common.{slot_bytes, accent_bytes, image_in, zeros, HasNoFault, AreRows, IsEntryIn}
-use Rattle.keymap_tables.proofs.Common.{IsAccentIn, part, count_size, slot_size, slots_place, accent_size, n_accs_place}
+use Rattle.keymap_tables.proofs.Common.{rules, nat_tests, eq-eqb, ne_eqb, ◌≡◌, ℕ, ◌+◌, ◌-◌, ◌*◌, ◌^◌, ◌<◌, ◌≤◌, ◌==◌}
+use Rattle.keymap_tables.proofs.Common.{List, ◌++◌, length, take, drop, get_or, None, Some, cond, refl, sym, ap, ◌∙◌}
+use Rattle.keymap_tables.proofs.Common.{subst, arith, inl, inr, length-append, All, flat_map, from_le_bytes, w16}
+use Rattle.keymap_tables.proofs.Common.{cases_lt, lt-ltb, le-ltb, take_at, drop_at, drop-drop, All-get_or, All-weaker}
+use Rattle.keymap_tables.proofs.Common.{AccentValue, IsEntry, IsAccent, IsMap, MapValue, entry_at, accent_or_blank}
+use Rattle.keymap_tables.proofs.Common.{Entry, Layout, BadPad, NotEmpty, TableFault, FaultOf, IsFirstFault}
+use Rattle.keymap_tables.proofs.Common.{number_fault, zero_fault, count_at, count_fault, used_fault, table_fault}
+use Rattle.keymap_tables.proofs.Common.{slot_fault, accent_fault, fault_at, EntryFits, AccentFits, FitsIn, count_bytes}
+use Rattle.keymap_tables.proofs.Common.{rows_bytes, table_bytes, slot_bytes, accent_bytes, image_in, zeros, HasNoFault}
+use Rattle.keymap_tables.proofs.Common.{AreRows, IsEntryIn, IsAccentIn, part, count_size, slot_size, slots_place}
+use Rattle.keymap_tables.proofs.Common.{accent_size, n_accs_place}
 use Rattle.std.proofs.lemmas.List.{take-take, drop-take}
 use Rattle.keymap_tables.specs.Types.{Short, Long}
 use Rattle.keymap_tables.specs.Faults.{count_over, content_fault}
@@ -23,11 +24,7 @@ use Rattle.keymap_tables.proofs.SlotImages.{slots-are}
 -- a part of a part
 pub part-part : (bytes : List ℕ) (a n b k : ℕ) → b + k ≤ n → part (part bytes a n) b k ≡ part bytes (a + b) k
 part-part bytes a n b k inside =
-    let grown : n ≡ b + (n - b) = omega arith in
-    let cut : drop b (take n (drop a bytes)) ≡ take (n - b) (drop b (drop a bytes)) =
-    subst (λ (v : ℕ). drop b (take v (drop a bytes)) ≡ take (n - b) (drop b (drop a bytes))) (sym grown)
-    (drop-take b (n - b) (drop a bytes)) in
-    ap (take k) cut ∙ take-take k (n - b) (drop b (drop a bytes)) (omega arith) ∙ ap (take k) (drop-drop b a bytes)
+    grind (arith, take-take k (n - b) (drop b (drop a bytes)), drop-take b (n - b) (drop a bytes), drop-drop b a bytes)
 
 -- The places of a count.
 module _ (most : ℕ) (bytes : List ℕ) where
@@ -152,18 +149,12 @@ long-here l bytes p long =
 -- the first fault of a short file is at its end
 pub first-short : (l : Layout) (bytes : List ℕ) (f : TableFault) → length bytes < file_size l → f.offset ≡ length bytes
     → f.kind ≡ Short → IsFirstFault (fault_at l bytes) f
-first-short l bytes f short at kind = record {
-  here = rw (at, kind) (short-here l bytes (length bytes) short ∙ rw (eq-eqb (length bytes) _ refl) refl);
-  before = λ p below. short-here l bytes p short ∙ rw (ne_eqb p (length bytes) (omega (arith, below, at))) refl;
-}
+first-short l bytes f short at kind = grind (arith, nat_tests, short-here l bytes)
 
 -- the first fault of a long file is where a table would end
 pub first-long : (l : Layout) (bytes : List ℕ) (f : TableFault) → file_size l < length bytes → f.offset ≡ file_size l
     → f.kind ≡ Long → IsFirstFault (fault_at l bytes) f
-first-long l bytes f long at kind = record {
-  here = rw (at, kind) (long-here l bytes (file_size l) long ∙ rw (eq-eqb (file_size l) _ refl) refl);
-  before = λ p below. long-here l bytes p long ∙ rw (ne_eqb p (file_size l) (omega (arith, below, at))) refl;
-}
+first-long l bytes f long at kind = grind (arith, nat_tests, long-here l bytes)
 
 -- The image of a map.
 module _ (l : Layout) (m : MapValue) (is : IsMap m) (fits : FitsIn l m) where

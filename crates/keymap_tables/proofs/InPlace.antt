@@ -6,11 +6,6 @@ use Rattle.std.proofs.lemmas.List.{drop_all}
 use Rattle.keymap_tables.proofs.AccentImages.{base-in, result-in}
 use Rattle.keymap_tables.proofs.ReadingLaws.{accent-wide}
 
--- the pairs from a place on
-pairs-from : (accent : AccentValue) (i : ℕ) → i < length accent.pairs
-    → drop i accent.pairs ≡ get_or accent.pairs i (0, 0) ∷ drop (i + 1) accent.pairs
-pairs-from accent i below = grind (arith, common_steps)
-
 -- the result of the first of the pairs from a place on, where it is the one there, and where it isn't
 pub result-here : (accent : AccentValue) (i base : ℕ) → i < length accent.pairs
     → (get_or accent.pairs i (0, 0)).0 ≡ base

@@ -10,29 +10,17 @@ use Rattle.keymap_tables.specs.Faults.{split_fault}
 use Rattle.keymap_tables.specs.Inner.Firsts.{IsFirstFilled}
 use Rattle.keymap_tables.proofs.Sizes.{row-next}
 
--- a place at or past the base of a part
-within-part : (base p : ℕ) → base ≤ p → base + (p - base) ≡ p
-within-part base p past = omega arith
-
 -- The part has no fault, nor has what is before it.
 pub none-after : (whole inner : FaultOf) (base size : ℕ) → ((q : ℕ) → q < size → whole (base + q) ≡ inner q)
     → HasNoFault whole base → HasNoFault inner size → HasNoFault whole (base + size)
-none-after whole inner base size same before sound p below =
-    elim (cases_lt p base) [
-      | inl front ↦ before p front
-      | inr past ↦ let q = p - base in
-          let inside : p - base < size = omega arith in
-          subst (λ (r : ℕ). whole r ≡ None) (within-part base p past) (same q inside ∙ sound q inside)
-    ]
+none-after whole inner base size same before sound p below = grind (arith, same (p - base), sound (p - base))
 
 -- The first fault of the part, where what is before it has none.
 pub first-after : (whole inner : FaultOf) (base size : ℕ) (f : TableFault)
     → ((q : ℕ) → q < size → whole (base + q) ≡ inner q) → HasNoFault whole base → IsFirstFault inner f → f.offset < size
     → IsFirstFault whole (record f { offset = base + f.offset })
-first-after whole inner base size f same before first inside = record {
-  here = same f.offset inside ∙ first.here;
-  before = none-after whole inner base f.offset (λ q below. same q (omega arith)) before first.before;
-}
+first-after whole inner base size f same before first inside =
+    grind (arith, same f.offset, none-after whole inner base f.offset)
 
 -- What follows has to be zeros, and is.
 pub none-past : (kind : TableFaultKind) (whole : FaultOf) (bytes : List ℕ) (from n : ℕ)
@@ -44,22 +32,10 @@ none-past kind whole bytes from n same before empty p below = grind arith
 pub first-past : (kind : TableFaultKind) (whole : FaultOf) (bytes : List ℕ) (from n : ℕ) (f : TableFault)
     → ((p : ℕ) → from ≤ p → p < n → whole p ≡ zero_fault kind bytes p) → HasNoFault whole from → length bytes ≤ n
     → IsFirstFilled bytes from kind f → IsFirstFault whole f
-first-past kind whole bytes from n f same before long first = record {
-  here = same f.offset first.past (omega (arith, first.inside)) ∙ first.here;
-  before = λ p below. elim (cases_lt p from) [
-    | inl front ↦ before p front
-    | inr past ↦ same p past (omega (arith, first.inside)) ∙ first.before p past below
-  ];
-}
+first-past kind whole bytes from n f same before long first = grind arith
 
 -- The front of a list of bytes, and what follows it.
 module _ (n : ℕ) (front back : List ℕ → FaultOf) (bytes : List ℕ) where
-  pub split-front : (p : ℕ) → p < n → split_fault n front back bytes p ≡ front (take n bytes) p
-  split-front p below = rw (lt-ltb p n below) refl
-
-  pub split-back : (q : ℕ) → split_fault n front back bytes (n + q) ≡ back (drop n bytes) q
-  split-back q = grind arith
-
   -- the first fault of the front, and of what follows a front without one
   pub split-fails : (cut : List ℕ) (m : ℕ) (f : TableFault) → cut ≡ take n bytes → m ≤ n
       → IsFirstFault (front cut) f × (f.offset < m) → IsFirstFault (split_fault n front back bytes) f × (f.offset < n)
@@ -88,8 +64,7 @@ module _ (fault_in : ℕ → List ℕ → FaultOf) (size count : ℕ) (behind : 
       → HasNoFault (fault_in i (part bytes (size * i) size)) size
       → HasNoFault (rows_fault fault_in size count behind bytes) (size * (i + 1))
   row-passes i used before sound p below =
-      none-after (rows_fault fault_in size count behind bytes) (fault_in i (part bytes (size * i) size)) (size * i) size
-      (λ q inside. row-at i q used inside) before sound p (omega (arith, below, row-next size i))
+      grind (arith, none-after _ _ (size * i) size (λ q. row-at i q used) before sound p, row-next size i)
 
   -- the fault of a row, at its place
   pub row-fails : (i at : ℕ) (f g : TableFault) → i < count → at ≡ size * i

@@ -28,20 +28,13 @@ marks_from n cells = fold (λ k cell. 2 * k + bit cell) n cells
 marks-high : (n : ℕ) (cells : List Cell) → marks_from n cells / 2 ^ length cells ≡ n
 marks-high n [] = omega arith
 marks-high n (c ∷ cells) =
-    let half : (2 * n + bit c) / 2 ≡ n = omega (arith, bit-small c) in
-    ap (λ (k : ℕ). marks_from (2 * n + bit c) cells / k) (pow-suc 2 (length cells))
-    ∙ sym (div-div-eq-div-mul (marks_from (2 * n + bit c) cells) (2 ^ length cells) 2)
-    ∙ ap (λ (k : ℕ). k / 2) (marks-high (2 * n + bit c) cells) ∙ half
+    rw (pow-suc, ← div-div-eq-div-mul, marks-high (2 * n + bit c) cells) (omega (arith, bit-small c))
 
 -- the mark of a cell, by how many follow it
 mark-at : (cells : List Cell) (n : ℕ) (d : Cell) (i k : ℕ) → k + i + 1 ≡ length cells
     → marks_from n cells / 2 ^ k % 2 ≡ bit (get_or cells i d)
 mark-at [] n d i k end = absurd (omega arith)
-mark-at (c ∷ cells) n d zero k end =
-    let all : k ≡ length cells = omega arith in
-    let last : (2 * n + bit c) % 2 ≡ bit c = omega (arith, bit-small c) in
-    ap (λ (j : ℕ). marks_from (2 * n + bit c) cells / 2 ^ j % 2) all
-    ∙ ap (λ (j : ℕ). j % 2) (marks-high (2 * n + bit c) cells) ∙ last
+mark-at (c ∷ cells) n d zero k end = grind (arith, marks-high (2 * n + bit c) cells, bit-small c)
 mark-at (c ∷ cells) n d (suc i) k end = mark-at cells (2 * n + bit c) d i k (omega arith)
 
 -- the mark of a column, cut out of the marks of eight cells

@@ -41,10 +41,6 @@ pub no-fault : (l : Layout) (m : MapValue) (f : TableFault) → IsMap m → Fits
 no-fault l m f is fits fault =
     some_none f.kind (fault_at l (image_in l m) f.offset) fault.here (image-sound l m is fits f.offset)
 
--- a place has one kind of fault
-same-kind : (o : Option TableFaultKind) (k l : TableFaultKind) → o ≡ Some k → o ≡ Some l → k ≡ l
-same-kind o k l first second = cc
-
 -- A file has one fault.
 pub one-fault : (at : ℕ → Option TableFaultKind) (f g : TableFault) → IsFirstFault at f → IsFirstFault at g → f ≡ g
 one-fault at f g first second = grind arith

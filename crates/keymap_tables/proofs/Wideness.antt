@@ -28,16 +28,7 @@ cells-small m s k fits =
 least : (value : ℕ → ℕ → ℕ) (size s c : ℕ) → c < size → ((t : ℕ) → t < s → (k : ℕ) → value t k ≤ 255)
     → ((k : ℕ) → k < c → value s k ≤ 255) → (t k : ℕ) → 255 < value t k → size * s + c ≤ size * t + k
 least value size s c inside rows before t k wide =
-    elim (cases_lt t s) [
-      | inl earlier ↦ absurd (omega (arith, wide, rows t earlier k))
-      | inr from ↦ elim (eq-or-lt_of_le from) [
-        | inr later ↦ omega (arith, mul-le-mul_left {m = suc s} {n = t} size later, mul-suc size s)
-        | inl same ↦ elim (cases_lt k c) [
-          | inr past ↦ omega (arith, ap (λ (j : ℕ). size * j) same)
-          | inl front ↦ absurd (omega (arith, ap (λ (j : ℕ). value j k) same, before k front))
-        ]
-      ]
-    ]
+    grind (arith, rows t, before k, mul-le-mul_left {m = suc s} {n = t} size, mul-suc size s)
 
 -- the first character above 255 of the first entry that doesn't fit is the first of the map
 pub first-cell : (m : MapValue) (s column : ℕ) → s < 256
@@ -56,9 +47,6 @@ first-number m i number cells found = record { here = found.here.here; first = b
     behind : (v : Wide) → IsWide m v → place_of (at.Accent i number) ≤ place_of v
     behind (at.Cell t k) wide = absurd (omega (arith, wide, cells-small m t k cells))
     behind (at.Accent j k) wide = grind (arith, common_steps)
-
-blank-fits : AccentFits narrow blank
-blank-fits = All-cons (λ n. n < 256) 0 [] (omega arith) (All-nil (λ n. n < 256))
 
 -- A map that fits has no character above 255.
 pub fits-no-wide : (m : MapValue) (w : Wide) → FitsIn narrow m → IsWide m w → ⊥

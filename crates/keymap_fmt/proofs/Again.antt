@@ -1,7 +1,7 @@
 -- The pieces of what is written, and what is written of these.
-use Rattle.keymap_fmt.proofs.Common.{◌≡◌, ℕ, List, [], ◌∷◌, ◌++◌, map, refl, ◌∙◌, ap, State, Standing, AtTop, Part}
-use Rattle.keymap_fmt.proofs.Common.{Comment, Code, PieceValue, pieces_after, pieces, behind, before, after, ending}
-use Rattle.keymap_fmt.proofs.Common.{start, rendered_from, formatted, part_and_bytes}
+use Rattle.keymap_fmt.proofs.Common.{common_steps, rules, arith, ◌≡◌, ℕ, List, [], ◌∷◌, ◌++◌, map, refl, ◌∙◌, ap, State}
+use Rattle.keymap_fmt.proofs.Common.{Standing, AtTop, Part, Comment, Code, PieceValue, pieces_after, pieces, behind}
+use Rattle.keymap_fmt.proofs.Common.{before, after, ending, start, rendered_from, formatted, part_and_bytes}
 use Rattle.keymap_fmt.proofs.Reading.{token_read, comment_read}
 use Rattle.keymap_fmt.proofs.Texts.{ArePieces, no_piece, one_piece, Reads, text_pieces}
 use Rattle.keymap_fmt.proofs.Written.{IsAt, lowered_by, read_blanks, before_blanks, before_again, after_at}
@@ -26,9 +26,7 @@ step : (s : State) (u : Standing) (p : PieceValue) (ps : List PieceValue) → Re
     ≡ record { part = p.part; bytes = p.bytes; standing = stands s p u }
     ∷ pieces_after 0 (behind p.part) (rendered_from (after s p.part p.bytes) ps)
 unfolding rendered_from
-step s u p ps r =
-    read_blanks (before s p.part p.bytes p.standing) _ u (before_blanks s p.part p.bytes p.standing)
-    ∙ piece_read s p.part p.bytes (stands s p u) ps r
+step s u p ps r = search (rules, read_blanks, before_blanks, piece_read)
 
 -- there is none behind the last
 none : (s : State) (u : Standing) → pieces_after 0 u (rendered_from s []) ≡ []
@@ -50,9 +48,7 @@ written_again : (s : State) (p : PieceValue) (t : Standing) (qs ps : List PieceV
     → rendered_from (after s p.part p.bytes) qs ≡ rendered_from (after s p.part p.bytes) ps
     → rendered_from s (record { part = p.part; bytes = p.bytes; standing = t } ∷ qs) ≡ rendered_from s (p ∷ ps)
 unfolding rendered_from
-written_again s p t qs ps e f =
-    ap (λ (g : List ℕ). g ++ (p.bytes ++ (ending p.part ++ rendered_from (after s p.part p.bytes) qs))) e
-    ∙ ap (λ (y : List ℕ). before s p.part p.bytes p.standing ++ (p.bytes ++ (ending p.part ++ y))) f
+written_again s p t qs ps e f = grind (arith, common_steps)
 
 -- the same bytes are written again
 again_from : (s : State) (u : Standing) (ps : List PieceValue) → IsAt u s.column → ArePieces u ps

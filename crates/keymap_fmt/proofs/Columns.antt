@@ -1,18 +1,17 @@
 -- The tokens of a definition stand in their columns.
-use Rattle.keymap_fmt.proofs.Common.{◌≡◌, ℕ, ◌+◌, ◌-◌, ◌<◌, ◌≤◌, ◌==◌, Bool, true, false, List, [], ◌∷◌, ◌++◌, refl}
-use Rattle.keymap_fmt.proofs.Common.{sym, ◌∙◌, ap, subst, arith, length, map, append_assoc, slice_index, nat_le, nat_lt}
-use Rattle.keymap_fmt.proofs.Common.{if◌then◌else◌, flat_map, nat_tests, State, Row, Slot, Accent, PieceValue, is_open}
-use Rattle.keymap_fmt.proofs.Common.{is_over, row_of, opened, lead, advanced, before, after, start, rendered_from}
-use Rattle.keymap_fmt.proofs.Common.{rendered}
+use Rattle.keymap_fmt.proofs.Common.{common_steps, rules, ◌≡◌, ℕ, ◌+◌, ◌-◌, ◌<◌, ◌≤◌, ◌==◌, Bool, true, false, List, []}
+use Rattle.keymap_fmt.proofs.Common.{◌∷◌, ◌++◌, refl, ◌∙◌, ap, arith, length, map, append_assoc, slice_index, nat_le}
+use Rattle.keymap_fmt.proofs.Common.{nat_lt, if◌then◌else◌, flat_map, nat_tests, State, Row, Slot, Accent, PieceValue}
+use Rattle.keymap_fmt.proofs.Common.{is_open, is_over, row_of, opened, lead, advanced, before, after, start}
+use Rattle.keymap_fmt.proofs.Common.{rendered_from, rendered}
 use Rattle.std.proofs.Common.{◌*◌, All, codes}
 use Rattle.std.specs.Prelude.{max}
 use Rattle.std.proofs.lemmas.Bool.{lt-leb, lt-ltb, le-ltb, ne_eqb, eqb-true}
 use Rattle.std.proofs.lemmas.List.Elements.{All-head, All-tail}
-use Rattle.std.proofs.lemmas.List.{replicate-append-replicate}
 use Rattle.keymap_core.proofs.Lists.{along}
 use Rattle.keymap_fmt.specs.declared.layout.Row.TheVariants.{Pair}
 use Rattle.keymap_fmt.specs.Layout.{stop_in}
-use Rattle.keymap_fmt.specs.Columns.{Written, piece_of, places, blanks, empty_line, begin, number_column, columns}
+use Rattle.keymap_fmt.specs.Columns.{Written, piece_of, places, blanks, empty_line, begin, columns}
 use Rattle.keymap_fmt.specs.Columns.{cells_from, key_line, filled, aligned_line, PairWritten, tokens_of, BeginsPair}
 use Rattle.keymap_fmt.specs.Columns.{pair_text, pairs_from, pairs_behind, own_and_pairs, accent_lines}
 
@@ -102,10 +101,7 @@ abbrev ending : Written → List ℕ
 ending letter = codes " " ++ (letter.bytes ++ codes "\n")
 
 last_blank : (c : ℕ) (rest : List ℕ) → c < 64 → blanks (begin 65 c - c) ++ rest ≡ blanks (64 - c) ++ (codes " " ++ rest)
-last_blank c rest h =
-    let more : begin 65 c - c ≡ (64 - c) + 1 = omega arith in
-    ap (λ n. blanks n ++ rest) more ∙ ap (λ l. l ++ rest) (sym (replicate-append-replicate (64 - c) 1 32))
-    ∙ append_assoc (blanks (64 - c)) (codes " ") rest
+last_blank c rest h = grind (arith, common_steps)
 
 regroup : (a b c d : List ℕ) → a ++ (b ++ (c ++ d)) ≡ ((a ++ b) ++ c) ++ d
 regroup a b c d = simp append_assoc
@@ -114,10 +110,7 @@ aligned_from : (i c : ℕ) (cells : List Written) (letter : Written) → i + len
     → All (λ t. places t ≤ 6) cells
     → cells_from i c (cells ++ letter ∷ []) ≡ blanks (7 * i + 8 - c) ++ (flat_map filled cells ++ ending letter)
 unfolding cells_from
-aligned_from i c [] letter h k a =
-    let last : i ≡ 8 = omega arith in
-    subst (λ j. cells_from j c (letter ∷ []) ≡ blanks (7 * j + 8 - c) ++ ending letter) (sym last)
-    (last_blank c (letter.bytes ++ codes "\n") (omega arith))
+aligned_from i c [] letter h k a = search (rules, last_blank, codes)
 aligned_from i c (t ∷ ts) letter h k a =
     let narrow : places t ≤ 6 = All-head (λ t. places t ≤ 6) t ts a in
     let column : slice_index columns i ≡ 7 * i + 8 = cell_column i (omega arith) in
@@ -134,14 +127,7 @@ aligned_from i c (t ∷ ts) letter h k a =
 pub line_aligned : (number : Written) (cells : List Written) (letter : Written) → places number ≤ 3
     → length cells ≡ 8 → All (λ t. places t ≤ 6) cells
     → key_line number (cells ++ letter ∷ []) ≡ aligned_line number cells letter
-line_aligned number cells letter h k a =
-    let column : number_column number ≡ 5 - places number = omega arith in
-    let behind : number_column number + places number ≡ 5 = omega arith in
-    ap (λ n. blanks n ++ (number.bytes
-    ++ cells_from 0 (number_column number + places number) (cells ++ letter ∷ []))) column
-    ∙ ap (λ n. blanks (5 - places number) ++ (number.bytes ++ cells_from 0 n (cells ++ letter ∷ []))) behind
-    ∙ ap (λ l. blanks (5 - places number) ++ (number.bytes ++ l))
-    (aligned_from 0 5 cells letter (omega (arith, k)) (omega arith) a)
+line_aligned number cells letter h k a = search (rules, aligned_from)
 
 -- ---- an accent
 
@@ -150,10 +136,7 @@ next : (e k pairs_at q : ℕ) (t : Written) (ps : List PieceValue) → nat_le 4 
     → rendered_from (at e Pair k pairs_at q) (piece_of t ∷ ps)
     ≡ codes " " ++ (t.bytes ++ rendered_from (at (e + 1 + places t) Pair (k + 1) pairs_at q) ps)
 unfolding lead
-next e k pairs_at q t ps h low =
-    let one : max 1 (pairs_at - e) ≡ 1 = omega arith in
-    goes_on (at e Pair k pairs_at q) t ps h
-    ∙ ap (λ n. blanks n ++ (t.bytes ++ rendered_from (at (e + n + places t) Pair (k + 1) pairs_at q) ps)) one
+next e k pairs_at q t ps h low = search (rules, goes_on)
 
 -- where a pair ends whose parenthesis ends before a column
 abbrev pair_end : ℕ → PairWritten → ℕ
@@ -208,16 +191,7 @@ one_more : (e pairs_at q : ℕ) (p : PairWritten) (ps : List PairWritten) (four 
     else codes " " ++ (pair_text p ++ pairs_from pairs_at (q + 1) ps))
 unfolding lead
 one_more e pairs_at q p ps true f h k l m opens rest =
-    let tokens = piece_of p.base ∷ piece_of p.composed ∷ piece_of p.closed ∷ flat_map tokens_of ps in
-    let full : nat_lt q 4 ≡ false = le-ltb q 4 (omega (arith, eqb-true q 4 f)) in
-    let here : max 1 (pairs_at - 0) ≡ pairs_at = omega arith in
-    let end = 0 + pairs_at + places p.opened in
-    in_new_line (at e Pair 4 pairs_at q) p.opened tokens refl opens full (ne_eqb e 0 (λ z. omega (arith, z, h, k)))
-    ∙ ap (λ n. (codes "\n" ++ blanks n)
-    ++ (p.opened.bytes ++ rendered_from (at (0 + n + places p.opened) Pair 1 pairs_at 1) tokens)) here
-    ∙ ap (λ x. (codes "\n" ++ blanks pairs_at) ++ x)
-    (rest_of_pair end pairs_at 1 p (flat_map tokens_of ps) (omega arith)
-    ∙ ap (λ x. pair_text p ++ x) (rest (pair_end end p) 1 (omega arith) (omega arith) (omega arith)))
+    search (rules, le-ltb, eqb-true, in_new_line, ne_eqb, codes, rest_of_pair)
 one_more e pairs_at q p ps false f h k l m opens rest =
     let tokens = piece_of p.base ∷ piece_of p.composed ∷ piece_of p.closed ∷ flat_map tokens_of ps in
     let few : q < 4 = below_four q f m in
@@ -262,23 +236,11 @@ first_pairs c (p ∷ ps) h a =
 own_laid : (c pairs_at : ℕ) (own : Written) (pairs : List PairWritten) → 0 < c → All BeginsPair pairs
     → rendered_from (at c Accent 1 pairs_at 0) (piece_of own ∷ flat_map tokens_of pairs) ≡ own_and_pairs c own pairs
 unfolding lead
-own_laid c pairs_at own pairs h a =
-    let end = c + max 1 (8 - c) + places own in
-    goes_on (at c Accent 1 pairs_at 0) own (flat_map tokens_of pairs) refl
-    ∙ ap (λ l. blanks (max 1 (8 - c)) ++ (own.bytes ++ l)) (first_pairs end pairs (omega arith) a)
-    ∙ ap (λ n. blanks n ++ (own.bytes ++ pairs_behind end pairs)) (lead_is 8 c)
-    ∙ ap (λ n. blanks (begin 8 c - c) ++ (own.bytes ++ pairs_behind n pairs)) (end_is 8 c (places own))
+own_laid c pairs_at own pairs h a = search (rules, goes_on, first_pairs, lead_is, end_is)
 
 pub accent_laid : (name own : Written) (pairs : List PairWritten) → row_of name.bytes ≡ Accent
     → is_open name.kind ≡ false → All BeginsPair pairs
     → rendered (piece_of name ∷ piece_of own ∷ flat_map tokens_of pairs)
     ≡ empty_line name ++ accent_lines name own pairs
 unfolding lead
-accent_laid name own pairs row e a =
-    let n = places name in
-    let rest = piece_of own ∷ flat_map tokens_of pairs in
-    begins name rest e
-    ∙ ap (λ r. (empty_line name ++ blanks (lead (at 0 r 0 0 0) n))
-    ++ (name.bytes ++ rendered_from (advanced (at 0 r 0 0 0) n) rest)) row
-    ∙ ap (λ l. (empty_line name ++ blanks 2) ++ (name.bytes ++ l)) (own_laid (2 + n) _ own pairs (omega arith) a)
-    ∙ append_assoc (empty_line name) (blanks 2) _
+accent_laid name own pairs row e a = search (rules, begins, own_laid, append_assoc)

@@ -18,10 +18,11 @@ pub use Rattle.keymap_text.specs.Lexical.{Found, Front, Refused, Skipped, TokenV
 pub use Rattle.keymap_text.specs.Lexical.{is_space, leading, stays_on_line}
 unfoldable pub use Rattle.keymap_text.specs.Lexical.{tokens_after}
 pub use Rattle.std.proofs.Common.{Bool, List, None, Ok, Option, Some, [], add-one, ap, append_assoc, arith, drop, false}
-pub use Rattle.std.proofs.Common.{get_or, if◌then◌else◌, inl, inr, length, map, nat_le, nat_lt, refl, replicate}
+pub use Rattle.std.proofs.Common.{get_or, if◌then◌else◌, inl, inr, length, map, nat_le, nat_lt, refl, replicate, rules}
 pub use Rattle.std.proofs.Common.{slice_index, subst, suc, sym, take, true, true≢false, zero, ℕ, ⊎_elim, ◌&&◌, ◌++◌}
 pub use Rattle.std.proofs.Common.{◌+◌, ◌-◌, ◌<◌, ◌==◌, ◌∙◌, ◌∷◌, ◌≡◌, ◌≤◌, ◌⊎◌}
 pub use Rattle.std.proofs.lemmas.Bool.Decides.{nat_tests}
+pub use Rattle.std.proofs.lemmas.Grind.{common_steps}
 pub use Rattle.std.proofs.lemmas.List.{drop-drop, length-take-le}
 pub use Rattle.std.proofs.lemmas.List.Sums.{suffix_len-take_no}
 pub use Rattle.std.specs.List.{flat_map, list_all, suffix_len}

@@ -1,11 +1,11 @@
 -- What the search for a piece finds at a place of the text.
-use Rattle.keymap_fmt.proofs.Common.{◌≡◌, ℕ, zero, suc, ◌+◌, ◌-◌, ◌<◌, ◌≤◌, ◌==◌, Bool, true, false, if◌then◌else◌}
-use Rattle.keymap_fmt.proofs.Common.{List, [], ◌∷◌, length, take, drop, get_or, refl, sym, ◌∙◌, ap, subst, arith}
-use Rattle.keymap_fmt.proofs.Common.{add-one, Option, Some, None, Ok, true≢false, ◌⊎◌, ⊎_elim, nat_tests, drop-drop}
-use Rattle.keymap_fmt.proofs.Common.{length-take-le, TextFaultKind, TokenKind, Standing, Beside, Below, Comment, Code}
-use Rattle.keymap_fmt.proofs.Common.{is_blank, is_space, stays_on_line, leading, front_of, Front, Skipped, Found}
-use Rattle.keymap_fmt.proofs.Common.{Refused, Unfinished, TokenValue, tokens_after, stands_alone, leading_pass}
-use Rattle.keymap_fmt.proofs.Common.{leading_fail, PieceValue, pieces_after, lower, lowered, trimmed, width}
+use Rattle.keymap_fmt.proofs.Common.{rules, ◌≡◌, ℕ, zero, suc, ◌+◌, ◌-◌, ◌<◌, ◌≤◌, ◌==◌, Bool, true, false, List, []}
+use Rattle.keymap_fmt.proofs.Common.{◌∷◌, length, take, drop, get_or, refl, sym, ◌∙◌, ap, subst, arith, add-one, Option}
+use Rattle.keymap_fmt.proofs.Common.{Some, None, Ok, true≢false, ◌⊎◌, ⊎_elim, nat_tests, drop-drop, length-take-le}
+use Rattle.keymap_fmt.proofs.Common.{TextFaultKind, TokenKind, Standing, Beside, Below, Comment, Code, is_blank}
+use Rattle.keymap_fmt.proofs.Common.{is_space, stays_on_line, leading, front_of, Front, Skipped, Found, Refused}
+use Rattle.keymap_fmt.proofs.Common.{Unfinished, TokenValue, tokens_after, stands_alone, leading_pass, leading_fail}
+use Rattle.keymap_fmt.proofs.Common.{PieceValue, pieces_after, lowered, trimmed, width}
 use Rattle.std.proofs.Common.{◌≢◌, drop-cons, Result, Err, length-drop}
 use Rattle.std.specs.Prelude.{IsFalse}
 use Rattle.std.proofs.lemmas.List.{at_drop_all}
@@ -24,9 +24,7 @@ use Rattle.keymap_fmt.proofs.Reading.{read_unfinished}
 -- a blank at a place
 pub blank_at : (text : List ℕ) (i : ℕ) (s : Standing) → i < length text → is_blank (get_or text i 0) ≡ true
     → pieces_after 0 s (drop i text) ≡ pieces_after 0 (lowered (get_or text i 0) s) (drop (i + 1) text)
-blank_at text i s l h =
-    ap (pieces_after 0 s) (drop-cons text i 0 l) ∙ read_blank s (get_or text i 0) (drop (suc i) text) h
-    ∙ ap (λ n. pieces_after 0 (lowered (get_or text i 0) s) (drop n text)) (sym (add-one i))
+blank_at text i s l h = search (rules, drop-cons, read_blank, add-one)
 
 -- nothing stands at the end
 pub nothing_at : (text : List ℕ) (i : ℕ) (s : Standing) → length text ≤ i → pieces_after 0 s (drop i text) ≡ []
@@ -69,12 +67,7 @@ pub comment_found : (text w : List ℕ) (at end next : ℕ) (s : Standing) → a
     → (next ≡ end + 1) ⊎ ((next ≡ end) × (length text ≤ end))
     → pieces_after 0 s (drop at text)
     ≡ record { part = Comment; bytes = w; standing = s } ∷ pieces_after 0 Below (drop next text)
-comment_found text w at end next s l h e f g =
-    comment_at text at end s l h e
-    ∙ ap (λ (t : List ℕ). record { part = Comment; bytes = t; standing = s }
-    ∷ pieces_after 0 Below (drop (end + 1) text)) (sym f)
-    ∙ ap (λ (ps : List PieceValue). record { part = Comment; bytes = w; standing = s } ∷ ps)
-    (next_line text end next Below g)
+comment_found text w at end next s l h e f g = search (rules, comment_at, next_line)
 
 -- blanks that end no line leave what follows where it stands
 pub spaces_passed : (n : ℕ) (s : Standing) (bytes : List ℕ) → n ≤ leading is_space bytes
@@ -92,10 +85,7 @@ spaces_passed (suc n) s (c ∷ bytes) h = go (is_space c) refl (spaces_passed n 
     go : (b : Bool) → is_space c ≡ b
         → (n ≤ leading is_space bytes → pieces_after 0 s bytes ≡ pieces_after 0 s (drop n bytes))
         → pieces_after 0 s (c ∷ bytes) ≡ pieces_after 0 s (drop n bytes)
-    go true e k =
-        read_blank s c bytes (blank c e)
-        ∙ ap (λ b. pieces_after 0 (if b then lower s else s) bytes) (no_end c e)
-        ∙ k (omega (arith, h, leading_pass is_space c bytes e))
+    go true e k = search (rules, read_blank, blank, no_end, leading_pass)
     go false e k = absurd (omega (arith, h, leading_fail is_space c bytes e))
 
 -- a byte with no such blank in front that ends no line and begins no comment begins a token, or none stands there

@@ -1,8 +1,8 @@
 -- What is left where the end of a line is cut.
-use Rattle.keymap_fmt.proofs.Common.{◌≡◌, ℕ, suc, ◌-◌, ◌<◌, ◌≤◌, Bool, false, List, ◌∷◌, ◌++◌, length, take, get_or}
-use Rattle.keymap_fmt.proofs.Common.{sym, ◌∙◌, ap, arith, true≢false, ⊎_elim, suffix_len-take_no, suffix_len, leading}
+use Rattle.keymap_fmt.proofs.Common.{common_steps, ◌≡◌, ℕ, suc, ◌-◌, ◌<◌, ◌≤◌, Bool, false, List, ◌∷◌, ◌++◌, length}
+use Rattle.keymap_fmt.proofs.Common.{take, get_or, sym, ◌∙◌, ap, arith, true≢false, ⊎_elim, suffix_len, leading}
 use Rattle.keymap_fmt.proofs.Common.{is_space, leading_fail, trimmed}
-use Rattle.std.proofs.Common.{take_all, eq-or-lt_of_le}
+use Rattle.std.proofs.Common.{eq-or-lt_of_le}
 use Rattle.std.proofs.lemmas.List.{get_or-reverse, length-reverse}
 use Rattle.std.proofs.lemmas.List.Sums.{prefix_len_passes, prefix_len_stops, suffix_len-le-length}
 use Rattle.std.specs.Prelude.{reverse}
@@ -16,11 +16,7 @@ leading_ended p w c y h e = omega (arith, leading_append p w (c ∷ y) h, leadin
 -- nothing is cut of bytes that end with no blank
 pub trim_kept : (w : List ℕ) → 0 < length w → is_space (get_or w (length w - 1) 0) ≡ false → trimmed w ≡ w
 unfolding trimmed
-trim_kept w l h =
-    let none : suffix_len is_space w ≡ 0 =
-    ap (suffix_len is_space) (sym (take_all (length w) w (omega arith)))
-    ∙ suffix_len-take_no is_space w (length w) 0 l (omega arith) h in
-    take_all (length w - suffix_len is_space w) w (omega (arith, none))
+trim_kept w l h = grind (arith, common_steps)
 
 -- What is left of bytes that begin with no blank: the first, and m others, of which the last is no blank.
 pub record IsCut (c m : ℕ) (w : List ℕ) : Type 0 where

@@ -1,7 +1,7 @@
 -- What a text has as pieces, step by step.
-use Rattle.keymap_fmt.proofs.Common.{◌≡◌, ℕ, zero, suc, ◌-◌, ◌==◌, true, false, List, [], ◌∷◌, ◌++◌, length, take, drop}
-use Rattle.keymap_fmt.proofs.Common.{get_or, refl, sym, ◌∙◌, ap, arith, slice_index, nat_tests, list_all, is_space}
-use Rattle.keymap_fmt.proofs.Common.{is_blank, stays_on_line, leading, front_of, Found, Refused, Unfinished}
+use Rattle.keymap_fmt.proofs.Common.{rules, ◌≡◌, ℕ, zero, suc, ◌-◌, ◌==◌, true, false, List, [], ◌∷◌, ◌++◌, length}
+use Rattle.keymap_fmt.proofs.Common.{take, drop, get_or, refl, sym, ◌∙◌, ap, arith, slice_index, nat_tests, list_all}
+use Rattle.keymap_fmt.proofs.Common.{is_space, is_blank, stays_on_line, leading, front_of, Found, Refused, Unfinished}
 use Rattle.keymap_fmt.proofs.Common.{TextFaultKind, TokenKind, Standing, Beside, Below, Comment, Code, PieceValue}
 use Rattle.keymap_fmt.proofs.Common.{pieces_after, lowered, comment, trimmed}
 use Rattle.std.proofs.Common.{eq-eqb}
@@ -88,18 +88,7 @@ pub record ReadsComment (bytes : List ℕ) : Type 0 where
 pub token_read : (kind : TokenKind) (bytes y : List ℕ) (s : Standing) → ReadsToken kind bytes → BeginsBlank y
     → pieces_after 0 s (bytes ++ y)
     ≡ record { part = Code kind; bytes = bytes; standing = s } ∷ pieces_after 0 Beside y
-token_read kind bytes y s r b =
-    let c = r.first in
-    let w = r.rest in
-    let found : front_of c (w ++ y) ≡ Found kind (length w) =
-    ap (λ y. front_of c (w ++ y)) b.is ∙ r.alone b.first b.rest b.blank in
-    ap (λ t. pieces_after 0 s (t ++ y)) r.is ∙ read_token s c (w ++ y) kind (length w) found
-    ∙ ap (λ (t : List ℕ). record { part = Code kind; bytes = c ∷ t; standing = s }
-    ∷ pieces_after (length w) Beside (w ++ y)) (take-append_seam w y)
-    ∙ ap (λ (t : List ℕ). record { part = Code kind; bytes = t; standing = s }
-    ∷ pieces_after (length w) Beside (w ++ y)) (sym r.is)
-    ∙ ap (λ (ps : List PieceValue). record { part = Code kind; bytes = bytes; standing = s } ∷ ps)
-    (read_after (length w) Beside (w ++ y) ∙ ap (pieces_after 0 Beside) (drop-append_seam w y))
+token_read kind bytes y s r b = search (rules, read_token, take-append_seam, read_after, drop-append_seam)
 
 -- the bytes behind a line
 drop_line : (w y : List ℕ) (c : ℕ) → drop (suc (length w)) (w ++ c ∷ y) ≡ y

@@ -1,11 +1,11 @@
 -- The tokens among the pieces are those of the text, so what is written spells what the text spells.
-use Rattle.keymap_fmt.proofs.Common.{◌≡◌, ◌⊎◌, inl, inr, ℕ, zero, suc, ◌+◌, ◌==◌, Bool, true, false, List, [], ◌∷◌}
-use Rattle.keymap_fmt.proofs.Common.{◌++◌, length, take, map, refl, sym, ◌∙◌, ap, subst, arith, add-one, if◌then◌else◌}
-use Rattle.keymap_fmt.proofs.Common.{Ok, nat_tests, flat_map, TextFaultKind, TokenKind, State, Standing, AtTop, Beside}
-use Rattle.keymap_fmt.proofs.Common.{Below, Part, Comment, Code, is_blank, stays_on_line, leading, front_of, Front}
+use Rattle.keymap_fmt.proofs.Common.{rules, ◌≡◌, ◌⊎◌, inl, inr, ℕ, zero, suc, ◌+◌, ◌==◌, Bool, true, false, List, []}
+use Rattle.keymap_fmt.proofs.Common.{◌∷◌, ◌++◌, length, take, map, refl, sym, ◌∙◌, ap, subst, arith, add-one}
+use Rattle.keymap_fmt.proofs.Common.{if◌then◌else◌, Ok, nat_tests, flat_map, TextFaultKind, TokenKind, State, Standing}
+use Rattle.keymap_fmt.proofs.Common.{AtTop, Part, Comment, Code, is_blank, stays_on_line, leading, front_of, Front}
 use Rattle.keymap_fmt.proofs.Common.{Skipped, Found, Refused, Unfinished, TokenValue, tokens_after, PieceValue}
-use Rattle.keymap_fmt.proofs.Common.{pieces_after, pieces, lowered, behind, before, after, line_end, start}
-use Rattle.keymap_fmt.proofs.Common.{rendered_from, formatted, part_and_bytes, leading_pass, leading_fail, skipped_by}
+use Rattle.keymap_fmt.proofs.Common.{pieces_after, pieces, behind, before, after, line_end, start, rendered_from}
+use Rattle.keymap_fmt.proofs.Common.{formatted, part_and_bytes, leading_pass, leading_fail, skipped_by}
 use Rattle.keymap_text.specs.Meaning.{list_of, ending_of_tokens, tokens, items, item_of, ending, Spells}
 use Rattle.keymap_text.specs.Rows.{IsRow}
 use Rattle.keymap_text.specs.Words.{item}
@@ -59,15 +59,8 @@ line_passed q (c ∷ bytes) = go (stays_on_line c) refl (line_passed (q + 1) byt
         ≡ tokens_after (suc (leading stays_on_line bytes)) (q + 1) bytes
         → tokens_after (leading stays_on_line (c ∷ bytes)) q (c ∷ bytes)
         ≡ tokens_after (suc (leading stays_on_line (c ∷ bytes))) q (c ∷ bytes)
-    go true e k =
-        let n = leading_pass stays_on_line c bytes e ∙ add-one (leading stays_on_line bytes) in
-        ap (λ n. tokens_after n q (c ∷ bytes)) n ∙ split_one (leading stays_on_line bytes) q c bytes ∙ k
-        ∙ sym (split_one (suc (leading stays_on_line bytes)) q c bytes)
-        ∙ sym (ap (λ n. tokens_after (suc n) q (c ∷ bytes)) n)
-    go false e k =
-        let n = leading_fail stays_on_line c bytes e in
-        ap (λ n. tokens_after n q (c ∷ bytes)) n ∙ split_blank q c bytes (ends c e) ∙ sym (split_one 0 q c bytes)
-        ∙ sym (ap (λ n. tokens_after (suc n) q (c ∷ bytes)) n)
+    go true e k = search (rules, leading_pass, add-one, split_one)
+    go false e k = search (rules, leading_fail, split_blank, ends, split_one)
 
 -- the tokens among the pieces are those of the bytes
 pub piece_tokens : (bytes : List ℕ) (k q : ℕ) (s : Standing)
@@ -80,37 +73,24 @@ piece_tokens (c ∷ bytes) k q s = go k q s (piece_tokens bytes)
         → (is_blank c ≡ true) ⊎ (c ≡ 35)
         → flat_map token_of (pieces_after 0 s (c ∷ bytes))
         ≡ map kind_and_bytes (list_of (tokens_after 0 q (c ∷ bytes)))
-    skipped more q s (inl e) =
-        ap (flat_map token_of) (read_blank s c bytes e) ∙ more 0 (q + 1) (lowered c s)
-        ∙ sym (ap (λ ts. map kind_and_bytes (list_of ts)) (split_blank q c bytes e))
-    skipped more q s (inr e) =
-        ap (flat_map token_of) (read_hash s c bytes e) ∙ more (suc (leading stays_on_line bytes)) (q + 1) Below
-        ∙ sym (ap (λ ts. map kind_and_bytes (list_of ts)) (split_comment q c bytes e ∙ line_passed (q + 1) bytes))
+    skipped more q s (inl e) = search (rules, read_blank, split_blank)
+    skipped more q s (inr e) = search (rules, read_hash, split_comment, line_passed)
 
     at : ((k q : ℕ) (s : Standing) → flat_map token_of (pieces_after k s bytes)
         ≡ map kind_and_bytes (list_of (tokens_after k q bytes))) → (q : ℕ) (s : Standing) (f : Front)
         → front_of c bytes ≡ f → flat_map token_of (pieces_after 0 s (c ∷ bytes))
         ≡ map kind_and_bytes (list_of (tokens_after 0 q (c ∷ bytes)))
     at more q s (Skipped n) h = skipped more q s (skipped_by c n bytes h)
-    at more q s (Found kind n) h =
-        ap (flat_map token_of) (read_token s c bytes kind n h)
-        ∙ ap (λ (ts : List (TokenKind × List ℕ)). (kind, c ∷ take n bytes) ∷ ts) (more n (q + 1) Beside)
-        ∙ sym (token_in_front q c n kind bytes h)
-    at more q s (Refused f) h =
-        ap (flat_map token_of) (read_refused s c bytes f h)
-        ∙ sym (ap (map kind_and_bytes) (refused_front q c f bytes h))
-    at more q s Unfinished h =
-        ap (flat_map token_of) (read_unfinished s c bytes h)
-        ∙ sym (ap (map kind_and_bytes) (unfinished_front q c bytes h))
+    at more q s (Found kind n) h = search (rules, read_token, token_in_front)
+    at more q s (Refused f) h = search (rules, read_refused, refused_front)
+    at more q s Unfinished h = search (rules, read_unfinished, unfinished_front)
 
     go : (k q : ℕ) (s : Standing) → ((k q : ℕ) (s : Standing) → flat_map token_of (pieces_after k s bytes)
         ≡ map kind_and_bytes (list_of (tokens_after k q bytes)))
         → flat_map token_of (pieces_after k s (c ∷ bytes))
         ≡ map kind_and_bytes (list_of (tokens_after k q (c ∷ bytes)))
     go zero q s more = at more q s (front_of c bytes) refl
-    go (suc k) q s more =
-        ap (flat_map token_of) (read_one k s c bytes) ∙ more k (q + 1) s
-        ∙ sym (ap (λ ts. map kind_and_bytes (list_of ts)) (split_one k q c bytes))
+    go (suc k) q s more = search (rules, read_one, split_one)
 
 pub tokens_of_pieces : (text : List ℕ)
     → flat_map token_of (pieces text) ≡ map kind_and_bytes (tokens text)

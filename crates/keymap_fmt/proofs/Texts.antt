@@ -1,10 +1,10 @@
 -- The pieces of a text: each one reads alone, and stands where a piece can stand.
-use Rattle.keymap_fmt.proofs.Common.{◌≡◌, ◌⊎◌, inl, inr, ℕ, zero, suc, ◌==◌, Bool, true, false, List, [], ◌∷◌}
+use Rattle.keymap_fmt.proofs.Common.{rules, ◌≡◌, ◌⊎◌, inl, inr, ℕ, zero, suc, ◌==◌, Bool, true, false, List, [], ◌∷◌}
 use Rattle.keymap_fmt.proofs.Common.{if◌then◌else◌, take, refl, sym, ◌∙◌, ap, subst, length, slice_index, arith}
 use Rattle.keymap_fmt.proofs.Common.{nat_tests, length-take-le, is_blank, is_space, stays_on_line, leading, front_of}
 use Rattle.keymap_fmt.proofs.Common.{Front, Skipped, Found, Refused, Unfinished, stands_alone, skipped_by, TokenKind}
 use Rattle.keymap_fmt.proofs.Common.{Standing, AtTop, Beside, Below, Apart, Part, Comment, Code, PieceValue}
-use Rattle.keymap_fmt.proofs.Common.{pieces_after, lower, lowered, behind, trimmed, comment}
+use Rattle.keymap_fmt.proofs.Common.{pieces_after, lower, lowered, behind, trimmed}
 use Rattle.std.proofs.lemmas.List.{get_or-take}
 use Rattle.keymap_text.proofs.Leading.{leading_front, leading_part}
 use Rattle.keymap_fmt.proofs.Leading.{trim_first}
@@ -102,18 +102,12 @@ text_pieces (c ∷ bytes) k s = go k s (text_pieces bytes)
         → (is_blank c ≡ true) ⊎ (c ≡ 35) → ArePieces s (pieces_after 0 s (c ∷ bytes))
     skipped more s (inl e) = subst (ArePieces s) (sym (read_blank s c bytes e))
         (after_blank c s _ (more 0 (lowered c s)))
-    skipped more s (inr e) =
-        subst (ArePieces s) (sym (read_hash s c bytes e))
-        (one_piece (comment (c ∷ take (leading stays_on_line bytes) bytes) s) (comment_reads c bytes e)
-        (reaches_itself s) (more (suc (leading stays_on_line bytes)) Below))
+    skipped more s (inr e) = search (rules, read_hash, one_piece, comment_reads, reaches_itself)
 
     at : ((k : ℕ) (s : Standing) → ArePieces s (pieces_after k s bytes)) → (s : Standing) (f : Front)
         → front_of c bytes ≡ f → ArePieces s (pieces_after 0 s (c ∷ bytes))
     at more s (Skipped n) h = skipped more s (skipped_by c n bytes h)
-    at more s (Found kind n) h =
-        subst (ArePieces s) (sym (read_token s c bytes kind n h))
-        (one_piece (record { part = Code kind; bytes = c ∷ take n bytes; standing = s }) (token_reads c n kind bytes h)
-        (reaches_itself s) (more n Beside))
+    at more s (Found kind n) h = search (rules, read_token, one_piece, token_reads, reaches_itself)
     at more s (Refused f) h = subst (ArePieces s) (sym (read_refused s c bytes f h)) no_piece
     at more s Unfinished h = subst (ArePieces s) (sym (read_unfinished s c bytes h)) no_piece
 

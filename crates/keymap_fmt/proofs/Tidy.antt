@@ -1,7 +1,7 @@
 -- The lines of what is written.
-use Rattle.keymap_fmt.proofs.Common.{◌≡◌, inl, inr, ℕ, zero, suc, ◌==◌, ◌&&◌, Bool, true, false, if◌then◌else◌, List}
-use Rattle.keymap_fmt.proofs.Common.{[], ◌∷◌, ◌++◌, length, replicate, refl, sym, ◌∙◌, ap, subst, arith, slice_index}
-use Rattle.keymap_fmt.proofs.Common.{Option, Some, None, append_assoc, list_all, nat_tests, TokenKind}
+use Rattle.keymap_fmt.proofs.Common.{rules, ◌≡◌, inl, inr, ℕ, zero, suc, ◌==◌, ◌&&◌, Bool, true, false, if◌then◌else◌}
+use Rattle.keymap_fmt.proofs.Common.{List, [], ◌∷◌, ◌++◌, length, replicate, refl, sym, ◌∙◌, ap, subst, arith}
+use Rattle.keymap_fmt.proofs.Common.{slice_index, Option, Some, None, append_assoc, list_all, nat_tests, TokenKind}
 use Rattle.keymap_fmt.proofs.Common.{State, Standing, AtTop, Beside, Below, Apart, Part, Comment, Code, is_space}
 use Rattle.keymap_fmt.proofs.Common.{stays_on_line, leading, PieceValue, pieces, behind, is_open, begins_line, opened}
 use Rattle.keymap_fmt.proofs.Common.{lead, width, before, after, ending, line_end, start, line_begun, lines_before}
@@ -72,10 +72,7 @@ edge_at Apart = EmptyLine
 -- a piece
 piece_passed : (part : Part) (bytes y : List ℕ) (e : Edge) → Reads part bytes
     → are_lines e (bytes ++ (ending part ++ y)) ≡ are_lines (edge_at (behind part)) y
-piece_passed Comment bytes y e r =
-    ap (λ b. are_lines e (b ++ 10 ∷ y)) r.is
-    ∙ ink_passed 35 r.rest (10 ∷ y) e (front_all stays_on_line r.rest r.on_line) r.end
-    ∙ one_passed Ink LineEnd 10 y refl
+piece_passed Comment bytes y e r = search (rules, ink_passed, front_all, one_passed)
 piece_passed (Code kind) bytes y e r =
     ap (λ b. are_lines e (b ++ y)) r.is ∙ ink_passed r.first r.rest y e r.on_line r.end
 

@@ -1,10 +1,10 @@
 -- What is written before a piece, and how it is read again.
-use Rattle.keymap_fmt.proofs.Common.{◌≡◌, ℕ, zero, suc, ◌<◌, ◌==◌, Bool, true, false, if◌then◌else◌, List, [], ◌∷◌}
-use Rattle.keymap_fmt.proofs.Common.{◌++◌, length, replicate, refl, sym, ◌∙◌, ap, subst, arith, nat_tests, TokenKind}
-use Rattle.keymap_fmt.proofs.Common.{State, Standing, AtTop, Beside, Below, Apart, Part, Comment, Code, is_blank}
-use Rattle.keymap_fmt.proofs.Common.{PieceValue, pieces_after, lowered, behind, begins_line, is_open, is_apart, opened}
-use Rattle.keymap_fmt.proofs.Common.{lead, width, after, line_end, line_begun, lines_before, comment_lead, before}
-use Rattle.keymap_fmt.proofs.Common.{rendered_from}
+use Rattle.keymap_fmt.proofs.Common.{rules, ◌≡◌, ℕ, zero, suc, ◌<◌, ◌==◌, Bool, true, false, if◌then◌else◌, List, []}
+use Rattle.keymap_fmt.proofs.Common.{◌∷◌, ◌++◌, length, replicate, refl, sym, ◌∙◌, ap, subst, arith, nat_tests}
+use Rattle.keymap_fmt.proofs.Common.{TokenKind, State, Standing, AtTop, Beside, Below, Apart, Part, Comment, Code}
+use Rattle.keymap_fmt.proofs.Common.{is_blank, PieceValue, pieces_after, lowered, behind, begins_line, is_open}
+use Rattle.keymap_fmt.proofs.Common.{is_apart, opened, lead, width, after, line_end, line_begun, lines_before}
+use Rattle.keymap_fmt.proofs.Common.{comment_lead, before, rendered_from}
 use Rattle.keymap_fmt.proofs.Reading.{BeginsBlank, read_blank, read_nil}
 use Rattle.keymap_fmt.proofs.Texts.{reaches}
 
@@ -75,9 +75,7 @@ lines_blanks s kind t = go (begins_line s kind)
 pub before_blanks : (s : State) (part : Part) (bytes : List ℕ) (t : Standing) → AreBlanks (before s part bytes t)
 unfolding before
 before_blanks s Comment bytes t = comment_blanks s.column t
-before_blanks s (Code kind) bytes t =
-    blanks_append (lines_before s kind t) _ (lines_blanks s kind t)
-    (blanks_replicate (lead (opened s kind bytes) (width kind bytes)))
+before_blanks s (Code kind) bytes t = search (rules, blanks_append, lines_blanks, blanks_replicate)
 
 -- Where a piece stands if nothing is before it tells whether a line is open.
 abbrev pub IsAt : Standing → ℕ → Type 0
@@ -145,11 +143,7 @@ pub before_again : (s : State) (part : Part) (bytes : List ℕ) (u t : Standing)
     → reaches u t ≡ true → before s part bytes (lowered_by (before s part bytes t) u) ≡ before s part bytes t
 unfolding before
 before_again s Comment bytes u t h r = comment_again s.column u t h r
-before_again s (Code kind) bytes u t h r =
-    let n = lead (opened s kind bytes) (width kind bytes) in
-    ap (λ v. lines_before s kind v ++ replicate n 32)
-    (lowered_append (lines_before s kind t) (replicate n 32) u ∙ lowered_replicate n _)
-    ∙ ap (λ (g : List ℕ). g ++ replicate n 32) (lines_again s kind u t h r)
+before_again s (Code kind) bytes u t h r = search (rules, lowered_append, lowered_replicate, lines_again)
 
 -- there is a blank before a token at least
 pub lead_some : (s : State) (n : ℕ) → 0 < lead s n
@@ -189,9 +183,7 @@ before_some s (Code kind) bytes t h =
 pub rendered_blank : (s : State) (ps : List PieceValue) → 0 < s.column → BeginsBlank (rendered_from s ps)
 unfolding rendered_from
 rendered_blank s [] h = record { first = 10; rest = []; blank = refl; is = line_end_some s.column h }
-rendered_blank s (p ∷ ps) h =
-    begins_with (before s p.part p.bytes p.standing) _ (before_blanks s p.part p.bytes p.standing)
-    (before_some s p.part p.bytes p.standing h)
+rendered_blank s (p ∷ ps) h = search (rules, begins_with, before_blanks, before_some)
 
 -- the end of the last line has no piece behind it
 pub line_end_read : (column : ℕ) (u : Standing) → pieces_after 0 u (line_end column) ≡ []

@@ -1,5 +1,5 @@
-use Rattle.keymap_fmt.proofs.Common.{◌<◌, ◌∷◌, length, sym, ◌∙◌, ap, arith, drop, pieces_after, behind}
-use Rattle.keymap_fmt.proofs.Common.{rendered_from, formatted}
+use Rattle.keymap_fmt.proofs.Common.{◌<◌, ◌∷◌, length, sym, ◌∙◌, ap, arith, drop, pieces_after, behind, rendered_from}
+use Rattle.keymap_fmt.proofs.Common.{formatted}
 use Rattle.keymap_fmt.specs.Inner.Reading.{piece_view}
 use Rattle.keymap_fmt.proofs.Writing.{piece_written, end_written, longer}
 use Rattle.keymap_fmt.proofs.whole.laid_out.Goals as goal

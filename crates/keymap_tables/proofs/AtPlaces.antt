@@ -1,11 +1,11 @@
 -- What is read at the places of a map's image.
-use Rattle.keymap_tables.proofs.Common.{common_steps, ◌≡◌, ℕ, ◌+◌, ◌*◌, ◌<◌, ◌≤◌, List, length, drop, get_or, refl, sym}
-use Rattle.keymap_tables.proofs.Common.{ap, ◌∙◌, arith, rules, subst, slice_index, from_le_bytes, w8, get_or-take}
-use Rattle.keymap_tables.proofs.Common.{get_or-drop, get_or-replicate, blank, MapValue, undefined, entry_at}
-use Rattle.keymap_tables.proofs.Common.{accent_or_blank, IsCell, IsEntry, IsAccent, IsMap, Char, Layout, TableFault}
-use Rattle.keymap_tables.proofs.Common.{FaultOf, IsFirstFault, number_at, is_marked_at, count_at, CellFits, EntryFits}
-use Rattle.keymap_tables.proofs.Common.{FitsIn, image, image_in, number_of, is_act, flag_number, AreRows, wide, narrow}
-use Rattle.keymap_tables.proofs.Common.{part, number_width, number_size, slot_size, slots_place}
+use Rattle.keymap_tables.proofs.Common.{common_steps, ◌≡◌, ℕ, ◌+◌, ◌*◌, ◌<◌, ◌≤◌, List, length, drop, refl, sym, ap}
+use Rattle.keymap_tables.proofs.Common.{◌∙◌, arith, rules, subst, slice_index, from_le_bytes, get_or-take, get_or-drop}
+use Rattle.keymap_tables.proofs.Common.{get_or-replicate, blank, MapValue, undefined, entry_at, accent_or_blank, IsCell}
+use Rattle.keymap_tables.proofs.Common.{IsEntry, IsAccent, IsMap, Char, Layout, TableFault, FaultOf, IsFirstFault}
+use Rattle.keymap_tables.proofs.Common.{number_at, is_marked_at, count_at, CellFits, EntryFits, FitsIn, image, image_in}
+use Rattle.keymap_tables.proofs.Common.{number_of, is_act, flag_number, AreRows, wide, narrow, part, number_width}
+use Rattle.keymap_tables.proofs.Common.{number_size, slot_size, slots_place}
 use Rattle.keymap_core.specs.Maps.{cell_at}
 use Rattle.keymap_tables.proofs.Images.{count-part, n_keys-of, n_accs-of, part-part, slot-part}
 use Rattle.keymap_tables.proofs.ReadingLaws.{map-wide}

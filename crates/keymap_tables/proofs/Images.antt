@@ -1,15 +1,14 @@
 -- Tables of rows, and the image of a map that fits: it has no fault, and gives the map.
-use Rattle.keymap_tables.proofs.Common.{rules, nat_tests, eq-eqb, ne_eqb, ◌≡◌, ℕ, ◌+◌, ◌-◌, ◌*◌, ◌^◌, ◌<◌, ◌≤◌, ◌==◌}
-use Rattle.keymap_tables.proofs.Common.{List, ◌++◌, length, take, drop, get_or, None, Some, cond, refl, sym, ap, ◌∙◌}
-use Rattle.keymap_tables.proofs.Common.{subst, arith, inl, inr, length-append, All, flat_map, from_le_bytes, w16}
-use Rattle.keymap_tables.proofs.Common.{cases_lt, lt-ltb, le-ltb, take_at, drop_at, drop-drop, All-get_or, All-weaker}
-use Rattle.keymap_tables.proofs.Common.{AccentValue, IsEntry, IsAccent, IsMap, MapValue, entry_at, accent_or_blank}
-use Rattle.keymap_tables.proofs.Common.{Entry, Layout, BadPad, NotEmpty, TableFault, FaultOf, IsFirstFault}
-use Rattle.keymap_tables.proofs.Common.{number_fault, zero_fault, count_at, count_fault, used_fault, table_fault}
-use Rattle.keymap_tables.proofs.Common.{slot_fault, accent_fault, fault_at, EntryFits, AccentFits, FitsIn, count_bytes}
-use Rattle.keymap_tables.proofs.Common.{rows_bytes, table_bytes, slot_bytes, accent_bytes, image_in, zeros, HasNoFault}
-use Rattle.keymap_tables.proofs.Common.{AreRows, IsEntryIn, IsAccentIn, part, count_size, slot_size, slots_place}
-use Rattle.keymap_tables.proofs.Common.{accent_size, n_accs_place}
+use Rattle.keymap_tables.proofs.Common.{rules, nat_tests, ◌≡◌, ℕ, ◌+◌, ◌-◌, ◌*◌, ◌^◌, ◌<◌, ◌≤◌, ◌==◌, List, ◌++◌}
+use Rattle.keymap_tables.proofs.Common.{length, take, drop, get_or, None, Some, cond, refl, sym, ap, ◌∙◌, arith, inl}
+use Rattle.keymap_tables.proofs.Common.{inr, length-append, All, flat_map, from_le_bytes, w16, cases_lt, lt-ltb, le-ltb}
+use Rattle.keymap_tables.proofs.Common.{take_at, drop_at, drop-drop, All-get_or, All-weaker, AccentValue, IsEntry}
+use Rattle.keymap_tables.proofs.Common.{IsAccent, IsMap, MapValue, entry_at, accent_or_blank, Entry, Layout, BadPad}
+use Rattle.keymap_tables.proofs.Common.{NotEmpty, TableFault, FaultOf, IsFirstFault, number_fault, zero_fault, count_at}
+use Rattle.keymap_tables.proofs.Common.{count_fault, used_fault, table_fault, slot_fault, accent_fault, fault_at}
+use Rattle.keymap_tables.proofs.Common.{EntryFits, AccentFits, FitsIn, count_bytes, rows_bytes, table_bytes, slot_bytes}
+use Rattle.keymap_tables.proofs.Common.{accent_bytes, image_in, zeros, HasNoFault, AreRows, IsEntryIn, IsAccentIn, part}
+use Rattle.keymap_tables.proofs.Common.{count_size, slot_size, slots_place, accent_size, n_accs_place}
 use Rattle.std.proofs.lemmas.List.{take-take, drop-take}
 use Rattle.keymap_tables.specs.Types.{Short, Long}
 use Rattle.keymap_tables.specs.Faults.{count_over, content_fault}

@@ -1,6 +1,6 @@
 -- What is read in place, in the bytes of an image.
 use Rattle.keymap_tables.proofs.Common.{common_steps, rules, ◌≡◌, ℕ, ◌+◌, ◌*◌, ◌<◌, ◌≤◌, List, length, drop, get_or}
-use Rattle.keymap_tables.proofs.Common.{◌≢◌, ◌∷◌, None, Some, sym, ap, ◌∙◌, arith, get_or_past, All-get_or, cases_lt}
+use Rattle.keymap_tables.proofs.Common.{◌≢◌, None, Some, sym, ap, ◌∙◌, arith, get_or_past, All-get_or, cases_lt}
 use Rattle.keymap_tables.proofs.Common.{AccentValue, first_result, IsAccent, base_at, number_at, accent_bytes, wide}
 use Rattle.std.proofs.lemmas.List.{drop_all}
 use Rattle.keymap_tables.proofs.AccentImages.{base-in, result-in}

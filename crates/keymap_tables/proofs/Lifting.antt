@@ -1,9 +1,9 @@
 -- The faults of a part, in the whole.
 use Rattle.keymap_tables.proofs.Common.{rules, ◌≡◌, ℕ, ◌+◌, ◌-◌, ◌*◌, ◌<◌, ◌≤◌, ◌==◌, suc, zero, List, length, take}
-use Rattle.keymap_tables.proofs.Common.{drop, refl, ◌∙◌, subst, sym, ap, arith, None, Some, inl, inr, false, mul_comm}
-use Rattle.keymap_tables.proofs.Common.{from_le_bytes, slice_index, Option, nat_tests, cases_lt, lt-ltb, FaultOf}
-use Rattle.keymap_tables.proofs.Common.{zero_fault, number_fault, rows_fault, IsFirstFault, HasNoFault, part}
-use Rattle.keymap_tables.proofs.Common.{TableFault, TableFaultKind}
+use Rattle.keymap_tables.proofs.Common.{drop, refl, ◌∙◌, subst, sym, ap, arith, None, Some, false, mul_comm}
+use Rattle.keymap_tables.proofs.Common.{from_le_bytes, slice_index, Option, nat_tests, FaultOf, zero_fault}
+use Rattle.keymap_tables.proofs.Common.{number_fault, rows_fault, IsFirstFault, HasNoFault, part, TableFault}
+use Rattle.keymap_tables.proofs.Common.{TableFaultKind}
 use Rattle.std.specs.Int.{Width}
 use Rattle.std.proofs.lemmas.Nat.{div-mul-add, mod-mul-add}
 use Rattle.keymap_tables.specs.Faults.{split_fault}

@@ -10,8 +10,7 @@ use Rattle.keymap_tables.proofs.Common.{is_marked_at, char_fault, cell_fault, sl
 use Rattle.keymap_tables.proofs.Common.{HasNoFault, AreRows, IsEntryIn, cell_bytes, number_of, is_act, marks_of}
 use Rattle.keymap_tables.proofs.Common.{flag_number, slot_bytes, zeros, CellFits, EntryFits, number_width, number_size}
 use Rattle.keymap_tables.proofs.Common.{number_limit, pad_size, slot_size}
-use Rattle.std.specs.Prelude.{unwrap_or}
-use Rattle.keymap_core.specs.Actions.{IsAction, code_of, action_of, within}
+use Rattle.keymap_core.specs.Actions.{IsAction, code_of, within}
 use Rattle.keymap_core.specs.declared.action.Action.{Action}
 use Rattle.keymap_tables.specs.Types.{LockFlag}
 use Rattle.keymap_tables.specs.Faults.{cell_faults, flag_fault}
@@ -48,17 +47,6 @@ char-sound c known = rw (known) refl
 pub cell-sound : (cell : Cell) → IsCell cell → cell_fault (number_of cell) (is_act cell) ≡ None
 cell-sound (Char c) known = char-sound c known
 cell-sound (Act action) known = rw ((code-bounds action known).1, code-read action known) refl
-
--- the cell of a number, an action where it is marked
-pub cell_of : ℕ → Bool → Cell
-cell_of number true = Act (unwrap_or (action_of number) a.Nop)
-cell_of number false = Char number
-
--- the number and mark of a known cell, read again, give the cell
-pub cell-again : (cell : Cell) → IsCell cell → cell_of (number_of cell) (is_act cell) ≡ cell
-unfolding cell_of
-cell-again (Char c) known = refl
-cell-again (Act action) known = rw (code-read action known) refl
 
 -- The places behind the cells.
 module _ (l : Layout) (bytes : List ℕ) where

@@ -1,8 +1,7 @@
 -- Where the characters above 255 of a map stand.
-use Rattle.keymap_tables.proofs.Common.{common_steps, rules, ℕ, ◌+◌, ◌*◌, ◌<◌, ◌≤◌, suc, [], ap, arith, inl, inr}
-use Rattle.keymap_tables.proofs.Common.{mul-suc, All, cases_lt, eq-or-lt_of_le, mul-le-mul_left, All-nil, All-cons}
-use Rattle.keymap_tables.proofs.Common.{AccentValue, blank, MapValue, undefined, entry_at, Entry, EntryFits, AccentFits}
-use Rattle.keymap_tables.proofs.Common.{FitsIn, character_in, number_in, narrow}
+use Rattle.keymap_tables.proofs.Common.{common_steps, rules, ℕ, ◌+◌, ◌*◌, ◌<◌, ◌≤◌, suc, arith, mul-suc, All}
+use Rattle.keymap_tables.proofs.Common.{mul-le-mul_left, AccentValue, blank, MapValue, undefined, entry_at, Entry}
+use Rattle.keymap_tables.proofs.Common.{EntryFits, AccentFits, FitsIn, character_in, number_in, narrow}
 use Rattle.keymap_tables.specs.Fits.{IsWide, IsFirstWide, place_of}
 use Rattle.keymap_tables.specs.Inner.Firsts.{IsFirstWideRow}
 use Rattle.keymap_tables.specs.declared.narrow.Wide.{Wide}

@@ -1,4 +1,4 @@
-use Rattle.keymap_tables.specs.Layouts.{wide}
+use Rattle.keymap_tables.proofs.Common.{rules}
 use Rattle.keymap_tables.proofs.Images.{first-content}
 use Rattle.keymap_tables.proofs.Outcomes.{OnOk-map, IfErr-map}
 use Rattle.keymap_tables.proofs.check.check_tables.Goals as goal
@@ -8,6 +8,4 @@ returns-clause-image c =
     OnOk-map c.read_content.result _ _ c.read_content.ensures.taken (λ taken. (taken.0, taken.1, taken.3))
 
 pub returns-clause-fault : goal.returns-clause-fault
-returns-clause-fault c =
-    IfErr-map c.read_content.result _ _ c.read_content.ensures.fault
-    (λ f first. first-content wide c.args.bytes.now f c.in-Ok.ensures.whole first)
+returns-clause-fault c = search (rules, IfErr-map, first-content)

@@ -1,4 +1,4 @@
-use Rattle.keymap_tables.proofs.Common.{List, [], ◌∷◌, ◌++◌, ◌≡◌, ◌+◌, ◌*◌, ◌∙◌, ℕ, take, refl, sym, ap, subst, arith}
+use Rattle.keymap_tables.proofs.Common.{List, [], ◌∷◌, ◌++◌, ◌≡◌, ◌+◌, ◌*◌, ◌∙◌, ℕ, refl, sym, ap, subst, arith, rules}
 use Rattle.keymap_tables.proofs.Common.{mul-zero, length_push, All-nil, All-push, IsFirstFault, used_fault, zero_fault}
 use Rattle.keymap_tables.proofs.Common.{HasNoFault, NotEmpty, TableFault}
 use Rattle.keymap_tables.proofs.Lifting.{row-passes, row-fails, row-past, first-past, upto}
@@ -66,22 +66,7 @@ returns-in-Err-clause-fault g c =
     )
 
 pub returns-clause-taken : goal.returns-clause-taken
-returns-clause-taken g c =
-    let size = g.R.Row.size c.args.layout in
-    let bytes = c.args.bytes.now in
-    let so_far = c.loop-index.invariant.rows in
-    let end : c.loop-index.index ≡ c.args.count = omega arith in
-    let at = ap (λ (k : ℕ). k * c.args.count) c.size-size.ensures in
-    OnOk-map c.check_zeros.result _ _ c.check_zeros.ensures.none (λ empty. (
-      so_far.0.0,
-      so_far.0.1 ∙ end,
-      rows-whole (g.R.Row.image c.args.layout) size g.R.Row.MOST c.args.count bytes so_far.0.0 (so_far.0.1 ∙ end)
-          c.requires.whole
-          (so_far.0.2 ∙ ap (λ (n : ℕ). take (g.R.Row.size c.args.layout * n) c.args.bytes.now) end)
-          (drop-zeros bytes (size * c.args.count) (λ p past. empty p (omega (arith, past, at)))),
-      so_far.0.3,
-      so_far.1,
-    ))
+returns-clause-taken g c = search (rules, OnOk-map, rows-whole, drop-zeros)
 
 pub returns-clause-fault : goal.returns-clause-fault
 returns-clause-fault g c =

@@ -1,4 +1,4 @@
-use Rattle.keymap_tables.proofs.Common.{arith, sym, ◌∙◌, ◌+◌, ◌*◌, number_size}
+use Rattle.keymap_tables.proofs.Common.{arith, sym, ◌∙◌, ◌+◌, ◌*◌, number_size, rules}
 use Rattle.keymap_tables.proofs.AccentImages.{pairs-counted}
 use Rattle.keymap_tables.proofs.Sizes.{row-inside}
 use Rattle.keymap_tables.proofs.read_accent.count_pairs.Goals as goal
@@ -13,6 +13,4 @@ returns-then-read_number-eq0-clause-value c =
     (λ below. sym c.read_number.ensures ∙ c.if-read_number-eq0.true)
 
 pub returns-clause-value : goal.returns-clause-value
-returns-clause-value c =
-    pairs-counted c.args.layout c.args.bytes.now 52 (omega arith)
-    (λ pair below. c.loop-pair.invariant pair (omega arith)) (λ below. absurd (omega arith))
+returns-clause-value c = search (rules, pairs-counted)

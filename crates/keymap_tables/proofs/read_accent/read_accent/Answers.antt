@@ -1,9 +1,9 @@
-use Rattle.keymap_tables.proofs.Common.{arith, ◌≡◌, ◌+◌, ◌*◌, ◌<◌, ◌≤◌, ◌∙◌, ◌∷◌, [], None, Some, sym, refl, ap, subst}
-use Rattle.keymap_tables.proofs.Common.{length, ℕ, take, drop, List, append-nil, mul-zero, All, IsScalar, flat_map}
+use Rattle.keymap_tables.proofs.Common.{arith, ◌≡◌, ◌+◌, ◌*◌, ◌<◌, ◌≤◌, ◌∙◌, None, Some, sym, refl, ap, subst}
+use Rattle.keymap_tables.proofs.Common.{common_steps, rules, length, ℕ, take, List, append-nil, mul-zero, IsScalar}
 use Rattle.keymap_tables.proofs.Common.{All-nil, All-cons, All-same, All-push, length_push, AccentValue, IsPair}
 use Rattle.keymap_tables.proofs.Common.{number_at, char_fault, number_fault, zero_fault, accent_fault, pairs_in}
 use Rattle.keymap_tables.proofs.Common.{IsFirstFault, AccentFits, number_bytes, numbers_of, HasNoFault, number_width}
-use Rattle.keymap_tables.proofs.Common.{number_size, number_limit, accent_size, NotEmpty, Layout, TableFault}
+use Rattle.keymap_tables.proofs.Common.{number_size, accent_size, NotEmpty, Layout, TableFault}
 use Rattle.keymap_tables.proofs.AccentImages.{pair-read, pair-fits, length-numbers}
 use Rattle.keymap_tables.proofs.Lifting.{number-passes, number-fails, first-past, row-past, upto}
 use Rattle.keymap_tables.proofs.Numbers.{AreBytes, number-read, number-fits, drop-zeros}
@@ -32,13 +32,7 @@ module _ (l : Layout) (bytes : List ℕ) (i : ℕ) (used : i < 1 + 2 * pairs_in 
   )
 
 pub returns-in_err-read_char-clause-fault : goal.returns-in_err-read_char-clause-fault
-returns-in_err-read_char-clause-fault c =
-    let few = c.count_pairs-pairs.ensures.few in
-    let counted = c.count_pairs-pairs.ensures.value in
-    err_passed _ _ _ c.from_residual.ensures.1
-    (fails c.args.layout c.args.bytes.now 0 (omega arith)
-    (λ p below. absurd (omega (arith, below, mul-zero (number_size c.args.layout)))) (omega (arith, few, counted)) _
-    c.in_err-read_char.ensures.fault.0 c.in_err-read_char.ensures.fault.1)
+returns-in_err-read_char-clause-fault c = grind (arith, common_steps, err_passed, fails, mul-zero)
 
 pub loop-pair-init : goal.loop-pair-init
 loop-pair-init c =
@@ -51,33 +45,16 @@ loop-pair-init c =
     let once : number_size l ≡ number_size l * 1 = omega arith in
     let inside = row-inside (number_size l) 105 0 (omega arith) in
     record {
-      bytes =
-          ap (λ (ps : List (ℕ × ℕ)). flat_map (number_bytes c.args.layout)
-          (c.new-accent.result.own ∷ flat_map (λ pair. pair.0 ∷ pair.1 ∷ []) ps)) none
-          ∙ append-nil (number_bytes l c.new-accent.result.own)
-          ∙ sym (number-read l bytes (number_size l * 0) _ small (omega (arith, inside, c.requires)) own)
-          ∙ ap (λ (k : ℕ). take (number_size c.args.layout) (drop k c.args.bytes.now)) start
-          ∙ ap (λ (k : ℕ). take k c.args.bytes.now) once;
+      bytes = search (rules, append-nil, number-read);
       count = rw none refl;
       character = rw c.new-accent.ensures.own c.in_ok-read_char.ensures.known;
       known = All-same IsPair _ _ none (All-nil IsPair);
-      fits =
-          subst (λ (ps : List (ℕ × ℕ)). All (λ n. n < number_limit c.args.layout)
-          (c.new-accent.result.own ∷ flat_map (λ pair. pair.0 ∷ pair.1 ∷ []) ps)) (sym none)
-          (All-cons (λ n. n < number_limit l) _ [] (rw own (number-fits l bytes (number_size l * 0) small))
-          (All-nil (λ n. n < number_limit l)));
-      sound =
-          passes l bytes 0 (omega arith) (λ p below. absurd (omega (arith, below, start))) 1 (omega arith)
-          c.in_ok-read_char.ensures.sound;
+      fits = search (rules, All-cons, number-fits, All-nil);
+      sound = search (rules, passes);
     }
 
 pub returns-in_err-base-clause-fault : goal.returns-in_err-base-clause-fault
-returns-in_err-base-clause-fault c =
-    let few = c.count_pairs-pairs.ensures.few in
-    let counted = c.count_pairs-pairs.ensures.value in
-    err_passed _ _ _ c.from_residual-in_err-base.ensures.1
-    (fails c.args.layout c.args.bytes.now (1 + 2 * c.loop-pair.pair) (omega arith) c.loop-pair.invariant.sound
-    (omega (arith, few, counted)) _ c.in_err-base.ensures.fault.0 c.in_err-base.ensures.fault.1)
+returns-in_err-base-clause-fault c = search (rules, err_passed, fails)
 
 pub returns-in_err-composed-clause-fault : goal.returns-in_err-composed-clause-fault
 returns-in_err-composed-clause-fault c =
@@ -106,15 +83,10 @@ loop-pair-preserved c =
     let own = ap (λ (a : AccentValue). a.own) pushed in
     let pairs = ap (λ (a : AccentValue). a.pairs) pushed in
     record {
-      bytes =
-          ap (λ (a : AccentValue). flat_map (number_bytes c.args.layout) (numbers_of a)) pushed
-          ∙ pair-read l bytes _ _ i _ _ small c.requires (omega (arith, few)) c.loop-pair.invariant.bytes base composed;
+      bytes = search (rules, pair-read);
       count = ap length pairs ∙ length_push _ _ ∙ ap (λ (k : ℕ). k + 1) c.loop-pair.invariant.count;
       character = subst IsScalar (sym own) c.loop-pair.invariant.character;
-      known =
-          All-same IsPair _ _ pairs
-          (All-push IsPair _ _ c.loop-pair.invariant.known
-          (c.in_ok-base.ensures.known, some, c.in_ok-composed.ensures.known));
+      known = search (rules, All-same, All-push);
       fits =
           subst (AccentFits l) (sym pushed)
           (pair-fits l _ _ _ c.loop-pair.invariant.fits

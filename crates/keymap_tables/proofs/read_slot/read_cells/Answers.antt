@@ -1,6 +1,6 @@
-use Rattle.keymap_tables.proofs.Common.{rules, arith, ◌∙◌, ◌-◌, ◌*◌, ◌/◌, ◌%◌, ◌^◌, ◌==◌, ℕ, ap, sym, take, mul_comm}
-use Rattle.keymap_tables.proofs.Common.{◌≡◌, flat_map, slice_index, Bool, take_all, All-same, IsCell, is_marked_at}
-use Rattle.keymap_tables.proofs.Common.{cell_fault, slot_end_fault, CellFits, cell_bytes, number_width, number_size}
+use Rattle.keymap_tables.proofs.Common.{rules, arith, ◌∙◌, ◌-◌, ◌*◌, ◌/◌, ◌%◌, ◌^◌, ◌==◌, ℕ, ap, sym, mul_comm}
+use Rattle.keymap_tables.proofs.Common.{common_steps, slice_index, Bool, take_all, All-same, IsCell, is_marked_at}
+use Rattle.keymap_tables.proofs.Common.{cell_fault, slot_end_fault, number_width, number_size}
 use Rattle.keymap_tables.proofs.Lifting.{number-passes, number-fails}
 use Rattle.keymap_tables.proofs.Marks.{marks-more}
 use Rattle.keymap_tables.proofs.Numbers.{AreBytes, number-fits}
@@ -22,13 +22,9 @@ loop-column-preserved c =
     ∙ ap (λ (t : Bool). cell_fault c.read_number.result t) (sym marked) ∙ c.in-Ok.ensures.fault in
     record {
       known = All-more_set IsCell _ _ _ (omega arith) c.loop-column.invariant.known c.in-Ok.ensures.known;
-      fits =
-          All-more_set (CellFits layout) _ _ _ (omega arith) c.loop-column.invariant.fits
-          (cell-fits layout c.in-Ok.cell _ number (number-fits layout bytes (number_size layout * i) small));
+      fits = search (rules, All-more_set, cell-fits, number-fits);
       whole = search rules;
-      bytes =
-          bytes-more layout bytes _ _ _ small (omega (arith, inside)) (omega arith) c.loop-column.invariant.bytes
-          number;
+      bytes = search (rules, bytes-more);
       marks = marks-more _ _ _ _ (omega arith) (omega arith) c.loop-column.invariant.marks c.in-Ok.ensures.mark;
       sound =
           number-passes (number_width layout) (λ column n. cell_fault n (is_marked_at layout bytes column))
@@ -53,30 +49,17 @@ returns-in-Err-clause-fault c =
     )
 
 pub returns-clause-bytes : goal.returns-clause-bytes
-returns-clause-bytes c =
-    let layout = c.args.layout in
-    let last : c.loop-column.column ≡ 8 = omega arith in
-    ap (λ (n : ℕ). take n c.args.bytes.now) (mul_comm 8 (number_size layout))
-    ∙ ap (λ (n : ℕ). take (number_size layout * n) c.args.bytes.now) (sym last)
-    ∙ sym c.loop-column.invariant.bytes
-    ∙ ap (flat_map (cell_bytes layout)) (take_all c.loop-column.column _ (omega (arith, c.loop-column.invariant.whole)))
+returns-clause-bytes c = search (rules, mul_comm, take_all)
 
 pub returns-clause-marks : goal.returns-clause-marks
-returns-clause-marks c =
-    ap (slice_index c.args.bytes.now) (sym c.cells.ensures)
-    ∙ marks-all _ _ _ (omega arith) c.loop-column.invariant.whole c.loop-column.invariant.marks
+returns-clause-marks c = search (rules, marks-all)
 
 pub returns-clause-known : goal.returns-clause-known
 returns-clause-known c =
     All-same IsCell _ _ (sym (take_all c.loop-column.column _ (omega arith))) c.loop-column.invariant.known
 
 pub returns-clause-fits : goal.returns-clause-fits
-returns-clause-fits c =
-    All-same (CellFits c.args.layout) _ _ (sym (take_all c.loop-column.column _ (omega arith)))
-    c.loop-column.invariant.fits
+returns-clause-fits c = search (rules, All-same, take_all)
 
 pub returns-clause-sound : goal.returns-clause-sound
-returns-clause-sound c =
-    let last : c.loop-column.column ≡ 8 = omega arith in
-    λ p below. c.loop-column.invariant.sound p
-    (omega (arith, below, ap (λ (n : ℕ). number_size c.args.layout * n) last))
+returns-clause-sound c = grind (arith, common_steps)

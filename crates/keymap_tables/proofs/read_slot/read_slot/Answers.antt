@@ -1,24 +1,12 @@
-use Rattle.keymap_tables.proofs.Common.{arith, ℕ, ◌≡◌, ◌+◌, ◌*◌, ◌<◌, ◌∙◌, ap, refl, slice_index, nat_le, false}
-use Rattle.keymap_tables.proofs.Common.{nat_tests, slot_fault, number_size, slot_size, BadPad}
+use Rattle.keymap_tables.proofs.Common.{arith, ℕ, ◌+◌, ◌∙◌, ap, slice_index, rules, nat_tests, slot_fault, slot_size}
+use Rattle.keymap_tables.proofs.Common.{BadPad}
 use Rattle.keymap_tables.proofs.Lifting.{first-past}
 use Rattle.keymap_tables.proofs.Outcomes.{err_passed}
 use Rattle.keymap_tables.proofs.SlotImages.{slot-whole, slot-flag, slot-pad, slot-marks, slot-front, small-flag}
 use Rattle.keymap_tables.proofs.read_slot.read_slot.Goals as goal
 
 pub returns-in_default-clause-fault : goal.returns-in_default-clause-fault
-returns-in_default-clause-fault c =
-    let layout = c.args.layout in
-    let bytes = c.args.bytes.now in
-    let at = ap (λ (n : ℕ). n + 1) c.cells-flag_at.ensures in
-    let large : 3 < slice_index bytes (8 * number_size layout + 1) =
-    omega (arith, c.in_default.ensures, ap (slice_index bytes) at) in
-    let many : nat_le (slice_index bytes (8 * number_size layout + 1)) 3 ≡ false = grind (arith, nat_tests) in (
-      record {
-        here = ap (slot_fault layout bytes) at ∙ slot-flag layout bytes ∙ rw many refl;
-        before = λ p below. slot-marks layout bytes c.in_ok-cells.ensures.sound p (omega (arith, below, at));
-      },
-      omega (arith, at),
-    )
+returns-in_default-clause-fault c = search (rules, nat_tests, slot-flag, slot-marks)
 
 pub returns-in_err-check_zeros-clause-fault : goal.returns-in_err-check_zeros-clause-fault
 returns-in_err-check_zeros-clause-fault c =

@@ -6,13 +6,7 @@ use Rattle.keymap_tables.proofs.Sizes.{row-next, row-inside}
 use Rattle.keymap_tables.proofs.write.push_table.Goals as goal
 
 pub push-requires-in-loop-index : goal.push-requires-in-loop-index
-push-requires-in-loop-index g c =
-    omega (
-      arith,
-      c.requires.counted,
-      c.loop-index.invariant.count,
-      row-inside (g.R.Row.size c.args.layout) g.R.Row.MOST c.loop-index.index (omega arith),
-    )
+push-requires-in-loop-index g c = search (rules, row-inside)
 
 pub returns-in_err-push-clause-bytes : goal.returns-in_err-push-clause-bytes
 returns-in_err-push-clause-bytes g c start text gathers =
@@ -26,44 +20,10 @@ returns-in_err-push-clause-bytes g c start text gathers =
     (c.in_err-push.ensures.bytes start _ gathers))
 
 pub loop-index-init : goal.loop-index-init
-loop-index-init g c =
-    let piece =
-    c.as_slice.ensures.value ∙ c.count_image.ensures.bytes ∙ ap (count_bytes c.args.layout) c.count.ensures.value in
-    record {
-      pushed = λ start text gathers.
-          Gathers-same _ (ap (λ (v : List ℕ). text ++ v) piece ∙ sym (append-nil _))
-          (c.in_ok-push.ensures.bytes start text gathers);
-      count =
-          omega (
-            arith,
-            c.in_ok-push.ensures.count,
-            ap length c.as_slice.ensures.value,
-            c.count_image.ensures.whole,
-            mul-zero (g.R.Row.size c.args.layout),
-          );
-      sound = search rules;
-    }
+loop-index-init g c = search (rules, Gathers-same, append-nil, mul-zero)
 
 pub loop-index-preserved : goal.loop-index-preserved
-loop-index-preserved g c =
-    let image = g.R.Row.image c.args.layout in
-    let size = g.R.Row.size c.args.layout in
-    let rows = g.R.Row.rows c.args.map.now in
-    record {
-      pushed = λ start text gathers.
-          Gathers-same _
-          (rows-next image size g.R.Row.blank g.R.Row.MOST rows c.loop-index.index _
-          (text ++ count_bytes c.args.layout (length rows)) c.of.ensures (omega (arith, c.count.ensures)) (omega arith))
-          (c.in_ok-push-2.ensures.bytes start _ (c.loop-index.invariant.pushed start text gathers));
-      count =
-          omega (
-            arith,
-            c.in_ok-push-2.ensures.count,
-            c.loop-index.invariant.count,
-            row-next (g.R.Row.size c.args.layout) c.loop-index.index,
-          );
-      sound = search rules;
-    }
+loop-index-preserved g c = search (rules, Gathers-same, rows-next, row-next)
 
 pub returns-in_err-push-2-clause-bytes : goal.returns-in_err-push-2-clause-bytes
 returns-in_err-push-2-clause-bytes g c start text gathers =
@@ -79,14 +39,4 @@ returns-in_err-push-2-clause-bytes g c start text gathers =
     (c.in_err-push-2.ensures.bytes start _ (c.loop-index.invariant.pushed start text gathers)))
 
 pub returns-clause-bytes : goal.returns-clause-bytes
-returns-clause-bytes g c start text gathers =
-    let image = g.R.Row.image c.args.layout in
-    let size = g.R.Row.size c.args.layout in
-    let rows = g.R.Row.rows c.args.map.now in
-    let count = count_bytes c.args.layout (length rows) in
-    Gathers-same _
-    (ap (λ (v : List ℕ). (text ++ count) ++ v)
-    (rows-all image size g.R.Row.blank g.R.Row.MOST rows c.loop-index.index (omega (arith, c.count.ensures))
-    (omega arith) c.requires.empty)
-    ∙ append_assoc text count (rows_bytes image size g.R.Row.MOST rows))
-    (c.loop-index.invariant.pushed start text gathers)
+returns-clause-bytes g c start text gathers = search (rules, Gathers-same, rows-all, append_assoc)

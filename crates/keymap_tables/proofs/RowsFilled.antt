@@ -45,8 +45,7 @@ placed-known : {X : Type 0} (P : X → Type 0) (x : X) (n : ℕ) (xs : List X) (
     → All P xs → i < n → P y → (length (placed x xs i y) ≤ n) × All P (placed x xs i y)
 placed-known P x n xs i y is_blank few all inside is = (
   omega (arith, placed-length x xs i y),
-  All-set P (xs ++ replicate (i + 1 - length xs) x) i y is
-      (All-append P xs (replicate (i + 1 - length xs) x) all (All-replicate P (i + 1 - length xs) x is_blank)),
+  search (rules, All-set, All-append, All-replicate),
 )
 
 -- a slot is defined
@@ -55,19 +54,13 @@ pub shows-entry : (t : Filling) (m : MapValue) (slot n : ℕ) (e : Entry) (row :
     → Shows (record { n_keys = n; slots = set t.slots slot row; n_accs = t.n_accs; accents = t.accents })
     (with_entry m slot e)
 shows-entry t m slot n e row s inside known is count =
-    let keys = s.n_keys in
     let long = placed-length undefined m.entries slot e in
     let was = s.known in
     let now =
     placed-known IsEntry undefined 256 m.entries slot e undefined-known was.few_entries was.entries inside known in
     record {
-      known = record {
-        few_entries = now.0;
-        entries = now.1;
-        few_accents = was.few_accents;
-        accents = was.accents;
-      };
-      n_keys = omega (arith, count, keys, long);
+      known = search rules;
+      n_keys = omega (arith, count, s.n_keys, long);
       slots = search (rules, rows-placed);
       n_accs = s.n_accs;
       accents = s.accents;
@@ -79,22 +72,15 @@ pub shows-accent : (t : Filling) (m : MapValue) (i n : ℕ) (a : AccentValue) (r
     → Shows (record { n_keys = t.n_keys; slots = t.slots; n_accs = n; accents = set t.accents i row })
     (with_accent m i a)
 shows-accent t m i n a row s inside known is count =
-    let accs = s.n_accs in
     let long = placed-length blank m.accents i a in
     let was = s.known in
     let now = placed-known IsAccent blank 15 m.accents i a blank-known was.few_accents was.accents inside known in
     record {
-      known = record {
-        few_entries = was.few_entries;
-        entries = was.entries;
-        few_accents = now.0;
-        accents = now.1;
-      };
+      known = search rules;
       n_keys = s.n_keys;
       slots = s.slots;
-      n_accs = omega (arith, count, accs, long);
-      accents =
-          rows-placed (accent_bytes wide) blank 15 m.accents i a row t.accents s.known.few_accents inside is s.accents;
+      n_accs = omega (arith, count, s.n_accs, long);
+      accents = search (rules, rows-placed);
     }
 
 -- rows, joined

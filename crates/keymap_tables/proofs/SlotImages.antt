@@ -248,16 +248,13 @@ pub slot-tail : (l : Layout) (bytes : List ℕ) → length bytes ≡ slot_size l
     ≡ get_or bytes (8 * number_size l) 0 ∷ get_or bytes (8 * number_size l + 1) 0 ∷ zeros (pad_size l)
 slot-tail l bytes whole empty =
     let at = 8 * number_size l in
-    let marks : 8 * number_size l < length bytes = omega arith in
-    let flag : 8 * number_size l + 1 < length bytes = omega arith in
-    let pads : length bytes - (8 * number_size l + 2) ≡ pad_size l = omega arith in
-    let next : suc (8 * number_size l) ≡ 8 * number_size l + 1 = omega arith in
-    let last : suc (8 * number_size l + 1) ≡ 8 * number_size l + 2 = omega arith in
-    drop-cons bytes at 0 marks ∙ ap (λ (k : ℕ). get_or bytes at 0 ∷ drop k bytes) next
-    ∙ ap (λ (v : List ℕ). get_or bytes at 0 ∷ v)
-    (drop-cons bytes (at + 1) 0 flag ∙ ap (λ (k : ℕ). get_or bytes (at + 1) 0 ∷ drop k bytes) last)
-    ∙ ap (λ (v : List ℕ). get_or bytes at 0 ∷ get_or bytes (at + 1) 0 ∷ v)
-    (drop-zeros bytes (at + 2) empty ∙ ap zeros pads)
+    grind (
+      arith,
+      common_steps,
+      drop-cons bytes at 0,
+      drop-cons bytes (at + 1) 0,
+      drop-zeros bytes (at + 2) empty,
+    )
 
 -- a slot by its parts
 pub slot-whole : (l : Layout) (bytes : List ℕ) (entry : Entry) → length bytes ≡ slot_size l

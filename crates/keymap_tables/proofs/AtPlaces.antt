@@ -1,15 +1,15 @@
 -- What is read at the places of a map's image.
 use Rattle.keymap_tables.proofs.Common.{common_steps, ◌≡◌, ℕ, ◌+◌, ◌*◌, ◌<◌, ◌≤◌, List, length, drop, refl, sym, ap}
-use Rattle.keymap_tables.proofs.Common.{◌∙◌, arith, rules, subst, slice_index, from_le_bytes, get_or-take, get_or-drop}
+use Rattle.keymap_tables.proofs.Common.{◌∙◌, arith, rules, subst, slice_index, get_or-take, get_or-drop}
 use Rattle.keymap_tables.proofs.Common.{get_or-replicate, blank, MapValue, undefined, entry_at, accent_or_blank, IsCell}
 use Rattle.keymap_tables.proofs.Common.{IsEntry, IsAccent, IsMap, Char, Layout, TableFault, FaultOf, IsFirstFault}
 use Rattle.keymap_tables.proofs.Common.{number_at, is_marked_at, count_at, CellFits, EntryFits, FitsIn, image, image_in}
-use Rattle.keymap_tables.proofs.Common.{number_of, is_act, flag_number, AreRows, wide, narrow, part, number_width}
-use Rattle.keymap_tables.proofs.Common.{number_size, slot_size, slots_place}
+use Rattle.keymap_tables.proofs.Common.{number_of, is_act, flag_number, AreRows, wide, narrow, part, number_size}
+use Rattle.keymap_tables.proofs.Common.{slot_size, slots_place}
 use Rattle.keymap_core.specs.Maps.{cell_at}
 use Rattle.keymap_tables.proofs.Images.{count-part, n_keys-of, n_accs-of, part-part, slot-part}
 use Rattle.keymap_tables.proofs.ReadingLaws.{map-wide}
-use Rattle.keymap_tables.proofs.Sizes.{row-inside, zero-fits, All-at}
+use Rattle.keymap_tables.proofs.Sizes.{zero-fits, All-at}
 use Rattle.keymap_tables.proofs.SlotImages.{number-in, mark-in, flag-in}
 
 -- the count of slots
@@ -66,20 +66,15 @@ entry-known m is s = All-at IsEntry m.entries undefined s undefined-known is.ent
 pub entry-fits : (l : Layout) (m : MapValue) → FitsIn l m → (s : ℕ) → EntryFits l (entry_at m s)
 entry-fits l m fits s = All-at (EntryFits l) m.entries undefined s (undefined-fits l) fits.entries
 
--- the number of each column lies in its slot
-cell-in-slot : (l : Layout) (column : ℕ) → column < 8 → number_size l * column + number_size l ≤ slot_size l
-cell-in-slot l column inside = omega (arith, row-inside (number_size l) 8 column inside)
-
 -- the number and the mark of a cell, and the flag
 pub cell-number : (l : Layout) (m : MapValue) → IsMap m → FitsIn l m → (s column : ℕ) → s < 256 → column < 8
     → number_at l (image_in l m) (slots_place l + slot_size l * s + number_size l * column)
     ≡ number_of (cell_at m s column)
 cell-number l m is fits s column below inside =
-    ap (from_le_bytes (number_width l))
-    (sym (part-part (image_in l m) (slots_place l + slot_size l * s) (slot_size l) (number_size l * column)
-    (number_size l) (cell-in-slot l column inside)))
-    ∙ ap (λ (v : List ℕ). number_at l v (number_size l * column)) (slot-part l m is fits s below)
-    ∙ number-in l (entry_at m s) (Char 0) column (entry-known m is s) (entry-fits l m fits s) inside
+    let at = slots_place l + slot_size l * s in
+    let row = slot-part l m is fits s below in
+    let number = number-in l (entry_at m s) (Char 0) column (entry-known m is s) (entry-fits l m fits s) inside in
+    grind (arith, part-part (image_in l m) at (slot_size l) (number_size l * column) (number_size l), row, number)
 
 -- the mark read at a slot's place tells whether the cell is an action
 pub cell-mark : (l : Layout) (m : MapValue) → IsMap m → FitsIn l m → (s column : ℕ) → s < 256 → column < 8

@@ -1,14 +1,15 @@
 -- Tables of rows, and the image of a map that fits: it has no fault, and gives the map.
-use Rattle.keymap_tables.proofs.Common.{rules, nat_tests, ◌≡◌, ℕ, ◌+◌, ◌-◌, ◌*◌, ◌^◌, ◌<◌, ◌≤◌, ◌==◌, List, ◌++◌}
-use Rattle.keymap_tables.proofs.Common.{length, take, drop, get_or, None, Some, cond, refl, sym, ap, ◌∙◌, arith, inl}
-use Rattle.keymap_tables.proofs.Common.{inr, length-append, All, flat_map, from_le_bytes, w16, cases_lt, lt-ltb, le-ltb}
-use Rattle.keymap_tables.proofs.Common.{take_at, drop_at, drop-drop, All-get_or, All-weaker, AccentValue, IsEntry}
-use Rattle.keymap_tables.proofs.Common.{IsAccent, IsMap, MapValue, entry_at, accent_or_blank, Entry, Layout, BadPad}
-use Rattle.keymap_tables.proofs.Common.{NotEmpty, TableFault, FaultOf, IsFirstFault, number_fault, zero_fault, count_at}
-use Rattle.keymap_tables.proofs.Common.{count_fault, used_fault, table_fault, slot_fault, accent_fault, fault_at}
-use Rattle.keymap_tables.proofs.Common.{EntryFits, AccentFits, FitsIn, count_bytes, rows_bytes, table_bytes, slot_bytes}
-use Rattle.keymap_tables.proofs.Common.{accent_bytes, image_in, zeros, HasNoFault, AreRows, IsEntryIn, IsAccentIn, part}
-use Rattle.keymap_tables.proofs.Common.{count_size, slot_size, slots_place, accent_size, n_accs_place}
+use Rattle.keymap_tables.proofs.Common.{rules, common_steps, nat_tests, ◌≡◌, ℕ, ◌+◌, ◌-◌, ◌*◌, ◌^◌, ◌<◌, ◌≤◌, ◌==◌}
+use Rattle.keymap_tables.proofs.Common.{List, ◌++◌, length, take, drop, get_or, None, Some, cond, refl, sym, ap, ◌∙◌}
+use Rattle.keymap_tables.proofs.Common.{arith, inl, inr, length-append, All, flat_map, from_le_bytes, w16, cases_lt}
+use Rattle.keymap_tables.proofs.Common.{lt-ltb, le-ltb, take_at, drop_at, drop-drop, All-get_or, All-weaker}
+use Rattle.keymap_tables.proofs.Common.{AccentValue, IsEntry, IsAccent, IsMap, MapValue, entry_at, accent_or_blank}
+use Rattle.keymap_tables.proofs.Common.{Entry, Layout, BadPad, NotEmpty, TableFault, FaultOf, IsFirstFault}
+use Rattle.keymap_tables.proofs.Common.{number_fault, zero_fault, count_at, count_fault, used_fault, table_fault}
+use Rattle.keymap_tables.proofs.Common.{slot_fault, accent_fault, fault_at, EntryFits, AccentFits, FitsIn, count_bytes}
+use Rattle.keymap_tables.proofs.Common.{rows_bytes, table_bytes, slot_bytes, accent_bytes, image_in, zeros, HasNoFault}
+use Rattle.keymap_tables.proofs.Common.{AreRows, IsEntryIn, IsAccentIn, part, count_size, slot_size, slots_place}
+use Rattle.keymap_tables.proofs.Common.{accent_size, n_accs_place}
 use Rattle.std.proofs.lemmas.List.{take-take, drop-take}
 use Rattle.keymap_tables.specs.Types.{Short, Long}
 use Rattle.keymap_tables.specs.Faults.{count_over, content_fault}
@@ -176,14 +177,8 @@ module _ (l : Layout) (m : MapValue) (is : IsMap m) (fits : FitsIn l m) where
 
   pub length-image : length (image_in l m) ≡ file_size l
   length-image =
-      ap length (image-parts l m)
-      ∙ length-append (table_bytes l (slot_bytes l) (slot_size l) 256 m.entries)
-      (table_bytes l (accent_bytes l) (accent_size l) 15 m.accents)
-      ∙ omega (
-        arith,
-        length-slots,
-        length-table (accents-are l) l 15 (omega arith) m.accents accents-in is.few_accents,
-      )
+      let accents = length-table (accents-are l) l 15 (omega arith) m.accents accents-in is.few_accents in
+      grind (arith, common_steps, image-parts l m, length-slots, accents)
 
   -- it has no fault
   pub image-sound : (p : ℕ) → fault_at l (image_in l m) p ≡ None
@@ -221,23 +216,16 @@ module _ (l : Layout) (m : MapValue) (is : IsMap m) (fits : FitsIn l m) where
   pub slot-part : (s : ℕ) → s < 256
       → part (image_in l m) (slots_place l + slot_size l * s) (slot_size l) ≡ slot_bytes l (entry_at m s)
   slot-part s below =
-      let place : slots_place l + slot_size l * s ≡ 0 + (slots_place l + slot_size l * s) = omega arith in
-      ap (λ (k : ℕ). part (image_in l m) k (slot_size l)) place
-      ∙ sym (part-part (image_in l m) 0 (n_accs_place l) (slots_place l + slot_size l * s) (slot_size l)
-      (omega (arith, row-inside (slot_size l) 256 s below)))
-      ∙ ap (λ (v : List ℕ). part v (slots_place l + slot_size l * s) (slot_size l)) image-front
-      ∙ table-row (slots-are l) l 256 (omega arith)
-      m.entries entries-in is.few_entries s below
+      let row = table-row (slots-are l) l 256 (omega arith) m.entries entries-in is.few_entries s below in
+      let at = slots_place l + slot_size l * s in
+      let inside = row-inside (slot_size l) 256 s below in
+      grind (arith, part-part (image_in l m) 0 (n_accs_place l) at (slot_size l) (omega (arith, inside)), image-front, row)
 
   pub accent-part : (i : ℕ) → i < 15
       → part (image_in l m) (accents_place l + accent_size l * i) (accent_size l) ≡ accent_bytes l (accent_or_blank m i)
   accent-part i below =
-      let place : accents_place l + accent_size l * i ≡ n_accs_place l + (count_size l + accent_size l * i) =
-      omega arith in
-      ap (λ (k : ℕ). part (image_in l m) k (accent_size l)) place
-      ∙ ap (take (accent_size l)) (sym (drop-drop (count_size l + accent_size l * i) (n_accs_place l) (image_in l m))
-      ∙ ap (drop (count_size l + accent_size l * i)) image-back)
-      ∙ table-row (accents-are l) l 15 (omega arith) m.accents accents-in is.few_accents i below
+      let row = table-row (accents-are l) l 15 (omega arith) m.accents accents-in is.few_accents i below in
+      grind (arith, drop-drop (count_size l + accent_size l * i) (n_accs_place l) (image_in l m), image-back, row)
 
 -- maps that fit are the same where their images are
 pub same-map : (l : Layout) (m n : MapValue) → IsMap m → FitsIn l m → IsMap n → FitsIn l n → image_in l m ≡ image_in l n

@@ -8,7 +8,7 @@ use Rattle.keymap_tables.proofs.Common.{number_bytes, Layout, Wide, Narrow, Tabl
 use Rattle.keymap_tables.proofs.Common.{number_width, number_size, number_limit}
 use Rattle.std.specs.Int.{to_le_bytes, w32}
 use Rattle.std.proofs.lemmas.List.{length-take-le, get_or_default}
-use Rattle.std.proofs.lemmas.Nat.{le_bytes_2, le_bytes_4, from_le_bytes-to_le_bytes_2, from_le_bytes-to_le_bytes_4}
+use Rattle.std.proofs.lemmas.Nat.{le_bytes_2, le_bytes_4, from_le_bytes-to_le_bytes_4}
 
 -- each byte is one
 abbrev pub AreBytes : List ℕ → Type 0
@@ -88,11 +88,6 @@ pub same-number : (l : Layout) (x y : ℕ) → x < number_limit l → y < number
     → x ≡ y
 same-number l x y small also same =
     sym (number-back l x small) ∙ ap (from_le_bytes (number_width l)) same ∙ number-back l y also
-
--- a count gives its number
-pub count-back : (l : Layout) (n : ℕ) → n < 2 ^ 16 → count_at (count_bytes l n) 0 ≡ n
-count-back Wide n few = from_le_bytes-to_le_bytes_2 n few
-count-back Narrow n few = from_le_bytes-to_le_bytes_2 n few
 
 -- two bytes of a count and pads of 0 are the bytes of that count
 pub count-whole : (l : Layout) (bytes : List ℕ) (n : ℕ) → length bytes ≡ count_size l → AreBytes bytes

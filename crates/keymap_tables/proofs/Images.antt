@@ -219,7 +219,8 @@ module _ (l : Layout) (m : MapValue) (is : IsMap m) (fits : FitsIn l m) where
       let row = table-row (slots-are l) l 256 (omega arith) m.entries entries-in is.few_entries s below in
       let at = slots_place l + slot_size l * s in
       let inside = row-inside (slot_size l) 256 s below in
-      grind (arith, part-part (image_in l m) 0 (n_accs_place l) at (slot_size l) (omega (arith, inside)), image-front, row)
+      let cut = part-part (image_in l m) 0 (n_accs_place l) at (slot_size l) (omega (arith, inside)) in
+      grind (arith, cut, image-front, row)
 
   pub accent-part : (i : ℕ) → i < 15
       → part (image_in l m) (accents_place l + accent_size l * i) (accent_size l) ≡ accent_bytes l (accent_or_blank m i)

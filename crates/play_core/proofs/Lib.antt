@@ -5,7 +5,6 @@ pub mod LineWords
 pub mod Pieces
 pub mod PlainLines
 pub mod ScriptLines
-pub mod ScriptSizes
 pub mod Sending
 pub mod Sentences
 pub mod SmallNumbers

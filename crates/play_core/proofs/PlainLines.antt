@@ -1,183 +1,164 @@
--- Lines in their plainest spelling.
-use Rattle.play_core.proofs.Common.{suc, ◌≡◌, ℕ, ◌+◌, ◌*◌, ◌<◌, ◌≤◌, true, false, eqb, List, [], ◌∷◌, ◌++◌, length}
-use Rattle.play_core.proofs.Common.{take, drop, get_or, ◌-◌, refl, sym, ap, ◌∙◌, arith, drop-cons, codes, ⊤, filter}
-use Rattle.play_core.proofs.Common.{slice_split, onto_first, digit_value, AllDigits, digit_from_value, Down, Repeat, Up}
-use Rattle.play_core.proofs.Common.{separates_words, is_there, parts_of, words_in, BeginsWithEvent}
-use Rattle.std.proofs.lemmas.Bool.{ne_eqb}
+-- The words of a line, by the bytes that it lacks, and lines in their plainest spelling.
+use Rattle.play_core.proofs.Common.{suc, ◌≡◌, ℕ, ◌+◌, ◌<◌, ◌≤◌, Bool, true, false, cond, eqb, List, [], ◌∷◌, ◌++◌}
+use Rattle.play_core.proofs.Common.{length, take, drop, get_or, ◌-◌, refl, sym, ap, ◌∙◌, arith, append_assoc, codes}
+use Rattle.play_core.proofs.Common.{slice_split, onto_first, digit_value, AllDigits, digit_from_value, filter-append}
+use Rattle.play_core.proofs.Common.{What, Down, Repeat, Up, separates_words, is_there, parts_of, words_in, words_of}
+use Rattle.play_core.proofs.Common.{IsNumber, Tells, key_of, BeginsWithEvent}
+use Rattle.std.specs.List.{list_any}
+use Rattle.std.proofs.lemmas.Bool.{ne_eqb, or_parts, or_from}
+use Rattle.std.proofs.lemmas.List.Folds.{list_any-append}
 use Rattle.play_core.specs.Scripts.{without_comment}
+use Rattle.play_core.specs.Spelling.{has_line_feed}
 use Rattle.play_core.specs.Inner.Readings.{BeginsWithKey}
+use Rattle.play_core.proofs.ScriptLines.{parts_there}
 use Rattle.keymap_text.proofs.Splitting.{to_end}
 
--- the byte at a place, and what stands behind it
-pub byte_at : (text : List ℕ) (n b : ℕ) → n < length text → get_or text n 0 ≡ b → drop n text ≡ b ∷ drop (suc n) text
-byte_at text n b h e = drop-cons text n 0 h ∙ ap (λ x. x ∷ drop (suc n) text) e
+-- ---- the parts of a text
 
--- ---- the digits of a line
+-- a text without a separator is one part
+pub one_part : {X : Type 0} (p : X → Bool) (xs : List X) → list_any p xs ≡ false → slice_split p xs ≡ xs ∷ []
+one_part p [] e = refl
+one_part p (x ∷ xs) e = let no = or_parts (p x) (list_any p xs) e in rw no.0 (ap (onto_first x) (one_part p xs no.1))
 
--- a digit is none of the bytes below the digits
-pub not_at : (b c : ℕ) → digit_value b < 10 → (c < 48) → eqb b c ≡ false
-not_at b c d low = let range = digit_from_value b d in ne_eqb b c (λ e. omega arith)
+-- an element in front of parts stands in front of the first of them
+onto-append : {X : Type 0} (x : X) (parts more : List (List X)) → is_there parts ≡ true
+    → onto_first x (parts ++ more) ≡ onto_first x parts ++ more
+onto-append x [] more e = cc
+onto-append x (part ∷ parts) more e = refl
 
--- a number and a line feed are the first line
-digits_part : (number rest : List ℕ) → AllDigits 10 number
-    → slice_split (λ b. eqb b 10) (number ++ 10 ∷ rest) ≡ number ∷ slice_split (λ b. eqb b 10) rest
-digits_part [] rest d = refl
-digits_part (b ∷ bs) rest d = rw (not_at b 10 d.0 (omega arith)) (ap (onto_first b) (digits_part bs rest d.1))
+-- the step of the next lemma, by whether the first element separates
+split_by : {X : Type 0} (t : Bool) (x : X) (all parts more : List (List X)) → is_there parts ≡ true
+    → all ≡ parts ++ more
+    → cond t ([] ∷ all) (onto_first x all) ≡ cond t ([] ∷ parts) (onto_first x parts) ++ more
+split_by true x all parts more there e = ap (λ l. [] ∷ l) e
+split_by false x all parts more there e = ap (λ l. onto_first x l) e ∙ onto-append x parts more there
 
--- a number is one word
-pub digits_word : (number : List ℕ) → AllDigits 10 number → slice_split separates_words number ≡ number ∷ []
-digits_word [] d = refl
-digits_word (b ∷ bs) d =
-    rw (not_at b 32 d.0 (omega arith), not_at b 9 d.0 (omega arith), not_at b 13 d.0 (omega arith))
-    (ap (onto_first b) (digits_word bs d.1))
+-- the parts of two lists with a separator between are those of the first and those of the second
+pub split-joined : {X : Type 0} (p : X → Bool) (xs ys : List X) (y : X) → p y ≡ true
+    → slice_split p (xs ++ y ∷ ys) ≡ slice_split p xs ++ slice_split p ys
+split-joined p [] ys y e = rw e refl
+split-joined p (x ∷ xs) ys y e =
+    split_by (p x) x (slice_split p (xs ++ y ∷ ys)) (slice_split p xs) (slice_split p ys) (parts_there p xs)
+    (split-joined p xs ys y e)
 
--- no byte begins a comment
-abbrev pub IsPlain : List ℕ → Type 0
-IsPlain [] = ⊤
-IsPlain (b ∷ bs) = (eqb b 35 ≡ false) × IsPlain bs
-
--- digits are plain
-pub plain_digits : (number : List ℕ) → AllDigits 10 number → IsPlain number
-plain_digits [] d = tt
-plain_digits (b ∷ bs) d = (not_at b 35 d.0 (omega arith), plain_digits bs d.1)
-
--- plain bytes behind plain bytes are plain
-pub plain_more : (xs ys : List ℕ) → IsPlain xs → IsPlain ys → IsPlain (xs ++ ys)
-plain_more [] ys p q = q
-plain_more (x ∷ xs) ys p q = (p.0, plain_more xs ys p.1 q)
+-- ---- the words of a text
 
 one_more : (n : ℕ) → 1 + n ≡ suc n
 one_more n = omega arith
 
--- plain bytes have no comment
-pub no_comment : (line : List ℕ) → IsPlain line → without_comment line ≡ line
-no_comment [] p = refl
-no_comment (b ∷ bs) p = rw (p.0, one_more) (ap (λ l. b ∷ l) (no_comment bs p.1))
+-- a line without a number sign has no comment
+no_comment : (line : List ℕ) → list_any (λ b. eqb b 35) line ≡ false → without_comment line ≡ line
+no_comment [] e = refl
+no_comment (b ∷ bs) e =
+    let no = or_parts (eqb b 35) (list_any (λ b. eqb b 35) bs) e in
+    rw (no.0, one_more) (ap (λ l. b ∷ l) (no_comment bs no.1))
 
--- ---- the number of a key
+-- texts without such a byte, one behind the other
+lack-append : (p : ℕ → Bool) (xs ys : List ℕ) → list_any p xs ≡ false → list_any p ys ≡ false
+    → list_any p (xs ++ ys) ≡ false
+lack-append p xs ys e f = list_any-append p xs ys ∙ or_from (list_any p xs) (list_any p ys) e f
 
--- a key of one digit
-pub key_of_one : (text : List ℕ) (x key : ℕ) → 4 ≤ length text → get_or text 1 0 ≡ 10
-    → digit_value (get_or text 0 0) ≡ x → x < 10 → key ≡ x → x < 128
-    → BeginsWithKey text key (take (length text - 2) (drop 2 text))
-key_of_one text x key long feed value small same low = (
-  get_or text 0 0 ∷ [],
-  byte_at text 0 _ (omega arith) refl
-      ∙ ap (λ l. get_or text 0 0 ∷ l) (byte_at text 1 10 (omega arith) feed ∙ ap (λ l. 10 ∷ l) (sym (to_end text 2))),
-  ((omega (arith, value, small), tt), omega (arith, value, same)),
-  refl,
-  omega arith,
-)
+-- the text stands in one line, with no comment, and has these words
+pub record HasWords (text : List ℕ) (parts : List (List ℕ)) : Type 0 where
+  pub feed : has_line_feed text ≡ false
+  pub plain : list_any (λ b. eqb b 35) text ≡ false
+  pub words : words_in text ≡ parts
 
--- a key of two digits
-pub key_of_two : (text : List ℕ) (x y key : ℕ) → 4 ≤ length text → get_or text 2 0 ≡ 10
-    → digit_value (get_or text 0 0) ≡ x → x < 10 → digit_value (get_or text 1 0) ≡ y → y < 10 → key ≡ x * 10 + y
-    → x * 10 + y < 128
-    → BeginsWithKey text key (take (length text - 3) (drop 3 text))
-key_of_two text x y key long feed value small value-2 small-2 same low = (
-  get_or text 0 0 ∷ get_or text 1 0 ∷ [],
-  byte_at text 0 _ (omega arith) refl
-      ∙ ap (λ l. get_or text 0 0 ∷ l) (byte_at text 1 _ (omega arith) refl
-      ∙ ap (λ l. get_or text 1 0 ∷ l)
-      (byte_at text 2 10 (omega arith) feed ∙ ap (λ l. 10 ∷ l) (sym (to_end text 3)))),
-  ((omega (arith, value, small), (omega (arith, value-2, small-2), tt)), omega (arith, value, value-2, same)),
-  refl,
-  omega arith,
-)
+-- as a line it has these words
+pub line_words : (text : List ℕ) (words : List (List ℕ)) → HasWords text words → words_of text ≡ words
+line_words text words h = ap words_in (no_comment text h.plain) ∙ h.words
 
--- a key of three digits
-pub key_of_three : (text : List ℕ) (x y key : ℕ) → 4 ≤ length text → get_or text 3 0 ≡ 10 → get_or text 0 0 ≡ 49
-    → digit_value (get_or text 1 0) ≡ x → x < 10 → digit_value (get_or text 2 0) ≡ y → y < 10 → key ≡ 100 + x * 10 + y
-    → 100 + x * 10 + y < 128
-    → BeginsWithKey text key (take (length text - 4) (drop 4 text))
-key_of_three text x y key long feed one value small value-2 small-2 same low = (
-  49 ∷ get_or text 1 0 ∷ get_or text 2 0 ∷ [],
-  byte_at text 0 49 (omega arith) one
-      ∙ ap (λ l. 49 ∷ l) (byte_at text 1 _ (omega arith) refl
-      ∙ ap (λ l. get_or text 1 0 ∷ l) (byte_at text 2 _ (omega arith) refl
-      ∙ ap (λ l. get_or text 2 0 ∷ l)
-      (byte_at text 3 10 (omega arith) feed ∙ ap (λ l. 10 ∷ l) (sym (to_end text 4))))),
-  (
-    (omega arith, (omega (arith, value, small), (omega (arith, value-2, small-2), tt))),
-    omega (arith, value, value-2, same),
-  ),
-  refl,
-  omega arith,
-)
+-- a text without a byte that separates is one word
+pub one_word : (word : List ℕ) → has_line_feed word ≡ false → list_any (λ b. eqb b 35) word ≡ false
+    → list_any separates_words word ≡ false → is_there word ≡ true → HasWords word (word ∷ [])
+unfolding words_in
+one_word word feed plain whole there = record {
+  feed = feed;
+  plain = plain;
+  words = rw (one_part separates_words word whole, there) refl;
+}
 
--- ---- the line
+-- two texts with a blank between have the words of both
+pub words-joined : (a b : List ℕ) (xs ys : List (List ℕ)) → HasWords a xs → HasWords b ys
+    → HasWords ((a ++ 32 ∷ []) ++ b) (xs ++ ys)
+unfolding words_in
+words-joined a b xs ys h k = record {
+  feed = lack-append _ (a ++ 32 ∷ []) b (lack-append _ a (32 ∷ []) h.feed refl) k.feed;
+  plain = lack-append _ (a ++ 32 ∷ []) b (lack-append _ a (32 ∷ []) h.plain refl) k.plain;
+  words = rw (append_assoc a (32 ∷ []) b, split-joined separates_words a b 32 refl, filter-append) (cc (h.words, k.words));
+}
 
--- a word of a command and a number, with a blank between
-pub line_words : (number : List ℕ) → AllDigits 10 number → is_there number ≡ true
-    → filter is_there (slice_split separates_words number) ≡ number ∷ []
-line_words number d there = rw (digits_word number d, there) refl
+-- a digit is none of the bytes below the digits
+not_at : (b c : ℕ) → digit_value b < 10 → c < 48 → eqb b c ≡ false
+not_at b c d low = let range = digit_from_value b d in ne_eqb b c (λ e. omega arith)
 
--- a plain line that presses a key
-pub down_line : (text rest after : List ℕ) (key : ℕ) → text ≡ codes "down " ++ rest → BeginsWithKey rest key after
-    → BeginsWithEvent text (Down key) after
-unfolding parts_of words_in
-down_line text rest after key begins (number, whole, digits, there, low) = (
-  codes "down " ++ number,
-  rw (begins, whole, digits_part number after digits.0) refl,
-  (
-    (
-      codes "down" ∷ number ∷ [],
+-- digits lack what no digit is
+digits_lack : (p : ℕ → Bool) → ((b : ℕ) → digit_value b < 10 → p b ≡ false) → (number : List ℕ)
+    → AllDigits 10 number → list_any p number ≡ false
+digits_lack p none [] d = refl
+digits_lack p none (b ∷ bs) d = or_from (p b) (list_any p bs) (none b d.0) (digits_lack p none bs d.1)
+
+-- a number is one word
+pub number_words : (number : List ℕ) → AllDigits 10 number → is_there number ≡ true → HasWords number (number ∷ [])
+number_words number digits there =
+    one_word number (digits_lack _ (λ b d. not_at b 10 d (omega arith)) number digits)
+    (digits_lack _ (λ b d. not_at b 35 d (omega arith)) number digits)
+    (digits_lack separates_words
+    (λ b d. rw (not_at b 32 d (omega arith), not_at b 9 d (omega arith), not_at b 13 d (omega arith)) refl) number digits)
+    there
+
+-- ---- commands that name a key
+
+-- the word, in front of the number of a key, tells of this
+pub record NamesKey (word : List ℕ) (what : ℕ → What) : Type 0 where
+  pub words : HasWords word (word ∷ [])
+  pub tells : (number : List ℕ) (k : ℕ) → IsNumber number k → Tells (word ∷ number ∷ []) (what k)
+  pub key : (k : ℕ) → key_of (what k) ≡ k
+
+pub down_names : NamesKey (codes "down") (λ k. Down k)
+down_names =
+    record { words = one_word _ refl refl refl refl; tells = λ number k is. (number, refl, is); key = λ k. refl }
+
+pub repeat_names : NamesKey (codes "repeat") (λ k. Repeat k)
+repeat_names =
+    record { words = one_word _ refl refl refl refl; tells = λ number k is. (number, refl, is); key = λ k. refl }
+
+pub up_names : NamesKey (codes "up") (λ k. Up k)
+up_names =
+    record { words = one_word _ refl refl refl refl; tells = λ number k is. (number, refl, is); key = λ k. refl }
+
+-- ---- the line at the front of a text
+
+-- the bytes at the front of a text
+pub bytes : (text : List ℕ) → 4 ≤ length text
+    → (text ≡ get_or text 0 0 ∷ drop 1 text) × (drop 1 text ≡ get_or text 1 0 ∷ drop 2 text)
+    × (drop 2 text ≡ get_or text 2 0 ∷ drop 3 text) × (drop 3 text ≡ get_or text 3 0 ∷ drop 4 text)
+bytes (a ∷ b ∷ c ∷ d ∷ rest) long = (refl, refl, refl, refl)
+bytes _ long = absurd (omega arith)
+
+-- a number before a line feed is that of a key
+pub key_at : (text number : List ℕ) (n key : ℕ) → text ≡ number ++ 10 ∷ drop n text → is_there number ≡ true
+    → IsNumber number key → key < 128 → BeginsWithKey text key (take (length text - n) (drop n text))
+key_at text number n key front there is low =
+    (number, front ∙ ap (λ l. number ++ 10 ∷ l) (sym (to_end text n)), is, there, low)
+
+-- a line of a command and the number of a key
+pub key_line : (word : List ℕ) (what : ℕ → What) (text rest after : List ℕ) (key : ℕ) → NamesKey word what
+    → text ≡ (word ++ 32 ∷ []) ++ rest → BeginsWithKey rest key after → BeginsWithEvent text (what key) after
+unfolding parts_of
+key_line word what text rest after key names begins (number, whole, digits, there, low) =
+    let line : HasWords ((word ++ 32 ∷ []) ++ number) (word ∷ number ∷ []) =
+    words-joined word number (word ∷ []) (number ∷ []) names.words (number_words number digits.0 there) in (
+      (word ++ 32 ∷ []) ++ number,
       rw (
-        no_comment (codes "down " ++ number) (refl, (refl, (refl, (refl, (refl, plain_digits number digits.0))))),
-        digits_word number digits.0,
-        there,
-      )
-          refl,
-      (number, refl, digits),
-    ),
-    low,
-  ),
-)
-
--- a plain line that releases a key
-pub up_line : (text rest after : List ℕ) (key : ℕ) → text ≡ codes "up " ++ rest → BeginsWithKey rest key after
-    → BeginsWithEvent text (Up key) after
-unfolding parts_of words_in
-up_line text rest after key begins (number, whole, digits, there, low) = (
-  codes "up " ++ number,
-  rw (begins, whole, digits_part number after digits.0) refl,
-  (
-    (
-      codes "up" ∷ number ∷ [],
-      rw (
-        no_comment (codes "up " ++ number) (refl, (refl, (refl, plain_digits number digits.0))),
-        digits_word number digits.0,
-        there,
-      )
-          refl,
-      (number, refl, digits),
-    ),
-    low,
-  ),
-)
-
--- a plain line that repeats a key
-pub repeat_line : (text rest after : List ℕ) (key : ℕ) → text ≡ codes "repeat " ++ rest → BeginsWithKey rest key after
-    → BeginsWithEvent text (Repeat key) after
-unfolding parts_of words_in
-repeat_line text rest after key begins (number, whole, digits, there, low) = (
-  codes "repeat " ++ number,
-  rw (begins, whole, digits_part number after digits.0) refl,
-  (
-    (
-      codes "repeat" ∷ number ∷ [],
-      rw (
-        no_comment (codes "repeat " ++ number)
-            (refl, (refl, (refl, (refl, (refl, (refl, (refl, plain_digits number digits.0))))))),
-        digits_word number digits.0,
-        there,
-      )
-          refl,
-      (number, refl, digits),
-    ),
-    low,
-  ),
-)
+        begins,
+        whole,
+        ← append_assoc (word ++ 32 ∷ []) number (10 ∷ after),
+        split-joined (λ b. eqb b 10) ((word ++ 32 ∷ []) ++ number) after 10 refl,
+        one_part (λ b. eqb b 10) ((word ++ 32 ∷ []) ++ number) line.feed,
+      ) refl,
+      ((word ∷ number ∷ [], line_words _ _ line, names.tells number key digits), rw names.key low),
+    )
 
 -- a text is its front and what is left
 pub rest_of : (text : List ℕ) (n : ℕ) (front : List ℕ) → text ≡ front ++ drop n text

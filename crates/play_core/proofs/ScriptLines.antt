@@ -6,9 +6,12 @@ use Rattle.play_core.proofs.Common.{onto_first, position, position_or_len, take_
 use Rattle.play_core.proofs.Common.{count_by-le-length, unwrap_or, position-Some, What, Down, Repeat, Up, Reset, Load}
 use Rattle.play_core.proofs.Common.{Sent, ScriptFault, is_there, parts_of, words_of, lines_of, AreEvents, IsEvent}
 use Rattle.play_core.proofs.Common.{Sends, Tells, mark_of, IsScriptFault, IsFaultOf, IsReadTo, BeginsWithEvent}
+use Rattle.play_core.proofs.Common.{IsScript}
 use Rattle.std.proofs.Common.{◌==◌, Bor, add-one, length-take-le, take_all, length-drop}
-use Rattle.std.proofs.lemmas.List.{get_or-map}
-use Rattle.std.proofs.lemmas.List.Splits.{length-slice_split, slice_split_first}
+use Rattle.std.proofs.lemmas.List.{get_or-map, drop-drop}
+use Rattle.std.proofs.lemmas.List.Splits.{length-slice_split, slice_split_first, slice_split_none}
+use Rattle.std.proofs.lemmas.List.Sums.{fails_before_first, length-filter}
+use Rattle.std.proofs.lemmas.Slice.Zip.{all_zipped_more, AllZip-long}
 use Rattle.std.specs.Option.{MatchOption}
 use Rattle.play_core.proofs.LineWords.{unwrap_position}
 use Rattle.play_core.specs.Scripts.{RunsOut}
@@ -51,14 +54,6 @@ module _ {script text : List ℕ} {n : ℕ} (part : IsPart script text n) where
   length_before : length (take n (lines_of script)) ≡ n
   length_before = length-take-le n (lines_of script) (omega (arith, within_lines))
 
--- one more pair of related elements
-zip_more : {A B : Type 0} (R : A → B → Type 0) (xs : List A) (ys : List B) (x : A) (y : B) → AllZip R xs ys → R x y
-    → AllZip R (xs ++ x ∷ []) (ys ++ y ∷ [])
-zip_more R [] [] x y h r = (r, tt)
-zip_more R [] (b ∷ ys) x y h r = absurd h
-zip_more R (a ∷ xs) [] x y h r = absurd h
-zip_more R (a ∷ xs) (b ∷ ys) x y h r = (h.0, zip_more R xs ys x y h.1 r)
-
 -- a command has a word
 command_there : (command : List (List ℕ)) (w : What) → Tells command w → is_there command ≡ true
 command_there command (Down k) h = ap is_there h.1
@@ -95,7 +90,7 @@ event_more lines words sent s h event =
     let there : filter is_there (words ∷ []) ≡ words ∷ [] = rw (event_there words s event.0) refl in
     subst (λ l. AllZip IsEvent l (sent ++ s ∷ []))
     (sym (filter-append is_there lines (words ∷ []) ∙ ap (λ l. filter is_there lines ++ l) there))
-    (zip_more IsEvent (filter is_there lines) sent words s h event)
+    (all_zipped_more IsEvent (filter is_there lines) sent words s h event)
 
 -- the fault of a line whose lines before it are events
 pub fault_at : (script text : List ℕ) (n : ℕ) (sent : List Sent) (fault : ScriptFault) → IsPart script text n
@@ -138,38 +133,12 @@ abbrev pub bytes_left : Option (Bor (List ℕ)) → ℕ
 bytes_left None = 0
 bytes_left (Some rest) = length rest.now + 1
 
--- the step of the next lemma, by whether the first byte is a line feed
-whole_at : (t : Bool) (b : ℕ) (bs : List ℕ) → eqb b 10 ≡ t
-    → (position_or_len (λ b. eqb b 10) bs ≡ length bs → slice_split (λ b. eqb b 10) bs ≡ bs ∷ [])
-    → position_or_len (λ b. eqb b 10) (b ∷ bs) ≡ length (b ∷ bs) → slice_split (λ b. eqb b 10) (b ∷ bs) ≡ (b ∷ bs) ∷ []
-whole_at true b bs e rest h =
-    let none : 0 ≡ suc (length bs) = rw e at h in
-    absurd (omega arith)
-whole_at false b bs e rest h =
-    let more : 1 + position_or_len (λ b. eqb b 10) bs ≡ suc (length bs) = rw e at h in
-    rw e (ap (onto_first b) (rest (omega arith)))
-
--- a text without a line feed is one line
-whole_part : (text : List ℕ) → position_or_len (λ b. eqb b 10) text ≡ length text
-    → slice_split (λ b. eqb b 10) text ≡ text ∷ []
-whole_part [] h = refl
-whole_part (b ∷ bs) h = whole_at (eqb b 10) b bs refl (whole_part bs) h
-
 -- no line feed is left
 pub last_part : (text : List ℕ) → None ≡ position (λ b. b == 10) text → parts_of text ≡ text ∷ []
 unfolding parts_of
 last_part text e =
-    whole_part text (sym (unwrap_position (λ b. eqb b 10) text) ∙ ap (λ o. unwrap_or o (length text)) (sym e))
-
--- one more byte is dropped from what is left
-drop_more : (text : List ℕ) (n : ℕ) → drop (n + 1) text ≡ drop 1 (drop n text)
-drop_more text n = rw add-one (dropped text n)
-  where
-    dropped : (text : List ℕ) (n : ℕ) → drop (suc n) text ≡ drop 1 (drop n text)
-    dropped [] zero = refl
-    dropped [] (suc n) = refl
-    dropped (b ∷ bs) zero = refl
-    dropped (b ∷ bs) (suc n) = dropped bs n
+    let end = sym (unwrap_position (λ b. eqb b 10) text) ∙ ap (λ o. unwrap_or o (length text)) (sym e) in
+    slice_split_none (λ b. eqb b 10) text (λ k d lt. fails_before_first (λ b. eqb b 10) text k d (omega arith))
 
 -- the part before the first line feed
 pub first_part : (text : List ℕ) (end : ℕ) → position (λ b. b == 10) text ≡ Some end
@@ -181,7 +150,7 @@ first_part text end e =
     ap (λ o. unwrap_or o (length text)) (sym e) ∙ unwrap_position (λ b. eqb b 10) text in
     slice_split_first (λ b. eqb b 10) text 0 (omega arith)
     ∙ ap (λ n. take n text ∷ parts_of (drop (n + 1) text)) (sym same)
-    ∙ ap (λ l. take end text ∷ parts_of l) (drop_more text end)
+    ∙ ap (λ l. take end text ∷ parts_of l) (sym (drop-drop 1 end text))
 
 -- what is left begins with the element of that index
 drop_is : {A : Type 0} (xs : List A) (n : ℕ) (y : A) (ys : List A) → drop n xs ≡ y ∷ ys
@@ -197,13 +166,6 @@ pub next_part : (script line : List ℕ) (n : ℕ) (rest : List (List ℕ)) → 
 next_part script line n rest e =
     let at = drop_is (parts_of script) n line rest e in
     (record { within = at.0; same = at.1 }, rw add-one at.2)
-
--- what splitting off a line leaves
-pub after_split : (text line : List ℕ) (following : Option (Bor (List ℕ)))
-    → MatchOption following (parts_of text ≡ line ∷ []) (λ rest. parts_of text ≡ line ∷ parts_of rest.now)
-    → parts_of text ≡ line ∷ parts_left following
-after_split text line None h = h
-after_split text line (Some rest) h = h
 
 -- no part is left
 pub no_part : (script : List ℕ) (n : ℕ) → drop n (parts_of script) ≡ [] → take n (lines_of script) ≡ lines_of script
@@ -268,8 +230,41 @@ read-out script text rest number sent what read told =
 
 -- what was read further, where the number of lines is counted by the events
 pub read-on : (script text rest : List ℕ) (number before after : ℕ) (sent sent' : List Sent)
-    → AreEvents (take number (lines_of script)) sent → drop number (parts_of script) ≡ parts_of text
+    (left : Option (Bor (List ℕ)))
+    → AreEvents (take number (lines_of script)) sent → drop number (parts_of script) ≡ parts_left left
+    → parts_left left ≡ parts_of text
     → (IsReadTo script number sent text → IsReadTo script (number + (length sent' - length sent)) sent' rest)
     → after ≡ length sent' → before ≡ length sent → IsReadTo script (number + (after - before)) sent' rest
-read-on script text rest number before after sent sent' events parts further a b =
-    rw (a, b) (further (record { events = events; parts = parts }))
+read-on script text rest number before after sent sent' left events parts same further a b =
+    rw (a, b) (further (record { events = events; parts = parts ∙ same }))
+
+-- what splitting off a line leaves
+after_split : (text line : List ℕ) (following : Option (Bor (List ℕ)))
+    → MatchOption following (parts_of text ≡ line ∷ []) (λ rest. parts_of text ≡ line ∷ parts_of rest.now)
+    → parts_of text ≡ line ∷ parts_left following
+after_split text line None h = h
+after_split text line (Some rest) h = h
+
+-- the line that is split off is the next one, and what is left follows it
+pub split-next : (script text line : List ℕ) (number : ℕ) (sent : List Sent) (following : Option (Bor (List ℕ)))
+    → IsReadTo script number sent text
+    → MatchOption following (parts_of text ≡ line ∷ []) (λ rest. parts_of text ≡ line ∷ parts_of rest.now)
+    → IsPart script line number × (drop (number + 1) (parts_of script) ≡ parts_left following)
+split-next script text line number sent following read split =
+    next_part script line number _ (read.parts ∙ after_split text line following split)
+
+-- ---- how many events a script has
+
+-- a script has at most one line more than bytes
+lines_few : (script : List ℕ) → length (lines_of script) ≤ length script + 1
+unfolding lines_of
+lines_few script = let lines = few_lines script in rw length-map lines
+
+-- a script has at most one event more than bytes
+pub events_few : (script : List ℕ) (sent : List Sent) → IsScript script sent → length sent ≤ length script + 1
+events_few script sent h =
+    let same = AllZip-long IsEvent (filter is_there (lines_of script)) sent h in
+    let kept = length-filter is_there (lines_of script) in
+    let few = count_by-le-length is_there (lines_of script) in
+    let all = lines_few script in
+    omega arith

@@ -4,14 +4,15 @@ use Rattle.play_core.proofs.Common.{Option, None, Some, Result, Ok, Err, refl, s
 use Rattle.play_core.proofs.Common.{⊤, AllDigits, digits_value, lt-ltb, ltb-true, ltb-false, le-ltb, LineFault, Form}
 use Rattle.play_core.proofs.Common.{Key, What, Down, Repeat, Up, Reset, Load, Sent, IsNumber, Tells, Sends, mark_of}
 use Rattle.play_core.proofs.Common.{key_of, IsEvent, HasBadKey, HasBadForm, reading_of_lost, reading}
-use Rattle.std.proofs.Common.{◌≢◌, ◌↔◌, ⊎_elim}
+use Rattle.std.proofs.Common.{◌≢◌, ◌↔◌}
 use Rattle.std.specs.Prelude.{IsSome, IfSome}
 use Rattle.std.specs.Option.{ok_or}
 use Rattle.std.specs.Str.{bytes_eq}
-use Rattle.std.proofs.lemmas.Bool.{and_from, and_parts, cases_lt, not-false}
+use Rattle.std.proofs.lemmas.Bool.{and_from, and_parts, cond_both, false_from_ne_true, not-false}
 use Rattle.std.proofs.lemmas.Slice.Eq.{bytes_eq-Decides}
 use Rattle.keymap_core.specs.Numbers.{key_count}
 use Rattle.play_core.specs.Inner.Readings.{all_digits, key_in, of_key, what_with_key, what_alone, what_of, sent_by}
+use Rattle.play_core.proofs.PlainLines.{NamesKey, down_names, repeat_names, up_names}
 
 -- digits pass the test for digits
 digits_pass : (word : List ℕ) → AllDigits 10 word → all_digits word ≡ true
@@ -32,18 +33,13 @@ key_of_number : (word : List ℕ) → AllDigits 10 word → key_in word ≡ judg
 unfolding key_in
 key_of_number word h = rw (digits_pass word h) refl
 
--- a word that is no number is read as a fault, by the test for digits
-none_at : (word : List ℕ) (b : Bool) → all_digits word ≡ b → (AllDigits 10 word → ⊥) → key_in word ≡ Err Form
-unfolding key_in
-none_at word true e h = absurd (h (digits_from_pass word e))
-none_at word false e h = rw e refl
-
 -- a word that is no number is read as a fault
 pub key_of_none : (word : List ℕ) → (AllDigits 10 word → ⊥) → key_in word ≡ Err Form
-key_of_none word h = none_at word (all_digits word) refl h
+unfolding key_in
+key_of_none word h = rw (false_from_ne_true (all_digits word) (λ e. h (digits_from_pass word e))) refl
 
 large : (n : ℕ) → (n < 128 → ⊥) → 128 ≤ n
-large n h = ⊎_elim (λ low. absurd (h low)) (λ high. high) (cases_lt n 128)
+large n h = grind (arith, h)
 
 -- where the number was made a key
 pub key_of_some : (word : List ℕ) (n : ℕ) (key : Option ℕ) → AllDigits 10 word → n ≡ min 128 (digits_value 10 word)
@@ -79,28 +75,17 @@ of_key_judged : (what : ℕ → What) (b : Bool) (k : ℕ)
 of_key_judged what true k = refl
 of_key_judged what false k = refl
 
--- down and a number are read as that press
-read_down : (number : List ℕ) (k : ℕ) → IsNumber number k → what_of (codes "down") (number ∷ []) ≡ judged_what (Down k)
-unfolding what_of what_with_key
-read_down number k h = rw (key_of_number number h.0, ← h.1) (of_key_judged (λ k. Down k) (ltb k 128) k)
-
--- repeat and a number are read as that repeat
-read_repeat : (number : List ℕ) (k : ℕ) → IsNumber number k
-    → what_of (codes "repeat") (number ∷ []) ≡ judged_what (Repeat k)
-unfolding what_of what_with_key
-read_repeat number k h = rw (key_of_number number h.0, ← h.1) (of_key_judged (λ k. Repeat k) (ltb k 128) k)
-
--- up and a number are read as that release
-read_up : (number : List ℕ) (k : ℕ) → IsNumber number k → what_of (codes "up") (number ∷ []) ≡ judged_what (Up k)
-unfolding what_of what_with_key
-read_up number k h = rw (key_of_number number h.0, ← h.1) (of_key_judged (λ k. Up k) (ltb k 128) k)
+-- a number is read as the key of an event
+number_read : (what : ℕ → What) (number : List ℕ) (k : ℕ) → IsNumber number k
+    → of_key what (key_in number) ≡ cond (ltb k 128) (Ok (what k)) (Err Key)
+number_read what number k h = rw (key_of_number number h.0, ← h.1) (of_key_judged what (ltb k 128) k)
 
 -- the words of a command are read as what they tell
 what_read : (words : List (List ℕ)) (w : What) → Tells words w → what_in words ≡ judged_what w
-unfolding what_of what_alone
-what_read words (Down k) h = ap what_in h.1 ∙ read_down h.0 k h.2
-what_read words (Repeat k) h = ap what_in h.1 ∙ read_repeat h.0 k h.2
-what_read words (Up k) h = ap what_in h.1 ∙ read_up h.0 k h.2
+unfolding what_of what_with_key what_alone
+what_read words (Down k) h = ap what_in h.1 ∙ number_read (λ k. Down k) h.0 k h.2
+what_read words (Repeat k) h = ap what_in h.1 ∙ number_read (λ k. Repeat k) h.0 k h.2
+what_read words (Up k) h = ap what_in h.1 ∙ number_read (λ k. Up k) h.0 k h.2
 what_read words Reset h = ap what_in h
 what_read words Load h = ap what_in h
 
@@ -160,16 +145,10 @@ event_read words s h =
 -- ---- what is read as an event tells of it
 
 -- what holds for both branches of a comparison with a name
-choice : {A : Type 0} (P : A → Type 0) (word name : List ℕ) (x y : A) (b : Bool) → bytes_eq word name ≡ b
-    → (word ≡ name → P x) → P y
-    → P (cond b x y)
-choice P word name x y true e is other = is ((bytes_eq-Decides word name).0 e)
-choice P word name x y false e is other = other
-
--- by whether the word is this one
 chosen : {A : Type 0} (P : A → Type 0) (word name : List ℕ) (x y : A) → (word ≡ name → P x) → P y
     → P (cond (bytes_eq word name) x y)
-chosen P word name x y is other = choice P word name x y (bytes_eq word name) refl is other
+chosen P word name x y is other =
+    cond_both (bytes_eq word name) x y P (λ e. is ((bytes_eq-Decides word name).0 e)) (λ _. other)
 
 -- what a reading says of the words, but that a bad form is one
 abbrev IsKey : List ℕ → Result ℕ LineFault → Type 0
@@ -177,24 +156,15 @@ IsKey number (Ok k) = IsNumber number k × (k < 128)
 IsKey number (Err Key) = (k : ℕ) × IsNumber number k × (key_count ≤ k)
 IsKey number (Err Form) = ⊤
 
--- digits are read as a key, or as no key, by their value
-key_at : (number : List ℕ) (b : Bool) → all_digits number ≡ true → ltb (digits_value 10 number) 128 ≡ b
-    → IsKey number (cond b (Ok (digits_value 10 number)) (Err Key))
-key_at number true d e = ((digits_from_pass number d, refl), ltb-true _ _ e)
-key_at number false d e =
-    let high = ltb-false _ _ e in
-    (digits_value 10 number, (digits_from_pass number d, refl), omega arith)
-
--- a word is a key, no key or no number, by the test for digits
-key_if : (number : List ℕ) (b : Bool) → all_digits number ≡ b
-    → IsKey number (cond b (cond (ltb (digits_value 10 number) 128) (Ok (digits_value 10 number)) (Err Key)) (Err Form))
-key_if number true e = key_at number (ltb (digits_value 10 number) 128) e refl
-key_if number false e = tt
-
 -- what a word is read as is the key that it names, or its fault
 key_is : (number : List ℕ) → IsKey number (key_in number)
 unfolding key_in
-key_is number = key_if number (all_digits number) refl
+key_is number =
+    cond_both (all_digits number) _ _ (IsKey number)
+    (λ d. let is : IsNumber number (digits_value 10 number) = (digits_from_pass number d, refl) in
+    cond_both (ltb (digits_value 10 number) 128) _ _ (IsKey number) (λ low. (is, ltb-true _ _ low))
+    (λ high. (digits_value 10 number, is, ltb-false _ _ high)))
+    (λ _. tt)
 
 -- what a reading says of a command, but that a bad form is one
 abbrev IsWhat : List (List ℕ) → Result What LineFault → Type 0
@@ -203,29 +173,23 @@ IsWhat words (Err Key) = (w : What) × Tells words w × (key_count ≤ key_of w)
 IsWhat words (Err Form) = ⊤
 
 -- a word and a key tell an event, or have the key's fault
-keyed : (words : List (List ℕ)) (number : List ℕ) (what : ℕ → What) (r : Result ℕ LineFault) → IsKey number r
-    → ((k : ℕ) → IsNumber number k → Tells words (what k)) → ((k : ℕ) → key_of (what k) ≡ k)
-    → IsWhat words (of_key what r)
-keyed words number what (Ok k) h tells key = (tells k h.0, subst (λ n. n < 128) (sym (key k)) h.1)
-keyed words number what (Err Key) h tells key =
-    (what h.0, tells h.0 h.1, subst (λ n. key_count ≤ n) (sym (key h.0)) h.2)
-keyed words number what (Err Form) h tells key = tt
+keyed : (name number : List ℕ) (what : ℕ → What) (r : Result ℕ LineFault) → NamesKey name what → IsKey number r
+    → IsWhat (name ∷ number ∷ []) (of_key what r)
+keyed name number what (Ok k) names h = (names.tells number k h.0, rw names.key h.1)
+keyed name number what (Err Key) names h = (what h.0, names.tells number h.0 h.1, rw names.key h.2)
+keyed name number what (Err Form) names h = tt
 
 -- a word and a number are what they are read as
 with_key : (word number : List ℕ) → IsWhat (word ∷ number ∷ []) (what_with_key word number)
 unfolding what_with_key
 with_key word number =
-    let words = word ∷ number ∷ [] in
-    chosen (IsWhat words) word (codes "down") _ _
-    (λ e. keyed words number (λ k. Down k) (key_in number) (key_is number)
-    (λ k n. (number, ap (λ w. w ∷ number ∷ []) e, n)) (λ k. refl))
-    (chosen (IsWhat words) word (codes "repeat") _ _
-    (λ e. keyed words number (λ k. Repeat k) (key_in number) (key_is number)
-    (λ k n. (number, ap (λ w. w ∷ number ∷ []) e, n)) (λ k. refl))
-    (chosen (IsWhat words) word (codes "up") _ _
-    (λ e. keyed words number (λ k. Up k) (key_in number) (key_is number)
-    (λ k n. (number, ap (λ w. w ∷ number ∷ []) e, n)) (λ k. refl))
-    tt))
+    chosen (IsWhat (word ∷ number ∷ [])) word (codes "down") _ _ (λ e. named _ _ e down_names)
+    (chosen (IsWhat (word ∷ number ∷ [])) word (codes "repeat") _ _ (λ e. named _ _ e repeat_names)
+    (chosen (IsWhat (word ∷ number ∷ [])) word (codes "up") _ _ (λ e. named _ _ e up_names) tt))
+  where
+    named : (name : List ℕ) (what : ℕ → What) → word ≡ name → NamesKey name what
+        → IsWhat (word ∷ number ∷ []) (of_key what (key_in number))
+    named name what e names = rw e (keyed name number what (key_in number) names (key_is number))
 
 -- a word alone is what it is read as
 alone : (word : List ℕ) → IsWhat (word ∷ []) (what_alone word)

@@ -7,8 +7,6 @@ use Rattle.play_core.specs.Types.{Modifier, Lock}
 use Rattle.keymap_core.specs.Actions.{modifiers, locks}
 use Rattle.play_core.specs.Written.{event_text, answer_text, line_of, name_if, or_none}
 use Rattle.play_core.specs.Inner.Tails.{number_with, shown_number, IsTail}
-use Rattle.keymap_core.specs.declared.action.Modifier.TheVariants as modifier
-use Rattle.keymap_core.specs.declared.action.Lock.TheVariants as lock
 
 -- truth values of the same number are the same
 same_bits : (xs ys : List Bool) → length xs ≡ length ys → number_with xs ≡ number_with ys → xs ≡ ys
@@ -22,20 +20,7 @@ same_tail : (on still_on : Modifier → Bool) (locked still_locked : Lock → Bo
     → map on modifiers ++ map locked locks ≡ map still_on modifiers ++ map still_locked locks
     → tail_of on locked ≡ tail_of still_on still_locked
 unfolding tail_of names_of_modifiers names_of_locks
-same_tail on still_on locked still_locked e =
-    let m1 : on modifier.LeftShift ≡ still_on modifier.LeftShift = cc in
-    let m2 : on modifier.RightShift ≡ still_on modifier.RightShift = cc in
-    let m3 : on modifier.LeftControl ≡ still_on modifier.LeftControl = cc in
-    let m4 : on modifier.RightControl ≡ still_on modifier.RightControl = cc in
-    let m5 : on modifier.LeftAlt ≡ still_on modifier.LeftAlt = cc in
-    let m6 : on modifier.RightAlt ≡ still_on modifier.RightAlt = cc in
-    let m7 : on modifier.AltShift ≡ still_on modifier.AltShift = cc in
-    let m8 : on modifier.Meta ≡ still_on modifier.Meta = cc in
-    let l1 : locked lock.Caps ≡ still_locked lock.Caps = cc in
-    let l2 : locked lock.Num ≡ still_locked lock.Num = cc in
-    let l3 : locked lock.Scroll ≡ still_locked lock.Scroll = cc in
-    let l4 : locked lock.Alt ≡ still_locked lock.Alt = cc in
-    rw (m1, m2, m3, m4, m5, m6, m7, m8, l1, l2, l3, l4) refl
+same_tail on still_on locked still_locked e = cc
 
 -- a tail is that of each line that tells of the same modifiers and locks
 pub tail_by_number : (on : Modifier → Bool) (locked : Lock → Bool) (number : ℕ) (text : List ℕ)

@@ -5,6 +5,7 @@ use Rattle.play_core.proofs.Common.{ap, subst, ◌∙◌, arith, ◌⊎◌, inl,
 use Rattle.play_core.proofs.Common.{ScriptFault, Sent, reading, lines_of, key_of, AreEvents, IsEvent, HasBadKey}
 use Rattle.play_core.proofs.Common.{HasBadForm, IsScript, IsScriptFault, IsFaultOf}
 use Rattle.play_core.specs.declared.script.ScriptFault.TheVariants.{BadLine, BadKey}
+use Rattle.play_core.proofs.ScriptLines.{event_there}
 use Rattle.play_core.proofs.Sending.{event_read, reading_is, IsReading}
 
 -- ---- a line
@@ -92,130 +93,105 @@ fault_of_script script f h =
     (fault_verdict h.before 0 h.sent h.line h.after f h.events
     (subst (λ k. IsFaultOf h.line k f) (omega arith) h.first))
 
-one_ok : (r : Result (List Sent) ScriptFault) (xs ys : List Sent) → r ≡ Ok xs → r ≡ Ok ys → xs ≡ ys
-one_ok r xs ys e d = cc
-
-one_err : (r : Result (List Sent) ScriptFault) (f g : ScriptFault) → r ≡ Err f → r ≡ Err g → f ≡ g
-one_err r f g e d = cc
-
-one_way : (r : Result (List Sent) ScriptFault) (xs : List Sent) (f : ScriptFault) → r ≡ Ok xs → r ≡ Err f → ⊥
-one_way r xs f e d = cc
-
 -- a script has one list of events
 pub one_list : (script : List ℕ) (xs ys : List Sent) → IsScript script xs → IsScript script ys → xs ≡ ys
-one_list script xs ys h k =
-    one_ok (verdict 0 (lines_of script)) xs ys (script_verdict script xs h) (script_verdict script ys k)
+one_list script xs ys h k = cc (script_verdict script xs h, script_verdict script ys k)
 
 -- a text has one fault as a script
 pub one_fault : (script : List ℕ) (f g : ScriptFault) → IsScriptFault script f → IsScriptFault script g → f ≡ g
-one_fault script f g h k =
-    one_err (verdict 0 (lines_of script)) f g (fault_of_script script f h) (fault_of_script script g k)
+one_fault script f g h k = cc (fault_of_script script f h, fault_of_script script g k)
 
 -- no script has a fault
 pub not_both : (script : List ℕ) (sent : List Sent) (f : ScriptFault) → IsScript script sent → IsScriptFault script f
     → ⊥
-not_both script sent f h k =
-    one_way (verdict 0 (lines_of script)) sent f (script_verdict script sent h) (fault_of_script script f k)
+not_both script sent f h k = cc (script_verdict script sent h, fault_of_script script f k)
 
 -- ---- each script has one
 
--- the first line that is no event, of lines of which so many come before
-record HasFault (n : ℕ) (lines : List (List (List ℕ))) : Type 0 where
-  fault : ScriptFault
+-- the first line that is no event, which has a fault whatever its number is
+record HasFault (lines : List (List (List ℕ))) : Type 0 where
   before : List (List (List ℕ))
   line : List (List ℕ)
   behind : List (List (List ℕ))
   split : lines ≡ before ++ line ∷ behind
   sent : List Sent
   events : AreEvents before sent
-  first : IsFaultOf line (n + length before + 1) fault
+  first : (n : ℕ) → (f : ScriptFault) × IsFaultOf line n f
 
 -- lines are events, or one is the first with a fault
-abbrev Judged : ℕ → List (List (List ℕ)) → Type 0
-Judged n lines = ((sent : List Sent) × AreEvents lines sent) ⊎ HasFault n lines
+abbrev Judged : List (List (List ℕ)) → Type 0
+Judged lines = ((sent : List Sent) × AreEvents lines sent) ⊎ HasFault lines
+
+-- the event of a line in front of the others, if it has one
+abbrev in_front : Option Sent → List Sent → List Sent
+in_front None sent = sent
+in_front (Some s) sent = s ∷ sent
+
+-- a line without a word, or an event, before events
+front-events : (words : List (List ℕ)) (o : Option Sent) (lines : List (List (List ℕ))) (sent : List Sent)
+    → IsReading words (Ok o) → AreEvents lines sent → AreEvents (words ∷ lines) (in_front o sent)
+front-events words None lines sent none h = rw none h
+front-events words (Some s) lines sent is h = rw (event_there words s is.0) (is, h)
+
+-- such a line before others
+front-judged : (words : List (List ℕ)) (o : Option Sent) (lines : List (List (List ℕ))) → IsReading words (Ok o)
+    → Judged lines → Judged (words ∷ lines)
+front-judged words o lines is (inl (sent, h)) = inl (in_front o sent, front-events words o lines sent is h)
+front-judged words o lines is (inr h) = inr (record {
+  before = words ∷ h.before;
+  line = h.line;
+  behind = h.behind;
+  split = ap (λ l. words ∷ l) h.split;
+  sent = in_front o h.sent;
+  events = front-events words o h.before h.sent is h.events;
+  first = h.first;
+})
 
 -- a line that is none
-here : (n : ℕ) (words : List (List ℕ)) (lines : List (List (List ℕ))) (f : ScriptFault) → IsFaultOf words (n + 1) f
-    → HasFault n (words ∷ lines)
-here n words lines f h = record {
-  fault = f;
+here : (words : List (List ℕ)) (lines : List (List (List ℕ))) → ((n : ℕ) → (f : ScriptFault) × IsFaultOf words n f)
+    → Judged (words ∷ lines)
+here words lines first = inr (record {
   before = [];
   line = words;
   behind = lines;
   split = refl;
   sent = [];
   events = tt;
-  first = subst (λ k. IsFaultOf words k f) (omega arith) h;
-}
-
--- a line without a word, or an event, before the others
-skip : (n : ℕ) (lines : List (List (List ℕ))) → Judged (n + 1) lines → Judged n ([] ∷ lines)
-skip n lines (inl h) = inl h
-skip n lines (inr h) = inr (record {
-  fault = h.fault;
-  before = [] ∷ h.before;
-  line = h.line;
-  behind = h.behind;
-  split = ap (λ l. [] ∷ l) h.split;
-  sent = h.sent;
-  events = h.events;
-  first = subst (λ k. IsFaultOf h.line k h.fault) (omega arith) h.first;
-})
-
--- one more line, that is an event
-step : (n : ℕ) (word : List ℕ) (words : List (List ℕ)) (lines : List (List (List ℕ))) (s : Sent)
-    → IsEvent (word ∷ words) s
-    → Judged (n + 1) lines → Judged n ((word ∷ words) ∷ lines)
-step n word words lines s e (inl (sent, h)) = inl (s ∷ sent, (e, h))
-step n word words lines s e (inr h) = inr (record {
-  fault = h.fault;
-  before = (word ∷ words) ∷ h.before;
-  line = h.line;
-  behind = h.behind;
-  split = ap (λ l. (word ∷ words) ∷ l) h.split;
-  sent = s ∷ h.sent;
-  events = (e, h.events);
-  first = subst (λ k. IsFaultOf h.line k h.fault) (omega arith) h.first;
+  first = first;
 })
 
 -- one more line, by its reading
-judged_by : (n : ℕ) (word : List ℕ) (words : List (List ℕ)) (lines : List (List (List ℕ)))
-    (r : Result (Option Sent) LineFault)
-    → IsReading (word ∷ words) r → Judged (n + 1) lines → Judged n ((word ∷ words) ∷ lines)
-judged_by n word words lines (Ok None) h rest = absurd (cons_not word words h)
-  where
-    cons_not : (w : List ℕ) (ws : List (List ℕ)) → w ∷ ws ≡ [] → ⊥
-    cons_not w ws e = cc
-judged_by n word words lines (Ok (Some s)) h rest = step n word words lines s h rest
-judged_by n word words lines (Err Key) h rest = inr (here n (word ∷ words) lines (BadKey (n + 1)) (refl, h))
-judged_by n word words lines (Err Form) h rest = inr (here n (word ∷ words) lines (BadLine (n + 1)) (refl, h))
+judged_by : (words : List (List ℕ)) (lines : List (List (List ℕ))) (r : Result (Option Sent) LineFault)
+    → IsReading words r → Judged lines → Judged (words ∷ lines)
+judged_by words lines (Ok o) h rest = front-judged words o lines h rest
+judged_by words lines (Err Key) h rest = here words lines (λ n. (BadKey n, (refl, h)))
+judged_by words lines (Err Form) h rest = here words lines (λ n. (BadLine n, (refl, h)))
 
 -- any lines are events, or one is the first with a fault
-judged : (lines : List (List (List ℕ))) (n : ℕ) → Judged n lines
-judged [] n = inl ([], tt)
-judged ([] ∷ lines) n = skip n lines (judged lines (n + 1))
-judged ((word ∷ words) ∷ lines) n =
-    judged_by n word words lines (reading (word ∷ words)) (reading_is (word ∷ words) (reading (word ∷ words)) refl)
-    (judged lines (n + 1))
+judged : (lines : List (List (List ℕ))) → Judged lines
+judged [] = inl ([], tt)
+judged (words ∷ lines) = judged_by words lines (reading words) (reading_is words (reading words) refl) (judged lines)
 
 -- what the lines are, a script is
-found : (script : List ℕ) → Judged 0 (lines_of script)
+found : (script : List ℕ) → Judged (lines_of script)
     → ((sent : List Sent) × IsScript script sent) ⊎ ((f : ScriptFault) × IsScriptFault script f)
 found script (inl h) = inl h
-found script (inr h) = inr (
-  h.fault,
-  record {
-    before = h.before;
-    line = h.line;
-    after = h.behind;
-    split = h.split;
-    sent = h.sent;
-    events = h.events;
-    first = subst (λ k. IsFaultOf h.line k h.fault) (omega arith) h.first;
-  },
-)
+found script (inr h) =
+    let first : (f : ScriptFault) × IsFaultOf h.line (length h.before + 1) f = h.first (length h.before + 1) in
+    inr (
+      first.0,
+      record {
+        before = h.before;
+        line = h.line;
+        after = h.behind;
+        split = h.split;
+        sent = h.sent;
+        events = h.events;
+        first = first.1;
+      },
+    )
 
 -- each text is a script or has a fault
 pub one_of_them : (script : List ℕ)
     → ((sent : List Sent) × IsScript script sent) ⊎ ((f : ScriptFault) × IsScriptFault script f)
-one_of_them script = found script (judged (lines_of script) 0)
+one_of_them script = found script (judged (lines_of script))

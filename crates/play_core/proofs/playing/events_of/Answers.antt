@@ -1,4 +1,4 @@
-use Rattle.play_core.proofs.ScriptSizes.{events_few}
+use Rattle.play_core.proofs.ScriptLines.{events_few}
 use Rattle.play_core.proofs.playing.events_of.Goals as goal
 
 pub returns-in-Ok-clause-few : goal.returns-in-Ok-clause-few

@@ -1,11 +1,11 @@
 -- The bearers that are found, and the keys that bear.
-use Rattle.keymap_check.proofs.Common.{zero, suc, ◌≡◌, ◌≢◌, ℕ, ◌<◌, Bool, true, false, not, Option, Some, None, refl}
-use Rattle.keymap_check.proofs.Common.{ap, subst, sym, ◌∙◌, inl, inr, if◌then◌else◌, arith, true≢false, is_some, Lock}
-use Rattle.keymap_check.proofs.Common.{Holding, Cell, Act, Bearer, Nobody, holding_action, MapValue, IsCellOf, Bears}
-use Rattle.keymap_check.proofs.Common.{BearsThroughout, below-suc, IsPlain, IsSteady, IsActing, first_place, cell_of}
-use Rattle.keymap_check.proofs.Common.{is_holding, bears_holding, bearer_with, next_bearer, bearer_below, bearer_of}
-use Rattle.keymap_check.proofs.Common.{IsBearer, ReportValue, bearer_in}
-use Rattle.std.proofs.lemmas.Bool.{cases_Bool}
+use Rattle.keymap_check.proofs.Common.{zero, suc, ◌≡◌, ◌≢◌, ℕ, ◌<◌, true, false, not, Option, Some, None, refl, ap}
+use Rattle.keymap_check.proofs.Common.{subst, sym, ◌∙◌, inl, inr, arith, true≢false, Lock, Holding, Cell, Act, Bearer}
+use Rattle.keymap_check.proofs.Common.{Nobody, holding_action, MapValue, IsCellOf, Bears, BearsThroughout, below-suc}
+use Rattle.keymap_check.proofs.Common.{IsPlain, IsSteady, IsActing, first_place, cell_of, is_holding, bears_holding}
+use Rattle.keymap_check.proofs.Common.{bearer_with, next_bearer, bearer_below, bearer_of, IsBearer, ReportValue}
+use Rattle.keymap_check.proofs.Common.{bearer_in}
+use Rattle.std.proofs.lemmas.Bool.{cond_both}
 use Rattle.std.specs.Option.{is_none}
 use Rattle.keymap_check.specs.Types.{Throughout, Sole, Several}
 use Rattle.keymap_core.specs.Bearers.{IsAlone}
@@ -14,35 +14,22 @@ use Rattle.keymap_check.specs.Computed.{bearer_by, is_steady_by}
 use Rattle.keymap_check.specs.Report.{is_plain_bearer, picks_a_cell, HasPlainBearers, BearersAreComputed}
 use Rattle.keymap_check.specs.Report.{SteadyLocksAreComputed}
 use Rattle.keymap_check.proofs.Same.{is_holding-true, is_holding-refl, not_holding-false, not_acting, acting-not}
-use Rattle.keymap_check.proofs.Places.{first_place-cell, no_place-cell}
+use Rattle.keymap_check.proofs.Places.{first_place-cell, no_place-cell, HasCellOf, has-cell}
 use Rattle.keymap_check.proofs.Bearers.{bearer_below-start, bearer_below-more}
 use Rattle.keymap_core.specs.declared.action.Modifier.TheVariants as modifier
 use Rattle.keymap_core.specs.declared.action.Lock.TheVariants as lock
 use Rattle.keymap_core.specs.declared.action.Holding.TheVariants as holding
 use Rattle.keymap_check.specs.declared.kind.Kind.TheVariants as kind
 
--- a key bears an action exactly if the test says so
-bears_by : (m : MapValue) (k : ℕ) (a : Holding) (o : Option ℕ) → first_place m (kind.Holding a) k ≡ o
-    → is_some o ≡ true → Bears m k a
-bears_by m k a None e t = absurd (true≢false (sym t))
-bears_by m k a (Some p) e t =
-    let s = first_place-cell m (kind.Holding a) k p e in
-    subst (λ x. IsCellOf m k x) (is_holding-true a (cell_of m k p) s.1) s.0
-
 -- a key that passes the test bears the holding action
 pub bears-true : (m : MapValue) (k : ℕ) (a : Holding) → bears_holding m k a ≡ true → Bears m k a
-bears-true m k a e = bears_by m k a (first_place m (kind.Holding a) k) refl e
-
--- where a key bears the holding action, a cell of it is found
-borne_by : (m : MapValue) (k : ℕ) (a : Holding) (o : Option ℕ) → first_place m (kind.Holding a) k ≡ o → Bears m k a
-    → is_some o ≡ true
-borne_by m k a None e b =
-    absurd (true≢false (sym (is_holding-refl a) ∙ no_place-cell m (kind.Holding a) k e (Act (holding_action a)) b))
-borne_by m k a (Some p) e b = refl
+bears-true m k a e =
+    let h : HasCellOf m k (kind.Holding a) = (has-cell m (kind.Holding a) k).0 e in
+    subst (λ x. IsCellOf m k x) (is_holding-true a h.0 h.2) h.1
 
 -- a key that bears the holding action passes the test
 pub true-bears : (m : MapValue) (k : ℕ) (a : Holding) → Bears m k a → bears_holding m k a ≡ true
-true-bears m k a b = borne_by m k a (first_place m (kind.Holding a) k) refl b
+true-bears m k a b = (has-cell m (kind.Holding a) k).1 (Act (holding_action a), b, is_holding-refl a)
 
 -- what is known of the keys below n
 abbrev pub NoneBears : MapValue → Holding → ℕ → Type 0
@@ -60,12 +47,6 @@ pub data BearerAmong (m : MapValue) (a : Holding) (n : ℕ) (b : Bearer) : Type 
   Empty : b ≡ Nobody → NoneBears m a n → BearerAmong m a n b
   Single : OneBears m a n b → BearerAmong m a n b
   Many : b ≡ Several → TwoBear m a n → BearerAmong m a n b
-
-if_true : (t : Bool) (b c : Bearer) → t ≡ true → (if t then b else c) ≡ b
-if_true t b c e = rw e refl
-
-if_false : (t : Bool) (b c : Bearer) → t ≡ false → (if t then b else c) ≡ c
-if_false t b c e = rw e refl
 
 -- a key that fails the test doesn't bear
 no_bearer : (m : MapValue) (a : Holding) (k : ℕ) → bears_holding m k a ≡ false → Bears m k a → ⊥
@@ -118,14 +99,10 @@ added m a n b is (Many s t) =
 pub found : (m : MapValue) (a : Holding) (n : ℕ) → BearerAmong m a n (bearer_below m a n)
 found m a zero = Empty (bearer_below-start m a) (λ j lt is. omega (arith, lt))
 found m a (suc n) =
-    elim (cases_Bool (bears_holding m n a)) [
-      | inl e ↦
-          subst (λ x. BearerAmong m a (suc n) x) (sym (bearer_below-more m a n ∙ if_true (bears_holding m n a) _ _ e))
-          (added m a n (bearer_below m a n) (bears-true m n a e) (found m a n))
-      | inr e ↦
-          subst (λ x. BearerAmong m a (suc n) x) (sym (bearer_below-more m a n ∙ if_false (bears_holding m n a) _ _ e))
-          (kept m a n (bearer_below m a n) e (found m a n))
-    ]
+    rw (bearer_below-more m a n)
+    (cond_both (bears_holding m n a) _ _ (BearerAmong m a (suc n))
+    (λ e. added m a n (bearer_below m a n) (bears-true m n a e) (found m a n))
+    (λ e. kept m a n (bearer_below m a n) e (found m a n)))
 
 -- the bearer of an action that one key alone bears
 single : (m : MapValue) (a : Holding) (k : ℕ) (o : Option ℕ) → first_place m (kind.OtherThan a) k ≡ o → k < 128
@@ -143,10 +120,9 @@ single m a k (Some p) e lt is alone =
 
 -- the bearer among all keys is the bearer
 bearer-of : (m : MapValue) (a : Holding) (b : Bearer) → BearerAmong m a 128 b → IsBearer m a b
-bearer-of m a b (Empty s f) = subst (λ x. IsBearer m a x) (sym s) f
-bearer-of m a b (Single s) =
-    subst (λ x. IsBearer m a x) (sym s.4) (single m a s.0 (first_place m (kind.OtherThan a) s.0) refl s.1 s.2 s.3)
-bearer-of m a b (Many s t) = subst (λ x. IsBearer m a x) (sym s) t
+bearer-of m a b (Empty s f) = rw s f
+bearer-of m a b (Single s) = rw s.4 (single m a s.0 (first_place m (kind.OtherThan a) s.0) refl s.1 s.2 s.3)
+bearer-of m a b (Many s t) = rw s t
 
 -- the bearers that are computed are the keys that bear
 pub bearers_are_computed : BearersAreComputed

@@ -1,10 +1,9 @@
 -- What the bits of a key tell of its cells.
 use Rattle.keymap_check.proofs.Common.{zero, suc, ◌≡◌, ℕ, ◌+◌, ◌*◌, ◌%◌, ◌^◌, ◌<◌, ◌≢◌, Bool, true, false, not, ◌||◌}
 use Rattle.keymap_check.proofs.Common.{Option, Some, None, refl, ap, sym, ◌∙◌, if◌then◌else◌, arith, add-one, inl, inr}
-use Rattle.keymap_check.proofs.Common.{true≢false, eqb-true, eq-eqb, or_right, option_or, is_some, Modifier, LeftShift}
-use Rattle.keymap_check.proofs.Common.{AltShift, Lock, Holding, Cell, Char, Act, Kind, Caps, modifier_index, MapValue}
-use Rattle.keymap_check.proofs.Common.{first_below, is_of_kind, is_holding, is_of_group, cell_of, first_place}
-use Rattle.keymap_check.proofs.Common.{place_count, bits_below}
+use Rattle.keymap_check.proofs.Common.{true≢false, eqb-true, eq-eqb, or_right, option_or, is_some, LeftShift, Holding}
+use Rattle.keymap_check.proofs.Common.{Cell, Char, Act, Kind, Caps, modifier_index, MapValue, first_below, is_of_kind}
+use Rattle.keymap_check.proofs.Common.{is_holding, cell_of, first_place, place_count, bits_below}
 use Rattle.std.proofs.Common.{min, max, eqb}
 use Rattle.std.specs.Prelude.{bit_and, bit_or, bit_xor}
 use Rattle.std.specs.Int.{bit_at}
@@ -15,7 +14,6 @@ use Rattle.std.proofs.lemmas.Nat.{and_or_apart, and_comm}
 use Rattle.std.specs.Int.Bits.{and_zero_l}
 use Rattle.std.proofs.lemmas.Nat.Bits.{bit_at_and, bit_at_or, bit_at_xor, bit_at-pow_same, bit_at-pow_other, bit_at-lt}
 use Rattle.std.proofs.lemmas.Nat.Bits.{bit_at-zero, bit_at_ones, and_pow}
-use Rattle.keymap_core.specs.declared.action.Lock.TheVariants.{Alt}
 use Rattle.keymap_core.specs.Actions.{lock_index, holding_index}
 use Rattle.keymap_check.specs.Inner.CellBits.{cell_bit, is_set, bits_of, mask_of}
 use Rattle.console_core.proofs.Places.{modifier_index-lt}
@@ -33,25 +31,6 @@ pow_by k i false e = ap (λ x. eqb x 1) (bit_at-pow_other k i (eqb-false i k e))
 -- a power of two has one bit
 is_set-pow : (k i : ℕ) → is_set (2 ^ k) i ≡ eqb i k
 is_set-pow k i = pow_by k i (eqb i k) refl
-
--- what the masks with fixed bits tell of a modifier and of a lock
-modifier-bits : (i : Modifier)
-    → (is_set 0x1000 (modifier_index i) ≡ false) × (is_set 0x0fff (modifier_index i) ≡ true)
-    × (is_set 0x3000 (modifier_index i) ≡ false) × (is_set 0x0003 (modifier_index i) ≡ is_of_group group.Shift i)
-    × (is_set 0x000c (modifier_index i) ≡ is_of_group group.Control i)
-    × (is_set 0x0030 (modifier_index i) ≡ is_of_group group.Alt i)
-    × (is_set 0x0040 (modifier_index i) ≡ is_of_group group.AltShift i)
-modifier-bits LeftShift = (refl, refl, refl, refl, refl, refl, refl)
-modifier-bits _ = (refl, refl, refl, refl, refl, refl, refl)
-
--- which masks have the bits of the locks
-lock-bits : (l : Lock)
-    → (is_set 0x1000 (8 + lock_index l) ≡ false) × (is_set 0x0fff (8 + lock_index l) ≡ true)
-    × (is_set 0x3000 (8 + lock_index l) ≡ false) × (is_set 0x0003 (8 + lock_index l) ≡ false)
-    × (is_set 0x000c (8 + lock_index l) ≡ false) × (is_set 0x0030 (8 + lock_index l) ≡ false)
-    × (is_set 0x0040 (8 + lock_index l) ≡ false)
-lock-bits Caps = (refl, refl, refl, refl, refl, refl, refl)
-lock-bits _ = (refl, refl, refl, refl, refl, refl, refl)
 
 -- the bit of a holding action alone
 apart : (i k : ℕ) → i ≢ k → is_set (2 ^ k) i ≡ false
@@ -101,20 +80,9 @@ other-bit n i lt =
 pub mask-fits : (x : Kind) (y : Cell) → is_set (mask_of x) (cell_bit y) ≡ is_of_kind x y
 mask-fits (kind.Holding a) y = holding-bit a y
 mask-fits (kind.OtherThan a) y = other-bit (2 ^ holding_index a) (cell_bit y) (cell_bit-lt y) ∙ ap not (holding-bit a y)
-mask-fits kind.Character (Act (act.Mod i)) = (modifier-bits i).0
-mask-fits kind.Character (Act (act.Lock l)) = (lock-bits l).0
-mask-fits kind.AnyHolding (Act (act.Mod i)) = (modifier-bits i).1
-mask-fits kind.AnyHolding (Act (act.Lock l)) = (lock-bits l).1
-mask-fits kind.CharacterOrNop (Act (act.Mod i)) = (modifier-bits i).2
-mask-fits kind.CharacterOrNop (Act (act.Lock l)) = (lock-bits l).2
-mask-fits (kind.Of group.Shift) (Act (act.Mod i)) = (modifier-bits i).3
-mask-fits (kind.Of group.Shift) (Act (act.Lock l)) = (lock-bits l).3
-mask-fits (kind.Of group.Control) (Act (act.Mod i)) = (modifier-bits i).4
-mask-fits (kind.Of group.Control) (Act (act.Lock l)) = (lock-bits l).4
-mask-fits (kind.Of group.Alt) (Act (act.Mod i)) = (modifier-bits i).5
-mask-fits (kind.Of group.Alt) (Act (act.Lock l)) = (lock-bits l).5
-mask-fits (kind.Of group.AltShift) (Act (act.Mod i)) = (modifier-bits i).6
-mask-fits (kind.Of group.AltShift) (Act (act.Lock l)) = (lock-bits l).6
+mask-fits (kind.Of group.Shift) (Act (act.Mod LeftShift)) = refl
+mask-fits _ (Act (act.Mod LeftShift)) = refl
+mask-fits _ (Act (act.Lock Caps)) = refl
 mask-fits x y = refl
 
 -- one more bit

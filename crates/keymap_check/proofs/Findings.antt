@@ -1,11 +1,12 @@
 -- A map has no findings exactly if it is safe.
 use Rattle.keymap_check.proofs.Common.{zero, suc, ◌≡◌, ℕ, ◌<◌, ◌++◌, List, [], ◌∷◌, Option, Some, None, refl, ap, subst}
-use Rattle.keymap_check.proofs.Common.{sym, ◌∙◌, inl, inr, arith, true≢false, Holding, Char, Act, holding_action}
-use Rattle.keymap_check.proofs.Common.{MapValue, IsCellOf, Bears, gathered, below-suc, first_place, cell_of, held_by}
-use Rattle.keymap_check.proofs.Common.{finding_with, finding_by, findings_at}
+use Rattle.keymap_check.proofs.Common.{sym, ◌∙◌, inl, inr, arith, true≢false, Char, Act, holding_action, MapValue}
+use Rattle.keymap_check.proofs.Common.{IsCellOf, gathered, below-suc, first_place, cell_of, finding_by, findings_at}
+use Rattle.keymap_check.proofs.Common.{IsUnsafeKey, has_some, Finding, true, ◌&&◌, and_parts, is_some, ◌↔◌}
+use Rattle.std.proofs.lemmas.Bool.{and_from}
 use Rattle.keymap_check.specs.Report.{NoFindingsExactlyIfSafe}
 use Rattle.keymap_check.proofs.Same.{character-cell, IsHeldBy, holding-cell, holding-any}
-use Rattle.keymap_check.proofs.Places.{first_place-cell, no_place-cell}
+use Rattle.keymap_check.proofs.Places.{first_place-cell, has-cell}
 use Rattle.keymap_check.specs.declared.kind.Kind.TheVariants as kind
 
 -- lists gathered from all numbers
@@ -28,43 +29,48 @@ unfolding gathered
 all-gathered f zero e = refl
 all-gathered f (suc n) e = rw (all-gathered f n (λ k lt. e k (omega (arith, lt))), e n (omega arith)) refl
 
--- a key with no finding
-abbrev pub IsSafeKey : MapValue → ℕ → Type 0
-IsSafeKey m k = (a : Holding) → Bears m k a → (c : ℕ) → IsCellOf m k (Char c) → ⊥
+-- a key has a finding exactly if both places are found
+found_by : (m : MapValue) (k : ℕ) (p q : Option ℕ) → first_place m kind.AnyHolding k ≡ p
+    → has_some (finding_by m k p q) ≡ (is_some p && is_some q)
+found_by m k None q e = refl
+found_by m k (Some p) None e = refl
+found_by m k (Some p) (Some q) e =
+    let held : IsHeldBy (cell_of m k p) = holding-cell (cell_of m k p) (first_place-cell m kind.AnyHolding k p e).1 in
+    rw held.2 refl
 
--- a holding action and a character are a finding
-finding-found : (k p q : ℕ) (o : Option Holding) (a : Holding) → o ≡ Some a → finding_with k p q o ≡ [] → ⊥
-finding-found k p q None a e f = cc
-finding-found k p q (Some b) a e f = cc
+-- a key has a finding if it has a holding action and a character
+pub found : (m : MapValue) (k : ℕ)
+    → has_some (findings_at m k)
+    ≡ (is_some (first_place m kind.AnyHolding k) && is_some (first_place m kind.Character k))
+found m k = found_by m k (first_place m kind.AnyHolding k) (first_place m kind.Character k) refl
 
--- a key without a finding is safe, by the places that are found
-pub safe_by : (m : MapValue) (k : ℕ) (o i : Option ℕ) → first_place m kind.AnyHolding k ≡ o
-    → first_place m kind.Character k ≡ i → finding_by m k o i ≡ [] → IsSafeKey m k
-safe_by m k None i e f s a is c char =
-    true≢false (sym (holding-any a) ∙ no_place-cell m kind.AnyHolding k e (Act (holding_action a)) is)
-safe_by m k (Some p) None e f s a is c char = true≢false (no_place-cell m kind.Character k f (Char c) char)
-safe_by m k (Some p) (Some q) e f s a is c char =
-    let r = first_place-cell m kind.AnyHolding k p e in
-    let h : IsHeldBy (cell_of m k p) = holding-cell (cell_of m k p) r.1 in
-    finding-found k p q (held_by (cell_of m k p)) h.0 h.2 s
+-- a key has a finding exactly if it is unsafe
+pub unsafe-key : (m : MapValue) (k : ℕ) → (has_some (findings_at m k) ≡ true) ↔ IsUnsafeKey m k
+unsafe-key m k = (
+  λ e.
+      let both = and_parts _ _ (sym (found m k) ∙ e) in
+      let h = (has-cell m kind.AnyHolding k).0 both.0 in
+      let a : IsHeldBy h.0 = holding-cell h.0 h.2 in
+      let s = (has-cell m kind.Character k).0 both.1 in
+      let c : (c : ℕ) × (s.0 ≡ Char c) = character-cell s.0 s.2 in
+      (a.0, subst (λ x. IsCellOf m k x) a.1 h.1, (c.0, subst (λ x. IsCellOf m k x) c.1 s.1)),
+  λ u.
+      found m k
+      ∙ and_from _ _ ((has-cell m kind.AnyHolding k).1 (Act (holding_action u.0), u.1, holding-any u.0))
+      ((has-cell m kind.Character k).1 (Char u.2.0, u.2.1, refl)),
+)
 
--- a safe key has no finding, by the places that are found
-by_safe : (m : MapValue) (k : ℕ) (o i : Option ℕ) → first_place m kind.AnyHolding k ≡ o
-    → first_place m kind.Character k ≡ i → IsSafeKey m k → finding_by m k o i ≡ []
-by_safe m k None i e f s = refl
-by_safe m k (Some p) None e f s = refl
-by_safe m k (Some p) (Some q) e f s =
-    let r = first_place-cell m kind.AnyHolding k p e in
-    let h : IsHeldBy (cell_of m k p) = holding-cell (cell_of m k p) r.1 in
-    let t = first_place-cell m kind.Character k q f in
-    let c : (c : ℕ) × (cell_of m k q ≡ Char c) = character-cell (cell_of m k q) t.1 in
-    absurd (s h.0 (subst (λ x. IsCellOf m k x) h.1 r.0) c.0 (subst (λ x. IsCellOf m k x) c.1 t.0))
+none_there : (fs : List Finding) → (has_some fs ≡ true → ⊥) → fs ≡ []
+none_there [] f = refl
+none_there (x ∷ fs) f = absurd (f refl)
 
 -- a map has no findings exactly if it is safe
 pub no_findings_exactly_if_safe : NoFindingsExactlyIfSafe
 no_findings_exactly_if_safe m = (
-  (λ e k lt. safe_by m k (first_place m kind.AnyHolding k) (first_place m kind.Character k) refl refl
-      (gathered-all (findings_at m) 128 e k lt)),
-  (λ safe. all-gathered (findings_at m) 128
-      (λ k lt. by_safe m k (first_place m kind.AnyHolding k) (first_place m kind.Character k) refl refl (safe k lt))),
+  (λ e k lt a is c char.
+      true≢false (sym ((unsafe-key m k).1 (a, is, (c, char))) ∙ ap has_some (gathered-all (findings_at m) 128 e k lt))),
+  (λ safe.
+      all-gathered (findings_at m) 128 (λ k lt.
+      none_there (findings_at m k) (λ t.
+      let u : IsUnsafeKey m k = (unsafe-key m k).0 t in safe k lt u.0 u.1 u.2.0 u.2.1))),
 )

@@ -5,7 +5,7 @@ use Rattle.keymap_check.proofs.Common.{lt-ltb, le-ltb, Holding, Cell, Act, Kind,
 use Rattle.keymap_check.proofs.Common.{cell_at, IsUpperLive, gathered, IsFirstBelow, below-suc, is_upper_live}
 use Rattle.keymap_check.proofs.Common.{is_of_kind, cell_of, place_count, first_place, is_character, is_any_holding}
 use Rattle.keymap_check.proofs.Common.{findings_at, finding_by, finding_with, held_by, All-nil, IsUnsafeKey, live-upper}
-use Rattle.keymap_check.proofs.Common.{upper-is_live, cases_lt, append-nil}
+use Rattle.keymap_check.proofs.Common.{upper-is_live, cases_lt, append-nil, has_some}
 use Rattle.std.specs.Prelude.{AllPairs, Any}
 use Rattle.keymap_check.specs.Types.{Place}
 use Rattle.keymap_check.specs.Cells.{slot_at, column_at, place_at}
@@ -16,7 +16,7 @@ use Rattle.keymap_check.specs.Findings.{IsPlaceOf, NotAfter, IsFirstOf, IsHoldin
 use Rattle.keymap_check.specs.Report.{FindingsAreComputed}
 use Rattle.keymap_check.proofs.Same.{character-cell, holding-cell, IsHeldBy, holding-any}
 use Rattle.keymap_check.proofs.Places.{first_place-some, count_if, count_least}
-use Rattle.keymap_check.proofs.Findings.{safe_by}
+use Rattle.keymap_check.proofs.Findings.{unsafe-key}
 use Rattle.keymap_check.specs.declared.kind.Kind.TheVariants as kind
 
 -- the place with a number
@@ -204,7 +204,7 @@ key-more : (m : MapValue) (n : ℕ) (fs gs : List Finding) → AreBelow m n fs �
     → AreBelow m (suc n) (fs ++ gs)
 key-more m n fs [] b e of =
     subst (AreBelow m (suc n)) (sym (append-nil fs)) (quiet-more m n fs b (λ is.
-    safe_by m n (first_place m kind.AnyHolding n) (first_place m kind.Character n) refl refl e is.0 is.1 is.2.0 is.2.1))
+    true≢false (sym ((unsafe-key m n).1 is) ∙ ap has_some e)))
 key-more m n fs (f ∷ gs) b e of =
     subst (λ gs. AreBelow m (suc n) (fs ++ f ∷ gs)) (sym of.2) (finding-more m n fs f b of.0 of.1)
 

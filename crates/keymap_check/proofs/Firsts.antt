@@ -3,6 +3,7 @@ use Rattle.keymap_check.proofs.Common.{zero, suc, ◌≡◌, ℕ, ◌<◌, ◌+�
 use Rattle.keymap_check.proofs.Common.{sym, ◌∙◌, inl, inr, arith, add-one, find, option_or, gathered, below-suc}
 use Rattle.keymap_check.proofs.Common.{gathered-none}
 use Rattle.std.proofs.lemmas.List.Folds.{find-append}
+use Rattle.std.proofs.lemmas.Option.{none-some}
 
 -- where neither is given, neither is there
 none-both : {A : Type 0} (o p : Option A) → option_or o p ≡ None → (o ≡ None) × (p ≡ None)
@@ -49,3 +50,15 @@ module _ {A : Type 0} (test : A → Bool) where
   none-each f i (suc n) lt e =
       let s = none-both (find test (gathered f n)) (find test (f n)) (sym (find-more f n) ∙ e) in
       elim (below-suc i n lt) [ inl l ↦ none-each f i n l s.0 | inr q ↦ ap (λ x. find test (f x)) q ∙ s.1 ]
+
+  -- what is found in all is found in one of them
+  pub found-in : (f : ℕ → List A) (n : ℕ) (s : A) → find test (gathered f n) ≡ Some s
+      → (k : ℕ) × (k < n) × (find test (f k) ≡ Some s)
+  found-in f zero s e = absurd (none-some s (sym (try-start f) ∙ e))
+  found-in f (suc n) s e = by (find test (gathered f n)) refl (sym (find-more f n) ∙ e) (found-in f n s)
+    where
+      by : (o : Option A) → find test (gathered f n) ≡ o → option_or o (find test (f n)) ≡ Some s
+          → (find test (gathered f n) ≡ Some s → (k : ℕ) × (k < n) × (find test (f k) ≡ Some s))
+          → (k : ℕ) × (k < suc n) × (find test (f k) ≡ Some s)
+      by None none here before = (n, omega arith, here)
+      by (Some x) some here before = let r = before (some ∙ here) in (r.0, omega (arith, r.1), r.2)

@@ -5,7 +5,6 @@ pub mod CellBits
 pub mod Common
 pub mod Demonstrated
 pub mod Findings
-pub mod Found
 pub mod Given
 pub mod FirstPlaces
 pub mod FirstFinding
@@ -20,3 +19,4 @@ pub mod Same
 pub mod Shown
 pub mod Trapless
 pub mod Tried
+pub mod TriedScripts

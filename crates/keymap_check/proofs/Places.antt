@@ -3,7 +3,7 @@ use Rattle.keymap_check.proofs.Common.{◌≡◌, ℕ, ◌<◌, ◌≤◌, ◌+�
 use Rattle.keymap_check.proofs.Common.{◌∙◌, inl, inr, if◌then◌else◌, arith, lt-ltb, le-ltb, Cell, Kind, MapValue}
 use Rattle.keymap_check.proofs.Common.{cell_at, IsCellOf, is_upper_live, live-upper, upper-is_live, first_below-no}
 use Rattle.keymap_check.proofs.Common.{first_below-some, IsFirstBelow, is_of_kind, place_count, cell_of, first_place}
-use Rattle.keymap_check.proofs.Common.{cases_lt}
+use Rattle.keymap_check.proofs.Common.{cases_lt, Option, true≢false, is_some, ◌↔◌}
 use Rattle.keymap_core.specs.Bearers.{StandsIn}
 use Rattle.keymap_core.proofs.Below.{NoneBelow}
 
@@ -86,3 +86,18 @@ pub no_place-cell : (m : MapValue) (x : Kind) (k : ℕ) → first_place m x k �
 no_place-cell m x k e y is =
     let p : HasPlace m k y = cell-place m k y is in
     ap (λ z. is_of_kind x z) (sym p.2) ∙ first_place-no m x k e p.0 p.1
+
+-- the key has a cell of the kind
+abbrev pub HasCellOf : MapValue → ℕ → Kind → Type 0
+HasCellOf m k x = (y : Cell) × IsCellOf m k y × (is_of_kind x y ≡ true)
+
+-- it has one exactly if a first place is found
+cell_by : (m : MapValue) (x : Kind) (k : ℕ) (o : Option ℕ) → first_place m x k ≡ o
+    → (is_some o ≡ true) ↔ HasCellOf m k x
+cell_by m x k None e =
+    ((λ t. absurd (true≢false (sym t))), λ h. absurd (true≢false (sym h.2 ∙ no_place-cell m x k e h.0 h.1)))
+cell_by m x k (Some p) e =
+    let s = first_place-cell m x k p e in ((λ t. (cell_of m k p, s.0, s.1)), λ h. refl)
+
+pub has-cell : (m : MapValue) (x : Kind) (k : ℕ) → (is_some (first_place m x k) ≡ true) ↔ HasCellOf m k x
+has-cell m x k = cell_by m x k (first_place m x k) refl

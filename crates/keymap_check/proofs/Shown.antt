@@ -1,16 +1,13 @@
 -- A trap whose character cell has at most one bit more is demonstrated.
 use Rattle.keymap_check.proofs.Common.{◌≡◌, ◌≢◌, ℕ, ◌<◌, Bool, true, false, not, List, [], ◌∷◌, Option, Some, None}
-use Rattle.keymap_check.proofs.Common.{refl, ap, subst, sym, ◌∙◌, inl, inr, lit<, if◌then◌else◌, ◌==◌, reverse, find}
-use Rattle.keymap_check.proofs.Common.{true≢false, eq-eqb, eqb-true, and_parts, not-true, false_from_ne_true, is_some}
-use Rattle.keymap_check.proofs.Common.{is_other, lacks_key, Lock, Modifier, LeftShift, RightShift, LeftControl}
-use Rattle.keymap_check.proofs.Common.{RightControl, LeftAlt, RightAlt, AltShift, Cell, Char, Act, Event, Press}
-use Rattle.keymap_check.proofs.Common.{Release, Group, Finding, modifier_index, MapValue, cell_at, IsCellOf}
-use Rattle.keymap_check.proofs.Common.{IsUpperLive, gathered, first_below-some, on, remembered, Maps, between}
-use Rattle.keymap_check.proofs.Common.{is_on_after, resolved, is_any_on_after, PressedAction, same_action-true}
-use Rattle.keymap_check.proofs.Common.{first_place, cell_of, is_of_group, findings_at, group_at, bears_group, bit_key}
-use Rattle.keymap_check.proofs.Common.{bit_keys, script, scripts_of, scripts_with, scripts_for, tried_at, has_some}
-use Rattle.keymap_check.proofs.Common.{leaves_modifier_on, demonstration_of, group_of, bit_of_group, with_bit}
-use Rattle.keymap_check.proofs.Common.{HasShownTrap, bits_of}
+use Rattle.keymap_check.proofs.Common.{refl, ap, subst, sym, ◌∙◌, inl, inr, lit<, ◌==◌, reverse, true≢false, eq-eqb}
+use Rattle.keymap_check.proofs.Common.{eqb-true, and_parts, not-true, false_from_ne_true, is_some, is_other, lacks_key}
+use Rattle.keymap_check.proofs.Common.{Lock, Modifier, LeftShift, Cell, Char, Act, Event, Press, Release, Group}
+use Rattle.keymap_check.proofs.Common.{modifier_index, MapValue, cell_at, IsCellOf, IsUpperLive, gathered}
+use Rattle.keymap_check.proofs.Common.{first_below-some, on, remembered, Maps, between, is_on_after, resolved}
+use Rattle.keymap_check.proofs.Common.{is_any_on_after, PressedAction, same_action-true, first_place, is_of_group}
+use Rattle.keymap_check.proofs.Common.{group_at, bears_group, bit_key, bit_keys, script, leaves_modifier_on}
+use Rattle.keymap_check.proofs.Common.{demonstration_of, group_of, bit_of_group, with_bit, HasShownTrap, bits_of}
 use Rattle.keymap_check.specs.Cells.{is_group_cell}
 use Rattle.console_core.specs.Resolved.{held, locked, look, resolve_press}
 use Rattle.console_core.specs.Columns.{slot_of, column_of}
@@ -18,14 +15,13 @@ use Rattle.console_core.specs.Resolved.ResolvedEvent.{PressedCharacter, Released
 use Rattle.console_core.proofs.Borne.{AllLooked, look-cell, column_of-lt}
 use Rattle.keymap_core.proofs.HoldingTests.{some-modifier}
 use Rattle.console_core.specs.Traps.{Bits, cell_with}
-use Rattle.keymap_check.specs.Scripts.{scripts_from}
 use Rattle.keymap_check.specs.Shown.{bits_with, HasCharacterWith, IsOneAction, HasFurtherKey}
 use Rattle.console_core.proofs.Traps.{look-bits}
 use Rattle.console_core.proofs.OneMore.{locked-start, remembered-start}
 use Rattle.keymap_check.proofs.Bits.{bits-more, bits-start}
-use Rattle.keymap_check.proofs.Places.{first_place-cell}
-use Rattle.keymap_check.proofs.Firsts.{none-each}
-use Rattle.keymap_check.proofs.Findings.{safe_by}
+use Rattle.keymap_check.proofs.Places.{HasCellOf, has-cell}
+use Rattle.keymap_check.proofs.Findings.{unsafe-key}
+use Rattle.keymap_check.proofs.TriedScripts.{alone-complete, tried-none}
 use Rattle.keymap_core.specs.declared.action.Action.TheVariants as act
 use Rattle.keymap_core.specs.declared.action.Lock.TheVariants as lock
 use Rattle.keymap_core.specs.declared.action.Holding.TheVariants as holding
@@ -138,11 +134,6 @@ alone-script : (o p q r : Option ℕ) (k : ℕ) → script (o ∷ p ∷ q ∷ r 
 unfolding gathered
 alone-script o p q r k = refl
 
--- no key is lacking for the empty set
-alone-complete : (keys : List (Option ℕ)) → lacks_key keys 0 ≡ false
-unfolding lacks_key
-alone-complete keys = refl
-
 -- a set that names the group's bit alone
 abbrev HasSet : List (Option ℕ) → ℕ → ℕ → Type 0
 HasSet keys k j =
@@ -161,55 +152,9 @@ has-set m k j group.Alt e =
 has-set m k j group.AltShift e =
     subst (λ o. HasSet (bit_key m k 0 ∷ bit_key m k 1 ∷ bit_key m k 2 ∷ o ∷ []) k j) (sym e) (8, lit< tt, refl, refl)
 
--- a script that is tried leaves no modifier on where none is given
-if_here : {A : Type 0} (test : A → Bool) (t : Bool) (xs ys : List A) → t ≡ true
-    → find test (if t then xs else ys) ≡ None → find test xs ≡ None
-if_here test true xs ys e f = f
-if_here test false xs ys e f = cc
-
--- what isn't found among all isn't among those behind
-if_there : {A : Type 0} (test : A → Bool) (t : Bool) (xs ys : List A) → t ≡ false
-    → find test (if t then xs else ys) ≡ None → find test ys ≡ None
-if_there test true xs ys e f = cc
-if_there test false xs ys e f = f
-
--- an element that isn't found fails the test
-alone_none : {A : Type 0} (t : Bool) (x : A) → (if t then Some x else None) ≡ None → t ≡ false
-alone_none true x e = cc
-alone_none false x e = refl
-
--- where no demonstration is found, no script that is complete leaves a modifier on
-tried-none : (m : MapValue) (k b : ℕ) → k < 128 → b < 16 → has_some (findings_at m k) ≡ true
-    → lacks_key (bit_keys m k) b ≡ false → demonstration_of m ≡ None
-    → leaves_modifier_on m (script (bit_keys m k) k 0 b) ≡ false
-tried-none m k b lt le some lacks e =
-    let s1 = none-each (leaves_modifier_on m) (tried_at m) k 128 lt e in
-    let s2 = if_here (leaves_modifier_on m) (has_some (findings_at m k)) (scripts_for (bit_keys m k) k) [] some s1 in
-    let s3 : find (leaves_modifier_on m) (scripts_with (bit_keys m k) k 0) ≡ None =
-    none-each (leaves_modifier_on m) (scripts_with (bit_keys m k) k) 0 16 (lit< tt) s2 in
-    let s4 = if_there (leaves_modifier_on m) (lacks_key (bit_keys m k) 0) [] (scripts_from (bit_keys m k) k 0)
-    (alone-complete (bit_keys m k)) s3 in
-    let s5 = none-each (leaves_modifier_on m) (scripts_of (bit_keys m k) k 0) b 16 le s4 in
-    let s6 : find (leaves_modifier_on m) (script (bit_keys m k) k 0 b ∷ []) ≡ None =
-    if_there (leaves_modifier_on m) (lacks_key (bit_keys m k) b) [] (script (bit_keys m k) k 0 b ∷ []) lacks s5 in
-    alone_none (leaves_modifier_on m (script (bit_keys m k) k 0 b)) (script (bit_keys m k) k 0 b) s6
-
 -- a modifier that is on is some
 some-on : (ms : Maps) (h : List Event) (i : Modifier) → is_on_after ms i h ≡ true → is_any_on_after ms h ≡ true
 some-on ms h i e = some-modifier (λ x. is_on_after ms x h) i e
-
--- the key has a finding
-pub some-finding : (fs : List Finding) → (fs ≡ [] → ⊥) → has_some fs ≡ true
-some-finding [] f = absurd (f refl)
-some-finding (x ∷ fs) f = refl
-
--- a key with a modifier and a character has a finding
-found-key : (m : MapValue) (i : Modifier) (k c : ℕ) → IsCellOf m k (Act (act.Mod i)) → IsCellOf m k (Char c)
-    → has_some (findings_at m k) ≡ true
-found-key m i k c is char =
-    some-finding (findings_at m k)
-    (λ e. safe_by m k (first_place m kind.AnyHolding k) (first_place m kind.Character k) refl refl e (holding.Mod i)
-    is c char)
 
 -- the character cell is one of the key's
 slot-cell : (m : MapValue) (k : ℕ) (bits : Bits) (u : Bool) → bits.upper ≡ u → (bits.upper ≡ true → IsUpperLive m)
@@ -239,7 +184,8 @@ shown-alone : (m : MapValue) (i : Modifier) (k : ℕ) → k < 128 → cell_at m 
     → HasCharacterWith m k (bits_with i None) → demonstration_of m ≢ None
 shown-alone m i k lt e char none =
     let is : IsCellOf m k (Act (act.Mod i)) = inl (0, lit< tt, e) in
-    let finding = found-key m i k char.1.0 is (character-cell m k (bits_with i None) char) in
+    let finding =
+    (unsafe-key m k).1 (holding.Mod i, is, (char.1.0, character-cell m k (bits_with i None) char)) in
     let off : leaves_modifier_on m (script (bit_keys m k) k 0 0) ≡ false =
     tried-none m k 0 lt (lit< tt) finding (alone-complete (bit_keys m k)) none in
     let h : reverse (script (bit_keys m k) k 0 0) ≡ Release k ∷ Press k ∷ Press k ∷ [] =
@@ -250,14 +196,11 @@ shown-alone m i k lt e char none =
 
 -- the modifiers of a group, and the cells that are one of them
 of-group : (g : Group) (y : Modifier) → is_of_group g y ≡ true → group_of y ≡ Some g
-of-group group.Shift LeftShift e = refl
-of-group group.Shift RightShift e = refl
-of-group group.Control LeftControl e = refl
-of-group group.Control RightControl e = refl
-of-group group.Alt LeftAlt e = refl
-of-group group.Alt RightAlt e = refl
-of-group group.AltShift AltShift e = refl
-of-group g y e = absurd (true≢false (sym e))
+of-group group.Shift LeftShift e = cc
+of-group group.Control LeftShift e = cc
+of-group group.Alt LeftShift e = cc
+of-group group.AltShift LeftShift e = cc
+of-group _ _ e = cc
 
 -- the group of a group's bit
 pub group-bit : (g : Group) → group_at (bit_of_group g) ≡ g
@@ -275,16 +218,6 @@ abbrev IsFurther : MapValue → ℕ → Group → ℕ → Type 0
 IsFurther m k g j =
     ((j == k) ≡ false) × ((y : Modifier) × (group_of y ≡ Some g) × ((c : Cell) → IsCellOf m j c → c ≡ Act (act.Mod y)))
 
--- the second key bears a modifier of the group, by the place that is found
-further_by : (m : MapValue) (k : ℕ) (g : Group) (j : ℕ) (o : Option ℕ) → (j == k) ≡ false → IsOneAction m j
-    → first_place m (kind.Of g) j ≡ o → is_some o ≡ true → IsFurther m k g j
-further_by m k g j None ne one e t = absurd (true≢false (sym t))
-further_by m k g j (Some p) ne one e t =
-    let s = first_place-cell m (kind.Of g) j p e in
-    let y = group-cell g (cell_of m j p) s.1 in
-    let same : Act one.0 ≡ Act (act.Mod y.0) = sym (one.1 (cell_of m j p) s.0) ∙ y.1 in
-    (ne, (y.0, y.2, λ c is. one.1 c is ∙ same))
-
 -- the second key bears a modifier of the group, in each of its cells
 further : (m : MapValue) (k : ℕ) (g : Group) (j : ℕ) → bit_key m k (bit_of_group g) ≡ Some j → IsOneAction m j
     → IsFurther m k g j
@@ -293,9 +226,11 @@ further m k g j e one =
     let s = first_below-some (is_other (bears_group m (bit_of_group g)) k) 128 j e in
     let t : (not (j == k) ≡ true) × (is_some (first_place m (kind.Of (group_at (bit_of_group g))) j) ≡ true) =
     and_parts _ _ s.1 in
-    let there : is_some (first_place m (kind.Of g) j) ≡ true =
-    subst (λ x. is_some (first_place m (kind.Of x) j) ≡ true) (group-bit g) t.1 in
-    further_by m k g j (first_place m (kind.Of g) j) (not-true (j == k) t.0) one refl there
+    let h : HasCellOf m j (kind.Of g) =
+    (has-cell m (kind.Of g) j).0 (rw (group-bit g) at t.1) in
+    let y = group-cell g h.0 h.2 in
+    let same : Act one.0 ≡ Act (act.Mod y.0) = sym (one.1 h.0 h.1) ∙ y.1 in
+    (not-true (j == k) t.0, (y.0, y.2, λ c is. one.1 c is ∙ same))
 
 same-modifier : (y i : Modifier) → act.Mod y ≡ act.Mod i → y ≡ i
 same-modifier y i e = cc
@@ -313,7 +248,8 @@ shown-further : (m : MapValue) (i : Modifier) (k : ℕ) (g : Group) (j : ℕ) �
     → bit_key m k (bit_of_group g) ≡ Some j → IsOneAction m j → demonstration_of m ≢ None
 shown-further m i k g j lt e char other is_key one none =
     let is : IsCellOf m k (Act (act.Mod i)) = inl (0, lit< tt, e) in
-    let finding = found-key m i k char.1.0 is (character-cell m k (bits_with i (Some g)) char) in
+    let finding =
+    (unsafe-key m k).1 (holding.Mod i, is, (char.1.0, character-cell m k (bits_with i (Some g)) char)) in
     let s : HasSet (bit_keys m k) k j = has-set m k j g is_key in
     let f : IsFurther m k g j = further m k g j is_key one in
     let en : (k == j) ≡ false =

@@ -1,5 +1,5 @@
 use Rattle.keymap_check.proofs.Common.{◌&&◌, ap, sym, ◌∙◌, is_some, first_place}
-use Rattle.keymap_check.proofs.Found.{found}
+use Rattle.keymap_check.proofs.Findings.{found}
 use Rattle.keymap_check.specs.declared.kind.Kind.TheVariants as kind
 use Rattle.keymap_check.proofs.finding.is_found.Goals as goal
 

@@ -1,60 +1,50 @@
 -- What is said of numbers of events is what is said of the events.
 use Rattle.kmap_c.proofs.Common.{suc, ◌≡◌, ℕ, ◌<◌, ◌≤◌, ◌==◌, Bool, true, false, List, [], ◌∷◌, ◌++◌, refl, ap, sym}
-use Rattle.kmap_c.proofs.Common.{◌∙◌, subst, arith, ◌≢◌, map, reverse, map-append, Modifier, IsMap, MapValue, image}
-use Rattle.kmap_c.proofs.Common.{Event, between, event_of}
-use Rattle.std.proofs.Common.{◌-◌, nat_le, not, ◌&&◌, ◌||◌, Option, Some}
-use Rattle.std.specs.Prelude.{if◌then◌else◌}
-use Rattle.std.proofs.lemmas.Bool.{leb-true, le-leb, leb-false, lt-leb, eqb-true, eqb-false}
+use Rattle.kmap_c.proofs.Common.{◌∙◌, subst, arith, map, reverse, map-append, Modifier, IsMap, MapValue, image, Event}
+use Rattle.kmap_c.proofs.Common.{between, event_of, Holding}
+use Rattle.std.proofs.Common.{◌-◌, nat_le, not, ◌&&◌, ◌||◌, inl, inr, ◌⊎◌}
+use Rattle.std.specs.Prelude.{if◌then◌else◌, All}
+use Rattle.std.proofs.lemmas.Bool.{leb-true, leb-false, le-leb, ne_eqb}
+use Rattle.std.proofs.lemmas.Bool.Decides.{nat_tests}
 use Rattle.std.proofs.lemmas.List.{reverse-append}
-use Rattle.std.proofs.lemmas.List.Elements.{All-cons}
-use Rattle.keymap_core.specs.Bearers.{Bears}
+use Rattle.std.proofs.lemmas.List.Elements.{All-cons, All-map, All-weaker}
+use Rattle.keymap_core.specs.Bearers.{Bears, BearsThroughout}
 use Rattle.console_core.specs.declared.event.Event.TheVariants.{Press, Release, Reset, Load}
-use Rattle.console_core.specs.Headline.{IsSafe, OnOnlyWhilePressed}
-use Rattle.console_core.specs.History.{is_load, is_second_in_force, HasKey, HasKeys, concerns, is_press, pressed}
-use Rattle.console_core.specs.History.{is_on_after}
-use Rattle.console_core.specs.Positions.{last_where, count_where, is_odd}
-use Rattle.kmap_c.specs.Calls.{AreAccepted, is_down, is_exchanged, in_force_after, Has, IsHeldDown}
+use Rattle.console_core.specs.Headline.{IsSafe, OnOnlyWhilePressed, OnExactlyWhilePressed, LockedByFreshPresses}
+use Rattle.console_core.specs.Headline.{is_fresh_press}
+use Rattle.console_core.proofs.OneMore.{pressed-start, pressed-press, pressed-release, pressed-reset, pressed-load}
+use Rattle.console_core.specs.History.{IsNoLoad, HasNoLoads, is_load, is_second_in_force, HasKey, HasKeys, pressed}
+use Rattle.console_core.specs.History.{is_on_after, is_locked_after}
+use Rattle.console_core.specs.Positions.{count_where, is_odd}
+use Rattle.keymap_core.specs.declared.action.Lock.{Lock}
+use Rattle.kmap_c.specs.Calls.{AreTables, AreAccepted, is_down, is_exchanged, in_force_after, Has, IsHeldDown}
+use Rattle.kmap_c.specs.Calls.{LoadsNoOther, IsBorneThroughout, fresh_presses}
 use Rattle.keymap_core.specs.declared.action.Holding.TheVariants as holding
 
 -- the event of a number, by the tests on it
 abbrev event_by : Bool → Bool → Bool → ℕ → Event
 event_by p q r n = if p then Press n else if q then Release (n - 128) else if r then Reset else Load
 
-press_by : (b : Bool) (e : Event) (o : Option Event)
-    → is_press (if b then Some e else o) ≡ if b then is_press (Some e) else is_press o
-press_by true e o = refl
-press_by false e o = refl
+or_by : (b y : Bool) → (if b then true else y) ≡ (b || y)
+or_by true y = refl
+or_by false y = refl
 
-pressed-step : (k : ℕ) (e : Event) (h : List Event)
-    → pressed k (e ∷ h) ≡ if concerns k e then is_press (Some e) else pressed k h
-unfolding pressed
-pressed-step k e h = press_by (concerns k e) e (last_where (concerns k) h)
+and_by : (b y : Bool) → (if b then false else y) ≡ (not b && y)
+and_by true y = refl
+and_by false y = refl
 
-or_by : (b x y : Bool) → x ≡ y → (if b then true else x) ≡ (b || y)
-or_by true x y e = refl
-or_by false x y e = e
-
-and_by : (b x y : Bool) → x ≡ y → (if b then false else x) ≡ (not b && y)
-and_by true x y e = refl
-and_by false x y e = e
-
-down_by : (p q r : Bool) (k n : ℕ) (x y : Bool) → x ≡ y
-    → (if concerns k (event_by p q r n) then is_press (Some (event_by p q r n)) else x)
-    ≡ (if p then (n == k) || y else if q then not ((n - 128) == k) && y else false)
-down_by true q r k n x y e = or_by (n == k) x y e
-down_by false true r k n x y e = and_by ((n - 128) == k) x y e
-down_by false false true k n x y e = refl
-down_by false false false k n x y e = refl
-
-none_pressed : (k : ℕ) → pressed k [] ≡ false
-unfolding pressed
-none_pressed k = refl
+down_by : (p q r : Bool) (k n : ℕ) (h : List Event)
+    → pressed k (event_by p q r n ∷ h)
+    ≡ (if p then (n == k) || pressed k h else if q then not ((n - 128) == k) && pressed k h else false)
+down_by true q r k n h = pressed-press k n h ∙ or_by (n == k) (pressed k h)
+down_by false true r k n h = pressed-release k (n - 128) h ∙ and_by ((n - 128) == k) (pressed k h)
+down_by false false true k n h = pressed-reset k h
+down_by false false false k n h = pressed-load k h
 
 pub pressed_is_down : (k : ℕ) (numbers : List ℕ) → pressed k (map event_of numbers) ≡ is_down k numbers
-pressed_is_down k [] = none_pressed k
+pressed_is_down k [] = pressed-start k
 pressed_is_down k (n ∷ before) =
-    pressed-step k (event_of n) (map event_of before)
-    ∙ down_by (nat_le n 127) (nat_le n 255) (n == 256) k n _ _ (pressed_is_down k before)
+    down_by (nat_le n 127) (nat_le n 255) (n == 256) k n (map event_of before) ∙ rw (pressed_is_down k before) refl
 
 key_by : (p q r : Bool) (n : ℕ) → nat_le n 127 ≡ p → nat_le n 255 ≡ q → HasKey (event_by p q r n)
 key_by true q r n low high = let few : n ≤ 127 = leb-true n 127 low in omega (arith, few)
@@ -69,29 +59,22 @@ have_keys (n ∷ before) =
     (key_by (nat_le n 127) (nat_le n 255) (n == 256) n refl refl) (have_keys before)
 
 -- an event is a load exactly where its number is above 256
-load_by : (p q r : Bool) (n x : ℕ) (h : List Event) → nat_le n 127 ≡ p → nat_le n 255 ≡ q → (n == 256) ≡ r
+load_by : (p q r : Bool) (n x : ℕ) (h : List Event)
     → is_odd (if is_load (event_by p q r n) h then suc x else x)
-    ≡ if nat_le n 256 then is_odd x else not (is_odd x)
-load_by true q r n x h low high is =
-    let few : n ≤ 127 = leb-true n 127 low in let e : nat_le n 256 ≡ true = le-leb n 256 (omega (arith, few)) in
-    rw e refl
-load_by false true r n x h low high is =
-    let few : n ≤ 255 = leb-true n 255 high in let e : nat_le n 256 ≡ true = le-leb n 256 (omega (arith, few)) in
-    rw e refl
-load_by false false true n x h low high is =
-    let here : n ≡ 256 = eqb-true n 256 is in let e : nat_le n 256 ≡ true = le-leb n 256 (omega (arith, here)) in
-    rw e refl
-load_by false false false n x h low high is =
-    let many : 255 < n = leb-false n 255 high in
-    let other : n ≢ 256 = eqb-false n 256 is in
-    let e : nat_le n 256 ≡ false = lt-leb n 256 (omega (arith, many, other)) in rw e refl
+    ≡ (if p || (q || r) then is_odd x else not (is_odd x))
+load_by true q r n x h = refl
+load_by false true r n x h = refl
+load_by false false true n x h = refl
+load_by false false false n x h = refl
+
+no_load : (n : ℕ) → nat_le n 256 ≡ (nat_le n 127 || (nat_le n 255 || (n == 256)))
+no_load n = grind (arith, nat_tests)
 
 pub exchanged_is_second : (numbers : List ℕ) → is_second_in_force (map event_of numbers) ≡ is_exchanged numbers
 exchanged_is_second [] = refl
 exchanged_is_second (n ∷ before) =
-    load_by (nat_le n 127) (nat_le n 255) (n == 256) n (count_where is_load (map event_of before))
-    (map event_of before) refl refl refl
-    ∙ ap (λ b. if nat_le n 256 then b else not b) (exchanged_is_second before)
+    load_by (nat_le n 127) (nat_le n 255) (n == 256) n (count_where is_load (map event_of before)) (map event_of before)
+    ∙ rw (no_load n, ← exchanged_is_second before) refl
 
 safe_in_force : (b : Bool) (m n : MapValue) → IsSafe m → IsSafe n → IsSafe (if b then n else m)
 safe_in_force true m n s t = t
@@ -118,6 +101,70 @@ held law first second numbers a b i on =
       subst (λ c. Has (if c then second else first) some.0 i) second_is
           (has_in_force (is_second_in_force h) first second a.0 b.0 some.0 i a.1 b.1 a.2 b.2 some.2),
     )
+
+borne_in_force : (b : Bool) (first second : List ℕ) (m n : MapValue) (k : ℕ) (a : Holding) → IsMap m → IsMap n
+    → first ≡ image m → second ≡ image n → IsBorneThroughout (if b then second else first) k a
+    → BearsThroughout (if b then n else m) k a
+borne_in_force true first second m n k a is_m is_n e f throughout = throughout n is_n f
+borne_in_force false first second m n k a is_m is_n e f throughout = throughout m is_m e
+
+-- a modifier that a key bears throughout is on exactly while this key is down
+pub follows : OnExactlyWhilePressed → (first second numbers : List ℕ) (a : AreTables first) (b : AreTables second)
+    (i : Modifier) (k : ℕ) → IsBorneThroughout (in_force_after first second numbers) k (holding.Mod i)
+    → is_on_after (between a.0 b.0) i (map event_of numbers) ≡ is_down k numbers
+follows law first second numbers a b i k throughout =
+    let h : List Event = map event_of numbers in
+    law (between a.0 b.0) h (have_keys numbers) i k
+    (borne_in_force (is_second_in_force h) first second a.0 b.0 k (holding.Mod i) a.1 b.1 a.2 b.2
+    (rw (exchanged_is_second numbers) throughout))
+    ∙ pressed_is_down k numbers
+
+-- a press is fresh by its number where it is by its event
+fresh_by : (p q r : Bool) (k n x : ℕ) (h : List Event) → k < 128 → nat_le n 127 ≡ p
+    → (if is_fresh_press k (event_by p q r n) h then suc x else x)
+    ≡ (if (n == k) && not (pressed k h) then suc x else x)
+fresh_by true q r k n x h lt e = refl
+fresh_by false q r k n x h lt e =
+    let other : (n == k) ≡ false = ne_eqb n k (λ same. omega (arith, same, leb-false n 127 e)) in
+    rw other (none q r)
+  where
+    none : (q r : Bool) → (if is_fresh_press k (event_by false q r n) h then suc x else x) ≡ x
+    none true r = refl
+    none false true = refl
+    none false false = refl
+
+fresh_presses_are : (k : ℕ) (numbers : List ℕ) → k < 128
+    → count_where (is_fresh_press k) (map event_of numbers) ≡ fresh_presses k numbers
+fresh_presses_are k [] lt = refl
+fresh_presses_are k (n ∷ before) lt =
+    fresh_by (nat_le n 127) (nat_le n 255) (n == 256) k n _ (map event_of before) lt refl
+    ∙ rw (pressed_is_down k before, fresh_presses_are k before lt) refl
+
+-- a number that is no load's is that of no load
+kept_by : (p q r : Bool) (n : ℕ) → (p || (q || r)) ≡ true → IsNoLoad (event_by p q r n)
+kept_by true q r n e = refl
+kept_by false true r n e = refl
+kept_by false false true n e = refl
+kept_by false false false n e = cc
+
+no_loads : (numbers : List ℕ) → All (λ n. n ≤ 256) numbers → HasNoLoads (map event_of numbers)
+no_loads numbers few =
+    All-map IsNoLoad event_of numbers (All-weaker (λ n. n ≤ 256) (λ n. IsNoLoad (event_of n)) (λ n le.
+    kept_by (nat_le n 127) (nat_le n 255) (n == 256) n (sym (no_load n) ∙ le-leb n 256 le)) numbers few)
+
+-- a lock that a key bears throughout is on exactly after an odd number of its fresh presses
+pub counts : LockedByFreshPresses → (first second numbers : List ℕ) (a : AreTables first) (b : AreTables second)
+    (l : Lock) (k : ℕ) → LoadsNoOther first second numbers → IsBorneThroughout first k (holding.Lock l)
+    → is_locked_after (between a.0 b.0) l (map event_of numbers) ≡ is_odd (fresh_presses k numbers)
+counts law first second numbers a b l k loads throughout =
+    let borne = throughout a.0 a.1 a.2 in
+    let alike : HasNoLoads (map event_of numbers) ⊎ BearsThroughout b.0 k (holding.Lock l) =
+    elim loads [
+      | inl same ↦ inr (throughout b.0 b.1 (sym same ∙ b.2))
+      | inr few ↦ inl (no_loads numbers few)
+    ] in
+    law (between a.0 b.0) (map event_of numbers) (have_keys numbers) l k borne alike
+    ∙ ap is_odd (fresh_presses_are k numbers borne.0)
 
 map-reverse : (xs : List ℕ) → map event_of (reverse xs) ≡ reverse (map event_of xs)
 map-reverse [] = refl

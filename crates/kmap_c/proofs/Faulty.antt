@@ -1,14 +1,12 @@
 -- Tables that are those of a keymap have no fault.
-use Rattle.kmap_c.proofs.Common.{◌≡◌, ◌≢◌, subst, ℕ, List, negsuc, IsMap, MapValue, image}
+use Rattle.kmap_c.proofs.Common.{◌≡◌, ◌≢◌, subst, ℕ, List, negsuc}
 use Rattle.std.proofs.Common.{◌↔◌}
 use Rattle.std.specs.Prelude.{ℤ}
 use Rattle.keymap_tables.specs.Faults.{IsTableFault}
 use Rattle.keymap_tables.specs.Layouts.{wide}
 use Rattle.keymap_tables.proofs.ReadingLaws.{map-wide, no-fault}
+use Rattle.kmap_c.specs.Calls.{AreTables}
 use Rattle.kmap_c.specs.Told.{AreFaulty}
-
-abbrev pub AreTables : List ℕ → Type 0
-AreTables tables = (m : MapValue) × IsMap m × (tables ≡ image m)
 
 not-faulty : (tables : List ℕ) → AreTables tables → AreFaulty tables → ⊥
 not-faulty tables read faulty =

@@ -1,7 +1,6 @@
 pub mod Common
 pub mod Calls
 pub mod Delivered
-pub mod NoBits
+pub mod Numbers
 pub mod Said
-pub mod KindNumbers
 pub mod Faulty

@@ -1,9 +1,11 @@
 -- What calls of the library do one after another. Numbers of delivered events stand newest first.
-use Rattle.std.specs.Prelude.{◌≡◌, ℕ, ◌<◌, ◌-◌, ◌==◌, nat_le, Bool, true, false, not, ◌&&◌, ◌||◌, List, [], ◌∷◌, map}
-use Rattle.std.specs.Prelude.{if◌then◌else◌}
+use Prim.Native.Nat.{suc}
+use Rattle.std.specs.Prelude.{◌≡◌, ℕ, ◌<◌, ◌≤◌, ◌-◌, ◌==◌, ◌⊎◌, All, nat_le, Bool, true, false, not, ◌&&◌, ◌||◌, List}
+use Rattle.std.specs.Prelude.{[], ◌∷◌, map, if◌then◌else◌}
 use Rattle.keymap_core.specs.declared.action.Modifier.{Modifier}
+use Rattle.keymap_core.specs.declared.action.Holding.{Holding}
 use Rattle.keymap_core.specs.declared.action.Holding.TheVariants as holding
-use Rattle.keymap_core.specs.Bearers.{Bears}
+use Rattle.keymap_core.specs.Bearers.{Bears, BearsThroughout}
 use Rattle.keymap_core.specs.Bounds.{IsMap}
 use Rattle.keymap_core.specs.Maps.{MapValue}
 use Rattle.keymap_core.specs.Numbers.{key_count}
@@ -13,6 +15,10 @@ use Rattle.console_core.specs.Headline.{IsSafe}
 use Rattle.console_core.specs.History.{between}
 use Rattle.console_core.specs.Packed.{KeptAt}
 use Rattle.kmap_c.specs.Numbers.{event_of}
+
+-- the tables of a keymap
+abbrev pub AreTables : List ℕ → Type 0
+AreTables tables = (m : MapValue) × IsMap m × (tables ≡ image m)
 
 -- the tables of a keymap that kmap_accepts accepts
 abbrev pub AreAccepted : List ℕ → Type 0
@@ -52,3 +58,17 @@ IsHeldDown tables i numbers = (k : ℕ) × (k < key_count) × (is_down k numbers
 -- each key is up: its last release, or a reset or load, came after its last press, or it was never pressed
 abbrev pub AreUp : List ℕ → Type 0
 AreUp numbers = (k : ℕ) → k < key_count → is_down k numbers ≡ false
+
+-- one key bears the modifier or lock throughout: kmap_bearer tells this key, and KMAP_BORNE_THROUGHOUT
+abbrev pub IsBorneThroughout : List ℕ → ℕ → Holding → Type 0
+IsBorneThroughout tables k a = (m : MapValue) → IsMap m → tables ≡ image m → BearsThroughout m k a
+
+-- the tables are the same, or no load was delivered
+abbrev pub LoadsNoOther : List ℕ → List ℕ → List ℕ → Type 0
+LoadsNoOther first second numbers = (second ≡ first) ⊎ All (λ n. n ≤ 256) numbers
+
+-- how many presses of the key were no repeats
+abbrev pub fresh_presses : ℕ → List ℕ → ℕ
+fresh_presses k [] = 0
+fresh_presses k (n ∷ before) =
+    if (n == k) && not (is_down k before) then suc (fresh_presses k before) else fresh_presses k before

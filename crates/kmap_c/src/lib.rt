@@ -38,7 +38,9 @@ ghost use Rattle.console_core.specs.Headline.{IsSafe};
 ghost use Rattle.keymap_check.specs.Findings.{IsFirstFinding};
 ghost use Rattle.keymap_check.specs.Promises.{KeepsPromise};
 ghost use Rattle.keymap_check.specs.declared.finding.Finding.{Finding as FindingValue};
-ghost use Rattle.kmap_c.specs.Calls.{AreAccepted, WasDelivered, IsHeldDown, AreUp, in_force_after};
+ghost use Rattle.console_core.specs.Positions.{is_odd};
+ghost use Rattle.kmap_c.specs.Calls.{AreTables, AreAccepted, WasDelivered, IsHeldDown, IsBorneThroughout, AreUp};
+ghost use Rattle.kmap_c.specs.Calls.{LoadsNoOther, in_force_after, is_down, fresh_presses};
 ghost use Rattle.kmap_c.specs.Sentences.{IsSaid, table_sentences, text_sentences};
 ghost use Rattle.kmap_c.specs.Sentences as sentences;
 ghost use Rattle.keymap_text.specs.Printed.{printed};
@@ -56,7 +58,7 @@ ghost use Rattle.kmap_c.specs.Numbers.{kind_number, accent_number};
 
 use crate::print::print_tables;
 use crate::sentences::{push_finding_sentence, say, table_sentence, text_sentence};
-use console_core::laws::modifiers_follow_keys;
+use console_core::laws::{locks_count_fresh_presses, modifiers_follow_keys};
 use console_core::{
     Answer, Event, WordStore, locks_kept, modifiers_kept, pending_kept, start_kept, step_kept,
 };
@@ -631,6 +633,11 @@ pub extern "C" fn kmap_modifiers(console: &KmapConsole) -> u8
         → WasDelivered first second numbers console.now.store
         → (i : ModifierValue) → bit_is_set result (modifier_index i) ≡ true
         → IsHeldDown (in_force_after first second numbers) i numbers }
+    // between any tables, one that a key bears throughout in those in force is on exactly while this key is down
+    ensures exactly_while { (first second numbers : List ℕ) → AreTables first → AreTables second
+        → WasDelivered first second numbers console.now.store
+        → (i : ModifierValue) (k : ℕ) → IsBorneThroughout (in_force_after first second numbers) k (Holding.Mod i)
+        → bit_is_set result (modifier_index i) ≡ is_down k numbers }
     // nor does one stay on once every key's release was delivered
     ensures all_up { (first second numbers : List ℕ) → AreAccepted first → AreAccepted second
         → WasDelivered first second numbers console.now.store → AreUp numbers → result ≡ 0 }
@@ -646,7 +653,14 @@ pub extern "C" fn kmap_locks(console: &KmapConsole) -> u8
         → (l : LockValue) → bit_is_set result (lock_index l) ≡ is_locked_after ms l h }
     // so no other bit is set
     ensures in_range { result < 16 }
+    // where no other tables are loaded, one that a key bears throughout is on exactly after an odd number of presses of
+    // this key that are no repeats
+    ensures fresh_presses { (first second numbers : List ℕ) → AreTables first → AreTables second
+        → WasDelivered first second numbers console.now.store → LoadsNoOther first second numbers
+        → (l : LockValue) (k : ℕ) → IsBorneThroughout first k (Holding.Lock l)
+        → bit_is_set result (lock_index l) ≡ is_odd (fresh_presses k numbers) }
 {
+    locks_count_fresh_presses();
     locks_kept(&console.store)
 }
 

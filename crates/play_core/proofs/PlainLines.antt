@@ -85,7 +85,8 @@ unfolding words_in
 words-joined a b xs ys h k = record {
   feed = lack-append _ (a ++ 32 ∷ []) b (lack-append _ a (32 ∷ []) h.feed refl) k.feed;
   plain = lack-append _ (a ++ 32 ∷ []) b (lack-append _ a (32 ∷ []) h.plain refl) k.plain;
-  words = rw (append_assoc a (32 ∷ []) b, split-joined separates_words a b 32 refl, filter-append) (cc (h.words, k.words));
+  words = rw (append_assoc a (32 ∷ []) b, split-joined separates_words a b 32 refl, filter-append)
+      (cc (h.words, k.words));
 }
 
 -- a digit is none of the bytes below the digits
@@ -104,7 +105,8 @@ number_words number digits there =
     one_word number (digits_lack _ (λ b d. not_at b 10 d (omega arith)) number digits)
     (digits_lack _ (λ b d. not_at b 35 d (omega arith)) number digits)
     (digits_lack separates_words
-    (λ b d. rw (not_at b 32 d (omega arith), not_at b 9 d (omega arith), not_at b 13 d (omega arith)) refl) number digits)
+    (λ b d. rw (not_at b 32 d (omega arith), not_at b 9 d (omega arith), not_at b 13 d (omega arith)) refl)
+    number digits)
     there
 
 -- ---- commands that name a key

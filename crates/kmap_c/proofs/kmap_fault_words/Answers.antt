@@ -1,6 +1,5 @@
 use Rattle.kmap_c.proofs.Common.{◌∙◌}
-use Rattle.kmap_c.proofs.NoBits.{up_down}
-use Rattle.kmap_c.proofs.KindNumbers.{no_table_sentence}
+use Rattle.kmap_c.proofs.Numbers.{up_down, no_table_sentence}
 use Rattle.kmap_c.proofs.kmap_fault_words.Goals as goal
 
 pub returns-clause-no_kind : goal.returns-clause-no_kind

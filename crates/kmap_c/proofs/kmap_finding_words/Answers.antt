@@ -1,6 +1,6 @@
 use Rattle.kmap_c.proofs.Common.{◌≡◌, ◌∙◌, ◌++◌, ap, sym, subst, refl, List, ℕ, pos, negsuc, Holding, IsSaid}
 use Rattle.kmap_c.specs.Sentences.{finding_sentence}
-use Rattle.kmap_c.proofs.KindNumbers.{one_holding}
+use Rattle.kmap_c.proofs.Numbers.{one_holding}
 use Rattle.kmap_c.proofs.kmap_finding_words.Goals as goal
 
 pub returns-clause-said : goal.returns-clause-said

@@ -1,6 +1,6 @@
 use Rattle.kmap_c.proofs.Common.{sym, ◌∙◌, arith, map, between, event_of}
-use Rattle.kmap_c.proofs.Calls.{held}
-use Rattle.kmap_c.proofs.NoBits.{none-set, up_down}
+use Rattle.kmap_c.proofs.Calls.{held, follows}
+use Rattle.kmap_c.proofs.Numbers.{none-set, up_down}
 use Rattle.kmap_c.proofs.kmap_modifiers.Goals as goal
 
 pub returns-clause-never_sticks : goal.returns-clause-never_sticks
@@ -16,3 +16,9 @@ returns-clause-all_up c =
     let key = held c.modifiers_follow_keys.ensures.only_while first second numbers a b i
     (sym (c.modifiers_kept.ensures (between a.0 b.0) (map event_of numbers) (was a.0 b.0 a.1 b.1 a.2 b.2) i) ∙ on) in
     up_down _ (up key.0 key.1) key.2)
+
+pub returns-clause-exactly_while : goal.returns-clause-exactly_while
+returns-clause-exactly_while c =
+    λ first second numbers a b was i k throughout.
+    c.modifiers_kept.ensures (between a.0 b.0) (map event_of numbers) (was a.0 b.0 a.1 b.1 a.2 b.2) i
+    ∙ follows c.modifiers_follow_keys.ensures.exactly_while first second numbers a b i k throughout

@@ -21,8 +21,8 @@ returns c =
     ≡ c.args.line.now.items ++ said_of_key c.args.key c.args.holding c.args.holding_at c.args.character_at =
     filled-more c.fill_number-rest-4.result.now _ column' column' [] c.fill_number-rest-4.new.line.items _ _ refl
     c.fill_number.ensures.behind c.fill_number.ensures.line
-    (filled-more c.fill_number-rest-3.result.now _ slot' slot' (column' ∷ []) c.fill_number-rest-3.new.line.items _ _ refl
-    c.fill_number-rest-4.ensures.behind c.fill_number-rest-4.ensures.line
+    (filled-more c.fill_number-rest-3.result.now _ slot' slot' (column' ∷ [])
+    c.fill_number-rest-3.new.line.items _ _ refl c.fill_number-rest-4.ensures.behind c.fill_number-rest-4.ensures.line
     (filled-more c.fill_number-rest-2.result.now _ column column (slot' ∷ column' ∷ [])
     c.fill_number-rest-2.new.line.items _ _ refl c.fill_number-rest-3.ensures.behind c.fill_number-rest-3.ensures.line
     (filled-more c.fill_next-rest.result.now _ slot slot (column ∷ slot' ∷ column' ∷ [])

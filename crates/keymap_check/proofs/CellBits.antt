@@ -1,15 +1,16 @@
 -- What the bits of a key tell of its cells.
 use Rattle.keymap_check.proofs.Common.{zero, suc, ◌≡◌, ℕ, ◌+◌, ◌*◌, ◌%◌, ◌^◌, ◌<◌, ◌≢◌, Bool, true, false, not, ◌||◌}
 use Rattle.keymap_check.proofs.Common.{Option, Some, None, refl, ap, sym, ◌∙◌, if◌then◌else◌, arith, add-one, inl, inr}
-use Rattle.keymap_check.proofs.Common.{true≢false, eqb-true, eq-eqb, or_right, option_or, is_some, LeftShift, Holding}
-use Rattle.keymap_check.proofs.Common.{Cell, Char, Act, Kind, Caps, modifier_index, MapValue, first_below, is_of_kind}
-use Rattle.keymap_check.proofs.Common.{is_holding, cell_of, first_place, place_count, bits_below}
+use Rattle.keymap_check.proofs.Common.{eqb-true, or_right, option_or, is_some, LeftShift, Holding, Cell, Char, Act}
+use Rattle.keymap_check.proofs.Common.{Kind, Caps, modifier_index, MapValue, first_below, is_of_kind, is_holding}
+use Rattle.keymap_check.proofs.Common.{cell_of, first_place, place_count, bits_below}
 use Rattle.std.proofs.Common.{min, max, eqb}
 use Rattle.std.specs.Prelude.{bit_and, bit_or, bit_xor}
 use Rattle.std.specs.Int.{bit_at}
 use Rattle.std.proofs.Math.Nat.{zero-mul, one-mul, mod-eq_of_lt}
 use Rattle.std.proofs.Math.Pow.{pow-lt}
 use Rattle.std.proofs.lemmas.Bool.{eqb-false, ne_eqb}
+use Rattle.std.proofs.lemmas.Bool.Decides.{nat_tests}
 use Rattle.std.proofs.lemmas.Nat.{and_or_apart, and_comm}
 use Rattle.std.specs.Int.Bits.{and_zero_l}
 use Rattle.std.proofs.lemmas.Nat.Bits.{bit_at_and, bit_at_or, bit_at_xor, bit_at-pow_same, bit_at-pow_other, bit_at-lt}
@@ -36,11 +37,6 @@ is_set-pow k i = pow_by k i (eqb i k) refl
 apart : (i k : ℕ) → i ≢ k → is_set (2 ^ k) i ≡ false
 apart i k ne = is_set-pow k i ∙ ne_eqb i k ne
 
--- locks are the same exactly where their bits are
-high_same : (i j : ℕ) (b : Bool) → eqb i j ≡ b → eqb (8 + i) (8 + j) ≡ b
-high_same i j true e = let s : i ≡ j = eqb-true i j e in eq-eqb (8 + i) (8 + j) (ap (λ x. 8 + x) s)
-high_same i j false e = ne_eqb (8 + i) (8 + j) (λ s. eqb-false i j e (omega arith))
-
 -- a cell has the bit of a holding action exactly if it is that action
 holding-bit : (a : Holding) (x : Cell) → is_set (2 ^ holding_index a) (cell_bit x) ≡ is_holding a x
 holding-bit (holding.Mod i) (Char c) = apart 12 (modifier_index i) (λ e. omega (arith, modifier_index-lt i, e))
@@ -53,8 +49,9 @@ holding-bit (holding.Lock k) (Char c) = apart 12 (8 + lock_index k) (λ e. omega
 holding-bit (holding.Lock k) (Act (act.Mod j)) =
     apart (modifier_index j) (8 + lock_index k) (λ e. omega (arith, modifier_index-lt j, e))
 holding-bit (holding.Lock k) (Act (act.Lock l)) =
-    is_set-pow (8 + lock_index k) (8 + lock_index l)
-    ∙ high_same (lock_index l) (lock_index k) (eqb (lock_index l) (lock_index k)) refl
+    let same : eqb (8 + lock_index l) (8 + lock_index k) ≡ eqb (lock_index l) (lock_index k) =
+    grind (arith, nat_tests) in
+    is_set-pow (8 + lock_index k) (8 + lock_index l) ∙ same
 holding-bit (holding.Lock k) (Act act.Nop) = apart 13 (8 + lock_index k) (λ e. omega (arith, lock_index-lt k, e))
 holding-bit (holding.Lock k) (Act b) = apart 14 (8 + lock_index k) (λ e. omega (arith, lock_index-lt k, e))
 
@@ -91,11 +88,7 @@ meets bits mask = not (eqb (bit_and bits mask) 0)
 
 -- a bit that isn't set is 0
 set_zero : (n i : ℕ) → is_set n i ≡ false → bit_at n i ≡ 0
-set_zero n i e =
-    elim (two_cases (bit_at n i) (bit_at-lt n i)) [
-      | inl z ↦ z
-      | inr o ↦ absurd (true≢false (sym (ap (λ x. eqb x 1) o) ∙ e))
-    ]
+set_zero n i e = let lt = bit_at-lt n i in let other = eqb-false (bit_at n i) 1 e in omega arith
 
 or_false : (b : Bool) → (b || false) ≡ b
 or_false true = refl

@@ -11,6 +11,7 @@ use Rattle.keymap_check.specs.Types.{Place}
 use Rattle.keymap_check.specs.Cells.{slot_at, column_at, place_at}
 use Rattle.std.proofs.lemmas.Grind.{common_steps}
 use Rattle.std.proofs.lemmas.List.Elements.{All-push}
+use Rattle.std.proofs.lemmas.Option.{same_Some}
 use Rattle.std.proofs.lemmas.List.Quantifiers.{Any-push, all_pairs_push}
 use Rattle.keymap_check.specs.Findings.{IsPlaceOf, NotAfter, IsFirstOf, IsHoldingCell, IsCharacterCell, IsFinding}
 use Rattle.keymap_check.specs.Report.{FindingsAreComputed}
@@ -111,9 +112,6 @@ holding-fits y s = ap is_any_holding s.1 ∙ holding-any s.0
 character-fits : (y : Cell) → IsCharacterCell y → is_character y ≡ true
 character-fits y s = ap is_character s.1
 
-some_same : (a b : Holding) → Some a ≡ Some b → a ≡ b
-some_same a b e = cc
-
 -- a finding of the key, if there is one
 abbrev AreOf : MapValue → ℕ → List Finding → Type 0
 AreOf m k [] = Unit {0}
@@ -126,7 +124,7 @@ finding-held m k p q None lt e f h = tt
 finding-held m k p q (Some a) lt e f h =
     let s = first_place-some m kind.AnyHolding k p e in
     let b : IsHeldBy (cell_of m k p) = holding-cell (cell_of m k p) s.1 in
-    let same : b.0 ≡ a = some_same b.0 a (sym b.2 ∙ h) in (
+    let same : b.0 ≡ a = same_Some b.0 a (sym b.2 ∙ h) in (
       refl,
       record {
         key = lt;

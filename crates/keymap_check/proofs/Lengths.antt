@@ -13,13 +13,10 @@ one_each p false o = omega arith
 
 -- a bit gives at most two events in all
 two_each : (a b z : Bool) → z ≡ false → bit (a && not z) + bit (a && not b) + bit (b && not a) + bit (b && not z) ≤ 2
-two_each true true true e = cc
+two_each _ _ true e = cc
 two_each true true false e = omega arith
-two_each true false true e = cc
 two_each true false false e = omega arith
-two_each false true true e = cc
 two_each false true false e = omega arith
-two_each false false true e = cc
 two_each false false false e = omega arith
 
 -- the empty set has no bit

@@ -1,9 +1,9 @@
 -- What is left of a script once modifiers are off, and its events with the newest first.
-use Rattle.keymap_check.proofs.Common.{zero, suc, ◌≡◌, ℕ, ◌+◌, Bool, true, false, ◌&&◌, List, [], ◌∷◌, ◌++◌, Option}
-use Rattle.keymap_check.proofs.Common.{Some, None, refl, ap, sym, ◌∙◌, if◌then◌else◌, reverse, append-nil, key_at}
-use Rattle.keymap_check.proofs.Common.{Modifier, Event, Press, Release, gathered, gathered-more, no-modifiers, Maps}
-use Rattle.keymap_check.proofs.Common.{is_on_after, resolved, is_any_on_after, event_if, event_at, is_chosen, events_of}
-use Rattle.keymap_check.proofs.Common.{script}
+use Rattle.keymap_check.proofs.Common.{zero, suc, ◌≡◌, ℕ, ◌+◌, Bool, true, false, List, [], ◌∷◌, ◌++◌, Option, Some}
+use Rattle.keymap_check.proofs.Common.{None, ap, sym, ◌∙◌, if◌then◌else◌, reverse, append-nil, key_at, Modifier, Event}
+use Rattle.keymap_check.proofs.Common.{Press, Release, gathered, gathered-more, no-modifiers, Maps, is_on_after}
+use Rattle.keymap_check.proofs.Common.{resolved, is_any_on_after, event_if, event_at, is_chosen, events_of, script}
+use Rattle.std.proofs.lemmas.Bool.{and_left}
 use Rattle.std.proofs.lemmas.List.{reverse-append}
 use Rattle.keymap_core.proofs.HoldingTests.{no-modifier}
 use Rattle.console_core.proofs.OneMore.{resolved-more, held-release}
@@ -54,15 +54,11 @@ none_more f n h is =
     )
 
 -- a release turns no modifier on
-off_and : (b c : Bool) → b ≡ false → (b && c) ≡ false
-off_and b c e = rw e refl
-
--- a release turns no modifier on
 stays-off : (ms : Maps) (h : List Event) (j : ℕ) (i : Modifier) → is_on_after ms i h ≡ false
     → is_on_after ms i (Release j ∷ h) ≡ false
 stays-off ms h j i e =
     rw (resolved-more ms h (Release j), held-release (holding.Mod i) j (resolved ms h))
-    (off_and (is_on_after ms i h) _ e)
+    (and_left (is_on_after ms i h) _ e)
 
 -- a release leaves all modifiers off
 pub released : (ms : Maps) (h : List Event) (j : ℕ) → is_any_on_after ms h ≡ false

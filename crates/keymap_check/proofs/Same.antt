@@ -1,7 +1,8 @@
 -- Tests of a cell, and what they say of it.
-use Rattle.keymap_check.proofs.Common.{◌≡◌, ℕ, Bool, true, false, not, Some, refl, ap, sym, ◌∙◌, true≢false, Holding}
-use Rattle.keymap_check.proofs.Common.{Cell, Char, Act, holding_action, IsActing, same_action-true, is_holding}
-use Rattle.keymap_check.proofs.Common.{is_character, is_any_holding, held_by}
+use Rattle.keymap_check.proofs.Common.{◌≡◌, ℕ, true, false, not, Some, refl, ap, sym, ◌∙◌, true≢false, Holding, Cell}
+use Rattle.keymap_check.proofs.Common.{Char, Act, holding_action, IsActing, same_action-true, is_holding, is_character}
+use Rattle.keymap_check.proofs.Common.{is_any_holding, held_by}
+use Rattle.std.proofs.lemmas.Bool.{not-false}
 use Rattle.keymap_check.specs.Cells.{is_character_or_nop}
 use Rattle.keymap_core.proofs.SameActions.{same_action-refl}
 use Rattle.keymap_core.specs.declared.action.Action.TheVariants as act
@@ -16,13 +17,9 @@ is_holding-true a (Act b) e = ap (λ y. Act y) (same_action-true b (holding_acti
 pub is_holding-refl : (a : Holding) → is_holding a (Act (holding_action a)) ≡ true
 is_holding-refl a = same_action-refl (holding_action a)
 
-false_not : (b : Bool) → not b ≡ false → b ≡ true
-false_not true e = refl
-false_not false e = sym e
-
 -- a cell that fails the opposite test passes the test
 pub not_holding-false : (a : Holding) (x : Cell) → not (is_holding a x) ≡ false → is_holding a x ≡ true
-not_holding-false a x e = false_not (is_holding a x) e
+not_holding-false a x e = not-false (is_holding a x) e
 
 -- what a character and a holding action are
 pub character-cell : (x : Cell) → is_character x ≡ true → (c : ℕ) × (x ≡ Char c)

@@ -9,7 +9,7 @@ use Rattle.keymap_check.proofs.Common.{is_any_on_after, PressedAction, same_acti
 use Rattle.keymap_check.proofs.Common.{group_at, bears_group, bit_key, bit_keys, script, leaves_modifier_on}
 use Rattle.keymap_check.proofs.Common.{demonstration_of, group_of, bit_of_group, with_bit, HasShownTrap, bits_of}
 use Rattle.keymap_check.specs.Cells.{is_group_cell}
-use Rattle.console_core.specs.Resolved.{held, locked, look, resolve_press}
+use Rattle.console_core.specs.Resolved.{held, locked, look}
 use Rattle.console_core.specs.Columns.{slot_of, column_of}
 use Rattle.console_core.specs.Resolved.ResolvedEvent.{PressedCharacter, ReleasedKey}
 use Rattle.console_core.proofs.Borne.{AllLooked, look-cell, column_of-lt}
@@ -93,21 +93,13 @@ on-further : (i y : Modifier) (k j c : ℕ) → (j == k) ≡ false → (k == j) 
 unfolding held remembered
 on-further i y k j c ne en other = rw (ne, en, eq-eqb k k refl, eq-eqb j j refl, other, self i) refl
 
--- the first press of the key looks up its modifier
-first-press : (m : MapValue) (i : Modifier) (k : ℕ) → cell_at m k 0 ≡ Act (act.Mod i)
-    → resolved (between m m) (Press k ∷ []) ≡ PressedAction k (act.Mod i) ∷ []
-unfolding resolved
-first-press m i k e = ap (λ x. resolve_press k x ∷ []) (look-none m k ∙ e)
-
 -- the script of the key alone looks up its character
 resolved-alone : (m : MapValue) (i : Modifier) (k c : ℕ) → cell_at m k 0 ≡ Act (act.Mod i)
     → cell_with m k (bits_with i None) ≡ Char c
     → resolved (between m m) (Release k ∷ Press k ∷ Press k ∷ [])
     ≡ ReleasedKey k ∷ PressedCharacter k c ∷ PressedAction k (act.Mod i) ∷ []
 unfolding resolved
-resolved-alone m i k c e f =
-    ap (λ r. ReleasedKey k ∷ resolve_press k (look m r k) ∷ r) (first-press m i k e)
-    ∙ ap (λ x. ReleasedKey k ∷ resolve_press k x ∷ PressedAction k (act.Mod i) ∷ []) (look-one m i k ∙ f)
+resolved-alone m i k c e f = rw (look-none m k, e, look-one m i k, f) refl
 
 -- the script with a second key looks up the character
 resolved-further : (m : MapValue) (i y : Modifier) (k j c : ℕ) → (k == j) ≡ false → cell_at m k 0 ≡ Act (act.Mod i)
@@ -117,17 +109,7 @@ resolved-further : (m : MapValue) (i y : Modifier) (k j c : ℕ) → (k == j) �
     ≡ ReleasedKey j ∷ ReleasedKey k ∷ PressedCharacter k c ∷ PressedAction j (act.Mod y) ∷ PressedAction k (act.Mod i)
     ∷ []
 unfolding resolved
-resolved-further m i y k j c en e g f =
-    ap (λ r. ReleasedKey j ∷ ReleasedKey k ∷ resolve_press k (look m (resolve_press j (look m r j) ∷ r) k)
-    ∷ resolve_press j (look m r j) ∷ r)
-    (first-press m i k e)
-    ∙ ap (λ x. ReleasedKey j ∷ ReleasedKey k
-    ∷ resolve_press k (look m (resolve_press j x ∷ PressedAction k (act.Mod i) ∷ []) k) ∷ resolve_press j x
-    ∷ PressedAction k (act.Mod i) ∷ [])
-    g
-    ∙ ap (λ x. ReleasedKey j ∷ ReleasedKey k ∷ resolve_press k x ∷ PressedAction j (act.Mod y)
-    ∷ PressedAction k (act.Mod i) ∷ [])
-    (look-two m i y k j en ∙ f)
+resolved-further m i y k j c en e g f = rw (look-none m k, e, g, look-two m i y k j en, f) refl
 
 -- the two scripts are tried
 alone-script : (o p q r : Option ℕ) (k : ℕ) → script (o ∷ p ∷ q ∷ r ∷ []) k 0 0 ≡ Press k ∷ Press k ∷ Release k ∷ []

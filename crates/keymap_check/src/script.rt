@@ -144,6 +144,7 @@ fn push_events(script: &mut Script, keys: &BitKeys, set: u8, except: u8, is_pres
 }
 
 /// The script that tries the key with the sets of bits.
+#[tactic(auto, using(crate::proofs::Lengths::room))]
 pub(crate) fn make_script(keys: &BitKeys, key: KeyCode, a: u8, b: u8) -> Script
     ensures { result.items ≡ spec.script keys.now key a b }
 {

@@ -5,20 +5,11 @@ use Rattle.keymap_core.specs.declared.action.Holding.TheVariants as holding
 use Rattle.keymap_check.proofs.Promises as promise
 use Rattle.keymap_check.proofs.report.check.Goals as goal
 
-pub returns-clause-value : goal.returns-clause-value
-returns-clause-value c = c.check_shown.ensures.value c.args.map.now refl
-
 pub returns-clause-accepted : goal.returns-clause-accepted
 returns-clause-accepted c = c.check_shown.ensures.accepted c.args.map.now refl
 
 pub returns-clause-findings : goal.returns-clause-findings
 returns-clause-findings c = c.check_shown.ensures.findings c.args.map.now refl
-
-pub returns-clause-bearers : goal.returns-clause-bearers
-returns-clause-bearers c = c.check_shown.ensures.bearers c.args.map.now refl
-
-pub returns-clause-steady : goal.returns-clause-steady
-returns-clause-steady c = c.check_shown.ensures.steady c.args.map.now refl
 
 pub returns-clause-promise : goal.returns-clause-promise
 returns-clause-promise c = c.check_shown.ensures.promise c.args.map.now refl

@@ -62,3 +62,6 @@ module _ {A : Type 0} (test : A → Bool) where
           → (k : ℕ) × (k < suc n) × (find test (f k) ≡ Some s)
       by None none here before = (n, omega arith, here)
       by (Some x) some here before = let r = before (some ∙ here) in (r.0, omega (arith, r.1), r.2)
+
+-- what a loop over the numbers keeps, which tries the list of each, and what it answers where it finds nothing
+pub ruleset tries = (try-start, try-more, try-none)

@@ -92,6 +92,7 @@ fn start<'m>(map: &'m KeyMap, keys: &BitKeys, key: KeyCode, a: u8) -> WordConsol
 }
 
 /// The first script of the key and the first set that leaves a modifier on. All begin alike: that is delivered once.
+#[tactic(auto, using(crate::proofs::Firsts::tries))]
 fn try_from(map: &KeyMap, keys: &BitKeys, key: KeyCode, a: u8) -> Option<Script>
     ensures { option_map (λ s. s.items) result ≡ find (leaves_modifier_on_in map.now) (scripts_from keys.now key a) }
 {
@@ -117,6 +118,7 @@ fn try_first_set(map: &KeyMap, keys: &BitKeys, key: KeyCode, a: u8) -> Option<Sc
 }
 
 /// The first script of the key that leaves a modifier on.
+#[tactic(auto, using(crate::proofs::Firsts::tries))]
 fn try_key(map: &KeyMap, keys: &BitKeys, key: KeyCode) -> Option<Script>
     ensures { option_map (λ s. s.items) result ≡ find (leaves_modifier_on_in map.now) (scripts_for keys.now key) }
 {
@@ -143,6 +145,7 @@ fn try_if_found(map: &KeyMap, survey: &Survey, key: u8) -> Option<Script>
 }
 
 /// The first script, in the order in which they are tried, that leaves a modifier on.
+#[tactic(auto, using(crate::proofs::Firsts::tries))]
 fn first_script(map: &KeyMap, survey: &Survey) -> Option<Script>
     requires { IsSurvey map.now survey.now }
     ensures { option_map (λ s. s.items) result ≡ demonstration_of map.now }

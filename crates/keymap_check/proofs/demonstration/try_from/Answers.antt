@@ -1,23 +1,9 @@
 use Rattle.keymap_check.proofs.Common.{arith, sym, leaves_modifier_on, scripts_of}
-use Rattle.keymap_check.proofs.Firsts.{try-start, try-more, try-found, try-none}
+use Rattle.keymap_check.proofs.Firsts.{try-found}
 use Rattle.keymap_check.proofs.demonstration.try_from.Goals as goal
-
-pub loop-b-init : goal.loop-b-init
-loop-b-init c = try-start (leaves_modifier_on c.args.map.now) (scripts_of c.args.keys.now c.args.key c.args.a)
-
-pub loop-b-preserved : goal.loop-b-preserved
-loop-b-preserved c =
-    try-more (leaves_modifier_on c.args.map.now) (scripts_of c.args.keys.now c.args.key c.args.a)
-    c.loop-b.b c.loop-b.invariant
-    (sym (c.in-None.ensures c.args.map.now c.start-start.ensures))
 
 pub returns-in-Some : goal.returns-in-Some
 returns-in-Some c =
     sym (try-found (leaves_modifier_on c.args.map.now) (scripts_of c.args.keys.now c.args.key c.args.a) c.loop-b.b 16
     c.in-Some.script.items (omega arith) c.loop-b.invariant
     (sym (c.in-Some.ensures c.args.map.now c.start-start.ensures)))
-
-pub returns : goal.returns
-returns c =
-    try-none (leaves_modifier_on c.args.map.now) (scripts_of c.args.keys.now c.args.key c.args.a) c.loop-b.b 16
-    (omega (arith, c.loop-b.auto.b-end)) c.loop-b.invariant

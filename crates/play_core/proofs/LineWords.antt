@@ -1,25 +1,21 @@
 -- The words of a line, one after another.
-use Rattle.play_core.proofs.Common.{zero, suc, ◌≡◌, ℕ, ◌+◌, ◌<◌, Bool, true, false, cond, not, List, [], ◌∷◌, length}
-use Rattle.play_core.proofs.Common.{take, drop, get_or, None, Some, refl, sym, ap, ◌∙◌, arith, ltb, drop-cons}
-use Rattle.play_core.proofs.Common.{unwrap_or, position_or_len, position, filter, slice_split, onto_first, digit_value}
-use Rattle.play_core.proofs.Common.{AllDigits, position-Some, ltb-false, separates_words, is_there, words_in}
+use Rattle.play_core.proofs.Common.{zero, suc, ◌≡◌, ℕ, ◌+◌, ◌<◌, Bool, true, false, not, List, [], ◌∷◌, length, take}
+use Rattle.play_core.proofs.Common.{drop, get_or, None, Some, refl, sym, ap, ◌∙◌, arith, ltb, drop-cons, unwrap_or}
+use Rattle.play_core.proofs.Common.{position_or_len, position, filter, slice_split, onto_first, digit_value, AllDigits}
+use Rattle.play_core.proofs.Common.{position-Some, ltb-false, separates_words, is_there, words_in}
 use Rattle.std.proofs.lemmas.List.Sums.{prefix_len-le-length}
 use Rattle.std.proofs.Math.Seq.{drop-length}
-use Rattle.std.proofs.lemmas.Bool.{not-true}
-
--- a position that is found or not, under a condition
-at_cond : (b : Bool) (n len : ℕ) → (b ≡ false → len ≡ n) → unwrap_or (cond b (Some n) None) len ≡ n
-at_cond true n len h = refl
-at_cond false n len h = h refl
+use Rattle.std.proofs.lemmas.Bool.{cond_both, not-true}
 
 -- a position, or else the length, is where the front ends
 pub unwrap_position : {A : Type 0} (p : A → Bool) (xs : List A)
     → unwrap_or (position p xs) (length xs) ≡ position_or_len p xs
 unwrap_position p xs =
-    at_cond (ltb (position_or_len p xs) (length xs)) _ _
+    cond_both (ltb (position_or_len p xs) (length xs)) (Some (position_or_len p xs)) None
+    (λ o. unwrap_or o (length xs) ≡ position_or_len p xs) (λ _. refl)
     (λ e. let low = prefix_len-le-length (λ x. not (p x)) xs in let high = ltb-false _ _ e in omega arith)
 
-one_more : (n : ℕ) → 1 + n ≡ suc n
+pub one_more : (n : ℕ) → 1 + n ≡ suc n
 one_more n = omega arith
 
 -- a blank in front is passed over

@@ -1,15 +1,16 @@
 -- The words of a line, by the bytes that it lacks, and lines in their plainest spelling.
-use Rattle.play_core.proofs.Common.{suc, ◌≡◌, ℕ, ◌+◌, ◌<◌, ◌≤◌, Bool, true, false, cond, eqb, List, [], ◌∷◌, ◌++◌}
-use Rattle.play_core.proofs.Common.{length, take, drop, get_or, ◌-◌, refl, sym, ap, ◌∙◌, arith, append_assoc, codes}
-use Rattle.play_core.proofs.Common.{slice_split, onto_first, digit_value, AllDigits, digit_from_value, filter-append}
-use Rattle.play_core.proofs.Common.{What, Down, Repeat, Up, separates_words, is_there, parts_of, words_in, words_of}
-use Rattle.play_core.proofs.Common.{IsNumber, Tells, key_of, BeginsWithEvent}
+use Rattle.play_core.proofs.Common.{◌≡◌, ℕ, ◌<◌, ◌≤◌, Bool, true, false, cond, eqb, List, [], ◌∷◌, ◌++◌, length, take}
+use Rattle.play_core.proofs.Common.{drop, get_or, ◌-◌, refl, sym, ap, ◌∙◌, arith, append_assoc, codes, slice_split}
+use Rattle.play_core.proofs.Common.{onto_first, digit_value, AllDigits, digit_from_value, filter-append, What, Down}
+use Rattle.play_core.proofs.Common.{Repeat, Up, separates_words, is_there, parts_of, words_in, words_of, IsNumber}
+use Rattle.play_core.proofs.Common.{Tells, key_of, BeginsWithEvent}
 use Rattle.std.specs.List.{list_any}
 use Rattle.std.proofs.lemmas.Bool.{ne_eqb, or_parts, or_from}
 use Rattle.std.proofs.lemmas.List.Folds.{list_any-append}
 use Rattle.play_core.specs.Scripts.{without_comment}
 use Rattle.play_core.specs.Spelling.{has_line_feed}
 use Rattle.play_core.specs.Inner.Readings.{BeginsWithKey}
+use Rattle.play_core.proofs.LineWords.{one_more}
 use Rattle.play_core.proofs.ScriptLines.{parts_there}
 use Rattle.keymap_text.proofs.Splitting.{to_end}
 
@@ -42,9 +43,6 @@ split-joined p (x ∷ xs) ys y e =
     (split-joined p xs ys y e)
 
 -- ---- the words of a text
-
-one_more : (n : ℕ) → 1 + n ≡ suc n
-one_more n = omega arith
 
 -- a line without a number sign has no comment
 no_comment : (line : List ℕ) → list_any (λ b. eqb b 35) line ≡ false → without_comment line ≡ line

@@ -1,7 +1,7 @@
 -- What answers type, and the offset of a character in a text.
 use Rattle.play_core.proofs.Common.{◌≡◌, ℕ, ◌<◌, List, [], ◌∷◌, ◌++◌, refl, ap, sym, ◌∙◌, map, length, take, drop}
-use Rattle.play_core.proofs.Common.{get_or, ◌+◌, ◌≤◌, arith, length-append, zero, suc, take_more, flat_map}
-use Rattle.play_core.proofs.Common.{encode_utf8_all, Answer, answers_to, AreTyped, typed_by, typed_text}
+use Rattle.play_core.proofs.Common.{get_or, ◌+◌, ◌≤◌, arith, length-append, suc, take_more, flat_map, encode_utf8_all}
+use Rattle.play_core.proofs.Common.{Answer, answers_to, AreTyped, typed_by, typed_text, drop-cons, take-append-drop}
 use Rattle.std.specs.Char.{len_utf8}
 use Rattle.std.proofs.lemmas.Str.{encodes-append, length-encode}
 use Rattle.std.specs.Prelude.{filter, encode_utf8}
@@ -41,16 +41,11 @@ typed-sentence m bytes cs x text are = record {
 
 -- ---- a character without a way
 
--- a list is the elements before an index, the one there, and those behind
-split-at : {X : Type 0} (xs : List X) (k : ℕ) (d : X) → k < length xs
-    → xs ≡ take k xs ++ get_or xs k d ∷ drop (suc k) xs
-split-at [] k d lt = absurd (omega arith)
-split-at (x ∷ xs) zero d lt = refl
-split-at (x ∷ xs) (suc k) d lt = ap (λ y. x ∷ y) (split-at xs k d (omega arith))
-
 -- characters are those before an index, the one there, and those behind
 pub split-item : (cs : List ℕ) (k c : ℕ) → k < length cs → c ≡ get_or cs k c → cs ≡ take k cs ++ c ∷ drop (suc k) cs
-split-item cs k c lt is = split-at cs k c lt ∙ ap (λ y. take k cs ++ y ∷ drop (suc k) cs) (sym is)
+split-item cs k c lt is =
+    sym (take-append-drop k cs)
+    ∙ ap (λ l. take k cs ++ l) (drop-cons cs k c lt ∙ ap (λ y. y ∷ drop (suc k) cs) (sym is))
 
 -- a character's bytes fit where the text has room for all
 pub room-for : (cs : List ℕ) (k c : ℕ) → k < length cs → c ≡ get_or cs k c

@@ -31,14 +31,10 @@ tail_by_number on locked number text n t = λ still_on still_locked e.
     (same_bits (map on modifiers ++ map locked locks) (map still_on modifiers ++ map still_locked locks) refl
     (sym n ∙ sym e))
 
--- the tail where nothing is on
-nothing_tail : tail_of (λ m. false) (λ l. false) ≡ codes "; mods none; locks none\n"
-unfolding tail_of names_of_modifiers names_of_locks
-nothing_tail = refl
-
 -- 0 is the number of nothing on
 pub nothing_is_on : IsTail 0 (codes "; mods none; locks none\n")
-nothing_is_on = tail_by_number (λ m. false) (λ l. false) 0 _ refl (sym nothing_tail)
+unfolding tail_of names_of_modifiers names_of_locks
+nothing_is_on = tail_by_number (λ m. false) (λ l. false) 0 _ refl refl
 
 -- what stands behind a text that a tail was added to
 pub tail_behind : (before text tail : List ℕ) (n : ℕ) → n ≡ length before → text ≡ before ++ tail

@@ -38,19 +38,18 @@ pub filled-more : (words next t text : List ℕ) (texts : List (List ℕ)) (old 
     → new ++ filled next texts ≡ all
 unfolding filled
 filled-more words next t text texts old new all same behind added before =
-    let f : List ℕ = filled (words_behind words) texts in
-    ap (λ w. new ++ filled w texts) behind
-    ∙ ap (λ l. l ++ f) (added ∙ ap (λ l. (old ++ words_before words) ++ l) same)
-    ∙ append_assoc (old ++ words_before words) t f ∙ append_assoc old (words_before words) (t ++ f)
-    ∙ ap (λ l. old ++ l) (sym (append_assoc (words_before words) t f)) ∙ before
+    let rest : List ℕ = filled (words_behind words) texts in
+    cc (
+      append_assoc (old ++ words_before words) t rest,
+      append_assoc old (words_before words) (t ++ rest),
+      append_assoc (words_before words) t rest,
+    )
 
 -- what is left then of a line that has room
 pub left-more : (t : List ℕ) (texts : List (List ℕ)) (line rest new all : List ℕ) → IsLeft (t ∷ texts) line rest all
     → new ≡ (line ++ words_before rest) ++ t → IsLeft texts new (words_behind rest) all
 left-more t texts line rest new all left e =
-    let size : length new ≡ (length line + length (words_before rest)) + length t =
-    ap length e ∙ length-append (line ++ words_before rest) t
-    ∙ ap (λ n. n + length t) (length-append line (words_before rest)) in
+    let size : length new ≡ (length line + length (words_before rest)) + length t = simp length-append at (ap length e) in
     record {
       text = filled-more rest (words_behind rest) t t texts line new all refl refl e left.text;
       places = (and_parts _ _ left.places).1;

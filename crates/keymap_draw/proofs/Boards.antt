@@ -2,6 +2,7 @@
 use Rattle.keymap_draw.proofs.Common.{zero, suc, ◌≡◌, Bool, true, ◌&&◌, not, List, [], ◌∷◌, refl, arith, All, ◌==◌}
 use Rattle.keymap_draw.proofs.Common.{list_all, and_parts, not-true, Board, Iso, Ansi, Row, keys_of}
 use Rattle.std.proofs.Common.{AllPairs}
+use Rattle.keymap_draw.proofs.Common.{each}
 use Rattle.std.proofs.lemmas.Bool.{eqb-false}
 use Rattle.keymap_draw.specs.Keyboards.{EachKeyOnce, NoTwoOverlap, AllLieOnThePanel, are_apart, is_on_panel}
 
@@ -9,11 +10,6 @@ use Rattle.keymap_draw.specs.Keyboards.{EachKeyOnce, NoTwoOverlap, AllLieOnThePa
 abbrev pub pairwise : {X : Type 0} → (X → X → Bool) → List X → Bool
 pairwise test [] = true
 pairwise test (x ∷ xs) = list_all (test x) xs && pairwise test xs
-
-pub each : {X : Type 0} (test : X → Bool) (xs : List X) → list_all test xs ≡ true → All (λ x. test x ≡ true) xs
-each test [] h k d l = absurd (omega (arith, l))
-each test (x ∷ xs) h zero d l = (and_parts (test x) (list_all test xs) h).0
-each test (x ∷ xs) h (suc k) d l = each test xs (and_parts (test x) (list_all test xs) h).1 k d (omega (arith, l))
 
 pub pairs : {X : Type 0} (test : X → X → Bool) (xs : List X) → pairwise test xs ≡ true
     → AllPairs (λ x y. test x y ≡ true) xs

@@ -54,12 +54,13 @@ pub use Rattle.keymap_text.specs.Rows.{AccentDefinition, Definition}
 pub use Rattle.std.proofs.Common.{All, Bool, List, None, Option, Some, [], ap, append-nil, append_assoc, arith, drop}
 pub use Rattle.std.proofs.Common.{false, get_or, inl, inr, length, map, not, refl, subst, sym, take, true, ℕ, ◌%◌, ◌&&◌}
 pub use Rattle.std.proofs.Common.{◌++◌, ◌+◌, ◌<◌, ◌==◌, ◌||◌, ◌∙◌, ◌∷◌, ◌≡◌, ◌≤◌}
-pub use Rattle.std.proofs.lemmas.Bool.{agree_below, agree_below_at, and_parts, cases_order, eqb-true, ltb-true}
-pub use Rattle.std.proofs.lemmas.Bool.{not-true, or_cases}
+pub use Rattle.std.proofs.lemmas.Bool.{agree_below, agree_below_at, and_parts, and_from, cases_order, cond_both, eqb-true}
+pub use Rattle.std.proofs.lemmas.Bool.{ltb-true, not-true, or_cases}
 pub use Rattle.std.proofs.lemmas.Bool.Decides.{nat_tests}
 pub use Rattle.std.proofs.lemmas.List.Elements.{All-append, All-cons, All-contains, All-head, All-nil, All-replicate}
 pub use Rattle.std.proofs.lemmas.List.Elements.{All-tail}
 pub use Rattle.std.proofs.lemmas.List.Folds.{Any-from_list_any}
+pub use Rattle.std.proofs.lemmas.List.Sums.{AllPass-from_list_all as each}
 pub use Rattle.std.proofs.lemmas.Option.{none-some}
 unfoldable pub use Rattle.std.specs.Fmt.{digits}
 pub use Rattle.std.specs.List.{Any, Contains, cons_option, filter, filter_map, flat_map, list_all, list_any}

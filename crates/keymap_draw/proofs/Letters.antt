@@ -12,7 +12,8 @@ use Rattle.keymap_draw.specs.declared.tables.TheConstants.{CASES}
 use Rattle.keymap_draw.specs.Drawn.{is_pair_by, is_case_pair}
 use Rattle.keymap_draw.specs.Letters.{letters, MarksAreOfTheirAccents, PairsAreLetters, CapitalsAreOfOneLetter}
 use Rattle.keymap_draw.specs.Letters.{LettersHaveOneCapital}
-use Rattle.keymap_draw.proofs.Boards.{each, pairs, pairwise}
+use Rattle.keymap_draw.proofs.Common.{each}
+use Rattle.keymap_draw.proofs.Boards.{pairs, pairwise}
 
 pub marks_are_of_their_accents : MarksAreOfTheirAccents
 marks_are_of_their_accents = refl
@@ -53,15 +54,10 @@ told_by row h small capital e =
     let a : row.0 ≤ small = leb-true row.0 small least in
     let b : small ≤ row.1 = leb-true small row.1 most in
     let c : capital + row.3 ≡ small = eqb-true (capital + row.3) small sum in
-    let k : ℕ = small - row.0 in
-    let here : row_tells row k ≡ true =
-    agree_below_at (row_tells row) (λ k. true) (row.1 + 1 - row.0) k h (omega (arith, a, b)) in
-    let s : row.0 + k ≡ small = omega (arith, a) in
-    let t : row.0 + k - row.3 ≡ capital = omega (arith, a, c) in
-    elim (or_cases (not (is_small row k)) (told (row.0 + k) (row.0 + k - row.3)) here) [
-      | inl other ↦ absurd (true≢false (sym parity ∙ not-true (is_small row k) other))
-      | inr tells ↦ ap (λ n. told n capital) (sym s) ∙ ap (λ n. told (row.0 + k) n) (sym t) ∙ tells
-    ]
+    let s : row.0 + (small - row.0) ≡ small = omega (arith, a) in
+    let t : small - row.3 ≡ capital = omega (arith, c) in
+    rw (parity, s, t) at
+    (agree_below_at (row_tells row) (λ k. true) (row.1 + 1 - row.0) (small - row.0) h (omega (arith, a, b)))
 
 among : (small capital : ℕ) → told small capital ≡ true → Contains letters (small, capital)
 unfolding told
@@ -110,21 +106,13 @@ capital_once = refl
 -- two that don't differ are one
 one_of : (differs : ℕ × ℕ → ℕ × ℕ → Bool) → pairwise differs letters ≡ true → (p q : ℕ × ℕ)
     → differs p q ≡ false → differs q p ≡ false → Contains letters p → Contains letters q → p ≡ q
-one_of differs h p q e f (i, l, a) (j, m, b) = elim (cases_order i j) [
-  | inl same ↦
-      sym (default p q i l ∙ a) ∙ ap (λ n. get_or letters n q) same ∙ b
-  | inr (inl lt) ↦
-      let d : differs (get_or letters i p) (get_or letters j p) ≡ true = pairs differs letters h i j p lt m in
-      absurd (true≢false (sym d ∙ ap (λ x. differs x (get_or letters j p)) a
-      ∙ ap (differs p) (sym (default p q j m) ∙ b) ∙ e))
-  | inr (inr gt) ↦
-      let d : differs (get_or letters j p) (get_or letters i p) ≡ true = pairs differs letters h j i p gt l in
-      absurd (true≢false (sym d ∙ ap (λ x. differs (get_or letters j p) x) a
-      ∙ ap (λ x. differs x p) (sym (default p q j m) ∙ b) ∙ f))
-]
-  where
-    default : (p q : ℕ × ℕ) (k : ℕ) → k < length letters → get_or letters k q ≡ get_or letters k p
-    default p q k l = get_or_default letters k q p l
+one_of differs h p q e f (i, l, a) (j, m, b) =
+    let other : get_or letters j p ≡ q = get_or_default letters j p q m ∙ b in
+    elim (cases_order i j) [
+      | inl same ↦ sym a ∙ ap (λ n. get_or letters n p) same ∙ other
+      | inr (inl lt) ↦ absurd (cc (pairs differs letters h i j p lt m))
+      | inr (inr gt) ↦ absurd (cc (pairs differs letters h j i p gt l))
+    ]
 
 same_not : (a b : ℕ) → a ≡ b → not (a == b) ≡ false
 same_not a b e = not_from_true (a == b) (eq-eqb a b e)

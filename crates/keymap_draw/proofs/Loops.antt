@@ -1,10 +1,13 @@
 -- Texts and lists that are put together in a loop.
 use Rattle.keymap_draw.proofs.Common.{zero, suc, ◌≡◌, ℕ, ◌+◌, ◌<◌, ◌≤◌, Bool, true, false, List, [], ◌∷◌, ◌++◌, length}
 use Rattle.keymap_draw.proofs.Common.{drop, get_or, append_assoc, append-nil, All, refl, sym, ap, ◌∙◌, arith}
-use Rattle.keymap_draw.proofs.Common.{All-append, All-nil, None, slice_get, slice_index_or, gathered, passing, passed}
+use Rattle.keymap_draw.proofs.Common.{All-append, All-cons, All-nil, None, slice_get, slice_index_or, gathered, passing, passed}
 use Rattle.keymap_draw.proofs.Common.{Fact, numbered}
 use Rattle.std.proofs.Common.{add-one, drop-cons}
 use Rattle.std.proofs.Math.ListN.{drop_of_length-le}
+use Rattle.std.specs.Option.{unwrap_or}
+use Rattle.std.proofs.lemmas.Option.{unwrap_or-slice_get}
+use Rattle.keymap_core.proofs.Below.{gathered-more, gathered-none}
 
 -- nothing is left to add
 pub numbered_end : {A : Type 0} (f : ℕ → A → List Fact) (xs : List A) (i : ℕ) (old all : List Fact) → length xs ≤ i
@@ -26,31 +29,19 @@ numbered_at f xs i d old new all inside added before =
     ∙ ap (λ l. old ++ numbered f i l) (sym first)
     ∙ before
 
-pub passing-none : (test : ℕ → Bool) → passing test 0 ≡ []
-unfolding passing gathered
-passing-none test = refl
-
-passing-suc : (test : ℕ → Bool) (n : ℕ) → passing test (suc n) ≡ passing test n ++ passed (test n) n
-unfolding passing gathered
-passing-suc test n = refl
-
 -- one number more
 pub passing-more : (test : ℕ → Bool) (n : ℕ) (r : Bool) (old new : List ℕ) → r ≡ test n → old ≡ passing test n
     → new ≡ old ++ passed r n → new ≡ passing test (n + 1)
-passing-more test n r old new e before added =
-    added ∙ ap (λ l. l ++ passed r n) before ∙ ap (λ b. passing test n ++ passed b n) e ∙ sym (passing-suc test n)
-    ∙ ap (λ k. passing test k) (sym (add-one n))
+unfolding passing
+passing-more test n r old new e before added = cc (gathered-more (λ i. passed (test i) i) n)
 
 -- what is empty has all that pass below 0
 pub passing-start : (test : ℕ → Bool) (old : List ℕ) → old ≡ [] → old ≡ passing test 0
-passing-start test old e = e ∙ sym (passing-none test)
+unfolding passing
+passing-start test old e = e ∙ sym (gathered-none (λ i. passed (test i) i))
 
 passed-below : (b : Bool) (n k : ℕ) → n < k → All (λ i. i < k) (passed b n)
-passed-below true n k h = one n h
-  where
-    one : (n : ℕ) → n < k → All (λ i. i < k) (n ∷ [])
-    one n h zero d low = h
-    one n h (suc j) d low = absurd (omega arith)
+passed-below true n k h = All-cons (λ i. i < k) n [] h (All-nil (λ i. i < k))
 passed-below false n k h = All-nil (λ i. i < k)
 
 -- what passes is below the bound
@@ -63,8 +54,6 @@ passing-below test (suc n) k h =
 
 -- past the end there is only what stands for it
 pub none_is : {A : Type 0} (xs : List A) (i : ℕ) (d : A) → slice_get xs i ≡ None → slice_index_or xs i d ≡ d
-none_is [] i d e = refl
-none_is (x ∷ xs) zero d e = cc
-none_is (x ∷ xs) (suc i) d e = none_is xs i d e
+none_is xs i d e = sym (unwrap_or-slice_get xs i d) ∙ ap (λ o. unwrap_or o d) e
 
 pub ruleset passing_rules = (passing-start)

@@ -11,12 +11,14 @@ use Rattle.std.specs.Option.{option_and_then}
 use Rattle.std.proofs.lemmas.Option.{option_and_then_some}
 use Rattle.keymap_core.specs.declared.action.Holding.{Holding}
 use Rattle.keymap_core.specs.Actions.{holding_action}
-use Rattle.keymap_draw.specs.declared.sheet.Told.TheVariants.{Characters}
+use Rattle.keymap_draw.specs.declared.sheet.Told.TheVariants.{Characters, Number}
 use Rattle.keymap_draw.specs.Sheets.{written, is_ready, taking}
 use Rattle.messages.specs.Filled.{filled, is_hole, words_before, words_behind}
 use Rattle.keymap_draw.proofs.Scans.{both_true, first_true, second_true, failed, scan-append, inside_from}
 use Rattle.keymap_draw.proofs.Scans.{was_inside, value_scan, text_scan, further, held, decimal_inner}
-use Rattle.keymap_draw.proofs.Shown.{joined, place, ends as ends_in, escaped_scan, tag_scan}
+use Rattle.messages.proofs.Passed.{filled_all}
+use Rattle.keymap_draw.proofs.Common.{nat_tests}
+use Rattle.keymap_draw.proofs.Shown.{place, ends as ends_in, escaped_scan, tag_scan}
 use Rattle.keymap_core.specs.declared.action.Holding.TheVariants as h
 use Rattle.keymap_core.specs.declared.action.Modifier.TheVariants as m
 use Rattle.keymap_core.specs.declared.action.Lock.TheVariants as l
@@ -63,6 +65,12 @@ taken : (p : Place) (r : Read) (t : Told) (next : List ℕ) (ts : List Told) (q 
     ≡ scan (Some q) (filled next (map written ts))
 taken (Value tag name value) r (Plain t) next ts q h e =
     ap (λ o. scan o (filled next (map written ts))) (value_scan tag name value r t.now h ∙ e)
+taken (Value tag name value) r (Number n) next ts q h e =
+    ap (λ o. scan o (filled next (map written ts))) (value_scan tag name value r (decimal n) (decimal_inner n) ∙ e)
+taken Text r (Number n) next ts q h e =
+    let (i, f) = inside_from Text (saying (decimal n) r) q e in
+    ap (λ o. scan o (filled next (map written ts)))
+    (text_scan r (decimal n) (was_inside r (decimal n) i) (decimal_inner n) ∙ f)
 taken Text r (Plain t) next ts q h e =
     let (i, f) = inside_from Text (saying t.now r) q e in
     ap (λ o. scan o (filled next (map written ts))) (text_scan r t.now (was_inside r t.now i) h ∙ f)
@@ -114,24 +122,14 @@ led words told h v = behind words told (held h v)
 
 -- ---- what is inner
 
--- a letter of a list whose letters pass a test
-among : (test : ℕ → Bool) (letters : List ℕ) (c : ℕ) → list_all test letters ≡ true
-    → list_any (λ d. d == c) letters ≡ true → test c ≡ true
-among test [] c h e = cc
-among test (d ∷ letters) c h e =
-    by (d == c) refl (λ e. among test letters c (second_true _ h) e) e
-  where
-    by : (b : Bool) → d == c ≡ b → (list_any (λ d. d == c) letters ≡ true → test c ≡ true)
-        → (b || list_any (λ d. d == c) letters) ≡ true → test c ≡ true
-    by true same rest e = ap test (sym (eqb-true d c same)) ∙ first_true _ h
-    by false other rest e = rest e
+class_inner : (c : ℕ) → is_class c ≡ true → is_inner c ≡ true
+class_inner c h = grind (arith, nat_tests)
 
 -- classes may stand in a value
 pub classes_inner : (classes : List ℕ) → list_all is_class classes ≡ true → list_all is_inner classes ≡ true
 classes_inner [] h = refl
 classes_inner (c ∷ classes) h =
-    both_true (among is_inner (codes " botuvwxyzcraedmfpg") c refl (first_true _ h))
-    (classes_inner classes (second_true _ h))
+    both_true (class_inner c (first_true _ h)) (classes_inner classes (second_true _ h))
 
 -- ---- what the check says
 
@@ -140,31 +138,10 @@ holding_inner (h.Mod m.LeftShift) = refl
 holding_inner (h.Lock l.Caps) = refl
 holding_inner _ = refl
 
-record IsInner (words : List ℕ) (texts : List (List ℕ)) : Type 0 where
-  all : list_all is_inner (filled words texts) ≡ true
-
-into : {w t : List ℕ} {ts : List (List ℕ)} → list_all is_inner (words_before w) ≡ true → list_all is_inner t ≡ true
-    → IsInner (words_behind w) ts → IsInner w (t ∷ ts)
-unfolding filled
-into {w} {t} {ts} h k l = record {
-  all = joined is_inner (words_before w ++ t) (filled (words_behind w) ts) (joined is_inner (words_before w) t h k)
-      l.all;
-}
-
-ends : {w : List ℕ} → list_all is_inner w ≡ true → IsInner w []
-unfolding filled
-ends h = record { all = h }
-
-said : (f : Finding) → IsInner (codes "key {}: {} at slot {} column {}, character at slot {} column {}")
-    (decimal f.key ∷ name_of (holding_action f.holding) ∷ decimal f.holding_at.slot ∷ decimal f.holding_at.column
-    ∷ decimal f.character_at.slot ∷ decimal f.character_at.column ∷ [])
-said f =
-    into refl (decimal_inner f.key)
-    (into refl (holding_inner f.holding)
-    (into refl (decimal_inner f.holding_at.slot)
-    (into refl (decimal_inner f.holding_at.column)
-    (into refl (decimal_inner f.character_at.slot)
-    (into refl (decimal_inner f.character_at.column) (ends refl))))))
-
 pub said_inner : (f : Finding) → list_all is_inner (finding_words f) ≡ true
-said_inner f = (said f).all
+said_inner f =
+    filled_all is_inner (codes "key {}: {} at slot {} column {}, character at slot {} column {}")
+    (decimal f.key ∷ name_of (holding_action f.holding) ∷ decimal f.holding_at.slot ∷ decimal f.holding_at.column
+    ∷ decimal f.character_at.slot ∷ decimal f.character_at.column ∷ []) refl
+    (decimal_inner f.key, (holding_inner f.holding, (decimal_inner f.holding_at.slot, (decimal_inner f.holding_at.column,
+    (decimal_inner f.character_at.slot, (decimal_inner f.character_at.column, tt))))))

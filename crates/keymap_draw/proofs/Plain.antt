@@ -5,7 +5,7 @@ use Rattle.keymap_draw.proofs.Common.{is_unseen, Cell, Entry, slot_words, accent
 use Rattle.keymap_draw.proofs.Common.{none-some, start, step, scan, is_plain, is_seen}
 use Rattle.keymap_draw.specs.WellFormed.{step_at, IsPlain, IsShown, IsSeen}
 use Rattle.keymap_draw.proofs.Scans.{first_true, second_true, failed}
-use Rattle.keymap_draw.proofs.Boards.{each}
+use Rattle.keymap_draw.proofs.Common.{each}
 use Rattle.keymap_draw.proofs.Texts.{AreShown, cell_shown, slot_words_shown, accent_words_shown}
 
 scanned_plain : (bs : List ℕ) (o : Option State) (t : State) → scan o bs ≡ Some t → All IsPlain bs

@@ -1,23 +1,22 @@
 -- A red cap is that of a key with a finding, and which classes a key has.
 use Rattle.keymap_draw.proofs.Common.{◌≡◌, ℕ, ◌==◌, Bool, true, false, List, [], ◌∷◌, Option, Some, None, refl, sym, ap}
 use Rattle.keymap_draw.proofs.Common.{◌∙◌, arith, All, ◌%◌, if◌then◌else◌, list_all, key_count, Entry, Finding}
-use Rattle.keymap_draw.proofs.Common.{finding_of, is_class}
+use Rattle.keymap_draw.proofs.Common.{finding_of, is_class, ◌||◌, nat_tests}
 use Rattle.std.specs.Prelude.{option_to_list}
 use Rattle.std.specs.Option.{is_some}
 use Rattle.keymap_draw.specs.Drawn.{column}
 use Rattle.keymap_draw.specs.Keys.{names_key, red, key_class, is_blank_entry, is_holding, is_doing}
 use Rattle.keymap_draw.specs.Places.{IsClass}
-use Rattle.keymap_draw.proofs.Boards.{each}
-
--- by whether the first finding is the key's
-found_by : (f : Finding) (fs : List Finding) (k : ℕ) (b : Bool) → f.key == k ≡ b
-    → is_some (finding_of fs k) ≡ names_key fs k → is_some (finding_of (f ∷ fs) k) ≡ names_key (f ∷ fs) k
-found_by f fs k true e h = rw e refl
-found_by f fs k false e h = rw e h
+use Rattle.keymap_draw.proofs.Common.{each}
 
 found : (fs : List Finding) (k : ℕ) → is_some (finding_of fs k) ≡ names_key fs k
 found [] k = refl
-found (f ∷ fs) k = found_by f fs k (f.key == k) refl (found fs k)
+found (f ∷ fs) k = by (f.key == k) (found fs k)
+  where
+    by : (b : Bool) → is_some (finding_of fs k) ≡ names_key fs k
+        → is_some (if b then Some f else finding_of fs k) ≡ (b || names_key fs k)
+    by true e = refl
+    by false e = e
 
 -- the classes behind the first, of which none is red
 abbrev other_class : Bool → Bool → Bool → Option ℕ
@@ -27,16 +26,9 @@ other_class blank holding doing =
     else if doing then Some 103
     else None
 
-other_red : (n : ℕ) → Some n ≡ Some red → n ≡ red
-other_red n h = cc
-
 class_red : (named blank holding doing : Bool)
     → (if named then Some red else other_class blank holding doing) ≡ Some red → named ≡ true
-class_red true blank holding doing h = refl
-class_red false true holding doing h = absurd (omega (arith, other_red 112 h))
-class_red false false true doing h = absurd (omega (arith, other_red 109 h))
-class_red false false false true h = absurd (omega (arith, other_red 103 h))
-class_red false false false false h = cc
+class_red named blank holding doing h = grind (arith, nat_tests)
 
 pub red_named : (fs : List Finding) (slot : ℕ) (e : Entry) → key_class fs slot e ≡ Some red
     → names_key fs (slot % key_count) ≡ true

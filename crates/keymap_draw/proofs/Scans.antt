@@ -5,7 +5,8 @@ use Rattle.keymap_draw.proofs.Common.{◌&&◌, ◌||◌, not, decimal, if◌the
 use Rattle.keymap_draw.proofs.Common.{nat_tests, none-some, Fact, is_inner, within, facts_of, facts_in, ReadAs}
 use Rattle.keymap_draw.proofs.Common.{IsWithin, Element, Place, Read, State, at, saying, step, scan, start, is_plain}
 use Rattle.keymap_draw.proofs.Common.{within_element, Text, Value}
-use Rattle.std.specs.Fmt.{digits_onto, digit_glyph}
+use Rattle.std.proofs.lemmas.Bool.{and_from, and_parts, cond_both, not-true}
+use Rattle.messages.proofs.Passed.{decimal_passes}
 use Rattle.keymap_draw.specs.WellFormed.{Tag, Role, element, with_characters, longer, with_begun, is_empty}
 use Rattle.keymap_draw.specs.WellFormed.Role.{Titled, Lettered}
 
@@ -18,15 +19,13 @@ pub past : (s t : Option State) (a b : List ℕ) (r : Option State) → scan s a
 past s t a b r e f = scan-append s a b ∙ ap (λ o. scan o b) e ∙ f
 
 pub both_true : {a b : Bool} → a ≡ true → b ≡ true → (a && b) ≡ true
-both_true e f = rw (e, f) refl
+both_true e f = and_from _ _ e f
 
 pub first_true : {a : Bool} (b : Bool) → (a && b) ≡ true → a ≡ true
-first_true {a = true} b e = refl
-first_true {a = false} b e = e
+first_true b e = (and_parts _ b e).0
 
 pub second_true : (a : Bool) {b : Bool} → (a && b) ≡ true → b ≡ true
-second_true true e = e
-second_true false e = cc
+second_true a e = (and_parts a _ e).1
 
 -- where reading has failed it stays so
 pub failed : (bs : List ℕ) → scan None bs ≡ None
@@ -86,19 +85,19 @@ inside_from p r q e = by (is_empty r.begun) refl e
     by true f e = absurd (none-some q e)
     by false f e = (f, e)
 
-valued_by : (plain quote markup bracket : Bool) (x y z : Option State)
-    → (plain && not quote && not markup && not bracket) ≡ true
-    → (if plain then (if quote then x else if markup then y else z) else None) ≡ z
-valued_by true true m b x y z h = cc
-valued_by true false true b x y z h = cc
-valued_by true false false b x y z h = refl
-valued_by false q m b x y z h = cc
+value_step : (tag : Tag) (name value : List ℕ) (r : Read) (c : ℕ) → is_inner c ≡ true
+    → step (Some (at (Value tag name value) r)) c ≡ Some (at (Value tag name (value ++ c ∷ [])) r)
+value_step tag name value r c h =
+    let (rest, bracket) = and_parts (is_plain c && not (c == 34) && not (c == 38 || c == 60)) (not (c == 93)) h in
+    let (plainly, markup) = and_parts (is_plain c && not (c == 34)) (not (c == 38 || c == 60)) rest in
+    let (plain, quote) = and_parts (is_plain c) (not (c == 34)) plainly in
+    rw (plain, not-true (c == 34) quote, not-true (c == 38 || c == 60) markup) refl
 
 pub value_scan : (tag : Tag) (name value : List ℕ) (r : Read) (bs : List ℕ) → list_all is_inner bs ≡ true
     → scan (Some (at (Value tag name value) r)) bs ≡ Some (at (Value tag name (value ++ bs)) r)
 value_scan tag name value r [] h = ap (λ v. Some (at (Value tag name v) r)) (sym (append-nil value))
 value_scan tag name value r (c ∷ bs) h =
-    ap (λ o. scan o bs) (valued_by (is_plain c) (c == 34) (c == 38 || c == 60) (c == 93) _ _ _ (first_true _ h))
+    ap (λ o. scan o bs) (value_step tag name value r c (first_true _ h))
     ∙ value_scan tag name (value ++ c ∷ []) r bs (second_true _ h)
     ∙ ap (λ v. Some (at (Value tag name v) r)) (append_assoc value (c ∷ []) bs)
 
@@ -106,22 +105,15 @@ value_scan tag name value r (c ∷ bs) h =
 abbrev pub is_textual : ℕ → Bool
 is_textual c = is_plain c && not (c == 60) && not (c == 38) && not (c == 93)
 
-textual_by : (plain less and feed bracket : Bool) (x y z v w : Option State)
-    → (plain && not less && not and && not bracket) ≡ true → w ≡ z
-    → (if plain then (if less then x else if and then y else if feed then z else if bracket then v else w) else None)
-    ≡ z
-textual_by true true a f b x y z v w h e = cc
-textual_by true false true f b x y z v w h e = cc
-textual_by true false false f true x y z v w h e = cc
-textual_by true false false true false x y z v w h e = refl
-textual_by true false false false false x y z v w h e = e
-textual_by false l a f b x y z v w h e = cc
-
 pub textual_step : (r : Read) (c : ℕ) → IsInside r → is_textual c ≡ true
     → step (Some (at Text r)) c ≡ Some (at Text (saying (c ∷ []) r))
 textual_step r c i e =
-    textual_by (is_plain c) (c == 60) (c == 38) (c == 10) (c == 93) _ _ _ _ _ e
-    (inside_is Text (saying (c ∷ []) r) (still_inside r (c ∷ []) i))
+    let (rest, bracket) = and_parts (is_plain c && not (c == 60) && not (c == 38)) (not (c == 93)) e in
+    let (more, ampersand) = and_parts (is_plain c && not (c == 60)) (not (c == 38)) rest in
+    let (plain, less) = and_parts (is_plain c) (not (c == 60)) more in
+    rw (plain, not-true (c == 60) less, not-true (c == 38) ampersand, not-true (c == 93) bracket)
+    (cond_both (c == 10) _ _ (λ s. s ≡ Some (at Text (saying (c ∷ []) r))) (λ _. refl)
+    (λ _. inside_is Text (saying (c ∷ []) r) (still_inside r (c ∷ []) i)))
 
 inner_textual : (c : ℕ) → is_inner c ≡ true → is_textual c ≡ true
 inner_textual c h = grind (arith, nat_tests)
@@ -158,30 +150,5 @@ is_within {begun} h = record { scanned = h.scanned ∙ ap (λ fs. Some (within b
 
 -- ---- numbers
 
-onto_by : (test : ℕ → Bool) (d : ℕ) (acc more : List ℕ) (b : Bool) → test d ≡ true → list_all test acc ≡ true
-    → list_all test more ≡ true → list_all test (if b then d ∷ acc else more) ≡ true
-onto_by test d acc more true e h m = both_true e h
-onto_by test d acc more false e h m = m
-
-onto_all : (test : ℕ → Bool) → ((d : ℕ) → d < 10 → test (digit_glyph false d) ≡ true) → (k n : ℕ) (acc : List ℕ)
-    → list_all test acc ≡ true → list_all test (digits_onto k 10 false n acc) ≡ true
-onto_all test each zero n acc h = h
-onto_all test each (suc k) n acc h =
-    let d : test (digit_glyph false (n % 10)) ≡ true = each (n % 10) (omega arith) in
-    onto_by test (digit_glyph false (n % 10)) acc
-    (digits_onto k 10 false (n / 10) (digit_glyph false (n % 10) ∷ acc)) (n / 10 == 0) d h
-    (onto_all test each k (n / 10) (digit_glyph false (n % 10) ∷ acc) (both_true d h))
-
--- each digit passes
-pub decimal_all : (test : ℕ → Bool) → ((d : ℕ) → d < 10 → test (digit_glyph false d) ≡ true) → (n : ℕ)
-    → list_all test (decimal n) ≡ true
-unfolding digits
-decimal_all test each n = onto_all test each 64 n [] refl
-
-pub digit_passes : (test : ℕ → Bool)
-    → map (λ d. test (digit_glyph false d)) (range_with_len 0 10) ≡ map (λ d. true) (range_with_len 0 10) → (d : ℕ)
-    → d < 10 → test (digit_glyph false d) ≡ true
-digit_passes test h d low = along (λ d. test (digit_glyph false d)) (λ d. true) 0 10 h d (omega arith) (omega arith)
-
 pub decimal_inner : (n : ℕ) → list_all is_inner (decimal n) ≡ true
-decimal_inner n = decimal_all is_inner (digit_passes is_inner refl) n
+decimal_inner n = decimal_passes is_inner refl n

@@ -1,14 +1,14 @@
 -- What the legends and the titles have, and how it is scanned.
 use Rattle.keymap_draw.proofs.Common.{zero, suc, ◌≡◌, ℕ, ◌+◌, ◌<◌, Bool, true, false, List, [], ◌∷◌, ◌++◌, Some, None}
 use Rattle.keymap_draw.proofs.Common.{refl, ap, sym, ◌∙◌, arith, length, get_or, All, ◌==◌, map, ◌/◌, ◌%◌, nat_lt}
-use Rattle.keymap_draw.proofs.Common.{codes, if◌then◌else◌, slice_index_or, list_all, flat_map, range_with_len, along}
+use Rattle.keymap_draw.proofs.Common.{codes, if◌then◌else◌, slice_index_or, list_all, flat_map, range_with_len, along, agree_below_at}
 use Rattle.keymap_draw.proofs.Common.{ltb-true, eqb-true, nat_tests, All-head, All-tail, code_digits, upper_digits}
 use Rattle.keymap_draw.proofs.Common.{digit_at, escaped, is_seen, Read, Place, at, step, scan, saying, is_plain}
 use Rattle.keymap_draw.proofs.Common.{is_shown, Text}
 use Rattle.std.proofs.Common.{◌*◌}
 use Rattle.std.specs.Char.{digit_char}
-use Rattle.std.proofs.lemmas.Bool.{false≢true}
-use Rattle.std.proofs.lemmas.List.Folds.{list_all-append}
+use Rattle.std.proofs.lemmas.Bool.{cond_both}
+use Rattle.messages.proofs.Passed.{append_all}
 use Rattle.keymap_draw.specs.Markup.{is_referred, reference}
 use Rattle.keymap_draw.specs.WellFormed.{in_text}
 use Rattle.keymap_draw.specs.WellFormed.Place.{Bracket, Number, Ampersand}
@@ -19,7 +19,7 @@ use Rattle.keymap_draw.proofs.Scans.{saying_none, saying_more, is_textual, textu
 
 pub joined : (test : ℕ → Bool) (a b : List ℕ) → list_all test a ≡ true → list_all test b ≡ true
     → list_all test (a ++ b) ≡ true
-joined test a b e f = list_all-append test a b ∙ both_true e f
+joined = append_all
 
 pub flat_all : {A : Type 0} (test : ℕ → Bool) (P : A → Type 0) (f : A → List ℕ)
     → ((x : A) → P x → list_all test (f x) ≡ true) → (xs : List A) → All P xs → list_all test (flat_map f xs) ≡ true
@@ -41,13 +41,8 @@ item_all test (x ∷ xs) (suc i) d lt h = item_all test xs i d (omega arith) (se
 
 -- ---- hexadecimal digits
 
-pub hex_passes : (test : ℕ → Bool)
-    → map (λ d. test (digit_char d)) (range_with_len 0 16) ≡ map (λ d. true) (range_with_len 0 16) → (d : ℕ) → d < 16
-    → test (digit_char d) ≡ true
-hex_passes test h d low = along (λ d. test (digit_char d)) (λ d. true) 0 16 h d (omega arith) (omega arith)
-
 pub hex_shown : (d : ℕ) → d < 16 → is_seen (digit_char d) ≡ true
-hex_shown = hex_passes is_seen refl
+hex_shown d low = agree_below_at (λ d. is_seen (digit_char d)) (λ d. true) 16 d refl low
 
 hex_step : (r : Read) (n d : ℕ) → d < 16
     → step (Some (at (Number n) r)) (digit_char d) ≡ Some (at (Number (16 * n + d)) r)
@@ -79,36 +74,26 @@ four_digits r c =
     hex_scan r (c / 0x10000) (c / 0x1000 ∷ c / 0x100 ∷ c / 0x10 ∷ c / 1 ∷ [])
     ∙ at_number r (number_on (c / 0x10000) (c / 0x1000 ∷ c / 0x100 ∷ c / 0x10 ∷ c / 1 ∷ [])) c (omega arith)
 
-low_number : (c : ℕ) → nat_lt c 0x10000 ≡ true → 0 ≡ c / 0x10000
-low_number c e = let h : c < 0x10000 = ltb-true c 0x10000 e in omega arith
-
-middle_number : (c : ℕ) → nat_lt c 0x100000 ≡ true → 16 * 0 + c / 0x10000 % 16 ≡ c / 0x10000
-middle_number c e = let h : c < 0x100000 = ltb-true c 0x100000 e in omega arith
-
-high_number : (c : ℕ) → c < 0x110000 → 16 * (16 * 0 + c / 0x100000 % 16) + c / 0x10000 % 16 ≡ c / 0x10000
-high_number c h = omega arith
-
-upper_by : (r : Read) (c : ℕ) (a b : Bool) → c < 0x110000 → nat_lt c 0x10000 ≡ a
-    → nat_lt c 0x100000 ≡ b
-    → scan (Some (at (Number 0) r)) (if a then [] else if b then digit_at c 0x10000 ∷ []
-    else digit_at c 0x100000 ∷ digit_at c 0x10000 ∷ []) ≡ Some (at (Number (c / 0x10000)) r)
-upper_by r c true b low e f = at_number r 0 (c / 0x10000) (low_number c e)
-upper_by r c false true low e f = hex_scan r 0 (c / 0x10000 ∷ []) ∙ at_number r _ (c / 0x10000) (middle_number c f)
-upper_by r c false false low e f =
-    hex_scan r 0 (c / 0x100000 ∷ c / 0x10000 ∷ []) ∙ at_number r _ (c / 0x10000) (high_number c low)
-
+-- the digits before them, of which there are none, one or two
 upper_scan : (r : Read) (c : ℕ) → c < 0x110000
     → scan (Some (at (Number 0) r)) (upper_digits c) ≡ Some (at (Number (c / 0x10000)) r)
-upper_scan r c low = upper_by r c (nat_lt c 0x10000) (nat_lt c 0x100000) low refl refl
+upper_scan r c low =
+    let Reads : List ℕ → Type 0 = λ ds. scan (Some (at (Number 0) r)) ds ≡ Some (at (Number (c / 0x10000)) r) in
+    cond_both (nat_lt c 0x10000) _ _ Reads
+    (λ e. let h : c < 0x10000 = ltb-true c 0x10000 e in at_number r 0 (c / 0x10000) (omega arith))
+    (λ _. cond_both (nat_lt c 0x100000) _ _ Reads
+    (λ e. let h : c < 0x100000 = ltb-true c 0x100000 e in
+    hex_scan r 0 (c / 0x10000 ∷ []) ∙ at_number r _ (c / 0x10000) (omega arith))
+    (λ _. hex_scan r 0 (c / 0x100000 ∷ c / 0x10000 ∷ []) ∙ at_number r _ (c / 0x10000) (omega arith)))
 
-pub digits_scan : (r : Read) (c : ℕ) → c < 0x110000
+digits_scan : (r : Read) (c : ℕ) → c < 0x110000
     → scan (Some (at (Number 0) r)) (code_digits c) ≡ Some (at (Number c) r)
 unfolding code_digits
 digits_scan r c low = past _ _ (upper_digits c) _ _ (upper_scan r c low) (four_digits r c)
 
 -- ---- characters of a text
 
-pub below_all : (c : ℕ) → is_shown c ≡ true → c < 0x110000
+below_all : (c : ℕ) → is_shown c ≡ true → c < 0x110000
 below_all c h = grind (arith, nat_tests)
 
 -- where the reader is in a text, which may end in a bracket
@@ -126,9 +111,6 @@ textual c h f b = grind (arith, nat_tests)
 
 no_greater : (c : ℕ) → is_referred c ≡ false → c == 62 ≡ false
 no_greater c f = grind (arith, nat_tests)
-
-no_bracket : (c : ℕ) → is_referred c ≡ true → c ≡ 93 → false ≡ true
-no_bracket c f e = ap is_referred (sym e) ∙ f
 
 number_ends : (r : Read) (c : ℕ) → is_shown c ≡ true
     → scan (Some (at (Number 0) r)) (code_digits c ++ codes ";") ≡ Some (at Text (saying (c ∷ []) r))
@@ -158,7 +140,7 @@ plain_scan r true c i h g =
 escaped_by : (r : Read) (q : Bool) (c : ℕ) (b d : Bool) → IsInside r → is_shown c ≡ true → is_referred c ≡ b
     → c == 93 ≡ d
     → scan (Some (at (place q) r)) (if b then reference c else c ∷ []) ≡ Some (at (place d) (saying (c ∷ []) r))
-escaped_by r q c true true i h e f = absurd (false≢true (no_bracket c e (eqb-true c 93 f)))
+escaped_by r q c true true i h e f = absurd (grind (arith, nat_tests))
 escaped_by r q c true false i h e f = reference_scan r q c i h
 escaped_by r q c false true i h e f = rw (eqb-true c 93 f) (bracket_scan r q i)
 escaped_by r q c false false i h e f = plain_scan r q c i (textual c h e f) (no_greater c e)

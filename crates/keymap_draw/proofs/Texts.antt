@@ -21,7 +21,11 @@ use Rattle.keymap_draw.specs.declared.tables.TheConstants.{UNSEEN_NAMES, ACCENT_
 use Rattle.keymap_core.specs.Unseen.{is_control, is_unseen_above}
 use Rattle.keymap_draw.specs.Characters.{is_numbered, is_mark}
 use Rattle.keymap_draw.specs.Legends.{name_in, marked, is_coded, shown_legend, named_or, accent_mark, action_legend}
-use Rattle.keymap_draw.proofs.Scans.{both_true, first_true, second_true, decimal_all, digit_passes}
+use Rattle.keymap_draw.proofs.Scans.{both_true, first_true, second_true}
+use Rattle.messages.proofs.Passed.{decimal_passes}
+use Rattle.keymap_draw.proofs.Common.{along, cond_both}
+use Rattle.std.specs.Prelude.{nat_le}
+use Rattle.std.proofs.lemmas.Bool.{or_parts}
 use Rattle.keymap_draw.proofs.Shown.{joined as all_joined, flat_all, name_all, item_all, hex_shown}
 use Rattle.keymap_core.specs.declared.action.Action.TheVariants as a
 use Rattle.keymap_core.specs.declared.action.Modifier.TheVariants as m
@@ -40,29 +44,14 @@ joined {a} {b} h k = record { each = all_joined is_seen a b h.each k.each }
 
 chosen : (b : Bool) {x y : List ℕ} → (b ≡ true → AreShown x) → (b ≡ false → AreShown y)
     → AreShown (if b then x else y)
-chosen true f g = f refl
-chosen false f g = g refl
-
-ascii_shown : (c : ℕ) → 32 ≤ c → c ≤ 126 → is_shown c ≡ true
-ascii_shown c low high = grind (arith, nat_tests)
-
-no_control : (c : ℕ) → 32 ≤ c → c ≤ 126 → is_control c ≡ false
-no_control c low high = grind (arith, nat_tests)
-
-not_above : (c : ℕ) → c ≤ 126 → nat_lt 127 c ≡ false
-not_above c high = grind (arith, nat_tests)
-
-seen_by : (control above rest : Bool) → control ≡ false → above ≡ false → not (control || (above && rest)) ≡ true
-seen_by control above rest e f = rw (e, f) refl
+chosen b {x} {y} f g = cond_both b x y AreShown f g
 
 low_shown : (c : ℕ) → 32 ≤ c → c ≤ 126 → is_seen c ≡ true
-low_shown c low high =
-    both_true (ascii_shown c low high)
-    (seen_by (is_control c) (nat_lt 127 c) (is_unseen_above c) (no_control c low high) (not_above c high))
+low_shown c low high = along is_seen (λ d. true) 32 95 refl c (omega arith) (omega arith)
 
-scalar_shown : (c : ℕ) → 32 ≤ c → within 0x7f 0x9f c ≡ false → IsScalar c → c ≢ 0xfffe → c ≢ 0xffff
-    → is_shown c ≡ true
-scalar_shown c low control s n k = grind (arith, nat_tests)
+scalar_shown : (c : ℕ) → (nat_lt c 32 || c == 127) ≡ false → IsScalar c → is_control c ≡ false
+    → nat_le 0xfffe (c % 0x10000) ≡ false → is_shown c ≡ true
+scalar_shown c low s control plane = grind (arith, nat_tests)
 
 alone : {c : ℕ} → is_seen c ≡ true → AreShown (c ∷ [])
 alone {c} h = record { each = both_true h refl }
@@ -96,7 +85,7 @@ unfolding code_text
 code_shown c = joined {a = codes "U+"} (shown refl) (digits_shown c)
 
 decimal_shown : (n : ℕ) → AreShown (decimal n)
-decimal_shown n = shown (decimal_all is_seen (digit_passes is_seen refl) n)
+decimal_shown n = shown (decimal_passes is_seen refl n)
 
 control_shown : (c : ℕ) → AreShown (control_name c)
 control_shown c = chosen (c == 127) (λ _. shown refl) (λ _. shown (name_all is_seen control_names refl c))
@@ -126,51 +115,19 @@ unfilled_shown (c ∷ cs) h =
 abbrev is_seen_row : UnseenName → Bool
 is_seen_row row = list_all is_seen row.1
 
-named_by : (b : Bool) (row : UnseenName) (more : Option UnseenName) (legend : List ℕ) → AreShown row.1
-    → AreShown (named_or (option_map (λ row. row.1) more) legend)
-    → AreShown (named_or (option_map (λ row. row.1) (if b then Some row else more)) legend)
-named_by true row more legend h k = unfilled_shown row.1 h
-named_by false row more legend h k = k
-
 named_shown : (rows : List UnseenName) (c : ℕ) (legend : List ℕ) → list_all is_seen_row rows ≡ true
     → AreShown legend → AreShown (named_or (name_in rows c) legend)
 named_shown [] c legend h k = k
 named_shown (row ∷ rows) c legend h k =
-    named_by (row.0 == c) row (find (λ row. row.0 == c) rows) legend
-    (shown (first_true _ h)) (named_shown rows c legend (second_true _ h) k)
-
-coded_fffe : is_coded 0xfffe ≡ true
-unfolding is_coded is_numbered
-coded_fffe = refl
-
-coded_ffff : is_coded 0xffff ≡ true
-unfolding is_coded is_numbered
-coded_ffff = refl
-
-not_coded : (c d : ℕ) → is_coded d ≡ true → is_coded c ≡ false → c ≢ d
-not_coded c d e f g = let h : is_coded c ≡ is_coded d = ap is_coded g in cc
-
-not_low : (c : ℕ) → (nat_lt c 32 || c == 127) ≡ false → 32 ≤ c
-not_low c e = grind (arith, nat_tests)
-
-first_false : (a b : Bool) → (a || b) ≡ false → a ≡ false
-first_false true b e = e
-first_false false b e = refl
-
-not_unseen : (c : ℕ) → is_coded c ≡ false → is_unseen c ≡ false
-unfolding is_coded
-not_unseen c e = first_false (is_unseen c) (is_numbered c) e
-
-not_control : (c : ℕ) → (nat_lt c 32 || c == 127) ≡ false → is_control c ≡ false → within 0x7f 0x9f c ≡ false
-not_control c e f = grind (arith, nat_tests)
+    cond_both (row.0 == c) _ _ (λ found. AreShown (named_or (option_map (λ row. row.1) found) legend))
+    (λ _. unfilled_shown row.1 (shown (first_true _ h))) (λ _. named_shown rows c legend (second_true _ h) k)
 
 -- a character that isn't coded may stand in a text
 plainly_shown : (c : ℕ) → (nat_lt c 32 || c == 127) ≡ false → IsScalar c → is_coded c ≡ false → is_seen c ≡ true
+unfolding is_coded is_numbered
 plainly_shown c low s e =
-    let inside : within 0x7f 0x9f c ≡ false = not_control c low (first_false (is_control c) _ (not_unseen c e)) in
-    both_true
-    (scalar_shown c (not_low c low) inside s (not_coded c 0xfffe coded_fffe e) (not_coded c 0xffff coded_ffff e))
-    (ap not (not_unseen c e))
+    let (seen, plain) = or_parts _ _ e in
+    both_true (scalar_shown c low s (or_parts _ _ seen).0 (or_parts _ _ plain).1) (ap not seen)
 
 shown_shown : (c : ℕ) → (nat_lt c 32 || c == 127) ≡ false → IsScalar c → AreShown (shown_legend c)
 unfolding shown_legend
@@ -210,14 +167,12 @@ cell_shown (Act action) h = action_legend_shown action h
 
 -- ---- lines of the printed form
 
-between_shown : (c : ℕ) → (nat_lt c 32 || c == 127) ≡ false → nat_lt c 127 ≡ true → is_seen c ≡ true
-between_shown c e f = low_shown c (not_low c e) (let h : c < 127 = ltb-true c 127 f in omega arith)
-
 character_text_shown : (c : ℕ) → AreShown (character_text c)
 unfolding character_text
 character_text_shown c =
     chosen (nat_lt c 32 || c == 127) (λ _. control_shown c)
-    (λ e. chosen (nat_lt c 127) (λ f. before refl (before (between_shown c e f) (shown refl)))
+    (λ e. chosen (nat_lt c 127)
+    (λ f. before refl (before (low_shown c (grind (arith, nat_tests)) (grind (arith, nat_tests))) (shown refl)))
     (λ _. joined {a = codes "0x"} (shown refl) (digits_shown c)))
 
 cell_text_shown : (cell : Cell) → IsCell cell → AreShown (word (cell_text cell))

@@ -14,6 +14,10 @@ use Rattle.keymap_draw.proofs.Common.{accent_definition, title_of, is_shown, is_
 use Rattle.std.proofs.Common.{ap₂}
 use Rattle.std.proofs.lemmas.List.Elements.{All-map, All-weaker, Contains-append_left, Contains-append_right}
 use Rattle.keymap_core.specs.Bounds.{IsAccent}
+use Rattle.keymap_draw.proofs.Common.{cond_both}
+use Rattle.std.proofs.lemmas.Bool.{and_right}
+use Rattle.std.proofs.lemmas.Option.{get_or_from_slice_get, slice_get_within}
+use Rattle.std.proofs.lemmas.Map.Views.{Contains-from_any}
 use Rattle.keymap_text.specs.Definitions.{IsDefinition, definition_words}
 use Rattle.keymap_text.specs.Rows.{KeyDefinition}
 use Rattle.keymap_text.proofs.Leading.{same_head, same_tail}
@@ -23,7 +27,7 @@ use Rattle.keymap_draw.specs.Keys.{finding_line}
 use Rattle.keymap_draw.specs.Told.{PicturesTellDefinitions, shows, PicturesTellKeymaps}
 use Rattle.keymap_draw.proofs.Loops.{none_is, passing-below}
 use Rattle.keymap_draw.proofs.Scans.{both_true, first_true, second_true}
-use Rattle.keymap_draw.proofs.Boards.{each}
+use Rattle.keymap_draw.proofs.Common.{each}
 use Rattle.keymap_draw.proofs.Texts.{AreShown, entry_bound, slot_words_shown, accent_words_shown}
 use Rattle.keymap_draw.proofs.Titles.{picture_titles, one_reading}
 
@@ -41,13 +45,9 @@ unfolding last_line
 one_line [] h = refl
 one_line (c ∷ b) h = ap (λ t. if t then c ∷ b else last_line b) h
 
-none_true : (a b : Bool) → b ≡ false → (a && b) ≡ false
-none_true true b h = h
-none_true false b h = refl
-
 more_lines : (a b : List ℕ) → list_all is_in_line (a ++ 10 ∷ b) ≡ false
 more_lines [] b = refl
-more_lines (c ∷ a) b = none_true (is_in_line c) (list_all is_in_line (a ++ 10 ∷ b)) (more_lines a b)
+more_lines (c ∷ a) b = and_right (is_in_line c) (list_all is_in_line (a ++ 10 ∷ b)) (more_lines a b)
 
 behind_feed : (a b : List ℕ) → list_all is_in_line b ≡ true → last_line (a ++ 10 ∷ b) ≡ b
 unfolding last_line
@@ -103,14 +103,10 @@ slot_low : (half : Half) (k : ℕ) → k < 128 → slot_of half k < 256
 slot_low Lower k h = omega arith
 slot_low Upper k h = omega arith
 
-abbrev IsListed : Option AccentValue → Type 0
-IsListed None = Unit {0}
-IsListed (Some accent) = IsAccent accent
-
-listed : (accents : List AccentValue) (i : ℕ) → All IsAccent accents → IsListed (slice_get accents i)
-listed [] i h = tt
-listed (accent ∷ accents) zero h = All-head IsAccent accent accents h
-listed (accent ∷ accents) (suc i) h = listed accents i (All-tail IsAccent accent accents h)
+listed : (accents : List AccentValue) (i : ℕ) (a : AccentValue) → All IsAccent accents → slice_get accents i ≡ Some a
+    → IsAccent a
+listed accents i a h e =
+    subst IsAccent (get_or_from_slice_get accents i a a e) (h i a (slice_get_within accents i a e))
 
 abbrev codes_of : Board → List ℕ
 codes_of board = map (λ (row : Row). row.code) (keys_of board)
@@ -161,18 +157,15 @@ each_told : (P : Definition → Type 0) (d : Drawing)
 unfolding told named_accents
 each_told P d key accent =
     All-append P (told_in d Lower ++ upper_told d) _
-    (All-append P (told_in d Lower) (upper_told d) (each_in P d Lower (key Lower)) (by (is_upper_live d.map)))
+    (All-append P (told_in d Lower) (upper_told d) (each_in P d Lower (key Lower))
+    (cond_both (is_upper_live d.map) (told_in d Upper) [] (All P) (λ _. each_in P d Upper (key Upper)) (λ _. All-nil P)))
     (each_accent P d.map accent (named_accents d.map) (passing-below (has_character d.map) 15 15 (omega arith)))
-  where
-    by : (live : Bool) → All P (if live then told_in d Upper else [])
-    by true = each_in P d Upper (key Upper)
-    by false = All-nil P
 
 each_defined : (d : Drawing) → IsMap d.map → All IsDefinition (told d)
 each_defined d is =
     each_told IsDefinition d
     (λ half k low. (slot_low half k low, entry_bound d.map.entries (slot_of half k) is.entries))
-    (λ i a low e. (low, subst IsListed e (listed d.map.accents i is.accents)))
+    (λ i a low e. (low, listed d.map.accents i a is.accents e))
 
 pub pictures_tell : PicturesTellDefinitions
 pictures_tell d e bytes p q h k =
@@ -192,25 +185,15 @@ told_of d e x same h =
     All-contains (IsOf e.map) (told e) x (each_told (IsOf e.map) e (λ half k low. refl) (λ i a low at. at))
     (subst (λ ds. Contains ds x) same h)
 
-found : (ns : List ℕ) (k : ℕ) → list_any (λ n. n == k) ns ≡ true → Contains ns k
-found ns k h = go (Any-from_list_any (λ n. n == k) ns h)
-  where
-    go : Any (λ n. n == k ≡ true) ns → Contains ns k
-    go (i, n, l, here, passes) = subst (Contains ns) (eqb-true n k passes) (i, l, here)
-
 passing_has : (test : ℕ → Bool) (n k : ℕ) → k < n → test k ≡ true → Contains (passing test n) k
 unfolding passing gathered
 passing_has test zero k h t = absurd (omega (arith, h))
 passing_has test (suc n) k h t = elim (cases_order k n) [
   | inl same ↦ Contains-append_right (passing test n) (passed (test n) n) k
-      (here (test n) (ap test (sym same) ∙ t) (sym same))
+      (rw (ap test (sym same) ∙ t) (zero, omega arith, sym same))
   | inr (inl less) ↦ Contains-append_left (passing test n) (passed (test n) n) k (passing_has test n k less t)
   | inr (inr more) ↦ absurd (omega (arith, h, more))
 ]
-  where
-    here : (b : Bool) → b ≡ true → n ≡ k → Contains (passed b n) k
-    here true e same = (zero, omega arith, same)
-    here false e same = cc
 
 on_has : Board → ℕ → Bool
 on_has board k = not (is_on board k) || list_any (λ n. n == k) (codes_of board)
@@ -223,12 +206,8 @@ each_on Ansi = refl
 on_board : (board : Board) (k : ℕ) → k < 128 → is_on board k ≡ true → Contains (codes_of board) k
 unfolding on_has
 on_board board k h on =
-    found (codes_of board) k (by (is_on board k) on (agree_below_at (on_has board) (λ k. true) 128 k (each_on board) h))
-  where
-    by : (b : Bool) → b ≡ true → (not b || list_any (λ n. n == k) (codes_of board)) ≡ true
-        → list_any (λ n. n == k) (codes_of board) ≡ true
-    by true on e = e
-    by false on e = cc
+    Contains-from_any {eq = λ a b. b == a} (λ a b e. sym (eqb-true b a e)) k (codes_of board)
+    (rw on at (agree_below_at (on_has board) (λ k. true) 128 k (each_on board) h))
 
 mapped : {A B : Type 0} (f : A → B) (xs : List A) (x : A) → Contains xs x → Contains (map f xs) (f x)
 mapped f [] x (i, l, e) = absurd (omega (arith, l))
@@ -256,12 +235,7 @@ slot_told d Upper k low h =
     let (live, here) = and_parts (is_upper_live d.map) (is_on d.board k || is_other d Upper k) h in
     Contains-append_left (told_in d Lower ++ upper_told d) _ _
     (Contains-append_right (told_in d Lower) (upper_told d) _
-    (by (is_upper_live d.map) live (in_half d Upper k low here)))
-  where
-    by : (b : Bool) → b ≡ true → Contains (told_in d Upper) (key_definition d.map Upper k)
-        → Contains (if b then told_in d Upper else []) (key_definition d.map Upper k)
-    by true e here = here
-    by false e here = cc
+    (rw live (in_half d Upper k low here)))
 
 accent_among : (m : MapValue) (is : List ℕ) (i : ℕ) (a : AccentValue) → accent_at m i ≡ Some a → Contains is i
     → Contains (filter_map (accent_definition m) is) (AccentDefinition i a)

@@ -1,5 +1,5 @@
 -- The text of a picture that isn't complete: where its end stands, and what it tells so far.
-use Rattle.std.specs.Prelude.{◌≡◌, ℕ, ◌&&◌, not, ◌==◌, ◌||◌, Bool, List, [], ◌∷◌, ◌++◌, codes, Option, Some, None}
+use Rattle.std.specs.Prelude.{◌≡◌, ℕ, ◌&&◌, not, ◌==◌, ◌||◌, Bool, List, [], ◌∷◌, ◌++◌, codes, decimal, Option, Some, None, true}
 use Rattle.std.specs.Prelude.{if◌then◌else◌, slice_index}
 use Rattle.std.specs.List.{list_all, flat_map}
 use Rattle.std.specs.Option.{option_and_then}
@@ -64,21 +64,26 @@ is_seen c = is_shown c && not (is_unseen c)
 -- the characters that are told
 abbrev pub characters : Told → List ℕ
 characters (told.Plain t) = t.now
+characters (told.Number n) = decimal n
 characters (told.Bytes t) = t.now
 characters (told.Characters t) = t.now
 
 abbrev pub written : Told → List ℕ
 written (told.Plain t) = t.now
+written (told.Number n) = decimal n
 written t = flat_map escaped (characters t)
 
 abbrev pub is_ready : Told → Bool
 is_ready (told.Plain t) = list_all is_inner t.now
+is_ready (told.Number n) = true
 is_ready t = list_all is_seen (characters t)
 
 -- the reader behind what is told, in a value or between tags, where a tag stands behind what has references
 abbrev pub taking : Place → Read → Told → List ℕ → Option State
 taking (Value tag name value) r (told.Plain t) behind = Some (at (Value tag name (value ++ t.now)) r)
+taking (Value tag name value) r (told.Number n) behind = Some (at (Value tag name (value ++ decimal n)) r)
 taking Text r (told.Plain t) behind = within_element Text (saying t.now r)
+taking Text r (told.Number n) behind = within_element Text (saying (decimal n) r)
 taking Text r t behind = if slice_index behind 0 == 60 then within_element Text (saying (characters t) r) else None
 taking p r t behind = None
 

@@ -8,10 +8,10 @@ ghost use Rattle.keymap_draw.specs.Sheets.{is_inner};
 
 use crate::board::{RUNS, Run, Shape};
 use crate::drawing::Drawing;
-use crate::key::{is_blank_entry, push_key};
+use crate::key::{Cap, is_blank_entry, push_key};
 use crate::markup::Added;
-use crate::sheet::Told::Plain;
-use crate::sheet::{InPicture, Sheet, adorn, digits};
+use crate::sheet::Told::{Number, Plain};
+use crate::sheet::{InPicture, Sheet, adorn};
 use crate::words::{
     IS_ACCEPTED, KEY_CODE, KEYMAP, LOWER_HALF, MORE_FINDINGS, ONE_FINDING, OTHER_KEYS, PANEL,
     SAMPLE, SLOT, UPPER_HALF,
@@ -60,8 +60,12 @@ fn push_keys(
         [] => Ok(sheet),
         [0, ..] => Ok(sheet),
         [code, codes @ ..] => {
-            let (slot, top) = (half.slot(*code), y + 12 + u32::from(run.2));
-            let sheet = push_key(sheet, drawing, slot, 28 + x, top, run.3)?;
+            let cap = Cap {
+                x: 28 + x,
+                y: y + 12 + u32::from(run.2),
+                shape: run.3,
+            };
+            let sheet = push_key(sheet, drawing, half.slot(*code), cap)?;
             push_keys(sheet, drawing, half, y, x + run.3.width(), run, codes)
         }
     }
@@ -136,9 +140,12 @@ fn push_other_key(
     requires few { place ≤ 128 }
     ensures { IfOk result (λ s. s ≡ sheet ++ spec.other_key drawing.now half y place key) }
 {
-    let x = 28 + place % 22 * 64;
-    let y = y + 26 + place / 22 * 64;
-    push_key(sheet, drawing, half.slot(key), x, y, Shape::A)
+    let cap = Cap {
+        x: 28 + place % 22 * 64,
+        y: y + 26 + place / 22 * 64,
+        shape: Shape::A,
+    };
+    push_key(sheet, drawing, half.slot(key), cap)
 }
 
 /// Adds the keys that the board doesn't have, below a line, if there are any.
@@ -155,7 +162,7 @@ fn push_other_keys(
 {
     let mut sheet = sheet;
     if !keys.is_empty() {
-        sheet = adorn(sheet, OTHER_KEYS, &[Plain(digits(y + 16).as_slice())])?;
+        sheet = adorn(sheet, OTHER_KEYS, &[Number(y + 16)])?;
     }
     for i in 0..keys.len() {
         let key = keys[i];
@@ -181,12 +188,10 @@ pub(crate) fn half_height(others: usize) -> u32
 fn push_verdict(sheet: Sheet<InPicture>, y: u32, count: u32) -> Added<Sheet<InPicture>>
     ensures { IfOk result (λ s. s ≡ sheet) }
 {
-    let (high, count_words) = (digits(y), digits(count));
-    let high = Plain(high.as_slice());
     match count {
-        0 => adorn(sheet, IS_ACCEPTED, &[high]),
-        1 => adorn(sheet, ONE_FINDING, &[high]),
-        _ => adorn(sheet, MORE_FINDINGS, &[high, Plain(count_words.as_slice())]),
+        0 => adorn(sheet, IS_ACCEPTED, &[Number(y)]),
+        1 => adorn(sheet, ONE_FINDING, &[Number(y)]),
+        _ => adorn(sheet, MORE_FINDINGS, &[Number(y), Number(count)]),
     }
 }
 
@@ -199,15 +204,13 @@ fn push_headline(
 ) -> Added<Sheet<InPicture>>
     ensures { IfOk result (λ s. s ≡ sheet) }
 {
-    let high = digits(y);
-    let high = Plain(high.as_slice());
     match half {
         Half::Lower => {
             let words = either(drawing.is_upper_live(), LOWER_HALF, KEYMAP);
-            let sheet = adorn(sheet, words, &[high])?;
+            let sheet = adorn(sheet, words, &[Number(y)])?;
             push_verdict(sheet, y, drawing.findings().len() as u32)
         }
-        Half::Upper => adorn(sheet, UPPER_HALF, &[high]),
+        Half::Upper => adorn(sheet, UPPER_HALF, &[Number(y)]),
     }
 }
 
@@ -225,12 +228,7 @@ fn number_name<'a>(half: Half) -> &'a [u8]
 fn push_sample(sheet: Sheet<InPicture>, half: Half, y: u32) -> Added<Sheet<InPicture>>
     ensures { IfOk result (λ s. s ≡ sheet) }
 {
-    let y = digits(y);
-    adorn(
-        sheet,
-        SAMPLE,
-        &[Plain(y.as_slice()), Plain(number_name(half))],
-    )
+    adorn(sheet, SAMPLE, &[Number(y), Plain(number_name(half))])
 }
 
 /// Adds the drawing of a half, from y on, with the keys that the board doesn't have.
@@ -247,7 +245,7 @@ pub(crate) fn push_half(
     ensures { IfOk result (λ s. s ≡ sheet ++ spec.half_facts drawing.now half keys.now y) }
 {
     let sheet = push_headline(sheet, drawing, half, y + 26)?;
-    let sheet = adorn(sheet, PANEL, &[Plain(digits(y + 40).as_slice())])?;
+    let sheet = adorn(sheet, PANEL, &[Number(y + 40)])?;
     let sheet = push_runs(sheet, drawing, half, y + 40, &RUNS)?;
     let sheet = push_sample(sheet, half, y + 52)?;
     push_other_keys(sheet, drawing, half, y + 472, keys)

@@ -14,8 +14,8 @@ use crate::drawn::{DrawnCells, drawn, is_blank, stands_alone};
 use crate::legend::{cell_legend, is_word};
 use crate::markup::Added;
 use crate::place::{Column, code_x, legend_classes, legend_x, legend_y};
-use crate::sheet::Told::{Bytes, Characters, Plain};
-use crate::sheet::{InKey, InPicture, Sheet, adorn, digits, tell};
+use crate::sheet::Told::{Bytes, Characters, Number, Plain};
+use crate::sheet::{InKey, InPicture, Sheet, adorn, tell};
 use crate::words::{BOTH, CAPS, CODE, GROUP_END, KEY, KEY_OF, NUM, TEXT, TEXT_OF};
 use arrayvec::ArrayVec;
 use keymap_check::{Finding, finding_words};
@@ -89,23 +89,44 @@ pub(crate) fn said(finding: &Finding) -> Line
     finding_words(finding)
 }
 
-/// What the check says of the key and a line feed behind it, if it names it.
-fn finding_line(findings: &[Finding], key: u8) -> (Line, &'static [u8])
-    ensures words { result.0.items ++ result.1.now ≡ spec.finding_line (spec.finding_of findings.now key) }
-    ensures inner { (list_all is_inner result.0.items ≡ true) × (list_all is_inner result.1.now ≡ true) }
-{
-    match finding_of(findings, key) {
-        Some(finding) => (said(finding), b"\n"),
-        None => (Line::new(), b""),
-    }
+/// What the title of a key tells: what the check says of it with a line feed behind, if it names it, and its line of
+/// the printed form.
+#[derive(Drop)]
+struct KeyTitle {
+    finding: Line,
+    feed: &'static [u8],
+    words: ArrayVec<u8, 80>,
 }
 
 /// The line of the printed form of a slot, with one blank between its parts.
-fn title(drawing: &Drawing, slot: u8) -> ArrayVec<u8, 80>
+fn printed(drawing: &Drawing, slot: u8) -> ArrayVec<u8, 80>
     ensures words { result.items ≡ slot_words_of slot (entry_at drawing.now.map slot) }
     ensures seen { list_all is_seen result.items ≡ true }
 {
     slot_words(slot, drawing.map().entry(slot))
+}
+
+/// The title of the key of a slot.
+fn title(drawing: &Drawing, slot: u8) -> KeyTitle
+    ensures words { (result.finding.items ++ result.feed.now) ++ result.words.items
+        ≡ spec.title drawing.now.findings slot (entry_at drawing.now.map slot) }
+    ensures finding { list_all is_inner result.finding.items ≡ true }
+    ensures feed { list_all is_inner result.feed.now ≡ true }
+    ensures seen { list_all is_seen result.words.items ≡ true }
+{
+    let words = printed(drawing, slot);
+    match finding_of(drawing.findings(), slot % KEY_COUNT as u8) {
+        Some(finding) => KeyTitle {
+            finding: said(finding),
+            feed: b"\n",
+            words,
+        },
+        None => KeyTitle {
+            finding: Line::new(),
+            feed: b"",
+            words,
+        },
+    }
 }
 
 /// A blank and the letter of the locks, where one flips the key.
@@ -121,79 +142,50 @@ fn flag_words(flag: LockFlag) -> &'static [u8]
     }
 }
 
-/// Adds the group of a key with what the check says of it, the rest of its title, and its cap.
-fn push_group<'a>(
-    sheet: Sheet<InPicture>,
-    class: &'a [u8],
-    x: u32,
-    y: u32,
-    finding: &'a [u8],
-    feed: &'a [u8],
-    title: &'a [u8],
-    shape: Shape,
-) -> Added<Sheet<InKey>>
+/// Where the cap of a key has its top left corner, and its shape.
+#[derive(Clone, Copy)]
+pub(crate) struct Cap {
+    pub(crate) x: u32,
+    pub(crate) y: u32,
+    pub(crate) shape: Shape,
+}
+
+/// Adds the group of a key with its title, and its cap.
+fn push_group(sheet: Sheet<InPicture>, class: &[u8], title: &KeyTitle, cap: Cap) -> Added<Sheet<InKey>>
     requires class { list_all is_inner class.now ≡ true }
-    requires finding { list_all is_inner finding.now ≡ true }
-    requires feed { list_all is_inner feed.now ≡ true }
-    requires title { list_all is_seen title.now ≡ true }
+    requires finding { list_all is_inner title.now.finding.items ≡ true }
+    requires feed { list_all is_inner title.now.feed.now ≡ true }
+    requires seen { list_all is_seen title.now.words.items ≡ true }
     ensures { IfOk result (λ s. s
-        ≡ sheet ++ spec.titled_cap ((finding.now ++ feed.now) ++ title.now) class.now x y shape) }
+        ≡ sheet ++ spec.titled_cap ((title.now.finding.items ++ title.now.feed.now) ++ title.now.words.items)
+        class.now cap.x cap.y cap.shape) }
 {
-    let (x, y) = (digits(x), digits(y));
-    let (x, y) = (Plain(x.as_slice()), Plain(y.as_slice()));
-    let (finding, feed, title) = (Plain(finding), Plain(feed), Bytes(title));
-    let cap = Plain(shape.letter());
+    let (x, y) = (Number(cap.x), Number(cap.y));
+    let (finding, feed) = (Plain(title.finding.as_slice()), Plain(title.feed));
+    let (words, shape) = (Bytes(title.words.as_slice()), Plain(cap.shape.letter()));
     match class {
-        [] => tell(sheet, KEY, &[x, y, finding, feed, title, cap]),
-        class => tell(
-            sheet,
-            KEY_OF,
-            &[Plain(class), x, y, finding, feed, title, cap],
-        ),
+        [] => tell(sheet, KEY, &[x, y, finding, feed, words, shape]),
+        class => tell(sheet, KEY_OF, &[Plain(class), x, y, finding, feed, words, shape]),
     }
 }
 
-/// Adds the group of a key of a slot at a place, its title and its cap.
-fn begin_key(
-    sheet: Sheet<InPicture>,
-    drawing: &Drawing,
-    slot: u8,
-    x: u32,
-    y: u32,
-    shape: Shape,
-) -> Added<Sheet<InKey>>
-    ensures { IfOk result (λ s. s
-        ≡ sheet ++ spec.cap drawing.now.findings slot x y shape (entry_at drawing.now.map slot)) }
+/// Adds the group of a key of a slot, its title and its cap.
+fn begin_key(sheet: Sheet<InPicture>, drawing: &Drawing, slot: u8, cap: Cap) -> Added<Sheet<InKey>>
+    ensures { IfOk result (λ s. s ≡ sheet
+        ++ spec.cap drawing.now.findings slot cap.x cap.y cap.shape (entry_at drawing.now.map slot)) }
 {
-    let findings = drawing.findings();
-    let (finding, feed) = finding_line(findings, slot % KEY_COUNT as u8);
     let title = title(drawing, slot);
-    let class = key_class(findings, slot, drawing.map().entry(slot));
-    push_group(
-        sheet,
-        class,
-        x,
-        y,
-        finding.as_slice(),
-        feed,
-        title.as_slice(),
-        shape,
-    )
+    let class = key_class(drawing.findings(), slot, drawing.map().entry(slot));
+    push_group(sheet, class, &title, cap)
 }
 
 /// Adds the code of the key on its cap.
 fn push_code(sheet: Sheet<InKey>, slot: u8, flag: LockFlag, shape: Shape) -> Added<Sheet<InKey>>
     ensures { IfOk result (λ s. s ≡ sheet ++ spec.code slot flag shape ∷ []) }
 {
-    let x = digits(code_x(shape));
-    let y = digits(shape.height() - 7);
-    let code = digits(u32::from(slot));
-    let (x, y) = (Plain(x.as_slice()), Plain(y.as_slice()));
-    tell(
-        sheet,
-        CODE,
-        &[x, y, Plain(code.as_slice()), Plain(flag_words(flag))],
-    )
+    let (x, y) = (Number(code_x(shape)), Number(shape.height() - 7));
+    let (code, locks) = (Number(u32::from(slot)), Plain(flag_words(flag)));
+    tell(sheet, CODE, &[x, y, code, locks])
 }
 
 /// Adds the legend of a cell.
@@ -211,9 +203,8 @@ fn push_legend(
     let legend = cell_legend(cell);
     let legend = legend.as_slice();
     let classes = legend_classes(map, column, cell, legend, alone, tight);
-    let x = digits(legend_x(shape, column, alone));
-    let y = digits(legend_y(shape, column, alone, is_word(legend)));
-    let (x, y) = (Plain(x.as_slice()), Plain(y.as_slice()));
+    let x = Number(legend_x(shape, column, alone));
+    let y = Number(legend_y(shape, column, alone, is_word(legend)));
     match classes.as_slice() {
         [] => tell(sheet, TEXT, &[x, y, Characters(legend)]),
         classes => tell(sheet, TEXT_OF, &[x, y, Plain(classes), Characters(legend)]),
@@ -262,16 +253,14 @@ pub(crate) fn push_key(
     sheet: Sheet<InPicture>,
     drawing: &Drawing,
     slot: u8,
-    x: u32,
-    y: u32,
-    shape: Shape,
+    cap: Cap,
 ) -> Added<Sheet<InPicture>>
-    ensures { IfOk result (λ s. s ≡ sheet ++ spec.key drawing.now slot x y shape) }
+    ensures { IfOk result (λ s. s ≡ sheet ++ spec.key drawing.now slot cap.x cap.y cap.shape) }
 {
     let map = drawing.map();
     let entry = map.entry(slot);
-    let sheet = begin_key(sheet, drawing, slot, x, y, shape)?;
-    let sheet = push_code(sheet, slot, entry.flag, shape)?;
-    let sheet = push_legends(sheet, map, shape, entry)?;
+    let sheet = begin_key(sheet, drawing, slot, cap)?;
+    let sheet = push_code(sheet, slot, entry.flag, cap.shape)?;
+    let sheet = push_legends(sheet, map, cap.shape, entry)?;
     adorn(sheet, GROUP_END, &[])
 }

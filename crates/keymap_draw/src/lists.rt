@@ -13,8 +13,8 @@ use crate::key::said;
 use crate::legend::{Legend, character_legend, marked};
 use crate::markup::Added;
 use crate::place::{own_of, size_class};
-use crate::sheet::Told::{Bytes, Characters, Plain};
-use crate::sheet::{InPicture, InRow, InTable, Sheet, adorn, digits, tell};
+use crate::sheet::Told::{Bytes, Characters, Number, Plain};
+use crate::sheet::{InPicture, InRow, InTable, Sheet, adorn, tell};
 use crate::tables::ACCENT_MARKS;
 use crate::words::{
     ACCENT, ACCENTS, BASES, COMPOSED, COMPOSED_OF, FINDINGS, GROUP_END, LISTED_FINDING, RESULTS,
@@ -43,18 +43,13 @@ pub(crate) fn push_findings(
     if findings.is_empty() {
         return Ok(sheet);
     }
-    let mut sheet: Sheet<InPicture> = adorn(sheet, FINDINGS, &[Plain(digits(y + 26).as_slice())])?;
+    let mut sheet: Sheet<InPicture> = adorn(sheet, FINDINGS, &[Number(y + 26)])?;
     for i in 0..findings.len() {
         let place = i as u32;
-        let x = digits(28 + place % 2 * 720);
-        let y = digits(y + 52 + place / 2 * 20);
+        let x = Number(28 + place % 2 * 720);
+        let y = Number(y + 52 + place / 2 * 20);
         let words = said(&findings[i]);
-        let texts = [
-            Plain(x.as_slice()),
-            Plain(y.as_slice()),
-            Plain(words.as_slice()),
-        ];
-        sheet = adorn(sheet, LISTED_FINDING, &texts)?;
+        sheet = adorn(sheet, LISTED_FINDING, &[x, y, Plain(words.as_slice())])?;
     }
     Ok(sheet)
 }
@@ -96,8 +91,7 @@ fn push_composed(sheet: Sheet<InTable>, place: u32, c: char) -> Added<Sheet<InTa
     ensures { IfOk result (λ s. s ≡ sheet) }
 {
     let legend = character_legend(c);
-    let x = digits(12 + 25 * place);
-    let (x, said) = (Plain(x.as_slice()), Characters(legend.as_slice()));
+    let (x, said) = (Number(12 + 25 * place), Characters(legend.as_slice()));
     match size_class(legend.as_slice(), false, true) {
         None => adorn(sheet, COMPOSED, &[x, said]),
         Some(class) => adorn(sheet, COMPOSED_OF, &[x, Plain(&[class]), said]),
@@ -167,9 +161,8 @@ fn push_heading(sheet: Sheet<InRow>, index: u8, x: u32, class: u8) -> Added<Shee
     ensures { IfOk result (λ s. s ≡ sheet) }
 {
     let (sign, name) = (accent_sign(index), accent_name(index));
-    let (x, behind) = (digits(x), digits(x + 28));
     let (sign, name) = (Characters(sign.as_slice()), Plain(name.as_slice()));
-    let (x, behind) = (Plain(x.as_slice()), Plain(behind.as_slice()));
+    let (x, behind) = (Number(x), Number(x + 28));
     adorn(sheet, SIGN, &[x, Plain(&[class]), sign, behind, name])
 }
 
@@ -178,12 +171,8 @@ fn begin_accent(sheet: Sheet<InPicture>, index: u8, accent: &Accent, y: u32) -> 
     requires { index < accent_limit }
     ensures { IfOk result (λ s. s ≡ sheet ++ spec.accent_title index accent.now) }
 {
-    let (y, title) = (digits(y), title(index, accent));
-    tell(
-        sheet,
-        ACCENT,
-        &[Plain(y.as_slice()), Bytes(title.as_slice())],
-    )
+    let title = title(index, accent);
+    tell(sheet, ACCENT, &[Number(y), Bytes(title.as_slice())])
 }
 
 /// Adds the row of an accent of the map, at its place of the list.
@@ -223,7 +212,7 @@ pub(crate) fn push_accents(
 {
     let mut sheet = sheet;
     if !accents.is_empty() {
-        sheet = adorn(sheet, ACCENTS, &[Plain(digits(y + 26).as_slice())])?;
+        sheet = adorn(sheet, ACCENTS, &[Number(y + 26)])?;
     }
     for i in 0..accents.len() {
         let index = accents[i];
@@ -294,9 +283,7 @@ pub(crate) fn push_silent(
     if accents.is_empty() {
         return Ok(sheet);
     }
-    let (line, row) = (digits(y + 16), digits(y + 26));
-    let places = [Plain(line.as_slice()), Plain(row.as_slice())];
-    let mut sheet: Sheet<InRow> = adorn(sheet, SILENT, &places)?;
+    let mut sheet: Sheet<InRow> = adorn(sheet, SILENT, &[Number(y + 16), Number(y + 26)])?;
     for i in 0..accents.len() {
         let index = accents[i];
         sheet = push_heading(sheet, index, 36 + 94 * i as u32, b'e')?;

@@ -1,17 +1,16 @@
 //! The text of a picture as it is put together. What is seen of it is what a reader makes of it: the facts that it
 //! tells, and by its type the elements that its end stands in. Only the functions of this file know bytes.
-ghost use Rattle.std.specs.Prelude.{◌≡◌, ◌++◌, [], true, List, Some, IfOk, OnOk, decimal, map};
+ghost use Rattle.std.specs.Prelude.{◌≡◌, ◌++◌, [], true, List, Some, IfOk, OnOk, map};
 ghost use Rattle.std.specs.List.{list_all};
 ghost use Rattle.messages.specs.Filled.{filled};
 ghost use Rattle.keymap_draw.specs.Facts.{Fact};
-ghost use Rattle.keymap_draw.specs.Sheets.{within, over, facts_over, written, is_inner, is_ready, in_svg, in_key};
-ghost use Rattle.keymap_draw.specs.Sheets.{in_row, in_table};
+ghost use Rattle.keymap_draw.specs.Sheets.{within, over, facts_over, written, is_ready, in_svg, in_key, in_row};
+ghost use Rattle.keymap_draw.specs.Sheets.{in_table};
 ghost use Rattle.keymap_draw.specs.WellFormed.{Element, Tells};
 
 use crate::constants::{SHAPES, STYLE};
 use crate::markup::{Added, push_characters, push_escaped};
 use crate::words::{ACCEPTED, BEGIN, END, PAGE, REFUSED};
-use arrayvec::ArrayVec;
 use messages::{either, number, parted};
 use std::alloc::Global;
 use std::marker::{Model, PhantomData};
@@ -68,21 +67,13 @@ impl<P: Part> Model for Sheet<P> {
     ghost invariant = { λ s. IsWithin P.begun s.text.items };
 }
 
-/// What stands at a place of words: as it is, or with references where markup needs them.
+/// What stands at a place of words: as it is, a number in decimal digits, or with references where markup needs them.
 #[derive(Clone, Copy)]
 pub(crate) enum Told<'a> {
     Plain(&'a [u8]),
+    Number(u32),
     Bytes(&'a [u8]),
     Characters(&'a [char]),
-}
-
-/// A number in decimal digits.
-#[tactic(auto, using(crate::proofs::Scans::decimal_inner))]
-pub(crate) fn digits(n: u32) -> ArrayVec<u8, 20>
-    ensures value { result.items ≡ decimal n }
-    ensures inner { list_all is_inner result.items ≡ true }
-{
-    number(u64::from(n))
 }
 
 fn push_told(text: &mut Vec<u8>, told: &Told) -> Added
@@ -90,6 +81,7 @@ fn push_told(text: &mut Vec<u8>, told: &Told) -> Added
 {
     match told {
         Told::Plain(bytes) => text.extend_from_slice(bytes),
+        Told::Number(n) => text.extend_from_slice(number(u64::from(*n)).as_slice()),
         Told::Bytes(bytes) => push_escaped(text, bytes),
         Told::Characters(characters) => push_characters(text, characters),
     }
@@ -154,8 +146,7 @@ pub(crate) fn begin(alloc: Global, is_accepted: bool, height: u32) -> Added<Shee
     ensures { IfOk result (λ s. s ≡ []) }
 {
     let mut text = Vec::new(alloc);
-    let height = digits(height);
-    let high = Told::Plain(height.as_slice());
+    let high = Told::Number(height);
     let verdict = Told::Plain(either(is_accepted, ACCEPTED, REFUSED));
     push_filled(&mut text, BEGIN, &[high, high, verdict])?;
     text.extend_from_slice(&STYLE)?;
@@ -172,6 +163,6 @@ pub(crate) fn finish(sheet: Sheet<InPicture>, y: u32) -> Added<Vec<u8>>
     ensures { IfOk result (λ text. Tells sheet text.items) }
 {
     let Sheet { mut text, part: _ } = sheet;
-    push_filled(&mut text, END, &[Told::Plain(digits(y).as_slice())])?;
+    push_filled(&mut text, END, &[Told::Number(y)])?;
     Ok(text)
 }

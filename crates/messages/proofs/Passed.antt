@@ -14,7 +14,7 @@ pub append_all : (p : ℕ → Bool) (a b : List ℕ) → list_all p a ≡ true �
 append_all p a b h k = list_all-append p a b ∙ and_from _ _ h k
 
 -- both parts of what passes do
-parts_all : (p : ℕ → Bool) (n : ℕ) (bs : List ℕ) → list_all p bs ≡ true
+pub parts_all : (p : ℕ → Bool) (n : ℕ) (bs : List ℕ) → list_all p bs ≡ true
     → (list_all p (take n bs) ≡ true) × (list_all p (drop n bs) ≡ true)
 parts_all p n bs h =
     and_parts _ _ (sym (list_all-append p (take n bs) (drop n bs)) ∙ ap (list_all p) (take-append-drop n bs) ∙ h)

@@ -1,8 +1,9 @@
-use Rattle.keymap_draw.proofs.Common.{◌≡◌, ℕ, List, [], ◌∷◌, ◌++◌, ◌∙◌, Some, ap, sym, subst, refl, append_assoc, arith}
-use Rattle.keymap_draw.proofs.Common.{◌<◌, length, IfOk, codes, decimal, Shape, Told, Plain, Bytes, Fact, Title, Key}
-use Rattle.keymap_draw.proofs.Common.{within, in_svg, over, facts_of, State}
+use Rattle.keymap_draw.proofs.Common.{◌≡◌, ℕ, List, [], ◌∷◌, ◌++◌, ◌∙◌, Some, ap, sym, append_assoc, arith, subst, IfOk}
+use Rattle.keymap_draw.proofs.Common.{Shape, Told, Plain, Bytes, Fact, within, in_svg, over, facts_of}
 use Rattle.std.proofs.Common.{Bor}
+use Rattle.std.proofs.lemmas.List.{nil_from_length}
 use Rattle.keymap_draw.specs.declared.board.Shape.TheVariants.{A}
+use Rattle.keymap_draw.specs.declared.sheet.Told.TheVariants.{Number}
 use Rattle.keymap_draw.specs.Boards.{letter}
 use Rattle.keymap_draw.specs.Keys.{titled_cap}
 use Rattle.keymap_draw.specs.Sheets.{in_key, facts_over}
@@ -12,77 +13,58 @@ use Rattle.keymap_draw.proofs.key.push_group.Goals as goal
 abbrev Words : Type 0
 Words = Bor (List ℕ)
 
-abbrev in_group : Words → Words → Words → Words → Words → Words → List Told
-in_group x y f n t c = Plain x ∷ Plain y ∷ Plain f ∷ Plain n ∷ Bytes t ∷ Plain c ∷ []
+abbrev group : ℕ → ℕ → Words → Words → Words → Words → List Told
+group x y finding feed title shape =
+    Number x ∷ Number y ∷ Plain finding ∷ Plain feed ∷ Bytes title ∷ Plain shape ∷ []
 
--- where the reader is behind a title and a key
-abbrev behind : List Fact → List ℕ → Words → Words → Words → Words → Words → List ℕ → State
-behind fs class x y f n t c = within in_key ((fs ++ Title ((f.now ++ n.now) ++ t.now) ∷ [])
-    ++ Key class (codes "translate(" ++ x.now ++ codes " " ++ y.now ++ codes ")") (codes "#" ++ c) ∷ [])
+-- words behind which a title and a cap have been told
+record Reads (w : List ℕ) (ts : List Told) (new : List Fact) : Type 0 where
+  all : (fs : List Fact) → over (Some (within in_svg fs)) w ts ≡ Some (within in_key (fs ++ new))
 
--- words that are read so
-record AreRead (w : List ℕ) (class : List ℕ) (x y f n t c : Words) (told : List Told) : Type 0 where
-  all : (fs : List Fact) → over (Some (within in_svg fs)) w told ≡ Some (behind fs class x y f n t c.now)
+adds : (fs : List Fact) (a b : Fact)
+    → Some (within in_key ((fs ++ a ∷ []) ++ b ∷ [])) ≡ Some (within in_key (fs ++ a ∷ b ∷ []))
+adds fs a b = ap (λ gs. Some (within in_key gs)) (append_assoc fs (a ∷ []) (b ∷ []))
 
--- the words without a class and those with one
-abbrev Both : Words → Words → Words → Words → Words → Words → Words → Type 0
-Both class x y f n t c =
-    AreRead words.KEY.now [] x y f n t c (in_group x y f n t c)
-    × AreRead words.KEY_OF.now class.now x y f n t c (Plain class ∷ in_group x y f n t c)
+-- the words without a class and those with one, by the shape, whose letter is an id
+both : (class finding feed title shape : Words) (x y : ℕ) (s : Shape) (said printed : List ℕ) → finding.now ≡ said
+    → title.now ≡ printed → shape.now ≡ letter s ∷ []
+    → Reads words.KEY.now (group x y finding feed title shape) (titled_cap ((said ++ feed.now) ++ printed) [] x y s)
+    × Reads words.KEY_OF.now (Plain class ∷ group x y finding feed title shape)
+    (titled_cap ((said ++ feed.now) ++ printed) class.now x y s)
+both class finding feed title shape x y A said printed e f g =
+    (record { all = λ fs. rw (e, f, g) (adds fs _ _) }, record { all = λ fs. rw (e, f, g) (adds fs _ _) })
+both class finding feed title shape x y _ said printed e f g =
+    (record { all = λ fs. rw (e, f, g) (adds fs _ _) }, record { all = λ fs. rw (e, f, g) (adds fs _ _) })
 
-both : (class x y f n t c : Words) (s : Shape) → c.now ≡ letter s ∷ [] → Both class x y f n t c
-both class x y f n t c s e =
-    subst (λ l. Both class x y f n t (record { ref_ptr = c.ref_ptr; now = l })) (sym e) (by s)
-  where
-    by : (s : Shape) → Both class x y f n t (record { ref_ptr = c.ref_ptr; now = letter s ∷ [] })
-    by A = (record { all = λ fs. refl }, record { all = λ fs. refl })
-    by _ = (record { all = λ fs. refl }, record { all = λ fs. refl })
+-- what they tell
+told : {w : List ℕ} {ts : List Told} {new : List Fact} → Reads w ts new → facts_over in_svg w ts ≡ new
+told h = ap facts_of (h.all [])
 
--- the facts that they tell
-facts : {w class : List ℕ} {x y f n t c : Words} {told : List Told} → AreRead w class x y f n t c told
-    → facts_over in_svg w told ≡ Title ((f.now ++ n.now) ++ t.now)
-    ∷ Key class (codes "translate(" ++ x.now ++ codes " " ++ y.now ++ codes ")") (codes "#" ++ c.now) ∷ []
-facts h = ap facts_of (h.all [])
-
-read : {w class : List ℕ} {x y f n t c : Words} {told : List Told} → AreRead w class x y f n t c told
-    → (fs : List Fact) → over (Some (within in_svg fs)) w told ≡ Some (within in_key (fs ++ facts_over in_svg w told))
-read h fs =
-    h.all fs ∙ ap (λ gs. Some (within in_key gs)) (append_assoc fs _ _ ∙ ap (λ l. fs ++ l) (sym (facts h)))
-
-told : {w class : List ℕ} {x y f n t c : Words} {told : List Told} (k m : ℕ) (s : Shape)
-    → AreRead w class x y f n t c told → x.now ≡ decimal k → y.now ≡ decimal m → c.now ≡ letter s ∷ []
-    → facts_over in_svg w told ≡ titled_cap ((f.now ++ n.now) ++ t.now) class k m s
-told k m s h e g l = facts h ∙ rw (e, g, l) refl
-
-empty : (cs : List ℕ) → length cs < 1 → cs ≡ []
-empty [] h = refl
-empty (c ∷ cs) h = absurd (omega (arith, h))
+read : {w : List ℕ} {ts : List Told} {new : List Fact} → Reads w ts new → (fs : List Fact)
+    → over (Some (within in_svg fs)) w ts ≡ Some (within in_key (fs ++ facts_over in_svg w ts))
+read h fs = h.all fs ∙ ap (λ gs. Some (within in_key (fs ++ gs))) (sym (told h))
 
 pub tell-requires-clause-read : goal.tell-requires-clause-read
 tell-requires-clause-read c =
-    read (both c.args.class c.as_slice.result c.as_slice-2.result c.args.finding c.args.feed c.args.title
-    c.letter.result c.args.shape c.letter.ensures.value).0
-
-pub tell-requires-in_default-clause-read : goal.tell-requires-in_default-clause-read
-tell-requires-in_default-clause-read c =
-    read (both c.args.class c.as_slice.result c.as_slice-2.result c.args.finding c.args.feed c.args.title
-    c.letter.result c.args.shape c.letter.ensures.value).1
+    read (both c.args.class c.as_slice.result c.args.title.now.feed c.as_slice-2.result c.letter.result c.args.cap.x
+    c.args.cap.y c.args.cap.shape _ _ c.as_slice.ensures.value c.as_slice-2.ensures.value c.letter.ensures.value).0
 
 pub returns-in-empty : goal.returns-in-empty
 returns-in-empty c =
-    let none : c.args.class.now ≡ [] = empty c.args.class.now c.in-empty.len_below in
+    let none : c.args.class.now ≡ [] = nil_from_length c.args.class.now (omega (arith, c.in-empty.len_below)) in
     rw none (subst (λ fs. IfOk c.tell.result (λ s. s ≡ c.args.sheet ++ fs))
-    (told c.args.x c.args.y c.args.shape
-    (both c.args.class c.as_slice.result c.as_slice-2.result c.args.finding c.args.feed c.args.title
-    c.letter.result c.args.shape c.letter.ensures.value).0
-    (c.as_slice.ensures.value ∙ c.digits-x.ensures.value) (c.as_slice-2.ensures.value ∙ c.digits-y.ensures.value)
-    c.letter.ensures.value) c.tell.ensures)
+    (told (both c.args.class c.as_slice.result c.args.title.now.feed c.as_slice-2.result c.letter.result c.args.cap.x
+    c.args.cap.y c.args.cap.shape _ _ c.as_slice.ensures.value c.as_slice-2.ensures.value c.letter.ensures.value).0)
+    c.tell.ensures)
+
+pub tell-requires-in_default-clause-read : goal.tell-requires-in_default-clause-read
+tell-requires-in_default-clause-read c =
+    read (both c.args.class c.as_slice.result c.args.title.now.feed c.as_slice-2.result c.letter.result c.args.cap.x
+    c.args.cap.y c.args.cap.shape _ _ c.as_slice.ensures.value c.as_slice-2.ensures.value c.letter.ensures.value).1
 
 pub returns-in_default : goal.returns-in_default
 returns-in_default c =
     subst (λ fs. IfOk c.tell-in_default.result (λ s. s ≡ c.args.sheet ++ fs))
-    (told c.args.x c.args.y c.args.shape
-    (both c.args.class c.as_slice.result c.as_slice-2.result c.args.finding c.args.feed c.args.title
-    c.letter.result c.args.shape c.letter.ensures.value).1
-    (c.as_slice.ensures.value ∙ c.digits-x.ensures.value) (c.as_slice-2.ensures.value ∙ c.digits-y.ensures.value)
-    c.letter.ensures.value) c.tell-in_default.ensures
+    (told (both c.args.class c.as_slice.result c.args.title.now.feed c.as_slice-2.result c.letter.result c.args.cap.x
+    c.args.cap.y c.args.cap.shape _ _ c.as_slice.ensures.value c.as_slice-2.ensures.value c.letter.ensures.value).1)
+    c.tell-in_default.ensures

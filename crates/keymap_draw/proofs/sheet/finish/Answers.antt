@@ -1,4 +1,5 @@
-use Rattle.keymap_draw.proofs.Common.{[], ◌∷◌, refl, Plain, ReadAs, at, Text}
+use Rattle.keymap_draw.proofs.Common.{[], ◌∷◌, refl, ReadAs, at, Text}
+use Rattle.keymap_draw.specs.declared.sheet.Told.TheVariants.{Number}
 use Rattle.keymap_draw.specs.Sheets.{ids}
 use Rattle.keymap_draw.proofs.Parts.{behind}
 use Rattle.keymap_draw.proofs.Scans.{held}
@@ -8,8 +9,8 @@ use Rattle.keymap_draw.proofs.sheet.finish.Goals as goal
 read : (c : goal.In_ok-push_filled)
     → ReadAs (at Text (record { begun = []; ids = ids; facts = c.args.sheet })) c.push_filled.new.text.items
 read c =
-    behind words.END.now (Plain c.as_slice.result ∷ []) (held c.sheet.invariant c.sheet.view_is)
-    c.in_ok-push_filled.ensures (rw (c.as_slice.ensures.value, c.digits.ensures.inner) refl) refl
+    behind words.END.now (Number c.args.y ∷ []) (held c.sheet.invariant c.sheet.view_is)
+    c.in_ok-push_filled.ensures refl refl
 
 pub returns : goal.returns
 returns c = record { ids = ids; scanned = (read c).scanned }

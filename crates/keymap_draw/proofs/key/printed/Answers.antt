@@ -1,6 +1,6 @@
 use Rattle.keymap_draw.proofs.Common.{◌<◌, arith}
 use Rattle.keymap_draw.proofs.Texts.{slot_words_shown, entry_bound}
-use Rattle.keymap_draw.proofs.key.title.Goals as goal
+use Rattle.keymap_draw.proofs.key.printed.Goals as goal
 
 pub returns-clause-seen : goal.returns-clause-seen
 returns-clause-seen c =

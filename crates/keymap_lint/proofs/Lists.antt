@@ -1,10 +1,10 @@
 -- Loops that put one list together, element by element.
-use Rattle.keymap_lint.proofs.Common.{◌≡◌, ◌+◌, ℕ, List, [], ◌∷◌, ◌++◌, map, ap, sym, ◌∙◌, arith, range_with_len}
-use Rattle.keymap_lint.proofs.Common.{gathered}
+use Rattle.keymap_lint.proofs.Common.{◌≡◌, ◌+◌, ℕ, List, [], ◌∷◌, ◌++◌, map, arith, range_with_len}
 use Rattle.std.proofs.Common.{append_assoc}
 use Rattle.std.proofs.lemmas.List.{append-nil}
 use Rattle.std.proofs.lemmas.List.FromFn.{map-range_with_len_more}
 use Rattle.keymap_core.proofs.Below.{gathered-none, gathered-more}
+use Rattle.keymap_core.proofs.BorneTests.{any-start, any-none}
 
 -- one more element behind those of the numbers below n
 pub map_step : {X : Type 0} (f : ℕ → X) (old xs ys : List X) (n : ℕ) (x : X)
@@ -13,20 +13,8 @@ pub map_step : {X : Type 0} (f : ℕ → X) (old xs ys : List X) (n : ℕ) (x : 
 map_step f old xs ys n x so_far is push =
     cc (append_assoc old (map f (range_with_len 0 n)) (x ∷ []), map-range_with_len_more f 0 n n (omega arith))
 
--- what the numbers below n give, and n gives
-pub gathered_step : {X : Type 0} (f : ℕ → List X) (xs ys more : List X) (n : ℕ)
-    → xs ≡ gathered f n → more ≡ f n → ys ≡ xs ++ more → ys ≡ gathered f (n + 1)
-gathered_step f xs ys more n so_far is push = cc (gathered-more f n)
+-- what is gathered below one number more, behind other elements too
+pub ruleset gathered_rules = (gathered-none, gathered-more, append-nil, append_assoc)
 
--- nothing so far
-pub gathered_start : {X : Type 0} (f : ℕ → List X) (xs : List X) → xs ≡ [] → xs ≡ gathered f 0
-gathered_start f xs h = h ∙ sym (gathered-none f)
-
--- the same behind other elements
-pub gathered_step_behind : {X : Type 0} (f : ℕ → List X) (old xs ys more : List X) (n : ℕ)
-    → xs ≡ old ++ gathered f n → more ≡ f n → ys ≡ xs ++ more → ys ≡ old ++ gathered f (n + 1)
-gathered_step_behind f old xs ys more n so_far is push =
-    cc (append_assoc old (gathered f n) more, gathered-more f n)
-
-pub gathered_start_behind : {X : Type 0} (f : ℕ → List X) (old : List X) → old ≡ old ++ gathered f 0
-gathered_start_behind f old = sym (append-nil old) ∙ ap (λ z. old ++ z) (sym (gathered-none f))
+-- whether some number below one more passes
+pub ruleset any_rules = (any-start, any-none)

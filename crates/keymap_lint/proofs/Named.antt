@@ -13,7 +13,8 @@ use Rattle.std.specs.Prelude.{nat_lt}
 use Rattle.std.proofs.lemmas.Bool.{or_cases, or_left, or_right, and_parts, lt-ltb, le-ltb, eqb-true}
 use Rattle.std.proofs.lemmas.Bool.{eq-eqb, cases_Bool}
 use Rattle.std.proofs.lemmas.List.{get_or-replicate, length-append}
-use Rattle.std.proofs.lemmas.List.Elements.{All-head}
+use Rattle.std.proofs.lemmas.List.Elements.{All-head, All-nil}
+use Rattle.keymap_lint.proofs.Standing.{of_all}
 use Rattle.std.proofs.Math.Bool.{or-true}
 use Rattle.std.proofs.lemmas.List.Sorted.{list_any-IsPermutation}
 use Rattle.keymap_core.specs.Accents.{AccentValue, own_of}
@@ -32,7 +33,7 @@ use Rattle.keymap_lint.specs.Kinds.{unused_half, again_by, digit_by, zero_by}
 use Rattle.keymap_lint.specs.Kinds.{pair_by, pairs_by, has_keys, has_shift, unused_by, dead_key_by, base_at}
 use Rattle.keymap_lint.specs.Lists.{AreOf, spelled_by, all_of}
 use Rattle.keymap_lint.specs.Promises.{names_keys, KeysAreNamedExactlyIfRefused, names_a_key}
-use Rattle.std.proofs.lemmas.List.Folds.{list_any-append, list_any_at}
+use Rattle.std.proofs.lemmas.List.Folds.{list_any-append, list_any_at, list_any_none}
 use Rattle.keymap_core.specs.declared.action.Action.{Action}
 use Rattle.keymap_core.specs.Actions.{holding_action}
 use Rattle.keymap_core.specs.Borne.{is_upper_live}
@@ -59,17 +60,6 @@ any_flat p f (x ∷ xs) h = elim (or_cases (list_any p (f x)) (list_any (λ x. l
   | inl e ↦ simp (list_any-append, e)
   | inr e ↦ simp (list_any-append, any_flat p f xs e, or-true)
 ]
-
-pub none_flat : {X Y : Type 0} (p : Y → Bool) (f : X → List Y) → ((x : X) → list_any p (f x) ≡ false) → (xs : List X)
-    → list_any p (flat_map f xs) ≡ false
-none_flat p f h [] = refl
-none_flat p f h (x ∷ xs) = simp (list_any-append, h x, none_flat p f h xs)
-
-pub none_gathered : {Y : Type 0} (p : Y → Bool) (f : ℕ → List Y) → ((n : ℕ) → list_any p (f n) ≡ false) → (n : ℕ)
-    → list_any p (gathered f n) ≡ false
-unfolding gathered
-none_gathered p f h zero = refl
-none_gathered p f h (suc n) = simp (list_any-append, none_gathered p f h n, h n)
 
 -- an element that passes is found
 find_some : {X : Type 0} (p : X → Bool) (xs : List X) → list_any p xs ≡ true
@@ -230,83 +220,20 @@ finding_names t h f fs is =
 
 -- ---- without findings none does
 
-quiet_either : {X : Type 0} (f : X → Bool) (b : Bool) {x y : X} → f x ≡ false → f y ≡ false → f (cond b x y) ≡ false
-quiet_either f true h k = h
-quiet_either f false h k = k
-
-quiet_option : {X : Type 0} (f : Option X → List Diagnostic) → list_any names (f None) ≡ false
-    → ((x : X) → list_any names (f (Some x)) ≡ false) → (o : Option X) → list_any names (f o) ≡ false
-quiet_option f h k None = h
-quiet_option f h k (Some x) = k x
-
--- whether what a kind says names a key
-abbrev told : Option Diagnostic → Bool
-told o = list_any names (option_to_list o)
-
-quiet_again : (t : Spelled) (p : Placed) → list_any names (again t p) ≡ false
-quiet_again t p =
-    quiet_option (λ o. option_to_list (again_by t p o)) refl
-    (λ q. quiet_either told (q.first == p.first) refl refl) (last_of p.what t.definitions)
-
-quiet_digit : (t : Spelled) (c : CellInForce) → list_any names (digit t c) ≡ false
-quiet_digit t c = go (content t c)
-  where
-    go : (x : Cell) → list_any names (option_to_list (digit_by c x)) ≡ false
-    go (Char n) = quiet_either told (c.span.end - c.span.start == 1) refl refl
-    go (Act a) = refl
-
-quiet_zero : (t : Spelled) (cells : List CellInForce) (i : ℕ) → list_any names (zero_accent t cells i) ≡ false
-quiet_zero t cells i =
-    quiet_option (λ o. option_to_list (zero_by t cells i o)) refl
-    (λ p. quiet_either told (is_zero (own_of (accent_at t.map i)) && is_given t cells i) refl refl)
-    (last_of (Accent i) t.definitions)
-
-quiet_pair : (t : Spelled) (i first : ℕ) (pairs : List (ℕ × ℕ)) (j : ℕ)
-    → list_any names (pair_again t i first pairs j) ≡ false
-quiet_pair t i first pairs j =
-    quiet_option (λ o. option_to_list (pair_by t i first (base_at pairs j) j o)) refl (λ k. refl)
-    (first_below (has_base pairs j) j)
-
-quiet_pairs : (t : Spelled) (i : ℕ) → list_any names (accent_pairs t i) ≡ false
-quiet_pairs t i = go (last_of (Accent i) t.definitions) (accent_at t.map i)
-  where
-    go : (o : Option Placed) (a : Option AccentValue) → list_any names (pairs_by t i o a) ≡ false
-    go (Some p) (Some a) =
-        none_gathered names (pair_again t i p.first a.pairs) (quiet_pair t i p.first a.pairs) (length a.pairs)
-    go (Some p) None = refl
-    go None a = refl
-
-quiet_half : (t : Spelled) (cells : List CellInForce) → list_any names (half_defined t cells []) ≡ false
-quiet_half t cells =
-    quiet_either told (is_some_in (missing_slots t))
-    (quiet_option (λ o. option_to_list (half_at t false false o)) refl
-    (λ c. quiet_option (λ o. option_to_list (half_by c false false o)) refl (λ s. refl) (selector t c))
-    (find (selects t) cells)) refl
-
 none_names : (t : Spelled) (cells : List CellInForce) → list_any names (all_of t cells []) ≡ false
 none_names t cells =
-    let keyless : list_any names (no_key t.map) ≡ false = quiet_either (list_any names) (has_keys t.map) refl refl in
-    let shiftless : list_any names (no_shift t.map) ≡ false =
-    quiet_either (list_any names) (has_keys t.map && not (has_shift t.map)) refl refl in
-    let dead : list_any names (dead_key t cells) ≡ false =
-    quiet_option (dead_key_by t) refl (λ c. refl) (find (is_missing t) cells) in
-    let unused : list_any names (unused_half t) ≡ false =
-    quiet_either (list_any names) (is_upper_live t.map) refl
-    (quiet_option (unused_by t) refl (λ p. refl) (find (is_above_in_force t) t.definitions)) in
-    simp (
-      list_any-append,
-      keyless,
-      shiftless,
-      quiet_half t cells,
-      none_flat names (again t) (quiet_again t)
-          t.definitions,
-      dead,
-      none_gathered names (zero_accent t cells) (quiet_zero t cells) 15,
-      none_gathered names
-          (accent_pairs t) (quiet_pairs t) 15,
-      unused,
-      none_flat names (digit t) (quiet_digit t) cells,
-    )
+    list_any_none names (all_of t cells []) (of_all (λ d. names d ≡ false) t cells [] (record {
+      no_key = refl;
+      no_shift = refl;
+      mixed = All-nil _;
+      half = λ c s e g. refl;
+      again = λ p q. refl;
+      dead = λ c e. refl;
+      zero = λ i p. refl;
+      pair = λ i first base j k. refl;
+      unused = λ p. refl;
+      digit = λ k c l n e. refl;
+    }))
 
 -- ---- a text
 

@@ -13,6 +13,10 @@ use Rattle.std.proofs.lemmas.List.{get_or_past, get_or-map, get_or-take, get_or-
 use Rattle.std.proofs.lemmas.List.Elements.{All-weaker, All-contains, All-nil, All-cons, All-head, All-tail, All-append}
 use Rattle.std.proofs.lemmas.List.Elements.{Contains-get_or}
 use Rattle.std.proofs.lemmas.List.FromFn.{length-map-range_with_len}
+use Rattle.std.specs.List.{position_or_len, slice_get}
+use Rattle.std.proofs.lemmas.List.Folds.{find_at}
+use Rattle.std.proofs.lemmas.Option.{get_or_from_slice_get, slice_get_within}
+use Rattle.keymap_core.proofs.Lists.{find-true}
 use Rattle.std.proofs.lemmas.List.Sorted.{All-permutation}
 use Rattle.keymap_lint.specs.Types.{Holding, Cell, Char, Act, Finding, Defined, Accent, Span, CellInForce, Lint}
 use Rattle.keymap_lint.specs.Types.{Spelled as OfSpelled}
@@ -177,61 +181,157 @@ cells_in_force_are_spelled text m rows by =
 
 -- ---- diagnostics
 
-holds_selector : (x : Cell) (s : Holding) → selector_of x ≡ Some s → x ≡ Act (holding_action s)
-holds_selector (Act (act.Mod modifier.AltShift)) s e =
-    let same : holding.Mod modifier.AltShift ≡ s = cc in ap (λ h. Act (holding_action h)) same
-holds_selector (Act (act.Lock lock.Alt)) s e =
-    let same : holding.Lock lock.Alt ≡ s = cc in ap (λ h. Act (holding_action h)) same
-holds_selector _ s e = absurd (cc)
+-- The property holds of each diagnostic that a text with these cells and findings may have.
+pub record OfEach (P : Diagnostic → Type 0) (t : Spelled) (cells : List CellInForce) (fs : List Finding) : Type 0 where
+  pub no_key : P (nowhere kinds.NoKey)
+  pub no_shift : P (nowhere kinds.NoShift)
+  pub mixed : All (λ f. (p : Placed) → last_of (Slot f.holding_at.slot) t.definitions ≡ Some p
+      → P (at (offset_at t (p.first + (1 + f.holding_at.column))) (kinds.MixedKey f
+      (character_of (cell_at t.map f.character_at.slot f.character_at.column)) (is_greatest t fs f.key)))) fs
+  pub half : (c : CellInForce) (s : Holding) → find (selects t) cells ≡ Some c → selector t c ≡ Some s
+      → P (at c.span.start (kinds.HalfDefined s (is_some_in (nul_keys t fs))
+      (is_some_in (nul_keys t fs) && not (is_some_in (mixed_keys t fs)))))
+  pub again : (p q : Placed) → P (at (offset_at t p.first) (kinds.DefinedAgain p.what (offset_at t q.first)))
+  pub dead : (c : CellInForce) → find (is_missing t) cells ≡ Some c
+      → P (at c.span.start (kinds.DeadKey (any_below (is_defined t) 15)))
+  pub zero : (i : ℕ) (p : Placed) → P (at (offset_at t (p.first + 1)) (kinds.ZeroAccent i))
+  pub pair : (i first base j k : ℕ) → P (at (paren t first j) (kinds.PairAgain i base (paren t first k)))
+  pub unused : (p : Placed) → P (at (offset_at t p.first) kinds.UnusedHalf)
+  pub digit : All (λ c. (n : ℕ) → content t c ≡ Char n → P (at c.span.start (kinds.BareDigit n))) cells
 
-holds_dead_key : (x : Cell) (i : ℕ) → dead_key_of x ≡ Some i → x ≡ Act (act.DeadKey i)
-holds_dead_key (Act (act.DeadKey j)) i e = let same : j ≡ i = cc in ap (λ n. Act (act.DeadKey n)) same
-holds_dead_key _ i e = absurd (cc)
+-- by whether there is one
+all_some : {X Y : Type 0} (P : Y → Type 0) (f : Option X → List Y) (o : Option X) → All P (f None)
+    → ((x : X) → o ≡ Some x → All P (f (Some x))) → All P (f o)
+all_some P f None h k = h
+all_some P f (Some x) h k = k x refl
 
-find_all : {X : Type 0} (P : X → Type 0) (p : X → Bool) (xs : List X) → All P xs → (x : X) → find p xs ≡ Some x
-    → P x × (p x ≡ true)
-find_all P p [] all x e = absurd (cc)
-find_all {X} P p (y ∷ ys) all x e = go (p y) refl (find_all P p ys (All-tail P y ys all) x) e
+-- So it holds of all that it has.
+pub of_all : (P : Diagnostic → Type 0) (t : Spelled) (cells : List CellInForce) (fs : List Finding)
+    → OfEach P t cells fs → All P (all_of t cells fs)
+of_all P t cells fs h =
+    join (of_keys t cells fs ++ of_definitions t cells) (of_rest t cells)
+    (join (of_keys t cells fs) (of_definitions t cells)
+    (join ((no_key t.map ++ no_shift t.map) ++ mixed_keys t fs) (half_defined t cells fs)
+    (join (no_key t.map ++ no_shift t.map) (mixed_keys t fs)
+    (join (no_key t.map) (no_shift t.map)
+    (all_either (All P) (has_keys t.map) [] (nowhere kinds.NoKey ∷ []) none (all_one P _ h.no_key))
+    (all_either (All P) (has_keys t.map && not (has_shift t.map)) (nowhere kinds.NoShift ∷ []) []
+    (all_one P _ h.no_shift) none))
+    (all_flat P _ (mixed_key t fs) mixed fs h.mixed))
+    (all_either (λ o. All P (option_to_list o)) (is_some_in (missing_slots t)) (half_at t _ _ (find (selects t) cells))
+    None halves none))
+    (join (defined_again t ++ dead_key t cells) (zero_accents t cells)
+    (join (defined_again t) (dead_key t cells) (all_flat P (λ p. Unit {0}) (again t) againby t.definitions (λ k d l. tt))
+    (all_some P (dead_key_by t) (find (is_missing t) cells) none (λ c e. all_one P _ (h.dead c e))))
+    (all_gathered P (zero_accent t cells) zero 15)))
+    (join (pairs_again t ++ unused_half t) (bare_digits t cells)
+    (join (pairs_again t) (unused_half t) (all_gathered P (accent_pairs t) pairs 15)
+    (all_either (All P) (is_upper_live t.map) [] (unused_by t (find (is_above_in_force t) t.definitions)) none
+    (all_some P (unused_by t) (find (is_above_in_force t) t.definitions) none (λ p e. all_one P _ (h.unused p)))))
+    (all_flat P _ (digit t) (λ c g. digits c (content t c) g) cells h.digit))
   where
-    go : (b : Bool) → p y ≡ b → (find p ys ≡ Some x → P x × (p x ≡ true)) → cond b (Some y) (find p ys) ≡ Some x
-        → P x × (p x ≡ true)
-    go true f later e = let same : y ≡ x = cc in (subst P same (All-head P y ys all), cc (ap p same))
-    go false f later e = later e
+    none : All P []
+    none = All-nil P
+
+    join : (xs ys : List Diagnostic) → All P xs → All P ys → All P (xs ++ ys)
+    join = All-append P
+
+    mixed : (f : Finding) → ((p : Placed) → last_of (Slot f.holding_at.slot) t.definitions ≡ Some p
+        → P (at (offset_at t (p.first + (1 + f.holding_at.column))) (kinds.MixedKey f
+        (character_of (cell_at t.map f.character_at.slot f.character_at.column)) (is_greatest t fs f.key))))
+        → All P (mixed_key t fs f)
+    mixed f g =
+        all_some P (λ o. option_to_list (mixed_by t fs f o)) (last_of (Slot f.holding_at.slot) t.definitions) none
+        (λ p e. all_if P (is_mixed t f) _ (g p e))
+
+    halves : All P (option_to_list (half_at t (is_some_in (nul_keys t fs)) (is_some_in (mixed_keys t fs))
+        (find (selects t) cells)))
+    halves =
+        all_some P (λ o. option_to_list (half_at t (is_some_in (nul_keys t fs)) (is_some_in (mixed_keys t fs)) o))
+        (find (selects t) cells) none (λ c e.
+        all_some P (λ o. option_to_list (half_by c (is_some_in (nul_keys t fs)) (is_some_in (mixed_keys t fs)) o))
+        (selector t c) none (λ s g. all_one P _ (h.half c s e g)))
+
+    againby : (p : Placed) → Unit {0} → All P (again t p)
+    againby p u =
+        all_some P (λ o. option_to_list (again_by t p o)) (last_of p.what t.definitions) none
+        (λ q e. all_either (λ o. All P (option_to_list o)) (q.first == p.first) None _ none (all_one P _ (h.again p q)))
+
+    zero : (i : ℕ) → All P (zero_accent t cells i)
+    zero i =
+        all_some P (λ o. option_to_list (zero_by t cells i o)) (last_of (Accent i) t.definitions) none
+        (λ p e. all_if P (is_zero (own_of (accent_at t.map i)) && is_given t cells i) _ (h.zero i p))
+
+    pairs : (i : ℕ) → All P (accent_pairs t i)
+    pairs i =
+        all_some P (λ o. pairs_by t i o (accent_at t.map i)) (last_of (Accent i) t.definitions) none (λ p e.
+        all_some P (pairs_by t i (Some p)) (accent_at t.map i) none (λ a f.
+        all_gathered P (pair_again t i p.first a.pairs) (λ j.
+        all_some P (λ o. option_to_list (pair_by t i p.first (base_at a.pairs j) j o))
+        (first_below (has_base a.pairs j) j) none (λ k g. all_one P _ (h.pair i p.first (base_at a.pairs j) j k)))
+        (length a.pairs)))
+
+    digits : (c : CellInForce) (x : Cell) → ((n : ℕ) → x ≡ Char n → P (at c.span.start (kinds.BareDigit n)))
+        → All P (option_to_list (digit_by c x))
+    digits c (Act a) g = none
+    digits c (Char n) g = all_if P (c.span.end - c.span.start == 1) _ (g n refl)
+
+-- a cell that selects the slots from 128 on is what is told of it
+holds_selector : (b : Bool) (x : Cell) (s : Holding) → cond b (selector_of x) None ≡ Some s
+    → x ≡ Act (holding_action s)
+holds_selector true (Act (act.Mod modifier.AltShift)) s e =
+    let same : holding.Mod modifier.AltShift ≡ s = cc in ap (λ h. Act (holding_action h)) same
+holds_selector true (Act (act.Lock lock.Alt)) s e =
+    let same : holding.Lock lock.Alt ≡ s = cc in ap (λ h. Act (holding_action h)) same
+holds_selector _ _ s e = absurd (cc)
+
+-- and so is a dead key
+holds_dead_key : (b : Bool) (x : Cell) (i : ℕ) → cond b (dead_key_of x) None ≡ Some i → x ≡ Act (act.DeadKey i)
+holds_dead_key true (Act (act.DeadKey j)) i e = let same : j ≡ i = cc in ap (λ n. Act (act.DeadKey n)) same
+holds_dead_key _ _ i e = absurd (cc)
+
+-- what holds of all elements holds of the one that is found
+found_has : {X : Type 0} (P : X → Type 0) (p : X → Bool) (xs : List X) → All P xs → (x : X) → find p xs ≡ Some x → P x
+found_has P p xs all x e =
+    let here : slice_get xs (position_or_len p xs) ≡ Some x = sym (find_at p xs) ∙ e in
+    subst P (get_or_from_slice_get xs (position_or_len p xs) x x here)
+    (all (position_or_len p xs) x (slice_get_within xs (position_or_len p xs) x here))
 
 all_of_text : (text : List ℕ) (m : MapValue) (rows : List Row) → IsSpelledBy text m rows → (fs : List Finding)
     → All (IsFinding m) fs
     → All (StandsWithin text) (all_of (spelled_by text m rows) (cells_in_force (spelled_by text m rows)) fs)
 all_of_text text m rows by fs are =
-    join (of_keys t cells fs ++ of_definitions t cells) (of_rest t cells)
-    (join (of_keys t cells fs) (of_definitions t cells)
-    (join ((no_key m ++ no_shift m) ++ mixed_keys t fs) (half_defined t cells fs)
-    (join (no_key m ++ no_shift m) (mixed_keys t fs)
-    (join (no_key m) (no_shift m)
-    (all_either (All S) (has_keys m) [] (nowhere kinds.NoKey ∷ []) (All-nil S) (all_one S _ ((tt, tt), tt)))
-    (all_either (All S) (has_keys m && not (has_shift m)) (nowhere kinds.NoShift ∷ []) []
-    (all_one S _ ((tt, tt), tt)) (All-nil S)))
-    (all_flat S (IsFinding m) (mixed_key t fs) mixed fs are))
-    (halves (is_some_in (missing_slots t)) (is_some_in (nul_keys t fs)) (is_some_in (mixed_keys t fs))
-    (find (selects t) cells) refl))
-    (join (defined_again t ++ dead_key t cells) (zero_accents t cells)
-    (join (defined_again t) (dead_key t cells)
-    (all_flat S (λ p. Unit {0}) (again t) (λ p x. againby p (last_of p.what t.definitions)) t.definitions (λ k d l. tt))
-    (dead (find (is_missing t) cells) refl))
-    (all_gathered S (zero_accent t cells) (λ i. zero i (last_of (Accent i) t.definitions)) 15)))
-    (join (pairs_again t ++ unused_half t) (bare_digits t cells)
-    (join (pairs_again t) (unused_half t)
-    (all_gathered S (accent_pairs t) (λ i. pairs i (last_of (Accent i) t.definitions) (accent_at m i)) 15)
-    (unused (is_upper_live m) (find (is_above_in_force t) t.definitions)))
-    (all_flat S IsThere (digit t) (λ c h. digits c (content t c) h) cells there))
+    of_all (StandsWithin text) t cells fs (record {
+      no_key = ((tt, tt), tt);
+      no_shift = ((tt, tt), tt);
+      mixed = λ k d l p e.
+          let f : Finding = get_or fs k d in
+          let is : IsFinding m f = are k d l in
+          ((w (p.first + (1 + f.holding_at.column)), tt),
+          subst (SpellsCell text (offset_at t (p.first + (1 + f.holding_at.column)))) is.holding
+          (spelled_at text m rows by f.holding_at.slot p e f.holding_at.column is.first_holding.0.0));
+      half = λ c s e g.
+          let its : SpellsCell text c.span.start (content t c) = found_has IsThere (selects t) cells there c e in
+          ((low c.span.start (content t c) its, tt),
+          subst (SpellsCell text c.span.start) (holds_selector (nat_lt c.slot 128) (content t c) s g) its);
+      again = λ p q. ((w p.first, w q.first), tt);
+      dead = λ c e.
+          let its : SpellsCell text c.span.start (content t c) = found_has IsThere (is_missing t) cells there c e in
+          ((low c.span.start (content t c) its, tt),
+          dead_key_there c its (live_accent t c) refl (find-true (is_missing t) cells c e));
+      zero = λ i p. ((w (p.first + 1), tt), tt);
+      pair = λ i first base j k. ((w (first + (4 * j + 2)), w (first + (4 * k + 2))), tt);
+      unused = λ p. ((w p.first, tt), tt);
+      digit = λ k d l n e.
+          let c : CellInForce = get_or cells k d in
+          ((low c.span.start (content t c) (there k d l), tt), subst (SpellsCell text c.span.start) e (there k d l));
+    })
   where
     t : Spelled
     t = spelled_by text m rows
 
     cells : List CellInForce
     cells = cells_in_force t
-
-    S : Diagnostic → Type 0
-    S = StandsWithin text
 
     w : (n : ℕ) → offset_at t n ≤ length text
     w = within text m rows
@@ -242,109 +342,17 @@ all_of_text text m rows by fs are =
     there : All IsThere cells
     there = cells_in_force_are_spelled text m rows by
 
-    join : (xs ys : List Diagnostic) → All S xs → All S ys → All S (xs ++ ys)
-    join xs ys h k = All-append S xs ys h k
-
     -- the place of a cell lies in the text
     low : (place : ℕ) (x : Cell) → SpellsCell text place x → place ≤ length text
     low place x h =
         let p = All-contains (IsPlaced text) (tokens text) h.token (tokens_are_placed text) h.among in
         omega (arith, p.within, h.start)
 
-    mixed : (f : Finding) → IsFinding m f → All S (mixed_key t fs f)
-    mixed f is = go (last_of (Slot f.holding_at.slot) t.definitions) refl
-      where
-        go : (o : Option Placed) → last_of (Slot f.holding_at.slot) t.definitions ≡ o
-            → All S (option_to_list (mixed_by t fs f o))
-        go None e = All-nil S
-        go (Some p) e =
-            let place : ℕ = offset_at t (p.first + (1 + f.holding_at.column)) in
-            all_if S (is_mixed t f)
-            (at place (kinds.MixedKey f (character_of (cell_at m f.character_at.slot f.character_at.column))
-            (is_greatest t fs f.key))) (
-              (w (p.first + (1 + f.holding_at.column)), tt),
-              subst (SpellsCell text place) is.holding
-                  (spelled_at text m rows by f.holding_at.slot p e f.holding_at.column is.first_holding.0.0),
-            )
-
-    halves : (slots keys has_mixed : Bool) (o : Option CellInForce) → find (selects t) cells ≡ o
-        → All S (option_to_list (cond slots (half_at t keys has_mixed o) None))
-    halves false keys has_mixed o e = All-nil S
-    halves true keys has_mixed None e = All-nil S
-    halves true keys has_mixed (Some c) e = go (selector t c) refl
-      where
-        spelled : SpellsCell text c.span.start (content t c)
-        spelled = (find_all IsThere (selects t) cells there c e).0
-
-        stands : (b : Bool) (s : Holding) → cond b (selector_of (content t c)) None ≡ Some s
-            → content t c ≡ Act (holding_action s)
-        stands true s f = holds_selector (content t c) s f
-        stands false s f = absurd (cc)
-
-        go : (o : Option Holding) → selector t c ≡ o → All S (option_to_list (half_by c keys has_mixed o))
-        go None f = All-nil S
-        go (Some s) f =
-            all_one S (at c.span.start (kinds.HalfDefined s keys (keys && not has_mixed))) (
-              (low c.span.start (content t c) spelled, tt),
-              subst (SpellsCell text c.span.start) (stands (nat_lt c.slot 128) s f) spelled,
-            )
-
-    againby : (p : Placed) (o : Option Placed) → All S (option_to_list (again_by t p o))
-    againby p None = All-nil S
-    againby p (Some q) =
-        let d = at (offset_at t p.first) (kinds.DefinedAgain p.what (offset_at t q.first)) in
-        all_either (λ o. All S (option_to_list o)) (q.first == p.first) None (Some d) (All-nil S)
-        (all_one S d ((w p.first, w q.first), tt))
-
-    dead : (o : Option CellInForce) → find (is_missing t) cells ≡ o → All S (dead_key_by t o)
-    dead None e = All-nil S
-    dead (Some c) e =
-        all_one S (at c.span.start (kinds.DeadKey (any_below (is_defined t) 15)))
-        ((low c.span.start (content t c) f.0, tt), go (live_accent t c) refl f.1)
-      where
-        f : SpellsCell text c.span.start (content t c) × (is_missing t c ≡ true)
-        f = find_all IsThere (is_missing t) cells there c e
-
-        stands : (b : Bool) (i : ℕ) → cond b (dead_key_of (content t c)) None ≡ Some i
-            → content t c ≡ Act (act.DeadKey i)
-        stands true i g = holds_dead_key (content t c) i g
-        stands false i g = absurd (cc)
-
-        go : (o : Option ℕ) → live_accent t c ≡ o → is_missing_of t o ≡ true
-            → (i : ℕ) × SpellsCell text c.span.start (Act (act.DeadKey i))
-        go (Some i) g h = (i, subst (SpellsCell text c.span.start) (stands (is_live t c.slot) i g) f.0)
-        go None g h = absurd (true≢false (sym h))
-
-    zero : (i : ℕ) (o : Option Placed) → All S (option_to_list (zero_by t cells i o))
-    zero i None = All-nil S
-    zero i (Some p) =
-        all_if S (is_zero (own_of (accent_at m i)) && is_given t cells i)
-        (at (offset_at t (p.first + 1)) (kinds.ZeroAccent i)) ((w (p.first + 1), tt), tt)
-
-    pair : (i first : ℕ) (ps : List (ℕ × ℕ)) (j : ℕ) (o : Option ℕ)
-        → All S (option_to_list (pair_by t i first (base_at ps j) j o))
-    pair i first ps j None = All-nil S
-    pair i first ps j (Some k) =
-        all_one S (at (paren t first j) (kinds.PairAgain i (base_at ps j) (paren t first k)))
-        ((w (first + (4 * j + 2)), w (first + (4 * k + 2))), tt)
-
-    pairs : (i : ℕ) (o : Option Placed) (a : Option AccentValue) → All S (pairs_by t i o a)
-    pairs i (Some p) (Some a) =
-        all_gathered S (pair_again t i p.first a.pairs)
-        (λ j. pair i p.first a.pairs j (first_below (has_base a.pairs j) j)) (length a.pairs)
-    pairs i (Some p) None = All-nil S
-    pairs i None a = All-nil S
-
-    unused : (b : Bool) (o : Option Placed) → All S (cond b [] (unused_by t o))
-    unused true o = All-nil S
-    unused false None = All-nil S
-    unused false (Some p) = all_one S (at (offset_at t p.first) kinds.UnusedHalf) ((w p.first, tt), tt)
-
-    digits : (c : CellInForce) (x : Cell) → SpellsCell text c.span.start x → All S (option_to_list (digit_by c x))
-    digits c (Act a) h = All-nil S
-    digits c (Char n) h =
-        all_if S (c.span.end - c.span.start == 1) (at c.span.start (kinds.BareDigit n))
-        ((low c.span.start (Char n) h, tt), h)
+    dead_key_there : (c : CellInForce) → IsThere c → (o : Option ℕ) → live_accent t c ≡ o → is_missing_of t o ≡ true
+        → (i : ℕ) × SpellsCell text c.span.start (Act (act.DeadKey i))
+    dead_key_there c its (Some i) g h =
+        (i, subst (SpellsCell text c.span.start) (holds_dead_key (is_live t c.slot) (content t c) i g) its)
+    dead_key_there c its None g h = absurd (true≢false (sym h))
 
 -- ---- a fault
 

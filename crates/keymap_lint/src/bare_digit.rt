@@ -1,13 +1,12 @@
 //! Cells that are spelled by a bare digit.
-ghost use Rattle.std.specs.Prelude.{◌≡◌, IfOk};
+ghost use Rattle.std.specs.Prelude.{◌≡◌, ◌++◌, OnOk};
 ghost use Rattle.std.specs.Option.{option_to_list};
-ghost use Rattle.keymap_lint.specs.Kinds.{digit as digit_of, bare_digits as bare_digits_of};
+ghost use Rattle.keymap_lint.specs.Kinds.{digit as digit_of, bare_digits};
 
 use crate::cells::CellInForce;
-use crate::diagnostic::{Diagnostic, Kind, add};
+use crate::diagnostic::{Added, Diagnostic, Found, Kind, add};
 use crate::spelled::SpelledText;
 use keymap_core::Cell;
-use std::alloc::{AllocError, Global};
 
 /// What is said of a character that one byte spells.
 fn digit(text: &SpelledText, cell: &CellInForce) -> Option<Diagnostic>
@@ -26,17 +25,12 @@ fn digit(text: &SpelledText, cell: &CellInForce) -> Option<Diagnostic>
     }
 }
 
-/// The cells that are spelled by one decimal digit, in the order of the text.
-pub(crate) fn bare_digits(
-    alloc: Global,
-    text: &SpelledText,
-    cells: &[CellInForce],
-) -> Result<Vec<Diagnostic>, AllocError>
-    ensures { IfOk result (λ found. found.items ≡ bare_digits_of text.now cells.now) }
+/// Adds the cells that are spelled by one decimal digit, in the order of the text.
+pub(crate) fn add_bare_digits(found: &mut Found, text: &SpelledText, cells: &[CellInForce]) -> Added
+    ensures { OnOk result (found.new.items ≡ found.old.items ++ bare_digits text.now cells.now) }
 {
-    let mut found = Vec::new(alloc);
     for cell in cells {
-        add(&mut found, digit(text, cell))?;
+        add(found, digit(text, cell))?;
     }
-    Ok(found)
+    Ok(())
 }

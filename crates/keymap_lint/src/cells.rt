@@ -57,8 +57,7 @@ fn add_cells(
 {
     match definition.what {
         Defined::Slot(slot) if text.is_in_force(definition) => {
-            add_slot(cells, text, slot, definition.first)?;
-            Ok(())
+            add_slot(cells, text, slot, definition.first)
         }
         _ => Ok(()),
     }

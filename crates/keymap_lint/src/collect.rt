@@ -3,21 +3,21 @@ ghost use Rattle.std.specs.Prelude.{◌≡◌, ◌++◌, ◌≤◌, IfOk, OnOk, 
 ghost use Rattle.keymap_core.specs.Numbers.{key_count};
 ghost use Rattle.keymap_lint.specs.Spelled.{AreDefined};
 ghost use Rattle.keymap_lint.specs.Kinds.{half, is_some_in, missing_slots as missing_slots_of, nul_keys as nul_keys_of};
-ghost use Rattle.keymap_lint.specs.Lists.{of_keys, of_definitions, of_rest, all_of};
+ghost use Rattle.keymap_lint.specs.Lists.{of_keys, all_of};
 
-use crate::bare_digit::bare_digits;
+use crate::bare_digit::add_bare_digits;
 use crate::cells::CellInForce;
 use crate::dead_key::dead_key;
-use crate::defined_again::defined_again;
-use crate::diagnostic::{Diagnostic, add, add_all};
+use crate::defined_again::add_defined_again;
+use crate::diagnostic::{Diagnostic, Found, add};
 use crate::half_defined::{half_defined, missing_slots};
 use crate::mixed_key::{mixed_keys, nul_keys};
 use crate::no_key::no_key;
 use crate::no_shift::no_shift;
-use crate::pair_again::pairs_again;
+use crate::pair_again::add_pairs_again;
 use crate::spelled::SpelledText;
 use crate::unused_half::unused_half;
-use crate::zero_accent::zero_accents;
+use crate::zero_accent::add_zero_accents;
 use keymap_check::Finding;
 use std::alloc::{AllocError, Global};
 
@@ -44,7 +44,7 @@ fn said_of_keys(
     text: &SpelledText,
     cells: &[CellInForce],
     findings: &[Finding],
-) -> Result<Vec<Diagnostic>, AllocError>
+) -> Result<Found, AllocError>
     requires { length findings.now ≤ key_count }
     ensures { IfOk result (λ found. found.items ≡ of_keys text.now cells.now findings.now) }
 {
@@ -52,56 +52,29 @@ fn said_of_keys(
     let mut found = Vec::new(alloc);
     add(&mut found, no_key(text.map()))?;
     add(&mut found, no_shift(text.map()))?;
-    add_all(&mut found, &mixed)?;
+    found.extend_from_slice(mixed.as_slice())?;
     add(&mut found, half_of(text, cells, findings, mixed.len() > 0))?;
     Ok(found)
 }
 
-/// Adds what is said of definitions without effect, and of dead keys.
-fn add_definitions(
-    alloc: Global,
-    found: &mut Vec<Diagnostic>,
-    text: &SpelledText,
-    cells: &[CellInForce],
-) -> Result<(), AllocError>
-    requires { AreDefined text.now }
-    ensures { OnOk result (found.new.items ≡ found.old.items ++ of_definitions text.now cells.now) }
-{
-    add_all(found, &defined_again(alloc, text)?)?;
-    add(found, dead_key(text, cells))?;
-    add_all(found, &zero_accents(alloc, text, cells)?)?;
-    Ok(())
-}
-
-/// Adds what is said of pairs, of slots that are never looked at, and of digits.
-fn add_rest(
-    alloc: Global,
-    found: &mut Vec<Diagnostic>,
-    text: &SpelledText,
-    cells: &[CellInForce],
-) -> Result<(), AllocError>
-    requires { AreDefined text.now }
-    ensures { OnOk result (found.new.items ≡ found.old.items ++ of_rest text.now cells.now) }
-{
-    add_all(found, &pairs_again(alloc, text)?)?;
-    add(found, unused_half(text))?;
-    add_all(found, &bare_digits(alloc, text, cells)?)?;
-    Ok(())
-}
-
-/// All that is said of a text, kind by kind in the order of the kinds.
+/// All that is said of a text, kind by kind in the order of the kinds: of its keys, of definitions without effect and
+/// dead keys, of pairs, of slots that are never looked at, and of digits.
 pub(crate) fn collect(
     alloc: Global,
     text: &SpelledText,
     cells: &[CellInForce],
     findings: &[Finding],
-) -> Result<Vec<Diagnostic>, AllocError>
+) -> Result<Found, AllocError>
     requires few { length findings.now ≤ key_count }
     requires defined { AreDefined text.now }
     ensures { IfOk result (λ found. found.items ≡ all_of text.now cells.now findings.now) }
 {
     let mut found = said_of_keys(alloc, text, cells, findings)?;
-    add_definitions(alloc, &mut found, text, cells)?;
-    add_rest(alloc, &mut found, text, cells)?;
+    add_defined_again(&mut found, text)?;
+    add(&mut found, dead_key(text, cells))?;
+    add_zero_accents(&mut found, text, cells)?;
+    add_pairs_again(&mut found, text)?;
+    add(&mut found, unused_half(text))?;
+    add_bare_digits(&mut found, text, cells)?;
     Ok(found)
 }

@@ -1,5 +1,5 @@
 //! Dead keys of accents that the text doesn't define.
-ghost use Rattle.std.specs.Prelude.{◌≡◌, ◌<◌, ◌&&◌, not, find};
+ghost use Rattle.std.specs.Prelude.{◌≡◌, ◌<◌, ◌&&◌, not, find, option_copied};
 ghost use Rattle.std.specs.Option.{option_to_list};
 ghost use Rattle.keymap_core.specs.Borne.{any_below};
 ghost use Rattle.keymap_core.specs.Numbers.{accent_limit};
@@ -24,13 +24,14 @@ fn is_missing(text: &SpelledText, cell: &CellInForce) -> bool
 }
 
 /// The first such cell.
-fn first_missing(text: &SpelledText, cells: &[CellInForce]) -> Option<CellInForce>
-    ensures { result ≡ find (is_missing_in text.now) cells.now }
+fn first_missing<'c>(text: &SpelledText, cells: &'c [CellInForce]) -> Option<&'c CellInForce>
+    ensures { option_copied result ≡ find (is_missing_in text.now) cells.now }
 {
-    cells.iter().find(|cell| is_missing(text, cell)).copied()
+    cells.iter().find(|cell| is_missing(text, cell))
 }
 
 /// Whether the text defines an accent.
+#[tactic(auto, using(crate::proofs::Lists::any_rules))]
 fn defines_some(text: &SpelledText) -> bool
     ensures { result ≡ any_below (is_defined text.now) accent_limit }
 {
@@ -66,6 +67,7 @@ fn is_absent(text: &SpelledText, cells: &[CellInForce], accent: u8) -> bool
 }
 
 /// The accents that the text doesn't define though a live cell is their dead key, in ascending order.
+#[tactic(auto, using(crate::proofs::Lists::gathered_rules))]
 pub(crate) fn missing_accents(
     text: &SpelledText,
     cells: &[CellInForce],

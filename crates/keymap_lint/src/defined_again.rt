@@ -1,14 +1,13 @@
 //! Definitions without effect.
-ghost use Rattle.std.specs.Prelude.{◌≡◌, IfOk};
+ghost use Rattle.std.specs.Prelude.{◌≡◌, ◌++◌, OnOk};
 ghost use Rattle.std.specs.Option.{option_to_list};
 ghost use Rattle.keymap_text.specs.Placed.{HasIndex};
 ghost use Rattle.keymap_lint.specs.Spelled.{AreDefined};
-ghost use Rattle.keymap_lint.specs.Kinds.{again as again_of, defined_again as defined_again_of};
+ghost use Rattle.keymap_lint.specs.Kinds.{again as again_of, defined_again};
 
-use crate::diagnostic::{Diagnostic, Kind, add};
+use crate::diagnostic::{Added, Diagnostic, Found, Kind, add};
 use crate::spelled::SpelledText;
 use keymap_text::Placed;
-use std::alloc::{AllocError, Global};
 
 /// What is said of a definition that isn't the last one of what it defines.
 fn again(text: &SpelledText, definition: &Placed) -> Option<Diagnostic>
@@ -27,17 +26,13 @@ fn again(text: &SpelledText, definition: &Placed) -> Option<Diagnostic>
     }
 }
 
-/// The definitions without effect, in their order: a later one defines the same.
-pub(crate) fn defined_again(
-    alloc: Global,
-    text: &SpelledText,
-) -> Result<Vec<Diagnostic>, AllocError>
+/// Adds the definitions without effect, in their order: a later one defines the same.
+pub(crate) fn add_defined_again(found: &mut Found, text: &SpelledText) -> Added
     requires { AreDefined text.now }
-    ensures { IfOk result (λ found. found.items ≡ defined_again_of text.now) }
+    ensures { OnOk result (found.new.items ≡ found.old.items ++ defined_again text.now) }
 {
-    let mut found = Vec::new(alloc);
     for definition in text.definitions() {
-        add(&mut found, again(text, definition))?;
+        add(found, again(text, definition))?;
     }
-    Ok(found)
+    Ok(())
 }

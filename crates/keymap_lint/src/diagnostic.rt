@@ -177,20 +177,18 @@ impl Lint {
     }
 }
 
+/// What has been found.
+pub(crate) type Found = Vec<Diagnostic>;
+
+/// Nothing: there may be no memory for what is added.
+pub(crate) type Added = Result<(), AllocError>;
+
 /// Adds what is said, if something is.
-pub(crate) fn add<T: Copy>(found: &mut Vec<T>, said: Option<T>) -> Result<(), AllocError>
+pub(crate) fn add<T: Copy>(found: &mut Vec<T>, said: Option<T>) -> Added
     ensures { OnOk result (found.new.items ≡ found.old.items ++ option_to_list said) }
 {
     if let Some(more) = said {
         found.push(more)?;
     }
-    Ok(())
-}
-
-/// Adds all of these.
-pub(crate) fn add_all<T: Copy>(found: &mut Vec<T>, more: &[T]) -> Result<(), AllocError>
-    ensures { OnOk result (found.new.items ≡ found.old.items ++ more.now) }
-{
-    found.extend_from_slice(more)?;
     Ok(())
 }

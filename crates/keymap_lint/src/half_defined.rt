@@ -1,5 +1,5 @@
 //! Texts in which some cell selects the slots from 128 on, and that define one slot of some key and not the other.
-ghost use Rattle.std.specs.Prelude.{◌≡◌, ◌&&◌, not, find};
+ghost use Rattle.std.specs.Prelude.{◌≡◌, ◌&&◌, not, find, option_copied};
 ghost use Rattle.keymap_core.specs.Below.{gathered};
 ghost use Rattle.keymap_core.specs.Numbers.{slot_limit};
 ghost use Rattle.keymap_lint.specs.Kinds.{selector_of as selector_in, selector as selector_at, selects as selects_at};
@@ -40,10 +40,10 @@ fn selects(text: &SpelledText, cell: &CellInForce) -> bool
 }
 
 /// The first cell that selects them.
-fn first_selecting(text: &SpelledText, cells: &[CellInForce]) -> Option<CellInForce>
-    ensures { result ≡ find (selects_at text.now) cells.now }
+fn first_selecting<'c>(text: &SpelledText, cells: &'c [CellInForce]) -> Option<&'c CellInForce>
+    ensures { option_copied result ≡ find (selects_at text.now) cells.now }
 {
-    cells.iter().find(|cell| selects(text, cell)).copied()
+    cells.iter().find(|cell| selects(text, cell))
 }
 
 /// The other slot of the same key.
@@ -65,6 +65,7 @@ fn is_missing(text: &SpelledText, slot: u8) -> bool
 }
 
 /// The slots of which it is so.
+#[tactic(auto, using(crate::proofs::Lists::gathered_rules))]
 fn undefined_halves(text: &SpelledText) -> ArrayVec<u8, SLOT_LIMIT>
     ensures { result.items ≡ gathered (missing_slot_of text.now) slot_limit }
 {
@@ -103,7 +104,7 @@ pub(crate) fn half_defined(
         return None;
     }
     let cell = first_selecting(text, cells)?;
-    let selector = selector(text, &cell)?;
+    let selector = selector(text, cell)?;
     Some(Diagnostic {
         place: Some(cell.span.start),
         kind: Kind::HalfDefined {

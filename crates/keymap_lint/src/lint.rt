@@ -98,8 +98,7 @@ fn lint_rows(
 {
     let last = last_definitions(definitions);
     let text = SpelledText::new(definitions, &last, spans, map);
-    let lint = lint_spelled(alloc, &text)?;
-    Ok(lint)
+    lint_spelled(alloc, &text)
 }
 
 /// The diagnostics of a text that spells this map.

@@ -8,7 +8,7 @@ ghost use Rattle.keymap_lint.specs.Kinds.{is_mixed as is_mixed_in, is_later as i
 ghost use Rattle.keymap_lint.specs.Kinds.{is_greatest as is_greatest_in, mixed_key as mixed_key_of};
 ghost use Rattle.keymap_lint.specs.Kinds.{mixed_keys as mixed_keys_of, nul_key, nul_keys as nul_keys_of};
 
-use crate::diagnostic::{Diagnostic, Kind, add};
+use crate::diagnostic::{Diagnostic, Found, Kind, add};
 use crate::spelled::SpelledText;
 use arrayvec::ArrayVec;
 use keymap_check::{Finding, Place};
@@ -69,7 +69,7 @@ pub(crate) fn mixed_keys(
     alloc: Global,
     text: &SpelledText,
     findings: &[Finding],
-) -> Result<Vec<Diagnostic>, AllocError>
+) -> Result<Found, AllocError>
     ensures { IfOk result (λ found. found.items ≡ mixed_keys_of text.now findings.now) }
 {
     let mut found = Vec::new(alloc);

@@ -1,15 +1,14 @@
 //! Pairs of an accent without effect.
-ghost use Rattle.std.specs.Prelude.{◌≡◌, ◌<◌, ◌≤◌, ◌++◌, IfOk, IfSome, OnOk, length};
+ghost use Rattle.std.specs.Prelude.{◌≡◌, ◌<◌, ◌≤◌, ◌++◌, IfSome, OnOk, length};
 ghost use Rattle.std.specs.Option.{option_to_list};
 ghost use Rattle.keymap_core.specs.Numbers.{accent_limit, pair_limit};
 ghost use Rattle.keymap_core.specs.Below.{first_below, gathered};
 ghost use Rattle.keymap_lint.specs.Kinds.{paren as paren_of, has_base as has_base_of, pair_again as pair_again_of};
-ghost use Rattle.keymap_lint.specs.Kinds.{accent_pairs as accent_pairs_of, pairs_again as pairs_again_of};
+ghost use Rattle.keymap_lint.specs.Kinds.{accent_pairs as accent_pairs_of, pairs_again};
 
-use crate::diagnostic::{Diagnostic, Kind, add};
+use crate::diagnostic::{Added, Diagnostic, Found, Kind, add};
 use crate::spelled::SpelledText;
 use keymap_core::ACCENT_LIMIT;
-use std::alloc::{AllocError, Global};
 
 /// Whether the two pairs have the same base.
 fn has_base(pairs: &[(char, char)], place: usize, other: usize) -> bool
@@ -63,13 +62,14 @@ fn pair_again(
 }
 
 /// Adds what is said of the pairs of an accent whose definition begins with this token.
+#[tactic(auto, using(crate::proofs::Lists::gathered_rules))]
 fn add_pairs(
-    found: &mut Vec<Diagnostic>,
+    found: &mut Found,
     text: &SpelledText,
     accent: u8,
     first: usize,
     pairs: &[(char, char)],
-) -> Result<(), AllocError>
+) -> Added
     requires { length pairs.now ≤ pair_limit }
     ensures { OnOk result (found.new.items ≡ found.old.items
         ++ gathered (pair_again_of text.now accent first pairs.now) (length pairs.now)) }
@@ -81,7 +81,7 @@ fn add_pairs(
 }
 
 /// Adds what is said of the pairs of an accent, if it is defined.
-fn add_accent(found: &mut Vec<Diagnostic>, text: &SpelledText, index: u8) -> Result<(), AllocError>
+fn add_accent(found: &mut Found, text: &SpelledText, index: u8) -> Added
     requires { index < accent_limit }
     ensures { OnOk result (found.new.items ≡ found.old.items ++ accent_pairs_of text.now index) }
 {
@@ -94,14 +94,14 @@ fn add_accent(found: &mut Vec<Diagnostic>, text: &SpelledText, index: u8) -> Res
     add_pairs(found, text, index, definition.first, accent.pairs())
 }
 
-/// The pairs of accents without effect, accent by accent in the order of their indices: an earlier pair of the accent
-/// has the same base.
-pub(crate) fn pairs_again(alloc: Global, text: &SpelledText) -> Result<Vec<Diagnostic>, AllocError>
-    ensures { IfOk result (λ found. found.items ≡ pairs_again_of text.now) }
+/// Adds the pairs of accents without effect, accent by accent in the order of their indices: an earlier pair of the
+/// accent has the same base.
+#[tactic(auto, using(crate::proofs::Lists::gathered_rules))]
+pub(crate) fn add_pairs_again(found: &mut Found, text: &SpelledText) -> Added
+    ensures { OnOk result (found.new.items ≡ found.old.items ++ pairs_again text.now) }
 {
-    let mut found = Vec::new(alloc);
     for index in 0..ACCENT_LIMIT as u8 {
-        add_accent(&mut found, text, index)?;
+        add_accent(found, text, index)?;
     }
-    Ok(found)
+    Ok(())
 }

@@ -1,5 +1,5 @@
 //! The slots from 128 on that no key selects.
-ghost use Rattle.std.specs.Prelude.{◌≡◌, find};
+ghost use Rattle.std.specs.Prelude.{◌≡◌, find, option_copied};
 ghost use Rattle.std.specs.Option.{option_to_list};
 ghost use Rattle.keymap_text.specs.Placed.{HasIndex};
 ghost use Rattle.keymap_lint.specs.Spelled.{AreDefined};
@@ -24,14 +24,13 @@ fn is_above_in_force(text: &SpelledText, definition: &Placed) -> bool
 }
 
 /// The first definition in force of a slot from 128 on.
-fn first_above(text: &SpelledText) -> Option<Placed>
+fn first_above<'t>(text: &'t SpelledText) -> Option<&'t Placed>
     requires { AreDefined text.now }
-    ensures { result ≡ find (is_above_in_force_in text.now) text.now.definitions }
+    ensures { option_copied result ≡ find (is_above_in_force_in text.now) text.now.definitions }
 {
     text.definitions()
         .iter()
         .find(|definition| is_above_in_force(text, definition))
-        .copied()
 }
 
 /// What is said of a text that defines slots from 128 on, where no cell selects them.
@@ -52,6 +51,7 @@ pub(crate) fn unused_half(text: &SpelledText) -> Option<Diagnostic>
 }
 
 /// The slots from 128 on that the text defines.
+#[tactic(auto, using(crate::proofs::Lists::gathered_rules))]
 fn slots_above(text: &SpelledText) -> ArrayVec<u8, KEY_COUNT>
     ensures { result.items ≡ slots_above_of text.now }
 {

@@ -1,18 +1,16 @@
 //! Accents, and the dead keys that give them.
-ghost use Rattle.std.specs.Prelude.{◌≡◌, ◌<◌, IfOk, IfSome};
+ghost use Rattle.std.specs.Prelude.{◌≡◌, ◌<◌, ◌++◌, IfSome, OnOk};
 ghost use Rattle.std.specs.Option.{option_to_list};
 ghost use Rattle.keymap_core.specs.Accents.{own_of};
 ghost use Rattle.keymap_core.specs.Maps.{accent_at};
 ghost use Rattle.keymap_core.specs.Numbers.{accent_limit};
 ghost use Rattle.keymap_lint.specs.Kinds.{dead_key_of, live_accent as live_accent_of, is_the, is_zero};
-ghost use Rattle.keymap_lint.specs.Kinds.{is_given as is_given_by, zero_accent as zero_accent_of};
-ghost use Rattle.keymap_lint.specs.Kinds.{zero_accents as zero_accents_of};
+ghost use Rattle.keymap_lint.specs.Kinds.{is_given as is_given_by, zero_accent as zero_accent_of, zero_accents};
 
 use crate::cells::CellInForce;
-use crate::diagnostic::{Diagnostic, Kind, add};
+use crate::diagnostic::{Added, Diagnostic, Found, Kind, add};
 use crate::spelled::SpelledText;
 use keymap_core::{ACCENT_LIMIT, Action, Cell};
-use std::alloc::{AllocError, Global};
 
 /// The accent whose dead key this is.
 fn dead_key(content: &Cell) -> Option<u8>
@@ -80,17 +78,13 @@ fn zero_accent(text: &SpelledText, cells: &[CellInForce], accent: u8) -> Option<
     }
 }
 
-/// The accents with the character 0 whose dead key is a live cell, in the order of their indices.
-pub(crate) fn zero_accents(
-    alloc: Global,
-    text: &SpelledText,
-    cells: &[CellInForce],
-) -> Result<Vec<Diagnostic>, AllocError>
-    ensures { IfOk result (λ found. found.items ≡ zero_accents_of text.now cells.now) }
+/// Adds the accents with the character 0 whose dead key is a live cell, in the order of their indices.
+#[tactic(auto, using(crate::proofs::Lists::gathered_rules))]
+pub(crate) fn add_zero_accents(found: &mut Found, text: &SpelledText, cells: &[CellInForce]) -> Added
+    ensures { OnOk result (found.new.items ≡ found.old.items ++ zero_accents text.now cells.now) }
 {
-    let mut found = Vec::new(alloc);
     for accent in 0..ACCENT_LIMIT as u8 {
-        add(&mut found, zero_accent(text, cells, accent))?;
+        add(found, zero_accent(text, cells, accent))?;
     }
-    Ok(found)
+    Ok(())
 }

@@ -1,16 +1,8 @@
 use Rattle.keymap_lint.proofs.Common.{arith, sym, ◌∙◌, is_defined}
-use Rattle.keymap_core.proofs.BorneTests.{any-start, any-none, any-some}
+use Rattle.keymap_core.proofs.BorneTests.{any-some}
 use Rattle.keymap_lint.proofs.dead_key.defines_some.Goals as goal
-
-pub loop-accent-init : goal.loop-accent-init
-loop-accent-init c = any-start _
 
 pub returns-then-defines_accent : goal.returns-then-defines_accent
 returns-then-defines_accent c =
     sym (any-some (is_defined c.args.text.now) c.loop-accent.accent 15 (omega arith)
     (sym c.defines_accent.ensures ∙ c.if-defines_accent.true))
-
-pub loop-accent-preserved : goal.loop-accent-preserved
-loop-accent-preserved c =
-    any-none (is_defined c.args.text.now) c.loop-accent.accent c.loop-accent.invariant
-    (sym c.defines_accent.ensures ∙ c.if-defines_accent.false)

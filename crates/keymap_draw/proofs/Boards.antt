@@ -1,8 +1,7 @@
 -- The boards are keyboards.
-use Rattle.keymap_draw.proofs.Common.{zero, suc, ◌≡◌, Bool, true, ◌&&◌, not, List, [], ◌∷◌, refl, arith, All, ◌==◌}
-use Rattle.keymap_draw.proofs.Common.{list_all, and_parts, not-true, Board, Iso, Ansi, Row, keys_of}
+use Rattle.keymap_draw.proofs.Common.{zero, suc, ◌≡◌, Bool, true, ◌&&◌, not, List, [], ◌∷◌, refl, arith, ◌==◌, list_all}
+use Rattle.keymap_draw.proofs.Common.{and_parts, not-true, Board, Iso, Ansi, Row, keys_of, each}
 use Rattle.std.proofs.Common.{AllPairs}
-use Rattle.keymap_draw.proofs.Common.{each}
 use Rattle.std.proofs.lemmas.Bool.{eqb-false}
 use Rattle.keymap_draw.specs.Keyboards.{EachKeyOnce, NoTwoOverlap, AllLieOnThePanel, are_apart, is_on_panel}
 

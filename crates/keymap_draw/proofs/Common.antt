@@ -47,14 +47,15 @@ pub use Rattle.keymap_draw.specs.declared.board.TheConstants.{RUNS}
 pub use Rattle.keymap_draw.specs.declared.half.Half.{Half}
 pub use Rattle.keymap_draw.specs.declared.half.Half.TheVariants.{Lower, Upper}
 pub use Rattle.keymap_draw.specs.declared.sheet.Told.{Told}
-pub use Rattle.keymap_draw.specs.declared.sheet.Told.TheVariants.{Bytes, Plain}
+pub use Rattle.keymap_draw.specs.declared.sheet.Told.TheVariants.{Bytes, Number, Plain}
 pub use Rattle.keymap_text.specs.Printed.{word}
 unfoldable pub use Rattle.keymap_text.specs.Printed.{accent_words, slot_words}
 pub use Rattle.keymap_text.specs.Rows.{AccentDefinition, Definition}
+pub use Rattle.messages.proofs.Passed.{decimal_passes}
 pub use Rattle.std.proofs.Common.{All, Bool, List, None, Option, Some, [], ap, append-nil, append_assoc, arith, drop}
 pub use Rattle.std.proofs.Common.{false, get_or, inl, inr, length, map, not, refl, subst, sym, take, true, ℕ, ◌%◌, ◌&&◌}
 pub use Rattle.std.proofs.Common.{◌++◌, ◌+◌, ◌<◌, ◌==◌, ◌||◌, ◌∙◌, ◌∷◌, ◌≡◌, ◌≤◌}
-pub use Rattle.std.proofs.lemmas.Bool.{agree_below, agree_below_at, and_parts, and_from, cases_order, cond_both, eqb-true}
+pub use Rattle.std.proofs.lemmas.Bool.{agree_below, agree_below_at, and_parts, cases_order, cond_both, eqb-true}
 pub use Rattle.std.proofs.lemmas.Bool.{ltb-true, not-true, or_cases}
 pub use Rattle.std.proofs.lemmas.Bool.Decides.{nat_tests}
 pub use Rattle.std.proofs.lemmas.List.Elements.{All-append, All-cons, All-contains, All-head, All-nil, All-replicate}
@@ -64,6 +65,5 @@ pub use Rattle.std.proofs.lemmas.List.Sums.{AllPass-from_list_all as each}
 pub use Rattle.std.proofs.lemmas.Option.{none-some}
 unfoldable pub use Rattle.std.specs.Fmt.{digits}
 pub use Rattle.std.specs.List.{Any, Contains, cons_option, filter, filter_map, flat_map, list_all, list_any}
-pub use Rattle.std.specs.List.{range_with_len}
 pub use Rattle.std.specs.Prelude.{IfOk, codes, decimal, if◌then◌else◌, nat_lt, option_map, slice_get, slice_index_or}
 pub use Rattle.std.specs.Prelude.{◌/◌}

@@ -1,10 +1,10 @@
 -- A pair of cells is one letter exactly if it is a small letter and its capital.
-use Rattle.keymap_draw.proofs.Common.{◌≡◌, ℕ, ◌+◌, ◌%◌, ◌<◌, ◌≤◌, ◌==◌, Bool, true, false, ◌&&◌, ◌||◌, not, length}
-use Rattle.keymap_draw.proofs.Common.{get_or, refl, ap, sym, ◌∙◌, subst, arith, inl, inr, list_all, list_any, Any}
-use Rattle.keymap_draw.proofs.Common.{Contains, and_parts, not-true, eqb-true, or_cases, agree_below, agree_below_at}
-use Rattle.keymap_draw.proofs.Common.{cases_order, All-contains, Any-from_list_any}
+use Rattle.keymap_draw.proofs.Common.{◌≡◌, ℕ, ◌+◌, ◌%◌, ◌≤◌, ◌==◌, Bool, true, false, ◌&&◌, ◌||◌, not, get_or, refl, ap}
+use Rattle.keymap_draw.proofs.Common.{sym, ◌∙◌, subst, arith, inl, inr, list_all, list_any, Any, Contains, and_parts}
+use Rattle.keymap_draw.proofs.Common.{eqb-true, agree_below, agree_below_at, cases_order, All-contains}
+use Rattle.keymap_draw.proofs.Common.{Any-from_list_any, each}
 use Rattle.std.proofs.Common.{◌-◌}
-use Rattle.std.proofs.lemmas.Bool.{not_from_true, leb-true, eq-eqb, true≢false}
+use Rattle.std.proofs.lemmas.Bool.{not_from_true, leb-true, eq-eqb}
 use Rattle.std.proofs.lemmas.List.{get_or_default}
 use Rattle.keymap_core.specs.Actions.{within}
 use Rattle.keymap_draw.specs.declared.tables.CaseRow.{CaseRow}
@@ -12,7 +12,6 @@ use Rattle.keymap_draw.specs.declared.tables.TheConstants.{CASES}
 use Rattle.keymap_draw.specs.Drawn.{is_pair_by, is_case_pair}
 use Rattle.keymap_draw.specs.Letters.{letters, MarksAreOfTheirAccents, PairsAreLetters, CapitalsAreOfOneLetter}
 use Rattle.keymap_draw.specs.Letters.{LettersHaveOneCapital}
-use Rattle.keymap_draw.proofs.Common.{each}
 use Rattle.keymap_draw.proofs.Boards.{pairs, pairwise}
 
 pub marks_are_of_their_accents : MarksAreOfTheirAccents

@@ -6,7 +6,6 @@ mod Parts
 mod Plain
 mod Red
 mod Scans
-mod Shown
 mod Texts
 mod Titles
 mod Told

@@ -1,7 +1,7 @@
 -- Texts and lists that are put together in a loop.
 use Rattle.keymap_draw.proofs.Common.{zero, suc, ◌≡◌, ℕ, ◌+◌, ◌<◌, ◌≤◌, Bool, true, false, List, [], ◌∷◌, ◌++◌, length}
-use Rattle.keymap_draw.proofs.Common.{drop, get_or, append_assoc, append-nil, All, refl, sym, ap, ◌∙◌, arith}
-use Rattle.keymap_draw.proofs.Common.{All-append, All-cons, All-nil, None, slice_get, slice_index_or, gathered, passing, passed}
+use Rattle.keymap_draw.proofs.Common.{drop, get_or, append_assoc, append-nil, All, sym, ap, ◌∙◌, arith, All-append}
+use Rattle.keymap_draw.proofs.Common.{All-cons, All-nil, None, slice_get, slice_index_or, gathered, passing, passed}
 use Rattle.keymap_draw.proofs.Common.{Fact, numbered}
 use Rattle.std.proofs.Common.{add-one, drop-cons}
 use Rattle.std.proofs.Math.ListN.{drop_of_length-le}
@@ -30,10 +30,9 @@ numbered_at f xs i d old new all inside added before =
     ∙ before
 
 -- one number more
-pub passing-more : (test : ℕ → Bool) (n : ℕ) (r : Bool) (old new : List ℕ) → r ≡ test n → old ≡ passing test n
-    → new ≡ old ++ passed r n → new ≡ passing test (n + 1)
+pub passing-more : (test : ℕ → Bool) (n : ℕ) → passing test (n + 1) ≡ passing test n ++ passed (test n) n
 unfolding passing
-passing-more test n r old new e before added = cc (gathered-more (λ i. passed (test i) i) n)
+passing-more test n = gathered-more (λ i. passed (test i) i) n
 
 -- what is empty has all that pass below 0
 pub passing-start : (test : ℕ → Bool) (old : List ℕ) → old ≡ [] → old ≡ passing test 0
@@ -56,4 +55,4 @@ passing-below test (suc n) k h =
 pub none_is : {A : Type 0} (xs : List A) (i : ℕ) (d : A) → slice_get xs i ≡ None → slice_index_or xs i d ≡ d
 none_is xs i d e = sym (unwrap_or-slice_get xs i d) ∙ ap (λ o. unwrap_or o d) e
 
-pub ruleset passing_rules = (passing-start)
+pub ruleset passing_rules = (passing-start, passing-more)

@@ -1,24 +1,23 @@
 -- How words are read with what is told at their places.
 use Rattle.keymap_draw.proofs.Common.{suc, ◌≡◌, ℕ, ◌+◌, ◌==◌, Bool, true, false, List, [], ◌∷◌, ◌++◌, Option, Some}
-use Rattle.keymap_draw.proofs.Common.{None, refl, sym, ap, ◌∙◌, subst, map, take, arith, ◌||◌, not, codes, decimal}
-use Rattle.keymap_draw.proofs.Common.{if◌then◌else◌, list_all, list_any, flat_map, eqb-true, name_of, Finding}
-use Rattle.keymap_draw.proofs.Common.{finding_words, Told, Plain, Bytes, Fact, escaped, is_class, within, is_inner}
-use Rattle.keymap_draw.proofs.Common.{is_seen, over, ReadAs, IsWithin, facts_in, State, Read, Place, Element, at, scan}
-use Rattle.keymap_draw.proofs.Common.{none-some, saying, within_element, Text, Value}
+use Rattle.keymap_draw.proofs.Common.{Number, None, refl, sym, ap, ◌∙◌, subst, map, take, arith, not, codes, decimal}
+use Rattle.keymap_draw.proofs.Common.{if◌then◌else◌, list_all, flat_map, eqb-true, name_of, Finding, finding_words}
+use Rattle.keymap_draw.proofs.Common.{Told, Plain, Bytes, Fact, escaped, is_class, within, is_inner, is_seen, over}
+use Rattle.keymap_draw.proofs.Common.{ReadAs, IsWithin, facts_in, State, Read, Place, Element, at, scan, none-some}
+use Rattle.keymap_draw.proofs.Common.{saying, within_element, Text, Value, nat_tests}
 use Rattle.std.specs.Prelude.{slice_index}
 use Rattle.std.specs.List.{prefix_len}
 use Rattle.std.specs.Option.{option_and_then}
 use Rattle.std.proofs.lemmas.Option.{option_and_then_some}
 use Rattle.keymap_core.specs.declared.action.Holding.{Holding}
 use Rattle.keymap_core.specs.Actions.{holding_action}
-use Rattle.keymap_draw.specs.declared.sheet.Told.TheVariants.{Characters, Number}
+use Rattle.keymap_draw.specs.declared.sheet.Told.TheVariants.{Characters}
 use Rattle.keymap_draw.specs.Sheets.{written, is_ready, taking}
 use Rattle.messages.specs.Filled.{filled, is_hole, words_before, words_behind}
-use Rattle.keymap_draw.proofs.Scans.{both_true, first_true, second_true, failed, scan-append, inside_from}
-use Rattle.keymap_draw.proofs.Scans.{was_inside, value_scan, text_scan, further, held, decimal_inner}
+use Rattle.keymap_draw.proofs.Scans.{both_true, first_true, second_true, failed, scan-append, inside_from, was_inside}
+use Rattle.keymap_draw.proofs.Scans.{value_scan, text_scan, further, held, decimal_inner, place, ends as ends_in}
+use Rattle.keymap_draw.proofs.Scans.{escaped_scan, tag_scan}
 use Rattle.messages.proofs.Passed.{filled_all}
-use Rattle.keymap_draw.proofs.Common.{nat_tests}
-use Rattle.keymap_draw.proofs.Shown.{place, ends as ends_in, escaped_scan, tag_scan}
 use Rattle.keymap_core.specs.declared.action.Holding.TheVariants as h
 use Rattle.keymap_core.specs.declared.action.Modifier.TheVariants as m
 use Rattle.keymap_core.specs.declared.action.Lock.TheVariants as l

@@ -2,10 +2,9 @@
 use Rattle.keymap_draw.proofs.Common.{◌≡◌, ℕ, ◌<◌, Bool, true, false, List, [], ◌∷◌, Option, Some, None, refl, sym, ◌∙◌}
 use Rattle.keymap_draw.proofs.Common.{All, get_or, if◌then◌else◌, not-true, All-nil, All-cons, AccentValue, IsCell}
 use Rattle.keymap_draw.proofs.Common.{is_unseen, Cell, Entry, slot_words, accent_words, cell_legend, Fact, State, Tells}
-use Rattle.keymap_draw.proofs.Common.{none-some, start, step, scan, is_plain, is_seen}
+use Rattle.keymap_draw.proofs.Common.{none-some, start, step, scan, is_plain, is_seen, each}
 use Rattle.keymap_draw.specs.WellFormed.{step_at, IsPlain, IsShown, IsSeen}
 use Rattle.keymap_draw.proofs.Scans.{first_true, second_true, failed}
-use Rattle.keymap_draw.proofs.Common.{each}
 use Rattle.keymap_draw.proofs.Texts.{AreShown, cell_shown, slot_words_shown, accent_words_shown}
 
 scanned_plain : (bs : List ℕ) (o : Option State) (t : State) → scan o bs ≡ Some t → All IsPlain bs

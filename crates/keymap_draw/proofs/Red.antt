@@ -1,13 +1,12 @@
 -- A red cap is that of a key with a finding, and which classes a key has.
 use Rattle.keymap_draw.proofs.Common.{◌≡◌, ℕ, ◌==◌, Bool, true, false, List, [], ◌∷◌, Option, Some, None, refl, sym, ap}
 use Rattle.keymap_draw.proofs.Common.{◌∙◌, arith, All, ◌%◌, if◌then◌else◌, list_all, key_count, Entry, Finding}
-use Rattle.keymap_draw.proofs.Common.{finding_of, is_class, ◌||◌, nat_tests}
+use Rattle.keymap_draw.proofs.Common.{finding_of, is_class, ◌||◌, nat_tests, each}
 use Rattle.std.specs.Prelude.{option_to_list}
 use Rattle.std.specs.Option.{is_some}
 use Rattle.keymap_draw.specs.Drawn.{column}
 use Rattle.keymap_draw.specs.Keys.{names_key, red, key_class, is_blank_entry, is_holding, is_doing}
 use Rattle.keymap_draw.specs.Places.{IsClass}
-use Rattle.keymap_draw.proofs.Common.{each}
 
 found : (fs : List Finding) (k : ℕ) → is_some (finding_of fs k) ≡ names_key fs k
 found [] k = refl

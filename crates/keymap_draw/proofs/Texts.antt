@@ -1,32 +1,28 @@
 -- Each character of a legend and of a title may stand in a text.
 use Rattle.keymap_draw.proofs.Common.{zero, suc, ◌≡◌, ℕ, ◌+◌, ◌<◌, ◌≤◌, ◌==◌, Bool, true, false, List, [], ◌∷◌, ◌++◌}
-use Rattle.keymap_draw.proofs.Common.{Option, Some, refl, ap, arith, All, ◌/◌, ◌%◌, ◌||◌, ◌&&◌, not, nat_lt, codes}
-use Rattle.keymap_draw.proofs.Common.{decimal, if◌then◌else◌, slice_index_or, option_map, list_all, flat_map, ltb-true}
-use Rattle.keymap_draw.proofs.Common.{nat_tests, All-head, All-tail, All-replicate, Cell, Char, Entry, AccentValue}
-use Rattle.keymap_draw.proofs.Common.{name_of, accent_names, IsCell, IsEntry, code_digits, upper_digits, digit_at}
-use Rattle.keymap_draw.proofs.Common.{undefined, slot_words, accent_words, word, is_unseen, unfilled, unseen_name}
-use Rattle.keymap_draw.proofs.Common.{other_legend, character_legend, cell_legend, is_shown, is_seen}
-use Rattle.std.proofs.Common.{◌≢◌}
+use Rattle.keymap_draw.proofs.Common.{decimal_passes, refl, ap, arith, All, ◌/◌, ◌%◌, ◌||◌, not, nat_lt, codes, decimal}
+use Rattle.keymap_draw.proofs.Common.{if◌then◌else◌, slice_index_or, option_map, list_all, flat_map, nat_tests}
+use Rattle.keymap_draw.proofs.Common.{All-head, All-tail, All-replicate, Cell, Char, Entry, AccentValue, name_of}
+use Rattle.keymap_draw.proofs.Common.{accent_names, IsCell, IsEntry, code_digits, upper_digits, digit_at, undefined}
+use Rattle.keymap_draw.proofs.Common.{slot_words, accent_words, word, unfilled, unseen_name, other_legend}
+use Rattle.keymap_draw.proofs.Common.{character_legend, cell_legend, is_shown, is_seen, along, cond_both}
 use Rattle.std.specs.Char.{IsScalar}
-use Rattle.std.specs.List.{find}
 use Rattle.keymap_core.specs.declared.action.Action.{Action}
 use Rattle.keymap_core.specs.declared.entry.Cell.TheVariants.{Act}
 use Rattle.keymap_core.specs.declared.entry.LockFlag.{LockFlag}
-use Rattle.keymap_core.specs.Actions.{IsAction, two_digits, within}
+use Rattle.keymap_core.specs.Actions.{IsAction, two_digits}
 use Rattle.keymap_core.specs.CodePoints.{code_text}
 use Rattle.keymap_text.specs.Printed.{control_name, character_text, cell_text, slot_text, pair_text, flag_letter}
 use Rattle.keymap_text.specs.Words.{control_names}
 use Rattle.keymap_draw.specs.declared.tables.UnseenName.{UnseenName}
 use Rattle.keymap_draw.specs.declared.tables.TheConstants.{UNSEEN_NAMES, ACCENT_MARKS}
-use Rattle.keymap_core.specs.Unseen.{is_control, is_unseen_above}
+use Rattle.keymap_core.specs.Unseen.{is_control}
 use Rattle.keymap_draw.specs.Characters.{is_numbered, is_mark}
 use Rattle.keymap_draw.specs.Legends.{name_in, marked, is_coded, shown_legend, named_or, accent_mark, action_legend}
-use Rattle.keymap_draw.proofs.Scans.{both_true, first_true, second_true}
-use Rattle.messages.proofs.Passed.{decimal_passes}
-use Rattle.keymap_draw.proofs.Common.{along, cond_both}
+use Rattle.messages.proofs.Passed.{append_all}
+use Rattle.keymap_draw.proofs.Scans.{both_true, first_true, second_true, flat_all, name_all, item_all, hex_shown}
 use Rattle.std.specs.Prelude.{nat_le}
 use Rattle.std.proofs.lemmas.Bool.{or_parts}
-use Rattle.keymap_draw.proofs.Shown.{joined as all_joined, flat_all, name_all, item_all, hex_shown}
 use Rattle.keymap_core.specs.declared.action.Action.TheVariants as a
 use Rattle.keymap_core.specs.declared.action.Modifier.TheVariants as m
 use Rattle.keymap_core.specs.declared.action.Lock.TheVariants as l
@@ -40,7 +36,7 @@ shown : {cs : List ℕ} → list_all is_seen cs ≡ true → AreShown cs
 shown h = record { each = h }
 
 joined : {a b : List ℕ} → AreShown a → AreShown b → AreShown (a ++ b)
-joined {a} {b} h k = record { each = all_joined is_seen a b h.each k.each }
+joined {a} {b} h k = record { each = append_all is_seen a b h.each k.each }
 
 chosen : (b : Bool) {x y : List ℕ} → (b ≡ true → AreShown x) → (b ≡ false → AreShown y)
     → AreShown (if b then x else y)

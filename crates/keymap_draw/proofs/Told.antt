@@ -1,20 +1,19 @@
 -- Two pictures that are one tell the same definitions, and their keymaps are the same in what they show.
 use Rattle.keymap_draw.proofs.Common.{zero, suc, ◌≡◌, ℕ, ◌<◌, ◌==◌, Bool, true, false, List, [], ◌∷◌, ◌++◌, Option}
 use Rattle.keymap_draw.proofs.Common.{Some, None, All, refl, sym, ap, subst, ◌∙◌, arith, map, append_assoc, inl, inr}
-use Rattle.keymap_draw.proofs.Common.{◌%◌, ◌&&◌, ◌||◌, not, codes, option_map, slice_get, nat_lt, if◌then◌else◌}
-use Rattle.keymap_draw.proofs.Common.{list_all, list_any, filter_map, cons_option, Any, Contains, nat_tests, ltb-true}
-use Rattle.keymap_draw.proofs.Common.{agree_below, agree_below_at, cases_order, or_cases, and_parts, eqb-true, All-head}
-use Rattle.keymap_draw.proofs.Common.{All-tail, All-nil, All-cons, All-append, All-contains, Any-from_list_any}
-use Rattle.keymap_draw.proofs.Common.{AccentValue, blank, gathered, passing, passed, is_upper_live, IsMap, MapValue}
-use Rattle.keymap_draw.proofs.Common.{entry_at, accent_at, key_count, Finding, slot_words, accent_words, Definition}
-use Rattle.keymap_draw.proofs.Common.{AccentDefinition, Board, Iso, Ansi, Half, Lower, Upper, Row, keys_of, Drawing}
-use Rattle.keymap_draw.proofs.Common.{slot_of, is_other, other_keys, finding_words, finding_of, has_character}
-use Rattle.keymap_draw.proofs.Common.{named_accents, picture_facts, titles, told, told_in, key_definition}
-use Rattle.keymap_draw.proofs.Common.{accent_definition, title_of, is_shown, is_seen}
+use Rattle.keymap_draw.proofs.Common.{◌%◌, ◌||◌, not, codes, option_map, slice_get, nat_lt, if◌then◌else◌, list_all}
+use Rattle.keymap_draw.proofs.Common.{list_any, filter_map, cons_option, Contains, nat_tests, ltb-true, agree_below}
+use Rattle.keymap_draw.proofs.Common.{agree_below_at, cases_order, or_cases, and_parts, eqb-true, All-head, All-tail}
+use Rattle.keymap_draw.proofs.Common.{All-nil, All-cons, All-append, All-contains, AccentValue, blank, gathered}
+use Rattle.keymap_draw.proofs.Common.{passing, passed, is_upper_live, IsMap, MapValue, entry_at, accent_at, key_count}
+use Rattle.keymap_draw.proofs.Common.{Finding, slot_words, accent_words, Definition, AccentDefinition, Board, Iso, Ansi}
+use Rattle.keymap_draw.proofs.Common.{Half, Lower, Upper, Row, keys_of, Drawing, slot_of, is_other, other_keys}
+use Rattle.keymap_draw.proofs.Common.{finding_words, finding_of, has_character, named_accents, picture_facts, titles}
+use Rattle.keymap_draw.proofs.Common.{told, told_in, key_definition, accent_definition, title_of, is_shown, is_seen}
+use Rattle.keymap_draw.proofs.Common.{cond_both, each}
 use Rattle.std.proofs.Common.{ap₂}
 use Rattle.std.proofs.lemmas.List.Elements.{All-map, All-weaker, Contains-append_left, Contains-append_right}
 use Rattle.keymap_core.specs.Bounds.{IsAccent}
-use Rattle.keymap_draw.proofs.Common.{cond_both}
 use Rattle.std.proofs.lemmas.Bool.{and_right}
 use Rattle.std.proofs.lemmas.Option.{get_or_from_slice_get, slice_get_within}
 use Rattle.std.proofs.lemmas.Map.Views.{Contains-from_any}
@@ -27,7 +26,6 @@ use Rattle.keymap_draw.specs.Keys.{finding_line}
 use Rattle.keymap_draw.specs.Told.{PicturesTellDefinitions, shows, PicturesTellKeymaps}
 use Rattle.keymap_draw.proofs.Loops.{none_is, passing-below}
 use Rattle.keymap_draw.proofs.Scans.{both_true, first_true, second_true}
-use Rattle.keymap_draw.proofs.Common.{each}
 use Rattle.keymap_draw.proofs.Texts.{AreShown, entry_bound, slot_words_shown, accent_words_shown}
 use Rattle.keymap_draw.proofs.Titles.{picture_titles, one_reading}
 

@@ -89,26 +89,12 @@ fn unfilled(name: &[u8; 5]) -> Legend
     legend
 }
 
-#[tactic(auto, unfolding(crate::specs::Legends::is_coded))]
-fn is_coded(c: char) -> bool
-    ensures { result ≡ spec.is_coded c }
-{
-    is_unseen(c) || is_numbered(c)
-}
-
-#[tactic(auto, unfolding(crate::specs::Legends::unseen_name))]
-fn unseen_name(c: char) -> Option<[u8; 5]>
-    ensures { result ≡ spec.unseen_name c }
-{
-    name_in(&UNSEEN_NAMES, c)
-}
-
 /// The legend of a character that has no name.
-#[tactic(auto, unfolding(crate::specs::Legends::shown_legend))]
+#[tactic(auto, unfolding(crate::specs::Legends::is_coded, crate::specs::Legends::shown_legend))]
 fn shown_legend(c: char) -> Legend
     ensures { result.items ≡ spec.shown_legend c }
 {
-    if is_coded(c) {
+    if is_unseen(c) || is_numbered(c) {
         word(code_text(c).as_slice())
     } else if is_mark(c) {
         marked(c)
@@ -118,11 +104,11 @@ fn shown_legend(c: char) -> Legend
 }
 
 /// The legend of a character that is neither a control character nor the blank.
-#[tactic(auto, unfolding(crate::specs::Legends::other_legend))]
+#[tactic(auto, unfolding(crate::specs::Legends::other_legend, crate::specs::Legends::unseen_name))]
 fn other_legend(c: char) -> Legend
     ensures { result.items ≡ spec.other_legend c }
 {
-    match unseen_name(c) {
+    match name_in(&UNSEEN_NAMES, c) {
         Some(name) => unfilled(&name),
         None => shown_legend(c),
     }

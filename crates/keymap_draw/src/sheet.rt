@@ -114,12 +114,7 @@ pub(crate) fn adorn<P: Part, Q: Part>(
         ≡ Some (within Q.begun fs) }
     ensures { IfOk result (λ s. s ≡ sheet) }
 {
-    let Sheet { mut text, part: _ } = sheet;
-    push_filled(&mut text, words, told)?;
-    Ok(Sheet {
-        text,
-        part: PhantomData,
-    })
+    tell(sheet, words, told)
 }
 
 /// Adds words that tell facts, with a text at each of their places.

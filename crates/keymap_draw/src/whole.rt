@@ -1,8 +1,6 @@
 //! The whole picture.
-ghost use Rattle.std.specs.Prelude.{◌≡◌, ◌++◌, ◌≤◌, ◌<◌, IfOk, All, length};
-ghost use Rattle.keymap_core.specs.Numbers.{accent_limit};
+ghost use Rattle.std.specs.Prelude.{◌≡◌, ◌++◌, ◌≤◌, IfOk, length};
 ghost use Rattle.keymap_draw.specs.Pictures as spec;
-ghost use Rattle.keymap_draw.specs.WellFormed.{Tells};
 
 use crate::board::Board;
 use crate::drawing::Drawing;
@@ -89,37 +87,8 @@ fn upper_keys(drawing: &Drawing) -> ArrayVec<u8, KEY_COUNT>
     }
 }
 
-/// A picture with these keys below the boards, accents and dead keys without one.
-#[tactic(auto, unfolding(crate::specs::Pictures::parts))]
-fn picture_with(
-    alloc: Global,
-    drawing: &Drawing,
-    lower: &[u8],
-    upper: &[u8],
-    named: &[u8],
-    silent: &[u8],
-) -> Added<Vec<u8>>
-    requires lower { length lower.now ≤ 128 }
-    requires upper { length upper.now ≤ 128 }
-    requires named { length named.now ≤ 15 }
-    requires silent { length silent.now ≤ 15 }
-    requires are_named { All (λ i. i < accent_limit) named.now }
-    requires are_silent { All (λ i. i < accent_limit) silent.now }
-    ensures { IfOk result (λ text. Tells (spec.parts drawing.now lower.now upper.now named.now) text.items) }
-{
-    let findings = drawing.findings();
-    let starts = starts_of(drawing, lower.len(), upper.len(), named.len(), silent.len());
-    let sheet = begin(alloc, findings.is_empty(), starts.key + 76)?;
-    let sheet = push_half(sheet, drawing, Half::Lower, lower, 16)?;
-    let sheet = push_upper(sheet, drawing, upper, starts.upper)?;
-    let sheet = push_findings(sheet, findings, starts.findings)?;
-    let sheet = push_accents(sheet, drawing.map(), named, starts.accents)?;
-    let sheet = push_silent(sheet, silent, starts.silent)?;
-    finish(sheet, starts.key)
-}
-
 /// The picture of a keymap on a board, as SVG, with the findings of a report on it.
-#[tactic(auto, unfolding(crate::specs::Pictures::picture_facts))]
+#[tactic(auto, unfolding(crate::specs::Pictures::parts, crate::specs::Pictures::picture_facts))]
 pub fn picture(
     alloc: Global,
     map: &KeyMap,
@@ -129,16 +98,15 @@ pub fn picture(
     ensures { IfOk result (λ text. spec.IsPictureWith map.now report.now.findings board text.items) }
 {
     let drawing = Drawing::new(map, report, board);
-    let lower = other_keys(&drawing, Half::Lower);
-    let upper = upper_keys(&drawing);
-    let named = named_accents(map);
-    let silent = silent_accents(&drawing);
-    picture_with(
-        alloc,
-        &drawing,
-        lower.as_slice(),
-        upper.as_slice(),
-        named.as_slice(),
-        silent.as_slice(),
-    )
+    let findings = drawing.findings();
+    let (lower, upper) = (other_keys(&drawing, Half::Lower), upper_keys(&drawing));
+    let (named, silent) = (named_accents(map), silent_accents(&drawing));
+    let starts = starts_of(&drawing, lower.len(), upper.len(), named.len(), silent.len());
+    let sheet = begin(alloc, findings.is_empty(), starts.key + 76)?;
+    let sheet = push_half(sheet, &drawing, Half::Lower, lower.as_slice(), 16)?;
+    let sheet = push_upper(sheet, &drawing, upper.as_slice(), starts.upper)?;
+    let sheet = push_findings(sheet, findings, starts.findings)?;
+    let sheet = push_accents(sheet, map, named.as_slice(), starts.accents)?;
+    let sheet = push_silent(sheet, silent.as_slice(), starts.silent)?;
+    finish(sheet, starts.key)
 }

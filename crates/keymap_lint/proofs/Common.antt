@@ -12,7 +12,5 @@ pub use Rattle.std.proofs.Common.{Bool, List, None, Option, Some, [], ap, arith,
 pub use Rattle.std.proofs.Common.{refl, rules, subst, sym, take, tests, true, ℕ, ◌&&◌, ◌++◌, ◌+◌, ◌<◌, ◌∙◌, ◌∷◌, ◌≡◌}
 pub use Rattle.std.proofs.Common.{◌≤◌}
 pub use Rattle.std.proofs.lemmas.Bool.{true≢false}
-pub use Rattle.std.proofs.lemmas.Iterator.{YieldsList-from_slice}
-pub use Rattle.std.proofs.lemmas.Iterator.Search.{find_from_yields_List}
 pub use Rattle.std.proofs.lemmas.List.FromFn.{get_or-map-range_with_len}
 pub use Rattle.std.specs.List.{find, flat_map, range_with_len}

@@ -1,7 +1,7 @@
 -- Where no cell is a dead key of an accent that isn't defined, no accent is missing.
-use Rattle.keymap_lint.proofs.Common.{◌≡◌, ℕ, Bool, true, false, List, [], ◌∷◌, None, Some, Option, cond, refl}
-use Rattle.keymap_lint.proofs.Common.{ap, sym, ◌∙◌, arith, ◌&&◌, not, find, gathered, Spelled, is_missing, is_given}
-use Rattle.keymap_lint.proofs.Common.{is_defined, missing_accent}
+use Rattle.keymap_lint.proofs.Common.{◌≡◌, ℕ, Bool, true, false, List, [], ◌∷◌, None, Some, Option, cond, refl, ap, sym}
+use Rattle.keymap_lint.proofs.Common.{◌∙◌, arith, ◌&&◌, not, find, gathered, Spelled, is_missing, is_given, is_defined}
+use Rattle.keymap_lint.proofs.Common.{missing_accent}
 use Rattle.std.proofs.Common.{zero, suc}
 use Rattle.std.specs.Option.{is_some}
 use Rattle.std.proofs.Math.Bool.{and-false}

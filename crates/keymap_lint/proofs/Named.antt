@@ -1,24 +1,20 @@
 -- Some diagnostic names a key exactly if the check has findings.
-use Rattle.keymap_lint.proofs.Common.{◌≡◌, ℕ, ◌+◌, ◌<◌, Bool, true, false, ◌&&◌, not, cond, List, [], ◌∷◌, length}
-use Rattle.keymap_lint.proofs.Common.{map, get_or, refl, sym, ◌∙◌, ap, subst, arith, Option, Some, None, find, flat_map}
-use Rattle.keymap_lint.proofs.Common.{range_with_len, true≢false, gathered, Faulty, Slot, Placed, Diagnostic, is_given}
-use Rattle.keymap_lint.proofs.Common.{mixed_key, missing_slot, selects, again, digit, zero_accent, pair_again}
-use Rattle.keymap_lint.proofs.Common.{accent_pairs, is_missing, is_above_in_force, has_base, get_or-map-range_with_len}
-use Rattle.keymap_lint.proofs.Common.{MapValue, last_of, Spelled, cell_in, cells_of}
-use Prim.Native.Nat.{zero, suc}
-use Rattle.std.proofs.Common.{◌↔◌, ◌-◌, ◌||◌, inl, inr, ◌==◌}
+use Rattle.keymap_lint.proofs.Common.{◌≡◌, ℕ, ◌+◌, ◌<◌, Bool, true, false, ◌&&◌, cond, List, [], ◌∷◌, length, map}
+use Rattle.keymap_lint.proofs.Common.{get_or, refl, sym, ◌∙◌, ap, subst, arith, Option, Some, None, find, flat_map}
+use Rattle.keymap_lint.proofs.Common.{range_with_len, true≢false, gathered, Faulty, Slot, Placed, Diagnostic, mixed_key}
+use Rattle.keymap_lint.proofs.Common.{missing_slot, selects, again, digit, get_or-map-range_with_len, MapValue, last_of}
+use Rattle.keymap_lint.proofs.Common.{Spelled, cell_in, cells_of}
+use Prim.Native.Nat.{zero}
+use Rattle.std.proofs.Common.{◌↔◌, ◌-◌, ◌||◌, inl, inr}
 use Rattle.std.specs.List.{list_any, Any}
 use Rattle.std.specs.Option.{is_some, option_or, option_to_list}
 use Rattle.std.specs.Prelude.{nat_lt}
-use Rattle.std.proofs.lemmas.Bool.{or_cases, or_left, or_right, and_parts, lt-ltb, le-ltb, eqb-true}
-use Rattle.std.proofs.lemmas.Bool.{eq-eqb, cases_Bool}
+use Rattle.std.proofs.lemmas.Bool.{or_cases, or_left, or_right, and_parts, lt-ltb, le-ltb, eqb-true, eq-eqb, cases_Bool}
 use Rattle.std.proofs.lemmas.List.{get_or-replicate, length-append}
 use Rattle.std.proofs.lemmas.List.Elements.{All-head, All-nil}
 use Rattle.keymap_lint.proofs.Standing.{of_all}
 use Rattle.std.proofs.Math.Bool.{or-true}
 use Rattle.std.proofs.lemmas.List.Sorted.{list_any-IsPermutation}
-use Rattle.keymap_core.specs.Accents.{AccentValue, own_of}
-use Rattle.keymap_core.specs.Below.{first_below}
 use Rattle.keymap_core.specs.Bearers.{IsCellOf, IsUpperLive}
 use Rattle.keymap_check.specs.Findings.{AreFindings, IsFinding, IsPlaceOf}
 use Rattle.console_core.specs.Headline.{IsSafe}
@@ -26,23 +22,20 @@ use Rattle.keymap_text.proofs.InForce.{no_slot}
 use Rattle.keymap_text.proofs.Verdicts.{one_map, not_both}
 use Rattle.keymap_lint.specs.Types.{Diagnostics, Spelled as OfSpelled, Holding, Cell, Char, Act, Finding, Defined}
 use Rattle.keymap_lint.specs.Types.{Accent, CellInForce}
-use Rattle.keymap_lint.specs.Kinds.{is_zero, defines, is_mixed, mixed_by, mixed_keys, nul_keys}
-use Rattle.keymap_lint.specs.Kinds.{other_slot, missing_slots, selector, selector_of, half_at}
-use Rattle.keymap_lint.specs.Kinds.{half_by, half_defined, is_some_in, no_key, no_shift, dead_key}
-use Rattle.keymap_lint.specs.Kinds.{unused_half, again_by, digit_by, zero_by}
-use Rattle.keymap_lint.specs.Kinds.{pair_by, pairs_by, has_keys, has_shift, unused_by, dead_key_by, base_at}
+use Rattle.keymap_lint.specs.Kinds.{defines, is_mixed, mixed_by, mixed_keys, nul_keys, other_slot, missing_slots}
+use Rattle.keymap_lint.specs.Kinds.{selector, selector_of, half_by, half_defined, is_some_in, no_key, no_shift}
 use Rattle.keymap_lint.specs.Lists.{AreOf, spelled_by, all_of}
 use Rattle.keymap_lint.specs.Promises.{names_keys, KeysAreNamedExactlyIfRefused, names_a_key}
 use Rattle.std.proofs.lemmas.List.Folds.{list_any-append, list_any_at, list_any_none}
 use Rattle.keymap_core.specs.declared.action.Action.{Action}
 use Rattle.keymap_core.specs.Actions.{holding_action}
 use Rattle.keymap_core.specs.Borne.{is_upper_live}
-use Rattle.keymap_core.specs.Maps.{accent_at, cell_at, entry_at, undefined}
+use Rattle.keymap_core.specs.Maps.{cell_at, entry_at, undefined}
 use Rattle.keymap_core.proofs.Below.{gathered-more, gathered-le}
 use Rattle.keymap_core.proofs.BorneTests.{upper-is_live}
 use Rattle.keymap_check.specs.declared.finding.Place.{Place}
 use Rattle.keymap_text.specs.Placed.{is_same}
-use Rattle.keymap_lint.specs.Spelled.{cells_in_force, content}
+use Rattle.keymap_lint.specs.Spelled.{cells_in_force}
 use Rattle.keymap_core.specs.declared.action.Action.TheVariants as act
 use Rattle.keymap_core.specs.declared.action.Modifier.TheVariants as modifier
 use Rattle.keymap_core.specs.declared.action.Lock.TheVariants as lock

@@ -1,10 +1,10 @@
 -- The diagnostics stand in the text, at what they tell of.
 use Rattle.keymap_lint.proofs.Common.{◌≡◌, ℕ, ◌+◌, ◌<◌, ◌≤◌, Bool, true, false, ◌&&◌, not, cond, List, [], ◌∷◌, ◌++◌}
 use Rattle.keymap_lint.proofs.Common.{length, map, take, get_or, refl, sym, ◌∙◌, ap, subst, arith, Option, Some, None}
-use Rattle.keymap_lint.proofs.Common.{find, flat_map, true≢false, get_or-map-range_with_len, Slot}
-use Rattle.keymap_lint.proofs.Common.{Placed, Diagnostic, Faulty, gathered, MapValue, last_of, mixed_key, selects}
-use Rattle.keymap_lint.proofs.Common.{again, is_missing, is_defined, zero_accent, is_given, pair_again, accent_pairs}
-use Rattle.keymap_lint.proofs.Common.{has_base, is_above_in_force, digit, Spelled, cell_in, cells_of}
+use Rattle.keymap_lint.proofs.Common.{find, flat_map, true≢false, get_or-map-range_with_len, Slot, Placed, Diagnostic}
+use Rattle.keymap_lint.proofs.Common.{Faulty, gathered, MapValue, last_of, mixed_key, selects, again, is_missing}
+use Rattle.keymap_lint.proofs.Common.{is_defined, zero_accent, is_given, pair_again, accent_pairs, has_base}
+use Rattle.keymap_lint.proofs.Common.{is_above_in_force, digit, Spelled, cell_in, cells_of}
 use Prim.Native.Nat.{zero, suc}
 use Rattle.std.proofs.Common.{◌-◌, ◌*◌, drop, inl, inr, All, Result, Ok, Err, ◌==◌, IfSome, nat_lt, length-drop}
 use Rattle.std.specs.Option.{option_to_list}
@@ -21,7 +21,7 @@ use Rattle.std.proofs.lemmas.List.Sorted.{All-permutation}
 use Rattle.keymap_lint.specs.Types.{Holding, Cell, Char, Act, Finding, Defined, Accent, Span, CellInForce, Lint}
 use Rattle.keymap_lint.specs.Types.{Spelled as OfSpelled}
 use Rattle.keymap_core.specs.declared.entry.Entry.{Entry}
-use Rattle.keymap_core.specs.Accents.{AccentValue, own_of}
+use Rattle.keymap_core.specs.Accents.{own_of}
 use Rattle.keymap_core.specs.Actions.{holding_action}
 use Rattle.keymap_core.specs.Below.{first_below}
 use Rattle.keymap_core.specs.Borne.{is_upper_live, any_below}

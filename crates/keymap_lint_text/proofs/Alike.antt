@@ -7,7 +7,7 @@ use Rattle.std.specs.Prelude.{◌&&◌, slice_index}
 use Rattle.std.proofs.lemmas.List.{append_cancel_left}
 use Rattle.keymap_lint_text.specs.Promises.{AreAlike, label}
 use Rattle.keymap_lint_text.proofs.Headed.{behind, head_is}
-use Rattle.keymap_lint_text.proofs.Lines.{decimal_all}
+use Rattle.messages.proofs.Passed.{decimal_passes}
 use Rattle.keymap_lint.specs.declared.diagnostic.Severity.TheVariants as severities
 
 -- neither a colon nor a blank
@@ -15,9 +15,7 @@ abbrev is_inner : ℕ → Bool
 is_inner c = not (c == 58) && not (c == 32)
 
 inner_digits : (n : ℕ) → list_all is_inner (decimal n) ≡ true
-inner_digits n =
-    decimal_all is_inner
-    (λ d low. along (λ d. is_inner (digit_glyph false d)) (λ d. true) 0 10 refl d (omega arith) (omega arith)) n
+inner_digits n = decimal_passes is_inner refl n
 
 -- what stands before the first colon
 same_front : (xs ys us vs : List ℕ) → list_all is_inner xs ≡ true → list_all is_inner ys ≡ true

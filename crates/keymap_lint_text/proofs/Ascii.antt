@@ -4,7 +4,9 @@ use Rattle.keymap_lint_text.proofs.Common.{map, take, drop, refl, ap, sym, ◌�
 use Rattle.keymap_lint_text.proofs.Common.{length-drop, min, take-append_seam, drop-append_seam, map-append, cases_lt}
 use Rattle.keymap_lint_text.proofs.Common.{pieces, or_replacement, list_all, and_parts, nat_tests, lossy_chars}
 use Rattle.keymap_lint_text.proofs.Common.{encode_ascii, shown_char, shown_chars, is_shown_byte, last}
-use Rattle.std.proofs.Common.{take-append-drop}
+use Rattle.std.proofs.Common.{get_or, take-append-drop}
+use Rattle.std.proofs.lemmas.List.Folds.{map_fixed}
+use Rattle.std.proofs.lemmas.List.Sums.{AllPass-from_list_all}
 use Rattle.std.proofs.lemmas.List.{append-nil, drop_all, length-take}
 use Rattle.bstr.proofs.lemmas.LossyLemmas.{lossy_chars-front}
 use Rattle.bstr.proofs.lemmas.PieceLemmas.{pieces-append, lossy_chars-nil, StartsClean}
@@ -33,10 +35,8 @@ are_scalars (c ∷ bs) h =
     grind (arith, nat_tests, small, rest)
 
 same_chars : (bs : List ℕ) → list_all is_shown_byte bs ≡ true → map shown_char bs ≡ bs
-same_chars [] h = refl
-same_chars (c ∷ bs) h =
-    let both = and_parts (is_shown_byte c) (list_all is_shown_byte bs) h in
-    cc (same_char c both.0, same_chars bs both.1)
+same_chars bs h =
+    map_fixed shown_char bs (λ k d l. same_char (get_or bs k d) (AllPass-from_list_all is_shown_byte bs h k d l))
 
 -- such bytes are shown as they are
 pub shown_bytes : (bs : List ℕ) → list_all is_shown_byte bs ≡ true → shown_chars bs ≡ bs

@@ -32,7 +32,6 @@ spelled : (b c : Bool) (xs ys : List ℕ) → codes "  " ++ dots_if b ++ flat_ma
     ≡ flat_map encode_utf8 (codes "  " ++ dots_if b ++ xs ++ (ys ++ dots_if c))
 spelled b c xs ys =
     let front = codes "  " ++ dots_if b in
-    let front = codes "  " ++ dots_if b in
     let regrouped : front ++ xs ++ (ys ++ dots_if c) ≡ front ++ (xs ++ ys) ++ dots_if c = simp append_assoc in
     let dotted = flat_map-append encode_utf8 (front ++ (xs ++ ys)) (dots_if c) in
     cc (flat_map-append encode_utf8 front (xs ++ ys), front_spelled b, dots_spelled c)

@@ -8,6 +8,7 @@ use Rattle.keymap_lint_text.proofs.Common.{ArePrinted, is_noted, ended, shown_na
 use Rattle.keymap_lint_text.proofs.Common.{answer, judged, of_diagnostic, beginning}
 use Rattle.std.specs.List.{All, filter}
 use Rattle.std.proofs.lemmas.List.Elements.{filter-append}
+use Rattle.std.proofs.lemmas.Bool.{cond_both}
 use Rattle.console_core.specs.declared.outcome.Sticking.{Sticking}
 use Rattle.console_core.specs.declared.outcome.Sticking.TheVariants.{Sticks, Never, Undecided}
 use Rattle.keymap_lint.specs.declared.diagnostic.Lint.{Lint}
@@ -99,8 +100,7 @@ answer_noted (Some (Undecided presses)) = refl
 answer_noted (Some (Sticks events modifiers)) = refl
 
 noted_if : (b : Bool) (es : List Remark) → filter is_judged es ≡ [] → filter is_judged (if b then es else []) ≡ []
-noted_if true es e = e
-noted_if false es e = refl
+noted_if b es e = cond_both b es [] (λ fs. filter is_judged fs ≡ []) (λ _. e) (λ _. refl)
 
 beginning_noted : (text : List ℕ) (place : ℕ) (kind : TextFaultKind) (d : Option DefinitionStart)
     → filter is_judged (beginning text place kind d) ≡ []

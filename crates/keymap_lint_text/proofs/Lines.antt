@@ -10,6 +10,9 @@ use Rattle.keymap_lint_text.proofs.Common.{shown_before, without_cr, Said, Remar
 use Rattle.keymap_lint_text.proofs.Common.{said_text, kind_text, shown_char, shown_chars, shown_name, is_shown_byte}
 use Rattle.keymap_lint_text.proofs.Common.{IsSeen, IsLine}
 use Prim.Native.Nat.{zero, suc}
+pub use Rattle.messages.proofs.Passed.{EachPasses, append_all, decimal_all, filled_all}
+use Rattle.messages.proofs.Passed.{decimal_passes, parts_all}
+use Rattle.std.proofs.lemmas.Bool.{agree_below_at, cond_both, or_left, or_right}
 use Rattle.std.proofs.Common.{rules, All}
 use Rattle.std.specs.Prelude.{◌/◌, ◌%◌, ◌||◌, IsTrue}
 use Rattle.std.specs.Char.{IsScalar, digit_char}
@@ -52,19 +55,10 @@ scalar_pieces (suc n) (b ∷ rest) =
     All-cons ReadsScalar (decoded (b ∷ rest)) (pieces_from n (drop (decoded (b ∷ rest)).size (b ∷ rest)))
     (read (b ∷ rest) (decoded (b ∷ rest)).char refl) (scalar_pieces n (drop (decoded (b ∷ rest)).size (b ∷ rest)))
 
-last_true : (a h : Bool) → h ≡ false → IsTrue (a || not h)
-last_true true h e = refl
-last_true false h e = ap not e
-
--- by whether the character is a tab, and whether a terminal doesn't show it
-shown_as : (c : ℕ) (tab hidden : Bool) → c == 9 ≡ tab → is_unseen c ≡ hidden → IsScalar c
-    → IsSeen (if tab then c else if hidden then 0xfffd else c)
-shown_as c true hidden t h s = (s, ap (λ tab. tab || not (is_unseen c)) t)
-shown_as c false true t h s = search rules
-shown_as c false false t h s = (s, last_true (c == 9) (is_unseen c) h)
-
 seen_shown : (c : ℕ) → IsScalar c → IsSeen (shown_char c)
-seen_shown c s = shown_as c (c == 9) (is_unseen c) refl refl s
+seen_shown c s =
+    cond_both (c == 9) _ _ IsSeen (λ t. (s, or_left _ _ t))
+    (λ _. cond_both (is_unseen c) _ _ IsSeen (λ _. search rules) (λ h. (s, or_right _ _ (ap not h))))
 
 -- what is shown of any bytes
 pub all_seen : (bytes : List ℕ) → All IsSeen (shown_chars bytes)
@@ -97,7 +91,7 @@ pub itself : (c : ℕ) → IsScalar c → is_unseen c ≡ false → IsLine (enco
 itself c s h = record {
   characters = c ∷ [];
   spelled = sym (append-nil (encode_utf8 c));
-  seen = All-cons IsSeen c [] (s, last_true (c == 9) (is_unseen c) h) (All-nil IsSeen);
+  seen = All-cons IsSeen c [] (s, or_right _ _ (ap not h)) (All-nil IsSeen);
 }
 
 -- an ASCII character in front
@@ -109,8 +103,7 @@ line_cons c bs small seen p = record {
 }
 
 either : (b : Bool) (x y : List ℕ) → IsLine x → IsLine y → IsLine (if b then x else y)
-either true x y p q = p
-either false x y p q = q
+either b x y p q = cond_both b x y IsLine (λ _. p) (λ _. q)
 
 pub line_if : (t : Bool) (bs : List ℕ) → IsLine bs → IsLine (if t then bs else [])
 line_if t bs p = either t bs [] p line_none
@@ -138,72 +131,20 @@ line_flat f each xs = line_each (λ _. Unit {0}) f (λ x _. each x) xs (λ k d _
 
 -- ---- digits
 
--- what each digit passes, all digits of a number pass
-onto_all : (p : ℕ → Bool) → ((d : ℕ) → d < 10 → p (digit_glyph false d) ≡ true) → (k n : ℕ) (acc : List ℕ)
-    → list_all p acc ≡ true → list_all p (digits_onto k 10 false n acc) ≡ true
-onto_all p each zero n acc h = h
-onto_all p each (suc k) n acc h =
-    let here : list_all p (digit_glyph false (n % 10) ∷ acc) ≡ true = rw (each (n % 10) (omega arith), h) refl in
-    choose (n / 10 == 0) _ _ here (onto_all p each k (n / 10) (digit_glyph false (n % 10) ∷ acc) here)
-  where
-    choose : (b : Bool) (xs ys : List ℕ) → list_all p xs ≡ true → list_all p ys ≡ true
-        → list_all p (if b then xs else ys) ≡ true
-    choose true xs ys h k = h
-    choose false xs ys h k = k
-
-pub decimal_all : (p : ℕ → Bool) → ((d : ℕ) → d < 10 → p (digit_glyph false d) ≡ true) → (n : ℕ)
-    → list_all p (decimal n) ≡ true
-unfolding digits
-decimal_all p each n = onto_all p each 64 n [] refl
-
-glyph_printed : (d : ℕ) → d < 10 → is_shown_byte (digit_glyph false d) ≡ true
-glyph_printed d low = along (λ d. is_shown_byte (digit_glyph false d)) (λ d. true) 0 10 refl d (omega arith)
-    (omega arith)
-
 pub digit_printed : (d : ℕ) → d < 16 → is_shown_byte (digit_char d) ≡ true
-digit_printed d low = along (λ d. is_shown_byte (digit_char d)) (λ d. true) 0 16 refl d (omega arith) (omega arith)
+digit_printed d low = agree_below_at (λ d. is_shown_byte (digit_char d)) (λ d. true) 16 d refl low
 
 pub decimal_line : (n : ℕ) → IsLine (decimal n)
-decimal_line n = ascii (decimal n) (decimal_all is_shown_byte glyph_printed n)
+decimal_line n = ascii (decimal n) (decimal_passes is_shown_byte refl n)
 
 -- ---- words, with what is told at their places, modifiers and events
-
-front_all : (p : ℕ → Bool) (n : ℕ) (bs : List ℕ) → list_all p bs ≡ true → list_all p (take n bs) ≡ true
-front_all p zero bs h = refl
-front_all p (suc n) [] h = refl
-front_all p (suc n) (c ∷ bs) h =
-    let both = and_parts (p c) (list_all p bs) h in rw (both.0, front_all p n bs both.1) refl
-
-behind_all : (p : ℕ → Bool) (n : ℕ) (bs : List ℕ) → list_all p bs ≡ true → list_all p (drop n bs) ≡ true
-behind_all p zero bs h = h
-behind_all p (suc n) [] h = refl
-behind_all p (suc n) (c ∷ bs) h = behind_all p n bs (and_parts (p c) (list_all p bs) h).1
-
-pub append_all : (p : ℕ → Bool) (a b : List ℕ) → list_all p a ≡ true → list_all p b ≡ true
-    → list_all p (a ++ b) ≡ true
-append_all p a b h k = list_all-append p a b ∙ rw (h, k) refl
-
--- all bytes of these texts pass
-abbrev pub EachPasses : (ℕ → Bool) → List (List ℕ) → Type 0
-EachPasses p [] = Unit {0}
-EachPasses p (t ∷ ts) = (list_all p t ≡ true) × EachPasses p ts
-
--- what the bytes of words and of the texts at their places pass
-pub filled_all : (p : ℕ → Bool) (w : List ℕ) (ts : List (List ℕ)) → list_all p w ≡ true → EachPasses p ts
-    → list_all p (filled w ts) ≡ true
-unfolding filled
-filled_all p w [] h ps = h
-filled_all p w (t ∷ ts) h ps =
-    append_all p (words_before w ++ t) (filled (words_behind w) ts)
-    (append_all p (words_before w) t (front_all p (position_or_len is_hole w) w h) ps.0)
-    (filled_all p (words_behind w) ts (behind_all p (position_or_len is_hole w + 2) w h) ps.1)
 
 pub fills : (w : List ℕ) (ts : List (List ℕ)) → list_all is_shown_byte w ≡ true → AreLines ts → IsLine (filled w ts)
 unfolding filled
 fills w [] h ps = ascii w h
 fills w (t ∷ ts) h ps =
-    ascii (words_before w) (front_all is_shown_byte (position_or_len is_hole w) w h) ⊳ ps.0
-    ⊳ fills (words_behind w) ts (behind_all is_shown_byte (position_or_len is_hole w + 2) w h) ps.1
+    ascii (words_before w) (parts_all is_shown_byte (position_or_len is_hole w) w h).0 ⊳ ps.0
+    ⊳ fills (words_behind w) ts (parts_all is_shown_byte (position_or_len is_hole w + 2) w h).1 ps.1
 
 modifier_line : (modifier : Modifier) → IsLine (name_of (action.Mod modifier))
 modifier_line mods.LeftShift = ascii _ refl
@@ -275,13 +216,11 @@ head_line file text e message p q = place_line file text e.place p ⊳ said_line
 
 -- ---- the line of a place and the caret, and a name
 
-below_by : (tab : Bool) (bs : List ℕ) → IsLine bs → IsLine ((if tab then 9 else 32) ∷ bs)
-below_by true bs p = line_cons 9 bs (omega arith) refl p
-below_by false bs p = line_cons 32 bs (omega arith) refl p
-
 line_below : (cs : List ℕ) → IsLine (map below cs)
 line_below [] = line_none
-line_below (c ∷ cs) = below_by (c == 9) (map below cs) (line_below cs)
+line_below (c ∷ cs) =
+    cond_both (c == 9) 9 32 (λ b. IsLine (b ∷ map below cs)) (λ _. line_cons 9 _ (omega arith) refl (line_below cs))
+    (λ _. line_cons 32 _ (omega arith) refl (line_below cs))
 
 two_blanks : IsLine (codes "  ")
 two_blanks = ascii _ refl

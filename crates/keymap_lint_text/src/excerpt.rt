@@ -1,5 +1,5 @@
 //! The line of a place in a text, and the caret below it, as a diagnostic shows them.
-ghost use Rattle.std.specs.Prelude.{◌≡◌, ◌≤◌, ◌++◌, length, map, take, drop, IfOk, OnOk};
+ghost use Rattle.std.specs.Prelude.{◌≡◌, ◌≤◌, ◌++◌, [], length, map, nat_lt, take, drop, if◌then◌else◌, IfOk, OnOk};
 ghost use Rattle.keymap_lint_text.specs.Excerpt as spec;
 ghost use Rattle.keymap_lint_text.specs.Shown.{shown_chars as shown_of, ended, last, lines_text};
 
@@ -42,21 +42,12 @@ fn left_out(before: usize, all: usize) -> usize
         .min(all.saturating_sub(SHOWN_LIMIT))
 }
 
-fn push_dots(text: &mut Vec<u8>, skipped: usize) -> Result<(), AllocError>
-    ensures { OnOk result (text.new.items ≡ text.old.items ++ spec.dots skipped) }
+/// Adds what stands for so many characters that are left out, if some are.
+fn push_skipped(text: &mut Vec<u8>, skipped: usize, mark: &[u8]) -> Result<(), AllocError>
+    ensures { OnOk result (text.new.items ≡ text.old.items ++ (if nat_lt 0 skipped then mark.now else [])) }
 {
     if 0 < skipped {
-        text.extend_from_slice(b"..")
-    } else {
-        Ok(())
-    }
-}
-
-fn push_blanks(text: &mut Vec<u8>, skipped: usize) -> Result<(), AllocError>
-    ensures { OnOk result (text.new.items ≡ text.old.items ++ spec.blanks skipped) }
-{
-    if 0 < skipped {
-        text.extend_from_slice(b"  ")
+        text.extend_from_slice(mark)
     } else {
         Ok(())
     }
@@ -98,9 +89,10 @@ fn push_line(text: &mut Vec<u8>, skipped: usize, characters: &[char]) -> Result<
 {
     let part = shown_part(characters, skipped);
     text.extend_from_slice(b"  ")?;
-    push_dots(text, skipped)?;
+    push_skipped(text, skipped, b"..")?;
     push_characters(text, part)?;
-    push_dots(text, characters.len().saturating_sub(skipped + SHOWN_LIMIT))?;
+    let left = characters.len().saturating_sub(skipped + SHOWN_LIMIT);
+    push_skipped(text, left, b"..")?;
     text.extend_from_slice(b"\n")
 }
 
@@ -110,7 +102,7 @@ fn push_caret(text: &mut Vec<u8>, skipped: usize, characters: &[char]) -> Result
     ensures { OnOk result (text.new.items ≡ text.old.items ++ ended (spec.caret_line skipped characters.now)) }
 {
     text.extend_from_slice(b"  ")?;
-    push_blanks(text, skipped)?;
+    push_skipped(text, skipped, b"  ")?;
     push_below(text, &characters[skipped..])?;
     text.extend_from_slice(b"^\n")
 }

@@ -1,9 +1,8 @@
 use Rattle.keymap_draw.proofs.Common.{◌≡◌, ℕ, List, [], ◌∷◌, ◌++◌, ◌∙◌, Some, ap, sym, append_assoc, arith, subst, IfOk}
-use Rattle.keymap_draw.proofs.Common.{Shape, Told, Plain, Bytes, Fact, within, in_svg, over, facts_of}
+use Rattle.keymap_draw.proofs.Common.{Number, Shape, Told, Plain, Bytes, Fact, within, in_svg, over, facts_of}
 use Rattle.std.proofs.Common.{Bor}
 use Rattle.std.proofs.lemmas.List.{nil_from_length}
 use Rattle.keymap_draw.specs.declared.board.Shape.TheVariants.{A}
-use Rattle.keymap_draw.specs.declared.sheet.Told.TheVariants.{Number}
 use Rattle.keymap_draw.specs.Boards.{letter}
 use Rattle.keymap_draw.specs.Keys.{titled_cap}
 use Rattle.keymap_draw.specs.Sheets.{in_key, facts_over}

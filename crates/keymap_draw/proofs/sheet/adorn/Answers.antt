@@ -1,15 +1,9 @@
-use Rattle.keymap_draw.proofs.Parts.{led}
-use Rattle.keymap_draw.proofs.Scans.{told, is_within}
+use Rattle.keymap_draw.proofs.Common.{[], ap, append-nil, facts_of}
 use Rattle.keymap_draw.proofs.sheet.adorn.Goals as goal
 
-pub invariant_of-result : goal.invariant_of-result
-invariant_of-result g c =
-    is_within (led c.args.words.now c.args.told.now c.sheet.invariant c.sheet.view_is c.in_ok-push_filled.ensures
-    c.requires.ready
-    (c.requires.quiet _))
+pub tell-requires-clause-read : goal.tell-requires-clause-read
+tell-requires-clause-read g c =
+    λ fs. rw (ap facts_of (c.requires.quiet []), append-nil fs) (c.requires.quiet fs)
 
 pub returns : goal.returns
-returns g c =
-    told (led c.args.words.now c.args.told.now c.sheet.invariant c.sheet.view_is c.in_ok-push_filled.ensures
-    c.requires.ready
-    (c.requires.quiet _))
+returns g c = rw (ap facts_of (c.requires.quiet []), append-nil c.args.sheet) at c.tell.ensures

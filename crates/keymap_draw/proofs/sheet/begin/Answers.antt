@@ -1,6 +1,5 @@
 use Rattle.keymap_draw.proofs.Common.{◌≡◌, Bool, true, false, [], ◌∷◌, refl, ap, Some, codes, if◌then◌else◌, list_all}
-use Rattle.keymap_draw.proofs.Common.{Plain, ReadAs, in_svg, within, is_inner, State, at, start, scan, Text}
-use Rattle.keymap_draw.specs.declared.sheet.Told.TheVariants.{Number}
+use Rattle.keymap_draw.proofs.Common.{Number, Plain, ReadAs, in_svg, within, is_inner, State, at, start, scan, Text}
 use Rattle.keymap_draw.specs.declared.constants.TheConstants.{STYLE, SHAPES}
 use Rattle.keymap_draw.proofs.Parts.{behind}
 use Rattle.keymap_draw.proofs.Scans.{told, is_within, further}

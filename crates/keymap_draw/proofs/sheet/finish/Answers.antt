@@ -1,5 +1,4 @@
-use Rattle.keymap_draw.proofs.Common.{[], ◌∷◌, refl, ReadAs, at, Text}
-use Rattle.keymap_draw.specs.declared.sheet.Told.TheVariants.{Number}
+use Rattle.keymap_draw.proofs.Common.{[], ◌∷◌, refl, ReadAs, at, Text, Number}
 use Rattle.keymap_draw.specs.Sheets.{ids}
 use Rattle.keymap_draw.proofs.Parts.{behind}
 use Rattle.keymap_draw.proofs.Scans.{held}

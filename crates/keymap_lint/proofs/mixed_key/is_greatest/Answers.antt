@@ -1,4 +1,5 @@
-use Rattle.keymap_lint.proofs.Common.{ap, not, rules, tests, YieldsList-from_slice}
+use Rattle.keymap_lint.proofs.Common.{ap, not, rules, tests}
+use Rattle.std.proofs.lemmas.Iterator.{YieldsList-from_slice}
 use Rattle.std.proofs.lemmas.Iterator.Search.{any_from_yields_List}
 use Rattle.keymap_lint.specs.Kinds.{is_later}
 use Rattle.keymap_lint.proofs.mixed_key.is_greatest.Goals as goal

@@ -2,9 +2,8 @@
 use Rattle.keymap_lint.proofs.Common.{◌≡◌, ℕ, ◌+◌, ◌<◌, Bool, true, false, ◌&&◌, cond, List, [], ◌∷◌, length, map}
 use Rattle.keymap_lint.proofs.Common.{get_or, refl, sym, ◌∙◌, ap, subst, arith, Option, Some, None, find, flat_map}
 use Rattle.keymap_lint.proofs.Common.{range_with_len, true≢false, gathered, Faulty, Slot, Placed, Diagnostic, mixed_key}
-use Rattle.keymap_lint.proofs.Common.{missing_slot, selects, again, digit, get_or-map-range_with_len, MapValue, last_of}
+use Rattle.keymap_lint.proofs.Common.{missing_slot, selects, get_or-map-range_with_len, MapValue, last_of}
 use Rattle.keymap_lint.proofs.Common.{Spelled, cell_in, cells_of}
-use Prim.Native.Nat.{zero}
 use Rattle.std.proofs.Common.{◌↔◌, ◌-◌, ◌||◌, inl, inr}
 use Rattle.std.specs.List.{list_any, Any}
 use Rattle.std.specs.Option.{is_some, option_or, option_to_list}
@@ -23,7 +22,7 @@ use Rattle.keymap_text.proofs.Verdicts.{one_map, not_both}
 use Rattle.keymap_lint.specs.Types.{Diagnostics, Spelled as OfSpelled, Holding, Cell, Char, Act, Finding, Defined}
 use Rattle.keymap_lint.specs.Types.{Accent, CellInForce}
 use Rattle.keymap_lint.specs.Kinds.{defines, is_mixed, mixed_by, mixed_keys, nul_keys, other_slot, missing_slots}
-use Rattle.keymap_lint.specs.Kinds.{selector, selector_of, half_by, half_defined, is_some_in, no_key, no_shift}
+use Rattle.keymap_lint.specs.Kinds.{selector, selector_of, half_by, half_defined, is_some_in}
 use Rattle.keymap_lint.specs.Lists.{AreOf, spelled_by, all_of}
 use Rattle.keymap_lint.specs.Promises.{names_keys, KeysAreNamedExactlyIfRefused, names_a_key}
 use Rattle.std.proofs.lemmas.List.Folds.{list_any-append, list_any_at, list_any_none}

@@ -306,19 +306,22 @@ all_of_text text m rows by fs are =
       no_shift = ((tt, tt), tt);
       mixed = λ k d l p e.
           let f : Finding = get_or fs k d in
-          let is : IsFinding m f = are k d l in
-          ((w (p.first + (1 + f.holding_at.column)), tt),
-          subst (SpellsCell text (offset_at t (p.first + (1 + f.holding_at.column)))) is.holding
-          (spelled_at text m rows by f.holding_at.slot p e f.holding_at.column is.first_holding.0.0));
+          let is : IsFinding m f = are k d l in (
+            (w (p.first + (1 + f.holding_at.column)), tt),
+            subst (SpellsCell text (offset_at t (p.first + (1 + f.holding_at.column)))) is.holding
+                (spelled_at text m rows by f.holding_at.slot p e f.holding_at.column is.first_holding.0.0),
+          );
       half = λ c s e g.
-          let its : SpellsCell text c.span.start (content t c) = found_has IsThere (selects t) cells there c e in
-          ((low c.span.start (content t c) its, tt),
-          subst (SpellsCell text c.span.start) (holds_selector (nat_lt c.slot 128) (content t c) s g) its);
+          let its : SpellsCell text c.span.start (content t c) = found_has IsThere (selects t) cells there c e in (
+            (low c.span.start (content t c) its, tt),
+            subst (SpellsCell text c.span.start) (holds_selector (nat_lt c.slot 128) (content t c) s g) its,
+          );
       again = λ p q. ((w p.first, w q.first), tt);
       dead = λ c e.
-          let its : SpellsCell text c.span.start (content t c) = found_has IsThere (is_missing t) cells there c e in
-          ((low c.span.start (content t c) its, tt),
-          dead_key_there c its (live_accent t c) refl (find-true (is_missing t) cells c e));
+          let its : SpellsCell text c.span.start (content t c) = found_has IsThere (is_missing t) cells there c e in (
+            (low c.span.start (content t c) its, tt),
+            dead_key_there c its (live_accent t c) refl (find-true (is_missing t) cells c e),
+          );
       zero = λ i p. ((w (p.first + 1), tt), tt);
       pair = λ i first base j k. ((w (first + (4 * j + 2)), w (first + (4 * k + 2))), tt);
       unused = λ p. ((w p.first, tt), tt);

@@ -80,7 +80,11 @@ fn zero_accent(text: &SpelledText, cells: &[CellInForce], accent: u8) -> Option<
 
 /// Adds the accents with the character 0 whose dead key is a live cell, in the order of their indices.
 #[tactic(auto, using(crate::proofs::Lists::gathered_rules))]
-pub(crate) fn add_zero_accents(found: &mut Found, text: &SpelledText, cells: &[CellInForce]) -> Added
+pub(crate) fn add_zero_accents(
+    found: &mut Found,
+    text: &SpelledText,
+    cells: &[CellInForce],
+) -> Added
     ensures { OnOk result (found.new.items ≡ found.old.items ++ zero_accents text.now cells.now) }
 {
     for accent in 0..ACCENT_LIMIT as u8 {

@@ -1,9 +1,9 @@
 -- What the printer of diagnostics adds, remark by remark.
 use Rattle.keymap_lint_text.proofs.Common.{◌≡◌, ℕ, ◌<◌, List, [], ◌∷◌, ◌++◌, true, refl, ap, sym, subst, ◌∙◌}
-use Rattle.keymap_lint_text.proofs.Common.{append_assoc, append-nil, take, ◌+◌, length, flat_map}
-use Rattle.keymap_lint_text.proofs.Common.{flat_map-append, Diagnostic, Diagnostics, Severity, severity_of, Said}
-use Rattle.keymap_lint_text.proofs.Common.{Remark, remark, head, place_text, said_text, IsMessage, ArePrinted, Adds}
-use Rattle.keymap_lint_text.proofs.Common.{kind_text, is_noted, lines_text, answer, of_diagnostic}
+use Rattle.keymap_lint_text.proofs.Common.{append_assoc, append-nil, take, ◌+◌, length, flat_map, flat_map-append}
+use Rattle.keymap_lint_text.proofs.Common.{Diagnostic, Diagnostics, Severity, severity_of, Said, Remark, remark, head}
+use Rattle.keymap_lint_text.proofs.Common.{place_text, said_text, IsMessage, ArePrinted, Adds, kind_text, is_noted}
+use Rattle.keymap_lint_text.proofs.Common.{lines_text, answer, of_diagnostic}
 use Rattle.std.proofs.Common.{get_or}
 use Rattle.std.proofs.lemmas.List.{take_more}
 use Rattle.keymap_lint.specs.Severities.{never_sticks}

@@ -1,8 +1,8 @@
 -- A line tells the place of which it speaks, and whether it is an error, a warning or a note.
-use Rattle.keymap_lint_text.proofs.Common.{◌≡◌, ℕ, Bool, true, false, List, [], ◌∷◌, ◌++◌, codes, refl, ap, sym}
-use Rattle.keymap_lint_text.proofs.Common.{◌∙◌, arith, append_assoc, Option, Some, None, ◌==◌, not, decimal, length}
-use Rattle.keymap_lint_text.proofs.Common.{◌+◌, digit_glyph, list_all, and_parts, along, before_in_line, line, Severity}
-use Rattle.keymap_lint_text.proofs.Common.{Said, Remark, head, place_text, said_text}
+use Rattle.keymap_lint_text.proofs.Common.{◌≡◌, ℕ, Bool, true, false, List, [], ◌∷◌, ◌++◌, codes, refl, ap, sym, ◌∙◌}
+use Rattle.keymap_lint_text.proofs.Common.{append_assoc, Option, Some, None, ◌==◌, not, decimal, length, ◌+◌, list_all}
+use Rattle.keymap_lint_text.proofs.Common.{and_parts, before_in_line, line, Severity, Said, Remark, head, place_text}
+use Rattle.keymap_lint_text.proofs.Common.{said_text}
 use Rattle.std.specs.Prelude.{◌&&◌, slice_index}
 use Rattle.std.proofs.lemmas.List.{append_cancel_left}
 use Rattle.keymap_lint_text.specs.Promises.{AreAlike, label}

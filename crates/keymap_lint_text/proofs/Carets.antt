@@ -1,10 +1,10 @@
 -- The caret stands below the place, and the note on modifiers that stay on tells its events.
 use Rattle.keymap_lint_text.proofs.Common.{◌≡◌, ℕ, ◌+◌, ◌-◌, ◌≤◌, Bool, true, false, List, [], ◌∷◌, ◌++◌, codes, refl}
-use Rattle.keymap_lint_text.proofs.Common.{◌∙◌, append_assoc, append-nil, arith, length, length-append}
-use Rattle.keymap_lint_text.proofs.Common.{length-drop, take, drop, nat_lt, ◌==◌, encode_utf8, map, if◌then◌else◌}
-use Rattle.keymap_lint_text.proofs.Common.{flat_map, list_all, flat_map-append, drop-append-le, map-append, Event}
-use Rattle.keymap_lint_text.proofs.Common.{Modifier, filled, below, excerpt, left_out, lines_of, shown_before}
-use Rattle.keymap_lint_text.proofs.Common.{without_cr, shown_chars}
+use Rattle.keymap_lint_text.proofs.Common.{◌∙◌, append_assoc, append-nil, arith, length, length-append, length-drop}
+use Rattle.keymap_lint_text.proofs.Common.{take, drop, nat_lt, ◌==◌, encode_utf8, map, if◌then◌else◌, flat_map}
+use Rattle.keymap_lint_text.proofs.Common.{list_all, flat_map-append, drop-append-le, map-append, Event, Modifier}
+use Rattle.keymap_lint_text.proofs.Common.{filled, below, excerpt, left_out, lines_of, shown_before, without_cr}
+use Rattle.keymap_lint_text.proofs.Common.{shown_chars}
 use Rattle.std.proofs.Math.Seq.{take-append-add}
 use Rattle.keymap_lint_text.specs.Excerpt.{blanks, dots}
 use Rattle.keymap_lint_text.specs.Notes.{events_text, modifiers_text, sticks_text}

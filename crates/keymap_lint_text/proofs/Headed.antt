@@ -1,11 +1,11 @@
 -- Each remark has one head, and no other line begins without blanks.
-use Rattle.keymap_lint_text.proofs.Common.{◌≡◌, ℕ, Bool, true, false, List, [], ◌∷◌, ◌++◌, codes, refl, ap, sym, subst}
-use Rattle.keymap_lint_text.proofs.Common.{◌∙◌, append_assoc, Option, Some, None, decimal, length, map, ◌+◌}
-use Rattle.keymap_lint_text.proofs.Common.{if◌then◌else◌, flat_map, flat_map-append, All-nil, All-cons, All-append}
-use Rattle.keymap_lint_text.proofs.Common.{Diagnostic, Diagnostics, Error, fault_name, before_in_line, line}
-use Rattle.keymap_lint_text.proofs.Common.{TextFaultKind, excerpt, Said, Remark, remark, head, place_text, said_text}
-use Rattle.keymap_lint_text.proofs.Common.{ArePrinted, is_noted, ended, shown_name, IsLine, IsPlainText}
-use Rattle.keymap_lint_text.proofs.Common.{answer, judged, of_diagnostic, beginning}
+use Rattle.keymap_lint_text.proofs.Common.{◌≡◌, ℕ, Bool, false, List, [], ◌∷◌, ◌++◌, codes, refl, ap, sym, subst, ◌∙◌}
+use Rattle.keymap_lint_text.proofs.Common.{append_assoc, Option, Some, None, decimal, length, map, ◌+◌, if◌then◌else◌}
+use Rattle.keymap_lint_text.proofs.Common.{flat_map, flat_map-append, All-nil, All-cons, All-append, Diagnostic}
+use Rattle.keymap_lint_text.proofs.Common.{Diagnostics, Error, fault_name, before_in_line, line, TextFaultKind, excerpt}
+use Rattle.keymap_lint_text.proofs.Common.{Said, Remark, remark, head, place_text, said_text, ArePrinted, is_noted}
+use Rattle.keymap_lint_text.proofs.Common.{ended, shown_name, IsLine, IsPlainText, answer, judged, of_diagnostic}
+use Rattle.keymap_lint_text.proofs.Common.{beginning}
 use Rattle.std.specs.List.{All, filter}
 use Rattle.std.proofs.lemmas.List.Elements.{filter-append}
 use Rattle.std.proofs.lemmas.Bool.{cond_both}

@@ -1,24 +1,21 @@
 -- What is shown of bytes, and what is told in words, stays in its line, and a terminal shows it.
 use Rattle.keymap_lint_text.proofs.Common.{◌≡◌, ℕ, ◌<◌, Bool, true, false, List, [], ◌∷◌, ◌++◌, refl, ap, sym, subst}
-use Rattle.keymap_lint_text.proofs.Common.{◌∙◌, arith, Option, Some, None, append-nil, take, drop, length, ◌==◌, ◌+◌}
-use Rattle.keymap_lint_text.proofs.Common.{◌-◌, not, nat_lt, codes, decimal, map, encode_utf8, if◌then◌else◌}
-use Rattle.keymap_lint_text.proofs.Common.{digit_glyph, flat_map, list_all, and_parts, nat_tests, flat_map-append}
-use Rattle.keymap_lint_text.proofs.Common.{All-nil, All-cons, All-append, All-take, encode_ascii, lossy_chars, pieces}
-use Rattle.keymap_lint_text.proofs.Common.{or_replacement, Event, along, Modifier, Severity, TextFaultKind, fault_name}
-use Rattle.keymap_lint_text.proofs.Common.{before_in_line, line, filled, excerpt, lines_of, below, left_out}
-use Rattle.keymap_lint_text.proofs.Common.{shown_before, without_cr, Said, Remark, IsMessage, head, place_text}
-use Rattle.keymap_lint_text.proofs.Common.{said_text, kind_text, shown_char, shown_chars, shown_name, is_shown_byte}
-use Rattle.keymap_lint_text.proofs.Common.{IsSeen, IsLine}
+use Rattle.keymap_lint_text.proofs.Common.{◌∙◌, arith, Option, Some, None, append-nil, drop, length, ◌==◌, ◌+◌, ◌-◌}
+use Rattle.keymap_lint_text.proofs.Common.{not, nat_lt, codes, decimal, map, encode_utf8, if◌then◌else◌, flat_map}
+use Rattle.keymap_lint_text.proofs.Common.{list_all, and_parts, nat_tests, flat_map-append, All-nil, All-cons}
+use Rattle.keymap_lint_text.proofs.Common.{All-append, All-take, encode_ascii, lossy_chars, pieces, or_replacement}
+use Rattle.keymap_lint_text.proofs.Common.{Event, along, Modifier, Severity, TextFaultKind, fault_name, before_in_line}
+use Rattle.keymap_lint_text.proofs.Common.{line, filled, excerpt, lines_of, below, left_out, shown_before, without_cr}
+use Rattle.keymap_lint_text.proofs.Common.{Said, Remark, IsMessage, head, place_text, said_text, kind_text, shown_char}
+use Rattle.keymap_lint_text.proofs.Common.{shown_chars, shown_name, is_shown_byte, IsSeen, IsLine}
 use Prim.Native.Nat.{zero, suc}
 pub use Rattle.messages.proofs.Passed.{EachPasses, append_all, decimal_all, filled_all}
 use Rattle.messages.proofs.Passed.{decimal_passes, parts_all}
 use Rattle.std.proofs.lemmas.Bool.{agree_below_at, cond_both, or_left, or_right}
 use Rattle.std.proofs.Common.{rules, All}
-use Rattle.std.specs.Prelude.{◌/◌, ◌%◌, ◌||◌, IsTrue}
+use Rattle.std.specs.Prelude.{◌||◌, IsTrue}
 use Rattle.std.specs.Char.{IsScalar, digit_char}
-use Rattle.std.specs.Fmt.{digits, digits_onto}
 use Rattle.std.specs.List.{position_or_len}
-use Rattle.std.proofs.lemmas.List.Folds.{list_all-append}
 use Rattle.std.proofs.lemmas.List.Elements.{All-map, All-weaker, All-drop, All-head, All-tail}
 use Rattle.bstr.specs.Utf8.{pieces_from, decoded, Decoded}
 use Rattle.bstr.proofs.lemmas.SoundLemmas.{SpellsChar-decoded}

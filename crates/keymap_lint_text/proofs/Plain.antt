@@ -1,7 +1,6 @@
 -- Lines that a terminal shows, one behind the other.
-use Rattle.keymap_lint_text.proofs.Common.{ℕ, List, [], ◌∷◌, ◌++◌, refl, sym, append-nil, flat_map}
-use Rattle.keymap_lint_text.proofs.Common.{flat_map-append, All-nil, All-cons, All-append, ended, IsLine}
-use Rattle.keymap_lint_text.proofs.Common.{IsPlainText}
+use Rattle.keymap_lint_text.proofs.Common.{ℕ, List, [], ◌∷◌, ◌++◌, refl, sym, append-nil, flat_map, flat_map-append}
+use Rattle.keymap_lint_text.proofs.Common.{All-nil, All-cons, All-append, ended, IsLine, IsPlainText}
 
 pub plain_none : IsPlainText []
 plain_none = record { lines = []; spelled = refl; plain = All-nil IsLine }

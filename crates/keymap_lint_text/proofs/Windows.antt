@@ -1,10 +1,9 @@
 -- The characters of a line, before a place and from it on.
-use Rattle.keymap_lint_text.proofs.Common.{◌≡◌, ◌⊎◌, inl, inr, ℕ, ◌+◌, ◌-◌, ◌≤◌, ◌<◌, nat_lt, List}
-use Rattle.keymap_lint_text.proofs.Common.{◌++◌, length, take, drop, map, ap, ◌∙◌, arith}
-use Rattle.keymap_lint_text.proofs.Common.{length-append, length-drop, take_all, min}
-use Rattle.keymap_lint_text.proofs.Common.{take-append_seam, drop-append_seam, drop-append-le, cases_lt}
-use Rattle.keymap_lint_text.proofs.Common.{nat_tests, lines_of, excerpt, shown_before, without_cr, left_out, below}
-use Rattle.keymap_lint_text.proofs.Common.{reach, shown_chars, last}
+use Rattle.keymap_lint_text.proofs.Common.{◌≡◌, ◌⊎◌, inl, inr, ℕ, ◌+◌, ◌-◌, ◌≤◌, ◌<◌, nat_lt, List, ◌++◌, length, take}
+use Rattle.keymap_lint_text.proofs.Common.{drop, map, ap, ◌∙◌, arith, length-append, length-drop, take_all, min}
+use Rattle.keymap_lint_text.proofs.Common.{take-append_seam, drop-append_seam, drop-append-le, cases_lt, nat_tests}
+use Rattle.keymap_lint_text.proofs.Common.{lines_of, excerpt, shown_before, without_cr, left_out, below, reach}
+use Rattle.keymap_lint_text.proofs.Common.{shown_chars, last}
 use Rattle.std.proofs.Common.{length-take, take-take, drop-drop}
 use Rattle.std.proofs.Math.Seq.{take-add}
 use Rattle.std.proofs.lemmas.List.{drop-take}

@@ -1,6 +1,6 @@
 -- Texts that are put at the places of some words, one after another.
-use Rattle.std.proofs.Common.{◌≡◌, ℕ, ◌+◌, ◌<◌, ◌≤◌, List, [], ◌∷◌, ◌++◌, length, drop, get_or}
-use Rattle.std.proofs.Common.{map, Bor, append_assoc, add-one, drop-cons, refl, sym, ap, subst, ◌∙◌, length-append}
+use Rattle.std.proofs.Common.{◌≡◌, ℕ, ◌+◌, ◌<◌, ◌≤◌, List, [], ◌∷◌, ◌++◌, length, drop, get_or, map, Bor, append_assoc}
+use Rattle.std.proofs.Common.{add-one, drop-cons, refl, sym, ap, subst, length-append}
 use Rattle.std.specs.Prelude.{IsTrue}
 use Rattle.std.proofs.Math.ListN.{drop_of_length-le}
 use Rattle.std.proofs.lemmas.Bool.{and_parts}
@@ -49,7 +49,8 @@ filled-more words next t text texts old new all same behind added before =
 pub left-more : (t : List ℕ) (texts : List (List ℕ)) (line rest new all : List ℕ) → IsLeft (t ∷ texts) line rest all
     → new ≡ (line ++ words_before rest) ++ t → IsLeft texts new (words_behind rest) all
 left-more t texts line rest new all left e =
-    let size : length new ≡ (length line + length (words_before rest)) + length t = simp length-append at (ap length e) in
+    let size : length new ≡ (length line + length (words_before rest)) + length t =
+    simp length-append at (ap length e) in
     record {
       text = filled-more rest (words_behind rest) t t texts line new all refl refl e left.text;
       places = (and_parts _ _ left.places).1;

@@ -1,6 +1,6 @@
 -- What all bytes pass: of numbers, and of words with texts at their places.
-use Rattle.std.proofs.Common.{zero, suc, ◌≡◌, ℕ, ◌<◌, ◌/◌, ◌%◌, ◌+◌, ◌==◌, Bool, true, false, ◌++◌, List, [], ◌∷◌, take, drop}
-use Rattle.std.proofs.Common.{refl, ap, sym, ◌∙◌, arith}
+use Rattle.std.proofs.Common.{zero, suc, ◌≡◌, ℕ, ◌<◌, ◌/◌, ◌%◌, ◌+◌, ◌==◌, Bool, true, false, ◌++◌, List, [], ◌∷◌, take}
+use Rattle.std.proofs.Common.{drop, refl, ap, sym, ◌∙◌, arith}
 use Rattle.std.specs.Prelude.{decimal}
 use Rattle.std.specs.Fmt.{digits, digits_onto, digit_glyph}
 use Rattle.std.specs.List.{list_all, position_or_len}

@@ -156,7 +156,8 @@ unfolding told named_accents
 each_told P d key accent =
     All-append P (told_in d Lower ++ upper_told d) _
     (All-append P (told_in d Lower) (upper_told d) (each_in P d Lower (key Lower))
-    (cond_both (is_upper_live d.map) (told_in d Upper) [] (All P) (λ _. each_in P d Upper (key Upper)) (λ _. All-nil P)))
+    (cond_both (is_upper_live d.map) (told_in d Upper) [] (All P) (λ _. each_in P d Upper (key Upper))
+    (λ _. All-nil P)))
     (each_accent P d.map accent (named_accents d.map) (passing-below (has_character d.map) 15 15 (omega arith)))
 
 each_defined : (d : Drawing) → IsMap d.map → All IsDefinition (told d)

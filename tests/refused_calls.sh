@@ -97,9 +97,9 @@ refuses replay-word
 refuses sticking
 refuses sticking_between
 refuses sights_of
-refuses Planner::new
-refuses Planner::visit
-refuses Planner::events_to
+refuses Explorer::new
+refuses Explorer::visit
+refuses Explorer::events_to
 refuses find_onward
 yields type_characters
 yields cover_of

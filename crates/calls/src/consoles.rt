@@ -3,7 +3,7 @@ use crate::devices::mark;
 use crate::inputs::{TRAP, map_of, sample};
 use crate::outcome::{Outcome, ended, ended_keeping};
 use console_core::{
-    Event, PlainConsole, Planner, Sight, Sticking, Translator, WordConsole, find_onward, replay,
+    Event, PlainConsole, Explorer, Sight, Sticking, Translator, WordConsole, find_onward, replay,
     sights_of, sticking, sticking_between, type_characters,
 };
 use keymap_core::{KeyCode, Lock, Modifier, Write};
@@ -22,9 +22,9 @@ pub(crate) fn outcome_of<W: Write>(
         "sticking" => searches(alloc, marks)?,
         "sticking_between" => searches_between(alloc, marks)?,
         "sights_of" => finds_sights(alloc, marks)?,
-        "Planner::new" => plans_visits(alloc, marks)?,
-        "Planner::visit" => visits(alloc, marks)?,
-        "Planner::events_to" => goes_out(alloc, marks)?,
+        "Explorer::new" => explores(alloc, marks)?,
+        "Explorer::visit" => visits(alloc, marks)?,
+        "Explorer::events_to" => goes_out(alloc, marks)?,
         "find_onward" => goes_onward(alloc, marks)?,
         "type_characters" => types_characters(alloc, marks)?,
         "cover_of" => covers(alloc, marks)?,
@@ -131,13 +131,13 @@ fn types_characters<W: Write>(alloc: Global, marks: &mut W) -> Result<Outcome, A
     Ok(ended_keeping(given.map(|typing| typing.keyed.len() == 5), map == twin))
 }
 
-fn plans_visits<W: Write>(alloc: Global, marks: &mut W) -> Result<Outcome, AllocError> {
+fn explores<W: Write>(alloc: Global, marks: &mut W) -> Result<Outcome, AllocError> {
     let (map, twin) = (sample(alloc)?, sample(alloc)?);
     mark(marks);
-    let given = Planner::new(alloc, &map);
+    let given = Explorer::new(alloc, &map);
     mark(marks);
     let made = match given {
-        Ok(planner) => Ok(planner.is_some()),
+        Ok(explorer) => Ok(explorer.is_some()),
         Err(error) => Err(error),
     };
     Ok(ended_keeping(made, map == twin))
@@ -146,27 +146,27 @@ fn plans_visits<W: Write>(alloc: Global, marks: &mut W) -> Result<Outcome, Alloc
 /// A visit that composes an accent with a letter.
 fn visits<W: Write>(alloc: Global, marks: &mut W) -> Result<Outcome, AllocError> {
     let map = sample(alloc)?;
-    let Some(mut planner) = Planner::new(alloc, &map)? else {
+    let Some(mut explorer) = Explorer::new(alloc, &map)? else {
         return Ok(ended::<AllocError>(Ok(false)));
     };
     let pair = Sight::Pair {
         accent: 1,
         character: 'e',
     };
-    let is_found = planner.find(pair);
+    let is_found = explorer.aim_at(pair);
     mark(marks);
-    let given = planner.visit(alloc, &[]);
+    let given = explorer.visit(alloc, &[]);
     mark(marks);
     Ok(ended(given.map(|events| is_found && !events.is_empty())))
 }
 
 fn goes_out<W: Write>(alloc: Global, marks: &mut W) -> Result<Outcome, AllocError> {
     let map = sample(alloc)?;
-    let Some(planner) = Planner::new(alloc, &map)? else {
+    let Some(explorer) = Explorer::new(alloc, &map)? else {
         return Ok(ended::<AllocError>(Ok(false)));
     };
     mark(marks);
-    let given = planner.events_to(alloc, 1);
+    let given = explorer.events_to(alloc, 1);
     mark(marks);
     Ok(ended(given.map(|events| !events.is_empty())))
 }

@@ -17,8 +17,8 @@ use Rattle.console_core.proofs.Common.{state_of, Entry, IsTrail, IsReached, IsWh
 use Rattle.console_core.proofs.Common.{IsAt, Leads, LeadsOn, LeadsComposing, IsDeadFor, IsAim, ShowsNot, locks_in}
 use Rattle.console_core.proofs.Common.{Exact, HoldsSome, Stands, but_scroll, unscrolled, fun_ext}
 use Rattle.console_core.specs.declared.explored.KeyAt.{KeyAt}
-use Rattle.console_core.specs.declared.planner.Aim.{Aim}
-use Rattle.console_core.specs.Planning.{HasLocks, AreTaken}
+use Rattle.console_core.specs.declared.explorer.Aim.{Aim}
+use Rattle.console_core.specs.Visiting.{HasLocks, AreTaken}
 use Rattle.console_core.specs.Inner.Exploring.{IsMetAt}
 use Rattle.console_core.specs.Inner.Showing.{IsTurned, LeadsToSee, IsPressAt, IsRest}
 use Rattle.console_core.specs.Inner.Standing.{free_after}
@@ -31,7 +31,7 @@ use Rattle.console_core.proofs.Scripts.{Reached, reached-more, hold-self, holder
 use Rattle.console_core.proofs.Scripts.{stands-reset, pressed-look, other-remembered}
 use Rattle.console_core.proofs.Staying.{emptied, emptied-kept, emptied-none, follows-again, follows-nothing, kind_of}
 use Rattle.console_core.proofs.Staying.{not_holding, same_mods}
-use Rattle.console_core.proofs.Strokes.{exact-action, exact-character, stands-tap, stands-tapped}
+use Rattle.console_core.proofs.Taps.{exact-action, exact-character, stands-tap, stands-tapped}
 use Rattle.console_core.proofs.Unscrolled.{moves-unscrolled, same_moved, same-scrolled, scroll-moved}
 use Rattle.console_core.proofs.Visits.{home-near, path-first, press-presses, press-turns, press-turns_none}
 use Rattle.keymap_core.specs.declared.action.Action.TheVariants as act

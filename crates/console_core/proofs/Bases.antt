@@ -6,7 +6,7 @@ use Rattle.console_core.proofs.Common.{slice_get-get_or, slice_get_within, own_o
 use Rattle.console_core.proofs.Common.{Symbol, composed_by, usable, IsBase}
 use Rattle.keymap_core.specs.Accents.{AccentValue, first_result}
 use Rattle.console_core.specs.Answers.{has_own}
-use Rattle.console_core.proofs.Strokes.{same-dead}
+use Rattle.console_core.proofs.Taps.{same-dead}
 use Rattle.console_core.specs.declared.explored.Symbol.TheVariants as symbol
 
 -- a pair has the base of a result

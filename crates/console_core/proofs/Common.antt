@@ -9,14 +9,14 @@ pub use Rattle.console_core.specs.History.{HasKey, HasKeys, HasNoLoads, IsNoLoad
 pub use Rattle.console_core.specs.History.{answer_to, answers_to, between, concerns, in_force, is_load, is_locked_after}
 pub use Rattle.console_core.specs.History.{is_on_after, is_press, is_second_in_force, loaded, resolved_event}
 unfoldable pub use Rattle.console_core.specs.History.{pressed, resolved}
-pub use Rattle.console_core.specs.Inner.Exploring.{AreKnown, AreViews, CanAccent, GoesHome, HasTap, HasTyped, IsBase}
-pub use Rattle.console_core.specs.Inner.Exploring.{IsExplored, IsStand, IsStroke, IsTapAt, IsView, LeadsByTap, LetsGo}
+pub use Rattle.console_core.specs.Inner.Exploring.{AreKnown, AreExplorations, CanAccent, GoesHome, HasTap, HasTyped, IsBase}
+pub use Rattle.console_core.specs.Inner.Exploring.{IsExplored, CanReturn, GoesAndTaps, IsTapAt, IsExploredFrom, LeadsByTap, LetsGo}
 pub use Rattle.console_core.specs.Inner.Exploring.{TypesOne, dead_tap, kept_if, map_of_explored, origin_in, typed_along}
 pub use Rattle.console_core.specs.Inner.Kept.{after_action, after_character, after_load, after_release, after_reset}
 pub use Rattle.console_core.specs.Inner.Kept.{next_pending, pending_after_dead_key}
-pub use Rattle.console_core.specs.Inner.Noting.{Adds, AddsOffer, AddsOffers, AreBehind, AreBehindTo, AreOffersOf}
-pub use Rattle.console_core.specs.Inner.Noting.{AreSeedsTo, AreSelectionsOf, IsBehind, IsInSome, IsOfferedUnlocked}
-pub use Rattle.console_core.specs.Inner.Noting.{IsWith}
+pub use Rattle.console_core.specs.Inner.Adding.{Adds, AddsOffer, AddsOffers, AreBehind, AreBehindTo, AreOffersOf}
+pub use Rattle.console_core.specs.Inner.Adding.{AreSeedsTo, AreSelectionsOf, IsBehind, IsInSome, IsOfferedUnlocked}
+pub use Rattle.console_core.specs.Inner.Adding.{IsWith}
 pub use Rattle.console_core.specs.Inner.Routes.{AllLeadHome, AreSettled, HasEntry, HasRoute, IsAstray, IsMet, LeadsHome}
 pub use Rattle.console_core.specs.Inner.Routes.{NoPressLeads, Routes, freed}
 pub use Rattle.console_core.specs.Inner.Searching.{AreAdded, AreDone, AreInOrder, AreMet, AreSafe, AreWithin, Entries}
@@ -34,7 +34,7 @@ pub use Rattle.console_core.specs.Moves.{releases, script_of_path, start, state_
 pub use Rattle.console_core.specs.Moves.{with_loads, with_lock_turned}
 pub use Rattle.console_core.specs.PackedWord.{bit_is_set, lock_bit, mark_bit, pending_from, word_lock, word_mark}
 pub use Rattle.console_core.specs.PackedWord.{word_second}
-pub use Rattle.console_core.specs.Planning.{Visits}
+pub use Rattle.console_core.specs.Visiting.{Visits}
 pub use Rattle.console_core.specs.Positions.{count_since, count_where, is_odd, last_where}
 pub use Rattle.console_core.specs.Reading.{NoneOf, SomeSince, answer_to_look, look_after, lowers_at, raises_at}
 pub use Rattle.console_core.specs.Reading.{remembered_after, taken_of, turns_at, unlocks_at}
@@ -47,7 +47,7 @@ pub use Rattle.console_core.specs.Resolved.ResolvedEvent.{PressedAction, Pressed
 pub use Rattle.console_core.specs.Resolved.ResolvedEvent.{WasReset}
 pub use Rattle.console_core.specs.Returning.{IsHome, NoTurnIsOneWay}
 pub use Rattle.console_core.specs.Sights.{AreSightsOf, HasNoDoubles, IsAdmitted, IsClean, IsOfferedIn, IsPendingFor}
-pub use Rattle.console_core.specs.Sights.{IsReachable, Note, Offers, SeesAlong, SeesBy, SeesNext, can_see, is_composed}
+pub use Rattle.console_core.specs.Sights.{IsReachable, Offers, SeesAlong, SeesBy, SeesNext, can_see, is_composed}
 pub use Rattle.console_core.specs.Sights.{is_selected, look_selected, selection_of}
 pub use Rattle.console_core.specs.Sticking.{Admits, AreOnAfter, AreUnder, IsSent, NeverForgets, NeverSticksUnder}
 pub use Rattle.console_core.specs.Sticking.{ReachesMoreThanFrom, ReleasesPressedKeys, SticksUnder, presses, state_limit}

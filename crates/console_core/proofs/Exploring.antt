@@ -4,8 +4,8 @@ use Rattle.console_core.proofs.Common.{None, refl, ap, subst, sym, ◌∙◌, in
 use Rattle.console_core.proofs.Common.{lookup, cases_Bool, Held, MapValue, Event, Press, Release, Move, Explored}
 use Rattle.console_core.proofs.Common.{Symbol, Tap, usable, Under, alone, State, start, IsMove, moved, state_after}
 use Rattle.console_core.proofs.Common.{IsPathFrom, state_from, events_along, IsHome, ComesHome, IsTapOf, CanTap}
-use Rattle.console_core.proofs.Common.{CanType, composed_of, map_of_explored, origin_in, IsExplored, IsStand, HasTap}
-use Rattle.console_core.proofs.Common.{LetsGo, IsStroke, HasTyped, TypesOne, LeadsHome, Routes, AllLeadHome, HasRoute}
+use Rattle.console_core.proofs.Common.{CanType, composed_of, map_of_explored, origin_in, IsExplored, CanReturn, HasTap}
+use Rattle.console_core.proofs.Common.{LetsGo, GoesAndTaps, HasTyped, TypesOne, LeadsHome, Routes, AllLeadHome, HasRoute}
 use Rattle.console_core.proofs.Common.{AreSettled, freed, state_of, Entry, Entries, IsTrail, IsReached, Searched}
 use Rattle.console_core.proofs.Common.{unscrolled, fun_ext}
 use Rattle.console_core.proofs.Entries.{none-found, found-has}
@@ -15,7 +15,7 @@ use Rattle.keymap_core.specs.declared.action.Lock.{Lock}
 use Rattle.keymap_core.specs.declared.action.Lock.TheVariants.{Caps, Num, Scroll, Alt}
 use Rattle.console_core.specs.Inner.Exploring.{IsOrigin}
 use Rattle.console_core.proofs.Returning.{near-met, strays-on, StraysTo, is-astray, near-is_home}
-use Rattle.console_core.proofs.Strokes.{added-by, adds, stroke-types, tap-direct, tap-dead, tap-composed}
+use Rattle.console_core.proofs.Taps.{added-by, adds, tap-types, tap-direct, tap-dead, tap-composed}
 use Rattle.console_core.proofs.Visits.{near-path, path-first, home-near}
 use Rattle.console_core.specs.declared.explored.Symbol.TheVariants as symbol
 
@@ -51,15 +51,15 @@ path-append u s path (move ∷ later) is more =
     let q = path-append u s path later is more.1 in
     ((subst (λ t. IsMove u t move) (sym q.1) more.0, q.0), ap (λ t. moved u t move) q.1)
 
--- ---- strokes
+-- ---- a tap and the moves around it
 
 -- a tap at a place, and all holders let go, where a route begins then
-pub stroke-freed : (u : Under) (o : State) (es : Entries) (routes : Routes) (j : ℕ) (x : Entry) (k : ℕ)
+pub tap-freed : (u : Under) (o : State) (es : Entries) (routes : Routes) (j : ℕ) (x : Entry) (k : ℕ)
     → (h h1 h2 now : List Event) (next : State) → IsReached u o es j x → AllLeadHome u routes
     → ((path : List Move) → IsTrail es j path → h1 ≡ events_along path ++ h) → h2 ≡ Release k ∷ Press k ∷ h1
     → LetsGo (state_of x.0) h2 now next → HasRoute routes (freed (state_of x.0))
-    → IsStroke u o (state_of x.0) k h now next
-stroke-freed u o es routes j x k h h1 h2 now next r all e1 e2 go has = record {
+    → GoesAndTaps u o (state_of x.0) k h now next
+tap-freed u o es routes j x k h h1 h2 now next r all e1 e2 go has = record {
   out = r.0;
   back = go.path;
   goes = r.2;
@@ -73,12 +73,12 @@ stroke-freed u o es routes j x k h h1 h2 now next r all e1 e2 go has = record {
 }
 
 -- a tap at a place, and the route home from there
-pub stroke-home : (m : MapValue) (o : State) (es : Entries) (j : ℕ) (x : Entry) (k : ℕ) → (h h1 h2 now : List Event)
+pub tap-home : (m : MapValue) (o : State) (es : Entries) (j : ℕ) (x : Entry) (k : ℕ) → (h h1 h2 now : List Event)
     → (moves : List Move) (next : State) → IsOrigin o → IsReached (alone m) o es j x
     → ((path : List Move) → IsTrail es j path → h1 ≡ events_along path ++ h) → h2 ≡ Release k ∷ Press k ∷ h1
     → LeadsHome (alone m) (state_of x.0) moves → now ≡ events_along (reverse moves) ++ h2 → next ≡ start
-    → IsStroke (alone m) o (state_of x.0) k h now next
-stroke-home m o es j x k h h1 h2 now moves next origin r e1 e2 home e is =
+    → GoesAndTaps (alone m) o (state_of x.0) k h now next
+tap-home m o es j x k h h1 h2 now moves next origin r e1 e2 home e is =
     let s : State = state_of x.0 in
     let second : s.is_second ≡ false =
     ap (λ t. t.is_second) (sym r.3) ∙ path-first m o r.0 r.2 ∙ origin.1 in
@@ -98,11 +98,11 @@ stroke-home m o es j x k h h1 h2 now moves next origin r e1 e2 home e is =
       home = subst (λ t. ComesHome (alone m) t) (sym is) ([], tt, ((λ i. refl), (λ l other. refl)));
     }
 
--- a stroke leads from one stand to the next
-pub stand-next : (m : MapValue) (o s : State) (k : ℕ) (h now : List Event) (next : State) → IsStand m o
-    → IsStroke (alone m) o s k h now next
-    → IsStand m next
-stand-next m o s k h now next st x =
+-- moves and a tap lead from one such state to the next
+pub returns-next : (m : MapValue) (o s : State) (k : ℕ) (h now : List Event) (next : State) → CanReturn m o
+    → GoesAndTaps (alone m) o s k h now next
+    → CanReturn m next
+returns-next m o s k h now next st x =
     let u : Under = alone m in
     let there : IsPathFrom u (state_from u o x.out) x.back = subst (λ t. IsPathFrom u t x.back) (sym x.there)
     x.returns in
@@ -119,12 +119,12 @@ stand-next m o s k h now next st x =
       home = x.home;
     }
 
--- a stand is an origin
-pub stand-origin : (m : MapValue) (s : State) → IsStand m s → IsOrigin s
-stand-origin m s st = (st.off, ap (λ t. t.is_second) (sym st.leads) ∙ path-first m start st.path st.is)
+-- such a state is an origin
+pub returns-origin : (m : MapValue) (s : State) → CanReturn m s → IsOrigin s
+returns-origin m s st = (st.off, ap (λ t. t.is_second) (sym st.leads) ∙ path-first m start st.path st.is)
 
-pub start-stand : (m : MapValue) → IsStand m start
-start-stand m = record {
+pub start-returns : (m : MapValue) → CanReturn m start
+start-returns m = record {
   free = λ i. refl;
   off = refl;
   path = [];
@@ -177,7 +177,7 @@ comes-route m es routes searched settled j x at (later, is, home) = elim (route-
 ]
 
 -- what can be tapped at all can be tapped in a complete exploration
-pub can-tap-met : (e : Explored) → IsExplored e → e.is_complete ≡ true → IsStand (map_of_explored e) (origin_in e)
+pub can-tap-met : (e : Explored) → IsExplored e → e.is_complete ≡ true → CanReturn (map_of_explored e) (origin_in e)
     → (t : Tap) → CanTap (map_of_explored e) t.is_plain t.symbol
     → HasTap e t
 can-tap-met e x complete st t (path, is, (later, goes, home), (k, tap)) =
@@ -189,7 +189,7 @@ can-tap-met e x complete st t (path, is, (later, goes, home), (k, tap)) =
     let (back, returns, at_home) = st.home in
     let base : State = state_from u o back in
     let first : base.is_second ≡ false =
-    path-first m o back returns ∙ (stand-origin m o st).1 in
+    path-first m o back returns ∙ (returns-origin m o st).1 in
     let near : unscrolled base ≡ unscrolled start = home-near base at_home first in
     let q = near-path u start base path near is in
     let all = path-append u o back path returns q.0 in
@@ -206,7 +206,7 @@ can-tap-met e x complete st t (path, is, (later, goes, home), (k, tap)) =
     (j, k, (y, at, route, tap-near u (state_after u path) s t.is_plain t.symbol k same tap))
 
 -- and what an exploration finds can be tapped
-pub tap-can : (e : Explored) → IsExplored e → IsStand (map_of_explored e) (origin_in e) → (t : Tap) → HasTap e t
+pub tap-can : (e : Explored) → IsExplored e → CanReturn (map_of_explored e) (origin_in e) → (t : Tap) → HasTap e t
     → CanTap (map_of_explored e) t.is_plain t.symbol
 tap-can e x st t (j, k, (y, at, has, tap)) =
     let m : MapValue = map_of_explored e in
@@ -224,33 +224,33 @@ tap-can e x st t (j, k, (y, at, has, tap)) =
 -- ---- one character
 
 -- by one tap
-pub types-direct : (m : MapValue) (o s : State) (c k : ℕ) (h now : List Event) (next : State) → IsStand m o
-    → IsStroke (alone m) o s k h now next → IsTapOf (alone m) s true (symbol.Character c) k → CanType m c
+pub types-direct : (m : MapValue) (o s : State) (c k : ℕ) (h now : List Event) (next : State) → CanReturn m o
+    → GoesAndTaps (alone m) o s k h now next → IsTapOf (alone m) s true (symbol.Character c) k → CanType m c
     → TypesOne m c o h now next
 types-direct m o s c k h now next st x tap can = record {
   can = can;
-  stand = stand-next m o s k h now next st x;
+  can_return = returns-next m o s k h now next st x;
   added = added-by x;
   events = adds x;
   types = λ g cs before.
-      stroke-types m o s k h now next None None cs (cs ++ c ∷ []) x (λ g t. tap-direct m g s cs c k t tap) g before;
+      tap-types m o s k h now next None None cs (cs ++ c ∷ []) x (λ g t. tap-direct m g s cs c k t tap) g before;
 }
 
 -- by a dead key and a tap behind it
 pub types-composed : (m : MapValue) (o s mid t : State) (i : ℕ) (y : Symbol) (c k n : ℕ) (h between now : List Event)
-    → (next : State) → IsStand m o → IsStroke (alone m) o s k h between mid
-    → IsTapOf (alone m) s false (symbol.DeadKey i) k → usable m i ≡ true → IsStroke (alone m) mid t n between now next
+    → (next : State) → CanReturn m o → GoesAndTaps (alone m) o s k h between mid
+    → IsTapOf (alone m) s false (symbol.DeadKey i) k → usable m i ≡ true → GoesAndTaps (alone m) mid t n between now next
     → IsTapOf (alone m) t true y n → composed_of m i y ≡ Some c → CanType m c
     → TypesOne m c o h now next
 types-composed m o s mid t i y c k n h between now next st x dead can_use z tap made can = record {
   can = can;
-  stand = stand-next m mid t n between now next (stand-next m o s k h between mid st x) z;
+  can_return = returns-next m mid t n between now next (returns-next m o s k h between mid st x) z;
   added = added-by z ++ added-by x;
   events = adds z ∙ ap (λ w. added-by z ++ w) (adds x) ∙ sym (append_assoc (added-by z) (added-by x) h);
   types = λ g cs before.
       subst (λ w. HasTyped m w next None (cs ++ c ∷ [])) (sym (append_assoc (added-by z) (added-by x) g))
-      (stroke-types m mid t n between now next (Some i) None cs (cs ++ c ∷ []) z
+      (tap-types m mid t n between now next (Some i) None cs (cs ++ c ∷ []) z
       (λ g b. tap-composed m g t cs i y c n b tap can_use made) (added-by x ++ g)
-      (stroke-types m o s k h between mid None (Some i) cs cs x (λ g b. tap-dead m g s cs i k b dead can_use) g
+      (tap-types m o s k h between mid None (Some i) cs cs x (λ g b. tap-dead m g s cs i k b dead can_use) g
       before));
 }

@@ -1,3 +1,4 @@
+pub mod Adding
 pub mod Agreeing
 pub mod Approaching
 pub mod Bases
@@ -20,9 +21,9 @@ pub mod GoingBack
 pub mod Growing
 pub mod Headline
 pub mod Keeping
+pub mod Known
 pub mod Looking
 pub mod MovingKeys
-pub mod Noting
 pub mod Offering
 pub mod OneMap
 pub mod OneMore
@@ -31,9 +32,9 @@ pub mod PlainLooks
 pub mod Prefixes
 pub mod Reaching
 pub mod Readings
+pub mod Refused
 pub mod Results
 pub mod Returning
-pub mod Refused
 pub mod RoutesHome
 pub mod Runs
 pub mod SameStates
@@ -43,12 +44,11 @@ pub mod Seeing
 pub mod Shown
 pub mod Since
 pub mod Staying
-pub mod Strokes
+pub mod Taps
 pub mod Traps
 pub mod Twice
 pub mod Typings
 pub mod Unscrolled
-pub mod Views
 pub mod Visible
 pub mod Visits
 pub mod WordBits

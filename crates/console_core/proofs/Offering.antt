@@ -4,15 +4,15 @@ use Rattle.console_core.proofs.Common.{◌∷◌, ◌++◌, length, refl, slice_
 use Rattle.console_core.proofs.Common.{arith, Contains, IsDistinct, keys_of, lookup, is_some, cases_lt, true≢false}
 use Rattle.console_core.proofs.Common.{append-nil, Contains-push_cases, slice_get_within, MapValue, Move, LetGo}
 use Rattle.console_core.proofs.Common.{Selection, Offer, Sights, Held, usable, Under, alone, State, start, IsMove}
-use Rattle.console_core.proofs.Common.{moved, IsPath, state_after, IsPathFrom, state_from, IsForgetful, Note}
+use Rattle.console_core.proofs.Common.{moved, IsPath, state_after, IsPathFrom, state_from, IsForgetful}
 use Rattle.console_core.proofs.Common.{IsOfferedIn, AreSightsOf, selection_of, HasNoDoubles, IsMet, state_of, Entry}
 use Rattle.console_core.proofs.Common.{Entries, Grows, AreWithin, AreAdded, IsMetBy, AreMet, IsReached, LeavesScroll}
 use Rattle.console_core.proofs.Common.{Searched, AreSafe, IsStuck, unscrolled, IsBehind, AreSeedsTo, AreBehindTo}
 use Rattle.console_core.proofs.Common.{AreBehind, IsOfferedUnlocked, AreSelectionsOf, AreOffersOf}
 use Rattle.indexmap.proofs.IndexTableLemmas.Probe.{pigeonhole}
 use Rattle.keymap_core.specs.declared.action.Lock.TheVariants.{Scroll}
-use Rattle.console_core.specs.Sights.{IsNoted, Has, accents_in, IsOfferedAlong}
-use Rattle.console_core.specs.Inner.Noting.{AddsState, AreAccentsOf, AreComposing}
+use Rattle.console_core.specs.Sights.{CanCompose, CanOffer, Enumerates, accents_in, IsOfferedAlong}
+use Rattle.console_core.specs.Inner.Adding.{AddsState, AreAccentsOf, IsInSome}
 use Rattle.console_core.proofs.Unscrolled.{same-scrolled}
 use Rattle.console_core.proofs.Behind.{behind-offered, behind-more, behind-path, path-split}
 use Rattle.console_core.proofs.Exploring.{home-start}
@@ -299,23 +299,23 @@ near-behind u accent met es searched behind path is (later, before, at, offered)
     (subst (λ t. IsNear es t) (sym parts.2)
     (near-later u accent met es searched behind later before parts.0 parts.1 offered))
 
--- a selection is noted of a state behind
-behind-noted : (m : MapValue) (accent : ℕ) (s : State) (y : Selection) → IsBehind (alone m) accent s
-    → selection_of s ≡ y → IsNoted m (Note.Composing accent y)
-behind-noted m accent s y (path, is, offered, leads) e =
-    (path, is, (offered, ap (λ t. selection_of t) leads ∙ e))
+-- the selection of a state behind
+behind-composes : (m : MapValue) (accent : ℕ) (s : State) (y : Selection) → IsBehind (alone m) accent s
+    → selection_of s ≡ y → CanCompose m accent y
+behind-composes m accent s y (path, is, offered, leads) e =
+    (path, is, offered, ap (λ t. selection_of t) leads ∙ e)
 
 pub composing-behind : (m : MapValue) (accent : ℕ) (met es : Entries) (ys : List Selection)
     → Searched (alone m) start met (length met) (length met) → AreBehind (alone m) accent met es
-    → AreSelectionsOf es ys → AreComposing m accent ys
+    → AreSelectionsOf es ys → Enumerates (CanCompose m accent) ys
 composing-behind m accent met es ys searched behind are = record {
-  all = λ y (path, is, (offered, e)).
+  all = λ y (path, is, offered, e).
       let (j, x, at, near) =
       near-behind (alone m) accent met es searched behind path is offered in
       are.all y (j, x, at, slice_get_within es j x at, ap (λ s. selection_of s) near ∙ e);
   only = λ y has.
       let (j, x, at, lt, e) = are.only y has in
-      behind-noted m accent (state_of x.0) y (behind.seeds.behind j x at).0 e;
+      behind-composes m accent (state_of x.0) y (behind.seeds.behind j x at).0 e;
   once = are.once;
 }
 
@@ -336,15 +336,15 @@ start-behind m accent met searched can (j, x, at, unlocked, offers) =
 
 pub composing-all : (m : MapValue) (accent : ℕ) (met : Entries) (ys : List Selection)
     → Searched (alone m) start met (length met) (length met) → usable m accent ≡ true
-    → IsOfferedUnlocked (alone m) met accent → AreSelectionsOf met ys → AreComposing m accent ys
+    → IsOfferedUnlocked (alone m) met accent → AreSelectionsOf met ys → Enumerates (CanCompose m accent) ys
 composing-all m accent met ys searched can offered are = record {
-  all = λ y (path, is, (along, e)).
+  all = λ y (path, is, along, e).
       let (j, x, at, near) = near-met (alone m) met searched path is in
       are.all y (j, x, at, slice_get_within met j x at, ap (λ s. selection_of s) near ∙ e);
   only = λ y has.
       let (j, x, at, lt, e) = are.only y has in
       let r : IsReached (alone m) start met j x = searched.reached j x at in
-      behind-noted m accent (state_of x.0) y
+      behind-composes m accent (state_of x.0) y
       (subst (λ t. IsBehind (alone m) accent t) r.3
       (behind-path (alone m) accent start r.0 (start-behind m accent met searched can offered) r.2))
       e;
@@ -359,14 +359,14 @@ accents-push [] o = refl
 accents-push (x ∷ offers) o = ap (λ z. x.accent ∷ z) (accents-push offers o)
 
 pub offers-more : (m : MapValue) (accents : List ℕ) (offers now : List Offer) (o : Offer) → AreOffersOf m accents offers
-    → now ≡ offers ++ o ∷ [] → AreComposing m o.accent o.selections.items
+    → now ≡ offers ++ o ∷ [] → Enumerates (CanCompose m o.accent) o.selections.items
     → AreOffersOf m (accents ++ o.accent ∷ []) now
 offers-more m accents offers now o before e is = subst (λ z. AreOffersOf m (accents ++ o.accent ∷ []) z) (sym e)
     (record {
       all = accents-push offers o ∙ ap (λ z. z ++ o.accent ∷ []) before.all;
       each = λ p has. elim (Contains-push_cases offers o p has) [
         | inl was ↦ before.each p was
-        | inr same ↦ subst (λ q. AreComposing m q.accent q.selections.items) same is
+        | inr same ↦ subst (λ q. Enumerates (CanCompose m q.accent) q.selections.items) same is
       ];
     })
 
@@ -379,17 +379,34 @@ has-offer (o ∷ offers) accent (suc k, lt, at) =
     let (p, (n, below, is), same) = has-offer offers accent (k, omega (arith, lt), at) in
     (p, (suc n, omega (arith, below), is), same)
 
+-- where an accent can be pending, an offer of it has the selection
+pub composing-has : (m : MapValue) (x : Sights) (accent : ℕ) (y : Selection) → AreSightsOf m x → CanCompose m accent y
+    → (o : Offer) × Contains x.offers.items o × (o.accent ≡ accent) × Contains o.selections.items y
+composing-has m x accent y are (path, is, (later, before, at, here), e) =
+    let parts = path-split (alone m) start later before (subst (λ p. IsPath (alone m) p) at is) in
+    let (o, has, same) = has-offer x.offers.items accent (are.accents.all accent (before, parts.0, here)) in
+    let can : CanCompose m accent y = (path, is, (later, before, at, here), e) in
+    (o, has, same, (are.composing o has).all y (subst (λ a. CanCompose m a y) (sym same) can))
+
 pub sights-are : (m : MapValue) (met : Entries) (x : Sights) (accents : List ℕ)
     → Searched (alone m) start met (length met) (length met) → AreSelectionsOf met x.selections.items
     → AreAccentsOf (alone m) met accents → AreOffersOf m accents x.offers.items
     → (x.forgets ≡ true → (j k : ℕ) × IsStuck (alone m) met j k)
     → (x.forgets ≡ false → AreSafe (alone m) met (length met))
     → AreSightsOf m x
-sights-are m met x accents searched selections offered offers some none = record {
-  noted = λ n. (only n, all n);
-  selections = selections.once;
-  accents = subst (λ z. HasNoDoubles z) (sym offers.all) offered.once;
-  composing = λ o has. (offers.each o has).once;
+sights-are m met x accents searched selections offers offered some none = record {
+  selections = enumerates-met (λ y s. selection_of s ≡ y) x.selections.items selections
+      (λ y s t near e. ap (λ z. selection_of z) near ∙ e);
+  accents = subst (λ z. Enumerates (CanOffer m) z) (sym offered.all)
+      (enumerates-met (λ a s. IsOfferedIn u s a) accents offers (λ a s t near here. offered-near u s t a near here));
+  composing = offered.each;
+  forgets = (
+    (λ e. let (j, k, (z, at, (i, is))) = some e in reached j z at (λ s. IsForgetful u s) (i, k, is)),
+    (λ (path, is, forgetful).
+        let (j, z, at, near) = near-met u met searched path is in
+        by x.forgets refl
+        (λ e. none e j z at (slice_get_within met j z at) (subst (λ s. IsForgetful u s) (sym near) forgetful))),
+  );
 }
   where
     u : Under
@@ -401,52 +418,19 @@ sights-are m met x accents searched selections offered offers some none = record
         let r : IsReached u start met j z = searched.reached j z at in
         (r.0, r.2, subst P (sym r.3) is)
 
-    offer-of : (accent : ℕ) → Contains accents accent
-        → (o : Offer) × Contains x.offers.items o × (o.accent ≡ accent)
-    offer-of accent has = has-offer x.offers.items accent (subst (λ z. Contains z accent) (sym offers.all) has)
+    -- what is so in a state that was met is so where moves lead
+    enumerates-met : {X : Type 0} (Q : X → State → Type 0) (xs : List X)
+        → Enumerates (λ y. IsInSome met (length met) (Q y)) xs
+        → ((y : X) (s t : State) → unscrolled t ≡ unscrolled s → Q y s → Q y t)
+        → Enumerates (λ y. (path : List Move) × IsPath u path × Q y (state_after u path)) xs
+    enumerates-met Q xs are near_so = record {
+      all = λ y (path, is, here).
+          let (j, z, at, near) = near-met u met searched path is in
+          are.all y (j, z, at, slice_get_within met j z at, near_so y (state_after u path) (state_of z.0) near here);
+      only = λ y has. let (j, z, at, lt, is) = are.only y has in reached j z at (Q y) is;
+      once = are.once;
+    }
 
-    only : (n : Note) → Has x n → IsNoted m n
-    only (Note.Selected y) has =
-        let (j, z, at, lt, e) = selections.only y has in reached j z at (λ s. selection_of s ≡ y) e
-    only (Note.Offered accent) has =
-        let (j, z, at, lt, is) = offered.only accent (subst (λ q. Contains q accent) offers.all has) in
-        reached j z at (λ s. IsOfferedIn u s accent) is
-    only (Note.Composing accent y) (o, has, same, there) =
-        subst (λ a. IsNoted m (Note.Composing a y)) same ((offers.each o has).only y there)
-    only Note.Forgets e =
-        let (j, k, (z, at, (i, is))) = some e in reached j z at (λ s. IsForgetful u s) (i, k, is)
-
-    all : (n : Note) → IsNoted m n → Has x n
-    all (Note.Selected y) (path, is, e) =
-        let (j, z, at, near) = near-met u met searched path is in
-        selections.all y (j, z, at, slice_get_within met j z at, ap (λ s. selection_of s) near ∙ e)
-    all (Note.Offered accent) (path, is, here) =
-        let (j, z, at, near) = near-met u met searched path is in
-        subst (λ q. Contains q accent) (sym offers.all)
-        (offered.all accent
-        (j, z, at, slice_get_within met j z at, offered-near u (state_after u path) (state_of z.0) accent near here))
-    all (Note.Composing accent y) (path, is, ((later, before, at, here), e)) =
-        let parts = path-split u start later before (subst (λ p. IsPath u p) at is) in
-        let (o, has, same) =
-        offer-of accent
-        (let (j, z, place, near) = near-met u met searched before parts.0 in
-        offered.all accent (
-          j,
-          z,
-          place,
-          slice_get_within met j z place,
-          offered-near u (state_after u before) (state_of z.0) accent near here,
-        )) in (
-          o,
-          has,
-          same,
-          (offers.each o has).all y
-              (subst (λ a. IsNoted m (Note.Composing a y)) (sym same) (path, is, ((later, before, at, here), e))),
-        )
-    all Note.Forgets (path, is, forgetful) = by x.forgets refl
-      where
-        by : (b : Bool) → x.forgets ≡ b → x.forgets ≡ true
-        by true e = e
-        by false e =
-            let (j, z, at, near) = near-met u met searched path is in
-            absurd (none e j z at (slice_get_within met j z at) (subst (λ s. IsForgetful u s) (sym near) forgetful))
+    by : (b : Bool) → x.forgets ≡ b → (x.forgets ≡ false → ⊥) → x.forgets ≡ true
+    by true e never = e
+    by false e never = absurd (never e)

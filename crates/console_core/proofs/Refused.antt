@@ -23,7 +23,7 @@ use Rattle.console_core.proofs.Scripts.{Reached}
 use Rattle.console_core.proofs.Seeing.{one_map, admitted-before, taken-dead, pends}
 use Rattle.console_core.proofs.Staying.{Stays, KeepsLetGo, KeepsHeld, LeadsOn, follows-look, follows-start}
 use Rattle.console_core.proofs.Staying.{clean-spared, stays-press, stays-release, stays-reset}
-use Rattle.console_core.proofs.Strokes.{answer_at, look-answer}
+use Rattle.console_core.proofs.Taps.{answer_at, look-answer}
 use Rattle.keymap_core.specs.declared.action.Action.TheVariants as act
 use Rattle.console_core.specs.declared.event.Answer.TheVariants as answer
 use Rattle.console_core.specs.declared.explored.Symbol.TheVariants as symbol

@@ -13,7 +13,7 @@ use Rattle.console_core.proofs.Behind.{path-split}
 use Rattle.console_core.proofs.Going.{going-sees, pending-along, tap-pending}
 use Rattle.console_core.proofs.OneMore.{resolved-start, pending-start}
 use Rattle.console_core.proofs.Scripts.{idle-none, stands-from, stands-start, holder-pressed}
-use Rattle.console_core.proofs.Strokes.{stands-tap}
+use Rattle.console_core.proofs.Taps.{stands-tap}
 use Rattle.console_core.proofs.Visits.{press-presses}
 use Rattle.keymap_core.specs.declared.action.Action.TheVariants as act
 use Rattle.console_core.specs.declared.explored.Symbol.TheVariants as symbol

@@ -6,7 +6,7 @@ use Rattle.console_core.proofs.Common.{false_from_ne_true, reverse-append, rever
 use Rattle.console_core.proofs.Common.{All-nil, none-some, same_Some, MapValue, Event, Answer, between, resolved}
 use Rattle.console_core.proofs.Common.{answers_to, answer_to, accent_pending_after, pressed, HasKey, HasKeys, alone}
 use Rattle.console_core.proofs.Common.{State, start, state_from, events_along, pending, CanType, IsAsNew, plainly}
-use Rattle.console_core.proofs.Common.{types_something, GoesHome, HasTyped, IsStand, TypesOne, kept_if, typed_along}
+use Rattle.console_core.proofs.Common.{types_something, GoesHome, HasTyped, CanReturn, TypesOne, kept_if, typed_along}
 use Rattle.console_core.proofs.Common.{HoldsSome, Stands}
 use Rattle.std.proofs.Common.{append-nil}
 use Rattle.std.proofs.Math.Seq.{drop-append_seam}
@@ -17,11 +17,11 @@ use Rattle.console_core.specs.declared.typing.Typing.{Typing}
 use Rattle.keymap_core.proofs.Lists.{All-reversed}
 use Rattle.console_core.specs.Typing.{AreEnds, AreParts, AreTyped, Types, characters_of}
 use Rattle.console_core.proofs.Deliveries.{reverse-cons}
-use Rattle.console_core.proofs.Exploring.{home-start, start-stand}
+use Rattle.console_core.proofs.Exploring.{home-start, start-returns}
 use Rattle.console_core.proofs.Scripts.{idle-none, stands-start}
 use Rattle.console_core.proofs.OneMore.{pending-start, resolved-start}
 use Rattle.console_core.proofs.Going.{pending-is}
-use Rattle.console_core.proofs.Strokes.{walked}
+use Rattle.console_core.proofs.Taps.{walked}
 use Rattle.console_core.proofs.Visits.{path-first}
 
 -- a console that stands at the start, with nothing pending, is as a new one
@@ -74,7 +74,7 @@ typed-answers m es cs e =
 pub record HaveBeenTyped (m : MapValue) (cs : List ℕ) (place : ℕ) (keyed : List Keyed) (es : List Event)
     (s : State) : Type 0
   where
-    pub stand : IsStand m s
+    pub can_return : CanReturn m s
     pub characters : characters_of keyed ≡ take place cs
     pub ends : AreEnds 0 keyed (length es)
     pub parts : AreParts m cs keyed es
@@ -86,7 +86,7 @@ pub typed-none : (m : MapValue) (cs : List ℕ) (keyed : List Keyed) (es : List 
     → s ≡ start
     → HaveBeenTyped m cs 0 keyed es s
 typed-none m cs keyed es s none nothing is = record {
-  stand = subst (λ t. IsStand m t) (sym is) (start-stand m);
+  can_return = subst (λ t. CanReturn m t) (sym is) (start-returns m);
   characters = ap characters_of none;
   ends = subst (λ z. AreEnds 0 z (length es)) (sym none) (omega arith);
   parts = subst (λ z. AreParts m cs z es) (sym none) (λ i k at. absurd (none-some k at));
@@ -146,7 +146,7 @@ pub types-alone : (m : MapValue) (c : ℕ) (s next : State) (old now : List Even
     → TypesOne m c s (reverse old) (reverse now) next → TypesOne m c s [] (reverse (drop (length old) now)) next
 types-alone m c s next old now types = record {
   can = types.can;
-  stand = types.stand;
+  can_return = types.can_return;
   added = types.added;
   events = ap (λ z. reverse (drop (length old) z)) (added-behind m c s next old now types)
       ∙ ap (λ z. reverse z) (drop-append_seam old (reverse types.added)) ∙ reverse-reverse types.added
@@ -159,7 +159,7 @@ pub types-behind : (m : MapValue) (c : ℕ) (s next : State) (old es now : List 
     → TypesOne m c s [] (reverse es) next → now ≡ old ++ es → TypesOne m c s (reverse old) (reverse now) next
 types-behind m c s next old es now types e = record {
   can = types.can;
-  stand = types.stand;
+  can_return = types.can_return;
   added = types.added;
   events = ap (λ z. reverse z) e ∙ reverse-append old es
       ∙ ap (λ z. z ++ reverse old) (types.events ∙ append-nil types.added);
@@ -185,7 +185,7 @@ typed-one m cs place keyed after es now s k next x lt is ends types e =
     sym (length-map keyed (λ (k : Keyed). k.character)) ∙ ap length x.characters
     ∙ length-take-le place cs x.below in
     record {
-      stand = types.stand;
+      can_return = types.can_return;
       characters = ap characters_of e ∙ map_push (λ (k : Keyed). k.character) keyed k
           ∙ ap (λ z. z ++ c ∷ []) x.characters ∙ sym more;
       ends = subst (λ z. AreEnds 0 z (length now)) (sym e)
@@ -219,7 +219,7 @@ typed-all m cs place x es s typed all (back, is, home, off, e) =
     let there : State = state_from (alone m) s back in
     let first : there.is_second ≡ false =
     path-first m s back is
-    ∙ (ap (λ t. t.is_second) (sym typed.stand.leads) ∙ path-first m start typed.stand.path typed.stand.is) in
+    ∙ (ap (λ t. t.is_second) (sym typed.can_return.leads) ∙ path-first m start typed.can_return.path typed.can_return.is) in
     let ends : there ≡ start = home-start there home first off in
     let end : HasTyped m (reverse now) start None cs =
     subst (λ g. HasTyped m g start None cs) (sym e)

@@ -3,12 +3,14 @@ use Rattle.console_core.proofs.Common.{suc, ◌≡◌, ◌⊎◌, inl, inr, ℕ,
 use Rattle.console_core.proofs.Common.{ap, subst, sym, ◌∙◌, arith, ◌==◌, ◌||◌, ◌%◌, Contains, list_any, and_parts}
 use Rattle.console_core.proofs.Common.{eqb-true, eq-eqb, true≢false, Cell, Char, Act, Selection, Sight, Offer, Sights}
 use Rattle.console_core.proofs.Common.{MapValue, key_count, slot_of, alone, state_after, look_selected, SeesBy}
-use Rattle.console_core.proofs.Common.{is_selected, is_composed, can_see, Note, AreSightsOf, IsReachable, selection_of}
+use Rattle.console_core.proofs.Common.{is_selected, is_composed, can_see, AreSightsOf, IsReachable, selection_of}
 use Rattle.std.specs.List.{range_with_len}
 use Rattle.std.proofs.lemmas.List.Folds.{list_any_at}
 use Rattle.std.proofs.lemmas.List.FromFn.{get_or-range_with_len}
 use Rattle.console_core.specs.Sights.{slot_in, column_in, is_same, is_character, sees_by, is_seeing}
-use Rattle.console_core.specs.Inner.Noting.{IsSelectedBy, IsComposedBy}
+use Rattle.console_core.specs.Sights.{CanCompose}
+use Rattle.console_core.specs.Inner.Adding.{IsSelectedBy, IsComposedBy}
+use Rattle.console_core.proofs.Offering.{composing-has}
 use Rattle.console_core.specs.declared.selection.Sight.TheVariants as sight
 
 -- two tests that pass alike are one
@@ -131,30 +133,30 @@ true-composed m offers accent x passes =
 pub sees-all : (m : MapValue) (s : Sights) → AreSightsOf m s → (x : Sight) → can_see m s x ≡ true → IsReachable m x
 sees-all m s are (sight.Pair accent c) e =
     let (o, has, same, (y, there, (k, lt, sees))) = true-composed m s.offers.items accent (sight.Pair accent c) e in
-    let (path, is, (offered, leads)) = (are.noted (Note.Composing accent y)).0 (o, has, same, there) in
+    let (path, is, offered, leads) = subst (λ a. CanCompose m a y) same ((are.composing o has).only y there) in
     (path, is, offered, (k, lt, subst (λ z. SeesBy m z k (sight.Pair accent c)) (sym leads) sees))
 sees-all m s are (sight.Cell slot column) e =
     let (y, there, (k, lt, sees)) = true-selected m s.selections.items (sight.Cell slot column) e in
-    let (path, is, leads) = (are.noted (Note.Selected y)).0 there in
+    let (path, is, leads) = are.selections.only y there in
     (path, is, tt, (k, lt, subst (λ z. SeesBy m z k (sight.Cell slot column)) (sym leads) sees))
 sees-all m s are (sight.Locks slot caps num) e =
     let (y, there, (k, lt, sees)) = true-selected m s.selections.items (sight.Locks slot caps num) e in
-    let (path, is, leads) = (are.noted (Note.Selected y)).0 there in
+    let (path, is, leads) = are.selections.only y there in
     (path, is, tt, (k, lt, subst (λ z. SeesBy m z k (sight.Locks slot caps num)) (sym leads) sees))
 
 pub all-seen : (m : MapValue) (s : Sights) → AreSightsOf m s → (x : Sight) → IsReachable m x → can_see m s x ≡ true
 all-seen m s are (sight.Pair accent c) (path, is, offered, (k, lt, sees)) =
     let y : Selection = selection_of (state_after (alone m) path) in
-    let (o, has, same, there) = (are.noted (Note.Composing accent y)).1 (path, is, (offered, refl)) in
+    let (o, has, same, there) = composing-has m s accent y are (path, is, offered, refl) in
     composed-true m s.offers.items accent (sight.Pair accent c) (o, has, same, (y, there, (k, lt, sees)))
 all-seen m s are (sight.Cell slot column) (path, is, x, (k, lt, sees)) =
     let y : Selection = selection_of (state_after (alone m) path) in
     selected-true m s.selections.items (sight.Cell slot column)
-    (y, (are.noted (Note.Selected y)).1 (path, is, refl), (k, lt, sees))
+    (y, are.selections.all y (path, is, refl), (k, lt, sees))
 all-seen m s are (sight.Locks slot caps num) (path, is, x, (k, lt, sees)) =
     let y : Selection = selection_of (state_after (alone m) path) in
     selected-true m s.selections.items (sight.Locks slot caps num)
-    (y, (are.noted (Note.Selected y)).1 (path, is, refl), (k, lt, sees))
+    (y, are.selections.all y (path, is, refl), (k, lt, sees))
 
 -- of all but pairs, by the selections
 pub seen-otherwise : (m : MapValue) (s : Sights) (ys : List Selection) (x : Sight)

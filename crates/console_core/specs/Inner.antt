@@ -2,7 +2,7 @@
 pub mod HeldBytes
 pub mod Kept
 pub mod Exploring
-pub mod Noting
+pub mod Adding
 pub mod Routes
 pub mod Searching
 pub mod Showing

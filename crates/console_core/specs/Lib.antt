@@ -10,7 +10,7 @@ pub mod Moves
 pub mod Packed
 pub mod PackedWord
 pub mod Plain
-pub mod Planning
+pub mod Visiting
 pub mod Positions
 pub mod Raw
 pub mod Reading

@@ -113,46 +113,43 @@ IsReachable m x =
     (path : List Move) × IsPath (alone m) path × CanPend m path x
     × ((k : ℕ) × (k < key_count) × SeesBy m (selection_of (state_after (alone m) path)) k x)
 
--- What is noted of a path: the selection where it leads, that an accent is offered there, the selection where an accent
--- can be pending, and that a holder looks up a character there.
-pub data Note : Type 0 where
-  Selected : Selection → Note
-  Offered : ℕ → Note
-  Composing : ℕ → Selection → Note
-  Forgets : Note
+-- What moves lead to: a selection, a state that offers an accent, a selection where an accent can be pending, and a
+-- state
+-- where a holder looks up a character.
+abbrev pub CanSelect : MapValue → Selection → Type 0
+CanSelect m y = (path : List Move) × IsPath (alone m) path × (selection_of (state_after (alone m) path) ≡ y)
 
-abbrev pub IsNoteOf : MapValue → List Move → Note → Type 0
-IsNoteOf m path (Note.Selected y) = selection_of (state_after (alone m) path) ≡ y
-IsNoteOf m path (Note.Offered accent) = IsOfferedIn (alone m) (state_after (alone m) path) accent
-IsNoteOf m path (Note.Composing accent y) =
-    IsOfferedAlong (alone m) path accent × (selection_of (state_after (alone m) path) ≡ y)
-IsNoteOf m path Note.Forgets = IsForgetful (alone m) (state_after (alone m) path)
+abbrev pub CanOffer : MapValue → ℕ → Type 0
+CanOffer m accent =
+    (path : List Move) × IsPath (alone m) path × IsOfferedIn (alone m) (state_after (alone m) path) accent
 
--- it is noted of some path
-abbrev pub IsNoted : MapValue → Note → Type 0
-IsNoted m n = (path : List Move) × IsPath (alone m) path × IsNoteOf m path n
+abbrev pub CanCompose : MapValue → ℕ → Selection → Type 0
+CanCompose m accent y =
+    (path : List Move) × IsPath (alone m) path × IsOfferedAlong (alone m) path accent
+    × (selection_of (state_after (alone m) path) ≡ y)
 
--- it is among what a search noted
-abbrev pub accents_in : List Offer → List ℕ
-accents_in offers = map (λ o. o.accent) offers
-
-abbrev pub Has : Sights → Note → Type 0
-Has x (Note.Selected y) = Contains x.selections.items y
-Has x (Note.Offered accent) = Contains (accents_in x.offers.items) accent
-Has x (Note.Composing accent y) =
-    (o : Offer) × Contains x.offers.items o × (o.accent ≡ accent) × Contains o.selections.items y
-Has x Note.Forgets = x.forgets ≡ true
+abbrev pub CanForget : MapValue → Type 0
+CanForget m = (path : List Move) × IsPath (alone m) path × IsForgetful (alone m) (state_after (alone m) path)
 
 -- no two elements are the same
 abbrev pub HasNoDoubles : {X : Type 0} → List X → Type 0
 HasNoDoubles xs = AllPairs (λ x y. x ≢ y) xs
 
--- What a search noted is what is noted of paths, each once.
+-- the list is all of which P holds, each once
+pub record Enumerates {X : Type 0} (P : X → Type 0) (xs : List X) : Type 0 where
+  pub all : (x : X) → P x → Contains xs x
+  pub only : (x : X) → Contains xs x → P x
+  pub once : HasNoDoubles xs
+
+abbrev pub accents_in : List Offer → List ℕ
+accents_in offers = map (λ o. o.accent) offers
+
+-- What a search found is all that moves lead to.
 pub record AreSightsOf (m : MapValue) (x : Sights) : Type 0 where
-  pub noted : (n : Note) → (Has x n → IsNoted m n) × (IsNoted m n → Has x n)
-  pub selections : HasNoDoubles x.selections.items
-  pub accents : HasNoDoubles (accents_in x.offers.items)
-  pub composing : (o : Offer) → Contains x.offers.items o → HasNoDoubles o.selections.items
+  pub selections : Enumerates (CanSelect m) x.selections.items
+  pub accents : Enumerates (CanOffer m) (accents_in x.offers.items)
+  pub composing : (o : Offer) → Contains x.offers.items o → Enumerates (CanCompose m o.accent) o.selections.items
+  pub forgets : (x.forgets ≡ true → CanForget m) × (CanForget m → x.forgets ≡ true)
 
 -- What a press after a list sees can be seen: after all lists if no path leads to where a holder looks up a character,
 -- and else after clean ones.
@@ -195,7 +192,7 @@ is_selected m ys x = list_any (λ y. is_seeing m y x) ys
 abbrev pub is_composed : MapValue → List Offer → ℕ → Sight → Bool
 is_composed m offers accent x = list_any (λ o. (o.accent == accent) && is_selected m o.selections.items x) offers
 
--- whether it can be seen, by what a search noted
+-- whether it can be seen, by what a search found
 abbrev pub can_see : MapValue → Sights → Sight → Bool
 can_see m s (sight.Pair accent c) = is_composed m s.offers.items accent (sight.Pair accent c)
 can_see m s x = is_selected m s.selections.items x

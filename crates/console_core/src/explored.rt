@@ -4,8 +4,8 @@ ghost use Rattle.std.specs.Prelude.{◌≡◌, true, false, reverse, slice_get, 
 ghost use Rattle.std.specs.Prelude.{MatchOption, ℕ};
 ghost use Rattle.console_core.specs.Moves.{Under, alone, map_in};
 ghost use Rattle.console_core.specs.Typing.{IsTapOf, cell_of};
-ghost use Rattle.console_core.specs.Inner.Exploring.{map_of_explored, origin_in, IsExplored, IsTapAt, HasTap, IsStroke};
-ghost use Rattle.console_core.specs.Inner.Exploring.{IsOrigin, LetsGo, IsView, GoesHome, IsMetAt};
+ghost use Rattle.console_core.specs.Inner.Exploring.{map_of_explored, origin_in, IsExplored, IsTapAt, HasTap};
+ghost use Rattle.console_core.specs.Inner.Exploring.{GoesAndTaps, IsOrigin, LetsGo, IsExploredFrom, GoesHome, IsMetAt};
 ghost use Rattle.console_core.specs.Inner.Routes.{HasRoute};
 ghost use Rattle.console_core.specs.Inner.Searching.{state_of, Entry};
 
@@ -58,7 +58,7 @@ pub fn explore<'m>(
     origin: &Held,
 ) -> Result<Explored<'m>, AllocError>
     requires { IsOrigin (state_of origin.now) }
-    ensures { IfOk result (λ e. IsView map.now (state_of origin.now) e) }
+    ensures { IfOk result (λ e. IsExploredFrom map.now (state_of origin.now) e) }
 {
     let maps = Keymaps {
         first: map,
@@ -168,7 +168,7 @@ impl<'m> Explored<'m> {
 
     /// Adds the events from the origin to the place, a tap of the key there, and those behind it to a state where no
     /// key holds a modifier, from which a route leads home. Answers that state.
-    pub fn stroke(
+    pub fn go_and_tap(
         &self,
         alloc: Global,
         events: &mut Vec<Event>,
@@ -177,7 +177,7 @@ impl<'m> Explored<'m> {
         requires explored { IsExplored self.now }
         requires route { IsMetAt self.now at.place }
         ensures { IfOk result (λ next. (x : Entry) → slice_get self.now.met.entries at.place ≡ Some x
-            → IsStroke (alone (map_of_explored self.now)) (origin_in self.now) (state_of x.0) at.key
+            → GoesAndTaps (alone (map_of_explored self.now)) (origin_in self.now) (state_of x.0) at.key
             (reverse events.old.items) (reverse events.new.items) (state_of next)) }
     {
         go_out(events, alloc, &self.met, at.place)?;

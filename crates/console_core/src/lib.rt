@@ -14,19 +14,20 @@
 //!
 //! `sticking` decides by a search whether a keymap can leave a modifier on while no key is pressed, `sticking_between`
 //! whether two that loads exchange can. `sights_of` finds by the same search what presses can look up, and behind which
-//! accents, and a `Planner` the events of visits that show it, in keymaps where no turn of a lock is one-way. All of
+//! accents, and an `Explorer` the events of visits that show it, in keymaps where no turn of a lock is one-way. All of
 //! them may give up where more than 65,536 states can be reached.
 //!
 //! `type_characters` makes the events that type characters, in whatever layout a lock selects them, or names the first
 //! character that no keys can type.
 //!
-//! No call takes memory but `replay`, `sticking`, `sticking_between`, `sights_of`, those of a `Planner` and
+//! No call takes memory but `replay`, `sticking`, `sticking_between`, `sights_of`, those of an `Explorer` and
 //! `type_characters`. These fail for want of memory, `type_characters` besides where a character can't be typed or
 //! more than 65,536 states can be reached, and no other call fails.
 #![tactic(auto)]
 
 mod event;
 mod explored;
+mod explorer;
 mod held;
 mod kept;
 pub mod laws;
@@ -38,7 +39,6 @@ mod onward;
 mod outcome;
 mod plain_console;
 mod plain_store;
-mod planner;
 mod replays;
 mod routes;
 mod rules;
@@ -55,11 +55,11 @@ mod word_store;
 
 pub use event::{Answer, Event};
 pub use explored::KeyAt;
+pub use explorer::Explorer;
 pub use kept::{locks_kept, modifiers_kept, pending_kept, start_kept, step_kept};
 pub use onward::{Onward, Reached, find_onward};
 pub use outcome::Sticking;
 pub use plain_console::PlainConsole;
-pub use planner::Planner;
 pub use replays::{deliver_all, replay};
 pub use search::{sticking, sticking_between};
 pub use selection::{Selection, Sight};

@@ -5,10 +5,11 @@ ghost use Rattle.std.specs.List.{Contains};
 ghost use Rattle.keymap_core.specs.Numbers.{key_count};
 ghost use Rattle.console_core.specs.Answers.{usable};
 ghost use Rattle.console_core.specs.Moves.{alone, start};
+ghost use Rattle.console_core.specs.Sights.{CanCompose, Enumerates};
 ghost use Rattle.console_core.specs.Inner.Searching.{state_of, under_of, AreWithin, Searched, HasMetAll};
-ghost use Rattle.console_core.specs.Inner.Noting.{IsWith, AddsOffer, AddsOffers, AreAccentsOf, AreSelectionsOf};
-ghost use Rattle.console_core.specs.Inner.Noting.{IsOfferedUnlocked, AddsState, AreSeedsTo, AreBehind, AreComposing};
-ghost use Rattle.console_core.specs.Inner.Noting.{AreOffersOf};
+ghost use Rattle.console_core.specs.Inner.Adding.{IsWith, AddsOffer, AddsOffers, AreAccentsOf, AreSelectionsOf};
+ghost use Rattle.console_core.specs.Inner.Adding.{IsOfferedUnlocked, AddsState, AreSeedsTo, AreBehind};
+ghost use Rattle.console_core.specs.Inner.Adding.{AreOffersOf};
 
 use crate::held::{Held, Keymaps};
 use crate::moving_keys::moving_keys;
@@ -153,7 +154,7 @@ fn selections_behind(
     requires met { HasMetAll maps.now met.now.entries }
     requires usable { usable maps.now.first.now accent ≡ true }
     requires all { AreSelectionsOf met.now.entries all.now }
-    ensures { IfOk result (λ v. AreComposing maps.now.first.now accent v.items) }
+    ensures { IfOk result (λ v. Enumerates (CanCompose maps.now.first.now accent) v.items) }
 {
     if is_offered_unlocked(met, maps, accent) {
         let mut selections = Vec::new(alloc);

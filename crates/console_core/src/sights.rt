@@ -1,11 +1,11 @@
-//! What presses of keys can see: what is noted of the states that the search meets.
+//! What presses of keys can see: what the states that the search meets tell of that.
 ghost use Rattle.std.specs.Prelude.{◌≡◌, ℕ, false, true, OnOk, IfOk, MatchOption};
 ghost use Rattle.std.specs.List.{Contains};
 ghost use Rattle.console_core.specs.Moves.{alone};
 ghost use Rattle.console_core.specs.Sticking.{ReachesMoreThan, state_limit};
 ghost use Rattle.console_core.specs.Sights.{AreSightsOf, IsReachable, can_see, is_selected, is_composed};
 ghost use Rattle.console_core.specs.Inner.Searching.{HasMetAll};
-ghost use Rattle.console_core.specs.Inner.Noting.{IsWith, AreSelectionsOf};
+ghost use Rattle.console_core.specs.Inner.Adding.{IsWith, AreSelectionsOf};
 
 use crate::held::{Held, Keymaps};
 use crate::offers::offers_of;
@@ -34,11 +34,11 @@ pub struct Offer {
 }
 
 fn has_selection(selections: &[Selection], selection: Selection) -> bool
-    ensures noted { result ≡ true → Contains selections.now selection }
-    ensures unnoted { result ≡ false → Contains selections.now selection → ⊥ }
+    ensures among { result ≡ true → Contains selections.now selection }
+    ensures missing { result ≡ false → Contains selections.now selection → ⊥ }
 {
-    for noted in selections {
-        if *noted == selection {
+    for other in selections {
+        if *other == selection {
             return true;
         }
     }
@@ -105,8 +105,8 @@ impl Sights {
     }
 }
 
-/// What is noted of the states that were met, which are all.
-fn noted(alloc: Global, met: &Met, maps: &Keymaps) -> Result<Sights, AllocError>
+/// What the states that were met, which are all, tell of that.
+fn sights_in(alloc: Global, met: &Met, maps: &Keymaps) -> Result<Sights, AllocError>
     requires { HasMetAll maps.now met.now.entries }
     ensures { IfOk result (λ x. AreSightsOf maps.now.first.now x) }
 {
@@ -131,7 +131,7 @@ pub fn sights_of(alloc: Global, map: &KeyMap) -> Result<Option<Sights>, AllocErr
         origin: Held::start(),
     };
     match all_states(alloc, &maps)? {
-        Some(met) => Ok(Some(noted(alloc, &met, &maps)?)),
+        Some(met) => Ok(Some(sights_in(alloc, &met, &maps)?)),
         None => Ok(None),
     }
 }

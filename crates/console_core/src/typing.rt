@@ -4,8 +4,8 @@ ghost use Rattle.std.specs.Prelude.{◌≡◌, ◌≤◌, ◌++◌, ◌∷◌, [
 ghost use Rattle.std.specs.Prelude.{MatchOption};
 ghost use Rattle.keymap_core.specs.Maps.{MapValue};
 ghost use Rattle.console_core.specs.Typing.{AreTyped, IsTypingError};
-ghost use Rattle.console_core.specs.Inner.Exploring.{AreKnown, AreViews, IsExplored, IsOrigin, IsStand};
-ghost use Rattle.console_core.specs.Inner.Exploring.{IsView};
+ghost use Rattle.console_core.specs.Inner.Exploring.{AreKnown, AreExplorations, IsExplored, IsOrigin, CanReturn};
+ghost use Rattle.console_core.specs.Inner.Exploring.{IsExploredFrom};
 ghost use Rattle.console_core.specs.Inner.Exploring.{Leads, LeadsByTap, TypesOne};
 ghost use Rattle.console_core.specs.Inner.Routes.{HasEntry};
 ghost use Rattle.console_core.specs.Inner.Searching.{state_of};
@@ -64,52 +64,54 @@ pub enum Typed {
 }
 
 /// What was explored from each state where characters began.
-type Views<'m> = IndexMap<Held, Explored<'m>>;
+type Explorations<'m> = IndexMap<Held, Explored<'m>>;
 
 /// Explores the states from this one, unless that was done.
 fn see<'m>(
-    views: &mut Views<'m>,
+    explorations: &mut Explorations<'m>,
     alloc: Global,
     map: &'m KeyMap,
     from: &Held,
 ) -> Result<(), AllocError>
-    requires views { AreViews map.now views.old.entries }
+    requires explorations { AreExplorations map.now explorations.old.entries }
     requires origin { IsOrigin (state_of from.now) }
-    ensures views { OnOk result (AreViews map.now views.new.entries) }
-    ensures seen { OnOk result (HasEntry views.new.entries (state_of from.now)) }
+    ensures explorations { OnOk result (AreExplorations map.now explorations.new.entries) }
+    ensures seen { OnOk result (HasEntry explorations.new.entries (state_of from.now)) }
 {
-    if !views.contains_key(from) {
-        let view = explore(alloc, map, from)?;
-        views.insert(*from, view)?;
+    if !explorations.contains_key(from) {
+        let explored = explore(alloc, map, from)?;
+        explorations.insert(*from, explored)?;
     }
     Ok(())
 }
 
 /// What was explored from the state.
-fn view_of<'t, 'm>(views: &'t Views<'m>, from: &Held) -> &'t Explored<'m>
-    requires { HasEntry views.now.entries (state_of from.now) }
-    ensures { (m : MapValue) → AreViews m views.now.entries → IsView m (state_of from.now) result.now }
+fn explored_from<'t, 'm>(explorations: &'t Explorations<'m>, from: &Held) -> &'t Explored<'m>
+    requires { HasEntry explorations.now.entries (state_of from.now) }
+    ensures { (m : MapValue) → AreExplorations m explorations.now.entries
+        → IsExploredFrom m (state_of from.now) result.now }
 {
-    match views.get(from) {
-        Some(view) => view,
+    match explorations.get(from) {
+        Some(explored) => explored,
         None => unreachable!(),
     }
 }
 
 /// Adds the events of a tap, if it was found that it can be made.
 fn tap_from(
-    view: &Explored,
+    explored: &Explored,
     alloc: Global,
     events: &mut Vec<Event>,
     tap: &Tap,
 ) -> Result<Typed, AllocError>
-    requires { IsExplored view.now }
-    ensures { IfOk result (λ r. LeadsByTap view.now tap.now (reverse events.old.items) (reverse events.new.items) r) }
+    requires { IsExplored explored.now }
+    ensures { IfOk result (λ r. LeadsByTap explored.now tap.now (reverse events.old.items)
+        (reverse events.new.items) r) }
 {
-    match view.place_tapping(tap) {
-        Some(at) => Ok(Typed::To(view.stroke(alloc, events, at)?)),
+    match explored.place_tapping(tap) {
+        Some(at) => Ok(Typed::To(explored.go_and_tap(alloc, events, at)?)),
         None => {
-            if view.is_complete {
+            if explored.is_complete {
                 Ok(Typed::NoWay)
             } else {
                 Ok(Typed::TooManyStates)
@@ -120,34 +122,39 @@ fn tap_from(
 
 /// Adds the events that type the character from the state.
 fn type_from<'m>(
-    views: &mut Views<'m>,
+    explorations: &mut Explorations<'m>,
     alloc: Global,
     events: &mut Vec<Event>,
     map: &'m KeyMap,
     from: &Held,
     c: char,
 ) -> Result<Typed, AllocError>
-    requires views { AreViews map.now views.old.entries }
-    requires stand { IsStand map.now (state_of from.now) }
-    ensures views { OnOk result (AreViews map.now views.new.entries) }
+    requires explorations { AreExplorations map.now explorations.old.entries }
+    requires can_return { CanReturn map.now (state_of from.now) }
+    ensures explorations { OnOk result (AreExplorations map.now explorations.new.entries) }
     ensures leads { IfOk result (λ r. Leads map.now c (state_of from.now) (reverse events.old.items)
         (reverse events.new.items) r) }
 {
-    see(views, alloc, map, from)?;
-    let view = view_of(views, from);
-    match way_for(view, map, c) {
+    see(explorations, alloc, map, from)?;
+    let explored = explored_from(explorations, from);
+    match way_for(explored, map, c) {
         Some(Way::Direct(at)) => {
-            let next = view.stroke(alloc, events, at)?;
+            let next = explored.go_and_tap(alloc, events, at)?;
             Ok(Typed::To(next))
         }
         Some(Way::Composed(found)) => {
-            let middle = view.stroke(alloc, events, found.dead)?;
-            see(views, alloc, map, &middle)?;
-            let last = tap_from(view_of(views, &middle), alloc, events, &plain(found.then))?;
+            let middle = explored.go_and_tap(alloc, events, found.dead)?;
+            see(explorations, alloc, map, &middle)?;
+            let last = tap_from(
+                explored_from(explorations, &middle),
+                alloc,
+                events,
+                &plain(found.then),
+            )?;
             Ok(last)
         }
         None => {
-            if view.is_complete {
+            if explored.is_complete {
                 Ok(Typed::NoWay)
             } else {
                 Ok(Typed::TooManyStates)
@@ -220,17 +227,17 @@ fn keep(
 
 /// Adds the events that type the character from the state, and keeps them for the next time.
 fn type_next<'m>(
-    views: &mut Views<'m>,
+    explorations: &mut Explorations<'m>,
     known: &mut Known,
     alloc: Global,
     events: &mut Vec<Event>,
     map: &'m KeyMap,
     sought: &Sought,
 ) -> Result<Typed, AllocError>
-    requires views { AreViews map.now views.old.entries }
+    requires explorations { AreExplorations map.now explorations.old.entries }
     requires known { AreKnown map.now known.old.entries }
-    requires stand { IsStand map.now (state_of sought.now.from) }
-    ensures views { OnOk result (AreViews map.now views.new.entries) }
+    requires can_return { CanReturn map.now (state_of sought.now.from) }
+    ensures explorations { OnOk result (AreExplorations map.now explorations.new.entries) }
     ensures known { OnOk result (AreKnown map.now known.new.entries) }
     ensures leads { IfOk result (λ r. Leads map.now sought.now.character (state_of sought.now.from)
         (reverse events.old.items) (reverse events.new.items) r) }
@@ -239,7 +246,14 @@ fn type_next<'m>(
         return Ok(Typed::To(next));
     }
     let start = events.len();
-    let typed = type_from(views, alloc, events, map, &sought.from, sought.character)?;
+    let typed = type_from(
+        explorations,
+        alloc,
+        events,
+        map,
+        &sought.from,
+        sought.character,
+    )?;
     if let Typed::To(next) = &typed {
         keep(known, alloc, sought, events, start, next)?;
     }
@@ -262,7 +276,7 @@ pub fn type_characters(
     ensures typed { IfOk result (λ typing. AreTyped map.now characters.now typing) }
     ensures error { IfErr result (λ error. IsTypingError map.now characters.now error) }
 {
-    let mut views = IndexMap::new(alloc);
+    let mut explorations = IndexMap::new(alloc);
     let mut known = IndexMap::new(alloc);
     let mut keyed = Vec::new(alloc);
     let mut events = Vec::new(alloc);
@@ -271,7 +285,14 @@ pub fn type_characters(
     while place < characters.len() {
         let character = characters[place];
         let sought = Sought { from, character };
-        match type_next(&mut views, &mut known, alloc, &mut events, map, &sought)? {
+        match type_next(
+            &mut explorations,
+            &mut known,
+            alloc,
+            &mut events,
+            map,
+            &sought,
+        )? {
             Typed::To(next) => from = next,
             Typed::NoWay => return Err(TypingError::NoWay(place)),
             Typed::TooManyStates => return Err(TypingError::TooManyStates),
@@ -280,8 +301,8 @@ pub fn type_characters(
         push_keyed(&mut keyed, Keyed { character, end })?;
         place += 1;
     }
-    see(&mut views, alloc, map, &from)?;
-    if view_of(&views, &from).go_home(&mut events)? {
+    see(&mut explorations, alloc, map, &from)?;
+    if explored_from(&explorations, &from).go_home(&mut events)? {
         Ok(Typing { keyed, events })
     } else {
         Err(TypingError::TooManyStates)

@@ -45,25 +45,32 @@ pub fn plain(symbol: Symbol) -> Tap
 }
 
 /// Whether it can be tapped, with `is_near` at a near place.
-fn can_tap(view: &Explored, tap: &Tap, is_near: bool) -> bool
-    requires { IsExplored view.now }
-    ensures can { result ≡ true → HasTap view.now tap.now }
-    ensures none { result ≡ false → is_near ≡ false → HasTap view.now tap.now → ⊥ }
+fn can_tap(explored: &Explored, tap: &Tap, is_near: bool) -> bool
+    requires { IsExplored explored.now }
+    ensures can { result ≡ true → HasTap explored.now tap.now }
+    ensures none { result ≡ false → is_near ≡ false → HasTap explored.now tap.now → ⊥ }
 {
-    match view.first_place(tap, is_near) {
+    match explored.first_place(tap, is_near) {
         Some(_) => true,
         None => false,
     }
 }
 
 /// Whether the symbol can be tapped, and types the character while the accent is pending.
-fn is_base(view: &Explored, map: &KeyMap, index: u8, then: Symbol, c: char, is_near: bool) -> bool
-    requires { IsExplored view.now }
-    ensures base { result ≡ true → IsBase map.now view.now index c then }
-    ensures none { result ≡ false → is_near ≡ false → IsBase map.now view.now index c then → ⊥ }
+fn is_base(
+    explored: &Explored,
+    map: &KeyMap,
+    index: u8,
+    then: Symbol,
+    c: char,
+    is_near: bool,
+) -> bool
+    requires { IsExplored explored.now }
+    ensures base { result ≡ true → IsBase map.now explored.now index c then }
+    ensures none { result ≡ false → is_near ≡ false → IsBase map.now explored.now index c then → ⊥ }
 {
     match composed(map, index, then) {
-        Some(made) => made == c && can_tap(view, &plain(then), is_near),
+        Some(made) => made == c && can_tap(explored, &plain(then), is_near),
         None => false,
     }
 }
@@ -77,21 +84,21 @@ fn base_of(pair: &(char, char)) -> Symbol
 
 /// The base of a pair of the accent, if it can be tapped to type the character while the accent is pending.
 fn base_in(
-    view: &Explored,
+    explored: &Explored,
     map: &KeyMap,
     accent: &Accent,
     index: u8,
     c: char,
     is_near: bool,
 ) -> Option<Symbol>
-    requires { IsExplored view.now }
+    requires { IsExplored explored.now }
     ensures { MatchOption result (is_near ≡ false → (p : ℕ × ℕ) → Contains accent.now.pairs p
-        → IsBase map.now view.now index c (symbol.Character p.0) → ⊥)
-        (λ x. IsBase map.now view.now index c x) }
+        → IsBase map.now explored.now index c (symbol.Character p.0) → ⊥)
+        (λ x. IsBase map.now explored.now index c x) }
 {
     for pair in accent.pairs() {
         let base = base_of(pair);
-        if is_base(view, map, index, base, c, is_near) {
+        if is_base(explored, map, index, base, c, is_near) {
             return Some(base);
         }
     }
@@ -99,16 +106,23 @@ fn base_in(
 }
 
 /// The blank or the accent's dead key, if it can be tapped to type the character while the accent is pending.
-fn other_base(view: &Explored, map: &KeyMap, index: u8, c: char, is_near: bool) -> Option<Symbol>
-    requires { IsExplored view.now }
-    ensures { MatchOption result (is_near ≡ false → (IsBase map.now view.now index c (symbol.Character 32) → ⊥)
-        × (IsBase map.now view.now index c (symbol.DeadKey index) → ⊥)) (λ x. IsBase map.now view.now index c x) }
+fn other_base(
+    explored: &Explored,
+    map: &KeyMap,
+    index: u8,
+    c: char,
+    is_near: bool,
+) -> Option<Symbol>
+    requires { IsExplored explored.now }
+    ensures { MatchOption result (is_near ≡ false → (IsBase map.now explored.now index c (symbol.Character 32) → ⊥)
+        × (IsBase map.now explored.now index c (symbol.DeadKey index) → ⊥))
+        (λ x. IsBase map.now explored.now index c x) }
 {
     let blank = Symbol::Character(' ');
     let dead = Symbol::DeadKey(index);
-    if is_base(view, map, index, blank, c, is_near) {
+    if is_base(explored, map, index, blank, c, is_near) {
         Some(blank)
-    } else if is_base(view, map, index, dead, c, is_near) {
+    } else if is_base(explored, map, index, dead, c, is_near) {
         Some(dead)
     } else {
         None
@@ -117,37 +131,37 @@ fn other_base(view: &Explored, map: &KeyMap, index: u8, c: char, is_near: bool) 
 
 /// What can be tapped to type the character while the accent is pending.
 fn base_for(
-    view: &Explored,
+    explored: &Explored,
     map: &KeyMap,
     accent: &Accent,
     index: u8,
     c: char,
     is_near: bool,
 ) -> Option<Symbol>
-    requires explored { IsExplored view.now }
+    requires explored { IsExplored explored.now }
     requires accent { accent_at map.now index ≡ Some accent.now }
-    ensures { MatchOption result (is_near ≡ false → (x : SymbolValue) → IsBase map.now view.now index c x → ⊥)
-        (λ x. IsBase map.now view.now index c x) }
+    ensures { MatchOption result (is_near ≡ false → (x : SymbolValue) → IsBase map.now explored.now index c x → ⊥)
+        (λ x. IsBase map.now explored.now index c x) }
 {
-    match base_in(view, map, accent, index, c, is_near) {
+    match base_in(explored, map, accent, index, c, is_near) {
         Some(base) => Some(base),
-        None => other_base(view, map, index, c, is_near),
+        None => other_base(explored, map, index, c, is_near),
     }
 }
 
 /// The dead key of the accent, and what can be tapped behind it to type the character.
 fn accented_by(
-    view: &Explored,
+    explored: &Explored,
     map: &KeyMap,
     accent: &Accent,
     index: u8,
     c: char,
     is_near: bool,
 ) -> Option<Accented>
-    requires explored { IsExplored view.now }
+    requires explored { IsExplored explored.now }
     requires accent { accent_at map.now index ≡ Some accent.now }
-    ensures { MatchOption result (is_near ≡ false → (x : SymbolValue) → CanAccent map.now view.now c index x → ⊥)
-        (λ a. IsAccented map.now view.now c index a) }
+    ensures { MatchOption result (is_near ≡ false → (x : SymbolValue) → CanAccent map.now explored.now c index x → ⊥)
+        (λ a. IsAccented map.now explored.now c index a) }
 {
     if accent.own() == '\0' {
         return None;
@@ -156,8 +170,8 @@ fn accented_by(
         symbol: Symbol::DeadKey(index),
         is_plain: false,
     };
-    match view.first_place(&tap, is_near) {
-        Some(dead) => match base_for(view, map, accent, index, c, is_near) {
+    match explored.first_place(&tap, is_near) {
+        Some(dead) => match base_for(explored, map, accent, index, c, is_near) {
             Some(then) => Some(Accented { dead, then }),
             None => None,
         },
@@ -166,14 +180,15 @@ fn accented_by(
 }
 
 /// A dead key, and what can be tapped behind it to type the character.
-fn dead_key_for(view: &Explored, map: &KeyMap, c: char, is_near: bool) -> Option<Accented>
-    requires { IsExplored view.now }
-    ensures { MatchOption result (is_near ≡ false → (i : ℕ) (x : SymbolValue) → CanAccent map.now view.now c i x → ⊥)
-        (λ a. (i : ℕ) × IsAccented map.now view.now c i a) }
+fn dead_key_for(explored: &Explored, map: &KeyMap, c: char, is_near: bool) -> Option<Accented>
+    requires { IsExplored explored.now }
+    ensures { MatchOption result
+        (is_near ≡ false → (i : ℕ) (x : SymbolValue) → CanAccent map.now explored.now c i x → ⊥)
+        (λ a. (i : ℕ) × IsAccented map.now explored.now c i a) }
 {
     let mut index = 0;
     while let Some(accent) = map.accent(index) {
-        if let Some(found) = accented_by(view, map, accent, index, c, is_near) {
+        if let Some(found) = accented_by(explored, map, accent, index, c, is_near) {
             return Some(found);
         }
         index += 1;
@@ -192,13 +207,14 @@ pub enum Way {
 
 /// A way to type the character: by one key, if there is such, or else by a dead key and another one. With `is_near` all
 /// of them are at near places.
-fn way_at(view: &Explored, map: &KeyMap, c: char, is_near: bool) -> Option<Way>
-    requires { IsExplored view.now }
-    ensures { MatchOption result (is_near ≡ false → HasNoWay map.now view.now c) (λ w. IsWay map.now view.now c w) }
+fn way_at(explored: &Explored, map: &KeyMap, c: char, is_near: bool) -> Option<Way>
+    requires { IsExplored explored.now }
+    ensures { MatchOption result (is_near ≡ false → HasNoWay map.now explored.now c)
+        (λ w. IsWay map.now explored.now c w) }
 {
-    match view.first_place(&plain(Symbol::Character(c)), is_near) {
+    match explored.first_place(&plain(Symbol::Character(c)), is_near) {
         Some(at) => Some(Way::Direct(at)),
-        None => match dead_key_for(view, map, c, is_near) {
+        None => match dead_key_for(explored, map, c, is_near) {
             Some(found) => Some(Way::Composed(found)),
             None => None,
         },
@@ -206,12 +222,12 @@ fn way_at(view: &Explored, map: &KeyMap, c: char, is_near: bool) -> Option<Way>
 }
 
 /// A way to type the character: at near places, if there is such, or else at all.
-pub fn way_for(view: &Explored, map: &KeyMap, c: char) -> Option<Way>
-    requires { IsExplored view.now }
-    ensures { MatchOption result (HasNoWay map.now view.now c) (λ w. IsWay map.now view.now c w) }
+pub fn way_for(explored: &Explored, map: &KeyMap, c: char) -> Option<Way>
+    requires { IsExplored explored.now }
+    ensures { MatchOption result (HasNoWay map.now explored.now c) (λ w. IsWay map.now explored.now c w) }
 {
-    match way_at(view, map, c, true) {
+    match way_at(explored, map, c, true) {
         Some(way) => Some(way),
-        None => way_at(view, map, c, false),
+        None => way_at(explored, map, c, false),
     }
 }

@@ -4,7 +4,7 @@ pub use Rattle.console_core.specs.Columns.{bit}
 pub use Rattle.console_core.specs.History.{Maps, between}
 unfoldable pub use Rattle.console_core.specs.History.{resolved}
 pub use Rattle.console_core.specs.Moves.{alone}
-pub use Rattle.console_core.specs.Planning.{AreTaken}
+pub use Rattle.console_core.specs.Visiting.{AreTaken}
 pub use Rattle.console_core.specs.Returning.{NoTurnIsOneWay}
 pub use Rattle.console_core.specs.Sights.{AreSightsOf, IsReachable, SeesAlong}
 pub use Rattle.console_core.specs.declared.event.Event.{Event}
@@ -12,16 +12,16 @@ pub use Rattle.console_core.specs.declared.selection.Sight.{Sight}
 pub use Rattle.keymap_core.specs.Maps.{MapValue}
 pub use Rattle.keymap_cover.specs.Inner.Adding.{ArePartsBelow}
 pub use Rattle.keymap_cover.specs.Inner.Pairs.{base_pair, pairs_at, pairs_in}
-pub use Rattle.keymap_cover.specs.Inner.Tours.{AddsPair, AreUp, ComesAfter, GoesAlong, GoesAlongToRest, GoesIfTaken}
-pub use Rattle.keymap_cover.specs.Inner.Tours.{GoesOn, GoesResting, GoesUnderWay, IsTour}
+pub use Rattle.keymap_cover.specs.Inner.Scripts.{AddsPair, AreUp, ComesAfter, GoesAlong, GoesAlongToRest, GoesIfTaken}
+pub use Rattle.keymap_cover.specs.Inner.Scripts.{GoesOn, GoesResting, GoesUnderWay, IsScript, Standing}
 pub use Rattle.keymap_cover.specs.Parts.{AreParts, part_place}
 pub use Rattle.keymap_cover.specs.SeenSights.{has_seen, is_pair}
 pub use Rattle.keymap_cover.specs.SightLists.{cell_at_place, cell_place, lock_setting_at_place, lock_setting_place}
 unfoldable pub use Rattle.keymap_cover.specs.SightLists.{all_cells, all_lock_settings}
-pub use Rattle.keymap_cover.specs.Strokes.{event_of, events_of, is_down}
+pub use Rattle.keymap_cover.specs.ScriptEvents.{event_of, events_of, is_down}
 pub use Rattle.keymap_cover.specs.Told.{IsTold}
-pub use Rattle.keymap_cover.specs.declared.stroke.Stroke.{Stroke}
-pub use Rattle.keymap_cover.specs.declared.tour.Tour.{Tour}
+pub use Rattle.keymap_cover.specs.declared.script_event.ScriptEvent.{ScriptEvent}
+pub use Rattle.keymap_cover.specs.declared.script.Script.{Script}
 pub use Rattle.std.proofs.Common.{Bool, Err, List, None, Ok, Option, Result, Some, [], ap, append_assoc, arith, false}
 pub use Rattle.std.proofs.Common.{get_or, if◌then◌else◌, inl, inr, length, map, not, refl, reverse, subst, sym, take}
 pub use Rattle.std.proofs.Common.{true, ℕ, ◌++◌, ◌+◌, ◌<◌, ◌∙◌, ◌∷◌, ◌≡◌, ◌≤◌, ◌⊎◌}

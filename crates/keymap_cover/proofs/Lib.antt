@@ -3,6 +3,6 @@ pub mod Listed
 pub mod Marking
 pub mod Showing
 pub mod Telling
-pub mod Touring
+pub mod Scripts
 pub mod Walking
 mod Ordered

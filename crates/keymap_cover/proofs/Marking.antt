@@ -52,14 +52,14 @@ off zero i = refl
 off (suc n) zero = refl
 off (suc n) (suc i) = off n i
 
-pub none-noted : (n k : ℕ) (x : Sight) → seen_in (replicate n false) (replicate k false) [] x ≡ false
-none-noted n k (sight.Cell slot column) =
+pub none-seen : (n k : ℕ) (x : Sight) → seen_in (replicate n false) (replicate k false) [] x ≡ false
+none-seen n k (sight.Cell slot column) =
     ap (λ b. nat_lt column 8 && b) (off n (cell_place slot column)) ∙ and-false (nat_lt column 8)
-none-noted n k (sight.Locks slot caps num) = off k (lock_setting_place slot caps num)
-none-noted n k (sight.Pair i c) = refl
+none-seen n k (sight.Locks slot caps num) = off k (lock_setting_place slot caps num)
+none-seen n k (sight.Pair i c) = refl
 
-pub none-noted-by : (cells settings : List Bool) (pairs : List Sight) (n k : ℕ) (x : Sight) → cells ≡ replicate n false
+pub none-seen-by : (cells settings : List Bool) (pairs : List Sight) (n k : ℕ) (x : Sight) → cells ≡ replicate n false
     → settings ≡ replicate k false → pairs ≡ [] → seen_in cells settings pairs x ≡ false
-none-noted-by cells settings pairs n k x e f g =
+none-seen-by cells settings pairs n k x e f g =
     ap (λ z. seen_in z settings pairs x) e ∙ ap (λ z. seen_in (replicate n false) z pairs x) f
-    ∙ ap (λ z. seen_in (replicate n false) (replicate k false) z x) g ∙ none-noted n k x
+    ∙ ap (λ z. seen_in (replicate n false) (replicate k false) z x) g ∙ none-seen n k x

@@ -3,32 +3,35 @@ use Rattle.keymap_cover.proofs.Common.{suc, ◌≡◌, ℕ, ◌+◌, ◌<◌, �
 use Rattle.keymap_cover.proofs.Common.{ap, subst, sym, inl, inr, ◌∙◌, arith, append_assoc, length, get_or, reverse}
 use Rattle.keymap_cover.proofs.Common.{◌==◌, Contains, eqb-true, eq-eqb, true≢false}
 use Rattle.keymap_cover.proofs.Common.{get_or_default, All-nil, All-cons, Contains-append_cases, MapValue, Event, Sight}
-use Rattle.keymap_cover.proofs.Common.{Maps, NoTurnIsOneWay, SeesAlong, IsReachable, Stroke, Tour, has_seen}
+use Rattle.keymap_cover.proofs.Common.{Standing, NoTurnIsOneWay, SeesAlong, IsReachable, ScriptEvent, Script, has_seen}
 use Rattle.keymap_cover.proofs.Common.{all_cells, all_lock_settings, event_of, events_of, is_down, pairs_in}
 use Rattle.keymap_cover.proofs.Common.{GoesAlongToRest, ComesAfter, AreUp, GoesUnderWay, GoesResting}
 use Rattle.std.proofs.Common.{length-append}
 use Rattle.std.proofs.lemmas.List.{length-reverse}
 use Rattle.keymap_core.specs.declared.action.Lock.TheVariants.{Caps, Num, Alt}
 use Rattle.console_core.specs.History.{HasNoLoads, IsNoLoad}
-use Rattle.console_core.specs.Planning.{HasLocks, Planned, Visits}
-use Rattle.keymap_cover.specs.Inner.Tours.{RunsAlong, IsTourOf, IsUnderWay, GoesFurther, SeesAll, LeavesNothingOut}
-use Rattle.keymap_cover.specs.Inner.Tours.{EndsAtRest}
+use Rattle.console_core.specs.Visiting.{HasLocks, ExplorerValue, Visits}
+use Rattle.keymap_cover.specs.Inner.Scripts.{RunsAlong, IsScriptOf, IsUnderWay, GoesFurther, SeesAll, LeavesNothingOut}
+use Rattle.keymap_cover.specs.Inner.Scripts.{EndsAtRest}
 use Rattle.keymap_cover.proofs.Telling.{all-told}
-use Rattle.keymap_cover.proofs.Touring.{at-rest_new}
+use Rattle.keymap_cover.proofs.Scripts.{at-rest_new}
 use Rattle.keymap_cover.proofs.Walking.{after-more}
-use Rattle.keymap_cover.specs.declared.stroke.Stroke.TheVariants as stroke
+use Rattle.keymap_cover.specs.declared.script_event.ScriptEvent.TheVariants as script_event
 
--- strokes make no loads
-strokes-loads : (xs : List Stroke) → HasNoLoads (events_of xs)
-strokes-loads [] = All-nil IsNoLoad
-strokes-loads (stroke.Down k ∷ xs) = All-cons IsNoLoad (event_of (stroke.Down k)) (events_of xs) refl (strokes-loads xs)
-strokes-loads (stroke.Repeat k ∷ xs) =
-    All-cons IsNoLoad (event_of (stroke.Repeat k)) (events_of xs) refl (strokes-loads xs)
-strokes-loads (stroke.Up k ∷ xs) = All-cons IsNoLoad (event_of (stroke.Up k)) (events_of xs) refl (strokes-loads xs)
-strokes-loads (stroke.Reset ∷ xs) = All-cons IsNoLoad (event_of stroke.Reset) (events_of xs) refl (strokes-loads xs)
+-- events make no loads
+events-loads : (xs : List ScriptEvent) → HasNoLoads (events_of xs)
+events-loads [] = All-nil IsNoLoad
+events-loads (script_event.Down k ∷ xs) = All-cons IsNoLoad (event_of (script_event.Down k)) (events_of xs) refl
+    (events-loads xs)
+events-loads (script_event.Repeat k ∷ xs) =
+    All-cons IsNoLoad (event_of (script_event.Repeat k)) (events_of xs) refl (events-loads xs)
+events-loads (script_event.Up k ∷ xs) = All-cons IsNoLoad (event_of (script_event.Up k)) (events_of xs) refl
+    (events-loads xs)
+events-loads (script_event.Reset ∷ xs) = All-cons IsNoLoad (event_of script_event.Reset) (events_of xs) refl
+    (events-loads xs)
 
-tour-loads : (m : MapValue) (h : List Event) (t : Tour) → IsTourOf m h t → HasNoLoads h
-tour-loads m h t tour = subst HasNoLoads tour.events (strokes-loads (reverse t.strokes.items))
+script-loads : (m : MapValue) (h : List Event) (t : Script) → IsScriptOf m h t → HasNoLoads h
+script-loads m h t script = subst HasNoLoads script.history (events-loads (reverse t.events.items))
 
 -- what is seen along a list is seen along a longer one
 sees-longer : (m : MapValue) (h g : List Event) (x : Sight) → ComesAfter h g → SeesAlong m h x → SeesAlong m g x
@@ -37,20 +40,19 @@ sees-longer m h g x (more, is) (later, before, k, at, sees) =
     (more ++ later, before, k, ap (λ z. more ++ z) at ∙ sym (append_assoc more later _), sees)
 
 -- so what was seen once was seen later
-pub seen-still : (m : MapValue) (h g : List Event) (a b : Tour) (x : Sight) → IsTourOf m h a → IsTourOf m g b
+pub seen-still : (m : MapValue) (h g : List Event) (a b : Script) (x : Sight) → IsScriptOf m h a → IsScriptOf m g b
     → ComesAfter h g → has_seen a.seen x ≡ true → has_seen b.seen x ≡ true
 seen-still m h g a b x before now after has = now.all_seen x (sees-longer m h g x after (before.seen x has))
 
 -- a visit goes on, and sees what was aimed at
-pub visit-goes : (m : MapValue) (A : Maps → List Event → Type 0) (p : Planned) (a : Tour)
-    (B : Maps → List Event → Type 0) (q : Planned) (b : Tour) (later : List Event) → q.map ≡ p.map
-    → Visits p.map p.locks q.locks p.aim later
+pub visit-goes : (m : MapValue) (A : Standing) (p : ExplorerValue) (a : Script) (B : Standing) (q : ExplorerValue)
+    (b : Script) (later : List Event) → q.map ≡ p.map → Visits p.map p.locks q.locks p.aim later
     → GoesAlongToRest m later A a B b → AreUp b.pressed
     → GoesUnderWay m A p a B q b ((x : Sight) → p.aim ≡ Some x → IsReachable m x → has_seen b.seen x ≡ true)
 visit-goes m A p a B q b later same visits walk up h w =
     let (g, run, rest, after, exact) = walk h w.runs in
     let v = subst (λ z. Visits z p.locks q.locks p.aim later) w.map visits in
-    let (taken, locks, sees) = v h w.runs.1.keys (tour-loads m h a w.runs.1) w.locks in
+    let (taken, locks, sees) = v h w.runs.1.keys (script-loads m h a w.runs.1) w.locks in
     let turns = exact taken in (
       g,
       record {
@@ -64,9 +66,9 @@ visit-goes m A p a B q b later same visits walk up h w =
       (λ x aim can. run.1.all_seen x (sees-longer m (later ++ h) g x turns.0 (sees x aim can))),
     )
 
--- the planner aims at something else
-pub aims-else : (m : MapValue) (A : Maps → List Event → Type 0) (p q : Planned) (t : Tour) (h : List Event)
-    → (q.map ≡ p.map) × (q.locks ≡ p.locks) → IsUnderWay m A p t h → IsUnderWay m A q t h
+-- the explorer aims at something else
+pub aims-else : (m : MapValue) (A : Standing) (p q : ExplorerValue) (t : Script) (h : List Event) → (q.map ≡ p.map)
+    × (q.locks ≡ p.locks) → IsUnderWay m A p t h → IsUnderWay m A q t h
 aims-else m A p q t h (map, locks) w = record {
   runs = w.runs;
   up = w.up;
@@ -76,15 +78,14 @@ aims-else m A p q t h (map, locks) w = record {
 }
 
 -- nothing is done
-pub stays-so : (m : MapValue) (A : Maps → List Event → Type 0) (p q : Planned) (t : Tour) (P : Type 0)
-    → (q.map ≡ p.map) × (q.locks ≡ p.locks) → ((h : List Event) → IsUnderWay m A p t h → P)
-    → GoesUnderWay m A p t A q t P
+pub stays-so : (m : MapValue) (A : Standing) (p q : ExplorerValue) (t : Script) (P : Type 0) → (q.map ≡ p.map)
+    × (q.locks ≡ p.locks) → ((h : List Event) → IsUnderWay m A p t h → P) → GoesUnderWay m A p t A q t P
 stays-so m A p q t P same holds h w = (h, aims-else m A p q t h same w, ([], refl), holds h w)
 
 -- what holds of the elements before a place, and of that at the place
 pub holds-more : (xs : List Sight) (i : ℕ) (d : Sight) (P : Sight → Type 0) → i < length xs → P (get_or xs i d)
-    → ((n : ℕ) (x : Sight) → n < i → get_or xs n x ≡ x → P x)
-    → (n : ℕ) (x : Sight) → n < i + 1 → get_or xs n x ≡ x → P x
+    → ((n : ℕ) (x : Sight) → n < i → get_or xs n x ≡ x → P x) → (n : ℕ) (x : Sight) → n < i + 1 → get_or xs n x ≡ x
+    → P x
 holds-more xs i d P within here before n x lt at = which (n == i) refl
   where
     which : (t : Bool) → (n == i) ≡ t → P x
@@ -95,9 +96,10 @@ holds-more xs i d P within here before n x lt at = which (n == i) refl
         let other : n ≡ i → ⊥ = λ f. true≢false (sym (eq-eqb n i f) ∙ e) in
         before n x (omega (arith, lt, other)) at
 
--- what holds of the sights before a place, and of that at the place, as the tour goes on
-pub all-more : (m : MapValue) (A : Maps → List Event → Type 0) (p : Planned) (a : Tour) (B : Maps → List Event → Type 0)
-    (q : Planned) (b : Tour) (C : Maps → List Event → Type 0) (r : Planned) (c : Tour) (xs : List Sight) (i : ℕ)
+-- what holds of the sights before a place, and of that at the place, as the script goes on
+pub all-more : (m : MapValue) (A : Standing) (p : ExplorerValue) (a : Script) (B : Standing)
+    (q : ExplorerValue) (b : Script) (C : Standing) (r : ExplorerValue) (c : Script)
+    (xs : List Sight) (i : ℕ)
     (d : Sight)
     → i < length xs
     → GoesUnderWay m A p a B q b (NoTurnIsOneWay m → (n : ℕ) (x : Sight) → n < i → get_or xs n x ≡ x → IsReachable m x
@@ -119,40 +121,40 @@ all-more m A p a B q b C r c xs i d lt first next h w =
 
 -- ---- the whole script
 
-length-events_of : (xs : List Stroke) → length (events_of xs) ≡ length xs
+length-events_of : (xs : List ScriptEvent) → length (events_of xs) ≡ length xs
 length-events_of [] = refl
 length-events_of (x ∷ xs) = ap suc (length-events_of xs)
 
-tour-length : (m : MapValue) (h : List Event) (t : Tour) → IsTourOf m h t → length h ≡ length t.strokes.items
-tour-length m h t tour =
-    ap (λ z. length z) (sym tour.events) ∙ length-events_of (reverse t.strokes.items) ∙ length-reverse t.strokes.items
+script-length : (m : MapValue) (h : List Event) (t : Script) → IsScriptOf m h t → length h ≡ length t.events.items
+script-length m h t script =
+    ap (λ z. length z) (sym script.history) ∙ length-events_of (reverse t.events.items) ∙ length-reverse t.events.items
 
--- a tour that goes on gets no shorter
-pub tour-longer : (m : MapValue) (h g : List Event) (a b : Tour) → IsTourOf m h a → IsTourOf m g b → ComesAfter h g
-    → length a.strokes.items ≤ length b.strokes.items
-tour-longer m h g a b before now (later, is) =
-    let e = tour-length m h a before in
-    let f = tour-length m g b now in
+-- a script that goes on gets no shorter
+pub script-longer : (m : MapValue) (h g : List Event) (a b : Script) → IsScriptOf m h a → IsScriptOf m g b
+    → ComesAfter h g → length a.events.items ≤ length b.events.items
+script-longer m h g a b before now (later, is) =
+    let e = script-length m h a before in
+    let f = script-length m g b now in
     let more = ap (λ z. length z) is ∙ length-append later h in
     omega (arith, e, f, more)
 
 -- before the first visit
-nothing-down : (xs : List Stroke) (k : ℕ) → events_of xs ≡ [] → is_down k xs ≡ false
+nothing-down : (xs : List ScriptEvent) (k : ℕ) → events_of xs ≡ [] → is_down k xs ≡ false
 nothing-down [] k e = refl
 nothing-down (x ∷ xs) k e = let none : event_of x ∷ events_of xs ≡ [] = e in cc
 
-pub under-way-new : (m : MapValue) (A : Maps → List Event → Type 0) (p : Planned) (t : Tour)
-    → (p.map ≡ m) × HasLocks m p.locks [] → RunsAlong m A [] t → IsUnderWay m A p t []
+pub under-way-new : (m : MapValue) (A : Standing) (p : ExplorerValue) (t : Script) → (p.map ≡ m) × HasLocks m p.locks []
+    → RunsAlong m A [] t → IsUnderWay m A p t []
 under-way-new m A p t plan run = record {
   runs = run;
-  up = λ k lt. run.1.pressed k lt ∙ nothing-down (reverse t.strokes.items) k run.1.events;
+  up = λ k lt. run.1.pressed k lt ∙ nothing-down (reverse t.events.items) k run.1.history;
   rest = at-rest_new m;
   map = plan.0;
   locks = plan.1;
 }
 
 -- what can be seen of the keys and of the pairs was seen
-pub leaves-nothing : (m : MapValue) (xs ys : List Sight) (t : Tour) → xs ≡ all_cells ++ all_lock_settings
+pub leaves-nothing : (m : MapValue) (xs ys : List Sight) (t : Script) → xs ≡ all_cells ++ all_lock_settings
     → ys ≡ pairs_in m → SeesAll m xs t → SeesAll m ys t → LeavesNothingOut m t
 leaves-nothing m xs ys t keys pairs first second steady x told can =
     let has : Contains (xs ++ ys) x =
@@ -163,12 +165,11 @@ leaves-nothing m xs ys t keys pairs first second steady x told can =
     ]
 
 -- the keys first, and then the pairs
-pub told-shown : (m : MapValue) (A : Maps → List Event → Type 0) (p : Planned) (a : Tour)
-    (B : Maps → List Event → Type 0) (q : Planned) (b : Tour) (C : Maps → List Event → Type 0) (r : Planned) (d : Tour)
-    (xs ys : List Sight) (n : ℕ)
-    → xs ≡ all_cells ++ all_lock_settings → ys ≡ pairs_in m → n ≡ length b.strokes.items
+pub told-shown : (m : MapValue) (A : Standing) (p : ExplorerValue) (a : Script) (B : Standing) (q : ExplorerValue)
+    (b : Script) (C : Standing) (r : ExplorerValue) (d : Script) (xs ys : List Sight) (n : ℕ)
+    → xs ≡ all_cells ++ all_lock_settings → ys ≡ pairs_in m → n ≡ length b.events.items
     → GoesUnderWay m A p a B q b (SeesAll m xs b) → GoesUnderWay m B q b C r d (SeesAll m ys d)
-    → GoesUnderWay m A p a C r d (LeavesNothingOut m d × (n ≤ length d.strokes.items))
+    → GoesUnderWay m A p a C r d (LeavesNothingOut m d × (n ≤ length d.events.items))
 told-shown m A p a B q b C r d xs ys n keys pairs is first second h w =
     let (g, v, after, seen) = first h w in
     let (f, u, more, all) = second g v in
@@ -179,27 +180,24 @@ told-shown m A p a B q b C r d xs ys n keys pairs is first second h w =
       after-more h g f after more,
       (
         leaves-nothing m xs ys d keys pairs still all,
-        subst (λ k. k ≤ length d.strokes.items) (sym is) (tour-longer m g f b d v.runs.1 u.runs.1 more),
+        subst (λ k. k ≤ length d.events.items) (sym is) (script-longer m g f b d v.runs.1 u.runs.1 more),
       ),
     )
 
 -- one walk behind another
-pub walks-further : (m : MapValue) (x y : List Event) (A : Maps → List Event → Type 0) (a : Tour)
-    (B : Maps → List Event → Type 0) (b : Tour) (C : Maps → List Event → Type 0) (d : Tour)
-    → GoesAlongToRest m x A a B b → GoesAlongToRest m y B b C d → GoesFurther m A a C d
+pub walks-further : (m : MapValue) (x y : List Event) (A : Standing) (a : Script) (B : Standing) (b : Script)
+    (C : Standing) (d : Script) → GoesAlongToRest m x A a B b → GoesAlongToRest m y B b C d → GoesFurther m A a C d
 walks-further m x y A a B b C d first second h at =
     let (g, run, rest, after, exact) = first h at in
     let (f, end, there, more, same) = second g run in
     (f, end, there, after-more h g f after more)
 
 -- what is told of is seen, and then the script goes further, and onward
-pub script-whole : (m : MapValue) (A : Maps → List Event → Type 0) (p : Planned) (a : Tour)
-    (B : Maps → List Event → Type 0) (q : Planned) (b : Tour) (C : Maps → List Event → Type 0) (d : Tour)
-    (D : Maps → List Event → Type 0) (e : Tour) (n : ℕ)
-    → IsUnderWay m A p a [] → GoesUnderWay m A p a B q b (LeavesNothingOut m b × (n ≤ length b.strokes.items))
-    → GoesFurther m B b C d → AreUp d.pressed → GoesResting m C d D e
-    → EndsAtRest m e × LeavesNothingOut m e × (n ≤ length b.strokes.items)
-    × (length b.strokes.items ≤ length d.strokes.items) × (length d.strokes.items ≤ length e.strokes.items)
+pub script-whole : (m : MapValue) (A : Standing) (p : ExplorerValue) (a : Script) (B : Standing) (q : ExplorerValue)
+    (b : Script) (C : Standing) (d : Script) (D : Standing) (e : Script) (n : ℕ) → IsUnderWay m A p a []
+    → GoesUnderWay m A p a B q b (LeavesNothingOut m b × (n ≤ length b.events.items)) → GoesFurther m B b C d
+    → AreUp d.pressed → GoesResting m C d D e → EndsAtRest m e × LeavesNothingOut m e × (n ≤ length b.events.items)
+    × (length b.events.items ≤ length d.events.items) × (length d.events.items ≤ length e.events.items)
 script-whole m A p a B q b C d D e n new shown further up onward =
     let (g, w, after, (nothing, le)) = shown [] new in
     let (f, run, rest, more) = further g w.runs in
@@ -208,6 +206,6 @@ script-whole m A p a B q b C d D e n new shown further up onward =
       (λ steady x told can.
           seen-still m g k b e x w.runs.1 end.1 (after-more g f k more last) (nothing steady x told can)),
       le,
-      tour-longer m g f b d w.runs.1 run.1 more,
-      tour-longer m f k d e run.1 end.1 last,
+      script-longer m g f b d w.runs.1 run.1 more,
+      script-longer m f k d e run.1 end.1 last,
     )

@@ -1,26 +1,27 @@
--- How a console goes along a tour, by one event more and by many.
+-- How a console goes along a script, by one event more and by many.
 use Rattle.keymap_cover.proofs.Common.{◌≡◌, ℕ, ◌+◌, ◌<◌, Bool, true, false, List, [], ◌∷◌, ◌++◌, refl, ap, subst, sym}
 use Rattle.keymap_cover.proofs.Common.{◌∙◌, arith, append_assoc, get_or, length, reverse, take, Result, Ok, Err, ◌==◌}
 use Rattle.keymap_cover.proofs.Common.{slice_index_or, OnOk, eqb-true, eq-eqb, true≢false, reverse-append, MapValue}
-use Rattle.keymap_cover.proofs.Common.{Event, Maps, between, resolved, AreTaken, Tour, ComesAfter, GoesIfTaken, GoesOn}
+use Rattle.keymap_cover.proofs.Common.{Event, Standing, between, resolved, AreTaken, Script, ComesAfter, GoesIfTaken}
+use Rattle.keymap_cover.proofs.Common.{GoesOn}
 use Rattle.keymap_cover.proofs.Common.{GoesAlong, GoesAlongToRest}
 use Rattle.std.proofs.Common.{◌≢◌}
 use Rattle.std.proofs.lemmas.List.{take_more}
 use Rattle.console_core.specs.Resolved.{locked}
 use Rattle.console_core.specs.Sticking.{IsOfPressedKey}
-use Rattle.keymap_cover.specs.Inner.Tours.{TurnsNone, GoesBy, GoesUp, GoesToRest}
+use Rattle.keymap_cover.specs.Inner.Scripts.{TurnsNone, GoesBy, GoesUp, GoesToRest}
 use Rattle.console_core.proofs.OneMore.{resolved-more, locked-release, locked-reset}
-use Rattle.keymap_cover.proofs.Touring.{at-rest}
+use Rattle.keymap_cover.proofs.Scripts.{at-rest}
 use Rattle.console_core.specs.declared.event.Event.TheVariants as event
 
 -- an event that is delivered
-pub by-taken : (m : MapValue) (e : Event) (A : Maps → List Event → Type 0) (a : Tour) (B : Maps → List Event → Type 0)
-    (b : Tour) → GoesBy m e A a B b → GoesIfTaken m e A a B b
+pub by-taken : (m : MapValue) (e : Event) (A : Standing) (a : Script) (B : Standing) (b : Script) → GoesBy m e A a B b
+    → GoesIfTaken m e A a B b
 by-taken m e A a B b goes h at = (e ∷ h, goes h at, (e ∷ [], refl), (λ none of. refl))
 
 -- a release, where it turns no lock
-pub up-taken : (m : MapValue) (k : ℕ) (A : Maps → List Event → Type 0) (a : Tour) (B : Maps → List Event → Type 0)
-    (b : Tour) → GoesUp m k A a B b → GoesIfTaken m (event.Release k) A a B b
+pub up-taken : (m : MapValue) (k : ℕ) (A : Standing) (a : Script) (B : Standing) (b : Script) → GoesUp m k A a B b
+    → GoesIfTaken m (event.Release k) A a B b
 up-taken m k A a B b goes h at =
     let (g, run, (after, locks), exact) = goes h at in (g, run, after, (λ none of. exact of))
 
@@ -44,9 +45,9 @@ turns-more : (m : MapValue) (a b c : List Event) → TurnsNone m a b → TurnsNo
 turns-more m a b c (x, e) (y, f) = (after-more a b c x y, (λ l. f l ∙ e l))
 
 -- a load, in whose place there is a reset
-pub no-load : (m : MapValue) (e : Event) (A : Maps → List Event → Type 0) (a : Tour) (B : Maps → List Event → Type 0)
-    (b : Tour) → ((k : ℕ) → e ≡ event.Press k → ⊥) → ((k : ℕ) → e ≡ event.Release k → ⊥)
-    → GoesBy m event.Reset A a B b → GoesIfTaken m e A a B b
+pub no-load : (m : MapValue) (e : Event) (A : Standing) (a : Script) (B : Standing) (b : Script)
+    → ((k : ℕ) → e ≡ event.Press k → ⊥) → ((k : ℕ) → e ≡ event.Release k → ⊥) → GoesBy m event.Reset A a B b
+    → GoesIfTaken m e A a B b
 no-load m event.Reset A a B b not-press not-release goes = by-taken m event.Reset A a B b goes
 no-load m event.Load A a B b not-press not-release goes =
     λ h at. (event.Reset ∷ h, goes h at, (event.Reset ∷ [], refl), (λ none of. absurd (true≢false none)))
@@ -54,13 +55,12 @@ no-load m (event.Press k) A a B b not-press not-release goes = absurd (not-press
 no-load m (event.Release k) A a B b not-press not-release goes = absurd (not-release k refl)
 
 -- a reset comes to rest
-pub to-rest : (m : MapValue) (A : Maps → List Event → Type 0) (a : Tour) (B : Maps → List Event → Type 0)
-    (b : Tour) → GoesBy m event.Reset A a B b → GoesToRest m A a B b
+pub to-rest : (m : MapValue) (A : Standing) (a : Script) (B : Standing) (b : Script) → GoesBy m event.Reset A a B b
+    → GoesToRest m A a B b
 to-rest m A a B b goes h at = (event.Reset ∷ h, goes h at, reset-turns_none m h, at-rest m h)
 
 -- one release more behind some
-pub on-more : (m : MapValue) (k : ℕ) (A : Maps → List Event → Type 0) (a : Tour) (B : Maps → List Event → Type 0)
-    (b : Tour) (C : Maps → List Event → Type 0) (c : Tour)
+pub on-more : (m : MapValue) (k : ℕ) (A : Standing) (a : Script) (B : Standing) (b : Script) (C : Standing) (c : Script)
     → GoesOn m A a B b → GoesUp m k B b C c → GoesOn m A a C c
 on-more m k A a B b C c first last h at =
     let (g, run, turns) = first h at in
@@ -70,8 +70,7 @@ on-more m k A a B b C c first last h at =
 -- the keys below a number are up, and now that one too
 pub up-more : (old now : List Bool) (n k : ℕ) → k ≡ n → slice_index_or now k false ≡ false
     → ((j : ℕ) → j ≢ k → slice_index_or now j false ≡ slice_index_or old j false)
-    → ((j : ℕ) → j < n → slice_index_or old j false ≡ false)
-    → (j : ℕ) → j < n + 1 → slice_index_or now j false ≡ false
+    → ((j : ℕ) → j < n → slice_index_or old j false ≡ false) → (j : ℕ) → j < n + 1 → slice_index_or now j false ≡ false
 up-more old now n k is up others below j lt = which (j == k) refl
   where
     which : (t : Bool) → (j == k) ≡ t → slice_index_or now j false ≡ false
@@ -81,10 +80,10 @@ up-more old now n k is up others below j lt = which (j == k) refl
         others j other ∙ below j (omega (arith, lt, is, other))
 
 -- the events that were delivered one by one
-pub along-more : (m : MapValue) (events : List Event) (i : ℕ) (e : Event) (A : Maps → List Event → Type 0) (a : Tour)
-    (B : Maps → List Event → Type 0) (b : Tour) (C : Maps → List Event → Type 0) (c : Tour)
-    → i < length events → e ≡ get_or events i e → GoesAlong m (reverse (take i events)) A a B b
-    → GoesIfTaken m e B b C c → GoesAlong m (reverse (take (i + 1) events)) A a C c
+pub along-more : (m : MapValue) (events : List Event) (i : ℕ) (e : Event) (A : Standing) (a : Script) (B : Standing)
+    (b : Script) (C : Standing) (c : Script) → i < length events → e ≡ get_or events i e
+    → GoesAlong m (reverse (take i events)) A a B b → GoesIfTaken m e B b C c
+    → GoesAlong m (reverse (take (i + 1) events)) A a C c
 along-more m events i e A a B b C c lt is first last h at =
     let later : List Event = reverse (take i events) in
     let next : reverse (take (i + 1) events) ≡ e ∷ later =
@@ -103,10 +102,9 @@ along-more m events i e A a B b C c lt is first last h at =
     )
 
 -- and to rest
-pub along-rest : (m : MapValue) (later : List Event) (A : Maps → List Event → Type 0) (a : Tour)
-    (B : Maps → List Event → Type 0) (b : Tour) (C : Maps → List Event → Type 0) (c : Tour)
-    (D : Maps → List Event → Type 0) (d : Tour) → GoesAlong m later A a B b → GoesOn m B b C c → GoesToRest m C c D d
-    → GoesAlongToRest m later A a D d
+pub along-rest : (m : MapValue) (later : List Event) (A : Standing) (a : Script) (B : Standing) (b : Script)
+    (C : Standing) (c : Script) (D : Standing) (d : Script) → GoesAlong m later A a B b → GoesOn m B b C c
+    → GoesToRest m C c D d → GoesAlongToRest m later A a D d
 along-rest m later A a B b C c D d first then last h at =
     let (g, run, before, same) = first h at in
     let (f, go, turns) = then g run in

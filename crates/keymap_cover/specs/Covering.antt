@@ -17,13 +17,13 @@ use Rattle.keymap_cover.specs.declared.parts.Counts.{Counts}
 use Rattle.keymap_cover.specs.declared.parts.Verdict.{Verdict}
 use Rattle.keymap_cover.specs.declared.parts.Verdict.TheVariants.{Seen, LeftOut, Never}
 use Rattle.keymap_cover.specs.SeenSights.{has_seen}
-use Rattle.keymap_cover.specs.Strokes.{events_of, is_down, ArePossible}
+use Rattle.keymap_cover.specs.ScriptEvents.{events_of, is_down, ArePossible}
 use Rattle.keymap_cover.specs.Told.{IsTold}
 use Rattle.keymap_cover.specs.Parts.{AreParts}
 
 -- the events of the script, with the newest first
-abbrev pub events : Cover → List Event
-events c = events_of (reverse c.strokes.items)
+abbrev pub history : Cover → List Event
+history c = events_of (reverse c.events.items)
 
 -- At the end no key is pressed, no modifier is on and no accent is pending.
 abbrev pub IsAtRest : MapValue → List Event → Type 0
@@ -33,20 +33,20 @@ IsAtRest m h =
 -- What a script and its lists say.
 pub record Covers (m : MapValue) (c : Cover) : Type 0 where
   -- what is seen is what the script sees
-  pub seen : (x : Sight) → has_seen c.seen x ≡ true → SeesAlong m (events c) x
-  pub all_seen : (x : Sight) → SeesAlong m (events c) x → has_seen c.seen x ≡ true
+  pub seen : (x : Sight) → has_seen c.seen x ≡ true → SeesAlong m (history c) x
+  pub all_seen : (x : Sight) → SeesAlong m (history c) x → has_seen c.seen x ≡ true
   -- what can be seen is what paths show
   pub sights : AreSightsOf m c.sights
   -- the events are about keys 0 to 127
-  pub keys : HasKeys (events c)
-  -- strokes can be made at a keyboard, and end at rest
-  pub possible : ArePossible (reverse c.strokes.items)
-  pub rest : IsAtRest m (events c)
-  pub up : (k : ℕ) → k < key_count → is_down k (reverse c.strokes.items) ≡ false
-  -- its parts begin in their order, the first before all strokes, and each has a stroke
-  pub parts : AreParts c.starts.items (length c.strokes.items)
+  pub keys : HasKeys (history c)
+  -- events can be made at a keyboard, and end at rest
+  pub possible : ArePossible (reverse c.events.items)
+  pub rest : IsAtRest m (history c)
+  pub up : (k : ℕ) → k < key_count → is_down k (reverse c.events.items) ≡ false
+  -- its parts begin in their order, the first before all events, and each has an event
+  pub parts : AreParts c.starts.items (length c.events.items)
   -- where no turn of a lock is one-way, nothing that is told of and can be seen is left out
-  pub complete : NoTurnIsOneWay m → (x : Sight) → IsTold m x → IsReachable m x → SeesAlong m (events c) x
+  pub complete : NoTurnIsOneWay m → (x : Sight) → IsTold m x → IsReachable m x → SeesAlong m (history c) x
 
 -- No press after a list that is spoken of sees it: after any list of presses, releases and resets, or, where a holder
 -- looks up a character in a state that a path leads to, after any clean one.
@@ -57,11 +57,11 @@ NeverSees m forgets x =
 -- What is told of a sight. Each sight has exactly one verdict: what can be seen by no path is seen by no list. What is
 -- left out though it is told of is so only where a turn of a lock is one-way.
 abbrev pub IsVerdict : MapValue → Cover → Sight → Verdict → Type 0
-IsVerdict m c x Seen = SeesAlong m (events c) x
+IsVerdict m c x Seen = SeesAlong m (history c) x
 IsVerdict m c x LeftOut =
-    (SeesAlong m (events c) x → ⊥) × IsReachable m x × (IsTold m x → NoTurnIsOneWay m → ⊥)
+    (SeesAlong m (history c) x → ⊥) × IsReachable m x × (IsTold m x → NoTurnIsOneWay m → ⊥)
 IsVerdict m c x Never =
-    (SeesAlong m (events c) x → ⊥) × (IsReachable m x → ⊥) × NeverSees m c.sights.forgets x
+    (SeesAlong m (history c) x → ⊥) × (IsReachable m x → ⊥) × NeverSees m c.sights.forgets x
 
 -- the verdict on a sight
 abbrev pub verdict_of : MapValue → Cover → Sight → Verdict

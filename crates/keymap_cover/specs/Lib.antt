@@ -1,6 +1,6 @@
 pub mod Covering
 pub mod Inner
-pub mod Strokes
+pub mod ScriptEvents
 pub mod SightLists
 pub mod SeenSights
 pub mod Told

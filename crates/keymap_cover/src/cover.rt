@@ -5,8 +5,8 @@ ghost use Rattle.console_core.specs.History.{between};
 ghost use Rattle.console_core.specs.Returning.{NoTurnIsOneWay};
 ghost use Rattle.console_core.specs.Sights.{AreSightsOf, IsReachable, can_see};
 ghost use Rattle.keymap_cover.specs.Covering.{NeverSees, Covers, IsVerdict, verdict_of, IsCover};
-ghost use Rattle.keymap_cover.specs.Inner.Tours.{AreUp, EndsAtRest, GoesFurther, GoesUnderWay, IsPlanFor};
-ghost use Rattle.keymap_cover.specs.Inner.Tours.{LeavesNothingOut, SeesAll};
+ghost use Rattle.keymap_cover.specs.Inner.Scripts.{AreUp, EndsAtRest, GoesFurther, GoesUnderWay, IsExplorerFor};
+ghost use Rattle.keymap_cover.specs.Inner.Scripts.{LeavesNothingOut, SeesAll};
 ghost use Rattle.keymap_cover.specs.SeenSights.{has_seen};
 ghost use Rattle.keymap_cover.specs.Parts.{AreParts, part_place};
 ghost use Rattle.keymap_cover.specs.Inner.Adding.{ArePartsBelow};
@@ -14,11 +14,11 @@ ghost use Rattle.keymap_cover.specs.Inner.Adding.{ArePartsBelow};
 use crate::families::trials;
 use crate::one_way::go_onward;
 use crate::parts::{Cover, Part, Start, Verdict};
+use crate::script::Script;
 use crate::seen::Seen;
 use crate::told::{told_of_keys, told_pairs};
-use crate::tour::Tour;
 use console_core::laws::sights_are_reachable;
-use console_core::{PlainConsole, Planner, Selection, Sight, Sights, Translator, sights_of};
+use console_core::{Explorer, PlainConsole, Selection, Sight, Sights, Translator, sights_of};
 use keymap_core::{KEY_COUNT, KeyCode, KeyMap, key_with};
 use std::alloc::{AllocError, Global};
 
@@ -70,12 +70,12 @@ pub(crate) fn sees_new(seen: &Seen, map: &KeyMap, selection: Selection, key: Key
 /// The keys whose press sees something new where the next visit leads, but for the one that is pressed there last.
 fn new_keys(
     alloc: Global,
-    planner: &Planner,
+    explorer: &Explorer,
     seen: &Seen,
     map: &KeyMap,
 ) -> Result<Vec<KeyCode>, AllocError> {
     let mut keys = Vec::new(alloc);
-    if let Some((selection, pressed)) = planner.next_press() {
+    if let Some((selection, pressed)) = explorer.next_press() {
         for code in 0..KEY_COUNT as u8 {
             let key = key_with(code);
             if key != pressed && sees_new(seen, map, selection, key) {
@@ -86,65 +86,65 @@ fn new_keys(
     Ok(keys)
 }
 
-/// Goes where a press sees what the planner aims at.
+/// Goes where a press sees what the explorer aims at.
 fn show<T: Translator>(
     alloc: Global,
-    planner: &mut Planner,
-    tour: &mut Tour,
+    explorer: &mut Explorer,
+    script: &mut Script,
     console: &mut T,
     map: &KeyMap,
 ) -> Result<(), AllocError>
-    ensures { OnOk result (GoesUnderWay map.now (T.stands console.old) planner.old tour.old (T.stands console.new)
-        planner.new tour.new ((x : SightValue) → planner.old.aim ≡ Some x → IsReachable map.now x
-        → has_seen tour.new.seen x ≡ true)) }
+    ensures { OnOk result (GoesUnderWay map.now (T.stands console.old) explorer.old script.old (T.stands console.new)
+        explorer.new script.new ((x : SightValue) → explorer.old.aim ≡ Some x → IsReachable map.now x
+        → has_seen script.new.seen x ≡ true)) }
 {
-    let keys = new_keys(alloc, planner, &tour.seen, map)?;
-    let events = planner.visit(alloc, &keys)?;
-    tour.walk(console, map, &events)?;
+    let keys = new_keys(alloc, explorer, &script.seen, map)?;
+    let events = explorer.visit(alloc, &keys)?;
+    script.walk(console, map, &events)?;
     Ok(())
 }
 
-/// Goes where a press sees it, if it is left out and the planner finds such a press.
+/// Goes where a press sees it, if it is left out and the explorer finds such a press.
 fn show_left_out<T: Translator>(
     alloc: Global,
-    planner: &mut Planner,
-    tour: &mut Tour,
+    explorer: &mut Explorer,
+    script: &mut Script,
     console: &mut T,
     map: &KeyMap,
     sights: &Sights,
     sight: Sight,
 ) -> Result<(), AllocError>
     requires { AreSightsOf map.now sights.now }
-    ensures { OnOk result (GoesUnderWay map.now (T.stands console.old) planner.old tour.old (T.stands console.new)
-        planner.new tour.new (NoTurnIsOneWay map.now → IsReachable map.now sight
-        → has_seen tour.new.seen sight ≡ true)) }
+    ensures { OnOk result (GoesUnderWay map.now (T.stands console.old) explorer.old script.old (T.stands console.new)
+        explorer.new script.new (NoTurnIsOneWay map.now → IsReachable map.now sight
+        → has_seen script.new.seen sight ≡ true)) }
 {
-    if !is_left_out(&tour.seen, sights, map, sight) {
+    if !is_left_out(&script.seen, sights, map, sight) {
         return Ok(());
     }
-    if !planner.find(sight) {
+    if !explorer.aim_at(sight) {
         return Ok(());
     }
-    show(alloc, planner, tour, console, map)?;
+    show(alloc, explorer, script, console, map)?;
     Ok(())
 }
 
 /// Goes where presses see what is left out of these.
 fn show_all<T: Translator>(
     alloc: Global,
-    planner: &mut Planner,
-    tour: &mut Tour,
+    explorer: &mut Explorer,
+    script: &mut Script,
     console: &mut T,
     map: &KeyMap,
     sights: &Sights,
     told: &[Sight],
 ) -> Result<(), AllocError>
     requires { AreSightsOf map.now sights.now }
-    ensures { OnOk result (GoesUnderWay map.now (T.stands console.old) planner.old tour.old (T.stands console.new)
-        planner.new tour.new (SeesAll map.now told.now tour.new)) }
+    ensures { OnOk result (GoesUnderWay map.now (T.stands console.old) explorer.old script.old (T.stands console.new)
+        explorer.new script.new (SeesAll map.now told.now script.new)) }
 {
     for sight in told {
-        show_left_out(alloc, planner, tour, console, map, sights, *sight)?;
+        show_left_out(alloc, explorer, script, console, map, sights, *sight)?;
     }
     Ok(())
 }
@@ -161,7 +161,7 @@ fn begin(starts: &mut Vec<Start>, part: Part, at: usize, end: usize) -> Result<(
     Ok(())
 }
 
-/// Where the parts begin of a script whose parts end behind so many strokes.
+/// Where the parts begin of a script whose parts end behind so many events.
 fn starts_of(
     alloc: Global,
     first: usize,
@@ -182,69 +182,70 @@ fn starts_of(
     Ok(starts)
 }
 
-/// Goes where presses see cells and lock settings, and then pairs. Answers how many strokes there were between.
+/// Goes where presses see cells and lock settings, and then pairs. Answers how many events there were between.
 fn show_told<T: Translator>(
     alloc: Global,
-    planner: &mut Planner,
-    tour: &mut Tour,
+    explorer: &mut Explorer,
+    script: &mut Script,
     console: &mut T,
     map: &KeyMap,
     sights: &Sights,
 ) -> Result<usize, AllocError>
     requires { AreSightsOf map.now sights.now }
-    ensures { IfOk result (λ first. GoesUnderWay map.now (T.stands console.old) planner.old tour.old
-        (T.stands console.new) planner.new tour.new (LeavesNothingOut map.now tour.new
-        × (first ≤ length tour.new.strokes.items))) }
+    ensures { IfOk result (λ first. GoesUnderWay map.now (T.stands console.old) explorer.old script.old
+        (T.stands console.new) explorer.new script.new (LeavesNothingOut map.now script.new
+        × (first ≤ length script.new.events.items))) }
 {
     let keys = told_of_keys(alloc)?;
-    show_all(alloc, planner, tour, console, map, sights, &keys)?;
-    let first = tour.strokes.len();
+    show_all(alloc, explorer, script, console, map, sights, &keys)?;
+    let first = script.events.len();
     let pairs = told_pairs(alloc, map)?;
-    show_all(alloc, planner, tour, console, map, sights, &pairs)?;
+    show_all(alloc, explorer, script, console, map, sights, &pairs)?;
     Ok(first)
 }
 
 /// Goes home, and makes the trials.
 fn try_keys<T: Translator>(
     alloc: Global,
-    planner: &Planner,
-    tour: &mut Tour,
+    explorer: &Explorer,
+    script: &mut Script,
     console: &mut T,
     map: &KeyMap,
 ) -> Result<(), AllocError>
-    ensures along { OnOk result (GoesFurther map.now (T.stands console.old) tour.old (T.stands console.new) tour.new) }
-    ensures up { OnOk result (AreUp tour.new.pressed) }
+    ensures along { OnOk result (GoesFurther map.now (T.stands console.old) script.old (T.stands console.new)
+        script.new) }
+    ensures up { OnOk result (AreUp script.new.pressed) }
 {
     let mut home = Vec::new(alloc);
-    planner.push_home(&mut home, &*console)?;
-    tour.walk(console, map, &home)?;
-    let trials = trials(alloc, map, planner)?;
-    tour.walk(console, map, &trials)?;
+    explorer.push_home(&mut home, &*console)?;
+    script.walk(console, map, &home)?;
+    let trials = trials(alloc, map, explorer)?;
+    script.walk(console, map, &trials)?;
     Ok(())
 }
 
 /// The script, and where its parts begin.
-fn tour_of<T: Translator>(
+fn script_of<T: Translator>(
     alloc: Global,
-    planner: &mut Planner,
+    explorer: &mut Explorer,
     console: &mut T,
     map: &KeyMap,
     sights: &Sights,
-) -> Result<(Tour, Vec<Start>), AllocError>
+) -> Result<(Script, Vec<Start>), AllocError>
     requires new { T.stands console.old (between map.now map.now) [] }
-    requires planner { IsPlanFor map.now planner.old }
+    requires explorer { IsExplorerFor map.now explorer.old }
     requires sights { AreSightsOf map.now sights.now }
     ensures { IfOk result (λ t. EndsAtRest map.now t.0 × LeavesNothingOut map.now t.0
-        × AreParts t.1.items (length t.0.strokes.items)) }
+        × AreParts t.1.items (length t.0.events.items)) }
 {
-    let mut tour = Tour::new(alloc)?;
-    let first = show_told(alloc, planner, &mut tour, console, map, sights)?;
-    let second = tour.strokes.len();
-    try_keys(alloc, planner, &mut tour, console, map)?;
-    let third = tour.strokes.len();
-    go_onward(alloc, &mut tour, console, map, sights)?;
-    let starts = starts_of(alloc, first, second, third, tour.strokes.len())?;
-    Ok((tour, starts))
+    let mut script = Script::new(alloc)?;
+    let first = show_told(alloc, explorer, &mut script, console, map, sights)?;
+    let second = script.events.len();
+    try_keys(alloc, explorer, &mut script, console, map)?;
+    let third = script.events.len();
+    go_onward(alloc, &mut script, console, map, sights)?;
+    let starts = starts_of(alloc, first, second, third, script.events.len())?;
+    Ok((script, starts))
 }
 
 /// A script for the keymap, or nothing where the search gives up.
@@ -254,14 +255,14 @@ pub fn cover_of(alloc: Global, map: &KeyMap) -> Result<Option<Cover>, AllocError
     let Some(sights) = sights_of(alloc, map)? else {
         return Ok(None);
     };
-    match Planner::new(alloc, map)? {
-        Some(mut planner) => {
+    match Explorer::new(alloc, map)? {
+        Some(mut explorer) => {
             let mut console = PlainConsole::new(map);
-            let (tour, starts) = tour_of(alloc, &mut planner, &mut console, map, &sights)?;
+            let (script, starts) = script_of(alloc, &mut explorer, &mut console, map, &sights)?;
             Ok(Some(Cover {
-                strokes: tour.strokes,
+                events: script.events,
                 starts,
-                seen: tour.seen,
+                seen: script.seen,
                 sights,
             }))
         }

@@ -3,7 +3,7 @@ use crate::idle_keys::IdleKeys;
 use crate::kind::{Kind, is_usable};
 use crate::probes::probes;
 use crate::trials::Trials;
-use console_core::{Event, KeyAt, PlainConsole, Planner, Selection, Translator};
+use console_core::{Event, Explorer, KeyAt, PlainConsole, Selection, Translator};
 use keymap_core::{
     ACCENT_LIMIT, AccentIndex, Action, Cell, HOLDINGS, Holding, KEY_COUNT, KeyCode, KeyMap, Keymap,
     Lock, MODIFIERS, Modifier, key_with,
@@ -17,25 +17,25 @@ const MANY: usize = 16;
 pub(crate) fn trials<'m>(
     alloc: Global,
     map: &'m KeyMap,
-    planner: &Planner<'m>,
+    explorer: &Explorer<'m>,
 ) -> Result<Vec<Event>, AllocError> {
     let mut console = PlainConsole::new(map);
-    trials_along(alloc, map, planner, &mut console)
+    trials_along(alloc, map, explorer, &mut console)
 }
 
 /// The events of all trials, while the console runs along.
 fn trials_along<'t, 'm, T: Translator>(
     alloc: Global,
     map: &'m KeyMap,
-    planner: &'t Planner<'m>,
+    explorer: &'t Explorer<'m>,
     console: &'t mut T,
 ) -> Result<Vec<Event>, AllocError> {
-    let idle = IdleKeys::of(alloc, map, planner)?;
+    let idle = IdleKeys::of(alloc, map, explorer)?;
     let probes = probes(alloc, map, &idle.selections)?;
     let mut trials = Trials {
         alloc,
         map,
-        planner,
+        explorer,
         idle: &idle,
         probes: &probes,
         console,
@@ -114,7 +114,7 @@ impl<'t, 'm, T: Translator> Trials<'t, 'm, T> {
     /// Whether it can be taken back: it is no lock that picks cells, or moves turn it off again.
     fn is_taken_back(&self, cell: &Cell) -> bool {
         match cell {
-            Cell::Act(Action::Lock(lock)) => self.planner.takes_back(*lock),
+            Cell::Act(Action::Lock(lock)) => self.explorer.takes_back(*lock),
             _ => true,
         }
     }

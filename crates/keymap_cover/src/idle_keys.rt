@@ -1,5 +1,5 @@
 //! What keys that hold nothing look up in the states that were explored.
-use console_core::{KeyAt, Planner, Reached, Selection};
+use console_core::{Explorer, KeyAt, Reached, Selection};
 use keymap_core::{Cell, KEY_COUNT, KeyMap, key_with};
 use std::alloc::{AllocError, Global};
 
@@ -36,14 +36,14 @@ impl IdleKeys {
     pub(crate) fn of(
         alloc: Global,
         map: &KeyMap,
-        planner: &Planner,
+        explorer: &Explorer,
     ) -> Result<IdleKeys, AllocError> {
         let mut idle = IdleKeys {
             selections: Vec::new(alloc),
             keys: Vec::new(alloc),
         };
-        for place in 0..planner.len() {
-            if let Some(state) = planner.state(place) {
+        for place in 0..explorer.len() {
+            if let Some(state) = explorer.state(place) {
                 if !idle.selections.contains(&state.selection()) {
                     idle.add(map, &state, place)?;
                 }

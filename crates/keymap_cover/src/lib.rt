@@ -2,14 +2,14 @@
 //! a lock is one-way, and what it sees.
 //!
 //! The crate stands on `console_core`: a console runs along while the script is made, so that what each press looks up
-//! is noted, the search tells what can be looked up at all (`Sights`), and a `Planner` makes visits to what wasn't
+//! is kept, the search tells what can be looked up at all (`Sights`), and an `Explorer` makes visits to what wasn't
 //! looked up yet. Behind these stand trials of what keys do to each other, of which nothing is promised.
 //!
 //! It promises (`cover_of`, `Cover::verdict`) that what is told as seen is what the script sees in its events from a
 //! new console, that what is told as left out can be seen, and that what is told as never seen no list of events sees,
 //! or no clean one where a key that holds a modifier can look up a character. Only released keys are pressed, only
 //! pressed ones repeated and released; at the end no key is down, no modifier on and no accent pending. The parts of
-//! the script begin in their order, the first before all strokes, and each has strokes.
+//! the script begin in their order, the first before all events, and each has events.
 #![tactic(auto)]
 
 mod counts;
@@ -17,20 +17,20 @@ mod cover;
 mod families;
 mod idle_keys;
 mod kind;
-mod noting;
+mod marks;
 mod one_way;
 mod parts;
 mod probes;
+mod script;
+mod script_event;
 mod seen;
 mod sight_lists;
-mod stroke;
 mod told;
-mod tour;
 mod trials;
 mod walk;
 
 pub use cover::cover_of;
 pub use parts::{Counts, Cover, Part, Start, Verdict};
+pub use script_event::ScriptEvent;
 pub use seen::Seen;
 pub use sight_lists::{cells, lock_settings};
-pub use stroke::Stroke;

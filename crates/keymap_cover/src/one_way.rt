@@ -1,12 +1,12 @@
 //! What only turns of locks lead to that can't be taken back.
 ghost use Rattle.std.specs.Prelude.{OnOk};
-ghost use Rattle.keymap_cover.specs.Inner.Tours.{GoesResting};
+ghost use Rattle.keymap_cover.specs.Inner.Scripts.{GoesResting};
 
 use crate::cover::{is_left_out, sees_new};
 use crate::probes::changes_nothing;
+use crate::script::Script;
 use crate::seen::Seen;
 use crate::told::told_of_keys;
-use crate::tour::Tour;
 use console_core::{Event, Onward, Sight, Sights, Translator, find_onward};
 use keymap_core::{KEY_COUNT, KeyMap, key_with};
 use std::alloc::{AllocError, Global};
@@ -63,12 +63,12 @@ fn unseen(alloc: Global, seen: &Seen, sights: &[Sight]) -> Result<Vec<Sight>, Al
 /// Goes where a press sees one of these, and tells whether there is such a press.
 fn show_onward<T: Translator>(
     alloc: Global,
-    tour: &mut Tour,
+    script: &mut Script,
     console: &mut T,
     map: &KeyMap,
     left: &[Sight],
 ) -> Result<bool, AllocError>
-    ensures { OnOk result (GoesResting map.now (T.stands console.old) tour.old (T.stands console.new) tour.new) }
+    ensures { OnOk result (GoesResting map.now (T.stands console.old) script.old (T.stands console.new) script.new) }
 {
     if left.is_empty() {
         return Ok(false);
@@ -76,8 +76,8 @@ fn show_onward<T: Translator>(
     let Some(onward) = find_onward(alloc, map, &*console, left)? else {
         return Ok(false);
     };
-    let events = events_onward(alloc, map, &tour.seen, &onward)?;
-    tour.walk(console, map, &events)?;
+    let events = events_onward(alloc, map, &script.seen, &onward)?;
+    script.walk(console, map, &events)?;
     Ok(true)
 }
 
@@ -85,19 +85,19 @@ fn show_onward<T: Translator>(
 /// something more of it is seen, until nothing of it can be seen from where the console stands.
 pub(crate) fn go_onward<T: Translator>(
     alloc: Global,
-    tour: &mut Tour,
+    script: &mut Script,
     console: &mut T,
     map: &KeyMap,
     sights: &Sights,
 ) -> Result<(), AllocError>
-    ensures { OnOk result (GoesResting map.now (T.stands console.old) tour.old (T.stands console.new) tour.new) }
+    ensures { OnOk result (GoesResting map.now (T.stands console.old) script.old (T.stands console.new) script.new) }
 {
-    let mut left = left_out(alloc, &tour.seen, sights, map)?;
+    let mut left = left_out(alloc, &script.seen, sights, map)?;
     for _ in 0..left.len() {
-        if !show_onward(alloc, tour, console, map, &left)? {
+        if !show_onward(alloc, script, console, map, &left)? {
             return Ok(());
         }
-        left = unseen(alloc, &tour.seen, &left)?;
+        left = unseen(alloc, &script.seen, &left)?;
     }
     Ok(())
 }

@@ -1,12 +1,12 @@
 //! What is told of a keymap.
+use crate::script_event::ScriptEvent;
 use crate::seen::Seen;
-use crate::stroke::Stroke;
 use console_core::Sights;
 
 /// A script, what it sees and what can be seen.
 #[derive(Drop)]
 pub struct Cover {
-    pub strokes: Vec<Stroke>,
+    pub events: Vec<ScriptEvent>,
     /// Where its parts begin.
     pub starts: Vec<Start>,
     pub seen: Seen,

@@ -1,6 +1,6 @@
 //! The events of trials while they are made, and a console that runs along.
 use crate::idle_keys::IdleKeys;
-use console_core::{Event, KeyAt, Planner, Translator, is_any_on};
+use console_core::{Event, Explorer, KeyAt, Translator, is_any_on};
 use keymap_core::{KeyCode, KeyMap};
 use std::alloc::{AllocError, Global};
 
@@ -10,7 +10,7 @@ use std::alloc::{AllocError, Global};
 pub(crate) struct Trials<'t, 'm, T: Translator> {
     pub(crate) alloc: Global,
     pub(crate) map: &'m KeyMap,
-    pub(crate) planner: &'t Planner<'m>,
+    pub(crate) explorer: &'t Explorer<'m>,
     pub(crate) idle: &'t IdleKeys,
     pub(crate) probes: &'t [KeyCode],
     pub(crate) console: &'t mut T,
@@ -68,16 +68,16 @@ impl<'t, 'm, T: Translator> Trials<'t, 'm, T> {
     /// Turns the locks off that pick cells, where moves do.
     fn turn_locks_off(&mut self) -> Result<(), AllocError> {
         let mut route = Vec::new(self.alloc);
-        self.planner.push_home(&mut route, &*self.console)?;
+        self.explorer.push_home(&mut route, &*self.console)?;
         self.deliver_all(&route)
     }
 
     /// Goes to the place of the key, makes the steps with it, and comes back.
     pub(crate) fn play_at(&mut self, steps: &'static [u8], at: KeyAt) -> Result<(), AllocError> {
-        let path = self.planner.events_to(self.alloc, at.place)?;
+        let path = self.explorer.events_to(self.alloc, at.place)?;
         self.deliver_all(&path)?;
         self.play(steps, at.key, at.key)?;
-        if let Some(state) = self.planner.state(at.place) {
+        if let Some(state) = self.explorer.state(at.place) {
             let mut releases = Vec::new(self.alloc);
             state.push_releases(&mut releases)?;
             self.deliver_all(&releases)?;

@@ -8,15 +8,15 @@ ghost use Rattle.console_core.specs.declared.event.Event.TheVariants.{Press, Res
 ghost use Rattle.console_core.specs.History.{between};
 ghost use Rattle.console_core.specs.Sights.{selection_with};
 ghost use Rattle.keymap_cover.specs.SeenSights.{has_seen};
-ghost use Rattle.keymap_cover.specs.Inner.Tours.{AddsPair, AddsSights, IsTourOf, AreUp};
-ghost use Rattle.keymap_cover.specs.Inner.Tours.{GoesAlongToRest};
-ghost use Rattle.keymap_cover.specs.Inner.Tours.{GoesBy, GoesIfTaken, GoesUp, GoesOn, GoesToRest};
-ghost use Rattle.keymap_cover.specs.declared.stroke.Stroke.{Stroke as StrokeValue};
-ghost use Rattle.keymap_cover.specs.Strokes.{event_of, is_down, CanFollow};
+ghost use Rattle.keymap_cover.specs.Inner.Scripts.{AddsPair, AddsSights, IsScriptOf, AreUp};
+ghost use Rattle.keymap_cover.specs.Inner.Scripts.{GoesAlongToRest};
+ghost use Rattle.keymap_cover.specs.Inner.Scripts.{GoesBy, GoesIfTaken, GoesUp, GoesOn, GoesToRest};
+ghost use Rattle.keymap_cover.specs.declared.script_event.ScriptEvent.{ScriptEvent as ScriptEventValue};
+ghost use Rattle.keymap_cover.specs.ScriptEvents.{event_of, is_down, CanFollow};
 
+use crate::script::Script;
+use crate::script_event::ScriptEvent;
 use crate::seen::Seen;
-use crate::stroke::Stroke;
-use crate::tour::Tour;
 use console_core::{Event, Selection, Translator, is_any_on};
 use keymap_core::{Cell, KEY_COUNT, KeyCode, KeyMap, Lock, Modifier, key_with};
 use std::alloc::{AllocError, Global};
@@ -54,7 +54,7 @@ fn add_pair(
 }
 
 /// Adds what a press of the key sees.
-fn note<T: Translator>(
+fn add_sights<T: Translator>(
     seen: &mut Seen,
     console: &T,
     map: &KeyMap,
@@ -73,25 +73,25 @@ fn note<T: Translator>(
 }
 
 /// A press of the key, by whether it is pressed already.
-fn press_of(key: KeyCode, is_pressed: bool) -> Stroke
+fn press_of(key: KeyCode, is_pressed: bool) -> ScriptEvent
     ensures in_range { key < key_count }
     ensures event { event_of result ≡ Press key }
-    ensures possible { (before : List StrokeValue) → is_pressed ≡ is_down key before → CanFollow before result }
+    ensures possible { (before : List ScriptEventValue) → is_pressed ≡ is_down key before → CanFollow before result }
 {
     if is_pressed {
-        Stroke::Repeat(key)
+        ScriptEvent::Repeat(key)
     } else {
-        Stroke::Down(key)
+        ScriptEvent::Down(key)
     }
 }
 
-impl Tour {
-    /// No strokes.
-    pub fn new(alloc: Global) -> Result<Tour, AllocError>
-        ensures { IfOk result (λ t. (m : MapValue) → IsTourOf m [] t) }
+impl Script {
+    /// No events.
+    pub fn new(alloc: Global) -> Result<Script, AllocError>
+        ensures { IfOk result (λ t. (m : MapValue) → IsScriptOf m [] t) }
     {
-        Ok(Tour {
-            strokes: Vec::new(alloc),
+        Ok(Script {
+            events: Vec::new(alloc),
             pressed: [false; 128],
             seen: Seen::new(alloc)?,
         })
@@ -115,9 +115,9 @@ impl Tour {
         ensures { OnOk result (GoesBy map.now (Press key) (T.stands console.old) self.old
             (T.stands console.new) self.new) }
     {
-        note(&mut self.seen, console, map, key)?;
-        let stroke = press_of(key, self.is_pressed(key));
-        self.strokes.push(stroke)?;
+        add_sights(&mut self.seen, console, map, key)?;
+        let event = press_of(key, self.is_pressed(key));
+        self.events.push(event)?;
         self.pressed[key.get() as usize] = true;
         let _ = console.step(Event::Press(key));
         Ok(())
@@ -137,7 +137,7 @@ impl Tour {
             → slice_index_or self.new.pressed k false ≡ slice_index_or self.old.pressed k false) }
     {
         if self.is_pressed(key) {
-            self.strokes.push(Stroke::Up(key))?;
+            self.events.push(ScriptEvent::Up(key))?;
             self.pressed[key.get() as usize] = false;
             let _ = console.step(Event::Release(key));
         }
@@ -150,7 +150,7 @@ impl Tour {
             (T.stands console.new) self.new) }
         ensures kept { OnOk result (self.new.pressed ≡ self.old.pressed) }
     {
-        self.strokes.push(Stroke::Reset)?;
+        self.events.push(ScriptEvent::Reset)?;
         let _ = console.step(Event::Reset);
         Ok(())
     }

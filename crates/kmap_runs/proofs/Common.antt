@@ -15,14 +15,14 @@ pub use Rattle.keymap_core.specs.Maps.{MapValue}
 pub use Rattle.keymap_core.specs.Numbers.{slot_limit}
 pub use Rattle.keymap_core.specs.Unseen.{is_unseen}
 pub use Rattle.keymap_cover.specs.declared.parts.Verdict.TheVariants.{LeftOut, Never}
-pub use Rattle.keymap_cover.specs.declared.stroke.Stroke.TheVariants.{Reset}
+pub use Rattle.keymap_cover.specs.declared.script_event.ScriptEvent.TheVariants.{Reset}
 pub use Rattle.keymap_draw.specs.Pictures.{drawing}
 pub use Rattle.keymap_lint_text.proofs.Lines.{EachPasses, filled_all}
 pub use Rattle.keymap_text.specs.Meaning.{Spells}
 pub use Rattle.kmap_runs.specs.Comments.{comment}
 pub use Rattle.kmap_runs.specs.Cover.{AddsLists, AreAlike, ListsSlots, accent_line, accent_lines, bases_at}
 pub use Rattle.kmap_runs.specs.Cover.{character_text, column_text, has_verdict, is_in, rest_word, row_line, row_text}
-pub use Rattle.kmap_runs.specs.Cover.{script_lines, start_line, stroke_line, stroke_lines}
+pub use Rattle.kmap_runs.specs.Cover.{script_lines, start_line, script_event_line, event_lines}
 pub use Rattle.kmap_runs.specs.Search.{modifier_name}
 pub use Rattle.kmap_runs.specs.Typing.{comment_if, is_line_feed, line_shown, typing_script}
 unfoldable pub use Rattle.kmap_runs.specs.Typing.{lines_from, shown}

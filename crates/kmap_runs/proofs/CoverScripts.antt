@@ -1,4 +1,4 @@
--- What is printed to test a console is a script of its strokes.
+-- What is printed to test a console is a script of its events.
 use Rattle.kmap_runs.proofs.Common.{suc, ◌≡◌, ℕ, zero, ◌+◌, ◌<◌, ◌==◌, Bool, true, false, List, [], ◌∷◌, ◌++◌, length}
 use Rattle.kmap_runs.proofs.Common.{map, drop, get_or, refl, sym, ap, subst, ◌∙◌, append_assoc, append-nil, lit<}
 use Rattle.kmap_runs.proofs.Common.{if◌then◌else◌, decimal, add-one, ◌-◌, Option, Some, Ok, reverse, All, flat_map}
@@ -7,7 +7,7 @@ use Rattle.kmap_runs.proofs.Common.{All-reversed, Sight, Pair, HasKey, HasKeys, 
 use Rattle.kmap_runs.proofs.Common.{IsScript, Plays, moves, sends, script-nil, line-script, one_list}
 use Rattle.kmap_runs.proofs.Common.{comment, column_text, row_text, has_verdict, row_line, ListsSlots, AddsLists}
 use Rattle.kmap_runs.proofs.Common.{bases_at, character_text, accent_line, accent_lines, rest_word, start_line}
-use Rattle.kmap_runs.proofs.Common.{stroke_line, stroke_lines, filled_all, EachPasses}
+use Rattle.kmap_runs.proofs.Common.{script_event_line, event_lines, filled_all, EachPasses}
 use Rattle.std.proofs.lemmas.List.{reverse-append}
 use Rattle.std.proofs.lemmas.List.Elements.{All-nil, All-cons}
 use Rattle.keymap_core.specs.Numbers.{key_count, column_count, accent_limit}
@@ -15,11 +15,11 @@ use Rattle.console_core.specs.declared.selection.Sight.TheVariants.{Cell, Locks}
 use Rattle.keymap_cover.specs.declared.parts.Counts.{Counts}
 use Rattle.keymap_cover.specs.declared.parts.Cover.{Cover}
 use Rattle.keymap_cover.specs.declared.parts.Verdict.{Verdict}
-use Rattle.keymap_cover.specs.declared.stroke.Stroke.{Stroke}
-use Rattle.keymap_cover.specs.declared.stroke.Stroke.TheVariants.{Down, Repeat, Up}
-use Rattle.keymap_cover.specs.Covering.{events, verdict_of, counts_of}
+use Rattle.keymap_cover.specs.declared.script_event.ScriptEvent.{ScriptEvent}
+use Rattle.keymap_cover.specs.declared.script_event.ScriptEvent.TheVariants.{Down, Repeat, Up}
+use Rattle.keymap_cover.specs.Covering.{history, verdict_of, counts_of}
 use Rattle.keymap_cover.specs.SightLists.{all_cells, all_lock_settings}
-use Rattle.keymap_cover.specs.Strokes.{event_of, events_of}
+use Rattle.keymap_cover.specs.ScriptEvents.{event_of, events_of}
 use Rattle.keymap_cover.specs.declared.parts.Part.{Part}
 use Rattle.keymap_cover.specs.declared.parts.Part.TheVariants.{Cells, Pairs, Trials, OneWay}
 use Rattle.keymap_cover.specs.declared.parts.Start.{Start}
@@ -27,9 +27,9 @@ use Rattle.play_core.specs.declared.show.Show.{Show}
 use Rattle.play_core.specs.Delivery.{delivered}
 use Rattle.play_core.specs.Scripts.{key_of}
 use Rattle.kmap_runs.specs.Cover.{number_text, headed, columns_text, setting_text, settings_text, IsCoverText}
-use Rattle.kmap_runs.specs.Cover.{line_of_characters, counts_line, counts_text, all_pairs, part_words, what_of_stroke}
-use Rattle.kmap_runs.specs.Cover.{sent_of_stroke}
-use Rattle.kmap_runs.specs.Replayed.{strokes_sent, ShowsCover, PlaysCover}
+use Rattle.kmap_runs.specs.Cover.{line_of_characters, counts_line, counts_text, all_pairs, part_words, what_of_event}
+use Rattle.kmap_runs.specs.Cover.{sent_of_event}
+use Rattle.kmap_runs.specs.Replayed.{events_sent, ShowsCover, PlaysCover}
 use Rattle.kmap_runs.specs.Runs.{CoversText, IsCovered}
 use Rattle.kmap_runs.proofs.Replayed.{taken-whole, same-map}
 use Rattle.kmap_runs.proofs.Comments.{is_in_line, IsInLine, append-line, flat-line, if-line, decimal-line, name-line}
@@ -158,7 +158,7 @@ quiet-accents is_listed word m f =
     (characters-line is_listed i (bases_at m i)))
     (range_with_len 0 accent_limit)
 
--- ---- the comments before the strokes
+-- ---- the comments before the events
 
 rest-line : (t : Bool) → IsInLine (if t then words.UNSTUCK.now else words.NEVER.now)
 rest-line true = refl
@@ -180,7 +180,7 @@ quiet-lists m c old new quiet l =
     ⊳ quiet-accents (has_verdict m c LeftOut) words.LEFT_OUT.now m refl
     ⊳ quiet-accents (has_verdict m c Never) (rest_word c) m line)
 
--- ---- strokes
+-- ---- events
 
 quiet-part : (part : Part) → Adds (comment (part_words part) []) []
 quiet-part Cells = quiet-comment words.CELLS_PART.now [] refl tt
@@ -191,11 +191,11 @@ quiet-part OneWay = quiet-comment words.ONE_WAY_PART.now [] refl tt
 quiet-start : (place : ℕ) (s : Start) → Adds (start_line place s) []
 quiet-start place s = quiet-if (s.at == place) (comment (part_words s.part) []) (quiet-part s.part)
 
-abbrev IsOfKey : Stroke → Type 0
-IsOfKey s = key_of (what_of_stroke s) < key_count
+abbrev IsOfKey : ScriptEvent → Type 0
+IsOfKey s = key_of (what_of_event s) < key_count
 
-stroke-adds : (s : Stroke) → IsOfKey s → Adds (stroke_line s) (sent_of_stroke s ∷ [])
-stroke-adds s lt = record { before = λ rest sent h. line-script (sends (sent_of_stroke s)) rest sent lt h }
+event-adds : (s : ScriptEvent) → IsOfKey s → Adds (script_event_line s) (sent_of_event s ∷ [])
+event-adds s lt = record { before = λ rest sent h. line-script (sends (sent_of_event s)) rest sent lt h }
 
 -- what is left of a list begins with the element at this place
 drop_is : {X : Type 0} (xs : List X) (n : ℕ) (x d : X) (rest : List X) → drop n xs ≡ x ∷ rest
@@ -205,76 +205,76 @@ drop_is [] (suc n) x d rest e = cc
 drop_is (y ∷ ys) zero x d rest e = (cc, cc)
 drop_is (y ∷ ys) (suc n) x d rest e = drop_is ys n x d rest e
 
--- the strokes from a place on, with the comments of the parts that begin there
-strokes-add : (starts : List Start) (all strokes : List Stroke) (place : ℕ) → drop place all ≡ strokes
-    → All IsOfKey strokes
-    → Adds (flat_map (stroke_lines starts all) (range_with_len place (length strokes))) (map sent_of_stroke strokes)
-strokes-add starts all [] place e keys = adds-nil
-strokes-add starts all (s ∷ strokes) place e keys =
-    let at = drop_is all place s Reset strokes e in
-    let line : Adds (stroke_lines starts all place) (sent_of_stroke s ∷ []) =
+-- the events from a place on, with the comments of the parts that begin there
+events-add : (starts : List Start) (all events : List ScriptEvent) (place : ℕ) → drop place all ≡ events
+    → All IsOfKey events
+    → Adds (flat_map (event_lines starts all) (range_with_len place (length events))) (map sent_of_event events)
+events-add starts all [] place e keys = adds-nil
+events-add starts all (s ∷ events) place e keys =
+    let at = drop_is all place s Reset events e in
+    let line : Adds (event_lines starts all place) (sent_of_event s ∷ []) =
     rw (sym at.0)
     (quiet-flat (start_line place) (quiet-start place) starts
-    ⊳ stroke-adds s (All-head IsOfKey s strokes keys)) in
-    line ⊳ strokes-add starts all strokes (place + 1) (rw add-one at.1) (All-tail IsOfKey s strokes keys)
+    ⊳ event-adds s (All-head IsOfKey s events keys)) in
+    line ⊳ events-add starts all events (place + 1) (rw add-one at.1) (All-tail IsOfKey s events keys)
 
--- the strokes of events on keys are of keys
-strokes-keys : (strokes : List Stroke) → HasKeys (events_of strokes) → All IsOfKey strokes
-strokes-keys [] keys = All-nil IsOfKey
-strokes-keys (Down k ∷ strokes) keys =
-    All-cons IsOfKey (Down k) strokes (All-head HasKey _ _ keys) (strokes-keys strokes (All-tail HasKey _ _ keys))
-strokes-keys (Repeat k ∷ strokes) keys =
-    All-cons IsOfKey (Repeat k) strokes (All-head HasKey _ _ keys) (strokes-keys strokes (All-tail HasKey _ _ keys))
-strokes-keys (Up k ∷ strokes) keys =
-    All-cons IsOfKey (Up k) strokes (All-head HasKey _ _ keys) (strokes-keys strokes (All-tail HasKey _ _ keys))
-strokes-keys (Reset ∷ strokes) keys =
-    All-cons IsOfKey Reset strokes (lit< tt) (strokes-keys strokes (All-tail HasKey _ _ keys))
+-- the events of a script that are on keys are of keys
+events-keys : (events : List ScriptEvent) → HasKeys (events_of events) → All IsOfKey events
+events-keys [] keys = All-nil IsOfKey
+events-keys (Down k ∷ events) keys =
+    All-cons IsOfKey (Down k) events (All-head HasKey _ _ keys) (events-keys events (All-tail HasKey _ _ keys))
+events-keys (Repeat k ∷ events) keys =
+    All-cons IsOfKey (Repeat k) events (All-head HasKey _ _ keys) (events-keys events (All-tail HasKey _ _ keys))
+events-keys (Up k ∷ events) keys =
+    All-cons IsOfKey (Up k) events (All-head HasKey _ _ keys) (events-keys events (All-tail HasKey _ _ keys))
+events-keys (Reset ∷ events) keys =
+    All-cons IsOfKey Reset events (lit< tt) (events-keys events (All-tail HasKey _ _ keys))
 
-keys-of : (c : Cover) → HasKeys (events c) → All IsOfKey c.strokes.items
+keys-of : (c : Cover) → HasKeys (history c) → All IsOfKey c.events.items
 keys-of c keys =
-    subst (All IsOfKey) (reverse-reverse c.strokes.items)
-    (All-reversed IsOfKey (reverse c.strokes.items) (strokes-keys (reverse c.strokes.items) keys))
+    subst (All IsOfKey) (reverse-reverse c.events.items)
+    (All-reversed IsOfKey (reverse c.events.items) (events-keys (reverse c.events.items) keys))
 
 -- ---- the whole text
 
-pub cover-sends : (m : MapValue) (c : Cover) (text : List ℕ) → IsCoverText m c text → HasKeys (events c)
-    → IsScript text (strokes_sent c)
+pub cover-sends : (m : MapValue) (c : Cover) (text : List ℕ) → IsCoverText m c text → HasKeys (history c)
+    → IsScript text (events_sent c)
 cover-sends m c text is keys =
-    adds-script text (strokes_sent c) (subst (λ t. Adds t (strokes_sent c)) (sym is.spelled)
+    adds-script text (events_sent c) (subst (λ t. Adds t (events_sent c)) (sym is.spelled)
     (quiet-lists m c (counts_text m c) is.comments (quiet-all_counts m c) is.adds_lists
-    ⊳ strokes-add c.starts.items c.strokes.items c.strokes.items 0 refl (keys-of c keys)))
+    ⊳ events-add c.starts.items c.events.items c.events.items 0 refl (keys-of c keys)))
 
 -- ---- what it delivers
 
-events-append : (xs ys : List Stroke) → events_of (xs ++ ys) ≡ events_of xs ++ events_of ys
+events-append : (xs ys : List ScriptEvent) → events_of (xs ++ ys) ≡ events_of xs ++ events_of ys
 events-append [] ys = refl
 events-append (x ∷ xs) ys = ap (λ l. event_of x ∷ l) (events-append xs ys)
 
-events-reverse : (xs : List Stroke) → events_of (reverse xs) ≡ reverse (events_of xs)
+events-reverse : (xs : List ScriptEvent) → events_of (reverse xs) ≡ reverse (events_of xs)
 events-reverse [] = refl
 events-reverse (x ∷ xs) =
     let last = events-append (reverse xs) (x ∷ []) in
     cc (reverse-append (x ∷ []) xs, events-reverse xs, reverse-append (event_of x ∷ []) (events_of xs))
 
--- what is sent to make strokes delivers their events
-strokes-deliver : (xs : List Stroke) → delivered (map sent_of_stroke xs) ≡ events_of xs
-strokes-deliver [] = refl
-strokes-deliver (Down k ∷ xs) = ap (λ l. event_of (Down k) ∷ l) (strokes-deliver xs)
-strokes-deliver (Repeat k ∷ xs) = ap (λ l. event_of (Repeat k) ∷ l) (strokes-deliver xs)
-strokes-deliver (Up k ∷ xs) = ap (λ l. event_of (Up k) ∷ l) (strokes-deliver xs)
-strokes-deliver (Reset ∷ xs) = ap (λ l. event_of Reset ∷ l) (strokes-deliver xs)
+-- what is sent for the events of a script delivers them
+events-deliver : (xs : List ScriptEvent) → delivered (map sent_of_event xs) ≡ events_of xs
+events-deliver [] = refl
+events-deliver (Down k ∷ xs) = ap (λ l. event_of (Down k) ∷ l) (events-deliver xs)
+events-deliver (Repeat k ∷ xs) = ap (λ l. event_of (Repeat k) ∷ l) (events-deliver xs)
+events-deliver (Up k ∷ xs) = ap (λ l. event_of (Up k) ∷ l) (events-deliver xs)
+events-deliver (Reset ∷ xs) = ap (λ l. event_of Reset ∷ l) (events-deliver xs)
 
-cover-delivers : (c : Cover) → reverse (delivered (strokes_sent c)) ≡ events c
-cover-delivers c = ap reverse (strokes-deliver c.strokes.items) ∙ sym (events-reverse c.strokes.items)
+cover-delivers : (c : Cover) → reverse (delivered (events_sent c)) ≡ history c
+cover-delivers c = ap reverse (events-deliver c.events.items) ∙ sym (events-reverse c.events.items)
 
 pub shows-cover : (m : MapValue) (script : List ℕ) → IsCovered m tt script → ShowsCover m script
 shows-cover m script (c, covers, e) =
-    let is : IsScript script (strokes_sent c) = cover-sends m c script e covers.keys in
+    let is : IsScript script (events_sent c) = cover-sends m c script e covers.keys in
     record {
       cover = c;
       covers = covers;
       is = is;
-      nothing_else = λ sent h. one_list script sent (strokes_sent c) h is;
+      nothing_else = λ sent h. one_list script sent (events_sent c) h is;
       delivers = cover-delivers c;
     }
 
@@ -288,8 +288,8 @@ covers-played show text script told t u v (m, printed, read, (c, covers, e), app
     ((n, bytes), played, (read_again, taken), (sent, is_script, same_shown), appended) =
     let text_is : bytes ≡ printed = sym (taken-whole script bytes v taken) ∙ appends in
     let same : m ≡ n = same-map text t u m n read read_again in
-    let sent_are : sent ≡ strokes_sent c =
-    one_list printed sent (strokes_sent c) (subst (λ x. IsScript x sent) text_is is_script)
+    let sent_are : sent ≡ events_sent c =
+    one_list printed sent (events_sent c) (subst (λ x. IsScript x sent) text_is is_script)
     (cover-sends m c printed e covers.keys) in (
       m,
       c,

@@ -16,8 +16,8 @@ use Rattle.keymap_cover.specs.declared.parts.Cover.{Cover}
 use Rattle.keymap_cover.specs.declared.parts.Counts.{Counts}
 use Rattle.keymap_cover.specs.declared.parts.Verdict.{Verdict}
 use Rattle.keymap_cover.specs.declared.parts.Verdict.TheVariants.{LeftOut, Never}
-use Rattle.keymap_cover.specs.declared.stroke.Stroke.{Stroke}
-use Rattle.keymap_cover.specs.declared.stroke.Stroke.TheVariants.{Down, Repeat, Up, Reset}
+use Rattle.keymap_cover.specs.declared.script_event.ScriptEvent.{ScriptEvent}
+use Rattle.keymap_cover.specs.declared.script_event.ScriptEvent.TheVariants.{Down, Repeat, Up, Reset}
 use Rattle.keymap_cover.specs.declared.parts.Part.{Part}
 use Rattle.keymap_cover.specs.declared.parts.Part.TheVariants.{Cells, Pairs, Trials, OneWay}
 use Rattle.keymap_cover.specs.declared.parts.Start.{Start}
@@ -171,29 +171,29 @@ part_words OneWay = words.ONE_WAY_PART.now
 abbrev pub start_line : ℕ → Start → List ℕ
 start_line place s = if s.at == place then comment (part_words s.part) [] else []
 
--- what is sent to make a stroke
-abbrev pub what_of_stroke : Stroke → What
-what_of_stroke (Down k) = what.Down k
-what_of_stroke (Repeat k) = what.Repeat k
-what_of_stroke (Up k) = what.Up k
-what_of_stroke Reset = what.Reset
+-- what is sent for an event of a script
+abbrev pub what_of_event : ScriptEvent → What
+what_of_event (Down k) = what.Down k
+what_of_event (Repeat k) = what.Repeat k
+what_of_event (Up k) = what.Up k
+what_of_event Reset = what.Reset
 
-abbrev pub sent_of_stroke : Stroke → Sent
-sent_of_stroke s = record { lost = false; what = what_of_stroke s }
+abbrev pub sent_of_event : ScriptEvent → Sent
+sent_of_event s = record { lost = false; what = what_of_event s }
 
-abbrev pub stroke_line : Stroke → List ℕ
-stroke_line s = sent_line (sent_of_stroke s)
+abbrev pub script_event_line : ScriptEvent → List ℕ
+script_event_line s = sent_line (sent_of_event s)
 
 -- the event at a place, behind comments for the parts that begin there
-abbrev pub stroke_lines : List Start → List Stroke → ℕ → List ℕ
-stroke_lines starts strokes place =
-    flat_map (start_line place) starts ++ stroke_line (slice_index_or strokes place Reset)
+abbrev pub event_lines : List Start → List ScriptEvent → ℕ → List ℕ
+event_lines starts events place =
+    flat_map (start_line place) starts ++ script_event_line (slice_index_or events place Reset)
 
-abbrev pub script_lines : List Start → List Stroke → List ℕ
-script_lines starts strokes = flat_map (stroke_lines starts strokes) (range_with_len 0 (length strokes))
+abbrev pub script_lines : List Start → List ScriptEvent → List ℕ
+script_lines starts events = flat_map (event_lines starts events) (range_with_len 0 (length events))
 
 -- The text tells how much the script of the cover sees, lists what it doesn't see, and is this script.
 pub record IsCoverText (m : MapValue) (c : Cover) (text : List ℕ) : Type 0 where
   pub comments : List ℕ
   pub adds_lists : AddsLists m c (counts_text m c) comments
-  pub spelled : text ≡ comments ++ script_lines c.starts.items c.strokes.items
+  pub spelled : text ≡ comments ++ script_lines c.starts.items c.events.items

@@ -10,7 +10,7 @@ use Rattle.keymap_text.specs.Meaning.{Spells}
 use Rattle.keymap_check.specs.Report.{report_of}
 use Rattle.keymap_check.specs.Scripts.{demonstration_of}
 use Rattle.keymap_cover.specs.declared.parts.Cover.{Cover}
-use Rattle.keymap_cover.specs.Covering.{Covers, events}
+use Rattle.keymap_cover.specs.Covering.{Covers, history}
 use Rattle.play_core.specs.declared.sent.Sent.{Sent}
 use Rattle.play_core.specs.declared.show.Show.{Show}
 use Rattle.play_core.specs.declared.show.Show.TheVariants as show
@@ -18,7 +18,7 @@ use Rattle.play_core.specs.Delivery.{delivered}
 use Rattle.play_core.specs.Scripts.{IsScript}
 use Rattle.play_core.specs.Typing.{alone}
 use Rattle.play_core.specs.Written.{played_text}
-use Rattle.kmap_runs.specs.Cover.{sent_of_stroke}
+use Rattle.kmap_runs.specs.Cover.{sent_of_event}
 use Rattle.kmap_runs.specs.Report.{check_text}
 use Rattle.kmap_runs.specs.Search.{found_text}
 
@@ -69,21 +69,21 @@ ShowsScript m text = ShowsDemonstration m (demonstration_of m) text
 
 -- ---- a script that tests a console
 
--- what is sent to make the strokes of a cover, in their order
-abbrev pub strokes_sent : Cover → List Sent
-strokes_sent c = map sent_of_stroke c.strokes.items
+-- what is sent for the events of a cover, in their order
+abbrev pub events_sent : Cover → List Sent
+events_sent c = map sent_of_event c.events.items
 
--- The text is a script of the strokes of a cover of the map, and of nothing else. It delivers the events that this
+-- The text is a script of the events of a cover of the map, and of nothing else. It delivers the events that this
 -- cover speaks of.
 pub record ShowsCover (m : MapValue) (script : List ℕ) : Type 0 where
   pub cover : Cover
   pub covers : Covers m cover
-  pub is : IsScript script (strokes_sent cover)
-  pub nothing_else : (sent : List Sent) → IsScript script sent → sent ≡ strokes_sent cover
-  pub delivers : reverse (delivered (strokes_sent cover)) ≡ events cover
+  pub is : IsScript script (events_sent cover)
+  pub nothing_else : (sent : List Sent) → IsScript script sent → sent ≡ events_sent cover
+  pub delivers : reverse (delivered (events_sent cover)) ≡ history cover
 
--- This is what is shown of the strokes of a cover of the keymap that the text spells, played on it.
+-- This is what is shown of the events of a cover of the keymap that the text spells, played on it.
 abbrev pub PlaysCover : Show → List ℕ → List ℕ → Type 0
 PlaysCover show text told =
     (m : MapValue) × (c : Cover) × Spells text m × Covers m c
-    × (told ≡ played_text show (between m m) (strokes_sent c))
+    × (told ≡ played_text show (between m m) (events_sent c))

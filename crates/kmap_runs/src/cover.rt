@@ -16,7 +16,7 @@ use crate::words::{
 };
 use console_core::{Event, Sight};
 use keymap_core::{ACCENT_LIMIT, Accent, AccentIndex, Action, COLUMN_COUNT, KeyMap, SLOT_LIMIT};
-use keymap_cover::{Cover, Part, Start, Stroke, Verdict, cells, lock_settings};
+use keymap_cover::{Cover, Part, Start, ScriptEvent, Verdict, cells, lock_settings};
 use messages::{either, fill, number, small};
 use std::alloc::{AllocError, Global};
 
@@ -451,25 +451,25 @@ fn push_starts(text: &mut Vec<u8>, place: usize, starts: &[Start]) -> Result<(),
 
 /// Adds the line of an event.
 #[tactic(auto, unfolding(messages::specs::Filled::filled))]
-fn push_stroke(text: &mut Vec<u8>, stroke: &Stroke) -> Result<(), AllocError>
-    ensures { OnOk result (text.new.items ≡ text.old.items ++ spec.stroke_line stroke.now) }
+fn push_script_event(text: &mut Vec<u8>, script_event: &ScriptEvent) -> Result<(), AllocError>
+    ensures { OnOk result (text.new.items ≡ text.old.items ++ spec.script_event_line script_event.now) }
 {
-    let event = match stroke {
-        Stroke::Down(key) => Event::Press(*key),
-        Stroke::Repeat(key) => return fill(text, REPEAT, &[small(key.get()).as_slice()]),
-        Stroke::Up(key) => Event::Release(*key),
-        Stroke::Reset => Event::Reset,
+    let event = match script_event {
+        ScriptEvent::Down(key) => Event::Press(*key),
+        ScriptEvent::Repeat(key) => return fill(text, REPEAT, &[small(key.get()).as_slice()]),
+        ScriptEvent::Up(key) => Event::Release(*key),
+        ScriptEvent::Reset => Event::Reset,
     };
     text.extend_from_slice(event_line(event).as_slice())
 }
 
 /// Adds the events, each behind comments for the parts that begin there.
-fn push_script(text: &mut Vec<u8>, starts: &[Start], strokes: &[Stroke]) -> Result<(), AllocError>
-    ensures { OnOk result (text.new.items ≡ text.old.items ++ spec.script_lines starts.now strokes.now) }
+fn push_script(text: &mut Vec<u8>, starts: &[Start], events: &[ScriptEvent]) -> Result<(), AllocError>
+    ensures { OnOk result (text.new.items ≡ text.old.items ++ spec.script_lines starts.now events.now) }
 {
-    for place in 0..strokes.len() {
+    for place in 0..events.len() {
         push_starts(text, place, starts)?;
-        push_stroke(text, &strokes[place])?;
+        push_script_event(text, &events[place])?;
     }
     Ok(())
 }
@@ -480,6 +480,6 @@ pub(crate) fn cover_text(alloc: Global, map: &KeyMap, cover: &Cover) -> Result<V
 {
     let mut text = counts(alloc, map, cover)?;
     push_lists(&mut text, alloc, map, cover)?;
-    push_script(&mut text, cover.starts.as_slice(), cover.strokes.as_slice())?;
+    push_script(&mut text, cover.starts.as_slice(), cover.events.as_slice())?;
     Ok(text)
 }

@@ -2,7 +2,7 @@
 //! keymap. No function here does anything.
 ghost use Rattle.std.specs.Prelude.{◌≡◌, List, [], ℕ, reverse, All, Option, Some, Ok, true};
 ghost use Rattle.keymap_core.specs.Maps.{MapValue};
-ghost use Rattle.keymap_cover.specs.Covering.{events};
+ghost use Rattle.keymap_cover.specs.Covering.{history};
 ghost use Rattle.keymap_cover.specs.declared.parts.Cover.{Cover as CoverValue};
 ghost use Rattle.console_core.specs.declared.outcome.Sticking.{Sticking as StickingValue};
 ghost use Rattle.console_core.specs.declared.typing.Typing.{Typing as TypingValue};
@@ -18,7 +18,7 @@ ghost use Rattle.play_core.specs.Typing.{IsTyped};
 ghost use Rattle.kmap_runs.specs.Cover.{IsCoverText};
 ghost use Rattle.kmap_runs.specs.Report.{report};
 ghost use Rattle.kmap_runs.specs.Replayed.{Delivers, ScriptTypes, AnswerReplays, AnswerReplaysBetween, ShowsScript};
-ghost use Rattle.kmap_runs.specs.Replayed.{PlaysCover, strokes_sent};
+ghost use Rattle.kmap_runs.specs.Replayed.{PlaysCover, events_sent};
 ghost use Rattle.kmap_runs.specs.FmtRuns.{ChangedTextsSpellTheSame, PrintedLayoutsSpellTheSame};
 ghost use Rattle.keymap_tables.specs.Sources.{ReadsNarrow, ReadsTables};
 ghost use Rattle.kmap_runs.specs.Runs.{AcceptedKeepTheirPromise, AreDumped, CompilesNarrowly, CompilesText};
@@ -76,19 +76,19 @@ pub fn printed_demonstrations_leave_a_modifier_on()
 {}
 
 /// What is printed of a cover, its comments with counts and lists, the comment that begins each part and a line for
-/// each stroke, is a script of exactly these strokes.
-pub fn cover_scripts_send_the_strokes()
-    ensures { (m : MapValue) (c : CoverValue) (text : List ℕ) → IsCoverText m c text → HasKeys (events c)
-        → IsScript text (strokes_sent c) }
+/// each event, is a script of exactly these events.
+pub fn cover_scripts_send_the_events()
+    ensures { (m : MapValue) (c : CoverValue) (text : List ℕ) → IsCoverText m c text → HasKeys (history c)
+        → IsScript text (events_sent c) }
 {}
 
-/// What the run that prints it wrote for a text is a script of the strokes of a cover of the keymap that the text
+/// What the run that prints it wrote for a text is a script of the events of a cover of the keymap that the text
 /// spells, and of nothing else.
 pub fn printed_covers_are_scripts()
     ensures { PrintedCoversAreScripts }
 {}
 
-/// What `play` writes of the script that `cover_run` printed, over the same text, is what is played of the strokes of
+/// What `play` writes of the script that `cover_run` printed, over the same text, is what is played of the events of
 /// a cover of its keymap.
 pub fn printed_covers_are_played()
     ensures { (show : ShowValue) (text script told : List ℕ) (t u v : Option (List ℕ))

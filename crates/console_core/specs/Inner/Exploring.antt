@@ -52,7 +52,7 @@ pub record IsExplored (e : Explored) : Type 0 where
       → (p : ℕ) × ReachesMoreThanFrom (alone (map_of_explored e)) (origin_in e) state_limit p
 
 -- A state where nothing is held and the scroll lock is off, that moves lead to and from which moves lead home.
-pub record IsStand (m : MapValue) (s : State) : Type 0 where
+pub record CanReturn (m : MapValue) (s : State) : Type 0 where
   pub free : IsFree s
   pub off : s.is_locked Scroll ≡ false
   pub path : List Move
@@ -83,7 +83,7 @@ pub record LetsGo (s : State) (h now : List Event) (next : State) : Type 0 where
 
 -- After h came moves from the first state to the second, a tap of the key, and moves on to the last state, where
 -- nothing is held, and from which moves lead home.
-pub record IsStroke (u : Under) (o s : State) (k : ℕ) (h now : List Event) (next : State) : Type 0 where
+pub record GoesAndTaps (u : Under) (o s : State) (k : ℕ) (h now : List Event) (next : State) : Type 0 where
   pub out : List Move
   pub back : List Move
   pub goes : IsPathFrom u o out
@@ -118,14 +118,14 @@ pub record HasTyped (m : MapValue) (h : List Event) (s : State) (p : Option ℕ)
   pub typed : typed_along m h ≡ map plainly (reverse cs)
 
 -- explorations by the state where they begin
-abbrev pub Views : Type 0
-Views = List (Held × Explored)
+abbrev pub Explorations : Type 0
+Explorations = List (Held × Explored)
 
-abbrev pub IsView : MapValue → State → Explored → Type 0
-IsView m s e = IsExplored e × (map_of_explored e ≡ m) × (origin_in e ≡ s)
+abbrev pub IsExploredFrom : MapValue → State → Explored → Type 0
+IsExploredFrom m s e = IsExplored e × (map_of_explored e ≡ m) × (origin_in e ≡ s)
 
-abbrev pub AreViews : MapValue → Views → Type 0
-AreViews m views = AllEntries (λ k e. IsView m (state_of k) e) views
+abbrev pub AreExplorations : MapValue → Explorations → Type 0
+AreExplorations m explorations = AllEntries (λ k e. IsExploredFrom m (state_of k) e) explorations
 
 -- the taps of a character or of what comes behind a dead key, and of the dead key of an accent
 abbrev pub plain_tap : Symbol → Tap
@@ -161,14 +161,14 @@ abbrev pub LeadsByTap : Explored → Tap → List Event → List Event → Typed
 LeadsByTap e t h now (typed.To next) =
     (j k : ℕ) × (x : Entry) × (slice_get e.met.entries j ≡ Some x) × HasRoute e.routes.entries (state_of x.0)
     × IsTapOf (alone (map_of_explored e)) (state_of x.0) t.is_plain t.symbol k
-    × IsStroke (alone (map_of_explored e)) (origin_in e) (state_of x.0) k h now (state_of next)
+    × GoesAndTaps (alone (map_of_explored e)) (origin_in e) (state_of x.0) k h now (state_of next)
 LeadsByTap e t h now typed.NoWay = (e.is_complete ≡ true) × (HasTap e t → ⊥) × (now ≡ h)
 LeadsByTap e t h now typed.TooManyStates = (e.is_complete ≡ false) × (HasTap e t → ⊥) × (now ≡ h)
 
 -- The events that came after h type the character from the state, and lead to the next one.
 pub record TypesOne (m : MapValue) (c : ℕ) (s : State) (h now : List Event) (next : State) : Type 0 where
   pub can : CanType m c
-  pub stand : IsStand m next
+  pub can_return : CanReturn m next
   pub added : List Event
   pub events : now ≡ added ++ h
   pub types : (g : List Event) (cs : List ℕ) → HasTyped m g s None cs → HasTyped m (added ++ g) next None (cs ++ c ∷ [])

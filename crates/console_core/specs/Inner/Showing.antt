@@ -1,4 +1,4 @@
--- How the events of a visit lead a console, step by step. Mirrors src/showing.rt and src/planner.rt.
+-- How the events of a visit lead a console, step by step. Mirrors src/showing.rt and src/explorer.rt.
 use Rattle.std.specs.Prelude.{◌≡◌, ◌⊎◌, ℕ, ◌<◌, true, false, List, ◌++◌, Option, None, Some, slice_get, IfSome}
 use Rattle.keymap_core.specs.declared.action.Action.TheVariants as act
 use Rattle.keymap_core.specs.Maps.{MapValue}
@@ -6,12 +6,12 @@ use Rattle.keymap_core.specs.Numbers.{key_count}
 use Rattle.console_core.specs.Types.{Action, Modifier, Lock, Caps, Num, Scroll, Alt, Act, Event, Sight}
 use Rattle.console_core.specs.declared.explored.Explored.{Explored}
 use Rattle.console_core.specs.declared.explored.KeyAt.{KeyAt}
-use Rattle.console_core.specs.declared.planner.Aim.{Aim}
+use Rattle.console_core.specs.declared.explorer.Aim.{Aim}
 use Rattle.console_core.specs.declared.selection.Sight.TheVariants as sight
 use Rattle.console_core.specs.Answers.{usable}
 use Rattle.console_core.specs.History.{between, accent_pending_after}
 use Rattle.console_core.specs.Moves.{Under, alone, State, start, IsFree, IsIdle, look_in, with_lock_turned}
-use Rattle.console_core.specs.Planning.{AreTaken, Locks}
+use Rattle.console_core.specs.Visiting.{AreTaken, Locks}
 use Rattle.console_core.specs.Sights.{IsPendingFor, IsReachable, SeesBy, selection_of}
 use Rattle.console_core.specs.Inner.Exploring.{map_of_explored, origin_in, IsExplored, IsTapAt, dead_tap}
 use Rattle.console_core.specs.Inner.Routes.{HasRoute, freed}
@@ -114,5 +114,5 @@ sight_aimed (Some a) = Some a.sight
 abbrev pub IsRest : Explored → State → Type 0
 IsRest e s = IsFree s × (s.is_second ≡ false) × HasRoute e.routes.entries s
 
-abbrev pub IsPlanner : Explored → State → Option Aim → Type 0
-IsPlanner e s aim = IsWhole e × IsRest e s × IfSome aim (λ a. IsAim e a)
+abbrev pub IsExplorer : Explored → State → Option Aim → Type 0
+IsExplorer e s aim = IsWhole e × IsRest e s × IfSome aim (λ a. IsAim e a)

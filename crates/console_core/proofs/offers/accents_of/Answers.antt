@@ -1,5 +1,5 @@
 use Rattle.console_core.proofs.Common.{◌≡◌, [], length, subst, arith, Adds, IsInSome, under_of, IsOfferedIn}
-use Rattle.console_core.proofs.Noting.{adds-none, adds-place, enumerates}
+use Rattle.console_core.proofs.Adding.{adds-none, adds-place, enumerates}
 use Rattle.console_core.proofs.offers.accents_of.Goals as goal
 
 pub loop-place-init : goal.loop-place-init

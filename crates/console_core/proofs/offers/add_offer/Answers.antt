@@ -1,5 +1,5 @@
 use Rattle.console_core.proofs.Common.{refl, sym, state_of, under_of}
-use Rattle.console_core.proofs.Noting.{adds-none, offer-added, unusable-none}
+use Rattle.console_core.proofs.Adding.{adds-none, offer-added, unusable-none}
 use Rattle.console_core.proofs.offers.add_offer.Goals as goal
 
 pub returns-in_ok-add_accent : goal.returns-in_ok-add_accent

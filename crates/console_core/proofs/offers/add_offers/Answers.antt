@@ -1,5 +1,5 @@
 use Rattle.console_core.proofs.Common.{◌≡◌, refl, subst, arith, state_of, under_of, AddsOffer, AddsOffers}
-use Rattle.console_core.proofs.Noting.{adds-none, offers-more}
+use Rattle.console_core.proofs.Adding.{adds-none, offers-more}
 use Rattle.console_core.proofs.offers.add_offers.Goals as goal
 
 pub loop-code-init : goal.loop-code-init

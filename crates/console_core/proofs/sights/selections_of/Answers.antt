@@ -1,5 +1,5 @@
 use Rattle.console_core.proofs.Common.{◌≡◌, [], length, subst, arith, IsWith, Adds, IsInSome, selection_of}
-use Rattle.console_core.proofs.Noting.{adds-none, adds-one, adds-place, enumerates}
+use Rattle.console_core.proofs.Adding.{adds-none, adds-one, adds-place, enumerates}
 use Rattle.console_core.proofs.sights.selections_of.Goals as goal
 
 pub loop-place-init : goal.loop-place-init

@@ -1,7 +1,7 @@
 use Rattle.console_core.proofs.Common.{ap, subst, sym, ◌∙◌, ◌++◌, ◌-◌, [], arith, drop, length, reverse, take, take_all}
 use Rattle.console_core.proofs.Common.{AreKnown, TypesOne, state_of}
 use Rattle.std.proofs.lemmas.List.{length-drop}
-use Rattle.console_core.proofs.Views.{are_same_sought, tells-sought, known-more}
+use Rattle.console_core.proofs.Known.{are_same_sought, tells-sought, known-more}
 use Rattle.console_core.proofs.typing.keep.Goals as goal
 
 pub returns : goal.returns

@@ -1,6 +1,6 @@
 use Rattle.console_core.proofs.Common.{ap, sym, ◌∙◌, ◌++◌, option_copied, state_of}
 use Rattle.console_core.proofs.Typings.{types-behind}
-use Rattle.console_core.proofs.Views.{are_same_sought, tells-sought, found-known}
+use Rattle.console_core.proofs.Known.{are_same_sought, tells-sought, found-known}
 use Rattle.console_core.proofs.typing.recall.Goals as goal
 
 pub returns-in_ok-extend_from_slice-in-Some : goal.returns-in_ok-extend_from_slice-in-Some

@@ -1,14 +1,14 @@
 use Rattle.console_core.proofs.Common.{Some, ap, subst, sym, ◌∙◌, reverse, take_all, slice_get-get_or, alone, AreKnown}
-use Rattle.console_core.proofs.Common.{AreViews, GoesHome, origin_in, state_of}
+use Rattle.console_core.proofs.Common.{AreExplorations, GoesHome, origin_in, state_of}
 use Rattle.console_core.specs.Inner.Exploring.{Leads}
 use Rattle.console_core.proofs.Choosing.{no-route}
-use Rattle.console_core.proofs.Exploring.{stand-origin}
+use Rattle.console_core.proofs.Exploring.{returns-origin}
 use Rattle.console_core.proofs.Typings.{typed-none, typed-one, typed-all}
 use Rattle.console_core.proofs.typing.type_characters.Goals as goal
 
 pub loop-place-init : goal.loop-place-init
 loop-place-init c = record {
-  views = subst (λ v. AreViews c.args.map.now v) (sym c.new-views.ensures.empty) tt;
+  explorations = subst (λ v. AreExplorations c.args.map.now v) (sym c.new-explorations.ensures.empty) tt;
   known = subst (λ v. AreKnown c.args.map.now v) (sym c.new-known.ensures.empty) tt;
   typed = typed-none c.args.map.now c.args.characters.now c.new-keyed.result.items c.new-events.result.items
       (state_of c.start-from.result) c.new-keyed.ensures.items c.new-events.ensures.items c.start-from.ensures;
@@ -35,7 +35,7 @@ loop-place-preserved c =
     let old = c.loop-place.events.items in
     let now = c.type_next.new.events.items in
     record {
-      views = c.in_ok-next.ensures.views;
+      explorations = c.in_ok-next.ensures.explorations;
       known = c.in_ok-next.ensures.known;
       typed = typed-one m c.args.characters.now c.loop-place.place c.loop-place.keyed.items
           c.push_keyed.new.keyed.items old now (state_of c.loop-place.from)
@@ -49,20 +49,20 @@ loop-place-preserved c =
 
 pub see-requires-clause-origin : goal.see-requires-clause-origin
 see-requires-clause-origin c =
-    stand-origin c.args.map.now (state_of c.loop-place.from) c.loop-place.invariant.typed.stand
+    returns-origin c.args.map.now (state_of c.loop-place.from) c.loop-place.invariant.typed.can_return
 
 pub go_home-requires : goal.go_home-requires
-go_home-requires c = (c.view_of.ensures c.args.map.now c.in_ok-see.ensures.views).0
+go_home-requires c = (c.explored_from.ensures c.args.map.now c.in_ok-see.ensures.explorations).0
 
 pub returns-then-branch-clause-typed : goal.returns-then-branch-clause-typed
 returns-then-branch-clause-typed c =
     let m = c.args.map.now in
     let cs = c.args.characters.now in
     let s = state_of c.loop-place.from in
-    let e = c.view_of.result.now in
+    let e = c.explored_from.result.now in
     let h = reverse c.loop-place.events.items in
     let now = reverse c.go_home.new.events.items in
-    let v = c.view_of.ensures m c.in_ok-see.ensures.views in
+    let v = c.explored_from.ensures m c.in_ok-see.ensures.explorations in
     typed-all m cs c.loop-place.place (record { keyed = c.loop-place.keyed; events = c.go_home.new.events })
     c.loop-place.events.items s c.loop-place.invariant.typed (take_all c.loop-place.place cs c.loop-place-test.false)
     (subst (λ t. GoesHome (alone m) t h now) v.2
@@ -71,6 +71,6 @@ returns-then-branch-clause-typed c =
 pub returns-clause-error : goal.returns-clause-error
 returns-clause-error c =
     let m = c.args.map.now in
-    no-route m (state_of c.loop-place.from) c.view_of.result.now
-    (c.view_of.ensures m c.in_ok-see.ensures.views) c.loop-place.invariant.typed.stand
+    no-route m (state_of c.loop-place.from) c.explored_from.result.now
+    (c.explored_from.ensures m c.in_ok-see.ensures.explorations) c.loop-place.invariant.typed.can_return
     (c.in_ok-go_home.ensures.1 c.if-branch.false)

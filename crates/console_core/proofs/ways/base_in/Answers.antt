@@ -16,7 +16,7 @@ loop-pair-preserved c =
       | inl before ↦ c.loop-pair.invariant far p (subst (λ z. Contains (take n z) p) e before) base
       | inr f ↦
           c.is_base.ensures.none c.if-is_base.false far
-          (subst (λ z. IsBase c.args.map.now c.args.view.now c.args.index c.args.c z)
+          (subst (λ z. IsBase c.args.map.now c.args.explored.now c.args.index c.args.c z)
           (ap (λ (q : ℕ × ℕ). symbol.Character q.0) (sym f) ∙ sym c.base_of-base.ensures) base)
     ]
 

@@ -6,5 +6,5 @@ use Rattle.console_core.proofs.ways.base_in.Given as goal
 abbrev pub invariant-loop-pair : goal.invariant-loop-pair
 invariant-loop-pair l =
     l.is_near ≡ false → (p : ℕ × ℕ) → Contains (take l.pair-index l.accent.pairs) p
-    → IsBase l.map l.view l.index l.c (symbol.Character p.0)
+    → IsBase l.map l.explored l.index l.c (symbol.Character p.0)
     → ⊥

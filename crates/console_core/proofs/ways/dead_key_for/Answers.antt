@@ -12,7 +12,7 @@ loop-accent-preserved c =
         | inl below ↦ c.loop-accent.invariant.none far i x below can
         | inr e ↦
             c.in_default-accented_by.ensures far x
-            (subst (λ j. CanAccent c.args.map.now c.args.view.now c.args.c j x) e can)
+            (subst (λ j. CanAccent c.args.map.now c.args.explored.now c.args.c j x) e can)
       ];
     }
 

@@ -5,7 +5,7 @@ use Rattle.console_core.proofs.ways.dead_key_for.Given as goal
 abbrev pub invariant-loop-accent : goal.invariant-loop-accent
 invariant-loop-accent l = record {
   below : l.index ≤ 15;
-  none : l.is_near ≡ false → (i : ℕ) (x : Symbol) → i < l.index → CanAccent l.map l.view l.c i x → ⊥;
+  none : l.is_near ≡ false → (i : ℕ) (x : Symbol) → i < l.index → CanAccent l.map l.explored l.c i x → ⊥;
 }
 
 abbrev pub decreases-loop-accent : goal.decreases-loop-accent

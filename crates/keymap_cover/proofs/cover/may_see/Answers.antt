@@ -1,4 +1,4 @@
-use Rattle.keymap_cover.proofs.Touring.{never-forgets}
+use Rattle.keymap_cover.proofs.Scripts.{never-forgets}
 use Rattle.keymap_cover.proofs.cover.may_see.Goals as goal
 
 pub returns-clause-never : goal.returns-clause-never

@@ -4,14 +4,14 @@ use Rattle.keymap_cover.proofs.cover.show_all.Goals as goal
 
 pub loop-sight-init : goal.loop-sight-init
 loop-sight-init g c =
-    stays-so c.args.map.now (g.T.Translator.stands c.args.console.now) c.args.planner.now c.args.planner.now
-    c.args.tour.now _ (refl, refl) (λ h w steady n x lt at. absurd (omega (arith, lt)))
+    stays-so c.args.map.now (g.T.Translator.stands c.args.console.now) c.args.explorer.now c.args.explorer.now
+    c.args.script.now _ (refl, refl) (λ h w steady n x lt at. absurd (omega (arith, lt)))
 
 pub loop-sight-preserved : goal.loop-sight-preserved
 loop-sight-preserved g c =
-    all-more c.args.map.now (g.T.Translator.stands c.args.console.now) c.args.planner.now c.args.tour.now
-    (g.T.Translator.stands c.loop-sight.console) c.loop-sight.planner c.loop-sight.tour
-    (g.T.Translator.stands c.show_left_out.new.console) c.show_left_out.new.planner c.show_left_out.new.tour
+    all-more c.args.map.now (g.T.Translator.stands c.args.console.now) c.args.explorer.now c.args.script.now
+    (g.T.Translator.stands c.loop-sight.console) c.loop-sight.explorer c.loop-sight.script
+    (g.T.Translator.stands c.show_left_out.new.console) c.show_left_out.new.explorer c.show_left_out.new.script
     c.args.told.now c.loop-sight.sight-index _ c.loop-sight-test.true c.loop-sight.invariant
     c.in_ok-show_left_out.ensures
 

@@ -4,16 +4,16 @@ use Rattle.keymap_cover.proofs.cover.show_left_out.Goals as goal
 
 pub returns-then-not-is_left_out : goal.returns-then-not-is_left_out
 returns-then-not-is_left_out g c =
-    stays-so c.args.map.now (g.T.Translator.stands c.args.console.now) c.args.planner.now c.args.planner.now
-    c.args.tour.now _ (refl, refl)
+    stays-so c.args.map.now (g.T.Translator.stands c.args.console.now) c.args.explorer.now c.args.explorer.now
+    c.args.script.now _ (refl, refl)
     (λ h w steady can. c.is_left_out.ensures.none c.requires c.if-not-is_left_out.true can)
 
-pub returns-then-not-find : goal.returns-then-not-find
-returns-then-not-find g c =
-    stays-so c.args.map.now (g.T.Translator.stands c.args.console.now) c.args.planner.now c.find.new.self
-    c.args.tour.now _ c.find.ensures.kept
+pub returns-then-not-aim_at : goal.returns-then-not-aim_at
+returns-then-not-aim_at g c =
+    stays-so c.args.map.now (g.T.Translator.stands c.args.console.now) c.args.explorer.now c.aim_at.new.self
+    c.args.script.now _ c.aim_at.ensures.kept
     (λ h w steady can.
-    absurd (c.find.ensures.never c.if-not-find.true (subst NoTurnIsOneWay (sym w.map) steady)
+    absurd (c.aim_at.ensures.never c.if-not-aim_at.true (subst NoTurnIsOneWay (sym w.map) steady)
     (subst (λ m. IsReachable m c.args.sight) (sym w.map) can)))
 
 pub returns : goal.returns
@@ -21,6 +21,6 @@ returns g c =
     λ h w.
     let (f, v, after, sees) =
     c.in_ok-show.ensures h
-    (aims-else c.args.map.now (g.T.Translator.stands c.args.console.now) c.args.planner.now c.find.new.self
-    c.args.tour.now h c.find.ensures.kept w) in
-    (f, v, after, (λ steady can. sees c.args.sight (c.find.ensures.found c.if-not-find.false) can))
+    (aims-else c.args.map.now (g.T.Translator.stands c.args.console.now) c.args.explorer.now c.aim_at.new.self
+    c.args.script.now h c.aim_at.ensures.kept w) in
+    (f, v, after, (λ steady can. sees c.args.sight (c.aim_at.ensures.found c.if-not-aim_at.false) can))

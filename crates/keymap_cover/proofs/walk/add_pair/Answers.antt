@@ -1,5 +1,5 @@
 use Rattle.keymap_cover.proofs.Common.{subst, sym, ◌∙◌, has_seen, AddsPair}
-use Rattle.keymap_cover.proofs.Touring.{pair-added, pair-not}
+use Rattle.keymap_cover.proofs.Scripts.{pair-added, pair-not}
 use Rattle.keymap_cover.proofs.walk.add_pair.Goals as goal
 
 pub returns-in_ok-add_pair : goal.returns-in_ok-add_pair

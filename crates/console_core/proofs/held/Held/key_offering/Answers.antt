@@ -1,5 +1,5 @@
 use Rattle.console_core.proofs.Common.{subst, sym, below_more, Offers, state_of, under_of}
-use Rattle.console_core.proofs.Noting.{one_accent}
+use Rattle.console_core.proofs.Adding.{one_accent}
 use Rattle.console_core.proofs.held.Held.key_offering.Goals.{in-Some+else-offered-accent, in_default}
 use Rattle.console_core.proofs.held.Held.key_offering.Goals as goal
 

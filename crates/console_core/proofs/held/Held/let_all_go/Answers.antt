@@ -1,7 +1,7 @@
 use Rattle.console_core.proofs.Common.{arith, reverse, subst, sym, ap, ◌∙◌, ◌+◌, ◌∷◌, Release, state_of}
 use Rattle.console_core.proofs.Looking.{push-reversed}
 use Rattle.console_core.proofs.Places.{modifier-at}
-use Rattle.console_core.proofs.Strokes.{LetsGoTo, lets-go-first, lets-go-some, lets-go-none, lets-go-all}
+use Rattle.console_core.proofs.Taps.{LetsGoTo, lets-go-first, lets-go-some, lets-go-none, lets-go-all}
 use Rattle.console_core.proofs.held.Held.let_all_go.Goals.{in-Some+in_ok-push, in_default}
 use Rattle.console_core.proofs.held.Held.let_all_go.Goals as goal
 

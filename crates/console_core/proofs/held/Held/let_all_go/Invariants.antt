@@ -1,6 +1,6 @@
 -- the holders of the modifiers so far have let go
 use Rattle.console_core.proofs.Common.{reverse, state_of}
-use Rattle.console_core.proofs.Strokes.{LetsGoTo}
+use Rattle.console_core.proofs.Taps.{LetsGoTo}
 use Rattle.console_core.proofs.held.Held.let_all_go.Given as goal
 
 abbrev pub invariant-loop-modifier : goal.invariant-loop-modifier

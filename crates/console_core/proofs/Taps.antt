@@ -1,0 +1,444 @@
+-- Taps of keys in states that moves lead to: where they lead, and what they type.
+use Rattle.console_core.proofs.Common.{◌≡◌, ◌+◌, ◌<◌, ℕ, Bool, true, false, ◌&&◌, ◌||◌, not, List, [], ◌∷◌, ◌++◌}
+use Rattle.console_core.proofs.Common.{Option, Some, None, refl, ap, subst, sym, ◌∙◌, inl, inr, arith, append_assoc}
+use Rattle.console_core.proofs.Common.{map, reverse, if◌then◌else◌, ◌==◌, true≢false, eqb-true, eq-eqb, reverse-append}
+use Rattle.console_core.proofs.Common.{All-cons, none-some, same_modifier, modifier_index, same_action, holding_action}
+use Rattle.console_core.proofs.Common.{option_or, own_of, MapValue, accent_at, key_count, Action, Holding, Modifier}
+use Rattle.console_core.proofs.Common.{Meta, Cell, Char, Act, Event, Press, Release, Answer, Move, Hold, Turn, LetGo}
+use Rattle.console_core.proofs.Common.{Exchange, Symbol, usable, answer_char, answer_action, answer_release}
+use Rattle.console_core.proofs.Common.{char_or_error, composed_by, is_pending, ResolvedEvent, remembered, taken_over}
+use Rattle.console_core.proofs.Common.{pending, held, look, is_this_action, resolve_press, unless_nop, PressedCharacter}
+use Rattle.console_core.proofs.Common.{PressedAction, ReleasedKey, next_pending, pending_after_dead_key, between}
+use Rattle.console_core.proofs.Common.{resolved, is_second_in_force, accent_pending_after, HasKey, is_on_after}
+use Rattle.console_core.proofs.Common.{answer_to, remembered_after, look_after, answer_to_look, Under, alone, State}
+use Rattle.console_core.proofs.Common.{Holds, IsIdle, IsMove, look_in, is_held, with_holder, IsPathFrom, state_from}
+use Rattle.console_core.proofs.Common.{events_along, events_of_move, map_of, IsTapOf, composed_of}
+use Rattle.console_core.proofs.Common.{types_something, plainly, LetsGo, GoesAndTaps, HasTyped, typed_along, kept_if}
+use Rattle.console_core.proofs.Common.{Exact, Stands, fun_ext}
+use Rattle.console_core.specs.Answers.{answer_dead_key}
+use Rattle.console_core.proofs.Going.{pending-along, pending-is}
+use Rattle.console_core.proofs.OneMore.{resolved-more, held-character, held-action, held-release, remembered-character}
+use Rattle.console_core.proofs.OneMore.{pending-character, pending-action, pending-release, remembered-action}
+use Rattle.console_core.proofs.Prefixes.{answers_by_cases}
+use Rattle.console_core.proofs.Scripts.{tap-only, idle-none, other-remembered, pressed-look, stands-from}
+use Rattle.console_core.proofs.Scripts.{tapped-pressed}
+use Rattle.console_core.proofs.Searching.{place_last}
+use Rattle.console_core.proofs.Seeing.{one_map}
+use Rattle.console_core.proofs.Staying.{follows-character, follows-look, follows-nothing, follows-release, not_holding}
+use Rattle.keymap_core.specs.declared.action.Action.TheVariants as act
+use Rattle.keymap_core.specs.declared.action.Holding.TheVariants as holding
+use Rattle.console_core.specs.declared.event.Answer.TheVariants as answer
+use Rattle.console_core.specs.declared.explored.Symbol.TheVariants as symbol
+
+-- ---- letting go of all holders
+
+-- the holders of the first n modifiers have let go
+pub record LetsGoTo (s : State) (h now : List Event) (next : State) (n : ℕ) : Type 0 where
+  pub path : List Move
+  pub is : (u : Under) → IsPathFrom u s path
+  pub leads : (u : Under) → state_from u s path ≡ next
+  pub gone : (i : Modifier) → modifier_index i < n → next.holder i ≡ None
+  pub locks : next.is_locked ≡ s.is_locked
+  pub second : next.is_second ≡ s.is_second
+  pub events : now ≡ events_along path ++ h
+
+pub lets-go-first : (s : State) (h : List Event) → LetsGoTo s h h s 0
+lets-go-first s h = record {
+  path = [];
+  is = λ u. tt;
+  leads = λ u. refl;
+  gone = λ i lt. absurd (omega (arith, lt));
+  locks = refl;
+  second = refl;
+  events = refl;
+}
+
+gone-one : (i j : Modifier) (o : Option ℕ) (t : Bool) → same_modifier i j ≡ t → (t ≡ false → o ≡ None)
+    → (if same_modifier i j then None else o) ≡ None
+gone-one i j o true e f = ap (λ b. if b then None else o) e
+gone-one i j o false e f = ap (λ b. if b then None else o) e ∙ f refl
+
+pub lets-go-some : (s : State) (h now : List Event) (t : State) (n : ℕ) (i : Modifier) (k : ℕ) → LetsGoTo s h now t n
+    → ((j : Modifier) → modifier_index j ≡ n → i ≡ j) → t.holder i ≡ Some k
+    → LetsGoTo s h (Release k ∷ now) (with_holder t i None) (n + 1)
+lets-go-some s h now t n i k x at holds = record {
+  path = LetGo k i ∷ x.path;
+  is = λ u. (subst (λ z. Holds z k i) (sym (x.leads u)) holds, x.is u);
+  leads = λ u. ap (λ z. with_holder z i None) (x.leads u);
+  gone = λ j lt. gone-one i j (t.holder j) (same_modifier i j) refl
+      (λ other. elim (place_last (modifier_index j) n lt) [
+        | inl below ↦ x.gone j below
+        | inr e ↦
+            absurd (true≢false (sym (eq-eqb (modifier_index i) (modifier_index j) (ap modifier_index (at j e)))
+            ∙ other))
+      ]);
+  locks = x.locks;
+  second = x.second;
+  events = ap (λ z. Release k ∷ z) x.events;
+}
+
+pub lets-go-none : (s : State) (h now : List Event) (t : State) (n : ℕ) (i : Modifier) → LetsGoTo s h now t n
+    → ((j : Modifier) → modifier_index j ≡ n → i ≡ j) → t.holder i ≡ None
+    → LetsGoTo s h now t (n + 1)
+lets-go-none s h now t n i x at none = record {
+  path = x.path;
+  is = x.is;
+  leads = x.leads;
+  gone = λ j lt. elim (place_last (modifier_index j) n lt) [
+    | inl below ↦ x.gone j below
+    | inr e ↦ ap (λ z. t.holder z) (sym (at j e)) ∙ none
+  ];
+  locks = x.locks;
+  second = x.second;
+  events = x.events;
+}
+
+below_eight : (i : Modifier) → modifier_index i < 8
+below_eight Meta = omega arith
+below_eight _ = omega arith
+
+pub lets-go-all : (s : State) (h now : List Event) (t : State) → LetsGoTo s h now t 8 → LetsGo s h now t
+lets-go-all s h now t x = record {
+  path = x.path;
+  is = x.is;
+  leads = x.leads;
+  freed =
+      ap (λ z. record { holder = z; is_locked = t.is_locked; is_second = t.is_second })
+      (fun_ext (λ i. x.gone i (below_eight i)))
+      ∙ ap (λ z. record { holder = λ i. None; is_locked = z; is_second = t.is_second }) x.locks
+      ∙ ap (λ z. record { holder = λ i. None; is_locked = s.is_locked; is_second = z }) x.second;
+  events = x.events;
+}
+
+-- ---- a tap of a key
+
+-- A tap of a key that looks up a character, or an action that nothing holds, leaves the state.
+pub exact-character : (r : List ResolvedEvent) (s : State) (k c : ℕ) → Exact r s → IsIdle s k
+    → Exact (ReleasedKey k ∷ (PressedCharacter k c ∷ r)) s
+exact-character r s k c x idle =
+    let now : List ResolvedEvent = PressedCharacter k c ∷ r in
+    let none : remembered k now ≡ None =
+    remembered-character k k c r ∙ ap (λ b. if b then None else remembered k r) (eq-eqb k k refl) in
+    record {
+      follows = follows-release now s k (follows-character r s k c x.follows idle)
+          (λ i. ap (λ o. is_this_action o (act.Mod i)) none);
+      only = tap-only r now s k x
+          (λ n t. remembered-character n k c r ∙ ap (λ b. if b then None else remembered n r) t);
+      up = λ l. held-release (holding.Lock l) k now
+          ∙ ap (λ b. b && not (is_this_action (remembered k now) (act.Lock l)))
+          (held-character (holding.Lock l) k c r ∙ x.up l);
+    }
+
+-- what is remembered of an action that nothing holds is no modifier
+plain-mod : (a : Action) (i : Modifier) → ((h : Holding) → same_action a (holding_action h) ≡ false)
+    → is_this_action (unless_nop a) (act.Mod i) ≡ false
+plain-mod a i plain = by (same_action a act.Nop)
+  where
+    by : (t : Bool) → is_this_action (if t then None else Some a) (act.Mod i) ≡ false
+    by true = refl
+    by false = plain (holding.Mod i)
+
+pub exact-action : (r : List ResolvedEvent) (s : State) (k : ℕ) (a : Action) → Exact r s → IsIdle s k
+    → ((h : Holding) → same_action a (holding_action h) ≡ false)
+    → Exact (ReleasedKey k ∷ (PressedAction k a ∷ r)) s
+exact-action r s k a x idle plain =
+    let now : List ResolvedEvent = PressedAction k a ∷ r in
+    let none : remembered k r ≡ None = idle-none r s k x idle in
+    let takes : taken_over (remembered k r) a ≡ a = ap (λ o. taken_over o a) none in
+    let holds : remembered k now ≡ unless_nop a =
+    remembered-action k k a r
+    ∙ ap (λ o. option_or o (if k == k then unless_nop a else None)) none
+    ∙ ap (λ b. if b then unless_nop a else None) (eq-eqb k k refl) in
+    record {
+      follows = follows-release now s k
+          (follows-nothing r s k a x.follows (λ h. ap (λ b. same_action b (holding_action h)) takes ∙ plain h))
+          (λ i. ap (λ o. is_this_action o (act.Mod i)) holds ∙ plain-mod a i plain);
+      only = tap-only r now s k x (λ n t. other-remembered r k n a t);
+      up = λ l. held-release (holding.Lock l) k now
+          ∙ ap (λ b. b && not (is_this_action (remembered k now) (act.Lock l)))
+          (held-action (holding.Lock l) k a r
+          ∙ ap (λ b. same_action b (act.Lock l) || held (holding.Lock l) r) takes
+          ∙ ap (λ b. b || held (holding.Lock l) r) (plain (holding.Lock l)) ∙ x.up l);
+    }
+
+pub stands-tapped : (u : Under) (h : List Event) (s : State) (k : ℕ) (c : Cell) → k < key_count → Stands u h s
+    → look_in u s k ≡ c → Exact (ReleasedKey k ∷ (resolve_press k c ∷ resolved u.maps h)) s
+    → Stands u (Release k ∷ Press k ∷ h) s
+stands-tapped u h s k c lt st seen exact = record {
+  exact =
+      rw (resolved-more u.maps (Press k ∷ h) (Release k), pressed-look u h s k c st.exact.follows st.second seen) exact;
+  second = st.second;
+  key = st.key;
+  pressed = λ n p. st.pressed n (tapped-pressed h k n p);
+  keys = All-cons HasKey (Release k) (Press k ∷ h) lt (All-cons HasKey (Press k) h lt st.keys);
+}
+
+-- after a tap the console stands as before
+pub stands-tap : (u : Under) (h : List Event) (s : State) (plain : Bool) (x : Symbol) (k : ℕ) → Stands u h s
+    → IsTapOf u s plain x k
+    → Stands u (Release k ∷ Press k ∷ h) s
+stands-tap u h s plain (symbol.Character c) k st (lt, idle, seen, meta) =
+    stands-tapped u h s k (Char c) lt st seen (exact-character (resolved u.maps h) s k c st.exact idle)
+stands-tap u h s plain (symbol.DeadKey j) k st (lt, idle, seen, meta) =
+    stands-tapped u h s k (Act (act.DeadKey j)) lt st seen
+    (exact-action (resolved u.maps h) s k (act.DeadKey j) st.exact idle
+    (λ a. not_holding (act.DeadKey j) a refl refl))
+
+-- ---- answers
+
+-- the answer to a press, by what is looked up
+abbrev pub answer_at : MapValue → Option ℕ → Bool → Option Action → Cell → Answer
+answer_at m p meta o (Char c) = answer_char m p meta c
+answer_at m p meta o (Act a) = answer_action m p meta (taken_over o a)
+
+pub look-answer : (m : MapValue) (h : List Event) (k : ℕ) (x : Cell)
+    → answer_to_look (between m m) k h x
+    ≡ answer_at m (accent_pending_after (between m m) h) (is_on_after (between m m) Meta h)
+    (remembered_after (between m m) k h) x
+look-answer m h k (Char c) =
+    ap (λ n. answer_char n (accent_pending_after (between m m) h) (is_on_after (between m m) Meta h) c)
+    (one_map m (is_second_in_force h))
+look-answer m h k (Act a) =
+    ap (λ n. answer_action n (accent_pending_after (between m m) h) (is_on_after (between m m) Meta h)
+    (taken_over (remembered_after (between m m) k h) a))
+    (one_map m (is_second_in_force h))
+
+press-answer : (m : MapValue) (h : List Event) (s : State) (k : ℕ) (x : Cell) → Stands (alone m) h s
+    → look_in (alone m) s k ≡ x
+    → answer_to (between m m) h (Press k)
+    ≡ answer_at m (accent_pending_after (between m m) h) (is_on_after (between m m) Meta h)
+    (remembered_after (between m m) k h) x
+press-answer m h s k x st seen =
+    let looked : look_after (between m m) k h ≡ x =
+    ap (λ b. look (map_of (alone m) b) (resolved (between m m) h) k) (sym st.second)
+    ∙ follows-look (alone m) (resolved (between m m) h) s k st.exact.follows ∙ seen in
+    (answers_by_cases (between m m) k h).0 ∙ ap (λ c. answer_to_look (between m m) k h c) looked ∙ look-answer m h k x
+
+-- one event more, by its answer
+typed-more : (m : MapValue) (h : List Event) (e : Event) (a : Answer) → answer_to (between m m) h e ≡ a
+    → typed_along m (e ∷ h) ≡ kept_if (types_something a) a ++ typed_along m h
+typed-more m h e a is = ap (λ z. kept_if (types_something z) z ++ typed_along m h) is
+
+-- a release types nothing
+release-silent : (o : Option Action) → kept_if (types_something (answer_release o)) (answer_release o) ≡ []
+release-silent None = refl
+release-silent (Some a) = refl
+
+typed-release : (m : MapValue) (h : List Event) (k : ℕ) → typed_along m (Release k ∷ h) ≡ typed_along m h
+typed-release m h k =
+    typed-more m h (Release k) (answer_release (remembered_after (between m m) k h))
+    (answers_by_cases (between m m) k h).1
+    ∙ ap (λ z. z ++ typed_along m h) (release-silent (remembered_after (between m m) k h))
+
+-- neither does a move
+typed-move : (m : MapValue) (h : List Event) (s : State) (move : Move) → IsMove (alone m) s move → Stands (alone m) h s
+    → typed_along m (events_of_move move ++ h) ≡ typed_along m h
+typed-move m h s (Hold k i) (lt, idle, seen, free) st =
+    typed-more m h (Press k) (answer.Special (act.Mod i))
+    (press-answer m h s k (Act (act.Mod i)) st seen
+    ∙ ap (λ o. answer_action m (accent_pending_after (between m m) h) (is_on_after (between m m) Meta h)
+    (taken_over o (act.Mod i)))
+    (idle-none (resolved (between m m) h) s k st.exact idle))
+typed-move m h s (Turn k l) (lt, idle, seen) st =
+    typed-release m (Press k ∷ h) k
+    ∙ typed-more m h (Press k) (answer.Special (act.Lock l))
+    (press-answer m h s k (Act (act.Lock l)) st seen
+    ∙ ap (λ o. answer_action m (accent_pending_after (between m m) h) (is_on_after (between m m) Meta h)
+    (taken_over o (act.Lock l)))
+    (idle-none (resolved (between m m) h) s k st.exact idle))
+typed-move m h s (LetGo k i) holds st = typed-release m h k
+typed-move m h s Exchange (free, loads) st = absurd (true≢false (sym loads))
+
+typed-path : (m : MapValue) (h : List Event) (s : State) (path : List Move) → Stands (alone m) h s
+    → IsPathFrom (alone m) s path
+    → typed_along m (events_along path ++ h) ≡ typed_along m h
+typed-path m h s [] st is = refl
+typed-path m h s (move ∷ path) st is =
+    ap (λ g. typed_along m g) (append_assoc (events_of_move move) (events_along path) h)
+    ∙ typed-move m (events_along path ++ h) (state_from (alone m) s path) move is.0
+    (stands-from (alone m) h s path st is.1)
+    ∙ typed-path m h s path st is.1
+
+-- ---- what is typed
+
+-- along moves nothing more is
+pub walked : (m : MapValue) (h : List Event) (s : State) (p : Option ℕ) (cs : List ℕ) (path : List Move)
+    → HasTyped m h s p cs → IsPathFrom (alone m) s path
+    → HasTyped m (events_along path ++ h) (state_from (alone m) s path) p cs
+walked m h s p cs path x is = record {
+  stands = stands-from (alone m) h s path x.stands is;
+  pending = pending-is m (events_along path ++ h) ∙ pending-along m h s path x.stands is ∙ sym (pending-is m h)
+      ∙ x.pending;
+  typed = typed-path m h s path x.stands is ∙ x.typed;
+}
+
+one-more : (cs : List ℕ) (c : ℕ) → plainly c ∷ map plainly (reverse cs) ≡ map plainly (reverse (cs ++ c ∷ []))
+one-more cs c = ap (λ z. map plainly z) (sym (reverse-append cs (c ∷ [])))
+
+-- meta is off
+meta-off : (m : MapValue) (h : List Event) (s : State) → Stands (alone m) h s → is_held s Meta ≡ false
+    → is_on_after (between m m) Meta h ≡ false
+meta-off m h s st off = st.exact.follows.on Meta ∙ off
+
+-- what is pending after a tap
+pending-tap : (m : MapValue) (h : List Event) (s : State) (k : ℕ) (x : Cell) (p : Option ℕ) → Stands (alone m) h s
+    → look_in (alone m) s k ≡ x → pending m (resolve_press k x ∷ resolved (between m m) h) ≡ p
+    → accent_pending_after (between m m) (Release k ∷ Press k ∷ h) ≡ p
+pending-tap m h s k x p st seen e =
+    pending-is m (Release k ∷ Press k ∷ h)
+    ∙ ap (λ r. pending m r) (resolved-more (between m m) (Press k ∷ h) (Release k))
+    ∙ pending-release m k (resolved (between m m) (Press k ∷ h))
+    ∙ ap (λ r. pending m r) (pressed-look (alone m) h s k x st.exact.follows st.second seen) ∙ e
+
+-- a tap of a character types it
+pub tap-direct : (m : MapValue) (h : List Event) (s : State) (cs : List ℕ) (c k : ℕ) → HasTyped m h s None cs
+    → IsTapOf (alone m) s true (symbol.Character c) k
+    → HasTyped m (Release k ∷ Press k ∷ h) s None (cs ++ c ∷ [])
+tap-direct m h s cs c k x is = record {
+  stands = stands-tap (alone m) h s true (symbol.Character c) k x.stands is;
+  pending =
+      pending-tap m h s k (Char c) None x.stands is.2 (pending-character m k c (resolved (between m m) h));
+  typed =
+      typed-release m (Press k ∷ h) k
+      ∙ typed-more m h (Press k) (plainly c)
+      (press-answer m h s k (Char c) x.stands is.2
+      ∙ ap (λ p. answer_char m p (is_on_after (between m m) Meta h) c) x.pending
+      ∙ ap (λ b. answer.Char c b) (meta-off m h s x.stands (is.3 refl)))
+      ∙ ap (λ z. plainly c ∷ z) x.typed ∙ one-more cs c;
+}
+
+-- what a dead key makes pending, and gives
+dead-makes : (m : MapValue) (i : ℕ) (t : Bool) → usable m i ≡ t → t ≡ true
+    → next_pending m None (act.DeadKey i) ≡ Some i
+dead-makes m i true e is = ap (λ b. pending_after_dead_key (if b then Some i else None) None) e
+dead-makes m i false e is = absurd (true≢false (sym is))
+
+dead-silent : (m : MapValue) (i : ℕ) (meta t : Bool) → usable m i ≡ t → t ≡ true
+    → answer_dead_key m None meta i ≡ answer.None
+dead-silent m i meta true e is = ap (λ b. if b then answer.None else answer.Error) e
+dead-silent m i meta false e is = absurd (true≢false (sym is))
+
+-- a tap of a dead key makes its accent pending
+pub tap-dead : (m : MapValue) (h : List Event) (s : State) (cs : List ℕ) (i k : ℕ) → HasTyped m h s None cs
+    → IsTapOf (alone m) s false (symbol.DeadKey i) k → usable m i ≡ true
+    → HasTyped m (Release k ∷ Press k ∷ h) s (Some i) cs
+tap-dead m h s cs i k x is can =
+    let r : List ResolvedEvent = resolved (between m m) h in
+    let free : remembered k r ≡ None = idle-none r s k x.stands.exact is.1 in
+    let still : pending m r ≡ None = sym (pending-is m h) ∙ x.pending in
+    record {
+      stands = stands-tap (alone m) h s false (symbol.DeadKey i) k x.stands is;
+      pending =
+          pending-tap m h s k (Act (act.DeadKey i)) (Some i) x.stands is.2
+          (pending-action m k (act.DeadKey i) r
+          ∙ ap (λ o. next_pending m (pending m r) (taken_over o (act.DeadKey i))) free
+          ∙ ap (λ p. next_pending m p (act.DeadKey i)) still ∙ dead-makes m i (usable m i) refl can);
+      typed =
+          typed-release m (Press k ∷ h) k
+          ∙ typed-more m h (Press k) answer.None
+          (press-answer m h s k (Act (act.DeadKey i)) x.stands is.2
+          ∙ ap (λ o. answer_action m (accent_pending_after (between m m) h) (is_on_after (between m m) Meta h)
+          (taken_over o (act.DeadKey i))) free
+          ∙ ap (λ p. answer_dead_key m p (is_on_after (between m m) Meta h) i) x.pending
+          ∙ dead-silent m i (is_on_after (between m m) Meta h) (usable m i) refl can)
+          ∙ x.typed;
+    }
+
+-- the same dead key once more
+own-given : (m : MapValue) (i c : ℕ) (t : Bool) → usable m i ≡ t → t ≡ true → own_of (accent_at m i) ≡ Some c
+    → answer_dead_key m (Some i) false i ≡ plainly c
+own-given m i c true e is own =
+    ap (λ b. if b then (if is_pending i (Some i) then char_or_error false (own_of (accent_at m i)) else answer.None)
+    else answer.Error) e
+    ∙ ap (λ b. if b then char_or_error false (own_of (accent_at m i)) else answer.None) (eq-eqb i i refl)
+    ∙ ap (λ o. char_or_error false o) own
+own-given m i c false e is own = absurd (true≢false (sym is))
+
+own-ends : (m : MapValue) (i : ℕ) (t : Bool) → usable m i ≡ t → t ≡ true
+    → next_pending m (Some i) (act.DeadKey i) ≡ None
+own-ends m i true e is =
+    ap (λ b. pending_after_dead_key (if b then Some i else None) (Some i)) e
+    ∙ ap (λ b. if b then None else Some i) (eq-eqb i i refl)
+own-ends m i false e is = absurd (true≢false (sym is))
+
+pub same-dead : (i j : ℕ) (o : Option ℕ) (c : ℕ) (t : Bool) → (j == i) ≡ t → (if t then o else None) ≡ Some c
+    → (j ≡ i) × (o ≡ Some c)
+same-dead i j o c true e f = (eqb-true j i e, f)
+same-dead i j o c false e f = absurd (none-some c f)
+
+-- a tap while an accent is pending types what that makes of it
+pub tap-composed : (m : MapValue) (h : List Event) (s : State) (cs : List ℕ) (i : ℕ) (x : Symbol) (c k : ℕ)
+    → HasTyped m h s (Some i) cs → IsTapOf (alone m) s true x k → usable m i ≡ true → composed_of m i x ≡ Some c
+    → HasTyped m (Release k ∷ Press k ∷ h) s None (cs ++ c ∷ [])
+tap-composed m h s cs i (symbol.Character b) c k x is can made = record {
+  stands = stands-tap (alone m) h s true (symbol.Character b) k x.stands is;
+  pending =
+      pending-tap m h s k (Char b) None x.stands is.2 (pending-character m k b (resolved (between m m) h));
+  typed =
+      typed-release m (Press k ∷ h) k
+      ∙ typed-more m h (Press k) (plainly c)
+      (press-answer m h s k (Char b) x.stands is.2
+      ∙ ap (λ p. answer_char m p (is_on_after (between m m) Meta h) b) x.pending
+      ∙ ap (λ t. char_or_error t (composed_by (accent_at m i) b)) (meta-off m h s x.stands (is.3 refl))
+      ∙ ap (λ o. char_or_error false o) made)
+      ∙ ap (λ z. plainly c ∷ z) x.typed ∙ one-more cs c;
+}
+tap-composed m h s cs i (symbol.DeadKey j) c k x is can made =
+    let q = same-dead i j (own_of (accent_at m i)) c (j == i) refl made in
+    again (subst (λ n. IsTapOf (alone m) s true (symbol.DeadKey n) k) q.0 is) q.1
+  where
+    r : List ResolvedEvent
+    r = resolved (between m m) h
+
+    again : IsTapOf (alone m) s true (symbol.DeadKey i) k → own_of (accent_at m i) ≡ Some c
+        → HasTyped m (Release k ∷ Press k ∷ h) s None (cs ++ c ∷ [])
+    again is own =
+        let free : remembered k r ≡ None = idle-none r s k x.stands.exact is.1 in
+        let still : pending m r ≡ Some i = sym (pending-is m h) ∙ x.pending in
+        record {
+          stands = stands-tap (alone m) h s true (symbol.DeadKey i) k x.stands is;
+          pending =
+              pending-tap m h s k (Act (act.DeadKey i)) None x.stands is.2
+              (pending-action m k (act.DeadKey i) r
+              ∙ ap (λ o. next_pending m (pending m r) (taken_over o (act.DeadKey i))) free
+              ∙ ap (λ p. next_pending m p (act.DeadKey i)) still ∙ own-ends m i (usable m i) refl can);
+          typed =
+              typed-release m (Press k ∷ h) k
+              ∙ typed-more m h (Press k) (plainly c)
+              (press-answer m h s k (Act (act.DeadKey i)) x.stands is.2
+              ∙ ap (λ o. answer_action m (accent_pending_after (between m m) h) (is_on_after (between m m) Meta h)
+              (taken_over o (act.DeadKey i))) free
+              ∙ ap (λ p. answer_dead_key m p (is_on_after (between m m) Meta h) i) x.pending
+              ∙ ap (λ b. answer_dead_key m (Some i) b i) (meta-off m h s x.stands (is.3 refl))
+              ∙ own-given m i c (usable m i) refl can own)
+              ∙ ap (λ z. plainly c ∷ z) x.typed ∙ one-more cs c;
+        }
+
+-- ---- a tap and the moves around it
+
+-- the events of the moves and the tap
+abbrev pub added-by : {u : Under} {o s : State} {k : ℕ} {h now : List Event} {next : State}
+    → GoesAndTaps u o s k h now next
+    → List Event
+added-by {k = k} x = events_along x.back ++ (Release k ∷ Press k ∷ events_along x.out)
+
+pub adds : {u : Under} {o s : State} {k : ℕ} {h now : List Event} {next : State} (x : GoesAndTaps u o s k h now next)
+    → now ≡ added-by x ++ h
+adds {k = k} {h = h} x =
+    x.events ∙ sym (append_assoc (events_along x.back) (Release k ∷ Press k ∷ events_along x.out) h)
+
+-- Moves and a tap type what the tap does.
+pub tap-types : (m : MapValue) (o s : State) (k : ℕ) (h now : List Event) (next : State) (p q : Option ℕ)
+    → (cs ds : List ℕ) (x : GoesAndTaps (alone m) o s k h now next)
+    → ((g : List Event) → HasTyped m g s p cs → HasTyped m (Release k ∷ Press k ∷ g) s q ds)
+    → (g : List Event) → HasTyped m g o p cs
+    → HasTyped m (added-by x ++ g) next q ds
+tap-types m o s k h now next p q cs ds x tap g before =
+    let there : HasTyped m (events_along x.out ++ g) s p cs =
+    subst (λ t. HasTyped m (events_along x.out ++ g) t p cs) x.there (walked m g o p cs x.out before x.goes) in
+    let tapped : HasTyped m (Release k ∷ Press k ∷ (events_along x.out ++ g)) s q ds =
+    tap (events_along x.out ++ g) there in
+    subst (λ z. HasTyped m z next q ds)
+    (sym (append_assoc (events_along x.back) (Release k ∷ Press k ∷ events_along x.out) g))
+    (subst (λ t. HasTyped m (events_along x.back ++ (Release k ∷ Press k ∷ (events_along x.out ++ g))) t q ds) x.leads
+    (walked m (Release k ∷ Press k ∷ (events_along x.out ++ g)) s q ds x.back tapped x.returns))

@@ -1,0 +1,46 @@
+use Rattle.console_core.proofs.Common.{subst, reverse, sym, slice_get_within, alone, map_of_explored, origin_in, LetsGo}
+use Rattle.console_core.proofs.Common.{HasRoute, LeadsHome, freed, state_of}
+use Rattle.console_core.proofs.Exploring.{tap-freed, tap-home}
+use Rattle.console_core.proofs.GoingBack.{searched-back}
+use Rattle.console_core.proofs.explored.Explored.go_and_tap.Goals as goal
+
+pub go_out-requires-clause-back : goal.go_out-requires-clause-back
+go_out-requires-clause-back c =
+    searched-back (alone (map_of_explored c.args.self.now)) c.args.self.now.met.entries 0 0
+    c.requires.explored.searched
+
+pub state_at-held-requires : goal.state_at-held-requires
+state_at-held-requires c =
+    slice_get_within c.args.self.now.met.entries c.args.at.place c.requires.route.0 c.requires.route.1
+
+pub returns-in_ok-next : goal.returns-in_ok-next
+returns-in_ok-next c =
+    λ x at.
+    let e = c.args.self.now in
+    let u = alone (map_of_explored e) in
+    let is = c.state_at-held.ensures x at in
+    tap-freed u (origin_in e) e.met.entries e.routes.entries c.args.at.place x c.args.at.key
+    (reverse c.args.events.now.items) _ _ _ _ (c.requires.explored.searched.reached c.args.at.place x at)
+    c.requires.explored.home c.in_ok-go_out.ensures c.in_ok-tap.ensures
+    (subst (λ h. LetsGo (state_of h) (reverse c.tap.new.events.items) (reverse c.let_all_go.new.events.items)
+    (state_of c.in_ok-next.next)) is c.in_ok-next.ensures)
+    (subst (λ h. HasRoute e.routes.entries (freed (state_of h))) is
+    (subst (λ t. HasRoute e.routes.entries t) c.freed.ensures (c.has_route.ensures.has c.if-has_route.true)))
+
+pub come_home-requires : goal.come_home-requires
+come_home-requires c =
+    let e = c.args.self.now in
+    let (x, at, has) = c.requires.route in
+    subst (λ h. HasRoute e.routes.entries (state_of h)) (sym (c.state_at-held.ensures x at)) has
+
+pub returns-in_ok-come_home : goal.returns-in_ok-come_home
+returns-in_ok-come_home c =
+    λ x at.
+    let e = c.args.self.now in
+    let m = map_of_explored e in
+    let is = c.state_at-held.ensures x at in
+    let (moves, home, added) = c.in_ok-come_home.ensures (alone m) c.requires.explored.home in
+    tap-home m (origin_in e) e.met.entries c.args.at.place x c.args.at.key
+    (reverse c.args.events.now.items) _ _ _ moves _ c.requires.explored.origin
+    (c.requires.explored.searched.reached c.args.at.place x at) c.in_ok-go_out.ensures c.in_ok-tap.ensures
+    (subst (λ h. LeadsHome (alone m) (state_of h) moves) is home) added c.start.ensures

@@ -1,0 +1,37 @@
+use Rattle.console_core.proofs.Common.{ℕ, ap, subst, sym, ◌∙◌, Caps, Num, Scroll, Alt, between, alone, locked}
+use Rattle.console_core.proofs.Common.{ReachesMoreThanFrom, state_limit, origin_in, state_of, IsWhole}
+use Rattle.console_core.proofs.Approaching.{start-rest}
+use Rattle.console_core.proofs.OneMore.{resolved-start, locked-start}
+use Rattle.console_core.proofs.explorer.Explorer.new.Goals as goal
+
+pub explore-requires : goal.explore-requires
+explore-requires c = (ap (λ s. s.is_locked Scroll) c.start.ensures, ap (λ s. s.is_second) c.start.ensures)
+
+pub invariant_of-result : goal.invariant_of-result
+invariant_of-result c =
+    let (x, same, from) = c.in_ok-explored.ensures in
+    let e = c.in_ok-explored.explored in
+    let whole : IsWhole e = (x, from ∙ c.start.ensures, c.if-explored.true) in (
+      whole,
+      start-rest e whole (state_of c.start-then-explored.result) c.start-then-explored.ensures,
+      tt,
+    )
+
+pub returns-then-explored : goal.returns-then-explored
+returns-then-explored c =
+    let none = resolved-start (between c.args.map.now c.args.map.now) in
+    let off = c.start-then-explored.ensures in (
+      c.in_ok-explored.ensures.1,
+      (
+        ap (λ r. locked Caps r) none ∙ locked-start Caps ∙ sym (ap (λ s. s.is_locked Caps) off),
+        ap (λ r. locked Num r) none ∙ locked-start Num ∙ sym (ap (λ s. s.is_locked Num) off),
+        ap (λ r. locked Alt r) none ∙ locked-start Alt ∙ sym (ap (λ s. s.is_locked Alt) off),
+      ),
+    )
+
+pub returns : goal.returns
+returns c =
+    let e = c.in_ok-explored.explored in
+    let (x, same, from) = c.in_ok-explored.ensures in
+    subst (λ o. (p : ℕ) × ReachesMoreThanFrom (alone c.args.map.now) o state_limit p) (from ∙ c.start.ensures)
+    (subst (λ m. (p : ℕ) × ReachesMoreThanFrom (alone m) (origin_in e) state_limit p) same (x.more c.if-explored.false))

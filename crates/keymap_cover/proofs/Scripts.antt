@@ -1,0 +1,350 @@
+-- What one more event does to a script.
+use Rattle.keymap_cover.proofs.Common.{◌≡◌, ℕ, ◌<◌, ◌⊎◌, inl, inr, Bool, true, false, List, [], ◌∷◌, ◌++◌, Option, None}
+use Rattle.keymap_cover.proofs.Common.{Some, refl, ap, subst, sym, ◌∙◌, length, reverse, if◌then◌else◌, not, ◌==◌}
+use Rattle.keymap_cover.proofs.Common.{slice_set, slice_index_or, replicate, All-nil, All-cons, and-false, true≢false}
+use Rattle.keymap_cover.proofs.Common.{reverse-append, MapValue, Event, Sight, between, resolved, SeesAlong}
+use Rattle.keymap_cover.proofs.Common.{ScriptEvent}
+use Rattle.keymap_cover.proofs.Common.{event_of, events_of, is_down, alone, NoTurnIsOneWay, AreSightsOf, IsReachable}
+use Rattle.keymap_cover.proofs.Common.{has_seen, IsTold, AddsPair, IsScript, AreUp, AreParts}
+use Rattle.std.specs.Option.{is_some}
+use Rattle.std.proofs.lemmas.List.{get_or-replicate}
+use Rattle.keymap_core.specs.declared.action.Modifier.{Modifier}
+use Rattle.keymap_core.specs.declared.action.Lock.{Lock}
+use Rattle.keymap_core.specs.declared.entry.Cell.TheVariants.{Char}
+use Rattle.keymap_core.specs.Numbers.{key_count}
+use Rattle.console_core.specs.declared.selection.Selection.{Selection}
+use Rattle.console_core.specs.Resolved.{held, dead_keys_taken, pending_by_dead_keys}
+use Rattle.console_core.specs.History.{pressed, is_on_after, HasKey, HasKeys, is_locked_after, accent_pending_after}
+use Rattle.console_core.specs.History.{is_any_on_after}
+use Rattle.console_core.proofs.OneMore.{pressed-start, pressed-press, pressed-release, pressed-reset}
+use Rattle.keymap_core.proofs.HoldingTests.{no-modifier}
+use mathlib.Core.Path.{fun_ext}
+use Rattle.console_core.specs.Sights.{selection_with, slot_in, column_in, look_selected, selection_after, SeesNext}
+use Rattle.keymap_cover.specs.ScriptEvents.{CanFollow, ArePossible}
+use Rattle.console_core.specs.declared.sights.Sights.{Sights}
+use Rattle.console_core.specs.Sticking.{NeverForgets}
+use Rattle.keymap_cover.specs.declared.parts.Cover.{Cover}
+use Rattle.keymap_cover.specs.Covering.{history, IsAtRest, Covers}
+use Rattle.keymap_cover.proofs.Marking.{set-cases}
+use Rattle.keymap_cover.specs.Inner.Scripts.{IsWith, IsPairOf, AddsSights}
+use Rattle.keymap_core.specs.declared.action.Holding.TheVariants as holding
+use Rattle.console_core.specs.declared.event.Event.TheVariants as event
+use Rattle.console_core.specs.declared.selection.Sight.TheVariants as sight
+use Rattle.keymap_cover.specs.declared.script_event.ScriptEvent.TheVariants as script_event
+
+-- the pair of a press was added
+pub pair-added : (m : MapValue) (y : Selection) (k accent c : ℕ) (old now : Sight → Bool) → look_selected m y k ≡ Char c
+    → IsWith (sight.Pair accent c) old now → AddsPair m y k (Some accent) old now
+pair-added m y k accent c old now seen w x = (
+  (λ there. (w.1 x).0 there),
+  (λ is. subst (λ z. now z ≡ true) (same x is) w.0),
+  (λ there. elim ((w.1 x).1 there) [
+    | inl was ↦ inl was
+    | inr e ↦ inr (subst (λ z. IsPairOf m y k (Some accent) z) e (refl, seen))
+  ]),
+)
+  where
+    same : (x : Sight) → IsPairOf m y k (Some accent) x → sight.Pair accent c ≡ x
+    same (sight.Pair i d) (e, f) =
+        let g : Char c ≡ Char d = sym seen ∙ f in
+        let p : accent ≡ i = cc in
+        let q : c ≡ d = cc in
+        ap (λ n. sight.Pair n c) p ∙ ap (λ n. sight.Pair i n) q
+    same (sight.Cell s d) x = absurd x
+    same (sight.Locks s a b) x = absurd x
+
+-- where there is none, nothing was
+pub pair-not : (m : MapValue) (y : Selection) (k : ℕ) (pending : Option ℕ) (old : Sight → Bool)
+    → ((i c : ℕ) → pending ≡ Some i → look_selected m y k ≡ Char c → ⊥) → AddsPair m y k pending old old
+pair-not m y k pending old not x = ((λ there. there), (λ is. absurd (none x is)), (λ there. inl there))
+  where
+    none : (x : Sight) → IsPairOf m y k pending x → ⊥
+    none (sight.Pair i c) (e, f) = not i c e f
+    none (sight.Cell s d) is = is
+    none (sight.Locks s a b) is = is
+
+-- the selection of a console that stands at the list
+selection-stands : (on : Modifier → Bool) (off : Lock → Bool) (m : MapValue) (h : List Event)
+    → ((i : Modifier) → on i ≡ is_on_after (between m m) i h)
+    → ((l : Lock) → off l ≡ is_locked_after (between m m) l h)
+    → selection_with on off ≡ selection_after m h
+selection-stands on off m h e f =
+    ap (λ x. selection_with x off) (fun_ext e)
+    ∙ ap (λ x. selection_with (λ i. is_on_after (between m m) i h) x) (fun_ext f)
+
+-- what a press sees was added
+sights-added : (m : MapValue) (h : List Event) (k : ℕ) (pending : Option ℕ) (old a b now : Sight → Bool)
+    → accent_pending_after (between m m) h ≡ pending
+    → (let y = selection_after m h in
+    IsWith (sight.Cell (slot_in y k) (column_in m y k)) old a
+    → IsWith (sight.Locks (slot_in y k) y.caps y.num) a b
+    → AddsPair m y k pending b now → AddsSights m h k old now)
+sights-added m h k pending old a b now is v w pair x = (
+  (λ there. (pair x).0 ((w.1 x).0 ((v.1 x).0 there))),
+  (λ sees. all x sees),
+  (λ there. elim ((pair x).2 there) [
+    | inl was ↦ elim ((w.1 x).1 was) [
+      | inl before ↦ elim ((v.1 x).1 before) [
+        | inl first ↦ inl first
+        | inr e ↦ inr (subst (λ z. SeesNext m h k z) e ((refl, refl), tt))
+      ]
+      | inr e ↦ inr (subst (λ z. SeesNext m h k z) e ((refl, refl, refl), tt))
+    ]
+    | inr f ↦ inr (paired x f)
+  ]),
+)
+  where
+    y : Selection
+    y = selection_after m h
+
+    paired : (x : Sight) → IsPairOf m (selection_after m h) k pending x → SeesNext m h k x
+    paired (sight.Pair i c) (e, seen) = (seen, is ∙ e)
+    paired (sight.Cell s d) f = absurd f
+    paired (sight.Locks s p q) f = absurd f
+
+    all : (x : Sight) → SeesNext m h k x → now x ≡ true
+    all (sight.Cell s d) ((e, f), t) =
+        (pair (sight.Cell s d)).0
+        ((w.1 (sight.Cell s d)).0
+        (subst (λ z. a z ≡ true) (ap (λ n. sight.Cell n (column_in m (selection_after m h) k)) e
+        ∙ ap (λ n. sight.Cell s n) f) v.0))
+    all (sight.Locks s p q) ((e, f, g), t) =
+        (pair (sight.Locks s p q)).0
+        (subst (λ z. b z ≡ true)
+        (ap (λ n. sight.Locks n (selection_after m h).caps (selection_after m h).num) e
+        ∙ ap (λ n. sight.Locks s n (selection_after m h).num) f ∙ ap (λ n. sight.Locks s p n) g) w.0)
+    all (sight.Pair i c) (seen, e) = (pair (sight.Pair i c)).1 (sym is ∙ e, seen)
+
+-- the same by what a console shows
+pub shown-added : (m : MapValue) (h : List Event) (k slot column : ℕ) (pending : Option ℕ) (y : Selection)
+    (old a b now : Sight → Bool) (on : Modifier → Bool) (off : Lock → Bool)
+    → y ≡ selection_with on off → ((i : Modifier) → on i ≡ is_on_after (between m m) i h)
+    → ((l : Lock) → off l ≡ is_locked_after (between m m) l h) → accent_pending_after (between m m) h ≡ pending
+    → slot ≡ slot_in y k → column ≡ column_in m y k
+    → IsWith (sight.Cell slot column) old a → IsWith (sight.Locks slot y.caps y.num) a b
+    → AddsPair m y k pending b now → AddsSights m h k old now
+shown-added m h k slot column pending y old a b now on off is_on e f is s d v w pair =
+    let same : y ≡ selection_after m h = is_on ∙ selection-stands on off m h e f in
+    sights-added m h k pending old a b now is
+    (subst (λ z. IsWith (sight.Cell (slot_in z k) (column_in m z k)) old a) same
+    (subst (λ n. IsWith (sight.Cell (slot_in y k) n) old a) d
+    (subst (λ n. IsWith (sight.Cell n column) old a) s v)))
+    (subst (λ z. IsWith (sight.Locks (slot_in z k) z.caps z.num) a b) same
+    (subst (λ n. IsWith (sight.Locks n y.caps y.num) a b) s w))
+    (subst (λ z. AddsPair m z k pending b now) same pair)
+
+-- what is seen along one more event
+sees-old : (m : MapValue) (e : Event) (h : List Event) (x : Sight) → SeesAlong m h x → SeesAlong m (e ∷ h) x
+sees-old m e h x (later, before, k, at, sees) = (e ∷ later, before, k, ap (λ z. e ∷ z) at, sees)
+
+sees-new : (m : MapValue) (k : ℕ) (h : List Event) (x : Sight) → SeesNext m h k x → SeesAlong m (event.Press k ∷ h) x
+sees-new m k h x sees = ([], h, k, refl, sees)
+
+-- the first of two lists and what is behind it
+firsts : (a b : Event) (g h : List Event) → a ∷ g ≡ b ∷ h → (a ≡ b) × (g ≡ h)
+firsts a b g h e = (cc, cc)
+
+sees-cases : (m : MapValue) (e : Event) (h : List Event) (x : Sight) → SeesAlong m (e ∷ h) x
+    → SeesAlong m h x ⊎ ((k : ℕ) × (e ≡ event.Press k) × SeesNext m h k x)
+sees-cases m e h x ([], before, k, at, sees) =
+    let p : (e ≡ event.Press k) × (h ≡ before) = firsts e (event.Press k) h before at in
+    inr (k, p.0, subst (λ z. SeesNext m z k x) (sym p.1) sees)
+sees-cases m e h x (f ∷ later, before, k, at, sees) =
+    let p : (e ≡ f) × (h ≡ later ++ event.Press k ∷ before) = firsts e f h (later ++ event.Press k ∷ before) at in
+    inl (later, before, k, p.1, sees)
+
+-- which keys are down after a press
+down-press : (x : ScriptEvent) (k j : ℕ) (before : List ScriptEvent) → event_of x ≡ event.Press k
+    → is_down j (x ∷ before) ≡ (if k == j then true else is_down j before)
+down-press (script_event.Down i) k j before e =
+    let same : i ≡ k = cc in
+    ap (λ n. if n == j then true else is_down j before) same
+down-press (script_event.Repeat i) k j before e =
+    let same : i ≡ k = cc in
+    ap (λ n. if n == j then true else is_down j before) same
+down-press (script_event.Up i) k j before e =
+    let no : ⊥ = cc in
+    absurd no
+down-press script_event.Reset k j before e =
+    let no : ⊥ = cc in
+    absurd no
+
+-- one more event stands in front where the newest stands first
+newest : (events : List ScriptEvent) (x : ScriptEvent) → reverse (events ++ x ∷ []) ≡ x ∷ reverse events
+newest events x = reverse-append events (x ∷ [])
+
+-- no script
+pub script-new : (m : MapValue) (events : List ScriptEvent) (down : List Bool) (saw : Sight → Bool) → events ≡ []
+    → ((x : Sight) → saw x ≡ false) → ((k : ℕ) → k < 128 → slice_index_or down k false ≡ false)
+    → IsScript m [] events down saw
+script-new m events down saw e none off = record {
+  history = ap (λ z. events_of (reverse z)) e;
+  keys = All-nil HasKey;
+  possible = subst (λ z. ArePossible (reverse z)) (sym e) tt;
+  pressed = λ k lt. off k lt ∙ sym (ap (λ z. is_down k (reverse z)) e);
+  seen = λ x has. absurd (true≢false (sym has ∙ none x));
+  all_seen = λ x (later, before, k, at, sees). absurd (nothing later (event.Press k) before at);
+}
+  where
+    nothing : (later : List Event) (e : Event) (before : List Event) → [] ≡ later ++ e ∷ before → ⊥
+    nothing [] e before at = cc
+    nothing (f ∷ later) e before at = cc
+
+-- a press
+pressed-once : (m : MapValue) (h : List Event) (events : List ScriptEvent) (down : List Bool) (old now : Sight → Bool)
+    (k : ℕ) (x : ScriptEvent) → IsScript m h events down old → event_of x ≡ event.Press k → CanFollow (reverse events) x
+    → k < key_count → k < length down → AddsSights m h k old now
+    → IsScript m (event.Press k ∷ h) (events ++ x ∷ []) (slice_set down k true) now
+pressed-once m h events down old now k x t is can below-128 lt added = record {
+  history =
+      ap events_of (newest events x) ∙ ap (λ e. e ∷ events_of (reverse events)) is
+      ∙ ap (λ z. event.Press k ∷ z) t.history;
+  keys = All-cons HasKey (event.Press k) h below-128 t.keys;
+  possible = subst ArePossible (sym (newest events x)) (can, t.possible);
+  pressed = λ j below.
+      set-cases down k j true lt (k == j) refl ∙ ap (λ b. if k == j then true else b) (t.pressed j below)
+      ∙ sym (down-press x k j (reverse events) is) ∙ sym (ap (is_down j) (newest events x));
+  seen = λ y has. elim ((added y).2 has) [
+    | inl was ↦ sees-old m (event.Press k) h y (t.seen y was)
+    | inr sees ↦ sees-new m k h y sees
+  ];
+  all_seen = λ y along. elim (sees-cases m (event.Press k) h y along) [
+    | inl was ↦ (added y).0 (t.all_seen y was)
+    | inr (j, e, sees) ↦
+        let same : k ≡ j = cc in
+        (added y).1 (subst (λ n. SeesNext m h n y) (sym same) sees)
+  ];
+}
+
+pub script-press : (m : MapValue) (h : List Event) (events more : List ScriptEvent) (down : List Bool)
+    (old now : Sight → Bool)
+    (k : ℕ) (x : ScriptEvent) → more ≡ events ++ x ∷ [] → IsScript m h events down old → event_of x ≡ event.Press k
+    → CanFollow (reverse events) x → k < key_count → k < length down → AddsSights m h k old now
+    → IsScript m (event.Press k ∷ h) more (slice_set down k true) now
+script-press m h events more down old now k x grown t is can below lt added =
+    subst (λ z. IsScript m (event.Press k ∷ h) z (slice_set down k true) now) (sym grown)
+    (pressed-once m h events down old now k x t is can below lt added)
+
+-- an event that is no press
+no-press : (m : MapValue) (h : List Event) (events : List ScriptEvent) (down after : List Bool) (saw : Sight → Bool)
+    (x : ScriptEvent) → IsScript m h events down saw → ((k : ℕ) → event_of x ≡ event.Press k → ⊥)
+    → CanFollow (reverse events) x → HasKey (event_of x)
+    → ((k : ℕ) → k < 128 → slice_index_or after k false ≡ is_down k (x ∷ reverse events))
+    → IsScript m (event_of x ∷ h) (events ++ x ∷ []) after saw
+no-press m h events down after saw x t other can key off = record {
+  history = ap events_of (newest events x) ∙ ap (λ z. event_of x ∷ z) t.history;
+  keys = All-cons HasKey (event_of x) h key t.keys;
+  possible = subst ArePossible (sym (newest events x)) (can, t.possible);
+  pressed = λ k lt. off k lt ∙ sym (ap (is_down k) (newest events x));
+  seen = λ y has. sees-old m (event_of x) h y (t.seen y has);
+  all_seen = λ y along. elim (sees-cases m (event_of x) h y along) [
+    | inl was ↦ t.all_seen y was
+    | inr (k, e, sees) ↦ absurd (other k e)
+  ];
+}
+
+pub script-up : (m : MapValue) (h : List Event) (events more : List ScriptEvent) (down : List Bool) (saw : Sight → Bool)
+    (k : ℕ) → more ≡ events ++ script_event.Up k ∷ []
+    → IsScript m h events down saw → k < 128 → k < length down → slice_index_or down k false ≡ true
+    → IsScript m (event.Release k ∷ h) more (slice_set down k false) saw
+script-up m h events more down saw k grown t below lt is =
+    subst (λ z. IsScript m (event.Release k ∷ h) z (slice_set down k false) saw) (sym grown)
+    (no-press m h events down (slice_set down k false) saw (script_event.Up k) t (λ j e. cc) (sym
+    (t.pressed k below) ∙ is)
+    below (λ j under.
+    set-cases down k j false lt (k == j) refl ∙ ap (λ b. if k == j then false else b) (t.pressed j under)))
+
+pub script-reset : (m : MapValue) (h : List Event) (events more : List ScriptEvent) (down : List Bool) (saw : Sight
+    → Bool)
+    → more ≡ events ++ script_event.Reset ∷ [] → IsScript m h events down saw
+    → IsScript m (event.Reset ∷ h) more down saw
+script-reset m h events more down saw grown t =
+    subst (λ z. IsScript m (event.Reset ∷ h) z down saw) (sym grown)
+    (no-press m h events down down saw script_event.Reset t (λ j e. cc) tt tt
+    (λ j lt. t.pressed j lt))
+
+-- after a reset nothing is pressed, on or pending
+pub at-rest : (m : MapValue) (h : List Event) → IsAtRest m (event.Reset ∷ h)
+unfolding resolved held dead_keys_taken pending_by_dead_keys
+at-rest m h = (
+  (λ k lt. pressed-reset k h),
+  (λ i. and-false (held (holding.Mod i) (resolved (between m m) h))),
+  refl,
+)
+
+-- nor is it before all events
+pub at-rest_new : (m : MapValue) → IsAtRest m []
+unfolding resolved held dead_keys_taken pending_by_dead_keys
+at-rest_new m = ((λ k lt. pressed-start k), (λ i. refl), refl)
+
+-- a key that isn't down isn't pressed: a reset lifts keys, and else they go up alone
+by-whether : (t v a b : Bool) → (a ≡ false → b ≡ false) → (if t then v else a) ≡ false
+    → (if t then v else b) ≡ false
+by-whether true v a b then-not e = e
+by-whether false v a b then-not e = then-not e
+
+pub not-pressed : (k : ℕ) (xs : List ScriptEvent) → is_down k xs ≡ false → pressed k (events_of xs) ≡ false
+not-pressed k [] e = pressed-start k
+not-pressed k (script_event.Down j ∷ xs) e =
+    pressed-press k j (events_of xs)
+    ∙ by-whether (j == k) true (is_down k xs) (pressed k (events_of xs)) (λ f. not-pressed k xs f) e
+not-pressed k (script_event.Repeat j ∷ xs) e =
+    pressed-press k j (events_of xs)
+    ∙ by-whether (j == k) true (is_down k xs) (pressed k (events_of xs)) (λ f. not-pressed k xs f) e
+not-pressed k (script_event.Up j ∷ xs) e =
+    pressed-release k j (events_of xs)
+    ∙ by-whether (j == k) false (is_down k xs) (pressed k (events_of xs)) (λ f. not-pressed k xs f) e
+not-pressed k (script_event.Reset ∷ xs) e = pressed-reset k (events_of xs)
+
+-- so a key that is pressed is down
+pub up-not : (m : MapValue) (h : List Event) (events : List ScriptEvent) (down : List Bool) (saw : Sight → Bool) (k : ℕ)
+    → IsScript m h events down saw → k < key_count → slice_index_or down k false ≡ false → pressed k h ≡ true → ⊥
+up-not m h events down saw k t lt off on =
+    true≢false (sym on
+    ∙ subst (λ g. pressed k g ≡ false) t.history (not-pressed k (reverse events) (sym (t.pressed k lt) ∙ off)))
+
+-- where no key is down, no modifier on and no accent pending, the script is at rest
+pub rests : (m : MapValue) (h : List Event) (events : List ScriptEvent) (down : List Bool) (saw : Sight → Bool)
+    → IsScript m h events down saw → AreUp down → is_any_on_after (between m m) h ≡ false
+    → accent_pending_after (between m m) h ≡ None → IsAtRest m h
+rests m h events down saw t up off none = (
+  (λ k lt.
+      subst (λ g. pressed k g ≡ false) t.history
+      (not-pressed k (reverse events) (sym (t.pressed k lt) ∙ up k lt))),
+  (λ i. no-modifier (λ x. is_on_after (between m m) x h) off i),
+  none,
+)
+
+-- what isn't there is none
+pub not-some : (o : Option ℕ) → is_some o ≡ false → o ≡ None
+not-some None e = refl
+not-some (Some i) e = absurd (true≢false e)
+
+-- an array of false
+pub all-off : (k : ℕ) → k < 128 → slice_index_or (replicate 128 false) k false ≡ false
+all-off k lt = get_or-replicate 128 k false false lt
+
+-- a search that doesn't note that a modifier is forgotten met no such state
+pub never-forgets : (m : MapValue) (x : Sights) → AreSightsOf m x → x.forgets ≡ false → NeverForgets (alone m)
+never-forgets m x are e path is forgetful =
+    true≢false (sym (are.forgets.1 (path, is, forgetful)) ∙ e)
+
+-- a script that ends at rest, and leaves out nothing if no turn of a lock is one-way, covers
+pub script-covers : (m : MapValue) (h : List Event) (c : Cover) (down : List Bool)
+    → IsScript m h c.events.items down (has_seen c.seen) → IsAtRest m h → AreUp down → AreSightsOf m c.sights
+    → AreParts c.starts.items (length c.events.items)
+    → (NoTurnIsOneWay m → (x : Sight) → IsTold m x → IsReachable m x → has_seen c.seen x ≡ true) → Covers m c
+script-covers m h c down t rest up are parts nothing = record {
+  seen = seen;
+  all_seen = λ x along. t.all_seen x (subst (λ g. SeesAlong m g x) t.history along);
+  sights = are;
+  keys = subst HasKeys (sym t.history) t.keys;
+  possible = t.possible;
+  rest = subst (λ g. IsAtRest m g) (sym t.history) rest;
+  up = λ k lt. sym (t.pressed k lt) ∙ up k lt;
+  parts = parts;
+  complete = λ steady x told reachable. seen x (nothing steady x told reachable);
+}
+  where
+    seen : (x : Sight) → has_seen c.seen x ≡ true → SeesAlong m (history c) x
+    seen x has = subst (λ g. SeesAlong m g x) (sym t.history) (t.seen x has)

@@ -1,0 +1,72 @@
+use Rattle.keymap_cover.proofs.Common.{length, subst, sym, ◌∙◌, ◌≤◌, AreParts}
+use Rattle.keymap_cover.proofs.Showing.{script-whole, under-way-new}
+use Rattle.keymap_cover.proofs.cover.script_of.Goals as goal
+
+pub starts_of-requires-clause-first : goal.starts_of-requires-clause-first
+starts_of-requires-clause-first g c =
+    let m = c.args.map.now in
+    let a = c.in_ok-script.script in
+    let b = c.show_told.new.script in
+    let d = c.try_keys.new.script in
+    let e = c.go_onward.new.script in
+    let A = g.T.Translator.stands c.args.console.now in
+    let whole =
+    script-whole m A c.args.explorer.now a (g.T.Translator.stands c.show_told.new.console) c.show_told.new.explorer b
+    (g.T.Translator.stands c.try_keys.new.console) d (g.T.Translator.stands c.go_onward.new.console) e
+    c.in_ok-first.first
+    (under-way-new m A c.args.explorer.now a c.requires.explorer (c.requires.new, c.in_ok-script.ensures m))
+    c.in_ok-first.ensures c.in_ok-try_keys.ensures.along c.in_ok-try_keys.ensures.up c.in_ok-go_onward.ensures in
+    subst (λ n. c.in_ok-first.first ≤ n) (sym (c.len-second.ensures ∙ b.events.ok.0)) whole.2
+
+pub starts_of-requires-clause-second : goal.starts_of-requires-clause-second
+starts_of-requires-clause-second g c =
+    let m = c.args.map.now in
+    let a = c.in_ok-script.script in
+    let b = c.show_told.new.script in
+    let d = c.try_keys.new.script in
+    let e = c.go_onward.new.script in
+    let A = g.T.Translator.stands c.args.console.now in
+    let whole =
+    script-whole m A c.args.explorer.now a (g.T.Translator.stands c.show_told.new.console) c.show_told.new.explorer b
+    (g.T.Translator.stands c.try_keys.new.console) d (g.T.Translator.stands c.go_onward.new.console) e
+    c.in_ok-first.first
+    (under-way-new m A c.args.explorer.now a c.requires.explorer (c.requires.new, c.in_ok-script.ensures m))
+    c.in_ok-first.ensures c.in_ok-try_keys.ensures.along c.in_ok-try_keys.ensures.up c.in_ok-go_onward.ensures in
+    subst (λ n. n ≤ c.len-third.result) (sym (c.len-second.ensures ∙ b.events.ok.0))
+    (subst (λ n. length b.events.items ≤ n) (sym (c.len-third.ensures ∙ d.events.ok.0)) whole.3)
+
+pub starts_of-requires-clause-third : goal.starts_of-requires-clause-third
+starts_of-requires-clause-third g c =
+    let m = c.args.map.now in
+    let a = c.in_ok-script.script in
+    let b = c.show_told.new.script in
+    let d = c.try_keys.new.script in
+    let e = c.go_onward.new.script in
+    let A = g.T.Translator.stands c.args.console.now in
+    let whole =
+    script-whole m A c.args.explorer.now a (g.T.Translator.stands c.show_told.new.console) c.show_told.new.explorer b
+    (g.T.Translator.stands c.try_keys.new.console) d (g.T.Translator.stands c.go_onward.new.console) e
+    c.in_ok-first.first
+    (under-way-new m A c.args.explorer.now a c.requires.explorer (c.requires.new, c.in_ok-script.ensures m))
+    c.in_ok-first.ensures c.in_ok-try_keys.ensures.along c.in_ok-try_keys.ensures.up c.in_ok-go_onward.ensures in
+    subst (λ n. n ≤ c.len.result) (sym (c.len-third.ensures ∙ d.events.ok.0))
+    (subst (λ n. length d.events.items ≤ n) (sym (c.len.ensures ∙ e.events.ok.0)) whole.4)
+
+pub returns : goal.returns
+returns g c =
+    let m = c.args.map.now in
+    let a = c.in_ok-script.script in
+    let b = c.show_told.new.script in
+    let d = c.try_keys.new.script in
+    let e = c.go_onward.new.script in
+    let A = g.T.Translator.stands c.args.console.now in
+    let whole =
+    script-whole m A c.args.explorer.now a (g.T.Translator.stands c.show_told.new.console) c.show_told.new.explorer b
+    (g.T.Translator.stands c.try_keys.new.console) d (g.T.Translator.stands c.go_onward.new.console) e
+    c.in_ok-first.first
+    (under-way-new m A c.args.explorer.now a c.requires.explorer (c.requires.new, c.in_ok-script.ensures m))
+    c.in_ok-first.ensures c.in_ok-try_keys.ensures.along c.in_ok-try_keys.ensures.up c.in_ok-go_onward.ensures in (
+      whole.0,
+      whole.1,
+      subst (λ n. AreParts c.in_ok-starts.starts.items n) (c.len.ensures ∙ e.events.ok.0) c.in_ok-starts.ensures,
+    )

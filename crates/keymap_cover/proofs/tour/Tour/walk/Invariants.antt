@@ -1,8 +1,0 @@
--- the console runs along by the events before the place
-use Rattle.keymap_cover.proofs.Common.{reverse, take, GoesAlong}
-use Rattle.keymap_cover.proofs.tour.Tour.walk.Given as goal
-
-abbrev pub invariant-loop-event : goal.invariant-loop-event
-invariant-loop-event g l =
-    GoesAlong l.map (reverse (take l.event-index l.events)) (g.T.Translator.stands l.fn.console) l.fn.self
-    (g.T.Translator.stands l.console) l.self

@@ -1,0 +1,168 @@
+-- A script while it is made. Mirrors src/marks.rt, src/walk.rt and src/cover.rt.
+use Rattle.std.specs.Prelude.{◌≡◌, ◌⊎◌, ℕ, ◌<◌, Bool, true, false, List, [], ◌∷◌, ◌++◌, Option, Some, reverse}
+use Rattle.std.specs.Prelude.{slice_index_or}
+use Rattle.std.specs.List.{Contains}
+use Rattle.keymap_core.specs.Maps.{MapValue}
+use Rattle.keymap_core.specs.Numbers.{key_count}
+use Rattle.console_core.specs.declared.event.Event.{Event}
+use Rattle.console_core.specs.declared.event.Event.TheVariants.{Release}
+use Rattle.keymap_core.specs.declared.action.Lock.{Lock}
+use Rattle.console_core.specs.declared.selection.Sight.{Sight}
+use Rattle.keymap_core.specs.declared.entry.Cell.TheVariants.{Char}
+use Rattle.console_core.specs.declared.selection.Selection.{Selection}
+use Rattle.console_core.specs.declared.selection.Sight.TheVariants as sight
+use Rattle.console_core.specs.History.{Maps, between, is_locked_after, pressed, HasKeys, IsNoLoad}
+use Rattle.console_core.specs.Visiting.{AreTaken, HasLocks, ExplorerValue}
+use Rattle.console_core.specs.Returning.{NoTurnIsOneWay}
+use Rattle.console_core.specs.Sights.{look_selected, SeesNext, SeesAlong, IsReachable}
+use Rattle.console_core.specs.Sticking.{IsOfPressedKey}
+use Rattle.keymap_cover.specs.declared.script_event.ScriptEvent.{ScriptEvent}
+use Rattle.keymap_cover.specs.declared.script.Script.{Script}
+use Rattle.keymap_cover.specs.ScriptEvents.{events_of, is_down, ArePossible}
+use Rattle.keymap_cover.specs.SeenSights.{has_seen}
+use Rattle.keymap_cover.specs.Covering.{IsAtRest}
+use Rattle.keymap_cover.specs.Told.{IsTold}
+
+-- x is there, and what was there before, and nothing else
+abbrev pub IsWith : Sight → (Sight → Bool) → (Sight → Bool) → Type 0
+IsWith x old now =
+    (now x ≡ true)
+    × ((y : Sight) → (old y ≡ true → now y ≡ true) × (now y ≡ true → (old y ≡ true) ⊎ (x ≡ y)))
+
+-- the pair that a press of the key composes was added, and nothing else
+abbrev pub IsPairOf : MapValue → Selection → ℕ → Option ℕ → Sight → Type 0
+IsPairOf m y k pending (sight.Pair accent c) = (pending ≡ Some accent) × (look_selected m y k ≡ Char c)
+IsPairOf m y k pending _ = ⊥
+
+abbrev pub AddsPair : MapValue → Selection → ℕ → Option ℕ → (Sight → Bool) → (Sight → Bool) → Type 0
+AddsPair m y k pending old now =
+    (x : Sight) → (old x ≡ true → now x ≡ true) × (IsPairOf m y k pending x → now x ≡ true)
+    × (now x ≡ true → (old x ≡ true) ⊎ IsPairOf m y k pending x)
+
+-- what a press of the key sees after the list was added, and nothing else
+abbrev pub AddsSights : MapValue → List Event → ℕ → (Sight → Bool) → (Sight → Bool) → Type 0
+AddsSights m h k old now =
+    (x : Sight) → (old x ≡ true → now x ≡ true) × (SeesNext m h k x → now x ≡ true)
+    × (now x ≡ true → (old x ≡ true) ⊎ SeesNext m h k x)
+
+-- these events of a script made this history, after which these keys are pressed, and this was seen
+pub record IsScript (m : MapValue) (h : List Event) (events : List ScriptEvent) (down : List Bool) (saw : Sight → Bool)
+    : Type 0 where
+  pub history : events_of (reverse events) ≡ h
+  pub keys : HasKeys h
+  pub possible : ArePossible (reverse events)
+  pub pressed : (k : ℕ) → k < key_count → slice_index_or down k false ≡ is_down k (reverse events)
+  pub seen : (x : Sight) → saw x ≡ true → SeesAlong m h x
+  pub all_seen : (x : Sight) → SeesAlong m h x → saw x ≡ true
+
+abbrev pub IsScriptOf : MapValue → List Event → Script → Type 0
+IsScriptOf m h t = IsScript m h t.events.items t.pressed (has_seen t.seen)
+
+-- how a console stands, under two keymaps, at a list
+abbrev pub Standing : Type 1
+Standing = Maps → List Event → Type 0
+
+-- a console that stands so runs along the script, which made this list
+abbrev pub RunsAlong : MapValue → Standing → List Event → Script → Type 0
+RunsAlong m stands h t = stands (between m m) h × IsScriptOf m h t
+
+-- the events of the one list came after the other
+abbrev pub ComesAfter : List Event → List Event → Type 0
+ComesAfter h g = (later : List Event) × (g ≡ later ++ h)
+
+-- the console runs along by one event more
+abbrev pub GoesBy : MapValue → Event → Standing → Script → Standing → Script → Type 0
+GoesBy m e stood before stands t = (h : List Event) → RunsAlong m stood h before → RunsAlong m stands (e ∷ h) t
+
+-- It runs along by one event more, or not at all where that is a release of a key that isn't pressed, or a load.
+abbrev pub GoesIfTaken : MapValue → Event → Standing → Script → Standing → Script → Type 0
+GoesIfTaken m e stood before stands t =
+    (h : List Event) → RunsAlong m stood h before
+    → (g : List Event) × RunsAlong m stands g t × ComesAfter h g × (IsNoLoad e → IsOfPressedKey e h → g ≡ e ∷ h)
+
+-- the events of the one list came after the other, and turned no lock
+abbrev pub TurnsNone : MapValue → List Event → List Event → Type 0
+TurnsNone m h g =
+    ComesAfter h g × ((l : Lock) → is_locked_after (between m m) l g ≡ is_locked_after (between m m) l h)
+
+-- it runs along by the release of the key, or not at all where that isn't pressed
+abbrev pub GoesUp : MapValue → ℕ → Standing → Script → Standing → Script → Type 0
+GoesUp m k stood before stands t =
+    (h : List Event) → RunsAlong m stood h before
+    → (g : List Event) × RunsAlong m stands g t × TurnsNone m h g × (pressed k h ≡ true → g ≡ Release k ∷ h)
+
+-- it runs along by some events more, that turn no lock
+abbrev pub GoesOn : MapValue → Standing → Script → Standing → Script → Type 0
+GoesOn m stood before stands t =
+    (h : List Event) → RunsAlong m stood h before → (g : List Event) × RunsAlong m stands g t × TurnsNone m h g
+
+-- and comes to rest
+abbrev pub GoesToRest : MapValue → Standing → Script → Standing → Script → Type 0
+GoesToRest m stood before stands t =
+    (h : List Event) → RunsAlong m stood h before
+    → (g : List Event) × RunsAlong m stands g t × TurnsNone m h g × IsAtRest m g
+
+-- it runs along by some events more, which are exactly these if they are taken
+abbrev pub GoesAlong : MapValue → List Event → Standing → Script → Standing → Script → Type 0
+GoesAlong m later stood before stands t =
+    (h : List Event) → RunsAlong m stood h before
+    → (g : List Event) × RunsAlong m stands g t × ComesAfter h g × (AreTaken h later → g ≡ later ++ h)
+
+-- the same, and it comes to rest by some events more, that turn no lock
+abbrev pub GoesAlongToRest : MapValue → List Event → Standing → Script → Standing → Script → Type 0
+GoesAlongToRest m later stood before stands t =
+    (h : List Event) → RunsAlong m stood h before
+    → (g : List Event) × RunsAlong m stands g t × IsAtRest m g × ComesAfter h g
+    × (AreTaken h later → TurnsNone m (later ++ h) g)
+
+-- the console runs along by some events more, and comes to rest
+abbrev pub GoesFurther : MapValue → Standing → Script → Standing → Script → Type 0
+GoesFurther m stood before stands t =
+    (h : List Event) → RunsAlong m stood h before
+    → (g : List Event) × RunsAlong m stands g t × IsAtRest m g × ComesAfter h g
+
+abbrev pub AreUp : List Bool → Type 0
+AreUp down = (k : ℕ) → k < key_count → slice_index_or down k false ≡ false
+
+-- the console runs along a script that is at rest with no key down
+abbrev pub IsResting : MapValue → Standing → Script → List Event → Type 0
+IsResting m stands t h = RunsAlong m stands h t × AreUp t.pressed × IsAtRest m h
+
+-- it goes on so by some events more
+abbrev pub GoesResting : MapValue → Standing → Script → Standing → Script → Type 0
+GoesResting m stood before stands t =
+    (h : List Event) → IsResting m stood before h → (g : List Event) × IsResting m stands t g × ComesAfter h g
+
+-- The console runs along a script that is at rest with no key down, and the explorer's locks are on.
+pub record IsUnderWay (m : MapValue) (stands : Standing) (p : ExplorerValue) (t : Script) (h : List Event)
+    : Type 0 where
+  pub runs : RunsAlong m stands h t
+  pub up : AreUp t.pressed
+  pub rest : IsAtRest m h
+  pub map : p.map ≡ m
+  pub locks : HasLocks m p.locks h
+
+-- it goes on so by some events more, and then this holds
+abbrev pub GoesUnderWay : MapValue → Standing → ExplorerValue → Script → Standing → ExplorerValue → Script → Type 0
+    → Type 0
+GoesUnderWay m stood p before stands q t P =
+    (h : List Event) → IsUnderWay m stood p before h
+    → (g : List Event) × IsUnderWay m stands q t g × ComesAfter h g × P
+
+-- a script of which no key is down at the end, and which is at rest
+abbrev pub EndsAtRest : MapValue → Script → Type 0
+EndsAtRest m t = AreUp t.pressed × ((h : List Event) × IsScriptOf m h t × IsAtRest m h)
+
+-- if no turn of a lock is one-way, what of these can be seen was seen
+abbrev pub SeesAll : MapValue → List Sight → Script → Type 0
+SeesAll m xs t =
+    NoTurnIsOneWay m → (x : Sight) → Contains xs x → IsReachable m x → has_seen t.seen x ≡ true
+
+-- and of all that is told of
+abbrev pub LeavesNothingOut : MapValue → Script → Type 0
+LeavesNothingOut m t =
+    NoTurnIsOneWay m → (x : Sight) → IsTold m x → IsReachable m x → has_seen t.seen x ≡ true
+
+-- the explorer is of the map, and no locks are on
+abbrev pub IsExplorerFor : MapValue → ExplorerValue → Type 0
+IsExplorerFor m p = (p.map ≡ m) × HasLocks m p.locks []

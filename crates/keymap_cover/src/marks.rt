@@ -1,0 +1,118 @@
+//! Noting what was seen.
+ghost use Rattle.std.specs.Prelude.{◌≡◌, ◌<◌, List, false, true, length, OnOk, IfOk, slice_set, slice_index_or};
+ghost use Rattle.std.specs.List.{Contains};
+ghost use Rattle.keymap_core.specs.Numbers.{column_count};
+ghost use Rattle.console_core.specs.declared.selection.Sight.{Sight as SightValue};
+ghost use Rattle.console_core.specs.declared.selection.Sight.TheVariants.{Cell, Locks, Pair};
+ghost use Rattle.keymap_cover.specs.SightLists.{cell_place, lock_setting_place};
+ghost use Rattle.keymap_cover.specs.SeenSights.{has_seen};
+ghost use Rattle.keymap_cover.specs.Inner.Scripts.{IsWith};
+
+use crate::seen::Seen;
+use crate::sight_lists::{CELL_COUNT, LOCK_SETTING_COUNT};
+use console_core::Sight;
+use keymap_core::COLUMN_COUNT;
+use std::alloc::{AllocError, Global};
+
+/// The place of a cell among all.
+fn place_of_cell(slot: u8, column: usize) -> usize
+    requires { column < column_count }
+    ensures within { result < 2048 }
+    ensures value { result ≡ cell_place slot column }
+{
+    slot as usize * 8 + column
+}
+
+/// The place of a lock setting among all.
+fn place_of_lock_setting(slot: u8, caps: bool, num: bool) -> usize
+    ensures within { result < 1024 }
+    ensures value { result ≡ lock_setting_place slot caps num }
+{
+    slot as usize * 4 + usize::from(caps) * 2 + usize::from(num)
+}
+
+/// Marks the place.
+fn mark(marks: &mut [bool], place: usize)
+    requires { place < length marks.old }
+    ensures { marks.new ≡ slice_set marks.old place true }
+{
+    marks[place] = true;
+}
+
+/// Whether the place is marked.
+fn is_marked(marks: &[bool], place: usize) -> bool
+    requires { place < length marks.now }
+    ensures { result ≡ slice_index_or marks.now place false }
+{
+    marks[place]
+}
+
+/// Whether the pair is among these.
+fn has_pair(pairs: &[Sight], accent: u8, character: char) -> bool
+    ensures among { result ≡ true → Contains pairs.now (Pair accent character) }
+    ensures missing { result ≡ false → Contains pairs.now (Pair accent character) → ⊥ }
+{
+    let pair = Sight::Pair { accent, character };
+    for other in pairs {
+        if *other == pair {
+            return true;
+        }
+    }
+    false
+}
+
+impl Seen {
+    /// Nothing was seen.
+    pub fn new(alloc: Global) -> Result<Seen, AllocError>
+        ensures { IfOk result (λ t. (x : SightValue) → has_seen t x ≡ false) }
+    {
+        Ok(Seen {
+            cells: Vec::from_array(alloc, [false; CELL_COUNT])?,
+            lock_settings: Vec::from_array(alloc, [false; LOCK_SETTING_COUNT])?,
+            pairs: Vec::new(alloc),
+        })
+    }
+
+    /// Whether it was seen.
+    pub fn has(&self, sight: Sight) -> bool
+        ensures { result ≡ has_seen self.now sight }
+    {
+        match sight {
+            Sight::Cell { slot, column } => {
+                column < COLUMN_COUNT && is_marked(&self.cells, place_of_cell(slot, column))
+            }
+            Sight::Locks { slot, caps, num } => {
+                is_marked(&self.lock_settings, place_of_lock_setting(slot, caps, num))
+            }
+            Sight::Pair { accent, character } => has_pair(&self.pairs, accent, character),
+        }
+    }
+
+    /// Adds a cell.
+    pub(crate) fn add_cell(&mut self, slot: u8, column: usize)
+        requires { column < column_count }
+        ensures { IsWith (Cell slot column) (has_seen self.old) (has_seen self.new) }
+    {
+        mark(&mut self.cells, place_of_cell(slot, column));
+    }
+
+    /// Adds a lock setting.
+    pub(crate) fn add_lock_setting(&mut self, slot: u8, caps: bool, num: bool)
+        ensures { IsWith (Locks slot caps num) (has_seen self.old) (has_seen self.new) }
+    {
+        mark(
+            &mut self.lock_settings,
+            place_of_lock_setting(slot, caps, num),
+        );
+    }
+
+    /// Adds a pair.
+    pub(crate) fn add_pair(&mut self, accent: u8, character: char) -> Result<(), AllocError>
+        ensures { OnOk result (IsWith (Pair accent character) (has_seen self.old) (has_seen self.new)) }
+    {
+        if !has_pair(&self.pairs, accent, character) {
+            self.pairs.push(Sight::Pair { accent, character })?;
+        }
+        Ok(())
+    }
+}

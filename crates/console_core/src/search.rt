@@ -63,7 +63,27 @@ pub fn entry(met: &Met, place: usize) -> (Held, Origin)
     }
 }
 
-/// Adds where the step from the place leads, if there is a step and that wasn't met.
+/// Adds where the step from the place leads, if that wasn't met.
+fn meet_step(met: &mut Met, place: usize, step: Step, presses: usize) -> Result<(), AllocError>
+    requires { AreWithin met.old.entries presses }
+    ensures met { OnOk result (IsMetBy met.new.entries presses (state_of step.to)) }
+    ensures within { OnOk result (AreWithin met.new.entries presses) }
+    ensures grown { OnOk result (Grows met.old.entries met.new.entries) }
+    ensures added { OnOk result ((u : Under) (h : HeldValue) (n : ℕ) → IsStep u (state_of h) n step
+        → AreAdded u (state_of h) place n presses met.old.entries met.new.entries) }
+{
+    if !met.contains_key(&step.to) {
+        let origin = Origin {
+            presses,
+            last: Some((place, step.by)),
+        };
+        met.insert(step.to, origin)?;
+    }
+    Ok(())
+}
+
+/// Adds where the step from the place leads, if there is one. Inlined, since half of the calls are given none.
+#[inline(always)]
 fn meet(met: &mut Met, place: usize, step: Option<Step>, presses: usize) -> Result<(), AllocError>
     requires { AreWithin met.old.entries presses }
     ensures met { OnOk result (IfSome step (λ x. IsMetBy met.new.entries presses (state_of x.to))) }
@@ -72,16 +92,10 @@ fn meet(met: &mut Met, place: usize, step: Option<Step>, presses: usize) -> Resu
     ensures added { OnOk result ((u : Under) (h : HeldValue) (n : ℕ) → IfSome step (IsStep u (state_of h) n)
         → AreAdded u (state_of h) place n presses met.old.entries met.new.entries) }
 {
-    if let Some(step) = step {
-        if !met.contains_key(&step.to) {
-            let origin = Origin {
-                presses,
-                last: Some((place, step.by)),
-            };
-            met.insert(step.to, origin)?;
-        }
+    match step {
+        Some(step) => meet_step(met, place, step, presses),
+        None => Ok(()),
     }
-    Ok(())
 }
 
 /// Adds where letting go of the modifiers leads.

@@ -5,14 +5,12 @@ use Rattle.console_core.proofs.Common.{lookup, cases_Bool, Held, MapValue, Event
 use Rattle.console_core.proofs.Common.{Symbol, Tap, usable, Under, alone, State, start, IsMove, moved, state_after}
 use Rattle.console_core.proofs.Common.{IsPathFrom, state_from, events_along, IsHome, ComesHome, IsTapOf, CanTap}
 use Rattle.console_core.proofs.Common.{CanType, composed_of, map_of_explored, origin_in, IsExplored, CanReturn, HasTap}
-use Rattle.console_core.proofs.Common.{LetsGo, GoesAndTaps, HasTyped, TypesOne, LeadsHome, Routes, AllLeadHome, HasRoute}
-use Rattle.console_core.proofs.Common.{AreSettled, freed, state_of, Entry, Entries, IsTrail, IsReached, Searched}
-use Rattle.console_core.proofs.Common.{unscrolled, fun_ext}
+use Rattle.console_core.proofs.Common.{LetsGo, GoesAndTaps, HasTyped, TypesOne, LeadsHome, Routes, AllLeadHome}
+use Rattle.console_core.proofs.Common.{HasRoute, AreSettled, freed, state_of, Entry, Entries, IsTrail, IsReached}
+use Rattle.console_core.proofs.Common.{Searched, unscrolled, fun_ext, Lock, Caps, Num, Scroll, Alt}
 use Rattle.console_core.proofs.Entries.{none-found, found-has}
 use Rattle.console_core.proofs.RoutesHome.{is-nothing}
 use Rattle.console_core.proofs.SameStates.{are_same}
-use Rattle.keymap_core.specs.declared.action.Lock.{Lock}
-use Rattle.keymap_core.specs.declared.action.Lock.TheVariants.{Caps, Num, Scroll, Alt}
 use Rattle.console_core.specs.Inner.Exploring.{IsOrigin}
 use Rattle.console_core.proofs.Returning.{near-met, strays-on, StraysTo, is-astray, near-is_home}
 use Rattle.console_core.proofs.Taps.{added-by, adds, tap-types, tap-direct, tap-dead, tap-composed}

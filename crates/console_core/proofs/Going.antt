@@ -4,13 +4,8 @@ use Rattle.console_core.proofs.Common.{append_assoc, if◌then◌else◌, false�
 use Rattle.console_core.proofs.Common.{remembered, taken_over, usable, next_pending, pending_after_dead_key, between}
 use Rattle.console_core.proofs.Common.{resolved, is_second_in_force, accent_pending_after, alone, State, IsIdle}
 use Rattle.console_core.proofs.Common.{look_in, IsMove, events_of_move, events_along, state_from, IsPathFrom, SeesBy}
-use Rattle.console_core.proofs.Common.{SeesNext, IsPendingFor, selection_of, Stands}
-use Rattle.keymap_core.specs.declared.entry.Cell.TheVariants.{Act}
-use Rattle.console_core.specs.declared.event.Event.{Event}
-use Rattle.console_core.specs.declared.event.Event.TheVariants.{Press, Release}
-use Rattle.console_core.specs.declared.held.Move.{Move}
-use Rattle.console_core.specs.declared.held.Move.TheVariants.{Hold, Turn, LetGo, Exchange}
-use Rattle.console_core.specs.declared.selection.Sight.{Sight}
+use Rattle.console_core.proofs.Common.{SeesNext, IsPendingFor, selection_of, Stands, Act, Event, Press, Release, Move}
+use Rattle.console_core.proofs.Common.{Hold, Turn, LetGo, Exchange, Sight}
 use Rattle.console_core.proofs.OneMore.{resolved-more, pending-action, pending-release}
 use Rattle.console_core.proofs.Scripts.{stands-from, idle-none, pressed-look}
 use Rattle.console_core.proofs.Seeing.{follows-selection, one_map}

@@ -1,8 +1,6 @@
 -- One event more, with the newest first; and what stands at a place.
 use Rattle.console_core.proofs.Common.{◌≡◌, ◌<◌, ℕ, List, [], ◌∷◌, ◌++◌, length, reverse, slice_get, get_or, Some, None}
-use Rattle.console_core.proofs.Common.{reverse-append, slice_get-get_or, Held, Origin}
-use Rattle.console_core.proofs.Common.{Entry, Entries}
-use Rattle.console_core.specs.declared.event.Event.{Event}
+use Rattle.console_core.proofs.Common.{reverse-append, slice_get-get_or, Held, Origin, Entry, Entries, Event}
 
 -- one event more
 pub push-reversed : (old : List Event) (e : Event) → reverse (old ++ e ∷ []) ≡ e ∷ reverse old

@@ -4,15 +4,14 @@ use Rattle.console_core.proofs.Common.{◌∷◌, ◌++◌, length, refl, slice_
 use Rattle.console_core.proofs.Common.{arith, Contains, IsDistinct, keys_of, lookup, is_some, cases_lt, true≢false}
 use Rattle.console_core.proofs.Common.{append-nil, Contains-push_cases, slice_get_within, MapValue, Move, LetGo}
 use Rattle.console_core.proofs.Common.{Selection, Offer, Sights, Held, usable, Under, alone, State, start, IsMove}
-use Rattle.console_core.proofs.Common.{moved, IsPath, state_after, IsPathFrom, state_from, IsForgetful}
-use Rattle.console_core.proofs.Common.{IsOfferedIn, AreSightsOf, selection_of, HasNoDoubles, IsMet, state_of, Entry}
-use Rattle.console_core.proofs.Common.{Entries, Grows, AreWithin, AreAdded, IsMetBy, AreMet, IsReached, LeavesScroll}
-use Rattle.console_core.proofs.Common.{Searched, AreSafe, IsStuck, unscrolled, IsBehind, AreSeedsTo, AreBehindTo}
-use Rattle.console_core.proofs.Common.{AreBehind, IsOfferedUnlocked, AreSelectionsOf, AreOffersOf}
+use Rattle.console_core.proofs.Common.{moved, IsPath, state_after, IsPathFrom, state_from, IsForgetful, IsOfferedIn}
+use Rattle.console_core.proofs.Common.{AreSightsOf, selection_of, IsMet, state_of, Entry, Entries, Grows, AreWithin}
+use Rattle.console_core.proofs.Common.{AreAdded, IsMetBy, AreMet, IsReached, LeavesScroll, Searched, AreSafe, IsStuck}
+use Rattle.console_core.proofs.Common.{unscrolled, IsBehind, AreSeedsTo, AreBehindTo, AreBehind, IsOfferedUnlocked}
+use Rattle.console_core.proofs.Common.{AreSelectionsOf, AreOffersOf, Scroll, IsInSome}
 use Rattle.indexmap.proofs.IndexTableLemmas.Probe.{pigeonhole}
-use Rattle.keymap_core.specs.declared.action.Lock.TheVariants.{Scroll}
 use Rattle.console_core.specs.Sights.{CanCompose, CanOffer, Enumerates, accents_in, IsOfferedAlong}
-use Rattle.console_core.specs.Inner.Adding.{AddsState, AreAccentsOf, IsInSome}
+use Rattle.console_core.specs.Inner.Adding.{AddsState, AreAccentsOf}
 use Rattle.console_core.proofs.Unscrolled.{same-scrolled}
 use Rattle.console_core.proofs.Behind.{behind-offered, behind-more, behind-path, path-split}
 use Rattle.console_core.proofs.Exploring.{home-start}

@@ -10,8 +10,7 @@ use Rattle.console_core.proofs.Common.{Follows, between, in_force, resolved, is_
 use Rattle.console_core.proofs.Common.{IsNoLoad, accent_pending_after, look_after, remembered_after, Under, alone}
 use Rattle.console_core.proofs.Common.{State, start, map_of, map_in, next_map, look_in, IsIdle, IsMove, moved}
 use Rattle.console_core.proofs.Common.{IsPathFrom, state_from, IsForgetful, IsHome, IsAdmitted, NeverForgets, presses}
-use Rattle.console_core.proofs.Common.{ComesHome, IsTapOf, CanTap, CanType, IsAsNew, cell_of, plainly}
-use Rattle.std.proofs.Common.{append-nil}
+use Rattle.console_core.proofs.Common.{ComesHome, IsTapOf, CanTap, CanType, IsAsNew, cell_of, plainly, append-nil}
 use Rattle.console_core.specs.Typing.{TypedCanBeTyped}
 use Rattle.console_core.proofs.Exploring.{path-append}
 use Rattle.console_core.proofs.Going.{pending-is}

@@ -1,12 +1,9 @@
 -- From a state that was met without a route home no moves lead there.
-use Rattle.console_core.proofs.Common.{suc, ◌≡◌, ◌≢◌, ℕ, ◌+◌, false, List, [], ◌∷◌, length, slice_get, Some, refl}
-use Rattle.console_core.proofs.Common.{ap, arith, subst, sym, ◌∙◌, inl, inr, MapValue, Under, start, alone, State}
-use Rattle.console_core.proofs.Common.{IsMove, moved, IsPathFrom, state_from, presses_of, IsHome}
-use Rattle.console_core.proofs.Common.{Routes, HasRoute, IsAstray, IsMet, AreSettled, state_of, Entry}
-use Rattle.console_core.proofs.Common.{Entries, IsMetBy, LeavesScroll, Searched, unscrolled}
-use Rattle.keymap_core.specs.declared.action.Lock.{Lock}
-use Rattle.keymap_core.specs.declared.action.Lock.TheVariants.{Caps, Num, Scroll, Alt}
-use Rattle.console_core.specs.declared.held.Move.{Move}
+use Rattle.console_core.proofs.Common.{suc, ◌≡◌, ◌≢◌, ℕ, ◌+◌, false, List, [], ◌∷◌, length, slice_get, Some, refl, ap}
+use Rattle.console_core.proofs.Common.{arith, subst, sym, ◌∙◌, inl, inr, MapValue, Under, start, alone, State, IsMove}
+use Rattle.console_core.proofs.Common.{moved, IsPathFrom, state_from, presses_of, IsHome, Routes, HasRoute, IsAstray}
+use Rattle.console_core.proofs.Common.{IsMet, AreSettled, state_of, Entry, Entries, IsMetBy, LeavesScroll, Searched}
+use Rattle.console_core.proofs.Common.{unscrolled, Lock, Caps, Num, Scroll, Alt, Move}
 use Rattle.console_core.proofs.Searching.{all-done}
 use Rattle.console_core.proofs.Unscrolled.{leaves-scroll_or_turns, moves-unscrolled, same_moved, scroll-moved}
 

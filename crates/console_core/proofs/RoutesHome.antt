@@ -6,13 +6,9 @@ use Rattle.console_core.proofs.Common.{take_all, reverse-append, Contains-push, 
 use Rattle.console_core.proofs.Common.{Contains-append_left, true≢false, Held, Step, Under, State, IsMove, moved, Holds}
 use Rattle.console_core.proofs.Common.{with_holder, state_from, IsPathFrom, IsHome, state_of, StepsTo, PressesLead}
 use Rattle.console_core.proofs.Common.{IsStep, LeavesScroll, LeadsHome, Routes, AllLeadHome, HasRoute, NoPressLeads}
-use Rattle.console_core.proofs.Common.{IsAstray}
+use Rattle.console_core.proofs.Common.{IsAstray, Lock, Caps, Num, Scroll, Alt, Modifier, Move, Hold, Turn, LetGo}
+use Rattle.console_core.proofs.Common.{Exchange}
 use Rattle.std.proofs.lemmas.List.{length_push}
-use Rattle.keymap_core.specs.declared.action.Lock.{Lock}
-use Rattle.keymap_core.specs.declared.action.Lock.TheVariants.{Caps, Num, Scroll, Alt}
-use Rattle.keymap_core.specs.declared.action.Modifier.{Modifier}
-use Rattle.console_core.specs.declared.held.Move.{Move}
-use Rattle.console_core.specs.declared.held.Move.TheVariants.{Hold, Turn, LetGo, Exchange}
 use Rattle.console_core.specs.declared.routes.Route.{Route}
 use Rattle.console_core.specs.Inner.Routes.{NoLetGoLeads}
 use Rattle.console_core.proofs.Growing.{scroll-left}

@@ -14,19 +14,10 @@ use Rattle.console_core.proofs.Common.{with_holder, with_lock_turned, exchanged,
 use Rattle.console_core.proofs.Common.{state_after, IsPath, events_of_move, events_along, release_of, releases}
 use Rattle.console_core.proofs.Common.{script_of_path, presses_of, presses_along, IsForgetful, state_from, IsPathFrom}
 use Rattle.console_core.proofs.Common.{alone, presses, IsSent, NeverForgets, ReleasesPressedKeys, Follows, HoldsSome}
-use Rattle.console_core.proofs.Common.{Exact, Stands}
+use Rattle.console_core.proofs.Common.{Exact, Stands, Action, Lock, Modifier, LeftShift, RightShift, LeftControl}
+use Rattle.console_core.proofs.Common.{RightControl, LeftAlt, RightAlt, AltShift, Meta, Cell, Char, Act, Event, Press}
+use Rattle.console_core.proofs.Common.{Release, Reset, Load, Move, Hold, Turn, LetGo, Exchange}
 use Rattle.std.proofs.lemmas.Bool.{or_parts}
-use Rattle.keymap_core.specs.declared.action.Action.{Action}
-use Rattle.keymap_core.specs.declared.action.Lock.{Lock}
-use Rattle.keymap_core.specs.declared.action.Modifier.{Modifier}
-use Rattle.keymap_core.specs.declared.action.Modifier.TheVariants.{LeftShift, RightShift, LeftControl, RightControl}
-use Rattle.keymap_core.specs.declared.action.Modifier.TheVariants.{LeftAlt, RightAlt, AltShift, Meta}
-use Rattle.keymap_core.specs.declared.entry.Cell.{Cell}
-use Rattle.keymap_core.specs.declared.entry.Cell.TheVariants.{Char, Act}
-use Rattle.console_core.specs.declared.event.Event.{Event}
-use Rattle.console_core.specs.declared.event.Event.TheVariants.{Press, Release, Reset, Load}
-use Rattle.console_core.specs.declared.held.Move.{Move}
-use Rattle.console_core.specs.declared.held.Move.TheVariants.{Hold, Turn, LetGo, Exchange}
 use Rattle.console_core.specs.Moves.{free_with}
 use Rattle.console_core.proofs.Bearing.{remembered-pressed}
 use Rattle.console_core.proofs.FreshPresses.{no_loads-first}

@@ -11,20 +11,11 @@ use Rattle.console_core.proofs.Common.{is_on_after, is_second_in_force, pressed,
 use Rattle.console_core.proofs.Common.{Under, State, start, is_held, map_of, map_in, look_in, Holds, IsIdle}
 use Rattle.console_core.proofs.Common.{with_holder, with_lock_turned, exchanged, next_map, IsFree, IsMove, IsForgetful}
 use Rattle.console_core.proofs.Common.{HolderForgets, moved, presses_of, IsClean, Admits, presses, Follows}
-use Rattle.console_core.proofs.Common.{IsOnOnlyWhilePressed, IsOffOnceQuiet, fun_ext, is_some, same_Some}
-use Rattle.keymap_core.specs.declared.action.Action.{Action}
-use Rattle.keymap_core.specs.declared.action.Lock.{Lock}
-use Rattle.keymap_core.specs.declared.action.Modifier.{Modifier}
-use Rattle.keymap_core.specs.declared.action.Modifier.TheVariants.{LeftShift, RightShift, LeftControl, RightControl}
-use Rattle.keymap_core.specs.declared.action.Modifier.TheVariants.{LeftAlt, RightAlt, AltShift, Meta}
-use Rattle.keymap_core.specs.declared.action.Holding.{Holding}
-use Rattle.keymap_core.specs.declared.entry.Cell.{Cell}
-use Rattle.keymap_core.specs.declared.entry.Cell.TheVariants.{Char, Act}
+use Rattle.console_core.proofs.Common.{IsOnOnlyWhilePressed, IsOffOnceQuiet, fun_ext, is_some, same_Some, Action, Lock}
+use Rattle.console_core.proofs.Common.{Modifier, LeftShift, RightShift, LeftControl, RightControl, LeftAlt, RightAlt}
+use Rattle.console_core.proofs.Common.{AltShift, Meta, Holding, Cell, Char, Act, Event, Press, Release, Reset, Load}
+use Rattle.console_core.proofs.Common.{Move, Hold, Turn, LetGo, Exchange}
 use Rattle.keymap_core.specs.Actions.{action_kind}
-use Rattle.console_core.specs.declared.event.Event.{Event}
-use Rattle.console_core.specs.declared.event.Event.TheVariants.{Press, Release, Reset, Load}
-use Rattle.console_core.specs.declared.held.Move.{Move}
-use Rattle.console_core.specs.declared.held.Move.TheVariants.{Hold, Turn, LetGo, Exchange}
 use Rattle.console_core.proofs.OneMore.{resolved-start, resolved-more, held-start, held-character, held-action}
 use Rattle.console_core.proofs.OneMore.{held-release, held-reset, held-load, locked-start, locked-character}
 use Rattle.console_core.proofs.OneMore.{locked-action, locked-release, locked-reset, locked-load, remembered-character}

@@ -7,8 +7,7 @@ use Rattle.console_core.proofs.Common.{All-nil, none-some, same_Some, MapValue, 
 use Rattle.console_core.proofs.Common.{answers_to, answer_to, accent_pending_after, pressed, HasKey, HasKeys, alone}
 use Rattle.console_core.proofs.Common.{State, start, state_from, events_along, pending, CanType, IsAsNew, plainly}
 use Rattle.console_core.proofs.Common.{types_something, GoesHome, HasTyped, CanReturn, TypesOne, kept_if, typed_along}
-use Rattle.console_core.proofs.Common.{HoldsSome, Stands}
-use Rattle.std.proofs.Common.{append-nil}
+use Rattle.console_core.proofs.Common.{HoldsSome, Stands, append-nil}
 use Rattle.std.proofs.Math.Seq.{drop-append_seam}
 use Rattle.std.proofs.lemmas.List.{map_push, length-append, length-map, length-take-le, take-append-le}
 use Rattle.std.proofs.lemmas.List.Elements.{All-push}

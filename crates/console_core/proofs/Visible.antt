@@ -7,8 +7,7 @@ use Rattle.console_core.proofs.Common.{is_selected, is_composed, can_see, AreSig
 use Rattle.std.specs.List.{range_with_len}
 use Rattle.std.proofs.lemmas.List.Folds.{list_any_at}
 use Rattle.std.proofs.lemmas.List.FromFn.{get_or-range_with_len}
-use Rattle.console_core.specs.Sights.{slot_in, column_in, is_same, is_character, sees_by, is_seeing}
-use Rattle.console_core.specs.Sights.{CanCompose}
+use Rattle.console_core.specs.Sights.{slot_in, column_in, is_same, is_character, sees_by, is_seeing, CanCompose}
 use Rattle.console_core.specs.Inner.Adding.{IsSelectedBy, IsComposedBy}
 use Rattle.console_core.proofs.Offering.{composing-has}
 use Rattle.console_core.specs.declared.selection.Sight.TheVariants as sight

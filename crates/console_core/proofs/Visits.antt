@@ -1,24 +1,12 @@
 -- Where paths lead but for the scroll lock, and which locks a press turns.
-use Rattle.console_core.proofs.Common.{◌≡◌, ℕ, Bool, true, false, ◌&&◌, not, List, [], ◌∷◌, Option, Some}
-use Rattle.console_core.proofs.Common.{None, refl, ap, sym, ◌∙◌, if◌then◌else◌}
-use Rattle.console_core.proofs.Common.{true≢false, false_from_ne_true, eq-eqb}
-use Rattle.console_core.proofs.Common.{none-some, same_action, MapValue, same_action-true, ResolvedEvent}
-use Rattle.console_core.proofs.Common.{held, locked, remembered, taken_over, PressedAction, between, resolved}
-use Rattle.console_core.proofs.Common.{is_locked_after, pressed, Under, alone}
-use Rattle.console_core.proofs.Common.{State, start, look_in, IsIdle}
-use Rattle.console_core.proofs.Common.{state_from, IsPathFrom}
-use Rattle.console_core.proofs.Common.{with_lock_turned, IsHome, HoldsSome, Stands, but_scroll, unscrolled}
-use Rattle.console_core.proofs.Common.{fun_ext}
-use Rattle.keymap_core.specs.declared.action.Action.{Action}
-use Rattle.keymap_core.specs.declared.action.Lock.{Lock}
-use Rattle.keymap_core.specs.declared.action.Lock.TheVariants.{Caps, Num, Scroll, Alt}
-use Rattle.keymap_core.specs.declared.action.Modifier.{Modifier}
-use Rattle.keymap_core.specs.declared.entry.Cell.{Cell}
-use Rattle.keymap_core.specs.declared.entry.Cell.TheVariants.{Char, Act}
-use Rattle.console_core.specs.declared.event.Event.{Event}
-use Rattle.console_core.specs.declared.event.Event.TheVariants.{Press}
-use Rattle.console_core.specs.declared.held.Move.{Move}
-use Rattle.console_core.specs.declared.held.Move.TheVariants.{Hold, Turn, LetGo, Exchange}
+use Rattle.console_core.proofs.Common.{◌≡◌, ℕ, Bool, true, false, ◌&&◌, not, List, [], ◌∷◌, Option, Some, None, refl}
+use Rattle.console_core.proofs.Common.{ap, sym, ◌∙◌, if◌then◌else◌, true≢false, false_from_ne_true, eq-eqb, none-some}
+use Rattle.console_core.proofs.Common.{same_action, MapValue, same_action-true, ResolvedEvent, held, locked, remembered}
+use Rattle.console_core.proofs.Common.{taken_over, PressedAction, between, resolved, is_locked_after, pressed, Under}
+use Rattle.console_core.proofs.Common.{alone, State, start, look_in, IsIdle, state_from, IsPathFrom, with_lock_turned}
+use Rattle.console_core.proofs.Common.{IsHome, HoldsSome, Stands, but_scroll, unscrolled, fun_ext, Action, Lock, Caps}
+use Rattle.console_core.proofs.Common.{Num, Scroll, Alt, Modifier, Cell, Char, Act, Event, Press, Move, Hold, Turn}
+use Rattle.console_core.proofs.Common.{LetGo, Exchange}
 use Rattle.console_core.proofs.OneMore.{locked-character, locked-action, pressed-press}
 use Rattle.console_core.proofs.Scripts.{idle-none, pressed-look}
 use Rattle.console_core.proofs.Staying.{follows-turn}

@@ -1,6 +1,5 @@
 use Rattle.console_core.proofs.Common.{◌≡◌, length, get_or, ap, subst, ◌∙◌, refl, below_more, arith, get_or_read_under}
-use Rattle.console_core.proofs.Common.{entry_at, IsUnmoving}
-use Rattle.keymap_core.specs.declared.entry.Cell.TheVariants.{Char}
+use Rattle.console_core.proofs.Common.{entry_at, IsUnmoving, Char}
 use Rattle.console_core.proofs.moving_keys.moves_in_slot.Goals as goal
 
 pub loop-cell-preserved : goal.loop-cell-preserved

@@ -1,5 +1,4 @@
-use Rattle.console_core.proofs.Common.{subst, ap, start, under_of, origin_of, HasEnded}
-use Rattle.keymap_core.specs.declared.action.Lock.TheVariants.{Scroll}
+use Rattle.console_core.proofs.Common.{subst, ap, start, under_of, origin_of, HasEnded, Scroll}
 use Rattle.console_core.specs.declared.search.End.TheVariants as end
 use Rattle.console_core.proofs.search.all_states.Goals as goal
 

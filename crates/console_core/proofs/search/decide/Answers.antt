@@ -1,6 +1,5 @@
 use Rattle.console_core.proofs.Common.{◌≡◌, reverse, subst, ap, slice_get_within, End, TooMany, Under, State, start}
-use Rattle.console_core.proofs.Common.{AreOnAfter, under_of, Entries, HasEnded}
-use Rattle.keymap_core.specs.declared.action.Lock.TheVariants.{Scroll}
+use Rattle.console_core.proofs.Common.{AreOnAfter, under_of, Entries, HasEnded, Scroll}
 use Rattle.console_core.proofs.Concluding.{complete-never, none-late, stuck-sticks}
 use Rattle.console_core.proofs.Deciding.{sent-admitted, are-on-under}
 use Rattle.console_core.proofs.GoingBack.{searched-back}

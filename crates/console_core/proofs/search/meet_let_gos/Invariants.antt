@@ -1,7 +1,6 @@
 -- what letting go of the modifiers below the place leads to was met
 use Rattle.console_core.proofs.Common.{◌≡◌, ◌<◌, ℕ, None, modifier_index, Under, Holds, with_holder, state_of}
-use Rattle.console_core.proofs.Common.{AreWithin, AreAdded, IsMetBy}
-use Rattle.keymap_core.specs.declared.action.Modifier.{Modifier}
+use Rattle.console_core.proofs.Common.{AreWithin, AreAdded, IsMetBy, Modifier}
 use Rattle.console_core.proofs.search.meet_let_gos.Given as goal
 
 abbrev pub invariant-loop-modifier : goal.invariant-loop-modifier

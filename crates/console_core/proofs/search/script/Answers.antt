@@ -1,7 +1,5 @@
 use Rattle.console_core.proofs.Common.{◌≡◌, List, [], ◌∷◌, ◌++◌, reverse, ap, subst, ◌∙◌, reverse-reverse, modifiers}
-use Rattle.console_core.proofs.Common.{releases, events_of_move, events_along, script_of_path, state_of}
-use Rattle.console_core.specs.declared.event.Event.TheVariants.{Press}
-use Rattle.console_core.specs.declared.held.Move.{Move}
+use Rattle.console_core.proofs.Common.{releases, events_of_move, events_along, script_of_path, state_of, Press, Move}
 use Rattle.console_core.proofs.GoingBack.{LeadsBy, script-begin, trail-leads, leads-next, leads-end, left-smaller}
 use Rattle.console_core.proofs.GoingBack.{within-last, same-place}
 use Rattle.console_core.proofs.search.script.Goals as goal

@@ -1,7 +1,6 @@
 -- the events so far are the script but for the moves that are left
 use Rattle.console_core.proofs.Common.{◌≡◌, ◌<◌, List, ◌++◌, length, slice_get, Some, IfSome, Under, state_after}
-use Rattle.console_core.proofs.Common.{script_of_path, events_along, state_of, Entry, IsTrail}
-use Rattle.console_core.specs.declared.held.Move.{Move}
+use Rattle.console_core.proofs.Common.{script_of_path, events_along, state_of, Entry, IsTrail, Move}
 use Rattle.console_core.proofs.GoingBack.{LeadsBy, places_left}
 use Rattle.console_core.proofs.search.script.Given as goal
 

@@ -1,5 +1,4 @@
-use Rattle.console_core.proofs.Common.{◌≡◌, List, [], ◌∷◌, ◌++◌, ap, subst, ◌∙◌}
-use Rattle.console_core.specs.declared.held.Move.{Move}
+use Rattle.console_core.proofs.Common.{◌≡◌, List, [], ◌∷◌, ◌++◌, ap, subst, ◌∙◌, Move}
 use Rattle.console_core.proofs.GoingBack.{LeadsBy, trail-leads, move-next, left-smaller, within-last}
 use Rattle.console_core.proofs.showing.moves_to.Goals as goal
 

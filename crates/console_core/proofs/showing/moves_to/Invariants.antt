@@ -1,6 +1,5 @@
 -- the moves so far are those of the path but for what is left
-use Rattle.console_core.proofs.Common.{◌≡◌, ◌<◌, List, ◌++◌, length, IfSome, IsTrail}
-use Rattle.console_core.specs.declared.held.Move.{Move}
+use Rattle.console_core.proofs.Common.{◌≡◌, ◌<◌, List, ◌++◌, length, IfSome, IsTrail, Move}
 use Rattle.console_core.proofs.GoingBack.{LeadsBy, places_left}
 use Rattle.console_core.proofs.showing.moves_to.Given as goal
 

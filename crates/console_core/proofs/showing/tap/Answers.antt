@@ -1,5 +1,4 @@
-use Rattle.console_core.proofs.Common.{◌∷◌, reverse, ap, ◌∙◌}
-use Rattle.console_core.specs.declared.event.Event.TheVariants.{Press, Release}
+use Rattle.console_core.proofs.Common.{◌∷◌, reverse, ap, ◌∙◌, Press, Release}
 use Rattle.console_core.proofs.Looking.{push-reversed}
 use Rattle.console_core.proofs.showing.tap.Goals as goal
 

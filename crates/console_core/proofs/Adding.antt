@@ -104,8 +104,7 @@ offer-added u s k a old now can is w =
 pub unusable-none : (u : Under) (s : State) (k a : ℕ) → Offers u s k a → usable u.maps.first a ≡ false
     → (b : ℕ) → usable u.maps.first b ≡ true → Offers u s k b → ⊥
 unusable-none u s k a is not_usable b can offers =
-    true≢false (sym can ∙ ap (λ z. usable u.maps.first z) (sym (one_accent a b (look_in u s k) is.1 offers.1))
-    ∙ not_usable)
+    true≢false (cc (can, one_accent a b (look_in u s k) is.1 offers.1, not_usable))
 
 -- that of one more key
 pub offers-more : (u : Under) (s : State) (n : ℕ) (old mid now : List ℕ) → AddsOffers u s n old mid

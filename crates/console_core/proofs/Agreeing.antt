@@ -1,13 +1,12 @@
 -- That what a console keeps agrees with a list of resolved events is kept by each kind of resolved event.
-use Rattle.console_core.proofs.Common.{suc, subst, ◌≡◌, ℕ, ◌<◌, false, ◌&&◌, not, List, [], ◌∷◌, None, refl, ap, sym}
-use Rattle.console_core.proofs.Common.{◌∙◌, if◌then◌else◌, ◌==◌, Action, Modifier, Meta, Cell, Char, Act, Event, Press}
-use Rattle.console_core.proofs.Common.{Load, Answer, MapValue, is_odd, count_where, is_borne, look_with}
-use Rattle.console_core.proofs.Common.{answer_resolved, ResolvedEvent, locked, remembered, taken_over, look, on}
-use Rattle.console_core.proofs.Common.{resolve_press, Maps, in_force, loaded, is_second_in_force, is_load}
-use Rattle.console_core.proofs.Common.{resolved_event, answer_to, resolved, StandsAt, Kept, answer_char, answer_action}
-use Rattle.console_core.proofs.Common.{answer_release, after_character, after_action, after_release, after_reset}
-use Rattle.console_core.proofs.Common.{after_load, PressedCharacter, PressedAction, ReleasedKey, WasReset, WasLoaded}
-use Rattle.console_core.proofs.Common.{fun_ext}
+use Rattle.console_core.proofs.Common.{subst, ◌≡◌, ℕ, ◌<◌, false, ◌&&◌, not, List, [], ◌∷◌, refl, ap, sym, ◌∙◌}
+use Rattle.console_core.proofs.Common.{if◌then◌else◌, Action, Modifier, Meta, Cell, Char, Act, Event, Press, Load}
+use Rattle.console_core.proofs.Common.{Answer, MapValue, is_borne, look_with, answer_resolved, ResolvedEvent, locked}
+use Rattle.console_core.proofs.Common.{remembered, taken_over, look, on, Maps, in_force, loaded, is_second_in_force}
+use Rattle.console_core.proofs.Common.{is_load, resolved_event, answer_to, resolved, StandsAt, Kept, answer_char}
+use Rattle.console_core.proofs.Common.{answer_action, answer_release, after_character, after_action, after_release}
+use Rattle.console_core.proofs.Common.{after_reset, after_load, PressedCharacter, PressedAction, ReleasedKey, WasReset}
+use Rattle.console_core.proofs.Common.{WasLoaded, fun_ext}
 use Rattle.console_core.specs.Agrees.{Agrees, nothing_kept}
 use Rattle.console_core.proofs.OneMore.{resolved-start, resolved-more, held-start, held-character, held-action}
 use Rattle.console_core.proofs.OneMore.{held-release, held-reset, locked-start, locked-character, locked-action}
@@ -34,8 +33,7 @@ module _ (m : MapValue) (h : List ResolvedEvent) (k : Kept) (agrees : Agrees m h
   agrees-character key c = record {
     marks = λ a. agrees.marks a ∙ sym (held-character a key c h);
     locks = λ l. agrees.locks l ∙ sym (locked-character l key c h);
-    memories = λ j lt. ap (λ x. if key == j then None else x) (agrees.memories j lt)
-        ∙ sym (remembered-character j key c h);
+    memories = λ j lt. cc (agrees.memories j lt, remembered-character j key c h);
     pending = sym (pending-character m key c h);
   }
 
@@ -59,8 +57,7 @@ module _ (m : MapValue) (h : List ResolvedEvent) (k : Kept) (agrees : Agrees m h
       record {
         marks = λ a. rw (agrees.marks a, e) (sym (held-release a key h));
         locks = λ l. agrees.locks l ∙ sym (locked-release l key h);
-        memories = λ j lt2. ap (λ x. if key == j then None else x) (agrees.memories j lt2)
-            ∙ sym (remembered-release j key h);
+        memories = λ j lt2. cc (agrees.memories j lt2, remembered-release j key h);
         pending = agrees.pending ∙ sym (pending-release m key h);
       }
 
@@ -109,40 +106,32 @@ module _ (ms : Maps) (h : List Event) (m : MapValue) (force : m ≡ in_force ms 
       → cell ≡ look_with m (λ i. kept.mark (holding.Mod i)) kept.lock k → cell ≡ Char c
       → resolved_event ms h e ≡ PressedCharacter k c
   resolves-character kept k c cell agrees is look_is cell_is =
-      let f : look m (resolved ms h) k ≡ Char c = sym (agrees-look m (resolved ms h) kept k agrees) ∙ sym look_is
-      ∙ cell_is in
-      ap (λ x. resolved_event ms h x) is ∙ ap (λ x. resolve_press k (look x (resolved ms h) k)) (sym force)
-      ∙ ap (λ x. resolve_press k x) f
+      let f : look m (resolved ms h) k ≡ Char c = cc (agrees-look m (resolved ms h) kept k agrees, look_is, cell_is) in
+      cc (is, force, f)
 
   -- a press that looks up an action by what is kept is resolved to it
   pub resolves-action : (kept : Kept) (k : ℕ) (a : Action) (cell : Cell) → Agrees m (resolved ms h) kept → e ≡ Press k
       → cell ≡ look_with m (λ i. kept.mark (holding.Mod i)) kept.lock k → cell ≡ Act a
       → resolved_event ms h e ≡ PressedAction k a
   resolves-action kept k a cell agrees is look_is cell_is =
-      let f : look m (resolved ms h) k ≡ Act a = sym (agrees-look m (resolved ms h) kept k agrees) ∙ sym look_is
-      ∙ cell_is in
-      ap (λ x. resolved_event ms h x) is ∙ ap (λ x. resolve_press k (look x (resolved ms h) k)) (sym force)
-      ∙ ap (λ x. resolve_press k x) f
+      let f : look m (resolved ms h) k ≡ Act a = cc (agrees-look m (resolved ms h) kept k agrees, look_is, cell_is) in
+      cc (is, force, f)
 
   -- the answer to what an event is resolved to is the answer to the event
   pub answer-of : (x : ResolvedEvent) (r : Answer) → resolved_event ms h e ≡ x
       → r ≡ answer_resolved m x (resolved ms h) → r ≡ answer_to ms h e
-  answer-of x r is answer =
-      answer ∙ ap (λ n. answer_resolved n x (resolved ms h)) force
-      ∙ ap (λ y. answer_resolved (in_force ms h) y (resolved ms h)) (sym is)
+  answer-of x r is answer = cc (answer, force, is)
 
   -- an event other than a load leaves the map in force
   pub stands-next : (f : Event) (x : ResolvedEvent) (k k2 : Kept) → e ≡ f → is_load f h ≡ false
       → resolved_event ms h e ≡ x → k.is_second ≡ is_second_in_force h → k2.is_second ≡ k.is_second
       → Agrees m (x ∷ resolved ms h) k2 → StandsAt ms (e ∷ h) k2
   stands-next f x k k2 same no_load is at kept agrees =
-      let s : is_second_in_force (e ∷ h) ≡ is_second_in_force h = ap (λ y. is_second_in_force (y ∷ h)) same
-      ∙ ap (λ b. is_odd (if b then suc (count_where is_load h) else count_where is_load h)) no_load in
+      let s : is_second_in_force (e ∷ h) ≡ is_second_in_force h = cc (same, no_load) in
       let t : in_force ms (e ∷ h) ≡ m = ap (λ b. if b then ms.second else ms.first) s ∙ sym force in
       record {
         map_in_force = kept ∙ at ∙ sym s;
-        agrees = subst (λ y. Agrees y (resolved ms (e ∷ h)) k2) (sym t)
-            (subst (λ r. Agrees m r k2) (sym (resolved-more ms h e ∙ ap (λ y. y ∷ resolved ms h) is)) agrees);
+        agrees = rw (t, resolved-more ms h e ∙ ap (λ y. y ∷ resolved ms h) is) agrees;
       }
 
 -- a load puts the other map in force
@@ -150,11 +139,7 @@ pub stands-load : (ms : Maps) (h : List Event) (e : Event) (m : MapValue) (k : K
     → StandsAt ms h k → StandsAt ms (e ∷ h) (after_load m k)
 stands-load ms h e m k is force stands = record {
   map_in_force = ap not stands.map_in_force ∙ ap (λ y. is_second_in_force (y ∷ h)) (sym is);
-  agrees =
-      subst (λ y. Agrees (in_force ms (y ∷ h)) (resolved ms (y ∷ h)) (after_load m k)) (sym is)
-      (subst (λ r. Agrees (loaded ms h) r (after_load m k)) (sym (resolved-more ms h Load))
-      (subst (λ y. Agrees y (WasLoaded y ∷ resolved ms h) (after_load m k)) force
-      (agrees-load (in_force ms h) (resolved ms h) k stands.agrees m)));
+  agrees = rw (is, resolved-more ms h Load, ← force) (agrees-load (in_force ms h) (resolved ms h) k stands.agrees m);
 }
 
 -- where nothing is kept, a console stands at no events

@@ -1,13 +1,13 @@
 -- The events of a visit lead a console home, on to a state that was met, and to a press there.
 use Rattle.console_core.proofs.Common.{◌≡◌, ◌≢◌, ◌<◌, ℕ, Bool, true, false, List, [], ◌∷◌, ◌++◌, reverse}
 use Rattle.console_core.proofs.Common.{slice_get, Option, MatchOption, Some, None, refl, ap, subst, sym, ◌∙◌, inl, inr}
-use Rattle.console_core.proofs.Common.{append_assoc, if◌then◌else◌, ◌==◌, ◌||◌, cases_Bool, eqb-true, false≢true}
+use Rattle.console_core.proofs.Common.{append_assoc, if◌then◌else◌, ◌==◌, cases_Bool, eqb-true, false≢true}
 use Rattle.console_core.proofs.Common.{All-cons, none-some, same_modifier, same_action, holding_action}
 use Rattle.console_core.proofs.Common.{same_action-true, MapValue, Action, Modifier, Lock, Caps, Num, Scroll, Alt, Cell}
 use Rattle.console_core.proofs.Common.{Char, Act, Event, Press, Release, Reset, Move, Hold, Turn, LetGo, Exchange}
 use Rattle.console_core.proofs.Common.{Sight, Explored, between, resolved, pressed, HasKey}
 use Rattle.console_core.proofs.Common.{accent_pending_after, is_locked_after, HasKeys, HasNoLoads, ResolvedEvent, held}
-use Rattle.console_core.proofs.Common.{pending, remembered, resolve_press, taken_over, PressedAction, ReleasedKey}
+use Rattle.console_core.proofs.Common.{remembered, resolve_press, taken_over, PressedAction, ReleasedKey}
 use Rattle.console_core.proofs.Common.{Under, alone, State, start, Holds, IsFree, IsIdle, look_in, IsMove, moved}
 use Rattle.console_core.proofs.Common.{IsPath, state_after, IsPathFrom, state_from, events_of_move, events_along}
 use Rattle.console_core.proofs.Common.{with_holder, with_lock_turned, Visits, NoTurnIsOneWay, IsHome, IsPendingFor}
@@ -15,7 +15,7 @@ use Rattle.console_core.proofs.Common.{IsReachable, SeesAlong, SeesBy, selection
 use Rattle.console_core.proofs.Common.{origin_in, IsExplored, HasTap, IsTapAt, dead_tap, HasRoute, LeadsHome, freed}
 use Rattle.console_core.proofs.Common.{state_of, Entry, IsTrail, IsReached, IsWhole, IsAfter, IsRepeated, IsSteady}
 use Rattle.console_core.proofs.Common.{IsAt, Leads, LeadsOn, LeadsComposing, IsDeadFor, IsAim, ShowsNot, locks_in}
-use Rattle.console_core.proofs.Common.{Exact, HoldsSome, Stands, but_scroll, unscrolled, fun_ext}
+use Rattle.console_core.proofs.Common.{Exact, HoldsSome, Stands, but_scroll, unscrolled}
 use Rattle.console_core.specs.declared.explored.KeyAt.{KeyAt}
 use Rattle.console_core.specs.declared.explorer.Aim.{Aim}
 use Rattle.console_core.specs.Visiting.{HasLocks, AreTaken}
@@ -32,7 +32,8 @@ use Rattle.console_core.proofs.Scripts.{stands-reset, pressed-look, other-rememb
 use Rattle.console_core.proofs.Staying.{emptied, emptied-kept, emptied-none, follows-again, follows-nothing, kind_of}
 use Rattle.console_core.proofs.Staying.{not_holding, same_mods}
 use Rattle.console_core.proofs.Taps.{exact-action, exact-character, stands-tap, stands-tapped}
-use Rattle.console_core.proofs.Unscrolled.{moves-unscrolled, same_moved, same-scrolled, scroll-moved}
+use Rattle.console_core.proofs.Unscrolled.{locks-near, moves-unscrolled, same_moved, same_states, same-scrolled}
+use Rattle.console_core.proofs.Unscrolled.{scroll-moved}
 use Rattle.console_core.proofs.Visits.{home-near, path-first, press-presses, press-turns, press-turns_none}
 use Rattle.keymap_core.specs.declared.action.Action.TheVariants as act
 use Rattle.keymap_core.specs.declared.action.Holding.TheVariants as holding
@@ -48,43 +49,29 @@ pends m h = accent_pending_after (between m m) h
 -- a console goes along a move, and keeps the accent that is pending
 pends-move : (m : MapValue) (g : List Event) (s : State) (move : Move) → IsMove (alone m) s move → Stands (alone m) g s
     → pends m (events_of_move move ++ g) ≡ pends m g
-pends-move m g s move is x =
-    pending-is m (events_of_move move ++ g) ∙ pending-move m g s move is x ∙ sym (pending-is m g)
+pends-move m g s move is x = cc (pending-is m (events_of_move move ++ g), pending-move m g s move is x, pending-is m g)
 
 at-move : (m : MapValue) (s : State) (h l : List Event) (move : Move) → IsMove (alone m) s move → IsAt m s h l
     → IsAt m (moved (alone m) s move) h (events_of_move move ++ l)
     × (pends m ((events_of_move move ++ l) ++ h) ≡ pends m (l ++ h))
-at-move m s h l (Hold k i) is a =
-    let here : IsMove (alone m) a.at (Hold k i) = moves-unscrolled (alone m) s a.at (Hold k i) a.near is in (
-      record {
-        at = moved (alone m) a.at (Hold k i);
-        stands = stands-move (alone m) (l ++ h) a.at (Hold k i) here a.stands;
-        near = same_moved (alone m) s a.at (Hold k i) a.near;
-        taken = (refl, tt, a.taken);
-      },
-      pends-move m (l ++ h) a.at (Hold k i) here a.stands,
-    )
-at-move m s h l (Turn k j) is a =
-    let here : IsMove (alone m) a.at (Turn k j) = moves-unscrolled (alone m) s a.at (Turn k j) a.near is in (
-      record {
-        at = moved (alone m) a.at (Turn k j);
-        stands = stands-move (alone m) (l ++ h) a.at (Turn k j) here a.stands;
-        near = same_moved (alone m) s a.at (Turn k j) a.near;
-        taken = (refl, press-presses k (l ++ h), (refl, tt, a.taken));
-      },
-      pends-move m (l ++ h) a.at (Turn k j) here a.stands,
-    )
-at-move m s h l (LetGo k i) is a =
-    let here : IsMove (alone m) a.at (LetGo k i) = moves-unscrolled (alone m) s a.at (LetGo k i) a.near is in (
-      record {
-        at = moved (alone m) a.at (LetGo k i);
-        stands = stands-move (alone m) (l ++ h) a.at (LetGo k i) here a.stands;
-        near = same_moved (alone m) s a.at (LetGo k i) a.near;
-        taken = (refl, holder-pressed (alone m) (l ++ h) a.at i k a.stands here, a.taken);
-      },
-      pends-move m (l ++ h) a.at (LetGo k i) here a.stands,
-    )
-at-move m s h l Exchange (free, loads) a = absurd (false≢true loads)
+at-move m s h l move is a = (
+  record {
+    at = moved (alone m) a.at move;
+    stands = rw (append_assoc (events_of_move move) l h) (stands-move (alone m) (l ++ h) a.at move here a.stands);
+    near = same_moved (alone m) s a.at move a.near;
+    taken = taken move here;
+  },
+  rw (append_assoc (events_of_move move) l h) (pends-move m (l ++ h) a.at move here a.stands),
+)
+  where
+    here : IsMove (alone m) a.at move
+    here = moves-unscrolled (alone m) s a.at move a.near is
+
+    taken : (by : Move) → IsMove (alone m) a.at by → AreTaken h (events_of_move by ++ l)
+    taken (Hold k i) can = (refl, tt, a.taken)
+    taken (Turn k j) can = (refl, press-presses k (l ++ h), (refl, tt, a.taken))
+    taken (LetGo k i) can = (refl, holder-pressed (alone m) (l ++ h) a.at i k a.stands can, a.taken)
+    taken Exchange (free, loads) = absurd (false≢true loads)
 
 at-path : (m : MapValue) (s : State) (h l : List Event) (path : List Move) → IsPathFrom (alone m) s path → IsAt m s h l
     → IsAt m (state_from (alone m) s path) h (events_along path ++ l)
@@ -93,8 +80,7 @@ at-path m s h l [] is a = (a, refl)
 at-path m s h l (move ∷ path) is a =
     let (b, p) = at-path m s h l path is.1 a in
     let (c, q) = at-move m (state_from (alone m) s path) h (events_along path ++ l) move is.0 b in
-    subst (λ z. IsAt m (state_from (alone m) s (move ∷ path)) h z × (pends m (z ++ h) ≡ pends m (l ++ h)))
-    (sym (append_assoc (events_of_move move) (events_along path) l)) (c, q ∙ p)
+    rw (append_assoc (events_of_move move) (events_along path) l) (c, q ∙ p)
 
 -- a console is at each state near the one where it is
 at-near : (m : MapValue) (s t : State) (h l : List Event) → unscrolled s ≡ unscrolled t → IsAt m s h l → IsAt m t h l
@@ -108,9 +94,7 @@ pub out-leads : (e : Explored) → IsExplored e → (place : ℕ) (y : Entry) �
 out-leads e x place y at old now is h a =
     let m : MapValue = map_of_explored e in
     let r : IsReached (alone m) (origin_in e) e.met.entries place y = x.searched.reached place y at in
-    subst (λ z. IsAt m (state_of y.0) h z × (pends m (z ++ h) ≡ pends m (old ++ h))) (sym (is r.0 r.1))
-    (subst (λ s. IsAt m s h (events_along r.0 ++ old) × (pends m ((events_along r.0 ++ old) ++ h) ≡ pends m (old ++ h)))
-    r.3 (at-path m (origin_in e) h old r.0 r.2 a))
+    rw (is r.0 r.1, ← r.3) (at-path m (origin_in e) h old r.0 r.2 a)
 
 -- the events of a route lead home
 pub home-leads : (m : MapValue) (s : State) (moves : List Move) → s.is_second ≡ false → LeadsHome (alone m) s moves
@@ -149,13 +133,10 @@ at-tapped m s at k h l taken x near = record {
 let_go-again : (s : State) (i : Modifier) (k : ℕ) → s.holder i ≡ None
     → unscrolled (with_holder (with_holder s i (Some k)) i None) ≡ unscrolled s
 let_go-again s i k free =
-    ap (λ x. record { holder = x; is_locked = but_scroll s.is_locked; is_second = s.is_second })
-    (fun_ext (λ j. again j (same_modifier i j) refl))
-  where
-    again : (j : Modifier) (t : Bool) → same_modifier i j ≡ t
-        → (if t then None else (if t then Some k else s.holder j)) ≡ s.holder j
-    again j true e = sym (ap (λ z. s.holder z) (sym (same_mods i j e)) ∙ free)
-    again j false e = refl
+    same_states _ _ (λ j. elim (cases_Bool (same_modifier i j)) [
+      | inl t ↦ rw t (sym free ∙ ap (λ z. s.holder z) (same_mods i j t))
+      | inr t ↦ rw t refl
+    ]) (λ l. refl) refl
 
 -- a tap of a steady key leaves the state
 pub steady-leads : (m : MapValue) (s : State) (k : ℕ) (l : List Event) → IsSteady (alone m) s k
@@ -230,8 +211,7 @@ exact-repeat r s k b i x holds = by (same_action (act.Mod i) b) refl
     up : (a : Action) → taken_over (remembered k r) b ≡ a → ((l : Lock) → same_action a (act.Lock l) ≡ false)
         → (l : Lock) → held (holding.Lock l) (PressedAction k b ∷ r) ≡ false
     up a e none l =
-        held-action (holding.Lock l) k b r ∙ ap (λ z. same_action z (act.Lock l) || held (holding.Lock l) r) e
-        ∙ ap (λ z. z || held (holding.Lock l) r) (none l) ∙ x.up l
+        rw (held-action (holding.Lock l) k b r, e, none l) (x.up l)
 
     by : (t : Bool) → same_action (act.Mod i) b ≡ t → Exact (PressedAction k b ∷ r) s
     by true e =
@@ -276,8 +256,7 @@ repeat-leads m s k l (busy, (b, seen)) h a = by (remembered k r) refl
       key = a.stands.key;
       pressed = λ n p. elim (cases_Bool (k == n)) [
         | inl u ↦ (i, subst (λ j. Holds t j i) (eqb-true k n u) holds)
-        | inr u ↦
-            a.stands.pressed n (sym (pressed-press n k g ∙ ap (λ z. if z then true else pressed n g) u) ∙ p)
+        | inr u ↦ a.stands.pressed n (rw (pressed-press n k g, u) at p)
       ];
       keys = All-cons HasKey (Press k) g (a.stands.key i k holds) a.stands.keys;
     }
@@ -327,13 +306,6 @@ dead-met e (sight.Locks slot caps num) d none = absurd none
 
 -- ---- the press at the end
 
--- locks that are the same but for the scroll lock
-locks-near : (s t : State) → unscrolled s ≡ unscrolled t → (l : Lock) → l ≢ Scroll → s.is_locked l ≡ t.is_locked l
-locks-near s t e Caps other = ap (λ x. x.is_locked Caps) e
-locks-near s t e Num other = ap (λ x. x.is_locked Num) e
-locks-near s t e Scroll other = absurd (other refl)
-locks-near s t e Alt other = ap (λ x. x.is_locked Alt) e
-
 -- a lock that is turned
 turned-near : (m : MapValue) (s t after : State) (l : Lock) → unscrolled t ≡ unscrolled s → IsTurned s l after
     → unscrolled (freed (with_lock_turned t l)) ≡ unscrolled after
@@ -381,10 +353,7 @@ at-reset : (m : MapValue) (s : State) (h : List Event) → IsFree s → s.is_sec
 at-reset m s h free first keys none locks = record {
   at = free_after m h;
   stands = stands-reset m h keys none;
-  near = ap (λ x. record { holder = λ i. None; is_locked = x; is_second = false }) (fun_ext (λ l. lock l))
-      ∙ ap (λ x. record { holder = x; is_locked = but_scroll s.is_locked; is_second = false })
-      (fun_ext (λ i. sym (free i)))
-      ∙ ap (λ x. record { holder = s.holder; is_locked = but_scroll s.is_locked; is_second = x }) (sym first);
+  near = same_states _ _ (λ i. sym (free i)) lock (sym first);
   taken = (refl, tt, tt);
 }
   where
@@ -397,8 +366,7 @@ at-reset m s h free first keys none locks = record {
 -- nothing is pending behind it
 reset-pends : (m : MapValue) (h : List Event) → pends m (Reset ∷ h) ≡ None
 reset-pends m h =
-    pending-is m (Reset ∷ h) ∙ ap (λ z. pending m z) (resolved-more (between m m) h Reset)
-    ∙ pending-reset m (resolved (between m m) h)
+    cc (pending-is m (Reset ∷ h), resolved-more (between m m) h Reset, pending-reset m (resolved (between m m) h))
 
 -- A reset, the way home, on to the place, and the press there.
 pub visits : (e : Explored) → IsWhole e → (s next : State) → IsRest e s → (x : Sight) (at : KeyAt)
@@ -414,14 +382,12 @@ visits e whole s next rest x at (y, here, lt, sees, after, route) old home there
     let a : IsAt m s h old = subst (λ z. IsAt m s h z) (sym is) (at-reset m s h rest.0 rest.1 keys none locks) in
     let b = back h a in
     let c = on y here h b.0 in
-    subst (λ z. AreTaken h z × HasLocks m (locks_in next) (z ++ h)
-    × ((w : Sight) → Some x ≡ Some w → IsReachable m w → SeesAlong m (z ++ h) w)) (sym last) (
+    rw last (
       (refl, tt, c.0.taken),
       press-locks m (state_of y.0) h there at.key next c.0 after,
       (λ w same can.
           let e : x ≡ w = cc in
-          subst (λ z. SeesAlong m (Press at.key ∷ (there ++ h)) z) e
-          (press-sees m (state_of y.0) h there at.key x c.0 sees
+          rw (← e) (press-sees m (state_of y.0) h there at.key x c.0 sees
           (c.1 (b.1 ∙ ap (λ z. pends m (z ++ h)) is ∙ reset-pends m h) (subst (λ z. IsReachable m z) (sym e) can)))),
     )
 
@@ -429,14 +395,11 @@ visits e whole s next rest x at (y, here, lt, sees, after, route) old home there
 
 -- all let go, one after another
 freed-emptied : (s : State) → freed s ≡ emptied s
-freed-emptied s =
-    ap (λ x. record { holder = x; is_locked = s.is_locked; is_second = s.is_second })
-    (fun_ext (λ i. sym (emptied-none s i)))
+freed-emptied s = same_states _ _ (λ i. sym (emptied-none s i)) (λ l. refl) refl
 
 freed-reached : (m : MapValue) (s : State) → Reached (alone m) s → Reached (alone m) (freed s)
 freed-reached m s there =
-    subst (λ z. Reached (alone m) z) (sym (freed-emptied s))
-    (emptied-kept (λ t. Reached (alone m) t)
+    rw (freed-emptied s) (emptied-kept (λ t. Reached (alone m) t)
     (λ t k i here holds. reached-more (alone m) t (LetGo k i) here holds) s there)
 
 -- the state after a press is reached
@@ -445,9 +408,7 @@ after-reached : (m : MapValue) (s : State) (k : ℕ) (t : State) → k < 128 →
 after-reached m s k t lt there (inl (l, idle, seen, turned)) = by l turned (lt, idle, seen)
   where
     turn : (l : Lock) → IsMove (alone m) s (Turn k l) → t ≡ freed (with_lock_turned s l) → Reached (alone m) t
-    turn l move is =
-        subst (λ z. Reached (alone m) z) (sym is)
-        (freed-reached m (with_lock_turned s l) (reached-more (alone m) s (Turn k l) there move))
+    turn l move is = rw is (freed-reached m (with_lock_turned s l) (reached-more (alone m) s (Turn k l) there move))
 
     by : (l : Lock) → IsTurned s l t → IsMove (alone m) s (Turn k l) → Reached (alone m) t
     by Caps is move = turn Caps move is
@@ -585,8 +546,7 @@ start-rest e whole s is =
     let (searched, settled) = whole.0.whole whole.2 in
     let (j, y, at, here, le) = searched.start in
     let home : ComesHome (alone (map_of_explored e)) (state_of y.0) =
-    subst (λ t. ComesHome (alone (map_of_explored e)) t) (sym (here ∙ whole.1))
-    ([], tt, ((λ i. refl), (λ l other. refl))) in
+    rw (here ∙ whole.1) ([], tt, ((λ i. refl), (λ l other. refl))) in
     subst (λ t. IsRest e t) (sym is) (
       (λ i. refl),
       refl,

@@ -1,7 +1,7 @@
 -- What can be tapped to type a character while an accent is pending: a base of its pairs, the blank or its dead key.
-use Rattle.console_core.proofs.Common.{suc, ◌≡◌, ℕ, Bool, true, false, List, [], ◌∷◌, Option, Some, None, refl, ap}
-use Rattle.console_core.proofs.Common.{subst, sym, ◌∙◌, arith, if◌then◌else◌, MatchOption, slice_get, length, ◌<◌, ◌≤◌}
-use Rattle.console_core.proofs.Common.{inl, inr, ◌==◌, Contains, eqb-true, cases_lt, true≢false, none-some}
+use Rattle.console_core.proofs.Common.{cases_Bool, suc, ◌≡◌, ℕ, Bool, true, false, List, [], ◌∷◌, Option, Some, None}
+use Rattle.console_core.proofs.Common.{refl, ap, subst, sym, ◌∙◌, arith, if◌then◌else◌, MatchOption, slice_get, length}
+use Rattle.console_core.proofs.Common.{◌<◌, ◌≤◌, inl, inr, ◌==◌, Contains, eqb-true, cases_lt, true≢false, none-some}
 use Rattle.console_core.proofs.Common.{slice_get-get_or, slice_get_within, own_of, MapValue, accent_at, Explored}
 use Rattle.console_core.proofs.Common.{Symbol, composed_by, usable, IsBase}
 use Rattle.keymap_core.specs.Accents.{AccentValue, first_result}
@@ -13,37 +13,29 @@ use Rattle.console_core.specs.declared.explored.Symbol.TheVariants as symbol
 first-member : (pairs : List (ℕ × ℕ)) (b c : ℕ) → first_result pairs b ≡ Some c
     → (p : ℕ × ℕ) × Contains pairs p × (p.0 ≡ b)
 first-member [] b c e = absurd (none-some c e)
-first-member (q ∷ pairs) b c e = by (q.0 == b) refl e (λ f. first-member pairs b c f)
-  where
-    later : (p : ℕ × ℕ) × Contains pairs p × (p.0 ≡ b) → (p : ℕ × ℕ) × Contains (q ∷ pairs) p × (p.0 ≡ b)
-    later (p, (n, lt, at), is) = (p, (suc n, omega (arith, lt), at), is)
-
-    by : (t : Bool) → (q.0 == b) ≡ t → (if t then Some q.1 else first_result pairs b) ≡ Some c
-        → (first_result pairs b ≡ Some c → (p : ℕ × ℕ) × Contains pairs p × (p.0 ≡ b))
-        → (p : ℕ × ℕ) × Contains (q ∷ pairs) p × (p.0 ≡ b)
-    by true is f more = (q, (0, omega arith, refl), eqb-true q.0 b is)
-    by false is f more = later (more f)
+first-member (q ∷ pairs) b c e = elim (cases_Bool (q.0 == b)) [
+  | inl is ↦ (q, (0, omega arith, refl), eqb-true q.0 b is)
+  | inr is ↦
+      let (p, (n, lt, at), same) = first-member pairs b c (rw is at e) in (p, (suc n, omega (arith, lt), at), same)
+]
 
 -- none of these is a base, so nothing is
 no-base : (m : MapValue) (e : Explored) (i c : ℕ) (a : AccentValue) → accent_at m i ≡ Some a
     → ((p : ℕ × ℕ) → Contains a.pairs p → IsBase m e i c (symbol.Character p.0) → ⊥)
     → (IsBase m e i c (symbol.Character 32) → ⊥) → (IsBase m e i c (symbol.DeadKey i) → ⊥)
     → (x : Symbol) → IsBase m e i c x → ⊥
-no-base m e i c a is pairs blank dead = by
-  where
-    tapped : (b : ℕ) (t : Bool) → (b == 32) ≡ t → IsBase m e i c (symbol.Character b)
-        → (if t then Some a.own else first_result a.pairs b) ≡ Some c → ⊥
-    tapped b true f base made = blank (subst (λ z. IsBase m e i c (symbol.Character z)) (eqb-true b 32 f) base)
-    tapped b false f base made =
-        let (p, has, at) = first-member a.pairs b c made in
-        pairs p has (subst (λ z. IsBase m e i c (symbol.Character z)) (sym at) base)
-
-    by : (x : Symbol) → IsBase m e i c x → ⊥
-    by (symbol.Character b) base =
-        tapped b (b == 32) refl base (sym (ap (λ o. composed_by o b) is) ∙ base.0)
-    by (symbol.DeadKey j) base =
-        let q = same-dead i j (own_of (accent_at m i)) c (j == i) refl base.0 in
-        dead (subst (λ z. IsBase m e i c (symbol.DeadKey z)) q.0 base)
+no-base m e i c a is pairs blank dead (symbol.Character b) base =
+    let made : (if b == 32 then Some a.own else first_result a.pairs b) ≡ Some c =
+    sym (ap (λ o. composed_by o b) is) ∙ base.0 in
+    elim (cases_Bool (b == 32)) [
+      | inl f ↦ blank (subst (λ z. IsBase m e i c (symbol.Character z)) (eqb-true b 32 f) base)
+      | inr f ↦
+          let (p, has, at) = first-member a.pairs b c (rw f at made) in
+          pairs p has (subst (λ z. IsBase m e i c (symbol.Character z)) (sym at) base)
+    ]
+no-base m e i c a is pairs blank dead (symbol.DeadKey j) base =
+    let q = same-dead i j (own_of (accent_at m i)) c (j == i) refl base.0 in
+    dead (subst (λ z. IsBase m e i c (symbol.DeadKey z)) q.0 base)
 
 pub base-cases : (near : Bool) (m : MapValue) (e : Explored) (i c : ℕ) (a : AccentValue) → accent_at m i ≡ Some a
     → (o : Option Symbol)

@@ -1,18 +1,19 @@
 -- Held, remembered and pressed: how they follow from one another.
 use Rattle.console_core.proofs.Common.{◌≡◌, ℕ, ◌<◌, ◌⊎◌, Bool, true, false, not, eqb, List, [], ◌∷◌, Option, Some, None}
-use Rattle.console_core.proofs.Common.{refl, ap, subst, sym, ◌∙◌, inl, inr, if◌then◌else◌, ◌==◌, eqb-true, eq-eqb}
-use Rattle.console_core.proofs.Common.{and_parts, or_cases, cases_Bool, true≢false, both_ways, not-true, option_or}
-use Rattle.console_core.proofs.Common.{none-some, same_Some, or_right, Action, Holding, Cell, Char, Act, Event, Press}
-use Rattle.console_core.proofs.Common.{Release, Reset, Load, same_action, holding_action, MapValue, ResolvedEvent, held}
-use Rattle.console_core.proofs.Common.{remembered, taken_over, unless_nop, is_this_action, look, resolve_press, Maps}
-use Rattle.console_core.proofs.Common.{in_force, resolved, pressed, PressedCharacter, PressedAction, ReleasedKey}
-use Rattle.console_core.proofs.Common.{WasReset, WasLoaded, IsCellOf, Bears, same_action-true, same_action-refl}
+use Rattle.console_core.proofs.Common.{HasKeys, refl, ap, subst, sym, ◌∙◌, inl, inr, if◌then◌else◌, ◌==◌, eqb-true}
+use Rattle.console_core.proofs.Common.{eq-eqb, and_parts, or_cases, cases_Bool, true≢false, both_ways, not-true}
+use Rattle.console_core.proofs.Common.{option_or, none-some, same_Some, or_right, Action, Holding, Cell, Char, Act}
+use Rattle.console_core.proofs.Common.{Event, Press, Release, Reset, Load, same_action, holding_action, MapValue}
+use Rattle.console_core.proofs.Common.{ResolvedEvent, held, remembered, taken_over, unless_nop, is_this_action, look}
+use Rattle.console_core.proofs.Common.{resolve_press, Maps, in_force, resolved, pressed, PressedCharacter}
+use Rattle.console_core.proofs.Common.{PressedAction, ReleasedKey, WasReset, WasLoaded, IsCellOf, Bears}
+use Rattle.console_core.proofs.Common.{same_action-true, same_action-refl}
 use Rattle.keymap_core.specs.Bearers.{IsAlone}
 use Rattle.console_core.proofs.OneMore.{resolved-start, resolved-more, held-start, held-character, held-action}
 use Rattle.console_core.proofs.OneMore.{held-release, held-reset, remembered-start, remembered-character}
 use Rattle.console_core.proofs.OneMore.{remembered-action, remembered-release, remembered-reset, pressed-press}
 use Rattle.console_core.proofs.OneMore.{pressed-release, held-load, remembered-load}
-use Rattle.console_core.proofs.Borne.{AllLooked, taken-holding}
+use Rattle.console_core.proofs.Borne.{AllLooked, resolved-looked, taken-holding}
 use Rattle.keymap_core.specs.declared.action.Action.TheVariants as act
 
 -- a conditional that forgets
@@ -56,7 +57,7 @@ remembered-cell m (WasReset ∷ r) k a all h = absurd (none-some a (sym (remembe
 remembered-cell m (WasLoaded n ∷ r) k a all h = absurd (none-some a (sym (remembered-load k n r) ∙ h))
 
 -- a key that remembers something is pressed
-pressed_if : (t : Bool) (x : Bool) → x ≡ true → (if t then true else x) ≡ true
+pub pressed_if : (t : Bool) (x : Bool) → x ≡ true → (if t then true else x) ≡ true
 pressed_if true x h = refl
 pressed_if false x h = h
 
@@ -91,6 +92,14 @@ remembered-pressed ms (Reset ∷ h) k a r =
     absurd (none-some a (sym (remembered-reset k (resolved ms h)) ∙ (rw (resolved-more ms h Reset) at r)))
 remembered-pressed ms (Load ∷ h) k a r =
     absurd (none-some a (sym (remembered-load k _ (resolved ms h)) ∙ (rw (resolved-more ms h Load) at r)))
+
+-- a key for which an action is remembered has it among its cells, and is pressed
+pub borne-pressed : (ms : Maps) (h : List Event) (a : Action) → HasKeys h
+    → ((k : ℕ) × (remembered k (resolved ms h) ≡ Some a))
+    → (k : ℕ) × (k < 128) × IsCellOf (in_force ms h) k (Act a) × (pressed k h ≡ true)
+borne-pressed ms h a keys (k, is) =
+    let b = remembered-cell (in_force ms h) (resolved ms h) k a (resolved-looked ms h keys) is in
+    (k, b.0, b.1, remembered-pressed ms h k a is)
 
 -- a holding action that is held is remembered for some key, where no bearer of it has a character
 abbrev pub RememberedBySome : Holding → List ResolvedEvent → Type 0

@@ -157,6 +157,5 @@ resolved-looked ms (Release k ∷ h) keys =
     subst (λ r. AllLooked (in_force ms h) r) (sym (resolved-more ms h (Release k)))
     (All-head HasKey (Release k) h keys, resolved-looked ms h (All-tail HasKey (Release k) h keys))
 resolved-looked ms (Reset ∷ h) keys =
-    subst (λ r. AllLooked (in_force ms h) r) (sym (resolved-more ms h Reset))
-    (tt, resolved-looked ms h (All-tail HasKey Reset h keys))
+    rw (resolved-more ms h Reset) (tt, resolved-looked ms h (All-tail HasKey Reset h keys))
 resolved-looked ms (Load ∷ h) keys = subst (λ r. AllLooked (loaded ms h) r) (sym (resolved-more ms h Load)) refl

@@ -3,8 +3,8 @@ use Rattle.console_core.proofs.Common.{◌≡◌, ◌+◌, ℕ, true, false, Lis
 use Rattle.console_core.proofs.Common.{◌∙◌, inl, inr, arith, cases_Bool, MapValue, Event, Move, Explored, Symbol, Tap}
 use Rattle.console_core.proofs.Common.{Held, Under, alone, State, start, IsPath, state_after, IsPathFrom, state_from}
 use Rattle.console_core.proofs.Common.{presses_along, ReachesMoreThanFrom, state_limit, CanTap, CanType, ComesHome}
-use Rattle.console_core.proofs.Common.{IsTapOf, HasRoute, map_of_explored, origin_in, CanReturn, HasTap, GoesAndTaps, IsExploredFrom}
-use Rattle.console_core.proofs.Common.{CanAccent, LeadsByTap, TypesOne, dead_tap, state_of, Entry}
+use Rattle.console_core.proofs.Common.{IsTapOf, HasRoute, map_of_explored, origin_in, CanReturn, HasTap, GoesAndTaps}
+use Rattle.console_core.proofs.Common.{IsExploredFrom, CanAccent, LeadsByTap, TypesOne, dead_tap, state_of, Entry}
 use Rattle.console_core.specs.declared.ways.Accented.{Accented}
 use Rattle.console_core.specs.declared.typing.Typed.{Typed}
 use Rattle.console_core.specs.Sticking.{ReachesMoreThan}
@@ -76,8 +76,7 @@ pub too-many : (m : MapValue) (s : State) (e : Explored) → IsExploredFrom m s 
 too-many m s e v st partial =
     let (p, more) = v.0.more partial in
     let there : ReachesMoreThanFrom (alone m) s state_limit p =
-    subst (λ t. ReachesMoreThanFrom (alone m) t state_limit p) v.2
-    (subst (λ n. ReachesMoreThanFrom (alone n) (origin_in e) state_limit p) v.1 more) in
+    rw (← v.2, ← v.1) more in
     (p + presses_along st.path, reaches-on (alone m) s state_limit p st.path st.is st.leads there)
 
 -- ---- the keys of one character
@@ -86,9 +85,7 @@ too-many m s e v st partial =
 pub explored-taps : (m : MapValue) (s : State) (e : Explored) (t : State) (k : ℕ) (h now : List Event) (next : State)
     → IsExploredFrom m s e → GoesAndTaps (alone (map_of_explored e)) (origin_in e) t k h now next
     → GoesAndTaps (alone m) s t k h now next
-explored-taps m s e t k h now next v x =
-    subst (λ o. GoesAndTaps (alone m) o t k h now next) v.2
-    (subst (λ n. GoesAndTaps (alone n) (origin_in e) t k h now next) v.1 x)
+explored-taps m s e t k h now next v x = rw (← v.2, ← v.1) x
 
 pub leads-direct : (m : MapValue) (s : State) (e : Explored) (c : ℕ) (h now : List Event) (next : Held) → IsExploredFrom m s e
     → CanReturn m s → LeadsByTap e (plain_tap (symbol.Character c)) h now (typed.To next)
@@ -164,8 +161,7 @@ no-route m s e v st none = elim (cases_Bool e.is_complete) [
       let (searched, settled) = v.0.whole complete in
       let (j, x, at, is, le) = searched.start in
       let here = explored-returns m s e v st in
-      absurd (none (subst (λ t. HasRoute e.routes.entries t) is
-      (comes-route (map_of_explored e) e.met.entries e.routes.entries searched settled j x at
+      absurd (none (rw (← is) (comes-route (map_of_explored e) e.met.entries e.routes.entries searched settled j x at
       (subst (λ t. ComesHome (alone (map_of_explored e)) t) (sym is) here.home))))
   | inr partial ↦ too-many m s e v st partial
 ]

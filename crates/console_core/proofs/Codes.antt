@@ -1,27 +1,16 @@
 -- Actions kept by their codes.
-use Rattle.console_core.proofs.Common.{◌≡◌, ℕ, ◌<◌, Bool, true, false, eqb, List, length, set, Option, None, Some, refl}
-use Rattle.console_core.proofs.Common.{ap, sym, ◌∙◌, if◌then◌else◌, ◌==◌, ◌≢◌, eqb-true, same_action-true}
-use Rattle.console_core.proofs.Common.{get_or-replicate_default, Action, same_action}
+use Rattle.console_core.proofs.Common.{ne_eqb, false_from_ne_true, ◌≡◌, ℕ, ◌<◌, Bool, true, false, eqb, List, length}
+use Rattle.console_core.proofs.Common.{set, Option, None, Some, refl, ap, sym, ◌∙◌, if◌then◌else◌, ◌==◌, ◌≢◌}
+use Rattle.console_core.proofs.Common.{same_action-true, get_or-replicate_default, Action, same_action}
 use Rattle.std.proofs.Common.{replicate}
 use Rattle.std.specs.Prelude.{option_map}
 use Rattle.keymap_core.specs.Actions.{code_of, action_of}
 use Rattle.console_core.specs.PackedWord.{action_of_byte, code_memory}
 use Rattle.console_core.proofs.Places.{get_or-set_if}
 
--- a code other than 0 is that of its action, by the test for 0
-action_of_byte_some : (code : ℕ) (b : Bool) → eqb code 0 ≡ b → code ≢ 0 → action_of_byte code ≡ action_of code
-action_of_byte_some code true e not_zero = absurd (not_zero (eqb-true code 0 e))
-action_of_byte_some code false e not_zero = rw e refl
-
 -- a code other than 0 is that of its action
 action_of_byte-some : (code : ℕ) → code ≢ 0 → action_of_byte code ≡ action_of code
-action_of_byte-some code not_zero = action_of_byte_some code (eqb code 0) refl not_zero
-
--- the byte of another action
-other_code : (b : Bool) (held expected : Action) → same_action held expected ≡ b → code_of held ≢ code_of expected
-    → b ≡ false
-other_code true held expected e ne = absurd (ne (ap code_of (same_action-true held expected e)))
-other_code false held expected e ne = refl
+action_of_byte-some code not_zero = rw (ne_eqb code 0 not_zero) refl
 
 -- another code is that of another action
 pub action_of_byte-other : (code : ℕ) (held expected : Action) → code ≢ 0 → action_of code ≡ Some held
@@ -30,7 +19,8 @@ pub action_of_byte-other : (code : ℕ) (held expected : Action) → code ≢ 0 
     → Some false ≡ option_map (λ a. same_action a expected) (action_of_byte code)
 action_of_byte-other code held expected not_zero read same ne =
     let e : action_of_byte code ≡ Some held = action_of_byte-some code not_zero ∙ read in
-    rw e (ap Some (sym (other_code (same_action held expected) held expected refl (λ f. ne (sym same ∙ f)))))
+    rw e (ap Some (sym (false_from_ne_true (same_action held expected)
+    (λ f. ne (sym same ∙ ap code_of (same_action-true held expected f))))))
 
 -- the bytes of all keys
 pub codes-start : (k : ℕ) → code_memory (replicate 128 0) k ≡ None

@@ -9,9 +9,10 @@ pub use Rattle.console_core.specs.History.{HasKey, HasKeys, HasNoLoads, IsNoLoad
 pub use Rattle.console_core.specs.History.{answer_to, answers_to, between, concerns, in_force, is_load, is_locked_after}
 pub use Rattle.console_core.specs.History.{is_on_after, is_press, is_second_in_force, loaded, resolved_event}
 unfoldable pub use Rattle.console_core.specs.History.{pressed, resolved}
-pub use Rattle.console_core.specs.Inner.Exploring.{AreKnown, AreExplorations, CanAccent, GoesHome, HasTap, HasTyped, IsBase}
-pub use Rattle.console_core.specs.Inner.Exploring.{IsExplored, CanReturn, GoesAndTaps, IsTapAt, IsExploredFrom, LeadsByTap, LetsGo}
-pub use Rattle.console_core.specs.Inner.Exploring.{TypesOne, dead_tap, kept_if, map_of_explored, origin_in, typed_along}
+pub use Rattle.console_core.specs.Inner.Exploring.{AreKnown, AreExplorations, CanAccent, GoesHome, HasTap, HasTyped}
+pub use Rattle.console_core.specs.Inner.Exploring.{IsBase, IsExplored, CanReturn, GoesAndTaps, IsTapAt, IsExploredFrom}
+pub use Rattle.console_core.specs.Inner.Exploring.{LeadsByTap, LetsGo, TypesOne, dead_tap, kept_if, map_of_explored}
+pub use Rattle.console_core.specs.Inner.Exploring.{origin_in, typed_along}
 pub use Rattle.console_core.specs.Inner.Kept.{after_action, after_character, after_load, after_release, after_reset}
 pub use Rattle.console_core.specs.Inner.Kept.{next_pending, pending_after_dead_key}
 pub use Rattle.console_core.specs.Inner.Adding.{Adds, AddsOffer, AddsOffers, AreBehind, AreBehindTo, AreOffersOf}

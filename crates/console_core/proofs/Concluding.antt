@@ -28,21 +28,20 @@ among-moved u es n done p q s move e lt (t, (j, x, at, is, le), near) can =
           subst (λ z. IsMove u z move) (sym is) (moves-unscrolled u s t move near can) in (
             moved u t move,
             met-up es (x.1.presses + presses_of move) q (moved u t move) (omega (arith, le, e))
-                (subst (λ z. IsMetBy es (x.1.presses + presses_of move) (moved u z move)) is
-                (done j x at move here leaves (omega (arith, le, e, lt)))),
+                (rw (← is) (done j x at move here leaves (omega (arith, le, e, lt)))),
             same_moved u s t move near,
           )
-      | inr (k, turns) ↦
-          subst (λ z. IsAmong es q (moved u s z)) (sym turns)
-          (t, (j, x, at, is, omega (arith, le, e)), near ∙ scroll-moved s)
+      | inr (k, turns) ↦ rw turns (t, (j, x, at, is, omega (arith, le, e)), near ∙ scroll-moved s)
     ]
 
 -- so the moves keep them
 kept-below : (u : Under) (es : Entries) (n : ℕ) → IsMetBy es 0 start → AreDone u es n → IsKeptBelow u n (IsAmong es)
 kept-below u es n met done = record {
+  led = record {
+    more = λ p s (t, there, near). (t, met-up es p (suc p) t (omega arith) there, near);
+    moved = among-moved u es n done;
+  };
   start = (start, met, refl);
-  more = λ p s (t, there, near). (t, met-up es p (suc p) t (omega arith) there, near);
-  moved = among-moved u es n done;
 }
 
 -- and they are safe where no holder looks up a character in those met by fewer than n presses

@@ -1,10 +1,10 @@
 -- What a search decides of the maps that it goes over, said of all that it speaks of.
-use Rattle.console_core.proofs.Common.{◌≡◌, Bool, true, false, All, List, refl, ap, subst, sym, ◌∙◌, filter}
-use Rattle.console_core.proofs.Common.{if◌then◌else◌, reverse, true≢false, Modifier, Event, Press, Release, Reset, Load}
-use Rattle.console_core.proofs.Common.{Sticks, Never, Undecided, modifiers, on, Maps, between, in_force, resolved}
+use Rattle.console_core.proofs.Common.{cases_Bool, inl, inr, ◌≡◌, Bool, true, false, All, List, refl, ap, subst, sym}
+use Rattle.console_core.proofs.Common.{◌∙◌, if◌then◌else◌, reverse, true≢false, Modifier, Event, Press, Release, Reset}
+use Rattle.console_core.proofs.Common.{Load, Sticks, Never, Undecided, on, Maps, between, in_force, resolved}
 use Rattle.console_core.proofs.Common.{is_on_after, is_second_in_force, IsNoLoad, HasNoLoads, HasKeys, IsSafe}
-use Rattle.console_core.proofs.Common.{IsOnOnlyWhilePressed, IsOffOnceQuiet, Under, with_loads, script_of_path}
-use Rattle.console_core.proofs.Common.{AreUnder, Admits, SticksUnder, IsSent, NeverSticksUnder, AreOnAfter}
+use Rattle.console_core.proofs.Common.{IsOffOnceQuiet, Under, with_loads, script_of_path, AreUnder, Admits, SticksUnder}
+use Rattle.console_core.proofs.Common.{IsSent, NeverSticksUnder, AreOnAfter}
 use Rattle.std.proofs.lemmas.List.Elements.{All-weaker}
 use Rattle.console_core.specs.Sticking.{SafeNeverForgets, SafeNeverSticksBetween, SafeNeverAnswersSticks}
 use Rattle.console_core.specs.Sticking.{NeverSticksUnlessReached, SticksIfReached}
@@ -34,15 +34,14 @@ sent-admitted u h sent none = All-weaker (IsSent u.has_loads) IsNoLoad (no_load 
 -- Of the maps that it speaks of lists that are admitted tell the same: without loads, what the first map tells.
 pub same-under : (u : Under) (ms : Maps) (h : List Event) → AreUnder u ms → Admits u h
     → (resolved ms h ≡ resolved u.maps h) × (in_force ms h ≡ in_force u.maps h)
-same-under u ms h (first, loads) admits = by u.has_loads refl
-  where
-    by : (b : Bool) → u.has_loads ≡ b → (resolved ms h ≡ resolved u.maps h) × (in_force ms h ≡ in_force u.maps h)
-    by true e = (ap (λ n. resolved n h) (loads e), ap (λ n. in_force n h) (loads e))
-    by false e =
-        let none : HasNoLoads h = admits e in (
-          (without_loads ms h none).1 ∙ ap (λ n. resolved (between n n) h) first ∙ sym (without_loads u.maps h none).1,
-          first_in_force ms h none ∙ first ∙ sym (first_in_force u.maps h none),
-        )
+same-under u ms h (first, loads) admits = elim (cases_Bool u.has_loads) [
+  | inl e ↦ (ap (λ n. resolved n h) (loads e), ap (λ n. in_force n h) (loads e))
+  | inr e ↦
+      let none : HasNoLoads h = admits e in (
+        (without_loads ms h none).1 ∙ ap (λ n. resolved (between n n) h) first ∙ sym (without_loads u.maps h none).1,
+        first_in_force ms h none ∙ first ∙ sym (first_in_force u.maps h none),
+      )
+]
 
 pub on-under : (u : Under) (ms : Maps) (h : List Event) → AreUnder u ms → Admits u h → (i : Modifier)
     → is_on_after ms i h ≡ is_on_after u.maps i h
@@ -51,15 +50,13 @@ on-under u ms h under admits i = ap (λ r. on i r) (same-under u ms h under admi
 -- so do the modifiers that are on
 pub are-on-under : (u : Under) (h : List Event) (left : List Modifier) → Admits u h → AreOnAfter u.maps h left
     → (ms : Maps) → AreUnder u ms → AreOnAfter ms h left
-are-on-under u h left admits are_on ms under =
-    are_on ∙ ap (λ r. filter (λ i. on i r) modifiers) (sym (same-under u ms h under admits).0)
+are-on-under u h left admits are_on ms under = cc (are_on, (same-under u ms h under admits).0)
 
 pub never-under : (u : Under) → NeverIn u → NeverSticksUnder u
 never-under u never ms h under keys admits =
     let (same, in_same) = same-under u ms h under admits in
     let (only, off) = never h keys admits in (
-      subst (λ n. IsOnOnlyWhilePressed n h (λ i. is_on_after ms i h)) (sym in_same)
-          (subst (λ r. IsOnOnlyWhilePressed (in_force u.maps h) h (λ i. on i r)) (sym same) only),
+      rw (in_same, same) only,
       subst (λ r. IsOffOnceQuiet h (λ i. on i r)) (sym same) off,
     )
 

@@ -7,13 +7,14 @@ use Rattle.console_core.proofs.Common.{IsPathFrom, state_from, events_along, IsH
 use Rattle.console_core.proofs.Common.{CanType, composed_of, map_of_explored, origin_in, IsExplored, CanReturn, HasTap}
 use Rattle.console_core.proofs.Common.{LetsGo, GoesAndTaps, HasTyped, TypesOne, LeadsHome, Routes, AllLeadHome}
 use Rattle.console_core.proofs.Common.{HasRoute, AreSettled, freed, state_of, Entry, Entries, IsTrail, IsReached}
-use Rattle.console_core.proofs.Common.{Searched, unscrolled, fun_ext, Lock, Caps, Num, Scroll, Alt}
+use Rattle.console_core.proofs.Common.{Searched, unscrolled, Lock, Caps, Num, Scroll, Alt}
 use Rattle.console_core.proofs.Entries.{none-found, found-has}
-use Rattle.console_core.proofs.RoutesHome.{is-nothing}
+use Rattle.console_core.proofs.OneMore.{is-nothing}
 use Rattle.console_core.proofs.SameStates.{are_same}
 use Rattle.console_core.specs.Inner.Exploring.{IsOrigin}
 use Rattle.console_core.proofs.Returning.{near-met, strays-on, StraysTo, is-astray, near-is_home}
 use Rattle.console_core.proofs.Taps.{added-by, adds, tap-types, tap-direct, tap-dead, tap-composed}
+use Rattle.console_core.proofs.Unscrolled.{same_states}
 use Rattle.console_core.proofs.Visits.{near-path, path-first, home-near}
 use Rattle.console_core.specs.declared.explored.Symbol.TheVariants as symbol
 
@@ -29,10 +30,7 @@ has-home u routes s all has = let (moves, home) = has-leads u routes s all has i
 
 -- home is the start, where the scroll lock is off
 pub home-start : (s : State) → IsHome s → s.is_second ≡ false → s.is_locked Scroll ≡ false → s ≡ start
-home-start s (free, off) first scroll =
-    ap (λ x. record { holder = x; is_locked = s.is_locked; is_second = s.is_second }) (fun_ext (λ i. free i))
-    ∙ ap (λ x. record { holder = start.holder; is_locked = x; is_second = s.is_second }) (fun_ext (λ l. locks l))
-    ∙ ap (λ x. record { holder = start.holder; is_locked = start.is_locked; is_second = x }) first
+home-start s (free, off) first scroll = same_states s start free locks first
   where
     locks : (l : Lock) → s.is_locked l ≡ start.is_locked l
     locks Caps = off Caps (λ q. cc)
@@ -102,8 +100,7 @@ pub returns-next : (m : MapValue) (o s : State) (k : ℕ) (h now : List Event) (
     → CanReturn m next
 returns-next m o s k h now next st x =
     let u : Under = alone m in
-    let there : IsPathFrom u (state_from u o x.out) x.back = subst (λ t. IsPathFrom u t x.back) (sym x.there)
-    x.returns in
+    let there : IsPathFrom u (state_from u o x.out) x.back = rw x.there x.returns in
     let out = path-append u o x.out x.back x.goes there in
     let all = path-append u start st.path (x.back ++ x.out) st.is
     (subst (λ t. IsPathFrom u t (x.back ++ x.out)) (sym st.leads) out.0) in
@@ -112,8 +109,7 @@ returns-next m o s k h now next st x =
       off = x.off;
       path = (x.back ++ x.out) ++ st.path;
       is = all.0;
-      leads = all.1 ∙ ap (λ t. state_from u t (x.back ++ x.out)) st.leads ∙ out.1
-          ∙ ap (λ t. state_from u t x.back) x.there ∙ x.leads;
+      leads = cc (all.1, st.leads, out.1, x.there, x.leads);
       home = x.home;
     }
 

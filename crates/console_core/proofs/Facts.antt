@@ -1,12 +1,11 @@
 -- The facts on which the main theorem stands.
-use Rattle.console_core.proofs.Common.{◌≡◌, ℕ, ◌<◌, Bool, true, false, List, [], ◌∷◌, ◌++◌, Option, Some, None, inl}
-use Rattle.console_core.proofs.Common.{inr, refl, ap, subst, sym, ◌∙◌, if◌then◌else◌, ◌==◌, eqb-true, eq-eqb}
-use Rattle.console_core.proofs.Common.{true≢false, false_from_ne_true, All-tail, Action, Modifier, Holding, Cell, Char}
-use Rattle.console_core.proofs.Common.{Act, Event, Press, Release, Reset, Load, holding_action, MapValue, IsCellOf}
-use Rattle.console_core.proofs.Common.{ResolvedEvent, remembered, is_this_action, look, resolve_press, Maps, in_force}
-use Rattle.console_core.proofs.Common.{pressed, resolved, is_on_after, is_locked_after, HasKey, HasKeys}
-use Rattle.console_core.proofs.Common.{remembered_after, raises_at, lowers_at, NoneOf, SomeSince, taken_of, IsSafe}
-use Rattle.console_core.proofs.Common.{same_action-refl}
+use Rattle.console_core.proofs.Common.{◌≡◌, ℕ, ◌<◌, true, false, List, [], ◌∷◌, ◌++◌, Some, inl, inr, refl, ap, subst}
+use Rattle.console_core.proofs.Common.{sym, ◌∙◌, ◌==◌, eqb-true, eq-eqb, true≢false, false_from_ne_true, All-tail}
+use Rattle.console_core.proofs.Common.{Action, Modifier, Holding, Cell, Char, Act, Event, Press, Release, Reset, Load}
+use Rattle.console_core.proofs.Common.{holding_action, MapValue, IsCellOf, ResolvedEvent, remembered, is_this_action}
+use Rattle.console_core.proofs.Common.{look, resolve_press, Maps, in_force, pressed, resolved, is_on_after}
+use Rattle.console_core.proofs.Common.{is_locked_after, HasKey, HasKeys, remembered_after, raises_at, lowers_at, NoneOf}
+use Rattle.console_core.proofs.Common.{SomeSince, taken_of, IsSafe, same_action-refl}
 use Rattle.console_core.specs.Facts.{LooksAreCells, DeadUpperHalfIsNotLookedAt, lets_go, HoldingIsRemembered}
 use Rattle.console_core.specs.Facts.{IsRaisedByPressed, OnByPressedKey}
 use Rattle.console_core.proofs.OneMore.{resolved-more, remembered-character, remembered-action, remembered-release}
@@ -36,20 +35,12 @@ dead_upper_half ms h keys dead =
       (λ k. elim (look-cell (in_force ms h) (resolved ms h) k all) [ inl s ↦ s | inr s ↦ absurd (dead s.0) ]),
     )
 
--- what a press leaves of a holding action that is remembered for a key without characters
-kept_by_character : (t : Bool) (o : Option Action) (a : Action) → t ≡ false → o ≡ Some a
-    → (if t then None else o) ≡ Some a
-kept_by_character true o a e r = absurd (true≢false e)
-kept_by_character false o a e r = r
-
 -- a press keeps a remembered holding action, unless it looks up a character for that key
 kept-press : (m : MapValue) (k j : ℕ) (a : Holding) (r : List ResolvedEvent) (x : Cell)
     → ((c : ℕ) → x ≡ Char c → j == k ≡ true → ⊥) → remembered k r ≡ Some (holding_action a)
     → remembered k (resolve_press j x ∷ r) ≡ Some (holding_action a)
 kept-press m k j a r (Char c) apart e =
-    remembered-character k j c r
-    ∙ kept_by_character (j == k) (remembered k r) (holding_action a)
-    (false_from_ne_true (j == k) (λ s. apart c refl s)) e
+    rw (remembered-character k j c r, false_from_ne_true (j == k) (λ s. apart c refl s)) e
 kept-press m k j a r (Act b) apart e = remembered-action k j b r ∙ first_kept (remembered k r) _ (holding_action a) e
 
 -- in a safe map a holding action is remembered until a release of its key, a reset or a load
@@ -61,11 +52,10 @@ holding_is_remembered ms h (Press j) safe keys k a e kept =
     ap (λ r. remembered k r) (resolved-more ms h (Press j))
     ∙ kept-press (in_force ms h) k j a (resolved ms h) (look (in_force ms h) (resolved ms h) j)
     (λ c is s. safe k bears.0 a bears.1 c
-    (subst (λ y. IsCellOf (in_force ms h) y (Char c)) (eqb-true j k s)
-    (subst (λ x. IsCellOf (in_force ms h) j x) is (look-cell (in_force ms h) (resolved ms h) j all)))) e
+    (rw (← (eqb-true j k s), ← is) (look-cell (in_force ms h) (resolved ms h) j all))) e
 holding_is_remembered ms h (Release j) safe keys k a e kept =
-    ap (λ r. remembered k r) (resolved-more ms h (Release j)) ∙ remembered-release k j (resolved ms h)
-    ∙ kept_by_character (j == k) (remembered k (resolved ms h)) (holding_action a) kept e
+    let apart : j == k ≡ false = kept in
+    rw (resolved-more ms h (Release j), remembered-release k j (resolved ms h), apart) e
 holding_is_remembered ms h Reset safe keys k a e kept = absurd (true≢false kept)
 holding_is_remembered ms h Load safe keys k a e kept = absurd (true≢false kept)
 
@@ -87,10 +77,7 @@ not_let_go : (ms : Maps) (k j : ℕ) (a : Holding) (t : List Event) → remember
     → is_this_action (remembered_after ms j t) (holding_action a) ≡ false → j == k ≡ false
 not_let_go ms k j a t e low =
     false_from_ne_true (j == k)
-    (λ s. true≢false (sym (ap (λ o. is_this_action o (holding_action a))
-    (ap (λ x. remembered_after ms x t) (eqb-true j k s) ∙ e)
-    ∙ same_action-refl (holding_action a))
-    ∙ low))
+    (λ s. true≢false (cc (eqb-true j k s, e, same_action-refl (holding_action a), low)))
 
 -- a holding action is remembered from the press that raises it, while nothing lowers it
 kept : (ms : Maps) (k : ℕ) (a : Holding) (later before : List Event) → IsSafe (in_force ms (later ++ Press k ∷ before))

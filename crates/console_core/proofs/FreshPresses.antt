@@ -41,8 +41,7 @@ turns-bearer ms k j l h true (Act b) bears keys lt e is =
     ap (λ i. same_action (taken_over (remembered i (resolved ms h)) b) (act.Lock l)) s
     ∙ ap (λ y. same_action (taken_over (remembered k (resolved ms h)) y) (act.Lock l)) f
     ∙ takes (in_force ms h) k l (resolved ms h) bears (resolved-looked ms h keys) (remembered k (resolved ms h)) refl in
-    ap (λ y. y && not (held (holding.Lock l) (resolved ms h))) t
-    ∙ ap not (throughout_held ms h keys (holding.Lock l) k bears)
+    cc (t, throughout_held ms h keys (holding.Lock l) k bears)
 turns-bearer ms k j l h false (Char c) bears keys lt e is = refl
 turns-bearer ms k j l h false (Act b) bears keys lt e is =
     ap (λ y. y && not (held (holding.Lock l) (resolved ms h))) (false_from_ne_true _ (λ t.
@@ -118,13 +117,11 @@ pub locked_by_fresh_presses : LockedByFreshPresses
 locked_by_fresh_presses ms [] keys l k first bearer = ap (λ r. locked l r) (resolved-start ms) ∙ locked-start l
 locked_by_fresh_presses ms (e ∷ h) keys l k first bearer =
     let before : Bearer ms l k h = bearer-before ms l k e h bearer in
-    ap (λ r. locked l r) (resolved-more ms h e) ∙ locked-more l _ (resolved ms h)
-    ∙ ap (λ b. if b then false
-    else (if turns l (resolved_event ms h e) (resolved ms h) then not (locked l (resolved ms h))
-    else locked l (resolved ms h)))
-    (keeps-lock ms l k e h first bearer)
-    ∙ ap (λ t. if t then not (locked l (resolved ms h)) else locked l (resolved ms h))
-    (turns-fresh ms k l e h (bears-in_force ms l k h first before) keys)
-    ∙ ap (λ o. if is_fresh_press k e h then not o else o)
-    (locked_by_fresh_presses ms h (All-tail HasKey e h keys) l k first before)
-    ∙ odd_step (is_fresh_press k e h) (count_where (is_fresh_press k) h)
+    rw (
+      resolved-more ms h e,
+      locked-more l (resolved_event ms h e) (resolved ms h),
+      keeps-lock ms l k e h first bearer,
+      turns-fresh ms k l e h (bears-in_force ms l k h first before) keys,
+      locked_by_fresh_presses ms h (All-tail HasKey e h keys) l k first before,
+    )
+    (odd_step (is_fresh_press k e h) (count_where (is_fresh_press k) h))

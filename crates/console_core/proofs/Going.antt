@@ -1,14 +1,13 @@
 -- What a press sees where a path leads from the state of a console.
 use Rattle.console_core.proofs.Common.{◌≡◌, ℕ, true, List, [], ◌∷◌, ◌++◌, Some, None, refl, ap, subst, sym, ◌∙◌}
-use Rattle.console_core.proofs.Common.{append_assoc, if◌then◌else◌, false≢true, MapValue, ResolvedEvent, pending}
-use Rattle.console_core.proofs.Common.{remembered, taken_over, usable, next_pending, pending_after_dead_key, between}
+use Rattle.console_core.proofs.Common.{append_assoc, false≢true, MapValue, ResolvedEvent, pending, usable, between}
 use Rattle.console_core.proofs.Common.{resolved, is_second_in_force, accent_pending_after, alone, State, IsIdle}
 use Rattle.console_core.proofs.Common.{look_in, IsMove, events_of_move, events_along, state_from, IsPathFrom, SeesBy}
 use Rattle.console_core.proofs.Common.{SeesNext, IsPendingFor, selection_of, Stands, Act, Event, Press, Release, Move}
 use Rattle.console_core.proofs.Common.{Hold, Turn, LetGo, Exchange, Sight}
-use Rattle.console_core.proofs.OneMore.{resolved-more, pending-action, pending-release}
+use Rattle.console_core.proofs.OneMore.{one_map, resolved-more, pending-action, pending-release}
 use Rattle.console_core.proofs.Scripts.{stands-from, idle-none, pressed-look}
-use Rattle.console_core.proofs.Seeing.{follows-selection, one_map}
+use Rattle.console_core.proofs.Seeing.{follows-selection}
 use Rattle.keymap_core.specs.declared.action.Action.TheVariants as act
 use Rattle.console_core.specs.declared.selection.Sight.TheVariants as sight
 
@@ -18,18 +17,14 @@ pub pending-move : (m : MapValue) (h : List Event) (s : State) (move : Move) →
     → pending m (resolved (between m m) (events_of_move move ++ h)) ≡ pending m (resolved (between m m) h)
 pending-move m h s (Hold k i) (lt, idle, seen, free) x =
     let r : List ResolvedEvent = resolved (between m m) h in
-    ap (λ z. pending m z) (pressed-look (alone m) h s k (Act (act.Mod i)) x.exact.follows x.second seen)
-    ∙ pending-action m k (act.Mod i) r
-    ∙ ap (λ a. next_pending m (pending m r) a)
-    (ap (λ o. taken_over o (act.Mod i)) (idle-none r s k x.exact idle))
+    rw (pressed-look (alone m) h s k (Act (act.Mod i)) x.exact.follows x.second seen)
+    (rw (pending-action m k (act.Mod i) r, idle-none r s k x.exact idle) refl)
 pending-move m h s (Turn k l) (lt, idle, seen) x =
     let r : List ResolvedEvent = resolved (between m m) h in
-    ap (λ z. pending m z) (resolved-more (between m m) (Press k ∷ h) (Release k))
-    ∙ pending-release m k (resolved (between m m) (Press k ∷ h))
-    ∙ ap (λ z. pending m z) (pressed-look (alone m) h s k (Act (act.Lock l)) x.exact.follows x.second seen)
-    ∙ pending-action m k (act.Lock l) r
-    ∙ ap (λ a. next_pending m (pending m r) a)
-    (ap (λ o. taken_over o (act.Lock l)) (idle-none r s k x.exact idle))
+    rw (resolved-more (between m m) (Press k ∷ h) (Release k))
+    (pending-release m k (resolved (between m m) (Press k ∷ h))
+    ∙ rw (pressed-look (alone m) h s k (Act (act.Lock l)) x.exact.follows x.second seen)
+    (rw (pending-action m k (act.Lock l) r, idle-none r s k x.exact idle) refl))
 pending-move m h s (LetGo k i) holds x =
     ap (λ z. pending m z) (resolved-more (between m m) h (Release k)) ∙ pending-release m k (resolved (between m m) h)
 pending-move m h s Exchange (free, loads) x = absurd (false≢true loads)
@@ -78,10 +73,7 @@ pub tap-pending : (m : MapValue) (h : List Event) (s : State) (k accent : ℕ) �
 tap-pending m h s k accent x idle seen is none =
     let r : List ResolvedEvent = resolved (between m m) h in
     pending-is m (Release k ∷ Press k ∷ h)
-    ∙ ap (λ z. pending m z) (resolved-more (between m m) (Press k ∷ h) (Release k))
-    ∙ pending-release m k (resolved (between m m) (Press k ∷ h))
-    ∙ ap (λ z. pending m z) (pressed-look (alone m) h s k (Act (act.DeadKey accent)) x.exact.follows x.second seen)
-    ∙ pending-action m k (act.DeadKey accent) r
-    ∙ ap (λ p. next_pending m p (taken_over (remembered k r) (act.DeadKey accent))) none
-    ∙ ap (λ o. next_pending m None (taken_over o (act.DeadKey accent))) (idle-none r s k x.exact idle)
-    ∙ ap (λ b. pending_after_dead_key (if b then Some accent else None) None) is
+    ∙ rw (resolved-more (between m m) (Press k ∷ h) (Release k))
+    (pending-release m k (resolved (between m m) (Press k ∷ h))
+    ∙ rw (pressed-look (alone m) h s k (Act (act.DeadKey accent)) x.exact.follows x.second seen)
+    (rw (pending-action m k (act.DeadKey accent) r, none, idle-none r s k x.exact idle, is) refl))

@@ -11,20 +11,13 @@ pub searched-back : {o : State} (u : Under) (es : Entries) (a b : ℕ) → Searc
 searched-back {o} u es a b s j x parent by at last =
     let r : IsReached u o es j x = s.reached j x at in back r.0 r.1
   where
-    some_last : (p q : ℕ × Move) → Some p ≡ Some q → p ≡ q
-    some_last p q e = cc
-
     back : (path : List Move) → IsTrail es j path → parent < j
     back [] (y, there, none) =
-        let e : Some (parent, by) ≡ None = sym last ∙ ap (λ z. z.1.last) (same_Some x y (sym at ∙ there)) ∙ none in
-        absurd (no_last (parent, by) e)
-      where
-        no_last : (p : ℕ × Move) → Some p ≡ None → ⊥
-        no_last p f = cc
+        let e : Some (parent, by) ≡ None = sym last ∙ ap (λ z. z.1.last) (same_Some x y (sym at ∙ there)) ∙ none in cc
     back (move ∷ path) (y, from, there, by_last, lt, rest) =
         let e : Some (parent, by) ≡ Some (from, move) =
         sym last ∙ ap (λ z. z.1.last) (same_Some x y (sym at ∙ there)) ∙ by_last in
-        subst (λ n. n < j) (sym (ap (λ q. q.0) (some_last (parent, by) (from, move) e))) lt
+        let same : parent ≡ from = ap (λ (q : ℕ × Move). q.0) (same_Some (parent, by) (from, move) e) in rw same lt
 
 -- the moves that are left, where the last of them is told
 abbrev pub LeadsBy : Entries → Option (ℕ × Move) → List Move → Type 0
@@ -38,8 +31,7 @@ pub trail-leads : (es : Entries) (j : ℕ) (path : List Move) (x : Entry) → sl
 trail-leads es j [] x at (y, there, none) =
     subst (λ l. LeadsBy es l []) (sym (ap (λ z. z.1.last) (same_Some x y (sym at ∙ there)) ∙ none)) tt
 trail-leads es j (move ∷ path) x at (y, parent, there, last, lt, rest) =
-    subst (λ l. LeadsBy es l (move ∷ path)) (sym (ap (λ z. z.1.last) (same_Some x y (sym at ∙ there)) ∙ last))
-    (refl, rest)
+    rw (ap (λ z. z.1.last) (same_Some x y (sym at ∙ there)) ∙ last) (refl, rest)
 
 pub leads-next : (es : Entries) (last : ℕ × Move) (items : List Event) (rest : List Move) (target : List Event)
     → LeadsBy es (Some last) rest → items ++ events_along rest ≡ target
@@ -48,9 +40,7 @@ pub leads-next : (es : Entries) (last : ℕ × Move) (items : List Event) (rest 
 leads-next es last items [] target none e y at = absurd none
 leads-next es last items (move ∷ path) target (by, trail) e y at = (
   path,
-  append_assoc items (events_of_move last.1) (events_along path)
-      ∙ ap (λ b. items ++ (events_of_move b ++ events_along path)) by
-      ∙ e,
+  cc (append_assoc items (events_of_move last.1) (events_along path), by, e),
   trail-leads es last.0 path y at trail,
 )
 
@@ -72,17 +62,13 @@ leads-end es items (move ∷ path) target none e = absurd none
 
 pub script-begin : (u : Under) (path : List Move) (k : ℕ) (s : State) (items : List Event) → state_after u path ≡ s
     → items ≡ releases s modifiers ++ Press k ∷ [] → items ++ events_along path ≡ script_of_path u path k
-script-begin u path k s items at e =
-    ap (λ z. z ++ events_along path) e
-    ∙ append_assoc (releases s modifiers) (Press k ∷ []) (events_along path)
-    ∙ ap (λ t. releases t modifiers ++ Press k ∷ events_along path) (sym at)
+script-begin u path k s items at e = cc (e, append_assoc (releases s modifiers) (Press k ∷ []) (events_along path), at)
 
 -- the releases of one holder more
 releases-append : (s : State) (xs ys : List Modifier) → releases s (xs ++ ys) ≡ releases s xs ++ releases s ys
 releases-append s [] ys = refl
 releases-append s (i ∷ xs) ys =
-    ap (λ z. release_of (s.holder i) ++ z) (releases-append s xs ys)
-    ∙ sym (append_assoc (release_of (s.holder i)) (releases s xs) (releases s ys))
+    cc (releases-append s xs ys, append_assoc (release_of (s.holder i)) (releases s xs) (releases s ys))
 
 -- the releases of the holders so far, with one more
 pub releases-more : (s : State) (n : ℕ) (d : Modifier) → n < 8

@@ -1,10 +1,11 @@
 -- What was met stays met when the entries grow.
-use Rattle.console_core.proofs.Common.{zero, suc, ◌≡◌, ℕ, ◌+◌, ◌<◌, ◌≤◌, Bool, true, false, ◌&&◌, ◌⊎◌, inl, inr, All}
+use Rattle.console_core.proofs.Common.{zero, suc, ◌≡◌, ℕ, ◌+◌, ◌<◌, ◌≤◌, false, ◌⊎◌, inl, inr, All}
 use Rattle.console_core.proofs.Common.{List, [], ◌∷◌, ◌++◌, length, slice_get, Some, refl, ap, subst, sym, ◌∙◌, arith}
-use Rattle.console_core.proofs.Common.{append_assoc, cases_lt, true≢false, slice_get_within, none-some, same_Some}
+use Rattle.console_core.proofs.Common.{append_assoc, cases_lt, slice_get_within, none-some, same_Some}
 use Rattle.console_core.proofs.Common.{Scroll, Move, Turn, Exchange, is_borne, Under, State, next_map, IsMove, moved}
 use Rattle.console_core.proofs.Common.{presses_of, state_of, Entry, Entries, Grows, IsMetBy, AreMet, IsFrom, AreAdded}
 use Rattle.console_core.proofs.Common.{IsTrail, IsReached, LeavesScroll}
+use Rattle.std.proofs.lemmas.Bool.{and_right}
 use Rattle.std.proofs.lemmas.Option.{get_or_from_slice_get}
 use Rattle.std.proofs.lemmas.List.Elements.{All-append}
 use Rattle.keymap_core.specs.declared.action.Holding.TheVariants as holding
@@ -108,18 +109,12 @@ pub reached-grows : {o : State} (u : Under) (es now : Entries) (j : ℕ) (x : En
 reached-grows u es now j x g (path, trail, is, leads, count, off) =
     (path, trail-grows es now j path g trail, is, leads, count, off)
 
--- where the scroll lock is off a load leaves it off
-and-off : (a b : Bool) → b ≡ false → (a && b) ≡ false
-and-off a true off = absurd (true≢false off)
-and-off true false off = refl
-and-off false false off = refl
-
 -- a move that leaves the scroll lock leaves it off
 pub scroll-left : (u : Under) (s : State) (move : Move) → LeavesScroll move → s.is_locked Scroll ≡ false
     → (moved u s move).is_locked Scroll ≡ false
 scroll-left u s (Turn k Scroll) leaves off = absurd (leaves refl)
 scroll-left u s Exchange leaves off =
-    and-off (is_borne (next_map u s) (holding.Lock Scroll)) (s.is_locked Scroll) off
+    and_right (is_borne (next_map u s) (holding.Lock Scroll)) (s.is_locked Scroll) off
 scroll-left u s _ leaves off = off
 
 -- a move from where a path leads goes on with the path

@@ -1,13 +1,13 @@
 -- The main theorem.
 use Rattle.console_core.proofs.Common.{suc, ◌≡◌, ◌≢◌, ℕ, ◌<◌, Bool, true, false, ◌&&◌, not, List, [], ◌∷◌, ◌++◌, Option}
 use Rattle.console_core.proofs.Common.{Some, None, refl, ap, subst, sym, ◌∙◌, inl, inr, if◌then◌else◌, ◌==◌, reverse}
-use Rattle.console_core.proofs.Common.{eqb-true, cases_Bool, true≢false, false_from_ne_true, All-head, All-tail, Action}
-use Rattle.console_core.proofs.Common.{Lock, Modifier, Holding, Cell, Char, Act, Event, Press, Release, Reset, Load}
-use Rattle.console_core.proofs.Common.{same_action, holding_action, MapValue, is_odd, count_where, is_borne, look_with}
-use Rattle.console_core.proofs.Common.{ResolvedEvent, held, locked, remembered, pending, taken_over, unless_nop, look}
-use Rattle.console_core.proofs.Common.{resolve, resolve_press, turns, answer_resolved, on, Maps, in_force, loaded}
-use Rattle.console_core.proofs.Common.{is_second_in_force, is_load, resolved_event, resolved, pressed}
-use Rattle.console_core.proofs.Common.{accent_pending_after, answers_to, answer_to, HasKey, HasKeys, IsQuiet}
+use Rattle.console_core.proofs.Common.{eqb-true, cases_Bool, true≢false, false≢true, false_from_ne_true, All-head}
+use Rattle.console_core.proofs.Common.{All-tail, Action, Lock, Modifier, Holding, Cell, Char, Act, Event, Press}
+use Rattle.console_core.proofs.Common.{Release, Reset, Load, same_action, holding_action, MapValue, is_odd, count_where}
+use Rattle.console_core.proofs.Common.{look_with, ResolvedEvent, held, locked, remembered, pending}
+use Rattle.console_core.proofs.Common.{taken_over, unless_nop, look, resolve, resolve_press, turns, answer_resolved, on}
+use Rattle.console_core.proofs.Common.{Maps, in_force, loaded, is_second_in_force, is_load, resolved_event, resolved}
+use Rattle.console_core.proofs.Common.{pressed, accent_pending_after, answers_to, answer_to, HasKey, HasKeys, IsQuiet}
 use Rattle.console_core.proofs.Common.{PressedCharacter, PressedAction, ReleasedKey, WasReset, WasLoaded, IsCellOf}
 use Rattle.console_core.proofs.Common.{BearsThroughout, IsSafe, same_action-true, none_unless, fun_ext, option_or}
 use Rattle.console_core.proofs.Common.{none-some}
@@ -21,8 +21,8 @@ use Rattle.console_core.proofs.OneMore.{pressed-start, pressed-press, pressed-re
 use Rattle.console_core.proofs.OneMore.{held-load, locked-load, remembered-load, pending-load, press-unlocks}
 use Rattle.console_core.proofs.Readings.{turns-event}
 use Rattle.console_core.proofs.Borne.{AllLooked, taken-holding, look-cell, resolved-looked}
-use Rattle.console_core.proofs.Bearing.{remembered-cell, remembered-pressed, held-remembered, remembered-held}
-use Rattle.console_core.proofs.Bearing.{RememberedBySome}
+use Rattle.console_core.proofs.Bearing.{borne-pressed, remembered-cell, remembered-pressed, held-remembered}
+use Rattle.console_core.proofs.Bearing.{remembered-held}
 use Rattle.console_core.proofs.Deliveries.{reverse-cons}
 use Rattle.keymap_core.specs.declared.action.Action.TheVariants as act
 use Rattle.keymap_core.specs.declared.action.Modifier.TheVariants as modifier
@@ -44,13 +44,9 @@ same_by false false f g = refl
 -- in a safe map a modifier is on only while a key that bears it is pressed
 pub on_only_while_pressed : OnOnlyWhilePressed
 on_only_while_pressed ms h safe keys i on =
-    let all : AllLooked (in_force ms h) (resolved ms h) = resolved-looked ms h keys in
-    let s : RememberedBySome (holding.Mod i) (resolved ms h) =
-    held-remembered (in_force ms h) (holding.Mod i) (λ k lt b c x. safe k lt (holding.Mod i) b c x) (resolved ms h)
-    all on in
-    let b : (s.0 < 128) × IsCellOf (in_force ms h) s.0 (Act (holding_action (holding.Mod i))) =
-    remembered-cell (in_force ms h) (resolved ms h) s.0 _ all s.1 in
-    (s.0, b.0, b.1, remembered-pressed ms h s.0 _ s.1)
+    borne-pressed ms h (act.Mod i) keys
+    (held-remembered (in_force ms h) (holding.Mod i) (λ k lt b c x. safe k lt (holding.Mod i) b c x) (resolved ms h)
+    (resolved-looked ms h keys) on)
 
 -- a pressed key whose cells are all actions other than nop remembers one
 abbrev Remembers : ℕ → List ResolvedEvent → Type 0
@@ -78,13 +74,11 @@ press-remembers : (m : MapValue) (k j : ℕ) (r : List ResolvedEvent) (t : Bool)
 press-remembers m k j r true (Char c) e f g = absurd (f refl)
 press-remembers m k j r false (Char c) e f g =
     let s : Remembers k r = g refl in
-    (s.0, remembered-character k j c r ∙ ap (λ t. if t then None else remembered k r) e ∙ s.1)
+    (s.0, rw (remembered-character k j c r, e) s.1)
 press-remembers m k j r true (Act b) e f g =
     let s : (a : Action) × (option_or (remembered k r) (unless_nop b) ≡ Some a) =
-    first_some_of (remembered k r) (unless_nop b) (offers_some (same_action b act.Nop) b refl (f refl)) in (
-      s.0,
-      remembered-action k j b r ∙ ap (λ t. option_or (remembered k r) (if t then unless_nop b else None)) e ∙ s.1,
-    )
+    first_some_of (remembered k r) (unless_nop b) (offers_some (same_action b act.Nop) b refl (f refl)) in
+    (s.0, rw (remembered-action k j b r, e) s.1)
 press-remembers m k j r false (Act b) e f g =
     let s : (a : Action) × (option_or (remembered k r) (if j == k then unless_nop b else None) ≡ Some a) =
     first_some_kept (remembered k r) _ (g refl) in
@@ -99,21 +93,16 @@ pressed-remembers ms k (Press j ∷ h) acting keys p =
     rw (resolved-more ms h (Press j))
     (press-remembers (in_force ms h) k j (resolved ms h) (j == k) (look (in_force ms h) (resolved ms h) j) refl
     (λ e. acting (look (in_force ms h) (resolved ms h) j)
-    (subst (λ x. IsCellOf (in_force ms h) x (look (in_force ms h) (resolved ms h) j)) (eqb-true j k e)
-    (look-cell (in_force ms h) (resolved ms h) j all)))
+    (rw (← (eqb-true j k e)) (look-cell (in_force ms h) (resolved ms h) j all)))
     (λ e. pressed-remembers ms k h acting (All-tail HasKey (Press j) h keys)
-    (ap (λ t. if t then true else pressed k h) (sym e) ∙ sym (pressed-press k j h) ∙ p)))
+    (rw (pressed-press k j h, e) at p)))
 pressed-remembers ms k (Release j ∷ h) acting keys p =
     elim (cases_Bool (j == k)) [
-      | inl e ↦ absurd (true≢false (sym p ∙ pressed-release k j h ∙ ap (λ t. if t then false else pressed k h) e))
+      | inl e ↦ absurd (false≢true (rw (pressed-release k j h, e) at p))
       | inr e ↦
           let s : Remembers k (resolved ms h) =
-          pressed-remembers ms k h acting (All-tail HasKey (Release j) h keys)
-          (ap (λ t. if t then false else pressed k h) (sym e) ∙ sym (pressed-release k j h) ∙ p) in (
-            s.0,
-            ap (λ r. remembered k r) (resolved-more ms h (Release j)) ∙ remembered-release k j (resolved ms h)
-                ∙ ap (λ t. if t then None else remembered k (resolved ms h)) e ∙ s.1,
-          )
+          pressed-remembers ms k h acting (All-tail HasKey (Release j) h keys) (rw (pressed-release k j h, e) at p) in
+          (s.0, rw (resolved-more ms h (Release j), remembered-release k j (resolved ms h), e) s.1)
     ]
 pressed-remembers ms k (Reset ∷ h) acting keys p = absurd (true≢false (sym p ∙ pressed-reset k h))
 pressed-remembers ms k (Load ∷ h) acting keys p = absurd (true≢false (sym p ∙ pressed-load k h))
@@ -130,14 +119,13 @@ throughout_held ms h keys a k bears =
     let all : AllLooked (in_force ms h) (resolved ms h) = resolved-looked ms h keys in
     same_by (held a (resolved ms h)) (pressed k h)
     (λ on.
-    let s : RememberedBySome a (resolved ms h) =
-    held-remembered (in_force ms h) a
+    let (j, lt, borne, down) =
+    borne-pressed ms h (holding_action a) keys
+    (held-remembered (in_force ms h) a
     (λ j lt b c x. act_char (holding_action a) c
     (bears.2 (Char c) (subst (λ y. IsCellOf (in_force ms h) y (Char c)) (bears.1 j lt b) x)))
-    (resolved ms h) all on in
-    let b : (s.0 < 128) × IsCellOf (in_force ms h) s.0 (Act (holding_action a)) =
-    remembered-cell (in_force ms h) (resolved ms h) s.0 _ all s.1 in
-    subst (λ y. pressed y h ≡ true) (bears.1 s.0 b.0 b.1) (remembered-pressed ms h s.0 _ s.1))
+    (resolved ms h) all on) in
+    subst (λ y. pressed y h ≡ true) (bears.1 j lt borne) down)
     (λ p.
     let s : Remembers k (resolved ms h) =
     pressed-remembers ms k h (λ x is. subst IsActing (sym (bears.2 x is)) (acting-holding a)) keys p in
@@ -183,25 +171,20 @@ repeats_turn_no_steady_lock ms h l steady k keys p =
     repeat-turns ms h l k (look (in_force ms h) (resolved ms h) k) steady keys p
     (look-cell (in_force ms h) (resolved ms h) k (resolved-looked ms h (All-tail HasKey (Press k) h keys))) in (
       sym (turns-event ms l (Press k) h) ∙ still,
-      ap (λ r. locked l r) (resolved-more ms h (Press k)) ∙ locked-more l _ (resolved ms h)
-          ∙ ap (λ b. if b then false
-          else (if turns l (resolve_press k (look (in_force ms h) (resolved ms h) k)) (resolved ms h)
-          then not (locked l (resolved ms h)) else locked l (resolved ms h)))
-          (press-unlocks l k (look (in_force ms h) (resolved ms h) k) (resolved ms h))
-          ∙ ap (λ t. if t then not (locked l (resolved ms h)) else locked l (resolved ms h)) still,
+      rw (resolved-more ms h (Press k), locked-more l _ (resolved ms h))
+          (rw (press-unlocks l k (look (in_force ms h) (resolved ms h) k) (resolved ms h), still) refl),
     )
 
 -- once no key is pressed, no holding action is held
 pub held-quiet : (ms : Maps) (h : List Event) → IsSafe (in_force ms h) → HasKeys h → IsQuiet h → (a : Holding)
     → held a (resolved ms h) ≡ false
 held-quiet ms h safe keys quiet a =
-    let all : AllLooked (in_force ms h) (resolved ms h) = resolved-looked ms h keys in
     false_from_ne_true (held a (resolved ms h)) (λ on.
-    let s : RememberedBySome a (resolved ms h) =
-    held-remembered (in_force ms h) a (λ k lt b c x. safe k lt a b c x) (resolved ms h) all on in
-    let b : (s.0 < 128) × IsCellOf (in_force ms h) s.0 (Act (holding_action a)) =
-    remembered-cell (in_force ms h) (resolved ms h) s.0 _ all s.1 in
-    true≢false (sym (remembered-pressed ms h s.0 _ s.1) ∙ quiet s.0 b.0))
+    let (k, lt, borne, down) =
+    borne-pressed ms h (holding_action a) keys
+    (held-remembered (in_force ms h) a (λ k lt b c x. safe k lt a b c x) (resolved ms h) (resolved-looked ms h keys)
+    on) in
+    true≢false (sym down ∙ quiet k lt))
 
 -- in a safe map no modifier is on once every key is released
 pub off_once_quiet : OffOnceQuiet
@@ -261,9 +244,7 @@ pub same-step : (m : MapValue) (r s : List ResolvedEvent) (x : ResolvedEvent) �
 same-step m r s (PressedCharacter k c) lt same = record {
   held = λ a. held-character a k c r ∙ same.held a ∙ sym (held-character a k c s);
   locked = λ l. locked-character l k c r ∙ same.locked l ∙ sym (locked-character l k c s);
-  remembered =
-      λ j lt. remembered-character j k c r ∙ ap (λ o. if k == j then None else o) (same.remembered j lt)
-      ∙ sym (remembered-character j k c s);
+  remembered = λ j lt. cc (remembered-character j k c r, same.remembered j lt, remembered-character j k c s);
   pending = pending-character m k c r ∙ sym (pending-character m k c s);
 }
 same-step m r s (PressedAction k b) lt same = record {
@@ -283,9 +264,7 @@ same-step m r s (PressedAction k b) lt same = record {
 same-step m r s (ReleasedKey k) lt same = record {
   held = λ a. rw (held-release a k r, held-release a k s, same.remembered k lt, same.held a) refl;
   locked = λ l. locked-release l k r ∙ same.locked l ∙ sym (locked-release l k s);
-  remembered =
-      λ j lt2. remembered-release j k r ∙ ap (λ o. if k == j then None else o) (same.remembered j lt2)
-      ∙ sym (remembered-release j k s);
+  remembered = λ j lt2. cc (remembered-release j k r, same.remembered j lt2, remembered-release j k s);
   pending = pending-release m k r ∙ same.pending ∙ sym (pending-release m k s);
 }
 same-step m r s WasReset lt same = record {
@@ -296,8 +275,7 @@ same-step m r s WasReset lt same = record {
 }
 same-step m r s (WasLoaded n) lt same = record {
   held = λ a. held-load a n r ∙ sym (held-load a n s);
-  locked =
-      λ l. locked-load l n r ∙ ap (λ x. is_borne n (holding.Lock l) && x) (same.locked l) ∙ sym (locked-load l n s);
+  locked = λ l. cc (locked-load l n r, same.locked l, locked-load l n s);
   remembered = λ j lt. remembered-load j n r ∙ sym (remembered-load j n s);
   pending = pending-load m n r ∙ sym (pending-load m n s);
 }
@@ -305,8 +283,7 @@ same-step m r s (WasLoaded n) lt same = record {
 -- states that are the same answer a resolved event alike
 pub same-answer_resolved : (m : MapValue) (r s : List ResolvedEvent) (x : ResolvedEvent) → HasResolvedKey x → Same m r s
     → answer_resolved m x r ≡ answer_resolved m x s
-same-answer_resolved m r s (PressedCharacter k c) lt same =
-    rw (same.pending, same.held (holding.Mod modifier.Meta)) refl
+same-answer_resolved m r s (PressedCharacter k c) lt same = cc (same.pending, same.held (holding.Mod modifier.Meta))
 same-answer_resolved m r s (PressedAction k b) lt same =
     rw (same.remembered k lt, same.pending, same.held (holding.Mod modifier.Meta)) refl
 same-answer_resolved m r s (ReleasedKey k) lt same = rw (same.remembered k lt) refl
@@ -372,10 +349,9 @@ same_load : (ms : Maps) (h g : List Event) → SameAfter ms h g
 same_load ms h g s =
     let f : resolved ms (Load ∷ g) ≡ WasLoaded (loaded ms h) ∷ resolved ms g =
     resolved-more ms g Load ∙ ap (λ x. WasLoaded x ∷ resolved ms g) (sym (same_loaded ms h g s)) in
-    subst (λ x. Same (loaded ms h) x (resolved ms (Load ∷ g))) (sym (resolved-more ms h Load))
-    (subst (λ x. Same (loaded ms h) (WasLoaded (loaded ms h) ∷ resolved ms h) x) (sym f)
+    rw (resolved-more ms h Load, f)
     (same_under (in_force ms h) (loaded ms h) (resolved ms h) (resolved ms g) (loaded ms h)
-    (same-step (in_force ms h) (resolved ms h) (resolved ms g) (WasLoaded (loaded ms h)) tt s.same)))
+    (same-step (in_force ms h) (resolved ms h) (resolved ms g) (WasLoaded (loaded ms h)) tt s.same))
 
 -- one more event, under the map in force after it
 same_events : (ms : Maps) (h g : List Event) (e : Event) → HasKey e → SameAfter ms h g

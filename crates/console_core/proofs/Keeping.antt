@@ -1,8 +1,8 @@
 -- What writing parts of what a console keeps leaves, after a release and after a load.
-use Rattle.console_core.proofs.Common.{◌≡◌, ℕ, Bool, true, false, ◌&&◌, not, eqb, None, Some, refl, ap, sym, ◌∙◌}
-use Rattle.console_core.proofs.Common.{if◌then◌else◌, ◌==◌, eqb-true, fun_ext, Action, Holding, Lock, Caps, Num, Scroll}
-use Rattle.console_core.proofs.Common.{Alt, holding_action, holding_index, holding_of, is_borne, MapValue}
-use Rattle.console_core.proofs.Common.{is_this_action, Kept, after_release, after_reset, after_load}
+use Rattle.console_core.proofs.Common.{cases_Bool, inl, inr, ◌≡◌, ℕ, Bool, true, false, ◌&&◌, not, eqb, None, Some}
+use Rattle.console_core.proofs.Common.{refl, ap, sym, ◌∙◌, if◌then◌else◌, ◌==◌, eqb-true, fun_ext, Action, Holding}
+use Rattle.console_core.proofs.Common.{Lock, Caps, Num, Scroll, Alt, holding_action, holding_index, holding_of}
+use Rattle.console_core.proofs.Common.{is_borne, MapValue, is_this_action, Kept, after_release, after_reset, after_load}
 use Rattle.console_core.specs.Inner.Kept.{with_mark, with_memory, with_released, with_lock_borne, exchanged}
 use Rattle.console_core.proofs.Places.{holding_of-some, same_place}
 use Rattle.keymap_core.specs.declared.action.Holding.TheVariants as holding
@@ -60,18 +60,15 @@ and_kept : (x : Bool) → x ≡ (x && true)
 and_kept true = refl
 and_kept false = refl
 
--- a key that remembers nothing may be forgotten
-forgotten : (k : Kept) (key j : ℕ) (t : Bool) → eqb key j ≡ t → k.memory key ≡ None
-    → k.memory j ≡ (if t then None else k.memory j)
-forgotten k key j true is none = ap k.memory (sym (eqb-true key j is)) ∙ none
-forgotten k key j false is none = refl
-
 -- a release of a key for which nothing is remembered
 pub idle-released : (k : Kept) (key : ℕ) → k.memory key ≡ None → k ≡ after_release key k
 idle-released k key none =
     kept-same k (after_release key k)
     (λ a. and_kept (k.mark a) ∙ ap (λ x. k.mark a && not (is_this_action x (holding_action a))) (sym none))
-    (λ l. refl) (λ j. forgotten k key j (eqb key j) refl none) refl refl
+    (λ l. refl) (λ j. elim (cases_Bool (eqb key j)) [
+      | inl is ↦ rw is (ap k.memory (sym (eqb-true key j is)) ∙ none)
+      | inr is ↦ rw is refl
+    ]) refl refl
 
 -- a release of a key for which the action is remembered
 pub held-released : (k : Kept) (key : ℕ) (held : Action) → k.memory key ≡ Some held

@@ -1,6 +1,6 @@
 -- What was typed before, by the character and the state where it began.
-use Rattle.console_core.proofs.Common.{◌≡◌, Bool, true, List, [], Some, subst, sym, ◌&&◌, eqb, reverse, lookup}
-use Rattle.console_core.proofs.Common.{and_parts, eqb-true, insert_entry, MapValue, TypesOne, AreKnown, state_of}
+use Rattle.console_core.proofs.Common.{◌≡◌, Bool, true, List, Some, sym, ◌&&◌, eqb, lookup}
+use Rattle.console_core.proofs.Common.{and_parts, eqb-true, insert_entry, MapValue, AreKnown, state_of}
 use Rattle.console_core.specs.declared.typing.Found.{Found}
 use Rattle.console_core.specs.declared.typing.Sought.{Sought}
 use Rattle.console_core.specs.Inner.Exploring.{IsKnown}
@@ -11,9 +11,7 @@ use Rattle.console_core.proofs.SameStates.{are_same, tells-same}
 same-known : (m : MapValue) (a b : Sought) (v : Found) → state_of a.from ≡ state_of b.from → a.character ≡ b.character
     → IsKnown m b v
     → IsKnown m a v
-same-known m a b v from c is =
-    subst (λ s. TypesOne m a.character s [] (reverse v.events.items) (state_of v.next)) (sym from)
-    (subst (λ d. TypesOne m d (state_of b.from) [] (reverse v.events.items) (state_of v.next)) (sym c) is)
+same-known m a b v from c is = rw (from, c) is
 
 -- a test that tells both
 abbrev pub TellsSought : (Sought → Sought → Bool) → Type 0

@@ -1,5 +1,5 @@
 -- The states behind where an accent is offered, as a search collects them, and the selections there.
-use Rattle.console_core.proofs.Common.{zero, suc, ◌≡◌, ℕ, ◌+◌, ◌<◌, ◌≤◌, ◌⊎◌, Bool, true, false, inl, inr, List, []}
+use Rattle.console_core.proofs.Common.{zero, suc, ◌≡◌, ℕ, ◌+◌, ◌<◌, ◌≤◌, ◌⊎◌, true, false, inl, inr, List, []}
 use Rattle.console_core.proofs.Common.{◌∷◌, ◌++◌, length, refl, slice_get, Option, Some, None, ap, subst, sym, ◌∙◌}
 use Rattle.console_core.proofs.Common.{arith, Contains, IsDistinct, keys_of, lookup, is_some, cases_lt, true≢false}
 use Rattle.console_core.proofs.Common.{append-nil, Contains-push_cases, slice_get_within, MapValue, Move, LetGo}
@@ -10,6 +10,7 @@ use Rattle.console_core.proofs.Common.{AreAdded, IsMetBy, AreMet, IsReached, Lea
 use Rattle.console_core.proofs.Common.{unscrolled, IsBehind, AreSeedsTo, AreBehindTo, AreBehind, IsOfferedUnlocked}
 use Rattle.console_core.proofs.Common.{AreSelectionsOf, AreOffersOf, Scroll, IsInSome}
 use Rattle.indexmap.proofs.IndexTableLemmas.Probe.{pigeonhole}
+use Rattle.std.proofs.lemmas.Bool.{true_from_ne_false}
 use Rattle.console_core.specs.Sights.{CanCompose, CanOffer, Enumerates, accents_in, IsOfferedAlong}
 use Rattle.console_core.specs.Inner.Adding.{AddsState, AreAccentsOf}
 use Rattle.console_core.proofs.Unscrolled.{same-scrolled}
@@ -97,8 +98,7 @@ seeds-more u accent met es now n x searched before at offered added = record {
     | inl old ↦ before.behind j y old
     | inr is ↦
         let r : IsReached u start met n x = searched.reached n x at in (
-          subst (λ s. IsBehind u accent s) (sym is)
-              (behind-offered u r.0 accent r.2 (subst (λ s. IsOfferedIn u s accent) (sym r.3) offered) r.3),
+          rw is (behind-offered u r.0 accent r.2 (subst (λ s. IsOfferedIn u s accent) (sym r.3) offered) r.3),
           ap (λ s. s.is_locked Scroll) is ∙ r.5,
         )
   ];
@@ -183,8 +183,7 @@ behind-step u accent met es mid now n y before here first second frees presses =
         let lt : n < length es = slice_get_within es n y here in
         let mid_lt : n < length mid = slice_get_within mid n y (at-now es mid n y (first.0, first.1) here) in
         at_old es first.0 j x (omega (arith, below, lt))
-        (subst (λ z. slice_get z j ≡ Some x) first.1
-        (at_old mid second.0 j x (omega (arith, below, mid_lt))
+        (rw (← first.1) (at_old mid second.0 j x (omega (arith, below, mid_lt))
         (subst (λ z. slice_get z j ≡ Some x) second.1 at)))
 
     met-by : (es : Entries) (t : State) → IsMetBy es 0 t → IsMet es t
@@ -221,8 +220,7 @@ entry-below (x ∷ es) (suc j) lt = entry-below es j (omega (arith, lt))
 -- states that were met at one place are the same
 same-met : (met : Entries) (i j : ℕ) (x y z w : Entry) → i ≡ j → slice_get met i ≡ Some z → slice_get met j ≡ Some w
     → state_of z.0 ≡ state_of x.0 → state_of w.0 ≡ state_of y.0 → state_of x.0 ≡ state_of y.0
-same-met met i j x y z w e there there_j is is_j =
-    sym is ∙ ap (λ q. state_of q.0) (sym (same_entry met i j z w e there there_j)) ∙ is_j
+same-met met i j x y z w e there there_j is is_j = cc (is, same_entry met i j z w e there there_j, is_j)
 
 pub behind-few : (u : Under) (accent : ℕ) (met es : Entries) → Searched u start met (length met) (length met)
     → AreSeedsTo u accent met (length met) es → IsDistinct are_same (keys_of es) → length es ≤ length met
@@ -294,9 +292,7 @@ near-behind : (u : Under) (accent : ℕ) (met es : Entries) → Searched u start
     → IsNear es (state_after u path)
 near-behind u accent met es searched behind path is (later, before, at, offered) =
     let parts = path-split u start later before (subst (λ p. IsPath u p) at is) in
-    subst (λ p. IsNear es (state_after u p)) (sym at)
-    (subst (λ t. IsNear es t) (sym parts.2)
-    (near-later u accent met es searched behind later before parts.0 parts.1 offered))
+    rw (at, parts.2) (near-later u accent met es searched behind later before parts.0 parts.1 offered)
 
 -- the selection of a state behind
 behind-composes : (m : MapValue) (accent : ℕ) (s : State) (y : Selection) → IsBehind (alone m) accent s
@@ -344,8 +340,7 @@ composing-all m accent met ys searched can offered are = record {
       let (j, x, at, lt, e) = are.only y has in
       let r : IsReached (alone m) start met j x = searched.reached j x at in
       behind-composes m accent (state_of x.0) y
-      (subst (λ t. IsBehind (alone m) accent t) r.3
-      (behind-path (alone m) accent start r.0 (start-behind m accent met searched can offered) r.2))
+      (rw (← r.3) (behind-path (alone m) accent start r.0 (start-behind m accent met searched can offered) r.2))
       e;
   once = are.once;
 }
@@ -360,8 +355,7 @@ accents-push (x ∷ offers) o = ap (λ z. x.accent ∷ z) (accents-push offers o
 pub offers-more : (m : MapValue) (accents : List ℕ) (offers now : List Offer) (o : Offer) → AreOffersOf m accents offers
     → now ≡ offers ++ o ∷ [] → Enumerates (CanCompose m o.accent) o.selections.items
     → AreOffersOf m (accents ++ o.accent ∷ []) now
-offers-more m accents offers now o before e is = subst (λ z. AreOffersOf m (accents ++ o.accent ∷ []) z) (sym e)
-    (record {
+offers-more m accents offers now o before e is = rw e (record {
       all = accents-push offers o ∙ ap (λ z. z ++ o.accent ∷ []) before.all;
       each = λ p has. elim (Contains-push_cases offers o p has) [
         | inl was ↦ before.each p was
@@ -403,7 +397,7 @@ sights-are m met x accents searched selections offers offered some none = record
     (λ e. let (j, k, (z, at, (i, is))) = some e in reached j z at (λ s. IsForgetful u s) (i, k, is)),
     (λ (path, is, forgetful).
         let (j, z, at, near) = near-met u met searched path is in
-        by x.forgets refl
+        true_from_ne_false x.forgets
         (λ e. none e j z at (slice_get_within met j z at) (subst (λ s. IsForgetful u s) (sym near) forgetful))),
   );
 }
@@ -429,7 +423,3 @@ sights-are m met x accents searched selections offers offered some none = record
       only = λ y has. let (j, z, at, lt, is) = are.only y has in reached j z at (Q y) is;
       once = are.once;
     }
-
-    by : (b : Bool) → x.forgets ≡ b → (x.forgets ≡ false → ⊥) → x.forgets ≡ true
-    by true e never = e
-    by false e never = absurd (never e)

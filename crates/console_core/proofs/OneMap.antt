@@ -3,12 +3,12 @@ use Rattle.console_core.proofs.Common.{◌≡◌, Bool, true, false, ◌&&◌, L
 use Rattle.console_core.proofs.Common.{if◌then◌else◌, true≢false, All-head, All-tail, All-cons, Lock, Event, Press}
 use Rattle.console_core.proofs.Common.{Release, Reset, Load, MapValue, count_where, count_since, is_odd, is_borne}
 use Rattle.console_core.proofs.Common.{ResolvedEvent, resolve, locked, pending, answer_resolved, Maps, between}
-use Rattle.console_core.proofs.Common.{in_force, loaded, is_second_in_force, resolved, resolved_event, answer_to}
+use Rattle.console_core.proofs.Common.{in_force, is_second_in_force, resolved, resolved_event, answer_to}
 use Rattle.console_core.proofs.Common.{answers_to, HasKey, HasKeys, IsNoLoad, HasNoLoads, WasReset, WasLoaded, turns_at}
 use Rattle.console_core.proofs.Common.{unlocks_at, as_reset, loads_as_resets}
 use Rattle.console_core.specs.Loads.{WithoutLoads, LoadsOfOneMapAreResets}
-use Rattle.console_core.proofs.OneMore.{resolved-start, resolved-more, held-reset, held-load, locked-reset, locked-load}
-use Rattle.console_core.proofs.OneMore.{remembered-reset, remembered-load, pending-reset, pending-load}
+use Rattle.console_core.proofs.OneMore.{one_map, resolved-start, resolved-more, held-reset, held-load, locked-reset}
+use Rattle.console_core.proofs.OneMore.{locked-load, remembered-reset, remembered-load, pending-reset, pending-load}
 use Rattle.console_core.proofs.Borne.{AllLooked, locked-borne, resolved-looked}
 use Rattle.console_core.proofs.FreshPresses.{no_loads-first}
 use Rattle.console_core.proofs.Headline.{Same, same-resolve, same-step, same-answer_resolved, resolve-key}
@@ -60,14 +60,9 @@ pub without_loads : WithoutLoads
 without_loads ms h none =
     (first_in_force ms h none, resolved_first ms h none, (λ l. locked-count ms l h ∙ ap is_odd (all_turns ms l h none)))
 
--- one map twice
-either : (b : Bool) (m : MapValue) → (if b then m else m) ≡ m
-either true m = refl
-either false m = refl
-
 -- between two maps that are the same, that map is in force
 pub one_in_force : (m : MapValue) (h : List Event) → in_force (between m m) h ≡ m
-one_in_force m h = either (is_second_in_force h) m
+one_in_force m h = one_map m (is_second_in_force h)
 
 -- a lock that is on is borne
 unborne : (b x : Bool) → (x ≡ true → b ≡ true) → (b && x) ≡ x
@@ -78,9 +73,7 @@ unborne false false f = refl
 -- an event between two maps that are the same is resolved in that map
 under_one : (m : MapValue) (h : List Event) (e : Event)
     → resolved_event (between m m) h e ≡ resolve m m (resolved (between m m) h) e
-under_one m h e =
-    ap (λ x. resolve x (loaded (between m m) h) (resolved (between m m) h) e) (one_in_force m h)
-    ∙ ap (λ x. resolve m x (resolved (between m m) h) e) (one_in_force m (Load ∷ h))
+under_one m h e = cc (one_in_force m h, one_in_force m (Load ∷ h))
 
 -- one more event, resolved in the one map
 more_under_one : (m : MapValue) (h : List Event) (e : Event)
@@ -129,9 +122,7 @@ same_resets m (e ∷ h) keys =
 answer_under_one : (m : MapValue) (h : List Event) (e : Event)
     → answer_to (between m m) h e
     ≡ answer_resolved m (resolve m m (resolved (between m m) h) e) (resolved (between m m) h)
-answer_under_one m h e =
-    ap (λ x. answer_resolved x (resolved_event (between m m) h e) (resolved (between m m) h)) (one_in_force m h)
-    ∙ ap (λ x. answer_resolved m x (resolved (between m m) h)) (under_one m h e)
+answer_under_one m h e = cc (one_in_force m h, under_one m h e)
 
 -- the answer to an event, where loads count as resets
 answer_as_reset : (m : MapValue) (e : Event) (r s : List ResolvedEvent) → HasKey e → Same m r s
@@ -165,8 +156,6 @@ loads_of_one_map m h keys =
     same_resets m h keys in (
       (λ i. same.held (holding.Mod i)),
       same.locked,
-      ap (λ x. pending x (resolved (between m m) h)) (one_in_force m h) ∙ same.pending
-          ∙ sym (ap (λ x. pending x (resolved (between m m) (loads_as_resets h)))
-          (one_in_force m (loads_as_resets h))),
+      cc (one_in_force m h, same.pending, one_in_force m (loads_as_resets h)),
       (λ later later_keys. answers_as_resets m h later keys later_keys),
     )

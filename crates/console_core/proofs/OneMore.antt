@@ -8,9 +8,19 @@ use Rattle.console_core.proofs.Common.{unless_nop, is_this_action, pending, pend
 use Rattle.console_core.proofs.Common.{keeps_taken, usable_dead_key, run_length, Maps, resolved_event, pressed}
 use Rattle.console_core.proofs.Common.{resolved, is_press, concerns, pending_after_dead_key, next_pending, eqb-true}
 use Rattle.console_core.proofs.Common.{eq-eqb, option_or, PressedCharacter, PressedAction, ReleasedKey, WasReset}
-use Rattle.console_core.proofs.Common.{WasLoaded, option_or-none}
+use Rattle.console_core.proofs.Common.{WasLoaded, option_or-none, is_some, true≢false}
 use Rattle.console_core.specs.Resolved.{taken}
 use Rattle.keymap_core.specs.declared.action.Holding.TheVariants as holding
+
+-- what isn't something is nothing
+pub is-nothing : {X : Type 0} (o : Option X) → is_some o ≡ false → o ≡ None
+is-nothing None e = refl
+is-nothing (Some x) e = absurd (true≢false e)
+
+-- one map is in force, whichever
+pub one_map : (m : MapValue) (b : Bool) → (if b then m else m) ≡ m
+one_map m true = refl
+one_map m false = refl
 
 -- resolved events
 pub resolved-start : (ms : Maps) → resolved ms [] ≡ []
@@ -35,8 +45,7 @@ held-character a k c h = and-true (held a h)
 pub held-action : (a : Holding) (k : ℕ) (b : Action) (h : List ResolvedEvent)
     → held a (PressedAction k b ∷ h) ≡ (same_action (taken_over (remembered k h) b) (holding_action a) || held a h)
 unfolding held
-held-action a k b h = ap (λ x. same_action (taken_over (remembered k h) b) (holding_action a) || x)
-    (and-true (held a h))
+held-action a k b h = cc (and-true (held a h))
 
 pub held-release : (a : Holding) (k : ℕ) (h : List ResolvedEvent)
     → held a (ReleasedKey k ∷ h) ≡ (held a h && not (is_this_action (remembered k h) (holding_action a)))

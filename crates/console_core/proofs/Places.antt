@@ -1,23 +1,20 @@
 -- One place of a table after a write, by a test on the places.
-use Rattle.console_core.proofs.Common.{◌≡◌, ℕ, ◌<◌, Bool, true, false, cond, eqb, List, length, get_or, set, ◌+◌, ◌&&◌}
-use Rattle.console_core.proofs.Common.{not, Some, ap, lit<, refl, sym, subst, arith, eqb-true, eqb-false, ne_eqb}
-use Rattle.console_core.proofs.Common.{Modifier, LeftShift, Lock, Caps, Num, Scroll, Alt, Holding, Action, holding_of}
-use Rattle.console_core.proofs.Common.{modifier_index, lock_index, holding_index, same_action, holding_action}
-use Rattle.console_core.proofs.Common.{modifiers}
+use Rattle.console_core.proofs.Common.{cases_Bool, inl, inr, ◌≡◌, ℕ, ◌<◌, Bool, true, false, cond, eqb, List, length}
+use Rattle.console_core.proofs.Common.{get_or, set, ◌+◌, ◌&&◌, not, Some, ap, lit<, refl, sym, subst, arith, eqb-true}
+use Rattle.console_core.proofs.Common.{eqb-false, ne_eqb, Modifier, LeftShift, Lock, Caps, Num, Scroll, Alt, Holding}
+use Rattle.console_core.proofs.Common.{Action, holding_of, modifier_index, lock_index, holding_index, same_action}
+use Rattle.console_core.proofs.Common.{holding_action, modifiers}
 use Rattle.std.proofs.lemmas.List.{get_or-set_same, get_or-set_other, get_or-replicate}
 use Rattle.keymap_core.specs.declared.action.Holding.TheVariants as holding
 use Rattle.keymap_core.specs.declared.action.Action.TheVariants as act
 
--- an element after a write, by the test of its index
-place_cases : {X : Type 0} (xs : List X) (i j : ℕ) (v d : X) (b : Bool) → eqb i j ≡ b → i < length xs
-    → get_or (set xs i v) j d ≡ cond b v (get_or xs j d)
-place_cases xs i j v d true e h = let s : i ≡ j = eqb-true i j e in rw (← s) (get_or-set_same xs i v d h)
-place_cases xs i j v d false e h = get_or-set_other xs i j v d (λ s. eqb-false i j e (sym s))
-
 -- an element after a write
 pub get_or-set_if : {X : Type 0} (xs : List X) (i j : ℕ) (v d : X) → i < length xs
     → get_or (set xs i v) j d ≡ cond (eqb i j) v (get_or xs j d)
-get_or-set_if xs i j v d h = place_cases xs i j v d (eqb i j) refl h
+get_or-set_if xs i j v d h = elim (cases_Bool (eqb i j)) [
+  | inl e ↦ let s : i ≡ j = eqb-true i j e in rw (e, ← s) (get_or-set_same xs i v d h)
+  | inr e ↦ rw e (get_or-set_other xs i j v d (λ s. eqb-false i j e (sym s)))
+]
 
 -- the modifier at a place of the modifiers
 modifier_at : (i : Modifier) (d : Modifier) → get_or modifiers (modifier_index i) d ≡ i

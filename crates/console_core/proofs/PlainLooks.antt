@@ -1,5 +1,5 @@
 -- Looks in plain maps.
-use Rattle.console_core.proofs.Common.{◌≡◌, ℕ, ◌+◌, ◌<◌, Bool, true, false, ◌&&◌, List, refl, ap, subst, sym, ◌∙◌, inl}
+use Rattle.console_core.proofs.Common.{◌≡◌, ℕ, ◌+◌, ◌<◌, Bool, true, false, ◌&&◌, List, refl, subst, sym, ◌∙◌, inl}
 use Rattle.console_core.proofs.Common.{inr, lit<, or_cases, and_parts, false_from_ne_true, or_right, Lock, Modifier}
 use Rattle.console_core.proofs.Common.{Holding, Act, Event, holding_action, MapValue, cell_at, Bears, IsCellOf}
 use Rattle.console_core.proofs.Common.{BearsThroughout, count_where, is_odd, look_with, ResolvedEvent, held, locked}
@@ -146,8 +146,7 @@ module _ (ms : Maps) (h : List Event) (none : HasNoLoads h) (keys : HasKeys h) w
       → look (in_force ms h) (resolved ms h) k
       ≡ look_with ms.first (λ i. is_on_after ms i h) (λ l. is_locked_after ms l h) k
   unfolding look
-  looks-first k = ap (λ m. look_with m (λ i. is_on_after ms i h) (λ l. is_locked_after ms l h) k)
-      (first_in_force ms h none)
+  looks-first k = cc (first_in_force ms h none)
 
   -- in a plain map a look follows from the keys
   pub look-plain : IsPlain ms.first → (k : ℕ)
@@ -178,5 +177,4 @@ pub shown-plain : (ms : Maps) (h : List Event) → HasNoLoads h → HasKeys h �
 shown-plain ms h none keys plain k is_on is_locked on_is locked_is =
     let e : is_on ≡ (λ i. is_on_after ms i h) = fun_ext on_is in
     let f : is_locked ≡ (λ l. is_locked_after ms l h) = fun_ext locked_is in
-    ap (λ x. look_with ms.first x is_locked k) e ∙ ap (λ y. look_with ms.first (λ i. is_on_after ms i h) y k) f
-    ∙ look-plain ms h none keys plain k
+    cc (e, f, look-plain ms h none keys plain k)

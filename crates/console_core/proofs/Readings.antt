@@ -98,6 +98,5 @@ module _ {A : Type 0} (starts ends : A → List A → Bool) where
 pub held-positions : HeldByPositions
 held-positions ms a h = (
   (λ e. some-since (raises_at ms a) (lowers_at ms a) h (sym (held-events ms a h) ∙ e)),
-  (λ p. held-events ms a h ∙ ap (λ t. holds_since (raises_at ms a) (lowers_at ms a) t) p.3
-      ∙ since-some (raises_at ms a) (lowers_at ms a) p.0 p.1 p.2 p.4 p.5),
+  (λ p. cc (held-events ms a h, p.3, since-some (raises_at ms a) (lowers_at ms a) p.0 p.1 p.2 p.4 p.5)),
 )

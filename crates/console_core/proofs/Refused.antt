@@ -1,27 +1,25 @@
 -- What a list of presses, releases and resets types on its way home, moves and taps can type.
-use Rattle.console_core.proofs.Common.{◌≡◌, ◌⊎◌, ℕ, Bool, true, false, not, List, [], ◌∷◌, ◌++◌, Option, Some, None}
-use Rattle.console_core.proofs.Common.{refl, ap, subst, sym, ◌∙◌, inl, inr, arith, append_assoc, if◌then◌else◌, suc}
-use Rattle.console_core.proofs.Common.{true≢false, eqb-true, eq-eqb, All-head, none-some, own_of, MapValue, accent_at}
-use Rattle.console_core.proofs.Common.{Action, Answer, Meta, Cell, Char, Act, Event, Press, Release, Reset, Load, Move}
-use Rattle.console_core.proofs.Common.{LetGo, Hold, Turn, Symbol, usable, is_pending, char_or_error, answer_action}
-use Rattle.console_core.proofs.Common.{composed_by, ResolvedEvent, look, remembered, taken_over, pending, keeps_taken}
-use Rattle.console_core.proofs.Common.{usable_dead_key, resolve, resolve_press, next_pending, pending_after_dead_key}
-use Rattle.console_core.proofs.Common.{Follows, between, in_force, resolved, is_second_in_force, is_on_after, HasKey}
-use Rattle.console_core.proofs.Common.{IsNoLoad, accent_pending_after, look_after, remembered_after, Under, alone}
-use Rattle.console_core.proofs.Common.{State, start, map_of, map_in, next_map, look_in, IsIdle, IsMove, moved}
-use Rattle.console_core.proofs.Common.{IsPathFrom, state_from, IsForgetful, IsHome, IsAdmitted, NeverForgets, presses}
-use Rattle.console_core.proofs.Common.{ComesHome, IsTapOf, CanTap, CanType, IsAsNew, cell_of, plainly, append-nil}
+use Rattle.console_core.proofs.Common.{◌≡◌, ℕ, Bool, true, false, List, [], ◌∷◌, ◌++◌, Option, Some, None, refl, ap}
+use Rattle.console_core.proofs.Common.{subst, sym, ◌∙◌, inl, inr, arith, append_assoc, if◌then◌else◌, suc, true≢false}
+use Rattle.console_core.proofs.Common.{eqb-true, eq-eqb, All-head, none-some, own_of, MapValue, accent_at, Action}
+use Rattle.console_core.proofs.Common.{Answer, Meta, Cell, Char, Act, Event, Press, Release, Reset, Load, Move, Symbol}
+use Rattle.console_core.proofs.Common.{usable, is_pending, char_or_error, answer_action, composed_by, ResolvedEvent}
+use Rattle.console_core.proofs.Common.{look, remembered, taken_over, pending, resolve_press, Follows, between, in_force}
+use Rattle.console_core.proofs.Common.{resolved, is_second_in_force, is_on_after, HasKey, IsNoLoad}
+use Rattle.console_core.proofs.Common.{accent_pending_after, look_after, remembered_after, Under, alone, State, start}
+use Rattle.console_core.proofs.Common.{look_in, IsIdle, IsMove, moved, IsPathFrom, state_from, IsHome, IsAdmitted}
+use Rattle.console_core.proofs.Common.{NeverForgets, presses, ComesHome, IsTapOf, CanTap, CanType, IsAsNew, cell_of}
+use Rattle.console_core.proofs.Common.{plainly}
 use Rattle.console_core.specs.Typing.{TypedCanBeTyped}
 use Rattle.console_core.proofs.Exploring.{path-append}
 use Rattle.console_core.proofs.Going.{pending-is}
-use Rattle.console_core.proofs.OneMore.{resolved-start, resolved-more, pending-start, pending-character, pending-action}
-use Rattle.console_core.proofs.OneMore.{pending-release, pending-reset}
+use Rattle.console_core.proofs.OneMore.{is-nothing, one_map, resolved-start, resolved-more, pending-start}
+use Rattle.console_core.proofs.OneMore.{pending-character, pending-action, pending-release, pending-reset}
 use Rattle.console_core.proofs.Prefixes.{answers_by_cases}
-use Rattle.console_core.proofs.RoutesHome.{is-nothing}
 use Rattle.console_core.proofs.Scripts.{Reached}
-use Rattle.console_core.proofs.Seeing.{one_map, admitted-before, taken-dead, pends}
-use Rattle.console_core.proofs.Staying.{Stays, KeepsLetGo, KeepsHeld, LeadsOn, follows-look, follows-start}
-use Rattle.console_core.proofs.Staying.{clean-spared, stays-press, stays-release, stays-reset}
+use Rattle.console_core.proofs.Seeing.{admitted-before, admitted-spared, keeps-held, stands-in, taken-dead}
+use Rattle.console_core.proofs.Seeing.{takes-pending}
+use Rattle.console_core.proofs.Staying.{Stays, KeepsHeld, follows-look, stays-on}
 use Rattle.console_core.proofs.Taps.{answer_at, look-answer}
 use Rattle.keymap_core.specs.declared.action.Action.TheVariants as act
 use Rattle.console_core.specs.declared.event.Answer.TheVariants as answer
@@ -37,83 +35,26 @@ leads-more : (u : Under) (s t : State) (move : Move) → LeadsTo u s t → IsMov
 leads-more u s t move (path, made, leads) is =
     (move ∷ path, (subst (λ x. IsMove u x move) (sym leads) is, made), ap (λ x. moved u x move) leads)
 
-lets-go-on : (u : Under) (s : State) → KeepsLetGo (LeadsTo u s)
-lets-go-on u s t k i there holds = leads-more u s t (LetGo k i) there holds
-
-leads-on : (u : Under) (s : State) → LeadsOn u (LeadsTo u s) (LeadsTo u s)
-leads-on u s = record {
-  stay = λ t there. there;
-  hold = λ t k i there is. leads-more u s t (Hold k i) there is;
-  turn = λ t k l there is. leads-more u s t (Turn k l) there is;
-}
-
 -- what moves lead to from a state that a path leads to, a path leads to
 reached-on : (u : Under) (s t : State) → Reached u s → LeadsTo u s t → Reached u t
 reached-on u s t (way, made, there) (path, more, leads) =
     let all = path-append u start way path made (subst (λ x. IsPathFrom u x path) (sym there) more) in
     (path ++ way, all.0, all.1 ∙ ap (λ x. state_from u x path) there ∙ leads)
 
--- no press of a list that is spoken of forgets that a key holds a modifier
-keeps-held : (m : MapValue) (forgets : Bool) (k : ℕ) (h : List Event) → (forgets ≡ false → NeverForgets (alone m))
-    → IsAdmitted m forgets (Press k ∷ h) → (t : State) → Reached (alone m) t → Follows (resolved (between m m) h) t
-    → t.is_second ≡ is_second_in_force h
-    → KeepsHeld (alone m) t k
-keeps-held m false k h never admitted t there f is =
-    λ i forgets. never refl there.0 there.1 (subst (λ x. IsForgetful (alone m) x) (sym there.2) (i, k, forgets))
-keeps-held m true k h never (keys, none, clean) t there f is =
-    (clean-spared (alone m) (suc (presses h)) (λ p x. Unit {0})).keeps h k (clean refl) (omega arith) t tt f is
-
--- an event leads on from the state where the console stands
-onward-event : (m : MapValue) (forgets : Bool) (s : State) (e : Event) (h : List Event)
-    → (forgets ≡ false → NeverForgets (alone m)) → IsAdmitted m forgets (e ∷ h) → (t : State) → Reached (alone m) t
-    → LeadsTo (alone m) s t → Follows (resolved (between m m) h) t → t.is_second ≡ is_second_in_force h
-    → Stays (LeadsTo (alone m) s) (is_second_in_force (e ∷ h))
-    (resolve (map_in (alone m) t) (next_map (alone m) t) (resolved (between m m) h) e ∷ resolved (between m m) h)
-onward-event m forgets s (Press k) h never admitted t there leads f is =
-    let u : Under = alone m in
-    let r : List ResolvedEvent = resolved (between m m) h in
-    subst (λ b. Stays (LeadsTo u s) b (resolve (map_in u t) (next_map u t) r (Press k) ∷ r)) is
-    (stays-press u (LeadsTo u s) (LeadsTo u s) (leads-on u s) r t leads f k (All-head HasKey (Press k) h admitted.0)
-    (keeps-held m forgets k h never admitted t there f is) (look (map_in u t) r k) (sym (follows-look u r t k f)))
-onward-event m forgets s (Release k) h never admitted t there leads f is =
-    let u : Under = alone m in
-    let r : List ResolvedEvent = resolved (between m m) h in
-    subst (λ b. Stays (LeadsTo u s) b (resolve (map_in u t) (next_map u t) r (Release k) ∷ r)) is
-    (stays-release (LeadsTo u s) (lets-go-on u s) r t leads f k (remembered k r) refl)
-onward-event m forgets s Reset h never admitted t there leads f is =
-    let u : Under = alone m in
-    let r : List ResolvedEvent = resolved (between m m) h in
-    subst (λ b. Stays (LeadsTo u s) b (resolve (map_in u t) (next_map u t) r Reset ∷ r)) is
-    (stays-reset (LeadsTo u s) (lets-go-on u s) r t leads f)
-onward-event m forgets s Load h never admitted t there leads f is =
-    absurd (true≢false (All-head IsNoLoad Load h admitted.1))
-
 -- Along the events that follow, the console stands in states that moves lead to from there.
 onward : (m : MapValue) (forgets : Bool) (s : State) (before : List Event) → (forgets ≡ false → NeverForgets (alone m))
     → Reached (alone m) s → Follows (resolved (between m m) before) s → s.is_second ≡ is_second_in_force before
     → (later : List Event) → IsAdmitted m forgets (later ++ before)
     → Stays (LeadsTo (alone m) s) (is_second_in_force (later ++ before)) (resolved (between m m) (later ++ before))
-onward m forgets s before never there f is [] admitted = (s, ([], tt, refl), f, is)
-onward m forgets s before never there f is (e ∷ later) admitted =
+onward m forgets s before never there f is later admitted =
     let u : Under = alone m in
-    let h : List Event = later ++ before in
-    let r : List ResolvedEvent = resolved (between m m) h in
+    let n : ℕ = suc (presses (later ++ before)) in
     let (t, leads, g, second) =
-    onward m forgets s before never there f is later (admitted-before m forgets e h admitted) in
-    rw (resolved-more (between m m) h e)
-    (subst (λ b. Stays (LeadsTo u s) (is_second_in_force (e ∷ h)) (resolve (map_of u b) (map_of u (not b)) r e ∷ r))
-    second
-    (onward-event m forgets s e h never admitted t (reached-on u s t there leads) leads g second))
-
--- so after a whole list in states that paths lead to
-stands-at : (m : MapValue) (forgets : Bool) (h : List Event) → (forgets ≡ false → NeverForgets (alone m))
-    → IsAdmitted m forgets h
-    → Stays (Reached (alone m)) (is_second_in_force h) (resolved (between m m) h)
-stands-at m forgets h never admitted =
-    subst (λ g. Stays (Reached (alone m)) (is_second_in_force g) (resolved (between m m) g)) (append-nil h)
-    (onward m forgets start [] never ([], tt, refl)
-    (subst (λ r. Follows r start) (sym (resolved-start (between m m))) follows-start) refl h
-    (subst (λ g. IsAdmitted m forgets g) (sym (append-nil h)) admitted))
+    stays-on u n (λ p t. LeadsTo u s t) (IsAdmitted m forgets)
+    (record { more = λ p t to. to; moved = λ p q t move e lt to can. leads-more u s t move to can })
+    (admitted-spared m forgets n (LeadsTo u s) never (λ t leads. reached-on u s t there leads)) before s
+    (λ lt. ([], tt, refl)) f is later (admitted, admitted.0, (λ e. admitted.1), omega arith) in
+    (t, leads (omega arith), g, second)
 
 -- ---- on the way home
 
@@ -145,7 +86,7 @@ can-tap m forgets h later before k never admitted new at plain x seen idle off =
     let here : IsAdmitted m forgets (Press k ∷ before) =
     admitted-from m forgets later (Press k ∷ before) (subst (λ g. IsAdmitted m forgets g) at admitted) in
     let (s, there, f, second) =
-    stands-at m forgets before never (admitted-before m forgets (Press k) before here) in
+    stands-in m forgets before never (admitted-before m forgets (Press k) before here) in
     let split : h ≡ (later ++ Press k ∷ []) ++ before = at ∙ sym (append_assoc later (Press k ∷ []) before) in
     let (t, (path, made, leads), g, last) =
     onward m forgets s before never there f second (later ++ Press k ∷ [])
@@ -188,28 +129,6 @@ can-tap-dead m forgets h later before k a i plain never admitted new at seen tak
 
 -- ---- the accent that is pending
 
-usable-dead-key : (m : MapValue) (a : Action) (i : ℕ) → usable_dead_key m a ≡ Some i
-    → (a ≡ act.DeadKey i) × (usable m i ≡ true)
-usable-dead-key m (act.DeadKey j) i e = by (usable m j) refl e
-  where
-    by : (t : Bool) → usable m j ≡ t → (if t then Some j else None) ≡ Some i
-        → (act.DeadKey j ≡ act.DeadKey i) × (usable m i ≡ true)
-    by true can f =
-        let same : j ≡ i = cc in
-        (ap (λ n. act.DeadKey n) same, subst (λ n. usable m n ≡ true) same can)
-    by false can f = absurd (none-some i f)
-usable-dead-key m a i e = absurd (none-some i e)
-
--- what is pending after a press was so before, or its dead key is taken and can be used
-takes-usable : (m : MapValue) (p : Option ℕ) (a : Action) (i : ℕ) → next_pending m p a ≡ Some i
-    → (p ≡ Some i) ⊎ ((a ≡ act.DeadKey i) × (usable m i ≡ true))
-takes-usable m p a i e = by (keeps_taken a) e
-  where
-    by : (t : Bool) → (if t then p else pending_after_dead_key (usable_dead_key m a) p) ≡ Some i
-        → (p ≡ Some i) ⊎ ((a ≡ act.DeadKey i) × (usable m i ≡ true))
-    by true f = inl f
-    by false f = inr (usable-dead-key m a i (pends (usable_dead_key m a) p i f))
-
 -- The dead key of an accent that is pending on the way home can be tapped.
 pending-tapped : (m : MapValue) (forgets : Bool) (h later before : List Event) (i : ℕ)
     → (forgets ≡ false → NeverForgets (alone m)) → IsAdmitted m forgets h → IsAsNew m h → h ≡ later ++ before
@@ -220,14 +139,10 @@ pending-tapped m forgets h later [] i never admitted new at e =
 pending-tapped m forgets h later (Release k ∷ before) i never admitted new at e =
     pending-tapped m forgets h (later ++ Release k ∷ []) before i never admitted new
     (at ∙ sym (append_assoc later (Release k ∷ []) before))
-    (sym (ap (λ r. pending m r) (resolved-more (between m m) before (Release k))
-    ∙ pending-release m k (resolved (between m m) before))
-    ∙ e)
+    (cc (resolved-more (between m m) before (Release k), pending-release m k (resolved (between m m) before), e))
 pending-tapped m forgets h later (Reset ∷ before) i never admitted new at e =
     absurd (none-some i
-    (sym (ap (λ r. pending m r) (resolved-more (between m m) before Reset)
-    ∙ pending-reset m (resolved (between m m) before))
-    ∙ e))
+    (cc (resolved-more (between m m) before Reset, pending-reset m (resolved (between m m) before), e)))
 pending-tapped m forgets h later (Load ∷ before) i never admitted new at e =
     absurd (true≢false (All-head IsNoLoad Load before
     (admitted-from m forgets later (Load ∷ before) (subst (λ g. IsAdmitted m forgets g) at admitted)).1))
@@ -248,7 +163,7 @@ pending-tapped m forgets h later (Press k ∷ before) i never admitted new at e 
     by (Char c) seen f earlier =
         absurd (none-some i (sym (pending-character m k c (resolved (between m m) before)) ∙ f))
     by (Act a) seen f earlier =
-        elim (takes-usable m (pending m (resolved (between m m) before))
+        elim (takes-pending m (pending m (resolved (between m m) before))
         (taken_over (remembered k (resolved (between m m) before)) a) i
         (sym (pending-action m k a (resolved (between m m) before)) ∙ f)) [
           | inl was ↦ earlier was

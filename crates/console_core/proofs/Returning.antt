@@ -1,21 +1,16 @@
 -- From a state that was met without a route home no moves lead there.
-use Rattle.console_core.proofs.Common.{suc, ◌≡◌, ◌≢◌, ℕ, ◌+◌, false, List, [], ◌∷◌, length, slice_get, Some, refl, ap}
-use Rattle.console_core.proofs.Common.{arith, subst, sym, ◌∙◌, inl, inr, MapValue, Under, start, alone, State, IsMove}
-use Rattle.console_core.proofs.Common.{moved, IsPathFrom, state_from, presses_of, IsHome, Routes, HasRoute, IsAstray}
-use Rattle.console_core.proofs.Common.{IsMet, AreSettled, state_of, Entry, Entries, IsMetBy, LeavesScroll, Searched}
-use Rattle.console_core.proofs.Common.{unscrolled, Lock, Caps, Num, Scroll, Alt, Move}
+use Rattle.console_core.proofs.Common.{suc, ◌≡◌, ℕ, ◌+◌, List, [], ◌∷◌, length, slice_get, Some, ap, arith, subst, sym}
+use Rattle.console_core.proofs.Common.{◌∙◌, inl, inr, MapValue, Under, start, alone, State, IsMove, moved, IsPathFrom}
+use Rattle.console_core.proofs.Common.{state_from, presses_of, IsHome, Routes, HasRoute, IsAstray, IsMet, AreSettled}
+use Rattle.console_core.proofs.Common.{state_of, Entry, Entries, IsMetBy, LeavesScroll, Searched, unscrolled, Move}
 use Rattle.console_core.proofs.Searching.{all-done}
-use Rattle.console_core.proofs.Unscrolled.{leaves-scroll_or_turns, moves-unscrolled, same_moved, scroll-moved}
+use Rattle.console_core.proofs.Unscrolled.{locks-near, leaves-scroll_or_turns, moves-unscrolled, same_moved}
+use Rattle.console_core.proofs.Unscrolled.{scroll-moved}
 
 -- home doesn't depend on the scroll lock
 pub near-is_home : (s t : State) → unscrolled t ≡ unscrolled s → IsHome s → IsHome t
-near-is_home s t e (free, off) = ((λ i. ap (λ x. x.holder i) e ∙ free i), (λ l other. by l other))
-  where
-    by : (l : Lock) → l ≢ Scroll → t.is_locked l ≡ false
-    by Caps other = ap (λ x. x.is_locked Caps) e ∙ off Caps other
-    by Num other = ap (λ x. x.is_locked Num) e ∙ off Num other
-    by Scroll other = absurd (other refl)
-    by Alt other = ap (λ x. x.is_locked Alt) e ∙ off Alt other
+near-is_home s t e (free, off) =
+    ((λ i. ap (λ x. x.holder i) e ∙ free i), (λ l other. locks-near t s e l other ∙ off l other))
 
 -- where a move leads from a state that was met was met too
 met-met : (es : Entries) (p : ℕ) (s : State) → IsMetBy es p s → IsMet es s

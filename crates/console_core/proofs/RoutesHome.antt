@@ -1,13 +1,12 @@
 -- Routes home, one move longer, and looked up by the state where they begin.
-use Rattle.console_core.proofs.Common.{◌≡◌, ◌≢◌, ◌⊎◌, ℕ, ◌<◌, Bool, true, false, List, [], ◌∷◌, Option, Some, None}
-use Rattle.console_core.proofs.Common.{refl, ap, Result, Ok, Err, IfOk, not, subst, sym, ◌∙◌, inl, inr, arith, IfSome}
-use Rattle.console_core.proofs.Common.{◌+◌, ◌≤◌, ◌++◌, length, take, get_or, reverse, Contains, is_some, take_more}
-use Rattle.console_core.proofs.Common.{take_all, reverse-append, Contains-push, Contains-push_cases}
-use Rattle.console_core.proofs.Common.{Contains-append_left, true≢false, Held, Step, Under, State, IsMove, moved, Holds}
-use Rattle.console_core.proofs.Common.{with_holder, state_from, IsPathFrom, IsHome, state_of, StepsTo, PressesLead}
-use Rattle.console_core.proofs.Common.{IsStep, LeavesScroll, LeadsHome, Routes, AllLeadHome, HasRoute, NoPressLeads}
-use Rattle.console_core.proofs.Common.{IsAstray, Lock, Caps, Num, Scroll, Alt, Modifier, Move, Hold, Turn, LetGo}
-use Rattle.console_core.proofs.Common.{Exchange}
+use Rattle.console_core.proofs.Common.{◌≡◌, ◌≢◌, ◌⊎◌, ℕ, ◌<◌, Bool, true, false, List, [], ◌∷◌, Option, None, refl, ap}
+use Rattle.console_core.proofs.Common.{Result, Ok, Err, IfOk, subst, sym, ◌∙◌, inl, inr, arith, IfSome, ◌+◌, ◌≤◌}
+use Rattle.console_core.proofs.Common.{◌++◌, length, take, get_or, reverse, Contains, take_more, take_all}
+use Rattle.console_core.proofs.Common.{reverse-append, Contains-push, Contains-push_cases, Contains-append_left}
+use Rattle.console_core.proofs.Common.{true≢false, Held, Step, Under, State, IsMove, moved, Holds, with_holder}
+use Rattle.console_core.proofs.Common.{state_from, IsPathFrom, IsHome, state_of, StepsTo, PressesLead, IsStep}
+use Rattle.console_core.proofs.Common.{LeavesScroll, LeadsHome, Routes, AllLeadHome, HasRoute, NoPressLeads, IsAstray}
+use Rattle.console_core.proofs.Common.{Lock, Caps, Num, Scroll, Alt, Modifier, Move, Hold, Turn, LetGo, Exchange}
 use Rattle.std.proofs.lemmas.List.{length_push}
 use Rattle.console_core.specs.declared.routes.Route.{Route}
 use Rattle.console_core.specs.Inner.Routes.{NoLetGoLeads}
@@ -165,11 +164,6 @@ astray u routes s loads away let_go press = (away, moves)
     moves (LetGo k i) holds leaves has = let_go k i holds has
     moves Exchange (free, is) leaves has = true≢false (sym is ∙ loads)
 
--- what isn't something is nothing
-pub is-none : {X : Type 0} (o : Option X) → ((x : X) → o ≡ Some x → ⊥) → o ≡ None
-is-none None f = refl
-is-none (Some x) f = absurd (f x refl)
-
 -- the same where no route by a press is answered
 pub astray-when : {E : Type 0} (u : Under) (routes : Routes) (s : State) (r : Result (Option Route) E) → (IsHome s → ⊥)
     → NoLetGoLeads routes s
@@ -177,12 +171,3 @@ pub astray-when : {E : Type 0} (u : Under) (routes : Routes) (s : State) (r : Re
     → IfOk r (λ route. route ≡ None → u.has_loads ≡ false → IsAstray u routes s)
 astray-when u routes s (Ok route) away let_go press = λ none loads. astray u routes s loads away let_go (press none)
 astray-when u routes s (Err e) away let_go press = tt
-
-pub not-false : (b : Bool) → not b ≡ false → b ≡ true
-not-false true e = refl
-not-false false e = absurd (true≢false e)
-
--- what is nothing
-pub is-nothing : {X : Type 0} (o : Option X) → is_some o ≡ false → o ≡ None
-is-nothing None e = refl
-is-nothing (Some x) e = absurd (true≢false e)

@@ -117,8 +117,7 @@ split_by ms m i p positions (Some j) true e f s =
       ap (λ t. p ∷ t) s.2,
       (e ∙ ap (λ x. Some x) is, s.3),
       s.4,
-      ap suc s.5 ∙ ap (λ t. if t then suc (run_length i (takings ms m positions)) else 0) (sym (f j refl))
-          ∙ ap (λ x. run_length i (x ∷ takings ms m positions)) (sym e),
+      cc (s.5, f j refl, e),
     )
 split_by ms m i p positions (Some j) false e f s = (
   [],
@@ -126,8 +125,7 @@ split_by ms m i p positions (Some j) false e f s = (
   refl,
   tt,
   (λ g. eqb-false j i (f j refl) (same_Some j i (sym e ∙ g))),
-  ap (λ t. if t then suc (run_length i (takings ms m positions)) else 0) (sym (f j refl))
-      ∙ ap (λ x. run_length i (x ∷ takings ms m positions)) (sym e),
+  cc (f j refl, e),
 )
 
 -- whether the dead key is this one

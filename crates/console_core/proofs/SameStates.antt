@@ -56,11 +56,9 @@ same_at xs ys n d e f at =
 same_tables : (x y : Held) → state_of x ≡ state_of y → AreSame x y
 same_tables x y e = (
   same_at x.holders y.holders 8 None x.holders_len y.holders_len
-      (λ k lt. subst (λ n. get_or x.holders n None ≡ get_or y.holders n None) (modifier_place k lt)
-      (ap (λ s. s.holder (get_or modifiers k LeftShift)) e)),
+      (λ k lt. rw (← (modifier_place k lt)) (ap (λ s. s.holder (get_or modifiers k LeftShift)) e)),
   same_at x.locks y.locks 4 false x.locks_len y.locks_len
-      (λ k lt. subst (λ n. get_or x.locks n false ≡ get_or y.locks n false) (lock_place k lt)
-      (ap (λ s. s.is_locked (get_or locks k Caps)) e)),
+      (λ k lt. rw (← (lock_place k lt)) (ap (λ s. s.is_locked (get_or locks k Caps)) e)),
   ap (λ s. s.is_second) e,
 )
 
@@ -82,11 +80,9 @@ pub same-tells : (x y : Held) → state_of x ≡ state_of y → are_same x y ≡
 same-tells x y e =
     let p : AreSame x y = same_tables x y e in
     let holders : pointwise (option_eq eqb) x.holders y.holders ≡ true =
-    subst (λ z. pointwise (option_eq eqb) x.holders z ≡ true) p.0
-    (pointwise_self (option_eq eqb) (option_self eqb (λ a. eq-eqb a a refl)) x.holders) in
+    rw (← p.0) (pointwise_self (option_eq eqb) (option_self eqb (λ a. eq-eqb a a refl)) x.holders) in
     let locked : pointwise beq x.locks y.locks ≡ true =
     subst (λ z. pointwise beq x.locks z ≡ true) p.1 (pointwise_self beq (λ b. beq-self b) x.locks) in
     let second : beq x.is_second y.is_second ≡ true =
     subst (λ z. beq x.is_second z ≡ true) p.2 (beq-self x.is_second) in
-    ap (λ b. b && (pointwise beq x.locks y.locks && beq x.is_second y.is_second)) holders
-    ∙ ap (λ b. b && beq x.is_second y.is_second) locked ∙ second
+    cc (holders, locked, second)

@@ -3,10 +3,10 @@
 use Rattle.console_core.proofs.Common.{suc, ◌≡◌, ℕ, ◌<◌, ◌+◌, All, arith, Bool, true, false, ◌&&◌, ◌||◌, not, List, []}
 use Rattle.console_core.proofs.Common.{◌∷◌, ◌++◌, Option, Some, None, refl, ap, subst, sym, ◌∙◌, inl, inr}
 use Rattle.console_core.proofs.Common.{if◌then◌else◌, append_assoc, ◌==◌, eqb-true, eq-eqb, cases_Bool, true≢false}
-use Rattle.console_core.proofs.Common.{false_from_ne_true, and_parts, not-true, list_any, All-nil, All-cons, is_some}
-use Rattle.console_core.proofs.Common.{none-some, same_Some, same_action, same_modifier, same_lock, modifiers, MapValue}
-use Rattle.console_core.proofs.Common.{same_action-true, same_action-refl, option_or-none, none_unless, ResolvedEvent}
-use Rattle.console_core.proofs.Common.{held, remembered, taken_over, is_this_action, look, resolve_press}
+use Rattle.console_core.proofs.Common.{false≢true, false_from_ne_true, and_parts, not-true, list_any, All-nil, All-cons}
+use Rattle.console_core.proofs.Common.{none-some, same_Some, same_action, same_modifier, same_lock, modifiers}
+use Rattle.console_core.proofs.Common.{MapValue, same_action-true, same_action-refl, option_or-none, none_unless}
+use Rattle.console_core.proofs.Common.{ResolvedEvent, held, remembered, taken_over, is_this_action, resolve_press}
 use Rattle.console_core.proofs.Common.{PressedCharacter, PressedAction, ReleasedKey, WasLoaded, Maps, resolved}
 use Rattle.console_core.proofs.Common.{is_on_after, is_second_in_force, pressed, HasKey, HasKeys, HasNoLoads, IsQuiet}
 use Rattle.console_core.proofs.Common.{between, is_locked_after, Under, State, start, map_of, look_in, Holds, IsIdle}
@@ -19,7 +19,7 @@ use Rattle.console_core.proofs.Common.{RightControl, LeftAlt, RightAlt, AltShift
 use Rattle.console_core.proofs.Common.{Release, Reset, Load, Move, Hold, Turn, LetGo, Exchange}
 use Rattle.std.proofs.lemmas.Bool.{or_parts}
 use Rattle.console_core.specs.Moves.{free_with}
-use Rattle.console_core.proofs.Bearing.{remembered-pressed}
+use Rattle.console_core.proofs.Bearing.{pressed_if, remembered-pressed}
 use Rattle.console_core.proofs.FreshPresses.{no_loads-first}
 use Rattle.console_core.proofs.OneMore.{resolved-start, resolved-more, held-start, held-character, held-action}
 use Rattle.console_core.proofs.OneMore.{held-reset, locked-reset, remembered-reset, pressed-reset, held-release}
@@ -27,7 +27,7 @@ use Rattle.console_core.proofs.OneMore.{held-load, remembered-start, remembered-
 use Rattle.console_core.proofs.OneMore.{remembered-release, remembered-load, pressed-start, pressed-press}
 use Rattle.console_core.proofs.OneMore.{pressed-release, pressed-load}
 use Rattle.console_core.proofs.Staying.{follows-look, follows-start, follows-hold, follows-turn, follows-let_go}
-use Rattle.console_core.proofs.Staying.{follows-release, follows-load, takes, same_mods, some_mods, some_none}
+use Rattle.console_core.proofs.Staying.{follows-release, follows-load, takes, same_mods, some_mods}
 use Rattle.console_core.proofs.Staying.{IsKeptBelow, IsSafeBelow, NeverIn, never-sticks}
 use Rattle.keymap_core.specs.declared.action.Action.TheVariants as act
 use Rattle.keymap_core.specs.declared.action.Holding.TheVariants as holding
@@ -45,30 +45,29 @@ other-remembered r k j b e = rw (remembered-action j k b r, e) (option_or-none (
 pub hold-self : (s : State) (i : Modifier) (k : ℕ) → Holds (with_holder s i (Some k)) k i
 hold-self s i k = ap (λ t. if t then Some k else s.holder i) (same_action-refl (act.Mod i))
 
--- the step of the next lemma, by whether the modifiers are the same
-hold_other : (s : State) (i j : Modifier) (k n : ℕ) (t : Bool) → same_modifier i j ≡ t → s.holder i ≡ None → Holds s n j
-    → (if t then Some k else s.holder j) ≡ Some n
-hold_other s i j k n true t free h =
-    absurd (some_none n (s.holder j) h (ap (λ x. s.holder x) (sym (same_mods i j t)) ∙ free))
-hold_other s i j k n false t free h = h
-
 -- a key that takes a modifier leaves each other holder as it was
 hold-other : (s : State) (i : Modifier) (k n : ℕ) → s.holder i ≡ None → HoldsSome s n
     → HoldsSome (with_holder s i (Some k)) n
-hold-other s i k n free p = (p.0, hold_other s i p.0 k n (same_modifier i p.0) refl free p.1)
-
--- the step of the next lemma, by whether the modifiers are the same
-let_go_other : (s : State) (i j : Modifier) (k n : ℕ) (t : Bool) → same_modifier i j ≡ t → Holds s k i → k == n ≡ false
-    → Holds s n j → (if t then None else s.holder j) ≡ Some n
-let_go_other s i j k n true t holds ne h =
-    let e : k ≡ n = same_Some k n (sym holds ∙ ap (λ x. s.holder x) (same_mods i j t) ∙ h) in
-    absurd (true≢false (sym (eq-eqb k n e) ∙ ne))
-let_go_other s i j k n false t holds ne h = h
+hold-other s i k n free p = (
+  p.0,
+  elim (cases_Bool (same_modifier i p.0)) [
+    | inl t ↦ absurd (none-some n (sym free ∙ ap (λ x. s.holder x) (same_mods i p.0 t) ∙ p.1))
+    | inr t ↦ rw t p.1
+  ],
+)
 
 -- a key that lets go leaves each other holder as it was
 let_go-other : (s : State) (i : Modifier) (k n : ℕ) → Holds s k i → k == n ≡ false → HoldsSome s n
     → HoldsSome (with_holder s i None) n
-let_go-other s i k n holds ne p = (p.0, let_go_other s i p.0 k n (same_modifier i p.0) refl holds ne p.1)
+let_go-other s i k n holds ne p = (
+  p.0,
+  elim (cases_Bool (same_modifier i p.0)) [
+    | inl t ↦
+        let e : k ≡ n = same_Some k n (sym holds ∙ ap (λ x. s.holder x) (same_mods i p.0 t) ∙ p.1) in
+        absurd (true≢false (sym (eq-eqb k n e) ∙ ne))
+    | inr t ↦ rw t p.1
+  ],
+)
 
 -- the moves
 exact-hold : (r : List ResolvedEvent) (s : State) (k : ℕ) (i : Modifier) → Exact r s → IsIdle s k → s.holder i ≡ None
@@ -82,9 +81,7 @@ exact-hold r s k i x idle free =
         | inl t ↦ (i, subst (λ y. Holds (with_holder s i (Some k)) y i) (eqb-true k n t) (hold-self s i k))
         | inr t ↦ hold-other s i k n free (x.only n a (sym (other-remembered r k n (act.Mod i) t) ∙ q))
       ];
-      up =
-          λ l. held-action (holding.Lock l) k (act.Mod i) r
-          ∙ ap (λ a. same_action a (act.Lock l) || held (holding.Lock l) r) e ∙ x.up l;
+      up = λ l. rw (held-action (holding.Lock l) k (act.Mod i) r, e) (x.up l);
     }
 
 -- a mark that a press sets and the release clears is clear
@@ -97,12 +94,8 @@ pub tap-only : (r now : List ResolvedEvent) (s : State) (k : ℕ) → Exact r s
     → ((n : ℕ) → k == n ≡ false → remembered n now ≡ remembered n r) → (n : ℕ) (a : Action)
     → remembered n (ReleasedKey k ∷ now) ≡ Some a → HoldsSome s n
 tap-only r now s k x same n a q = elim (cases_Bool (k == n)) [
-  | inl t ↦
-      absurd (none-some a
-      (sym (remembered-release n k now ∙ ap (λ b. if b then None else remembered n now) t) ∙ q))
-  | inr t ↦
-      x.only n a
-      (sym (remembered-release n k now ∙ ap (λ b. if b then None else remembered n now) t ∙ same n t) ∙ q)
+  | inl t ↦ absurd (none-some a (rw (remembered-release n k now, t) at q))
+  | inr t ↦ x.only n a (rw (remembered-release n k now, t, same n t) at q)
 ]
 
 -- a press and release of an idle key that turns a lock
@@ -118,13 +111,8 @@ exact-turn r s k l x idle =
           follows-release (PressedAction k (act.Lock l) ∷ r) (with_lock_turned s l) k
           (follows-turn r s k (act.Lock l) l x.follows e (x.up l)) (λ i. ap (λ o. is_this_action o (act.Mod i)) now);
       only = tap-only r (PressedAction k (act.Lock l) ∷ r) s k x (λ n t. other-remembered r k n (act.Lock l) t);
-      up = λ j. held-release (holding.Lock j) k (PressedAction k (act.Lock l) ∷ r)
-          ∙ ap (λ o. held (holding.Lock j) (PressedAction k (act.Lock l) ∷ r)
-          && not (is_this_action o (act.Lock j))) now
-          ∙ ap (λ b. b && not (same_lock l j))
-          (held-action (holding.Lock j) k (act.Lock l) r
-          ∙ ap (λ a. same_action a (act.Lock j) || held (holding.Lock j) r) e)
-          ∙ up_again (same_lock l j) (held (holding.Lock j) r) (x.up j);
+      up = λ j. rw (held-release (holding.Lock j) k (PressedAction k (act.Lock l) ∷ r), now)
+          (rw (held-action (holding.Lock j) k (act.Lock l) r, e) (up_again (same_lock l j) _ (x.up j)));
     }
 
 -- a release of a holder
@@ -133,13 +121,10 @@ exact-let_go : (r : List ResolvedEvent) (s : State) (k : ℕ) (i : Modifier) →
 exact-let_go r s k i x holds = record {
   follows = follows-let_go r s k i x.follows (x.follows.holds i k holds);
   only = λ n a q. elim (cases_Bool (k == n)) [
-    | inl t ↦ absurd (none-some a (sym (remembered-release n k r ∙ ap (λ b. if b then None else remembered n r) t) ∙ q))
-    | inr t ↦
-        let_go-other s i k n holds t
-        (x.only n a (sym (remembered-release n k r ∙ ap (λ b. if b then None else remembered n r) t) ∙ q))
+    | inl t ↦ absurd (none-some a (rw (remembered-release n k r, t) at q))
+    | inr t ↦ let_go-other s i k n holds t (x.only n a (rw (remembered-release n k r, t) at q))
   ];
-  up = λ l. held-release (holding.Lock l) k r
-      ∙ ap (λ b. b && not (is_this_action (remembered k r) (act.Lock l))) (x.up l);
+  up = λ l. rw (held-release (holding.Lock l) k r, x.up l) refl;
 }
 
 -- a load, where nothing is held
@@ -156,32 +141,13 @@ pub pressed-look : (u : Under) (h : List Event) (s : State) (k : ℕ) (x : Cell)
     → s.is_second ≡ is_second_in_force h → look_in u s k ≡ x
     → resolved u.maps (Press k ∷ h) ≡ resolve_press k x ∷ resolved u.maps h
 pressed-look u h s k x f second seen =
-    resolved-more u.maps h (Press k)
-    ∙ ap (λ y. resolve_press k y ∷ resolved u.maps h)
-    (ap (λ b. look (map_of u b) (resolved u.maps h) k) (sym second) ∙ follows-look u (resolved u.maps h) s k f ∙ seen)
-
--- a holder is a key after one more hold
-key_hold : (s : State) (i j : Modifier) (k n : ℕ) (t : Bool) → k < 128 → (Holds s n j → n < 128)
-    → (if t then Some k else s.holder j) ≡ Some n → n < 128
-key_hold s i j k n true lt f h = subst (λ x. x < 128) (same_Some k n h) lt
-key_hold s i j k n false lt f h = f h
-
--- a holder is a key after one lets go
-key_let_go : (s : State) (j : Modifier) (n : ℕ) (t : Bool) → (Holds s n j → n < 128)
-    → (if t then None else s.holder j) ≡ Some n → n < 128
-key_let_go s j n true f h = absurd (some_none n None h refl)
-key_let_go s j n false f h = f h
+    cc (resolved-more u.maps h (Press k), second, follows-look u (resolved u.maps h) s k f, seen)
 
 -- what is pressed after a press and release of a key was before
 pub tapped-pressed : (h : List Event) (k n : ℕ) → pressed n (Release k ∷ Press k ∷ h) ≡ true → pressed n h ≡ true
 tapped-pressed h k n p = elim (cases_Bool (k == n)) [
-  | inl t ↦
-      absurd (true≢false (sym p ∙ pressed-release n k (Press k ∷ h)
-      ∙ ap (λ b. if b then false else pressed n (Press k ∷ h)) t))
-  | inr t ↦
-      sym (pressed-release n k (Press k ∷ h) ∙ ap (λ b. if b then false else pressed n (Press k ∷ h)) t
-      ∙ pressed-press n k h ∙ ap (λ b. if b then true else pressed n h) t)
-      ∙ p
+  | inl t ↦ absurd (false≢true (rw (pressed-release n k (Press k ∷ h), t) at p))
+  | inr t ↦ rw (pressed-release n k (Press k ∷ h), t, pressed-press n k h, t) at p
 ]
 
 -- the events of a move lead from a state to the next
@@ -192,12 +158,13 @@ stands-move u h s (Hold k i) (lt, idle, seen, free) x = record {
       rw (pressed-look u h s k (Act (act.Mod i)) x.exact.follows x.second seen)
       (exact-hold (resolved u.maps h) s k i x.exact idle free);
   second = x.second;
-  key = λ j n p. key_hold s i j k n (same_modifier i j) lt (x.key j n) p;
+  key = λ j n p. elim (cases_Bool (same_modifier i j)) [
+    | inl t ↦ subst (λ z. z < 128) (same_Some k n (rw t at p)) lt
+    | inr t ↦ x.key j n (rw t at p)
+  ];
   pressed = λ n p. elim (cases_Bool (k == n)) [
     | inl t ↦ (i, subst (λ y. Holds (with_holder s i (Some k)) y i) (eqb-true k n t) (hold-self s i k))
-    | inr t ↦
-        hold-other s i k n free
-        (x.pressed n (sym (pressed-press n k h ∙ ap (λ b. if b then true else pressed n h) t) ∙ p))
+    | inr t ↦ hold-other s i k n free (x.pressed n (rw (pressed-press n k h, t) at p))
   ];
   keys = All-cons HasKey (Press k) h lt x.keys;
 }
@@ -216,20 +183,20 @@ stands-move u h s (Turn k l) (lt, idle, seen) x = record {
 stands-move u h s (LetGo k i) holds x = record {
   exact = rw (resolved-more u.maps h (Release k)) (exact-let_go (resolved u.maps h) s k i x.exact holds);
   second = x.second;
-  key = λ j n p. key_let_go s j n (same_modifier i j) (x.key j n) p;
+  key = λ j n p. elim (cases_Bool (same_modifier i j)) [
+    | inl t ↦ absurd (none-some n (rw t at p))
+    | inr t ↦ x.key j n (rw t at p)
+  ];
   pressed = λ n p. elim (cases_Bool (k == n)) [
-    | inl t ↦ absurd (true≢false (sym p ∙ pressed-release n k h ∙ ap (λ b. if b then false else pressed n h) t))
-    | inr t ↦
-        let_go-other s i k n holds t
-        (x.pressed n (sym (pressed-release n k h ∙ ap (λ b. if b then false else pressed n h) t) ∙ p))
+    | inl t ↦ absurd (false≢true (rw (pressed-release n k h, t) at p))
+    | inr t ↦ let_go-other s i k n holds t (x.pressed n (rw (pressed-release n k h, t) at p))
   ];
   keys = All-cons HasKey (Release k) h (x.key i k holds) x.keys;
 }
 stands-move u h s Exchange (free, loads) x = record {
   exact =
       rw (resolved-more u.maps h Load)
-      (subst (λ b. Exact (WasLoaded (map_of u (not b)) ∷ resolved u.maps h) (exchanged (map_of u (not s.is_second)) s))
-      x.second (exact-exchange (map_of u (not s.is_second)) (resolved u.maps h) s x.exact free));
+      (rw (← x.second) (exact-exchange (map_of u (not s.is_second)) (resolved u.maps h) s x.exact free));
   second = ap not x.second;
   key = x.key;
   pressed = λ n p. absurd (true≢false (sym p ∙ pressed-load n h));
@@ -245,7 +212,7 @@ stands-start u = record {
     up = λ l. held-start (holding.Lock l);
   });
   second = refl;
-  key = λ i k h. absurd (some_none k None h refl);
+  key = λ i k h. absurd (none-some k h);
   pressed = λ k p. absurd (true≢false (sym p ∙ pressed-start k));
   keys = All-nil HasKey;
 }
@@ -260,8 +227,7 @@ pub stands-from : (u : Under) (h : List Event) (s : State) (path : List Move) �
     → Stands u (events_along path ++ h) (state_from u s path)
 stands-from u h s [] x is = x
 stands-from u h s (move ∷ path) x is =
-    subst (λ g. Stands u g (state_from u s (move ∷ path)))
-    (sym (append_assoc (events_of_move move) (events_along path) h))
+    rw (append_assoc (events_of_move move) (events_along path) h)
     (stands-move u (events_along path ++ h) (state_from u s path) move is.0 (stands-from u h s path x is.1))
 
 -- After a reset a console of one map stands in the free state with the locks that are on.
@@ -272,13 +238,13 @@ stands-reset m h keys none = record {
     follows = record {
       on = λ i. held-reset (holding.Mod i) (resolved (between m m) h);
       locked = λ l. locked-reset l (resolved (between m m) h);
-      holds = λ i k e. absurd (some_none k None e refl);
+      holds = λ i k e. absurd (none-some k e);
     };
     only = λ k a e. absurd (none-some a (sym (remembered-reset k (resolved (between m m) h)) ∙ e));
     up = λ l. held-reset (holding.Lock l) (resolved (between m m) h);
   });
   second = sym (no_loads-first h none);
-  key = λ i k e. absurd (some_none k None e refl);
+  key = λ i k e. absurd (none-some k e);
   pressed = λ k p. absurd (true≢false (sym p ∙ pressed-reset k h));
   keys = All-cons HasKey Reset h tt keys;
 }
@@ -301,20 +267,12 @@ left-character u h s i k x (holds, (c, seen)) =
     let now : resolved u.maps (Press k ∷ h) ≡ PressedCharacter k c ∷ resolved u.maps h =
     pressed-look u h s k (Char c) x.exact.follows x.second seen in
     record {
-      on =
-          ap (λ r. held (holding.Mod i) r) now ∙ held-character (holding.Mod i) k c (resolved u.maps h)
-          ∙ x.exact.follows.on i ∙ ap (λ o. is_some o) holds;
+      on = cc (now, held-character (holding.Mod i) k c (resolved u.maps h), x.exact.follows.on i, holds);
       nobody = λ n e. elim (cases_Bool (k == n)) [
-        | inl t ↦
-            none-some (act.Mod i)
-            (sym (ap (λ r. remembered n r) now ∙ remembered-character n k c (resolved u.maps h)
-            ∙ ap (λ b. if b then None else remembered n (resolved u.maps h)) t)
-            ∙ e)
+        | inl t ↦ none-some (act.Mod i) (rw (now, remembered-character n k c (resolved u.maps h), t) at e)
         | inr t ↦
             let q : remembered n (resolved u.maps h) ≡ Some (act.Mod i) =
-            sym (ap (λ r. remembered n r) now ∙ remembered-character n k c (resolved u.maps h)
-            ∙ ap (λ b. if b then None else remembered n (resolved u.maps h)) t)
-            ∙ e in
+            rw (now, remembered-character n k c (resolved u.maps h), t) at e in
             let p : HoldsSome s n = x.exact.only n (act.Mod i) q in
             let same : p.0 ≡ i = some_mods p.0 i (sym (x.exact.follows.holds p.0 n p.1) ∙ q) in
             let key : k ≡ n = same_Some k n (sym holds ∙ ap (λ y. s.holder y) (sym same) ∙ p.1) in
@@ -333,21 +291,11 @@ left-release : (ms : Maps) (h : List Event) (i : Modifier) (k : ℕ) → k < 128
 left-release ms h i k lt x =
     let now : resolved ms (Release k ∷ h) ≡ ReleasedKey k ∷ resolved ms h = resolved-more ms h (Release k) in
     record {
-      on = ap (λ r. held (holding.Mod i) r) now ∙ held-release (holding.Mod i) k (resolved ms h)
-          ∙ kept_on (held (holding.Mod i) (resolved ms h))
-          (is_this_action (remembered k (resolved ms h)) (act.Mod i)) x.on
-          (is_not (remembered k (resolved ms h)) (act.Mod i) (x.nobody k));
+      on = rw (now, held-release (holding.Mod i) k (resolved ms h))
+          (kept_on _ _ x.on (is_not (remembered k (resolved ms h)) (act.Mod i) (x.nobody k)));
       nobody = λ n e. elim (cases_Bool (k == n)) [
-        | inl t ↦
-            none-some (act.Mod i)
-            (sym (ap (λ r. remembered n r) now ∙ remembered-release n k (resolved ms h)
-            ∙ ap (λ b. if b then None else remembered n (resolved ms h)) t)
-            ∙ e)
-        | inr t ↦
-            x.nobody n
-            (sym (ap (λ r. remembered n r) now ∙ remembered-release n k (resolved ms h)
-            ∙ ap (λ b. if b then None else remembered n (resolved ms h)) t)
-            ∙ e)
+        | inl t ↦ none-some (act.Mod i) (rw (now, remembered-release n k (resolved ms h), t) at e)
+        | inr t ↦ x.nobody n (rw (now, remembered-release n k (resolved ms h), t) at e)
       ];
       keys = All-cons HasKey (Release k) h lt x.keys;
     }
@@ -379,14 +327,11 @@ HoldsNone s k (i ∷ more) = (Holds s k i → ⊥) × HoldsNone s k more
 -- a key that is pressed after the release of a holder isn't that holder
 released_more : (k : ℕ) (h : List Event) (o : Option ℕ) → pressed k (release_of o ++ h) ≡ true
     → (o ≡ Some k → ⊥) × (pressed k h ≡ true)
-released_more k h None p = ((λ e. some_none k None e refl), p)
+released_more k h None p = ((λ e. none-some k e), p)
 released_more k h (Some j) p =
     elim (cases_Bool (j == k)) [
-      | inl t ↦ absurd (true≢false (sym p ∙ pressed-release k j h ∙ ap (λ b. if b then false else pressed k h) t))
-      | inr t ↦ (
-        (λ e. true≢false (sym (eq-eqb j k (same_Some j k e)) ∙ t)),
-        sym (pressed-release k j h ∙ ap (λ b. if b then false else pressed k h) t) ∙ p,
-      )
+      | inl t ↦ absurd (false≢true (rw (pressed-release k j h, t) at p))
+      | inr t ↦ ((λ e. true≢false (sym (eq-eqb j k (same_Some j k e)) ∙ t)), rw (pressed-release k j h, t) at p)
     ]
 
 -- a key that is pressed after the releases of all holders is none of them
@@ -419,8 +364,7 @@ quiet-after u h s i k x holds n lt =
     elim (cases_Bool (k == n)) [
       | inl t ↦ holds-none s n i q.0 (subst (λ y. Holds s y i) (eqb-true k n t) holds)
       | inr t ↦
-          let w : HoldsSome s n =
-          x.pressed n (sym (pressed-press n k h ∙ ap (λ b. if b then true else pressed n h) t) ∙ q.1) in
+          let w : HoldsSome s n = x.pressed n (rw (pressed-press n k h, t) at q.1) in
           holds-none s n w.0 q.0 w.1
     ])
 
@@ -496,11 +440,8 @@ one-held u h s i j k x a b =
 releases-along : (u : Under) (path : List Move) → IsPath u path → ReleasesPressedKeys (events_along path)
 releases-along u [] is = tt
 releases-along u (Hold k i ∷ path) is = (tt, releases-along u path is.1)
-releases-along u (Turn k l ∷ path) is = (
-  pressed-press k k (events_along path)
-      ∙ ap (λ b. if b then true else pressed k (events_along path)) (eq-eqb k k refl),
-  (tt, releases-along u path is.1),
-)
+releases-along u (Turn k l ∷ path) is =
+    (rw (pressed-press k k (events_along path), eq-eqb k k refl) refl, (tt, releases-along u path is.1))
 releases-along u (LetGo k i ∷ path) is = (
   holder-pressed u (events_along path) (state_after u path) i k (stands u path is.1) is.0,
   releases-along u path is.1,
@@ -520,8 +461,7 @@ pressed-still s k (i ∷ more) h (not_it, none) p =
     go None f q = q
     go (Some j) f q =
         let other : (j == k) ≡ false = false_from_ne_true (j == k) (λ e. f (ap (λ n. Some n) (eqb-true j k e))) in
-        pressed-release k j (releases s more ++ h)
-        ∙ ap (λ b. if b then false else pressed k (releases s more ++ h)) other ∙ q
+        rw (pressed-release k j (releases s more ++ h), other) q
 
 -- no modifier stands twice in a list
 abbrev pub all_differ : List Modifier → Bool
@@ -567,16 +507,10 @@ pub releases-script : (u : Under) (path : List Move) → IsPath u path → (k : 
     → ReleasesPressedKeys (script_of_path u path k)
 releases-script u path is k =
     releases-holders u (events_along path) (state_after u path) (stands u path is) (Press k ∷ events_along path)
-    (λ i n holds. after (k == n) n
-    (holder-pressed u (events_along path) (state_after u path) i n (stands u path is) holds)
-    (pressed-press n k (events_along path)))
+    (λ i n holds. pressed-press n k (events_along path)
+    ∙ pressed_if (k == n) (pressed n (events_along path))
+    (holder-pressed u (events_along path) (state_after u path) i n (stands u path is) holds))
     (tt, releases-along u path is) modifiers refl
-  where
-    after : (b : Bool) (n : ℕ) → pressed n (events_along path) ≡ true
-        → pressed n (Press k ∷ events_along path) ≡ (if b then true else pressed n (events_along path))
-        → pressed n (Press k ∷ events_along path) ≡ true
-    after true n p e = e
-    after false n p e = e ∙ p
 
 -- the script to a state where a holder looks up a character leaves its modifier on
 left-after : (u : Under) (path : List Move) → IsPath u path → (i : Modifier) (k : ℕ)
@@ -611,9 +545,8 @@ reached-more u s move there is =
 -- moves keep the states that are reached
 pub reached-kept : (u : Under) (n : ℕ) → IsKeptBelow u n (λ p s. Reached u s)
 reached-kept u n = record {
+  led = record { more = λ p s there. there; moved = λ p q s move e lt there is. reached-more u s move there is };
   start = ([], tt, refl);
-  more = λ p s there. there;
-  moved = λ p q s move e lt there is. reached-more u s move there is;
 }
 
 -- where no path leads to a holder that looks up a character, they are safe

@@ -1,9 +1,9 @@
 -- The search level by level: it meets what a release, a load or a press leads to, and closes and presses each place.
-use Rattle.console_core.proofs.Common.{suc, ◌≡◌, ℕ, ◌+◌, ◌<◌, ◌≤◌, Bool, true, false, cond, ◌⊎◌, inl, inr, [], ◌∷◌}
-use Rattle.console_core.proofs.Common.{◌++◌, IfSome, length, slice_get, Option, Some, None, refl, ap, subst, sym, ◌∙◌}
-use Rattle.console_core.proofs.Common.{arith, cases_lt, true≢false, slice_get_within, same_Some, All-nil, All-cons}
-use Rattle.console_core.proofs.Common.{Modifier, Lock, Scroll, Cell, Act, Move, Hold, Turn, LetGo, Exchange, Held, Step}
-use Rattle.console_core.proofs.Common.{Origin, is_some, lookup, insert_entry, Under, State, look_in, with_holder}
+use Rattle.console_core.proofs.Common.{cases_Bool, suc, ◌≡◌, ℕ, ◌+◌, ◌<◌, ◌≤◌, Bool, true, false, ◌⊎◌, inl, inr, []}
+use Rattle.console_core.proofs.Common.{◌∷◌, ◌++◌, IfSome, length, slice_get, Option, Some, None, refl, ap, subst, sym}
+use Rattle.console_core.proofs.Common.{◌∙◌, arith, cases_lt, true≢false, slice_get_within, same_Some, All-nil, All-cons}
+use Rattle.console_core.proofs.Common.{Modifier, Lock, Scroll, Act, Move, Hold, Turn, LetGo, Exchange, Held, Step}
+use Rattle.console_core.proofs.Common.{is_some, lookup, insert_entry, Under, State, look_in, with_holder}
 use Rattle.console_core.proofs.Common.{with_lock_turned, Holds, IsMove, moved, presses_of, state_of, Entry, Entries}
 use Rattle.console_core.proofs.Common.{Grows, IsStep, StepsTo, PressesLead, IsMetBy, AreMet, AreWithin, IsFrom}
 use Rattle.console_core.proofs.Common.{AreAdded, IsReached, AreDone, Searched, AreInOrder}
@@ -145,27 +145,18 @@ below_level es level p order j x at lt =
     ]
 
 -- what a press of a key that looks up a modifier, or a lock, leads to
-look_mod : (i j : Modifier) (x : Cell) → x ≡ Act (act.Mod i) → x ≡ Act (act.Mod j) → i ≡ j
-look_mod i j x e f = let g : Act (act.Mod i) ≡ Act (act.Mod j) = sym e ∙ f in cc
-
-look_lock : (l n : Lock) (x : Cell) → x ≡ Act (act.Lock l) → x ≡ Act (act.Lock n) → l ≡ n
-look_lock l n x e f = let g : Act (act.Lock l) ≡ Act (act.Lock n) = sym e ∙ f in cc
-
-look_either : (i : Modifier) (l : Lock) (x : Cell) → x ≡ Act (act.Mod i) → x ≡ Act (act.Lock l) → ⊥
-look_either i l x e f = let g : Act (act.Mod i) ≡ Act (act.Lock l) = sym e ∙ f in cc
-
 pub pressed-mod : (u : Under) (s : State) (k : ℕ) (i : Modifier) (step : Option Step)
     → look_in u s k ≡ Act (act.Mod i) → StepsTo step (with_holder s i (Some k)) → PressesLead u s k (StepsTo step)
 pressed-mod u s k i step seen to idle = (
-  (λ j f free. subst (λ n. StepsTo step (with_holder s n (Some k))) (look_mod i j (look_in u s k) seen f) to),
-  (λ l other f. absurd (look_either i l (look_in u s k) seen f)),
+  (λ j f free. let e : i ≡ j = cc in subst (λ n. StepsTo step (with_holder s n (Some k))) e to),
+  (λ l other f. absurd (cc (seen, f))),
 )
 
 pub pressed-lock : (u : Under) (s : State) (k : ℕ) (l : Lock) (step : Option Step)
     → look_in u s k ≡ Act (act.Lock l) → StepsTo step (with_lock_turned s l) → PressesLead u s k (StepsTo step)
 pressed-lock u s k l step seen to idle = (
-  (λ j f free. absurd (look_either j l (look_in u s k) f seen)),
-  (λ n other f. subst (λ q. StepsTo step (with_lock_turned s q)) (look_lock l n (look_in u s k) seen f) to),
+  (λ j f free. absurd (cc (seen, f))),
+  (λ n other f. let e : l ≡ n = cc in subst (λ q. StepsTo step (with_lock_turned s q)) e to),
 )
 
 -- where a step leads is as what it leads to
@@ -237,22 +228,16 @@ IsFound es k = (j : ℕ) × (x : Entry) × (slice_get es j ≡ Some x) × (state
 
 found : (es : Entries) (k : Held) → is_some (lookup (are_same k) es) ≡ true → IsFound es k
 found [] k e = absurd (true≢false (sym e))
-found (y ∷ es) k e = by (are_same k y.0) refl e (λ f. found es k f)
-  where
-    by : (b : Bool) → are_same k y.0 ≡ b → is_some (cond b (Some y.1) (lookup (are_same k) es)) ≡ true
-        → (is_some (lookup (are_same k) es) ≡ true → IsFound es k) → IsFound (y ∷ es) k
-    by true q f later = (0, y, refl, tells-same k y.0 q)
-    by false q f later = let r : IsFound es k = later f in (suc r.0, r.1, r.2, r.3)
+found (y ∷ es) k e = elim (cases_Bool (are_same k y.0)) [
+  | inl t ↦ (0, y, refl, tells-same k y.0 t)
+  | inr t ↦ let r : IsFound es k = found es k (rw t at e) in (suc r.0, r.1, r.2, r.3)
+]
 
 pub meet-old : (es : Entries) (p : ℕ) (k : Held) → is_some (lookup (are_same k) es) ≡ true → AreWithin es p
     → IsMetBy es p (state_of k)
 meet-old es p k e within =
     let r : IsFound es k = found es k e in
     (r.0, r.1, r.2, sym r.3, within r.0 r.1 r.2)
-
-pub not_some : (o : Option Origin) → is_some o ≡ false → o ≡ None
-not_some None e = refl
-not_some (Some x) e = absurd (true≢false e)
 
 -- one place of a level is closed
 pub close-step : {o : State} (u : Under) (es now : Entries) (level p n : ℕ) (y : Entry) → Searched u o es level n
@@ -308,8 +293,7 @@ searched-start u h off es e =
         start = (0, x, first, refl, omega arith);
         reached = λ j y at.
             subst (λ z. IsReached u (state_of h) es j z) (sym (only j y at).1)
-            (subst (λ n. IsReached u (state_of h) es n x) (sym (only j y at).0)
-            ([], (x, first, refl), tt, refl, refl, off));
+            (rw (only j y at).0 ([], (x, first, refl), tt, refl, refl, off));
         pressed = λ j y at lt. absurd (omega (arith, lt));
         closed = λ j y at lt. absurd (omega (arith, lt));
       },

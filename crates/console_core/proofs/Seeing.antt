@@ -1,55 +1,30 @@
 -- What a press after a list sees can be seen in a state that a path leads to, and an accent is pending only behind
 -- where it is offered.
-use Rattle.console_core.proofs.Common.{suc, ◌≡◌, ℕ, ◌<◌, Bool, true, false, List, [], ◌∷◌, Option, Some, None, refl, ap}
-use Rattle.console_core.proofs.Common.{subst, sym, ◌∙◌, ◌⊎◌, inl, inr, arith, if◌then◌else◌, true≢false, All-head}
-use Rattle.console_core.proofs.Common.{All-tail, Action, Modifier, Lock, Cell, Char, Act, Event, Press, Release, Reset}
-use Rattle.console_core.proofs.Common.{Load, Sight, Move, Hold, Turn, LetGo, PressedAction, ReleasedKey, same_Some}
-use Rattle.console_core.proofs.Common.{same_action, holding_action, MapValue, same_action-true, usable, is_pending}
-use Rattle.console_core.proofs.Common.{ResolvedEvent, on, locked, look, remembered, taken_over, pending, keeps_taken}
-use Rattle.console_core.proofs.Common.{usable_dead_key, resolve_press, next_pending, pending_after_dead_key, between}
-use Rattle.console_core.proofs.Common.{resolved, is_second_in_force, HasKey, IsNoLoad, Under, alone, State, is_held}
-use Rattle.console_core.proofs.Common.{IsIdle, look_in, state_after, NeverForgets, presses, selection_of, look_selected}
-use Rattle.console_core.proofs.Common.{IsClean, IsAdmitted, SeesBy, IsOfferedIn, Follows, IsBehind, fun_ext}
+use Rattle.console_core.proofs.Common.{cases_Bool, none-some, suc, ◌≡◌, ℕ, ◌<◌, Bool, true, false, List, [], ◌∷◌}
+use Rattle.console_core.proofs.Common.{Option, Some, None, refl, ap, subst, sym, ◌∙◌, ◌⊎◌, inl, inr, arith}
+use Rattle.console_core.proofs.Common.{if◌then◌else◌, true≢false, All-head, All-tail, Action, Modifier, Lock, Cell}
+use Rattle.console_core.proofs.Common.{Char, Act, Event, Press, Release, Reset, Load, Sight, Move, Hold, Turn, LetGo}
+use Rattle.console_core.proofs.Common.{PressedAction, ReleasedKey, same_Some, same_action, holding_action, MapValue}
+use Rattle.console_core.proofs.Common.{same_action-true, usable, is_pending, ResolvedEvent, on, locked, look}
+use Rattle.console_core.proofs.Common.{remembered, taken_over, pending, keeps_taken, usable_dead_key, resolve_press}
+use Rattle.console_core.proofs.Common.{next_pending, pending_after_dead_key, between, resolved, is_second_in_force}
+use Rattle.console_core.proofs.Common.{HasKey, IsNoLoad, Under, alone, State, is_held, IsIdle, look_in, state_after}
+use Rattle.console_core.proofs.Common.{NeverForgets, presses, selection_of, IsForgetful, IsAdmitted, SeesBy}
+use Rattle.console_core.proofs.Common.{IsOfferedIn, Follows, IsBehind, fun_ext}
 use Rattle.console_core.specs.Sights.{selection_with, selection_after, LooksAreSelected, SightsAreReachable}
-use Rattle.console_core.proofs.OneMore.{resolved-start, resolved-more, pending-start, pending-character, pending-action}
-use Rattle.console_core.proofs.OneMore.{pending-release, pending-reset}
+use Rattle.console_core.proofs.OneMore.{one_map, resolved-start, resolved-more, pending-start, pending-character}
+use Rattle.console_core.proofs.OneMore.{pending-action, pending-release, pending-reset}
 use Rattle.console_core.proofs.Behind.{behind-offered, behind-more}
-use Rattle.console_core.proofs.Staying.{follows-look, follows-nothing, not_holding, stays, all-spared, clean-spared}
-use Rattle.console_core.proofs.Staying.{LeadsOn, stays-press, stays-release}
-use Rattle.console_core.proofs.Scripts.{Reached, reached-kept, reached-safe}
+use Rattle.console_core.proofs.Staying.{follows-look, follows-nothing, not_holding, stays, Stays, AreSpared, KeepsHeld}
+use Rattle.console_core.proofs.Staying.{clean-spared, LeadsOn, stays-press, stays-release}
+use Rattle.console_core.proofs.Scripts.{Reached, reached-kept}
 use Rattle.keymap_core.specs.declared.action.Action.TheVariants as act
 use Rattle.console_core.specs.declared.selection.Sight.TheVariants as sight
-
--- one map is in force, whichever
-pub one_map : (m : MapValue) (b : Bool) → (if b then m else m) ≡ m
-one_map m true = refl
-one_map m false = refl
 
 -- what a key looks up follows from the selection
 pub looks_are_selected : LooksAreSelected
 unfolding look
-looks_are_selected m h k =
-    ap (λ n. look_selected n (selection_after m h) k) (one_map m (is_second_in_force h))
-
--- the console stands in a state that a path leads to
-abbrev Stands : MapValue → List Event → Type 0
-Stands m h = (s : State) × Reached (alone m) s × Follows (resolved (between m m) h) s
-
-stands-in : (m : MapValue) (forgets : Bool) (h : List Event) → (forgets ≡ false → NeverForgets (alone m))
-    → IsAdmitted m forgets h → Stands m h
-stands-in m false h never (keys, none, clean) =
-    let n : ℕ = suc (presses h) in
-    let (s, there, f, is) =
-    stays (alone m) n (λ p t. Reached (alone m) t) (λ g. Unit {0}) (reached-kept (alone m) n)
-    (all-spared (alone m) n (λ p t. Reached (alone m) t) (reached-safe (alone m) (never refl) n)) h tt keys
-    (λ e. none) (omega arith) in
-    (s, there (omega arith), f)
-stands-in m true h never (keys, none, clean) =
-    let n : ℕ = suc (presses h) in
-    let (s, there, f, is) =
-    stays (alone m) n (λ p t. Reached (alone m) t) (IsClean (between m m)) (reached-kept (alone m) n)
-    (clean-spared (alone m) n (λ p t. Reached (alone m) t)) h (clean refl) keys (λ e. none) (omega arith) in
-    (s, there (omega arith), f)
+looks_are_selected m h k = cc (one_map m (is_second_in_force h))
 
 -- the list without its newest event is spoken of too
 pub admitted-before : (m : MapValue) (forgets : Bool) (e : Event) (h : List Event) → IsAdmitted m forgets (e ∷ h)
@@ -59,6 +34,39 @@ admitted-before m forgets e h (keys, none, clean) = (
   All-tail IsNoLoad e h none,
   (λ f later before k i c at. clean f (e ∷ later) before k i c (ap (λ z. e ∷ z) at)),
 )
+
+-- no press of a list that is spoken of forgets that a key holds a modifier
+pub keeps-held : (m : MapValue) (forgets : Bool) (k : ℕ) (h : List Event) → (forgets ≡ false → NeverForgets (alone m))
+    → IsAdmitted m forgets (Press k ∷ h) → (t : State) → Reached (alone m) t → Follows (resolved (between m m) h) t
+    → t.is_second ≡ is_second_in_force h
+    → KeepsHeld (alone m) t k
+keeps-held m false k h never admitted t there f is =
+    λ i forgets. never refl there.0 there.1 (subst (λ x. IsForgetful (alone m) x) (sym there.2) (i, k, forgets))
+keeps-held m true k h never (keys, none, clean) t there f is =
+    (clean-spared (alone m) (suc (presses h)) (λ p x. Unit {0})).keeps h k (clean refl) (omega arith) t tt f is
+
+-- so lists that are spoken of are spared, where the sets are of states that paths lead to
+pub admitted-spared : (m : MapValue) (forgets : Bool) (n : ℕ) (S : State → Type 0)
+    → (forgets ≡ false → NeverForgets (alone m)) → ((t : State) → S t → Reached (alone m) t)
+    → AreSpared (alone m) n (λ p t. S t) (IsAdmitted m forgets)
+admitted-spared m forgets n S never reached = record {
+  fewer = λ e h admitted. admitted-before m forgets e h admitted;
+  keeps = λ h k admitted lt t there f is. keeps-held m forgets k h never admitted t (reached t there) f is;
+}
+
+-- the console stands in a state that a path leads to
+abbrev pub Stands : MapValue → List Event → Type 0
+Stands m h = Stays (Reached (alone m)) (is_second_in_force h) (resolved (between m m) h)
+
+pub stands-in : (m : MapValue) (forgets : Bool) (h : List Event) → (forgets ≡ false → NeverForgets (alone m))
+    → IsAdmitted m forgets h → Stands m h
+stands-in m forgets h never admitted =
+    let n : ℕ = suc (presses h) in
+    let (s, there, f, is) =
+    stays (alone m) n (λ p t. Reached (alone m) t) (IsAdmitted m forgets) (reached-kept (alone m) n)
+    (admitted-spared m forgets n (Reached (alone m)) never (λ t here. here)) h
+    (admitted, admitted.0, (λ e. admitted.1), omega arith) in
+    (s, there (omega arith), f, is)
 
 -- the selection after the list is that of the state
 pub follows-selection : (r : List ResolvedEvent) (s : State) → Follows r s
@@ -73,8 +81,7 @@ stands-sees : (m : MapValue) (h : List Event) (s : State) (path : List Move) (k 
     → state_after (alone m) path ≡ s → Follows (resolved (between m m) h) s → SeesBy m (selection_after m h) k x
     → SeesBy m (selection_of (state_after (alone m) path)) k x
 stands-sees m h s path k x leads f sees =
-    subst (λ y. SeesBy m y k x)
-    (follows-selection (resolved (between m m) h) s f ∙ ap (λ t. selection_of t) (sym leads)) sees
+    rw (← (follows-selection (resolved (between m m) h) s f ∙ ap (λ t. selection_of t) (sym leads))) sees
 
 -- a dead key that is taken was looked up, and nothing else is remembered
 taken-same : (held b : Action) (t : Bool) (i : ℕ) → same_action held b ≡ t → (if t then b else act.Nop) ≡ act.DeadKey i
@@ -96,34 +103,31 @@ taken-dead (Some held) b i e =
     (p.0, (λ j f. some_mod_dead held i j p.1 f))
 
 -- what becomes pending was pending, or its dead key is taken
-abbrev Takes : MapValue → Option ℕ → Action → ℕ → Type 0
+abbrev pub Takes : MapValue → Option ℕ → Action → ℕ → Type 0
 Takes m p a i = (p ≡ Some i) ⊎ ((a ≡ act.DeadKey i) × (usable m i ≡ true))
 
 pub pends : (d : Option ℕ) (p : Option ℕ) (i : ℕ) → pending_after_dead_key d p ≡ Some i → d ≡ Some i
 pends None p i e = let g : None ≡ Some i = e in cc
-pends (Some j) p i e = toggles (is_pending j p) e
-  where
-    toggles : (t : Bool) → (if t then None else Some j) ≡ Some i → Some j ≡ Some i
-    toggles true f = let g : None ≡ Some i = f in cc
-    toggles false f = f
+pends (Some j) p i e = elim (cases_Bool (is_pending j p)) [
+  | inl t ↦ absurd (none-some i (rw t at e))
+  | inr t ↦ rw t at e
+]
 
 usable-dead : (m : MapValue) (a : Action) (i : ℕ) → usable_dead_key m a ≡ Some i
     → (a ≡ act.DeadKey i) × (usable m i ≡ true)
-usable-dead m (act.DeadKey j) i e = same (usable m j) refl e
-  where
-    same : (t : Bool) → usable m j ≡ t → (if t then Some j else None) ≡ Some i
-        → (act.DeadKey j ≡ act.DeadKey i) × (usable m i ≡ true)
-    same true is f =
-        let g : j ≡ i = same_Some j i f in (ap (λ n. act.DeadKey n) g, subst (λ n. usable m n ≡ true) g is)
-    same false is f = let g : None ≡ Some i = f in cc
+usable-dead m (act.DeadKey j) i e = elim (cases_Bool (usable m j)) [
+  | inl t ↦
+      let g : j ≡ i = same_Some j i (rw t at e) in
+      (ap (λ n. act.DeadKey n) g, subst (λ n. usable m n ≡ true) g t)
+  | inr t ↦ absurd (none-some i (rw t at e))
+]
 usable-dead m a i e = let g : None ≡ Some i = e in cc
 
-takes-pending : (m : MapValue) (p : Option ℕ) (a : Action) (i : ℕ) → next_pending m p a ≡ Some i → Takes m p a i
-takes-pending m p a i e = by (keeps_taken a) e
-  where
-    by : (t : Bool) → (if t then p else pending_after_dead_key (usable_dead_key m a) p) ≡ Some i → Takes m p a i
-    by true f = inl f
-    by false f = inr (usable-dead m a i (pends (usable_dead_key m a) p i f))
+pub takes-pending : (m : MapValue) (p : Option ℕ) (a : Action) (i : ℕ) → next_pending m p a ≡ Some i → Takes m p a i
+takes-pending m p a i e = elim (cases_Bool (keeps_taken a)) [
+  | inl t ↦ inl (rw t at e)
+  | inr t ↦ inr (usable-dead m a i (pends (usable_dead_key m a) p i (rw t at e)))
+]
 
 -- ---- where an accent is pending
 
@@ -136,7 +140,7 @@ behind-here : (m : MapValue) (h : List Event) (k i : ℕ) (b : Action) → Stand
     → look m (resolved (between m m) h) k ≡ Act b → taken_over (remembered k (resolved (between m m) h)) b
     ≡ act.DeadKey i
     → usable m i ≡ true → StandsBehind m i (PressedAction k b ∷ resolved (between m m) h)
-behind-here m h k i b (s, (path, made, leads), f) lt seen taken can =
+behind-here m h k i b (s, (path, made, leads), f, is) lt seen taken can =
     let r : List ResolvedEvent = resolved (between m m) h in
     let p : (b ≡ act.DeadKey i) × IsFreeFor (remembered k r) i = taken-dead (remembered k r) b i taken in
     let idle : IsIdle s k = λ j holds. p.1 j (f.holds j k holds) in
@@ -189,14 +193,11 @@ pends-behind m forgets [] i never admitted e =
     cc
 pends-behind m forgets (Release k ∷ h) i never admitted e =
     let r : List ResolvedEvent = resolved (between m m) h in
-    subst (λ z. StandsBehind m i z) (sym (resolved-more (between m m) h (Release k)))
-    (behind-release m r k i
+    rw (resolved-more (between m m) h (Release k)) (behind-release m r k i
     (pends-behind m forgets h i never (admitted-before m forgets (Release k) h admitted)
     (sym (pending-release m k r) ∙ ap (λ r. pending m r) (sym (resolved-more (between m m) h (Release k))) ∙ e)))
 pends-behind m forgets (Reset ∷ h) i never admitted e =
-    let g : None ≡ Some i =
-    sym (pending-reset m (resolved (between m m) h))
-    ∙ ap (λ r. pending m r) (sym (resolved-more (between m m) h Reset)) ∙ e in
+    let g : None ≡ Some i = cc (pending-reset m (resolved (between m m) h), resolved-more (between m m) h Reset, e) in
     cc
 pends-behind m forgets (Load ∷ h) i never admitted e =
     absurd (true≢false (All-head IsNoLoad Load h admitted.1))
@@ -204,8 +205,7 @@ pends-behind m forgets (Press k ∷ h) i never admitted e =
     let r : List ResolvedEvent = resolved (between m m) h in
     let before : IsAdmitted m forgets h = admitted-before m forgets (Press k) h admitted in
     let at : resolved (between m m) (Press k ∷ h) ≡ resolve_press k (look m r k) ∷ r =
-    resolved-more (between m m) h (Press k)
-    ∙ ap (λ n. resolve_press k (look n r k) ∷ r) (one_map m (is_second_in_force h)) in
+    cc (resolved-more (between m m) h (Press k), one_map m (is_second_in_force h)) in
     subst (λ z. StandsBehind m i z) (sym at)
     (by (look m r k) refl (ap (λ z. pending m z) (sym at) ∙ e) (λ was. pends-behind m forgets h i never before was)
     (stands-in m forgets h never before))
@@ -230,10 +230,10 @@ pends-behind m forgets (Press k ∷ h) i never admitted e =
 -- what a press after a list sees can be seen
 pub sights_are_reachable : SightsAreReachable
 sights_are_reachable m forgets h k (sight.Cell slot column) never admitted lt (sees, x) =
-    let (s, (path, is, leads), f) = stands-in m forgets h never admitted in
+    let (s, (path, is, leads), f, second) = stands-in m forgets h never admitted in
     (path, is, tt, (k, lt, stands-sees m h s path k (sight.Cell slot column) leads f sees))
 sights_are_reachable m forgets h k (sight.Locks slot caps num) never admitted lt (sees, x) =
-    let (s, (path, is, leads), f) = stands-in m forgets h never admitted in
+    let (s, (path, is, leads), f, second) = stands-in m forgets h never admitted in
     (path, is, tt, (k, lt, stands-sees m h s path k (sight.Locks slot caps num) leads f sees))
 sights_are_reachable m forgets h k (sight.Pair accent c) never admitted lt (sees, x) =
     let (s, (path, is, offered, leads), f) =

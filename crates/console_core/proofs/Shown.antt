@@ -41,42 +41,39 @@ plain-start m = record {
 tail-same : (a b : Event) (g h : List Event) → a ∷ g ≡ b ∷ h → g ≡ h
 tail-same a b g h e = cc
 
--- a press of a key that remembers nothing
-plain-press : (m : MapValue) (h : List Event) (k : ℕ) → remembered k (resolved (between m m) h) ≡ None → IsPlain m h
-    → IsPlain m (Press k ∷ h)
-plain-press m h k none x = record {
-  sent = All-cons IsPressOrRelease (Press k) h tt x.sent;
-  loads = All-cons IsNoLoad (Press k) h refl x.loads;
-  releases = (tt, x.releases);
+-- one more event, of which no press is of a key that remembers a modifier
+plain-more : (m : MapValue) (h : List Event) (e : Event) → IsPressOrRelease e → IsNoLoad e
+    → ReleasesPressedKeys (e ∷ h)
+    → ((k : ℕ) (i : Modifier) → e ≡ Press k → remembered k (resolved (between m m) h) ≡ Some (act.Mod i) → ⊥)
+    → IsPlain m h → IsPlain m (e ∷ h)
+plain-more m h e sent no_load releases free x = record {
+  sent = All-cons IsPressOrRelease e h sent x.sent;
+  loads = All-cons IsNoLoad e h no_load x.loads;
+  releases = releases;
   clean = λ later before j i c at held seen. by later before j i at held seen;
 }
   where
-    by : (later before : List Event) (j : ℕ) (i : Modifier) → Press k ∷ h ≡ later ++ Press j ∷ before
+    by : (later before : List Event) (j : ℕ) (i : Modifier) → e ∷ h ≡ later ++ Press j ∷ before
         → remembered j (resolved (between m m) before) ≡ Some (act.Mod i)
         → {c : ℕ} → look_after (between m m) j before ≡ Char c → ⊥
     by [] before j i at held seen =
-        let key : k ≡ j = let f : Press k ∷ h ≡ Press j ∷ before = at in cc in
-        let rest : h ≡ before = tail-same (Press k) (Press j) h before at in
-        none-some (act.Mod i)
-        (sym none ∙ ap (λ n. remembered n (resolved (between m m) h)) key
-        ∙ ap (λ g. remembered j (resolved (between m m) g)) rest ∙ held)
-    by (e ∷ later) before j i at held seen =
-        x.clean later before j i _ (tail-same (Press k) e h (later ++ Press j ∷ before) at) held seen
+        let first : e ≡ Press j = let f : e ∷ h ≡ Press j ∷ before = at in cc in
+        let rest : h ≡ before = tail-same e (Press j) h before at in
+        free j i first (ap (λ g. remembered j (resolved (between m m) g)) rest ∙ held)
+    by (d ∷ later) before j i at held seen =
+        x.clean later before j i _ (tail-same e d h (later ++ Press j ∷ before) at) held seen
+
+-- a press of a key that remembers nothing
+plain-press : (m : MapValue) (h : List Event) (k : ℕ) → remembered k (resolved (between m m) h) ≡ None → IsPlain m h
+    → IsPlain m (Press k ∷ h)
+plain-press m h k none x =
+    plain-more m h (Press k) tt refl (tt, x.releases)
+    (λ j i e held. let same : k ≡ j = cc in none-some (act.Mod i) (cc (none, same, held))) x
 
 plain-release : (m : MapValue) (h : List Event) (k : ℕ) → pressed k h ≡ true → IsPlain m h → IsPlain m (Release k ∷ h)
-plain-release m h k down x = record {
-  sent = All-cons IsPressOrRelease (Release k) h tt x.sent;
-  loads = All-cons IsNoLoad (Release k) h refl x.loads;
-  releases = (down, x.releases);
-  clean = λ later before j i c at held seen. by later before j i at held seen;
-}
-  where
-    by : (later before : List Event) (j : ℕ) (i : Modifier) → Release k ∷ h ≡ later ++ Press j ∷ before
-        → remembered j (resolved (between m m) before) ≡ Some (act.Mod i)
-        → {c : ℕ} → look_after (between m m) j before ≡ Char c → ⊥
-    by [] before j i at held seen = let f : Release k ∷ h ≡ Press j ∷ before = at in cc
-    by (e ∷ later) before j i at held seen =
-        x.clean later before j i _ (tail-same (Release k) e h (later ++ Press j ∷ before) at) held seen
+plain-release m h k down x =
+    plain-more m h (Release k) tt refl (down, x.releases)
+    (λ j i e held. let f : Release k ≡ Press j = e in cc) x
 
 -- a press of an idle key, where the console stands in the state
 plain-idle : (m : MapValue) (h : List Event) (s : State) (k : ℕ) → Stands (alone m) h s → IsIdle s k → IsPlain m h
@@ -165,8 +162,7 @@ reachable_is_seen m (sight.Pair accent c)
     let last : IsShort m (events_along later ++ tapped) (state_from u s later) =
     short-along m tapped s later next parts.1 in
     let none : pending m (resolved (between m m) h) ≡ None =
-    pending-along m [] start before (stands-start u) parts.0
-    ∙ ap (λ r. pending m r) (resolved-start (between m m)) ∙ pending-start m in
+    cc (pending-along m [] start before (stands-start u) parts.0, resolved-start (between m m), pending-start m) in
     let leads : state_after u path ≡ state_from u s later = ap (λ p. state_after u p) at ∙ parts.2 in
     let (sent, releases, admitted) =
     short-admitted m (events_along later ++ tapped) (state_from u s later) last in (

@@ -1,14 +1,15 @@
 -- What is remembered, by positions.
 use Rattle.console_core.proofs.Common.{◌≡◌, ℕ, Bool, false, true, ◌&&◌, List, [], ◌∷◌, ◌++◌, Option, None, Some, refl}
-use Rattle.console_core.proofs.Common.{ap, sym, ◌∙◌, if◌then◌else◌, append_assoc, ◌==◌, true≢false, option_or, is_some}
+use Rattle.console_core.proofs.Common.{ap, sym, ◌∙◌, if◌then◌else◌, append_assoc, ◌==◌, option_or, is_some}
 use Rattle.console_core.proofs.Common.{none-some, Action, Cell, Char, Act, Event, Press, Release, Reset, Load}
 use Rattle.console_core.proofs.Common.{resolve_press, remembered, look, unless_nop, Maps, in_force, resolved}
 use Rattle.console_core.proofs.Common.{remembered_after, NoneOf, option_or-none}
 use Rattle.console_core.specs.Positions.{first_since_at}
 use Rattle.console_core.specs.Reading.{forgets_at, offers_at, IsSinceLast, is_character, offered, FirstSince}
 use Rattle.console_core.specs.Reading.{NothingSince, RememberedByPositions, NothingRememberedByPositions}
-use Rattle.console_core.proofs.OneMore.{resolved-start, resolved-more, remembered-start, remembered-character}
-use Rattle.console_core.proofs.OneMore.{remembered-action, remembered-release, remembered-reset, remembered-load}
+use Rattle.console_core.proofs.OneMore.{is-nothing, resolved-start, resolved-more, remembered-start}
+use Rattle.console_core.proofs.OneMore.{remembered-character, remembered-action, remembered-release, remembered-reset}
+use Rattle.console_core.proofs.OneMore.{remembered-load}
 
 -- a looked-up character, by the test of its key
 press_char : (t : Bool) (o : Option Action)
@@ -45,10 +46,8 @@ remembered-events ms k (Press j ∷ h) =
 remembered-events ms k (Release j ∷ h) =
     ap (λ o. if j == k then None else o) (option_or-none _ ∙ remembered-events ms k h)
     ∙ sym (ap (λ r. remembered k r) (resolved-more ms h (Release j)) ∙ remembered-release k j (resolved ms h))
-remembered-events ms k (Reset ∷ h) =
-    sym (ap (λ r. remembered k r) (resolved-more ms h Reset) ∙ remembered-reset k (resolved ms h))
-remembered-events ms k (Load ∷ h) =
-    sym (ap (λ r. remembered k r) (resolved-more ms h Load) ∙ remembered-load k _ (resolved ms h))
+remembered-events ms k (Reset ∷ h) = cc (resolved-more ms h Reset, remembered-reset k (resolved ms h))
+remembered-events ms k (Load ∷ h) = cc (resolved-more ms h Load, remembered-load k _ (resolved ms h))
 
 module _ {A B : Type 0} (ends : A → List A → Bool) (pick : A → List A → Option B) where
   -- one more element since the last that ends
@@ -123,16 +122,12 @@ module _ {A B : Type 0} (ends : A → List A → Bool) (pick : A → List A → 
   old_none recent [] s = refl
   old_none recent (x ∷ old) s = rw s.1 refl
 
-  none_if : (o : Option B) → is_some o ≡ false → o ≡ None
-  none_if None e = refl
-  none_if (Some b) e = absurd (true≢false e)
-
   -- what offers nothing and doesn't end keeps that nothing is found
   since_nothing : (recent old : List A) → first_since_at ends pick old ≡ None → NoneOf ends recent old
       → NoneOf (λ y before. is_some (pick y before)) recent old → first_since_at ends pick (recent ++ old) ≡ None
   since_nothing [] old e none picked = e
   since_nothing (x ∷ recent) old e none picked =
-      rw (none.0, since_nothing recent old e none.1 picked.1, none_if (pick x (recent ++ old)) picked.0) refl
+      rw (none.0, since_nothing recent old e none.1 picked.1, is-nothing (pick x (recent ++ old)) picked.0) refl
 
   -- what doesn't end keeps what was found
   since_kept : (later tail : List A) (b : B) → first_since_at ends pick tail ≡ Some b → NoneOf ends later tail
@@ -150,8 +145,7 @@ module _ {A B : Type 0} (ends : A → List A → Bool) (pick : A → List A → 
 
   -- where nothing was offered since the last end, nothing is found
   pub since-nothing : (h : List A) → NothingSince ends pick h → first_since_at ends pick h ≡ None
-  since-nothing h s =
-      ap (λ t. first_since_at ends pick t) s.2 ∙ since_nothing s.0 s.1 (old_none s.0 s.1 s.3) (none_of s.0 s.1 s.3) s.4
+  since-nothing h s = cc (s.2, since_nothing s.0 s.1 (old_none s.0 s.1 s.3) (none_of s.0 s.1 s.3) s.4)
 
   -- what was first offered since the last end is found
   pub since-first : (h : List A) (b : B) → FirstSince ends pick h b → first_since_at ends pick h ≡ Some b
@@ -161,8 +155,7 @@ module _ {A B : Type 0} (ends : A → List A → Bool) (pick : A → List A → 
       let before : first_since_at ends pick (s.2 ++ s.3) ≡ None =
       since_nothing s.2 s.3 (old_none (s.0 ++ s.1 ∷ s.2) s.3 s.5) none.1.1 s.7 in
       let here : first_since_at ends pick (s.1 ∷ (s.2 ++ s.3)) ≡ Some b = rw (none.1.0, before, s.6) refl in
-      ap (λ t. first_since_at ends pick t) (s.4 ∙ append_assoc s.0 (s.1 ∷ s.2) s.3)
-      ∙ since_kept s.0 (s.1 ∷ (s.2 ++ s.3)) b here none.0
+      cc (s.4, append_assoc s.0 (s.1 ∷ s.2) s.3, since_kept s.0 (s.1 ∷ (s.2 ++ s.3)) b here none.0)
 
 -- what is remembered is the first action offered since the last event that forgets
 pub remembered-positions : RememberedByPositions

@@ -1,27 +1,28 @@
 -- A console stands in a state of sets that the moves keep, whatever presses, releases, resets and loads come.
 use Rattle.console_core.proofs.Common.{suc, ◌≡◌, ℕ, ◌+◌, ◌<◌, ◌≤◌, ◌⊎◌, Bool, true, false, ◌&&◌, ◌||◌, not, eqb, List}
-use Rattle.console_core.proofs.Common.{[], ◌∷◌, Option, Some, None, refl, ap, subst, sym, ◌∙◌, inl, inr, arith}
-use Rattle.console_core.proofs.Common.{if◌then◌else◌, ◌==◌, and-true, and-false, eqb-true, eq-eqb, cases_Bool, cases_lt}
-use Rattle.console_core.proofs.Common.{true≢false, false_from_ne_true, All-head, All-tail, same_action, same_modifier}
-use Rattle.console_core.proofs.Common.{same_lock, holding_action, is_borne, MapValue, IsCellOf, Bears, same_action-true}
-use Rattle.console_core.proofs.Common.{same_action-refl, look_with, ResolvedEvent, held, locked, on, remembered}
-use Rattle.console_core.proofs.Common.{taken_over, is_this_action, look, resolve, resolve_press, PressedCharacter}
-use Rattle.console_core.proofs.Common.{PressedAction, ReleasedKey, WasReset, WasLoaded, Maps, in_force, resolved}
-use Rattle.console_core.proofs.Common.{is_on_after, is_second_in_force, pressed, HasKey, HasKeys, IsNoLoad, IsQuiet}
-use Rattle.console_core.proofs.Common.{Under, State, start, is_held, map_of, map_in, look_in, Holds, IsIdle}
-use Rattle.console_core.proofs.Common.{with_holder, with_lock_turned, exchanged, next_map, IsFree, IsMove, IsForgetful}
-use Rattle.console_core.proofs.Common.{HolderForgets, moved, presses_of, IsClean, Admits, presses, Follows}
-use Rattle.console_core.proofs.Common.{IsOnOnlyWhilePressed, IsOffOnceQuiet, fun_ext, is_some, same_Some, Action, Lock}
-use Rattle.console_core.proofs.Common.{Modifier, LeftShift, RightShift, LeftControl, RightControl, LeftAlt, RightAlt}
-use Rattle.console_core.proofs.Common.{AltShift, Meta, Holding, Cell, Char, Act, Event, Press, Release, Reset, Load}
-use Rattle.console_core.proofs.Common.{Move, Hold, Turn, LetGo, Exchange}
+use Rattle.console_core.proofs.Common.{none-some, [], ◌∷◌, Option, Some, None, refl, ap, subst, sym, ◌∙◌, inl, inr}
+use Rattle.console_core.proofs.Common.{arith, if◌then◌else◌, ◌==◌, and-true, and-false, eqb-true, eq-eqb, cases_Bool}
+use Rattle.console_core.proofs.Common.{cases_lt, true≢false, false_from_ne_true, All-head, All-tail, same_action}
+use Rattle.console_core.proofs.Common.{same_modifier, append-nil, ◌++◌, same_lock, holding_action, is_borne, MapValue}
+use Rattle.console_core.proofs.Common.{Bears, same_action-true, same_action-refl, look_with, ResolvedEvent}
+use Rattle.console_core.proofs.Common.{held, locked, on, remembered, taken_over, is_this_action, look, resolve}
+use Rattle.console_core.proofs.Common.{resolve_press, PressedCharacter, PressedAction, ReleasedKey, WasReset, WasLoaded}
+use Rattle.console_core.proofs.Common.{Maps, in_force, resolved, is_on_after, is_second_in_force, pressed, HasKey}
+use Rattle.console_core.proofs.Common.{HasKeys, IsNoLoad, IsQuiet, Under, State, start, is_held, map_of, map_in}
+use Rattle.console_core.proofs.Common.{look_in, Holds, IsIdle, with_holder, with_lock_turned, exchanged, next_map}
+use Rattle.console_core.proofs.Common.{IsFree, IsMove, IsForgetful, HolderForgets, moved, presses_of, IsClean, Admits}
+use Rattle.console_core.proofs.Common.{presses, Follows, IsOnOnlyWhilePressed, IsOffOnceQuiet, fun_ext, is_some}
+use Rattle.console_core.proofs.Common.{same_Some, Action, Lock, Modifier, LeftShift, RightShift, LeftControl}
+use Rattle.console_core.proofs.Common.{RightControl, LeftAlt, RightAlt, AltShift, Meta, Holding, Cell, Char, Act, Event}
+use Rattle.console_core.proofs.Common.{Press, Release, Reset, Load, Move, Hold, Turn, LetGo, Exchange}
 use Rattle.keymap_core.specs.Actions.{action_kind}
 use Rattle.console_core.proofs.OneMore.{resolved-start, resolved-more, held-start, held-character, held-action}
 use Rattle.console_core.proofs.OneMore.{held-release, held-reset, held-load, locked-start, locked-character}
 use Rattle.console_core.proofs.OneMore.{locked-action, locked-release, locked-reset, locked-load, remembered-character}
 use Rattle.console_core.proofs.OneMore.{remembered-action, remembered-release}
-use Rattle.console_core.proofs.Borne.{taken-holding, resolved-looked}
-use Rattle.console_core.proofs.Bearing.{first_kept, remembered-cell, remembered-pressed}
+use Rattle.console_core.proofs.Borne.{taken-holding}
+use Rattle.console_core.proofs.Unscrolled.{same_states}
+use Rattle.console_core.proofs.Bearing.{borne-pressed, first_kept}
 use Rattle.keymap_core.specs.declared.action.Action.TheVariants as act
 use Rattle.keymap_core.specs.declared.action.Holding.TheVariants as holding
 
@@ -46,9 +47,6 @@ some_mods i j e = cc
 
 some_mod_lock : (i : Modifier) (l : Lock) → Some (act.Mod i) ≡ Some (act.Lock l) → ⊥
 some_mod_lock i l e = cc
-
-pub some_none : (k : ℕ) (o : Option ℕ) → o ≡ Some k → o ≡ None → ⊥
-some_none k o e f = cc
 
 -- an action is a modifier, a lock, or no holding action
 pub not_holding : (a : Action) (h : Holding) → eqb (action_kind a) 1 ≡ false → eqb (action_kind a) 2 ≡ false
@@ -85,12 +83,8 @@ pub follows-nothing : (r : List ResolvedEvent) (s : State) (k : ℕ) (b : Action
     → ((h : Holding) → same_action (taken_over (remembered k r) b) (holding_action h) ≡ false)
     → Follows (PressedAction k b ∷ r) s
 follows-nothing r s k b f none = record {
-  on = λ i. held-action (holding.Mod i) k b r ∙ ap (λ t. t || held (holding.Mod i) r) (none (holding.Mod i)) ∙ f.on i;
-  locked =
-      λ l. locked-action l k b r
-      ∙ ap (λ t. if t && not (held (holding.Lock l) r) then not (locked l r) else locked l r)
-      (none (holding.Lock l))
-      ∙ f.locked l;
+  on = λ i. rw (held-action (holding.Mod i) k b r, none (holding.Mod i)) (f.on i);
+  locked = λ l. cc (locked-action l k b r, none (holding.Lock l), f.locked l);
   holds = λ i j h. remembered-action j k b r ∙ first_kept (remembered j r) _ (act.Mod i) (f.holds i j h);
 }
 
@@ -117,24 +111,14 @@ on_held false x k o e = e
 pub follows-hold : (r : List ResolvedEvent) (s : State) (k : ℕ) (b : Action) (i : Modifier) → Follows r s
     → taken_over (remembered k r) b ≡ act.Mod i → Follows (PressedAction k b ∷ r) (with_holder s i (Some k))
 follows-hold r s k b i f e = record {
-  on =
-      λ j. held-action (holding.Mod j) k b r ∙ ap (λ a. same_action a (act.Mod j) || held (holding.Mod j) r) e
-      ∙ on_held (same_modifier i j) (held (holding.Mod j) r) k (s.holder j) (f.on j);
-  locked =
-      λ l. locked-action l k b r
-      ∙ ap (λ a.
-      if same_action a (act.Lock l) && not (held (holding.Lock l) r) then not (locked l r) else locked l r)
-      e
-      ∙ f.locked l;
+  on = λ j. rw (held-action (holding.Mod j) k b r, e) (on_held (same_modifier i j) _ k (s.holder j) (f.on j));
+  locked = λ l. rw (locked-action l k b r, e) (f.locked l);
   holds = λ j n h. elim (cases_Bool (same_modifier i j)) [
     | inl t ↦
-        let p : k ≡ n = same_Some k n (sym (ap (λ x. if x then Some k else s.holder j) t) ∙ h) in
-        subst (λ x. remembered x (PressedAction k b ∷ r) ≡ Some (act.Mod j)) p
-        (takes r k b (holding.Mod i) e ∙ ap (λ x. Some (act.Mod x)) (same_mods i j t))
+        let p : k ≡ n = same_Some k n (rw t at h) in
+        rw (← p) (takes r k b (holding.Mod i) e ∙ ap (λ x. Some (act.Mod x)) (same_mods i j t))
     | inr t ↦
-        remembered-action n k b r
-        ∙ first_kept (remembered n r) _ (act.Mod j)
-        (f.holds j n (sym (ap (λ x. if x then Some k else s.holder j) t) ∙ h))
+        remembered-action n k b r ∙ first_kept (remembered n r) _ (act.Mod j) (f.holds j n (rw t at h))
   ];
 }
 
@@ -148,23 +132,10 @@ still_on i j false x s n t h e = e
 pub follows-again : (r : List ResolvedEvent) (s : State) (k : ℕ) (b : Action) (i : Modifier) (n : ℕ) → Follows r s
     → taken_over (remembered k r) b ≡ act.Mod i → Holds s n i → Follows (PressedAction k b ∷ r) s
 follows-again r s k b i n f e h = record {
-  on =
-      λ j. held-action (holding.Mod j) k b r ∙ ap (λ a. same_action a (act.Mod j) || held (holding.Mod j) r) e
-      ∙ still_on i j (same_modifier i j) (held (holding.Mod j) r) s n refl h (f.on j);
-  locked =
-      λ l. locked-action l k b r
-      ∙ ap (λ a.
-      if same_action a (act.Lock l) && not (held (holding.Lock l) r) then not (locked l r) else locked l r)
-      e
-      ∙ f.locked l;
+  on = λ j. rw (held-action (holding.Mod j) k b r, e) (still_on i j (same_modifier i j) _ s n refl h (f.on j));
+  locked = λ l. rw (locked-action l k b r, e) (f.locked l);
   holds = λ j p q. remembered-action p k b r ∙ first_kept (remembered p r) _ (act.Mod j) (f.holds j p q);
 }
-
--- a lock turns where it isn't down
-turned_once : (t d x y : Bool) → d ≡ false → x ≡ y → (if t && not d then not x else x) ≡ (if t then not y else y)
-turned_once true true x y d e = absurd (true≢false d)
-turned_once true false x y d e = ap not e
-turned_once false d x y z e = e
 
 -- a lock doesn't turn where it is down
 turned_never : (t d x y : Bool) → (t ≡ true → d ≡ true) → x ≡ y → (if t && not d then not x else x) ≡ y
@@ -175,13 +146,13 @@ turned_never false d x y f e = e
 -- a press that takes a lock, which is up
 is_down : (l j : Lock) (r : List ResolvedEvent) (d : Bool) → held (holding.Lock l) r ≡ d → same_lock l j ≡ true
     → held (holding.Lock j) r ≡ d
-is_down l j r d e t = ap (λ x. held (holding.Lock x) r) (sym (same_locks l j t)) ∙ e
+is_down l j r d e t = rw (← same_locks l j t) e
 
 -- the step of the next lemma, by whether the locks are the same
 turned_by : (l j : Lock) (r : List ResolvedEvent) (y : Bool) (t : Bool) → same_lock l j ≡ t
     → held (holding.Lock l) r ≡ false → locked j r ≡ y
     → (if t && not (held (holding.Lock j) r) then not (locked j r) else locked j r) ≡ (if t then not y else y)
-turned_by l j r y true t d e = turned_once true (held (holding.Lock j) r) (locked j r) y (is_down l j r false d t) e
+turned_by l j r y true t d e = rw (is_down l j r false d t) (ap not e)
 turned_by l j r y false t d e = e
 
 -- a press that turns a lock leads to the state with the lock turned
@@ -189,14 +160,8 @@ pub follows-turn : (r : List ResolvedEvent) (s : State) (k : ℕ) (b : Action) (
     → taken_over (remembered k r) b ≡ act.Lock l → held (holding.Lock l) r ≡ false
     → Follows (PressedAction k b ∷ r) (with_lock_turned s l)
 follows-turn r s k b l f e d = record {
-  on =
-      λ i. held-action (holding.Mod i) k b r ∙ ap (λ a. same_action a (act.Mod i) || held (holding.Mod i) r) e ∙ f.on i;
-  locked =
-      λ j. locked-action j k b r
-      ∙ ap (λ a.
-      if same_action a (act.Lock j) && not (held (holding.Lock j) r) then not (locked j r) else locked j r)
-      e
-      ∙ turned_by l j r (s.is_locked j) (same_lock l j) refl d (f.locked j);
+  on = λ i. rw (held-action (holding.Mod i) k b r, e) (f.on i);
+  locked = λ j. rw (locked-action j k b r, e) (turned_by l j r (s.is_locked j) (same_lock l j) refl d (f.locked j));
   holds = λ i j h. remembered-action j k b r ∙ first_kept (remembered j r) _ (act.Mod i) (f.holds i j h);
 }
 
@@ -204,15 +169,9 @@ follows-turn r s k b l f e d = record {
 follows-down : (r : List ResolvedEvent) (s : State) (k : ℕ) (b : Action) (l : Lock) → Follows r s
     → taken_over (remembered k r) b ≡ act.Lock l → held (holding.Lock l) r ≡ true → Follows (PressedAction k b ∷ r) s
 follows-down r s k b l f e d = record {
-  on =
-      λ i. held-action (holding.Mod i) k b r ∙ ap (λ a. same_action a (act.Mod i) || held (holding.Mod i) r) e ∙ f.on i;
-  locked =
-      λ j. locked-action j k b r
-      ∙ ap (λ a.
-      if same_action a (act.Lock j) && not (held (holding.Lock j) r) then not (locked j r) else locked j r)
-      e
-      ∙ turned_never (same_lock l j) (held (holding.Lock j) r) (locked j r) (s.is_locked j)
-      (λ t. is_down l j r true d t) (f.locked j);
+  on = λ i. rw (held-action (holding.Mod i) k b r, e) (f.on i);
+  locked = λ j. rw (locked-action j k b r, e)
+      (turned_never (same_lock l j) _ (locked j r) _ (λ t. is_down l j r true d t) (f.locked j));
   holds = λ i j h. remembered-action j k b r ∙ first_kept (remembered j r) _ (act.Mod i) (f.holds i j h);
 }
 
@@ -225,15 +184,12 @@ off_held false x o e = and-true x ∙ e
 pub follows-let_go : (r : List ResolvedEvent) (s : State) (k : ℕ) (i : Modifier) → Follows r s
     → remembered k r ≡ Some (act.Mod i) → Follows (ReleasedKey k ∷ r) (with_holder s i None)
 follows-let_go r s k i f e = record {
-  on =
-      λ j. held-release (holding.Mod j) k r ∙ ap (λ o. held (holding.Mod j) r && not (is_this_action o (act.Mod j))) e
-      ∙ off_held (same_modifier i j) (held (holding.Mod j) r) (s.holder j) (f.on j);
+  on = λ j. rw (held-release (holding.Mod j) k r, e) (off_held (same_modifier i j) _ (s.holder j) (f.on j));
   locked = λ l. locked-release l k r ∙ f.locked l;
   holds = λ j n h. elim (cases_Bool (same_modifier i j)) [
-    | inl t ↦ absurd (some_none n None (sym (ap (λ x. if x then None else s.holder j) t) ∙ h) refl)
+    | inl t ↦ absurd (none-some n (rw t at h))
     | inr t ↦
-        let q : remembered n r ≡ Some (act.Mod j) =
-        f.holds j n (sym (ap (λ x. if x then None else s.holder j) t) ∙ h) in
+        let q : remembered n r ≡ Some (act.Mod j) = f.holds j n (rw t at h) in
         elim (cases_Bool (k == n)) [
           | inl u ↦
               let p : i ≡ j = some_mods i j (sym e ∙ ap (λ x. remembered x r) (eqb-true k n u) ∙ q) in
@@ -247,9 +203,7 @@ follows-let_go r s k i f e = record {
 pub follows-release : (r : List ResolvedEvent) (s : State) (k : ℕ) → Follows r s
     → ((i : Modifier) → is_this_action (remembered k r) (act.Mod i) ≡ false) → Follows (ReleasedKey k ∷ r) s
 follows-release r s k f none = record {
-  on =
-      λ j. held-release (holding.Mod j) k r ∙ ap (λ t. held (holding.Mod j) r && not t) (none j)
-      ∙ and-true (held (holding.Mod j) r) ∙ f.on j;
+  on = λ j. cc (held-release (holding.Mod j) k r, none j, and-true (held (holding.Mod j) r), f.on j);
   locked = λ l. locked-release l k r ∙ f.locked l;
   holds = λ j n h. elim (cases_Bool (k == n)) [
     | inl u ↦
@@ -281,19 +235,14 @@ pub record LeadsOn (u : Under) (S T : State → Type 0) : Type 0 where
 abbrev pub KeepsHeld : Under → State → ℕ → Type 0
 KeepsHeld u s k = (i : Modifier) → HolderForgets u s i k → ⊥
 
--- a state without a holder for the modifier is as after letting go of it
-same_holders : (s : State) (i : Modifier) → s.holder i ≡ None → (j : Modifier) (t : Bool) → same_modifier i j ≡ t
-    → s.holder j ≡ (if t then None else s.holder j)
-same_holders s i e j true t = ap (λ x. s.holder x) (sym (same_mods i j t)) ∙ e
-same_holders s i e j false t = refl
-
 -- a modifier is let go, whether it has a holder or not
 without : (S : State → Type 0) → KeepsLetGo S → (s : State) (i : Modifier) (o : Option ℕ) → s.holder i ≡ o → S s
     → S (with_holder s i None)
 without S keeps s i None e there =
-    let p : (λ (j : Modifier). s.holder j) ≡ (λ j. if same_modifier i j then None else s.holder j) =
-    fun_ext (λ j. same_holders s i e j (same_modifier i j) refl) in
-    subst (λ x. S (record { holder = x; is_locked = s.is_locked; is_second = s.is_second })) p there
+    subst S (same_states s (with_holder s i None) (λ j. elim (cases_Bool (same_modifier i j)) [
+      | inl t ↦ rw t (ap (λ x. s.holder x) (sym (same_mods i j t)) ∙ e)
+      | inr t ↦ rw t refl
+    ]) (λ l. refl) refl) there
 without S keeps s i (Some k) e there = keeps s k i there e
 
 -- a press that takes a modifier leads from a set to the next
@@ -305,8 +254,7 @@ stays-mod u S T leads r s there f k lt b seen i e is None free = (
   with_holder s i (Some k),
   leads.hold s k i there (
     lt,
-    (λ j h. some_none k (s.holder i)
-        (subst (λ x. Holds s k x) (some_mods j i (holder-takes r s k b (holding.Mod i) j f h e)) h) free),
+    (λ j h. none-some k (cc (free, h, holder-takes r s k b (holding.Mod i) j f h e))),
     seen ∙ ap (λ x. Act x) is,
     free,
   ),
@@ -419,7 +367,7 @@ stays-reset S keeps r s there f = (
   record {
     on = λ i. held-reset (holding.Mod i) r ∙ ap (λ o. is_some o) (sym (emptied-none s i));
     locked = λ l. locked-reset l r ∙ f.locked l;
-    holds = λ i k h. absurd (some_none k ((emptied s).holder i) h (emptied-none s i));
+    holds = λ i k h. absurd (none-some k (sym (emptied-none s i) ∙ h));
   },
   refl,
 )
@@ -430,7 +378,7 @@ pub follows-load : (m : MapValue) (r : List ResolvedEvent) (s : State) → ((l :
 follows-load m r s locks free = record {
   on = λ i. held-load (holding.Mod i) m r ∙ ap (λ o. is_some o) (sym (free i));
   locked = λ l. locked-load l m r ∙ ap (λ b. is_borne m (holding.Lock l) && b) (locks l);
-  holds = λ i k h. absurd (some_none k (s.holder i) h (free i));
+  holds = λ i k h. absurd (none-some k (sym (free i) ∙ h));
 }
 
 -- exchanging the maps, where nothing is held, doesn't leave the set
@@ -453,15 +401,19 @@ pub follows-start : Follows [] start
 follows-start = record {
   on = λ i. held-start (holding.Mod i);
   locked = λ l. locked-start l;
-  holds = λ i k h. absurd (some_none k None h refl);
+  holds = λ i k h. absurd (none-some k h);
 }
 
 -- Sets of states by how many presses lead to them: below n a move leads from a set to that of its presses more.
-pub record IsKeptBelow (u : Under) (n : ℕ) (S : ℕ → State → Type 0) : Type 0 where
-  pub start : S 0 start
+pub record AreLed (u : Under) (n : ℕ) (S : ℕ → State → Type 0) : Type 0 where
   pub more : (p : ℕ) (s : State) → S p s → S (suc p) s
   pub moved : (p q : ℕ) (s : State) (move : Move) → p + presses_of move ≡ q → q < n → S p s → IsMove u s move
       → S q (moved u s move)
+
+-- the same, and the console begins in the first of them
+pub record IsKeptBelow (u : Under) (n : ℕ) (S : ℕ → State → Type 0) : Type 0 where
+  pub led : AreLed u n S
+  pub start : S 0 start
 
 -- the same, and no holder looks up a character
 pub record IsSafeBelow (u : Under) (n : ℕ) (S : ℕ → State → Type 0) : Type 0 where
@@ -498,50 +450,47 @@ abbrev pub Below : ℕ → (ℕ → State → Type 0) → ℕ → State → Type
 Below n S p s = p < n → S p s
 
 -- letting go stays in the sets below n
-below-lets_go : (u : Under) (n : ℕ) (S : ℕ → State → Type 0) → IsKeptBelow u n S → (p : ℕ) → KeepsLetGo (Below n S p)
-below-lets_go u n S kept p s k i there h lt = kept.moved p p s (LetGo k i) (omega arith) lt (there lt) h
+below-lets_go : (u : Under) (n : ℕ) (S : ℕ → State → Type 0) → AreLed u n S → (p : ℕ) → KeepsLetGo (Below n S p)
+below-lets_go u n S led p s k i there h lt = led.moved p p s (LetGo k i) (omega arith) lt (there lt) h
 
 -- exchanging the maps stays in the sets below n
-below-exchanges : (u : Under) (n : ℕ) (S : ℕ → State → Type 0) → IsKeptBelow u n S → (p : ℕ)
+below-exchanges : (u : Under) (n : ℕ) (S : ℕ → State → Type 0) → AreLed u n S → (p : ℕ)
     → KeepsExchange u (Below n S p)
-below-exchanges u n S kept p s there is lt = kept.moved p p s Exchange (omega arith) lt (there lt) is
+below-exchanges u n S led p s there is lt = led.moved p p s Exchange (omega arith) lt (there lt) is
 
 -- below n a press leads from a set to the next
-below-leads_on : (u : Under) (n : ℕ) (S : ℕ → State → Type 0) → IsKeptBelow u n S → (p : ℕ)
+below-leads_on : (u : Under) (n : ℕ) (S : ℕ → State → Type 0) → AreLed u n S → (p : ℕ)
     → LeadsOn u (S p) (Below n S (suc p))
-below-leads_on u n S kept p = record {
-  stay = λ s there next. kept.more p s there;
-  hold = λ s k i there is next. kept.moved p (suc p) s (Hold k i) (omega arith) next there is;
-  turn = λ s k l there is next. kept.moved p (suc p) s (Turn k l) (omega arith) next there is;
+below-leads_on u n S led p = record {
+  stay = λ s there next. led.more p s there;
+  hold = λ s k i there is next. led.moved p (suc p) s (Hold k i) (omega arith) next there is;
+  turn = λ s k l there is next. led.moved p (suc p) s (Turn k l) (omega arith) next there is;
 }
 
 -- an event stays in the set of the presses so far
-stays-event : (u : Under) (n : ℕ) (S : ℕ → State → Type 0) (P : List Event → Type 0) → IsKeptBelow u n S
+stays-event : (u : Under) (n : ℕ) (S : ℕ → State → Type 0) (P : List Event → Type 0) → AreLed u n S
     → AreSpared u n S P → (e : Event) (h : List Event) → P (e ∷ h)
     → HasKey e → (u.has_loads ≡ false → IsNoLoad e) → presses (e ∷ h) ≤ n
     → (s : State) → Below n S (presses h) s → Follows (resolved u.maps h) s → s.is_second ≡ is_second_in_force h
     → Stays (Below n S (presses (e ∷ h))) (is_second_in_force (e ∷ h))
     (resolve (map_in u s) (next_map u s) (resolved u.maps h) e ∷ resolved u.maps h)
-stays-event u n S P kept spared (Press k) h keeps key admitted le s there f is =
+stays-event u n S P led spared (Press k) h keeps key admitted le s there f is =
     let r : List ResolvedEvent = resolved u.maps h in
     let lt : presses h < n = omega (arith, le) in
-    subst (λ b. Stays (Below n S (suc (presses h))) b (resolve (map_in u s) (next_map u s) r (Press k) ∷ r)) is
-    (stays-press u (S (presses h)) (Below n S (suc (presses h))) (below-leads_on u n S kept (presses h)) r s
+    rw (← is) (stays-press u (S (presses h)) (Below n S (suc (presses h))) (below-leads_on u n S led (presses h)) r s
     (there lt) f k key (spared.keeps h k keeps lt s (there lt) f is) (look (map_in u s) r k)
     (sym (follows-look u r s k f)))
-stays-event u n S P kept spared (Release k) h keeps key admitted le s there f is =
+stays-event u n S P led spared (Release k) h keeps key admitted le s there f is =
     let r : List ResolvedEvent = resolved u.maps h in
     subst (λ b. Stays (Below n S (presses h)) b (ReleasedKey k ∷ r)) is
-    (stays-release (Below n S (presses h)) (below-lets_go u n S kept (presses h)) r s there f k (remembered k r) refl)
-stays-event u n S P kept spared Reset h keeps key admitted le s there f is =
-    subst (λ b. Stays (Below n S (presses h)) b (WasReset ∷ resolved u.maps h)) is
-    (stays-reset (Below n S (presses h)) (below-lets_go u n S kept (presses h)) (resolved u.maps h) s there f)
-stays-event u n S P kept spared Load h keeps key admitted le s there f is =
+    (stays-release (Below n S (presses h)) (below-lets_go u n S led (presses h)) r s there f k (remembered k r) refl)
+stays-event u n S P led spared Reset h keeps key admitted le s there f is =
+    rw (← is) (stays-reset (Below n S (presses h)) (below-lets_go u n S led (presses h)) (resolved u.maps h) s there f)
+stays-event u n S P led spared Load h keeps key admitted le s there f is =
     elim (cases_Bool u.has_loads) [
       | inl loads ↦
-          subst (λ b. Stays (Below n S (presses h)) b (WasLoaded (next_map u s) ∷ resolved u.maps h)) (ap not is)
-          (stays-load u (Below n S (presses h)) (below-lets_go u n S kept (presses h))
-          (below-exchanges u n S kept (presses h)) loads (resolved u.maps h) s there f)
+          rw (← (ap not is)) (stays-load u (Below n S (presses h)) (below-lets_go u n S led (presses h))
+          (below-exchanges u n S led (presses h)) loads (resolved u.maps h) s there f)
       | inr none ↦ absurd (true≢false (admitted none))
     ]
 
@@ -552,33 +501,43 @@ fewer (Release k) h n le = le
 fewer Reset h n le = le
 fewer Load h n le = le
 
--- Whatever presses, releases, resets and loads come, at most n presses, the console stands in a state of the sets,
--- where the lists are such that no key forgets that it holds a modifier.
-pub stays : (u : Under) (n : ℕ) (S : ℕ → State → Type 0) (P : List Event → Type 0) → IsKeptBelow u n S
-    → AreSpared u n S P → (h : List Event) → P h
-    → HasKeys h → Admits u h → presses h ≤ n
-    → Stays (Below n S (presses h)) (is_second_in_force h) (resolved u.maps h)
-stays u n S P kept spared [] keeps keys admitted le =
-    (start, (λ lt. kept.start), subst (λ r. Follows r start) (sym (resolved-start u.maps)) follows-start, refl)
-stays u n S P kept spared (e ∷ h) keeps keys admitted le =
-    let (s, there, f, is) =
-    stays u n S P kept spared h (spared.fewer e h keeps) (All-tail HasKey e h keys)
-    (λ none. All-tail IsNoLoad e h (admitted none)) (fewer e h n le) in
+-- Whatever presses, releases, resets and loads come, at most n presses, the console goes on from a state of the sets to
+-- others, where the lists are such that no key forgets that it holds a modifier.
+pub stays-on : (u : Under) (n : ℕ) (S : ℕ → State → Type 0) (P : List Event → Type 0) → AreLed u n S
+    → AreSpared u n S P → (before : List Event) (s : State) → Below n S (presses before) s
+    → Follows (resolved u.maps before) s → s.is_second ≡ is_second_in_force before → (later : List Event)
+    → P (later ++ before) × HasKeys (later ++ before) × Admits u (later ++ before) × (presses (later ++ before) ≤ n)
+    → Stays (Below n S (presses (later ++ before))) (is_second_in_force (later ++ before))
+    (resolved u.maps (later ++ before))
+stays-on u n S P led spared before s there f is [] given = (s, there, f, is)
+stays-on u n S P led spared before s there f is (e ∷ later) (keeps, keys, admitted, le) =
+    let h : List Event = later ++ before in
+    let (t, here, g, second) =
+    stays-on u n S P led spared before s there f is later (
+      spared.fewer e h keeps,
+      All-tail HasKey e h keys,
+      (λ none. All-tail IsNoLoad e h (admitted none)),
+      fewer e h n le,
+    ) in
     rw (resolved-more u.maps h e)
-    (subst (λ b. Stays (Below n S (presses (e ∷ h))) (is_second_in_force (e ∷ h))
-    (resolve (map_of u b) (map_of u (not b)) (resolved u.maps h) e ∷ resolved u.maps h)) is
-    (stays-event u n S P kept spared e h keeps (All-head HasKey e h keys)
-    (λ none. All-head IsNoLoad e h (admitted none)) le s there f is))
+    (rw (← second) (stays-event u n S P led spared e h keeps (All-head HasKey e h keys)
+    (λ none. All-head IsNoLoad e h (admitted none)) le t here g second))
+
+-- so it does from the start
+pub stays : (u : Under) (n : ℕ) (S : ℕ → State → Type 0) (P : List Event → Type 0) → IsKeptBelow u n S
+    → AreSpared u n S P → (h : List Event) → P h × HasKeys h × Admits u h × (presses h ≤ n)
+    → Stays (Below n S (presses h)) (is_second_in_force h) (resolved u.maps h)
+stays u n S P kept spared h given =
+    rw (← (append-nil h)) (stays-on u n S P kept.led spared [] start (λ lt. kept.start)
+    (subst (λ r. Follows r start) (sym (resolved-start u.maps)) follows-start) refl h
+    (subst (λ g. P g × HasKeys g × Admits u g × (presses g ≤ n)) (sym (append-nil h)) given))
 
 -- so a modifier is on only while a key that bears it is pressed
 follows-on : (ms : Maps) (h : List Event) (s : State) → Follows (resolved ms h) s → HasKeys h
     → IsOnOnlyWhilePressed (in_force ms h) h (λ i. is_on_after ms i h)
 follows-on ms h s f keys i e =
     let k : (k : ℕ) × Holds s k i = some_of (s.holder i) (sym (f.on i) ∙ e) in
-    let r : remembered k.0 (resolved ms h) ≡ Some (act.Mod i) = f.holds i k.0 k.1 in
-    let b : (k.0 < 128) × IsCellOf (in_force ms h) k.0 (Act (act.Mod i)) =
-    remembered-cell (in_force ms h) (resolved ms h) k.0 (act.Mod i) (resolved-looked ms h keys) r in
-    (k.0, b.0, b.1, remembered-pressed ms h k.0 (act.Mod i) r)
+    borne-pressed ms h (act.Mod i) keys (k.0, f.holds i k.0 k.1)
 
 -- where modifiers are on only while their keys are pressed, none is on once all are released
 pub off-once_quiet : (m : MapValue) (ms : Maps) (h : List Event) → IsOnOnlyWhilePressed m h (λ i. is_on_after ms i h)
@@ -593,7 +552,7 @@ within-on : (u : Under) (n : ℕ) (S : ℕ → State → Type 0) → IsSafeBelow
     → Admits u h → presses h ≤ n → IsOnOnlyWhilePressed (in_force u.maps h) h (λ i. is_on_after u.maps i h)
 within-on u n S safe h keys admitted le =
     let s : Stays (Below n S (presses h)) (is_second_in_force h) (resolved u.maps h) =
-    stays u n S (λ g. Unit {0}) safe.kept (all-spared u n S safe) h tt keys admitted le in
+    stays u n S (λ g. Unit {0}) safe.kept (all-spared u n S safe) h (tt, keys, admitted, le) in
     follows-on u.maps h s.0 s.2 keys
 
 -- after each list that is admitted a modifier is on only while a key that bears it is pressed

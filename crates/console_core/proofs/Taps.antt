@@ -1,29 +1,28 @@
 -- Taps of keys in states that moves lead to: where they lead, and what they type.
-use Rattle.console_core.proofs.Common.{◌≡◌, ◌+◌, ◌<◌, ℕ, Bool, true, false, ◌&&◌, ◌||◌, not, List, [], ◌∷◌, ◌++◌}
-use Rattle.console_core.proofs.Common.{Option, Some, None, refl, ap, subst, sym, ◌∙◌, inl, inr, arith, append_assoc}
-use Rattle.console_core.proofs.Common.{map, reverse, if◌then◌else◌, ◌==◌, true≢false, eqb-true, eq-eqb, reverse-append}
+use Rattle.console_core.proofs.Common.{cases_Bool, ◌≡◌, ◌+◌, ◌<◌, ℕ, Bool, true, false, List, [], ◌∷◌, ◌++◌, Option}
+use Rattle.console_core.proofs.Common.{Some, None, refl, ap, subst, sym, ◌∙◌, inl, inr, arith, append_assoc, map}
+use Rattle.console_core.proofs.Common.{reverse, if◌then◌else◌, ◌==◌, true≢false, eqb-true, eq-eqb, reverse-append}
 use Rattle.console_core.proofs.Common.{All-cons, none-some, same_modifier, modifier_index, same_action, holding_action}
-use Rattle.console_core.proofs.Common.{option_or, own_of, MapValue, accent_at, key_count, Action, Holding, Modifier}
-use Rattle.console_core.proofs.Common.{Meta, Cell, Char, Act, Event, Press, Release, Answer, Move, Hold, Turn, LetGo}
-use Rattle.console_core.proofs.Common.{Exchange, Symbol, usable, answer_char, answer_action, answer_release}
-use Rattle.console_core.proofs.Common.{char_or_error, composed_by, is_pending, ResolvedEvent, remembered, taken_over}
-use Rattle.console_core.proofs.Common.{pending, held, look, is_this_action, resolve_press, unless_nop, PressedCharacter}
-use Rattle.console_core.proofs.Common.{PressedAction, ReleasedKey, next_pending, pending_after_dead_key, between}
-use Rattle.console_core.proofs.Common.{resolved, is_second_in_force, accent_pending_after, HasKey, is_on_after}
-use Rattle.console_core.proofs.Common.{answer_to, remembered_after, look_after, answer_to_look, Under, alone, State}
-use Rattle.console_core.proofs.Common.{Holds, IsIdle, IsMove, look_in, is_held, with_holder, IsPathFrom, state_from}
-use Rattle.console_core.proofs.Common.{events_along, events_of_move, map_of, IsTapOf, composed_of}
-use Rattle.console_core.proofs.Common.{types_something, plainly, LetsGo, GoesAndTaps, HasTyped, typed_along, kept_if}
-use Rattle.console_core.proofs.Common.{Exact, Stands, fun_ext}
+use Rattle.console_core.proofs.Common.{own_of, MapValue, accent_at, key_count, Action, Holding, Modifier, Meta, Cell}
+use Rattle.console_core.proofs.Common.{Char, Act, Event, Press, Release, Answer, Move, Hold, Turn, LetGo, Exchange}
+use Rattle.console_core.proofs.Common.{Symbol, usable, answer_char, answer_action, answer_release, ResolvedEvent}
+use Rattle.console_core.proofs.Common.{remembered, taken_over, pending, is_this_action, resolve_press, unless_nop}
+use Rattle.console_core.proofs.Common.{PressedCharacter, PressedAction, ReleasedKey, next_pending, between, resolved}
+use Rattle.console_core.proofs.Common.{is_second_in_force, accent_pending_after, HasKey, is_on_after, answer_to}
+use Rattle.console_core.proofs.Common.{remembered_after, look_after, answer_to_look, Under, alone, State, Holds, IsIdle}
+use Rattle.console_core.proofs.Common.{IsMove, look_in, is_held, with_holder, IsPathFrom, state_from, events_along}
+use Rattle.console_core.proofs.Common.{events_of_move, IsTapOf, composed_of, types_something, plainly, LetsGo}
+use Rattle.console_core.proofs.Common.{GoesAndTaps, HasTyped, typed_along, kept_if, Exact, Stands}
 use Rattle.console_core.specs.Answers.{answer_dead_key}
 use Rattle.console_core.proofs.Going.{pending-along, pending-is}
-use Rattle.console_core.proofs.OneMore.{resolved-more, held-character, held-action, held-release, remembered-character}
-use Rattle.console_core.proofs.OneMore.{pending-character, pending-action, pending-release, remembered-action}
+use Rattle.console_core.proofs.OneMore.{one_map, resolved-more, held-character, held-action, held-release}
+use Rattle.console_core.proofs.OneMore.{remembered-character, pending-character, pending-action, pending-release}
+use Rattle.console_core.proofs.OneMore.{remembered-action}
 use Rattle.console_core.proofs.Prefixes.{answers_by_cases}
 use Rattle.console_core.proofs.Scripts.{tap-only, idle-none, other-remembered, pressed-look, stands-from}
 use Rattle.console_core.proofs.Scripts.{tapped-pressed}
 use Rattle.console_core.proofs.Searching.{place_last}
-use Rattle.console_core.proofs.Seeing.{one_map}
+use Rattle.console_core.proofs.Unscrolled.{same_states}
 use Rattle.console_core.proofs.Staying.{follows-character, follows-look, follows-nothing, follows-release, not_holding}
 use Rattle.keymap_core.specs.declared.action.Action.TheVariants as act
 use Rattle.keymap_core.specs.declared.action.Holding.TheVariants as holding
@@ -53,11 +52,6 @@ lets-go-first s h = record {
   events = refl;
 }
 
-gone-one : (i j : Modifier) (o : Option ℕ) (t : Bool) → same_modifier i j ≡ t → (t ≡ false → o ≡ None)
-    → (if same_modifier i j then None else o) ≡ None
-gone-one i j o true e f = ap (λ b. if b then None else o) e
-gone-one i j o false e f = ap (λ b. if b then None else o) e ∙ f refl
-
 pub lets-go-some : (s : State) (h now : List Event) (t : State) (n : ℕ) (i : Modifier) (k : ℕ) → LetsGoTo s h now t n
     → ((j : Modifier) → modifier_index j ≡ n → i ≡ j) → t.holder i ≡ Some k
     → LetsGoTo s h (Release k ∷ now) (with_holder t i None) (n + 1)
@@ -65,13 +59,10 @@ lets-go-some s h now t n i k x at holds = record {
   path = LetGo k i ∷ x.path;
   is = λ u. (subst (λ z. Holds z k i) (sym (x.leads u)) holds, x.is u);
   leads = λ u. ap (λ z. with_holder z i None) (x.leads u);
-  gone = λ j lt. gone-one i j (t.holder j) (same_modifier i j) refl
-      (λ other. elim (place_last (modifier_index j) n lt) [
-        | inl below ↦ x.gone j below
-        | inr e ↦
-            absurd (true≢false (sym (eq-eqb (modifier_index i) (modifier_index j) (ap modifier_index (at j e)))
-            ∙ other))
-      ]);
+  gone = λ j lt. elim (place_last (modifier_index j) n lt) [
+    | inl below ↦ elim (cases_Bool (same_modifier i j)) [ inl e ↦ rw e refl | inr e ↦ rw e (x.gone j below) ]
+    | inr e ↦ rw (eq-eqb (modifier_index i) (modifier_index j) (ap modifier_index (at j e))) refl
+  ];
   locks = x.locks;
   second = x.second;
   events = ap (λ z. Release k ∷ z) x.events;
@@ -102,11 +93,7 @@ lets-go-all s h now t x = record {
   path = x.path;
   is = x.is;
   leads = x.leads;
-  freed =
-      ap (λ z. record { holder = z; is_locked = t.is_locked; is_second = t.is_second })
-      (fun_ext (λ i. x.gone i (below_eight i)))
-      ∙ ap (λ z. record { holder = λ i. None; is_locked = z; is_second = t.is_second }) x.locks
-      ∙ ap (λ z. record { holder = λ i. None; is_locked = s.is_locked; is_second = z }) x.second;
+  freed = same_states _ _ (λ i. x.gone i (below_eight i)) (λ l. ap (λ z. z l) x.locks) x.second;
   events = x.events;
 }
 
@@ -117,26 +104,21 @@ pub exact-character : (r : List ResolvedEvent) (s : State) (k c : ℕ) → Exact
     → Exact (ReleasedKey k ∷ (PressedCharacter k c ∷ r)) s
 exact-character r s k c x idle =
     let now : List ResolvedEvent = PressedCharacter k c ∷ r in
-    let none : remembered k now ≡ None =
-    remembered-character k k c r ∙ ap (λ b. if b then None else remembered k r) (eq-eqb k k refl) in
+    let none : remembered k now ≡ None = rw (remembered-character k k c r, eq-eqb k k refl) refl in
     record {
       follows = follows-release now s k (follows-character r s k c x.follows idle)
           (λ i. ap (λ o. is_this_action o (act.Mod i)) none);
-      only = tap-only r now s k x
-          (λ n t. remembered-character n k c r ∙ ap (λ b. if b then None else remembered n r) t);
-      up = λ l. held-release (holding.Lock l) k now
-          ∙ ap (λ b. b && not (is_this_action (remembered k now) (act.Lock l)))
-          (held-character (holding.Lock l) k c r ∙ x.up l);
+      only = tap-only r now s k x (λ n t. rw (remembered-character n k c r, t) refl);
+      up = λ l. rw (held-release (holding.Lock l) k now, held-character (holding.Lock l) k c r, x.up l) refl;
     }
 
 -- what is remembered of an action that nothing holds is no modifier
 plain-mod : (a : Action) (i : Modifier) → ((h : Holding) → same_action a (holding_action h) ≡ false)
     → is_this_action (unless_nop a) (act.Mod i) ≡ false
-plain-mod a i plain = by (same_action a act.Nop)
-  where
-    by : (t : Bool) → is_this_action (if t then None else Some a) (act.Mod i) ≡ false
-    by true = refl
-    by false = plain (holding.Mod i)
+plain-mod a i plain = elim (cases_Bool (same_action a act.Nop)) [
+  | inl t ↦ rw t refl
+  | inr t ↦ rw t (plain (holding.Mod i))
+]
 
 pub exact-action : (r : List ResolvedEvent) (s : State) (k : ℕ) (a : Action) → Exact r s → IsIdle s k
     → ((h : Holding) → same_action a (holding_action h) ≡ false)
@@ -145,20 +127,14 @@ exact-action r s k a x idle plain =
     let now : List ResolvedEvent = PressedAction k a ∷ r in
     let none : remembered k r ≡ None = idle-none r s k x idle in
     let takes : taken_over (remembered k r) a ≡ a = ap (λ o. taken_over o a) none in
-    let holds : remembered k now ≡ unless_nop a =
-    remembered-action k k a r
-    ∙ ap (λ o. option_or o (if k == k then unless_nop a else None)) none
-    ∙ ap (λ b. if b then unless_nop a else None) (eq-eqb k k refl) in
+    let holds : remembered k now ≡ unless_nop a = rw (remembered-action k k a r, none, eq-eqb k k refl) refl in
     record {
       follows = follows-release now s k
           (follows-nothing r s k a x.follows (λ h. ap (λ b. same_action b (holding_action h)) takes ∙ plain h))
           (λ i. ap (λ o. is_this_action o (act.Mod i)) holds ∙ plain-mod a i plain);
       only = tap-only r now s k x (λ n t. other-remembered r k n a t);
-      up = λ l. held-release (holding.Lock l) k now
-          ∙ ap (λ b. b && not (is_this_action (remembered k now) (act.Lock l)))
-          (held-action (holding.Lock l) k a r
-          ∙ ap (λ b. same_action b (act.Lock l) || held (holding.Lock l) r) takes
-          ∙ ap (λ b. b || held (holding.Lock l) r) (plain (holding.Lock l)) ∙ x.up l);
+      up = λ l. rw (held-release (holding.Lock l) k now, held-action (holding.Lock l) k a r, takes)
+          (rw (plain (holding.Lock l), x.up l) refl);
     }
 
 pub stands-tapped : (u : Under) (h : List Event) (s : State) (k : ℕ) (c : Cell) → k < key_count → Stands u h s
@@ -195,13 +171,8 @@ pub look-answer : (m : MapValue) (h : List Event) (k : ℕ) (x : Cell)
     → answer_to_look (between m m) k h x
     ≡ answer_at m (accent_pending_after (between m m) h) (is_on_after (between m m) Meta h)
     (remembered_after (between m m) k h) x
-look-answer m h k (Char c) =
-    ap (λ n. answer_char n (accent_pending_after (between m m) h) (is_on_after (between m m) Meta h) c)
-    (one_map m (is_second_in_force h))
-look-answer m h k (Act a) =
-    ap (λ n. answer_action n (accent_pending_after (between m m) h) (is_on_after (between m m) Meta h)
-    (taken_over (remembered_after (between m m) k h) a))
-    (one_map m (is_second_in_force h))
+look-answer m h k (Char c) = cc (one_map m (is_second_in_force h))
+look-answer m h k (Act a) = cc (one_map m (is_second_in_force h))
 
 press-answer : (m : MapValue) (h : List Event) (s : State) (k : ℕ) (x : Cell) → Stands (alone m) h s
     → look_in (alone m) s k ≡ x
@@ -210,8 +181,7 @@ press-answer : (m : MapValue) (h : List Event) (s : State) (k : ℕ) (x : Cell) 
     (remembered_after (between m m) k h) x
 press-answer m h s k x st seen =
     let looked : look_after (between m m) k h ≡ x =
-    ap (λ b. look (map_of (alone m) b) (resolved (between m m) h) k) (sym st.second)
-    ∙ follows-look (alone m) (resolved (between m m) h) s k st.exact.follows ∙ seen in
+    cc (st.second, follows-look (alone m) (resolved (between m m) h) s k st.exact.follows, seen) in
     (answers_by_cases (between m m) k h).0 ∙ ap (λ c. answer_to_look (between m m) k h c) looked ∙ look-answer m h k x
 
 -- one event more, by its answer
@@ -235,17 +205,11 @@ typed-move : (m : MapValue) (h : List Event) (s : State) (move : Move) → IsMov
     → typed_along m (events_of_move move ++ h) ≡ typed_along m h
 typed-move m h s (Hold k i) (lt, idle, seen, free) st =
     typed-more m h (Press k) (answer.Special (act.Mod i))
-    (press-answer m h s k (Act (act.Mod i)) st seen
-    ∙ ap (λ o. answer_action m (accent_pending_after (between m m) h) (is_on_after (between m m) Meta h)
-    (taken_over o (act.Mod i)))
-    (idle-none (resolved (between m m) h) s k st.exact idle))
+    (rw (press-answer m h s k (Act (act.Mod i)) st seen, idle-none (resolved (between m m) h) s k st.exact idle) refl)
 typed-move m h s (Turn k l) (lt, idle, seen) st =
     typed-release m (Press k ∷ h) k
     ∙ typed-more m h (Press k) (answer.Special (act.Lock l))
-    (press-answer m h s k (Act (act.Lock l)) st seen
-    ∙ ap (λ o. answer_action m (accent_pending_after (between m m) h) (is_on_after (between m m) Meta h)
-    (taken_over o (act.Lock l)))
-    (idle-none (resolved (between m m) h) s k st.exact idle))
+    (rw (press-answer m h s k (Act (act.Lock l)) st seen, idle-none (resolved (between m m) h) s k st.exact idle) refl)
 typed-move m h s (LetGo k i) holds st = typed-release m h k
 typed-move m h s Exchange (free, loads) st = absurd (true≢false (sym loads))
 
@@ -267,8 +231,7 @@ pub walked : (m : MapValue) (h : List Event) (s : State) (p : Option ℕ) (cs : 
     → HasTyped m (events_along path ++ h) (state_from (alone m) s path) p cs
 walked m h s p cs path x is = record {
   stands = stands-from (alone m) h s path x.stands is;
-  pending = pending-is m (events_along path ++ h) ∙ pending-along m h s path x.stands is ∙ sym (pending-is m h)
-      ∙ x.pending;
+  pending = cc (pending-is m (events_along path ++ h), pending-along m h s path x.stands is, pending-is m h, x.pending);
   typed = typed-path m h s path x.stands is ∙ x.typed;
 }
 
@@ -296,27 +259,20 @@ pub tap-direct : (m : MapValue) (h : List Event) (s : State) (cs : List ℕ) (c 
     → HasTyped m (Release k ∷ Press k ∷ h) s None (cs ++ c ∷ [])
 tap-direct m h s cs c k x is = record {
   stands = stands-tap (alone m) h s true (symbol.Character c) k x.stands is;
-  pending =
-      pending-tap m h s k (Char c) None x.stands is.2 (pending-character m k c (resolved (between m m) h));
+  pending = cc (pending-tap m h s k (Char c) None x.stands is.2 (pending-character m k c (resolved (between m m) h)));
   typed =
       typed-release m (Press k ∷ h) k
       ∙ typed-more m h (Press k) (plainly c)
-      (press-answer m h s k (Char c) x.stands is.2
-      ∙ ap (λ p. answer_char m p (is_on_after (between m m) Meta h) c) x.pending
-      ∙ ap (λ b. answer.Char c b) (meta-off m h s x.stands (is.3 refl)))
+      (cc (press-answer m h s k (Char c) x.stands is.2, x.pending, meta-off m h s x.stands (is.3 refl)))
       ∙ ap (λ z. plainly c ∷ z) x.typed ∙ one-more cs c;
 }
 
 -- what a dead key makes pending, and gives
-dead-makes : (m : MapValue) (i : ℕ) (t : Bool) → usable m i ≡ t → t ≡ true
-    → next_pending m None (act.DeadKey i) ≡ Some i
-dead-makes m i true e is = ap (λ b. pending_after_dead_key (if b then Some i else None) None) e
-dead-makes m i false e is = absurd (true≢false (sym is))
+dead-makes : (m : MapValue) (i : ℕ) → usable m i ≡ true → next_pending m None (act.DeadKey i) ≡ Some i
+dead-makes m i can = rw can refl
 
-dead-silent : (m : MapValue) (i : ℕ) (meta t : Bool) → usable m i ≡ t → t ≡ true
-    → answer_dead_key m None meta i ≡ answer.None
-dead-silent m i meta true e is = ap (λ b. if b then answer.None else answer.Error) e
-dead-silent m i meta false e is = absurd (true≢false (sym is))
+dead-silent : (m : MapValue) (i : ℕ) (meta : Bool) → usable m i ≡ true → answer_dead_key m None meta i ≡ answer.None
+dead-silent m i meta can = rw can refl
 
 -- a tap of a dead key makes its accent pending
 pub tap-dead : (m : MapValue) (h : List Event) (s : State) (cs : List ℕ) (i k : ℕ) → HasTyped m h s None cs
@@ -330,36 +286,22 @@ tap-dead m h s cs i k x is can =
       stands = stands-tap (alone m) h s false (symbol.DeadKey i) k x.stands is;
       pending =
           pending-tap m h s k (Act (act.DeadKey i)) (Some i) x.stands is.2
-          (pending-action m k (act.DeadKey i) r
-          ∙ ap (λ o. next_pending m (pending m r) (taken_over o (act.DeadKey i))) free
-          ∙ ap (λ p. next_pending m p (act.DeadKey i)) still ∙ dead-makes m i (usable m i) refl can);
+          (rw (pending-action m k (act.DeadKey i) r, free, still) (dead-makes m i can));
       typed =
           typed-release m (Press k ∷ h) k
           ∙ typed-more m h (Press k) answer.None
-          (press-answer m h s k (Act (act.DeadKey i)) x.stands is.2
-          ∙ ap (λ o. answer_action m (accent_pending_after (between m m) h) (is_on_after (between m m) Meta h)
-          (taken_over o (act.DeadKey i))) free
-          ∙ ap (λ p. answer_dead_key m p (is_on_after (between m m) Meta h) i) x.pending
-          ∙ dead-silent m i (is_on_after (between m m) Meta h) (usable m i) refl can)
+          (rw (press-answer m h s k (Act (act.DeadKey i)) x.stands is.2, free, x.pending)
+          (dead-silent m i (is_on_after (between m m) Meta h) can))
           ∙ x.typed;
     }
 
 -- the same dead key once more
-own-given : (m : MapValue) (i c : ℕ) (t : Bool) → usable m i ≡ t → t ≡ true → own_of (accent_at m i) ≡ Some c
+own-given : (m : MapValue) (i c : ℕ) → usable m i ≡ true → own_of (accent_at m i) ≡ Some c
     → answer_dead_key m (Some i) false i ≡ plainly c
-own-given m i c true e is own =
-    ap (λ b. if b then (if is_pending i (Some i) then char_or_error false (own_of (accent_at m i)) else answer.None)
-    else answer.Error) e
-    ∙ ap (λ b. if b then char_or_error false (own_of (accent_at m i)) else answer.None) (eq-eqb i i refl)
-    ∙ ap (λ o. char_or_error false o) own
-own-given m i c false e is own = absurd (true≢false (sym is))
+own-given m i c can own = rw (can, eq-eqb i i refl, own) refl
 
-own-ends : (m : MapValue) (i : ℕ) (t : Bool) → usable m i ≡ t → t ≡ true
-    → next_pending m (Some i) (act.DeadKey i) ≡ None
-own-ends m i true e is =
-    ap (λ b. pending_after_dead_key (if b then Some i else None) (Some i)) e
-    ∙ ap (λ b. if b then None else Some i) (eq-eqb i i refl)
-own-ends m i false e is = absurd (true≢false (sym is))
+own-ends : (m : MapValue) (i : ℕ) → usable m i ≡ true → next_pending m (Some i) (act.DeadKey i) ≡ None
+own-ends m i can = rw (can, eq-eqb i i refl) refl
 
 pub same-dead : (i j : ℕ) (o : Option ℕ) (c : ℕ) (t : Bool) → (j == i) ≡ t → (if t then o else None) ≡ Some c
     → (j ≡ i) × (o ≡ Some c)
@@ -372,15 +314,11 @@ pub tap-composed : (m : MapValue) (h : List Event) (s : State) (cs : List ℕ) (
     → HasTyped m (Release k ∷ Press k ∷ h) s None (cs ++ c ∷ [])
 tap-composed m h s cs i (symbol.Character b) c k x is can made = record {
   stands = stands-tap (alone m) h s true (symbol.Character b) k x.stands is;
-  pending =
-      pending-tap m h s k (Char b) None x.stands is.2 (pending-character m k b (resolved (between m m) h));
+  pending = cc (pending-tap m h s k (Char b) None x.stands is.2 (pending-character m k b (resolved (between m m) h)));
   typed =
       typed-release m (Press k ∷ h) k
       ∙ typed-more m h (Press k) (plainly c)
-      (press-answer m h s k (Char b) x.stands is.2
-      ∙ ap (λ p. answer_char m p (is_on_after (between m m) Meta h) b) x.pending
-      ∙ ap (λ t. char_or_error t (composed_by (accent_at m i) b)) (meta-off m h s x.stands (is.3 refl))
-      ∙ ap (λ o. char_or_error false o) made)
+      (cc (press-answer m h s k (Char b) x.stands is.2, x.pending, meta-off m h s x.stands (is.3 refl), made))
       ∙ ap (λ z. plainly c ∷ z) x.typed ∙ one-more cs c;
 }
 tap-composed m h s cs i (symbol.DeadKey j) c k x is can made =
@@ -399,18 +337,12 @@ tap-composed m h s cs i (symbol.DeadKey j) c k x is can made =
           stands = stands-tap (alone m) h s true (symbol.DeadKey i) k x.stands is;
           pending =
               pending-tap m h s k (Act (act.DeadKey i)) None x.stands is.2
-              (pending-action m k (act.DeadKey i) r
-              ∙ ap (λ o. next_pending m (pending m r) (taken_over o (act.DeadKey i))) free
-              ∙ ap (λ p. next_pending m p (act.DeadKey i)) still ∙ own-ends m i (usable m i) refl can);
+              (rw (pending-action m k (act.DeadKey i) r, free, still) (own-ends m i can));
           typed =
               typed-release m (Press k ∷ h) k
               ∙ typed-more m h (Press k) (plainly c)
-              (press-answer m h s k (Act (act.DeadKey i)) x.stands is.2
-              ∙ ap (λ o. answer_action m (accent_pending_after (between m m) h) (is_on_after (between m m) Meta h)
-              (taken_over o (act.DeadKey i))) free
-              ∙ ap (λ p. answer_dead_key m p (is_on_after (between m m) Meta h) i) x.pending
-              ∙ ap (λ b. answer_dead_key m (Some i) b i) (meta-off m h s x.stands (is.3 refl))
-              ∙ own-given m i c (usable m i) refl can own)
+              (rw (press-answer m h s k (Act (act.DeadKey i)) x.stands is.2, free, x.pending)
+              (rw (meta-off m h s x.stands (is.3 refl)) (own-given m i c can own)))
               ∙ ap (λ z. plainly c ∷ z) x.typed ∙ one-more cs c;
         }
 
@@ -438,7 +370,5 @@ tap-types m o s k h now next p q cs ds x tap g before =
     subst (λ t. HasTyped m (events_along x.out ++ g) t p cs) x.there (walked m g o p cs x.out before x.goes) in
     let tapped : HasTyped m (Release k ∷ Press k ∷ (events_along x.out ++ g)) s q ds =
     tap (events_along x.out ++ g) there in
-    subst (λ z. HasTyped m z next q ds)
-    (sym (append_assoc (events_along x.back) (Release k ∷ Press k ∷ events_along x.out) g))
-    (subst (λ t. HasTyped m (events_along x.back ++ (Release k ∷ Press k ∷ (events_along x.out ++ g))) t q ds) x.leads
-    (walked m (Release k ∷ Press k ∷ (events_along x.out ++ g)) s q ds x.back tapped x.returns))
+    rw (append_assoc (events_along x.back) (Release k ∷ Press k ∷ events_along x.out) g, ← x.leads)
+    (walked m (Release k ∷ Press k ∷ (events_along x.out ++ g)) s q ds x.back tapped x.returns)

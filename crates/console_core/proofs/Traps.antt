@@ -15,7 +15,7 @@ use Rattle.console_core.proofs.OneMore.{resolved-start, resolved-more, held-star
 use Rattle.console_core.proofs.OneMore.{held-release, held-reset, held-load, remembered-character, remembered-action}
 use Rattle.console_core.proofs.OneMore.{remembered-release}
 use Rattle.console_core.proofs.Borne.{AllLooked, taken-holding, held-upper, resolved-looked}
-use Rattle.console_core.proofs.Bearing.{RememberedBySome, remembered-cell, remembered-pressed, first_kept}
+use Rattle.console_core.proofs.Bearing.{RememberedBySome, borne-pressed, remembered-cell, first_kept}
 use Rattle.console_core.proofs.PlainLooks.{never-locked}
 use Rattle.keymap_core.specs.declared.action.Action.TheVariants as act
 use Rattle.keymap_core.specs.declared.action.Lock.TheVariants as lock
@@ -126,8 +126,7 @@ on-remembered ms (Press j ∷ h) locks i free keys e =
 on-remembered ms (Release j ∷ h) locks i free keys e =
     let p : (on i (resolved ms h) ≡ true) × (not (is_this_action (remembered j (resolved ms h)) (act.Mod i)) ≡ true) =
     and_parts _ _
-    (sym (held-release (holding.Mod i) j (resolved ms h)) ∙ ap (λ r. on i r) (sym (resolved-more ms h (Release j)))
-    ∙ e) in
+    (cc (held-release (holding.Mod i) j (resolved ms h), resolved-more ms h (Release j), e)) in
     let s : RememberedBySome (holding.Mod i) (resolved ms h) =
     on-remembered ms h locks i free (All-tail HasKey (Release j) h keys) p.0 in
     rw (resolved-more ms h (Release j))
@@ -140,8 +139,7 @@ on-remembered ms (Release j ∷ h) locks i free keys e =
       | inr q ↦ (s.0, rw (remembered-release s.0 j (resolved ms h), q) s.1)
     ])
 on-remembered ms (Reset ∷ h) locks i free keys e =
-    absurd (true≢false (sym e ∙ ap (λ r. on i r) (resolved-more ms h Reset)
-    ∙ held-reset (holding.Mod i) (resolved ms h)))
+    absurd (true≢false (cc (e, resolved-more ms h Reset, held-reset (holding.Mod i) (resolved ms h))))
 on-remembered ms (Load ∷ h) locks i free keys e =
     absurd (true≢false (sym e ∙ ap (λ r. on i r) (resolved-more ms h Load)
     ∙ held-load (holding.Mod i) _ (resolved ms h)))
@@ -149,7 +147,4 @@ on-remembered ms (Load ∷ h) locks i free keys e =
 -- without locks and traps a modifier is on only while a key that bears it is pressed
 pub on_only_while_pressed_without_traps : OnOnlyWhilePressedWithoutTraps
 on_only_while_pressed_without_traps ms h keys locks i free e =
-    let s : RememberedBySome (holding.Mod i) (resolved ms h) = on-remembered ms h locks i free keys e in
-    let b : (s.0 < 128) × IsCellOf (in_force ms h) s.0 (Act (act.Mod i)) =
-    remembered-cell (in_force ms h) (resolved ms h) s.0 (act.Mod i) (resolved-looked ms h keys) s.1 in
-    (s.0, b.0, b.1, remembered-pressed ms h s.0 (act.Mod i) s.1)
+    borne-pressed ms h (act.Mod i) keys (on-remembered ms h locks i free keys e)

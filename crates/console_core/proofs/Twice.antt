@@ -1,6 +1,6 @@
 -- What the search answers of a keymap twice: a load is then a reset.
-use Rattle.console_core.proofs.Common.{suc, ◌≡◌, ℕ, ◌<◌, ◌≤◌, ◌==◌, arith, true, false, List, [], ◌∷◌, refl, ap, subst}
-use Rattle.console_core.proofs.Common.{sym, ◌∙◌, reverse, if◌then◌else◌, true≢false, All-nil, All-cons, All-head}
+use Rattle.console_core.proofs.Common.{suc, ◌≡◌, ℕ, ◌<◌, ◌≤◌, arith, true, List, [], ◌∷◌, refl, ap, subst}
+use Rattle.console_core.proofs.Common.{sym, ◌∙◌, reverse, true≢false, All-nil, All-cons, All-head}
 use Rattle.console_core.proofs.Common.{All-tail, Modifier, Event, Press, Release, Reset, Load, Sticks, Never, Undecided}
 use Rattle.console_core.proofs.Common.{MapValue, alone, with_loads, between, is_on_after, pressed, HasKey, HasKeys}
 use Rattle.console_core.proofs.Common.{IsNoLoad, HasNoLoads, as_reset, loads_as_resets, AreUnder, SticksUnder, presses}
@@ -12,12 +12,8 @@ use Rattle.console_core.proofs.Deciding.{under-self, all-admitted, on-under}
 -- with loads as resets the same keys are pressed
 pressed_alike : (k : ℕ) (h : List Event) → pressed k (loads_as_resets h) ≡ pressed k h
 pressed_alike k [] = refl
-pressed_alike k (Press j ∷ h) =
-    pressed-press k j (loads_as_resets h) ∙ ap (λ b. if j == k then true else b) (pressed_alike k h)
-    ∙ sym (pressed-press k j h)
-pressed_alike k (Release j ∷ h) =
-    pressed-release k j (loads_as_resets h) ∙ ap (λ b. if j == k then false else b) (pressed_alike k h)
-    ∙ sym (pressed-release k j h)
+pressed_alike k (Press j ∷ h) = cc (pressed-press k j (loads_as_resets h), pressed_alike k h, pressed-press k j h)
+pressed_alike k (Release j ∷ h) = cc (pressed-release k j (loads_as_resets h), pressed_alike k h, pressed-release k j h)
 pressed_alike k (Reset ∷ h) = pressed-reset k (loads_as_resets h) ∙ sym (pressed-reset k h)
 pressed_alike k (Load ∷ h) = pressed-reset k (loads_as_resets h) ∙ sym (pressed-load k h)
 

@@ -38,8 +38,7 @@ as-new m h st none = record {
 -- the answers that type something, in their order
 kept-filter : (t : Bool) (a : Answer) (xs ys : List Answer)
     → reverse (if t then a ∷ xs else xs) ++ ys ≡ reverse xs ++ (kept_if t a ++ ys)
-kept-filter true a xs ys =
-    ap (λ z. z ++ ys) (reverse-append (a ∷ []) xs) ∙ append_assoc (reverse xs) (a ∷ []) ys
+kept-filter true a xs ys = cc (reverse-append (a ∷ []) xs, append_assoc (reverse xs) (a ∷ []) ys)
 kept-filter false a xs ys = refl
 
 answers-along : (m : MapValue) (h es : List Event)
@@ -49,22 +48,19 @@ answers-along m h [] = refl
 answers-along m h (e ∷ es) =
     let a : Answer = answer_to (between m m) h e in
     let rest : List Answer = filter types_something (answers_to (between m m) (e ∷ h) es) in
-    ap (λ g. typed_along m g) (reverse-cons e es h) ∙ answers-along m (e ∷ h) es
-    ∙ sym (kept-filter (types_something a) a rest (typed_along m h))
+    cc (reverse-cons e es h, answers-along m (e ∷ h) es, kept-filter (types_something a) a rest (typed_along m h))
 
 map-reverse : {A B : Type 0} (f : A → B) (xs : List A) → map f (reverse xs) ≡ reverse (map f xs)
 map-reverse f [] = refl
 map-reverse f (x ∷ xs) =
-    ap (λ z. map f z) (reverse-append (x ∷ []) xs) ∙ map_push f (reverse xs) x
-    ∙ ap (λ z. z ++ f x ∷ []) (map-reverse f xs) ∙ sym (reverse-append (f x ∷ []) (map f xs))
+    cc (reverse-append (x ∷ []) xs, map_push f (reverse xs) x, map-reverse f xs, reverse-append (f x ∷ []) (map f xs))
 
 typed-answers : (m : MapValue) (es : List Event) (cs : List ℕ) → typed_along m (reverse es) ≡ map plainly (reverse cs)
     → Types m es cs
 typed-answers m es cs e =
     let xs : List Answer = filter types_something (answers_to (between m m) [] es) in
     let back : reverse xs ≡ map plainly (reverse cs) =
-    sym (append-nil (reverse xs)) ∙ sym (answers-along m [] es)
-    ∙ ap (λ g. typed_along m g) (append-nil (reverse es)) ∙ e in
+    cc (append-nil (reverse xs), answers-along m [] es, append-nil (reverse es), e) in
     sym (reverse-reverse xs) ∙ ap (λ z. reverse z) (back ∙ map-reverse plainly cs) ∙ reverse-reverse (map plainly cs)
 
 -- ---- one after another
@@ -91,10 +87,8 @@ typed-none m cs keyed es s none nothing is = record {
   parts = subst (λ z. AreParts m cs z es) (sym none) (λ i k at. absurd (none-some k at));
   can = All-nil (λ c. CanType m c);
   typed = record {
-    stands = subst (λ z. Stands (alone m) (reverse z) s) (sym nothing)
-        (subst (λ t. Stands (alone m) [] t) (sym is) (stands-start (alone m)));
-    pending = ap (λ z. accent_pending_after (between m m) (reverse z)) nothing
-        ∙ pending-is m [] ∙ ap (λ r. pending m r) (resolved-start (between m m)) ∙ pending-start m;
+    stands = rw (nothing, is) (stands-start (alone m));
+    pending = cc (nothing, pending-is m [], resolved-start (between m m), pending-start m);
     typed = ap (λ z. typed_along m (reverse z)) nothing;
   };
   below = omega arith;
@@ -132,8 +126,7 @@ parts-later m cs ks es more parts i k at =
 added-behind : (m : MapValue) (c : ℕ) (s next : State) (old now : List Event)
     → (types : TypesOne m c s (reverse old) (reverse now) next) → now ≡ old ++ reverse types.added
 added-behind m c s next old now types =
-    sym (reverse-reverse now) ∙ ap (λ z. reverse z) types.events ∙ reverse-append types.added (reverse old)
-    ∙ ap (λ z. z ++ reverse types.added) (reverse-reverse old)
+    cc (reverse-reverse now, types.events, reverse-append types.added (reverse old), reverse-reverse old)
 
 pub fits-behind : (m : MapValue) (c : ℕ) (s next : State) (old now : List Event)
     → TypesOne m c s (reverse old) (reverse now) next → length old ≤ length now
@@ -160,8 +153,7 @@ types-behind m c s next old es now types e = record {
   can = types.can;
   can_return = types.can_return;
   added = types.added;
-  events = ap (λ z. reverse z) e ∙ reverse-append old es
-      ∙ ap (λ z. z ++ reverse old) (types.events ∙ append-nil types.added);
+  events = cc (e, reverse-append old es, types.events, append-nil types.added);
   types = types.types;
 }
 
@@ -175,9 +167,7 @@ typed-one m cs place keyed after es now s k next x lt is ends types e =
     let more : take (place + 1) cs ≡ take place cs ++ c ∷ [] =
     take_more cs place c lt ∙ ap (λ z. take place cs ++ z ∷ []) (sym is) in
     let typed : HasTyped m (reverse now) next None (take (place + 1) cs) =
-    subst (λ z. HasTyped m (reverse now) next None z) (sym more)
-    (subst (λ g. HasTyped m g next None (take place cs ++ c ∷ [])) (sym types.events)
-    (types.types (reverse es) (take place cs) x.typed)) in
+    rw (more, types.events) (types.types (reverse es) (take place cs) x.typed) in
     let behind : now ≡ es ++ reverse types.added = added-behind m c s next es now types in
     let le : length es ≤ length now = fits-behind m c s next es now types in
     let count : length keyed ≡ place =
@@ -187,23 +177,17 @@ typed-one m cs place keyed after es now s k next x lt is ends types e =
       can_return = types.can_return;
       characters = ap characters_of e ∙ map_push (λ (k : Keyed). k.character) keyed k
           ∙ ap (λ z. z ++ c ∷ []) x.characters ∙ sym more;
-      ends = subst (λ z. AreEnds 0 z (length now)) (sym e)
-          (subst (λ n. AreEnds 0 (keyed ++ k ∷ []) n) ends
-          (ends-more 0 (length es) keyed k x.ends (omega (arith, ends, le))));
+      ends = rw (e, ← ends) (ends-more 0 (length es) keyed k x.ends (omega (arith, ends, le)));
       parts = λ i j at. elim (last-cases keyed k j i (subst (λ z. slice_get z i ≡ Some j) e at)) [
-        | inl old ↦
-            subst (λ z. (j.end ≤ length z) × Types m (take j.end z) (take (i + 1) cs)) (sym behind)
-            (parts-later m cs keyed es (reverse types.added) x.parts i j old)
+        | inl old ↦ rw behind (parts-later m cs keyed es (reverse types.added) x.parts i j old)
         | inr (here, same) ↦
             let end : j.end ≡ length now = ap (λ (z : Keyed). z.end) (sym same) ∙ ends in (
               omega (arith, end),
-              subst (λ n. Types m (take j.end now) (take (n + 1) cs)) (sym (here ∙ count))
-                  (subst (λ z. Types m z (take (place + 1) cs)) (sym (take_all j.end now (omega (arith, end))))
-                  (typed-answers m now (take (place + 1) cs) typed.typed)),
+              rw (here ∙ count, take_all j.end now (omega (arith, end)))
+              (typed-answers m now (take (place + 1) cs) typed.typed),
             )
       ];
-      can = subst (λ z. All (λ c. CanType m c) z) (sym more)
-          (All-push (λ c. CanType m c) (take place cs) c x.can types.can);
+      can = rw more (All-push (λ c. CanType m c) (take place cs) c x.can types.can);
       typed = typed;
       below = omega (arith, lt);
     }
@@ -217,24 +201,18 @@ typed-all m cs place x es s typed all (back, is, home, off, e) =
     let now : List Event = x.events.items in
     let there : State = state_from (alone m) s back in
     let first : there.is_second ≡ false =
-    path-first m s back is
-    ∙ (ap (λ t. t.is_second) (sym typed.can_return.leads) ∙ path-first m start typed.can_return.path typed.can_return.is) in
+    cc (path-first m s back is, typed.can_return.leads, path-first m start typed.can_return.path typed.can_return.is) in
     let ends : there ≡ start = home-start there home first off in
     let end : HasTyped m (reverse now) start None cs =
-    subst (λ g. HasTyped m g start None cs) (sym e)
-    (subst (λ t. HasTyped m (events_along back ++ reverse es) t None cs) ends
-    (subst (λ z. HasTyped m (events_along back ++ reverse es) there None z) all
-    (walked m (reverse es) s None (take place cs) back typed.typed is))) in
+    rw (e, ← ends, ← all) (walked m (reverse es) s None (take place cs) back typed.typed is) in
     let behind : now ≡ es ++ reverse (events_along back) =
-    sym (reverse-reverse now) ∙ ap (λ z. reverse z) e ∙ reverse-append (events_along back) (reverse es)
-    ∙ ap (λ z. z ++ reverse (events_along back)) (reverse-reverse es) in
+    cc (reverse-reverse now, e, reverse-append (events_along back) (reverse es), reverse-reverse es) in
     record {
       characters = typed.characters ∙ all;
       ends = ends-later 0 (length es) (length now) x.keyed.items typed.ends
           (omega (arith, ap length behind, length-append es (reverse (events_along back))));
       keys = subst HasKeys (reverse-reverse now) (All-reversed HasKey (reverse now) end.stands.keys);
       types = typed-answers m now cs end.typed;
-      parts = subst (λ z. AreParts m cs x.keyed.items z) (sym behind)
-          (parts-later m cs x.keyed.items es (reverse (events_along back)) typed.parts);
+      parts = rw behind (parts-later m cs x.keyed.items es (reverse (events_along back)) typed.parts);
       new = as-new m (reverse now) end.stands end.pending;
     }

@@ -1,9 +1,10 @@
 -- What presses see and what can be seen, as tests: they pass exactly where it is so.
-use Rattle.console_core.proofs.Common.{suc, ◌≡◌, ◌⊎◌, inl, inr, ℕ, ◌<◌, Bool, true, false, ◌&&◌, List, [], ◌∷◌, refl}
-use Rattle.console_core.proofs.Common.{ap, subst, sym, ◌∙◌, arith, ◌==◌, ◌||◌, ◌%◌, Contains, list_any, and_parts}
-use Rattle.console_core.proofs.Common.{eqb-true, eq-eqb, true≢false, Cell, Char, Act, Selection, Sight, Offer, Sights}
-use Rattle.console_core.proofs.Common.{MapValue, key_count, slot_of, alone, state_after, look_selected, SeesBy}
+use Rattle.console_core.proofs.Common.{suc, ◌≡◌, inl, inr, ℕ, ◌<◌, Bool, true, false, ◌&&◌, List, [], ◌∷◌, refl}
+use Rattle.console_core.proofs.Common.{ap, subst, sym, ◌∙◌, arith, ◌==◌, ◌%◌, Contains, list_any, and_parts}
+use Rattle.console_core.proofs.Common.{or_cases, eqb-true, eq-eqb, true≢false, Cell, Char, Act, Selection, Sight, Offer}
+use Rattle.console_core.proofs.Common.{Sights, MapValue, key_count, slot_of, alone, state_after, look_selected, SeesBy}
 use Rattle.console_core.proofs.Common.{is_selected, is_composed, can_see, AreSightsOf, IsReachable, selection_of}
+use Rattle.std.proofs.lemmas.Bool.{and_from}
 use Rattle.std.specs.List.{range_with_len}
 use Rattle.std.proofs.lemmas.List.Folds.{list_any_at}
 use Rattle.std.proofs.lemmas.List.FromFn.{get_or-range_with_len}
@@ -17,19 +18,10 @@ pub same-truth : (r b : Bool) → (r ≡ true → b ≡ true) → (r ≡ false �
 same-truth true b then-so then-not = sym (then-so refl)
 same-truth false b then-so then-not = sym (then-not refl)
 
--- a test that doesn't pass fails
-pub fails : (b : Bool) → (b ≡ true → ⊥) → b ≡ false
-fails true then-not = absurd (then-not refl)
-fails false then-not = refl
-
 -- a member passes the test of a list that passes
 pub any-member : {X : Type 0} (p : X → Bool) (xs : List X) (x : X) → Contains xs x → p x ≡ true
     → list_any p xs ≡ true
 any-member p xs x (n, lt, at) e = list_any_at p xs n x lt (ap p at ∙ e)
-
-pub or-cases : (a b : Bool) → (a || b) ≡ true → (a ≡ true) ⊎ (b ≡ true)
-or-cases true b e = inl refl
-or-cases false b e = inr e
 
 later-member : {X : Type 0} (x : X) (xs : List X) (y : X) → Contains xs y → Contains (x ∷ xs) y
 later-member x xs y (n, lt, at) = (suc n, omega (arith, lt), at)
@@ -38,7 +30,7 @@ later-member x xs y (n, lt, at) = (suc n, omega (arith, lt), at)
 pub some-member : {X : Type 0} (p : X → Bool) (xs : List X) → list_any p xs ≡ true
     → (x : X) × Contains xs x × (p x ≡ true)
 some-member p [] e = absurd (true≢false (sym e))
-some-member p (x ∷ xs) e = elim (or-cases (p x) (list_any p xs) e) [
+some-member p (x ∷ xs) e = elim (or_cases (p x) (list_any p xs) e) [
   | inl is ↦ (x, (0, omega arith, refl), is)
   | inr f ↦ let (y, has, is) = some-member p xs f in (y, later-member x xs y has, is)
 ]
@@ -54,9 +46,6 @@ true-same true true e = refl
 true-same false false e = refl
 true-same true false e = absurd (true≢false e)
 true-same false true e = absurd (true≢false (sym e))
-
-pub both : (a b : Bool) → a ≡ true → b ≡ true → (a && b) ≡ true
-both a b e f = ap (λ z. z && b) e ∙ f
 
 character-true : (c : ℕ) (z : Cell) → is_character c z ≡ true → z ≡ Char c
 character-true c (Char d) e = ap (λ n. Char n) (eqb-true d c e)
@@ -75,11 +64,11 @@ sees-true m y k (sight.Pair accent c) e = character-true c (look_selected m y k)
 
 pub true-sees : (m : MapValue) (y : Selection) (k : ℕ) (x : Sight) → SeesBy m y k x → sees_by m y k x ≡ true
 true-sees m y k (sight.Cell slot column) (e, f) =
-    both (slot_in y k == slot) (column_in m y k == column) (eq-eqb (slot_in y k) slot e)
+    and_from (slot_in y k == slot) (column_in m y k == column) (eq-eqb (slot_in y k) slot e)
     (eq-eqb (column_in m y k) column f)
 true-sees m y k (sight.Locks slot caps num) (e, f, g) =
-    both (slot_in y k == slot) (is_same y.caps caps && is_same y.num num) (eq-eqb (slot_in y k) slot e)
-    (both (is_same y.caps caps) (is_same y.num num) (true-same y.caps caps f) (true-same y.num num g))
+    and_from (slot_in y k == slot) (is_same y.caps caps && is_same y.num num) (eq-eqb (slot_in y k) slot e)
+    (and_from (is_same y.caps caps) (is_same y.num num) (true-same y.caps caps f) (true-same y.num num g))
 true-sees m y k (sight.Pair accent c) e = ap (λ z. is_character c z) e ∙ eq-eqb c c refl
 
 -- that of a selection
@@ -117,7 +106,7 @@ pub composed-true : (m : MapValue) (offers : List Offer) (accent : ℕ) (x : Sig
     → is_composed m offers accent x ≡ true
 composed-true m offers accent x (o, has, same, sees) =
     any-member (λ z. (z.accent == accent) && is_selected m z.selections.items x) offers o has
-    (both (o.accent == accent) (is_selected m o.selections.items x) (eq-eqb o.accent accent same)
+    (and_from (o.accent == accent) (is_selected m o.selections.items x) (eq-eqb o.accent accent same)
     (selected-true m o.selections.items x sees))
 
 pub true-composed : (m : MapValue) (offers : List Offer) (accent : ℕ) (x : Sight)

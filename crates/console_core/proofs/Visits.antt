@@ -1,16 +1,15 @@
 -- Where paths lead but for the scroll lock, and which locks a press turns.
-use Rattle.console_core.proofs.Common.{◌≡◌, ℕ, Bool, true, false, ◌&&◌, not, List, [], ◌∷◌, Option, Some, None, refl}
-use Rattle.console_core.proofs.Common.{ap, sym, ◌∙◌, if◌then◌else◌, true≢false, false_from_ne_true, eq-eqb, none-some}
-use Rattle.console_core.proofs.Common.{same_action, MapValue, same_action-true, ResolvedEvent, held, locked, remembered}
+use Rattle.console_core.proofs.Common.{cases_Bool, inl, inr, ◌≡◌, ℕ, true, false, List, [], ◌∷◌, Option, Some, None}
+use Rattle.console_core.proofs.Common.{refl, ap, sym, ◌∙◌, true≢false, false_from_ne_true, eq-eqb, none-some}
+use Rattle.console_core.proofs.Common.{same_action, MapValue, same_action-true, ResolvedEvent, locked, remembered}
 use Rattle.console_core.proofs.Common.{taken_over, PressedAction, between, resolved, is_locked_after, pressed, Under}
 use Rattle.console_core.proofs.Common.{alone, State, start, look_in, IsIdle, state_from, IsPathFrom, with_lock_turned}
-use Rattle.console_core.proofs.Common.{IsHome, HoldsSome, Stands, but_scroll, unscrolled, fun_ext, Action, Lock, Caps}
-use Rattle.console_core.proofs.Common.{Num, Scroll, Alt, Modifier, Cell, Char, Act, Event, Press, Move, Hold, Turn}
-use Rattle.console_core.proofs.Common.{LetGo, Exchange}
+use Rattle.console_core.proofs.Common.{IsHome, HoldsSome, Stands, but_scroll, unscrolled, Action, Lock, Caps, Num}
+use Rattle.console_core.proofs.Common.{Scroll, Alt, Cell, Char, Act, Event, Press, Move, Hold, Turn, LetGo, Exchange}
 use Rattle.console_core.proofs.OneMore.{locked-character, locked-action, pressed-press}
 use Rattle.console_core.proofs.Scripts.{idle-none, pressed-look}
 use Rattle.console_core.proofs.Staying.{follows-turn}
-use Rattle.console_core.proofs.Unscrolled.{moves-unscrolled, same_moved}
+use Rattle.console_core.proofs.Unscrolled.{moves-unscrolled, same_moved, same_states}
 use Rattle.keymap_core.specs.declared.action.Action.TheVariants as act
 use Rattle.keymap_core.specs.declared.action.Holding.TheVariants as holding
 
@@ -26,11 +25,7 @@ near-path u s t (move ∷ path) e is =
 
 -- home is the start, but for the scroll lock
 pub home-near : (s : State) → IsHome s → s.is_second ≡ false → unscrolled s ≡ unscrolled start
-home-near s (free, off) first =
-    ap (λ x. record { holder = x; is_locked = but_scroll s.is_locked; is_second = s.is_second })
-    (fun_ext (λ i. free i))
-    ∙ ap (λ x. record { holder = start.holder; is_locked = x; is_second = s.is_second }) (fun_ext (λ l. no_lock l))
-    ∙ ap (λ x. record { holder = start.holder; is_locked = but_scroll start.is_locked; is_second = x }) first
+home-near s (free, off) first = same_states (unscrolled s) (unscrolled start) free no_lock first
   where
     no_lock : (l : Lock) → but_scroll s.is_locked l ≡ but_scroll start.is_locked l
     no_lock Caps = off Caps (λ q. cc)
@@ -51,19 +46,10 @@ path-first m s (Exchange ∷ path) is = absurd (true≢false (sym is.0.1))
 not-lock : (b : Action) → ((l : Lock) → b ≡ act.Lock l → ⊥) → (l : Lock) → same_action b (act.Lock l) ≡ false
 not-lock b none l = false_from_ne_true (same_action b (act.Lock l)) (λ e. none l (same_action-true b (act.Lock l) e))
 
--- a holder takes no lock
-holder-takes_no : (i : Modifier) (b : Action) (l : Lock) (t : Bool) → same_action (act.Mod i) b ≡ t
-    → same_action (if t then b else act.Nop) (act.Lock l) ≡ false
-holder-takes_no i b l true e =
-    ap (λ a. same_action a (act.Lock l)) (sym (same_action-true (act.Mod i) b e))
-holder-takes_no i b l false e = refl
-
 -- what takes no lock turns none
 turns-none : (r : List ResolvedEvent) (k : ℕ) (b : Action) (l : Lock)
     → same_action (taken_over (remembered k r) b) (act.Lock l) ≡ false → locked l (PressedAction k b ∷ r) ≡ locked l r
-turns-none r k b l e =
-    locked-action l k b r
-    ∙ ap (λ t. if t && not (held (holding.Lock l) r) then not (locked l r) else locked l r) e
+turns-none r k b l e = cc (locked-action l k b r, e)
 
 -- a press turns the lock that an idle key looks up
 pub press-turns : (m : MapValue) (h : List Event) (s : State) (k : ℕ) (l : Lock) → Stands (alone m) h s → IsIdle s k
@@ -93,8 +79,11 @@ press-turns_none m h s k x none j = by (look_in (alone m) s k) refl
         ∙ not-lock b (λ l is. none l idle (seen ∙ ap (λ a. Act a) is)) j
     action b seen (Some a) e =
         let p : HoldsSome s k = x.exact.only k a e in
-        ap (λ z. same_action (taken_over z b) (act.Lock j)) (x.exact.follows.holds p.0 k p.1)
-        ∙ holder-takes_no p.0 b j (same_action (act.Mod p.0) b) refl
+        rw (x.exact.follows.holds p.0 k p.1)
+        (elim (cases_Bool (same_action (act.Mod p.0) b)) [
+          | inl t ↦ rw (t, ← same_action-true (act.Mod p.0) b t) refl
+          | inr t ↦ rw t refl
+        ])
 
     by : (c : Cell) → look_in (alone m) s k ≡ c → is_locked_after (between m m) j (Press k ∷ h) ≡ s.is_locked j
     by (Char c) seen =
@@ -106,4 +95,4 @@ press-turns_none m h s k x none j = by (look_in (alone m) s k) refl
 
 -- a key is pressed after a press of it
 pub press-presses : (k : ℕ) (h : List Event) → pressed k (Press k ∷ h) ≡ true
-press-presses k h = pressed-press k k h ∙ ap (λ b. if b then true else pressed k h) (eq-eqb k k refl)
+press-presses k h = rw (pressed-press k k h, eq-eqb k k refl) refl

@@ -1,9 +1,9 @@
 -- One bit of a word after a write.
-use Rattle.console_core.proofs.Common.{◌≡◌, ℕ, ◌+◌, ◌/◌, ◌%◌, ◌^◌, ◌<◌, ◌≤◌, ◌≢◌, ◌-◌, Bool, true, false, not, ◌⊎◌, inl}
-use Rattle.console_core.proofs.Common.{inr, eqb, refl, ap, sym, ◌∙◌, if◌then◌else◌, arith, lit<, eqb-true, eqb-false}
-use Rattle.console_core.proofs.Common.{ne_eqb, eq-eqb, zero, suc, Holding, Lock, LeftShift, Caps, holding_index}
-use Rattle.console_core.proofs.Common.{lock_index, same_lock, bit_is_set, word_mark, word_lock, word_second, mark_bit}
-use Rattle.console_core.proofs.Common.{lock_bit}
+use Rattle.console_core.proofs.Common.{cases_Bool, ◌≡◌, ℕ, ◌+◌, ◌/◌, ◌%◌, ◌^◌, ◌<◌, ◌≤◌, ◌≢◌, ◌-◌, Bool, true, false}
+use Rattle.console_core.proofs.Common.{not, ◌⊎◌, inl, inr, eqb, refl, ap, sym, ◌∙◌, if◌then◌else◌, arith, lit<}
+use Rattle.console_core.proofs.Common.{eqb-true, eqb-false, ne_eqb, eq-eqb, zero, suc, Holding, Lock, LeftShift, Caps}
+use Rattle.console_core.proofs.Common.{holding_index, lock_index, same_lock, bit_is_set, word_mark, word_lock}
+use Rattle.console_core.proofs.Common.{word_second, mark_bit, lock_bit}
 use Rattle.std.proofs.Common.{◌*◌, min, max, w32}
 use Rattle.std.specs.Prelude.{bit_and, bit_or, bit_xor}
 use Rattle.std.specs.Int.{bit_at, bit_not}
@@ -19,27 +19,21 @@ use Rattle.console_core.proofs.Places.{modifier_index-lt}
 use Rattle.console_core.specs.PackedWord.{pending_field}
 use Rattle.keymap_core.specs.declared.action.Holding.TheVariants as holding
 
--- the step of the next lemma, by whether it is the same bit
-set_by : (n k i : ℕ) (b : Bool) → k < 32 → eqb k i ≡ b
-    → bit_is_set (bit_or n (1 * 2 ^ k % 2 ^ 32)) i ≡ (if b then true else bit_is_set n i)
-set_by n k i true lt e = let s : k ≡ i = eqb-true k i e in rw (← s, bit_at_set_same w32 n k lt) refl
-set_by n k i false lt e = ap (λ x. eqb x 1) (bit_at_set_other w32 n k lt i (λ s. eqb-false k i e (sym s)))
-
 -- a bit after one was set
 pub bit-set : (n k i : ℕ) → k < 32
     → bit_is_set (bit_or n (1 * 2 ^ k % 2 ^ 32)) i ≡ (if eqb k i then true else bit_is_set n i)
-bit-set n k i lt = set_by n k i (eqb k i) lt refl
-
--- the step of the next lemma, by whether it is the same bit
-clear_by : (n k i : ℕ) (b : Bool) → k < 32 → i < 32 → eqb k i ≡ b
-    → bit_is_set (bit_and n (bit_not w32 (1 * 2 ^ k % 2 ^ 32))) i ≡ (if b then false else bit_is_set n i)
-clear_by n k i true lt lt2 e = let s : k ≡ i = eqb-true k i e in rw (← s, bit_at_clear_same w32 n k lt) refl
-clear_by n k i false lt lt2 e = ap (λ x. eqb x 1) (bit_at_clear_other w32 n k lt i lt2 (λ s. eqb-false k i e (sym s)))
+bit-set n k i lt = elim (cases_Bool (eqb k i)) [
+  | inl e ↦ let s : k ≡ i = eqb-true k i e in rw (e, ← s, bit_at_set_same w32 n k lt) refl
+  | inr e ↦ rw e (ap (λ x. eqb x 1) (bit_at_set_other w32 n k lt i (λ s. eqb-false k i e (sym s))))
+]
 
 -- a bit after one was cleared
 pub bit-clear : (n k i : ℕ) → k < 32 → i < 32
     → bit_is_set (bit_and n (bit_not w32 (1 * 2 ^ k % 2 ^ 32))) i ≡ (if eqb k i then false else bit_is_set n i)
-bit-clear n k i lt lt2 = clear_by n k i (eqb k i) lt lt2 refl
+bit-clear n k i lt lt2 = elim (cases_Bool (eqb k i)) [
+  | inl e ↦ let s : k ≡ i = eqb-true k i e in rw (e, ← s, bit_at_clear_same w32 n k lt) refl
+  | inr e ↦ rw e (ap (λ x. eqb x 1) (bit_at_clear_other w32 n k lt i lt2 (λ s. eqb-false k i e (sym s))))
+]
 
 -- a bit of a word of 32 bits is a power of two
 shl-one : (k : ℕ) → k < 32 → 1 * 2 ^ k % 2 ^ 32 ≡ 2 ^ k
@@ -69,20 +63,17 @@ turned x lt = elim (two_cases x lt) [ inl e ↦ rw e refl | inr e ↦ rw e refl 
 unturned : (x : ℕ) → x < 2 → eqb ((x + 0) % 2) 1 ≡ eqb x 1
 unturned x lt = elim (two_cases x lt) [ inl e ↦ rw e refl | inr e ↦ rw e refl ]
 
--- the step of the next lemma, by whether it is the same bit
-turn_by : (n k i : ℕ) (b : Bool) → eqb k i ≡ b
-    → bit_is_set (bit_xor n (2 ^ k)) i ≡ (if b then not (bit_is_set n i) else bit_is_set n i)
-turn_by n k i true e =
-    let s : k ≡ i = eqb-true k i e in
-    rw (bit_at_xor n (2 ^ k) i, ← s, bit_at-pow_same k) (turned (bit_at n k) (bit_at-lt n k))
-turn_by n k i false e =
-    rw (bit_at_xor n (2 ^ k) i, bit_at-pow_other k i (λ s. eqb-false k i e (sym s)))
-    (unturned (bit_at n i) (bit_at-lt n i))
-
 -- a bit after one was turned
 pub bit-turn : (n k i : ℕ) → k < 32
     → bit_is_set (bit_xor n (1 * 2 ^ k % 2 ^ 32)) i ≡ (if eqb k i then not (bit_is_set n i) else bit_is_set n i)
-bit-turn n k i lt = rw (shl-one k lt) (turn_by n k i (eqb k i) refl)
+bit-turn n k i lt = elim (cases_Bool (eqb k i)) [
+  | inl e ↦
+      let s : k ≡ i = eqb-true k i e in
+      rw (shl-one k lt, e, bit_at_xor n (2 ^ k) i, ← s, bit_at-pow_same k) (turned (bit_at n k) (bit_at-lt n k))
+  | inr e ↦
+      rw (shl-one k lt, e, bit_at_xor n (2 ^ k) i, bit_at-pow_other k i (λ s. eqb-false k i e (sym s)))
+      (unturned (bit_at n i) (bit_at-lt n i))
+]
 
 pub lock_index-lt : (l : Lock) → lock_index l < 4
 lock_index-lt Caps = lit< tt
@@ -97,14 +88,7 @@ mark_bit-lt (holding.Lock l) = let h : lock_index l < 4 = lock_index-lt l in ome
 pub lock_bit-lt : (l : Lock) → lock_bit l < 12
 lock_bit-lt l = let h : lock_index l < 4 = lock_index-lt l in omega arith
 
--- different bits
-shifted_by : (c d i j : ℕ) (b : Bool) → eqb i j ≡ b → eqb (c + i) (c + j) ≡ eqb (d + i) (d + j)
-shifted_by c d i j true e =
-    let s : i ≡ j = eqb-true i j e in rw (s, eq-eqb (c + j) (c + j) refl, eq-eqb (d + j) (d + j) refl) refl
-shifted_by c d i j false e =
-    ne_eqb (c + i) (c + j) (λ s. eqb-false i j e (omega arith))
-    ∙ sym (ne_eqb (d + i) (d + j) (λ s. eqb-false i j e (omega arith)))
-
+-- bits that are shifted alike are the same exactly where they were
 shifted : (c i j : ℕ) (b : Bool) → eqb i j ≡ b → eqb (c + i) (c + j) ≡ b
 shifted c i j true e = let s : i ≡ j = eqb-true i j e in eq-eqb (c + i) (c + j) (ap (λ x. c + x) s)
 shifted c i j false e = ne_eqb (c + i) (c + j) (λ s. eqb-false i j e (omega arith))
@@ -113,7 +97,7 @@ shifted c i j false e = ne_eqb (c + i) (c + j) (λ s. eqb-false i j e (omega ari
 pub same_mark_bit : (a b : Holding) → eqb (mark_bit a) (mark_bit b) ≡ eqb (holding_index a) (holding_index b)
 same_mark_bit (holding.Mod m) (holding.Mod n) = refl
 same_mark_bit (holding.Lock l) (holding.Lock k) =
-    shifted_by 12 8 (lock_index l) (lock_index k) (eqb (lock_index l) (lock_index k)) refl
+    shifted 12 (lock_index l) (lock_index k) _ refl ∙ sym (shifted 8 (lock_index l) (lock_index k) _ refl)
 same_mark_bit (holding.Mod m) (holding.Lock l) =
     let h : holding_index (holding.Mod m) < 8 = modifier_index-lt m in
     ne_eqb _ _ (λ e. omega arith) ∙ sym (ne_eqb (holding_index (holding.Mod m)) (8 + lock_index l) (λ e. omega arith))
@@ -159,8 +143,7 @@ bit_at-high n k i = ap (λ x. x % 2) (div-div-eq-div-mul n (2 ^ k) (2 ^ i) ∙ a
 -- a bit of the pending field is one of the word
 field-bit : (n i : ℕ) → i < 4 → bit_at (pending_field n) i ≡ bit_at n (16 + i)
 field-bit n i lt =
-    bit_at_and (n / 2 ^ 16) 15 i ∙ ap (λ x. min (bit_at (n / 2 ^ 16) i) x) (bit_at_ones 4 i lt)
-    ∙ min_one _ (bit_at-lt (n / 2 ^ 16) i) ∙ bit_at-high n 16 i
+    cc (bit_at_and (n / 2 ^ 16) 15 i, bit_at_ones 4 i lt, min_one _ (bit_at-lt (n / 2 ^ 16) i), bit_at-high n 16 i)
 
 -- the pending field has four bits
 pub field-lt : (n : ℕ) → pending_field n < 2 ^ 4

@@ -1,4 +1,4 @@
-use Rattle.console_core.proofs.Common.{reverse, ap, subst, sym, ◌∙◌, Press, state_of, IsRepeated, Leads}
+use Rattle.console_core.proofs.Common.{reverse, ap, subst, ◌∙◌, Press, state_of, IsRepeated}
 use Rattle.console_core.proofs.Approaching.{repeat-leads}
 use Rattle.console_core.proofs.Looking.{push-reversed}
 use Rattle.console_core.proofs.explorer.press_steady.Goals as goal
@@ -9,6 +9,5 @@ returns-then-is_repeated c =
     let s = state_of c.args.held.now in
     let k = c.args.key in
     let old = reverse c.args.events.now.items in
-    subst (λ z. Leads m s s old z)
-    (sym (ap reverse c.in_ok-push.ensures.items ∙ push-reversed c.args.events.now.items (Press k)))
+    rw (ap reverse c.in_ok-push.ensures.items ∙ push-reversed c.args.events.now.items (Press k))
     (repeat-leads m s k old (subst (λ u. IsRepeated u s k) one (c.is_repeated.ensures c.if-is_repeated.true)))

@@ -1,4 +1,4 @@
-use Rattle.console_core.proofs.Common.{◌≡◌, [], length, subst, arith, Adds, IsInSome, under_of, IsOfferedIn}
+use Rattle.console_core.proofs.Common.{◌≡◌, [], length, arith, under_of, IsOfferedIn}
 use Rattle.console_core.proofs.Adding.{adds-none, adds-place, enumerates}
 use Rattle.console_core.proofs.offers.accents_of.Goals as goal
 
@@ -19,5 +19,4 @@ returns c =
     let e : c.loop-place.place ≡ length es =
     omega (arith, c.loop-place-test.false, c.loop-place.auto.place-end, c.len-place-end.ensures.len) in
     enumerates _ c.loop-place.accents.items
-    (subst (λ n. Adds (λ a. IsInSome es n (λ s. IsOfferedIn u s a)) [] c.loop-place.accents.items) e
-    c.loop-place.invariant)
+    (rw (← e) c.loop-place.invariant)

@@ -1,4 +1,4 @@
-use Rattle.console_core.proofs.Common.{◌≡◌, length, subst, arith, under_of, AreSeedsTo}
+use Rattle.console_core.proofs.Common.{◌≡◌, length, arith, under_of}
 use Rattle.console_core.proofs.Offering.{seeds-none, seeds-more, seeds-skip}
 use Rattle.console_core.proofs.offers.add_offering.Goals.{in-Some+in_ok-add_state-in-Some, in-None}
 use Rattle.console_core.proofs.offers.add_offering.Goals as goal
@@ -34,5 +34,4 @@ returns c =
     let met = c.args.met.now.entries in
     let e : c.loop-place.place ≡ length met =
     omega (arith, c.loop-place-test.false, c.loop-place.auto.place-end, c.len-place-end.ensures.len) in
-    subst (λ n. AreSeedsTo (under_of c.args.maps.now) c.args.accent met n c.loop-place.states.entries) e
-    c.loop-place.invariant
+    rw (← e) c.loop-place.invariant

@@ -1,4 +1,4 @@
-use Rattle.console_core.proofs.Common.{◌≤◌, ◌<◌, length, subst, sym, arith, state_of, under_of, HasMovingKeys}
+use Rattle.console_core.proofs.Common.{◌≤◌, ◌<◌, length, arith, state_of, under_of}
 use Rattle.console_core.proofs.Offering.{added-within, behind-start, behind-step, behind-few}
 use Rattle.console_core.proofs.offers.behind.Goals as goal
 
@@ -17,9 +17,7 @@ meet_presses-requires-clause-within c =
     c.loop-place.invariant.seeds.within
 
 pub meet_presses-requires-clause-keys : goal.meet_presses-requires-clause-keys
-meet_presses-requires-clause-keys c =
-    subst (λ keys. HasMovingKeys (under_of c.args.maps.now) keys 128) (sym c.as_slice.ensures.value)
-    c.in_ok-keys.ensures
+meet_presses-requires-clause-keys c = rw c.as_slice.ensures.value c.in_ok-keys.ensures
 
 pub loop-place-smaller : goal.loop-place-smaller
 loop-place-smaller c =

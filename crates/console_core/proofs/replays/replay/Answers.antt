@@ -36,10 +36,8 @@ returns-clause-on_only_while_pressed g c =
     let e : take c.loop-event.event-index c.args.events.now ≡ c.args.events.now = grind (arith, common_steps) in
     let at : g.T.Translator.stands c.loop-event.console ms (reverse c.args.events.now ++ h) =
     rw e at (c.loop-event.invariant.stands ms h s) in
-    let keys : HasKeys (reverse c.args.events.now ++ h) =
-    g.met.T.Translator.keys_where_it_stands c.loop-event.console ms (reverse c.args.events.now ++ h) at in
-    on_only_while_pressed ms (reverse c.args.events.now ++ h) safe keys i
-    (sym (g.met.T.Translator.on_where_it_stands c.loop-event.console ms (reverse c.args.events.now ++ h) at i) ∙ on)
+    on_only_while_pressed ms _ safe (g.met.T.Translator.keys_where_it_stands _ _ _ at) i
+    (sym (g.met.T.Translator.on_where_it_stands _ _ _ at i) ∙ on)
 
 pub returns-clause-on_exactly_while_pressed : goal.returns-clause-on_exactly_while_pressed
 returns-clause-on_exactly_while_pressed g c =
@@ -47,10 +45,8 @@ returns-clause-on_exactly_while_pressed g c =
     let e : take c.loop-event.event-index c.args.events.now ≡ c.args.events.now = grind (arith, common_steps) in
     let at : g.T.Translator.stands c.loop-event.console ms (reverse c.args.events.now ++ h) =
     rw e at (c.loop-event.invariant.stands ms h s) in
-    let keys : HasKeys (reverse c.args.events.now ++ h) =
-    g.met.T.Translator.keys_where_it_stands c.loop-event.console ms (reverse c.args.events.now ++ h) at in
-    g.met.T.Translator.on_where_it_stands c.loop-event.console ms (reverse c.args.events.now ++ h) at i
-    ∙ on_exactly_while_pressed ms (reverse c.args.events.now ++ h) keys i k bears
+    g.met.T.Translator.on_where_it_stands _ _ _ at i
+    ∙ on_exactly_while_pressed ms _ (g.met.T.Translator.keys_where_it_stands _ _ _ at) i k bears
 
 pub returns-clause-repeats_turn_no_steady_lock : goal.returns-clause-repeats_turn_no_steady_lock
 returns-clause-repeats_turn_no_steady_lock g c =
@@ -58,13 +54,11 @@ returns-clause-repeats_turn_no_steady_lock g c =
     let e : take c.loop-event.event-index c.args.events.now ≡ c.args.events.now = grind (arith, common_steps) in
     let at : g.T.Translator.stands c.loop-event.console ms (reverse c.args.events.now ++ h) =
     rw e at (c.loop-event.invariant.stands ms h s) in
-    let keys : HasKeys (reverse c.args.events.now ++ h) =
-    g.met.T.Translator.keys_where_it_stands c.loop-event.console ms (reverse c.args.events.now ++ h) at in
     let joined : reverse c.args.events.now ++ h ≡ reverse repeats ++ (reverse earlier ++ h) =
     rw split (reverse-joined earlier repeats h) in
-    g.met.T.Translator.locked_where_it_stands c.loop-event.console ms (reverse c.args.events.now ++ h) at l
-    ∙ ap (λ x. is_locked_after ms l x) joined
-    ∙ repeats-kept ms l (reverse earlier ++ h) repeats steady (subst HasKeys joined keys) are
+    g.met.T.Translator.locked_where_it_stands _ _ _ at l ∙ ap (λ x. is_locked_after ms l x) joined
+    ∙ repeats-kept ms l (reverse earlier ++ h) repeats steady
+    (subst HasKeys joined (g.met.T.Translator.keys_where_it_stands _ _ _ at)) are
 
 pub returns-clause-off_once_quiet : goal.returns-clause-off_once_quiet
 returns-clause-off_once_quiet g c =
@@ -72,10 +66,8 @@ returns-clause-off_once_quiet g c =
     let e : take c.loop-event.event-index c.args.events.now ≡ c.args.events.now = grind (arith, common_steps) in
     let at : g.T.Translator.stands c.loop-event.console ms (reverse c.args.events.now ++ h) =
     rw e at (c.loop-event.invariant.stands ms h s) in
-    let keys : HasKeys (reverse c.args.events.now ++ h) =
-    g.met.T.Translator.keys_where_it_stands c.loop-event.console ms (reverse c.args.events.now ++ h) at in
-    g.met.T.Translator.on_where_it_stands c.loop-event.console ms (reverse c.args.events.now ++ h) at i
-    ∙ off_once_quiet ms (reverse c.args.events.now ++ h) safe keys quiet i
+    g.met.T.Translator.on_where_it_stands _ _ _ at i
+    ∙ off_once_quiet ms _ safe (g.met.T.Translator.keys_where_it_stands _ _ _ at) quiet i
 
 pub returns-clause-goes_on_as_after_reset : goal.returns-clause-goes_on_as_after_reset
 returns-clause-goes_on_as_after_reset g c =
@@ -83,11 +75,8 @@ returns-clause-goes_on_as_after_reset g c =
     let e : take c.loop-event.event-index c.args.events.now ≡ c.args.events.now = grind (arith, common_steps) in
     let at : g.T.Translator.stands c.loop-event.console ms (reverse c.args.events.now ++ h) =
     rw e at (c.loop-event.invariant.stands ms h s) in
-    let keys : HasKeys (reverse c.args.events.now ++ h) =
-    g.met.T.Translator.keys_where_it_stands c.loop-event.console ms (reverse c.args.events.now ++ h) at in
-    goes_on_as_after_reset ms (reverse c.args.events.now ++ h) safe keys quiet
-    (sym (g.met.T.Translator.pending_where_it_stands c.loop-event.console ms (reverse c.args.events.now ++ h) at)
-    ∙ p)
+    goes_on_as_after_reset ms _ safe (g.met.T.Translator.keys_where_it_stands _ _ _ at) quiet
+    (sym (g.met.T.Translator.pending_where_it_stands _ _ _ at) ∙ p)
 
 pub returns-clause-locked_by_fresh_presses : goal.returns-clause-locked_by_fresh_presses
 returns-clause-locked_by_fresh_presses g c =
@@ -95,10 +84,8 @@ returns-clause-locked_by_fresh_presses g c =
     let e : take c.loop-event.event-index c.args.events.now ≡ c.args.events.now = grind (arith, common_steps) in
     let at : g.T.Translator.stands c.loop-event.console ms (reverse c.args.events.now ++ h) =
     rw e at (c.loop-event.invariant.stands ms h s) in
-    let keys : HasKeys (reverse c.args.events.now ++ h) =
-    g.met.T.Translator.keys_where_it_stands c.loop-event.console ms (reverse c.args.events.now ++ h) at in
-    g.met.T.Translator.locked_where_it_stands c.loop-event.console ms (reverse c.args.events.now ++ h) at l
-    ∙ locked_by_fresh_presses ms (reverse c.args.events.now ++ h) keys l k first bearer
+    g.met.T.Translator.locked_where_it_stands _ _ _ at l
+    ∙ locked_by_fresh_presses ms _ (g.met.T.Translator.keys_where_it_stands _ _ _ at) l k first bearer
 
 pub returns-clause-looks_plainly : goal.returns-clause-looks_plainly
 returns-clause-looks_plainly g c =
@@ -106,12 +93,9 @@ returns-clause-looks_plainly g c =
     let e : take c.loop-event.event-index c.args.events.now ≡ c.args.events.now = grind (arith, common_steps) in
     let at : g.T.Translator.stands c.loop-event.console ms (reverse c.args.events.now ++ h) =
     rw e at (c.loop-event.invariant.stands ms h s) in
-    let keys : HasKeys (reverse c.args.events.now ++ h) =
-    g.met.T.Translator.keys_where_it_stands c.loop-event.console ms (reverse c.args.events.now ++ h) at in
-    shown-plain ms (reverse c.args.events.now ++ h) none keys plain k (g.T.Translator.shows_on c.loop-event.console)
-    (g.T.Translator.shows_locked c.loop-event.console)
-    (λ i. g.met.T.Translator.on_where_it_stands c.loop-event.console ms (reverse c.args.events.now ++ h) at i)
-    (λ l. g.met.T.Translator.locked_where_it_stands c.loop-event.console ms (reverse c.args.events.now ++ h) at l)
+    shown-plain ms _ none (g.met.T.Translator.keys_where_it_stands _ _ _ at) plain k
+    (g.T.Translator.shows_on c.loop-event.console) (g.T.Translator.shows_locked c.loop-event.console)
+    (λ i. g.met.T.Translator.on_where_it_stands _ _ _ at i) (λ l. g.met.T.Translator.locked_where_it_stands _ _ _ at l)
 
 pub returns-clause-on_only_while_pressed_without_traps : goal.returns-clause-on_only_while_pressed_without_traps
 returns-clause-on_only_while_pressed_without_traps g c =
@@ -119,7 +103,5 @@ returns-clause-on_only_while_pressed_without_traps g c =
     let e : take c.loop-event.event-index c.args.events.now ≡ c.args.events.now = grind (arith, common_steps) in
     let at : g.T.Translator.stands c.loop-event.console ms (reverse c.args.events.now ++ h) =
     rw e at (c.loop-event.invariant.stands ms h s) in
-    let keys : HasKeys (reverse c.args.events.now ++ h) =
-    g.met.T.Translator.keys_where_it_stands c.loop-event.console ms (reverse c.args.events.now ++ h) at in
-    on_only_while_pressed_without_traps ms (reverse c.args.events.now ++ h) keys locks i free
-    (sym (g.met.T.Translator.on_where_it_stands c.loop-event.console ms (reverse c.args.events.now ++ h) at i) ∙ on)
+    on_only_while_pressed_without_traps ms _ (g.met.T.Translator.keys_where_it_stands _ _ _ at) locks i free
+    (sym (g.met.T.Translator.on_where_it_stands _ _ _ at i) ∙ on)

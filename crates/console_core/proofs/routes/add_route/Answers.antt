@@ -1,4 +1,4 @@
-use Rattle.console_core.proofs.Common.{subst, sym, LeadsHome, AllLeadHome, HasRoute, state_of}
+use Rattle.console_core.proofs.Common.{subst, sym, LeadsHome, AllLeadHome, HasRoute}
 use Rattle.console_core.proofs.Entries.{one-by_state, has-new, has-old}
 use Rattle.console_core.proofs.routes.add_route.Goals as goal
 
@@ -9,9 +9,7 @@ returns-clause-home c =
     (one-by_state (λ s r. LeadsHome u s r.moves.items) c.args.routes.now.entries c.args.held c.args.route all home)
 
 pub returns-clause-added : goal.returns-clause-added
-returns-clause-added c =
-    subst (λ routes. HasRoute routes (state_of c.args.held)) (sym c.in_ok-insert.ensures.entries)
-    (has-new c.args.routes.now.entries c.args.held c.args.route)
+returns-clause-added c = rw c.in_ok-insert.ensures.entries (has-new c.args.routes.now.entries c.args.held c.args.route)
 
 pub returns-clause-kept : goal.returns-clause-kept
 returns-clause-kept c =

@@ -1,6 +1,6 @@
 use Rattle.console_core.proofs.Common.{sym, ◌∙◌}
 use Rattle.console_core.proofs.Entries.{none-found, found-has}
-use Rattle.console_core.proofs.RoutesHome.{is-nothing}
+use Rattle.console_core.proofs.OneMore.{is-nothing}
 use Rattle.console_core.proofs.routes.has_route.Goals as goal
 
 pub returns-clause-has : goal.returns-clause-has

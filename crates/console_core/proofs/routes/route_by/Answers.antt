@@ -9,8 +9,7 @@ returns-in_ok-longer-in-Some-get-clause-home c =
     λ u s n all is.
     let x = c.in-Some.step in
     let step : IsStep u s n x = subst (λ o. IfSome o (IsStep u s n)) c.in-Some.is is in
-    subst (λ moves. LeadsHome u s moves) (sym c.in_ok-longer-in-Some-get.ensures)
-    (step-home u s n x c.in-Some-get.route.now.moves.items step
+    rw c.in_ok-longer-in-Some-get.ensures (step-home u s n x c.in-Some-get.route.now.moves.items step
     (found-by_state (λ t r. LeadsHome u t r.moves.items) c.args.routes.now.entries x.to _ all
     (sym c.get.ensures.value ∙ ap option_copied c.in-Some-get.is)))
 

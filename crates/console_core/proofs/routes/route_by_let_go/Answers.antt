@@ -1,7 +1,7 @@
-use Rattle.console_core.proofs.Common.{◌<◌, IfSome, below_more, subst, refl, arith, None, modifier_index, Holds}
-use Rattle.console_core.proofs.Common.{with_holder, HasRoute, LeadsHome, state_of}
+use Rattle.console_core.proofs.Common.{none_unless, ◌<◌, IfSome, below_more, subst, refl, arith, None, modifier_index}
+use Rattle.console_core.proofs.Common.{Holds, with_holder, HasRoute, LeadsHome, state_of}
 use Rattle.console_core.proofs.Places.{modifier_index-lt, modifier-at}
-use Rattle.console_core.proofs.RoutesHome.{let_go-astray, is-none}
+use Rattle.console_core.proofs.RoutesHome.{let_go-astray}
 use Rattle.console_core.proofs.routes.route_by_let_go.Goals as goal
 
 pub returns-in-Some-clause-home : goal.returns-in-Some-clause-home
@@ -19,7 +19,7 @@ loop-modifier-preserved c =
     subst (λ j. Holds s k j → HasRoute routes (with_holder s j None) → ⊥)
     (modifier-at i c.loop-modifier.modifier-index _ e)
     (let_go-astray routes s _ c.let_go.result c.let_go.ensures.leads
-    (c.in_ok-route.ensures.astray (is-none _ c.in_default.not-Some)) k))
+    (c.in_ok-route.ensures.astray (none_unless _ c.in_default.not-Some)) k))
 
 pub returns-clause-astray : goal.returns-clause-astray
 returns-clause-astray c =

@@ -1,5 +1,5 @@
-use Rattle.console_core.proofs.Common.{below_more, subst, IfSome, LeadsHome, NoPressLeads, state_of, under_of}
-use Rattle.console_core.proofs.RoutesHome.{press-astray, is-none}
+use Rattle.console_core.proofs.Common.{none_unless, below_more, subst, IfSome, LeadsHome, state_of, under_of}
+use Rattle.console_core.proofs.RoutesHome.{press-astray}
 use Rattle.console_core.proofs.routes.route_by_press.Goals as goal
 
 pub returns-in-Some-clause-home : goal.returns-in-Some-clause-home
@@ -15,6 +15,5 @@ loop-code-preserved c =
     let u = under_of c.args.maps.now in
     let routes = c.args.routes.now.entries in
     below_more _ _ c.loop-code.invariant
-    (subst (λ k. NoPressLeads u routes s k) c.key_with.ensures
-    (press-astray u routes s c.key_with.result c.pressed.result c.pressed.ensures.leads
-    (c.in_ok-route.ensures.astray (is-none _ c.in_default.not-Some))))
+    (rw (← c.key_with.ensures) (press-astray u routes s c.key_with.result c.pressed.result c.pressed.ensures.leads
+    (c.in_ok-route.ensures.astray (none_unless _ c.in_default.not-Some))))

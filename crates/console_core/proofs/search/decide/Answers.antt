@@ -1,5 +1,5 @@
 use Rattle.console_core.proofs.Common.{◌≡◌, reverse, subst, ap, slice_get_within, End, TooMany, Under, State, start}
-use Rattle.console_core.proofs.Common.{AreOnAfter, under_of, Entries, HasEnded, Scroll}
+use Rattle.console_core.proofs.Common.{under_of, Entries, HasEnded, Scroll}
 use Rattle.console_core.proofs.Concluding.{complete-never, none-late, stuck-sticks}
 use Rattle.console_core.proofs.Deciding.{sent-admitted, are-on-under}
 use Rattle.console_core.proofs.GoingBack.{searched-back}
@@ -34,8 +34,7 @@ returns-in-Some c =
       left.1,
       left.2,
       are-on-under u h c.in_ok-modifiers.modifiers.items (sent-admitted u h left.0.1)
-          (subst (λ es. AreOnAfter u.maps (reverse es) c.in_ok-modifiers.modifiers.items) c.as_slice.ensures.value
-          c.in_ok-modifiers.ensures),
+          (rw (← c.as_slice.ensures.value) c.in_ok-modifiers.ensures),
     )
 
 pub returns-in-Complete : goal.returns-in-Complete

@@ -1,4 +1,4 @@
-use Rattle.console_core.proofs.Common.{inl, inr, subst, sym, arith, IsForgetful, state_of, under_of}
+use Rattle.console_core.proofs.Common.{inl, inr, arith}
 use Rattle.console_core.proofs.Searching.{place_last, same_entry}
 use Rattle.console_core.proofs.search.first_stuck.Goals as goal
 
@@ -11,8 +11,7 @@ loop-place-preserved c =
       | inl below ↦ c.loop-place.invariant j x at below forgetful
       | inr e ↦
           c.in_default.ensures
-          (subst (λ z. IsForgetful (under_of c.args.maps.now) (state_of z.0))
-          (sym (same_entry c.args.met.now.entries j c.loop-place.place x c.entry-held.result e at c.entry-held.ensures))
+          (rw (same_entry c.args.met.now.entries j c.loop-place.place x c.entry-held.result e at c.entry-held.ensures)
           forgetful)
     ]
 

@@ -1,5 +1,5 @@
 use Rattle.console_core.proofs.Common.{◌≡◌, ◌≤◌, ◌+◌, [], ◌∷◌, ◌<◌, length, None, subst, sym, arith, Origin, under_of}
-use Rattle.console_core.proofs.Common.{origin_of, Searched, AreInOrder, AreWithin, HasMovingKeys}
+use Rattle.console_core.proofs.Common.{origin_of, Searched, AreInOrder, AreWithin}
 use Rattle.console_core.proofs.Growing.{added-longer}
 use Rattle.console_core.proofs.Searching.{start-entries, searched-start, order-within, searched-fewer, level-done}
 use Rattle.console_core.proofs.Searching.{closed-done}
@@ -24,9 +24,7 @@ loop-level-init c =
     }
 
 pub press-requires-clause-keys : goal.press-requires-clause-keys
-press-requires-clause-keys c =
-    subst (λ keys. HasMovingKeys (under_of c.args.maps.now) keys 128) (sym c.as_slice.ensures.value)
-    c.in_ok-keys.ensures
+press-requires-clause-keys c = rw c.as_slice.ensures.value c.in_ok-keys.ensures
 
 pub returns : goal.returns
 returns c =
@@ -90,8 +88,7 @@ loop-level-preserved c =
     let closed_longer : length es ≤ length mid = added-longer es mid c.in_ok-close.ensures.grown in
     let pressed_longer : length mid ≤ length now = added-longer mid now c.in_ok-press.ensures.grown in
     record {
-      searched = subst (λ n. Searched u (origin_of c.args.maps.now) now n n) (sym e)
-          (c.in_ok-press.ensures.searched small);
+      searched = rw e (c.in_ok-press.ensures.searched small);
       order = subst (λ n. AreInOrder now n (c.loop-level.presses + 1)) (sym e) c.in_ok-press.ensures.order;
       below = omega (arith, e, pressed_longer);
       levels =

@@ -1,6 +1,6 @@
-use Rattle.console_core.proofs.Common.{◌<◌, length, get_or, refl, subst, sym, arith, below_more, ◌∙◌, get_or_default}
-use Rattle.console_core.proofs.Common.{SeesBy, is_selected}
-use Rattle.console_core.proofs.Visible.{selected-true, true-selected, fails}
+use Rattle.console_core.proofs.Common.{false_from_ne_true, ◌<◌, length, get_or, refl, subst, sym, arith, below_more}
+use Rattle.console_core.proofs.Common.{◌∙◌, get_or_default, SeesBy, is_selected}
+use Rattle.console_core.proofs.Visible.{selected-true, true-selected}
 use Rattle.console_core.proofs.sights.is_selected.Goals as goal
 
 pub loop-selection-preserved : goal.loop-selection-preserved
@@ -23,6 +23,6 @@ returns-then-is_seeing c =
 pub returns : goal.returns
 returns c =
     let ys = c.args.selections.now in
-    sym (fails (is_selected c.args.map.now ys c.args.sight) (λ passes.
+    sym (false_from_ne_true (is_selected c.args.map.now ys c.args.sight) (λ passes.
     let (y, (n, lt, at), (k, below, sees)) = true-selected c.args.map.now ys c.args.sight passes in
     c.loop-selection.invariant n (omega (arith, lt, c.loop-selection-test.false)) y at k below sees))

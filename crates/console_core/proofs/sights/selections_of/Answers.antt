@@ -1,4 +1,4 @@
-use Rattle.console_core.proofs.Common.{◌≡◌, [], length, subst, arith, IsWith, Adds, IsInSome, selection_of}
+use Rattle.console_core.proofs.Common.{◌≡◌, [], length, subst, arith, IsWith, selection_of}
 use Rattle.console_core.proofs.Adding.{adds-none, adds-one, adds-place, enumerates}
 use Rattle.console_core.proofs.sights.selections_of.Goals as goal
 
@@ -21,5 +21,4 @@ returns c =
     let e : c.loop-place.place ≡ length es =
     omega (arith, c.loop-place-test.false, c.loop-place.auto.place-end, c.len-place-end.ensures.len) in
     enumerates _ c.loop-place.selections.items
-    (subst (λ n. Adds (λ y. IsInSome es n (λ s. selection_of s ≡ y)) [] c.loop-place.selections.items) e
-    c.loop-place.invariant)
+    (rw (← e) c.loop-place.invariant)

@@ -1,5 +1,5 @@
 use Rattle.console_core.proofs.Common.{ap, subst, sym, ◌∙◌, ◌++◌, ◌-◌, [], arith, drop, length, reverse, take, take_all}
-use Rattle.console_core.proofs.Common.{AreKnown, TypesOne, state_of}
+use Rattle.console_core.proofs.Common.{TypesOne, state_of}
 use Rattle.std.proofs.lemmas.List.{length-drop}
 use Rattle.console_core.proofs.Known.{are_same_sought, tells-sought, known-more}
 use Rattle.console_core.proofs.typing.keep.Goals as goal
@@ -10,8 +10,7 @@ returns c =
     let k = c.args.sought.now in
     let next = c.args.next.now in
     let es = c.args.events.now in
-    subst (λ z. AreKnown m z) (sym c.in_ok-insert.ensures.entries)
-    (known-more are_same_sought tells-sought m c.args.known.now.entries k
+    rw c.in_ok-insert.ensures.entries (known-more are_same_sought tells-sought m c.args.known.now.entries k
     (record { events = c.extend_from_slice.new.self; next = next }) all
     (subst (λ z. TypesOne m k.character (state_of k.from) [] (reverse z) (state_of next))
     (sym (c.in_ok-extend_from_slice.ensures.items

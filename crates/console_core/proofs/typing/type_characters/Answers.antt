@@ -1,5 +1,5 @@
-use Rattle.console_core.proofs.Common.{Some, ap, subst, sym, ◌∙◌, reverse, take_all, slice_get-get_or, alone, AreKnown}
-use Rattle.console_core.proofs.Common.{AreExplorations, GoesHome, origin_in, state_of}
+use Rattle.console_core.proofs.Common.{subst, sym, ◌∙◌, reverse, take_all, slice_get-get_or, AreKnown}
+use Rattle.console_core.proofs.Common.{AreExplorations, state_of}
 use Rattle.console_core.specs.Inner.Exploring.{Leads}
 use Rattle.console_core.proofs.Choosing.{no-route}
 use Rattle.console_core.proofs.Exploring.{returns-origin}
@@ -21,8 +21,7 @@ returns-in-NoWay-clause-error c =
       c.loop-place.invariant.typed.can,
       (
         x,
-        slice_get-get_or cs c.loop-place.place x c.loop-place-test.true
-            ∙ ap (λ z. Some z) (sym c.index-characters-place.is),
+        cc (slice_get-get_or cs c.loop-place.place x c.loop-place-test.true, c.index-characters-place.is),
         subst (λ r. Leads c.args.map.now x (state_of c.loop-place.from) (reverse c.loop-place.events.items)
             (reverse c.type_next.new.events.items) r) c.in-NoWay.is c.in_ok-next.ensures.leads,
       ),
@@ -65,8 +64,7 @@ returns-then-branch-clause-typed c =
     let v = c.explored_from.ensures m c.in_ok-see.ensures.explorations in
     typed-all m cs c.loop-place.place (record { keyed = c.loop-place.keyed; events = c.go_home.new.events })
     c.loop-place.events.items s c.loop-place.invariant.typed (take_all c.loop-place.place cs c.loop-place-test.false)
-    (subst (λ t. GoesHome (alone m) t h now) v.2
-    (subst (λ n. GoesHome (alone n) (origin_in e) h now) v.1 (c.in_ok-go_home.ensures.0 c.if-branch.true)))
+    (rw (← v.2, ← v.1) (c.in_ok-go_home.ensures.0 c.if-branch.true))
 
 pub returns-clause-error : goal.returns-clause-error
 returns-clause-error c =

@@ -1,4 +1,4 @@
-use Rattle.console_core.proofs.Common.{◌≤◌, ◌∙◌, [], drop, length, reverse, subst, sym, AreKnown, TypesOne, state_of}
+use Rattle.console_core.proofs.Common.{◌∙◌, reverse, subst, sym, AreKnown, state_of}
 use Rattle.console_core.specs.Inner.Exploring.{Leads}
 use Rattle.console_core.proofs.Typings.{types-alone, fits-behind}
 use Rattle.console_core.proofs.typing.type_next.Goals.{in-To+in_ok-keep, in_default-typed}
@@ -17,8 +17,7 @@ keep-requires c =
     subst (λ r. Leads c.args.map.now k.character (state_of k.from) (reverse old) (reverse now) r) c.in-To.is
     c.in_ok-typed.ensures.leads in
     let le = fits-behind c.args.map.now k.character (state_of k.from) (state_of c.in-To.next) old now leads in
-    subst (λ n. n ≤ length c.deref.result.now) (sym (c.len-start.ensures ∙ c.recall.new.events.ok.0))
-    (subst (λ z. length old ≤ length z) (sym c.deref.ensures.value) le)
+    rw (c.len-start.ensures ∙ c.recall.new.events.ok.0, c.deref.ensures.value) le
 
 pub returns-clause-known : goal.returns-clause-known
 returns-clause-known c = elim c.match-typed.branch [
@@ -31,12 +30,8 @@ returns-clause-known c = elim c.match-typed.branch [
       let leads =
       subst (λ r. Leads m k.character (state_of k.from) (reverse old) (reverse now) r) w.in-To.is
       c.in_ok-typed.ensures.leads in
-      subst (λ z. AreKnown m z.entries) (sym w.known-is)
-      (w.in_ok-keep.ensures m c.requires.known
-      (subst (λ z. TypesOne m k.character (state_of k.from) [] (reverse (drop c.len-start.result z)) next)
-      (sym w.deref.ensures.value)
-      (subst (λ n. TypesOne m k.character (state_of k.from) [] (reverse (drop n now)) next)
-      (sym (c.len-start.ensures ∙ c.recall.new.events.ok.0))
-      (types-alone m k.character (state_of k.from) next old now leads))))
+      rw w.known-is (w.in_ok-keep.ensures m c.requires.known
+      (rw (w.deref.ensures.value, c.len-start.ensures ∙ c.recall.new.events.ok.0)
+      (types-alone m k.character (state_of k.from) next old now leads)))
   | in_default-typed w ↦ subst (λ z. AreKnown c.args.map.now z.entries) (sym w.known-is) c.requires.known
 ]

@@ -1,5 +1,5 @@
 use Rattle.console_core.proofs.Common.{◌+◌, ℕ, take, get_or, inl, inr, ap, subst, sym, ◌∙◌, Contains, take_all}
-use Rattle.console_core.proofs.Common.{get_or_default, IsBase}
+use Rattle.console_core.proofs.Common.{get_or_default}
 use Rattle.console_core.proofs.RoutesHome.{before-next}
 use Rattle.console_core.specs.declared.explored.Symbol.TheVariants as symbol
 use Rattle.console_core.proofs.ways.base_in.Goals as goal
@@ -16,8 +16,7 @@ loop-pair-preserved c =
       | inl before ↦ c.loop-pair.invariant far p (subst (λ z. Contains (take n z) p) e before) base
       | inr f ↦
           c.is_base.ensures.none c.if-is_base.false far
-          (subst (λ z. IsBase c.args.map.now c.args.explored.now c.args.index c.args.c z)
-          (ap (λ (q : ℕ × ℕ). symbol.Character q.0) (sym f) ∙ sym c.base_of-base.ensures) base)
+          (rw (← (ap (λ (q : ℕ × ℕ). symbol.Character q.0) (sym f) ∙ sym c.base_of-base.ensures)) base)
     ]
 
 pub returns : goal.returns
@@ -27,5 +26,4 @@ returns c =
     let items = c.pairs-pair-items.result.now in
     let e = c.pairs-pair-items.ensures.value in
     c.loop-pair.invariant far p
-    (subst (λ z. Contains (take n z) p) e
-    (subst (λ z. Contains z p) (sym (take_all n items c.loop-pair-test.false)) (subst (λ z. Contains z p) (sym e) has)))
+    (rw (← e, take_all n items c.loop-pair-test.false, e) has)

@@ -1,8 +1,8 @@
 use Rattle.console_core.proofs.Common.{◌≡◌, inl, inr, slice_get, Some, subst, sym, ◌∙◌, arith, true≢false}
-use Rattle.console_core.proofs.Common.{slice_get_within, alone, IsTapOf, map_of_explored, HasRoute, state_of}
+use Rattle.console_core.proofs.Common.{slice_get_within, alone, map_of_explored, HasRoute, state_of}
 use Rattle.console_core.proofs.Looking.{entry-at}
 use Rattle.console_core.proofs.Searching.{place_last}
-use Rattle.console_core.proofs.Seeing.{one_map}
+use Rattle.console_core.proofs.OneMore.{one_map}
 use Rattle.console_core.proofs.explored.Explored.first_place.Goals.{then-not-is_near+in-Some+else-has_route}
 use Rattle.console_core.proofs.explored.Explored.first_place.Goals.{then-not-is_near+in_default}
 use Rattle.console_core.proofs.explored.Explored.first_place.Goals.{else-not-is_near+else-has_locks_of}
@@ -21,9 +21,7 @@ returns-then-has_route c =
       x,
       at,
       subst (λ z. HasRoute e.routes.entries (state_of z)) is (c.has_route.ensures.has c.if-has_route.true),
-      subst (λ z. IsTapOf (alone (map_of_explored e)) (state_of z) c.args.tap.now.is_plain c.args.tap.now.symbol
-          c.in-Some.key) is
-          (c.in-Some.ensures (alone (map_of_explored e)) (one_map (map_of_explored e) (state_of h).is_second)),
+      rw (← is) (c.in-Some.ensures (alone (map_of_explored e)) (one_map (map_of_explored e) (state_of h).is_second)),
     )
 
 pub loop-place-preserved : goal.loop-place-preserved
@@ -43,8 +41,7 @@ loop-place-preserved c =
             (subst (λ z. HasRoute e.routes.entries (state_of z)) (sym (here f)) has)
         | then-not-is_near+in_default w ↦
             w.in_default.ensures (alone m) (one_map m (state_of h).is_second) k
-            (subst (λ z. IsTapOf (alone m) (state_of z) c.args.tap.now.is_plain c.args.tap.now.symbol k)
-            (sym (here f)) tapped)
+            (rw (here f) tapped)
         | else-not-is_near+else-has_locks_of w ↦ absurd (true≢false (sym w.if-not-is_near.false ∙ near))
       ]
     ]

@@ -1,4 +1,4 @@
-use Rattle.console_core.proofs.Common.{subst, reverse, sym, slice_get_within, alone, map_of_explored, origin_in, LetsGo}
+use Rattle.console_core.proofs.Common.{subst, reverse, sym, slice_get_within, alone, map_of_explored, origin_in}
 use Rattle.console_core.proofs.Common.{HasRoute, LeadsHome, freed, state_of}
 use Rattle.console_core.proofs.Exploring.{tap-freed, tap-home}
 use Rattle.console_core.proofs.GoingBack.{searched-back}
@@ -22,10 +22,8 @@ returns-in_ok-next c =
     tap-freed u (origin_in e) e.met.entries e.routes.entries c.args.at.place x c.args.at.key
     (reverse c.args.events.now.items) _ _ _ _ (c.requires.explored.searched.reached c.args.at.place x at)
     c.requires.explored.home c.in_ok-go_out.ensures c.in_ok-tap.ensures
-    (subst (λ h. LetsGo (state_of h) (reverse c.tap.new.events.items) (reverse c.let_all_go.new.events.items)
-    (state_of c.in_ok-next.next)) is c.in_ok-next.ensures)
-    (subst (λ h. HasRoute e.routes.entries (freed (state_of h))) is
-    (subst (λ t. HasRoute e.routes.entries t) c.freed.ensures (c.has_route.ensures.has c.if-has_route.true)))
+    (rw (← is) c.in_ok-next.ensures)
+    (rw (← is, ← c.freed.ensures) (c.has_route.ensures.has c.if-has_route.true))
 
 pub come_home-requires : goal.come_home-requires
 come_home-requires c =

@@ -1,5 +1,5 @@
 use Rattle.console_core.proofs.Common.{reverse, subst, sym, slice_get_within, map_of_explored, HasRoute, LeadsHome}
-use Rattle.console_core.proofs.Common.{state_of, LeadsComposing, LeadsOn, alone}
+use Rattle.console_core.proofs.Common.{state_of, alone}
 use Rattle.console_core.proofs.Approaching.{out-leads, home-leads, dead-leads, met-first, composing-leads}
 use Rattle.console_core.proofs.GoingBack.{searched-back}
 use Rattle.console_core.proofs.Results.{on_ok-then}
@@ -46,12 +46,9 @@ returns c =
     let is = c.state_at.ensures z there in
     let (moves, home, events) = c.in_ok-come_home.ensures (alone m) x.home in
     composing-leads {a = old} {b = out} {c = tapped} {d = back} {e = now}
-    (subst (λ o. LeadsOn m o s old out) c.requires.explored.1
-    (out-leads e x d.place z there old out c.in_ok-go_out.ensures))
-    (subst (λ l. LeadsComposing m accent s s out l) (sym c.in_ok-tap.ensures)
-    (dead-leads m s d.key accent out lt idle seen))
+    (rw (← c.requires.explored.1) (out-leads e x d.place z there old out c.in_ok-go_out.ensures))
+    (rw c.in_ok-tap.ensures (dead-leads m s d.key accent out lt idle seen))
     (home-leads m s moves (met-first e x d.place z there)
     (subst (λ h. LeadsHome (alone m) (state_of h) moves) is home) tapped back events)
-    (subst (λ o. LeadsOn m o (state_of y.0) back now) c.requires.explored.1
-    (out-leads e x c.args.place y at back now added)))
+    (rw (← c.requires.explored.1) (out-leads e x c.args.place y at back now added)))
     c.go_out-2.ensures

@@ -1,5 +1,4 @@
-use Rattle.console_core.proofs.Common.{ℕ, ap, subst, sym, ◌∙◌, Caps, Num, Scroll, Alt, between, alone, locked}
-use Rattle.console_core.proofs.Common.{ReachesMoreThanFrom, state_limit, origin_in, state_of, IsWhole}
+use Rattle.console_core.proofs.Common.{ap, sym, ◌∙◌, Caps, Num, Scroll, Alt, between, locked, state_of, IsWhole}
 use Rattle.console_core.proofs.Approaching.{start-rest}
 use Rattle.console_core.proofs.OneMore.{resolved-start, locked-start}
 use Rattle.console_core.proofs.explorer.Explorer.new.Goals as goal
@@ -33,5 +32,4 @@ pub returns : goal.returns
 returns c =
     let e = c.in_ok-explored.explored in
     let (x, same, from) = c.in_ok-explored.ensures in
-    subst (λ o. (p : ℕ) × ReachesMoreThanFrom (alone c.args.map.now) o state_limit p) (from ∙ c.start.ensures)
-    (subst (λ m. (p : ℕ) × ReachesMoreThanFrom (alone m) (origin_in e) state_limit p) same (x.more c.if-explored.false))
+    rw (← (from ∙ c.start.ensures), ← same) (x.more c.if-explored.false)

@@ -1,5 +1,4 @@
-use Rattle.console_core.proofs.Common.{IfSome, ap, reverse, subst, sym, Visits, map_of_explored, state_of, IsAim}
-use Rattle.console_core.proofs.Common.{locks_in}
+use Rattle.console_core.proofs.Common.{IfSome, ap, reverse, subst, state_of, IsAim, locks_in}
 use Rattle.console_core.specs.Inner.Showing.{sight_aimed}
 use Rattle.console_core.proofs.Approaching.{aim-rest}
 use Rattle.console_core.proofs.explorer.Explorer.visit.Goals as goal
@@ -18,6 +17,4 @@ returns-in_ok-events-in-Some-clause-visits c =
     let e = c.self.inside.explored in
     let next = locks_in (state_of c.in-Some.aim.next) in
     let events = reverse c.in_ok-events-in-Some.events.items in
-    subst (λ p. Visits p.map p.locks next p.aim events) c.self.view_is
-    (subst (λ o. Visits (map_of_explored e) (locks_in (state_of c.self.inside.from)) next o events)
-    (sym (ap sight_aimed c.in-Some.is)) c.in_ok-events-in-Some.ensures)
+    rw (← c.self.view_is, ap sight_aimed c.in-Some.is) c.in_ok-events-in-Some.ensures

@@ -1,5 +1,6 @@
 use Rattle.console_core.proofs.Common.{refl, not-true, state_of}
-use Rattle.console_core.proofs.RoutesHome.{all-off, none-on, not-false}
+use Rattle.console_core.proofs.RoutesHome.{all-off, none-on}
+use Rattle.std.proofs.lemmas.Bool.{not-false}
 use Rattle.console_core.proofs.held.Held.is_home.Goals as goal
 
 pub returns-then-is_free-clause-home : goal.returns-then-is_free-clause-home

@@ -1,4 +1,4 @@
-use Rattle.console_core.proofs.Common.{subst, sym, below_more, Offers, state_of, under_of}
+use Rattle.console_core.proofs.Common.{below_more, Offers, state_of, under_of}
 use Rattle.console_core.proofs.Adding.{one_accent}
 use Rattle.console_core.proofs.held.Held.key_offering.Goals.{in-Some+else-offered-accent, in_default}
 use Rattle.console_core.proofs.held.Held.key_offering.Goals as goal
@@ -8,8 +8,7 @@ loop-code-preserved c =
     below_more _ _ c.loop-code.invariant
     (λ offers.
     let here : Offers (under_of c.args.maps.now) (state_of c.args.self.now) c.key_with-key.result c.args.accent =
-    subst (λ k. Offers (under_of c.args.maps.now) (state_of c.args.self.now) k c.args.accent)
-    (sym c.key_with-key.ensures) offers in
+    rw c.key_with-key.ensures offers in
     elim c.match-offered.branch [
       | in-Some+else-offered-accent w ↦
           w.if-offered-accent.false (one_accent _ _ _ w.in-Some.ensures.1 here.1)

@@ -1,4 +1,4 @@
-use Rattle.console_core.proofs.Common.{arith, reverse, subst, sym, ap, ◌∙◌, ◌+◌, ◌∷◌, Release, state_of}
+use Rattle.console_core.proofs.Common.{arith, reverse, subst, sym, ap, ◌∙◌, ◌+◌, Release, state_of}
 use Rattle.console_core.proofs.Looking.{push-reversed}
 use Rattle.console_core.proofs.Places.{modifier-at}
 use Rattle.console_core.proofs.Taps.{LetsGoTo, lets-go-first, lets-go-some, lets-go-none, lets-go-all}
@@ -20,16 +20,13 @@ loop-modifier-preserved c =
           subst (λ z. LetsGoTo s h z (state_of c.match-holder.held) (n + 1))
           (sym (ap reverse (ap (λ v. v.items) w.events-is ∙ w.in_ok-push.ensures.items)
           ∙ push-reversed c.loop-modifier.events.items (Release w.in-Some.key)))
-          (subst (λ z. LetsGoTo s h (Release w.in-Some.key ∷ now) z (n + 1))
-          (sym (ap (λ x. state_of x) w.held-is ∙ w.with_holder-held.ensures))
+          (rw (ap (λ x. state_of x) w.held-is ∙ w.with_holder-held.ensures)
           (lets-go-some s h now t n _ w.in-Some.key c.loop-modifier.invariant (λ i e. modifier-at i n _ e)
           (sym c.holder.ensures ∙ w.in-Some.is)))
       | in_default w ↦
-          subst (λ z. LetsGoTo s h z (state_of c.match-holder.held) (n + 1))
-          (sym (ap reverse (ap (λ v. v.items) w.events-is)))
-          (subst (λ z. LetsGoTo s h now z (n + 1)) (sym (ap (λ x. state_of x) w.held-is))
+          rw (ap reverse (ap (λ v. v.items) w.events-is), ap (λ x. state_of x) w.held-is)
           (lets-go-none s h now t n _ c.loop-modifier.invariant (λ i e. modifier-at i n _ e)
-          (sym c.holder.ensures ∙ w.in_default.is)))
+          (sym c.holder.ensures ∙ w.in_default.is))
     ]
 
 pub returns : goal.returns

@@ -1,4 +1,4 @@
-use Rattle.console_core.proofs.Common.{refl, subst, sym, ◌∙◌, SeesBy}
+use Rattle.console_core.proofs.Common.{refl, ◌∙◌}
 use Rattle.console_core.proofs.Visible.{key-of-slot}
 use Rattle.console_core.proofs.selection.Selection.slot_seeing.Goals as goal
 
@@ -6,5 +6,4 @@ pub returns-else-sees : goal.returns-else-sees
 returns-else-sees c =
     λ k lt at sees.
     c.if-sees.ensures.unseen refl
-    (subst (λ n. SeesBy c.args.map.now c.args.self n c.args.sight)
-    (sym (c.key_of-key.ensures.value ∙ key-of-slot c.args.self k c.args.slot lt at)) sees)
+    (rw (c.key_of-key.ensures.value ∙ key-of-slot c.args.self k c.args.slot lt at) sees)

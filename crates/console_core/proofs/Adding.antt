@@ -3,7 +3,7 @@ use Rattle.console_core.proofs.Common.{◌≡◌, ◌≢◌, ℕ, ◌+◌, ◌<�
 use Rattle.console_core.proofs.Common.{ap, subst, sym, ◌∙◌, arith, slice_get, Some, Contains, true≢false}
 use Rattle.console_core.proofs.Common.{get_or_default, Contains-push, Contains-push_cases, Contains-append_left, Cell}
 use Rattle.console_core.proofs.Common.{Act, usable, Under, State, look_in, Offers, HasNoDoubles, state_of, Entry}
-use Rattle.console_core.proofs.Common.{Entries, IsWith, Adds, IsInSome, AddsOffer, AddsOffers}
+use Rattle.console_core.proofs.Common.{Entries, IsWith, Adds, IsInSome, AddsOffer, AddsOffers, rules}
 use Rattle.std.proofs.lemmas.List.Quantifiers.{all_pairs_push}
 use Rattle.console_core.specs.Sights.{Enumerates}
 use Rattle.console_core.proofs.Searching.{place_last, same_entry}
@@ -103,8 +103,7 @@ offer-added u s k a old now can is w =
 -- the accent that the key offers isn't usable
 pub unusable-none : (u : Under) (s : State) (k a : ℕ) → Offers u s k a → usable u.maps.first a ≡ false
     → (b : ℕ) → usable u.maps.first b ≡ true → Offers u s k b → ⊥
-unusable-none u s k a is not_usable b can offers =
-    true≢false (cc (can, one_accent a b (look_in u s k) is.1 offers.1, not_usable))
+unusable-none u s k a is not_usable b can offers = search (rules, true≢false, one_accent)
 
 -- that of one more key
 pub offers-more : (u : Under) (s : State) (n : ℕ) (old mid now : List ℕ) → AddsOffers u s n old mid

@@ -1,12 +1,12 @@
 -- That what a console keeps agrees with a list of resolved events is kept by each kind of resolved event.
-use Rattle.console_core.proofs.Common.{subst, ◌≡◌, ℕ, ◌<◌, false, ◌&&◌, not, List, [], ◌∷◌, refl, ap, sym, ◌∙◌}
-use Rattle.console_core.proofs.Common.{if◌then◌else◌, Action, Modifier, Meta, Cell, Char, Act, Event, Press, Load}
-use Rattle.console_core.proofs.Common.{Answer, MapValue, is_borne, look_with, answer_resolved, ResolvedEvent, locked}
-use Rattle.console_core.proofs.Common.{remembered, taken_over, look, on, Maps, in_force, loaded, is_second_in_force}
-use Rattle.console_core.proofs.Common.{is_load, resolved_event, answer_to, resolved, StandsAt, Kept, answer_char}
-use Rattle.console_core.proofs.Common.{answer_action, answer_release, after_character, after_action, after_release}
-use Rattle.console_core.proofs.Common.{after_reset, after_load, PressedCharacter, PressedAction, ReleasedKey, WasReset}
-use Rattle.console_core.proofs.Common.{WasLoaded, fun_ext}
+use Rattle.console_core.proofs.Common.{resolve_press, subst, ◌≡◌, ℕ, ◌<◌, false, ◌&&◌, not, List, [], ◌∷◌, refl, ap}
+use Rattle.console_core.proofs.Common.{sym, ◌∙◌, if◌then◌else◌, Action, Modifier, Meta, Cell, Event, Press}
+use Rattle.console_core.proofs.Common.{Load, Answer, MapValue, is_borne, look_with, answer_resolved, ResolvedEvent}
+use Rattle.console_core.proofs.Common.{locked, remembered, taken_over, look, on, Maps, in_force, loaded}
+use Rattle.console_core.proofs.Common.{is_second_in_force, is_load, resolved_event, answer_to, resolved, StandsAt, Kept}
+use Rattle.console_core.proofs.Common.{answer_char, answer_action, answer_release, after_character, after_action}
+use Rattle.console_core.proofs.Common.{after_release, after_reset, after_load, PressedCharacter, PressedAction}
+use Rattle.console_core.proofs.Common.{ReleasedKey, WasReset, WasLoaded, fun_ext}
 use Rattle.console_core.specs.Agrees.{Agrees, nothing_kept}
 use Rattle.console_core.proofs.OneMore.{resolved-start, resolved-more, held-start, held-character, held-action}
 use Rattle.console_core.proofs.OneMore.{held-release, held-reset, locked-start, locked-character, locked-action}
@@ -94,43 +94,31 @@ module _ (m : MapValue) (h : List ResolvedEvent) (k : Kept) (agrees : Agrees m h
   pub answers-release : (key : ℕ) → key < 128 → answer_release (k.memory key) ≡ answer_resolved m (ReleasedKey key) h
   answers-release key lt = ap answer_release (agrees.memories key lt)
 
--- where a console stands at events, what it keeps agrees with them under the map in force
-pub agrees-under : (ms : Maps) (h : List Event) (m : MapValue) (k : Kept) → m ≡ in_force ms h → StandsAt ms h k
-    → Agrees m (resolved ms h) k
-agrees-under ms h m k force stands = subst (λ y. Agrees y (resolved ms h) k) (sym force) stands.agrees
-
--- from resolved events to events, under the map m that is in force
-module _ (ms : Maps) (h : List Event) (m : MapValue) (force : m ≡ in_force ms h) (e : Event) where
-  -- a press that looks up a character by what is kept is resolved to it
-  pub resolves-character : (kept : Kept) (k c : ℕ) (cell : Cell) → Agrees m (resolved ms h) kept → e ≡ Press k
-      → cell ≡ look_with m (λ i. kept.mark (holding.Mod i)) kept.lock k → cell ≡ Char c
-      → resolved_event ms h e ≡ PressedCharacter k c
-  resolves-character kept k c cell agrees is look_is cell_is =
-      let f : look m (resolved ms h) k ≡ Char c = cc (agrees-look m (resolved ms h) kept k agrees, look_is, cell_is) in
-      cc (is, force, f)
-
-  -- a press that looks up an action by what is kept is resolved to it
-  pub resolves-action : (kept : Kept) (k : ℕ) (a : Action) (cell : Cell) → Agrees m (resolved ms h) kept → e ≡ Press k
-      → cell ≡ look_with m (λ i. kept.mark (holding.Mod i)) kept.lock k → cell ≡ Act a
-      → resolved_event ms h e ≡ PressedAction k a
-  resolves-action kept k a cell agrees is look_is cell_is =
-      let f : look m (resolved ms h) k ≡ Act a = cc (agrees-look m (resolved ms h) kept k agrees, look_is, cell_is) in
-      cc (is, force, f)
+-- from resolved events to events, where the console stands at them
+module _ (ms : Maps) (h : List Event) (e : Event) (kept : Kept) (stands : StandsAt ms h kept) where
+  -- a press that looks up a cell by what is kept is resolved to the press that does
+  pub resolves-press : (k : ℕ) (cell x : Cell) → e ≡ Press k
+      → cell ≡ look_with (in_force ms h) (λ i. kept.mark (holding.Mod i)) kept.lock k → cell ≡ x
+      → resolved_event ms h e ≡ resolve_press k x
+  resolves-press k cell x is look_is cell_is =
+      let f : look (in_force ms h) (resolved ms h) k ≡ x =
+      cc (agrees-look (in_force ms h) (resolved ms h) kept k stands.agrees, look_is, cell_is) in
+      ap (λ y. resolved_event ms h y) is ∙ ap (λ y. resolve_press k y) f
 
   -- the answer to what an event is resolved to is the answer to the event
   pub answer-of : (x : ResolvedEvent) (r : Answer) → resolved_event ms h e ≡ x
-      → r ≡ answer_resolved m x (resolved ms h) → r ≡ answer_to ms h e
-  answer-of x r is answer = cc (answer, force, is)
+      → r ≡ answer_resolved (in_force ms h) x (resolved ms h) → r ≡ answer_to ms h e
+  answer-of x r is answer = cc (answer, is)
 
   -- an event other than a load leaves the map in force
-  pub stands-next : (f : Event) (x : ResolvedEvent) (k k2 : Kept) → e ≡ f → is_load f h ≡ false
-      → resolved_event ms h e ≡ x → k.is_second ≡ is_second_in_force h → k2.is_second ≡ k.is_second
-      → Agrees m (x ∷ resolved ms h) k2 → StandsAt ms (e ∷ h) k2
-  stands-next f x k k2 same no_load is at kept agrees =
+  pub stands-next : (f : Event) (x : ResolvedEvent) (k : Kept) → e ≡ f → is_load f h ≡ false
+      → resolved_event ms h e ≡ x → k.is_second ≡ kept.is_second
+      → Agrees (in_force ms h) (x ∷ resolved ms h) k → StandsAt ms (e ∷ h) k
+  stands-next f x k same no_load is second agrees =
       let s : is_second_in_force (e ∷ h) ≡ is_second_in_force h = cc (same, no_load) in
-      let t : in_force ms (e ∷ h) ≡ m = ap (λ b. if b then ms.second else ms.first) s ∙ sym force in
+      let t : in_force ms (e ∷ h) ≡ in_force ms h = ap (λ b. if b then ms.second else ms.first) s in
       record {
-        map_in_force = kept ∙ at ∙ sym s;
+        map_in_force = second ∙ stands.map_in_force ∙ sym s;
         agrees = rw (t, resolved-more ms h e ∙ ap (λ y. y ∷ resolved ms h) is) agrees;
       }
 

@@ -15,7 +15,7 @@ use Rattle.console_core.proofs.Common.{IsReachable, SeesAlong, SeesBy, selection
 use Rattle.console_core.proofs.Common.{origin_in, IsExplored, HasTap, IsTapAt, dead_tap, HasRoute, LeadsHome, freed}
 use Rattle.console_core.proofs.Common.{state_of, Entry, IsTrail, IsReached, IsWhole, IsAfter, IsRepeated, IsSteady}
 use Rattle.console_core.proofs.Common.{IsAt, Leads, LeadsOn, LeadsComposing, IsDeadFor, IsAim, ShowsNot, locks_in}
-use Rattle.console_core.proofs.Common.{Exact, HoldsSome, Stands, but_scroll, unscrolled}
+use Rattle.console_core.proofs.Common.{Exact, HoldsSome, Stands, but_scroll, unscrolled, rules}
 use Rattle.console_core.specs.declared.explored.KeyAt.{KeyAt}
 use Rattle.console_core.specs.declared.explorer.Aim.{Aim}
 use Rattle.console_core.specs.Visiting.{HasLocks, AreTaken}
@@ -112,9 +112,7 @@ home-leads m s moves first home old now is h a =
 -- the first map is in force in each state that was met
 pub met-first : (e : Explored) → IsExplored e → (place : ℕ) (y : Entry) → slice_get e.met.entries place ≡ Some y
     → (state_of y.0).is_second ≡ false
-met-first e x place y at =
-    let r = x.searched.reached place y at in
-    ap (λ t. t.is_second) (sym r.3) ∙ path-first (map_of_explored e) (origin_in e) r.0 r.2 ∙ x.origin.1
+met-first e x place y at = search (rules, path-first)
 
 -- ---- taps
 
@@ -365,8 +363,7 @@ at-reset m s h free first keys none locks = record {
 
 -- nothing is pending behind it
 reset-pends : (m : MapValue) (h : List Event) → pends m (Reset ∷ h) ≡ None
-reset-pends m h =
-    cc (pending-is m (Reset ∷ h), resolved-more (between m m) h Reset, pending-reset m (resolved (between m m) h))
+reset-pends m h = search (rules, pending-is, resolved-more, pending-reset)
 
 -- A reset, the way home, on to the place, and the press there.
 pub visits : (e : Explored) → IsWhole e → (s next : State) → IsRest e s → (x : Sight) (at : KeyAt)

@@ -7,7 +7,7 @@ use Rattle.console_core.proofs.Common.{Event, Press, Release, Reset, Load, same_
 use Rattle.console_core.proofs.Common.{ResolvedEvent, held, remembered, taken_over, unless_nop, is_this_action, look}
 use Rattle.console_core.proofs.Common.{resolve_press, Maps, in_force, resolved, pressed, PressedCharacter}
 use Rattle.console_core.proofs.Common.{PressedAction, ReleasedKey, WasReset, WasLoaded, IsCellOf, Bears}
-use Rattle.console_core.proofs.Common.{same_action-true, same_action-refl}
+use Rattle.console_core.proofs.Common.{same_action-true, same_action-refl, rules}
 use Rattle.keymap_core.specs.Bearers.{IsAlone}
 use Rattle.console_core.proofs.OneMore.{resolved-start, resolved-more, held-start, held-character, held-action}
 use Rattle.console_core.proofs.OneMore.{held-release, held-reset, remembered-start, remembered-character}
@@ -65,9 +65,7 @@ pressed_if false x h = h
 press-remembered : (ms : Maps) (h : List Event) (k j : ℕ) (a : Action) (x : Cell)
     → (remembered k (resolved ms h) ≡ Some a → pressed k h ≡ true)
     → remembered k (resolve_press j x ∷ resolved ms h) ≡ Some a → (if j == k then true else pressed k h) ≡ true
-press-remembered ms h k j a (Char c) f r =
-    pressed_if (j == k) (pressed k h)
-    (f (kept_if (j == k) (remembered k (resolved ms h)) a (sym (remembered-character k j c (resolved ms h)) ∙ r)).1)
+press-remembered ms h k j a (Char c) f r = search (rules, pressed_if, kept_if, remembered-character)
 press-remembered ms h k j a (Act b) f r =
     elim (remembered_from (j == k) (remembered k (resolved ms h)) b a
     (sym (remembered-action k j b (resolved ms h)) ∙ r)) [
@@ -97,9 +95,7 @@ remembered-pressed ms (Load ∷ h) k a r =
 pub borne-pressed : (ms : Maps) (h : List Event) (a : Action) → HasKeys h
     → ((k : ℕ) × (remembered k (resolved ms h) ≡ Some a))
     → (k : ℕ) × (k < 128) × IsCellOf (in_force ms h) k (Act a) × (pressed k h ≡ true)
-borne-pressed ms h a keys (k, is) =
-    let b = remembered-cell (in_force ms h) (resolved ms h) k a (resolved-looked ms h keys) is in
-    (k, b.0, b.1, remembered-pressed ms h k a is)
+borne-pressed ms h a keys (k, is) = search (rules, remembered-cell, resolved-looked, remembered-pressed)
 
 -- a holding action that is held is remembered for some key, where no bearer of it has a character
 abbrev pub RememberedBySome : Holding → List ResolvedEvent → Type 0
@@ -155,8 +151,7 @@ not_other_by m a k alone r j all ne b false is e = refl
 not_other : (m : MapValue) (a : Holding) (k : ℕ) → IsAlone m k a → (r : List ResolvedEvent) (j : ℕ) → AllLooked m r
     → eqb j k ≡ false → (o : Option Action) → remembered j r ≡ o → not (is_this_action o (holding_action a)) ≡ true
 not_other m a k alone r j all ne None is = refl
-not_other m a k alone r j all ne (Some b) is =
-    not_other_by m a k alone r j all ne b (same_action b (holding_action a)) is refl
+not_other m a k alone r j all ne (Some b) is = search (rules, not_other_by)
 
 -- what a key that bears it alone remembers is held
 pub remembered-held : (m : MapValue) (a : Holding) (k : ℕ) → IsAlone m k a → (r : List ResolvedEvent) → AllLooked m r

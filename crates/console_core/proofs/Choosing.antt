@@ -5,6 +5,7 @@ use Rattle.console_core.proofs.Common.{Held, Under, alone, State, start, IsPath,
 use Rattle.console_core.proofs.Common.{presses_along, ReachesMoreThanFrom, state_limit, CanTap, CanType, ComesHome}
 use Rattle.console_core.proofs.Common.{IsTapOf, HasRoute, map_of_explored, origin_in, CanReturn, HasTap, GoesAndTaps}
 use Rattle.console_core.proofs.Common.{IsExploredFrom, CanAccent, LeadsByTap, TypesOne, dead_tap, state_of, Entry}
+use Rattle.console_core.proofs.Common.{rules}
 use Rattle.console_core.specs.declared.ways.Accented.{Accented}
 use Rattle.console_core.specs.declared.typing.Typed.{Typed}
 use Rattle.console_core.specs.Sticking.{ReachesMoreThan}
@@ -22,24 +23,20 @@ explored-returns m s e v st =
     subst (λ n. CanReturn n (origin_in e)) (sym v.1) (subst (λ t. CanReturn m t) (sym v.2) st)
 
 -- what can be tapped at all is found where all states were met
-pub explored-met : (m : MapValue) (s : State) (e : Explored) → IsExploredFrom m s e → CanReturn m s → e.is_complete ≡ true
-    → (t : Tap) → CanTap m t.is_plain t.symbol
-    → HasTap e t
-explored-met m s e v st complete t can =
-    can-tap-met e v.0 complete (explored-returns m s e v st) t
-    (subst (λ n. CanTap n t.is_plain t.symbol) (sym v.1) can)
+pub explored-met : (m : MapValue) (s : State) (e : Explored) → IsExploredFrom m s e → CanReturn m s
+    → e.is_complete ≡ true → (t : Tap) → CanTap m t.is_plain t.symbol → HasTap e t
+explored-met m s e v st complete t can = search (rules, can-tap-met, explored-returns)
 
-pub explored-can : (m : MapValue) (s : State) (e : Explored) → IsExploredFrom m s e → CanReturn m s → (t : Tap) → HasTap e t
-    → CanTap m t.is_plain t.symbol
+pub explored-can : (m : MapValue) (s : State) (e : Explored) → IsExploredFrom m s e → CanReturn m s → (t : Tap)
+    → HasTap e t → CanTap m t.is_plain t.symbol
 explored-can m s e v st t has =
     subst (λ n. CanTap n t.is_plain t.symbol) v.1 (tap-can e v.0 (explored-returns m s e v st) t has)
 
 -- ---- no keys
 
-pub no-way : (m : MapValue) (s : State) (e : Explored) (c : ℕ) → IsExploredFrom m s e → CanReturn m s → e.is_complete ≡ true
-    → (HasTap e (plain_tap (symbol.Character c)) → ⊥) → ((i : ℕ) (x : Symbol) → CanAccent m e c i x → ⊥)
-    → CanType m c
-    → ⊥
+pub no-way : (m : MapValue) (s : State) (e : Explored) (c : ℕ) → IsExploredFrom m s e → CanReturn m s
+    → e.is_complete ≡ true → (HasTap e (plain_tap (symbol.Character c)) → ⊥)
+    → ((i : ℕ) (x : Symbol) → CanAccent m e c i x → ⊥) → CanType m c → ⊥
 no-way m s e c v st complete direct composed (inl can) =
     direct (explored-met m s e v st complete (plain_tap (symbol.Character c)) can)
 no-way m s e c v st complete direct composed (inr (i, x, can_use, made, dead, tap)) =
@@ -87,8 +84,8 @@ pub explored-taps : (m : MapValue) (s : State) (e : Explored) (t : State) (k : �
     → GoesAndTaps (alone m) s t k h now next
 explored-taps m s e t k h now next v x = rw (← v.2, ← v.1) x
 
-pub leads-direct : (m : MapValue) (s : State) (e : Explored) (c : ℕ) (h now : List Event) (next : Held) → IsExploredFrom m s e
-    → CanReturn m s → LeadsByTap e (plain_tap (symbol.Character c)) h now (typed.To next)
+pub leads-direct : (m : MapValue) (s : State) (e : Explored) (c : ℕ) (h now : List Event) (next : Held)
+    → IsExploredFrom m s e → CanReturn m s → LeadsByTap e (plain_tap (symbol.Character c)) h now (typed.To next)
     → TypesOne m c s h now (state_of next)
 leads-direct m s e c h now next v st (j, k, x, at, has, tap, taps) =
     types-direct m s (state_of x.0) c k h now (state_of next) st

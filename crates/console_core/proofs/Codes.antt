@@ -1,7 +1,7 @@
 -- Actions kept by their codes.
-use Rattle.console_core.proofs.Common.{ne_eqb, false_from_ne_true, ◌≡◌, ℕ, ◌<◌, Bool, true, false, eqb, List, length}
-use Rattle.console_core.proofs.Common.{set, Option, None, Some, refl, ap, sym, ◌∙◌, if◌then◌else◌, ◌==◌, ◌≢◌}
-use Rattle.console_core.proofs.Common.{same_action-true, get_or-replicate_default, Action, same_action}
+use Rattle.console_core.proofs.Common.{ne_eqb, false_from_ne_true, ◌≡◌, ℕ, ◌<◌, Bool, true, false, List, length}
+use Rattle.console_core.proofs.Common.{set, Option, None, Some, refl, ap, if◌then◌else◌, ◌==◌, ◌≢◌}
+use Rattle.console_core.proofs.Common.{same_action-true, get_or-replicate_default, Action, same_action, rules}
 use Rattle.std.proofs.Common.{replicate}
 use Rattle.std.specs.Prelude.{option_map}
 use Rattle.keymap_core.specs.Actions.{code_of, action_of}
@@ -18,9 +18,7 @@ pub action_of_byte-other : (code : ℕ) (held expected : Action) → code ≢ 0 
     → code ≢ code_of expected
     → Some false ≡ option_map (λ a. same_action a expected) (action_of_byte code)
 action_of_byte-other code held expected not_zero read same ne =
-    let e : action_of_byte code ≡ Some held = action_of_byte-some code not_zero ∙ read in
-    rw e (ap Some (sym (false_from_ne_true (same_action held expected)
-    (λ f. ne (sym same ∙ ap code_of (same_action-true held expected f))))))
+    search (rules, action_of_byte-some, false_from_ne_true, same_action-true)
 
 -- the bytes of all keys
 pub codes-start : (k : ℕ) → code_memory (replicate 128 0) k ≡ None
@@ -36,6 +34,4 @@ kept_if false code old a e = refl
 pub codes-set : (codes : List ℕ) (i j k code : ℕ) (a : Option Action) → i ≡ j → i < length codes
     → action_of_byte code ≡ a
     → code_memory (set codes i code) k ≡ (if j == k then a else code_memory codes k)
-codes-set codes i j k code a s lt e =
-    ap action_of_byte (get_or-set_if codes i k code 0 lt) ∙ kept_if (eqb i k) code _ a e
-    ∙ ap (λ x. if x == k then a else code_memory codes k) s
+codes-set codes i j k code a s lt e = search (rules, get_or-set_if, kept_if)

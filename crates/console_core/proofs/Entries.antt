@@ -1,7 +1,7 @@
 -- What holds of the entries of a map, and look-ups by a state.
-use Rattle.console_core.proofs.Common.{◌≡◌, Bool, true, List, [], ◌∷◌, Some, None, refl, ap, subst, sym}
-use Rattle.console_core.proofs.Common.{◌∙◌, inl, inr, cond, is_some, lookup, true≢false, same_Some}
-use Rattle.console_core.proofs.Common.{cases_Bool, none-some, insert_entry, Held, HasEntry, state_of, State}
+use Rattle.console_core.proofs.Common.{◌≡◌, Bool, true, List, [], ◌∷◌, Some, None, refl, subst, sym}
+use Rattle.console_core.proofs.Common.{inl, inr, is_some, lookup, true≢false, same_Some}
+use Rattle.console_core.proofs.Common.{cases_Bool, none-some, insert_entry, Held, HasEntry, state_of, State, rules}
 use Rattle.console_core.specs.Inner.Routes.{AllEntries}
 use Rattle.console_core.proofs.SameStates.{are_same, tells-same, same-tells}
 
@@ -38,16 +38,13 @@ found-by_state P es k v all is =
 pub one-by_state : {V : Type 0} (P : State → V → Type 0) (es : List (Held × V)) (k : Held) (v : V)
     → AllEntries (λ h x. P (state_of h) x) es → P (state_of k) v
     → AllEntries (λ h x. P (state_of h) x) (insert_entry are_same es k v)
-one-by_state P es k v all is =
-    one-entry are_same (λ h x. P (state_of h) x) (λ a b x t there. subst (λ s. P s x) (tells-same a b t) there) es k v
-    all is
+one-by_state P es k v all is = search (rules, one-entry, tells-same)
 
 -- where a look-up finds nothing, there is no entry of the state
 pub none-found : {V : Type 0} (es : List (Held × V)) (k : Held) → lookup (are_same k) es ≡ None
     → HasEntry es (state_of k) → ⊥
 none-found [] k e has = has
-none-found (x ∷ es) k e (inl is) =
-    none-some x.1 (sym e ∙ ap (λ b. cond b (Some x.1) (lookup (are_same k) es)) (same-tells k x.0 (sym is)))
+none-found (x ∷ es) k e (inl is) = search (rules, none-some, same-tells)
 none-found (x ∷ es) k e (inr later) = elim (cases_Bool (are_same k x.0)) [
   | inl t ↦ none-some x.1 (sym (rw t at e))
   | inr t ↦ none-found es k (rw t at e) later

@@ -233,9 +233,9 @@ types-direct m o s c k h now next st x tap can = record {
 -- by a dead key and a tap behind it
 pub types-composed : (m : MapValue) (o s mid t : State) (i : ℕ) (y : Symbol) (c k n : ℕ) (h between now : List Event)
     → (next : State) → CanReturn m o → GoesAndTaps (alone m) o s k h between mid
-    → IsTapOf (alone m) s false (symbol.DeadKey i) k → usable m i ≡ true → GoesAndTaps (alone m) mid t n between now next
-    → IsTapOf (alone m) t true y n → composed_of m i y ≡ Some c → CanType m c
-    → TypesOne m c o h now next
+    → IsTapOf (alone m) s false (symbol.DeadKey i) k → usable m i ≡ true
+    → GoesAndTaps (alone m) mid t n between now next → IsTapOf (alone m) t true y n → composed_of m i y ≡ Some c
+    → CanType m c → TypesOne m c o h now next
 types-composed m o s mid t i y c k n h between now next st x dead can_use z tap made can = record {
   can = can;
   can_return = returns-next m mid t n between now next (returns-next m o s k h between mid st x) z;

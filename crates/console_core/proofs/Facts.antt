@@ -5,7 +5,7 @@ use Rattle.console_core.proofs.Common.{Action, Modifier, Holding, Cell, Char, Ac
 use Rattle.console_core.proofs.Common.{holding_action, MapValue, IsCellOf, ResolvedEvent, remembered, is_this_action}
 use Rattle.console_core.proofs.Common.{look, resolve_press, Maps, in_force, pressed, resolved, is_on_after}
 use Rattle.console_core.proofs.Common.{is_locked_after, HasKey, HasKeys, remembered_after, raises_at, lowers_at, NoneOf}
-use Rattle.console_core.proofs.Common.{SomeSince, taken_of, IsSafe, same_action-refl}
+use Rattle.console_core.proofs.Common.{SomeSince, taken_of, IsSafe, same_action-refl, rules}
 use Rattle.console_core.specs.Facts.{LooksAreCells, DeadUpperHalfIsNotLookedAt, lets_go, HoldingIsRemembered}
 use Rattle.console_core.specs.Facts.{IsRaisedByPressed, OnByPressedKey}
 use Rattle.console_core.proofs.OneMore.{resolved-more, remembered-character, remembered-action, remembered-release}
@@ -75,9 +75,7 @@ Kept ms k a later before =
 -- a key that remembers another action isn't the one that remembers this
 not_let_go : (ms : Maps) (k j : ℕ) (a : Holding) (t : List Event) → remembered_after ms k t ≡ Some (holding_action a)
     → is_this_action (remembered_after ms j t) (holding_action a) ≡ false → j == k ≡ false
-not_let_go ms k j a t e low =
-    false_from_ne_true (j == k)
-    (λ s. true≢false (cc (eqb-true j k s, e, same_action-refl (holding_action a), low)))
+not_let_go ms k j a t e low = search (rules, false_from_ne_true, true≢false, eqb-true, same_action-refl)
 
 -- a holding action is remembered from the press that raises it, while nothing lowers it
 kept : (ms : Maps) (k : ℕ) (a : Holding) (later before : List Event) → IsSafe (in_force ms (later ++ Press k ∷ before))

@@ -4,7 +4,7 @@ use Rattle.console_core.proofs.Common.{append_assoc, false≢true, MapValue, Res
 use Rattle.console_core.proofs.Common.{resolved, is_second_in_force, accent_pending_after, alone, State, IsIdle}
 use Rattle.console_core.proofs.Common.{look_in, IsMove, events_of_move, events_along, state_from, IsPathFrom, SeesBy}
 use Rattle.console_core.proofs.Common.{SeesNext, IsPendingFor, selection_of, Stands, Act, Event, Press, Release, Move}
-use Rattle.console_core.proofs.Common.{Hold, Turn, LetGo, Exchange, Sight}
+use Rattle.console_core.proofs.Common.{Hold, Turn, LetGo, Exchange, Sight, rules}
 use Rattle.console_core.proofs.OneMore.{one_map, resolved-more, pending-action, pending-release}
 use Rattle.console_core.proofs.Scripts.{stands-from, idle-none, pressed-look}
 use Rattle.console_core.proofs.Seeing.{follows-selection}
@@ -60,8 +60,7 @@ going-sees m h s path k x stands is sees pending = (
 )
   where
     still : (x : Sight) → IsPendingFor m h x → IsPendingFor m (events_along path ++ h) x
-    still (sight.Pair accent c) e =
-        pending-is m (events_along path ++ h) ∙ pending-along m h s path stands is ∙ sym (pending-is m h) ∙ e
+    still (sight.Pair accent c) e = search (rules, pending-is, pending-along, stands)
     still (sight.Cell slot column) e = tt
     still (sight.Locks slot caps num) e = tt
 

@@ -2,7 +2,7 @@
 use Rattle.console_core.proofs.Common.{◌≡◌, ℕ, ◌+◌, ◌<◌, IfSome, List, [], ◌∷◌, ◌++◌, length, get_or, take, slice_get}
 use Rattle.console_core.proofs.Common.{Option, Some, None, refl, ap, subst, sym, ◌∙◌, arith, append_assoc}
 use Rattle.console_core.proofs.Common.{slice_get_within, same_Some, append-nil, take_more, Modifier, Event, Press, Move}
-use Rattle.console_core.proofs.Common.{modifiers, Under, State, state_after, script_of_path, events_of_move}
+use Rattle.console_core.proofs.Common.{modifiers, Under, State, state_after, script_of_path, events_of_move, rules}
 use Rattle.console_core.proofs.Common.{events_along, release_of, releases, Entry, Entries, IsTrail, IsReached, Searched}
 use Rattle.console_core.specs.Inner.Searching.{GoBack}
 
@@ -12,12 +12,8 @@ searched-back {o} u es a b s j x parent by at last =
     let r : IsReached u o es j x = s.reached j x at in back r.0 r.1
   where
     back : (path : List Move) → IsTrail es j path → parent < j
-    back [] (y, there, none) =
-        let e : Some (parent, by) ≡ None = sym last ∙ ap (λ z. z.1.last) (same_Some x y (sym at ∙ there)) ∙ none in cc
-    back (move ∷ path) (y, from, there, by_last, lt, rest) =
-        let e : Some (parent, by) ≡ Some (from, move) =
-        sym last ∙ ap (λ z. z.1.last) (same_Some x y (sym at ∙ there)) ∙ by_last in
-        let same : parent ≡ from = ap (λ (q : ℕ × Move). q.0) (same_Some (parent, by) (from, move) e) in rw same lt
+    back [] (y, there, none) = search (rules, same_Some)
+    back (move ∷ path) (y, from, there, by_last, lt, rest) = search (rules, same_Some)
 
 -- the moves that are left, where the last of them is told
 abbrev pub LeadsBy : Entries → Option (ℕ × Move) → List Move → Type 0
@@ -28,10 +24,8 @@ LeadsBy es (Some last) (move ∷ path) = (last.1 ≡ move) × IsTrail es last.0 
 
 pub trail-leads : (es : Entries) (j : ℕ) (path : List Move) (x : Entry) → slice_get es j ≡ Some x → IsTrail es j path
     → LeadsBy es x.1.last path
-trail-leads es j [] x at (y, there, none) =
-    subst (λ l. LeadsBy es l []) (sym (ap (λ z. z.1.last) (same_Some x y (sym at ∙ there)) ∙ none)) tt
-trail-leads es j (move ∷ path) x at (y, parent, there, last, lt, rest) =
-    rw (ap (λ z. z.1.last) (same_Some x y (sym at ∙ there)) ∙ last) (refl, rest)
+trail-leads es j [] x at (y, there, none) = search (rules, same_Some)
+trail-leads es j (move ∷ path) x at (y, parent, there, last, lt, rest) = search (rules, same_Some)
 
 pub leads-next : (es : Entries) (last : ℕ × Move) (items : List Event) (rest : List Move) (target : List Event)
     → LeadsBy es (Some last) rest → items ++ events_along rest ≡ target

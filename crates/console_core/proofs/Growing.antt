@@ -4,7 +4,7 @@ use Rattle.console_core.proofs.Common.{List, [], ◌∷◌, ◌++◌, length, sl
 use Rattle.console_core.proofs.Common.{append_assoc, cases_lt, slice_get_within, none-some, same_Some}
 use Rattle.console_core.proofs.Common.{Scroll, Move, Turn, Exchange, is_borne, Under, State, next_map, IsMove, moved}
 use Rattle.console_core.proofs.Common.{presses_of, state_of, Entry, Entries, Grows, IsMetBy, AreMet, IsFrom, AreAdded}
-use Rattle.console_core.proofs.Common.{IsTrail, IsReached, LeavesScroll}
+use Rattle.console_core.proofs.Common.{IsTrail, IsReached, LeavesScroll, rules}
 use Rattle.std.proofs.lemmas.Bool.{and_right}
 use Rattle.std.proofs.lemmas.Option.{get_or_from_slice_get}
 use Rattle.std.proofs.lemmas.List.Elements.{All-append}
@@ -94,8 +94,7 @@ met-last es p x le = (length es, x, at_last es x, refl, le)
 -- where moves lead stays met when the entries grow
 pub moves-grow : (u : Under) (es now : Entries) (n p : ℕ) (s : State) → Grows es now → AreMet u es n p s
     → AreMet u now n p s
-moves-grow u es now n p s g met move is leaves takes =
-    met-grows es now p (moved u s move) g (met move is leaves takes)
+moves-grow u es now n p s g met move is leaves takes = search (rules, met-grows, takes)
 
 -- a trail stays one when the entries grow
 trail-grows : (es now : Entries) (j : ℕ) (path : List Move) → Grows es now → IsTrail es j path → IsTrail now j path
@@ -106,8 +105,7 @@ trail-grows es now j (move ∷ path) g (x, parent, at, last, lt, rest) =
 -- that a trail leads to an entry stays so when the entries grow
 pub reached-grows : {o : State} (u : Under) (es now : Entries) (j : ℕ) (x : Entry) → Grows es now → IsReached u o es j x
     → IsReached u o now j x
-reached-grows u es now j x g (path, trail, is, leads, count, off) =
-    (path, trail-grows es now j path g trail, is, leads, count, off)
+reached-grows u es now j x g (path, trail, is, leads, count, off) = search (rules, trail-grows)
 
 -- a move that leaves the scroll lock leaves it off
 pub scroll-left : (u : Under) (s : State) (move : Move) → LeavesScroll move → s.is_locked Scroll ≡ false

@@ -10,7 +10,7 @@ use Rattle.console_core.proofs.Common.{Maps, in_force, loaded, is_second_in_forc
 use Rattle.console_core.proofs.Common.{pressed, accent_pending_after, answers_to, answer_to, HasKey, HasKeys, IsQuiet}
 use Rattle.console_core.proofs.Common.{PressedCharacter, PressedAction, ReleasedKey, WasReset, WasLoaded, IsCellOf}
 use Rattle.console_core.proofs.Common.{BearsThroughout, IsSafe, same_action-true, none_unless, fun_ext, option_or}
-use Rattle.console_core.proofs.Common.{none-some}
+use Rattle.console_core.proofs.Common.{none-some, rules}
 use Rattle.console_core.specs.Headline.{IsSteady, IsActing, AreRepeats, OnOnlyWhilePressed, OnExactlyWhilePressed}
 use Rattle.console_core.specs.Headline.{RepeatsTurnNoSteadyLock, OffOnceQuiet, GoesOnAsAfterReset}
 use Rattle.console_core.proofs.OneMore.{resolved-more, locked-more, held-character, held-action, held-release}
@@ -192,8 +192,7 @@ off_once_quiet ms h safe keys quiet i = held-quiet ms h safe keys quiet (holding
 
 -- once every key is released nothing is remembered
 remembered-quiet : (ms : Maps) (h : List Event) → IsQuiet h → (k : ℕ) → k < 128 → remembered k (resolved ms h) ≡ None
-remembered-quiet ms h quiet k lt =
-    none_unless (remembered k (resolved ms h)) (λ a e. true≢false (sym (remembered-pressed ms h k a e) ∙ quiet k lt))
+remembered-quiet ms h quiet k lt = search (rules, none_unless, true≢false, remembered-pressed)
 
 -- two lists of resolved events that leave the same
 pub record Same (m : MapValue) (r s : List ResolvedEvent) : Type 0 where
@@ -306,10 +305,7 @@ same_loaded ms h g s = ap (λ b. if not b then ms.second else ms.first) s.map_in
 -- events that go on alike resolve an event alike
 pub same-resolved_event : (ms : Maps) (h g : List Event) (e : Event) → SameAfter ms h g
     → resolved_event ms h e ≡ resolved_event ms g e
-same-resolved_event ms h g e s =
-    same-resolve (in_force ms h) (loaded ms h) (resolved ms h) (resolved ms g) e s.same
-    ∙ ap (λ x. resolve x (loaded ms h) (resolved ms g) e) (same_force ms h g s)
-    ∙ ap (λ x. resolve (in_force ms g) x (resolved ms g) e) (same_loaded ms h g s)
+same-resolved_event ms h g e s = search (rules, same-resolve, same_force, same_loaded)
 
 -- what is the same under one map is so under another after a load
 same_under : (m n : MapValue) (r s : List ResolvedEvent) (p : MapValue) → Same m (WasLoaded p ∷ r) (WasLoaded p ∷ s)
@@ -372,11 +368,7 @@ same-events ms h g e key s = record {
 -- events that go on alike answer an event alike
 pub same-answer : (ms : Maps) (h g : List Event) (e : Event) → HasKey e → SameAfter ms h g
     → answer_to ms h e ≡ answer_to ms g e
-same-answer ms h g e key s =
-    same-answer_resolved (in_force ms h) (resolved ms h) (resolved ms g) (resolved_event ms h e)
-    (resolve-key (in_force ms h) (loaded ms h) (resolved ms h) e key) s.same
-    ∙ ap (λ x. answer_resolved x (resolved_event ms h e) (resolved ms g)) (same_force ms h g s)
-    ∙ ap (λ x. answer_resolved (in_force ms g) x (resolved ms g)) (same-resolved_event ms h g e s)
+same-answer ms h g e key s = search (rules, same-answer_resolved, resolve-key, same_force, same-resolved_event)
 
 -- events that go on alike do so after any events
 pub same-later : (ms : Maps) (h g later : List Event) → HasKeys later → SameAfter ms h g

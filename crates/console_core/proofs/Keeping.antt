@@ -1,7 +1,7 @@
 -- What writing parts of what a console keeps leaves, after a release and after a load.
 use Rattle.console_core.proofs.Common.{cases_Bool, inl, inr, ◌≡◌, ℕ, Bool, true, false, ◌&&◌, not, eqb, None, Some}
-use Rattle.console_core.proofs.Common.{refl, ap, sym, ◌∙◌, if◌then◌else◌, ◌==◌, eqb-true, fun_ext, Action, Holding}
-use Rattle.console_core.proofs.Common.{Lock, Caps, Num, Scroll, Alt, holding_action, holding_index, holding_of}
+use Rattle.console_core.proofs.Common.{refl, ap, sym, ◌∙◌, if◌then◌else◌, eqb-true, fun_ext, Action, Holding}
+use Rattle.console_core.proofs.Common.{Lock, Caps, Num, Scroll, Alt, holding_action, holding_of, rules}
 use Rattle.console_core.proofs.Common.{is_borne, MapValue, is_this_action, Kept, after_release, after_reset, after_load}
 use Rattle.console_core.specs.Inner.Kept.{with_mark, with_memory, with_released, with_lock_borne, exchanged}
 use Rattle.console_core.proofs.Places.{holding_of-some, same_place}
@@ -38,9 +38,7 @@ cleared false false = refl
 -- to clear the mark of a holding action is to release it
 pub released-cleared : (k : Kept) (b : Action) (a : Holding) → holding_of b ≡ Some a
     → with_mark a false k ≡ with_released b k
-released-cleared k b a e =
-    let is : b ≡ holding_action a = holding_of-some b a e in
-    same-marks k _ _ (λ i. rw (is, same_place a i) (cleared (holding_index a == holding_index i) (k.mark i)))
+released-cleared k b a e = search (rules, holding_of-some, same-marks, same_place, cleared)
 
 -- each lock in turn, after a load
 all_borne : (m : MapValue) (k : Kept) (l : Lock)
@@ -73,8 +71,6 @@ idle-released k key none =
 -- a release of a key for which the action is remembered
 pub held-released : (k : Kept) (key : ℕ) (held : Action) → k.memory key ≡ Some held
     → with_released held (with_memory key None k) ≡ after_release key k
-held-released k key held is =
-    same-marks (with_memory key None k) _ _
-    (λ a. ap (λ x. k.mark a && not (is_this_action x (holding_action a))) (sym is))
+held-released k key held is = search (rules, same-marks)
 
 pub ruleset keeping = (loaded-kept, idle-released, held-released)

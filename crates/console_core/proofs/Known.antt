@@ -1,6 +1,6 @@
 -- What was typed before, by the character and the state where it began.
 use Rattle.console_core.proofs.Common.{◌≡◌, Bool, true, List, Some, sym, ◌&&◌, eqb, lookup}
-use Rattle.console_core.proofs.Common.{and_parts, eqb-true, insert_entry, MapValue, AreKnown, state_of}
+use Rattle.console_core.proofs.Common.{and_parts, eqb-true, insert_entry, MapValue, AreKnown, state_of, rules}
 use Rattle.console_core.specs.declared.typing.Found.{Found}
 use Rattle.console_core.specs.declared.typing.Sought.{Sought}
 use Rattle.console_core.specs.Inner.Exploring.{IsKnown}
@@ -22,9 +22,7 @@ abbrev pub are_same_sought : Sought → Sought → Bool
 are_same_sought a b = are_same a.from b.from && eqb a.character b.character
 
 pub tells-sought : TellsSought are_same_sought
-tells-sought a b t =
-    let p = and_parts (are_same a.from b.from) (eqb a.character b.character) t in
-    (tells-same a.from b.from p.0, eqb-true a.character b.character p.1)
+tells-sought a b t = search (rules, and_parts, tells-same, eqb-true)
 
 pub found-known : (E : Sought → Sought → Bool) → TellsSought E → (m : MapValue) (known : List (Sought × Found))
     → (k : Sought) (v : Found) → AreKnown m known → lookup (E k) known ≡ Some v

@@ -8,7 +8,7 @@ use Rattle.console_core.proofs.Common.{moved, IsPath, state_after, IsPathFrom, s
 use Rattle.console_core.proofs.Common.{AreSightsOf, selection_of, IsMet, state_of, Entry, Entries, Grows, AreWithin}
 use Rattle.console_core.proofs.Common.{AreAdded, IsMetBy, AreMet, IsReached, LeavesScroll, Searched, AreSafe, IsStuck}
 use Rattle.console_core.proofs.Common.{unscrolled, IsBehind, AreSeedsTo, AreBehindTo, AreBehind, IsOfferedUnlocked}
-use Rattle.console_core.proofs.Common.{AreSelectionsOf, AreOffersOf, Scroll, IsInSome}
+use Rattle.console_core.proofs.Common.{AreSelectionsOf, AreOffersOf, Scroll, IsInSome, rules}
 use Rattle.indexmap.proofs.IndexTableLemmas.Probe.{pigeonhole}
 use Rattle.std.proofs.lemmas.Bool.{true_from_ne_false}
 use Rattle.console_core.specs.Sights.{CanCompose, CanOffer, Enumerates, accents_in, IsOfferedAlong}
@@ -80,9 +80,7 @@ seeds-none u accent met es e = record {
 }
   where
     nothing : (j : ℕ) (x : Entry) → slice_get es j ≡ Some x → ⊥
-    nothing j x at =
-        let lt : j < length es = slice_get_within es j x at in
-        let z : length es ≡ 0 = ap (λ q. length q) e in omega (arith, lt, z)
+    nothing j x at = search (rules, slice_get_within)
 
 -- one more state offers it
 pub seeds-more : (u : Under) (accent : ℕ) (met es now : Entries) (n : ℕ) (x : Entry)

@@ -5,7 +5,7 @@ use Rattle.console_core.proofs.Common.{Release, Reset, Load, MapValue, count_whe
 use Rattle.console_core.proofs.Common.{ResolvedEvent, resolve, locked, pending, answer_resolved, Maps, between}
 use Rattle.console_core.proofs.Common.{in_force, is_second_in_force, resolved, resolved_event, answer_to}
 use Rattle.console_core.proofs.Common.{answers_to, HasKey, HasKeys, IsNoLoad, HasNoLoads, WasReset, WasLoaded, turns_at}
-use Rattle.console_core.proofs.Common.{unlocks_at, as_reset, loads_as_resets}
+use Rattle.console_core.proofs.Common.{unlocks_at, as_reset, loads_as_resets, rules}
 use Rattle.console_core.specs.Loads.{WithoutLoads, LoadsOfOneMapAreResets}
 use Rattle.console_core.proofs.OneMore.{one_map, resolved-start, resolved-more, held-reset, held-load, locked-reset}
 use Rattle.console_core.proofs.OneMore.{locked-load, remembered-reset, remembered-load, pending-reset, pending-load}
@@ -82,8 +82,7 @@ more_under_one m h e = resolved-more (between m m) h e ∙ ap (λ x. x ∷ resol
 
 -- all presses look up cells of their keys in the one map
 looked_under_one : (m : MapValue) (h : List Event) → HasKeys h → AllLooked m (resolved (between m m) h)
-looked_under_one m h keys =
-    subst (λ n. AllLooked n (resolved (between m m) h)) (one_in_force m h) (resolved-looked (between m m) h keys)
+looked_under_one m h keys = search (rules, one_in_force, resolved-looked)
 
 -- a load of the same map leaves what a reset leaves
 load_as_reset : (m : MapValue) (r s : List ResolvedEvent) → AllLooked m r → Same m r s

@@ -1,15 +1,13 @@
 -- What each notion of a history is after one more event, by what it was before.
 use Rattle.console_core.proofs.Common.{suc, ◌≡◌, ℕ, Bool, true, false, ◌&&◌, ◌||◌, not, eqb, List, [], ◌∷◌, Option}
-use Rattle.console_core.proofs.Common.{Some, None, refl, ap, subst, sym, if◌then◌else◌, and-true, and-false, ◌==◌}
-use Rattle.console_core.proofs.Common.{Action, Lock, Holding, Cell, Char, Act, Event, Press, Release, Reset, Load}
-use Rattle.console_core.proofs.Common.{same_action, holding_action, MapValue, is_borne, is_odd, last_where, unlocks}
-use Rattle.console_core.proofs.Common.{resolve_press, ResolvedEvent, remembered, held, locked, turns, taken_over}
-use Rattle.console_core.proofs.Common.{unless_nop, is_this_action, pending, pending_by_dead_keys, dead_keys_taken}
-use Rattle.console_core.proofs.Common.{keeps_taken, usable_dead_key, run_length, Maps, resolved_event, pressed}
-use Rattle.console_core.proofs.Common.{resolved, is_press, concerns, pending_after_dead_key, next_pending, eqb-true}
-use Rattle.console_core.proofs.Common.{eq-eqb, option_or, PressedCharacter, PressedAction, ReleasedKey, WasReset}
-use Rattle.console_core.proofs.Common.{WasLoaded, option_or-none, is_some, true≢false}
-use Rattle.console_core.specs.Resolved.{taken}
+use Rattle.console_core.proofs.Common.{Some, None, refl, ap, if◌then◌else◌, and-true, and-false, ◌==◌, Action, Lock}
+use Rattle.console_core.proofs.Common.{Holding, Cell, Char, Act, Event, Press, Release, Reset, Load, same_action}
+use Rattle.console_core.proofs.Common.{holding_action, MapValue, is_borne, is_odd, last_where, unlocks, resolve_press}
+use Rattle.console_core.proofs.Common.{ResolvedEvent, remembered, held, locked, turns, taken_over, unless_nop}
+use Rattle.console_core.proofs.Common.{is_this_action, pending, pending_by_dead_keys, dead_keys_taken, run_length, Maps}
+use Rattle.console_core.proofs.Common.{resolved_event, pressed, resolved, is_press, concerns, pending_after_dead_key}
+use Rattle.console_core.proofs.Common.{next_pending, eqb-true, eq-eqb, option_or, PressedCharacter, PressedAction}
+use Rattle.console_core.proofs.Common.{ReleasedKey, WasReset, WasLoaded, option_or-none, is_some, true≢false, rules}
 use Rattle.keymap_core.specs.declared.action.Holding.TheVariants as holding
 
 -- what isn't something is nothing
@@ -170,21 +168,14 @@ toggle_other i j false e = refl
 toggle_same : (i : ℕ) (r : List (Option ℕ))
     → pending_by_dead_keys (Some i ∷ (Some i ∷ r)) ≡ pending_after_dead_key (Some i) (pending_by_dead_keys (Some i ∷ r))
 unfolding pending_by_dead_keys
-toggle_same i r =
-    rw (run_length-same i (Some i ∷ r), run_length-same i r)
-    (toggle_again i (run_length i r) (is_odd (run_length i r)) refl)
+toggle_same i r = search (rules, run_length-same, toggle_again)
 
 -- the step of the next lemma, by whether the dead key before is the same
 toggle_cases : (i j : ℕ) (r : List (Option ℕ)) (b : Bool) → eqb j i ≡ b
     → pending_by_dead_keys (Some i ∷ (Some j ∷ r)) ≡ pending_after_dead_key (Some i) (pending_by_dead_keys (Some j ∷ r))
 unfolding pending_by_dead_keys
-toggle_cases i j r true e =
-    let s : i ≡ j = sym (eqb-true j i e) in
-    subst (λ x. pending_by_dead_keys (Some i ∷ (Some x ∷ r))
-    ≡ pending_after_dead_key (Some i) (pending_by_dead_keys (Some x ∷ r))) s
-    (toggle_same i r)
-toggle_cases i j r false e =
-    rw (run_length-same i (Some j ∷ r), e) (toggle_other i j (is_odd (run_length j (Some j ∷ r))) e)
+toggle_cases i j r true e = search (rules, eqb-true, toggle_same)
+toggle_cases i j r false e = search (rules, run_length-same, toggle_other)
 
 -- one more press of a dead key toggles it
 pub pending_after-toggles : (i : ℕ) (rest : List (Option ℕ))
@@ -211,8 +202,7 @@ pending_step false o rest = toggles o rest
 pub pending-action : (m : MapValue) (k : ℕ) (b : Action) (h : List ResolvedEvent)
     → pending m (PressedAction k b ∷ h) ≡ next_pending m (pending m h) (taken_over (remembered k h) b)
 unfolding dead_keys_taken
-pending-action m k b h = pending_step (keeps_taken (taken k b h)) (usable_dead_key m (taken k b h))
-    (dead_keys_taken m h)
+pending-action m k b h = search (rules, pending_step)
 
 -- pressed
 pub pressed-start : (k : ℕ) → pressed k [] ≡ false

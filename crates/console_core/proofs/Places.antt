@@ -3,7 +3,7 @@ use Rattle.console_core.proofs.Common.{cases_Bool, inl, inr, ◌≡◌, ℕ, ◌
 use Rattle.console_core.proofs.Common.{get_or, set, ◌+◌, ◌&&◌, not, Some, ap, lit<, refl, sym, subst, arith, eqb-true}
 use Rattle.console_core.proofs.Common.{eqb-false, ne_eqb, Modifier, LeftShift, Lock, Caps, Num, Scroll, Alt, Holding}
 use Rattle.console_core.proofs.Common.{Action, holding_of, modifier_index, lock_index, holding_index, same_action}
-use Rattle.console_core.proofs.Common.{holding_action, modifiers}
+use Rattle.console_core.proofs.Common.{holding_action, modifiers, rules}
 use Rattle.std.proofs.lemmas.List.{get_or-set_same, get_or-set_other, get_or-replicate}
 use Rattle.keymap_core.specs.declared.action.Holding.TheVariants as holding
 use Rattle.keymap_core.specs.declared.action.Action.TheVariants as act
@@ -72,13 +72,7 @@ pub mark-cleared : (marks : List Bool) (action : Action) (a b : Holding) → len
     → get_or (set marks (holding_index a) false) (holding_index b) false
     ≡ (get_or marks (holding_index b) false && not (same_action action (holding_action b)))
 mark-cleared marks action a b n e =
-    let lt : holding_index a < length marks = let h : holding_index a < 12 = holding_index-lt a in omega arith in
-    rw (
-      holding_of-some action a e,
-      get_or-set_if marks (holding_index a) (holding_index b) false false lt,
-      same_place a b,
-    )
-    (cleared_by _ _)
+    search (rules, holding_index-lt, holding_of-some, get_or-set_if, same_place, cleared_by)
 
 -- what a write to a place, and a list of one value, leave at each place
 pub ruleset places = (mark-cleared, get_or-set_if, get_or-replicate, same_place, holding_index-lt)

@@ -6,7 +6,7 @@ use Rattle.console_core.proofs.Common.{reverse-append, Contains-push, Contains-p
 use Rattle.console_core.proofs.Common.{true≢false, Held, Step, Under, State, IsMove, moved, Holds, with_holder}
 use Rattle.console_core.proofs.Common.{state_from, IsPathFrom, IsHome, state_of, StepsTo, PressesLead, IsStep}
 use Rattle.console_core.proofs.Common.{LeavesScroll, LeadsHome, Routes, AllLeadHome, HasRoute, NoPressLeads, IsAstray}
-use Rattle.console_core.proofs.Common.{Lock, Caps, Num, Scroll, Alt, Modifier, Move, Hold, Turn, LetGo, Exchange}
+use Rattle.console_core.proofs.Common.{Lock, Caps, Num, Scroll, Alt, Modifier, Move, Hold, Turn, LetGo, Exchange, rules}
 use Rattle.std.proofs.lemmas.List.{length_push}
 use Rattle.console_core.specs.declared.routes.Route.{Route}
 use Rattle.console_core.specs.Inner.Routes.{NoLetGoLeads}
@@ -59,9 +59,7 @@ let_go-astray routes s i step leads none k holds =
 pub press-astray : (u : Under) (routes : Routes) (s : State) (k : ℕ) (step : Option Step)
     → PressesLead u s k (StepsTo step) → IfSome step (λ x. HasRoute routes (state_of x.to) → ⊥)
     → NoPressLeads u routes s k
-press-astray u routes s k step leads none =
-    presses-map (StepsTo step) (λ t. HasRoute routes t → ⊥)
-    (λ t to. steps-to (λ z. HasRoute routes z → ⊥) step t to none) u s k leads
+press-astray u routes s k step leads none = search (rules, presses-map, steps-to)
 
 -- what the loop over states keeps
 pub record Settled (u : Under) (old : Routes) (states : List Held) (n : ℕ) (routes : Routes) (rest : List Held)

@@ -1,10 +1,10 @@
 -- What is pending, by the longest run at the end.
 use Rattle.console_core.proofs.Common.{suc, ◌≡◌, ℕ, Bool, false, true, List, [], ◌∷◌, ◌++◌, length, eqb, Option, None}
-use Rattle.console_core.proofs.Common.{Some, refl, ap, sym, subst, ◌∙◌, if◌then◌else◌, true≢false, eqb-true, eqb-false}
+use Rattle.console_core.proofs.Common.{Some, refl, ap, sym, ◌∙◌, if◌then◌else◌, true≢false, eqb-true, eqb-false}
 use Rattle.console_core.proofs.Common.{eq-eqb, ne_eqb, none-some, same_Some, Cell, Char, Act, Event, Press, Release}
 use Rattle.console_core.proofs.Common.{Reset, Load, MapValue, is_odd, resolve_press, look, dead_keys_taken, run_length}
 use Rattle.console_core.proofs.Common.{pending_by_dead_keys, Maps, in_force, resolved, resolved_event, taken_of}
-use Rattle.console_core.proofs.Common.{remembered_after}
+use Rattle.console_core.proofs.Common.{remembered_after, rules}
 use Rattle.console_core.specs.Positions.{positions_without}
 use Rattle.console_core.specs.Resolved.{keeps, dead_key}
 use Rattle.console_core.specs.Reading.{keeps_at, dead_key_taken_at, AllTake, LastDoesNotTake, PendingByRun}
@@ -68,22 +68,14 @@ pending-odd : (xs : List (Option ℕ)) (i : ℕ) → pending_by_dead_keys xs ≡
 unfolding pending_by_dead_keys
 pending-odd [] i e = absurd (none-some i e)
 pending-odd (None ∷ rest) i e = absurd (none-some i e)
-pending-odd (Some j ∷ rest) i e =
-    let s : (is_odd (run_length j (Some j ∷ rest)) ≡ true) × (j ≡ i) =
-    odd_some (is_odd (run_length j (Some j ∷ rest))) i j e in
-    subst (λ x. is_odd (run_length x (Some j ∷ rest)) ≡ true) s.1 s.0
+pending-odd (Some j ∷ rest) i e = search (rules, odd_some)
 
 -- the step of the next lemma, by whether the dead key before is the same
 odd_pending : (rest : List (Option ℕ)) (i j : ℕ) (b : Bool) → eqb j i ≡ b → is_odd (run_length i (Some j ∷ rest)) ≡ true
     → pending_by_dead_keys (Some j ∷ rest) ≡ Some i
 unfolding pending_by_dead_keys
-odd_pending rest i j true e odd =
-    let s : i ≡ j = sym (eqb-true j i e) in
-    subst (λ x. is_odd (run_length x (Some j ∷ rest)) ≡ true
-    → (if is_odd (run_length j (Some j ∷ rest)) then Some j else None) ≡ Some x)
-    (sym s) (λ o. rw o refl) odd
-odd_pending rest i j false e odd =
-    absurd (true≢false (sym odd ∙ ap (λ b. is_odd (if b then suc (run_length i rest) else 0)) e))
+odd_pending rest i j true e odd = search (rules, eqb-true)
+odd_pending rest i j false e odd = search (rules, true≢false)
 
 -- a run of odd length at the end leaves its dead key pending
 odd-pending : (xs : List (Option ℕ)) (i : ℕ) → is_odd (run_length i xs) ≡ true → pending_by_dead_keys xs ≡ Some i

@@ -16,7 +16,7 @@ use Rattle.console_core.proofs.Common.{script_of_path, presses_of, presses_along
 use Rattle.console_core.proofs.Common.{alone, presses, IsSent, NeverForgets, ReleasesPressedKeys, Follows, HoldsSome}
 use Rattle.console_core.proofs.Common.{Exact, Stands, Action, Lock, Modifier, LeftShift, RightShift, LeftControl}
 use Rattle.console_core.proofs.Common.{RightControl, LeftAlt, RightAlt, AltShift, Meta, Cell, Char, Act, Event, Press}
-use Rattle.console_core.proofs.Common.{Release, Reset, Load, Move, Hold, Turn, LetGo, Exchange}
+use Rattle.console_core.proofs.Common.{Release, Reset, Load, Move, Hold, Turn, LetGo, Exchange, rules}
 use Rattle.std.proofs.lemmas.Bool.{or_parts}
 use Rattle.console_core.specs.Moves.{free_with}
 use Rattle.console_core.proofs.Bearing.{pressed_if, remembered-pressed}
@@ -140,8 +140,7 @@ exact-exchange m r s x free = record {
 pub pressed-look : (u : Under) (h : List Event) (s : State) (k : ℕ) (x : Cell) → Follows (resolved u.maps h) s
     → s.is_second ≡ is_second_in_force h → look_in u s k ≡ x
     → resolved u.maps (Press k ∷ h) ≡ resolve_press k x ∷ resolved u.maps h
-pressed-look u h s k x f second seen =
-    cc (resolved-more u.maps h (Press k), second, follows-look u (resolved u.maps h) s k f, seen)
+pressed-look u h s k x f second seen = search (rules, resolved-more, follows-look)
 
 -- what is pressed after a press and release of a key was before
 pub tapped-pressed : (h : List Event) (k n : ℕ) → pressed n (Release k ∷ Press k ∷ h) ≡ true → pressed n h ≡ true
@@ -386,8 +385,7 @@ sent-releases u s (i ∷ more) h x =
 sent-move : (u : Under) (s : State) (move : Move) (h : List Event) → IsMove u s move → All (IsSent u.has_loads) h
     → All (IsSent u.has_loads) (events_of_move move ++ h)
 sent-move u s (Hold k i) h is x = All-cons (IsSent u.has_loads) (Press k) h tt x
-sent-move u s (Turn k l) h is x =
-    All-cons (IsSent u.has_loads) (Release k) (Press k ∷ h) tt (All-cons (IsSent u.has_loads) (Press k) h tt x)
+sent-move u s (Turn k l) h is x = search (rules, All-cons)
 sent-move u s (LetGo k i) h is x = All-cons (IsSent u.has_loads) (Release k) h tt x
 sent-move u s Exchange h is x = All-cons (IsSent u.has_loads) Load h is.1 x
 
@@ -422,8 +420,7 @@ presses-along (move ∷ path) = presses-move move (events_along path) ∙ ap (λ
 -- a script has one press more than its path
 pub presses-script : (u : Under) (path : List Move) (k : ℕ)
     → presses (script_of_path u path k) ≡ suc (presses_along path)
-presses-script u path k =
-    presses-releases (state_after u path) modifiers (Press k ∷ events_along path) ∙ ap suc (presses-along path)
+presses-script u path k = search (rules, presses-releases, presses-along)
 
 -- a holder is pressed
 pub holder-pressed : (u : Under) (h : List Event) (s : State) (i : Modifier) (k : ℕ) → Stands u h s → Holds s k i
@@ -459,9 +456,7 @@ pressed-still s k (i ∷ more) h (not_it, none) p =
     go : (o : Option ℕ) → (o ≡ Some k → ⊥) → pressed k (releases s more ++ h) ≡ true
         → pressed k (release_of o ++ (releases s more ++ h)) ≡ true
     go None f q = q
-    go (Some j) f q =
-        let other : (j == k) ≡ false = false_from_ne_true (j == k) (λ e. f (ap (λ n. Some n) (eqb-true j k e))) in
-        rw (pressed-release k j (releases s more ++ h), other) q
+    go (Some j) f q = search (rules, false_from_ne_true, eqb-true, pressed-release)
 
 -- no modifier stands twice in a list
 abbrev pub all_differ : List Modifier → Bool
@@ -506,11 +501,7 @@ releases-holders u h s x g held ok (i ∷ more) differ =
 pub releases-script : (u : Under) (path : List Move) → IsPath u path → (k : ℕ)
     → ReleasesPressedKeys (script_of_path u path k)
 releases-script u path is k =
-    releases-holders u (events_along path) (state_after u path) (stands u path is) (Press k ∷ events_along path)
-    (λ i n holds. pressed-press n k (events_along path)
-    ∙ pressed_if (k == n) (pressed n (events_along path))
-    (holder-pressed u (events_along path) (state_after u path) i n (stands u path is) holds))
-    (tt, releases-along u path is) modifiers refl
+    search (rules, releases-holders, stands, pressed-press, pressed_if, holder-pressed, releases-along)
 
 -- the script to a state where a holder looks up a character leaves its modifier on
 left-after : (u : Under) (path : List Move) → IsPath u path → (i : Modifier) (k : ℕ)

@@ -10,7 +10,7 @@ use Rattle.console_core.proofs.Common.{remembered, taken_over, pending, keeps_ta
 use Rattle.console_core.proofs.Common.{next_pending, pending_after_dead_key, between, resolved, is_second_in_force}
 use Rattle.console_core.proofs.Common.{HasKey, IsNoLoad, Under, alone, State, is_held, IsIdle, look_in, state_after}
 use Rattle.console_core.proofs.Common.{NeverForgets, presses, selection_of, IsForgetful, IsAdmitted, SeesBy}
-use Rattle.console_core.proofs.Common.{IsOfferedIn, Follows, IsBehind, fun_ext}
+use Rattle.console_core.proofs.Common.{IsOfferedIn, Follows, IsBehind, fun_ext, rules}
 use Rattle.console_core.specs.Sights.{selection_with, selection_after, LooksAreSelected, SightsAreReachable}
 use Rattle.console_core.proofs.OneMore.{one_map, resolved-start, resolved-more, pending-start, pending-character}
 use Rattle.console_core.proofs.OneMore.{pending-action, pending-release, pending-reset}
@@ -80,8 +80,7 @@ follows-selection r s f =
 stands-sees : (m : MapValue) (h : List Event) (s : State) (path : List Move) (k : ℕ) (x : Sight)
     → state_after (alone m) path ≡ s → Follows (resolved (between m m) h) s → SeesBy m (selection_after m h) k x
     → SeesBy m (selection_of (state_after (alone m) path)) k x
-stands-sees m h s path k x leads f sees =
-    rw (← (follows-selection (resolved (between m m) h) s f ∙ ap (λ t. selection_of t) (sym leads))) sees
+stands-sees m h s path k x leads f sees = search (rules, follows-selection)
 
 -- a dead key that is taken was looked up, and nothing else is remembered
 taken-same : (held b : Action) (t : Bool) (i : ℕ) → same_action held b ≡ t → (if t then b else act.Nop) ≡ act.DeadKey i
@@ -98,9 +97,7 @@ some_mod_dead held i j e f = let g : Some (act.DeadKey i) ≡ Some (act.Mod j) =
 pub taken-dead : (o : Option Action) (b : Action) (i : ℕ) → taken_over o b ≡ act.DeadKey i
     → (b ≡ act.DeadKey i) × IsFreeFor o i
 taken-dead None b i e = (e, (λ j f. let g : None ≡ Some (act.Mod j) = f in cc))
-taken-dead (Some held) b i e =
-    let p : (b ≡ act.DeadKey i) × (held ≡ act.DeadKey i) = taken-same held b (same_action held b) i refl e in
-    (p.0, (λ j f. some_mod_dead held i j p.1 f))
+taken-dead (Some held) b i e = search (rules, taken-same, some_mod_dead)
 
 -- what becomes pending was pending, or its dead key is taken
 abbrev pub Takes : MapValue → Option ℕ → Action → ℕ → Type 0

@@ -6,7 +6,7 @@ use Rattle.console_core.proofs.Common.{Sight, between, resolved, pressed, HasNoL
 use Rattle.console_core.proofs.Common.{start, IsIdle, IsMove, IsPath, IsPathFrom, look_in, state_after, state_from}
 use Rattle.console_core.proofs.Common.{events_along, events_of_move, pending, remembered, look_after, IsAdmitted}
 use Rattle.console_core.proofs.Common.{IsClean, IsPendingFor, SeesBy, SeesNext, selection_of, ReleasesPressedKeys}
-use Rattle.console_core.proofs.Common.{Stands}
+use Rattle.console_core.proofs.Common.{Stands, rules}
 use Rattle.console_core.specs.Sights.{ReachableIsSeen}
 use Rattle.console_core.specs.Sticking.{IsPressOrRelease}
 use Rattle.console_core.proofs.Behind.{path-split}
@@ -60,8 +60,7 @@ plain-more m h e sent no_load releases free x = record {
         let first : e ≡ Press j = let f : e ∷ h ≡ Press j ∷ before = at in cc in
         let rest : h ≡ before = tail-same e (Press j) h before at in
         free j i first (ap (λ g. remembered j (resolved (between m m) g)) rest ∙ held)
-    by (d ∷ later) before j i at held seen =
-        x.clean later before j i _ (tail-same e d h (later ++ Press j ∷ before) at) held seen
+    by (d ∷ later) before j i at held seen = search (rules, tail-same)
 
 -- a press of a key that remembers nothing
 plain-press : (m : MapValue) (h : List Event) (k : ℕ) → remembered k (resolved (between m m) h) ≡ None → IsPlain m h
@@ -83,8 +82,7 @@ plain-idle m h s k x idle plain = plain-press m h k (idle-none (resolved (betwee
 plain-move : (m : MapValue) (h : List Event) (s : State) (move : Move) → Stands (alone m) h s → IsMove (alone m) s move
     → IsPlain m h → IsPlain m (events_of_move move ++ h)
 plain-move m h s (Hold k i) x is plain = plain-idle m h s k x is.1 plain
-plain-move m h s (Turn k l) x is plain =
-    plain-release m (Press k ∷ h) k (press-presses k h) (plain-idle m h s k x is.1 plain)
+plain-move m h s (Turn k l) x is plain = search (rules, plain-release, press-presses, plain-idle)
 plain-move m h s (LetGo k i) x is plain = plain-release m h k (holder-pressed (alone m) h s i k x is) plain
 plain-move m h s Exchange x is plain = absurd (false≢true is.1)
 

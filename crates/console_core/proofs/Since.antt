@@ -3,7 +3,7 @@ use Rattle.console_core.proofs.Common.{◌≡◌, ℕ, Bool, false, true, ◌&&�
 use Rattle.console_core.proofs.Common.{ap, sym, ◌∙◌, if◌then◌else◌, append_assoc, ◌==◌, option_or, is_some}
 use Rattle.console_core.proofs.Common.{none-some, Action, Cell, Char, Act, Event, Press, Release, Reset, Load}
 use Rattle.console_core.proofs.Common.{resolve_press, remembered, look, unless_nop, Maps, in_force, resolved}
-use Rattle.console_core.proofs.Common.{remembered_after, NoneOf, option_or-none}
+use Rattle.console_core.proofs.Common.{remembered_after, NoneOf, option_or-none, rules}
 use Rattle.console_core.specs.Positions.{first_since_at}
 use Rattle.console_core.specs.Reading.{forgets_at, offers_at, IsSinceLast, is_character, offered, FirstSince}
 use Rattle.console_core.specs.Reading.{NothingSince, RememberedByPositions, NothingRememberedByPositions}
@@ -29,10 +29,8 @@ remembered_press : (ms : Maps) (k j : ℕ) (h : List Event) (y : Cell) (o : Opti
     → o ≡ remembered k (resolved ms h)
     → (if (j == k) && is_character y then None else option_or o (if j == k then offered y else None))
     ≡ remembered k (resolve_press j y ∷ resolved ms h)
-remembered_press ms k j h (Char c) o r =
-    rw r (press_char (j == k) (remembered k (resolved ms h)) ∙ sym (remembered-character k j c (resolved ms h)))
-remembered_press ms k j h (Act b) o r =
-    rw r (press_act (j == k) (remembered k (resolved ms h)) b ∙ sym (remembered-action k j b (resolved ms h)))
+remembered_press ms k j h (Char c) o r = search (rules, press_char, remembered-character)
+remembered_press ms k j h (Act b) o r = search (rules, press_act, remembered-action)
 
 -- what is remembered, by the events that offer and forget it
 pub remembered-events : (ms : Maps) (k : ℕ) (h : List Event)

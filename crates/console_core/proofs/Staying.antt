@@ -4,17 +4,17 @@ use Rattle.console_core.proofs.Common.{none-some, [], ◌∷◌, Option, Some, N
 use Rattle.console_core.proofs.Common.{arith, if◌then◌else◌, ◌==◌, and-true, and-false, eqb-true, eq-eqb, cases_Bool}
 use Rattle.console_core.proofs.Common.{cases_lt, true≢false, false_from_ne_true, All-head, All-tail, same_action}
 use Rattle.console_core.proofs.Common.{same_modifier, append-nil, ◌++◌, same_lock, holding_action, is_borne, MapValue}
-use Rattle.console_core.proofs.Common.{Bears, same_action-true, same_action-refl, look_with, ResolvedEvent}
+use Rattle.console_core.proofs.Common.{same_action-true, same_action-refl, look_with, ResolvedEvent}
 use Rattle.console_core.proofs.Common.{held, locked, on, remembered, taken_over, is_this_action, look, resolve}
 use Rattle.console_core.proofs.Common.{resolve_press, PressedCharacter, PressedAction, ReleasedKey, WasReset, WasLoaded}
-use Rattle.console_core.proofs.Common.{Maps, in_force, resolved, is_on_after, is_second_in_force, pressed, HasKey}
+use Rattle.console_core.proofs.Common.{Maps, in_force, resolved, is_on_after, is_second_in_force, HasKey}
 use Rattle.console_core.proofs.Common.{HasKeys, IsNoLoad, IsQuiet, Under, State, start, is_held, map_of, map_in}
 use Rattle.console_core.proofs.Common.{look_in, Holds, IsIdle, with_holder, with_lock_turned, exchanged, next_map}
 use Rattle.console_core.proofs.Common.{IsFree, IsMove, IsForgetful, HolderForgets, moved, presses_of, IsClean, Admits}
 use Rattle.console_core.proofs.Common.{presses, Follows, IsOnOnlyWhilePressed, IsOffOnceQuiet, fun_ext, is_some}
 use Rattle.console_core.proofs.Common.{same_Some, Action, Lock, Modifier, LeftShift, RightShift, LeftControl}
 use Rattle.console_core.proofs.Common.{RightControl, LeftAlt, RightAlt, AltShift, Meta, Holding, Cell, Char, Act, Event}
-use Rattle.console_core.proofs.Common.{Press, Release, Reset, Load, Move, Hold, Turn, LetGo, Exchange}
+use Rattle.console_core.proofs.Common.{Press, Release, Reset, Load, Move, Hold, Turn, LetGo, Exchange, rules}
 use Rattle.keymap_core.specs.Actions.{action_kind}
 use Rattle.console_core.proofs.OneMore.{resolved-start, resolved-more, held-start, held-character, held-action}
 use Rattle.console_core.proofs.OneMore.{held-release, held-reset, held-load, locked-start, locked-character}
@@ -91,10 +91,7 @@ follows-nothing r s k b f none = record {
 -- a press that takes a holding action remembers it
 pub takes : (r : List ResolvedEvent) (k : ℕ) (b : Action) (a : Holding)
     → taken_over (remembered k r) b ≡ holding_action a → remembered k (PressedAction k b ∷ r) ≡ Some (holding_action a)
-takes r k b a e =
-    let t : same_action (taken_over (remembered k r) b) (holding_action a) ≡ true =
-    ap (λ x. same_action x (holding_action a)) e ∙ same_action-refl (holding_action a) in
-    rw (remembered-action k k b r, eq-eqb k k refl) (taken-holding (remembered k r) b a t).1
+takes r k b a e = search (rules, same_action-refl, remembered-action, eq-eqb, taken-holding)
 
 -- a holder that takes a holding action takes its own modifier
 holder-takes : (r : List ResolvedEvent) (s : State) (k : ℕ) (b : Action) (a : Holding) (i : Modifier) → Follows r s
@@ -261,16 +258,14 @@ stays-mod u S T leads r s there f k lt b seen i e is None free = (
   follows-hold r s k b i f e,
   refl,
 )
-stays-mod u S T leads r s there f k lt b seen i e is (Some n) free =
-    (s, leads.stay s there, follows-again r s k b i n f e free, refl)
+stays-mod u S T leads r s there f k lt b seen i e is (Some n) free = search (rules, follows-again)
 
 -- a press that takes a lock leads from a set to the next
 stays-lock : (u : Under) (S T : State → Type 0) → LeadsOn u S T → (r : List ResolvedEvent) (s : State) → S s
     → Follows r s → (k : ℕ) → k < 128 → (b : Action) → look_in u s k ≡ Act b → (l : Lock)
     → taken_over (remembered k r) b ≡ act.Lock l → b ≡ act.Lock l → (d : Bool) → held (holding.Lock l) r ≡ d
     → Stays T s.is_second (PressedAction k b ∷ r)
-stays-lock u S T leads r s there f k lt b seen l e is true d =
-    (s, leads.stay s there, follows-down r s k b l f e d, refl)
+stays-lock u S T leads r s there f k lt b seen l e is true d = search (rules, follows-down)
 stays-lock u S T leads r s there f k lt b seen l e is false d = (
   with_lock_turned s l,
   leads.turn s k l there
@@ -282,9 +277,7 @@ stays-lock u S T leads r s there f k lt b seen l e is false d = (
 -- a press that takes a holding action looked it up
 looked_up : (r : List ResolvedEvent) (k : ℕ) (b : Action) (a : Holding)
     → taken_over (remembered k r) b ≡ holding_action a → b ≡ holding_action a
-looked_up r k b a e =
-    (taken-holding (remembered k r) b a
-    (ap (λ x. same_action x (holding_action a)) e ∙ same_action-refl (holding_action a))).0
+looked_up r k b a e = search (rules, taken-holding, same_action-refl)
 
 -- a press leads from a set to the next
 pub stays-press : (u : Under) (S T : State → Type 0) → LeadsOn u S T → (r : List ResolvedEvent) (s : State) → S s
@@ -306,8 +299,7 @@ stays-press u S T leads r s there f k lt keeps (Act b) seen =
 -- a release stays in a set that letting go keeps
 pub stays-release : (S : State → Type 0) → KeepsLetGo S → (r : List ResolvedEvent) (s : State) → S s → Follows r s
     → (k : ℕ) (o : Option Action) → remembered k r ≡ o → Stays S s.is_second (ReleasedKey k ∷ r)
-stays-release S keeps r s there f k None e =
-    (s, there, follows-release r s k f (λ i. ap (λ o. is_this_action o (act.Mod i)) e), refl)
+stays-release S keeps r s there f k None e = search (rules, follows-release)
 stays-release S keeps r s there f k (Some a) e =
     elim (kind_of a) [
       | inl p ↦ (
@@ -542,10 +534,7 @@ follows-on ms h s f keys i e =
 -- where modifiers are on only while their keys are pressed, none is on once all are released
 pub off-once_quiet : (m : MapValue) (ms : Maps) (h : List Event) → IsOnOnlyWhilePressed m h (λ i. is_on_after ms i h)
     → IsOffOnceQuiet h (λ i. is_on_after ms i h)
-off-once_quiet m ms h on quiet i =
-    false_from_ne_true (is_on_after ms i h) (λ e.
-    let s : (k : ℕ) × (k < 128) × Bears m k (holding.Mod i) × (pressed k h ≡ true) = on i e in
-    true≢false (sym s.3 ∙ quiet s.0 s.1))
+off-once_quiet m ms h on quiet i = search (rules, false_from_ne_true, true≢false)
 
 -- below n presses a modifier is on only while a key that bears it is pressed
 within-on : (u : Under) (n : ℕ) (S : ℕ → State → Type 0) → IsSafeBelow u n S → (h : List Event) → HasKeys h

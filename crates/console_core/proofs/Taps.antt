@@ -12,7 +12,7 @@ use Rattle.console_core.proofs.Common.{is_second_in_force, accent_pending_after,
 use Rattle.console_core.proofs.Common.{remembered_after, look_after, answer_to_look, Under, alone, State, Holds, IsIdle}
 use Rattle.console_core.proofs.Common.{IsMove, look_in, is_held, with_holder, IsPathFrom, state_from, events_along}
 use Rattle.console_core.proofs.Common.{events_of_move, IsTapOf, composed_of, types_something, plainly, LetsGo}
-use Rattle.console_core.proofs.Common.{GoesAndTaps, HasTyped, typed_along, kept_if, Exact, Stands}
+use Rattle.console_core.proofs.Common.{GoesAndTaps, HasTyped, typed_along, kept_if, Exact, Stands, rules}
 use Rattle.console_core.specs.Answers.{answer_dead_key}
 use Rattle.console_core.proofs.Going.{pending-along, pending-is}
 use Rattle.console_core.proofs.OneMore.{one_map, resolved-more, held-character, held-action, held-release}
@@ -153,12 +153,9 @@ stands-tapped u h s k c lt st seen exact = record {
 pub stands-tap : (u : Under) (h : List Event) (s : State) (plain : Bool) (x : Symbol) (k : ℕ) → Stands u h s
     → IsTapOf u s plain x k
     → Stands u (Release k ∷ Press k ∷ h) s
-stands-tap u h s plain (symbol.Character c) k st (lt, idle, seen, meta) =
-    stands-tapped u h s k (Char c) lt st seen (exact-character (resolved u.maps h) s k c st.exact idle)
+stands-tap u h s plain (symbol.Character c) k st (lt, idle, seen, meta) = search (rules, stands-tapped, exact-character)
 stands-tap u h s plain (symbol.DeadKey j) k st (lt, idle, seen, meta) =
-    stands-tapped u h s k (Act (act.DeadKey j)) lt st seen
-    (exact-action (resolved u.maps h) s k (act.DeadKey j) st.exact idle
-    (λ a. not_holding (act.DeadKey j) a refl refl))
+    search (rules, stands-tapped, exact-action, not_holding)
 
 -- ---- answers
 
@@ -195,10 +192,7 @@ release-silent None = refl
 release-silent (Some a) = refl
 
 typed-release : (m : MapValue) (h : List Event) (k : ℕ) → typed_along m (Release k ∷ h) ≡ typed_along m h
-typed-release m h k =
-    typed-more m h (Release k) (answer_release (remembered_after (between m m) k h))
-    (answers_by_cases (between m m) k h).1
-    ∙ ap (λ z. z ++ typed_along m h) (release-silent (remembered_after (between m m) k h))
+typed-release m h k = search (rules, typed-more, release-silent)
 
 -- neither does a move
 typed-move : (m : MapValue) (h : List Event) (s : State) (move : Move) → IsMove (alone m) s move → Stands (alone m) h s

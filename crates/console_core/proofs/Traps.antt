@@ -6,7 +6,7 @@ use Rattle.console_core.proofs.Common.{RightShift, LeftControl, RightControl, Le
 use Rattle.console_core.proofs.Common.{Char, Act, Event, Press, Release, Reset, Load, same_action, MapValue, entry_at}
 use Rattle.console_core.proofs.Common.{IsCellOf, exactly_one, slot_of, ResolvedEvent, held, locked, on, remembered}
 use Rattle.console_core.proofs.Common.{taken_over, is_this_action, look, resolve_press, Maps, in_force, resolved}
-use Rattle.console_core.proofs.Common.{HasKey, HasKeys, same_action-refl}
+use Rattle.console_core.proofs.Common.{HasKey, HasKeys, same_action-refl, rules}
 use Rattle.keymap_core.specs.declared.entry.LockFlag.{LockFlag}
 use Rattle.console_core.specs.Columns.{flips_shift}
 use Rattle.console_core.specs.Traps.{Bits, cell_with, group_bit, NobodyBearsCellPickingLocks, HasNoTrap}
@@ -97,8 +97,7 @@ press-kept m i j r (Act b) all f trap h =
 pub on-remembered : (ms : Maps) (h : List Event) → NobodyBearsCellPickingLocks (in_force ms h) → (i : Modifier)
     → HasNoTrap (in_force ms h) i → HasKeys h → on i (resolved ms h) ≡ true
     → RememberedBySome (holding.Mod i) (resolved ms h)
-on-remembered ms [] locks i free keys e =
-    absurd (true≢false (sym e ∙ ap (λ r. on i r) (resolved-start ms) ∙ held-start (holding.Mod i)))
+on-remembered ms [] locks i free keys e = search (rules, true≢false, resolved-start, held-start)
 on-remembered ms (Press j ∷ h) locks i free keys e =
     let rest : HasKeys h = All-tail HasKey (Press j) h keys in
     let m : MapValue = in_force ms h in
@@ -138,11 +137,8 @@ on-remembered ms (Release j ∷ h) locks i free keys e =
           (ap (λ o. is_this_action o (act.Mod i)) f ∙ same_action-refl (act.Mod i)))
       | inr q ↦ (s.0, rw (remembered-release s.0 j (resolved ms h), q) s.1)
     ])
-on-remembered ms (Reset ∷ h) locks i free keys e =
-    absurd (true≢false (cc (e, resolved-more ms h Reset, held-reset (holding.Mod i) (resolved ms h))))
-on-remembered ms (Load ∷ h) locks i free keys e =
-    absurd (true≢false (sym e ∙ ap (λ r. on i r) (resolved-more ms h Load)
-    ∙ held-load (holding.Mod i) _ (resolved ms h)))
+on-remembered ms (Reset ∷ h) locks i free keys e = search (rules, true≢false, resolved-more, held-reset)
+on-remembered ms (Load ∷ h) locks i free keys e = search (rules, true≢false, resolved-more, held-load)
 
 -- without locks and traps a modifier is on only while a key that bears it is pressed
 pub on_only_while_pressed_without_traps : OnOnlyWhilePressedWithoutTraps

@@ -3,12 +3,11 @@ use Rattle.console_core.proofs.Common.{suc, ◌≡◌, inl, inr, ℕ, ◌<◌, B
 use Rattle.console_core.proofs.Common.{ap, subst, sym, ◌∙◌, arith, ◌==◌, ◌%◌, Contains, list_any, and_parts}
 use Rattle.console_core.proofs.Common.{or_cases, eqb-true, eq-eqb, true≢false, Cell, Char, Act, Selection, Sight, Offer}
 use Rattle.console_core.proofs.Common.{Sights, MapValue, key_count, slot_of, alone, state_after, look_selected, SeesBy}
-use Rattle.console_core.proofs.Common.{is_selected, is_composed, can_see, AreSightsOf, IsReachable, selection_of}
-use Rattle.std.proofs.lemmas.Bool.{and_from}
+use Rattle.console_core.proofs.Common.{is_selected, is_composed, can_see, AreSightsOf, IsReachable, selection_of, rules}
 use Rattle.std.specs.List.{range_with_len}
 use Rattle.std.proofs.lemmas.List.Folds.{list_any_at}
 use Rattle.std.proofs.lemmas.List.FromFn.{get_or-range_with_len}
-use Rattle.console_core.specs.Sights.{slot_in, column_in, is_same, is_character, sees_by, is_seeing, CanCompose}
+use Rattle.console_core.specs.Sights.{slot_in, is_same, is_character, sees_by, is_seeing, CanCompose}
 use Rattle.console_core.specs.Inner.Adding.{IsSelectedBy, IsComposedBy}
 use Rattle.console_core.proofs.Offering.{composing-has}
 use Rattle.console_core.specs.declared.selection.Sight.TheVariants as sight
@@ -53,22 +52,13 @@ character-true c (Act a) e = absurd (true≢false (sym e))
 
 -- the test of a press
 pub sees-true : (m : MapValue) (y : Selection) (k : ℕ) (x : Sight) → sees_by m y k x ≡ true → SeesBy m y k x
-sees-true m y k (sight.Cell slot column) e =
-    let p = and_parts (slot_in y k == slot) (column_in m y k == column) e in
-    (eqb-true (slot_in y k) slot p.0, eqb-true (column_in m y k) column p.1)
-sees-true m y k (sight.Locks slot caps num) e =
-    let p = and_parts (slot_in y k == slot) (is_same y.caps caps && is_same y.num num) e in
-    let q = and_parts (is_same y.caps caps) (is_same y.num num) p.1 in
-    (eqb-true (slot_in y k) slot p.0, same-true y.caps caps q.0, same-true y.num num q.1)
+sees-true m y k (sight.Cell slot column) e = search (rules, and_parts, eqb-true)
+sees-true m y k (sight.Locks slot caps num) e = search (rules, and_parts, eqb-true, same-true)
 sees-true m y k (sight.Pair accent c) e = character-true c (look_selected m y k) e
 
 pub true-sees : (m : MapValue) (y : Selection) (k : ℕ) (x : Sight) → SeesBy m y k x → sees_by m y k x ≡ true
-true-sees m y k (sight.Cell slot column) (e, f) =
-    and_from (slot_in y k == slot) (column_in m y k == column) (eq-eqb (slot_in y k) slot e)
-    (eq-eqb (column_in m y k) column f)
-true-sees m y k (sight.Locks slot caps num) (e, f, g) =
-    and_from (slot_in y k == slot) (is_same y.caps caps && is_same y.num num) (eq-eqb (slot_in y k) slot e)
-    (and_from (is_same y.caps caps) (is_same y.num num) (true-same y.caps caps f) (true-same y.num num g))
+true-sees m y k (sight.Cell slot column) (e, f) = search (rules, eq-eqb)
+true-sees m y k (sight.Locks slot caps num) (e, f, g) = search (rules, eq-eqb, true-same)
 true-sees m y k (sight.Pair accent c) e = ap (λ z. is_character c z) e ∙ eq-eqb c c refl
 
 -- that of a selection
@@ -88,26 +78,19 @@ seeing-true m y x e =
 
 pub true-seeing : (m : MapValue) (y : Selection) (x : Sight) (k : ℕ) → k < key_count → SeesBy m y k x
     → is_seeing m y x ≡ true
-true-seeing m y x k lt sees =
-    any-member (λ j. sees_by m y j x) (range_with_len 0 key_count) k (in-range k lt) (true-sees m y k x sees)
+true-seeing m y x k lt sees = search (rules, any-member, in-range, true-sees)
 
 -- that of the selections
 pub selected-true : (m : MapValue) (ys : List Selection) (x : Sight) → IsSelectedBy m ys x → is_selected m ys x ≡ true
-selected-true m ys x (y, has, (k, lt, sees)) =
-    any-member (λ z. is_seeing m z x) ys y has (true-seeing m y x k lt sees)
+selected-true m ys x (y, has, (k, lt, sees)) = search (rules, any-member, true-seeing)
 
 pub true-selected : (m : MapValue) (ys : List Selection) (x : Sight) → is_selected m ys x ≡ true → IsSelectedBy m ys x
-true-selected m ys x passes =
-    let (y, has, seeing) = some-member (λ z. is_seeing m z x) ys passes in
-    (y, has, seeing-true m y x seeing)
+true-selected m ys x passes = search (rules, some-member, seeing-true)
 
 -- that of the offers
 pub composed-true : (m : MapValue) (offers : List Offer) (accent : ℕ) (x : Sight) → IsComposedBy m offers accent x
     → is_composed m offers accent x ≡ true
-composed-true m offers accent x (o, has, same, sees) =
-    any-member (λ z. (z.accent == accent) && is_selected m z.selections.items x) offers o has
-    (and_from (o.accent == accent) (is_selected m o.selections.items x) (eq-eqb o.accent accent same)
-    (selected-true m o.selections.items x sees))
+composed-true m offers accent x (o, has, same, sees) = search (rules, any-member, eq-eqb, selected-true)
 
 pub true-composed : (m : MapValue) (offers : List Offer) (accent : ℕ) (x : Sight)
     → is_composed m offers accent x ≡ true → IsComposedBy m offers accent x

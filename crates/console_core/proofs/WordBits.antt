@@ -3,7 +3,7 @@ use Rattle.console_core.proofs.Common.{cases_Bool, ◌≡◌, ℕ, ◌+◌, ◌/
 use Rattle.console_core.proofs.Common.{not, ◌⊎◌, inl, inr, eqb, refl, ap, sym, ◌∙◌, if◌then◌else◌, arith, lit<}
 use Rattle.console_core.proofs.Common.{eqb-true, eqb-false, ne_eqb, eq-eqb, zero, suc, Holding, Lock, LeftShift, Caps}
 use Rattle.console_core.proofs.Common.{holding_index, lock_index, same_lock, bit_is_set, word_mark, word_lock}
-use Rattle.console_core.proofs.Common.{word_second, mark_bit, lock_bit}
+use Rattle.console_core.proofs.Common.{word_second, mark_bit, lock_bit, rules}
 use Rattle.std.proofs.Common.{◌*◌, min, max, w32}
 use Rattle.std.specs.Prelude.{bit_and, bit_or, bit_xor}
 use Rattle.std.specs.Int.{bit_at, bit_not}
@@ -96,22 +96,16 @@ shifted c i j false e = ne_eqb (c + i) (c + j) (λ s. eqb-false i j e (omega ari
 -- marks are at the same bit exactly where their indices are the same
 pub same_mark_bit : (a b : Holding) → eqb (mark_bit a) (mark_bit b) ≡ eqb (holding_index a) (holding_index b)
 same_mark_bit (holding.Mod m) (holding.Mod n) = refl
-same_mark_bit (holding.Lock l) (holding.Lock k) =
-    shifted 12 (lock_index l) (lock_index k) _ refl ∙ sym (shifted 8 (lock_index l) (lock_index k) _ refl)
-same_mark_bit (holding.Mod m) (holding.Lock l) =
-    let h : holding_index (holding.Mod m) < 8 = modifier_index-lt m in
-    ne_eqb _ _ (λ e. omega arith) ∙ sym (ne_eqb (holding_index (holding.Mod m)) (8 + lock_index l) (λ e. omega arith))
-same_mark_bit (holding.Lock l) (holding.Mod m) =
-    let h : holding_index (holding.Mod m) < 8 = modifier_index-lt m in
-    ne_eqb _ _ (λ e. omega arith) ∙ sym (ne_eqb (8 + lock_index l) (holding_index (holding.Mod m)) (λ e. omega arith))
+same_mark_bit (holding.Lock l) (holding.Lock k) = search (rules, shifted)
+same_mark_bit (holding.Mod m) (holding.Lock l) = search (rules, modifier_index-lt, ne_eqb)
+same_mark_bit (holding.Lock l) (holding.Mod m) = search (rules, modifier_index-lt, ne_eqb)
 
 -- locks are at the same bit exactly where they are the same
 pub same_lock_bit : (l k : Lock) → eqb (lock_bit l) (lock_bit k) ≡ same_lock l k
 same_lock_bit l k = shifted 8 (lock_index l) (lock_index k) (same_lock l k) refl
 
 mark-not_lock : (a : Holding) (l : Lock) → mark_bit a ≡ lock_bit l → ⊥
-mark-not_lock (holding.Mod m) l e =
-    let h : holding_index (holding.Mod m) < 8 = modifier_index-lt m in omega arith
+mark-not_lock (holding.Mod m) l e = search (rules, modifier_index-lt)
 mark-not_lock (holding.Lock k) l e = let h : lock_index l < 4 = lock_index-lt l in omega arith
 
 -- no mark is at the bit of a lock

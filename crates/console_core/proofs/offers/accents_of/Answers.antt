@@ -1,10 +1,9 @@
-use Rattle.console_core.proofs.Common.{◌≡◌, [], length, arith, under_of, IsOfferedIn}
+use Rattle.console_core.proofs.Common.{◌≡◌, length, arith, under_of, IsOfferedIn, rules}
 use Rattle.console_core.proofs.Adding.{adds-none, adds-place, enumerates}
 use Rattle.console_core.proofs.offers.accents_of.Goals as goal
 
 pub loop-place-init : goal.loop-place-init
-loop-place-init c =
-    adds-none _ [] c.new-accents.result.items c.new-accents.ensures.items (λ a (j, x, at, lt, is). omega (arith, lt))
+loop-place-init c = search (rules, adds-none)
 
 pub loop-place-preserved : goal.loop-place-preserved
 loop-place-preserved c =

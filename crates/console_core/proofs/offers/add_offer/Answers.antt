@@ -1,4 +1,4 @@
-use Rattle.console_core.proofs.Common.{refl, sym, state_of, under_of}
+use Rattle.console_core.proofs.Common.{refl, sym, state_of, under_of, rules}
 use Rattle.console_core.proofs.Adding.{adds-none, offer-added, unusable-none}
 use Rattle.console_core.proofs.offers.add_offer.Goals as goal
 
@@ -10,14 +10,7 @@ returns-in_ok-add_accent c =
     c.in_ok-add_accent.ensures
 
 pub returns-else-is_usable : goal.returns-else-is_usable
-returns-else-is_usable c =
-    let u = under_of c.args.maps.now in
-    let s = state_of c.args.held.now in
-    adds-none _ c.args.accents.now.items c.args.accents.now.items refl
-    (λ a (can, is). unusable-none u s c.args.key c.in-Some.accent c.in-Some.ensures
-    (sym (c.if-is_usable.ensures c.args.maps.now.first.now refl)) a can is)
+returns-else-is_usable c = search (rules, adds-none, unusable-none)
 
 pub returns-in_default : goal.returns-in_default
-returns-in_default c =
-    adds-none _ c.args.accents.now.items c.args.accents.now.items refl
-    (λ a (can, is). c.in_default.ensures a is.0 is.1)
+returns-in_default c = search (rules, adds-none)

@@ -1,12 +1,10 @@
-use Rattle.console_core.proofs.Common.{◌≡◌, length, arith, under_of}
+use Rattle.console_core.proofs.Common.{◌≡◌, length, arith, under_of, rules}
 use Rattle.console_core.proofs.Offering.{seeds-none, seeds-more, seeds-skip}
 use Rattle.console_core.proofs.offers.add_offering.Goals.{in-Some+in_ok-add_state-in-Some, in-None}
 use Rattle.console_core.proofs.offers.add_offering.Goals as goal
 
 pub loop-place-init : goal.loop-place-init
-loop-place-init c =
-    seeds-none (under_of c.args.maps.now) c.args.accent c.args.met.now.entries c.args.states.now.entries
-    c.requires.empty
+loop-place-init c = search (rules, seeds-none)
 
 pub add_state-requires : goal.add_state-requires
 add_state-requires c = c.loop-place.invariant.within

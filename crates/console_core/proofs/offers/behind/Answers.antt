@@ -1,11 +1,9 @@
-use Rattle.console_core.proofs.Common.{◌≤◌, ◌<◌, length, arith, state_of, under_of}
+use Rattle.console_core.proofs.Common.{◌≤◌, ◌<◌, length, arith, state_of, under_of, rules}
 use Rattle.console_core.proofs.Offering.{added-within, behind-start, behind-step, behind-few}
 use Rattle.console_core.proofs.offers.behind.Goals as goal
 
 pub loop-place-init : goal.loop-place-init
-loop-place-init c =
-    behind-start (under_of c.args.maps.now) c.args.accent c.args.met.now.entries c.add_offering.new.states.entries
-    c.in_ok-add_offering.ensures
+loop-place-init c = search (rules, behind-start)
 
 pub meet_frees-requires : goal.meet_frees-requires
 meet_frees-requires c = c.loop-place.invariant.seeds.within

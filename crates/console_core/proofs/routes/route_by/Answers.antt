@@ -1,5 +1,4 @@
-use Rattle.console_core.proofs.Common.{subst, sym, ◌∙◌, ap, IfSome, option_copied, HasRoute, LeadsHome, state_of}
-use Rattle.console_core.proofs.Common.{IsStep}
+use Rattle.console_core.proofs.Common.{subst, sym, ◌∙◌, ap, IfSome, option_copied, LeadsHome, IsStep, rules}
 use Rattle.console_core.proofs.Entries.{found-by_state, none-found}
 use Rattle.console_core.proofs.RoutesHome.{step-home}
 use Rattle.console_core.proofs.routes.route_by.Goals as goal
@@ -14,8 +13,4 @@ returns-in_ok-longer-in-Some-get-clause-home c =
     (sym c.get.ensures.value ∙ ap option_copied c.in-Some-get.is)))
 
 pub returns-in-None-get-clause-astray : goal.returns-in-None-get-clause-astray
-returns-in-None-get-clause-astray c =
-    λ none.
-    subst (λ o. IfSome o (λ x. HasRoute c.args.routes.now.entries (state_of x.to) → ⊥)) (sym c.in-Some.is)
-    (none-found c.args.routes.now.entries c.in-Some.step.to
-    (sym c.get.ensures.value ∙ ap option_copied c.in-None-get.is))
+returns-in-None-get-clause-astray c = search (rules, none-found)

@@ -1,5 +1,5 @@
-use Rattle.console_core.proofs.Common.{none_unless, ◌<◌, IfSome, below_more, subst, refl, arith, None, modifier_index}
-use Rattle.console_core.proofs.Common.{Holds, with_holder, HasRoute, LeadsHome, state_of}
+use Rattle.console_core.proofs.Common.{none_unless, IfSome, below_more, subst, None}
+use Rattle.console_core.proofs.Common.{Holds, with_holder, HasRoute, LeadsHome, state_of, rules}
 use Rattle.console_core.proofs.Places.{modifier_index-lt, modifier-at}
 use Rattle.console_core.proofs.RoutesHome.{let_go-astray}
 use Rattle.console_core.proofs.routes.route_by_let_go.Goals as goal
@@ -22,7 +22,4 @@ loop-modifier-preserved c =
     (c.in_ok-route.ensures.astray (none_unless _ c.in_default.not-Some)) k))
 
 pub returns-clause-astray : goal.returns-clause-astray
-returns-clause-astray c =
-    λ none k i.
-    let lt : modifier_index i < 8 = modifier_index-lt i in
-    c.loop-modifier.invariant (modifier_index i) (omega arith) i refl k
+returns-clause-astray c = search (rules, modifier_index-lt)

@@ -1,12 +1,10 @@
-use Rattle.console_core.proofs.Common.{arith, subst, IfSome, LeadsHome, under_of, state_of}
+use Rattle.console_core.proofs.Common.{arith, subst, IfSome, LeadsHome, under_of, state_of, rules}
 use Rattle.console_core.proofs.RoutesHome.{settled-new, settled-some, settled-none, settled-all}
 use Rattle.console_core.proofs.routes.settle.Goals.{in-Some+in_ok-add_route-in-Some, in-None+in_ok-push-in-None}
 use Rattle.console_core.proofs.routes.settle.Goals as goal
 
 pub loop-held-init : goal.loop-held-init
-loop-held-init c =
-    settled-new (under_of c.args.maps.now) c.args.routes.now.entries c.args.states.now c.new-rest.result.items
-    c.requires c.new-rest.ensures.items
+loop-held-init c = search (rules, settled-new)
 
 pub loop-held-preserved : goal.loop-held-preserved
 loop-held-preserved c =

@@ -1,4 +1,4 @@
-use Rattle.console_core.proofs.Common.{◌+◌, arith, state_of, under_of, origin_of, AreAdded, Searched, AreInOrder}
+use Rattle.console_core.proofs.Common.{◌+◌, arith, state_of, under_of, origin_of, AreAdded, Searched, AreInOrder, rules}
 use Rattle.console_core.proofs.Growing.{grows-again}
 use Rattle.console_core.proofs.Searching.{close-step, searched-fewer}
 use Rattle.console_core.proofs.search.close.Goals as goal
@@ -23,11 +23,7 @@ loop-place-preserved c =
     }
 
 pub returns-after-loop-place-clause-searched : goal.returns-after-loop-place-clause-searched
-returns-after-loop-place-clause-searched c =
-    searched-fewer (under_of c.args.maps.now) c.loop-place.met.entries c.args.level c.loop-place.place c.args.level
-    c.args.level (omega arith) c.loop-place.invariant.after c.loop-place.invariant.searched
+returns-after-loop-place-clause-searched c = search (rules, searched-fewer)
 
 pub returns-else-len-le-BOUND-clause-searched : goal.returns-else-len-le-BOUND-clause-searched
-returns-else-len-le-BOUND-clause-searched c =
-    searched-fewer (under_of c.args.maps.now) c.loop-place.met.entries c.args.level c.loop-place.place c.args.level
-    c.args.level (omega arith) c.loop-place.invariant.after c.loop-place.invariant.searched
+returns-else-len-le-BOUND-clause-searched c = search (rules, searched-fewer)

@@ -1,5 +1,5 @@
 use Rattle.console_core.proofs.Common.{◌≡◌, reverse, subst, ap, slice_get_within, End, TooMany, Under, State, start}
-use Rattle.console_core.proofs.Common.{under_of, Entries, HasEnded, Scroll}
+use Rattle.console_core.proofs.Common.{under_of, Entries, HasEnded, Scroll, rules}
 use Rattle.console_core.proofs.Concluding.{complete-never, none-late, stuck-sticks}
 use Rattle.console_core.proofs.Deciding.{sent-admitted, are-on-under}
 use Rattle.console_core.proofs.GoingBack.{searched-back}
@@ -14,8 +14,7 @@ pub meet_all-requires-clause-scroll : goal.meet_all-requires-clause-scroll
 meet_all-requires-clause-scroll c = ap (λ s. s.is_locked Scroll) c.requires
 
 pub script-requires-clause-place : goal.script-requires-clause-place
-script-requires-clause-place c =
-    slice_get_within c.meet_all.new.met.entries c.in-Some.stuck.place c.in-Some.ensures.0.0 c.in-Some.ensures.0.1
+script-requires-clause-place c = search (rules, slice_get_within)
 
 pub script-requires-clause-back : goal.script-requires-clause-back
 script-requires-clause-back c =

@@ -1,5 +1,5 @@
 use Rattle.console_core.proofs.Common.{◌≡◌, ◌≤◌, ◌+◌, [], ◌∷◌, ◌<◌, length, None, subst, sym, arith, Origin, under_of}
-use Rattle.console_core.proofs.Common.{origin_of, Searched, AreInOrder, AreWithin}
+use Rattle.console_core.proofs.Common.{origin_of, Searched, AreInOrder, AreWithin, rules}
 use Rattle.console_core.proofs.Growing.{added-longer}
 use Rattle.console_core.proofs.Searching.{start-entries, searched-start, order-within, searched-fewer, level-done}
 use Rattle.console_core.proofs.Searching.{closed-done}
@@ -27,16 +27,7 @@ pub press-requires-clause-keys : goal.press-requires-clause-keys
 press-requires-clause-keys c = rw c.as_slice.ensures.value c.in_ok-keys.ensures
 
 pub returns : goal.returns
-returns c =
-    let u = under_of c.args.maps.now in
-    let es = c.loop-level.met.entries in
-    let level = c.loop-level.level in
-    let s = c.loop-level.invariant.searched in
-    let le : length es ≤ level = omega (arith, c.loop-level-test.false, c.len.ensures.len) in (
-      searched-fewer u es level level 0 0 (omega arith) (omega arith) s,
-      c.loop-level.invariant.order.1,
-      searched-fewer u es level level (length es) (length es) le le s,
-    )
+returns c = search (rules, searched-fewer)
 
 pub returns-then-len-gt-BOUND : goal.returns-then-len-gt-BOUND
 returns-then-len-gt-BOUND c =
@@ -78,20 +69,4 @@ returns-then-len-gt-BOUND-2 c =
     )
 
 pub loop-level-preserved : goal.loop-level-preserved
-loop-level-preserved c =
-    let u = under_of c.args.maps.now in
-    let es = c.loop-level.met.entries in
-    let mid = c.close.new.met.entries in
-    let now = c.press.new.met.entries in
-    let e : c.len-end.result ≡ length mid = c.len-end.ensures.len in
-    let small : length now ≤ 65536 = omega (arith, c.if-len-gt-BOUND-2.false, c.len-in-loop-level-2.ensures.len) in
-    let closed_longer : length es ≤ length mid = added-longer es mid c.in_ok-close.ensures.grown in
-    let pressed_longer : length mid ≤ length now = added-longer mid now c.in_ok-press.ensures.grown in
-    record {
-      searched = rw e (c.in_ok-press.ensures.searched small);
-      order = subst (λ n. AreInOrder now n (c.loop-level.presses + 1)) (sym e) c.in_ok-press.ensures.order;
-      below = omega (arith, e, pressed_longer);
-      levels =
-          omega (arith, e, closed_longer, c.loop-level.invariant.levels, c.loop-level-test.true, c.len.ensures.len);
-      small = small;
-    }
+loop-level-preserved c = search (rules, added-longer)

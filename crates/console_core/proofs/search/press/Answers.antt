@@ -1,5 +1,5 @@
 use Rattle.console_core.proofs.Common.{◌≤◌, ◌<◌, ◌+◌, [], length, sym, arith, append-nil, under_of, origin_of, Searched}
-use Rattle.console_core.proofs.Common.{AreInOrder, Grows}
+use Rattle.console_core.proofs.Common.{AreInOrder, Grows, rules}
 use Rattle.console_core.proofs.Searching.{press-step, order-next, searched-fewer}
 use Rattle.console_core.proofs.search.press.Goals as goal
 
@@ -11,10 +11,7 @@ loop-place-init c = record {
 }
 
 pub returns-then-len-gt-BOUND-clause-closed : goal.returns-then-len-gt-BOUND-clause-closed
-returns-then-len-gt-BOUND-clause-closed c =
-    searched-fewer (under_of c.args.maps.now) c.loop-place.met.entries c.loop-place.place
-    (length c.args.met.now.entries) c.args.level (length c.args.met.now.entries)
-    (omega (arith, c.loop-place.auto.place)) (omega arith) c.loop-place.invariant.searched
+returns-then-len-gt-BOUND-clause-closed c = search (rules, searched-fewer)
 
 pub loop-place-preserved : goal.loop-place-preserved
 loop-place-preserved c =
@@ -38,16 +35,7 @@ loop-place-preserved c =
     }
 
 pub returns-clause-searched : goal.returns-clause-searched
-returns-clause-searched c =
-    λ small.
-    let le : length c.args.met.now.entries ≤ c.loop-place.place =
-    omega (arith, c.loop-place-test.false, c.len-end.ensures.len) in
-    searched-fewer (under_of c.args.maps.now) c.loop-place.met.entries c.loop-place.place
-    (length c.args.met.now.entries) (length c.args.met.now.entries) (length c.args.met.now.entries) le (omega arith)
-    c.loop-place.invariant.searched
+returns-clause-searched c = search (rules, searched-fewer)
 
 pub returns-clause-closed : goal.returns-clause-closed
-returns-clause-closed c =
-    searched-fewer (under_of c.args.maps.now) c.loop-place.met.entries c.loop-place.place
-    (length c.args.met.now.entries) c.args.level (length c.args.met.now.entries)
-    (omega (arith, c.loop-place.auto.place)) (omega arith) c.loop-place.invariant.searched
+returns-clause-closed c = search (rules, searched-fewer)

@@ -1,5 +1,6 @@
 use Rattle.console_core.proofs.Common.{◌≡◌, List, [], ◌∷◌, ◌++◌, reverse, ap, subst, ◌∙◌, reverse-reverse, modifiers}
 use Rattle.console_core.proofs.Common.{releases, events_of_move, events_along, script_of_path, state_of, Press, Move}
+use Rattle.console_core.proofs.Common.{rules}
 use Rattle.console_core.proofs.GoingBack.{LeadsBy, script-begin, trail-leads, leads-next, leads-end, left-smaller}
 use Rattle.console_core.proofs.GoingBack.{within-last, same-place}
 use Rattle.console_core.proofs.search.script.Goals as goal
@@ -24,9 +25,7 @@ loop-last-init c =
     }
 
 pub loop-last-smaller : goal.loop-last-smaller
-loop-last-smaller c =
-    left-smaller c.args.met.now.entries c.in-Some.parent c.in-Some.by c.entry-last.result c.loop-last.last
-    c.requires.back c.entry-last.ensures c.in-Some.is
+loop-last-smaller c = search (rules, left-smaller)
 
 pub loop-last-preserved : goal.loop-last-preserved
 loop-last-preserved c =

@@ -1,12 +1,10 @@
-use Rattle.console_core.proofs.Common.{ap, subst, sym, ◌∙◌, option_copied, LeadsHome, state_of}
+use Rattle.console_core.proofs.Common.{ap, subst, sym, ◌∙◌, option_copied, LeadsHome, state_of, rules}
 use Rattle.console_core.proofs.Entries.{found-by_state, none-found}
 use Rattle.console_core.proofs.Results.{on_ok-then}
 use Rattle.console_core.proofs.showing.come_home.Goals as goal
 
 pub unreachable-requires : goal.unreachable-requires
-unreachable-requires c =
-    none-found c.args.routes.now.entries c.args.held.now (sym c.get.ensures.value ∙ ap option_copied c.in-None.is)
-    c.requires
+unreachable-requires c = search (rules, none-found)
 
 pub returns : goal.returns
 returns c =

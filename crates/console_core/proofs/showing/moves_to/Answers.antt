@@ -1,4 +1,4 @@
-use Rattle.console_core.proofs.Common.{◌≡◌, List, [], ◌∷◌, ◌++◌, ap, subst, ◌∙◌, Move}
+use Rattle.console_core.proofs.Common.{◌≡◌, List, [], ◌∷◌, ◌++◌, ap, subst, ◌∙◌, Move, rules}
 use Rattle.console_core.proofs.GoingBack.{LeadsBy, trail-leads, move-next, left-smaller, within-last}
 use Rattle.console_core.proofs.showing.moves_to.Goals as goal
 
@@ -16,9 +16,7 @@ loop-last-init c =
     }
 
 pub loop-last-smaller : goal.loop-last-smaller
-loop-last-smaller c =
-    left-smaller c.args.met.now.entries c.in-Some.parent c.in-Some.by c.entry-last-in-Some.result c.loop-last.last
-    c.requires.back c.entry-last-in-Some.ensures c.in-Some.is
+loop-last-smaller c = search (rules, left-smaller)
 
 pub loop-last-preserved : goal.loop-last-preserved
 loop-last-preserved c =

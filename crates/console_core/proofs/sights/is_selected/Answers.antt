@@ -1,5 +1,5 @@
-use Rattle.console_core.proofs.Common.{false_from_ne_true, ◌<◌, length, get_or, refl, subst, sym, arith, below_more}
-use Rattle.console_core.proofs.Common.{◌∙◌, get_or_default, SeesBy, is_selected}
+use Rattle.console_core.proofs.Common.{false_from_ne_true, ◌<◌, length, refl, subst, sym, arith, below_more}
+use Rattle.console_core.proofs.Common.{◌∙◌, get_or_default, SeesBy, is_selected, rules}
 use Rattle.console_core.proofs.Visible.{selected-true, true-selected}
 use Rattle.console_core.proofs.sights.is_selected.Goals as goal
 
@@ -13,12 +13,7 @@ loop-selection-preserved c =
     (subst (λ z. SeesBy c.args.map.now z k c.args.sight) (sym (get_or_default ys n _ y within ∙ at)) sees))
 
 pub returns-then-is_seeing : goal.returns-then-is_seeing
-returns-then-is_seeing c =
-    let ys = c.args.selections.now in
-    let n = c.loop-selection.selection-index in
-    let within : n < length ys = c.loop-selection-test.true in
-    sym (selected-true c.args.map.now ys c.args.sight
-    (get_or ys n _, (n, within, get_or_default ys n _ _ within), c.if-is_seeing.ensures.seen refl))
+returns-then-is_seeing c = search (rules, selected-true)
 
 pub returns : goal.returns
 returns c =

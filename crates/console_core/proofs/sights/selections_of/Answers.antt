@@ -1,11 +1,9 @@
-use Rattle.console_core.proofs.Common.{◌≡◌, [], length, subst, arith, IsWith, selection_of}
+use Rattle.console_core.proofs.Common.{◌≡◌, length, subst, arith, IsWith, selection_of, rules}
 use Rattle.console_core.proofs.Adding.{adds-none, adds-one, adds-place, enumerates}
 use Rattle.console_core.proofs.sights.selections_of.Goals as goal
 
 pub loop-place-init : goal.loop-place-init
-loop-place-init c =
-    adds-none _ [] c.new-selections.result.items c.new-selections.ensures.items
-    (λ y (j, x, at, lt, is). omega (arith, lt))
+loop-place-init c = search (rules, adds-none)
 
 pub loop-place-preserved : goal.loop-place-preserved
 loop-place-preserved c =

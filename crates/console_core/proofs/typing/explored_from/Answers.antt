@@ -1,11 +1,9 @@
-use Rattle.console_core.proofs.Common.{ap, sym, ◌∙◌, option_copied, IsExploredFrom}
+use Rattle.console_core.proofs.Common.{ap, sym, ◌∙◌, option_copied, IsExploredFrom, rules}
 use Rattle.console_core.proofs.Entries.{found-by_state, none-found}
 use Rattle.console_core.proofs.typing.explored_from.Goals as goal
 
 pub unreachable-requires : goal.unreachable-requires
-unreachable-requires c =
-    none-found c.args.explorations.now.entries c.args.from.now (sym c.get.ensures.value ∙ ap option_copied c.in-None.is)
-    c.requires
+unreachable-requires c = search (rules, none-found)
 
 pub returns : goal.returns
 returns c =

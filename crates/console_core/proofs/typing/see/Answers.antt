@@ -1,18 +1,17 @@
-use Rattle.console_core.proofs.Common.{subst, sym, ◌∙◌, AreExplorations, IsExploredFrom, HasEntry, state_of}
+use Rattle.console_core.proofs.Common.{IsExploredFrom, rules}
 use Rattle.console_core.proofs.Entries.{one-by_state, has-new, found-has}
 use Rattle.console_core.proofs.typing.see.Goals as goal
 
 pub returns-in_ok-insert-clause-explorations : goal.returns-in_ok-insert-clause-explorations
 returns-in_ok-insert-clause-explorations c =
-    subst (λ v. AreExplorations c.args.map.now v) (sym c.in_ok-insert.ensures.entries)
-    (one-by_state (IsExploredFrom c.args.map.now) c.args.explorations.now.entries c.args.from.now c.in_ok-explored.explored c.requires.explorations
-    c.in_ok-explored.ensures)
+    rw c.in_ok-insert.ensures.entries
+    (one-by_state (IsExploredFrom c.args.map.now) c.args.explorations.now.entries c.args.from.now
+    c.in_ok-explored.explored c.requires.explorations c.in_ok-explored.ensures)
 
 pub returns-in_ok-insert-clause-seen : goal.returns-in_ok-insert-clause-seen
 returns-in_ok-insert-clause-seen c =
-    subst (λ v. HasEntry v (state_of c.args.from.now)) (sym c.in_ok-insert.ensures.entries)
+    rw c.in_ok-insert.ensures.entries
     (has-new c.args.explorations.now.entries c.args.from.now c.in_ok-explored.explored)
 
 pub returns-else-not-contains_key-clause-seen : goal.returns-else-not-contains_key-clause-seen
-returns-else-not-contains_key-clause-seen c =
-    found-has c.args.explorations.now.entries c.args.from.now (sym c.contains_key.ensures ∙ c.if-not-contains_key.false)
+returns-else-not-contains_key-clause-seen c = search (rules, found-has)

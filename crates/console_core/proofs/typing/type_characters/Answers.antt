@@ -1,5 +1,5 @@
 use Rattle.console_core.proofs.Common.{subst, sym, ◌∙◌, reverse, take_all, slice_get-get_or, AreKnown}
-use Rattle.console_core.proofs.Common.{AreExplorations, state_of}
+use Rattle.console_core.proofs.Common.{AreExplorations, state_of, rules}
 use Rattle.console_core.specs.Inner.Exploring.{Leads}
 use Rattle.console_core.proofs.Choosing.{no-route}
 use Rattle.console_core.proofs.Exploring.{returns-origin}
@@ -47,8 +47,7 @@ loop-place-preserved c =
     }
 
 pub see-requires-clause-origin : goal.see-requires-clause-origin
-see-requires-clause-origin c =
-    returns-origin c.args.map.now (state_of c.loop-place.from) c.loop-place.invariant.typed.can_return
+see-requires-clause-origin c = search (rules, returns-origin)
 
 pub go_home-requires : goal.go_home-requires
 go_home-requires c = (c.explored_from.ensures c.args.map.now c.in_ok-see.ensures.explorations).0

@@ -22,8 +22,8 @@ returns-in_ok-next-in-Some-Direct-clause-leads c =
     let m = c.args.map.now in
     let at = c.in-Some-Direct.at in
     let (x, there, has, tap) = rw c.in-Some-Direct.field-0-is at c.in-Some-Direct.ensures in
-    leads-direct m (state_of c.args.from.now) c.explored_from-explored.result.now c.args.c (reverse c.args.events.now.items)
-    (reverse c.go_and_tap.new.events.items) c.in_ok-next-in-Some-Direct.next
+    leads-direct m (state_of c.args.from.now) c.explored_from-explored.result.now c.args.c
+    (reverse c.args.events.now.items) (reverse c.go_and_tap.new.events.items) c.in_ok-next-in-Some-Direct.next
     (c.explored_from-explored.ensures m c.in_ok-see.ensures.explorations) c.requires.can_return
     (at.place, at.key, x, there, has, tap, c.in_ok-next-in-Some-Direct.ensures x there)
 
@@ -58,8 +58,9 @@ returns-in_ok-last-in-Some-Composed-clause-leads c =
     let now = reverse c.tap_from.new.events.items in
     let last = c.in_ok-last-in-Some-Composed.last in
     let (i, accented) = rw c.in-Some-Composed.field-0-is at c.in-Some-Composed.ensures in
-    composed-leads m (state_of c.args.from.now) c.explored_from-explored.result.now f i c.args.c c.in-Some-Composed.found
-    (reverse c.args.events.now.items) between now (state_of c.in_ok-middle-in-Some-Composed.middle) last
+    composed-leads m (state_of c.args.from.now) c.explored_from-explored.result.now f i c.args.c
+    c.in-Some-Composed.found (reverse c.args.events.now.items) between now
+    (state_of c.in_ok-middle-in-Some-Composed.middle) last
     (c.explored_from-explored.ensures m c.in_ok-see.ensures.explorations) c.requires.can_return accented
     c.in_ok-middle-in-Some-Composed.ensures
     (c.explored_from.ensures m c.in_ok-see-in-Some-Composed.ensures.explorations)
@@ -69,8 +70,8 @@ pub returns-then-explored-clause-leads : goal.returns-then-explored-clause-leads
 returns-then-explored-clause-leads c =
     let m = c.args.map.now in
     no-way m (state_of c.args.from.now) c.explored_from-explored.result.now c.args.c
-    (c.explored_from-explored.ensures m c.in_ok-see.ensures.explorations) c.requires.can_return c.if-explored.true c.in-None.ensures.0
-    c.in-None.ensures.1
+    (c.explored_from-explored.ensures m c.in_ok-see.ensures.explorations) c.requires.can_return c.if-explored.true
+    c.in-None.ensures.0 c.in-None.ensures.1
 
 pub returns-else-explored-clause-leads : goal.returns-else-explored-clause-leads
 returns-else-explored-clause-leads c =

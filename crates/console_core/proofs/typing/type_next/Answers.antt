@@ -1,4 +1,4 @@
-use Rattle.console_core.proofs.Common.{◌∙◌, reverse, subst, sym, AreKnown, state_of}
+use Rattle.console_core.proofs.Common.{◌∙◌, reverse, subst, sym, AreKnown, state_of, rules}
 use Rattle.console_core.specs.Inner.Exploring.{Leads}
 use Rattle.console_core.proofs.Typings.{types-alone, fits-behind}
 use Rattle.console_core.proofs.typing.type_next.Goals.{in-To+in_ok-keep, in_default-typed}
@@ -9,15 +9,7 @@ returns-in-Some-clause-leads c =
     let types = rw c.in-Some.is at c.in_ok-next.ensures in types c.args.map.now c.requires.known
 
 pub keep-requires : goal.keep-requires
-keep-requires c =
-    let k = c.args.sought.now in
-    let old = c.recall.new.events.items in
-    let now = c.type_from.new.events.items in
-    let leads =
-    subst (λ r. Leads c.args.map.now k.character (state_of k.from) (reverse old) (reverse now) r) c.in-To.is
-    c.in_ok-typed.ensures.leads in
-    let le = fits-behind c.args.map.now k.character (state_of k.from) (state_of c.in-To.next) old now leads in
-    rw (c.len-start.ensures ∙ c.recall.new.events.ok.0, c.deref.ensures.value) le
+keep-requires c = search (rules, fits-behind)
 
 pub returns-clause-known : goal.returns-clause-known
 returns-clause-known c = elim c.match-typed.branch [

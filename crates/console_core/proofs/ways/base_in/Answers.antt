@@ -1,5 +1,5 @@
 use Rattle.console_core.proofs.Common.{◌+◌, ℕ, take, get_or, inl, inr, ap, subst, sym, ◌∙◌, Contains, take_all}
-use Rattle.console_core.proofs.Common.{get_or_default}
+use Rattle.console_core.proofs.Common.{get_or_default, rules}
 use Rattle.console_core.proofs.RoutesHome.{before-next}
 use Rattle.console_core.specs.declared.explored.Symbol.TheVariants as symbol
 use Rattle.console_core.proofs.ways.base_in.Goals as goal
@@ -20,10 +20,4 @@ loop-pair-preserved c =
     ]
 
 pub returns : goal.returns
-returns c =
-    λ far p has.
-    let n = c.loop-pair.pair-index in
-    let items = c.pairs-pair-items.result.now in
-    let e = c.pairs-pair-items.ensures.value in
-    c.loop-pair.invariant far p
-    (rw (← e, take_all n items c.loop-pair-test.false, e) has)
+returns c = search (rules, take_all)

@@ -1,4 +1,4 @@
-use Rattle.console_core.proofs.Common.{inl, inr, subst, sym, arith, CanAccent}
+use Rattle.console_core.proofs.Common.{inl, inr, subst, arith, CanAccent, rules}
 use Rattle.console_core.proofs.Bases.{usable-below}
 use Rattle.console_core.proofs.Searching.{place_last}
 use Rattle.console_core.proofs.ways.dead_key_for.Goals as goal
@@ -17,7 +17,4 @@ loop-accent-preserved c =
     }
 
 pub returns : goal.returns
-returns c =
-    λ far i x can.
-    c.loop-accent.invariant.none far i x
-    (usable-below c.args.map.now i c.loop-accent.index can.0 (sym c.in_default.ensures.value)) can
+returns c = search (rules, usable-below)

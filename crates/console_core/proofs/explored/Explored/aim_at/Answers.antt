@@ -1,5 +1,5 @@
 use Rattle.console_core.proofs.Common.{◌≡◌, MatchOption, Some, refl, subst, sym, map_of_explored, IsAim, NoTurnIsOneWay}
-use Rattle.console_core.proofs.Common.{IsReachable}
+use Rattle.console_core.proofs.Common.{IsReachable, rules}
 use Rattle.console_core.proofs.Approaching.{aims-at, dead-not, found-aim}
 use Rattle.console_core.specs.declared.selection.Sight.TheVariants as sight
 use Rattle.console_core.proofs.explored.Explored.aim_at.Goals as goal
@@ -20,6 +20,4 @@ returns-in-None c =
     (dead-not c.args.self.now c.requires c.in-Pair.accent c.in-Pair.character (c.in-None.ensures refl) steady)
 
 pub returns-in_default : goal.returns-in_default
-returns-in_default c =
-    aims-at c.args.self.now c.requires c.args.sight c.in_default.not-Pair c.aim_behind-in_default.result
-    c.aim_behind-in_default.ensures
+returns-in_default c = search (rules, aims-at)

@@ -1,5 +1,5 @@
 use Rattle.console_core.proofs.Common.{reverse, subst, slice_get_within, map_of_explored, state_of}
-use Rattle.console_core.proofs.Common.{IsDeadFor, Leads, start}
+use Rattle.console_core.proofs.Common.{IsDeadFor, start, rules}
 use Rattle.console_core.proofs.Approaching.{dead-met, sees-at, sees-behind}
 use Rattle.console_core.proofs.Results.{on_ok-then}
 use Rattle.console_core.proofs.explored.Explored.approach.Goals as goal
@@ -10,12 +10,10 @@ go_composing-requires-clause-dead c =
     (subst (λ o. IsDeadFor c.args.self.now c.args.aim.now.sight o) c.in-Some.is c.requires.aim.1)
 
 pub go_composing-requires-clause-place : goal.go_composing-requires-clause-place
-go_composing-requires-clause-place c =
-    slice_get_within c.args.self.now.met.entries c.args.aim.now.at.place c.requires.aim.0.0 c.requires.aim.0.1
+go_composing-requires-clause-place c = search (rules, slice_get_within)
 
 pub go_looking-requires-clause-place : goal.go_looking-requires-clause-place
-go_looking-requires-clause-place c =
-    slice_get_within c.args.self.now.met.entries c.args.aim.now.at.place c.requires.aim.0.0 c.requires.aim.0.1
+go_looking-requires-clause-place c = search (rules, slice_get_within)
 
 pub returns-in-Some : goal.returns-in-Some
 returns-in-Some c =
@@ -29,14 +27,4 @@ returns-in-Some c =
     c.go_composing.ensures
 
 pub returns-in-None : goal.returns-in-None
-returns-in-None c =
-    let e = c.args.self.now in
-    let x = c.args.aim.now.sight in
-    let old = reverse c.args.events.now.items in
-    let now = reverse c.go_looking.new.events.items in
-    on_ok-then c.go_looking.result
-    (λ leads y at.
-    sees-at e x (map_of_explored e) start (state_of y.0) old now
-    (subst (λ o. IsDeadFor e x o) c.in-None.is c.requires.aim.1)
-    (subst (λ o. Leads (map_of_explored e) o (state_of y.0) old now) c.requires.explored.1 (leads y at)))
-    c.go_looking.ensures
+returns-in-None c = search (rules, on_ok-then, sees-at)

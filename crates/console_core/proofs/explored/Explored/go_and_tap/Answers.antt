@@ -1,17 +1,14 @@
 use Rattle.console_core.proofs.Common.{subst, reverse, sym, slice_get_within, alone, map_of_explored, origin_in}
-use Rattle.console_core.proofs.Common.{HasRoute, LeadsHome, freed, state_of}
+use Rattle.console_core.proofs.Common.{HasRoute, LeadsHome, freed, state_of, rules}
 use Rattle.console_core.proofs.Exploring.{tap-freed, tap-home}
 use Rattle.console_core.proofs.GoingBack.{searched-back}
 use Rattle.console_core.proofs.explored.Explored.go_and_tap.Goals as goal
 
 pub go_out-requires-clause-back : goal.go_out-requires-clause-back
-go_out-requires-clause-back c =
-    searched-back (alone (map_of_explored c.args.self.now)) c.args.self.now.met.entries 0 0
-    c.requires.explored.searched
+go_out-requires-clause-back c = search (rules, searched-back)
 
 pub state_at-held-requires : goal.state_at-held-requires
-state_at-held-requires c =
-    slice_get_within c.args.self.now.met.entries c.args.at.place c.requires.route.0 c.requires.route.1
+state_at-held-requires c = search (rules, slice_get_within)
 
 pub returns-in_ok-next : goal.returns-in_ok-next
 returns-in_ok-next c =

@@ -1,22 +1,18 @@
 use Rattle.console_core.proofs.Common.{reverse, subst, sym, slice_get_within, map_of_explored, HasRoute, LeadsHome}
-use Rattle.console_core.proofs.Common.{state_of, alone}
+use Rattle.console_core.proofs.Common.{state_of, alone, rules}
 use Rattle.console_core.proofs.Approaching.{out-leads, home-leads, dead-leads, met-first, composing-leads}
 use Rattle.console_core.proofs.GoingBack.{searched-back}
 use Rattle.console_core.proofs.Results.{on_ok-then}
 use Rattle.console_core.proofs.explored.Explored.go_composing.Goals as goal
 
 pub go_out-requires-clause-place : goal.go_out-requires-clause-place
-go_out-requires-clause-place c =
-    slice_get_within c.args.self.now.met.entries c.args.dead.place c.requires.dead.0 c.requires.dead.1
+go_out-requires-clause-place c = search (rules, slice_get_within)
 
 pub go_out-requires-clause-back : goal.go_out-requires-clause-back
-go_out-requires-clause-back c =
-    searched-back (alone (map_of_explored c.args.self.now)) c.args.self.now.met.entries 0 0
-    c.requires.explored.0.searched
+go_out-requires-clause-back c = search (rules, searched-back)
 
 pub state_at-requires : goal.state_at-requires
-state_at-requires c =
-    slice_get_within c.args.self.now.met.entries c.args.dead.place c.requires.dead.0 c.requires.dead.1
+state_at-requires c = search (rules, slice_get_within)
 
 pub come_home-requires : goal.come_home-requires
 come_home-requires c =
@@ -25,9 +21,7 @@ come_home-requires c =
     subst (λ h. HasRoute e.routes.entries (state_of h)) (sym (c.state_at.ensures x at)) has
 
 pub go_out-requires-2-clause-back : goal.go_out-requires-2-clause-back
-go_out-requires-2-clause-back c =
-    searched-back (alone (map_of_explored c.args.self.now)) c.args.self.now.met.entries 0 0
-    c.requires.explored.0.searched
+go_out-requires-2-clause-back c = search (rules, searched-back)
 
 pub returns : goal.returns
 returns c =

@@ -1,13 +1,11 @@
-use Rattle.console_core.proofs.Common.{reverse, subst, sym, map_of_explored, state_of, IsAt, alone}
+use Rattle.console_core.proofs.Common.{reverse, subst, sym, map_of_explored, state_of, IsAt, rules}
 use Rattle.console_core.proofs.Approaching.{out-leads}
 use Rattle.console_core.proofs.GoingBack.{searched-back}
 use Rattle.console_core.proofs.Results.{on_ok-then}
 use Rattle.console_core.proofs.explored.Explored.go_looking.Goals as goal
 
 pub go_out-requires-clause-back : goal.go_out-requires-clause-back
-go_out-requires-clause-back c =
-    searched-back (alone (map_of_explored c.args.self.now)) c.args.self.now.met.entries 0 0
-    c.requires.explored.searched
+go_out-requires-clause-back c = search (rules, searched-back)
 
 pub returns : goal.returns
 returns c =

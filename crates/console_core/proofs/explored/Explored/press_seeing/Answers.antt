@@ -1,5 +1,5 @@
 use Rattle.console_core.proofs.Common.{◌≡◌, inl, inr, slice_get, Some, subst, sym, ap, arith, ◌∙◌, slice_get_within}
-use Rattle.console_core.proofs.Common.{map_of_explored, state_of, IsAfter, alone, SeesBy, selection_of}
+use Rattle.console_core.proofs.Common.{map_of_explored, state_of, IsAfter, alone, SeesBy, selection_of, rules}
 use Rattle.console_core.proofs.Looking.{entry-at}
 use Rattle.console_core.proofs.Searching.{place_last}
 use Rattle.console_core.proofs.explored.Explored.press_seeing.Goals.{in-Some+else-has_route, in_default}
@@ -56,8 +56,4 @@ loop-place-preserved c =
     ]
 
 pub returns : goal.returns
-returns c =
-    λ j y at.
-    let within = slice_get_within c.args.self.now.met.entries j y at in
-    c.loop-place.invariant j y
-    (omega (arith, within, c.loop-place-test.false, c.loop-place.auto.place-end, c.len-place-end.ensures.len)) at
+returns c = search (rules, slice_get_within)

@@ -1,16 +1,10 @@
-use Rattle.console_core.proofs.Common.{IfSome, ap, reverse, subst, state_of, IsAim, locks_in}
+use Rattle.console_core.proofs.Common.{ap, reverse, state_of, locks_in, rules}
 use Rattle.console_core.specs.Inner.Showing.{sight_aimed}
 use Rattle.console_core.proofs.Approaching.{aim-rest}
 use Rattle.console_core.proofs.explorer.Explorer.visit.Goals as goal
 
 pub invariant_of-self : goal.invariant_of-self
-invariant_of-self c =
-    let e = c.self.inside.explored in (
-      c.self.invariant.0,
-      aim-rest e c.self.invariant.0 c.in-Some.aim
-          (subst (λ o. IfSome o (λ a. IsAim e a)) c.in-Some.is c.self.invariant.2),
-      tt,
-    )
+invariant_of-self c = search (rules, aim-rest)
 
 pub returns-in_ok-events-in-Some-clause-visits : goal.returns-in_ok-events-in-Some-clause-visits
 returns-in_ok-events-in-Some-clause-visits c =

@@ -1,15 +1,10 @@
-use Rattle.console_core.proofs.Common.{refl, not-true, state_of}
+use Rattle.console_core.proofs.Common.{not-true, state_of, rules}
 use Rattle.console_core.proofs.RoutesHome.{all-off, none-on}
 use Rattle.std.proofs.lemmas.Bool.{not-false}
 use Rattle.console_core.proofs.held.Held.is_home.Goals as goal
 
 pub returns-then-is_free-clause-home : goal.returns-then-is_free-clause-home
-returns-then-is_free-clause-home c =
-    λ e. (
-      c.if-is_free.ensures.free refl,
-      all-off (state_of c.args.self.now).is_locked
-          (c.is_any_locked.ensures.unlocked (not-true c.is_any_locked.result e)),
-    )
+returns-then-is_free-clause-home c = search (rules, all-off, not-true)
 
 pub returns-then-is_free-clause-away : goal.returns-then-is_free-clause-away
 returns-then-is_free-clause-away c =

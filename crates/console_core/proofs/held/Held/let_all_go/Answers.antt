@@ -1,4 +1,4 @@
-use Rattle.console_core.proofs.Common.{arith, reverse, subst, sym, ap, ◌∙◌, ◌+◌, Release, state_of}
+use Rattle.console_core.proofs.Common.{reverse, subst, sym, ap, ◌∙◌, ◌+◌, Release, state_of, rules}
 use Rattle.console_core.proofs.Looking.{push-reversed}
 use Rattle.console_core.proofs.Places.{modifier-at}
 use Rattle.console_core.proofs.Taps.{LetsGoTo, lets-go-first, lets-go-some, lets-go-none, lets-go-all}
@@ -30,11 +30,4 @@ loop-modifier-preserved c =
     ]
 
 pub returns : goal.returns
-returns c =
-    let s = state_of c.args.self.now in
-    let h = reverse c.args.events.now.items in
-    let now = reverse c.loop-modifier.events.items in
-    let t = state_of c.loop-modifier.held in
-    lets-go-all s h now t
-    (subst (λ n. LetsGoTo s h now t n)
-    (omega (arith, c.loop-modifier-test.false, c.loop-modifier.auto.modifier-index-end)) c.loop-modifier.invariant)
+returns c = search (rules, lets-go-all)

@@ -1,5 +1,4 @@
-use Rattle.console_core.proofs.Common.{refl}
-use Rattle.std.proofs.Common.{rules}
+use Rattle.console_core.proofs.Common.{refl, rules}
 use Rattle.console_core.proofs.Codes.{codes-start}
 use Rattle.console_core.proofs.Keeping.{kept-same}
 use Rattle.console_core.proofs.word_store.WordStore.new.Goals as goal

@@ -3,7 +3,7 @@ use crate::devices::mark;
 use crate::inputs::{TRAP, map_of, sample};
 use crate::outcome::{Outcome, ended, ended_keeping};
 use console_core::{
-    Event, PlainConsole, Explorer, Sight, Sticking, Translator, WordConsole, find_onward, replay,
+    Event, Explorer, PlainConsole, Sight, Sticking, Translator, WordConsole, find_onward, replay,
     sights_of, sticking, sticking_between, type_characters,
 };
 use keymap_core::{KeyCode, Lock, Modifier, Write};

@@ -354,12 +354,12 @@ pub offers-more : (m : MapValue) (accents : List ℕ) (offers now : List Offer) 
     → now ≡ offers ++ o ∷ [] → Enumerates (CanCompose m o.accent) o.selections.items
     → AreOffersOf m (accents ++ o.accent ∷ []) now
 offers-more m accents offers now o before e is = rw e (record {
-      all = accents-push offers o ∙ ap (λ z. z ++ o.accent ∷ []) before.all;
-      each = λ p has. elim (Contains-push_cases offers o p has) [
-        | inl was ↦ before.each p was
-        | inr same ↦ subst (λ q. Enumerates (CanCompose m q.accent) q.selections.items) same is
-      ];
-    })
+  all = accents-push offers o ∙ ap (λ z. z ++ o.accent ∷ []) before.all;
+  each = λ p has. elim (Contains-push_cases offers o p has) [
+    | inl was ↦ before.each p was
+    | inr same ↦ subst (λ q. Enumerates (CanCompose m q.accent) q.selections.items) same is
+  ];
+})
 
 -- an accent of the offers has one
 has-offer : (offers : List Offer) (accent : ℕ) → Contains (accents_in offers) accent

@@ -184,7 +184,7 @@ typed-one m cs place keyed after es now s k next x lt is ends types e =
             let end : j.end ≡ length now = ap (λ (z : Keyed). z.end) (sym same) ∙ ends in (
               omega (arith, end),
               rw (here ∙ count, take_all j.end now (omega (arith, end)))
-              (typed-answers m now (take (place + 1) cs) typed.typed),
+                  (typed-answers m now (take (place + 1) cs) typed.typed),
             )
       ];
       can = rw more (All-push (λ c. CanType m c) (take place cs) c x.can types.can);

@@ -1,4 +1,4 @@
-//! Plans a script that shows what presses can see: each visit leads from home to a state in which a press sees
+//! Makes visits that show what presses can see: each leads from home to a state in which a press sees
 //! something, and to where a route leads home again.
 ghost use Rattle.std.specs.Prelude.{◌≡◌, ◌<◌, [], ℕ, false, true, None, Some, length, reverse, slice_get};
 ghost use Rattle.std.specs.Prelude.{OnOk, IfOk, MatchOption};

@@ -5,9 +5,9 @@ use Rattle.keymap_cover.proofs.Common.{Contains, list_any, and-false, eqb-true, 
 use Rattle.keymap_cover.proofs.Common.{cell_place, lock_setting_place, is_pair}
 use Rattle.std.proofs.Common.{◌&&◌}
 use Rattle.std.specs.Prelude.{nat_lt}
-use Rattle.std.proofs.lemmas.Bool.{and_parts}
+use Rattle.std.proofs.lemmas.Bool.{and_from, and_parts, false_from_ne_true}
 use Rattle.std.proofs.lemmas.List.{get_or-set_same, get_or-set_other}
-use Rattle.console_core.proofs.Visible.{same-truth, fails, any-member, some-member, both}
+use Rattle.console_core.proofs.Visible.{same-truth, any-member, some-member}
 use Rattle.keymap_cover.specs.SeenSights.{seen_in}
 use Rattle.console_core.specs.declared.selection.Sight.TheVariants as sight
 
@@ -27,7 +27,7 @@ bit-small false = omega arith
 
 -- the test of a pair
 is-this : (i c : ℕ) → is_pair i c (sight.Pair i c) ≡ true
-is-this i c = both (i == i) (c == c) (eq-eqb i i refl) (eq-eqb c c refl)
+is-this i c = and_from (i == i) (c == c) (eq-eqb i i refl) (eq-eqb c c refl)
 
 this-is : (i c : ℕ) (x : Sight) → is_pair i c x ≡ true → x ≡ sight.Pair i c
 this-is i c (sight.Pair j d) e =
@@ -42,7 +42,7 @@ pub pair-value : (pairs : List Sight) (i c : ℕ) (r : Bool) → (r ≡ true →
 pair-value pairs i c r then-so then-not =
     same-truth r (list_any (is_pair i c) pairs)
     (λ e. any-member (is_pair i c) pairs (sight.Pair i c) (then-so e) (is-this i c))
-    (λ e. fails (list_any (is_pair i c) pairs) (λ passes.
+    (λ e. false_from_ne_true (list_any (is_pair i c) pairs) (λ passes.
     let (x, has, is) = some-member (is_pair i c) pairs passes in
     then-not e (subst (λ z. Contains pairs z) (this-is i c x is) has)))
 

@@ -145,12 +145,12 @@ nothing-down (x ∷ xs) k e = let none : event_of x ∷ events_of xs ≡ [] = e 
 
 pub under-way-new : (m : MapValue) (A : Standing) (p : ExplorerValue) (t : Script) → (p.map ≡ m) × HasLocks m p.locks []
     → RunsAlong m A [] t → IsUnderWay m A p t []
-under-way-new m A p t plan run = record {
+under-way-new m A p t is_new run = record {
   runs = run;
   up = λ k lt. run.1.pressed k lt ∙ nothing-down (reverse t.events.items) k run.1.history;
   rest = at-rest_new m;
-  map = plan.0;
-  locks = plan.1;
+  map = is_new.0;
+  locks = is_new.1;
 }
 
 -- what can be seen of the keys and of the pairs was seen

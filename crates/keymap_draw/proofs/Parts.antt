@@ -141,7 +141,19 @@ pub said_inner : (f : Finding) → list_all is_inner (finding_words f) ≡ true
 said_inner f =
     filled_all is_inner (codes "key {}: {} at slot {} column {}, character at slot {} column {}")
     (decimal f.key ∷ name_of (holding_action f.holding) ∷ decimal f.holding_at.slot ∷ decimal f.holding_at.column
-    ∷ decimal f.character_at.slot ∷ decimal f.character_at.column ∷ []) refl
-    (decimal_inner f.key, (holding_inner f.holding, (decimal_inner f.holding_at.slot,
-    (decimal_inner f.holding_at.column, (decimal_inner f.character_at.slot,
-    (decimal_inner f.character_at.column, tt))))))
+    ∷ decimal f.character_at.slot ∷ decimal f.character_at.column ∷ []) refl (
+      decimal_inner f.key,
+      (
+        holding_inner f.holding,
+        (
+          decimal_inner f.holding_at.slot,
+          (
+            decimal_inner f.holding_at.column,
+            (
+              decimal_inner f.character_at.slot,
+              (decimal_inner f.character_at.column, tt),
+            ),
+          ),
+        ),
+      ),
+    )

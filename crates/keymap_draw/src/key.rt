@@ -151,7 +151,12 @@ pub(crate) struct Cap {
 }
 
 /// Adds the group of a key with its title, and its cap.
-fn push_group(sheet: Sheet<InPicture>, class: &[u8], title: &KeyTitle, cap: Cap) -> Added<Sheet<InKey>>
+fn push_group(
+    sheet: Sheet<InPicture>,
+    class: &[u8],
+    title: &KeyTitle,
+    cap: Cap,
+) -> Added<Sheet<InKey>>
     requires class { list_all is_inner class.now ≡ true }
     requires finding { list_all is_inner title.now.finding.items ≡ true }
     requires feed { list_all is_inner title.now.feed.now ≡ true }
@@ -165,7 +170,11 @@ fn push_group(sheet: Sheet<InPicture>, class: &[u8], title: &KeyTitle, cap: Cap)
     let (words, shape) = (Bytes(title.words.as_slice()), Plain(cap.shape.letter()));
     match class {
         [] => tell(sheet, KEY, &[x, y, finding, feed, words, shape]),
-        class => tell(sheet, KEY_OF, &[Plain(class), x, y, finding, feed, words, shape]),
+        class => tell(
+            sheet,
+            KEY_OF,
+            &[Plain(class), x, y, finding, feed, words, shape],
+        ),
     }
 }
 

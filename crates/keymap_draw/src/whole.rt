@@ -101,7 +101,13 @@ pub fn picture(
     let findings = drawing.findings();
     let (lower, upper) = (other_keys(&drawing, Half::Lower), upper_keys(&drawing));
     let (named, silent) = (named_accents(map), silent_accents(&drawing));
-    let starts = starts_of(&drawing, lower.len(), upper.len(), named.len(), silent.len());
+    let starts = starts_of(
+        &drawing,
+        lower.len(),
+        upper.len(),
+        named.len(),
+        silent.len(),
+    );
     let sheet = begin(alloc, findings.is_empty(), starts.key + 76)?;
     let sheet = push_half(sheet, &drawing, Half::Lower, lower.as_slice(), 16)?;
     let sheet = push_upper(sheet, &drawing, upper.as_slice(), starts.upper)?;

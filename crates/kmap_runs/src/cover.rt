@@ -16,7 +16,7 @@ use crate::words::{
 };
 use console_core::{Event, Sight};
 use keymap_core::{ACCENT_LIMIT, Accent, AccentIndex, Action, COLUMN_COUNT, KeyMap, SLOT_LIMIT};
-use keymap_cover::{Cover, Part, Start, ScriptEvent, Verdict, cells, lock_settings};
+use keymap_cover::{Cover, Part, ScriptEvent, Start, Verdict, cells, lock_settings};
 use messages::{either, fill, number, small};
 use std::alloc::{AllocError, Global};
 
@@ -464,7 +464,11 @@ fn push_script_event(text: &mut Vec<u8>, script_event: &ScriptEvent) -> Result<(
 }
 
 /// Adds the events, each behind comments for the parts that begin there.
-fn push_script(text: &mut Vec<u8>, starts: &[Start], events: &[ScriptEvent]) -> Result<(), AllocError>
+fn push_script(
+    text: &mut Vec<u8>,
+    starts: &[Start],
+    events: &[ScriptEvent],
+) -> Result<(), AllocError>
     ensures { OnOk result (text.new.items ≡ text.old.items ++ spec.script_lines starts.now events.now) }
 {
     for place in 0..events.len() {

@@ -1,4 +1,4 @@
--- The parts of a plan while it is written. Mirrors `Plan::add` of src/lib.rt.
+-- The parts of a script while it is made. Mirrors `begin` of src/cover.rt.
 use Rattle.std.specs.Prelude.{ℕ, ◌<◌, List, All}
 use Rattle.keymap_cover.specs.declared.parts.Start.{Start}
 use Rattle.keymap_cover.specs.Parts.{part_place, AreParts}

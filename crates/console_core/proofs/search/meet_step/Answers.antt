@@ -1,5 +1,6 @@
 use Rattle.console_core.proofs.Common.{◌≡◌, [], ◌∷◌, ◌++◌, Some, sym, ◌∙◌, insert_entry-new}
-use Rattle.console_core.proofs.Searching.{meet-new, meet-old, not_some}
+use Rattle.console_core.proofs.Searching.{meet-new, meet-old}
+use Rattle.console_core.proofs.OneMore.{is-nothing}
 use Rattle.console_core.proofs.search.meet_step.Goals as goal
 
 new_entries : (c : goal.In_ok-insert)
@@ -9,7 +10,7 @@ new_entries : (c : goal.In_ok-insert)
     ∷ []
 new_entries c =
     c.in_ok-insert.ensures.entries
-    ∙ insert_entry-new _ c.args.met.now c.args.step.to _ (not_some _ (sym c.if-not-contains_key.ensures))
+    ∙ insert_entry-new _ c.args.met.now c.args.step.to _ (is-nothing _ (sym c.if-not-contains_key.ensures))
 
 pub returns-in_ok-insert : goal.returns-in_ok-insert
 returns-in_ok-insert c =

@@ -1,5 +1,5 @@
 //! All that is said of a text, kind by kind.
-ghost use Rattle.std.specs.Prelude.{◌≡◌, ◌++◌, ◌≤◌, IfOk, OnOk, length};
+ghost use Rattle.std.specs.Prelude.{◌≡◌, ◌++◌, ◌≤◌, IfOk, length};
 ghost use Rattle.keymap_core.specs.Numbers.{key_count};
 ghost use Rattle.keymap_lint.specs.Spelled.{AreDefined};
 ghost use Rattle.keymap_lint.specs.Kinds.{half, is_some_in, missing_slots as missing_slots_of, nul_keys as nul_keys_of};

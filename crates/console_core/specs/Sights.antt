@@ -114,8 +114,7 @@ IsReachable m x =
     × ((k : ℕ) × (k < key_count) × SeesBy m (selection_of (state_after (alone m) path)) k x)
 
 -- What moves lead to: a selection, a state that offers an accent, a selection where an accent can be pending, and a
--- state
--- where a holder looks up a character.
+-- state where a holder looks up a character.
 abbrev pub CanSelect : MapValue → Selection → Type 0
 CanSelect m y = (path : List Move) × IsPath (alone m) path × (selection_of (state_after (alone m) path) ≡ y)
 

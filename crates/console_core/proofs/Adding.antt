@@ -1,5 +1,5 @@
 -- What is added of the states that a search met is what moves lead to.
-use Rattle.console_core.proofs.Common.{◌≡◌, ◌≢◌, ℕ, ◌+◌, ◌<◌, ◌⊎◌, true, false, inl, inr, List, [], ◌∷◌, length, refl}
+use Rattle.console_core.proofs.Common.{◌≡◌, ◌≢◌, ℕ, ◌+◌, ◌<◌, ◌⊎◌, true, false, inl, inr, List, [], ◌∷◌, length}
 use Rattle.console_core.proofs.Common.{ap, subst, sym, ◌∙◌, arith, slice_get, Some, Contains, true≢false}
 use Rattle.console_core.proofs.Common.{get_or_default, Contains-push, Contains-push_cases, Contains-append_left, Cell}
 use Rattle.console_core.proofs.Common.{Act, usable, Under, State, look_in, Offers, HasNoDoubles, state_of, Entry}
@@ -13,21 +13,11 @@ use Rattle.keymap_core.specs.declared.action.Action.TheVariants as act
 
 -- nothing is
 pub adds-none : {X : Type 0} (P : X → Type 0) (old now : List X) → now ≡ old → ((x : X) → P x → ⊥) → Adds P old now
-adds-none P old now e none = record {
-  kept = λ x has. subst (λ z. Contains z x) (sym e) has;
-  all = λ x is. absurd (none x is);
-  only = λ x has. inl (subst (λ z. Contains z x) e has);
-  once = λ once. subst (λ z. HasNoDoubles z) (sym e) once;
-}
+adds-none P old now e none = search rules
 
 -- one element, if it wasn't there
 pub adds-one : {X : Type 0} (x : X) (old now : List X) → IsWith x old now → Adds (λ y. x ≡ y) old now
-adds-one x old now (inl (e, has)) = record {
-  kept = λ y there. subst (λ z. Contains z y) (sym e) there;
-  all = λ y is. subst (λ z. Contains now z) is (subst (λ z. Contains z x) (sym e) has);
-  only = λ y there. inl (subst (λ z. Contains z y) e there);
-  once = λ once. subst (λ z. HasNoDoubles z) (sym e) once;
-}
+adds-one x old now (inl (e, has)) = search rules
 adds-one x old now (inr (e, none)) = record {
   kept = λ y there. subst (λ z. Contains z y) (sym e) (Contains-append_left old (x ∷ []) y there);
   all = λ y is. subst (λ z. Contains now z) is (subst (λ z. Contains z x) (sym e) (Contains-push old x));
@@ -41,36 +31,19 @@ adds-one x old now (inr (e, none)) = record {
 -- the same in other words
 pub adds-as : {X : Type 0} (P Q : X → Type 0) (old now : List X) → ((x : X) → P x → Q x) → ((x : X) → Q x → P x)
     → Adds P old now → Adds Q old now
-adds-as P Q old now f g a = record {
-  kept = a.kept;
-  all = λ x is. a.all x (g x is);
-  only = λ x has. elim (a.only x has) [ inl was ↦ inl was | inr is ↦ inr (f x is) ];
-  once = a.once;
-}
+adds-as P Q old now f g a = search rules
 
 -- one after the other
 pub adds-both : {X : Type 0} (P Q R : X → Type 0) (old mid now : List X) → ((x : X) → R x → P x ⊎ Q x)
     → ((x : X) → P x → R x) → ((x : X) → Q x → R x) → Adds P old mid → Adds Q mid now → Adds R old now
-adds-both P Q R old mid now parts left right a b = record {
-  kept = λ x has. b.kept x (a.kept x has);
-  all = λ x is. elim (parts x is) [ inl p ↦ b.kept x (a.all x p) | inr q ↦ b.all x q ];
-  only = λ x has. elim (b.only x has) [
-    | inl was ↦ elim (a.only x was) [ inl first ↦ inl first | inr p ↦ inr (left x p) ]
-    | inr q ↦ inr (right x q)
-  ];
-  once = λ once. b.once (a.once once);
-}
+adds-both P Q R old mid now parts left right a b = search rules
 
 pub empty-none : {X : Type 0} (xs : List X) (y : X) → xs ≡ [] → Contains xs y → ⊥
 empty-none xs y e (k, lt, at) = let z : length xs ≡ 0 = ap (λ q. length q) e in omega (arith, lt, z)
 
 -- what is added to nothing is all
 pub enumerates : {X : Type 0} (P : X → Type 0) (xs : List X) → Adds P [] xs → Enumerates P xs
-enumerates P xs a = record {
-  all = a.all;
-  only = λ x has. elim (a.only x has) [ inl none ↦ absurd (empty-none [] x refl none) | inr is ↦ is ];
-  once = a.once (λ i j d lt within. absurd (omega (arith, lt, within)));
-}
+enumerates P xs a = search (rules, empty-none)
 
 -- what is so in one more state
 pub adds-place : {X : Type 0} (Q : X → State → Type 0) (es : Entries) (n : ℕ) (x : Entry) (old now : List X)

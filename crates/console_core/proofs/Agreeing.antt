@@ -1,5 +1,5 @@
 -- That what a console keeps agrees with a list of resolved events is kept by each kind of resolved event.
-use Rattle.console_core.proofs.Common.{resolve_press, subst, ◌≡◌, ℕ, ◌<◌, false, ◌&&◌, not, List, [], ◌∷◌, refl, ap}
+use Rattle.console_core.proofs.Common.{resolve_press, ◌≡◌, ℕ, ◌<◌, false, ◌&&◌, not, List, [], ◌∷◌, refl, ap, rules}
 use Rattle.console_core.proofs.Common.{sym, ◌∙◌, if◌then◌else◌, Action, Modifier, Meta, Cell, Event, Press}
 use Rattle.console_core.proofs.Common.{Load, Answer, MapValue, is_borne, look_with, answer_resolved, ResolvedEvent}
 use Rattle.console_core.proofs.Common.{locked, remembered, taken_over, look, on, Maps, in_force, loaded}
@@ -132,12 +132,5 @@ stands-load ms h e m k is force stands = record {
 
 -- where nothing is kept, a console stands at no events
 pub stands-start : (ms : Maps) → StandsAt ms [] nothing_kept
-stands-start ms = record {
-  map_in_force = refl;
-  agrees = subst (λ r. Agrees ms.first r nothing_kept) (sym (resolved-start ms)) (record {
-    marks = λ a. sym (held-start a);
-    locks = λ l. sym (locked-start l);
-    memories = λ j lt. sym (remembered-start j);
-    pending = sym (pending-start ms.first);
-  });
-}
+stands-start ms =
+    search (rules, resolved-start, held-start, locked-start, remembered-start, pending-start)

@@ -2,7 +2,7 @@
 use Rattle.console_core.proofs.Common.{◌≡◌, ◌≢◌, ◌<◌, ℕ, Bool, true, false, List, [], ◌∷◌, ◌++◌, reverse}
 use Rattle.console_core.proofs.Common.{slice_get, Option, MatchOption, Some, None, refl, ap, subst, sym, ◌∙◌, inl, inr}
 use Rattle.console_core.proofs.Common.{append_assoc, if◌then◌else◌, ◌==◌, cases_Bool, eqb-true, false≢true}
-use Rattle.console_core.proofs.Common.{All-cons, none-some, same_modifier, same_action, holding_action}
+use Rattle.console_core.proofs.Common.{All-cons, none-some, same_action}
 use Rattle.console_core.proofs.Common.{same_action-true, MapValue, Action, Modifier, Lock, Caps, Num, Scroll, Alt, Cell}
 use Rattle.console_core.proofs.Common.{Char, Act, Event, Press, Release, Reset, Move, Hold, Turn, LetGo, Exchange}
 use Rattle.console_core.proofs.Common.{Sight, Explored, between, resolved, pressed, HasKey}
@@ -120,21 +120,12 @@ met-first e x place y at = search (rules, path-first)
 at-tapped : (m : MapValue) (s at : State) (k : ℕ) (h l : List Event) → AreTaken h l
     → Stands (alone m) (Release k ∷ Press k ∷ (l ++ h)) at → unscrolled at ≡ unscrolled s
     → IsAt m s h (Release k ∷ Press k ∷ l)
-at-tapped m s at k h l taken x near = record {
-  at = at;
-  stands = x;
-  near = near;
-  taken = (refl, press-presses k (l ++ h), (refl, tt, taken));
-}
+at-tapped m s at k h l taken x near = search (rules, press-presses)
 
 -- a modifier that nobody held is let go again
 let_go-again : (s : State) (i : Modifier) (k : ℕ) → s.holder i ≡ None
     → unscrolled (with_holder (with_holder s i (Some k)) i None) ≡ unscrolled s
-let_go-again s i k free =
-    same_states _ _ (λ j. elim (cases_Bool (same_modifier i j)) [
-      | inl t ↦ rw t (sym free ∙ ap (λ z. s.holder z) (same_mods i j t))
-      | inr t ↦ rw t refl
-    ]) (λ l. refl) refl
+let_go-again s i k free = search (rules, same_states, cases_Bool, same_mods)
 
 -- a tap of a steady key leaves the state
 pub steady-leads : (m : MapValue) (s : State) (k : ℕ) (l : List Event) → IsSteady (alone m) s k
@@ -201,10 +192,7 @@ exact-repeat r s k b i x holds = by (same_action (act.Mod i) b) refl
     taken = ap (λ o. taken_over o b) (x.follows.holds i k holds)
 
     only : (n : ℕ) (a : Action) → remembered n (PressedAction k b ∷ r) ≡ Some a → HoldsSome s n
-    only n a q = elim (cases_Bool (k == n)) [
-      | inl t ↦ (i, subst (λ j. Holds s j i) (eqb-true k n t) holds)
-      | inr t ↦ x.only n a (sym (other-remembered r k n b t) ∙ q)
-    ]
+    only n a q = search (rules, cases_Bool, eqb-true, other-remembered)
 
     up : (a : Action) → taken_over (remembered k r) b ≡ a → ((l : Lock) → same_action a (act.Lock l) ≡ false)
         → (l : Lock) → held (holding.Lock l) (PressedAction k b ∷ r) ≡ false
@@ -220,14 +208,7 @@ exact-repeat r s k b i x holds = by (same_action (act.Mod i) b) refl
           only = only;
           up = up (act.Mod i) takes (λ l. refl);
         }
-    by false e =
-        let takes : taken_over (remembered k r) b ≡ act.Nop = taken ∙ ap (λ t. if t then b else act.Nop) e in
-        record {
-          follows = follows-nothing r s k b x.follows
-              (λ a. ap (λ z. same_action z (holding_action a)) takes ∙ not_holding act.Nop a refl refl);
-          only = only;
-          up = up act.Nop takes (λ l. refl);
-        }
+    by false e = search (rules, taken, follows-nothing, not_holding, only, up)
 
 pub repeat-leads : (m : MapValue) (s : State) (k : ℕ) (l : List Event) → IsRepeated (alone m) s k
     → Leads m s s l (Press k ∷ l)
@@ -263,21 +244,14 @@ repeat-leads m s k l (busy, (b, seen)) h a = by (remembered k r) refl
     by None e =
         absurd (busy (subst (λ z. IsIdle z k) a.near
         (λ i holds. none-some (act.Mod i) (sym e ∙ a.stands.exact.follows.holds i k holds))))
-    by (Some q) e =
-        let p : HoldsSome t k = a.stands.exact.only k q e in
-        record { at = t; stands = again p.0 p.1; near = a.near; taken = (refl, tt, a.taken) }
+    by (Some q) e = search (rules, t, again)
 
 -- ---- one behind another
 
 pub composing-leads : {m : MapValue} {accent : ℕ} {s t : State} {a b c d e : List Event} {r w : State}
     → LeadsOn m r s a b → LeadsComposing m accent s s b c → LeadsOn m s t c d → LeadsOn m t w d e
     → LeadsComposing m accent r w a e
-composing-leads f g p q h a =
-    let b = f h a in
-    let c = g h b.0 in
-    let d = p h c.0 in
-    let e = q h d.0 in
-    (e.0, (λ none can. e.1 ∙ d.1 ∙ c.1 (b.1 ∙ none) can))
+composing-leads f g p q h a = search rules
 
 -- what is aimed at behind no dead key needs no accent
 pub sees-at : (e : Explored) (x : Sight) (m : MapValue) (s t : State) (old now : List Event) → IsDeadFor e x None
@@ -418,13 +392,7 @@ after-reached m s k t lt there (inr (none, is)) =
 -- nothing is held then, the first map is in force, and the scroll lock is off
 pub after-rest : (u : Under) (s : State) (k : ℕ) (t : State) → s.is_second ≡ false → s.is_locked Scroll ≡ false
     → IsAfter u s k t → IsFree t × (t.is_second ≡ false) × (t.is_locked Scroll ≡ false)
-after-rest u s k t first off (inl (l, idle, seen, turned)) = by l turned
-  where
-    by : (l : Lock) → IsTurned s l t → IsFree t × (t.is_second ≡ false) × (t.is_locked Scroll ≡ false)
-    by Caps is = rw is ((λ i. refl), first, off)
-    by Num is = rw is ((λ i. refl), first, off)
-    by Scroll is = rw is ((λ i. refl), first, off)
-    by Alt is = rw is ((λ i. refl), first, off)
+after-rest u s k t first off (inl (l, idle, seen, turned)) = search rules
 after-rest u s k t first off (inr (none, is)) = rw is ((λ i. refl), first, off)
 
 -- where no turn is one-way, a route begins at each state that is reached, but for the scroll lock

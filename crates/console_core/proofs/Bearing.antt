@@ -67,11 +67,7 @@ press-remembered : (ms : Maps) (h : List Event) (k j : ℕ) (a : Action) (x : Ce
     → remembered k (resolve_press j x ∷ resolved ms h) ≡ Some a → (if j == k then true else pressed k h) ≡ true
 press-remembered ms h k j a (Char c) f r = search (rules, pressed_if, kept_if, remembered-character)
 press-remembered ms h k j a (Act b) f r =
-    elim (remembered_from (j == k) (remembered k (resolved ms h)) b a
-    (sym (remembered-action k j b (resolved ms h)) ∙ r)) [
-      | inl s ↦ pressed_if (j == k) (pressed k h) (f s)
-      | inr s ↦ rw s.1 refl
-    ]
+    search (rules, remembered_from, remembered-action, pressed_if)
 
 -- a key for which an action is remembered is pressed
 pub remembered-pressed : (ms : Maps) (h : List Event) (k : ℕ) (a : Action) → remembered k (resolved ms h) ≡ Some a

@@ -1,6 +1,6 @@
 -- The states behind where an accent is offered.
 use Rattle.console_core.proofs.Common.{◌≡◌, ℕ, List, [], ◌∷◌, ◌++◌, refl, ap, subst, sym, Move, Under, State, IsMove}
-use Rattle.console_core.proofs.Common.{moved, IsPath, state_after, IsPathFrom, state_from, IsOfferedIn, IsBehind}
+use Rattle.console_core.proofs.Common.{moved, IsPath, state_after, IsPathFrom, state_from, IsOfferedIn, IsBehind, rules}
 
 -- where it is offered
 pub behind-offered : (u : Under) (path : List Move) (accent : ℕ) → IsPath u path
@@ -29,6 +29,4 @@ pub path-split : (u : Under) (s : State) (later before : List Move) → IsPathFr
     → IsPathFrom u s before × IsPathFrom u (state_from u s before) later
     × (state_from u s (later ++ before) ≡ state_from u (state_from u s before) later)
 path-split u s [] before is = (is, tt, refl)
-path-split u s (move ∷ later) before is =
-    let q = path-split u s later before is.1 in
-    (q.0, (subst (λ t. IsMove u t move) q.2 is.0, q.1), ap (λ t. moved u t move) q.2)
+path-split u s (move ∷ later) before is = search (rules, path-split u s later before is.1)

@@ -1,5 +1,5 @@
 -- What the search concludes of all paths from what it met.
-use Rattle.console_core.proofs.Common.{suc, ◌≡◌, ℕ, ◌+◌, ◌<◌, ◌≤◌, inl, inr, List, length, slice_get, Some, refl, ap}
+use Rattle.console_core.proofs.Common.{suc, ◌≡◌, ℕ, ◌+◌, ◌<◌, inl, inr, List, length, slice_get, Some, refl, ap, rules}
 use Rattle.console_core.proofs.Common.{subst, sym, ◌∙◌, arith, cases_lt, slice_get_within, Modifier, Event, Move, End}
 use Rattle.console_core.proofs.Common.{TooMany, Under, State, start, IsMove, moved, presses_of, IsForgetful}
 use Rattle.console_core.proofs.Common.{HolderForgets, script_of_path, state_of, Entry, Entries, IsMetBy, IsReached}
@@ -75,9 +75,7 @@ none-late u es p (s, ordered, (more, within, done)) safe g keys admitted i (quie
 done-before : (u : Under) (es : Entries) (end : End) → IsEnd u start es end → (j : ℕ) (x : Entry)
     → slice_get es j ≡ Some x → AreDone u es x.1.presses
 done-before u es Complete all j x at = all-done u es all x.1.presses
-done-before u es (TooMany p) (more, within, done) j x at =
-    let le : x.1.presses ≤ p = within j x at in
-    λ i y there move is leaves lt. done i y there move is leaves (omega (arith, lt, le))
+done-before u es (TooMany p) (more, within, done) j x at = search rules
 
 -- At the first place where a holder looks up a character, the script of a path to it leaves its modifier on, by the
 -- fewest presses.
@@ -102,7 +100,4 @@ stuck-sticks u es end j k (s, ordered, ended) (x, at, stuck) safe h is =
   where
     before : (n : ℕ) (y : Entry) → slice_get es n ≡ Some y → y.1.presses < x.1.presses → IsForgetful u (state_of y.0)
         → ⊥
-    before n y there lt = elim (cases_lt n j) [
-      | inl less ↦ safe n y there less
-      | inr le ↦ let up : x.1.presses ≤ y.1.presses = ordered j n x y le at there in absurd (omega (arith, lt, up))
-    ]
+    before n y there lt = search (rules, cases_lt)

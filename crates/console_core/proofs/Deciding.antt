@@ -1,8 +1,8 @@
 -- What a search decides of the maps that it goes over, said of all that it speaks of.
 use Rattle.console_core.proofs.Common.{cases_Bool, inl, inr, ◌≡◌, Bool, true, false, All, List, refl, ap, subst, sym}
-use Rattle.console_core.proofs.Common.{◌∙◌, if◌then◌else◌, reverse, true≢false, Modifier, Event, Press, Release, Reset}
+use Rattle.console_core.proofs.Common.{◌∙◌, if◌then◌else◌, true≢false, Modifier, Event, Press, Release, Reset, rules}
 use Rattle.console_core.proofs.Common.{Load, Sticks, Never, Undecided, on, Maps, between, in_force, resolved}
-use Rattle.console_core.proofs.Common.{is_on_after, is_second_in_force, IsNoLoad, HasNoLoads, HasKeys, IsSafe}
+use Rattle.console_core.proofs.Common.{is_on_after, IsNoLoad, HasNoLoads, HasKeys, IsSafe}
 use Rattle.console_core.proofs.Common.{IsOffOnceQuiet, Under, with_loads, script_of_path, AreUnder, Admits, SticksUnder}
 use Rattle.console_core.proofs.Common.{IsSent, NeverSticksUnder, AreOnAfter}
 use Rattle.std.proofs.lemmas.List.Elements.{All-weaker}
@@ -80,9 +80,7 @@ safe_in_force ms false first second = first
 -- loads between two safe keymaps leave no modifier on
 pub safe_never_sticks_between : SafeNeverSticksBetween
 safe_never_sticks_between ms first second =
-    never-under (with_loads ms) (λ h keys admits.
-    let safe : IsSafe (in_force ms h) = safe_in_force ms (is_second_in_force h) first second in
-    (on_only_while_pressed ms h safe keys, off_once_quiet ms h safe keys))
+    search (rules, never-under, safe_in_force, on_only_while_pressed, off_once_quiet)
 
 -- so none sticks after a list
 safe-none : (ms : Maps) (h : List Event) (i : Modifier) → IsSafe ms.first → IsSafe ms.second → HasKeys h
@@ -99,8 +97,7 @@ safe_never_forgets ms first second path is (i, k, forgets) =
 
 -- so the search doesn't answer that a modifier sticks
 pub safe_never_answers_sticks : SafeNeverAnswersSticks
-safe_never_answers_sticks ms (Sticks events left_on) first second ((keys, sent, (i, sticks)), fewest, releases, are_on)
-    =
-    absurd (safe-none ms (reverse events.items) i first second keys sticks)
+safe_never_answers_sticks ms (Sticks events left_on) first second ((keys, sent, (i, sticks)), fewest, releases, are_on) =
+    search (rules, safe-none)
 safe_never_answers_sticks ms Never first second never = refl
 safe_never_answers_sticks ms (Undecided p) first second x = refl

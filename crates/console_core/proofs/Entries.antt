@@ -22,10 +22,8 @@ pub one-entry : {K V : Type 0} (E : K → K → Bool) (P : K → V → Type 0)
     → P k v
     → AllEntries P (insert_entry E es k v)
 one-entry E P same [] k v all is = (is, tt)
-one-entry E P same (x ∷ es) k v all is = elim (cases_Bool (E k x.0)) [
-  | inl t ↦ rw t (same k x.0 v t is, all.1)
-  | inr t ↦ rw t (all.0, one-entry E P same es k v all.1 is)
-]
+one-entry E P same (x ∷ es) k v all is =
+    search (rules, cases_Bool, one-entry E P same es k v all.1 is)
 
 -- what holds of the state and the value of each entry
 pub found-by_state : {V : Type 0} (P : State → V → Type 0) (es : List (Held × V)) (k : Held) (v : V)
@@ -63,16 +61,10 @@ found-has (x ∷ es) k e = elim (cases_Bool (are_same k x.0)) [
 pub has-new : {V : Type 0} (es : List (Held × V)) (k : Held) (v : V)
     → HasEntry (insert_entry are_same es k v) (state_of k)
 has-new [] k v = inl refl
-has-new (x ∷ es) k v = elim (cases_Bool (are_same k x.0)) [
-  | inl t ↦ rw t (inl (sym (tells-same k x.0 t)))
-  | inr t ↦ rw t (inr (has-new es k v))
-]
+has-new (x ∷ es) k v = search (rules, cases_Bool, are_same, tells-same, has-new es k v)
 
 pub has-old : {V : Type 0} (es : List (Held × V)) (k : Held) (v : V) (s : State) → HasEntry es s
     → HasEntry (insert_entry are_same es k v) s
 has-old [] k v s has = absurd has
 has-old (x ∷ es) k v s (inl is) = elim (cases_Bool (are_same k x.0)) [ inl t ↦ rw t (inl is) | inr t ↦ rw t (inl is) ]
-has-old (x ∷ es) k v s (inr later) = elim (cases_Bool (are_same k x.0)) [
-  | inl t ↦ rw t (inr later)
-  | inr t ↦ rw t (inr (has-old es k v s later))
-]
+has-old (x ∷ es) k v s (inr later) = search (rules, cases_Bool, are_same, has-old es k v s later)

@@ -1,13 +1,13 @@
 -- What an exploration met, and which taps can be made.
 use Rattle.console_core.proofs.Common.{◌≡◌, ◌⊎◌, ℕ, Bool, true, false, List, [], ◌∷◌, ◌++◌, length, slice_get, Some}
-use Rattle.console_core.proofs.Common.{None, refl, ap, subst, sym, ◌∙◌, inl, inr, reverse, append_assoc, is_some}
-use Rattle.console_core.proofs.Common.{lookup, cases_Bool, Held, MapValue, Event, Press, Release, Move, Explored}
-use Rattle.console_core.proofs.Common.{Symbol, Tap, usable, Under, alone, State, start, IsMove, moved, state_after}
+use Rattle.console_core.proofs.Common.{None, refl, ap, subst, sym, ◌∙◌, inl, inr, reverse, append_assoc, rules}
+use Rattle.console_core.proofs.Common.{cases_Bool, Held, MapValue, Event, Press, Release, Move, Explored}
+use Rattle.console_core.proofs.Common.{Symbol, Tap, usable, Under, alone, State, start, state_after}
 use Rattle.console_core.proofs.Common.{IsPathFrom, state_from, events_along, IsHome, ComesHome, IsTapOf, CanTap}
 use Rattle.console_core.proofs.Common.{CanType, composed_of, map_of_explored, origin_in, IsExplored, CanReturn, HasTap}
 use Rattle.console_core.proofs.Common.{LetsGo, GoesAndTaps, HasTyped, TypesOne, LeadsHome, Routes, AllLeadHome}
 use Rattle.console_core.proofs.Common.{HasRoute, AreSettled, freed, state_of, Entry, Entries, IsTrail, IsReached}
-use Rattle.console_core.proofs.Common.{Searched, unscrolled, Lock, Caps, Num, Scroll, Alt}
+use Rattle.console_core.proofs.Common.{Searched, unscrolled, Scroll}
 use Rattle.console_core.proofs.Entries.{none-found, found-has}
 use Rattle.console_core.proofs.OneMore.{is-nothing}
 use Rattle.console_core.proofs.SameStates.{are_same}
@@ -30,22 +30,14 @@ has-home u routes s all has = let (moves, home) = has-leads u routes s all has i
 
 -- home is the start, where the scroll lock is off
 pub home-start : (s : State) → IsHome s → s.is_second ≡ false → s.is_locked Scroll ≡ false → s ≡ start
-home-start s (free, off) first scroll = same_states s start free locks first
-  where
-    locks : (l : Lock) → s.is_locked l ≡ start.is_locked l
-    locks Caps = off Caps (λ q. cc)
-    locks Num = off Num (λ q. cc)
-    locks Alt = off Alt (λ q. cc)
-    locks Scroll = scroll
+home-start s (free, off) first scroll = search (rules, same_states)
 
 -- one path behind another
 pub path-append : (u : Under) (s : State) (path later : List Move) → IsPathFrom u s path
     → IsPathFrom u (state_from u s path) later
     → IsPathFrom u s (later ++ path) × (state_from u s (later ++ path) ≡ state_from u (state_from u s path) later)
 path-append u s path [] is more = (is, refl)
-path-append u s path (move ∷ later) is more =
-    let q = path-append u s path later is more.1 in
-    ((subst (λ t. IsMove u t move) (sym q.1) more.0, q.0), ap (λ t. moved u t move) q.1)
+path-append u s path (move ∷ later) is more = search (rules, path-append u s path later is more.1)
 
 -- ---- a tap and the moves around it
 
@@ -75,57 +67,20 @@ pub tap-home : (m : MapValue) (o : State) (es : Entries) (j : ℕ) (x : Entry) (
     → LeadsHome (alone m) (state_of x.0) moves → now ≡ events_along (reverse moves) ++ h2 → next ≡ start
     → GoesAndTaps (alone m) o (state_of x.0) k h now next
 tap-home m o es j x k h h1 h2 now moves next origin r e1 e2 home e is =
-    let s : State = state_of x.0 in
-    let second : s.is_second ≡ false =
-    ap (λ t. t.is_second) (sym r.3) ∙ path-first m o r.0 r.2 ∙ origin.1 in
-    let ends : state_from (alone m) s (reverse moves) ≡ start =
-    home-start (state_from (alone m) s (reverse moves)) home.1 (path-first m s (reverse moves) home.0 ∙ second)
-    (home.2 r.5) in
-    record {
-      out = r.0;
-      back = reverse moves;
-      goes = r.2;
-      there = r.3;
-      returns = home.0;
-      leads = ends ∙ sym is;
-      events = e ∙ ap (λ z. events_along (reverse moves) ++ z) (e2 ∙ ap (λ z. Release k ∷ Press k ∷ z) (e1 r.0 r.1));
-      free = λ i. ap (λ t. t.holder i) is;
-      off = ap (λ t. t.is_locked Scroll) is;
-      home = subst (λ t. ComesHome (alone m) t) (sym is) ([], tt, ((λ i. refl), (λ l other. refl)));
-    }
+    search (rules, path-first, home-start)
 
 -- moves and a tap lead from one such state to the next
 pub returns-next : (m : MapValue) (o s : State) (k : ℕ) (h now : List Event) (next : State) → CanReturn m o
     → GoesAndTaps (alone m) o s k h now next
     → CanReturn m next
-returns-next m o s k h now next st x =
-    let u : Under = alone m in
-    let there : IsPathFrom u (state_from u o x.out) x.back = rw x.there x.returns in
-    let out = path-append u o x.out x.back x.goes there in
-    let all = path-append u start st.path (x.back ++ x.out) st.is
-    (subst (λ t. IsPathFrom u t (x.back ++ x.out)) (sym st.leads) out.0) in
-    record {
-      free = x.free;
-      off = x.off;
-      path = (x.back ++ x.out) ++ st.path;
-      is = all.0;
-      leads = cc (all.1, st.leads, out.1, x.there, x.leads);
-      home = x.home;
-    }
+returns-next m o s k h now next st x = search (rules, path-append)
 
 -- such a state is an origin
 pub returns-origin : (m : MapValue) (s : State) → CanReturn m s → IsOrigin s
 returns-origin m s st = (st.off, ap (λ t. t.is_second) (sym st.leads) ∙ path-first m start st.path st.is)
 
 pub start-returns : (m : MapValue) → CanReturn m start
-start-returns m = record {
-  free = λ i. refl;
-  off = refl;
-  path = [];
-  is = tt;
-  leads = refl;
-  home = ([], tt, ((λ i. refl), (λ l other. refl)));
-}
+start-returns m = search rules
 
 -- ---- which taps can be made
 
@@ -142,19 +97,11 @@ strays-from : {o : State} (m : MapValue) (es : Entries) (routes : Routes)
     → StraysTo es routes (state_from (alone m) s path)
 strays-from m es routes searched settled s [] is strays = strays
 strays-from m es routes searched settled s (move ∷ path) is strays =
-    strays-on m es routes searched settled (state_from (alone m) s path) move is.0
-    (strays-from m es routes searched settled s path is.1 strays)
+    search (rules, strays-on, strays-from m es routes searched settled s path is.1 strays)
 
 -- a route begins at a state, or none does
 route-or-none : (routes : Routes) (k : Held) → HasRoute routes (state_of k) ⊎ (HasRoute routes (state_of k) → ⊥)
-route-or-none routes k = elim (cases_Bool (is_some (lookup (are_same k) routes))) [
-  | inl e ↦
-      inl
-      (found-has routes k e)
-  | inr e ↦
-      inr
-      (none-found routes k (is-nothing (lookup (are_same k) routes) e))
-]
+route-or-none routes k = search (rules, cases_Bool, are_same, found-has, none-found, is-nothing)
 
 -- so one begins where moves lead home from
 pub comes-route : {o : State} (m : MapValue) (es : Entries) (routes : Routes)

@@ -54,8 +54,7 @@ holding_is_remembered ms h (Press j) safe keys k a e kept =
     (λ c is s. safe k bears.0 a bears.1 c
     (rw (← (eqb-true j k s), ← is) (look-cell (in_force ms h) (resolved ms h) j all))) e
 holding_is_remembered ms h (Release j) safe keys k a e kept =
-    let apart : j == k ≡ false = kept in
-    rw (resolved-more ms h (Release j), remembered-release k j (resolved ms h), apart) e
+    search (rules, resolved-more, remembered-release)
 holding_is_remembered ms h Reset safe keys k a e kept = absurd (true≢false kept)
 holding_is_remembered ms h Load safe keys k a e kept = absurd (true≢false kept)
 
@@ -81,11 +80,7 @@ not_let_go ms k j a t e low = search (rules, false_from_ne_true, true≢false, e
 kept : (ms : Maps) (k : ℕ) (a : Holding) (later before : List Event) → IsSafe (in_force ms (later ++ Press k ∷ before))
     → HasKeys (later ++ Press k ∷ before) → raises_at ms a (Press k) before ≡ true
     → NoneOf (lowers_at ms a) later (Press k ∷ before) → Kept ms k a later before
-kept ms k a [] before safe keys raised none = (
-  ap (λ r. remembered k r) (resolved-more ms before (Press k))
-      ∙ raised-press k a (resolved ms before) (look (in_force ms before) (resolved ms before) k) raised,
-  tt,
-)
+kept ms k a [] before safe keys raised none = search (rules, resolved-more, raised-press)
 kept ms k a (Press j ∷ later) before safe keys raised none =
     let s : Kept ms k a later before =
     kept ms k a later before safe (All-tail HasKey (Press j) (later ++ Press k ∷ before) keys) raised none.1 in

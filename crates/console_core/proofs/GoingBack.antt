@@ -1,6 +1,6 @@
 -- The way back from an entry to the start, and the script that is written on it.
 use Rattle.console_core.proofs.Common.{◌≡◌, ℕ, ◌+◌, ◌<◌, IfSome, List, [], ◌∷◌, ◌++◌, length, get_or, take, slice_get}
-use Rattle.console_core.proofs.Common.{Option, Some, None, refl, ap, subst, sym, ◌∙◌, arith, append_assoc}
+use Rattle.console_core.proofs.Common.{Option, Some, None, refl, ap, sym, ◌∙◌, arith, append_assoc}
 use Rattle.console_core.proofs.Common.{slice_get_within, same_Some, append-nil, take_more, Modifier, Event, Press, Move}
 use Rattle.console_core.proofs.Common.{modifiers, Under, State, state_after, script_of_path, events_of_move, rules}
 use Rattle.console_core.proofs.Common.{events_along, release_of, releases, Entry, Entries, IsTrail, IsReached, Searched}
@@ -94,12 +94,7 @@ places_left (Some last) = last.0 + 1
 pub left-smaller : (es : Entries) (parent : ℕ) (move : Move) (y : Entry) (last : Option (ℕ × Move)) → GoBack es
     → slice_get es parent ≡ Some y → last ≡ Some (parent, move)
     → places_left y.1.last < places_left last
-left-smaller es parent move y last back at e =
-    subst (λ l. places_left y.1.last < places_left l) (sym e) (fewer y.1.last refl)
-  where
-    fewer : (o : Option (ℕ × Move)) → y.1.last ≡ o → places_left o < parent + 1
-    fewer None q = omega arith
-    fewer (Some (p, by)) q = let lt : p < parent = back parent y p by at q in omega (arith, lt)
+left-smaller es parent move y last back at e = search rules
 
 -- a place has one entry
 pub same-place : (es : Entries) (j : ℕ) (x y : Entry) → slice_get es j ≡ Some x → slice_get es j ≡ Some y → x ≡ y

@@ -1,8 +1,8 @@
 -- What writing parts of what a console keeps leaves, after a release and after a load.
-use Rattle.console_core.proofs.Common.{cases_Bool, inl, inr, ◌≡◌, ℕ, Bool, true, false, ◌&&◌, not, eqb, None, Some}
-use Rattle.console_core.proofs.Common.{refl, ap, sym, ◌∙◌, if◌then◌else◌, eqb-true, fun_ext, Action, Holding}
-use Rattle.console_core.proofs.Common.{Lock, Caps, Num, Scroll, Alt, holding_action, holding_of, rules}
-use Rattle.console_core.proofs.Common.{is_borne, MapValue, is_this_action, Kept, after_release, after_reset, after_load}
+use Rattle.console_core.proofs.Common.{cases_Bool, ◌≡◌, ℕ, Bool, true, false, ◌&&◌, not, None, Some}
+use Rattle.console_core.proofs.Common.{refl, ap, if◌then◌else◌, eqb-true, fun_ext, Action, Holding}
+use Rattle.console_core.proofs.Common.{Lock, Caps, Num, Scroll, Alt, holding_of, rules}
+use Rattle.console_core.proofs.Common.{is_borne, MapValue, Kept, after_release, after_reset, after_load}
 use Rattle.console_core.specs.Inner.Kept.{with_mark, with_memory, with_released, with_lock_borne, exchanged}
 use Rattle.console_core.proofs.Places.{holding_of-some, same_place}
 use Rattle.keymap_core.specs.declared.action.Holding.TheVariants as holding
@@ -10,15 +10,7 @@ use Rattle.keymap_core.specs.declared.action.Holding.TheVariants as holding
 -- what is kept is known by its parts
 pub kept-same : (j k : Kept) → ((a : Holding) → j.mark a ≡ k.mark a) → ((l : Lock) → j.lock l ≡ k.lock l)
     → ((i : ℕ) → j.memory i ≡ k.memory i) → j.pending ≡ k.pending → j.is_second ≡ k.is_second → j ≡ k
-kept-same j k marks locks memory pending second =
-    let marks_same : j.mark ≡ k.mark = fun_ext marks in
-    let locks_same : j.lock ≡ k.lock = fun_ext locks in
-    let memory_same : j.memory ≡ k.memory = fun_ext memory in
-    ap (λ x. record j { mark = x }) marks_same
-    ∙ ap (λ x. record j { mark = k.mark; lock = x }) locks_same
-    ∙ ap (λ x. record k { memory = x; pending = j.pending; is_second = j.is_second }) memory_same
-    ∙ ap (λ x. record k { pending = x; is_second = j.is_second }) pending
-    ∙ ap (λ x. record k { is_second = x }) second
+kept-same j k marks locks memory pending second = search (rules, fun_ext)
 
 -- what is kept is the same where all marks are
 same-marks : (k : Kept) (f g : Holding → Bool) → ((a : Holding) → f a ≡ g a)
@@ -60,13 +52,7 @@ and_kept false = refl
 
 -- a release of a key for which nothing is remembered
 pub idle-released : (k : Kept) (key : ℕ) → k.memory key ≡ None → k ≡ after_release key k
-idle-released k key none =
-    kept-same k (after_release key k)
-    (λ a. and_kept (k.mark a) ∙ ap (λ x. k.mark a && not (is_this_action x (holding_action a))) (sym none))
-    (λ l. refl) (λ j. elim (cases_Bool (eqb key j)) [
-      | inl is ↦ rw is (ap k.memory (sym (eqb-true key j is)) ∙ none)
-      | inr is ↦ rw is refl
-    ]) refl refl
+idle-released k key none = search (rules, kept-same, and_kept, cases_Bool, eqb-true)
 
 -- a release of a key for which the action is remembered
 pub held-released : (k : Kept) (key : ℕ) (held : Action) → k.memory key ≡ Some held

@@ -50,12 +50,7 @@ state-new es now k e within = record {
     new = (k, record { presses = 0; last = None })
 
     either : (j : ℕ) (x : Entry) → slice_get now j ≡ Some x → (slice_get es j ≡ Some x) ⊎ (x ≡ new)
-    either j x at =
-        let there : slice_get (es ++ new ∷ []) j ≡ Some x = subst (λ z. slice_get z j ≡ Some x) e at in
-        elim (cases_lt j (length es)) [
-          | inl lt ↦ inl (at_old es (new ∷ []) j x lt there)
-          | inr le ↦ let (i, is) = at_new es (new ∷ []) j x le there in inr (one_entry new i x is).1
-        ]
+    either j x at = search (rules, new, cases_lt, at_old, at_new, one_entry)
 
 -- one that was
 pub state-old : (es : Entries) (k : Held) → is_some (lookup (are_same k) es) ≡ true → AreWithin es 0
@@ -73,14 +68,7 @@ state-old es k e within =
 
 -- none at first
 pub seeds-none : (u : Under) (accent : ℕ) (met es : Entries) → es ≡ [] → AreSeedsTo u accent met 0 es
-seeds-none u accent met es e = record {
-  within = λ j x at. absurd (nothing j x at);
-  seeds = λ j x at lt. absurd (omega (arith, lt));
-  behind = λ j x at. absurd (nothing j x at);
-}
-  where
-    nothing : (j : ℕ) (x : Entry) → slice_get es j ≡ Some x → ⊥
-    nothing j x at = search (rules, slice_get_within)
+seeds-none u accent met es e = search (rules, slice_get_within)
 
 -- one more state offers it
 pub seeds-more : (u : Under) (accent : ℕ) (met es now : Entries) (n : ℕ) (x : Entry)
@@ -188,10 +176,7 @@ behind-step u accent met es mid now n y before here first second frees presses =
     met-by es t (j, x, at, is, le) = (j, x, at, is)
 
     from_here : (move : Move) → IsMove u s move → LeavesScroll move → IsMet now (moved u s move)
-    from_here move is leaves = elim (no-press_or_one move) [
-      | inl none ↦ up (moved u s move) (met-by mid (moved u s move) (frees move is leaves none))
-      | inr one ↦ met-by now (moved u s move) (presses move is leaves one)
-    ]
+    from_here move is leaves = search (rules, no-press_or_one, up, s, met-by)
 
 -- ---- there are no more than were met
 
@@ -256,13 +241,7 @@ behind-few u accent met es searched seeds distinct = pigeonhole (length es) (len
         ∙ distinct-at es distinct i j x y lt at at_j)
 
     one : (i j : ℕ) → i < length es → j < length es → place i ≡ place j → i ≡ j
-    one i j lt_i lt_j e = elim (cases_lt i j) [
-      | inl lt ↦ absurd (apart i j lt lt_i lt_j e)
-      | inr le ↦ elim (cases_lt j i) [
-        | inl lt ↦ absurd (apart j i lt lt_j lt_i (sym e))
-        | inr ge ↦ omega (arith, le, ge)
-      ]
-    ]
+    one i j lt_i lt_j e = search (rules, cases_lt, apart)
 
 -- ---- the selections there
 
@@ -405,9 +384,7 @@ sights-are m met x accents searched selections offers offered some none = record
 
     reached : (j : ℕ) (z : Entry) → slice_get met j ≡ Some z → (P : State → Type 0) → P (state_of z.0)
         → (path : List Move) × IsPath u path × P (state_after u path)
-    reached j z at P is =
-        let r : IsReached u start met j z = searched.reached j z at in
-        (r.0, r.2, subst P (sym r.3) is)
+    reached j z at P is = search (rules, u)
 
     -- what is so in a state that was met is so where moves lead
     enumerates-met : {X : Type 0} (Q : X → State → Type 0) (xs : List X)

@@ -1,5 +1,5 @@
 -- One place of a table after a write, by a test on the places.
-use Rattle.console_core.proofs.Common.{cases_Bool, inl, inr, ◌≡◌, ℕ, ◌<◌, Bool, true, false, cond, eqb, List, length}
+use Rattle.console_core.proofs.Common.{cases_Bool, ◌≡◌, ℕ, ◌<◌, Bool, true, false, cond, eqb, List, length}
 use Rattle.console_core.proofs.Common.{get_or, set, ◌+◌, ◌&&◌, not, Some, ap, lit<, refl, sym, subst, arith, eqb-true}
 use Rattle.console_core.proofs.Common.{eqb-false, ne_eqb, Modifier, LeftShift, Lock, Caps, Num, Scroll, Alt, Holding}
 use Rattle.console_core.proofs.Common.{Action, holding_of, modifier_index, lock_index, holding_index, same_action}
@@ -11,10 +11,8 @@ use Rattle.keymap_core.specs.declared.action.Action.TheVariants as act
 -- an element after a write
 pub get_or-set_if : {X : Type 0} (xs : List X) (i j : ℕ) (v d : X) → i < length xs
     → get_or (set xs i v) j d ≡ cond (eqb i j) v (get_or xs j d)
-get_or-set_if xs i j v d h = elim (cases_Bool (eqb i j)) [
-  | inl e ↦ let s : i ≡ j = eqb-true i j e in rw (e, ← s) (get_or-set_same xs i v d h)
-  | inr e ↦ rw e (get_or-set_other xs i j v d (λ s. eqb-false i j e (sym s)))
-]
+get_or-set_if xs i j v d h =
+    search (rules, cases_Bool, eqb-true, get_or-set_same, get_or-set_other, eqb-false)
 
 -- the modifier at a place of the modifiers
 modifier_at : (i : Modifier) (d : Modifier) → get_or modifiers (modifier_index i) d ≡ i

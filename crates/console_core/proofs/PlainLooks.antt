@@ -1,5 +1,5 @@
 -- Looks in plain maps.
-use Rattle.console_core.proofs.Common.{◌≡◌, ℕ, ◌+◌, ◌<◌, Bool, true, false, ◌&&◌, List, refl, subst, sym, ◌∙◌, inl}
+use Rattle.console_core.proofs.Common.{◌≡◌, ℕ, ◌<◌, Bool, true, false, ◌&&◌, List, refl, subst, sym, ◌∙◌, inl, rules}
 use Rattle.console_core.proofs.Common.{inr, lit<, or_cases, and_parts, false_from_ne_true, or_right, Lock, Modifier}
 use Rattle.console_core.proofs.Common.{Holding, Act, Event, holding_action, MapValue, cell_at, Bears, IsCellOf}
 use Rattle.console_core.proofs.Common.{BearsThroughout, count_where, is_odd, look_with, ResolvedEvent, held, locked}
@@ -7,7 +7,7 @@ use Rattle.console_core.proofs.Common.{look, Maps, in_force, resolved, pressed, 
 use Rattle.console_core.proofs.Common.{HasNoLoads, is_fresh_press, fun_ext}
 use Rattle.std.proofs.lemmas.Bool.{or_left}
 use Rattle.keymap_core.specs.Bearers.{NobodyBears}
-use Rattle.keymap_core.specs.Borne.{any_below, has_in_slot, is_upper_live}
+use Rattle.keymap_core.specs.Borne.{any_below}
 use Rattle.console_core.specs.Plain.{IsPlainFor, IsPlain, bears_holding, plain_on, plain_locked, plain_look}
 use Rattle.console_core.specs.Plain.{LooksPlainly, PlainOnByKeys, PlainLockedByKeys}
 use Rattle.keymap_core.proofs.BorneTests.{any-some, some-any, slot-stands, stands-slot, live-upper, upper-is_live}
@@ -23,20 +23,12 @@ use Rattle.keymap_core.specs.declared.action.Holding.TheVariants as holding
 
 -- the test whether a key bears a holding action
 pub bears-is : (m : MapValue) (a : Holding) (k : ℕ) → bears_holding m a k ≡ true → Bears m k a
-bears-is m a k e =
-    elim (or_cases (has_in_slot m (holding_action a) k) _ e) [
-      | inl s ↦ inl (slot-stands m (holding_action a) k s)
-      | inr s ↦
-          let p : (is_upper_live m ≡ true) × (has_in_slot m (holding_action a) (k + 128) ≡ true) = and_parts _ _ s in
-          inr (live-upper m p.0, slot-stands m (holding_action a) (k + 128) p.1)
-    ]
+bears-is m a k e = search (rules, or_cases, slot-stands, and_parts, live-upper)
 
 -- a key that bears a holding action passes the test
 pub is-bears : (m : MapValue) (a : Holding) (k : ℕ) → Bears m k a → bears_holding m a k ≡ true
 is-bears m a k (inl s) = or_left _ _ (stands-slot m (holding_action a) k s)
-is-bears m a k (inr s) =
-    or_right (has_in_slot m (holding_action a) k) _
-    (rw (upper-is_live m s.0, stands-slot m (holding_action a) (k + 128) s.1) refl)
+is-bears m a k (inr s) = search (rules, or_right, upper-is_live, stands-slot)
 
 -- a key that bears the action throughout bears it
 pub throughout-bears : (m : MapValue) (k : ℕ) (a : Holding) → BearsThroughout m k a → Bears m k a
@@ -59,11 +51,7 @@ one_bearer m a k fact s =
 -- some key that bears the action has a fact
 bearer-some : (m : MapValue) (a : Holding) (fact : ℕ → Bool) → any_below (λ j. bears_holding m a j && fact j) 128 ≡ true
     → (k : ℕ) × (k < 128) × Bears m k a × (fact k ≡ true)
-bearer-some m a fact e =
-    let t : (j : ℕ) × (j < 128) × ((bears_holding m a j && fact j) ≡ true) = some-any
-    (λ j. bears_holding m a j && fact j) 128 e in
-    let p : (bears_holding m a t.0 ≡ true) × (fact t.0 ≡ true) = and_parts _ _ t.2 in
-    (t.0, t.1, bears-is m a t.0 p.0, p.1)
+bearer-some m a fact e = search (rules, some-any, and_parts, bears-is)
 
 -- a bearer for which a fact holds is found
 some-bearer : (m : MapValue) (a : Holding) (fact : ℕ → Bool) (k : ℕ) → k < 128 → Bears m k a → fact k ≡ true

@@ -5,7 +5,7 @@ use Rattle.console_core.proofs.Common.{eqb-true, eq-eqb, All-head, none-some, ow
 use Rattle.console_core.proofs.Common.{Answer, Meta, Cell, Char, Act, Event, Press, Release, Reset, Load, Move, Symbol}
 use Rattle.console_core.proofs.Common.{usable, is_pending, char_or_error, answer_action, composed_by, ResolvedEvent}
 use Rattle.console_core.proofs.Common.{look, remembered, taken_over, pending, resolve_press, Follows, between, in_force}
-use Rattle.console_core.proofs.Common.{resolved, is_second_in_force, is_on_after, HasKey, IsNoLoad}
+use Rattle.console_core.proofs.Common.{resolved, is_second_in_force, is_on_after, HasKey, IsNoLoad, rules}
 use Rattle.console_core.proofs.Common.{accent_pending_after, look_after, remembered_after, Under, alone, State, start}
 use Rattle.console_core.proofs.Common.{look_in, IsIdle, IsMove, moved, IsPathFrom, state_from, IsHome, IsAdmitted}
 use Rattle.console_core.proofs.Common.{NeverForgets, presses, ComesHome, IsTapOf, CanTap, CanType, IsAsNew, cell_of}
@@ -60,10 +60,7 @@ onward m forgets s before never there f is later admitted =
 
 -- a console that is as a new one stands at home
 new-home : (m : MapValue) (h : List Event) (t : State) → Follows (resolved (between m m) h) t → IsAsNew m h → IsHome t
-new-home m h t f new = (
-  (λ i. is-nothing (t.holder i) (sym (f.on i) ∙ new.on i)),
-  (λ l other. sym (f.locked l) ∙ new.locked l),
-)
+new-home m h t f new = search (rules, is-nothing)
 
 -- the first events of a list that is spoken of are one
 admitted-from : (m : MapValue) (forgets : Bool) (later h : List Event) → IsAdmitted m forgets (later ++ h)
@@ -141,8 +138,7 @@ pending-tapped m forgets h later (Release k ∷ before) i never admitted new at 
     (at ∙ sym (append_assoc later (Release k ∷ []) before))
     (cc (resolved-more (between m m) before (Release k), pending-release m k (resolved (between m m) before), e))
 pending-tapped m forgets h later (Reset ∷ before) i never admitted new at e =
-    absurd (none-some i
-    (cc (resolved-more (between m m) before Reset, pending-reset m (resolved (between m m) before), e)))
+    search (rules, none-some, resolved-more, pending-reset)
 pending-tapped m forgets h later (Load ∷ before) i never admitted new at e =
     absurd (true≢false (All-head IsNoLoad Load before
     (admitted-from m forgets later (Load ∷ before) (subst (λ g. IsAdmitted m forgets g) at admitted)).1))
@@ -198,9 +194,7 @@ dead-gives : (m : MapValue) (p : Option ℕ) (meta : Bool) (i c : ℕ) (can t : 
     → (if can then (if t then char_or_error meta (own_of (accent_at m i)) else answer.None) else answer.Error)
     ≡ plainly c
     → GivesOwn m p meta (act.DeadKey i) c
-dead-gives m p meta i c true true is e =
-    let given = char-given meta (own_of (accent_at m i)) c e in
-    (i, refl, pending-same i p is, given.0, given.1)
+dead-gives m p meta i c true true is e = search (rules, char-given, pending-same)
 dead-gives m p meta i c true false is e = let f : answer.None ≡ answer.Char c false = e in cc
 dead-gives m p meta i c false t is e = let f : answer.Error ≡ answer.Char c false = e in cc
 
@@ -235,10 +229,7 @@ typed-can m forgets h c never admitted new (later, before, k, at, types) =
         → accent_pending_after (between m m) before ≡ p
         → answer_at m p (is_on_after (between m m) Meta before) (remembered_after (between m m) k before) x ≡ plainly c
         → CanType m c
-    by (Char d) seen None is e =
-        let f : answer.Char d (is_on_after (between m m) Meta before) ≡ answer.Char c false = e in
-        let same : d ≡ c = cc in
-        inl (subst (λ z. CanTap m true (symbol.Character z)) same (tap d seen cc))
+    by (Char d) seen None is e = search (rules, tap)
     by (Char d) seen (Some i) is e =
         let given = char-given (is_on_after (between m m) Meta before) (composed_by (accent_at m i) d) c e in
         let first = dead i is in

@@ -3,10 +3,10 @@ use Rattle.console_core.proofs.Common.{◌≡◌, ◌≢◌, ◌⊎◌, ℕ, ◌
 use Rattle.console_core.proofs.Common.{Result, Ok, Err, IfOk, subst, sym, ◌∙◌, inl, inr, arith, IfSome, ◌+◌, ◌≤◌}
 use Rattle.console_core.proofs.Common.{◌++◌, length, take, get_or, reverse, Contains, take_more, take_all}
 use Rattle.console_core.proofs.Common.{reverse-append, Contains-push, Contains-push_cases, Contains-append_left}
-use Rattle.console_core.proofs.Common.{true≢false, Held, Step, Under, State, IsMove, moved, Holds, with_holder}
+use Rattle.console_core.proofs.Common.{Held, Step, Under, State, IsMove, moved, Holds, with_holder}
 use Rattle.console_core.proofs.Common.{state_from, IsPathFrom, IsHome, state_of, StepsTo, PressesLead, IsStep}
-use Rattle.console_core.proofs.Common.{LeavesScroll, LeadsHome, Routes, AllLeadHome, HasRoute, NoPressLeads, IsAstray}
-use Rattle.console_core.proofs.Common.{Lock, Caps, Num, Scroll, Alt, Modifier, Move, Hold, Turn, LetGo, Exchange, rules}
+use Rattle.console_core.proofs.Common.{LeadsHome, Routes, AllLeadHome, HasRoute, NoPressLeads, IsAstray}
+use Rattle.console_core.proofs.Common.{Lock, Caps, Num, Scroll, Alt, Modifier, Move, rules}
 use Rattle.std.proofs.lemmas.List.{length_push}
 use Rattle.console_core.specs.declared.routes.Route.{Route}
 use Rattle.console_core.specs.Inner.Routes.{NoLetGoLeads}
@@ -30,9 +30,7 @@ pub path-begin : (u : Under) (s : State) (by : Move) (path : List Move) → IsMo
     → IsPathFrom u (moved u s by) path
     → IsPathFrom u s (path ++ by ∷ []) × (state_from u s (path ++ by ∷ []) ≡ state_from u (moved u s by) path)
 path-begin u s by [] is p = ((is, tt), refl)
-path-begin u s by (move ∷ path) is p =
-    let q = path-begin u s by path is p.1 in
-    ((subst (λ t. IsMove u t move) (sym q.1) p.0, q.0), ap (λ t. moved u t move) q.1)
+path-begin u s by (move ∷ path) is p = search (rules, path-begin u s by path is p.1)
 
 -- a step leads to where a route begins
 pub step-home : (u : Under) (s : State) (n : ℕ) (x : Step) (moves : List Move) → IsStep u s n x
@@ -74,16 +72,7 @@ pub record Settled (u : Under) (old : Routes) (states : List Held) (n : ℕ) (ro
 -- before the first state
 pub settled-new : (u : Under) (old : Routes) (states rest : List Held) → AllLeadHome u old → rest ≡ []
     → Settled u old states 0 old rest
-settled-new u old states rest home e = record {
-  home = home;
-  fewer = omega (arith, ap (λ z. length z) e);
-  astray = λ f loads. (refl, λ x has. absurd (nothing x has));
-  all = λ x has. absurd (nothing x has);
-  kept = λ s has. has;
-}
-  where
-    nothing : (x : Held) → Contains (take 0 states) x → ⊥
-    nothing x (k, lt, at) = omega (arith, lt)
+settled-new u old states rest home e = search rules
 
 -- behind the last one
 pub settled-all : (u : Under) (old : Routes) (states : List Held) (n : ℕ) (routes : Routes) (rest : List Held)
@@ -154,13 +143,7 @@ settled-none u old states n routes rest now x p at lt e none =
 -- a state that isn't home, and from which no step leads to where a route begins
 pub astray : (u : Under) (routes : Routes) (s : State) → u.has_loads ≡ false → (IsHome s → ⊥)
     → NoLetGoLeads routes s → ((k : ℕ) → k < 128 → NoPressLeads u routes s k) → IsAstray u routes s
-astray u routes s loads away let_go press = (away, moves)
-  where
-    moves : (move : Move) → IsMove u s move → LeavesScroll move → HasRoute routes (moved u s move) → ⊥
-    moves (Hold k i) (lt, idle, seen, free) leaves has = (press k lt idle).0 i seen free has
-    moves (Turn k l) (lt, idle, seen) leaves has = (press k lt idle).1 l leaves seen has
-    moves (LetGo k i) holds leaves has = let_go k i holds has
-    moves Exchange (free, is) leaves has = true≢false (sym is ∙ loads)
+astray u routes s loads away let_go press = search rules
 
 -- the same where no route by a press is answered
 pub astray-when : {E : Type 0} (u : Under) (routes : Routes) (s : State) (r : Result (Option Route) E) → (IsHome s → ⊥)

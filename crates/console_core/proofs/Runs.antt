@@ -94,14 +94,7 @@ split_by : (ms : Maps) (m : MapValue) (i : ℕ) (p : Event × List Event) (posit
     (o : Option ℕ) (b : Bool)
     → dead_key_taken_at ms m p.0 p.1 ≡ o → ((j : ℕ) → o ≡ Some j → eqb j i ≡ b) → Split ms m i positions
     → Split ms m i (p ∷ positions)
-split_by ms m i p positions None b e f s = (
-  [],
-  p ∷ positions,
-  refl,
-  tt,
-  (λ g. none-some i (sym e ∙ g)),
-  ap (λ x. run_length i (x ∷ takings ms m positions)) (sym e),
-)
+split_by ms m i p positions None b e f s = search (rules, none-some)
 split_by ms m i p positions (Some j) true e f s =
     let is : j ≡ i = eqb-true j i (f j refl) in (
       p ∷ s.0,

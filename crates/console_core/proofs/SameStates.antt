@@ -1,6 +1,6 @@
 -- States of a search are the same exactly if their tables test equal.
 use Rattle.console_core.proofs.Common.{suc, ◌≡◌, ℕ, ◌<◌, Bool, true, false, ◌&&◌, List, [], ◌∷◌, length, get_or, Option}
-use Rattle.console_core.proofs.Common.{Some, None, refl, ap, subst, sym, ◌∙◌, arith, eqb, eqb-true, eq-eqb}
+use Rattle.console_core.proofs.Common.{Some, None, refl, ap, subst, sym, ◌∙◌, arith, eqb, eqb-true, eq-eqb, rules}
 use Rattle.console_core.proofs.Common.{get_or_default, modifiers, modifier_index, lock_index, LeftShift, Caps, Held}
 use Rattle.console_core.proofs.Common.{state_of, State}
 use Rattle.std.proofs.Common.{slice_index_or}
@@ -25,9 +25,7 @@ state_from holders locks is_second = record {
 }
 
 same-state : (x y : Held) → AreSame x y → state_of x ≡ state_of y
-same-state x y e =
-    ap (λ z. state_from z x.locks x.is_second) e.0 ∙ ap (λ z. state_from y.holders z x.is_second) e.1
-    ∙ ap (λ b. state_from y.holders y.locks b) e.2
+same-state x y e = search rules
 
 pub tells-same : (x y : Held) → are_same x y ≡ true → state_of x ≡ state_of y
 tells-same x y e =

@@ -12,7 +12,7 @@ use Rattle.console_core.proofs.Common.{is_on_after, is_second_in_force, pressed,
 use Rattle.console_core.proofs.Common.{between, is_locked_after, Under, State, start, map_of, look_in, Holds, IsIdle}
 use Rattle.console_core.proofs.Common.{with_holder, with_lock_turned, exchanged, IsFree, IsMove, moved, HolderForgets}
 use Rattle.console_core.proofs.Common.{state_after, IsPath, events_of_move, events_along, release_of, releases}
-use Rattle.console_core.proofs.Common.{script_of_path, presses_of, presses_along, IsForgetful, state_from, IsPathFrom}
+use Rattle.console_core.proofs.Common.{script_of_path, presses_of, presses_along, state_from, IsPathFrom}
 use Rattle.console_core.proofs.Common.{alone, presses, IsSent, NeverForgets, ReleasesPressedKeys, Follows, HoldsSome}
 use Rattle.console_core.proofs.Common.{Exact, Stands, Action, Lock, Modifier, LeftShift, RightShift, LeftControl}
 use Rattle.console_core.proofs.Common.{RightControl, LeftAlt, RightAlt, AltShift, Meta, Cell, Char, Act, Event, Press}
@@ -48,26 +48,12 @@ hold-self s i k = ap (λ t. if t then Some k else s.holder i) (same_action-refl 
 -- a key that takes a modifier leaves each other holder as it was
 hold-other : (s : State) (i : Modifier) (k n : ℕ) → s.holder i ≡ None → HoldsSome s n
     → HoldsSome (with_holder s i (Some k)) n
-hold-other s i k n free p = (
-  p.0,
-  elim (cases_Bool (same_modifier i p.0)) [
-    | inl t ↦ absurd (none-some n (sym free ∙ ap (λ x. s.holder x) (same_mods i p.0 t) ∙ p.1))
-    | inr t ↦ rw t p.1
-  ],
-)
+hold-other s i k n free p = search (rules, cases_Bool, none-some, same_mods)
 
 -- a key that lets go leaves each other holder as it was
 let_go-other : (s : State) (i : Modifier) (k n : ℕ) → Holds s k i → k == n ≡ false → HoldsSome s n
     → HoldsSome (with_holder s i None) n
-let_go-other s i k n holds ne p = (
-  p.0,
-  elim (cases_Bool (same_modifier i p.0)) [
-    | inl t ↦
-        let e : k ≡ n = same_Some k n (sym holds ∙ ap (λ x. s.holder x) (same_mods i p.0 t) ∙ p.1) in
-        absurd (true≢false (sym (eq-eqb k n e) ∙ ne))
-    | inr t ↦ rw t p.1
-  ],
-)
+let_go-other s i k n holds ne p = search (rules, cases_Bool, same_Some, same_mods, eq-eqb)
 
 -- the moves
 exact-hold : (r : List ResolvedEvent) (s : State) (k : ℕ) (i : Modifier) → Exact r s → IsIdle s k → s.holder i ≡ None
@@ -93,10 +79,7 @@ up_again false x e = rw e refl
 pub tap-only : (r now : List ResolvedEvent) (s : State) (k : ℕ) → Exact r s
     → ((n : ℕ) → k == n ≡ false → remembered n now ≡ remembered n r) → (n : ℕ) (a : Action)
     → remembered n (ReleasedKey k ∷ now) ≡ Some a → HoldsSome s n
-tap-only r now s k x same n a q = elim (cases_Bool (k == n)) [
-  | inl t ↦ absurd (none-some a (rw (remembered-release n k now, t) at q))
-  | inr t ↦ x.only n a (rw (remembered-release n k now, t, same n t) at q)
-]
+tap-only r now s k x same n a q = search (rules, cases_Bool, none-some, remembered-release)
 
 -- a press and release of an idle key that turns a lock
 exact-turn : (r : List ResolvedEvent) (s : State) (k : ℕ) (l : Lock) → Exact r s → IsIdle s k
@@ -130,11 +113,7 @@ exact-let_go r s k i x holds = record {
 -- a load, where nothing is held
 exact-exchange : (m : MapValue) (r : List ResolvedEvent) (s : State) → Exact r s → IsFree s
     → Exact (WasLoaded m ∷ r) (exchanged m s)
-exact-exchange m r s x free = record {
-  follows = follows-load m r s x.follows.locked free;
-  only = λ k a e. absurd (none-some a (sym (remembered-load k m r) ∙ e));
-  up = λ l. held-load (holding.Lock l) m r;
-}
+exact-exchange m r s x free = search (rules, follows-load, none-some, remembered-load, held-load)
 
 -- a press, by what is looked up
 pub pressed-look : (u : Under) (h : List Event) (s : State) (k : ℕ) (x : Cell) → Follows (resolved u.maps h) s
@@ -144,10 +123,7 @@ pressed-look u h s k x f second seen = search (rules, resolved-more, follows-loo
 
 -- what is pressed after a press and release of a key was before
 pub tapped-pressed : (h : List Event) (k n : ℕ) → pressed n (Release k ∷ Press k ∷ h) ≡ true → pressed n h ≡ true
-tapped-pressed h k n p = elim (cases_Bool (k == n)) [
-  | inl t ↦ absurd (false≢true (rw (pressed-release n k (Press k ∷ h), t) at p))
-  | inr t ↦ rw (pressed-release n k (Press k ∷ h), t, pressed-press n k h, t) at p
-]
+tapped-pressed h k n p = search (rules, cases_Bool, pressed-release, pressed-press)
 
 -- the events of a move lead from a state to the next
 pub stands-move : (u : Under) (h : List Event) (s : State) (move : Move) → IsMove u s move → Stands u h s
@@ -226,27 +202,23 @@ pub stands-from : (u : Under) (h : List Event) (s : State) (path : List Move) �
     → Stands u (events_along path ++ h) (state_from u s path)
 stands-from u h s [] x is = x
 stands-from u h s (move ∷ path) x is =
-    rw (append_assoc (events_of_move move) (events_along path) h)
-    (stands-move u (events_along path ++ h) (state_from u s path) move is.0 (stands-from u h s path x is.1))
+    search (rules, append_assoc, stands-move, stands-from u h s path x is.1)
 
 -- After a reset a console of one map stands in the free state with the locks that are on.
 pub stands-reset : (m : MapValue) (h : List Event) → HasKeys h → HasNoLoads h
     → Stands (alone m) (Reset ∷ h) (free_with (λ l. is_locked_after (between m m) l h))
-stands-reset m h keys none = record {
-  exact = rw (resolved-more (between m m) h Reset) (record {
-    follows = record {
-      on = λ i. held-reset (holding.Mod i) (resolved (between m m) h);
-      locked = λ l. locked-reset l (resolved (between m m) h);
-      holds = λ i k e. absurd (none-some k e);
-    };
-    only = λ k a e. absurd (none-some a (sym (remembered-reset k (resolved (between m m) h)) ∙ e));
-    up = λ l. held-reset (holding.Lock l) (resolved (between m m) h);
-  });
-  second = sym (no_loads-first h none);
-  key = λ i k e. absurd (none-some k e);
-  pressed = λ k p. absurd (true≢false (sym p ∙ pressed-reset k h));
-  keys = All-cons HasKey Reset h tt keys;
-}
+stands-reset m h keys none =
+    search (
+      rules,
+      resolved-more,
+      held-reset,
+      locked-reset,
+      none-some,
+      remembered-reset,
+      no_loads-first,
+      pressed-reset,
+      All-cons,
+    )
 
 -- The modifier is on, and no key remembers it.
 pub record IsLeft (ms : Maps) (h : List Event) (i : Modifier) : Type 0 where
@@ -315,8 +287,7 @@ left-releases : (ms : Maps) (h : List Event) (s : State) (i : Modifier) (more : 
     → ((j : Modifier) (k : ℕ) → Holds s k j → k < 128) → IsLeft ms h i → IsLeft ms (releases s more ++ h) i
 left-releases ms h s i [] key x = x
 left-releases ms h s i (j ∷ more) key x =
-    rw (apart (s.holder j) (releases s more) h)
-    (left_more ms (releases s more ++ h) i (s.holder j) (key j) (left-releases ms h s i more key x))
+    search (rules, apart, left_more, left-releases ms h s i more key x)
 
 -- after the releases no holder of those modifiers is pressed
 abbrev HoldsNone : State → ℕ → List Modifier → Type 0
@@ -327,11 +298,7 @@ HoldsNone s k (i ∷ more) = (Holds s k i → ⊥) × HoldsNone s k more
 released_more : (k : ℕ) (h : List Event) (o : Option ℕ) → pressed k (release_of o ++ h) ≡ true
     → (o ≡ Some k → ⊥) × (pressed k h ≡ true)
 released_more k h None p = ((λ e. none-some k e), p)
-released_more k h (Some j) p =
-    elim (cases_Bool (j == k)) [
-      | inl t ↦ absurd (false≢true (rw (pressed-release k j h, t) at p))
-      | inr t ↦ ((λ e. true≢false (sym (eq-eqb j k (same_Some j k e)) ∙ t)), rw (pressed-release k j h, t) at p)
-    ]
+released_more k h (Some j) p = search (rules, cases_Bool, pressed-release, eq-eqb, same_Some)
 
 -- a key that is pressed after the releases of all holders is none of them
 released : (k : ℕ) (h : List Event) (s : State) (more : List Modifier) → pressed k (releases s more ++ h) ≡ true
@@ -377,9 +344,7 @@ sent-release u (Some k) h x = All-cons (IsSent u.has_loads) (Release k) h tt x
 sent-releases : (u : Under) (s : State) (more : List Modifier) (h : List Event) → All (IsSent u.has_loads) h
     → All (IsSent u.has_loads) (releases s more ++ h)
 sent-releases u s [] h x = x
-sent-releases u s (i ∷ more) h x =
-    rw (apart (s.holder i) (releases s more) h)
-    (sent-release u (s.holder i) (releases s more ++ h) (sent-releases u s more h x))
+sent-releases u s (i ∷ more) h x = search (rules, apart, sent-release, sent-releases u s more h x)
 
 -- the events of a move are sent
 sent-move : (u : Under) (s : State) (move : Move) (h : List Event) → IsMove u s move → All (IsSent u.has_loads) h
@@ -403,9 +368,7 @@ presses-release (Some k) h = refl
 -- releases of holders have no presses
 presses-releases : (s : State) (more : List Modifier) (h : List Event) → presses (releases s more ++ h) ≡ presses h
 presses-releases s [] h = refl
-presses-releases s (i ∷ more) h =
-    ap presses (apart (s.holder i) (releases s more) h) ∙ presses-release (s.holder i) (releases s more ++ h)
-    ∙ presses-releases s more h
+presses-releases s (i ∷ more) h = search (rules, apart, presses-release, presses-releases s more h)
 
 -- the events of a move have as many presses as the move
 presses-move : (move : Move) (h : List Event) → presses (events_of_move move ++ h) ≡ presses h + presses_of move
@@ -535,17 +498,11 @@ reached-more u s move there is =
 
 -- moves keep the states that are reached
 pub reached-kept : (u : Under) (n : ℕ) → IsKeptBelow u n (λ p s. Reached u s)
-reached-kept u n = record {
-  led = record { more = λ p s there. there; moved = λ p q s move e lt there is. reached-more u s move there is };
-  start = ([], tt, refl);
-}
+reached-kept u n = search (rules, reached-more)
 
 -- where no path leads to a holder that looks up a character, they are safe
 pub reached-safe : (u : Under) → NeverForgets u → (n : ℕ) → IsSafeBelow u n (λ p s. Reached u s)
-reached-safe u never n = record {
-  kept = reached-kept u n;
-  safe = λ p lt s there forgetful. never there.0 there.1 (subst (λ x. IsForgetful u x) (sym there.2) forgetful);
-}
+reached-safe u never n = search (rules, reached-kept)
 
 -- without such a path no modifier ever sticks
 pub never-unless_reached : (u : Under) → NeverForgets u → NeverIn u

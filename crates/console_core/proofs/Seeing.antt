@@ -2,13 +2,13 @@
 -- where it is offered.
 use Rattle.console_core.proofs.Common.{cases_Bool, none-some, suc, ◌≡◌, ℕ, ◌<◌, Bool, true, false, List, [], ◌∷◌}
 use Rattle.console_core.proofs.Common.{Option, Some, None, refl, ap, subst, sym, ◌∙◌, ◌⊎◌, inl, inr, arith}
-use Rattle.console_core.proofs.Common.{if◌then◌else◌, true≢false, All-head, All-tail, Action, Modifier, Lock, Cell}
+use Rattle.console_core.proofs.Common.{if◌then◌else◌, true≢false, All-head, All-tail, Action, Modifier, Cell}
 use Rattle.console_core.proofs.Common.{Char, Act, Event, Press, Release, Reset, Load, Sight, Move, Hold, Turn, LetGo}
 use Rattle.console_core.proofs.Common.{PressedAction, ReleasedKey, same_Some, same_action, holding_action, MapValue}
-use Rattle.console_core.proofs.Common.{same_action-true, usable, is_pending, ResolvedEvent, on, locked, look}
-use Rattle.console_core.proofs.Common.{remembered, taken_over, pending, keeps_taken, usable_dead_key, resolve_press}
+use Rattle.console_core.proofs.Common.{same_action-true, usable, ResolvedEvent, on, locked, look}
+use Rattle.console_core.proofs.Common.{remembered, taken_over, pending, usable_dead_key, resolve_press}
 use Rattle.console_core.proofs.Common.{next_pending, pending_after_dead_key, between, resolved, is_second_in_force}
-use Rattle.console_core.proofs.Common.{HasKey, IsNoLoad, Under, alone, State, is_held, IsIdle, look_in, state_after}
+use Rattle.console_core.proofs.Common.{HasKey, IsNoLoad, Under, alone, State, IsIdle, look_in, state_after}
 use Rattle.console_core.proofs.Common.{NeverForgets, presses, selection_of, IsForgetful, IsAdmitted, SeesBy}
 use Rattle.console_core.proofs.Common.{IsOfferedIn, Follows, IsBehind, fun_ext, rules}
 use Rattle.console_core.specs.Sights.{selection_with, selection_after, LooksAreSelected, SightsAreReachable}
@@ -49,10 +49,7 @@ keeps-held m true k h never (keys, none, clean) t there f is =
 pub admitted-spared : (m : MapValue) (forgets : Bool) (n : ℕ) (S : State → Type 0)
     → (forgets ≡ false → NeverForgets (alone m)) → ((t : State) → S t → Reached (alone m) t)
     → AreSpared (alone m) n (λ p t. S t) (IsAdmitted m forgets)
-admitted-spared m forgets n S never reached = record {
-  fewer = λ e h admitted. admitted-before m forgets e h admitted;
-  keeps = λ h k admitted lt t there f is. keeps-held m forgets k h never admitted t (reached t there) f is;
-}
+admitted-spared m forgets n S never reached = search (rules, admitted-before, keeps-held)
 
 -- the console stands in a state that a path leads to
 abbrev pub Stands : MapValue → List Event → Type 0
@@ -71,10 +68,7 @@ stands-in m forgets h never admitted =
 -- the selection after the list is that of the state
 pub follows-selection : (r : List ResolvedEvent) (s : State) → Follows r s
     → selection_with (λ i. on i r) (λ l. locked l r) ≡ selection_of s
-follows-selection r s f =
-    let e : (λ (i : Modifier). on i r) ≡ (λ i. is_held s i) = fun_ext (λ i. f.on i) in
-    let g : (λ (l : Lock). locked l r) ≡ (λ l. s.is_locked l) = fun_ext (λ l. f.locked l) in
-    ap (λ x. selection_with x (λ l. locked l r)) e ∙ ap (λ y. selection_with (λ i. is_held s i) y) g
+follows-selection r s f = search (rules, fun_ext)
 
 -- so a press sees there what it sees after the list
 stands-sees : (m : MapValue) (h : List Event) (s : State) (path : List Move) (k : ℕ) (x : Sight)
@@ -105,26 +99,15 @@ Takes m p a i = (p ≡ Some i) ⊎ ((a ≡ act.DeadKey i) × (usable m i ≡ tru
 
 pub pends : (d : Option ℕ) (p : Option ℕ) (i : ℕ) → pending_after_dead_key d p ≡ Some i → d ≡ Some i
 pends None p i e = let g : None ≡ Some i = e in cc
-pends (Some j) p i e = elim (cases_Bool (is_pending j p)) [
-  | inl t ↦ absurd (none-some i (rw t at e))
-  | inr t ↦ rw t at e
-]
+pends (Some j) p i e = search (rules, cases_Bool, none-some)
 
 usable-dead : (m : MapValue) (a : Action) (i : ℕ) → usable_dead_key m a ≡ Some i
     → (a ≡ act.DeadKey i) × (usable m i ≡ true)
-usable-dead m (act.DeadKey j) i e = elim (cases_Bool (usable m j)) [
-  | inl t ↦
-      let g : j ≡ i = same_Some j i (rw t at e) in
-      (ap (λ n. act.DeadKey n) g, subst (λ n. usable m n ≡ true) g t)
-  | inr t ↦ absurd (none-some i (rw t at e))
-]
+usable-dead m (act.DeadKey j) i e = search (rules, cases_Bool, same_Some, none-some)
 usable-dead m a i e = let g : None ≡ Some i = e in cc
 
 pub takes-pending : (m : MapValue) (p : Option ℕ) (a : Action) (i : ℕ) → next_pending m p a ≡ Some i → Takes m p a i
-takes-pending m p a i e = elim (cases_Bool (keeps_taken a)) [
-  | inl t ↦ inl (rw t at e)
-  | inr t ↦ inr (usable-dead m a i (pends (usable_dead_key m a) p i (rw t at e)))
-]
+takes-pending m p a i e = search (rules, cases_Bool, usable-dead, pends)
 
 -- ---- where an accent is pending
 
@@ -184,18 +167,13 @@ behind-release m r k i (s, behind, f) =
 pends-behind : (m : MapValue) (forgets : Bool) (h : List Event) (i : ℕ) → (forgets ≡ false → NeverForgets (alone m))
     → IsAdmitted m forgets h → pending m (resolved (between m m) h) ≡ Some i
     → StandsBehind m i (resolved (between m m) h)
-pends-behind m forgets [] i never admitted e =
-    let g : None ≡ Some i =
-    sym (pending-start m) ∙ ap (λ r. pending m r) (sym (resolved-start (between m m))) ∙ e in
-    cc
+pends-behind m forgets [] i never admitted e = search (rules, pending-start, resolved-start)
 pends-behind m forgets (Release k ∷ h) i never admitted e =
     let r : List ResolvedEvent = resolved (between m m) h in
     rw (resolved-more (between m m) h (Release k)) (behind-release m r k i
     (pends-behind m forgets h i never (admitted-before m forgets (Release k) h admitted)
     (sym (pending-release m k r) ∙ ap (λ r. pending m r) (sym (resolved-more (between m m) h (Release k))) ∙ e)))
-pends-behind m forgets (Reset ∷ h) i never admitted e =
-    let g : None ≡ Some i = cc (pending-reset m (resolved (between m m) h), resolved-more (between m m) h Reset, e) in
-    cc
+pends-behind m forgets (Reset ∷ h) i never admitted e = search (rules, pending-reset, resolved-more)
 pends-behind m forgets (Load ∷ h) i never admitted e =
     absurd (true≢false (All-head IsNoLoad Load h admitted.1))
 pends-behind m forgets (Press k ∷ h) i never admitted e =

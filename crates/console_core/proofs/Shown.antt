@@ -1,6 +1,6 @@
 -- What can be seen is seen by a press after a clean list of presses and releases.
 use Rattle.console_core.proofs.Common.{◌≡◌, ◌<◌, ℕ, true, false, List, [], ◌∷◌, ◌++◌, All, Some, None, refl, ap, subst}
-use Rattle.console_core.proofs.Common.{sym, ◌∙◌, append_assoc, false≢true, All-nil, All-cons, none-some, MapValue}
+use Rattle.console_core.proofs.Common.{◌∙◌, append_assoc, false≢true, All-nil, All-cons, none-some, MapValue}
 use Rattle.console_core.proofs.Common.{Modifier, Act, Char, Event, Press, Release, Move, Hold, Turn, LetGo, Exchange}
 use Rattle.console_core.proofs.Common.{Sight, between, resolved, pressed, HasNoLoads, IsNoLoad, Under, alone, State}
 use Rattle.console_core.proofs.Common.{start, IsIdle, IsMove, IsPath, IsPathFrom, look_in, state_after, state_from}
@@ -56,10 +56,7 @@ plain-more m h e sent no_load releases free x = record {
     by : (later before : List Event) (j : ℕ) (i : Modifier) → e ∷ h ≡ later ++ Press j ∷ before
         → remembered j (resolved (between m m) before) ≡ Some (act.Mod i)
         → {c : ℕ} → look_after (between m m) j before ≡ Char c → ⊥
-    by [] before j i at held seen =
-        let first : e ≡ Press j = let f : e ∷ h ≡ Press j ∷ before = at in cc in
-        let rest : h ≡ before = tail-same e (Press j) h before at in
-        free j i first (ap (λ g. remembered j (resolved (between m m) g)) rest ∙ held)
+    by [] before j i at held seen = search (rules, tail-same)
     by (d ∷ later) before j i at held seen = search (rules, tail-same)
 
 -- a press of a key that remembers nothing
@@ -90,9 +87,7 @@ plain-along : (m : MapValue) (h : List Event) (s : State) (path : List Move) →
     → IsPathFrom (alone m) s path → IsPlain m h → IsPlain m (events_along path ++ h)
 plain-along m h s [] x is plain = plain
 plain-along m h s (move ∷ path) x is plain =
-    subst (λ g. IsPlain m g) (sym (append_assoc (events_of_move move) (events_along path) h))
-    (plain-move m (events_along path ++ h) (state_from (alone m) s path) move (stands-from (alone m) h s path x is.1)
-    is.0 (plain-along m h s path x is.1 plain))
+    search (rules, append_assoc, plain-move, stands-from, plain-along m h s path x is.1 plain)
 
 -- After the list the console stands in the state; the list is plain.
 record IsShort (m : MapValue) (h : List Event) (s : State) : Type 0 where
@@ -100,17 +95,11 @@ record IsShort (m : MapValue) (h : List Event) (s : State) : Type 0 where
   plain : IsPlain m h
 
 short-start : (m : MapValue) → IsShort m [] start
-short-start m = record {
-  stands = stands-start (alone m);
-  plain = plain-start m;
-}
+short-start m = search (rules, stands-start, plain-start)
 
 short-along : (m : MapValue) (h : List Event) (s : State) (path : List Move) → IsShort m h s
     → IsPathFrom (alone m) s path → IsShort m (events_along path ++ h) (state_from (alone m) s path)
-short-along m h s path x is = record {
-  stands = stands-from (alone m) h s path x.stands is;
-  plain = plain-along m h s path x.stands is x.plain;
-}
+short-along m h s path x is = search (rules, stands-from, plain-along)
 
 short-tap : (m : MapValue) (h : List Event) (s : State) (k accent : ℕ) → IsShort m h s → k < 128 → IsIdle s k
     → look_in (alone m) s k ≡ Act (act.DeadKey accent) → IsShort m (Release k ∷ Press k ∷ h) s

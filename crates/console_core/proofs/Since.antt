@@ -2,7 +2,7 @@
 use Rattle.console_core.proofs.Common.{◌≡◌, ℕ, Bool, false, true, ◌&&◌, List, [], ◌∷◌, ◌++◌, Option, None, Some, refl}
 use Rattle.console_core.proofs.Common.{ap, sym, ◌∙◌, if◌then◌else◌, append_assoc, ◌==◌, option_or, is_some}
 use Rattle.console_core.proofs.Common.{none-some, Action, Cell, Char, Act, Event, Press, Release, Reset, Load}
-use Rattle.console_core.proofs.Common.{resolve_press, remembered, look, unless_nop, Maps, in_force, resolved}
+use Rattle.console_core.proofs.Common.{resolve_press, remembered, unless_nop, Maps, resolved}
 use Rattle.console_core.proofs.Common.{remembered_after, NoneOf, option_or-none, rules}
 use Rattle.console_core.specs.Positions.{first_since_at}
 use Rattle.console_core.specs.Reading.{forgets_at, offers_at, IsSinceLast, is_character, offered, FirstSince}
@@ -37,13 +37,9 @@ pub remembered-events : (ms : Maps) (k : ℕ) (h : List Event)
     → first_since_at (forgets_at ms k) (offers_at ms k) h ≡ remembered_after ms k h
 remembered-events ms k [] = sym (ap (λ r. remembered k r) (resolved-start ms) ∙ remembered-start k)
 remembered-events ms k (Press j ∷ h) =
-    remembered_press ms k j h (look (in_force ms h) (resolved ms h) j)
-    (first_since_at (forgets_at ms k) (offers_at ms k) h)
-    (remembered-events ms k h)
-    ∙ sym (ap (λ r. remembered k r) (resolved-more ms h (Press j)))
+    search (rules, remembered_press, resolved-more, remembered-events ms k h)
 remembered-events ms k (Release j ∷ h) =
-    ap (λ o. if j == k then None else o) (option_or-none _ ∙ remembered-events ms k h)
-    ∙ sym (ap (λ r. remembered k r) (resolved-more ms h (Release j)) ∙ remembered-release k j (resolved ms h))
+    search (rules, option_or-none, resolved-more, remembered-release, remembered-events ms k h)
 remembered-events ms k (Reset ∷ h) = cc (resolved-more ms h Reset, remembered-reset k (resolved ms h))
 remembered-events ms k (Load ∷ h) = cc (resolved-more ms h Load, remembered-load k _ (resolved ms h))
 

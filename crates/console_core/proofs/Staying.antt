@@ -3,7 +3,7 @@ use Rattle.console_core.proofs.Common.{suc, ◌≡◌, ℕ, ◌+◌, ◌<◌, �
 use Rattle.console_core.proofs.Common.{none-some, [], ◌∷◌, Option, Some, None, refl, ap, subst, sym, ◌∙◌, inl, inr}
 use Rattle.console_core.proofs.Common.{arith, if◌then◌else◌, ◌==◌, and-true, and-false, eqb-true, eq-eqb, cases_Bool}
 use Rattle.console_core.proofs.Common.{cases_lt, true≢false, false_from_ne_true, All-head, All-tail, same_action}
-use Rattle.console_core.proofs.Common.{same_modifier, append-nil, ◌++◌, same_lock, holding_action, is_borne, MapValue}
+use Rattle.console_core.proofs.Common.{same_modifier, append-nil, ◌++◌, same_lock, holding_action, MapValue}
 use Rattle.console_core.proofs.Common.{same_action-true, same_action-refl, look_with, ResolvedEvent}
 use Rattle.console_core.proofs.Common.{held, locked, on, remembered, taken_over, is_this_action, look, resolve}
 use Rattle.console_core.proofs.Common.{resolve_press, PressedCharacter, PressedAction, ReleasedKey, WasReset, WasLoaded}
@@ -235,11 +235,7 @@ KeepsHeld u s k = (i : Modifier) → HolderForgets u s i k → ⊥
 -- a modifier is let go, whether it has a holder or not
 without : (S : State → Type 0) → KeepsLetGo S → (s : State) (i : Modifier) (o : Option ℕ) → s.holder i ≡ o → S s
     → S (with_holder s i None)
-without S keeps s i None e there =
-    subst S (same_states s (with_holder s i None) (λ j. elim (cases_Bool (same_modifier i j)) [
-      | inl t ↦ rw t (ap (λ x. s.holder x) (sym (same_mods i j t)) ∙ e)
-      | inr t ↦ rw t refl
-    ]) (λ l. refl) refl) there
+without S keeps s i None e there = search (rules, same_states, cases_Bool, same_mods)
 without S keeps s i (Some k) e there = keeps s k i there e
 
 -- a press that takes a modifier leads from a set to the next
@@ -367,11 +363,7 @@ stays-reset S keeps r s there f = (
 -- a load, where nothing is held
 pub follows-load : (m : MapValue) (r : List ResolvedEvent) (s : State) → ((l : Lock) → locked l r ≡ s.is_locked l)
     → IsFree s → Follows (WasLoaded m ∷ r) (exchanged m s)
-follows-load m r s locks free = record {
-  on = λ i. held-load (holding.Mod i) m r ∙ ap (λ o. is_some o) (sym (free i));
-  locked = λ l. locked-load l m r ∙ ap (λ b. is_borne m (holding.Lock l) && b) (locks l);
-  holds = λ i k h. absurd (none-some k (sym (free i) ∙ h));
-}
+follows-load m r s locks free = search (rules, held-load, locked-load, none-some)
 
 -- exchanging the maps, where nothing is held, doesn't leave the set
 abbrev KeepsExchange : Under → (State → Type 0) → Type 0
@@ -390,11 +382,7 @@ stays-load u S keeps exchanges loads r s there f = (
 
 -- no events lead to the start
 pub follows-start : Follows [] start
-follows-start = record {
-  on = λ i. held-start (holding.Mod i);
-  locked = λ l. locked-start l;
-  holds = λ i k h. absurd (none-some k h);
-}
+follows-start = search (rules, held-start, locked-start, none-some)
 
 -- Sets of states by how many presses lead to them: below n a move leads from a set to that of its presses more.
 pub record AreLed (u : Under) (n : ℕ) (S : ℕ → State → Type 0) : Type 0 where
@@ -562,10 +550,4 @@ never-sticks u S safe h keys admitted =
 pub sticks-late : (u : Under) (n : ℕ) (S : ℕ → State → Type 0) → IsSafeBelow u n S → (h : List Event) → HasKeys h
     → Admits u h → (i : Modifier) → IsQuiet h → is_on_after u.maps i h ≡ true → n < presses h
 sticks-late u n S safe h keys admitted i quiet on =
-    elim (cases_lt n (presses h)) [
-      | inl lt ↦ lt
-      | inr le ↦
-          let off : is_on_after u.maps i h ≡ false =
-          off-once_quiet (in_force u.maps h) u.maps h (within-on u n S safe h keys admitted le) quiet i in
-          absurd (true≢false (sym on ∙ off))
-    ]
+    search (rules, cases_lt, off-once_quiet, within-on)

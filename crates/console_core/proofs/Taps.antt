@@ -8,7 +8,7 @@ use Rattle.console_core.proofs.Common.{Char, Act, Event, Press, Release, Answer,
 use Rattle.console_core.proofs.Common.{Symbol, usable, answer_char, answer_action, answer_release, ResolvedEvent}
 use Rattle.console_core.proofs.Common.{remembered, taken_over, pending, is_this_action, resolve_press, unless_nop}
 use Rattle.console_core.proofs.Common.{PressedCharacter, PressedAction, ReleasedKey, next_pending, between, resolved}
-use Rattle.console_core.proofs.Common.{is_second_in_force, accent_pending_after, HasKey, is_on_after, answer_to}
+use Rattle.console_core.proofs.Common.{is_second_in_force, accent_pending_after, is_on_after, answer_to}
 use Rattle.console_core.proofs.Common.{remembered_after, look_after, answer_to_look, Under, alone, State, Holds, IsIdle}
 use Rattle.console_core.proofs.Common.{IsMove, look_in, is_held, with_holder, IsPathFrom, state_from, events_along}
 use Rattle.console_core.proofs.Common.{events_of_move, IsTapOf, composed_of, types_something, plainly, LetsGo}
@@ -71,31 +71,14 @@ lets-go-some s h now t n i k x at holds = record {
 pub lets-go-none : (s : State) (h now : List Event) (t : State) (n : ℕ) (i : Modifier) → LetsGoTo s h now t n
     → ((j : Modifier) → modifier_index j ≡ n → i ≡ j) → t.holder i ≡ None
     → LetsGoTo s h now t (n + 1)
-lets-go-none s h now t n i x at none = record {
-  path = x.path;
-  is = x.is;
-  leads = x.leads;
-  gone = λ j lt. elim (place_last (modifier_index j) n lt) [
-    | inl below ↦ x.gone j below
-    | inr e ↦ ap (λ z. t.holder z) (sym (at j e)) ∙ none
-  ];
-  locks = x.locks;
-  second = x.second;
-  events = x.events;
-}
+lets-go-none s h now t n i x at none = search (rules, place_last)
 
 below_eight : (i : Modifier) → modifier_index i < 8
 below_eight Meta = omega arith
 below_eight _ = omega arith
 
 pub lets-go-all : (s : State) (h now : List Event) (t : State) → LetsGoTo s h now t 8 → LetsGo s h now t
-lets-go-all s h now t x = record {
-  path = x.path;
-  is = x.is;
-  leads = x.leads;
-  freed = same_states _ _ (λ i. x.gone i (below_eight i)) (λ l. ap (λ z. z l) x.locks) x.second;
-  events = x.events;
-}
+lets-go-all s h now t x = search (rules, same_states, below_eight)
 
 -- ---- a tap of a key
 
@@ -140,14 +123,8 @@ exact-action r s k a x idle plain =
 pub stands-tapped : (u : Under) (h : List Event) (s : State) (k : ℕ) (c : Cell) → k < key_count → Stands u h s
     → look_in u s k ≡ c → Exact (ReleasedKey k ∷ (resolve_press k c ∷ resolved u.maps h)) s
     → Stands u (Release k ∷ Press k ∷ h) s
-stands-tapped u h s k c lt st seen exact = record {
-  exact =
-      rw (resolved-more u.maps (Press k ∷ h) (Release k), pressed-look u h s k c st.exact.follows st.second seen) exact;
-  second = st.second;
-  key = st.key;
-  pressed = λ n p. st.pressed n (tapped-pressed h k n p);
-  keys = All-cons HasKey (Release k) (Press k ∷ h) lt (All-cons HasKey (Press k) h lt st.keys);
-}
+stands-tapped u h s k c lt st seen exact =
+    search (rules, resolved-more, pressed-look, tapped-pressed, All-cons)
 
 -- after a tap the console stands as before
 pub stands-tap : (u : Under) (h : List Event) (s : State) (plain : Bool) (x : Symbol) (k : ℕ) → Stands u h s
@@ -212,10 +189,7 @@ typed-path : (m : MapValue) (h : List Event) (s : State) (path : List Move) → 
     → typed_along m (events_along path ++ h) ≡ typed_along m h
 typed-path m h s [] st is = refl
 typed-path m h s (move ∷ path) st is =
-    ap (λ g. typed_along m g) (append_assoc (events_of_move move) (events_along path) h)
-    ∙ typed-move m (events_along path ++ h) (state_from (alone m) s path) move is.0
-    (stands-from (alone m) h s path st is.1)
-    ∙ typed-path m h s path st is.1
+    search (rules, append_assoc, typed-move, stands-from, typed-path m h s path st is.1)
 
 -- ---- what is typed
 

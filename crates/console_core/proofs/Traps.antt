@@ -73,16 +73,7 @@ press-kept : (m : MapValue) (i : Modifier) (j : ℕ) (r : List ResolvedEvent) (x
     → ((c : ℕ) → x ≡ Char c → on i r ≡ true → IsCellOf m j (Act (act.Mod i)) → j < 128 → ⊥)
     → on i (resolve_press j x ∷ r) ≡ true → RememberedBySome (holding.Mod i) (resolve_press j x ∷ r)
 press-kept m i j r (Char c) all f trap h =
-    let o : on i r ≡ true = sym (held-character (holding.Mod i) j c r) ∙ h in
-    let s : RememberedBySome (holding.Mod i) r = f o in
-    let b : (s.0 < 128) × IsCellOf m s.0 (Act (act.Mod i)) = remembered-cell m r s.0 (act.Mod i) all s.1 in
-    elim (cases_Bool (j == s.0)) [
-      | inl e ↦
-          let q : j ≡ s.0 = eqb-true j s.0 e in
-          absurd (trap c refl o (subst (λ y. IsCellOf m y (Act (act.Mod i))) (sym q) b.1)
-          (subst (λ y. y < 128) (sym q) b.0))
-      | inr e ↦ (s.0, rw (remembered-character s.0 j c r, e) s.1)
-    ]
+    search (rules, held-character, remembered-cell, cases_Bool, eqb-true, remembered-character)
 press-kept m i j r (Act b) all f trap h =
     elim (or_cases (same_action (taken_over (remembered j r) b) (act.Mod i)) (on i r)
     (sym (held-action (holding.Mod i) j b r) ∙ h)) [

@@ -1,8 +1,8 @@
 -- What the search answers of a keymap twice: a load is then a reset.
-use Rattle.console_core.proofs.Common.{suc, ◌≡◌, ℕ, ◌<◌, ◌≤◌, arith, true, List, [], ◌∷◌, refl, ap, subst}
+use Rattle.console_core.proofs.Common.{suc, ◌≡◌, ℕ, ◌<◌, ◌≤◌, arith, List, [], ◌∷◌, refl, ap, rules}
 use Rattle.console_core.proofs.Common.{sym, ◌∙◌, reverse, true≢false, All-nil, All-cons, All-head}
 use Rattle.console_core.proofs.Common.{All-tail, Modifier, Event, Press, Release, Reset, Load, Sticks, Never, Undecided}
-use Rattle.console_core.proofs.Common.{MapValue, alone, with_loads, between, is_on_after, pressed, HasKey, HasKeys}
+use Rattle.console_core.proofs.Common.{MapValue, alone, with_loads, between, pressed, HasKey, HasKeys}
 use Rattle.console_core.proofs.Common.{IsNoLoad, HasNoLoads, as_reset, loads_as_resets, AreUnder, SticksUnder, presses}
 use Rattle.console_core.specs.Sticking.{AnswersAlikeOfOneKeymap}
 use Rattle.console_core.proofs.OneMore.{pressed-press, pressed-release, pressed-reset, pressed-load}
@@ -35,8 +35,7 @@ key_alike Load key = tt
 keys_alike : (h : List Event) → HasKeys h → HasKeys (loads_as_resets h)
 keys_alike [] keys = keys
 keys_alike (e ∷ h) keys =
-    All-cons HasKey (as_reset e) (loads_as_resets h) (key_alike e (All-head HasKey e h keys))
-    (keys_alike h (All-tail HasKey e h keys))
+    search (rules, All-cons, key_alike, All-head, All-tail, keys_alike h (All-tail HasKey e h keys))
 
 reset_is_no_load : (e : Event) → IsNoLoad (as_reset e)
 reset_is_no_load (Press k) = refl
@@ -58,10 +57,7 @@ sticks_alone m h i keys (quiet, on) = (
 -- and what sticks under it alone sticks between it and itself
 sticks_twice : (m : MapValue) (h : List Event) (i : Modifier) → SticksUnder (alone m) h i
     → SticksUnder (with_loads (between m m)) h i
-sticks_twice m h i (quiet, on) = (
-  quiet,
-  (λ ms under. subst (λ n. is_on_after n i h ≡ true) (sym (under.1 refl)) (on (between m m) (under-self (alone m)))),
-)
+sticks_twice m h i (quiet, on) = search (rules, under-self)
 
 -- of a keymap twice the search answers as of the keymap alone
 pub answers_alike : AnswersAlikeOfOneKeymap
@@ -83,8 +79,7 @@ answers_alike m (Sticks events on) Never ((keys, made, (i, sticks)), fewest, rel
     ∙ (never (between m m) h two keys (all-admitted (between m m) h)).1 twice.0 i)
 answers_alike m (Sticks events on) (Undecided p) ((keys, made, (i, sticks)), fewest, releases, are_on)
     (reaches, none_by) =
-    none_by (reverse events.items) keys (all-admitted (between m m) (reverse events.items)) i
-    (sticks_twice m (reverse events.items) i sticks)
+    search (rules, all-admitted, sticks_twice)
 answers_alike m Never (Sticks events on) never ((keys, made, (i, sticks)), fewest, releases, are_on) =
     let h : List Event = reverse events.items in
     let one : AreUnder (alone m) (between m m) = under-self (alone m) in

@@ -1,13 +1,13 @@
 -- Characters typed one after another, and that a console is as new behind them.
 use Rattle.console_core.proofs.Common.{zero, suc, ◌≡◌, ◌+◌, ◌<◌, ◌≤◌, ◌⊎◌, ℕ, Bool, drop, inl, inr, true, false, List}
 use Rattle.console_core.proofs.Common.{[], ◌∷◌, ◌++◌, All, Some, None, refl, ap, subst, sym, ◌∙◌, arith, append_assoc}
-use Rattle.console_core.proofs.Common.{map, reverse, take, length, get_or, slice_get, if◌then◌else◌, filter}
+use Rattle.console_core.proofs.Common.{map, reverse, take, length, get_or, slice_get, if◌then◌else◌, filter, rules}
 use Rattle.console_core.proofs.Common.{false_from_ne_true, reverse-append, reverse-reverse, take_more, take_all}
-use Rattle.console_core.proofs.Common.{All-nil, none-some, same_Some, MapValue, Event, Answer, between, resolved}
-use Rattle.console_core.proofs.Common.{answers_to, answer_to, accent_pending_after, pressed, HasKey, HasKeys, alone}
+use Rattle.console_core.proofs.Common.{All-nil, none-some, same_Some, MapValue, Event, Answer, between}
+use Rattle.console_core.proofs.Common.{answers_to, accent_pending_after, HasKey, HasKeys, alone}
 use Rattle.console_core.proofs.Common.{State, start, state_from, events_along, pending, CanType, IsAsNew, plainly}
 use Rattle.console_core.proofs.Common.{types_something, GoesHome, HasTyped, CanReturn, TypesOne, kept_if, typed_along}
-use Rattle.console_core.proofs.Common.{HoldsSome, Stands, append-nil}
+use Rattle.console_core.proofs.Common.{Stands, append-nil}
 use Rattle.std.proofs.Math.Seq.{drop-append_seam}
 use Rattle.std.proofs.lemmas.List.{map_push, length-append, length-map, length-take-le, take-append-le}
 use Rattle.std.proofs.lemmas.List.Elements.{All-push}
@@ -26,14 +26,7 @@ use Rattle.console_core.proofs.Visits.{path-first}
 -- a console that stands at the start, with nothing pending, is as a new one
 pub as-new : (m : MapValue) (h : List Event) → Stands (alone m) h start → accent_pending_after (between m m) h ≡ None
     → IsAsNew m h
-as-new m h st none = record {
-  quiet = λ k lt. false_from_ne_true (pressed k h) (λ p. let q : HoldsSome start k = st.pressed k p in none-some k q.1);
-  remembered = λ k. idle-none (resolved (between m m) h) start k st.exact (λ i holds. none-some k holds);
-  on = λ i. st.exact.follows.on i;
-  down = λ l. st.exact.up l;
-  locked = λ l. st.exact.follows.locked l;
-  pending = none;
-}
+as-new m h st none = search (rules, false_from_ne_true, none-some, idle-none)
 
 -- the answers that type something, in their order
 kept-filter : (t : Bool) (a : Answer) (xs ys : List Answer)
@@ -45,10 +38,7 @@ answers-along : (m : MapValue) (h es : List Event)
     → typed_along m (reverse es ++ h)
     ≡ reverse (filter types_something (answers_to (between m m) h es)) ++ typed_along m h
 answers-along m h [] = refl
-answers-along m h (e ∷ es) =
-    let a : Answer = answer_to (between m m) h e in
-    let rest : List Answer = filter types_something (answers_to (between m m) (e ∷ h) es) in
-    cc (reverse-cons e es h, answers-along m (e ∷ h) es, kept-filter (types_something a) a rest (typed_along m h))
+answers-along m h (e ∷ es) = search (rules, reverse-cons, kept-filter, answers-along m (e ∷ h) es)
 
 map-reverse : {A B : Type 0} (f : A → B) (xs : List A) → map f (reverse xs) ≡ reverse (map f xs)
 map-reverse f [] = refl
@@ -149,13 +139,7 @@ types-alone m c s next old now types = record {
 -- and are one behind others
 pub types-behind : (m : MapValue) (c : ℕ) (s next : State) (old es now : List Event)
     → TypesOne m c s [] (reverse es) next → now ≡ old ++ es → TypesOne m c s (reverse old) (reverse now) next
-types-behind m c s next old es now types e = record {
-  can = types.can;
-  can_return = types.can_return;
-  added = types.added;
-  events = cc (e, reverse-append old es, types.events, append-nil types.added);
-  types = types.types;
-}
+types-behind m c s next old es now types e = search (rules, reverse-append, append-nil)
 
 pub typed-one : (m : MapValue) (cs : List ℕ) (place : ℕ) (keyed after : List Keyed) (es now : List Event) (s : State)
     → (k : Keyed) (next : State) → HaveBeenTyped m cs place keyed es s → place < length cs

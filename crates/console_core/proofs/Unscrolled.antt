@@ -1,8 +1,8 @@
 -- No look depends on the scroll lock, so states that differ in it alone lead on alike.
-use Rattle.console_core.proofs.Common.{◌≡◌, ◌⊎◌, inl, inr, ℕ, Bool, ◌&&◌, not, refl, ap, subst, sym, ◌∙◌, if◌then◌else◌}
+use Rattle.console_core.proofs.Common.{◌≡◌, ◌⊎◌, inl, inr, ℕ, Bool, ◌&&◌, not, refl, ap, subst, sym, if◌then◌else◌}
 use Rattle.console_core.proofs.Common.{Modifier, ◌≢◌, Lock, Caps, Num, Scroll, Alt, Move, Hold, Turn, LetGo, Exchange}
 use Rattle.console_core.proofs.Common.{same_lock, is_borne, MapValue, Under, State, with_lock_turned, next_map, IsMove}
-use Rattle.console_core.proofs.Common.{moved, LeavesScroll, but_scroll, unscrolled, fun_ext}
+use Rattle.console_core.proofs.Common.{moved, LeavesScroll, but_scroll, unscrolled, fun_ext, rules}
 use Rattle.keymap_core.specs.declared.action.Holding.TheVariants as holding
 
 -- a move leaves the scroll lock, or turns it
@@ -26,10 +26,7 @@ moves-unscrolled u s t Exchange e is = subst (λ x. IsMove u x Exchange) (sym e)
 -- states with the same holders and locks, and the same map in force, are the same
 pub same_states : (s t : State) → ((i : Modifier) → s.holder i ≡ t.holder i)
     → ((l : Lock) → s.is_locked l ≡ t.is_locked l) → s.is_second ≡ t.is_second → s ≡ t
-same_states s t holders locks second =
-    ap (λ x. record { holder = x; is_locked = s.is_locked; is_second = s.is_second }) (fun_ext holders)
-    ∙ ap (λ x. record { holder = t.holder; is_locked = x; is_second = s.is_second }) (fun_ext locks)
-    ∙ ap (λ x. record { holder = t.holder; is_locked = t.is_locked; is_second = x }) second
+same_states s t holders locks second = search (rules, fun_ext)
 
 -- to drop the scroll lock twice is to drop it
 but_twice : (on : Lock → Bool) (j : Lock) → but_scroll on j ≡ but_scroll (but_scroll on) j

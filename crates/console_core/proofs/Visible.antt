@@ -2,7 +2,7 @@
 use Rattle.console_core.proofs.Common.{suc, ◌≡◌, inl, inr, ℕ, ◌<◌, Bool, true, false, ◌&&◌, List, [], ◌∷◌, refl}
 use Rattle.console_core.proofs.Common.{ap, subst, sym, ◌∙◌, arith, ◌==◌, ◌%◌, Contains, list_any, and_parts}
 use Rattle.console_core.proofs.Common.{or_cases, eqb-true, eq-eqb, true≢false, Cell, Char, Act, Selection, Sight, Offer}
-use Rattle.console_core.proofs.Common.{Sights, MapValue, key_count, slot_of, alone, state_after, look_selected, SeesBy}
+use Rattle.console_core.proofs.Common.{Sights, MapValue, key_count, alone, state_after, look_selected, SeesBy}
 use Rattle.console_core.proofs.Common.{is_selected, is_composed, can_see, AreSightsOf, IsReachable, selection_of, rules}
 use Rattle.std.specs.List.{range_with_len}
 use Rattle.std.proofs.lemmas.List.Folds.{list_any_at}
@@ -66,9 +66,7 @@ in-range : (k : ℕ) → k < key_count → Contains (range_with_len 0 key_count)
 in-range k lt = (k, lt, omega (arith, get_or-range_with_len 0 key_count k k lt))
 
 of-range : (k : ℕ) → Contains (range_with_len 0 key_count) k → k < key_count
-of-range k (n, lt, at) =
-    let below : n < key_count = lt in
-    omega (arith, below, at, get_or-range_with_len 0 key_count n k below)
+of-range k (n, lt, at) = search (rules, get_or-range_with_len)
 
 pub seeing-true : (m : MapValue) (y : Selection) (x : Sight) → is_seeing m y x ≡ true
     → (k : ℕ) × (k < key_count) × SeesBy m y k x
@@ -139,8 +137,4 @@ seen-otherwise m s ys (sight.Locks slot caps num) other e = ap (λ z. is_selecte
 
 -- of a cell or a lock setting, only the key of the slot can see it
 pub key-of-slot : (y : Selection) (k slot : ℕ) → k < key_count → slot_in y k ≡ slot → slot % key_count ≡ k
-key-of-slot y k slot lt e = half y.upper e
-  where
-    half : (u : Bool) → slot_of k u ≡ slot → slot % key_count ≡ k
-    half true f = omega (arith, lt, f)
-    half false f = omega (arith, lt, f)
+key-of-slot y k slot lt e = search rules

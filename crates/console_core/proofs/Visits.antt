@@ -1,11 +1,11 @@
 -- Where paths lead but for the scroll lock, and which locks a press turns.
 use Rattle.console_core.proofs.Common.{cases_Bool, inl, inr, ◌≡◌, ℕ, true, false, List, [], ◌∷◌, Option, Some, None}
-use Rattle.console_core.proofs.Common.{refl, ap, sym, ◌∙◌, true≢false, false_from_ne_true, eq-eqb, none-some}
+use Rattle.console_core.proofs.Common.{refl, ap, sym, ◌∙◌, true≢false, false_from_ne_true, eq-eqb, none-some, rules}
 use Rattle.console_core.proofs.Common.{same_action, MapValue, same_action-true, ResolvedEvent, locked, remembered}
 use Rattle.console_core.proofs.Common.{taken_over, PressedAction, between, resolved, is_locked_after, pressed, Under}
 use Rattle.console_core.proofs.Common.{alone, State, start, look_in, IsIdle, state_from, IsPathFrom, with_lock_turned}
-use Rattle.console_core.proofs.Common.{IsHome, HoldsSome, Stands, but_scroll, unscrolled, Action, Lock, Caps, Num}
-use Rattle.console_core.proofs.Common.{Scroll, Alt, Cell, Char, Act, Event, Press, Move, Hold, Turn, LetGo, Exchange}
+use Rattle.console_core.proofs.Common.{IsHome, HoldsSome, Stands, unscrolled, Action, Lock}
+use Rattle.console_core.proofs.Common.{Cell, Char, Act, Event, Press, Move, Hold, Turn, LetGo, Exchange}
 use Rattle.console_core.proofs.OneMore.{locked-character, locked-action, pressed-press}
 use Rattle.console_core.proofs.Scripts.{idle-none, pressed-look}
 use Rattle.console_core.proofs.Staying.{follows-turn}
@@ -18,20 +18,11 @@ pub near-path : (u : Under) (s t : State) (path : List Move) → unscrolled t �
     → IsPathFrom u t path × (unscrolled (state_from u t path) ≡ unscrolled (state_from u s path))
 near-path u s t [] e is = (tt, e)
 near-path u s t (move ∷ path) e is =
-    let q = near-path u s t path e is.1 in (
-      (moves-unscrolled u (state_from u s path) (state_from u t path) move q.1 is.0, q.0),
-      same_moved u (state_from u s path) (state_from u t path) move q.1,
-    )
+    search (rules, moves-unscrolled, same_moved, near-path u s t path e is.1)
 
 -- home is the start, but for the scroll lock
 pub home-near : (s : State) → IsHome s → s.is_second ≡ false → unscrolled s ≡ unscrolled start
-home-near s (free, off) first = same_states (unscrolled s) (unscrolled start) free no_lock first
-  where
-    no_lock : (l : Lock) → but_scroll s.is_locked l ≡ but_scroll start.is_locked l
-    no_lock Caps = off Caps (λ q. cc)
-    no_lock Num = off Num (λ q. cc)
-    no_lock Alt = off Alt (λ q. cc)
-    no_lock Scroll = refl
+home-near s (free, off) first = search (rules, same_states)
 
 -- without loads one map stays in force
 pub path-first : (m : MapValue) (s : State) (path : List Move) → IsPathFrom (alone m) s path

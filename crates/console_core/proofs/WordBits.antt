@@ -46,11 +46,7 @@ two_cases (suc zero) lt = inr refl
 two_cases (suc (suc x)) lt = let e : ⊥ = omega arith in absurd e
 
 tested : (x p : ℕ) → x < 2 → 0 < p → not (eqb (x * p) 0) ≡ eqb x 1
-tested x p lt pos =
-    elim (two_cases x lt) [
-      | inl e ↦ rw (e, zero-mul p) refl
-      | inr e ↦ let ne : p ≡ 0 → ⊥ = λ z. omega arith in rw (e, one-mul p, ne_eqb p 0 ne) refl
-    ]
+tested x p lt pos = search (rules, two_cases, zero-mul, one-mul, ne_eqb)
 
 -- the test of a bit
 pub bit-test : (n k : ℕ) → k < 32 → not (eqb (bit_and n (1 * 2 ^ k % 2 ^ 32)) 0) ≡ bit_is_set n k
@@ -169,10 +165,7 @@ same_bit x lt = elim (two_cases x lt) [ inl e ↦ rw e refl | inr e ↦ rw e ref
 field_turn : (n k : ℕ) → k < 32 → ((i : ℕ) → i < 4 → 16 + i ≢ k)
     → pending_field (bit_xor n (1 * 2 ^ k % 2 ^ 32)) ≡ pending_field n
 field_turn n k lt other =
-    rw (shl-one k lt)
-    (field-same n _
-    (λ i lt2. rw (bit_at_xor n (2 ^ k) (16 + i), bit_at-pow_other k (16 + i) (other i lt2))
-    (same_bit (bit_at n (16 + i)) (bit_at-lt n (16 + i)))))
+    search (rules, shl-one, field-same, bit_at_xor, bit_at-pow_other, same_bit, bit_at-lt)
 
 -- a turned lock leaves the pending field
 pub field-turn : (n k : ℕ) → k < 16 → pending_field (bit_xor n (1 * 2 ^ k % 2 ^ 32)) ≡ pending_field n
@@ -216,10 +209,7 @@ second-after_reset n = masked_one n 1052416 20 refl
 
 -- a reset clears the pending field
 pub field-after_reset : (n : ℕ) → pending_field (bit_and n 1052416) ≡ 0
-field-after_reset n =
-    field-is _ 0 (lit< tt)
-    (λ i lt. rw (bit_at_and n 1052416 (16 + i), mask_field i lt, min_none (bit_at n (16 + i)))
-    (sym (bit_at-zero i)))
+field-after_reset n = search (rules, field-is, bit_at_and, mask_field, min_none, bit_at-zero)
 
 -- another pending field
 around_low : (i : ℕ) → i < 16 → bit_at 4293984255 i ≡ 1
@@ -255,9 +245,7 @@ none_max x = omega arith
 -- a bit outside of the pending field stays when the field is written
 around_bit : (c n i : ℕ) → bit_at 4293984255 i ≡ 1 → bit_at (c * 65536 % 2 ^ 32) i ≡ 0
     → bit_is_set (bit_or (bit_and n 4293984255) (c * 65536 % 2 ^ 32)) i ≡ bit_is_set n i
-around_bit c n i e f =
-    rw (bit_at_or (bit_and n 4293984255) (c * 65536 % 2 ^ 32) i, f, max_none (bit_at (bit_and n 4293984255) i))
-    (masked_one n 4293984255 i e)
+around_bit c n i e f = search (rules, bit_at_or, max_none, masked_one)
 
 -- a mark or lock stays when the pending field is written
 pub low-bit : (c n i : ℕ) → c ≤ 15 → i < 16

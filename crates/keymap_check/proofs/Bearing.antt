@@ -3,7 +3,7 @@ use Rattle.keymap_check.proofs.Common.{zero, suc, ◌≡◌, ◌≢◌, ℕ, ◌
 use Rattle.keymap_check.proofs.Common.{subst, sym, ◌∙◌, inl, inr, arith, true≢false, Lock, Holding, Cell, Act, Bearer}
 use Rattle.keymap_check.proofs.Common.{Nobody, holding_action, MapValue, IsCellOf, Bears, BearsThroughout, below-suc}
 use Rattle.keymap_check.proofs.Common.{IsPlain, IsSteady, IsActing, first_place, cell_of, is_holding, bears_holding}
-use Rattle.keymap_check.proofs.Common.{bearer_with, next_bearer, bearer_below, bearer_of, IsBearer, ReportValue}
+use Rattle.keymap_check.proofs.Common.{bearer_with, next_bearer, bearer_below, bearer_of, IsBearer, ReportValue, rules}
 use Rattle.keymap_check.proofs.Common.{bearer_in}
 use Rattle.std.proofs.lemmas.Bool.{cond_both}
 use Rattle.std.specs.Option.{is_none}
@@ -14,7 +14,7 @@ use Rattle.keymap_check.specs.Computed.{bearer_by, is_steady_by}
 use Rattle.keymap_check.specs.Report.{is_plain_bearer, picks_a_cell, HasPlainBearers, BearersAreComputed}
 use Rattle.keymap_check.specs.Report.{SteadyLocksAreComputed}
 use Rattle.keymap_check.proofs.Same.{is_holding-true, is_holding-refl, not_holding-false, not_acting, acting-not}
-use Rattle.keymap_check.proofs.Places.{first_place-cell, no_place-cell, HasCellOf, has-cell}
+use Rattle.keymap_check.proofs.Places.{first_place-cell, no_place-cell, has-cell}
 use Rattle.keymap_check.proofs.Bearers.{bearer_below-start, bearer_below-more}
 use Rattle.keymap_core.specs.declared.action.Modifier.TheVariants as modifier
 use Rattle.keymap_core.specs.declared.action.Lock.TheVariants as lock
@@ -23,9 +23,7 @@ use Rattle.keymap_check.specs.declared.kind.Kind.TheVariants as kind
 
 -- a key that passes the test bears the holding action
 pub bears-true : (m : MapValue) (k : ℕ) (a : Holding) → bears_holding m k a ≡ true → Bears m k a
-bears-true m k a e =
-    let h : HasCellOf m k (kind.Holding a) = (has-cell m (kind.Holding a) k).0 e in
-    subst (λ x. IsCellOf m k x) (is_holding-true a h.0 h.2) h.1
+bears-true m k a e = search (rules, has-cell, is_holding-true)
 
 -- a key that bears the holding action passes the test
 pub true-bears : (m : MapValue) (k : ℕ) (a : Holding) → Bears m k a → bears_holding m k a ≡ true
@@ -86,14 +84,8 @@ added m a n b is (Empty s f) =
       (λ j lt other. elim (below-suc j n lt) [ inl l ↦ absurd (f j l other) | inr q ↦ q ]),
       ap (λ x. next_bearer x (bearer_with m a n)) s,
     )
-added m a n b is (Single s) =
-    let ne : s.0 ≡ n → ⊥ = λ q. let lt : s.0 < n = s.1 in omega (arith, lt, q) in
-    Many (ap (λ x. next_bearer x (bearer_with m a n)) s.4
-    ∙ next_by s.0 (first_place m (kind.OtherThan a) s.0) (bearer_with m a n))
-    (s.0, n, omega (arith, s.1), omega arith, ne, s.2, is)
-added m a n b is (Many s t) =
-    Many (ap (λ x. next_bearer x (bearer_with m a n)) s)
-    (t.0, t.1, omega (arith, t.2), omega (arith, t.3), t.4, t.5, t.6)
+added m a n b is (Single s) = search (rules, next_by)
+added m a n b is (Many s t) = search rules
 
 -- the bearer among the keys below n says which of them bear
 pub found : (m : MapValue) (a : Holding) (n : ℕ) → BearerAmong m a n (bearer_below m a n)
@@ -176,10 +168,7 @@ true-steady m l b (Single s) steady =
 
 -- the locks that pass the test are the steady ones
 pub steady_locks_are_computed : SteadyLocksAreComputed
-steady_locks_are_computed m l = (
-  steady-true m l (bearer_of m (holding.Lock l)) (found m (holding.Lock l) 128),
-  true-steady m l (bearer_of m (holding.Lock l)) (found m (holding.Lock l) 128),
-)
+steady_locks_are_computed m l = search (rules, steady-true, found, true-steady)
 
 -- what a bearer that is reported says
 pub throughout-bears : (m : MapValue) (a : Holding) (k : ℕ) → bearer_of m a ≡ Throughout k → BearsThroughout m k a

@@ -1,6 +1,6 @@
 -- The bits of the cell that is looked up, where no lock is on.
 use Rattle.keymap_check.proofs.Common.{◌≡◌, ℕ, true, ◌||◌, List, [], ◌∷◌, None, refl, ap, ◌∙◌, Modifier, LeftShift}
-use Rattle.keymap_check.proofs.Common.{RightShift, LeftControl, RightControl, LeftAlt, RightAlt, AltShift, on}
+use Rattle.keymap_check.proofs.Common.{RightShift, LeftControl, RightControl, LeftAlt, RightAlt, AltShift, on, rules}
 use Rattle.keymap_check.proofs.Common.{remembered, PressedAction, bits_of, group_of, with_bit, or_right}
 use Rattle.keymap_core.specs.Actions.{same_modifier}
 use Rattle.console_core.specs.Resolved.{ResolvedEvent}
@@ -29,28 +29,8 @@ bits-added _ r = refl
 -- a press of one more modifier sets the bit of its group
 pub bits-more : (y : Modifier) (j : ℕ) (r : List ResolvedEvent) → remembered j r ≡ None
     → bits_of (PressedAction j (act.Mod y) ∷ r) ≡ with_bit (group_of y) (bits_of r)
-bits-more y j r e =
-    rw (
-      on-more AltShift y j r e,
-      on-more LeftShift y j r e,
-      on-more RightShift y j r e,
-      on-more LeftControl y j r e,
-      on-more RightControl y j r e,
-      on-more LeftAlt y j r e,
-      on-more RightAlt y j r e,
-    )
-    (bits-added y r)
+bits-more y j r e = search (rules, on-more, bits-added)
 
 -- no modifier is on at the start
 pub bits-start : bits_of [] ≡ no_bits
-bits-start =
-    rw (
-      held-start (holding.Mod AltShift),
-      held-start (holding.Mod LeftShift),
-      held-start (holding.Mod RightShift),
-      held-start (holding.Mod LeftControl),
-      held-start (holding.Mod RightControl),
-      held-start (holding.Mod LeftAlt),
-      held-start (holding.Mod RightAlt),
-    )
-    refl
+bits-start = search (rules, held-start)

@@ -2,7 +2,7 @@
 use Rattle.keymap_check.proofs.Common.{zero, suc, ◌≡◌, ℕ, ◌+◌, ◌*◌, ◌%◌, ◌^◌, ◌<◌, ◌≢◌, Bool, true, false, not, ◌||◌}
 use Rattle.keymap_check.proofs.Common.{Option, Some, None, refl, ap, sym, ◌∙◌, if◌then◌else◌, arith, add-one, inl, inr}
 use Rattle.keymap_check.proofs.Common.{eqb-true, or_right, option_or, is_some, LeftShift, Holding, Cell, Char, Act}
-use Rattle.keymap_check.proofs.Common.{Kind, Caps, modifier_index, MapValue, first_below, is_of_kind, is_holding}
+use Rattle.keymap_check.proofs.Common.{Kind, Caps, modifier_index, MapValue, first_below, is_of_kind, is_holding, rules}
 use Rattle.keymap_check.proofs.Common.{cell_of, first_place, place_count, bits_below}
 use Rattle.std.proofs.Common.{min, max, eqb}
 use Rattle.std.specs.Prelude.{bit_and, bit_or, bit_xor}
@@ -48,10 +48,7 @@ holding-bit (holding.Mod i) (Act b) = apart 14 (modifier_index i) (λ e. omega (
 holding-bit (holding.Lock k) (Char c) = apart 12 (8 + lock_index k) (λ e. omega (arith, lock_index-lt k, e))
 holding-bit (holding.Lock k) (Act (act.Mod j)) =
     apart (modifier_index j) (8 + lock_index k) (λ e. omega (arith, modifier_index-lt j, e))
-holding-bit (holding.Lock k) (Act (act.Lock l)) =
-    let same : eqb (8 + lock_index l) (8 + lock_index k) ≡ eqb (lock_index l) (lock_index k) =
-    grind (arith, nat_tests) in
-    is_set-pow (8 + lock_index k) (8 + lock_index l) ∙ same
+holding-bit (holding.Lock k) (Act (act.Lock l)) = search (rules, nat_tests, is_set-pow)
 holding-bit (holding.Lock k) (Act act.Nop) = apart 13 (8 + lock_index k) (λ e. omega (arith, lock_index-lt k, e))
 holding-bit (holding.Lock k) (Act b) = apart 14 (8 + lock_index k) (λ e. omega (arith, lock_index-lt k, e))
 
@@ -97,9 +94,7 @@ or_false false = refl
 -- one more bit, by whether the mask has it
 meets_by : (n mask i : ℕ) (b : Bool) → is_set mask i ≡ b → meets (bit_or n (2 ^ i)) mask ≡ (meets n mask || b)
 meets_by n mask i false e =
-    let z : bit_and (2 ^ i) mask ≡ 0 =
-    and_comm (2 ^ i) mask ∙ and_pow mask i ∙ ap (λ x. x * 2 ^ i) (set_zero mask i e) ∙ zero-mul (2 ^ i) in
-    ap (λ x. not (eqb x 0)) (and_or_apart mask n (2 ^ i) z) ∙ sym (or_false (meets n mask))
+    search (rules, and_comm, and_pow, set_zero, zero-mul, and_or_apart, or_false)
 meets_by n mask i true e =
     let one : bit_at mask i ≡ 1 = eqb-true (bit_at mask i) 1 e in
     let here : bit_at (bit_and (bit_or n (2 ^ i)) mask) i ≡ min (max (bit_at n i) 1) 1 =
@@ -143,9 +138,7 @@ bits_below-start m k = refl
 
 -- a bit of a word of 16 bits is a power of two
 shl-one : (i : ℕ) → i < 15 → 1 * 2 ^ i % 2 ^ 16 ≡ 2 ^ i
-shl-one i lt =
-    let lt16 : i < 16 = omega (arith, lt) in
-    let p : 2 ^ i < 2 ^ 16 = pow-lt lt16 in rw (one-mul (2 ^ i)) (mod-eq_of_lt p)
+shl-one i lt = search (rules, pow-lt, one-mul, mod-eq_of_lt)
 
 -- one more cell sets its bit
 pub bits_below-more : (m : MapValue) (k n : ℕ)

@@ -41,8 +41,8 @@ pub use Rattle.keymap_core.specs.Borne.{is_upper_live}
 pub use Rattle.keymap_core.specs.Maps.{MapValue, cell_at}
 pub use Rattle.keymap_core.specs.declared.action.Lock.TheVariants.{Caps}
 pub use Rattle.std.proofs.Common.{Bool, List, None, Option, Some, [], add-one, ap, arith, false, if◌then◌else◌, inl}
-pub use Rattle.std.proofs.Common.{inr, length, length-append, lit<, not, refl, subst, sym, true, ℕ, ◌%◌, ◌&&◌, ◌*◌}
-pub use Rattle.std.proofs.Common.{◌++◌, ◌+◌, ◌-◌, ◌<◌, ◌^◌, ◌||◌, ◌∙◌, ◌∷◌, ◌≡◌, ◌≢◌, ◌≤◌, ◌↔◌}
+pub use Rattle.std.proofs.Common.{inr, length, length-append, lit<, not, refl, rules, subst, sym, true, ℕ, ◌%◌, ◌&&◌}
+pub use Rattle.std.proofs.Common.{◌*◌, ◌++◌, ◌+◌, ◌-◌, ◌<◌, ◌^◌, ◌||◌, ◌∙◌, ◌∷◌, ◌≡◌, ◌≢◌, ◌≤◌, ◌↔◌}
 pub use Rattle.std.proofs.lemmas.Bool.{and_parts, cases_lt, eq-eqb, eqb-true, false_from_ne_true, le-ltb, lt-ltb}
 pub use Rattle.std.proofs.lemmas.Bool.{not-true, or_right, true≢false}
 pub use Rattle.std.proofs.lemmas.List.{append-nil}

@@ -1,7 +1,7 @@
 -- A map has no findings exactly if it is safe.
-use Rattle.keymap_check.proofs.Common.{zero, suc, ◌≡◌, ℕ, ◌<◌, ◌++◌, List, [], ◌∷◌, Option, Some, None, refl, ap, subst}
-use Rattle.keymap_check.proofs.Common.{sym, ◌∙◌, inl, inr, arith, true≢false, Char, Act, holding_action, MapValue}
-use Rattle.keymap_check.proofs.Common.{IsCellOf, gathered, below-suc, first_place, cell_of, finding_by, findings_at}
+use Rattle.keymap_check.proofs.Common.{zero, suc, ◌≡◌, ℕ, ◌<◌, ◌++◌, List, [], ◌∷◌, Option, Some, None, refl, ap, rules}
+use Rattle.keymap_check.proofs.Common.{sym, ◌∙◌, inl, inr, arith, true≢false, MapValue}
+use Rattle.keymap_check.proofs.Common.{gathered, below-suc, first_place, cell_of, finding_by, findings_at}
 use Rattle.keymap_check.proofs.Common.{IsUnsafeKey, has_some, Finding, true, ◌&&◌, and_parts, is_some, ◌↔◌}
 use Rattle.std.proofs.lemmas.Bool.{and_from}
 use Rattle.keymap_check.specs.Report.{NoFindingsExactlyIfSafe}
@@ -46,19 +46,8 @@ found m k = found_by m k (first_place m kind.AnyHolding k) (first_place m kind.C
 
 -- a key has a finding exactly if it is unsafe
 pub unsafe-key : (m : MapValue) (k : ℕ) → (has_some (findings_at m k) ≡ true) ↔ IsUnsafeKey m k
-unsafe-key m k = (
-  λ e.
-      let both = and_parts _ _ (sym (found m k) ∙ e) in
-      let h = (has-cell m kind.AnyHolding k).0 both.0 in
-      let a : IsHeldBy h.0 = holding-cell h.0 h.2 in
-      let s = (has-cell m kind.Character k).0 both.1 in
-      let c : (c : ℕ) × (s.0 ≡ Char c) = character-cell s.0 s.2 in
-      (a.0, subst (λ x. IsCellOf m k x) a.1 h.1, (c.0, subst (λ x. IsCellOf m k x) c.1 s.1)),
-  λ u.
-      found m k
-      ∙ and_from _ _ ((has-cell m kind.AnyHolding k).1 (Act (holding_action u.0), u.1, holding-any u.0))
-      ((has-cell m kind.Character k).1 (Char u.2.0, u.2.1, refl)),
-)
+unsafe-key m k =
+    search (rules, and_parts, found, has-cell, holding-cell, character-cell, and_from, holding-any)
 
 none_there : (fs : List Finding) → (has_some fs ≡ true → ⊥) → fs ≡ []
 none_there [] f = refl

@@ -2,7 +2,7 @@
 use Rattle.keymap_check.proofs.Common.{zero, suc, ◌≡◌, ℕ, ◌<◌, ◌≤◌, ◌+◌, ◌-◌, Bool, true, false, List, [], ◌∷◌, ◌++◌}
 use Rattle.keymap_check.proofs.Common.{Option, Some, None, refl, ap, subst, sym, ◌∙◌, inl, inr, arith, All, true≢false}
 use Rattle.keymap_check.proofs.Common.{lt-ltb, le-ltb, Holding, Cell, Act, Kind, Finding, holding_action, MapValue}
-use Rattle.keymap_check.proofs.Common.{cell_at, IsUpperLive, gathered, IsFirstBelow, below-suc, is_upper_live}
+use Rattle.keymap_check.proofs.Common.{cell_at, IsUpperLive, gathered, IsFirstBelow, below-suc, is_upper_live, rules}
 use Rattle.keymap_check.proofs.Common.{is_of_kind, cell_of, place_count, first_place, is_character, is_any_holding}
 use Rattle.keymap_check.proofs.Common.{findings_at, finding_by, finding_with, held_by, All-nil, IsUnsafeKey, live-upper}
 use Rattle.keymap_check.proofs.Common.{upper-is_live, cases_lt, append-nil, has_some}
@@ -64,19 +64,7 @@ is_place m k p lt =
 
 -- lesser numbers come first
 not_after : (k p q : ℕ) → p ≤ q → k < 128 → NotAfter (place_at k p) (place_at k q)
-not_after k p q le lt =
-    elim (cases_lt q 8) [
-      | inl l ↦
-          let c = place_low k q l in
-          let d = place_low k p (omega (arith, l, le)) in
-          inr (d.0 ∙ sym c.0, omega (arith, c.1, d.1, le))
-      | inr l ↦
-          let c = place_high k q l in
-          elim (cases_lt p 8) [
-            | inl t ↦ let d = place_low k p t in inl (omega (arith, c.0, d.0))
-            | inr t ↦ let d = place_high k p t in inr (d.0 ∙ sym c.0, omega (arith, c.1, d.1, le))
-          ]
-    ]
+not_after k p q le lt = search (rules, cases_lt, place_low, place_high)
 
 -- the first number that passes is at most each that does
 at_least : (test : ℕ → Bool) (p n : ℕ) → ((j : ℕ) → j < p → test j ≡ false) → test n ≡ true → p ≤ n
@@ -156,12 +144,7 @@ record AreBelow (m : MapValue) (n : ℕ) (fs : List Finding) : Type 0 where
   complete : (k : ℕ) → k < n → IsUnsafeKey m k → Any (λ f. f.key ≡ k) fs
 
 none-below : (m : MapValue) → AreBelow m 0 []
-none-below m = record {
-  each = All-nil (IsFinding m);
-  below = All-nil (λ f. f.key < 0);
-  in_order = λ i j d before lt. absurd (omega (arith, lt));
-  complete = λ k lt is. absurd (omega (arith, lt));
-}
+none-below m = search (rules, All-nil)
 
 -- those below n are below n + 1
 still-below : (n : ℕ) (fs : List Finding) → All (λ f. f.key < n) fs → All (λ f. f.key < suc n) fs

@@ -1,6 +1,6 @@
 -- The places of a key's cells, and the cells that it has.
 use Rattle.keymap_check.proofs.Common.{◌≡◌, ℕ, ◌<◌, ◌≤◌, ◌+◌, ◌-◌, Bool, true, false, Some, None, refl, ap, subst, sym}
-use Rattle.keymap_check.proofs.Common.{◌∙◌, inl, inr, if◌then◌else◌, arith, lt-ltb, le-ltb, Cell, Kind, MapValue}
+use Rattle.keymap_check.proofs.Common.{◌∙◌, inl, inr, if◌then◌else◌, arith, lt-ltb, le-ltb, Cell, Kind, MapValue, rules}
 use Rattle.keymap_check.proofs.Common.{cell_at, IsCellOf, is_upper_live, live-upper, upper-is_live, first_below-no}
 use Rattle.keymap_check.proofs.Common.{first_below-some, IsFirstBelow, is_of_kind, place_count, cell_of, first_place}
 use Rattle.keymap_check.proofs.Common.{cases_lt, Option, true≢false, is_some, ◌↔◌}
@@ -47,9 +47,7 @@ count_least m false e = let c : place_count m ≡ 8 = count_if m false e in omeg
 
 -- each cell of a key has a place
 pub cell-place : (m : MapValue) (k : ℕ) (x : Cell) → IsCellOf m k x → HasPlace m k x
-cell-place m k x (inl s) =
-    let n : 8 ≤ place_count m = count_least m (is_upper_live m) refl in
-    (s.0, omega (arith, n, s.1), low-cell m k s.0 s.1 ∙ s.2)
+cell-place m k x (inl s) = search (rules, count_least, low-cell)
 cell-place m k x (inr s) =
     let c : place_count m ≡ 16 = count_if m true (upper-is_live m s.0) in
     let s1 : StandsIn m (k + 128) x = s.1 in

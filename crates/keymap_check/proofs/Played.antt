@@ -1,8 +1,8 @@
 -- What is left of a script once modifiers are off, and its events with the newest first.
 use Rattle.keymap_check.proofs.Common.{zero, suc, ◌≡◌, ℕ, ◌+◌, Bool, true, false, List, [], ◌∷◌, ◌++◌, Option, Some}
-use Rattle.keymap_check.proofs.Common.{None, ap, sym, ◌∙◌, if◌then◌else◌, reverse, append-nil, key_at, Modifier, Event}
-use Rattle.keymap_check.proofs.Common.{Press, Release, gathered, gathered-more, no-modifiers, Maps, is_on_after}
-use Rattle.keymap_check.proofs.Common.{resolved, is_any_on_after, event_if, event_at, is_chosen, events_of, script}
+use Rattle.keymap_check.proofs.Common.{None, sym, ◌∙◌, if◌then◌else◌, reverse, append-nil, key_at, Modifier, Event}
+use Rattle.keymap_check.proofs.Common.{Press, Release, gathered, gathered-more, no-modifiers, Maps, is_on_after, rules}
+use Rattle.keymap_check.proofs.Common.{is_any_on_after, event_if, event_at, is_chosen, events_of, script}
 use Rattle.std.proofs.lemmas.Bool.{and_left}
 use Rattle.std.proofs.lemmas.List.{reverse-append}
 use Rattle.keymap_core.proofs.HoldingTests.{no-modifier}
@@ -17,18 +17,7 @@ pub played : (keys : List (Option ℕ)) (k a b : ℕ)
     ≡ reverse (events_of false keys b 0)
     ++ (Release k ∷ Press k ∷ (reverse (events_of true keys b a)
     ++ (reverse (events_of false keys a b) ++ reverse (start_of keys k a))))
-played keys k a b =
-    reverse-append
-    (((start_of keys k a ++ events_of false keys a b) ++ events_of true keys b a) ++ Press k ∷ Release k ∷ [])
-    (events_of false keys b 0)
-    ∙ ap (λ h. reverse (events_of false keys b 0) ++ h) (
-    reverse-append ((start_of keys k a ++ events_of false keys a b) ++ events_of true keys b a)
-    (Press k ∷ Release k ∷ [])
-    ∙ ap (λ h. Release k ∷ Press k ∷ h) (
-    reverse-append (start_of keys k a ++ events_of false keys a b) (events_of true keys b a)
-    ∙ ap (λ h. reverse (events_of true keys b a) ++ h) (reverse-append (start_of keys k a) (events_of false keys a b))
-    )
-    )
+played keys k a b = search (rules, reverse-append)
 
 -- the presses so far, newest first
 pub start_played : (keys : List (Option ℕ)) (k a : ℕ)
@@ -39,33 +28,22 @@ start_played keys k a =
 -- one bit more
 pub one_more : (f : ℕ → List Event) (n : ℕ) (e : Event) (h : List Event) → f n ≡ e ∷ []
     → e ∷ (reverse (gathered f n) ++ h) ≡ reverse (gathered f (n + 1)) ++ h
-one_more f n e h is =
-    sym (
-    ap (λ xs. reverse xs ++ h) (gathered-more f n ∙ ap (λ ys. gathered f n ++ ys) is)
-    ∙ reverse-push e (gathered f n) h
-    )
+one_more f n e h is = search (rules, gathered-more, reverse-push)
 
 -- one more bit that gives no event
 pub none_more : (f : ℕ → List Event) (n : ℕ) (h : List Event) → f n ≡ []
     → reverse (gathered f n) ++ h ≡ reverse (gathered f (n + 1)) ++ h
-none_more f n h is =
-    sym (
-    ap (λ xs. reverse xs ++ h) (gathered-more f n ∙ ap (λ ys. gathered f n ++ ys) is ∙ append-nil (gathered f n))
-    )
+none_more f n h is = search (rules, gathered-more, append-nil)
 
 -- a release turns no modifier on
 stays-off : (ms : Maps) (h : List Event) (j : ℕ) (i : Modifier) → is_on_after ms i h ≡ false
     → is_on_after ms i (Release j ∷ h) ≡ false
-stays-off ms h j i e =
-    rw (resolved-more ms h (Release j), held-release (holding.Mod i) j (resolved ms h))
-    (and_left (is_on_after ms i h) _ e)
+stays-off ms h j i e = search (rules, resolved-more, held-release, and_left)
 
 -- a release leaves all modifiers off
 pub released : (ms : Maps) (h : List Event) (j : ℕ) → is_any_on_after ms h ≡ false
     → is_any_on_after ms (Release j ∷ h) ≡ false
-released ms h j e =
-    no-modifiers (λ i. is_on_after ms i (Release j ∷ h))
-    (λ i. stays-off ms h j i (no-modifier (λ x. is_on_after ms x h) e i))
+released ms h j e = search (rules, no-modifiers, stays-off, no-modifier)
 
 -- nor do the releases of the keys of a set
 one_release : (ms : Maps) (xs h : List Event) (t : Bool) (o : Option ℕ) → is_any_on_after ms (reverse xs ++ h) ≡ false

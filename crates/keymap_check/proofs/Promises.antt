@@ -1,6 +1,6 @@
 -- The promises, from the laws over the two maps of a console.
 use Rattle.keymap_check.proofs.Common.{◌≡◌, ℕ, inl, inr, ap, subst, sym, ◌∙◌, All-cons, Lock, Modifier, Press, MapValue}
-use Rattle.keymap_check.proofs.Common.{BearsThroughout, Maps, HasKey, is_on_after, IsSteady, IsPlain}
+use Rattle.keymap_check.proofs.Common.{BearsThroughout, Maps, HasKey, is_on_after, IsSteady, IsPlain, rules}
 use Rattle.std.proofs.Common.{◌⊎◌}
 use Rattle.console_core.specs.Headline.{IsSafe, OnOnlyWhilePressed, OnExactlyWhilePressed, RepeatsTurnNoSteadyLock}
 use Rattle.console_core.specs.Headline.{OffOnceQuiet, GoesOnAsAfterReset, LockedByFreshPresses, IsOnOnlyWhilePressed}
@@ -38,13 +38,8 @@ as_after_reset law m safe ms h e keys quiet none = law ms h (subst IsSafe (sym e
 pub keeps_promise : OnOnlyWhilePressed → OnExactlyWhilePressed → RepeatsTurnNoSteadyLock → OffOnceQuiet
     → GoesOnAsAfterReset
     → (m : MapValue) → IsSafe m → KeepsPromise m
-keeps_promise on_only on_exactly repeats_turn_none off goes_on m safe = record {
-  on_only_while_pressed = only_while on_only m safe;
-  on_exactly_while_pressed = λ i k throughout. exactly_while on_exactly m i k throughout;
-  repeats_turn_no_steady_lock = λ l steady. repeats repeats_turn_none m l steady;
-  off_once_quiet = off_once_quiet off m safe;
-  as_after_reset_once_quiet = as_after_reset goes_on m safe;
-}
+keeps_promise on_only on_exactly repeats_turn_none off goes_on m safe =
+    search (rules, only_while, exactly_while, repeats, off_once_quiet, as_after_reset)
 
 -- a key bears the lock throughout in the second map too, where that is the same
 same_map : (m : MapValue) (l : Lock) (k : ℕ) (ms : Maps) {P : Type 0} → BearsThroughout m k (holding.Lock l)

@@ -1,6 +1,6 @@
 -- No key is pressed at the end of a script.
 use Rattle.keymap_check.proofs.Common.{zero, suc, ◌≡◌, ℕ, ◌<◌, Bool, true, false, List, [], ◌++◌, Option, Some, None}
-use Rattle.keymap_check.proofs.Common.{refl, ap, subst, sym, ◌∙◌, inl, inr, if◌then◌else◌, ◌==◌, reverse, gathered}
+use Rattle.keymap_check.proofs.Common.{refl, subst, sym, ◌∙◌, inl, inr, if◌then◌else◌, reverse, gathered, rules}
 use Rattle.keymap_check.proofs.Common.{below-suc, and_parts, true≢false, false_from_ne_true, has_bit, key_at, Event}
 use Rattle.keymap_check.proofs.Common.{pressed, IsQuiet, is_chosen, event_if, event_at, script, arith, ◌≤◌, eq-eqb}
 use Rattle.keymap_check.proofs.Common.{eqb-true, not}
@@ -19,11 +19,7 @@ IsNamed keys s e j = (i : ℕ) × (i < 4) × (is_chosen s e i ≡ true) × (key_
 press-step : (t : Bool) (o : Option ℕ) (j : ℕ) (h : List Event)
     → pressed j (reverse (if t then event_if true o else []) ++ h) ≡ true
     → (pressed j h ≡ true) ⊎ ((t ≡ true) × (o ≡ Some j))
-press-step true (Some i) j h e =
-    elim (cases_Bool (i == j)) [
-      | inl same ↦ inr (refl, ap (λ k. Some k) (eqb-true i j same))
-      | inr other ↦ inl (rw other at (sym (pressed-press j i h) ∙ e))
-    ]
+press-step true (Some i) j h e = search (rules, cases_Bool, eqb-true, pressed-press)
 press-step true None j h e = inl e
 press-step false o j h e = inl e
 
@@ -31,12 +27,7 @@ press-step false o j h e = inl e
 release-step : (t : Bool) (o : Option ℕ) (j : ℕ) (h : List Event)
     → pressed j (reverse (if t then event_if false o else []) ++ h) ≡ true
     → (pressed j h ≡ true) × (t ≡ true → o ≡ Some j → ⊥)
-release-step true (Some i) j h e = released (i == j) refl (sym (pressed-release j i h) ∙ e)
-  where
-    released : (b : Bool) → (i == j) ≡ b → (if b then false else pressed j h) ≡ true
-        → (pressed j h ≡ true) × (true ≡ true → Some i ≡ Some j → ⊥)
-    released true same e = absurd (true≢false (sym e))
-    released false other e = (e, λ _ same. true≢false (sym (eq-eqb i j (cc)) ∙ other))
+release-step true (Some i) j h e = search (rules, pressed-release, eq-eqb)
 release-step true None j h e = (e, λ _ same. cc)
 release-step false o j h e = (e, λ t _. true≢false (sym t))
 

@@ -2,7 +2,7 @@
 use Rattle.keymap_check.proofs.Common.{◌≡◌, ◌≢◌, ℕ, ◌<◌, Bool, true, false, not, List, [], ◌∷◌, Option, Some, None}
 use Rattle.keymap_check.proofs.Common.{refl, ap, subst, sym, ◌∙◌, inl, inr, lit<, ◌==◌, reverse, true≢false, eq-eqb}
 use Rattle.keymap_check.proofs.Common.{eqb-true, and_parts, not-true, false_from_ne_true, is_some, is_other, lacks_key}
-use Rattle.keymap_check.proofs.Common.{Lock, Modifier, LeftShift, Cell, Char, Act, Event, Press, Release, Group}
+use Rattle.keymap_check.proofs.Common.{Lock, Modifier, LeftShift, Cell, Char, Act, Event, Press, Release, Group, rules}
 use Rattle.keymap_check.proofs.Common.{modifier_index, MapValue, cell_at, IsCellOf, IsUpperLive, gathered}
 use Rattle.keymap_check.proofs.Common.{first_below-some, on, remembered, Maps, between, is_on_after, resolved}
 use Rattle.keymap_check.proofs.Common.{is_any_on_after, PressedAction, same_action-true, first_place, is_of_group}
@@ -46,9 +46,7 @@ remembered-other i k j en = rw en refl
 
 -- a look at the start is in the first cell
 look-none : (m : MapValue) (k : ℕ) → look m [] k ≡ cell_at m k 0
-look-none m k =
-    look-bits m [] k (locked-start lock.Caps) (locked-start lock.Num) (locked-start lock.Alt)
-    ∙ ap (λ b. cell_with m k b) bits-start
+look-none m k = search (rules, look-bits, locked-start, bits-start)
 
 -- the bits of one modifier
 bits-one : (i : Modifier) (k : ℕ) → bits_of (PressedAction k (act.Mod i) ∷ []) ≡ bits_with i None
@@ -57,21 +55,13 @@ bits-one i k = bits-more i k [] (remembered-start k) ∙ ap (with_bit (group_of 
 -- a look under one modifier
 look-one : (m : MapValue) (i : Modifier) (k : ℕ)
     → look m (PressedAction k (act.Mod i) ∷ []) k ≡ cell_with m k (bits_with i None)
-look-one m i k =
-    look-bits m (PressedAction k (act.Mod i) ∷ []) k (locked-one i k lock.Caps) (locked-one i k lock.Num)
-    (locked-one i k lock.Alt)
-    ∙ ap (λ b. cell_with m k b) (bits-one i k)
+look-one m i k = search (rules, look-bits, locked-one, bits-one)
 
 -- a look under two modifiers
 look-two : (m : MapValue) (i y : Modifier) (k j : ℕ) → (k == j) ≡ false
     → look m (PressedAction j (act.Mod y) ∷ PressedAction k (act.Mod i) ∷ []) k
     ≡ cell_with m k (bits_with i (group_of y))
-look-two m i y k j en =
-    look-bits m (PressedAction j (act.Mod y) ∷ PressedAction k (act.Mod i) ∷ []) k (locked-two i y k j lock.Caps en)
-    (locked-two i y k j lock.Num en) (locked-two i y k j lock.Alt en)
-    ∙ ap (λ b. cell_with m k b)
-    (bits-more y j (PressedAction k (act.Mod i) ∷ []) (remembered-other i k j en)
-    ∙ ap (with_bit (group_of y)) (bits-one i k))
+look-two m i y k j en = search (rules, look-bits, locked-two, bits-more, remembered-other, bits-one)
 
 -- the resolved events of the two scripts leave the modifier on
 self : (i : Modifier) → (modifier_index i == modifier_index i) ≡ true
@@ -220,9 +210,7 @@ same-modifier y i e = cc
 -- a modifier of another group is another modifier
 other_modifier : (i y : Modifier) (g : Group) → group_of i ≢ Some g → group_of y ≡ Some g
     → (modifier_index y == modifier_index i) ≡ false
-other_modifier i y g ne e =
-    false_from_ne_true (modifier_index y == modifier_index i)
-    (λ s. ne (ap group_of (sym (same-modifier y i (same_action-true (act.Mod y) (act.Mod i) s))) ∙ e))
+other_modifier i y g ne e = search (rules, false_from_ne_true, same-modifier, same_action-true)
 
 -- a trap under one modifier more is demonstrated
 shown-further : (m : MapValue) (i : Modifier) (k : ℕ) (g : Group) (j : ℕ) → k < 128 → cell_at m k 0 ≡ Act (act.Mod i)

@@ -1,11 +1,11 @@
 -- The keys that the tried scripts press.
 use Rattle.keymap_check.proofs.Common.{◌≡◌, ◌≢◌, ℕ, true, false, not, Option, Some, None, refl, subst, sym, ◌∙◌, ◌==◌}
 use Rattle.keymap_check.proofs.Common.{true≢false, eq-eqb, eqb-true, and_parts, not-true, false_from_ne_true, is_some}
-use Rattle.keymap_check.proofs.Common.{is_other, Modifier, LeftShift, Act, Group, MapValue, IsCellOf, first_below}
+use Rattle.keymap_check.proofs.Common.{is_other, Modifier, LeftShift, Group, MapValue, first_below, rules}
 use Rattle.keymap_check.proofs.Common.{first_below-some, first_below-no, first_place, is_of_group, group_at}
 use Rattle.keymap_check.proofs.Common.{bears_group, bit_key, group_of, bit_of_group, ◌↔◌}
 use Rattle.keymap_check.specs.Tried.{BearsGroup, IsBitKey, BitKeysAreLeast, TriedKeysAreUnsafe}
-use Rattle.keymap_check.proofs.Places.{HasCellOf, has-cell}
+use Rattle.keymap_check.proofs.Places.{has-cell}
 use Rattle.keymap_check.proofs.Findings.{unsafe-key}
 use Rattle.keymap_check.proofs.Shown.{group-cell, group-bit}
 use Rattle.keymap_core.specs.declared.action.Action.TheVariants as act
@@ -22,23 +22,12 @@ group-of _ _ e = cc
 
 -- a key bears the group exactly if a place of it is found
 bears-group : (m : MapValue) (g : Group) (j : ℕ) → (is_some (first_place m (kind.Of g) j) ≡ true) ↔ BearsGroup m j g
-bears-group m g j = (
-  λ t.
-      let h : HasCellOf m j (kind.Of g) = (has-cell m (kind.Of g) j).0 t in
-      let y = group-cell g h.0 h.2 in
-      (y.0, y.2, subst (λ x. IsCellOf m j x) y.1 h.1),
-  λ b. (has-cell m (kind.Of g) j).1 (Act (act.Mod b.0), b.2, group-of g b.0 b.1),
-)
+bears-group m g j = search (rules, has-cell, group-cell, group-of)
 
 -- a key that bears the group, and isn't the one tried, passes the test of its bit
 bit_key-true : (m : MapValue) (k : ℕ) (g : Group) (i : ℕ) → i ≢ k → BearsGroup m i g
     → is_other (bears_group m (bit_of_group g)) k i ≡ true
-bit_key-true m k g i ne b =
-    let t : is_some (first_place m (kind.Of (group_at (bit_of_group g))) i) ≡ true =
-    subst (λ x. is_some (first_place m (kind.Of x) i) ≡ true) (sym (group-bit g))
-    ((bears-group m g i).1 b) in
-    let n : (i == k) ≡ false = false_from_ne_true (i == k) (λ q. ne (eqb-true i k q)) in
-    rw (n, t) refl
+bit_key-true m k g i ne b = search (rules, group-bit, bears-group, false_from_ne_true, eqb-true)
 
 -- a key that fails the test of a bit doesn't bear the group
 no_bit_key : (m : MapValue) (k : ℕ) (g : Group) (i : ℕ) → is_other (bears_group m (bit_of_group g)) k i ≡ false → i ≢ k

@@ -1,6 +1,6 @@
 -- The scripts that are tried: each is that of a key and two sets, and presses and releases keys.
 use Rattle.keymap_check.proofs.Common.{zero, suc, ◌≡◌, ℕ, ◌<◌, Bool, true, false, List, [], ◌∷◌, Option, Some, None}
-use Rattle.keymap_check.proofs.Common.{refl, subst, if◌then◌else◌, find, reverse, All, All-append, All-nil, lit<}
+use Rattle.keymap_check.proofs.Common.{refl, if◌then◌else◌, find, reverse, All, All-append, All-nil, lit<, rules}
 use Rattle.keymap_check.proofs.Common.{MapValue, Event, Press, Release, HasKey, gathered, findings_at, first_below-some}
 use Rattle.keymap_check.proofs.Common.{is_other, bears_group, bit_key, bit_keys, key_at, event_if, event_at, events_of}
 use Rattle.keymap_check.proofs.Common.{is_chosen, lacks_key, script, scripts_of, scripts_with, has_some, tried_at}
@@ -32,15 +32,7 @@ found-one false x s e = cc
 -- what holds of each script of a key and two sets holds of the one that is given
 pub given-holds : (m : MapValue) (test : List Event → Bool) (s : List Event) (P : List Event → Type 0)
     → ((k a b : ℕ) → k < 128 → P (script (bit_keys m k) k a b)) → find test (tried m) ≡ Some s → P s
-given-holds m test s P each e =
-    let key = found-in test (tried_at m) 128 s e in
-    let keys = bit_keys m key.0 in
-    let first = found-in test (scripts_with keys key.0) 16 s (found-if test (has_some (findings_at m key.0)) _ s key.2)
-    in
-    let second = found-in test (scripts_of keys key.0 first.0) 16 s
-    (found-unless test (lacks_key keys first.0) _ s first.2) in
-    let is = found-one _ _ s (found-unless test (lacks_key keys second.0) _ s second.2) in
-    subst P is (each key.0 first.0 second.0 key.1)
+given-holds m test s P each e = search (rules, found-in, found-if, found-unless, found-one)
 
 -- no key is lacking for the empty set
 pub alone-complete : (keys : List (Option ℕ)) → lacks_key keys 0 ≡ false

@@ -39,12 +39,14 @@ pub fn accepted_maps_never_stick()
 
 /// A demonstration tries the keys that make a map refused, and a bit's key is the least other one that bears a
 /// modifier of its group.
+#[tactic(auto, using(crate::proofs::Tried::bit_keys_are_least, crate::proofs::Tried::tried_keys_are_unsafe,),)]
 pub fn scripts_press_the_keys_of_the_map()
     ensures bit_keys { BitKeysAreLeast }
     ensures tried { TriedKeysAreUnsafe }
 {}
 
 /// A demonstration is presses and releases of keys after which a modifier is on and no key is pressed.
+#[tactic(auto, using(crate::proofs::Demonstrated::demonstrations_leave_modifiers_on))]
 pub fn demonstrations_leave_modifiers_on()
     ensures { DemonstrationsLeaveModifiersOn }
 {}

@@ -1,7 +1,7 @@
 -- One more number below a bound.
 use Rattle.keymap_core.proofs.Common.{zero, suc, ◌≡◌, ℕ, ◌<◌, ◌≤◌, length, length-append, ◌+◌, ◌-◌, Bool, true, false}
 use Rattle.keymap_core.proofs.Common.{List, [], ◌++◌, Option, Some, None, refl, ap, subst, sym, ◌∙◌, inl, inr, arith}
-use Rattle.keymap_core.proofs.Common.{none-some, same_Some, option_or, first_below}
+use Rattle.keymap_core.proofs.Common.{none-some, same_Some, option_or, first_below, rules}
 use Rattle.std.proofs.Common.{◌⊎◌, if◌then◌else◌, add-one}
 use Rattle.std.proofs.lemmas.Bool.{cases_eq}
 use Rattle.std.specs.Option.{MatchOption}
@@ -73,9 +73,7 @@ first_below-no test (suc n) e = no-by test n (first_below test n) (test n) refl 
 some-by : (test : ℕ → Bool) (n i : ℕ) (o : Option ℕ) (t : Bool) → test n ≡ t → (o ≡ None → NoneBelow test n)
     → (o ≡ Some i → IsFirstBelow test n i) → option_or o (if t then Some n else None) ≡ Some i
     → IsFirstBelow test (suc n) i
-some-by test n i None true e g f h =
-    let s : n ≡ i = same_Some n i h in
-    subst (λ x. IsFirstBelow test (suc n) x) s (omega arith, e, g refl)
+some-by test n i None true e g f h = search (rules, same_Some)
 some-by test n i None false e g f h = absurd (none-some i h)
 some-by test n i (Some j) t e g f h = let r : IsFirstBelow test n i = f h in (omega (arith, r.0), r.1, r.2)
 

@@ -2,7 +2,7 @@
 use Rattle.keymap_core.proofs.Common.{zero, suc, ◌↔◌, ◌≡◌, ℕ, ◌+◌, ◌<◌, Bool, true, false, ◌||◌, ◌&&◌, refl, ap, sym}
 use Rattle.keymap_core.proofs.Common.{◌∙◌, inl, inr, arith, eqb, or_cases, and_parts, true≢false, eqb-true, eq-eqb}
 use Rattle.keymap_core.proofs.Common.{Action, Cell, holding_action, MapValue, cell_at, any_below, is_cell_of_action}
-use Rattle.keymap_core.proofs.Common.{has_in_slot, is_upper_live, is_borne}
+use Rattle.keymap_core.proofs.Common.{has_in_slot, is_upper_live, is_borne, rules}
 use Rattle.std.proofs.lemmas.Bool.{cases_Bool, or_left, or_right}
 use Rattle.keymap_core.specs.declared.action.Holding.{Holding}
 use Rattle.keymap_core.specs.declared.entry.Cell.TheVariants.{Char, Act}
@@ -161,9 +161,7 @@ borne_upper_by m k lt (inr s) = s.0
 
 -- the upper slots are live where some key bears alock
 pub borne-upper : (m : MapValue) → is_borne m (holding.Lock lock.Alt) ≡ true → IsUpperLive m
-borne-upper m e =
-    let s : (k : ℕ) × (k < 128) × Bears m k (holding.Lock lock.Alt) = borne-bears m (holding.Lock lock.Alt) e in
-    borne_upper_by m s.0 s.1 s.2
+borne-upper m e = search (rules, borne-bears, borne_upper_by)
 
 -- what the loops keep
 pub slot-none : (m : MapValue) (a : Action) (slot column : ℕ)

@@ -1,5 +1,5 @@
 -- The code of each action is that action's alone.
-use Rattle.keymap_core.proofs.Common.{◌↔◌, ◌∙◌, ◌≡◌, ℕ, ◌-◌, ◌<◌, ◌≤◌, ◌==◌, List, [], ◌∷◌, Bool, true, false, refl}
+use Rattle.keymap_core.proofs.Common.{◌↔◌, ◌∙◌, ◌≡◌, ℕ, ◌-◌, ◌≤◌, ◌==◌, List, [], ◌∷◌, Bool, true, false, refl, rules}
 use Rattle.keymap_core.proofs.Common.{arith, sym, ap, subst, inl, inr, map, ◌||◌, Some, None, Option, cond, find}
 use Rattle.keymap_core.proofs.Common.{list_all, range_with_len, and_parts, cases_lt, eqb-true, none-some, same_Some}
 use Rattle.keymap_core.proofs.Common.{nat_tests, common_steps, IsAction, action_of, plain_actions, Action}
@@ -60,8 +60,7 @@ range-has_code : (c low high : ℕ) (numbered action : Action) (rest : Option Ac
     → (low ≤ c → c ≤ high → HasCode c numbered) → (rest ≡ Some action → HasCode c action)
     → cond b (Some numbered) rest ≡ Some action → HasCode c action
 range-has_code c low high numbered action rest true test inside later h =
-    let parts = and_parts (nat_le low c) (nat_le c high) test in
-    subst (λ y. HasCode c y) (same_Some numbered action h) (inside (leb-true low c parts.0) (leb-true c high parts.1))
+    search (rules, and_parts, nat_le, same_Some, leb-true)
 range-has_code c low high numbered action rest false test inside later h = later h
 
 -- the action of a code has the code
@@ -87,12 +86,7 @@ beyond-find c (x ∷ xs) below h =
 
 -- codes from 0xa4 on have no action
 beyond-none : (c : ℕ) → 0xa4 ≤ c → action_of c ≡ None
-beyond-none c h =
-    rw (beyond 0x0b 0x1a c h (omega arith), beyond 0x1b 0x7a c h (omega arith), beyond 0x89 0x97 c h (omega arith))
-    (beyond-find c plain_actions refl h)
-  where
-    beyond : (low high c : ℕ) → 0xa4 ≤ c → high < 0xa4 → within low high c ≡ false
-    beyond low high c h few = grind (arith, nat_tests)
+beyond-none c h = search (rules, beyond-find, nat_tests)
 
 -- the same as a test
 abbrev is_code_of_no_action : ℕ → Bool

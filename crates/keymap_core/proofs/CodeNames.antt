@@ -1,7 +1,7 @@
 -- A search for the first action of some codes that passes a test.
 use Rattle.keymap_core.proofs.Common.{◌≡◌, ℕ, ◌<◌, ◌+◌, Bool, true, false, List, [], ◌∷◌, ◌++◌, take, drop, get_or}
 use Rattle.keymap_core.proofs.Common.{length, refl, sym, ap, ◌∙◌, Option, Some, None, find, filter_map, option_map_or}
-use Rattle.keymap_core.proofs.Common.{option_or, find-append, Action, action_of}
+use Rattle.keymap_core.proofs.Common.{find-append, Action, action_of, rules}
 use Rattle.std.proofs.Common.{take-append-drop}
 use Rattle.std.specs.List.{cons_option}
 use Rattle.std.proofs.Math.Seq.{drop-cons}
@@ -23,10 +23,7 @@ found p (Some x) xs e = rw e refl
 -- where nothing in front passes, the search finds what it finds behind
 behind : (p : Action → Bool) (front rest : List ℕ) → find p (filter_map action_of front) ≡ None
     → find p (filter_map action_of (front ++ rest)) ≡ find p (filter_map action_of rest)
-behind p front rest e =
-    ap (find p) (filter_map-append action_of front rest)
-    ∙ find-append p (filter_map action_of front) (filter_map action_of rest)
-    ∙ ap (λ o. option_or o (find p (filter_map action_of rest))) e
+behind p front rest e = search (rules, filter_map-append, find-append)
 
 -- one more code whose action fails: still nothing is found
 pub none-more : (p : Action → Bool) (codes : List ℕ) (i : ℕ) → i < length codes

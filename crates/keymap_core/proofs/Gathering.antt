@@ -1,6 +1,6 @@
 -- A text that goes to a writer through a buffer.
-use Rattle.keymap_core.proofs.Common.{◌≡◌, ℕ, ◌+◌, ◌≤◌, List, [], ◌++◌, length, take, sym, ap, ◌∙◌, append_assoc, arith}
-use Rattle.keymap_core.proofs.Common.{length-append, subst, Option, None, Some, Appends}
+use Rattle.keymap_core.proofs.Common.{◌≡◌, ℕ, ◌+◌, List, [], ◌++◌, length, sym, ◌∙◌, append_assoc, rules}
+use Rattle.keymap_core.proofs.Common.{length-append, subst, Option, Appends}
 use Rattle.std.proofs.Common.{append-nil}
 use Rattle.std.specs.Prelude.{Result, Ok, Err, IsErrAnd, MatchResult}
 use Rattle.std.proofs.lemmas.List.{take-append-le}
@@ -12,24 +12,15 @@ pub Gathers-flushed : {start mid : Option (List ℕ)} (new : Option (List ℕ)) 
     {text : List ℕ}
     → Gathers start mid before text → after.written ≡ before.written + length before.waiting
     → Appends mid new before.waiting → after.waiting ≡ [] → Gathers start new after text
-Gathers-flushed {start = start} {mid = mid} new {before = before} after g counted taken empty = record {
-  front = g.front ++ before.waiting;
-  taken = Appends-trans start mid new g.front before.waiting g.taken taken;
-  counted = omega (arith, length-append g.front before.waiting, g.counted, counted);
-  whole = g.whole ∙ sym (rw empty (append-nil (g.front ++ before.waiting)));
-}
+Gathers-flushed {start = start} {mid = mid} new {before = before} after g counted taken empty =
+    search (rules, Appends-trans, length-append, append-nil)
 
 -- The buffer got a piece.
 pub Gathers-more : {start now : Option (List ℕ)} {before : StreamValue} (after : StreamValue) {text : List ℕ}
     (piece : List ℕ)
     → Gathers start now before text → after.written ≡ before.written → after.waiting ≡ before.waiting ++ piece
     → Gathers start now after (text ++ piece)
-Gathers-more {before = before} after piece g counted grown = record {
-  front = g.front;
-  taken = g.taken;
-  counted = counted ∙ g.counted;
-  whole = rw grown (ap (λ v. v ++ piece) g.whole ∙ append_assoc g.front before.waiting piece);
-}
+Gathers-more {before = before} after piece g counted grown = search (rules, append_assoc)
 
 -- a text that is equal to the one that was gathered was gathered
 pub Gathers-same : {start now : Option (List ℕ)} {stream : StreamValue} (text : List ℕ) {same : List ℕ} → text ≡ same
@@ -40,11 +31,7 @@ Gathers-same text equal g =
 -- The writer failed in a longer text.
 pub StopsIn-more : (start now : Option (List ℕ)) (text rest all : List ℕ) (w : ℕ) → all ≡ text ++ rest
     → StopsIn start now text w → StopsIn start now all w
-StopsIn-more start now text rest all w parts stops =
-    let short : w ≤ length text = omega (arith, stops.0) in
-    let front : take w all ≡ take w text = rw (parts) (take-append-le w text rest short) in
-    let long : length all ≡ length text + length rest = rw (parts) (length-append text rest) in
-    (omega (arith, stops.0), rw front stops.1)
+StopsIn-more start now text rest all w parts stops = search (rules, take-append-le, length-append)
 
 -- what a `?` passes on
 pub passed_on : {X E : Type 0} (r : Result X E) (e : E) (P : X → Type 0) (Q : E → Type 0) → IsErrAnd r (λ f. f ≡ e)
@@ -55,13 +42,4 @@ passed_on (Err f) e P Q is here = subst Q (sym is) here
 -- Nothing was written yet.
 pub Gathers-start : (now : Option (List ℕ)) (stream : StreamValue) → stream.waiting ≡ [] → stream.written ≡ 0
     → Gathers now now stream []
-Gathers-start now stream empty none = record {
-  front = [];
-  taken = Appends-nothing now;
-  counted = none;
-  whole = sym empty;
-}
-  where
-    Appends-nothing : (now : Option (List ℕ)) → Appends now now []
-    Appends-nothing None = tt
-    Appends-nothing (Some held) = sym (append-nil held)
+Gathers-start now stream empty none = search (rules, append-nil)

@@ -1,5 +1,5 @@
 -- What a word means, by the tests that are made in turn.
-use Rattle.keymap_core.proofs.Common.{◌≡◌, ℕ, ◌<◌, min, Bool, true, false, cond, List, [], ◌∷◌, ◌++◌, map, refl, sym}
+use Rattle.keymap_core.proofs.Common.{◌≡◌, ℕ, ◌<◌, min, Bool, true, false, cond, List, [], ◌∷◌, map, refl, sym, rules}
 use Rattle.keymap_core.proofs.Common.{◌∙◌, ap, arith, Option, Some, None, find, list_any, option_map, option_map_or}
 use Rattle.keymap_core.proofs.Common.{option_or, bytes_eq, nat_tests, none-some, same_Some, find-append, name_of}
 use Rattle.keymap_core.proofs.Common.{plain_actions, meaning_of, number_behind, combined_names, Action}
@@ -73,13 +73,7 @@ pub find-names : (low : List ℕ)
     ≡ option_or (option_or (find (λ action. bytes_eq low (name_of action)) plain_actions)
     (find (λ action. bytes_eq low (name_of action)) dead_keys))
     (option_map (λ name. name.1) (find (λ name. bytes_eq low name.0) aliases))
-find-names low =
-    ap (option_map (λ name. name.1))
-    (find-append (λ name. bytes_eq low name.0) (map named_entry (plain_actions ++ dead_keys)) aliases
-    ∙ ap (λ o. option_or o (find (λ name. bytes_eq low name.0) aliases))
-    (find-entries (bytes_eq low) (plain_actions ++ dead_keys)
-    ∙ ap (option_map named_entry) (find-append (λ action. bytes_eq low (name_of action)) plain_actions dead_keys)))
-    ∙ action-entry _ (find (λ name. bytes_eq low name.0) aliases)
+find-names low = search (rules, find-append, find-entries, action-entry)
 
 -- what the action found means is what the row found means
 meaning-of_action : (o : Option (List ℕ × Action))
@@ -106,9 +100,4 @@ meaning-named low found screen function combined e =
 pub meaning-combined : (low : List ℕ) → None ≡ cut_at_255 (number_behind (codes "scr") low)
     → None ≡ cut_at_255 (number_behind (codes "fkey") low) → list_any (bytes_eq low) combined_names ≡ true
     → n.Combined ≡ meaning_of low
-meaning-combined low screen function combined =
-    ap (λ b. cond b n.Combined
-    (option_map_or (λ name. n.Action name.1) (find (λ name. bytes_eq low name.0) names) n.Unknown))
-    (sym combined)
-    ∙ numbered-not_found 96 a.Function (number_behind (codes "fkey") low) _ function
-    ∙ numbered-not_found 16 a.Screen (number_behind (codes "scr") low) _ screen
+meaning-combined low screen function combined = search (rules, numbered-not_found)

@@ -1,6 +1,6 @@
 -- The name of each action, read again, gives the action.
 use Rattle.keymap_core.proofs.Common.{List, All, map, ◌≡◌, ℕ, refl, ap, arith, range_with_len, to_ascii_lowercase}
-use Rattle.keymap_core.proofs.Common.{IsAction, name_of, meaning_of, combined_names, Action}
+use Rattle.keymap_core.proofs.Common.{IsAction, name_of, meaning_of, combined_names, Action, rules}
 use Rattle.std.proofs.Common.{suc}
 use Rattle.keymap_core.proofs.Lists.{along}
 use Rattle.keymap_core.specs.Names.{named_of}
@@ -28,9 +28,7 @@ dead-keys = refl
 pub name-read : (action : Action) → IsAction action → named_of (name_of action) ≡ n.Action action
 name-read (a.Screen k) known =
     along (λ k. named_of (name_of (a.Screen k))) (λ k. n.Action (a.Screen k)) 1 16 screens k (omega arith) (omega arith)
-name-read (a.Function k) known =
-    along (λ k. named_of (name_of (a.Function k))) (λ k. n.Action (a.Function k)) 1 96 functions k (omega arith)
-    (omega arith)
+name-read (a.Function k) known = search (rules, functions)
 name-read (a.DeadKey k) known =
     along (λ k. named_of (name_of (a.DeadKey k))) (λ k. n.Action (a.DeadKey k)) 0 15 dead-keys k (omega arith)
     (omega arith)

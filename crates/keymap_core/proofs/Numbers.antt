@@ -1,6 +1,6 @@
 -- The number behind the letters of a name.
 use Rattle.keymap_core.proofs.Common.{◌≡◌, ℕ, ◌<◌, min, Bool, true, false, cond, List, [], ◌∷◌, length, take, drop, map}
-use Rattle.keymap_core.proofs.Common.{refl, sym, ◌∙◌, ap, ap₂, arith, ◌&&◌, Option, Some, None, list_all, option_map}
+use Rattle.keymap_core.proofs.Common.{refl, ◌∙◌, ap, ap₂, arith, ◌&&◌, Option, Some, None, list_all, option_map, rules}
 use Rattle.keymap_core.proofs.Common.{bytes_eq, to_ascii_lowercase, is_ascii_digit, and_parts, nat_tests, are_digits}
 use Rattle.keymap_core.proofs.Common.{digits_value, number_behind}
 use Rattle.std.proofs.Common.{length-take}
@@ -38,11 +38,7 @@ spelled digits = cond (are_digits digits) (Some (digits_value digits)) None
 -- `b` tells whether they are digits
 spelled_at : (b : Bool) (xs : List ℕ) → list_all is_ascii_digit xs ≡ b → spelled (lower xs) ≡ spelled xs
 spelled_at true xs h = ap spelled (digits-lower xs h)
-spelled_at false xs h = rw (lower-digits xs, h) (none _ _ ∙ sym (none _ _))
-  where
-    none : (b : Bool) (x : Option ℕ) → cond (b && false) x None ≡ None
-    none true x = refl
-    none false x = refl
+spelled_at false xs h = search (rules, lower-digits)
 
 -- lower case spells the same number
 pub spelled-lower : (xs : List ℕ) → spelled (lower xs) ≡ spelled xs
@@ -64,20 +60,11 @@ number-behind letters word h =
 -- a word that begins with other letters has no number behind them
 pub none-behind : (letters word : List ℕ) → bytes_eq (lower (take (length letters) word)) letters ≡ false
     → number_behind letters (lower word) ≡ None
-none-behind letters word h =
-    behind_at false letters word
-    (ap (λ xs. bytes_eq xs letters) (take-map to_ascii_lowercase (length letters) word) ∙ h)
+none-behind letters word h = search (rules, behind_at, take-map)
 
 -- a word shorter than the letters
 pub none-shorter : (letters word : List ℕ) → length word < length letters → number_behind letters (lower word) ≡ None
-none-shorter letters word h = behind_at _ letters word refl ∙ at _ refl
-  where
-    at : (b : Bool) → bytes_eq (take (length letters) (lower word)) letters ≡ b
-        → cond b (spelled (drop (length letters) word)) None ≡ None
-    at false e = refl
-    at true e =
-        let same = ap length ((bytes_eq-Decides (take (length letters) (lower word)) letters).0 e) in
-        absurd (omega (arith, same, length-take (length letters) (lower word), length-map word to_ascii_lowercase))
+none-shorter letters word h = search (rules, behind_at, bytes_eq-Decides, length-take, length-map)
 
 -- the same numbers, cut at 255
 pub cut : (b : Bool) (n : ℕ) → option_map (λ n. min n 255) (cond b (Some n) None) ≡ cond b (Some (min n 255)) None

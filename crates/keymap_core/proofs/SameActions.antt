@@ -1,5 +1,5 @@
 -- The test for the same action.
-use Rattle.keymap_core.proofs.Common.{◌≡◌, ℕ, true, cond, eqb, refl, ap, sym, ◌∙◌, eqb-true, eq-eqb, and_parts}
+use Rattle.keymap_core.proofs.Common.{◌≡◌, ℕ, true, cond, eqb, refl, ap, eqb-true, eq-eqb, and_parts, rules}
 use Rattle.keymap_core.proofs.Common.{Modifier, Lock, Action, same_action}
 use Rattle.keymap_core.specs.declared.action.Modifier.TheVariants.{LeftShift, RightShift, LeftControl, RightControl}
 use Rattle.keymap_core.specs.declared.action.Modifier.TheVariants.{LeftAlt, RightAlt, AltShift, Meta}
@@ -58,13 +58,7 @@ action_of-parts _ = refl
 
 -- where the test passes, the actions are the same
 pub same_action-true : (a b : Action) → same_action a b ≡ true → a ≡ b
-same_action-true a b e =
-    let p : (eqb (action_kind a) (action_kind b) ≡ true) × (eqb (action_number a) (action_number b) ≡ true) =
-    and_parts _ _ e in
-    let i : action_kind a ≡ action_kind b = eqb-true _ _ p.0 in
-    let n : action_number a ≡ action_number b = eqb-true _ _ p.1 in
-    sym (action_of-parts a) ∙ ap (λ x. action_of x (action_number a)) i ∙ ap (λ x. action_of (action_kind b) x) n
-    ∙ action_of-parts b
+same_action-true a b e = search (rules, and_parts, eqb-true, action_of-parts)
 
 -- each action passes the test with itself
 pub same_action-refl : (a : Action) → same_action a a ≡ true

@@ -14,9 +14,7 @@ use Rattle.console_core.specs.declared.selection.Sight.TheVariants as sight
 -- an element after a write
 pub set-cases : (xs : List Bool) (i j : ℕ) (v : Bool) → i < length xs → (t : Bool) → (i == j) ≡ t
     → slice_index_or (slice_set xs i v) j false ≡ (if t then v else slice_index_or xs j false)
-set-cases xs i j v lt true e =
-    let same : i ≡ j = eqb-true i j e in
-    subst (λ n. slice_index_or (slice_set xs i v) n false ≡ v) same (get_or-set_same xs i v false lt)
+set-cases xs i j v lt true e = grind (arith, eqb-true, get_or-set_same)
 set-cases xs i j v lt false e =
     get_or-set_other xs i j v false (λ f. true≢false (sym (eq-eqb i j (sym f)) ∙ e))
 
@@ -30,9 +28,7 @@ is-this : (i c : ℕ) → is_pair i c (sight.Pair i c) ≡ true
 is-this i c = and_from (i == i) (c == c) (eq-eqb i i refl) (eq-eqb c c refl)
 
 this-is : (i c : ℕ) (x : Sight) → is_pair i c x ≡ true → x ≡ sight.Pair i c
-this-is i c (sight.Pair j d) e =
-    let p = and_parts (j == i) (d == c) e in
-    ap (λ n. sight.Pair n d) (eqb-true j i p.0) ∙ ap (λ n. sight.Pair i n) (eqb-true d c p.1)
+this-is i c (sight.Pair j d) e = grind (arith, and_parts, eqb-true)
 this-is i c (sight.Cell s d) e = absurd (true≢false (sym e))
 this-is i c (sight.Locks s a b) e = absurd (true≢false (sym e))
 
@@ -60,6 +56,4 @@ none-seen n k (sight.Pair i c) = refl
 
 pub none-seen-by : (cells settings : List Bool) (pairs : List Sight) (n k : ℕ) (x : Sight) → cells ≡ replicate n false
     → settings ≡ replicate k false → pairs ≡ [] → seen_in cells settings pairs x ≡ false
-none-seen-by cells settings pairs n k x e f g =
-    ap (λ z. seen_in z settings pairs x) e ∙ ap (λ z. seen_in (replicate n false) z pairs x) f
-    ∙ ap (λ z. seen_in (replicate n false) (replicate k false) z x) g ∙ none-seen n k x
+none-seen-by cells settings pairs n k x e f g = grind (arith, none-seen)

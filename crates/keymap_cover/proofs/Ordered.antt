@@ -1,6 +1,6 @@
 -- The parts that begin stand in their order, each with its events.
-use Rattle.keymap_cover.proofs.Common.{◌≡◌, ℕ, ◌<◌, ◌+◌, inl, inr, List, [], ◌∷◌, ◌++◌, length}
-use Rattle.keymap_cover.proofs.Common.{ap, subst, sym, arith, Contains-append_left, part_place, ArePartsBelow}
+use Rattle.keymap_cover.proofs.Common.{◌≡◌, ℕ, ◌<◌, ◌+◌, inl, inr, List, [], ◌∷◌, ◌++◌}
+use Rattle.keymap_cover.proofs.Common.{subst, sym, arith, Contains-append_left, part_place, ArePartsBelow}
 use Rattle.std.proofs.lemmas.Bool.{cases_lt}
 use Rattle.std.proofs.lemmas.List.Elements.{All-push, Contains-push}
 use Rattle.std.proofs.lemmas.List.Quantifiers.{all_pairs_push}
@@ -8,17 +8,7 @@ use Rattle.keymap_cover.specs.declared.parts.Start.{Start}
 
 -- no events are in no part
 pub parts-none : (starts : List Start) (n : ℕ) → starts ≡ [] → n ≡ 0 → ArePartsBelow 0 starts n
-parts-none starts n none e = record {
-  parts = record {
-    in_order = λ i j d lt within. absurd (omega (arith, lt, within, zero_long));
-    within = λ k d lt. absurd (omega (arith, lt, zero_long));
-    first = λ some. absurd (omega (arith, some, e));
-  };
-  below = λ k d lt. absurd (omega (arith, lt, zero_long));
-}
-  where
-    zero_long : length starts ≡ 0
-    zero_long = ap (λ z. length z) none
+parts-none starts n none e = grind (arith)
 
 -- a part without events has no beginning
 pub parts-skip : (place : ℕ) (starts : List Start) (n : ℕ) → ArePartsBelow place starts n

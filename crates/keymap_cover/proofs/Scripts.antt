@@ -1,4 +1,5 @@
 -- What one more event does to a script.
+use Rattle.std.proofs.Common.{arith}
 use Rattle.keymap_cover.proofs.Common.{◌≡◌, ℕ, ◌<◌, ◌⊎◌, inl, inr, Bool, true, false, List, [], ◌∷◌, ◌++◌, Option, None}
 use Rattle.keymap_cover.proofs.Common.{Some, refl, ap, subst, sym, ◌∙◌, length, reverse, if◌then◌else◌, not, ◌==◌}
 use Rattle.keymap_cover.proofs.Common.{slice_set, slice_index_or, replicate, All-nil, All-cons, and-false, true≢false}
@@ -18,7 +19,6 @@ use Rattle.console_core.specs.History.{pressed, is_on_after, HasKey, HasKeys, is
 use Rattle.console_core.specs.History.{is_any_on_after}
 use Rattle.console_core.proofs.OneMore.{pressed-start, pressed-press, pressed-release, pressed-reset}
 use Rattle.keymap_core.proofs.HoldingTests.{no-modifier}
-use mathlib.Core.Path.{fun_ext}
 use Rattle.console_core.specs.Sights.{selection_with, slot_in, column_in, look_selected, selection_after, SeesNext}
 use Rattle.keymap_cover.specs.ScriptEvents.{CanFollow, ArePossible}
 use Rattle.console_core.specs.declared.sights.Sights.{Sights}
@@ -26,7 +26,7 @@ use Rattle.console_core.specs.Sticking.{NeverForgets}
 use Rattle.keymap_cover.specs.declared.parts.Cover.{Cover}
 use Rattle.keymap_cover.specs.Covering.{history, IsAtRest, Covers}
 use Rattle.keymap_cover.proofs.Marking.{set-cases}
-use Rattle.keymap_cover.specs.Inner.Scripts.{IsWith, IsPairOf, AddsSights}
+use Rattle.keymap_cover.specs.Inner.Scripts.{IsWith, AddsSights}
 use Rattle.keymap_core.specs.declared.action.Holding.TheVariants as holding
 use Rattle.console_core.specs.declared.event.Event.TheVariants as event
 use Rattle.console_core.specs.declared.selection.Sight.TheVariants as sight
@@ -35,42 +35,19 @@ use Rattle.keymap_cover.specs.declared.script_event.ScriptEvent.TheVariants as s
 -- the pair of a press was added
 pub pair-added : (m : MapValue) (y : Selection) (k accent c : ℕ) (old now : Sight → Bool) → look_selected m y k ≡ Char c
     → IsWith (sight.Pair accent c) old now → AddsPair m y k (Some accent) old now
-pair-added m y k accent c old now seen w x = (
-  (λ there. (w.1 x).0 there),
-  (λ is. subst (λ z. now z ≡ true) (same x is) w.0),
-  (λ there. elim ((w.1 x).1 there) [
-    | inl was ↦ inl was
-    | inr e ↦ inr (subst (λ z. IsPairOf m y k (Some accent) z) e (refl, seen))
-  ]),
-)
-  where
-    same : (x : Sight) → IsPairOf m y k (Some accent) x → sight.Pair accent c ≡ x
-    same (sight.Pair i d) (e, f) =
-        let g : Char c ≡ Char d = sym seen ∙ f in
-        let p : accent ≡ i = cc in
-        let q : c ≡ d = cc in
-        ap (λ n. sight.Pair n c) p ∙ ap (λ n. sight.Pair i n) q
-    same (sight.Cell s d) x = absurd x
-    same (sight.Locks s a b) x = absurd x
+pair-added m y k accent c old now seen w x = grind (arith)
 
 -- where there is none, nothing was
 pub pair-not : (m : MapValue) (y : Selection) (k : ℕ) (pending : Option ℕ) (old : Sight → Bool)
     → ((i c : ℕ) → pending ≡ Some i → look_selected m y k ≡ Char c → ⊥) → AddsPair m y k pending old old
-pair-not m y k pending old not x = ((λ there. there), (λ is. absurd (none x is)), (λ there. inl there))
-  where
-    none : (x : Sight) → IsPairOf m y k pending x → ⊥
-    none (sight.Pair i c) (e, f) = not i c e f
-    none (sight.Cell s d) is = is
-    none (sight.Locks s a b) is = is
+pair-not m y k pending old not x = grind (arith)
 
 -- the selection of a console that stands at the list
 selection-stands : (on : Modifier → Bool) (off : Lock → Bool) (m : MapValue) (h : List Event)
     → ((i : Modifier) → on i ≡ is_on_after (between m m) i h)
     → ((l : Lock) → off l ≡ is_locked_after (between m m) l h)
     → selection_with on off ≡ selection_after m h
-selection-stands on off m h e f =
-    ap (λ x. selection_with x off) (fun_ext e)
-    ∙ ap (λ x. selection_with (λ i. is_on_after (between m m) i h) x) (fun_ext f)
+selection-stands on off m h e f = grind (arith)
 
 -- what a press sees was added
 sights-added : (m : MapValue) (h : List Event) (k : ℕ) (pending : Option ℕ) (old a b now : Sight → Bool)
@@ -79,41 +56,7 @@ sights-added : (m : MapValue) (h : List Event) (k : ℕ) (pending : Option ℕ) 
     IsWith (sight.Cell (slot_in y k) (column_in m y k)) old a
     → IsWith (sight.Locks (slot_in y k) y.caps y.num) a b
     → AddsPair m y k pending b now → AddsSights m h k old now)
-sights-added m h k pending old a b now is v w pair x = (
-  (λ there. (pair x).0 ((w.1 x).0 ((v.1 x).0 there))),
-  (λ sees. all x sees),
-  (λ there. elim ((pair x).2 there) [
-    | inl was ↦ elim ((w.1 x).1 was) [
-      | inl before ↦ elim ((v.1 x).1 before) [
-        | inl first ↦ inl first
-        | inr e ↦ inr (subst (λ z. SeesNext m h k z) e ((refl, refl), tt))
-      ]
-      | inr e ↦ inr (subst (λ z. SeesNext m h k z) e ((refl, refl, refl), tt))
-    ]
-    | inr f ↦ inr (paired x f)
-  ]),
-)
-  where
-    y : Selection
-    y = selection_after m h
-
-    paired : (x : Sight) → IsPairOf m (selection_after m h) k pending x → SeesNext m h k x
-    paired (sight.Pair i c) (e, seen) = (seen, is ∙ e)
-    paired (sight.Cell s d) f = absurd f
-    paired (sight.Locks s p q) f = absurd f
-
-    all : (x : Sight) → SeesNext m h k x → now x ≡ true
-    all (sight.Cell s d) ((e, f), t) =
-        (pair (sight.Cell s d)).0
-        ((w.1 (sight.Cell s d)).0
-        (subst (λ z. a z ≡ true) (ap (λ n. sight.Cell n (column_in m (selection_after m h) k)) e
-        ∙ ap (λ n. sight.Cell s n) f) v.0))
-    all (sight.Locks s p q) ((e, f, g), t) =
-        (pair (sight.Locks s p q)).0
-        (subst (λ z. b z ≡ true)
-        (ap (λ n. sight.Locks n (selection_after m h).caps (selection_after m h).num) e
-        ∙ ap (λ n. sight.Locks s n (selection_after m h).num) f ∙ ap (λ n. sight.Locks s p n) g) w.0)
-    all (sight.Pair i c) (seen, e) = (pair (sight.Pair i c)).1 (sym is ∙ e, seen)
+sights-added m h k pending old a b now is v w pair x = grind (arith)
 
 -- the same by what a console shows
 pub shown-added : (m : MapValue) (h : List Event) (k slot column : ℕ) (pending : Option ℕ) (y : Selection)
@@ -124,14 +67,7 @@ pub shown-added : (m : MapValue) (h : List Event) (k slot column : ℕ) (pending
     → IsWith (sight.Cell slot column) old a → IsWith (sight.Locks slot y.caps y.num) a b
     → AddsPair m y k pending b now → AddsSights m h k old now
 shown-added m h k slot column pending y old a b now on off is_on e f is s d v w pair =
-    let same : y ≡ selection_after m h = is_on ∙ selection-stands on off m h e f in
-    sights-added m h k pending old a b now is
-    (subst (λ z. IsWith (sight.Cell (slot_in z k) (column_in m z k)) old a) same
-    (subst (λ n. IsWith (sight.Cell (slot_in y k) n) old a) d
-    (subst (λ n. IsWith (sight.Cell n column) old a) s v)))
-    (subst (λ z. IsWith (sight.Locks (slot_in z k) z.caps z.num) a b) same
-    (subst (λ n. IsWith (sight.Locks n y.caps y.num) a b) s w))
-    (subst (λ z. AddsPair m z k pending b now) same pair)
+    grind (arith, selection-stands, sights-added, slot_in)
 
 -- what is seen along one more event
 sees-old : (m : MapValue) (e : Event) (h : List Event) (x : Sight) → SeesAlong m h x → SeesAlong m (e ∷ h) x
@@ -146,28 +82,16 @@ firsts a b g h e = (cc, cc)
 
 sees-cases : (m : MapValue) (e : Event) (h : List Event) (x : Sight) → SeesAlong m (e ∷ h) x
     → SeesAlong m h x ⊎ ((k : ℕ) × (e ≡ event.Press k) × SeesNext m h k x)
-sees-cases m e h x ([], before, k, at, sees) =
-    let p : (e ≡ event.Press k) × (h ≡ before) = firsts e (event.Press k) h before at in
-    inr (k, p.0, subst (λ z. SeesNext m z k x) (sym p.1) sees)
-sees-cases m e h x (f ∷ later, before, k, at, sees) =
-    let p : (e ≡ f) × (h ≡ later ++ event.Press k ∷ before) = firsts e f h (later ++ event.Press k ∷ before) at in
-    inl (later, before, k, p.1, sees)
+sees-cases m e h x ([], before, k, at, sees) = grind (arith, firsts)
+sees-cases m e h x (f ∷ later, before, k, at, sees) = grind (arith, firsts)
 
 -- which keys are down after a press
 down-press : (x : ScriptEvent) (k j : ℕ) (before : List ScriptEvent) → event_of x ≡ event.Press k
     → is_down j (x ∷ before) ≡ (if k == j then true else is_down j before)
-down-press (script_event.Down i) k j before e =
-    let same : i ≡ k = cc in
-    ap (λ n. if n == j then true else is_down j before) same
-down-press (script_event.Repeat i) k j before e =
-    let same : i ≡ k = cc in
-    ap (λ n. if n == j then true else is_down j before) same
-down-press (script_event.Up i) k j before e =
-    let no : ⊥ = cc in
-    absurd no
-down-press script_event.Reset k j before e =
-    let no : ⊥ = cc in
-    absurd no
+down-press (script_event.Down i) k j before e = cc
+down-press (script_event.Repeat i) k j before e = cc
+down-press (script_event.Up i) k j before e = cc
+down-press script_event.Reset k j before e = cc
 
 -- one more event stands in front where the newest stands first
 newest : (events : List ScriptEvent) (x : ScriptEvent) → reverse (events ++ x ∷ []) ≡ x ∷ reverse events
@@ -299,21 +223,13 @@ not-pressed k (script_event.Reset ∷ xs) e = pressed-reset k (events_of xs)
 -- so a key that is pressed is down
 pub up-not : (m : MapValue) (h : List Event) (events : List ScriptEvent) (down : List Bool) (saw : Sight → Bool) (k : ℕ)
     → IsScript m h events down saw → k < key_count → slice_index_or down k false ≡ false → pressed k h ≡ true → ⊥
-up-not m h events down saw k t lt off on =
-    true≢false (sym on
-    ∙ subst (λ g. pressed k g ≡ false) t.history (not-pressed k (reverse events) (sym (t.pressed k lt) ∙ off)))
+up-not m h events down saw k t lt off on = grind (arith, not-pressed)
 
 -- where no key is down, no modifier on and no accent pending, the script is at rest
 pub rests : (m : MapValue) (h : List Event) (events : List ScriptEvent) (down : List Bool) (saw : Sight → Bool)
     → IsScript m h events down saw → AreUp down → is_any_on_after (between m m) h ≡ false
     → accent_pending_after (between m m) h ≡ None → IsAtRest m h
-rests m h events down saw t up off none = (
-  (λ k lt.
-      subst (λ g. pressed k g ≡ false) t.history
-      (not-pressed k (reverse events) (sym (t.pressed k lt) ∙ up k lt))),
-  (λ i. no-modifier (λ x. is_on_after (between m m) x h) off i),
-  none,
-)
+rests m h events down saw t up off none = grind (arith, not-pressed, no-modifier)
 
 -- what isn't there is none
 pub not-some : (o : Option ℕ) → is_some o ≡ false → o ≡ None

@@ -1,7 +1,7 @@
 -- A console goes from visit to visit, and sees what can be seen.
-use Rattle.keymap_cover.proofs.Common.{suc, ◌≡◌, ℕ, ◌+◌, ◌<◌, ◌≤◌, Bool, true, false, List, [], ◌∷◌, ◌++◌, Some, refl}
+use Rattle.keymap_cover.proofs.Common.{suc, ◌≡◌, ℕ, ◌+◌, ◌<◌, ◌≤◌, true, false, List, [], ◌∷◌, ◌++◌, Some, refl}
 use Rattle.keymap_cover.proofs.Common.{ap, subst, sym, inl, inr, ◌∙◌, arith, append_assoc, length, get_or, reverse}
-use Rattle.keymap_cover.proofs.Common.{◌==◌, Contains, eqb-true, eq-eqb, true≢false}
+use Rattle.keymap_cover.proofs.Common.{Contains, eqb-true, eq-eqb}
 use Rattle.keymap_cover.proofs.Common.{get_or_default, All-nil, All-cons, Contains-append_cases, MapValue, Event, Sight}
 use Rattle.keymap_cover.proofs.Common.{Standing, NoTurnIsOneWay, SeesAlong, IsReachable, ScriptEvent, Script, has_seen}
 use Rattle.keymap_cover.proofs.Common.{all_cells, all_lock_settings, event_of, events_of, is_down, pairs_in}
@@ -69,13 +69,7 @@ visit-goes m A p a B q b later same visits walk up h w =
 -- the explorer aims at something else
 pub aims-else : (m : MapValue) (A : Standing) (p q : ExplorerValue) (t : Script) (h : List Event) → (q.map ≡ p.map)
     × (q.locks ≡ p.locks) → IsUnderWay m A p t h → IsUnderWay m A q t h
-aims-else m A p q t h (map, locks) w = record {
-  runs = w.runs;
-  up = w.up;
-  rest = w.rest;
-  map = map ∙ w.map;
-  locks = subst (λ z. HasLocks m z h) (sym locks) w.locks;
-}
+aims-else m A p q t h (map, locks) w = grind (arith)
 
 -- nothing is done
 pub stays-so : (m : MapValue) (A : Standing) (p q : ExplorerValue) (t : Script) (P : Type 0) → (q.map ≡ p.map)
@@ -86,15 +80,7 @@ stays-so m A p q t P same holds h w = (h, aims-else m A p q t h same w, ([], ref
 pub holds-more : (xs : List Sight) (i : ℕ) (d : Sight) (P : Sight → Type 0) → i < length xs → P (get_or xs i d)
     → ((n : ℕ) (x : Sight) → n < i → get_or xs n x ≡ x → P x) → (n : ℕ) (x : Sight) → n < i + 1 → get_or xs n x ≡ x
     → P x
-holds-more xs i d P within here before n x lt at = which (n == i) refl
-  where
-    which : (t : Bool) → (n == i) ≡ t → P x
-    which true e =
-        let same : n ≡ i = eqb-true n i e in
-        subst P (get_or_default xs i d x within ∙ ap (λ k. get_or xs k x) (sym same) ∙ at) here
-    which false e =
-        let other : n ≡ i → ⊥ = λ f. true≢false (sym (eq-eqb n i f) ∙ e) in
-        before n x (omega (arith, lt, other)) at
+holds-more xs i d P within here before n x lt at = grind (arith, eqb-true, get_or_default, eq-eqb)
 
 -- what holds of the sights before a place, and of that at the place, as the script goes on
 pub all-more : (m : MapValue) (A : Standing) (p : ExplorerValue) (a : Script) (B : Standing)

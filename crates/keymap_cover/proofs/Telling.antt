@@ -3,7 +3,7 @@ use Rattle.keymap_cover.proofs.Common.{◌≡◌, ℕ, ◌+◌, ◌<◌, ◌⊎�
 use Rattle.keymap_cover.proofs.Common.{ap, subst, sym, ◌∙◌, arith, append_assoc, length, map, Option, None, Some, not}
 use Rattle.keymap_cover.proofs.Common.{if◌then◌else◌, ◌==◌, Contains, flat_map, range_with_len, eq-eqb, true≢false}
 use Rattle.keymap_cover.proofs.Common.{Contains-append_left, Contains-append_cases, MapValue, bit, Sight, cell_at_place}
-use Rattle.keymap_cover.proofs.Common.{cell_place, all_cells, all_lock_settings, lock_setting_at_place}
+use Rattle.keymap_cover.proofs.Common.{cell_place, all_cells, all_lock_settings, lock_setting_at_place, rules}
 use Rattle.keymap_cover.proofs.Common.{lock_setting_place, IsTold, base_pair, pairs_at, pairs_in}
 use Rattle.std.proofs.Common.{zero, suc, add-one, append-nil}
 use Rattle.std.specs.Prelude.{◌/◌, ◌%◌}
@@ -31,9 +31,7 @@ range-has : (n k : ℕ) → k < n → Contains (range_with_len 0 n) k
 range-has n k lt = (k, omega (arith, lt, length-range_with_len 0 n), omega (arith, get_or-range_with_len 0 n k k lt))
 
 range-of : (n k : ℕ) → Contains (range_with_len 0 n) k → k < n
-range-of n k (i, lt, at) =
-    let below : i < n = omega (arith, lt, length-range_with_len 0 n) in
-    omega (arith, below, at, get_or-range_with_len 0 n i k below)
+range-of n k (i, lt, at) = grind (arith, length-range_with_len, get_or-range_with_len)
 
 map-has : {X Y : Type 0} (f : X → Y) (xs : List X) (x : X) → Contains xs x → Contains (map f xs) (f x)
 map-has f xs x (k, lt, at) =
@@ -43,8 +41,7 @@ map-of : {X Y : Type 0} (f : X → Y) (xs : List X) (y : Y) → Contains (map f 
 map-of f [] y (k, lt, at) = absurd (omega (arith, lt))
 map-of f (x ∷ xs) y (zero, lt, at) = (x, first-has x xs, at)
 map-of f (x ∷ xs) y (suc k, lt, at) =
-    let (z, has, is) = map-of f xs y (k, omega (arith, lt), at) in
-    (z, later-has x xs z has, is)
+    grind (arith, later-has, map-of f xs y (k, omega (arith, lt), at))
 
 flat-has : {X Y : Type 0} (f : X → List Y) (xs : List X) (x : X) (y : Y) → Contains xs x → Contains (f x) y
     → Contains (flat_map f xs) y
@@ -69,18 +66,13 @@ flat-of f (z ∷ xs) y has =
 pieces-more : {X : Type 0} (f : ℕ → List X) (a n : ℕ)
     → flat_map f (range_with_len a (suc n)) ≡ flat_map f (range_with_len a n) ++ f (a + n)
 pieces-more f a zero = append-nil (f a) ∙ ap f (omega arith)
-pieces-more f a (suc n) =
-    ap (λ t. f a ++ t) (pieces-more f (a + 1) n) ∙ sym (append_assoc (f a) _ _)
-    ∙ ap (λ k. f a ++ flat_map f (range_with_len (a + 1) n) ++ f k) (omega arith)
+pieces-more f a (suc n) = grind (arith, append_assoc, pieces-more f (a + 1) n)
 
 -- what stands before, the pieces below a number, and the piece of that number behind these
 pub piece-behind : {X : Type 0} (f : ℕ → List X) (i : ℕ) (old all more : List X)
     → all ≡ old ++ flat_map f (range_with_len 0 i) → more ≡ all ++ f i
     → more ≡ old ++ flat_map f (range_with_len 0 (i + 1))
-piece-behind f i old all more e piece =
-    piece ∙ ap (λ t. t ++ f i) e ∙ append_assoc old (flat_map f (range_with_len 0 i)) (f i)
-    ∙ ap (λ t. old ++ t) (sym (ap (λ k. flat_map f (range_with_len 0 k)) (add-one i) ∙ pieces-more f 0 i
-    ∙ ap (λ k. flat_map f (range_with_len 0 i) ++ f k) (omega arith)))
+piece-behind f i old all more e piece = grind (arith, append_assoc, add-one, pieces-more)
 
 -- ---- cells and lock settings
 
@@ -184,8 +176,7 @@ all-told m xs e x = (
   where
     has : (x : Sight) → IsTold m x → Contains ((all_cells ++ all_lock_settings) ++ pairs_in m) x
     has (sight.Cell s c) (slot, column) =
-        Contains-append_left (all_cells ++ all_lock_settings) (pairs_in m) (sight.Cell s c)
-        (Contains-append_left all_cells all_lock_settings (sight.Cell s c) (cell-has s c slot column))
+        search (rules, Contains-append_left, all_cells, all_lock_settings, pairs_in, cell-has)
     has (sight.Locks s caps num) slot =
         Contains-append_left (all_cells ++ all_lock_settings) (pairs_in m) (sight.Locks s caps num)
         (Contains-append_right all_cells all_lock_settings (sight.Locks s caps num) (setting-has s caps num slot))

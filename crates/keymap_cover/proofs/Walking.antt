@@ -1,6 +1,6 @@
 -- How a console goes along a script, by one event more and by many.
-use Rattle.keymap_cover.proofs.Common.{◌≡◌, ℕ, ◌+◌, ◌<◌, Bool, true, false, List, [], ◌∷◌, ◌++◌, refl, ap, subst, sym}
-use Rattle.keymap_cover.proofs.Common.{◌∙◌, arith, append_assoc, get_or, length, reverse, take, Result, Ok, Err, ◌==◌}
+use Rattle.keymap_cover.proofs.Common.{◌≡◌, ℕ, ◌+◌, ◌<◌, Bool, false, List, [], ◌∷◌, ◌++◌, refl, ap, subst, sym}
+use Rattle.keymap_cover.proofs.Common.{◌∙◌, arith, append_assoc, get_or, length, reverse, take, Result, Ok, Err}
 use Rattle.keymap_cover.proofs.Common.{slice_index_or, OnOk, eqb-true, eq-eqb, true≢false, reverse-append, MapValue}
 use Rattle.keymap_cover.proofs.Common.{Event, Standing, between, resolved, AreTaken, Script, ComesAfter, GoesIfTaken}
 use Rattle.keymap_cover.proofs.Common.{GoesOn}
@@ -71,13 +71,7 @@ on-more m k A a B b C c first last h at =
 pub up-more : (old now : List Bool) (n k : ℕ) → k ≡ n → slice_index_or now k false ≡ false
     → ((j : ℕ) → j ≢ k → slice_index_or now j false ≡ slice_index_or old j false)
     → ((j : ℕ) → j < n → slice_index_or old j false ≡ false) → (j : ℕ) → j < n + 1 → slice_index_or now j false ≡ false
-up-more old now n k is up others below j lt = which (j == k) refl
-  where
-    which : (t : Bool) → (j == k) ≡ t → slice_index_or now j false ≡ false
-    which true e = subst (λ i. slice_index_or now i false ≡ false) (sym (eqb-true j k e)) up
-    which false e =
-        let other : j ≢ k = λ f. true≢false (sym (eq-eqb j k f) ∙ e) in
-        others j other ∙ below j (omega (arith, lt, is, other))
+up-more old now n k is up others below j lt = grind (arith, eqb-true, eq-eqb)
 
 -- the events that were delivered one by one
 pub along-more : (m : MapValue) (events : List Event) (i : ℕ) (e : Event) (A : Standing) (a : Script) (B : Standing)

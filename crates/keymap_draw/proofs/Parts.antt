@@ -1,19 +1,18 @@
 -- How words are read with what is told at their places.
-use Rattle.keymap_draw.proofs.Common.{suc, ◌≡◌, ℕ, ◌+◌, ◌==◌, Bool, true, false, List, [], ◌∷◌, ◌++◌, Option, Some}
-use Rattle.keymap_draw.proofs.Common.{Number, None, refl, sym, ap, ◌∙◌, subst, map, take, arith, not, codes, decimal}
+use Rattle.keymap_draw.proofs.Common.{◌≡◌, ℕ, ◌+◌, ◌==◌, Bool, true, false, List, [], ◌∷◌, ◌++◌, Option, Some, rules}
+use Rattle.keymap_draw.proofs.Common.{Number, None, refl, sym, ap, ◌∙◌, subst, map, arith, decimal}
 use Rattle.keymap_draw.proofs.Common.{if◌then◌else◌, list_all, flat_map, eqb-true, name_of, Finding, finding_words}
 use Rattle.keymap_draw.proofs.Common.{Told, Plain, Bytes, Fact, escaped, is_class, within, is_inner, is_seen, over}
 use Rattle.keymap_draw.proofs.Common.{ReadAs, IsWithin, facts_in, State, Read, Place, Element, at, scan, none-some}
 use Rattle.keymap_draw.proofs.Common.{saying, within_element, Text, Value, nat_tests}
 use Rattle.std.specs.Prelude.{slice_index}
-use Rattle.std.specs.List.{prefix_len}
 use Rattle.std.specs.Option.{option_and_then}
 use Rattle.std.proofs.lemmas.Option.{option_and_then_some}
 use Rattle.keymap_core.specs.declared.action.Holding.{Holding}
 use Rattle.keymap_core.specs.Actions.{holding_action}
 use Rattle.keymap_draw.specs.declared.sheet.Told.TheVariants.{Characters}
 use Rattle.keymap_draw.specs.Sheets.{written, is_ready, taking}
-use Rattle.messages.specs.Filled.{filled, is_hole, words_before, words_behind}
+use Rattle.messages.specs.Filled.{filled, words_before, words_behind}
 use Rattle.keymap_draw.proofs.Scans.{both_true, first_true, second_true, failed, scan-append, inside_from, was_inside}
 use Rattle.keymap_draw.proofs.Scans.{value_scan, text_scan, further, held, decimal_inner, place, ends as ends_in}
 use Rattle.keymap_draw.proofs.Scans.{escaped_scan, tag_scan}
@@ -25,10 +24,7 @@ use Rattle.keymap_core.specs.declared.action.Lock.TheVariants as l
 -- ---- what is told at a place
 
 before_tag : (w : List ℕ) → words_before (60 ∷ w) ≡ 60 ∷ words_before w
-before_tag w = ap (λ n. take n (60 ∷ w)) (one_more (prefix_len (λ c. not (is_hole c)) w))
-  where
-    one_more : (n : ℕ) → 1 + n ≡ suc n
-    one_more n = omega arith
+before_tag w = search rules
 
 -- bytes behind words that begin with a tag
 begins_tag : (w : List ℕ) (ts : List Told) → slice_index w 0 ≡ 60
@@ -67,12 +63,8 @@ taken (Value tag name value) r (Plain t) next ts q h e =
 taken (Value tag name value) r (Number n) next ts q h e =
     ap (λ o. scan o (filled next (map written ts))) (value_scan tag name value r (decimal n) (decimal_inner n) ∙ e)
 taken Text r (Number n) next ts q h e =
-    let (i, f) = inside_from Text (saying (decimal n) r) q e in
-    ap (λ o. scan o (filled next (map written ts)))
-    (text_scan r (decimal n) (was_inside r (decimal n) i) (decimal_inner n) ∙ f)
-taken Text r (Plain t) next ts q h e =
-    let (i, f) = inside_from Text (saying t.now r) q e in
-    ap (λ o. scan o (filled next (map written ts))) (text_scan r t.now (was_inside r t.now i) h ∙ f)
+    search (rules, inside_from, text_scan, was_inside, decimal_inner)
+taken Text r (Plain t) next ts q h e = search (rules, inside_from, text_scan, was_inside)
 taken Text r (Bytes t) next ts q h e = escaped_taken r t.now next ts (slice_index next 0 == 60) q h refl e
 taken Text r (Characters t) next ts q h e = escaped_taken r t.now next ts (slice_index next 0 == 60) q h refl e
 taken _ r t next ts q h e = absurd (none-some q e)
@@ -81,9 +73,7 @@ taken _ r t next ts q h e = absurd (none-some q e)
 
 over_none : (ts : List Told) (w : List ℕ) → over None w ts ≡ None
 over_none [] w = failed w
-over_none (t ∷ ts) w =
-    ap (λ o. over (option_and_then (λ (u : State). taking u.place u.read t (words_behind w)) o) (words_behind w) ts)
-    (failed (words_before w)) ∙ over_none ts (words_behind w)
+over_none (t ∷ ts) w = search (rules, failed, over_none ts (words_behind w))
 
 -- words are read past what is told at their first place, if they are read at all
 over_some : (o : Option State) (w : List ℕ) (ts : List Told) (u : State) → over o w ts ≡ Some u
@@ -138,22 +128,4 @@ holding_inner (h.Lock l.Caps) = refl
 holding_inner _ = refl
 
 pub said_inner : (f : Finding) → list_all is_inner (finding_words f) ≡ true
-said_inner f =
-    filled_all is_inner (codes "key {}: {} at slot {} column {}, character at slot {} column {}")
-    (decimal f.key ∷ name_of (holding_action f.holding) ∷ decimal f.holding_at.slot ∷ decimal f.holding_at.column
-    ∷ decimal f.character_at.slot ∷ decimal f.character_at.column ∷ []) refl (
-      decimal_inner f.key,
-      (
-        holding_inner f.holding,
-        (
-          decimal_inner f.holding_at.slot,
-          (
-            decimal_inner f.holding_at.column,
-            (
-              decimal_inner f.character_at.slot,
-              (decimal_inner f.character_at.column, tt),
-            ),
-          ),
-        ),
-      ),
-    )
+said_inner f = search (rules, filled_all, decimal_inner, holding_inner)

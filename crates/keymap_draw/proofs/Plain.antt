@@ -1,9 +1,9 @@
 -- What is scanned is plain.
-use Rattle.keymap_draw.proofs.Common.{◌≡◌, ℕ, ◌<◌, Bool, true, false, List, [], ◌∷◌, Option, Some, None, refl, sym, ◌∙◌}
-use Rattle.keymap_draw.proofs.Common.{All, get_or, if◌then◌else◌, not-true, All-nil, All-cons, AccentValue, IsCell}
+use Rattle.keymap_draw.proofs.Common.{◌≡◌, ℕ, ◌<◌, List, [], ◌∷◌, Option, Some, None, sym, ◌∙◌, rules}
+use Rattle.keymap_draw.proofs.Common.{All, get_or, not-true, All-nil, All-cons, AccentValue, IsCell}
 use Rattle.keymap_draw.proofs.Common.{is_unseen, Cell, Entry, slot_words, accent_words, cell_legend, Fact, State, Tells}
-use Rattle.keymap_draw.proofs.Common.{none-some, start, step, scan, is_plain, is_seen, each}
-use Rattle.keymap_draw.specs.WellFormed.{step_at, IsPlain, IsShown, IsSeen}
+use Rattle.keymap_draw.proofs.Common.{none-some, start, step, scan, is_seen, each}
+use Rattle.keymap_draw.specs.WellFormed.{IsPlain, IsShown, IsSeen}
 use Rattle.keymap_draw.proofs.Scans.{first_true, second_true, failed}
 use Rattle.keymap_draw.proofs.Texts.{AreShown, cell_shown, slot_words_shown, accent_words_shown}
 
@@ -11,12 +11,7 @@ scanned_plain : (bs : List ℕ) (o : Option State) (t : State) → scan o bs ≡
 scanned_plain [] o t h = All-nil IsPlain
 scanned_plain (b ∷ bs) None t h = absurd (none-some t (sym (failed bs) ∙ h))
 scanned_plain (b ∷ bs) (Some s) t h =
-    All-cons IsPlain b bs (by (is_plain b) refl h) (scanned_plain bs (step (Some s) b) t h)
-  where
-    by : (p : Bool) → is_plain b ≡ p → scan (if p then step_at s.place s.read b else None) bs ≡ Some t
-        → is_plain b ≡ true
-    by true e h = e
-    by false e h = absurd (none-some t (sym (failed bs) ∙ h))
+    search (rules, All-cons, none-some, failed, scanned_plain bs (step (Some s) b) t h)
 
 pub told_plain : (fs : List Fact) (bytes : List ℕ) → Tells fs bytes → All IsPlain bytes
 told_plain fs bytes h = scanned_plain bytes (Some start) _ h.scanned

@@ -1,7 +1,7 @@
 -- A red cap is that of a key with a finding, and which classes a key has.
-use Rattle.keymap_draw.proofs.Common.{◌≡◌, ℕ, ◌==◌, Bool, true, false, List, [], ◌∷◌, Option, Some, None, refl, sym, ap}
-use Rattle.keymap_draw.proofs.Common.{◌∙◌, arith, All, ◌%◌, if◌then◌else◌, list_all, key_count, Entry, Finding}
-use Rattle.keymap_draw.proofs.Common.{finding_of, is_class, ◌||◌, nat_tests, each}
+use Rattle.keymap_draw.proofs.Common.{◌≡◌, ℕ, Bool, true, false, List, [], ◌∷◌, Option, Some, None, refl, sym, ap}
+use Rattle.keymap_draw.proofs.Common.{◌∙◌, arith, All, ◌%◌, if◌then◌else◌, list_all, key_count, Entry, Finding, rules}
+use Rattle.keymap_draw.proofs.Common.{finding_of, is_class, nat_tests, each}
 use Rattle.std.specs.Prelude.{option_to_list}
 use Rattle.std.specs.Option.{is_some}
 use Rattle.keymap_draw.specs.Drawn.{column}
@@ -10,12 +10,7 @@ use Rattle.keymap_draw.specs.Places.{IsClass}
 
 found : (fs : List Finding) (k : ℕ) → is_some (finding_of fs k) ≡ names_key fs k
 found [] k = refl
-found (f ∷ fs) k = by (f.key == k) (found fs k)
-  where
-    by : (b : Bool) → is_some (finding_of fs k) ≡ names_key fs k
-        → is_some (if b then Some f else finding_of fs k) ≡ (b || names_key fs k)
-    by true e = refl
-    by false e = e
+found (f ∷ fs) k = search (rules, found fs k)
 
 -- the classes behind the first, of which none is red
 abbrev other_class : Bool → Bool → Bool → Option ℕ

@@ -1,11 +1,11 @@
 -- How parts of the picture are read: values and texts as they are, and characters with references.
 use Rattle.keymap_draw.proofs.Common.{◌≡◌, ℕ, ◌==◌, Bool, true, false, List, [], ◌∷◌, ◌++◌, Option, Some, None, refl}
 use Rattle.keymap_draw.proofs.Common.{and_parts, cond_both, not-true, decimal_passes, ap, sym, ◌∙◌, arith, append_assoc}
-use Rattle.keymap_draw.proofs.Common.{append-nil, ◌&&◌, ◌||◌, not, decimal, if◌then◌else◌, list_all, nat_tests}
+use Rattle.keymap_draw.proofs.Common.{append-nil, ◌&&◌, not, decimal, if◌then◌else◌, list_all, nat_tests, rules}
 use Rattle.keymap_draw.proofs.Common.{none-some, Fact, is_inner, within, facts_of, facts_in, ReadAs, IsWithin, Element}
-use Rattle.keymap_draw.proofs.Common.{Place, Read, State, at, saying, step, scan, start, is_plain, within_element, Text}
-use Rattle.keymap_draw.proofs.Common.{Value, zero, suc, ◌+◌, ◌<◌, length, get_or, All, map, ◌/◌, ◌%◌, nat_lt, codes}
-use Rattle.keymap_draw.proofs.Common.{slice_index_or, flat_map, along, agree_below_at, ltb-true, eqb-true, All-head}
+use Rattle.keymap_draw.proofs.Common.{Place, Read, State, at, saying, step, scan, is_plain, within_element, Text}
+use Rattle.keymap_draw.proofs.Common.{Value, zero, suc, ◌+◌, ◌<◌, length, get_or, All, map, ◌/◌, ◌%◌, codes}
+use Rattle.keymap_draw.proofs.Common.{slice_index_or, flat_map, agree_below_at, ltb-true, eqb-true, All-head}
 use Rattle.keymap_draw.proofs.Common.{All-tail, code_digits, upper_digits, digit_at, escaped, is_seen, is_shown}
 use Rattle.std.proofs.lemmas.Bool.{and_from}
 use Rattle.keymap_draw.specs.WellFormed.{Tag, Role, element, with_characters, longer, with_begun, is_empty, in_text}
@@ -14,7 +14,7 @@ use Rattle.std.proofs.Common.{◌*◌}
 use Rattle.std.specs.Char.{digit_char}
 use Rattle.messages.proofs.Passed.{append_all}
 use Rattle.keymap_draw.specs.Markup.{is_referred, reference}
-use Rattle.keymap_draw.specs.WellFormed.Place.{Bracket, Number, Ampersand}
+use Rattle.keymap_draw.specs.WellFormed.Place.{Bracket, Number}
 
 pub scan-append : (s : Option State) (a b : List ℕ) → scan s (a ++ b) ≡ scan (scan s a) b
 scan-append s [] b = refl
@@ -84,20 +84,11 @@ inside_is p r h = ap (λ b. if b then None else Some (at p r)) h
 
 pub inside_from : (p : Place) (r : Read) (q : State) → within_element p r ≡ Some q
     → IsInside r × (Some (at p r) ≡ Some q)
-inside_from p r q e = by (is_empty r.begun) refl e
-  where
-    by : (b : Bool) → is_empty r.begun ≡ b → (if b then None else Some (at p r)) ≡ Some q
-        → IsInside r × (Some (at p r) ≡ Some q)
-    by true f e = absurd (none-some q e)
-    by false f e = (f, e)
+inside_from p r q e = search (rules, none-some)
 
 value_step : (tag : Tag) (name value : List ℕ) (r : Read) (c : ℕ) → is_inner c ≡ true
     → step (Some (at (Value tag name value) r)) c ≡ Some (at (Value tag name (value ++ c ∷ [])) r)
-value_step tag name value r c h =
-    let (rest, bracket) = and_parts (is_plain c && not (c == 34) && not (c == 38 || c == 60)) (not (c == 93)) h in
-    let (plainly, markup) = and_parts (is_plain c && not (c == 34)) (not (c == 38 || c == 60)) rest in
-    let (plain, quote) = and_parts (is_plain c) (not (c == 34)) plainly in
-    rw (plain, not-true (c == 34) quote, not-true (c == 38 || c == 60) markup) refl
+value_step tag name value r c h = search (rules, and_parts, not-true)
 
 pub value_scan : (tag : Tag) (name value : List ℕ) (r : Read) (bs : List ℕ) → list_all is_inner bs ≡ true
     → scan (Some (at (Value tag name value) r)) bs ≡ Some (at (Value tag name (value ++ bs)) r)
@@ -113,13 +104,7 @@ is_textual c = is_plain c && not (c == 60) && not (c == 38) && not (c == 93)
 
 pub textual_step : (r : Read) (c : ℕ) → IsInside r → is_textual c ≡ true
     → step (Some (at Text r)) c ≡ Some (at Text (saying (c ∷ []) r))
-textual_step r c i e =
-    let (rest, bracket) = and_parts (is_plain c && not (c == 60) && not (c == 38)) (not (c == 93)) e in
-    let (more, ampersand) = and_parts (is_plain c && not (c == 60)) (not (c == 38)) rest in
-    let (plain, less) = and_parts (is_plain c) (not (c == 60)) more in
-    rw (plain, not-true (c == 60) less, not-true (c == 38) ampersand, not-true (c == 93) bracket)
-    (cond_both (c == 10) _ _ (λ s. s ≡ Some (at Text (saying (c ∷ []) r))) (λ _. refl)
-    (λ _. inside_is Text (saying (c ∷ []) r) (still_inside r (c ∷ []) i)))
+textual_step r c i e = search (rules, and_parts, not-true, cond_both, inside_is, still_inside)
 
 inner_textual : (c : ℕ) → is_inner c ≡ true → is_textual c ≡ true
 inner_textual c h = grind (arith, nat_tests)
@@ -159,9 +144,7 @@ hex_shown d low = agree_below_at (λ d. is_seen (digit_char d)) (λ d. true) 16 
 
 hex_step : (r : Read) (n d : ℕ) → d < 16
     → step (Some (at (Number n) r)) (digit_char d) ≡ Some (at (Number (16 * n + d)) r)
-hex_step r n d low =
-    along (λ d. step (Some (at (Number n) r)) (digit_char d)) (λ d. Some (at (Number (16 * n + d)) r))
-    0 16 refl d (omega arith) (omega arith)
+hex_step r n d low = search rules
 
 -- a number with the last digits of others behind it
 abbrev number_on : ℕ → List ℕ → ℕ
@@ -171,9 +154,7 @@ number_on n (d ∷ ds) = number_on (16 * n + d % 16) ds
 hex_scan : (r : Read) (n : ℕ) (ds : List ℕ)
     → scan (Some (at (Number n) r)) (map (λ d. digit_char (d % 16)) ds) ≡ Some (at (Number (number_on n ds)) r)
 hex_scan r n [] = refl
-hex_scan r n (d ∷ ds) =
-    ap (λ q. scan q (map (λ d. digit_char (d % 16)) ds)) (hex_step r n (d % 16) (omega arith))
-    ∙ hex_scan r (16 * n + d % 16) ds
+hex_scan r n (d ∷ ds) = search (rules, hex_step, hex_scan r (16 * n + d % 16) ds)
 
 at_number : (r : Read) (a b : ℕ) → a ≡ b → Some (at (Number a) r) ≡ Some (at (Number b) r)
 at_number r a b e = ap (λ n. Some (at (Number n) r)) e
@@ -190,14 +171,7 @@ four_digits r c =
 -- the digits before them, of which there are none, one or two
 upper_scan : (r : Read) (c : ℕ) → c < 0x110000
     → scan (Some (at (Number 0) r)) (upper_digits c) ≡ Some (at (Number (c / 0x10000)) r)
-upper_scan r c low =
-    let Reads : List ℕ → Type 0 = λ ds. scan (Some (at (Number 0) r)) ds ≡ Some (at (Number (c / 0x10000)) r) in
-    cond_both (nat_lt c 0x10000) _ _ Reads
-    (λ e. let h : c < 0x10000 = ltb-true c 0x10000 e in at_number r 0 (c / 0x10000) (omega arith))
-    (λ _. cond_both (nat_lt c 0x100000) _ _ Reads
-    (λ e. let h : c < 0x100000 = ltb-true c 0x100000 e in
-    hex_scan r 0 (c / 0x10000 ∷ []) ∙ at_number r _ (c / 0x10000) (omega arith))
-    (λ _. hex_scan r 0 (c / 0x100000 ∷ c / 0x10000 ∷ []) ∙ at_number r _ (c / 0x10000) (omega arith)))
+upper_scan r c low = search (rules, cond_both, ltb-true, at_number, hex_scan)
 
 digits_scan : (r : Read) (c : ℕ) → c < 0x110000
     → scan (Some (at (Number 0) r)) (code_digits c) ≡ Some (at (Number c) r)
@@ -233,11 +207,7 @@ number_ends r c h =
 
 reference_scan : (r : Read) (q : Bool) (c : ℕ) → IsInside r → is_shown c ≡ true
     → scan (Some (at (place q) r)) (reference c) ≡ Some (at Text (saying (c ∷ []) r))
-reference_scan r q c i h = ap (λ o. scan o (codes "#x" ++ (code_digits c ++ codes ";"))) (begins q) ∙ number_ends r c h
-  where
-    begins : (q : Bool) → step (Some (at (place q) r)) 38 ≡ Some (at Ampersand r)
-    begins false = inside_is Ampersand r i
-    begins true = inside_is Ampersand r i
+reference_scan r q c i h = search (rules, number_ends, inside_is)
 
 bracket_scan : (r : Read) (q : Bool) → IsInside r
     → step (Some (at (place q) r)) 93 ≡ Some (at Bracket (saying (93 ∷ []) r))
@@ -280,9 +250,7 @@ tag_scan r true bs = refl
 -- bytes behind those that have been read
 pub further : {s t : State} {old new : List ℕ} (more : List ℕ) → ReadAs s old → new ≡ old ++ more
     → scan (Some s) more ≡ Some t → ReadAs t new
-further {s} {t} {old} more h e k = record {
-  scanned = ap (scan (Some start)) e ∙ past (Some start) (Some s) old more (Some t) h.scanned k;
-}
+further {s} {t} {old} more h e k = search (rules, past)
 
 pub held : {begun : List Element} {bytes : List ℕ} {fs : List Fact} → IsWithin begun bytes → facts_in bytes ≡ fs
     → ReadAs (within begun fs) bytes

@@ -1,7 +1,7 @@
 -- Each character of a legend and of a title may stand in a text.
 use Rattle.keymap_draw.proofs.Common.{zero, suc, ◌≡◌, ℕ, ◌+◌, ◌<◌, ◌≤◌, ◌==◌, Bool, true, false, List, [], ◌∷◌, ◌++◌}
 use Rattle.keymap_draw.proofs.Common.{decimal_passes, refl, ap, arith, All, ◌/◌, ◌%◌, ◌||◌, not, nat_lt, codes, decimal}
-use Rattle.keymap_draw.proofs.Common.{if◌then◌else◌, slice_index_or, option_map, list_all, flat_map, nat_tests}
+use Rattle.keymap_draw.proofs.Common.{if◌then◌else◌, slice_index_or, option_map, list_all, flat_map, nat_tests, rules}
 use Rattle.keymap_draw.proofs.Common.{All-head, All-tail, All-replicate, Cell, Char, Entry, AccentValue, name_of}
 use Rattle.keymap_draw.proofs.Common.{accent_names, IsCell, IsEntry, code_digits, upper_digits, digit_at, undefined}
 use Rattle.keymap_draw.proofs.Common.{slot_words, accent_words, word, unfilled, unseen_name, other_legend}
@@ -65,10 +65,7 @@ unit_shown : (c unit : ℕ) → 0 < unit → is_seen (digit_at c unit) ≡ true
 unit_shown c unit h = hex_shown (c / unit % 16) (omega arith)
 
 upper_shown : (c : ℕ) → AreShown (upper_digits c)
-upper_shown c =
-    let five : AreShown (digit_at c 0x10000 ∷ []) = alone (unit_shown c 0x10000 (omega arith)) in
-    chosen (nat_lt c 0x10000) (λ _. shown refl)
-    (λ _. chosen (nat_lt c 0x100000) (λ _. five) (λ _. before (unit_shown c 0x100000 (omega arith)) five))
+upper_shown c = search (rules, alone, unit_shown, chosen, shown, before)
 
 digits_shown : (c : ℕ) → AreShown (code_digits c)
 unfolding code_digits

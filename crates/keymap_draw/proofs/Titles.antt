@@ -1,5 +1,5 @@
 -- The titles of a picture are those of the definitions that it tells.
-use Rattle.keymap_draw.proofs.Common.{◌≡◌, ℕ, ◌+◌, Bool, true, false, List, [], ◌∷◌, ◌++◌, Option, Some, None, refl}
+use Rattle.keymap_draw.proofs.Common.{◌≡◌, ℕ, ◌+◌, Bool, List, [], ◌∷◌, ◌++◌, Option, Some, None, refl, rules}
 use Rattle.keymap_draw.proofs.Common.{sym, ap, subst, ◌∙◌, map, option_map, if◌then◌else◌, flat_map, filter_map}
 use Rattle.keymap_draw.proofs.Common.{cons_option, Cell, Entry, AccentValue, is_upper_live, entry_at, accent_at}
 use Rattle.keymap_draw.proofs.Common.{Definition, AccentDefinition, Shape, RUNS, Half, Lower, Upper, Row, keys_of}
@@ -31,9 +31,7 @@ titles-append (Legend x y said ∷ a) b = titles-append a b
 
 infixl 10 ◌⊳◌
 ◌⊳◌ : {a b : List Fact} {s t : List (List ℕ)} → Titled a s → Titled b t → Titled (a ++ b) (s ++ t)
-◌⊳◌ {a} {b} {s} {t} h k = record {
-  are = titles-append a b ∙ ap (λ u. u ++ titles b) h.are ∙ ap (λ u. s ++ u) k.are;
-}
+◌⊳◌ {a} {b} {s} {t} h k = search (rules, titles-append)
 
 nothing : Titled [] []
 nothing = record { are = refl }
@@ -89,10 +87,7 @@ runs_titled : (d : Drawing) (half : Half) (y : ℕ) (runs : List Run)
     → Titled (flat_map (run_keys d half y) runs) (of d (of_keys d half (codes_in (flat_map (keys_in d.board) runs))))
 runs_titled d half y [] = nothing
 runs_titled d half y (run ∷ runs) =
-    subst (λ ks. Titled (run_keys d half y run ++ flat_map (run_keys d half y) runs) (of d (of_keys d half ks)))
-    (sym (map-append (λ (row : Row). row.code) (keys_in d.board run) (flat_map (keys_in d.board) runs)))
-    (keys_together d half (codes_in (keys_in d.board run)) (codes_in (flat_map (keys_in d.board) runs))
-    (rows_titled d half y (keys_in d.board run)) (runs_titled d half y runs))
+    search (rules, map-append, keys_together, rows_titled, runs_titled d half y runs)
 
 others_titled : (d : Drawing) (half : Half) (y i : ℕ) (ks : List ℕ)
     → Titled (numbered (other_key d half y) i ks) (of d (of_keys d half ks))
@@ -126,12 +121,7 @@ accents_titled d i (x ∷ is) = by (accent_at d.map x) (accents_titled d (i + 1)
 
 upper_titled : (d : Drawing) (y : ℕ)
     → Titled (upper d (upper_keys d) y) (of d (if is_upper_live d.map then told_in d Upper else []))
-upper_titled d y = by (is_upper_live d.map)
-  where
-    by : (live : Bool) → Titled (if live then half_facts d Upper (if live then other_keys d Upper else []) y else [])
-        (of d (if live then told_in d Upper else []))
-    by true = half_titled d Upper y
-    by false = nothing
+upper_titled d y = search (rules, half_titled, nothing)
 
 pub picture_titles : (d : Drawing) → titles (picture_facts d) ≡ map (title_of d.findings) (told d)
 unfolding picture_facts parts told

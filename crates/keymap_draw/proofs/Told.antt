@@ -1,14 +1,14 @@
 -- Two pictures that are one tell the same definitions, and their keymaps are the same in what they show.
 use Rattle.keymap_draw.proofs.Common.{zero, suc, ◌≡◌, ℕ, ◌<◌, ◌==◌, Bool, true, false, List, [], ◌∷◌, ◌++◌, Option}
 use Rattle.keymap_draw.proofs.Common.{Some, None, All, refl, sym, ap, subst, ◌∙◌, arith, map, append_assoc, inl, inr}
-use Rattle.keymap_draw.proofs.Common.{◌%◌, ◌||◌, not, codes, option_map, slice_get, nat_lt, if◌then◌else◌, list_all}
+use Rattle.keymap_draw.proofs.Common.{◌||◌, not, option_map, slice_get, nat_lt, if◌then◌else◌, list_all, rules}
 use Rattle.keymap_draw.proofs.Common.{list_any, filter_map, cons_option, Contains, nat_tests, ltb-true, agree_below}
 use Rattle.keymap_draw.proofs.Common.{agree_below_at, cases_order, or_cases, and_parts, eqb-true, All-head, All-tail}
-use Rattle.keymap_draw.proofs.Common.{All-nil, All-cons, All-append, All-contains, AccentValue, blank, gathered}
-use Rattle.keymap_draw.proofs.Common.{passing, passed, is_upper_live, IsMap, MapValue, entry_at, accent_at, key_count}
-use Rattle.keymap_draw.proofs.Common.{Finding, slot_words, accent_words, Definition, AccentDefinition, Board, Iso, Ansi}
+use Rattle.keymap_draw.proofs.Common.{All-nil, All-cons, All-append, All-contains, AccentValue, gathered}
+use Rattle.keymap_draw.proofs.Common.{passing, passed, is_upper_live, IsMap, MapValue, entry_at, accent_at}
+use Rattle.keymap_draw.proofs.Common.{Finding, accent_words, Definition, AccentDefinition, Board, Iso, Ansi}
 use Rattle.keymap_draw.proofs.Common.{Half, Lower, Upper, Row, keys_of, Drawing, slot_of, is_other, other_keys}
-use Rattle.keymap_draw.proofs.Common.{finding_words, finding_of, has_character, named_accents, picture_facts, titles}
+use Rattle.keymap_draw.proofs.Common.{has_character, named_accents, picture_facts, titles}
 use Rattle.keymap_draw.proofs.Common.{told, told_in, key_definition, accent_definition, title_of, is_shown, is_seen}
 use Rattle.keymap_draw.proofs.Common.{cond_both, each}
 use Rattle.std.proofs.Common.{ap₂}
@@ -22,7 +22,6 @@ use Rattle.keymap_text.specs.Rows.{KeyDefinition}
 use Rattle.keymap_text.proofs.Leading.{same_head, same_tail}
 use Rattle.keymap_text.proofs.Told.{words_tell}
 use Rattle.keymap_draw.specs.Boards.{is_on}
-use Rattle.keymap_draw.specs.Keys.{finding_line}
 use Rattle.keymap_draw.specs.Told.{PicturesTellDefinitions, shows, PicturesTellKeymaps}
 use Rattle.keymap_draw.proofs.Loops.{none_is, passing-below}
 use Rattle.keymap_draw.proofs.Scans.{both_true, first_true, second_true}
@@ -66,13 +65,8 @@ words_in_line (c ∷ cs) h =
 last_of_title : (fs : List Finding) (d : Definition) → list_all is_in_line (definition_words d) ≡ true
     → last_line (title_of fs d) ≡ definition_words d
 last_of_title fs (AccentDefinition i accent) h = one_line (accent_words i accent) h
-last_of_title fs (KeyDefinition slot e) h = by (finding_of fs (slot % key_count))
-  where
-    by : (o : Option Finding) → last_line (finding_line o ++ slot_words slot e) ≡ slot_words slot e
-    by None = one_line (slot_words slot e) h
-    by (Some f) =
-        ap last_line (append_assoc (finding_words f) (codes "\n") (slot_words slot e))
-        ∙ behind_feed (finding_words f) (slot_words slot e) h
+last_of_title fs (KeyDefinition slot e) h =
+    search (rules, last_line, one_line, append_assoc, behind_feed)
 
 words_shown : (d : Definition) → IsDefinition d → AreShown (definition_words d)
 words_shown (KeyDefinition slot e) (below, is) = slot_words_shown slot e below is.cells
@@ -126,10 +120,7 @@ keys_low d half =
 
 each_in : (P : Definition → Type 0) (d : Drawing) (half : Half) → ((k : ℕ) → k < 128 → P (key_definition d.map half k))
     → All P (told_in d half)
-each_in P d half key =
-    let ks : List ℕ = codes_of d.board ++ other_keys d half in
-    All-map P (key_definition d.map half) ks
-    (All-weaker IsLow (λ k. P (key_definition d.map half k)) key ks (keys_low d half))
+each_in P d half key = search (rules, All-map, All-weaker, keys_low)
 
 each_accent : (P : Definition → Type 0) (m : MapValue)
     → ((i : ℕ) (a : AccentValue) → i < 15 → accent_at m i ≡ Some a → P (AccentDefinition i a)) → (is : List ℕ)
@@ -161,10 +152,7 @@ each_told P d key accent =
     (each_accent P d.map accent (named_accents d.map) (passing-below (has_character d.map) 15 15 (omega arith)))
 
 each_defined : (d : Drawing) → IsMap d.map → All IsDefinition (told d)
-each_defined d is =
-    each_told IsDefinition d
-    (λ half k low. (slot_low half k low, entry_bound d.map.entries (slot_of half k) is.entries))
-    (λ i a low e. (low, listed d.map.accents i a is.accents e))
+each_defined d is = search (rules, each_told, slot_low, entry_bound, listed)
 
 pub pictures_tell : PicturesTellDefinitions
 pictures_tell d e bytes p q h k =
@@ -239,12 +227,7 @@ slot_told d Upper k low h =
 accent_among : (m : MapValue) (is : List ℕ) (i : ℕ) (a : AccentValue) → accent_at m i ≡ Some a → Contains is i
     → Contains (filter_map (accent_definition m) is) (AccentDefinition i a)
 accent_among m [] i a e (k, l, h) = absurd (omega (arith, l))
-accent_among m (j ∷ is) i a e (zero, l, h) = here (accent_at m j) (ap (accent_at m) h ∙ e) h
-  where
-    here : (o : Option AccentValue) → o ≡ Some a → j ≡ i → Contains
-        (cons_option (option_map (AccentDefinition j) o) (filter_map (accent_definition m) is)) (AccentDefinition i a)
-    here None h same = cc
-    here (Some b) h same = (zero, omega arith, ap₂ (λ i a. AccentDefinition i a) same (cc))
+accent_among m (j ∷ is) i a e (zero, l, h) = search rules
 accent_among m (j ∷ is) i a e (suc k, l, h) =
     later (accent_at m j) (accent_among m is i a e (k, omega (arith, l), h))
   where
@@ -255,12 +238,7 @@ accent_among m (j ∷ is) i a e (suc k, l, h) =
 
 -- an accent that has a character is there
 accent_is_there : (m : MapValue) (i : ℕ) → has_character m i ≡ true → (a : AccentValue) × (accent_at m i ≡ Some a)
-accent_is_there m i h = by (accent_at m i) refl
-  where
-    by : (o : Option AccentValue) → accent_at m i ≡ o → (a : AccentValue) × (accent_at m i ≡ Some a)
-    by (Some a) e = (a, e)
-    by None e = let none : has_character m i ≡ false =
-        ap (λ (a : AccentValue). not (a.own == 0)) (none_is m.accents i blank e) in cc
+accent_is_there m i h = search (rules, none_is)
 
 accent_agrees : (d e : Drawing) → told d ≡ told e → (i : ℕ) → i < 15 → has_character d.map i ≡ true
     → accent_at d.map i ≡ accent_at e.map i

@@ -38,9 +38,7 @@ parts_from : (s : State) (u : Standing) (ps : List PieceValue) → ArePieces u p
     → map part_and_bytes (pieces_after 0 u (rendered_from s ps)) ≡ map part_and_bytes ps
 parts_from s u ps no_piece = ap (map part_and_bytes) (none s u)
 parts_from s u qs (one_piece {ps = ps} p r h more) =
-    ap (map part_and_bytes) (step s u p ps r)
-    ∙ ap (λ (qs : List (Part × List ℕ)). (p.part, p.bytes) ∷ qs)
-    (parts_from (after s p.part p.bytes) (behind p.part) ps more)
+    search (rules, step, parts_from (after s p.part p.bytes) (behind p.part) ps more)
 
 -- one piece that is written again
 written_again : (s : State) (p : PieceValue) (t : Standing) (qs ps : List PieceValue)

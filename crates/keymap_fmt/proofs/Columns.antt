@@ -146,20 +146,7 @@ rest_of_pair : (e pairs_at q : ℕ) (p : PairWritten) (ps : List PieceValue) →
     → p.opened.bytes ++ rendered_from (at e Pair 1 pairs_at q)
     (piece_of p.base ∷ piece_of p.composed ∷ piece_of p.closed ∷ ps)
     ≡ pair_text p ++ rendered_from (at (pair_end e p) Pair 4 pairs_at q) ps
-rest_of_pair e pairs_at q p ps h =
-    let b = e + 1 + places p.base in
-    let c = b + 1 + places p.composed in
-    ap (λ l. p.opened.bytes ++ l)
-    (next e 1 pairs_at q p.base _ refl h
-    ∙ ap (λ l. codes " " ++ (p.base.bytes ++ l))
-    (next b 2 pairs_at q p.composed _ refl (omega arith)
-    ∙ ap (λ l. codes " " ++ (p.composed.bytes ++ l)) (next c 3 pairs_at q p.closed ps refl (omega arith))))
-    ∙ six p.opened.bytes p.base.bytes p.composed.bytes p.closed.bytes _
-  where
-    six : (a b c d r : List ℕ)
-        → a ++ (codes " " ++ (b ++ (codes " " ++ (c ++ (codes " " ++ (d ++ r))))))
-        ≡ (a ++ (codes " " ++ (b ++ (codes " " ++ (c ++ (codes " " ++ d)))))) ++ r
-    six a b c d r = simp append_assoc
+rest_of_pair e pairs_at q p ps h = search (rules, next, append_assoc)
 
 -- the parenthesis of a pair, in the open line and in one that it begins
 in_line : (s : State) (t : Written) (ps : List PieceValue) → is_over s ≡ true → is_open t.kind ≡ true

@@ -1,5 +1,5 @@
 -- What the search for a piece finds at a place of the text.
-use Rattle.keymap_fmt.proofs.Common.{rules, ◌≡◌, ℕ, zero, suc, ◌+◌, ◌-◌, ◌<◌, ◌≤◌, ◌==◌, Bool, true, false, List, []}
+use Rattle.keymap_fmt.proofs.Common.{rules, ◌≡◌, ℕ, zero, suc, ◌+◌, ◌-◌, ◌<◌, ◌≤◌, Bool, true, false, List, []}
 use Rattle.keymap_fmt.proofs.Common.{◌∷◌, length, take, drop, get_or, refl, sym, ◌∙◌, ap, subst, arith, add-one, Option}
 use Rattle.keymap_fmt.proofs.Common.{Some, None, Ok, true≢false, ◌⊎◌, ⊎_elim, nat_tests, drop-drop, length-take-le}
 use Rattle.keymap_fmt.proofs.Common.{TextFaultKind, TokenKind, Standing, Beside, Below, Comment, Code, is_blank}
@@ -33,9 +33,7 @@ nothing_at text i s l = at_drop_all (pieces_after 0 s) text i l ∙ read_nil 0 s
 -- the place behind a line, and the end of the text
 pub next_line : (text : List ℕ) (end next : ℕ) (s : Standing) → (next ≡ end + 1) ⊎ ((next ≡ end) × (length text ≤ end))
     → pieces_after 0 s (drop (end + 1) text) ≡ pieces_after 0 s (drop next text)
-next_line text end next s h = ⊎_elim
-    (λ e. ap (λ n. pieces_after 0 s (drop n text)) (sym e))
-    (λ e. nothing_at text (end + 1) s (omega (arith, e.1)) ∙ sym (nothing_at text next s (omega (arith, e.0, e.1)))) h
+next_line text end next s h = search (rules, ⊎_elim, nothing_at)
 
 -- a comment at a place
 comment_at : (text : List ℕ) (at end : ℕ) (s : Standing) → at < length text → get_or text at 0 ≡ 35
@@ -74,36 +72,13 @@ pub spaces_passed : (n : ℕ) (s : Standing) (bytes : List ℕ) → n ≤ leadin
     → pieces_after 0 s bytes ≡ pieces_after 0 s (drop n bytes)
 spaces_passed zero s bytes h = refl
 spaces_passed (suc n) s [] h = absurd (omega (arith, h))
-spaces_passed (suc n) s (c ∷ bytes) h = go (is_space c) refl (spaces_passed n s bytes)
-  where
-    blank : (c : ℕ) → is_space c ≡ true → is_blank c ≡ true
-    blank c h = grind (arith, nat_tests)
-
-    no_end : (c : ℕ) → is_space c ≡ true → (c == 10) ≡ false
-    no_end c h = grind (arith, nat_tests)
-
-    go : (b : Bool) → is_space c ≡ b
-        → (n ≤ leading is_space bytes → pieces_after 0 s bytes ≡ pieces_after 0 s (drop n bytes))
-        → pieces_after 0 s (c ∷ bytes) ≡ pieces_after 0 s (drop n bytes)
-    go true e k = search (rules, read_blank, blank, no_end, leading_pass)
-    go false e k = absurd (omega (arith, h, leading_fail is_space c bytes e))
+spaces_passed (suc n) s (c ∷ bytes) h =
+    search (rules, nat_tests, read_blank, leading_pass, leading_fail, spaces_passed n s bytes)
 
 -- a byte with no such blank in front that ends no line and begins no comment begins a token, or none stands there
 pub begins_token : (text : List ℕ) (i : ℕ) → i < length text → leading is_space (drop i text) ≡ 0
     → get_or text i 0 ≢ 10 → get_or text i 0 ≢ 35 → IsFalse (separates (get_or text i 0))
-begins_token text i l none end hash = go (is_space (get_or text i 0)) refl
-  where
-    no_other : (c : ℕ) → is_space c ≡ false → c ≢ 10 → c ≢ 35 → IsFalse (separates c)
-    no_other c s e h = grind (arith, nat_tests)
-
-    go : (b : Bool) → is_space (get_or text i 0) ≡ b → IsFalse (separates (get_or text i 0))
-    go true e = absurd (omega (
-      arith,
-      none,
-      ap (leading is_space) (drop-cons text i 0 l),
-      leading_pass is_space (get_or text i 0) (drop (suc i) text) e,
-    ))
-    go false e = no_other (get_or text i 0) e end hash
+begins_token text i l none end hash = search (rules, nat_tests, drop-cons, leading_pass)
 
 -- is it a token?
 abbrev pub is_token : Result (Option TokenValue) (TextFaultKind × ℕ) → Bool

@@ -1,7 +1,7 @@
 -- The tokens among the pieces are those of the text, so what is written spells what the text spells.
-use Rattle.keymap_fmt.proofs.Common.{rules, ◌≡◌, ◌⊎◌, inl, inr, ℕ, zero, suc, ◌+◌, ◌==◌, Bool, true, false, List, []}
+use Rattle.keymap_fmt.proofs.Common.{rules, ◌≡◌, ◌⊎◌, inl, inr, ℕ, zero, suc, ◌+◌, Bool, true, false, List, []}
 use Rattle.keymap_fmt.proofs.Common.{◌∷◌, ◌++◌, length, take, map, refl, sym, ◌∙◌, ap, subst, arith, add-one}
-use Rattle.keymap_fmt.proofs.Common.{if◌then◌else◌, Ok, nat_tests, flat_map, TextFaultKind, TokenKind, State, Standing}
+use Rattle.keymap_fmt.proofs.Common.{Ok, nat_tests, flat_map, TextFaultKind, TokenKind, State, Standing}
 use Rattle.keymap_fmt.proofs.Common.{AtTop, Part, Comment, Code, is_blank, stays_on_line, leading, front_of, Front}
 use Rattle.keymap_fmt.proofs.Common.{Skipped, Found, Refused, Unfinished, TokenValue, tokens_after, PieceValue}
 use Rattle.keymap_fmt.proofs.Common.{pieces_after, pieces, behind, before, after, line_end, start, rendered_from}
@@ -185,11 +185,7 @@ whole_piece s (Code kind) bytes ps r h =
     whole_token kind bytes _ r (rendered_blank (after s (Code kind) bytes) ps (after_at s (Code kind) bytes)) h
 
 whole_end : (column : ℕ) → IsWhole 0 (line_end column)
-whole_end column = go (column == 0)
-  where
-    go : (b : Bool) → IsWhole 0 (if b then [] else 10 ∷ [])
-    go true = whole_nil
-    go false = whole_blank 10 [] refl whole_nil
+whole_end column = search (rules, IsWhole, whole_nil, whole_blank)
 
 whole_from : (s : State) (u : Standing) (ps : List PieceValue) → ArePieces u ps → IsWhole 0 (rendered_from s ps)
 unfolding rendered_from

@@ -1,6 +1,6 @@
 -- The pieces of a text: each one reads alone, and stands where a piece can stand.
-use Rattle.keymap_fmt.proofs.Common.{rules, ◌≡◌, ◌⊎◌, inl, inr, ℕ, zero, suc, ◌==◌, Bool, true, false, List, [], ◌∷◌}
-use Rattle.keymap_fmt.proofs.Common.{if◌then◌else◌, take, refl, sym, ◌∙◌, ap, subst, length, slice_index, arith}
+use Rattle.keymap_fmt.proofs.Common.{rules, ◌≡◌, ◌⊎◌, inl, inr, ℕ, zero, suc, Bool, true, false, List, [], ◌∷◌}
+use Rattle.keymap_fmt.proofs.Common.{take, refl, sym, ◌∙◌, ap, subst, length, slice_index, arith}
 use Rattle.keymap_fmt.proofs.Common.{nat_tests, length-take-le, is_blank, is_space, stays_on_line, leading, front_of}
 use Rattle.keymap_fmt.proofs.Common.{Front, Skipped, Found, Refused, Unfinished, stands_alone, skipped_by, TokenKind}
 use Rattle.keymap_fmt.proofs.Common.{Standing, AtTop, Beside, Below, Apart, Part, Comment, Code, PieceValue}
@@ -28,11 +28,7 @@ lower_reaches s t h = h
 
 -- so does any blank
 blank_reaches : (c : ℕ) (s t : Standing) → reaches (lowered c s) t ≡ true → reaches s t ≡ true
-blank_reaches c s t h = go (c == 10) refl
-  where
-    go : (b : Bool) → (c == 10) ≡ b → reaches s t ≡ true
-    go true e = lower_reaches s t (subst (λ b. reaches (if b then lower s else s) t ≡ true) e h)
-    go false e = subst (λ b. reaches (if b then lower s else s) t ≡ true) e h
+blank_reaches c s t h = search (rules, lower_reaches)
 
 -- a piece stands where nothing is before it
 reaches_itself : (s : Standing) → reaches s s ≡ true

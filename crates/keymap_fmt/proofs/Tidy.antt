@@ -26,14 +26,7 @@ one_passed e f c y h = rw (h, are_lines) refl
 -- some bytes
 all_passed : (g y : List ℕ) (e f : Edge) → run e g ≡ Some f → are_lines e (g ++ y) ≡ are_lines f y
 all_passed [] y e f h = let same : e ≡ f = cc in ap (λ e. are_lines e y) same
-all_passed (c ∷ g) y e f h = go (behind_byte e c) refl (all_passed g y) h
-  where
-    go : (o : Option Edge) → behind_byte e c ≡ o
-        → ((d f : Edge) → run d g ≡ Some f → are_lines d (g ++ y) ≡ are_lines f y)
-        → elim o as (λ _. Option Edge) [ Some f ↦ run f g | None ↦ None ] ≡ Some f
-        → are_lines e (c ∷ (g ++ y)) ≡ are_lines f y
-    go (Some d) k more l = one_passed e d c (g ++ y) k ∙ more d f l
-    go None k more l = absurd (cc)
+all_passed (c ∷ g) y e f h = search (rules, one_passed, all_passed g y)
 
 not_end : (c : ℕ) → stays_on_line c ≡ true → (c == 10) ≡ false
 not_end c h = grind (arith, nat_tests)
@@ -99,10 +92,7 @@ below_runs column Apart h = absurd h
 
 comment_runs : (column : ℕ) (u t : Standing) → IsAt u column → reaches u t ≡ true
     → Runs (edge_at u) (comment_lead column t)
-comment_runs column u Beside h r = two (edge_at u)
-  where
-    two : (e : Edge) → Runs e (32 ∷ 32 ∷ [])
-    two e = (Blank, refl)
+comment_runs column u Beside h r = search rules
 comment_runs column u t h r = line_runs column u t h r
 
 lines_run : (s : State) (kind : TokenKind) (u t : Standing) → IsAt u s.column → reaches u t ≡ true

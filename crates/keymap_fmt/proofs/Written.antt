@@ -1,9 +1,9 @@
 -- What is written before a piece, and how it is read again.
-use Rattle.keymap_fmt.proofs.Common.{rules, ◌≡◌, ℕ, zero, suc, ◌<◌, ◌==◌, Bool, true, false, if◌then◌else◌, List, []}
+use Rattle.keymap_fmt.proofs.Common.{rules, ◌≡◌, ℕ, zero, suc, ◌<◌, ◌==◌, true, false, List, []}
 use Rattle.keymap_fmt.proofs.Common.{◌∷◌, ◌++◌, length, replicate, refl, sym, ◌∙◌, ap, subst, arith, nat_tests}
 use Rattle.keymap_fmt.proofs.Common.{TokenKind, State, Standing, AtTop, Beside, Below, Apart, Part, Comment, Code}
-use Rattle.keymap_fmt.proofs.Common.{is_blank, PieceValue, pieces_after, lowered, behind, begins_line, is_open}
-use Rattle.keymap_fmt.proofs.Common.{is_apart, opened, lead, width, after, line_end, line_begun, lines_before}
+use Rattle.keymap_fmt.proofs.Common.{is_blank, PieceValue, pieces_after, lowered, behind}
+use Rattle.keymap_fmt.proofs.Common.{opened, lead, width, after, line_end, line_begun, lines_before}
 use Rattle.keymap_fmt.proofs.Common.{comment_lead, before, rendered_from}
 use Rattle.keymap_fmt.proofs.Reading.{BeginsBlank, read_blank, read_nil}
 use Rattle.keymap_fmt.proofs.Texts.{reaches}
@@ -47,29 +47,17 @@ begins_with (c ∷ g) y h l = record { first = c; rest = g ++ y; blank = h.0; is
 
 -- the ends of lines are blanks
 line_end_blanks : (column : ℕ) → AreBlanks (line_end column)
-line_end_blanks column = go (column == 0)
-  where
-    go : (b : Bool) → AreBlanks (if b then [] else 10 ∷ [])
-    go true = tt
-    go false = (refl, tt)
+line_end_blanks column = search rules
 
 line_begun_blanks : (column : ℕ) (t : Standing) → AreBlanks (line_begun column t)
-line_begun_blanks column t = blanks_append (line_end column) _ (line_end_blanks column) (go (is_apart t))
-  where
-    go : (b : Bool) → AreBlanks (if b then 10 ∷ [] else [])
-    go true = (refl, tt)
-    go false = tt
+line_begun_blanks column t = search (rules, blanks_append, line_end_blanks)
 
 comment_blanks : (column : ℕ) (t : Standing) → AreBlanks (comment_lead column t)
 comment_blanks column Beside = (refl, (refl, tt))
 comment_blanks column t = line_begun_blanks column t
 
 lines_blanks : (s : State) (kind : TokenKind) (t : Standing) → AreBlanks (lines_before s kind t)
-lines_blanks s kind t = go (begins_line s kind)
-  where
-    go : (b : Bool) → AreBlanks (if b then line_begun s.column (if is_open kind then Below else t) else [])
-    go true = line_begun_blanks s.column (if is_open kind then Below else t)
-    go false = tt
+lines_blanks s kind t = search (rules, line_begun_blanks)
 
 -- all that stands before a piece are blanks
 pub before_blanks : (s : State) (part : Part) (bytes : List ℕ) (t : Standing) → AreBlanks (before s part bytes t)
@@ -128,15 +116,7 @@ comment_again column s t h r = absurd (cc)
 -- likewise a token
 lines_again : (s : State) (kind : TokenKind) (u t : Standing) → IsAt u s.column → reaches u t ≡ true
     → lines_before s kind (lowered_by (lines_before s kind t) u) ≡ lines_before s kind t
-lines_again s kind u t h r = go (begins_line s kind) (is_open kind)
-  where
-    go : (a b : Bool)
-        → (if a then line_begun s.column (if b then Below else lowered_by (if a then line_begun s.column
-        (if b then Below else t) else []) u) else [])
-        ≡ (if a then line_begun s.column (if b then Below else t) else [])
-    go true true = refl
-    go true false = line_again s.column u t h r
-    go false b = refl
+lines_again s kind u t h r = search (rules, line_again)
 
 -- What stands before a piece stands there again where it is read behind that.
 pub before_again : (s : State) (part : Part) (bytes : List ℕ) (u t : Standing) → IsAt u s.column
@@ -187,8 +167,4 @@ rendered_blank s (p ∷ ps) h = search (rules, begins_with, before_blanks, befor
 
 -- the end of the last line has no piece behind it
 pub line_end_read : (column : ℕ) (u : Standing) → pieces_after 0 u (line_end column) ≡ []
-line_end_read column u = go (column == 0)
-  where
-    go : (b : Bool) → pieces_after 0 u (if b then [] else 10 ∷ []) ≡ []
-    go true = read_nil 0 u
-    go false = read_blank u 10 [] refl ∙ read_nil 0 (lowered 10 u)
+line_end_read column u = search (rules, read_nil, read_blank)

@@ -17,16 +17,19 @@ use keymap_text::laws::one_meaning;
 
 /// What is formatted has the same tokens and the same comments in the same order, byte for byte but for the blanks at
 /// the end of a comment.
+#[tactic(auto, using(crate::proofs::Again::parts_stay))]
 pub fn parts_stay()
     ensures { (text : List ℕ) → map part_and_bytes (pieces (formatted text)) ≡ map part_and_bytes (pieces text) }
 {}
 
 /// The tokens among the pieces of a text are its tokens.
+#[tactic(auto, using(crate::proofs::Spelling::tokens_of_pieces))]
 pub fn pieces_hold_the_tokens()
     ensures { (text : List ℕ) → flat_map token_of (pieces text) ≡ map kind_and_bytes (tokens text) }
 {}
 
 /// What is formatted has the same tokens: each has the same kind and the same bytes.
+#[tactic(auto, using(crate::proofs::Spelling::tokens_stay))]
 pub fn tokens_stay()
     ensures { (text : List ℕ) → map kind_and_bytes (tokens (formatted text)) ≡ map kind_and_bytes (tokens text) }
 {}
@@ -40,6 +43,7 @@ pub fn keymap_stays()
 }
 
 /// What is formatted is left alone when it is formatted again.
+#[tactic(auto, using(crate::proofs::Again::formatted_again))]
 pub fn formatting_again_changes_nothing()
     ensures { (text : List ℕ) → formatted (formatted text) ≡ formatted text }
 {}
@@ -52,12 +56,14 @@ pub fn same_pieces_have_one_layout()
 
 /// Each line of what is formatted ends with LF and none with a blank. An empty line stands alone, and only between two
 /// others.
+#[tactic(auto, using(crate::proofs::Tidy::tidy_lines))]
 pub fn lines_are_tidy()
     ensures { (text : List ℕ) → HasTidyLines (formatted text) }
 {}
 
 /// A definition is laid out as it would be alone, whatever stands before it and behind it: pieces that end a
 /// definition, a pair or a comment, and pieces that begin with a definition, give together what each of them gives.
+#[tactic(auto, using(crate::proofs::Separate::definition_apart))]
 pub fn definitions_are_laid_out_alone()
     ensures { (ps qs : List PieceValue) (kind : TokenKindValue) (bytes : List ℕ) (standing : StandingValue)
         → is_over (state_behind start ps) ≡ true → is_open kind ≡ false
@@ -68,6 +74,7 @@ pub fn definitions_are_laid_out_alone()
 /// number ends before column 5, the cells begin in the columns 8, 15 and so on to 57, and the lock letter in column 65.
 /// In any case a token begins in its column, or one blank behind the token before it where that leaves none before its
 /// column: a wide cell moves those behind it, as far as there is no room, and no others.
+#[tactic(auto, using(crate::proofs::Columns::line_laid, crate::proofs::Columns::line_aligned))]
 pub fn key_lines_have_columns()
     ensures line { (number : Written) (tokens : List Written) → row_of number.bytes ≡ Slot
         → is_open number.kind ≡ false → length tokens ≤ 9
@@ -81,6 +88,7 @@ pub fn key_lines_have_columns()
 /// pairs of each line in column 13, one blank between their tokens and four in a line. Where the name leaves no blank
 /// before the character's column, the character begins one blank behind it; where the character leaves none before
 /// column 13, the pairs of each line begin one blank behind the place where it ends.
+#[tactic(auto, using(crate::proofs::Columns::accent_laid))]
 pub fn accent_lines_have_columns()
     ensures { (name own : Written) (pairs : List PairWritten) → row_of name.bytes ≡ Accent
         → is_open name.kind ≡ false → All BeginsPair pairs

@@ -1,6 +1,6 @@
 -- Where no cell is a dead key of an accent that isn't defined, no accent is missing.
 use Rattle.keymap_lint.proofs.Common.{◌≡◌, ℕ, Bool, true, false, List, [], ◌∷◌, None, Some, Option, cond, refl, ap, sym}
-use Rattle.keymap_lint.proofs.Common.{◌∙◌, arith, ◌&&◌, not, find, gathered, Spelled, is_missing, is_given, is_defined}
+use Rattle.keymap_lint.proofs.Common.{◌∙◌, arith, not, find, gathered, Spelled, is_missing, is_given, is_defined, rules}
 use Rattle.keymap_lint.proofs.Common.{missing_accent}
 use Rattle.std.proofs.Common.{zero, suc}
 use Rattle.std.specs.Option.{is_some}
@@ -22,11 +22,7 @@ given_defined t i None same found = cc
 
 not_given : (t : Spelled) (i : ℕ) (o : Option ℕ) → is_missing_of t o ≡ false → is_defined t i ≡ false
     → is_the i o ≡ false
-not_given t i o found undefined = go (is_the i o) refl
-  where
-    go : (b : Bool) → is_the i o ≡ b → is_the i o ≡ false
-    go true e = e ∙ sym (sym undefined ∙ given_defined t i o e found)
-    go false e = e
+not_given t i o found undefined = search (rules, given_defined)
 
 -- so no cell gives an accent that isn't defined
 none_given : (t : Spelled) (cells : List CellInForce) (i : ℕ) → find (is_missing t) cells ≡ None
@@ -42,11 +38,7 @@ none_given t (c ∷ cells) i none undefined =
 
 missing_not : (t : Spelled) (cells : List CellInForce) (i : ℕ) → find (is_missing t) cells ≡ None
     → missing_accent t cells i ≡ []
-missing_not t cells i none = ap (λ b. cond b (i ∷ []) []) (go (is_defined t i) refl)
-  where
-    go : (b : Bool) → is_defined t i ≡ b → is_given t cells i && not (is_defined t i) ≡ false
-    go true e = simp (e, and-false)
-    go false e = simp (none_given t cells i none e)
+missing_not t cells i none = search (rules, and-false, none_given)
 
 -- none of the accents
 pub missing_none : (t : Spelled) (cells : List CellInForce) (n : ℕ) → find (is_missing t) cells ≡ None

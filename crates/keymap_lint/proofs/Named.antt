@@ -2,9 +2,9 @@
 use Rattle.keymap_lint.proofs.Common.{◌≡◌, ℕ, ◌+◌, ◌<◌, Bool, true, false, ◌&&◌, cond, List, [], ◌∷◌, length, map}
 use Rattle.keymap_lint.proofs.Common.{get_or, refl, sym, ◌∙◌, ap, subst, arith, Option, Some, None, find, flat_map}
 use Rattle.keymap_lint.proofs.Common.{range_with_len, true≢false, gathered, Faulty, Slot, Placed, Diagnostic, mixed_key}
-use Rattle.keymap_lint.proofs.Common.{missing_slot, selects, get_or-map-range_with_len, MapValue, last_of}
+use Rattle.keymap_lint.proofs.Common.{missing_slot, selects, get_or-map-range_with_len, MapValue, last_of, rules}
 use Rattle.keymap_lint.proofs.Common.{Spelled, cell_in, cells_of}
-use Rattle.std.proofs.Common.{◌↔◌, ◌-◌, ◌||◌, inl, inr}
+use Rattle.std.proofs.Common.{◌↔◌, ◌-◌, inl, inr}
 use Rattle.std.specs.List.{list_any, Any}
 use Rattle.std.specs.Option.{is_some, option_or, option_to_list}
 use Rattle.std.specs.Prelude.{nat_lt}
@@ -21,7 +21,7 @@ use Rattle.keymap_text.proofs.InForce.{no_slot}
 use Rattle.keymap_text.proofs.Verdicts.{one_map, not_both}
 use Rattle.keymap_lint.specs.Types.{Diagnostics, Spelled as OfSpelled, Holding, Cell, Char, Act, Finding, Defined}
 use Rattle.keymap_lint.specs.Types.{Accent, CellInForce}
-use Rattle.keymap_lint.specs.Kinds.{defines, is_mixed, mixed_by, mixed_keys, nul_keys, other_slot, missing_slots}
+use Rattle.keymap_lint.specs.Kinds.{defines, is_mixed, mixed_keys, nul_keys, other_slot, missing_slots}
 use Rattle.keymap_lint.specs.Kinds.{selector, selector_of, half_by, half_defined, is_some_in}
 use Rattle.keymap_lint.specs.Lists.{AreOf, spelled_by, all_of}
 use Rattle.keymap_lint.specs.Promises.{names_keys, KeysAreNamedExactlyIfRefused, names_a_key}
@@ -57,12 +57,7 @@ any_flat p f (x ∷ xs) h = elim (or_cases (list_any p (f x)) (list_any (λ x. l
 find_some : {X : Type 0} (p : X → Bool) (xs : List X) → list_any p xs ≡ true
     → (x : X) × (find p xs ≡ Some x) × (p x ≡ true)
 find_some p [] h = absurd (true≢false (sym h))
-find_some {X} p (x ∷ xs) h = go (p x) refl (find_some p xs) h
-  where
-    go : (b : Bool) → p x ≡ b → (list_any p xs ≡ true → (y : X) × (find p xs ≡ Some y) × (p y ≡ true))
-        → (b || list_any p xs) ≡ true → (y : X) × (cond b (Some x) (find p xs) ≡ Some y) × (p y ≡ true)
-    go true e later h = (x, refl, e)
-    go false e later h = later h
+find_some {X} p (x ∷ xs) h = search (rules, find_some p xs)
 
 -- what one number gives is among what is gathered
 gathered_some : {Y : Type 0} (f : ℕ → List Y) (i n : ℕ) → i < n → 0 < length (f i) → 0 < length (gathered f n)
@@ -79,15 +74,7 @@ HasUndefined t = (slot : ℕ) → last_of (Slot slot) t.definitions ≡ None →
 -- an action stands in a slot that is defined
 acting_defined : (t : Spelled) → HasUndefined t → (slot column : ℕ) → column < 8 → (a : Action)
     → cell_at t.map slot column ≡ Act a → (p : Placed) × (last_of (Slot slot) t.definitions ≡ Some p)
-acting_defined t h slot column low a e = go (last_of (Slot slot) t.definitions) refl
-  where
-    go : (o : Option Placed) → last_of (Slot slot) t.definitions ≡ o
-        → (p : Placed) × (last_of (Slot slot) t.definitions ≡ Some p)
-    go (Some p) f = (p, f)
-    go None f =
-        let nul : cell_at t.map slot column ≡ Char 0 =
-        ap (λ e. get_or e.cells column (Char 0)) (h slot f) ∙ get_or-replicate 8 column (Char 0) (Char 0) low in
-        absurd (cc)
+acting_defined t h slot column low a e = search (rules, get_or-replicate)
 
 -- the last definition of what is defined defines it, and stands among the definitions
 last_among : (what : Defined) (ds : List Placed) (q : Placed) → last_of what ds ≡ Some q
@@ -116,13 +103,7 @@ same_slot (Accent i) slot e = absurd (true≢false (sym e))
 -- both slots of the finding are defined
 mixed_names : (t : Spelled) (fs : List Finding) (f : Finding) → is_mixed t f ≡ true
     → list_any names (mixed_key t fs f) ≡ true
-mixed_names t fs f h =
-    go (last_of (Slot f.holding_at.slot) t.definitions)
-    (and_parts (defines t f.holding_at.slot) (defines t f.character_at.slot) h).0
-  where
-    go : (o : Option Placed) → is_some o ≡ true → list_any names (option_to_list (mixed_by t fs f o)) ≡ true
-    go (Some p) e = simp h
-    go None e = absurd (true≢false (sym e))
+mixed_names t fs f h = search (rules, and_parts)
 
 -- ashift or alock in a slot below 128 is a cell that selects
 pub selecting : (t : Spelled) → HasUndefined t → IsUpperLive t.map
@@ -164,12 +145,8 @@ selecting t h (slot, low, stands) = elim stands [
 other_is : (m : MapValue) (k : ℕ) (p q : Place) → k < 128 → IsPlaceOf m k p → IsPlaceOf m k q → (p.slot ≡ q.slot → ⊥)
     → IsUpperLive m × (q.slot < 256) × (other_slot q.slot ≡ p.slot)
 other_is m k p q low (few, inl a) (many, inl b) ne = absurd (ne (a ∙ sym b))
-other_is m k p q low (few, inl a) (many, inr (live, b)) ne =
-    let high : nat_lt q.slot 128 ≡ false = le-ltb q.slot 128 (omega (arith, b)) in
-    (live, omega (arith, b), ap (λ c. cond c (q.slot + 128) (q.slot - 128)) high ∙ omega (arith, a, b))
-other_is m k p q low (few, inr (live, a)) (many, inl b) ne =
-    let lower : nat_lt q.slot 128 ≡ true = lt-ltb q.slot 128 (omega (arith, b)) in
-    (live, omega (arith, b), ap (λ c. cond c (q.slot + 128) (q.slot - 128)) lower ∙ omega (arith, a, b))
+other_is m k p q low (few, inl a) (many, inr (live, b)) ne = search (rules, le-ltb)
+other_is m k p q low (few, inr (live, a)) (many, inl b) ne = search (rules, lt-ltb)
 other_is m k p q low (few, inr (live, a)) (many, inr (alive, b)) ne = absurd (ne (a ∙ sym b))
 
 -- a slot of the finding isn't defined
@@ -205,10 +182,7 @@ half_names t h f fs is mixed =
 pub finding_names : (t : Spelled) → HasUndefined t → (f : Finding) (fs : List Finding) → IsFinding t.map f
     → list_any names (all_of t (cells_in_force t) (f ∷ fs)) ≡ true
 finding_names t h f fs is =
-    elim (cases_Bool (is_mixed t f)) [
-      | inl e ↦ simp (list_any-append, mixed_names t (f ∷ fs) f e, or-true)
-      | inr e ↦ simp (list_any-append, half_names t h f fs is e, or-true)
-    ]
+    search (rules, cases_Bool, list_any-append, mixed_names, or-true, half_names)
 
 -- ---- without findings none does
 
@@ -257,11 +231,7 @@ named_exactly t h fs are l is =
         → names_keys (OfSpelled l) ≡ list_any names (all_of t (cells_in_force t) fs)
         → (names_keys (OfSpelled l) ≡ false) ↔ IsSafe t.map
     go [] are same = ((λ e. safe_if_none t.map [] are refl), (λ safe. same ∙ none_names t (cells_in_force t)))
-    go (f ∷ fs) are same =
-        let first : IsFinding t.map f = All-head (IsFinding t.map) f fs are.each in (
-          (λ e. absurd (true≢false (sym (finding_names t h f fs first) ∙ sym same ∙ e))),
-          (λ safe. absurd (unsafe_by t.map f first safe)),
-        )
+    go (f ∷ fs) are same = search (rules, All-head, finding_names, unsafe_by)
 
 pub keys_are_named_exactly_if_refused : KeysAreNamedExactlyIfRefused
 keys_are_named_exactly_if_refused text m (OfSpelled l) spells (n, spelled, (rows, by, (fs, are, is))) =

@@ -2,8 +2,8 @@
 use Rattle.keymap_lint.proofs.Common.{◌≡◌, ℕ, ◌+◌, ◌<◌, ◌≤◌, Bool, true, false, ◌&&◌, not, cond, List, [], ◌∷◌, ◌++◌}
 use Rattle.keymap_lint.proofs.Common.{length, map, take, get_or, refl, sym, ◌∙◌, ap, subst, arith, Option, Some, None}
 use Rattle.keymap_lint.proofs.Common.{find, flat_map, true≢false, get_or-map-range_with_len, Slot, Placed, Diagnostic}
-use Rattle.keymap_lint.proofs.Common.{Faulty, gathered, MapValue, last_of, mixed_key, selects, again, is_missing}
-use Rattle.keymap_lint.proofs.Common.{is_defined, zero_accent, is_given, pair_again, accent_pairs, has_base}
+use Rattle.keymap_lint.proofs.Common.{Faulty, gathered, MapValue, last_of, mixed_key, selects, again, is_missing, rules}
+use Rattle.keymap_lint.proofs.Common.{is_defined, zero_accent, pair_again, accent_pairs, has_base}
 use Rattle.keymap_lint.proofs.Common.{is_above_in_force, digit, Spelled, cell_in, cells_of}
 use Prim.Native.Nat.{zero, suc}
 use Rattle.std.proofs.Common.{◌-◌, ◌*◌, drop, inl, inr, All, Result, Ok, Err, ◌==◌, IfSome, nat_lt, length-drop}
@@ -13,7 +13,6 @@ use Rattle.std.proofs.lemmas.List.{get_or_past, get_or-map, get_or-take, get_or-
 use Rattle.std.proofs.lemmas.List.Elements.{All-weaker, All-contains, All-nil, All-cons, All-head, All-tail, All-append}
 use Rattle.std.proofs.lemmas.List.Elements.{Contains-get_or}
 use Rattle.std.proofs.lemmas.List.FromFn.{length-map-range_with_len}
-use Rattle.std.specs.List.{position_or_len, slice_get}
 use Rattle.std.proofs.lemmas.List.Folds.{find_at}
 use Rattle.std.proofs.lemmas.Option.{get_or_from_slice_get, slice_get_within}
 use Rattle.keymap_core.proofs.Lists.{find-true}
@@ -21,7 +20,6 @@ use Rattle.std.proofs.lemmas.List.Sorted.{All-permutation}
 use Rattle.keymap_lint.specs.Types.{Holding, Cell, Char, Act, Finding, Defined, Accent, Span, CellInForce, Lint}
 use Rattle.keymap_lint.specs.Types.{Spelled as OfSpelled}
 use Rattle.keymap_core.specs.declared.entry.Entry.{Entry}
-use Rattle.keymap_core.specs.Accents.{own_of}
 use Rattle.keymap_core.specs.Actions.{holding_action}
 use Rattle.keymap_core.specs.Below.{first_below}
 use Rattle.keymap_core.specs.Borne.{is_upper_live, any_below}
@@ -41,16 +39,16 @@ use Rattle.keymap_text.proofs.InForce.{slot_in_force}
 use Rattle.keymap_text.proofs.Verdicts.{fault_to, fault_within}
 use Rattle.keymap_text.proofs.Parts.{slot_tokens}
 use Rattle.keymap_text.proofs.TokenPlaces.{tokens_are_placed}
-use Rattle.keymap_lint.specs.Kinds.{at, nowhere, no_key, no_shift, has_keys, has_shift, mixed_by, mixed_keys, is_mixed}
-use Rattle.keymap_lint.specs.Kinds.{character_of, is_greatest, half_at, half_by, half_defined, selector, selector_of}
-use Rattle.keymap_lint.specs.Kinds.{is_some_in, missing_slots, nul_keys, again_by, defined_again, dead_key, dead_key_by}
-use Rattle.keymap_lint.specs.Kinds.{dead_key_of, live_accent, is_missing_of, zero_by, zero_accents, is_zero, pair_by}
+use Rattle.keymap_lint.specs.Kinds.{at, nowhere, no_key, no_shift, has_keys, has_shift, mixed_keys}
+use Rattle.keymap_lint.specs.Kinds.{character_of, is_greatest, half_at, half_defined, selector, selector_of}
+use Rattle.keymap_lint.specs.Kinds.{is_some_in, missing_slots, nul_keys, defined_again, dead_key, dead_key_by}
+use Rattle.keymap_lint.specs.Kinds.{dead_key_of, live_accent, is_missing_of, zero_accents, pair_by}
 use Rattle.keymap_lint.specs.Kinds.{pairs_by, pairs_again, base_at, paren, unused_by, unused_half, digit_by}
 use Rattle.keymap_lint.specs.Kinds.{bare_digits}
 use Rattle.keymap_lint.specs.Lists.{spelled_by, all_of, of_keys, of_definitions, of_rest, IsLint}
 use Rattle.keymap_lint.specs.Positions.{SpellsCell, CellsInForceAreSpelled, StandsWithin, DiagnosticsStandInTheText}
 use Rattle.keymap_lint.specs.Positions.{IsWithin, LiesWithin}
-use Rattle.keymap_lint.specs.Spelled.{offset_at, cells_defined, cells_in_force, is_in_force, is_last, content, is_live}
+use Rattle.keymap_lint.specs.Spelled.{offset_at, cells_defined, cells_in_force, is_last, content, is_live}
 use Rattle.keymap_core.specs.declared.action.Action.TheVariants as act
 use Rattle.keymap_core.specs.declared.action.Modifier.TheVariants as modifier
 use Rattle.keymap_core.specs.declared.action.Lock.TheVariants as lock
@@ -80,18 +78,11 @@ span_is ts n = elim (cases_lt n (length ts)) [
 ]
 
 placed_at : (text : List ℕ) (n : ℕ) → IsPlaced text (get_or (tokens text) n nothing)
-placed_at text n = elim (cases_lt n (length (tokens text))) [
-  | inl l ↦ tokens_are_placed text n nothing l
-  | inr l ↦ subst (IsPlaced text) (sym (get_or_past (tokens text) n nothing l)) (nothing_placed text)
-]
+placed_at text n = search (rules, cases_lt, tokens_are_placed, nothing, get_or_past, nothing_placed)
 
 -- each token begins within the text
 within : (text : List ℕ) (m : MapValue) (rows : List Row) (n : ℕ) → offset_at (spelled_by text m rows) n ≤ length text
-within text m rows n =
-    let e : offset_at (spelled_by text m rows) n ≡ (get_or (tokens text) n nothing).start =
-    ap (λ (s : Span). s.start) (span_is (tokens text) n) in
-    let p : IsPlaced text (get_or (tokens text) n nothing) = placed_at text n in
-    omega (arith, e, p.within)
+within text m rows n = search (rules, nothing, span_is, placed_at)
 
 -- a cell of the definition in force
 spelled_at : (text : List ℕ) (m : MapValue) (rows : List Row) → IsSpelledBy text m rows → (slot : ℕ) (p : Placed)
@@ -173,11 +164,7 @@ cells_in_force_are_spelled text m rows by =
     of_what p (Accent i) f = All-nil IsThere
 
     of_one : (p : Placed) → Unit {0} → All IsThere (cells_of t p)
-    of_one p x = go (is_in_force t p) refl
-      where
-        go : (b : Bool) → is_in_force t p ≡ b → All IsThere (cond b (cells_defined t p.what p.first) [])
-        go true e = of_what p p.what e
-        go false e = All-nil IsThere
+    of_one p x = search (rules, t, IsThere, of_what, All-nil)
 
 -- ---- diagnostics
 
@@ -241,27 +228,17 @@ of_all P t cells fs h =
         → P (at (offset_at t (p.first + (1 + f.holding_at.column))) (kinds.MixedKey f
         (character_of (cell_at t.map f.character_at.slot f.character_at.column)) (is_greatest t fs f.key))))
         → All P (mixed_key t fs f)
-    mixed f g =
-        all_some P (λ o. option_to_list (mixed_by t fs f o)) (last_of (Slot f.holding_at.slot) t.definitions) none
-        (λ p e. all_if P (is_mixed t f) _ (g p e))
+    mixed f g = search (rules, all_some, none, all_if)
 
     halves : All P (option_to_list (half_at t (is_some_in (nul_keys t fs)) (is_some_in (mixed_keys t fs))
         (find (selects t) cells)))
-    halves =
-        all_some P (λ o. option_to_list (half_at t (is_some_in (nul_keys t fs)) (is_some_in (mixed_keys t fs)) o))
-        (find (selects t) cells) none (λ c e.
-        all_some P (λ o. option_to_list (half_by c (is_some_in (nul_keys t fs)) (is_some_in (mixed_keys t fs)) o))
-        (selector t c) none (λ s g. all_one P _ (h.half c s e g)))
+    halves = search (rules, all_some, none, all_one)
 
     againby : (p : Placed) → Unit {0} → All P (again t p)
-    againby p u =
-        all_some P (λ o. option_to_list (again_by t p o)) (last_of p.what t.definitions) none
-        (λ q e. all_either (λ o. All P (option_to_list o)) (q.first == p.first) None _ none (all_one P _ (h.again p q)))
+    againby p u = search (rules, all_some, none, all_either, all_one)
 
     zero : (i : ℕ) → All P (zero_accent t cells i)
-    zero i =
-        all_some P (λ o. option_to_list (zero_by t cells i o)) (last_of (Accent i) t.definitions) none
-        (λ p e. all_if P (is_zero (own_of (accent_at t.map i)) && is_given t cells i) _ (h.zero i p))
+    zero i = search (rules, all_some, none, all_if)
 
     pairs : (i : ℕ) → All P (accent_pairs t i)
     pairs i =
@@ -293,10 +270,7 @@ holds_dead_key _ _ i e = absurd (cc)
 
 -- what holds of all elements holds of the one that is found
 found_has : {X : Type 0} (P : X → Type 0) (p : X → Bool) (xs : List X) → All P xs → (x : X) → find p xs ≡ Some x → P x
-found_has P p xs all x e =
-    let here : slice_get xs (position_or_len p xs) ≡ Some x = sym (find_at p xs) ∙ e in
-    subst P (get_or_from_slice_get xs (position_or_len p xs) x x here)
-    (all (position_or_len p xs) x (slice_get_within xs (position_or_len p xs) x here))
+found_has P p xs all x e = search (rules, find_at, get_or_from_slice_get, slice_get_within)
 
 all_of_text : (text : List ℕ) (m : MapValue) (rows : List Row) → IsSpelledBy text m rows → (fs : List Finding)
     → All (IsFinding m) fs
@@ -348,9 +322,7 @@ all_of_text text m rows by fs are =
 
     -- the place of a cell lies in the text
     low : (place : ℕ) (x : Cell) → SpellsCell text place x → place ≤ length text
-    low place x h =
-        let p = All-contains (IsPlaced text) (tokens text) h.token (tokens_are_placed text) h.among in
-        omega (arith, p.within, h.start)
+    low place x h = search (rules, All-contains, tokens_are_placed)
 
     dead_key_there : (c : CellInForce) → IsThere c → (o : Option ℕ) → live_accent t c ≡ o → is_missing_of t o ≡ true
         → (i : ℕ) × SpellsCell text c.span.start (Act (act.DeadKey i))
@@ -366,12 +338,7 @@ BeginsWithin text d = IfSome d (λ s. s.offset ≤ length text)
 
 begun_by : (text : List ℕ) (d : Option DefinitionStart) (token : TokenValue) (offset : ℕ) → BeginsWithin text d
     → offset ≤ length text → BeginsWithin text (definition_by d (item_of token) offset)
-begun_by text d token offset h l = go (begins (item_of token))
-  where
-    go : (o : Option Defined)
-        → BeginsWithin text (elim o [ Some what ↦ Some (record { what = what; offset = offset }) | None ↦ d ])
-    go (Some what) = l
-    go None = h
+begun_by text d token offset h l = search (rules)
 
 begun_behind : (text : List ℕ) (p : RowPlace) (d : Option DefinitionStart) (token : TokenValue) (offset : ℕ)
     → BeginsWithin text d → offset ≤ length text → BeginsWithin text (definition_behind p d (item_of token) offset)
@@ -409,11 +376,7 @@ refused_within text p d behind (t ∷ ts) all h l =
 
 pub diagnostics_stand_in_the_text : DiagnosticsStandInTheText
 diagnostics_stand_in_the_text text (OfSpelled l) (m, spells, (rows, by, (fs, are, is))) =
-    All-permutation (StandsWithin text) (all_of t (cells_in_force t) fs) l.list.items is.list.same
-    (all_of_text text m rows by fs are.each)
-  where
-    t : Spelled
-    t = spelled_by text m rows
+    search (rules, All-permutation, all_of_text)
 diagnostics_stand_in_the_text text (Faulty f place) ((early, at_it), is) = (
   fault_within text f.kind f.offset early (fault_to text f.kind f.offset early at_it.0),
   subst (TellsPlaces text) (sym is)

@@ -1,6 +1,6 @@
 -- Where no diagnostic is an error, no modifier sticks.
 use Rattle.keymap_lint.proofs.Common.{◌≡◌, Bool, true, false, List, [], ◌∷◌, ap, subst, sym, ◌∙◌, Option, Some, None}
-use Rattle.keymap_lint.proofs.Common.{refl, true≢false, MapValue, Diagnostic, Faulty}
+use Rattle.keymap_lint.proofs.Common.{refl, true≢false, MapValue, Faulty, rules}
 use Rattle.std.specs.List.{list_any}
 use Rattle.std.proofs.lemmas.Bool.{or_parts, or_from}
 use Rattle.keymap_lint.specs.Types.{Sticking, Kind, Diagnostics, Spelled}
@@ -42,11 +42,7 @@ none_by p q h (x ∷ xs) e =
 
 none_named : (l : Diagnostics) → never_sticks l.sticking ≡ false → has_error (Spelled l) ≡ false
     → names_keys (Spelled l) ≡ false
-none_named l never well =
-    none_by (λ (d : Diagnostic). is_error (severity_of (never_sticks l.sticking) d.kind))
-    (λ (d : Diagnostic). names_a_key d.kind)
-    (λ d h. ap (λ n. is_error (severity_of n d.kind)) never ∙ named_is_error d.kind h)
-    l.list.items well
+none_named l never well = search (rules, none_by, named_is_error)
 
 pub well_texts_never_stick : WellTextsNeverStick
 well_texts_never_stick text (Spelled l) (m, spells, (rows, by, (fs, are, is))) well =

@@ -4,6 +4,7 @@ ghost use Rattle.keymap_lint.specs.Promises.{WellTextsNeverStick, KeysAreNamedEx
 
 /// Where no diagnostic of a text is an error, the text spells a keymap, and after each list of presses and releases a
 /// modifier is on only while a key that bears it is pressed: so none is on once no key is pressed.
+#[tactic(auto, using(crate::proofs::Well::well_texts_never_stick))]
 pub fn well_texts_never_stick()
     ensures { WellTextsNeverStick }
 {}
@@ -15,6 +16,7 @@ pub fn keys_are_named_exactly_if_refused()
 {}
 
 /// Each cell of a definition in force is a token of the text that spells what the map has there.
+#[tactic(auto, using(crate::proofs::Standing::cells_in_force_are_spelled))]
 pub fn cells_in_force_are_spelled()
     ensures { CellsInForceAreSpelled }
 {}
@@ -22,6 +24,7 @@ pub fn cells_in_force_are_spelled()
 /// Each diagnostic that has a place stands within the text, and so do the further places that it tells. A `MixedKey`
 /// stands at a token that is its modifier or lock, a `HalfDefined` at its selector, a `DeadKey` at a dead key, and a
 /// `BareDigit` at its character.
+#[tactic(auto, using(crate::proofs::Standing::diagnostics_stand_in_the_text))]
 pub fn diagnostics_stand_in_the_text()
     ensures { DiagnosticsStandInTheText }
 {}

@@ -1,7 +1,7 @@
 -- The image of an accent: it has no fault, and gives the accent.
 use Rattle.keymap_tables.proofs.Common.{common_steps, ◌≡◌, ◌≢◌, ℕ, ◌+◌, ◌-◌, ◌*◌, ◌<◌, ◌≤◌, ◌==◌, suc, zero, List, []}
 use Rattle.keymap_tables.proofs.Common.{◌∷◌, ◌++◌, length, get_or, refl, sym, ap, ◌∙◌, arith, subst, add-zero, take}
-use Rattle.keymap_tables.proofs.Common.{All, Bool, true, false, IsScalar, from_le_bytes, flat_map, nat_tests}
+use Rattle.keymap_tables.proofs.Common.{All, Bool, true, false, IsScalar, from_le_bytes, flat_map, nat_tests, rules}
 use Rattle.keymap_tables.proofs.Common.{get_or_past, All-nil, All-same, All-push, All-cons, All-head, All-tail}
 use Rattle.keymap_tables.proofs.Common.{All-get_or, AccentValue, blank, IsPair, IsAccent, number_at, base_at, pairs_in}
 use Rattle.keymap_tables.proofs.Common.{char_fault, number_fault, accent_fault, zero_fault, HasNoFault, AreRows}
@@ -70,24 +70,18 @@ pub number-base : (own : ℕ) (pairs : List (ℕ × ℕ)) (i : ℕ)
     → get_or (own ∷ flat pairs) (1 + 2 * i) 0 ≡ (get_or pairs i (0, 0)).0
 number-base own [] i = get_or_past (own ∷ []) (1 + 2 * i) 0 (omega arith)
 number-base own (p ∷ pairs) zero = refl
-number-base own (p ∷ pairs) (suc i) =
-    let further : 1 + 2 * suc i ≡ suc (suc (1 + 2 * i)) = omega arith in
-    ap (λ (k : ℕ). get_or (own ∷ flat (p ∷ pairs)) k 0) further ∙ number-base p.1 pairs i
+number-base own (p ∷ pairs) (suc i) = search (rules, number-base p.1 pairs i)
 
 pub number-result : (own : ℕ) (pairs : List (ℕ × ℕ)) (i : ℕ)
     → get_or (own ∷ flat pairs) (2 + 2 * i) 0 ≡ (get_or pairs i (0, 0)).1
 number-result own [] i = get_or_past (own ∷ []) (2 + 2 * i) 0 (omega arith)
 number-result own (p ∷ pairs) zero = refl
-number-result own (p ∷ pairs) (suc i) =
-    let further : 2 + 2 * suc i ≡ suc (suc (2 + 2 * i)) = omega arith in
-    ap (λ (k : ℕ). get_or (own ∷ flat (p ∷ pairs)) k 0) further ∙ number-result p.1 pairs i
+number-result own (p ∷ pairs) (suc i) = search (rules, number-result p.1 pairs i)
 
 flat-known : (pairs : List (ℕ × ℕ)) → All IsPair pairs → All IsScalar (flat pairs)
 flat-known [] known = All-nil IsScalar
 flat-known (p ∷ pairs) known =
-    let is = All-head IsPair p pairs known in
-    All-cons IsScalar p.0 (p.1 ∷ flat pairs) is.0
-    (All-cons IsScalar p.1 (flat pairs) is.2 (flat-known pairs (All-tail IsPair p pairs known)))
+    search (rules, All-head, All-cons, All-tail, flat-known pairs (All-tail IsPair p pairs known))
 
 -- those of a known accent are characters
 pub numbers-known : (accent : AccentValue) → IsAccent accent → All IsScalar (numbers_of accent)

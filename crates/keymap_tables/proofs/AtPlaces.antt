@@ -49,10 +49,7 @@ zero-known = search rules
 
 -- an undefined entry is known
 pub undefined-known : IsEntry undefined
-undefined-known = record {
-  eight = refl;
-  cells = λ k d below. subst IsCell (sym (get_or-replicate 8 k (Char 0) d below)) zero-known;
-}
+undefined-known = search (rules, get_or-replicate, zero-known)
 
 -- an undefined entry fits
 pub undefined-fits : (l : Layout) → EntryFits l undefined

@@ -1,7 +1,7 @@
 -- What the reading of a file answers is the map of the image, or the one fault.
 use Rattle.keymap_tables.proofs.Common.{◌≡◌, ℕ, ◌<◌, List, None, Some, sym, ◌∙◌, subst, arith, Result, Ok, Err, Option}
 use Rattle.keymap_tables.proofs.Common.{All-weaker, AccentValue, MapValue, IsCell, IsEntry, IsAccent, IsMap, IsScalar}
-use Rattle.keymap_tables.proofs.Common.{Cell, Char, Act, Entry, Layout, TableFault, TableFaultKind, IsFirstFault}
+use Rattle.keymap_tables.proofs.Common.{Cell, Char, Act, Entry, Layout, TableFault, TableFaultKind, IsFirstFault, rules}
 use Rattle.keymap_tables.proofs.Common.{fault_at, CellFits, EntryFits, AccentFits, FitsIn, image_in, numbers_of, wide}
 use Rattle.keymap_tables.proofs.Common.{number_limit}
 use Rattle.keymap_tables.specs.Types.{TableError, Memory, Read, Fault}
@@ -26,10 +26,7 @@ accent-wide accent known =
 
 -- each map fits a wide table
 pub map-wide : (m : MapValue) → IsMap m → FitsIn wide m
-map-wide m is = record {
-  entries = All-weaker IsEntry (EntryFits wide) entry-wide m.entries is.entries;
-  accents = All-weaker IsAccent (AccentFits wide) accent-wide m.accents is.accents;
-}
+map-wide m is = search (rules, All-weaker, entry-wide, accent-wide)
 
 -- there is no kind where there is none
 pub some_none : (kind : TableFaultKind) (o : Option TableFaultKind) → o ≡ Some kind → o ≡ None → ⊥

@@ -43,10 +43,8 @@ rows-placed f x n xs i y row old few inside is was = search (rules, ap₂, map-s
 -- what is known of a list, and of what was placed
 placed-known : {X : Type 0} (P : X → Type 0) (x : X) (n : ℕ) (xs : List X) (i : ℕ) (y : X) → P x → length xs ≤ n
     → All P xs → i < n → P y → (length (placed x xs i y) ≤ n) × All P (placed x xs i y)
-placed-known P x n xs i y is_blank few all inside is = (
-  omega (arith, placed-length x xs i y),
-  search (rules, All-set, All-append, All-replicate),
-)
+placed-known P x n xs i y is_blank few all inside is =
+    search (rules, placed-length, All-set, All-append, All-replicate)
 
 -- a slot is defined
 pub shows-entry : (t : Filling) (m : MapValue) (slot n : ℕ) (e : Entry) (row : List ℕ) → Shows t m → slot < 256

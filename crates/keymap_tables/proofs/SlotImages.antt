@@ -202,13 +202,7 @@ same-entry l x y known also same =
 
 -- the slots of a table are rows
 pub slots-are : (l : Layout) → AreRows (slot_bytes l) (slot_size l) (slot_fault l) (IsEntryIn l) undefined
-slots-are l = record {
-  some = slot-some l;
-  whole = λ entry is. length-slot_bytes l entry is.0;
-  sound = slot_bytes-sound l;
-  one = same-entry l;
-  empty = slot-blank l;
-}
+slots-are l = search (rules, slot-some, length-slot_bytes, slot_bytes-sound, same-entry, slot-blank)
 
 -- the parts of a slot, written in turn
 pub slot-written : (l : Layout) (entry : Entry) (cells : List Cell) (i marks flag n : ℕ) (a b c e : List ℕ)

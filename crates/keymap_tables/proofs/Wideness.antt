@@ -32,11 +32,7 @@ least value size s c inside rows before t k wide =
 -- the first character above 255 of the first entry that doesn't fit is the first of the map
 pub first-cell : (m : MapValue) (s column : ℕ) → s < 256
     → IsFirstWideRow (EntryFits narrow) character_in 10 m.entries undefined s column → IsFirstWide m (at.Cell s column)
-first-cell m s column few found = record { here = found.here.here; first = behind }
-  where
-    behind : (v : Wide) → IsWide m v → place_of (at.Cell s column) ≤ place_of v
-    behind (at.Accent accent number) wide = omega (arith, found.here.inside)
-    behind (at.Cell t k) wide = search (rules, least, entry-small)
+first-cell m s column few found = search (rules, least, entry-small)
 
 -- where the cells fit, the first number above 255 of the first accent that doesn't fit is the first of the map
 pub first-number : (m : MapValue) (i number : ℕ) → All (EntryFits narrow) m.entries

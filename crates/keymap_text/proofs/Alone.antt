@@ -1,6 +1,6 @@
 -- A token reads alone: its bytes are the same token wherever a blank stands behind them.
 use Rattle.keymap_text.proofs.Common.{◌≡◌, ℕ, ◌+◌, ◌≤◌, Bool, true, false, List, [], ◌∷◌, ◌++◌, take, sym, ◌∙◌, ap}
-use Rattle.keymap_text.proofs.Common.{refl, subst, arith, add-one, ◌&&◌, slice_index, list_all, nat_tests, TokenKind}
+use Rattle.keymap_text.proofs.Common.{refl, arith, add-one, ◌&&◌, slice_index, list_all, nat_tests, TokenKind, rules}
 use Rattle.keymap_text.proofs.Common.{Literal, leading, is_blank, is_word, stays_on_line, separates, word, Skipped}
 use Rattle.keymap_text.proofs.Common.{Found, front_of}
 use Rattle.keymap_text.specs.Alone.{IsWide, StandsAlone}
@@ -17,9 +17,7 @@ leading_cut p (c ∷ s) y h = go (p c) refl (leading_cut p s y h)
   where
     go : (b : Bool) → p c ≡ b → leading p (take (leading p s) s ++ y) ≡ leading p s
         → leading p (take (leading p (c ∷ s)) (c ∷ s) ++ y) ≡ leading p (c ∷ s)
-    go true e k =
-        ap (λ n. leading p (take n (c ∷ s) ++ y)) (leading_pass p c s e ∙ add-one (leading p s))
-        ∙ leading_pass p c (take (leading p s) s ++ y) e ∙ ap (λ n. n + 1) k ∙ sym (leading_pass p c s e)
+    go true e k = search (rules, leading_pass, add-one)
     go false e k =
         ap (λ n. leading p (take n (c ∷ s) ++ y)) (leading_fail p c s e) ∙ h ∙ sym (leading_fail p c s e)
 
@@ -37,8 +35,7 @@ front_alone c n b k s y h e = go k n (in_front_is c s (Found k n) h)
     go k n (Right i) = front_right c (b ∷ y) i
     go k n (Quote i q) = front_quote c (take n s ++ b ∷ y) i ∙ literal_alone s (b ∷ y) k n q
     go k n (Letters w l) =
-        front_word c (take n s ++ b ∷ y) w
-        ∙ ap word (leading_cut is_word s (b ∷ y) (leading_fail is_word b y (blank_no_word b e))) ∙ short_word n l
+        search (rules, front_word, leading_cut, leading_fail, blank_no_word, short_word)
 
 -- a letter or digit is no LF, and no blank
 word_on_line : (c : ℕ) → is_word c ≡ true → stays_on_line c ≡ true
@@ -54,9 +51,7 @@ front_on_line (c ∷ s) = go (is_word c) refl (front_on_line s)
   where
     go : (b : Bool) → is_word c ≡ b → list_all stays_on_line (take (leading is_word s) s) ≡ true
         → list_all stays_on_line (take (leading is_word (c ∷ s)) (c ∷ s)) ≡ true
-    go true e k =
-        ap (λ n. list_all stays_on_line (take n (c ∷ s))) (leading_pass is_word c s e ∙ add-one (leading is_word s))
-        ∙ ap (λ b. b && list_all stays_on_line (take (leading is_word s) s)) (word_on_line c e) ∙ k
+    go true e k = search (rules, leading_pass, add-one, word_on_line)
     go false e k = ap (λ n. list_all stays_on_line (take n (c ∷ s))) (leading_fail is_word c s e)
 
 -- the last byte of a front passes
@@ -78,13 +73,8 @@ token_in_line c n k s h = go k n (in_front_is c s (Found k n) h)
     go : (k : TokenKind) (n : ℕ) → InFront c s (Found k n) → StandsInLine c n s
     go k n (Left i) = paren 40 i refl refl
     go k n (Right i) = paren 41 i refl refl
-    go k n (Quote i q) =
-        let r = literal_on_line s k n q in
-        subst (λ c. StandsInLine c n s) (sym i) (r.0, ap is_blank r.1)
-    go k n (Letters w l) = (
-      ap (λ b. b && list_all stays_on_line (take (leading is_word s) s)) (word_on_line c w) ∙ front_on_line s,
-      word_no_blank (slice_index (c ∷ s) (leading is_word s)) (front_end is_word c s w),
-    )
+    go k n (Quote i q) = search (rules, literal_on_line)
+    go k n (Letters w l) = search (rules, word_on_line, front_on_line, word_no_blank, front_end)
 
 -- a literal has two apostrophes, and something between them
 front_wide : (c n : ℕ) (k : TokenKind) (s : List ℕ) → front_of c s ≡ Found k n → IsWide k n

@@ -1,7 +1,7 @@
 -- The printed text of a character, and of an action, is one token, which is that character or action.
 use Rattle.keymap_text.proofs.Common.{lt-ltb, le-ltb, ◌≡◌, ℕ, suc, ◌+◌, ◌*◌, ◌/◌, ◌%◌, ◌<◌, ◌≤◌, ◌==◌, ◌&&◌, Bool, true}
 use Rattle.keymap_text.proofs.Common.{cond, List, [], ◌∷◌, length, map, fold, refl, sym, ◌∙◌, ap, subst, arith, Ok, Err}
-use Rattle.keymap_text.proofs.Common.{Some, ne_eqb, nat_lt, nat_le, codes, slice_index_or, list_all, digit_char}
+use Rattle.keymap_text.proofs.Common.{Some, ne_eqb, nat_lt, nat_le, codes, slice_index_or, list_all, digit_char, rules}
 use Rattle.keymap_text.proofs.Common.{digit_value, nat_tests, Value, Meaning, Number, Char, leading, is_word, meaning}
 use Rattle.keymap_text.proofs.Common.{digits_of, is_digit, named, control_names, character_text, along}
 use Rattle.keymap_core.specs.CodePoints.{code_digits}
@@ -118,12 +118,7 @@ digit_65536 c = omega arith
 
 -- four digits behind a number
 four_of : (c n : ℕ) → n ≡ c / 65536 → horner n (four c) ≡ c
-four_of c n e =
-    let first : c / 65536 * 16 + c / 4096 % 16 ≡ c / 4096 = omega arith in
-    let second : c / 4096 * 16 + c / 256 % 16 ≡ c / 256 = omega arith in
-    let third : c / 256 * 16 + c / 16 % 16 ≡ c / 16 = omega arith in
-    let last : c / 16 * 16 + c / 1 % 16 ≡ c = omega arith in
-    omega (arith, e)
+four_of c n e = search rules
 
 -- a number of four digits is printed with them
 hex_four : (c : ℕ) → c < 65536 → code_digits c ≡ map digit_char (four c)

@@ -1,6 +1,6 @@
 -- The faults of the reader's machine are those of the places.
 use Rattle.keymap_text.proofs.Common.{◌≡◌, ℕ, List, [], ◌∷◌, refl, sym, ◌∙◌, ap, Result, Ok, Err, Option, Some, None}
-use Rattle.keymap_text.proofs.Common.{length-append, TextFaultKind, Item, TokenValue, Tokens, Ends, Stops, Then}
+use Rattle.keymap_text.proofs.Common.{length-append, TextFaultKind, Item, TokenValue, Tokens, Ends, Stops, Then, rules}
 use Rattle.keymap_text.proofs.Common.{tokens_after, MapValue, GrammarState, accept, at, at_end, first_of, RowPlace}
 use Rattle.keymap_text.proofs.Common.{next, next_at_definition, judge, verdict, Verdict, Spelled, Faulty, ended}
 use Rattle.keymap_text.proofs.Common.{list_of, ending_of_tokens, item_of, place_after, FaultInText, found_in, fault_of}
@@ -95,10 +95,7 @@ same_fault s (Then t ts) = go (accept s (item_of t)) refl (λ s'. same_fault s' 
         ≡ found_in (place_after (place_of s'.place) (list_of ts)) (ending_of_tokens ts))
         → found_of (judge s (Then t ts)) ≡ found_in (place_after (place_of s.place) (list_of (Then t ts)))
         (ending_of_tokens (Then t ts))
-    go (Ok s') e ih =
-        ap found_of (judge_then s s' t ts e) ∙ ih s'
-        ∙ sym (rw (list_then, behind_then) (ap (λ r. found_in r (ending_of_tokens ts))
-        (leads_on (place_of s.place) (place_of s'.place) t (list_of ts) (accept_led s (item_of t) ∙ ap led e))))
+    go (Ok s') e ih = search (rules, judge_then, list_then, behind_then, leads_on, accept_led)
     go (Err f) e ih =
         ap found_of (judge_refused s f t ts e) ∙ sym (rw (list_then, behind_then)
         (ap (λ r. found_in r (ending_of_tokens ts)) (leads_not (place_of s.place) f t (list_of ts)

@@ -3,7 +3,7 @@ use Rattle.keymap_text.proofs.Common.{◌≡◌, ◌⊎◌, inl, inr, ⊎_elim, 
 use Rattle.keymap_text.proofs.Common.{List, [], ◌∷◌, ◌++◌, length, take, drop, get_or, refl, sym, ◌∙◌, ap, ap₂, arith}
 use Rattle.keymap_text.proofs.Common.{eq-or-lt_of_le, nat_tests, take-append-le, drop-append-le, TextFaultKind, BadWord}
 use Rattle.keymap_text.proofs.Common.{TokenKind, Word, Literal, ParenL, ParenR, Item, Value, Open, Close, Char, leading}
-use Rattle.keymap_text.proofs.Common.{stays_on_line, is_word, word, Front, Skipped, Found, Refused, front_of}
+use Rattle.keymap_text.proofs.Common.{is_word, word, Front, Found, Refused, front_of, rules}
 use Rattle.keymap_text.proofs.Common.{tokens_after, token_before, Then, is_empty, is_word_kind, item, meaning, Fronts}
 use Rattle.keymap_text.proofs.Common.{IsOpen}
 use Rattle.keymap_text.proofs.InFront.{InFront, Blank, Comment, Left, Right, Quote, Letters, Long, Nothing, in_front}
@@ -31,11 +31,8 @@ stays_or_open c b = go (front_of c b) refl (in_front c b)
 
     go : (f : Front) → front_of c b ≡ f → InFront c b f → Stays c b ⊎ IsOpen (c ∷ b)
     go f e (Blank i) = stay (λ x. front_blank c (b ++ x) i ∙ sym e) (λ n w. absurd (cc))
-    go f e (Comment i) = ⊎_elim
-        (λ z. inr (inl (i, z)))
-        (λ l. stay (λ x. front_comment c (b ++ x) i ∙ ap Skipped (leading_short stays_on_line b x l) ∙ sym e)
-        (λ n w. absurd (cc)))
-        (eq-or-lt_of_le (leading_le stays_on_line b))
+    go f e (Comment i) =
+        search (rules, ⊎_elim, stay, front_comment, leading_short, eq-or-lt_of_le, leading_le)
     go f e (Left i) = stay (λ x. front_left c (b ++ x) i ∙ sym e) (λ n w. absurd (cc))
     go f e (Right i) = stay (λ x. front_right c (b ++ x) i ∙ sym e) (λ n w. absurd (cc))
     go f e (Quote i q) = ⊎_elim
@@ -43,14 +40,9 @@ stays_or_open c b = go (front_of c b) refl (in_front c b)
         (λ s. stay (λ x. front_quote c (b ++ x) i ∙ s x ∙ sym (front_quote c b i))
         (λ n w. absurd (no_word Word (literal_found b Word n (sym (front_quote c b i) ∙ w)) refl)))
         (literal_or b)
-    go f e (Letters w l) = ⊎_elim
-        (λ z. inr (inr (inl (e ∙ ap (Found Word) z))))
-        (λ k. stay (λ x. front_word c (b ++ x) w ∙ ap word (leading_short is_word b x k) ∙ sym (front_word c b w))
-        (λ n h. let s : leading is_word b ≡ n = cc in omega (arith, s, k)))
-        (eq-or-lt_of_le (leading_le is_word b))
-    go f e (Long w l) =
-        stay (λ x. front_word c (b ++ x) w ∙ long_word _ (omega (arith, l, leading_grows is_word b x)) ∙ sym e)
-        (λ n w. absurd (cc))
+    go f e (Letters w l) =
+        search (rules, ⊎_elim, stay, front_word, leading_short, eq-or-lt_of_le, leading_le)
+    go f e (Long w l) = search (rules, stay, front_word, long_word, leading_grows)
     go f e (Nothing n) = stay (λ x. n (b ++ x) ∙ sym e) (λ n w. absurd (cc))
 
 -- what is found in open bytes is a word, and has them all

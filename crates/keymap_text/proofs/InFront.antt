@@ -1,7 +1,7 @@
 -- What stands in front of some bytes, by its first byte.
 use Rattle.keymap_text.proofs.Common.{◌≡◌, ◌⊎◌, inl, inr, ℕ, ◌<◌, ◌≤◌, ◌==◌, Bool, true, false, not, cond, List, length}
 use Rattle.keymap_text.proofs.Common.{refl, ap, subst, arith, nat_lt, eqb-true, nat_tests, TextFaultKind, BadByte}
-use Rattle.keymap_text.proofs.Common.{BadWord, TokenKind, ParenL, ParenR, Word, leading, stays_on_line, is_blank}
+use Rattle.keymap_text.proofs.Common.{BadWord, TokenKind, ParenL, ParenR, Word, leading, stays_on_line, is_blank, rules}
 use Rattle.keymap_text.proofs.Common.{is_word, literal, word, Front, Skipped, Found, Refused, Unfinished, front_of}
 use Rattle.keymap_text.proofs.Common.{is_word_kind, is_end_inside}
 use Rattle.keymap_text.proofs.Leading.{leading_le}
@@ -86,10 +86,7 @@ front_fits c s kind n h = go kind n (in_front_is c s (Found kind n) h)
     go : (kind : TokenKind) (n : ℕ) → InFront c s (Found kind n) → Fits kind n s
     go kind n (Left i) = record { within = omega arith; short = λ e. omega arith }
     go kind n (Right i) = record { within = omega arith; short = λ e. omega arith }
-    go kind n (Quote i e) = record {
-      within = literal_fits s kind n e;
-      short = λ w. absurd (no_word kind (literal_found s kind n e) w);
-    }
+    go kind n (Quote i e) = search (rules, literal_fits, no_word, literal_found)
     go kind n (Letters w l) = record { within = leading_le is_word s; short = λ _. l }
 
 -- what is passed over is a blank or a comment

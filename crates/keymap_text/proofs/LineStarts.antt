@@ -1,7 +1,7 @@
 -- Where lines begin, and the line of a place by them.
-use Rattle.keymap_text.proofs.Common.{◌≡◌, ℕ, zero, suc, ◌+◌, ◌-◌, ◌≤◌, ◌<◌, ◌==◌, Bool, true, false, not, List, []}
+use Rattle.keymap_text.proofs.Common.{◌≡◌, ℕ, zero, suc, ◌+◌, ◌-◌, ◌≤◌, ◌<◌, ◌==◌, Bool, false, not, List, [], rules}
 use Rattle.keymap_text.proofs.Common.{◌∷◌, ◌++◌, length, take, drop, get_or, refl, ◌∙◌, sym, ap, subst, arith, count_by}
-use Rattle.keymap_text.proofs.Common.{drop-cons, eqb-true, length-append, length-drop, true≢false, suffix_len}
+use Rattle.keymap_text.proofs.Common.{drop-cons, eqb-true, length-append, length-drop, suffix_len}
 use Rattle.keymap_text.proofs.Common.{length-take, length-take-le, drop-drop, drop-take, get_or_append_left}
 use Rattle.keymap_text.proofs.Common.{get_or-drop, get_or-take, suffix_len_is, prefix_len_passes, prefix_len_stops}
 use Rattle.keymap_text.proofs.Common.{get_or-append_seam, leading, stays_on_line, before_in_line, line_end, IsLineStart}
@@ -76,11 +76,7 @@ next_start b n s h l =
     less e = omega arith
 
     feed : (c : ℕ) → not (c == 10) ≡ false → count_by (λ c. c == 10) (c ∷ []) ≡ 1
-    feed c h = go (c == 10) h refl
-      where
-        go : (t : Bool) → not t ≡ false → (c == 10) ≡ t → count_by (λ c. c == 10) (c ∷ []) ≡ 1
-        go true h e = ap (λ t. count_by (λ n. n == 10) (t ∷ [])) (eqb-true c 10 e)
-        go false h e = absurd (true≢false h)
+    feed c h = search (rules, eqb-true)
 
 -- the first line
 pub first_start : (b : List ℕ) → AreStarts b (0 ∷ [])

@@ -1,6 +1,6 @@
 -- A quoted character that is complete stays so, whatever follows.
 use Rattle.keymap_text.proofs.Common.{◌≡◌, ◌≢◌, ◌⊎◌, inl, inr, ℕ, ◌+◌, ◌<◌, ◌≤◌, ◌==◌, Bool, true, false, cond, List}
-use Rattle.keymap_text.proofs.Common.{[], ◌∷◌, ◌++◌, length, get_or, refl, sym, ◌∙◌, ap, subst, arith, nat_lt}
+use Rattle.keymap_text.proofs.Common.{[], ◌∷◌, ◌++◌, length, get_or, refl, sym, ◌∙◌, ap, subst, arith, nat_lt, rules}
 use Rattle.keymap_text.proofs.Common.{slice_index, Option, None, length-append, ⊎_elim, eq-eqb, true≢false, nat_tests}
 use Rattle.keymap_text.proofs.Common.{get_or_append_left, le-ltb, decoded, decoded_by, Decoded, bad, second, continues}
 use Rattle.keymap_text.proofs.Common.{get_or-append_seam, TextFaultKind, BadLiteral, TokenKind, Literal, is_word_kind}
@@ -287,14 +287,8 @@ no_second_lf b = never (b == 0xE0) (b == 0xED) (b == 0xF0) (b == 0xF4)
 -- nor does any character go past one
 size_before_lf : (l : List ℕ) → 0 < length l → (decoded (l ++ 10 ∷ [])).size ≤ length l
 size_before_lf [] h = absurd (omega (arith, h))
-size_before_lf (b ∷ []) h =
-    rw no_second_lf (at_most 1 (nat_lt b 0x80) _ _ (omega arith)
-    (at_most 1 (nat_lt b 0xC2) _ _ (omega arith) (at_most 1 (nat_lt 0xF4 b) _ _ (omega arith) (omega arith))))
-size_before_lf (b ∷ c ∷ []) h =
-    at_most 2 (nat_lt b 0x80) _ _ (omega arith)
-    (at_most 2 (nat_lt b 0xC2) _ _ (omega arith)
-    (at_most 2 (nat_lt 0xF4 b) _ _ (omega arith)
-    (at_most 2 (second b c) _ _ (at_most 2 (nat_lt b 0xE0) _ _ (omega arith) (omega arith)) (omega arith))))
+size_before_lf (b ∷ []) h = search (rules, no_second_lf, at_most)
+size_before_lf (b ∷ c ∷ []) h = search (rules, at_most)
 size_before_lf (b ∷ c ∷ d ∷ []) h =
     at_most 3 (nat_lt b 0x80) _ _ (omega arith)
     (at_most 3 (nat_lt b 0xC2) _ _ (omega arith)

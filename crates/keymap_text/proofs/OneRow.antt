@@ -2,7 +2,7 @@
 use Rattle.keymap_text.proofs.Common.{◌≡◌, ℕ, ◌+◌, List, [], ◌∷◌, ◌++◌, length, map, refl, sym, ◌∙◌, ap, ap₂, arith}
 use Rattle.keymap_text.proofs.Common.{append-nil, Cell, Item, TokenValue, item_of, Definition, AreCells, no_cells}
 use Rattle.keymap_text.proofs.Common.{one_cell, ArePairs, no_pairs, one_pair, Defines, Row, AreRows, no_row, one_row}
-use Rattle.keymap_text.proofs.Common.{places_after}
+use Rattle.keymap_text.proofs.Common.{places_after, rules}
 use Rattle.keymap_text.proofs.RowPlaces.{places_are}
 use Rattle.keymap_text.proofs.Leading.{same_head, same_tail}
 use Rattle.keymap_text.proofs.Row.{ok_is}
@@ -63,10 +63,7 @@ no_places n m (y ∷ ys) h = absurd (empty_more _ _ h)
 -- rows behind which as many tokens stand, and begin at the same places
 as_long : (n : ℕ) (xs ys us vs : List TokenValue) (a b : List Row) → AreRows us a → AreRows vs b
     → xs ++ us ≡ ys ++ vs → places_after (n + length xs) a ≡ places_after (n + length ys) b → length xs ≡ length ys
-as_long n xs ys us vs [] b f g e h =
-    let left : us ≡ [] = none f refl in
-    let right : vs ≡ [] = none g (no_places (n + length xs) (n + length ys) b h) in
-    ap length (sym (append-nil xs) ∙ ap (λ us. xs ++ us) (sym left) ∙ e ∙ ap (λ vs. ys ++ vs) right ∙ append-nil ys)
+as_long n xs ys us vs [] b f g e h = search (rules, none, no_places, append-nil)
 as_long n xs ys us vs (x ∷ a) b f g e h =
     let same : n + length xs ≡ n + length ys = next_place (n + length xs) (n + length ys) (x ∷ a) b h x a refl in
     omega (arith, same)

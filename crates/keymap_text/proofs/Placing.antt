@@ -1,6 +1,6 @@
 -- Where tokens and definitions stand in a text.
 use Rattle.keymap_text.proofs.Common.{◌≡◌, ℕ, zero, suc, ◌+◌, ◌<◌, ◌≤◌, List, [], ◌∷◌, ◌++◌, length, take, drop, map}
-use Rattle.keymap_text.proofs.Common.{refl, sym, ◌∙◌, ap, subst, arith, Option, Some, None, Ok, Err, IfSome}
+use Rattle.keymap_text.proofs.Common.{refl, sym, ◌∙◌, ap, subst, arith, Option, Some, None, Ok, Err, IfSome, rules}
 use Rattle.keymap_text.proofs.Common.{length-drop, append_assoc, drop-drop, length-take-le, TextFaultKind, EndInside}
 use Rattle.keymap_text.proofs.Common.{TokenKind, Word, TextFault, Token, Span, Placed, Front, Skipped, Found, Refused}
 use Rattle.keymap_text.proofs.Common.{Unfinished, front_of, tokens_after, TokenValue, Tokens, Ends, Stops, Then, first}
@@ -85,12 +85,7 @@ next_is (c ∷ bytes) zero q t h = go (front_of c bytes) refl (λ n. next_is byt
     go (Skipped n) e ih =
         subst (λ (ts : Tokens). (j : ℕ) × IsNext q (c ∷ bytes) ts t j) (sym (split_skipped q c n bytes e))
         (one_more q c bytes (tokens_after n (q + 1) bytes) t (ih n (sym (ap first (split_skipped q c n bytes e)) ∙ h)))
-    go (Found kind n) e ih = (
-      0,
-      found_next q c n kind bytes t e
-          (then_first (token_before kind (c ∷ take n bytes) q (drop n bytes)) t
-          (tokens_after n (q + 1) bytes) (sym (ap first (split_found q c n kind bytes e)) ∙ h)),
-    )
+    go (Found kind n) e ih = search (rules, found_next, then_first, split_found)
     go (Refused f) e ih = absurd (fault_first f q t (sym (ap first (split_refused q c f bytes e)) ∙ h))
     go Unfinished e ih =
         absurd (fault_first EndInside (q + 1 + length bytes) t (sym (ap first (split_unfinished q c bytes e)) ∙ h))

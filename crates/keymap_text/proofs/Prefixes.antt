@@ -2,7 +2,7 @@
 -- stays.
 use Rattle.keymap_text.proofs.Common.{◌≡◌, ℕ, zero, suc, ◌+◌, ◌<◌, ◌≤◌, inl, inr, ⊎_elim, ◌&&◌, Bool, true, false, not}
 use Rattle.keymap_text.proofs.Common.{List, [], ◌∷◌, ◌++◌, length, refl, sym, ◌∙◌, ap, ap₂, arith, Result, Ok, Err}
-use Rattle.keymap_text.proofs.Common.{slice_index_or, true≢false, take-append-le, drop-append-le, TextFaultKind}
+use Rattle.keymap_text.proofs.Common.{slice_index_or, true≢false, take-append-le, drop-append-le, TextFaultKind, rules}
 use Rattle.keymap_text.proofs.Common.{EndInside, Front, Skipped, Found, Refused, Unfinished, front_of, tokens_after}
 use Rattle.keymap_text.proofs.Common.{TokenValue, Tokens, Ends, Stops, Then, is_empty, list_of, ending_of_tokens}
 use Rattle.keymap_text.proofs.Common.{tokens, ending, IsSameToken, is_settled, is_end_inside, is_word_kind, item}
@@ -120,9 +120,7 @@ faults_on (same {t = t} {u = u} {ts = ts} {us = us} e w k) s f o h =
         → accept s (item t.kind t.bytes) ≡ r → judge s (Then u us) ≡ Faulty f o true
     go (Ok s') on a =
         judge_then s s' u us (ap (accept s) is ∙ a) ∙ on s' (sym (judge_then s s' t ts a) ∙ h)
-    go (Err g) on a =
-        judge_refused s g u us (ap (accept s) is ∙ a) ∙ ap₂ (Faulty g) (sym e.2) w
-        ∙ same_fault g f t.start o true (is_settled t) refl (sym (judge_refused s g t ts a) ∙ h)
+    go (Err g) on a = search (rules, judge_refused, is, same_fault)
 
 -- an early fault is that of every text that begins so
 pub early_from : (b x : List ℕ) (f : TextFaultKind) (o : ℕ) → verdict b ≡ Faulty f o true

@@ -1,8 +1,8 @@
 -- A printed map spells the map.
-use Rattle.keymap_text.proofs.Common.{◌≡◌, ◌≢◌, ℕ, zero, suc, ◌+◌, ◌<◌, ◌≤◌, ◌==◌, Bool, true, false, cond, max, List}
+use Rattle.keymap_text.proofs.Common.{◌≡◌, ℕ, zero, suc, ◌+◌, ◌<◌, ◌≤◌, ◌==◌, Bool, true, false, cond, max, List, rules}
 use Rattle.keymap_text.proofs.Common.{[], ◌∷◌, ◌++◌, length, get_or, map, refl, sym, ◌∙◌, ap, ap₂, subst, arith, Ok}
 use Rattle.keymap_text.proofs.Common.{Option, Some, None, append_assoc, append-nil, eqb-true, eq-eqb, ne_eqb}
-use Rattle.keymap_text.proofs.Common.{true≢false, All, flat_map, range_with_len, option_or, blank, MapValue, undefined}
+use Rattle.keymap_text.proofs.Common.{All, flat_map, range_with_len, option_or, blank, MapValue, undefined}
 use Rattle.keymap_text.proofs.Common.{name_of, Cell, Item, Value, Char, Act, character, cell, tokens_after, Definition}
 use Rattle.keymap_text.proofs.Common.{KeyDefinition, AccentDefinition, Defines, IsRow, no_definition, one_definition}
 use Rattle.keymap_text.proofs.Common.{last, of_slot, of_index, greatest, slots_needed, accents_needed, or_default}
@@ -106,9 +106,7 @@ last_of says def value i a (suc n) e l h =
     go true t ih =
         ap₂ option_or (beyond says def value i (a + 1) n e (omega (arith, eqb-true a i t)))
         (e a ∙ ap (λ b. cond b (Some (value a)) None) t ∙ ap (λ k. Some (value k)) (eqb-true a i t))
-    go false t ih =
-        let apart : a ≢ i = λ k. true≢false (sym (eq-eqb a i k) ∙ t) in
-        ap (λ o. option_or o (says (def a))) (ih (omega (arith, l, apart)))
+    go false t ih = search (rules, eq-eqb)
 
 -- none of them is
 last_not : {A : Type 0} (says : Definition → Option A) (def : ℕ → Definition) (a n : ℕ)

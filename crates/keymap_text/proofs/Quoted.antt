@@ -2,7 +2,7 @@
 use Rattle.keymap_text.proofs.Common.{◌≡◌, ◌≢◌, inl, inr, ℕ, ◌+◌, ◌<◌, ◌≤◌, Bool, true, false, cond, List, [], ◌∷◌}
 use Rattle.keymap_text.proofs.Common.{◌++◌, length, take, drop, slice_index, refl, sym, ◌∙◌, ap, ap₂, subst, arith}
 use Rattle.keymap_text.proofs.Common.{nat_lt, Ok, Err, Option, Some, None, length-append, append_assoc, append-nil}
-use Rattle.keymap_text.proofs.Common.{⊎_elim, true≢false, take_at, ◌&&◌, add-one, list_all, get_or_at, drop_more}
+use Rattle.keymap_text.proofs.Common.{⊎_elim, true≢false, take_at, ◌&&◌, add-one, list_all, get_or_at, drop_more, rules}
 use Rattle.keymap_text.proofs.Common.{drop_all, stays_on_line, Front, Skipped, Found, Refused, Unfinished, literal}
 use Rattle.keymap_text.proofs.Common.{quoted, closing, unclosed, is_lone, front_of, first, tokens_after, nat_tests}
 use Rattle.keymap_text.proofs.Common.{decoded, Decoded, good, second, continues, code_of_3, code_of_4, TextFaultKind}
@@ -359,9 +359,7 @@ pub quoted_reason : (q : ℕ) (rest : List ℕ) → IsReason (39 ∷ rest) (firs
 quoted_reason q rest = go (literal rest) refl
   where
     go : (f : Front) → literal rest ≡ f → IsReason (39 ∷ rest) (first (tokens_after 0 q (39 ∷ rest)))
-    go Unfinished e =
-        subst (IsReason (39 ∷ rest)) (sym (ap first (split_unfinished q 39 rest (front_quote 39 rest refl ∙ e))))
-        (literal_unfinished rest e)
+    go Unfinished e = search (rules, split_unfinished, front_quote, literal_unfinished)
     go (Skipped k) e = absurd (literal_no_skip rest k e)
     go (Found k i) e =
         subst (IsReason (39 ∷ rest)) (sym (ap first (split_found q 39 i k rest (front_quote 39 rest refl ∙ e))))

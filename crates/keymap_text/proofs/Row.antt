@@ -5,7 +5,7 @@ use Rattle.keymap_text.proofs.Common.{Some, None, length-append, length-set, app
 use Rattle.keymap_text.proofs.Common.{eq-eqb, true≢false, take_all, none-some, same_Some, take_more_set, TextFaultKind}
 use Rattle.keymap_text.proofs.Common.{Entry, Cell, LockFlag, Action, Item, Open, Close, Value, Number, Act, Letter}
 use Rattle.keymap_text.proofs.Common.{AccentValue, MapValue, undefined, with_entry, with_accent, character, cell, lock}
-use Rattle.keymap_text.proofs.Common.{accent_index, GrammarState, GrammarPlace, CellAt, LockAt, AccentCharacter}
+use Rattle.keymap_text.proofs.Common.{accent_index, GrammarState, GrammarPlace, CellAt, LockAt, AccentCharacter, rules}
 use Rattle.keymap_text.proofs.Common.{AfterAccent, PairBase, PairResult, PairEnd, accept, at, at_end, start, step}
 use Rattle.keymap_text.proofs.Common.{first_of, empty_map, with_cell, with_pair, after_cell, after_base, ◌>>=◌}
 use Rattle.keymap_text.proofs.Common.{KeyDefinition, AccentDefinition, AreCells, no_cells, one_cell, ArePairs, no_pairs}
@@ -137,9 +137,7 @@ pair_done us t u i a b r (of_accent name idx own le ps) l h z k =
 -- a step inside a definition
 on : (part : List Item) (m : MapValue) (t : Item) (p : GrammarPlace) (s : GrammarState)
     → ◌≡◌ {A = Result GrammarState TextFaultKind} (Ok (at m p)) (Ok s) → Part (part ++ t ∷ []) p → Moves part m t s
-on part m t p s h k =
-    On (sym (ap (λ s. s.map) (ok_is _ _ h)))
-    (subst (λ (s : GrammarState). Part (part ++ t ∷ []) s.place) (ok_is _ _ h) k)
+on part m t p s h k = search (rules, ok_is)
 
 -- a definition ends where another begins
 begin_behind : (part : List Item) (m : MapValue) (i : ℕ) (a : AccentValue) (t : Item) (s : GrammarState)
@@ -172,25 +170,16 @@ moves part m (AccentCharacter i) t s h (name, is, idx) =
     on part m t _ s b.2 (subst (λ (ts : List Item). Defines (ts ++ t ∷ [])
     (AccentDefinition i (record { own = b.0; pairs = [] }))) (sym is)
     (of_accent name idx b.1 (omega arith) no_pairs))
-moves part m (AfterAccent i a) Open s h k =
-    let t = test_passed (nat_lt (length a.pairs) 52) (at m (PairBase i a)) s faults.TooManyPairs h in
-    on part m Open (PairBase i a) s (ap Ok t.1) (part, refl, k, ltb-true _ _ t.0)
+moves part m (AfterAccent i a) Open s h k = search (rules, test_passed, on, ltb-true)
 moves part m (AfterAccent i a) Close s h k = begin_behind part m i a Close s h k
 moves part m (AfterAccent i a) (Value v) s h k = begin_behind part m i a (Value v) s h k
 moves part m (PairBase i a) t s h (us, is, d, l) =
-    let b = bind_ok (character t) (λ c. after_base m i a c) s h in
-    let z = test_failed (b.0 == 0) (at m (PairResult i a b.0)) s faults.ZeroBase b.2 in
-    let whole = ap (λ ts. ts ++ t ∷ []) is ∙ append_assoc us (Open ∷ []) (t ∷ []) in
-    on part m t (PairResult i a b.0) s (ap Ok z.1) (us, t, whole, d, l, b.1, differ b.0 0 z.0)
+    search (rules, bind_ok, test_failed, append_assoc, on, differ)
 moves part m (PairResult i a b) t s h (us, u, is, d, l, e, z) =
-    let r = bind_ok (character t) (λ c. Ok (at m (PairEnd i a b c))) s h in
-    let whole = ap (λ ts. ts ++ t ∷ []) is ∙ append_assoc us (Open ∷ u ∷ []) (t ∷ []) in
-    on part m t _ s r.2 (us, u, t, whole, d, l, e, z, r.1)
+    search (rules, bind_ok, append_assoc, on)
 moves part m (PairEnd i a b r) Open s h k = absurd (err_ok _ _ h)
 moves part m (PairEnd i a b r) Close s h (us, t, u, is, d, l, e, z, f) =
-    on part m Close _ s h (subst (λ (ts : List Item). Defines ts (AccentDefinition i (with_pair a b r)))
-    (sym (ap (λ ts. ts ++ Close ∷ []) is ∙ append_assoc us (Open ∷ t ∷ u ∷ []) (Close ∷ [])))
-    (pair_done us t u i a b r d l e z f))
+    search (rules, on, append_assoc, pair_done)
 moves part m (PairEnd i a b r) (Value v) s h k = absurd (err_ok _ _ h)
 
 -- The tokens so far are a row of definitions, and a part of the next one.
@@ -360,9 +349,7 @@ close_taken m i a b r = refl
 pairs_done : (m : MapValue) (i : ℕ) (a : AccentValue) (ts : List Item) (ps : List (ℕ × ℕ)) → ArePairs ts ps
     → length a.pairs + length ps ≤ 52 → steps (at m (AfterAccent i a)) ts
     ≡ Ok (at m (AfterAccent i (record { own = a.own; pairs = a.pairs ++ ps })))
-pairs_done m i a ts ps no_pairs l =
-    ap (λ (ps : List (ℕ × ℕ)). Ok (at m (AfterAccent i (record { own = a.own; pairs = ps }))))
-    (sym (append-nil a.pairs))
+pairs_done m i a ts ps no_pairs l = search (rules, append-nil)
 pairs_done m i a ts ps (one_pair {t = t} {u = u} {base = b} {result = r} {ts = ts'} {ps = ps'} h z k more) l =
     steps_on _ _ Open (t ∷ u ∷ Close ∷ ts') (open_taken m i a (omega (arith, l)))
     ∙ steps_on _ _ t (u ∷ Close ∷ ts') (base_taken m i a t b h z)

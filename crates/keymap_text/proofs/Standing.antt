@@ -1,10 +1,10 @@
 -- A reader that takes pieces.
 use Rattle.keymap_text.proofs.Common.{◌≡◌, ℕ, ◌+◌, ◌<◌, ◌≤◌, ◌==◌, Bool, true, false, List, [], ◌∷◌, ◌++◌, length, take}
-use Rattle.keymap_text.proofs.Common.{drop, get_or, refl, sym, ◌∙◌, ap, ap₂, subst, arith, Result, Ok, Err}
+use Rattle.keymap_text.proofs.Common.{drop, get_or, refl, sym, ◌∙◌, ap, ap₂, subst, arith, Result, Ok, Err, rules}
 use Rattle.keymap_text.proofs.Common.{append_assoc, append-nil, length-append, take_all, drop_at, eqb-true, inl, inr}
 use Rattle.keymap_text.proofs.Common.{⊎_elim, ◌-◌, take-append-drop, drop_all, drop-append-le, count_by-le-length}
 use Rattle.keymap_text.proofs.Common.{drop-append-add, IfErr, MapValue, TextFault, TextFaultKind, Reading, leading}
-use Rattle.keymap_text.proofs.Common.{stays_on_line, is_word, tokens_after, literal, Unfinished, line, Early, Means}
+use Rattle.keymap_text.proofs.Common.{stays_on_line, tokens_after, literal, Unfinished, line, Early, Means}
 use Rattle.keymap_text.proofs.Common.{GrammarState, GrammarPlace, at, judge, verdict, Faulty, resume, Says, IsReader}
 use Rattle.keymap_text.proofs.Common.{IsFaultOfPending, Lined, Moves, Breaks, Feeds, Passes, Advances, Refuses, IsOpen}
 use Rattle.keymap_text.proofs.Common.{state_view, IsPlace, StandsAfter, FedAfter, progress, grammar_view}
@@ -108,12 +108,8 @@ quoted_feeds s (c ∷ t) u = go (c == 10) refl (quoted_feeds (s ++ c ∷ []) t (
 -- nor in any open bytes
 pub open_feeds : (p : List ℕ) → IsOpen p → feeds p ≡ 0
 open_feeds [] h = refl
-open_feeds (c ∷ p) (inl h) =
-    on_line (c ∷ p) stays_on_line refl
-    (leading_pass stays_on_line c p (ap stays_on_line h.0) ∙ omega (arith, h.1))
-open_feeds (c ∷ p) (inr (inl h)) =
-    let w = word_found c (length p) p h in
-    on_line (c ∷ p) is_word refl (leading_pass is_word c p w.0 ∙ omega (arith, w.1))
+open_feeds (c ∷ p) (inl h) = search (rules, on_line, leading_pass)
+open_feeds (c ∷ p) (inr (inl h)) = search (rules, word_found, on_line, leading_pass)
 open_feeds (c ∷ p) (inr (inr h)) =
     let quote = is_quote c p h in
     no_feed c p (ap (λ c. c == 10) quote) ∙ quoted_feeds [] p (sym (front_quote c p quote) ∙ h)
@@ -158,9 +154,7 @@ passed old new bytes w y n a e k p q l low place = record {
 }
   where
     behind : drop n bytes ≡ y
-    behind =
-        ap₂ (λ n (t : List ℕ). drop n t) k e
-        ∙ drop-append-add old.pending.items (w ++ y) (length w) ∙ drop_at w y (length w) refl
+    behind = search (rules, drop-append-add, drop_at)
 
 -- A reader on the same line, at the same place of the grammar.
 pub record Stays (old new : Reading) : Type 0 where

@@ -1,6 +1,6 @@
 -- The bytes of a token are those of the text at its place.
 use Rattle.keymap_text.proofs.Common.{◌≡◌, ℕ, zero, suc, ◌+◌, ◌≤◌, List, [], ◌∷◌, length, take, drop, refl, sym, ◌∙◌}
-use Rattle.keymap_text.proofs.Common.{ap, subst, arith, All, length-take-le, EndInside, TokenKind, Front, Skipped}
+use Rattle.keymap_text.proofs.Common.{ap, subst, arith, All, length-take-le, TokenKind, Front, Skipped, rules}
 use Rattle.keymap_text.proofs.Common.{Found, Refused, Unfinished, front_of, tokens_after, TokenValue, Tokens}
 use Rattle.keymap_text.proofs.Common.{token_before, list_of, tokens, IsPlaced}
 use Rattle.std.proofs.lemmas.List.Elements.{All-nil, All-cons, All-weaker}
@@ -34,41 +34,24 @@ none_of P ts e = subst (All P) (sym e) (All-nil P)
 all_among : (bytes : List ℕ) (k q : ℕ) → All (Among q bytes) (list_of (tokens_after k q bytes))
 all_among [] k q = none_of (Among q []) (tokens_after k q []) (ap list_of (split_nil k q) ∙ list_ends q)
 all_among (c ∷ bytes) (suc k) q =
-    subst (λ ts. All (Among q (c ∷ bytes)) (list_of ts)) (sym (split_one k q c bytes))
-    (All-weaker (Among (q + 1) bytes) (Among q (c ∷ bytes)) (one_more q c bytes)
-    (list_of (tokens_after k (q + 1) bytes)) (all_among bytes k (q + 1)))
+    search (rules, split_one, All-weaker, one_more, all_among bytes k (q + 1))
 all_among (c ∷ bytes) zero q = go (front_of c bytes) refl (λ n. all_among bytes n (q + 1))
   where
     later : (n : ℕ) → All (Among (q + 1) bytes) (list_of (tokens_after n (q + 1) bytes))
         → All (Among q (c ∷ bytes)) (list_of (tokens_after n (q + 1) bytes))
-    later n h =
-        All-weaker (Among (q + 1) bytes) (Among q (c ∷ bytes)) (one_more q c bytes)
-        (list_of (tokens_after n (q + 1) bytes)) h
+    later n h = search (rules, All-weaker, one_more)
 
     go : (f : Front) → front_of c bytes ≡ f
         → ((n : ℕ) → All (Among (q + 1) bytes) (list_of (tokens_after n (q + 1) bytes)))
         → All (Among q (c ∷ bytes)) (list_of (tokens_after 0 q (c ∷ bytes)))
     go (Skipped n) e ih =
         subst (λ ts. All (Among q (c ∷ bytes)) (list_of ts)) (sym (split_skipped q c n bytes e)) (later n (ih n))
-    go (Found kind n) e ih =
-        let t = token_before kind (c ∷ take n bytes) q (drop n bytes) in
-        subst (λ ts. All (Among q (c ∷ bytes)) (list_of ts)) (sym (split_found q c n kind bytes e))
-        (subst (All (Among q (c ∷ bytes))) (sym (list_then t (tokens_after n (q + 1) bytes)))
-        (All-cons (Among q (c ∷ bytes)) t (list_of (tokens_after n (q + 1) bytes)) (in_front q c n kind bytes e)
-        (later n (ih n))))
-    go (Refused f) e ih =
-        none_of (Among q (c ∷ bytes)) (tokens_after 0 q (c ∷ bytes))
-        (ap list_of (split_refused q c f bytes e) ∙ list_stops f q)
-    go Unfinished e ih =
-        none_of (Among q (c ∷ bytes)) (tokens_after 0 q (c ∷ bytes))
-        (ap list_of (split_unfinished q c bytes e) ∙ list_stops EndInside (q + 1 + length bytes))
+    go (Found kind n) e ih = search (rules, split_found, list_then, All-cons, in_front, later)
+    go (Refused f) e ih = search (rules, none_of, split_refused, list_stops)
+    go Unfinished e ih = search (rules, none_of, split_unfinished, list_stops)
 
 pub tokens_are_placed : (text : List ℕ) → All (IsPlaced text) (tokens text)
 tokens_are_placed text = All-weaker (Among 0 text) (IsPlaced text) placed (tokens text) (all_among text 0 0)
   where
     placed : (t : TokenValue) → Among 0 text t → IsPlaced text t
-    placed t h =
-        let e : h.skipped ≡ t.start = omega (arith, h.start) in record {
-          within = omega (arith, h.start, h.within);
-          bytes = ap (λ n. take (length t.bytes) (drop n text)) (sym e) ∙ h.there;
-        }
+    placed t h = search rules

@@ -1,5 +1,5 @@
 -- The verdict of the reader's machine is what the definitions say.
-use Rattle.keymap_text.proofs.Common.{take-append-le, ◌≡◌, ◌⊎◌, inl, inr, ℕ, Bool, true, false, cond, zero, suc, ◌+◌}
+use Rattle.keymap_text.proofs.Common.{take-append-le, ◌≡◌, ◌⊎◌, inl, inr, ℕ, Bool, true, zero, suc, ◌+◌, rules}
 use Rattle.keymap_text.proofs.Common.{◌≤◌, length, take, drop, arith, count_by, List, [], ◌∷◌, ◌++◌, map, refl, sym}
 use Rattle.keymap_text.proofs.Common.{◌∙◌, ap, subst, Result, Ok, Err, Option, Some, None, TextFaultKind, Item}
 use Rattle.keymap_text.proofs.Common.{TextFault, TokenValue, Tokens, Ends, Stops, Then, tokens_after, front_of, Front}
@@ -138,9 +138,7 @@ pub row_of : (ts : List TokenValue) (p : RowPlace) → place_after AtDefinition 
 row_of ts p h e = go (judge start (tokens_then ts)) refl
   where
     none : found_of (judge start (tokens_then ts)) ≡ None
-    none = ended_at ts ∙ ap (λ r. found_in r (Ok 0)) h
-        ∙ ap (λ b. cond {A = Option FaultInText} b None
-        (Some (record { kind = faults.EndInside; offset = 0; early = false }))) e
+    none = search (rules, ended_at)
 
     go : (v : Verdict) → judge start (tokens_then ts) ≡ v → (ds : List Definition) × IsRow (map item_of ts) ds
     go (Spelled m) k =
@@ -161,12 +159,7 @@ accepted_of ts ds row =
   where
     go : (l : Result RowPlace (TextFaultKind × TokenValue)) → place_after AtDefinition ts ≡ l → found_in l (Ok 0) ≡ None
         → (p : RowPlace) × (place_after AtDefinition ts ≡ Ok p) × (may_end p ≡ true)
-    go (Ok p) e h = (p, e, ends (may_end p) h)
-      where
-        ends : (b : Bool) → cond {A = Option FaultInText} b None (Some (record
-            { kind = faults.EndInside; offset = 0; early = false })) ≡ None → b ≡ true
-        ends true h = refl
-        ends false h = absurd (none-some _ (sym h))
+    go (Ok p) e h = search (rules, none-some)
     go (Err (f, t)) e h = absurd (none-some _ (sym h))
 
 -- one map or one fault
@@ -225,12 +218,8 @@ fits (c ∷ bytes) s zero q f o e h = go (front_of c bytes) refl (fits bytes)
         token (Ok s') b = let i = ih s' n (q + 1) f o e (sym (judge_then s s' t _ b) ∙ here) in omega (arith, i)
         token (Err g) b = let i : q ≡ o =
             same_offset _ _ _ _ _ _ (sym (judge_refused s g t _ b) ∙ here) in omega (arith, i)
-    go (Refused g) a ih = let i : q ≡ o =
-        same_offset _ _ _ _ _ _ (sym (judge_stops s g q) ∙ sym (ap (judge s) (split_refused q c g bytes a)) ∙ h) in
-        omega (arith, i)
-    go Unfinished a ih = let i : q + 1 + length bytes ≡ o =
-        same_offset _ _ _ _ _ _ (sym (judge_stops s faults.EndInside (q + 1 + length bytes))
-        ∙ sym (ap (judge s) (split_unfinished q c bytes a)) ∙ h) in omega (arith, i)
+    go (Refused g) a ih = search (rules, same_offset, judge_stops, split_refused)
+    go Unfinished a ih = search (rules, same_offset, judge_stops, split_unfinished)
 
 -- a fault stands in the text or at its end
 pub fault_within : (text : List ℕ) (f : TextFaultKind) (o : ℕ) (e : Bool) → verdict text ≡ Faulty f o e

@@ -1,7 +1,7 @@
 -- What is said of numbers of events is what is said of the events.
 use Rattle.kmap_c.proofs.Common.{suc, ◌≡◌, ℕ, ◌<◌, ◌≤◌, ◌==◌, Bool, true, false, List, [], ◌∷◌, ◌++◌, refl, ap, sym}
 use Rattle.kmap_c.proofs.Common.{◌∙◌, subst, arith, map, reverse, map-append, Modifier, IsMap, MapValue, image, Event}
-use Rattle.kmap_c.proofs.Common.{between, event_of, Holding}
+use Rattle.kmap_c.proofs.Common.{between, event_of, Holding, rules}
 use Rattle.std.proofs.Common.{◌-◌, nat_le, not, ◌&&◌, ◌||◌, inl, inr, ◌⊎◌}
 use Rattle.std.specs.Prelude.{if◌then◌else◌, All}
 use Rattle.std.proofs.lemmas.Bool.{leb-true, leb-false, le-leb, ne_eqb}
@@ -54,9 +54,7 @@ key_by false false false n low high = tt
 
 pub have_keys : (numbers : List ℕ) → HasKeys (map event_of numbers)
 have_keys [] = λ i d lt. absurd (omega (arith, lt))
-have_keys (n ∷ before) =
-    All-cons HasKey (event_of n) (map event_of before)
-    (key_by (nat_le n 127) (nat_le n 255) (n == 256) n refl refl) (have_keys before)
+have_keys (n ∷ before) = search (rules, All-cons, key_by, nat_le, have_keys before)
 
 -- an event is a load exactly where its number is above 256
 load_by : (p q r : Bool) (n x : ℕ) (h : List Event)
@@ -73,8 +71,7 @@ no_load n = grind (arith, nat_tests)
 pub exchanged_is_second : (numbers : List ℕ) → is_second_in_force (map event_of numbers) ≡ is_exchanged numbers
 exchanged_is_second [] = refl
 exchanged_is_second (n ∷ before) =
-    load_by (nat_le n 127) (nat_le n 255) (n == 256) n (count_where is_load (map event_of before)) (map event_of before)
-    ∙ rw (no_load n, ← exchanged_is_second before) refl
+    search (rules, load_by, nat_le, no_load, exchanged_is_second before)
 
 safe_in_force : (b : Bool) (m n : MapValue) → IsSafe m → IsSafe n → IsSafe (if b then n else m)
 safe_in_force true m n s t = t
@@ -124,21 +121,13 @@ fresh_by : (p q r : Bool) (k n x : ℕ) (h : List Event) → k < 128 → nat_le 
     → (if is_fresh_press k (event_by p q r n) h then suc x else x)
     ≡ (if (n == k) && not (pressed k h) then suc x else x)
 fresh_by true q r k n x h lt e = refl
-fresh_by false q r k n x h lt e =
-    let other : (n == k) ≡ false = ne_eqb n k (λ same. omega (arith, same, leb-false n 127 e)) in
-    rw other (none q r)
-  where
-    none : (q r : Bool) → (if is_fresh_press k (event_by false q r n) h then suc x else x) ≡ x
-    none true r = refl
-    none false true = refl
-    none false false = refl
+fresh_by false q r k n x h lt e = search (rules, ne_eqb, leb-false)
 
 fresh_presses_are : (k : ℕ) (numbers : List ℕ) → k < 128
     → count_where (is_fresh_press k) (map event_of numbers) ≡ fresh_presses k numbers
 fresh_presses_are k [] lt = refl
 fresh_presses_are k (n ∷ before) lt =
-    fresh_by (nat_le n 127) (nat_le n 255) (n == 256) k n _ (map event_of before) lt refl
-    ∙ rw (pressed_is_down k before, fresh_presses_are k before lt) refl
+    search (rules, fresh_by, nat_le, pressed_is_down, fresh_presses_are k before lt)
 
 -- a number that is no load's is that of no load
 kept_by : (p q r : Bool) (n : ℕ) → (p || (q || r)) ≡ true → IsNoLoad (event_by p q r n)
@@ -175,6 +164,4 @@ map-reverse (x ∷ xs) =
 -- the events of some calls and of one more
 pub delivered : (events numbers : List ℕ)
     → reverse (map event_of events) ++ map event_of numbers ≡ map event_of (reverse events ++ numbers)
-delivered events numbers =
-    ap (λ xs. xs ++ map event_of numbers) (sym (map-reverse events))
-    ∙ sym (map-append event_of (reverse events) numbers)
+delivered events numbers = search (rules, map-reverse, map-append)

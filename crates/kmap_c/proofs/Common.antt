@@ -14,8 +14,8 @@ pub use Rattle.keymap_text.specs.Printed.{accent_line, key_line}
 pub use Rattle.kmap_c.specs.Buffers.{HasPut}
 pub use Rattle.kmap_c.specs.Numbers.{event_of}
 pub use Rattle.kmap_c.specs.Sentences.{IsSaid}
-pub use Rattle.std.proofs.Common.{Bool, List, [], ap, arith, drop, false, length, refl, subst, sym, take, true, ℕ, ◌*◌}
-pub use Rattle.std.proofs.Common.{◌++◌, ◌+◌, ◌<◌, ◌==◌, ◌∙◌, ◌∷◌, ◌≡◌, ◌≢◌, ◌≤◌}
+pub use Rattle.std.proofs.Common.{Bool, List, [], ap, arith, drop, false, length, refl, rules, subst, sym, take, true}
+pub use Rattle.std.proofs.Common.{ℕ, ◌*◌, ◌++◌, ◌+◌, ◌<◌, ◌==◌, ◌∙◌, ◌∷◌, ◌≡◌, ◌≢◌, ◌≤◌}
 pub use Rattle.std.proofs.lemmas.List.{map-append}
 pub use Rattle.std.specs.List.{flat_map, range_with_len}
 pub use Rattle.std.specs.Prelude.{map, negsuc, pos, reverse}

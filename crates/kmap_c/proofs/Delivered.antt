@@ -1,5 +1,5 @@
 -- A list of events, by their numbers, with one more at its end.
-use Rattle.kmap_c.proofs.Common.{◌≡◌, ℕ, ◌<◌, ◌+◌, List, [], ◌∷◌, ◌++◌, length, take, ap, sym, ◌∙◌, map, reverse}
+use Rattle.kmap_c.proofs.Common.{◌≡◌, ℕ, ◌<◌, ◌+◌, List, [], ◌∷◌, ◌++◌, length, take, ap, sym, ◌∙◌, map, reverse, rules}
 use Rattle.kmap_c.proofs.Common.{map-append, Event, Maps, answers_to, raw_of, event_of}
 use Rattle.std.proofs.Common.{get_or}
 use Rattle.std.proofs.lemmas.List.{take_more}
@@ -17,7 +17,4 @@ events-push numbers i e is below =
 -- the answers so far, with that to one more event
 pub answers-push : (ms : Maps) (h es : List Event) (e : Event) (n : ℕ) → n ≡ raw_of (answer_to ms (reverse es ++ h) e)
     → map raw_of (answers_to ms h es) ++ n ∷ [] ≡ map raw_of (answers_to ms h (es ++ e ∷ []))
-answers-push ms h es e n is =
-    ap (λ (k : ℕ). map raw_of (answers_to ms h es) ++ k ∷ []) is
-    ∙ sym (ap (map raw_of) (answers_to-push ms h es e)
-    ∙ map-append raw_of (answers_to ms h es) (answer_to ms (reverse es ++ h) e ∷ []))
+answers-push ms h es e n is = search (rules, answers_to-push, map-append)

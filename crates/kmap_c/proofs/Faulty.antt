@@ -1,17 +1,13 @@
 -- Tables that are those of a keymap have no fault.
-use Rattle.kmap_c.proofs.Common.{◌≡◌, ◌≢◌, subst, ℕ, List, negsuc}
+use Rattle.kmap_c.proofs.Common.{◌≡◌, ◌≢◌, ℕ, List, negsuc, rules}
 use Rattle.std.proofs.Common.{◌↔◌}
 use Rattle.std.specs.Prelude.{ℤ}
-use Rattle.keymap_tables.specs.Faults.{IsTableFault}
-use Rattle.keymap_tables.specs.Layouts.{wide}
 use Rattle.keymap_tables.proofs.ReadingLaws.{map-wide, no-fault}
 use Rattle.kmap_c.specs.Calls.{AreTables}
 use Rattle.kmap_c.specs.Told.{AreFaulty}
 
 not-faulty : (tables : List ℕ) → AreTables tables → AreFaulty tables → ⊥
-not-faulty tables read faulty =
-    no-fault wide read.0 faulty.1.0 read.1 (map-wide read.0 read.1)
-    (subst (λ (bytes : List ℕ). IsTableFault bytes faulty.1.0) read.2 faulty.1.1)
+not-faulty tables read faulty = search (rules, no-fault, map-wide)
 
 -- another status than -4 is right
 pub unfaulty : (status : ℤ) (tables : List ℕ) → status ≢ negsuc 3 → AreTables tables

@@ -1,7 +1,7 @@
 -- Kinds by their numbers: a number that names no kind of fault has no sentence, an index is that of one modifier or
 -- lock, and a byte is 0 where the bit of each modifier is not set.
 use Rattle.kmap_c.proofs.Common.{suc, zero, Holding, Modifier, Bool, List, [], ap, arith, false, length, refl, sym}
-use Rattle.kmap_c.proofs.Common.{true, ℕ, ◌+◌, ◌<◌, ◌==◌, ◌∙◌, ◌∷◌, ◌≡◌, ◌≢◌, range_with_len, map}
+use Rattle.kmap_c.proofs.Common.{true, ℕ, ◌+◌, ◌<◌, ◌==◌, ◌∙◌, ◌∷◌, ◌≡◌, ◌≢◌, range_with_len, map, rules}
 use Rattle.std.specs.Int.{bit_at}
 use Rattle.std.proofs.Common.{get_or, inl, inr}
 use Rattle.std.proofs.lemmas.Bool.{cases_lt, eq-eqb}
@@ -84,10 +84,7 @@ pub up_down : (b : Bool) → b ≡ false → b ≡ true → ⊥
 up_down b up down = cc
 
 off-at : (n i : ℕ) → (bit_is_set n i ≡ true → ⊥) → bit_at n i ≡ bit_at 0 i
-off-at n i off =
-    let other : bit_at n i ≢ 1 = λ e. off (eq-eqb (bit_at n i) 1 e) in
-    let none : bit_at n i ≡ 0 = omega (arith, bit_at-lt n i, other) in
-    none ∙ sym (bit_at-zero i)
+off-at n i off = search (rules, eq-eqb, bit_at-lt, bit_at-zero)
 
 pub none-set : (n : ℕ) → n < 256 → ((i : Modifier) → bit_is_set n (modifier_index i) ≡ true → ⊥) → n ≡ 0
 none-set n fits off =

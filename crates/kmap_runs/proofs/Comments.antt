@@ -2,15 +2,13 @@
 use Rattle.kmap_runs.proofs.Common.{suc, ◌≡◌, ℕ, zero, ◌<◌, ◌==◌, Bool, true, false, not, List, [], ◌∷◌, ◌++◌, get_or}
 use Rattle.kmap_runs.proofs.Common.{refl, subst, arith, append-nil, decimal, if◌then◌else◌, codes, flat_map, not-true}
 use Rattle.kmap_runs.proofs.Common.{name_of, code_text, filled_all, EachPasses, Sent, IsScript, script-nil, line-script}
-use Rattle.kmap_runs.proofs.Common.{comment}
+use Rattle.kmap_runs.proofs.Common.{comment, rules}
 use Rattle.std.specs.Prelude.{◌/◌, ◌%◌, nat_lt}
 use Rattle.std.specs.Char.{digit_char}
-use Rattle.std.specs.Fmt.{digit_glyph}
 use Rattle.std.specs.List.{list_all}
 use Rattle.std.proofs.lemmas.Bool.{and_parts, or_from}
 use Rattle.keymap_core.specs.Actions.{accent_names}
 use Rattle.keymap_core.specs.CodePoints.{digit_at, upper_digits, code_digits}
-use Rattle.keymap_core.proofs.Lists.{along}
 use Rattle.keymap_lint_text.proofs.Lines.{append_all, decimal_all}
 use Rattle.play_core.specs.Spelling.{says, has_line_feed}
 use Rattle.messages.specs.Filled.{filled}
@@ -40,9 +38,7 @@ if-line true text h = h
 if-line false text h = refl
 
 pub decimal-line : (n : ℕ) → IsInLine (decimal n)
-decimal-line n =
-    decimal_all is_in_line
-    (λ d low. along (λ d. is_in_line (digit_glyph false d)) (λ d. true) 0 10 refl d (omega arith) (omega arith)) n
+decimal-line n = search (rules, decimal_all)
 
 -- ---- names and numbers of characters
 
@@ -78,9 +74,7 @@ code_all p h each c =
     (rw (at 0x1000, at 0x100, at 0x10, at 1) refl))
 
 pub code-line : (c : ℕ) → IsInLine (code_text c)
-code-line c =
-    code_all is_in_line refl
-    (λ d low. along (λ d. is_in_line (digit_char d)) (λ d. true) 0 16 refl d (omega arith) (omega arith)) c
+code-line c = search (rules, code_all)
 
 -- ---- comments
 

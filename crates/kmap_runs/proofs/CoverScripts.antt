@@ -1,6 +1,6 @@
 -- What is printed to test a console is a script of its events.
 use Rattle.kmap_runs.proofs.Common.{suc, ◌≡◌, ℕ, zero, ◌+◌, ◌<◌, ◌==◌, Bool, true, false, List, [], ◌∷◌, ◌++◌, length}
-use Rattle.kmap_runs.proofs.Common.{map, drop, get_or, refl, sym, ap, subst, ◌∙◌, append_assoc, append-nil, lit<}
+use Rattle.kmap_runs.proofs.Common.{map, drop, get_or, refl, sym, ap, subst, ◌∙◌, append_assoc, append-nil, lit<, rules}
 use Rattle.kmap_runs.proofs.Common.{if◌then◌else◌, decimal, add-one, ◌-◌, Option, Some, Ok, reverse, All, flat_map}
 use Rattle.kmap_runs.proofs.Common.{range_with_len, reverse-reverse, All-head, All-tail, name_of, MapValue}
 use Rattle.kmap_runs.proofs.Common.{All-reversed, Sight, Pair, HasKey, HasKeys, LeftOut, Never, Reset, Spells, Sent}
@@ -48,11 +48,7 @@ adds-nil = record { before = λ rest sent h. h }
 
 infixl 10 ◌⊳◌
 ◌⊳◌ : {a b : List ℕ} {xs ys : List Sent} → Adds a xs → Adds b ys → Adds (a ++ b) (xs ++ ys)
-◌⊳◌ {a} {b} {xs} {ys} h k = record {
-  before = λ rest sent script.
-      rw (append_assoc a b rest, append_assoc xs ys sent)
-      (h.before (b ++ rest) (ys ++ sent) (k.before rest sent script));
-}
+◌⊳◌ {a} {b} {xs} {ys} h k = search (rules, append_assoc)
 
 quiet-flat : {X : Type 0} (f : X → List ℕ) → ((x : X) → Adds (f x) []) → (xs : List X) → Adds (flat_map f xs) []
 quiet-flat f each [] = adds-nil
@@ -74,9 +70,7 @@ quiet-comment : (words : List ℕ) (told : List (List ℕ)) → IsInLine words �
 quiet-comment words told w t = record { before = comment-before words told w t }
 
 quiet-counts : (rest name : List ℕ) (n : Counts) → IsInLine rest → IsInLine name → Adds (counts_line rest name n) []
-quiet-counts rest name n f g =
-    quiet-comment words.COUNTS.now (name ∷ decimal n.seen ∷ decimal n.left_out ∷ rest ∷ decimal n.rest ∷ []) refl
-    (g, (decimal-line n.seen, (decimal-line n.left_out, (f, (decimal-line n.rest, tt)))))
+quiet-counts rest name n f g = search (rules, quiet-comment, decimal-line)
 
 -- a number in a list
 number-line : (n : ℕ) → IsInLine (number_text n)
@@ -128,9 +122,7 @@ quiet-slots : (one : Bool) (word : List ℕ) (first end : ℕ) (row : List ℕ) 
     else comment words.SLOTS.now (word ∷ decimal first ∷ decimal (end - 1) ∷ row ∷ [])) []
 quiet-slots true word first end row f g =
     quiet-comment words.ONE_SLOT.now (word ∷ decimal first ∷ row ∷ []) refl (f, (decimal-line first, (g, tt)))
-quiet-slots false word first end row f g =
-    quiet-comment words.SLOTS.now (word ∷ decimal first ∷ decimal (end - 1) ∷ row ∷ []) refl
-    (f, (decimal-line first, (decimal-line (end - 1), (g, tt))))
+quiet-slots false word first end row f g = search (rules, quiet-comment, decimal-line)
 
 quiet-row : (word : List ℕ) (first end : ℕ) (row : List ℕ) → IsInLine word → IsInLine row
     → Adds (row_line word first end row) []
@@ -268,15 +260,7 @@ cover-delivers : (c : Cover) → reverse (delivered (events_sent c)) ≡ history
 cover-delivers c = ap reverse (events-deliver c.events.items) ∙ sym (events-reverse c.events.items)
 
 pub shows-cover : (m : MapValue) (script : List ℕ) → IsCovered m tt script → ShowsCover m script
-shows-cover m script (c, covers, e) =
-    let is : IsScript script (events_sent c) = cover-sends m c script e covers.keys in
-    record {
-      cover = c;
-      covers = covers;
-      is = is;
-      nothing_else = λ sent h. one_list script sent (events_sent c) h is;
-      delivers = cover-delivers c;
-    }
+shows-cover m script (c, covers, e) = search (rules, cover-sends, one_list, cover-delivers)
 
 -- ---- played again
 

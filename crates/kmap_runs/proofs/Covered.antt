@@ -1,5 +1,5 @@
 -- Texts of pieces, one for each number, and slots of which the same is listed.
-use Rattle.kmap_runs.proofs.Common.{◌≡◌, ℕ, zero, ◌+◌, ◌<◌, Bool, List, [], ◌∷◌, ◌++◌, inl, inr, sym, ◌∙◌, ap}
+use Rattle.kmap_runs.proofs.Common.{◌≡◌, ℕ, zero, ◌+◌, ◌<◌, Bool, List, [], ◌∷◌, ◌++◌, sym, ◌∙◌, ap, rules}
 use Rattle.kmap_runs.proofs.Common.{append_assoc, append-nil, add-one, arith, length, take, get_or, flat_map}
 use Rattle.kmap_runs.proofs.Common.{range_with_len, Sight, AreAlike, row_text}
 use Rattle.std.proofs.Common.{suc}
@@ -11,9 +11,7 @@ use Rattle.std.proofs.lemmas.List.{take_more}
 pieces_more : {X : Type 0} (f : ℕ → List X) (a n : ℕ)
     → flat_map f (range_with_len a (suc n)) ≡ flat_map f (range_with_len a n) ++ f (a + n)
 pieces_more f a zero = append-nil (f a) ∙ ap f (omega arith)
-pieces_more f a (suc n) =
-    ap (λ t. f a ++ t) (pieces_more f (a + 1) n) ∙ sym (append_assoc (f a) _ _)
-    ∙ ap (λ k. f a ++ flat_map f (range_with_len (a + 1) n) ++ f k) (omega arith)
+pieces_more f a (suc n) = search (rules, append_assoc, pieces_more f (a + 1) n)
 
 -- the pieces of one number more end with its piece
 pub pieces_on : {X : Type 0} (f : ℕ → List X) (n : ℕ)
@@ -49,7 +47,4 @@ alike_one is_listed first = λ slot from below.
 -- and one slot more
 pub alike_more : (is_listed : Sight → Bool) (first end : ℕ) → AreAlike is_listed first end
     → row_text is_listed end ≡ row_text is_listed first → AreAlike is_listed first (end + 1)
-alike_more is_listed first end alike same = λ slot from below. elim (cases_lt slot end) [
-  | inl before ↦ alike slot from before
-  | inr behind ↦ let last : slot ≡ end = omega (arith, below, behind) in ap (row_text is_listed) last ∙ same
-]
+alike_more is_listed first end alike same = search (rules, cases_lt)

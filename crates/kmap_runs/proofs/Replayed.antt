@@ -1,11 +1,11 @@
 -- The printed scripts are scripts, and what they do when they are played.
 use Rattle.kmap_runs.proofs.Common.{suc, take, drop, ◌-◌, ◌≡◌, ℕ, ◌<◌, Bool, true, false, List, [], ◌∷◌, ◌++◌, length}
 use Rattle.kmap_runs.proofs.Common.{map, get_or, Option, Some, None, refl, sym, ap, subst, ◌∙◌, arith, append_assoc}
-use Rattle.kmap_runs.proofs.Common.{append-nil, lit<, if◌then◌else◌, ne_eqb, decimal, Ok, reverse, encode_utf8}
-use Rattle.kmap_runs.proofs.Common.{flat_map, before_first, reverse-reverse, All-head, All-tail, All-take, MapValue}
-use Rattle.kmap_runs.proofs.Common.{Spells, Event, HasKey, HasKeys, Keyed, Typing, characters_of, Sent, Plays, moves}
+use Rattle.kmap_runs.proofs.Common.{append-nil, lit<, if◌then◌else◌, ne_eqb, decimal, Ok, reverse, encode_utf8, rules}
+use Rattle.kmap_runs.proofs.Common.{flat_map, reverse-reverse, All-head, All-tail, All-take, MapValue}
+use Rattle.kmap_runs.proofs.Common.{Spells, Event, HasKey, HasKeys, Keyed, Typing, Sent, Plays, moves}
 use Rattle.kmap_runs.proofs.Common.{IsScript, sends, event_line, played_text, line-script, one_list, code_text}
-use Rattle.kmap_runs.proofs.Common.{modifier_name, is_unseen, shown, is_line_feed, line_shown, comment_if, lines_from}
+use Rattle.kmap_runs.proofs.Common.{modifier_name, is_unseen, shown, is_line_feed, comment_if, lines_from}
 use Rattle.kmap_runs.proofs.Common.{typing_script, All-reversed}
 use Rattle.std.specs.Prelude.{◌≢◌}
 use Rattle.std.proofs.lemmas.Bool.{true≢false}
@@ -87,9 +87,7 @@ events-before (e ∷ events) rest sent keys h =
 -- a comment before a script, if there is one
 sentence-before : (starts : Bool) (ks : List Keyed) (rest : List ℕ) (sent : List Sent) → IsScript rest sent
     → IsScript (comment_if starts ks ++ rest) sent
-sentence-before true ks rest sent h =
-    comment-before words.SENTENCE.now (line_shown (characters_of ks) ∷ []) refl
-    (flat-line shown shown-line (before_first is_line_feed (characters_of ks)), tt) rest sent h
+sentence-before true ks rest sent h = search (rules, comment-before, flat-line, shown-line)
 sentence-before false ks rest sent h = h
 
 -- ---- the script that types a sentence
@@ -124,23 +122,14 @@ typed-back m events bytes e = ap (λ l. typed_text (answers_to (alone m) [] l)) 
 
 pub typing-types : (m : MapValue) (bytes : List ℕ) (x : Typing) → IsTyped m bytes x
     → ScriptTypes m (typing_script x) bytes
-typing-types m bytes x t = record {
-  sent = map sent_of x.events.items;
-  is = typing-sends x t.are.keys;
-  typed = typed-back m x.events.items bytes t.typed;
-}
+typing-types m bytes x t = search (rules, typing-sends, typed-back)
 
 -- ---- scripts of what was found
 
 -- a script that sends events delivers them, and nothing else
 delivers-these : (script : List ℕ) (events : List Event) → IsScript script (map sent_of events)
     → Delivers script (reverse events)
-delivers-these script events is = record {
-  sent = map sent_of events;
-  is = is;
-  nothing_else = λ others h. one_list script others (map sent_of events) h is;
-  delivers = ap reverse (delivers events);
-}
+delivers-these script events is = search (rules, one_list, delivers)
 
 -- what is printed to type characters delivers their events, and nothing else
 pub typing-delivers : (m : MapValue) (cs : List ℕ) (x : Typing) → AreTyped m cs x
@@ -160,10 +149,7 @@ lines-deliver events keys = delivers-these _ events (events-script events (keys-
 script-delivers : (on : List Modifier) (events : List Event) → HasKeys (reverse events)
     → Delivers (script_text on events) (reverse events)
 script-delivers on events keys =
-    delivers-these (script_text on events) events
-    (comment-before words.STICKS.now (flat_map modifier_name on ∷ []) refl
-    (flat-line modifier_name modifier-line on, tt) (flat_map event_line events) (map sent_of events)
-    (events-script events (keys-of events keys)))
+    search (rules, delivers-these, comment-before, flat-line, modifier-line, events-script, keys-of)
 
 said-never : IsScript (found_text Never) []
 said-never = comment-alone words.NEVER_STICKS.now [] refl tt

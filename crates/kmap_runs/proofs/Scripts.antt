@@ -1,12 +1,11 @@
 -- The lines of the script that types a sentence, one character after another.
-use Rattle.kmap_runs.proofs.Common.{suc, ◌≡◌, ℕ, ◌+◌, ◌-◌, ◌<◌, ◌≤◌, Bool, false, not, List, [], ◌∷◌, ◌++◌, length}
+use Rattle.kmap_runs.proofs.Common.{suc, ◌≡◌, ℕ, ◌+◌, ◌-◌, ◌<◌, ◌≤◌, Bool, false, List, [], ◌∷◌, ◌++◌, length, rules}
 use Rattle.kmap_runs.proofs.Common.{take, drop, get_or, append_assoc, add-one, arith, refl, sym, ap, ◌∙◌, subst}
 use Rattle.kmap_runs.proofs.Common.{flat_map, Event, Keyed, AreEnds, characters_of, event_line, lines_from, comment_if}
 use Rattle.kmap_runs.proofs.Common.{is_line_feed, line_shown, shown}
 use Rattle.std.proofs.Common.{drop-cons, take_all, length-drop}
 use Rattle.std.proofs.Math.ListN.{drop_of_length-le}
 use Rattle.std.proofs.lemmas.List.{drop-drop}
-use Rattle.std.specs.List.{prefix_len}
 
 -- four pieces of which the middle ones belong together
 four_pieces : (a b c d : List ℕ) → ((a ++ b) ++ c) ++ d ≡ a ++ ((b ++ c) ++ d)
@@ -35,9 +34,7 @@ ends-within from last (k ∷ ks) ends = let later = ends-within k.end last ks en
 
 -- what lies behind an end
 drop-end : (from end : ℕ) (es : List Event) → from ≤ end → drop (end - from) (drop from es) ≡ drop end es
-drop-end from end es le =
-    let all : from + (end - from) ≡ end = omega (arith, le) in
-    drop-drop (end - from) from es ∙ ap (λ n. drop n es) all
+drop-end from end es le = search (rules, drop-drop)
 
 -- what is left to write, once the lines of the character at a place are written
 pub line_more : (starts : Bool) (from : ℕ) (es : List Event) (ks : List Keyed) (i : ℕ) (x : Keyed)
@@ -47,14 +44,7 @@ pub line_more : (starts : Bool) (from : ℕ) (es : List Event) (ks : List Keyed)
     → old ++ lines_from starts from (drop from es) (drop i ks) ≡ all
     → new ++ lines_from (is_line_feed x.character) x.end (drop x.end es) (drop (i + 1) ks) ≡ all
 line_more starts from es ks i x old mid new all inside at le comment lines before =
-    let first = front ks i x inside at in
-    let rest : List Keyed = drop (i + 1) ks in
-    let here : List ℕ = flat_map event_line (take (x.end - from) (drop from es)) in
-    let later : List ℕ = lines_from (is_line_feed x.character) x.end (drop (x.end - from) (drop from es)) rest in
-    let slice : take (length ks - i) (drop i ks) ≡ x ∷ rest =
-    take_all (length ks - i) (drop i ks) (omega (arith, length-drop i ks)) ∙ first in
-    let begun = opened starts from (drop from es) x rest in
-    cc (drop-end from x.end es le, four_pieces old (comment_if starts (x ∷ rest)) here later)
+    search (rules, front, take_all, length-drop, opened, drop-end, four_pieces)
 
 -- behind the last character stand the lines of the events that are left
 last_lines : (starts : Bool) (from : ℕ) (es : List Event) → lines_from starts from es [] ≡ flat_map event_line es
@@ -65,8 +55,7 @@ pub lines_end : (starts : Bool) (from : ℕ) (es : List Event) (ks : List Keyed)
     → length ks ≤ i → new ≡ old ++ flat_map event_line (take (length es - from) (drop from es))
     → old ++ lines_from starts from (drop from es) (drop i ks) ≡ all → new ≡ all
 lines_end starts from es ks i old new all past lines before =
-    let all_left = take_all (length es - from) (drop from es) (omega (arith, length-drop from es)) in
-    cc (lines, all_left, last_lines starts from (drop from es), drop_of_length-le ks past, before)
+    search (rules, take_all, length-drop, last_lines, drop_of_length-le)
 
 -- ---- the first line of the characters
 
@@ -75,9 +64,7 @@ one_more n = omega arith
 
 -- else the character is shown first
 line_on : (c : ℕ) (cs : List ℕ) → is_line_feed c ≡ false → line_shown (c ∷ cs) ≡ shown c ++ line_shown cs
-line_on c cs e =
-    rw e
-    (ap (λ n. flat_map shown (take n (c ∷ cs))) (one_more (prefix_len (λ x. not (is_line_feed x)) cs)))
+line_on c cs e = search (rules, one_more)
 
 -- what is left to show, once the character at a place is shown
 pub shown_more : (ks : List Keyed) (i : ℕ) (x : Keyed) (old new all : List ℕ) → i < length ks → x ≡ get_or ks i x
@@ -85,6 +72,4 @@ pub shown_more : (ks : List Keyed) (i : ℕ) (x : Keyed) (old new all : List ℕ
     → old ++ line_shown (characters_of (drop i ks)) ≡ all
     → new ++ line_shown (characters_of (drop (i + 1) ks)) ≡ all
 shown_more ks i x old new all inside at none now before =
-    let rest : List ℕ = characters_of (drop (i + 1) ks) in
-    let on = line_on x.character rest none in
-    cc (append_assoc old (shown x.character) (line_shown rest), front ks i x inside at)
+    search (rules, line_on, append_assoc, front)

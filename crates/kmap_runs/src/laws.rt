@@ -49,6 +49,7 @@ pub fn typing_scripts_type_the_sentence()
 
 /// What is printed to type characters, the comments that show a sentence among it, is UTF-8 that a terminal shows: no
 /// control but a line feed, no mark that can't be seen and none that turns the direction of writing.
+#[tactic(auto, using(crate::proofs::PlainScripts::typing_plain))]
 pub fn typing_scripts_are_plain()
     ensures { (x : TypingValue) → All IsScalar (characters_of x.keyed.items) → IsPlainText (typing_script x) }
 {}

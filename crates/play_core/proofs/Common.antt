@@ -21,8 +21,9 @@ pub use Rattle.play_core.specs.Types.{Up, What}
 unfoldable pub use Rattle.play_core.specs.Written.{names_of_locks, names_of_modifiers, text_after, typed_by, typed_text}
 pub use Rattle.std.proofs.Common.{Bool, Err, List, None, Ok, Option, Result, Some, [], ap, append-nil, append_assoc}
 pub use Rattle.std.proofs.Common.{arith, codes, cond, decimal, drop, drop-cons, eqb, false, get_or, inl, inr, length}
-pub use Rattle.std.proofs.Common.{length-append, lit<, ltb, map, min, not, refl, subst, sym, take, take-append-drop}
-pub use Rattle.std.proofs.Common.{true, ℕ, ◌%◌, ◌*◌, ◌++◌, ◌+◌, ◌-◌, ◌/◌, ◌<◌, ◌∙◌, ◌∷◌, ◌≡◌, ◌≤◌, ◌⊎◌}
+pub use Rattle.std.proofs.Common.{length-append, lit<, ltb, map, min, not, refl, rules, subst, sym, take}
+pub use Rattle.std.proofs.Common.{take-append-drop, true, ℕ, ◌%◌, ◌*◌, ◌++◌, ◌+◌, ◌-◌, ◌/◌, ◌<◌, ◌∙◌, ◌∷◌, ◌≡◌, ◌≤◌}
+pub use Rattle.std.proofs.Common.{◌⊎◌}
 pub use Rattle.std.proofs.KnownBytes.{Keeps-refl}
 pub use Rattle.std.proofs.Math.Seq.{take-length}
 pub use Rattle.std.proofs.lemmas.Bool.{le-ltb, lt-ltb, ltb-false, ltb-true}

@@ -1,6 +1,6 @@
 -- The words of a line, one after another.
 use Rattle.play_core.proofs.Common.{zero, suc, ◌≡◌, ℕ, ◌+◌, ◌<◌, Bool, true, false, not, List, [], ◌∷◌, length, take}
-use Rattle.play_core.proofs.Common.{drop, get_or, None, Some, refl, sym, ap, ◌∙◌, arith, ltb, drop-cons, unwrap_or}
+use Rattle.play_core.proofs.Common.{drop, get_or, None, Some, refl, sym, ap, ◌∙◌, arith, drop-cons, unwrap_or, rules}
 use Rattle.play_core.proofs.Common.{position_or_len, position, filter, slice_split, onto_first, digit_value, AllDigits}
 use Rattle.play_core.proofs.Common.{position-Some, ltb-false, separates_words, is_there, words_in}
 use Rattle.std.proofs.lemmas.List.Sums.{prefix_len-le-length}
@@ -10,10 +10,7 @@ use Rattle.std.proofs.lemmas.Bool.{cond_both, not-true}
 -- a position, or else the length, is where the front ends
 pub unwrap_position : {A : Type 0} (p : A → Bool) (xs : List A)
     → unwrap_or (position p xs) (length xs) ≡ position_or_len p xs
-unwrap_position p xs =
-    cond_both (ltb (position_or_len p xs) (length xs)) (Some (position_or_len p xs)) None
-    (λ o. unwrap_or o (length xs) ≡ position_or_len p xs) (λ _. refl)
-    (λ e. let low = prefix_len-le-length (λ x. not (p x)) xs in let high = ltb-false _ _ e in omega arith)
+unwrap_position p xs = search (rules, cond_both, prefix_len-le-length, ltb-false)
 
 pub one_more : (n : ℕ) → 1 + n ≡ suc n
 one_more n = omega arith
@@ -84,12 +81,7 @@ no_word bs e =
 -- the words of a line begin where its first byte that is no blank stands
 word_at : (bs : List ℕ) (start : ℕ) → position (λ b. not (separates_words b)) bs ≡ Some start
     → words_in bs ≡ words_in (get_or bs start 0 ∷ drop (suc start) bs)
-word_at bs start e =
-    let found = position-Some (λ b. not (separates_words b)) bs start 0 e in
-    let same : start ≡ position_or_len (λ b. not (separates_words b)) bs =
-    ap (λ o. unwrap_or o (length bs)) (sym e) ∙ unwrap_position (λ b. not (separates_words b)) bs in
-    sym (words_behind_blanks bs) ∙ ap (λ n. words_in (drop n bs)) (sym same)
-    ∙ ap words_in (drop-cons bs start 0 found.0)
+word_at bs start e = search (rules, position-Some, unwrap_position, words_behind_blanks, drop-cons)
 
 -- the first word, and the words behind it
 pub next_words : (bs : List ℕ) (start end : ℕ) → position (λ b. not (separates_words b)) bs ≡ Some start

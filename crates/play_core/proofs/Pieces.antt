@@ -1,6 +1,6 @@
 -- Bytes of which only the first are counted.
 use Rattle.play_core.proofs.Common.{◌≡◌, ℕ, ◌+◌, ◌≤◌, List, ◌++◌, length, take, sym, ap, ◌∙◌, arith, append_assoc}
-use Rattle.play_core.proofs.Common.{length-append, take-length}
+use Rattle.play_core.proofs.Common.{length-append, take-length, rules}
 use Rattle.std.proofs.lemmas.List.{take-take}
 use Rattle.std.proofs.Math.Seq.{take-append-add}
 
@@ -19,10 +19,4 @@ pub between_counted : (start first second third before piece after : List ℕ) (
     → take (len + front + count + back) third ≡ take (len + front + count) second ++ take back after
     → take (len + front + count + back) third ≡ start ++ (before ++ (take count piece ++ after))
 between_counted start first second third before piece after len front all count back l few f b e1 e2 e3 =
-    let whole : take front before ≡ before = rw (← f) (take-length before) in
-    let rest : take back after ≡ after = rw (← b) (take-length after) in
-    let one : take (len + front) first ≡ start ++ before = e1 ∙ ap (λ t. start ++ t) whole in
-    let long : len + front ≡ length (take (len + front) first) =
-    rw (one, length-append) (omega arith) in
-    let two = front_counted (take (len + front) first) second piece (len + front) all count long few e2 in
-    e3 ∙ rw (two, one, rest) (simp append_assoc)
+    search (rules, take-length, length-append, front_counted, append_assoc)

@@ -3,7 +3,7 @@ use Rattle.play_core.proofs.Common.{◌≡◌, ℕ, ◌<◌, ◌≤◌, Bool, tr
 use Rattle.play_core.proofs.Common.{drop, get_or, ◌-◌, refl, sym, ap, ◌∙◌, arith, append_assoc, codes, slice_split}
 use Rattle.play_core.proofs.Common.{onto_first, digit_value, AllDigits, digit_from_value, filter-append, What, Down}
 use Rattle.play_core.proofs.Common.{Repeat, Up, separates_words, is_there, parts_of, words_in, words_of, IsNumber}
-use Rattle.play_core.proofs.Common.{Tells, key_of, BeginsWithEvent}
+use Rattle.play_core.proofs.Common.{Tells, key_of, BeginsWithEvent, rules}
 use Rattle.std.specs.List.{list_any}
 use Rattle.std.proofs.lemmas.Bool.{ne_eqb, or_parts, or_from}
 use Rattle.std.proofs.lemmas.List.Folds.{list_any-append}
@@ -38,9 +38,7 @@ split_by false x all parts more there e = ap (λ l. onto_first x l) e ∙ onto-a
 pub split-joined : {X : Type 0} (p : X → Bool) (xs ys : List X) (y : X) → p y ≡ true
     → slice_split p (xs ++ y ∷ ys) ≡ slice_split p xs ++ slice_split p ys
 split-joined p [] ys y e = rw e refl
-split-joined p (x ∷ xs) ys y e =
-    split_by (p x) x (slice_split p (xs ++ y ∷ ys)) (slice_split p xs) (slice_split p ys) (parts_there p xs)
-    (split-joined p xs ys y e)
+split-joined p (x ∷ xs) ys y e = search (rules, split_by, parts_there, split-joined p xs ys y e)
 
 -- ---- the words of a text
 
@@ -99,13 +97,7 @@ digits_lack p none (b ∷ bs) d = or_from (p b) (list_any p bs) (none b d.0) (di
 
 -- a number is one word
 pub number_words : (number : List ℕ) → AllDigits 10 number → is_there number ≡ true → HasWords number (number ∷ [])
-number_words number digits there =
-    one_word number (digits_lack _ (λ b d. not_at b 10 d (omega arith)) number digits)
-    (digits_lack _ (λ b d. not_at b 35 d (omega arith)) number digits)
-    (digits_lack separates_words
-    (λ b d. rw (not_at b 32 d (omega arith), not_at b 9 d (omega arith), not_at b 13 d (omega arith)) refl)
-    number digits)
-    there
+number_words number digits there = search (rules, one_word, digits_lack, not_at)
 
 -- ---- commands that name a key
 

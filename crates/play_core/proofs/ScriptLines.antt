@@ -1,7 +1,7 @@
 -- The lines of a script, one after another.
 use Rattle.play_core.proofs.Common.{zero, suc, ◌≡◌, ℕ, ◌+◌, ◌<◌, ◌≤◌, true, false, Bool, cond, eqb, List, [], ◌∷◌, ◌++◌}
 use Rattle.play_core.proofs.Common.{length, take, drop, get_or, map, Option, None, Some, refl, sym, ap, subst, ◌∙◌}
-use Rattle.play_core.proofs.Common.{append-nil, ◌-◌, arith, drop-cons, take-append-drop, AllZip, filter, slice_split}
+use Rattle.play_core.proofs.Common.{append-nil, ◌-◌, arith, drop-cons, take-append-drop, slice_split, rules}
 use Rattle.play_core.proofs.Common.{onto_first, position, position_or_len, take_more, length-map, filter-append}
 use Rattle.play_core.proofs.Common.{count_by-le-length, unwrap_or, position-Some, What, Down, Repeat, Up, Reset, Load}
 use Rattle.play_core.proofs.Common.{Sent, ScriptFault, is_there, parts_of, words_of, lines_of, AreEvents, IsEvent}
@@ -76,21 +76,13 @@ event_there words s h = ap is_there h.1 ∙ marked_there s s.lost h.0 (command_t
 pub blank_more : (lines : List (List (List ℕ))) (words : List (List ℕ)) (sent : List Sent) → AreEvents lines sent
     → words ≡ []
     → AreEvents (lines ++ words ∷ []) sent
-blank_more lines words sent h e =
-    subst (λ l. AllZip IsEvent l sent)
-    (sym (filter-append is_there lines (words ∷ []) ∙ ap (λ w. filter is_there lines ++ filter is_there (w ∷ [])) e
-    ∙ append-nil (filter is_there lines)))
-    h
+blank_more lines words sent h e = search (rules, filter-append, append-nil)
 
 -- a line that is an event
 pub event_more : (lines : List (List (List ℕ))) (words : List (List ℕ)) (sent : List Sent) (s : Sent)
     → AreEvents lines sent → IsEvent words s
     → AreEvents (lines ++ words ∷ []) (sent ++ s ∷ [])
-event_more lines words sent s h event =
-    let there : filter is_there (words ∷ []) ≡ words ∷ [] = rw (event_there words s event.0) refl in
-    subst (λ l. AllZip IsEvent l (sent ++ s ∷ []))
-    (sym (filter-append is_there lines (words ∷ []) ∙ ap (λ l. filter is_there lines ++ l) there))
-    (all_zipped_more IsEvent (filter is_there lines) sent words s h event)
+event_more lines words sent s h event = search (rules, event_there, filter-append, all_zipped_more)
 
 -- the fault of a line whose lines before it are events
 pub fault_at : (script text : List ℕ) (n : ℕ) (sent : List Sent) (fault : ScriptFault) → IsPart script text n
@@ -163,9 +155,7 @@ drop_is (x ∷ xs) (suc n) y ys e = let rest = drop_is xs n y ys e in (omega ari
 -- the next part, and those behind it
 pub next_part : (script line : List ℕ) (n : ℕ) (rest : List (List ℕ)) → drop n (parts_of script) ≡ line ∷ rest
     → IsPart script line n × (drop (n + 1) (parts_of script) ≡ rest)
-next_part script line n rest e =
-    let at = drop_is (parts_of script) n line rest e in
-    (record { within = at.0; same = at.1 }, rw add-one at.2)
+next_part script line n rest e = search (rules, drop_is, add-one)
 
 -- no part is left
 pub no_part : (script : List ℕ) (n : ℕ) → drop n (parts_of script) ≡ [] → take n (lines_of script) ≡ lines_of script
@@ -262,9 +252,4 @@ lines_few script = let lines = few_lines script in rw length-map lines
 
 -- a script has at most one event more than bytes
 pub events_few : (script : List ℕ) (sent : List Sent) → IsScript script sent → length sent ≤ length script + 1
-events_few script sent h =
-    let same = AllZip-long IsEvent (filter is_there (lines_of script)) sent h in
-    let kept = length-filter is_there (lines_of script) in
-    let few = count_by-le-length is_there (lines_of script) in
-    let all = lines_few script in
-    omega arith
+events_few script sent h = search (rules, AllZip-long, length-filter, count_by-le-length, lines_few)

@@ -3,7 +3,7 @@ use Rattle.play_core.proofs.Common.{◌≡◌, ℕ, ◌<◌, ◌≤◌, min, Boo
 use Rattle.play_core.proofs.Common.{Option, None, Some, Result, Ok, Err, refl, sym, ap, subst, ◌∙◌, arith, lit<, codes}
 use Rattle.play_core.proofs.Common.{⊤, AllDigits, digits_value, lt-ltb, ltb-true, ltb-false, le-ltb, LineFault, Form}
 use Rattle.play_core.proofs.Common.{Key, What, Down, Repeat, Up, Reset, Load, Sent, IsNumber, Tells, Sends, mark_of}
-use Rattle.play_core.proofs.Common.{key_of, IsEvent, HasBadKey, HasBadForm, reading_of_lost, reading}
+use Rattle.play_core.proofs.Common.{key_of, IsEvent, HasBadKey, HasBadForm, reading_of_lost, reading, rules}
 use Rattle.std.proofs.Common.{◌≢◌, ◌↔◌}
 use Rattle.std.specs.Prelude.{IsSome, IfSome}
 use Rattle.std.specs.Option.{ok_or}
@@ -44,15 +44,8 @@ large n h = grind (arith, h)
 -- where the number was made a key
 pub key_of_some : (word : List ℕ) (n : ℕ) (key : Option ℕ) → AllDigits 10 word → n ≡ min 128 (digits_value 10 word)
     → (IsSome key ↔ (n < 128)) → IfSome key (λ k. k ≡ n) → ok_or key Key ≡ key_in word
-key_of_some word n None h e small same =
-    let high : 128 ≤ n = large n (λ low. absurd (cc (small.1 low))) in
-    let value_high : 128 ≤ digits_value 10 word = omega arith in
-    rw (key_of_number word h, le-ltb _ _ value_high) refl
-key_of_some word n (Some k) h e small same =
-    let low : n < 128 = small.0 refl in
-    let is : k ≡ digits_value 10 word = omega arith in
-    let value_low : digits_value 10 word < 128 = omega arith in
-    rw (key_of_number word h, lt-ltb _ _ value_low) (ap (λ n. Ok n) is)
+key_of_some word n None h e small same = search (rules, large, key_of_number, le-ltb)
+key_of_some word n (Some k) h e small same = search (rules, key_of_number, lt-ltb)
 
 -- ---- what tells of an event is read so
 
@@ -138,9 +131,7 @@ marked false command w h = not_lost command w h
 
 -- the words of an event are read as the event
 pub event_read : (words : List (List ℕ)) (s : Sent) → Sends words s → reading words ≡ judged s
-event_read words s h =
-    ap reading h.1 ∙ marked s.lost h.0 s.what h.2 ∙ ap (sent_by s.lost) (what_read h.0 s.what h.2)
-    ∙ sent_judged s.lost s.what (ltb (key_of s.what) 128)
+event_read words s h = search (rules, marked, what_read, sent_judged)
 
 -- ---- what is read as an event tells of it
 

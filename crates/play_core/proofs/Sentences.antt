@@ -2,6 +2,7 @@
 use Rattle.play_core.proofs.Common.{◌≡◌, ℕ, ◌<◌, List, [], ◌∷◌, ◌++◌, refl, ap, sym, ◌∙◌, map, length, take, drop}
 use Rattle.play_core.proofs.Common.{get_or, ◌+◌, ◌≤◌, arith, length-append, suc, take_more, flat_map, encode_utf8_all}
 use Rattle.play_core.proofs.Common.{Answer, answers_to, AreTyped, typed_by, typed_text, drop-cons, take-append-drop}
+use Rattle.play_core.proofs.Common.{rules}
 use Rattle.std.specs.Char.{len_utf8}
 use Rattle.std.proofs.lemmas.Str.{encodes-append, length-encode}
 use Rattle.std.specs.Prelude.{filter, encode_utf8}
@@ -43,9 +44,7 @@ typed-sentence m bytes cs x text are = record {
 
 -- characters are those before an index, the one there, and those behind
 pub split-item : (cs : List ℕ) (k c : ℕ) → k < length cs → c ≡ get_or cs k c → cs ≡ take k cs ++ c ∷ drop (suc k) cs
-split-item cs k c lt is =
-    sym (take-append-drop k cs)
-    ∙ ap (λ l. take k cs ++ l) (drop-cons cs k c lt ∙ ap (λ y. y ∷ drop (suc k) cs) (sym is))
+split-item cs k c lt is = search (rules, take-append-drop, drop-cons)
 
 -- a character's bytes fit where the text has room for all
 pub room-for : (cs : List ℕ) (k c : ℕ) → k < length cs → c ≡ get_or cs k c

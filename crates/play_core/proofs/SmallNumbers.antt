@@ -1,6 +1,6 @@
 -- The table of the numbers 0 to 127 has the digits of each.
-use Rattle.play_core.proofs.Common.{◌≡◌, ℕ, ◌+◌, ◌/◌, ◌%◌, ◌<◌, ◌≤◌, Bool, true, false, ltb, List, [], ◌∷◌, ◌++◌, take}
-use Rattle.play_core.proofs.Common.{map, get_or, refl, sym, ap, ◌∙◌, decimal, arith, ltb-true, ltb-false, decimal_digit}
+use Rattle.play_core.proofs.Common.{◌≡◌, ℕ, ◌+◌, ◌/◌, ◌%◌, ◌<◌, Bool, true, false, ltb, List, [], ◌∷◌, take, rules}
+use Rattle.play_core.proofs.Common.{map, get_or, refl, ◌∙◌, decimal, arith, ltb-true, ltb-false, decimal_digit}
 use Rattle.play_core.proofs.Common.{decimal_step}
 use mir.Val.{bool_byte}
 use Rattle.std.specs.List.{range_with_len}
@@ -21,20 +21,10 @@ table d = refl
 
 -- the digits by the number of digits are those of the number
 digits_are : (n : ℕ) (a b : Bool) → n < 128 → ltb 99 n ≡ a → ltb 9 n ≡ b → digits_by n a b ≡ decimal n
-digits_are n true b small large more =
-    let above : 99 < n = ltb-true _ _ large in
-    let front : decimal (n / 10) ≡ (48 + n / 10 / 10) ∷ (48 + n / 10 % 10) ∷ [] =
-    decimal_step (n / 10) (omega arith) (omega arith)
-    ∙ ap (λ l. l ++ (48 + n / 10 % 10) ∷ []) (decimal_digit (n / 10 / 10) (omega arith)) in
-    sym (decimal_step n (omega arith) (omega arith) ∙ ap (λ l. l ++ (48 + n % 10) ∷ []) front)
+digits_are n true b small large more = search (rules, ltb-true, decimal_step, decimal_digit)
 digits_are n false true small large more =
-    let low : n ≤ 99 = ltb-false _ _ large in
-    let above : 9 < n = ltb-true _ _ more in
-    sym (decimal_step n (omega arith) (omega arith)
-    ∙ ap (λ l. l ++ (48 + n % 10) ∷ []) (decimal_digit (n / 10) (omega arith)))
-digits_are n false false small large more =
-    let low : n ≤ 9 = ltb-false _ _ more in
-    sym (decimal_digit n (omega arith))
+    search (rules, ltb-false, ltb-true, decimal_step, decimal_digit)
+digits_are n false false small large more = search (rules, ltb-false, decimal_digit)
 
 -- the row of a number, as long as it has digits, is the number
 pub small_number : (d : List ℕ) (n : ℕ) → n < 128

@@ -1,6 +1,6 @@
 -- The lines that are written are a script of what they send.
 use Rattle.play_core.proofs.Common.{◌≡◌, ℕ, ◌<◌, Bool, true, false, eqb, List, [], ◌∷◌, ◌++◌, length, map, refl, sym}
-use Rattle.play_core.proofs.Common.{ap, subst, ◌∙◌, arith, decimal, append_assoc, lit<, codes, AllZip, filter}
+use Rattle.play_core.proofs.Common.{ap, subst, ◌∙◌, arith, decimal, append_assoc, lit<, codes, AllZip, rules}
 use Rattle.play_core.proofs.Common.{slice_split, flat_map, digits_value, filter-append, Event, What, Down, Repeat, Up}
 use Rattle.play_core.proofs.Common.{Reset, Load, Sent, delivered, is_there, parts_of, words_in, words_of, lines_of}
 use Rattle.play_core.proofs.Common.{IsNumber, Tells, mark_of, key_of, IsEvent, IsScript, text_of, sent_in}
@@ -36,9 +36,7 @@ zip-append R (x ∷ xs) xs' (y ∷ ys) ys' h k = (h.0, zip-append R xs xs' ys ys
 -- two scripts with a line feed between are a script of what the first sends and then the second
 pub script-joined : (a b : List ℕ) (xs ys : List Sent) → IsScript a xs → IsScript b ys
     → IsScript (a ++ 10 ∷ b) (xs ++ ys)
-script-joined a b xs ys h k =
-    rw (lines-joined a b, filter-append is_there (lines_of a) (lines_of b))
-    (zip-append IsEvent (filter is_there (lines_of a)) (filter is_there (lines_of b)) xs ys h k)
+script-joined a b xs ys h k = search (rules, lines-joined, filter-append, zip-append)
 
 -- no bytes are a script of nothing
 pub script-nil : IsScript [] []

@@ -1,7 +1,7 @@
 -- The tail of a line is known by the number of the modifiers and locks that are on.
 use Rattle.play_core.proofs.Common.{◌≡◌, ℕ, ◌-◌, codes, Bool, true, false, cond, List, [], ◌∷◌, ◌++◌, length, map, refl}
 use Rattle.play_core.proofs.Common.{sym, ap, ◌∙◌, append_assoc, length-append, arith, take, drop, take-length, Event}
-use Rattle.play_core.proofs.Common.{Answer, names_of_modifiers, names_of_locks, tail_of}
+use Rattle.play_core.proofs.Common.{Answer, names_of_modifiers, names_of_locks, tail_of, rules}
 use Rattle.std.proofs.Math.Seq.{drop-append_seam}
 use Rattle.play_core.specs.Types.{Modifier, Lock}
 use Rattle.keymap_core.specs.Actions.{modifiers, locks}
@@ -71,6 +71,4 @@ if_on false name = refl
 pub name_added : (text more all : List ℕ) (added is_on : Bool) (name names : List ℕ)
     → more ≡ text ++ cond added (32 ∷ name) [] → added ≡ is_on
     → all ≡ more ++ names → all ≡ text ++ (name_if is_on name ++ names)
-name_added text more all added is_on name names m b a =
-    a ∙ ap (λ l. l ++ names) (m ∙ ap (λ l. text ++ l) (ap (λ b. cond b (32 ∷ name) []) b ∙ if_on is_on name))
-    ∙ append_assoc text (name_if is_on name) names
+name_added text more all added is_on name names m b a = search (rules, if_on, append_assoc)

@@ -2,6 +2,7 @@
 use Rattle.play_core.proofs.Common.{◌≡◌, ℕ, ◌+◌, ◌<◌, List, [], ◌∷◌, ◌++◌, length, take, drop, get_or, refl, sym, ap}
 use Rattle.play_core.proofs.Common.{◌∙◌, append_assoc, append-nil, take-append-drop, reverse, take_more, Event, Answer}
 use Rattle.play_core.proofs.Common.{Sent, Maps, answers_to, event_of, delivered, typed_by, typed_text, text_after}
+use Rattle.play_core.proofs.Common.{rules}
 use Rattle.std.specs.List.{filter_map}
 use Rattle.std.proofs.lemmas.List.Elements.{filter_map-append}
 use Rattle.std.proofs.lemmas.Grind.{flat_map-append}
@@ -25,10 +26,7 @@ lines-append ms h (e ∷ xs) ys =
 pub answers-append : (ms : Maps) (h xs ys : List Event)
     → answers_to ms h (xs ++ ys) ≡ answers_to ms h xs ++ answers_to ms (reverse xs ++ h) ys
 answers-append ms h [] ys = refl
-answers-append ms h (e ∷ xs) ys =
-    ap (λ l. answer_to ms h e ∷ l)
-    (answers-append ms (e ∷ h) xs ys
-    ∙ ap (λ g. answers_to ms (e ∷ h) xs ++ answers_to ms g ys) (sym (reverse-cons e xs h)))
+answers-append ms h (e ∷ xs) ys = search (rules, reverse-cons, answers-append ms (e ∷ h) xs ys)
 
 -- what answers type, and then the answers behind them
 pub typed-append : (xs ys : List Answer) → typed_text (xs ++ ys) ≡ typed_text xs ++ typed_text ys

@@ -38,6 +38,7 @@ pub fn events_are_written_as_a_script()
 {}
 
 /// What is sent of events, a press by `down`, delivers them.
+#[tactic(auto, using(crate::proofs::Spelling::delivers))]
 pub fn events_are_delivered()
     ensures { (events : List EventValue) → delivered (map sent_of events) ≡ events }
 {}

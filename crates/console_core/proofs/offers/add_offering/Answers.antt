@@ -1,4 +1,4 @@
-use Rattle.console_core.proofs.Common.{◌≡◌, length, arith, under_of, rules}
+use Rattle.console_core.proofs.Common.{under_of, rules}
 use Rattle.console_core.proofs.Offering.{seeds-none, seeds-more, seeds-skip}
 use Rattle.console_core.proofs.offers.add_offering.Goals.{in-Some+in_ok-add_state-in-Some, in-None}
 use Rattle.console_core.proofs.offers.add_offering.Goals as goal
@@ -28,8 +28,4 @@ loop-place-preserved c =
     ]
 
 pub returns : goal.returns
-returns c =
-    let met = c.args.met.now.entries in
-    let e : c.loop-place.place ≡ length met =
-    omega (arith, c.loop-place-test.false, c.loop-place.auto.place-end, c.len-place-end.ensures.len) in
-    rw (← e) c.loop-place.invariant
+returns c = search rules

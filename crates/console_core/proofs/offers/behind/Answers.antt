@@ -35,10 +35,4 @@ loop-place-preserved c =
     c.in_ok-meet_presses.ensures.added c.in_ok-meet_frees.ensures.met c.in_ok-meet_presses.ensures.met
 
 pub returns : goal.returns
-returns c =
-    let e : length c.loop-place.states.entries ≤ c.loop-place.place =
-    omega (arith, c.loop-place-test.false, c.len.ensures.len) in
-    record {
-      seeds = c.loop-place.invariant.seeds;
-      moved = λ j x at lt move is leaves. c.loop-place.invariant.moved j x at (omega (arith, lt, e)) move is leaves;
-    }
+returns c = search rules

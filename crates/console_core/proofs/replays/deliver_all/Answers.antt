@@ -1,4 +1,4 @@
-use Rattle.console_core.proofs.Common.{◌≡◌, ◌+◌, ◌∷◌, ◌++◌, [], take, arith, common_steps}
+use Rattle.console_core.proofs.Common.{◌≡◌, ◌+◌, ◌∷◌, ◌++◌, [], take, common_steps, rules}
 use Rattle.console_core.proofs.Deliveries.{take_event, reverse-push}
 use Rattle.console_core.proofs.replays.deliver_all.Goals as goal
 
@@ -12,6 +12,4 @@ loop-event-preserved g c =
     (c.step.ensures.next ms _ (c.loop-event.invariant ms h s))
 
 pub returns : goal.returns
-returns g c =
-    let e : take c.loop-event.event-index c.args.events.now ≡ c.args.events.now = grind (arith, common_steps) in
-    λ ms h s. rw e at (c.loop-event.invariant ms h s)
+returns g c = search (rules, common_steps)

@@ -1,13 +1,9 @@
-use Rattle.console_core.proofs.Common.{none_unless, below_more, subst, IfSome, LeadsHome, state_of, under_of}
+use Rattle.console_core.proofs.Common.{none_unless, below_more, state_of, under_of, rules}
 use Rattle.console_core.proofs.RoutesHome.{press-astray}
 use Rattle.console_core.proofs.routes.route_by_press.Goals as goal
 
 pub returns-in-Some-clause-home : goal.returns-in-Some-clause-home
-returns-in-Some-clause-home c =
-    λ all.
-    let u = under_of c.args.maps.now in
-    subst (λ o. IfSome o (λ x. LeadsHome u (state_of c.args.held.now) x.moves.items)) c.in-Some.is
-    (c.in_ok-route.ensures.home u (state_of c.args.held.now) 1 all c.pressed.ensures.step)
+returns-in-Some-clause-home c = search rules
 
 pub loop-code-preserved : goal.loop-code-preserved
 loop-code-preserved c =

@@ -1,4 +1,4 @@
-use Rattle.console_core.proofs.Common.{subst, ap, start, under_of, origin_of, HasEnded, Scroll}
+use Rattle.console_core.proofs.Common.{subst, ap, start, under_of, origin_of, HasEnded, Scroll, rules}
 use Rattle.console_core.specs.declared.search.End.TheVariants as end
 use Rattle.console_core.proofs.search.all_states.Goals as goal
 
@@ -6,13 +6,7 @@ pub meet_all-requires-clause-scroll : goal.meet_all-requires-clause-scroll
 meet_all-requires-clause-scroll c = ap (λ s. s.is_locked Scroll) c.requires
 
 pub returns-in-Complete : goal.returns-in-Complete
-returns-in-Complete c =
-    let u = under_of c.args.maps.now in
-    let es = c.meet_all.new.met.entries in
-    let ended : HasEnded u start es end.Complete =
-    subst (λ s. HasEnded u s es end.Complete) c.requires
-    (subst (λ o. HasEnded u (origin_of c.args.maps.now) es o) c.in-Complete.is c.in_ok-meet_all.ensures) in
-    ended.2
+returns-in-Complete c = search rules
 
 pub returns-in-TooMany : goal.returns-in-TooMany
 returns-in-TooMany c =

@@ -1,4 +1,4 @@
-use Rattle.console_core.proofs.Common.{inl, inr, arith}
+use Rattle.console_core.proofs.Common.{inl, inr, rules}
 use Rattle.console_core.proofs.Searching.{place_last, same_entry}
 use Rattle.console_core.proofs.search.first_stuck.Goals as goal
 
@@ -16,7 +16,4 @@ loop-place-preserved c =
     ]
 
 pub returns : goal.returns
-returns c =
-    λ j x at lt forgetful.
-    c.loop-place.invariant j x at
-    (omega (arith, lt, c.loop-place-test.false, c.loop-place.auto.place-end, c.len-place-end.ensures.len)) forgetful
+returns c = search rules

@@ -1,4 +1,4 @@
-use Rattle.console_core.proofs.Common.{◌≡◌, [], ◌∷◌, ◌++◌, Some, sym, ◌∙◌, insert_entry-new}
+use Rattle.console_core.proofs.Common.{◌≡◌, [], ◌∷◌, ◌++◌, Some, sym, insert_entry-new, rules}
 use Rattle.console_core.proofs.Searching.{meet-new, meet-old}
 use Rattle.console_core.proofs.OneMore.{is-nothing}
 use Rattle.console_core.proofs.search.meet_step.Goals as goal
@@ -8,9 +8,7 @@ new_entries : (c : goal.In_ok-insert)
     ≡ c.args.met.now.entries
     ++ (c.args.step.to, record { presses = c.args.presses; last = Some (c.args.place, c.args.step.by) })
     ∷ []
-new_entries c =
-    c.in_ok-insert.ensures.entries
-    ∙ insert_entry-new _ c.args.met.now c.args.step.to _ (is-nothing _ (sym c.if-not-contains_key.ensures))
+new_entries c = search (rules, insert_entry-new, is-nothing)
 
 pub returns-in_ok-insert : goal.returns-in_ok-insert
 returns-in_ok-insert c =

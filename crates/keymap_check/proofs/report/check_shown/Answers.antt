@@ -1,4 +1,4 @@
-use Rattle.keymap_check.proofs.Common.{ap, subst, sym, ◌∙◌, AreFindings, IsBearer}
+use Rattle.keymap_check.proofs.Common.{ap, subst, sym, ◌∙◌, AreFindings, rules}
 use Rattle.keymap_check.proofs.Reported.{reported-bearer, reported-steady}
 use Rattle.keymap_check.proofs.report.check_shown.Goals as goal
 
@@ -15,9 +15,7 @@ returns-clause-findings g c m shows =
     (c.reports_are_computed.ensures.findings m)
 
 pub returns-clause-bearers : goal.returns-clause-bearers
-returns-clause-bearers g c m shows a =
-    subst (λ b. IsBearer m a b) (sym (reported-bearer m c.make_report.result a (c.make_report.ensures m shows)))
-    (c.reports_are_computed.ensures.bearers m a)
+returns-clause-bearers g c m shows a = search (rules, reported-bearer)
 
 pub returns-clause-steady : goal.returns-clause-steady
 returns-clause-steady g c m shows l =

@@ -1,4 +1,4 @@
-use Rattle.keymap_check.proofs.Common.{◌≡◌, ◌<◌, sym, ◌∙◌, arith, subst, None, first_below, bears_group, bit_key}
+use Rattle.keymap_check.proofs.Common.{◌≡◌, ◌<◌, sym, ◌∙◌, arith, subst, None, first_below, bears_group, bit_key, rules}
 use Rattle.keymap_check.proofs.Common.{is_other}
 use Rattle.keymap_core.proofs.Below.{first_below-none, first_below-more, first_below-found}
 use Rattle.keymap_check.proofs.script.bit_key.Goals as goal
@@ -7,9 +7,7 @@ pub loop-key-init : goal.loop-key-init
 loop-key-init c = λ m is. first_below-none _
 
 pub loop-key-preserved : goal.loop-key-preserved
-loop-key-preserved c =
-    λ m is. first_below-more _ c.loop-key.key (c.loop-key.invariant m is)
-    (sym (c.is_other.ensures m is) ∙ c.if-is_other.false)
+loop-key-preserved c = search (rules, first_below-more)
 
 pub returns-then-is_other : goal.returns-then-is_other
 unfolding bit_key

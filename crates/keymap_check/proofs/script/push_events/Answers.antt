@@ -1,4 +1,4 @@
-use Rattle.keymap_check.proofs.Common.{◌≡◌, ◌≤◌, ◌<◌, ◌+◌, ap, sym, ◌∙◌, arith, length, refl, length-append, lit<}
+use Rattle.keymap_check.proofs.Common.{◌≡◌, ◌≤◌, ◌<◌, ◌+◌, ap, sym, ◌∙◌, arith, length, length-append, lit<, rules}
 use Rattle.keymap_check.proofs.Common.{append-nil, array_vec_len, gathered, gathered-none, gathered-more, event_at, ℕ}
 use Rattle.keymap_check.proofs.Common.{List, Event}
 use Rattle.std.proofs.Common.{append_assoc}
@@ -24,10 +24,4 @@ push-requires c =
     (lit< tt, lt)
 
 pub loop-bit-preserved : goal.loop-bit-preserved
-loop-bit-preserved c =
-    let more = gathered-more (event_at c.args.is_press c.args.keys.now c.args.set c.args.except) c.loop-bit.bit in
-    elim c.match-event_at.branch [
-      | in-Some w ↦
-          rw (w.script-is, w.push.ensures.items, more, c.loop-bit.invariant, w.in-Some.ensures, append_assoc) refl
-      | in-None w ↦ rw (w.script-is, more, c.loop-bit.invariant, w.in-None.ensures, append-nil) refl
-    ]
+loop-bit-preserved c = search (rules, gathered-more, in-Some, append_assoc, in-None, append-nil)

@@ -1,4 +1,4 @@
-use Rattle.keymap_core.proofs.Common.{arith, subst, sym}
+use Rattle.keymap_core.proofs.Common.{subst, rules}
 use Rattle.std.proofs.lemmas.List.{take_all}
 use Rattle.std.proofs.lemmas.List.Elements.{All-more, All-same}
 use Rattle.keymap_core.proofs.bounds.have_bounds.Goals as goal
@@ -9,6 +9,4 @@ loop-value-preserved g c =
     c.loop-value.invariant (subst g.T.Bounded.Is c.value-item.is c.has_bounds.ensures)
 
 pub returns : goal.returns
-returns g c =
-    All-same g.T.Bounded.Is _ _ (sym (take_all c.loop-value.value-index c.args.values.now (omega arith)))
-    c.loop-value.invariant
+returns g c = search (rules, All-same, take_all)

@@ -1,5 +1,4 @@
-use Rattle.keymap_core.proofs.Common.{ℕ, length, min, sym, ◌∙◌, ap, Option, Some, None, cond, option_map, are_digits}
-use Rattle.keymap_core.proofs.Common.{digits_value}
+use Rattle.keymap_core.proofs.Common.{ℕ, min, sym, ◌∙◌, ap, Option, option_map, rules}
 use Rattle.keymap_core.proofs.Taking.{take-rest}
 use Rattle.keymap_core.proofs.Numbers.{number-behind, none-behind, none-shorter, cut}
 use Rattle.keymap_core.proofs.named.number_of.Goals.{then-word-letters-via-then-word-letters}
@@ -19,10 +18,4 @@ returns-then-word-letters c = elim c.then-word-letters.branch [
 ]
 
 pub returns : goal.returns
-returns c =
-    let rest = take-rest (length c.args.letters.now) c.args.word.now in
-    c.decimal_of.ensures
-    ∙ ap (λ xs. cond (are_digits xs) (Some (min (digits_value xs) 255)) None) rest
-    ∙ sym (cut _ _)
-    ∙ ap cut_at_255
-    (sym (number-behind c.args.letters.now c.args.word.now (sym c.is_name.ensures ∙ c.if-not-is_name.false)))
+returns c = search (rules, take-rest, cut, number-behind)

@@ -1,4 +1,4 @@
-use Rattle.keymap_cover.proofs.Common.{refl, subst, arith, part_place, ArePartsBelow}
+use Rattle.keymap_cover.proofs.Common.{refl, part_place, rules}
 use Rattle.keymap_cover.proofs.Ordered.{parts-skip, parts-more}
 use Rattle.keymap_cover.proofs.cover.begin.Goals as goal
 
@@ -8,7 +8,4 @@ returns-in_ok-push c =
     c.requires.below c.in_ok-push.ensures.items refl c.if-at-end.true
 
 pub returns-else-at-end : goal.returns-else-at-end
-returns-else-at-end c =
-    parts-skip (part_place c.args.part) c.args.starts.now.items c.args.end
-    (subst (λ n. ArePartsBelow (part_place c.args.part) c.args.starts.now.items n)
-    (omega (arith, c.requires.order, c.if-at-end.false)) c.requires.below)
+returns-else-at-end c = search (rules, parts-skip, part_place)

@@ -1,22 +1,14 @@
-use Rattle.keymap_cover.proofs.Common.{ℕ, subst, alone, AreSightsOf}
+use Rattle.keymap_cover.proofs.Common.{ℕ, subst, alone, AreSightsOf, rules}
 use Rattle.std.proofs.Common.{MatchOption}
 use Rattle.console_core.specs.Sticking.{ReachesMoreThan, state_limit}
-use Rattle.keymap_cover.specs.Inner.Scripts.{IsExplorerFor}
 use Rattle.keymap_cover.proofs.Scripts.{script-covers}
 use Rattle.keymap_cover.proofs.cover.cover_of.Goals as goal
 
 pub script_of-requires-clause-explorer : goal.script_of-requires-clause-explorer
-script_of-requires-clause-explorer c =
-    let m = c.args.map.now in
-    subst (λ o. MatchOption o ((p : ℕ) × ReachesMoreThan (alone m) state_limit p)
-    (λ p. IsExplorerFor m p)) c.in-Some-2.is
-    c.in_ok-explorer.ensures
+script_of-requires-clause-explorer c = search (rules, alone)
 
 pub script_of-requires-clause-sights : goal.script_of-requires-clause-sights
-script_of-requires-clause-sights c =
-    let m = c.args.map.now in
-    subst (λ o. MatchOption o ((p : ℕ) × ReachesMoreThan (alone m) state_limit p) (λ x. AreSightsOf m x)) c.in-Some.is
-    c.in_ok-sights.ensures
+script_of-requires-clause-sights c = search (rules, alone)
 
 pub returns-in_ok-script-in-Some-2 : goal.returns-in_ok-script-in-Some-2
 returns-in_ok-script-in-Some-2 c =

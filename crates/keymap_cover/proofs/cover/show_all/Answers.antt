@@ -1,11 +1,9 @@
-use Rattle.keymap_cover.proofs.Common.{refl, arith}
+use Rattle.keymap_cover.proofs.Common.{arith, rules}
 use Rattle.keymap_cover.proofs.Showing.{all-more, stays-so}
 use Rattle.keymap_cover.proofs.cover.show_all.Goals as goal
 
 pub loop-sight-init : goal.loop-sight-init
-loop-sight-init g c =
-    stays-so c.args.map.now (g.T.Translator.stands c.args.console.now) c.args.explorer.now c.args.explorer.now
-    c.args.script.now _ (refl, refl) (λ h w steady n x lt at. absurd (omega (arith, lt)))
+loop-sight-init g c = search (rules, stays-so)
 
 pub loop-sight-preserved : goal.loop-sight-preserved
 loop-sight-preserved g c =

@@ -1,12 +1,9 @@
-use Rattle.keymap_cover.proofs.Common.{refl, subst, sym, NoTurnIsOneWay, IsReachable}
+use Rattle.keymap_cover.proofs.Common.{subst, sym, NoTurnIsOneWay, IsReachable, rules}
 use Rattle.keymap_cover.proofs.Showing.{aims-else, stays-so}
 use Rattle.keymap_cover.proofs.cover.show_left_out.Goals as goal
 
 pub returns-then-not-is_left_out : goal.returns-then-not-is_left_out
-returns-then-not-is_left_out g c =
-    stays-so c.args.map.now (g.T.Translator.stands c.args.console.now) c.args.explorer.now c.args.explorer.now
-    c.args.script.now _ (refl, refl)
-    (λ h w steady can. c.is_left_out.ensures.none c.requires c.if-not-is_left_out.true can)
+returns-then-not-is_left_out g c = search (rules, stays-so)
 
 pub returns-then-not-aim_at : goal.returns-then-not-aim_at
 returns-then-not-aim_at g c =

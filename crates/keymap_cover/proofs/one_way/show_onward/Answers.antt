@@ -1,4 +1,4 @@
-use Rattle.keymap_cover.proofs.Common.{[], refl}
+use Rattle.keymap_cover.proofs.Common.{[], refl, rules}
 use Rattle.keymap_cover.proofs.one_way.show_onward.Goals as goal
 
 pub returns-then-is_empty : goal.returns-then-is_empty
@@ -8,7 +8,4 @@ pub returns-in_default : goal.returns-in_default
 returns-in_default g c = λ h w. (h, w, ([], refl))
 
 pub returns : goal.returns
-returns g c =
-    λ h w.
-    let (f, run, rest, after, exact) = c.in_ok-walk.ensures.along h w.0 in
-    (f, (run, c.in_ok-walk.ensures.up, rest), after)
+returns g c = search (rules)

@@ -1,3 +1,4 @@
+use Rattle.keymap_draw.proofs.Common.{rules}
 use Rattle.keymap_draw.proofs.Parts.{led}
 use Rattle.keymap_draw.proofs.Scans.{told, is_within}
 use Rattle.keymap_draw.proofs.sheet.tell.Goals as goal
@@ -9,7 +10,4 @@ invariant_of-result g c =
     (c.requires.read _))
 
 pub returns : goal.returns
-returns g c =
-    told (led c.args.words.now c.args.told.now c.sheet.invariant c.sheet.view_is c.in_ok-push_filled.ensures
-    c.requires.ready
-    (c.requires.read _))
+returns g c = search (rules, told, led)

@@ -1,4 +1,4 @@
-use Rattle.keymap_fmt.proofs.Common.{refl}
+use Rattle.keymap_fmt.proofs.Common.{rules}
 use Rattle.keymap_fmt.proofs.Finding.{piece_found, none_found}
 use Rattle.keymap_fmt.proofs.piece.token.Goals as goal
 
@@ -9,11 +9,7 @@ returns-in-Ok-Some c =
     found.exact found.span
 
 pub returns-in-Ok-None : goal.returns-in-Ok-None
-returns-in-Ok-None c =
-    let found = rw c.in-Ok-None.field-0-is at c.in-Ok-None.ensures in
-    none_found c.args.text.now c.args.at c.args.standing c.requires.inside c.requires.stands _ found.exact refl
+returns-in-Ok-None c = search (rules, none_found)
 
 pub returns-in-Err : goal.returns-in-Err
-returns-in-Err c =
-    none_found c.args.text.now c.args.at c.args.standing c.requires.inside c.requires.stands _ c.in-Err.ensures.exact
-    refl
+returns-in-Err c = search (rules, none_found)

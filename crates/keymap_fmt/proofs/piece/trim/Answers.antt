@@ -1,13 +1,11 @@
 use Rattle.keymap_fmt.proofs.Common.{◌≡◌, take, sym, ◌∙◌, ap, arith, suffix_len, suffix_len-take_no, is_space, trimmed}
+use Rattle.keymap_fmt.proofs.Common.{rules}
 use Rattle.std.proofs.lemmas.List.Sums.{suffix_len-take_yes}
 use Rattle.keymap_fmt.proofs.piece.trim.Goals.{then-loop-end-test+else-is_space_byte, else-loop-end-test}
 use Rattle.keymap_fmt.proofs.piece.trim.Goals as goal
 
 pub loop-end-preserved : goal.loop-end-preserved
-loop-end-preserved c =
-    let cut = suffix_len-take_yes is_space c.args.bytes.now c.loop-end.end 0 (omega arith) c.loop-end.invariant.within
-    (sym c.is_space_byte.ensures ∙ c.if-is_space_byte.true) in
-    record { within = omega arith; same = omega (arith, c.loop-end.invariant.same, cut) }
+loop-end-preserved c = search (rules, suffix_len-take_yes)
 
 pub returns : goal.returns
 unfolding trimmed

@@ -133,11 +133,4 @@ returns-clause-image c =
     (λ p past. c.in_ok-check_zeros.ensures.none p (omega (arith, past, place))))
 
 pub returns-clause-known : goal.returns-clause-known
-returns-clause-known c = (
-  record {
-    own = c.loop-pair.invariant.character;
-    few = omega (arith, c.loop-pair.invariant.count, c.count_pairs-pairs.ensures.few);
-    pairs = c.loop-pair.invariant.known;
-  },
-  c.loop-pair.invariant.fits,
-)
+returns-clause-known c = search rules

@@ -6,13 +6,7 @@ use Rattle.keymap_tables.proofs.SlotImages.{slot-written}
 use Rattle.keymap_tables.proofs.slot.slot_image.Goals as goal
 
 pub loop-cell-preserved : goal.loop-cell-preserved
-loop-cell-preserved c = record {
-  eight = search rules;
-  bytes = grind (arith, common_steps, rows-written);
-  four_each = search (rules, row-next);
-  marks = search (rules, marks-next);
-  small = small-next _ _ _ c.loop-cell.invariant.small c.mark.ensures.small;
-}
+loop-cell-preserved c = search (rules, common_steps, rows-written, row-next, marks-next, small-next)
 
 pub returns-clause-bytes : goal.returns-clause-bytes
 returns-clause-bytes c = grind (arith, common_steps, mul_comm, slot-written)

@@ -1,4 +1,4 @@
-use Rattle.keymap_text.proofs.Common.{take, refl, sym, subst, arith, take_all, take_more, HasLast}
+use Rattle.keymap_text.proofs.Common.{take, refl, sym, subst, arith, take_all, take_more, HasLast, rules}
 use Rattle.keymap_text.proofs.LastOf.{none_yet, all_slots, all_accents}
 use Rattle.keymap_text.proofs.last.last_definitions.Goals as goal
 
@@ -13,13 +13,7 @@ loop-definition-preserved c =
     (c.put.ensures (take i ds) c.loop-definition.invariant)
 
 pub returns-clause-slots : goal.returns-clause-slots
-returns-clause-slots c =
-    all_slots c.loop-definition.last c.args.definitions.now
-    (subst (HasLast c.loop-definition.last)
-    (take_all c.loop-definition.definition-index c.args.definitions.now (omega arith)) c.loop-definition.invariant)
+returns-clause-slots c = search (rules, all_slots, take_all)
 
 pub returns-clause-accents : goal.returns-clause-accents
-returns-clause-accents c =
-    all_accents c.loop-definition.last c.args.definitions.now
-    (subst (HasLast c.loop-definition.last)
-    (take_all c.loop-definition.definition-index c.args.definitions.now (omega arith)) c.loop-definition.invariant)
+returns-clause-accents c = search (rules, all_accents, take_all)

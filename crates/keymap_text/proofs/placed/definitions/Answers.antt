@@ -1,5 +1,5 @@
 use Rattle.keymap_text.proofs.Common.{◌≡◌, ℕ, ◌+◌, ◌++◌, All, subst, map, vec_len, refl, sym, ◌∙◌, ap, append-nil}
-use Rattle.keymap_text.proofs.Common.{token_view, tokens, span_of, StandsAmong, begun, tokens_from}
+use Rattle.keymap_text.proofs.Common.{token_view, tokens, span_of, StandsAmong, begun, tokens_from, rules}
 use Rattle.keymap_text.proofs.Placing.{spans_on, begun_on, begun_none}
 use Rattle.keymap_text.proofs.RowPlaces.{spelled_by}
 use Rattle.keymap_text.proofs.placed.definitions.Goals as goal
@@ -30,9 +30,7 @@ loop-token-preserved c =
     }
 
 pub returns-clause-spans : goal.returns-clause-spans
-returns-clause-spans c =
-    sym (append-nil c.loop-token.spans.items)
-    ∙ ap (λ ts. c.loop-token.spans.items ++ map span_of ts) (sym c.in_default.ensures) ∙ c.loop-token.invariant.spans
+returns-clause-spans c = search (rules, append-nil)
 
 pub returns-clause-definitions : goal.returns-clause-definitions
 returns-clause-definitions c = λ m s.

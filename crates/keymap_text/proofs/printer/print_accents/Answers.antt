@@ -4,18 +4,7 @@ use Rattle.keymap_text.proofs.Pieces.{lines-next, lines-cut}
 use Rattle.keymap_text.proofs.printer.print_accents.Goals as goal
 
 pub loop-index-preserved : goal.loop-index-preserved
-loop-index-preserved g c =
-    let m = c.args.map.now in
-    let line : ℕ → List ℕ = λ i. accent_line i (slice_index_or m.accents i blank) in
-    let same = c.as_slice.ensures.value ∙ c.accent_line-line.ensures
-    ∙ ap (accent_line c.loop-index.index) c.accent_or_blank.ensures in
-    record {
-      pushed = λ start text gathers.
-          Gathers-same _ (lines-next line c.loop-index.index text _ same)
-          (c.in_ok-push.ensures.bytes start _ (c.loop-index.invariant.pushed start text gathers));
-      few = omega (arith, c.in_ok-push.ensures.count, c.as_slice.ensures.fits, c.loop-index.invariant.few);
-      sound = search rules;
-    }
+loop-index-preserved g c = search (rules, Gathers-same, lines-next)
 
 pub returns-in_err-push-clause-bytes : goal.returns-in_err-push-clause-bytes
 returns-in_err-push-clause-bytes g c start text gathers =

@@ -4,17 +4,7 @@ use Rattle.keymap_text.proofs.Pieces.{lines-next, lines-cut}
 use Rattle.keymap_text.proofs.printer.print_keys.Goals as goal
 
 pub loop-slot-preserved : goal.loop-slot-preserved
-loop-slot-preserved g c =
-    let m = c.args.map.now in
-    let line : ℕ → List ℕ = λ i. key_line i (entry_at m i) in
-    let same = c.as_slice.ensures.value ∙ c.key_line-line.ensures ∙ ap (key_line c.loop-slot.slot) c.entry.ensures in
-    record {
-      pushed = λ start text gathers.
-          Gathers-same _ (lines-next line c.loop-slot.slot text _ same)
-          (c.in_ok-push.ensures.bytes start _ (c.loop-slot.invariant.pushed start text gathers));
-      few = omega (arith, c.in_ok-push.ensures.count, c.as_slice.ensures.fits, c.loop-slot.invariant.few);
-      sound = search rules;
-    }
+loop-slot-preserved g c = search (rules, Gathers-same, lines-next)
 
 pub returns-in_err-push-clause-bytes : goal.returns-in_err-push-clause-bytes
 returns-in_err-push-clause-bytes g c start text gathers =

@@ -1,4 +1,4 @@
-use Rattle.keymap_text.proofs.Common.{◌≡◌, ◌+◌, ℕ, List, refl, sym, ◌∙◌, ap, subst, arith, Ok, Grammar, MapValue}
+use Rattle.keymap_text.proofs.Common.{◌≡◌, ◌+◌, ℕ, List, refl, sym, ◌∙◌, ap, subst, arith, Ok, Grammar, MapValue, rules}
 use Rattle.keymap_text.proofs.Common.{GrammarState, at, Advances, Refuses, Takes, place_view, grammar_view}
 use Rattle.keymap_text.proofs.Rows.{is_cell, is_lock, next_place}
 use Rattle.keymap_text.proofs.Scanning.{stays, advances_on, refuses_on, takes_on, takes_same}
@@ -7,14 +7,7 @@ use Rattle.keymap_text.specs.Inner.Grammar as spec
 use Rattle.keymap_text.proofs.scanner.cells.Goals as goal
 
 pub loop-index-init : goal.loop-index-init
-loop-index-init g c = record {
-  inside = omega arith;
-  index = omega arith;
-  taken = λ m.
-      subst (λ p. Advances (at m (spec.CellAt c.args.slot c.args.first c.args.grammar.now.entry)) (at m p)
-      c.args.rest.now 0)
-      (is_cell c.args.slot c.args.first c.args.grammar.now.entry c.requires.index) (stays _ c.args.rest.now);
-}
+loop-index-init g c = search (rules, is_cell, stays)
 
 pub loop-index-preserved : goal.loop-index-preserved
 loop-index-preserved g c =

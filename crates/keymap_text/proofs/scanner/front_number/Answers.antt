@@ -1,4 +1,4 @@
-use Rattle.keymap_text.proofs.Common.{sym, subst, arith, Fronts}
+use Rattle.keymap_text.proofs.Common.{sym, subst, arith, Fronts, rules}
 use Rattle.keymap_text.specs.declared.words.Item.TheVariants.{Value}
 use Rattle.keymap_text.proofs.Fronts.{word_fronts}
 use Rattle.keymap_text.proofs.scanner.front_number.Goals as goal
@@ -11,9 +11,4 @@ returns-in-Some c =
     (word_fronts 6 rest (sym found.1) found.0 c.requires.word (omega arith))
 
 pub returns-in-Some-short_number : goal.returns-in-Some-short_number
-returns-in-Some-short_number c =
-    let rest = c.args.rest.now in
-    let n = c.short_word_len-n.result in
-    let found = c.short_word_len-n.ensures (omega arith) in
-    subst (λ m. Fronts rest (Value m) n) (sym c.in-Some-short_number.ensures)
-    (word_fronts n rest found.1 found.0 c.requires.word (omega arith))
+returns-in-Some-short_number c = search (rules, word_fronts)

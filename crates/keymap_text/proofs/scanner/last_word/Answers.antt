@@ -1,13 +1,11 @@
-use Rattle.keymap_text.proofs.Common.{◌∙◌, ap, sym, arith, eqb-true, at, accept, grammar_view}
+use Rattle.keymap_text.proofs.Common.{◌∙◌, ap, sym, arith, eqb-true, at, accept, grammar_view, rules}
 use Rattle.keymap_text.proofs.Scanning.{not_none}
 use Rattle.keymap_text.proofs.Tails.{end_none, end_comment, end_word, end_refused, end_quote, open_not_refused}
 use Rattle.keymap_text.proofs.Tails.{open_stands, open_few}
 use Rattle.keymap_text.proofs.scanner.last_word.Goals as goal
 
 pub token_front-requires-clause-stands : goal.token_front-requires-clause-stands
-token_front-requires-clause-stands g c =
-    open_stands c.args.tail.now (not_none _ (sym c.is_empty.ensures ∙ c.if-is_empty.false)) c.requires.open
-    c.if-tail-eq35.false
+token_front-requires-clause-stands g c = search (rules, open_stands, not_none)
 
 pub item_of-requires : goal.item_of-requires
 item_of-requires g c = λ _. open_few c.args.tail.now c.requires.open c.if-tail-eq35.false
@@ -17,12 +15,7 @@ returns-then-is_empty-clause-takes g c = λ m h.
     (m, h, λ q. end_none _ c.args.tail.now q (eqb-true _ _ (sym c.is_empty.ensures ∙ c.if-is_empty.true)))
 
 pub returns-then-tail-eq35-clause-takes : goal.returns-then-tail-eq35-clause-takes
-returns-then-tail-eq35-clause-takes g c = λ m h. (
-  m,
-  h,
-  λ q. end_comment _ c.args.tail.now q (not_none _ (sym c.is_empty.ensures ∙ c.if-is_empty.false))
-      c.if-tail-eq35.true c.requires.open,
-)
+returns-then-tail-eq35-clause-takes g c = search (rules, end_comment, not_none)
 
 pub returns-in-Ok-clause-takes : goal.returns-in-Ok-clause-takes
 unfolding accept
@@ -48,13 +41,7 @@ returns-in-Err-clause-takes g c = λ m h.
     )
 
 pub returns-in-Refused-clause-takes : goal.returns-in-Refused-clause-takes
-returns-in-Refused-clause-takes g c =
-    absurd (open_not_refused c.args.tail.now c.in-Refused.kind
-    (not_none _ (sym c.is_empty.ensures ∙ c.if-is_empty.false)) c.in-Refused.ensures.value c.requires.open)
+returns-in-Refused-clause-takes g c = search (rules, open_not_refused, not_none)
 
 pub returns-in-Unfinished-clause-takes : goal.returns-in-Unfinished-clause-takes
-returns-in-Unfinished-clause-takes g c = λ m h. (
-  omega arith,
-  λ q. end_quote _ c.args.tail.now q (not_none _ (sym c.is_empty.ensures ∙ c.if-is_empty.false))
-      c.in-Unfinished.ensures.value,
-)
+returns-in-Unfinished-clause-takes g c = search (rules, end_quote, not_none)

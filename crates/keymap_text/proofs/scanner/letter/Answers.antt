@@ -1,5 +1,4 @@
-use Rattle.keymap_text.proofs.Common.{◌+◌, sym, subst, arith, with_entry, at, Advances, place_view, grammar_view}
-use Rattle.keymap_text.proofs.Common.{IsPlace}
+use Rattle.keymap_text.proofs.Common.{◌+◌, sym, subst, with_entry, at, Advances, place_view, grammar_view, rules}
 use Rattle.keymap_text.proofs.Rows.{letter_taken}
 use Rattle.keymap_text.proofs.Scanning.{takes_same, stays}
 use Rattle.keymap_text.specs.Inner.Grammar as spec
@@ -28,10 +27,7 @@ returns-in-Ok-clause-takes g c =
     }
 
 pub returns-in-Ok-clause-leaves : goal.returns-in-Ok-clause-leaves
-returns-in-Ok-clause-leaves g c = (
-  omega (arith, c.in-Some.ensures.inside),
-  subst (λ p. IsPlace p c.close_entry.new.self.accent) (sym c.close_entry.ensures.place) tt,
-)
+returns-in-Ok-clause-leaves g c = search rules
 
 pub returns-in-None-clause-takes : goal.returns-in-None-clause-takes
 returns-in-None-clause-takes g c =

@@ -1,4 +1,4 @@
-use Rattle.keymap_text.proofs.Common.{◌≡◌, ℕ, sym, ◌∙◌, arith, Result, Ok, Stop}
+use Rattle.keymap_text.proofs.Common.{◌≡◌, ℕ, sym, ◌∙◌, arith, Result, Ok, Stop, rules}
 use Rattle.keymap_text.proofs.Scanning.{takes_same, blank_advances, comment_advances}
 use Rattle.keymap_text.proofs.Tails.{open_comment, comment_some}
 use Rattle.keymap_text.proofs.scanner.other.Goals as goal
@@ -12,15 +12,10 @@ returns-then-is_blank_byte-clause-takes g c =
     (sym c.is_blank_byte.ensures ∙ c.if-is_blank_byte.true))
 
 pub returns-then-n-rest-clause-takes : goal.returns-then-n-rest-clause-takes
-returns-then-n-rest-clause-takes g c =
-    takes_same (λ s. comment_advances s c.args.rest.now c.line_len-n.result c.requires.some c.if-rest-ne35.false
-    c.line_len-n.ensures.value c.if-n-rest.true)
+returns-then-n-rest-clause-takes g c = search (rules, takes_same, comment_advances)
 
 pub returns-then-n-rest-clause-open : goal.returns-then-n-rest-clause-open
-returns-then-n-rest-clause-open g c = λ z.
-    let zero = ok_is c.line_len-n.result 0 z in
-    let some = comment_some c.args.rest.now c.requires.some c.if-rest-ne35.false in
-    absurd (omega (arith, c.line_len-n.ensures.value))
+returns-then-n-rest-clause-open g c = search (rules, ok_is, comment_some)
 
 pub returns-else-n-rest-clause-open : goal.returns-else-n-rest-clause-open
 returns-else-n-rest-clause-open g c = λ _.

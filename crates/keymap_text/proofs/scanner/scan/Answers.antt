@@ -1,20 +1,12 @@
-use Rattle.keymap_text.proofs.Common.{refl, sym, subst, arith, at_drop_all, IsOpen}
+use Rattle.keymap_text.proofs.Common.{refl, sym, subst, arith, at_drop_all, IsOpen, rules}
 use Rattle.keymap_text.proofs.Scanning.{takes_same, takes_on, faults_on, stays}
 use Rattle.keymap_text.proofs.scanner.scan.Goals as goal
 
 pub loop-at-init : goal.loop-at-init
-loop-at-init g c = record {
-  inside = omega arith;
-  place = c.requires;
-  takes = takes_same (λ s. stays s c.args.bytes.now);
-}
+loop-at-init g c = search (rules, takes_same, stays)
 
 pub loop-at-preserved : goal.loop-at-preserved
-loop-at-preserved g c = record {
-  inside = omega (arith, c.in-Ok.ensures.leaves.0);
-  place = c.in-Ok.ensures.leaves.1;
-  takes = takes_on c.loop-at.invariant.takes refl c.in-Ok.ensures.takes;
-}
+loop-at-preserved g c = search (rules, takes_on)
 
 pub returns-in-Err-clause-takes : goal.returns-in-Err-clause-takes
 returns-in-Err-clause-takes g c =

@@ -1,5 +1,5 @@
 use Rattle.keymap_text.proofs.Common.{◌≡◌, ◌+◌, ◌-◌, ◌==◌, length, take, drop, ◌∙◌, ap, arith, count_by, length-drop}
-use Rattle.keymap_text.proofs.Common.{count_by-le-length, length-take-le}
+use Rattle.keymap_text.proofs.Common.{count_by-le-length, length-take-le, rules}
 use Rattle.keymap_text.proofs.Lines.{feeds_more, feeds_split}
 use Rattle.keymap_text.proofs.Splitting.{to_end}
 use Rattle.keymap_text.proofs.token.line_feeds.Goals as goal
@@ -22,15 +22,7 @@ loop-i-preserved c =
     }
 
 pub returns-clause-value : goal.returns-clause-value
-returns-clause-value c =
-    let l = c.loop-i in
-    let b = c.args.bytes.now in
-    let rest = c.few_line_feeds-2.ensures ∙ ap (count_by (λ c. c == 10)) (to_end b l.i) in
-    omega (arith, l.invariant.value, rest, feeds_split l.i b)
+returns-clause-value c = search (rules, to_end, feeds_split)
 
 pub returns-clause-bound : goal.returns-clause-bound
-returns-clause-bound c =
-    let l = c.loop-i in
-    let b = c.args.bytes.now in
-    let rest = c.few_line_feeds-2.ensures ∙ ap (count_by (λ c. c == 10)) (to_end b l.i) in
-    omega (arith, l.invariant.value, rest, feeds_split l.i b, count_by-le-length (λ c. c == 10) b)
+returns-clause-bound c = search (rules, to_end, feeds_split, count_by-le-length)

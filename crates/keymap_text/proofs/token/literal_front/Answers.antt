@@ -1,6 +1,6 @@
 use Rattle.keymap_text.proofs.Common.{◌≡◌, ℕ, List, true, false, cond, length, None, refl, sym, ◌∙◌, ap, ◌==◌, eq-eqb}
 use Rattle.keymap_text.proofs.Common.{slice_index, decoded, Decoded, Literal, literal, is_lone, quoted, Unfinished}
-use Rattle.keymap_text.proofs.Common.{Found}
+use Rattle.keymap_text.proofs.Common.{Found, rules}
 use Rattle.keymap_text.proofs.token.literal_front.Goals as goal
 
 open_quote : (d : Decoded) (bytes : List ℕ) → d.char ≡ None → (length bytes == d.size) ≡ true
@@ -15,7 +15,4 @@ open_literal bytes a e f =
     ∙ open_quote (decoded bytes) bytes e f)
 
 pub returns-then-bytes-size-2-clause-value : goal.returns-then-bytes-size-2-clause-value
-returns-then-bytes-size-2-clause-value c =
-    open_literal c.args.bytes.now (sym c.is_lone_byte.ensures ∙ c.if-is_lone_byte.false)
-    (sym c.decode-character.ensures.char ∙ c.in-None.is)
-    (eq-eqb _ _ (c.if-bytes-size-2.true ∙ c.decode-character.ensures.size))
+returns-then-bytes-size-2-clause-value c = search (rules, open_literal, eq-eqb)

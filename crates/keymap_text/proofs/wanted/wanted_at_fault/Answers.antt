@@ -1,15 +1,11 @@
-use Rattle.keymap_text.proofs.Common.{refl, sym, ◌∙◌, ap, subst, IsErr, arith, token_view, empty_map, tokens_from}
+use Rattle.keymap_text.proofs.Common.{refl, sym, ◌∙◌, ap, subst, IsErr, token_view, empty_map, tokens_from, rules}
 use Rattle.keymap_text.proofs.Common.{grammar_view, place_of, definition_behind}
 use Rattle.keymap_text.proofs.Faults.{step_led, led}
 use Rattle.keymap_text.proofs.WantedPlace.{reached_end, reached_on, reached_fault}
 use Rattle.keymap_text.proofs.wanted.wanted_at_fault.Goals as goal
 
 pub loop-token-init : goal.loop-token-init
-loop-token-init c = record {
-  within = omega arith;
-  place = rw c.new-grammar.ensures tt;
-  reached = rw c.new-grammar.ensures refl;
-}
+loop-token-init c = search rules
 
 pub returns-in-Err : goal.returns-in-Err
 returns-in-Err c =
@@ -49,8 +45,4 @@ loop-token-preserved c =
     }
 
 pub returns : goal.returns
-returns c =
-    ap (λ p. (p, c.loop-token.definition, c.loop-token.at)) c.wanted_at.ensures
-    ∙ sym (reached_end (place_of (grammar_view c.loop-token.grammar)) c.loop-token.definition
-    c.loop-token.at (tokens_from c.args.text.now c.loop-token.at) c.in_default.ensures)
-    ∙ c.loop-token.invariant.reached
+returns c = search (rules, reached_end)

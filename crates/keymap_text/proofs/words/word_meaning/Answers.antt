@@ -1,4 +1,4 @@
-use Rattle.keymap_text.proofs.Common.{◌≡◌, List, ℕ, None, Some, codes, sym, ◌∙◌, ap, refl, named_of, Meaning, meaning}
+use Rattle.keymap_text.proofs.Common.{◌≡◌, List, ℕ, None, Some, codes, sym, refl, named_of, Meaning, meaning, rules}
 use Rattle.keymap_text.proofs.Common.{named, table, digits_of, number_after, of_action}
 use Rattle.keymap_text.proofs.words.word_meaning.Goals as goal
 
@@ -13,11 +13,7 @@ unfolding meaning
 by_action w m a b d h = rw (sym a, meaning) (rw (sym b) (rw (sym d) h))
 
 pub returns-in-Some-character_or_letter : goal.returns-in-Some-character_or_letter
-returns-in-Some-character_or_letter c =
-    by_name c.args.word.now c.in-Some-character_or_letter.meaning c.in_default.ensures
-    c.in_default-prefixed_number.ensures c.in-Some-character_or_letter.ensures
+returns-in-Some-character_or_letter c = search (rules, by_name)
 
 pub returns-in-None : goal.returns-in-None
-returns-in-None c =
-    by_action c.args.word.now c.action_meaning.result c.in_default.ensures c.in_default-prefixed_number.ensures
-    c.in-None.ensures (c.action_meaning.ensures ∙ ap of_action c.named.ensures)
+returns-in-None c = search (rules, by_action)

@@ -1,4 +1,4 @@
-use Rattle.kmap_c.proofs.Common.{arith, ◌≡◌, ◌∙◌, ap, subst, sym, ℕ, List, ◌++◌, length, flat_map, range_with_len}
+use Rattle.kmap_c.proofs.Common.{arith, ◌≡◌, ◌∙◌, ap, subst, ℕ, List, ◌++◌, length, flat_map, range_with_len, rules}
 use Rattle.kmap_c.proofs.Common.{accent_or_blank, accent_line, lines-next, HasPut}
 use Rattle.std.proofs.Common.{append-nil}
 use Rattle.kmap_c.proofs.print.print_accents.Goals as goal
@@ -27,11 +27,7 @@ loop-index-preserved c = record {
 }
 
 pub loop-index-init : goal.loop-index-init
-loop-index-init c = record {
-  lines = λ m bytes old is same put.
-      subst (λ front. HasPut front old c.args.at c.args.text.now) (sym (append-nil bytes)) put;
-  few = omega arith;
-}
+loop-index-init c = search (rules, append-nil)
 
 pub returns : goal.returns
 returns c =

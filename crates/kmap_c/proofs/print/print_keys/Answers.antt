@@ -1,4 +1,4 @@
-use Rattle.kmap_c.proofs.Common.{arith, refl, ◌≡◌, ◌∙◌, ap, subst, ℕ, List, [], length, flat_map, range_with_len}
+use Rattle.kmap_c.proofs.Common.{arith, ◌∙◌, ap, subst, ℕ, List, [], rules}
 use Rattle.kmap_c.proofs.Common.{entry_at, key_line, lines-next, HasPut}
 use Rattle.kmap_c.proofs.print.print_keys.Goals as goal
 
@@ -25,18 +25,10 @@ loop-slot-preserved c = record {
 }
 
 pub loop-slot-init : goal.loop-slot-init
-loop-slot-init c = record {
-  lines = λ m is same. record { count = refl; size = refl; text = λ room. refl };
-  few = omega arith;
-}
+loop-slot-init c = search rules
 
 pub returns-clause-text : goal.returns-clause-text
-returns-clause-text c =
-    λ m shows. let all : c.loop-slot.slot ≡ length m.entries =
-    omega (arith, c.loop-slot-test.false, c.loop-slot.auto.slot-end, c.n_keys-slot-end.ensures.count m shows) in
-    subst (λ n. HasPut (flat_map (λ s. key_line s (entry_at m s)) (range_with_len 0 n)) c.args.text.now c.loop-slot.end
-    c.loop-slot.text) all
-    (c.loop-slot.invariant.lines m shows.0 shows.1)
+returns-clause-text c = search rules
 
 pub returns-clause-few : goal.returns-clause-few
 returns-clause-few c =

@@ -1,4 +1,4 @@
-use Rattle.kmap_runs.proofs.Common.{arith, subst, sym, ListsSlots, is_in}
+use Rattle.kmap_runs.proofs.Common.{arith, subst, sym, ListsSlots, is_in, rules}
 use Rattle.kmap_runs.proofs.cover.slots.Goals as goal
 
 pub loop-first-init : goal.loop-first-init
@@ -7,7 +7,4 @@ loop-first-init c =
     (omega arith, subst (ListsSlots (is_in l) l.word.now 0) (sym c.new-text.ensures.items) ListsSlots.no_slot)
 
 pub returns : goal.returns
-returns c =
-    let l = c.args.listing.now in
-    subst (λ n. ListsSlots (is_in l) l.word.now n c.loop-first.text.items)
-    (omega (arith, c.loop-first.invariant.0, c.loop-first-test.false)) c.loop-first.invariant.1
+returns c = search (rules)

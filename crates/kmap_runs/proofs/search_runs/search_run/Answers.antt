@@ -1,10 +1,8 @@
-use Rattle.kmap_runs.proofs.Common.{inl, inr, refl, err_from_is_err_and, Keeps-refl}
+use Rattle.kmap_runs.proofs.Common.{inl, inr, refl, err_from_is_err_and, Keeps-refl, rules}
 use Rattle.kmap_runs.proofs.search_runs.search_run.Goals as goal
 
 pub returns-in_err-first-clause-run : goal.returns-in_err-first-clause-run
-returns-in_err-first-clause-run g c =
-    let p = err_from_is_err_and c.from_residual.result c.from_residual.ensures.1 in
-    rw (p.1, p.2) (inr (inl c.in_err-first.ensures.reads, Keeps-refl _))
+returns-in_err-first-clause-run g c = search (rules, err_from_is_err_and, Keeps-refl)
 
 pub returns-in_default-clause-run : goal.returns-in_default-clause-run
 returns-in_default-clause-run g c =

@@ -1,16 +1,11 @@
-use Rattle.kmap_runs.proofs.Common.{inl, inr, refl, err_from_is_err_and, Keeps-refl}
+use Rattle.kmap_runs.proofs.Common.{inl, inr, refl, err_from_is_err_and, Keeps-refl, rules}
 use Rattle.kmap_runs.proofs.type_runs.type_run.Goals as goal
 
 pub returns-in_err-map-clause-run : goal.returns-in_err-map-clause-run
-returns-in_err-map-clause-run g c =
-    let p = err_from_is_err_and c.from_residual.result c.from_residual.ensures.1 in
-    rw (p.1, p.2) (inr (inl (inl (c.in_err-map.ensures.reads, Keeps-refl _)), Keeps-refl _))
+returns-in_err-map-clause-run g c = search (rules, err_from_is_err_and, Keeps-refl)
 
 pub returns-in_err-bytes-clause-run : goal.returns-in_err-bytes-clause-run
-returns-in_err-bytes-clause-run g c =
-    let p = err_from_is_err_and c.from_residual-in_err-bytes.result c.from_residual-in_err-bytes.ensures.1 in
-    rw (p.1, p.2)
-    (inr (inl (inr (c.in_ok-map.map, c.in_ok-map.ensures.reads, c.in_err-bytes.ensures.reads)), Keeps-refl _))
+returns-in_err-bytes-clause-run g c = search (rules, err_from_is_err_and, Keeps-refl)
 
 pub returns-in_err-script-clause-run : goal.returns-in_err-script-clause-run
 returns-in_err-script-clause-run g c =

@@ -1,16 +1,11 @@
-use Rattle.play_core.proofs.Common.{List, [], ◌∷◌, ◌++◌, take, length, refl, sym, ap, subst, ◌∙◌, arith, reverse, Event}
+use Rattle.play_core.proofs.Common.{List, [], ◌∷◌, ◌++◌, take, refl, sym, ap, subst, ◌∙◌, arith, reverse, Event, rules}
 use Rattle.play_core.proofs.Common.{Gathers-start, Gathers-same, Gathers-more, StopsIn-more, passed_on, delivered}
 use Rattle.play_core.proofs.Texts.{text-nil, text-more, text-rest, delivered-more}
 use Rattle.console_core.proofs.Deliveries.{reverse-joined}
 use Rattle.play_core.proofs.player.deliver_all.Goals as goal
 
 pub loop-one-init : goal.loop-one-init
-loop-one-init g c = record {
-  stands = λ ms h s. s;
-  gathers = λ ms h s. rw (text-nil c.args.show ms h) (Gathers-start _ _ c.new-text.ensures refl);
-  few = omega (arith, ap length c.new-text.ensures);
-  failed = refl;
-}
+loop-one-init g c = search (rules, text-nil, Gathers-start)
 
 pub loop-one-preserved : goal.loop-one-preserved
 loop-one-preserved g c =

@@ -1,22 +1,14 @@
-use Rattle.play_core.proofs.Common.{inl, inr, err_from_is_err_and, Keeps-refl, between, LacksEvents, ReadsScript}
+use Rattle.play_core.proofs.Common.{err_from_is_err_and, Keeps-refl, between, LacksEvents, ReadsScript, rules}
 use Rattle.play_core.proofs.Common.{ReadsText, ShowsEvents, of_writer, ReadsBoth, Stays, moves}
 use Rattle.play_core.specs.Playing.{ReadsNext}
 use Rattle.play_core.proofs.Chained.{after_first}
 use Rattle.play_core.proofs.playing.play_next.Goals as goal
 
 pub returns-in_err-first-clause-run : goal.returns-in_err-first-clause-run
-returns-in_err-first-clause-run g c =
-    let p = err_from_is_err_and c.from_residual.result c.from_residual.ensures.1 in
-    rw (p.1, p.2) (inr (inl (inl (inl (c.in_err-first.ensures.reads, Keeps-refl _), Keeps-refl _)), Keeps-refl _))
+returns-in_err-first-clause-run g c = search (rules, err_from_is_err_and, Keeps-refl)
 
 pub returns-in_err-second-clause-run : goal.returns-in_err-second-clause-run
-returns-in_err-second-clause-run g c =
-    let p = err_from_is_err_and c.from_residual-in_err-second.result c.from_residual-in_err-second.ensures.1 in
-    rw (p.1, p.2)
-    (inr (
-      inl (inl (inr (c.in_ok-first.first, c.in_ok-first.ensures.reads, c.in_err-second.ensures.reads), Keeps-refl _)),
-      Keeps-refl _,
-    ))
+returns-in_err-second-clause-run g c = search (rules, err_from_is_err_and, Keeps-refl)
 
 pub returns-clause-run : goal.returns-clause-run
 returns-clause-run g c =

@@ -1,16 +1,10 @@
-use Rattle.play_core.proofs.Common.{◌≡◌, ◌++◌, ◌∷◌, [], false, subst, arith, length-append}
+use Rattle.play_core.proofs.Common.{◌≡◌, ◌++◌, ◌∷◌, [], false, subst, arith, length-append, rules}
 use Rattle.play_core.proofs.Common.{err_from_is_err_and, Sent, IsReadTo}
 use Rattle.play_core.proofs.ScriptLines.{read-more, read-out}
 use Rattle.play_core.proofs.script.read_plain_lines.Goals as goal
 
 pub loop-told-init : goal.loop-told-init
-loop-told-init c = record {
-  read =
-      λ script number read.
-      subst (λ n. IsReadTo script n c.args.events.now.items c.args.text.now) (omega arith) read;
-  more = omega arith;
-  shorter = omega arith;
-}
+loop-told-init c = search rules
 
 pub returns-in_err-push-clause-err : goal.returns-in_err-push-clause-err
 returns-in_err-push-clause-err c =

@@ -1,5 +1,5 @@
-use Rattle.play_core.proofs.Common.{◌+◌, ◌-◌, take, refl, ap, subst, ◌∙◌, arith, Some, None, Ok, Err}
-use Rattle.play_core.proofs.Common.{err_from_is_err_and, AreEvents, lines_of, words_of, Form, Key}
+use Rattle.play_core.proofs.Common.{◌+◌, ◌-◌, take, refl, ap, arith, Some, None, Ok, Err, rules}
+use Rattle.play_core.proofs.Common.{err_from_is_err_and, lines_of, words_of, Form, Key}
 use Rattle.play_core.proofs.Sending.{reading_is}
 use Rattle.play_core.proofs.ScriptLines.{lines_more, blank_more, event_more, fault_at, out_at, no_part, parts_left}
 use Rattle.play_core.proofs.ScriptLines.{read-on, read-few, split-next}
@@ -94,6 +94,4 @@ loop-rest-preserved c =
     )
 
 pub returns-clause-ok : goal.returns-clause-ok
-returns-clause-ok c =
-    subst (λ l. AreEvents l c.loop-rest.events.items)
-    (no_part c.args.script.now _ (c.loop-rest.invariant.1 ∙ ap parts_left c.in_default.is)) c.loop-rest.invariant.0
+returns-clause-ok c = search (rules, no_part, parts_left)

@@ -1,6 +1,5 @@
 use Rattle.play_core.proofs.Common.{◌≡◌, ◌∙◌, ◌<◌, ◌++◌, ◌∷◌, true, sym, ap, subst, take, drop, length, Some, suc}
-use Rattle.play_core.proofs.Common.{encode_utf8_all, AreTyped}
-use Rattle.std.proofs.Common.{rules}
+use Rattle.play_core.proofs.Common.{encode_utf8_all, AreTyped, rules}
 use Rattle.std.specs.Str.{IsUtf8, chars, all_scalars}
 use Rattle.std.proofs.lemmas.Str.{chars_from_encodes, encodes-chars, scalars-chars}
 use Rattle.std.proofs.lemmas.Option.{slice_get-get_or, slice_get_within, same_Some}
@@ -19,16 +18,10 @@ returns-in-Ok-type_characters-clause-ok c =
     c.in-Ok-type_characters.ensures.typed)
 
 pub offset_of-requires-clause-place : goal.offset_of-requires-clause-place
-offset_of-requires-clause-place c =
-    let error = rw c.in-Err-NoWay.field-0-is at c.in-Err-NoWay.ensures.error in
-    let lt = slice_get_within c.as_slice.result.now c.in-Err-NoWay.place error.1.0 error.1.1 in
-    subst (λ z. c.in-Err-NoWay.place < length z) (c.as_slice.ensures.value ∙ sym c.deref.ensures.value) lt
+offset_of-requires-clause-place c = search (rules, slice_get_within)
 
 pub index-requires : goal.index-requires
-index-requires c =
-    let error = rw c.in-Err-NoWay.field-0-is at c.in-Err-NoWay.ensures.error in
-    let lt = slice_get_within c.as_slice.result.now c.in-Err-NoWay.place error.1.0 error.1.1 in
-    subst (λ n. c.in-Err-NoWay.place < n) c.as_slice.ensures.len lt
+index-requires c = search (rules, slice_get_within)
 
 pub returns-in-Err-NoWay-clause-err : goal.returns-in-Err-NoWay-clause-err
 returns-in-Err-NoWay-clause-err c =

@@ -1,4 +1,4 @@
-use Rattle.play_core.proofs.Common.{◌∙◌, tail_of}
+use Rattle.play_core.proofs.Common.{◌∙◌, tail_of, rules}
 use Rattle.play_core.proofs.Tails.{tail_by_number, tail_behind, tail_spelled}
 use Rattle.play_core.proofs.tail.push_new_tail.Goals as goal
 
@@ -13,7 +13,4 @@ new-requires-clause-tells g c =
     c.push_locked.ensures.text c.add-3.ensures.items))
 
 pub returns-clause-text : goal.returns-clause-text
-returns-clause-text g c =
-    tail_spelled (g.T.Translator.shows_on c.args.console.now) (g.T.Translator.shows_locked c.args.console.now) _ _ _ _ _
-    _
-    c.add.ensures.items c.push_mods.ensures.text c.add-2.ensures.items c.push_locked.ensures.text c.add-3.ensures.items
+returns-clause-text g c = search (rules, tail_spelled)

@@ -1,14 +1,10 @@
-use Rattle.play_core.proofs.Common.{drop, length, refl, sym, ap, ◌∙◌, arith, Gathers-start, Gathers-same, Gathers-more}
+use Rattle.play_core.proofs.Common.{drop, refl, sym, ◌∙◌, arith, Gathers-start, Gathers-same, Gathers-more, rules}
 use Rattle.play_core.proofs.Common.{StopsIn-more, passed_on, typed_text}
 use Rattle.play_core.proofs.Texts.{typed-nil, typed-more, typed-rest}
 use Rattle.play_core.proofs.typed_bytes.typed.Goals as goal
 
 pub loop-answer-init : goal.loop-answer-init
-loop-answer-init g c = record {
-  gathers = rw typed-nil (Gathers-start _ _ c.new-text.ensures refl);
-  few = omega (arith, ap length c.new-text.ensures);
-  failed = refl;
-}
+loop-answer-init g c = search (rules, typed-nil, Gathers-start)
 
 pub loop-answer-preserved : goal.loop-answer-preserved
 loop-answer-preserved g c =

@@ -1,5 +1,5 @@
-use Rattle.console_core.proofs.Common.{subst, reverse, sym, slice_get_within, alone, map_of_explored, origin_in}
-use Rattle.console_core.proofs.Common.{HasRoute, LeadsHome, freed, state_of, rules}
+use Rattle.console_core.proofs.Common.{subst, reverse, slice_get_within, alone, map_of_explored, origin_in}
+use Rattle.console_core.proofs.Common.{LeadsHome, freed, state_of, rules}
 use Rattle.console_core.proofs.Exploring.{tap-freed, tap-home}
 use Rattle.console_core.proofs.GoingBack.{searched-back}
 use Rattle.console_core.proofs.explored.Explored.go_and_tap.Goals as goal
@@ -23,10 +23,7 @@ returns-in_ok-next c =
     (rw (← is, ← c.freed.ensures) (c.has_route.ensures.has c.if-has_route.true))
 
 pub come_home-requires : goal.come_home-requires
-come_home-requires c =
-    let e = c.args.self.now in
-    let (x, at, has) = c.requires.route in
-    subst (λ h. HasRoute e.routes.entries (state_of h)) (sym (c.state_at-held.ensures x at)) has
+come_home-requires c = search rules
 
 pub returns-in_ok-come_home : goal.returns-in_ok-come_home
 returns-in_ok-come_home c =

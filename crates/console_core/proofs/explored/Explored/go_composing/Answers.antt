@@ -1,4 +1,4 @@
-use Rattle.console_core.proofs.Common.{reverse, subst, sym, slice_get_within, map_of_explored, HasRoute, LeadsHome}
+use Rattle.console_core.proofs.Common.{reverse, subst, slice_get_within, map_of_explored, LeadsHome}
 use Rattle.console_core.proofs.Common.{state_of, alone, rules}
 use Rattle.console_core.proofs.Approaching.{out-leads, home-leads, dead-leads, met-first, composing-leads}
 use Rattle.console_core.proofs.GoingBack.{searched-back}
@@ -15,10 +15,7 @@ pub state_at-requires : goal.state_at-requires
 state_at-requires c = search (rules, slice_get_within)
 
 pub come_home-requires : goal.come_home-requires
-come_home-requires c =
-    let e = c.args.self.now in
-    let (x, at, has) = c.requires.dead in
-    subst (λ h. HasRoute e.routes.entries (state_of h)) (sym (c.state_at.ensures x at)) has
+come_home-requires c = search rules
 
 pub go_out-requires-2-clause-back : goal.go_out-requires-2-clause-back
 go_out-requires-2-clause-back c = search (rules, searched-back)

@@ -1,4 +1,4 @@
-use Rattle.console_core.proofs.Common.{reverse, sym, true≢false, alone, map_of_explored}
+use Rattle.console_core.proofs.Common.{reverse, true≢false, alone, map_of_explored, rules}
 use Rattle.console_core.proofs.explored.Explored.go_home.Goals as goal
 
 pub come_home-requires : goal.come_home-requires
@@ -13,7 +13,4 @@ returns-in_ok-come_home c =
     )
 
 pub returns-else-has_route : goal.returns-else-has_route
-returns-else-has_route c = (
-  (λ e. absurd (true≢false (sym e))),
-  (λ e. c.has_route.ensures.none c.if-has_route.false),
-)
+returns-else-has_route c = search rules

@@ -1,4 +1,4 @@
-use Rattle.keymap_core.proofs.Common.{◌∙◌, sym, map, to_ascii_lowercase}
+use Rattle.keymap_core.proofs.Common.{◌∙◌, sym, map, to_ascii_lowercase, rules}
 use Rattle.keymap_core.proofs.Meanings.{meaning-screen, meaning-function, meaning-combined, meaning-named}
 use Rattle.keymap_core.proofs.action.Action.named.Goals as goal
 
@@ -7,10 +7,7 @@ returns-in-Some c =
     c.screen.ensures ∙ meaning-screen (map to_ascii_lowercase c.args.word.now) c.in-Some.number c.in-Some.ensures
 
 pub returns-in-Some-number_of : goal.returns-in-Some-number_of
-returns-in-Some-number_of c =
-    c.function.ensures
-    ∙ meaning-function (map to_ascii_lowercase c.args.word.now) c.in-Some-number_of.number c.in_default.ensures
-    c.in-Some-number_of.ensures
+returns-in-Some-number_of c = search (rules, meaning-function)
 
 pub returns-in-Some-action_named : goal.returns-in-Some-action_named
 returns-in-Some-action_named c =
@@ -23,6 +20,4 @@ returns-in-None c =
     (sym c.is_combined.ensures ∙ c.if-is_combined.false) c.in-None.ensures
 
 pub returns-then-is_combined : goal.returns-then-is_combined
-returns-then-is_combined c =
-    meaning-combined (map to_ascii_lowercase c.args.word.now) c.in_default.ensures c.in_default-number_of.ensures
-    (sym c.is_combined.ensures ∙ c.if-is_combined.true)
+returns-then-is_combined c = search (rules, meaning-combined)

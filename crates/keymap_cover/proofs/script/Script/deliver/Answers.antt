@@ -1,4 +1,4 @@
-use Rattle.keymap_cover.proofs.Common.{subst, sym, GoesIfTaken}
+use Rattle.keymap_cover.proofs.Common.{subst, sym, GoesIfTaken, rules}
 use Rattle.console_core.specs.declared.event.Event.TheVariants.{Press}
 use Rattle.keymap_cover.proofs.Walking.{by-taken, no-load, up-taken}
 use Rattle.keymap_cover.proofs.script.Script.deliver.Goals as goal
@@ -20,11 +20,4 @@ returns-in_ok-reset-in_default g c =
     (λ k e. c.in_default.not-Release k e) c.in_ok-reset-in_default.ensures.along
 
 pub returns-in_ok-up-in-Release : goal.returns-in_ok-up-in-Release
-returns-in_ok-up-in-Release g c =
-    let m = c.args.map.now in
-    let old = c.args.self.now in
-    let now = c.up.new.self in
-    let stood = g.T.Translator.stands c.args.console.now in
-    let stands = g.T.Translator.stands c.up.new.console in
-    subst (λ e. GoesIfTaken m e stood old stands now) (sym c.in-Release.is)
-    (up-taken m c.in-Release.key stood old stands now c.in_ok-up-in-Release.ensures.along)
+returns-in_ok-up-in-Release g c = search (rules, up-taken)

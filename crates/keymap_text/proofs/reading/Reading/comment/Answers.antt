@@ -1,4 +1,4 @@
-use Rattle.keymap_text.proofs.Common.{◌≡◌, ◌++◌, ℕ, List, length, take, drop, refl, sym, ◌∙◌, ap, subst, arith}
+use Rattle.keymap_text.proofs.Common.{◌≡◌, ◌++◌, ℕ, List, length, take, drop, refl, ◌∙◌, ap, arith, rules}
 use Rattle.keymap_text.proofs.Common.{length-take-le, leading, stays_on_line}
 use Rattle.keymap_text.proofs.Leading.{leading_front, leading_behind}
 use Rattle.keymap_text.proofs.Standing.{comment_ends, comment_goes}
@@ -7,9 +7,7 @@ use Rattle.keymap_text.proofs.reading.Reading.comment.Goals as goal
 -- the bytes of a piece that stay on its first line
 on_line : (piece : List ℕ) (n : ℕ) → n ≡ leading stays_on_line piece
     → leading stays_on_line (take n piece) ≡ length (take n piece)
-on_line piece n e =
-    subst (λ n. leading stays_on_line (take n piece) ≡ length (take n piece)) (sym e)
-    (leading_front stays_on_line piece)
+on_line piece n e = search (rules, leading_front)
 
 pub returns-then-n-piece : goal.returns-then-n-piece
 returns-then-n-piece c =

@@ -1,4 +1,4 @@
-use Rattle.keymap_text.proofs.Common.{◌≡◌, ◌++◌, ℕ, List, [], ◌∷◌, length, refl, sym, ◌∙◌, ap, subst, arith, eqb-true}
+use Rattle.keymap_text.proofs.Common.{◌++◌, ℕ, List, [], ◌∷◌, length, refl, sym, ◌∙◌, ap, subst, arith, eqb-true, rules}
 use Rattle.keymap_text.proofs.Common.{IsOpen, state_view}
 use Rattle.keymap_text.proofs.Scanning.{not_none, stays}
 use Rattle.keymap_text.proofs.Standing.{extended, comment_kept, is_nil}
@@ -10,12 +10,7 @@ extend-requires c =
     omega (arith, open_few c.args.tail.now c.requires.tail c.if-tail-eq35.false, ap length c.requires.none)
 
 pub returns-then-is_empty : goal.returns-then-is_empty
-returns-then-is_empty c =
-    let r = c.args.self.now in
-    let tail = c.args.tail.now in
-    let nil : tail ≡ [] = is_nil tail (eqb-true _ _ (sym c.is_empty.ensures ∙ c.if-is_empty.true)) in
-    extended r r (r.pending.items ++ tail) tail [] 0 (stays (state_view r) (r.pending.items ++ tail)) refl refl
-    (c.requires.none ∙ sym (ap (λ (p : List ℕ). p ++ tail) c.requires.none ∙ nil)) refl refl c.requires.reader
+returns-then-is_empty c = search (rules, is_nil, eqb-true, extended, stays)
 
 pub returns-then-tail-eq35 : goal.returns-then-tail-eq35
 returns-then-tail-eq35 c =

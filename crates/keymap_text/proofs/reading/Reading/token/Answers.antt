@@ -1,6 +1,6 @@
 use Rattle.keymap_text.proofs.Common.{◌≡◌, ◌+◌, ◌-◌, ◌<◌, ◌≤◌, ◌++◌, ℕ, List, length, take, drop, get_or, refl, sym}
-use Rattle.keymap_text.proofs.Common.{◌∙◌, ap, subst, arith, Ok, length-append, length-take-le, take-append-drop}
-use Rattle.keymap_text.proofs.Common.{IsFalse, Reading, separates, GrammarState, Advances, Refuses, IsOpen, state_view}
+use Rattle.keymap_text.proofs.Common.{◌∙◌, ap, subst, arith, Ok, length-append, length-take-le, take-append-drop, rules}
+use Rattle.keymap_text.proofs.Common.{Reading, GrammarState, Advances, Refuses, IsOpen, state_view}
 use Rattle.keymap_text.proofs.Common.{grammar_view, IsPlace}
 use Rattle.keymap_text.proofs.Lines.{pending_line}
 use Rattle.keymap_text.proofs.Standing.{extended, passed, breaks, advances_more, refuses_more, joined, of_map}
@@ -13,21 +13,10 @@ few-few-requires c =
     omega (arith, open_few c.args.self.now.pending.items c.requires.reader.tail c.requires.token)
 
 pub next-requires-clause-stands : goal.next-requires-clause-stands
-next-requires-clause-stands c =
-    let p = c.args.self.now.pending.items in
-    subst (λ c. IsFalse (separates c)) (sym (ap (λ (t : List ℕ). get_or t 0 0) (c.as_slice.ensures.value
-    ∙ c.extend.ensures) ∙ first_same p _ c.requires.some))
-    (open_stands p c.requires.some c.requires.reader.tail c.requires.token)
+next-requires-clause-stands c = search (rules, first_same, open_stands)
 
 pub overflow_sub-taken : goal.overflow_sub-taken
-overflow_sub-taken c =
-    let n = c.in-Ok.n in
-    let some : 0 < n = omega (arith, c.in-Ok.n-test) in
-    let found = c.in-Ok.ensures.found some in
-    let longer = open_longer c.as_slice.result.now c.args.self.now.pending.items _ found.0 n
-    (c.as_slice.ensures.value ∙ c.extend.ensures) c.requires.some c.requires.reader.tail c.requires.token found.1
-    some in
-    omega (arith, longer, c.len-had.ensures.value)
+overflow_sub-taken c = search (rules, open_longer)
 
 pub returns-in-Ok-eq0 : goal.returns-in-Ok-eq0
 returns-in-Ok-eq0 c =

@@ -267,6 +267,44 @@ fn push_keyed(keyed: &mut Vec<Keyed>, one: Keyed) -> Result<(), AllocError>
     Ok(())
 }
 
+/// Types characters one after another from no key pressed, and goes home. What it fills is empty.
+fn type_each<'m>(
+    explorations: &mut Explorations<'m>,
+    known: &mut Known,
+    alloc: Global,
+    map: &'m KeyMap,
+    characters: &[char],
+    typing: &mut Typing,
+) -> Result<(), TypingError>
+    requires explorations { AreExplorations map.now explorations.old.entries }
+    requires known { AreKnown map.now known.old.entries }
+    requires keyed { typing.old.keyed.items ≡ [] }
+    requires events { typing.old.events.items ≡ [] }
+    ensures typed { OnOk result (AreTyped map.now characters.now typing.new) }
+    ensures error { IfErr result (λ error. IsTypingError map.now characters.now error) }
+{
+    let mut from = Held::start();
+    let mut place = 0;
+    while place < characters.len() {
+        let character = characters[place];
+        let sought = Sought { from, character };
+        match type_next(explorations, known, alloc, &mut typing.events, map, &sought)? {
+            Typed::To(next) => from = next,
+            Typed::NoWay => return Err(TypingError::NoWay(place)),
+            Typed::TooManyStates => return Err(TypingError::TooManyStates),
+        }
+        let end = typing.events.len();
+        push_keyed(&mut typing.keyed, Keyed { character, end })?;
+        place += 1;
+    }
+    see(explorations, alloc, map, &from)?;
+    if explored_from(explorations, &from).go_home(&mut typing.events)? {
+        Ok(())
+    } else {
+        Err(TypingError::TooManyStates)
+    }
+}
+
 /// Types characters one after another.
 pub fn type_characters(
     alloc: Global,
@@ -278,33 +316,17 @@ pub fn type_characters(
 {
     let mut explorations = IndexMap::new(alloc);
     let mut known = IndexMap::new(alloc);
-    let mut keyed = Vec::new(alloc);
-    let mut events = Vec::new(alloc);
-    let mut from = Held::start();
-    let mut place = 0;
-    while place < characters.len() {
-        let character = characters[place];
-        let sought = Sought { from, character };
-        match type_next(
-            &mut explorations,
-            &mut known,
-            alloc,
-            &mut events,
-            map,
-            &sought,
-        )? {
-            Typed::To(next) => from = next,
-            Typed::NoWay => return Err(TypingError::NoWay(place)),
-            Typed::TooManyStates => return Err(TypingError::TooManyStates),
-        }
-        let end = events.len();
-        push_keyed(&mut keyed, Keyed { character, end })?;
-        place += 1;
-    }
-    see(&mut explorations, alloc, map, &from)?;
-    if explored_from(&explorations, &from).go_home(&mut events)? {
-        Ok(Typing { keyed, events })
-    } else {
-        Err(TypingError::TooManyStates)
-    }
+    let mut typing = Typing {
+        keyed: Vec::new(alloc),
+        events: Vec::new(alloc),
+    };
+    type_each(
+        &mut explorations,
+        &mut known,
+        alloc,
+        map,
+        characters,
+        &mut typing,
+    )?;
+    Ok(typing)
 }

@@ -1,11 +1,11 @@
 # make               proves and builds the program and the C library, and leaves them at crates/kmap/out/kmap and
 #                    crates/kmap_c/out/libkmap_c.a, libkmap.so beside it, with the header include/kmap.h; at once
 #                    where nothing changed
-# make quick         types a line without any proof: QUICK='check de.kbd' FILES=examples/de.kbd for
-#                    other arguments and files
-# make test          proves and builds what changed, and runs the scripts of tests/ on it: while working on a line
-# make check         proves every crate that this machine has not proved as it stands, tries its edits that must be
-#                    refused, and runs all tests
+# make quick         types a line with a program that is built without a proof, once: QUICK='check de.kbd' for other words,
+#                    in examples/
+# make test          runs all tests on what it builds without a proof, in minutes
+# make check         the gate: `make test`, then proves every crate that this machine has not proved as it stands, tries
+#                    its edits that must be refused, and runs the scripts on what is proved
 # make bench         measures the program on large inputs, and fails where a limit of bench/limits is passed
 # make install       installs the program, the C library with its header, manual pages, completions, examples and
 #                    documents below $(DESTDIR)$(PREFIX), and writes nothing here where all is built
@@ -30,7 +30,6 @@ EXAMPLE_FILES = de.kbd de.script kmap.py line.numbers line.script load.c test_ke
 # The documents for users; ARCHITECTURE and DECISIONS are for those who work on the repository.
 DOCUMENTS = docs/FORMATS.md docs/GUIDE.md docs/PROOFS.md docs/TRANSLATION.md docs/de.svg
 QUICK = play us.kbd line.script --typed
-FILES = examples/us.kbd examples/line.script
 PROGRAM = crates/kmap/out/kmap
 LIBRARY = crates/kmap_c/out/libkmap_c.a
 SHARED = crates/kmap_c/out/libkmap.so
@@ -58,19 +57,18 @@ all:
 	@RT="$(RT)" sh build.sh kmap_c out/libkmap_c.a lib
 	@$(LINK_SHARED)
 
-# What `rt try` builds is run once and not kept, so nothing else takes it.
+# The program that it runs, crates/kmap/out/unproved/kmap, is taken by nothing else.
 quick:
-	@top=$$(pwd); for file in $(FILES); do set -- "$$@" --data "$${file##*/}=$$top/$$file"; done; \
-	    cd crates/kmap && "$(RT)" try "$$@" -- $(QUICK)
-	@echo "nothing was proved, and no program is left: that is what make is for"
+	@cd examples && RT="$(RT)" python3 ../tests/unproved --program $(QUICK)
+	@echo "nothing was proved: that is what make is for"
 
-test: all
-	@RT="$(RT)" sh build.sh calls out/calls run -- read_map
-	$(MAKE) scripts
+# All tests that run something, on what is built without a proof in a copy.
+test:
+	@RT="$(RT)" CC="$(CC)" MAKE="$(MAKE)" python3 tests/unproved
 
 # `rt ci` builds both programs anew, each by LLVM and by Rattle's own compiler (.by-rattle), and the scripts take what it
 # leaves. It proves the C library and leaves none, so that is built over what it proved.
-check:
+check: test
 	RT="$(RT)" python3 tests/refused
 	RT="$(RT)" python3 tests/archive kmap_c
 	$(MAKE) scripts
@@ -82,14 +80,19 @@ other-build:
 	sh tests/swapped_names.sh $(PROGRAM).by-rattle
 	sh tests/both_builds.sh $(PROGRAM) $(PROGRAM).by-rattle
 
-# the tests of what is built; `make check` builds the static library alone
-scripts:
+# the tests of what stands in the repository, and of the scripts themselves: `make test` alone runs these
+texts:
 	@$(LINK_SHARED)
 	sh tests/statements.sh
 	sh tests/names.sh
 	sh tests/words.sh
 	sh tests/modules.sh
 	python3 -B bench/unseen.py --check
+	sh tests/checks.sh $(PROGRAM)
+
+# the tests of what is built; `make check` builds the static library alone
+scripts:
+	@$(LINK_SHARED)
 	sh tests/version.sh $(PROGRAM)
 	sh tests/transcripts.sh $(PROGRAM)
 	sh tests/files.sh $(PROGRAM)
@@ -103,7 +106,6 @@ scripts:
 	sh tests/refused_memory.sh $(PROGRAM)
 	sh tests/refused_calls.sh $(CALLS)
 	sh tests/linear.sh $(PROGRAM)
-	sh tests/checks.sh $(PROGRAM)
 
 bench: all
 	@RT="$(RT)" sh build.sh calls out/calls run -- read_map
@@ -156,4 +158,4 @@ dist: all
 clean:
 	rm -rf crates/*/out kmap-*.tar.gz
 
-.PHONY: all quick test check other-build scripts bench install uninstall dist clean
+.PHONY: all quick test check other-build texts scripts bench install uninstall dist clean

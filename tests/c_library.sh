@@ -220,7 +220,7 @@ assert str(Action(1)) == "" and repr(Action(2)) == "<Action 2 lshift>"' "$exampl
             holds "the sanitizers find nothing in $calls" silent ./$calls
         done
     else
-        echo 'skipped: there are no sanitizers'
+        skip 'there are no sanitizers'
     fi
     # Of the library's own loads and stores this one sees those that copy and fill memory, and all of its caller's.
     if $cc -fsanitize=thread none.c -o none 2> /dev/null && ./none; then
@@ -230,7 +230,7 @@ assert str(Action(1)) == "" and repr(Action(2)) == "<Action 2 lshift>"' "$exampl
         holds "no thread waits for or races with another: $said" \
             [ "$said" = '0 wrong in threads, 0 wrong in interrupts' ]
     else
-        echo 'skipped: there is no sanitizer for threads'
+        skip 'there is no sanitizer for threads'
     fi
 
     # Without a C library, and for FreeBSD.
@@ -257,9 +257,11 @@ assert str(Action(1)) == "" and repr(Action(2)) == "<Action 2 lshift>"' "$exampl
     awk '{ print $1 }' told | sort > wanted
     awk '{ print $1 }' took | sort > got
     same_text 'each call is made on a painted stack' wanted got
+    # Checks that take stack as well stay in what is built without a proof (tests/unproved).
+    [ -z "${UNPROVED:-}" ] || skip 'the stack of a library that is built without a proof'
     while read -r name bytes; do
         most=$(awk -v name="$name" '$1 == name { print $2 }' told)
-        holds "$name takes $bytes bytes of stack, and at most $most" within "$bytes" "$most"
+        [ -n "${UNPROVED:-}" ] || holds "$name takes $bytes bytes of stack, and at most $most" within "$bytes" "$most"
     done < took
 
     # No more than before the library read texts.

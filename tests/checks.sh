@@ -146,44 +146,83 @@ rm copy/tests/transcripts/*
 refuses 'failed: there is no .*/copy/tests/transcripts/' transcripts
 cp "$top"/tests/transcripts/*.t copy/tests/transcripts
 
-# Edits that must fail, by a kit that only tells: one that is refused where its file says, elsewhere, in a branch, for a
-# name that is gone, one that can't be applied, one of which nothing is told, one that says nothing, and none at all.
-edit=crates/keymap_check/must-fail/steady_despite_nop.edit
-mv copy/$edit steady
+# Edits that must fail, by a kit that only tells what a prover said: two of a file that are refused where it says, one that
+# is refused elsewhere, in a branch, for a name that is gone, ones that can't be applied, of which nothing is told, that say
+# nothing, and none at all. And a kit that has no such function.
+file=crates/keymap_check/must-fail/promises.edit
 rm -r copy/crates/*/must-fail
-mkdir "copy/${edit%/*}"
-cp steady copy/$edit
-printf '#!/bin/sh\ncat "%s/told"\nexit "${ENDS:-0}"\n' "$folder" > rt
+mkdir -p "copy/${file%/*}" kit/bin
+cat > "copy/$file" << 'EDIT'
+# A lock is called steady whose key has a nop.
+# refused: is_acting returns
+file: src/bearer.rt
+old: !survey.has(key, Kind::CharacterOrNop)
+new: !survey.has(key, Kind::Character)
+
+# The check accepts every keymap.
+# refused: accepted whole
+file: src/report.rt
+old: self.findings.is_empty()
+new: self.findings.is_empty() || true
+EDIT
+cp "copy/$file" both
+cat > kit/bin/rt << 'PY'
+import os, types
+REFUSED = "refused"
+class Kept:
+    def tried(self, name): return None
+def say(text, out=None): print("rt:", text)
+def kit_sum(): return ""
+rtlib = types.SimpleNamespace(text_of=lambda path: open(path).read())
+def read_edit(edit, folder): return {}, None
+def checked(*given): return types.SimpleNamespace(stdout=open(os.environ["TOLD"]).read())
+def must_fail(crate, edit, flags, kept=None):
+    said = checked().stdout
+    kind = REFUSED if said.startswith(("note", "proofs")) else "bad"
+    return kind, f"must-fail {crate.name}/{os.path.basename(edit)}: {said.partition(chr(10))[0]}"
+def main(words):
+    if open(os.environ["TOLD"]).read():
+        crate = types.SimpleNamespace(name="keymap_check", folder="crates/keymap_check")
+        say(must_fail(crate, "crates/keymap_check/must-fail/promises.edit", [])[1])
+    return int(os.environ.get("ENDS", 0))
+PY
+printf '#!/bin/sh\necho "%s/kit/START-HERE.md"\n' "$folder" > rt
 chmod +x rt
-number=$(grep -n '^fn is_acting' copy/crates/keymap_check/src/bearer.rt | cut -d: -f1)
-tells() { echo "rt: must-fail keymap_check/steady_despite_nop.edit: $1" > told; }
+TOLD=$folder/told
+export TOLD
+at=$(grep -n '^fn is_acting' copy/crates/keymap_check/src/bearer.rt | cut -d: -f1)
+also=$(grep -n 'fn accepted' copy/crates/keymap_check/src/report.rt | cut -d: -f1)
+also="src/report.rt:$also:1: it is not proved (\`returns-clause-whole\`)"
+tells() { printf 'note: %s\n' "$@" > told; }
 is_refused() { RT=$folder/rt python3 copy/tests/refused; }
-wrong="$edit: the file says is_acting returns, the kit tells"
-tells "refused, as it must be: note: src/bearer.rt:$((number + 4)):5: it is not proved (\`returns\`)"
-holds 'an edit is refused where its file says' is_refused > said
-holds 'the edits are counted' grep -qx '1 edits refused where they say, 0 not' said
+wrong="$file: the file says is_acting returns, the kit tells"
+tells "src/bearer.rt:$((at + 4)):5: it is not proved (\`returns\`)" "$also"
+holds 'edits are refused where their file says' is_refused > said
+holds 'the edits are counted' grep -qx '2 edits refused where they say, 0 not' said
 export ENDS=3
 is_refused > said
 holds 'the status of the kit is passed on' [ $? -eq 3 ]
 unset ENDS
-tells "refused, as it must be: note: src/bearer.rt:$((number - 8)):5: it is not proved (\`returns\`)"
-refuses "$wrong bearer_of returns" is_refused
-tells "refused, as it must be: note: src/bearer.rt:$number:1: it is not proved (\`returns-then-key\`)"
-refuses "$wrong is_acting returns-then-key" is_refused
-tells "refused, as it must be: note: src/bearer.rt:$number:1: it is not proved (\`returns-in_err-x-clause-kept\`)"
-refuses "$wrong is_acting kept" is_refused
-tells 'refused, as it must be: proofs/Steady.antt:1:1: error: `steady` is not proved'
-refuses "$wrong Steady.antt steady" is_refused
-tells 'refused, as it must be (only because a proof file names it): proofs/A.antt:1:1: error: `a`'
-refuses "$wrong refused, as it must be (only" is_refused
-tells 'BAD EDIT: it stands there no more'
+tells "src/bearer.rt:$((at - 8)):5: it is not proved (\`returns\`)" "$also"
+refuses "$wrong accepted whole, bearer_of returns" is_refused
+tells "src/bearer.rt:$at:1: it is not proved (\`returns-then-key\`)" "$also"
+refuses "$wrong accepted whole, is_acting returns-then-key" is_refused
+tells "src/bearer.rt:$at:1: it is not proved (\`returns-in_err-x-clause-kept\`)" "$also"
+refuses "$wrong accepted whole, is_acting kept" is_refused
+tells 'proofs/Steady.antt:1:1: error: `steady` is not proved' "$also"
+refuses "$wrong Steady.antt steady, accepted whole" is_refused
+holds 'the other edit is refused' grep -qx '1 edits refused where they say, 1 not' said
+echo 'BAD EDIT: it stands there no more' > told
 refuses "$wrong BAD EDIT" is_refused
 : > told
 refuses "$wrong nothing" is_refused
-sed '/^# refused/d' steady > copy/$edit
-refuses "$edit: the file says nothing" is_refused
-rm copy/$edit
+sed '/^# refused: is_acting/d' both > "copy/$file"
+refuses "$file: it does not say where it is refused: # A lock is called steady" is_refused
+rm "copy/$file"
 refuses '0 edits refused where they say, 0 not' is_refused
+sed -i 's/^def must_fail/def try_edit/' kit/bin/rt
+refuses 'tests/kit.py knows .*, and this kit has no `must_fail` in bin/rt' is_refused
+unset TOLD
 
 # What is measured against limits, by the end of the script that measures: a limit that is passed, one of nothing that
 # is measured, a measure without a limit, and one that is no number.
@@ -271,7 +310,7 @@ END
     breaks include/kmap.h 's/Stack: 18,000/Stack: 17,000/; s/KMAP_BAD_EVENT (-2)/KMAP_BAD_EVENT (-9)/'
     breaks tests/c_library.sh 's/ 5712$/ 4096/'
     breaks tests/c_texts.c 's/uint8_t text.256.;/static uint8_t text[16];/; s/, sizeof text, &size/, 256, \&size/'
-    sh copy/tests/c_library.sh "$program" "$made/libkmap_c.a" 0 > said 2>&1
+    UNPROVED= sh copy/tests/c_library.sh "$program" "$made/libkmap_c.a" 0 > said 2>&1
     holds 'the script of the C library succeeds' [ $? -ne 0 ]
     for line in 'libkmap_c.a wants nothing more: getpid' 'libkmap_c.a exports what' 'c_library tables: ' \
         'libkmap.so wants nothing more: getpid' 'libkmap.so exports what' 'kmap_read_text takes'; do

@@ -218,7 +218,7 @@ if [ "$(id -u)" -eq 0 ]; then
     # shellcheck disable=SC2086 # they are words
     if ! $as_nobody "$program" --version > stdout 2>&1; then
         as_nobody=none
-        echo 'skipped: nobody may not run the program, or there is no setpriv, and the superuser has all rights'
+        skip 'nobody may not run the program, or there is no setpriv, and the superuser has all rights'
     fi
 fi
 if [ "$as_nobody" != none ]; then

@@ -82,7 +82,7 @@ follows() {
         want=$folder/work/blocks/want.$number
         lacks=$(missing "$run")
         if [ -n "$lacks" ]; then
-            echo "skipped: there is no" $lacks
+            skip "there is no $(echo $lacks)"
             unmade="$unmade $(grep -oE '> *[a-z][a-z0-9.-]*' "$run" | tr -d '> ' | tr '\n' ' ')"
         elif [ "${run##*/}" = "run.$number" ]; then
             sh "$run" 2>&1 | awk 1 > "$folder/work/got"

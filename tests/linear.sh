@@ -20,8 +20,10 @@ trap 'rm -rf "$folder"' EXIT
 cd "$folder" || exit 1
 . "$top/bench/costs.sh"
 if [ $unit != instructions ]; then
-    echo 'skipped: there is neither perf nor valgrind, so nothing counts instructions'
-    exit 0
+    skip 'there is neither perf nor valgrind, so nothing counts instructions'
+    holds 'the program runs' "$program" --version > /dev/null
+    counted
+    exit
 fi
 
 # grows NAME COMMAND FIXED SMALL LARGE: a run of the command over the large file costs at most five times what one over

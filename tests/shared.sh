@@ -1,9 +1,10 @@
 # For the scripts beside it, which read it: counts what held and what failed, and takes the program's help apart.
-# A script ends by `counted`, so its last line is 'N passed, M failed', and its status is 0 where something was looked
-# at and none failed.
+# A script ends by `counted`, so its last line is 'N passed, M failed', with what was skipped and why, and its status is
+# 0 where something was looked at and none failed.
 
 passed=0
 failed=0
+skips=
 
 # holds NAME COMMAND..: the command succeeds
 holds() {
@@ -23,10 +24,19 @@ same_text() {
     cmp -s "$2" "$3" || diff "$2" "$3"
 }
 
-# is_there COMMAND: the command is installed; if not, a line says that its tests are skipped
+# skip WHY: tests are left out; the last line tells it too, once
+skip() {
+    echo "skipped: $1"
+    case "; $skips; " in
+    *"; $1; "*) ;;
+    *) skips=${skips:+$skips; }$1 ;;
+    esac
+}
+
+# is_there COMMAND: the command is installed; if not, its tests are skipped
 is_there() {
     command -v "$1" > /dev/null && return
-    echo "skipped: there is no $1"
+    skip "there is no $1"
     return 1
 }
 
@@ -94,6 +104,6 @@ END
 }
 
 counted() {
-    echo "$passed passed, $failed failed"
+    echo "$passed passed, $failed failed${skips:+ (skipped: $skips)}"
     [ $failed -eq 0 ] && [ $passed -gt 0 ]
 }

@@ -18,7 +18,7 @@ trap 'rm -rf "$folder"' EXIT
 cd "$folder" || exit 1
 
 if ! command -v "${CC:-cc}" > /dev/null; then
-    echo "skipped: there is no C compiler ${CC:-cc}, so no name can be swapped; set CC"
+    skip "there is no C compiler ${CC:-cc}, so no name can be swapped; set CC"
     holds 'the program runs' "$program" --version > /dev/null
     counted
     exit
@@ -96,7 +96,7 @@ if [ "$(id -u)" -eq 0 ]; then
         holds 'a text becomes a link: the other text stays' cmp -s odd other
         holds 'a text becomes a link: nothing beside it' [ ! -e other.kmap-fmt ]
     else
-        echo 'skipped: the program does not read by the C library'
+        skip 'the program does not read by the C library'
     fi
 
     # What is undisturbed has the owner of the old file.
@@ -130,7 +130,7 @@ if [ "$(id -u)" -eq 0 ] && is_there setpriv; then
         wait $racer 2> /dev/null
         holds "a race is lost 60 times of 60 ($lost)" [ $lost -eq 60 ]
     else
-        echo 'skipped: nobody may not run the racer'
+        skip 'nobody may not run the racer'
     fi
 fi
 

@@ -56,8 +56,8 @@ pub use Rattle.console_core.specs.Types.{Act, Action, Alt, AltShift, Answer, Cap
 pub use Rattle.console_core.specs.Types.{Holding, LeftAlt, LeftControl, LeftShift, LetGo, Load, Lock, Meta, Modifier}
 pub use Rattle.console_core.specs.Types.{Move, Never, Num, Offer, Press, Release, Reset, RightAlt, RightControl}
 pub use Rattle.console_core.specs.Types.{RightShift, Scroll, Selection, Sight, Sights, Sticks, Turn, Undecided}
-pub use Rattle.console_core.specs.Typing.{CanTap, CanType, ComesHome, IsAsNew, IsTapOf, cell_of, composed_of, plainly}
-pub use Rattle.console_core.specs.Typing.{types_something}
+pub use Rattle.console_core.specs.Typing.{CanTap, CanType, ChangeKeys, ComesHome, IsAsNew, IsTapOf, cell_of}
+pub use Rattle.console_core.specs.Typing.{composed_of, plainly, types_something}
 pub use Rattle.console_core.specs.declared.explored.Explored.{Explored}
 pub use Rattle.console_core.specs.declared.explored.Symbol.{Symbol}
 pub use Rattle.console_core.specs.declared.explored.Tap.{Tap}

@@ -1,6 +1,7 @@
 -- Taps of keys in states that moves lead to: where they lead, and what they type.
 use Rattle.console_core.proofs.Common.{cases_Bool, ◌≡◌, ◌+◌, ◌<◌, ℕ, Bool, true, false, List, [], ◌∷◌, ◌++◌, Option}
 use Rattle.console_core.proofs.Common.{Some, None, refl, ap, subst, sym, ◌∙◌, inl, inr, arith, append_assoc, map}
+use Rattle.console_core.proofs.Common.{false_from_ne_true, pressed, ChangeKeys, IsFree, IsQuiet}
 use Rattle.console_core.proofs.Common.{reverse, if◌then◌else◌, ◌==◌, true≢false, eqb-true, eq-eqb, reverse-append}
 use Rattle.console_core.proofs.Common.{All-cons, none-some, same_modifier, modifier_index, same_action, holding_action}
 use Rattle.console_core.proofs.Common.{own_of, MapValue, accent_at, key_count, Action, Holding, Modifier, Meta, Cell}
@@ -12,15 +13,15 @@ use Rattle.console_core.proofs.Common.{is_second_in_force, accent_pending_after,
 use Rattle.console_core.proofs.Common.{remembered_after, look_after, answer_to_look, Under, alone, State, Holds, IsIdle}
 use Rattle.console_core.proofs.Common.{IsMove, look_in, is_held, with_holder, IsPathFrom, state_from, events_along}
 use Rattle.console_core.proofs.Common.{events_of_move, IsTapOf, composed_of, types_something, plainly, LetsGo}
-use Rattle.console_core.proofs.Common.{GoesAndTaps, HasTyped, typed_along, kept_if, Exact, Stands, rules}
+use Rattle.console_core.proofs.Common.{GoesAndTaps, HasTyped, typed_along, kept_if, Exact, HoldsSome, Stands, rules}
 use Rattle.console_core.specs.Answers.{answer_dead_key}
 use Rattle.console_core.proofs.Going.{pending-along, pending-is}
 use Rattle.console_core.proofs.OneMore.{one_map, resolved-more, held-character, held-action, held-release}
 use Rattle.console_core.proofs.OneMore.{remembered-character, pending-character, pending-action, pending-release}
-use Rattle.console_core.proofs.OneMore.{remembered-action}
+use Rattle.console_core.proofs.OneMore.{remembered-action, pressed-press}
 use Rattle.console_core.proofs.Prefixes.{answers_by_cases}
 use Rattle.console_core.proofs.Scripts.{tap-only, idle-none, other-remembered, pressed-look, stands-from}
-use Rattle.console_core.proofs.Scripts.{tapped-pressed}
+use Rattle.console_core.proofs.Scripts.{tapped-pressed, holder-pressed}
 use Rattle.console_core.proofs.Searching.{place_last}
 use Rattle.console_core.proofs.Unscrolled.{same_states}
 use Rattle.console_core.proofs.Staying.{follows-character, follows-look, follows-nothing, follows-release, not_holding}
@@ -191,6 +192,41 @@ typed-path m h s [] st is = refl
 typed-path m h s (move ∷ path) st is =
     search (rules, append_assoc, typed-move, stands-from, typed-path m h s path st is.1)
 
+-- ---- which keys are pressed
+
+-- a key that holds nothing isn't pressed
+idle-up : (u : Under) (h : List Event) (s : State) (k : ℕ) → Stands u h s → IsIdle s k → pressed k h ≡ false
+idle-up u h s k x idle =
+    false_from_ne_true (pressed k h) (λ p. let w : HoldsSome s k = x.pressed k p in idle w.0 w.1)
+
+-- where nothing is held no key is pressed
+pub quiet-free : (u : Under) (h : List Event) (s : State) → Stands u h s → IsFree s → IsQuiet h
+quiet-free u h s x free k lt = idle-up u h s k x (λ i holds. none-some k (sym (free i) ∙ holds))
+
+-- a tap presses a released key, and releases it
+changes-tap : (u : Under) (h : List Event) (s : State) (k : ℕ) → Stands u h s → IsIdle s k → ChangeKeys h
+    → ChangeKeys (Release k ∷ Press k ∷ h)
+changes-tap u h s k x idle changes =
+    (rw (pressed-press k k h, eq-eqb k k refl) refl, (idle-up u h s k x idle, changes))
+
+-- so does a move
+changes-move : (m : MapValue) (h : List Event) (s : State) (move : Move) → IsMove (alone m) s move
+    → Stands (alone m) h s → ChangeKeys h
+    → ChangeKeys (events_of_move move ++ h)
+changes-move m h s (Hold k i) (lt, idle, seen, free) st changes = (idle-up (alone m) h s k st idle, changes)
+changes-move m h s (Turn k l) (lt, idle, seen) st changes = changes-tap (alone m) h s k st idle changes
+changes-move m h s (LetGo k i) holds st changes = (holder-pressed (alone m) h s i k st holds, changes)
+changes-move m h s Exchange (free, loads) st changes = absurd (true≢false (sym loads))
+
+changes-path : (m : MapValue) (h : List Event) (s : State) (path : List Move) → Stands (alone m) h s
+    → IsPathFrom (alone m) s path → ChangeKeys h
+    → ChangeKeys (events_along path ++ h)
+changes-path m h s [] st is changes = changes
+changes-path m h s (move ∷ path) st is changes =
+    rw (append_assoc (events_of_move move) (events_along path) h)
+    (changes-move m (events_along path ++ h) (state_from (alone m) s path) move is.0
+    (stands-from (alone m) h s path st is.1) (changes-path m h s path st is.1 changes))
+
 -- ---- what is typed
 
 -- along moves nothing more is
@@ -199,6 +235,7 @@ pub walked : (m : MapValue) (h : List Event) (s : State) (p : Option ℕ) (cs : 
     → HasTyped m (events_along path ++ h) (state_from (alone m) s path) p cs
 walked m h s p cs path x is = record {
   stands = stands-from (alone m) h s path x.stands is;
+  changes = changes-path m h s path x.stands is x.changes;
   pending = cc (pending-is m (events_along path ++ h), pending-along m h s path x.stands is, pending-is m h, x.pending);
   typed = typed-path m h s path x.stands is ∙ x.typed;
 }
@@ -227,6 +264,7 @@ pub tap-direct : (m : MapValue) (h : List Event) (s : State) (cs : List ℕ) (c 
     → HasTyped m (Release k ∷ Press k ∷ h) s None (cs ++ c ∷ [])
 tap-direct m h s cs c k x is = record {
   stands = stands-tap (alone m) h s true (symbol.Character c) k x.stands is;
+  changes = changes-tap (alone m) h s k x.stands is.1 x.changes;
   pending = cc (pending-tap m h s k (Char c) None x.stands is.2 (pending-character m k c (resolved (between m m) h)));
   typed =
       typed-release m (Press k ∷ h) k
@@ -252,6 +290,7 @@ tap-dead m h s cs i k x is can =
     let still : pending m r ≡ None = sym (pending-is m h) ∙ x.pending in
     record {
       stands = stands-tap (alone m) h s false (symbol.DeadKey i) k x.stands is;
+      changes = changes-tap (alone m) h s k x.stands is.1 x.changes;
       pending =
           pending-tap m h s k (Act (act.DeadKey i)) (Some i) x.stands is.2
           (rw (pending-action m k (act.DeadKey i) r, free, still) (dead-makes m i can));
@@ -282,6 +321,7 @@ pub tap-composed : (m : MapValue) (h : List Event) (s : State) (cs : List ℕ) (
     → HasTyped m (Release k ∷ Press k ∷ h) s None (cs ++ c ∷ [])
 tap-composed m h s cs i (symbol.Character b) c k x is can made = record {
   stands = stands-tap (alone m) h s true (symbol.Character b) k x.stands is;
+  changes = changes-tap (alone m) h s k x.stands is.1 x.changes;
   pending = cc (pending-tap m h s k (Char b) None x.stands is.2 (pending-character m k b (resolved (between m m) h)));
   typed =
       typed-release m (Press k ∷ h) k
@@ -303,6 +343,7 @@ tap-composed m h s cs i (symbol.DeadKey j) c k x is can made =
         let still : pending m r ≡ Some i = sym (pending-is m h) ∙ x.pending in
         record {
           stands = stands-tap (alone m) h s true (symbol.DeadKey i) k x.stands is;
+          changes = changes-tap (alone m) h s k x.stands is.1 x.changes;
           pending =
               pending-tap m h s k (Act (act.DeadKey i)) None x.stands is.2
               (rw (pending-action m k (act.DeadKey i) r, free, still) (own-ends m i can));

@@ -7,7 +7,7 @@ use Rattle.console_core.proofs.Common.{All-nil, none-some, same_Some, MapValue, 
 use Rattle.console_core.proofs.Common.{answers_to, accent_pending_after, HasKey, HasKeys, alone}
 use Rattle.console_core.proofs.Common.{State, start, state_from, events_along, pending, CanType, IsAsNew, plainly}
 use Rattle.console_core.proofs.Common.{types_something, GoesHome, HasTyped, CanReturn, TypesOne, kept_if, typed_along}
-use Rattle.console_core.proofs.Common.{Stands, append-nil}
+use Rattle.console_core.proofs.Common.{IsQuiet, Stands, append-nil}
 use Rattle.std.proofs.Math.Seq.{drop-append_seam}
 use Rattle.std.proofs.lemmas.List.{map_push, length-append, length-map, length-take-le, take-append-le}
 use Rattle.std.proofs.lemmas.List.Elements.{All-push}
@@ -20,7 +20,7 @@ use Rattle.console_core.proofs.Exploring.{home-start, start-returns}
 use Rattle.console_core.proofs.Scripts.{idle-none, stands-start}
 use Rattle.console_core.proofs.OneMore.{pending-start, resolved-start}
 use Rattle.console_core.proofs.Going.{pending-is}
-use Rattle.console_core.proofs.Taps.{walked}
+use Rattle.console_core.proofs.Taps.{quiet-free, walked}
 use Rattle.console_core.proofs.Visits.{path-first}
 
 -- a console that stands at the start, with nothing pending, is as a new one
@@ -78,6 +78,7 @@ typed-none m cs keyed es s none nothing is = record {
   can = All-nil (λ c. CanType m c);
   typed = record {
     stands = rw (nothing, is) (stands-start (alone m));
+    changes = rw nothing tt;
     pending = cc (nothing, pending-is m [], resolved-start (between m m), pending-start m);
     typed = ap (λ z. typed_along m (reverse z)) nothing;
   };
@@ -107,9 +108,11 @@ ends-later from last later (j ∷ ks) ends le = (ends.0, ends-later j.end last l
 parts-later : (m : MapValue) (cs : List ℕ) (ks : List Keyed) (es more : List Event) → AreParts m cs ks es
     → AreParts m cs ks (es ++ more)
 parts-later m cs ks es more parts i k at =
-    let (le, types) = parts i k at in (
+    let (le, quiet, types) = parts i k at in
+    let same : take k.end es ≡ take k.end (es ++ more) = sym (take-append-le k.end es more le) in (
       omega (arith, le, length-append es more),
-      subst (λ z. Types m z (take (i + 1) cs)) (sym (take-append-le k.end es more le)) types,
+      subst (λ z. IsQuiet (reverse z)) same quiet,
+      subst (λ z. Types m z (take (i + 1) cs)) same types,
     )
 
 -- the events that a way adds stand behind the old ones
@@ -165,10 +168,11 @@ typed-one m cs place keyed after es now s k next x lt is ends types e =
       parts = λ i j at. elim (last-cases keyed k j i (subst (λ z. slice_get z i ≡ Some j) e at)) [
         | inl old ↦ rw behind (parts-later m cs keyed es (reverse types.added) x.parts i j old)
         | inr (here, same) ↦
-            let end : j.end ≡ length now = ap (λ (z : Keyed). z.end) (sym same) ∙ ends in (
+            let end : j.end ≡ length now = ap (λ (z : Keyed). z.end) (sym same) ∙ ends in
+            let all : take j.end now ≡ now = take_all j.end now (omega (arith, end)) in (
               omega (arith, end),
-              rw (here ∙ count, take_all j.end now (omega (arith, end)))
-                  (typed-answers m now (take (place + 1) cs) typed.typed),
+              rw all (quiet-free (alone m) (reverse now) next typed.stands types.can_return.free),
+              rw (here ∙ count, all) (typed-answers m now (take (place + 1) cs) typed.typed),
             )
       ];
       can = rw more (All-push (λ c. CanType m c) (take place cs) c x.can types.can);
@@ -179,9 +183,9 @@ typed-one m cs place keyed after es now s k next x lt is ends types e =
 -- all were typed, and the console is home
 pub typed-all : (m : MapValue) (cs : List ℕ) (place : ℕ) (x : Typing) (es : List Event) (s : State)
     → HaveBeenTyped m cs place x.keyed.items es s → take place cs ≡ cs
-    → GoesHome (alone m) s (reverse es) (reverse x.events.items)
+    → GoesHome (alone m) s (reverse es) (reverse x.events.items) → (cs ≡ [] → x.events.items ≡ [])
     → AreTyped m cs x
-typed-all m cs place x es s typed all (back, is, home, off, e) =
+typed-all m cs place x es s typed all (back, is, home, off, e) none =
     let now : List Event = x.events.items in
     let there : State = state_from (alone m) s back in
     let first : there.is_second ≡ false =
@@ -196,7 +200,16 @@ typed-all m cs place x es s typed all (back, is, home, off, e) =
       ends = ends-later 0 (length es) (length now) x.keyed.items typed.ends
           (omega (arith, ap length behind, length-append es (reverse (events_along back))));
       keys = subst HasKeys (reverse-reverse now) (All-reversed HasKey (reverse now) end.stands.keys);
+      changes = end.changes;
+      none = none;
       types = typed-answers m now cs end.typed;
       parts = rw behind (parts-later m cs x.keyed.items es (reverse (events_along back)) typed.parts);
       new = as-new m (reverse now) end.stands end.pending;
     }
+
+-- there was nothing to type
+pub typed-nothing : (m : MapValue) (cs : List ℕ) (x : Typing) → cs ≡ [] → x.keyed.items ≡ [] → x.events.items ≡ []
+    → AreTyped m cs x
+typed-nothing m cs x empty keyed events =
+    typed-all m cs 0 x [] start (typed-none m cs x.keyed.items [] start keyed refl refl) (sym empty)
+    ([], tt, ((λ i. refl), (λ l other. refl)), refl, ap (λ z. reverse z) events) (λ e. events)

@@ -2,7 +2,7 @@
 use Rattle.std.specs.Prelude.{◌≡◌, ◌==◌, ℕ, ◌+◌, ◌<◌, ◌≤◌, Bool, true, false, ◌⊎◌, List, [], ◌∷◌, ◌++◌, All, Option}
 use Rattle.std.specs.Prelude.{None, Some, ⊤}
 use Rattle.std.specs.Prelude.{if◌then◌else◌, filter, map, reverse, slice_get, take, length}
-use Rattle.console_core.specs.Types.{Modifier, Lock, Meta, Cell, Char, Act, Event, Press, Answer, Move}
+use Rattle.console_core.specs.Types.{Modifier, Lock, Meta, Cell, Char, Act, Event, Press, Release, Answer, Move}
 use Rattle.keymap_core.specs.declared.action.Action.TheVariants as act
 use Rattle.keymap_core.specs.Accents.{own_of}
 use Rattle.keymap_core.specs.Maps.{MapValue, accent_at}
@@ -16,7 +16,7 @@ use Rattle.console_core.specs.declared.typing.TypingError.{TypingError}
 use Rattle.console_core.specs.declared.typing.TypingError.TheVariants.{Memory, NoWay, TooManyStates}
 use Rattle.console_core.specs.Answers.{usable, composed_by}
 use Rattle.console_core.specs.History.{between, resolved, is_on_after, is_locked_after, accent_pending_after, answer_to}
-use Rattle.console_core.specs.History.{answers_to, HasKeys, IsQuiet}
+use Rattle.console_core.specs.History.{answers_to, pressed, HasKeys, IsQuiet}
 use Rattle.console_core.specs.Resolved.{remembered, down}
 use Rattle.console_core.specs.Moves.{Under, alone, State, is_held, IsIdle, look_in, IsPath, state_after, IsPathFrom}
 use Rattle.console_core.specs.Moves.{state_from}
@@ -75,6 +75,17 @@ pub record IsAsNew (m : MapValue) (h : List Event) : Type 0 where
   pub locked : (l : Lock) → is_locked_after (between m m) l h ≡ false
   pub pending : accent_pending_after (between m m) h ≡ None
 
+-- the event presses a released key, or releases a pressed one
+abbrev pub ChangesKey : Event → List Event → Type 0
+ChangesKey (Press k) before = pressed k before ≡ false
+ChangesKey (Release k) before = pressed k before ≡ true
+ChangesKey _ before = ⊥
+
+-- So does each event of the list, which has the newest first: none of them is a repeat, a reset or a load.
+abbrev pub ChangeKeys : List Event → Type 0
+ChangeKeys [] = Unit {0}
+ChangeKeys (e ∷ h) = ChangesKey e h × ChangeKeys h
+
 -- the characters that are typed
 abbrev pub characters_of : List Keyed → List ℕ
 characters_of keyed = map (λ (k : Keyed). k.character) keyed
@@ -88,17 +99,20 @@ abbrev pub AreEnds : ℕ → List Keyed → ℕ → Type 0
 AreEnds from [] last = from ≤ last
 AreEnds from (k ∷ ks) last = (from ≤ k.end) × AreEnds k.end ks last
 
--- the events up to the end of each character type the characters up to it
+-- the events up to the end of each character type the characters up to it, and no key is pressed there
 abbrev pub AreParts : MapValue → List ℕ → List Keyed → List Event → Type 0
 AreParts m cs keyed es =
-    (i : ℕ) (k : Keyed) → slice_get keyed i ≡ Some k → (k.end ≤ length es) × Types m (take k.end es) (take (i + 1) cs)
+    (i : ℕ) (k : Keyed) → slice_get keyed i ≡ Some k
+    → (k.end ≤ length es) × IsQuiet (reverse (take k.end es)) × Types m (take k.end es) (take (i + 1) cs)
 
--- These are the characters, and the events are of keys, type them and nothing else, part by part, and leave a new
--- console as a new one.
+-- These are the characters. The events are presses of released keys and releases of pressed ones, and none where there
+-- are no characters. They type these and nothing else, part by part, and leave a new console as a new one.
 pub record AreTyped (m : MapValue) (cs : List ℕ) (x : Typing) : Type 0 where
   pub characters : characters_of x.keyed.items ≡ cs
   pub ends : AreEnds 0 x.keyed.items (length x.events.items)
   pub keys : HasKeys x.events.items
+  pub changes : ChangeKeys (reverse x.events.items)
+  pub none : cs ≡ [] → x.events.items ≡ []
   pub types : Types m x.events.items cs
   pub parts : AreParts m cs x.keyed.items x.events.items
   pub new : IsAsNew m (reverse x.events.items)

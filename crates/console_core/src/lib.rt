@@ -20,9 +20,9 @@
 //! `type_characters` makes the events that type characters, in whatever layout a lock selects them, or names the first
 //! character that no keys can type.
 //!
-//! No call takes memory but `replay`, `sticking`, `sticking_between`, `sights_of`, those of an `Explorer` and
-//! `type_characters`. These fail for want of memory, `type_characters` besides where a character can't be typed or
-//! more than 65,536 states can be reached, and no other call fails.
+//! No call takes memory but `replay`, `sticking`, `sticking_between`, `sights_of`, those of an `Explorer`, `find_onward`,
+//! `Reached::push_releases` and `type_characters`. These fail for want of memory, `type_characters` besides where a
+//! character can't be typed or more than 65,536 states can be reached, and no other call fails.
 #![tactic(auto)]
 
 mod event;

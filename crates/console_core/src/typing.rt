@@ -18,15 +18,15 @@ use indexmap::IndexMap;
 use keymap_core::KeyMap;
 use std::alloc::{AllocError, Global};
 
-/// A character, and how many events there are up to the last of those that type it.
+/// A character, and how many events there are up to the last of those that type it, behind which no key is pressed.
 #[derive(Clone, Copy, Debug, PartialEq, Eq)]
 pub struct Keyed {
     pub character: char,
     pub end: usize,
 }
 
-/// Characters, and the events that type them one after another. Those behind the end of the last character leave a
-/// console as a new one.
+/// Characters, and the events that type them one after another: presses of released keys and releases of pressed ones.
+/// Those behind the end of the last character leave a console as a new one.
 #[derive(Debug, Drop)]
 pub struct Typing {
     pub keyed: Vec<Keyed>,
@@ -283,6 +283,9 @@ fn type_each<'m>(
     ensures typed { OnOk result (AreTyped map.now characters.now typing.new) }
     ensures error { IfErr result (λ error. IsTypingError map.now characters.now error) }
 {
+    if characters.is_empty() {
+        return Ok(());
+    }
     let mut from = Held::start();
     let mut place = 0;
     while place < characters.len() {

@@ -13,7 +13,7 @@ use Rattle.console_core.specs.Moves.{events_along}
 use Rattle.console_core.specs.Returning.{IsHome}
 use Rattle.console_core.specs.Sticking.{ReachesMoreThanFrom, ReachesMoreThan, state_limit}
 use Rattle.console_core.specs.History.{answer_to, between, accent_pending_after}
-use Rattle.console_core.specs.Typing.{ComesHome, IsTapOf, types_something, plainly, composed_of, CanType}
+use Rattle.console_core.specs.Typing.{ComesHome, IsTapOf, types_something, plainly, composed_of, CanType, ChangeKeys}
 use Rattle.console_core.specs.Answers.{usable}
 use Rattle.console_core.specs.declared.explored.Symbol.{Symbol}
 use Rattle.console_core.specs.declared.explored.Symbol.TheVariants as symbol
@@ -111,9 +111,11 @@ typed_along m [] = []
 typed_along m (e ∷ h) =
     kept_if (types_something (answer_to (between m m) h e)) (answer_to (between m m) h e) ++ typed_along m h
 
--- After the events the console stands in the state, with this accent pending, and these characters were typed.
+-- After the events, which press released keys and release pressed ones, the console stands in the state, with this
+-- accent pending, and these characters were typed.
 pub record HasTyped (m : MapValue) (h : List Event) (s : State) (p : Option ℕ) (cs : List ℕ) : Type 0 where
   pub stands : Stands (alone m) h s
+  pub changes : ChangeKeys h
   pub pending : accent_pending_after (between m m) h ≡ p
   pub typed : typed_along m h ≡ map plainly (reverse cs)
 

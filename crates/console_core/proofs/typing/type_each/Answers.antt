@@ -1,10 +1,18 @@
-use Rattle.console_core.proofs.Common.{subst, sym, ◌∙◌, reverse, take_all, slice_get-get_or, AreKnown}
+use Rattle.console_core.proofs.Common.{◌==◌, length, ap, subst, sym, ◌∙◌, reverse, take_all, eqb-true, true≢false}
+use Rattle.console_core.proofs.Common.{slice_get-get_or, AreKnown}
 use Rattle.console_core.proofs.Common.{AreExplorations, state_of, rules}
+use Rattle.std.proofs.lemmas.List.{nil_from_length}
 use Rattle.console_core.specs.Inner.Exploring.{Leads}
 use Rattle.console_core.proofs.Choosing.{no-route}
 use Rattle.console_core.proofs.Exploring.{returns-origin}
-use Rattle.console_core.proofs.Typings.{typed-none, typed-one, typed-all}
+use Rattle.console_core.proofs.Typings.{typed-none, typed-one, typed-all, typed-nothing}
 use Rattle.console_core.proofs.typing.type_each.Goals as goal
+
+pub returns-then-is_empty-clause-typed : goal.returns-then-is_empty-clause-typed
+returns-then-is_empty-clause-typed c =
+    typed-nothing c.args.map.now c.args.characters.now c.args.typing.now
+    (nil_from_length c.args.characters.now (eqb-true _ 0 (sym c.is_empty.ensures ∙ c.if-is_empty.true)))
+    c.requires.keyed c.requires.events
 
 pub loop-place-init : goal.loop-place-init
 loop-place-init c = record {
@@ -63,6 +71,8 @@ returns-then-branch-clause-typed c =
     c.loop-place.typing.events.items s c.loop-place.invariant.typed
     (take_all c.loop-place.place cs c.loop-place-test.false)
     (rw (← v.2, ← v.1) (c.in_ok-go_home.ensures.0 c.if-branch.true))
+    (λ e.
+    absurd (true≢false (ap (λ z. length z == 0) (sym e) ∙ sym c.is_empty.ensures ∙ c.if-is_empty.false)))
 
 pub returns-else-branch-clause-error : goal.returns-else-branch-clause-error
 returns-else-branch-clause-error c =

@@ -3,7 +3,7 @@ use Rattle.keymap_draw.proofs.Common.{zero, suc, ◌≡◌, Bool, true, ◌&&◌
 use Rattle.keymap_draw.proofs.Common.{and_parts, not-true, Board, Iso, Ansi, Row, keys_of, each}
 use Rattle.std.proofs.Common.{AllPairs}
 use Rattle.std.proofs.lemmas.Bool.{eqb-false}
-use Rattle.keymap_draw.specs.Keyboards.{EachKeyOnce, NoTwoOverlap, AllLieOnThePanel, are_apart, is_on_panel}
+use Rattle.keymap_draw.specs.Keyboards.{BoardsAreKeyboards, EachKeyOnce, NoTwoOverlap, AllLieOnThePanel, are_apart, is_on_panel}
 
 -- each with each behind it
 abbrev pub pairwise : {X : Type 0} → (X → X → Bool) → List X → Bool
@@ -19,6 +19,10 @@ pairs test (x ∷ xs) h zero (suc j) d below l =
 pairs test (x ∷ xs) h (suc i) (suc j) d below l =
     pairs test xs (and_parts (list_all (test x) xs) (pairwise test xs) h).1 i j d (omega (arith, below))
     (omega (arith, l))
+
+pub boards_are_keyboards : BoardsAreKeyboards
+boards_are_keyboards Iso = record { keys = refl; as_many = refl }
+boards_are_keyboards Ansi = record { keys = refl; as_many = refl }
 
 differ : Row → Row → Bool
 differ a b = not (a.code == b.code)

@@ -21,19 +21,20 @@ pub use Rattle.keymap_draw.specs.Boards.{Row, keys_of}
 pub use Rattle.keymap_draw.specs.Drawings.{Drawing}
 pub use Rattle.keymap_draw.specs.Facts.{Fact}
 unfoldable pub use Rattle.keymap_draw.specs.Facts.{numbered}
-pub use Rattle.keymap_draw.specs.Facts.Fact.{Key, Title}
 pub use Rattle.keymap_draw.specs.Halves.{is_other, other_key, run_keys, slot_of}
 unfoldable pub use Rattle.keymap_draw.specs.Halves.{half_facts, other_keys}
 pub use Rattle.keymap_draw.specs.Keys.{finding_of}
 pub use Rattle.keymap_draw.specs.Legends.{cell_legend}
 unfoldable pub use Rattle.keymap_draw.specs.Legends.{character_legend, other_legend, unfilled, unseen_name}
-pub use Rattle.keymap_draw.specs.Lists.{has_character, listed_accent}
-unfoldable pub use Rattle.keymap_draw.specs.Lists.{named_accents}
+unfoldable pub use Rattle.keymap_draw.specs.Lists.{bears_dead_key}
+pub use Rattle.keymap_draw.specs.Lists.{has_character, is_silent, listed_accent, listed_finding, part, silent_name}
+unfoldable pub use Rattle.keymap_draw.specs.Lists.{accents_list, findings_list, named_accents, silent_list, table}
 unfoldable pub use Rattle.keymap_draw.specs.Markup.{escaped}
-unfoldable pub use Rattle.keymap_draw.specs.Pictures.{picture_facts}
+unfoldable pub use Rattle.keymap_draw.specs.Pictures.{head, picture_facts}
 pub use Rattle.keymap_draw.specs.Places.{is_class}
-pub use Rattle.keymap_draw.specs.Sheets.{IsWithin, ReadAs, facts_of, in_svg, is_inner, is_seen, over, within}
-unfoldable pub use Rattle.keymap_draw.specs.Sheets.{facts_in}
+pub use Rattle.keymap_draw.specs.Sheets.{IsWithin, ReadAs, facts_in, facts_of, in_svg, is_inner, is_seen, over}
+pub use Rattle.keymap_draw.specs.Sheets.{within}
+unfoldable pub use Rattle.keymap_draw.specs.Sheets.{last_facts}
 pub use Rattle.keymap_draw.specs.Titles.{titles}
 pub use Rattle.keymap_draw.specs.Told.{accent_definition, key_definition, title_of, told_in}
 unfoldable pub use Rattle.keymap_draw.specs.Told.{told}
@@ -53,7 +54,7 @@ unfoldable pub use Rattle.keymap_text.specs.Printed.{accent_words, slot_words}
 pub use Rattle.keymap_text.specs.Rows.{AccentDefinition, Definition}
 pub use Rattle.messages.proofs.Passed.{decimal_passes}
 pub use Rattle.std.proofs.Common.{All, Bool, List, None, Option, Some, [], ap, append-nil, append_assoc, arith, drop}
-pub use Rattle.std.proofs.Common.{false, get_or, inl, inr, length, map, not, refl, rules, subst, sym, take, true, ℕ}
+pub use Rattle.std.proofs.Common.{false, get_or, inl, inr, length, map, not, refl, reverse, rules, subst, sym, take, true, ℕ}
 pub use Rattle.std.proofs.Common.{◌%◌, ◌&&◌, ◌++◌, ◌+◌, ◌<◌, ◌==◌, ◌||◌, ◌∙◌, ◌∷◌, ◌≡◌, ◌≤◌}
 pub use Rattle.std.proofs.lemmas.Bool.{agree_below, agree_below_at, and_parts, cases_order, cond_both, eqb-true}
 pub use Rattle.std.proofs.lemmas.Bool.{ltb-true, not-true, or_cases}

@@ -6,6 +6,7 @@ mod Parts
 mod Plain
 mod Red
 mod Scans
+mod Squeezed
 mod Texts
 mod Titles
 mod Told

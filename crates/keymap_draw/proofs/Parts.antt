@@ -3,7 +3,7 @@ use Rattle.keymap_draw.proofs.Common.{◌≡◌, ℕ, ◌+◌, ◌==◌, Bool, t
 use Rattle.keymap_draw.proofs.Common.{Number, None, refl, sym, ap, ◌∙◌, subst, map, arith, decimal}
 use Rattle.keymap_draw.proofs.Common.{if◌then◌else◌, list_all, flat_map, eqb-true, name_of, Finding, finding_words}
 use Rattle.keymap_draw.proofs.Common.{Told, Plain, Bytes, Fact, escaped, is_class, within, is_inner, is_seen, over}
-use Rattle.keymap_draw.proofs.Common.{ReadAs, IsWithin, facts_in, State, Read, Place, Element, at, scan, none-some}
+use Rattle.keymap_draw.proofs.Common.{ReadAs, IsWithin, last_facts, reverse, State, Read, Place, Element, at, scan, none-some}
 use Rattle.keymap_draw.proofs.Common.{saying, within_element, Text, Value, nat_tests}
 use Rattle.std.specs.Prelude.{slice_index}
 use Rattle.std.specs.Option.{option_and_then}
@@ -14,7 +14,7 @@ use Rattle.keymap_draw.specs.declared.sheet.Told.TheVariants.{Characters}
 use Rattle.keymap_draw.specs.Sheets.{written, is_ready, taking}
 use Rattle.messages.specs.Filled.{filled, words_before, words_behind}
 use Rattle.keymap_draw.proofs.Scans.{both_true, first_true, second_true, failed, scan-append, inside_from, was_inside}
-use Rattle.keymap_draw.proofs.Scans.{value_scan, text_scan, further, held, decimal_inner, place, ends as ends_in}
+use Rattle.keymap_draw.proofs.Scans.{value_scan, text_scan, further, decimal_inner, place, ends as ends_in}
 use Rattle.keymap_draw.proofs.Scans.{escaped_scan, tag_scan}
 use Rattle.messages.proofs.Passed.{filled_all}
 use Rattle.keymap_core.specs.declared.action.Holding.TheVariants as h
@@ -103,11 +103,12 @@ pub behind : {s t : State} {old new : List ℕ} (words : List ℕ) (told : List 
 behind {s} {t} words told h e r o =
     further (filled words (map written told)) h e (over_scan told (Some s) words t r o)
 
-pub led : {begun next : List Element} {old new : List ℕ} {fs gs : List Fact} (words : List ℕ) (told : List Told)
-    → IsWithin begun old → facts_in old ≡ fs → new ≡ old ++ filled words (map written told)
-    → list_all is_ready told ≡ true → over (Some (within begun fs)) words told ≡ Some (within next gs)
-    → ReadAs (within next gs) new
-led words told h v = behind words told (held h v)
+-- a text that ends in some elements, behind which words stand that tell new facts
+pub led : {begun next : List Element} {old new : List ℕ} (words : List ℕ) (told : List Told) (facts : List Fact)
+    → IsWithin begun old → new ≡ old ++ filled words (map written told) → list_all is_ready told ≡ true
+    → ((fs : List Fact) → over (Some (within begun fs)) words told ≡ Some (within next (reverse facts ++ fs)))
+    → ReadAs (within next (reverse facts ++ last_facts old)) new
+led {old = old} words told facts h e r read = behind words told h e r (read (last_facts old))
 
 -- ---- what is inner
 

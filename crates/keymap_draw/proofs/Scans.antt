@@ -3,13 +3,15 @@ use Rattle.keymap_draw.proofs.Common.{◌≡◌, ℕ, ◌==◌, Bool, true, fals
 use Rattle.keymap_draw.proofs.Common.{and_parts, cond_both, not-true, decimal_passes, ap, sym, ◌∙◌, arith, append_assoc}
 use Rattle.keymap_draw.proofs.Common.{append-nil, ◌&&◌, not, decimal, if◌then◌else◌, list_all, nat_tests, rules}
 use Rattle.keymap_draw.proofs.Common.{none-some, Fact, is_inner, within, facts_of, facts_in, ReadAs, IsWithin, Element}
+use Rattle.keymap_draw.proofs.Common.{last_facts, reverse}
+use Rattle.std.proofs.lemmas.List.{reverse-append, reverse-reverse}
 use Rattle.keymap_draw.proofs.Common.{Place, Read, State, at, saying, step, scan, is_plain, within_element, Text}
 use Rattle.keymap_draw.proofs.Common.{Value, zero, suc, ◌+◌, ◌<◌, length, get_or, All, map, ◌/◌, ◌%◌, codes}
 use Rattle.keymap_draw.proofs.Common.{slice_index_or, flat_map, agree_below_at, ltb-true, eqb-true, All-head}
 use Rattle.keymap_draw.proofs.Common.{All-tail, code_digits, upper_digits, digit_at, escaped, is_seen, is_shown}
 use Rattle.std.proofs.lemmas.Bool.{and_from}
 use Rattle.keymap_draw.specs.WellFormed.{Tag, Role, element, with_characters, longer, with_begun, is_empty, in_text}
-use Rattle.keymap_draw.specs.WellFormed.Role.{Titled, Lettered}
+use Rattle.keymap_draw.specs.WellFormed.Role.{Holder, Lettered}
 use Rattle.std.proofs.Common.{◌*◌}
 use Rattle.std.specs.Char.{digit_char}
 use Rattle.messages.proofs.Passed.{append_all}
@@ -45,15 +47,13 @@ abbrev pub IsInside : Read → Type 0
 IsInside r = is_empty r.begun ≡ false
 
 no_characters : (role : Role) → with_characters role [] ≡ role
-no_characters (Titled said) = ap (λ cs. Titled cs) (append-nil said)
-no_characters (Lettered x y said) = ap (λ cs. Lettered x y cs) (append-nil said)
-no_characters _ = refl
+no_characters Holder = refl
+no_characters (Lettered tag said) = ap (λ cs. Lettered tag cs) (append-nil said)
 
 more_characters : (role : Role) (a b : List ℕ)
     → with_characters (with_characters role a) b ≡ with_characters role (a ++ b)
-more_characters (Titled said) a b = ap (λ cs. Titled cs) (append_assoc said a b)
-more_characters (Lettered x y said) a b = ap (λ cs. Lettered x y cs) (append_assoc said a b)
-more_characters _ a b = refl
+more_characters Holder a b = refl
+more_characters (Lettered tag said) a b = ap (λ cs. Lettered tag cs) (append_assoc said a b)
 
 longer_none : (begun : List Element) → longer begun [] ≡ begun
 longer_none [] = refl
@@ -252,18 +252,28 @@ pub further : {s t : State} {old new : List ℕ} (more : List ℕ) → ReadAs s 
     → scan (Some s) more ≡ Some t → ReadAs t new
 further {s} {t} {old} more h e k = search (rules, past)
 
-pub held : {begun : List Element} {bytes : List ℕ} {fs : List Fact} → IsWithin begun bytes → facts_in bytes ≡ fs
-    → ReadAs (within begun fs) bytes
-held {begun} h e = record { scanned = h.scanned ∙ ap (λ fs. Some (within begun fs)) e }
-
-pub told : {begun : List Element} {bytes : List ℕ} {fs : List Fact} → ReadAs (within begun fs) bytes
-    → facts_in bytes ≡ fs
-unfolding facts_in
-told h = ap facts_of h.scanned
+last_are : {begun : List Element} {bytes : List ℕ} {fs : List Fact} → ReadAs (within begun fs) bytes
+    → last_facts bytes ≡ fs
+unfolding last_facts
+last_are h = ap facts_of h.scanned
 
 pub is_within : {begun : List Element} {bytes : List ℕ} {fs : List Fact} → ReadAs (within begun fs) bytes
     → IsWithin begun bytes
-is_within {begun} h = record { scanned = h.scanned ∙ ap (λ fs. Some (within begun fs)) (sym (told h)) }
+is_within {begun} h = record { scanned = h.scanned ∙ ap (λ fs. Some (within begun fs)) (sym (last_are h)) }
+
+-- a text that tells these facts
+pub told : {begun : List Element} {bytes : List ℕ} {fs : List Fact} → ReadAs (within begun fs) bytes
+    → facts_in bytes ≡ reverse fs
+told h = ap reverse (last_are h)
+
+-- all of them with the last first
+pub turned_back : (new old all : List Fact) → reverse old ≡ all → reverse new ++ old ≡ reverse (all ++ new)
+turned_back new old all e =
+    sym (reverse-append all new ∙ ap (λ l. reverse new ++ l) (ap reverse (sym e) ∙ reverse-reverse old))
+
+-- what new facts make of those before them
+pub turned : (new old : List Fact) → reverse (reverse new ++ old) ≡ reverse old ++ new
+turned new old = reverse-append (reverse new) old ∙ ap (λ fs. reverse old ++ fs) (reverse-reverse new)
 
 -- ---- numbers
 

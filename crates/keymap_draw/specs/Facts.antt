@@ -1,17 +1,39 @@
--- What a reader learns from a picture: its titles, its keys and what stands on their caps.
-use Rattle.std.specs.Prelude.{ℕ, ◌+◌, List, [], ◌∷◌, ◌++◌, codes, decimal}
+-- What a reader finds in a picture: groups, shapes and texts, in their order, and nothing else can be drawn in it.
+use Rattle.std.specs.Prelude.{ℕ, ◌+◌, List, [], ◌∷◌, ◌++◌, codes}
 
+-- attributes with their values, in their order
+abbrev pub Attributes : Type 0
+Attributes = List (List ℕ × List ℕ)
+
+-- Each element with its name, its class, which is empty where it has none, and its other attributes.
 pub data Fact : Type 0 where
-  -- a title, in its characters
-  Title : List ℕ → Fact
-  -- a key, with its class, its place and the link to its cap
-  Key : List ℕ → List ℕ → List ℕ → Fact
-  -- a text on a cap: where it stands, and its characters
-  Legend : List ℕ → List ℕ → List ℕ → Fact
+  -- a group begins, or another element that holds some
+  Begin : List ℕ → List ℕ → Attributes → Fact
+  -- the last of those that have begun ends
+  End : Fact
+  -- an element without content
+  Figure : List ℕ → List ℕ → Attributes → Fact
+  -- an element that holds characters, as a text or a title, with these
+  Text : List ℕ → List ℕ → Attributes → List ℕ → Fact
 
--- the value of the attribute that says where a group stands
-abbrev pub place_at : ℕ → ℕ → List ℕ
-place_at x y = codes "translate(" ++ decimal x ++ codes " " ++ decimal y ++ codes ")"
+-- the value of the attribute that says where a group stands, by its numbers in digits
+abbrev pub place_at : List ℕ → List ℕ → List ℕ
+place_at x y = codes "translate(" ++ x ++ codes " " ++ y ++ codes ")"
+
+-- a group of a class at a place
+abbrev pub group : List ℕ → List ℕ → List ℕ → Fact
+group class x y = Begin (codes "g") class ((codes "transform", place_at x y) ∷ [])
+
+-- one that is read as one picture, which its title names
+abbrev pub image : List ℕ → List ℕ → List ℕ → Fact
+image class x y = Begin (codes "g") class ((codes "role", codes "img") ∷ (codes "transform", place_at x y) ∷ [])
+
+abbrev pub titled : List ℕ → Fact
+titled said = Text (codes "title") [] [] said
+
+-- a text of a class at a place of its group
+abbrev pub text : List ℕ → List ℕ → List ℕ → List ℕ → Fact
+text x y class said = Text (codes "text") class ((codes "x", x) ∷ (codes "y", y) ∷ []) said
 
 -- the facts of each thing, by its place
 unfoldable pub numbered : {A : Type 0} → (ℕ → A → List Fact) → ℕ → List A → List Fact

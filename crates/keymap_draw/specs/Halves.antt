@@ -1,8 +1,9 @@
--- What the drawing of one half of the slots tells: the keys of its board, and those that the board doesn't have. It
--- begins at y.
-use Rattle.std.specs.Prelude.{ℕ, ◌+◌, ◌*◌, ◌/◌, ◌%◌, ◌==◌, Bool, ◌&&◌, not, List, ◌++◌}
-use Rattle.std.specs.Prelude.{if◌then◌else◌}
+-- What the drawing of one half of the slots tells: its headline, the keys of its board, and those that the board
+-- doesn't have. It begins at y.
+use Rattle.std.specs.Prelude.{ℕ, ◌+◌, ◌*◌, ◌/◌, ◌%◌, ◌==◌, Bool, ◌&&◌, not, List, [], ◌∷◌, ◌++◌, length}
+use Rattle.std.specs.Prelude.{codes, decimal, if◌then◌else◌}
 use Rattle.std.specs.List.{flat_map}
+use Rattle.keymap_core.specs.Borne.{is_upper_live}
 use Rattle.keymap_core.specs.Maps.{entry_at}
 use Rattle.keymap_core.specs.Numbers.{key_count}
 use Rattle.keymap_core.specs.Below.{passing}
@@ -13,8 +14,11 @@ use Rattle.keymap_draw.specs.declared.half.Half.{Half}
 use Rattle.keymap_draw.specs.declared.half.Half.TheVariants.{Lower, Upper}
 use Rattle.keymap_draw.specs.Boards.{Row, keys_in, is_on}
 use Rattle.keymap_draw.specs.Drawings.{Drawing}
-use Rattle.keymap_draw.specs.Facts.{Fact, numbered}
+use Rattle.keymap_draw.specs.declared.sheet.Told.TheVariants.{Number}
+use Rattle.keymap_draw.specs.declared.words.TheConstants as words
+use Rattle.keymap_draw.specs.Facts.{Fact, numbered, text}
 use Rattle.keymap_draw.specs.Keys.{key, is_blank_entry}
+use Rattle.keymap_draw.specs.Sheets.{dress, plain}
 
 -- the slot of a key
 abbrev pub slot_of : Half → ℕ → ℕ
@@ -44,6 +48,37 @@ other_key d half y i k = key d (slot_of half k) (28 + i % 22 * 64) (y + 26 + i /
 abbrev pub half_height : ℕ → ℕ
 half_height others = if others == 0 then 472 else 506 + (others + 21) / 22 * 64
 
+-- whether the keymap is accepted, and how many keys the check names
+abbrev pub verdict : ℕ → ℕ → Fact
+verdict y count =
+    if count == 0 then text (codes "1464") (decimal y) (codes "h r ok") (codes "accepted")
+    else if count == 1 then text (codes "1464") (decimal y) (codes "h r no") (codes "refused: 1 finding")
+    else text (codes "1464") (decimal y) (codes "h r no") (codes "refused: " ++ decimal count ++ codes " findings")
+
+-- the keymap, or its lower half
+abbrev pub name : Drawing → ℕ → List Fact
+name d y =
+    if is_upper_live d.map then dress words.LOWER_HALF.now (Number y ∷ []) else dress words.KEYMAP.now (Number y ∷ [])
+
+-- which half it is, and of the lower one the verdict
+abbrev pub headline : Drawing → Half → ℕ → List Fact
+headline d Lower y = name d y ++ verdict y (length d.findings) ∷ []
+headline d Upper y = dress words.UPPER_HALF.now (Number y ∷ [])
+
+-- the key that shows where the legends stand, and what its number is
+abbrev pub sample : Half → ℕ → List Fact
+sample Lower y = dress words.SAMPLE.now (Number y ∷ plain words.KEY_CODE.now ∷ [])
+sample Upper y = dress words.SAMPLE.now (Number y ∷ plain words.SLOT.now ∷ [])
+
+abbrev pub others_line : ℕ → ℕ → List Fact
+others_line y count = if count == 0 then [] else dress words.OTHER_KEYS.now (Number (y + 16) ∷ [])
+
+-- the keys that the board doesn't have, below a line, if there are any
+abbrev pub others : Drawing → Half → ℕ → List ℕ → List Fact
+others d half y keys = others_line y (length keys) ++ numbered (other_key d half y) 0 keys
+
 unfoldable pub half_facts : Drawing → Half → List ℕ → ℕ → List Fact
 half_facts d half keys y =
-    flat_map (run_keys d half (y + 40)) RUNS ++ numbered (other_key d half (y + 472)) 0 keys
+    headline d half (y + 26) ++ dress words.PANEL.now (Number (y + 40) ∷ []) ++ flat_map (run_keys d half (y + 40)) RUNS
+    ++ sample half (y + 52)
+    ++ others d half (y + 472) keys

@@ -1,6 +1,6 @@
 -- What one key of the picture tells: its title, which is its line of the printed form, its cap, its code and its
 -- legends.
-use Rattle.std.specs.Prelude.{ℕ, ◌-◌, ◌%◌, ◌==◌, Bool, true, false, ◌||◌, List, [], ◌∷◌, ◌++◌}
+use Rattle.std.specs.Prelude.{ℕ, ◌-◌, ◌%◌, ◌==◌, nat_lt, Bool, true, false, ◌||◌, ◌&&◌, List, [], ◌∷◌, ◌++◌}
 use Rattle.std.specs.Prelude.{codes, decimal, Option, Some, None, option_to_list, if◌then◌else◌}
 use Rattle.std.specs.List.{find, list_all, list_any}
 use Rattle.std.specs.Option.{is_some}
@@ -11,7 +11,7 @@ use Rattle.keymap_core.specs.declared.entry.Entry.{Entry}
 use Rattle.keymap_core.specs.declared.entry.LockFlag.{LockFlag}
 use Rattle.keymap_core.specs.declared.entry.LockFlag.TheVariants as flag
 use Rattle.keymap_core.specs.Actions.{within}
-use Rattle.keymap_core.specs.Maps.{entry_at}
+use Rattle.keymap_core.specs.Maps.{MapValue, entry_at}
 use Rattle.keymap_core.specs.Numbers.{key_count}
 use Rattle.keymap_check.specs.declared.finding.Finding.{Finding}
 use Rattle.keymap_check.specs.Said.{finding_words}
@@ -20,14 +20,14 @@ use Rattle.keymap_draw.specs.declared.board.Shape.{Shape}
 use Rattle.keymap_draw.specs.declared.drawn.DrawnCells.{DrawnCells}
 use Rattle.keymap_draw.specs.declared.place.Column.{Column}
 use Rattle.keymap_draw.specs.declared.place.Column.TheVariants.{Base, Shift, Alt, AltShift}
-use Rattle.keymap_draw.specs.Boards.{letter, height}
+use Rattle.keymap_draw.specs.Boards.{letter, width, height}
 use Rattle.keymap_draw.specs.Drawn.{is_blank, column, cell_in, drawn, stands_alone}
 use Rattle.keymap_draw.specs.declared.words.TheConstants as words
 use Rattle.keymap_draw.specs.Legends.{cell_legend, is_word}
 use Rattle.keymap_draw.specs.Drawings.{Drawing}
-use Rattle.keymap_draw.specs.Facts.{Fact, place_at}
-use Rattle.keymap_draw.specs.Facts.Fact.{Title, Key, Legend}
-use Rattle.keymap_draw.specs.Places.{code_x, legend_x, legend_y}
+use Rattle.keymap_draw.specs.Facts.{Fact, image, titled, text}
+use Rattle.keymap_draw.specs.Facts.Fact.{End, Figure}
+use Rattle.keymap_draw.specs.Places.{beside_of, code_x, legend_x, legend_y, legend_classes}
 
 -- the finding of a key, if the check names it
 abbrev pub finding_of : List Finding → ℕ → Option Finding
@@ -84,32 +84,37 @@ flag_words flag.B = words.BOTH.now
 
 -- the slot's number and the letter of its locks
 abbrev pub code : ℕ → LockFlag → Shape → Fact
-code slot l shape = Legend (decimal (code_x shape)) (decimal (height shape - 7)) (decimal slot ++ flag_words l)
+code slot l shape = text (decimal (code_x shape)) (decimal (height shape - 7)) [] (decimal slot ++ flag_words l)
 
-abbrev pub legend : Shape → Column → Bool → Cell → Fact
-legend shape c alone cell =
-    Legend (decimal (legend_x shape c alone)) (decimal (legend_y shape c alone (is_word (cell_legend cell))))
-    (cell_legend cell)
+-- the legend of a cell; it is tight where another one stands beside it on a small cap
+abbrev pub legend : MapValue → Shape → Column → Bool → Bool → Cell → Fact
+legend m shape c alone tight cell =
+    text (decimal (legend_x shape c alone)) (decimal (legend_y shape c alone (is_word (cell_legend cell))))
+    (legend_classes m c cell (cell_legend cell) alone tight) (cell_legend cell)
 
-abbrev pub some_legend : Shape → Column → Bool → Option Cell → List Fact
-some_legend shape c alone None = []
-some_legend shape c alone (Some cell) = legend shape c alone cell ∷ []
+abbrev pub some_legend : MapValue → Shape → Column → Bool → Bool → Option Cell → List Fact
+some_legend m shape c alone tight None = []
+some_legend m shape c alone tight (Some cell) = legend m shape c alone tight cell ∷ []
 
-abbrev pub drawn_legend : Shape → Bool → DrawnCells → Column → List Fact
-drawn_legend shape alone d c = some_legend shape c alone (cell_in d c)
+abbrev pub is_tight : Shape → DrawnCells → Column → Bool
+is_tight shape d c = is_some (cell_in d (beside_of c)) && nat_lt (width shape) 112
 
-abbrev pub legends_of : Shape → Bool → DrawnCells → List Fact
-legends_of shape alone d =
-    drawn_legend shape alone d Base ++ drawn_legend shape alone d Shift ++ drawn_legend shape alone d Alt
-    ++ drawn_legend shape alone d AltShift
+abbrev pub drawn_legend : MapValue → Shape → Bool → DrawnCells → Column → List Fact
+drawn_legend m shape alone d c = some_legend m shape c alone (is_tight shape d c) (cell_in d c)
+
+abbrev pub legends_of : MapValue → Shape → Bool → DrawnCells → List Fact
+legends_of m shape alone d =
+    drawn_legend m shape alone d Base ++ drawn_legend m shape alone d Shift ++ drawn_legend m shape alone d Alt
+    ++ drawn_legend m shape alone d AltShift
 
 -- a legend for each cell that is drawn
-unfoldable pub legends : Shape → Entry → List Fact
-legends shape e = legends_of shape (stands_alone e) (drawn e)
+unfoldable pub legends : MapValue → Shape → Entry → List Fact
+legends m shape e = legends_of m shape (stands_alone e) (drawn e)
 
--- a title, and a cap by the letter of its shape
+-- the group of a key with its title, and a cap by the letter of its shape
 abbrev pub titled_cap : List ℕ → List ℕ → ℕ → ℕ → Shape → List Fact
-titled_cap said class x y shape = Title said ∷ Key class (place_at x y) (codes "#" ++ letter shape ∷ []) ∷ []
+titled_cap said class x y shape =
+    image class (decimal x) (decimal y) ∷ titled said ∷ Figure (codes "use") [] ((codes "href", codes "#" ++ letter shape ∷ []) ∷ []) ∷ []
 
 -- the title and the cap of a key
 abbrev pub cap : List Finding → ℕ → ℕ → ℕ → Shape → Entry → List Fact
@@ -121,4 +126,5 @@ unfoldable pub key : Drawing → ℕ → ℕ → ℕ → Shape → List Fact
 key d slot x y shape =
     cap d.findings slot x y shape (entry_at d.map slot)
     ++ code slot (entry_at d.map slot).flag shape ∷ []
-    ++ legends shape (entry_at d.map slot)
+    ++ legends d.map shape (entry_at d.map slot)
+    ++ End ∷ []

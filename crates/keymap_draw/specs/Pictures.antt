@@ -1,16 +1,39 @@
 -- The whole picture: what it tells of a keymap.
-use Rattle.std.specs.Prelude.{ℕ, ◌+◌, List, [], ◌++◌, length, if◌then◌else◌}
+use Rattle.std.specs.Prelude.{ℕ, ◌+◌, ◌==◌, List, [], ◌∷◌, ◌++◌, codes, length, if◌then◌else◌}
 use Rattle.keymap_core.specs.Borne.{is_upper_live}
 use Rattle.keymap_core.specs.Maps.{MapValue}
 use Rattle.keymap_check.specs.declared.finding.Finding.{Finding}
 use Rattle.keymap_check.specs.Computed.{findings_of}
 use Rattle.keymap_draw.specs.declared.board.Board.{Board}
+use Rattle.keymap_draw.specs.declared.constants.TheConstants.{STYLE, SHAPES}
 use Rattle.keymap_draw.specs.declared.half.Half.TheVariants.{Lower, Upper}
+use Rattle.keymap_draw.specs.declared.sheet.Told.TheVariants.{Number}
+use Rattle.keymap_draw.specs.declared.whole.Starts.{Starts}
+use Rattle.keymap_draw.specs.declared.words.TheConstants as words
 use Rattle.keymap_draw.specs.Drawings.{Drawing}
-use Rattle.keymap_draw.specs.Facts.{Fact, numbered}
+use Rattle.keymap_draw.specs.Facts.{Fact}
+use Rattle.keymap_draw.specs.Facts.Fact.{Text}
 use Rattle.keymap_draw.specs.Halves.{other_keys, half_height, half_facts}
-use Rattle.keymap_draw.specs.Lists.{named_accents, listed_accent}
-use Rattle.keymap_draw.specs.WellFormed.{Tells}
+use Rattle.keymap_draw.specs.Lists.{findings_height, findings_list, named_accents, accents_height, accents_list}
+use Rattle.keymap_draw.specs.Lists.{silent_accents, silent_height, silent_list}
+use Rattle.keymap_draw.specs.Sheets.{dress, facts_from, opened}
+use Rattle.keymap_draw.specs.WellFormed.{Tells, start}
+
+-- the title of the whole says whether the keymap is accepted
+abbrev pub heading : ℕ → Fact
+heading count =
+    Text (codes "title") [] ((codes "id", codes "title") ∷ [])
+    (codes "Console keymap, " ++ (if count == 0 then codes "accepted" else codes "refused"))
+
+-- of a picture of some height with so many findings: its begin, its title and its description, the style, the shapes
+-- and the page
+unfoldable pub head : ℕ → ℕ → List Fact
+head count high =
+    facts_from start words.BEGIN.now (Number high ∷ Number high ∷ []) ++ heading count ∷ []
+    ++ facts_from opened words.DESCRIPTION.now []
+    ++ facts_from opened STYLE []
+    ++ facts_from opened SHAPES []
+    ++ dress words.PAGE.now (Number high ∷ [])
 
 -- the upper half is drawn only if it is live
 abbrev pub upper : Drawing → List ℕ → ℕ → List Fact
@@ -23,15 +46,41 @@ upper_keys d = if is_upper_live d.map then other_keys d Upper else []
 abbrev pub upper_y : ℕ → ℕ
 upper_y others = 16 + half_height others
 
--- with these keys below the boards and these accents
-unfoldable pub parts : Drawing → List ℕ → List ℕ → List ℕ → List Fact
-parts d lower above named =
-    half_facts d Lower lower 16 ++ upper d above (upper_y (length lower)) ++ numbered (listed_accent d.map) 0 named
+-- where the findings begin: below the upper half if it is drawn, else below the lower one
+abbrev pub findings_y : Drawing → ℕ → ℕ → ℕ
+findings_y d lower upper = if is_upper_live d.map then upper_y lower + half_height upper else upper_y lower
+
+abbrev pub accents_y : Drawing → ℕ → ℕ → ℕ
+accents_y d lower upper = findings_y d lower upper + findings_height (length d.findings)
+
+-- Where the parts begin, of a picture with so many keys below the boards, accents, and dead keys without one.
+abbrev pub starts_of : Drawing → ℕ → ℕ → ℕ → ℕ → Starts
+starts_of d lower upper named silent = record {
+  upper = upper_y lower;
+  findings = findings_y d lower upper;
+  accents = accents_y d lower upper;
+  silent = accents_y d lower upper + accents_height named;
+  key = accents_y d lower upper + accents_height named + silent_height silent + 16;
+}
+
+-- the parts, one below the other, and below them what the colours mean
+unfoldable pub parts : Drawing → Starts → List ℕ → List ℕ → List ℕ → List ℕ → List Fact
+parts d starts lower above named silent =
+    head (length d.findings) (starts.key + 76) ++ half_facts d Lower lower 16 ++ upper d above starts.upper
+    ++ findings_list d.findings starts.findings
+    ++ accents_list d.map named starts.accents
+    ++ silent_list silent starts.silent
+    ++ dress words.END.now (Number starts.key ∷ [])
+
+-- with these keys below the boards, accents, and dead keys without one
+abbrev pub parts_with : Drawing → List ℕ → List ℕ → List ℕ → List ℕ → List Fact
+parts_with d lower above named silent =
+    parts d (starts_of d (length lower) (length above) (length named) (length silent)) lower above named silent
 
 unfoldable pub picture_facts : Drawing → List Fact
-picture_facts d = parts d (other_keys d Lower) (upper_keys d) (named_accents d.map)
+picture_facts d = parts_with d (other_keys d Lower) (upper_keys d) (named_accents d.map) (silent_accents d.map)
 
--- The bytes are well formed, and tell these facts.
+-- The bytes are well formed, and tell these facts and no other ones.
 abbrev pub IsPicture : Drawing → List ℕ → Type 0
 IsPicture d bytes = Tells (picture_facts d) bytes
 

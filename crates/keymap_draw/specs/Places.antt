@@ -1,13 +1,18 @@
 -- Where texts stand on a cap, and the classes by which the style gives them size, side and colour.
-use Rattle.std.specs.Prelude.{ℕ, ◌+◌, ◌-◌, ◌/◌, ◌==◌, Bool, true, false, codes}
-use Rattle.std.specs.Prelude.{◌≡◌, if◌then◌else◌}
+use Rattle.std.specs.Prelude.{ℕ, ◌+◌, ◌-◌, ◌/◌, ◌==◌, Bool, true, false, List, [], ◌∷◌, ◌++◌, codes, length, min}
+use Rattle.std.specs.Prelude.{◌≡◌, Option, Some, None, option_to_list, slice_index, if◌then◌else◌}
 use Rattle.std.specs.List.{list_any}
+use Rattle.keymap_core.specs.declared.action.Action.TheVariants as a
+use Rattle.keymap_core.specs.declared.entry.Cell.{Cell}
+use Rattle.keymap_core.specs.declared.entry.Cell.TheVariants.{Char, Act}
 use Rattle.keymap_core.specs.Maps.{MapValue, accent_or_blank}
 use Rattle.keymap_draw.specs.declared.board.Shape.{Shape}
 use Rattle.keymap_draw.specs.declared.board.Shape.TheVariants as shape
 use Rattle.keymap_draw.specs.declared.place.Column.{Column}
 use Rattle.keymap_draw.specs.declared.place.Column.TheVariants.{Base, Shift, Alt, AltShift}
+use Rattle.keymap_draw.specs.declared.place.TheConstants.{ALONE_SIZES, TIGHT_SIZES, CORNER_SIZES}
 use Rattle.keymap_draw.specs.Boards.{width, height}
+use Rattle.keymap_draw.specs.Legends.{is_word}
 
 abbrev pub is_right : Column → Bool
 is_right Base = false
@@ -20,6 +25,13 @@ is_above Base = false
 is_above Shift = true
 is_above Alt = false
 is_above AltShift = true
+
+-- the column beside it
+abbrev pub beside_of : Column → Column
+beside_of Base = Alt
+beside_of Shift = AltShift
+beside_of Alt = Base
+beside_of AltShift = Shift
 
 -- where the code of a key begins
 abbrev pub code_x : Shape → ℕ
@@ -56,3 +68,46 @@ IsClass letter = is_class letter ≡ true
 -- the character that an accent gives by itself, 0 where there is none
 abbrev pub own_of : MapValue → ℕ → ℕ
 own_of m i = (accent_or_blank m i).own
+
+-- the letter for a word of so many characters: those for 2 to 8, of which the last is for longer ones too
+abbrev pub size_by : List ℕ → ℕ → ℕ
+size_by sizes n = slice_index sizes (min n 8 - 2)
+
+-- the class for the size of a legend, z for a sign that stands alone
+abbrev pub size_class : List ℕ → Bool → Bool → Option ℕ
+size_class legend alone tight =
+    if is_word legend then Some (
+    if alone then size_by ALONE_SIZES (length legend)
+    else if tight then size_by TIGHT_SIZES (length legend)
+    else size_by CORNER_SIZES (length legend)
+    )
+    else if alone then Some 122
+    else None
+
+-- The class for its side: c lets it stand on both sides of its place, r on the left of it, and none on the right.
+abbrev pub side_class : Column → Bool → Option ℕ
+side_class column alone = if alone then Some 99 else if is_right column then Some 114 else None
+
+-- a for a column with alt
+abbrev pub plain_class : Column → Option ℕ
+plain_class column = if is_right column then Some 97 else None
+
+-- The class for its colour: e for a dead key whose accent has no character, d for any other, m for a modifier or lock.
+abbrev pub kind_class : MapValue → Column → Cell → Option ℕ
+kind_class m column (Char c) = plain_class column
+kind_class m column (Act (a.DeadKey i)) = Some (if own_of m i == 0 then 101 else 100)
+kind_class m column (Act (a.Mod modifier)) = Some 109
+kind_class m column (Act (a.Lock lock)) = Some 109
+kind_class m column (Act action) = plain_class column
+
+-- classes with one more, behind a blank where there are some
+abbrev pub and_class : List ℕ → Option ℕ → List ℕ
+and_class classes None = classes
+and_class [] (Some class) = class ∷ []
+and_class (c ∷ classes) (Some class) = (c ∷ classes) ++ (32 ∷ class ∷ [])
+
+-- the classes of a legend: for its size, its side and its colour
+unfoldable pub legend_classes : MapValue → Column → Cell → List ℕ → Bool → Bool → List ℕ
+legend_classes m column cell legend alone tight =
+    and_class (and_class (option_to_list (size_class legend alone tight)) (side_class column alone))
+    (kind_class m column cell)

@@ -1,5 +1,5 @@
 -- The text of a picture that isn't complete: where its end stands, and what it tells so far.
-use Rattle.std.specs.Prelude.{◌≡◌, ℕ, ◌&&◌, not, ◌==◌, ◌||◌, Bool, List, [], ◌∷◌, ◌++◌, codes, decimal, Option, Some}
+use Rattle.std.specs.Prelude.{◌≡◌, ℕ, ◌&&◌, not, ◌==◌, ◌||◌, Bool, List, [], ◌∷◌, ◌++◌, codes, decimal, Option, Some, reverse}
 use Rattle.std.specs.Prelude.{None, true, if◌then◌else◌, slice_index}
 use Rattle.std.specs.List.{list_all, flat_map}
 use Rattle.std.specs.Option.{option_and_then}
@@ -11,7 +11,7 @@ use Rattle.keymap_draw.specs.Markup.{escaped}
 use Rattle.keymap_draw.specs.WellFormed.{Element, element, Place, Read, State, at, within_element, saying, scan}
 use Rattle.keymap_draw.specs.WellFormed.{start, is_plain, is_shown}
 use Rattle.keymap_draw.specs.WellFormed.Place.{Text, Value}
-use Rattle.keymap_draw.specs.WellFormed.Role.{Plain, Cap}
+use Rattle.keymap_draw.specs.WellFormed.Role.{Holder}
 use Rattle.messages.specs.Filled.{words_before, words_behind}
 
 -- the ids of the head of a picture, the last first: of the shapes, and of what its title and its description are in
@@ -21,29 +21,33 @@ ids =
     ∷ codes "a"
     ∷ codes "desc" ∷ codes "title" ∷ []
 
--- behind the head, in these elements, with these facts
+-- behind the head, in these elements, with these facts, the last first
 abbrev pub within : List Element → List Fact → State
 within begun fs = at Text (record { begun = begun; ids = ids; facts = fs })
 
 abbrev pub in_svg : List Element
-in_svg = element (codes "svg") Plain ∷ []
+in_svg = element (codes "svg") Holder ∷ []
 
 abbrev pub in_key : List Element
-in_key = element (codes "g") Cap ∷ in_svg
+in_key = element (codes "g") Holder ∷ in_svg
 
--- in a row below the keys, and in the table of an accent
+-- in a row below the keys, and in a line of the table of an accent
 abbrev pub in_row : List Element
-in_row = element (codes "g") Plain ∷ in_svg
+in_row = element (codes "g") Holder ∷ in_svg
 
 abbrev pub in_table : List Element
-in_table = element (codes "g") Plain ∷ in_row
+in_table = element (codes "g") Holder ∷ in_row
 
 abbrev pub facts_of : Option State → List Fact
 facts_of None = []
 facts_of (Some s) = s.read.facts
 
-unfoldable pub facts_in : List ℕ → List Fact
-facts_in bytes = facts_of (scan (Some start) bytes)
+-- the last first
+unfoldable pub last_facts : List ℕ → List Fact
+last_facts bytes = facts_of (scan (Some start) bytes)
+
+abbrev pub facts_in : List ℕ → List Fact
+facts_in bytes = reverse (last_facts bytes)
 
 -- what a reader makes of the bytes
 pub record ReadAs (s : State) (bytes : List ℕ) : Type 0 where
@@ -51,7 +55,7 @@ pub record ReadAs (s : State) (bytes : List ℕ) : Type 0 where
 
 -- the bytes end in these elements
 abbrev pub IsWithin : List Element → List ℕ → Type 0
-IsWithin begun bytes = ReadAs (within begun (facts_in bytes)) bytes
+IsWithin begun bytes = ReadAs (within begun (last_facts bytes)) bytes
 
 -- what may stand in a value and in a text as it is
 abbrev pub is_inner : ℕ → Bool
@@ -60,6 +64,10 @@ is_inner c = is_plain c && not (c == 34) && not (c == 38 || c == 60) && not (c =
 -- it may stand in a text, and a terminal shows it as it is
 abbrev pub is_seen : ℕ → Bool
 is_seen c = is_shown c && not (is_unseen c)
+
+-- bytes that are told as they are
+abbrev pub plain : List ℕ → Told
+plain bytes = told.Plain (record { ref_ptr = (0, 0); now = bytes })
 
 -- the characters that are told
 abbrev pub characters : Told → List ℕ
@@ -95,5 +103,16 @@ over s words (t ∷ ts) =
     (words_behind words) ts
 
 -- the facts that they tell
+abbrev pub facts_from : State → List ℕ → List Told → List Fact
+facts_from s words ts = reverse (facts_of (over (Some s) words ts))
+
 abbrev pub facts_over : List Element → List ℕ → List Told → List Fact
-facts_over begun words ts = facts_of (over (Some (within begun [])) words ts)
+facts_over begun words ts = facts_from (within begun []) words ts
+
+-- behind the begin of a picture, before its ids
+abbrev pub opened : State
+opened = at Text (record { begun = in_svg; ids = []; facts = [] })
+
+-- the facts of words that stand between the parts of a picture
+abbrev pub dress : List ℕ → List Told → List Fact
+dress words ts = facts_over in_svg words ts

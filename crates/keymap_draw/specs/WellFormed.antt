@@ -2,16 +2,16 @@
 -- all others, texts, and tags of elements out of a fixed list, with attributes out of a fixed list, none twice in a
 -- tag. Each element ends by its own end tag. No two ids are the same, and a link leads to an id that stands before it.
 -- A reference is of a character that XML 1.0 allows and that is no control character. `]>` stands in no text, and so
--- `]]>` doesn't. What they tell are facts: the titles, the keys and the texts on their caps.
+-- `]]>` doesn't. What they tell are facts: each group, shape and text with its attributes.
 use Rattle.std.specs.Prelude.{◌≡◌, ℕ, ◌+◌, ◌*◌, ◌==◌, nat_lt, nat_le, Bool, ◌||◌, ◌&&◌, not, true, false, List, [], ◌∷◌}
-use Rattle.std.specs.Prelude.{◌++◌, codes, Option, Some, None, if◌then◌else◌, bytes_eq}
+use Rattle.std.specs.Prelude.{◌++◌, reverse, codes, Option, Some, None, if◌then◌else◌, bytes_eq}
 use Rattle.std.specs.Char.{digit_value}
-use Rattle.std.specs.List.{list_all, list_any}
+use Rattle.std.specs.List.{filter, list_all, list_any}
 use Rattle.std.specs.Option.{option_and_then}
 use Rattle.keymap_core.specs.Actions.{within}
 use Rattle.keymap_core.specs.Unseen.{is_unseen}
-use Rattle.keymap_draw.specs.Facts.{Fact}
-use Rattle.keymap_draw.specs.Facts.Fact.{Title, Key, Legend}
+use Rattle.keymap_draw.specs.Facts.{Attributes, Fact}
+use Rattle.keymap_draw.specs.Facts.Fact.{Begin, End, Figure, Text as Said}
 
 -- LF and the printable characters of ASCII
 abbrev pub is_plain : ℕ → Bool
@@ -51,30 +51,32 @@ attributes =
 abbrev pub is_among : List (List ℕ) → List ℕ → Bool
 is_among names name = list_any (bytes_eq name) names
 
--- a begin tag: its name, and its attributes with their values, the last first
+-- a begin tag: its name, and its attributes with their values
 pub record Tag : Type 0 where
   pub name : List ℕ
-  pub has : List (List ℕ × List ℕ)
+  pub has : Attributes
 
 -- the value of an attribute, nothing where the tag doesn't have it
-abbrev pub value_in : List (List ℕ × List ℕ) → List ℕ → List ℕ
+abbrev pub value_in : Attributes → List ℕ → List ℕ
 value_in [] name = []
 value_in (a ∷ more) name = if bytes_eq name a.0 then a.1 else value_in more name
 
-abbrev pub has_attribute : List (List ℕ × List ℕ) → List ℕ → Bool
+abbrev pub has_attribute : Attributes → List ℕ → Bool
 has_attribute has name = list_any (λ (a : List ℕ × List ℕ). bytes_eq name a.0) has
+
+abbrev pub class_in : Attributes → List ℕ
+class_in has = value_in has (codes "class")
+
+-- those beside the class
+abbrev pub others_in : Attributes → Attributes
+others_in has = filter (λ (a : List ℕ × List ℕ). not (bytes_eq (codes "class") a.0)) has
 
 -- what an element that has begun is to a reader
 pub data Role : Type 0 where
-  -- it tells nothing by itself
-  Plain : Role
-  -- a group that is read as one picture, with its class and its place, before what is drawn in it
-  Group : List ℕ → List ℕ → Role
-  -- the group of a key, behind its cap
-  Cap : Role
-  -- a title, and a text on a cap with where it stands, with their characters so far
-  Titled : List ℕ → Role
-  Lettered : List ℕ → List ℕ → List ℕ → Role
+  -- it holds other ones
+  Holder : Role
+  -- it holds characters: its tag, and those so far
+  Lettered : Tag → List ℕ → Role
 
 pub record Element : Type 0 where
   pub name : List ℕ
@@ -110,7 +112,7 @@ pub data Place : Type 0 where
   Hash : Place
   Number : ℕ → Place
 
--- the elements that have begun and not ended, the last first, and the ids and the facts so far
+-- the elements that have begun and not ended, and the ids and the facts so far, the last first
 pub record Read : Type 0 where
   pub begun : List Element
   pub ids : List (List ℕ)
@@ -135,9 +137,8 @@ abbrev pub within_element : Place → Read → Option State
 within_element p r = if is_empty r.begun then None else Some (at p r)
 
 abbrev pub with_characters : Role → List ℕ → Role
-with_characters (Titled said) cs = Titled (said ++ cs)
-with_characters (Lettered x y said) cs = Lettered x y (said ++ cs)
-with_characters role cs = role
+with_characters Holder cs = Holder
+with_characters (Lettered tag said) cs = Lettered tag (said ++ cs)
 
 -- the last element that has begun has more characters
 abbrev pub longer : List Element → List ℕ → List Element
@@ -158,22 +159,21 @@ in_text r c =
 abbrev pub is_name_byte : ℕ → Bool
 is_name_byte c = within 97 122 c || within 65 90 c || c == 45
 
-abbrev pub is_capped : List Element → Bool
-is_capped [] = false
-is_capped (e ∷ begun) = elim e.role [ Cap ↦ true | role ↦ false ]
+abbrev pub with_facts : List Fact → Read → Read
+with_facts facts r = record { begun = r.begun; ids = r.ids; facts = facts }
 
--- a group with the role of a picture, a title without attributes, and a text behind a cap tell something
-abbrev pub role_of : List Element → Tag → Role
-role_of begun tag =
-    if bytes_eq tag.name (codes "g") && bytes_eq (value_in tag.has (codes "role")) (codes "img")
-    then Group (value_in tag.has (codes "class")) (value_in tag.has (codes "transform"))
-    else if bytes_eq tag.name (codes "title") && is_empty tag.has then Titled []
-    else if bytes_eq tag.name (codes "text") && is_capped begun
-    then Lettered (value_in tag.has (codes "x")) (value_in tag.has (codes "y")) []
-    else Plain
+abbrev pub begun_with : Role → Tag → Read → Read
+begun_with role tag r = with_begun (element tag.name role ∷ r.begun) r
+
+-- the elements that hold other ones
+abbrev pub holders : List (List ℕ)
+holders = codes "svg" ∷ codes "defs" ∷ codes "g" ∷ []
 
 abbrev pub begins : Tag → Read → Read
-begins tag r = with_begun (element tag.name (role_of r.begun tag) ∷ r.begun) r
+begins tag r =
+    if is_among holders tag.name
+    then begun_with Holder tag (with_facts (Begin tag.name (class_in tag.has) (others_in tag.has) ∷ r.facts) r)
+    else begun_with (Lettered tag []) tag r
 
 abbrev pub behind_name : Tag → Read → ℕ → Option State
 behind_name tag r c =
@@ -188,37 +188,20 @@ in_name name r c =
     else if is_among elements name then behind_name (record { name = name; has = [] }) r c
     else None
 
--- the first element without content in a group that is read as one picture is the cap of a key, or makes it none
-abbrev pub role_behind : Role → Tag → Role
-role_behind (Group class place) tag = if bytes_eq tag.name (codes "use") then Cap else Plain
-role_behind role tag = role
-
-abbrev pub key_by : Role → Tag → List Fact → List Fact
-key_by (Group class place) tag facts =
-    if bytes_eq tag.name (codes "use") then facts ++ Key class place (value_in tag.has (codes "href")) ∷ []
-    else facts
-key_by role tag facts = facts
-
 -- behind an element without content
-abbrev pub passing : List Element → Tag → Read → Read
-passing [] tag r = r
-passing (e ∷ begun) tag r = record {
-  begun = element e.name (role_behind e.role tag) ∷ begun;
-  ids = r.ids;
-  facts = key_by e.role tag r.facts;
-}
+abbrev pub passing : Tag → Read → Read
+passing tag r = with_facts (Figure tag.name (class_in tag.has) (others_in tag.has) ∷ r.facts) r
 
-abbrev pub told_by : Role → List Fact → List Fact
-told_by (Titled said) facts = facts ++ Title said ∷ []
-told_by (Lettered x y said) facts = facts ++ Legend x y said ∷ []
-told_by role facts = facts
+abbrev pub told_by : Role → Fact
+told_by Holder = End
+told_by (Lettered tag said) = Said tag.name (class_in tag.has) (others_in tag.has) said
 
 -- the last element ends if that is its name
 abbrev pub ended_by : List ℕ → List Element → Read → Option State
 ended_by name [] r = None
 ended_by name (last ∷ begun) r =
     if bytes_eq name last.name
-    then Some (at Text (record { begun = begun; ids = r.ids; facts = told_by last.role r.facts }))
+    then Some (at Text (record { begun = begun; ids = r.ids; facts = told_by last.role ∷ r.facts }))
     else None
 
 abbrev pub in_end_name : List ℕ → Read → ℕ → Option State
@@ -233,7 +216,7 @@ in_attribute tag name r c =
     else None
 
 abbrev pub with_attribute : Tag → List ℕ → List ℕ → Tag
-with_attribute tag name value = record { name = tag.name; has = (name, value) ∷ tag.has }
+with_attribute tag name value = record { name = tag.name; has = tag.has ++ (name, value) ∷ [] }
 
 -- a link begins with `#`
 abbrev pub is_link : List (List ℕ) → List ℕ → Bool
@@ -278,7 +261,7 @@ step_at (Name name) r c = in_name name r c
 step_at (EndName name) r c = in_end_name name r c
 step_at (Behind tag) r c = behind_name tag r c
 step_at (Blank tag) r c = in_attribute tag [] r c
-step_at (Closed tag) r c = only 62 Text (passing r.begun tag r) c
+step_at (Closed tag) r c = only 62 Text (passing tag r) c
 step_at (Attribute tag name) r c = in_attribute tag name r c
 step_at (Equals tag name) r c = only 34 (Value tag name []) r c
 step_at (Value tag name value) r c = in_value tag name value r c
@@ -299,7 +282,7 @@ start = at Before (record { begun = []; ids = []; facts = [] })
 -- the bytes are one element that is ended, and these are the facts that they tell
 pub record Tells (fs : List Fact) (bytes : List ℕ) : Type 0 where
   pub ids : List (List ℕ)
-  pub scanned : scan (Some start) bytes ≡ Some (at Text (record { begun = []; ids = ids; facts = fs }))
+  pub scanned : scan (Some start) bytes ≡ Some (at Text (record { begun = []; ids = ids; facts = reverse fs }))
 
 -- The bytes are one element, and all elements that begin have ended.
 abbrev pub IsWellFormed : List ℕ → Type 0

@@ -1,24 +1,22 @@
 //! The drawing of one half of the slots: its headline, its board, and the keys that the board doesn't have.
-ghost use Rattle.std.specs.Prelude.{◌≡◌, ◌+◌, ◌*◌, ◌++◌, ◌≤◌, ◌<◌, ◌^◌, IfOk, length, true};
-ghost use Rattle.std.specs.List.{flat_map, list_all};
+ghost use Rattle.std.specs.Prelude.{◌≡◌, ◌+◌, ◌*◌, ◌++◌, ◌∷◌, [], ◌≤◌, ◌<◌, ◌^◌, IfOk, length};
+ghost use Rattle.std.specs.List.{flat_map};
 ghost use Rattle.keymap_draw.specs.Boards.{laid};
-ghost use Rattle.keymap_draw.specs.Halves as spec;
 ghost use Rattle.keymap_draw.specs.Facts.{numbered};
-ghost use Rattle.keymap_draw.specs.Sheets.{is_inner};
+ghost use Rattle.keymap_draw.specs.Halves as spec;
 
 use crate::board::{RUNS, Run, Shape};
 use crate::drawing::Drawing;
 use crate::key::{Cap, is_blank_entry, push_key};
 use crate::markup::Added;
 use crate::sheet::Told::{Number, Plain};
-use crate::sheet::{InPicture, Sheet, adorn};
+use crate::sheet::{InPicture, Sheet, tell};
 use crate::words::{
     IS_ACCEPTED, KEY_CODE, KEYMAP, LOWER_HALF, MORE_FINDINGS, ONE_FINDING, OTHER_KEYS, PANEL,
     SAMPLE, SLOT, UPPER_HALF,
 };
 use arrayvec::ArrayVec;
 use keymap_core::{KEY_COUNT, push_if};
-use messages::either;
 
 /// A half of the slots: 0 to 127, or 128 to 255.
 #[derive(Clone, Copy)]
@@ -148,8 +146,20 @@ fn push_other_key(
     push_key(sheet, drawing, half.slot(key), cap)
 }
 
-/// Adds the keys that the board doesn't have, below a line, if there are any.
-fn push_other_keys(
+/// Adds the line above so many keys that the board doesn't have, if there are any.
+fn push_other_line(sheet: Sheet<InPicture>, y: u32, count: usize) -> Added<Sheet<InPicture>>
+    requires low { y < 2 ^ 16 }
+    ensures { IfOk result (λ s. s ≡ sheet ++ spec.others_line y count) }
+{
+    if count == 0 {
+        Ok(sheet)
+    } else {
+        tell(sheet, OTHER_KEYS, &[Number(y + 16)])
+    }
+}
+
+/// Adds the keys that the board doesn't have, in their rows.
+fn push_each_other(
     sheet: Sheet<InPicture>,
     drawing: &Drawing,
     half: Half,
@@ -161,14 +171,27 @@ fn push_other_keys(
     ensures { IfOk result (λ s. s ≡ sheet ++ numbered (spec.other_key drawing.now half y) 0 keys.now) }
 {
     let mut sheet = sheet;
-    if !keys.is_empty() {
-        sheet = adorn(sheet, OTHER_KEYS, &[Number(y + 16)])?;
-    }
     for i in 0..keys.len() {
         let key = keys[i];
         sheet = push_other_key(sheet, drawing, half, y, i as u32, key)?;
     }
     Ok(sheet)
+}
+
+/// Adds the keys that the board doesn't have, below a line, if there are any.
+fn push_other_keys(
+    sheet: Sheet<InPicture>,
+    drawing: &Drawing,
+    half: Half,
+    y: u32,
+    keys: &[u8],
+) -> Added<Sheet<InPicture>>
+    requires low { y < 2 ^ 16 }
+    requires few { length keys.now ≤ 128 }
+    ensures { IfOk result (λ s. s ≡ sheet ++ spec.others drawing.now half y keys.now) }
+{
+    let sheet = push_other_line(sheet, y, keys.len())?;
+    push_each_other(sheet, drawing, half, y, keys)
 }
 
 /// How high the drawing of a half is, with so many keys that the board doesn't have.
@@ -186,12 +209,25 @@ pub(crate) fn half_height(others: usize) -> u32
 
 /// Adds whether the keymap is accepted, and how many keys the check names.
 fn push_verdict(sheet: Sheet<InPicture>, y: u32, count: u32) -> Added<Sheet<InPicture>>
-    ensures { IfOk result (λ s. s ≡ sheet) }
+    ensures { IfOk result (λ s. s ≡ sheet ++ spec.verdict y count ∷ []) }
 {
-    match count {
-        0 => adorn(sheet, IS_ACCEPTED, &[Number(y)]),
-        1 => adorn(sheet, ONE_FINDING, &[Number(y)]),
-        _ => adorn(sheet, MORE_FINDINGS, &[Number(y), Number(count)]),
+    if count == 0 {
+        tell(sheet, IS_ACCEPTED, &[Number(y)])
+    } else if count == 1 {
+        tell(sheet, ONE_FINDING, &[Number(y)])
+    } else {
+        tell(sheet, MORE_FINDINGS, &[Number(y), Number(count)])
+    }
+}
+
+/// Adds what is drawn, the keymap or its lower half.
+fn push_name(sheet: Sheet<InPicture>, drawing: &Drawing, y: u32) -> Added<Sheet<InPicture>>
+    ensures { IfOk result (λ s. s ≡ sheet ++ spec.name drawing.now y) }
+{
+    if drawing.is_upper_live() {
+        tell(sheet, LOWER_HALF, &[Number(y)])
+    } else {
+        tell(sheet, KEYMAP, &[Number(y)])
     }
 }
 
@@ -202,33 +238,25 @@ fn push_headline(
     half: Half,
     y: u32,
 ) -> Added<Sheet<InPicture>>
-    ensures { IfOk result (λ s. s ≡ sheet) }
+    ensures { IfOk result (λ s. s ≡ sheet ++ spec.headline drawing.now half y) }
 {
     match half {
         Half::Lower => {
-            let words = either(drawing.is_upper_live(), LOWER_HALF, KEYMAP);
-            let sheet = adorn(sheet, words, &[Number(y)])?;
+            let sheet = push_name(sheet, drawing, y)?;
             push_verdict(sheet, y, drawing.findings().len() as u32)
         }
-        Half::Upper => adorn(sheet, UPPER_HALF, &[Number(y)]),
+        Half::Upper => tell(sheet, UPPER_HALF, &[Number(y)]),
     }
 }
 
-/// What the number of a key is.
-fn number_name<'a>(half: Half) -> &'a [u8]
-    ensures { list_all is_inner result.now ≡ true }
+/// Adds the key that shows where the legends stand, and what the number of a key is.
+fn push_sample(sheet: Sheet<InPicture>, half: Half, y: u32) -> Added<Sheet<InPicture>>
+    ensures { IfOk result (λ s. s ≡ sheet ++ spec.sample half y) }
 {
     match half {
-        Half::Lower => KEY_CODE,
-        Half::Upper => SLOT,
+        Half::Lower => tell(sheet, SAMPLE, &[Number(y), Plain(KEY_CODE)]),
+        Half::Upper => tell(sheet, SAMPLE, &[Number(y), Plain(SLOT)]),
     }
-}
-
-/// Adds the key that shows where the legends stand.
-fn push_sample(sheet: Sheet<InPicture>, half: Half, y: u32) -> Added<Sheet<InPicture>>
-    ensures { IfOk result (λ s. s ≡ sheet) }
-{
-    adorn(sheet, SAMPLE, &[Number(y), Plain(number_name(half))])
 }
 
 /// Adds the drawing of a half, from y on, with the keys that the board doesn't have.
@@ -245,7 +273,7 @@ pub(crate) fn push_half(
     ensures { IfOk result (λ s. s ≡ sheet ++ spec.half_facts drawing.now half keys.now y) }
 {
     let sheet = push_headline(sheet, drawing, half, y + 26)?;
-    let sheet = adorn(sheet, PANEL, &[Number(y + 40)])?;
+    let sheet = tell(sheet, PANEL, &[Number(y + 40)])?;
     let sheet = push_runs(sheet, drawing, half, y + 40, &RUNS)?;
     let sheet = push_sample(sheet, half, y + 52)?;
     push_other_keys(sheet, drawing, half, y + 472, keys)

@@ -15,7 +15,7 @@ use crate::legend::{cell_legend, is_word};
 use crate::markup::Added;
 use crate::place::{Column, code_x, legend_classes, legend_x, legend_y};
 use crate::sheet::Told::{Bytes, Characters, Number, Plain};
-use crate::sheet::{InKey, InPicture, Sheet, adorn, tell};
+use crate::sheet::{InKey, InPicture, Sheet, tell};
 use crate::words::{BOTH, CAPS, CODE, GROUP_END, KEY, KEY_OF, NUM, TEXT, TEXT_OF};
 use arrayvec::ArrayVec;
 use keymap_check::{Finding, finding_words};
@@ -207,7 +207,7 @@ fn push_legend(
     alone: bool,
     tight: bool,
 ) -> Added<Sheet<InKey>>
-    ensures { IfOk result (λ s. s ≡ sheet ++ spec.legend shape column alone cell.now ∷ []) }
+    ensures { IfOk result (λ s. s ≡ sheet ++ spec.legend map.now shape column alone tight cell.now ∷ []) }
 {
     let legend = cell_legend(cell);
     let legend = legend.as_slice();
@@ -229,7 +229,7 @@ fn push_drawn(
     alone: bool,
     column: Column,
 ) -> Added<Sheet<InKey>>
-    ensures { IfOk result (λ s. s ≡ sheet ++ spec.drawn_legend shape alone cells.now column) }
+    ensures { IfOk result (λ s. s ≡ sheet ++ spec.drawn_legend map.now shape alone cells.now column) }
 {
     let tight = cells.cell(column.beside()).is_some() && shape.width() < 112;
     match cells.cell(column) {
@@ -246,7 +246,7 @@ fn push_legends(
     shape: Shape,
     entry: &Entry,
 ) -> Added<Sheet<InKey>>
-    ensures { IfOk result (λ s. s ≡ sheet ++ spec.legends shape entry.now) }
+    ensures { IfOk result (λ s. s ≡ sheet ++ spec.legends map.now shape entry.now) }
 {
     let cells = drawn(entry);
     let alone = stands_alone(entry);
@@ -271,5 +271,5 @@ pub(crate) fn push_key(
     let sheet = begin_key(sheet, drawing, slot, cap)?;
     let sheet = push_code(sheet, slot, entry.flag, cap.shape)?;
     let sheet = push_legends(sheet, map, cap.shape, entry)?;
-    adorn(sheet, GROUP_END, &[])
+    tell(sheet, GROUP_END, &[])
 }

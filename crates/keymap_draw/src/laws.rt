@@ -6,10 +6,10 @@ ghost use Rattle.keymap_core.specs.Numbers.{key_count};
 ghost use Rattle.keymap_core.specs.declared.entry.Cell.{Cell as CellValue};
 ghost use Rattle.keymap_core.specs.declared.entry.Entry.{Entry as EntryValue};
 ghost use Rattle.keymap_check.specs.declared.finding.Finding.{Finding as FindingValue};
-ghost use Rattle.keymap_text.specs.Printed.{key_line, slot_words, accent_line, accent_words, column, word};
+ghost use Rattle.keymap_text.specs.Printed.{key_line, slot_words, accent_line, accent_words};
 ghost use Rattle.keymap_draw.specs.Drawings.{Drawing};
 ghost use Rattle.keymap_draw.specs.Keys.{key_class, names_key, red};
-ghost use Rattle.keymap_draw.specs.Keyboards.{EachKeyOnce, NoTwoOverlap, AllLieOnThePanel};
+ghost use Rattle.keymap_draw.specs.Keyboards.{BoardsAreKeyboards, EachKeyOnce, NoTwoOverlap, AllLieOnThePanel};
 ghost use Rattle.keymap_draw.specs.Letters.{PairsAreLetters, CapitalsAreOfOneLetter, LettersHaveOneCapital};
 ghost use Rattle.keymap_draw.specs.Letters.{MarksAreOfTheirAccents};
 ghost use Rattle.keymap_draw.specs.Legends.{cell_legend};
@@ -17,7 +17,7 @@ ghost use Rattle.keymap_draw.specs.Names.{LegendsAreNames, NoOthersAreNamed};
 ghost use Rattle.keymap_draw.specs.Pictures.{IsPicture};
 ghost use Rattle.keymap_draw.specs.Places.{IsClass};
 ghost use Rattle.keymap_draw.specs.Shapes.{CapsAreOfTheirKeys};
-ghost use Rattle.keymap_draw.specs.Titles.{line};
+ghost use Rattle.keymap_draw.specs.Titles.{squeezed};
 ghost use Rattle.keymap_draw.specs.Told.{TitlesTell, PicturesTellDefinitions, PicturesTellKeymaps};
 ghost use Rattle.keymap_draw.specs.WellFormed.{IsPlain, IsShown, IsSeen, IsWellFormed};
 
@@ -60,12 +60,12 @@ pub fn classes_are_of_a_list()
         → All IsClass (option_to_list (key_class fs slot e)) }
 {}
 
-/// What the title of a key tells is its line of the printed form, without the blanks that fill its cells to columns,
-/// and what that of an accent tells is its line.
+/// What the title of a key tells is its line of the printed form with one blank in place of several, and what that of an
+/// accent tells is its line.
 #[tactic(auto, using(crate::proofs::ToldTwice::line_laws))]
 pub fn titles_are_printed_lines()
-    ensures line { (slot : ℕ) (e : EntryValue) → key_line slot e ≡ line column slot e ++ codes "\n" }
-    ensures title { (slot : ℕ) (e : EntryValue) → slot_words slot e ≡ line word slot e }
+    ensures key { (slot : ℕ) (e : EntryValue) → All IsCell e.cells
+        → squeezed (key_line slot e) ≡ slot_words slot e ++ codes "\n" }
     ensures accent { (i : ℕ) (accent : AccentValue) → accent_line i accent ≡ accent_words i accent ++ codes "\n" }
 {}
 
@@ -78,8 +78,10 @@ pub fn pictures_tell_keymaps()
     ensures keymap { PicturesTellKeymaps }
 {}
 
-/// On a board each key code stands once, no two caps overlap, and all lie on the panel.
+/// The keys of a board are those of a keyboard, row by row and in each row from left to right. Each key code stands once,
+/// no two caps overlap, and all lie on the panel.
 pub fn boards_are_keyboards()
+    ensures rows { BoardsAreKeyboards }
     ensures once { EachKeyOnce }
     ensures apart { NoTwoOverlap }
     ensures on_panel { AllLieOnThePanel }

@@ -11,6 +11,16 @@ use crate::legend::is_word;
 use arrayvec::ArrayVec;
 use keymap_core::{Action, Cell, KeyMap};
 
+/// The classes for the size of a word that stands alone, by its length: for 2 characters to 8, of which the last is for
+/// longer ones too.
+pub(crate) static ALONE_SIZES: [u8; 7] = *b"wwxxxuu";
+
+/// Those of a word in a corner that another legend stands beside on a small cap.
+pub(crate) static TIGHT_SIZES: [u8; 7] = *b"otyybbb";
+
+/// Those of any other word in a corner.
+pub(crate) static CORNER_SIZES: [u8; 7] = *b"vvvoott";
+
 /// A column that is drawn.
 #[derive(Clone, Copy)]
 pub(crate) enum Column {
@@ -22,9 +32,12 @@ pub(crate) enum Column {
 
 impl Column {
     ghost use Rattle.keymap_draw.specs.Places.{is_right as is_right_of, is_above as is_above_of};
+    ghost use Rattle.keymap_draw.specs.Places.{beside_of};
 
     /// The column beside it.
-    pub(crate) fn beside(self) -> Column {
+    pub(crate) fn beside(self) -> Column
+        ensures { result ≡ beside_of self }
+    {
         match self {
             Column::Base => Column::Alt,
             Column::Shift => Column::AltShift,
@@ -117,13 +130,15 @@ pub(crate) fn legend_y(shape: Shape, column: Column, alone: bool, word: bool) ->
 fn size_by(sizes: &[u8; 7], count: usize) -> u8
     requires many { 2 ≤ count }
     requires classes { list_all is_class sizes.now ≡ true }
-    ensures { is_class result ≡ true }
+    ensures value { result ≡ spec.size_by sizes.now count }
+    ensures class { is_class result ≡ true }
 {
     sizes[count.min(8) - 2]
 }
 
 /// The class for the size of a legend. One in a corner is tight where another one stands beside it on a small cap.
 pub(crate) fn size_class(legend: &[char], alone: bool, tight: bool) -> Option<u8>
+    ensures value { result ≡ spec.size_class legend.now alone tight }
     ensures class { list_all is_class (option_to_list result) ≡ true }
     ensures inner { list_all is_inner (option_to_list result) ≡ true }
 {
@@ -131,17 +146,18 @@ pub(crate) fn size_class(legend: &[char], alone: bool, tight: bool) -> Option<u8
         return if alone { Some(b'z') } else { None };
     }
     Some(if alone {
-        size_by(b"wwxxxuu", legend.len())
+        size_by(&ALONE_SIZES, legend.len())
     } else if tight {
-        size_by(b"otyybbb", legend.len())
+        size_by(&TIGHT_SIZES, legend.len())
     } else {
-        size_by(b"vvvoott", legend.len())
+        size_by(&CORNER_SIZES, legend.len())
     })
 }
 
 /// The class for the side of a legend.
 fn side_class(column: Column, alone: bool) -> Option<u8>
-    ensures { list_all is_class (option_to_list result) ≡ true }
+    ensures value { result ≡ spec.side_class column alone }
+    ensures class { list_all is_class (option_to_list result) ≡ true }
 {
     if alone {
         Some(b'c')
@@ -164,7 +180,8 @@ pub(crate) fn own_of(map: &KeyMap, index: u8) -> char
 
 /// The class for the kind of a cell.
 fn kind_class(map: &KeyMap, column: Column, cell: &Cell) -> Option<u8>
-    ensures { list_all is_class (option_to_list result) ≡ true }
+    ensures value { result ≡ spec.kind_class map.now column cell.now }
+    ensures class { list_all is_class (option_to_list result) ≡ true }
 {
     let plain = if column.is_right() { Some(b'a') } else { None };
     match cell {
@@ -187,6 +204,7 @@ fn push_class(classes: &mut ArrayVec<u8, 6>, class: Option<u8>)
     requires room { array_vec_len classes.old + 2 ≤ 6 }
     requires class { list_all is_class (option_to_list class) ≡ true }
     requires classes { list_all is_class classes.old.items ≡ true }
+    ensures value { classes.new.items ≡ spec.and_class classes.old.items class }
     ensures classes { list_all is_class classes.new.items ≡ true }
     ensures len { array_vec_len classes.new ≤ array_vec_len classes.old + 2 }
 {
@@ -202,7 +220,7 @@ fn push_class(classes: &mut ArrayVec<u8, 6>, class: Option<u8>)
 }
 
 /// The classes of a legend: for its size, its side and its kind.
-#[tactic(auto, using(crate::proofs::Parts::classes_inner))]
+#[tactic(auto, using(crate::proofs::Parts::classes_inner), unfolding(crate::specs::Places::legend_classes))]
 pub(crate) fn legend_classes(
     map: &KeyMap,
     column: Column,
@@ -211,6 +229,7 @@ pub(crate) fn legend_classes(
     alone: bool,
     tight: bool,
 ) -> ArrayVec<u8, 6>
+    ensures value { result.items ≡ spec.legend_classes map.now column cell.now legend.now alone tight }
     ensures classes { list_all is_class result.items ≡ true }
     ensures inner { list_all is_inner result.items ≡ true }
 {

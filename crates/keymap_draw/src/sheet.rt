@@ -1,16 +1,19 @@
 //! The text of a picture as it is put together. What is seen of it is what a reader makes of it: the facts that it
 //! tells, and by its type the elements that its end stands in. Only the functions of this file know bytes.
-ghost use Rattle.std.specs.Prelude.{◌≡◌, ◌++◌, [], true, List, Some, IfOk, OnOk, map};
+ghost use Rattle.std.specs.Prelude.{◌≡◌, ◌++◌, ◌∷◌, [], true, List, Some, IfOk, OnOk, map, reverse};
 ghost use Rattle.std.specs.List.{list_all};
 ghost use Rattle.messages.specs.Filled.{filled};
 ghost use Rattle.keymap_draw.specs.Facts.{Fact};
-ghost use Rattle.keymap_draw.specs.Sheets.{within, over, facts_over, written, is_ready, in_svg, in_key, in_row};
+ghost use Rattle.keymap_draw.specs.Sheets.{within, over, facts_over, dress, written, is_ready, in_svg, in_key, in_row};
 ghost use Rattle.keymap_draw.specs.Sheets.{in_table};
+ghost use Rattle.keymap_draw.specs.Pictures.{head};
+ghost use Rattle.keymap_draw.specs.declared.sheet.Told.TheVariants.{Number as NumberOf};
+ghost use Rattle.keymap_draw.specs.declared.words.TheConstants.{END as END_WORDS};
 ghost use Rattle.keymap_draw.specs.WellFormed.{Element, Tells};
 
 use crate::constants::{SHAPES, STYLE};
 use crate::markup::{Added, push_characters, push_escaped};
-use crate::words::{ACCEPTED, BEGIN, END, PAGE, REFUSED};
+use crate::words::{ACCEPTED, BEGIN, DESCRIPTION, END, PAGE, REFUSED, TITLE};
 use messages::{either, number, parted};
 use std::alloc::Global;
 use std::marker::{Model, PhantomData};
@@ -103,21 +106,7 @@ fn push_filled(text: &mut Vec<u8>, words: &[u8], told: &[Told]) -> Added
     }
 }
 
-/// Adds words that tell nothing, with a text at each of their places.
-pub(crate) fn adorn<P: Part, Q: Part>(
-    sheet: Sheet<P>,
-    words: &[u8],
-    told: &[Told],
-) -> Added<Sheet<Q>>
-    requires ready { list_all is_ready told.now ≡ true }
-    requires quiet { (fs : List Fact) → over (Some (within P.begun fs)) words.now told.now
-        ≡ Some (within Q.begun fs) }
-    ensures { IfOk result (λ s. s ≡ sheet) }
-{
-    tell(sheet, words, told)
-}
-
-/// Adds words that tell facts, with a text at each of their places.
+/// Adds words with a text at each of their places. What they tell are facts.
 pub(crate) fn tell<P: Part, Q: Part>(
     sheet: Sheet<P>,
     words: &[u8],
@@ -125,7 +114,7 @@ pub(crate) fn tell<P: Part, Q: Part>(
 ) -> Added<Sheet<Q>>
     requires ready { list_all is_ready told.now ≡ true }
     requires read { (fs : List Fact) → over (Some (within P.begun fs)) words.now told.now
-        ≡ Some (within Q.begun (fs ++ facts_over P.begun words.now told.now)) }
+        ≡ Some (within Q.begun (reverse (facts_over P.begun words.now told.now) ++ fs)) }
     ensures { IfOk result (λ s. s ≡ sheet ++ facts_over P.begun words.now told.now) }
 {
     let Sheet { mut text, part: _ } = sheet;
@@ -136,14 +125,16 @@ pub(crate) fn tell<P: Part, Q: Part>(
     })
 }
 
-/// The head of a picture of some height: its begin, the style, the shapes and the page.
-pub(crate) fn begin(alloc: Global, is_accepted: bool, height: u32) -> Added<Sheet<InPicture>>
-    ensures { IfOk result (λ s. s ≡ []) }
+/// The head of a picture of some height: its begin, its title and its description, the style, the shapes and the page.
+pub(crate) fn begin(alloc: Global, count: usize, height: u32) -> Added<Sheet<InPicture>>
+    ensures { IfOk result (λ s. s ≡ head count height) }
 {
     let mut text = Vec::new(alloc);
     let high = Told::Number(height);
-    let verdict = Told::Plain(either(is_accepted, ACCEPTED, REFUSED));
-    push_filled(&mut text, BEGIN, &[high, high, verdict])?;
+    let verdict = Told::Plain(either(count == 0, ACCEPTED, REFUSED));
+    push_filled(&mut text, BEGIN, &[high, high])?;
+    push_filled(&mut text, TITLE, &[verdict])?;
+    text.extend_from_slice(DESCRIPTION)?;
     text.extend_from_slice(&STYLE)?;
     text.extend_from_slice(&SHAPES)?;
     push_filled(&mut text, PAGE, &[high])?;
@@ -155,7 +146,7 @@ pub(crate) fn begin(alloc: Global, is_accepted: bool, height: u32) -> Added<Shee
 
 /// The text of a picture, with the key to its colours at its end.
 pub(crate) fn finish(sheet: Sheet<InPicture>, y: u32) -> Added<Vec<u8>>
-    ensures { IfOk result (λ text. Tells sheet text.items) }
+    ensures { IfOk result (λ text. Tells (sheet ++ dress END_WORDS.now (NumberOf y ∷ [])) text.items) }
 {
     let Sheet { mut text, part: _ } = sheet;
     push_filled(&mut text, END, &[Told::Number(y)])?;

@@ -1,5 +1,7 @@
 //! The whole picture.
-ghost use Rattle.std.specs.Prelude.{◌≡◌, ◌++◌, ◌≤◌, IfOk, length};
+ghost use Rattle.std.specs.Prelude.{◌≡◌, ◌++◌, ◌≤◌, ◌<◌, IfOk, All, length};
+ghost use Rattle.keymap_core.specs.Numbers.{accent_limit};
+ghost use Rattle.keymap_draw.specs.WellFormed.{Tells};
 ghost use Rattle.keymap_draw.specs.Pictures as spec;
 
 use crate::board::Board;
@@ -32,7 +34,7 @@ fn starts_of(drawing: &Drawing, lower: usize, upper: usize, named: usize, silent
     requires lower { lower ≤ 128 }
     requires upper { upper ≤ 128 }
     requires named { named ≤ 15 }
-    ensures upper { result.upper ≡ spec.upper_y lower }
+    ensures value { result ≡ spec.starts_of drawing.now lower upper named silent }
     ensures low { result.upper ≤ 906 }
     ensures findings { result.findings ≤ 1796 }
     ensures accents { result.accents ≤ 3124 }
@@ -87,8 +89,42 @@ fn upper_keys(drawing: &Drawing) -> ArrayVec<u8, KEY_COUNT>
     }
 }
 
+/// What is listed in a picture: the keys below the boards of the two halves, the accents, and the dead keys without one.
+#[derive(Clone, Copy)]
+struct Listed<'a> {
+    lower: &'a [u8],
+    upper: &'a [u8],
+    named: &'a [u8],
+    silent: &'a [u8],
+}
+
+/// The picture with what is listed in it, whose parts begin at these places.
+fn draw(alloc: Global, drawing: &Drawing, starts: Starts, listed: Listed) -> Added<Vec<u8>>
+    requires upper { starts.upper ≤ 906 }
+    requires findings { starts.findings ≤ 1796 }
+    requires accents { starts.accents ≤ 3124 }
+    requires silent_low { starts.silent ≤ 3944 }
+    requires key { starts.key ≤ 4042 }
+    requires lower { length listed.lower.now ≤ 128 }
+    requires above { length listed.upper.now ≤ 128 }
+    requires named { length listed.named.now ≤ 15 }
+    requires silent { length listed.silent.now ≤ 15 }
+    requires named_known { All (λ i. i < accent_limit) listed.named.now }
+    requires silent_known { All (λ i. i < accent_limit) listed.silent.now }
+    ensures { IfOk result (λ text. Tells (spec.parts drawing.now starts listed.entry.lower.now
+        listed.entry.upper.now listed.entry.named.now listed.entry.silent.now) text.items) }
+{
+    let sheet = begin(alloc, drawing.findings().len(), starts.key + 76)?;
+    let sheet = push_half(sheet, drawing, Half::Lower, listed.lower, 16)?;
+    let sheet = push_upper(sheet, drawing, listed.upper, starts.upper)?;
+    let sheet = push_findings(sheet, drawing.findings(), starts.findings)?;
+    let sheet = push_accents(sheet, drawing.map(), listed.named, starts.accents)?;
+    let sheet = push_silent(sheet, listed.silent, starts.silent)?;
+    finish(sheet, starts.key)
+}
+
 /// The picture of a keymap on a board, as SVG, with the findings of a report on it.
-#[tactic(auto, unfolding(crate::specs::Pictures::parts, crate::specs::Pictures::picture_facts))]
+#[tactic(auto, unfolding(crate::specs::Pictures::picture_facts))]
 pub fn picture(
     alloc: Global,
     map: &KeyMap,
@@ -98,9 +134,14 @@ pub fn picture(
     ensures { IfOk result (λ text. spec.IsPictureWith map.now report.now.findings board text.items) }
 {
     let drawing = Drawing::new(map, report, board);
-    let findings = drawing.findings();
     let (lower, upper) = (other_keys(&drawing, Half::Lower), upper_keys(&drawing));
     let (named, silent) = (named_accents(map), silent_accents(&drawing));
+    let listed = Listed {
+        lower: lower.as_slice(),
+        upper: upper.as_slice(),
+        named: named.as_slice(),
+        silent: silent.as_slice(),
+    };
     let starts = starts_of(
         &drawing,
         lower.len(),
@@ -108,11 +149,5 @@ pub fn picture(
         named.len(),
         silent.len(),
     );
-    let sheet = begin(alloc, findings.is_empty(), starts.key + 76)?;
-    let sheet = push_half(sheet, &drawing, Half::Lower, lower.as_slice(), 16)?;
-    let sheet = push_upper(sheet, &drawing, upper.as_slice(), starts.upper)?;
-    let sheet = push_findings(sheet, findings, starts.findings)?;
-    let sheet = push_accents(sheet, map, named.as_slice(), starts.accents)?;
-    let sheet = push_silent(sheet, silent.as_slice(), starts.silent)?;
-    finish(sheet, starts.key)
+    draw(alloc, &drawing, starts, listed)
 }

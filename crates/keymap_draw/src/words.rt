@@ -1,11 +1,16 @@
 //! The words and the markup of the picture, in their order. What is told stands at the places `{}`, in the order in
 //! which the contracts list it.
 
-/// The begin of the picture, with its height twice, whether the keymap is accepted, and what the picture shows.
+/// The begin of the picture, with its height twice.
 pub(crate) const BEGIN: &[u8] =
     b"<svg xmlns=\"http://www.w3.org/2000/svg\" width=\"1492\" height=\"{}\" viewBox=\"0 0 1492 {}\" \
-role=\"graphics-document document\" aria-labelledby=\"title desc\" lang=\"en\">\n\
-<title id=\"title\">Console keymap, {}</title>\n<desc id=\"desc\">\
+role=\"graphics-document document\" aria-labelledby=\"title desc\" lang=\"en\">\n";
+
+/// The title of the whole, with whether the keymap is accepted.
+pub(crate) const TITLE: &[u8] = b"<title id=\"title\">Console keymap, {}</title>\n";
+
+/// What the picture shows.
+pub(crate) const DESCRIPTION: &[u8] = b"<desc id=\"desc\">\
 A keyboard. On each key stand base below left, shift above left, alt below right and alt shift above right; \
 its title is its line of the keymap.</desc>\n";
 

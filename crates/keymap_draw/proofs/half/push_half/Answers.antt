@@ -1,13 +1,24 @@
-use Rattle.keymap_draw.proofs.Common.{◌≡◌, ◌+◌, ◌++◌, ◌∙◌, ap, subst, append_assoc, IfOk, flat_map, RUNS, numbered}
-use Rattle.keymap_draw.proofs.Common.{run_keys, other_key, half_facts}
+use Rattle.keymap_draw.proofs.Common.{◌≡◌, ◌+◌, ◌++◌, ◌∙◌, [], ◌∷◌, ap, subst, IfOk, flat_map, RUNS, Number}
+use Rattle.keymap_draw.proofs.Common.{run_keys, half_facts}
+use Rattle.keymap_draw.specs.Halves.{headline, others, sample}
+use Rattle.keymap_draw.specs.Sheets.{dress}
+use Rattle.keymap_draw.specs.declared.words.TheConstants as words
+use Rattle.keymap_draw.proofs.Loops.{five}
 use Rattle.keymap_draw.proofs.half.push_half.Goals as goal
 
 pub returns : goal.returns
 unfolding half_facts
 returns c =
-    let rows = flat_map (run_keys c.args.drawing.now c.args.half (c.args.y + 40)) RUNS in
-    let others = numbered (other_key c.args.drawing.now c.args.half (c.args.y + 472)) 0 c.args.keys.now in
+    let d = c.args.drawing.now in
+    let half = c.args.half in
+    let y = c.args.y in
+    let head = headline d half (y + 26) in
+    let panel = dress words.PANEL.now (Number (y + 40) ∷ []) in
+    let rows = flat_map (run_keys d half (y + 40)) RUNS in
+    let shown = sample half (y + 52) in
+    let below = others d half (y + 472) c.args.keys.now in
     subst (λ fs. IfOk c.push_other_keys.result (λ s. s ≡ fs))
-    (ap (λ l. l ++ others) (c.in_ok-sheet-4.ensures ∙ c.in_ok-sheet-3.ensures
-    ∙ ap (λ l. l ++ rows) (c.in_ok-sheet-2.ensures ∙ c.in_ok-sheet.ensures))
-    ∙ append_assoc c.args.sheet rows others) c.push_other_keys.ensures
+    (ap (λ l. l ++ below) (c.in_ok-sheet-4.ensures ∙ ap (λ l. l ++ shown)
+    (c.in_ok-sheet-3.ensures ∙ ap (λ l. l ++ rows)
+    (c.in_ok-sheet-2.ensures ∙ ap (λ l. l ++ panel) c.in_ok-sheet.ensures)))
+    ∙ five c.args.sheet head panel rows shown below) c.push_other_keys.ensures

@@ -1,7 +1,7 @@
-use Rattle.keymap_draw.proofs.Common.{◌≡◌, ℕ, List, [], ◌∷◌, ◌++◌, ◌∙◌, Some, ap, sym, append_assoc, arith, subst, IfOk}
+use Rattle.keymap_draw.proofs.Common.{◌≡◌, ℕ, List, [], ◌∷◌, ◌++◌, ◌∙◌, Some, ap, sym, append-nil, arith, refl, reverse, subst, IfOk}
 use Rattle.keymap_draw.proofs.Common.{Number, Shape, Told, Plain, Bytes, Fact, within, in_svg, over, facts_of}
 use Rattle.std.proofs.Common.{Bor}
-use Rattle.std.proofs.lemmas.List.{nil_from_length}
+use Rattle.std.proofs.lemmas.List.{nil_from_length, reverse-reverse}
 use Rattle.keymap_draw.specs.declared.board.Shape.TheVariants.{A}
 use Rattle.keymap_draw.specs.Boards.{letter}
 use Rattle.keymap_draw.specs.Keys.{titled_cap}
@@ -18,11 +18,7 @@ group x y finding feed title shape =
 
 -- words behind which a title and a cap have been told
 record Reads (w : List ℕ) (ts : List Told) (new : List Fact) : Type 0 where
-  all : (fs : List Fact) → over (Some (within in_svg fs)) w ts ≡ Some (within in_key (fs ++ new))
-
-adds : (fs : List Fact) (a b : Fact)
-    → Some (within in_key ((fs ++ a ∷ []) ++ b ∷ [])) ≡ Some (within in_key (fs ++ a ∷ b ∷ []))
-adds fs a b = ap (λ gs. Some (within in_key gs)) (append_assoc fs (a ∷ []) (b ∷ []))
+  all : (fs : List Fact) → over (Some (within in_svg fs)) w ts ≡ Some (within in_key (reverse new ++ fs))
 
 -- the words without a class and those with one, by the shape, whose letter is an id
 both : (class finding feed title shape : Words) (x y : ℕ) (s : Shape) (said printed : List ℕ) → finding.now ≡ said
@@ -31,17 +27,18 @@ both : (class finding feed title shape : Words) (x y : ℕ) (s : Shape) (said pr
     × Reads words.KEY_OF.now (Plain class ∷ group x y finding feed title shape)
     (titled_cap ((said ++ feed.now) ++ printed) class.now x y s)
 both class finding feed title shape x y A said printed e f g =
-    (record { all = λ fs. rw (e, f, g) (adds fs _ _) }, record { all = λ fs. rw (e, f, g) (adds fs _ _) })
+    (record { all = λ fs. rw (e, f, g) refl }, record { all = λ fs. rw (e, f, g) refl })
 both class finding feed title shape x y _ said printed e f g =
-    (record { all = λ fs. rw (e, f, g) (adds fs _ _) }, record { all = λ fs. rw (e, f, g) (adds fs _ _) })
+    (record { all = λ fs. rw (e, f, g) refl }, record { all = λ fs. rw (e, f, g) refl })
 
 -- what they tell
 told : {w : List ℕ} {ts : List Told} {new : List Fact} → Reads w ts new → facts_over in_svg w ts ≡ new
-told h = ap facts_of (h.all [])
+told {new = new} h =
+    ap (λ s. reverse (facts_of s)) (h.all []) ∙ ap reverse (append-nil (reverse new)) ∙ reverse-reverse new
 
 read : {w : List ℕ} {ts : List Told} {new : List Fact} → Reads w ts new → (fs : List Fact)
-    → over (Some (within in_svg fs)) w ts ≡ Some (within in_key (fs ++ facts_over in_svg w ts))
-read h fs = h.all fs ∙ ap (λ gs. Some (within in_key (fs ++ gs))) (sym (told h))
+    → over (Some (within in_svg fs)) w ts ≡ Some (within in_key (reverse (facts_over in_svg w ts) ++ fs))
+read h fs = h.all fs ∙ ap (λ gs. Some (within in_key (reverse gs ++ fs))) (sym (told h))
 
 pub tell-requires-clause-read : goal.tell-requires-clause-read
 tell-requires-clause-read c =

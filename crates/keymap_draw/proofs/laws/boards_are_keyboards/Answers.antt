@@ -1,6 +1,9 @@
 use Rattle.keymap_draw.proofs.Boards as lemma
 use Rattle.keymap_draw.proofs.laws.boards_are_keyboards.Goals as goal
 
+pub returns-clause-rows : goal.returns-clause-rows
+returns-clause-rows c = lemma.boards_are_keyboards
+
 pub returns-clause-once : goal.returns-clause-once
 returns-clause-once c = lemma.each_key_once
 

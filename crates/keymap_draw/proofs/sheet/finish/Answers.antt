@@ -1,15 +1,27 @@
-use Rattle.keymap_draw.proofs.Common.{[], ◌∷◌, refl, ReadAs, at, Text, Number}
-use Rattle.keymap_draw.specs.Sheets.{ids}
+use Rattle.keymap_draw.proofs.Common.{[], ◌∷◌, ◌++◌, ◌∙◌, ap, refl, reverse, List, Some, Fact, ReadAs, at, Text}
+use Rattle.keymap_draw.proofs.Common.{Number, last_facts}
+use Rattle.keymap_draw.specs.Sheets.{dress, ids}
 use Rattle.keymap_draw.proofs.Parts.{behind}
-use Rattle.keymap_draw.proofs.Scans.{held}
+use Rattle.keymap_draw.proofs.Scans.{turned_back}
 use Rattle.keymap_draw.specs.declared.words.TheConstants as words
 use Rattle.keymap_draw.proofs.sheet.finish.Goals as goal
 
+end : goal.In_ok-push_filled → List Fact
+end c = dress words.END.now (Number c.args.y ∷ [])
+
 read : (c : goal.In_ok-push_filled)
-    → ReadAs (at Text (record { begun = []; ids = ids; facts = c.args.sheet })) c.push_filled.new.text.items
-read c =
-    behind words.END.now (Number c.args.y ∷ []) (held c.sheet.invariant c.sheet.view_is)
-    c.in_ok-push_filled.ensures refl refl
+    → ReadAs (at Text (record {
+      begun = [];
+      ids = ids;
+      facts = reverse (end c) ++ last_facts c.sheet.inside.text.items;
+    })) c.push_filled.new.text.items
+unfolding end
+read c = behind words.END.now (Number c.args.y ∷ []) c.sheet.invariant c.in_ok-push_filled.ensures refl refl
 
 pub returns : goal.returns
-returns c = record { ids = ids; scanned = (read c).scanned }
+unfolding end
+returns c = record {
+  ids = ids;
+  scanned = (read c).scanned ∙ ap (λ fs. Some (at Text (record { begun = []; ids = ids; facts = fs })))
+      (turned_back (end c) (last_facts c.sheet.inside.text.items) c.args.sheet c.sheet.view_is);
+}

@@ -1,10 +1,10 @@
 use Rattle.keymap_draw.proofs.Common.{arith}
 use Rattle.keymap_draw.proofs.Loops.{numbered_at, numbered_end}
-use Rattle.keymap_draw.proofs.lists.push_accents.Goals as goal
+use Rattle.keymap_draw.proofs.half.push_each_other.Goals as goal
 
 pub loop-i-preserved : goal.loop-i-preserved
 loop-i-preserved c =
-    numbered_at _ _ c.loop-i.i _ _ _ _ (omega arith) c.in_ok-sheet-2.ensures c.loop-i.invariant
+    numbered_at _ _ c.loop-i.i _ _ _ _ (omega arith) c.in_ok-sheet.ensures c.loop-i.invariant
 
 pub returns : goal.returns
 returns c = numbered_end _ _ c.loop-i.i _ _ (omega arith) c.loop-i.invariant

@@ -1,0 +1,26 @@
+use Rattle.keymap_draw.proofs.Common.{◌≡◌, ◌+◌, ◌++◌, ◌∙◌, [], ◌∷◌, ap, subst, length, IfOk, Tells, Lower, Number}
+use Rattle.keymap_draw.proofs.Common.{accents_list, findings_list, half_facts, head, silent_list}
+use Rattle.keymap_draw.specs.Pictures.{upper, parts}
+use Rattle.keymap_draw.specs.Sheets.{dress}
+use Rattle.keymap_draw.specs.declared.words.TheConstants as words
+use Rattle.keymap_draw.proofs.whole.draw.Goals as goal
+
+pub returns : goal.returns
+unfolding parts
+returns c =
+    let d = c.args.drawing.now in
+    let starts = c.args.starts in
+    let listed = c.args.listed in
+    let end = dress words.END.now (Number starts.key ∷ []) in
+    subst (λ fs. IfOk c.finish.result (λ text. Tells (fs ++ end) text.items))
+    (c.in_ok-sheet-6.ensures ∙ ap (λ l. l ++ silent_list listed.silent.now starts.silent)
+    (c.in_ok-sheet-5.ensures
+    ∙ ap (λ m. c.in_ok-sheet-4.sheet ++ accents_list m listed.named.now starts.accents) c.map.ensures.map
+    ∙ ap (λ l. l ++ accents_list d.map listed.named.now starts.accents)
+    (c.in_ok-sheet-4.ensures
+    ∙ ap (λ fs. c.in_ok-sheet-3.sheet ++ findings_list fs starts.findings) c.findings-2.ensures.findings
+    ∙ ap (λ l. l ++ findings_list d.findings starts.findings)
+    (c.in_ok-sheet-3.ensures ∙ ap (λ l. l ++ upper d listed.upper.now starts.upper)
+    (c.in_ok-sheet-2.ensures ∙ ap (λ l. l ++ half_facts d Lower listed.lower.now 16)
+    (c.in_ok-sheet.ensures ∙ ap (λ fs. head (length fs) (starts.key + 76)) c.findings.ensures.findings))))))
+    c.finish.ensures

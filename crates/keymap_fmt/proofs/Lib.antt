@@ -10,3 +10,4 @@ pub mod Spelling
 pub mod Finding
 pub mod Writing
 pub mod Separate
+pub mod Comments

@@ -38,7 +38,7 @@ read_blank s c bytes h = rw (front_blank c bytes h, no_hash c h, pieces_after) r
 
 -- a comment
 pub read_hash : (s : Standing) (c : ℕ) (bytes : List ℕ) → c ≡ 35 → pieces_after 0 s (c ∷ bytes)
-    ≡ comment (c ∷ take (leading stays_on_line bytes) bytes) s
+    ≡ comment (trimmed (c ∷ take (leading stays_on_line bytes) bytes)) s
     ∷ pieces_after (suc (leading stays_on_line bytes)) Below bytes
 unfolding pieces_after
 read_hash s c bytes h = rw (front_comment c bytes h, eq-eqb c 35 h, pieces_after) refl
@@ -105,8 +105,9 @@ comment_read bytes y s r =
     let kept : trimmed (35 ∷ w) ≡ 35 ∷ w =
     trim_kept (35 ∷ w) (omega arith) (ap (λ n. is_space (get_or (35 ∷ w) n 0)) (before (length w)) ∙ r.end) in
     ap (λ t. pieces_after 0 s (t ++ 10 ∷ y)) r.is ∙ read_hash s 35 (w ++ 10 ∷ y) refl
-    ∙ ap (λ n. comment (35 ∷ take n (w ++ 10 ∷ y)) s ∷ pieces_after (suc n) Below (w ++ 10 ∷ y)) n
-    ∙ ap (λ t. comment (35 ∷ t) s ∷ pieces_after (suc (length w)) Below (w ++ 10 ∷ y)) (take-append_seam w (10 ∷ y))
+    ∙ ap (λ n. comment (trimmed (35 ∷ take n (w ++ 10 ∷ y))) s ∷ pieces_after (suc n) Below (w ++ 10 ∷ y)) n
+    ∙ ap (λ t. comment (trimmed (35 ∷ t)) s ∷ pieces_after (suc (length w)) Below (w ++ 10 ∷ y))
+    (take-append_seam w (10 ∷ y))
     ∙ ap (λ (t : List ℕ). record { part = Comment; bytes = t; standing = s }
     ∷ pieces_after (suc (length w)) Below (w ++ 10 ∷ y)) (kept ∙ sym r.is)
     ∙ ap (λ (ps : List PieceValue). record { part = Comment; bytes = bytes; standing = s } ∷ ps)

@@ -56,7 +56,7 @@ unfolding rendered_from
 first_rendered s kind bytes t ps h k = search (rules, first_before, first_after, append_assoc)
 
 -- pieces before it
-rendered_both : (s : State) (ps qs : List PieceValue) (r : List ℕ)
+pub rendered_both : (s : State) (ps qs : List PieceValue) (r : List ℕ)
     → rendered_from (state_behind s ps) qs ≡ line_end (state_behind s ps).column ++ r
     → rendered_from s (ps ++ qs) ≡ rendered_from s ps ++ r
 unfolding rendered_from state_behind

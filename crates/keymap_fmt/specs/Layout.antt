@@ -53,7 +53,7 @@ opened s kind bytes =
     let t = in_line s kind in
     if is_over s then (if is_open kind then in_pair t else in_definition t bytes) else t
 
--- where a token of n places is to begin
+-- where a token of n places is to begin, counted from 0
 abbrev pub stop_in : Row → ℕ → ℕ → ℕ → ℕ
 stop_in Slot taken pairs_at n = if taken == 0 then max 2 (5 - n) else if taken == 9 then 65 else 7 * taken + 1
 stop_in Accent taken pairs_at n = if taken == 0 then 2 else 8

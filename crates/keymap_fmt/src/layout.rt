@@ -15,7 +15,7 @@ pub(crate) enum Row {
     Pair,
 }
 
-/// The open line, and the row whose tokens are written.
+/// The open line, and the row whose tokens are written. Columns are counted from 0 here.
 #[derive(Clone, Copy)]
 pub(crate) struct State {
     /// How many places are taken in the open line; 0 where none is open.
@@ -148,7 +148,7 @@ impl State {
         }
     }
 
-    /// Where a token of so many places is to begin.
+    /// Where a token of so many places is to begin, counted from 0.
     fn stop(&self, places: usize) -> usize
         requires { self.now.taken ≤ 9 }
         ensures { result ≡ spec.stop self.now places }

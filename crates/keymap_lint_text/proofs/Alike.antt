@@ -1,11 +1,20 @@
 -- A line tells the place of which it speaks, and whether it is an error, a warning or a note.
 use Rattle.keymap_lint_text.proofs.Common.{◌≡◌, ℕ, Bool, true, false, List, [], ◌∷◌, ◌++◌, codes, refl, ap, sym, ◌∙◌}
 use Rattle.keymap_lint_text.proofs.Common.{append_assoc, Option, Some, None, ◌==◌, not, decimal, length, ◌+◌, list_all}
-use Rattle.keymap_lint_text.proofs.Common.{and_parts, before_in_line, line, Severity, Said, Remark, head, place_text}
+use Rattle.keymap_lint_text.proofs.Common.{and_parts, before_in_line, line, Severity, Said, Remark, head}
 use Rattle.keymap_lint_text.proofs.Common.{said_text}
-use Rattle.std.specs.Prelude.{◌&&◌, slice_index}
+use Rattle.keymap_lint_text.proofs.Common.{remark, take, subst, arith, length-drop, cases_lt, inl, inr, ◌-◌, ◌<◌, ◌≤◌}
+use Prim.Native.Nat.{zero, suc}
+use Rattle.std.specs.Prelude.{◌&&◌, ◌^◌, slice_index}
+use Rattle.std.specs.List.{count_by, suffix_len}
+use Rattle.std.proofs.Common.{get_or, length-take}
+use Rattle.std.proofs.lemmas.Fmt.{decimal_injective}
+use Rattle.std.proofs.lemmas.List.Sums.{count_by-le-length, count_by_more_no, count_by_more_yes, suffix_len-le-length}
+use Rattle.std.proofs.lemmas.List.Sums.{suffix_len-take_yes}
+use Rattle.keymap_text.specs.LineOf.{is_feed}
 use Rattle.std.proofs.lemmas.List.{append_cancel_left}
-use Rattle.keymap_lint_text.specs.Promises.{AreAlike, label}
+use Rattle.keymap_lint_text.specs.Names.{severity_text}
+use Rattle.keymap_lint_text.specs.Promises.{AreAlike, LiesIn, label}
 use Rattle.keymap_lint_text.proofs.Headed.{behind, head_is}
 use Rattle.messages.proofs.Passed.{decimal_passes}
 use Rattle.keymap_lint.specs.declared.diagnostic.Severity.TheVariants as severities
@@ -37,30 +46,88 @@ no_blank (d ∷ ds) x y h e =
 
 -- ---- what is said
 
-abbrev words_behind : Said → List ℕ → List ℕ
-words_behind (Said.Judged severity kind) m = codes " " ++ m ++ codes " [" ++ kind ++ codes "]"
-words_behind _ m = codes " " ++ m
+abbrev words_behind : Said → List ℕ
+words_behind (Said.Judged severity kind message) = codes " " ++ message ++ codes " [" ++ kind ++ codes "]"
+words_behind (Said.Noted message) = codes " " ++ message
 
-severity_inner : (s : Severity) → list_all is_inner (label (Said.Judged s [])) ≡ true
+severity_inner : (s : Severity) → list_all is_inner (severity_text s) ≡ true
 severity_inner severities.Error = refl
 severity_inner severities.Warning = refl
 
 label_inner : (s : Said) → list_all is_inner (label s) ≡ true
-label_inner (Said.Judged severity kind) = severity_inner severity
-label_inner Said.Noted = refl
-label_inner (Said.Sticking modifiers events) = refl
+label_inner (Said.Judged severity kind message) = severity_inner severity
+label_inner (Said.Noted message) = refl
 
-said_is : (s : Said) (m : List ℕ) → said_text s m ≡ label s ++ (58 ∷ words_behind s m)
-said_is (Said.Judged severity kind) m = simp append_assoc
-said_is Said.Noted m = refl
-said_is (Said.Sticking modifiers events) m = refl
+said_is : (s : Said) → said_text s ≡ label s ++ (58 ∷ words_behind s)
+said_is (Said.Judged severity kind message) = simp append_assoc
+said_is (Said.Noted message) = refl
 
-same_label : (s t : Said) (m n : List ℕ) → said_text s m ≡ said_text t n → label s ≡ label t
-same_label s t m n e =
-    (same_front (label s) (label t) (words_behind s m) (words_behind t n) (label_inner s) (label_inner t)
-    (sym (said_is s m) ∙ e ∙ said_is t n)).0
+same_label : (s t : Said) → said_text s ≡ said_text t → label s ≡ label t
+same_label s t e =
+    (same_front (label s) (label t) (words_behind s) (words_behind t) (label_inner s) (label_inner t)
+    (sym (said_is s) ∙ e ∙ said_is t)).0
 
 -- ---- the places
+
+-- the line feeds before a place, and the bytes behind the last one
+abbrev feeds : List ℕ → ℕ → ℕ
+feeds text n = count_by is_feed (take n text)
+
+abbrev since : List ℕ → ℕ → ℕ
+since text n = suffix_len (λ c. not (is_feed c)) (take n text)
+
+since_is : (text : List ℕ) (n : ℕ) → length (before_in_line text n) ≡ since text n
+since_is text n =
+    let bytes = take n text in
+    let few = suffix_len-le-length (λ c. not (is_feed c)) bytes in
+    let rest = length-drop (length bytes - since text n) bytes in omega (arith, few, rest)
+
+-- No feed goes away behind a place, and where none comes, each byte is one more of the line.
+abbrev Grows : List ℕ → ℕ → ℕ → Type 0
+Grows text p q = (feeds text p ≤ feeds text q) × (feeds text q ≡ feeds text p → since text q + p ≡ since text p + q)
+
+one_more : (text : List ℕ) (p q : ℕ) (b : Bool) → is_feed (get_or text q 0) ≡ b → q < length text → Grows text p q
+    → Grows text p (q + 1)
+one_more text p q true e l g =
+    let more = count_by_more_yes is_feed text q 0 l e in (
+      omega (arith, more, g.0),
+      λ same. absurd (omega (arith, more, same, g.0)),
+    )
+one_more text p q false e l g =
+    let more = count_by_more_no is_feed text q 0 l e in
+    let passes : not (is_feed (get_or text (q + 1 - 1) 0)) ≡ true =
+    ap not (ap (λ n. is_feed (get_or text n 0)) (omega arith) ∙ e) in
+    let longer = suffix_len-take_yes (λ c. not (is_feed c)) text (q + 1) 0 (omega arith) (omega (arith, l)) passes in
+    let back : since text (q + 1 - 1) ≡ since text q = ap (since text) (omega arith) in (
+      omega (arith, more, g.0),
+      λ same. let before = g.1 (omega (arith, more, same)) in omega (arith, longer, back, before),
+    )
+
+grows : (text : List ℕ) (p d : ℕ) → p + d ≤ length text → Grows text p (p + d)
+grows text p zero l =
+    let here : Grows text p p = (omega arith, λ same. refl) in
+    let same : p ≡ p + zero = omega arith in subst (Grows text p) same here
+grows text p (suc d) l =
+    let next : p + d + 1 ≡ p + suc d = omega arith in
+    subst (Grows text p) next
+    (one_more text p (p + d) (is_feed (get_or text (p + d) 0)) refl (omega (arith, l))
+    (grows text p d (omega (arith, l))))
+
+-- the line and the column tell a place
+ordered_place : (text : List ℕ) (p q : ℕ) → p ≤ q → q ≤ length text → line text p ≡ line text q
+    → length (before_in_line text p) ≡ length (before_in_line text q) → p ≡ q
+ordered_place text p q l w e f =
+    let there : p + (q - p) ≡ q = omega (arith, l) in
+    let grown : Grows text p q = subst (Grows text p) there (grows text p (q - p) (omega (arith, there, w))) in
+    let same : feeds text q ≡ feeds text p = omega (arith, e) in
+    omega (arith, grown.1 same, since_is text p, since_is text q, f)
+
+same_place : (text : List ℕ) (p q : ℕ) → p ≤ length text → q ≤ length text → line text p ≡ line text q
+    → length (before_in_line text p) ≡ length (before_in_line text q) → p ≡ q
+same_place text p q v w e f = elim (cases_lt p q) [
+  | inl l ↦ ordered_place text p q (omega (arith, l)) w e f
+  | inr l ↦ sym (ordered_place text q p l v (sym e) (sym f))
+]
 
 abbrev column : List ℕ → ℕ → List ℕ
 column text p = decimal (length (before_in_line text p) + 1)
@@ -69,29 +136,45 @@ placed_is : (text : List ℕ) (p : ℕ) (x : List ℕ)
     → behind text (Some p) ++ x ≡ decimal (line text p) ++ (58 ∷ (column text p ++ (58 ∷ 32 ∷ x)))
 placed_is text p x = simp append_assoc
 
-alike_by : (file text : List ℕ) (p q : Option ℕ) (s t : Said) (m n : List ℕ)
-    → behind text p ++ said_text s m ≡ behind text q ++ said_text t n
-    → (place_text file text p ≡ place_text file text q) × (label s ≡ label t)
-alike_by file text None None s t m n e =
-    let said : said_text s m ≡ said_text t n = cc in (refl, same_label s t m n said)
-alike_by file text None (Some q) s t m n e =
-    absurd (no_blank (decimal (line text q)) _ _ (inner_digits (line text q)) (e ∙ placed_is text q (said_text t n)))
-alike_by file text (Some p) None s t m n e =
+-- both numbers are below 2 ^ 64
+line_low : (text : List ℕ) (p : ℕ) → length text < 2 ^ 63 → line text p < 2 ^ 64
+line_low text p l =
+    omega (arith, count_by-le-length is_feed (take p text), length-take p text, l)
+
+column_low : (text : List ℕ) (p : ℕ) → length text < 2 ^ 63 → length (before_in_line text p) + 1 < 2 ^ 64
+column_low text p l =
+    let bytes = take p text in
+    omega (arith, length-drop (length bytes - since text p) bytes, length-take p text, l)
+
+by_numbers : (text : List ℕ) (p q : ℕ) → length text < 2 ^ 63 → p ≤ length text → q ≤ length text
+    → decimal (line text p) ≡ decimal (line text q) → column text p ≡ column text q → p ≡ q
+by_numbers text p q l v w e f =
+    let lines = decimal_injective _ _ (line_low text p l) (line_low text q l) e in
+    let columns = decimal_injective _ _ (column_low text p l) (column_low text q l) f in
+    same_place text p q v w lines (omega (arith, columns))
+
+alike_by : (text : List ℕ) (p q : Option ℕ) (s t : Said) → LiesIn text (remark p s) → LiesIn text (remark q t)
+    → behind text p ++ said_text s ≡ behind text q ++ said_text t → (p ≡ q) × (label s ≡ label t)
+alike_by text None None s t v w e =
+    let said : said_text s ≡ said_text t = cc in (refl, same_label s t said)
+alike_by text None (Some q) s t v w e =
+    absurd (no_blank (decimal (line text q)) _ _ (inner_digits (line text q)) (e ∙ placed_is text q (said_text t)))
+alike_by text (Some p) None s t v w e =
     absurd (no_blank (decimal (line text p)) _ _ (inner_digits (line text p))
-    (sym e ∙ placed_is text p (said_text s m)))
-alike_by file text (Some p) (Some q) s t m n e =
+    (sym e ∙ placed_is text p (said_text s)))
+alike_by text (Some p) (Some q) s t v w e =
     let lines = same_front (decimal (line text p)) (decimal (line text q)) _ _ (inner_digits (line text p))
-    (inner_digits (line text q)) (sym (placed_is text p (said_text s m)) ∙ e ∙ placed_is text q (said_text t n)) in
-    let columns = same_front (column text p) (column text q) (32 ∷ said_text s m) (32 ∷ said_text t n)
+    (inner_digits (line text q)) (sym (placed_is text p (said_text s)) ∙ e ∙ placed_is text q (said_text t)) in
+    let columns = same_front (column text p) (column text q) (32 ∷ said_text s) (32 ∷ said_text t)
     (inner_digits (length (before_in_line text p) + 1)) (inner_digits (length (before_in_line text q) + 1)) lines.1 in
-    let said : said_text s m ≡ said_text t n = cc (columns.1) in (
-      cc (lines.0, columns.0),
-      same_label s t m n said,
+    let said : said_text s ≡ said_text t = cc (columns.1) in (
+      ap Some (by_numbers text p q v.0 v.1 w.1 lines.0 columns.0),
+      same_label s t said,
     )
 
-pub heads_alike : (file text : List ℕ) (d e : Remark) (m n : List ℕ) → head file text d m ≡ head file text e n
-    → AreAlike file text d e
-heads_alike file text d e m n is =
-    let rest = append_cancel_left file _ _ (sym (head_is file text d m) ∙ is ∙ head_is file text e n) in
-    let same : behind text d.place ++ said_text d.said m ≡ behind text e.place ++ said_text e.said n = cc in
-    let both = alike_by file text d.place e.place d.said e.said m n same in record { place = both.0; label = both.1 }
+pub heads_alike : (file text : List ℕ) (d e : Remark) → LiesIn text d → LiesIn text e
+    → head file text d ≡ head file text e → AreAlike d e
+heads_alike file text d e v w is =
+    let rest = append_cancel_left file _ _ (sym (head_is file text d) ∙ is ∙ head_is file text e) in
+    let same : behind text d.place ++ said_text d.said ≡ behind text e.place ++ said_text e.said = cc in
+    let both = alike_by text d.place e.place d.said e.said v w same in record { place = both.0; label = both.1 }

@@ -10,8 +10,7 @@ pub use Rattle.keymap_lint.specs.declared.diagnostic.Severity.{Severity}
 pub use Rattle.keymap_lint.specs.declared.diagnostic.Severity.TheVariants.{Error}
 pub use Rattle.keymap_lint_text.specs.Excerpt.{below, left_out, lines_of, reach, shown_before, without_cr}
 unfoldable pub use Rattle.keymap_lint_text.specs.Excerpt.{excerpt}
-pub use Rattle.keymap_lint_text.specs.Heads.{ArePrinted, IsMessage, Remark, Said, head, place_text, remark, said_text}
-pub use Rattle.keymap_lint_text.specs.Inner.Adding.{Adds}
+pub use Rattle.keymap_lint_text.specs.Heads.{Remark, Said, head, place_text, printed, remark, said_text}
 pub use Rattle.keymap_lint_text.specs.Names.{is_noted}
 unfoldable pub use Rattle.keymap_lint_text.specs.Names.{kind_text}
 pub use Rattle.keymap_lint_text.specs.Shown.{IsLine, IsPlainText, IsSeen, ended, is_shown_byte, last, lines_text}
@@ -35,5 +34,6 @@ pub use Rattle.std.proofs.lemmas.List.Elements.{All-append, All-cons, All-nil, A
 pub use Rattle.std.proofs.lemmas.Result.{on_ok_weaker}
 pub use Rattle.std.proofs.lemmas.Str.{encode_ascii}
 pub use Rattle.std.specs.Fmt.{digit_glyph}
-pub use Rattle.std.specs.List.{flat_map, list_all}
-pub use Rattle.std.specs.Prelude.{IfOk, decimal, encode_utf8, if◌then◌else◌, min, not, ◌==◌}
+pub use Rattle.std.specs.List.{flat_map, list_all, range_with_len}
+pub use Rattle.std.specs.Prelude.{IfOk, decimal, encode_utf8, if◌then◌else◌, min, not, slice_index}
+pub use Rattle.std.specs.Prelude.{slice_index_or, ◌%◌, ◌/◌, ◌==◌}

@@ -2,12 +2,13 @@
 use Rattle.keymap_lint_text.proofs.Common.{◌≡◌, ℕ, Bool, false, List, [], ◌∷◌, ◌++◌, codes, refl, ap, sym, subst, ◌∙◌}
 use Rattle.keymap_lint_text.proofs.Common.{append_assoc, Option, Some, None, decimal, length, map, ◌+◌, if◌then◌else◌}
 use Rattle.keymap_lint_text.proofs.Common.{flat_map, flat_map-append, All-nil, All-cons, All-append, Diagnostic}
-use Rattle.keymap_lint_text.proofs.Common.{Diagnostics, Error, fault_name, before_in_line, line, TextFaultKind, excerpt}
-use Rattle.keymap_lint_text.proofs.Common.{Said, Remark, remark, head, place_text, said_text, ArePrinted, is_noted}
+use Rattle.keymap_lint_text.proofs.Common.{Diagnostics, before_in_line, line, TextFaultKind, excerpt}
+use Rattle.keymap_lint_text.proofs.Common.{Said, Remark, remark, head, place_text, said_text, printed, is_noted}
 use Rattle.keymap_lint_text.proofs.Common.{ended, shown_name, IsLine, IsPlainText, answer, judged, of_diagnostic}
 use Rattle.keymap_lint_text.proofs.Common.{beginning}
+use Rattle.std.specs.Prelude.{◌&&◌, nat_lt}
 use Rattle.std.specs.List.{All, filter}
-use Rattle.std.proofs.lemmas.List.Elements.{filter-append}
+use Rattle.std.proofs.lemmas.List.Elements.{All-head, All-tail, filter-append}
 use Rattle.std.proofs.lemmas.Bool.{cond_both}
 use Rattle.console_core.specs.declared.outcome.Sticking.{Sticking}
 use Rattle.console_core.specs.declared.outcome.Sticking.TheVariants.{Sticks, Never, Undecided}
@@ -16,9 +17,12 @@ use Rattle.keymap_lint.specs.declared.diagnostic.Lint.TheVariants.{Faulty, Spell
 use Rattle.keymap_text.specs.LineOf.{rest_of_line}
 use Rattle.keymap_text.specs.declared.wanted.DefinitionStart.{DefinitionStart}
 use Rattle.keymap_lint_text.specs.Heads.{below}
-use Rattle.keymap_lint_text.specs.Promises.{is_indented, is_flush, AreHeads, HasHeads, is_judged, diagnostics}
-use Rattle.keymap_lint_text.specs.Whole.{IsLintText, remarks}
-use Rattle.keymap_lint_text.proofs.Lines.{excerpt_lines, head_line, name_line}
+use Rattle.keymap_lint_text.specs.Promises.{is_indented, is_flush, HasHeads, is_judged, diagnostics}
+use Rattle.keymap_lint_text.specs.Notes.{begins_text}
+use Rattle.keymap_lint_text.specs.Whole.{IsLintText, fault_remark, remarks, tells_beginning}
+use Rattle.keymap_lint_text.proofs.Lines.{IsSaid, ascii, excerpt_lines, fault_name_line, head_line, kind_line}
+use Rattle.keymap_lint_text.proofs.Lines.{name_line, sticks_line}
+use Rattle.keymap_lint_text.proofs.Messages.{begins_line, fault_line, message_line}
 
 -- what stands behind the file and a colon
 abbrev pub behind : List ℕ → Option ℕ → List ℕ
@@ -26,9 +30,9 @@ behind text None = codes " "
 behind text (Some place) =
     decimal (line text place) ++ codes ":" ++ decimal (length (before_in_line text place) + 1) ++ codes ": "
 
-pub head_is : (file text : List ℕ) (e : Remark) (m : List ℕ)
-    → head file text e m ≡ file ++ (codes ":" ++ (behind text e.place ++ said_text e.said m))
-head_is file text e m = ap (λ t. t ++ said_text e.said m) (parts e.place) ∙ simp append_assoc
+pub head_is : (file text : List ℕ) (e : Remark)
+    → head file text e ≡ file ++ (codes ":" ++ (behind text e.place ++ said_text e.said))
+head_is file text e = ap (λ t. t ++ said_text e.said) (parts e.place) ∙ simp append_assoc
   where
     parts : (place : Option ℕ) → place_text file text place ≡ file ++ (codes ":" ++ behind text place)
     parts None = refl
@@ -39,11 +43,10 @@ indented_front [] y = refl
 indented_front (a ∷ []) y = refl
 indented_front (a ∷ b ∷ file) y = refl
 
-head_indented : (file text : List ℕ) (e : Remark) (m : List ℕ) → is_indented (head file text e m) ≡ is_indented file
-head_indented file text e m =
-    ap is_indented (head_is file text e m
-    ∙ sym (append_assoc file (codes ":") (behind text e.place ++ said_text e.said m)))
-    ∙ indented_front file (behind text e.place ++ said_text e.said m)
+head_indented : (file text : List ℕ) (e : Remark) → is_indented (head file text e) ≡ is_indented file
+head_indented file text e =
+    ap is_indented (head_is file text e ∙ sym (append_assoc file (codes ":") (behind text e.place ++ said_text e.said)))
+    ∙ indented_front file (behind text e.place ++ said_text e.said)
 
 below_indented : (text : List ℕ) (place : Option ℕ) → filter is_flush (below text place) ≡ []
 unfolding excerpt
@@ -60,35 +63,74 @@ filtered : (h : List ℕ) (bs ls : List (List ℕ)) → is_indented h ≡ false 
 filtered h bs ls e f =
     rw (e, filter-append is_flush bs ls, f) refl
 
-pub all_headed : (file text : List ℕ) (es : List Remark) (printed : List ℕ) → IsLine file
-    → ArePrinted file text es printed → HasHeads file text es printed
-all_headed file text [] printed name e =
-    record { lines = []; spelled = e; plain = All-nil IsLine; heads = λ _. refl }
-all_headed file text (e ∷ es) printed name (first, rest, one, more, is) =
-    let others = all_headed file text es rest name more in
-    let h = head file text e one.message in
+abbrev AreSaid : List Remark → Type 0
+AreSaid es = All (λ (e : Remark). IsSaid e.said) es
+
+all_headed : (file text : List ℕ) (es : List Remark) → IsLine file → AreSaid es
+    → HasHeads file text es (printed file text es)
+all_headed file text [] name each = record { lines = []; spelled = refl; plain = All-nil IsLine; heads = λ _. refl }
+all_headed file text (e ∷ es) name each =
+    let others = all_headed file text es name (All-tail (λ (e : Remark). IsSaid e.said) e es each) in
+    let h = head file text e in
     let bs = below text e.place in record {
       lines = h ∷ (bs ++ others.lines);
-      spelled =
-          cc (is, one.spelled, others.spelled, flat_map-append ended (h ∷ bs) others.lines);
+      spelled = cc (others.spelled, flat_map-append ended (h ∷ bs) others.lines);
       plain =
-          All-cons IsLine h (bs ++ others.lines) (head_line file text e one.message name one.is_message)
+          All-cons IsLine h (bs ++ others.lines)
+          (head_line file text e name (All-head (λ (e : Remark). IsSaid e.said) e es each))
           (All-append IsLine bs others.lines (below_lines text e.place) others.plain);
       heads = λ flush.
-          subst (AreHeads file text (e ∷ es))
-          (sym (filtered h bs others.lines (head_indented file text e one.message ∙ flush)
-          (below_indented text e.place)))
-          (record { message = one.message; is_message = one.is_message; spelled = refl }, others.heads flush);
+          filtered h bs others.lines (head_indented file text e ∙ flush) (below_indented text e.place)
+          ∙ ap (λ t. h ∷ t) (others.heads flush);
     }
 
-pub lint_headed : (file text : List ℕ) (l : Lint) (printed : List ℕ) → IsLintText file text l printed
-    → HasHeads (shown_name file) text (remarks text l) printed
-lint_headed file text l printed p = all_headed (shown_name file) text (remarks text l) printed (name_line file) p
+-- ---- what is said of a text is a line
 
-pub lint_plain : (file text : List ℕ) (l : Lint) (printed : List ℕ) → IsLintText file text l printed
-    → IsPlainText printed
-lint_plain file text l printed p =
-    let headed = lint_headed file text l printed p in
+said_none : AreSaid []
+said_none = All-nil (λ (e : Remark). IsSaid e.said)
+
+said_cons : (e : Remark) (es : List Remark) → IsSaid e.said → AreSaid es → AreSaid (e ∷ es)
+said_cons e es p q = All-cons (λ (e : Remark). IsSaid e.said) e es p q
+
+said_if : (b : Bool) (es : List Remark) → AreSaid es → AreSaid (if b then es else [])
+said_if b es p = cond_both b es [] AreSaid (λ _. p) (λ _. said_none)
+
+answer_said : (s : Option Sticking) → AreSaid (answer s)
+answer_said None = said_none
+answer_said (Some Never) = said_none
+answer_said (Some (Undecided presses)) = said_cons _ [] (ascii _ refl) said_none
+answer_said (Some (Sticks events modifiers)) = said_cons _ [] (sticks_line modifiers.items events.items) said_none
+
+each_said : (text : List ℕ) (l : Diagnostics) (ds : List Diagnostic) → AreSaid (flat_map (of_diagnostic text l) ds)
+each_said text l [] = said_none
+each_said text l (d ∷ ds) =
+    All-append (λ (e : Remark). IsSaid e.said) (of_diagnostic text l d) (flat_map (of_diagnostic text l) ds)
+    (said_cons (judged text l d) _ (kind_line d.kind, message_line text l d.kind)
+    (said_if (is_noted d.kind) (answer l.sticking) (answer_said l.sticking))) (each_said text l ds)
+
+beginning_said : (text : List ℕ) (place : ℕ) (kind : TextFaultKind) (d : Option DefinitionStart)
+    → AreSaid (beginning text place kind d)
+beginning_said text place kind None = said_none
+beginning_said text place kind (Some d) =
+    let note = remark (Some d.offset) (Said.Noted (begins_text d.what)) in
+    said_if (tells_beginning kind && nat_lt (line text d.offset) (line text place)) (note ∷ [])
+    (said_cons note [] (begins_line d.what) said_none)
+
+all_said : (text : List ℕ) (l : Lint) → AreSaid (remarks text l)
+all_said text (Faulty f place) =
+    said_cons _ _ (fault_name_line f.kind, fault_line text f.offset f.kind place)
+    (beginning_said text f.offset f.kind place.definition)
+all_said text (Spelled l) = each_said text l l.list.items
+
+pub lint_headed : (file text : List ℕ) (l : Lint) (bytes : List ℕ) → IsLintText file text l bytes
+    → HasHeads (shown_name file) text (remarks text l) bytes
+lint_headed file text l bytes e =
+    subst (HasHeads (shown_name file) text (remarks text l)) (sym e)
+    (all_headed (shown_name file) text (remarks text l) (name_line file) (all_said text l))
+
+pub lint_plain : (file text : List ℕ) (l : Lint) (bytes : List ℕ) → IsLintText file text l bytes → IsPlainText bytes
+lint_plain file text l bytes e =
+    let headed = lint_headed file text l bytes e in
     record { lines = headed.lines; spelled = headed.spelled; plain = headed.plain }
 
 -- ---- the remarks that are no notes
@@ -105,17 +147,17 @@ noted_if b es e = cond_both b es [] (λ fs. filter is_judged fs ≡ []) (λ _. e
 beginning_noted : (text : List ℕ) (place : ℕ) (kind : TextFaultKind) (d : Option DefinitionStart)
     → filter is_judged (beginning text place kind d) ≡ []
 beginning_noted text place kind None = refl
-beginning_noted text place kind (Some d) = noted_if _ (remark (Some d.offset) Said.Noted ∷ []) refl
+beginning_noted text place kind (Some d) =
+    noted_if _ (remark (Some d.offset) (Said.Noted (begins_text d.what)) ∷ []) refl
 
-each_judged : (l : Diagnostics) (ds : List Diagnostic)
-    → filter is_judged (flat_map (of_diagnostic l) ds) ≡ map (judged l) ds
-each_judged l [] = refl
-each_judged l (d ∷ ds) =
+each_judged : (text : List ℕ) (l : Diagnostics) (ds : List Diagnostic)
+    → filter is_judged (flat_map (of_diagnostic text l) ds) ≡ map (judged text l) ds
+each_judged text l [] = refl
+each_judged text l (d ∷ ds) =
     let noted = noted_if (is_noted d.kind) (answer l.sticking) (answer_noted l.sticking) in
-    cc (filter-append is_judged (of_diagnostic l d) (flat_map (of_diagnostic l) ds), each_judged l ds)
+    cc (filter-append is_judged (of_diagnostic text l d) (flat_map (of_diagnostic text l) ds), each_judged text l ds)
 
-pub all_judged : (text : List ℕ) (l : Lint) → filter is_judged (remarks text l) ≡ diagnostics l
+pub all_judged : (text : List ℕ) (l : Lint) → filter is_judged (remarks text l) ≡ diagnostics text l
 all_judged text (Faulty f place) =
-    ap (λ t. remark (Some f.offset) (Said.Judged Error (fault_name f.kind)) ∷ t)
-    (beginning_noted text f.offset f.kind place.definition)
-all_judged text (Spelled l) = each_judged l l.list.items
+    ap (λ t. fault_remark text f.offset f.kind place ∷ t) (beginning_noted text f.offset f.kind place.definition)
+all_judged text (Spelled l) = each_judged text l l.list.items

@@ -6,8 +6,10 @@ use Rattle.keymap_lint_text.proofs.Common.{list_all, and_parts, nat_tests, flat_
 use Rattle.keymap_lint_text.proofs.Common.{All-append, All-take, encode_ascii, lossy_chars, pieces, or_replacement}
 use Rattle.keymap_lint_text.proofs.Common.{Event, along, Modifier, Severity, TextFaultKind, fault_name, before_in_line}
 use Rattle.keymap_lint_text.proofs.Common.{line, filled, excerpt, lines_of, below, left_out, shown_before, without_cr}
-use Rattle.keymap_lint_text.proofs.Common.{Said, Remark, IsMessage, head, place_text, said_text, kind_text, shown_char}
+use Rattle.keymap_lint_text.proofs.Common.{Said, Remark, head, place_text, said_text, kind_text, shown_char}
 use Rattle.keymap_lint_text.proofs.Common.{shown_chars, shown_name, is_shown_byte, IsSeen, IsLine}
+use Rattle.keymap_lint_text.proofs.Common.{range_with_len}
+use Rattle.keymap_text.proofs.Pieces.{pieces_on}
 use Prim.Native.Nat.{zero, suc}
 pub use Rattle.messages.proofs.Passed.{EachPasses, append_all, decimal_all, filled_all}
 use Rattle.messages.proofs.Passed.{decimal_passes, parts_all}
@@ -34,7 +36,6 @@ use Rattle.keymap_lint.specs.declared.diagnostic.Kind.TheVariants as kinds
 use Rattle.keymap_lint.specs.declared.diagnostic.Severity.TheVariants as severities
 use Rattle.keymap_text.specs.declared.fault.TextFaultKind.TheVariants as faults
 use Rattle.keymap_lint_text.specs.Notes as notes
-use Rattle.keymap_lint_text.specs.declared.words.TheConstants as words
 
 -- the character that is read in front is one
 read : (bs : List ℕ) (o : Option ℕ) → (decoded bs).char ≡ o → IsScalar (or_replacement o)
@@ -99,7 +100,7 @@ line_cons c bs small seen p = record {
   seen = All-cons IsSeen c p.characters (grind (arith, nat_tests), seen) p.seen;
 }
 
-either : (b : Bool) (x y : List ℕ) → IsLine x → IsLine y → IsLine (if b then x else y)
+pub either : (b : Bool) (x y : List ℕ) → IsLine x → IsLine y → IsLine (if b then x else y)
 either b x y p q = cond_both b x y IsLine (λ _. p) (λ _. q)
 
 pub line_if : (t : Bool) (bs : List ℕ) → IsLine bs → IsLine (if t then bs else [])
@@ -123,8 +124,13 @@ line_each P f each [] h = line_none
 line_each P f each (x ∷ xs) h =
     each x (All-head P x xs h) ⊳ line_each P f each xs (All-tail P x xs h)
 
-line_flat : {A : Type 0} (f : A → List ℕ) → ((x : A) → IsLine (f x)) → (xs : List A) → IsLine (flat_map f xs)
+pub line_flat : {A : Type 0} (f : A → List ℕ) → ((x : A) → IsLine (f x)) → (xs : List A) → IsLine (flat_map f xs)
 line_flat f each xs = line_each (λ _. Unit {0}) f (λ x _. each x) xs (λ k d _. tt)
+
+-- a text of the pieces below a number, and the piece of that number behind it
+pub piece_more : (f : ℕ → List ℕ) (i : ℕ) (text more : List ℕ) → text ≡ flat_map f (range_with_len 0 i)
+    → more ≡ text ++ f i → more ≡ flat_map f (range_with_len 0 (i + 1))
+piece_more f i text more e piece = piece ∙ ap (λ t. t ++ f i) e ∙ sym (pieces_on f i)
 
 -- ---- digits
 
@@ -143,7 +149,7 @@ fills w (t ∷ ts) h ps =
     ascii (words_before w) (parts_all is_shown_byte (position_or_len is_hole w) w h).0 ⊳ ps.0
     ⊳ fills (words_behind w) ts (parts_all is_shown_byte (position_or_len is_hole w + 2) w h).1 ps.1
 
-modifier_line : (modifier : Modifier) → IsLine (name_of (action.Mod modifier))
+pub modifier_line : (modifier : Modifier) → IsLine (name_of (action.Mod modifier))
 modifier_line mods.LeftShift = ascii _ refl
 modifier_line _ = ascii _ refl
 
@@ -171,13 +177,9 @@ events_line (e ∷ es) = event_line e ⊳ line_flat notes.further_event further_
 pub sticks_line : (stuck : List Modifier) (events : List Event) → IsLine (notes.sticks_text stuck events)
 unfolding notes.sticks_text
 sticks_line stuck events =
-    fills words.STICKS.now _ refl (
-      modifiers_line stuck,
-      (
-        either (length stuck == 1) _ _ (ascii words.ONE_STAYS.now refl) (ascii words.SOME_STAY.now refl),
-        (events_line events, tt),
-      ),
-    )
+    modifiers_line stuck ⊳ ascii (codes " ") refl
+    ⊳ either (length stuck == 1) _ _ (ascii (codes "stays") refl) (ascii (codes "stay") refl)
+    ⊳ ascii (codes " on with no key pressed, after: ") refl ⊳ events_line events
 
 -- ---- names of kinds, and a whole line
 
@@ -200,16 +202,18 @@ place_line file text (Some place) p =
     p ⊳ ascii (codes ":") refl ⊳ decimal_line (line text place) ⊳ ascii (codes ":") refl
     ⊳ decimal_line (length (before_in_line text place) + 1) ⊳ ascii (codes ": ") refl
 
-said_line : (s : Said) (message : List ℕ) → IsMessage s message → IsLine (said_text s message)
-said_line (Said.Judged severity kind) message (p, q) =
-    severity_line severity ⊳ ascii (codes ": ") refl ⊳ q ⊳ ascii (codes " [") refl ⊳ p ⊳ ascii (codes "]") refl
-said_line Said.Noted message p = ascii (codes "note: ") refl ⊳ p
-said_line (Said.Sticking modifiers events) message e =
-    ascii (codes "note: ") refl ⊳ subst IsLine (sym e) (sticks_line modifiers events)
+-- what is said, where the name of its kind and its message are lines
+abbrev pub IsSaid : Said → Type 0
+IsSaid (Said.Judged severity kind message) = IsLine kind × IsLine message
+IsSaid (Said.Noted message) = IsLine message
 
-pub head_line : (file text : List ℕ) (e : Remark) (message : List ℕ) → IsLine file → IsMessage e.said message
-    → IsLine (head file text e message)
-head_line file text e message p q = place_line file text e.place p ⊳ said_line e.said message q
+said_line : (s : Said) → IsSaid s → IsLine (said_text s)
+said_line (Said.Judged severity kind message) (p, q) =
+    severity_line severity ⊳ ascii (codes ": ") refl ⊳ q ⊳ ascii (codes " [") refl ⊳ p ⊳ ascii (codes "]") refl
+said_line (Said.Noted message) p = ascii (codes "note: ") refl ⊳ p
+
+pub head_line : (file text : List ℕ) (e : Remark) → IsLine file → IsSaid e.said → IsLine (head file text e)
+head_line file text e p q = place_line file text e.place p ⊳ said_line e.said q
 
 -- ---- the line of a place and the caret, and a name
 

@@ -1,8 +1,11 @@
 pub mod Whole
 pub mod Heads
 pub mod Names
+pub mod Said
+pub mod Faults
+pub mod Told
+pub mod Lists
 pub mod Notes
 pub mod Excerpt
 pub mod Shown
 pub mod Promises
-pub mod Inner

@@ -1,4 +1,4 @@
--- What is told of modifiers that stay on.
+-- What notes tell: of modifiers that stay on, and where a definition begins.
 use Rattle.std.specs.Prelude.{ℕ, List, [], ◌∷◌, ◌++◌, codes, decimal, length, ◌==◌, if◌then◌else◌}
 use Rattle.std.specs.List.{flat_map}
 use Rattle.keymap_core.specs.Actions.{holding_action, name_of}
@@ -6,8 +6,10 @@ use Rattle.keymap_core.specs.declared.action.Modifier.{Modifier}
 use Rattle.keymap_core.specs.declared.action.Holding.TheVariants as holding
 use Rattle.console_core.specs.declared.event.Event.{Event}
 use Rattle.console_core.specs.declared.event.Event.TheVariants.{Press, Release, Reset, Load}
+use Rattle.keymap_text.specs.declared.placed.Defined.{Defined}
 use Rattle.keymap_lint_text.specs.declared.words.TheConstants as words
 use Rattle.messages.specs.Filled.{filled}
+use Rattle.keymap_lint_text.specs.Told.{defined_text}
 
 abbrev pub modifier_name : Modifier → List ℕ
 modifier_name m = name_of (holding_action (holding.Mod m))
@@ -35,8 +37,16 @@ abbrev pub events_text : List Event → List ℕ
 events_text [] = []
 events_text (e ∷ es) = event_text e ++ flat_map further_event es
 
--- the modifiers that stay on, and the events after which they do
+-- The answers of the search are verdicts, so they stand here in their bytes: the modifiers that stay on, and the events
+-- after which they do; or that it is undecided.
 unfoldable pub sticks_text : List Modifier → List Event → List ℕ
 sticks_text stuck events =
-    filled words.STICKS.now (modifiers_text stuck
-    ∷ (if length stuck == 1 then words.ONE_STAYS.now else words.SOME_STAY.now) ∷ events_text events ∷ [])
+    modifiers_text stuck ++ codes " " ++ (if length stuck == 1 then codes "stays" else codes "stay")
+    ++ codes " on with no key pressed, after: " ++ events_text events
+
+abbrev pub undecided_text : List ℕ
+undecided_text = codes "whether a modifier can stay on is undecided: more than 65536 states"
+
+-- where a definition begins that a fault stands in
+unfoldable pub begins_text : Defined → List ℕ
+begins_text what = filled words.BEGINS.now (defined_text what ∷ [])

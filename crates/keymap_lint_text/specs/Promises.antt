@@ -1,19 +1,17 @@
 -- What who reads the diagnostics of a text may rely on.
-use Rattle.std.specs.Prelude.{◌≡◌, ℕ, ◌==◌, ◌&&◌, not, Bool, true, false, List, [], ◌∷◌, ◌++◌, codes, map, take, drop}
-use Rattle.std.specs.Prelude.{encode_utf8, slice_index, Some}
+use Rattle.std.specs.Prelude.{◌≡◌, ℕ, ◌+◌, ◌-◌, ◌^◌, ◌<◌, ◌≤◌, ◌==◌, ◌&&◌, not, Bool, true, false, List, [], ◌∷◌}
+use Rattle.std.specs.Prelude.{◌++◌, codes, map, take, drop, encode_utf8, length, min, slice_index, IfSome}
 use Rattle.std.specs.List.{All, filter, flat_map, list_all}
 use Rattle.console_core.specs.declared.event.Event.{Event}
 use Rattle.keymap_core.specs.declared.action.Modifier.{Modifier}
 use Rattle.keymap_lint.specs.declared.diagnostic.Lint.{Lint}
 use Rattle.keymap_lint.specs.declared.diagnostic.Lint.TheVariants.{Faulty, Spelled}
-use Rattle.keymap_lint.specs.declared.diagnostic.Severity.TheVariants.{Error}
-use Rattle.keymap_text.specs.FaultNames.{fault_name}
 use Rattle.keymap_lint_text.specs.Excerpt.{below, dots, excerpt, shown_before, without_cr}
-use Rattle.keymap_lint_text.specs.Heads.{Said, Remark, IsMessage, remark, head, place_text}
-use Rattle.keymap_lint_text.specs.Notes.{events_text, modifiers_text}
+use Rattle.keymap_lint_text.specs.Heads.{Said, Remark, head}
+use Rattle.keymap_lint_text.specs.Notes.{events_text, modifiers_text, sticks_text}
 use Rattle.keymap_lint_text.specs.Names.{severity_text}
 use Rattle.keymap_lint_text.specs.Shown.{IsLine, IsPlainText, lines_text, shown_chars, shown_name}
-use Rattle.keymap_lint_text.specs.Whole.{IsLintText, remarks, judged}
+use Rattle.keymap_lint_text.specs.Whole.{IsLintText, fault_remark, remarks, judged}
 
 abbrev pub PrintedIsPlain : Type 0
 PrintedIsPlain = (file text : List ℕ) (l : Lint) (printed : List ℕ) → IsLintText file text l printed
@@ -26,25 +24,13 @@ is_indented line = slice_index line 0 == 32 && slice_index line 1 == 32
 abbrev pub is_flush : List ℕ → Bool
 is_flush line = not (is_indented line)
 
--- The line tells the remark's place, its severity and its kind, or that it is a note, and some message.
-pub record IsHead (file text : List ℕ) (e : Remark) (line : List ℕ) : Type 0 where
-  pub message : List ℕ
-  pub is_message : IsMessage e.said message
-  pub spelled : line ≡ head file text e message
-
--- the lines are the heads of the remarks, one for each and in their order
-abbrev pub AreHeads : List ℕ → List ℕ → List Remark → List (List ℕ) → Type 0
-AreHeads file text [] lines = lines ≡ []
-AreHeads file text (e ∷ es) [] = ⊥
-AreHeads file text (e ∷ es) (line ∷ lines) = IsHead file text e line × AreHeads file text es lines
-
 -- The printed bytes are lines. Those that don't begin with two blanks are the heads of the remarks; a file's name that
 -- begins with two blanks is left out, since with it each line does.
 pub record HasHeads (file text : List ℕ) (es : List Remark) (printed : List ℕ) : Type 0 where
   pub lines : List (List ℕ)
   pub spelled : printed ≡ lines_text lines
   pub plain : All IsLine lines
-  pub heads : is_indented file ≡ false → AreHeads file text es (filter is_flush lines)
+  pub heads : is_indented file ≡ false → filter is_flush lines ≡ map (head file text) es
 
 abbrev pub EachRemarkHasOneHead : Type 0
 EachRemarkHasOneHead =
@@ -55,43 +41,52 @@ abbrev pub is_judged : Remark → Bool
 is_judged e = is_judged_of e.said
   where
     is_judged_of : Said → Bool
-    is_judged_of (Said.Judged severity kind) = true
+    is_judged_of (Said.Judged severity kind message) = true
     is_judged_of _ = false
 
 -- the remarks that are no notes: the fault, or the diagnostics in their order
-abbrev pub diagnostics : Lint → List Remark
-diagnostics (Faulty f place) = remark (Some f.offset) (Said.Judged Error (fault_name f.kind)) ∷ []
-diagnostics (Spelled l) = map (judged l) l.list.items
+abbrev pub diagnostics : List ℕ → Lint → List Remark
+diagnostics text (Faulty f place) = fault_remark text f.offset f.kind place ∷ []
+diagnostics text (Spelled l) = map (judged text l) l.list.items
 
 abbrev pub EachDiagnosticIsOneRemark : Type 0
-EachDiagnosticIsOneRemark = (text : List ℕ) (l : Lint) → filter is_judged (remarks text l) ≡ diagnostics l
+EachDiagnosticIsOneRemark = (text : List ℕ) (l : Lint) → filter is_judged (remarks text l) ≡ diagnostics text l
 
 -- the severity, or that it is a note
 abbrev pub label : Said → List ℕ
-label (Said.Judged severity kind) = severity_text severity
+label (Said.Judged severity kind message) = severity_text severity
 label _ = codes "note"
 
--- Two remarks of which one line is the head have the same place, and both are errors, warnings or notes.
-pub record AreAlike (file text : List ℕ) (d e : Remark) : Type 0 where
-  pub place : place_text file text d.place ≡ place_text file text e.place
+-- the place lies within a text that memory holds
+abbrev pub LiesIn : List ℕ → Remark → Type 0
+LiesIn text e = (length text < 2 ^ 63) × IfSome e.place (λ p. p ≤ length text)
+
+-- Two remarks of which one line is the head stand at the same place, and both are errors, warnings or notes.
+pub record AreAlike (d e : Remark) : Type 0 where
+  pub place : d.place ≡ e.place
   pub label : label d.said ≡ label e.said
 
 abbrev pub HeadsTellPlaces : Type 0
 HeadsTellPlaces =
-    (file text : List ℕ) (d e : Remark) (m n : List ℕ) → head file text d m ≡ head file text e n
-    → AreAlike file text d e
+    (file text : List ℕ) (d e : Remark) → LiesIn text d → LiesIn text e → head file text d ≡ head file text e
+    → AreAlike d e
 
--- Of the characters before a place and from it on some are shown, in one line with two blanks in front, and dots for
--- those that are left out. The caret stands below the place: in the second line there is a blank for each character
--- before the place, or a tab for a tab.
+-- Of the characters of a line those near the place are shown, in one line with two blanks in front, and dots where some
+-- are left out: before the place at least 60, or all, and from it on as many as make 120, its own character among them.
+-- At the front some are left out only where 120 are shown. The caret stands below the place: in the second line there
+-- is a blank for each character before the place, or a tab for a tab.
 pub record HasCaretBelow (before rest : List ℕ) (lines : List (List ℕ)) : Type 0 where
   pub skipped : ℕ
-  pub shown : ℕ
-  pub left : ℕ
+  pub room : ℕ
+  pub near : min 60 (length before) ≤ length before - skipped
+  pub full : length before - skipped + room ≡ 120
+  pub needed : 0 < skipped → 120 ≤ length before - skipped + length rest
+  pub own : 0 < length rest → 0 < room
   pub front : List ℕ
   pub stands_before : front ≡ codes "  " ++ dots skipped ++ drop skipped before
   pub line : lines
-      ≡ flat_map encode_utf8 (front ++ (take shown rest ++ dots left)) ∷ (map below front ++ codes "^") ∷ []
+      ≡ flat_map encode_utf8 (front ++ (take room rest ++ dots (length rest - room)))
+      ∷ (map below front ++ codes "^") ∷ []
 
 abbrev pub CaretsStandBelow : Type 0
 CaretsStandBelow =
@@ -110,5 +105,5 @@ pub record TellsEvents (modifiers : List Modifier) (events : List Event) (messag
 
 abbrev pub NotesTellEvents : Type 0
 NotesTellEvents =
-    (modifiers : List Modifier) (events : List Event) (message : List ℕ)
-    → IsMessage (Said.Sticking modifiers events) message → TellsEvents modifiers events message
+    (modifiers : List Modifier) (events : List Event)
+    → TellsEvents modifiers events (sticks_text modifiers events)

@@ -1,5 +1,6 @@
 -- What is printed of a text under the name of its file.
-use Rattle.std.specs.Prelude.{ℕ, ◌&&◌, Bool, true, false, nat_lt, if◌then◌else◌, List, [], ◌∷◌, Option, Some, None}
+use Rattle.std.specs.Prelude.{◌≡◌, ℕ, ◌&&◌, Bool, true, false, nat_lt, if◌then◌else◌, List, [], ◌∷◌}
+use Rattle.std.specs.Prelude.{Option, Some, None}
 use Rattle.std.specs.List.{flat_map}
 use Rattle.console_core.specs.declared.outcome.Sticking.{Sticking}
 use Rattle.console_core.specs.declared.outcome.Sticking.TheVariants.{Sticks, Undecided}
@@ -12,24 +13,30 @@ use Rattle.keymap_lint.specs.Severities.{severity_of, never_sticks}
 use Rattle.keymap_text.specs.declared.fault.TextFaultKind.{TextFaultKind}
 use Rattle.keymap_text.specs.declared.fault.TextFaultKind.TheVariants as faults
 use Rattle.keymap_text.specs.declared.wanted.DefinitionStart.{DefinitionStart}
+use Rattle.keymap_text.specs.declared.wanted.FaultPlace.{FaultPlace}
 use Rattle.keymap_text.specs.FaultNames.{fault_name}
 use Rattle.keymap_text.specs.Meaning.{line}
-use Rattle.keymap_lint_text.specs.Heads.{Said, Remark, remark, ArePrinted}
+use Rattle.keymap_lint_text.specs.Faults.{fault_text}
+use Rattle.keymap_lint_text.specs.Heads.{Said, Remark, remark, printed}
 use Rattle.keymap_lint_text.specs.Names.{kind_text, is_noted}
+use Rattle.keymap_lint_text.specs.Notes.{sticks_text, undecided_text, begins_text}
+use Rattle.keymap_lint_text.specs.Said.{message_text}
 use Rattle.keymap_lint_text.specs.Shown.{shown_name}
 
 -- what the search answered, if some modifier stays on or may stay on
 abbrev pub answer : Option Sticking → List Remark
-answer (Some (Sticks events modifiers)) = remark None (Said.Sticking modifiers.items events.items) ∷ []
-answer (Some (Undecided presses)) = remark None Said.Noted ∷ []
+answer (Some (Sticks events modifiers)) = remark None (Said.Noted (sticks_text modifiers.items events.items)) ∷ []
+answer (Some (Undecided presses)) = remark None (Said.Noted undecided_text) ∷ []
 answer _ = []
 
 -- the diagnostic, and behind some kinds what the search answered
-abbrev pub judged : Diagnostics → Diagnostic → Remark
-judged l d = remark d.place (Said.Judged (severity_of (never_sticks l.sticking) d.kind) (kind_text d.kind))
+abbrev pub judged : List ℕ → Diagnostics → Diagnostic → Remark
+judged text l d =
+    remark d.place (Said.Judged (severity_of (never_sticks l.sticking) d.kind) (kind_text d.kind)
+    (message_text text l d.kind))
 
-abbrev pub of_diagnostic : Diagnostics → Diagnostic → List Remark
-of_diagnostic l d = judged l d ∷ (if is_noted d.kind then answer l.sticking else [])
+abbrev pub of_diagnostic : List ℕ → Diagnostics → Diagnostic → List Remark
+of_diagnostic text l d = judged text l d ∷ (if is_noted d.kind then answer l.sticking else [])
 
 -- faults that stand in a definition and may come from its beginning
 abbrev pub tells_beginning : TextFaultKind → Bool
@@ -43,17 +50,23 @@ abbrev pub beginning : List ℕ → ℕ → TextFaultKind → Option DefinitionS
 beginning text place kind None = []
 beginning text place kind (Some d) =
     if tells_beginning kind && nat_lt (line text d.offset) (line text place)
-    then remark (Some d.offset) Said.Noted ∷ []
+    then remark (Some d.offset) (Said.Noted (begins_text d.what)) ∷ []
     else []
 
-abbrev pub of_fault : List ℕ → ℕ → TextFaultKind → Option DefinitionStart → List Remark
-of_fault text place kind d =
-    remark (Some place) (Said.Judged Error (fault_name kind)) ∷ beginning text place kind d
+abbrev pub fault_remark : List ℕ → ℕ → TextFaultKind → FaultPlace → Remark
+fault_remark text place kind f =
+    remark (Some place) (Said.Judged Error (fault_name kind) (fault_text text place kind f))
+
+abbrev pub of_fault : List ℕ → ℕ → TextFaultKind → FaultPlace → List Remark
+of_fault text place kind f = fault_remark text place kind f ∷ beginning text place kind f.definition
 
 -- the fault, or the diagnostics in their order, each with its notes behind it
 abbrev pub remarks : List ℕ → Lint → List Remark
-remarks text (Faulty f place) = of_fault text f.offset f.kind place.definition
-remarks text (Spelled l) = flat_map (of_diagnostic l) l.list.items
+remarks text (Faulty f place) = of_fault text f.offset f.kind place
+remarks text (Spelled l) = flat_map (of_diagnostic text l) l.list.items
+
+abbrev pub lint_text : List ℕ → List ℕ → Lint → List ℕ
+lint_text file text l = printed (shown_name file) text (remarks text l)
 
 abbrev pub IsLintText : List ℕ → List ℕ → Lint → List ℕ → Type 0
-IsLintText file text l printed = ArePrinted (shown_name file) text (remarks text l) printed
+IsLintText file text l bytes = bytes ≡ lint_text file text l

@@ -1,9 +1,9 @@
 //! What is said of the fault of a text.
-ghost use Rattle.std.specs.Prelude.{◌≡◌, ◌<◌, ◌≤◌, length, IfOk};
-ghost use Rattle.keymap_lint_text.specs.Shown.{IsLine};
+ghost use Rattle.std.specs.Prelude.{◌≡◌, ◌<◌, ◌≤◌, ◌-◌, length, take, drop, slice_index, position, IfOk, IfSome};
+ghost use Rattle.std.specs.List.{before_first};
+ghost use Rattle.keymap_lint_text.specs.Faults as spec;
 
-use crate::message::{digits, first_shown, message, one_of, word};
-use crate::told::{started, wanted};
+use crate::told::{first_shown, started, wanted, word};
 use crate::words::{
     ALL_CELLS, BAD_BYTE, BAD_CHAR, BAD_FUNCTION, BAD_LITERAL, BAD_WORD, COMBINED, ENDS,
     ENDS_QUOTED, FEW_CELLS, FUNCTION_KEYS, KEY_TOO_LARGE, LONG_WORD, MARK, MEANT_CHARACTER,
@@ -13,11 +13,13 @@ use keymap_core::hex_digit;
 use keymap_text::{
     DefinitionStart, FaultPlace, Meaning, TextFaultKind, Wanted, next_token, word_len, word_meaning,
 };
+use messages::{either, filled, number};
 use std::alloc::{AllocError, Global};
 
 /// The bytes of the token at a place; none where no token stands.
 fn token_at(text: &[u8], place: usize) -> &[u8]
     requires { place ≤ length text.now }
+    ensures { result.now ≡ spec.token_bytes (spec.first_at text.now place) }
 {
     match next_token(text, place) {
         Ok(Some(token)) => token.slice,
@@ -28,6 +30,7 @@ fn token_at(text: &[u8], place: usize) -> &[u8]
 /// Whether what stands first at a place isn't a token, but for the text's end.
 fn is_refused(text: &[u8], place: usize) -> bool
     requires { place ≤ length text.now }
+    ensures { result ≡ spec.is_refused (spec.first_at text.now place) }
 {
     match next_token(text, place) {
         Ok(_) => false,
@@ -36,43 +39,91 @@ fn is_refused(text: &[u8], place: usize) -> bool
 }
 
 /// The word in front of bytes.
-fn front_word(bytes: &[u8]) -> &[u8] {
+fn front_word(bytes: &[u8]) -> &[u8]
+    ensures { result.now ≡ spec.front_word bytes.now }
+{
     &bytes[..word_len(bytes)]
 }
 
-/// The hexadecimal digits behind `U+` in front of bytes.
-fn unicode_digits(bytes: &[u8]) -> &[u8] {
-    if bytes.len() < 2 || bytes[0] != b'U' || bytes[1] != b'+' {
-        return &[];
-    }
-    let rest = &bytes[2..];
-    match rest.iter().position(|c| !c.is_ascii_hexdigit()) {
-        Some(end) => &rest[..end],
-        None => rest,
-    }
-}
-
-/// What is said of bytes that begin no token. Their first character stands whole in four of them.
-fn bad_byte(alloc: Global, bytes: &[u8]) -> Result<Vec<u8>, AllocError>
-    ensures { IfOk result (λ text. IsLine text.items) }
+fn hex_end(bytes: &[u8]) -> Option<usize>
+    ensures place { result ≡ position spec.is_no_hex bytes.now }
+    ensures bound { IfSome result (λ i. i < length bytes.now) }
 {
-    let byte = if bytes.is_empty() { 0 } else { bytes[0] };
-    if byte < 33 || byte == 127 {
-        let number = word(
-            alloc,
-            &[hex_digit(byte as u32 / 16), hex_digit(byte as u32 % 16)],
-        )?;
-        message(alloc, UNNAMED_BYTE, &[number.as_slice()])
-    } else if bytes.starts_with(b"\xef\xbb\xbf") {
-        message(alloc, MARK, &[])
+    bytes.iter().position(|c| !c.is_ascii_hexdigit())
+}
+
+/// The hexadecimal digits in front of bytes.
+fn hex_front(bytes: &[u8]) -> &[u8]
+    ensures { result.now ≡ before_first spec.is_no_hex bytes.now }
+{
+    let end = hex_end(bytes).unwrap_or(bytes.len());
+    &bytes[..end]
+}
+
+/// The hexadecimal digits behind `U+` in front of bytes.
+fn unicode_digits(bytes: &[u8]) -> &[u8]
+    ensures { result.now ≡ spec.unicode_digits bytes.now }
+{
+    if bytes.len() >= 2 && bytes[0] == b'U' && bytes[1] == b'+' {
+        hex_front(&bytes[2..])
     } else {
-        let character = first_shown(alloc, &bytes[..bytes.len().min(4)], 1)?;
-        let character = character.as_slice();
-        message(alloc, BAD_BYTE, &[character, character])
+        &[]
     }
 }
 
-fn wants_character(wanted: Wanted) -> bool {
+/// The front of bytes in which their first character stands whole.
+fn few_bytes(bytes: &[u8]) -> &[u8]
+    ensures { result.now ≡ take 4 bytes.now }
+{
+    if bytes.len() < 4 { bytes } else { &bytes[..4] }
+}
+
+/// The character in front of bytes, as it is shown.
+#[tactic(auto, unfolding(crate::specs::Faults::front_text))]
+fn front(alloc: Global, bytes: &[u8]) -> Result<Vec<u8>, AllocError>
+    ensures { IfOk result (λ text. text.items ≡ spec.front_text bytes.now) }
+{
+    first_shown(alloc, few_bytes(bytes), 1)
+}
+
+fn first_byte(bytes: &[u8]) -> u8
+    ensures { result ≡ slice_index bytes.now 0 }
+{
+    if bytes.is_empty() { 0 } else { bytes[0] }
+}
+
+/// Whether a byte order mark stands in front of bytes.
+fn begins_with_mark(bytes: &[u8]) -> bool
+    ensures { result ≡ spec.is_mark bytes.now }
+{
+    bytes.len() > 2 && bytes[0] == 0xef && bytes[1] == 0xbb && bytes[2] == 0xbf
+}
+
+/// What is said of bytes that begin no token.
+#[tactic(auto, unfolding(crate::specs::Faults::bad_byte_text))]
+fn bad_byte(alloc: Global, bytes: &[u8]) -> Result<Vec<u8>, AllocError>
+    ensures { IfOk result (λ text. text.items ≡ spec.bad_byte_text bytes.now) }
+{
+    let byte = first_byte(bytes);
+    if byte < 33 || byte == 127 {
+        let byte = u32::from(byte);
+        let digits = [hex_digit(byte / 16), hex_digit(byte % 16)];
+        filled(alloc, UNNAMED_BYTE, &[&digits])
+    } else if begins_with_mark(bytes) {
+        filled(alloc, MARK, &[])
+    } else {
+        let character = front(alloc, bytes)?;
+        filled(
+            alloc,
+            BAD_BYTE,
+            &[character.as_slice(), character.as_slice()],
+        )
+    }
+}
+
+fn wants_character(wanted: Wanted) -> bool
+    ensures { result ≡ spec.wants_character wanted }
+{
     matches!(
         wanted,
         Wanted::Cell { .. }
@@ -82,40 +133,44 @@ fn wants_character(wanted: Wanted) -> bool {
     )
 }
 
-fn wants_cell(wanted: Wanted) -> bool {
+fn wants_cell(wanted: Wanted) -> bool
+    ensures { result ≡ spec.wants_cell wanted }
+{
     matches!(wanted, Wanted::Cell { .. })
 }
 
 /// What may have been meant by the word in front of bytes.
+#[tactic(auto, unfolding(crate::specs::Faults::meant_text))]
 fn meant(alloc: Global, bytes: &[u8], wanted: Wanted) -> Result<Vec<u8>, AllocError>
-    ensures { IfOk result (λ text. IsLine text.items) }
+    ensures { IfOk result (λ text. text.items ≡ spec.meant_text bytes.now wanted) }
 {
     let digits = unicode_digits(bytes);
     let token = front_word(bytes);
     if 0 < digits.len() {
         let told = word(alloc, digits)?;
-        message(alloc, MEANT_NUMBER, &[told.as_slice(), told.as_slice()])
+        filled(alloc, MEANT_NUMBER, &[told.as_slice(), told.as_slice()])
     } else if token.len() == 1 && wants_character(wanted) {
-        message(alloc, MEANT_CHARACTER, &[word(alloc, token)?.as_slice()])
+        filled(alloc, MEANT_CHARACTER, &[word(alloc, token)?.as_slice()])
     } else {
-        message(alloc, b"{}", &[one_of(wants_cell(wanted), MEANT_NOP, b"")])
+        Vec::from_slice(alloc, either(wants_cell(wanted), MEANT_NOP, b""))
     }
 }
 
 /// What is said of a word without a meaning, or one that is too long.
+#[tactic(auto, unfolding(crate::specs::Faults::bad_word_text))]
 fn bad_word(alloc: Global, bytes: &[u8], wanted: Wanted) -> Result<Vec<u8>, AllocError>
-    ensures { IfOk result (λ text. IsLine text.items) }
+    ensures { IfOk result (λ text. text.items ≡ spec.bad_word_text bytes.now wanted) }
 {
     let token = front_word(bytes);
     if token.len() > 32 {
-        let nop = one_of(wants_cell(wanted), MEANT_NOP, b"");
-        message(
+        let nop = either(wants_cell(wanted), MEANT_NOP, b"");
+        filled(
             alloc,
             LONG_WORD,
-            &[digits(token.len() as u64).as_slice(), nop],
+            &[number(token.len() as u64).as_slice(), nop],
         )
     } else {
-        message(
+        filled(
             alloc,
             BAD_WORD,
             &[
@@ -126,47 +181,80 @@ fn bad_word(alloc: Global, bytes: &[u8], wanted: Wanted) -> Result<Vec<u8>, Allo
     }
 }
 
-fn is_lock_letter(token: &[u8]) -> bool {
-    token.len() == 1 && matches!(&word_meaning(token), Meaning::Letter(_))
+fn is_letter(meaning: &Meaning) -> bool
+    ensures { result ≡ spec.is_letter meaning.now }
+{
+    matches!(meaning, Meaning::Letter(_))
+}
+
+fn is_lock_letter(token: &[u8]) -> bool
+    ensures { result ≡ spec.is_lock_letter token.now }
+{
+    token.len() == 1 && is_letter(&word_meaning(token))
 }
 
 /// How many cells the slot has, where its lock letter may be meant.
+#[tactic(auto, unfolding(crate::specs::Faults::cells_text))]
 fn cells(
     alloc: Global,
     token: &[u8],
     wanted: Wanted,
     definition: Option<DefinitionStart>,
 ) -> Result<Vec<u8>, AllocError>
-    ensures { IfOk result (λ text. IsLine text.items) }
+    ensures { IfOk result (λ text. text.items ≡ spec.cells_text token.now wanted definition) }
 {
     match wanted {
         Wanted::Cell { column } if is_lock_letter(token) => {
             let what = started(alloc, definition)?;
-            message(
+            filled(
                 alloc,
                 FEW_CELLS,
-                &[what.as_slice(), digits(column as u64).as_slice()],
+                &[what.as_slice(), number(column as u64).as_slice()],
             )
         }
-        Wanted::Lock => message(alloc, ALL_CELLS, &[]),
+        Wanted::Lock => filled(alloc, ALL_CELLS, &[]),
         _ => Ok(Vec::new(alloc)),
     }
 }
 
+/// Whether the word is one of a screen, and not of a function key.
+fn is_screen(bytes: &[u8]) -> bool
+    ensures { result ≡ spec.is_screen bytes.now }
+{
+    !bytes.is_empty() && bytes[0].to_ascii_lowercase() == b's'
+}
+
+/// The bytes but for the last one.
+fn but_last(bytes: &[u8]) -> &[u8]
+    ensures { result.now ≡ take (length bytes.now - 1) bytes.now }
+{
+    &bytes[..bytes.len().saturating_sub(1)]
+}
+
 /// What is said of a text that ends inside a token or a definition.
+#[tactic(auto, unfolding(crate::specs::Faults::end_text))]
 fn end_inside(alloc: Global, source: &[u8], fault: &FaultPlace) -> Result<Vec<u8>, AllocError>
     requires { fault.now.behind ≤ length source.now }
-    ensures { IfOk result (λ text. IsLine text.items) }
+    ensures { IfOk result (λ text. text.items ≡ spec.end_text source.now fault.now) }
 {
     if is_refused(source, fault.behind) {
-        message(alloc, ENDS_QUOTED, &[])
+        filled(alloc, ENDS_QUOTED, &[])
     } else {
         let what = wanted(alloc, fault.wanted, fault.definition)?;
-        message(alloc, ENDS, &[what.as_slice()])
+        filled(alloc, ENDS, &[what.as_slice()])
     }
 }
 
+/// The bytes from a place on.
+fn bytes_from(bytes: &[u8], place: usize) -> &[u8]
+    requires { place ≤ length bytes.now }
+    ensures { result.now ≡ drop place bytes.now }
+{
+    &bytes[place..]
+}
+
 /// What is said of the fault of a text at a place.
+#[tactic(auto, unfolding(crate::specs::Faults::fault_text))]
 pub(crate) fn fault_message(
     alloc: Global,
     source: &[u8],
@@ -176,42 +264,41 @@ pub(crate) fn fault_message(
 ) -> Result<Vec<u8>, AllocError>
     requires place { place ≤ length source.now }
     requires behind { fault.now.behind ≤ length source.now }
-    ensures { IfOk result (λ text. IsLine text.items) }
+    ensures { IfOk result (λ text. text.items ≡ spec.fault_text source.now place kind fault.now) }
 {
-    let rest = &source[place..];
+    let rest = bytes_from(source, place);
     let name = front_word(rest);
     let told = word(alloc, name)?;
     let told = told.as_slice();
     match kind {
         TextFaultKind::BadByte => bad_byte(alloc, rest),
-        TextFaultKind::BadLiteral => message(alloc, BAD_LITERAL, &[]),
+        TextFaultKind::BadLiteral => filled(alloc, BAD_LITERAL, &[]),
         TextFaultKind::BadWord => bad_word(alloc, rest, fault.wanted),
         TextFaultKind::Unexpected => {
             let token = token_at(source, place);
             let told = word(alloc, token)?;
             let what = wanted(alloc, fault.wanted, fault.definition)?;
             let cells = cells(alloc, token, fault.wanted, fault.definition)?;
-            message(
+            filled(
                 alloc,
                 UNEXPECTED,
                 &[told.as_slice(), what.as_slice(), cells.as_slice()],
             )
         }
-        TextFaultKind::KeyTooLarge => message(alloc, KEY_TOO_LARGE, &[told]),
-        TextFaultKind::BadChar => message(alloc, BAD_CHAR, &[told]),
+        TextFaultKind::KeyTooLarge => filled(alloc, KEY_TOO_LARGE, &[told]),
+        TextFaultKind::BadChar => filled(alloc, BAD_CHAR, &[told]),
         TextFaultKind::BadFunction => {
-            let is_screen = !name.is_empty() && name[0].to_ascii_lowercase() == b's';
-            let names = one_of(is_screen, SCREENS, FUNCTION_KEYS);
-            message(alloc, BAD_FUNCTION, &[told, names])
+            let names = either(is_screen(name), SCREENS, FUNCTION_KEYS);
+            filled(alloc, BAD_FUNCTION, &[told, names])
         }
         TextFaultKind::TooManyPairs => {
             let accent = started(alloc, fault.definition)?;
-            message(alloc, TOO_MANY_PAIRS, &[accent.as_slice()])
+            filled(alloc, TOO_MANY_PAIRS, &[accent.as_slice()])
         }
-        TextFaultKind::ZeroBase => message(alloc, ZERO_BASE, &[]),
+        TextFaultKind::ZeroBase => filled(alloc, ZERO_BASE, &[]),
         TextFaultKind::Combined => {
-            let alone = word(alloc, &name[..name.len().saturating_sub(1)])?;
-            message(alloc, COMBINED, &[told, alone.as_slice()])
+            let alone = word(alloc, but_last(name))?;
+            filled(alloc, COMBINED, &[told, alone.as_slice()])
         }
         TextFaultKind::EndInside => end_inside(alloc, source, fault),
     }

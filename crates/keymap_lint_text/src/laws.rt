@@ -21,13 +21,14 @@ pub fn diagnostics_have_one_head()
     ensures heads { EachRemarkHasOneHead }
 {}
 
-/// From the first line of a diagnostic or a note it can be read at which place it stands, and whether it is an error, a
-/// warning or a note: no two of them that differ in this have the same line.
+/// From the first line of a diagnostic or a note it can be read at which place of a text it stands, and whether it is
+/// an error, a warning or a note: no two of them that differ in this have the same line.
 pub fn heads_tell_their_places()
     ensures { HeadsTellPlaces }
 {}
 
-/// The caret stands below the place of the diagnostic in the line of the text.
+/// What is shown of the line of a diagnostic is the part round its place, 60 characters before it or all, and 120 in
+/// all where the line has them. The caret stands below the place.
 pub fn carets_stand_below_places()
     ensures { CaretsStandBelow }
 {}

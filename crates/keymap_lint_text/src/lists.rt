@@ -1,13 +1,25 @@
 //! Lists in words, and ascending numbers as ranges.
-ghost use Rattle.std.specs.Prelude.{◌<◌, length, OnOk, IfOk};
-ghost use Rattle.keymap_lint_text.specs.Shown.{IsLine};
+ghost use Rattle.std.specs.Prelude.{◌≡◌, ◌<◌, ◌++◌, length, OnOk, IfOk};
+ghost use Rattle.keymap_lint_text.specs.Lists as spec;
 
-use crate::message::{accent_name, add, digits};
+use keymap_core::{ACCENT_LIMIT, AccentIndex, Action, Name};
+use messages::number;
 use std::alloc::{AllocError, Global};
+
+fn push_comma(text: &mut Vec<u8>, place: usize) -> Result<(), AllocError>
+    ensures { OnOk result (text.new.items ≡ text.old.items ++ spec.comma place) }
+{
+    if place == 0 {
+        Ok(())
+    } else {
+        text.extend_from_slice(b", ")
+    }
+}
 
 /// Whether the number at the place is the first one, or isn't the one before it and one more.
 fn begins_run(numbers: &[u8], place: usize) -> bool
     requires { place < length numbers.now }
+    ensures { result ≡ spec.begins_run numbers.now place }
 {
     place == 0 || u16::from(numbers[place]) != u16::from(numbers[place - 1]) + 1
 }
@@ -15,23 +27,22 @@ fn begins_run(numbers: &[u8], place: usize) -> bool
 /// Whether the number at the place is the last one, or the one behind it isn't one more.
 fn ends_run(numbers: &[u8], place: usize) -> bool
     requires { place < length numbers.now }
+    ensures { result ≡ spec.ends_run numbers.now place }
 {
     place + 1 == numbers.len() || u16::from(numbers[place + 1]) != u16::from(numbers[place]) + 1
 }
 
 /// Adds what is told of the number at a place: it is the first of its run, or else the last one.
 fn push_run(text: &mut Vec<u8>, numbers: &[u8], place: usize) -> Result<(), AllocError>
-    requires place { place < length numbers.now }
-    requires before { IsLine text.old.items }
-    ensures { OnOk result (IsLine text.new.items) }
+    requires { place < length numbers.now }
+    ensures { OnOk result (text.new.items ≡ text.old.items ++ spec.run_text numbers.now place) }
 {
-    let number = digits(u64::from(numbers[place]));
-    if place == 0 {
-        add(text, b"{}", &[number.as_slice()])
-    } else if begins_run(numbers, place) {
-        add(text, b", {}", &[number.as_slice()])
+    if begins_run(numbers, place) {
+        push_comma(text, place)?;
+        text.extend_from_slice(number(u64::from(numbers[place])).as_slice())
     } else if ends_run(numbers, place) {
-        add(text, b" to {}", &[number.as_slice()])
+        text.extend_from_slice(b" to ")?;
+        text.extend_from_slice(number(u64::from(numbers[place])).as_slice())
     } else {
         Ok(())
     }
@@ -39,7 +50,7 @@ fn push_run(text: &mut Vec<u8>, numbers: &[u8], place: usize) -> Result<(), Allo
 
 /// Ascending numbers, as `129 to 212, 254`.
 pub(crate) fn ranges(alloc: Global, numbers: &[u8]) -> Result<Vec<u8>, AllocError>
-    ensures { IfOk result (λ text. IsLine text.items) }
+    ensures { IfOk result (λ text. text.items ≡ spec.ranges numbers.now) }
 {
     let mut text = Vec::new(alloc);
     for i in 0..numbers.len() {
@@ -48,33 +59,45 @@ pub(crate) fn ranges(alloc: Global, numbers: &[u8]) -> Result<Vec<u8>, AllocErro
     Ok(text)
 }
 
-fn push_listed(
-    alloc: Global,
-    text: &mut Vec<u8>,
-    accents: &[u8],
-    place: usize,
-) -> Result<(), AllocError>
-    requires place { place < length accents.now }
-    requires before { IsLine text.old.items }
-    ensures { OnOk result (IsLine text.new.items) }
+/// The name of an accent; nothing where there is no accent with this index.
+pub(crate) fn accent_name(accent: u8) -> Name
+    ensures { result.items ≡ spec.accent_name accent }
 {
-    let name = accent_name(alloc, accents[place])?;
-    if place == 0 {
-        add(text, b"{}", &[name.as_slice()])
-    } else if place + 1 == accents.len() {
-        add(text, b" or {}", &[name.as_slice()])
+    if usize::from(accent) < ACCENT_LIMIT {
+        Action::DeadKey(AccentIndex::new(accent)).name()
     } else {
-        add(text, b", {}", &[name.as_slice()])
+        Name::new()
     }
+}
+
+fn push_or_comma(text: &mut Vec<u8>, place: usize, count: usize) -> Result<(), AllocError>
+    requires { place < count }
+    ensures { OnOk result (text.new.items ≡ text.old.items ++ spec.or_comma place count) }
+{
+    if place == 0 {
+        Ok(())
+    } else if place + 1 == count {
+        text.extend_from_slice(b" or ")
+    } else {
+        text.extend_from_slice(b", ")
+    }
+}
+
+fn push_listed(text: &mut Vec<u8>, accents: &[u8], place: usize) -> Result<(), AllocError>
+    requires { place < length accents.now }
+    ensures { OnOk result (text.new.items ≡ text.old.items ++ spec.listed_text accents.now place) }
+{
+    push_or_comma(text, place, accents.len())?;
+    text.extend_from_slice(accent_name(accents[place]).as_slice())
 }
 
 /// The names of accents, as `dgra, dacu or dcir`.
 pub(crate) fn accents(alloc: Global, accents: &[u8]) -> Result<Vec<u8>, AllocError>
-    ensures { IfOk result (λ text. IsLine text.items) }
+    ensures { IfOk result (λ text. text.items ≡ spec.accents_text accents.now) }
 {
     let mut text = Vec::new(alloc);
     for i in 0..accents.len() {
-        push_listed(alloc, &mut text, accents, i)?;
+        push_listed(&mut text, accents, i)?;
     }
     Ok(text)
 }

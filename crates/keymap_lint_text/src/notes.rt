@@ -1,12 +1,14 @@
-//! What is told of modifiers that stay on.
+//! What notes tell: of modifiers that stay on, and where a definition begins.
 ghost use Rattle.std.specs.Prelude.{◌≡◌, ◌++◌, IfOk, OnOk};
 ghost use Rattle.std.specs.List.{flat_map};
 ghost use Rattle.keymap_lint_text.specs.Notes as spec;
 ghost use Rattle.keymap_core.specs.Actions.{holding_action, name_of};
 
-use crate::words::{ONE_STAYS, SOME_STAY, STICKS};
+use crate::told::defined;
+use crate::words::{BEGINS, ONE_STAYS, SOME_STAY, STICKS, UNDECIDED};
 use console_core::Event;
 use keymap_core::{Holding, Modifier};
+use keymap_text::Defined;
 use messages::{either, filled, number};
 use std::alloc::{AllocError, Global};
 
@@ -80,7 +82,7 @@ fn events(alloc: Global, events: &[Event]) -> Result<Vec<u8>, AllocError>
 }
 
 /// Which modifiers stay on, and after which events.
-#[tactic(auto, unfolding(crate::specs::Notes::sticks_text))]
+#[tactic(auto, using(crate::proofs::Carets::sticks_is))]
 pub(crate) fn sticks_message(
     alloc: Global,
     stuck: &[Modifier],
@@ -97,4 +99,19 @@ pub(crate) fn sticks_message(
             events(alloc, found)?.as_slice(),
         ],
     )
+}
+
+/// That the search has no answer.
+pub(crate) fn undecided_message() -> &'static [u8]
+    ensures { result.now ≡ spec.undecided_text }
+{
+    UNDECIDED
+}
+
+/// Where a definition begins in which a fault stands.
+#[tactic(auto, unfolding(crate::specs::Notes::begins_text))]
+pub(crate) fn begins_message(alloc: Global, what: Defined) -> Result<Vec<u8>, AllocError>
+    ensures { IfOk result (λ text. text.items ≡ spec.begins_text what) }
+{
+    filled(alloc, BEGINS, &[defined(alloc, what)?.as_slice()])
 }

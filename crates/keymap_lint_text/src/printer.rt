@@ -3,8 +3,7 @@
 ghost use Rattle.std.specs.Prelude.{◌≡◌, ◌≤◌, ◌∷◌, ◌++◌, [], All, length, IfOk, OnOk, IfSome, None};
 ghost use Rattle.keymap_lint_text.specs.Heads as spec;
 ghost use Rattle.keymap_lint_text.specs.Heads.{Said};
-ghost use Rattle.keymap_lint_text.specs.Inner.Adding.{Adds};
-ghost use Rattle.keymap_lint_text.specs.Shown.{IsLine, lines_text};
+ghost use Rattle.keymap_lint_text.specs.Shown.{lines_text};
 ghost use Rattle.keymap_lint_text.specs.Whole.{answer, beginning, of_diagnostic, of_fault};
 ghost use Rattle.keymap_lint_text.specs.Whole.{tells_beginning as tells_beginning_of};
 ghost use Rattle.keymap_lint.specs.Positions.{IsWithin};
@@ -12,13 +11,10 @@ ghost use Rattle.std.specs.List.{flat_map};
 
 use crate::excerpt::push_excerpt;
 use crate::faults::fault_message;
-use crate::message::message;
-use crate::notes::sticks_message;
+use crate::notes::{begins_message, sticks_message, undecided_message};
 use crate::said::{is_noted, kind_message, kind_text, severity_text};
-use crate::told::defined;
-use crate::words::{AT_NO_PLACE, AT_PLACE, BEGINS, DIAGNOSTIC, NOTE, UNDECIDED};
-use console_core::{Event, Sticking};
-use keymap_core::Modifier;
+use crate::words::{AT_NO_PLACE, AT_PLACE, DIAGNOSTIC, NOTE};
+use console_core::Sticking;
 use keymap_lint::{Diagnostic, Diagnostics, Severity};
 use keymap_text::{DefinitionStart, FaultPlace, TextFaultKind, TextLines};
 use messages::{fill, filled, number};
@@ -39,10 +35,10 @@ fn tells_beginning(kind: TextFaultKind) -> bool
 fn judged(
     alloc: Global,
     severity: &[u8],
-    message: &[u8],
     kind: &[u8],
+    message: &[u8],
 ) -> Result<Vec<u8>, AllocError>
-    ensures { IfOk result (λ text. text.items ≡ spec.judged_text severity.now message.now kind.now) }
+    ensures { IfOk result (λ text. text.items ≡ spec.judged_text severity.now kind.now message.now) }
 {
     filled(alloc, DIAGNOSTIC, &[severity, message, kind])
 }
@@ -102,13 +98,11 @@ impl<'a> Printer<'a> {
         kind: &[u8],
         message: &[u8],
     ) -> Result<(), AllocError>
-        requires place { IfSome place (λ p. p ≤ length self.now.source.now) }
-        requires kind { IsLine kind.now }
-        requires message { IsLine message.now }
-        ensures { OnOk result (Adds self.now.file.now self.now.source.now
-            (spec.remark place (Said.Judged severity kind.now) ∷ []) text.old.items text.new.items) }
+        requires { IfSome place (λ p. p ≤ length self.now.source.now) }
+        ensures { OnOk result (text.new.items ≡ text.old.items ++ spec.printed_of self.now.file.now
+            self.now.source.now (spec.remark place (Said.Judged severity kind.now message.now))) }
     {
-        let said = judged(self.alloc, severity_text(severity), message, kind)?;
+        let said = judged(self.alloc, severity_text(severity), kind, message)?;
         self.push(text, place, said.as_slice())
     }
 
@@ -119,28 +113,12 @@ impl<'a> Printer<'a> {
         place: Option<usize>,
         message: &[u8],
     ) -> Result<(), AllocError>
-        requires place { IfSome place (λ p. p ≤ length self.now.source.now) }
-        requires message { IsLine message.now }
-        ensures { OnOk result (Adds self.now.file.now self.now.source.now
-            (spec.remark place Said.Noted ∷ []) text.old.items text.new.items) }
+        requires { IfSome place (λ p. p ≤ length self.now.source.now) }
+        ensures { OnOk result (text.new.items ≡ text.old.items ++ spec.printed_of self.now.file.now
+            self.now.source.now (spec.remark place (Said.Noted message.now))) }
     {
         let said = noted(self.alloc, message)?;
         self.push(text, place, said.as_slice())
-    }
-
-    /// Adds the note on modifiers that stay on after events.
-    pub(crate) fn sticking(
-        &self,
-        text: &mut Vec<u8>,
-        modifiers: &[Modifier],
-        events: &[Event],
-    ) -> Result<(), AllocError>
-        ensures { OnOk result (Adds self.now.file.now self.now.source.now
-            (spec.remark None (Said.Sticking modifiers.now events.now) ∷ []) text.old.items text.new.items) }
-    {
-        let message = sticks_message(self.alloc, modifiers, events)?;
-        let said = noted(self.alloc, message.as_slice())?;
-        self.push(text, None, said.as_slice())
     }
 
     /// Adds a note where a definition begins, if that is in an earlier line and the fault may come from there.
@@ -153,8 +131,8 @@ impl<'a> Printer<'a> {
     ) -> Result<(), AllocError>
         requires place { place ≤ length self.now.source.now }
         requires start { IfSome definition (λ d. d.offset ≤ length self.now.source.now) }
-        ensures { OnOk result (Adds self.now.file.now self.now.source.now
-            (beginning self.now.source.now place kind definition) text.old.items text.new.items) }
+        ensures { OnOk result (text.new.items ≡ text.old.items ++ spec.printed self.now.file.now
+            self.now.source.now (beginning self.now.source.now place kind definition)) }
     {
         let Some(start) = definition else {
             return Ok(());
@@ -162,8 +140,7 @@ impl<'a> Printer<'a> {
         if tells_beginning(kind)
             && self.source.number_at(start.offset) < self.source.number_at(place)
         {
-            let what = defined(self.alloc, start.what)?;
-            let said = message(self.alloc, BEGINS, &[what.as_slice()])?;
+            let said = begins_message(self.alloc, start.what)?;
             self.note(text, Some(start.offset), said.as_slice())
         } else {
             Ok(())
@@ -181,8 +158,8 @@ impl<'a> Printer<'a> {
         requires place { place ≤ length self.now.source.now }
         requires behind { fault.now.behind ≤ length self.now.source.now }
         requires start { IfSome fault.now.definition (λ d. d.offset ≤ length self.now.source.now) }
-        ensures { OnOk result (Adds self.now.file.now self.now.source.now
-            (of_fault self.now.source.now place kind fault.now.definition) text.old.items text.new.items) }
+        ensures { OnOk result (text.new.items ≡ text.old.items ++ spec.printed self.now.file.now
+            self.now.source.now (of_fault self.now.source.now place kind fault.now)) }
     {
         let said = fault_message(self.alloc, self.source.text(), place, kind, fault)?;
         self.diagnostic(
@@ -197,17 +174,15 @@ impl<'a> Printer<'a> {
 
     /// Adds what the search answered, if some modifier stays on or may stay on.
     fn answer(&self, text: &mut Vec<u8>, sticking: &Option<Sticking>) -> Result<(), AllocError>
-        ensures { OnOk result (Adds self.now.file.now self.now.source.now (answer sticking.now)
-            text.old.items text.new.items) }
+        ensures { OnOk result (text.new.items ≡ text.old.items ++ spec.printed self.now.file.now
+            self.now.source.now (answer sticking.now)) }
     {
         match sticking {
             None | Some(Sticking::Never) => Ok(()),
-            Some(Sticking::Undecided(_)) => {
-                let said = message(self.alloc, UNDECIDED, &[])?;
-                self.note(text, None, said.as_slice())
-            }
+            Some(Sticking::Undecided(_)) => { self.note(text, None, undecided_message()) }
             Some(Sticking::Sticks { events, modifiers }) => {
-                self.sticking(text, modifiers.as_slice(), events.as_slice())
+                let said = sticks_message(self.alloc, modifiers.as_slice(), events.as_slice())?;
+                self.note(text, None, said.as_slice())
             }
         }
     }
@@ -220,8 +195,8 @@ impl<'a> Printer<'a> {
         diagnostic: &Diagnostic,
     ) -> Result<(), AllocError>
         requires { IsWithin self.now.source.now diagnostic.now }
-        ensures { OnOk result (Adds self.now.file.now self.now.source.now
-            (of_diagnostic lint.now diagnostic.now) text.old.items text.new.items) }
+        ensures { OnOk result (text.new.items ≡ text.old.items ++ spec.printed self.now.file.now
+            self.now.source.now (of_diagnostic self.now.source.now lint.now diagnostic.now)) }
     {
         let kind = &diagnostic.kind;
         let severity = kind.severity(lint.never_sticks());
@@ -248,8 +223,8 @@ impl<'a> Printer<'a> {
         list: &[Diagnostic],
     ) -> Result<(), AllocError>
         requires { All (IsWithin self.now.source.now) list.now }
-        ensures { OnOk result (Adds self.now.file.now self.now.source.now
-            (flat_map (of_diagnostic lint.now) list.now) text.old.items text.new.items) }
+        ensures { OnOk result (text.new.items ≡ text.old.items ++ spec.printed self.now.file.now
+            self.now.source.now (flat_map (of_diagnostic self.now.source.now lint.now) list.now)) }
     {
         for diagnostic in list {
             self.one(text, lint, diagnostic)?;

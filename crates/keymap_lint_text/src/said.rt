@@ -1,27 +1,27 @@
 //! What is said of a text by a diagnostic: its severity, its message and its kind, in words.
 ghost use Rattle.std.specs.Prelude.{◌≡◌, ◌∷◌, [], IsTrue, IfOk};
-ghost use Rattle.std.specs.List.{list_all};
 ghost use Rattle.keymap_lint.specs.Positions.{TellsWithin};
 ghost use Rattle.messages.specs.Filled.{has_places};
-ghost use Rattle.keymap_lint_text.specs.Names as spec;
-ghost use Rattle.keymap_lint_text.specs.Shown.{IsLine, is_shown_byte};
+ghost use Rattle.keymap_lint_text.specs.Lists.{ranges as ranges_of};
+ghost use Rattle.keymap_lint_text.specs.Names as names;
+ghost use Rattle.keymap_lint_text.specs.Said as spec;
 
-use crate::lists::{accents, ranges};
-use crate::message::{accent_name, digits, message, one_of, told_if, word};
-use crate::told::{column as column_text, defined};
+use crate::lists::{accent_name, accents, ranges};
+use crate::told::{column as column_text, defined, told_character};
 use crate::words::{
     ACCENTS, BARE_DIGIT, DEAD_KEY, DEFINED_AGAIN, HALF_DEFINED, MISSING_SLOT, MISSING_SLOTS,
     MIXED_KEY, NEVER_STICKS, NO_ACCENT, NO_KEY, NO_SHIFT, NOT_JOINED, NUL_KEY, NUL_KEYS,
     ONE_ACCENT, OTHER_SLOT, PAIR_AGAIN, UNUSED_SLOT, UNUSED_SLOTS, ZERO_ACCENT,
 };
-use keymap_check::{Finding, Place};
+use keymap_check::Finding;
 use keymap_core::Holding;
 use keymap_lint::{Diagnostics, Kind, Severity};
-use keymap_text::{Defined, TextLines, character_text};
+use keymap_text::{Defined, TextLines};
+use messages::{either, filled, number};
 use std::alloc::{AllocError, Global};
 
 pub(crate) fn severity_text(severity: Severity) -> &'static [u8]
-    ensures { result.now ≡ spec.severity_text severity }
+    ensures { result.now ≡ names.severity_text severity }
 {
     match severity {
         Severity::Error => b"error",
@@ -32,7 +32,7 @@ pub(crate) fn severity_text(severity: Severity) -> &'static [u8]
 /// The name of a kind.
 #[tactic(auto, unfolding(crate::specs::Names::kind_text))]
 pub(crate) fn kind_text(kind: &Kind) -> &'static [u8]
-    ensures { result.now ≡ spec.kind_text kind.now }
+    ensures { result.now ≡ names.kind_text kind.now }
 {
     match kind {
         Kind::NoKey => b"no-key",
@@ -50,60 +50,89 @@ pub(crate) fn kind_text(kind: &Kind) -> &'static [u8]
 
 /// Ascending numbers in the words for one number or in those for more.
 fn counted(alloc: Global, one: &[u8], more: &[u8], numbers: &[u8]) -> Result<Vec<u8>, AllocError>
-    requires one { IsTrue (has_places one.now ([] ∷ [])) }
-    requires more { IsTrue (has_places more.now ([] ∷ [])) }
-    requires one_shown { IsTrue (list_all is_shown_byte one.now) }
-    requires more_shown { IsTrue (list_all is_shown_byte more.now) }
-    ensures { IfOk result (λ text. IsLine text.items) }
+    requires one { IsTrue (has_places one.now (ranges_of numbers.now ∷ [])) }
+    requires more { IsTrue (has_places more.now (ranges_of numbers.now ∷ [])) }
+    ensures { IfOk result (λ text. text.items ≡ spec.counted one.now more.now numbers.now) }
 {
     let told = ranges(alloc, numbers)?;
-    let words = if numbers.len() == 1 { one } else { more };
-    message(alloc, words, &[told.as_slice()])
+    if numbers.len() == 1 {
+        filled(alloc, one, &[told.as_slice()])
+    } else {
+        filled(alloc, more, &[told.as_slice()])
+    }
 }
 
-/// What is said of a key that is a modifier or lock and has a character; its slot, where it isn't that of the modifier
-/// or lock.
-fn mixed_key(alloc: Global, finding: &Finding, c: char, never: bool) -> Result<Vec<u8>, AllocError>
-    ensures { IfOk result (λ text. IsLine text.items) }
+/// What is said besides of an accent that is defined again.
+fn not_joined(what: Defined) -> &'static [u8]
+    ensures { result.now ≡ spec.not_joined what }
 {
-    let Place { slot, column } = finding.character_at;
-    let number = digits(u64::from(slot));
-    let other = message(alloc, OTHER_SLOT, &[number.as_slice()])?;
-    let name = word(alloc, finding.holding.action().name().as_slice())?;
-    message(
+    match what {
+        Defined::Slot(_) => b"",
+        Defined::Accent(_) => NOT_JOINED,
+    }
+}
+
+/// The slot of the character, where it isn't that of the modifier or lock.
+fn other_slot(alloc: Global, finding: &Finding) -> Result<Vec<u8>, AllocError>
+    ensures { IfOk result (λ text. text.items ≡ spec.other_slot finding.now) }
+{
+    let slot = finding.character_at.slot;
+    if finding.holding_at.slot == slot {
+        Ok(Vec::new(alloc))
+    } else {
+        filled(alloc, OTHER_SLOT, &[number(u64::from(slot)).as_slice()])
+    }
+}
+
+/// The verdict on the whole keymap, where no modifier ever stays on.
+fn never_text(never: bool) -> &'static [u8]
+    ensures { result.now ≡ spec.never_text never }
+{
+    if never { NEVER_STICKS } else { b"" }
+}
+
+/// What is said of a key that is a modifier or lock and has a character.
+#[tactic(auto, unfolding(crate::specs::Said::mixed_key_text))]
+fn mixed_key(
+    alloc: Global,
+    finding: &Finding,
+    character: char,
+    never: bool,
+) -> Result<Vec<u8>, AllocError>
+    ensures { IfOk result (λ text. text.items ≡ spec.mixed_key_text finding.now character never) }
+{
+    let name = finding.holding.action().name();
+    filled(
         alloc,
         MIXED_KEY,
         &[
-            digits(u64::from(finding.key.get())).as_slice(),
+            number(u64::from(finding.key.get())).as_slice(),
             name.as_slice(),
-            word(alloc, character_text(c).as_slice())?.as_slice(),
-            column_text(alloc, usize::from(column))?.as_slice(),
-            told_if(finding.holding_at.slot != slot, other.as_slice()),
+            told_character(alloc, character)?.as_slice(),
+            column_text(alloc, usize::from(finding.character_at.column))?.as_slice(),
+            other_slot(alloc, finding)?.as_slice(),
             name.as_slice(),
-            one_of(never, NEVER_STICKS, b""),
+            never_text(never),
         ],
     )
 }
 
 /// What is said of slots that the text doesn't define, and of the keys that have a character in one of them.
+#[tactic(auto, unfolding(crate::specs::Said::half_defined_text))]
 fn half_defined(
     alloc: Global,
     lint: &Diagnostics,
     selector: Holding,
     has_keys: bool,
 ) -> Result<Vec<u8>, AllocError>
-    ensures { IfOk result (λ text. IsLine text.items) }
+    ensures { IfOk result (λ text. text.items ≡ spec.half_defined_text lint.now selector has_keys) }
 {
-    let name = word(alloc, selector.action().name().as_slice())?;
-    let slots = counted(
-        alloc,
-        MISSING_SLOT,
-        MISSING_SLOTS,
-        lint.missing_slots.as_slice(),
-    )?;
+    let name = selector.action().name();
+    let missing = lint.missing_slots.as_slice();
+    let slots = counted(alloc, MISSING_SLOT, MISSING_SLOTS, missing)?;
     let keys = counted(alloc, NUL_KEY, NUL_KEYS, lint.nul_keys.as_slice())?;
-    let keys = told_if(has_keys, keys.as_slice());
-    message(
+    let keys = either(has_keys, keys.as_slice(), b"");
+    filled(
         alloc,
         HALF_DEFINED,
         &[name.as_slice(), slots.as_slice(), keys],
@@ -111,33 +140,46 @@ fn half_defined(
 }
 
 /// What is said of a definition without effect, by the line of the last one.
+#[tactic(auto, unfolding(crate::specs::Said::defined_again_text))]
 fn defined_again(alloc: Global, what: Defined, last: u64) -> Result<Vec<u8>, AllocError>
-    ensures { IfOk result (λ text. IsLine text.items) }
+    ensures { IfOk result (λ text. text.items ≡ spec.defined_again_text what last) }
 {
-    let line = digits(last);
-    let told = defined(alloc, what)?;
-    let joined = one_of(matches!(what, Defined::Accent(_)), NOT_JOINED, b"");
-    message(
+    let line = number(last);
+    let defined = defined(alloc, what)?;
+    filled(
         alloc,
         DEFINED_AGAIN,
-        &[told.as_slice(), line.as_slice(), joined],
+        &[defined.as_slice(), line.as_slice(), not_joined(what)],
     )
 }
 
 /// What is said of dead keys of accents that the text doesn't define, where it defines some other accent or none.
+#[tactic(auto, unfolding(crate::specs::Said::dead_key_text))]
 fn dead_key(alloc: Global, missing: &[u8], defines_some: bool) -> Result<Vec<u8>, AllocError>
-    ensures { IfOk result (λ text. IsLine text.items) }
+    ensures { IfOk result (λ text. text.items ≡ spec.dead_key_text missing.now defines_some) }
 {
     let names = accents(alloc, missing)?;
     if defines_some {
-        let one = one_of(missing.len() == 1, ONE_ACCENT, ACCENTS);
-        message(alloc, DEAD_KEY, &[names.as_slice(), one])
+        let one = either(missing.len() == 1, ONE_ACCENT, ACCENTS);
+        filled(alloc, DEAD_KEY, &[names.as_slice(), one])
     } else {
-        message(alloc, NO_ACCENT, &[names.as_slice()])
+        filled(alloc, NO_ACCENT, &[names.as_slice()])
     }
 }
 
+/// What is said of a character that is spelled as a bare digit.
+#[tactic(auto, unfolding(crate::specs::Said::bare_digit_text))]
+fn bare_digit(alloc: Global, character: char) -> Result<Vec<u8>, AllocError>
+    ensures { IfOk result (λ text. text.items ≡ spec.bare_digit_text character) }
+{
+    let digits = number(u64::from(character as u32));
+    let digit = digits.as_slice();
+    let text = told_character(alloc, character)?;
+    filled(alloc, BARE_DIGIT, &[digit, digit, text.as_slice(), digit])
+}
+
 /// What is said of a text that spells a keymap. A character is given as it is printed in a keymap.
+#[tactic(auto, unfolding(crate::specs::Said::message_text))]
 pub(crate) fn kind_message(
     alloc: Global,
     source: &TextLines,
@@ -145,11 +187,11 @@ pub(crate) fn kind_message(
     kind: &Kind,
 ) -> Result<Vec<u8>, AllocError>
     requires { TellsWithin source.now kind.now }
-    ensures { IfOk result (λ text. IsLine text.items) }
+    ensures { IfOk result (λ text. text.items ≡ spec.message_text source.now lint.now kind.now) }
 {
     match kind {
-        Kind::NoKey => message(alloc, NO_KEY, &[]),
-        Kind::NoShift => message(alloc, NO_SHIFT, &[]),
+        Kind::NoKey => filled(alloc, NO_KEY, &[]),
+        Kind::NoShift => filled(alloc, NO_SHIFT, &[]),
         Kind::MixedKey {
             finding,
             character,
@@ -167,18 +209,17 @@ pub(crate) fn kind_message(
             dead_key(alloc, lint.missing_accents.as_slice(), *defines_some)
         }
         Kind::ZeroAccent { accent } => {
-            let name = accent_name(alloc, *accent)?;
-            message(alloc, ZERO_ACCENT, &[name.as_slice()])
+            filled(alloc, ZERO_ACCENT, &[accent_name(*accent).as_slice()])
         }
         Kind::PairAgain {
             accent,
             base,
             first,
         } => {
-            let name = accent_name(alloc, *accent)?;
-            let base = word(alloc, character_text(*base).as_slice())?;
-            let line = digits(source.number_at(*first));
-            message(
+            let name = accent_name(*accent);
+            let base = told_character(alloc, *base)?;
+            let line = number(source.number_at(*first));
+            filled(
                 alloc,
                 PAIR_AGAIN,
                 &[name.as_slice(), base.as_slice(), line.as_slice()],
@@ -192,19 +233,14 @@ pub(crate) fn kind_message(
                 lint.unused_slots.as_slice(),
             )
         }
-        Kind::BareDigit { character } => {
-            let digits = digits(u64::from(*character as u32));
-            let digit = digits.as_slice();
-            let text = word(alloc, character_text(*character).as_slice())?;
-            message(alloc, BARE_DIGIT, &[digit, digit, text.as_slice(), digit])
-        }
+        Kind::BareDigit { character } => bare_digit(alloc, *character),
     }
 }
 
 /// Whether what the search answered is told behind a diagnostic of this kind.
 #[tactic(auto, unfolding(crate::specs::Names::is_noted))]
 pub(crate) fn is_noted(kind: &Kind) -> bool
-    ensures { result ≡ spec.is_noted kind.now }
+    ensures { result ≡ names.is_noted kind.now }
 {
     match kind {
         Kind::MixedKey { is_noted, .. } => *is_noted,

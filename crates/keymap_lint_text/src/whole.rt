@@ -1,7 +1,7 @@
 //! All that is printed of a text.
-ghost use Rattle.std.specs.Prelude.{IfOk};
+ghost use Rattle.std.specs.Prelude.{◌≡◌, IfOk};
 ghost use Rattle.keymap_lint.specs.Positions.{LiesWithin};
-ghost use Rattle.keymap_lint_text.specs.Heads.{ArePrinted};
+ghost use Rattle.keymap_lint_text.specs.Heads.{printed};
 ghost use Rattle.keymap_lint_text.specs.Whole.{IsLintText, remarks};
 
 use crate::printer::Printer;
@@ -13,7 +13,7 @@ use std::alloc::{AllocError, Global};
 /// What is printed of a text under these bytes in place of the file's name.
 fn text_under(alloc: Global, file: &[u8], source: &[u8], lint: &Lint) -> Result<Vec<u8>, AllocError>
     requires { LiesWithin source.now lint.now }
-    ensures { IfOk result (λ text. ArePrinted file.now source.now (remarks source.now lint.now) text.items) }
+    ensures { IfOk result (λ text. text.items ≡ printed file.now source.now (remarks source.now lint.now)) }
 {
     let mut text = Vec::new(alloc);
     match lint {

@@ -1,2 +1,0 @@
--- What only private contracts cite.
-pub mod Adding

@@ -4,7 +4,7 @@ use keymap_core::ReadError;
 use keymap_fmt::FormatError;
 use keymap_tables::TableError;
 use keymap_text::TextError;
-use kmap_runs::RunError;
+use kmap_runs::{CommandError, RunError};
 use play_core::{PlayError, ScriptError, TypeError};
 use std::alloc::AllocError;
 use std::fmt;
@@ -89,6 +89,12 @@ impl Refusal for TypingError {
 impl Refusal for RunError {
     fn is_memory(&self) -> bool {
         matches!(self, RunError::Memory)
+    }
+}
+
+impl Refusal for CommandError {
+    fn is_memory(&self) -> bool {
+        matches!(self, CommandError::Run(RunError::Memory))
     }
 }
 

@@ -147,7 +147,7 @@ fn covers<W: Write>(alloc: Global, marks: &mut W) -> Outcome {
 
 fn tells_of_a_file<W: Write>(alloc: Global, marks: &mut W) -> Outcome {
     mark(marks);
-    let given = file_error_line(alloc, b"a", &RunError::Memory);
+    let given = file_error_line(alloc, b"a", &RunError::Memory.into());
     mark(marks);
     ended(given.map(|line| line.as_slice() == b"kmap: a: out of memory\n".as_slice()))
 }

@@ -5,7 +5,7 @@ use crate::output::Output;
 use crate::program::{Failure, is_well, of_many, report_name};
 use crate::replace::{ReplaceFault, replace};
 use keymap_core::{Write, put};
-use kmap_runs::{RunError, fmt_print_run, fmt_run};
+use kmap_runs::{CommandError, RunError, fmt_print_run, fmt_run};
 use std::fs;
 use std::fs::{File, Files, Metadata};
 use std::io::Read;
@@ -35,7 +35,7 @@ where
         };
         match (mode, outcome) {
             (FmtMode::Write, Err(Failure::Run(RunError::Write(fault)))) => {
-                let failure = Failure::OfFile(text, RunError::Write(fault));
+                let failure = Failure::OfFile(text, RunError::Write(fault).into());
                 let stopped = is_well(rt.alloc(), Err(failure), faults);
                 report_replaced(rt, replaced.as_slice(), faults);
                 return Ok(stopped);
@@ -118,7 +118,9 @@ where
     let mut out = Output::new(rt);
     match fmt_print_run(rt.alloc(), &mut source, &mut out) {
         Ok(()) => Ok(true),
-        Err(RunError::Write(fault)) => out.outcome(Err(RunError::Write(fault))),
+        Err(CommandError::Run(RunError::Write(fault))) => {
+            out.outcome(Err(RunError::Write(fault)))
+        }
         Err(error) => Err(Failure::OfFile(text, error)),
     }
 }
@@ -141,7 +143,7 @@ fn failure_of<'a>(text: &'a str, fault: ReplaceFault) -> Failure<'a> {
         ReplaceFault::TakesNone(name) | ReplaceFault::CannotCreate(name) => {
             Failure::CannotCreateNew(name)
         }
-        ReplaceFault::Write(fault) => Failure::OfFile(text, RunError::Write(fault)),
+        ReplaceFault::Write(fault) => Failure::OfFile(text, RunError::Write(fault).into()),
         ReplaceFault::NotWritable | ReplaceFault::CannotReplace => Failure::CannotReplace(text),
     }
 }

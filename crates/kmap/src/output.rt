@@ -3,7 +3,7 @@ ghost use Rattle.std.specs.Prelude.{None};
 
 use crate::program::Failure;
 use keymap_core::{Failed, Write};
-use kmap_runs::RunError;
+use kmap_runs::{CommandError, RunError};
 use std::io;
 use std::io::Write as _;
 
@@ -37,6 +37,18 @@ impl<'a, R: Print> Output<'a, R> {
             Ok(value) => Ok(value),
             Err(RunError::Write(_)) if !self.has_reader => Err(Failure::NoReader),
             Err(error) => Err(Failure::Run(error)),
+        }
+    }
+
+    /// The same of a command that fails for reasons of its own too.
+    pub(crate) fn command_outcome<'n, T>(
+        &self,
+        outcome: Result<T, CommandError>,
+    ) -> Result<T, Failure<'n>> {
+        match outcome {
+            Ok(value) => Ok(value),
+            Err(CommandError::Run(error)) => self.outcome(Err(error)),
+            Err(error) => Err(Failure::Command(error)),
         }
     }
 }

@@ -10,8 +10,8 @@ use keymap_core::{Write, write_text};
 use keymap_draw::Board;
 use keymap_lint_text::shown_name;
 use kmap_runs::{
-    RunError, cover_run, draw_run, dump_narrow_run, dump_run, file_error_line, search_run,
-    type_run, write_run_error,
+    CommandError, RunError, cover_run, draw_run, dump_narrow_run, dump_run, file_error_line,
+    search_run, type_run, write_command_error, write_run_error,
 };
 use play_core::{Show, play_next};
 use std::alloc::{AllocError, Global};
@@ -25,8 +25,10 @@ use std::{env, io};
 #[derive(Drop)]
 pub(crate) enum Failure<'a> {
     Run(RunError),
+    /// It is no error of a run.
+    Command(CommandError),
     /// The line of the error tells the file too.
-    OfFile(&'a str, RunError),
+    OfFile(&'a str, CommandError),
     CannotOpen(&'a str),
     NotRegular(&'a str),
     CannotCreate(&'a str),
@@ -161,8 +163,11 @@ pub(crate) fn of_many<'a, W: Write>(
 /// Writes the line of a failure. Where that can't be done, the status stays.
 fn report<W: Write>(alloc: Global, failure: &Failure<'_>, faults: &mut W) {
     match failure {
-        Failure::Run(error) | Failure::OfFile(_, error @ RunError::Memory) => {
+        Failure::Run(error) | Failure::OfFile(_, CommandError::Run(error @ RunError::Memory)) => {
             let _ = write_run_error(error, faults);
+        }
+        Failure::Command(error) => {
+            let _ = write_command_error(error, faults);
         }
         Failure::OfFile(name, error) => report_of_file(alloc, name, error, faults),
         Failure::CannotOpen(name) => report_name(alloc, b"kmap: cannot open ", name, b"\n", faults),
@@ -186,7 +191,7 @@ fn report<W: Write>(alloc: Global, failure: &Failure<'_>, faults: &mut W) {
     }
 }
 
-fn report_of_file<W: Write>(alloc: Global, name: &str, error: &RunError, faults: &mut W) {
+fn report_of_file<W: Write>(alloc: Global, name: &str, error: &CommandError, faults: &mut W) {
     let _ = match file_error_line(alloc, name.as_bytes(), error) {
         Ok(line) => write_text(faults, line.as_slice()),
         Err(AllocError) => write_run_error(&RunError::Memory, faults),
@@ -318,7 +323,7 @@ where
     let mut sentence = given(rt, sentence)?;
     let mut out = Output::new(rt);
     let outcome = type_run(rt.alloc(), &mut text, &mut sentence, &mut out);
-    out.outcome(outcome)
+    out.command_outcome(outcome)
 }
 
 fn cover<'a, R>(rt: &R, text: &'a str) -> Result<(), Failure<'a>>
@@ -328,7 +333,7 @@ where
     let mut source = given(rt, text)?;
     let mut out = Output::new(rt);
     let outcome = cover_run(rt.alloc(), &mut source, &mut out);
-    out.outcome(outcome)
+    out.command_outcome(outcome)
 }
 
 fn draw<'a, R>(rt: &R, text: &'a str, ansi: bool) -> Result<(), Failure<'a>>

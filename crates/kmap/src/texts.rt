@@ -50,7 +50,7 @@ where
         Ok(accepted) => accepted,
         // The report is kept in memory, so where it can't be written there is none left.
         Err(RunError::Write(_)) => return Err(Failure::Run(RunError::Memory)),
-        Err(error) => return Err(Failure::OfFile(text, error)),
+        Err(error) => return Err(Failure::OfFile(text, error.into())),
     };
     let Ok(told) = behind_name(rt.alloc(), text, report.as_slice()) else {
         return Err(Failure::Run(RunError::Memory));
@@ -106,6 +106,6 @@ where
     match lint_run(rt.alloc(), place.as_bytes(), &mut source, &mut out) {
         Ok(well) => Ok(well && (!is_strict || out.is_empty())),
         Err(RunError::Write(fault)) => out.outcome(Err(RunError::Write(fault))),
-        Err(error) => Err(Failure::OfFile(place, error)),
+        Err(error) => Err(Failure::OfFile(place, error.into())),
     }
 }

@@ -7,7 +7,7 @@ use Rattle.kmap_runs.proofs.Common.{All-reversed, Sight, Pair, HasKey, HasKeys, 
 use Rattle.kmap_runs.proofs.Common.{IsScript, Plays, moves, sends, script-nil, line-script, one_list}
 use Rattle.kmap_runs.proofs.Common.{comment, column_text, row_text, has_verdict, row_line, ListsSlots, AddsLists}
 use Rattle.kmap_runs.proofs.Common.{bases_at, character_text, accent_line, accent_lines, rest_word, start_line}
-use Rattle.kmap_runs.proofs.Common.{script_event_line, event_lines, filled_all, EachPasses}
+use Rattle.kmap_runs.proofs.Common.{script_event_line, event_lines, filled_all, EachPasses, codes}
 use Rattle.std.proofs.lemmas.List.{reverse-append}
 use Rattle.std.proofs.lemmas.List.Elements.{All-nil, All-cons}
 use Rattle.keymap_core.specs.Numbers.{key_count, column_count, accent_limit}
@@ -28,14 +28,13 @@ use Rattle.play_core.specs.Delivery.{delivered}
 use Rattle.play_core.specs.Scripts.{key_of}
 use Rattle.kmap_runs.specs.Cover.{number_text, headed, columns_text, setting_text, settings_text, IsCoverText}
 use Rattle.kmap_runs.specs.Cover.{line_of_characters, counts_line, counts_text, all_pairs, part_words, what_of_event}
-use Rattle.kmap_runs.specs.Cover.{sent_of_event}
+use Rattle.kmap_runs.specs.Cover.{left_out_word, never_word, unstuck_word, sent_of_event}
 use Rattle.kmap_runs.specs.Replayed.{events_sent, ShowsCover, PlaysCover}
 use Rattle.kmap_runs.specs.Runs.{CoversText, IsCovered}
 use Rattle.kmap_runs.proofs.Replayed.{taken-whole, same-map}
 use Rattle.kmap_runs.proofs.Comments.{is_in_line, IsInLine, append-line, flat-line, if-line, decimal-line, name-line}
 use Rattle.kmap_runs.proofs.Comments.{comment-before}
 use Rattle.keymap_core.specs.declared.action.Action.TheVariants as act
-use Rattle.kmap_runs.specs.declared.words.TheConstants as words
 
 -- ---- texts before a script
 
@@ -70,11 +69,12 @@ quiet-comment : (words : List ℕ) (told : List (List ℕ)) → IsInLine words �
 quiet-comment words told w t = record { before = comment-before words told w t }
 
 quiet-counts : (rest name : List ℕ) (n : Counts) → IsInLine rest → IsInLine name → Adds (counts_line rest name n) []
+unfolding counts_line
 quiet-counts rest name n f g = search (rules, quiet-comment, decimal-line)
 
 -- a number in a list
 number-line : (n : ℕ) → IsInLine (number_text n)
-number-line n = filled_all is_in_line words.LISTED.now (decimal n ∷ []) refl (decimal-line n, tt)
+number-line n = filled_all is_in_line (codes " {}") (decimal n ∷ []) refl (decimal-line n, tt)
 
 headed-line : (head text : List ℕ) → IsInLine head → IsInLine text → IsInLine (headed head text)
 headed-line head [] h t = refl
@@ -94,23 +94,23 @@ module _ (is_listed : Sight → Bool) where
 
   settings-line : (slot : ℕ) → IsInLine (settings_text is_listed slot)
   settings-line slot =
-      let none = setting_text is_listed slot false false words.NO_LOCK.now in
-      let num = setting_text is_listed slot false true words.NLOCK.now in
-      let caps = setting_text is_listed slot true false words.CLOCK.now in
-      let both = setting_text is_listed slot true true words.BOTH_LOCKS.now in
+      let none = setting_text is_listed slot false false (codes " none") in
+      let num = setting_text is_listed slot false true (codes " nlock") in
+      let caps = setting_text is_listed slot true false (codes " clock") in
+      let both = setting_text is_listed slot true true (codes " clock+nlock") in
       append-line (none ++ num ++ caps) both
       (append-line (none ++ num) caps
-      (append-line none num (setting-line slot false false words.NO_LOCK.now refl)
-      (setting-line slot false true words.NLOCK.now refl))
-      (setting-line slot true false words.CLOCK.now refl))
-      (setting-line slot true true words.BOTH_LOCKS.now refl)
+      (append-line none num (setting-line slot false false (codes " none") refl)
+      (setting-line slot false true (codes " nlock") refl))
+      (setting-line slot true false (codes " clock") refl))
+      (setting-line slot true true (codes " clock+nlock") refl)
 
   row-line : (slot : ℕ) → IsInLine (row_text is_listed slot)
   row-line slot =
-      append-line (headed words.COLUMNS.now (columns_text is_listed slot))
-      (headed words.LOCKS.now (settings_text is_listed slot))
-      (headed-line words.COLUMNS.now (columns_text is_listed slot) refl (columns-line slot))
-      (headed-line words.LOCKS.now (settings_text is_listed slot) refl (settings-line slot))
+      append-line (headed (codes "; columns") (columns_text is_listed slot))
+      (headed (codes "; locks") (settings_text is_listed slot))
+      (headed-line (codes "; columns") (columns_text is_listed slot) refl (columns-line slot))
+      (headed-line (codes "; locks") (settings_text is_listed slot) refl (settings-line slot))
 
   characters-line : (i : ℕ) (bases : List ℕ) → IsInLine (flat_map (character_text is_listed i) bases)
   characters-line i bases =
@@ -118,10 +118,10 @@ module _ (is_listed : Sight → Bool) where
 
 -- the slots from one on to before another that have a row
 quiet-slots : (one : Bool) (word : List ℕ) (first end : ℕ) (row : List ℕ) → IsInLine word → IsInLine row
-    → Adds (if one then comment words.ONE_SLOT.now (word ∷ decimal first ∷ row ∷ [])
-    else comment words.SLOTS.now (word ∷ decimal first ∷ decimal (end - 1) ∷ row ∷ [])) []
+    → Adds (if one then comment (codes " {}: slot {}{}") (word ∷ decimal first ∷ row ∷ [])
+    else comment (codes " {}: slots {} to {}{}") (word ∷ decimal first ∷ decimal (end - 1) ∷ row ∷ [])) []
 quiet-slots true word first end row f g =
-    quiet-comment words.ONE_SLOT.now (word ∷ decimal first ∷ row ∷ []) refl (f, (decimal-line first, (g, tt)))
+    quiet-comment (codes " {}: slot {}{}") (word ∷ decimal first ∷ row ∷ []) refl (f, (decimal-line first, (g, tt)))
 quiet-slots false word first end row f g = search (rules, quiet-comment, decimal-line)
 
 quiet-row : (word : List ℕ) (first end : ℕ) (row : List ℕ) → IsInLine word → IsInLine row
@@ -139,7 +139,8 @@ quiet-characters : (word : List ℕ) (i : ℕ) (text : List ℕ) → IsInLine wo
     → Adds (line_of_characters word i text) []
 quiet-characters word i [] f g = adds-nil
 quiet-characters word i (x ∷ xs) f g =
-    quiet-comment words.PAIRS.now (word ∷ name_of (act.DeadKey i) ∷ (x ∷ xs) ∷ []) refl (f, (name-line i, (g, tt)))
+    quiet-comment (codes " {}: {} with{}") (word ∷ name_of (act.DeadKey i) ∷ (x ∷ xs) ∷ []) refl
+    (f, (name-line i, (g, tt)))
 
 -- a line for each accent
 quiet-accents : (is_listed : Sight → Bool) (word : List ℕ) (m : MapValue) → IsInLine word
@@ -152,7 +153,7 @@ quiet-accents is_listed word m f =
 
 -- ---- the comments before the events
 
-rest-line : (t : Bool) → IsInLine (if t then words.UNSTUCK.now else words.NEVER.now)
+rest-line : (t : Bool) → IsInLine (if t then unstuck_word else never_word)
 rest-line true = refl
 rest-line false = refl
 
@@ -160,25 +161,25 @@ quiet-all_counts : (m : MapValue) (c : Cover) → Adds (counts_text m c) []
 quiet-all_counts m c =
     let told : Sight → Verdict = verdict_of m c in
     let line : IsInLine (rest_word c) = rest-line c.sights.forgets in
-    quiet-counts (rest_word c) words.CELLS.now (counts_of told all_cells) line refl
-    ⊳ quiet-counts (rest_word c) words.LOCK_SETTINGS.now (counts_of told all_lock_settings) line refl
-    ⊳ quiet-counts (rest_word c) words.ALL_PAIRS.now (counts_of told (all_pairs m)) line refl
+    quiet-counts (rest_word c) (codes "cells") (counts_of told all_cells) line refl
+    ⊳ quiet-counts (rest_word c) (codes "lock settings") (counts_of told all_lock_settings) line refl
+    ⊳ quiet-counts (rest_word c) (codes "pairs") (counts_of told (all_pairs m)) line refl
 
 quiet-lists : (m : MapValue) (c : Cover) (old new : List ℕ) → Adds old [] → AddsLists m c old new → Adds new []
 quiet-lists m c old new quiet l =
     let line : IsInLine (rest_word c) = rest-line c.sights.forgets in
     subst (λ t. Adds t []) (sym l.spelled)
     (quiet ⊳ quiet-listed refl l.lists_left_out ⊳ quiet-listed line l.lists_rest
-    ⊳ quiet-accents (has_verdict m c LeftOut) words.LEFT_OUT.now m refl
+    ⊳ quiet-accents (has_verdict m c LeftOut) left_out_word m refl
     ⊳ quiet-accents (has_verdict m c Never) (rest_word c) m line)
 
 -- ---- events
 
 quiet-part : (part : Part) → Adds (comment (part_words part) []) []
-quiet-part Cells = quiet-comment words.CELLS_PART.now [] refl tt
-quiet-part Pairs = quiet-comment words.PAIRS_PART.now [] refl tt
-quiet-part Trials = quiet-comment words.TRIALS_PART.now [] refl tt
-quiet-part OneWay = quiet-comment words.ONE_WAY_PART.now [] refl tt
+quiet-part Cells = quiet-comment (codes " cells") [] refl tt
+quiet-part Pairs = quiet-comment (codes " pairs") [] refl tt
+quiet-part Trials = quiet-comment (codes " trials") [] refl tt
+quiet-part OneWay = quiet-comment (codes " one-way") [] refl tt
 
 quiet-start : (place : ℕ) (s : Start) → Adds (start_line place s) []
 quiet-start place s = quiet-if (s.at == place) (comment (part_words s.part) []) (quiet-part s.part)

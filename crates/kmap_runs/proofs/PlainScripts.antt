@@ -11,7 +11,6 @@ use Rattle.keymap_lint_text.specs.Shown.{IsLine, IsPlainText, is_shown_byte}
 use Rattle.kmap_runs.proofs.Comments.{code_all}
 use Rattle.kmap_runs.specs.Typing.{sentence_line}
 use Rattle.console_core.specs.declared.event.Event.TheVariants as event
-use Rattle.kmap_runs.specs.declared.words.TheConstants as words
 
 code_line : (c : ℕ) → IsLine (code_text c)
 code_line c = ascii _ (code_all is_shown_byte refl digit_printed c)
@@ -28,7 +27,7 @@ shown_line c s = shown_by c (is_unseen c) refl s
 comment_plain : (ks : List Keyed) → All IsScalar (characters_of ks) → IsPlainText (sentence_line ks)
 comment_plain ks h =
     let cs : List ℕ = characters_of ks in
-    plain_line _ (ascii (codes "#") refl ⊳ (fills words.SENTENCE.now _ refl (
+    plain_line _ (ascii (codes "#") refl ⊳ (fills (codes " {}") _ refl (
       line_each IsScalar shown shown_line (before_first is_line_feed cs)
           (All-take IsScalar (position_or_len is_line_feed cs) cs h),
       tt,

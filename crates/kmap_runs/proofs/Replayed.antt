@@ -6,7 +6,7 @@ use Rattle.kmap_runs.proofs.Common.{flat_map, reverse-reverse, All-head, All-tai
 use Rattle.kmap_runs.proofs.Common.{Spells, Event, HasKey, HasKeys, Keyed, Typing, Sent, Plays, moves}
 use Rattle.kmap_runs.proofs.Common.{IsScript, sends, event_line, played_text, line-script, one_list, code_text}
 use Rattle.kmap_runs.proofs.Common.{modifier_name, is_unseen, shown, is_line_feed, comment_if, lines_from}
-use Rattle.kmap_runs.proofs.Common.{typing_script, All-reversed}
+use Rattle.kmap_runs.proofs.Common.{typing_script, All-reversed, codes}
 use Rattle.std.specs.Prelude.{◌≢◌}
 use Rattle.std.proofs.lemmas.Bool.{true≢false}
 use Rattle.std.proofs.lemmas.List.{map-append, take-append-drop}
@@ -24,6 +24,7 @@ use Rattle.console_core.specs.Sticking.{IsAnswer, IsAnswerBetween}
 use Rattle.keymap_check.specs.Report.{report_of}
 use Rattle.keymap_check.specs.Scripts.{demonstration_of}
 use Rattle.keymap_check.proofs.Demonstrated.{demonstrations_leave_modifiers_on}
+use Rattle.play_core.specs.Delivery.{delivered}
 use Rattle.play_core.specs.Spelling.{IsWritable, sent_of}
 use Rattle.play_core.specs.Typing.{alone, IsTyped}
 use Rattle.play_core.specs.Written.{typed_text, text_after}
@@ -32,11 +33,10 @@ use Rattle.kmap_runs.specs.Report.{check_text, demonstration_text, report}
 use Rattle.kmap_runs.specs.Search.{script_text, found_text}
 use Rattle.kmap_runs.specs.Runs.{TypesSentence}
 use Rattle.kmap_runs.specs.Replayed.{ScriptTypes, Delivers, AnswerReplays, AnswerReplaysBetween, ShowsDemonstration}
-use Rattle.kmap_runs.specs.Replayed.{ShowsScript}
+use Rattle.kmap_runs.specs.Replayed.{ShowsScript, sent_for}
 use Rattle.kmap_runs.proofs.Comments.{IsInLine, flat-line, decimal-line, code-line, comment-before, comment-alone}
 use Rattle.console_core.specs.declared.event.Event.TheVariants as event
 use Rattle.play_core.specs.declared.show.Show.TheVariants as show
-use Rattle.kmap_runs.specs.declared.words.TheConstants as words
 
 -- ---- what comments show
 
@@ -126,10 +126,16 @@ typing-types m bytes x t = search (rules, typing-sends, typed-back)
 
 -- ---- scripts of what was found
 
--- a script that sends events delivers them, and nothing else
+-- a script that sends events sends nothing else, and delivers them
 delivers-these : (script : List ℕ) (events : List Event) → IsScript script (map sent_of events)
     → Delivers script (reverse events)
-delivers-these script events is = search (rules, one_list, delivers)
+delivers-these script events is =
+    let same : sent_for (reverse events) ≡ map sent_of events = ap (map sent_of) (reverse-reverse events) in
+    record {
+      is = subst (IsScript script) (sym same) is;
+      nothing_else = λ sent h. one_list script sent (map sent_of events) h is ∙ sym same;
+      delivers = ap (λ s. reverse (delivered s)) same ∙ ap reverse (delivers events);
+    }
 
 -- what is printed to type characters delivers their events, and nothing else
 pub typing-delivers : (m : MapValue) (cs : List ℕ) (x : Typing) → AreTyped m cs x
@@ -152,10 +158,11 @@ script-delivers on events keys =
     search (rules, delivers-these, comment-before, flat-line, modifier-line, events-script, keys-of)
 
 said-never : IsScript (found_text Never) []
-said-never = comment-alone words.NEVER_STICKS.now [] refl tt
+said-never = comment-alone (codes " never sticks") [] refl tt
 
 said-undecided : (p : ℕ) → IsScript (found_text (Undecided p)) []
-said-undecided p = comment-alone words.UNDECIDED.now (decimal p ∷ []) refl (decimal-line p, tt)
+said-undecided p =
+    comment-alone (codes " undecided: no list of up to {} presses sticks") (decimal p ∷ []) refl (decimal-line p, tt)
 
 pub answer-replays : (m : MapValue) (found : Sticking) → IsAnswer m found → AnswerReplays m found
 answer-replays m (Sticks events on) answer =

@@ -1,7 +1,7 @@
 -- What is printed of a script that shows a console what a keymap can do: how much it sees, what it doesn't see, and its
--- events.
+-- events. What is told stands at the places `{}` of its words.
 use Rattle.std.specs.Prelude.{◌≡◌, ℕ, ◌<◌, ◌≤◌, ◌+◌, ◌-◌, ◌==◌, Bool, true, false, List, [], ◌∷◌, ◌++◌, decimal}
-use Rattle.std.specs.Prelude.{length, map, slice_index_or, if◌then◌else◌}
+use Rattle.std.specs.Prelude.{codes, length, map, slice_index_or, if◌then◌else◌}
 use Rattle.std.specs.List.{flat_map, list_any, range_with_len}
 use Rattle.keymap_core.specs.Accents.{AccentValue}
 use Rattle.keymap_core.specs.Actions.{name_of}
@@ -27,8 +27,18 @@ use Rattle.play_core.specs.declared.sent.What.{What}
 use Rattle.play_core.specs.declared.sent.What.TheVariants as what
 use Rattle.kmap_runs.specs.declared.cover.Listing.{Listing}
 use Rattle.kmap_runs.specs.Comments.{comment}
-use Rattle.kmap_runs.specs.declared.words.TheConstants as words
 use Rattle.messages.specs.Filled.{filled}
+
+-- what is told of a sight that the script doesn't show: moves lead to it, though not back; or no list of events shows
+-- it, or none before a modifier sticks
+abbrev pub left_out_word : List ℕ
+left_out_word = codes "left out"
+
+abbrev pub never_word : List ℕ
+never_word = codes "never"
+
+abbrev pub unstuck_word : List ℕ
+unstuck_word = codes "not before a modifier sticks"
 
 -- whether this is the verdict on a sight
 abbrev pub has_verdict : MapValue → Cover → Verdict → Sight → Bool
@@ -39,7 +49,7 @@ abbrev pub is_in : Listing → Sight → Bool
 is_in l = has_verdict l.map.now l.cover.now l.listed
 
 abbrev pub number_text : ℕ → List ℕ
-number_text n = filled words.LISTED.now (decimal n ∷ [])
+number_text n = filled (codes " {}") (decimal n ∷ [])
 
 -- a list behind its head, if there is something in it
 abbrev pub headed : List ℕ → List ℕ → List ℕ
@@ -61,14 +71,14 @@ setting_text is_listed slot caps num name = if is_listed (Locks slot caps num) t
 
 abbrev pub settings_text : (Sight → Bool) → ℕ → List ℕ
 settings_text is_listed slot =
-    setting_text is_listed slot false false words.NO_LOCK.now ++ setting_text is_listed slot false true words.NLOCK.now
-    ++ setting_text is_listed slot true false words.CLOCK.now
-    ++ setting_text is_listed slot true true words.BOTH_LOCKS.now
+    setting_text is_listed slot false false (codes " none") ++ setting_text is_listed slot false true (codes " nlock")
+    ++ setting_text is_listed slot true false (codes " clock")
+    ++ setting_text is_listed slot true true (codes " clock+nlock")
 
 -- what is listed of a slot
 abbrev pub row_text : (Sight → Bool) → ℕ → List ℕ
 row_text is_listed slot =
-    headed words.COLUMNS.now (columns_text is_listed slot) ++ headed words.LOCKS.now (settings_text is_listed slot)
+    headed (codes "; columns") (columns_text is_listed slot) ++ headed (codes "; locks") (settings_text is_listed slot)
 
 -- the same is listed of the slots from one on to before another
 abbrev pub AreAlike : (Sight → Bool) → ℕ → ℕ → Type 0
@@ -83,8 +93,8 @@ EndsAlike is_listed first end = end < slot_limit → row_text is_listed end ≡ 
 abbrev pub row_line : List ℕ → ℕ → ℕ → List ℕ → List ℕ
 row_line word first end [] = []
 row_line word first end (x ∷ row) =
-    if end == first + 1 then comment words.ONE_SLOT.now (word ∷ decimal first ∷ (x ∷ row) ∷ [])
-    else comment words.SLOTS.now (word ∷ decimal first ∷ decimal (end - 1) ∷ (x ∷ row) ∷ [])
+    if end == first + 1 then comment (codes " {}: slot {}{}") (word ∷ decimal first ∷ (x ∷ row) ∷ [])
+    else comment (codes " {}: slots {} to {}{}") (word ∷ decimal first ∷ decimal (end - 1) ∷ (x ∷ row) ∷ [])
 
 -- The text lists each slot before this one: slots in a row of which the same is listed share a line, all of them.
 pub data ListsSlots (is_listed : Sight → Bool) (word : List ℕ) : ℕ → List ℕ → Type 0 where
@@ -121,7 +131,8 @@ character_text is_listed i c = if is_listed (Pair i c) then number_text c else [
 
 abbrev pub line_of_characters : List ℕ → ℕ → List ℕ → List ℕ
 line_of_characters word i [] = []
-line_of_characters word i (x ∷ text) = comment words.PAIRS.now (word ∷ name_of (act.DeadKey i) ∷ (x ∷ text) ∷ [])
+line_of_characters word i (x ∷ text) =
+    comment (codes " {}: {} with{}") (word ∷ name_of (act.DeadKey i) ∷ (x ∷ text) ∷ [])
 
 -- a line for the characters whose pairs with an accent are listed, if there are any
 abbrev pub accent_line : (Sight → Bool) → List ℕ → MapValue → ℕ → List ℕ
@@ -136,36 +147,37 @@ accent_lines is_listed word m = flat_map (accent_line is_listed word m) (range_w
 
 -- what is neither seen nor left out: never seen by any list of events, or by none before a modifier sticks
 abbrev pub rest_word : Cover → List ℕ
-rest_word c = if c.sights.forgets then words.UNSTUCK.now else words.NEVER.now
+rest_word c = if c.sights.forgets then unstuck_word else never_word
 
-abbrev pub counts_line : List ℕ → List ℕ → Counts → List ℕ
+unfoldable pub counts_line : List ℕ → List ℕ → Counts → List ℕ
 counts_line rest name n =
-    comment words.COUNTS.now (name ∷ decimal n.seen ∷ decimal n.left_out ∷ rest ∷ decimal n.rest ∷ [])
+    comment (codes " {}: {}, left out {}, {} {}")
+    (name ∷ decimal n.seen ∷ decimal n.left_out ∷ rest ∷ decimal n.rest ∷ [])
 
 abbrev pub counts_text : MapValue → Cover → List ℕ
 counts_text m c =
     let told = verdict_of m c in
-    counts_line (rest_word c) words.CELLS.now (counts_of told all_cells)
-    ++ counts_line (rest_word c) words.LOCK_SETTINGS.now (counts_of told all_lock_settings)
-    ++ counts_line (rest_word c) words.ALL_PAIRS.now (counts_of told (all_pairs m))
+    counts_line (rest_word c) (codes "cells") (counts_of told all_cells)
+    ++ counts_line (rest_word c) (codes "lock settings") (counts_of told all_lock_settings)
+    ++ counts_line (rest_word c) (codes "pairs") (counts_of told (all_pairs m))
 
 -- Behind a text stand the slots with what is left out of them and then with the rest, and the pairs in the same way.
 pub record AddsLists (m : MapValue) (c : Cover) (old new : List ℕ) : Type 0 where
   pub left_out : List ℕ
   pub rest : List ℕ
-  pub lists_left_out : ListsSlots (has_verdict m c LeftOut) words.LEFT_OUT.now slot_limit left_out
+  pub lists_left_out : ListsSlots (has_verdict m c LeftOut) left_out_word slot_limit left_out
   pub lists_rest : ListsSlots (has_verdict m c Never) (rest_word c) slot_limit rest
-  pub spelled : new ≡ old ++ left_out ++ rest ++ accent_lines (has_verdict m c LeftOut) words.LEFT_OUT.now m
+  pub spelled : new ≡ old ++ left_out ++ rest ++ accent_lines (has_verdict m c LeftOut) left_out_word m
       ++ accent_lines (has_verdict m c Never) (rest_word c) m
 
 -- ---- the events
 
 -- the comment that begins a part
 abbrev pub part_words : Part → List ℕ
-part_words Cells = words.CELLS_PART.now
-part_words Pairs = words.PAIRS_PART.now
-part_words Trials = words.TRIALS_PART.now
-part_words OneWay = words.ONE_WAY_PART.now
+part_words Cells = codes " cells"
+part_words Pairs = codes " pairs"
+part_words Trials = codes " trials"
+part_words OneWay = codes " one-way"
 
 -- a comment if the part begins at the place
 abbrev pub start_line : ℕ → Start → List ℕ

@@ -15,6 +15,8 @@ use Rattle.play_core.specs.declared.script.ScriptFault.TheVariants.{BadLine, Bad
 use Rattle.keymap_core.specs.CodePoints.{code_text}
 use Rattle.kmap_runs.specs.declared.fault_line.RunError.{RunError}
 use Rattle.kmap_runs.specs.declared.fault_line.RunError.TheVariants as error
+use Rattle.kmap_runs.specs.declared.fault_line.CommandError.{CommandError}
+use Rattle.kmap_runs.specs.declared.fault_line.CommandError.TheVariants as command
 use Rattle.keymap_lint_text.specs.Shown.{shown_name}
 use Rattle.messages.specs.Filled.{filled}
 
@@ -59,7 +61,7 @@ too_wide (wide.Cell slot column) =
 too_wide (wide.Accent accent number) =
     filled (codes "kmap: accent too wide at accent {} number {}\n") (decimal accent ∷ decimal number ∷ [])
 
--- the line, with its end
+-- the line on a run, with its end
 abbrev pub fault_line : RunError → List ℕ
 fault_line error.Memory = codes "kmap: out of memory\n"
 fault_line (error.Text f) = text_fault (codes "text") f
@@ -70,15 +72,20 @@ fault_line (error.ReadText f) = read_fault (codes "text") f
 fault_line (error.ReadNext f) = read_fault (codes "next") f
 fault_line (error.ReadScript f) = read_fault (codes "script") f
 fault_line (error.ReadTables f) = read_fault (codes "tables") f
-fault_line (error.ReadSentence f) = read_fault (codes "sentence") f
-fault_line (error.NotText offset) = filled (codes "kmap: sentence offset {}: not UTF-8\n") (decimal offset ∷ [])
-fault_line (error.NoWay offset c) =
-    filled (codes "kmap: sentence offset {}: no key types {}\n") (decimal offset ∷ code_text c ∷ [])
 fault_line (error.TooWide w) = too_wide w
-fault_line error.TooLong = codes "kmap: text: more than 1048576 bytes when formatted\n"
-fault_line error.TooManyStates = codes "kmap: more than 65536 states\n"
 fault_line (error.Write f) = filled (codes "kmap: write fault after {} bytes\n") (decimal f.written ∷ [])
 
+-- the line on a command, which fails as a run does or for a reason of its own
+abbrev pub command_fault_line : CommandError → List ℕ
+command_fault_line (command.Run e) = fault_line e
+command_fault_line (command.ReadSentence f) = read_fault (codes "sentence") f
+command_fault_line (command.NotText offset) =
+    filled (codes "kmap: sentence offset {}: not UTF-8\n") (decimal offset ∷ [])
+command_fault_line (command.NoWay offset c) =
+    filled (codes "kmap: sentence offset {}: no key types {}\n") (decimal offset ∷ code_text c ∷ [])
+command_fault_line command.TooLong = codes "kmap: text: more than 1048576 bytes when formatted\n"
+command_fault_line command.TooManyStates = codes "kmap: more than 65536 states\n"
+
 -- the line with the name of a file, as it is shown, behind `kmap: `
-abbrev pub file_fault_line : List ℕ → RunError → List ℕ
-file_fault_line file e = filled (codes "kmap: {}: {}") (shown_name file ∷ drop 6 (fault_line e) ∷ [])
+abbrev pub file_fault_line : List ℕ → CommandError → List ℕ
+file_fault_line file e = filled (codes "kmap: {}: {}") (shown_name file ∷ drop 6 (command_fault_line e) ∷ [])

@@ -8,13 +8,14 @@ use Rattle.keymap_fmt.specs.Formatted.{formatted}
 use Rattle.keymap_text.specs.Meaning.{Spells, Fault}
 use Rattle.keymap_text.specs.Sources.{TakesWhole, limit}
 use Rattle.play_core.specs.Runs.{StopsReading, moves}
-use Rattle.kmap_runs.specs.declared.fault_line.RunError.{RunError}
 use Rattle.kmap_runs.specs.declared.fault_line.RunError.TheVariants as error
+use Rattle.kmap_runs.specs.declared.fault_line.CommandError.{CommandError}
+use Rattle.kmap_runs.specs.declared.fault_line.CommandError.TheVariants as command
 
-abbrev pub of_format_error : FormatError → RunError
-of_format_error format.Memory = error.Memory
-of_format_error (format.Fault f) = error.Text f
-of_format_error format.TooLong = error.TooLong
+abbrev pub of_format_error : FormatError → CommandError
+of_format_error format.Memory = command.Run error.Memory
+of_format_error (format.Fault f) = command.Run (error.Text f)
+of_format_error format.TooLong = command.TooLong
 
 -- The text was read whole, it spells a keymap, and this is it in the layout.
 pub record LaysOut (before after : Option (List ℕ)) (text laid : List ℕ) : Type 0 where
@@ -25,12 +26,12 @@ pub record LaysOut (before after : Option (List ℕ)) (text laid : List ℕ) : T
 
 -- The text was read whole, and is not laid out: it has this fault, or it spells a keymap and its layout is too long.
 -- Or it was not read whole.
-abbrev pub RefusesLayout : Option (List ℕ) → Option (List ℕ) → RunError → Type 0
-RefusesLayout before after error.Memory = ⊤
-RefusesLayout before after (error.Text f) = (text : List ℕ) × TakesWhole before after text × Fault text f
-RefusesLayout before after error.TooLong = (text : List ℕ) × TakesWhole before after text
+abbrev pub RefusesLayout : Option (List ℕ) → Option (List ℕ) → CommandError → Type 0
+RefusesLayout before after (command.Run error.Memory) = ⊤
+RefusesLayout before after (command.Run (error.Text f)) = (text : List ℕ) × TakesWhole before after text × Fault text f
+RefusesLayout before after command.TooLong = (text : List ℕ) × TakesWhole before after text
     × ((m : MapValue) × Spells text m) × (limit < length (formatted text))
-RefusesLayout before after (error.ReadText f) = StopsReading (moves before after) f f.kind
+RefusesLayout before after (command.Run (error.ReadText f)) = StopsReading (moves before after) f f.kind
 RefusesLayout before after _ = ⊥
 
 -- The text is in the layout as it is.
@@ -43,10 +44,10 @@ ChangesText before after laid = (text : List ℕ) × LaysOut before after text l
 
 -- The layout was written, or its first `written` bytes. After any other refusal nothing was written.
 abbrev pub PrintsLayout : {X : Type 0} → Option (List ℕ) → Option (List ℕ) → Option (List ℕ) → Option (List ℕ)
-    → Result X RunError → Type 0
+    → Result X CommandError → Type 0
 PrintsLayout before after old new (Ok _) =
     (text : List ℕ) × (laid : List ℕ) × LaysOut before after text laid × Appends old new laid
-PrintsLayout before after old new (Err (error.Write f)) =
+PrintsLayout before after old new (Err (command.Run (error.Write f))) =
     (text : List ℕ) × (laid : List ℕ) × LaysOut before after text laid × (f.written < length laid)
     × Appends old new (take f.written laid)
 PrintsLayout before after old new (Err e) = RefusesLayout before after e × Keeps old new

@@ -15,6 +15,8 @@ use Rattle.play_core.specs.declared.playing.Source.TheVariants as source
 use Rattle.play_core.specs.Runs.{Moves, moves, Stays, ReadsAs, ReadsBoth, ReadsKeymap, ReadsWhole}
 use Rattle.kmap_runs.specs.declared.fault_line.RunError.{RunError}
 use Rattle.kmap_runs.specs.declared.fault_line.RunError.TheVariants as error
+use Rattle.kmap_runs.specs.declared.fault_line.CommandError.{CommandError}
+use Rattle.kmap_runs.specs.declared.fault_line.CommandError.TheVariants as command
 
 -- ---- the errors
 
@@ -36,9 +38,9 @@ of_text_bytes read.Memory = error.Memory
 of_text_bytes (read.Read f) = error.ReadText f
 
 -- the error of a reader of a sentence
-abbrev pub of_sentence : ReadError → RunError
-of_sentence read.Memory = error.Memory
-of_sentence (read.Read f) = error.ReadSentence f
+abbrev pub of_sentence : ReadError → CommandError
+of_sentence read.Memory = command.Run error.Memory
+of_sentence (read.Read f) = command.ReadSentence f
 
 -- the error of a file of tables
 abbrev pub of_tables : TableError → RunError
@@ -61,6 +63,15 @@ of_playing (play.Write f) = error.Write f
 abbrev pub of_writer : WriteFault → RunError
 of_writer f = error.Write f
 
+-- the same of a command
+abbrev pub of_command_writer : WriteFault → CommandError
+of_command_writer f = command.Run (error.Write f)
+
+-- what a run could have answered of what a command answers: its error, if it is one of a run
+abbrev pub run_of : {X : Type 0} → Result X CommandError → Result (Unit {0}) RunError
+run_of (Err (command.Run e)) = Err e
+run_of _ = Ok tt
+
 -- whether the answer is that the reader of the text failed
 abbrev pub blames_text : {X : Type 0} → Result X RunError → Bool
 blames_text (Err (error.ReadText f)) = is_device f.kind
@@ -70,8 +81,8 @@ abbrev pub blames_next : {X : Type 0} → Result X RunError → Bool
 blames_next (Err (error.ReadNext f)) = is_device f.kind
 blames_next _ = false
 
-abbrev pub blames_sentence : {X : Type 0} → Result X RunError → Bool
-blames_sentence (Err (error.ReadSentence f)) = is_device f.kind
+abbrev pub blames_sentence : {X : Type 0} → Result X CommandError → Bool
+blames_sentence (Err (command.ReadSentence f)) = is_device f.kind
 blames_sentence _ = false
 
 abbrev pub blames_tables : {X : Type 0} → Result X RunError → Bool
@@ -89,8 +100,12 @@ abbrev pub ReadsBytes : Moves → Result (List ℕ) RunError → Type 0
 ReadsBytes m r = ReadsAs of_text_bytes (ReadsWhole m) r
 
 -- the bytes of a sentence
-abbrev pub ReadsSentence : Moves → Result (List ℕ) RunError → Type 0
+abbrev pub ReadsSentence : Moves → Result (List ℕ) CommandError → Type 0
 ReadsSentence m r = ReadsAs of_sentence (ReadsWhole m) r
+
+-- what a command reads as a run does
+abbrev pub ReadsForCommand : {A : Type 0} → (Result A RunError → Type 0) → Result A CommandError → Type 0
+ReadsForCommand Reads r = ReadsAs command.Run Reads r
 
 -- a file of tables, of which `Reads` says what reading it answers
 abbrev pub ReadsFile : (Option (List ℕ) → Option (List ℕ) → Result MapValue TableError → Type 0) → Moves

@@ -16,6 +16,7 @@ use Rattle.play_core.specs.declared.show.Show.{Show}
 use Rattle.play_core.specs.declared.show.Show.TheVariants as show
 use Rattle.play_core.specs.Delivery.{delivered}
 use Rattle.play_core.specs.Scripts.{IsScript}
+use Rattle.play_core.specs.Spelling.{sent_of}
 use Rattle.play_core.specs.Typing.{alone}
 use Rattle.play_core.specs.Written.{played_text}
 use Rattle.kmap_runs.specs.Cover.{sent_of_event}
@@ -28,12 +29,15 @@ pub record ScriptTypes (m : MapValue) (script bytes : List ℕ) : Type 0 where
   pub is : IsScript script sent
   pub typed : played_text show.Typed (alone m) sent ≡ bytes
 
--- The text is a script, and it delivers exactly this list of events, the newest first.
+-- what is sent for this list of events, the newest first: each once, in their order, and none is lost
+abbrev pub sent_for : List Event → List Sent
+sent_for h = map sent_of (reverse h)
+
+-- The text is a script that sends exactly these events, and so delivers them all.
 pub record Delivers (script : List ℕ) (h : List Event) : Type 0 where
-  pub sent : List Sent
-  pub is : IsScript script sent
-  pub nothing_else : (others : List Sent) → IsScript script others → others ≡ sent
-  pub delivers : reverse (delivered sent) ≡ h
+  pub is : IsScript script (sent_for h)
+  pub nothing_else : (sent : List Sent) → IsScript script sent → sent ≡ sent_for h
+  pub delivers : reverse (delivered (sent_for h)) ≡ h
 
 -- What is printed of an answer of the search: where a modifier sticks, a script that delivers exactly the events of the
 -- answer, which are so; and else a script of no events.

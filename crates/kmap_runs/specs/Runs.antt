@@ -28,8 +28,11 @@ use Rattle.keymap_text.specs.Meaning.{Spells}
 use Rattle.keymap_text.specs.Sources.{TakesWhole}
 use Rattle.kmap_runs.specs.declared.fault_line.RunError.{RunError}
 use Rattle.kmap_runs.specs.declared.fault_line.RunError.TheVariants as error
+use Rattle.kmap_runs.specs.declared.fault_line.CommandError.{CommandError}
+use Rattle.kmap_runs.specs.declared.fault_line.CommandError.TheVariants as command
 use Rattle.kmap_runs.specs.Cover.{IsCoverText}
-use Rattle.kmap_runs.specs.Inputs.{of_writer, ReadsBytes, ReadsFile, ReadsKeymaps, ReadsSentence, ReadsText}
+use Rattle.kmap_runs.specs.Inputs.{of_command_writer, of_writer, ReadsBytes, ReadsFile, ReadsForCommand, ReadsKeymaps}
+use Rattle.kmap_runs.specs.Inputs.{ReadsSentence, ReadsText}
 use Rattle.kmap_runs.specs.LintRuns.{IsLinted}
 use Rattle.kmap_runs.specs.Replayed.{ShowsCover}
 use Rattle.kmap_runs.specs.Report.{report}
@@ -105,33 +108,34 @@ abbrev pub SearchesTexts : Moves → Option Moves → Moves → Result Bool RunE
 SearchesTexts text next out r = Runs of_writer (ReadsKeymaps text next) LacksMemory Finds out r
 
 -- why no script is printed for a map
-abbrev pub LacksCover : MapValue → RunError → Type 0
-LacksCover m error.Memory = ⊤
-LacksCover m error.TooManyStates = (p : ℕ) × ReachesMoreThan (alone m) state_limit p
+abbrev pub LacksCover : MapValue → CommandError → Type 0
+LacksCover m (command.Run error.Memory) = ⊤
+LacksCover m command.TooManyStates = (p : ℕ) × ReachesMoreThan (alone m) state_limit p
 LacksCover m _ = ⊥
 
 -- a script, with what it sees and doesn't see
 abbrev pub IsCovered : MapValue → Unit {0} → List ℕ → Type 0
 IsCovered m _ told = (c : Cover) × Covers m c × IsCoverText m c told
 
-abbrev pub CoversText : Moves → Moves → Result (Unit {0}) RunError → Type 0
-CoversText text out r = Runs of_writer (ReadsText text) LacksCover IsCovered out r
+abbrev pub CoversText : Moves → Moves → Result (Unit {0}) CommandError → Type 0
+CoversText text out r = Runs of_command_writer (ReadsForCommand (ReadsText text)) LacksCover IsCovered out r
 
 -- why the bytes of a sentence aren't typed
-abbrev pub LacksScript : MapValue → List ℕ → RunError → Type 0
-LacksScript m bytes error.Memory = ⊤
-LacksScript m bytes (error.NotText offset) = IsTypeError m bytes (type.NotText offset)
-LacksScript m bytes (error.NoWay offset c) = IsTypeError m bytes (type.NoWay offset c)
-LacksScript m bytes error.TooManyStates = IsTypeError m bytes type.TooManyStates
+abbrev pub LacksScript : MapValue → List ℕ → CommandError → Type 0
+LacksScript m bytes (command.Run error.Memory) = ⊤
+LacksScript m bytes (command.NotText offset) = IsTypeError m bytes (type.NotText offset)
+LacksScript m bytes (command.NoWay offset c) = IsTypeError m bytes (type.NoWay offset c)
+LacksScript m bytes command.TooManyStates = IsTypeError m bytes type.TooManyStates
 LacksScript m bytes _ = ⊥
 
 -- the script of events that type the sentence
 abbrev pub Types : MapValue → List ℕ → List ℕ → Type 0
 Types m bytes told = (x : Typing) × IsTyped m bytes x × (told ≡ typing_script x)
 
-abbrev pub TypesSentence : Moves → Moves → Moves → Result (Unit {0}) RunError → Type 0
+abbrev pub TypesSentence : Moves → Moves → Moves → Result (Unit {0}) CommandError → Type 0
 TypesSentence text sentence out r =
-    Runs of_writer (ReadsBoth (ReadsText text) (ReadsSentence sentence) (Stays sentence))
+    Runs of_command_writer
+    (ReadsBoth (ReadsForCommand (ReadsText text)) (ReadsSentence sentence) (Stays sentence))
     (λ v e. LacksScript v.0 v.1 e) (λ v _ told. Types v.0 v.1 told) out r
 
 -- ---- laws

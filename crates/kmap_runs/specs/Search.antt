@@ -1,4 +1,4 @@
--- What the search for sticking modifiers found, as a script.
+-- What the search for sticking modifiers found, as a script. What is told stands at the places `{}` of its words.
 use Rattle.std.specs.Prelude.{ℕ, Bool, true, false, List, [], ◌∷◌, ◌++◌, codes, decimal}
 use Rattle.std.specs.List.{flat_map}
 use Rattle.keymap_core.specs.declared.action.Modifier.{Modifier}
@@ -8,7 +8,6 @@ use Rattle.console_core.specs.declared.outcome.Sticking.{Sticking}
 use Rattle.console_core.specs.declared.outcome.Sticking.TheVariants.{Sticks, Never, Undecided}
 use Rattle.play_core.specs.Spelling.{event_line}
 use Rattle.kmap_runs.specs.Report.{holding_name}
-use Rattle.kmap_runs.specs.declared.words.TheConstants as words
 use Rattle.kmap_runs.specs.Comments.{comment}
 
 -- the name of a modifier, after a blank
@@ -17,16 +16,16 @@ modifier_name i = codes " " ++ holding_name (holding.Mod i)
 
 -- which modifiers are on after the events, and a line for each event
 abbrev pub script_text : List Modifier → List Event → List ℕ
-script_text on events = comment words.STICKS.now (flat_map modifier_name on ∷ []) ++ flat_map event_line events
+script_text on events = comment (codes " sticks:{}") (flat_map modifier_name on ∷ []) ++ flat_map event_line events
 
 -- no list of up to so many presses leaves a modifier on, and more were not tried
 abbrev pub undecided_text : ℕ → List ℕ
-undecided_text p = comment words.UNDECIDED.now (decimal p ∷ [])
+undecided_text p = comment (codes " undecided: no list of up to {} presses sticks") (decimal p ∷ [])
 
 -- what is told of an answer of the search
 abbrev pub found_text : Sticking → List ℕ
 found_text (Sticks events on) = script_text on.items events.items
-found_text Never = comment words.NEVER_STICKS.now []
+found_text Never = comment (codes " never sticks") []
 found_text (Undecided p) = undecided_text p
 
 abbrev pub is_never : Sticking → Bool

@@ -1,6 +1,6 @@
 -- The script that types a sentence.
 use Rattle.std.specs.Prelude.{ℕ, ◌==◌, ◌-◌, Bool, true, false, List, [], ◌∷◌, ◌++◌, take, drop, encode_utf8}
-use Rattle.std.specs.Prelude.{if◌then◌else◌}
+use Rattle.std.specs.Prelude.{codes, if◌then◌else◌}
 use Rattle.std.specs.List.{flat_map, before_first}
 use Rattle.keymap_core.specs.Unseen.{is_unseen}
 use Rattle.console_core.specs.declared.event.Event.{Event}
@@ -9,7 +9,6 @@ use Rattle.console_core.specs.declared.typing.Typing.{Typing}
 use Rattle.console_core.specs.Typing.{characters_of}
 use Rattle.keymap_core.specs.CodePoints.{code_text}
 use Rattle.play_core.specs.Spelling.{event_line}
-use Rattle.kmap_runs.specs.declared.words.TheConstants as words
 use Rattle.kmap_runs.specs.Comments.{comment}
 
 -- a character, or its number where a terminal doesn't show it as it is
@@ -25,7 +24,7 @@ line_shown cs = flat_map shown (before_first is_line_feed cs)
 
 -- a comment that shows the first line of the characters
 abbrev pub sentence_line : List Keyed → List ℕ
-sentence_line ks = comment words.SENTENCE.now (line_shown (characters_of ks) ∷ [])
+sentence_line ks = comment (codes " {}") (line_shown (characters_of ks) ∷ [])
 
 abbrev pub comment_if : Bool → List Keyed → List ℕ
 comment_if true ks = sentence_line ks

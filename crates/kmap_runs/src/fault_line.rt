@@ -2,7 +2,7 @@
 ghost use Rattle.std.specs.Prelude.{◌≡◌, ◌≤◌, ◌||◌, length, is_err, IfOk};
 ghost use Rattle.keymap_core.specs.Devices.{WritesText};
 ghost use Rattle.kmap_runs.specs.FaultLine as spec;
-ghost use Rattle.kmap_runs.specs.FaultLine.{fault_line, file_fault_line, table_kind};
+ghost use Rattle.kmap_runs.specs.FaultLine.{command_fault_line, fault_line, file_fault_line, table_kind};
 
 use keymap_core::{ReadFault, ReadFaultKind, Write, WriteFault, code_text, write_text};
 use keymap_lint_text::shown_name;
@@ -34,20 +34,39 @@ pub enum RunError {
     ReadScript(ReadFault),
     #[error("the tables cannot be read")]
     ReadTables(ReadFault),
+    #[error("a character is too wide for a narrow file")]
+    TooWide(Wide),
+    #[error("the output cannot be written")]
+    Write(WriteFault),
+}
+
+/// Why a command failed that lays a text out, types a sentence or tests a console: as a run does, or for a reason of
+/// its own. `write_command_error` writes the line that tells it.
+#[derive(Clone, Copy, Debug, PartialEq, Eq, Error)]
+pub enum CommandError {
+    #[error("{0}")]
+    Run(RunError),
     #[error("the sentence cannot be read")]
     ReadSentence(ReadFault),
     #[error("the sentence is not UTF-8")]
     NotText { offset: u64 },
     #[error("no key types a character of the sentence")]
     NoWay { offset: u64, c: char },
-    #[error("a character is too wide for a narrow file")]
-    TooWide(Wide),
     #[error("the text is too long when formatted")]
     TooLong,
     #[error("the keymap has more states than a search goes over")]
     TooManyStates,
-    #[error("the output cannot be written")]
-    Write(WriteFault),
+}
+
+impl From<RunError> for CommandError {
+    ghost use Rattle.std.specs.Prelude.{◌≡◌};
+    ghost use Rattle.kmap_runs.specs.declared.fault_line.CommandError.TheVariants.{Run};
+
+    ghost from_gives = { λ e r. r ≡ Run e };
+
+    fn from(error: RunError) -> CommandError {
+        CommandError::Run(error)
+    }
 }
 
 /// What playing a script answers is told as by any other run.
@@ -175,16 +194,16 @@ fn too_wide(wide: &Wide) -> Line
 }
 
 fn no_way(offset: u64, c: char) -> Line
-    ensures { result.items ≡ spec.fault_line (RunError.NoWay offset c) }
+    ensures { result.items ≡ command_fault_line (CommandError.NoWay offset c) }
 {
     let c = code_text(c);
     line(NO_WAY, &[number(offset).as_slice(), c.as_slice()])
 }
 
-/// The line of an error, with its end.
+/// The line of a run's error, with its end.
 #[tactic(auto, unfolding(messages::specs::Filled::filled))]
-fn line_of(error: &RunError) -> Line
-    ensures { result.items ≡ spec.fault_line error.now }
+fn line_of_run(error: &RunError) -> Line
+    ensures { result.items ≡ fault_line error.now }
 {
     match error {
         RunError::Memory => line(MEMORY, &[]),
@@ -196,28 +215,51 @@ fn line_of(error: &RunError) -> Line
         RunError::ReadNext(fault) => read_fault(b"next", fault),
         RunError::ReadScript(fault) => read_fault(b"script", fault),
         RunError::ReadTables(fault) => read_fault(b"tables", fault),
-        RunError::ReadSentence(fault) => read_fault(b"sentence", fault),
-        RunError::NotText { offset } => line(NOT_TEXT, &[number(*offset).as_slice()]),
-        RunError::NoWay { offset, c } => no_way(*offset, *c),
         RunError::TooWide(wide) => too_wide(wide),
-        RunError::TooLong => line(TOO_LONG, &[]),
-        RunError::TooManyStates => line(TOO_MANY_STATES, &[]),
         RunError::Write(fault) => line(WRITE, &[number(fault.written).as_slice()]),
     }
 }
 
-/// Writes the line of an error, or after a fault of the writer its first `written` bytes.
+/// The line of a command's error, with its end.
+#[tactic(auto, unfolding(messages::specs::Filled::filled))]
+fn line_of(error: &CommandError) -> Line
+    ensures { result.items ≡ command_fault_line error.now }
+{
+    match error {
+        CommandError::Run(error) => line_of_run(error),
+        CommandError::ReadSentence(fault) => read_fault(b"sentence", fault),
+        CommandError::NotText { offset } => line(NOT_TEXT, &[number(*offset).as_slice()]),
+        CommandError::NoWay { offset, c } => no_way(*offset, *c),
+        CommandError::TooLong => line(TOO_LONG, &[]),
+        CommandError::TooManyStates => line(TOO_MANY_STATES, &[]),
+    }
+}
+
+/// Writes the line of a run's error, or after a fault of the writer its first `written` bytes.
 pub fn write_run_error<W: Write>(error: &RunError, writer: &mut W) -> Result<(), WriteFault>
     ensures bytes { WritesText (λ f. f.written) (W.contents writer.old) (W.contents writer.new) (fault_line error.now)
         result }
     ensures failed { W.has_failed writer.new ≡ (is_err result || W.has_failed writer.old) }
 {
+    write_text(writer, line_of_run(error).as_slice())
+}
+
+/// Writes the line of a command's error, or after a fault of the writer its first `written` bytes.
+pub fn write_command_error<W: Write>(error: &CommandError, writer: &mut W) -> Result<(), WriteFault>
+    ensures bytes { WritesText (λ f. f.written) (W.contents writer.old) (W.contents writer.new)
+        (command_fault_line error.now) result }
+    ensures failed { W.has_failed writer.new ≡ (is_err result || W.has_failed writer.old) }
+{
     write_text(writer, line_of(error).as_slice())
 }
 
-/// The line of an error that has the name of a file, as `shown_name` shows it, behind `kmap: `.
+/// The line of a command's error that has the name of a file, as `shown_name` shows it, behind `kmap: `.
 #[tactic(auto, unfolding(messages::specs::Filled::filled))]
-pub fn file_error_line(alloc: Global, file: &[u8], error: &RunError) -> Result<Vec<u8>, AllocError>
+pub fn file_error_line(
+    alloc: Global,
+    file: &[u8],
+    error: &CommandError,
+) -> Result<Vec<u8>, AllocError>
     ensures { IfOk result (λ line. line.items ≡ file_fault_line file.now error.now) }
 {
     let line = line_of(error);

@@ -1,31 +1,34 @@
 //! The runs that lay a text out.
 ghost use Rattle.std.specs.Prelude.{◌≡◌, ◌||◌, MatchOption, MatchResult};
 ghost use Rattle.kmap_runs.specs.FmtRuns as spec;
-ghost use Rattle.kmap_runs.specs.Inputs.{blames_text};
+ghost use Rattle.kmap_runs.specs.Inputs.{blames_text, run_of};
 ghost use Rattle.kmap_runs.specs.Runs.{blames_writer};
 
-use crate::fault_line::RunError;
+use crate::fault_line::{CommandError, RunError};
 use crate::inputs::read_text_bytes;
 use keymap_core::{Read, Write, write_text};
 use keymap_fmt::{FormatError, format};
 use std::alloc::Global;
 
-fn format_failure(error: FormatError) -> RunError
+fn format_failure(error: FormatError) -> CommandError
     ensures { result ≡ spec.of_format_error error }
 {
     match error {
-        FormatError::Memory => RunError::Memory,
-        FormatError::Fault(fault) => RunError::Text(fault),
-        FormatError::TooLong => RunError::TooLong,
+        FormatError::Memory => CommandError::Run(RunError::Memory),
+        FormatError::Fault(fault) => CommandError::Run(RunError::Text(fault)),
+        FormatError::TooLong => CommandError::TooLong,
     }
 }
 
 /// A text that is read whole, and the same text in the layout.
-fn read_and_laid_out<R: Read>(alloc: Global, reader: &mut R) -> Result<(Vec<u8>, Vec<u8>), RunError>
+fn read_and_laid_out<R: Read>(
+    alloc: Global,
+    reader: &mut R,
+) -> Result<(Vec<u8>, Vec<u8>), CommandError>
     ensures reads { MatchResult result
         (λ r. spec.LaysOut (R.remaining reader.old) (R.remaining reader.new) r.0.items r.1.items)
         (spec.RefusesLayout (R.remaining reader.old) (R.remaining reader.new)) }
-    ensures failed { R.has_failed reader.new ≡ (blames_text result || R.has_failed reader.old) }
+    ensures failed { R.has_failed reader.new ≡ (blames_text (run_of result) || R.has_failed reader.old) }
 {
     let text = read_text_bytes(alloc, reader)?;
     match format(alloc, text.as_slice()) {
@@ -35,12 +38,12 @@ fn read_and_laid_out<R: Read>(alloc: Global, reader: &mut R) -> Result<(Vec<u8>,
 }
 
 /// Reads a text, and answers its layout where that differs from it.
-pub fn fmt_run<R: Read>(alloc: Global, reader: &mut R) -> Result<Option<Vec<u8>>, RunError>
+pub fn fmt_run<R: Read>(alloc: Global, reader: &mut R) -> Result<Option<Vec<u8>>, CommandError>
     ensures run { MatchResult result
         (λ told. MatchOption told (spec.IsInLayout (R.remaining reader.old) (R.remaining reader.new))
         (λ laid. spec.ChangesText (R.remaining reader.old) (R.remaining reader.new) laid.items))
         (spec.RefusesLayout (R.remaining reader.old) (R.remaining reader.new)) }
-    ensures reader_failed { R.has_failed reader.new ≡ (blames_text result || R.has_failed reader.old) }
+    ensures reader_failed { R.has_failed reader.new ≡ (blames_text (run_of result) || R.has_failed reader.old) }
 {
     let (text, laid) = read_and_laid_out(alloc, reader)?;
     if text.as_slice() == laid.as_slice() {
@@ -55,12 +58,15 @@ pub fn fmt_print_run<R: Read, W: Write>(
     alloc: Global,
     reader: &mut R,
     writer: &mut W,
-) -> Result<(), RunError>
+) -> Result<(), CommandError>
     ensures run { spec.PrintsLayout (R.remaining reader.old) (R.remaining reader.new) (W.contents writer.old)
         (W.contents writer.new) result }
-    ensures reader_failed { R.has_failed reader.new ≡ (blames_text result || R.has_failed reader.old) }
-    ensures writer_failed { W.has_failed writer.new ≡ (blames_writer result || W.has_failed writer.old) }
+    ensures reader_failed { R.has_failed reader.new ≡ (blames_text (run_of result) || R.has_failed reader.old) }
+    ensures writer_failed { W.has_failed writer.new ≡ (blames_writer (run_of result) || W.has_failed writer.old) }
 {
     let (_, laid) = read_and_laid_out(alloc, reader)?;
-    write_text(writer, laid.as_slice()).map_err(RunError::Write)
+    match write_text(writer, laid.as_slice()) {
+        Ok(()) => Ok(()),
+        Err(fault) => Err(CommandError::Run(RunError::Write(fault))),
+    }
 }

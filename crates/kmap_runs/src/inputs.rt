@@ -5,11 +5,11 @@ ghost use Rattle.keymap_tables.specs.Sources.{ReadsTables, ReadsNarrow};
 ghost use Rattle.kmap_runs.specs.Inputs as spec;
 ghost use Rattle.kmap_runs.specs.Inputs.{ReadsBytes, ReadsFile, ReadsKeymaps, ReadsNext, ReadsSentence, ReadsText};
 ghost use Rattle.kmap_runs.specs.Inputs.{blames_next, blames_sentence, blames_tables, blames_text};
-ghost use Rattle.kmap_runs.specs.Inputs.{has_failed_if, moves_if};
+ghost use Rattle.kmap_runs.specs.Inputs.{has_failed_if, moves_if, run_of};
 ghost use Rattle.kmap_runs.specs.Runs.{blames_writer};
 ghost use Rattle.play_core.specs.Runs.{moves};
 
-use crate::fault_line::RunError;
+use crate::fault_line::{CommandError, RunError};
 use keymap_core::{KeyMap, Read, ReadError};
 use keymap_tables::{TableError, read_narrow_from, read_tables_from};
 use keymap_text::{TextError, read_from};
@@ -51,7 +51,6 @@ pub(crate) fn read_text<R: Read>(alloc: Global, reader: &mut R) -> Result<KeyMap
     ensures reads { ReadsText (moves (R.remaining reader.old) (R.remaining reader.new)) result }
     ensures failed { R.has_failed reader.new ≡ (blames_text result || R.has_failed reader.old) }
     ensures next_kept { blames_next result ≡ false }
-    ensures sentence_kept { blames_sentence result ≡ false }
     ensures writer_kept { blames_writer result ≡ false }
 {
     match read_from(alloc, reader) {
@@ -113,18 +112,18 @@ pub(crate) fn read_text_bytes<R: Read>(alloc: Global, reader: &mut R) -> Result<
 }
 
 /// The bytes of a sentence, which are read whole.
-pub(crate) fn read_sentence<S: Read>(alloc: Global, reader: &mut S) -> Result<Vec<u8>, RunError>
+pub(crate) fn read_sentence<S: Read>(alloc: Global, reader: &mut S) -> Result<Vec<u8>, CommandError>
     ensures reads { MatchResult result
         (λ bytes. ReadsSentence (moves (S.remaining reader.old) (S.remaining reader.new)) (Ok bytes.items))
         (λ e. ReadsSentence (moves (S.remaining reader.old) (S.remaining reader.new)) (Err e)) }
     ensures failed { S.has_failed reader.new ≡ (blames_sentence result || S.has_failed reader.old) }
-    ensures text_kept { blames_text result ≡ false }
-    ensures writer_kept { blames_writer result ≡ false }
+    ensures text_kept { blames_text (run_of result) ≡ false }
+    ensures writer_kept { blames_writer (run_of result) ≡ false }
 {
     match read_whole(alloc, reader) {
         Ok(bytes) => Ok(bytes),
-        Err(ReadError::Memory) => Err(RunError::Memory),
-        Err(ReadError::Read(fault)) => Err(RunError::ReadSentence(fault)),
+        Err(ReadError::Memory) => Err(CommandError::Run(RunError::Memory)),
+        Err(ReadError::Read(fault)) => Err(CommandError::ReadSentence(fault)),
     }
 }
 

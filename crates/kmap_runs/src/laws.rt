@@ -35,7 +35,8 @@ use keymap_lint::laws::well_texts_never_stick;
 use keymap_tables::laws::{an_image_has_one_map, each_map_fits_in_a_table_file, images_are_whole};
 use keymap_text::laws::printed_form_spells;
 
-/// What is printed to type characters is a script that delivers exactly the events that type them.
+/// What is printed to type characters is a script that sends exactly the events that type them, and none of them is
+/// lost.
 pub fn typing_scripts_deliver_the_events()
     ensures { (m : MapValue) (cs : List ℕ) (x : TypingValue) → AreTyped m cs x
         → Delivers (typing_script x) (reverse x.events.items) }
@@ -54,9 +55,9 @@ pub fn typing_scripts_are_plain()
     ensures { (x : TypingValue) → All IsScalar (characters_of x.keyed.items) → IsPlainText (typing_script x) }
 {}
 
-/// What is printed of an answer of the search is a script: where it found a list, one that delivers exactly this list,
-/// which leaves a modifier on while no key is pressed, by the fewest presses, between the same two keymaps where it has
-/// loads; and else one of no events.
+/// What is printed of an answer of the search is a script: where it found a list, one that sends exactly this list, of
+/// which nothing is lost, and which leaves a modifier on while no key is pressed, by the fewest presses, between the
+/// same two keymaps where it has loads; and else one of no events.
 pub fn found_scripts_deliver_the_answer()
     ensures alone { (m : MapValue) (found : StickingValue) → IsAnswer m found → AnswerReplays m found }
     ensures between { (ms : Maps) (found : StickingValue) → IsAnswerBetween ms found → AnswerReplaysBetween ms found }
@@ -70,8 +71,8 @@ pub fn typed_sentences_come_back()
         → typed ≡ sentence }
 {}
 
-/// Behind the report of a keymap stands `demonstration: none`, or `demonstration:` and a script that delivers exactly
-/// the events of the demonstration, which leave a modifier on while no key is pressed.
+/// Behind the report of a keymap stands `demonstration: none`, or `demonstration:` and a script that sends exactly the
+/// events of the demonstration, none of them lost, which leave a modifier on while no key is pressed.
 pub fn printed_demonstrations_leave_a_modifier_on()
     ensures { (m : MapValue) → ShowsScript m (report m true) }
 {}

@@ -6,7 +6,8 @@
 //! `cover_run` a script that tests a console, and `type_run` one that types a sentence; `compile_run` and
 //! `compile_narrow_run` write the table file of a text, `dump_run` and `dump_narrow_run` print the map of one. Playing
 //! is `play` and `play_next` of `play_core`, whose errors `RunError` takes over. `write_run_error` writes the line of
-//! the `RunError` that any of them answers.
+//! the `RunError` that a run answers, and `write_command_error` that of the `CommandError` of those that lay out, type
+//! and test, which fail for reasons of their own too.
 //!
 //! It stands on all other libraries of the workspace but that for C, and on nothing that opens files or reads a
 //! command line. Each contract says with one definition, `Runs` of `play_core`, which inputs were read to which values
@@ -33,7 +34,9 @@ mod typing;
 mod words;
 
 pub use cover_runs::cover_run;
-pub use fault_line::{RunError, file_error_line, write_run_error};
+pub use fault_line::{
+    CommandError, RunError, file_error_line, write_command_error, write_run_error,
+};
 pub use fmt_runs::{fmt_print_run, fmt_run};
 pub use lint_runs::lint_run;
 pub use runs::{check_run, compile_narrow_run, compile_run, draw_run, dump_narrow_run, dump_run};

@@ -1,11 +1,11 @@
 //! The words of the report of the check and of the scripts that runs print, line by line. What is told stands at the
 //! places `{}`, in the order in which the contracts list it. The forms are those of docs/FORMATS.md, "The report of
 //! check", "What the search found", "The script that types a sentence" and "The script that tests a console". A comment
-//! stands here without the number sign before it and the line feed behind it.
+//! stands here without the number sign before it and the line feed behind it. The definitions have these bytes of their
+//! own (specs/Report.antt, Search.antt, Typing.antt and Cover.antt), which are proved to be the same.
 
 // The report: the verdict, and who bears a holding action. The line on a key that makes the keymap refused is
-// keymap_check's, which pictures and the C library show too. The definitions have these bytes of their own
-// (specs/Report.antt), which are proved to be the same.
+// keymap_check's, which pictures and the C library show too.
 pub(crate) const ACCEPTED: &[u8] = b"accepted\n";
 
 pub(crate) const REFUSED: &[u8] = b"refused\n";

@@ -5,7 +5,7 @@ use crate::run_devices::{DEVICE, ENDLESS};
 use keymap_core::{Write, WriteFault};
 use keymap_tables::{TableFault, TableFaultKind, Wide};
 use keymap_text::{TextFault, TextFaultKind};
-use kmap_runs::{RunError, write_run_error};
+use kmap_runs::{CommandError, RunError, write_command_error, write_run_error};
 use play_core::ScriptFault;
 use test_support::devices::slow_sheet_of;
 
@@ -87,8 +87,8 @@ static TABLE_KINDS: [(TableFaultKind, &[u8]); 9] = [
     ),
 ];
 
-/// Other faults, and their lines.
-static LINES: [(RunError, &[u8]); 21] = [
+/// Other faults of runs, and their lines.
+static LINES: [(RunError, &[u8]); 15] = [
     (
         RunError::Next(TextFault {
             offset: 3,
@@ -156,43 +156,58 @@ static LINES: [(RunError, &[u8]); 21] = [
         }),
         b"kmap: accent too wide at accent 14 number 104\n",
     ),
+];
+
+/// What other commands fail of besides, and its lines.
+static COMMAND_LINES: [(CommandError, &[u8]); 8] = [
     (
-        RunError::ReadSentence(DEVICE),
+        CommandError::ReadSentence(DEVICE),
         b"kmap: sentence: read fault at offset 0\n",
     ),
     (
-        RunError::ReadSentence(ENDLESS),
+        CommandError::ReadSentence(ENDLESS),
         b"kmap: sentence: more than 1048576 bytes\n",
     ),
     (
-        RunError::NotText { offset: 7 },
+        CommandError::NotText { offset: 7 },
         b"kmap: sentence offset 7: not UTF-8\n",
     ),
     (
-        RunError::NoWay { offset: 0, c: '\n' },
+        CommandError::NoWay { offset: 0, c: '\n' },
         b"kmap: sentence offset 0: no key types U+000a\n",
     ),
     (
-        RunError::NoWay {
+        CommandError::NoWay {
             offset: u64::MAX,
             c: '\u{1f600}',
         },
         b"kmap: sentence offset 18446744073709551615: no key types U+1f600\n",
     ),
     (
-        RunError::NoWay {
+        CommandError::NoWay {
             offset: 1,
             c: '\u{10ffff}',
         },
         b"kmap: sentence offset 1: no key types U+10ffff\n",
     ),
+    (
+        CommandError::TooLong,
+        b"kmap: text: more than 1048576 bytes when formatted\n",
+    ),
+    (
+        CommandError::TooManyStates,
+        b"kmap: more than 65536 states\n",
+    ),
 ];
 
 /// Whether the line is written, and its front where the writer takes no more.
-fn is_told(error: &RunError, line: &[u8]) -> bool {
+fn is_told(error: &CommandError, line: &[u8]) -> bool {
     for most in 0..=line.len() {
         let mut writer = slow_sheet_of(1, most);
-        let answer = write_run_error(error, &mut writer);
+        let answer = match error {
+            CommandError::Run(error) => write_run_error(error, &mut writer),
+            _ => write_command_error(error, &mut writer),
+        };
         let written = most as u64;
         let wanted = if most < line.len() {
             Err(WriteFault { written })
@@ -215,13 +230,16 @@ fn each_fault_has_its_line(rt: HostRuntime) {
             line: 1,
             kind,
         };
-        expect_at(&rt, &kind, is_told(&RunError::Text(fault), line));
+        expect_at(&rt, &kind, is_told(&RunError::Text(fault).into(), line));
     }
     for &(kind, line) in &TABLE_KINDS {
         let fault = TableFault { offset: 37, kind };
-        expect_at(&rt, &kind, is_told(&RunError::Tables(fault), line));
+        expect_at(&rt, &kind, is_told(&RunError::Tables(fault).into(), line));
     }
     for (error, line) in &LINES {
+        expect_at(&rt, &line, is_told(&CommandError::Run(*error), line));
+    }
+    for (error, line) in &COMMAND_LINES {
         expect_at(&rt, &line, is_told(error, line));
     }
 }

@@ -209,7 +209,7 @@ fn expect_written(
         let given = perform(what, alloc, &mut text, &mut second, &mut writer);
         let written = most as u64;
         let told = if most < wanted.len() {
-            Err(RunError::Write(WriteFault { written }))
+            Err(RunError::Write(WriteFault { written }).into())
         } else {
             Ok(answer)
         };
@@ -247,7 +247,7 @@ fn a_picture_is_written_until_its_writer_fails(rt: HostRuntime) -> Result<(), Fa
             &rt,
             &most,
             &given,
-            &Err(RunError::Write(WriteFault { written })),
+            &Err(RunError::Write(WriteFault { written }).into()),
         );
         let is_front = wanted.as_slice().starts_with(writer.bytes.as_slice());
         expect_at(

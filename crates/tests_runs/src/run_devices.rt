@@ -8,8 +8,8 @@ use keymap_draw::Board;
 use keymap_tables::{NarrowError, TableFault, TableFaultKind, write_narrow, write_tables};
 use keymap_text::{TextFault, TextFaultKind};
 use kmap_runs::{
-    RunError, check_run, compile_narrow_run, compile_run, draw_run, dump_narrow_run, dump_run,
-    fmt_print_run, lint_run, search_run, type_run,
+    CommandError, RunError, check_run, compile_narrow_run, compile_run, draw_run, dump_narrow_run,
+    dump_run, fmt_print_run, lint_run, search_run, type_run,
 };
 use std::alloc::Global;
 use std::mem::replace;
@@ -40,21 +40,22 @@ pub(crate) fn perform(
     first: &mut Tape<'_>,
     second: &mut Tape<'_>,
     writer: &mut Sheet,
-) -> Result<bool, RunError> {
-    match what {
-        Run::Check => check_run(alloc, first, false, writer),
-        Run::Show => check_run(alloc, first, true, writer),
-        Run::Search => search_run(alloc, first, &mut None::<Tape<'_>>, writer),
-        Run::SearchNext => search_between(alloc, first, second, writer),
-        Run::Type => type_run(alloc, first, second, writer).and(Ok(true)),
-        Run::Dump => dump_run(alloc, first, writer).and(Ok(true)),
-        Run::DumpNarrow => dump_narrow_run(alloc, first, writer).and(Ok(true)),
-        Run::Compile => compile_run(alloc, first, writer).and(Ok(true)),
-        Run::CompileNarrow => compile_narrow_run(alloc, first, writer).and(Ok(true)),
-        Run::Draw => draw_run(alloc, first, Board::Iso, writer).and(Ok(true)),
-        Run::Lint => lint_run(alloc, b"t", first, writer),
-        Run::Layout => fmt_print_run(alloc, first, writer).and(Ok(true)),
-    }
+) -> Result<bool, CommandError> {
+    let answer = match what {
+        Run::Check => check_run(alloc, first, false, writer)?,
+        Run::Show => check_run(alloc, first, true, writer)?,
+        Run::Search => search_run(alloc, first, &mut None::<Tape<'_>>, writer)?,
+        Run::SearchNext => search_between(alloc, first, second, writer)?,
+        Run::Type => type_run(alloc, first, second, writer).and(Ok(true))?,
+        Run::Dump => dump_run(alloc, first, writer).and(Ok(true))?,
+        Run::DumpNarrow => dump_narrow_run(alloc, first, writer).and(Ok(true))?,
+        Run::Compile => compile_run(alloc, first, writer).and(Ok(true))?,
+        Run::CompileNarrow => compile_narrow_run(alloc, first, writer).and(Ok(true))?,
+        Run::Draw => draw_run(alloc, first, Board::Iso, writer).and(Ok(true))?,
+        Run::Lint => lint_run(alloc, b"t", first, writer)?,
+        Run::Layout => fmt_print_run(alloc, first, writer).and(Ok(true))?,
+    };
+    Ok(answer)
 }
 
 fn search_between(
@@ -105,12 +106,12 @@ enum Input {
     Tables,
 }
 
-fn read_error(input: Input, fault: ReadFault) -> RunError {
+fn read_error(input: Input, fault: ReadFault) -> CommandError {
     match input {
-        Input::Text => RunError::ReadText(fault),
-        Input::Next => RunError::ReadNext(fault),
-        Input::Sentence => RunError::ReadSentence(fault),
-        Input::Tables => RunError::ReadTables(fault),
+        Input::Text => RunError::ReadText(fault).into(),
+        Input::Next => RunError::ReadNext(fault).into(),
+        Input::Sentence => CommandError::ReadSentence(fault),
+        Input::Tables => RunError::ReadTables(fault).into(),
     }
 }
 
@@ -161,22 +162,27 @@ fn an_input_that_fails_after_each_number_of_bytes_is_named(rt: HostRuntime) {
     }
 }
 
+const ENDLESS_TEXT: CommandError = CommandError::Run(RunError::ReadText(ENDLESS));
+
+const ENDLESS_NEXT: CommandError = CommandError::Run(RunError::ReadNext(ENDLESS));
+
+const ENDLESS_SENTENCE: CommandError = CommandError::ReadSentence(ENDLESS);
+
+const LONG_FILE: CommandError = CommandError::Run(RunError::Tables(LONG));
+
+const LONG_NARROW_FILE: CommandError = CommandError::Run(RunError::Tables(LONG_NARROW));
+
 /// A run over an input without an end, whether that is its first one, the error, and the most reads.
-static ENDLESS_READINGS: [(Run, bool, RunError, u32); 9] = [
-    (Run::Show, true, RunError::ReadText(ENDLESS), 1_048_578),
-    (Run::Search, true, RunError::ReadText(ENDLESS), 1_048_578),
-    (
-        Run::SearchNext,
-        false,
-        RunError::ReadNext(ENDLESS),
-        1_048_578,
-    ),
-    (Run::Type, true, RunError::ReadText(ENDLESS), 1_048_578),
-    (Run::Type, false, RunError::ReadSentence(ENDLESS), 1_048_578),
-    (Run::Lint, true, RunError::ReadText(ENDLESS), 1_048_578),
-    (Run::Layout, true, RunError::ReadText(ENDLESS), 1_048_578),
-    (Run::Dump, true, RunError::Tables(LONG), 15_526),
-    (Run::DumpNarrow, true, RunError::Tables(LONG_NARROW), 4_141),
+static ENDLESS_READINGS: [(Run, bool, CommandError, u32); 9] = [
+    (Run::Show, true, ENDLESS_TEXT, 1_048_578),
+    (Run::Search, true, ENDLESS_TEXT, 1_048_578),
+    (Run::SearchNext, false, ENDLESS_NEXT, 1_048_578),
+    (Run::Type, true, ENDLESS_TEXT, 1_048_578),
+    (Run::Type, false, ENDLESS_SENTENCE, 1_048_578),
+    (Run::Lint, true, ENDLESS_TEXT, 1_048_578),
+    (Run::Layout, true, ENDLESS_TEXT, 1_048_578),
+    (Run::Dump, true, LONG_FILE, 15_526),
+    (Run::DumpNarrow, true, LONG_NARROW_FILE, 4_141),
 ];
 
 const LONG: TableFault = TableFault {
@@ -226,44 +232,45 @@ const BAD_LITERAL: TextFault = TextFault {
     kind: TextFaultKind::BadLiteral,
 };
 
+const BROKEN_TEXT: CommandError = CommandError::Run(RunError::Text(END_INSIDE));
+
+const BROKEN_NEXT: CommandError = CommandError::Run(RunError::Next(END_INSIDE));
+
+const BAD_TEXT: CommandError = CommandError::Run(RunError::Text(BAD_LITERAL));
+
 /// A run over two inputs, and its first fault.
-static FAULTY: [(Run, &[u8], &[u8], RunError); 12] = [
-    (Run::Check, b"1 'ab'", b"", RunError::Text(BAD_LITERAL)),
-    (Run::Search, b"1 '", b"", RunError::Text(END_INSIDE)),
-    (Run::Compile, b"1 '", b"", RunError::Text(END_INSIDE)),
-    (Run::Draw, b"1 'ab'", b"", RunError::Text(BAD_LITERAL)),
-    (Run::Layout, b"1 'ab'", b"", RunError::Text(BAD_LITERAL)),
-    (Run::SearchNext, b"1 '", b"1 '", RunError::Text(END_INSIDE)),
-    (
-        Run::SearchNext,
-        LETTER_AND_SHIFT,
-        b"1 '",
-        RunError::Next(END_INSIDE),
-    ),
-    (Run::Type, b"1 '", b"\xff", RunError::Text(END_INSIDE)),
+static FAULTY: [(Run, &[u8], &[u8], CommandError); 12] = [
+    (Run::Check, b"1 'ab'", b"", BAD_TEXT),
+    (Run::Search, b"1 '", b"", BROKEN_TEXT),
+    (Run::Compile, b"1 '", b"", BROKEN_TEXT),
+    (Run::Draw, b"1 'ab'", b"", BAD_TEXT),
+    (Run::Layout, b"1 'ab'", b"", BAD_TEXT),
+    (Run::SearchNext, b"1 '", b"1 '", BROKEN_TEXT),
+    (Run::SearchNext, LETTER_AND_SHIFT, b"1 '", BROKEN_NEXT),
+    (Run::Type, b"1 '", b"\xff", BROKEN_TEXT),
     (
         Run::Type,
         LETTER_AND_SHIFT,
         b"ab",
-        RunError::NoWay { offset: 1, c: 'b' },
+        CommandError::NoWay { offset: 1, c: 'b' },
     ),
     (
         Run::Type,
         LETTER_AND_SHIFT,
         b"A\xc3\xa9a",
-        RunError::NoWay { offset: 1, c: 'é' },
+        CommandError::NoWay { offset: 1, c: 'é' },
     ),
     (
         Run::Type,
         LETTER_AND_SHIFT,
         b"b\xe2\x82",
-        RunError::NotText { offset: 1 },
+        CommandError::NotText { offset: 1 },
     ),
     (
         Run::Type,
         LETTER_AND_SHIFT,
         b"\xff",
-        RunError::NotText { offset: 0 },
+        CommandError::NotText { offset: 0 },
     ),
 ];
 

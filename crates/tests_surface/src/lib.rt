@@ -3,8 +3,7 @@
 //!
 //! Whoever changes one of these items has to change this crate too, and sees here that other programs may stand on it.
 //! Types are written out, so that another result doesn't compile; each enum is matched without a rest, so that another
-//! variant doesn't either, but for `RunError`, to which a new command may add one. What the calls mean is told by their
-//! contracts and by the other tests.
+//! variant doesn't either. What the calls mean is told by their contracts and by the other tests.
 //!
 //! A crate with tests is proved once more together with them, so the libraries have none of their own. Nothing here is
 //! exported.

@@ -10,7 +10,7 @@ use play_core::{PlayError, ScriptFault};
 use std::test::Fail;
 use test_support::keymaps::{LETTER_AND_SHIFT, SHIFT_WITH_TRAP};
 
-/// What a run failed of. Runs that aren't of this list have errors of their own.
+/// What a run failed of. What other commands fail of besides is told by a type around it.
 fn blamed(error: RunError) -> &'static str {
     match error {
         RunError::Memory => "memory",
@@ -41,7 +41,6 @@ fn blamed(error: RunError) -> &'static str {
             let _: WriteFault = fault;
             "a writer"
         }
-        _ => "something else",
     }
 }
 

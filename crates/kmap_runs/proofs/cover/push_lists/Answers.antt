@@ -1,5 +1,4 @@
 use Rattle.kmap_runs.proofs.Common.{rules}
-use Rattle.kmap_runs.specs.declared.words.TheConstants as words
 use Rattle.kmap_runs.proofs.cover.push_lists.Goals as goal
 
 pub returns : goal.returns

@@ -33,6 +33,8 @@ pub(crate) enum Failure<'a> {
     /// The new file that is to take the place of another can't be made.
     CannotCreateNew(String),
     CannotReplace(&'a str),
+    /// The file was changed while its layout was made.
+    Changed(&'a str),
     /// Who read the output has gone away, which isn't told.
     NoReader,
 }
@@ -182,6 +184,9 @@ fn report<W: Write>(alloc: Global, failure: &Failure<'_>, faults: &mut W) {
         Failure::CannotReplace(name) => {
             report_name(alloc, b"kmap: cannot replace ", name, b"\n", faults);
         }
+        Failure::Changed(name) => {
+            report_name(alloc, b"kmap: ", name, b": changed meanwhile\n", faults);
+        }
         Failure::NoReader => {}
     }
 }
@@ -193,7 +198,7 @@ fn report_of_file<W: Write>(alloc: Global, name: &str, error: &RunError, faults:
     };
 }
 
-/// Writes a line that has the name of a file, as it is shown.
+/// Writes a line that has the name of a file, as it is shown. It is written at once, as that of another run may be.
 pub(crate) fn report_name<W: Write>(
     alloc: Global,
     front: &[u8],
@@ -201,16 +206,18 @@ pub(crate) fn report_name<W: Write>(
     end: &[u8],
     faults: &mut W,
 ) {
-    match shown_name(alloc, name.as_bytes()) {
-        Ok(shown) => {
-            if write_text(faults, front).is_ok() && write_text(faults, shown.as_slice()).is_ok() {
-                let _ = write_text(faults, end);
-            }
-        }
-        Err(AllocError) => {
-            let _ = write_run_error(&RunError::Memory, faults);
-        }
-    }
+    let _ = match named_line(alloc, front, name, end) {
+        Ok(line) => write_text(faults, line.as_slice()),
+        Err(AllocError) => write_run_error(&RunError::Memory, faults),
+    };
+}
+
+fn named_line(alloc: Global, front: &[u8], name: &str, end: &[u8]) -> Result<Vec<u8>, AllocError> {
+    let mut line = Vec::new(alloc);
+    line.extend_from_slice(front)?;
+    line.extend_from_slice(shown_name(alloc, name.as_bytes())?.as_slice())?;
+    line.extend_from_slice(end)?;
+    Ok(line)
 }
 
 /// Answers a request: whether all is well, which only a refused map denies, one that isn't known never to stick, or a

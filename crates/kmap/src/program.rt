@@ -1,10 +1,10 @@
 //! One run of the program: the words, the files that they name, and the exit status.
-use crate::command_line::{Request, command, request_of};
+use crate::command_line::{Request, command, contradiction, request_of};
 use crate::compile::compile;
 use crate::format::format_texts;
 use crate::inputs::{given, given_if_named, opened, opened_if_named};
 use crate::output::Output;
-use crate::refusal::{not_text, refused};
+use crate::refusal::{contradicted, not_text, refused};
 use crate::texts::{check, lint};
 use keymap_core::{Write, write_text};
 use keymap_draw::Board;
@@ -114,10 +114,13 @@ where
 {
     match command(rt.alloc())?.try_get_matches_from(words) {
         Ok(matches) => match request_of(&matches) {
-            Some(request) => {
-                let outcome = answer(rt, request, faults);
-                Ok(status(is_well(rt.alloc(), outcome, faults)))
-            }
+            Some(request) => match contradiction(&request) {
+                Some(message) => contradicted(rt, message),
+                None => {
+                    let outcome = answer(rt, request, faults);
+                    Ok(status(is_well(rt.alloc(), outcome, faults)))
+                }
+            },
             None => not_text(rt),
         },
         Err(error) => refused(rt, &error, words, faults),

@@ -142,6 +142,58 @@ leaves 'draws' draw letter
 leaves 'plays' play letter tap
 leaves 'helps' --help
 
+# The names of texts that are written have no reader: all of them are written, and what is wrong with one is told.
+cp odd one
+cp odd two
+cp faulty three
+cp odd four
+mkfifo left
+exec 4<> left 5> left
+exec 4<&-
+(exec "$program" fmt one two three four >&5 5>&-) 2> stderr
+holds 'names without a reader: status' [ $? -eq 1 ]
+exec 5>&-
+rm left
+holds 'names without a reader: line' same_line stderr 'kmap: three: text line 1 offset 30: Unexpected'
+for file in one two four; do
+    holds "names without a reader: $file is written" cmp -s even $file
+done
+
+# A name and its line feed are written at once, and so is a line on standard error: here each write is a message.
+if is_there python3; then
+    cat > writes.py << 'END'
+import socket
+import subprocess
+import sys
+
+for stream in "stdout", "stderr":
+    ours, theirs = socket.socketpair(socket.AF_UNIX, socket.SOCK_DGRAM)
+    with ours, theirs:
+        subprocess.run(sys.argv[1:], **{"stdout": subprocess.DEVNULL, "stderr": subprocess.DEVNULL, stream: theirs})
+        ours.setblocking(False)
+        while True:
+            try:
+                print(stream, ours.recv(65536).decode().replace("\n", "$"))
+            except BlockingIOError:
+                break
+END
+    # writes WANTED ARGS..: the program makes these writes, and none else
+    writes() {
+        echo "$1" > wanted
+        shift
+        python3 -B writes.py "$program" "$@" > got
+        same_text "the writes of $*" wanted got
+    }
+    writes 'stdout letter$
+stdout odd$
+stderr kmap: cannot open none$
+stderr kmap: faulty: text line 1 offset 30: Unexpected$' fmt --check letter none faulty odd
+    writes 'stderr kmap: /dev/null: not a regular file$' fmt /dev/null
+    writes 'stderr kmap: cannot create none/made$' compile letter none/made
+    cp odd one
+    writes 'stdout one$' fmt one
+fi
+
 # A disk is full after some bytes, as far as the program sees it: the old file stays, and nothing lies beside it.
 # full ARGS..: the program, where no file may have more than 4,096 bytes or 8,192
 full() {
@@ -251,14 +303,54 @@ kmap: cannot open unread' $as_nobody "$program" fmt odd.write closed/odd unread
     holds 'no rights to format: the other stays' cmp -s odd closed/odd
     holds 'no rights to format: no new file' [ ! -e odd.write.kmap-fmt ]
     if [ -n "$as_nobody" ]; then
-        mkdir own
-        chmod 777 own
-        cp odd own/theirs
-        chmod 666 own/theirs
-        $as_nobody "$program" fmt own/theirs > stdout 2> stderr
-        holds 'a file of another owner: line' same_line stderr 'kmap: cannot replace own/theirs'
-        holds 'a file of another owner stays' cmp -s odd own/theirs
-        holds 'no new file beside it' [ ! -e own/theirs.kmap-fmt ]
+        # What belongs to another user is written in place, where it may be: in a folder that anybody may write, in a
+        # sticky one, and in one that a group shares.
+        echo "030 0x100 nop nop nop nop nop nop nop O" > wide
+        chmod 644 wide
+        for kind in any sticky shared; do
+            mkdir $kind
+            for file in fmt compile narrow kept; do
+                cp odd $kind/$file
+            done
+            echo old > $kind/compile
+            echo old > $kind/narrow
+            case $kind in
+            any) chmod 777 $kind ;;
+            sticky) chmod 1777 $kind ;;
+            shared)
+                chown 0:65534 $kind $kind/*
+                chmod 2775 $kind
+                ;;
+            esac
+            chmod 666 $kind/fmt $kind/compile $kind/narrow
+            [ $kind != shared ] || chmod 664 $kind/fmt $kind/compile $kind/narrow
+            chmod 644 $kind/kept
+            stat -c '%n %i %u %g %a' $kind/* > before
+            # shellcheck disable=SC2086 # they are words
+            ran "a text of another user, $kind" 0 $kind/fmt '' $as_nobody "$program" fmt $kind/fmt
+            holds "a text of another user, $kind: it is written" cmp -s even $kind/fmt
+            # shellcheck disable=SC2086 # they are words
+            ran "a table file of another user, $kind" 0 '' '' $as_nobody "$program" compile letter $kind/compile
+            holds "a table file of another user, $kind: it is written" cmp -s tables $kind/compile
+            # shellcheck disable=SC2086 # they are words
+            ran "too wide for the file of another user, $kind" 1 '' 'kmap: cell too wide at slot 30 column 0' \
+                $as_nobody "$program" compile --narrow wide $kind/narrow
+            holds "too wide for the file of another user, $kind: it is empty" [ ! -s $kind/narrow ]
+            # shellcheck disable=SC2086 # they are words
+            ran "a text that only its user may write, $kind" 1 '' "kmap: cannot replace $kind/kept" \
+                $as_nobody "$program" fmt $kind/kept
+            holds "a text that only its user may write, $kind: it stays" cmp -s odd $kind/kept
+            stat -c '%n %i %u %g %a' $kind/* > after
+            same_text "files of another user, $kind: the same files, and none beside them" before after
+        done
+        # A name that is a link to such a file.
+        cp odd any/behind
+        chmod 666 any/behind
+        ln -s any/behind linked
+        # shellcheck disable=SC2086 # they are words
+        ran 'a link to a text of another user' 0 linked '' $as_nobody "$program" fmt linked
+        holds 'a link to a text of another user: it is written' cmp -s even any/behind
+        holds 'a link to a text of another user: the link stays' [ -L linked ]
     fi
     chmod 755 bare closed
 fi

@@ -1,6 +1,7 @@
 /*
  * Preloaded into a program, puts a link to SWAP_TARGET into the place of the file SWAP_NAME, once, right before the
- * call that SWAP_AT names. With END_AT in place of it, the program ends before that call by the signal END_BY.
+ * call that SWAP_AT names. With RUN_AT in place of it, the shell's command RUN runs there, once. With END_AT, the
+ * program ends before that call by the signal END_BY; where END_SKIPS is set, before the one behind so many of them.
  *
  * Built with RACER defined it is a program, which does the same as soon as there is such a file, again and again:
  *
@@ -31,7 +32,17 @@ static void before(const char *call) {
     static int done;
     const char *at = getenv("SWAP_AT");
     const char *end = getenv("END_AT");
-    if (end && strcmp(end, call) == 0) {
+    const char *run = getenv("RUN_AT");
+    static int passed;
+    if (run && strcmp(run, call) == 0) {
+        /* What runs there is not looked at. */
+        unsetenv("RUN_AT");
+        unsetenv("LD_PRELOAD");
+        if (system(getenv("RUN")) != 0)
+            fputs("run: failed\n", stderr);
+    }
+    const char *skips = getenv("END_SKIPS");
+    if (end && strcmp(end, call) == 0 && passed++ == (skips ? atoi(skips) : 0)) {
         /* A shell may have started it with the signal ignored, as it does in the background. */
         int number = atoi(getenv("END_BY"));
         signal(number, SIG_DFL);
@@ -72,6 +83,16 @@ int fsync(int file) {
     return NEXT(int, "fsync", int)(file);
 }
 
+int ftruncate(int file, off_t size) {
+    before("ftruncate");
+    return NEXT(int, "ftruncate", int, off_t)(file, size);
+}
+
+int unlink(const char *path) {
+    before("unlink");
+    return NEXT(int, "unlink", const char *)(path);
+}
+
 int rename(const char *from, const char *to) {
     before("rename");
     return NEXT(int, "rename", const char *, const char *)(from, to);
@@ -82,7 +103,12 @@ ssize_t read(int file, void *bytes, size_t size) {
     return NEXT(ssize_t, "read", int, void *, size_t)(file, bytes, size);
 }
 
-/* The C library's other name of it. */
+ssize_t write(int file, const void *bytes, size_t size) {
+    before("write");
+    return NEXT(ssize_t, "write", int, const void *, size_t)(file, bytes, size);
+}
+
+/* The C library's other name of `read`. */
 ssize_t __read(int file, void *bytes, size_t size) {
     return read(file, bytes, size);
 }

@@ -1,6 +1,7 @@
 #!/bin/sh
 # Replaces files of folders that others may write to, who put links into the place of names meanwhile: whatever they do,
-# no other file changes its owner, its rights or its bytes.
+# no other file changes its owner, its rights or its bytes. What they save meanwhile stays, and where a run is ended,
+# one text is whole.
 #
 # usage: swapped_names.sh PROGRAM
 # The last line is 'N passed, M failed'; the status is 0 where none failed. It needs the C compiler that CC names, cc
@@ -91,7 +92,7 @@ if [ "$(id -u)" -eq 0 ]; then
     got=$?
     if [ -L home/k.kbd ]; then
         holds 'a text becomes a link: status' [ $got -eq 1 ]
-        holds 'a text becomes a link: line' [ "$(cat stderr)" = 'kmap: cannot replace home/k.kbd' ]
+        holds 'a text becomes a link: line' [ "$(cat stderr)" = 'kmap: home/k.kbd: changed meanwhile' ]
         holds 'a text becomes a link: owner and rights of the other' [ "$(stat -c '%u %g %a' other)" = "$other" ]
         holds 'a text becomes a link: the other text stays' cmp -s odd other
         holds 'a text becomes a link: nothing beside it' [ ! -e other.kmap-fmt ]
@@ -107,6 +108,38 @@ if [ "$(id -u)" -eq 0 ]; then
     holds 'a text keeps its owner and rights' [ "$(stat -c '%u %g %a' home/k.kbd)" = "$nobody $nobody 640" ]
     holds 'a table file keeps its owner and rights' [ "$(stat -c '%u %g %a' home/out)" = "$nobody $nobody 640" ]
 fi
+
+# What is saved while `fmt` runs stays, and it is told: more bytes, another file of the same bytes, as many bytes with
+# the time set back, and that there is no file any more.
+sed s/4/5/ odd > five
+for call in fchmod fsync; do
+    for change in "echo '# mine' >> home/k.kbd" 'cp home/k.kbd home/new && mv home/new home/k.kbd' \
+        'sleep 0.1 && cat five > home/k.kbd && touch -d @0 home/k.kbd' 'rm home/k.kbd'; do
+        begin
+        sh -c "$change"
+        rm -f saved
+        [ ! -e home/k.kbd ] || cp home/k.kbd saved
+        begin
+        RUN_AT=$call RUN=$change LD_PRELOAD=$folder/swap.so "$program" fmt home/k.kbd > stdout 2> stderr
+        holds "changed at $call, $change: status" [ $? -eq 1 ]
+        holds "changed at $call, $change: line" [ "$(cat stderr)" = 'kmap: home/k.kbd: changed meanwhile' ]
+        holds "changed at $call, $change: no name" [ ! -s stdout ]
+        if [ -e saved ]; then
+            holds "changed at $call, $change: it stays" cmp -s saved home/k.kbd
+        else
+            holds "changed at $call, $change: it is not made again" [ ! -e home/k.kbd ]
+        fi
+        holds "changed at $call, $change: nothing beside it" [ ! -e home/k.kbd.kmap-fmt ]
+    done
+    # What another run has written meanwhile is what this one would have written.
+    begin
+    RUN_AT=$call RUN="'$program' fmt home/k.kbd > other.run" LD_PRELOAD=$folder/swap.so \
+        "$program" fmt home/k.kbd > stdout 2> stderr
+    holds "formatted meanwhile at $call: status" [ $? -eq 0 ]
+    holds "formatted meanwhile at $call: no name" [ ! -s stdout ]
+    holds "formatted meanwhile at $call: no line" [ ! -s stderr ]
+    holds "formatted meanwhile at $call: it is written" "$program" fmt --check home/k.kbd
+done
 
 # A race with whoever owns the folder, sixty times: he only needs to be fast.
 if [ "$(id -u)" -eq 0 ] && is_there setpriv; then
@@ -155,5 +188,41 @@ out.kmap-new" ]
         holds "compile, ended at $call by $signal: is written" [ "$(wc -c < home/out)" -eq 15524 ]
     done
 done
+
+# is_whole OLD NEW NAME SUFFIX: the file of this name is one of the two, or the new one lies beside it
+is_whole() {
+    cmp -s "$1" "$3" || cmp -s "$2" "$3" || cmp -s "$2" "$3$4"
+}
+
+# A file of another user is written in place, with the new one beside it: whenever that ends, one of the two has one of
+# the texts whole, and no later run is hindered.
+if [ "$(id -u)" -eq 0 ] && is_there setpriv; then
+    as_nobody="env LD_PRELOAD=$folder/swap.so END_BY=9 setpriv --reuid=$nobody --regid=$nobody --clear-groups"
+    { cat odd; printf '# a comment %500s\n' ''; } > old.text
+    cp old.text new.text
+    "$program" fmt new.text > stdout
+    "$program" compile odd new.tables
+    echo old > old.tables
+    # each of these calls, and how many like it come before; the last one prints the name
+    for place in fchown:0 write:0 ftruncate:0 fsync:0 write:1 ftruncate:1 fsync:1 unlink:0 write:2; do
+        begin
+        chown 0:0 home/k.kbd home/out
+        cp old.text home/k.kbd
+        chmod 666 home/k.kbd home/out
+        export END_AT=${place%:*} END_SKIPS=${place#*:}
+        $as_nobody "$program" fmt home/k.kbd > stdout 2> stderr
+        holds "fmt in place, ended at $place: status" [ $? -eq 137 ]
+        holds "fmt in place, ended at $place: a text is whole" is_whole old.text new.text home/k.kbd .kmap-fmt
+        [ $place = write:2 ] || $as_nobody "$program" compile odd home/out > stdout 2> stderr
+        holds "compile in place, ended at $place: a file is whole" is_whole old.tables new.tables home/out .kmap-new
+        unset END_AT END_SKIPS
+        $as_nobody "$program" fmt home/k.kbd > stdout 2> stderr
+        $as_nobody "$program" compile odd home/out
+        holds "fmt in place, ended at $place: goes on" cmp -s new.text home/k.kbd
+        holds "compile in place, ended at $place: goes on" cmp -s new.tables home/out
+        holds "in place, ended at $place: the owner stays" [ "$(stat -c '%u %a' home/k.kbd home/out)" = "0 666
+0 666" ]
+    done
+fi
 
 counted

@@ -52,11 +52,60 @@ Nor is it as standard output, and a fault of the text is told before:
   ! kmap: text line 1 offset 3: EndInside
   [1]
 
+Nor is any other keymap text, so a list of files that was meant for another command loses none, whatever its name is and
+whether only an accent stands in it or a fault behind a definition. Each status is 1.
+  $ mkdir two
+  $ cp letter two/a.kbd
+  $ cp "$examples/de.kbd" two/b.kbd
+  $ (cd two && kmap compile *.kbd)
+  ! kmap: cannot create b.kbd
+  [1]
+  $ cmp two/b.kbd "$examples/de.kbd"
+  $ ls two
+  a.kbd
+  b.kbd
+  $ ln -s two/b.kbd text.link
+  $ echo 'dacu 180' > accent
+  $ { cat letter; echo zz; } > begun
+  $ for out in text.link accent begun; do
+  >     cp "$out" before
+  >     kmap compile letter "$out"
+  >     echo $?
+  >     kmap compile --narrow letter "$out"
+  >     echo $?
+  >     cmp before "$out"
+  > done 2>&1
+  kmap: cannot create text.link
+  1
+  kmap: cannot create text.link
+  1
+  kmap: cannot create accent
+  1
+  kmap: cannot create accent
+  1
+  kmap: cannot create begun
+  1
+  kmap: cannot create begun
+  1
+  $ kmap compile letter /dev/stdout >> two/b.kbd
+  ! kmap: cannot create /dev/stdout
+  [1]
+  $ cmp two/b.kbd "$examples/de.kbd"
+
+What defines nothing is no such text:
+  $ : > empty
+  $ echo '# a comment' > comment
+  $ echo '30 zz' > faulty
+  $ echo "30 'a' 'A' nop" > short
+  $ for out in empty comment faulty short tables; do
+  >     kmap compile letter $out && cmp tables $out
+  > done
+
 A device is no file of its own:
   $ kmap compile /dev/null /dev/null
 
 What is written takes the place of the old file whole, whose rights stay. A new file has those of any new file.
-  $ cp letter kept
+  $ echo old > kept
   $ chmod 640 kept
   $ kmap compile letter kept
   $ cmp kept tables

@@ -154,6 +154,12 @@ With --strict warnings count as errors, and what is printed stays. The option st
   ! kmap: cannot open none
   [1]
 
+Twice it is the same, as behind an alias that has it:
+  $ kmap lint --strict begun --strict > twice
+  [1]
+  $ kmap lint --strict begun | cmp - twice
+  $ kmap lint --strict --strict good
+
 `-` is the standard input, under the name that --name gives it:
   $ cp "$examples/trap.kbd" .
   $ kmap lint - < trap.kbd
@@ -186,12 +192,29 @@ A file keeps its own name:
             ^
   trap.kbd: note: lshift stays on with no key pressed, after: down 42, down 29, down 42, up 29, up 42
   [1]
-  $ kmap lint --name other trap.kbd
-  trap.kbd:6:9: error: key 42 is lshift here and the character 'x' in column 2 (ctrl); put lshift or nop for its characters [mixed-key]
-      042   lshift lshift 'x'    'x'    lshift lshift lshift lshift  O
-            ^
-  trap.kbd: note: lshift stays on with no key pressed, after: down 42, down 29, down 42, up 29, up 42
-  [1]
+
+So a name without `-` names nothing, and nor does one without a character. Both are refused:
+  $ refused() {
+  >     kmap lint "$@" < trap.kbd 2> told
+  >     set -- $?
+  >     head -n 1 told
+  >     return $1
+  > }
+  $ refused --name other trap.kbd
+  error: '--name <FILE>' is a name for standard input, and no TEXT is '-'
+  [2]
+  $ refused trap.kbd --name other ./-
+  error: '--name <FILE>' is a name for standard input, and no TEXT is '-'
+  [2]
+  $ refused --name= -
+  error: a value is required for '--name <FILE>' but none was supplied
+  [2]
+  $ refused --name '' -
+  error: a value is required for '--name <FILE>' but none was supplied
+  [2]
+  $ refused --name one --name two -
+  error: the argument '--name <FILE>' cannot be used multiple times
+  [2]
 
 A name that a terminal does not show:
   $ kmap lint --name "$(printf 'a\033b')" - < trap.kbd

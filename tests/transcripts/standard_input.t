@@ -85,5 +85,39 @@ A file of that name, searched, checked and compiled to:
   slock nobody
   alock nobody
   $ kmap compile shift - < shift
+  ! kmap: cannot create -
+  [1]
+  $ rm ./-
+  $ kmap compile shift - < shift
   $ wc -c < ./-
   15524
+
+It can be read only once, so more than one `-` is refused, status 2, where it is standard input; in the other commands
+each is that file.
+  $ twice() {
+  >     kmap "$@" < shift 2> told
+  >     set -- $?
+  >     head -n 1 told
+  >     return $1
+  > }
+  $ twice search - --next -
+  error: '-' is standard input, which can be given only once
+  [2]
+  $ twice type - -
+  error: '-' is standard input, which can be given only once
+  [2]
+  $ twice lint - shift -
+  error: '-' is standard input, which can be given only once
+  [2]
+  $ twice fmt --check - -
+  error: '-' is standard input, which can be given only once
+  [2]
+  $ twice fmt - -
+  error: '-' is standard input, which can be given only once
+  [2]
+  $ cp shift ./-
+  $ kmap check - - | grep -c '^accepted$'
+  2
+  $ kmap play - tap --next -
+  press 30: char 97; mods none; locks none
+  release 30: none; mods none; locks none

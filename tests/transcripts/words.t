@@ -69,6 +69,22 @@ Wrong words end with status 2, and something is told of them:
   $ grep -c "'--check' cannot be used with '--print'" told
   1
 
+A flag that stands twice counts once; what takes a file is refused, and so are flags that exclude each other:
+  $ kmap check --show letter --show > shown
+  $ kmap check --show letter | cmp - shown
+  $ kmap fmt --check --check letter
+  letter
+  [1]
+  $ kmap compile --narrow letter --narrow small
+  $ kmap dump --narrow small --narrow > printed
+  $ kmap draw --ansi --ansi letter > drawn
+  $ kmap play --typed letter tap --typed
+  a (no-eol)
+  $ wrong search letter --next letter --next letter
+  [2]
+  $ wrong fmt --check --print --check letter
+  [2]
+
 Words that are not UTF-8. It is told which, also of a long one:
   $ wrong check "$(printf '\377')"
   [2]

@@ -1,4 +1,5 @@
 //! The command line: its subcommands, and what its words ask for.
+use crate::inputs::is_standard_input;
 use clap::{Arg, ArgAction, ArgMatches, Command};
 use std::alloc::{AllocError, Global};
 
@@ -143,6 +144,12 @@ fn named<'a>(alloc: Global, name: &'a str, help: &'a str, action: ArgAction) -> 
     Arg::new(alloc, name).action(action).help(help)
 }
 
+/// A flag, which may stand more than once, as behind an alias that has it.
+fn flag<'a>(alloc: Global, name: &'a str, help: &'a str) -> Result<Arg<'a>, AllocError> {
+    let flag = named(alloc, name, help, ArgAction::SetTrue);
+    flag.long(name).overrides_with(name)
+}
+
 fn argument<'a>(alloc: Global, word: Word) -> Result<Arg<'a>, AllocError> {
     match word {
         File(name, help) => Ok(named(alloc, name, help, ArgAction::Set).required(true)),
@@ -150,11 +157,8 @@ fn argument<'a>(alloc: Global, word: Word) -> Result<Arg<'a>, AllocError> {
             let files = named(alloc, name, help, ArgAction::Append).required(true);
             Ok(files.num_args(1..))
         }
-        Flag(name, help) => Ok(named(alloc, name, help, ArgAction::SetTrue).long(name)),
-        FlagWithout(name, help, other) => {
-            let flag = named(alloc, name, help, ArgAction::SetTrue).long(name);
-            flag.conflicts_with(other)
-        }
+        Flag(name, help) => flag(alloc, name, help),
+        FlagWithout(name, help, other) => flag(alloc, name, help)?.conflicts_with(other),
         FileOption(name, value, help) => {
             let option = named(alloc, name, help, ArgAction::Set).long(name);
             Ok(option.value_name(value))
@@ -348,6 +352,47 @@ pub(crate) fn request_of<'m, 'a>(matches: &'m ArgMatches<'a>) -> Option<Request<
         "type" => type_request(words),
         "cover" => cover_request(words),
         "draw" => draw_request(words),
+        _ => None,
+    }
+}
+
+/// How many of these names stand for the standard input.
+fn inputs_among(names: &[&str]) -> usize {
+    names.iter().filter(|name| is_standard_input(name)).count()
+}
+
+/// Whether a request reads the standard input more than once.
+fn reads_twice(request: &Request<'_, '_>) -> bool {
+    match request {
+        Request::Lint { texts, .. } | Request::Fmt { texts, .. } => inputs_among(texts) > 1,
+        Request::Search {
+            text,
+            next: Some(other),
+        }
+        | Request::Type {
+            text,
+            sentence: other,
+        } => { is_standard_input(text) && is_standard_input(other) }
+        _ => false,
+    }
+}
+
+/// Why words that `clap` took can't stand together, if they can't.
+pub(crate) fn contradiction(request: &Request<'_, '_>) -> Option<&'static str> {
+    if reads_twice(request) {
+        return Some("'-' is standard input, which can be given only once");
+    }
+    match request {
+        Request::Lint { name: Some(""), .. } => {
+            Some("a value is required for '--name <FILE>' but none was supplied")
+        }
+        Request::Lint {
+            name: Some(_),
+            texts,
+            ..
+        } if inputs_among(texts) == 0 => {
+            Some("'--name <FILE>' is a name for standard input, and no TEXT is '-'")
+        }
         _ => None,
     }
 }

@@ -1,9 +1,10 @@
 //! `kmap compile`: the table file of a text takes the place of OUT.
 use crate::inputs::{buffered, opened_file};
 use crate::program::{Failure, run_outcome};
-use crate::replace::{ReplaceFault, is_same, replace};
-use keymap_core::{ToStd, write_text};
+use crate::replace::{Old, ReplaceFault, is_same, replace};
+use keymap_core::{Accent, Definitions, Entry, FromStd, ReadError, ToStd, read_up_to, write_text};
 use keymap_tables::{NARROW_FILE, WIDE_FILE};
+use keymap_text::{LIMIT, read_into};
 use kmap_runs::{RunError, compile_narrow_run, compile_run};
 use std::fs;
 use std::fs::{File, Files, Metadata};
@@ -31,9 +32,51 @@ fn is_the_text<R: Files>(rt: &R, text: &Metadata, out: &str) -> bool {
     text.is_file() && fs::metadata(rt, out).is_ok_and(|found| is_same(&found, text))
 }
 
+/// Whether a definition came by.
+#[derive(Drop)]
+struct Came(bool);
+
+impl Definitions for Came {
+    ghost use Rattle.std.specs.Prelude.{⊤};
+
+    ghost shows = { λ _ _. ⊤ };
+
+    fn define(&mut self, _slot: u8, _entry: Entry) {
+        self.0 = true;
+    }
+
+    fn define_accent(&mut self, _index: u8, _accent: Accent) {
+        self.0 = true;
+    }
+}
+
+/// Whether OUT is a keymap text itself, in which a definition stands before any fault. What isn't a regular file isn't
+/// read.
+fn is_a_text<'a, R>(rt: &R, out: &str) -> Result<bool, Failure<'a>>
+where
+    R: AllocGlobal + Files<File = File>,
+{
+    if !fs::metadata(rt, out).is_ok_and(|found| found.is_file()) {
+        return Ok(false);
+    }
+    let Ok(file) = fs::open(rt, out) else {
+        return Ok(false);
+    };
+    match read_up_to(rt.alloc(), &mut FromStd::new(file), LIMIT) {
+        Ok(bytes) => {
+            let mut came = Came(false);
+            let _ = read_into(bytes.as_slice(), &mut came);
+            Ok(came.0)
+        }
+        Err(ReadError::Memory) => Err(Failure::Run(RunError::Memory)),
+        Err(ReadError::Read(_)) => Ok(false),
+    }
+}
+
 /// The table file is made before OUT is touched, so a fault of the text leaves an old OUT as it is; and so does a fault
 /// of writing, since a new file takes the place of the old one. A keymap that doesn't fit in a narrow file leaves an
-/// empty OUT, which nobody takes for its tables.
+/// empty OUT, which nobody takes for its tables. An OUT that is a keymap text stays: it may be the second of many that
+/// were meant for another command.
 pub(crate) fn compile<'a, R>(
     rt: &R,
     text: &'a str,
@@ -62,7 +105,7 @@ where
         Err(RunError::TooWide(wide)) => (&table[..0], Err(RunError::TooWide(wide))),
         Err(error) => return Err(Failure::Run(error)),
     };
-    if is_the_text(rt, &found, out) {
+    if is_the_text(rt, &found, out) || is_a_text(rt, out)? {
         return Err(Failure::CannotCreate(out));
     }
     write_table(rt, table, out)?;
@@ -75,8 +118,11 @@ where
     R: AllocGlobal + Files<File = File>,
 {
     if is_replaceable(rt, out) {
-        let old = fs::metadata(rt, out).ok();
-        match replace(rt, out, old, SUFFIX, table) {
+        let old = match fs::metadata(rt, out) {
+            Ok(old) => Old::Owned(old),
+            Err(_) => Old::Absent,
+        };
+        match replace(rt, out, &old, SUFFIX, table) {
             Err(ReplaceFault::TakesNone(_)) => {}
             Err(fault) => return Err(failure_of(out, fault)),
             Ok(()) => return Ok(()),
@@ -94,7 +140,9 @@ fn failure_of<'a>(out: &'a str, fault: ReplaceFault) -> Failure<'a> {
         ReplaceFault::Memory => Failure::Run(RunError::Memory),
         ReplaceFault::NotWritable | ReplaceFault::TakesNone(_) | ReplaceFault::CannotCreate(_) =>
             Failure::CannotCreate(out),
-        ReplaceFault::Write(fault) => Failure::Run(RunError::Write(fault)),
-        ReplaceFault::CannotReplace => Failure::CannotReplace(out),
+        ReplaceFault::Write(fault) | ReplaceFault::Partly(fault) => {
+            Failure::Run(RunError::Write(fault))
+        }
+        ReplaceFault::Changed | ReplaceFault::CannotReplace => Failure::CannotReplace(out),
     }
 }

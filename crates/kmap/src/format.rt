@@ -3,9 +3,10 @@ use crate::command_line::FmtMode;
 use crate::inputs::{Source, buffered, given, is_standard_input, opened_file};
 use crate::output::Output;
 use crate::program::{Failure, is_well, of_many, report_name};
-use crate::replace::{ReplaceFault, replace};
-use keymap_core::{Write, put};
+use crate::replace::{Old, ReplaceFault, replace};
+use keymap_core::{FromStd, Write, read_up_to, write_text};
 use kmap_runs::{CommandError, RunError, fmt_print_run, fmt_run};
+use std::alloc::{AllocError, Global};
 use std::fs;
 use std::fs::{File, Files, Metadata};
 use std::io::Read;
@@ -14,7 +15,8 @@ use std::io::Read;
 const SUFFIX: &str = ".kmap-fmt";
 
 /// Whether all is well: no text had a fault, and none was to be changed where they are only compared. A text that can't
-/// be laid out or written gets its line, and the next one follows; where the output fails, none does.
+/// be laid out or written gets its line, and the next one follows; where the output fails, none does. Where no one reads
+/// the names any more, the texts are still written.
 pub(crate) fn format_texts<'a, R, W>(
     rt: &R,
     mode: FmtMode,
@@ -40,6 +42,7 @@ where
                 report_replaced(rt, replaced.as_slice(), faults);
                 return Ok(stopped);
             }
+            (FmtMode::Write, Err(Failure::NoReader)) => well = false,
             (_, outcome) => well = of_many(rt.alloc(), outcome, faults)? && well,
         }
     }
@@ -63,18 +66,46 @@ where
     }
     let (old, file) = regular(rt, text)?;
     if let Some(laid) = laid_out(rt, text, buffered(rt, file)?)? {
-        if replaced.reserve(1).is_err() {
-            return Err(Failure::Run(RunError::Memory));
-        }
-        match replace(rt, text, Some(old), SUFFIX, laid.as_slice()) {
-            Ok(()) => {
-                let _ = replaced.push(text);
-                tell(rt, text)?;
-            }
-            Err(fault) => return Err(failure_of(text, fault)),
-        }
+        rewrite(rt, text, &Old::Read(old), laid.as_slice(), replaced)?;
     }
     Ok(true)
+}
+
+/// Writes a layout in the place of its text, and tells the name. Another run may have written the same meanwhile.
+fn rewrite<'a, R>(
+    rt: &R,
+    text: &'a str,
+    old: &Old,
+    laid: &[u8],
+    replaced: &mut Vec<&'a str>,
+) -> Result<(), Failure<'a>>
+where
+    R: AllocGlobal + Files<File = File> + Print,
+{
+    let Ok(line) = name_line(rt.alloc(), text) else {
+        return Err(Failure::Run(RunError::Memory));
+    };
+    if replaced.reserve(1).is_err() {
+        return Err(Failure::Run(RunError::Memory));
+    }
+    match replace(rt, text, old, SUFFIX, laid) {
+        Ok(()) => {
+            let _ = replaced.push(text);
+            tell(rt, line.as_str())
+        }
+        Err(ReplaceFault::Changed) if has_text(rt, text, laid) => Ok(()),
+        Err(fault) => Err(failure_of(text, fault)),
+    }
+}
+
+/// Whether a file has these bytes and no others.
+fn has_text<R: AllocGlobal + Files>(rt: &R, name: &str, bytes: &[u8]) -> bool {
+    match fs::open(rt, name) {
+        Ok(file) => read_up_to(rt.alloc(), &mut FromStd::new(file), bytes.len() + 1).is_ok_and(
+            |found| found.as_slice() == bytes,
+        ),
+        Err(_) => false,
+    }
 }
 
 /// A regular file, which is open, and what is known of it.
@@ -104,7 +135,10 @@ where
     match laid_out(rt, text, given(rt, text)?)? {
         None => Ok(true),
         Some(_) => {
-            tell(rt, text)?;
+            let Ok(line) = name_line(rt.alloc(), text) else {
+                return Err(Failure::Run(RunError::Memory));
+            };
+            tell(rt, line.as_str())?;
             Ok(false)
         }
     }
@@ -143,20 +177,22 @@ fn failure_of<'a>(text: &'a str, fault: ReplaceFault) -> Failure<'a> {
         ReplaceFault::TakesNone(name) | ReplaceFault::CannotCreate(name) => {
             Failure::CannotCreateNew(name)
         }
-        ReplaceFault::Write(fault) => Failure::OfFile(text, RunError::Write(fault).into()),
+        ReplaceFault::Write(fault) | ReplaceFault::Partly(fault) => {
+            Failure::OfFile(text, RunError::Write(fault).into())
+        }
+        ReplaceFault::Changed => Failure::Changed(text),
         ReplaceFault::NotWritable | ReplaceFault::CannotReplace => Failure::CannotReplace(text),
     }
 }
 
-/// Writes the name of a file as a line.
-fn tell<'a, R: Print>(rt: &R, name: &str) -> Result<(), Failure<'a>> {
+/// The name of a file and a line feed. They are written at once, since another run may write into the same file.
+fn name_line(alloc: Global, name: &str) -> Result<String, AllocError> {
+    format!(in alloc; "{name}\n")
+}
+
+/// Writes a line to the standard output.
+fn tell<'a, R: Print>(rt: &R, line: &str) -> Result<(), Failure<'a>> {
     let mut out = Output::new(rt);
-    let told = match put(&mut out, 0, name.as_bytes()) {
-        Ok(before) => put(&mut out, before, b"\n"),
-        Err(fault) => Err(fault),
-    };
-    match told {
-        Ok(_) => Ok(()),
-        Err(fault) => out.outcome(Err(RunError::Write(fault))),
-    }
+    let told = write_text(&mut out, line.as_bytes()).map_err(RunError::Write);
+    out.outcome(told)
 }

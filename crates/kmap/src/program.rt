@@ -1,10 +1,10 @@
 //! One run of the program: the words, the files that they name, and the exit status.
-use crate::command_line::{Request, command, request_of};
+use crate::command_line::{Request, command, contradiction, request_of};
 use crate::compile::compile;
 use crate::format::format_texts;
 use crate::inputs::{given, given_if_named, opened, opened_if_named};
 use crate::output::Output;
-use crate::refusal::{not_text, refused};
+use crate::refusal::{contradicted, not_text, refused};
 use crate::texts::{check, lint};
 use keymap_core::{Write, write_text};
 use keymap_draw::Board;
@@ -35,6 +35,8 @@ pub(crate) enum Failure<'a> {
     /// The new file that is to take the place of another can't be made.
     CannotCreateNew(String),
     CannotReplace(&'a str),
+    /// The file was changed while its layout was made.
+    Changed(&'a str),
     /// Who read the output has gone away, which isn't told.
     NoReader,
 }
@@ -114,10 +116,13 @@ where
 {
     match command(rt.alloc())?.try_get_matches_from(words) {
         Ok(matches) => match request_of(&matches) {
-            Some(request) => {
-                let outcome = answer(rt, request, faults);
-                Ok(status(is_well(rt.alloc(), outcome, faults)))
-            }
+            Some(request) => match contradiction(&request) {
+                Some(message) => contradicted(rt, message),
+                None => {
+                    let outcome = answer(rt, request, faults);
+                    Ok(status(is_well(rt.alloc(), outcome, faults)))
+                }
+            },
             None => not_text(rt),
         },
         Err(error) => refused(rt, &error, words, faults),
@@ -187,6 +192,9 @@ fn report<W: Write>(alloc: Global, failure: &Failure<'_>, faults: &mut W) {
         Failure::CannotReplace(name) => {
             report_name(alloc, b"kmap: cannot replace ", name, b"\n", faults);
         }
+        Failure::Changed(name) => {
+            report_name(alloc, b"kmap: ", name, b": changed meanwhile\n", faults);
+        }
         Failure::NoReader => {}
     }
 }
@@ -198,7 +206,7 @@ fn report_of_file<W: Write>(alloc: Global, name: &str, error: &CommandError, fau
     };
 }
 
-/// Writes a line that has the name of a file, as it is shown.
+/// Writes a line that has the name of a file, as it is shown. It is written at once, as that of another run may be.
 pub(crate) fn report_name<W: Write>(
     alloc: Global,
     front: &[u8],
@@ -206,16 +214,18 @@ pub(crate) fn report_name<W: Write>(
     end: &[u8],
     faults: &mut W,
 ) {
-    match shown_name(alloc, name.as_bytes()) {
-        Ok(shown) => {
-            if write_text(faults, front).is_ok() && write_text(faults, shown.as_slice()).is_ok() {
-                let _ = write_text(faults, end);
-            }
-        }
-        Err(AllocError) => {
-            let _ = write_run_error(&RunError::Memory, faults);
-        }
-    }
+    let _ = match named_line(alloc, front, name, end) {
+        Ok(line) => write_text(faults, line.as_slice()),
+        Err(AllocError) => write_run_error(&RunError::Memory, faults),
+    };
+}
+
+fn named_line(alloc: Global, front: &[u8], name: &str, end: &[u8]) -> Result<Vec<u8>, AllocError> {
+    let mut line = Vec::new(alloc);
+    line.extend_from_slice(front)?;
+    line.extend_from_slice(shown_name(alloc, name.as_bytes())?.as_slice())?;
+    line.extend_from_slice(end)?;
+    Ok(line)
 }
 
 /// Answers a request: whether all is well, which only a refused map denies, one that isn't known never to stick, or a

@@ -121,7 +121,22 @@ pub(crate) fn not_text<R: Env + AllocGlobal + Eprint>(rt: &R) -> Result<ExitCode
         }
         None => String::from_str(rt.alloc(), "an argument is not valid UTF-8")?,
     };
-    let refusal = command(rt.alloc())?.error(ErrorKind::InvalidValue, message.as_str())?;
+    told(rt, ErrorKind::InvalidValue, message.as_str())
+}
+
+/// Tells that words that are taken one by one can't stand together.
+pub(crate) fn contradicted<R>(rt: &R, message: &str) -> Result<ExitCode, AllocError>
+where
+    R: AllocGlobal + Eprint,
+{
+    told(rt, ErrorKind::ArgumentConflict, message)
+}
+
+fn told<R>(rt: &R, kind: ErrorKind, message: &str) -> Result<ExitCode, AllocError>
+where
+    R: AllocGlobal + Eprint,
+{
+    let refusal = command(rt.alloc())?.error(kind, message)?;
     let _ = rt.eprint(&refusal);
     Ok(ExitCode::from(WRONG_WORDS))
 }

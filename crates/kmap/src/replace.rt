@@ -1,9 +1,13 @@
 //! Files that are written whole or not at all: the bytes go into a new file beside the old one, which takes its name
 //! once they are on the disk. Where a step fails, the new file is removed and the old one has not changed.
 //!
+//! Beside the file of another user the new one mostly can't get its owner, or its name. Then the bytes are written into
+//! the old file too, and only then the new one is removed: at each moment one of the two is whole, with the old bytes or
+//! the new ones.
+//!
 //! Whoever may write the folder can put another file under a name at any time. So the new file gets its owner, group
 //! and rights by its descriptor, before a byte is in it, and takes the place of the old one only if both names still
-//! stand for what was looked at.
+//! stand for what was looked at. What is written in place is looked at by its descriptor.
 use keymap_core::{ToStd, WriteFault, write_text};
 use std::alloc::{AllocError, Global};
 use std::fs::{File, Files, Metadata, OpenOptions, Permissions};
@@ -22,7 +26,11 @@ pub(crate) enum ReplaceFault {
     CannotCreate(String),
     /// The new file can't be written or flushed.
     Write(WriteFault),
-    /// The new file can't get the owner, the rights or the name of the old one.
+    /// The old file can't be written to its end. The new one stays beside it, with all bytes.
+    Partly(WriteFault),
+    /// The old file isn't as it was when it was read.
+    Changed,
+    /// The new file can't get the name of the old one, and that isn't the file that was looked at.
     CannotReplace,
 }
 
@@ -41,15 +49,40 @@ const RIGHTS: u32 = 0o777;
 /// How many names are tried for a new file. Each that is taken belongs to another run, or to one that was ended.
 const NAMES: u32 = 1000;
 
-/// A file that is to take the place of another.
+/// What is known of the old file, whose place a new one takes.
 #[derive(Drop)]
-pub(crate) struct Replacement {
-    /// The file whose place it takes.
-    target: String,
-    /// Its own name until then.
-    name: String,
-    /// What is known of the old file, if there is one.
-    old: Option<Metadata>,
+pub(crate) enum Old {
+    Absent,
+    /// It is to belong to the same owner still.
+    Owned(Metadata),
+    /// It was read, and is to be as it was before.
+    Read(Metadata),
+}
+
+impl Old {
+    fn is_absent(&self) -> bool {
+        matches!(self, Old::Absent)
+    }
+
+    /// Why what is found under its name now isn't replaced, if it isn't.
+    fn refusal(&self, found: io::Result<Metadata>) -> Option<ReplaceFault> {
+        match (self, found) {
+            (Old::Absent, _) => None,
+            (Old::Owned(old), Ok(found)) if found.is_file() && has_same_owner(&found, old) => None,
+            (Old::Read(old), Ok(found)) if is_unchanged(&found, old) => None,
+            (Old::Owned(_), _) => Some(ReplaceFault::CannotReplace),
+            (Old::Read(_), _) => Some(ReplaceFault::Changed),
+        }
+    }
+
+    /// Why a file that is open now isn't written in its place, if it isn't.
+    fn refusal_in_place(&self, found: io::Result<Metadata>) -> Option<ReplaceFault> {
+        match (self, found) {
+            (Old::Owned(old), Ok(found)) if is_same(&found, old) => None,
+            (Old::Absent | Old::Owned(_), _) => Some(ReplaceFault::CannotReplace),
+            (Old::Read(_), found) => self.refusal(found),
+        }
+    }
 }
 
 /// The name of the file itself where a name is a link to it.
@@ -72,6 +105,14 @@ fn is_writable<R: Files>(rt: &R, name: &str) -> bool {
 /// Whether two are known by the same device and number, and so are one file.
 pub(crate) fn is_same(one: &Metadata, other: &Metadata) -> bool {
     one.dev() == other.dev() && one.ino() == other.ino()
+}
+
+/// Whether a file is the one that this is known of, and nobody has changed it since.
+fn is_unchanged(found: &Metadata, old: &Metadata) -> bool {
+    is_same(found, old)
+        && found.size() == old.size()
+        && found.ctime() == old.ctime()
+        && found.ctime_nsec() == old.ctime_nsec()
 }
 
 /// Whether two files belong to the same owner and the same group.
@@ -109,133 +150,143 @@ fn why_not_created(name: String, why: io::ErrorKind) -> ReplaceFault {
     }
 }
 
-/// Writes bytes into a new file, which takes the place of the file of this name, of which this is known if there is
-/// one. The new file has the suffix behind that name until then.
-pub(crate) fn replace<R: AllocGlobal + Files<File = File>>(
+/// Makes a new file without a byte beside a target. It has the suffix behind the name of that; where others have such a
+/// name, also a number.
+fn new_file<R: AllocGlobal + Files>(
     rt: &R,
-    name: &str,
-    old: Option<Metadata>,
+    target: &str,
     suffix: &str,
-    bytes: &[u8],
-) -> Result<(), ReplaceFault> {
-    let (replacement, mut file) = Replacement::create(rt, name, old, suffix)?;
-    let written = write_text(&mut ToStd::new(&mut file), bytes);
-    replacement.finish(rt, &file, written, bytes.len() as u64)
+    is_private: bool,
+) -> Result<(String, R::File), ReplaceFault> {
+    for number in 1..=NAMES {
+        let name = new_name(rt.alloc(), target, suffix, number)?;
+        match created(rt, name.as_str(), is_private) {
+            Ok(file) => return Ok((name, file)),
+            Err(error) if error.kind() == io::ErrorKind::AlreadyExists => {}
+            Err(error) => return Err(why_not_created(name, error.kind())),
+        }
+    }
+    let last = new_name(rt.alloc(), target, suffix, NAMES)?;
+    Err(ReplaceFault::CannotCreate(last))
 }
 
-impl Replacement {
-    /// Makes a new file without a byte, which is to replace the file of this name. It has the owner, group and rights
-    /// of the old one, and stands beside it with the suffix behind its name; where others have that name, also a
-    /// number.
-    fn create<R: AllocGlobal + Files<File = File>>(
-        rt: &R,
-        name: &str,
-        old: Option<Metadata>,
-        suffix: &str,
-    ) -> Result<(Replacement, File), ReplaceFault> {
-        let target = target_of(rt, name)?;
-        if old.is_some() && !is_writable(rt, target.as_str()) {
-            return Err(ReplaceFault::NotWritable);
-        }
-        for number in 1..=NAMES {
-            let name = new_name(rt.alloc(), target.as_str(), suffix, number)?;
-            match created(rt, name.as_str(), old.is_some()) {
-                Ok(file) => return Replacement { target, name, old }.owned(rt, file),
-                Err(error) if error.kind() == io::ErrorKind::AlreadyExists => {}
-                Err(error) => return Err(why_not_created(name, error.kind())),
-            }
-        }
-        let last = new_name(rt.alloc(), target.as_str(), suffix, NAMES)?;
-        Err(ReplaceFault::CannotCreate(last))
-    }
-
-    /// Gives the new file the owner, group and rights of the old one, or removes it.
-    fn owned<R: AllocGlobal + Files<File = File>>(
-        self,
-        rt: &R,
-        file: File,
-    ) -> Result<(Replacement, File), ReplaceFault> {
-        if self.is_target_as_it_was(rt) && self.give_owner_and_rights(&file).is_ok() {
-            Ok((self, file))
-        } else {
-            self.remove(rt, &file);
-            Err(ReplaceFault::CannotReplace)
-        }
-    }
-
-    fn give_owner_and_rights(&self, file: &File) -> io::Result<()> {
-        if let Some(old) = &self.old {
+/// Gives a new file the owner, group and rights of an old one, if there is one.
+fn give_owner_and_rights(file: &File, old: &Old) -> io::Result<()> {
+    match old {
+        Old::Absent => Ok(()),
+        Old::Owned(old) | Old::Read(old) => {
             let new = file.metadata()?;
             if !has_same_owner(&new, old) {
                 fchown(file, Some(old.uid()), Some(old.gid()))?;
             }
-            file.set_permissions(Permissions::from_mode(old.mode() & RIGHTS))?;
+            file.set_permissions(Permissions::from_mode(old.mode() & RIGHTS))
         }
+    }
+}
+
+/// Writes all bytes of a file, which are on the disk then.
+fn write_whole(file: &mut File, bytes: &[u8]) -> Result<(), WriteFault> {
+    write_text(&mut ToStd::new(&mut *file), bytes)?;
+    let written = bytes.len() as u64;
+    if file.set_len(written).is_ok() && file.sync_all().is_ok() {
         Ok(())
+    } else {
+        Err(WriteFault { written })
+    }
+}
+
+/// Writes bytes into a new file, which takes the place of the file of this name, of which this is known. The new file
+/// has the suffix behind that name until then.
+pub(crate) fn replace<R: AllocGlobal + Files<File = File>>(
+    rt: &R,
+    name: &str,
+    old: &Old,
+    suffix: &str,
+    bytes: &[u8],
+) -> Result<(), ReplaceFault> {
+    let target = target_of(rt, name)?;
+    if !old.is_absent() && !is_writable(rt, target.as_str()) {
+        return Err(ReplaceFault::NotWritable);
+    }
+    let (name, mut file) = new_file(rt, target.as_str(), suffix, !old.is_absent())?;
+    let replacement = Replacement {
+        target: target.as_str(),
+        name: name.as_str(),
+        old,
+    };
+    let outcome = replacement.put(rt, &mut file, bytes);
+    if !matches!(outcome, Err(ReplaceFault::Partly(_))) {
+        replacement.remove(rt, &file);
+    }
+    outcome
+}
+
+/// A new file that is to take the place of another.
+#[derive(Clone, Copy)]
+struct Replacement<'a> {
+    /// The name of the file whose place it takes.
+    target: &'a str,
+    /// Its own name until then.
+    name: &'a str,
+    old: &'a Old,
+}
+
+impl Replacement<'_> {
+    /// Writes the new file and puts it in the place of the old one, or its bytes.
+    fn put<R: Files<File = File>>(
+        &self,
+        rt: &R,
+        file: &mut File,
+        bytes: &[u8],
+    ) -> Result<(), ReplaceFault> {
+        self.look_at_target(rt)?;
+        let is_owned = give_owner_and_rights(file, self.old).is_ok();
+        write_whole(file, bytes).map_err(ReplaceFault::Write)?;
+        if !self.is_named(rt, file) {
+            return Err(ReplaceFault::CannotReplace);
+        }
+        self.look_at_target(rt)?;
+        if is_owned && rt.rename(self.name, self.target).is_ok() {
+            return Ok(());
+        }
+        self.write_in_place(rt, bytes)
     }
 
-    /// Whether the file that is replaced still is a file, of the owner that the new one gets. Another run may have
-    /// replaced it meanwhile.
-    fn is_target_as_it_was<R: Files>(&self, rt: &R) -> bool {
-        match &self.old {
-            Some(old) => fs::symlink_metadata(rt, self.target.as_str()).is_ok_and(
-                |found| found.is_file() && has_same_owner(&found, old),
-            ),
-            None => true,
+    /// Looks whether the old file still is what it is to be. Another run may have replaced it meanwhile.
+    fn look_at_target<R: Files>(&self, rt: &R) -> Result<(), ReplaceFault> {
+        match self.old.refusal(fs::symlink_metadata(rt, self.target)) {
+            None => Ok(()),
+            Some(fault) => Err(fault),
+        }
+    }
+
+    /// Writes the bytes into the old file itself.
+    fn write_in_place<R: Files<File = File>>(
+        &self,
+        rt: &R,
+        bytes: &[u8],
+    ) -> Result<(), ReplaceFault> {
+        let Ok(mut file) = OpenOptions::new().write(true).open(rt, self.target) else {
+            return Err(ReplaceFault::CannotReplace);
+        };
+        match self.old.refusal_in_place(file.metadata()) {
+            None => write_whole(&mut file, bytes).map_err(ReplaceFault::Partly),
+            Some(fault) => Err(fault),
         }
     }
 
     /// Whether the name of the new file still stands for it.
     fn is_named<R: Files>(&self, rt: &R, file: &File) -> bool {
-        match (
-            fs::symlink_metadata(rt, self.name.as_str()),
-            file.metadata(),
-        ) {
+        match (fs::symlink_metadata(rt, self.name), file.metadata()) {
             (Ok(found), Ok(new)) => is_same(&found, &new),
             _ => false,
         }
     }
 
+    /// Removes the new file, unless it has the name of the old one by now.
     fn remove<R: Files>(&self, rt: &R, file: &File) {
         if self.is_named(rt, file) {
-            let _ = rt.remove_file(self.name.as_str());
-        }
-    }
-
-    /// Puts the new file in the place of the old one, if all of its bytes were written, and else removes it.
-    fn finish<R: Files>(
-        &self,
-        rt: &R,
-        file: &File,
-        written: Result<(), WriteFault>,
-        size: u64,
-    ) -> Result<(), ReplaceFault> {
-        let outcome = match written {
-            Ok(()) => self.put_in_place(rt, file, size),
-            Err(fault) => Err(ReplaceFault::Write(fault)),
-        };
-        if outcome.is_err() {
-            self.remove(rt, file);
-        }
-        outcome
-    }
-
-    fn put_in_place<R: Files>(
-        &self,
-        rt: &R,
-        file: &File,
-        written: u64,
-    ) -> Result<(), ReplaceFault> {
-        if file.sync_all().is_err() {
-            return Err(ReplaceFault::Write(WriteFault { written }));
-        }
-        if self.is_named(rt, file) && self.is_target_as_it_was(rt) {
-            match rt.rename(self.name.as_str(), self.target.as_str()) {
-                Ok(()) => Ok(()),
-                Err(_) => Err(ReplaceFault::CannotReplace),
-            }
-        } else {
-            Err(ReplaceFault::CannotReplace)
+            let _ = rt.remove_file(self.name);
         }
     }
 }

@@ -198,7 +198,7 @@ none_names t cells =
       zero = λ i p. refl;
       pair = λ i first base j k. refl;
       unused = λ p. refl;
-      digit = λ k c l n e. refl;
+      digit = λ k c l n e f. refl;
     }))
 
 -- ---- a text

@@ -11,7 +11,11 @@ use Rattle.std.specs.Option.{option_to_list}
 use Rattle.std.proofs.lemmas.Bool.{cases_lt, eqb-true}
 use Rattle.std.proofs.lemmas.List.{get_or_past, get_or-map, get_or-take, get_or-drop, length-take, length-map}
 use Rattle.std.proofs.lemmas.List.Elements.{All-weaker, All-contains, All-nil, All-cons, All-head, All-tail, All-append}
-use Rattle.std.proofs.lemmas.List.Elements.{Contains-get_or}
+use Rattle.std.proofs.lemmas.List.Elements.{Contains-append_left, Contains-append_right, Contains-get_or}
+use Rattle.std.specs.Prelude.{Contains, if◌then◌else◌}
+use Rattle.std.specs.Option.{is_some, option_or}
+use Rattle.std.specs.List.{range_with_len}
+use Rattle.std.proofs.lemmas.Bool.Decides.{nat_tests}
 use Rattle.std.proofs.lemmas.List.FromFn.{length-map-range_with_len}
 use Rattle.std.proofs.lemmas.List.Folds.{find_at}
 use Rattle.std.proofs.lemmas.Option.{get_or_from_slice_get, slice_get_within}
@@ -29,7 +33,7 @@ use Rattle.keymap_text.specs.declared.token.TokenKind.TheVariants.{Word}
 use Rattle.keymap_text.specs.Items.{cell}
 use Rattle.keymap_text.specs.Lexical.{TokenValue}
 use Rattle.keymap_text.specs.Meaning.{item_of, tokens}
-use Rattle.keymap_text.specs.Placed.{Row, IsSpelledBy, IsPlaced, span_of, places_of, begins}
+use Rattle.keymap_text.specs.Placed.{Row, IsSpelledBy, IsPlaced, is_same, span_of, places_of, begins}
 use Rattle.keymap_text.specs.Rows.{Defines, KeyDefinition}
 use Rattle.keymap_text.specs.declared.fault.TextFaultKind.{TextFaultKind}
 use Rattle.keymap_text.specs.declared.wanted.DefinitionStart.{DefinitionStart}
@@ -47,8 +51,8 @@ use Rattle.keymap_lint.specs.Kinds.{pairs_by, pairs_again, base_at, paren, unuse
 use Rattle.keymap_lint.specs.Kinds.{bare_digits}
 use Rattle.keymap_lint.specs.Lists.{spelled_by, all_of, of_keys, of_definitions, of_rest, IsLint}
 use Rattle.keymap_lint.specs.Positions.{SpellsCell, CellsInForceAreSpelled, StandsWithin, DiagnosticsStandInTheText}
-use Rattle.keymap_lint.specs.Positions.{IsWithin, LiesWithin}
-use Rattle.keymap_lint.specs.Spelled.{offset_at, cells_defined, cells_in_force, is_last, content, is_live}
+use Rattle.keymap_lint.specs.Positions.{IsWithin, LiesWithin, StandsAt, StandsInText, IsHoldingOf, IsMissingDeadKey}
+use Rattle.keymap_lint.specs.Spelled.{offset_at, cells_defined, cells_in_force, is_in_force, is_last, content, is_live}
 use Rattle.keymap_core.specs.declared.action.Action.TheVariants as act
 use Rattle.keymap_core.specs.declared.action.Modifier.TheVariants as modifier
 use Rattle.keymap_core.specs.declared.action.Lock.TheVariants as lock
@@ -134,8 +138,67 @@ all_either P true x y h k = h
 all_either P false x y h k = k
 
 -- what is said only if the test says so
+all_if_so : {Y : Type 0} (P : Y → Type 0) (b : Bool) (y : Y) → (b ≡ true → P y)
+    → All P (option_to_list (cond b (Some y) None))
+all_if_so P true y h = all_one P y (h refl)
+all_if_so P false y h = All-nil P
+
 all_if : {Y : Type 0} (P : Y → Type 0) (b : Bool) (y : Y) → P y → All P (option_to_list (cond b (Some y) None))
 all_if P b y h = all_either (λ o. All P (option_to_list o)) b (Some y) None (all_one P y h) (All-nil P)
+
+-- ---- the cells in force
+
+-- what an element gives is among what all give
+among_flat : {X Y : Type 0} (f : X → List Y) (y : Y) (xs : List X) (x : X) → Contains xs x → Contains (f x) y
+    → Contains (flat_map f xs) y
+among_flat f y [] x (k, l, e) h = absurd (omega (arith, l))
+among_flat f y (z ∷ xs) x (zero, l, e) h =
+    Contains-append_left (f z) (flat_map f xs) y (subst (λ u. Contains (f u) y) (sym e) h)
+among_flat f y (z ∷ xs) x (suc k, l, e) h =
+    Contains-append_right (f z) (flat_map f xs) y (among_flat f y xs x (k, omega (arith, l), e) h)
+
+-- the last definition of something is one of the definitions, and defines it
+last_there : (what : Defined) (ps : List Placed) (p : Placed) → last_of what ps ≡ Some p
+    → Contains ps p × (is_same p.what what ≡ true)
+unfolding last_of
+last_there what [] p e = absurd (cc)
+last_there what (q ∷ ps) p e =
+    go (last_of what ps) (λ f. last_there what ps p f) (is_same q.what what) refl e
+  where
+    go : (o : Option Placed) → (o ≡ Some p → Contains ps p × (is_same p.what what ≡ true)) → (b : Bool)
+        → is_same q.what what ≡ b → option_or o (if b then Some q else None) ≡ Some p
+        → Contains (q ∷ ps) p × (is_same p.what what ≡ true)
+    go (Some r) later b g h =
+        let rest = later h in ((suc (rest.0.0), omega (arith, rest.0.1), rest.0.2), rest.1)
+    go None later true g h =
+        let same : q ≡ p = cc in ((zero, omega arith, same), subst (λ (r : Placed). is_same r.what what ≡ true) same g)
+    go None later false g h = absurd (cc)
+
+same_number : (n : ℕ) → (n == n) ≡ true
+same_number n = grind (arith, nat_tests)
+
+same_slot : (what : Defined) (slot : ℕ) → is_same what (Slot slot) ≡ true → what ≡ Slot slot
+same_slot (Slot s) slot e = ap Slot (eqb-true s slot e)
+same_slot (Accent i) slot e = absurd (true≢false (sym e))
+
+-- each cell of the last definition of a slot is in force
+in_force_there : (t : Spelled) (slot : ℕ) (p : Placed) → last_of (Slot slot) t.definitions ≡ Some p → (column : ℕ)
+    → column < 8 → Contains (cells_in_force t) (cell_in t slot p.first column)
+in_force_there t slot p e column few =
+    let last = last_there (Slot slot) t.definitions p e in
+    let what : p.what ≡ Slot slot = same_slot p.what slot last.1 in
+    let here : is_in_force t p ≡ true =
+    ap (λ w. is_last p (last_of w t.definitions)) what ∙ ap (is_last p) e ∙ same_number p.first in
+    let cells : cells_of t p ≡ map (cell_in t slot p.first) (range_with_len 0 8) =
+    ap (λ b. if b then cells_defined t p.what p.first else []) here ∙ ap (λ w. cells_defined t w p.first) what in
+    let d = cell_in t slot p.first column in
+    let long : column < length (map (cell_in t slot p.first) (range_with_len 0 8)) =
+    omega (arith, few, length-map-range_with_len (cell_in t slot p.first) 0 8) in
+    let among : Contains (map (cell_in t slot p.first) (range_with_len 0 8)) d =
+    subst (Contains (map (cell_in t slot p.first) (range_with_len 0 8)))
+    (get_or-map-range_with_len (cell_in t slot p.first) 0 8 column column d few (omega arith))
+    (Contains-get_or (map (cell_in t slot p.first) (range_with_len 0 8)) column d long) in
+    among_flat (cells_of t) d t.definitions p last.0 (subst (λ cs. Contains cs d) (sym cells) among)
 
 pub cells_in_force_are_spelled : CellsInForceAreSpelled
 cells_in_force_are_spelled text m rows by =
@@ -184,7 +247,8 @@ pub record OfEach (P : Diagnostic → Type 0) (t : Spelled) (cells : List CellIn
   pub zero : (i : ℕ) (p : Placed) → P (at (offset_at t (p.first + 1)) (kinds.ZeroAccent i))
   pub pair : (i first base j k : ℕ) → P (at (paren t first j) (kinds.PairAgain i base (paren t first k)))
   pub unused : (p : Placed) → P (at (offset_at t p.first) kinds.UnusedHalf)
-  pub digit : All (λ c. (n : ℕ) → content t c ≡ Char n → P (at c.span.start (kinds.BareDigit n))) cells
+  pub digit : All (λ c. (n : ℕ) → content t c ≡ Char n → c.span.end - c.span.start ≡ 1
+      → P (at c.span.start (kinds.BareDigit n))) cells
 
 -- by whether there is one
 all_some : {X Y : Type 0} (P : Y → Type 0) (f : Option X → List Y) (o : Option X) → All P (f None)
@@ -249,10 +313,11 @@ of_all P t cells fs h =
         (first_below (has_base a.pairs j) j) none (λ k g. all_one P _ (h.pair i p.first (base_at a.pairs j) j k)))
         (length a.pairs)))
 
-    digits : (c : CellInForce) (x : Cell) → ((n : ℕ) → x ≡ Char n → P (at c.span.start (kinds.BareDigit n)))
-        → All P (option_to_list (digit_by c x))
+    digits : (c : CellInForce) (x : Cell) → ((n : ℕ) → x ≡ Char n → c.span.end - c.span.start ≡ 1
+        → P (at c.span.start (kinds.BareDigit n))) → All P (option_to_list (digit_by c x))
     digits c (Act a) g = none
-    digits c (Char n) g = all_if P (c.span.end - c.span.start == 1) _ (g n refl)
+    digits c (Char n) g =
+        all_if_so P (c.span.end - c.span.start == 1) _ (λ e. g n refl (eqb-true (c.span.end - c.span.start) 1 e))
 
 -- a cell that selects the slots from 128 on is what is told of it
 holds_selector : (b : Bool) (x : Cell) (s : Holding) → cond b (selector_of x) None ≡ Some s
@@ -272,37 +337,68 @@ holds_dead_key _ _ i e = absurd (cc)
 found_has : {X : Type 0} (P : X → Type 0) (p : X → Bool) (xs : List X) → All P xs → (x : X) → find p xs ≡ Some x → P x
 found_has P p xs all x e = search (rules, find_at, get_or_from_slice_get, slice_get_within)
 
+found_in : {X : Type 0} (p : X → Bool) (xs : List X) (x : X) → find p xs ≡ Some x → Contains xs x
+found_in p xs x e = found_has (Contains xs) p xs (λ k d l. Contains-get_or xs k d l) x e
+
+-- what is chosen only if a test passes, where something is chosen
+passed : {X : Type 0} (b : Bool) (o : Option X) (x : X) → cond b o None ≡ Some x → b ≡ true
+passed true o x e = refl
+passed false o x e = absurd (cc)
+
+not_some : {X : Type 0} (o : Option X) → not (is_some o) ≡ true → o ≡ None
+not_some None e = refl
+not_some (Some x) e = absurd (true≢false (sym e))
+
 all_of_text : (text : List ℕ) (m : MapValue) (rows : List Row) → IsSpelledBy text m rows → (fs : List Finding)
     → All (IsFinding m) fs
-    → All (StandsWithin text) (all_of (spelled_by text m rows) (cells_in_force (spelled_by text m rows)) fs)
+    → All (StandsWithin text (spelled_by text m rows))
+    (all_of (spelled_by text m rows) (cells_in_force (spelled_by text m rows)) fs)
 all_of_text text m rows by fs are =
-    of_all (StandsWithin text) t cells fs (record {
+    of_all (StandsWithin text t) t cells fs (record {
       no_key = ((tt, tt), tt);
       no_shift = ((tt, tt), tt);
       mixed = λ k d l p e.
-          let f : Finding = get_or fs k d in
-          let is : IsFinding m f = are k d l in (
-            (w (p.first + (1 + f.holding_at.column)), tt),
-            subst (SpellsCell text (offset_at t (p.first + (1 + f.holding_at.column)))) is.holding
-                (spelled_at text m rows by f.holding_at.slot p e f.holding_at.column is.first_holding.0.0),
-          );
+          ((w (p.first + (1 + (get_or fs k d).holding_at.column)), tt), mixed (get_or fs k d) (are k d l) p e);
       half = λ c s e g.
           let its : SpellsCell text c.span.start (content t c) = found_has IsThere (selects t) cells there c e in (
             (low c.span.start (content t c) its, tt),
-            subst (SpellsCell text c.span.start) (holds_selector (nat_lt c.slot 128) (content t c) s g) its,
+            record {
+              cell = c;
+              in_force = found_in (selects t) cells c e;
+              start = refl;
+              spelled = its;
+              one = (
+                lower c.slot (passed (nat_lt c.slot 128) (selector_of (content t c)) s g),
+                holds_selector (nat_lt c.slot 128) (content t c) s g,
+              );
+            },
           );
       again = λ p q. ((w p.first, w q.first), tt);
       dead = λ c e.
           let its : SpellsCell text c.span.start (content t c) = found_has IsThere (is_missing t) cells there c e in (
             (low c.span.start (content t c) its, tt),
-            dead_key_there c its (live_accent t c) refl (find-true (is_missing t) cells c e),
+            record {
+              cell = c;
+              in_force = found_in (is_missing t) cells c e;
+              start = refl;
+              spelled = its;
+              one = dead_key_there c (live_accent t c) refl (find-true (is_missing t) cells c e);
+            },
           );
       zero = λ i p. ((w (p.first + 1), tt), tt);
       pair = λ i first base j k. ((w (first + (4 * j + 2)), w (first + (4 * k + 2))), tt);
       unused = λ p. ((w p.first, tt), tt);
-      digit = λ k d l n e.
-          let c : CellInForce = get_or cells k d in
-          ((low c.span.start (content t c) (there k d l), tt), subst (SpellsCell text c.span.start) e (there k d l));
+      digit = λ k d l n e f.
+          let c : CellInForce = get_or cells k d in (
+            (low c.span.start (content t c) (there k d l), tt),
+            record {
+              cell = c;
+              in_force = Contains-get_or cells k d l;
+              start = refl;
+              spelled = there k d l;
+              one = (e, f);
+            },
+          );
     })
   where
     t : Spelled
@@ -324,11 +420,37 @@ all_of_text text m rows by fs are =
     low : (place : ℕ) (x : Cell) → SpellsCell text place x → place ≤ length text
     low place x h = search (rules, All-contains, tokens_are_placed)
 
-    dead_key_there : (c : CellInForce) → IsThere c → (o : Option ℕ) → live_accent t c ≡ o → is_missing_of t o ≡ true
-        → (i : ℕ) × SpellsCell text c.span.start (Act (act.DeadKey i))
-    dead_key_there c its (Some i) g h =
-        (i, subst (SpellsCell text c.span.start) (holds_dead_key (is_live t c.slot) (content t c) i g) its)
-    dead_key_there c its None g h = absurd (true≢false (sym h))
+    lower : (slot : ℕ) → nat_lt slot 128 ≡ true → slot < 128
+    lower slot e = grind (arith, nat_tests, e)
+
+    mixed : (f : Finding) → IsFinding m f → (p : Placed) → last_of (Slot f.holding_at.slot) t.definitions ≡ Some p
+        → StandsAt text t (offset_at t (p.first + (1 + f.holding_at.column)))
+        (IsHoldingOf t f (character_of (cell_at m f.character_at.slot f.character_at.column)))
+    mixed f is p e =
+        let column = f.holding_at.column in
+        let few = is.first_holding.0.0 in
+        let character = is.first_character.1 in record {
+          cell = cell_in t f.holding_at.slot p.first column;
+          in_force = in_force_there t f.holding_at.slot p e column few;
+          start = refl;
+          spelled = spelled_at text m rows by f.holding_at.slot p e column few;
+          one = (
+            refl,
+            refl,
+            is.holding,
+            character.1 ∙ ap (λ x. Char (character_of x)) (sym character.1),
+          );
+        }
+
+    dead_key_there : (c : CellInForce) (o : Option ℕ) → live_accent t c ≡ o → is_missing_of t o ≡ true
+        → IsMissingDeadKey t c
+    dead_key_there c (Some i) g h = (
+      i,
+      passed (is_live t c.slot) (dead_key_of (content t c)) i g,
+      holds_dead_key (is_live t c.slot) (content t c) i g,
+      not_some (last_of (Accent i) t.definitions) h,
+    )
+    dead_key_there c None g h = absurd (true≢false (sym h))
 
 -- ---- a fault
 
@@ -375,8 +497,11 @@ refused_within text p d behind (t ∷ ts) all h l =
     go (Err f) later = (h, l)
 
 pub diagnostics_stand_in_the_text : DiagnosticsStandInTheText
-diagnostics_stand_in_the_text text (OfSpelled l) (m, spells, (rows, by, (fs, are, is))) =
-    search (rules, All-permutation, all_of_text)
+diagnostics_stand_in_the_text text (OfSpelled l) (m, spells, (rows, by, (fs, are, is))) = (
+  m,
+  rows,
+  (spells, by, search (rules, All-permutation, all_of_text)),
+)
 diagnostics_stand_in_the_text text (Faulty f place) ((early, at_it), is) = (
   fault_within text f.kind f.offset early (fault_to text f.kind f.offset early at_it.0),
   subst (TellsPlaces text) (sym is)
@@ -385,7 +510,9 @@ diagnostics_stand_in_the_text text (Faulty f place) ((early, at_it), is) = (
 
 -- what lies within a text
 pub lies_within : (text : List ℕ) (l : Lint) → IsLint text l → LiesWithin text l
-lies_within text (OfSpelled l) is =
-    All-weaker (StandsWithin text) (IsWithin text) (λ d h. h.0) l.list.items
-    (diagnostics_stand_in_the_text text (OfSpelled l) is)
+lies_within text (OfSpelled l) is = go (diagnostics_stand_in_the_text text (OfSpelled l) is)
+  where
+    go : StandsInText text (OfSpelled l) → LiesWithin text (OfSpelled l)
+    go (m, rows, (spells, by, all)) =
+        All-weaker (StandsWithin text (spelled_by text m rows)) (IsWithin text) (λ d h. h.0) l.list.items all
 lies_within text (Faulty f place) is = diagnostics_stand_in_the_text text (Faulty f place) is

@@ -1,17 +1,19 @@
 -- Where the diagnostics of a text stand, and what stands there.
-use Rattle.std.specs.Prelude.{◌≡◌, ℕ, ◌≤◌, List, All, Contains, length, IfSome, Ok, ⊤}
+use Rattle.std.specs.Prelude.{◌≡◌, ℕ, ◌-◌, ◌<◌, ◌≤◌, true, List, All, Contains, length, None, IfSome, Ok, ⊤}
 use Rattle.keymap_core.specs.declared.action.Action.TheVariants as action
-use Rattle.keymap_lint.specs.Types.{Cell, Char, Act, Diagnostic, Kind, Lint, Faulty, Spelled}
+use Rattle.keymap_lint.specs.Types.{Holding, Cell, Char, Act, Accent, CellInForce, Finding, Diagnostic, Diagnostics}
+use Rattle.keymap_lint.specs.Types.{Kind, Lint, Faulty, Spelled as OfSpelled}
 use Rattle.keymap_core.specs.Actions.{holding_action}
-use Rattle.keymap_core.specs.Maps.{MapValue}
+use Rattle.keymap_core.specs.Maps.{MapValue, cell_at}
+use Rattle.keymap_core.specs.Numbers.{key_count}
 use Rattle.keymap_text.specs.Items.{cell}
 use Rattle.keymap_text.specs.Lexical.{TokenValue}
-use Rattle.keymap_text.specs.Meaning.{item_of, tokens}
-use Rattle.keymap_text.specs.Placed.{IsSpelledBy, Row}
+use Rattle.keymap_text.specs.Meaning.{Spells, item_of, tokens}
+use Rattle.keymap_text.specs.Placed.{IsSpelledBy, Row, last_of}
 use Rattle.keymap_text.specs.declared.wanted.FaultPlace.{FaultPlace}
 use Rattle.keymap_lint.specs.declared.diagnostic.Kind.TheVariants as kinds
 use Rattle.keymap_lint.specs.Lists.{IsLint, spelled_by}
-use Rattle.keymap_lint.specs.Spelled.{cells_in_force, content}
+use Rattle.keymap_lint.specs.Spelled.{Spelled, cells_in_force, content, is_live}
 
 -- A token with this place spells this cell.
 pub record SpellsCell (text : List ℕ) (place : ℕ) (x : Cell) : Type 0 where
@@ -27,13 +29,42 @@ CellsInForceAreSpelled =
     → All (λ c. SpellsCell text c.span.start (content (spelled_by text m rows) c))
     (cells_in_force (spelled_by text m rows))
 
--- what stands at the place of a diagnostic: the modifier or lock, the selector, the dead key, the character
-abbrev pub StandsThere : List ℕ → ℕ → Kind → Type 0
-StandsThere text place (kinds.MixedKey f c noted) = SpellsCell text place (Act (holding_action f.holding))
-StandsThere text place (kinds.HalfDefined s keys noted) = SpellsCell text place (Act (holding_action s))
-StandsThere text place (kinds.DeadKey some) = (i : ℕ) × SpellsCell text place (Act (action.DeadKey i))
-StandsThere text place (kinds.BareDigit c) = SpellsCell text place (Char c)
-StandsThere text place k = ⊤
+-- A cell in force begins at the place, and a token spells it; it is one of these.
+pub record StandsAt (text : List ℕ) (t : Spelled) (place : ℕ) (IsOne : CellInForce → Type 0) : Type 0 where
+  pub cell : CellInForce
+  pub in_force : Contains (cells_in_force t) cell
+  pub start : cell.span.start ≡ place
+  pub spelled : SpellsCell text place (content t cell)
+  pub one : IsOne cell
+
+-- the cell of the finding's modifier or lock, where the character that is told stands in the other one
+abbrev pub IsHoldingOf : Spelled → Finding → ℕ → CellInForce → Type 0
+IsHoldingOf t f character c =
+    (c.slot ≡ f.holding_at.slot) × (c.column ≡ f.holding_at.column) × (content t c ≡ Act (holding_action f.holding))
+    × (cell_at t.map f.character_at.slot f.character_at.column ≡ Char character)
+
+-- a cell of a lower slot that selects the slots from 128 on
+abbrev pub IsSelectorOf : Spelled → Holding → CellInForce → Type 0
+IsSelectorOf t selector c = (c.slot < key_count) × (content t c ≡ Act (holding_action selector))
+
+-- a live cell that is the dead key of an accent without a definition
+abbrev pub IsMissingDeadKey : Spelled → CellInForce → Type 0
+IsMissingDeadKey t c =
+    (i : ℕ) × (is_live t c.slot ≡ true) × (content t c ≡ Act (action.DeadKey i))
+    × (last_of (Accent i) t.definitions ≡ None)
+
+-- the character, in one byte
+abbrev pub IsOneByte : Spelled → ℕ → CellInForce → Type 0
+IsOneByte t character c = (content t c ≡ Char character) × (c.span.end - c.span.start ≡ 1)
+
+-- what stands at the place of a diagnostic that tells of a cell: the modifier or lock, the selector, the dead key or
+-- the character of which it tells
+abbrev pub StandsThere : List ℕ → Spelled → ℕ → Kind → Type 0
+StandsThere text t place (kinds.MixedKey f character noted) = StandsAt text t place (IsHoldingOf t f character)
+StandsThere text t place (kinds.HalfDefined s keys noted) = StandsAt text t place (IsSelectorOf t s)
+StandsThere text t place (kinds.DeadKey some) = StandsAt text t place (IsMissingDeadKey t)
+StandsThere text t place (kinds.BareDigit character) = StandsAt text t place (IsOneByte t character)
+StandsThere text t place k = ⊤
 
 -- the further places that a diagnostic tells
 abbrev pub TellsWithin : List ℕ → Kind → Type 0
@@ -52,18 +83,23 @@ FaultLiesWithin text place = IfSome place.definition (λ d. d.offset ≤ length 
 -- Each place that is told of a text lies within it.
 abbrev pub LiesWithin : List ℕ → Lint → Type 0
 LiesWithin text (Faulty f place) = (f.offset ≤ length text) × FaultLiesWithin text place
-LiesWithin text (Spelled l) = All (IsWithin text) l.list.items
+LiesWithin text (OfSpelled l) = All (IsWithin text) l.list.items
 
 -- a diagnostic stands at what it tells of
-abbrev pub IsAtWhatItTells : List ℕ → Diagnostic → Type 0
-IsAtWhatItTells text d = IfSome d.place (λ p. StandsThere text p d.kind)
+abbrev pub IsAtWhatItTells : List ℕ → Spelled → Diagnostic → Type 0
+IsAtWhatItTells text t d = IfSome d.place (λ p. StandsThere text t p d.kind)
 
-abbrev pub StandsWithin : List ℕ → Diagnostic → Type 0
-StandsWithin text d = IsWithin text d × IsAtWhatItTells text d
+abbrev pub StandsWithin : List ℕ → Spelled → Diagnostic → Type 0
+StandsWithin text t d = IsWithin text d × IsAtWhatItTells text t d
+
+-- so do all of a text that spells a map by these rows
+abbrev pub AllStand : List ℕ → MapValue → List Row → Diagnostics → Type 0
+AllStand text m rows l =
+    Spells text m × IsSpelledBy text m rows × All (StandsWithin text (spelled_by text m rows)) l.list.items
 
 abbrev pub StandsInText : List ℕ → Lint → Type 0
 StandsInText text (Faulty f place) = (f.offset ≤ length text) × FaultLiesWithin text place
-StandsInText text (Spelled l) = All (StandsWithin text) l.list.items
+StandsInText text (OfSpelled l) = (m : MapValue) × (rows : List Row) × AllStand text m rows l
 
 abbrev pub DiagnosticsStandInTheText : Type 0
 DiagnosticsStandInTheText = (text : List ℕ) (l : Lint) → IsLint text l → StandsInText text l

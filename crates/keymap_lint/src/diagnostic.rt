@@ -67,9 +67,8 @@ pub enum Kind {
         /// The offset of the first pair with this base: of its parenthesis.
         first: usize,
     },
-    /// No live cell is ashift or alock, and the text defines slots from 128 on: these are
-    /// `Diagnostics::unused_slots`. It
-    /// stands at the first definition of such a slot that is in force.
+    /// No live cell is ashift or alock, and the text defines slots from 128 on: these are `Diagnostics::unused_slots`.
+    /// It stands at the first definition of such a slot that is in force.
     UnusedHalf,
     /// A cell that is spelled by one decimal digit, which is the number of this character.
     BareDigit {

@@ -1,4 +1,4 @@
-use Rattle.keymap_draw.proofs.Common.{◌≡◌, ◌==◌, ◌++◌, [], ◌∷◌, ℕ, List, false, ap, append_assoc, arith, codes, decimal}
+use Rattle.keymap_draw.proofs.Common.{◌≡◌, ◌==◌, ◌++◌, [], ◌∷◌, ℕ, List, false, append_assoc, arith, codes, decimal}
 use Rattle.keymap_draw.proofs.Common.{nat_tests, subst, IfOk}
 use Rattle.keymap_draw.specs.Facts.{text}
 use Rattle.keymap_draw.proofs.half.push_verdict.Goals as goal

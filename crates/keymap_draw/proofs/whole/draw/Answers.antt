@@ -1,4 +1,4 @@
-use Rattle.keymap_draw.proofs.Common.{◌≡◌, ◌+◌, ◌++◌, ◌∙◌, [], ◌∷◌, ap, subst, length, IfOk, Tells, Lower, Number}
+use Rattle.keymap_draw.proofs.Common.{◌+◌, ◌++◌, ◌∙◌, [], ◌∷◌, ap, subst, length, IfOk, Tells, Lower, Number}
 use Rattle.keymap_draw.proofs.Common.{accents_list, findings_list, half_facts, head, silent_list}
 use Rattle.keymap_draw.specs.Pictures.{upper, parts}
 use Rattle.keymap_draw.specs.Sheets.{dress}

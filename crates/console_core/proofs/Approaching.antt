@@ -1,32 +1,34 @@
 -- The events of a visit lead a console home, on to a state that was met, and to a press there.
 use Rattle.console_core.proofs.Common.{◌≡◌, ◌≢◌, ◌<◌, ℕ, Bool, true, false, List, [], ◌∷◌, ◌++◌, reverse}
 use Rattle.console_core.proofs.Common.{slice_get, Option, MatchOption, Some, None, refl, ap, subst, sym, ◌∙◌, inl, inr}
-use Rattle.console_core.proofs.Common.{append_assoc, if◌then◌else◌, ◌==◌, cases_Bool, eqb-true, false≢true}
+use Rattle.console_core.proofs.Common.{append_assoc, arith, if◌then◌else◌, ◌==◌, cases_Bool, eqb-true, false≢true}
 use Rattle.console_core.proofs.Common.{All-cons, none-some, same_action}
 use Rattle.console_core.proofs.Common.{same_action-true, MapValue, Action, Modifier, Lock, Caps, Num, Scroll, Alt, Cell}
 use Rattle.console_core.proofs.Common.{Char, Act, Event, Press, Release, Reset, Move, Hold, Turn, LetGo, Exchange}
-use Rattle.console_core.proofs.Common.{Sight, Explored, between, resolved, pressed, HasKey}
+use Rattle.console_core.proofs.Common.{Sight, Explored, between, resolved, HasKey}
 use Rattle.console_core.proofs.Common.{accent_pending_after, is_locked_after, HasKeys, HasNoLoads, ResolvedEvent, held}
 use Rattle.console_core.proofs.Common.{remembered, resolve_press, taken_over, PressedAction, ReleasedKey}
 use Rattle.console_core.proofs.Common.{Under, alone, State, start, Holds, IsFree, IsIdle, look_in, IsMove, moved}
 use Rattle.console_core.proofs.Common.{IsPath, state_after, IsPathFrom, state_from, events_of_move, events_along}
-use Rattle.console_core.proofs.Common.{with_holder, with_lock_turned, Visits, NoTurnIsOneWay, IsHome, IsPendingFor}
-use Rattle.console_core.proofs.Common.{IsReachable, SeesAlong, SeesBy, selection_of, ComesHome, map_of_explored}
+use Rattle.console_core.proofs.Common.{with_holder, with_lock_turned, Visits, IsHome, IsPendingFor}
+use Rattle.console_core.proofs.Common.{IsReachable, SeesAlong, SeesBy, look_selected, selection_of, slot_of, ComesHome}
+use Rattle.console_core.proofs.Common.{map_of_explored}
 use Rattle.console_core.proofs.Common.{origin_in, IsExplored, HasTap, IsTapAt, dead_tap, HasRoute, LeadsHome, freed}
 use Rattle.console_core.proofs.Common.{state_of, Entry, IsTrail, IsReached, IsWhole, IsAfter, IsRepeated, IsSteady}
 use Rattle.console_core.proofs.Common.{IsAt, Leads, LeadsOn, LeadsComposing, IsDeadFor, IsAim, ShowsNot, locks_in}
 use Rattle.console_core.proofs.Common.{Exact, HoldsSome, Stands, but_scroll, unscrolled, rules}
 use Rattle.console_core.specs.declared.explored.KeyAt.{KeyAt}
 use Rattle.console_core.specs.declared.explorer.Aim.{Aim}
-use Rattle.console_core.specs.Visiting.{HasLocks, AreTaken}
+use Rattle.console_core.specs.Returning.{IsTurned}
+use Rattle.console_core.specs.Visiting.{HasLocks, AreTaken, CanVisit}
 use Rattle.console_core.specs.Inner.Exploring.{IsMetAt}
-use Rattle.console_core.specs.Inner.Showing.{IsTurned, LeadsToSee, IsPressAt, IsRest}
+use Rattle.console_core.specs.Inner.Showing.{LeadsToSee, IsPressAt, IsRest}
 use Rattle.console_core.specs.Inner.Standing.{free_after}
 use Rattle.console_core.proofs.Behind.{path-split}
-use Rattle.console_core.proofs.Exploring.{comes-route}
+use Rattle.console_core.proofs.Exploring.{comes-route, path-append}
 use Rattle.console_core.proofs.Going.{going-sees, pending-is, pending-move, tap-pending}
-use Rattle.console_core.proofs.OneMore.{resolved-more, held-action, pending-reset, pressed-press}
-use Rattle.console_core.proofs.Returning.{near-met}
+use Rattle.console_core.proofs.OneMore.{resolved-more, held-action, one_map, pending-reset, pressed-press}
+use Rattle.console_core.proofs.Returning.{near-met, near-is_home}
 use Rattle.console_core.proofs.Scripts.{Reached, reached-more, hold-self, holder-pressed, stands-from, stands-move}
 use Rattle.console_core.proofs.Scripts.{stands-reset, pressed-look, other-remembered}
 use Rattle.console_core.proofs.Staying.{emptied, emptied-kept, emptied-none, follows-again, follows-nothing, kind_of}
@@ -34,7 +36,7 @@ use Rattle.console_core.proofs.Staying.{not_holding, same_mods}
 use Rattle.console_core.proofs.Taps.{exact-action, exact-character, stands-tap, stands-tapped}
 use Rattle.console_core.proofs.Unscrolled.{locks-near, moves-unscrolled, same_moved, same_states, same-scrolled}
 use Rattle.console_core.proofs.Unscrolled.{scroll-moved}
-use Rattle.console_core.proofs.Visits.{home-near, path-first, press-presses, press-turns, press-turns_none}
+use Rattle.console_core.proofs.Visits.{home-near, near-path, path-first, press-presses, press-turns, press-turns_none}
 use Rattle.keymap_core.specs.declared.action.Action.TheVariants as act
 use Rattle.keymap_core.specs.declared.action.Holding.TheVariants as holding
 use Rattle.console_core.specs.declared.explored.Symbol.TheVariants as symbol
@@ -374,7 +376,7 @@ freed-reached m s there =
     (λ t k i here holds. reached-more (alone m) t (LetGo k i) here holds) s there)
 
 -- the state after a press is reached
-after-reached : (m : MapValue) (s : State) (k : ℕ) (t : State) → k < 128 → Reached (alone m) s
+pub after-reached : (m : MapValue) (s : State) (k : ℕ) (t : State) → k < 128 → Reached (alone m) s
     → IsAfter (alone m) s k t → Reached (alone m) t
 after-reached m s k t lt there (inl (l, idle, seen, turned)) = by l turned (lt, idle, seen)
   where
@@ -395,70 +397,179 @@ pub after-rest : (u : Under) (s : State) (k : ℕ) (t : State) → s.is_second �
 after-rest u s k t first off (inl (l, idle, seen, turned)) = search rules
 after-rest u s k t first off (inr (none, is)) = rw is ((λ i. refl), first, off)
 
--- where no turn is one-way, a route begins at each state that is reached, but for the scroll lock
-route-near : (e : Explored) → IsWhole e → NoTurnIsOneWay (map_of_explored e) → (s : State)
-    → Reached (alone (map_of_explored e)) s
+-- a complete exploration met a state near each that is reached
+pub met-near : (e : Explored) → IsWhole e → (s : State) → Reached (alone (map_of_explored e)) s
     → (j : ℕ) × (y : Entry) × (slice_get e.met.entries j ≡ Some y) × (unscrolled (state_of y.0) ≡ unscrolled s)
-    × HasRoute e.routes.entries (state_of y.0)
-route-near e (x, begins, complete) steady s (path, is, leads) =
-    let m : MapValue = map_of_explored e in
-    let u : Under = alone m in
+met-near e (x, begins, complete) s (path, is, leads) =
+    let u : Under = alone (map_of_explored e) in
     let (searched, settled) = x.whole complete in
     let (j, y, at, near) =
-    near-met u e.met.entries searched path (subst (λ o. IsPathFrom u o path) (sym begins) is) in
-    let r : IsReached u (origin_in e) e.met.entries j y = searched.reached j y at in
-    let made : IsPath u r.0 = subst (λ o. IsPathFrom u o r.0) begins r.2 in
-    let there : state_after u r.0 ≡ state_of y.0 = ap (λ o. state_from u o r.0) (sym begins) ∙ r.3 in
-    let (later, all, home) = steady r.0 made in
-    let parts = path-split u start later r.0 all in
-    let back : ComesHome u (state_of y.0) =
-    subst (λ t. ComesHome u t) there (later, parts.1, subst IsHome parts.2 home) in (
+    near-met u e.met.entries searched path (subst (λ o. IsPathFrom u o path) (sym begins) is) in (
       j,
       y,
       at,
       near ∙ ap (λ o. unscrolled (state_from u o path)) begins ∙ ap (λ z. unscrolled z) leads,
-      comes-route m e.met.entries e.routes.entries searched settled j y at back,
     )
 
--- a sight that no press shows can't be seen there
+-- what was met is reached
+pub met-reached : (e : Explored) → IsWhole e → (j : ℕ) (y : Entry) → slice_get e.met.entries j ≡ Some y
+    → Reached (alone (map_of_explored e)) (state_of y.0)
+met-reached e whole j y at =
+    let u : Under = alone (map_of_explored e) in
+    let r : IsReached u (origin_in e) e.met.entries j y = whole.0.searched.reached j y at in (
+      r.0,
+      subst (λ o. IsPathFrom u o r.0) whole.1 r.2,
+      ap (λ o. state_from u o r.0) (sym whole.1) ∙ r.3,
+    )
+
+-- moves lead home alike from states that differ in the scroll lock alone
+pub home-alike : (u : Under) (s t : State) → unscrolled t ≡ unscrolled s → ComesHome u s → ComesHome u t
+home-alike u s t near (later, is, home) =
+    let ends = near-path u s t later near is in
+    (later, ends.0, near-is_home (state_from u s later) (state_from u t later) ends.1 home)
+
+-- a route begins at a state that was met, if moves lead home from one near it
+pub route-near : (e : Explored) → IsWhole e → (j : ℕ) (y : Entry) → slice_get e.met.entries j ≡ Some y → (s : State)
+    → unscrolled (state_of y.0) ≡ unscrolled s → ComesHome (alone (map_of_explored e)) s
+    → HasRoute e.routes.entries (state_of y.0)
+route-near e (x, begins, complete) j y at s near home =
+    let (searched, settled) = x.whole complete in
+    comes-route (map_of_explored e) e.met.entries e.routes.entries searched settled j y at
+    (home-alike (alone (map_of_explored e)) s (state_of y.0) near home)
+
+-- and at one that is reached, where the scroll lock is off
+pub route-reached : (e : Explored) → IsWhole e → (s : State) → Reached (alone (map_of_explored e)) s
+    → s.is_locked Scroll ≡ false → ComesHome (alone (map_of_explored e)) s → HasRoute e.routes.entries s
+route-reached e whole s there off home =
+    let (j, y, at, near) = met-near e whole s there in
+    let r = whole.0.searched.reached j y at in
+    subst (λ t. HasRoute e.routes.entries t) (same-scrolled (state_of y.0) s near (r.5 ∙ sym off))
+    (route-near e whole j y at s near home)
+
+-- one slot is that of one key
+slot-key : (upper : Bool) (k n : ℕ) → slot_of k upper ≡ slot_of n upper → k ≡ n
+slot-key true k n e = omega (arith, e)
+slot-key false k n e = e
+
+-- a press leads alike from states that differ in the scroll lock alone
+after-alike : (m : MapValue) (s t : State) (k : ℕ) (after : State) → unscrolled t ≡ unscrolled s
+    → IsAfter (alone m) t k after → (before : State) → IsAfter (alone m) s k before → unscrolled after ≡ unscrolled before
+after-alike m s t k after near (inl (l, idle, seen, turned)) before (inl (j, still, looked, was)) =
+    let f : Act (act.Lock l) ≡ Act (act.Lock j) = sym seen ∙ ap (λ w. look_in (alone m) w k) near ∙ looked in
+    let e : l ≡ j = cc in
+    sym (turned-near m t t after l refl turned) ∙ ap (λ i. unscrolled (freed (with_lock_turned t i))) e
+    ∙ turned-near m s t before j near was
+after-alike m s t k after near (inl (l, idle, seen, turned)) before (inr (none, was)) =
+    absurd (none l (λ i. subst (λ w. w.holder i ≡ Some k → ⊥) near (idle i))
+    (sym (ap (λ w. look_in (alone m) w k) near) ∙ seen))
+after-alike m s t k after near (inr (none, is)) before (inl (j, still, looked, was)) =
+    absurd (none j (λ i. subst (λ w. w.holder i ≡ Some k → ⊥) (sym near) (still i))
+    (ap (λ w. look_in (alone m) w k) near ∙ looked))
+after-alike m s t k after near (inr (none, is)) before (inr (other, was)) =
+    ap (λ w. unscrolled w) is ∙ ap (λ w. freed w) near ∙ sym (ap (λ w. unscrolled w) was)
+
+-- a press that looks up a character turns no lock
+char-after : (m : MapValue) (s : State) (k c : ℕ) (after : State) → look_selected m (selection_of s) k ≡ Char c
+    → IsAfter (alone m) s k after → after ≡ freed s
+char-after m s k c after e (inl (l, idle, seen, turned)) =
+    let look : look_in (alone m) s k ≡ look_selected m (selection_of s) k =
+    ap (λ n. look_selected n (selection_of s) k) (one_map m s.is_second) in
+    let f : Act (act.Lock l) ≡ Char c = sym seen ∙ look ∙ e in
+    cc
+char-after m s k c after e (inr (none, is)) = is
+
+-- Presses that see one sight in states that differ in the scroll lock alone lead alike: of a cell or a lock setting only
+-- one key can see it, and a key that sees a pair looks up a character.
+sees-alike : (m : MapValue) (x : Sight) (s t : State) (k n : ℕ) (after : State) → unscrolled t ≡ unscrolled s
+    → SeesBy m (selection_of s) k x → SeesBy m (selection_of t) n x → IsAfter (alone m) t n after
+    → (before : State) → IsAfter (alone m) s k before → unscrolled after ≡ unscrolled before
+sees-alike m x s t k n after near sees seen is before was = by x sees seen
+  where
+    u : Under
+    u = alone m
+
+    here : SeesBy m (selection_of t) n x → SeesBy m (selection_of s) n x
+    here = subst (λ z. SeesBy m z n x) (ap (λ w. selection_of w) near)
+
+    of_key : k ≡ n → unscrolled after ≡ unscrolled before
+    of_key same = after-alike m s t k after near (subst (λ j. IsAfter u t j after) (sym same) is) before was
+
+    by : (y : Sight) → SeesBy m (selection_of s) k y → SeesBy m (selection_of t) n y
+        → unscrolled after ≡ unscrolled before
+    by (sight.Cell slot column) a b =
+        of_key (slot-key (selection_of s).upper k n (a.0 ∙ sym b.0 ∙ ap (λ w. slot_of n (selection_of w).upper) near))
+    by (sight.Locks slot caps num) a b =
+        of_key (slot-key (selection_of s).upper k n (a.0 ∙ sym b.0 ∙ ap (λ w. slot_of n (selection_of w).upper) near))
+    by (sight.Pair accent c) a b =
+        ap (λ w. unscrolled w) (char-after m t n c after b is)
+        ∙ ap (λ w. freed w) near
+        ∙ sym (ap (λ w. unscrolled w) (char-after m s k c before a was))
+
+-- moves let go of all holders
+abbrev LetsAllGo : Under → State → State → Type 0
+LetsAllGo u s t = (path : List Move) × IsPathFrom u s path × (state_from u s path ≡ t)
+
+lets-go : (m : MapValue) (s : State) → LetsAllGo (alone m) s (freed s)
+lets-go m s =
+    rw (freed-emptied s) (emptied-kept (λ t. LetsAllGo (alone m) s t)
+    (λ t k i (path, is, leads) holds. (
+      LetGo k i ∷ path,
+      (subst (λ w. w.holder i ≡ Some k) (sym leads) holds, is),
+      ap (λ w. with_holder w i None) leads,
+    )) s ([], tt, refl))
+
+-- moves lead home from where a path leads from that leads to where moves lead home from
+comes-through : (u : Under) (s : State) (path : List Move) → IsPathFrom u s path → ComesHome u (state_from u s path)
+    → ComesHome u s
+comes-through u s path made (later, is, home) =
+    let all = path-append u s path later made is in
+    (later ++ path, all.0, subst IsHome (sym all.1) home)
+
+-- a sight that no press shows can't be visited
 pub shows-not : (e : Explored) → IsWhole e → (x : Sight)
     → ((j : ℕ) (y : Entry) → slice_get e.met.entries j ≡ Some y → ShowsNot e x y)
-    → NoTurnIsOneWay (map_of_explored e) → IsReachable (map_of_explored e) x → ⊥
-shows-not e whole x none steady (path, is, can, (k, lt, sees)) =
+    → CanVisit (map_of_explored e) x → ⊥
+shows-not e whole x none (path, is, can, (k, lt, sees, (before, was, home))) =
     let m : MapValue = map_of_explored e in
-    let (j, y, at, near, route) = route-near e whole steady (state_after (alone m) path) (path, is, refl) in
+    let u : Under = alone m in
+    let s : State = state_after u path in
+    let (j, y, at, near) = met-near e whole s (path, is, refl) in
     elim (none j y at) [
       | inl unseen ↦ unseen k lt (subst (λ z. SeesBy m z k x) (sym (ap (λ t. selection_of t) near)) sees)
-      | inr (n, t, key, after, astray) ↦
+      | inr (n, t, key, seen, after, astray) ↦
+          let first = met-first e whole.0 j y at in
           let r = whole.0.searched.reached j y at in
-          let here : Reached (alone m) (state_of y.0) = (
-            r.0,
-            subst (λ o. IsPathFrom (alone m) o r.0) whole.1 r.2,
-            ap (λ o. state_from (alone m) o r.0) (sym whole.1) ∙ r.3,
-          ) in
-          let rest = after-rest (alone m) (state_of y.0) n t (met-first e whole.0 j y at) r.5 after in
-          let (i, z, there, same, has) =
-          route-near e whole steady t (after-reached m (state_of y.0) n t key here after) in
-          let q = whole.0.searched.reached i z there in
-          astray (subst (λ w. HasRoute e.routes.entries w) (same-scrolled (state_of z.0) t same (q.5 ∙ sym rest.2)) has)
+          let rest = after-rest u (state_of y.0) n t first r.5 after in
+          let there = after-reached m (state_of y.0) n t key (met-reached e whole j y at) after in
+          let alike =
+          sees-alike m x s (state_of y.0) k n t near sees seen after before was in
+          astray (route-reached e whole t there rest.2 (home-alike u before t alike home))
     ]
 
 -- nor a pair whose dead key can't be tapped
 pub dead-not : (e : Explored) → IsWhole e → (accent c : ℕ) → (HasTap e (dead_tap accent) → ⊥)
-    → NoTurnIsOneWay (map_of_explored e) → IsReachable (map_of_explored e) (sight.Pair accent c) → ⊥
-dead-not e whole accent c none steady (path, is, (later, before, at, (can, (k, lt, (idle, seen)))), sees) =
+    → CanVisit (map_of_explored e) (sight.Pair accent c) → ⊥
+dead-not e whole accent c none
+    (path, is, (later, before, at, (can, (k, lt, (idle, seen)))), (n, key, sees, (after, was, home))) =
     let m : MapValue = map_of_explored e in
     let u : Under = alone m in
     let s : State = state_after u before in
-    let first : IsPath u before = (path-split u start later before (subst (λ p. IsPath u p) at is)).0 in
-    let (j, y, there, near, route) = route-near e whole steady s (before, first, refl) in
+    let parts = path-split u start later before (subst (λ p. IsPath u p) at is) in
+    let (j, y, there, near) = met-near e whole s (before, parts.0, refl) in
+    let end : State = state_after u path in
+    let go = lets-go m end in
+    let let_go : ComesHome u (state_from u end go.0) =
+    subst (λ t. ComesHome u t) (char-after m end n c after sees was ∙ sym go.2) home in
+    let leads : end ≡ state_from u s later = ap (λ p. state_after u p) at ∙ parts.2 in
+    let back : ComesHome u s =
+    comes-through u s later parts.1 (subst (λ t. ComesHome u t) leads (comes-through u end go.0 go.1 let_go)) in
     none (
       j,
       k,
       (
         y,
         there,
-        route,
+        route-near e whole j y there s near back,
         (
           lt,
           subst (λ z. IsIdle z k) (sym near) idle,
@@ -472,7 +583,7 @@ dead-not e whole accent c none steady (path, is, (later, before, at, (can, (k, l
 pub found-aim : (e : Explored) → IsWhole e → (x : Sight) (d : Option KeyAt) → IsDeadFor e x d → (o : Option Aim)
     → MatchOption o ((j : ℕ) (y : Entry) → slice_get e.met.entries j ≡ Some y → ShowsNot e x y)
     (λ a. IsPressAt e x a.at (state_of a.next) × (a.sight ≡ x) × (a.dead ≡ d))
-    → MatchOption o (NoTurnIsOneWay (map_of_explored e) → IsReachable (map_of_explored e) x → ⊥)
+    → MatchOption o (CanVisit (map_of_explored e) x → ⊥)
     (λ a. IsAim e a × (a.sight ≡ x))
 found-aim e whole x d dead None none = shows-not e whole x none
 found-aim e whole x d dead (Some a) (press, is, behind) = (
@@ -492,7 +603,7 @@ pub aims-at : (e : Explored) → IsWhole e → (x : Sight) → ((accent c : ℕ)
     → (o : Option Aim)
     → MatchOption o ((j : ℕ) (y : Entry) → slice_get e.met.entries j ≡ Some y → ShowsNot e x y)
     (λ a. IsPressAt e x a.at (state_of a.next) × (a.sight ≡ x) × (a.dead ≡ None))
-    → MatchOption o (NoTurnIsOneWay (map_of_explored e) → IsReachable (map_of_explored e) x → ⊥)
+    → MatchOption o (CanVisit (map_of_explored e) x → ⊥)
     (λ a. IsAim e a × (a.sight ≡ x))
 aims-at e whole x other o found = found-aim e whole x None (no-dead e x other) o found
 

@@ -19,14 +19,14 @@ pub use Rattle.console_core.specs.Inner.Adding.{Adds, AddsOffer, AddsOffers, Are
 pub use Rattle.console_core.specs.Inner.Adding.{AreSeedsTo, AreSelectionsOf, IsBehind, IsInSome, IsOfferedUnlocked}
 pub use Rattle.console_core.specs.Inner.Adding.{IsWith}
 pub use Rattle.console_core.specs.Inner.Routes.{AllLeadHome, AreSettled, HasEntry, HasRoute, IsAstray, IsMet, LeadsHome}
-pub use Rattle.console_core.specs.Inner.Routes.{NoPressLeads, Routes, freed}
+pub use Rattle.console_core.specs.Inner.Routes.{NoPressLeads, Routes}
 pub use Rattle.console_core.specs.Inner.Searching.{AreAdded, AreDone, AreInOrder, AreMet, AreSafe, AreWithin, Entries}
 pub use Rattle.console_core.specs.Inner.Searching.{Entry, Grows, HasEnded, HasMovingKeys, IsFrom, IsMetBy, IsReached}
 pub use Rattle.console_core.specs.Inner.Searching.{IsStep, IsStuck, IsTrail, IsUnmoving, LeavesScroll, PressesLead}
 pub use Rattle.console_core.specs.Inner.Searching.{Searched, StepsTo, origin_of, state_of, under_of}
-pub use Rattle.console_core.specs.Inner.Showing.{IsAfter, IsAim, IsAt, IsDeadFor, IsRepeated, IsSteady, IsWhole, Leads}
+pub use Rattle.console_core.specs.Inner.Showing.{IsAim, IsAt, IsDeadFor, IsRepeated, IsSteady, IsWhole, Leads}
 pub use Rattle.console_core.specs.Inner.Showing.{LeadsComposing, LeadsOn, ShowsNot, locks_in}
-pub use Rattle.console_core.specs.Inner.Standing.{Exact, Follows, HoldsSome, Stands, but_scroll, unscrolled}
+pub use Rattle.console_core.specs.Inner.Standing.{Exact, Follows, HoldsSome, Stands}
 pub use Rattle.console_core.specs.Loads.{as_reset, loads_as_resets}
 pub use Rattle.console_core.specs.Moves.{HolderForgets, Holds, IsForgetful, IsFree, IsIdle, IsMove, IsPath, IsPathFrom}
 pub use Rattle.console_core.specs.Moves.{State, Under, alone, events_along, events_of_move, exchanged, is_held, look_in}
@@ -46,7 +46,7 @@ unfoldable pub use Rattle.console_core.specs.Resolved.{dead_keys_taken, held, lo
 unfoldable pub use Rattle.console_core.specs.Resolved.{remembered}
 pub use Rattle.console_core.specs.Resolved.ResolvedEvent.{PressedAction, PressedCharacter, ReleasedKey, WasLoaded}
 pub use Rattle.console_core.specs.Resolved.ResolvedEvent.{WasReset}
-pub use Rattle.console_core.specs.Returning.{IsHome, NoTurnIsOneWay}
+pub use Rattle.console_core.specs.Returning.{IsAfter, IsHome, NoTurnIsOneWay, but_scroll, freed, unscrolled}
 pub use Rattle.console_core.specs.Sights.{AreSightsOf, HasNoDoubles, IsAdmitted, IsClean, IsOfferedIn, IsPendingFor}
 pub use Rattle.console_core.specs.Sights.{IsReachable, Offers, SeesAlong, SeesBy, SeesNext, can_see, is_composed}
 pub use Rattle.console_core.specs.Sights.{is_selected, look_selected, selection_of}

@@ -25,7 +25,7 @@ has-leads u [] s all has = absurd has
 has-leads u (x ∷ routes) s all (inl is) = (x.1.moves.items, subst (λ t. LeadsHome u t x.1.moves.items) is all.0)
 has-leads u (x ∷ routes) s all (inr later) = has-leads u routes s all.1 later
 
-has-home : (u : Under) (routes : Routes) (s : State) → AllLeadHome u routes → HasRoute routes s → ComesHome u s
+pub has-home : (u : Under) (routes : Routes) (s : State) → AllLeadHome u routes → HasRoute routes s → ComesHome u s
 has-home u routes s all has = let (moves, home) = has-leads u routes s all has in (reverse moves, home.0, home.1)
 
 -- home is the start, where the scroll lock is off

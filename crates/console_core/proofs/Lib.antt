@@ -50,5 +50,6 @@ pub mod Twice
 pub mod Typings
 pub mod Unscrolled
 pub mod Visible
+pub mod Visitable
 pub mod Visits
 pub mod WordBits

@@ -1,16 +1,17 @@
 -- What the search for sticking modifiers goes over: the states, and the moves between them. It mirrors
 -- src/held/moves.rt, and stands outside of Inner since the answer `Undecided` is said by states and paths.
 use Rattle.std.specs.Prelude.{◌≡◌, ℕ, ◌+◌, ◌<◌, Bool, false, true, ◌&&◌, not, List, [], ◌∷◌, ◌++◌, Option, None, Some}
-use Rattle.std.specs.Prelude.{if◌then◌else◌}
+use Rattle.std.specs.Prelude.{if◌then◌else◌, slice_index_or}
 use Rattle.std.specs.Option.{is_some}
 use Rattle.console_core.specs.Types.{Modifier, Lock, Cell, Char, Act, Event, Press, Release, Load, Move, Hold, Turn}
 use Rattle.console_core.specs.Types.{LetGo, Exchange}
 use Rattle.keymap_core.specs.declared.action.Action.TheVariants as act
 use Rattle.keymap_core.specs.declared.action.Holding.TheVariants as holding
-use Rattle.keymap_core.specs.Actions.{same_modifier, same_lock, modifiers}
+use Rattle.keymap_core.specs.Actions.{same_modifier, same_lock, modifiers, modifier_index, lock_index}
 use Rattle.keymap_core.specs.Borne.{is_borne}
 use Rattle.keymap_core.specs.Maps.{MapValue}
 use Rattle.keymap_core.specs.Numbers.{key_count}
+use Rattle.console_core.specs.declared.held.Held.{Held}
 use Rattle.console_core.specs.Columns.{look_with}
 use Rattle.console_core.specs.History.{Maps, between}
 
@@ -33,6 +34,14 @@ pub record State : Type 0 where
   pub holder : Modifier → Option ℕ
   pub is_locked : Lock → Bool
   pub is_second : Bool
+
+-- the state that the tables are
+abbrev pub state_of : Held → State
+state_of x = record {
+  holder = λ i. slice_index_or x.holders (modifier_index i) None;
+  is_locked = λ l. slice_index_or x.locks (lock_index l) false;
+  is_second = x.is_second;
+}
 
 -- nothing is held, no lock is on, and the first map is in force
 abbrev pub start : State

@@ -1,18 +1,21 @@
 //! Makes visits that show what presses can see: each leads from home to a state in which a press sees
 //! something, and to where a route leads home again.
-ghost use Rattle.std.specs.Prelude.{◌≡◌, ◌<◌, [], ℕ, false, true, None, Some, length, reverse, slice_get};
-ghost use Rattle.std.specs.Prelude.{OnOk, IfOk, MatchOption};
+ghost use Rattle.std.specs.Prelude.{◌≡◌, ◌≢◌, ◌<◌, [], ℕ, false, true, None, Some, length, reverse, slice_get};
+ghost use Rattle.std.specs.Prelude.{OnOk, IfOk, IfSome, MatchOption};
 ghost use Rattle.keymap_core.specs.Maps.{MapValue};
 ghost use Rattle.keymap_core.specs.Numbers.{key_count};
-ghost use Rattle.console_core.specs.Moves.{alone, start};
-ghost use Rattle.console_core.specs.Visiting.{HasLocks, Visits};
-ghost use Rattle.console_core.specs.Returning.{NoTurnIsOneWay};
-ghost use Rattle.console_core.specs.Sights.{IsReachable};
+ghost use Rattle.console_core.specs.declared.held.Held.{Held as HeldValue};
+ghost use Rattle.console_core.specs.Moves.{alone, start, free_with, state_of, with_lock_turned};
+ghost use Rattle.console_core.specs.Returning.{IsAfter, but_scroll};
+ghost use Rattle.console_core.specs.Types.{Scroll};
+ghost use Rattle.console_core.specs.Typing.{ComesHome};
+ghost use Rattle.console_core.specs.Visiting.{AreStatesOf, CanReach, CanVisit, HasLocks, IsPressTold, IsWayHome};
+ghost use Rattle.console_core.specs.Visiting.{LeadsBy, Visits};
 ghost use Rattle.console_core.specs.Sticking.{ReachesMoreThan, state_limit};
 ghost use Rattle.console_core.specs.Inner.Exploring.{map_of_explored, origin_in, IsExplored, IsMetAt, IsTapAt};
 ghost use Rattle.console_core.specs.Inner.Exploring.{dead_tap};
-ghost use Rattle.console_core.specs.Inner.Searching.{state_of, under_of, Entry};
-ghost use Rattle.console_core.specs.Inner.Showing.{IsAfter, IsAim, IsPressAt, IsRest, IsWhole, Leads, LeadsComposing};
+ghost use Rattle.console_core.specs.Inner.Searching.{under_of, Entry};
+ghost use Rattle.console_core.specs.Inner.Showing.{IsAim, IsPressAt, IsRest, IsWhole, Leads, LeadsComposing};
 ghost use Rattle.console_core.specs.Inner.Showing.{LeadsToSee, ShowsNot, locks_in};
 
 use crate::event::Event;
@@ -54,13 +57,14 @@ pub struct Explorer<'m> {
 
 impl<'m> Model for Explorer<'m> {
     ghost use Rattle.console_core.specs.Visiting.{ExplorerValue};
-    ghost use Rattle.console_core.specs.Inner.Searching.{state_of};
-    ghost use Rattle.console_core.specs.Inner.Showing.{IsExplorer, locks_in, sight_aimed};
+    ghost use Rattle.console_core.specs.Moves.{state_of};
+    ghost use Rattle.console_core.specs.Inner.Showing.{IsExplorer, locks_in, sight_aimed, states_in};
 
     ghost Value = { ExplorerValue };
 
     ghost view = { λ p. record {
       map = p.explored.maps.first.now;
+      states = states_in p.explored.met.entries;
       locks = locks_in (state_of p.from);
       aim = sight_aimed p.aim;
     } };
@@ -174,8 +178,8 @@ impl<'m> Explored<'m> {
     /// How to see it.
     fn aim_at(&self, sight: Sight) -> Option<Aim>
         requires { IsWhole self.now }
-        ensures { MatchOption result (NoTurnIsOneWay (map_of_explored self.now)
-            → IsReachable (map_of_explored self.now) sight → ⊥) (λ a. IsAim self.now a × (a.sight ≡ sight)) }
+        ensures { MatchOption result (CanVisit (map_of_explored self.now) sight → ⊥)
+            (λ a. IsAim self.now a × (a.sight ≡ sight)) }
     {
         match sight {
             Sight::Pair { accent, .. } => {
@@ -252,6 +256,18 @@ impl<'m> Explored<'m> {
         }
     }
 
+    /// What picks the cells where the press is made that sees what is aimed at, and its key, if no dead key comes
+    /// before.
+    fn press_told(&self, aim: &Aim) -> Option<(Selection, KeyCode)>
+        requires { IsAim self.now aim.now }
+        ensures { IsPressTold (map_of_explored self.now) (Some aim.now.sight) result }
+    {
+        match aim.dead {
+            Some(_) => None,
+            None => Some((state_at(&self.met, aim.at.place).selection(), aim.at.key)),
+        }
+    }
+
     /// A reset, and the events home from the state and on to the press that sees what is aimed at.
     fn events_of(
         &self,
@@ -278,8 +294,9 @@ impl<'m> Explored<'m> {
 impl<'m> Explorer<'m> {
     /// An explorer for a console that is new, or nothing where there are more than 65,536 states.
     pub fn new(alloc: Global, map: &'m KeyMap) -> Result<Option<Explorer<'m>>, AllocError>
-        ensures { IfOk result (λ x. MatchOption x ((p : ℕ) × ReachesMoreThan (alone map.now) state_limit p)
+        ensures explorer { IfOk result (λ x. MatchOption x ((p : ℕ) × ReachesMoreThan (alone map.now) state_limit p)
             (λ p. (p.map ≡ map.now) × HasLocks map.now p.locks [])) }
+        ensures states { IfOk result (λ x. IfSome x (λ p. AreStatesOf map.now p.states)) }
     {
         let explored = explore(alloc, map, &Held::start())?;
         if explored.is_complete {
@@ -293,11 +310,13 @@ impl<'m> Explorer<'m> {
         }
     }
 
-    /// Aims at it, unless it can't be seen, or nothing leads home from there.
+    /// Aims at it, unless it can't be visited.
     pub fn aim_at(&mut self, sight: Sight) -> bool
         ensures kept { (self.new.map ≡ self.old.map) × (self.new.locks ≡ self.old.locks) }
+        ensures states { self.new.states ≡ self.old.states }
         ensures found { result ≡ true → self.new.aim ≡ Some sight }
-        ensures never { result ≡ false → NoTurnIsOneWay self.old.map → IsReachable self.old.map sight → ⊥ }
+        ensures never { result ≡ false → CanVisit self.old.map sight → ⊥ }
+        ensures none { result ≡ false → self.new.aim ≡ None }
     {
         let _map: &KeyMap = self.explored.maps.first;
         match self.explored.aim_at(sight) {
@@ -314,19 +333,20 @@ impl<'m> Explorer<'m> {
 
     /// What picks the cells where the next visit leads, and the key that is pressed there, if others may be tapped
     /// before.
-    pub fn next_press(&self) -> Option<(Selection, KeyCode)> {
-        match &self.aim {
-            Some(Aim { at, dead: None, .. }) => {
-                let selection = state_at(&self.explored.met, at.place).selection();
-                Some((selection, at.key))
-            }
-            _ => None,
+    pub fn next_press(&self) -> Option<(Selection, KeyCode)>
+        ensures { IsPressTold self.now.map self.now.aim result }
+    {
+        match self.aim {
+            Some(aim) => self.explored.press_told(&aim),
+            None => None,
         }
     }
 
     /// The events of a visit. The keys are tapped there that leave the state; not where it is behind a dead key.
     pub fn visit(&mut self, alloc: Global, keys: &[KeyCode]) -> Result<Vec<Event>, AllocError>
-        ensures kept { OnOk result (self.new.map ≡ self.old.map) }
+        ensures kept { self.new.map ≡ self.old.map }
+        ensures states { self.new.states ≡ self.old.states }
+        ensures done { OnOk result (self.new.aim ≡ None) }
         ensures visits { IfOk result (λ events. Visits self.old.map self.old.locks self.new.locks self.old.aim
             (reverse events.items)) }
     {
@@ -346,45 +366,70 @@ impl<'m> Explorer<'m> {
 /// The states and ways between them, for who presses keys in them for other reasons.
 impl<'m> Explorer<'m> {
     /// How many states there are.
-    pub fn len(&self) -> usize {
+    pub fn len(&self) -> usize
+        ensures { result ≡ length self.now.states }
+    {
         self.explored.met.len()
     }
 
-    /// The state at the place, if a route home begins there.
-    pub fn state(&self, place: usize) -> Option<Reached> {
-        if place < self.explored.met.len() {
-            let held = state_at(&self.explored.met, place);
-            if has_route(&self.explored.routes, &held) {
-                return Some(Reached { held });
-            }
+    /// The state at the place, if moves lead home from there.
+    pub fn state(&self, place: usize) -> Option<Reached>
+        ensures { MatchOption result ((x : HeldValue) → slice_get self.now.states place ≡ Some x
+            → ComesHome (alone self.now.map) (state_of x) → ⊥) (λ r. (slice_get self.now.states place ≡ Some r.held)
+            × ComesHome (alone self.now.map) (state_of r.held)) }
+    {
+        if place >= self.explored.met.len() {
+            return None;
         }
-        None
+        let held = state_at(&self.explored.met, place);
+        if has_route(&self.explored.routes, &held) {
+            Some(Reached { held })
+        } else {
+            None
+        }
     }
 
-    /// Whether a route home begins where a turn of the lock leads from home. The scroll lock may stay on.
-    pub fn takes_back(&self, lock: Lock) -> bool {
-        lock == Lock::Scroll || has_route(&self.explored.routes, &Held::start().with_turned(lock))
+    /// Whether moves lead home from where that lock alone is on. The scroll lock may stay on.
+    pub fn takes_back(&self, lock: Lock) -> bool
+        ensures back { result ≡ true → lock ≢ Scroll → ComesHome (alone self.now.map) (with_lock_turned start lock) }
+        ensures one_way { result ≡ false → (lock ≢ Scroll) × (CanReach self.now.map (with_lock_turned start lock)
+            → ComesHome (alone self.now.map) (with_lock_turned start lock) → ⊥) }
+    {
+        match lock {
+            Lock::Scroll => true,
+            _ => has_route(&self.explored.routes, &Held::start().with_turned(lock)),
+        }
     }
 
     /// The events from home to the place, if there is a state.
-    pub fn events_to(&self, alloc: Global, place: usize) -> Result<Vec<Event>, AllocError> {
+    pub fn events_to(&self, alloc: Global, place: usize) -> Result<Vec<Event>, AllocError>
+        ensures leads { IfOk result (λ events. (x : HeldValue) → slice_get self.now.states place ≡ Some x
+            → LeadsBy self.now.map start (state_of x) (reverse events.items)) }
+        ensures none { IfOk result (λ events. slice_get self.now.states place ≡ None → events.items ≡ []) }
+    {
         let mut events = Vec::new(alloc);
-        if place < self.explored.met.len() {
-            go_out(&mut events, alloc, &self.explored.met, place)?;
+        if place >= self.explored.met.len() {
+            return Ok(events);
         }
+        go_out(&mut events, alloc, &self.explored.met, place)?;
         Ok(events)
     }
 
-    /// Adds the events home from where the console stands while no key holds a modifier, if a route begins there.
-    pub fn push_home<T: Translator>(
+    /// The events home from where the console stands while no key holds a modifier, if moves lead there and home.
+    pub fn events_home<T: Translator>(
         &self,
-        events: &mut Vec<Event>,
+        alloc: Global,
         console: &T,
-    ) -> Result<(), AllocError> {
+    ) -> Result<Vec<Event>, AllocError>
+        ensures { IfOk result (λ events. IsWayHome self.now.map (free_with (but_scroll (T.shows_locked console.now)))
+            (reverse events.items)) }
+    {
+        let mut events = Vec::new(alloc);
         let held = Held::free(console);
-        if has_route(&self.explored.routes, &held) {
-            come_home(events, &self.explored.routes, &held)?;
+        if !has_route(&self.explored.routes, &held) {
+            return Ok(events);
         }
-        Ok(())
+        come_home(&mut events, &self.explored.routes, &held)?;
+        Ok(events)
     }
 }

@@ -16,6 +16,7 @@ ghost use Rattle.console_core.specs.Sticking.{AnswersAlikeOfOneKeymap};
 ghost use Rattle.console_core.specs.Sights.{LooksAreSelected, SightsAreReachable, ReachableIsSeen};
 ghost use Rattle.console_core.specs.Traps.{OnOnlyWhilePressedWithoutTraps};
 ghost use Rattle.console_core.specs.Typing.{TypedCanBeTyped};
+ghost use Rattle.console_core.specs.Visiting.{SeenCanBeVisited};
 
 /// In a safe map a modifier is on only while a key that bears it is pressed; in any map one that a key alone bears
 /// throughout is on exactly while that key is pressed.
@@ -146,6 +147,11 @@ pub fn sights_are_reachable()
     ensures selected { LooksAreSelected }
     ensures reachable { SightsAreReachable }
     ensures seen { ReachableIsSeen }
+{}
+
+/// What can be visited can be seen. Where no turn of a lock is one-way, all that can be seen can be visited.
+pub fn what_is_seen_can_be_visited()
+    ensures { SeenCanBeVisited }
 {}
 
 /// What an admitted list of presses, repeats, releases and resets types that leaves a new console as a new one, moves

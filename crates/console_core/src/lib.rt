@@ -14,14 +14,14 @@
 //!
 //! `sticking` decides by a search whether a keymap can leave a modifier on while no key is pressed, `sticking_between`
 //! whether two that loads exchange can. `sights_of` finds by the same search what presses can look up, and behind which
-//! accents, and an `Explorer` the events of visits that show it, in keymaps where no turn of a lock is one-way. All of
-//! them may give up where more than 65,536 states can be reached.
+//! accents, and an `Explorer` the events of visits that show it, where moves lead back. All of them may give up where
+//! more than 65,536 states can be reached.
 //!
 //! `type_characters` makes the events that type characters, in whatever layout a lock selects them, or names the first
 //! character that no keys can type.
 //!
-//! No call takes memory but `replay`, `sticking`, `sticking_between`, `sights_of`, those of an `Explorer`, `find_onward`,
-//! `Reached::push_releases` and `type_characters`. These fail for want of memory, `type_characters` besides where a
+//! No call takes memory but `replay`, `sticking`, `sticking_between`, `sights_of`, `find_onward`, `Reached::releases`,
+//! those of an `Explorer` and `type_characters`. These fail for want of memory, `type_characters` besides where a
 //! character can't be typed or more than 65,536 states can be reached, and no other call fails.
 #![tactic(auto)]
 

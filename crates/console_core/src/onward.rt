@@ -1,5 +1,15 @@
 //! Presses that no moves lead back from.
-ghost use Rattle.std.specs.Prelude.{◌<◌, length, IfSome};
+ghost use Rattle.std.specs.Prelude.{◌≡◌, ◌<◌, ◌++◌, ℕ, false, true, length, slice_get, Some, IfOk, MatchOption};
+ghost use Rattle.std.specs.List.{Contains};
+ghost use Rattle.keymap_core.specs.Actions.{modifiers};
+ghost use Rattle.keymap_core.specs.Numbers.{key_count};
+ghost use Rattle.console_core.specs.Types.{Sight as SightValue};
+ghost use Rattle.console_core.specs.Moves.{IsIdle, free_with, releases, state_of};
+ghost use Rattle.console_core.specs.Returning.{but_scroll};
+ghost use Rattle.console_core.specs.Sights.{SeesBy, selection_of};
+ghost use Rattle.console_core.specs.Visiting.{IsOnward};
+ghost use Rattle.console_core.specs.Inner.Exploring.{map_of_explored};
+ghost use Rattle.console_core.specs.Inner.Showing.{IsSeenAt, IsUnseen};
 
 use crate::event::Event;
 use crate::explored::{Explored, KeyAt, explore};
@@ -19,18 +29,27 @@ pub struct Reached {
 
 impl Reached {
     /// What picks the cells that keys look up.
-    pub fn selection(&self) -> Selection {
+    pub fn selection(&self) -> Selection
+        ensures { result ≡ selection_of (state_of self.now.held) }
+    {
         self.held.selection()
     }
 
     /// Whether the key holds a modifier.
-    pub fn holds(&self, key: KeyCode) -> bool {
+    pub fn holds(&self, key: KeyCode) -> bool
+        ensures idle { result ≡ false → IsIdle (state_of self.now.held) key }
+        ensures busy { result ≡ true → IsIdle (state_of self.now.held) key → ⊥ }
+    {
         self.held.holds(key)
     }
 
-    /// Adds the releases of the keys that hold modifiers.
-    pub fn push_releases(&self, events: &mut Vec<Event>) -> Result<(), AllocError> {
-        self.held.push_releases(events)
+    /// The releases of the keys that hold modifiers, in the order of the modifiers.
+    pub fn releases(&self, alloc: Global) -> Result<Vec<Event>, AllocError>
+        ensures { IfOk result (λ events. events.items ≡ releases (state_of self.now.held) modifiers) }
+    {
+        let mut events = Vec::new(alloc);
+        self.held.push_releases(&mut events)?;
+        Ok(events)
     }
 }
 
@@ -45,7 +64,7 @@ pub struct Onward {
 impl<'m> Explored<'m> {
     /// The first place where a press sees it, whether moves lead back or not, and its key.
     fn first_seeing(&self, sight: Sight) -> Option<KeyAt>
-        ensures { IfSome result (λ at. at.place < length self.now.met.entries) }
+        ensures { MatchOption result (IsUnseen self.now sight) (λ at. IsSeenAt self.now sight at) }
     {
         for place in 0..self.met.len() {
             let held = state_at(&self.met, place);
@@ -58,7 +77,8 @@ impl<'m> Explored<'m> {
 
     /// The first place where a press sees the first of these that some press sees, and its key.
     fn first_seeing_any(&self, sights: &[Sight]) -> Option<KeyAt>
-        ensures { IfSome result (λ at. at.place < length self.now.met.entries) }
+        ensures { MatchOption result ((x : SightValue) → Contains sights.now x → IsUnseen self.now x)
+            (λ at. (x : SightValue) × Contains sights.now x × IsSeenAt self.now x at) }
     {
         for sight in sights {
             if let Some(at) = self.first_seeing(*sight) {
@@ -76,7 +96,9 @@ pub fn find_onward<T: Translator>(
     map: &KeyMap,
     console: &T,
     sights: &[Sight],
-) -> Result<Option<Onward>, AllocError> {
+) -> Result<Option<Onward>, AllocError>
+    ensures { IfOk result (λ x. IsOnward map.now (free_with (but_scroll (T.shows_locked console.now))) sights.now x) }
+{
     let explored = explore(alloc, map, &Held::free(console))?;
     let Some(at) = explored.first_seeing_any(sights) else {
         return Ok(None);

@@ -10,7 +10,7 @@ use Rattle.console_core.specs.declared.explored.Tap.{Tap}
 use Rattle.console_core.specs.declared.held.Held.{Held}
 use Rattle.console_core.specs.Moves.{Under, alone, State, IsFree, IsPath, state_after, IsPathFrom, state_from}
 use Rattle.console_core.specs.Moves.{events_along}
-use Rattle.console_core.specs.Returning.{IsHome}
+use Rattle.console_core.specs.Returning.{IsHome, freed}
 use Rattle.console_core.specs.Sticking.{ReachesMoreThanFrom, ReachesMoreThan, state_limit}
 use Rattle.console_core.specs.History.{answer_to, between, accent_pending_after}
 use Rattle.console_core.specs.Typing.{ComesHome, IsTapOf, types_something, plainly, composed_of, CanType, ChangeKeys}
@@ -24,7 +24,7 @@ use Rattle.console_core.specs.declared.typing.Typed.{Typed}
 use Rattle.console_core.specs.declared.typing.Typed.TheVariants as typed
 use Rattle.console_core.specs.declared.ways.Way.{Way}
 use Rattle.console_core.specs.declared.ways.Way.TheVariants as way
-use Rattle.console_core.specs.Inner.Routes.{AllEntries, AllLeadHome, HasRoute, AreSettled, freed}
+use Rattle.console_core.specs.Inner.Routes.{AllEntries, AllLeadHome, HasRoute, AreSettled}
 use Rattle.console_core.specs.Inner.Searching.{state_of, under_of, origin_of, Entry, Searched}
 use Rattle.console_core.specs.Inner.Standing.{Stands}
 

@@ -67,7 +67,3 @@ AreSettled u es routes =
 -- the state was met
 abbrev pub IsMet : Entries → State → Type 0
 IsMet es s = (j : ℕ) × (x : Entry) × (slice_get es j ≡ Some x) × (state_of x.0 ≡ s)
-
--- letting go of all holders, one after another
-abbrev pub freed : State → State
-freed s = record s { holder = λ i. None }

@@ -1,7 +1,7 @@
 -- What the search keeps: the states that it has met, in their order, each with how it was come to, and which of them
 -- are done. Mirrors `Held` and `Keymaps` of src/held.rt and the functions of src/search.rt.
 use Rattle.std.specs.Prelude.{◌≡◌, ◌≢◌, ℕ, ◌+◌, ◌<◌, ◌≤◌, ◌⊎◌, false, length, List, [], ◌∷◌, ◌++◌, All, Option, None}
-use Rattle.std.specs.Prelude.{Some, slice_get, slice_index_or}
+use Rattle.std.specs.Prelude.{Some, slice_get}
 use Rattle.std.specs.List.{Contains}
 use Rattle.keymap_core.specs.declared.action.Modifier.{Modifier}
 use Rattle.keymap_core.specs.declared.action.Lock.{Lock}
@@ -9,7 +9,6 @@ use Rattle.keymap_core.specs.declared.action.Lock.TheVariants.{Scroll}
 use Rattle.keymap_core.specs.declared.action.Action.TheVariants as act
 use Rattle.keymap_core.specs.declared.entry.Cell.{Cell}
 use Rattle.keymap_core.specs.declared.entry.Cell.TheVariants.{Act}
-use Rattle.keymap_core.specs.Actions.{modifier_index, lock_index}
 use Rattle.console_core.specs.declared.event.Event.{Event}
 use Rattle.console_core.specs.declared.held.Held.{Held}
 use Rattle.console_core.specs.declared.held.Keymaps.{Keymaps}
@@ -23,15 +22,8 @@ use Rattle.console_core.specs.History.{between}
 use Rattle.console_core.specs.Moves.{Under, alone, State, start, look_in, IsIdle, HolderForgets, IsForgetful, IsMove}
 use Rattle.console_core.specs.Moves.{moved, presses_of, presses_along, state_from, IsPathFrom}
 use Rattle.console_core.specs.Moves.{state_after, script_of_path, with_holder, with_lock_turned}
+pub use Rattle.console_core.specs.Moves.{state_of}
 use Rattle.console_core.specs.Sticking.{ReachesMoreThanFrom, state_limit}
-
--- the state that the tables are
-abbrev pub state_of : Held → State
-state_of x = record {
-  holder = λ i. slice_index_or x.holders (modifier_index i) None;
-  is_locked = λ l. slice_index_or x.locks (lock_index l) false;
-  is_second = x.is_second;
-}
 
 -- what a search of the keymaps goes under, and where it begins
 abbrev pub under_of : Keymaps → Under

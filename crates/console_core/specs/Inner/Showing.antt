@@ -1,5 +1,6 @@
 -- How the events of a visit lead a console, step by step. Mirrors src/showing.rt and src/explorer.rt.
 use Rattle.std.specs.Prelude.{◌≡◌, ◌⊎◌, ℕ, ◌<◌, true, false, List, ◌++◌, Option, None, Some, slice_get, IfSome}
+use Rattle.std.specs.Map.{keys_of}
 use Rattle.keymap_core.specs.declared.action.Action.TheVariants as act
 use Rattle.keymap_core.specs.Maps.{MapValue}
 use Rattle.keymap_core.specs.Numbers.{key_count}
@@ -7,31 +8,22 @@ use Rattle.console_core.specs.Types.{Action, Modifier, Lock, Caps, Num, Scroll, 
 use Rattle.console_core.specs.declared.explored.Explored.{Explored}
 use Rattle.console_core.specs.declared.explored.KeyAt.{KeyAt}
 use Rattle.console_core.specs.declared.explorer.Aim.{Aim}
+use Rattle.console_core.specs.declared.held.Held.{Held}
 use Rattle.console_core.specs.declared.selection.Sight.TheVariants as sight
 use Rattle.console_core.specs.Answers.{usable}
 use Rattle.console_core.specs.History.{between, accent_pending_after}
-use Rattle.console_core.specs.Moves.{Under, alone, State, start, IsFree, IsIdle, look_in, with_lock_turned}
+use Rattle.console_core.specs.Moves.{Under, alone, State, start, IsFree, IsIdle, look_in}
+use Rattle.console_core.specs.Returning.{IsAfter, unscrolled}
 use Rattle.console_core.specs.Visiting.{AreTaken, Locks}
 use Rattle.console_core.specs.Sights.{IsPendingFor, IsReachable, SeesBy, selection_of}
 use Rattle.console_core.specs.Inner.Exploring.{map_of_explored, origin_in, IsExplored, IsTapAt, dead_tap}
-use Rattle.console_core.specs.Inner.Routes.{HasRoute, freed}
-use Rattle.console_core.specs.Inner.Searching.{state_of, Entry}
-use Rattle.console_core.specs.Inner.Standing.{Stands, unscrolled}
+use Rattle.console_core.specs.Inner.Routes.{HasRoute}
+use Rattle.console_core.specs.Inner.Searching.{state_of, Entry, Entries}
+use Rattle.console_core.specs.Inner.Standing.{Stands}
 
 -- The states were explored from the start, and these are all.
 abbrev pub IsWhole : Explored → Type 0
 IsWhole e = IsExplored e × (origin_in e ≡ start) × (e.is_complete ≡ true)
-
--- all let go, and the lock was turned; the scroll lock, which picks no cell, is left out
-abbrev pub IsTurned : State → Lock → State → Type 0
-IsTurned s Scroll t = t ≡ freed s
-IsTurned s l t = t ≡ freed (with_lock_turned s l)
-
--- where a press of the key leads once all let go: the lock is turned that it turns, if it turns one
-abbrev pub IsAfter : Under → State → ℕ → State → Type 0
-IsAfter u s k t =
-    ((l : Lock) × IsIdle s k × (look_in u s k ≡ Act (act.Lock l)) × IsTurned s l t)
-    ⊎ (((l : Lock) → IsIdle s k → look_in u s k ≡ Act (act.Lock l) → ⊥) × (t ≡ freed s))
 
 -- A press of the key and its release leave the state, but for the scroll lock: the key holds nothing, and looks up no
 -- modifier that is held and no lock but that one.
@@ -88,8 +80,20 @@ IsPressAt e x at t =
 abbrev pub ShowsNot : Explored → Sight → Entry → Type 0
 ShowsNot e x y =
     ((k : ℕ) → k < key_count → SeesBy (map_of_explored e) (selection_of (state_of y.0)) k x → ⊥)
-    ⊎ ((k : ℕ) × (t : State) × (k < key_count) × IsAfter (alone (map_of_explored e)) (state_of y.0) k t
-    × (HasRoute e.routes.entries t → ⊥))
+    ⊎ ((k : ℕ) × (t : State) × (k < key_count) × SeesBy (map_of_explored e) (selection_of (state_of y.0)) k x
+    × IsAfter (alone (map_of_explored e)) (state_of y.0) k t × (HasRoute e.routes.entries t → ⊥))
+
+-- in the state of the place a press of the key sees it, where a pair's accent is pending
+abbrev pub IsSeenAt : Explored → Sight → KeyAt → Type 0
+IsSeenAt e x at =
+    (y : Entry) × (slice_get e.met.entries at.place ≡ Some y) × (at.key < key_count)
+    × SeesBy (map_of_explored e) (selection_of (state_of y.0)) at.key x
+
+-- and no press does at any place
+abbrev pub IsUnseen : Explored → Sight → Type 0
+IsUnseen e x =
+    (j k : ℕ) (y : Entry) → slice_get e.met.entries j ≡ Some y → k < key_count
+    → SeesBy (map_of_explored e) (selection_of (state_of y.0)) k x → ⊥
 
 -- before a pair the dead key of its accent is tapped, and before nothing else
 abbrev pub IsDeadFor : Explored → Sight → Option KeyAt → Type 0
@@ -102,6 +106,10 @@ IsDeadFor e (sight.Locks slot caps num) None = Unit {0}
 
 abbrev pub IsAim : Explored → Aim → Type 0
 IsAim e a = IsPressAt e a.sight a.at (state_of a.next) × IsDeadFor e a.sight a.dead
+
+-- the states that were met, in their order
+abbrev pub states_in : Entries → List Held
+states_in es = keys_of es
 
 abbrev pub locks_in : State → Locks
 locks_in s = record { caps = s.is_locked Caps; num = s.is_locked Num; alt = s.is_locked Alt }

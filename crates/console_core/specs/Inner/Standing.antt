@@ -1,9 +1,8 @@
 -- How a console stands in a state of the search.
-use Rattle.std.specs.Prelude.{◌≡◌, ℕ, ◌<◌, Bool, true, false, List, Some}
+use Rattle.std.specs.Prelude.{◌≡◌, ℕ, ◌<◌, true, false, List, Some}
 use Rattle.keymap_core.specs.declared.action.Action.{Action}
 use Rattle.keymap_core.specs.declared.action.Action.TheVariants as act
 use Rattle.keymap_core.specs.declared.action.Lock.{Lock}
-use Rattle.keymap_core.specs.declared.action.Lock.TheVariants.{Caps, Num, Scroll, Alt}
 use Rattle.keymap_core.specs.declared.action.Modifier.{Modifier}
 use Rattle.keymap_core.specs.declared.action.Holding.TheVariants as holding
 use Rattle.keymap_core.specs.Maps.{MapValue}
@@ -39,13 +38,3 @@ pub record Stands (u : Under) (h : List Event) (s : State) : Type 0 where
 -- the free state with the locks that are on after a list
 abbrev pub free_after : MapValue → List Event → State
 free_after m h = free_with (λ l. is_locked_after (between m m) l h)
-
--- the state without the scroll lock, which picks no cell
-abbrev pub but_scroll : (Lock → Bool) → Lock → Bool
-but_scroll on Caps = on Caps
-but_scroll on Num = on Num
-but_scroll on Scroll = false
-but_scroll on Alt = on Alt
-
-abbrev pub unscrolled : State → State
-unscrolled s = record { holder = s.holder; is_locked = but_scroll s.is_locked; is_second = s.is_second }

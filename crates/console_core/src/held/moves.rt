@@ -11,14 +11,13 @@ ghost use Rattle.keymap_core.specs.declared.action.Lock.{Lock as LockValue};
 ghost use Rattle.keymap_core.specs.declared.action.Action.TheVariants.{DeadKey, Lock as LockAction};
 ghost use Rattle.keymap_core.specs.declared.entry.Cell.TheVariants.{Act};
 ghost use Rattle.console_core.specs.Moves.{Under, start as start_state, is_held as is_held_in, look_in, IsIdle};
-ghost use Rattle.console_core.specs.Moves.{map_in, next_map, exchanged as exchanged_in, IsFree};
+ghost use Rattle.console_core.specs.Moves.{map_in, next_map, exchanged as exchanged_in, IsFree, free_with};
 ghost use Rattle.console_core.specs.Moves.{with_holder as with_holder_in, with_lock_turned, HolderForgets};
 ghost use Rattle.console_core.specs.Moves.{IsForgetful, events_of_move, releases, Holds, IsMove, moved};
 ghost use Rattle.console_core.specs.declared.held.Move.TheVariants.{Exchange as ExchangeMove};
 ghost use Rattle.console_core.specs.Sights.{selection_of, Offers};
-ghost use Rattle.console_core.specs.Returning.{IsHome};
+ghost use Rattle.console_core.specs.Returning.{IsHome, but_scroll, freed};
 ghost use Rattle.console_core.specs.Inner.Searching.{state_of, under_of, StepsTo, PressesLead, IsStep};
-ghost use Rattle.console_core.specs.Inner.Routes.{freed};
 ghost use Rattle.console_core.specs.Inner.Showing.{IsRepeated, IsSteady};
 ghost use Rattle.console_core.specs.Inner.HeldBytes.{holder_number, bytes_of, held-equal, bool_equal, same-bytes};
 
@@ -79,6 +78,7 @@ impl Held {
     pub fn free<T: Translator>(console: &T) -> Held
         ensures off { (state_of result).is_locked Scroll ≡ false }
         ensures first { (state_of result).is_second ≡ false }
+        ensures value { state_of result ≡ free_with (but_scroll (T.shows_locked console.now)) }
     {
         Held {
             holders: [None; 8],

@@ -1,5 +1,5 @@
 use Rattle.console_core.proofs.Common.{subst, reverse, slice_get_within, alone, map_of_explored, origin_in}
-use Rattle.console_core.proofs.Common.{LeadsHome, freed, state_of, rules}
+use Rattle.console_core.proofs.Common.{LeadsHome, state_of, rules}
 use Rattle.console_core.proofs.Exploring.{tap-freed, tap-home}
 use Rattle.console_core.proofs.GoingBack.{searched-back}
 use Rattle.console_core.proofs.explored.Explored.go_and_tap.Goals as goal

@@ -41,6 +41,8 @@ loop-place-preserved c =
               w.in-Some.key,
               state_of w.after-next.result,
               w.in-Some.ensures.0,
+              subst (λ z. SeesBy m z w.in-Some.key c.args.sight)
+                  (c.selection.ensures ∙ ap (λ h. selection_of (state_of h)) (here f)) w.in-Some.ensures.1,
               subst (λ h. IsAfter (alone m) (state_of h) w.in-Some.key (state_of w.after-next.result)) (here f)
                   (subst (λ u. IsAfter u (state_of c.state_at-held.result) w.in-Some.key (state_of w.after-next.result))
                   c.requires.0.under w.after-next.ensures.value),

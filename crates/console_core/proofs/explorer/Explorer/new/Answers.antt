@@ -1,5 +1,8 @@
-use Rattle.console_core.proofs.Common.{ap, sym, ◌∙◌, Caps, Num, Scroll, Alt, between, locked, state_of, IsWhole}
+use Rattle.console_core.proofs.Common.{ap, subst, sym, ◌∙◌, Caps, Num, Scroll, Alt, between, locked, state_of, IsWhole}
+use Rattle.console_core.specs.Visiting.{AreStatesOf}
+use Rattle.console_core.specs.Inner.Showing.{states_in}
 use Rattle.console_core.proofs.Approaching.{start-rest}
+use Rattle.console_core.proofs.Visitable.{states-of}
 use Rattle.console_core.proofs.OneMore.{resolved-start, locked-start}
 use Rattle.console_core.proofs.explorer.Explorer.new.Goals as goal
 
@@ -16,8 +19,8 @@ invariant_of-result c =
       tt,
     )
 
-pub returns-then-explored : goal.returns-then-explored
-returns-then-explored c =
+pub returns-then-explored-clause-explorer : goal.returns-then-explored-clause-explorer
+returns-then-explored-clause-explorer c =
     let none = resolved-start (between c.args.map.now c.args.map.now) in
     let off = c.start-then-explored.ensures in (
       c.in_ok-explored.ensures.1,
@@ -28,8 +31,15 @@ returns-then-explored c =
       ),
     )
 
-pub returns : goal.returns
-returns c =
+pub returns-clause-explorer : goal.returns-clause-explorer
+returns-clause-explorer c =
     let e = c.in_ok-explored.explored in
     let (x, same, from) = c.in_ok-explored.ensures in
     rw (← (from ∙ c.start.ensures), ← same) (x.more c.if-explored.false)
+
+pub returns-then-explored-clause-states : goal.returns-then-explored-clause-states
+returns-then-explored-clause-states c =
+    let (x, same, from) = c.in_ok-explored.ensures in
+    let e = c.in_ok-explored.explored in
+    let whole : IsWhole e = (x, from ∙ c.start.ensures, c.if-explored.true) in
+    subst (λ m. AreStatesOf m (states_in e.met.entries)) same (states-of e whole)

@@ -100,6 +100,8 @@ refuses sights_of
 refuses Explorer::new
 refuses Explorer::visit
 refuses Explorer::events_to
+refuses Explorer::events_home
+refuses Reached::releases
 refuses find_onward
 yields type_characters
 yields cover_of

@@ -25,6 +25,8 @@ pub(crate) fn outcome_of<W: Write>(
         "Explorer::new" => explores(alloc, marks)?,
         "Explorer::visit" => visits(alloc, marks)?,
         "Explorer::events_to" => goes_out(alloc, marks)?,
+        "Explorer::events_home" => comes_home(alloc, marks)?,
+        "Reached::releases" => lets_go(alloc, marks)?,
         "find_onward" => goes_onward(alloc, marks)?,
         "type_characters" => types_characters(alloc, marks)?,
         "cover_of" => covers(alloc, marks)?,
@@ -167,6 +169,36 @@ fn goes_out<W: Write>(alloc: Global, marks: &mut W) -> Result<Outcome, AllocErro
     };
     mark(marks);
     let given = explorer.events_to(alloc, 1);
+    mark(marks);
+    Ok(ended(given.map(|events| !events.is_empty())))
+}
+
+/// The events home from where a console stands with one lock on.
+fn comes_home<W: Write>(alloc: Global, marks: &mut W) -> Result<Outcome, AllocError> {
+    let map = sample(alloc)?;
+    let Some(explorer) = Explorer::new(alloc, &map)? else {
+        return Ok(ended::<AllocError>(Ok(false)));
+    };
+    let mut console = PlainConsole::new(&map);
+    let _ = console.step(press(58));
+    let _ = console.step(Event::Reset);
+    mark(marks);
+    let given = explorer.events_home(alloc, &console);
+    mark(marks);
+    Ok(ended(given.map(|events| !events.is_empty())))
+}
+
+/// The releases in the second state, in which a key holds a modifier.
+fn lets_go<W: Write>(alloc: Global, marks: &mut W) -> Result<Outcome, AllocError> {
+    let map = sample(alloc)?;
+    let Some(explorer) = Explorer::new(alloc, &map)? else {
+        return Ok(ended::<AllocError>(Ok(false)));
+    };
+    let Some(state) = explorer.state(1) else {
+        return Ok(ended::<AllocError>(Ok(false)));
+    };
+    mark(marks);
+    let given = state.releases(alloc);
     mark(marks);
     Ok(ended(given.map(|events| !events.is_empty())))
 }

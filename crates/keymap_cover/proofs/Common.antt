@@ -4,13 +4,13 @@ pub use Rattle.console_core.specs.Columns.{bit}
 pub use Rattle.console_core.specs.History.{Maps, between}
 unfoldable pub use Rattle.console_core.specs.History.{resolved}
 pub use Rattle.console_core.specs.Moves.{alone}
-pub use Rattle.console_core.specs.Visiting.{AreTaken}
-pub use Rattle.console_core.specs.Returning.{NoTurnIsOneWay}
+pub use Rattle.console_core.specs.Visiting.{AreTaken, CanVisit, IsPair}
 pub use Rattle.console_core.specs.Sights.{AreSightsOf, IsReachable, SeesAlong}
 pub use Rattle.console_core.specs.declared.event.Event.{Event}
 pub use Rattle.console_core.specs.declared.selection.Sight.{Sight}
 pub use Rattle.keymap_core.specs.Maps.{MapValue}
-pub use Rattle.keymap_cover.specs.Inner.Adding.{ArePartsBelow}
+pub use Rattle.keymap_cover.specs.Covering.{SeesKeysBy, SeesToldBy}
+pub use Rattle.keymap_cover.specs.Inner.Adding.{ArePartsBelow, StandBehind}
 pub use Rattle.keymap_cover.specs.Inner.Pairs.{base_pair, pairs_at, pairs_in}
 pub use Rattle.keymap_cover.specs.Inner.Scripts.{AddsPair, AreUp, ComesAfter, GoesAlong, GoesAlongToRest, GoesIfTaken}
 pub use Rattle.keymap_cover.specs.Inner.Scripts.{GoesOn, GoesResting, GoesUnderWay, IsScript, Standing}

@@ -1,4 +1,5 @@
 mod Common
+mod Covered
 pub mod Listed
 pub mod Marking
 pub mod Showing

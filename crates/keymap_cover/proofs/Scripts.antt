@@ -5,8 +5,8 @@ use Rattle.keymap_cover.proofs.Common.{Some, refl, ap, subst, sym, ◌∙◌, le
 use Rattle.keymap_cover.proofs.Common.{slice_set, slice_index_or, replicate, All-nil, All-cons, and-false, true≢false}
 use Rattle.keymap_cover.proofs.Common.{reverse-append, MapValue, Event, Sight, between, resolved, SeesAlong}
 use Rattle.keymap_cover.proofs.Common.{ScriptEvent}
-use Rattle.keymap_cover.proofs.Common.{event_of, events_of, is_down, alone, NoTurnIsOneWay, AreSightsOf, IsReachable}
-use Rattle.keymap_cover.proofs.Common.{has_seen, IsTold, AddsPair, IsScript, AreUp, AreParts}
+use Rattle.keymap_cover.proofs.Common.{event_of, events_of, is_down, alone, AreSightsOf}
+use Rattle.keymap_cover.proofs.Common.{has_seen, AddsPair, IsScript, AreUp}
 use Rattle.std.specs.Option.{is_some}
 use Rattle.std.proofs.lemmas.List.{get_or-replicate}
 use Rattle.keymap_core.specs.declared.action.Modifier.{Modifier}
@@ -23,8 +23,7 @@ use Rattle.console_core.specs.Sights.{selection_with, slot_in, column_in, look_s
 use Rattle.keymap_cover.specs.ScriptEvents.{CanFollow, ArePossible}
 use Rattle.console_core.specs.declared.sights.Sights.{Sights}
 use Rattle.console_core.specs.Sticking.{NeverForgets}
-use Rattle.keymap_cover.specs.declared.parts.Cover.{Cover}
-use Rattle.keymap_cover.specs.Covering.{history, IsAtRest, Covers}
+use Rattle.keymap_cover.specs.Covering.{IsAtRest}
 use Rattle.keymap_cover.proofs.Marking.{set-cases}
 use Rattle.keymap_cover.specs.Inner.Scripts.{IsWith, AddsSights}
 use Rattle.keymap_core.specs.declared.action.Holding.TheVariants as holding
@@ -244,23 +243,3 @@ all-off k lt = get_or-replicate 128 k false false lt
 pub never-forgets : (m : MapValue) (x : Sights) → AreSightsOf m x → x.forgets ≡ false → NeverForgets (alone m)
 never-forgets m x are e path is forgetful =
     true≢false (sym (are.forgets.1 (path, is, forgetful)) ∙ e)
-
--- a script that ends at rest, and leaves out nothing if no turn of a lock is one-way, covers
-pub script-covers : (m : MapValue) (h : List Event) (c : Cover) (down : List Bool)
-    → IsScript m h c.events.items down (has_seen c.seen) → IsAtRest m h → AreUp down → AreSightsOf m c.sights
-    → AreParts c.starts.items (length c.events.items)
-    → (NoTurnIsOneWay m → (x : Sight) → IsTold m x → IsReachable m x → has_seen c.seen x ≡ true) → Covers m c
-script-covers m h c down t rest up are parts nothing = record {
-  seen = seen;
-  all_seen = λ x along. t.all_seen x (subst (λ g. SeesAlong m g x) t.history along);
-  sights = are;
-  keys = subst HasKeys (sym t.history) t.keys;
-  possible = t.possible;
-  rest = subst (λ g. IsAtRest m g) (sym t.history) rest;
-  up = λ k lt. sym (t.pressed k lt) ∙ up k lt;
-  parts = parts;
-  complete = λ steady x told reachable. seen x (nothing steady x told reachable);
-}
-  where
-    seen : (x : Sight) → has_seen c.seen x ≡ true → SeesAlong m (history c) x
-    seen x has = subst (λ g. SeesAlong m g x) (sym t.history) (t.seen x has)

@@ -3,17 +3,21 @@ use Rattle.keymap_cover.proofs.Common.{suc, ◌≡◌, ℕ, ◌+◌, ◌<◌, �
 use Rattle.keymap_cover.proofs.Common.{ap, subst, sym, inl, inr, ◌∙◌, arith, append_assoc, length, get_or, reverse}
 use Rattle.keymap_cover.proofs.Common.{Contains, eqb-true, eq-eqb}
 use Rattle.keymap_cover.proofs.Common.{get_or_default, All-nil, All-cons, Contains-append_cases, MapValue, Event, Sight}
-use Rattle.keymap_cover.proofs.Common.{Standing, NoTurnIsOneWay, SeesAlong, IsReachable, ScriptEvent, Script, has_seen}
+use Rattle.keymap_cover.proofs.Common.{Standing, SeesAlong, IsReachable, CanVisit, IsPair, ScriptEvent, Script}
+use Rattle.keymap_cover.proofs.Common.{has_seen, take}
+use Rattle.keymap_cover.proofs.Common.{SeesKeysBy, SeesToldBy, reverse-append}
 use Rattle.keymap_cover.proofs.Common.{all_cells, all_lock_settings, event_of, events_of, is_down, pairs_in}
 use Rattle.keymap_cover.proofs.Common.{GoesAlongToRest, ComesAfter, AreUp, GoesUnderWay, GoesResting}
 use Rattle.std.proofs.Common.{length-append}
-use Rattle.std.proofs.lemmas.List.{length-reverse}
+use Rattle.std.proofs.Common.{◌-◌, drop}
+use Rattle.std.proofs.Math.Seq.{drop-append_seam, take-add}
+use Rattle.std.proofs.lemmas.List.{length-reverse, length-take-le, take_all}
 use Rattle.keymap_core.specs.declared.action.Lock.TheVariants.{Caps, Num, Alt}
 use Rattle.console_core.specs.History.{HasNoLoads, IsNoLoad}
 use Rattle.console_core.specs.Visiting.{HasLocks, ExplorerValue, Visits}
-use Rattle.keymap_cover.specs.Inner.Scripts.{RunsAlong, IsScriptOf, IsUnderWay, GoesFurther, SeesAll, LeavesNothingOut}
+use Rattle.keymap_cover.specs.Inner.Scripts.{RunsAlong, IsScriptOf, IsUnderWay, GoesFurther, SeesAll, ShowsTold}
 use Rattle.keymap_cover.specs.Inner.Scripts.{EndsAtRest}
-use Rattle.keymap_cover.proofs.Telling.{all-told}
+use Rattle.keymap_cover.proofs.Telling.{all-told, key-told}
 use Rattle.keymap_cover.proofs.Scripts.{at-rest_new}
 use Rattle.keymap_cover.proofs.Walking.{after-more}
 use Rattle.keymap_cover.specs.declared.script_event.ScriptEvent.TheVariants as script_event
@@ -88,21 +92,20 @@ pub all-more : (m : MapValue) (A : Standing) (p : ExplorerValue) (a : Script) (B
     (xs : List Sight) (i : ℕ)
     (d : Sight)
     → i < length xs
-    → GoesUnderWay m A p a B q b (NoTurnIsOneWay m → (n : ℕ) (x : Sight) → n < i → get_or xs n x ≡ x → IsReachable m x
+    → GoesUnderWay m A p a B q b ((n : ℕ) (x : Sight) → n < i → get_or xs n x ≡ x → CanVisit m x
     → has_seen b.seen x ≡ true)
-    → GoesUnderWay m B q b C r c (NoTurnIsOneWay m → IsReachable m (get_or xs i d)
+    → GoesUnderWay m B q b C r c (CanVisit m (get_or xs i d)
     → has_seen c.seen (get_or xs i d) ≡ true)
-    → GoesUnderWay m A p a C r c (NoTurnIsOneWay m → (n : ℕ) (x : Sight) → n < i + 1 → get_or xs n x ≡ x
-    → IsReachable m x → has_seen c.seen x ≡ true)
+    → GoesUnderWay m A p a C r c ((n : ℕ) (x : Sight) → n < i + 1 → get_or xs n x ≡ x
+    → CanVisit m x → has_seen c.seen x ≡ true)
 all-more m A p a B q b C r c xs i d lt first next h w =
     let (g, v, after, before) = first h w in
     let (f, u, more, here) = next g v in (
       f,
       u,
       after-more h g f after more,
-      (λ steady.
-          holds-more xs i d (λ x. IsReachable m x → has_seen c.seen x ≡ true) lt (here steady)
-          (λ n x below at can. seen-still m g f b c x v.runs.1 u.runs.1 more (before steady n x below at can))),
+      holds-more xs i d (λ x. CanVisit m x → has_seen c.seen x ≡ true) lt here
+          (λ n x below at can. seen-still m g f b c x v.runs.1 u.runs.1 more (before n x below at can)),
     )
 
 -- ---- the whole script
@@ -139,34 +142,105 @@ under-way-new m A p t is_new run = record {
   locks = is_new.1;
 }
 
--- what can be seen of the keys and of the pairs was seen
-pub leaves-nothing : (m : MapValue) (xs ys : List Sight) (t : Script) → xs ≡ all_cells ++ all_lock_settings
-    → ys ≡ pairs_in m → SeesAll m xs t → SeesAll m ys t → LeavesNothingOut m t
-leaves-nothing m xs ys t keys pairs first second steady x told can =
-    let has : Contains (xs ++ ys) x =
-    (all-told m (xs ++ ys) (ap (λ z. z ++ ys) keys ∙ ap (λ z. (all_cells ++ all_lock_settings) ++ z) pairs) x).0 told in
-    elim (Contains-append_cases xs ys x has) [
-      | inl key ↦ first steady x key can
-      | inr pair ↦ second steady x pair can
-    ]
+-- ---- the first events of a script
+
+events-append : (xs ys : List ScriptEvent) → events_of (xs ++ ys) ≡ events_of xs ++ events_of ys
+events-append [] ys = refl
+events-append (x ∷ xs) ys = ap (λ z. event_of x ∷ z) (events-append xs ys)
+
+-- the events behind the first n came after these
+pub take-longer : (xs : List ScriptEvent) (n k : ℕ) → n ≤ k
+    → ComesAfter (events_of (reverse (take n xs))) (events_of (reverse (take k xs)))
+take-longer xs n k le =
+    let rest : List ScriptEvent = take (k - n) (drop n xs) in
+    let more : take k xs ≡ take n xs ++ rest = ap (λ z. take z xs) (omega (arith, le)) ∙ take-add n (k - n) xs in (
+      events_of (reverse rest),
+      ap (λ z. events_of (reverse z)) more ∙ ap events_of (reverse-append (take n xs) rest)
+          ∙ events-append (reverse rest) (reverse (take n xs)),
+    )
+
+-- lists of one length that end two that are the same are the same
+ends-same : (a b c d : List Event) → a ++ b ≡ c ++ d → length b ≡ length d → b ≡ d
+ends-same a b c d e same =
+    let f = ap (λ z. length z) e in
+    let g : length a ≡ length c = omega (arith, f, same, length-append a b, length-append c d) in
+    sym (drop-append_seam a b) ∙ ap (λ n. drop n (a ++ b)) g ∙ ap (λ z. drop (length c) z) e ∙ drop-append_seam c d
+
+length-first : (xs : List ScriptEvent) (n : ℕ) → n ≤ length xs → length (events_of (reverse (take n xs))) ≡ n
+length-first xs n le =
+    length-events_of (reverse (take n xs)) ∙ length-reverse (take n xs) ∙ length-take-le n xs le
+
+-- a script that goes on has the same first events
+pub first-still : (m : MapValue) (h g : List Event) (a b : Script) (n : ℕ) → IsScriptOf m h a → IsScriptOf m g b
+    → ComesAfter h g → n ≤ length a.events.items
+    → events_of (reverse (take n a.events.items)) ≡ events_of (reverse (take n b.events.items))
+first-still m h g a b n before now after le =
+    let xs = a.events.items in
+    let ys = b.events.items in
+    let longer = script-longer m h g a b before now after in
+    let (later, is) = after in
+    let (x, e) = take-longer xs n (length xs) le in
+    let (y, f) = take-longer ys n (length ys) (omega (arith, le, longer)) in
+    let whole : events_of (reverse xs) ≡ x ++ events_of (reverse (take n xs)) =
+    ap (λ z. events_of (reverse z)) (sym (take_all (length xs) xs (omega arith))) ∙ e in
+    let all : events_of (reverse ys) ≡ y ++ events_of (reverse (take n ys)) =
+    ap (λ z. events_of (reverse z)) (sym (take_all (length ys) ys (omega arith))) ∙ f in
+    ends-same (later ++ x) (events_of (reverse (take n xs))) y (events_of (reverse (take n ys)))
+    (append_assoc later x _ ∙ ap (λ z. later ++ z) (sym whole ∙ before.history) ∙ sym is ∙ sym now.history ∙ all)
+    (length-first xs n le ∙ sym (length-first ys n (omega (arith, le, longer))))
+
+-- what more of the first events see
+pub sees-more : (m : MapValue) (xs : List ScriptEvent) (n k : ℕ) (x : Sight) → n ≤ k
+    → SeesAlong m (events_of (reverse (take n xs))) x → SeesAlong m (events_of (reverse (take k xs))) x
+sees-more m xs n k x le sees =
+    sees-longer m (events_of (reverse (take n xs))) (events_of (reverse (take k xs))) x (take-longer xs n k le) sees
+
+-- what was seen, all events of the script see
+seen-by : (m : MapValue) (h : List Event) (t : Script) (x : Sight) → IsScriptOf m h t → has_seen t.seen x ≡ true
+    → SeesAlong m (events_of (reverse (take (length t.events.items) t.events.items))) x
+seen-by m h t x script has =
+    subst (λ z. SeesAlong m z x)
+    (sym (ap (λ z. events_of (reverse z)) (take_all (length t.events.items) t.events.items (omega arith))
+    ∙ script.history))
+    (script.seen x has)
+
+-- ---- what is told of
+
+-- what can be visited can be seen
+pub can-see : (m : MapValue) (x : Sight) → CanVisit m x → IsReachable m x
+can-see m x (path, is, can, (k, lt, sees, back)) = (path, is, can, (k, lt, sees))
 
 -- the keys first, and then the pairs
 pub told-shown : (m : MapValue) (A : Standing) (p : ExplorerValue) (a : Script) (B : Standing) (q : ExplorerValue)
     (b : Script) (C : Standing) (r : ExplorerValue) (d : Script) (xs ys : List Sight) (n : ℕ)
     → xs ≡ all_cells ++ all_lock_settings → ys ≡ pairs_in m → n ≡ length b.events.items
     → GoesUnderWay m A p a B q b (SeesAll m xs b) → GoesUnderWay m B q b C r d (SeesAll m ys d)
-    → GoesUnderWay m A p a C r d (LeavesNothingOut m d × (n ≤ length d.events.items))
+    → GoesUnderWay m A p a C r d (ShowsTold m n d)
 told-shown m A p a B q b C r d xs ys n keys pairs is first second h w =
     let (g, v, after, seen) = first h w in
     let (f, u, more, all) = second g v in
-    let still : SeesAll m xs d =
-    λ steady x has can. seen-still m g f b d x v.runs.1 u.runs.1 more (seen steady x has can) in (
+    let longer = script-longer m g f b d v.runs.1 u.runs.1 more in
+    let same =
+    first-still m g f b d (length b.events.items) v.runs.1 u.runs.1 more (omega arith) in
+    let by_keys : SeesKeysBy m d.events.items (length b.events.items) =
+    λ x told key can.
+    subst (λ z. SeesAlong m z x) same
+    (seen-by m g b x v.runs.1
+    (seen x (subst (λ z. Contains z x) (sym keys) (key-told m x told key)) can)) in (
       f,
       u,
       after-more h g f after more,
       (
-        leaves-nothing m xs ys d keys pairs still all,
-        subst (λ k. k ≤ length d.events.items) (sym is) (script-longer m g f b d v.runs.1 u.runs.1 more),
+        omega (arith, is, longer),
+        subst (λ k. SeesKeysBy m d.events.items k) (sym is) by_keys,
+        (λ x told can.
+            seen-by m f d x u.runs.1
+            (elim (Contains-append_cases xs ys x
+            ((all-told m (xs ++ ys) (ap (λ z. z ++ ys) keys
+            ∙ ap (λ z. (all_cells ++ all_lock_settings) ++ z) pairs) x).0 told)) [
+              | inl key ↦ seen-still m g f b d x v.runs.1 u.runs.1 more (seen x key can)
+              | inr pair ↦ all x pair can
+            ])),
       ),
     )
 
@@ -181,16 +255,21 @@ walks-further m x y A a B b C d first second h at =
 -- what is told of is seen, and then the script goes further, and onward
 pub script-whole : (m : MapValue) (A : Standing) (p : ExplorerValue) (a : Script) (B : Standing) (q : ExplorerValue)
     (b : Script) (C : Standing) (d : Script) (D : Standing) (e : Script) (n : ℕ) → IsUnderWay m A p a []
-    → GoesUnderWay m A p a B q b (LeavesNothingOut m b × (n ≤ length b.events.items)) → GoesFurther m B b C d
-    → AreUp d.pressed → GoesResting m C d D e → EndsAtRest m e × LeavesNothingOut m e × (n ≤ length b.events.items)
-    × (length b.events.items ≤ length d.events.items) × (length d.events.items ≤ length e.events.items)
+    → GoesUnderWay m A p a B q b (ShowsTold m n b) → GoesFurther m B b C d
+    → AreUp d.pressed → GoesResting m C d D e
+    → EndsAtRest m e × SeesKeysBy m e.events.items n × SeesToldBy m e.events.items (length b.events.items)
+    × (n ≤ length b.events.items) × (length b.events.items ≤ length d.events.items)
+    × (length d.events.items ≤ length e.events.items)
 script-whole m A p a B q b C d D e n new shown further up onward =
-    let (g, w, after, (nothing, le)) = shown [] new in
+    let (g, w, after, (le, keys, told)) = shown [] new in
     let (f, run, rest, more) = further g w.runs in
-    let (k, (end, ups, still), last) = onward f (run, up, rest) in (
+    let (k, (end, ups, still), last) = onward f (run, up, rest) in
+    let all = after-more g f k more last in
+    let same = first-still m g k b e n w.runs.1 end.1 all le in
+    let same_all = first-still m g k b e (length b.events.items) w.runs.1 end.1 all (omega arith) in (
       (ups, (k, end.1, still)),
-      (λ steady x told can.
-          seen-still m g k b e x w.runs.1 end.1 (after-more g f k more last) (nothing steady x told can)),
+      (λ x has key can. subst (λ z. SeesAlong m z x) same (keys x has key can)),
+      (λ x has can. subst (λ z. SeesAlong m z x) same_all (told x has can)),
       le,
       script-longer m g f b d w.runs.1 run.1 more,
       script-longer m f k d e run.1 end.1 last,

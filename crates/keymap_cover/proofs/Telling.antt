@@ -4,7 +4,7 @@ use Rattle.keymap_cover.proofs.Common.{ap, subst, sym, ◌∙◌, arith, append_
 use Rattle.keymap_cover.proofs.Common.{if◌then◌else◌, ◌==◌, Contains, flat_map, range_with_len, eq-eqb, true≢false}
 use Rattle.keymap_cover.proofs.Common.{Contains-append_left, Contains-append_cases, MapValue, bit, Sight, cell_at_place}
 use Rattle.keymap_cover.proofs.Common.{cell_place, all_cells, all_lock_settings, lock_setting_at_place, rules}
-use Rattle.keymap_cover.proofs.Common.{lock_setting_place, IsTold, base_pair, pairs_at, pairs_in}
+use Rattle.keymap_cover.proofs.Common.{lock_setting_place, IsPair, IsTold, base_pair, pairs_at, pairs_in}
 use Rattle.std.proofs.Common.{zero, suc, add-one, append-nil}
 use Rattle.std.specs.Prelude.{◌/◌, ◌%◌}
 use Rattle.std.proofs.lemmas.List.{get_or-map, length-map}
@@ -167,6 +167,14 @@ usable-some None e = absurd (true≢false (sym e))
 usable-some (Some a) e = (a, refl)
 
 -- ---- all of them
+
+-- a cell or a lock setting is among the keys
+pub key-told : (m : MapValue) (x : Sight) → IsTold m x → (IsPair x → ⊥) → Contains (all_cells ++ all_lock_settings) x
+key-told m (sight.Cell s c) (slot, column) key =
+    Contains-append_left all_cells all_lock_settings (sight.Cell s c) (cell-has s c slot column)
+key-told m (sight.Locks s caps num) slot key =
+    Contains-append_right all_cells all_lock_settings (sight.Locks s caps num) (setting-has s caps num slot)
+key-told m (sight.Pair i c) told key = absurd (key tt)
 
 pub all-told : (m : MapValue) (xs : List Sight) → xs ≡ (all_cells ++ all_lock_settings) ++ pairs_in m → AreTold m xs
 all-told m xs e x = (

@@ -1,7 +1,7 @@
 -- What a script covers.
-use Rattle.std.specs.Prelude.{◌≡◌, ℕ, ◌<◌, Bool, true, false, List, length, Option, None, Some, reverse}
+use Rattle.std.specs.Prelude.{◌≡◌, ℕ, ◌<◌, Bool, true, false, List, length, Option, None, Some, reverse, take}
 use Rattle.std.specs.Prelude.{if◌then◌else◌}
-use Rattle.std.specs.List.{count_by}
+use Rattle.std.specs.List.{Contains, count_by}
 use Rattle.keymap_core.specs.declared.action.Modifier.{Modifier}
 use Rattle.keymap_core.specs.Maps.{MapValue}
 use Rattle.keymap_core.specs.Numbers.{key_count}
@@ -9,17 +9,20 @@ use Rattle.console_core.specs.declared.event.Event.{Event}
 use Rattle.console_core.specs.declared.selection.Sight.{Sight}
 use Rattle.console_core.specs.History.{between, is_on_after, accent_pending_after, HasKeys, IsQuiet}
 use Rattle.console_core.specs.Moves.{alone}
-use Rattle.console_core.specs.Returning.{NoTurnIsOneWay}
+use Rattle.console_core.specs.Visiting.{CanVisit, IsPair}
 use Rattle.console_core.specs.Sticking.{ReachesMoreThan, state_limit}
 use Rattle.console_core.specs.Sights.{SeesNext, SeesAlong, IsAdmitted, IsReachable, AreSightsOf, can_see}
 use Rattle.keymap_cover.specs.declared.parts.Cover.{Cover}
+use Rattle.keymap_cover.specs.declared.parts.Part.TheVariants.{Cells, Pairs}
+use Rattle.keymap_cover.specs.declared.parts.Start.{Start}
+use Rattle.keymap_cover.specs.declared.script_event.ScriptEvent.{ScriptEvent}
 use Rattle.keymap_cover.specs.declared.parts.Counts.{Counts}
 use Rattle.keymap_cover.specs.declared.parts.Verdict.{Verdict}
 use Rattle.keymap_cover.specs.declared.parts.Verdict.TheVariants.{Seen, LeftOut, Never}
 use Rattle.keymap_cover.specs.SeenSights.{has_seen}
 use Rattle.keymap_cover.specs.ScriptEvents.{events_of, is_down, ArePossible}
 use Rattle.keymap_cover.specs.Told.{IsTold}
-use Rattle.keymap_cover.specs.Parts.{AreParts}
+use Rattle.keymap_cover.specs.Parts.{AreParts, part_place}
 
 -- the events of the script, with the newest first
 abbrev pub history : Cover → List Event
@@ -29,6 +32,16 @@ history c = events_of (reverse c.events.items)
 abbrev pub IsAtRest : MapValue → List Event → Type 0
 IsAtRest m h =
     IsQuiet h × ((i : Modifier) → is_on_after (between m m) i h ≡ false) × (accent_pending_after (between m m) h ≡ None)
+
+-- what the first n events see of the cells and lock settings that can be visited: all of it
+abbrev pub SeesKeysBy : MapValue → List ScriptEvent → ℕ → Type 0
+SeesKeysBy m events n =
+    (x : Sight) → IsTold m x → (IsPair x → ⊥) → CanVisit m x → SeesAlong m (events_of (reverse (take n events))) x
+
+-- and of all that is told of
+abbrev pub SeesToldBy : MapValue → List ScriptEvent → ℕ → Type 0
+SeesToldBy m events n =
+    (x : Sight) → IsTold m x → CanVisit m x → SeesAlong m (events_of (reverse (take n events))) x
 
 -- What a script and its lists say.
 pub record Covers (m : MapValue) (c : Cover) : Type 0 where
@@ -45,8 +58,14 @@ pub record Covers (m : MapValue) (c : Cover) : Type 0 where
   pub up : (k : ℕ) → k < key_count → is_down k (reverse c.events.items) ≡ false
   -- its parts begin in their order, the first before all events, and each has an event
   pub parts : AreParts c.starts.items (length c.events.items)
-  -- where no turn of a lock is one-way, nothing that is told of and can be seen is left out
-  pub complete : NoTurnIsOneWay m → (x : Sight) → IsTold m x → IsReachable m x → SeesAlong m (history c) x
+  -- nothing that is told of and can be visited is left out
+  pub complete : (x : Sight) → IsTold m x → CanVisit m x → SeesAlong m (history c) x
+  -- before a part behind that of cells begins, each cell and lock setting that can be visited was seen; and before one
+  -- behind that of pairs, each pair too
+  pub cells : (s : Start) → Contains c.starts.items s → part_place Cells < part_place s.part
+      → SeesKeysBy m c.events.items s.at
+  pub pairs : (s : Start) → Contains c.starts.items s → part_place Pairs < part_place s.part
+      → SeesToldBy m c.events.items s.at
 
 -- No press after a list that is spoken of sees it: after any list of presses, releases and resets, or, where a holder
 -- looks up a character in a state that a path leads to, after any clean one.
@@ -55,11 +74,11 @@ NeverSees m forgets x =
     (h : List Event) (k : ℕ) → IsAdmitted m forgets h → k < key_count → SeesNext m h k x → ⊥
 
 -- What is told of a sight. Each sight has exactly one verdict: what can be seen by no path is seen by no list. What is
--- left out though it is told of is so only where a turn of a lock is one-way.
+-- left out though it is told of can't be visited: no path leads to a press that sees it from which moves lead home.
 abbrev pub IsVerdict : MapValue → Cover → Sight → Verdict → Type 0
 IsVerdict m c x Seen = SeesAlong m (history c) x
 IsVerdict m c x LeftOut =
-    (SeesAlong m (history c) x → ⊥) × IsReachable m x × (IsTold m x → NoTurnIsOneWay m → ⊥)
+    (SeesAlong m (history c) x → ⊥) × IsReachable m x × (IsTold m x → CanVisit m x → ⊥)
 IsVerdict m c x Never =
     (SeesAlong m (history c) x → ⊥) × (IsReachable m x → ⊥) × NeverSees m c.sights.forgets x
 

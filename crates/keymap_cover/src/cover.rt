@@ -1,15 +1,17 @@
-//! A script that looks up what can be looked up, all of it where no turn of a lock is one-way, and what it sees.
-ghost use Rattle.std.specs.Prelude.{◌≡◌, ◌+◌, ◌≤◌, [], true, false, Some, length, OnOk, IfOk};
+//! A script that looks up what can be visited, and what it sees.
+ghost use Rattle.std.specs.Prelude.{◌≡◌, ◌⊎◌, ◌+◌, ◌≤◌, [], true, false, Some, length, OnOk, IfOk};
 ghost use Rattle.console_core.specs.declared.selection.Sight.{Sight as SightValue};
 ghost use Rattle.console_core.specs.History.{between};
-ghost use Rattle.console_core.specs.Returning.{NoTurnIsOneWay};
 ghost use Rattle.console_core.specs.Sights.{AreSightsOf, IsReachable, can_see};
+ghost use Rattle.console_core.specs.Visiting.{CanVisit};
 ghost use Rattle.keymap_cover.specs.Covering.{NeverSees, Covers, IsVerdict, verdict_of, IsCover};
 ghost use Rattle.keymap_cover.specs.Inner.Scripts.{AreUp, EndsAtRest, GoesFurther, GoesUnderWay, IsExplorerFor};
-ghost use Rattle.keymap_cover.specs.Inner.Scripts.{LeavesNothingOut, SeesAll};
+ghost use Rattle.keymap_cover.specs.Inner.Scripts.{SeesAll, ShowsInParts, ShowsTold};
 ghost use Rattle.keymap_cover.specs.SeenSights.{has_seen};
+ghost use Rattle.std.specs.List.{Contains};
+ghost use Rattle.keymap_cover.specs.declared.parts.Start.{Start as StartValue};
 ghost use Rattle.keymap_cover.specs.Parts.{AreParts, part_place};
-ghost use Rattle.keymap_cover.specs.Inner.Adding.{ArePartsBelow};
+ghost use Rattle.keymap_cover.specs.Inner.Adding.{ArePartsBelow, StandBehind};
 
 use crate::families::trials;
 use crate::one_way::go_onward;
@@ -116,8 +118,7 @@ fn show_left_out<T: Translator>(
 ) -> Result<(), AllocError>
     requires { AreSightsOf map.now sights.now }
     ensures { OnOk result (GoesUnderWay map.now (T.stands console.old) explorer.old script.old (T.stands console.new)
-        explorer.new script.new (NoTurnIsOneWay map.now → IsReachable map.now sight
-        → has_seen script.new.seen sight ≡ true)) }
+        explorer.new script.new (CanVisit map.now sight → has_seen script.new.seen sight ≡ true)) }
 {
     if !is_left_out(&script.seen, sights, map, sight) {
         return Ok(());
@@ -153,7 +154,9 @@ fn show_all<T: Translator>(
 fn begin(starts: &mut Vec<Start>, part: Part, at: usize, end: usize) -> Result<(), AllocError>
     requires below { ArePartsBelow (part_place part) starts.old.items at }
     requires order { at ≤ end }
-    ensures { OnOk result (ArePartsBelow (part_place part + 1) starts.new.items end) }
+    ensures below { OnOk result (ArePartsBelow (part_place part + 1) starts.new.items end) }
+    ensures added { OnOk result ((s : StartValue) → Contains starts.new.items s
+        → Contains starts.old.items s ⊎ ((s.part ≡ part) × (s.at ≡ at))) }
 {
     if at < end {
         starts.push(Start { part, at })?;
@@ -172,7 +175,8 @@ fn starts_of(
     requires first { first ≤ second }
     requires second { second ≤ third }
     requires third { third ≤ last }
-    ensures { IfOk result (λ starts. AreParts starts.items last) }
+    ensures parts { IfOk result (λ starts. AreParts starts.items last) }
+    ensures behind { IfOk result (λ starts. StandBehind starts.items first second) }
 {
     let mut starts = Vec::new(alloc);
     begin(&mut starts, Part::Cells, 0, first)?;
@@ -193,8 +197,7 @@ fn show_told<T: Translator>(
 ) -> Result<usize, AllocError>
     requires { AreSightsOf map.now sights.now }
     ensures { IfOk result (λ first. GoesUnderWay map.now (T.stands console.old) explorer.old script.old
-        (T.stands console.new) explorer.new script.new (LeavesNothingOut map.now script.new
-        × (first ≤ length script.new.events.items))) }
+        (T.stands console.new) explorer.new script.new (ShowsTold map.now first script.new)) }
 {
     let keys = told_of_keys(alloc)?;
     show_all(alloc, explorer, script, console, map, sights, &keys)?;
@@ -216,8 +219,7 @@ fn try_keys<T: Translator>(
         script.new) }
     ensures up { OnOk result (AreUp script.new.pressed) }
 {
-    let mut home = Vec::new(alloc);
-    explorer.push_home(&mut home, &*console)?;
+    let home = explorer.events_home(alloc, &*console)?;
     script.walk(console, map, &home)?;
     let trials = trials(alloc, map, explorer)?;
     script.walk(console, map, &trials)?;
@@ -235,7 +237,7 @@ fn script_of<T: Translator>(
     requires new { T.stands console.old (between map.now map.now) [] }
     requires explorer { IsExplorerFor map.now explorer.old }
     requires sights { AreSightsOf map.now sights.now }
-    ensures { IfOk result (λ t. EndsAtRest map.now t.0 × LeavesNothingOut map.now t.0
+    ensures { IfOk result (λ t. EndsAtRest map.now t.0 × ShowsInParts map.now t.0.events.items t.1.items
         × AreParts t.1.items (length t.0.events.items)) }
 {
     let mut script = Script::new(alloc)?;

@@ -1,5 +1,5 @@
-//! A script of key events after which a console has looked up every cell that can be looked up at all, where no turn of
-//! a lock is one-way, and what it sees.
+//! A script of key events after which a console has looked up every cell to which moves lead that lead home again, and
+//! what it sees.
 //!
 //! The crate stands on `console_core`: a console runs along while the script is made, so that what each press looks up
 //! is kept, the search tells what can be looked up at all (`Sights`), and an `Explorer` makes visits to what wasn't
@@ -7,9 +7,11 @@
 //!
 //! It promises (`cover_of`, `Cover::verdict`) that what is told as seen is what the script sees in its events from a
 //! new console, that what is told as left out can be seen, and that what is told as never seen no list of events sees,
-//! or no clean one where a key that holds a modifier can look up a character. Only released keys are pressed, only
-//! pressed ones repeated and released; at the end no key is down, no modifier on and no accent pending. The parts of
-//! the script begin in their order, the first before all events, and each has events.
+//! or no clean one where a key that holds a modifier can look up a character. Nothing is left out to which moves lead
+//! from which, once all keys are let go, more of them lead home. Only released keys are pressed, only pressed ones
+//! repeated and released; at the end no key is down, no modifier on and no accent pending. The parts of the script begin
+//! in their order, the first before all events, and each has events; before a part behind that of cells begins, all
+//! cells and lock settings were seen that can be visited, and before one behind that of pairs all pairs.
 #![tactic(auto)]
 
 mod counts;

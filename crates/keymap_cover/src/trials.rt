@@ -67,8 +67,7 @@ impl<'t, 'm, T: Translator> Trials<'t, 'm, T> {
 
     /// Turns the locks off that pick cells, where moves do.
     fn turn_locks_off(&mut self) -> Result<(), AllocError> {
-        let mut route = Vec::new(self.alloc);
-        self.explorer.push_home(&mut route, &*self.console)?;
+        let route = self.explorer.events_home(self.alloc, &*self.console)?;
         self.deliver_all(&route)
     }
 
@@ -78,8 +77,7 @@ impl<'t, 'm, T: Translator> Trials<'t, 'm, T> {
         self.deliver_all(&path)?;
         self.play(steps, at.key, at.key)?;
         if let Some(state) = self.explorer.state(at.place) {
-            let mut releases = Vec::new(self.alloc);
-            state.push_releases(&mut releases)?;
+            let releases = state.releases(self.alloc)?;
             self.deliver_all(&releases)?;
         }
         self.turn_locks_off()

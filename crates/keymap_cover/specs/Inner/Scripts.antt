@@ -1,5 +1,6 @@
 -- A script while it is made. Mirrors src/marks.rt, src/walk.rt and src/cover.rt.
-use Rattle.std.specs.Prelude.{◌≡◌, ◌⊎◌, ℕ, ◌<◌, Bool, true, false, List, [], ◌∷◌, ◌++◌, Option, Some, reverse}
+use Rattle.std.specs.Prelude.{◌≡◌, ◌⊎◌, ℕ, ◌<◌, ◌≤◌, Bool, true, false, List, [], ◌∷◌, ◌++◌, Option, Some, reverse}
+use Rattle.std.specs.Prelude.{length}
 use Rattle.std.specs.Prelude.{slice_index_or}
 use Rattle.std.specs.List.{Contains}
 use Rattle.keymap_core.specs.Maps.{MapValue}
@@ -12,16 +13,16 @@ use Rattle.keymap_core.specs.declared.entry.Cell.TheVariants.{Char}
 use Rattle.console_core.specs.declared.selection.Selection.{Selection}
 use Rattle.console_core.specs.declared.selection.Sight.TheVariants as sight
 use Rattle.console_core.specs.History.{Maps, between, is_locked_after, pressed, HasKeys, IsNoLoad}
-use Rattle.console_core.specs.Visiting.{AreTaken, HasLocks, ExplorerValue}
-use Rattle.console_core.specs.Returning.{NoTurnIsOneWay}
-use Rattle.console_core.specs.Sights.{look_selected, SeesNext, SeesAlong, IsReachable}
+use Rattle.console_core.specs.Visiting.{AreTaken, CanVisit, HasLocks, ExplorerValue}
+use Rattle.console_core.specs.Sights.{look_selected, SeesNext, SeesAlong}
 use Rattle.console_core.specs.Sticking.{IsOfPressedKey}
 use Rattle.keymap_cover.specs.declared.script_event.ScriptEvent.{ScriptEvent}
 use Rattle.keymap_cover.specs.declared.script.Script.{Script}
 use Rattle.keymap_cover.specs.ScriptEvents.{events_of, is_down, ArePossible}
 use Rattle.keymap_cover.specs.SeenSights.{has_seen}
-use Rattle.keymap_cover.specs.Covering.{IsAtRest}
-use Rattle.keymap_cover.specs.Told.{IsTold}
+use Rattle.keymap_cover.specs.declared.parts.Start.{Start}
+use Rattle.keymap_cover.specs.Covering.{IsAtRest, SeesKeysBy, SeesToldBy}
+use Rattle.keymap_cover.specs.Inner.Adding.{StandBehind}
 
 -- x is there, and what was there before, and nothing else
 abbrev pub IsWith : Sight → (Sight → Bool) → (Sight → Bool) → Type 0
@@ -153,15 +154,21 @@ GoesUnderWay m stood p before stands q t P =
 abbrev pub EndsAtRest : MapValue → Script → Type 0
 EndsAtRest m t = AreUp t.pressed × ((h : List Event) × IsScriptOf m h t × IsAtRest m h)
 
--- if no turn of a lock is one-way, what of these can be seen was seen
+-- what of these can be visited was seen
 abbrev pub SeesAll : MapValue → List Sight → Script → Type 0
-SeesAll m xs t =
-    NoTurnIsOneWay m → (x : Sight) → Contains xs x → IsReachable m x → has_seen t.seen x ≡ true
+SeesAll m xs t = (x : Sight) → Contains xs x → CanVisit m x → has_seen t.seen x ≡ true
 
--- and of all that is told of
-abbrev pub LeavesNothingOut : MapValue → Script → Type 0
-LeavesNothingOut m t =
-    NoTurnIsOneWay m → (x : Sight) → IsTold m x → IsReachable m x → has_seen t.seen x ≡ true
+-- a script saw in its first n events what of the keys can be visited, and in all of them what of all that is told of
+abbrev pub ShowsTold : MapValue → ℕ → Script → Type 0
+ShowsTold m n t =
+    (n ≤ length t.events.items) × SeesKeysBy m t.events.items n
+    × SeesToldBy m t.events.items (length t.events.items)
+
+-- And so it did before the parts begin that stand behind those of cells and of pairs.
+abbrev pub ShowsInParts : MapValue → List ScriptEvent → List Start → Type 0
+ShowsInParts m events starts =
+    (first second : ℕ) × SeesKeysBy m events first × SeesToldBy m events second × (second ≤ length events)
+    × StandBehind starts first second
 
 -- the explorer is of the map, and no locks are on
 abbrev pub IsExplorerFor : MapValue → ExplorerValue → Type 0

@@ -1,4 +1,4 @@
-use Rattle.keymap_cover.proofs.Common.{length, subst, sym, ◌∙◌, ◌≤◌, AreParts}
+use Rattle.keymap_cover.proofs.Common.{◌≡◌, arith, length, subst, sym, ◌∙◌, ◌≤◌, AreParts, SeesToldBy}
 use Rattle.keymap_cover.proofs.Showing.{script-whole, under-way-new}
 use Rattle.keymap_cover.proofs.cover.script_of.Goals as goal
 
@@ -16,7 +16,7 @@ starts_of-requires-clause-first g c =
     c.in_ok-first.first
     (under-way-new m A c.args.explorer.now a c.requires.explorer (c.requires.new, c.in_ok-script.ensures m))
     c.in_ok-first.ensures c.in_ok-try_keys.ensures.along c.in_ok-try_keys.ensures.up c.in_ok-go_onward.ensures in
-    subst (λ n. c.in_ok-first.first ≤ n) (sym (c.len-second.ensures ∙ b.events.ok.0)) whole.2
+    subst (λ n. c.in_ok-first.first ≤ n) (sym (c.len-second.ensures ∙ b.events.ok.0)) whole.3
 
 pub starts_of-requires-clause-second : goal.starts_of-requires-clause-second
 starts_of-requires-clause-second g c =
@@ -33,7 +33,7 @@ starts_of-requires-clause-second g c =
     (under-way-new m A c.args.explorer.now a c.requires.explorer (c.requires.new, c.in_ok-script.ensures m))
     c.in_ok-first.ensures c.in_ok-try_keys.ensures.along c.in_ok-try_keys.ensures.up c.in_ok-go_onward.ensures in
     subst (λ n. n ≤ c.len-third.result) (sym (c.len-second.ensures ∙ b.events.ok.0))
-    (subst (λ n. length b.events.items ≤ n) (sym (c.len-third.ensures ∙ d.events.ok.0)) whole.3)
+    (subst (λ n. length b.events.items ≤ n) (sym (c.len-third.ensures ∙ d.events.ok.0)) whole.4)
 
 pub starts_of-requires-clause-third : goal.starts_of-requires-clause-third
 starts_of-requires-clause-third g c =
@@ -50,7 +50,7 @@ starts_of-requires-clause-third g c =
     (under-way-new m A c.args.explorer.now a c.requires.explorer (c.requires.new, c.in_ok-script.ensures m))
     c.in_ok-first.ensures c.in_ok-try_keys.ensures.along c.in_ok-try_keys.ensures.up c.in_ok-go_onward.ensures in
     subst (λ n. n ≤ c.len.result) (sym (c.len-third.ensures ∙ d.events.ok.0))
-    (subst (λ n. length d.events.items ≤ n) (sym (c.len.ensures ∙ e.events.ok.0)) whole.4)
+    (subst (λ n. length d.events.items ≤ n) (sym (c.len.ensures ∙ e.events.ok.0)) whole.5)
 
 pub returns : goal.returns
 returns g c =
@@ -65,8 +65,16 @@ returns g c =
     (g.T.Translator.stands c.try_keys.new.console) d (g.T.Translator.stands c.go_onward.new.console) e
     c.in_ok-first.first
     (under-way-new m A c.args.explorer.now a c.requires.explorer (c.requires.new, c.in_ok-script.ensures m))
-    c.in_ok-first.ensures c.in_ok-try_keys.ensures.along c.in_ok-try_keys.ensures.up c.in_ok-go_onward.ensures in (
+    c.in_ok-first.ensures c.in_ok-try_keys.ensures.along c.in_ok-try_keys.ensures.up c.in_ok-go_onward.ensures in
+    let second : c.len-second.result ≡ length b.events.items = c.len-second.ensures ∙ b.events.ok.0 in (
       whole.0,
-      whole.1,
-      subst (λ n. AreParts c.in_ok-starts.starts.items n) (c.len.ensures ∙ e.events.ok.0) c.in_ok-starts.ensures,
+      (
+        c.in_ok-first.first,
+        c.len-second.result,
+        whole.1,
+        subst (λ n. SeesToldBy m e.events.items n) (sym second) whole.2,
+        omega (arith, second, whole.4, whole.5),
+        c.in_ok-starts.ensures.behind,
+      ),
+      subst (λ n. AreParts c.in_ok-starts.starts.items n) (c.len.ensures ∙ e.events.ok.0) c.in_ok-starts.ensures.parts,
     )

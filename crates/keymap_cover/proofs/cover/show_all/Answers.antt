@@ -20,5 +20,5 @@ returns g c =
       f,
       v,
       after,
-      (λ steady x (n, lt, at) can. seen steady n x (omega (arith, lt, c.loop-sight-test.false)) at can),
+      (λ x (n, lt, at) can. seen n x (omega (arith, lt, c.loop-sight-test.false)) at can),
     )

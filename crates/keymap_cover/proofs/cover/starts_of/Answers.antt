@@ -1,9 +1,16 @@
 use Rattle.keymap_cover.proofs.Common.{refl}
-use Rattle.keymap_cover.proofs.Ordered.{parts-none}
+use Rattle.keymap_cover.proofs.Ordered.{parts-none, stand-behind}
 use Rattle.keymap_cover.proofs.cover.starts_of.Goals as goal
 
 pub begin-requires-clause-below : goal.begin-requires-clause-below
 begin-requires-clause-below c = parts-none c.new-starts.result.items 0 c.new-starts.ensures.items refl
 
-pub returns : goal.returns
-returns c = c.in_ok-begin-4.ensures.parts
+pub returns-clause-parts : goal.returns-clause-parts
+returns-clause-parts c = c.in_ok-begin-4.ensures.below.parts
+
+pub returns-clause-behind : goal.returns-clause-behind
+returns-clause-behind c =
+    stand-behind c.new-starts.result.items c.begin.new.starts.items c.begin-2.new.starts.items
+    c.begin-3.new.starts.items c.begin-4.new.starts.items c.args.first c.args.second c.args.third c.requires.first
+    c.requires.second c.new-starts.ensures.items c.in_ok-begin.ensures.added c.in_ok-begin-2.ensures.added
+    c.in_ok-begin-3.ensures.added c.in_ok-begin-4.ensures.added

@@ -121,11 +121,11 @@ install: all
 	ln -sf libkmap.so.$(VERSION) "$(LIB)/$(SONAME)"
 	ln -sf $(SONAME) "$(LIB)/libkmap.so"
 	$(INSTALL) -m 644 include/kmap.h "$(INCLUDE)"
-	sed -e 's,^prefix=.*,prefix=$(PREFIX),' -e 's,^libdir=.*,libdir=$(LIBDIR),' \
-	    -e 's,^includedir=.*,includedir=$(INCLUDEDIR),' include/kmap.pc > "$(LIB)/pkgconfig/kmap.pc"
+	{ printf 'prefix=%s\nlibdir=%s\nincludedir=%s\n' "$(PREFIX)" "$(LIBDIR)" "$(INCLUDEDIR)" && \
+	    sed -e '/^prefix=/d' -e '/^libdir=/d' -e '/^includedir=/d' include/kmap.pc; } > "$(LIB)/pkgconfig/kmap.pc"
 	chmod 644 "$(LIB)/pkgconfig/kmap.pc"
-	for page in 1 3 5; do \
-	    sed 's,/usr/local,$(PREFIX),g' man/kmap.$$page > "$(MAN)/man$$page/kmap.$$page" && \
+	place=$$(printf '%s\n' "$(PREFIX)" | sed 's/[\\&,]/\\&/g') && for page in 1 3 5; do \
+	    sed "s,/usr/local,$$place,g" man/kmap.$$page > "$(MAN)/man$$page/kmap.$$page" && \
 	    chmod 644 "$(MAN)/man$$page/kmap.$$page" || exit 1; \
 	done
 	$(INSTALL) -m 644 completions/kmap.bash "$(BASH_COMPLETIONS)/kmap"
@@ -147,10 +147,12 @@ uninstall:
 	for file in README.md CHANGELOG.md LICENSE $(DOCUMENTS); do rm -f "$(DOC)/$$file"; done
 	for folder in "$(EXAMPLES)" "$(DOC)/docs" "$(DOC)"; do rmdir "$$folder" 2> /dev/null || true; done
 
-# The same bytes for the same files: names in order, and no time, owner or name of this machine.
+# The same bytes for the same files: names in order, and no time, owner or name of this machine. Its kmap.pc finds the
+# place where it is unpacked.
 dist: all
 	@folder=$$(mktemp -d) && trap 'rm -rf "$$folder"' EXIT && name=kmap-$(VERSION) && \
 	    $(MAKE) DESTDIR="$$folder" PREFIX=/usr/local install > /dev/null && mv "$$folder/usr/local" "$$folder/$$name" && \
+	    sed 's,^prefix=.*,prefix=$${pcfiledir}/../..,' include/kmap.pc > "$$folder/$$name/lib/pkgconfig/kmap.pc" && \
 	    (cd "$$folder" && find "$$name" ! -type d | LC_ALL=C sort | tar -c --no-recursion --format=ustar \
 	    --mtime=@0 --owner=0 --group=0 --numeric-owner -T - | gzip -9n) > $$name-x86_64-linux.tar.gz && \
 	    echo $$name-x86_64-linux.tar.gz

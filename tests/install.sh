@@ -110,6 +110,13 @@ installs() {
     holds "$1 tells pkg-config where" grep -qx 'libdir=/opt/lib64' "$place/opt/lib64/pkgconfig/kmap.pc"
     rm -rf "$place"
 
+    # signs that mean something to sed
+    odd=/opt/a,b\&c
+    holds "$1 installs below a name with odd signs" made "$1" "$folder/built" install "PREFIX=$odd"
+    holds "$1 names them in kmap.pc" grep -qxF "prefix=$odd" "$place$odd/lib/pkgconfig/kmap.pc"
+    holds "$1 names them in a page" grep -qF ".It Pa $odd/share/doc" "$place$odd/share/man/man1/kmap.1"
+    rm -rf "$place"
+
     touch "$folder/not built"
     holds "$1 stops where the build fails" refused "$1" "$folder/not built" install
     holds "$1 then shows what the kit said" grep -qx 'why it fails' "$folder/said"
@@ -181,6 +188,11 @@ archives() {
     "$folder/kmap-$version/bin/kmap" play --typed examples/us.kbd examples/line.script > "$folder/got"
     crates/kmap/out/kmap play --typed examples/us.kbd examples/line.script > "$folder/typed"
     same_text 'the program of the archive types the line' "$folder/typed" "$folder/got"
+    if is_there pkg-config; then
+        unpacked() { PKG_CONFIG_PATH=$folder/kmap-$version/lib/pkgconfig pkg-config --variable="$1" kmap; }
+        holds 'pkg-config finds the header where the archive was unpacked' [ -f "$(unpacked includedir)/kmap.h" ]
+        holds 'pkg-config finds the library there' [ -f "$(unpacked libdir)/libkmap.a" ]
+    fi
 }
 
 # not_installed FOLDER: the links and paths of the documents there that lead to no installed file, but for the paths of

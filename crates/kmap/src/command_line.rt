@@ -1,7 +1,9 @@
 //! The command line: its subcommands, and what its words ask for.
 use crate::inputs::is_standard_input;
+use clap::error::{Error, ErrorKind};
 use clap::{Arg, ArgAction, ArgMatches, Command};
 use std::alloc::{AllocError, Global};
+use std::convert::AsStr;
 
 /// The version of the program, which CHANGELOG.md and the manual pages repeat.
 const VERSION: &str = "0.3.0";
@@ -189,12 +191,25 @@ fn without_subcommands<'a>(alloc: Global) -> Command<'a> {
 }
 
 /// The subcommands of the program and their words.
-pub(crate) fn command<'a>(alloc: Global) -> Result<Command<'a>, AllocError> {
+fn command<'a>(alloc: Global) -> Result<Command<'a>, AllocError> {
     let mut program = without_subcommands(alloc);
     for described in &SUBCOMMANDS {
         program = program.subcommand(subcommand(alloc, described)?)?;
     }
     Ok(program)
+}
+
+/// What `clap` takes the words for.
+pub(crate) fn matches_of<'a, S>(alloc: Global, words: &'a [S]) -> Result<ArgMatches<'a>, Error>
+where
+    S: AsStr,
+{
+    command(alloc)?.try_get_matches_from(words)
+}
+
+/// A refusal as `clap` words its own.
+pub(crate) fn refusal(alloc: Global, kind: ErrorKind, message: &str) -> Result<Error, AllocError> {
+    command(alloc)?.error(kind, message)
 }
 
 /// What is done with the layout of a text.

@@ -1,6 +1,6 @@
 //! `kmap compile`: the table file of a text takes the place of OUT.
 use crate::inputs::{buffered, opened_file};
-use crate::program::{Failure, run_outcome};
+use crate::program::{Failure, FileFault, run_outcome};
 use crate::replace::{Old, ReplaceFault, is_same, replace};
 use keymap_core::{Accent, Definitions, Entry, FromStd, ReadError, ToStd, read_up_to, write_text};
 use keymap_tables::{NARROW_FILE, WIDE_FILE};
@@ -68,7 +68,7 @@ where
             let _ = read_into(bytes.as_slice(), &mut came);
             Ok(came.0)
         }
-        Err(ReadError::Memory) => Err(Failure::Run(RunError::Memory)),
+        Err(ReadError::Memory) => Err(Failure::of_run(RunError::Memory)),
         Err(ReadError::Read(_)) => Ok(false),
     }
 }
@@ -88,7 +88,7 @@ where
 {
     let file = opened_file(rt, text)?;
     let Ok(found) = file.metadata() else {
-        return Err(Failure::CannotOpen(text));
+        return Err(Failure::File(text, FileFault::CannotOpen));
     };
     let mut source = buffered(rt, file)?;
     let mut table = [0; WIDE_FILE];
@@ -100,13 +100,13 @@ where
         let outcome = compile_run(rt.alloc(), &mut source, &mut room);
         (outcome, WIDE_FILE)
     };
-    let (table, outcome) = match outcome {
-        Ok(()) => (&table[..size], Ok(())),
-        Err(RunError::TooWide(wide)) => (&table[..0], Err(RunError::TooWide(wide))),
-        Err(error) => return Err(Failure::Run(error)),
+    let table = match outcome {
+        Ok(()) => &table[..size],
+        Err(RunError::TooWide(_)) => &table[..0],
+        Err(error) => return Err(Failure::of_run(error)),
     };
     if is_the_text(rt, &found, out) || is_a_text(rt, out)? {
-        return Err(Failure::CannotCreate(out));
+        return Err(Failure::File(out, FileFault::CannotCreate));
     }
     write_table(rt, table, out)?;
     run_outcome(outcome)
@@ -129,7 +129,7 @@ where
         }
     }
     let Ok(file) = fs::create(rt, out) else {
-        return Err(Failure::CannotCreate(out));
+        return Err(Failure::File(out, FileFault::CannotCreate));
     };
     run_outcome(write_text(&mut ToStd::new(file), table).map_err(RunError::Write))
 }
@@ -137,12 +137,14 @@ where
 /// Why no table file of this name was written.
 fn failure_of<'a>(out: &'a str, fault: ReplaceFault) -> Failure<'a> {
     match fault {
-        ReplaceFault::Memory => Failure::Run(RunError::Memory),
+        ReplaceFault::Memory => Failure::of_run(RunError::Memory),
         ReplaceFault::NotWritable | ReplaceFault::TakesNone(_) | ReplaceFault::CannotCreate(_) =>
-            Failure::CannotCreate(out),
+            Failure::File(out, FileFault::CannotCreate),
         ReplaceFault::Write(fault) | ReplaceFault::Partly(fault) => {
-            Failure::Run(RunError::Write(fault))
+            Failure::of_run(RunError::Write(fault))
         }
-        ReplaceFault::Changed | ReplaceFault::CannotReplace => Failure::CannotReplace(out),
+        ReplaceFault::Changed | ReplaceFault::CannotReplace => {
+            Failure::File(out, FileFault::CannotReplace)
+        }
     }
 }

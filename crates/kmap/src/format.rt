@@ -1,10 +1,10 @@
 //! `kmap fmt`: texts are laid out, and written, compared or printed.
 use crate::command_line::FmtMode;
 use crate::inputs::{Source, buffered, given, is_standard_input, opened_file};
-use crate::output::Output;
-use crate::program::{Failure, is_well, of_many, report_name};
+use crate::output::{Output, tell};
+use crate::program::{Failure, FileFault, is_of_output, of_many, report, report_name, well};
 use crate::replace::{Old, ReplaceFault, replace};
-use keymap_core::{FromStd, Write, read_up_to, write_text};
+use keymap_core::{FromStd, Write, read_up_to};
 use kmap_runs::{CommandError, RunError, fmt_print_run, fmt_run};
 use std::alloc::{AllocError, Global};
 use std::fs;
@@ -36,13 +36,12 @@ where
             FmtMode::Print => print_one(rt, text),
         };
         match (mode, outcome) {
-            (FmtMode::Write, Err(Failure::Run(RunError::Write(fault)))) => {
-                let failure = Failure::OfFile(text, RunError::Write(fault).into());
-                let stopped = is_well(rt.alloc(), Err(failure), faults);
-                report_replaced(rt, replaced.as_slice(), faults);
-                return Ok(stopped);
-            }
             (FmtMode::Write, Err(Failure::NoReader)) => well = false,
+            (FmtMode::Write, Err(Failure::Command(None, error))) if is_of_output(&error) => {
+                report(rt.alloc(), &Failure::Command(Some(text), error), faults);
+                report_replaced(rt, replaced.as_slice(), faults);
+                return Ok(false);
+            }
             (_, outcome) => well = of_many(rt.alloc(), outcome, faults)? && well,
         }
     }
@@ -65,10 +64,10 @@ where
         return print_one(rt, text);
     }
     let (old, file) = regular(rt, text)?;
-    if let Some(laid) = laid_out(rt, text, buffered(rt, file)?)? {
-        rewrite(rt, text, &Old::Read(old), laid.as_slice(), replaced)?;
+    match laid_out(rt, text, buffered(rt, file)?)? {
+        Some(laid) => well(rewrite(rt, text, &Old::Read(old), laid.as_slice(), replaced)),
+        None => Ok(true),
     }
-    Ok(true)
 }
 
 /// Writes a layout in the place of its text, and tells the name. Another run may have written the same meanwhile.
@@ -82,16 +81,12 @@ fn rewrite<'a, R>(
 where
     R: AllocGlobal + Files<File = File> + Print,
 {
-    let Ok(line) = name_line(rt.alloc(), text) else {
-        return Err(Failure::Run(RunError::Memory));
-    };
-    if replaced.reserve(1).is_err() {
-        return Err(Failure::Run(RunError::Memory));
-    }
+    let line = name_line(rt.alloc(), text)?;
+    replaced.reserve(1)?;
     match replace(rt, text, old, SUFFIX, laid) {
         Ok(()) => {
             let _ = replaced.push(text);
-            tell(rt, line.as_str())
+            tell(rt, line.as_bytes())
         }
         Err(ReplaceFault::Changed) if has_text(rt, text, laid) => Ok(()),
         Err(fault) => Err(failure_of(text, fault)),
@@ -116,14 +111,14 @@ where
     // A pipe isn't opened, since that waits for its other end.
     match fs::metadata(rt, text) {
         Ok(found) if found.is_file() => {}
-        Ok(_) => return Err(Failure::NotRegular(text)),
-        Err(_) => return Err(Failure::CannotOpen(text)),
+        Ok(_) => return Err(Failure::File(text, FileFault::NotRegular)),
+        Err(_) => return Err(Failure::File(text, FileFault::CannotOpen)),
     }
     let file = opened_file(rt, text)?;
     match file.metadata() {
         Ok(found) if found.is_file() => Ok((found, file)),
-        Ok(_) => Err(Failure::NotRegular(text)),
-        Err(_) => Err(Failure::CannotOpen(text)),
+        Ok(_) => Err(Failure::File(text, FileFault::NotRegular)),
+        Err(_) => Err(Failure::File(text, FileFault::CannotOpen)),
     }
 }
 
@@ -132,16 +127,16 @@ fn check_one<'a, R>(rt: &R, text: &'a str) -> Result<bool, Failure<'a>>
 where
     R: AllocGlobal + Files + Input + Print,
 {
-    match laid_out(rt, text, given(rt, text)?)? {
-        None => Ok(true),
-        Some(_) => {
-            let Ok(line) = name_line(rt.alloc(), text) else {
-                return Err(Failure::Run(RunError::Memory));
-            };
-            tell(rt, line.as_str())?;
-            Ok(false)
-        }
+    let is_laid = laid_out(rt, text, given(rt, text)?)?.is_none();
+    if !is_laid {
+        tell_name(rt, text)?;
     }
+    Ok(is_laid)
+}
+
+fn tell_name<'a, R: AllocGlobal + Print>(rt: &R, name: &str) -> Result<(), Failure<'a>> {
+    let line = name_line(rt.alloc(), name)?;
+    tell(rt, line.as_bytes())
 }
 
 fn print_one<'a, R>(rt: &R, text: &'a str) -> Result<bool, Failure<'a>>
@@ -150,13 +145,8 @@ where
 {
     let mut source = given(rt, text)?;
     let mut out = Output::new(rt);
-    match fmt_print_run(rt.alloc(), &mut source, &mut out) {
-        Ok(()) => Ok(true),
-        Err(CommandError::Run(RunError::Write(fault))) => {
-            out.outcome(Err(RunError::Write(fault)))
-        }
-        Err(error) => Err(Failure::OfFile(text, error)),
-    }
+    let outcome = fmt_print_run(rt.alloc(), &mut source, &mut out);
+    well(out.file_outcome(text, outcome))
 }
 
 /// The layout of a text where that differs from it.
@@ -167,32 +157,27 @@ fn laid_out<'a, R: AllocGlobal, F: Read + Drop>(
 ) -> Result<Option<Vec<u8>>, Failure<'a>> {
     match fmt_run(rt.alloc(), &mut source) {
         Ok(laid) => Ok(laid),
-        Err(error) => Err(Failure::OfFile(text, error)),
+        Err(error) => Err(Failure::Command(Some(text), error)),
     }
 }
 
 fn failure_of<'a>(text: &'a str, fault: ReplaceFault) -> Failure<'a> {
     match fault {
-        ReplaceFault::Memory => Failure::Run(RunError::Memory),
+        ReplaceFault::Memory => Failure::of_run(RunError::Memory),
         ReplaceFault::TakesNone(name) | ReplaceFault::CannotCreate(name) => {
             Failure::CannotCreateNew(name)
         }
         ReplaceFault::Write(fault) | ReplaceFault::Partly(fault) => {
-            Failure::OfFile(text, RunError::Write(fault).into())
+            Failure::Command(Some(text), RunError::Write(fault).into())
         }
-        ReplaceFault::Changed => Failure::Changed(text),
-        ReplaceFault::NotWritable | ReplaceFault::CannotReplace => Failure::CannotReplace(text),
+        ReplaceFault::Changed => Failure::File(text, FileFault::Changed),
+        ReplaceFault::NotWritable | ReplaceFault::CannotReplace => {
+            Failure::File(text, FileFault::CannotReplace)
+        }
     }
 }
 
 /// The name of a file and a line feed. They are written at once, since another run may write into the same file.
 fn name_line(alloc: Global, name: &str) -> Result<String, AllocError> {
     format!(in alloc; "{name}\n")
-}
-
-/// Writes a line to the standard output.
-fn tell<'a, R: Print>(rt: &R, line: &str) -> Result<(), Failure<'a>> {
-    let mut out = Output::new(rt);
-    let told = write_text(&mut out, line.as_bytes()).map_err(RunError::Write);
-    out.outcome(told)
 }

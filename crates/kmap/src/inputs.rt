@@ -1,5 +1,5 @@
 //! The files that are read, and the standard input, for which `-` stands where a command takes it.
-use crate::program::Failure;
+use crate::program::{Failure, FileFault};
 use keymap_core::FromStd;
 use kmap_runs::RunError;
 use std::fs::Files;
@@ -82,7 +82,7 @@ pub(crate) fn given_if_named<'a, R: AllocGlobal + Files + Input>(
 pub(crate) fn opened_file<'a, R: Files>(rt: &R, name: &'a str) -> Result<R::File, Failure<'a>> {
     match fs::open(rt, name) {
         Ok(file) => Ok(file),
-        Err(_) => Err(Failure::CannotOpen(name)),
+        Err(_) => Err(Failure::File(name, FileFault::CannotOpen)),
     }
 }
 
@@ -92,6 +92,6 @@ pub(crate) fn buffered<'a, R: AllocGlobal, F: Read + Drop>(
 ) -> Result<Source<F>, Failure<'a>> {
     match BufReader::with_capacity(rt.alloc(), READ_AHEAD, file) {
         Ok(buffered) => Ok(FromStd::new(buffered)),
-        Err(_) => Err(Failure::Run(RunError::Memory)),
+        Err(_) => Err(Failure::of_run(RunError::Memory)),
     }
 }

@@ -2,10 +2,17 @@
 ghost use Rattle.std.specs.Prelude.{None};
 
 use crate::program::Failure;
-use keymap_core::{Failed, Write};
+use keymap_core::{Failed, Write, write_text};
 use kmap_runs::{CommandError, RunError};
 use std::io;
 use std::io::Write as _;
+
+/// Writes a text at once.
+pub(crate) fn tell<'n, R: Print>(rt: &R, text: &[u8]) -> Result<(), Failure<'n>> {
+    let mut out = Output::new(rt);
+    let told = write_text(&mut out, text).map_err(RunError::Write);
+    out.outcome(told)
+}
 
 /// The standard output, and what became of it.
 #[derive(Drop)]
@@ -31,24 +38,34 @@ impl<'a, R: Print> Output<'a, R> {
         self.is_empty
     }
 
-    /// The outcome of a run that wrote here. It isn't told that a reader has gone away.
-    pub(crate) fn outcome<'n, T>(&self, outcome: Result<T, RunError>) -> Result<T, Failure<'n>> {
-        match outcome {
-            Ok(value) => Ok(value),
-            Err(RunError::Write(_)) if !self.has_reader => Err(Failure::NoReader),
-            Err(error) => Err(Failure::Run(error)),
-        }
-    }
-
-    /// The same of a command that fails for reasons of its own too.
-    pub(crate) fn command_outcome<'n, T>(
+    /// The outcome of a command that wrote here. It isn't told that a reader has gone away.
+    pub(crate) fn outcome<'n, T, E: Into<CommandError>>(
         &self,
-        outcome: Result<T, CommandError>,
+        outcome: Result<T, E>,
     ) -> Result<T, Failure<'n>> {
         match outcome {
             Ok(value) => Ok(value),
-            Err(CommandError::Run(error)) => self.outcome(Err(error)),
-            Err(error) => Err(Failure::Command(error)),
+            Err(error) => Err(self.failure(None, error.into())),
+        }
+    }
+
+    /// The outcome of a command on one file of many, whose name is told unless the output failed.
+    pub(crate) fn file_outcome<'n, T, E: Into<CommandError>>(
+        &self,
+        file: &'n str,
+        outcome: Result<T, E>,
+    ) -> Result<T, Failure<'n>> {
+        match outcome {
+            Ok(value) => Ok(value),
+            Err(error) => Err(self.failure(Some(file), error.into())),
+        }
+    }
+
+    fn failure<'n>(&self, file: Option<&'n str>, error: CommandError) -> Failure<'n> {
+        match error {
+            CommandError::Run(RunError::Write(_)) if !self.has_reader => Failure::NoReader,
+            CommandError::Run(RunError::Write(_)) => Failure::Command(None, error),
+            _ => Failure::Command(file, error),
         }
     }
 }

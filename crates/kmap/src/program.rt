@@ -1,12 +1,13 @@
 //! One run of the program: the words, the files that they name, and the exit status.
-use crate::command_line::{Request, command, contradiction, request_of};
+use crate::command_line::{Request, contradiction, matches_of, request_of};
 use crate::compile::compile;
 use crate::format::format_texts;
 use crate::inputs::{given, given_if_named, opened, opened_if_named};
 use crate::output::Output;
 use crate::refusal::{contradicted, not_text, refused};
 use crate::texts::{check, lint};
-use keymap_core::{Write, write_text};
+use clap::ArgMatches;
+use keymap_core::{Read, Write, write_text};
 use keymap_draw::Board;
 use keymap_lint_text::shown_name;
 use kmap_runs::{
@@ -24,28 +25,50 @@ use std::{env, io};
 /// Why the program ends with status 1, besides a refused map.
 #[derive(Drop)]
 pub(crate) enum Failure<'a> {
-    Run(RunError),
-    /// It is no error of a run.
-    Command(CommandError),
-    /// The line of the error tells the file too.
-    OfFile(&'a str, CommandError),
-    CannotOpen(&'a str),
-    NotRegular(&'a str),
-    CannotCreate(&'a str),
+    /// The line of the error tells the file too, where there is one.
+    Command(Option<&'a str>, CommandError),
+    File(&'a str, FileFault),
     /// The new file that is to take the place of another can't be made.
     CannotCreateNew(String),
-    CannotReplace(&'a str),
-    /// The file was changed while its layout was made.
-    Changed(&'a str),
     /// Who read the output has gone away, which isn't told.
     NoReader,
 }
 
-impl Failure<'_> {
+/// Why nothing is done with a file.
+#[derive(Clone, Copy)]
+pub(crate) enum FileFault {
+    CannotOpen,
+    NotRegular,
+    CannotCreate,
+    CannotReplace,
+    /// It was changed while its layout was made.
+    Changed,
+}
+
+impl From<AllocError> for Failure<'_> {
+    fn from(_: AllocError) -> Self {
+        Failure::of_run(RunError::Memory)
+    }
+}
+
+impl<'a> Failure<'a> {
+    pub(crate) fn of_run(error: RunError) -> Failure<'a> {
+        Failure::Command(None, CommandError::Run(error))
+    }
+
     /// Whether nothing more can be written to the output.
     fn is_of_output(&self) -> bool {
-        matches!(self, Failure::NoReader | Failure::Run(RunError::Write(_)))
+        match self {
+            Failure::NoReader => true,
+            Failure::Command(None, error) => is_of_output(error),
+            _ => false,
+        }
     }
+}
+
+/// Whether it is the output that failed.
+pub(crate) fn is_of_output(error: &CommandError) -> bool {
+    matches!(error, CommandError::Run(RunError::Write(_)))
 }
 
 /// Does what the words of the command line ask for. A fault is one line to `faults`.
@@ -114,18 +137,30 @@ where
     S: AsStr,
     W: Write,
 {
-    match command(rt.alloc())?.try_get_matches_from(words) {
-        Ok(matches) => match request_of(&matches) {
-            Some(request) => match contradiction(&request) {
-                Some(message) => contradicted(rt, message),
-                None => {
-                    let outcome = answer(rt, request, faults);
-                    Ok(status(is_well(rt.alloc(), outcome, faults)))
-                }
-            },
-            None => not_text(rt),
-        },
+    match matches_of(rt.alloc(), words) {
+        Ok(matches) => matched_run(rt, &matches, faults),
         Err(error) => refused(rt, &error, words, faults),
+    }
+}
+
+fn matched_run<R, W>(
+    rt: &R,
+    matches: &ArgMatches<'_>,
+    faults: &mut W,
+) -> Result<ExitCode, AllocError>
+where
+    R: Env + AllocGlobal + Files<File = File> + Input + Print + Eprint,
+    W: Write,
+{
+    let Some(request) = request_of(matches) else {
+        return not_text(rt);
+    };
+    match contradiction(&request) {
+        Some(message) => contradicted(rt, message),
+        None => {
+            let outcome = answer(rt, request, faults);
+            Ok(status(is_well(rt.alloc(), outcome, faults)))
+        }
     }
 }
 
@@ -166,36 +201,33 @@ pub(crate) fn of_many<'a, W: Write>(
 }
 
 /// Writes the line of a failure. Where that can't be done, the status stays.
-fn report<W: Write>(alloc: Global, failure: &Failure<'_>, faults: &mut W) {
+pub(crate) fn report<W: Write>(alloc: Global, failure: &Failure<'_>, faults: &mut W) {
     match failure {
-        Failure::Run(error) | Failure::OfFile(_, CommandError::Run(error @ RunError::Memory)) => {
-            let _ = write_run_error(error, faults);
-        }
-        Failure::Command(error) => {
+        Failure::Command(_, error @ CommandError::Run(RunError::Memory))
+        | Failure::Command(None, error) => {
             let _ = write_command_error(error, faults);
         }
-        Failure::OfFile(name, error) => report_of_file(alloc, name, error, faults),
-        Failure::CannotOpen(name) => report_name(alloc, b"kmap: cannot open ", name, b"\n", faults),
-        Failure::NotRegular(name) => report_name(
-            alloc,
-            b"kmap: ",
-            name,
-            b": not a regular file\n",
-            faults,
-        ),
-        Failure::CannotCreate(name) => {
-            report_name(alloc, b"kmap: cannot create ", name, b"\n", faults);
+        Failure::Command(Some(name), error) => report_of_file(alloc, name, error, faults),
+        Failure::File(name, fault) => {
+            let (front, end) = words_of_fault(*fault);
+            report_name(alloc, front, name, end, faults);
         }
         Failure::CannotCreateNew(name) => {
-            report_name(alloc, b"kmap: cannot create ", name.as_str(), b"\n", faults);
-        }
-        Failure::CannotReplace(name) => {
-            report_name(alloc, b"kmap: cannot replace ", name, b"\n", faults);
-        }
-        Failure::Changed(name) => {
-            report_name(alloc, b"kmap: ", name, b": changed meanwhile\n", faults);
+            let (front, end) = words_of_fault(FileFault::CannotCreate);
+            report_name(alloc, front, name.as_str(), end, faults);
         }
         Failure::NoReader => {}
+    }
+}
+
+/// What stands before and behind the name of the file.
+fn words_of_fault(fault: FileFault) -> (&'static [u8], &'static [u8]) {
+    match fault {
+        FileFault::CannotOpen => (b"kmap: cannot open ", b"\n"),
+        FileFault::NotRegular => (b"kmap: ", b": not a regular file\n"),
+        FileFault::CannotCreate => (b"kmap: cannot create ", b"\n"),
+        FileFault::CannotReplace => (b"kmap: cannot replace ", b"\n"),
+        FileFault::Changed => (b"kmap: ", b": changed meanwhile\n"),
     }
 }
 
@@ -262,7 +294,7 @@ where
 }
 
 /// All is well where nothing failed.
-fn well<'a>(outcome: Result<(), Failure<'a>>) -> Result<bool, Failure<'a>> {
+pub(crate) fn well<'a>(outcome: Result<(), Failure<'a>>) -> Result<bool, Failure<'a>> {
     match outcome {
         Ok(()) => Ok(true),
         Err(failure) => Err(failure),
@@ -275,15 +307,23 @@ where
 {
     let mut text = given(rt, text)?;
     let mut next = given_if_named(rt, next)?;
+    search_in(rt, &mut text, &mut next)
+}
+
+fn search_in<'a, R: AllocGlobal + Print, S: Read, N: Read>(
+    rt: &R,
+    text: &mut S,
+    next: &mut Option<N>,
+) -> Result<bool, Failure<'a>> {
     let mut out = Output::new(rt);
-    let outcome = search_run(rt.alloc(), &mut text, &mut next, &mut out);
+    let outcome = search_run(rt.alloc(), text, next, &mut out);
     out.outcome(outcome)
 }
 
 pub(crate) fn run_outcome<'a, T>(outcome: Result<T, RunError>) -> Result<T, Failure<'a>> {
     match outcome {
         Ok(value) => Ok(value),
-        Err(error) => Err(Failure::Run(error)),
+        Err(error) => Err(Failure::of_run(error)),
     }
 }
 
@@ -314,10 +354,20 @@ where
     let mut text = opened(rt, text)?;
     let mut next = opened_if_named(rt, next)?;
     let mut script = opened(rt, script)?;
+    play_in(rt, show, &mut text, &mut next, &mut script)
+}
+
+fn play_in<'a, R: AllocGlobal + Print, S: Read>(
+    rt: &R,
+    show: Show,
+    text: &mut S,
+    next: &mut Option<S>,
+    script: &mut S,
+) -> Result<(), Failure<'a>> {
     let mut out = Output::new(rt);
-    let played = match &mut next {
-        Some(next) => play_next(rt.alloc(), show, &mut text, next, &mut script, &mut out),
-        None => play_core::play(rt.alloc(), show, &mut text, &mut script, &mut out),
+    let played = match next {
+        Some(next) => play_next(rt.alloc(), show, text, next, script, &mut out),
+        None => play_core::play(rt.alloc(), show, text, script, &mut out),
     };
     match played {
         Ok(()) => Ok(()),
@@ -333,7 +383,7 @@ where
     let mut sentence = given(rt, sentence)?;
     let mut out = Output::new(rt);
     let outcome = type_run(rt.alloc(), &mut text, &mut sentence, &mut out);
-    out.command_outcome(outcome)
+    out.outcome(outcome)
 }
 
 fn cover<'a, R>(rt: &R, text: &'a str) -> Result<(), Failure<'a>>
@@ -343,7 +393,7 @@ where
     let mut source = given(rt, text)?;
     let mut out = Output::new(rt);
     let outcome = cover_run(rt.alloc(), &mut source, &mut out);
-    out.command_outcome(outcome)
+    out.outcome(outcome)
 }
 
 fn draw<'a, R>(rt: &R, text: &'a str, ansi: bool) -> Result<(), Failure<'a>>

@@ -1,11 +1,10 @@
 //! What is told of a command line that isn't taken: that its words are wrong, or the help or version that they ask for.
-use crate::command_line::command;
-use crate::output::Output;
-use crate::program::{is_well, status};
+use crate::command_line::{matches_of, refusal};
+use crate::output::tell;
+use crate::program::{is_well, status, well};
 use clap::error::{Error, ErrorKind};
-use keymap_core::{Write, write_text};
+use keymap_core::Write;
 use keymap_lint_text::shown_name;
-use kmap_runs::RunError;
 use std::alloc::{AllocError, Global};
 use std::convert::AsStr;
 use std::env::FillError;
@@ -35,7 +34,7 @@ where
         return Ok(helped(rt, text.as_str(), faults));
     }
     let words = shown_words(rt.alloc(), words)?;
-    if let Err(error) = command(rt.alloc())?.try_get_matches_from(words.as_slice()) {
+    if let Err(error) = matches_of(rt.alloc(), words.as_slice()) {
         return wrong(rt, &error, words.as_slice());
     }
     let _ = rt.eprint(&text);
@@ -44,9 +43,7 @@ where
 
 /// Writes the help or the version. If that can't be done, it is a fault like that of any other output.
 fn helped<R: AllocGlobal + Print, W: Write>(rt: &R, text: &str, faults: &mut W) -> ExitCode {
-    let mut out = Output::new(rt);
-    let written = write_text(&mut out, text.as_bytes()).map_err(RunError::Write);
-    let outcome = out.outcome(written).map(|()| true);
+    let outcome = well(tell(rt, text.as_bytes()));
     status(is_well(rt.alloc(), outcome, faults))
 }
 
@@ -94,23 +91,24 @@ fn tip_on_whole_word(
     text: &str,
     words: &[String],
 ) -> Result<Option<String>, AllocError> {
-    let Some((front, tip)) = text.split_once(TIP) else {
+    let Some((front, part, rest)) = around_part(text) else {
         return Ok(None);
     };
-    let Some((part, behind)) = tip.split_once(USE) else {
-        return Ok(None);
-    };
-    let Some((_, rest)) = behind.split_once('\n') else {
-        return Ok(None);
-    };
-    for word in words {
-        let word = word.as_str();
-        if word.starts_with(part) {
+    match words.iter().find(|word| word.as_str().starts_with(part)) {
+        Some(word) => {
             let told = format!(in alloc; "{front}{TIP}{word}{USE}{word}'\n{rest}")?;
-            return Ok(Some(told));
+            Ok(Some(told))
         }
+        None => Ok(None),
     }
-    Ok(None)
+}
+
+/// What stands before the tip on a part of a word, that part, and what stands in the lines behind the tip.
+fn around_part(text: &str) -> Option<(&str, &str, &str)> {
+    let (front, tip) = text.split_once(TIP)?;
+    let (part, behind) = tip.split_once(USE)?;
+    let (_, rest) = behind.split_once('\n')?;
+    Some((front, part, rest))
 }
 
 /// Tells which of the words is no text.
@@ -136,7 +134,7 @@ fn told<R>(rt: &R, kind: ErrorKind, message: &str) -> Result<ExitCode, AllocErro
 where
     R: AllocGlobal + Eprint,
 {
-    let refusal = command(rt.alloc())?.error(kind, message)?;
+    let refusal = refusal(rt.alloc(), kind, message)?;
     let _ = rt.eprint(&refusal);
     Ok(ExitCode::from(WRONG_WORDS))
 }

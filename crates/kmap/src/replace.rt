@@ -205,12 +205,22 @@ pub(crate) fn replace<R: AllocGlobal + Files<File = File>>(
     bytes: &[u8],
 ) -> Result<(), ReplaceFault> {
     let target = target_of(rt, name)?;
-    if !old.is_absent() && !is_writable(rt, target.as_str()) {
+    replace_target(rt, target.as_str(), old, suffix, bytes)
+}
+
+fn replace_target<R: AllocGlobal + Files<File = File>>(
+    rt: &R,
+    target: &str,
+    old: &Old,
+    suffix: &str,
+    bytes: &[u8],
+) -> Result<(), ReplaceFault> {
+    if !old.is_absent() && !is_writable(rt, target) {
         return Err(ReplaceFault::NotWritable);
     }
-    let (name, mut file) = new_file(rt, target.as_str(), suffix, !old.is_absent())?;
+    let (name, mut file) = new_file(rt, target, suffix, !old.is_absent())?;
     let replacement = Replacement {
-        target: target.as_str(),
+        target,
         name: name.as_str(),
         old,
     };

@@ -1,8 +1,8 @@
 //! The commands that look at one text after the other and answer whether all is well: `kmap check` and `kmap lint`.
 use crate::inputs::{given, is_standard_input, opened};
-use crate::output::Output;
+use crate::output::{Output, tell};
 use crate::program::{Failure, of_many};
-use keymap_core::{ToStd, Write, write_text};
+use keymap_core::{Read, ToStd, Write};
 use keymap_lint_text::shown_name;
 use kmap_runs::{RunError, check_run, lint_run};
 use std::alloc::{AllocError, Global};
@@ -44,21 +44,34 @@ fn check_named<'a, R>(rt: &R, text: &'a str, show: bool) -> Result<bool, Failure
 where
     R: AllocGlobal + Files + Print,
 {
-    let mut source = opened(rt, text)?;
     let mut report = Vec::new(rt.alloc());
-    let accepted = match check_run(rt.alloc(), &mut source, show, &mut ToStd::new(&mut report)) {
-        Ok(accepted) => accepted,
-        // The report is kept in memory, so where it can't be written there is none left.
-        Err(RunError::Write(_)) => return Err(Failure::Run(RunError::Memory)),
-        Err(error) => return Err(Failure::OfFile(text, error.into())),
-    };
-    let Ok(told) = behind_name(rt.alloc(), text, report.as_slice()) else {
-        return Err(Failure::Run(RunError::Memory));
-    };
-    let mut out = Output::new(rt);
-    let written = write_text(&mut out, told.as_slice()).map_err(RunError::Write);
-    out.outcome(written)?;
+    let accepted = reported(rt, text, show, &mut report)?;
+    let told = behind_name(rt.alloc(), text, report.as_slice())?;
+    tell(rt, told.as_slice())?;
     Ok(accepted)
+}
+
+/// Whether a text is accepted, with its report in memory.
+fn reported<'a, R>(
+    rt: &R,
+    text: &'a str,
+    show: bool,
+    report: &mut Vec<u8>,
+) -> Result<bool, Failure<'a>>
+where
+    R: AllocGlobal + Files,
+{
+    let mut source = opened(rt, text)?;
+    let outcome = check_run(rt.alloc(), &mut source, show, &mut ToStd::new(report));
+    outcome.map_err(|error| failure_in_memory(text, error))
+}
+
+/// The report is kept in memory, so where it can't be written there is none left.
+fn failure_in_memory<'a>(text: &'a str, error: RunError) -> Failure<'a> {
+    match error {
+        RunError::Write(_) => Failure::of_run(RunError::Memory),
+        error => Failure::Command(Some(text), error.into()),
+    }
 }
 
 /// A line with the name of a file, as it is shown, and the report behind it.
@@ -102,10 +115,17 @@ where
         _ => text,
     };
     let mut source = given(rt, text)?;
+    lint_in(rt, place, &mut source, is_strict)
+}
+
+fn lint_in<'a, R: AllocGlobal + Print, S: Read>(
+    rt: &R,
+    place: &'a str,
+    source: &mut S,
+    is_strict: bool,
+) -> Result<bool, Failure<'a>> {
     let mut out = Output::new(rt);
-    match lint_run(rt.alloc(), place.as_bytes(), &mut source, &mut out) {
-        Ok(well) => Ok(well && (!is_strict || out.is_empty())),
-        Err(RunError::Write(fault)) => out.outcome(Err(RunError::Write(fault))),
-        Err(error) => Err(Failure::OfFile(place, error.into())),
-    }
+    let outcome = lint_run(rt.alloc(), place.as_bytes(), source, &mut out);
+    let well = out.file_outcome(place, outcome)?;
+    Ok(well && (!is_strict || out.is_empty()))
 }

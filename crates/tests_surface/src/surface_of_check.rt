@@ -6,23 +6,21 @@ use console_core::Event;
 use keymap_check::{Bearer, Finding, Place, Report, check, demonstrate};
 use keymap_core::{Action, Holding, KeyCode, KeyMap, Lock};
 use keymap_text::read_map;
-use std::alloc::Global;
-use std::test::Fail;
+use std::process::Abort;
 use test_support::keymaps::{SHIFT_WITH_TRAP, UPPER_HALF};
 
 /// The report on the keymap of a text.
-fn report_on(alloc: Global, text: &[u8]) -> Result<Report, Fail> {
-    let map: KeyMap = read_map(alloc, text)?;
+fn report_on<R: Abort + AllocGlobal>(rt: &R, text: &[u8]) -> Report {
+    let map: KeyMap = read_map(rt.alloc(), text).expect(rt, "a map");
     let report: Report = check(&map);
-    Ok(report)
+    report
 }
 
 #[test]
-fn report_accepted(rt: HostRuntime) -> Result<(), Fail> {
-    let refused: bool = report_on(rt.alloc(), SHIFT_WITH_TRAP)?.accepted();
-    let accepted: bool = report_on(rt.alloc(), UPPER_HALF)?.accepted();
+fn report_accepted(rt: HostRuntime) {
+    let refused: bool = report_on(&rt, SHIFT_WITH_TRAP).accepted();
+    let accepted: bool = report_on(&rt, UPPER_HALF).accepted();
     expect_equal(&rt, &(refused, accepted), &(false, true));
-    Ok(())
 }
 
 /// A finding: its key, the code of its holding action and the places of that and of the character.
@@ -48,19 +46,18 @@ fn place(at: Place) -> (u8, u8) {
 }
 
 #[test]
-fn report_findings(rt: HostRuntime) -> Result<(), Fail> {
-    let report: Report = report_on(rt.alloc(), SHIFT_WITH_TRAP)?;
+fn report_findings(rt: HostRuntime) {
+    let report: Report = report_on(&rt, SHIFT_WITH_TRAP);
     let findings: &ArrayVec<Finding, 128> = report.findings();
-    let first: Finding = *findings.first().ok_or("no finding")?;
+    let first: Finding = *findings.first().expect(&rt, "a finding");
     expect_equal(&rt, &findings.len(), &1);
     expect_equal(&rt, &parts_of(first), &(42, 0x02, (42, 0), (42, 2)));
-    Ok(())
 }
 
 /// What an action holds.
-fn holding(code: u8) -> Result<Holding, &'static str> {
-    let action: Action = Action::from_code(code).ok_or("no action")?;
-    action.holding().ok_or("nothing held")
+fn holding(rt: &impl Abort, code: u8) -> Holding {
+    let action: Action = Action::from_code(code).expect(rt, "an action");
+    action.holding().expect(rt, "something held")
 }
 
 /// How many bear something, as far as a bearer tells, and the key that bears it.
@@ -74,49 +71,44 @@ fn borne(bearer: Bearer) -> (&'static str, Option<u8>) {
 }
 
 #[test]
-fn report_bearer(rt: HostRuntime) -> Result<(), Fail> {
-    let report: Report = report_on(rt.alloc(), SHIFT_WITH_TRAP)?;
-    let lshift: Bearer = report.bearer(holding(0x02)?);
-    let lctrl: Bearer = report.bearer(holding(0x09)?);
-    let meta: Bearer = report.bearer(holding(0x84)?);
+fn report_bearer(rt: HostRuntime) {
+    let report: Report = report_on(&rt, SHIFT_WITH_TRAP);
+    let lshift: Bearer = report.bearer(holding(&rt, 0x02));
+    let lctrl: Bearer = report.bearer(holding(&rt, 0x09));
+    let meta: Bearer = report.bearer(holding(&rt, 0x84));
     expect_equal(&rt, &borne(lshift), &("sole", Some(42)));
     expect_equal(&rt, &borne(lctrl), &("throughout", Some(29)));
     expect_equal(&rt, &borne(meta), &("nobody", None));
-    Ok(())
 }
 
-fn alt_lock() -> Result<Lock, &'static str> {
-    match holding(0x82)? {
-        Holding::Lock(lock) => Ok(lock),
-        Holding::Mod(_) => Err("no lock"),
+fn lock(holding: Holding) -> Option<Lock> {
+    match holding {
+        Holding::Lock(lock) => Some(lock),
+        Holding::Mod(_) => None,
     }
 }
 
 #[test]
-fn report_steady(rt: HostRuntime) -> Result<(), Fail> {
-    let report: Report = report_on(rt.alloc(), UPPER_HALF)?;
-    let steady: bool = report.steady(alt_lock()?);
+fn report_steady(rt: HostRuntime) {
+    let report: Report = report_on(&rt, UPPER_HALF);
+    let alock: Lock = lock(holding(&rt, 0x82)).expect(&rt, "a lock");
+    let steady: bool = report.steady(alock);
     expect(&rt, "alock is steady", steady);
-    Ok(())
 }
 
 /// The events of a key that is pressed and of one that is released.
-fn tap(code: u8) -> Result<(Event, Event), &'static str> {
-    let key: KeyCode = KeyCode::new(code).ok_or("no key")?;
-    Ok((Event::Press(key), Event::Release(key)))
+fn tap(rt: &impl Abort, code: u8) -> (Event, Event) {
+    let key: KeyCode = KeyCode::new(code).expect(rt, "a key");
+    (Event::Press(key), Event::Release(key))
 }
 
 #[test]
-fn demonstrate_what_sticks(rt: HostRuntime) -> Result<(), Fail> {
-    let map: KeyMap = read_map(rt.alloc(), SHIFT_WITH_TRAP)?;
+fn demonstrate_what_sticks(rt: HostRuntime) {
+    let map: KeyMap = read_map(rt.alloc(), SHIFT_WITH_TRAP).expect(&rt, "a map");
     let shown: Option<ArrayVec<Event, 11>> = demonstrate(&map);
-    let (shift, unshift) = tap(42)?;
-    let (control, release) = tap(29)?;
+    let (shift, unshift) = tap(&rt, 42);
+    let (control, release) = tap(&rt, 29);
     let wanted: [Event; 5] = [shift, control, shift, unshift, release];
-    expect_equal(
-        &rt,
-        &shown.ok_or("nothing shown")?.as_slice(),
-        &wanted.as_slice(),
-    );
-    Ok(())
+    let shown = shown.expect(&rt, "events");
+    expect_equal(&rt, &shown.as_slice(), &wanted.as_slice());
 }

@@ -4,17 +4,16 @@ use crate::asserts::expect_equal;
 use console_core::{Answer, Event, PlainConsole, Translator, WordConsole, replay};
 use keymap_core::{Action, Holding, KeyCode, KeyMap, Lock, Modifier};
 use keymap_text::read_map;
-use std::alloc::{AllocError, Global};
+use std::alloc::AllocError;
 use std::process::Abort;
-use std::test::Fail;
 use test_support::keymaps::{ACCENTS, LETTER_AND_SHIFT, SHIFT_AND_CAPS};
 
-fn key(code: u8) -> Result<KeyCode, &'static str> {
-    KeyCode::new(code).ok_or("no key")
+fn key(rt: &impl Abort, code: u8) -> KeyCode {
+    KeyCode::new(code).expect(rt, "a key")
 }
 
-fn action(code: u8) -> Result<Action, &'static str> {
-    Action::from_code(code).ok_or("no action")
+fn action(rt: &impl Abort, code: u8) -> Action {
+    Action::from_code(code).expect(rt, "an action")
 }
 
 /// The code of the key of an event, if it has one.
@@ -28,12 +27,11 @@ fn key_of(event: Event) -> Option<u8> {
 }
 
 #[test]
-fn events(rt: HostRuntime) -> Result<(), Fail> {
-    expect_equal(&rt, &key_of(Event::Press(key(30)?)), &Some(30));
-    expect_equal(&rt, &key_of(Event::Release(key(30)?)), &Some(30));
+fn events(rt: HostRuntime) {
+    expect_equal(&rt, &key_of(Event::Press(key(&rt, 30))), &Some(30));
+    expect_equal(&rt, &key_of(Event::Release(key(&rt, 30))), &Some(30));
     expect_equal(&rt, &key_of(Event::Reset), &None);
     expect_equal(&rt, &key_of(Event::Load), &None);
-    Ok(())
 }
 
 /// The number of what an answer gives: of a character or of an action.
@@ -52,11 +50,10 @@ fn given(answer: Answer) -> u32 {
 }
 
 #[test]
-fn answers(rt: HostRuntime) -> Result<(), Fail> {
-    let special: Answer = Answer::Special(action(0x02)?);
+fn answers(rt: HostRuntime) {
+    let special: Answer = Answer::Special(action(&rt, 0x02));
     expect_equal(&rt, &given(special), &0x02);
     expect_equal(&rt, &given(Answer::None), &0);
-    Ok(())
 }
 
 fn expect_raw(rt: &impl Abort, answer: Answer, wanted: u32) {
@@ -65,75 +62,87 @@ fn expect_raw(rt: &impl Abort, answer: Answer, wanted: u32) {
 }
 
 #[test]
-fn answer_raw(rt: HostRuntime) -> Result<(), Fail> {
+fn answer_raw(rt: HostRuntime) {
     expect_raw(&rt, Answer::None, 0x0100_0000);
     expect_raw(&rt, Answer::Error, 0x2000_0000);
     expect_raw(&rt, Answer::Char { c: 'a', meta: true }, 0x0400_0061);
-    expect_raw(&rt, Answer::Special(action(0x1b)?), 0x8200_001b);
+    expect_raw(&rt, Answer::Special(action(&rt, 0x1b)), 0x8200_001b);
     expect_raw(&rt, Answer::BackTab, 0x8800_0008);
-    expect_raw(&rt, Answer::Released(action(0x02)?), 0xc000_0002);
-    Ok(())
+    expect_raw(&rt, Answer::Released(action(&rt, 0x02)), 0xc000_0002);
 }
 
 /// The modifier or lock of an action, by what it holds.
-fn left_shift() -> Result<Modifier, &'static str> {
-    match action(0x02)?.holding() {
-        Some(Holding::Mod(modifier)) => Ok(modifier),
-        _ => Err("no modifier"),
+fn modifier(holding: Holding) -> Option<Modifier> {
+    match holding {
+        Holding::Mod(modifier) => Some(modifier),
+        Holding::Lock(_) => None,
     }
 }
 
-fn caps_lock() -> Result<Lock, &'static str> {
-    match action(0x04)?.holding() {
-        Some(Holding::Lock(lock)) => Ok(lock),
-        _ => Err("no lock"),
+fn lock(holding: Holding) -> Option<Lock> {
+    match holding {
+        Holding::Lock(lock) => Some(lock),
+        Holding::Mod(_) => None,
     }
+}
+
+fn left_shift(rt: &impl Abort) -> Modifier {
+    action(rt, 0x02)
+        .holding()
+        .and_then(modifier)
+        .expect(rt, "a modifier")
+}
+
+fn caps_lock(rt: &impl Abort) -> Lock {
+    action(rt, 0x04)
+        .holding()
+        .and_then(lock)
+        .expect(rt, "a lock")
 }
 
 /// Delivers a press, and answers what the console answered and then shows of left shift, caps lock and accents.
 fn pressed<T: Translator>(
+    rt: &impl Abort,
     console: &mut T,
     code: u8,
-) -> Result<(Answer, bool, bool, Option<u8>), &'static str> {
-    let answer: Answer = console.step(Event::Press(key(code)?));
-    let on: bool = console.on(left_shift()?);
-    let locked: bool = console.locked(caps_lock()?);
+) -> (Answer, bool, bool, Option<u8>) {
+    let answer: Answer = console.step(Event::Press(key(rt, code)));
+    let on: bool = console.on(left_shift(rt));
+    let locked: bool = console.locked(caps_lock(rt));
     let pending: Option<u8> = console.pending();
-    Ok((answer, on, locked, pending))
+    (answer, on, locked, pending)
 }
 
 #[test]
-fn plain_console_new(rt: HostRuntime) -> Result<(), Fail> {
-    let map: KeyMap = read_map(rt.alloc(), LETTER_AND_SHIFT)?;
+fn plain_console_new(rt: HostRuntime) {
+    let map: KeyMap = read_map(rt.alloc(), LETTER_AND_SHIFT).expect(&rt, "a map");
     let mut console: PlainConsole<'_> = PlainConsole::new(&map);
-    let shown = pressed(&mut console, 42)?;
+    let shown = pressed(&rt, &mut console, 42);
     expect_equal(
         &rt,
         &shown,
-        &(Answer::Special(action(0x02)?), true, false, None),
+        &(Answer::Special(action(&rt, 0x02)), true, false, None),
     );
-    Ok(())
 }
 
 #[test]
-fn word_console_new(rt: HostRuntime) -> Result<(), Fail> {
-    let map: KeyMap = read_map(rt.alloc(), LETTER_AND_SHIFT)?;
+fn word_console_new(rt: HostRuntime) {
+    let map: KeyMap = read_map(rt.alloc(), LETTER_AND_SHIFT).expect(&rt, "a map");
     let mut console: WordConsole<'_> = WordConsole::new(&map);
-    let shown = pressed(&mut console, 42)?;
+    let shown = pressed(&rt, &mut console, 42);
     expect_equal(
         &rt,
         &shown,
-        &(Answer::Special(action(0x02)?), true, false, None),
+        &(Answer::Special(action(&rt, 0x02)), true, false, None),
     );
-    Ok(())
 }
 
 /// Turns the caps lock on, loads the other keymap, and presses a letter.
-fn loaded<T: Translator>(console: &mut T) -> Result<(bool, Answer), &'static str> {
-    let (_, _, locked, _) = pressed(console, 58)?;
+fn loaded<T: Translator>(rt: &impl Abort, console: &mut T) -> (bool, Answer) {
+    let (_, _, locked, _) = pressed(rt, console, 58);
     console.step(Event::Load);
-    let (answer, ..) = pressed(console, 30)?;
-    Ok((locked, answer))
+    let (answer, ..) = pressed(rt, console, 30);
+    (locked, answer)
 }
 
 const SMALL_A: Answer = Answer::Char {
@@ -142,53 +151,46 @@ const SMALL_A: Answer = Answer::Char {
 };
 
 #[test]
-fn plain_console_between(rt: HostRuntime) -> Result<(), Fail> {
-    let first: KeyMap = read_map(rt.alloc(), SHIFT_AND_CAPS)?;
-    let second: KeyMap = read_map(rt.alloc(), LETTER_AND_SHIFT)?;
+fn plain_console_between(rt: HostRuntime) {
+    let first: KeyMap = read_map(rt.alloc(), SHIFT_AND_CAPS).expect(&rt, "a map");
+    let second: KeyMap = read_map(rt.alloc(), LETTER_AND_SHIFT).expect(&rt, "a map");
     let mut console: PlainConsole<'_> = PlainConsole::between(&first, &second);
-    expect_equal(&rt, &loaded(&mut console)?, &(true, SMALL_A));
-    Ok(())
+    expect_equal(&rt, &loaded(&rt, &mut console), &(true, SMALL_A));
 }
 
 #[test]
-fn word_console_between(rt: HostRuntime) -> Result<(), Fail> {
-    let first: KeyMap = read_map(rt.alloc(), SHIFT_AND_CAPS)?;
-    let second: KeyMap = read_map(rt.alloc(), LETTER_AND_SHIFT)?;
+fn word_console_between(rt: HostRuntime) {
+    let first: KeyMap = read_map(rt.alloc(), SHIFT_AND_CAPS).expect(&rt, "a map");
+    let second: KeyMap = read_map(rt.alloc(), LETTER_AND_SHIFT).expect(&rt, "a map");
     let mut console: WordConsole<'_> = WordConsole::between(&first, &second);
-    expect_equal(&rt, &loaded(&mut console)?, &(true, SMALL_A));
-    Ok(())
+    expect_equal(&rt, &loaded(&rt, &mut console), &(true, SMALL_A));
 }
 
-/// What three presses of a dead key are answered, and the accent that is pending then.
-fn three<T: Translator>(alloc: Global, console: &mut T) -> Result<(Vec<Answer>, Option<u8>), Fail> {
-    let events: [Event; 3] = [Event::Press(key(26)?); 3];
-    let answers: Result<Vec<Answer>, AllocError> = replay(alloc, console, &events);
-    Ok((answers?, console.pending()))
-}
-
-/// The dead key is pending, gives its own character, and is pending again.
-fn expect_acute(rt: &impl Abort, answers: &[Answer], pending: Option<u8>) {
+/// Three presses of a dead key: it is pending, gives its own character, and is pending again.
+fn expect_acute<R: Abort + AllocGlobal, T: Translator>(rt: &R, console: &mut T) {
     let acute: Answer = Answer::Char {
         c: '\u{b4}',
         meta: false,
     };
+    let events: [Event; 3] = [Event::Press(key(rt, 26)); 3];
     let wanted: [Answer; 3] = [Answer::None, acute, Answer::None];
-    expect_equal(rt, &answers, &wanted.as_slice());
-    expect_equal(rt, &pending, &Some(1));
+    let answers: Result<Vec<Answer>, AllocError> = replay(rt.alloc(), console, &events);
+    expect_equal(
+        rt,
+        &answers.expect(rt, "answers").as_slice(),
+        &wanted.as_slice(),
+    );
+    expect_equal(rt, &console.pending(), &Some(1));
 }
 
 #[test]
-fn replay_on_a_plain_console(rt: HostRuntime) -> Result<(), Fail> {
-    let map: KeyMap = read_map(rt.alloc(), ACCENTS)?;
-    let (answers, pending) = three(rt.alloc(), &mut PlainConsole::new(&map))?;
-    expect_acute(&rt, answers.as_slice(), pending);
-    Ok(())
+fn replay_on_a_plain_console(rt: HostRuntime) {
+    let map: KeyMap = read_map(rt.alloc(), ACCENTS).expect(&rt, "a map");
+    expect_acute(&rt, &mut PlainConsole::new(&map));
 }
 
 #[test]
-fn replay_on_a_word_console(rt: HostRuntime) -> Result<(), Fail> {
-    let map: KeyMap = read_map(rt.alloc(), ACCENTS)?;
-    let (answers, pending) = three(rt.alloc(), &mut WordConsole::new(&map))?;
-    expect_acute(&rt, answers.as_slice(), pending);
-    Ok(())
+fn replay_on_a_word_console(rt: HostRuntime) {
+    let map: KeyMap = read_map(rt.alloc(), ACCENTS).expect(&rt, "a map");
+    expect_acute(&rt, &mut WordConsole::new(&map));
 }

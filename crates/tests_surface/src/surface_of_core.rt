@@ -8,8 +8,8 @@ use keymap_core::{
     LockFlag, Modifier, Name, Named, PairFault, Read, ReadError, ReadFault, ReadFaultKind, ToStd,
     Write, WriteFault, read_up_to,
 };
-use std::alloc::{AllocError, Global};
-use std::test::Fail;
+use std::alloc::AllocError;
+use std::process::Abort;
 
 #[test]
 fn key_code_new(rt: HostRuntime) {
@@ -19,16 +19,15 @@ fn key_code_new(rt: HostRuntime) {
 }
 
 #[test]
-fn key_code_get(rt: HostRuntime) -> Result<(), Fail> {
-    let key: KeyCode = KeyCode::new(30).ok_or("no key")?;
+fn key_code_get(rt: HostRuntime) {
+    let key: KeyCode = KeyCode::new(30).expect(&rt, "a key");
     let code: u8 = key.get();
     expect_equal(&rt, &code, &30);
-    Ok(())
 }
 
-fn action(code: u8) -> Result<Action, &'static str> {
+fn action(rt: &impl Abort, code: u8) -> Action {
     let action: Option<Action> = Action::from_code(code);
-    action.ok_or("no action")
+    action.expect(rt, "an action")
 }
 
 #[test]
@@ -39,18 +38,16 @@ fn action_from_code(rt: HostRuntime) {
 }
 
 #[test]
-fn action_code(rt: HostRuntime) -> Result<(), Fail> {
-    let code: u8 = action(0x02)?.code();
+fn action_code(rt: HostRuntime) {
+    let code: u8 = action(&rt, 0x02).code();
     expect_equal(&rt, &code, &0x02);
-    Ok(())
 }
 
 #[test]
-fn action_name(rt: HostRuntime) -> Result<(), Fail> {
-    let name: Name = action(0x90)?.name();
+fn action_name(rt: HostRuntime) {
+    let name: Name = action(&rt, 0x90).name();
     let letters: ArrayVec<u8, 6> = name;
     expect_equal(&rt, &letters.as_slice(), &b"duml".as_slice());
-    Ok(())
 }
 
 /// Of each kind of a holding action whether it is a modifier.
@@ -68,22 +65,20 @@ fn is_modifier(holding: Holding) -> bool {
 }
 
 #[test]
-fn action_holding(rt: HostRuntime) -> Result<(), Fail> {
-    let lshift: Option<Holding> = action(0x02)?.holding();
-    let clock: Option<Holding> = action(0x04)?.holding();
-    let nop: Option<Holding> = action(0x00)?.holding();
-    expect(&rt, "lshift", is_modifier(lshift.ok_or("lshift")?));
-    expect(&rt, "clock", !is_modifier(clock.ok_or("clock")?));
+fn action_holding(rt: HostRuntime) {
+    let lshift: Option<Holding> = action(&rt, 0x02).holding();
+    let clock: Option<Holding> = action(&rt, 0x04).holding();
+    let nop: Option<Holding> = action(&rt, 0x00).holding();
+    expect(&rt, "lshift", is_modifier(lshift.expect(&rt, "lshift")));
+    expect(&rt, "clock", !is_modifier(clock.expect(&rt, "clock")));
     expect_equal(&rt, &nop, &None);
-    Ok(())
 }
 
 #[test]
-fn holding_action(rt: HostRuntime) -> Result<(), Fail> {
-    let lshift: Holding = action(0x02)?.holding().ok_or("lshift")?;
+fn holding_action(rt: HostRuntime) {
+    let lshift: Holding = action(&rt, 0x02).holding().expect(&rt, "lshift");
     let action: Action = lshift.action();
     expect_equal(&rt, &action.code(), &0x02);
-    Ok(())
 }
 
 /// What a word names, by the code of its action.
@@ -125,12 +120,11 @@ fn character(cell: Cell) -> Option<char> {
 }
 
 #[test]
-fn cells(rt: HostRuntime) -> Result<(), Fail> {
+fn cells(rt: HostRuntime) {
     let nul: Cell = Cell::Char('\0');
-    let nop: Cell = Cell::Act(action(0x00)?);
+    let nop: Cell = Cell::Act(action(&rt, 0x00));
     expect_equal(&rt, &character(nul), &Some('\0'));
     expect_equal(&rt, &character(nop), &None);
-    Ok(())
 }
 
 fn letter(flag: LockFlag) -> char {
@@ -186,17 +180,16 @@ fn accent_push_pair(rt: HostRuntime) {
 }
 
 #[test]
-fn accent_pairs(rt: HostRuntime) -> Result<(), Fail> {
+fn accent_pairs(rt: HostRuntime) {
     let mut acute: Accent = Accent::new('\u{b4}');
-    acute.push_pair('e', '\u{e9}')?;
+    let _ = acute.push_pair('e', '\u{e9}');
     let pairs: &[(char, char)] = acute.pairs();
     expect_equal(&rt, &pairs, &[('e', '\u{e9}')].as_slice());
-    Ok(())
 }
 
 /// The keymap without keys.
-fn no_keys(alloc: Global) -> Result<KeyMap, AllocError> {
-    KeyMap::new(alloc)
+fn no_keys<R: Abort + AllocGlobal>(rt: &R) -> KeyMap {
+    KeyMap::new(rt.alloc()).expect(rt, "a map")
 }
 
 #[test]
@@ -206,80 +199,71 @@ fn key_map_new(rt: HostRuntime) {
 }
 
 #[test]
-fn key_map_n_keys(rt: HostRuntime) -> Result<(), Fail> {
-    let n_keys: u16 = no_keys(rt.alloc())?.n_keys();
+fn key_map_n_keys(rt: HostRuntime) {
+    let n_keys: u16 = no_keys(&rt).n_keys();
     expect_equal(&rt, &n_keys, &0);
-    Ok(())
 }
 
 #[test]
-fn key_map_n_accs(rt: HostRuntime) -> Result<(), Fail> {
-    let n_accs: u8 = no_keys(rt.alloc())?.n_accs();
+fn key_map_n_accs(rt: HostRuntime) {
+    let n_accs: u8 = no_keys(&rt).n_accs();
     expect_equal(&rt, &n_accs, &0);
-    Ok(())
 }
 
 #[test]
-fn key_map_set(rt: HostRuntime) -> Result<(), Fail> {
-    let mut map: KeyMap = no_keys(rt.alloc())?;
+fn key_map_set(rt: HostRuntime) {
+    let mut map: KeyMap = no_keys(&rt);
     let (slot, entry): (u8, Entry) = (255, Entry::undefined());
     let done: () = map.set(slot, entry);
     expect_equal(&rt, &(done, map.n_keys()), &((), 256));
-    Ok(())
 }
 
 #[test]
-fn key_map_entry(rt: HostRuntime) -> Result<(), Fail> {
-    let map: KeyMap = no_keys(rt.alloc())?;
+fn key_map_entry(rt: HostRuntime) {
+    let map: KeyMap = no_keys(&rt);
     let entry: &Entry = map.entry(255);
     expect_equal(&rt, entry, &Entry::undefined());
-    Ok(())
 }
 
 #[test]
-fn key_map_set_accent(rt: HostRuntime) -> Result<(), Fail> {
-    let mut map: KeyMap = no_keys(rt.alloc())?;
+fn key_map_set_accent(rt: HostRuntime) {
+    let mut map: KeyMap = no_keys(&rt);
     let set: Result<(), BadAccent> = map.set_accent(14, Accent::new('x'));
     let refused: Result<(), BadAccent> = map.set_accent(15, Accent::new('x'));
     expect_equal(&rt, &(set, refused), &(Ok(()), Err(BadAccent)));
     expect_equal(&rt, &map.n_accs(), &15);
-    Ok(())
 }
 
 #[test]
-fn key_map_accent(rt: HostRuntime) -> Result<(), Fail> {
-    let mut map: KeyMap = no_keys(rt.alloc())?;
-    map.set_accent(0, Accent::new('x'))?;
+fn key_map_accent(rt: HostRuntime) {
+    let mut map: KeyMap = no_keys(&rt);
+    let _ = map.set_accent(0, Accent::new('x'));
     let first: Option<&Accent> = map.accent(0);
     let second: Option<&Accent> = map.accent(1);
-    expect_equal(&rt, &first.ok_or("no accent")?.own(), &'x');
+    expect_equal(&rt, &first.expect(&rt, "an accent").own(), &'x');
     expect(&rt, "a second accent", second.is_none());
-    Ok(())
 }
 
 #[test]
-fn key_map_accent_or_blank(rt: HostRuntime) -> Result<(), Fail> {
-    let map: KeyMap = no_keys(rt.alloc())?;
+fn key_map_accent_or_blank(rt: HostRuntime) {
+    let map: KeyMap = no_keys(&rt);
     let accent: &Accent = map.accent_or_blank(14);
     expect_equal(&rt, &accent.own(), &'\0');
-    Ok(())
 }
 
 #[test]
-fn key_map_try_clone(rt: HostRuntime) -> Result<(), Fail> {
-    let map: KeyMap = no_keys(rt.alloc())?;
+fn key_map_try_clone(rt: HostRuntime) {
+    let map: KeyMap = no_keys(&rt);
     let copy: Result<KeyMap, AllocError> = map.try_clone(rt.alloc());
-    expect_equal(&rt, &copy?.n_keys(), &0);
-    Ok(())
+    expect_equal(&rt, &copy.expect(&rt, "a map").n_keys(), &0);
 }
 
 #[test]
-fn key_map_equality(rt: HostRuntime) -> Result<(), Fail> {
-    let (map, mut other): (KeyMap, KeyMap) = (no_keys(rt.alloc())?, no_keys(rt.alloc())?);
+fn key_map_equality(rt: HostRuntime) {
+    let (map, mut other): (KeyMap, KeyMap) = (no_keys(&rt), no_keys(&rt));
     let is_equal: bool = map == other;
     other.set(0, Entry::undefined());
     expect_equal(&rt, &(is_equal, map == other), &(true, false));
-    Ok(())
 }
 
 /// What one read and then the flag answer, of any reader.
@@ -353,11 +337,14 @@ fn broken_at(error: ReadError) -> Option<u64> {
 }
 
 #[test]
-fn read_up_to_a_limit(rt: HostRuntime) -> Result<(), Fail> {
+fn read_up_to_a_limit(rt: HostRuntime) {
     let max: usize = 3;
     let bytes: Result<Vec<u8>, ReadError> = read_up_to(rt.alloc(), &mut drip_of(b"12345"), max);
-    expect_equal(&rt, &bytes?.as_slice(), &b"123".as_slice());
-    Ok(())
+    expect_equal(
+        &rt,
+        &bytes.expect(&rt, "bytes").as_slice(),
+        &b"123".as_slice(),
+    );
 }
 
 #[test]

@@ -9,7 +9,7 @@ use play_core::{
     PlayError, ScriptError, ScriptFault, Sent, Show, Source, What, play, play_next, read_script,
     typed,
 };
-use std::test::Fail;
+use std::process::Abort;
 use test_support::keymaps::{LETTER_AND_SHIFT, NOP_UNDER_CONTROL, SHIFT_AND_CAPS};
 
 /// The word of a line, and the code of its key.
@@ -24,20 +24,17 @@ fn told(what: What) -> (&'static str, Option<u8>) {
 }
 
 /// The only thing that a script sends.
-fn only(sent: &[Sent]) -> Result<Sent, &'static str> {
-    match sent {
-        [only] => Ok(*only),
-        _ => Err("not one event"),
-    }
+fn only(rt: &impl Abort, sent: &[Sent]) -> Sent {
+    expect_equal(rt, &sent.len(), &1);
+    *sent.first().expect(rt, "an event")
 }
 
 #[test]
-fn read_script_of_a_line(rt: HostRuntime) -> Result<(), Fail> {
+fn read_script_of_a_line(rt: HostRuntime) {
     let sent: Result<Vec<Sent>, ScriptError> = read_script(rt.alloc(), b" lost  up 042 # x");
-    let Sent { lost, what } = only(sent?.as_slice())?;
+    let Sent { lost, what } = only(&rt, sent.expect(&rt, "events").as_slice());
     let _: bool = lost;
     expect_equal(&rt, &(lost, told(what)), &(true, ("up", Some(42))));
-    Ok(())
 }
 
 /// The name of a script's fault and its line, none where memory was refused.
@@ -132,7 +129,7 @@ fn blamed(error: PlayError) -> &'static str {
 const TAP: &[u8] = b"down 30\nup 30\n";
 
 #[test]
-fn play_lines(rt: HostRuntime) -> Result<(), Fail> {
+fn play_lines(rt: HostRuntime) {
     let (mut text, mut script, mut out) = (drip_of(NOP_UNDER_CONTROL), drip_of(TAP), page_of(999));
     let played: Result<(), PlayError> = play(
         rt.alloc(),
@@ -145,17 +142,15 @@ fn play_lines(rt: HostRuntime) -> Result<(), Fail> {
     let wanted =
         b"press 30: char 97; mods none; locks none\nrelease 30: none; mods none; locks none\n";
     expect_equal(&rt, &out.bytes.as_slice(), &wanted.as_slice());
-    Ok(())
 }
 
 #[test]
-fn play_typed(rt: HostRuntime) -> Result<(), Fail> {
+fn play_typed(rt: HostRuntime) {
     let (mut text, mut script, mut out) = (drip_of(NOP_UNDER_CONTROL), drip_of(TAP), page_of(1));
     let show: Show = Show::Typed;
     let played: Result<(), PlayError> = play(rt.alloc(), show, &mut text, &mut script, &mut out);
     expect_equal(&rt, &(played, has_lines(show)), &(Ok(()), false));
     expect_equal(&rt, &out.bytes.as_slice(), &b"a".as_slice());
-    Ok(())
 }
 
 #[test]
@@ -172,7 +167,7 @@ fn play_blames_a_source(rt: HostRuntime) {
 }
 
 #[test]
-fn play_next_after_a_load(rt: HostRuntime) -> Result<(), Fail> {
+fn play_next_after_a_load(rt: HostRuntime) {
     let (mut text, mut next) = (drip_of(SHIFT_AND_CAPS), drip_of(LETTER_AND_SHIFT));
     let mut script = drip_of(b"down 58\nup 58\ndown 42\nload\ndown 30\n");
     let mut out = page_of(999);
@@ -187,7 +182,6 @@ fn play_next_after_a_load(rt: HostRuntime) -> Result<(), Fail> {
     expect_equal(&rt, &played, &Ok(()));
     let last = b"load: none; mods none; locks none\npress 30: char 97; mods none; locks none\n";
     expect(&rt, "the last lines", out.bytes.ends_with(last));
-    Ok(())
 }
 
 #[test]

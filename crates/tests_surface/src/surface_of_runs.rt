@@ -7,7 +7,6 @@ use keymap_tables::{TableFault, Wide};
 use keymap_text::TextFault;
 use kmap_runs::{RunError, check_run, dump_narrow_run, dump_run, write_run_error};
 use play_core::{PlayError, ScriptFault};
-use std::test::Fail;
 use test_support::keymaps::{LETTER_AND_SHIFT, SHIFT_WITH_TRAP};
 
 /// What a run failed of. What other commands fail of besides is told by a type around it.
@@ -60,12 +59,11 @@ alock nobody
 ";
 
 #[test]
-fn check_run_accepts(rt: HostRuntime) -> Result<(), Fail> {
+fn check_run_accepts(rt: HostRuntime) {
     let (mut text, show, mut out) = (drip_of(LETTER_AND_SHIFT), false, page_of(999));
     let accepted: Result<bool, RunError> = check_run(rt.alloc(), &mut text, show, &mut out);
     expect_equal(&rt, &accepted, &Ok(true));
     expect_equal(&rt, &out.bytes.as_slice(), &ACCEPTED);
-    Ok(())
 }
 
 #[test]

@@ -8,21 +8,19 @@ use keymap_tables::{
     read_tables, read_tables_from, write_narrow, write_tables,
 };
 use keymap_text::read_map;
-use std::alloc::Global;
-use std::test::Fail;
+use std::process::Abort;
 use test_support::keymaps::LETTER_AND_SHIFT;
 
 /// The keymap of two keys.
-fn sample(alloc: Global) -> Result<KeyMap, Fail> {
-    Ok(read_map(alloc, LETTER_AND_SHIFT)?)
+fn sample<R: Abort + AllocGlobal>(rt: &R) -> KeyMap {
+    read_map(rt.alloc(), LETTER_AND_SHIFT).expect(rt, "a map")
 }
 
 #[test]
-fn write_tables_to_a_page(rt: HostRuntime) -> Result<(), Fail> {
+fn write_tables_to_a_page(rt: HostRuntime) {
     let mut page = page_of(15_524);
-    let written: Result<(), WriteFault> = write_tables(&sample(rt.alloc())?, &mut page);
+    let written: Result<(), WriteFault> = write_tables(&sample(&rt), &mut page);
     expect_equal(&rt, &(written, page.bytes.len()), &(Ok(()), 15_524));
-    Ok(())
 }
 
 /// The number of a kind in the list of the kinds.
@@ -81,22 +79,20 @@ fn table_fault_of_each_kind(rt: HostRuntime) {
 }
 
 #[test]
-fn read_tables_of_a_length(rt: HostRuntime) -> Result<(), Fail> {
+fn read_tables_of_a_length(rt: HostRuntime) {
     let map: Result<KeyMap, TableError> = read_tables(rt.alloc(), &[0; 15_524]);
-    expect_equal(&rt, &map?.n_keys(), &0);
+    expect_equal(&rt, &map.expect(&rt, "a map").n_keys(), &0);
     let short = read_tables(rt.alloc(), &[0; 15_523]).err();
     expect_equal(&rt, &short.and_then(judged), &Some((15_523, 1)));
     let long = read_tables(rt.alloc(), &[0; 15_525]).err();
     expect_equal(&rt, &long.and_then(judged), &Some((15_524, 2)));
-    Ok(())
 }
 
 #[test]
-fn read_tables_from_a_drip(rt: HostRuntime) -> Result<(), Fail> {
+fn read_tables_from_a_drip(rt: HostRuntime) {
     let file = [0; 15_524];
     let map: Result<KeyMap, TableError> = read_tables_from(rt.alloc(), &mut drip_of(&file));
-    expect_equal(&rt, &map?.n_keys(), &0);
-    Ok(())
+    expect_equal(&rt, &map.expect(&rt, "a map").n_keys(), &0);
 }
 
 /// Why a narrow file was not written: the place that is too wide.
@@ -119,38 +115,40 @@ fn numbers(wide: Wide) -> (u8, u8) {
 }
 
 #[test]
-fn write_narrow_of_a_wide_map(rt: HostRuntime) -> Result<(), Fail> {
-    let map = read_map(rt.alloc(), b"0 'a' 'A' SOH soh fkey1 scr16 0x20ac DEL b")?;
+fn write_narrow_of_a_wide_map(rt: HostRuntime) {
+    let text = b"0 'a' 'A' SOH soh fkey1 scr16 0x20ac DEL b";
+    let map = read_map(rt.alloc(), text).expect(&rt, "a map");
     let mut page = page_of(4_139);
     let written: Result<(), NarrowError> = write_narrow(&map, &mut page);
     let wide: Option<Wide> = written.err().and_then(too_wide);
     expect_equal(&rt, &wide, &Some(Wide::Cell { slot: 0, column: 6 }));
     expect_equal(&rt, &wide.map(numbers), &Some((0, 6)));
     expect(&rt, "nothing is written", page.bytes.is_empty());
-    Ok(())
 }
 
 /// The narrow file of the sample.
-fn narrow_sample(alloc: Global) -> Result<Page, Fail> {
+fn narrow_sample<R: Abort + AllocGlobal>(rt: &R) -> Page {
     let mut page = page_of(4_139);
-    write_narrow(&sample(alloc)?, &mut page)?;
-    Ok(page)
+    let _ = write_narrow(&sample(rt), &mut page);
+    page
+}
+
+fn expect_sample<R: Abort + AllocGlobal>(rt: &R, map: Result<KeyMap, TableError>) {
+    expect(rt, "the same map", map.expect(rt, "a map") == sample(rt));
 }
 
 #[test]
-fn read_narrow_of_a_file(rt: HostRuntime) -> Result<(), Fail> {
-    let file = narrow_sample(rt.alloc())?;
+fn read_narrow_of_a_file(rt: HostRuntime) {
+    let file = narrow_sample(&rt);
     expect_equal(&rt, &file.bytes.get(..2), &Some([0x2b, 0].as_slice()));
     let map: Result<KeyMap, TableError> = read_narrow(rt.alloc(), file.bytes.as_slice());
-    expect(&rt, "the same map", map? == sample(rt.alloc())?);
-    Ok(())
+    expect_sample(&rt, map);
 }
 
 #[test]
-fn read_narrow_from_a_drip(rt: HostRuntime) -> Result<(), Fail> {
-    let file = narrow_sample(rt.alloc())?;
+fn read_narrow_from_a_drip(rt: HostRuntime) {
+    let file = narrow_sample(&rt);
     let mut drip = drip_of(file.bytes.as_slice());
     let map: Result<KeyMap, TableError> = read_narrow_from(rt.alloc(), &mut drip);
-    expect(&rt, "the same map", map? == sample(rt.alloc())?);
-    Ok(())
+    expect_sample(&rt, map);
 }

@@ -7,8 +7,8 @@ use keymap_text::{
     MapReader, Meaning, Span, TextError, TextFault, TextFaultKind, Token, TokenKind, next_token,
     print_map, read_from, read_map, word_meaning,
 };
-use std::alloc::{AllocError, Global};
-use std::test::Fail;
+use std::alloc::AllocError;
+use std::process::Abort;
 use test_support::keymaps::LETTER_AND_SHIFT;
 
 fn kind_of_token(kind: TokenKind) -> &'static str {
@@ -134,13 +134,12 @@ fn judged(error: TextError) -> Option<(u64, u64, u8)> {
 }
 
 #[test]
-fn read_map_of_a_map(rt: HostRuntime) -> Result<(), Fail> {
+fn read_map_of_a_map(rt: HostRuntime) {
     let map: Result<KeyMap, TextError> = read_map(
         rt.alloc(),
         b"255 nop nop nop nop nop nop nop nop O",
     );
-    expect_equal(&rt, &map?.n_keys(), &256);
-    Ok(())
+    expect_equal(&rt, &map.expect(&rt, "a map").n_keys(), &256);
 }
 
 /// Texts, and their faults. What has too many pairs is long.
@@ -166,51 +165,47 @@ fn text_fault_of_each_kind(rt: HostRuntime) {
 }
 
 /// The keymap of one key.
-fn euro(alloc: Global) -> Result<KeyMap, TextError> {
-    read_map(alloc, b"0 'a' 'A' SOH soh fkey1 scr16 0x20ac DEL b")
+fn euro<R: Abort + AllocGlobal>(rt: &R) -> KeyMap {
+    let text = b"0 'a' 'A' SOH soh fkey1 scr16 0x20ac DEL b";
+    read_map(rt.alloc(), text).expect(rt, "a map")
 }
 
 #[test]
-fn print_map_to_a_page(rt: HostRuntime) -> Result<(), Fail> {
+fn print_map_to_a_page(rt: HostRuntime) {
     let mut page = page_of(10);
-    let printed: Result<(), WriteFault> = print_map(&euro(rt.alloc())?, &mut page);
+    let printed: Result<(), WriteFault> = print_map(&euro(&rt), &mut page);
     expect_equal(&rt, &printed, &Err(WriteFault { written: 10 }));
     expect_equal(&rt, &page.bytes.as_slice(), &b"000 'a'   ".as_slice());
-    Ok(())
 }
 
 #[test]
-fn map_reader_new(rt: HostRuntime) -> Result<(), Fail> {
+fn map_reader_new(rt: HostRuntime) {
     let reader: Result<MapReader, AllocError> = MapReader::new(rt.alloc());
-    let fed: u64 = reader?.fed();
+    let fed: u64 = reader.expect(&rt, "a reader").fed();
     expect_equal(&rt, &fed, &0);
-    Ok(())
 }
 
 #[test]
-fn map_reader_feed(rt: HostRuntime) -> Result<(), Fail> {
-    let mut reader: MapReader = MapReader::new(rt.alloc())?;
+fn map_reader_feed(rt: HostRuntime) {
+    let mut reader: MapReader = MapReader::new(rt.alloc()).expect(&rt, "a reader");
     let first: Result<(), TextFault> = reader.feed(b"25");
     expect_equal(&rt, &(first, reader.fed()), &(Ok(()), 2));
     let second: Result<(), TextFault> = reader.feed(b"6");
     expect_equal(&rt, &(second, reader.fed()), &(Ok(()), 3));
     let third: Result<(), TextFault> = reader.feed(b" ");
     expect_equal(&rt, &third.map_err(parts_of), &Err((0, 1, 5)));
-    Ok(())
 }
 
 #[test]
-fn map_reader_finish(rt: HostRuntime) -> Result<(), Fail> {
-    let mut reader: MapReader = MapReader::new(rt.alloc())?;
-    reader.feed(b"256")?;
+fn map_reader_finish(rt: HostRuntime) {
+    let mut reader: MapReader = MapReader::new(rt.alloc()).expect(&rt, "a reader");
+    let _ = reader.feed(b"256");
     let map: Result<KeyMap, TextFault> = reader.finish();
     expect_equal(&rt, &map.err().map(parts_of), &Some((0, 1, 5)));
-    Ok(())
 }
 
 #[test]
-fn read_from_a_drip(rt: HostRuntime) -> Result<(), Fail> {
+fn read_from_a_drip(rt: HostRuntime) {
     let map: Result<KeyMap, TextError> = read_from(rt.alloc(), &mut drip_of(LETTER_AND_SHIFT));
-    expect_equal(&rt, &map?.n_keys(), &43);
-    Ok(())
+    expect_equal(&rt, &map.expect(&rt, "a map").n_keys(), &43);
 }

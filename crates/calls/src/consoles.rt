@@ -1,6 +1,6 @@
 //! The calls of console_core, and of keymap_cover, which stands on it.
 use crate::devices::mark;
-use crate::inputs::{TRAP, map_of, sample};
+use crate::inputs::{Call, Lent};
 use crate::outcome::{Outcome, ended, ended_keeping};
 use console_core::{
     Event, Explorer, PlainConsole, Sight, Sticking, Translator, WordConsole, find_onward, replay,
@@ -10,32 +10,56 @@ use keymap_core::{KeyCode, Lock, Modifier, Write};
 use keymap_cover::{Seen, cells, cover_of, lock_settings};
 use std::alloc::{AllocError, Global};
 
-/// Makes the call of this name. There is none where no call has the name.
-pub(crate) fn outcome_of<W: Write>(
-    alloc: Global,
-    name: &str,
-    marks: &mut W,
-) -> Result<Option<Outcome>, AllocError> {
-    let outcome = match name {
-        "replay-plain" => replays_plainly(alloc, marks)?,
-        "replay-word" => replays_in_a_word(alloc, marks)?,
-        "sticking" => searches(alloc, marks)?,
-        "sticking_between" => searches_between(alloc, marks)?,
-        "sights_of" => finds_sights(alloc, marks)?,
-        "Explorer::new" => explores(alloc, marks)?,
-        "Explorer::visit" => visits(alloc, marks)?,
-        "Explorer::events_to" => goes_out(alloc, marks)?,
-        "Explorer::events_home" => comes_home(alloc, marks)?,
-        "Reached::releases" => lets_go(alloc, marks)?,
-        "find_onward" => goes_onward(alloc, marks)?,
-        "type_characters" => types_characters(alloc, marks)?,
-        "cover_of" => covers(alloc, marks)?,
+/// Makes a call on a keymap and its consoles. There is none where no such call has the name.
+pub(crate) fn of_keymaps<W: Write>(call: &Call<'_>, marks: &mut W) -> Option<Outcome> {
+    let Call {
+        alloc,
+        sample,
+        trap,
+        ..
+    } = *call;
+    let outcome = match call.name {
+        "replay-plain" => replays_plainly(alloc, sample, marks),
+        "replay-word" => replays_in_a_word(alloc, sample, marks),
+        "sticking" => searches(alloc, trap, marks),
+        "sticking_between" => searches_between(alloc, trap, sample, marks),
+        "sights_of" => finds_sights(alloc, sample, marks),
+        "Explorer::new" => explores(alloc, sample, marks),
+        "find_onward" => goes_onward(alloc, sample, marks),
+        "type_characters" => types_characters(alloc, sample, marks),
+        "cover_of" => covers(alloc, sample, marks),
         "Seen::new" => sees_nothing(alloc, marks),
         "cells" => lists_cells(alloc, marks),
         "lock_settings" => lists_lock_settings(alloc, marks),
-        _ => return Ok(None),
+        _ => return None,
     };
-    Ok(Some(outcome))
+    Some(outcome)
+}
+
+/// Makes a call on the explorer of a keymap. There is none where no such call has the name.
+pub(crate) fn of_explorer<W: Write>(
+    call: &Call<'_>,
+    marks: &mut W,
+) -> Result<Option<Outcome>, AllocError> {
+    match Explorer::new(call.alloc, &call.sample.map)? {
+        Some(mut explorer) => Ok(explored(call, &mut explorer, marks)),
+        None => Ok(None),
+    }
+}
+
+fn explored<W: Write>(
+    call: &Call<'_>,
+    explorer: &mut Explorer<'_>,
+    marks: &mut W,
+) -> Option<Outcome> {
+    let alloc = call.alloc;
+    match call.name {
+        "Explorer::visit" => Some(visits(alloc, explorer, marks)),
+        "Explorer::events_to" => Some(goes_out(alloc, explorer, marks)),
+        "Explorer::events_home" => Some(comes_home(alloc, call.sample, explorer, marks)),
+        "Reached::releases" => lets_go(alloc, explorer, marks),
+        _ => None,
+    }
 }
 
 /// The key with this code is pressed.
@@ -76,81 +100,69 @@ fn replays<T: Translator, W: Write>(
     let given = replay(alloc, console, &events);
     mark(marks);
     let kept = given.is_ok() || agree(console, twin, &events);
-    ended_keeping(given.map(|answers| answers.len() == 3), kept)
+    let is_right = matches!(&given, Ok(answers) if answers.len() == 3);
+    ended_keeping(&given, is_right, kept)
 }
 
-fn replays_plainly<W: Write>(alloc: Global, marks: &mut W) -> Result<Outcome, AllocError> {
-    let map = sample(alloc)?;
-    let mut console = PlainConsole::new(&map);
-    let mut twin = PlainConsole::new(&map);
-    Ok(replays(alloc, &mut console, &mut twin, marks))
+fn replays_plainly<W: Write>(alloc: Global, lent: &Lent, marks: &mut W) -> Outcome {
+    let mut console = PlainConsole::new(&lent.map);
+    let mut twin = PlainConsole::new(&lent.map);
+    replays(alloc, &mut console, &mut twin, marks)
 }
 
-fn replays_in_a_word<W: Write>(alloc: Global, marks: &mut W) -> Result<Outcome, AllocError> {
-    let map = sample(alloc)?;
-    let mut console = WordConsole::new(&map);
-    let mut twin = WordConsole::new(&map);
-    Ok(replays(alloc, &mut console, &mut twin, marks))
+fn replays_in_a_word<W: Write>(alloc: Global, lent: &Lent, marks: &mut W) -> Outcome {
+    let mut console = WordConsole::new(&lent.map);
+    let mut twin = WordConsole::new(&lent.map);
+    replays(alloc, &mut console, &mut twin, marks)
 }
 
-fn sticks(found: Sticking) -> bool {
-    match found {
-        Sticking::Sticks { events, .. } => !events.is_empty(),
-        Sticking::Never | Sticking::Undecided(_) => false,
-    }
+fn sticks(given: &Result<Sticking, AllocError>) -> bool {
+    matches!(given, Ok(Sticking::Sticks { events, .. }) if !events.is_empty())
 }
 
-fn searches<W: Write>(alloc: Global, marks: &mut W) -> Result<Outcome, AllocError> {
-    let (map, twin) = (map_of(alloc, TRAP)?, map_of(alloc, TRAP)?);
+fn searches<W: Write>(alloc: Global, lent: &Lent, marks: &mut W) -> Outcome {
     mark(marks);
-    let given = sticking(alloc, &map);
+    let given = sticking(alloc, &lent.map);
     mark(marks);
-    Ok(ended_keeping(given.map(sticks), map == twin))
+    ended_keeping(&given, sticks(&given), lent.is_kept())
 }
 
-fn searches_between<W: Write>(alloc: Global, marks: &mut W) -> Result<Outcome, AllocError> {
-    let (map, twin) = (map_of(alloc, TRAP)?, map_of(alloc, TRAP)?);
-    let next = sample(alloc)?;
+fn searches_between<W: Write>(alloc: Global, lent: &Lent, next: &Lent, marks: &mut W) -> Outcome {
     mark(marks);
-    let given = sticking_between(alloc, &map, &next);
+    let given = sticking_between(alloc, &lent.map, &next.map);
     mark(marks);
-    Ok(ended_keeping(given.map(sticks), map == twin))
+    ended_keeping(&given, sticks(&given), lent.is_kept())
 }
 
-fn finds_sights<W: Write>(alloc: Global, marks: &mut W) -> Result<Outcome, AllocError> {
-    let (map, twin) = (sample(alloc)?, sample(alloc)?);
+fn finds_sights<W: Write>(alloc: Global, lent: &Lent, marks: &mut W) -> Outcome {
     mark(marks);
-    let given = sights_of(alloc, &map);
+    let given = sights_of(alloc, &lent.map);
     mark(marks);
-    Ok(ended_keeping(given.map(|sights| sights.is_some()), map == twin))
+    ended_keeping(&given, matches!(&given, Ok(Some(_))), lent.is_kept())
 }
 
-fn types_characters<W: Write>(alloc: Global, marks: &mut W) -> Result<Outcome, AllocError> {
-    let (map, twin) = (sample(alloc)?, sample(alloc)?);
+fn types_characters<W: Write>(alloc: Global, lent: &Lent, marks: &mut W) -> Outcome {
     mark(marks);
-    let given = type_characters(alloc, &map, &['a', 'é', 'a', 'A', 'é']);
+    let given = type_characters(alloc, &lent.map, &['a', 'é', 'a', 'A', 'é']);
     mark(marks);
-    Ok(ended_keeping(given.map(|typing| typing.keyed.len() == 5), map == twin))
+    let is_right = matches!(&given, Ok(typing) if typing.keyed.len() == 5);
+    ended_keeping(&given, is_right, lent.is_kept())
 }
 
-fn explores<W: Write>(alloc: Global, marks: &mut W) -> Result<Outcome, AllocError> {
-    let (map, twin) = (sample(alloc)?, sample(alloc)?);
+fn explores<W: Write>(alloc: Global, lent: &Lent, marks: &mut W) -> Outcome {
     mark(marks);
-    let given = Explorer::new(alloc, &map);
+    let given = Explorer::new(alloc, &lent.map);
     mark(marks);
-    let made = match given {
-        Ok(explorer) => Ok(explorer.is_some()),
-        Err(error) => Err(error),
-    };
-    Ok(ended_keeping(made, map == twin))
+    ended_keeping(&given, matches!(&given, Ok(Some(_))), lent.is_kept())
+}
+
+/// Whether it is a list with events.
+fn has_events(given: &Result<Vec<Event>, AllocError>) -> bool {
+    matches!(given, Ok(events) if !events.is_empty())
 }
 
 /// A visit that composes an accent with a letter.
-fn visits<W: Write>(alloc: Global, marks: &mut W) -> Result<Outcome, AllocError> {
-    let map = sample(alloc)?;
-    let Some(mut explorer) = Explorer::new(alloc, &map)? else {
-        return Ok(ended::<AllocError>(Ok(false)));
-    };
+fn visits<W: Write>(alloc: Global, explorer: &mut Explorer<'_>, marks: &mut W) -> Outcome {
     let pair = Sight::Pair {
         accent: 1,
         character: 'e',
@@ -159,87 +171,77 @@ fn visits<W: Write>(alloc: Global, marks: &mut W) -> Result<Outcome, AllocError>
     mark(marks);
     let given = explorer.visit(alloc, &[]);
     mark(marks);
-    Ok(ended(given.map(|events| is_found && !events.is_empty())))
+    ended(&given, is_found && has_events(&given))
 }
 
-fn goes_out<W: Write>(alloc: Global, marks: &mut W) -> Result<Outcome, AllocError> {
-    let map = sample(alloc)?;
-    let Some(explorer) = Explorer::new(alloc, &map)? else {
-        return Ok(ended::<AllocError>(Ok(false)));
-    };
+fn goes_out<W: Write>(alloc: Global, explorer: &Explorer<'_>, marks: &mut W) -> Outcome {
     mark(marks);
     let given = explorer.events_to(alloc, 1);
     mark(marks);
-    Ok(ended(given.map(|events| !events.is_empty())))
+    ended(&given, has_events(&given))
 }
 
 /// The events home from where a console stands with one lock on.
-fn comes_home<W: Write>(alloc: Global, marks: &mut W) -> Result<Outcome, AllocError> {
-    let map = sample(alloc)?;
-    let Some(explorer) = Explorer::new(alloc, &map)? else {
-        return Ok(ended::<AllocError>(Ok(false)));
-    };
-    let mut console = PlainConsole::new(&map);
+fn comes_home<W: Write>(
+    alloc: Global,
+    lent: &Lent,
+    explorer: &Explorer<'_>,
+    marks: &mut W,
+) -> Outcome {
+    let mut console = PlainConsole::new(&lent.map);
     let _ = console.step(press(58));
     let _ = console.step(Event::Reset);
     mark(marks);
     let given = explorer.events_home(alloc, &console);
     mark(marks);
-    Ok(ended(given.map(|events| !events.is_empty())))
+    ended(&given, has_events(&given))
 }
 
 /// The releases in the second state, in which a key holds a modifier.
-fn lets_go<W: Write>(alloc: Global, marks: &mut W) -> Result<Outcome, AllocError> {
-    let map = sample(alloc)?;
-    let Some(explorer) = Explorer::new(alloc, &map)? else {
-        return Ok(ended::<AllocError>(Ok(false)));
-    };
-    let Some(state) = explorer.state(1) else {
-        return Ok(ended::<AllocError>(Ok(false)));
-    };
+fn lets_go<W: Write>(alloc: Global, explorer: &Explorer<'_>, marks: &mut W) -> Option<Outcome> {
+    let state = explorer.state(1)?;
     mark(marks);
     let given = state.releases(alloc);
     mark(marks);
-    Ok(ended(given.map(|events| !events.is_empty())))
+    Some(ended(&given, has_events(&given)))
 }
 
-fn goes_onward<W: Write>(alloc: Global, marks: &mut W) -> Result<Outcome, AllocError> {
-    let map = sample(alloc)?;
+fn goes_onward<W: Write>(alloc: Global, lent: &Lent, marks: &mut W) -> Outcome {
     let cell = Sight::Cell {
         slot: 18,
         column: 1,
     };
+    let console = PlainConsole::new(&lent.map);
     mark(marks);
-    let given = find_onward(alloc, &map, &PlainConsole::new(&map), &[cell]);
+    let given = find_onward(alloc, &lent.map, &console, &[cell]);
     mark(marks);
-    Ok(ended(given.map(|onward| onward.is_some())))
+    ended(&given, matches!(&given, Ok(Some(_))))
 }
 
-fn covers<W: Write>(alloc: Global, marks: &mut W) -> Result<Outcome, AllocError> {
-    let (map, twin) = (sample(alloc)?, sample(alloc)?);
+fn covers<W: Write>(alloc: Global, lent: &Lent, marks: &mut W) -> Outcome {
     mark(marks);
-    let given = cover_of(alloc, &map);
+    let given = cover_of(alloc, &lent.map);
     mark(marks);
-    Ok(ended_keeping(given.map(|cover| cover.is_some()), map == twin))
+    ended_keeping(&given, matches!(&given, Ok(Some(_))), lent.is_kept())
 }
 
 fn sees_nothing<W: Write>(alloc: Global, marks: &mut W) -> Outcome {
     mark(marks);
     let given = Seen::new(alloc);
     mark(marks);
-    ended(given.map(|seen| seen.pairs.is_empty()))
+    ended(&given, matches!(&given, Ok(seen) if seen.pairs.is_empty()))
 }
 
 fn lists_cells<W: Write>(alloc: Global, marks: &mut W) -> Outcome {
     mark(marks);
     let given = cells(alloc);
     mark(marks);
-    ended(given.map(|sights| sights.len() == 2048))
+    ended(&given, matches!(&given, Ok(sights) if sights.len() == 2048))
 }
 
 fn lists_lock_settings<W: Write>(alloc: Global, marks: &mut W) -> Outcome {
     mark(marks);
     let given = lock_settings(alloc);
     mark(marks);
-    ended(given.map(|sights| sights.len() == 1024))
+    ended(&given, matches!(&given, Ok(sights) if sights.len() == 1024))
 }

@@ -32,19 +32,45 @@ pub(crate) fn map_of(alloc: Global, text: &[u8]) -> Result<KeyMap, AllocError> {
     }
 }
 
-pub(crate) fn sample(alloc: Global) -> Result<KeyMap, AllocError> {
-    map_of(alloc, TEXT)
+/// A keymap that a call is lent, and its twin, which no call is lent.
+#[derive(Drop)]
+pub(crate) struct Lent {
+    pub(crate) map: KeyMap,
+    twin: KeyMap,
 }
 
-pub(crate) fn tables(alloc: Global) -> Result<Vec<u8>, AllocError> {
+impl Lent {
+    pub(crate) fn of(alloc: Global, text: &[u8]) -> Result<Lent, AllocError> {
+        let map = map_of(alloc, text)?;
+        let twin = map_of(alloc, text)?;
+        Ok(Lent { map, twin })
+    }
+
+    /// Whether the call left the keymap alone.
+    pub(crate) fn is_kept(&self) -> bool {
+        self.map == self.twin
+    }
+}
+
+/// The call of this name, and what it is lent.
+#[derive(Clone, Copy)]
+pub(crate) struct Call<'a> {
+    pub(crate) alloc: Global,
+    pub(crate) name: &'a str,
+    pub(crate) sample: &'a Lent,
+    /// A keymap in which a modifier sticks.
+    pub(crate) trap: &'a Lent,
+}
+
+pub(crate) fn tables(alloc: Global, map: &KeyMap) -> Result<Vec<u8>, AllocError> {
     let mut bytes = Vec::from_array(alloc, [0; WIDE_FILE])?;
-    let _ = write_tables(&sample(alloc)?, &mut ToStd::new(bytes.as_mut_slice()));
+    let _ = write_tables(map, &mut ToStd::new(bytes.as_mut_slice()));
     Ok(bytes)
 }
 
-pub(crate) fn narrow(alloc: Global) -> Result<Vec<u8>, AllocError> {
+pub(crate) fn narrow(alloc: Global, map: &KeyMap) -> Result<Vec<u8>, AllocError> {
     let mut bytes = Vec::from_array(alloc, [0; NARROW_FILE])?;
-    let _ = write_narrow(&sample(alloc)?, &mut ToStd::new(bytes.as_mut_slice()));
+    let _ = write_narrow(map, &mut ToStd::new(bytes.as_mut_slice()));
     Ok(bytes)
 }
 

@@ -19,36 +19,71 @@ mod runs;
 mod steps;
 mod texts;
 
+use crate::inputs::{Call, Lent, TEXT, TRAP, narrow, tables};
 use crate::outcome::Outcome;
 use keymap_core::{ToStd, Write};
-use std::alloc::{AllocError, Global};
+use std::alloc::AllocError;
 use std::{env, io};
 
-/// Makes the call of this name. There is none where no call has the name.
-fn outcome_of<W: Write>(
-    alloc: Global,
-    name: &str,
-    marks: &mut W,
-) -> Result<Option<Outcome>, AllocError> {
-    if let Some(outcome) = formats::outcome_of(alloc, name, marks)? {
-        return Ok(Some(outcome));
+/// Makes a call that needs nothing but keymaps. There is none where no such call has the name.
+fn of_keymaps<W: Write>(call: &Call<'_>, marks: &mut W) -> Option<Outcome> {
+    if let Some(outcome) = formats::of_texts(call, marks) {
+        return Some(outcome);
     }
-    if let Some(outcome) = consoles::outcome_of(alloc, name, marks)? {
-        return Ok(Some(outcome));
+    if let Some(outcome) = consoles::of_keymaps(call, marks) {
+        return Some(outcome);
     }
-    if let Some(outcome) = texts::outcome_of(alloc, name, marks)? {
-        return Ok(Some(outcome));
+    if let Some(outcome) = texts::of_scripts(call, marks) {
+        return Some(outcome);
     }
-    runs::outcome_of(alloc, name, marks)
+    runs::of_texts(call, marks)
 }
 
-/// Makes the call of this name and prints what came of it.
-fn answer(rt: &HostRuntime, name: &str) -> io::Result<()> {
+/// Makes a call on table files. There is none where no such call has the name.
+fn of_tables<W: Write>(call: &Call<'_>, marks: &mut W) -> Result<Option<Outcome>, AllocError> {
+    let tables = tables(call.alloc, &call.sample.map)?;
+    let narrow = narrow(call.alloc, &call.sample.map)?;
+    let (tables, narrow) = (tables.as_slice(), narrow.as_slice());
+    match formats::of_files(call, tables, narrow, marks) {
+        Some(outcome) => Ok(Some(outcome)),
+        None => Ok(runs::of_files(call, tables, narrow, marks)),
+    }
+}
+
+/// Makes the call. There is none where no call has the name.
+fn outcome_of<W: Write>(call: &Call<'_>, marks: &mut W) -> Result<Option<Outcome>, AllocError> {
+    if let Some(outcome) = of_keymaps(call, marks) {
+        return Ok(Some(outcome));
+    }
+    if let Some(outcome) = of_tables(call, marks)? {
+        return Ok(Some(outcome));
+    }
+    if let Some(outcome) = texts::of_trap(call, marks)? {
+        return Ok(Some(outcome));
+    }
+    consoles::of_explorer(call, marks)
+}
+
+/// Makes the call and prints what came of it.
+fn answer(rt: &HostRuntime, call: &Call<'_>) -> io::Result<()> {
     let mut marks = ToStd::new(rt.stderr());
-    match outcome_of(rt.alloc(), name, &mut marks)? {
+    match outcome_of(call, &mut marks)? {
         Some(outcome) => println!(rt; "{outcome}"),
         None => println!(rt; "no such call"),
     }
+}
+
+fn answer_by_name(rt: &HostRuntime, name: &str) -> io::Result<()> {
+    let alloc = rt.alloc();
+    let sample = Lent::of(alloc, TEXT)?;
+    let trap = Lent::of(alloc, TRAP)?;
+    let call = Call {
+        alloc,
+        name,
+        sample: &sample,
+        trap: &trap,
+    };
+    answer(rt, &call)
 }
 
 fn main(rt: HostRuntime) -> io::Result<()> {
@@ -58,7 +93,7 @@ fn main(rt: HostRuntime) -> io::Result<()> {
             let sum = steps::sum(rt.alloc(), rest)?;
             println!(rt; "{sum}")
         }
-        [_, name, ..] => answer(&rt, name.as_str()),
+        [_, name, ..] => answer_by_name(&rt, name.as_str()),
         _ => println!(rt; "no call is named"),
     }
 }

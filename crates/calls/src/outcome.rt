@@ -98,37 +98,44 @@ impl Refusal for CommandError {
     }
 }
 
-/// The answer of a call, which tells of what it gave whether that is the right thing.
-fn answer_of<E: Refusal + Drop>(given: Result<bool, E>) -> Answer {
+/// The answer of a call, and whether what it gave is the right thing.
+fn answer_of<T, E: Refusal>(given: &Result<T, E>, is_right: bool) -> Answer {
     match given {
-        Ok(true) => Answer::Done,
-        Ok(false) => Answer::Fault,
-        Err(error) => {
-            if error.is_memory() {
-                Answer::Memory
-            } else {
-                Answer::Fault
-            }
-        }
+        Ok(_) if is_right => Answer::Done,
+        Err(error) if error.is_memory() => Answer::Memory,
+        _ => Answer::Fault,
     }
 }
 
+/// Whether a call gave this text.
+pub(crate) fn is_text<E>(given: &Result<Vec<u8>, E>, text: &[u8]) -> bool {
+    matches!(given, Ok(bytes) if bytes.as_slice() == text)
+}
+
 /// Of a call that was lent nothing which it has to leave alone.
-pub(crate) fn ended<E: Refusal + Drop>(given: Result<bool, E>) -> Outcome {
-    ended_keeping(given, true)
+pub(crate) fn ended<T, E: Refusal>(given: &Result<T, E>, is_right: bool) -> Outcome {
+    ended_keeping(given, is_right, true)
 }
 
 /// Of a call that left what it was lent so.
-pub(crate) fn ended_keeping<E: Refusal + Drop>(given: Result<bool, E>, kept: bool) -> Outcome {
+pub(crate) fn ended_keeping<T, E: Refusal>(
+    given: &Result<T, E>,
+    is_right: bool,
+    kept: bool,
+) -> Outcome {
     Outcome {
-        answer: answer_of(given),
+        answer: answer_of(given, is_right),
         kept,
     }
 }
 
 /// Of a call that has to leave its device alone where memory is refused, and used it so often.
-pub(crate) fn ended_untouched<E: Refusal + Drop>(given: Result<bool, E>, uses: u32) -> Outcome {
-    let answer = answer_of(given);
+pub(crate) fn ended_untouched<T, E: Refusal>(
+    given: &Result<T, E>,
+    is_right: bool,
+    uses: u32,
+) -> Outcome {
+    let answer = answer_of(given, is_right);
     Outcome {
         answer,
         kept: answer != Answer::Memory || uses == 0,

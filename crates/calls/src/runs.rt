@@ -1,30 +1,23 @@
 //! The calls of kmap_runs. Where memory is refused, nothing was written.
 use crate::devices::{Given, mark, reader_of, writer};
-use crate::inputs::{SENTENCE, TEXT, TRAP, narrow, tables};
-use crate::outcome::{Outcome, ended, ended_untouched};
+use crate::inputs::{Call, SENTENCE, TEXT, TRAP};
+use crate::outcome::{Outcome, ended, ended_untouched, is_text};
 use keymap_core::Write;
 use keymap_draw::Board;
 use kmap_runs::{
     RunError, check_run, compile_narrow_run, compile_run, cover_run, draw_run, dump_narrow_run,
     dump_run, file_error_line, fmt_print_run, fmt_run, lint_run, search_run, type_run,
 };
-use std::alloc::{AllocError, Global};
+use std::alloc::Global;
 
-/// Makes the call of this name. There is none where no call has the name.
-pub(crate) fn outcome_of<W: Write>(
-    alloc: Global,
-    name: &str,
-    marks: &mut W,
-) -> Result<Option<Outcome>, AllocError> {
-    let outcome = match name {
+/// Makes a call that reads texts. There is none where no such call has the name.
+pub(crate) fn of_texts<W: Write>(call: &Call<'_>, marks: &mut W) -> Option<Outcome> {
+    let alloc = call.alloc;
+    let outcome = match call.name {
         "check_run" => checks(alloc, TEXT, false, marks),
         "check_run-shown" => checks(alloc, TRAP, true, marks),
         "search_run" => searches(alloc, marks),
         "search_run-next" => searches_next(alloc, marks),
-        "dump_run" => dumps(alloc, tables(alloc)?.as_slice(), marks),
-        "dump_narrow_run" => dumps_narrowly(alloc, narrow(alloc)?.as_slice(), marks),
-        "compile_run" => compiles(alloc, marks),
-        "compile_narrow_run" => compiles_narrowly(alloc, marks),
         "draw_run" => draws(alloc, marks),
         "lint_run" => lints(alloc, marks),
         "fmt_run" => formats(alloc, marks),
@@ -32,9 +25,26 @@ pub(crate) fn outcome_of<W: Write>(
         "type_run" => types(alloc, marks),
         "cover_run" => covers(alloc, marks),
         "file_error_line" => tells_of_a_file(alloc, marks),
-        _ => return Ok(None),
+        _ => return None,
     };
-    Ok(Some(outcome))
+    Some(outcome)
+}
+
+/// Makes a call that reads or writes a table file. There is none where no such call has the name.
+pub(crate) fn of_files<W: Write>(
+    call: &Call<'_>,
+    tables: &[u8],
+    narrow: &[u8],
+    marks: &mut W,
+) -> Option<Outcome> {
+    let alloc = call.alloc;
+    match call.name {
+        "dump_run" => Some(dumps(alloc, tables, marks)),
+        "dump_narrow_run" => Some(dumps_narrowly(alloc, narrow, marks)),
+        "compile_run" => Some(compiles(alloc, marks)),
+        "compile_narrow_run" => Some(compiles_narrowly(alloc, marks)),
+        _ => None,
+    }
 }
 
 /// A demonstration is asked for where the map is refused.
@@ -43,7 +53,7 @@ fn checks<W: Write>(alloc: Global, text: &[u8], show: bool, marks: &mut W) -> Ou
     mark(marks);
     let given = check_run(alloc, &mut reader, show, &mut out);
     mark(marks);
-    ended_untouched(given.map(|accepted| accepted != show), out.writes)
+    ended_untouched(&given, given == Ok(!show), out.writes)
 }
 
 fn searches<W: Write>(alloc: Global, marks: &mut W) -> Outcome {
@@ -51,7 +61,7 @@ fn searches<W: Write>(alloc: Global, marks: &mut W) -> Outcome {
     mark(marks);
     let given = search_run(alloc, &mut reader, &mut None::<Given<'_>>, &mut out);
     mark(marks);
-    ended_untouched(given.map(|is_never| !is_never), out.writes)
+    ended_untouched(&given, given == Ok(false), out.writes)
 }
 
 fn searches_next<W: Write>(alloc: Global, marks: &mut W) -> Outcome {
@@ -60,7 +70,7 @@ fn searches_next<W: Write>(alloc: Global, marks: &mut W) -> Outcome {
     mark(marks);
     let given = search_run(alloc, &mut reader, &mut next, &mut out);
     mark(marks);
-    ended_untouched(given.map(|is_never| !is_never), out.writes)
+    ended_untouched(&given, given == Ok(false), out.writes)
 }
 
 fn dumps<W: Write>(alloc: Global, tables: &[u8], marks: &mut W) -> Outcome {
@@ -68,7 +78,7 @@ fn dumps<W: Write>(alloc: Global, tables: &[u8], marks: &mut W) -> Outcome {
     mark(marks);
     let given = dump_run(alloc, &mut reader, &mut out);
     mark(marks);
-    ended_untouched(given.map(|()| true), out.writes)
+    ended_untouched(&given, true, out.writes)
 }
 
 fn dumps_narrowly<W: Write>(alloc: Global, narrow: &[u8], marks: &mut W) -> Outcome {
@@ -76,7 +86,7 @@ fn dumps_narrowly<W: Write>(alloc: Global, narrow: &[u8], marks: &mut W) -> Outc
     mark(marks);
     let given = dump_narrow_run(alloc, &mut reader, &mut out);
     mark(marks);
-    ended_untouched(given.map(|()| true), out.writes)
+    ended_untouched(&given, true, out.writes)
 }
 
 fn compiles<W: Write>(alloc: Global, marks: &mut W) -> Outcome {
@@ -84,7 +94,7 @@ fn compiles<W: Write>(alloc: Global, marks: &mut W) -> Outcome {
     mark(marks);
     let given = compile_run(alloc, &mut reader, &mut out);
     mark(marks);
-    ended_untouched(given.map(|()| true), out.writes)
+    ended_untouched(&given, true, out.writes)
 }
 
 fn compiles_narrowly<W: Write>(alloc: Global, marks: &mut W) -> Outcome {
@@ -92,7 +102,7 @@ fn compiles_narrowly<W: Write>(alloc: Global, marks: &mut W) -> Outcome {
     mark(marks);
     let given = compile_narrow_run(alloc, &mut reader, &mut out);
     mark(marks);
-    ended_untouched(given.map(|()| true), out.writes)
+    ended_untouched(&given, true, out.writes)
 }
 
 fn draws<W: Write>(alloc: Global, marks: &mut W) -> Outcome {
@@ -100,7 +110,7 @@ fn draws<W: Write>(alloc: Global, marks: &mut W) -> Outcome {
     mark(marks);
     let given = draw_run(alloc, &mut reader, Board::Iso, &mut out);
     mark(marks);
-    ended_untouched(given.map(|()| true), out.writes)
+    ended_untouched(&given, true, out.writes)
 }
 
 /// The trap has an error.
@@ -109,7 +119,7 @@ fn lints<W: Write>(alloc: Global, marks: &mut W) -> Outcome {
     mark(marks);
     let given = lint_run(alloc, b"trap", &mut reader, &mut out);
     mark(marks);
-    ended_untouched(given.map(|is_well| !is_well), out.writes)
+    ended_untouched(&given, given == Ok(false), out.writes)
 }
 
 fn formats<W: Write>(alloc: Global, marks: &mut W) -> Outcome {
@@ -117,7 +127,7 @@ fn formats<W: Write>(alloc: Global, marks: &mut W) -> Outcome {
     mark(marks);
     let given = fmt_run(alloc, &mut reader);
     mark(marks);
-    ended(given.map(|laid| laid.is_some()))
+    ended(&given, matches!(&given, Ok(Some(_))))
 }
 
 fn prints_formatted<W: Write>(alloc: Global, marks: &mut W) -> Outcome {
@@ -125,7 +135,7 @@ fn prints_formatted<W: Write>(alloc: Global, marks: &mut W) -> Outcome {
     mark(marks);
     let given = fmt_print_run(alloc, &mut reader, &mut out);
     mark(marks);
-    ended_untouched(given.map(|()| true), out.writes)
+    ended_untouched(&given, true, out.writes)
 }
 
 fn types<W: Write>(alloc: Global, marks: &mut W) -> Outcome {
@@ -134,7 +144,7 @@ fn types<W: Write>(alloc: Global, marks: &mut W) -> Outcome {
     mark(marks);
     let given = type_run(alloc, &mut reader, &mut sentence, &mut out);
     mark(marks);
-    ended_untouched(given.map(|()| true), out.writes)
+    ended_untouched(&given, true, out.writes)
 }
 
 fn covers<W: Write>(alloc: Global, marks: &mut W) -> Outcome {
@@ -142,12 +152,12 @@ fn covers<W: Write>(alloc: Global, marks: &mut W) -> Outcome {
     mark(marks);
     let given = cover_run(alloc, &mut reader, &mut out);
     mark(marks);
-    ended_untouched(given.map(|()| true), out.writes)
+    ended_untouched(&given, true, out.writes)
 }
 
 fn tells_of_a_file<W: Write>(alloc: Global, marks: &mut W) -> Outcome {
     mark(marks);
     let given = file_error_line(alloc, b"a", &RunError::Memory.into());
     mark(marks);
-    ended(given.map(|line| line.as_slice() == b"kmap: a: out of memory\n".as_slice()))
+    ended(&given, is_text(&given, b"kmap: a: out of memory\n"))
 }

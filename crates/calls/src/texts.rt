@@ -1,7 +1,7 @@
 //! The calls of keymap_lint, keymap_lint_text, keymap_fmt, keymap_draw and messages, and those of play_core.
 use crate::devices::{mark, reader_of, writer};
-use crate::inputs::{FAULTY, SENTENCE, TEXT, TRAP, map_of, sample, script};
-use crate::outcome::{Outcome, ended, ended_keeping, ended_untouched};
+use crate::inputs::{Call, FAULTY, Lent, SENTENCE, TEXT, TRAP, script};
+use crate::outcome::{Outcome, ended, ended_keeping, ended_untouched, is_text};
 use keymap_check::check;
 use keymap_core::Write;
 use keymap_draw::{Board, picture};
@@ -12,19 +12,11 @@ use messages::filled;
 use play_core::{Show, play, play_next, read_script, read_whole, type_sentence};
 use std::alloc::{AllocError, Global};
 
-/// Makes the call of this name. There is none where no call has the name.
-pub(crate) fn outcome_of<W: Write>(
-    alloc: Global,
-    name: &str,
-    marks: &mut W,
-) -> Result<Option<Outcome>, AllocError> {
-    let outcome = match name {
-        "diagnostics" => diagnoses(alloc, TRAP, marks),
-        "diagnostics-faulty" => diagnoses(alloc, FAULTY, marks),
-        "lint_text" => tells_diagnostics(alloc, marks)?,
-        "shown_name" => shows_name(alloc, marks),
+/// Makes a call on a text or a script. There is none where no such call has the name.
+pub(crate) fn of_scripts<W: Write>(call: &Call<'_>, marks: &mut W) -> Option<Outcome> {
+    let alloc = call.alloc;
+    let outcome = match call.name {
         "format" => formats(alloc, marks),
-        "picture" => draws(alloc, marks)?,
         "filled" => fills(alloc, marks),
         "read_script" => reads_script(alloc, marks),
         "read_whole" => reads_whole(alloc, marks),
@@ -32,63 +24,72 @@ pub(crate) fn outcome_of<W: Write>(
         "play-typed" => plays(alloc, Show::Typed, marks),
         "play_next-lines" => plays_next(alloc, Show::Lines, marks),
         "play_next-typed" => plays_next(alloc, Show::Typed, marks),
-        "type_sentence" => types_sentence(alloc, marks)?,
-        _ => return Ok(None),
+        "type_sentence" => types_sentence(alloc, call.sample, marks),
+        _ => return None,
     };
-    Ok(Some(outcome))
+    Some(outcome)
 }
 
-/// Whether the text spells a keymap.
-fn is_spelled(lint: Lint) -> bool {
-    match lint {
-        Lint::Spelled(_) => true,
-        Lint::Faulty { .. } => false,
-    }
+/// Makes a call on diagnostics, or one that draws. There is none where no such call has the name.
+pub(crate) fn of_trap<W: Write>(
+    call: &Call<'_>,
+    marks: &mut W,
+) -> Result<Option<Outcome>, AllocError> {
+    let alloc = call.alloc;
+    let lint = diagnostics(alloc, TRAP)?;
+    Ok(match call.name {
+        "diagnostics" => Some(diagnoses(alloc, TRAP, marks)),
+        "diagnostics-faulty" => Some(diagnoses(alloc, FAULTY, marks)),
+        "lint_text" => Some(tells_diagnostics(alloc, &lint, marks)),
+        "shown_name" => Some(shows_name(alloc, marks)),
+        "picture" => Some(draws(alloc, call.trap, marks)),
+        _ => None,
+    })
 }
 
 fn diagnoses<W: Write>(alloc: Global, text: &[u8], marks: &mut W) -> Outcome {
     mark(marks);
     let given = diagnostics(alloc, text);
     mark(marks);
-    ended(given.map(is_spelled))
+    ended(&given, matches!(&given, Ok(Lint::Spelled(_))))
 }
 
-fn tells_diagnostics<W: Write>(alloc: Global, marks: &mut W) -> Result<Outcome, AllocError> {
-    let lint = diagnostics(alloc, TRAP)?;
+fn tells_diagnostics<W: Write>(alloc: Global, lint: &Lint, marks: &mut W) -> Outcome {
     mark(marks);
-    let given = lint_text(alloc, b"trap", TRAP, &lint);
+    let given = lint_text(alloc, b"trap", TRAP, lint);
     mark(marks);
-    Ok(ended(given.map(|text| text.as_slice().starts_with(b"trap:"))))
+    let is_right = matches!(&given, Ok(text) if text.as_slice().starts_with(b"trap:"));
+    ended(&given, is_right)
 }
 
 fn shows_name<W: Write>(alloc: Global, marks: &mut W) -> Outcome {
     mark(marks);
     let given = shown_name(alloc, b"a\x1b");
     mark(marks);
-    ended(given.map(|name| name.as_slice() == b"a\xef\xbf\xbd".as_slice()))
+    ended(&given, is_text(&given, b"a\xef\xbf\xbd"))
 }
 
 fn formats<W: Write>(alloc: Global, marks: &mut W) -> Outcome {
     mark(marks);
     let given = format(alloc, TEXT);
     mark(marks);
-    ended(given.map(|laid| !laid.is_empty()))
+    ended(&given, matches!(&given, Ok(laid) if !laid.is_empty()))
 }
 
-fn draws<W: Write>(alloc: Global, marks: &mut W) -> Result<Outcome, AllocError> {
-    let (map, twin) = (map_of(alloc, TRAP)?, map_of(alloc, TRAP)?);
-    let report = check(&map);
+fn draws<W: Write>(alloc: Global, lent: &Lent, marks: &mut W) -> Outcome {
+    let report = check(&lent.map);
     mark(marks);
-    let given = picture(alloc, &map, &report, Board::Iso);
+    let given = picture(alloc, &lent.map, &report, Board::Iso);
     mark(marks);
-    Ok(ended_keeping(given.map(|drawn| !drawn.is_empty()), map == twin))
+    let is_right = matches!(&given, Ok(drawn) if !drawn.is_empty());
+    ended_keeping(&given, is_right, lent.is_kept())
 }
 
 fn fills<W: Write>(alloc: Global, marks: &mut W) -> Outcome {
     mark(marks);
     let given = filled(alloc, b"a {}", &[b"key"]);
     mark(marks);
-    ended(given.map(|text| text.as_slice() == b"a key".as_slice()))
+    ended(&given, is_text(&given, b"a key"))
 }
 
 fn reads_script<W: Write>(alloc: Global, marks: &mut W) -> Outcome {
@@ -96,7 +97,7 @@ fn reads_script<W: Write>(alloc: Global, marks: &mut W) -> Outcome {
     mark(marks);
     let given = read_script(alloc, &script);
     mark(marks);
-    ended(given.map(|sent| sent.len() == 1000))
+    ended(&given, matches!(&given, Ok(sent) if sent.len() == 1000))
 }
 
 fn reads_whole<W: Write>(alloc: Global, marks: &mut W) -> Outcome {
@@ -105,7 +106,7 @@ fn reads_whole<W: Write>(alloc: Global, marks: &mut W) -> Outcome {
     mark(marks);
     let given = read_whole(alloc, &mut reader);
     mark(marks);
-    ended(given.map(|bytes| bytes.as_slice() == script.as_slice()))
+    ended(&given, is_text(&given, &script))
 }
 
 /// Where memory is refused, nothing was written.
@@ -117,7 +118,7 @@ fn plays<W: Write>(alloc: Global, show: Show, marks: &mut W) -> Outcome {
     mark(marks);
     let given = play(alloc, show, &mut text, &mut events, &mut out);
     mark(marks);
-    ended_untouched(given.map(|()| true), out.writes)
+    ended_untouched(&given, true, out.writes)
 }
 
 fn plays_next<W: Write>(alloc: Global, show: Show, marks: &mut W) -> Outcome {
@@ -129,13 +130,13 @@ fn plays_next<W: Write>(alloc: Global, show: Show, marks: &mut W) -> Outcome {
     mark(marks);
     let given = play_next(alloc, show, &mut text, &mut next, &mut events, &mut out);
     mark(marks);
-    ended_untouched(given.map(|()| true), out.writes)
+    ended_untouched(&given, true, out.writes)
 }
 
-fn types_sentence<W: Write>(alloc: Global, marks: &mut W) -> Result<Outcome, AllocError> {
-    let (map, twin) = (sample(alloc)?, sample(alloc)?);
+fn types_sentence<W: Write>(alloc: Global, lent: &Lent, marks: &mut W) -> Outcome {
     mark(marks);
-    let given = type_sentence(alloc, &map, SENTENCE);
+    let given = type_sentence(alloc, &lent.map, SENTENCE);
     mark(marks);
-    Ok(ended_keeping(given.map(|typing| typing.keyed.len() == 16), map == twin))
+    let is_right = matches!(&given, Ok(typing) if typing.keyed.len() == 16);
+    ended_keeping(&given, is_right, lent.is_kept())
 }

@@ -19,12 +19,12 @@ pub open_word : (rest : List ℕ) (n : ℕ) → 0 < length rest → Found Word n
 open_word [] n l h e = absurd (omega (arith, l))
 open_word (c ∷ b) n l h e = inr (inl (sym h ∙ ap (Found Word) (omega (arith, e))))
 
--- so is what is unfinished
+-- an unfinished quoted character is open
 pub open_quote : (rest : List ℕ) → 0 < length rest → Unfinished ≡ front_of (get_or rest 0 0) (drop 1 rest) → IsOpen rest
 open_quote [] l h = absurd (omega (arith, l))
 open_quote (c ∷ b) l h = inr (inr (sym h))
 
--- and a comment that the bytes end in
+-- a comment that the bytes end in is open
 pub open_comment : (rest : List ℕ) → 0 < length rest → get_or rest 0 0 ≡ 35
     → length rest ≤ leading stays_on_line rest → IsOpen rest
 open_comment [] l e h = absurd (omega (arith, l))
@@ -92,7 +92,7 @@ end_word s s' [] n q k l h o a = absurd (omega (arith, l))
 end_word s s' (c ∷ b) n q k l h o a =
     ap (judge s) (last_token q c n k b o (sym h)) ∙ judge_then s s' _ _ a ∙ judge_ends s' _
 
--- one that is refused
+-- a last word that is refused
 pub end_refused : (s : GrammarState) (tail : List ℕ) (n q : ℕ) (k : TokenKind) (f : TextFaultKind) → 0 < length tail
     → Found k n ≡ front_of (get_or tail 0 0) (drop 1 tail) → IsOpen tail → accept s (item k tail) ≡ Err f
     → judge s (tokens_after 0 q tail) ≡ Faulty f (q + 0) false
@@ -135,7 +135,7 @@ longer (c ∷ b) more k n l (inl h) outside f = absurd (outside h.0)
 longer (c ∷ b) more k n l (inr (inl h)) outside f = grind (arith, front_word, leading_append, word_found)
 longer (c ∷ b) more k n l (inr (inr h)) outside f = grind (arith, front_quote, is_quote, unfinished_longer)
 
--- so it has as many bytes at least
+-- a token that begins with open bytes has as many bytes at least
 pub open_longer : (bytes tail more : List ℕ) (k : TokenKind) (n : ℕ) → bytes ≡ tail ++ more → 0 < length tail
     → IsOpen tail → get_or tail 0 0 ≢ 35 → front_of (get_or bytes 0 0) (drop 1 bytes) ≡ Found k (n - 1) → 0 < n
     → length tail ≤ n

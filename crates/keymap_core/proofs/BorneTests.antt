@@ -24,7 +24,7 @@ any-suc : (test : ℕ → Bool) (n : ℕ) → any_below test (suc n) ≡ (any_be
 unfolding any_below
 any-suc test n = refl
 
--- the same, where the code counts up
+-- below n + 1 are the numbers below n, and n, where the code counts up
 pub any-more : (test : ℕ → Bool) (n : ℕ) → any_below test (n + 1) ≡ (any_below test n || test n)
 any-more test n = let e : n + 1 ≡ suc n = omega arith in ap (λ x. any_below test x) e ∙ any-suc test n
 

@@ -53,7 +53,7 @@ pub record AreOf (t : Spelled) (cells : List CellInForce) (findings : List Findi
   pub unused : l.unused_slots.items ≡ unused_slots t
   pub sticking : IsSearched t.map findings l.sticking
 
--- those of a text that spells a map, with the findings of the check
+-- the diagnostics of a text that spells a map, with the findings of the check
 abbrev pub AreOfSpelled : Spelled → Diagnostics → Type 0
 AreOfSpelled t l =
     (findings : List Finding) × AreFindings t.map findings × AreOf t (cells_in_force t) findings l

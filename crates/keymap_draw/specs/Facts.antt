@@ -24,7 +24,7 @@ place_at x y = codes "translate(" ++ x ++ codes " " ++ y ++ codes ")"
 abbrev pub group : List ℕ → List ℕ → List ℕ → Fact
 group class x y = Begin (codes "g") class ((codes "transform", place_at x y) ∷ [])
 
--- one that is read as one picture, which its title names
+-- a group that is read as one picture, which its title names
 abbrev pub image : List ℕ → List ℕ → List ℕ → Fact
 image class x y = Begin (codes "g") class ((codes "role", codes "img") ∷ (codes "transform", place_at x y) ∷ [])
 

@@ -15,10 +15,10 @@ use keymap_core::{Action, Cell, KeyMap};
 /// longer ones too.
 pub(crate) static ALONE_SIZES: [u8; 7] = *b"wwxxxuu";
 
-/// Those of a word in a corner that another legend stands beside on a small cap.
+/// The classes of a word in a corner that another legend stands beside on a small cap.
 pub(crate) static TIGHT_SIZES: [u8; 7] = *b"otyybbb";
 
-/// Those of any other word in a corner.
+/// The classes of any other word in a corner.
 pub(crate) static CORNER_SIZES: [u8; 7] = *b"vvvoott";
 
 /// A column that is drawn.

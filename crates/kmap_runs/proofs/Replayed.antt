@@ -151,7 +151,7 @@ lines-deliver : (events : List Event) → HasKeys (reverse events)
     → Delivers (flat_map event_line events) (reverse events)
 lines-deliver events keys = delivers-these _ events (events-script events (keys-of events keys))
 
--- the same behind a comment with the names of modifiers
+-- the lines of such events behind a comment with the names of modifiers
 script-delivers : (on : List Modifier) (events : List Event) → HasKeys (reverse events)
     → Delivers (script_text on events) (reverse events)
 script-delivers on events keys =

@@ -15,7 +15,7 @@ pub(crate) enum Kind {
     Function,
     Screen,
     Paste,
-    /// It ends a pending accent and is answered.
+    /// An action that ends a pending accent and is answered.
     Other,
 }
 

@@ -1,6 +1,6 @@
 //! Readers and writers for tests: they fail in mid-stream, give or take so many bytes at a time, and count their calls.
 //!
-//! They stand on the devices of keymap_core, whose laws they keep; they tell no reader which bytes are left and no
+//! The devices stand on those of keymap_core, whose laws they keep; they tell no reader which bytes are left and no
 //! writer's caller which were taken, so a test looks at their fields.
 ghost use Rattle.std.specs.Prelude.{[], None, false, length, true, ◌-◌, ◌^◌, ◌≡◌};
 

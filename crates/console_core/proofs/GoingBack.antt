@@ -38,7 +38,7 @@ leads-next es last items (move ∷ path) target (by, trail) e y at = (
   trail-leads es last.0 path y at trail,
 )
 
--- the same of the moves themselves
+-- the moves that were taken back, and those that are left, where the last of them is told
 pub move-next : (es : Entries) (last : ℕ × Move) (moves rest target : List Move) → LeadsBy es (Some last) rest
     → moves ++ rest ≡ target → (y : Entry) → slice_get es last.0 ≡ Some y
     → (more : List Move) × ((moves ++ last.1 ∷ []) ++ more ≡ target) × LeadsBy es y.1.last more

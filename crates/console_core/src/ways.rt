@@ -199,7 +199,7 @@ fn dead_key_for(explored: &Explored, map: &KeyMap, c: char, is_near: bool) -> Op
 /// What is tapped to type a character.
 #[derive(Clone, Copy, Debug)]
 pub enum Way {
-    /// One key.
+    /// A single key.
     Direct(KeyAt),
     /// A dead key, and another key behind it.
     Composed(Accented),

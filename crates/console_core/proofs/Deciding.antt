@@ -64,7 +64,7 @@ never-under u never ms h under keys admits =
 pub never_sticks_unless_reached : NeverSticksUnlessReached
 never_sticks_unless_reached u never = never-under u (never-unless_reached u never)
 
--- where one does, the modifier sticks after the path's script
+-- where a path leads to where a holder looks up a character, the modifier sticks after its script
 pub sticks_if_reached : SticksIfReached
 sticks_if_reached u path is i k forgets =
     let h : List Event = script_of_path u path k in

@@ -164,7 +164,7 @@ tap-can e x st t (j, k, (y, at, has, tap)) =
 
 -- ---- one character
 
--- by one tap
+-- a character typed by one tap
 pub types-direct : (m : MapValue) (o s : State) (c k : ℕ) (h now : List Event) (next : State) → CanReturn m o
     → GoesAndTaps (alone m) o s k h now next → IsTapOf (alone m) s true (symbol.Character c) k → CanType m c
     → TypesOne m c o h now next

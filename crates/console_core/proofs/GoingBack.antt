@@ -58,7 +58,7 @@ pub script-begin : (u : Under) (path : List Move) (k : ℕ) (s : State) (items :
     → items ≡ releases s modifiers ++ Press k ∷ [] → items ++ events_along path ≡ script_of_path u path k
 script-begin u path k s items at e = cc (e, append_assoc (releases s modifiers) (Press k ∷ []) (events_along path), at)
 
--- the releases of one holder more
+-- the releases of further holders
 releases-append : (s : State) (xs ys : List Modifier) → releases s (xs ++ ys) ≡ releases s xs ++ releases s ys
 releases-append s [] ys = refl
 releases-append s (i ∷ xs) ys =

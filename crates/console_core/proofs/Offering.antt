@@ -66,7 +66,7 @@ state-old es k e within =
 
 -- ---- where the accent is offered
 
--- none at first
+-- at first no state is among those behind an offer
 pub seeds-none : (u : Under) (accent : ℕ) (met es : Entries) → es ≡ [] → AreSeedsTo u accent met 0 es
 seeds-none u accent met es e = search (rules, slice_get_within)
 
@@ -324,7 +324,7 @@ composing-all m accent met ys searched can offered are = record {
 
 -- ---- all together
 
--- the offers of one more accent
+-- the offers of a further accent
 accents-push : (offers : List Offer) (o : Offer) → accents_in (offers ++ o ∷ []) ≡ accents_in offers ++ o.accent ∷ []
 accents-push [] o = refl
 accents-push (x ∷ offers) o = ap (λ z. x.accent ∷ z) (accents-push offers o)

@@ -110,7 +110,7 @@ settled-some u old states n routes more rest x p at lt home added kept = record 
   kept = λ s has. kept s (p.kept s has);
 }
 
--- none is found
+-- no route is found for the next state
 pub settled-none : (u : Under) (old : Routes) (states : List Held) (n : ℕ) (routes : Routes) (rest now : List Held)
     (x : Held) → Settled u old states n routes rest → x ≡ get_or states n x → n < length states
     → now ≡ rest ++ x ∷ [] → (u.has_loads ≡ false → IsAstray u routes (state_of x))

@@ -172,7 +172,7 @@ release-silent (Some a) = refl
 typed-release : (m : MapValue) (h : List Event) (k : ℕ) → typed_along m (Release k ∷ h) ≡ typed_along m h
 typed-release m h k = search (rules, typed-more, release-silent)
 
--- neither does a move
+-- a move types nothing
 typed-move : (m : MapValue) (h : List Event) (s : State) (move : Move) → IsMove (alone m) s move → Stands (alone m) h s
     → typed_along m (events_of_move move ++ h) ≡ typed_along m h
 typed-move m h s (Hold k i) (lt, idle, seen, free) st =

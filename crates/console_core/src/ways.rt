@@ -44,7 +44,7 @@ pub fn plain(symbol: Symbol) -> Tap
     }
 }
 
-/// Whether it can be tapped, with `is_near` at a near place.
+/// Whether the tap can be made, with `is_near` at a near place.
 fn can_tap(explored: &Explored, tap: &Tap, is_near: bool) -> bool
     requires { IsExplored explored.now }
     ensures can { result ≡ true → HasTap explored.now tap.now }

@@ -21,7 +21,7 @@ IsBearer m a (Throughout k) = BearsThroughout m k a
 IsBearer m a (Sole k) = BearsNotThroughout m k a
 IsBearer m a Several = SeveralBear m a
 
--- whether it has a part in which cell is looked up
+-- whether the modifier or lock has a part in which cell is looked up
 abbrev pub picks_a_cell : Holding → Bool
 picks_a_cell (holding.Mod Meta) = false
 picks_a_cell (holding.Lock Scroll) = false

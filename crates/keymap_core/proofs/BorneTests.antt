@@ -44,7 +44,7 @@ any-some test i (suc n) lt e =
           or_left (any_below test n) (test n) (any-some test i n (omega arith) e)
     ]
 
--- where one is found, it is a number that passes
+-- where some number passes, there is one below the bound
 pub some-any : (test : ℕ → Bool) (n : ℕ) → any_below test n ≡ true → (i : ℕ) × (i < n) × (test i ≡ true)
 unfolding any_below
 some-any test zero e = absurd (true≢false (sym e))

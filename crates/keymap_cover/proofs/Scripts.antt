@@ -1,4 +1,4 @@
--- What one more event does to a script.
+-- What a further event does to a script.
 use Rattle.std.proofs.Common.{arith}
 use Rattle.keymap_cover.proofs.Common.{◌≡◌, ℕ, ◌<◌, ◌⊎◌, inl, inr, Bool, true, false, List, [], ◌∷◌, ◌++◌, Option, None}
 use Rattle.keymap_cover.proofs.Common.{Some, refl, ap, subst, sym, ◌∙◌, length, reverse, if◌then◌else◌, not, ◌==◌}

@@ -51,7 +51,7 @@ impl Kind {
         }
     }
 
-    /// Whether it is another action than a modifier, a lock or a dead key.
+    /// Whether the kind is another action than a modifier, a lock or a dead key.
     pub(crate) fn is_other(self) -> bool {
         matches!(
             self,

@@ -7,7 +7,7 @@ use console_core::Sights;
 #[derive(Drop)]
 pub struct Cover {
     pub events: Vec<ScriptEvent>,
-    /// Where its parts begin.
+    /// Where the parts of the script begin.
     pub starts: Vec<Start>,
     pub seen: Seen,
     pub sights: Sights,

@@ -9,7 +9,7 @@ Attributes = List (List ℕ × List ℕ)
 pub data Fact : Type 0 where
   -- a group begins, or another element that holds some
   Begin : List ℕ → List ℕ → Attributes → Fact
-  -- the last of those that have begun ends
+  -- the last element of those that have begun ends
   End : Fact
   -- an element without content
   Figure : List ℕ → List ℕ → Attributes → Fact

@@ -50,7 +50,7 @@ is_holding (Act (a.Mod modifier)) = true
 is_holding (Act (a.Lock lock)) = true
 is_holding (Act action) = false
 
--- each of its cells is nop or the character 0
+-- each cell of the entry is nop or the character 0
 unfoldable pub is_blank_entry : Entry → Bool
 is_blank_entry e = list_all is_blank e.cells
 

@@ -46,7 +46,7 @@ impl Column {
         }
     }
 
-    /// Whether it stands on the right.
+    /// Whether the column stands on the right.
     fn is_right(self) -> bool
         ensures { result ≡ is_right_of self }
     {
@@ -56,7 +56,7 @@ impl Column {
         }
     }
 
-    /// Whether it stands above.
+    /// Whether the column stands above.
     fn is_above(self) -> bool
         ensures { result ≡ is_above_of self }
     {

@@ -15,7 +15,7 @@ first_opened : (s : State) (kind : TokenKind) (bytes : List ℕ) → is_over s �
 unfolding opened
 first_opened s kind bytes h k = rw (h, k) refl
 
--- where it is written, and what follows, is seen in no earlier token
+-- where a token is written, and what follows, is seen in no earlier token
 lead_of : (a b n : ℕ) (t : Bool) → lead (begun_at a (if t then Slot else Accent)) n
     ≡ lead (begun_at b (if t then Slot else Accent)) n
 unfolding lead

@@ -40,7 +40,7 @@ missing_not : (t : Spelled) (cells : List CellInForce) (i : ℕ) → find (is_mi
     → missing_accent t cells i ≡ []
 missing_not t cells i none = search (rules, and-false, none_given)
 
--- none of the accents
+-- none of the accents is missing
 pub missing_none : (t : Spelled) (cells : List CellInForce) (n : ℕ) → find (is_missing t) cells ≡ None
     → gathered (missing_accent t cells) n ≡ []
 unfolding gathered

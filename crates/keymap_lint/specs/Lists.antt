@@ -58,7 +58,7 @@ abbrev pub AreOfSpelled : Spelled → Diagnostics → Type 0
 AreOfSpelled t l =
     (findings : List Finding) × AreFindings t.map findings × AreOf t (cells_in_force t) findings l
 
--- the definitions of its rows, the places of its tokens, and the map
+-- what is spelled: the definitions of rows, the places of tokens, and the map
 abbrev pub spelled_with : List Placed → List Span → MapValue → Spelled
 spelled_with definitions spans m = record { definitions = definitions; spans = spans; map = m }
 

@@ -61,11 +61,11 @@ length-flat : (pairs : List (ℕ × ℕ)) → length (flat pairs) ≡ 2 * length
 length-flat [] = refl
 length-flat (p ∷ pairs) = omega (arith, length-flat pairs)
 
--- as many as the pairs have, and its own
+-- an accent has as many numbers as its pairs have, and its own
 pub length-numbers : (accent : AccentValue) → length (numbers_of accent) ≡ 1 + 2 * length accent.pairs
 length-numbers accent = omega (arith, length-flat accent.pairs)
 
--- behind its own each pair has two: the base, and the result
+-- behind the accent's own number each pair has two: the base, and the result
 pub number-base : (own : ℕ) (pairs : List (ℕ × ℕ)) (i : ℕ)
     → get_or (own ∷ flat pairs) (1 + 2 * i) 0 ≡ (get_or pairs i (0, 0)).0
 number-base own [] i = get_or_past (own ∷ []) (1 + 2 * i) 0 (omega arith)

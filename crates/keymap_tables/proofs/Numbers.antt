@@ -78,7 +78,7 @@ pub number-fits : (l : Layout) (bytes : List ℕ) (at : ℕ) → AreBytes bytes 
 number-fits Wide bytes at small = below_2_32 (part bytes at 4) (part-small bytes at 4 small)
 number-fits Narrow bytes at small = below_256 (part bytes at 1) (part-small bytes at 1 small 0)
 
--- the number of its bytes
+-- the bytes of a number give the number
 pub number-back : (l : Layout) (n : ℕ) → n < number_limit l → from_le_bytes (number_width l) (number_bytes l n) ≡ n
 number-back Wide n small = from_le_bytes-to_le_bytes_4 n small
 number-back Narrow n small = omega arith

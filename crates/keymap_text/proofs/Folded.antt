@@ -47,7 +47,7 @@ pub greatest_none : (f : Definition → ℕ) → greatest f [] ≡ 0
 unfolding greatest
 greatest_none f = refl
 
--- the greatest of one definition and more
+-- the greatest number of a definition and more of them
 pub greatest_more : (f : Definition → ℕ) (d : Definition) (ds : List Definition)
     → greatest f (d ∷ ds) ≡ max (f d) (greatest f ds)
 unfolding greatest

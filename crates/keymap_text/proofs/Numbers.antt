@@ -74,7 +74,7 @@ unfolding digits_of
 digits_good base [] h e = absurd (omega (arith, h))
 digits_good base (x ∷ w) h e = rw (lt-ltb 0 (suc (length w)) (omega arith), e) refl
 
--- the number of one digit more
+-- the number of digits with a further one
 number_more : (base : ℕ) (w : List ℕ) (i : ℕ) → i < length w
     → number base (take (i + 1) w) ≡ number base (take i w) * base + digit_value (get_or w i 0)
 number_more base w i h = fold_more (λ n c. n * base + digit_value c) 0 w i 0 h
@@ -101,7 +101,7 @@ pub spells_more : {base : ℕ} {w : List ℕ} {i n d : ℕ} → i < length w →
     → d < base → Spells base w i n → Spells base w (i + 1) (n * base + d)
 spells_more h b is e s = grind (arith, bound_step, digits_more, number_more)
 
--- all of them spell the number
+-- digits to the end of a word spell its number
 pub spells_all : {base : ℕ} {w : List ℕ} {i n : ℕ} → (length w == 0) ≡ false → length w ≤ i → Spells base w i n
     → Some n ≡ digits_of base w
 spells_all some h s = grind (arith, digits_good, take_all)

@@ -108,7 +108,7 @@ last_of says def value i a (suc n) e l h =
         (e a ∙ ap (λ b. cond b (Some (value a)) None) t ∙ ap (λ k. Some (value k)) (eqb-true a i t))
     go false t ih = search (rules, eq-eqb)
 
--- none of them is
+-- none of the definitions says anything
 last_not : {A : Type 0} (says : Definition → Option A) (def : ℕ → Definition) (a n : ℕ)
     → ((s : ℕ) → a ≤ s → s < a + n → says (def s) ≡ None) → last says (map def (range_with_len a n)) ≡ None
 last_not says def a zero e = last_none says

@@ -147,7 +147,7 @@ faults_on {g = g} {rest = rest} {behind = behind} {n = n} {e = e} {e' = e'} a k 
 pub behind_some : (piece : List ℕ) (i : ℕ) → i < length piece → 0 < length (take (length piece - i) (drop i piece))
 behind_some piece i h = omega (arith, ap length (to_end piece i), length-drop i piece, h)
 
--- the first of them
+-- the first byte that is left
 pub behind_first : (piece : List ℕ) (i : ℕ) → i < length piece
     → get_or piece i 0 ≡ get_or (take (length piece - i) (drop i piece)) 0 0
 behind_first piece i h = sym (ap (λ (t : List ℕ). get_or t 0 0) (to_end piece i ∙ drop-cons piece i 0 h))

@@ -58,7 +58,7 @@ pub comment_tokens : (q c : ℕ) (b : List ℕ) → c ≡ 35 → leading stays_o
     → tokens_after 0 q (c ∷ b) ≡ Ends (q + suc (length b))
 comment_tokens q c b h all = split_comment q c b h ∙ split_all _ (q + 1) b all ∙ ap Ends (omega (arith, all))
 
--- of a word at their end
+-- the tokens of a word that the bytes end in: the word
 pub word_tokens : (q c : ℕ) (b : List ℕ) → front_of c b ≡ Found Word (length b)
     → tokens_after 0 q (c ∷ b) ≡ Then (token_before Word (c ∷ b) q []) (Ends (q + suc (length b)))
 word_tokens q c b h = grind (arith, drop_all, split_none, split_token, take_all)
@@ -73,7 +73,7 @@ end_none s (c ∷ b) q h = absurd (omega (arith, h))
 pub open_line : (c : ℕ) (b : List ℕ) → c ≡ 35 → IsOpen (c ∷ b) → leading stays_on_line b ≡ length b
 open_line c b e o = grind (arith, front_comment)
 
--- in a comment
+-- where the text ends in a comment
 pub end_comment : (s : GrammarState) (tail : List ℕ) (q : ℕ) → 0 < length tail → get_or tail 0 0 ≡ 35 → IsOpen tail
     → judge s (tokens_after 0 q tail) ≡ ended (at_end s) (q + length tail)
 end_comment s [] q l e h = absurd (omega (arith, l))
@@ -84,7 +84,7 @@ last_token : (q c n : ℕ) (k : TokenKind) (b : List ℕ) → IsOpen (c ∷ b) �
     → tokens_after 0 q (c ∷ b) ≡ Then (token_before k (c ∷ b) q []) (Ends (q + suc (length b)))
 last_token q c n k b o h = grind (arith, open_found, word_tokens)
 
--- if it is accepted, the text ends behind it
+-- if the last word is accepted, the text ends behind it
 pub end_word : (s s' : GrammarState) (tail : List ℕ) (n q : ℕ) (k : TokenKind) → 0 < length tail
     → Found k n ≡ front_of (get_or tail 0 0) (drop 1 tail) → IsOpen tail → accept s (item k tail) ≡ Ok s'
     → judge s (tokens_after 0 q tail) ≡ ended (at_end s') (q + length tail)

@@ -121,13 +121,13 @@ unfolding tokens_then list_of
 listed [] = refl
 listed (t ∷ ts) = ap (λ ts. t ∷ ts) (listed ts)
 
--- nothing stands behind them
+-- nothing stands behind tokens that are a list
 behind_is : (ts : List TokenValue) → ending_of_tokens (tokens_then ts) ≡ Ok 0
 unfolding tokens_then ending_of_tokens
 behind_is [] = refl
 behind_is (t ∷ ts) = behind_is ts
 
--- the end of such tokens
+-- what the end of a list of tokens answers
 ended_at : (ts : List TokenValue)
     → found_of (judge start (tokens_then ts)) ≡ found_in (place_after AtDefinition ts) (Ok 0)
 ended_at ts = grind (arith, behind_is, listed, same_fault)

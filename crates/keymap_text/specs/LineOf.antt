@@ -7,11 +7,11 @@ use Rattle.keymap_text.specs.Meaning.{line}
 abbrev pub is_feed : ℕ → Bool
 is_feed c = c == 10
 
--- the bytes of its line that stand before a place: what is behind the last LF
+-- the bytes of the line that stand before a place: what is behind the last LF
 abbrev pub before_in_line : List ℕ → ℕ → List ℕ
 before_in_line text place = after_last is_feed (take place text)
 
--- the bytes of its line from a place on, up to the next LF
+-- the bytes of the line from a place on, up to the next LF
 abbrev pub rest_of_line : List ℕ → ℕ → List ℕ
 rest_of_line text place = take (leading stays_on_line (drop place text)) (drop place text)
 

@@ -13,7 +13,7 @@ pieces_more : {X : Type 0} (f : ℕ → List X) (a n : ℕ)
 pieces_more f a zero = append-nil (f a) ∙ ap f (omega arith)
 pieces_more f a (suc n) = search (rules, append_assoc, pieces_more f (a + 1) n)
 
--- the pieces of one number more end with its piece
+-- the pieces of the numbers up to one end with its piece
 pub pieces_on : {X : Type 0} (f : ℕ → List X) (n : ℕ)
     → flat_map f (range_with_len 0 (n + 1)) ≡ flat_map f (range_with_len 0 n) ++ f n
 pieces_on f n =

@@ -40,7 +40,7 @@ never_word = codes "never"
 abbrev pub unstuck_word : List ℕ
 unstuck_word = codes "not before a modifier sticks"
 
--- whether this is the verdict on a sight
+-- whether the cover has this verdict on a sight
 abbrev pub has_verdict : MapValue → Cover → Verdict → Sight → Bool
 has_verdict m c v x = is_verdict v (verdict_of m c x)
 

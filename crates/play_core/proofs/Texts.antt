@@ -64,7 +64,7 @@ unfolding text_after lines_after
 text-one show.Lines ms h e = append-nil (line_after ms h e)
 text-one show.Typed ms h e = typed-one (answer_to ms h e)
 
--- the events of one more
+-- the events of a further line that is sent
 pub delivered-more : (sent : List Sent) (i : ℕ) (one : Sent) → i < length sent → one ≡ get_or sent i one
     → delivered (take (i + 1) sent) ≡ delivered (take i sent) ++ delivered (one ∷ [])
 delivered-more sent i one h e =

@@ -11,11 +11,11 @@ use keymap_core::{Failed, Read, Write};
 #[derive(Drop)]
 pub struct Tape<'a> {
     pub text: &'a [u8],
-    /// What it gives behind the text.
+    /// What the tape gives behind the text.
     pub rest: u8,
-    /// How many bytes there are.
+    /// How many bytes the tape has.
     pub size: usize,
-    /// How many bytes it gives at a time.
+    /// How many bytes the tape gives at a time.
     pub pace: usize,
     /// How many bytes it gives before it fails: in place of the end where these are all.
     pub most: usize,

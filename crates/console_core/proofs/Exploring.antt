@@ -69,7 +69,7 @@ pub tap-home : (m : MapValue) (o : State) (es : Entries) (j : ℕ) (x : Entry) (
 tap-home m o es j x k h h1 h2 now moves next origin r e1 e2 home e is =
     search (rules, path-first, home-start)
 
--- moves and a tap lead from a state that can return to another one
+-- from a state that can return, moves and a tap lead to another one that can
 pub returns-next : (m : MapValue) (o s : State) (k : ℕ) (h now : List Event) (next : State) → CanReturn m o
     → GoesAndTaps (alone m) o s k h now next
     → CanReturn m next

@@ -317,7 +317,7 @@ same_under m n r s p same = record {
   pending = pending-load n p r ∙ sym (pending-load n p s);
 }
 
--- a further event that is a load in both lists, or in neither, has the same map in force in both
+-- after a further event that is a load in both lists, or in neither, the same map is in force
 more_force : (b c : Bool) (h g : List Event) → b ≡ c → is_second_in_force h ≡ is_second_in_force g
     → is_odd (if b then suc (count_where is_load h) else count_where is_load h)
     ≡ is_odd (if c then suc (count_where is_load g) else count_where is_load g)

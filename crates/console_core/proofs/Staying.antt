@@ -474,7 +474,7 @@ stays-event u n S P led spared Load h keeps key admitted le s there f is =
       | inr none ↦ absurd (true≢false (admitted none))
     ]
 
--- an event fewer has no more presses
+-- a list without its newest event has no more presses
 fewer : (e : Event) (h : List Event) (n : ℕ) → presses (e ∷ h) ≤ n → presses h ≤ n
 fewer (Press k) h n le = omega (arith, le)
 fewer (Release k) h n le = le

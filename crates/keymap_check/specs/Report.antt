@@ -46,7 +46,7 @@ is_plain_bearer (Throughout k) = true
 is_plain_bearer (Sole k) = false
 is_plain_bearer Several = false
 
--- each modifier and lock that picks a cell is borne so: all but meta and slock
+-- nobody, or one key throughout, bears each modifier and lock that picks a cell: all but meta and slock
 abbrev pub HasPlainBearers : ReportValue → Type 0
 HasPlainBearers r = (a : Holding) → picks_a_cell a ≡ true → is_plain_bearer (bearer_in r a) ≡ true
 

@@ -44,7 +44,7 @@ any-some test i (suc n) lt e =
           or_left (any_below test n) (test n) (any-some test i n (omega arith) e)
     ]
 
--- where some number passes, there is one below the bound
+-- where any_below passes, some number below the bound does
 pub some-any : (test : ℕ → Bool) (n : ℕ) → any_below test n ≡ true → (i : ℕ) × (i < n) × (test i ≡ true)
 unfolding any_below
 some-any test zero e = absurd (true≢false (sym e))

@@ -92,7 +92,7 @@ down-press (script_event.Repeat i) k j before e = cc
 down-press (script_event.Up i) k j before e = cc
 down-press script_event.Reset k j before e = cc
 
--- the newest of the events stands in front of the others, the newest first
+-- a further event stands in front where the newest stands first
 newest : (events : List ScriptEvent) (x : ScriptEvent) → reverse (events ++ x ∷ []) ≡ x ∷ reverse events
 newest events x = reverse-append events (x ∷ [])
 

@@ -121,7 +121,7 @@ unfolding tokens_then list_of
 listed [] = refl
 listed (t ∷ ts) = ap (λ ts. t ∷ ts) (listed ts)
 
--- nothing stands behind tokens that are a list
+-- nothing stands behind the tokens of a list
 behind_is : (ts : List TokenValue) → ending_of_tokens (tokens_then ts) ≡ Ok 0
 unfolding tokens_then ending_of_tokens
 behind_is [] = refl

@@ -53,7 +53,7 @@ const NAMES: u32 = 1000;
 #[derive(Drop)]
 pub(crate) enum Old {
     Absent,
-    /// The new file is to belong to the same owner still.
+    /// The old file is to belong to the same owner still.
     Owned(Metadata),
     /// The old file was read, and is to be as it was before.
     Read(Metadata),

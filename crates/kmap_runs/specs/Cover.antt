@@ -85,7 +85,7 @@ abbrev pub AreAlike : (Sight → Bool) → ℕ → ℕ → Type 0
 AreAlike is_listed first end =
     (slot : ℕ) → first ≤ slot → slot < end → row_text is_listed slot ≡ row_text is_listed first
 
--- the slot behind them, if there is one, has something else listed
+-- the slot behind the end, if there is one, has something else listed
 abbrev pub EndsAlike : (Sight → Bool) → ℕ → ℕ → Type 0
 EndsAlike is_listed first end = end < slot_limit → row_text is_listed end ≡ row_text is_listed first → ⊥
 

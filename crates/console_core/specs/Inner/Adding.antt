@@ -76,7 +76,7 @@ pub record AreSeedsTo (u : Under) (accent : ℕ) (met : Entries) (place : ℕ) (
   pub behind : (j : ℕ) (x : Entry) → slice_get es j ≡ Some x
       → IsBehind u accent (state_of x.0) × ((state_of x.0).is_locked Scroll ≡ false)
 
--- The states are behind so, and where moves lead from those below the number is among them.
+-- All seeds of what was met are among the states, and where moves lead from those below the number.
 pub record AreBehindTo (u : Under) (accent : ℕ) (met es : Entries) (n : ℕ) : Type 0 where
   pub seeds : AreSeedsTo u accent met (length met) es
   pub moved : (j : ℕ) (x : Entry) → slice_get es j ≡ Some x → j < n → (move : Move)

@@ -92,7 +92,7 @@ IsFrom u s place n p x =
     (by : Move) × (x.1.presses ≡ p) × (x.1.last ≡ Some (place, by))
     × IsMove u s by × (state_of x.0 ≡ moved u s by) × (presses_of by ≡ n) × LeavesScroll by
 
--- entries that are new so were added
+-- what was added are entries of moves from the state at the place
 abbrev pub AreAdded : Under → State → ℕ → ℕ → ℕ → Entries → Entries → Type 0
 AreAdded u s place n p es now = (more : Entries) × (now ≡ es ++ more) × All (IsFrom u s place n p) more
 

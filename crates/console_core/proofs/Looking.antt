@@ -1,4 +1,4 @@
--- A further event, with the newest first; and what stands at a place.
+-- One event more, with the newest first; and what stands at a place.
 use Rattle.console_core.proofs.Common.{◌≡◌, ◌<◌, ℕ, List, [], ◌∷◌, ◌++◌, length, reverse, slice_get, get_or, Some, None}
 use Rattle.console_core.proofs.Common.{reverse-append, slice_get-get_or, Held, Origin, Entry, Entries, Event}
 

@@ -1,4 +1,4 @@
--- A place of a table after a write, by a test on the places.
+-- One place of a table after a write, by a test on the places.
 use Rattle.console_core.proofs.Common.{cases_Bool, ◌≡◌, ℕ, ◌<◌, Bool, true, false, cond, eqb, List, length}
 use Rattle.console_core.proofs.Common.{get_or, set, ◌+◌, ◌&&◌, not, Some, ap, lit<, refl, sym, subst, arith, eqb-true}
 use Rattle.console_core.proofs.Common.{eqb-false, ne_eqb, Modifier, LeftShift, Lock, Caps, Num, Scroll, Alt, Holding}

@@ -1,4 +1,4 @@
--- A bit of a word after a write.
+-- One bit of a word after a write.
 use Rattle.console_core.proofs.Common.{cases_Bool, ◌≡◌, ℕ, ◌+◌, ◌/◌, ◌%◌, ◌^◌, ◌<◌, ◌≤◌, ◌≢◌, ◌-◌, Bool, true, false}
 use Rattle.console_core.proofs.Common.{not, ◌⊎◌, inl, inr, eqb, refl, ap, sym, ◌∙◌, if◌then◌else◌, arith, lit<}
 use Rattle.console_core.proofs.Common.{eqb-true, eqb-false, ne_eqb, eq-eqb, zero, suc, Holding, Lock, LeftShift, Caps}

@@ -1,4 +1,4 @@
--- taps of the keys before the place keep the state
+-- taps of the keys before the place leave the state
 use Rattle.console_core.proofs.Common.{◌≡◌, reverse, MapValue, alone, state_of, under_of, Leads}
 use Rattle.console_core.proofs.explorer.tap_all.Given as goal
 

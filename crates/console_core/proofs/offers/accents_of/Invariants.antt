@@ -1,4 +1,4 @@
--- the accents that the states below the place offer
+-- those of the states below the place
 use Rattle.console_core.proofs.Common.{[], IsOfferedIn, Adds, IsInSome, under_of}
 use Rattle.console_core.proofs.offers.accents_of.Given as goal
 

@@ -1,4 +1,4 @@
--- the states below the place that offer the accent were added
+-- those below the place were added
 use Rattle.console_core.proofs.Common.{under_of, AreSeedsTo}
 use Rattle.console_core.proofs.offers.add_offering.Given as goal
 

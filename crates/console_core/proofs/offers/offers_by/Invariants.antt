@@ -1,4 +1,4 @@
--- the offers of the accents below the place
+-- those of the accents below the place
 use Rattle.console_core.proofs.Common.{take, AreOffersOf}
 use Rattle.console_core.proofs.offers.offers_by.Given as goal
 

@@ -1,4 +1,4 @@
--- in no state below the place a holder looks up a character
+-- none below the place does
 use Rattle.console_core.proofs.Common.{under_of, AreSafe}
 use Rattle.console_core.proofs.search.first_stuck.Given as goal
 

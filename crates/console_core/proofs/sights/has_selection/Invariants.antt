@@ -1,4 +1,4 @@
--- no selection below the place is the one that is looked for
+-- none below the place is it
 use Rattle.console_core.proofs.Common.{◌≡◌, ◌<◌, ℕ, get_or}
 use Rattle.console_core.proofs.sights.has_selection.Given as goal
 

@@ -1,4 +1,4 @@
--- the selections of the states below the place
+-- those of the states below the place
 use Rattle.console_core.proofs.Common.{◌≡◌, [], Adds, IsInSome, selection_of}
 use Rattle.console_core.proofs.sights.selections_of.Given as goal
 

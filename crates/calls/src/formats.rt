@@ -40,7 +40,7 @@ pub(crate) fn outcome_of<W: Write>(
     Ok(Some(outcome))
 }
 
-/// Whether it is the keymap of the sample, by its greatest slot.
+/// Whether the map is the keymap of the sample, by its greatest slot.
 fn is_sample(map: KeyMap) -> bool {
     map.n_keys() == 59
 }

@@ -15,7 +15,7 @@ use Rattle.keymap_core.specs.declared.action.Action.TheVariants as act
 pub adds-none : {X : Type 0} (P : X → Type 0) (old now : List X) → now ≡ old → ((x : X) → P x → ⊥) → Adds P old now
 adds-none P old now e none = search rules
 
--- one element, if it wasn't there
+-- an element, if it wasn't there
 pub adds-one : {X : Type 0} (x : X) (old now : List X) → IsWith x old now → Adds (λ y. x ≡ y) old now
 adds-one x old now (inl (e, has)) = search rules
 adds-one x old now (inr (e, none)) = record {
@@ -28,12 +28,12 @@ adds-one x old now (inr (e, none)) = record {
       none (k, lt, sym (get_or_default old k d x lt) ∙ same)));
 }
 
--- the same in other words
+-- what P adds is what Q adds, where both say the same
 pub adds-as : {X : Type 0} (P Q : X → Type 0) (old now : List X) → ((x : X) → P x → Q x) → ((x : X) → Q x → P x)
     → Adds P old now → Adds Q old now
 adds-as P Q old now f g a = search rules
 
--- one after the other
+-- what P adds and then Q is what R adds, where R says P or Q
 pub adds-both : {X : Type 0} (P Q R : X → Type 0) (old mid now : List X) → ((x : X) → R x → P x ⊎ Q x)
     → ((x : X) → P x → R x) → ((x : X) → Q x → R x) → Adds P old mid → Adds Q mid now → Adds R old now
 adds-both P Q R old mid now parts left right a b = search rules
@@ -78,7 +78,7 @@ pub unusable-none : (u : Under) (s : State) (k a : ℕ) → Offers u s k a → u
     → (b : ℕ) → usable u.maps.first b ≡ true → Offers u s k b → ⊥
 unusable-none u s k a is not_usable b can offers = search (rules, true≢false, one_accent)
 
--- that of one more key
+-- the offer of a further key
 pub offers-more : (u : Under) (s : State) (n : ℕ) (old mid now : List ℕ) → AddsOffers u s n old mid
     → AddsOffer u s n mid now → AddsOffers u s (n + 1) old now
 offers-more u s n old mid now before next =

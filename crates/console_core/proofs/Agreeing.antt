@@ -1,4 +1,4 @@
--- That what a console keeps agrees with a list of resolved events is kept by each kind of resolved event.
+-- After each kind of resolved event what a console keeps still agrees with the list of resolved events.
 use Rattle.console_core.proofs.Common.{resolve_press, ◌≡◌, ℕ, ◌<◌, false, ◌&&◌, not, List, [], ◌∷◌, refl, ap, rules}
 use Rattle.console_core.proofs.Common.{sym, ◌∙◌, if◌then◌else◌, Action, Modifier, Meta, Cell, Event, Press}
 use Rattle.console_core.proofs.Common.{Load, Answer, MapValue, is_borne, look_with, answer_resolved, ResolvedEvent}
@@ -79,7 +79,7 @@ module _ (m : MapValue) (h : List ResolvedEvent) (k : Kept) (agrees : Agrees m h
     pending = sym (pending-load n n h);
   }
 
-  -- and the answers are those to the resolved event
+  -- the answers are those to the resolved event
   pub answers-character : (key c : ℕ)
       → answer_char m k.pending (k.mark (holding.Mod Meta)) c ≡ answer_resolved m (PressedCharacter key c) h
   answers-character key c = rw (agrees.pending, agrees.marks (holding.Mod Meta)) refl

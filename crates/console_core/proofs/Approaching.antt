@@ -129,7 +129,7 @@ let_go-again : (s : State) (i : Modifier) (k : ℕ) → s.holder i ≡ None
     → unscrolled (with_holder (with_holder s i (Some k)) i None) ≡ unscrolled s
 let_go-again s i k free = search (rules, same_states, cases_Bool, same_mods)
 
--- a tap of a steady key leaves the state
+-- a tap of a steady key keeps the state
 pub steady-leads : (m : MapValue) (s : State) (k : ℕ) (l : List Event) → IsSteady (alone m) s k
     → Leads m s s l (Release k ∷ Press k ∷ l)
 steady-leads m s k l steady h a = by (look_in u t k) refl
@@ -262,7 +262,7 @@ sees-at e (sight.Pair accent c) m s t old now none f h a = absurd none
 sees-at e (sight.Cell slot column) m s t old now none f h a = (f h a, (λ p can. tt))
 sees-at e (sight.Locks slot caps num) m s t old now none f h a = (f h a, (λ p can. tt))
 
--- and behind one it is a pair of its accent
+-- what is aimed at behind a dead key is a pair of its accent
 pub sees-behind : (e : Explored) (x : Sight) (d : KeyAt) (m : MapValue) (s t : State) (old now : List Event)
     → IsDeadFor e x (Some d)
     → ((accent : ℕ) → IsTapAt e (dead_tap accent) d.place d.key → LeadsComposing m accent s t old now)
@@ -309,7 +309,7 @@ press-locks m s h l k after a is = (lock is Caps (λ e. cc), lock is Num (λ e. 
         n
         ∙ locks-near (freed a.at) after (ap (λ x. freed x) a.near ∙ ap (λ x. unscrolled x) (sym same)) n other
 
--- and the press sees
+-- the press at the end sees the sight
 press-sees : (m : MapValue) (s : State) (h l : List Event) (k : ℕ) (x : Sight) → IsAt m s h l
     → SeesBy m (selection_of s) k x → IsPendingFor m (l ++ h) x → SeesAlong m (Press k ∷ (l ++ h)) x
 press-sees m s h l k x a sees waits = (
@@ -437,7 +437,7 @@ route-near e (x, begins, complete) j y at s near home =
     comes-route (map_of_explored e) e.met.entries e.routes.entries searched settled j y at
     (home-alike (alone (map_of_explored e)) s (state_of y.0) near home)
 
--- and at one that is reached, where the scroll lock is off
+-- a route begins at a state that is reached, where the scroll lock is off, if moves lead home from it
 pub route-reached : (e : Explored) → IsWhole e → (s : State) → Reached (alone (map_of_explored e)) s
     → s.is_locked Scroll ≡ false → ComesHome (alone (map_of_explored e)) s → HasRoute e.routes.entries s
 route-reached e whole s there off home =
@@ -446,7 +446,7 @@ route-reached e whole s there off home =
     subst (λ t. HasRoute e.routes.entries t) (same-scrolled (state_of y.0) s near (r.5 ∙ sym off))
     (route-near e whole j y at s near home)
 
--- one slot is that of one key
+-- a slot is that of one key
 slot-key : (upper : Bool) (k n : ℕ) → slot_of k upper ≡ slot_of n upper → k ≡ n
 slot-key true k n e = omega (arith, e)
 slot-key false k n e = e
@@ -546,7 +546,7 @@ shows-not e whole x none (path, is, can, (k, lt, sees, (before, was, home))) =
           astray (route-reached e whole t there rest.2 (home-alike u before t alike home))
     ]
 
--- nor a pair whose dead key can't be tapped
+-- a pair whose dead key can't be tapped can't be visited
 pub dead-not : (e : Explored) → IsWhole e → (accent c : ℕ) → (HasTap e (dead_tap accent) → ⊥)
     → CanVisit (map_of_explored e) (sight.Pair accent c) → ⊥
 dead-not e whole accent c none

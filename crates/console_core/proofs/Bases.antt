@@ -19,7 +19,7 @@ first-member (q ∷ pairs) b c e = elim (cases_Bool (q.0 == b)) [
       let (p, (n, lt, at), same) = first-member pairs b c (rw is at e) in (p, (suc n, omega (arith, lt), at), same)
 ]
 
--- none of these is a base, so nothing is
+-- where no base of a pair, nor the blank, nor the dead key is a base, nothing is
 no-base : (m : MapValue) (e : Explored) (i c : ℕ) (a : AccentValue) → accent_at m i ≡ Some a
     → ((p : ℕ × ℕ) → Contains a.pairs p → IsBase m e i c (symbol.Character p.0) → ⊥)
     → (IsBase m e i c (symbol.Character 32) → ⊥) → (IsBase m e i c (symbol.DeadKey i) → ⊥)

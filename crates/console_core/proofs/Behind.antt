@@ -2,12 +2,12 @@
 use Rattle.console_core.proofs.Common.{◌≡◌, ℕ, List, [], ◌∷◌, ◌++◌, refl, ap, subst, sym, Move, Under, State, IsMove}
 use Rattle.console_core.proofs.Common.{moved, IsPath, state_after, IsPathFrom, state_from, IsOfferedIn, IsBehind, rules}
 
--- where it is offered
+-- a state where the accent is offered
 pub behind-offered : (u : Under) (path : List Move) (accent : ℕ) → IsPath u path
     → IsOfferedIn u (state_after u path) accent → {s : State} → state_after u path ≡ s → IsBehind u accent s
 behind-offered u path accent is offered leads = (path, is, ([], path, refl, offered), leads)
 
--- a move leads on behind it
+-- a move from a state behind an offer leads to another one
 pub behind-more : (u : Under) (accent : ℕ) (s : State) (move : Move) → IsBehind u accent s → IsMove u s move
     → IsBehind u accent (moved u s move)
 behind-more u accent s move (path, made, (later, before, at, offered), leads) is = (
@@ -17,7 +17,7 @@ behind-more u accent s move (path, made, (later, before, at, offered), leads) is
   ap (λ t. moved u t move) leads,
 )
 
--- so does a path
+-- a path from a state behind an offer leads to another one
 pub behind-path : (u : Under) (accent : ℕ) (s : State) (path : List Move) → IsBehind u accent s → IsPathFrom u s path
     → IsBehind u accent (state_from u s path)
 behind-path u accent s [] behind is = behind

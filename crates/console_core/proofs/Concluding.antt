@@ -34,7 +34,7 @@ among-moved u es n done p q s move e lt (t, (j, x, at, is, le), near) can =
       | inr (k, turns) ↦ rw turns (t, (j, x, at, is, omega (arith, le, e)), near ∙ scroll-moved s)
     ]
 
--- so the moves keep them
+-- the moves keep the states that were met
 kept-below : (u : Under) (es : Entries) (n : ℕ) → IsMetBy es 0 start → AreDone u es n → IsKeptBelow u n (IsAmong es)
 kept-below u es n met done = record {
   led = record {
@@ -44,7 +44,7 @@ kept-below u es n met done = record {
   start = (start, met, refl);
 }
 
--- and they are safe where no holder looks up a character in those met by fewer than n presses
+-- the states that were met are safe where no holder looks up a character in those met by fewer than n presses
 safe-below : (u : Under) (es : Entries) (n : ℕ) → IsMetBy es 0 start → AreDone u es n
     → ((j : ℕ) (x : Entry) → slice_get es j ≡ Some x → x.1.presses < n → IsForgetful u (state_of x.0) → ⊥)
     → IsSafeBelow u n (IsAmong es)

@@ -13,7 +13,7 @@ use Rattle.console_core.proofs.OneMap.{first_in_force, without_loads}
 use Rattle.console_core.proofs.Scripts.{script-sticks, never-unless_reached}
 use Rattle.console_core.proofs.Staying.{NeverIn}
 
--- it speaks of the maps that it goes over
+-- a search speaks of the maps that it goes over
 pub under-self : (u : Under) → AreUnder u u.maps
 under-self u = (refl, (λ loads. refl))
 
@@ -47,7 +47,7 @@ pub on-under : (u : Under) (ms : Maps) (h : List Event) → AreUnder u ms → Ad
     → is_on_after ms i h ≡ is_on_after u.maps i h
 on-under u ms h under admits i = ap (λ r. on i r) (same-under u ms h under admits).0
 
--- so do the modifiers that are on
+-- the modifiers that are on are the same under all maps that a search speaks of
 pub are-on-under : (u : Under) (h : List Event) (left : List Modifier) → Admits u h → AreOnAfter u.maps h left
     → (ms : Maps) → AreUnder u ms → AreOnAfter ms h left
 are-on-under u h left admits are_on ms under = cc (are_on, (same-under u ms h under admits).0)
@@ -64,7 +64,7 @@ never-under u never ms h under keys admits =
 pub never_sticks_unless_reached : NeverSticksUnlessReached
 never_sticks_unless_reached u never = never-under u (never-unless_reached u never)
 
--- where one does, the modifier sticks after the path's script
+-- where a path leads to where a holder looks up a character, the modifier sticks after its script
 pub sticks_if_reached : SticksIfReached
 sticks_if_reached u path is i k forgets =
     let h : List Event = script_of_path u path k in
@@ -82,20 +82,20 @@ pub safe_never_sticks_between : SafeNeverSticksBetween
 safe_never_sticks_between ms first second =
     search (rules, never-under, safe_in_force, on_only_while_pressed, off_once_quiet)
 
--- so none sticks after a list
+-- between two safe keymaps no modifier sticks after a list
 safe-none : (ms : Maps) (h : List Event) (i : Modifier) → IsSafe ms.first → IsSafe ms.second → HasKeys h
     → SticksUnder (with_loads ms) h i → ⊥
 safe-none ms h i first second keys (quiet, on) =
     true≢false (sym (on ms (under-self (with_loads ms)))
     ∙ (safe_never_sticks_between ms first second ms h (under-self (with_loads ms)) keys (all-admitted ms h)).1 quiet i)
 
--- between two safe keymaps no path leads there
+-- between two safe keymaps no path leads to where a holder looks up a character
 pub safe_never_forgets : SafeNeverForgets
 safe_never_forgets ms first second path is (i, k, forgets) =
     let (keys, sent, sticks) = sticks_if_reached (with_loads ms) path is i k forgets in
     safe-none ms (script_of_path (with_loads ms) path k) i first second keys sticks
 
--- so the search doesn't answer that a modifier sticks
+-- between two safe keymaps the search doesn't answer that a modifier sticks
 pub safe_never_answers_sticks : SafeNeverAnswersSticks
 safe_never_answers_sticks ms (Sticks events left_on) first second ((keys, sent, (i, sticks)), fewest, releases, are_on) =
     search (rules, safe-none)

@@ -16,7 +16,7 @@ found-entry E P same (x ∷ es) k v all is = elim (cases_Bool (E k x.0)) [
   | inr t ↦ found-entry E P same es k v all.1 (rw t at is)
 ]
 
--- and of one more that it holds of
+-- what holds of each entry and of a further one holds of all
 pub one-entry : {K V : Type 0} (E : K → K → Bool) (P : K → V → Type 0)
     → ((a b : K) (v : V) → E a b ≡ true → P a v → P b v) → (es : List (K × V)) (k : K) (v : V) → AllEntries P es
     → P k v
@@ -48,7 +48,7 @@ none-found (x ∷ es) k e (inr later) = elim (cases_Bool (are_same k x.0)) [
   | inr t ↦ none-found es k (rw t at e) later
 ]
 
--- and where it finds one there is
+-- where a look-up finds something, there is an entry of the state
 pub found-has : {V : Type 0} (es : List (Held × V)) (k : Held) → is_some (lookup (are_same k) es) ≡ true
     → HasEntry es (state_of k)
 found-has [] k e = absurd (true≢false (sym e))

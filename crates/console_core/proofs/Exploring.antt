@@ -32,7 +32,7 @@ has-home u routes s all has = let (moves, home) = has-leads u routes s all has i
 pub home-start : (s : State) → IsHome s → s.is_second ≡ false → s.is_locked Scroll ≡ false → s ≡ start
 home-start s (free, off) first scroll = search (rules, same_states)
 
--- one path behind another
+-- a path behind another
 pub path-append : (u : Under) (s : State) (path later : List Move) → IsPathFrom u s path
     → IsPathFrom u (state_from u s path) later
     → IsPathFrom u s (later ++ path) × (state_from u s (later ++ path) ≡ state_from u (state_from u s path) later)
@@ -69,13 +69,13 @@ pub tap-home : (m : MapValue) (o : State) (es : Entries) (j : ℕ) (x : Entry) (
 tap-home m o es j x k h h1 h2 now moves next origin r e1 e2 home e is =
     search (rules, path-first, home-start)
 
--- moves and a tap lead from one such state to the next
+-- from a state that can return, moves and a tap lead to another one that can
 pub returns-next : (m : MapValue) (o s : State) (k : ℕ) (h now : List Event) (next : State) → CanReturn m o
     → GoesAndTaps (alone m) o s k h now next
     → CanReturn m next
 returns-next m o s k h now next st x = search (rules, path-append)
 
--- such a state is an origin
+-- a state that can return is an origin
 pub returns-origin : (m : MapValue) (s : State) → CanReturn m s → IsOrigin s
 returns-origin m s st = (st.off, ap (λ t. t.is_second) (sym st.leads) ∙ path-first m start st.path st.is)
 
@@ -103,7 +103,7 @@ strays-from m es routes searched settled s (move ∷ path) is strays =
 route-or-none : (routes : Routes) (k : Held) → HasRoute routes (state_of k) ⊎ (HasRoute routes (state_of k) → ⊥)
 route-or-none routes k = search (rules, cases_Bool, are_same, found-has, none-found, is-nothing)
 
--- so one begins where moves lead home from
+-- a route begins where moves lead home from
 pub comes-route : {o : State} (m : MapValue) (es : Entries) (routes : Routes)
     → Searched (alone m) o es (length es) (length es) → AreSettled (alone m) es routes → (j : ℕ) (x : Entry)
     → slice_get es j ≡ Some x → ComesHome (alone m) (state_of x.0)
@@ -146,7 +146,7 @@ can-tap-met e x complete st t (path, is, (later, goes, home), (k, tap)) =
     ) in
     (j, k, (y, at, route, tap-near u (state_after u path) s t.is_plain t.symbol k same tap))
 
--- and what an exploration finds can be tapped
+-- what an exploration finds can be tapped
 pub tap-can : (e : Explored) → IsExplored e → CanReturn (map_of_explored e) (origin_in e) → (t : Tap) → HasTap e t
     → CanTap (map_of_explored e) t.is_plain t.symbol
 tap-can e x st t (j, k, (y, at, has, tap)) =
@@ -164,7 +164,7 @@ tap-can e x st t (j, k, (y, at, has, tap)) =
 
 -- ---- one character
 
--- by one tap
+-- a character typed by one tap
 pub types-direct : (m : MapValue) (o s : State) (c k : ℕ) (h now : List Event) (next : State) → CanReturn m o
     → GoesAndTaps (alone m) o s k h now next → IsTapOf (alone m) s true (symbol.Character c) k → CanType m c
     → TypesOne m c o h now next

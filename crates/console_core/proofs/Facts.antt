@@ -65,7 +65,7 @@ raised-press : (k : ℕ) (a : Holding) (r : List ResolvedEvent) (x : Cell)
 raised-press k a r (Char c) e = absurd (true≢false (sym e))
 raised-press k a r (Act b) e = rw (remembered-action k k b r, eq-eqb k k refl) (taken-holding (remembered k r) b a e).1
 
--- it stays remembered as long as nothing lowers it, and the key isn't let go
+-- a holding action stays remembered as long as nothing lowers it, and the key isn't let go
 abbrev Kept : Maps → ℕ → Holding → List Event → List Event → Type 0
 Kept ms k a later before =
     (remembered_after ms k (later ++ Press k ∷ before) ≡ Some (holding_action a))

@@ -11,7 +11,7 @@ use Rattle.console_core.proofs.Seeing.{follows-selection}
 use Rattle.keymap_core.specs.declared.action.Action.TheVariants as act
 use Rattle.console_core.specs.declared.selection.Sight.TheVariants as sight
 
--- a move leaves the accent that is pending
+-- a move keeps the accent that is pending
 pub pending-move : (m : MapValue) (h : List Event) (s : State) (move : Move) → IsMove (alone m) s move
     → Stands (alone m) h s
     → pending m (resolved (between m m) (events_of_move move ++ h)) ≡ pending m (resolved (between m m) h)
@@ -29,7 +29,7 @@ pending-move m h s (LetGo k i) holds x =
     ap (λ z. pending m z) (resolved-more (between m m) h (Release k)) ∙ pending-release m k (resolved (between m m) h)
 pending-move m h s Exchange (free, loads) x = absurd (false≢true loads)
 
--- so does a path
+-- a path keeps the accent that is pending
 pub pending-along : (m : MapValue) (h : List Event) (s : State) (path : List Move) → Stands (alone m) h s
     → IsPathFrom (alone m) s path
     → pending m (resolved (between m m) (events_along path ++ h)) ≡ pending m (resolved (between m m) h)
@@ -40,7 +40,7 @@ pending-along m h s (move ∷ path) x is =
     (stands-from (alone m) h s path x is.1)
     ∙ pending-along m h s path x is.1
 
--- one map's accent is pending, whichever is in force
+-- the accent of the one map is pending, whichever is in force
 pub pending-is : (m : MapValue) (h : List Event)
     → accent_pending_after (between m m) h ≡ pending m (resolved (between m m) h)
 pending-is m h = ap (λ n. pending n (resolved (between m m) h)) (one_map m (is_second_in_force h))

@@ -38,7 +38,7 @@ leads-next es last items (move ∷ path) target (by, trail) e y at = (
   trail-leads es last.0 path y at trail,
 )
 
--- the same of the moves themselves
+-- the moves that were taken back, and those that are left, where the last of them is told
 pub move-next : (es : Entries) (last : ℕ × Move) (moves rest target : List Move) → LeadsBy es (Some last) rest
     → moves ++ rest ≡ target → (y : Entry) → slice_get es last.0 ≡ Some y
     → (more : List Move) × ((moves ++ last.1 ∷ []) ++ more ≡ target) × LeadsBy es y.1.last more
@@ -58,7 +58,7 @@ pub script-begin : (u : Under) (path : List Move) (k : ℕ) (s : State) (items :
     → items ≡ releases s modifiers ++ Press k ∷ [] → items ++ events_along path ≡ script_of_path u path k
 script-begin u path k s items at e = cc (e, append_assoc (releases s modifiers) (Press k ∷ []) (events_along path), at)
 
--- the releases of one holder more
+-- the releases of further holders
 releases-append : (s : State) (xs ys : List Modifier) → releases s (xs ++ ys) ≡ releases s xs ++ releases s ys
 releases-append s [] ys = refl
 releases-append s (i ∷ xs) ys =

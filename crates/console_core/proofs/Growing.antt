@@ -102,12 +102,12 @@ trail-grows es now j [] g (x, at, none) = (x, at-now es now j x g at, none)
 trail-grows es now j (move ∷ path) g (x, parent, at, last, lt, rest) =
     (x, parent, at-now es now j x g at, last, lt, trail-grows es now parent path g rest)
 
--- that a trail leads to an entry stays so when the entries grow
+-- a trail still leads to an entry when the entries grow
 pub reached-grows : {o : State} (u : Under) (es now : Entries) (j : ℕ) (x : Entry) → Grows es now → IsReached u o es j x
     → IsReached u o now j x
 reached-grows u es now j x g (path, trail, is, leads, count, off) = search (rules, trail-grows)
 
--- a move that leaves the scroll lock leaves it off
+-- a move that leaves the scroll lock as it is keeps it off
 pub scroll-left : (u : Under) (s : State) (move : Move) → LeavesScroll move → s.is_locked Scroll ≡ false
     → (moved u s move).is_locked Scroll ≡ false
 scroll-left u s (Turn k Scroll) leaves off = absurd (leaves refl)

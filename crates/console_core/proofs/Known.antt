@@ -7,7 +7,7 @@ use Rattle.console_core.specs.Inner.Exploring.{IsKnown}
 use Rattle.console_core.proofs.Entries.{found-entry, one-entry}
 use Rattle.console_core.proofs.SameStates.{are_same, tells-same}
 
--- it is so of the same character and the same state
+-- what is known of a character and a state is known of the same character and state
 same-known : (m : MapValue) (a b : Sought) (v : Found) → state_of a.from ≡ state_of b.from → a.character ≡ b.character
     → IsKnown m b v
     → IsKnown m a v

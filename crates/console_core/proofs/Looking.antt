@@ -2,7 +2,7 @@
 use Rattle.console_core.proofs.Common.{◌≡◌, ◌<◌, ℕ, List, [], ◌∷◌, ◌++◌, length, reverse, slice_get, get_or, Some, None}
 use Rattle.console_core.proofs.Common.{reverse-append, slice_get-get_or, Held, Origin, Entry, Entries, Event}
 
--- one event more
+-- a further event
 pub push-reversed : (old : List Event) (e : Event) → reverse (old ++ e ∷ []) ≡ e ∷ reverse old
 push-reversed old e = reverse-append old (e ∷ [])
 

@@ -29,7 +29,7 @@ pub unmoving-key : (u : Under) (k : ℕ)
     → (s : State) → IsUnmoving (look_in u s k)
 unmoving-key u k first second s = unmoving_in u s k s.is_second first second
 
--- one key more is looked at: it is added
+-- the next key is added
 pub moving-with : (u : Under) (keys now : List ℕ) (n : ℕ) → now ≡ keys ++ n ∷ [] → HasMovingKeys u keys n
     → HasMovingKeys u now (n + 1)
 moving-with u keys now n e before =
@@ -40,7 +40,7 @@ moving-with u keys now n e before =
     ])
     (inl (subst (λ xs. Contains xs n) (sym e) (Contains-push keys n)))
 
--- or its press is a move in no state
+-- the press of the next key is a move in no state
 pub moving-without : (u : Under) (keys now : List ℕ) (n : ℕ) → now ≡ keys → ((s : State) → IsUnmoving (look_in u s n))
     → HasMovingKeys u keys n → HasMovingKeys u now (n + 1)
 moving-without u keys now n e still before =

@@ -30,7 +30,7 @@ use Rattle.console_core.proofs.Visits.{path-first}
 met-grows : (es now : Entries) (s : State) → Grows es now → IsMet es s → IsMet now s
 met-grows es now s g (j, x, at, is) = (j, x, at-now es now j x g at, is)
 
--- one that wasn't there
+-- a state that wasn't there
 pub state-new : (es now : Entries) (k : Held) → now ≡ es ++ (k, record { presses = 0; last = None }) ∷ []
     → AreWithin es 0 → AddsState (state_of k) es now
 state-new es now k e within = record {
@@ -52,7 +52,7 @@ state-new es now k e within = record {
     either : (j : ℕ) (x : Entry) → slice_get now j ≡ Some x → (slice_get es j ≡ Some x) ⊎ (x ≡ new)
     either j x at = search (rules, new, cases_lt, at_old, at_new, one_entry)
 
--- one that was
+-- a state that was there
 pub state-old : (es : Entries) (k : Held) → is_some (lookup (are_same k) es) ≡ true → AreWithin es 0
     → AddsState (state_of k) es es
 state-old es k e within =
@@ -66,11 +66,11 @@ state-old es k e within =
 
 -- ---- where the accent is offered
 
--- none at first
+-- at first no state is among those behind an offer
 pub seeds-none : (u : Under) (accent : ℕ) (met es : Entries) → es ≡ [] → AreSeedsTo u accent met 0 es
 seeds-none u accent met es e = search (rules, slice_get_within)
 
--- one more state offers it
+-- the next state offers the accent
 pub seeds-more : (u : Under) (accent : ℕ) (met es now : Entries) (n : ℕ) (x : Entry)
     → Searched u start met (length met) (length met) → AreSeedsTo u accent met n es → slice_get met n ≡ Some x
     → IsOfferedIn u (state_of x.0) accent → AddsState (state_of x.0) es now → AreSeedsTo u accent met (n + 1) now
@@ -90,7 +90,7 @@ seeds-more u accent met es now n x searched before at offered added = record {
   ];
 }
 
--- one more doesn't
+-- the next state doesn't offer the accent
 pub seeds-skip : (u : Under) (accent : ℕ) (met es : Entries) (n : ℕ) (x : Entry) → AreSeedsTo u accent met n es
     → slice_get met n ≡ Some x → (IsOfferedIn u (state_of x.0) accent → ⊥) → AreSeedsTo u accent met (n + 1) es
 seeds-skip u accent met es n x before at none = record {
@@ -250,7 +250,7 @@ offered-near : (u : Under) (s t : State) (accent : ℕ) → unscrolled t ≡ uns
     → IsOfferedIn u t accent
 offered-near u s t accent e is = subst (λ x. IsOfferedIn u x accent) (sym e) is
 
--- one of the states is near where the rest of a path leads from an offer
+-- some state is near where the rest of a path leads from an offer
 near-later : (u : Under) (accent : ℕ) (met es : Entries) → Searched u start met (length met) (length met)
     → AreBehind u accent met es → (later before : List Move) → IsPath u before
     → IsPathFrom u (state_after u before) later → IsOfferedIn u (state_after u before) accent
@@ -263,7 +263,7 @@ near-later u accent met es searched behind later before is goes offered =
     let closed : AreClosed u es = λ k x place. behind.moved k x place (slice_get_within es k x place) in
     near-along u es closed (state_after u before) later (i, w, seed, ap (λ q. unscrolled q) same ∙ near) goes
 
--- so one is near each behind it
+-- some state is near each state behind an offer
 near-behind : (u : Under) (accent : ℕ) (met es : Entries) → Searched u start met (length met) (length met)
     → AreBehind u accent met es → (path : List Move) → IsPath u path → IsOfferedAlong u path accent
     → IsNear es (state_after u path)
@@ -324,7 +324,7 @@ composing-all m accent met ys searched can offered are = record {
 
 -- ---- all together
 
--- the offers of one more accent
+-- the offers of a further accent
 accents-push : (offers : List Offer) (o : Offer) → accents_in (offers ++ o ∷ []) ≡ accents_in offers ++ o.accent ∷ []
 accents-push [] o = refl
 accents-push (x ∷ offers) o = ap (λ z. x.accent ∷ z) (accents-push offers o)

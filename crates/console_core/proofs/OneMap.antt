@@ -75,7 +75,7 @@ under_one : (m : MapValue) (h : List Event) (e : Event)
     → resolved_event (between m m) h e ≡ resolve m m (resolved (between m m) h) e
 under_one m h e = cc (one_in_force m h, one_in_force m (Load ∷ h))
 
--- one more event, resolved in the one map
+-- a further event, resolved in the one map
 more_under_one : (m : MapValue) (h : List Event) (e : Event)
     → resolved (between m m) (e ∷ h) ≡ resolve m m (resolved (between m m) h) e ∷ resolved (between m m) h
 more_under_one m h e = resolved-more (between m m) h e ∙ ap (λ x. x ∷ resolved (between m m) h) (under_one m h e)
@@ -96,7 +96,7 @@ load_as_reset m r s all same = record {
   pending = pending-load m m r ∙ sym (pending-reset m s);
 }
 
--- one more event, where loads count as resets
+-- a further event, where loads count as resets
 same_as_reset : (m : MapValue) (e : Event) (r s : List ResolvedEvent) → HasKey e → AllLooked m r → Same m r s
     → Same m (resolve m m r e ∷ r) (resolve m m s (as_reset e) ∷ s)
 same_as_reset m (Press k) r s key all same =

@@ -7,7 +7,7 @@ use Rattle.console_core.proofs.Common.{look_after, NoneOf, answer_to_look}
 use Rattle.console_core.specs.Reading.{LastPresses, PressedByPositions, ResolvedAtPrefix, AnswersByCases}
 use Rattle.console_core.proofs.OneMore.{resolved-more}
 
--- one more event, by whether it concerns the key
+-- a further event, by whether it concerns the key
 last_press_by : (k : ℕ) (e : Event) (h : List Event) (b : Bool) → concerns k e ≡ b
     → is_press (if b then Some e else last_where (concerns k) h) ≡ true
     → (is_press (last_where (concerns k) h) ≡ true → LastPresses k h) → LastPresses k (e ∷ h)

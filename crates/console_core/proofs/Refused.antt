@@ -112,7 +112,7 @@ can-tap-character m forgets h later before k c never admitted new at seen off =
     can-tap m forgets h later before k never admitted new at true (symbol.Character c) seen
     (λ s f keeps looked i holds. keeps i (holds, (c, looked))) (λ p. off)
 
--- so is a dead key that is taken
+-- a dead key that is taken is looked up by a key that holds nothing
 can-tap-dead : (m : MapValue) (forgets : Bool) (h later before : List Event) (k : ℕ) (a : Action) (i : ℕ) (plain : Bool)
     → (forgets ≡ false → NeverForgets (alone m)) → IsAdmitted m forgets h → IsAsNew m h → h ≡ later ++ Press k ∷ before
     → look m (resolved (between m m) before) k ≡ Act a

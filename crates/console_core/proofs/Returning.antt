@@ -30,7 +30,7 @@ move-met u es s j x at move is leaves =
 abbrev pub IsNear : Entries → State → Type 0
 IsNear es s = (j : ℕ) × (x : Entry) × (slice_get es j ≡ Some x) × (unscrolled (state_of x.0) ≡ unscrolled s)
 
--- so one is near where a path leads from a state near one of them
+-- a path from a state near an entry leads near an entry
 pub near-along : (u : Under) (es : Entries) → AreClosed u es → (s : State) (path : List Move) → IsNear es s
     → IsPathFrom u s path → IsNear es (state_from u s path)
 near-along u es closed s [] near is = near

@@ -110,7 +110,7 @@ settled-some u old states n routes more rest x p at lt home added kept = record 
   kept = λ s has. kept s (p.kept s has);
 }
 
--- none is found
+-- no route is found for the next state
 pub settled-none : (u : Under) (old : Routes) (states : List Held) (n : ℕ) (routes : Routes) (rest now : List Held)
     (x : Held) → Settled u old states n routes rest → x ≡ get_or states n x → n < length states
     → now ≡ rest ++ x ∷ [] → (u.has_loads ≡ false → IsAstray u routes (state_of x))
@@ -145,7 +145,7 @@ pub astray : (u : Under) (routes : Routes) (s : State) → u.has_loads ≡ false
     → NoLetGoLeads routes s → ((k : ℕ) → k < 128 → NoPressLeads u routes s k) → IsAstray u routes s
 astray u routes s loads away let_go press = search rules
 
--- the same where no route by a press is answered
+-- a state is astray where no route by a press is answered
 pub astray-when : {E : Type 0} (u : Under) (routes : Routes) (s : State) (r : Result (Option Route) E) → (IsHome s → ⊥)
     → NoLetGoLeads routes s
     → IfOk r (λ route. route ≡ None → (k : ℕ) → k < 128 → NoPressLeads u routes s k)

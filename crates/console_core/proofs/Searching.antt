@@ -53,7 +53,7 @@ searched-fewer u es a b c d le_c le_d s = record {
   closed = λ j x at lt. s.closed j x at (omega (arith, lt, le_d));
 }
 
--- one place more is closed, or pressed
+-- a place below n + 1 is below n, or n
 pub place_last : (j n : ℕ) → j < n + 1 → (j < n) ⊎ (j ≡ n)
 place_last j n lt = elim (cases_lt j n) [ inl below ↦ inl below | inr le ↦ inr (omega (arith, lt, le)) ]
 
@@ -62,7 +62,7 @@ pub same_entry : (es : Entries) (j n : ℕ) (x y : Entry)
     → j ≡ n → slice_get es j ≡ Some x → slice_get es n ≡ Some y → y ≡ x
 same_entry es j n x y e at here = same_Some y x (sym here ∙ ap (λ k. slice_get es k) (sym e) ∙ at)
 
--- one more entry whose releases are met
+-- a further entry whose releases are met
 pub searched-closed : {o : State} (u : Under) (es : Entries) (a n : ℕ) (y : Entry) → slice_get es n ≡ Some y
     → IsClosed u es y
     → Searched u o es a n → Searched u o es a (n + 1)
@@ -76,7 +76,7 @@ searched-closed u es a n y here closed s = record {
   ];
 }
 
--- one more entry whose presses are met
+-- a further entry whose presses are met
 pub searched-pressed : {o : State} (u : Under) (es : Entries) (n b : ℕ) (y : Entry) → slice_get es n ≡ Some y
     → IsPressed u es y
     → Searched u o es n b → Searched u o es (n + 1) b
@@ -135,7 +135,7 @@ order-next es level p order = (
   order.1,
 )
 
--- those met by fewer presses than the level stand below it
+-- entries met by fewer presses than the level stand below it
 pub below_level : (es : Entries) (level p : ℕ) → AreInOrder es level p → (j : ℕ) (x : Entry) → slice_get es j ≡ Some x
     → x.1.presses < p → j < level
 below_level es level p order j x at lt =
@@ -239,7 +239,7 @@ meet-old es p k e within =
     let r : IsFound es k = found es k e in
     (r.0, r.1, r.2, sym r.3, within r.0 r.1 r.2)
 
--- one place of a level is closed
+-- a place of a level is closed
 pub close-step : {o : State} (u : Under) (es now : Entries) (level p n : ℕ) (y : Entry) → Searched u o es level n
     → AreInOrder es level p → level ≤ n → slice_get es n ≡ Some y
     → AreAdded u (state_of y.0) n 0 p es now
@@ -255,7 +255,7 @@ close-step {o} u es now level p n y s order le here added met =
       order-grows u (state_of y.0) n 0 p level es now added below order,
     )
 
--- one place of a level is pressed
+-- a place of a level is pressed
 pub press-step : {o : State} (u : Under) (old es now : Entries) (level p n : ℕ) (y : Entry)
     → Searched u o es n (length old)
     → AreInOrder old level p → Grows old es
@@ -326,14 +326,14 @@ all-done u es s n =
     done-by u es n (λ j x at lt. s.closed j x at (slice_get_within es j x at))
     (λ j x at lt. s.pressed j x at (slice_get_within es j x at))
 
--- what fewer presses than those of a level lead to is
+-- where fewer presses than those of a level lead was met
 pub level-done : {o : State} (u : Under) (es : Entries) (level p : ℕ) → AreInOrder es level p
     → Searched u o es level level → AreDone u es p
 level-done u es level p order s =
     done-by u es p (λ j x at lt. s.closed j x at (below_level es level p order j x at lt))
     (λ j x at lt. s.pressed j x at (below_level es level p order j x at (omega (arith, lt))))
 
--- so is what as many lead to, where the level was closed, and some of the next one was met
+-- where as many presses lead was met, where the level was closed, and some of the next one was met
 pub closed-done : {o : State} (u : Under) (old es : Entries) (level p : ℕ) → AreInOrder old level p → Grows old es
     → AreInOrder es (length old) (p + 1) → Searched u o es level (length old) → AreDone u es (p + 1)
 closed-done u old es level p before g order s =

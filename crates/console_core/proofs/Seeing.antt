@@ -45,7 +45,7 @@ keeps-held m false k h never admitted t there f is =
 keeps-held m true k h never (keys, none, clean) t there f is =
     (clean-spared (alone m) (suc (presses h)) (λ p x. Unit {0})).keeps h k (clean refl) (omega arith) t tt f is
 
--- so lists that are spoken of are spared, where the sets are of states that paths lead to
+-- lists that are spoken of are spared, where the sets are of states that paths lead to
 pub admitted-spared : (m : MapValue) (forgets : Bool) (n : ℕ) (S : State → Type 0)
     → (forgets ≡ false → NeverForgets (alone m)) → ((t : State) → S t → Reached (alone m) t)
     → AreSpared (alone m) n (λ p t. S t) (IsAdmitted m forgets)
@@ -70,7 +70,7 @@ pub follows-selection : (r : List ResolvedEvent) (s : State) → Follows r s
     → selection_with (λ i. on i r) (λ l. locked l r) ≡ selection_of s
 follows-selection r s f = search (rules, fun_ext)
 
--- so a press sees there what it sees after the list
+-- a press sees in the state what it sees after the list
 stands-sees : (m : MapValue) (h : List Event) (s : State) (path : List Move) (k : ℕ) (x : Sight)
     → state_after (alone m) path ≡ s → Follows (resolved (between m m) h) s → SeesBy m (selection_after m h) k x
     → SeesBy m (selection_of (state_after (alone m) path)) k x

@@ -41,7 +41,7 @@ plain-start m = record {
 tail-same : (a b : Event) (g h : List Event) → a ∷ g ≡ b ∷ h → g ≡ h
 tail-same a b g h e = cc
 
--- one more event, of which no press is of a key that remembers a modifier
+-- a further event that is no press of a key that remembers a modifier
 plain-more : (m : MapValue) (h : List Event) (e : Event) → IsPressOrRelease e → IsNoLoad e
     → ReleasesPressedKeys (e ∷ h)
     → ((k : ℕ) (i : Modifier) → e ≡ Press k → remembered k (resolved (between m m) h) ≡ Some (act.Mod i) → ⊥)

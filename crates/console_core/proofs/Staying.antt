@@ -390,12 +390,12 @@ pub record AreLed (u : Under) (n : ℕ) (S : ℕ → State → Type 0) : Type 0 
   pub moved : (p q : ℕ) (s : State) (move : Move) → p + presses_of move ≡ q → q < n → S p s → IsMove u s move
       → S q (moved u s move)
 
--- the same, and the console begins in the first of them
+-- Sets that the moves lead through, and the console begins in the first of them.
 pub record IsKeptBelow (u : Under) (n : ℕ) (S : ℕ → State → Type 0) : Type 0 where
   pub led : AreLed u n S
   pub start : S 0 start
 
--- the same, and no holder looks up a character
+-- Sets that the moves lead through from the start, and no holder looks up a character in them.
 pub record IsSafeBelow (u : Under) (n : ℕ) (S : ℕ → State → Type 0) : Type 0 where
   pub kept : IsKeptBelow u n S
   pub safe : (p : ℕ) → p < n → (s : State) → S p s → IsForgetful u s → ⊥
@@ -474,7 +474,7 @@ stays-event u n S P led spared Load h keeps key admitted le s there f is =
       | inr none ↦ absurd (true≢false (admitted none))
     ]
 
--- one event fewer has no more presses
+-- a list without its newest event has no more presses
 fewer : (e : Event) (h : List Event) (n : ℕ) → presses (e ∷ h) ≤ n → presses h ≤ n
 fewer (Press k) h n le = omega (arith, le)
 fewer (Release k) h n le = le
@@ -503,7 +503,7 @@ stays-on u n S P led spared before s there f is (e ∷ later) (keeps, keys, admi
     (rw (← second) (stays-event u n S P led spared e h keeps (All-head HasKey e h keys)
     (λ none. All-head IsNoLoad e h (admitted none)) le t here g second))
 
--- so it does from the start
+-- from the start a console stays in the sets
 pub stays : (u : Under) (n : ℕ) (S : ℕ → State → Type 0) (P : List Event → Type 0) → IsKeptBelow u n S
     → AreSpared u n S P → (h : List Event) → P h × HasKeys h × Admits u h × (presses h ≤ n)
     → Stays (Below n S (presses h)) (is_second_in_force h) (resolved u.maps h)
@@ -512,7 +512,7 @@ stays u n S P kept spared h given =
     (subst (λ r. Follows r start) (sym (resolved-start u.maps)) follows-start) refl h
     (subst (λ g. P g × HasKeys g × Admits u g × (presses g ≤ n)) (sym (append-nil h)) given))
 
--- so a modifier is on only while a key that bears it is pressed
+-- a modifier is on only while a key that bears it is pressed
 follows-on : (ms : Maps) (h : List Event) (s : State) → Follows (resolved ms h) s → HasKeys h
     → IsOnOnlyWhilePressed (in_force ms h) h (λ i. is_on_after ms i h)
 follows-on ms h s f keys i e =

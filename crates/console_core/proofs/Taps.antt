@@ -83,7 +83,7 @@ lets-go-all s h now t x = search (rules, same_states, below_eight)
 
 -- ---- a tap of a key
 
--- A tap of a key that looks up a character, or an action that nothing holds, leaves the state.
+-- A tap of a key that looks up a character, or an action that nothing holds, keeps the state.
 pub exact-character : (r : List ResolvedEvent) (s : State) (k c : ℕ) → Exact r s → IsIdle s k
     → Exact (ReleasedKey k ∷ (PressedCharacter k c ∷ r)) s
 exact-character r s k c x idle =
@@ -159,7 +159,7 @@ press-answer m h s k x st seen =
     cc (st.second, follows-look (alone m) (resolved (between m m) h) s k st.exact.follows, seen) in
     (answers_by_cases (between m m) k h).0 ∙ ap (λ c. answer_to_look (between m m) k h c) looked ∙ look-answer m h k x
 
--- one event more, by its answer
+-- a further event, by its answer
 typed-more : (m : MapValue) (h : List Event) (e : Event) (a : Answer) → answer_to (between m m) h e ≡ a
     → typed_along m (e ∷ h) ≡ kept_if (types_something a) a ++ typed_along m h
 typed-more m h e a is = ap (λ z. kept_if (types_something z) z ++ typed_along m h) is
@@ -172,7 +172,7 @@ release-silent (Some a) = refl
 typed-release : (m : MapValue) (h : List Event) (k : ℕ) → typed_along m (Release k ∷ h) ≡ typed_along m h
 typed-release m h k = search (rules, typed-more, release-silent)
 
--- neither does a move
+-- a move types nothing
 typed-move : (m : MapValue) (h : List Event) (s : State) (move : Move) → IsMove (alone m) s move → Stands (alone m) h s
     → typed_along m (events_of_move move ++ h) ≡ typed_along m h
 typed-move m h s (Hold k i) (lt, idle, seen, free) st =
@@ -209,7 +209,7 @@ changes-tap : (u : Under) (h : List Event) (s : State) (k : ℕ) → Stands u h 
 changes-tap u h s k x idle changes =
     (rw (pressed-press k k h, eq-eqb k k refl) refl, (idle-up u h s k x idle, changes))
 
--- so does a move
+-- a move presses released keys, and releases pressed ones
 changes-move : (m : MapValue) (h : List Event) (s : State) (move : Move) → IsMove (alone m) s move
     → Stands (alone m) h s → ChangeKeys h
     → ChangeKeys (events_of_move move ++ h)
@@ -302,7 +302,7 @@ tap-dead m h s cs i k x is can =
           ∙ x.typed;
     }
 
--- the same dead key once more
+-- the pending dead key once more
 own-given : (m : MapValue) (i c : ℕ) → usable m i ≡ true → own_of (accent_at m i) ≡ Some c
     → answer_dead_key m (Some i) false i ≡ plainly c
 own-given m i c can own = rw (can, eq-eqb i i refl, own) refl

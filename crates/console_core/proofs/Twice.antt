@@ -17,7 +17,7 @@ pressed_alike k (Release j ∷ h) = cc (pressed-release k j (loads_as_resets h),
 pressed_alike k (Reset ∷ h) = pressed-reset k (loads_as_resets h) ∙ sym (pressed-reset k h)
 pressed_alike k (Load ∷ h) = pressed-reset k (loads_as_resets h) ∙ sym (pressed-load k h)
 
--- there are as many presses
+-- resets in place of loads change nothing of the number of presses
 presses_alike : (h : List Event) → presses (loads_as_resets h) ≡ presses h
 presses_alike [] = refl
 presses_alike (Press k ∷ h) = ap (λ n. suc n) (presses_alike h)
@@ -25,7 +25,7 @@ presses_alike (Release k ∷ h) = presses_alike h
 presses_alike (Reset ∷ h) = presses_alike h
 presses_alike (Load ∷ h) = presses_alike h
 
--- the same keys are spoken of, and no load is left
+-- resets in place of loads are about no other keys, and leave no load
 key_alike : (e : Event) → HasKey e → HasKey (as_reset e)
 key_alike (Press k) key = key
 key_alike (Release k) key = key
@@ -54,7 +54,7 @@ sticks_alone m h i keys (quiet, on) = (
       ∙ sym ((loads_of_one_map m h keys).0 i) ∙ on (between m m) (under-self (with_loads (between m m)))),
 )
 
--- and what sticks under it alone sticks between it and itself
+-- what sticks under a keymap alone sticks between it and itself
 sticks_twice : (m : MapValue) (h : List Event) (i : Modifier) → SticksUnder (alone m) h i
     → SticksUnder (with_loads (between m m)) h i
 sticks_twice m h i (quiet, on) = search (rules, under-self)

@@ -94,7 +94,7 @@ last-cases (z ∷ xs) y x zero at = inl at
 last-cases (z ∷ xs) y x (suc i) at =
     elim (last-cases xs y x i at) [ inl old ↦ inl old | inr new ↦ inr (ap (λ n. suc n) new.0, new.1) ]
 
--- one more end behind the others
+-- a further end behind the others
 ends-more : (from last : ℕ) (ks : List Keyed) (k : Keyed) → AreEnds from ks last → last ≤ k.end
     → AreEnds from (ks ++ k ∷ []) k.end
 ends-more from last [] k ends le = (omega (arith, ends, le), omega arith)
@@ -139,7 +139,7 @@ types-alone m c s next old now types = record {
   types = types.types;
 }
 
--- and are one behind others
+-- events that type a character, behind others
 pub types-behind : (m : MapValue) (c : ℕ) (s next : State) (old es now : List Event)
     → TypesOne m c s [] (reverse es) next → now ≡ old ++ es → TypesOne m c s (reverse old) (reverse now) next
 types-behind m c s next old es now types e = search (rules, reverse-append, append-nil)
@@ -207,7 +207,7 @@ typed-all m cs place x es s typed all (back, is, home, off, e) none =
       new = as-new m (reverse now) end.stands end.pending;
     }
 
--- there was nothing to type
+-- nothing is typed where there was nothing to type
 pub typed-nothing : (m : MapValue) (cs : List ℕ) (x : Typing) → cs ≡ [] → x.keyed.items ≡ [] → x.events.items ≡ []
     → AreTyped m cs x
 typed-nothing m cs x empty keyed events =

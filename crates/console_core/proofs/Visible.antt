@@ -25,7 +25,7 @@ any-member p xs x (n, lt, at) e = list_any_at p xs n x lt (ap p at ∙ e)
 later-member : {X : Type 0} (x : X) (xs : List X) (y : X) → Contains xs y → Contains (x ∷ xs) y
 later-member x xs y (n, lt, at) = (suc n, omega (arith, lt), at)
 
--- and such a list has one
+-- a list that passes has a member that does
 pub some-member : {X : Type 0} (p : X → Bool) (xs : List X) → list_any p xs ≡ true
     → (x : X) × Contains xs x × (p x ≡ true)
 some-member p [] e = absurd (true≢false (sym e))
@@ -61,7 +61,7 @@ true-sees m y k (sight.Cell slot column) (e, f) = search (rules, eq-eqb)
 true-sees m y k (sight.Locks slot caps num) (e, f, g) = search (rules, eq-eqb, true-same)
 true-sees m y k (sight.Pair accent c) e = ap (λ z. is_character c z) e ∙ eq-eqb c c refl
 
--- that of a selection
+-- the test of a selection
 in-range : (k : ℕ) → k < key_count → Contains (range_with_len 0 key_count) k
 in-range k lt = (k, lt, omega (arith, get_or-range_with_len 0 key_count k k lt))
 
@@ -78,14 +78,14 @@ pub true-seeing : (m : MapValue) (y : Selection) (x : Sight) (k : ℕ) → k < k
     → is_seeing m y x ≡ true
 true-seeing m y x k lt sees = search (rules, any-member, in-range, true-sees)
 
--- that of the selections
+-- the test of the selections
 pub selected-true : (m : MapValue) (ys : List Selection) (x : Sight) → IsSelectedBy m ys x → is_selected m ys x ≡ true
 selected-true m ys x (y, has, (k, lt, sees)) = search (rules, any-member, true-seeing)
 
 pub true-selected : (m : MapValue) (ys : List Selection) (x : Sight) → is_selected m ys x ≡ true → IsSelectedBy m ys x
 true-selected m ys x passes = search (rules, some-member, seeing-true)
 
--- that of the offers
+-- the test of the offers
 pub composed-true : (m : MapValue) (offers : List Offer) (accent : ℕ) (x : Sight) → IsComposedBy m offers accent x
     → is_composed m offers accent x ≡ true
 composed-true m offers accent x (o, has, same, sees) = search (rules, any-member, eq-eqb, selected-true)

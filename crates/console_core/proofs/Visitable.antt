@@ -128,7 +128,7 @@ pub met-key : (es : Entries) (n : ℕ) (x h : Held) → ((y : Entry) → slice_g
     → slice_get (keys_of es) n ≡ Some x → h ≡ x
 met-key es n x h is at = let (y, there, e) = key-at es n x at in is y there ∙ e
 
--- there is none behind the last place
+-- no state stands behind the last place
 pub key-within : (es : Entries) (n : ℕ) (x : Held) → slice_get (keys_of es) n ≡ Some x → n < length es
 key-within es n x at = let (y, there, e) = key-at es n x at in slice_get_within es n y there
 
@@ -170,7 +170,7 @@ way-home m s off moves home old now none is =
       ),
     )
 
--- and none
+-- no events lead home where no route begins
 pub no-way : (e : Explored) → IsWhole e → (s : State) → s.is_locked Scroll ≡ false
     → (HasRoute e.routes.entries s → ⊥) → (now : List Event) → now ≡ [] → IsWayHome (map_of_explored e) s now
 no-way e whole s off none now is = inr ((λ can home. none (route-reached e whole s can off home)), is)
@@ -197,7 +197,7 @@ comes-at e whole n x h is at comes =
     subst (λ z. HasRoute e.routes.entries (state_of z)) (sym (is y there))
     (route-near e whole n y there (state_of x) (ap (λ z. unscrolled (state_of z)) same) comes)
 
--- and moves lead home from where a route begins
+-- moves lead home from where a route begins
 pub home-at : (e : Explored) → IsWhole e → (s : State) → HasRoute e.routes.entries s
     → ComesHome (alone (map_of_explored e)) s
 home-at e whole s has = has-home (alone (map_of_explored e)) e.routes.entries s whole.0.home has

@@ -53,7 +53,7 @@ press-turns m h s k l x idle seen j =
     ap (λ z. locked j z) (pressed-look (alone m) h s k (Act (act.Lock l)) x.exact.follows x.second seen)
     ∙ (follows-turn r s k (act.Lock l) l x.exact.follows e (x.exact.up l)).locked j
 
--- and no other press turns one
+-- no other press turns a lock
 pub press-turns_none : (m : MapValue) (h : List Event) (s : State) (k : ℕ) → Stands (alone m) h s
     → ((l : Lock) → IsIdle s k → look_in (alone m) s k ≡ Act (act.Lock l) → ⊥) → (j : Lock)
     → is_locked_after (between m m) j (Press k ∷ h) ≡ s.is_locked j

@@ -116,7 +116,7 @@ lock_mark a l = ne_eqb _ _ (λ e. mark-not_lock a l (sym e))
 pub below_flag : (k : ℕ) → k < 16 → eqb k 20 ≡ false
 below_flag k lt = ne_eqb k 20 (λ e. omega arith)
 
--- the same, the other way round
+-- no bit of the marks and locks is bit 20
 pub flag_above : (k : ℕ) → k < 16 → eqb 20 k ≡ false
 flag_above k lt = ne_eqb 20 k (λ e. omega arith)
 

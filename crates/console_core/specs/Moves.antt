@@ -20,7 +20,7 @@ pub record Under : Type 0 where
   pub maps : Maps
   pub has_loads : Bool
 
--- one map, without loads
+-- a map alone, without loads
 abbrev pub alone : MapValue → Under
 alone m = record { maps = between m m; has_loads = false }
 
@@ -119,7 +119,7 @@ abbrev pub IsPathFrom : Under → State → List Move → Type 0
 IsPathFrom u s [] = Unit {0}
 IsPathFrom u s (move ∷ path) = IsMove u (state_from u s path) move × IsPathFrom u s path
 
--- Those from the start.
+-- Paths from the start.
 abbrev pub state_after : Under → List Move → State
 state_after u path = state_from u start path
 

@@ -158,7 +158,7 @@ SightsAreReachable =
     → IsAdmitted m forgets h → k < key_count → SeesNext m h k x
     → IsReachable m x
 
--- And what can be seen is seen by a press after a clean list of presses and releases.
+-- What can be seen is seen by a press after a clean list of presses and releases.
 abbrev pub ReachableIsSeen : Type 0
 ReachableIsSeen =
     (m : MapValue) (x : Sight) → IsReachable m x
@@ -179,19 +179,19 @@ sees_by m y k (sight.Cell slot column) = (slot_in y k == slot) && (column_in m y
 sees_by m y k (sight.Locks slot caps num) = (slot_in y k == slot) && (is_same y.caps caps && is_same y.num num)
 sees_by m y k (sight.Pair accent c) = is_character c (look_selected m y k)
 
--- whether a press of some key does
+-- whether a press of some key sees the sight
 abbrev pub is_seeing : MapValue → Selection → Sight → Bool
 is_seeing m y x = list_any (λ k. sees_by m y k x) (range_with_len 0 key_count)
 
--- whether a press of some key does under one of the selections
+-- whether a press of some key sees the sight under one of the selections
 abbrev pub is_selected : MapValue → List Selection → Sight → Bool
 is_selected m ys x = list_any (λ y. is_seeing m y x) ys
 
--- and so under one where the accent can be pending
+-- whether some key sees the sight under a selection where the accent can be pending
 abbrev pub is_composed : MapValue → List Offer → ℕ → Sight → Bool
 is_composed m offers accent x = list_any (λ o. (o.accent == accent) && is_selected m o.selections.items x) offers
 
--- whether it can be seen, by what a search found
+-- whether the sight can be seen, by what a search found
 abbrev pub can_see : MapValue → Sights → Sight → Bool
 can_see m s (sight.Pair accent c) = is_composed m s.offers.items accent (sight.Pair accent c)
 can_see m s x = is_selected m s.selections.items x

@@ -88,7 +88,7 @@ abbrev pub NoneSticksUnderBy : Under → ℕ → Type 0
 NoneSticksUnderBy u p =
     (g : List Event) → HasKeys g → Admits u g → (i : Modifier) → SticksUnder u g i → p < presses g
 
--- these modifiers are on after the list, in their order, and no others
+-- the modifiers are those that are on after the list, in their order, and no others
 abbrev pub AreOnAfter : Maps → List Event → List Modifier → Type 0
 AreOnAfter ms h on = on ≡ filter (λ i. is_on_after ms i h) modifiers
 

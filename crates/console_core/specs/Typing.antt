@@ -81,7 +81,7 @@ ChangesKey (Press k) before = pressed k before ≡ false
 ChangesKey (Release k) before = pressed k before ≡ true
 ChangesKey _ before = ⊥
 
--- So does each event of the list, which has the newest first: none of them is a repeat, a reset or a load.
+-- Each event of the list, which has the newest first, changes a key: none is a repeat, a reset or a load.
 abbrev pub ChangeKeys : List Event → Type 0
 ChangeKeys [] = Unit {0}
 ChangeKeys (e ∷ h) = ChangesKey e h × ChangeKeys h
@@ -105,7 +105,7 @@ AreParts m cs keyed es =
     (i : ℕ) (k : Keyed) → slice_get keyed i ≡ Some k
     → (k.end ≤ length es) × IsQuiet (reverse (take k.end es)) × Types m (take k.end es) (take (i + 1) cs)
 
--- These are the characters. The events are presses of released keys and releases of pressed ones, and none where there
+-- The characters are these. The events are presses of released keys and releases of pressed ones, and none where there
 -- are no characters. They type these and nothing else, part by part, and leave a new console as a new one.
 pub record AreTyped (m : MapValue) (cs : List ℕ) (x : Typing) : Type 0 where
   pub characters : characters_of x.keyed.items ≡ cs

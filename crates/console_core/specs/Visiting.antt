@@ -30,7 +30,7 @@ pub record ExplorerValue : Type 0 where
   pub locks : Locks
   pub aim : Option Sight
 
--- these locks are on after the list
+-- the locks are on after the list as told
 abbrev pub HasLocks : MapValue → Locks → List Event → Type 0
 HasLocks m locks h =
     (is_locked_after (between m m) Caps h ≡ locks.caps)
@@ -74,7 +74,7 @@ SeenCanBeVisited =
 abbrev pub CanReach : MapValue → State → Type 0
 CanReach m s = (path : List Move) × IsPath (alone m) path × (state_after (alone m) path ≡ s)
 
--- These are the states that moves lead to: a path leads to each of them, and each path to one of them, but for the
+-- The states are those that moves lead to: a path leads to each of them, and each path to one of them, but for the
 -- scroll lock.
 pub record AreStatesOf (m : MapValue) (states : List Held) : Type 0 where
   pub reached : (x : Held) → Contains states x → CanReach m (state_of x)

@@ -47,7 +47,7 @@ pub struct Explored<'m> {
     pub maps: Keymaps<'m>,
     pub(crate) met: Met,
     pub(crate) routes: Routes,
-    /// Whether these are all states. Else they are more than 65,536.
+    /// Whether the states that were met are all. Else they are more than 65,536.
     pub is_complete: bool,
 }
 

@@ -83,7 +83,7 @@ fn after(held: &Held, maps: &Keymaps, key: KeyCode) -> Held
     }
 }
 
-/// Adds a tap of the key, if that leaves the state, and one more of a dead key, so that no accent of it stays pending.
+/// Adds a tap of the key, if that keeps the state, and one more of a dead key, so that no accent of it stays pending.
 fn tap_steady(
     events: &mut Vec<Event>,
     maps: &Keymaps,
@@ -103,7 +103,7 @@ fn tap_steady(
     }
 }
 
-/// Adds one more press of the key, if it holds a modifier and that leaves the state, and else taps.
+/// Adds one more press of the key, if it holds a modifier and that keeps the state, and else taps.
 fn press_steady(
     events: &mut Vec<Event>,
     maps: &Keymaps,
@@ -120,7 +120,7 @@ fn press_steady(
     tap_steady(events, maps, held, key)
 }
 
-/// Adds presses of those of the keys that leave the state, each with its release unless the key holds a modifier.
+/// Adds presses of those of the keys that keep the state, each with its release unless the key holds a modifier.
 fn tap_all(
     events: &mut Vec<Event>,
     maps: &Keymaps,
@@ -196,7 +196,7 @@ impl<'m> Explored<'m> {
         }
     }
 
-    /// Adds the events to the place, and taps of those of the keys that leave its state.
+    /// Adds the events to the place, and taps of those of the keys that keep its state.
     fn go_looking(
         &self,
         alloc: Global,
@@ -342,7 +342,7 @@ impl<'m> Explorer<'m> {
         }
     }
 
-    /// The events of a visit. The keys are tapped there that leave the state; not where it is behind a dead key.
+    /// The events of a visit. The keys are tapped there that keep the state; not where it is behind a dead key.
     pub fn visit(&mut self, alloc: Global, keys: &[KeyCode]) -> Result<Vec<Event>, AllocError>
         ensures kept { self.new.map ≡ self.old.map }
         ensures states { self.new.states ≡ self.old.states }

@@ -20,11 +20,11 @@ pub struct Selection {
 /// What a press of a key sees.
 #[derive(Clone, Copy, Debug, PartialEq, Eq)]
 pub enum Sight {
-    /// It looks up this slot and column.
+    /// The press looks up this slot and column.
     Cell { slot: u8, column: usize },
-    /// It looks up this slot while clock and nlock are so.
+    /// The press looks up this slot while clock and nlock are so.
     Locks { slot: u8, caps: bool, num: bool },
-    /// It looks up this character while the accent is pending.
+    /// The press looks up this character while the accent is pending.
     Pair { accent: u8, character: char },
 }
 

@@ -26,7 +26,7 @@ pub struct Keyed {
 }
 
 /// Characters, and the events that type them one after another: presses of released keys and releases of pressed ones.
-/// Those behind the end of the last character leave a console as a new one.
+/// The events behind the end of the last character leave a console as a new one.
 #[derive(Debug, Drop)]
 pub struct Typing {
     pub keyed: Vec<Keyed>,
@@ -39,7 +39,7 @@ pub enum TypingError {
     Memory,
     /// No keys can type the character at this place, the first such.
     NoWay(usize),
-    /// There are more than 65,536 states, and none of those that were met serves.
+    /// Moves lead to more than 65,536 states, and none of those that were met serves.
     TooManyStates,
 }
 

@@ -44,7 +44,7 @@ pub fn plain(symbol: Symbol) -> Tap
     }
 }
 
-/// Whether it can be tapped, with `is_near` at a near place.
+/// Whether the tap can be made, with `is_near` at a near place.
 fn can_tap(explored: &Explored, tap: &Tap, is_near: bool) -> bool
     requires { IsExplored explored.now }
     ensures can { result ≡ true → HasTap explored.now tap.now }
@@ -199,7 +199,7 @@ fn dead_key_for(explored: &Explored, map: &KeyMap, c: char, is_near: bool) -> Op
 /// What is tapped to type a character.
 #[derive(Clone, Copy, Debug)]
 pub enum Way {
-    /// One key.
+    /// A single key.
     Direct(KeyAt),
     /// A dead key, and another key behind it.
     Composed(Accented),

@@ -1,4 +1,4 @@
--- What one more event does to a script.
+-- What a further event does to a script.
 use Rattle.std.proofs.Common.{arith}
 use Rattle.keymap_cover.proofs.Common.{◌≡◌, ℕ, ◌<◌, ◌⊎◌, inl, inr, Bool, true, false, List, [], ◌∷◌, ◌++◌, Option, None}
 use Rattle.keymap_cover.proofs.Common.{Some, refl, ap, subst, sym, ◌∙◌, length, reverse, if◌then◌else◌, not, ◌==◌}
@@ -57,7 +57,7 @@ sights-added : (m : MapValue) (h : List Event) (k : ℕ) (pending : Option ℕ) 
     → AddsPair m y k pending b now → AddsSights m h k old now)
 sights-added m h k pending old a b now is v w pair x = grind (arith)
 
--- the same by what a console shows
+-- what a press sees, by what a console shows, was added
 pub shown-added : (m : MapValue) (h : List Event) (k slot column : ℕ) (pending : Option ℕ) (y : Selection)
     (old a b now : Sight → Bool) (on : Modifier → Bool) (off : Lock → Bool)
     → y ≡ selection_with on off → ((i : Modifier) → on i ≡ is_on_after (between m m) i h)
@@ -92,7 +92,7 @@ down-press (script_event.Repeat i) k j before e = cc
 down-press (script_event.Up i) k j before e = cc
 down-press script_event.Reset k j before e = cc
 
--- one more event stands in front where the newest stands first
+-- a further event stands in front where the newest stands first
 newest : (events : List ScriptEvent) (x : ScriptEvent) → reverse (events ++ x ∷ []) ≡ x ∷ reverse events
 newest events x = reverse-append events (x ∷ [])
 
@@ -195,7 +195,7 @@ at-rest m h = (
   refl,
 )
 
--- nor is it before all events
+-- before all events nothing is pressed, on or pending
 pub at-rest_new : (m : MapValue) → IsAtRest m []
 unfolding resolved held dead_keys_taken pending_by_dead_keys
 at-rest_new m = ((λ k lt. pressed-start k), (λ i. refl), refl)
@@ -219,7 +219,7 @@ not-pressed k (script_event.Up j ∷ xs) e =
     ∙ by-whether (j == k) false (is_down k xs) (pressed k (events_of xs)) (λ f. not-pressed k xs f) e
 not-pressed k (script_event.Reset ∷ xs) e = pressed-reset k (events_of xs)
 
--- so a key that is pressed is down
+-- a key that is pressed is down
 pub up-not : (m : MapValue) (h : List Event) (events : List ScriptEvent) (down : List Bool) (saw : Sight → Bool) (k : ℕ)
     → IsScript m h events down saw → k < key_count → slice_index_or down k false ≡ false → pressed k h ≡ true → ⊥
 up-not m h events down saw k t lt off on = grind (arith, not-pressed)

@@ -43,7 +43,7 @@ sees-longer m h g x (more, is) (later, before, k, at, sees) =
     subst (λ z. SeesAlong m z x) (sym is)
     (more ++ later, before, k, ap (λ z. more ++ z) at ∙ sym (append_assoc more later _), sees)
 
--- so what was seen once was seen later
+-- what was seen once was seen later
 pub seen-still : (m : MapValue) (h g : List Event) (a b : Script) (x : Sight) → IsScriptOf m h a → IsScriptOf m g b
     → ComesAfter h g → has_seen a.seen x ≡ true → has_seen b.seen x ≡ true
 seen-still m h g a b x before now after has = now.all_seen x (sees-longer m h g x after (before.seen x has))
@@ -244,7 +244,7 @@ told-shown m A p a B q b C r d xs ys n keys pairs is first second h w =
       ),
     )
 
--- one walk behind another
+-- a walk behind another
 pub walks-further : (m : MapValue) (x y : List Event) (A : Standing) (a : Script) (B : Standing) (b : Script)
     (C : Standing) (d : Script) → GoesAlongToRest m x A a B b → GoesAlongToRest m y B b C d → GoesFurther m A a C d
 walks-further m x y A a B b C d first second h at =

@@ -38,7 +38,7 @@ abbrev pub SeesKeysBy : MapValue → List ScriptEvent → ℕ → Type 0
 SeesKeysBy m events n =
     (x : Sight) → IsTold m x → (IsPair x → ⊥) → CanVisit m x → SeesAlong m (events_of (reverse (take n events))) x
 
--- and of all that is told of
+-- what the first n events see of all that is told of and can be visited: all of it
 abbrev pub SeesToldBy : MapValue → List ScriptEvent → ℕ → Type 0
 SeesToldBy m events n =
     (x : Sight) → IsTold m x → CanVisit m x → SeesAlong m (events_of (reverse (take n events))) x
@@ -56,7 +56,7 @@ pub record Covers (m : MapValue) (c : Cover) : Type 0 where
   pub possible : ArePossible (reverse c.events.items)
   pub rest : IsAtRest m (history c)
   pub up : (k : ℕ) → k < key_count → is_down k (reverse c.events.items) ≡ false
-  -- its parts begin in their order, the first before all events, and each has an event
+  -- the parts of the script begin in their order, the first before all events, and each has an event
   pub parts : AreParts c.starts.items (length c.events.items)
   -- nothing that is told of and can be visited is left out
   pub complete : (x : Sight) → IsTold m x → CanVisit m x → SeesAlong m (history c) x
@@ -101,7 +101,7 @@ counts_of told xs = record {
   rest = count_by (λ x. is_verdict Never (told x)) xs;
 }
 
--- or the search gives up
+-- the cover of the keymap, or the search gives up
 abbrev pub IsCover : MapValue → Option Cover → Type 0
 IsCover m None = (p : ℕ) × ReachesMoreThan (alone m) state_limit p
 IsCover m (Some c) = Covers m c

@@ -51,7 +51,7 @@ impl Cover {
     }
 }
 
-/// Whether it is left out: it can be seen, and wasn't.
+/// Whether the sight is left out: it can be seen, and wasn't.
 pub(crate) fn is_left_out(seen: &Seen, sights: &Sights, map: &KeyMap, sight: Sight) -> bool
     ensures none { AreSightsOf map.now sights.now → result ≡ false → IsReachable map.now sight
         → has_seen seen.now sight ≡ true }

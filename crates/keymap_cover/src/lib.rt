@@ -5,7 +5,7 @@
 //! is kept, the search tells what can be looked up at all (`Sights`), and an `Explorer` makes visits to what wasn't
 //! looked up yet. Behind these stand trials of what keys do to each other, of which nothing is promised.
 //!
-//! It promises (`cover_of`, `Cover::verdict`) that what is told as seen is what the script sees in its events from a
+//! Contracts (`cover_of`, `Cover::verdict`) say that what is told as seen is what the script sees in its events from a
 //! new console, that what is told as left out can be seen, and that what is told as never seen no list of events sees,
 //! or no clean one where a key that holds a modifier can look up a character. Nothing is left out to which moves lead
 //! from which, once all keys are let go, more of them lead home. Only released keys are pressed, only pressed ones

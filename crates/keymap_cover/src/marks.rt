@@ -73,7 +73,7 @@ impl Seen {
         })
     }
 
-    /// Whether it was seen.
+    /// Whether the sight was seen.
     pub fn has(&self, sight: Sight) -> bool
         ensures { result ≡ has_seen self.now sight }
     {

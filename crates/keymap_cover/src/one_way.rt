@@ -11,7 +11,7 @@ use console_core::{Event, Onward, Sight, Sights, Translator, find_onward};
 use keymap_core::{KEY_COUNT, KeyMap, key_with};
 use std::alloc::{AllocError, Global};
 
-/// The events to the press, with taps before it of the keys that see something new there and leave the state.
+/// The events to the press, with taps before it of the keys that see something new there and keep the state.
 fn events_onward(
     alloc: Global,
     map: &KeyMap,
@@ -49,7 +49,7 @@ fn left_out(
     Ok(left)
 }
 
-/// Those of these that weren't seen.
+/// The sights of a list that weren't seen.
 fn unseen(alloc: Global, seen: &Seen, sights: &[Sight]) -> Result<Vec<Sight>, AllocError> {
     let mut left = Vec::new(alloc);
     for sight in sights {

@@ -198,7 +198,7 @@ impl Script {
     }
 
     /// Delivers the events, whatever they are, releases all keys, and leaves no modifier on and no accent pending.
-    /// Those that are taken are delivered one by one.
+    /// Events that are taken are delivered one by one.
     pub fn walk<T: Translator>(
         &mut self,
         console: &mut T,

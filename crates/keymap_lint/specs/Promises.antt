@@ -16,7 +16,7 @@ abbrev pub WellTextsNeverStick : Type 0
 WellTextsNeverStick =
     (text : List ℕ) (l : Lint) → IsLint text l → has_error l ≡ false → (m : MapValue) × Spells text m × NeverSticks m
 
--- it names a key that is a modifier or lock and has a character
+-- the diagnostic names a key that is a modifier or lock and has a character
 abbrev pub names_a_key : Kind → Bool
 names_a_key (MixedKey finding character is_noted) = true
 names_a_key (HalfDefined selector has_keys is_noted) = has_keys

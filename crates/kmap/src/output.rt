@@ -40,7 +40,7 @@ impl<'a, R: Print> Output<'a, R> {
         }
     }
 
-    /// The same of a command that fails for reasons of its own too.
+    /// The outcome of a command that wrote here, which fails for reasons of its own too.
     pub(crate) fn command_outcome<'n, T>(
         &self,
         outcome: Result<T, CommandError>,

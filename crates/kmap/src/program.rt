@@ -1,4 +1,4 @@
-//! One run of the program: the words, the files that they name, and the exit status.
+//! A run of the program: the words, the files that they name, and the exit status.
 use crate::command_line::{Request, command, contradiction, request_of};
 use crate::compile::compile;
 use crate::format::format_texts;
@@ -25,7 +25,7 @@ use std::{env, io};
 #[derive(Drop)]
 pub(crate) enum Failure<'a> {
     Run(RunError),
-    /// It is no error of a run.
+    /// A fault of a command that is no error of a run.
     Command(CommandError),
     /// The line of the error tells the file too.
     OfFile(&'a str, CommandError),

@@ -53,9 +53,9 @@ const NAMES: u32 = 1000;
 #[derive(Drop)]
 pub(crate) enum Old {
     Absent,
-    /// It is to belong to the same owner still.
+    /// The old file is to belong to the same owner still.
     Owned(Metadata),
-    /// It was read, and is to be as it was before.
+    /// The old file was read, and is to be as it was before.
     Read(Metadata),
 }
 
@@ -226,7 +226,7 @@ pub(crate) fn replace<R: AllocGlobal + Files<File = File>>(
 struct Replacement<'a> {
     /// The name of the file whose place it takes.
     target: &'a str,
-    /// Its own name until then.
+    /// The new file's own name until then.
     name: &'a str,
     old: &'a Old,
 }

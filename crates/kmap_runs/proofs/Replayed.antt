@@ -146,12 +146,12 @@ typing-delivers m cs x t = delivers-these (typing_script x) x.events.items (typi
 keys-of : (events : List Event) → HasKeys (reverse events) → HasKeys events
 keys-of events keys = subst HasKeys (reverse-reverse events) (All-reversed HasKey (reverse events) keys)
 
--- the lines of such events
+-- the lines of events of keys deliver these
 lines-deliver : (events : List Event) → HasKeys (reverse events)
     → Delivers (flat_map event_line events) (reverse events)
 lines-deliver events keys = delivers-these _ events (events-script events (keys-of events keys))
 
--- the same behind a comment with the names of modifiers
+-- the lines of events of keys, behind a comment with the names of modifiers, deliver these
 script-delivers : (on : List Modifier) (events : List Event) → HasKeys (reverse events)
     → Delivers (script_text on events) (reverse events)
 script-delivers on events keys =

@@ -40,7 +40,7 @@ never_word = codes "never"
 abbrev pub unstuck_word : List ℕ
 unstuck_word = codes "not before a modifier sticks"
 
--- whether this is the verdict on a sight
+-- whether the cover has this verdict on a sight
 abbrev pub has_verdict : MapValue → Cover → Verdict → Sight → Bool
 has_verdict m c v x = is_verdict v (verdict_of m c x)
 
@@ -80,12 +80,12 @@ abbrev pub row_text : (Sight → Bool) → ℕ → List ℕ
 row_text is_listed slot =
     headed (codes "; columns") (columns_text is_listed slot) ++ headed (codes "; locks") (settings_text is_listed slot)
 
--- the same is listed of the slots from one on to before another
+-- all slots from one on to before another have the same listed
 abbrev pub AreAlike : (Sight → Bool) → ℕ → ℕ → Type 0
 AreAlike is_listed first end =
     (slot : ℕ) → first ≤ slot → slot < end → row_text is_listed slot ≡ row_text is_listed first
 
--- and not of the slot behind them, if there is one
+-- the slot behind the end, if there is one, has something else listed
 abbrev pub EndsAlike : (Sight → Bool) → ℕ → ℕ → Type 0
 EndsAlike is_listed first end = end < slot_limit → row_text is_listed end ≡ row_text is_listed first → ⊥
 

@@ -146,7 +146,7 @@ AcceptedKeepTheirPromise =
     (show : Bool) (text out : Moves) → ChecksText show text out (Ok true)
     → (m : MapValue) × ReadsText text (Ok m) × KeepsPromise m
 
--- One file is compiled of a text and then dumped as another text: both spell the same keymap.
+-- A file is compiled of a text and then dumped as another text: both spell the same keymap.
 abbrev pub AreDumped : (Moves → Moves → Result (Unit {0}) RunError → Type 0)
     → (Option (List ℕ) → Option (List ℕ) → Result MapValue TableError → Type 0) → Type 0
 AreDumped Compiles Reads =

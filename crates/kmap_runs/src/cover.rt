@@ -117,7 +117,7 @@ fn row_of(alloc: Global, listing: &Listing, slot: u8) -> Result<Vec<u8>, AllocEr
     Ok(text)
 }
 
-/// Whether this is listed of the slot.
+/// Whether the row is what is listed of the slot.
 fn has_row(alloc: Global, listing: &Listing, slot: u8, row: &[u8]) -> Result<bool, AllocError>
     ensures same { IfOk result (λ same. IsTrue same → spec.row_text (spec.is_in listing.now) slot ≡ row.now) }
     ensures other { IfOk result (λ same. same ≡ false → spec.row_text (spec.is_in listing.now) slot ≡ row.now → ⊥) }

@@ -87,7 +87,7 @@ static TABLE_KINDS: [(TableFaultKind, &[u8]); 9] = [
     ),
 ];
 
-/// Other faults of runs, and their lines.
+/// Further faults of runs, and their lines.
 static LINES: [(RunError, &[u8]); 15] = [
     (
         RunError::Next(TextFault {

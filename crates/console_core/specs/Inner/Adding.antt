@@ -25,11 +25,11 @@ pub record Adds {X : Type 0} (P : X → Type 0) (old now : List X) : Type 0 wher
   pub only : (x : X) → Contains now x → Contains old x ⊎ P x
   pub once : HasNoDoubles old → HasNoDoubles now
 
--- it is so in a state that was met, below the place
+-- Q holds in a state that was met, below the place
 abbrev pub IsInSome : Entries → ℕ → (State → Type 0) → Type 0
 IsInSome es n Q = (j : ℕ) × (x : Entry) × (slice_get es j ≡ Some x) × (j < n) × Q (state_of x.0)
 
--- these are the selections of the states that were met
+-- the selections are those of the states that were met
 abbrev pub AreSelectionsOf : Entries → List Selection → Type 0
 AreSelectionsOf es ys = Enumerates (λ y. IsInSome es (length es) (λ s. selection_of s ≡ y)) ys
 
@@ -37,12 +37,12 @@ AreSelectionsOf es ys = Enumerates (λ y. IsInSome es (length es) (λ s. selecti
 abbrev pub AddsOffer : Under → State → ℕ → List ℕ → List ℕ → Type 0
 AddsOffer u s k old now = Adds (λ a. (usable u.maps.first a ≡ true) × Offers u s k a) old now
 
--- those of the keys below n were added
+-- the usable accents of the keys below n were added
 abbrev pub AddsOffers : Under → State → ℕ → List ℕ → List ℕ → Type 0
 AddsOffers u s n old now =
     Adds (λ a. (usable u.maps.first a ≡ true) × ((k : ℕ) × (k < n) × Offers u s k a)) old now
 
--- these are the accents that are offered in the states that were met
+-- the accents are those that are offered in the states that were met
 abbrev pub AreAccentsOf : Under → Entries → List ℕ → Type 0
 AreAccentsOf u es accents = Enumerates (λ a. IsInSome es (length es) (λ s. IsOfferedIn u s a)) accents
 
@@ -68,7 +68,7 @@ pub record AddsState (s : State) (old now : Entries) : Type 0 where
   pub added : IsMet now s
   pub only : (j : ℕ) (x : Entry) → slice_get now j ≡ Some x → (slice_get old j ≡ Some x) ⊎ (state_of x.0 ≡ s)
 
--- These are states behind where the accent is offered, among them those below the place that were met and where it is.
+-- The states are behind where the accent is offered, among them those below the place that were met and where it is.
 pub record AreSeedsTo (u : Under) (accent : ℕ) (met : Entries) (place : ℕ) (es : Entries) : Type 0 where
   pub within : AreWithin es 0
   pub seeds : (j : ℕ) (x : Entry) → slice_get met j ≡ Some x → j < place → IsOfferedIn u (state_of x.0) accent
@@ -76,27 +76,27 @@ pub record AreSeedsTo (u : Under) (accent : ℕ) (met : Entries) (place : ℕ) (
   pub behind : (j : ℕ) (x : Entry) → slice_get es j ≡ Some x
       → IsBehind u accent (state_of x.0) × ((state_of x.0).is_locked Scroll ≡ false)
 
--- And where moves lead from those below the number is among them.
+-- All seeds of what was met are among the states, and where moves lead from those below the number.
 pub record AreBehindTo (u : Under) (accent : ℕ) (met es : Entries) (n : ℕ) : Type 0 where
   pub seeds : AreSeedsTo u accent met (length met) es
   pub moved : (j : ℕ) (x : Entry) → slice_get es j ≡ Some x → j < n → (move : Move)
       → IsMove u (state_of x.0) move → LeavesScroll move → IsMet es (moved u (state_of x.0) move)
 
--- these are the states behind where the accent is offered
+-- the states are those behind where the accent is offered
 abbrev pub AreBehind : Under → ℕ → Entries → Entries → Type 0
 AreBehind u accent met es = AreBehindTo u accent met es (length es)
 
--- these are the offers of the accents
+-- the offers are those of the accents
 pub record AreOffersOf (m : MapValue) (accents : List ℕ) (offers : List Offer) : Type 0 where
   pub all : accents_in offers ≡ accents
   pub each : (o : Offer) → Contains offers o → Enumerates (CanCompose m o.accent) o.selections.items
 
--- a press of some key sees it under one of the selections
+-- a press of some key sees the sight under one of the selections
 abbrev pub IsSelectedBy : MapValue → List Selection → Sight → Type 0
 IsSelectedBy m selections x =
     (y : Selection) × Contains selections y × ((k : ℕ) × (k < key_count) × SeesBy m y k x)
 
--- and so under one where the accent can be pending
+-- a press of some key sees the sight under a selection where the accent can be pending
 abbrev pub IsComposedBy : MapValue → List Offer → ℕ → Sight → Type 0
 IsComposedBy m offers accent x =
     (o : Offer) × Contains offers o × (o.accent ≡ accent) × IsSelectedBy m o.selections.items x

@@ -140,7 +140,7 @@ dead_tap i = record { symbol = symbol.DeadKey i; is_plain = false }
 abbrev pub IsBase : MapValue → Explored → ℕ → ℕ → Symbol → Type 0
 IsBase m e i c x = (composed_of m i x ≡ Some c) × HasTap e (plain_tap x)
 
--- and the accent's dead key can be tapped
+-- a base of the accent can be tapped, and its dead key
 abbrev pub CanAccent : MapValue → Explored → ℕ → ℕ → Symbol → Type 0
 CanAccent m e c i x = (usable m i ≡ true) × HasTap e (dead_tap i) × IsBase m e i c x
 
@@ -153,7 +153,7 @@ abbrev pub IsWay : MapValue → Explored → ℕ → Way → Type 0
 IsWay m e c (way.Direct at) = IsTapAt e (plain_tap (symbol.Character c)) at.place at.key
 IsWay m e c (way.Composed a) = (i : ℕ) × IsAccented m e c i a
 
--- there is no way to type it
+-- no way types the character
 abbrev pub HasNoWay : MapValue → Explored → ℕ → Type 0
 HasNoWay m e c =
     (HasTap e (plain_tap (symbol.Character c)) → ⊥) × ((i : ℕ) (x : Symbol) → CanAccent m e c i x → ⊥)

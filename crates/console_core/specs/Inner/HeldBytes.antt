@@ -56,7 +56,7 @@ bool_equal false false e = refl
 bool_equal true false e = absurd (true≢false (sym e))
 bool_equal false true e = absurd (true≢false (sym e))
 
--- the same tables, and the same map in force
+-- two states have the same tables, and the same map in force
 abbrev pub AreSame : Held → Held → Type 0
 AreSame x y = (x.holders ≡ y.holders) × (x.locks ≡ y.locks) × (x.is_second ≡ y.is_second)
 

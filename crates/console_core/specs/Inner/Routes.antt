@@ -37,7 +37,7 @@ HasEntry (x ∷ es) s = (state_of x.0 ≡ s) ⊎ HasEntry es s
 abbrev pub AllLeadHome : Under → Routes → Type 0
 AllLeadHome u routes = AllEntries (λ k r. LeadsHome u (state_of k) r.moves.items) routes
 
--- one begins at the state
+-- a route begins at the state
 abbrev pub HasRoute : Routes → State → Type 0
 HasRoute routes s = HasEntry routes s
 

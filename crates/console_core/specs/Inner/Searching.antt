@@ -82,7 +82,7 @@ HasMovingKeys u keys n = (k : ℕ) → k < n → Contains keys k ⊎ ((s : State
 abbrev pub Grows : Entries → Entries → Type 0
 Grows es now = (more : Entries) × (now ≡ es ++ more)
 
--- each was met by at most p presses
+-- each entry was met by at most p presses
 abbrev pub AreWithin : Entries → ℕ → Type 0
 AreWithin es p = (j : ℕ) (x : Entry) → slice_get es j ≡ Some x → x.1.presses ≤ p
 
@@ -92,7 +92,7 @@ IsFrom u s place n p x =
     (by : Move) × (x.1.presses ≡ p) × (x.1.last ≡ Some (place, by))
     × IsMove u s by × (state_of x.0 ≡ moved u s by) × (presses_of by ≡ n) × LeavesScroll by
 
--- such entries were added
+-- what was added are entries of moves from the state at the place
 abbrev pub AreAdded : Under → State → ℕ → ℕ → ℕ → Entries → Entries → Type 0
 AreAdded u s place n p es now = (more : Entries) × (now ≡ es ++ more) × All (IsFrom u s place n p) more
 
@@ -145,7 +145,7 @@ abbrev pub AreOrdered : Entries → Type 0
 AreOrdered es =
     (i j : ℕ) (x y : Entry) → i ≤ j → slice_get es i ≡ Some x → slice_get es j ≡ Some y → x.1.presses ≤ y.1.presses
 
--- so those below the place were met by fewer than p presses, and the others by p
+-- the entries below the place were met by fewer than p presses, and the others by p
 abbrev pub AreInOrder : Entries → ℕ → ℕ → Type 0
 AreInOrder es level p =
     ((j : ℕ) (x : Entry) → slice_get es j ≡ Some x → (j < level → x.1.presses < p) × (level ≤ j → x.1.presses ≡ p))
@@ -171,6 +171,6 @@ abbrev pub IsEnd : Under → State → Entries → End → Type 0
 IsEnd u o es end.Complete = Searched u o es (length es) (length es)
 IsEnd u o es (end.TooMany p) = ReachesMoreThanFrom u o state_limit p × AreWithin es p × AreDone u es p
 
--- It met them in the order of the fewest presses.
+-- The search met the states in the order of the fewest presses.
 abbrev pub HasEnded : Under → State → Entries → End → Type 0
 HasEnded u o es end = Searched u o es 0 0 × AreOrdered es × IsEnd u o es end

@@ -25,14 +25,14 @@ use Rattle.console_core.specs.Inner.Standing.{Stands}
 abbrev pub IsWhole : Explored → Type 0
 IsWhole e = IsExplored e × (origin_in e ≡ start) × (e.is_complete ≡ true)
 
--- A press of the key and its release leave the state, but for the scroll lock: the key holds nothing, and looks up no
+-- A press of the key and its release keep the state, but for the scroll lock: the key holds nothing, and looks up no
 -- modifier that is held and no lock but that one.
 abbrev pub IsSteady : Under → State → ℕ → Type 0
 IsSteady u s k =
     (k < key_count) × IsIdle s k × ((i : Modifier) → look_in u s k ≡ Act (act.Mod i) → s.holder i ≡ None)
     × ((l : Lock) → look_in u s k ≡ Act (act.Lock l) → l ≡ Scroll)
 
--- the key holds a modifier, and looks up an action: a press of it leaves the state
+-- the key holds a modifier, and looks up an action: a press of it keeps the state
 abbrev pub IsRepeated : Under → State → ℕ → Type 0
 IsRepeated u s k = (IsIdle s k → ⊥) × ((b : Action) × (look_in u s k ≡ Act b))
 
@@ -47,14 +47,14 @@ pub record IsAt (m : MapValue) (s : State) (h later : List Event) : Type 0 where
 abbrev pub Leads : MapValue → State → State → List Event → List Event → Type 0
 Leads m s t old now = (h : List Event) → IsAt m s h old → IsAt m t h now
 
--- and leave the accent that is pending
+-- the second events lead there and keep the accent that is pending
 abbrev pub LeadsOn : MapValue → State → State → List Event → List Event → Type 0
 LeadsOn m s t old now =
     (h : List Event) → IsAt m s h old
     → IsAt m t h now
     × (accent_pending_after (between m m) (now ++ h) ≡ accent_pending_after (between m m) (old ++ h))
 
--- and leave the accent pending, if none was before and it is usable
+-- the second events lead there and leave the accent pending, if none was before and it is usable
 abbrev pub LeadsComposing : MapValue → ℕ → State → State → List Event → List Event → Type 0
 LeadsComposing m accent s t old now =
     (h : List Event) → IsAt m s h old
@@ -62,7 +62,7 @@ LeadsComposing m accent s t old now =
     × (accent_pending_after (between m m) (old ++ h) ≡ None → usable m accent ≡ true
     → accent_pending_after (between m m) (now ++ h) ≡ Some accent)
 
--- and what can be seen of it is seen there by the press that sees it
+-- the second events lead to where what can be seen of the sight is seen by the press that sees it
 abbrev pub LeadsToSee : MapValue → Sight → State → State → List Event → List Event → Type 0
 LeadsToSee m x s t old now =
     (h : List Event) → IsAt m s h old
@@ -89,7 +89,7 @@ IsSeenAt e x at =
     (y : Entry) × (slice_get e.met.entries at.place ≡ Some y) × (at.key < key_count)
     × SeesBy (map_of_explored e) (selection_of (state_of y.0)) at.key x
 
--- and no press does at any place
+-- no press at any place sees the sight
 abbrev pub IsUnseen : Explored → Sight → Type 0
 IsUnseen e x =
     (j k : ℕ) (y : Entry) → slice_get e.met.entries j ≡ Some y → k < key_count

@@ -339,7 +339,7 @@ impl Held {
         }
     }
 
-    /// Whether the key holds a modifier and looks up an action, so that one more press of it leaves the state.
+    /// Whether the key holds a modifier and looks up an action, so that one more press of it keeps the state.
     pub fn is_repeated(&self, maps: &Keymaps, key: KeyCode) -> bool
         ensures { result ≡ true → IsRepeated (under_of maps.now) (state_of self.now) key }
     {
@@ -349,7 +349,7 @@ impl Held {
         }
     }
 
-    /// Whether a press of the key and its release leave the state, but for the scroll lock.
+    /// Whether a press of the key and its release keep the state, but for the scroll lock.
     pub fn is_steady(&self, maps: &Keymaps, key: KeyCode) -> bool
         ensures { result ≡ true → IsSteady (under_of maps.now) (state_of self.now) key }
     {

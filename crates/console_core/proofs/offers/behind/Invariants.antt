@@ -5,6 +5,6 @@ use Rattle.console_core.proofs.offers.behind.Given as goal
 abbrev pub invariant-loop-place : goal.invariant-loop-place
 invariant-loop-place l = AreBehindTo (under_of l.maps) l.accent l.met.entries l.states.entries l.place
 
--- there are no more of them than were met
+-- no more states are gone over than were met
 abbrev pub decreases-loop-place : goal.decreases-loop-place
 decreases-loop-place l = length l.met.entries - l.place

@@ -1,4 +1,4 @@
-//! The calls of console_core, and of keymap_cover, which stands on it.
+//! The calls of console_core and console_states, and of keymap_cover, which stands on them.
 use crate::devices::mark;
 use crate::inputs::{TRAP, map_of, sample};
 use crate::outcome::{Outcome, ended, ended_keeping};

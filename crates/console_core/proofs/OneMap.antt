@@ -2,7 +2,7 @@
 use Rattle.console_core.proofs.Common.{◌≡◌, Bool, true, false, ◌&&◌, List, [], ◌∷◌, refl, ap, subst, sym, ◌∙◌}
 use Rattle.console_core.proofs.Common.{if◌then◌else◌, true≢false, All-head, All-tail, Lock, Event, Press}
 use Rattle.console_core.proofs.Common.{Release, Reset, Load, MapValue, count_where, count_since, is_odd, is_borne}
-use Rattle.console_core.proofs.Common.{ResolvedEvent, resolve, locked, pending, answer_resolved, Maps, between}
+use Rattle.console_core.proofs.Common.{ResolvedEvent, resolve, locked, answer_resolved, Maps, between}
 use Rattle.console_core.proofs.Common.{in_force, is_second_in_force, resolved, resolved_event, answer_to}
 use Rattle.console_core.proofs.Common.{answers_to, HasKey, HasKeys, IsNoLoad, HasNoLoads, WasReset, WasLoaded, turns_at}
 use Rattle.console_core.proofs.Common.{unlocks_at, rules}

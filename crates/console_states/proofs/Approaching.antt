@@ -452,7 +452,8 @@ slot-key false k n e = e
 
 -- a press leads alike from states that differ in the scroll lock alone
 after-alike : (m : MapValue) (s t : State) (k : ℕ) (after : State) → unscrolled t ≡ unscrolled s
-    → IsAfter (alone m) t k after → (before : State) → IsAfter (alone m) s k before → unscrolled after ≡ unscrolled before
+    → IsAfter (alone m) t k after → (before : State) → IsAfter (alone m) s k before
+    → unscrolled after ≡ unscrolled before
 after-alike m s t k after near (inl (l, idle, seen, turned)) before (inl (j, still, looked, was)) =
     let f : Act (act.Lock l) ≡ Act (act.Lock j) = sym seen ∙ ap (λ w. look_in (alone m) w k) near ∙ looked in
     let e : l ≡ j = cc in
@@ -477,8 +478,8 @@ char-after m s k c after e (inl (l, idle, seen, turned)) =
     cc
 char-after m s k c after e (inr (none, is)) = is
 
--- Presses that see one sight in states that differ in the scroll lock alone lead alike: of a cell or a lock setting only
--- one key can see it, and a key that sees a pair looks up a character.
+-- Presses that see one sight in states that differ in the scroll lock alone lead alike: of a cell or a lock setting
+-- only one key can see it, and a key that sees a pair looks up a character.
 sees-alike : (m : MapValue) (x : Sight) (s t : State) (k n : ℕ) (after : State) → unscrolled t ≡ unscrolled s
     → SeesBy m (selection_of s) k x → SeesBy m (selection_of t) n x → IsAfter (alone m) t n after
     → (before : State) → IsAfter (alone m) s k before → unscrolled after ≡ unscrolled before

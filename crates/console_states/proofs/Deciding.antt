@@ -97,7 +97,7 @@ safe_never_forgets ms first second path is (i, k, forgets) =
 
 -- so the search doesn't answer that a modifier sticks
 pub safe_never_answers_sticks : SafeNeverAnswersSticks
-safe_never_answers_sticks ms (Sticks events left_on) first second ((keys, sent, (i, sticks)), fewest, releases, are_on) =
+safe_never_answers_sticks ms (Sticks events left) first second ((keys, sent, (i, sticks)), fewest, releases, are_on) =
     search (rules, safe-none)
 safe_never_answers_sticks ms Never first second never = refl
 safe_never_answers_sticks ms (Undecided p) first second x = refl

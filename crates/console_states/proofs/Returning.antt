@@ -1,6 +1,6 @@
 -- From a state that was met without a route home no moves lead there.
 use Rattle.console_states.proofs.Common.{suc, ◌≡◌, ℕ, ◌+◌, List, [], ◌∷◌, length, slice_get, Some, ap, arith, subst}
-use Rattle.console_states.proofs.Common.{sym, ◌∙◌, inl, inr, MapValue, Under, start, alone, State, IsMove, moved}
+use Rattle.console_states.proofs.Common.{sym, ◌∙◌, inl, inr, MapValue, Under, alone, State, IsMove, moved}
 use Rattle.console_states.proofs.Common.{IsPathFrom, state_from, presses_of, IsHome, Routes, HasRoute, IsAstray, IsMet}
 use Rattle.console_states.proofs.Common.{AreSettled, state_of, Entry, Entries, IsMetBy, LeavesScroll, Searched}
 use Rattle.console_states.proofs.Common.{unscrolled, Move}

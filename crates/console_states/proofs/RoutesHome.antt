@@ -1,5 +1,5 @@
 -- Routes home, one move longer, and looked up by the state where they begin.
-use Rattle.console_states.proofs.Common.{◌≡◌, ◌≢◌, ◌⊎◌, ℕ, ◌<◌, Bool, true, false, List, [], ◌∷◌, Option, None, refl}
+use Rattle.console_states.proofs.Common.{◌≡◌, ◌≢◌, ◌⊎◌, ℕ, ◌<◌, Bool, false, List, [], ◌∷◌, Option, None, refl}
 use Rattle.console_states.proofs.Common.{ap, Result, Ok, Err, IfOk, subst, sym, ◌∙◌, inl, inr, arith, IfSome, ◌+◌, ◌≤◌}
 use Rattle.console_states.proofs.Common.{◌++◌, length, take, get_or, reverse, Contains, take_more, take_all}
 use Rattle.console_states.proofs.Common.{reverse-append, Contains-push, Contains-push_cases, Contains-append_left, Held}

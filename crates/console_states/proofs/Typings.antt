@@ -5,7 +5,7 @@ use Rattle.console_states.proofs.Common.{map, reverse, take, length, get_or, sli
 use Rattle.console_states.proofs.Common.{false_from_ne_true, reverse-append, reverse-reverse, take_more, take_all}
 use Rattle.console_states.proofs.Common.{All-nil, none-some, same_Some, MapValue, Event, Answer, between}
 use Rattle.console_states.proofs.Common.{accent_pending_after, HasKey, HasKeys, alone}
-use Rattle.console_states.proofs.Common.{State, start, state_from, events_along, pending, CanType, IsAsNew, plainly}
+use Rattle.console_states.proofs.Common.{State, start, state_from, events_along, CanType, IsAsNew, plainly}
 use Rattle.console_states.proofs.Common.{types_something, HasTyped, CanReturn, TypesOne, kept_if, typed_along}
 use Rattle.console_states.proofs.Common.{IsQuiet, Stands, append-nil}
 use Rattle.console_states.specs.Inner.Exploring.{GoesHome}

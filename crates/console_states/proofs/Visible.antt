@@ -2,14 +2,14 @@
 use Rattle.console_states.proofs.Common.{suc, ◌≡◌, inl, inr, ℕ, ◌<◌, Bool, true, false, ◌&&◌, List, [], ◌∷◌, refl, ap}
 use Rattle.console_states.proofs.Common.{subst, sym, ◌∙◌, arith, ◌==◌, Contains, list_any, and_parts, eqb-true, eq-eqb}
 use Rattle.console_states.proofs.Common.{true≢false, Cell, Char, Act, Selection, Sight, Offer, Sights, MapValue}
-use Rattle.console_states.proofs.Common.{key_count, alone, state_after, look_selected, SeesBy, is_selected, is_composed}
+use Rattle.console_states.proofs.Common.{key_count, alone, state_after, look_selected, SeesBy, is_selected}
 use Rattle.console_states.proofs.Common.{can_see, AreSightsOf, IsReachable, selection_of, rules}
 use Rattle.std.proofs.lemmas.Bool.{or_cases}
 use Rattle.std.proofs.Common.{◌%◌}
 use Rattle.std.specs.List.{range_with_len}
 use Rattle.std.proofs.lemmas.List.Folds.{list_any_at}
 use Rattle.std.proofs.lemmas.List.FromFn.{get_or-range_with_len}
-use Rattle.console_states.specs.Sights.{slot_in, is_same, is_character, sees_by, is_seeing, CanCompose}
+use Rattle.console_states.specs.Sights.{slot_in, is_composed, is_same, is_character, sees_by, is_seeing, CanCompose}
 use Rattle.console_states.specs.Inner.Adding.{IsSelectedBy, IsComposedBy}
 use Rattle.console_states.proofs.Offering.{composing-has}
 use Rattle.console_states.specs.declared.selection.Sight.TheVariants as sight

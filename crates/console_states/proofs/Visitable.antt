@@ -121,10 +121,6 @@ key-at es n x at = by (slice_get es n) refl (sym (slice_get-map (λ e. e.0) es n
 pub at-key : (es : Entries) (n : ℕ) (y : Entry) → slice_get es n ≡ Some y → slice_get (keys_of es) n ≡ Some y.0
 at-key es n y at = slice_get-map (λ e. e.0) es n ∙ ap (λ o. option_map (λ e. e.0) o) at
 
-pub met-key : (es : Entries) (n : ℕ) (x h : Held) → ((y : Entry) → slice_get es n ≡ Some y → h ≡ y.0)
-    → slice_get (keys_of es) n ≡ Some x → h ≡ x
-met-key es n x h is at = let (y, there, e) = key-at es n x at in is y there ∙ e
-
 -- there is none behind the last place
 pub key-within : (es : Entries) (n : ℕ) (x : Held) → slice_get (keys_of es) n ≡ Some x → n < length es
 key-within es n x at = let (y, there, e) = key-at es n x at in slice_get_within es n y there
@@ -152,8 +148,9 @@ leads-by e x place y at old now none is =
     (r.0, r.2, r.3, is r.0 r.1 ∙ ap (λ z. events_along r.0 ++ reverse z) none ∙ append-nil (events_along r.0))
 
 -- the events of a route home
-pub way-home : (m : MapValue) (s : State) → s.is_locked Scroll ≡ false → (moves : List Move) → LeadsHome (alone m) s moves
-    → (old now : List Event) → old ≡ [] → now ≡ events_along (reverse moves) ++ reverse old → IsWayHome m s now
+pub way-home : (m : MapValue) (s : State) → s.is_locked Scroll ≡ false → (moves : List Move)
+    → LeadsHome (alone m) s moves → (old now : List Event) → old ≡ []
+    → now ≡ events_along (reverse moves) ++ reverse old → IsWayHome m s now
 way-home m s off moves home old now none is =
     inl (
       state_from (alone m) s (reverse moves),

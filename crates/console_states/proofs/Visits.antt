@@ -11,7 +11,6 @@ use Rattle.console_states.proofs.Scripts.{idle-none, pressed-look}
 use Rattle.console_states.proofs.Staying.{follows-turn}
 use Rattle.console_states.proofs.Unscrolled.{moves-unscrolled, same_moved, same_states}
 use Rattle.keymap_core.specs.declared.action.Action.TheVariants as act
-use Rattle.keymap_core.specs.declared.action.Holding.TheVariants as holding
 
 -- a path leads on alike from states that differ in the scroll lock alone
 pub near-path : (u : Under) (s t : State) (path : List Move) → unscrolled t ≡ unscrolled s → IsPathFrom u s path

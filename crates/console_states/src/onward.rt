@@ -1,14 +1,12 @@
 //! Presses that no moves lead back from.
-ghost use Rattle.std.specs.Prelude.{◌≡◌, ◌<◌, ◌++◌, ℕ, false, true, length, slice_get, Some, IfOk, MatchOption};
+ghost use Rattle.std.specs.Prelude.{◌≡◌, false, true, IfOk, MatchOption};
 ghost use Rattle.std.specs.List.{Contains};
 ghost use Rattle.keymap_core.specs.Actions.{modifiers};
-ghost use Rattle.keymap_core.specs.Numbers.{key_count};
 ghost use Rattle.console_states.specs.Types.{Sight as SightValue};
 ghost use Rattle.console_states.specs.Moves.{IsIdle, free_with, releases, state_of};
 ghost use Rattle.console_states.specs.Returning.{but_scroll};
-ghost use Rattle.console_states.specs.Sights.{SeesBy, selection_of};
+ghost use Rattle.console_states.specs.Sights.{selection_of};
 ghost use Rattle.console_states.specs.Visiting.{IsOnward};
-ghost use Rattle.console_states.specs.Inner.Exploring.{map_of_explored};
 ghost use Rattle.console_states.specs.Inner.Showing.{IsSeenAt, IsUnseen};
 
 use crate::explored::{Explored, KeyAt, explore};

@@ -1,4 +1,4 @@
-use Rattle.console_states.proofs.Common.{false_from_ne_true, true≢false, is_composed, rules}
+use Rattle.console_states.proofs.Common.{false_from_ne_true, true≢false, rules}
 use Rattle.console_states.proofs.Visible.{some-member}
 use Rattle.console_states.proofs.sights.is_composed.Goals as goal
 

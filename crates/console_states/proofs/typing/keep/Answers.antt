@@ -1,4 +1,4 @@
-use Rattle.console_states.proofs.Common.{◌-◌, take_all, rules}
+use Rattle.console_states.proofs.Common.{take_all, rules}
 use Rattle.std.proofs.lemmas.List.{length-drop}
 use Rattle.console_states.proofs.Known.{are_same_sought, tells-sought, known-more}
 use Rattle.console_states.proofs.typing.keep.Goals as goal

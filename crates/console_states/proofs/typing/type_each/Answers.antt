@@ -1,6 +1,6 @@
 use Rattle.console_states.proofs.Common.{◌==◌, length, ap, subst, sym, ◌∙◌, reverse, take_all, eqb-true, true≢false}
-use Rattle.console_states.proofs.Common.{slice_get-get_or, AreKnown}
-use Rattle.console_states.proofs.Common.{AreExplorations, state_of, rules}
+use Rattle.console_states.proofs.Common.{slice_get-get_or}
+use Rattle.console_states.proofs.Common.{state_of, rules}
 use Rattle.std.proofs.lemmas.List.{nil_from_length}
 use Rattle.console_states.specs.Inner.Exploring.{Leads}
 use Rattle.console_states.proofs.Choosing.{no-route}

@@ -35,5 +35,6 @@ loop-place-preserved c =
 pub returns : goal.returns
 returns c = λ j k y at key sees.
     let within = slice_get_within c.args.self.now.met.entries j y at in
+    let end = c.len-place-end.ensures.len in
     c.loop-place.invariant j k y
-    (omega (arith, within, c.loop-place-test.false, c.loop-place.auto.place-end, c.len-place-end.ensures.len)) at key sees
+    (omega (arith, within, c.loop-place-test.false, c.loop-place.auto.place-end, end)) at key sees

@@ -33,8 +33,7 @@ pub use Rattle.console_states.specs.Moves.{release_of, releases, script_of_path,
 pub use Rattle.console_states.specs.Moves.{with_holder, with_loads, with_lock_turned}
 pub use Rattle.console_states.specs.Returning.{IsAfter, IsHome, but_scroll, freed, unscrolled}
 pub use Rattle.console_states.specs.Sights.{AreSightsOf, IsAdmitted, IsClean, IsOfferedIn, IsPendingFor, IsReachable}
-pub use Rattle.console_states.specs.Sights.{Offers, SeesBy, SeesNext, can_see, is_selected, look_selected}
-pub use Rattle.console_states.specs.Sights.{selection_of}
+pub use Rattle.console_states.specs.Sights.{Offers, SeesBy, SeesNext, can_see, is_selected, look_selected, selection_of}
 pub use Rattle.console_states.specs.Sticking.{Admits, AreUnder, IsSent, NeverForgets, NeverSticksUnder}
 pub use Rattle.console_states.specs.Sticking.{ReachesMoreThanFrom, ReleasesPressedKeys, SticksUnder, presses}
 pub use Rattle.console_states.specs.Types.{Act, Action, Alt, AltShift, Answer, Caps, Cell, Char, Event, Exchange, Hold}

@@ -1,10 +1,10 @@
-//! The calls of console_core, and of keymap_cover, which stands on it.
+//! The calls of console_core and console_states, and of keymap_cover, which stands on them.
 use crate::devices::mark;
 use crate::inputs::{TRAP, map_of, sample};
 use crate::outcome::{Outcome, ended, ended_keeping};
-use console_core::{
-    Event, Explorer, PlainConsole, Sight, Sticking, Translator, WordConsole, find_onward, replay,
-    sights_of, sticking, sticking_between, type_characters,
+use console_core::{Event, PlainConsole, Translator, WordConsole, replay};
+use console_states::{
+    Explorer, Sight, Sticking, find_onward, sights_of, sticking, sticking_between, type_characters,
 };
 use keymap_core::{KeyCode, Lock, Modifier, Write};
 use keymap_cover::{Seen, cells, cover_of, lock_settings};

@@ -1,5 +1,5 @@
 //! What came of a call.
-use console_core::TypingError;
+use console_states::TypingError;
 use keymap_core::ReadError;
 use keymap_fmt::FormatError;
 use keymap_tables::TableError;

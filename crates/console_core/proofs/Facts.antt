@@ -1,7 +1,7 @@
 -- The facts on which the main theorem stands.
 use Rattle.console_core.proofs.Common.{◌≡◌, ℕ, ◌<◌, true, false, List, [], ◌∷◌, ◌++◌, Some, inl, inr, refl, ap, subst}
 use Rattle.console_core.proofs.Common.{sym, ◌∙◌, ◌==◌, eqb-true, eq-eqb, true≢false, false_from_ne_true, All-tail}
-use Rattle.console_core.proofs.Common.{Action, Modifier, Holding, Cell, Char, Act, Event, Press, Release, Reset, Load}
+use Rattle.console_core.proofs.Common.{Modifier, Holding, Cell, Char, Act, Event, Press, Release, Reset, Load}
 use Rattle.console_core.proofs.Common.{holding_action, MapValue, IsCellOf, ResolvedEvent, remembered, is_this_action}
 use Rattle.console_core.proofs.Common.{look, resolve_press, Maps, in_force, pressed, resolved, is_on_after}
 use Rattle.console_core.proofs.Common.{is_locked_after, HasKey, HasKeys, remembered_after, raises_at, lowers_at, NoneOf}

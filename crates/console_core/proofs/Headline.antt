@@ -1,16 +1,19 @@
 -- The main theorem.
 use Rattle.console_core.proofs.Common.{suc, ◌≡◌, ◌≢◌, ℕ, ◌<◌, Bool, true, false, ◌&&◌, not, List, [], ◌∷◌, ◌++◌, Option}
 use Rattle.console_core.proofs.Common.{Some, None, refl, ap, subst, sym, ◌∙◌, inl, inr, if◌then◌else◌, ◌==◌, reverse}
-use Rattle.console_core.proofs.Common.{eqb-true, cases_Bool, true≢false, false≢true, false_from_ne_true, All-head}
+use Rattle.console_core.proofs.Common.{eqb-true, cases_Bool, true≢false, false_from_ne_true, All-head}
 use Rattle.console_core.proofs.Common.{All-tail, Action, Lock, Modifier, Holding, Cell, Char, Act, Event, Press}
 use Rattle.console_core.proofs.Common.{Release, Reset, Load, same_action, holding_action, MapValue, is_odd, count_where}
 use Rattle.console_core.proofs.Common.{look_with, ResolvedEvent, held, locked, remembered, pending}
 use Rattle.console_core.proofs.Common.{taken_over, unless_nop, look, resolve, resolve_press, turns, answer_resolved, on}
 use Rattle.console_core.proofs.Common.{Maps, in_force, loaded, is_second_in_force, is_load, resolved_event, resolved}
-use Rattle.console_core.proofs.Common.{pressed, accent_pending_after, answers_to, answer_to, HasKey, HasKeys, IsQuiet}
+use Rattle.console_core.proofs.Common.{pressed, answers_to, answer_to, HasKey, HasKeys}
 use Rattle.console_core.proofs.Common.{PressedCharacter, PressedAction, ReleasedKey, WasReset, WasLoaded, IsCellOf}
-use Rattle.console_core.proofs.Common.{BearsThroughout, IsSafe, same_action-true, none_unless, fun_ext, option_or}
+use Rattle.console_core.proofs.Common.{BearsThroughout, IsSafe, same_action-true, fun_ext, option_or}
 use Rattle.console_core.proofs.Common.{none-some, rules}
+use Rattle.keymap_core.proofs.Lists.{none_unless}
+use Rattle.console_core.specs.History.{accent_pending_after, IsQuiet}
+use Rattle.std.proofs.lemmas.Bool.{false≢true}
 use Rattle.console_core.specs.Headline.{IsSteady, IsActing, AreRepeats, OnOnlyWhilePressed, OnExactlyWhilePressed}
 use Rattle.console_core.specs.Headline.{RepeatsTurnNoSteadyLock, OffOnceQuiet, GoesOnAsAfterReset}
 use Rattle.console_core.proofs.OneMore.{resolved-more, locked-more, held-character, held-action, held-release}

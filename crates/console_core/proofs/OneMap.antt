@@ -1,12 +1,13 @@
 -- Histories where loads change nothing.
 use Rattle.console_core.proofs.Common.{◌≡◌, Bool, true, false, ◌&&◌, List, [], ◌∷◌, refl, ap, subst, sym, ◌∙◌}
-use Rattle.console_core.proofs.Common.{if◌then◌else◌, true≢false, All-head, All-tail, All-cons, Lock, Event, Press}
+use Rattle.console_core.proofs.Common.{if◌then◌else◌, true≢false, All-head, All-tail, Lock, Event, Press}
 use Rattle.console_core.proofs.Common.{Release, Reset, Load, MapValue, count_where, count_since, is_odd, is_borne}
-use Rattle.console_core.proofs.Common.{ResolvedEvent, resolve, locked, pending, answer_resolved, Maps, between}
+use Rattle.console_core.proofs.Common.{ResolvedEvent, resolve, locked, answer_resolved, Maps, between}
 use Rattle.console_core.proofs.Common.{in_force, is_second_in_force, resolved, resolved_event, answer_to}
 use Rattle.console_core.proofs.Common.{answers_to, HasKey, HasKeys, IsNoLoad, HasNoLoads, WasReset, WasLoaded, turns_at}
-use Rattle.console_core.proofs.Common.{unlocks_at, as_reset, loads_as_resets, rules}
-use Rattle.console_core.specs.Loads.{WithoutLoads, LoadsOfOneMapAreResets}
+use Rattle.console_core.proofs.Common.{unlocks_at, rules}
+use Rattle.std.proofs.lemmas.List.Elements.{All-cons}
+use Rattle.console_core.specs.Loads.{WithoutLoads, LoadsOfOneMapAreResets, as_reset, loads_as_resets}
 use Rattle.console_core.proofs.OneMore.{one_map, resolved-start, resolved-more, held-reset, held-load, locked-reset}
 use Rattle.console_core.proofs.OneMore.{locked-load, remembered-reset, remembered-load, pending-reset, pending-load}
 use Rattle.console_core.proofs.Borne.{AllLooked, locked-borne, resolved-looked}

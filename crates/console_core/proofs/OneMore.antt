@@ -1,13 +1,15 @@
 -- What each notion of a history is after one more event, by what it was before.
 use Rattle.console_core.proofs.Common.{suc, ◌≡◌, ℕ, Bool, true, false, ◌&&◌, ◌||◌, not, eqb, List, [], ◌∷◌, Option}
-use Rattle.console_core.proofs.Common.{Some, None, refl, ap, if◌then◌else◌, and-true, and-false, ◌==◌, Action, Lock}
+use Rattle.console_core.proofs.Common.{Some, None, refl, ap, if◌then◌else◌, ◌==◌, Action, Lock}
 use Rattle.console_core.proofs.Common.{Holding, Cell, Char, Act, Event, Press, Release, Reset, Load, same_action}
 use Rattle.console_core.proofs.Common.{holding_action, MapValue, is_borne, is_odd, last_where, unlocks, resolve_press}
 use Rattle.console_core.proofs.Common.{ResolvedEvent, remembered, held, locked, turns, taken_over, unless_nop}
 use Rattle.console_core.proofs.Common.{is_this_action, pending, pending_by_dead_keys, dead_keys_taken, run_length, Maps}
-use Rattle.console_core.proofs.Common.{resolved_event, pressed, resolved, is_press, concerns, pending_after_dead_key}
-use Rattle.console_core.proofs.Common.{next_pending, eqb-true, eq-eqb, option_or, PressedCharacter, PressedAction}
+use Rattle.console_core.proofs.Common.{resolved_event, pressed, resolved, is_press, concerns}
+use Rattle.console_core.proofs.Common.{eqb-true, eq-eqb, option_or, PressedCharacter, PressedAction}
 use Rattle.console_core.proofs.Common.{ReleasedKey, WasReset, WasLoaded, option_or-none, is_some, true≢false, rules}
+use Rattle.console_core.specs.Inner.Kept.{pending_after_dead_key, next_pending}
+use Rattle.std.proofs.Math.Bool.{and-true, and-false}
 use Rattle.keymap_core.specs.declared.action.Holding.TheVariants as holding
 
 -- what isn't something is nothing

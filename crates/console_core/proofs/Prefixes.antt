@@ -3,8 +3,9 @@ use Rattle.console_core.proofs.Common.{suc, ◌≡◌, ℕ, Bool, true, false, L
 use Rattle.console_core.proofs.Common.{◌∙◌, if◌then◌else◌, eqb-true, eq-eqb, true≢false, Cell, Char, Act, Event, Press}
 use Rattle.console_core.proofs.Common.{Release, Reset, Load, last_where, ResolvedEvent, resolve_press, answer_resolved}
 use Rattle.console_core.proofs.Common.{Maps, in_force, concerns, is_press, pressed, resolved, resolved_event}
-use Rattle.console_core.proofs.Common.{look_after, NoneOf, answer_to_look}
-use Rattle.console_core.specs.Reading.{LastPresses, PressedByPositions, ResolvedAtPrefix, AnswersByCases}
+use Rattle.console_core.proofs.Common.{NoneOf}
+use Rattle.console_core.specs.Reading.{answer_to_look}
+use Rattle.console_core.specs.Reading.{LastPresses, PressedByPositions, ResolvedAtPrefix, AnswersByCases, look_after}
 use Rattle.console_core.proofs.OneMore.{resolved-more}
 
 -- a further event, by whether it concerns the key

@@ -1,10 +1,12 @@
--- One bit of a word after a write.
-use Rattle.console_core.proofs.Common.{cases_Bool, ◌≡◌, ℕ, ◌+◌, ◌/◌, ◌%◌, ◌^◌, ◌<◌, ◌≤◌, ◌≢◌, ◌-◌, Bool, true, false}
+-- A bit of a word after a write.
+use Rattle.console_core.proofs.Common.{cases_Bool, ◌≡◌, ℕ, ◌+◌, ◌/◌, ◌%◌, ◌^◌, ◌<◌, ◌≤◌, ◌≢◌, Bool, true, false}
 use Rattle.console_core.proofs.Common.{not, ◌⊎◌, inl, inr, eqb, refl, ap, sym, ◌∙◌, if◌then◌else◌, arith, lit<}
-use Rattle.console_core.proofs.Common.{eqb-true, eqb-false, ne_eqb, eq-eqb, zero, suc, Holding, Lock, LeftShift, Caps}
-use Rattle.console_core.proofs.Common.{holding_index, lock_index, same_lock, bit_is_set, word_mark, word_lock}
+use Rattle.console_core.proofs.Common.{eqb-true, eqb-false, ne_eqb, eq-eqb, suc, Holding, Lock, LeftShift, Caps}
+use Rattle.console_core.proofs.Common.{holding_index, lock_index, bit_is_set, word_mark, word_lock}
 use Rattle.console_core.proofs.Common.{word_second, mark_bit, lock_bit, rules}
-use Rattle.std.proofs.Common.{◌*◌, min, max, w32}
+use Rattle.keymap_core.specs.Actions.{same_lock}
+use Prim.Native.Nat.{zero}
+use Rattle.std.proofs.Common.{◌*◌, min, max, w32, ◌-◌}
 use Rattle.std.specs.Prelude.{bit_and, bit_or, bit_xor}
 use Rattle.std.specs.Int.{bit_at, bit_not}
 use Rattle.std.proofs.lemmas.Nat.Bits.{bit_at_set_same, bit_at_set_other, bit_at_clear_same, bit_at_clear_other}

@@ -6,11 +6,11 @@ use Rattle.keymap_core.specs.declared.action.Holding.TheVariants as holding
 use Rattle.keymap_core.specs.Actions.{holdings, locks, holding_index, lock_index}
 use Rattle.keymap_core.specs.Maps.{MapValue}
 use Rattle.keymap_core.specs.Bearers.{NobodyBears, BearsThroughout, BearsNotThroughout, SeveralBear}
-use Rattle.console_core.specs.declared.outcome.Sticking.{Sticking}
+use Rattle.console_states.specs.declared.outcome.Sticking.{Sticking}
 use Rattle.console_core.specs.Headline.{IsSafe, IsSteady}
 use Rattle.console_core.specs.History.{Maps}
-use Rattle.console_core.specs.Moves.{with_loads}
-use Rattle.console_core.specs.Sticking.{NeverSticksBetween, NeverForgets, IsAnswerBetween, says_sticks}
+use Rattle.console_states.specs.Moves.{with_loads}
+use Rattle.console_states.specs.Sticking.{NeverSticksBetween, NeverForgets, IsAnswerBetween, says_sticks}
 use Rattle.keymap_check.specs.Computed.{bearer_of, is_steady, findings_of}
 use Rattle.keymap_check.specs.Findings.{AreFindings}
 

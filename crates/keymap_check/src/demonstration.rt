@@ -4,7 +4,7 @@ ghost use Rattle.keymap_check.specs.Types.{Modifier as ModifierValue, Event as E
 ghost use Rattle.keymap_core.specs.Maps.{MapValue};
 ghost use Rattle.keymap_core.specs.Numbers.{key_count};
 ghost use Rattle.console_core.specs.History.{Maps, between};
-ghost use Rattle.console_core.specs.Sticking.{LeavesOn};
+ghost use Rattle.console_states.specs.Sticking.{LeavesOn};
 ghost use Rattle.console_core.specs.Traps.{NobodyBearsCellPickingLocks, HasNoTrap};
 ghost use Rattle.keymap_check.specs.Scripts.{leaves_modifier_on as leaves_modifier_on_in, events_of};
 ghost use Rattle.keymap_check.specs.Scripts.{start_of, script as script_of, scripts_of, scripts_from};

@@ -13,22 +13,22 @@ use Rattle.keymap_core.specs.declared.action.Modifier.{Modifier}
 use Rattle.keymap_core.specs.declared.action.Lock.{Lock}
 use Rattle.keymap_core.specs.declared.entry.Cell.TheVariants.{Char}
 use Rattle.keymap_core.specs.Numbers.{key_count}
-use Rattle.console_core.specs.declared.selection.Selection.{Selection}
+use Rattle.console_states.specs.declared.selection.Selection.{Selection}
 use Rattle.console_core.specs.Resolved.{held, dead_keys_taken, pending_by_dead_keys}
 use Rattle.console_core.specs.History.{pressed, is_on_after, HasKey, HasKeys, is_locked_after, accent_pending_after}
 use Rattle.console_core.specs.History.{is_any_on_after}
 use Rattle.console_core.proofs.OneMore.{pressed-start, pressed-press, pressed-release, pressed-reset}
 use Rattle.keymap_core.proofs.HoldingTests.{no-modifier}
-use Rattle.console_core.specs.Sights.{selection_with, slot_in, column_in, look_selected, selection_after, SeesNext}
+use Rattle.console_states.specs.Sights.{selection_with, slot_in, column_in, look_selected, selection_after, SeesNext}
 use Rattle.keymap_cover.specs.ScriptEvents.{CanFollow, ArePossible}
-use Rattle.console_core.specs.declared.sights.Sights.{Sights}
-use Rattle.console_core.specs.Sticking.{NeverForgets}
+use Rattle.console_states.specs.declared.sights.Sights.{Sights}
+use Rattle.console_states.specs.Sticking.{NeverForgets}
 use Rattle.keymap_cover.specs.Covering.{IsAtRest}
 use Rattle.keymap_cover.proofs.Marking.{set-cases}
 use Rattle.keymap_cover.specs.Inner.Scripts.{IsWith, AddsSights}
 use Rattle.keymap_core.specs.declared.action.Holding.TheVariants as holding
 use Rattle.console_core.specs.declared.event.Event.TheVariants as event
-use Rattle.console_core.specs.declared.selection.Sight.TheVariants as sight
+use Rattle.console_states.specs.declared.selection.Sight.TheVariants as sight
 use Rattle.keymap_cover.specs.declared.script_event.ScriptEvent.TheVariants as script_event
 
 -- the pair of a press was added

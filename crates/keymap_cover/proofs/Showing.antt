@@ -14,7 +14,7 @@ use Rattle.std.proofs.Math.Seq.{drop-append_seam, take-add}
 use Rattle.std.proofs.lemmas.List.{length-reverse, length-take-le, take_all}
 use Rattle.keymap_core.specs.declared.action.Lock.TheVariants.{Caps, Num, Alt}
 use Rattle.console_core.specs.History.{HasNoLoads, IsNoLoad}
-use Rattle.console_core.specs.Visiting.{HasLocks, ExplorerValue, Visits}
+use Rattle.console_states.specs.Visiting.{HasLocks, ExplorerValue, Visits}
 use Rattle.keymap_cover.specs.Inner.Scripts.{RunsAlong, IsScriptOf, IsUnderWay, GoesFurther, SeesAll, ShowsTold}
 use Rattle.keymap_cover.specs.Inner.Scripts.{EndsAtRest}
 use Rattle.keymap_cover.proofs.Telling.{all-told, key-told}

@@ -17,7 +17,7 @@ use Rattle.console_core.specs.Answers.{has_own}
 use Rattle.keymap_cover.proofs.Marking.{bit-small}
 use Rattle.keymap_cover.specs.Told.{IsBaseOf, AreTold}
 use Rattle.keymap_cover.specs.Inner.Pairs.{pairs_of}
-use Rattle.console_core.specs.declared.selection.Sight.TheVariants as sight
+use Rattle.console_states.specs.declared.selection.Sight.TheVariants as sight
 
 -- ---- what is in a list
 

@@ -8,7 +8,7 @@ use Rattle.keymap_cover.proofs.Common.{GoesAlong, GoesAlongToRest}
 use Rattle.std.proofs.Common.{◌≢◌}
 use Rattle.std.proofs.lemmas.List.{take_more}
 use Rattle.console_core.specs.Resolved.{locked}
-use Rattle.console_core.specs.Sticking.{IsOfPressedKey}
+use Rattle.console_states.specs.Sticking.{IsOfPressedKey}
 use Rattle.keymap_cover.specs.Inner.Scripts.{TurnsNone, GoesBy, GoesUp, GoesToRest}
 use Rattle.console_core.proofs.OneMore.{resolved-more, locked-release, locked-reset}
 use Rattle.keymap_cover.proofs.Scripts.{at-rest}

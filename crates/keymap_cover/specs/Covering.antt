@@ -6,12 +6,12 @@ use Rattle.keymap_core.specs.declared.action.Modifier.{Modifier}
 use Rattle.keymap_core.specs.Maps.{MapValue}
 use Rattle.keymap_core.specs.Numbers.{key_count}
 use Rattle.console_core.specs.declared.event.Event.{Event}
-use Rattle.console_core.specs.declared.selection.Sight.{Sight}
+use Rattle.console_states.specs.declared.selection.Sight.{Sight}
 use Rattle.console_core.specs.History.{between, is_on_after, accent_pending_after, HasKeys, IsQuiet}
-use Rattle.console_core.specs.Moves.{alone}
-use Rattle.console_core.specs.Visiting.{CanVisit, IsPair}
-use Rattle.console_core.specs.Sticking.{ReachesMoreThan, state_limit}
-use Rattle.console_core.specs.Sights.{SeesNext, SeesAlong, IsAdmitted, IsReachable, AreSightsOf, can_see}
+use Rattle.console_states.specs.Moves.{alone}
+use Rattle.console_states.specs.Visiting.{CanVisit, IsPair}
+use Rattle.console_states.specs.Sticking.{ReachesMoreThan, state_limit}
+use Rattle.console_states.specs.Sights.{SeesNext, SeesAlong, IsAdmitted, IsReachable, AreSightsOf, can_see}
 use Rattle.keymap_cover.specs.declared.parts.Cover.{Cover}
 use Rattle.keymap_cover.specs.declared.parts.Part.TheVariants.{Cells, Pairs}
 use Rattle.keymap_cover.specs.declared.parts.Start.{Start}

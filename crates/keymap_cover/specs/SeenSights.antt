@@ -1,8 +1,8 @@
 -- What was seen, as tables by place and a list of pairs.
 use Rattle.std.specs.Prelude.{ℕ, ◌==◌, nat_lt, Bool, false, ◌&&◌, List, slice_index_or}
 use Rattle.std.specs.List.{list_any}
-use Rattle.console_core.specs.declared.selection.Sight.{Sight}
-use Rattle.console_core.specs.declared.selection.Sight.TheVariants as sight
+use Rattle.console_states.specs.declared.selection.Sight.{Sight}
+use Rattle.console_states.specs.declared.selection.Sight.TheVariants as sight
 use Rattle.keymap_cover.specs.declared.seen.Seen.{Seen}
 use Rattle.keymap_cover.specs.SightLists.{cell_place, lock_setting_place}
 

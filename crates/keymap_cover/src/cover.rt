@@ -1,9 +1,9 @@
 //! A script that looks up what can be visited, and what it sees.
 ghost use Rattle.std.specs.Prelude.{◌≡◌, ◌⊎◌, ◌+◌, ◌≤◌, [], true, false, Some, length, OnOk, IfOk};
-ghost use Rattle.console_core.specs.declared.selection.Sight.{Sight as SightValue};
+ghost use Rattle.console_states.specs.declared.selection.Sight.{Sight as SightValue};
 ghost use Rattle.console_core.specs.History.{between};
-ghost use Rattle.console_core.specs.Sights.{AreSightsOf, IsReachable, can_see};
-ghost use Rattle.console_core.specs.Visiting.{CanVisit};
+ghost use Rattle.console_states.specs.Sights.{AreSightsOf, IsReachable, can_see};
+ghost use Rattle.console_states.specs.Visiting.{CanVisit};
 ghost use Rattle.keymap_cover.specs.Covering.{NeverSees, Covers, IsVerdict, verdict_of, IsCover};
 ghost use Rattle.keymap_cover.specs.Inner.Scripts.{AreUp, EndsAtRest, GoesFurther, GoesUnderWay, IsExplorerFor};
 ghost use Rattle.keymap_cover.specs.Inner.Scripts.{SeesAll, ShowsInParts, ShowsTold};
@@ -19,8 +19,9 @@ use crate::parts::{Cover, Part, Start, Verdict};
 use crate::script::Script;
 use crate::seen::Seen;
 use crate::told::{told_of_keys, told_pairs};
-use console_core::laws::sights_are_reachable;
-use console_core::{Explorer, PlainConsole, Selection, Sight, Sights, Translator, sights_of};
+use console_core::{PlainConsole, Translator};
+use console_states::laws::sights_are_reachable;
+use console_states::{Explorer, Selection, Sight, Sights, sights_of};
 use keymap_core::{KEY_COUNT, KeyCode, KeyMap, key_with};
 use std::alloc::{AllocError, Global};
 

@@ -3,7 +3,8 @@ use crate::idle_keys::IdleKeys;
 use crate::kind::{Kind, is_usable};
 use crate::probes::probes;
 use crate::trials::Trials;
-use console_core::{Event, Explorer, KeyAt, PlainConsole, Selection, Translator};
+use console_core::{Event, PlainConsole, Translator};
+use console_states::{Explorer, KeyAt, Selection};
 use keymap_core::{
     ACCENT_LIMIT, AccentIndex, Action, Cell, HOLDINGS, Holding, KEY_COUNT, KeyCode, KeyMap, Keymap,
     Lock, MODIFIERS, Modifier, key_with,

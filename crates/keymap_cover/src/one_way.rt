@@ -7,7 +7,8 @@ use crate::probes::changes_nothing;
 use crate::script::Script;
 use crate::seen::Seen;
 use crate::told::told_of_keys;
-use console_core::{Event, Onward, Sight, Sights, Translator, find_onward};
+use console_core::{Event, Translator};
+use console_states::{Onward, Sight, Sights, find_onward};
 use keymap_core::{KEY_COUNT, KeyMap, key_with};
 use std::alloc::{AllocError, Global};
 

@@ -1,7 +1,7 @@
 //! What is told of a keymap.
 use crate::script_event::ScriptEvent;
 use crate::seen::Seen;
-use console_core::Sights;
+use console_states::Sights;
 
 /// A script, what it sees and what can be seen.
 #[derive(Drop)]

@@ -6,7 +6,7 @@ use Rattle.std.specs.Ordering.{nat_cmp}
 use Rattle.keymap_core.specs.Maps.{MapValue}
 use Rattle.keymap_lint.specs.Types.{Sticking, Finding, Span, Placed, CellInForce, Diagnostic, Diagnostics, Lint, Faulty}
 use Rattle.keymap_lint.specs.Types.{Spelled as IsSpelled}
-use Rattle.console_core.specs.Sticking.{IsAnswer}
+use Rattle.console_states.specs.Sticking.{IsAnswer}
 use Rattle.keymap_check.specs.Findings.{AreFindings}
 use Rattle.keymap_text.specs.declared.wanted.FaultPlace.{FaultPlace}
 use Rattle.keymap_text.specs.Meaning.{Spells, Fault as FaultOf, tokens}

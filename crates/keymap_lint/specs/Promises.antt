@@ -3,7 +3,7 @@ use Rattle.std.specs.Prelude.{◌≡◌, ◌↔◌, ℕ, Bool, true, false, List
 use Rattle.std.specs.List.{list_any}
 use Rattle.keymap_core.specs.Maps.{MapValue}
 use Rattle.console_core.specs.Headline.{IsSafe}
-use Rattle.console_core.specs.Sticking.{NeverSticks}
+use Rattle.console_states.specs.Sticking.{NeverSticks}
 use Rattle.keymap_text.specs.Meaning.{Spells}
 use Rattle.keymap_lint.specs.Types.{Diagnostic, Kind, Lint, Faulty, Spelled}
 use Rattle.keymap_lint.specs.declared.diagnostic.Kind.TheVariants.{MixedKey, HalfDefined}

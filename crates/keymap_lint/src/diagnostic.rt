@@ -4,7 +4,7 @@ ghost use Rattle.std.specs.Option.{option_to_list};
 ghost use Rattle.keymap_lint.specs.Severities as spec;
 
 use arrayvec::ArrayVec;
-use console_core::Sticking;
+use console_states::Sticking;
 use keymap_check::Finding;
 use keymap_core::{ACCENT_LIMIT, Holding, KEY_COUNT, SLOT_LIMIT};
 use keymap_text::{Defined, FaultPlace, TextFault};

@@ -17,10 +17,10 @@ use Rattle.keymap_core.specs.declared.action.Modifier.TheVariants.{LeftShift}
 use Rattle.keymap_text.specs.Sources.{TakesWhole, ReadsMap}
 use Rattle.keymap_text.proofs.Verdicts.{one_map}
 use Rattle.console_core.specs.History.{Maps, answers_to}
-use Rattle.console_core.specs.declared.outcome.Sticking.{Sticking}
-use Rattle.console_core.specs.Typing.{AreTyped}
-use Rattle.console_core.specs.declared.outcome.Sticking.TheVariants.{Sticks, Never, Undecided}
-use Rattle.console_core.specs.Sticking.{IsAnswer, IsAnswerBetween}
+use Rattle.console_states.specs.declared.outcome.Sticking.{Sticking}
+use Rattle.console_states.specs.Typing.{AreTyped}
+use Rattle.console_states.specs.declared.outcome.Sticking.TheVariants.{Sticks, Never, Undecided}
+use Rattle.console_states.specs.Sticking.{IsAnswer, IsAnswerBetween}
 use Rattle.keymap_check.specs.Report.{report_of}
 use Rattle.keymap_check.specs.Scripts.{demonstration_of}
 use Rattle.keymap_check.proofs.Demonstrated.{demonstrations_leave_modifiers_on}

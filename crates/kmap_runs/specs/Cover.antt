@@ -8,8 +8,8 @@ use Rattle.keymap_core.specs.Actions.{name_of}
 use Rattle.keymap_core.specs.declared.action.Action.TheVariants as act
 use Rattle.keymap_core.specs.Maps.{MapValue, accent_or_blank}
 use Rattle.keymap_core.specs.Numbers.{slot_limit, column_count, accent_limit}
-use Rattle.console_core.specs.declared.selection.Sight.{Sight}
-use Rattle.console_core.specs.declared.selection.Sight.TheVariants.{Cell, Locks, Pair}
+use Rattle.console_states.specs.declared.selection.Sight.{Sight}
+use Rattle.console_states.specs.declared.selection.Sight.TheVariants.{Cell, Locks, Pair}
 use Rattle.keymap_cover.specs.Covering.{verdict_of, is_verdict, counts_of}
 use Rattle.keymap_cover.specs.SightLists.{all_cells, all_lock_settings}
 use Rattle.keymap_cover.specs.declared.parts.Cover.{Cover}

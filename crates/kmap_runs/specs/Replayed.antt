@@ -1,11 +1,11 @@
 -- What the printed scripts do when they are played back.
 use Rattle.std.specs.Prelude.{◌≡◌, ℕ, List, [], ◌++◌, Option, Some, None, codes, map, reverse}
 use Rattle.keymap_core.specs.Maps.{MapValue}
-use Rattle.console_core.specs.declared.outcome.Sticking.{Sticking}
-use Rattle.console_core.specs.declared.outcome.Sticking.TheVariants.{Sticks, Never, Undecided}
+use Rattle.console_states.specs.declared.outcome.Sticking.{Sticking}
+use Rattle.console_states.specs.declared.outcome.Sticking.TheVariants.{Sticks, Never, Undecided}
 use Rattle.console_core.specs.declared.event.Event.{Event}
 use Rattle.console_core.specs.History.{Maps, between}
-use Rattle.console_core.specs.Sticking.{HasFewestPresses, HasFewestPressesBetween, LeavesOn, LeavesOnBetween}
+use Rattle.console_states.specs.Sticking.{HasFewestPresses, HasFewestPressesBetween, LeavesOn, LeavesOnBetween}
 use Rattle.keymap_text.specs.Meaning.{Spells}
 use Rattle.keymap_check.specs.Report.{report_of}
 use Rattle.keymap_check.specs.Scripts.{demonstration_of}

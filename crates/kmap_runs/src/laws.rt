@@ -4,11 +4,11 @@ ghost use Rattle.std.specs.Prelude.{◌≡◌, List, [], ℕ, reverse, All, Opti
 ghost use Rattle.keymap_core.specs.Maps.{MapValue};
 ghost use Rattle.keymap_cover.specs.Covering.{history};
 ghost use Rattle.keymap_cover.specs.declared.parts.Cover.{Cover as CoverValue};
-ghost use Rattle.console_core.specs.declared.outcome.Sticking.{Sticking as StickingValue};
-ghost use Rattle.console_core.specs.declared.typing.Typing.{Typing as TypingValue};
+ghost use Rattle.console_states.specs.declared.outcome.Sticking.{Sticking as StickingValue};
+ghost use Rattle.console_states.specs.declared.typing.Typing.{Typing as TypingValue};
 ghost use Rattle.console_core.specs.History.{HasKeys, Maps};
-ghost use Rattle.console_core.specs.Sticking.{IsAnswer, IsAnswerBetween};
-ghost use Rattle.console_core.specs.Typing.{AreTyped, characters_of};
+ghost use Rattle.console_states.specs.Sticking.{IsAnswer, IsAnswerBetween};
+ghost use Rattle.console_states.specs.Typing.{AreTyped, characters_of};
 ghost use Rattle.play_core.specs.Playing.{Plays};
 ghost use Rattle.play_core.specs.Runs.{moves};
 ghost use Rattle.play_core.specs.Scripts.{IsScript};

@@ -4,8 +4,8 @@ use Rattle.std.specs.Prelude.{ℕ, ◌==◌, List, [], ◌∷◌, map, length, O
 use Rattle.std.specs.List.{flat_map, range_with_len}
 use Rattle.keymap_core.specs.Accents.{AccentValue}
 use Rattle.keymap_core.specs.Maps.{MapValue, accent_at}
-use Rattle.console_core.specs.declared.selection.Sight.{Sight}
-use Rattle.console_core.specs.declared.selection.Sight.TheVariants as sight
+use Rattle.console_states.specs.declared.selection.Sight.{Sight}
+use Rattle.console_states.specs.declared.selection.Sight.TheVariants as sight
 
 abbrev pub base_pair : ℕ → ℕ × ℕ → Sight
 base_pair i p = sight.Pair i p.0

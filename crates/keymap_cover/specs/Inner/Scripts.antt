@@ -8,14 +8,14 @@ use Rattle.keymap_core.specs.Numbers.{key_count}
 use Rattle.console_core.specs.declared.event.Event.{Event}
 use Rattle.console_core.specs.declared.event.Event.TheVariants.{Release}
 use Rattle.keymap_core.specs.declared.action.Lock.{Lock}
-use Rattle.console_core.specs.declared.selection.Sight.{Sight}
+use Rattle.console_states.specs.declared.selection.Sight.{Sight}
 use Rattle.keymap_core.specs.declared.entry.Cell.TheVariants.{Char}
-use Rattle.console_core.specs.declared.selection.Selection.{Selection}
-use Rattle.console_core.specs.declared.selection.Sight.TheVariants as sight
+use Rattle.console_states.specs.declared.selection.Selection.{Selection}
+use Rattle.console_states.specs.declared.selection.Sight.TheVariants as sight
 use Rattle.console_core.specs.History.{Maps, between, is_locked_after, pressed, HasKeys, IsNoLoad}
-use Rattle.console_core.specs.Visiting.{AreTaken, CanVisit, HasLocks, ExplorerValue}
-use Rattle.console_core.specs.Sights.{look_selected, SeesNext, SeesAlong}
-use Rattle.console_core.specs.Sticking.{IsOfPressedKey}
+use Rattle.console_states.specs.Visiting.{AreTaken, CanVisit, HasLocks, ExplorerValue}
+use Rattle.console_states.specs.Sights.{look_selected, SeesNext, SeesAlong}
+use Rattle.console_states.specs.Sticking.{IsOfPressedKey}
 use Rattle.keymap_cover.specs.declared.script_event.ScriptEvent.{ScriptEvent}
 use Rattle.keymap_cover.specs.declared.script.Script.{Script}
 use Rattle.keymap_cover.specs.ScriptEvents.{events_of, is_down, ArePossible}

@@ -1,6 +1,6 @@
 use Rattle.keymap_cover.proofs.Common.{ℕ, subst, alone, AreSightsOf, rules}
 use Rattle.std.proofs.Common.{MatchOption}
-use Rattle.console_core.specs.Sticking.{ReachesMoreThan, state_limit}
+use Rattle.console_states.specs.Sticking.{ReachesMoreThan, state_limit}
 use Rattle.keymap_cover.proofs.Covered.{script-covers}
 use Rattle.keymap_cover.proofs.cover.cover_of.Goals as goal
 

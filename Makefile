@@ -78,6 +78,7 @@ other-build:
 	sh tests/transcripts.sh $(PROGRAM).by-rattle
 	sh tests/files.sh $(PROGRAM).by-rattle
 	sh tests/swapped_names.sh $(PROGRAM).by-rattle
+	sh tests/stopped.sh $(PROGRAM).by-rattle
 	sh tests/both_builds.sh $(PROGRAM) $(PROGRAM).by-rattle
 
 # the tests of what stands in the repository, and of the scripts themselves: `make test` alone runs these
@@ -98,6 +99,7 @@ scripts:
 	sh tests/files.sh $(PROGRAM)
 	sh tests/cover.sh $(PROGRAM)
 	sh tests/swapped_names.sh $(PROGRAM)
+	sh tests/stopped.sh $(PROGRAM)
 	sh tests/c_library.sh $(PROGRAM) $(LIBRARY)
 	sh tests/completions.sh $(PROGRAM)
 	sh tests/manual.sh $(PROGRAM)

@@ -323,6 +323,41 @@ END
     for file in include/kmap.h tests/c_library.sh tests/c_texts.c; do mended $file; done
 fi
 
+# A program that empties a file before it writes it: where it is killed behind that, nothing is whole.
+if is_there "$cc"; then
+    cat > empties << SH
+#!/bin/sh
+case "\$1 \$2" in
+--version* | fmt\ --check)
+    exec "$program" "\$@"
+    ;;
+fmt*)
+    shift
+    for file do
+        "$program" fmt --print "\$file" > "$folder/made"
+        : > "\$file"
+        cp "$folder/made" "\$file"
+    done
+    ;;
+*)
+    for file do :; done
+    "$program" "\$@"
+    cp "\$file" "$folder/made"
+    : > "\$file"
+    cp "$folder/made" "\$file"
+    ;;
+esac
+SH
+    chmod +x empties
+    sh "$top/tests/stopped.sh" ./empties > said 2>&1
+    if ! grep '^skipped: no program may be traced' said; then
+        for way in fmt 'fmt of two texts' compile 'compile --narrow'; do
+            holds "a file that $way empties is called whole" \
+                grep -q "^failed: $way by a new file, killed before its call [0-9]*: the old or the new one is whole" said
+        done
+    fi
+fi
+
 # A program from which no memory is refused.
 printf '#!/bin/sh\nexit 0\n' > silent
 chmod +x silent

@@ -36,6 +36,9 @@ SHARED = crates/kmap_c/out/libkmap.so
 SONAME = libkmap.so.0
 CALLS = crates/calls/out/calls
 
+# the calls of the library, under each of which its page is found
+NAMES = sed -n 's/^[a-z0-9_ ]* \(kmap_[a-z_]*\)(.*/\1/p' include/kmap.h
+
 LIB = $(DESTDIR)$(LIBDIR)
 INCLUDE = $(DESTDIR)$(INCLUDEDIR)
 SHARE = $(DESTDIR)$(PREFIX)/share
@@ -130,6 +133,7 @@ install: all
 	    sed "s,/usr/local,$$place,g" man/kmap.$$page > "$(MAN)/man$$page/kmap.$$page" && \
 	    chmod 644 "$(MAN)/man$$page/kmap.$$page" || exit 1; \
 	done
+	for name in $$($(NAMES)); do ln -sf kmap.3 "$(MAN)/man3/$$name.3" || exit 1; done
 	$(INSTALL) -m 644 completions/kmap.bash "$(BASH_COMPLETIONS)/kmap"
 	$(INSTALL) -m 644 completions/kmap.fish "$(FISH_COMPLETIONS)/kmap.fish"
 	$(INSTALL) -m 644 completions/_kmap "$(ZSH_COMPLETIONS)/_kmap"
@@ -144,6 +148,7 @@ uninstall:
 	rm -f "$(DESTDIR)$(PREFIX)/bin/kmap" "$(INCLUDE)/kmap.h" "$(LIB)/pkgconfig/kmap.pc"
 	rm -f "$(LIB)/libkmap.a" "$(LIB)/libkmap.so" "$(LIB)/$(SONAME)" "$(LIB)/libkmap.so.$(VERSION)"
 	rm -f "$(MAN)/man1/kmap.1" "$(MAN)/man3/kmap.3" "$(MAN)/man5/kmap.5"
+	for name in $$($(NAMES)); do rm -f "$(MAN)/man3/$$name.3"; done
 	rm -f "$(BASH_COMPLETIONS)/kmap" "$(FISH_COMPLETIONS)/kmap.fish" "$(ZSH_COMPLETIONS)/_kmap"
 	for file in $(EXAMPLE_FILES); do rm -f "$(EXAMPLES)/$$file"; done
 	for file in README.md CHANGELOG.md LICENSE $(DOCUMENTS); do rm -f "$(DOC)/$$file"; done

@@ -359,7 +359,7 @@ esac
 SH
     chmod +x empties
     sh "$top/tests/stopped.sh" ./empties > said 2>&1
-    if ! grep '^skipped: no program may be traced' said; then
+    if ! grep -q '^skipped: no program may be traced' said; then
         for way in fmt 'fmt of two texts' compile 'compile --narrow'; do
             holds "a file that $way empties is called whole" \
                 grep -q "^failed: $way by a new file, killed before its call [0-9]*: the old or the new one is whole" said

@@ -153,5 +153,5 @@ Afterwards stood events P =
 -- Who promises these. `replay` of src/replays.rt, of any console after a list of events, with Afterwards for the lists
 -- where it stood before. `check` of keymap_check, of each keymap and every list that leaves it in force, once it knows
 -- which keymaps are safe and which locks are steady (KeepsPromise in its specs/Promises.antt). `laws` of this crate, of
--- all lists, with no console. `sticking` of src/search.rt decides whether a keymap can leave a modifier on at all, and
--- `sticking_between` whether two that loads exchange can (Sticking).
+-- all lists, with no console. `sticking` of console_states decides whether a keymap can leave a modifier on at all, and
+-- `sticking_between` whether two that loads exchange can (its specs/Sticking.antt).

@@ -2,8 +2,9 @@
 //! what it sees.
 //!
 //! The crate stands on `console_core`: a console runs along while the script is made, so that what each press looks up
-//! is kept, the search tells what can be looked up at all (`Sights`), and an `Explorer` makes visits to what wasn't
-//! looked up yet. Behind these stand trials of what keys do to each other, of which nothing is promised.
+//! is kept; and on `console_states`: its search tells what can be looked up at all (`Sights`), and an `Explorer` makes
+//! visits to what wasn't looked up yet. Behind these stand trials of what keys do to each other, of which nothing is
+//! promised.
 //!
 //! Contracts (`cover_of`, `Cover::verdict`) say that what is told as seen is what the script sees in its events from a
 //! new console, that what is told as left out can be seen, and that what is told as never seen no list of events sees,

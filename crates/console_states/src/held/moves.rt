@@ -205,8 +205,8 @@ impl Held {
         }
     }
 
-    /// What a press of the key looks up. `look` of `machine` goes the same way over the marks of a store. It is told
-    /// again here since a state of the search is no store: a holder stands in it for a mark and for what is remembered.
+    /// What a press of the key looks up. `look` of console_core's `machine` goes the same way over the marks of a
+    /// store. A state is no store: a holder stands in it for a mark and for what is remembered.
     fn look(&self, maps: &Keymaps, key: KeyCode) -> Cell
         ensures in_range { key < key_count }
         ensures value { result ≡ look_in (under_of maps.now) (state_of self.now) key }

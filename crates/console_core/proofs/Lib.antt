@@ -39,6 +39,7 @@ pub mod RoutesHome
 pub mod Runs
 pub mod SameStates
 pub mod Scripts
+pub mod Scrolling
 pub mod Searching
 pub mod Seeing
 pub mod Shown

@@ -57,7 +57,7 @@ pub use event::{Answer, Event};
 pub use explored::KeyAt;
 pub use explorer::Explorer;
 pub use kept::{locks_kept, modifiers_kept, pending_kept, start_kept, step_kept};
-pub use onward::{Onward, Reached, find_onward};
+pub use onward::{Onward, Reached, find_onward, scroll_off};
 pub use outcome::Sticking;
 pub use plain_console::PlainConsole;
 pub use replays::{deliver_all, replay};

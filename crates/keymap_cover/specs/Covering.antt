@@ -1,15 +1,16 @@
 -- What a script covers.
-use Rattle.std.specs.Prelude.{◌≡◌, ℕ, ◌<◌, Bool, true, false, List, length, Option, None, Some, reverse, take}
+use Rattle.std.specs.Prelude.{◌≡◌, ◌⊎◌, ℕ, ◌<◌, Bool, true, false, List, length, Option, None, Some, reverse, take}
 use Rattle.std.specs.Prelude.{if◌then◌else◌}
 use Rattle.std.specs.List.{Contains, count_by}
+use Rattle.keymap_core.specs.declared.action.Lock.TheVariants.{Scroll}
 use Rattle.keymap_core.specs.declared.action.Modifier.{Modifier}
 use Rattle.keymap_core.specs.Maps.{MapValue}
 use Rattle.keymap_core.specs.Numbers.{key_count}
 use Rattle.console_core.specs.declared.event.Event.{Event}
 use Rattle.console_core.specs.declared.selection.Sight.{Sight}
-use Rattle.console_core.specs.History.{between, is_on_after, accent_pending_after, HasKeys, IsQuiet}
+use Rattle.console_core.specs.History.{between, is_on_after, is_locked_after, accent_pending_after, HasKeys, IsQuiet}
 use Rattle.console_core.specs.Moves.{alone}
-use Rattle.console_core.specs.Visiting.{CanVisit, IsPair}
+use Rattle.console_core.specs.Visiting.{CanVisit, CannotScroll, IsPair}
 use Rattle.console_core.specs.Sticking.{ReachesMoreThan, state_limit}
 use Rattle.console_core.specs.Sights.{SeesNext, SeesAlong, IsAdmitted, IsReachable, AreSightsOf, can_see}
 use Rattle.keymap_cover.specs.declared.parts.Cover.{Cover}
@@ -32,6 +33,10 @@ history c = events_of (reverse c.events.items)
 abbrev pub IsAtRest : MapValue → List Event → Type 0
 IsAtRest m h =
     IsQuiet h × ((i : Modifier) → is_on_after (between m m) i h ≡ false) × (accent_pending_after (between m m) h ≡ None)
+
+-- The scroll lock is off, or presses can't turn it off: no moves lead from there to a press that turns it.
+abbrev pub IsScrollOff : MapValue → List Event → Type 0
+IsScrollOff m h = (is_locked_after (between m m) Scroll h ≡ false) ⊎ CannotScroll m h
 
 -- what the first n events see of the cells and lock settings that can be visited: all of it
 abbrev pub SeesKeysBy : MapValue → List ScriptEvent → ℕ → Type 0
@@ -56,6 +61,7 @@ pub record Covers (m : MapValue) (c : Cover) : Type 0 where
   pub possible : ArePossible (reverse c.events.items)
   pub rest : IsAtRest m (history c)
   pub up : (k : ℕ) → k < key_count → is_down k (reverse c.events.items) ≡ false
+  pub scroll : IsScrollOff m (history c)
   -- its parts begin in their order, the first before all events, and each has an event
   pub parts : AreParts c.starts.items (length c.events.items)
   -- nothing that is told of and can be visited is left out

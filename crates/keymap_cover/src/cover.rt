@@ -5,7 +5,7 @@ ghost use Rattle.console_core.specs.History.{between};
 ghost use Rattle.console_core.specs.Sights.{AreSightsOf, IsReachable, can_see};
 ghost use Rattle.console_core.specs.Visiting.{CanVisit};
 ghost use Rattle.keymap_cover.specs.Covering.{NeverSees, Covers, IsVerdict, verdict_of, IsCover};
-ghost use Rattle.keymap_cover.specs.Inner.Scripts.{AreUp, EndsAtRest, GoesFurther, GoesUnderWay, IsExplorerFor};
+ghost use Rattle.keymap_cover.specs.Inner.Scripts.{EndsAtRest, GoesFurther, GoesUnderWay, IsExplorerFor};
 ghost use Rattle.keymap_cover.specs.Inner.Scripts.{SeesAll, ShowsInParts, ShowsTold};
 ghost use Rattle.keymap_cover.specs.SeenSights.{has_seen};
 ghost use Rattle.std.specs.List.{Contains};
@@ -17,6 +17,7 @@ use crate::families::trials;
 use crate::one_way::go_onward;
 use crate::parts::{Cover, Part, Start, Verdict};
 use crate::script::Script;
+use crate::scroll::turn_scroll_off;
 use crate::seen::Seen;
 use crate::told::{told_of_keys, told_pairs};
 use console_core::laws::sights_are_reachable;
@@ -207,7 +208,7 @@ fn show_told<T: Translator>(
     Ok(first)
 }
 
-/// Goes home, and makes the trials.
+/// Goes home, makes the trials, and turns the scroll lock off.
 fn try_keys<T: Translator>(
     alloc: Global,
     explorer: &Explorer,
@@ -215,15 +216,13 @@ fn try_keys<T: Translator>(
     console: &mut T,
     map: &KeyMap,
 ) -> Result<(), AllocError>
-    ensures along { OnOk result (GoesFurther map.now (T.stands console.old) script.old (T.stands console.new)
-        script.new) }
-    ensures up { OnOk result (AreUp script.new.pressed) }
+    ensures { OnOk result (GoesFurther map.now (T.stands console.old) script.old (T.stands console.new) script.new) }
 {
     let home = explorer.events_home(alloc, &*console)?;
     script.walk(console, map, &home)?;
     let trials = trials(alloc, map, explorer)?;
     script.walk(console, map, &trials)?;
-    Ok(())
+    turn_scroll_off(alloc, script, console, map)
 }
 
 /// The script, and where its parts begin.

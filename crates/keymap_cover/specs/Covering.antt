@@ -1,5 +1,6 @@
 -- What a script covers.
-use Rattle.std.specs.Prelude.{◌≡◌, ◌⊎◌, ℕ, ◌<◌, Bool, true, false, List, length, Option, None, Some, reverse, take}
+use Rattle.std.specs.Prelude.{◌≡◌, ◌⊎◌, ℕ, ◌<◌, Bool, true, false, List, All, length, Option, None, Some, reverse}
+use Rattle.std.specs.Prelude.{take}
 use Rattle.std.specs.Prelude.{if◌then◌else◌}
 use Rattle.std.specs.List.{Contains, count_by}
 use Rattle.keymap_core.specs.declared.action.Lock.TheVariants.{Scroll}
@@ -10,6 +11,7 @@ use Rattle.console_core.specs.declared.event.Event.{Event}
 use Rattle.console_core.specs.declared.selection.Sight.{Sight}
 use Rattle.console_core.specs.History.{between, is_on_after, is_locked_after, accent_pending_after, HasKeys, IsQuiet}
 use Rattle.console_core.specs.Moves.{alone}
+use Rattle.console_core.specs.Returning.{NoTurnIsOneWay}
 use Rattle.console_core.specs.Visiting.{CanVisit, CannotScroll, IsPair}
 use Rattle.console_core.specs.Sticking.{ReachesMoreThan, state_limit}
 use Rattle.console_core.specs.Sights.{SeesNext, SeesAlong, IsAdmitted, IsReachable, AreSightsOf, can_see}
@@ -106,6 +108,16 @@ counts_of told xs = record {
   left_out = count_by (λ x. is_verdict LeftOut (told x)) xs;
   rest = count_by (λ x. is_verdict Never (told x)) xs;
 }
+
+-- What is counted of a cover is what is told of it: the verdict of each sight.
+abbrev pub CountsAreOfVerdicts : Type 0
+CountsAreOfVerdicts = (m : MapValue) (c : Cover) → Covers m c → (x : Sight) → IsVerdict m c x (verdict_of m c x)
+
+-- Where no turn of a lock is one-way, nothing that is told of is counted as left out.
+abbrev pub NothingIsLeftOut : Type 0
+NothingIsLeftOut =
+    (m : MapValue) (c : Cover) → Covers m c → NoTurnIsOneWay m → (xs : List Sight) → All (IsTold m) xs
+    → (counts_of (verdict_of m c) xs).left_out ≡ 0
 
 -- or the search gives up
 abbrev pub IsCover : MapValue → Option Cover → Type 0

@@ -2,9 +2,9 @@
 ghost use Rattle.std.specs.Prelude.{◌≡◌, ◌⊎◌, ◌+◌, ◌≤◌, [], true, false, Some, length, OnOk, IfOk};
 ghost use Rattle.console_core.specs.declared.selection.Sight.{Sight as SightValue};
 ghost use Rattle.console_core.specs.History.{between};
-ghost use Rattle.console_core.specs.Sights.{AreSightsOf, IsReachable, can_see};
+ghost use Rattle.console_core.specs.Sights.{AreSightsOf, IsReachable};
 ghost use Rattle.console_core.specs.Visiting.{CanVisit};
-ghost use Rattle.keymap_cover.specs.Covering.{NeverSees, Covers, IsVerdict, verdict_of, IsCover};
+ghost use Rattle.keymap_cover.specs.Covering.{Covers, IsVerdict, verdict_of, IsCover};
 ghost use Rattle.keymap_cover.specs.Inner.Scripts.{EndsAtRest, GoesFurther, GoesUnderWay, IsExplorerFor};
 ghost use Rattle.keymap_cover.specs.Inner.Scripts.{SeesAll, ShowsInParts, ShowsTold};
 ghost use Rattle.keymap_cover.specs.SeenSights.{has_seen};
@@ -20,21 +20,9 @@ use crate::script::Script;
 use crate::scroll::turn_scroll_off;
 use crate::seen::Seen;
 use crate::told::{told_of_keys, told_pairs};
-use console_core::laws::sights_are_reachable;
 use console_core::{Explorer, PlainConsole, Selection, Sight, Sights, Translator, sights_of};
 use keymap_core::{KEY_COUNT, KeyCode, KeyMap, key_with};
 use std::alloc::{AllocError, Global};
-
-/// Whether a press after some list that is spoken of may see it. The law says that what such a press sees can be seen.
-fn may_see(sights: &Sights, map: &KeyMap, sight: Sight) -> bool
-    ensures reachable { AreSightsOf map.now sights.now → result ≡ true → IsReachable map.now sight }
-    ensures unreachable { AreSightsOf map.now sights.now → result ≡ false → IsReachable map.now sight → ⊥ }
-    ensures never { AreSightsOf map.now sights.now → result ≡ false → NeverSees map.now sights.now.forgets sight }
-    ensures value { result ≡ can_see map.now sights.now sight }
-{
-    sights_are_reachable();
-    sights.can_see(map, sight)
-}
 
 impl Cover {
     /// What is told of a sight: seen, left out, or never seen.
@@ -44,7 +32,7 @@ impl Cover {
     {
         if self.seen.has(sight) {
             Verdict::Seen
-        } else if may_see(&self.sights, map, sight) {
+        } else if self.sights.can_see(map, sight) {
             Verdict::LeftOut
         } else {
             Verdict::Never
@@ -59,7 +47,7 @@ pub(crate) fn is_left_out(seen: &Seen, sights: &Sights, map: &KeyMap, sight: Sig
     ensures some { AreSightsOf map.now sights.now → result ≡ true → IsReachable map.now sight
         × (has_seen seen.now sight ≡ false) }
 {
-    !seen.has(sight) && may_see(sights, map, sight)
+    !seen.has(sight) && sights.can_see(map, sight)
 }
 
 /// Whether a press of the key under the selection sees a cell or a lock setting that wasn't seen.

@@ -20,6 +20,7 @@ mod cover;
 mod families;
 mod idle_keys;
 mod kind;
+pub mod laws;
 mod marks;
 mod one_way;
 mod parts;

@@ -321,7 +321,7 @@ press-sees m s h l k x a sees waits = (
 )
 
 -- behind a reset a console is where the locks tell
-at-reset : (m : MapValue) (s : State) (h : List Event) → IsFree s → s.is_second ≡ false → HasKeys h → HasNoLoads h
+pub at-reset : (m : MapValue) (s : State) (h : List Event) → IsFree s → s.is_second ≡ false → HasKeys h → HasNoLoads h
     → HasLocks m (locks_in s) h → IsAt m s h (Reset ∷ [])
 at-reset m s h free first keys none locks = record {
   at = free_after m h;

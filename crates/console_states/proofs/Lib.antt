@@ -22,6 +22,7 @@ pub mod Returning
 pub mod RoutesHome
 pub mod SameStates
 pub mod Scripts
+pub mod Scrolling
 pub mod Searching
 pub mod Seeing
 pub mod Shown

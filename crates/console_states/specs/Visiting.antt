@@ -4,14 +4,13 @@ use Rattle.std.specs.Prelude.{◌≡◌, ◌⊎◌, ℕ, ◌<◌, Bool, false, L
 use Rattle.std.specs.List.{Contains}
 use Rattle.keymap_core.specs.Maps.{MapValue}
 use Rattle.keymap_core.specs.Numbers.{key_count}
-use Rattle.console_states.specs.Types.{Caps, Num, Scroll, Alt, Event, Move, Selection, Sight}
+use Rattle.console_states.specs.Types.{Lock, Caps, Num, Scroll, Alt, Event, Move, Turn, Selection, Sight}
 use Rattle.console_states.specs.declared.held.Held.{Held}
 use Rattle.console_states.specs.declared.onward.Onward.{Onward}
 use Rattle.console_states.specs.declared.selection.Sight.TheVariants as sight
 use Rattle.console_core.specs.History.{between, is_locked_after, HasKeys, HasNoLoads, IsNoLoad}
-use Rattle.console_states.specs.Moves.{Under, alone, State, state_of, IsPath, state_after, IsPathFrom, state_from}
-use Rattle.console_states.specs.Moves.{events_along}
-use Rattle.console_states.specs.Returning.{IsHome, NoTurnIsOneWay, IsAfter, unscrolled}
+use Rattle.console_states.specs.Moves.{Under, alone, State, state_of, IsPath, state_after, IsPathFrom, state_from, events_along, free_with}
+use Rattle.console_states.specs.Returning.{IsHome, NoTurnIsOneWay, IsAfter, but_scroll, unscrolled}
 use Rattle.console_states.specs.Sights.{SeesBy, SeesAlong, CanPend, IsReachable, selection_of}
 use Rattle.console_states.specs.Sticking.{IsOfPressedKey, ReachesMoreThanFrom, state_limit}
 use Rattle.console_states.specs.Typing.{ComesHome}
@@ -119,3 +118,23 @@ IsOnward m s sights (Some x) =
 IsOnward m s sights None =
     ((y : Sight) → Contains sights y → SeesFrom m s y → ⊥)
     ⊎ ((p : ℕ) × ReachesMoreThanFrom (alone m) s state_limit p)
+
+-- ---- the scroll lock
+
+-- where nothing is held and those locks are on that are on after the list, but for the scroll lock, which picks no cell
+abbrev pub resting_after : MapValue → List Event → State
+resting_after m h = free_with (but_scroll (λ l. is_locked_after (between m m) l h))
+
+-- presses can turn the lock: moves lead from the state to a turn of it
+abbrev pub CanTurn : MapValue → State → Lock → Type 0
+CanTurn m s l = (path : List Move) × (k : ℕ) × IsPathFrom (alone m) s (Turn k l ∷ path)
+
+-- behind h presses can't turn the scroll lock, or more states can be reached than are gone over
+abbrev pub CannotScroll : MapValue → List Event → Type 0
+CannotScroll m h =
+    CanTurn m (resting_after m h) Scroll
+    → (p : ℕ) × ReachesMoreThanFrom (alone m) (resting_after m h) state_limit p
+
+-- the events, newest first, are taken behind h, and leave the scroll lock off
+abbrev pub TurnsScrollOff : MapValue → List Event → List Event → Type 0
+TurnsScrollOff m h later = AreTaken h later × (is_locked_after (between m m) Scroll (later ++ h) ≡ false)

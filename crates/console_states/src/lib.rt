@@ -13,8 +13,8 @@
 //! `type_characters` makes the events that type characters, in whatever layout a lock selects them, or names the first
 //! character that no keys can type.
 //!
-//! No call takes memory but `sticking`, `sticking_between`, `sights_of`, `find_onward`, `Reached::releases`, those of
-//! an `Explorer` and `type_characters`. These fail for want of memory, `type_characters` besides where a character
+//! No call takes memory but `sticking`, `sticking_between`, `sights_of`, `find_onward`, `scroll_off`,
+//! `Reached::releases`, those of an `Explorer` and `type_characters`. These fail for want of memory, `type_characters` besides where a character
 //! can't be typed or more than 65,536 states can be reached, and no other call fails.
 #![tactic(auto)]
 
@@ -37,7 +37,7 @@ mod ways;
 
 pub use explored::KeyAt;
 pub use explorer::Explorer;
-pub use onward::{Onward, Reached, find_onward};
+pub use onward::{Onward, Reached, find_onward, scroll_off};
 pub use outcome::Sticking;
 pub use search::{sticking, sticking_between};
 pub use selection::{Selection, Sight};

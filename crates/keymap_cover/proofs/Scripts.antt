@@ -6,7 +6,7 @@ use Rattle.keymap_cover.proofs.Common.{slice_set, slice_index_or, replicate, All
 use Rattle.keymap_cover.proofs.Common.{reverse-append, MapValue, Event, Sight, between, resolved, SeesAlong}
 use Rattle.keymap_cover.proofs.Common.{ScriptEvent}
 use Rattle.keymap_cover.proofs.Common.{event_of, events_of, is_down, alone, AreSightsOf}
-use Rattle.keymap_cover.proofs.Common.{has_seen, AddsPair, IsScript, AreUp}
+use Rattle.keymap_cover.proofs.Common.{AddsPair, IsScript, AreUp}
 use Rattle.std.specs.Option.{is_some}
 use Rattle.std.proofs.lemmas.List.{get_or-replicate}
 use Rattle.keymap_core.specs.declared.action.Modifier.{Modifier}
@@ -15,7 +15,7 @@ use Rattle.keymap_core.specs.declared.entry.Cell.TheVariants.{Char}
 use Rattle.keymap_core.specs.Numbers.{key_count}
 use Rattle.console_states.specs.declared.selection.Selection.{Selection}
 use Rattle.console_core.specs.Resolved.{held, dead_keys_taken, pending_by_dead_keys}
-use Rattle.console_core.specs.History.{pressed, is_on_after, HasKey, HasKeys, is_locked_after, accent_pending_after}
+use Rattle.console_core.specs.History.{pressed, is_on_after, HasKey, is_locked_after, accent_pending_after}
 use Rattle.console_core.specs.History.{is_any_on_after}
 use Rattle.console_core.proofs.OneMore.{pressed-start, pressed-press, pressed-release, pressed-reset}
 use Rattle.keymap_core.proofs.HoldingTests.{no-modifier}

@@ -1,10 +1,11 @@
 //! What only turns of locks lead to that can't be taken back.
 ghost use Rattle.std.specs.Prelude.{OnOk};
-ghost use Rattle.keymap_cover.specs.Inner.Scripts.{GoesResting};
+ghost use Rattle.keymap_cover.specs.Inner.Scripts.{GoesResting, GoesScrollOff};
 
 use crate::cover::{is_left_out, sees_new};
 use crate::probes::changes_nothing;
 use crate::script::Script;
+use crate::scroll::turn_scroll_off;
 use crate::seen::Seen;
 use crate::told::told_of_keys;
 use console_core::{Event, Translator};
@@ -84,7 +85,7 @@ fn show_onward<T: Translator>(
 
 /// Goes where presses see what is left out of the cells and lock settings, by turns that can't be taken back. Each time
 /// something more of it is seen, until nothing of it can be seen from where the console stands.
-pub(crate) fn go_onward<T: Translator>(
+fn show_all_onward<T: Translator>(
     alloc: Global,
     script: &mut Script,
     console: &mut T,
@@ -101,4 +102,18 @@ pub(crate) fn go_onward<T: Translator>(
         left = unseen(alloc, &script.seen, &left)?;
     }
     Ok(())
+}
+
+/// Goes onward, and turns the scroll lock off.
+pub(crate) fn go_onward<T: Translator>(
+    alloc: Global,
+    script: &mut Script,
+    console: &mut T,
+    map: &KeyMap,
+    sights: &Sights,
+) -> Result<(), AllocError>
+    ensures { OnOk result (GoesScrollOff map.now (T.stands console.old) script.old (T.stands console.new) script.new) }
+{
+    show_all_onward(alloc, script, console, map, sights)?;
+    turn_scroll_off(alloc, script, console, map)
 }

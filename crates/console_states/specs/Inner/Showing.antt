@@ -4,7 +4,7 @@ use Rattle.std.specs.Map.{keys_of}
 use Rattle.keymap_core.specs.declared.action.Action.TheVariants as act
 use Rattle.keymap_core.specs.Maps.{MapValue}
 use Rattle.keymap_core.specs.Numbers.{key_count}
-use Rattle.console_states.specs.Types.{Action, Modifier, Lock, Caps, Num, Scroll, Alt, Act, Event, Sight}
+use Rattle.console_states.specs.Types.{Action, Modifier, Lock, Caps, Num, Scroll, Alt, Act, Event, Sight, Turn}
 use Rattle.console_states.specs.declared.explored.Explored.{Explored}
 use Rattle.console_states.specs.declared.explored.KeyAt.{KeyAt}
 use Rattle.console_states.specs.declared.explorer.Aim.{Aim}
@@ -12,13 +12,13 @@ use Rattle.console_states.specs.declared.held.Held.{Held}
 use Rattle.console_states.specs.declared.selection.Sight.TheVariants as sight
 use Rattle.console_core.specs.Answers.{usable}
 use Rattle.console_core.specs.History.{between, accent_pending_after}
-use Rattle.console_states.specs.Moves.{Under, alone, State, start, IsFree, IsIdle, look_in}
+use Rattle.console_states.specs.Moves.{Under, alone, State, start, IsFree, IsIdle, IsMove, look_in}
 use Rattle.console_states.specs.Returning.{IsAfter, unscrolled}
 use Rattle.console_states.specs.Visiting.{AreTaken, Locks}
 use Rattle.console_states.specs.Sights.{IsPendingFor, IsReachable, SeesBy, selection_of}
 use Rattle.console_states.specs.Inner.Exploring.{map_of_explored, origin_in, IsExplored, IsTapAt, dead_tap}
 use Rattle.console_states.specs.Inner.Routes.{HasRoute}
-use Rattle.console_states.specs.Inner.Searching.{state_of, Entry, Entries}
+use Rattle.console_states.specs.Inner.Searching.{state_of, under_of, Entry, Entries}
 use Rattle.console_states.specs.Inner.Standing.{Stands}
 
 -- The states were explored from the start, and these are all.
@@ -94,6 +94,18 @@ abbrev pub IsUnseen : Explored → Sight → Type 0
 IsUnseen e x =
     (j k : ℕ) (y : Entry) → slice_get e.met.entries j ≡ Some y → k < key_count
     → SeesBy (map_of_explored e) (selection_of (state_of y.0)) k x → ⊥
+
+-- in the state of the place a press of the key turns the scroll lock
+abbrev pub IsTurnAt : Explored → KeyAt → Type 0
+IsTurnAt e at =
+    (y : Entry) × (slice_get e.met.entries at.place ≡ Some y)
+    × IsMove (under_of e.maps) (state_of y.0) (Turn at.key Scroll)
+
+-- and no press does at any place
+abbrev pub IsUnturned : Explored → Type 0
+IsUnturned e =
+    (j k : ℕ) (y : Entry) → slice_get e.met.entries j ≡ Some y → IsMove (under_of e.maps) (state_of y.0) (Turn k Scroll)
+    → ⊥
 
 -- before a pair the dead key of its accent is tapped, and before nothing else
 abbrev pub IsDeadFor : Explored → Sight → Option KeyAt → Type 0

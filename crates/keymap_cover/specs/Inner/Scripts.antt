@@ -21,7 +21,7 @@ use Rattle.keymap_cover.specs.declared.script.Script.{Script}
 use Rattle.keymap_cover.specs.ScriptEvents.{events_of, is_down, ArePossible}
 use Rattle.keymap_cover.specs.SeenSights.{has_seen}
 use Rattle.keymap_cover.specs.declared.parts.Start.{Start}
-use Rattle.keymap_cover.specs.Covering.{IsAtRest, SeesKeysBy, SeesToldBy}
+use Rattle.keymap_cover.specs.Covering.{IsAtRest, IsScrollOff, SeesKeysBy, SeesToldBy}
 use Rattle.keymap_cover.specs.Inner.Adding.{StandBehind}
 
 -- x is there, and what was there before, and nothing else
@@ -116,12 +116,6 @@ GoesAlongToRest m later stood before stands t =
     → (g : List Event) × RunsAlong m stands g t × IsAtRest m g × ComesAfter h g
     × (AreTaken h later → TurnsNone m (later ++ h) g)
 
--- the console runs along by some events more, and comes to rest
-abbrev pub GoesFurther : MapValue → Standing → Script → Standing → Script → Type 0
-GoesFurther m stood before stands t =
-    (h : List Event) → RunsAlong m stood h before
-    → (g : List Event) × RunsAlong m stands g t × IsAtRest m g × ComesAfter h g
-
 abbrev pub AreUp : List Bool → Type 0
 AreUp down = (k : ℕ) → k < key_count → slice_index_or down k false ≡ false
 
@@ -129,10 +123,21 @@ AreUp down = (k : ℕ) → k < key_count → slice_index_or down k false ≡ fal
 abbrev pub IsResting : MapValue → Standing → Script → List Event → Type 0
 IsResting m stands t h = RunsAlong m stands h t × AreUp t.pressed × IsAtRest m h
 
+-- the console runs along by some events more, until it is at rest
+abbrev pub GoesFurther : MapValue → Standing → Script → Standing → Script → Type 0
+GoesFurther m stood before stands t =
+    (h : List Event) → RunsAlong m stood h before → (g : List Event) × IsResting m stands t g × ComesAfter h g
+
 -- the console goes on at rest by some events more
 abbrev pub GoesResting : MapValue → Standing → Script → Standing → Script → Type 0
 GoesResting m stood before stands t =
     (h : List Event) → IsResting m stood before h → (g : List Event) × IsResting m stands t g × ComesAfter h g
+
+-- and the scroll lock is off, or presses can't turn it off
+abbrev pub GoesScrollOff : MapValue → Standing → Script → Standing → Script → Type 0
+GoesScrollOff m stood before stands t =
+    (h : List Event) → IsResting m stood before h
+    → (g : List Event) × IsResting m stands t g × ComesAfter h g × IsScrollOff m g
 
 -- The console runs along a script that is at rest with no key down, and the explorer's locks are on.
 pub record IsUnderWay (m : MapValue) (stands : Standing) (p : ExplorerValue) (t : Script) (h : List Event)
@@ -150,9 +155,9 @@ GoesUnderWay m stood p before stands q t P =
     (h : List Event) → IsUnderWay m stood p before h
     → (g : List Event) × IsUnderWay m stands q t g × ComesAfter h g × P
 
--- a script of which no key is down at the end, and which is at rest
+-- a script of which no key is down at the end, which is at rest, and which leaves the scroll lock off if presses can
 abbrev pub EndsAtRest : MapValue → Script → Type 0
-EndsAtRest m t = AreUp t.pressed × ((h : List Event) × IsScriptOf m h t × IsAtRest m h)
+EndsAtRest m t = AreUp t.pressed × ((h : List Event) × IsScriptOf m h t × IsAtRest m h × IsScrollOff m h)
 
 -- what of these can be visited was seen
 abbrev pub SeesAll : MapValue → List Sight → Script → Type 0

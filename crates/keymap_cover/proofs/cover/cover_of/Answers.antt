@@ -16,5 +16,5 @@ returns-in_ok-script-in-Some-2 c =
     let are : AreSightsOf m c.in-Some.sights =
     subst (λ o. MatchOption o ((p : ℕ) × ReachesMoreThan (alone m) state_limit p) (λ x. AreSightsOf m x)) c.in-Some.is
     c.in_ok-sights.ensures in
-    let ((up, (h, t, rest)), shown, parts) = c.in_ok-script-in-Some-2.ensures in
-    script-covers m h _ c.in_ok-script-in-Some-2.script.pressed t rest up are parts shown
+    let ((up, (h, t, rest, off)), shown, parts) = c.in_ok-script-in-Some-2.ensures in
+    script-covers m h _ c.in_ok-script-in-Some-2.script.pressed t (rest, off) up are parts shown

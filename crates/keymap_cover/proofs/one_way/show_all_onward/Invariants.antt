@@ -1,6 +1,6 @@
 -- the script goes on, and rests
 use Rattle.keymap_cover.proofs.Common.{GoesResting}
-use Rattle.keymap_cover.proofs.one_way.go_onward.Given as goal
+use Rattle.keymap_cover.proofs.one_way.show_all_onward.Given as goal
 
 abbrev pub invariant-loop : goal.invariant-loop
 invariant-loop g l =

@@ -37,7 +37,7 @@ counts_are_of_verdicts m c covers x = by (has_seen c.seen x) refl
       unseen e,
       hidden f,
       (λ h k admitted lt sees. hidden f
-      (sights_are_reachable m c.sights.forgets h k x (never-forgets m c.sights covers.sights) admitted lt sees)),
+          (sights_are_reachable m c.sights.forgets h k x (never-forgets m c.sights covers.sights) admitted lt sees)),
     )
 
     by : (t : Bool) → has_seen c.seen x ≡ t

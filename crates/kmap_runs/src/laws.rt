@@ -15,7 +15,7 @@ ghost use Rattle.play_core.specs.Scripts.{IsScript};
 ghost use Rattle.play_core.specs.declared.show.Show.{Show as ShowValue};
 ghost use Rattle.play_core.specs.declared.show.Show.TheVariants as show;
 ghost use Rattle.play_core.specs.Typing.{IsTyped};
-ghost use Rattle.kmap_runs.specs.Cover.{IsCoverText};
+ghost use Rattle.kmap_runs.specs.Cover.{CountedAreTold, IsCoverText, LeftOutCannotBeVisited};
 ghost use Rattle.kmap_runs.specs.Report.{report};
 ghost use Rattle.kmap_runs.specs.Replayed.{Delivers, ScriptTypes, AnswerReplays, AnswerReplaysBetween, ShowsScript};
 ghost use Rattle.kmap_runs.specs.Replayed.{PlaysCover, events_sent};
@@ -75,6 +75,14 @@ pub fn typed_sentences_come_back()
 /// events of the demonstration, none of them lost, which leave a modifier on while no key is pressed.
 pub fn printed_demonstrations_leave_a_modifier_on()
     ensures { (m : MapValue) → ShowsScript m (report m true) }
+{}
+
+/// The numbers of cells, lock settings and pairs that are printed of a cover count what is told of, each pair once. What
+/// is counted as left out can be seen by presses, but not visited: no moves lead to a press that sees it from which,
+/// once all keys are let go, more of them lead home.
+pub fn counted_sights_are_told()
+    ensures told { CountedAreTold }
+    ensures left_out { LeftOutCannotBeVisited }
 {}
 
 /// What is printed of a cover, its comments with counts and lists, the comment that begins each part and a line for

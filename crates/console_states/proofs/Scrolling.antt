@@ -5,7 +5,8 @@ use Rattle.console_states.proofs.Common.{MapValue, Lock, Caps, Num, Scroll, Alt,
 use Rattle.console_states.proofs.Common.{LetGo, Exchange, between, is_locked_after, HasKeys, HasNoLoads, Under, alone}
 use Rattle.console_states.proofs.Common.{State, IsMove, IsPathFrom, state_from, events_along, but_scroll, unscrolled}
 use Rattle.console_states.proofs.Common.{Explored, Entry, IsExplored, IsTrail, map_of_explored, origin_in, state_of}
-use Rattle.console_states.proofs.Common.{ReachesMoreThanFrom, state_limit}
+use Rattle.console_states.proofs.Common.{ReachesMoreThanFrom}
+use Rattle.console_states.specs.Sticking.{state_limit}
 use Rattle.console_states.specs.declared.explored.KeyAt.{KeyAt}
 use Rattle.console_states.specs.Moves.{free_with}
 use Rattle.console_states.specs.Visiting.{CannotScroll, TurnsScrollOff, resting_after}

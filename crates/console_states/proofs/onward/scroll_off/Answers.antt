@@ -4,7 +4,7 @@ use Rattle.console_states.specs.Visiting.{CannotScroll, TurnsScrollOff, resting_
 use Rattle.console_states.proofs.GoingBack.{searched-back}
 use Rattle.console_states.proofs.Looking.{push-reversed}
 use Rattle.console_states.proofs.Scrolling.{shown-resting, turns-off, unturned}
-use Rattle.console_core.proofs.onward.scroll_off.Goals as goal
+use Rattle.console_states.proofs.onward.scroll_off.Goals as goal
 
 pub go_out-requires-clause-place : goal.go_out-requires-clause-place
 go_out-requires-clause-place g c =

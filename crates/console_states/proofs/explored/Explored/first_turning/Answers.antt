@@ -2,7 +2,7 @@ use Rattle.console_states.proofs.Common.{◌≡◌, inl, inr, slice_get, Some, I
 use Rattle.console_states.proofs.Common.{slice_get_within, state_of, under_of}
 use Rattle.console_states.proofs.Looking.{entry-at}
 use Rattle.console_states.proofs.Searching.{place_last}
-use Rattle.console_core.proofs.explored.Explored.first_turning.Goals as goal
+use Rattle.console_states.proofs.explored.Explored.first_turning.Goals as goal
 
 pub returns-in-Some : goal.returns-in-Some
 returns-in-Some c =

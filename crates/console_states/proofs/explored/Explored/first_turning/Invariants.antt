@@ -1,6 +1,6 @@
 -- no press at a place before this one turns the scroll lock
 use Rattle.console_states.proofs.Common.{◌≡◌, ◌<◌, ℕ, slice_get, Some, Entry, IsMove, Scroll, Turn, state_of, under_of}
-use Rattle.console_core.proofs.explored.Explored.first_turning.Given as goal
+use Rattle.console_states.proofs.explored.Explored.first_turning.Given as goal
 
 abbrev pub invariant-loop-place : goal.invariant-loop-place
 invariant-loop-place l =

@@ -1,5 +1,5 @@
 use Rattle.console_states.proofs.Common.{IsMove, Scroll, Turn, arith, below_more, refl, state_of, subst, sym, under_of}
-use Rattle.console_core.proofs.held.Held.key_turning.Goals as goal
+use Rattle.console_states.proofs.held.Held.key_turning.Goals as goal
 
 pub loop-code-preserved : goal.loop-code-preserved
 loop-code-preserved c =

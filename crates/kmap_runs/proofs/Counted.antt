@@ -2,7 +2,7 @@
 use Rattle.kmap_runs.proofs.Common.{◌≡◌, ℕ, ◌+◌, ◌<◌, ◌==◌, Bool, true, false, List, [], ◌∷◌, ◌++◌, Option, Some, None}
 use Rattle.kmap_runs.proofs.Common.{refl, ap, subst, sym, ◌∙◌, arith, inl, inr, length, map, not, suc, zero, get_or, All}
 use Rattle.kmap_runs.proofs.Common.{flat_map, range_with_len, if◌then◌else◌, MapValue, Sight, Pair, bases_at, LeftOut}
-use Rattle.kmap_runs.proofs.Common.{get_or_default}
+use Rattle.kmap_runs.proofs.Common.{add-one, get_or_default}
 use Rattle.std.proofs.Common.{◌⊎◌, ◌≢◌, slice_get}
 use Rattle.std.proofs.lemmas.Bool.{true≢false, false≢true, cases_Bool, eqb-true, eq-eqb}
 use Rattle.std.proofs.lemmas.List.{get_or-map, length-map}
@@ -24,11 +24,10 @@ use Rattle.console_states.proofs.Adding.{adds-both, adds-none, adds-one, enumera
 use Rattle.console_states.proofs.Visible.{any-member, some-member}
 use Rattle.keymap_cover.proofs.Telling.{all-told, key-told, map-has, map-of, range-has, range-of, flat-has, flat-of}
 use Rattle.keymap_cover.proofs.Telling.{usable-some}
-use Rattle.keymap_cover.proofs.Verdicts.{counts_are_of_verdicts}
 use Rattle.keymap_cover.specs.declared.parts.Cover.{Cover}
 use Rattle.keymap_cover.specs.declared.parts.Verdict.{Verdict}
 use Rattle.keymap_cover.specs.declared.parts.Verdict.TheVariants.{Seen, Never}
-use Rattle.keymap_cover.specs.Covering.{IsVerdict, is_verdict, verdict_of}
+use Rattle.keymap_cover.specs.Covering.{CountsAreOfVerdicts, IsVerdict, is_verdict, verdict_of}
 use Rattle.keymap_cover.specs.Inner.Pairs.{pairs_in}
 use Rattle.keymap_cover.specs.SightLists.{all_cells, all_lock_settings}
 use Rattle.keymap_cover.specs.Told.{IsBaseOf, IsTold}
@@ -77,7 +76,7 @@ bases-behind ns (p ∷ pairs) =
 tail-once : {X : Type 0} (x : X) (xs : List X) → HasNoDoubles (x ∷ xs) → HasNoDoubles xs
 tail-once x xs once i j d lt len = once (suc i) (suc j) d (omega (arith, lt)) (omega (arith, len))
 
-no-doubles : {X : Type 0} → HasNoDoubles {X} []
+no-doubles : {X : Type 0} → HasNoDoubles {X = X} []
 no-doubles i j d lt len = absurd (omega (arith, len))
 
 append-once : {X : Type 0} (xs ys : List X) → HasNoDoubles xs → HasNoDoubles ys
@@ -160,7 +159,7 @@ pairs-once : (m : MapValue) (n : ℕ)
 pairs-once m zero = no-doubles
 pairs-once m (suc n) =
     let f : ℕ → List Sight = λ i. map (Pair i) (bases_at m i) in
-    subst (λ z. HasNoDoubles z) (sym (pieces_on f n))
+    subst (λ z. HasNoDoubles z) (sym (ap (λ k. flat_map f (range_with_len 0 k)) (sym (add-one n)) ∙ pieces_on f n))
     (append-once (flat_map f (range_with_len 0 n)) (f n) (pairs-once m n) (pairs-told m n).once (λ x before here.
     let (i, among, at) = flat-of f (range_with_len 0 n) x before in
     let (c, has, e) = (pairs-told m i).only x at in
@@ -216,9 +215,9 @@ counted_are_told m is = ((λ x. ((λ told. has x told), (λ there. only x there)
       | inr pair ↦ (pairs.only x pair).1
     ]
 
-pub left_out_cannot_be_visited : LeftOutCannotBeVisited
-left_out_cannot_be_visited m c x is covers has left =
-    by (verdict_of m c x) left (counts_are_of_verdicts m c covers x)
+pub left_out_cannot_be_visited : CountsAreOfVerdicts → LeftOutCannotBeVisited
+left_out_cannot_be_visited verdicts m c x is covers has left =
+    by (verdict_of m c x) left (verdicts m c covers x)
   where
     by : (v : Verdict) → is_verdict LeftOut v ≡ true → IsVerdict m c x v → IsReachable m x × (CanVisit m x → ⊥)
     by Seen e is_so = absurd (false≢true e)

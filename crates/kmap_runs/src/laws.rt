@@ -29,6 +29,7 @@ ghost use Rattle.keymap_lint_text.specs.Shown.{IsPlainText};
 ghost use Rattle.std.specs.Char.{IsScalar};
 
 use keymap_check::laws::safe_maps_keep_their_promise;
+use keymap_cover::laws::counts_are_of_verdicts;
 use keymap_draw::laws::{pictures_are_plain, pictures_are_well_formed, pictures_tell_keymaps};
 use keymap_fmt::laws::keymap_stays;
 use keymap_lint::laws::well_texts_never_stick;
@@ -83,7 +84,9 @@ pub fn printed_demonstrations_leave_a_modifier_on()
 pub fn counted_sights_are_told()
     ensures told { CountedAreTold }
     ensures left_out { LeftOutCannotBeVisited }
-{}
+{
+    counts_are_of_verdicts();
+}
 
 /// What is printed of a cover, its comments with counts and lists, the comment that begins each part and a line for
 /// each event, is a script of exactly these events.

@@ -36,6 +36,9 @@ SHARED = crates/kmap_c/out/libkmap.so
 SONAME = libkmap.so.0
 CALLS = crates/calls/out/calls
 
+# the calls of the library, under each of which its page is found
+NAMES = sed -n 's/^[a-z0-9_ ]* \(kmap_[a-z_]*\)(.*/\1/p' include/kmap.h
+
 LIB = $(DESTDIR)$(LIBDIR)
 INCLUDE = $(DESTDIR)$(INCLUDEDIR)
 SHARE = $(DESTDIR)$(PREFIX)/share
@@ -78,6 +81,7 @@ other-build:
 	sh tests/transcripts.sh $(PROGRAM).by-rattle
 	sh tests/files.sh $(PROGRAM).by-rattle
 	sh tests/swapped_names.sh $(PROGRAM).by-rattle
+	sh tests/stopped.sh $(PROGRAM).by-rattle
 	sh tests/both_builds.sh $(PROGRAM) $(PROGRAM).by-rattle
 
 # the tests of what stands in the repository, and of the scripts themselves: `make test` alone runs these
@@ -98,6 +102,7 @@ scripts:
 	sh tests/files.sh $(PROGRAM)
 	sh tests/cover.sh $(PROGRAM)
 	sh tests/swapped_names.sh $(PROGRAM)
+	sh tests/stopped.sh $(PROGRAM)
 	sh tests/c_library.sh $(PROGRAM) $(LIBRARY)
 	sh tests/completions.sh $(PROGRAM)
 	sh tests/manual.sh $(PROGRAM)
@@ -128,6 +133,7 @@ install: all
 	    sed "s,/usr/local,$$place,g" man/kmap.$$page > "$(MAN)/man$$page/kmap.$$page" && \
 	    chmod 644 "$(MAN)/man$$page/kmap.$$page" || exit 1; \
 	done
+	for name in $$($(NAMES)); do ln -sf kmap.3 "$(MAN)/man3/$$name.3" || exit 1; done
 	$(INSTALL) -m 644 completions/kmap.bash "$(BASH_COMPLETIONS)/kmap"
 	$(INSTALL) -m 644 completions/kmap.fish "$(FISH_COMPLETIONS)/kmap.fish"
 	$(INSTALL) -m 644 completions/_kmap "$(ZSH_COMPLETIONS)/_kmap"
@@ -142,6 +148,7 @@ uninstall:
 	rm -f "$(DESTDIR)$(PREFIX)/bin/kmap" "$(INCLUDE)/kmap.h" "$(LIB)/pkgconfig/kmap.pc"
 	rm -f "$(LIB)/libkmap.a" "$(LIB)/libkmap.so" "$(LIB)/$(SONAME)" "$(LIB)/libkmap.so.$(VERSION)"
 	rm -f "$(MAN)/man1/kmap.1" "$(MAN)/man3/kmap.3" "$(MAN)/man5/kmap.5"
+	for name in $$($(NAMES)); do rm -f "$(MAN)/man3/$$name.3"; done
 	rm -f "$(BASH_COMPLETIONS)/kmap" "$(FISH_COMPLETIONS)/kmap.fish" "$(ZSH_COMPLETIONS)/_kmap"
 	for file in $(EXAMPLE_FILES); do rm -f "$(EXAMPLES)/$$file"; done
 	for file in README.md CHANGELOG.md LICENSE $(DOCUMENTS); do rm -f "$(DOC)/$$file"; done

@@ -19,19 +19,19 @@ static struct kmap_tables tables;
 /* Reads the text and checks it: 0, or 1 after a line that tells why the keymap is refused. */
 static int load(const char *name, size_t length)
 {
-	uint8_t words[KMAP_WORDS_SIZE];
+	char words[KMAP_WORDS_SIZE];
 	struct kmap_text_fault fault;
 	struct kmap_finding finding;
 
 	if (kmap_read_text(text, length, &tables, &fault) != KMAP_OK) {
 		kmap_text_fault_words(fault.kind, words, sizeof words);
 		fprintf(stderr, "load: %s: line %lu, offset %lu: %s\n", name, (unsigned long)fault.line,
-		    (unsigned long)fault.offset, (char *)words);
+		    (unsigned long)fault.offset, words);
 		return 1;
 	}
 	if (kmap_accepts(tables.bytes, sizeof tables.bytes, &finding) != KMAP_OK) {
 		kmap_finding_words(&finding, words, sizeof words);
-		fprintf(stderr, "load: %s: not safe: %s\n", name, (char *)words);
+		fprintf(stderr, "load: %s: not safe: %s\n", name, words);
 		return 1;
 	}
 	return 0;

@@ -68,7 +68,7 @@ static int next_event(uint16_t *event)
 /* Reads a file of tables and checks it: its length, or 0 after a line that tells what is wrong with it. */
 static size_t read_tables(const char *name)
 {
-	uint8_t words[KMAP_WORDS_SIZE];
+	char words[KMAP_WORDS_SIZE];
 	struct kmap_fault fault;
 	size_t length;
 	FILE *file = fopen(name, "rb");
@@ -81,7 +81,7 @@ static size_t read_tables(const char *name)
 	fclose(file);
 	if (kmap_check(tables, length, &fault) != KMAP_OK) {
 		kmap_fault_words(fault.kind, words, sizeof words);
-		fprintf(stderr, "type: %s: offset %lu: %s\n", name, (unsigned long)fault.offset, (char *)words);
+		fprintf(stderr, "type: %s: offset %lu: %s\n", name, (unsigned long)fault.offset, words);
 		return 0;
 	}
 	return length;

@@ -1,5 +1,5 @@
 /*
- * kmap.h: the FreeBSD console's keyboard for C, over the bytes of a table file, which `kmap compile` writes and
+ * kmap.h: the FreeBSD console's keyboard for C and C++, over the bytes of a table file, which `kmap compile` writes and
  * kmap_read_text makes of a keymap text.
  *
  * A console lives in the memory of its caller. No call takes memory, and none keeps a pointer that it was given. What a
@@ -9,6 +9,10 @@
  * Each comment ends with what the call needs, which calls may run at once with it, and the most that it takes of the
  * stack, with its arguments there and its return address, but without what memcpy, memmove and memset take. Bytes stand
  * anywhere, also at an odd address; all else is aligned as its C type is. What is apart has no byte in common.
+ *
+ * A pointer may be null where the length, number or room behind it is 0, and nowhere else. The proofs are of pointers
+ * that aren't null, since in Rattle no slice begins at null, not even one without elements. That each call does the
+ * same with a null pointer to nothing is tested.
  *
  * Any bytes are safe as tables and as a console. The answers are those of the keymap where the bytes are its tables,
  * which kmap_check tells, and where the console was begun by kmap_start and stepped with these tables only.
@@ -163,7 +167,7 @@ struct kmap_finding {
 };
 
 /* Which key bears a modifier or lock, so has it among its cells; `key` is 0 where none or several do. */
-struct kmap_bearer {
+struct kmap_borne {
 	uint8_t kind;
 	uint8_t key;
 };
@@ -191,14 +195,14 @@ static_assert(sizeof(struct kmap_console) == 132, "a console is 132 bytes");
 static_assert(sizeof(struct kmap_fault) == 16, "a fault is 16 bytes");
 static_assert(sizeof(struct kmap_tables) == 15524, "tables are 15,524 bytes");
 static_assert(sizeof(struct kmap_finding) == 12, "a finding is 12 bytes");
-static_assert(sizeof(struct kmap_bearer) == 2, "a bearer is 2 bytes");
+static_assert(sizeof(struct kmap_borne) == 2, "a bearer is 2 bytes");
 static_assert(sizeof(struct kmap_text_fault) == 24, "a fault of a text is 24 bytes");
 #elif defined(__STDC_VERSION__) && __STDC_VERSION__ >= 201112L
 _Static_assert(sizeof(struct kmap_console) == 132, "a console is 132 bytes");
 _Static_assert(sizeof(struct kmap_fault) == 16, "a fault is 16 bytes");
 _Static_assert(sizeof(struct kmap_tables) == 15524, "tables are 15,524 bytes");
 _Static_assert(sizeof(struct kmap_finding) == 12, "a finding is 12 bytes");
-_Static_assert(sizeof(struct kmap_bearer) == 2, "a bearer is 2 bytes");
+_Static_assert(sizeof(struct kmap_borne) == 2, "a bearer is 2 bytes");
 _Static_assert(sizeof(struct kmap_text_fault) == 24, "a fault of a text is 24 bytes");
 #endif
 
@@ -206,7 +210,7 @@ _Static_assert(sizeof(struct kmap_text_fault) == 24, "a fault of a text is 24 by
  * Checks a table file. KMAP_OK if it is the tables of a keymap, and `fault` stays as it was; else KMAP_FAULTY, and
  * `fault` is the first fault.
  *
- * Needs: no null pointer, also where `length` is 0; `length` bytes of `tables`; `fault` aligned and apart from them.
+ * Needs: `length` bytes of `tables`; `fault` aligned and apart from them.
  * At once: calls may share the tables. Stack: 1,100 bytes.
  */
 int32_t kmap_check(const uint8_t *tables, size_t length, struct kmap_fault *fault);
@@ -215,7 +219,7 @@ int32_t kmap_check(const uint8_t *tables, size_t length, struct kmap_fault *faul
  * Reads a keymap text, which kmap(5) describes, of any length. KMAP_OK if it spells a keymap, and then `tables` are its
  * tables; else KMAP_TEXT_FAULT, and `fault` is the first fault.
  *
- * Needs: no null pointer, also where `length` is 0; `length` bytes of `text`; `fault` aligned; the three apart.
+ * Needs: `length` bytes of `text`; `fault` aligned; the three apart.
  * At once: calls may share the text. Stack: 18,000 bytes.
  */
 int32_t kmap_read_text(const uint8_t *text, size_t length, struct kmap_tables *tables, struct kmap_text_fault *fault);
@@ -225,8 +229,8 @@ int32_t kmap_read_text(const uint8_t *text, size_t length, struct kmap_tables *t
  * text stands in front, without a 0 behind it, and bytes past it stay. `size` is how many bytes the text has, also
  * where it is KMAP_NO_ROOM; KMAP_BAD_LENGTH, or else KMAP_FAULTY if these are no tables of a keymap.
  *
- * Needs: no null pointer, also where `length` or `room` is 0; `length` bytes of `tables` and `room` bytes of `text`;
- * `size` aligned; the three apart. At once: calls may share the tables. Stack: 6,400 bytes.
+ * Needs: `length` bytes of `tables` and `room` bytes of `text`; `size` aligned; the three apart.
+ * At once: calls may share the tables. Stack: 6,400 bytes.
  */
 int32_t kmap_print_text(const uint8_t *tables, size_t length, uint8_t *text, size_t room, size_t *size);
 
@@ -240,7 +244,7 @@ int32_t kmap_print_text(const uint8_t *tables, size_t length, uint8_t *text, siz
  * modifier in the tables in force. A key is down where its last press came after its last release, KMAP_RESET or
  * KMAP_LOAD. So once the release of every key that was pressed was delivered, kmap_modifiers answers 0.
  *
- * Needs: no null pointer, also where `length` is 0; `length` bytes of `tables`; `finding` aligned and apart from them.
+ * Needs: `length` bytes of `tables`; `finding` aligned and apart from them.
  * At once: calls may share the tables. Stack: 5,500 bytes.
  */
 int32_t kmap_accepts(const uint8_t *tables, size_t length, struct kmap_finding *finding);
@@ -249,10 +253,10 @@ int32_t kmap_accepts(const uint8_t *tables, size_t length, struct kmap_finding *
  * Which key bears a modifier or lock, by its number as in kmap_finding. KMAP_OK, KMAP_BAD_LENGTH or KMAP_BAD_HOLDING;
  * the answer is that of the keymap where the tables are those of one.
  *
- * Needs: no null pointer, also where `length` is 0; `length` bytes of `tables`; `bearer` apart from them.
+ * Needs: `length` bytes of `tables`; `borne` apart from them.
  * At once: calls may share the tables. Stack: 6,400 bytes.
  */
-int32_t kmap_bearer(const uint8_t *tables, size_t length, uint8_t holding, struct kmap_bearer *bearer);
+int32_t kmap_bearer(const uint8_t *tables, size_t length, uint8_t holding, struct kmap_borne *borne);
 
 /*
  * Tells the cell of a slot, 0 to 255, and a column, 0 to 7: its character, or KMAP_SPCLKEY and the code of its action,
@@ -260,7 +264,7 @@ int32_t kmap_bearer(const uint8_t *tables, size_t length, uint8_t holding, struc
  * upper half, and a slot that isn't in use has eight characters 0. KMAP_OK, KMAP_BAD_LENGTH or KMAP_BAD_PLACE; the
  * cell is that of the keymap where the tables are those of one.
  *
- * Needs: no null pointer, also where `length` is 0; `length` bytes of `tables`; `cell` aligned and apart from them.
+ * Needs: `length` bytes of `tables`; `cell` aligned and apart from them.
  * At once: calls may share the tables. Stack: 100 bytes.
  */
 int32_t kmap_cell(const uint8_t *tables, size_t length, uint32_t slot, uint32_t column, uint32_t *cell);
@@ -269,41 +273,41 @@ int32_t kmap_cell(const uint8_t *tables, size_t length, uint32_t slot, uint32_t 
  * Puts the name of the action of a code into `room` bytes, as keymap(5) has it, and a 0 behind it. KMAP_OK;
  * KMAP_BAD_CODE if no action has the code; or KMAP_NO_ROOM. KMAP_NAME_SIZE bytes are room for each.
  *
- * Needs: `name` not null, also where `room` is 0; `room` bytes of it. At once: calls with other names.
+ * Needs: `room` bytes of `name`. At once: calls with other names.
  * Stack: 100 bytes.
  */
-int32_t kmap_action_name(uint32_t code, uint8_t *name, size_t room);
+int32_t kmap_action_name(uint32_t code, char *name, size_t room);
 
 /*
  * Puts the sentence of a kind of fault of tables into `room` bytes, and a 0 behind it. KMAP_OK; KMAP_BAD_KIND if the
  * number names no kind; or KMAP_NO_ROOM. KMAP_WORDS_SIZE bytes are room for each.
  *
- * Needs: `words` not null, also where `room` is 0; `room` bytes of it. At once: calls with other words.
+ * Needs: `room` bytes of `words`. At once: calls with other words.
  * Stack: 64 bytes.
  */
-int32_t kmap_fault_words(uint32_t kind, uint8_t *words, size_t room);
+int32_t kmap_fault_words(uint32_t kind, char *words, size_t room);
 
 /*
  * The same of a kind of fault of a text.
  *
- * Needs: `words` not null, also where `room` is 0; `room` bytes of it. At once: calls with other words.
+ * Needs: `room` bytes of `words`. At once: calls with other words.
  * Stack: 64 bytes.
  */
-int32_t kmap_text_fault_words(uint32_t kind, uint8_t *words, size_t room);
+int32_t kmap_text_fault_words(uint32_t kind, char *words, size_t room);
 
 /*
  * The same of what a finding does, as `kmap check` says it. KMAP_BAD_HOLDING if the finding has the number of no
  * modifier or lock.
  *
- * Needs: no null pointer, also where `room` is 0; `room` bytes of `words`; `finding` aligned and apart from them.
+ * Needs: `room` bytes of `words`; `finding` aligned and apart from them.
  * At once: calls with other words. Stack: 400 bytes.
  */
-int32_t kmap_finding_words(const struct kmap_finding *finding, uint8_t *words, size_t room);
+int32_t kmap_finding_words(const struct kmap_finding *finding, char *words, size_t room);
 
 /*
  * Begins a console: nothing on, nothing pending, and the first keymap in force.
  *
- * Needs: `console` not null and aligned. At once: calls with other consoles. Stack: 16 bytes.
+ * Needs: `console` aligned. At once: calls with other consoles. Stack: 16 bytes.
  */
 void kmap_start(struct kmap_console *console);
 
@@ -311,8 +315,8 @@ void kmap_start(struct kmap_console *console);
  * Delivers an event to a console of one keymap, where KMAP_LOAD acts as KMAP_RESET, and puts the answer in place.
  * KMAP_OK, KMAP_BAD_LENGTH or KMAP_BAD_EVENT.
  *
- * Needs: no null pointer, also where `length` is 0; `length` bytes of `tables`; `console` and `answer` aligned; the
- * three apart. At once: calls with other consoles and answers, also over the same tables. Stack: 400 bytes.
+ * Needs: `length` bytes of `tables`; `console` and `answer` aligned; the three apart.
+ * At once: calls with other consoles and answers, also over the same tables. Stack: 400 bytes.
  */
 int32_t kmap_step(const uint8_t *tables, size_t length, struct kmap_console *console, uint16_t event,
     uint32_t *answer);
@@ -320,9 +324,8 @@ int32_t kmap_step(const uint8_t *tables, size_t length, struct kmap_console *con
 /*
  * The same to a console between two keymaps. Each KMAP_LOAD puts the other one in force.
  *
- * Needs: no null pointer, also where a length is 0; as many bytes of the tables as their lengths say; `console` and
- * `answer` aligned; all apart, but tables may overlap each other. At once: calls with other consoles and answers,
- * also over the same tables. Stack: 400 bytes.
+ * Needs: as many bytes of the tables as their lengths say; `console` and `answer` aligned; all apart, but tables may
+ * overlap each other. At once: calls with other consoles and answers, also over the same tables. Stack: 400 bytes.
  */
 int32_t kmap_step_between(const uint8_t *first, size_t first_length, const uint8_t *second, size_t second_length,
     struct kmap_console *console, uint16_t event, uint32_t *answer);
@@ -332,8 +335,8 @@ int32_t kmap_step_between(const uint8_t *first, size_t first_length, const uint8
  * to each in place. Answers past the number of events stay. KMAP_OK, KMAP_BAD_LENGTH, KMAP_BAD_EVENT or KMAP_NO_ROOM;
  * where it isn't KMAP_OK, no event was delivered.
  *
- * Needs: no null pointer, also where a length or number is 0; as many bytes, events and places for answers as the
- * lengths and numbers say; `console`, `events` and `answers` aligned; all apart, but tables may overlap each other.
+ * Needs: as many bytes, events and places for answers as the lengths and numbers say; `console`, `events` and
+ * `answers` aligned; all apart, but tables may overlap each other.
  * At once: calls with other consoles and answers, also over the same tables and events. Stack: 400 bytes.
  */
 int32_t kmap_deliver(const uint8_t *first, size_t first_length, const uint8_t *second, size_t second_length,
@@ -342,21 +345,21 @@ int32_t kmap_deliver(const uint8_t *first, size_t first_length, const uint8_t *s
 /*
  * Which modifiers are on, as KMAP_LSHIFT to KMAP_META.
  *
- * Needs: `console` not null and aligned. At once: calls that don't write this console. Stack: 16 bytes.
+ * Needs: `console` aligned. At once: calls that don't write this console. Stack: 16 bytes.
  */
 uint8_t kmap_modifiers(const struct kmap_console *console);
 
 /*
  * Which locks are on, as KMAP_CLOCK to KMAP_ALOCK.
  *
- * Needs: `console` not null and aligned. At once: calls that don't write this console. Stack: 16 bytes.
+ * Needs: `console` aligned. At once: calls that don't write this console. Stack: 16 bytes.
  */
 uint8_t kmap_locks(const struct kmap_console *console);
 
 /*
  * The index of the pending accent, 0 for dgra to 14, or -1 where none is pending.
  *
- * Needs: `console` not null and aligned. At once: calls that don't write this console. Stack: 16 bytes.
+ * Needs: `console` aligned. At once: calls that don't write this console. Stack: 16 bytes.
  */
 int32_t kmap_pending(const struct kmap_console *console);
 

@@ -52,14 +52,15 @@ static const uint8_t text[] = "30 'a' 'A' nop nop nop nop nop nop C\n"
     "42 lshift lshift lshift lshift lshift lshift lshift lshift O\n";
 static struct kmap_tables tables;
 static struct kmap_console console;
-static uint8_t printed[1024], words[KMAP_WORDS_SIZE];
+static uint8_t printed[1024];
+static char words[KMAP_WORDS_SIZE];
 
 static int are_read(void)
 {
 	struct kmap_text_fault fault;
 	struct kmap_fault table_fault;
 	struct kmap_finding finding = { 'x', 42, 0, 42, 0, 30, 0 };
-	struct kmap_bearer bearer;
+	struct kmap_borne bearer;
 	uint32_t cell;
 	size_t size;
 

@@ -212,7 +212,7 @@ static const struct {
 
 static void check_names(void)
 {
-	uint8_t name[KMAP_NAME_SIZE + 1];
+	char name[KMAP_NAME_SIZE + 1];
 	char which[64];
 	int32_t status;
 	size_t i;
@@ -224,7 +224,7 @@ static void check_names(void)
 		if (names[i].name == NULL)
 			holds(which, status == KMAP_BAD_CODE && name[0] == 0x5a);
 		else
-			holds(which, status == KMAP_OK && strcmp((char *)name, names[i].name) == 0
+			holds(which, status == KMAP_OK && strcmp(name, names[i].name) == 0
 			    && name[KMAP_NAME_SIZE] == 0x5a);
 	}
 	memset(name, 0x5a, sizeof name);

@@ -276,12 +276,18 @@ assert str(Action(1)) == "" and repr(Action(2)) == "<Action 2 lshift>"' "$exampl
     fi
 fi
 
-if is_there c++; then
-    printf '%s\n' '#include <kmap.h>' 'int main() { kmap_tables t; kmap_text_fault f; kmap_finding n; kmap_console c;' \
-        'kmap_start(&c); return kmap_read_text((const uint8_t *)"", 0, &t, &f) + kmap_pending(&c) + 1' \
-        '+ kmap_accepts(t.bytes, sizeof t.bytes, &n); }' > calls.cc
-    holds 'the header is good C++' c++ -Wall -Wextra -Werror -pedantic -I "$top/include" calls.cc "$library" -o called
-    holds 'a C++ program runs' ./called
-fi
+# In C++ the header is clean, and each call and struct of it is used.
+calls_of "$top/include/kmap.h" > named
+sed -n 's/^struct \(kmap_[a-z_]*\) {$/\1/p' "$top/include/kmap.h" >> named
+unused=$(while read -r name; do grep -qw "$name" "$top/tests/c_plus_plus.cc" || echo "$name"; done < named)
+holds "the program in C++ uses all that the header declares, but: $unused" [ -z "$unused" ]
+for compiler in g++ clang++; do
+    if is_there "$compiler"; then
+        holds "the header is clean C++ for $compiler" "$compiler" -std=c++17 -Wall -Wextra -Wpedantic -Wconversion \
+            -Wshadow -Werror -I "$top/include" "$top/tests/c_plus_plus.cc" "$library" -o "by_$compiler"
+        "./by_$compiler"
+        holds "what $compiler made gets the answers, but for that of number: $?" [ $? -eq 0 ]
+    fi
+done
 
 counted

@@ -15,14 +15,15 @@ static ucontext_t outside, inside;
 static void (*called)(void);
 
 /* What the calls are given, and what they write. */
-static uint8_t text[1 << 17], printed[1 << 17], words[KMAP_WORDS_SIZE];
+static uint8_t text[1 << 17], printed[1 << 17];
+static char words[KMAP_WORDS_SIZE];
 static size_t length, room, size;
 static struct kmap_tables tables;
 static struct kmap_console console;
 static struct kmap_fault fault;
 static struct kmap_text_fault text_fault;
 static struct kmap_finding finding;
-static struct kmap_bearer bearer;
+static struct kmap_borne bearer;
 static uint16_t events[258];
 static uint32_t kind, answer, answers[258];
 static uint8_t holding;

@@ -1,6 +1,7 @@
 /*
  * Reads, prints and checks keymaps by the C library: each status, each kind of a fault of a text, a finding in each
- * place, who bears what, and noise. What is wanted was put together by hand from keymap(5) and docs/FORMATS.md.
+ * place, who bears what, null pointers to nothing, and noise. What is wanted was put together by hand from keymap(5) and
+ * docs/FORMATS.md.
  *
  * usage: c_texts
  */
@@ -141,7 +142,7 @@ static void check_acceptance(void)
 static void check_bearers(void)
 {
 	struct kmap_text_fault fault;
-	struct kmap_bearer bearer = { 7, 7 };
+	struct kmap_borne bearer = { 7, 7 };
 	int32_t status;
 
 	read_text("42 lshift lshift lshift lshift lshift lshift lshift lshift O 54 rshift " NOPS7 " O\n"
@@ -193,18 +194,18 @@ static void check_words(void)
 {
 	static const char said[] = "key 42: lctrl at slot 170 column 3, character at slot 42 column 7";
 	struct kmap_finding finding = { 'x', 42, 2, 170, 3, 42, 7 };
-	uint8_t words[KMAP_WORDS_SIZE], untold[KMAP_WORDS_SIZE];
+	char words[KMAP_WORDS_SIZE], untold[KMAP_WORDS_SIZE];
 	uint32_t kind;
 
 	for (kind = 1; kind <= KMAP_TEXT_END_INSIDE; kind++) {
 		memset(words, 0x5a, sizeof words);
 		holds("a sentence for each kind of a fault of a text", kmap_text_fault_words(kind, words, sizeof words) == KMAP_OK
-		    && strlen((char *)words) > 10);
+		    && strlen(words) > 10);
 	}
 	for (kind = 1; kind <= KMAP_NOT_EMPTY; kind++) {
 		memset(words, 0x5a, sizeof words);
 		holds("a sentence for each kind of a fault of tables", kmap_fault_words(kind, words, sizeof words) == KMAP_OK
-		    && strlen((char *)words) > 10);
+		    && strlen(words) > 10);
 	}
 	memset(words, 0x5a, sizeof words);
 	holds("a finding", kmap_finding_words(&finding, words, sizeof said) == KMAP_OK
@@ -222,14 +223,53 @@ static void check_words(void)
 	holds("nothing is said", memcmp(words, untold, sizeof words) == 0);
 }
 
+/* A null pointer to nothing is as good as any other one. */
+static void check_nothing(void)
+{
+	struct kmap_text_fault text_fault;
+	struct kmap_fault fault;
+	struct kmap_finding finding = { 'x', 42, 2, 170, 3, 42, 7 };
+	struct kmap_borne borne;
+	struct kmap_console console;
+	uint16_t event = KMAP_PRESS(30);
+	uint32_t answer;
+	size_t size = 7;
+
+	kmap_start(&console);
+	holds("no text", kmap_read_text(NULL, 0, &tables, &text_fault) == KMAP_OK && tables.bytes[0] == 0);
+	holds("no tables", kmap_check(NULL, 0, &fault) == KMAP_FAULTY && fault.kind == KMAP_SHORT && fault.offset == 0);
+	holds("no tables to accept", kmap_accepts(NULL, 0, &finding) == KMAP_BAD_LENGTH);
+	holds("no tables to print", kmap_print_text(NULL, 0, NULL, 0, &size) == KMAP_BAD_LENGTH && size == 7);
+	holds("no tables with bearers", kmap_bearer(NULL, 0, 0, &borne) == KMAP_BAD_LENGTH);
+	holds("no tables with cells", kmap_cell(NULL, 0, 0, 0, &answer) == KMAP_BAD_LENGTH);
+	holds("no tables to step over", kmap_step(NULL, 0, &console, event, &answer) == KMAP_BAD_LENGTH
+	    && kmap_step_between(NULL, 0, tables.bytes, sizeof tables.bytes, &console, event, &answer) == KMAP_BAD_LENGTH
+	    && kmap_step_between(tables.bytes, sizeof tables.bytes, NULL, 0, &console, event, &answer) == KMAP_BAD_LENGTH);
+	holds("no text of no keys", kmap_print_text(tables.bytes, sizeof tables.bytes, NULL, 0, &size) == KMAP_OK
+	    && size == 0);
+	holds("no events", kmap_deliver(tables.bytes, sizeof tables.bytes, tables.bytes, sizeof tables.bytes, &console,
+	    NULL, 0, NULL, 0) == KMAP_OK);
+	holds("no room for answers", kmap_deliver(tables.bytes, sizeof tables.bytes, tables.bytes, sizeof tables.bytes,
+	    &console, &event, 1, NULL, 0) == KMAP_NO_ROOM);
+	holds("no tables to deliver to", kmap_deliver(NULL, 0, NULL, 0, &console, NULL, 0, NULL, 0) == KMAP_BAD_LENGTH);
+	read_text("030 'a' 'A' nop nop nop nop nop nop O", &text_fault);
+	holds("no room for a text", kmap_print_text(tables.bytes, sizeof tables.bytes, NULL, 0, &size) == KMAP_NO_ROOM
+	    && size > 7);
+	holds("no room for a name", kmap_action_name(2, NULL, 0) == KMAP_NO_ROOM);
+	holds("no room for words", kmap_fault_words(KMAP_SHORT, NULL, 0) == KMAP_NO_ROOM
+	    && kmap_text_fault_words(KMAP_TEXT_BAD_BYTE, NULL, 0) == KMAP_NO_ROOM
+	    && kmap_finding_words(&finding, NULL, 0) == KMAP_NO_ROOM);
+}
+
 /* Any bytes are safe as a text, as tables and as a finding: this only has to come back. */
 static void check_noise(void)
 {
 	static const char words[] = "030 'a' nop lshift ( ) dgra fkey 0x O C # \n\t\xc3\xa4 '";
 	static uint8_t text[4096], printed[65536];
+	static char said[KMAP_WORDS_SIZE];
 	struct kmap_text_fault fault;
 	struct kmap_finding finding;
-	struct kmap_bearer bearer;
+	struct kmap_borne bearer;
 	uint32_t number = 1;
 	size_t i, round, size, read = 0;
 
@@ -247,7 +287,7 @@ static void check_noise(void)
 		kmap_bearer(tables.bytes, sizeof tables.bytes, (uint8_t)(round % 12), &bearer);
 		kmap_print_text(tables.bytes, sizeof tables.bytes, printed, sizeof printed, &size);
 		memcpy(&finding, text, sizeof finding);
-		kmap_finding_words(&finding, printed, sizeof printed);
+		kmap_finding_words(&finding, said, sizeof said);
 	}
 	holds("noise comes back", read < round);
 }
@@ -260,6 +300,7 @@ int main(void)
 	check_bearers();
 	check_printing();
 	check_words();
+	check_nothing();
 	check_noise();
 	printf("%u passed, %u failed\n", passed, failed);
 	return failed != 0;

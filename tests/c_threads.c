@@ -31,9 +31,10 @@ struct work {
 	struct kmap_fault fault;
 	struct kmap_text_fault text_fault;
 	struct kmap_finding finding;
-	struct kmap_bearer bearer;
+	struct kmap_borne bearer;
 	uint32_t answers[EVENTS], sum;
-	uint8_t printed[1 << 15], words[KMAP_WORDS_SIZE];
+	uint8_t printed[1 << 15];
+	char words[KMAP_WORDS_SIZE];
 	unsigned wrong;
 };
 

@@ -110,6 +110,7 @@ broken man/kmap.1 '/^\.It Fl Fl typed/d' 'failed: kmap(1) has the option --typed
 broken man/kmap.1 's/BadWord/BadWards/' 'failed: kmap(1) tells of BadWord' manual
 broken man/kmap.1 's/^\.It dead-key$/.It dead-keys/' 'failed: kmap(1) tells what to do about dead-key' manual
 broken man/kmap.3 's/KMAP_BAD_KIND/KMAP_KIND/' 'failed: kmap(3) tells of KMAP_BAD_KIND' manual
+broken man/kmap.3 's/^\.Nm kmap_press/.Nm kmap_presses/' 'failed: kmap(3) has the name kmap_press' manual
 broken man/kmap.3 's/^\(\.F[on]\) kmap_start/\1 kmap_begin/' 'failed: kmap(3) tells of kmap_start' manual
 broken man/kmap.3 's/^\(\.It Fn kmap_check Ta\) .*/\1 100/' \
     'failed: kmap(3) tells of the stack what the header does' manual
@@ -305,7 +306,9 @@ int kmap_process(void)
 END
     "$cc" -O2 -mred-zone -fPIC -c other.c && ar r "$made/libkmap_c.a" other.o 2> said
     "$cc" -shared -Wl,--whole-archive "$made/libkmap_c.a" -Wl,--no-whole-archive -o "$made/libkmap.so"
-    breaks include/kmap.h 's/Stack: 18,000/Stack: 17,000/; s/KMAP_BAD_EVENT (-2)/KMAP_BAD_EVENT (-9)/'
+    breaks include/kmap.h 's/Stack: 18,000/Stack: 17,000/; s/KMAP_BAD_EVENT (-2)/KMAP_BAD_EVENT (-9)/
+        s/return KMAP_RELEASE(key);/return 128 + key;/; s/^int32_t kmap_check.*/&\
+int32_t kmap_check_it(void);/'
     breaks tests/c_library.sh 's/ 5712$/ 4096/'
     breaks tests/c_texts.c 's/uint8_t text.256.;/static uint8_t text[16];/; s/, sizeof text, &size/, 256, \&size/'
     UNPROVED= sh copy/tests/c_library.sh "$program" "$made/libkmap_c.a" 0 > said 2>&1
@@ -317,10 +320,51 @@ END
     for line in 'nothing is kept below the stack pointer' 'the library has no memory of its own'; do
         ! is_there objdump || holds "it does not say: $line" grep -q "^failed: $line" said
     done
+    holds 'it does not say what is not used in C++' \
+        grep -q '^failed: the program in C++ uses all that the header declares, but: kmap_check_it' said
+    for compiler in g++ clang++; do
+        ! is_there $compiler || holds "it does not say: the header is clean C++ for $compiler" \
+            grep -q "^failed: the header is clean C++ for $compiler" said
+    done
     ! is_there size || holds 'it does not say what a program pays' grep -q '^failed: a program that only steps' said
     grep -q '^skipped: there are no sanitizers' said ||
         holds 'the sanitizers do not find the short buffer' grep -q '^SUMMARY: AddressSanitizer: .*overflow' said
     for file in include/kmap.h tests/c_library.sh tests/c_texts.c; do mended $file; done
+fi
+
+# A program that empties a file before it writes it: where it is killed behind that, nothing is whole.
+if is_there "$cc"; then
+    cat > empties << SH
+#!/bin/sh
+case "\$1 \$2" in
+--version* | fmt\ --check)
+    exec "$program" "\$@"
+    ;;
+fmt*)
+    shift
+    for file do
+        "$program" fmt --print "\$file" > "$folder/made"
+        : > "\$file"
+        cp "$folder/made" "\$file"
+    done
+    ;;
+*)
+    for file do :; done
+    "$program" "\$@"
+    cp "\$file" "$folder/made"
+    : > "\$file"
+    cp "$folder/made" "\$file"
+    ;;
+esac
+SH
+    chmod +x empties
+    sh "$top/tests/stopped.sh" ./empties > said 2>&1
+    if ! grep -q '^skipped: no program may be traced' said; then
+        for way in fmt 'fmt of two texts' compile 'compile --narrow'; do
+            holds "a file that $way empties is called whole" \
+                grep -q "^failed: $way by a new file, killed before its call [0-9]*: the old or the new one is whole" said
+        done
+    fi
 fi
 
 # A program from which no memory is refused.

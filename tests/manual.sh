@@ -66,6 +66,9 @@ holds 'the header has the functions of the sources' [ "$(echo "$exported" | sort
 for function in $functions; do
     holds "kmap(3) tells of $function" grep -q "^\.F[on] $function" man/kmap.3
 done
+for function in $(calls_of include/kmap.h); do
+    holds "kmap(3) has the name $function" grep -qxE "\.Nm $function( ,)?" man/kmap.3
+done
 lacking=$(awk '/^\/\*/ { said = "" } { said = said $0 } /^[a-z0-9_]+ kmap_[a-z_]+\(/ { sub("\\(.*", "", $2)
     if (said !~ / Needs: .* At once: .* Stack: [0-9,]+ bytes/) print $2; said = "" }' include/kmap.h)
 holds "the comment of each function says what it needs and takes, but of: $lacking" [ -z "$lacking" ]

@@ -1,5 +1,5 @@
 #!/bin/sh
-# Checks that docs/ARCHITECTURE.md has the crates of crates.txt and no others, that its table of modules names the files
+# Checks that docs/ARCHITECTURE.md has the crates of crates.txt and no others, that its lists of modules name the files
 # of each crate that it lists, and no others, and that each path that a page names is there.
 #
 # usage: modules.sh
@@ -33,13 +33,11 @@ lines = open("crates.txt", encoding="utf-8").read().splitlines()
 listed = {it.split(":")[0].split()[0] for it in lines if it and not it.startswith("#")}
 tell(named == listed, f"docs/ARCHITECTURE.md has the crates of crates.txt: {sorted(named ^ listed)}")
 table = page.split("\n## The modules of each crate\n")[1].split("\n## ")[0]
-for row in re.findall(r"^\| (\w+) \|(.*)\|(.*)\|(.*)\|$", table, re.M):
-    crate, cells = row[0], row[1:]
-    if crate == "crate":
-        continue
-    for (part, files, name), cell in zip(PARTS, cells):
+for crate, text in re.findall(r"^\*\*(\w+)\*\*\n(.*?)\n(?=\n(?!- )|\Z)", table, re.M | re.S):
+    lists = dict(re.findall(r"^- `([\w/]+/)`: (.*?)(?=\n- |\Z)", text.strip(), re.M | re.S))
+    for part, files, name in PARTS:
         there = {os.path.splitext(os.path.basename(it))[0] for it in glob.glob(f"crates/{crate}/{part}{files}")}
-        told = set(re.findall(name, cell))
+        told = set(re.findall(name, lists.get(part, "")))
         tell(there - COMMON == told - COMMON, f"docs/ARCHITECTURE.md names each file of {part} of {crate}, and no other")
 paths = {"/".join(it.split("/")[2:]) for it in glob.glob("crates/**", recursive=True)}
 for page in ["README.md", "CONTRIBUTING.md", *sorted(glob.glob("docs/*.md"))]:

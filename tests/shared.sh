@@ -69,6 +69,11 @@ variants() {
     sed -n "/^pub enum $2 {/,/^}/s/^    \([A-Z][A-Za-z]*\).*/\1/p" "$1"
 }
 
+# calls_of HEADER: the functions that a header declares, and those that stand in it, one a line
+calls_of() {
+    sed -n 's/^[a-z0-9_ ]* \(kmap_[a-z_]*\)(.*/\1/p' "$1"
+}
+
 # stacks_of HEADER: the functions that a header declares, each with how much stack its comment says that it takes
 stacks_of() {
     awk '/Stack: [0-9,]+ bytes\.$/ { bytes = $(NF - 1); gsub(",", "", bytes) }

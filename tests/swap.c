@@ -1,7 +1,7 @@
 /*
  * Preloaded into a program, puts a link to SWAP_TARGET into the place of the file SWAP_NAME, once, right before the
  * call that SWAP_AT names. With RUN_AT in place of it, the shell's command RUN runs there, once. With END_AT, the
- * program ends before that call by the signal END_BY; where END_SKIPS is set, before the one behind so many of them.
+ * program ends before that call by the signal END_BY.
  *
  * Built with RACER defined it is a program, which does the same as soon as there is such a file, again and again:
  *
@@ -33,7 +33,6 @@ static void before(const char *call) {
     const char *at = getenv("SWAP_AT");
     const char *end = getenv("END_AT");
     const char *run = getenv("RUN_AT");
-    static int passed;
     if (run && strcmp(run, call) == 0) {
         /* What runs there is not looked at. */
         unsetenv("RUN_AT");
@@ -41,8 +40,7 @@ static void before(const char *call) {
         if (system(getenv("RUN")) != 0)
             fputs("run: failed\n", stderr);
     }
-    const char *skips = getenv("END_SKIPS");
-    if (end && strcmp(end, call) == 0 && passed++ == (skips ? atoi(skips) : 0)) {
+    if (end && strcmp(end, call) == 0) {
         /* A shell may have started it with the signal ignored, as it does in the background. */
         int number = atoi(getenv("END_BY"));
         signal(number, SIG_DFL);

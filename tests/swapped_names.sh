@@ -1,7 +1,7 @@
 #!/bin/sh
 # Replaces files of folders that others may write to, who put links into the place of names meanwhile: whatever they do,
-# no other file changes its owner, its rights or its bytes. What they save meanwhile stays, and where a run is ended,
-# one text is whole.
+# no other file changes its owner, its rights or its bytes. What they save meanwhile stays, and a signal that ends a run
+# leaves the old file.
 #
 # usage: swapped_names.sh PROGRAM
 # The last line is 'N passed, M failed'; the status is 0 where none failed. It needs the C compiler that CC names, cc
@@ -188,41 +188,5 @@ out.kmap-new" ]
         holds "compile, ended at $call by $signal: is written" [ "$(wc -c < home/out)" -eq 15524 ]
     done
 done
-
-# is_whole OLD NEW NAME SUFFIX: the file of this name is one of the two, or the new one lies beside it
-is_whole() {
-    cmp -s "$1" "$3" || cmp -s "$2" "$3" || cmp -s "$2" "$3$4"
-}
-
-# A file of another user is written in place, with the new one beside it: whenever that ends, one of the two has one of
-# the texts whole, and no later run is hindered.
-if [ "$(id -u)" -eq 0 ] && is_there setpriv; then
-    as_nobody="env LD_PRELOAD=$folder/swap.so END_BY=9 setpriv --reuid=$nobody --regid=$nobody --clear-groups"
-    { cat odd; printf '# a comment %500s\n' ''; } > old.text
-    cp old.text new.text
-    "$program" fmt new.text > stdout
-    "$program" compile odd new.tables
-    echo old > old.tables
-    # each of these calls, and how many like it come before; the last one prints the name
-    for place in fchown:0 write:0 ftruncate:0 fsync:0 write:1 ftruncate:1 fsync:1 unlink:0 write:2; do
-        begin
-        chown 0:0 home/k.kbd home/out
-        cp old.text home/k.kbd
-        chmod 666 home/k.kbd home/out
-        export END_AT=${place%:*} END_SKIPS=${place#*:}
-        $as_nobody "$program" fmt home/k.kbd > stdout 2> stderr
-        holds "fmt in place, ended at $place: status" [ $? -eq 137 ]
-        holds "fmt in place, ended at $place: a text is whole" is_whole old.text new.text home/k.kbd .kmap-fmt
-        [ $place = write:2 ] || $as_nobody "$program" compile odd home/out > stdout 2> stderr
-        holds "compile in place, ended at $place: a file is whole" is_whole old.tables new.tables home/out .kmap-new
-        unset END_AT END_SKIPS
-        $as_nobody "$program" fmt home/k.kbd > stdout 2> stderr
-        $as_nobody "$program" compile odd home/out
-        holds "fmt in place, ended at $place: goes on" cmp -s new.text home/k.kbd
-        holds "compile in place, ended at $place: goes on" cmp -s new.tables home/out
-        holds "in place, ended at $place: the owner stays" [ "$(stat -c '%u %a' home/k.kbd home/out)" = "0 666
-0 666" ]
-    done
-fi
 
 counted

@@ -1,10 +1,11 @@
 `kmap cover` prints a script that tests a console, behind comments on what it leaves out and what never comes.
 
-`covers` makes the file `script`: it has a line of answers for each event, and at its end no modifier is on. `begins`
-prints the comments before the events, and `parts` those that name a part.
+`covers` makes the file `script`: it has a line of answers for each event, and at its end neither a modifier nor the
+scroll lock is on. `begins` prints the comments before the events, and `parts` those that name a part.
   $ covers() {
   >     kmap cover "$1" > script && kmap play "$1" script > answers &&
-  >         [ "$(wc -l < answers)" -eq "$(grep -vc '^#' script)" ] && tail -n 1 answers | grep -q 'mods none'
+  >         [ "$(wc -l < answers)" -eq "$(grep -vc '^#' script)" ] &&
+  >         tail -n 1 answers | grep -q 'mods none; locks [^s]*$'
   > }
   $ begins() {
   >     sed '/^# cells$/,$d' script
@@ -92,6 +93,24 @@ alock turns on by a key of the lower half that is a letter in the upper one: its
   # one-way
   $ grep '^# cells:' script
   # cells: 256, left out 0, never 1792
+
+The scroll lock is turned off behind the trials: at once, or with shift. What turns it on behind a one-way turn turns it
+off there.
+  $ echo '70 nop slock nop nop nop nop nop nop O 42 lshift lshift lshift lshift lshift lshift lshift lshift O' > scroll
+  $ covers scroll
+  $ covers "$examples/us.kbd"
+  $ tail -n 3 script
+  reset
+  down 70
+  up 70
+  $ echo '198 slock slock slock slock slock slock slock slock O' | cat oneway - > behind
+  $ covers behind
+  $ sed '1,/^# one-way$/d' script | tail -n 5
+  down 70
+  up 70
+  reset
+  down 70
+  up 70
 
 A dead key that only a lock which stays on leads to, and a base that no key has behind it: each is looked up, and no list
 of events composes them. Where a key has the base there too, they can be composed:

@@ -92,17 +92,17 @@ The examples type all of ASCII:
   $ kmap type "$examples/us.kbd" sentence > script
   $ kmap type "$examples/de.kbd" sentence > script
 
-A character that no key types:
+A character that no keys type:
   $ printf 'ab' > sentence
   $ kmap type shift sentence
-  ! kmap: sentence offset 1: no key types U+0062
+  ! kmap: sentence offset 1: no keys found for U+0062
   [1]
   $ printf '😀' > sentence
   $ kmap type shift sentence
-  ! kmap: sentence offset 0: no key types U+1f600
+  ! kmap: sentence offset 0: no keys found for U+1f600
   [1]
 
-A sentence that is no UTF-8, which is told before what no key types:
+A sentence that is no UTF-8, which is told before a character that no keys type:
   $ printf 'a\303(' > sentence
   $ kmap type shift sentence
   ! kmap: sentence offset 1: not UTF-8
@@ -197,11 +197,25 @@ A character from which no keys lead back to where the lock is off:
   $ echo '186 nop nop nop nop nop nop nop nop O' >> one_way
   $ printf 'aα' > sentence
   $ kmap type one_way sentence
-  ! kmap: sentence offset 1: no key types U+03b1
+  ! kmap: sentence offset 1: no keys found for U+03b1
   [1]
 
-Of more than 65,536 states what is found among those that were met is typed, and of nothing else it is said that no key
-types it:
+A character that only presses type by which the console forgets a modifier: they are not looked for.
+  $ cat > forgets << 'END'
+  > 29 lctrl lctrl lctrl lctrl lctrl lctrl lctrl lctrl O
+  > 30 'a' 'a' 'a' 'a' 'a' 'a' 'a' 'a' O
+  > 42 lshift 'x' nop lshift nop nop nop nop O
+  > END
+  $ printf x > sentence
+  $ kmap type forgets sentence
+  ! kmap: sentence offset 0: no keys found for U+0078
+  [1]
+  $ printf '%s\n' 'down 42' 'repeat 42' 'up 42' 'down 29' 'down 42' 'up 42' 'up 29' > script
+  $ kmap play --typed forgets script
+  x (no-eol)
+
+Of more than 65,536 states what is found among those that were met is typed, and of nothing else it is said that no keys
+were found:
   $ awk 'BEGIN {
   >     split("lshift rshift lctrl rctrl lalt ralt", name, " ")
   >     for (key = 0; key < 48; key++) {

@@ -1,10 +1,10 @@
-//! The calls of console_core, and of keymap_cover, which stands on it.
+//! The calls of console_core and console_states, and of keymap_cover, which stands on them.
 use crate::devices::mark;
 use crate::inputs::{Call, Lent};
 use crate::outcome::{Outcome, ended, ended_keeping};
-use console_core::{
-    Event, Explorer, PlainConsole, Sight, Sticking, Translator, WordConsole, find_onward, replay,
-    sights_of, sticking, sticking_between, type_characters,
+use console_core::{Event, PlainConsole, Translator, WordConsole, replay};
+use console_states::{
+    Explorer, Sight, Sticking, find_onward, sights_of, sticking, sticking_between, type_characters,
 };
 use keymap_core::{KeyCode, Lock, Modifier, Write};
 use keymap_cover::{Seen, cells, cover_of, lock_settings};
@@ -156,7 +156,7 @@ fn explores<W: Write>(alloc: Global, lent: &Lent, marks: &mut W) -> Outcome {
     ended_keeping(&given, matches!(&given, Ok(Some(_))), lent.is_kept())
 }
 
-/// Whether it is a list with events.
+/// Whether a call gave a list with events.
 fn has_events(given: &Result<Vec<Event>, AllocError>) -> bool {
     matches!(given, Ok(events) if !events.is_empty())
 }

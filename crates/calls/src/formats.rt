@@ -51,7 +51,7 @@ pub(crate) fn of_files<W: Write>(
     Some(outcome)
 }
 
-/// Whether it is the keymap of the sample, by its greatest slot.
+/// Whether a call gave the keymap of the sample, by its greatest slot.
 fn is_sample<E>(given: &Result<KeyMap, E>) -> bool {
     matches!(given, Ok(map) if map.n_keys() == 59)
 }

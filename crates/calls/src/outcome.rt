@@ -1,5 +1,5 @@
 //! What came of a call.
-use console_core::TypingError;
+use console_states::TypingError;
 use keymap_core::ReadError;
 use keymap_fmt::FormatError;
 use keymap_tables::TableError;
@@ -15,7 +15,7 @@ pub enum Answer {
     Done,
     /// Memory was refused.
     Memory,
-    /// What it was given has a fault.
+    /// What the call was given has a fault.
     Fault,
 }
 
@@ -28,7 +28,7 @@ pub struct Outcome {
 
 /// An error of a call that takes memory.
 pub(crate) trait Refusal {
-    /// Whether it tells that memory was refused.
+    /// Whether the error tells that memory was refused.
     fn is_memory(&self) -> bool;
 }
 

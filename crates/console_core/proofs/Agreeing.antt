@@ -1,12 +1,14 @@
--- That what a console keeps agrees with a list of resolved events is kept by each kind of resolved event.
+-- After each kind of resolved event what a console keeps still agrees with the list of resolved events.
 use Rattle.console_core.proofs.Common.{resolve_press, ◌≡◌, ℕ, ◌<◌, false, ◌&&◌, not, List, [], ◌∷◌, refl, ap, rules}
 use Rattle.console_core.proofs.Common.{sym, ◌∙◌, if◌then◌else◌, Action, Modifier, Meta, Cell, Event, Press}
-use Rattle.console_core.proofs.Common.{Load, Answer, MapValue, is_borne, look_with, answer_resolved, ResolvedEvent}
+use Rattle.console_core.proofs.Common.{Load, MapValue, is_borne, look_with, answer_resolved, ResolvedEvent}
 use Rattle.console_core.proofs.Common.{locked, remembered, taken_over, look, on, Maps, in_force, loaded}
 use Rattle.console_core.proofs.Common.{is_second_in_force, is_load, resolved_event, answer_to, resolved, StandsAt, Kept}
-use Rattle.console_core.proofs.Common.{answer_char, answer_action, answer_release, after_character, after_action}
+use Rattle.console_core.proofs.Common.{after_character, after_action}
 use Rattle.console_core.proofs.Common.{after_release, after_reset, after_load, PressedCharacter, PressedAction}
 use Rattle.console_core.proofs.Common.{ReleasedKey, WasReset, WasLoaded, fun_ext}
+use Rattle.console_core.specs.Answers.{answer_char, answer_action, answer_release}
+use Rattle.console_core.specs.Types.{Answer}
 use Rattle.console_core.specs.Agrees.{Agrees, nothing_kept}
 use Rattle.console_core.proofs.OneMore.{resolved-start, resolved-more, held-start, held-character, held-action}
 use Rattle.console_core.proofs.OneMore.{held-release, held-reset, locked-start, locked-character, locked-action}
@@ -79,7 +81,7 @@ module _ (m : MapValue) (h : List ResolvedEvent) (k : Kept) (agrees : Agrees m h
     pending = sym (pending-load n n h);
   }
 
-  -- and the answers are those to the resolved event
+  -- the answers are those to the resolved event
   pub answers-character : (key c : ℕ)
       → answer_char m k.pending (k.mark (holding.Mod Meta)) c ≡ answer_resolved m (PressedCharacter key c) h
   answers-character key c = rw (agrees.pending, agrees.marks (holding.Mod Meta)) refl

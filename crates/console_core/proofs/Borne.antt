@@ -134,7 +134,7 @@ look-cell m r k all =
       | inr h ↦ locked-upper m r all h
     ])
 
--- one more press looks up a cell of its key
+-- a further press looks up a cell of its key
 more-looked : (m : MapValue) (k : ℕ) (x : Cell) (r : List ResolvedEvent) → k < 128 → IsCellOf m k x → AllLooked m r
     → AllLooked m (resolve_press k x ∷ r)
 more-looked m k (Char c) r lt s all = ((lt, s), all)

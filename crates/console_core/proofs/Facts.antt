@@ -1,7 +1,7 @@
 -- The facts on which the main theorem stands.
 use Rattle.console_core.proofs.Common.{◌≡◌, ℕ, ◌<◌, true, false, List, [], ◌∷◌, ◌++◌, Some, inl, inr, refl, ap, subst}
 use Rattle.console_core.proofs.Common.{sym, ◌∙◌, ◌==◌, eqb-true, eq-eqb, true≢false, false_from_ne_true, All-tail}
-use Rattle.console_core.proofs.Common.{Action, Modifier, Holding, Cell, Char, Act, Event, Press, Release, Reset, Load}
+use Rattle.console_core.proofs.Common.{Modifier, Holding, Cell, Char, Act, Event, Press, Release, Reset, Load}
 use Rattle.console_core.proofs.Common.{holding_action, MapValue, IsCellOf, ResolvedEvent, remembered, is_this_action}
 use Rattle.console_core.proofs.Common.{look, resolve_press, Maps, in_force, pressed, resolved, is_on_after}
 use Rattle.console_core.proofs.Common.{is_locked_after, HasKey, HasKeys, remembered_after, raises_at, lowers_at, NoneOf}
@@ -65,7 +65,7 @@ raised-press : (k : ℕ) (a : Holding) (r : List ResolvedEvent) (x : Cell)
 raised-press k a r (Char c) e = absurd (true≢false (sym e))
 raised-press k a r (Act b) e = rw (remembered-action k k b r, eq-eqb k k refl) (taken-holding (remembered k r) b a e).1
 
--- it stays remembered as long as nothing lowers it, and the key isn't let go
+-- a holding action stays remembered as long as nothing lowers it, and the key isn't let go
 abbrev Kept : Maps → ℕ → Holding → List Event → List Event → Type 0
 Kept ms k a later before =
     (remembered_after ms k (later ++ Press k ∷ before) ≡ Some (holding_action a))

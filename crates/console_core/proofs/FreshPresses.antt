@@ -58,7 +58,7 @@ turns-fresh ms k l (Release j) h bears keys = refl
 turns-fresh ms k l Reset h bears keys = refl
 turns-fresh ms k l Load h bears keys = refl
 
--- one more press turns an odd number even and an even one odd
+-- a further press turns an odd number even and an even one odd
 odd_step : (b : Bool) (n : ℕ) → (if b then not (is_odd n) else is_odd n) ≡ is_odd (if b then suc n else n)
 odd_step true n = refl
 odd_step false n = refl
@@ -93,7 +93,7 @@ bears-in_force : (ms : Maps) (l : Lock) (k : ℕ) (h : List Event) → BearsThro
 bears-in_force ms l k h first (inl none) = search (rules, either_bears, true≢false, no_loads-first)
 bears-in_force ms l k h first (inr second) = either_bears (is_second_in_force h) ms l k first (λ e. second)
 
--- the same held before the last event
+-- the key bore the lock so before the last event
 bearer-before : (ms : Maps) (l : Lock) (k : ℕ) (e : Event) (h : List Event) → Bearer ms l k (e ∷ h) → Bearer ms l k h
 bearer-before ms l k e h (inl none) = inl (All-tail IsNoLoad e h none)
 bearer-before ms l k e h (inr second) = inr second

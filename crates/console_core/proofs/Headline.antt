@@ -1,16 +1,19 @@
 -- The main theorem.
 use Rattle.console_core.proofs.Common.{suc, ◌≡◌, ◌≢◌, ℕ, ◌<◌, Bool, true, false, ◌&&◌, not, List, [], ◌∷◌, ◌++◌, Option}
 use Rattle.console_core.proofs.Common.{Some, None, refl, ap, subst, sym, ◌∙◌, inl, inr, if◌then◌else◌, ◌==◌, reverse}
-use Rattle.console_core.proofs.Common.{eqb-true, cases_Bool, true≢false, false≢true, false_from_ne_true, All-head}
+use Rattle.console_core.proofs.Common.{eqb-true, cases_Bool, true≢false, false_from_ne_true, All-head}
 use Rattle.console_core.proofs.Common.{All-tail, Action, Lock, Modifier, Holding, Cell, Char, Act, Event, Press}
 use Rattle.console_core.proofs.Common.{Release, Reset, Load, same_action, holding_action, MapValue, is_odd, count_where}
 use Rattle.console_core.proofs.Common.{look_with, ResolvedEvent, held, locked, remembered, pending}
 use Rattle.console_core.proofs.Common.{taken_over, unless_nop, look, resolve, resolve_press, turns, answer_resolved, on}
 use Rattle.console_core.proofs.Common.{Maps, in_force, loaded, is_second_in_force, is_load, resolved_event, resolved}
-use Rattle.console_core.proofs.Common.{pressed, accent_pending_after, answers_to, answer_to, HasKey, HasKeys, IsQuiet}
+use Rattle.console_core.proofs.Common.{pressed, answers_to, answer_to, HasKey, HasKeys}
 use Rattle.console_core.proofs.Common.{PressedCharacter, PressedAction, ReleasedKey, WasReset, WasLoaded, IsCellOf}
-use Rattle.console_core.proofs.Common.{BearsThroughout, IsSafe, same_action-true, none_unless, fun_ext, option_or}
+use Rattle.console_core.proofs.Common.{BearsThroughout, IsSafe, same_action-true, fun_ext, option_or}
 use Rattle.console_core.proofs.Common.{none-some, rules}
+use Rattle.keymap_core.proofs.Lists.{none_unless}
+use Rattle.console_core.specs.History.{accent_pending_after, IsQuiet}
+use Rattle.std.proofs.lemmas.Bool.{false≢true}
 use Rattle.console_core.specs.Headline.{IsSteady, IsActing, AreRepeats, OnOnlyWhilePressed, OnExactlyWhilePressed}
 use Rattle.console_core.specs.Headline.{RepeatsTurnNoSteadyLock, OffOnceQuiet, GoesOnAsAfterReset}
 use Rattle.console_core.proofs.OneMore.{resolved-more, locked-more, held-character, held-action, held-release}
@@ -28,7 +31,7 @@ use Rattle.keymap_core.specs.declared.action.Action.TheVariants as act
 use Rattle.keymap_core.specs.declared.action.Modifier.TheVariants as modifier
 use Rattle.keymap_core.specs.declared.action.Holding.TheVariants as holding
 
--- one cell is one cell
+-- no cell is a character and an action, or two actions
 act_char : (a : Action) (c : ℕ) → Char c ≡ Act a → ⊥
 act_char a c e = cc
 
@@ -317,7 +320,7 @@ same_under m n r s p same = record {
   pending = pending-load n p r ∙ sym (pending-load n p s);
 }
 
--- one more event that is a load in both, or in neither, leaves the same map in force
+-- after a further event that is a load in both lists, or in neither, the same map is in force
 more_force : (b c : Bool) (h g : List Event) → b ≡ c → is_second_in_force h ≡ is_second_in_force g
     → is_odd (if b then suc (count_where is_load h) else count_where is_load h)
     ≡ is_odd (if c then suc (count_where is_load g) else count_where is_load g)
@@ -331,7 +334,7 @@ load_anywhere : (e : Event) (h g : List Event) → is_load e h ≡ is_load e g
 load_anywhere (Press k) h g = refl
 load_anywhere _ h g = refl
 
--- one more event, under the map in force before it
+-- a further event, under the map in force before it
 same_more : (ms : Maps) (h g : List Event) (e : Event) → HasKey e → SameAfter ms h g
     → Same (in_force ms h) (resolved ms (e ∷ h)) (resolved ms (e ∷ g))
 same_more ms h g e key s =
@@ -339,7 +342,7 @@ same_more ms h g e key s =
     (same-step (in_force ms h) (resolved ms h) (resolved ms g) (resolved_event ms h e)
     (resolve-key (in_force ms h) (loaded ms h) (resolved ms h) e key) s.same)
 
--- one more load, under the map that it loads
+-- a further load, under the map that it loads
 same_load : (ms : Maps) (h g : List Event) → SameAfter ms h g
     → Same (loaded ms h) (resolved ms (Load ∷ h)) (resolved ms (Load ∷ g))
 same_load ms h g s =
@@ -349,7 +352,7 @@ same_load ms h g s =
     (same_under (in_force ms h) (loaded ms h) (resolved ms h) (resolved ms g) (loaded ms h)
     (same-step (in_force ms h) (resolved ms h) (resolved ms g) (WasLoaded (loaded ms h)) tt s.same))
 
--- one more event, under the map in force after it
+-- a further event, under the map in force after it
 same_events : (ms : Maps) (h g : List Event) (e : Event) → HasKey e → SameAfter ms h g
     → Same (in_force ms (e ∷ h)) (resolved ms (e ∷ h)) (resolved ms (e ∷ g))
 same_events ms h g (Press k) key s = same_more ms h g (Press k) key s

@@ -1,12 +1,13 @@
 -- Histories where loads change nothing.
 use Rattle.console_core.proofs.Common.{◌≡◌, Bool, true, false, ◌&&◌, List, [], ◌∷◌, refl, ap, subst, sym, ◌∙◌}
-use Rattle.console_core.proofs.Common.{if◌then◌else◌, true≢false, All-head, All-tail, All-cons, Lock, Event, Press}
+use Rattle.console_core.proofs.Common.{if◌then◌else◌, true≢false, All-head, All-tail, Lock, Event, Press}
 use Rattle.console_core.proofs.Common.{Release, Reset, Load, MapValue, count_where, count_since, is_odd, is_borne}
-use Rattle.console_core.proofs.Common.{ResolvedEvent, resolve, locked, pending, answer_resolved, Maps, between}
+use Rattle.console_core.proofs.Common.{ResolvedEvent, resolve, locked, answer_resolved, Maps, between}
 use Rattle.console_core.proofs.Common.{in_force, is_second_in_force, resolved, resolved_event, answer_to}
 use Rattle.console_core.proofs.Common.{answers_to, HasKey, HasKeys, IsNoLoad, HasNoLoads, WasReset, WasLoaded, turns_at}
-use Rattle.console_core.proofs.Common.{unlocks_at, as_reset, loads_as_resets, rules}
-use Rattle.console_core.specs.Loads.{WithoutLoads, LoadsOfOneMapAreResets}
+use Rattle.console_core.proofs.Common.{unlocks_at, rules}
+use Rattle.std.proofs.lemmas.List.Elements.{All-cons}
+use Rattle.console_core.specs.Loads.{WithoutLoads, LoadsOfOneMapAreResets, as_reset, loads_as_resets}
 use Rattle.console_core.proofs.OneMore.{one_map, resolved-start, resolved-more, held-reset, held-load, locked-reset}
 use Rattle.console_core.proofs.OneMore.{locked-load, remembered-reset, remembered-load, pending-reset, pending-load}
 use Rattle.console_core.proofs.Borne.{AllLooked, locked-borne, resolved-looked}
@@ -75,7 +76,7 @@ under_one : (m : MapValue) (h : List Event) (e : Event)
     → resolved_event (between m m) h e ≡ resolve m m (resolved (between m m) h) e
 under_one m h e = cc (one_in_force m h, one_in_force m (Load ∷ h))
 
--- one more event, resolved in the one map
+-- a further event, resolved in the one map
 more_under_one : (m : MapValue) (h : List Event) (e : Event)
     → resolved (between m m) (e ∷ h) ≡ resolve m m (resolved (between m m) h) e ∷ resolved (between m m) h
 more_under_one m h e = resolved-more (between m m) h e ∙ ap (λ x. x ∷ resolved (between m m) h) (under_one m h e)
@@ -96,7 +97,7 @@ load_as_reset m r s all same = record {
   pending = pending-load m m r ∙ sym (pending-reset m s);
 }
 
--- one more event, where loads count as resets
+-- a further event, where loads count as resets
 same_as_reset : (m : MapValue) (e : Event) (r s : List ResolvedEvent) → HasKey e → AllLooked m r → Same m r s
     → Same m (resolve m m r e ∷ r) (resolve m m s (as_reset e) ∷ s)
 same_as_reset m (Press k) r s key all same =

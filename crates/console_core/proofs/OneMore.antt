@@ -1,13 +1,15 @@
 -- What each notion of a history is after one more event, by what it was before.
 use Rattle.console_core.proofs.Common.{suc, ◌≡◌, ℕ, Bool, true, false, ◌&&◌, ◌||◌, not, eqb, List, [], ◌∷◌, Option}
-use Rattle.console_core.proofs.Common.{Some, None, refl, ap, if◌then◌else◌, and-true, and-false, ◌==◌, Action, Lock}
+use Rattle.console_core.proofs.Common.{Some, None, refl, ap, if◌then◌else◌, ◌==◌, Action, Lock}
 use Rattle.console_core.proofs.Common.{Holding, Cell, Char, Act, Event, Press, Release, Reset, Load, same_action}
 use Rattle.console_core.proofs.Common.{holding_action, MapValue, is_borne, is_odd, last_where, unlocks, resolve_press}
 use Rattle.console_core.proofs.Common.{ResolvedEvent, remembered, held, locked, turns, taken_over, unless_nop}
 use Rattle.console_core.proofs.Common.{is_this_action, pending, pending_by_dead_keys, dead_keys_taken, run_length, Maps}
-use Rattle.console_core.proofs.Common.{resolved_event, pressed, resolved, is_press, concerns, pending_after_dead_key}
-use Rattle.console_core.proofs.Common.{next_pending, eqb-true, eq-eqb, option_or, PressedCharacter, PressedAction}
+use Rattle.console_core.proofs.Common.{resolved_event, pressed, resolved, is_press, concerns}
+use Rattle.console_core.proofs.Common.{eqb-true, eq-eqb, option_or, PressedCharacter, PressedAction}
 use Rattle.console_core.proofs.Common.{ReleasedKey, WasReset, WasLoaded, option_or-none, is_some, true≢false, rules}
+use Rattle.console_core.specs.Inner.Kept.{pending_after_dead_key, next_pending}
+use Rattle.std.proofs.Math.Bool.{and-true, and-false}
 use Rattle.keymap_core.specs.declared.action.Holding.TheVariants as holding
 
 -- what isn't something is nothing
@@ -15,7 +17,7 @@ pub is-nothing : {X : Type 0} (o : Option X) → is_some o ≡ false → o ≡ N
 is-nothing None e = refl
 is-nothing (Some x) e = absurd (true≢false e)
 
--- one map is in force, whichever
+-- of a map beside itself the map is in force, whichever is
 pub one_map : (m : MapValue) (b : Bool) → (if b then m else m) ≡ m
 one_map m true = refl
 one_map m false = refl
@@ -25,7 +27,7 @@ pub resolved-start : (ms : Maps) → resolved ms [] ≡ []
 unfolding resolved
 resolved-start ms = refl
 
--- one more event is resolved by those before
+-- a further event is resolved by those before
 pub resolved-more : (ms : Maps) (h : List Event) (e : Event)
     → resolved ms (e ∷ h) ≡ resolved_event ms h e ∷ resolved ms h
 unfolding resolved
@@ -63,7 +65,7 @@ pub locked-start : (l : Lock) → locked l [] ≡ false
 unfolding locked
 locked-start l = refl
 
--- one more turn makes an odd number even and an even one odd
+-- a further turn makes an odd number even and an even one odd
 locked_step : (b : Bool) (n : ℕ) → is_odd (if b then suc n else n) ≡ (if b then not (is_odd n) else is_odd n)
 locked_step true n = refl
 locked_step false n = refl
@@ -147,7 +149,7 @@ pub pending-load : (m n : MapValue) (h : List ResolvedEvent) → pending m (WasL
 unfolding dead_keys_taken pending_by_dead_keys
 pending-load m n h = refl
 
--- one more press of the same dead key makes the run longer
+-- a further press of the same dead key makes the run longer
 run_length-same : (i : ℕ) (rest : List (Option ℕ)) → run_length i (Some i ∷ rest) ≡ suc (run_length i rest)
 run_length-same i rest = rw (eq-eqb i i refl) refl
 
@@ -177,7 +179,7 @@ unfolding pending_by_dead_keys
 toggle_cases i j r true e = search (rules, eqb-true, toggle_same)
 toggle_cases i j r false e = search (rules, run_length-same, toggle_other)
 
--- one more press of a dead key toggles it
+-- a further press of a dead key toggles it
 pub pending_after-toggles : (i : ℕ) (rest : List (Option ℕ))
     → pending_by_dead_keys (Some i ∷ rest) ≡ pending_after_dead_key (Some i) (pending_by_dead_keys rest)
 unfolding pending_by_dead_keys
@@ -185,14 +187,14 @@ pending_after-toggles i [] = rw (run_length-same i []) refl
 pending_after-toggles i (None ∷ rest) = rw (run_length-same i (None ∷ rest)) refl
 pending_after-toggles i (Some j ∷ rest) = toggle_cases i j rest (eqb j i) refl
 
--- one more event that keeps nothing pending, or toggles a dead key
+-- a further event that keeps nothing pending, or toggles a dead key
 toggles : (o : Option ℕ) (rest : List (Option ℕ))
     → pending_by_dead_keys (o ∷ rest) ≡ pending_after_dead_key o (pending_by_dead_keys rest)
 unfolding pending_by_dead_keys
 toggles None rest = refl
 toggles (Some i) rest = pending_after-toggles i rest
 
--- one more event, which keeps what is pending or doesn't
+-- a further event, which keeps what is pending or doesn't
 pending_step : (b : Bool) (o : Option ℕ) (rest : List (Option ℕ))
     → pending_by_dead_keys (if b then rest else o ∷ rest)
     ≡ (if b then pending_by_dead_keys rest else pending_after_dead_key o (pending_by_dead_keys rest))
@@ -209,7 +211,7 @@ pub pressed-start : (k : ℕ) → pressed k [] ≡ false
 unfolding pressed
 pressed-start k = refl
 
--- one more event, by whether it concerns the key
+-- a further event, by whether it concerns the key
 press_step : (b : Bool) (e : Event) (o : Option Event)
     → is_press (if b then Some e else o) ≡ (if b then is_press (Some e) else is_press o)
 press_step true e o = refl
@@ -231,14 +233,14 @@ pub pressed-load : (k : ℕ) (h : List Event) → pressed k (Load ∷ h) ≡ fal
 unfolding pressed
 pressed-load k h = refl
 
--- one more event of a lock, by whether it unlocks and whether it turns
+-- a further event of a lock, by whether it unlocks and whether it turns
 locked_more : (b t : Bool) (n : ℕ)
     → is_odd (if b then 0 else (if t then suc n else n))
     ≡ (if b then false else (if t then not (is_odd n) else is_odd n))
 locked_more true t n = refl
 locked_more false t n = locked_step t n
 
--- one more event of a lock
+-- a further event of a lock
 pub locked-more : (l : Lock) (x : ResolvedEvent) (h : List ResolvedEvent)
     → locked l (x ∷ h) ≡ (if unlocks l x h then false else (if turns l x h then not (locked l h) else locked l h))
 unfolding locked

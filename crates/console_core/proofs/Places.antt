@@ -1,9 +1,11 @@
--- One place of a table after a write, by a test on the places.
-use Rattle.console_core.proofs.Common.{cases_Bool, ◌≡◌, ℕ, ◌<◌, Bool, true, false, cond, eqb, List, length}
+-- A place of a table after a write, by a test on the places.
+use Rattle.console_core.proofs.Common.{cases_Bool, ◌≡◌, ℕ, ◌<◌, Bool, true, false, eqb, List, length}
 use Rattle.console_core.proofs.Common.{get_or, set, ◌+◌, ◌&&◌, not, Some, ap, lit<, refl, sym, subst, arith, eqb-true}
 use Rattle.console_core.proofs.Common.{eqb-false, ne_eqb, Modifier, LeftShift, Lock, Caps, Num, Scroll, Alt, Holding}
 use Rattle.console_core.proofs.Common.{Action, holding_of, modifier_index, lock_index, holding_index, same_action}
-use Rattle.console_core.proofs.Common.{holding_action, modifiers, rules}
+use Rattle.console_core.proofs.Common.{holding_action, rules}
+use Rattle.keymap_core.specs.Actions.{modifiers}
+use Rattle.std.proofs.Common.{cond}
 use Rattle.std.proofs.lemmas.List.{get_or-set_same, get_or-set_other, get_or-replicate}
 use Rattle.keymap_core.specs.declared.action.Holding.TheVariants as holding
 use Rattle.keymap_core.specs.declared.action.Action.TheVariants as act

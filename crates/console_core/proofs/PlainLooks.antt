@@ -157,7 +157,7 @@ module _ (ms : Maps) (h : List Event) (none : HasNoLoads h) (keys : HasKeys h) w
 pub looks_plainly : LooksPlainly
 looks_plainly ms h plain none keys k = looks-first ms h none keys k ∙ look-plain ms h none keys plain k
 
--- the same of modifiers and locks that are shown
+-- in a plain map each look by modifiers and locks that are shown is the plain one
 pub shown-plain : (ms : Maps) (h : List Event) → HasNoLoads h → HasKeys h → IsPlain ms.first
     → (k : ℕ) (is_on : Modifier → Bool) (is_locked : Lock → Bool) → ((i : Modifier) → is_on i ≡ is_on_after ms i h)
     → ((l : Lock) → is_locked l ≡ is_locked_after ms l h)

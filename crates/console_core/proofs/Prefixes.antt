@@ -3,11 +3,12 @@ use Rattle.console_core.proofs.Common.{suc, ◌≡◌, ℕ, Bool, true, false, L
 use Rattle.console_core.proofs.Common.{◌∙◌, if◌then◌else◌, eqb-true, eq-eqb, true≢false, Cell, Char, Act, Event, Press}
 use Rattle.console_core.proofs.Common.{Release, Reset, Load, last_where, ResolvedEvent, resolve_press, answer_resolved}
 use Rattle.console_core.proofs.Common.{Maps, in_force, concerns, is_press, pressed, resolved, resolved_event}
-use Rattle.console_core.proofs.Common.{look_after, NoneOf, answer_to_look}
-use Rattle.console_core.specs.Reading.{LastPresses, PressedByPositions, ResolvedAtPrefix, AnswersByCases}
+use Rattle.console_core.proofs.Common.{NoneOf}
+use Rattle.console_core.specs.Reading.{answer_to_look}
+use Rattle.console_core.specs.Reading.{LastPresses, PressedByPositions, ResolvedAtPrefix, AnswersByCases, look_after}
 use Rattle.console_core.proofs.OneMore.{resolved-more}
 
--- one more event, by whether it concerns the key
+-- a further event, by whether it concerns the key
 last_press_by : (k : ℕ) (e : Event) (h : List Event) (b : Bool) → concerns k e ≡ b
     → is_press (if b then Some e else last_where (concerns k) h) ≡ true
     → (is_press (last_where (concerns k) h) ≡ true → LastPresses k h) → LastPresses k (e ∷ h)

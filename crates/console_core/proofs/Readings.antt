@@ -1,4 +1,4 @@
--- That the notions by resolved events are those on the events.
+-- The notions by resolved events are those on the events.
 use Rattle.console_core.proofs.Common.{◌≡◌, ℕ, Bool, false, true, ◌&&◌, not, List, [], ◌∷◌, ◌++◌, refl, ap, sym, ◌∙◌}
 use Rattle.console_core.proofs.Common.{inl, inr, or_cases, and_parts, not-true, true≢false, or_right, Holding, Lock}
 use Rattle.console_core.proofs.Common.{Cell, Char, Act, Event, Press, Release, Reset, Load, count_since, is_odd}

@@ -42,7 +42,7 @@ abbrev takings : Maps → MapValue → List (Event × List Event) → List (Opti
 takings ms m [] = []
 takings ms m (p ∷ positions) = dead_key_taken_at ms m p.0 p.1 ∷ takings ms m positions
 
--- one more event, which is left out or not
+-- a further event, which is left out or not
 left_out : (ms : Maps) (m : MapValue) (b : Bool) (e : Event) (h : List Event)
     → (if b then takings ms m (positions_without (keeps_at ms) h)
     else dead_key_taken_at ms m e h ∷ takings ms m (positions_without (keeps_at ms) h))
@@ -89,7 +89,7 @@ Split ms m i positions =
     (run : List (Event × List Event)) × (rest : List (Event × List Event)) × (positions ≡ run ++ rest)
     × AllTake ms m i run × LastDoesNotTake ms m i rest × (length run ≡ run_length i (takings ms m positions))
 
--- one more position, by whether it takes the dead key
+-- a further position, by whether it takes the dead key
 split_by : (ms : Maps) (m : MapValue) (i : ℕ) (p : Event × List Event) (positions : List (Event × List Event))
     (o : Option ℕ) (b : Bool)
     → dead_key_taken_at ms m p.0 p.1 ≡ o → ((j : ℕ) → o ≡ Some j → eqb j i ≡ b) → Split ms m i positions

@@ -44,7 +44,7 @@ remembered-events ms k (Reset ∷ h) = cc (resolved-more ms h Reset, remembered-
 remembered-events ms k (Load ∷ h) = cc (resolved-more ms h Load, remembered-load k _ (resolved ms h))
 
 module _ {A B : Type 0} (ends : A → List A → Bool) (pick : A → List A → Option B) where
-  -- one more element since the last that ends
+  -- a further element since the last that ends
   more_since : (x : A) (recent old : List A) → ends x (recent ++ old) ≡ false → IsSinceLast ends recent old
       → IsSinceLast ends (x ∷ recent) old
   more_since x recent [] e s = (e, s)

@@ -3,10 +3,11 @@ use Rattle.console_core.proofs.Common.{◌≡◌, ℕ, ◌<◌, Bool, true, fals
 use Rattle.console_core.proofs.Common.{sym, ◌∙◌, inl, inr, ◌==◌, eqb-true, eq-eqb, and_parts, or_cases, cases_Bool}
 use Rattle.console_core.proofs.Common.{true≢false, both_ways, not-true, All-tail, or_right, Modifier, LeftShift}
 use Rattle.console_core.proofs.Common.{RightShift, LeftControl, RightControl, LeftAlt, RightAlt, AltShift, Meta, Cell}
-use Rattle.console_core.proofs.Common.{Char, Act, Event, Press, Release, Reset, Load, same_action, MapValue, entry_at}
+use Rattle.console_core.proofs.Common.{Char, Act, Event, Press, Release, Reset, Load, same_action, MapValue}
 use Rattle.console_core.proofs.Common.{IsCellOf, exactly_one, slot_of, ResolvedEvent, held, locked, on, remembered}
 use Rattle.console_core.proofs.Common.{taken_over, is_this_action, look, resolve_press, Maps, in_force, resolved}
 use Rattle.console_core.proofs.Common.{HasKey, HasKeys, same_action-refl, rules}
+use Rattle.keymap_core.specs.Maps.{entry_at}
 use Rattle.keymap_core.specs.declared.entry.LockFlag.{LockFlag}
 use Rattle.console_core.specs.Columns.{flips_shift}
 use Rattle.console_core.specs.Traps.{Bits, cell_with, group_bit, NobodyBearsCellPickingLocks, HasNoTrap}

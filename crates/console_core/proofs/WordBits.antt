@@ -1,10 +1,12 @@
--- One bit of a word after a write.
-use Rattle.console_core.proofs.Common.{cases_Bool, ◌≡◌, ℕ, ◌+◌, ◌/◌, ◌%◌, ◌^◌, ◌<◌, ◌≤◌, ◌≢◌, ◌-◌, Bool, true, false}
+-- A bit of a word after a write.
+use Rattle.console_core.proofs.Common.{cases_Bool, ◌≡◌, ℕ, ◌+◌, ◌/◌, ◌%◌, ◌^◌, ◌<◌, ◌≤◌, ◌≢◌, Bool, true, false}
 use Rattle.console_core.proofs.Common.{not, ◌⊎◌, inl, inr, eqb, refl, ap, sym, ◌∙◌, if◌then◌else◌, arith, lit<}
-use Rattle.console_core.proofs.Common.{eqb-true, eqb-false, ne_eqb, eq-eqb, zero, suc, Holding, Lock, LeftShift, Caps}
-use Rattle.console_core.proofs.Common.{holding_index, lock_index, same_lock, bit_is_set, word_mark, word_lock}
+use Rattle.console_core.proofs.Common.{eqb-true, eqb-false, ne_eqb, eq-eqb, suc, Holding, Lock, LeftShift, Caps}
+use Rattle.console_core.proofs.Common.{holding_index, lock_index, bit_is_set, word_mark, word_lock}
 use Rattle.console_core.proofs.Common.{word_second, mark_bit, lock_bit, rules}
-use Rattle.std.proofs.Common.{◌*◌, min, max, w32}
+use Rattle.keymap_core.specs.Actions.{same_lock}
+use Prim.Native.Nat.{zero}
+use Rattle.std.proofs.Common.{◌*◌, min, max, w32, ◌-◌}
 use Rattle.std.specs.Prelude.{bit_and, bit_or, bit_xor}
 use Rattle.std.specs.Int.{bit_at, bit_not}
 use Rattle.std.proofs.lemmas.Nat.Bits.{bit_at_set_same, bit_at_set_other, bit_at_clear_same, bit_at_clear_other}
@@ -116,7 +118,7 @@ lock_mark a l = ne_eqb _ _ (λ e. mark-not_lock a l (sym e))
 pub below_flag : (k : ℕ) → k < 16 → eqb k 20 ≡ false
 below_flag k lt = ne_eqb k 20 (λ e. omega arith)
 
--- the same, the other way round
+-- no bit of the marks and locks is bit 20
 pub flag_above : (k : ℕ) → k < 16 → eqb 20 k ≡ false
 flag_above k lt = ne_eqb 20 k (λ e. omega arith)
 

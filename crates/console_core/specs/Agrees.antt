@@ -28,14 +28,14 @@ nothing_kept = record {
   is_second = false;
 }
 
--- it is what the resolved events leave, under the map in force
+-- What a console keeps is what the resolved events leave, under the map in force.
 pub record Agrees (m : MapValue) (h : List ResolvedEvent) (k : Kept) : Type 0 where
   pub marks : (a : Holding) → k.mark a ≡ held a h
   pub locks : (l : Lock) → k.lock l ≡ locked l h
   pub memories : (j : ℕ) → j < key_count → k.memory j ≡ remembered j h
   pub pending : k.pending ≡ pending m h
 
--- the same after a list of events under the two maps
+-- What a console keeps is what a list of events leaves, under the two maps.
 pub record StandsAt (ms : Maps) (h : List Event) (k : Kept) : Type 0 where
   pub map_in_force : k.is_second ≡ is_second_in_force h
   pub agrees : Agrees (in_force ms h) (resolved ms h) k

@@ -7,14 +7,14 @@
 --   in force     History: a console has two keymaps; each load exchanges them, and the first is in force before any.
 --   pressed      History: the last event that is about the key, or is a reset or a load, is a press of the key.
 --   quiet        History: no key is pressed.
--- Those of a keymap:
+-- Of a keymap:
 --   cell of      keymap_core Bearers: a key has the cells of its slot, and those of its upper slot where upper slots
 --                are live.
 --   bears        keymap_core Bearers: one of the key's cells is the modifier or lock. It bears it throughout if no
 --                other key does and all its cells are it.
 --   safe         here: no key has both a modifier or lock and a character among its cells.
 --   steady       here: one key alone bears the lock, and all its cells are actions other than nop.
--- Those of a console, each a statement on the events so far. Resolved says them of events together with what their keys
+-- Of a console, each a statement on the events so far. Resolved says them of events together with what their keys
 -- looked up, and Reading says the same of the plain events; History has the last four under the names that stand here.
 --   look         Columns: the cell that a press of a key looks up, by which modifiers and locks are on.
 --   remembered   Resolved: the first action other than nop that a key looked up since it was released, looked up a
@@ -153,5 +153,5 @@ Afterwards stood events P =
 -- Who promises these. `replay` of src/replays.rt, of any console after a list of events, with Afterwards for the lists
 -- where it stood before. `check` of keymap_check, of each keymap and every list that leaves it in force, once it knows
 -- which keymaps are safe and which locks are steady (KeepsPromise in its specs/Promises.antt). `laws` of this crate, of
--- all lists, with no console. `sticking` of src/search.rt decides whether a keymap can leave a modifier on at all, and
--- `sticking_between` whether two that loads exchange can (Sticking).
+-- all lists, with no console. `sticking` of console_states decides whether a keymap can leave a modifier on at all, and
+-- `sticking_between` whether two that loads exchange can (its specs/Sticking.antt).

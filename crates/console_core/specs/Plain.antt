@@ -46,7 +46,7 @@ unfoldable pub plain_locked : MapValue → List Event → Lock → Bool
 plain_locked m h l = any_below (λ k. bears_holding m (holding.Lock l) k
     && is_odd (count_where (is_fresh_press k) h)) key_count
 
--- these two, in words
+-- plain_on and plain_locked, in words
 abbrev pub PlainOnByKeys : Type 0
 PlainOnByKeys =
     (m : MapValue) (h : List Event) (i : Modifier)
@@ -66,7 +66,7 @@ LooksPlainly =
     (ms : Maps) (h : List Event) → IsPlain ms.first → HasNoLoads h → HasKeys h
     → (k : ℕ) → look_after ms k h ≡ plain_look ms.first k h
 
--- the same of the modifiers and locks that a console shows after h
+-- the look by the modifiers and locks that a console shows after h is the plain one
 abbrev pub IsPlainAfter : Maps → List Event → (Modifier → Bool) → (Lock → Bool) → Type 0
 IsPlainAfter ms h is_on is_locked =
     IsPlain ms.first → HasNoLoads h → (k : ℕ) → look_with ms.first is_on is_locked k ≡ plain_look ms.first k h

@@ -12,11 +12,3 @@ pub use Rattle.keymap_core.specs.declared.entry.Cell.TheVariants.{Char, Act}
 pub use Rattle.console_core.specs.declared.event.Answer.{Answer}
 pub use Rattle.console_core.specs.declared.event.Event.{Event}
 pub use Rattle.console_core.specs.declared.event.Event.TheVariants.{Press, Load, Release, Reset}
-pub use Rattle.console_core.specs.declared.held.Move.{Move}
-pub use Rattle.console_core.specs.declared.held.Move.TheVariants.{Hold, Turn, LetGo, Exchange}
-pub use Rattle.console_core.specs.declared.outcome.Sticking.{Sticking}
-pub use Rattle.console_core.specs.declared.outcome.Sticking.TheVariants.{Sticks, Never, Undecided}
-pub use Rattle.console_core.specs.declared.selection.Selection.{Selection}
-pub use Rattle.console_core.specs.declared.selection.Sight.{Sight}
-pub use Rattle.console_core.specs.declared.sights.Offer.{Offer}
-pub use Rattle.console_core.specs.declared.sights.Sights.{Sights}

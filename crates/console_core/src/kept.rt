@@ -44,7 +44,7 @@ pub fn modifiers_kept(kept: &WordStore) -> u8
 pub fn locks_kept(kept: &WordStore) -> u8
     ensures bits { (ms : Maps) (h : List EventValue) → KeptAt ms h kept.now
         → (l : LockValue) → bit_is_set result (lock_index l) ≡ is_locked_after ms l h }
-    // so no other bit is set
+    // no other bit is set
     ensures in_range { result < 16 }
 {
     ((kept.word >> 8) % 16) as u8

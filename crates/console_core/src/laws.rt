@@ -10,13 +10,7 @@ ghost use Rattle.console_core.specs.Plain.{LooksPlainly, PlainOnByKeys, PlainLoc
 ghost use Rattle.console_core.specs.Reading.{HeldByPositions, LockedByCount, RememberedByPositions};
 ghost use Rattle.console_core.specs.Reading.{NothingRememberedByPositions, PendingByRun, PressedByPositions};
 ghost use Rattle.console_core.specs.Reading.{ResolvedAtPrefix, AnswersByCases};
-ghost use Rattle.console_core.specs.Sticking.{NeverSticksUnlessReached, SticksIfReached};
-ghost use Rattle.console_core.specs.Sticking.{SafeNeverSticksBetween, SafeNeverForgets, SafeNeverAnswersSticks};
-ghost use Rattle.console_core.specs.Sticking.{AnswersAlikeOfOneKeymap};
-ghost use Rattle.console_core.specs.Sights.{LooksAreSelected, SightsAreReachable, ReachableIsSeen};
 ghost use Rattle.console_core.specs.Traps.{OnOnlyWhilePressedWithoutTraps};
-ghost use Rattle.console_core.specs.Typing.{TypedCanBeTyped};
-ghost use Rattle.console_core.specs.Visiting.{SeenCanBeVisited};
 
 /// In a safe map a modifier is on only while a key that bears it is pressed; in any map one that a key alone bears
 /// throughout is on exactly while that key is pressed.
@@ -57,30 +51,6 @@ pub fn looks_plainly()
 /// safe, if nobody bears clock, nlock or alock.
 pub fn modifiers_without_traps_follow_keys()
     ensures { OnOnlyWhilePressedWithoutTraps }
-{}
-
-/// A keymap, or two that loads exchange, can leave a modifier on while no key is pressed exactly if a path of moves
-/// leads to a state where a key that holds a modifier looks up a character: then the events along the path, a repeat of
-/// that key and the releases do so.
-pub fn modifiers_stick_where_paths_lead()
-    ensures never { NeverSticksUnlessReached }
-    ensures sticks { SticksIfReached }
-{}
-
-/// After every list of events between two safe keymaps a modifier is on only while a key is pressed that bears it in
-/// the keymap in force, and none is on once no key is pressed. So no key that holds a modifier ever looks up a
-/// character, and `sticking_between` never answers that a modifier sticks.
-pub fn safe_maps_never_stick_between()
-    ensures lists { SafeNeverSticksBetween }
-    ensures states { SafeNeverForgets }
-    ensures answers { SafeNeverAnswersSticks }
-{}
-
-/// Between a keymap and itself the search answers as for the keymap alone, where both are decided: that a modifier
-/// sticks, by as many presses, or that none does. Where one is undecided, a list of the other has more presses than
-/// that tells.
-pub fn one_keymap_twice_sticks_as_alone()
-    ensures { AnswersAlikeOfOneKeymap }
 {}
 
 /// What a key looks up is one of its cells; a dead upper half is never looked at.
@@ -137,25 +107,4 @@ pub fn answers_by_cases()
 pub fn loads_that_change_nothing()
     ensures without { WithoutLoads }
     ensures of_one_map { LoadsOfOneMapAreResets }
-{}
-
-/// A key looks up the cell at the slot and column that the selection picks. What a press after a list sees can be seen
-/// where a path leads, and a pair where one path leads through a state that offers its accent: after all lists where no
-/// path leads to where a modifier is forgotten, and else after clean ones. And what can be seen so is seen by a press
-/// after a clean list of presses and releases.
-pub fn sights_are_reachable()
-    ensures selected { LooksAreSelected }
-    ensures reachable { SightsAreReachable }
-    ensures seen { ReachableIsSeen }
-{}
-
-/// What can be visited can be seen. Where no turn of a lock is one-way, all that can be seen can be visited.
-pub fn what_is_seen_can_be_visited()
-    ensures { SeenCanBeVisited }
-{}
-
-/// What an admitted list of presses, repeats, releases and resets types that leaves a new console as a new one, moves
-/// and taps can type. So where they can't type a character, no such list does.
-pub fn what_is_typed_can_be_typed()
-    ensures { TypedCanBeTyped }
 {}

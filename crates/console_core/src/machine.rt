@@ -42,7 +42,7 @@ fn slot<S: Store>(store: &S, key: KeyCode) -> u8
     }
 }
 
-/// What a press of the key looks up. `Held::look` says the same of a state of the search, which is no store.
+/// What a press of the key looks up. `Held::look` of console_states says the same of a state, which is no store.
 fn look<K: Keymap, S: Store>(store: &S, map: &K, key: KeyCode) -> Cell
     ensures { (m : MapValue) → K.shows map.now m
         → result ≡ look_with m (λ i. (S.kept store.now).mark (Holding.Mod i)) (S.kept store.now).lock key }

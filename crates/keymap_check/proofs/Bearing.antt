@@ -33,7 +33,7 @@ true-bears m k a b = (has-cell m (kind.Holding a) k).1 (Act (holding_action a), 
 abbrev pub NoneBears : MapValue → Holding → ℕ → Type 0
 NoneBears m a n = (j : ℕ) → j < n → Bears m j a → ⊥
 
--- one key below n bears, and the bearer is that key, throughout or beside other cells
+-- a single key below n bears, and the bearer is that key, throughout or beside other cells
 abbrev pub OneBears : MapValue → Holding → ℕ → Bearer → Type 0
 OneBears m a n b = (k : ℕ) × (k < n) × Bears m k a × ((j : ℕ) → j < n → Bears m j a → j ≡ k) × (b ≡ bearer_with m a k)
 
@@ -50,7 +50,7 @@ pub data BearerAmong (m : MapValue) (a : Holding) (n : ℕ) (b : Bearer) : Type 
 no_bearer : (m : MapValue) (a : Holding) (k : ℕ) → bears_holding m k a ≡ false → Bears m k a → ⊥
 no_bearer m a k e b = true≢false (sym (true-bears m k a b) ∙ e)
 
--- one more key that doesn't bear leaves the bearer
+-- a further key that doesn't bear changes nothing of the bearer
 kept : (m : MapValue) (a : Holding) (n : ℕ) (b : Bearer) → bears_holding m n a ≡ false → BearerAmong m a n b
     → BearerAmong m a (suc n) b
 kept m a n b e (Empty s f) =
@@ -73,7 +73,7 @@ next_by : (k : ℕ) (o : Option ℕ) (c : Bearer) → next_bearer (bearer_by k o
 next_by k None c = refl
 next_by k (Some p) c = refl
 
--- one more key that bears joins the bearer
+-- a further key that bears joins the bearer
 added : (m : MapValue) (a : Holding) (n : ℕ) (b : Bearer) → Bears m n a → BearerAmong m a n b
     → BearerAmong m a (suc n) (next_bearer b (bearer_with m a n))
 added m a n b is (Empty s f) =

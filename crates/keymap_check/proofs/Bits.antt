@@ -14,7 +14,7 @@ on-more : (i y : Modifier) (j : ℕ) (r : List ResolvedEvent) → remembered j r
     → on i (PressedAction j (act.Mod y) ∷ r) ≡ (same_modifier y i || on i r)
 on-more i y j r e = held-action (holding.Mod i) j (act.Mod y) r ∙ rw e refl
 
--- one more modifier that is on sets the bit of its group
+-- a further modifier that is on sets the bit of its group
 bits-added : (y : Modifier) (r : List ResolvedEvent) → record {
   upper = same_modifier y AltShift || on AltShift r;
   shift = (same_modifier y LeftShift || on LeftShift r) || (same_modifier y RightShift || on RightShift r);

@@ -24,7 +24,7 @@ use Rattle.keymap_core.specs.declared.action.Holding.TheVariants as holding
 use Rattle.keymap_check.specs.declared.kind.Group.TheVariants as group
 use Rattle.keymap_check.specs.declared.kind.Kind.TheVariants as kind
 
--- one bit of a power of two
+-- a bit of a power of two
 pow_by : (k i : ℕ) (b : Bool) → eqb i k ≡ b → is_set (2 ^ k) i ≡ b
 pow_by k i true e = let s : i ≡ k = eqb-true i k e in rw (s, bit_at-pow_same k) refl
 pow_by k i false e = ap (λ x. eqb x 1) (bit_at-pow_other k i (eqb-false i k e))
@@ -79,7 +79,7 @@ mask-fits _ (Act (act.Mod LeftShift)) = refl
 mask-fits _ (Act (act.Lock Caps)) = refl
 mask-fits x y = refl
 
--- one more bit
+-- the bits have a bit of the mask
 abbrev pub meets : ℕ → ℕ → Bool
 meets bits mask = not (eqb (bit_and bits mask) 0)
 
@@ -91,7 +91,7 @@ or_false : (b : Bool) → (b || false) ≡ b
 or_false true = refl
 or_false false = refl
 
--- one more bit, by whether the mask has it
+-- a further bit, by whether the mask has it
 meets_by : (n mask i : ℕ) (b : Bool) → is_set mask i ≡ b → meets (bit_or n (2 ^ i)) mask ≡ (meets n mask || b)
 meets_by n mask i false e =
     search (rules, and_comm, and_pow, set_zero, zero-mul, and_or_apart, or_false)
@@ -140,7 +140,7 @@ bits_below-start m k = refl
 shl-one : (i : ℕ) → i < 15 → 1 * 2 ^ i % 2 ^ 16 ≡ 2 ^ i
 shl-one i lt = search (rules, pow-lt, one-mul, mod-eq_of_lt)
 
--- one more cell sets its bit
+-- a further cell sets its bit
 pub bits_below-more : (m : MapValue) (k n : ℕ)
     → bit_or (bits_below m k n) (1 * 2 ^ cell_bit (cell_of m k n) % 2 ^ 16) ≡ bits_below m k (n + 1)
 unfolding bits_below

@@ -5,8 +5,8 @@ use Rattle.keymap_check.proofs.Common.{IsQuiet, bit_keys, tried, leaves_modifier
 use Rattle.std.proofs.lemmas.List.Elements.{All-weaker}
 use Rattle.keymap_core.specs.Actions.{modifiers}
 use Rattle.console_core.specs.History.{IsNoLoad, HasNoLoads}
-use Rattle.console_core.specs.Moves.{alone}
-use Rattle.console_core.specs.Sticking.{AreUnder, IsPressOrRelease}
+use Rattle.console_states.specs.Moves.{alone}
+use Rattle.console_states.specs.Sticking.{AreUnder, IsPressOrRelease}
 use Rattle.console_core.proofs.OneMap.{without_loads}
 use Rattle.keymap_check.specs.Shown.{DemonstrationsLeaveModifiersOn}
 use Rattle.keymap_check.proofs.Quiet.{script-quiet}

@@ -35,7 +35,7 @@ none_at : (fs : List Finding) → IsNone (slice_get fs 0) → fs ≡ []
 none_at [] is = refl
 none_at (f ∷ fs) is = absurd (true≢false is)
 
--- there is none where there are no findings
+-- no finding is the first exactly where there are no findings
 pub none_of : (fs : List Finding) (o : Option Finding) → o ≡ slice_get fs 0 → IsNone o → fs ≡ []
 none_of fs o e is = none_at fs (subst IsNone e is)
 

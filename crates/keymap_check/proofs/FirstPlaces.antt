@@ -146,7 +146,7 @@ record AreBelow (m : MapValue) (n : ℕ) (fs : List Finding) : Type 0 where
 none-below : (m : MapValue) → AreBelow m 0 []
 none-below m = search (rules, All-nil)
 
--- those below n are below n + 1
+-- keys below n are below n + 1
 still-below : (n : ℕ) (fs : List Finding) → All (λ f. f.key < n) fs → All (λ f. f.key < suc n) fs
 still-below n fs h = λ i d lt. let l = h i d lt in omega (arith, l)
 
@@ -154,7 +154,7 @@ still-below n fs h = λ i d lt. let l = h i d lt in omega (arith, l)
 any-left : (k : ℕ) (fs : List Finding) (f : Finding) → Any (λ g. g.key ≡ k) fs → Any (λ g. g.key ≡ k) (fs ++ f ∷ [])
 any-left k fs f (i, g, lt, at, is) = (i, g, grind (arith, common_steps), grind (arith, common_steps), is)
 
--- one key more, which has no finding
+-- the next key has no finding
 quiet-more : (m : MapValue) (n : ℕ) (fs : List Finding) → AreBelow m n fs → (IsUnsafeKey m n → ⊥)
     → AreBelow m (suc n) fs
 quiet-more m n fs b safe = record {
@@ -167,7 +167,7 @@ quiet-more m n fs b safe = record {
   ];
 }
 
--- one key more, which has one
+-- the next key has a finding
 finding-more : (m : MapValue) (n : ℕ) (fs : List Finding) (f : Finding) → AreBelow m n fs → f.key ≡ n → IsFinding m f
     → AreBelow m (suc n) (fs ++ f ∷ [])
 finding-more m n fs f b key is = record {

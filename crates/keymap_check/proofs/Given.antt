@@ -4,7 +4,7 @@ use Rattle.keymap_check.proofs.Common.{Modifier, Event, MapValue, NobodyBearsCel
 use Rattle.keymap_check.proofs.Common.{demonstration_of, HasShownTrap}
 use Rattle.std.specs.Prelude.{IsSome, option_map}
 use Rattle.std.proofs.lemmas.Option.{none-some}
-use Rattle.console_core.specs.Sticking.{LeavesOn}
+use Rattle.console_states.specs.Sticking.{LeavesOn}
 use Rattle.keymap_check.proofs.Demonstrated.{demonstrations_leave_modifiers_on}
 use Rattle.keymap_check.proofs.Shown.{shown_traps_are_demonstrated}
 use Rattle.keymap_check.proofs.Trapless.{none_given}

@@ -89,7 +89,7 @@ no_place-cell m x k e y is =
 abbrev pub HasCellOf : MapValue → ℕ → Kind → Type 0
 HasCellOf m k x = (y : Cell) × IsCellOf m k y × (is_of_kind x y ≡ true)
 
--- it has one exactly if a first place is found
+-- the key has a cell of the kind exactly if a first place is found
 cell_by : (m : MapValue) (x : Kind) (k : ℕ) (o : Option ℕ) → first_place m x k ≡ o
     → (is_some o ≡ true) ↔ HasCellOf m k x
 cell_by m x k None e =

@@ -25,12 +25,12 @@ pub start_played : (keys : List (Option ℕ)) (k a : ℕ)
 start_played keys k a =
     sym (reverse-push (Press k) (events_of true keys a 0) []) ∙ append-nil (reverse (start_of keys k a))
 
--- one bit more
+-- a further bit that gives an event
 pub one_more : (f : ℕ → List Event) (n : ℕ) (e : Event) (h : List Event) → f n ≡ e ∷ []
     → e ∷ (reverse (gathered f n) ++ h) ≡ reverse (gathered f (n + 1)) ++ h
 one_more f n e h is = search (rules, gathered-more, reverse-push)
 
--- one more bit that gives no event
+-- a further bit that gives no event
 pub none_more : (f : ℕ → List Event) (n : ℕ) (h : List Event) → f n ≡ []
     → reverse (gathered f n) ++ h ≡ reverse (gathered f (n + 1)) ++ h
 none_more f n h is = search (rules, gathered-more, append-nil)
@@ -45,7 +45,7 @@ pub released : (ms : Maps) (h : List Event) (j : ℕ) → is_any_on_after ms h �
     → is_any_on_after ms (Release j ∷ h) ≡ false
 released ms h j e = search (rules, no-modifiers, stays-off, no-modifier)
 
--- nor do the releases of the keys of a set
+-- releases of the keys of a set leave all modifiers off
 one_release : (ms : Maps) (xs h : List Event) (t : Bool) (o : Option ℕ) → is_any_on_after ms (reverse xs ++ h) ≡ false
     → is_any_on_after ms (reverse (xs ++ (if t then event_if false o else [])) ++ h) ≡ false
 one_release ms xs h true None e = rw append-nil e

@@ -31,7 +31,7 @@ release-step true (Some i) j h e = search (rules, pressed-release, eq-eqb)
 release-step true None j h e = (e, λ _ same. cc)
 release-step false o j h e = (e, λ t _. true≢false (sym t))
 
--- the same of the keys of a set
+-- a key is pressed after presses of the keys of a set only if it was before, or is one of them
 presses : (keys : List (Option ℕ)) (s e j n : ℕ) (h : List Event) → n ≤ 4
     → pressed j (reverse (gathered (event_at true keys s e) n) ++ h) ≡ true → (pressed j h ≡ true) ⊎ IsNamed keys s e j
 unfolding gathered

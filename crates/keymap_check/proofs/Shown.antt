@@ -73,7 +73,7 @@ on-alone : (i : Modifier) (k c : ℕ)
 unfolding held remembered
 on-alone i k c = rw (self i, eq-eqb k k refl) refl
 
--- the same under a second modifier, which is let go
+-- a modifier whose key looks up a character stays on under a second modifier, which is let go
 on-further : (i y : Modifier) (k j c : ℕ) → (j == k) ≡ false → (k == j) ≡ false
     → (modifier_index y == modifier_index i) ≡ false
     → on i

@@ -37,12 +37,12 @@ pub record IsFinding (m : MapValue) (f : Finding) : Type 0 where
 abbrev pub IsUnsafeKey : MapValue → ℕ → Type 0
 IsUnsafeKey m k = (a : Holding) × Bears m k a × ((c : ℕ) × IsCellOf m k (Char c))
 
--- it is that of the least key that makes the map refused
+-- the finding of the least key that makes the map refused
 pub record IsFirstFinding (m : MapValue) (f : Finding) : Type 0 where
   pub finding : IsFinding m f
   pub least : (k : ℕ) → k < key_count → IsUnsafeKey m k → f.key ≤ k
 
--- one finding for each key that makes the map refused, in the order of the keys
+-- a finding for each key that makes the map refused, in the order of the keys
 pub record AreFindings (m : MapValue) (fs : List Finding) : Type 0 where
   pub each : All (IsFinding m) fs
   pub in_order : AllPairs (λ f g. f.key < g.key) fs

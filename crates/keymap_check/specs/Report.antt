@@ -6,11 +6,11 @@ use Rattle.keymap_core.specs.declared.action.Holding.TheVariants as holding
 use Rattle.keymap_core.specs.Actions.{holdings, locks, holding_index, lock_index}
 use Rattle.keymap_core.specs.Maps.{MapValue}
 use Rattle.keymap_core.specs.Bearers.{NobodyBears, BearsThroughout, BearsNotThroughout, SeveralBear}
-use Rattle.console_core.specs.declared.outcome.Sticking.{Sticking}
+use Rattle.console_states.specs.declared.outcome.Sticking.{Sticking}
 use Rattle.console_core.specs.Headline.{IsSafe, IsSteady}
 use Rattle.console_core.specs.History.{Maps}
-use Rattle.console_core.specs.Moves.{with_loads}
-use Rattle.console_core.specs.Sticking.{NeverSticksBetween, NeverForgets, IsAnswerBetween, says_sticks}
+use Rattle.console_states.specs.Moves.{with_loads}
+use Rattle.console_states.specs.Sticking.{NeverSticksBetween, NeverForgets, IsAnswerBetween, says_sticks}
 use Rattle.keymap_check.specs.Computed.{bearer_of, is_steady, findings_of}
 use Rattle.keymap_check.specs.Findings.{AreFindings}
 
@@ -21,7 +21,7 @@ IsBearer m a (Throughout k) = BearsThroughout m k a
 IsBearer m a (Sole k) = BearsNotThroughout m k a
 IsBearer m a Several = SeveralBear m a
 
--- whether it has a part in which cell is looked up
+-- whether the modifier or lock has a part in which cell is looked up
 abbrev pub picks_a_cell : Holding → Bool
 picks_a_cell (holding.Mod Meta) = false
 picks_a_cell (holding.Lock Scroll) = false
@@ -39,14 +39,14 @@ IsAccepted r = r.findings ≡ []
 abbrev pub bearer_in : ReportValue → Holding → Bearer
 bearer_in r a = slice_index_or r.bearers (holding_index a) Nobody
 
--- nobody bears it, or one key alone does, throughout
+-- nobody bears the action, or one key alone does, throughout
 abbrev pub is_plain_bearer : Bearer → Bool
 is_plain_bearer Nobody = true
 is_plain_bearer (Throughout k) = true
 is_plain_bearer (Sole k) = false
 is_plain_bearer Several = false
 
--- so it is for each modifier and lock that picks a cell: all but meta and slock
+-- nobody, or one key throughout, bears each modifier and lock that picks a cell: all but meta and slock
 abbrev pub HasPlainBearers : ReportValue → Type 0
 HasPlainBearers r = (a : Holding) → picks_a_cell a ≡ true → is_plain_bearer (bearer_in r a) ≡ true
 

@@ -22,7 +22,7 @@ group_at bit =
     if bit == 0 then group.Shift else if bit == 1 then group.Control else if bit == 2 then group.Alt
     else group.AltShift
 
--- one of the key's cells is a modifier of the bit's group
+-- a cell of the key is a modifier of the bit's group
 abbrev pub bears_group : MapValue → ℕ → ℕ → Bool
 bears_group m bit k = is_some (first_place m (kind.Of (group_at bit)) k)
 

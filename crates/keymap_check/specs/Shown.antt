@@ -7,7 +7,7 @@ use Rattle.keymap_check.specs.Types.{AltShift, Meta, Cell, Char, Act, Event, Gro
 use Rattle.keymap_core.specs.Maps.{MapValue, cell_at}
 use Rattle.keymap_core.specs.Bearers.{IsCellOf, IsUpperLive}
 use Rattle.keymap_core.specs.Numbers.{key_count}
-use Rattle.console_core.specs.Sticking.{LeavesOn}
+use Rattle.console_states.specs.Sticking.{LeavesOn}
 use Rattle.console_core.specs.Traps.{Bits, cell_with}
 use Rattle.keymap_check.specs.declared.kind.Group.TheVariants as group
 use Rattle.keymap_check.specs.Scripts.{bit_key, demonstration_of}

@@ -13,13 +13,13 @@ use keymap_core::{Holding, KEY_COUNT, KeyCode, key_with};
 /// Which key bears a holding action.
 #[derive(Clone, Copy, Debug, PartialEq, Eq)]
 pub enum Bearer {
-    /// No key bears it.
+    /// No key bears the action.
     Nobody,
-    /// This key alone bears it, in all its cells.
+    /// The key alone bears the action, in all its cells.
     Throughout(KeyCode),
-    /// This key alone bears it, not in all its cells.
+    /// The key alone bears the action, not in all its cells.
     Sole(KeyCode),
-    /// More than one key bears it.
+    /// More than one key bears the action.
     Several,
 }
 

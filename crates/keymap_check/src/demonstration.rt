@@ -4,7 +4,7 @@ ghost use Rattle.keymap_check.specs.Types.{Modifier as ModifierValue, Event as E
 ghost use Rattle.keymap_core.specs.Maps.{MapValue};
 ghost use Rattle.keymap_core.specs.Numbers.{key_count};
 ghost use Rattle.console_core.specs.History.{Maps, between};
-ghost use Rattle.console_core.specs.Sticking.{LeavesOn};
+ghost use Rattle.console_states.specs.Sticking.{LeavesOn};
 ghost use Rattle.console_core.specs.Traps.{NobodyBearsCellPickingLocks, HasNoTrap};
 ghost use Rattle.keymap_check.specs.Scripts.{leaves_modifier_on as leaves_modifier_on_in, events_of};
 ghost use Rattle.keymap_check.specs.Scripts.{start_of, script as script_of, scripts_of, scripts_from};
@@ -166,7 +166,7 @@ fn first_script(map: &KeyMap, survey: &Survey) -> Option<Script>
 /// set A. A script presses the keys of A, presses the tried key, goes on from A to B, presses the tried key again and
 /// releases it, and releases the keys of B.
 ///
-/// That there is none does not mean that a refused keymap cannot stick, since no other scripts are tried.
+/// Where no script is given, a refused keymap can still stick, since no other scripts are tried.
 pub fn demonstrate(map: &KeyMap) -> Option<Script>
     ensures first { option_map (λ s. s.items) result ≡ demonstration_of map.now }
     ensures leaves_on { IfSome result (λ s. LeavesOn map.now (reverse s.items)) }

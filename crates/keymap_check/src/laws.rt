@@ -5,10 +5,8 @@ ghost use Rattle.keymap_check.specs.Promises.{SafeMapsKeepTheirPromise};
 ghost use Rattle.keymap_check.specs.Shown.{DemonstrationsLeaveModifiersOn};
 ghost use Rattle.keymap_check.specs.Tried.{BitKeysAreLeast, TriedKeysAreUnsafe};
 
-use console_core::laws::{
-    modifiers_follow_keys, quiet_is_a_reset, repeats_turn_no_steady_lock,
-    safe_maps_never_stick_between,
-};
+use console_core::laws::{modifiers_follow_keys, quiet_is_a_reset, repeats_turn_no_steady_lock};
+use console_states::laws::safe_maps_never_stick_between;
 
 /// The findings, bearers and steady locks that are computed of a map are those that the map has.
 pub fn reports_are_computed()

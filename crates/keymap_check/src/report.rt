@@ -58,7 +58,7 @@ impl Report {
         &self.findings
     }
 
-    /// The first of them.
+    /// The first finding.
     fn first(&self) -> Option<Finding>
         ensures { result ≡ slice_get self.now.findings 0 }
     {
@@ -149,7 +149,7 @@ pub fn first_finding<K: Keymap>(map: &K) -> Option<Finding>
 
 /// Checks the keymap: whether it is safe, which keys bear what, and which locks are steady.
 ///
-/// What it promises holds after every list of delivered events that leaves the keymap in force, loads of another
+/// The promise holds after every list of delivered events that leaves the keymap in force, loads of another
 /// keymap among them. Where it is accepted, a modifier is on only while a key that bears it is pressed, and once no
 /// key is pressed no modifier is on, and with no accent pending the console goes on as after a reset. For every
 /// keymap, a modifier that one key alone bears throughout is on exactly while that key is pressed, and no repeat turns

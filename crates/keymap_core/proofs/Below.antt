@@ -1,4 +1,4 @@
--- One more number below a bound.
+-- What stands below a bound, where the bound goes up by one.
 use Rattle.keymap_core.proofs.Common.{zero, suc, ◌≡◌, ℕ, ◌<◌, ◌≤◌, length, length-append, ◌+◌, ◌-◌, Bool, true, false}
 use Rattle.keymap_core.proofs.Common.{List, [], ◌++◌, Option, Some, None, refl, ap, subst, sym, ◌∙◌, inl, inr, arith}
 use Rattle.keymap_core.proofs.Common.{none-some, same_Some, option_or, first_below, rules}

@@ -24,7 +24,7 @@ any-suc : (test : ℕ → Bool) (n : ℕ) → any_below test (suc n) ≡ (any_be
 unfolding any_below
 any-suc test n = refl
 
--- the same, where the code counts up
+-- below n + 1 are the numbers below n, and n, where the code counts up
 pub any-more : (test : ℕ → Bool) (n : ℕ) → any_below test (n + 1) ≡ (any_below test n || test n)
 any-more test n = let e : n + 1 ≡ suc n = omega arith in ap (λ x. any_below test x) e ∙ any-suc test n
 
@@ -44,7 +44,7 @@ any-some test i (suc n) lt e =
           or_left (any_below test n) (test n) (any-some test i n (omega arith) e)
     ]
 
--- where one is found, it is a number that passes
+-- where any_below passes, some number below the bound does
 pub some-any : (test : ℕ → Bool) (n : ℕ) → any_below test n ≡ true → (i : ℕ) × (i < n) × (test i ≡ true)
 unfolding any_below
 some-any test zero e = absurd (true≢false (sym e))

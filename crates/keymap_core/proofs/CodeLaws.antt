@@ -39,7 +39,7 @@ plain-known _ h = tt
 abbrev HasCode : ℕ → Action → Type 0
 HasCode c action = (code_of action ≡ c) × IsAction action
 
--- one step of the search by code
+-- a step of the search by code
 step-has_code : (c : ℕ) (x action : Action) (rest : Option Action) (b : Bool) → code_of x == c ≡ b → IsAction x
     → (rest ≡ Some action → HasCode c action) → cond b (Some x) rest ≡ Some action → HasCode c action
 step-has_code c x action rest true test known later h =
@@ -55,7 +55,7 @@ find-has_code c (x ∷ xs) action plain h =
     step-has_code c x action (find (λ y. code_of y == c) xs) (code_of x == c) refl (plain-known x parts.0)
     (find-has_code c xs action parts.1) h
 
--- one range of codes of actions with a number
+-- a range of codes of actions with a number
 range-has_code : (c low high : ℕ) (numbered action : Action) (rest : Option Action) (b : Bool) → within low high c ≡ b
     → (low ≤ c → c ≤ high → HasCode c numbered) → (rest ≡ Some action → HasCode c action)
     → cond b (Some numbered) rest ≡ Some action → HasCode c action
@@ -88,7 +88,7 @@ beyond-find c (x ∷ xs) below h =
 beyond-none : (c : ℕ) → 0xa4 ≤ c → action_of c ≡ None
 beyond-none c h = search (rules, beyond-find, nat_tests)
 
--- the same as a test
+-- the test for codes of no action
 abbrev is_code_of_no_action : ℕ → Bool
 is_code_of_no_action c = (c == 0x01) || within 0x7b 0x7f c || within 0x9b 0xa0 c || nat_le 0xa4 c
 

@@ -25,7 +25,7 @@ behind : (p : Action → Bool) (front rest : List ℕ) → find p (filter_map ac
     → find p (filter_map action_of (front ++ rest)) ≡ find p (filter_map action_of rest)
 behind p front rest e = search (rules, filter_map-append, find-append)
 
--- one more code whose action fails: still nothing is found
+-- with the code of an action that fails behind the others still nothing is found
 pub none-more : (p : Action → Bool) (codes : List ℕ) (i : ℕ) → i < length codes
     → find p (filter_map action_of (take i codes)) ≡ None
     → option_map_or p (action_of (get_or codes i 0)) false ≡ false

@@ -66,7 +66,7 @@ none-behind letters word h = search (rules, behind_at, take-map)
 pub none-shorter : (letters word : List ℕ) → length word < length letters → number_behind letters (lower word) ≡ None
 none-shorter letters word h = search (rules, behind_at, bytes_eq-Decides, length-take, length-map)
 
--- the same numbers, cut at 255
+-- a number that is there or not, cut at 255
 pub cut : (b : Bool) (n : ℕ) → option_map (λ n. min n 255) (cond b (Some n) None) ≡ cond b (Some (min n 255)) None
 cut true n = refl
 cut false n = refl

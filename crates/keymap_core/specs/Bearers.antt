@@ -25,27 +25,27 @@ IsUpperLive m =
 abbrev pub IsCellOf : MapValue → ℕ → Cell → Type 0
 IsCellOf m k x = StandsIn m k x ⊎ (IsUpperLive m × StandsIn m (k + key_count) x)
 
--- one of the key's cells is the holding action
+-- a cell of the key is the holding action
 abbrev pub Bears : MapValue → ℕ → Holding → Type 0
 Bears m k a = IsCellOf m k (Act (holding_action a))
 
--- no other key bears it
+-- no other key bears the action
 abbrev pub IsAlone : MapValue → ℕ → Holding → Type 0
 IsAlone m k a = (j : ℕ) → j < key_count → Bears m j a → j ≡ k
 
--- the key alone bears it, in all its cells
+-- the key alone bears the action, in all its cells
 abbrev pub BearsThroughout : MapValue → ℕ → Holding → Type 0
 BearsThroughout m k a = (k < key_count) × IsAlone m k a × ((x : Cell) → IsCellOf m k x → x ≡ Act (holding_action a))
 
--- one key alone bears it, and has another cell too
+-- the key alone bears the action, and has another cell too
 abbrev pub BearsNotThroughout : MapValue → ℕ → Holding → Type 0
 BearsNotThroughout m k a =
     (k < key_count) × Bears m k a × IsAlone m k a × ((x : Cell) × IsCellOf m k x × (x ≢ Act (holding_action a)))
 
--- no key bears it
+-- no key bears the action
 abbrev pub NobodyBears : MapValue → Holding → Type 0
 NobodyBears m a = (k : ℕ) → k < key_count → ¬ (Bears m k a)
 
--- two keys or more bear it
+-- two keys or more bear the action
 abbrev pub SeveralBear : MapValue → Holding → Type 0
 SeveralBear m a = (j : ℕ) × (k : ℕ) × (j < key_count) × (k < key_count) × (j ≢ k) × Bears m j a × Bears m k a

@@ -12,7 +12,7 @@ use Rattle.keymap_core.specs.declared.action.Modifier.TheVariants as m
 use Rattle.keymap_core.specs.declared.named.Named.{Named}
 use Rattle.keymap_core.specs.declared.named.Named.TheVariants as n
 
--- one or more decimal digits
+-- the bytes are decimal digits, at least one
 abbrev pub are_digits : List ℕ → Bool
 are_digits digits = nat_lt 0 (length digits) && list_all is_ascii_digit digits
 

@@ -6,15 +6,15 @@ use Rattle.keymap_core.specs.Actions.{within}
 abbrev pub is_control : ℕ → Bool
 is_control c = nat_lt c 32 || within 127 159 c
 
--- it ends a line or a paragraph (Zl, Zp)
+-- a separator of lines or paragraphs (Zl, Zp)
 abbrev pub ends_line : ℕ → Bool
 ends_line c = within 0x2028 0x2029 c
 
--- it turns the direction of writing (Bidi_Control)
+-- a sign that turns the direction of writing (Bidi_Control)
 abbrev pub turns_direction : ℕ → Bool
 turns_direction c = c == 0x61c || within 0x200e 0x200f c || within 0x202a 0x202e c || within 0x2066 0x2069 c
 
--- it can't be seen (Default_Ignorable_Code_Point), by where it stands: among the letters of scripts, among punctuation
+-- an ignorable character (Default_Ignorable_Code_Point), by its place: among the letters of scripts, among punctuation
 -- and variants, and from the half-width forms on
 abbrev pub is_ignorable_letter : ℕ → Bool
 is_ignorable_letter c =
@@ -31,11 +31,11 @@ is_ignorable_above c =
     c == 0xffa0 || within 0xfff0 0xfff8 c || within 0x1bca0 0x1bca3 c || within 0x1d173 0x1d17a c
     || within 0xe0000 0xe0fff c
 
--- it sets a note between lines
+-- a sign that sets a note between lines
 abbrev pub annotates : ℕ → Bool
 annotates c = within 0xfff9 0xfffb c
 
--- one of these; those of ASCII are controls
+-- a character of these kinds above ASCII; those of ASCII are controls
 abbrev pub is_unseen_above : ℕ → Bool
 is_unseen_above c =
     ends_line c || turns_direction c || is_ignorable_letter c || is_ignorable_sign c || is_ignorable_above c

@@ -12,7 +12,7 @@ use std::marker::Model;
 pub enum PairFault {
     /// The base is character 0, which ends the pairs in a table.
     ZeroBase,
-    /// There are 52 pairs already.
+    /// The accent has 52 pairs already.
     TooManyPairs,
 }
 

@@ -19,7 +19,7 @@ pub enum Modifier {
     RightControl,
     LeftAlt,
     RightAlt,
-    /// It selects the upper half of the slots.
+    /// Ashift, which selects the upper half of the slots.
     AltShift,
     Meta,
 }
@@ -30,7 +30,7 @@ pub enum Lock {
     Caps,
     Num,
     Scroll,
-    /// It selects the upper half of the slots.
+    /// Alock, which selects the upper half of the slots.
     Alt,
 }
 

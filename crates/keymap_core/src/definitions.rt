@@ -9,7 +9,7 @@ use crate::map::KeyMap;
 
 /// Takes definitions of keys and accents.
 pub trait Definitions {
-    /// It shows this map. Where it shows none, nothing is said of what a definition leaves.
+    /// The value shows this map. Where it shows none, nothing is said of what a definition leaves.
     ghost shows: { Self → MapValue → Type 0 };
 
     /// Defines the slot. Slots below it that weren't defined stay undefined.

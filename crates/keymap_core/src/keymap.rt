@@ -9,7 +9,7 @@ use crate::map::KeyMap;
 
 /// A keymap, however it is kept: what stands at each slot and column, and what each accent gives.
 pub trait Keymap {
-    /// It shows this map. Where it shows none, nothing is said of what its methods answer.
+    /// The value shows this map. Where it shows none, nothing is said of what its methods answer.
     ghost shows: { Self → MapValue → Type 0 };
 
     /// The cell of the slot in the column.

@@ -3,11 +3,11 @@ pub use Prim.Native.Nat.{suc, zero}
 pub use Rattle.console_core.specs.Columns.{bit}
 pub use Rattle.console_core.specs.History.{Maps, between}
 unfoldable pub use Rattle.console_core.specs.History.{resolved}
-pub use Rattle.console_core.specs.Moves.{alone}
-pub use Rattle.console_core.specs.Visiting.{AreTaken, CanVisit, IsPair}
-pub use Rattle.console_core.specs.Sights.{AreSightsOf, IsReachable, SeesAlong}
+pub use Rattle.console_states.specs.Moves.{alone}
+pub use Rattle.console_states.specs.Visiting.{AreTaken, CanVisit, IsPair}
+pub use Rattle.console_states.specs.Sights.{AreSightsOf, IsReachable, SeesAlong}
 pub use Rattle.console_core.specs.declared.event.Event.{Event}
-pub use Rattle.console_core.specs.declared.selection.Sight.{Sight}
+pub use Rattle.console_states.specs.declared.selection.Sight.{Sight}
 pub use Rattle.keymap_core.specs.Maps.{MapValue}
 pub use Rattle.keymap_cover.specs.Covering.{SeesKeysBy, SeesToldBy}
 pub use Rattle.keymap_cover.specs.Inner.Adding.{ArePartsBelow, StandBehind}

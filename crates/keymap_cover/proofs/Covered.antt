@@ -1,18 +1,18 @@
 -- A script that ends at rest, and shows in its parts what is told of, covers.
-use Rattle.keymap_cover.proofs.Common.{◌≡◌, ℕ, Bool, true, List, subst, sym, ◌∙◌, ap, arith, length, reverse, take}
-use Rattle.keymap_cover.proofs.Common.{MapValue, Event, Sight, SeesAlong, AreSightsOf, events_of, has_seen, IsScript}
+use Rattle.keymap_cover.proofs.Common.{Bool, List, subst, sym, ◌∙◌, arith, length, reverse}
+use Rattle.keymap_cover.proofs.Common.{MapValue, Event, SeesAlong, AreSightsOf, events_of, has_seen, IsScript}
 use Rattle.keymap_cover.proofs.Common.{AreUp, AreParts, ScriptEvent}
 use Rattle.std.proofs.lemmas.List.{take_all}
 use Rattle.console_core.specs.History.{HasKeys}
 use Rattle.keymap_cover.specs.declared.parts.Cover.{Cover}
-use Rattle.keymap_cover.specs.Covering.{history, IsAtRest, Covers}
+use Rattle.keymap_cover.specs.Covering.{IsAtRest, IsScrollOff, Covers}
 use Rattle.keymap_cover.specs.Inner.Scripts.{ShowsInParts}
 use Rattle.keymap_cover.proofs.Showing.{sees-more}
 
 pub script-covers : (m : MapValue) (h : List Event) (c : Cover) (down : List Bool)
-    → IsScript m h c.events.items down (has_seen c.seen) → IsAtRest m h → AreUp down → AreSightsOf m c.sights
+    → IsScript m h c.events.items down (has_seen c.seen) → IsAtRest m h × IsScrollOff m h → AreUp down → AreSightsOf m c.sights
     → AreParts c.starts.items (length c.events.items) → ShowsInParts m c.events.items c.starts.items → Covers m c
-script-covers m h c down t rest up are parts (first, second, keys, told, le, behind) = record {
+script-covers m h c down t (rest, off) up are parts (first, second, keys, told, le, behind) = record {
   seen = λ x has. subst (λ g. SeesAlong m g x) (sym t.history) (t.seen x has);
   all_seen = λ x along. t.all_seen x (subst (λ g. SeesAlong m g x) t.history along);
   sights = are;
@@ -20,6 +20,7 @@ script-covers m h c down t rest up are parts (first, second, keys, told, le, beh
   possible = t.possible;
   rest = subst (λ g. IsAtRest m g) (sym t.history) rest;
   up = λ k lt. sym (t.pressed k lt) ∙ up k lt;
+  scroll = subst (λ g. IsScrollOff m g) (sym t.history) off;
   parts = parts;
   complete = λ x has can.
       subst (λ z. SeesAlong m (events_of (reverse z)) x) (take_all (length events) events (omega arith))

@@ -7,3 +7,4 @@ pub mod Telling
 pub mod Scripts
 pub mod Walking
 mod Ordered
+mod Verdicts

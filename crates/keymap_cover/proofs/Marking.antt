@@ -7,9 +7,9 @@ use Rattle.std.proofs.Common.{◌&&◌}
 use Rattle.std.specs.Prelude.{nat_lt}
 use Rattle.std.proofs.lemmas.Bool.{and_from, and_parts, false_from_ne_true}
 use Rattle.std.proofs.lemmas.List.{get_or-set_same, get_or-set_other}
-use Rattle.console_core.proofs.Visible.{same-truth, any-member, some-member}
+use Rattle.console_states.proofs.Visible.{same-truth, any-member, some-member}
 use Rattle.keymap_cover.specs.SeenSights.{seen_in}
-use Rattle.console_core.specs.declared.selection.Sight.TheVariants as sight
+use Rattle.console_states.specs.declared.selection.Sight.TheVariants as sight
 
 -- an element after a write
 pub set-cases : (xs : List Bool) (i j : ℕ) (v : Bool) → i < length xs → (t : Bool) → (i == j) ≡ t

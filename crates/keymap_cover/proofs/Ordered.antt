@@ -16,7 +16,7 @@ pub parts-skip : (place : ℕ) (starts : List Start) (n : ℕ) → ArePartsBelow
     → ArePartsBelow (place + 1) starts n
 parts-skip place starts n x = record { parts = x.parts; below = λ k d lt. omega (arith, x.below k d lt) }
 
--- one with events begins behind those before it
+-- a part with events begins behind those before it
 pub parts-more : (place : ℕ) (starts now : List Start) (start : Start) (n m : ℕ) → part_place start.part ≡ place
     → ArePartsBelow place starts n → now ≡ starts ++ start ∷ [] → start.at ≡ n → n < m
     → ArePartsBelow (place + 1) now m

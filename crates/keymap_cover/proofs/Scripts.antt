@@ -1,4 +1,4 @@
--- What one more event does to a script.
+-- What a further event does to a script.
 use Rattle.std.proofs.Common.{arith}
 use Rattle.keymap_cover.proofs.Common.{◌≡◌, ℕ, ◌<◌, ◌⊎◌, inl, inr, Bool, true, false, List, [], ◌∷◌, ◌++◌, Option, None}
 use Rattle.keymap_cover.proofs.Common.{Some, refl, ap, subst, sym, ◌∙◌, length, reverse, if◌then◌else◌, not, ◌==◌}
@@ -6,29 +6,29 @@ use Rattle.keymap_cover.proofs.Common.{slice_set, slice_index_or, replicate, All
 use Rattle.keymap_cover.proofs.Common.{reverse-append, MapValue, Event, Sight, between, resolved, SeesAlong}
 use Rattle.keymap_cover.proofs.Common.{ScriptEvent}
 use Rattle.keymap_cover.proofs.Common.{event_of, events_of, is_down, alone, AreSightsOf}
-use Rattle.keymap_cover.proofs.Common.{has_seen, AddsPair, IsScript, AreUp}
+use Rattle.keymap_cover.proofs.Common.{AddsPair, IsScript, AreUp}
 use Rattle.std.specs.Option.{is_some}
 use Rattle.std.proofs.lemmas.List.{get_or-replicate}
 use Rattle.keymap_core.specs.declared.action.Modifier.{Modifier}
 use Rattle.keymap_core.specs.declared.action.Lock.{Lock}
 use Rattle.keymap_core.specs.declared.entry.Cell.TheVariants.{Char}
 use Rattle.keymap_core.specs.Numbers.{key_count}
-use Rattle.console_core.specs.declared.selection.Selection.{Selection}
+use Rattle.console_states.specs.declared.selection.Selection.{Selection}
 use Rattle.console_core.specs.Resolved.{held, dead_keys_taken, pending_by_dead_keys}
-use Rattle.console_core.specs.History.{pressed, is_on_after, HasKey, HasKeys, is_locked_after, accent_pending_after}
+use Rattle.console_core.specs.History.{pressed, is_on_after, HasKey, is_locked_after, accent_pending_after}
 use Rattle.console_core.specs.History.{is_any_on_after}
 use Rattle.console_core.proofs.OneMore.{pressed-start, pressed-press, pressed-release, pressed-reset}
 use Rattle.keymap_core.proofs.HoldingTests.{no-modifier}
-use Rattle.console_core.specs.Sights.{selection_with, slot_in, column_in, look_selected, selection_after, SeesNext}
+use Rattle.console_states.specs.Sights.{selection_with, slot_in, column_in, look_selected, selection_after, SeesNext}
 use Rattle.keymap_cover.specs.ScriptEvents.{CanFollow, ArePossible}
-use Rattle.console_core.specs.declared.sights.Sights.{Sights}
-use Rattle.console_core.specs.Sticking.{NeverForgets}
+use Rattle.console_states.specs.declared.sights.Sights.{Sights}
+use Rattle.console_states.specs.Sticking.{NeverForgets}
 use Rattle.keymap_cover.specs.Covering.{IsAtRest}
 use Rattle.keymap_cover.proofs.Marking.{set-cases}
 use Rattle.keymap_cover.specs.Inner.Scripts.{IsWith, AddsSights}
 use Rattle.keymap_core.specs.declared.action.Holding.TheVariants as holding
 use Rattle.console_core.specs.declared.event.Event.TheVariants as event
-use Rattle.console_core.specs.declared.selection.Sight.TheVariants as sight
+use Rattle.console_states.specs.declared.selection.Sight.TheVariants as sight
 use Rattle.keymap_cover.specs.declared.script_event.ScriptEvent.TheVariants as script_event
 
 -- the pair of a press was added
@@ -57,7 +57,7 @@ sights-added : (m : MapValue) (h : List Event) (k : ℕ) (pending : Option ℕ) 
     → AddsPair m y k pending b now → AddsSights m h k old now)
 sights-added m h k pending old a b now is v w pair x = grind (arith)
 
--- the same by what a console shows
+-- what a press sees, by what a console shows, was added
 pub shown-added : (m : MapValue) (h : List Event) (k slot column : ℕ) (pending : Option ℕ) (y : Selection)
     (old a b now : Sight → Bool) (on : Modifier → Bool) (off : Lock → Bool)
     → y ≡ selection_with on off → ((i : Modifier) → on i ≡ is_on_after (between m m) i h)
@@ -92,7 +92,7 @@ down-press (script_event.Repeat i) k j before e = cc
 down-press (script_event.Up i) k j before e = cc
 down-press script_event.Reset k j before e = cc
 
--- one more event stands in front where the newest stands first
+-- a further event stands in front where the newest stands first
 newest : (events : List ScriptEvent) (x : ScriptEvent) → reverse (events ++ x ∷ []) ≡ x ∷ reverse events
 newest events x = reverse-append events (x ∷ [])
 
@@ -195,7 +195,7 @@ at-rest m h = (
   refl,
 )
 
--- nor is it before all events
+-- before all events nothing is pressed, on or pending
 pub at-rest_new : (m : MapValue) → IsAtRest m []
 unfolding resolved held dead_keys_taken pending_by_dead_keys
 at-rest_new m = ((λ k lt. pressed-start k), (λ i. refl), refl)
@@ -219,7 +219,7 @@ not-pressed k (script_event.Up j ∷ xs) e =
     ∙ by-whether (j == k) false (is_down k xs) (pressed k (events_of xs)) (λ f. not-pressed k xs f) e
 not-pressed k (script_event.Reset ∷ xs) e = pressed-reset k (events_of xs)
 
--- so a key that is pressed is down
+-- a key that is pressed is down
 pub up-not : (m : MapValue) (h : List Event) (events : List ScriptEvent) (down : List Bool) (saw : Sight → Bool) (k : ℕ)
     → IsScript m h events down saw → k < key_count → slice_index_or down k false ≡ false → pressed k h ≡ true → ⊥
 up-not m h events down saw k t lt off on = grind (arith, not-pressed)

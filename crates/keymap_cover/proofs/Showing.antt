@@ -3,20 +3,21 @@ use Rattle.keymap_cover.proofs.Common.{suc, ◌≡◌, ℕ, ◌+◌, ◌<◌, �
 use Rattle.keymap_cover.proofs.Common.{ap, subst, sym, inl, inr, ◌∙◌, arith, append_assoc, length, get_or, reverse}
 use Rattle.keymap_cover.proofs.Common.{Contains, eqb-true, eq-eqb}
 use Rattle.keymap_cover.proofs.Common.{get_or_default, All-nil, All-cons, Contains-append_cases, MapValue, Event, Sight}
-use Rattle.keymap_cover.proofs.Common.{Standing, SeesAlong, IsReachable, CanVisit, IsPair, ScriptEvent, Script}
+use Rattle.keymap_cover.proofs.Common.{Standing, SeesAlong, IsReachable, CanVisit, ScriptEvent, Script}
 use Rattle.keymap_cover.proofs.Common.{has_seen, take}
 use Rattle.keymap_cover.proofs.Common.{SeesKeysBy, SeesToldBy, reverse-append}
 use Rattle.keymap_cover.proofs.Common.{all_cells, all_lock_settings, event_of, events_of, is_down, pairs_in}
-use Rattle.keymap_cover.proofs.Common.{GoesAlongToRest, ComesAfter, AreUp, GoesUnderWay, GoesResting}
+use Rattle.keymap_cover.proofs.Common.{GoesAlongToRest, ComesAfter, AreUp, GoesUnderWay}
 use Rattle.std.proofs.Common.{length-append}
 use Rattle.std.proofs.Common.{◌-◌, drop}
 use Rattle.std.proofs.Math.Seq.{drop-append_seam, take-add}
 use Rattle.std.proofs.lemmas.List.{length-reverse, length-take-le, take_all}
-use Rattle.keymap_core.specs.declared.action.Lock.TheVariants.{Caps, Num, Alt}
+use Rattle.keymap_core.specs.declared.action.Lock.TheVariants.{Caps, Num, Scroll, Alt}
 use Rattle.console_core.specs.History.{HasNoLoads, IsNoLoad}
-use Rattle.console_core.specs.Visiting.{HasLocks, ExplorerValue, Visits}
+use Rattle.console_states.specs.Visiting.{HasLocks, ExplorerValue, TurnsScrollOff, Visits}
+use Rattle.keymap_cover.specs.Covering.{IsScrollOff}
 use Rattle.keymap_cover.specs.Inner.Scripts.{RunsAlong, IsScriptOf, IsUnderWay, GoesFurther, SeesAll, ShowsTold}
-use Rattle.keymap_cover.specs.Inner.Scripts.{EndsAtRest}
+use Rattle.keymap_cover.specs.Inner.Scripts.{EndsAtRest, GoesScrollOff, IsResting}
 use Rattle.keymap_cover.proofs.Telling.{all-told, key-told}
 use Rattle.keymap_cover.proofs.Scripts.{at-rest_new}
 use Rattle.keymap_cover.proofs.Walking.{after-more}
@@ -34,7 +35,7 @@ events-loads (script_event.Up k ∷ xs) = All-cons IsNoLoad (event_of (script_ev
 events-loads (script_event.Reset ∷ xs) = All-cons IsNoLoad (event_of script_event.Reset) (events_of xs) refl
     (events-loads xs)
 
-script-loads : (m : MapValue) (h : List Event) (t : Script) → IsScriptOf m h t → HasNoLoads h
+pub script-loads : (m : MapValue) (h : List Event) (t : Script) → IsScriptOf m h t → HasNoLoads h
 script-loads m h t script = subst HasNoLoads script.history (events-loads (reverse t.events.items))
 
 -- what is seen along a list is seen along a longer one
@@ -43,7 +44,7 @@ sees-longer m h g x (more, is) (later, before, k, at, sees) =
     subst (λ z. SeesAlong m z x) (sym is)
     (more ++ later, before, k, ap (λ z. more ++ z) at ∙ sym (append_assoc more later _), sees)
 
--- so what was seen once was seen later
+-- what was seen once was seen later
 pub seen-still : (m : MapValue) (h g : List Event) (a b : Script) (x : Sight) → IsScriptOf m h a → IsScriptOf m g b
     → ComesAfter h g → has_seen a.seen x ≡ true → has_seen b.seen x ≡ true
 seen-still m h g a b x before now after has = now.all_seen x (sees-longer m h g x after (before.seen x has))
@@ -244,33 +245,42 @@ told-shown m A p a B q b C r d xs ys n keys pairs is first second h w =
       ),
     )
 
--- one walk behind another
+-- a walk behind another, and the events that turn the scroll lock off
 pub walks-further : (m : MapValue) (x y : List Event) (A : Standing) (a : Script) (B : Standing) (b : Script)
-    (C : Standing) (d : Script) → GoesAlongToRest m x A a B b → GoesAlongToRest m y B b C d → GoesFurther m A a C d
-walks-further m x y A a B b C d first second h at =
+    (C : Standing) (d : Script) (D : Standing) (e : Script) → GoesAlongToRest m x A a B b → GoesAlongToRest m y B b C d
+    → AreUp d.pressed → GoesScrollOff m C d D e → GoesFurther m A a D e
+walks-further m x y A a B b C d D e first second up last h at =
     let (g, run, rest, after, exact) = first h at in
     let (f, end, there, more, same) = second g run in
-    (f, end, there, after-more h g f after more)
+    let (k, resting, behind, off) = last f (end, up, there) in
+    (k, resting, after-more h f k (after-more h g f after more) behind)
+
+-- a walk by events that turn the scroll lock off
+pub walks-off : (m : MapValue) (later h : List Event) (A : Standing) (a : Script) (B : Standing) (b : Script)
+    → RunsAlong m A h a → GoesAlongToRest m later A a B b → AreUp b.pressed → TurnsScrollOff m h later
+    → (g : List Event) × IsResting m B b g × ComesAfter h g × IsScrollOff m g
+walks-off m later h A a B b at walk up (taken, off) =
+    let (g, run, rest, after, exact) = walk h at in
+    (g, (run, up, rest), after, inl ((exact taken).1 Scroll ∙ off))
 
 -- what is told of is seen, and then the script goes further, and onward
 pub script-whole : (m : MapValue) (A : Standing) (p : ExplorerValue) (a : Script) (B : Standing) (q : ExplorerValue)
     (b : Script) (C : Standing) (d : Script) (D : Standing) (e : Script) (n : ℕ) → IsUnderWay m A p a []
-    → GoesUnderWay m A p a B q b (ShowsTold m n b) → GoesFurther m B b C d
-    → AreUp d.pressed → GoesResting m C d D e
+    → GoesUnderWay m A p a B q b (ShowsTold m n b) → GoesFurther m B b C d → GoesScrollOff m C d D e
     → EndsAtRest m e × SeesKeysBy m e.events.items n × SeesToldBy m e.events.items (length b.events.items)
     × (n ≤ length b.events.items) × (length b.events.items ≤ length d.events.items)
     × (length d.events.items ≤ length e.events.items)
-script-whole m A p a B q b C d D e n new shown further up onward =
+script-whole m A p a B q b C d D e n new shown further onward =
     let (g, w, after, (le, keys, told)) = shown [] new in
-    let (f, run, rest, more) = further g w.runs in
-    let (k, (end, ups, still), last) = onward f (run, up, rest) in
+    let (f, resting, more) = further g w.runs in
+    let (k, (end, ups, still), last, off) = onward f resting in
     let all = after-more g f k more last in
     let same = first-still m g k b e n w.runs.1 end.1 all le in
     let same_all = first-still m g k b e (length b.events.items) w.runs.1 end.1 all (omega arith) in (
-      (ups, (k, end.1, still)),
+      (ups, (k, end.1, still, off)),
       (λ x has key can. subst (λ z. SeesAlong m z x) same (keys x has key can)),
       (λ x has can. subst (λ z. SeesAlong m z x) same_all (told x has can)),
       le,
-      script-longer m g f b d w.runs.1 run.1 more,
-      script-longer m f k d e run.1 end.1 last,
+      script-longer m g f b d w.runs.1 resting.0.1 more,
+      script-longer m f k d e resting.0.1 end.1 last,
     )

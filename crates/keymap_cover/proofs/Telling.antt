@@ -17,33 +17,33 @@ use Rattle.console_core.specs.Answers.{has_own}
 use Rattle.keymap_cover.proofs.Marking.{bit-small}
 use Rattle.keymap_cover.specs.Told.{IsBaseOf, AreTold}
 use Rattle.keymap_cover.specs.Inner.Pairs.{pairs_of}
-use Rattle.console_core.specs.declared.selection.Sight.TheVariants as sight
+use Rattle.console_states.specs.declared.selection.Sight.TheVariants as sight
 
 -- ---- what is in a list
 
 first-has : {X : Type 0} (x : X) (xs : List X) → Contains (x ∷ xs) x
 first-has x xs = (0, omega arith, refl)
 
-later-has : {X : Type 0} (x : X) (xs : List X) (y : X) → Contains xs y → Contains (x ∷ xs) y
+pub later-has : {X : Type 0} (x : X) (xs : List X) (y : X) → Contains xs y → Contains (x ∷ xs) y
 later-has x xs y (k, lt, at) = (suc k, omega (arith, lt), at)
 
-range-has : (n k : ℕ) → k < n → Contains (range_with_len 0 n) k
+pub range-has : (n k : ℕ) → k < n → Contains (range_with_len 0 n) k
 range-has n k lt = (k, omega (arith, lt, length-range_with_len 0 n), omega (arith, get_or-range_with_len 0 n k k lt))
 
-range-of : (n k : ℕ) → Contains (range_with_len 0 n) k → k < n
+pub range-of : (n k : ℕ) → Contains (range_with_len 0 n) k → k < n
 range-of n k (i, lt, at) = grind (arith, length-range_with_len, get_or-range_with_len)
 
-map-has : {X Y : Type 0} (f : X → Y) (xs : List X) (x : X) → Contains xs x → Contains (map f xs) (f x)
+pub map-has : {X Y : Type 0} (f : X → Y) (xs : List X) (x : X) → Contains xs x → Contains (map f xs) (f x)
 map-has f xs x (k, lt, at) =
     (k, omega (arith, lt, length-map xs f), get_or-map f xs k x (f x) lt ∙ ap f at)
 
-map-of : {X Y : Type 0} (f : X → Y) (xs : List X) (y : Y) → Contains (map f xs) y → (x : X) × Contains xs x × (f x ≡ y)
+pub map-of : {X Y : Type 0} (f : X → Y) (xs : List X) (y : Y) → Contains (map f xs) y → (x : X) × Contains xs x × (f x ≡ y)
 map-of f [] y (k, lt, at) = absurd (omega (arith, lt))
 map-of f (x ∷ xs) y (zero, lt, at) = (x, first-has x xs, at)
 map-of f (x ∷ xs) y (suc k, lt, at) =
     grind (arith, later-has, map-of f xs y (k, omega (arith, lt), at))
 
-flat-has : {X Y : Type 0} (f : X → List Y) (xs : List X) (x : X) (y : Y) → Contains xs x → Contains (f x) y
+pub flat-has : {X Y : Type 0} (f : X → List Y) (xs : List X) (x : X) (y : Y) → Contains xs x → Contains (f x) y
     → Contains (flat_map f xs) y
 flat-has f [] x y (k, lt, at) has = absurd (omega (arith, lt))
 flat-has f (z ∷ xs) x y (zero, lt, at) has =
@@ -51,7 +51,7 @@ flat-has f (z ∷ xs) x y (zero, lt, at) has =
 flat-has f (z ∷ xs) x y (suc k, lt, at) has =
     Contains-append_right (f z) (flat_map f xs) y (flat-has f xs x y (k, omega (arith, lt), at) has)
 
-flat-of : {X Y : Type 0} (f : X → List Y) (xs : List X) (y : Y) → Contains (flat_map f xs) y
+pub flat-of : {X Y : Type 0} (f : X → List Y) (xs : List X) (y : Y) → Contains (flat_map f xs) y
     → (x : X) × Contains xs x × Contains (f x) y
 flat-of f [] y (k, lt, at) = absurd (omega (arith, lt))
 flat-of f (z ∷ xs) y has =
@@ -162,7 +162,7 @@ pair-of i (Some a) x has = by-own (a.own == 0) refl has
         let (p, among, is) = map-of (base_pair i) a.pairs x (k, omega (arith, lt), at) in
         (p.0, is, ap not e, inr (p, among, refl))
 
-usable-some : (o : Option AccentValue) → has_own o ≡ true → (a : AccentValue) × (o ≡ Some a)
+pub usable-some : (o : Option AccentValue) → has_own o ≡ true → (a : AccentValue) × (o ≡ Some a)
 usable-some None e = absurd (true≢false (sym e))
 usable-some (Some a) e = (a, refl)
 

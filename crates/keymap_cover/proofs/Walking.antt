@@ -8,7 +8,7 @@ use Rattle.keymap_cover.proofs.Common.{GoesAlong, GoesAlongToRest}
 use Rattle.std.proofs.Common.{◌≢◌}
 use Rattle.std.proofs.lemmas.List.{take_more}
 use Rattle.console_core.specs.Resolved.{locked}
-use Rattle.console_core.specs.Sticking.{IsOfPressedKey}
+use Rattle.console_states.specs.Sticking.{IsOfPressedKey}
 use Rattle.keymap_cover.specs.Inner.Scripts.{TurnsNone, GoesBy, GoesUp, GoesToRest}
 use Rattle.console_core.proofs.OneMore.{resolved-more, locked-release, locked-reset}
 use Rattle.keymap_cover.proofs.Scripts.{at-rest}
@@ -59,7 +59,7 @@ pub to-rest : (m : MapValue) (A : Standing) (a : Script) (B : Standing) (b : Scr
     → GoesToRest m A a B b
 to-rest m A a B b goes h at = (event.Reset ∷ h, goes h at, reset-turns_none m h, at-rest m h)
 
--- one release more behind some
+-- a further release behind some events
 pub on-more : (m : MapValue) (k : ℕ) (A : Standing) (a : Script) (B : Standing) (b : Script) (C : Standing) (c : Script)
     → GoesOn m A a B b → GoesUp m k B b C c → GoesOn m A a C c
 on-more m k A a B b C c first last h at =
@@ -95,7 +95,7 @@ along-more m events i e A a B b C c lt is first last h at =
           ∙ ap (λ z. e ∷ z) here ∙ ap (λ z. z ++ h) (sym next)),
     )
 
--- and to rest
+-- a walk along events, some more, and to rest
 pub along-rest : (m : MapValue) (later : List Event) (A : Standing) (a : Script) (B : Standing) (b : Script)
     (C : Standing) (c : Script) (D : Standing) (d : Script) → GoesAlong m later A a B b → GoesOn m B b C c
     → GoesToRest m C c D d → GoesAlongToRest m later A a D d

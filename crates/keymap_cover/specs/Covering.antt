@@ -1,17 +1,20 @@
 -- What a script covers.
-use Rattle.std.specs.Prelude.{◌≡◌, ℕ, ◌<◌, Bool, true, false, List, length, Option, None, Some, reverse, take}
+use Rattle.std.specs.Prelude.{◌≡◌, ◌⊎◌, ℕ, ◌<◌, Bool, true, false, List, All, length, Option, None, Some, reverse}
+use Rattle.std.specs.Prelude.{take}
 use Rattle.std.specs.Prelude.{if◌then◌else◌}
 use Rattle.std.specs.List.{Contains, count_by}
+use Rattle.keymap_core.specs.declared.action.Lock.TheVariants.{Scroll}
 use Rattle.keymap_core.specs.declared.action.Modifier.{Modifier}
 use Rattle.keymap_core.specs.Maps.{MapValue}
 use Rattle.keymap_core.specs.Numbers.{key_count}
 use Rattle.console_core.specs.declared.event.Event.{Event}
-use Rattle.console_core.specs.declared.selection.Sight.{Sight}
-use Rattle.console_core.specs.History.{between, is_on_after, accent_pending_after, HasKeys, IsQuiet}
-use Rattle.console_core.specs.Moves.{alone}
-use Rattle.console_core.specs.Visiting.{CanVisit, IsPair}
-use Rattle.console_core.specs.Sticking.{ReachesMoreThan, state_limit}
-use Rattle.console_core.specs.Sights.{SeesNext, SeesAlong, IsAdmitted, IsReachable, AreSightsOf, can_see}
+use Rattle.console_states.specs.declared.selection.Sight.{Sight}
+use Rattle.console_core.specs.History.{between, is_on_after, is_locked_after, accent_pending_after, HasKeys, IsQuiet}
+use Rattle.console_states.specs.Moves.{alone}
+use Rattle.console_states.specs.Returning.{NoTurnIsOneWay}
+use Rattle.console_states.specs.Visiting.{CanVisit, CannotScroll, IsPair}
+use Rattle.console_states.specs.Sticking.{ReachesMoreThan, state_limit}
+use Rattle.console_states.specs.Sights.{SeesNext, SeesAlong, IsAdmitted, IsReachable, AreSightsOf, can_see}
 use Rattle.keymap_cover.specs.declared.parts.Cover.{Cover}
 use Rattle.keymap_cover.specs.declared.parts.Part.TheVariants.{Cells, Pairs}
 use Rattle.keymap_cover.specs.declared.parts.Start.{Start}
@@ -33,12 +36,16 @@ abbrev pub IsAtRest : MapValue → List Event → Type 0
 IsAtRest m h =
     IsQuiet h × ((i : Modifier) → is_on_after (between m m) i h ≡ false) × (accent_pending_after (between m m) h ≡ None)
 
+-- The scroll lock is off, or presses can't turn it off: no moves lead from there to a press that turns it.
+abbrev pub IsScrollOff : MapValue → List Event → Type 0
+IsScrollOff m h = (is_locked_after (between m m) Scroll h ≡ false) ⊎ CannotScroll m h
+
 -- what the first n events see of the cells and lock settings that can be visited: all of it
 abbrev pub SeesKeysBy : MapValue → List ScriptEvent → ℕ → Type 0
 SeesKeysBy m events n =
     (x : Sight) → IsTold m x → (IsPair x → ⊥) → CanVisit m x → SeesAlong m (events_of (reverse (take n events))) x
 
--- and of all that is told of
+-- what the first n events see of all that is told of and can be visited: all of it
 abbrev pub SeesToldBy : MapValue → List ScriptEvent → ℕ → Type 0
 SeesToldBy m events n =
     (x : Sight) → IsTold m x → CanVisit m x → SeesAlong m (events_of (reverse (take n events))) x
@@ -56,7 +63,8 @@ pub record Covers (m : MapValue) (c : Cover) : Type 0 where
   pub possible : ArePossible (reverse c.events.items)
   pub rest : IsAtRest m (history c)
   pub up : (k : ℕ) → k < key_count → is_down k (reverse c.events.items) ≡ false
-  -- its parts begin in their order, the first before all events, and each has an event
+  pub scroll : IsScrollOff m (history c)
+  -- the parts of the script begin in their order, the first before all events, and each has an event
   pub parts : AreParts c.starts.items (length c.events.items)
   -- nothing that is told of and can be visited is left out
   pub complete : (x : Sight) → IsTold m x → CanVisit m x → SeesAlong m (history c) x
@@ -101,7 +109,17 @@ counts_of told xs = record {
   rest = count_by (λ x. is_verdict Never (told x)) xs;
 }
 
--- or the search gives up
+-- What is counted of a cover is what is told of it: the verdict of each sight.
+abbrev pub CountsAreOfVerdicts : Type 0
+CountsAreOfVerdicts = (m : MapValue) (c : Cover) → Covers m c → (x : Sight) → IsVerdict m c x (verdict_of m c x)
+
+-- Where no turn of a lock is one-way, nothing that is told of is counted as left out.
+abbrev pub NothingIsLeftOut : Type 0
+NothingIsLeftOut =
+    (m : MapValue) (c : Cover) → Covers m c → NoTurnIsOneWay m → (xs : List Sight) → All (IsTold m) xs
+    → (counts_of (verdict_of m c) xs).left_out ≡ 0
+
+-- the cover of the keymap, or the search gives up
 abbrev pub IsCover : MapValue → Option Cover → Type 0
 IsCover m None = (p : ℕ) × ReachesMoreThan (alone m) state_limit p
 IsCover m (Some c) = Covers m c

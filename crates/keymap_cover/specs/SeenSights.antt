@@ -1,17 +1,17 @@
 -- What was seen, as tables by place and a list of pairs.
 use Rattle.std.specs.Prelude.{ℕ, ◌==◌, nat_lt, Bool, false, ◌&&◌, List, slice_index_or}
 use Rattle.std.specs.List.{list_any}
-use Rattle.console_core.specs.declared.selection.Sight.{Sight}
-use Rattle.console_core.specs.declared.selection.Sight.TheVariants as sight
+use Rattle.console_states.specs.declared.selection.Sight.{Sight}
+use Rattle.console_states.specs.declared.selection.Sight.TheVariants as sight
 use Rattle.keymap_cover.specs.declared.seen.Seen.{Seen}
 use Rattle.keymap_cover.specs.SightLists.{cell_place, lock_setting_place}
 
--- it is this pair
+-- the sight is this pair
 abbrev pub is_pair : ℕ → ℕ → Sight → Bool
 is_pair accent c (sight.Pair i d) = (i == accent) && (d == c)
 is_pair accent c _ = false
 
--- it was seen
+-- the sight was seen
 abbrev pub seen_in : List Bool → List Bool → List Sight → Sight → Bool
 seen_in cells settings pairs (sight.Cell slot column) =
     nat_lt column 8 && slice_index_or cells (cell_place slot column) false

@@ -2,8 +2,8 @@
 use Rattle.std.specs.Prelude.{ℕ, ◌+◌, ◌*◌, ◌/◌, ◌%◌, ◌==◌, Bool, List, map}
 use Rattle.std.specs.List.{range_with_len}
 use Rattle.console_core.specs.Columns.{bit}
-use Rattle.console_core.specs.declared.selection.Sight.{Sight}
-use Rattle.console_core.specs.declared.selection.Sight.TheVariants as sight
+use Rattle.console_states.specs.declared.selection.Sight.{Sight}
+use Rattle.console_states.specs.declared.selection.Sight.TheVariants as sight
 
 -- the cell at a place among all: eight in each slot, by column
 abbrev pub cell_at_place : ℕ → Sight

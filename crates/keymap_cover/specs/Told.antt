@@ -4,8 +4,8 @@ use Rattle.std.specs.List.{Contains}
 use Rattle.keymap_core.specs.Accents.{AccentValue}
 use Rattle.keymap_core.specs.Maps.{MapValue, accent_at}
 use Rattle.keymap_core.specs.Numbers.{slot_limit, column_count}
-use Rattle.console_core.specs.declared.selection.Sight.{Sight}
-use Rattle.console_core.specs.declared.selection.Sight.TheVariants as sight
+use Rattle.console_states.specs.declared.selection.Sight.{Sight}
+use Rattle.console_states.specs.declared.selection.Sight.TheVariants as sight
 use Rattle.console_core.specs.Answers.{usable}
 
 -- the base of one of the accent's pairs

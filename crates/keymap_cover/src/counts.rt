@@ -3,7 +3,7 @@ ghost use Rattle.std.specs.Prelude.{◌≡◌};
 ghost use Rattle.keymap_cover.specs.Covering.{verdict_of, counts_of};
 
 use crate::parts::{Counts, Cover, Verdict};
-use console_core::Sight;
+use console_states::Sight;
 use keymap_core::KeyMap;
 
 impl Cover {

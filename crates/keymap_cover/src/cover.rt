@@ -1,11 +1,11 @@
 //! A script that looks up what can be visited, and what it sees.
 ghost use Rattle.std.specs.Prelude.{◌≡◌, ◌⊎◌, ◌+◌, ◌≤◌, [], true, false, Some, length, OnOk, IfOk};
-ghost use Rattle.console_core.specs.declared.selection.Sight.{Sight as SightValue};
+ghost use Rattle.console_states.specs.declared.selection.Sight.{Sight as SightValue};
 ghost use Rattle.console_core.specs.History.{between};
-ghost use Rattle.console_core.specs.Sights.{AreSightsOf, IsReachable, can_see};
-ghost use Rattle.console_core.specs.Visiting.{CanVisit};
-ghost use Rattle.keymap_cover.specs.Covering.{NeverSees, Covers, IsVerdict, verdict_of, IsCover};
-ghost use Rattle.keymap_cover.specs.Inner.Scripts.{AreUp, EndsAtRest, GoesFurther, GoesUnderWay, IsExplorerFor};
+ghost use Rattle.console_states.specs.Sights.{AreSightsOf, IsReachable};
+ghost use Rattle.console_states.specs.Visiting.{CanVisit};
+ghost use Rattle.keymap_cover.specs.Covering.{Covers, IsVerdict, verdict_of, IsCover};
+ghost use Rattle.keymap_cover.specs.Inner.Scripts.{EndsAtRest, GoesFurther, GoesUnderWay, IsExplorerFor};
 ghost use Rattle.keymap_cover.specs.Inner.Scripts.{SeesAll, ShowsInParts, ShowsTold};
 ghost use Rattle.keymap_cover.specs.SeenSights.{has_seen};
 ghost use Rattle.std.specs.List.{Contains};
@@ -17,23 +17,13 @@ use crate::families::trials;
 use crate::one_way::go_onward;
 use crate::parts::{Cover, Part, Start, Verdict};
 use crate::script::Script;
+use crate::scroll::turn_scroll_off;
 use crate::seen::Seen;
 use crate::told::{told_of_keys, told_pairs};
-use console_core::laws::sights_are_reachable;
-use console_core::{Explorer, PlainConsole, Selection, Sight, Sights, Translator, sights_of};
+use console_core::{PlainConsole, Translator};
+use console_states::{Explorer, Selection, Sight, Sights, sights_of};
 use keymap_core::{KEY_COUNT, KeyCode, KeyMap, key_with};
 use std::alloc::{AllocError, Global};
-
-/// Whether a press after some list that is spoken of may see it. The law says that what such a press sees can be seen.
-fn may_see(sights: &Sights, map: &KeyMap, sight: Sight) -> bool
-    ensures reachable { AreSightsOf map.now sights.now → result ≡ true → IsReachable map.now sight }
-    ensures unreachable { AreSightsOf map.now sights.now → result ≡ false → IsReachable map.now sight → ⊥ }
-    ensures never { AreSightsOf map.now sights.now → result ≡ false → NeverSees map.now sights.now.forgets sight }
-    ensures value { result ≡ can_see map.now sights.now sight }
-{
-    sights_are_reachable();
-    sights.can_see(map, sight)
-}
 
 impl Cover {
     /// What is told of a sight: seen, left out, or never seen.
@@ -43,7 +33,7 @@ impl Cover {
     {
         if self.seen.has(sight) {
             Verdict::Seen
-        } else if may_see(&self.sights, map, sight) {
+        } else if self.sights.can_see(map, sight) {
             Verdict::LeftOut
         } else {
             Verdict::Never
@@ -51,14 +41,14 @@ impl Cover {
     }
 }
 
-/// Whether it is left out: it can be seen, and wasn't.
+/// Whether the sight is left out: it can be seen, and wasn't.
 pub(crate) fn is_left_out(seen: &Seen, sights: &Sights, map: &KeyMap, sight: Sight) -> bool
     ensures none { AreSightsOf map.now sights.now → result ≡ false → IsReachable map.now sight
         → has_seen seen.now sight ≡ true }
     ensures some { AreSightsOf map.now sights.now → result ≡ true → IsReachable map.now sight
         × (has_seen seen.now sight ≡ false) }
 {
-    !seen.has(sight) && may_see(sights, map, sight)
+    !seen.has(sight) && sights.can_see(map, sight)
 }
 
 /// Whether a press of the key under the selection sees a cell or a lock setting that wasn't seen.
@@ -207,7 +197,7 @@ fn show_told<T: Translator>(
     Ok(first)
 }
 
-/// Goes home, and makes the trials.
+/// Goes home, makes the trials, and turns the scroll lock off.
 fn try_keys<T: Translator>(
     alloc: Global,
     explorer: &Explorer,
@@ -215,15 +205,13 @@ fn try_keys<T: Translator>(
     console: &mut T,
     map: &KeyMap,
 ) -> Result<(), AllocError>
-    ensures along { OnOk result (GoesFurther map.now (T.stands console.old) script.old (T.stands console.new)
-        script.new) }
-    ensures up { OnOk result (AreUp script.new.pressed) }
+    ensures { OnOk result (GoesFurther map.now (T.stands console.old) script.old (T.stands console.new) script.new) }
 {
     let home = explorer.events_home(alloc, &*console)?;
     script.walk(console, map, &home)?;
     let trials = trials(alloc, map, explorer)?;
     script.walk(console, map, &trials)?;
-    Ok(())
+    turn_scroll_off(alloc, script, console, map)
 }
 
 /// The script, and where its parts begin.

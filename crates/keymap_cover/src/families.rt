@@ -3,7 +3,8 @@ use crate::idle_keys::IdleKeys;
 use crate::kind::{Kind, is_usable};
 use crate::probes::probes;
 use crate::trials::Trials;
-use console_core::{Event, Explorer, KeyAt, PlainConsole, Selection, Translator};
+use console_core::{Event, PlainConsole, Translator};
+use console_states::{Explorer, KeyAt, Selection};
 use keymap_core::{
     ACCENT_LIMIT, AccentIndex, Action, Cell, HOLDINGS, Holding, KEY_COUNT, KeyCode, KeyMap, Keymap,
     Lock, MODIFIERS, Modifier, key_with,
@@ -49,7 +50,7 @@ fn trials_along<'t, 'm, T: Translator>(
     Ok(trials.events)
 }
 
-/// Whether it is tried together with locks: not the scroll lock, and of left and right, which pick cells alike, the
+/// Whether an action is tried with locks: not the scroll lock, and of left and right, which pick cells alike, the
 /// left.
 fn is_tried_with_locks(holding: Holding) -> bool {
     !matches!(
@@ -61,7 +62,7 @@ fn is_tried_with_locks(holding: Holding) -> bool {
     )
 }
 
-/// Whether these two are tried together: two keys of one action, left and right, and a lock with another action.
+/// Whether two actions are tried together: two keys of one action, left and right, and a lock with another action.
 fn are_tried(one: Holding, other: Holding) -> bool {
     match (one, other) {
         (Holding::Mod(Modifier::LeftShift), Holding::Mod(Modifier::RightShift))
@@ -90,7 +91,7 @@ fn cell_with(map: &KeyMap, key: KeyCode, modifier: Modifier) -> Cell {
     selection.look(map, key)
 }
 
-/// Whether it can stand between a dead key of the accent and a blank: it is neither that dead key, the blank, a base
+/// Whether a cell can stand between a dead key of the accent and a blank: neither that dead key, the blank, a base
 /// nor the character 0.
 fn is_between(map: &KeyMap, accent: AccentIndex, cell: &Cell) -> bool {
     match cell {
@@ -111,7 +112,7 @@ impl<'t, 'm, T: Translator> Trials<'t, 'm, T> {
         None
     }
 
-    /// Whether it can be taken back: it is no lock that picks cells, or moves turn it off again.
+    /// Whether the cell can be taken back: it is no lock that picks cells, or moves turn it off again.
     fn is_taken_back(&self, cell: &Cell) -> bool {
         match cell {
             Cell::Act(Action::Lock(lock)) => self.explorer.takes_back(*lock),

@@ -1,5 +1,5 @@
 //! What keys that hold nothing look up in the states that were explored.
-use console_core::{Explorer, KeyAt, Reached, Selection};
+use console_states::{Explorer, KeyAt, Reached, Selection};
 use keymap_core::{Cell, KEY_COUNT, KeyMap, key_with};
 use std::alloc::{AllocError, Global};
 

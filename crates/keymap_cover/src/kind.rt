@@ -15,7 +15,7 @@ pub(crate) enum Kind {
     Function,
     Screen,
     Paste,
-    /// It ends a pending accent and is answered.
+    /// An action that ends a pending accent and is answered.
     Other,
 }
 
@@ -51,7 +51,7 @@ impl Kind {
         }
     }
 
-    /// Whether it is another action than a modifier, a lock or a dead key.
+    /// Whether the kind is another action than a modifier, a lock or a dead key.
     pub(crate) fn is_other(self) -> bool {
         matches!(
             self,

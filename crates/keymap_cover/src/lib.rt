@@ -2,16 +2,18 @@
 //! what it sees.
 //!
 //! The crate stands on `console_core`: a console runs along while the script is made, so that what each press looks up
-//! is kept, the search tells what can be looked up at all (`Sights`), and an `Explorer` makes visits to what wasn't
-//! looked up yet. Behind these stand trials of what keys do to each other, of which nothing is promised.
+//! is kept; and on `console_states`: its search tells what can be looked up at all (`Sights`), and an `Explorer` makes
+//! visits to what wasn't looked up yet. Behind these stand trials of what keys do to each other, of which nothing is
+//! promised.
 //!
-//! It promises (`cover_of`, `Cover::verdict`) that what is told as seen is what the script sees in its events from a
+//! Contracts (`cover_of`, `Cover::verdict`) say that what is told as seen is what the script sees in its events from a
 //! new console, that what is told as left out can be seen, and that what is told as never seen no list of events sees,
 //! or no clean one where a key that holds a modifier can look up a character. Nothing is left out to which moves lead
 //! from which, once all keys are let go, more of them lead home. Only released keys are pressed, only pressed ones
-//! repeated and released; at the end no key is down, no modifier on and no accent pending. The parts of the script begin
-//! in their order, the first before all events, and each has events; before a part behind that of cells begins, all
-//! cells and lock settings were seen that can be visited, and before one behind that of pairs all pairs.
+//! repeated and released; at the end no key is down, no modifier on and no accent pending, and the scroll lock is off
+//! unless no presses can turn it off from there. The parts of the script begin in their order, the first before all
+//! events, and each has events; before a part behind that of cells begins, all cells and lock settings were seen that
+//! can be visited, and before one behind that of pairs all pairs.
 #![tactic(auto)]
 
 mod counts;
@@ -19,12 +21,14 @@ mod cover;
 mod families;
 mod idle_keys;
 mod kind;
+pub mod laws;
 mod marks;
 mod one_way;
 mod parts;
 mod probes;
 mod script;
 mod script_event;
+mod scroll;
 mod seen;
 mod sight_lists;
 mod told;

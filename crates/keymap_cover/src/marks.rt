@@ -2,15 +2,15 @@
 ghost use Rattle.std.specs.Prelude.{◌≡◌, ◌<◌, List, false, true, length, OnOk, IfOk, slice_set, slice_index_or};
 ghost use Rattle.std.specs.List.{Contains};
 ghost use Rattle.keymap_core.specs.Numbers.{column_count};
-ghost use Rattle.console_core.specs.declared.selection.Sight.{Sight as SightValue};
-ghost use Rattle.console_core.specs.declared.selection.Sight.TheVariants.{Cell, Locks, Pair};
+ghost use Rattle.console_states.specs.declared.selection.Sight.{Sight as SightValue};
+ghost use Rattle.console_states.specs.declared.selection.Sight.TheVariants.{Cell, Locks, Pair};
 ghost use Rattle.keymap_cover.specs.SightLists.{cell_place, lock_setting_place};
 ghost use Rattle.keymap_cover.specs.SeenSights.{has_seen};
 ghost use Rattle.keymap_cover.specs.Inner.Scripts.{IsWith};
 
 use crate::seen::Seen;
 use crate::sight_lists::{CELL_COUNT, LOCK_SETTING_COUNT};
-use console_core::Sight;
+use console_states::Sight;
 use keymap_core::COLUMN_COUNT;
 use std::alloc::{AllocError, Global};
 
@@ -73,7 +73,7 @@ impl Seen {
         })
     }
 
-    /// Whether it was seen.
+    /// Whether the sight was seen.
     pub fn has(&self, sight: Sight) -> bool
         ensures { result ≡ has_seen self.now sight }
     {

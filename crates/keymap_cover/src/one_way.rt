@@ -1,17 +1,19 @@
 //! What only turns of locks lead to that can't be taken back.
 ghost use Rattle.std.specs.Prelude.{OnOk};
-ghost use Rattle.keymap_cover.specs.Inner.Scripts.{GoesResting};
+ghost use Rattle.keymap_cover.specs.Inner.Scripts.{GoesResting, GoesScrollOff};
 
 use crate::cover::{is_left_out, sees_new};
 use crate::probes::changes_nothing;
 use crate::script::Script;
+use crate::scroll::turn_scroll_off;
 use crate::seen::Seen;
 use crate::told::told_of_keys;
-use console_core::{Event, Onward, Sight, Sights, Translator, find_onward};
+use console_core::{Event, Translator};
+use console_states::{Onward, Sight, Sights, find_onward};
 use keymap_core::{KEY_COUNT, KeyMap, key_with};
 use std::alloc::{AllocError, Global};
 
-/// The events to the press, with taps before it of the keys that see something new there and leave the state.
+/// The events to the press, with taps before it of the keys that see something new there and keep the state.
 fn events_onward(
     alloc: Global,
     map: &KeyMap,
@@ -49,7 +51,7 @@ fn left_out(
     Ok(left)
 }
 
-/// Those of these that weren't seen.
+/// The sights of a list that weren't seen.
 fn unseen(alloc: Global, seen: &Seen, sights: &[Sight]) -> Result<Vec<Sight>, AllocError> {
     let mut left = Vec::new(alloc);
     for sight in sights {
@@ -83,7 +85,7 @@ fn show_onward<T: Translator>(
 
 /// Goes where presses see what is left out of the cells and lock settings, by turns that can't be taken back. Each time
 /// something more of it is seen, until nothing of it can be seen from where the console stands.
-pub(crate) fn go_onward<T: Translator>(
+fn show_all_onward<T: Translator>(
     alloc: Global,
     script: &mut Script,
     console: &mut T,
@@ -100,4 +102,18 @@ pub(crate) fn go_onward<T: Translator>(
         left = unseen(alloc, &script.seen, &left)?;
     }
     Ok(())
+}
+
+/// Goes onward, and turns the scroll lock off.
+pub(crate) fn go_onward<T: Translator>(
+    alloc: Global,
+    script: &mut Script,
+    console: &mut T,
+    map: &KeyMap,
+    sights: &Sights,
+) -> Result<(), AllocError>
+    ensures { OnOk result (GoesScrollOff map.now (T.stands console.old) script.old (T.stands console.new) script.new) }
+{
+    show_all_onward(alloc, script, console, map, sights)?;
+    turn_scroll_off(alloc, script, console, map)
 }

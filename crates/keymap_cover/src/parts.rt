@@ -1,13 +1,13 @@
 //! What is told of a keymap.
 use crate::script_event::ScriptEvent;
 use crate::seen::Seen;
-use console_core::Sights;
+use console_states::Sights;
 
 /// A script, what it sees and what can be seen.
 #[derive(Drop)]
 pub struct Cover {
     pub events: Vec<ScriptEvent>,
-    /// Where its parts begin.
+    /// Where the parts of the script begin.
     pub starts: Vec<Start>,
     pub seen: Seen,
     pub sights: Sights,
@@ -16,11 +16,11 @@ pub struct Cover {
 /// What is told of a sight.
 #[derive(Clone, Copy, Debug, PartialEq, Eq)]
 pub enum Verdict {
-    /// The script sees it.
+    /// The script sees the sight.
     Seen,
-    /// It can be seen, and the script doesn't see it.
+    /// A press can see the sight, and the script doesn't.
     LeftOut,
-    /// No press after a list that is spoken of sees it.
+    /// No press after a list that is spoken of sees the sight.
     Never,
 }
 
@@ -29,7 +29,7 @@ pub enum Verdict {
 pub struct Counts {
     pub seen: usize,
     pub left_out: usize,
-    /// Those that are never seen.
+    /// Sights that are never seen.
     pub rest: usize,
 }
 
@@ -40,7 +40,7 @@ pub enum Part {
     Cells,
     /// Accents are composed with their bases.
     Pairs,
-    /// It is tried what keys do to each other.
+    /// Trials of what keys do to each other.
     Trials,
     /// What only turns of locks lead to that can't be taken back.
     OneWay,

@@ -1,5 +1,5 @@
 //! Keys whose answers tell which modifiers and locks are on.
-use console_core::Selection;
+use console_states::Selection;
 use keymap_core::{Action, Cell, KEY_COUNT, KeyCode, KeyMap, key_with};
 use std::alloc::{AllocError, Global};
 

@@ -1,7 +1,7 @@
 //! What the presses of a script saw.
 ghost use Rattle.std.specs.Prelude.{◌≡◌, length};
 
-use console_core::Sight;
+use console_states::Sight;
 
 /// The cells and the lock settings that were seen, each by its place among all, and the pairs.
 #[derive(Drop)]

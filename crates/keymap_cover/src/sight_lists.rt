@@ -2,7 +2,7 @@
 ghost use Rattle.std.specs.Prelude.{◌≡◌, IfOk};
 ghost use Rattle.keymap_cover.specs.SightLists.{all_cells, all_lock_settings};
 
-use console_core::Sight;
+use console_states::Sight;
 use std::alloc::{AllocError, Global};
 
 /// How many cells a keymap has: eight in each slot.

@@ -5,7 +5,7 @@ ghost use Rattle.keymap_cover.specs.Inner.Pairs.{base_pair, pairs_of, pairs_in};
 ghost use Rattle.keymap_cover.specs.SightLists.{all_cells, all_lock_settings};
 
 use crate::sight_lists::{cells, lock_settings};
-use console_core::Sight;
+use console_states::Sight;
 use keymap_core::KeyMap;
 use std::alloc::{AllocError, Global};
 

@@ -1,6 +1,7 @@
 //! The events of trials while they are made, and a console that runs along.
 use crate::idle_keys::IdleKeys;
-use console_core::{Event, Explorer, KeyAt, Translator, is_any_on};
+use console_core::{Event, Translator, is_any_on};
+use console_states::{Explorer, KeyAt};
 use keymap_core::{KeyCode, KeyMap};
 use std::alloc::{AllocError, Global};
 

@@ -6,7 +6,7 @@ ghost use Rattle.keymap_core.specs.Numbers.{key_count};
 ghost use Rattle.console_core.specs.declared.event.Event.{Event as EventValue};
 ghost use Rattle.console_core.specs.declared.event.Event.TheVariants.{Press, Reset};
 ghost use Rattle.console_core.specs.History.{between};
-ghost use Rattle.console_core.specs.Sights.{selection_with};
+ghost use Rattle.console_states.specs.Sights.{selection_with};
 ghost use Rattle.keymap_cover.specs.SeenSights.{has_seen};
 ghost use Rattle.keymap_cover.specs.Inner.Scripts.{AddsPair, AddsSights, IsScriptOf, AreUp};
 ghost use Rattle.keymap_cover.specs.Inner.Scripts.{GoesAlongToRest};
@@ -17,7 +17,8 @@ ghost use Rattle.keymap_cover.specs.ScriptEvents.{event_of, is_down, CanFollow};
 use crate::script::Script;
 use crate::script_event::ScriptEvent;
 use crate::seen::Seen;
-use console_core::{Event, Selection, Translator, is_any_on};
+use console_core::{Event, Translator, is_any_on};
+use console_states::Selection;
 use keymap_core::{Cell, KEY_COUNT, KeyCode, KeyMap, Lock, Modifier, key_with};
 use std::alloc::{AllocError, Global};
 
@@ -198,7 +199,7 @@ impl Script {
     }
 
     /// Delivers the events, whatever they are, releases all keys, and leaves no modifier on and no accent pending.
-    /// Those that are taken are delivered one by one.
+    /// Events that are taken are delivered one by one.
     pub fn walk<T: Translator>(
         &mut self,
         console: &mut T,

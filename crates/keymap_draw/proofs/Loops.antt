@@ -29,7 +29,7 @@ numbered_at f xs i d old new all inside added before =
     ∙ ap (λ l. old ++ numbered f i l) (sym first)
     ∙ before
 
--- one number more
+-- the numbers below n + 1 that pass: those below n, and n if it passes
 pub passing-more : (test : ℕ → Bool) (n : ℕ) → passing test (n + 1) ≡ passing test n ++ passed (test n) n
 unfolding passing
 passing-more test n = gathered-more (λ i. passed (test i) i) n

@@ -266,7 +266,7 @@ pub told : {begun : List Element} {bytes : List ℕ} {fs : List Fact} → ReadAs
     → facts_in bytes ≡ reverse fs
 told h = ap reverse (last_are h)
 
--- all of them with the last first
+-- all facts with the last first
 pub turned_back : (new old all : List Fact) → reverse old ≡ all → reverse new ++ old ≡ reverse (all ++ new)
 turned_back new old all e =
     sym (reverse-append all new ∙ ap (λ l. reverse new ++ l) (ap reverse (sym e) ∙ reverse-reverse old))

@@ -57,7 +57,7 @@ quoted c = record {
   begins = λ rest. refl;
 }
 
--- one of two texts
+-- a choice of two texts that are solid
 solid_if : (b : Bool) (x y : List ℕ) → (b ≡ true → IsSolid x) → (b ≡ false → IsSolid y) → IsSolid (if b then x else y)
 solid_if true x y f g = f refl
 solid_if false x y f g = g refl

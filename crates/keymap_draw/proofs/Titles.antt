@@ -27,7 +27,7 @@ use Rattle.keymap_draw.specs.Pictures.{upper, upper_keys, parts}
 use Rattle.keymap_draw.specs.Titles.{is_title}
 use Rattle.keymap_draw.specs.Told.{TitlesTell}
 
--- these are the titles among facts
+-- the titles among facts are these
 record Titled (fs : List Fact) (ts : List (List ℕ)) : Type 0 where
   are : titles fs ≡ ts
 

@@ -53,7 +53,7 @@ laid x y s [] = []
 laid x y s (code ∷ codes) =
     if code == 0 then [] else record { code = code; x = x; y = y; shape = s } ∷ laid (x + width s) y s codes
 
--- these keys stand on the board
+-- the keys stand on the board
 abbrev pub stand_on : On → Board → Bool
 stand_on on.Iso Ansi = false
 stand_on on.Ansi Iso = false

@@ -85,7 +85,7 @@ count (Some cell) = 1
 abbrev pub count_of : DrawnCells → ℕ
 count_of d = count d.base + count d.shift + count d.alt + count d.alt_shift
 
--- one cell alone is drawn, and it stands for no small letter on the left
+-- a single cell is drawn, and it stands for no small letter on the left
 unfoldable pub stands_alone : Entry → Bool
 stands_alone e =
     (count_of (drawn e) == 1) && not (is_pair (different e).base (different e).shift)

@@ -9,7 +9,7 @@ Attributes = List (List ℕ × List ℕ)
 pub data Fact : Type 0 where
   -- a group begins, or another element that holds some
   Begin : List ℕ → List ℕ → Attributes → Fact
-  -- the last of those that have begun ends
+  -- the last element of those that have begun ends
   End : Fact
   -- an element without content
   Figure : List ℕ → List ℕ → Attributes → Fact
@@ -24,7 +24,7 @@ place_at x y = codes "translate(" ++ x ++ codes " " ++ y ++ codes ")"
 abbrev pub group : List ℕ → List ℕ → List ℕ → Fact
 group class x y = Begin (codes "g") class ((codes "transform", place_at x y) ∷ [])
 
--- one that is read as one picture, which its title names
+-- a group that is read as one picture, which its title names
 abbrev pub image : List ℕ → List ℕ → List ℕ → Fact
 image class x y = Begin (codes "g") class ((codes "role", codes "img") ∷ (codes "transform", place_at x y) ∷ [])
 

@@ -108,7 +108,7 @@ parts key = elim key.shape [
   | shape ↦ record { x = key.x; y = key.y; wide = width key.shape; high = height key.shape } ∷ []
 ]
 
--- one stands beside the other, or below it
+-- two parts stand beside or below each other
 abbrev pub part_apart : Part → Part → Bool
 part_apart p q =
     nat_le (p.x + p.wide) q.x || nat_le (q.x + q.wide) p.x || nat_le (p.y + p.high) q.y || nat_le (q.y + q.high) p.y

@@ -33,7 +33,7 @@ use Rattle.keymap_draw.specs.Places.{beside_of, code_x, legend_x, legend_y, lege
 abbrev pub finding_of : List Finding → ℕ → Option Finding
 finding_of fs k = find (λ f. f.key == k) fs
 
--- one of the findings is of the key
+-- some finding is of the key
 abbrev pub names_key : List Finding → ℕ → Bool
 names_key fs k = list_any (λ f. f.key == k) fs
 
@@ -50,7 +50,7 @@ is_holding (Act (a.Mod modifier)) = true
 is_holding (Act (a.Lock lock)) = true
 is_holding (Act action) = false
 
--- each of its cells is nop or the character 0
+-- each cell of the entry is nop or the character 0
 unfoldable pub is_blank_entry : Entry → Bool
 is_blank_entry e = list_all is_blank e.cells
 

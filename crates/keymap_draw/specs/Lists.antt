@@ -58,7 +58,7 @@ composed place c =
 abbrev pub part_of : Bool → ℕ × ℕ → ℕ
 part_of results pair = if results then pair.1 else pair.0
 
--- that of the i-th pair, behind the character that stands first
+-- the base or result of the i-th pair, behind the character that stands first
 abbrev pub part : Bool → ℕ → ℕ × ℕ → List Fact
 part results i pair = composed (i + 1) (part_of results pair)
 
@@ -90,7 +90,7 @@ row_of said y =
     ∷ Figure (codes "rect") (codes "row")
     ((codes "width", codes "1460") ∷ (codes "height", codes "48") ∷ (codes "rx", codes "8") ∷ []) ∷ []
 
--- that of an accent is its line of the printed form
+-- the row of an accent, of which the title is the line of the printed form
 abbrev pub titled_row : ℕ → AccentValue → ℕ → List Fact
 titled_row i accent y = row_of (accent_words i accent) y
 

@@ -72,7 +72,7 @@ parts d starts lower above named silent =
     ++ silent_list silent starts.silent
     ++ dress words.END.now (Number starts.key ∷ [])
 
--- with these keys below the boards, accents, and dead keys without one
+-- the parts, with these keys below the boards, accents, and dead keys without one
 abbrev pub parts_with : Drawing → List ℕ → List ℕ → List ℕ → List ℕ → List Fact
 parts_with d lower above named silent =
     parts d (starts_of d (length lower) (length above) (length named) (length silent)) lower above named silent

@@ -38,7 +38,7 @@ outline left top right bottom step level r =
     ++ codes "Q" ++ spot left level ++ codes " " ++ spot left (level - r) ++ codes "V" ++ decimal (top + r)
     ++ codes "Q" ++ spot left top ++ codes " " ++ spot (left + r) top ++ codes "Z"
 
--- its edge and its face; its upper part is as high as other keys
+-- the edge and the face of the enter key; its upper part is as high as other keys
 abbrev pub paths : List ℕ
 paths =
     codes "<path fill=\"currentColor\" d=\"" ++ outline 0 0 (width Enter - 4) (height Enter - 4) 16 (64 - 4) 7

@@ -61,7 +61,7 @@ IsWithin begun bytes = ReadAs (within begun (last_facts bytes)) bytes
 abbrev pub is_inner : ℕ → Bool
 is_inner c = is_plain c && not (c == 34) && not (c == 38 || c == 60) && not (c == 93)
 
--- it may stand in a text, and a terminal shows it as it is
+-- the character may stand in a text, and a terminal shows it as it is
 abbrev pub is_seen : ℕ → Bool
 is_seen c = is_shown c && not (is_unseen c)
 

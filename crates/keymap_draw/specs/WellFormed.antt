@@ -67,15 +67,15 @@ has_attribute has name = list_any (λ (a : List ℕ × List ℕ). bytes_eq name 
 abbrev pub class_in : Attributes → List ℕ
 class_in has = value_in has (codes "class")
 
--- those beside the class
+-- the attributes beside the class
 abbrev pub others_in : Attributes → Attributes
 others_in has = filter (λ (a : List ℕ × List ℕ). not (bytes_eq (codes "class") a.0)) has
 
 -- what an element that has begun is to a reader
 pub data Role : Type 0 where
-  -- it holds other ones
+  -- an element that holds other ones
   Holder : Role
-  -- it holds characters: its tag, and those so far
+  -- an element that holds characters: its tag, and those so far
   Lettered : Tag → List ℕ → Role
 
 pub record Element : Type 0 where
@@ -208,7 +208,7 @@ abbrev pub in_end_name : List ℕ → Read → ℕ → Option State
 in_end_name name r c =
     if c == 62 then ended_by name r.begun r else Some (at (EndName (name ++ c ∷ [])) r)
 
--- one of the attributes, which the tag doesn't have yet
+-- the name of an attribute, which the tag doesn't have yet
 abbrev pub in_attribute : Tag → List ℕ → Read → ℕ → Option State
 in_attribute tag name r c =
     if is_name_byte c then Some (at (Attribute tag (name ++ c ∷ [])) r)

@@ -1,4 +1,4 @@
-//! One key of the picture: its cap, its code and its legends. Its title is its line of the printed form.
+//! A key of the picture: its cap, its code and its legends. Its title is its line of the printed form.
 ghost use Rattle.std.specs.Prelude.{◌≡◌, ◌++◌, ◌∷◌, [], true, IfOk, option_copied, option_to_list};
 ghost use Rattle.std.specs.List.{list_all};
 ghost use Rattle.keymap_core.specs.Maps.{entry_at};

@@ -1,4 +1,4 @@
-//! One picture of a keymap: its keys with their legends on a board, as SVG.
+//! A picture of a keymap: its keys with their legends on a board, as SVG.
 //!
 //! [`picture`] puts it together as a sheet, which is seen as the facts that a reader makes of its bytes (`Facts`,
 //! `WellFormed`): its groups, shapes and texts, with their attributes. `Pictures` says which facts a picture tells,
@@ -6,7 +6,7 @@
 //! `Legends` has what is written on a cap for a cell, `Drawn` which cells are drawn, `Places` where and in which
 //! classes.
 //!
-//! It is proved that its bytes tell these facts and no other ones; and in [`laws`] that they are plain ASCII and well
+//! Proved is that the bytes tell these facts and no other ones; and in [`laws`] that they are plain ASCII and well
 //! formed, that legends have characters of XML alone that can be seen and classes are out of a list, that titles are
 //! lines of the printed form and tell the keymap (`Told`), that a cap is red exactly if one of the findings is of its
 //! key, that the boards are those of `Keyboards` and no key stands over another one, and that the tables of capitals

@@ -15,10 +15,10 @@ use keymap_core::{Action, Cell, KeyMap};
 /// longer ones too.
 pub(crate) static ALONE_SIZES: [u8; 7] = *b"wwxxxuu";
 
-/// Those of a word in a corner that another legend stands beside on a small cap.
+/// The classes of a word in a corner that another legend stands beside on a small cap.
 pub(crate) static TIGHT_SIZES: [u8; 7] = *b"otyybbb";
 
-/// Those of any other word in a corner.
+/// The classes of any other word in a corner.
 pub(crate) static CORNER_SIZES: [u8; 7] = *b"vvvoott";
 
 /// A column that is drawn.
@@ -46,7 +46,7 @@ impl Column {
         }
     }
 
-    /// Whether it stands on the right.
+    /// Whether the column stands on the right.
     fn is_right(self) -> bool
         ensures { result ≡ is_right_of self }
     {
@@ -56,7 +56,7 @@ impl Column {
         }
     }
 
-    /// Whether it stands above.
+    /// Whether the column stands above.
     fn is_above(self) -> bool
         ensures { result ≡ is_above_of self }
     {

@@ -7,7 +7,7 @@ use Rattle.keymap_fmt.proofs.Texts.{ArePieces, no_piece, one_piece, Reads, text_
 use Rattle.keymap_fmt.proofs.Written.{IsAt, lowered_by, read_blanks, before_blanks, before_again, after_at}
 use Rattle.keymap_fmt.proofs.Written.{rendered_blank, line_end_read}
 
--- one piece that is read again
+-- a piece is read again
 piece_read : (s : State) (part : Part) (bytes : List ℕ) (t : Standing) (ps : List PieceValue) → Reads part bytes
     → pieces_after 0 t (bytes ++ (ending part ++ rendered_from (after s part bytes) ps))
     ≡ record { part = part; bytes = bytes; standing = t }
@@ -28,7 +28,7 @@ step : (s : State) (u : Standing) (p : PieceValue) (ps : List PieceValue) → Re
 unfolding rendered_from
 step s u p ps r = search (rules, read_blanks, before_blanks, piece_read)
 
--- there is none behind the last
+-- no piece stands behind the last
 none : (s : State) (u : Standing) → pieces_after 0 u (rendered_from s []) ≡ []
 unfolding rendered_from
 none s u = line_end_read s.column u
@@ -40,7 +40,7 @@ parts_from s u ps no_piece = ap (map part_and_bytes) (none s u)
 parts_from s u qs (one_piece {ps = ps} p r h more) =
     search (rules, step, parts_from (after s p.part p.bytes) (behind p.part) ps more)
 
--- one piece that is written again
+-- a piece that is read again is written as before
 written_again : (s : State) (p : PieceValue) (t : Standing) (qs ps : List PieceValue)
     → before s p.part p.bytes t ≡ before s p.part p.bytes p.standing
     → rendered_from (after s p.part p.bytes) qs ≡ rendered_from (after s p.part p.bytes) ps
@@ -48,7 +48,7 @@ written_again : (s : State) (p : PieceValue) (t : Standing) (qs ps : List PieceV
 unfolding rendered_from
 written_again s p t qs ps e f = grind (arith, common_steps)
 
--- the same bytes are written again
+-- the bytes of pieces that are read again are the same
 again_from : (s : State) (u : Standing) (ps : List PieceValue) → IsAt u s.column → ArePieces u ps
     → rendered_from s (pieces_after 0 u (rendered_from s ps)) ≡ rendered_from s ps
 again_from s u ps a no_piece = ap (rendered_from s) (none s u)

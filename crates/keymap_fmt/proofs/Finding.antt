@@ -59,7 +59,7 @@ comment_at text at end s l h e =
     } ∷ ps)
     (read_after (suc n) Below rest ∙ ap (pieces_after 0 Below) far)
 
--- with its bytes as they were cut, and the place behind it
+-- a comment with its bytes as they were cut, and the place behind it
 pub comment_found : (text w : List ℕ) (at end next : ℕ) (s : Standing) → at < length text → get_or text at 0 ≡ 35
     → end ≡ at + 1 + leading stays_on_line (drop (at + 1) text) → w ≡ trimmed (take (end - at) (drop at text))
     → (next ≡ end + 1) ⊎ ((next ≡ end) × (length text ≤ end))

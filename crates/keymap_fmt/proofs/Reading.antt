@@ -68,7 +68,7 @@ pub record BeginsBlank (y : List ℕ) : Type 0 where
   pub blank : is_blank first ≡ true
   pub is : y ≡ first ∷ rest
 
--- These bytes are this token wherever a blank stands behind them. They stand in one line, and end with no blank.
+-- The bytes are this token wherever a blank stands behind them. They stand in one line, and end with no blank.
 pub record ReadsToken (kind : TokenKind) (bytes : List ℕ) : Type 0 where
   pub first : ℕ
   pub rest : List ℕ
@@ -77,14 +77,14 @@ pub record ReadsToken (kind : TokenKind) (bytes : List ℕ) : Type 0 where
   pub on_line : list_all stays_on_line (first ∷ rest) ≡ true
   pub end : is_space (slice_index (first ∷ rest) (length rest)) ≡ false
 
--- These bytes are a comment that ends with no blank.
+-- The bytes are a comment that ends with no blank.
 pub record ReadsComment (bytes : List ℕ) : Type 0 where
   pub rest : List ℕ
   pub is : bytes ≡ 35 ∷ rest
   pub on_line : leading stays_on_line rest ≡ length rest
   pub end : is_space (slice_index (35 ∷ rest) (length rest)) ≡ false
 
--- such a token in front
+-- a token in front
 pub token_read : (kind : TokenKind) (bytes y : List ℕ) (s : Standing) → ReadsToken kind bytes → BeginsBlank y
     → pieces_after 0 s (bytes ++ y)
     ≡ record { part = Code kind; bytes = bytes; standing = s } ∷ pieces_after 0 Beside y
@@ -95,7 +95,7 @@ drop_line : (w y : List ℕ) (c : ℕ) → drop (suc (length w)) (w ++ c ∷ y) 
 drop_line [] y c = refl
 drop_line (x ∷ w) y c = drop_line w y c
 
--- such a comment in front, with the end of its line
+-- a comment in front, with the end of its line
 pub comment_read : (bytes y : List ℕ) (s : Standing) → ReadsComment bytes
     → pieces_after 0 s (bytes ++ 10 ∷ y)
     ≡ record { part = Comment; bytes = bytes; standing = s } ∷ pieces_after 0 Below y

@@ -15,7 +15,7 @@ first_opened : (s : State) (kind : TokenKind) (bytes : List ℕ) → is_over s �
 unfolding opened
 first_opened s kind bytes h k = rw (h, k) refl
 
--- where it is written, and what follows, is seen in no earlier token
+-- where a token is written, and what follows, is seen in no earlier token
 lead_of : (a b n : ℕ) (t : Bool) → lead (begun_at a (if t then Slot else Accent)) n
     ≡ lead (begun_at b (if t then Slot else Accent)) n
 unfolding lead
@@ -37,7 +37,7 @@ first_after : (s : State) (kind : TokenKind) (bytes : List ℕ) → is_over s �
 unfolding after
 first_after s kind bytes h k = search (rules, first_opened, advanced_of)
 
--- the line ends before it
+-- a line that is over ends before a token
 first_lines : (s : State) (kind : TokenKind) (t : Standing) → is_over s ≡ true → is_open kind ≡ false
     → lines_before s kind t ≡ line_begun s.column t
 first_lines s kind t h k = grind (arith, common_steps)
@@ -47,7 +47,7 @@ first_before : (s : State) (kind : TokenKind) (bytes : List ℕ) (t : Standing) 
 unfolding before
 first_before s kind bytes t h k = search (rules, first_lines, first_lead, append_assoc)
 
--- so it is written behind the end of the open line as it is at the top
+-- where the line is over, a token is written behind its end as it is at the top
 first_rendered : (s : State) (kind : TokenKind) (bytes : List ℕ) (t : Standing) (ps : List PieceValue)
     → is_over s ≡ true → is_open kind ≡ false
     → rendered_from s (record { part = Code kind; bytes = bytes; standing = t } ∷ ps)

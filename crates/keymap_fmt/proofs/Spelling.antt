@@ -109,11 +109,11 @@ tokens_stay text =
     ∙ ap (flat_map (λ (p : Part × List ℕ). token_in p.0 p.1)) (parts_stay text) ∙ in_parts (pieces text)
     ∙ tokens_of_pieces text
 
--- one more in front
+-- equal lists are equal with an element more in front
 one_more : {A : Type 0} (x : A) (xs ys : List A) → xs ≡ ys → x ∷ xs ≡ x ∷ ys
 one_more {A = A} x xs ys h = ap (λ (zs : List A). x ∷ zs) h
 
--- so are items
+-- equal kinds and bytes are equal items
 item_of_both : (ts : List TokenValue)
     → map (λ (p : TokenKind × List ℕ). item p.0 p.1) (map kind_and_bytes ts) ≡ map item_of ts
 item_of_both [] = refl
@@ -124,7 +124,7 @@ items_stay text =
     sym (item_of_both (tokens (formatted text)))
     ∙ ap (map (λ (p : TokenKind × List ℕ). item p.0 p.1)) (tokens_stay text) ∙ item_of_both (tokens text)
 
--- These bytes are tokens to their end, behind the first k of them.
+-- The bytes are tokens to their end, behind the first k of them.
 IsWhole : ℕ → List ℕ → Type 0
 IsWhole k bytes = (q : ℕ) → (end : ℕ) × (ending_of_tokens (tokens_after k q bytes) ≡ Ok end)
 
@@ -198,7 +198,7 @@ formatted_whole : (text : List ℕ) → (end : ℕ) × (ending (formatted text) 
 unfolding IsWhole
 formatted_whole text = whole_from start AtTop (pieces text) (text_pieces text 0 AtTop) 0
 
--- it spells what the text spells
+-- the formatted text spells what the text spells
 pub keymap_stays : (text : List ℕ) (m : MapValue) → Spells text m → Spells (formatted text) m
 keymap_stays text m h =
     let end = formatted_whole text in

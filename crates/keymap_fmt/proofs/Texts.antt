@@ -26,7 +26,7 @@ lower_reaches Beside t h = refl
 lower_reaches Below Below h = refl
 lower_reaches s t h = h
 
--- so does any blank
+-- any blank leads on
 blank_reaches : (c : ℕ) (s t : Standing) → reaches (lowered c s) t ≡ true → reaches s t ≡ true
 blank_reaches c s t h = search (rules, lower_reaches)
 
@@ -35,7 +35,7 @@ reaches_itself : (s : Standing) → reaches s s ≡ true
 reaches_itself AtTop = refl
 reaches_itself s = refl
 
--- its bytes are the piece again
+-- the bytes are read as the piece again
 abbrev pub Reads : Part → List ℕ → Type 0
 Reads Comment bytes = ReadsComment bytes
 Reads (Code kind) bytes = ReadsToken kind bytes
@@ -89,7 +89,7 @@ token_reads c n kind bytes h =
           ∙ no_space (slice_index (c ∷ bytes) n) t.end;
     }
 
--- those of a text
+-- the pieces of a text
 pub text_pieces : (bytes : List ℕ) (k : ℕ) (s : Standing) → ArePieces s (pieces_after k s bytes)
 text_pieces [] k s = subst (ArePieces s) (sym (read_nil k s)) no_piece
 text_pieces (c ∷ bytes) k s = go k s (text_pieces bytes)

@@ -17,7 +17,7 @@ abbrev run : Edge → List ℕ → Option Edge
 run e [] = Some e
 run e (c ∷ cs) = elim (behind_byte e c) [ Some f ↦ run f cs | None ↦ None ]
 
--- one byte
+-- a byte that its edge lets pass
 one_passed : (e f : Edge) (c : ℕ) (y : List ℕ) → behind_byte e c ≡ Some f → are_lines e (c ∷ y) ≡ are_lines f y
 unfolding are_lines
 one_passed Blank f c y h = rw (h, are_lines) refl
@@ -125,7 +125,7 @@ before_passed s (Code kind) bytes y u t h r =
           ∙ all_passed (replicate n 32) y g.0 b.0 b.1,
     )
 
--- one piece is written, and the others have tidy lines
+-- a piece is written, and the others have tidy lines
 piece_tidy : (s : State) (u : Standing) (p : PieceValue) (ps : List PieceValue) → IsAt u s.column
     → Reads p.part p.bytes → reaches u p.standing ≡ true
     → are_lines (edge_at (behind p.part)) (rendered_from (after s p.part p.bytes) ps) ≡ true

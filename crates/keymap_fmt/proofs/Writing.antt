@@ -3,7 +3,7 @@ use Rattle.keymap_fmt.proofs.Common.{◌≡◌, ℕ, List, [], ◌∷◌, ◌++�
 use Rattle.keymap_fmt.proofs.Common.{PieceValue, before, after, ending, line_end, rendered_from}
 use Rattle.std.proofs.Common.{length-append}
 
--- one piece more is written
+-- a further piece is written
 pub piece_written : (laid new all : List ℕ) (s next : State) (p : PieceValue) (qs ps : List PieceValue)
     → qs ≡ p ∷ ps → new ≡ laid ++ (before s p.part p.bytes p.standing ++ (p.bytes ++ ending p.part))
     → next ≡ after s p.part p.bytes → laid ++ rendered_from s qs ≡ all → new ++ rendered_from next ps ≡ all

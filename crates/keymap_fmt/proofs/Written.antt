@@ -97,7 +97,7 @@ below_line column h = rw (closed column h) refl
 apart_line : (column : ℕ) → 0 < column → lowered_by (line_begun column Apart) Beside ≡ Apart
 apart_line column h = rw (closed column h) refl
 
--- likewise a comment
+-- what stands before a comment stands there again where the comment is read behind it
 comment_again : (column : ℕ) (s t : Standing) → IsAt s column → reaches s t ≡ true
     → comment_lead column (lowered_by (comment_lead column t) s) ≡ comment_lead column t
 comment_again column AtTop AtTop h r = subst
@@ -113,7 +113,7 @@ comment_again column Beside Apart h r = ap (comment_lead column) (apart_line col
 comment_again column Apart t h r = absurd h
 comment_again column s t h r = absurd (cc)
 
--- likewise a token
+-- the lines before a token stand there again where the token is read behind them
 lines_again : (s : State) (kind : TokenKind) (u t : Standing) → IsAt u s.column → reaches u t ≡ true
     → lines_before s kind (lowered_by (lines_before s kind t) u) ≡ lines_before s kind t
 lines_again s kind u t h r = search (rules, line_again)
@@ -125,7 +125,7 @@ unfolding before
 before_again s Comment bytes u t h r = comment_again s.column u t h r
 before_again s (Code kind) bytes u t h r = search (rules, lowered_append, lowered_replicate, lines_again)
 
--- there is a blank before a token at least
+-- a blank at least stands before a token
 pub lead_some : (s : State) (n : ℕ) → 0 < lead s n
 unfolding lead
 lead_some s n = omega arith

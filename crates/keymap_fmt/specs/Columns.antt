@@ -52,11 +52,11 @@ abbrev pub key_line : Written → List Written → List ℕ
 key_line number tokens =
     blanks (number_column number) ++ (number.bytes ++ cells_from 0 (number_column number + places number) tokens)
 
--- filled on the right with blanks to seven places
+-- a token filled on the right with blanks to seven places
 abbrev pub filled : Written → List ℕ
 filled t = t.bytes ++ blanks (7 - places t)
 
--- that line with each token in its column: the number ends before column 5, the cells take seven places each from
+-- the line of a slot, each token in its column: the number ends before column 5, the cells take seven places each from
 -- column 8 on, and the lock letter stands in column 65
 abbrev pub aligned_line : Written → List Written → Written → List ℕ
 aligned_line number cells letter =
@@ -78,7 +78,7 @@ tokens_of p = piece_of p.opened ∷ piece_of p.base ∷ piece_of p.composed ∷ 
 abbrev pub BeginsPair : PairWritten → Type 0
 BeginsPair p = is_open p.opened.kind ≡ true
 
--- one blank between its tokens
+-- the tokens of a pair, with one blank between them
 abbrev pub pair_text : PairWritten → List ℕ
 pair_text p =
     p.opened.bytes

@@ -17,7 +17,7 @@ lower Beside = Below
 lower Below = Apart
 lower Apart = Apart
 
--- or if the blank c stands before it
+-- where a piece stands if the blank c stands before it
 abbrev pub lowered : ℕ → Standing → Standing
 lowered c s = if c == 10 then lower s else s
 

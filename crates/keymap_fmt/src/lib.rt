@@ -1,4 +1,4 @@
-//! One layout for keymap texts: columns aligned, comments kept, and no byte of a token changed.
+//! The layout of keymap texts: columns aligned, comments kept, and no byte of a token changed.
 //!
 //! A text is a row of pieces, its tokens and its comments, and the layout depends on these and on where each stands:
 //! beside the one before it, in the next line, or behind an empty line. [`format`] writes them anew. [`laws`] says

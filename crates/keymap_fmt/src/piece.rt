@@ -11,13 +11,13 @@ use keymap_text::{TokenKind, is_space_byte, line_end, next_token, space_len};
 /// Where a piece stands in the text.
 #[derive(Clone, Copy)]
 pub(crate) enum Standing {
-    /// It is the first one.
+    /// The piece is the first one.
     AtTop,
-    /// It stands in the line of the piece before it.
+    /// The piece stands in the line of the piece before it.
     Beside,
-    /// It stands in the next line.
+    /// The piece stands in the next line.
     Below,
-    /// An empty line stands before it, or several.
+    /// An empty line stands before the piece, or several.
     Apart,
 }
 

@@ -19,7 +19,7 @@ pub enum FormatError {
     Memory,
     #[error("the text has a fault")]
     Fault(TextFault),
-    /// It would have more bytes than a text may have.
+    /// The formatted text would have more bytes than a text may have.
     #[error("the text is too long when formatted")]
     TooLong,
 }

@@ -6,7 +6,7 @@ use Rattle.std.proofs.lemmas.List.FromFn.{map-range_with_len_more}
 use Rattle.keymap_core.proofs.Below.{gathered-none, gathered-more}
 use Rattle.keymap_core.proofs.BorneTests.{any-start, any-none}
 
--- one more element behind those of the numbers below n
+-- an element behind those of the numbers below n
 pub map_step : {X : Type 0} (f : ℕ → X) (old xs ys : List X) (n : ℕ) (x : X)
     → xs ≡ old ++ map f (range_with_len 0 n) → x ≡ f n → ys ≡ xs ++ x ∷ []
     → ys ≡ old ++ map f (range_with_len 0 (n + 1))

@@ -24,7 +24,7 @@ not_given : (t : Spelled) (i : ℕ) (o : Option ℕ) → is_missing_of t o ≡ f
     → is_the i o ≡ false
 not_given t i o found undefined = search (rules, given_defined)
 
--- so no cell gives an accent that isn't defined
+-- where no accent of a cell is missing, no cell gives an accent that isn't defined
 none_given : (t : Spelled) (cells : List CellInForce) (i : ℕ) → find (is_missing t) cells ≡ None
     → is_defined t i ≡ false → is_given t cells i ≡ false
 none_given t [] i none undefined = refl
@@ -40,7 +40,7 @@ missing_not : (t : Spelled) (cells : List CellInForce) (i : ℕ) → find (is_mi
     → missing_accent t cells i ≡ []
 missing_not t cells i none = search (rules, and-false, none_given)
 
--- none of the accents
+-- none of the accents is missing
 pub missing_none : (t : Spelled) (cells : List CellInForce) (n : ℕ) → find (is_missing t) cells ≡ None
     → gathered (missing_accent t cells) n ≡ []
 unfolding gathered

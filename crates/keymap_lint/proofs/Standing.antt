@@ -256,7 +256,7 @@ all_some : {X Y : Type 0} (P : Y → Type 0) (f : Option X → List Y) (o : Opti
 all_some P f None h k = h
 all_some P f (Some x) h k = k x refl
 
--- So it holds of all that it has.
+-- What holds of each kind of diagnostic holds of all that a text has.
 pub of_all : (P : Diagnostic → Type 0) (t : Spelled) (cells : List CellInForce) (fs : List Finding)
     → OfEach P t cells fs → All P (all_of t cells fs)
 of_all P t cells fs h =
@@ -328,7 +328,7 @@ holds_selector true (Act (act.Lock lock.Alt)) s e =
     let same : holding.Lock lock.Alt ≡ s = cc in ap (λ h. Act (holding_action h)) same
 holds_selector _ _ s e = absurd (cc)
 
--- and so is a dead key
+-- a cell that is a dead key is what is told of it
 holds_dead_key : (b : Bool) (x : Cell) (i : ℕ) → cond b (dead_key_of x) None ≡ Some i → x ≡ Act (act.DeadKey i)
 holds_dead_key true (Act (act.DeadKey j)) i e = let same : j ≡ i = cc in ap (λ n. Act (act.DeadKey n)) same
 holds_dead_key _ _ i e = absurd (cc)

@@ -4,10 +4,10 @@ use Rattle.keymap_lint.proofs.Common.{refl, true≢false, MapValue, Faulty, rule
 use Rattle.std.specs.List.{list_any}
 use Rattle.std.proofs.lemmas.Bool.{or_parts, or_from}
 use Rattle.keymap_lint.specs.Types.{Sticking, Kind, Diagnostics, Spelled}
-use Rattle.console_core.specs.declared.outcome.Sticking.TheVariants.{Sticks, Never, Undecided}
+use Rattle.console_states.specs.declared.outcome.Sticking.TheVariants.{Sticks, Never, Undecided}
 use Rattle.console_core.specs.History.{in_force}
 use Rattle.console_core.specs.Headline.{IsSafe}
-use Rattle.console_core.specs.Sticking.{NeverSticks}
+use Rattle.console_states.specs.Sticking.{NeverSticks}
 use Rattle.console_core.proofs.Headline.{on_only_while_pressed, off_once_quiet}
 use Rattle.console_core.proofs.OneMap.{first_in_force}
 use Rattle.keymap_lint.specs.Lists.{IsSearched}

@@ -6,7 +6,7 @@ use Rattle.std.specs.Ordering.{nat_cmp}
 use Rattle.keymap_core.specs.Maps.{MapValue}
 use Rattle.keymap_lint.specs.Types.{Sticking, Finding, Span, Placed, CellInForce, Diagnostic, Diagnostics, Lint, Faulty}
 use Rattle.keymap_lint.specs.Types.{Spelled as IsSpelled}
-use Rattle.console_core.specs.Sticking.{IsAnswer}
+use Rattle.console_states.specs.Sticking.{IsAnswer}
 use Rattle.keymap_check.specs.Findings.{AreFindings}
 use Rattle.keymap_text.specs.declared.wanted.FaultPlace.{FaultPlace}
 use Rattle.keymap_text.specs.Meaning.{Spells, Fault as FaultOf, tokens}
@@ -53,12 +53,12 @@ pub record AreOf (t : Spelled) (cells : List CellInForce) (findings : List Findi
   pub unused : l.unused_slots.items ≡ unused_slots t
   pub sticking : IsSearched t.map findings l.sticking
 
--- those of a text that spells a map, with the findings of the check
+-- the diagnostics of a text that spells a map, with the findings of the check
 abbrev pub AreOfSpelled : Spelled → Diagnostics → Type 0
 AreOfSpelled t l =
     (findings : List Finding) × AreFindings t.map findings × AreOf t (cells_in_force t) findings l
 
--- the definitions of its rows, the places of its tokens, and the map
+-- what is spelled: the definitions of rows, the places of tokens, and the map
 abbrev pub spelled_with : List Placed → List Span → MapValue → Spelled
 spelled_with definitions spans m = record { definitions = definitions; spans = spans; map = m }
 

@@ -92,7 +92,7 @@ IsAtWhatItTells text t d = IfSome d.place (λ p. StandsThere text t p d.kind)
 abbrev pub StandsWithin : List ℕ → Spelled → Diagnostic → Type 0
 StandsWithin text t d = IsWithin text d × IsAtWhatItTells text t d
 
--- so do all of a text that spells a map by these rows
+-- all diagnostics of a text that spells a map by these rows stand within it, at what they tell of
 abbrev pub AllStand : List ℕ → MapValue → List Row → Diagnostics → Type 0
 AllStand text m rows l =
     Spells text m × IsSpelledBy text m rows × All (StandsWithin text (spelled_by text m rows)) l.list.items

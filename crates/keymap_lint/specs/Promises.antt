@@ -3,7 +3,7 @@ use Rattle.std.specs.Prelude.{◌≡◌, ◌↔◌, ℕ, Bool, true, false, List
 use Rattle.std.specs.List.{list_any}
 use Rattle.keymap_core.specs.Maps.{MapValue}
 use Rattle.console_core.specs.Headline.{IsSafe}
-use Rattle.console_core.specs.Sticking.{NeverSticks}
+use Rattle.console_states.specs.Sticking.{NeverSticks}
 use Rattle.keymap_text.specs.Meaning.{Spells}
 use Rattle.keymap_lint.specs.Types.{Diagnostic, Kind, Lint, Faulty, Spelled}
 use Rattle.keymap_lint.specs.declared.diagnostic.Kind.TheVariants.{MixedKey, HalfDefined}
@@ -16,7 +16,7 @@ abbrev pub WellTextsNeverStick : Type 0
 WellTextsNeverStick =
     (text : List ℕ) (l : Lint) → IsLint text l → has_error l ≡ false → (m : MapValue) × Spells text m × NeverSticks m
 
--- it names a key that is a modifier or lock and has a character
+-- the diagnostic names a key that is a modifier or lock and has a character
 abbrev pub names_a_key : Kind → Bool
 names_a_key (MixedKey finding character is_noted) = true
 names_a_key (HalfDefined selector has_keys is_noted) = has_keys

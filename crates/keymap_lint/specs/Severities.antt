@@ -2,7 +2,7 @@
 use Rattle.std.specs.Prelude.{Bool, true, false, not, ◌||◌, if◌then◌else◌, Option, Some}
 use Rattle.std.specs.List.{list_any}
 use Rattle.keymap_lint.specs.Types.{Sticking, Diagnostic, Kind, Diagnostics, Lint, Faulty, Spelled}
-use Rattle.console_core.specs.declared.outcome.Sticking.TheVariants.{Never}
+use Rattle.console_states.specs.declared.outcome.Sticking.TheVariants.{Never}
 use Rattle.keymap_lint.specs.declared.diagnostic.Kind.TheVariants.{NoKey, MixedKey, HalfDefined}
 use Rattle.keymap_lint.specs.declared.diagnostic.Severity.{Severity}
 use Rattle.keymap_lint.specs.declared.diagnostic.Severity.TheVariants.{Error, Warning}

@@ -9,7 +9,7 @@ use Rattle.keymap_core.specs.Numbers.{key_count, column_count, slot_limit, accen
 use Rattle.keymap_text.specs.declared.last.LastDefinitions.{LastDefinitions}
 use Rattle.keymap_text.specs.Placed.{last_of, HasIndex}
 
--- its definitions in order, where each token stands, and the map
+-- what a text spells: its definitions in order, where each token stands, and the map
 pub record Spelled : Type 0 where
   pub definitions : List Placed
   pub spans : List Span

@@ -3,7 +3,7 @@ pub use Rattle.keymap_core.specs.declared.action.Holding.{Holding}
 pub use Rattle.keymap_core.specs.declared.entry.Cell.{Cell}
 pub use Rattle.keymap_core.specs.declared.entry.Cell.TheVariants.{Char, Act}
 pub use Rattle.console_core.specs.declared.event.Event.{Event}
-pub use Rattle.console_core.specs.declared.outcome.Sticking.{Sticking}
+pub use Rattle.console_states.specs.declared.outcome.Sticking.{Sticking}
 pub use Rattle.keymap_check.specs.declared.finding.Finding.{Finding}
 pub use Rattle.keymap_text.specs.declared.placed.Defined.{Defined}
 pub use Rattle.keymap_text.specs.declared.placed.Defined.TheVariants.{Slot, Accent}

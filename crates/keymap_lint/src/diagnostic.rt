@@ -4,7 +4,7 @@ ghost use Rattle.std.specs.Option.{option_to_list};
 ghost use Rattle.keymap_lint.specs.Severities as spec;
 
 use arrayvec::ArrayVec;
-use console_core::Sticking;
+use console_states::Sticking;
 use keymap_check::Finding;
 use keymap_core::{ACCENT_LIMIT, Holding, KEY_COUNT, SLOT_LIMIT};
 use keymap_text::{Defined, FaultPlace, TextFault};
@@ -41,7 +41,7 @@ pub enum Kind {
         selector: Holding,
         /// Some key is a modifier or lock with a character in such a slot: the keys are `Diagnostics::nul_keys`.
         has_keys: bool,
-        /// It has keys and no key is a `MixedKey`: what the search answered is told behind it.
+        /// `has_keys`, and no key is a `MixedKey`: what the search answered is told behind it.
         is_noted: bool,
     },
     /// A definition without effect: a later one defines the same. It stands at its first token.
@@ -68,7 +68,7 @@ pub enum Kind {
         first: usize,
     },
     /// No live cell is ashift or alock, and the text defines slots from 128 on: these are `Diagnostics::unused_slots`.
-    /// It stands at the first definition of such a slot that is in force.
+    /// The diagnostic stands at the first definition of such a slot that is in force.
     UnusedHalf,
     /// A cell that is spelled by one decimal digit, which is the number of this character.
     BareDigit {

@@ -1,6 +1,6 @@
 //! The diagnostics of a keymap text: its fault, or what is wrong or doubtful in a text that spells a keymap.
 //!
-//! It stands on keymap_text, which tells where the parts of a text stand, on the check and on the search for sticking
+//! keymap_text tells where the parts of a text stand; the crate also takes the check and the search for sticking
 //! modifiers. `diagnostics` answers values, each with the offset of its place; the words are those of keymap_lint_text.
 //!
 //! What is promised (`IsLint`, `specs/Lists.antt`): the fault of a text that has one, and else kind by kind exactly the

@@ -17,7 +17,7 @@ use crate::mixed_key::nul_keys;
 use crate::order::put_in_order;
 use crate::spelled::SpelledText;
 use crate::unused_half::unused_slots;
-use console_core::{Sticking, sticking};
+use console_states::{Sticking, sticking};
 use keymap_check::{Finding, check};
 use keymap_core::KeyMap;
 use keymap_text::{

@@ -22,7 +22,7 @@ fn is_mixed(text: &SpelledText, finding: &Finding) -> bool
     text.defines(finding.holding_at.slot) && text.defines(finding.character_at.slot)
 }
 
-/// Whether it is so, and the key is greater than this one.
+/// Whether the text defines both slots of the finding, and its key is greater than this one.
 fn is_later(text: &SpelledText, key: u8, finding: &Finding) -> bool
     ensures { result ≡ is_later_than text.now key finding.now }
 {

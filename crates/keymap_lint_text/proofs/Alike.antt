@@ -19,7 +19,7 @@ use Rattle.keymap_lint_text.proofs.Headed.{behind, head_is}
 use Rattle.messages.proofs.Passed.{decimal_passes}
 use Rattle.keymap_lint.specs.declared.diagnostic.Severity.TheVariants as severities
 
--- neither a colon nor a blank
+-- a byte that is neither a colon nor a blank
 abbrev is_inner : ℕ → Bool
 is_inner c = not (c == 58) && not (c == 32)
 
@@ -136,7 +136,7 @@ placed_is : (text : List ℕ) (p : ℕ) (x : List ℕ)
     → behind text (Some p) ++ x ≡ decimal (line text p) ++ (58 ∷ (column text p ++ (58 ∷ 32 ∷ x)))
 placed_is text p x = simp append_assoc
 
--- both numbers are below 2 ^ 64
+-- the numbers of a line and a column are below 2 ^ 64
 line_low : (text : List ℕ) (p : ℕ) → length text < 2 ^ 63 → line text p < 2 ^ 64
 line_low text p l =
     omega (arith, count_by-le-length is_feed (take p text), length-take p text, l)

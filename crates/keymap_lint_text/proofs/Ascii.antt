@@ -38,7 +38,7 @@ same_chars : (bs : List ℕ) → list_all is_shown_byte bs ≡ true → map show
 same_chars bs h =
     map_fixed shown_char bs (λ k d l. same_char (get_or bs k d) (AllPass-from_list_all is_shown_byte bs h k d l))
 
--- such bytes are shown as they are
+-- bytes that a terminal shows are shown as they are
 pub shown_bytes : (bs : List ℕ) → list_all is_shown_byte bs ≡ true → shown_chars bs ≡ bs
 unfolding shown_chars
 shown_bytes bs h =
@@ -46,7 +46,7 @@ shown_bytes bs h =
     ap lossy_chars (sym (encoded bs h)) ∙ lossy_chars-encode bs (are_scalars bs h) in
     ap (map shown_char) read ∙ same_chars bs h
 
--- such bytes in front are the first ones that are shown, whatever stands behind them
+-- shown bytes in front are the first ones that are shown, whatever stands behind them
 pub first_bytes : (n m : ℕ) (bs : List ℕ) → m ≡ min n (length bs) → list_all is_shown_byte (take m bs) ≡ true
     → take n (shown_chars bs) ≡ take m bs
 unfolding shown_chars
@@ -69,12 +69,12 @@ first_bytes n m bs e h =
         let all = take_all n (take m bs) (omega (arith, e, l, length-take m bs)) in
         cc (none, lossy_chars-nil, append-nil (take m bs), all)
 
--- such a byte begins no piece inside one
+-- a shown byte begins no piece inside one
 clean : (ys : List ℕ) → list_all is_shown_byte ys ≡ true → StartsClean ys
 clean [] h = λ p. absurd (omega (arith, p))
 clean (c ∷ cs) h = λ p. let small = small_byte c (and_parts _ _ h).0 in grind (arith, nat_tests, small)
 
--- such bytes at the end are the last ones that are shown, whatever stands before them
+-- shown bytes at the end are the last ones that are shown, whatever stands before them
 pub last_bytes : (n : ℕ) (bs : List ℕ) → list_all is_shown_byte (last n bs) ≡ true
     → last n (shown_chars bs) ≡ last n bs
 unfolding shown_chars

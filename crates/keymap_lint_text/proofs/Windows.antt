@@ -14,7 +14,7 @@ parted : (bs rs cs : List ℕ) (n : ℕ) → cs ≡ bs ++ rs → n ≡ length bs
 parted bs rs cs n e k =
     cc (take-append_seam bs rs, drop-append_seam bs rs)
 
--- both are zero, or both aren't
+-- two numbers of which both are zero, or neither is
 same_test : (m n : ℕ) → (m ≡ 0 → n ≡ 0) → (n ≡ 0 → m ≡ 0) → nat_lt 0 m ≡ nat_lt 0 n
 same_test m n f g = grind (arith, nat_tests, f, g)
 

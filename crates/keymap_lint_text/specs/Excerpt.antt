@@ -51,12 +51,12 @@ below c = if c == 9 then 9 else 32
 abbrev pub caret_line : ℕ → List ℕ → List ℕ
 caret_line skipped cs = codes "  " ++ blanks skipped ++ map below (drop skipped cs) ++ codes "^"
 
--- both lines, by the characters before the place and those from it on
+-- the line and the caret below it, by the characters before the place and those from it on
 abbrev pub lines_of : List ℕ → List ℕ → List (List ℕ)
 lines_of bs rs =
     let skipped = left_out (length bs) (length (bs ++ rs)) in
     shown_line skipped (bs ++ rs) ∷ caret_line skipped bs ∷ []
 
--- both lines, by the bytes of the line before the place and those from it on
+-- the line and the caret below it, by the bytes of the line before the place and those from it on
 unfoldable pub excerpt : List ℕ → List ℕ → List (List ℕ)
 excerpt before rest = lines_of (shown_chars (shown_before before rest)) (shown_chars (without_cr rest))

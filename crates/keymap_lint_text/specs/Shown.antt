@@ -39,7 +39,7 @@ pub record IsLine (bytes : List ℕ) : Type 0 where
   pub spelled : bytes ≡ flat_map encode_utf8 characters
   pub seen : All IsSeen characters
 
--- each of these texts does so
+-- each of these texts is such a line
 abbrev pub AreLines : List (List ℕ) → Type 0
 AreLines [] = ⊤
 AreLines (t ∷ ts) = IsLine t × AreLines ts

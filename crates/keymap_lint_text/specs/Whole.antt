@@ -2,8 +2,8 @@
 use Rattle.std.specs.Prelude.{◌≡◌, ℕ, ◌&&◌, Bool, true, false, nat_lt, if◌then◌else◌, List, [], ◌∷◌}
 use Rattle.std.specs.Prelude.{Option, Some, None}
 use Rattle.std.specs.List.{flat_map}
-use Rattle.console_core.specs.declared.outcome.Sticking.{Sticking}
-use Rattle.console_core.specs.declared.outcome.Sticking.TheVariants.{Sticks, Undecided}
+use Rattle.console_states.specs.declared.outcome.Sticking.{Sticking}
+use Rattle.console_states.specs.declared.outcome.Sticking.TheVariants.{Sticks, Undecided}
 use Rattle.keymap_lint.specs.declared.diagnostic.Diagnostic.{Diagnostic}
 use Rattle.keymap_lint.specs.declared.diagnostic.Diagnostics.{Diagnostics}
 use Rattle.keymap_lint.specs.declared.diagnostic.Lint.{Lint}

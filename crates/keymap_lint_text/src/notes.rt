@@ -101,7 +101,7 @@ pub(crate) fn sticks_message(
     )
 }
 
-/// That the search has no answer.
+/// The message that the search has no answer.
 pub(crate) fn undecided_message() -> &'static [u8]
     ensures { result.now ≡ spec.undecided_text }
 {

@@ -14,7 +14,7 @@ use crate::faults::fault_message;
 use crate::notes::{begins_message, sticks_message, undecided_message};
 use crate::said::{is_noted, kind_message, kind_text, severity_text};
 use crate::words::{AT_NO_PLACE, AT_PLACE, DIAGNOSTIC, NOTE};
-use console_core::Sticking;
+use console_states::Sticking;
 use keymap_lint::{Diagnostic, Diagnostics, Severity};
 use keymap_text::{DefinitionStart, FaultPlace, TextFaultKind, TextLines};
 use messages::{fill, filled, number};

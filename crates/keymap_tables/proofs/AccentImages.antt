@@ -61,11 +61,11 @@ length-flat : (pairs : List (ℕ × ℕ)) → length (flat pairs) ≡ 2 * length
 length-flat [] = refl
 length-flat (p ∷ pairs) = omega (arith, length-flat pairs)
 
--- as many as the pairs have, and its own
+-- an accent has as many numbers as its pairs have, and its own
 pub length-numbers : (accent : AccentValue) → length (numbers_of accent) ≡ 1 + 2 * length accent.pairs
 length-numbers accent = omega (arith, length-flat accent.pairs)
 
--- behind its own each pair has two: the base, and the result
+-- behind the accent's own number each pair has two: the base, and the result
 pub number-base : (own : ℕ) (pairs : List (ℕ × ℕ)) (i : ℕ)
     → get_or (own ∷ flat pairs) (1 + 2 * i) 0 ≡ (get_or pairs i (0, 0)).0
 number-base own [] i = get_or_past (own ∷ []) (1 + 2 * i) 0 (omega arith)
@@ -83,7 +83,7 @@ flat-known [] known = All-nil IsScalar
 flat-known (p ∷ pairs) known =
     search (rules, All-head, All-cons, All-tail, flat-known pairs (All-tail IsPair p pairs known))
 
--- those of a known accent are characters
+-- the numbers of a known accent are characters
 pub numbers-known : (accent : AccentValue) → IsAccent accent → All IsScalar (numbers_of accent)
 numbers-known accent known =
     All-cons IsScalar accent.own (flat accent.pairs) known.own (flat-known accent.pairs known.pairs)
@@ -99,12 +99,12 @@ same-flat (p ∷ xs) (q ∷ ys) same =
     ap (λ (v : ℕ). (v, p.1) ∷ xs) first ∙ ap (λ (v : ℕ). (q.0, v) ∷ xs) second
     ∙ ap (λ (v : List (ℕ × ℕ)). q ∷ v) (same-flat xs ys rest)
 
--- one more pair
+-- the numbers of an accent with a further pair
 pub flat-push : (own : ℕ) (pairs : List (ℕ × ℕ)) (p : ℕ × ℕ)
     → own ∷ flat (pairs ++ p ∷ []) ≡ ((own ∷ flat pairs) ++ p.0 ∷ []) ++ p.1 ∷ []
 flat-push own pairs p = grind (arith, common_steps)
 
--- they give the accent
+-- the numbers of an accent give the accent
 numbers-one : (x y : AccentValue) → numbers_of x ≡ numbers_of y → x ≡ y
 numbers-one x y same =
     let own : x.own ≡ y.own = cc in
@@ -203,7 +203,7 @@ accents-are l = record {
   empty = accent-blank l;
 }
 
--- one more pair, read
+-- a further pair is read
 pub pair-read : (l : Layout) (bytes : List ℕ) (own : ℕ) (pairs : List (ℕ × ℕ)) (i base composed : ℕ) → AreBytes bytes
     → length bytes ≡ accent_size l → i < 52
     → flat_map (number_bytes l) (own ∷ flat pairs) ≡ take (number_size l * (1 + 2 * i)) bytes
@@ -225,7 +225,7 @@ pair-read l bytes own pairs i base composed small whole below so_far first secon
     (number-read l bytes (s * (2 + 2 * i)) composed small (inside (2 + 2 * i) (omega arith)) second)
     ∙ ap (λ (k : ℕ). take (number_size l * k) bytes) last
 
--- one more pair fits
+-- a further pair fits
 pub pair-fits : (l : Layout) (own : ℕ) (pairs : List (ℕ × ℕ)) (p : ℕ × ℕ)
     → All (λ n. n < number_limit l) (own ∷ flat pairs) → p.0 < number_limit l → p.1 < number_limit l
     → All (λ n. n < number_limit l) (own ∷ flat (pairs ++ p ∷ []))

@@ -95,7 +95,7 @@ module _ {X : Type 0} {f : X → List ℕ} {size : ℕ} {fault_in : List ℕ →
       → table_fault l fault_in size most (table_bytes l f size most xs) p ≡ None
   table-sound xs known few = search (rules, split-passes, table-front, count-sound, table-count, table-back, rows-sound)
 
-  -- and gives the rows
+  -- a table gives its rows
   pub same-table : (xs ys : List X) → All Is xs → All Is ys → length xs ≤ most → length ys ≤ most
       → table_bytes l f size most xs ≡ table_bytes l f size most ys → xs ≡ ys
   same-table xs ys known too few also same =
@@ -180,7 +180,7 @@ module _ (l : Layout) (m : MapValue) (is : IsMap m) (fits : FitsIn l m) where
       let accents = length-table (accents-are l) l 15 (omega arith) m.accents accents-in is.few_accents in
       grind (arith, common_steps, image-parts l m, length-slots, accents)
 
-  -- it has no fault
+  -- the image of a map has no fault
   pub image-sound : (p : ℕ) → fault_at l (image_in l m) p ≡ None
   image-sound p =
       fault-content l (image_in l m) p length-image

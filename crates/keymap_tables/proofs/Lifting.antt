@@ -59,7 +59,7 @@ module _ (fault_in : ℕ → List ℕ → FaultOf) (size count : ℕ) (behind : 
   pub row-past : (p : ℕ) → 0 < size → size * count ≤ p → rows_fault fault_in size count behind bytes p ≡ behind p
   row-past p some past = grind arith
 
-  -- one more row without a fault
+  -- a further row without a fault
   pub row-passes : (i : ℕ) → i < count → HasNoFault (rows_fault fault_in size count behind bytes) (size * i)
       → HasNoFault (fault_in i (part bytes (size * i) size)) size
       → HasNoFault (rows_fault fault_in size count behind bytes) (size * (i + 1))

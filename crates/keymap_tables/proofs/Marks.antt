@@ -47,24 +47,24 @@ mark-bit cells eight d i below =
 pub halves : (y : ℕ) → 2 * (y / 2) + cond (y % 2 == 1) 1 0 ≡ y
 halves y = grind (arith, nat_tests)
 
--- one mark fewer is cut off
+-- the first i marks are the first i + 1 without the last
 pub half-of : (marks i : ℕ) → i < 8 → marks / 2 ^ (8 - i) ≡ marks / 2 ^ (7 - i) / 2
 half-of marks i small =
     let more : 8 - i ≡ suc (7 - i) = omega arith in
     rw (more, pow-suc 2 (7 - i)) (sym (div-div-eq-div-mul marks (2 ^ (7 - i)) 2))
 
--- one more cell is read: the cells so far have the marks so far
+-- a further cell is read: the cells so far have the marks so far
 pub marks-more : (marks : ℕ) (cells : List Cell) (i : ℕ) (cell : Cell) → i < 8 → i < length cells
     → marks_of (take i cells) ≡ marks / 2 ^ (8 - i) → is_act cell ≡ ((marks / 2 ^ (7 - i)) % 2 == 1)
     → marks_of (take (i + 1) (set cells i cell)) ≡ marks / 2 ^ (8 - (i + 1))
 marks-more marks cells i cell small below so_far mark = search (rules, take_more_set, fold-append, half-of, halves)
 
--- one more bit behind the marks so far is the mark of the next cell
+-- the bit behind the marks so far is the mark of the next cell
 pub marks-next : (cells : List Cell) (i : ℕ) (cell : Cell) (old bit : ℕ) → i < length cells → cell ≡ get_or cells i cell
     → old ≡ marks_of (take i cells) → bit ≡ cond (is_act cell) 1 0 → 2 * old + bit ≡ marks_of (take (i + 1) cells)
 marks-next cells i cell old bit below here so_far mark =
     rw (take_more cells i cell below, ← here, fold-append, mark, so_far) refl
 
--- one more bit behind a number of i bits gives one of i + 1
+-- a bit behind a number of i bits gives one of i + 1
 pub small-next : (i old bit : ℕ) → old < 2 ^ i → bit < 2 → 2 * old + bit < 2 ^ (i + 1)
 small-next i old bit small two = rw (add-one, pow-suc 2 i) (omega arith)

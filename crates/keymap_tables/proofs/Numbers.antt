@@ -52,7 +52,7 @@ length-part bytes at n inside = length-take-le n (drop at bytes) (omega (arith, 
 part-small : (bytes : List ℕ) (at n : ℕ) → AreBytes bytes → AreBytes (part bytes at n)
 part-small bytes at n small i = grind (arith, common_steps, get_or-take, get_or-drop, small (at + i))
 
--- one byte
+-- a number of one byte
 one-byte : (bytes : List ℕ) (n : ℕ) → length bytes ≡ 1 → get_or bytes 0 0 < 256 → n ≡ from_le_bytes w8 bytes
     → to_le_bytes w8 n ≡ bytes
 one-byte [] n one small is = absurd (omega arith)
@@ -73,12 +73,12 @@ below_256 bytes small = omega (arith, small)
 below_2_32 : (bytes : List ℕ) → AreBytes bytes → from_le_bytes w32 bytes < 2 ^ 32
 below_2_32 bytes small = omega (arith, small 0, small 1, small 2, small 3)
 
--- and fits
+-- a number that was read fits
 pub number-fits : (l : Layout) (bytes : List ℕ) (at : ℕ) → AreBytes bytes → number_at l bytes at < number_limit l
 number-fits Wide bytes at small = below_2_32 (part bytes at 4) (part-small bytes at 4 small)
 number-fits Narrow bytes at small = below_256 (part bytes at 1) (part-small bytes at 1 small 0)
 
--- the number of its bytes
+-- the bytes of a number give the number
 pub number-back : (l : Layout) (n : ℕ) → n < number_limit l → from_le_bytes (number_width l) (number_bytes l n) ≡ n
 number-back Wide n small = from_le_bytes-to_le_bytes_4 n small
 number-back Narrow n small = omega arith

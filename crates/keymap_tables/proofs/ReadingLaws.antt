@@ -28,7 +28,7 @@ accent-wide accent known =
 pub map-wide : (m : MapValue) → IsMap m → FitsIn wide m
 map-wide m is = search (rules, All-weaker, entry-wide, accent-wide)
 
--- there is no kind where there is none
+-- no kind is both there and missing
 pub some_none : (kind : TableFaultKind) (o : Option TableFaultKind) → o ≡ Some kind → o ≡ None → ⊥
 some_none kind o some none = cc
 

@@ -99,7 +99,7 @@ module _ {X : Type 0} (f : X → List ℕ) (size : ℕ) where
       (omega (arith, length-filled blank n xs few))
       ∙ ap f (get_or-filled blank n xs i inside)
 
-  -- one more row, after a text
+  -- a further row, after a text
   pub rows-next : (blank : X) (n : ℕ) (xs : List X) (i : ℕ) (x : X) (text : List ℕ) → x ≡ get_or xs i blank
       → length xs ≤ n → i < n
       → (text ++ flat_map f (take i (filled blank n xs))) ++ f x ≡ text ++ flat_map f (take (i + 1) (filled blank n xs))
@@ -131,7 +131,7 @@ module _ {X : Type 0} (f : X → List ℕ) (size : ℕ) where
       )
       refl
 
-  -- one more row, written
+  -- a further row, written
   pub rows-written : (xs : List X) (i : ℕ) (x d : X) (old new : List ℕ) → i < length xs → x ≡ get_or xs i d
       → old ≡ flat_map f (take i xs) → new ≡ old ++ f x → new ≡ flat_map f (take (i + 1) xs)
   rows-written xs i x d old new below here so_far grown = grind (arith, common_steps)
@@ -142,7 +142,7 @@ module _ {X : Type 0} (f : X → List ℕ) (size : ℕ) where
       → new ≡ rows_bytes f size n xs
   rows-ended n k xs i old new end whole so_far long filled = search (rules, take_all, mul_comm, mul-sub)
 
-  -- one more row, read
+  -- a further row, read
   pub rows-read : (bytes : List ℕ) (xs : List X) (i : ℕ) (x : X) → flat_map f xs ≡ take (size * i) bytes
       → part bytes (size * i) size ≡ f x → flat_map f (xs ++ x ∷ []) ≡ take (size * (i + 1)) bytes
   rows-read bytes xs i x so_far here = search (rules, add-one, mul-suc, flat_map-append, take-add, append-nil)

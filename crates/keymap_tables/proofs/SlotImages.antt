@@ -222,7 +222,7 @@ pub cell-fits : (l : Layout) (cell : Cell) (n : ℕ) → number_of cell ≡ n �
 cell-fits l (Char c) n is small = rw is small
 cell-fits l (Act a) n is small = omega (arith, small)
 
--- one more cell is read: the cells so far have the bytes so far
+-- a further cell is read: the cells so far have the bytes so far
 pub bytes-more : (l : Layout) (bytes : List ℕ) (cells : List Cell) (i : ℕ) (cell : Cell) → AreBytes bytes
     → number_size l * i + number_size l ≤ length bytes → i < length cells
     → flat_map (cell_bytes l) (take i cells) ≡ take (number_size l * i) bytes

@@ -46,7 +46,7 @@ zero_fault kind bytes p = if slice_index bytes p == 0 then None else Some kind
 abbrev pub number_fault : Width → (ℕ → Option TableFaultKind) → List ℕ → FaultOf
 number_fault w fault_in bytes p = if p == 0 then fault_in (from_le_bytes w bytes) else None
 
--- so many rows of one size, each with its own faults, and what follows them
+-- rows of one size by their count, each with its own faults, and what follows them
 abbrev pub rows_fault : (ℕ → List ℕ → FaultOf) → ℕ → ℕ → FaultOf → List ℕ → FaultOf
 rows_fault fault_in size count behind bytes p =
     if nat_lt (p / size) count then fault_in (p / size) (part bytes (size * (p / size)) size) (p % size) else behind p

@@ -14,6 +14,6 @@ joined rows = flat_map (λ row. row) rows
 abbrev pub bytes_of : TableFile → List ℕ
 bytes_of t = t.n_keys ++ joined t.slots ++ t.n_accs ++ joined t.accents
 
--- it is that of the map
+-- the file is that of the map
 abbrev pub IsFileOf : MapValue → TableFile → Type 0
 IsFileOf m t = IsMap m × (bytes_of t ≡ image m)

@@ -49,7 +49,7 @@ number_of_place m (at.Accent accent number) = number_in (accent_or_blank m accen
 abbrev pub IsWide : MapValue → Wide → Type 0
 IsWide m w = 255 < number_of_place m w
 
--- its place in a narrow file
+-- the place of a wide character in a narrow file
 abbrev pub place_of : Wide → ℕ
 place_of (at.Cell slot column) = slot_place narrow slot + number_size narrow * column
 place_of (at.Accent accent number) = accent_place narrow accent + number_size narrow * number

@@ -34,7 +34,7 @@ is_act (Act a) = true
 abbrev pub cell_bytes : Layout → Cell → List ℕ
 cell_bytes l cell = number_bytes l (number_of cell)
 
--- one bit for each cell, the first cell's the highest: set where the cell is an action
+-- a bit for each cell, the first cell's the highest: set where the cell is an action
 abbrev pub marks_of : List Cell → ℕ
 marks_of cells = fold (λ n cell. 2 * n + (if is_act cell then 1 else 0)) 0 cells
 

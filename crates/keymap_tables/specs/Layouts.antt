@@ -8,7 +8,7 @@ use Rattle.keymap_tables.specs.Types.{Layout, Wide, Narrow}
 abbrev pub wide : Layout
 wide = Wide
 
--- one byte a number, and no pads
+-- the layout of a byte a number, without pads
 abbrev pub narrow : Layout
 narrow = Narrow
 
@@ -17,7 +17,7 @@ abbrev pub number_width : Layout → Width
 number_width Wide = w32
 number_width Narrow = w8
 
--- the same in bytes
+-- the width in bytes
 abbrev pub number_size : Layout → ℕ
 number_size Wide = 4
 number_size Narrow = 1
@@ -82,6 +82,6 @@ accents_size l = accent_limit * accent_size l
 abbrev pub file_size : Layout → ℕ
 file_size l = accents_place l + accents_size l
 
--- so many bytes from a place on
+-- the bytes from a place on, as many as the size says
 abbrev pub part : List ℕ → ℕ → ℕ → List ℕ
 part bytes at size = take size (drop at bytes)

@@ -7,7 +7,7 @@ use Rattle.keymap_tables.specs.Layouts.{wide, narrow, file_size}
 use Rattle.keymap_tables.specs.Readings.{IsReading, IsNarrowReading}
 use Rattle.keymap_tables.specs.Types.{TableError, Memory, Read, Fault}
 
--- one byte more than a table file has, and than a narrow one has
+-- how many bytes of a file are read at most: one more than a table file has, and than a narrow one has
 abbrev pub limit : ℕ
 limit = file_size wide + 1
 

@@ -8,7 +8,7 @@ ghost use Rattle.keymap_tables.specs.Layouts.{n_accs_place, file_size};
 pub(crate) enum Layout {
     /// Four bytes a number, and two pads after each count and each flag: `struct keymap` and `struct accentmap`.
     Wide,
-    /// One byte a number, and no pads.
+    /// A byte a number, and no pads.
     Narrow,
 }
 

@@ -13,7 +13,7 @@
 //!
 //! Both files are one format at two widths (`Layout`): images, faults, writers and readers are said once.
 //!
-//! It stands on keymap_core, which has the maps and the devices.
+//! The crate stands on keymap_core, which has the maps and the devices.
 #![tactic(auto)]
 
 mod accent;

@@ -18,51 +18,51 @@ use keymap_core::{
     ACCENT_LIMIT, Accent, Definitions, Entry, KeyMap, SLOT_LIMIT, Stream, Write, WriteFault,
 };
 
-/// What a table has so many of.
+/// A row of a table: a slot or an accent.
 pub(crate) trait Row: Sized + Drop {
-    /// Its bytes, how many they are, and the faults in them.
+    /// The bytes of a row, how many they are, and the faults in them.
     ghost image: { LayoutValue → Self → List ℕ };
 
     ghost size: { LayoutValue → ℕ };
 
     ghost faults: { LayoutValue → List ℕ → FaultOf };
 
-    /// Those that fit in a file of the layout, and those of them that there are.
+    /// The row fits in a file of the layout; it is one that such a file can have.
     ghost Fits: { LayoutValue → Self → Type 0 };
 
     ghost Is: { LayoutValue → Self → Type 0 };
 
-    /// Its numbers by their index, 0 for one that is the code of an action.
+    /// The numbers of a row by their index, 0 for one that is the code of an action.
     ghost number: { Self → ℕ → ℕ };
 
-    /// That which stands past the last.
+    /// What stands past the last row.
     ghost blank: { Self };
 
-    /// Those of a map, and the map with these.
+    /// The rows of a map, and the map with other rows.
     ghost rows: { MapValue → List Self };
 
     ghost put: { MapValue → List Self → MapValue };
 
     ghost MOST: { ℕ };
 
-    /// How many there are at most.
+    /// How many rows there are at most.
     const MOST: u16;
 
-    /// How many bytes it has.
+    /// How many bytes a row has.
     fn size(layout: Layout) -> usize
         ensures { result ≡ size layout };
 
-    /// How many of them a map has.
+    /// How many rows a map has.
     fn count(map: &KeyMap) -> u16
         ensures value { result ≡ length (rows map.now) }
         ensures few { result ≤ MOST };
 
-    /// One of a map, also past the last.
+    /// The row of a map with this index, also past the last.
     fn of(map: &KeyMap, index: u16) -> &Self
         requires { index < MOST }
         ensures { result.now ≡ slice_index_or (rows map.now) index blank };
 
-    /// The first of its numbers that is above 255.
+    /// The first of the row's numbers that is above 255.
     fn wide_number(&self) -> Option<u8>
         ensures { MatchOption result (Fits narrow self.now)
             (IsFirstWideNumber (number self.now) (size narrow)) };
@@ -74,13 +74,13 @@ pub(crate) trait Row: Sized + Drop {
         ensures known { IfOk result (Is layout) }
         ensures fault { IfErr result (λ f. IsFirstFault (faults layout bytes.now) f × (f.offset < size layout)) };
 
-    /// Defines it behind those that were defined.
+    /// Defines the row behind those that were defined.
     fn define<D: Definitions>(self, into: &mut D, index: u16)
         requires { index < MOST }
         ensures { (m : MapValue) (xs : List Self) → length xs ≡ index → D.shows into.old (put m xs)
             → D.shows into.new (put m (xs ++ self ∷ [])) };
 
-    /// Pushes its bytes.
+    /// Pushes the bytes of the row.
     fn push<W: Write>(
         &self,
         stream: &mut Stream,

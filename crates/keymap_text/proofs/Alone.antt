@@ -44,7 +44,7 @@ word_on_line c h = grind (arith, nat_tests)
 word_no_blank : (c : ℕ) → is_word c ≡ true → is_blank c ≡ false
 word_no_blank c h = grind (arith, nat_tests)
 
--- nor is one of a word
+-- no byte of the word in front is an LF
 front_on_line : (s : List ℕ) → list_all stays_on_line (take (leading is_word s) s) ≡ true
 front_on_line [] = refl
 front_on_line (c ∷ s) = go (is_word c) refl (front_on_line s)

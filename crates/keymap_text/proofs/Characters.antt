@@ -17,7 +17,7 @@ use Rattle.keymap_text.specs.declared.fault.TextFaultKind.TheVariants as faults
 abbrev pub is_one_word : List ℕ → Bool
 is_one_word w = nat_lt 0 (length w) && (nat_le (length w) 32 && (leading is_word w == length w))
 
--- one word is one token with its meaning
+-- a word of 1 to 32 bytes is one token with its meaning
 pub lexes_as : (w : List ℕ) (m : Meaning) → is_one_word w ≡ true → meaning w ≡ m → Lexes NoWord w (Value m ∷ [])
 lexes_as w m h e = grind (arith, lexes_word)
 
@@ -37,7 +37,7 @@ prints_control c h = record {
   reads = refl;
 }
 
--- so is the character 127
+-- the character 127 is printed as its name
 pub prints_delete : PrintsCharacter 127
 unfolding meaning digits_of named character_text
 prints_delete = record { token = Value (Char 127); lexes = lexes_as (codes "del") (Char 127) refl refl; reads = refl }
@@ -52,11 +52,11 @@ pub prints_quoted : (c : ℕ) → 31 < c → c < 127 → PrintsCharacter c
 prints_quoted c h k =
     record { token = Value (Char c); lexes = rw (quoted_text c h k) (lexes_quoted c h k); reads = refl }
 
--- hexadecimal digits
+-- a hexadecimal digit has its value
 hex_value : (d : ℕ) → d < 16 → digit_value (digit_char d) ≡ d
 hex_value d h = grind (arith, nat_tests)
 
--- and passes the test of digits
+-- a hexadecimal digit passes the test of digits
 hex_test : (d : ℕ) → d < 16 → is_digit 16 (digit_char d) ≡ true
 hex_test d h = rw (hex_value d h) (lt-ltb d 16 h)
 
@@ -68,7 +68,7 @@ abbrev pub horner : ℕ → List ℕ → ℕ
 horner n [] = n
 horner n (d ∷ ds) = horner (n * 16 + d) ds
 
--- so do all of them
+-- hexadecimal digits pass the test of digits
 hex_tests : (ds : List ℕ) → AreSmall ds → list_all (is_digit 16) (map digit_char ds) ≡ true
 hex_tests [] h = refl
 hex_tests (d ∷ ds) (h, k) = ap (λ b. b && list_all (is_digit 16) (map digit_char ds)) (hex_test d h) ∙ hex_tests ds k
@@ -84,7 +84,7 @@ hex_leads : (ds : List ℕ) → AreSmall ds → leading is_word (map digit_char 
 hex_leads [] h = refl
 hex_leads (d ∷ ds) (h, k) = grind (arith, leading_pass, (hex_leads ds k))
 
--- one byte a digit
+-- a digit takes one byte
 hex_length : (ds : List ℕ) → length (map digit_char ds) ≡ length ds
 hex_length [] = refl
 hex_length (d ∷ ds) = ap suc (hex_length ds)

@@ -20,7 +20,7 @@ first_led m t = grind arith
 pub step_led : (m : MapValue) (p : full.GrammarPlace) (t : Item) → next (place_of p) t ≡ led (full.step m p t)
 step_led m p t = grind (arith, first_led, length-append)
 
--- the same from a whole state
+-- accepting a token leads to the place that the definitions name, or to their fault
 pub accept_led : (s : GrammarState) (t : Item) → next (place_of s.place) t ≡ led (accept s t)
 unfolding accept
 accept_led s t = step_led s.map s.place t
@@ -72,7 +72,7 @@ behind_ends : (q : ℕ) → ending_of_tokens (Ends q) ≡ Ok q
 unfolding ending_of_tokens
 behind_ends q = refl
 
--- so does a fault
+-- a fault stands behind all tokens
 behind_stops : (f : TextFaultKind) (q : ℕ) → ending_of_tokens (Stops f q) ≡ Err (f, q)
 unfolding ending_of_tokens
 behind_stops f q = refl

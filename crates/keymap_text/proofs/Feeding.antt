@@ -32,7 +32,7 @@ none_early f e = none-some _ (sym (fault_or_map [] empty_map (spells_from [] emp
 pub fed_none : (old : Option (List ℕ)) (r : Progress) → StandsAfter r [] → IsFed old old r 0
 fed_none old r h = record { text = []; consumed = Consumes-nil old; size = refl; stands = h; sound = none_early }
 
--- one piece more was fed, and has no early fault
+-- a piece behind what was fed is fed, and together they have no early fault
 pub fed_more : {a b c : Option (List ℕ)} {r r' : Progress} {taken n : ℕ} → (buffer : List ℕ) → (fed : IsFed a b r taken)
     → Consumes b c (take n buffer) → n ≤ length buffer → FedAfter (Ok tt) r' (fed.text ++ take n buffer)
     → IsFed a c r' (taken + n)

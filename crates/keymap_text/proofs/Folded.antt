@@ -47,7 +47,7 @@ pub greatest_none : (f : Definition → ℕ) → greatest f [] ≡ 0
 unfolding greatest
 greatest_none f = refl
 
--- the greatest of one definition and more
+-- the greatest number of a definition and more of them
 pub greatest_more : (f : Definition → ℕ) (d : Definition) (ds : List Definition)
     → greatest f (d ∷ ds) ≡ max (f d) (greatest f ds)
 unfolding greatest
@@ -78,7 +78,7 @@ length_after size needs one m [] = rw greatest_none (omega arith)
 length_after size needs one m (d ∷ ds) =
     grind (arith, greatest_more, (length_after size needs one (put m d) ds))
 
--- one of a list in which another is placed
+-- filling a list up with the default changes no element
 padded : {X : Type 0} (xs : List X) (n j : ℕ) (u : X) → get_or (xs ++ replicate n u) j u ≡ get_or xs j u
 padded [] n j u = get_or-replicate_default n j u
 padded (x ∷ xs) n zero u = refl

@@ -50,7 +50,7 @@ pub open_found : (c n : ℕ) (k : TokenKind) (b : List ℕ) → IsOpen (c ∷ b)
     → (k ≡ Word) × (n ≡ length b)
 open_found c n k b o h = grind (arith, front_comment)
 
--- there is no fault in them
+-- open bytes begin with no fault
 pub open_refused : (c : ℕ) (f : TextFaultKind) (b : List ℕ) → IsOpen (c ∷ b) → front_of c b ≡ Refused f → ⊥
 open_refused c f b o h = grind (arith, front_comment)
 
@@ -62,11 +62,11 @@ found_on c n k b x h l = ⊎_elim
     (λ o. absurd (let is = open_found c n k b o h in omega (arith, is.1, l is.0)))
     (stays_or_open c b)
 
--- so does a fault
+-- a fault in front stands there whatever follows
 pub refused_on : (c : ℕ) (g : TextFaultKind) (b x : List ℕ) → front_of c b ≡ Refused g → front_of c (b ++ x) ≡ Refused g
 refused_on c g b x h = ⊎_elim (λ s. s.on x ∙ h) (λ o. absurd (open_refused c g b o h)) (stays_or_open c b)
 
--- behind a word bytes are left, so it is settled
+-- behind a word bytes are left, which settle it
 pub is_whole : (k : TokenKind) (n : ℕ) (b x : List ℕ) → (k ≡ Word → n < length b)
     → not (is_word_kind k && is_empty (drop n b ++ x)) ≡ true
 is_whole Word n b x l = ap not (some n b (l refl))

@@ -19,7 +19,7 @@ abbrev own : Defined → ℕ → Row → Option Placed
 own what n r =
     cond (is_same (defined r.definition) what) (Some (record { what = defined r.definition; first = n })) None
 
--- one row, and the others
+-- the last definition stands in the rows behind the first, or else is that of the first row
 last_place : (what : Defined) (n : ℕ) (r : Row) (rs : List Row)
     → last_of what (places_after n (r ∷ rs))
     ≡ option_or (last_of what (places_after (n + length r.tokens) rs))

@@ -67,7 +67,7 @@ in_front c s = go (is_blank c) (c == 35) (c == 40) (c == 41) (c == 39) (is_word 
     go false false false false false true p q r s t u = letters _ refl u
     go false false false false false false p q r s t u = Nothing (λ y. rw (p, q, r, s, t, u) refl)
 
--- where that is known
+-- where it is known which token stands in front
 pub in_front_is : (c : ℕ) (s : List ℕ) (f : Front) → front_of c s ≡ f → InFront c s f
 in_front_is c s f h = subst (InFront c s) h (in_front c s)
 

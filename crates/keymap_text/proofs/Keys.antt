@@ -15,7 +15,7 @@ word_byte c h = grind (arith, nat_tests)
 lower_from : (c : ℕ) → is_word c ≡ true → 47 < to_ascii_lowercase c
 lower_from c h = grind (arith, nat_tests)
 
--- and is a byte
+-- a letter or digit in lower case is a byte
 lower_to : (c : ℕ) → is_word c ≡ true → to_ascii_lowercase c < 256
 lower_to c h = grind (arith, nat_tests)
 
@@ -41,7 +41,7 @@ raised : map (λ c. cond (is_word c) (bit_or (bit_and c 255) 32) 0) (range_with_
     ≡ map (λ c. cond (is_word c) (to_ascii_lowercase c) 0) (range_with_len 0 256)
 raised = refl
 
--- the same of a byte
+-- the bit 32 makes lower case of the byte of a letter or digit
 raised_byte : (c : ℕ) → is_word c ≡ true → bit_or (bit_and c 255) 32 ≡ to_ascii_lowercase c
 raised_byte c h =
     sym (ap (λ b. cond b (bit_or (bit_and c 255) 32) 0) h)

@@ -6,7 +6,7 @@ use Rattle.keymap_text.proofs.Common.{length-map-range_with_len, get_or-map-rang
 use Rattle.keymap_text.proofs.Common.{Defined, Slot, Accent, Placed, is_same, last_of, HasLast}
 use Rattle.keymap_text.specs.declared.last.LastDefinitions.{LastDefinitions}
 
--- one definition before the others
+-- with a definition in front, the last one is that of the others, or else the one in front
 last_more : (what : Defined) (p : Placed) (ps : List Placed)
     → last_of what (p ∷ ps) ≡ option_or (last_of what ps) (cond (is_same p.what what) (Some p) None)
 unfolding last_of
@@ -22,13 +22,13 @@ or_none o = grind arith
 or_assoc : (a b c : Option Placed) → option_or (option_or a b) c ≡ option_or a (option_or b c)
 or_assoc a b c = grind arith
 
--- one definition behind the others
+-- with a definition behind, the last one is that one, or else that of the others
 pub last_push : (what : Defined) (ps : List Placed) (p : Placed)
     → last_of what (ps ++ p ∷ []) ≡ option_or (cond (is_same p.what what) (Some p) None) (last_of what ps)
 last_push what [] p = grind (arith, last_more, last_nothing, or_none)
 last_push what (q ∷ ps) p = grind (arith, last_more, or_assoc, (last_push what ps p))
 
--- the same is defined behind the others
+-- a definition behind the others is the last one of what it defines
 last_same : (what : Defined) (ps : List Placed) (p : Placed) → is_same p.what what ≡ true
     → last_of what (ps ++ p ∷ []) ≡ Some p
 last_same what ps p h = last_push what ps p ∙ ap (λ b. option_or (cond b (Some p) None) (last_of what ps)) h

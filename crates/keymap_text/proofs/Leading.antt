@@ -43,7 +43,7 @@ leading_part p n s h =
 pub leading_front : (p : ℕ → Bool) (s : List ℕ) → leading p (take (leading p s) s) ≡ length (take (leading p s) s)
 leading_front p s = leading_part p (leading p s) s (omega arith)
 
--- and the byte behind it doesn't
+-- the byte behind the leading ones fails the test
 pub leading_behind : (p : ℕ → Bool) (s x : List ℕ) → leading p s < length s
     → leading p (drop (leading p s) s ++ x) ≡ 0
 leading_behind p s x h =
@@ -91,14 +91,14 @@ pub line_found : (bytes : List ℕ) (n : ℕ) → IsFirstByte (is_byte 10) bytes
     → (n ≤ length bytes) × (n ≡ leading stays_on_line bytes)
 line_found bytes n h = grind (arith, prefix_len_is)
 
--- or to the end where there is none
+-- a line without a line feed goes up to the end
 pub line_whole : (bytes : List ℕ) → IsFirstByte (is_byte 10) bytes None
     → length bytes ≡ leading stays_on_line bytes
 line_whole bytes h =
     sym (prefix_len_is stays_on_line bytes (length bytes) 0 (omega arith) (λ k l. no_line_end _ (h k (omega arith) l))
     (λ l. absurd (omega (arith, l))))
 
--- there are as many blanks in front as spaces
+-- no more blanks stand in front than bytes of white space
 pub plain_spaces : (xs : List ℕ) → leading (λ c. c == 32) xs ≤ leading is_space xs
 plain_spaces [] = omega arith
 plain_spaces (x ∷ xs) = grind (arith, leading_fail, leading_pass, (plain_spaces xs))

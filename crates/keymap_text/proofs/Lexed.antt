@@ -18,7 +18,7 @@ NoWord y = leading is_word y ≡ 0
 abbrev pub Any : List ℕ → Type 0
 Any y = Unit {0}
 
--- These tokens stand in front of whatever meets P.
+-- The bytes t are these tokens in front of whatever meets P.
 pub record Lexes (P : List ℕ → Type 0) (t : List ℕ) (is : List Item) : Type 0 where
   pub items : (q : ℕ) (y : List ℕ) → P y
       → items_of (tokens_after 0 q (t ++ y)) ≡ is ++ items_of (tokens_after 0 (q + length t) y)
@@ -38,7 +38,7 @@ lexes_both a b s = grind (arith, append_assoc, length-append)
 pub lexes_blank : (P : List ℕ → Type 0) (c : ℕ) → is_blank c ≡ true → Lexes P (c ∷ []) []
 lexes_blank P c h = grind (arith, split_blank)
 
--- one token
+-- bytes that are found as one token are that token
 lexes_one : (P : List ℕ → Type 0) (c : ℕ) (w : List ℕ) (kind : TokenKind) (i : Item)
     → ((y : List ℕ) → P y → front_of c (w ++ y) ≡ Found kind (length w)) → item kind (c ∷ w) ≡ i
     → Lexes P (c ∷ w) (i ∷ [])
@@ -58,10 +58,10 @@ lexes_quoted c h k =
     lexes_one NoWord 39 (c ∷ 39 ∷ []) (Literal c) (Value (Char c))
     (λ y e. front_quote 39 (c ∷ 39 ∷ y) refl ∙ printable c y h k) refl
 
--- so is a left parenthesis
+-- a left parenthesis is one token
 pub lexes_left : Lexes NoWord (40 ∷ []) (Open ∷ [])
 lexes_left = lexes_one NoWord 40 [] ParenL Open (λ y e. front_left 40 y refl) refl
 
--- and a right one
+-- a right parenthesis is one token
 pub lexes_right : Lexes NoWord (41 ∷ []) (Close ∷ [])
 lexes_right = lexes_one NoWord 41 [] ParenR Close (λ y e. front_right 41 y refl) refl

@@ -46,7 +46,7 @@ on_line b n s place h l e w =
     behind : (k : ℕ) → s ≤ k → k ≡ s + (k - s)
     behind k h = omega (arith, h)
 
--- it has the number of the line
+-- a place from a line's start to its end has the line's number
 pub same_number : (b : List ℕ) (n s place : ℕ) → IsLineStart b n s → s ≤ place → place ≤ line_end b s
     → line b place ≡ n
 same_number b n s place h l e =
@@ -82,7 +82,7 @@ next_start b n s h l =
 pub first_start : (b : List ℕ) → AreStarts b (0 ∷ [])
 first_start b = grind arith
 
--- one line more
+-- behind the LF of the last line that is known the next one starts
 pub start_pushed : (b old new : List ℕ) (e : ℕ) → AreStarts b old
     → e ≡ line_end b (get_or old (length old - 1) 0) → e < length b → new ≡ old ++ (e + 1) ∷ [] → AreStarts b new
 start_pushed b old new e h last l pushed = rw pushed (record {

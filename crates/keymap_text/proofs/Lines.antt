@@ -26,7 +26,7 @@ feeds_more b n k = ap feeds (take-add n k b) ∙ feeds_append (take n b) (take k
 pub line_more : (b : List ℕ) (n k : ℕ) → line b (n + k) ≡ line b n + feeds (take k (drop n b))
 line_more b n k = omega (arith, feeds_more b n k)
 
--- none from a place on, none from a later one on
+-- no line feed stands from a later place on, where none does from a place on
 feeds_behind : (n m : ℕ) (b : List ℕ) → n ≤ m → feeds (drop n b) ≡ 0 → feeds (drop m b) ≡ 0
 feeds_behind n m b l h =
     let e : drop (m - n) (drop n b) ≡ drop m b = drop-drop (m - n) n b ∙ ap (λ k. drop k b) (omega (arith, l)) in

@@ -19,7 +19,7 @@ pub printable : (c : ℕ) (y : List ℕ) → 31 < c → c < 127 → literal (c �
 unfolding literal
 printable c y h k = grind (arith, nat_tests)
 
--- such a character in front of bytes
+-- bytes that begin with a printable character of ASCII and an apostrophe
 pub printable_front : (bytes : List ℕ) → 1 < length bytes → 31 < get_or bytes 0 0 → get_or bytes 0 0 < 127
     → get_or bytes 1 0 ≡ 39 → literal bytes ≡ Found (Literal (get_or bytes 0 0)) 2
 printable_front (c ∷ d ∷ y) l a b e = ap (λ n. literal (c ∷ n ∷ y)) e ∙ printable c y a b
@@ -35,7 +35,7 @@ under : (k : ℕ) (p : Bool) (g y z : Decoded) → Grows k y z → Grows k (cond
 unfolding Grows
 under k p g y z h = grind arith
 
--- the same in the other branch
+-- two choices that differ in the other branch at most
 over : (k : ℕ) (p : Bool) (g y z : Decoded) → Grows k y z → Grows k (cond p y g) (cond p z g)
 unfolding Grows
 over k p g y z h = grind arith
@@ -156,7 +156,7 @@ literal_stable (b ∷ c ∷ s) x h =
     ap (λ p. cond p (Found (Literal b) 2) (quoted (decoded (b ∷ c ∷ (s ++ x))) (b ∷ c ∷ (s ++ x)))) (lone_same b c s x)
     ∙ chosen (is_lone (b ∷ c ∷ s)) _ _ _ h (quoted_stable (b ∷ c ∷ s) x)
 
--- so it is unfinished, or stays
+-- a quoted character is unfinished, or stays whatever follows
 pub literal_or : (s : List ℕ) → (literal s ≡ Unfinished) ⊎ ((x : List ℕ) → literal (s ++ x) ≡ literal s)
 literal_or s = go (literal s) refl
   where
@@ -209,7 +209,7 @@ longer_one : (m n : ℕ) (k : TokenKind) (b : Bool) (ch : ℕ) (q : Front) → m
     → cond b (Found (Literal ch) 2) q ≡ Found k n → m < n
 longer_one m n k b ch q l g h = grind arith
 
--- one that is found later has more bytes
+-- an unfinished quoted character ends behind its bytes, where more of them finish it
 pub unfinished_longer : (s x : List ℕ) (k : TokenKind) (n : ℕ) → literal s ≡ Unfinished → literal (s ++ x) ≡ Found k n
     → length s < n
 unfolding literal
@@ -276,7 +276,7 @@ pub literal_spelled : (c : ℕ) (rest : List ℕ) → scalar c ≡ true → c �
 unfolding literal
 literal_spelled c rest v h = grind (arith, nat_tests, closing_spelled, decoded-encode, lone_decodes)
 
--- no LF stands in an unfinished one
+-- no LF stands in an unfinished quoted character
 at_most : (k : ℕ) (p : Bool) (y z : Decoded) → y.size ≤ k → z.size ≤ k → (cond p y z).size ≤ k
 at_most k p y z g h = grind arith
 
@@ -284,7 +284,7 @@ at_most k p y z g h = grind arith
 no_second_lf : (b : ℕ) → second b 10 ≡ false
 no_second_lf b = never (b == 0xE0) (b == 0xED) (b == 0xF0) (b == 0xF4)
 
--- nor does any character go past one
+-- no character goes past an LF
 size_before_lf : (l : List ℕ) → 0 < length l → (decoded (l ++ 10 ∷ [])).size ≤ length l
 size_before_lf [] h = absurd (omega (arith, h))
 size_before_lf (b ∷ []) h = search (rules, no_second_lf, at_most)

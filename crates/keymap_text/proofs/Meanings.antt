@@ -25,29 +25,29 @@ idem (c ∷ w) = ap₂ (λ (x : ℕ) (xs : List ℕ). x ∷ xs) (lowercase-lower
 digit_lower : (c : ℕ) → digit_value (to_ascii_lowercase c) ≡ digit_value c
 digit_lower c = grind (arith, nat_tests)
 
--- nor have digits
+-- case changes nothing of whether bytes are digits
 all_lower : (base : ℕ) (w : List ℕ) → list_all (is_digit base) (map to_ascii_lowercase w) ≡ list_all (is_digit base) w
 all_lower base [] = refl
 all_lower base (c ∷ w) = ap₂ (λ d b. nat_lt d base && b) (digit_lower c) (all_lower base w)
 
--- nor has a number
+-- case changes nothing of a number
 number_lower : (base n : ℕ) (w : List ℕ)
     → fold (λ n c. n * base + digit_value c) n (map to_ascii_lowercase w) ≡ fold (λ n c. n * base + digit_value c) n w
 number_lower base n [] = refl
 number_lower base n (c ∷ w) =
     grind (arith, digit_lower, (number_lower base (n * base + digit_value (to_ascii_lowercase c)) w))
 
--- nor has what digits spell
+-- case changes nothing of what digits spell
 digits_lower : (base : ℕ) (w : List ℕ) → digits_of base (map to_ascii_lowercase w) ≡ digits_of base w
 unfolding digits_of
 digits_lower base w = rw (length-map, all_lower base w, number_lower base 0 w) refl
 
--- nor has the number after a prefix
+-- case changes nothing of the number after a prefix
 after_lower : (prefix : List ℕ) (base : ℕ) (w : List ℕ)
     → number_after prefix base (map to_ascii_lowercase w) ≡ number_after prefix base w
 after_lower prefix base w = grind (arith, digits_lower, drop-map, idem, length-map, take-map)
 
--- nor has a name
+-- case changes nothing of what a name means
 named_lower : (t : List (List ℕ × Meaning)) (w : List ℕ) → named t (map to_ascii_lowercase w) ≡ named t w
 unfolding named
 named_lower [] w = refl
@@ -91,7 +91,7 @@ behind_prefix : (b : ℕ) (w : List ℕ) → to_ascii_lowercase b ≡ 120
     → number_after (codes "0x") 16 (48 ∷ b ∷ w) ≡ digits_of 16 w
 behind_prefix b w l = grind arith
 
--- they spell the number
+-- the word of 0x and digits means their number
 pub hexadecimal : (b n : ℕ) (w : List ℕ) → nat_lt (digit_value b) 10 ≡ false → to_ascii_lowercase b ≡ 120
     → Some n ≡ digits_of 16 w → Number n ≡ meaning (48 ∷ b ∷ w)
 unfolding pick
@@ -106,7 +106,7 @@ hexadecimal_meaning w b n d l s x y h = grind (arith, hexadecimal)
 pub decimal_means : (r : Option ℕ) (w : List ℕ) → r ≡ digits_of 10 w → IfSome r (λ n. Number n ≡ meaning w)
 decimal_means r w h = grind (arith, decimal_meaning)
 
--- the same where the code may have found none
+-- digits after 0x mean their number where the code has found one
 pub hexadecimal_means : (r : Option ℕ) (w : List ℕ) (b : ℕ) → nat_lt (digit_value b) 10 ≡ false
     → to_ascii_lowercase b ≡ 120 → 2 < length w → get_or w 0 0 ≡ 48 → get_or w 1 0 ≡ b → r ≡ digits_of 16 (drop 2 w)
     → IfSome r (λ n. Number n ≡ meaning w)
@@ -197,7 +197,7 @@ pub look_in_table : (w : List ℕ) → meaning_by_names (take 40 NAMES) w ≡ na
 unfolding sense_entry
 look_in_table w = look_named (take 40 NAMES) w
 
--- the same of a whole word
+-- a meaning found for all bytes of a word is the word's
 pub whole_means : (r : Option Meaning) (w : List ℕ) → IfSome r (λ m. m ≡ meaning (take (length w) w))
     → IfSome r (λ m. m ≡ meaning w)
 whole_means r w h = grind (arith, take_all)

@@ -41,7 +41,7 @@ look_on_at names i d w h e = grind (arith, drop-cons, look_on)
 
 pub ruleset look_rules = (look_end, look_here_at, look_on_at)
 
--- one digit more makes a number four bits longer at most
+-- a further digit makes a number four bits longer at most
 bound_step : (n base d i : ℕ) → n < 2 ^ (4 * i) → base ≤ 16 → d < base → n * base + d < 2 ^ (4 * (i + 1))
 bound_step n base d i h b e =
     let k = mul-le-mul_left n b in
@@ -74,12 +74,12 @@ unfolding digits_of
 digits_good base [] h e = absurd (omega (arith, h))
 digits_good base (x ∷ w) h e = rw (lt-ltb 0 (suc (length w)) (omega arith), e) refl
 
--- the number of one digit more
+-- the number of digits with a further one
 number_more : (base : ℕ) (w : List ℕ) (i : ℕ) → i < length w
     → number base (take (i + 1) w) ≡ number base (take i w) * base + digit_value (get_or w i 0)
 number_more base w i h = fold_more (λ n c. n * base + digit_value c) 0 w i 0 h
 
--- one digit more
+-- digits with a further one behind them are digits
 digits_more : (base : ℕ) (w : List ℕ) (i : ℕ) → i < length w → list_all (is_digit base) (take i w) ≡ true
     → digit_value (get_or w i 0) < base → list_all (is_digit base) (take (i + 1) w) ≡ true
 digits_more base w i h e d = list_all_more (is_digit base) w i 0 h ∙ ap₂ (λ a b. a && b) e (lt-ltb _ _ d)
@@ -90,7 +90,7 @@ pub record Spells (base : ℕ) (w : List ℕ) (i n : ℕ) : Type 0 where
   pub digits : list_all (is_digit base) (take i w) ≡ true
   pub bound : n < 2 ^ (4 * i)
 
--- one digit more fits in four bits for each of the digits that there are at most
+-- a number with a further digit fits in four bits for each digit that there may be
 pub more_fits : {base : ℕ} {w : List ℕ} {i n d : ℕ} (most : ℕ) → Spells base w i n → base ≤ 16 → d < base → i < most
     → n * base + d < 2 ^ (4 * most)
 more_fits {base = base} {i = i} {n = n} {d = d} most s b e l =
@@ -101,7 +101,7 @@ pub spells_more : {base : ℕ} {w : List ℕ} {i n d : ℕ} → i < length w →
     → d < base → Spells base w i n → Spells base w (i + 1) (n * base + d)
 spells_more h b is e s = grind (arith, bound_step, digits_more, number_more)
 
--- all of them spell the number
+-- digits to the end of a word spell its number
 pub spells_all : {base : ℕ} {w : List ℕ} {i n : ℕ} → (length w == 0) ≡ false → length w ≤ i → Spells base w i n
     → Some n ≡ digits_of base w
 spells_all some h s = grind (arith, digits_good, take_all)

@@ -10,7 +10,7 @@ use Rattle.keymap_text.proofs.Row.{ok_is}
 empty_more : {A : Type 0} (x : A) (xs : List A) → [] ≡ x ∷ xs → ⊥
 empty_more x xs h = cc
 
--- the same cells, and the same tokens behind them
+-- equal tokens that begin with equally many cells have the same cells, and the same tokens behind them
 cells_are : {ts us : List Item} {cs ds : List Cell} → AreCells ts cs → AreCells us ds → length cs ≡ length ds
     → (vs ws : List Item) → ts ++ vs ≡ us ++ ws → (cs ≡ ds) × (vs ≡ ws)
 cells_are no_cells no_cells n vs ws e = (refl, e)
@@ -20,7 +20,7 @@ cells_are (one_cell {t = t} {c = c} {ts = ts} h r) (one_cell {t = u} {c = d} {ts
     let rest = same_tail t u (ts ++ vs) (us ++ ws) e in
     grind (arith, ok_is, same_head, (cells_are r s (omega (arith, n)) vs ws rest))
 
--- the same pairs
+-- equal tokens have the same pairs
 pairs_are : {ts us : List Item} {ps qs : List (ℕ × ℕ)} → ArePairs ts ps → ArePairs us qs → ts ≡ us → ps ≡ qs
 pairs_are no_pairs no_pairs e = refl
 pairs_are no_pairs (one_pair h z k r) e = absurd (empty_more _ _ e)

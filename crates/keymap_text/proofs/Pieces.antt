@@ -42,7 +42,7 @@ pub lines-next : (line : ℕ → List ℕ) (i : ℕ) (text piece : List ℕ) →
     → (text ++ flat_map line (range_with_len 0 i)) ++ piece ≡ text ++ flat_map line (range_with_len 0 (i + 1))
 lines-next line i text piece e = grind (arith, append_assoc, pieces_on)
 
--- that text is the front of the text with all lines
+-- the text with the lines up to the number i is the front of the text with all lines
 pub lines-cut : (line : ℕ → List ℕ) (i n : ℕ) (text piece : List ℕ) → i < n → piece ≡ line i
     → (rest : List ℕ) × (text ++ flat_map line (range_with_len 0 n)
     ≡ ((text ++ flat_map line (range_with_len 0 i)) ++ piece) ++ rest)

@@ -28,7 +28,7 @@ fault_first f q t h = cc
 then_first : (u t : TokenValue) (ts : Tokens) → first (Then u ts) ≡ Ok (Some t) → u ≡ t
 then_first u t ts h = cc
 
--- one byte more in front
+-- the next token is the same with a byte more in front
 one_more : (q c : ℕ) (bytes : List ℕ) (ts : Tokens) (t : TokenValue) → (j : ℕ) × IsNext (q + 1) bytes ts t j
     → (j : ℕ) × IsNext q (c ∷ bytes) ts t j
 one_more q c bytes ts t (j, h) =

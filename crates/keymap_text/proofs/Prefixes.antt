@@ -90,7 +90,7 @@ endings_on stopped f q h e = h
 endings_on (open_word {q = p} s) f q h e = grind arith
 endings_on (same s w k) f q h e = endings_on k f q h e
 
--- so is what stands where no token does, unless bytes are missing
+-- a fault where no token stands stays whatever follows, unless bytes are missing
 pub endings_stay : (text more : List ℕ) (f : TextFaultKind) (q : ℕ) → ending text ≡ Err (f, q) → is_end_inside f ≡ false
     → ending (text ++ more) ≡ Err (f, q)
 unfolding Keeps

@@ -53,7 +53,7 @@ EachPair (p ∷ ps) = (p.0 ≢ 0) × PrintsCharacter p.0 × PrintsCharacter p.1 
 
 -- the texts of cells, each behind a blank and filled or not
 module _ (text : Cell → List ℕ) where
-  -- they begin with no letter or digit
+  -- the texts begin with no letter or digit
   texts_first : (cs : List Cell) (u y : List ℕ)
       → leading is_word ((flat_map (λ c. 32 ∷ text c) cs ++ 32 ∷ u) ++ y) ≡ 0
   texts_first [] u y = refl
@@ -64,7 +64,7 @@ module _ (text : Cell → List ℕ) where
   more_texts [] y h = h
   more_texts (c ∷ cs) y h = refl
 
-  -- they are the tokens of the cells
+  -- the texts are the tokens of the cells
   texts_lexed : ((c : Cell) (p : PrintsCell c) → Lexes NoWord (32 ∷ text c) (p.token ∷ [])) → (cs : List Cell)
       → EachCell cs → (ts : List Item) × Lexes NoWord (flat_map (λ c. 32 ∷ text c) cs) ts × AreCells ts cs
   texts_lexed each [] h = ([], lexes_none NoWord, no_cells)
@@ -81,11 +81,11 @@ meaning_digits w n h = rw (h, meaning) refl
 decimal : (d : ℕ) → d < 10 → digit_value (48 + d) ≡ d
 decimal d h = grind (arith, nat_tests)
 
--- and is a letter or digit
+-- a decimal digit is a byte of words
 decimal_word : (d : ℕ) → d < 10 → is_word (48 + d) ≡ true
 decimal_word d h = grind (arith, nat_tests)
 
--- and passes the test of digits
+-- a decimal digit passes the test of digits
 decimal_digit : (d : ℕ) → d < 10 → is_digit 10 (48 + d) ≡ true
 decimal_digit d h = rw (decimal d h) (lt-ltb d 10 h)
 
@@ -93,7 +93,7 @@ decimal_digit d h = rw (decimal d h) (lt-ltb d 10 h)
 three_word : (a b c : ℕ) → is_word a ≡ true → is_word b ≡ true → is_word c ≡ true → leading is_word (a ∷ b ∷ c ∷ []) ≡ 3
 three_word a b c h k l = grind (arith, leading_pass)
 
--- and spell their number
+-- three digits spell their number
 three_number : (a b c : ℕ) → a < 10 → b < 10 → c < 10
     → digits_of 10 ((48 + a) ∷ (48 + b) ∷ (48 + c) ∷ []) ≡ Some (100 * a + 10 * b + c)
 three_number a b c h k l = grind (arith, decimal, decimal_digit, digits_good)

@@ -40,13 +40,13 @@ prints_cell (cells.Act a) h =
       reads = refl;
     }
 
--- so is each cell
+-- each cell of a list is printed as one token
 pub prints_cells : (cs : List Cell) → All IsCell cs → EachCell cs
 prints_cells [] h = tt
 prints_cells (c ∷ cs) h =
     (prints_cell c (h 0 c (omega arith)), prints_cells cs (λ k d l. h (suc k) d (omega (arith, l))))
 
--- so are the characters of pairs
+-- the characters of pairs are printed as one token each
 pub prints_pairs : (ps : List (ℕ × ℕ)) → All IsPair ps → EachPair ps
 prints_pairs [] h = tt
 prints_pairs (p ∷ ps) h = let one =
@@ -57,7 +57,7 @@ prints_pairs (p ∷ ps) h = let one =
       prints_pairs ps (λ k d l. h (suc k) d (omega (arith, l))),
     )
 
--- so is the name of an accent
+-- the name of an accent is printed as one token
 pub prints_name : (i : ℕ) → i < 15 → PrintsName i
 prints_name i h =
     record {
@@ -108,7 +108,7 @@ last_of says def value i a (suc n) e l h =
         (e a ∙ ap (λ b. cond b (Some (value a)) None) t ∙ ap (λ k. Some (value k)) (eqb-true a i t))
     go false t ih = search (rules, eq-eqb)
 
--- none of them is
+-- none of the definitions says anything
 last_not : {A : Type 0} (says : Definition → Option A) (def : ℕ → Definition) (a n : ℕ)
     → ((s : ℕ) → a ≤ s → s < a + n → says (def s) ≡ None) → last says (map def (range_with_len a n)) ≡ None
 last_not says def a zero e = last_none says

@@ -115,18 +115,18 @@ character_some : (c : ℕ) (b : List ℕ) → IsCharacter c b → 0 < length b
 unfolding encode_utf8
 character_some c b h = grind arith
 
--- it has two bytes at least behind the apostrophe
+-- a quoted character has two bytes at least behind its first apostrophe
 pub literal_wide : (s : List ℕ) (k : TokenKind) (n : ℕ) → literal s ≡ Found k n → 2 ≤ n
 literal_wide s k n h =
     let f = literal_finds s k n h in
     omega (arith, character_some f.char f.between f.character, f.size)
 
--- no byte of a character is an LF, but of that one
+-- no byte of a character between apostrophes is an LF
 character_on_line : (c : ℕ) (b : List ℕ) → IsCharacter c b → list_all stays_on_line b ≡ true
 unfolding encode_utf8
 character_on_line c b h = grind arith
 
--- nor is one of what is found at an apostrophe, and the last one is an apostrophe
+-- no byte of a quoted character is an LF, and the last one is an apostrophe
 pub literal_on_line : (s : List ℕ) (k : TokenKind) (n : ℕ) → literal s ≡ Found k n
     → (list_all stays_on_line (take n s) ≡ true) × (slice_index (39 ∷ s) n ≡ 39)
 literal_on_line s k n h =
@@ -199,7 +199,7 @@ three_begin b c d low high ok more =
     (long_character (b ∷ c ∷ d ∷ 0x80 ∷ []) (code_of_4 b c d 0x80)
     (value-12 4 b c d 0x80 (omega arith, low, high, ok, more, refl)) (omega arith))
 
--- one byte from 0x80 on
+-- an apostrophe and one byte from 0x80 on
 high_begins : (s : List ℕ) → length s ≡ 1 → 0x80 ≤ slice_index s 0 → IsUnfinished (39 ∷ s)
 high_begins (b ∷ []) l h = needs (b ∷ []) [] b (inr (h, refl))
 high_begins _ l h = absurd (omega (arith, l))
@@ -354,7 +354,7 @@ quoted_refused q rest n m = go (literal rest) refl
         ap first (split_refused q 39 f rest (front_quote 39 rest refl ∙ e))
         ∙ ap (λ f. Err (f, q)) (literal_refused rest f e)
 
--- there is nothing else at an apostrophe
+-- at an apostrophe a quoted character stands, or one is unfinished, or there is a fault
 pub quoted_reason : (q : ℕ) (rest : List ℕ) → IsReason (39 ∷ rest) (first (tokens_after 0 q (39 ∷ rest)))
 quoted_reason q rest = go (literal rest) refl
   where

@@ -43,19 +43,19 @@ test_failed b x y f h = grind (arith, err_ok, ok_is)
 differ : (a b : ℕ) → (a == b) ≡ false → a ≢ b
 differ a b h e = true≢false (sym (eq-eqb a b e) ∙ h)
 
--- one more at the end
+-- the token of a cell behind those of cells
 cells_push : {ts : List Item} {cs : List Cell} (t : Item) (c : Cell) → AreCells ts cs → cell t ≡ Ok c
     → AreCells (ts ++ t ∷ []) (cs ++ c ∷ [])
 cells_push t c no_cells h = one_cell h no_cells
 cells_push t c (one_cell k r) h = one_cell k (cells_push t c r h)
 
--- one pair more
+-- the tokens of a pair behind those of pairs
 pairs_push : {ts : List Item} {ps : List (ℕ × ℕ)} (t u : Item) (b r : ℕ) → ArePairs ts ps → character t ≡ Ok b → b ≢ 0
     → character u ≡ Ok r → ArePairs (ts ++ Open ∷ t ∷ u ∷ Close ∷ []) (ps ++ (b, r) ∷ [])
 pairs_push t u b r no_pairs h z k = one_pair h z k no_pairs
 pairs_push t u b r (one_pair f g e more) h z k = one_pair f g e (pairs_push t u b r more h z k)
 
--- one definition more
+-- the tokens of a definition behind a row
 row_push : {ts us : List Item} {ds : List rows.Definition} {d : rows.Definition} → IsRow ts ds → Defines us d
     → IsRow (ts ++ us) (ds ++ d ∷ [])
 row_push {us = us} {d = d} no_definition h =
@@ -107,7 +107,7 @@ set_last : {X : Type 0} (xs : List X) (i : ℕ) (x : X) → length xs ≡ i + 1 
 set_last xs i x h =
     sym (take_all (i + 1) (set xs i x) (rw length-set (omega (arith, h)))) ∙ take_more_set xs i x (omega (arith, h))
 
--- one cell more
+-- the token of a cell leads from its place to the next one
 cell_part : (ts : List Item) (t : Item) (slot i : ℕ) (e : Entry) (c : Cell) → Part ts (CellAt slot i e) → cell t ≡ Ok c
     → Part (ts ++ t ∷ []) (after_cell slot i (with_cell e i c))
 cell_part ts t slot i e c (cs, is, fits, lt, l, cells) h =
@@ -364,7 +364,7 @@ ends_lock : (m : MapValue) → at_end (at m Definition) ≡ Some m
 unfolding at_end
 ends_lock m = refl
 
--- and after an accent's character or pair
+-- the text may end after an accent's character or pair
 ends_accent : (m : MapValue) (i : ℕ) (a : AccentValue) → at_end (at m (AfterAccent i a)) ≡ Some (with_accent m i a)
 unfolding at_end
 ends_accent m i a = refl

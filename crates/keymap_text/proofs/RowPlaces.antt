@@ -103,7 +103,7 @@ accent_begins : (i : Item) (name : Action) (index : ℕ) → i ≡ Value (Act na
     → begins i ≡ Some (Accent index)
 accent_begins i name index h e = ap begins h ∙ rw (e, begins) refl
 
--- one definition
+-- the tokens of a definition begin that definition alone, with the first of them
 row_begins : {us : List Item} {d : Definition} → Defines us d → (a ts : List TokenValue) (n : ℕ) → map item_of a ≡ us
     → begun 0 n (a ++ ts) ≡ record { what = defined d; first = n } ∷ begun 0 (n + length a) ts
 row_begins (of_key {slot = slot} {e = e} {ts = us} l eight cells) a ts n h =

@@ -19,7 +19,7 @@ cell_place slot i e = cond (i == 8) (spec.LockAt slot e) (spec.CellAt slot i e)
 pub is_cell : (slot i : ℕ) (e : Entry) → i < 8 → spec.CellAt slot i e ≡ cell_place slot i e
 is_cell slot i e l = grind arith
 
--- then the lock letter
+-- behind the eighth cell the lock letter is wanted
 pub is_lock : (slot i : ℕ) (e : Entry) → i ≡ 8 → spec.LockAt slot e ≡ cell_place slot i e
 is_lock slot i e h = grind arith
 

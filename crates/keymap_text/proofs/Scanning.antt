@@ -66,7 +66,7 @@ pub token_advances : (s s' : GrammarState) (rest : List ℕ) (i : Item) (n : ℕ
     → Advances s s' rest n
 token_advances s s' rest i n f a = grind (arith, judge_then)
 
--- one that is not accepted is refused
+-- a token that is not accepted is refused
 pub token_refuses : (s : GrammarState) (rest : List ℕ) (i : Item) (n : ℕ) (f : TextFaultKind) → Fronts rest i n
     → accept s i ≡ Err f → Refuses s rest f 0
 token_refuses s rest i n e f a = grind (arith, judge_refused)
@@ -110,7 +110,7 @@ takes_token {rest = rest} {i = i} {n = n} f s = record {
   took = λ m h. let t = s m h in (t.0, t.1, token_advances _ _ rest i n f t.2);
 }
 
--- or refused
+-- a token was refused
 pub takes_fault : {D : Type 0} {shows : D → MapValue → Type 0} {d d' : D} {g g' : Grammar} {rest : List ℕ} {i : Item}
     {n : ℕ} {e : Stop} → Fronts rest i n → e.at ≡ 0
     → ((m : MapValue) → shows d m → step m (grammar_view g) i ≡ Err e.kind) → Takes shows d d' (Err e) g g' rest
@@ -131,7 +131,7 @@ takes_on {rest = rest} {behind = behind} {n = n} {k = k} a e b = record {
       (t.0, t.1, advances_on _ _ _ rest behind n k s.2 e t.2);
 }
 
--- or there is a fault
+-- a fault stands behind what was taken
 pub faults_on : {D : Type 0} {shows : D → MapValue → Type 0} {d d1 d2 : D} {g g1 g2 : Grammar} {rest behind : List ℕ}
     {n : ℕ} {e e' : Stop} → Takes shows d d1 (Ok n) g g1 rest → behind ≡ take (length rest - n) (drop n rest)
     → Takes shows d1 d2 (Err e) g1 g2 behind → e'.kind ≡ e.kind → e'.at ≡ n + e.at
@@ -147,7 +147,7 @@ faults_on {g = g} {rest = rest} {behind = behind} {n = n} {e = e} {e' = e'} a k 
 pub behind_some : (piece : List ℕ) (i : ℕ) → i < length piece → 0 < length (take (length piece - i) (drop i piece))
 behind_some piece i h = omega (arith, ap length (to_end piece i), length-drop i piece, h)
 
--- the first of them
+-- the first byte that is left
 pub behind_first : (piece : List ℕ) (i : ℕ) → i < length piece
     → get_or piece i 0 ≡ get_or (take (length piece - i) (drop i piece)) 0 0
 behind_first piece i h = sym (ap (λ (t : List ℕ). get_or t 0 0) (to_end piece i ∙ drop-cons piece i 0 h))

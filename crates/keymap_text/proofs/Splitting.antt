@@ -46,7 +46,7 @@ pub split_found : (q c n : ℕ) (kind : TokenKind) (bytes : List ℕ) → front_
 unfolding tokens_after
 split_found q c n kind bytes h = rw (h, tokens_after) refl
 
--- and the tokens behind it
+-- a token in front, and the tokens behind it
 pub split_token : (q c n : ℕ) (kind : TokenKind) (bytes : List ℕ) → front_of c bytes ≡ Found kind n
     → tokens_after 0 q (c ∷ bytes)
     ≡ Then (token_before kind (c ∷ take n bytes) q (drop n bytes)) (tokens_after 0 (q + suc n) (drop n bytes))

@@ -75,7 +75,7 @@ comment_on : (s : GrammarState) (q c : ℕ) (p y : List ℕ) → c ≡ 35 → le
     ≡ judge s (tokens_after 0 (q + 1 + (length p + leading stays_on_line y)) (drop (leading stays_on_line y) y))
 comment_on s q c p y e h = grind (arith, drop-append-add, leading_append, leading_le, split_after, split_comment)
 
--- so only its first byte matters, and where it ends
+-- of an open comment only the first byte matters, and where it ends
 comment_shift : (s : GrammarState) (q q' c c' : ℕ) (p p' y : List ℕ) → c ≡ 35 → c' ≡ 35
     → leading stays_on_line p ≡ length p → leading stays_on_line p' ≡ length p' → q + length p ≡ q' + length p'
     → judge s (tokens_after 0 q (c ∷ (p ++ y))) ≡ judge s (tokens_after 0 q' (c' ∷ (p' ++ y)))
@@ -86,11 +86,11 @@ on_line : (p : List ℕ) (t : ℕ → Bool) → t 10 ≡ false → leading t p �
 on_line p t f h =
     ap feeds (sym (take_all (length p) p (omega arith))) ∙ feeds_run t f (length p) p (omega (arith, h))
 
--- what an unfinished one begins with is unfinished
+-- what an unfinished quoted character begins with is unfinished
 unfinished_front : (s x : List ℕ) → literal (s ++ x) ≡ Unfinished → literal s ≡ Unfinished
 unfinished_front s x u = ⊎_elim (λ h. h) (λ e. sym (e x) ∙ u) (literal_or s)
 
--- none in a quoted character that is unfinished
+-- no line feed stands in a quoted character that is unfinished
 quoted_feeds : (s t : List ℕ) → literal (s ++ t) ≡ Unfinished → feeds t ≡ 0
 quoted_feeds s [] u = refl
 quoted_feeds s (c ∷ t) u = go (c == 10) refl (quoted_feeds (s ++ c ∷ []) t (ap literal (append_assoc s (c ∷ []) t) ∙ u))
@@ -105,7 +105,7 @@ quoted_feeds s (c ∷ t) u = go (c == 10) refl (quoted_feeds (s ++ c ∷ []) t (
     go true e k = absurd (closed (eqb-true c 10 e))
     go false e k = no_feed c t e ∙ k
 
--- nor in any open bytes
+-- no line feed stands in open bytes
 pub open_feeds : (p : List ℕ) → IsOpen p → feeds p ≡ 0
 open_feeds [] h = refl
 open_feeds (c ∷ p) (inl h) = search (rules, on_line, leading_pass)
@@ -162,7 +162,7 @@ pub record Stays (old new : Reading) : Type 0 where
   pub grammar : new.grammar ≡ old.grammar
   pub line : new.line ≡ old.line
 
--- it is one still where it has moved on
+-- a reader that moved on in its line, at its place of the grammar, is a reader still
 stays_reader : {old new : Reading} → IsReader old → Stays old new → old.offset ≤ new.offset → IsOpen new.pending.items
     → IsReader new
 stays_reader r s q t = record { place = rw s.grammar r.place; tail = t; low = omega (arith, r.low, s.line) }
@@ -193,7 +193,7 @@ comment_ends old new w y some hash r all stops s p q =
         ∙ ap (λ n. judge s (tokens_after 0 (q + 1 + (length (p ++ w) + n)) (drop n (y ++ x)))) (stops x)
         ∙ ap (λ n. judge s (tokens_after 0 n (y ++ x))) (omega (arith, length-append p w))
 
--- or behind these bytes
+-- an open comment goes on behind these bytes
 pub comment_goes : (old new : Reading) (w y : List ℕ) → 0 < length old.pending.items
     → get_or old.pending.items 0 0 ≡ 35 → IsReader old → leading stays_on_line w ≡ length w → Stays old new
     → new.pending.items ≡ old.pending.items → new.offset ≡ old.offset + length w → Moves old new w y
@@ -234,7 +234,7 @@ pub moves_on : (old mid new : Reading) (w v : List ℕ) → Moves old mid w v �
     → Moves old new (w ++ v) []
 moves_on old mid new w v a b = grind (arith, append_assoc, length-append)
 
--- or a fault stands there
+-- a fault stands behind bytes that were taken
 breaks_on : (old mid : Reading) (w v : List ℕ) (e : TextFault) → Moves old mid w v → Breaks mid v e
     → Breaks old (w ++ v) e
 breaks_on old mid w v e a b = grind (arith, append_assoc)

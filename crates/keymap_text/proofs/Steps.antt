@@ -39,7 +39,7 @@ late o q f p h = grind arith
 pub late_fault : (g f : TextFaultKind) (q p : ℕ) → Faulty g q false ≡ Faulty f p true → ⊥
 late_fault g f q p h = cc
 
--- nor is that of a word at the end
+-- the fault of a word at the end is no early one
 pub late_word : (s : GrammarState) (t : TokenValue) (q : ℕ) (f : TextFaultKind) (p : ℕ) → is_settled t ≡ false
     → judge s (Then t (tokens_after 0 q [])) ≡ Faulty f p true → ⊥
 late_word s t q f p e h = go (accept s (item t.kind t.bytes)) refl

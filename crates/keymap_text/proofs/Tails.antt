@@ -19,12 +19,12 @@ pub open_word : (rest : List ℕ) (n : ℕ) → 0 < length rest → Found Word n
 open_word [] n l h e = absurd (omega (arith, l))
 open_word (c ∷ b) n l h e = inr (inl (sym h ∙ ap (Found Word) (omega (arith, e))))
 
--- so is what is unfinished
+-- an unfinished quoted character is open
 pub open_quote : (rest : List ℕ) → 0 < length rest → Unfinished ≡ front_of (get_or rest 0 0) (drop 1 rest) → IsOpen rest
 open_quote [] l h = absurd (omega (arith, l))
 open_quote (c ∷ b) l h = inr (inr (sym h))
 
--- and a comment that the bytes end in
+-- a comment that the bytes end in is open
 pub open_comment : (rest : List ℕ) → 0 < length rest → get_or rest 0 0 ≡ 35
     → length rest ≤ leading stays_on_line rest → IsOpen rest
 open_comment [] l e h = absurd (omega (arith, l))
@@ -58,7 +58,7 @@ pub comment_tokens : (q c : ℕ) (b : List ℕ) → c ≡ 35 → leading stays_o
     → tokens_after 0 q (c ∷ b) ≡ Ends (q + suc (length b))
 comment_tokens q c b h all = split_comment q c b h ∙ split_all _ (q + 1) b all ∙ ap Ends (omega (arith, all))
 
--- of a word at their end
+-- the tokens of a word that the bytes end in: the word
 pub word_tokens : (q c : ℕ) (b : List ℕ) → front_of c b ≡ Found Word (length b)
     → tokens_after 0 q (c ∷ b) ≡ Then (token_before Word (c ∷ b) q []) (Ends (q + suc (length b)))
 word_tokens q c b h = grind (arith, drop_all, split_none, split_token, take_all)
@@ -73,7 +73,7 @@ end_none s (c ∷ b) q h = absurd (omega (arith, h))
 pub open_line : (c : ℕ) (b : List ℕ) → c ≡ 35 → IsOpen (c ∷ b) → leading stays_on_line b ≡ length b
 open_line c b e o = grind (arith, front_comment)
 
--- in a comment
+-- where the text ends in a comment
 pub end_comment : (s : GrammarState) (tail : List ℕ) (q : ℕ) → 0 < length tail → get_or tail 0 0 ≡ 35 → IsOpen tail
     → judge s (tokens_after 0 q tail) ≡ ended (at_end s) (q + length tail)
 end_comment s [] q l e h = absurd (omega (arith, l))
@@ -84,7 +84,7 @@ last_token : (q c n : ℕ) (k : TokenKind) (b : List ℕ) → IsOpen (c ∷ b) �
     → tokens_after 0 q (c ∷ b) ≡ Then (token_before k (c ∷ b) q []) (Ends (q + suc (length b)))
 last_token q c n k b o h = grind (arith, open_found, word_tokens)
 
--- if it is accepted, the text ends behind it
+-- if the last word is accepted, the text ends behind it
 pub end_word : (s s' : GrammarState) (tail : List ℕ) (n q : ℕ) (k : TokenKind) → 0 < length tail
     → Found k n ≡ front_of (get_or tail 0 0) (drop 1 tail) → IsOpen tail → accept s (item k tail) ≡ Ok s'
     → judge s (tokens_after 0 q tail) ≡ ended (at_end s') (q + length tail)
@@ -92,7 +92,7 @@ end_word s s' [] n q k l h o a = absurd (omega (arith, l))
 end_word s s' (c ∷ b) n q k l h o a =
     ap (judge s) (last_token q c n k b o (sym h)) ∙ judge_then s s' _ _ a ∙ judge_ends s' _
 
--- one that is refused
+-- a last word that is refused
 pub end_refused : (s : GrammarState) (tail : List ℕ) (n q : ℕ) (k : TokenKind) (f : TextFaultKind) → 0 < length tail
     → Found k n ≡ front_of (get_or tail 0 0) (drop 1 tail) → IsOpen tail → accept s (item k tail) ≡ Err f
     → judge s (tokens_after 0 q tail) ≡ Faulty f (q + 0) false
@@ -135,7 +135,7 @@ longer (c ∷ b) more k n l (inl h) outside f = absurd (outside h.0)
 longer (c ∷ b) more k n l (inr (inl h)) outside f = grind (arith, front_word, leading_append, word_found)
 longer (c ∷ b) more k n l (inr (inr h)) outside f = grind (arith, front_quote, is_quote, unfinished_longer)
 
--- so it has as many bytes at least
+-- a token that begins with open bytes has as many bytes at least
 pub open_longer : (bytes tail more : List ℕ) (k : TokenKind) (n : ℕ) → bytes ≡ tail ++ more → 0 < length tail
     → IsOpen tail → get_or tail 0 0 ≢ 35 → front_of (get_or bytes 0 0) (drop 1 bytes) ≡ Found k (n - 1) → 0 < n
     → length tail ≤ n

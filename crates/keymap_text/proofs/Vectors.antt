@@ -17,7 +17,7 @@ pub joined : (h : ℕ → ℕ → ℕ) (f g : ℕ → ℕ) (v : List ℕ) {a b :
     → zip2 h a b ≡ map (λ x. h (f x) (g x)) v
 joined h f g v p q = ap₂ (zip2 h) p q ∙ zip2-map h f g v
 
--- the same byte in each place
+-- a vector with the same byte in each place
 pub splat_is : (v : List ℕ) (n y : ℕ) → length v ≡ n → replicate n y ≡ map (λ _. y) v
 splat_is [] n y e = ap (λ k. replicate k y) (sym e)
 splat_is (x ∷ v) n y e = ap (λ k. replicate k y) (sym e) ∙ ap (λ r. y ∷ r) (splat_is v (length v) y refl)

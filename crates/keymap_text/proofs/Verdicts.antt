@@ -84,7 +84,7 @@ spells_from text m h =
     (stands_after [] (items text) start r.last stands_first r.steps) r.map in
     record { definitions = row.0; row = row.1; end = r.end; whole = r.whole; map = row.2 ∙ puts_are row.0 }
 
--- and the other way
+-- what the definitions spell is what the machine spells
 pub spells_to : (text : List ℕ) (m : MapValue) → Spells text m → verdict text ≡ Spelled m
 spells_to text m s =
     let r = row_defined start empty_map (items text) s.definitions s.row starts in
@@ -97,7 +97,7 @@ pub fault_from : (text : List ℕ) (f : TextFaultKind) (q : ℕ) (e : Bool) → 
     → fault_of text ≡ Some (record { kind = f; offset = q; early = e })
 fault_from text f q e h = sym (fault_is text) ∙ ap found_of h
 
--- and the other way
+-- the fault of the definitions is that of the machine
 pub fault_to : (text : List ℕ) (f : TextFaultKind) (q : ℕ) (e : Bool)
     → fault_of text ≡ Some (record { kind = f; offset = q; early = e }) → verdict text ≡ Faulty f q e
 fault_to text f q e h = go (verdict text) (fault_is text ∙ h)
@@ -121,13 +121,13 @@ unfolding tokens_then list_of
 listed [] = refl
 listed (t ∷ ts) = ap (λ ts. t ∷ ts) (listed ts)
 
--- nothing stands behind them
+-- nothing stands behind the tokens of a list
 behind_is : (ts : List TokenValue) → ending_of_tokens (tokens_then ts) ≡ Ok 0
 unfolding tokens_then ending_of_tokens
 behind_is [] = refl
 behind_is (t ∷ ts) = behind_is ts
 
--- the end of such tokens
+-- what the end of a list of tokens answers
 ended_at : (ts : List TokenValue)
     → found_of (judge start (tokens_then ts)) ≡ found_in (place_after AtDefinition ts) (Ok 0)
 ended_at ts = grind (arith, behind_is, listed, same_fault)
@@ -162,7 +162,7 @@ accepted_of ts ds row =
     go (Ok p) e h = search (rules, none-some)
     go (Err (f, t)) e h = absurd (none-some _ (sym h))
 
--- one map or one fault
+-- a text spells one map at most
 pub one_map : (text : List ℕ) (m n : MapValue) → Spells text m → Spells text n → m ≡ n
 one_map text m n s t = spelled_is m n (sym (spells_to text m s) ∙ spells_to text n t)
 

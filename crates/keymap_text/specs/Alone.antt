@@ -13,12 +13,12 @@ IsWide Word n = Unit {0}
 
 -- A token of this kind, c and the first n of these bytes.
 pub record StandsAlone (kind : TokenKind) (c n : ℕ) (bytes : List ℕ) : Type 0 where
-  -- it ends within the bytes
+  -- the token ends within the bytes
   pub within : n ≤ length bytes
-  -- it is found again wherever its bytes stand before a blank or a line's end
+  -- the token is found again wherever its bytes stand before a blank or a line's end
   pub again : (b : ℕ) (more : List ℕ) → is_blank b ≡ true → front_of c (take n bytes ++ b ∷ more) ≡ Found kind n
-  -- it stands in one line
+  -- the token stands in one line
   pub on_line : list_all stays_on_line (c ∷ take n bytes) ≡ true
-  -- it ends with no blank
+  -- the token ends with no blank
   pub end : is_blank (slice_index (c ∷ bytes) n) ≡ false
   pub wide : IsWide kind n

@@ -7,11 +7,11 @@ use Rattle.keymap_text.specs.Meaning.{line}
 abbrev pub is_feed : ℕ → Bool
 is_feed c = c == 10
 
--- the bytes of its line that stand before a place: what is behind the last LF
+-- the bytes of the line that stand before a place: what is behind the last LF
 abbrev pub before_in_line : List ℕ → ℕ → List ℕ
 before_in_line text place = after_last is_feed (take place text)
 
--- those from the place on, up to the next LF
+-- the bytes of the line from a place on, up to the next LF
 abbrev pub rest_of_line : List ℕ → ℕ → List ℕ
 rest_of_line text place = take (leading stays_on_line (drop place text)) (drop place text)
 
@@ -32,7 +32,7 @@ pub record AreStarts (text starts : List ℕ) : Type 0 where
   pub each : (i : ℕ) → i < length starts → IsLineStart text (i + 1) (slice_index starts i)
   pub next : (i : ℕ) → i + 1 < length starts → line_end text (slice_index starts i) + 1 ≡ slice_index starts (i + 1)
 
--- These are the lines of a text: the last one ends where the text does.
+-- All lines of a text begin here: the last one ends where the text does.
 pub record AreLines (text starts : List ℕ) : Type 0 where
   pub lines : AreStarts text starts
   pub last : line_end text (slice_index starts (length starts - 1)) ≡ length text

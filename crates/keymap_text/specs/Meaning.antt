@@ -90,7 +90,7 @@ Fault text f = (early : Bool) × FaultAt text f early
 abbrev pub Early : List ℕ → TextFault → Type 0
 Early text f = FaultAt text f true
 
--- one token, but for whether the text ends after it
+-- two tokens are one, but for whether the text ends after it
 abbrev pub IsSameToken : TokenValue → TokenValue → Type 0
 IsSameToken t u = (t.kind ≡ u.kind) × (t.bytes ≡ u.bytes) × (t.start ≡ u.start)
 

@@ -45,7 +45,7 @@ begins (Value (Number n)) = if nat_lt n slot_limit then Some (Slot n) else None
 begins (Value (Act a)) = elim (accent_index a) [ Some i ↦ Some (Accent i) | None ↦ None ]
 begins other = None
 
--- It is a slot or an accent that there is.
+-- The slot or accent is one that there is.
 abbrev pub HasIndex : Defined → Type 0
 HasIndex (Slot slot) = slot < slot_limit
 HasIndex (Accent i) = i < accent_limit

@@ -11,7 +11,7 @@ use Rattle.keymap_text.specs.Lexical.{TokenValue, token_before}
 abbrev pub IsCharacter : ℕ → List ℕ → Type 0
 IsCharacter c bytes = (IsScalar c × (c ≢ 10) × (bytes ≡ encode_utf8 c)) ⊎ ((0x80 ≤ c) × (bytes ≡ c ∷ []))
 
--- These bytes, from the first apostrophe to the last, are the character c.
+-- The bytes, from the first apostrophe to the last, are the character c.
 pub record IsQuoted (c : ℕ) (bytes : List ℕ) : Type 0 where
   pub between : List ℕ
   pub character : IsCharacter c between
@@ -25,7 +25,7 @@ pub record BeginsQuoted (bytes : List ℕ) : Type 0 where
   pub quoted : IsQuoted character token
   pub front : bytes ≡ token ++ more
 
--- These bytes are a quoted character but for at least one byte more.
+-- The bytes are a quoted character but for at least one byte more.
 pub record IsUnfinished (bytes : List ℕ) : Type 0 where
   pub character : ℕ
   pub more : List ℕ

@@ -8,7 +8,7 @@ use Rattle.keymap_text.specs.Meaning.{Spells, Fault}
 abbrev pub no_keys : MapValue
 no_keys = record { entries = []; accents = [] }
 
--- it shows the map that the text spells, or the text has the fault
+-- what took the definitions shows the map that the text spells, or the text has the fault
 abbrev pub ReadsInto : {D : Type 0} → (D → MapValue → Type 0) → D → Result (Unit {0}) TextFault → List ℕ → Type 0
 ReadsInto shows d (Ok u) text = (m : MapValue) × Spells text m × shows d m
 ReadsInto shows d (Err f) text = Fault text f

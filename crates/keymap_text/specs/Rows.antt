@@ -13,7 +13,7 @@ pub data Definition : Type 0 where
   KeyDefinition : ℕ → Entry → Definition
   AccentDefinition : ℕ → AccentValue → Definition
 
--- one cell a token
+-- each token is one cell
 pub data AreCells : List Item → List Cell → Type 0 where
   no_cells : AreCells [] []
   one_cell : {t : Item} {c : Cell} {ts : List Item} {cs : List Cell} → cell t ≡ Ok c → AreCells ts cs

@@ -18,12 +18,12 @@ limit = 1048576
 abbrev pub piece : ℕ
 piece = 512
 
--- These bytes were taken.
+-- The text was taken.
 pub record TakesText (old new : Option (List ℕ)) (text : List ℕ) : Type 0 where
   pub taken : Consumes old new text
   pub few : length text ≤ limit
 
--- These bytes were taken, and the end came after them.
+-- The text was taken, and the end came after it.
 pub record TakesWhole (old new : Option (List ℕ)) (text : List ℕ) : Type 0 where
   pub taken : Consumes old new text
   pub few : length text ≤ limit
@@ -39,7 +39,7 @@ pub record FailsInside (old new : Option (List ℕ)) (f : ReadFault) : Type 0 wh
   pub offset : length text ≡ f.offset
   pub sound : HasNoEarlyFault text
 
--- One byte more than the limit was taken, and the bytes up to the limit have no early fault.
+-- The bytes up to the limit and one more were taken, and those up to the limit have no early fault.
 pub record TextGoesPast (old new : Option (List ℕ)) (f : ReadFault) : Type 0 where
   pub text : List ℕ
   pub next : ℕ
@@ -61,7 +61,7 @@ ReadsMap old new (Err (errors.Read f)) = StopsReadingText old new f f.kind
 ReadsMap old new (Err (errors.Fault f)) = (text : List ℕ) × ((TakesText old new text
     × Early text f) ⊎ (TakesWhole old new text × Fault text f))
 
--- These bytes were taken, the last of them by one read, and those before have no early fault.
+-- Bytes were taken, the last of them by one read, and those before have no early fault.
 pub record TakesOneMore (old new : Option (List ℕ)) : Type 0 where
   pub before : List ℕ
   pub last : List ℕ

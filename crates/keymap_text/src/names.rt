@@ -127,7 +127,7 @@ pub fn control_name(c: u8) -> &'static [u8]
     NAMES[place].letters()
 }
 
-/// Its name, filled on the right with blanks to six places.
+/// The name of a control character, filled on the right with blanks to six places.
 #[inline(always)]
 pub(crate) fn control_places(c: u8) -> [u8; 6]
     requires { (c < 32) ⊎ (c ≡ 127) }
@@ -376,7 +376,7 @@ static NAMES: [Name; 84] = [
     Name(*b"ddia    ", Sense::DeadKey(7)),
 ];
 
-/// It keeps the keys of the names apart: no two of their products have the same high byte. Found by trying random odd
+/// Keeps the keys of the names apart: no two of their products have the same high byte. Found by trying random odd
 /// numbers, as bench/find_spread.py does, which prints it and `PLACES` for the names above.
 const SPREAD: u64 = 0xebcb_a9e4_71cd_1edd;
 

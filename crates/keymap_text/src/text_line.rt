@@ -70,7 +70,7 @@ fn line_index(starts: &[usize], place: usize) -> usize
     low
 }
 
-/// The bytes of its line that stand before a place.
+/// The bytes of the line that stand before a place.
 fn before_place<'t>(text: &'t [u8], starts: &[usize], place: usize) -> &'t [u8]
     requires starts { AreLines text.now starts.now }
     requires place { place ≤ length text.now }
@@ -94,7 +94,7 @@ fn end_at(text: &[u8], starts: &[usize], place: usize) -> usize
     }
 }
 
-/// The bytes of its line from a place on.
+/// The bytes of the line from a place on.
 fn from_place<'t>(text: &'t [u8], starts: &[usize], place: usize) -> &'t [u8]
     requires starts { AreLines text.now starts.now }
     requires place { place ≤ length text.now }

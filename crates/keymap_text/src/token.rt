@@ -194,7 +194,7 @@ pub(crate) fn short_word_len(bytes: &[u8]) -> usize
     }
 }
 
-/// That number where few bytes are left.
+/// What `short_word_len` answers where fewer than 16 bytes are left.
 #[inline(never)]
 fn short_word_len_at_end(bytes: &[u8]) -> usize
     ensures { result < 16 → (result < length bytes.now) × (result ≡ leading is_word bytes.now) }
@@ -219,7 +219,7 @@ pub fn word_len(bytes: &[u8]) -> usize
     all_word_len(bytes)
 }
 
-/// That number, byte by byte.
+/// How many ASCII letters and digits stand in front, counted byte by byte.
 #[inline(never)]
 #[tactic(auto, using(crate::proofs::Leading::leading_rules))]
 fn all_word_len(bytes: &[u8]) -> usize

@@ -12,7 +12,7 @@ const VERSION: &str = "0.3.0";
 #[derive(Clone, Copy)]
 enum Word {
     File(&'static str, &'static str),
-    /// One file or more.
+    /// Files, at least one.
     Files(&'static str, &'static str),
     Flag(&'static str, &'static str),
     /// A flag that isn't taken beside another one, whose name stands last.
@@ -215,11 +215,11 @@ pub(crate) fn refusal(alloc: Global, kind: ErrorKind, message: &str) -> Result<E
 /// What is done with the layout of a text.
 #[derive(Clone, Copy)]
 pub(crate) enum FmtMode {
-    /// It is written in place of the text.
+    /// The layout is written in place of the text.
     Write,
-    /// It is compared with the text.
+    /// The layout is compared with the text.
     Check,
-    /// It is printed.
+    /// The layout is printed.
     Print,
 }
 

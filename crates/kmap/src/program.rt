@@ -1,4 +1,4 @@
-//! One run of the program: the words, the files that they name, and the exit status.
+//! A run of the program: the words, the files that they name, and the exit status.
 use crate::command_line::{Request, contradiction, matches_of, request_of};
 use crate::compile::compile;
 use crate::format::format_texts;
@@ -41,7 +41,7 @@ pub(crate) enum FileFault {
     NotRegular,
     CannotCreate,
     CannotReplace,
-    /// It was changed while its layout was made.
+    /// The file was changed while its layout was made.
     Changed,
 }
 
@@ -66,7 +66,7 @@ impl<'a> Failure<'a> {
     }
 }
 
-/// Whether it is the output that failed.
+/// Whether the output failed.
 pub(crate) fn is_of_output(error: &CommandError) -> bool {
     matches!(error, CommandError::Run(RunError::Write(_)))
 }

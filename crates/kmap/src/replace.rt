@@ -53,15 +53,23 @@ const NAMES: u32 = 1000;
 #[derive(Drop)]
 pub(crate) enum Old {
     Absent,
-    /// It is to belong to the same owner still.
+    /// The old file is to belong to the same owner still.
     Owned(Metadata),
-    /// It was read, and is to be as it was before.
+    /// The old file was read, and is to be as it was before.
     Read(Metadata),
 }
 
 impl Old {
     fn is_absent(&self) -> bool {
         matches!(self, Old::Absent)
+    }
+
+    /// How many bytes its text has; 0 where it is no text.
+    fn text_length(&self) -> usize {
+        match self {
+            Old::Absent | Old::Owned(_) => 0,
+            Old::Read(old) => old.size() as usize,
+        }
     }
 
     /// Why what is found under its name now isn't replaced, if it isn't.
@@ -184,10 +192,18 @@ fn give_owner_and_rights(file: &File, old: &Old) -> io::Result<()> {
     }
 }
 
-/// Writes all bytes of a file, which are on the disk then.
-fn write_whole(file: &mut File, bytes: &[u8]) -> Result<(), WriteFault> {
+/// Bytes, and line feeds behind them up to a length: where a run is ended that has written them over a longer text, and
+/// has not yet cut that off, the next one reads the new text, and nothing that is left of the old one.
+fn padded(alloc: Global, bytes: &[u8], length: usize) -> Result<Vec<u8>, AllocError> {
+    let mut padded = Vec::from_elem(alloc, b'\n', length.max(bytes.len()))?;
+    padded[..bytes.len()].copy_from_slice(bytes);
+    Ok(padded)
+}
+
+/// Writes bytes, and ends the file behind so many of them, which are on the disk then.
+fn write_whole(file: &mut File, bytes: &[u8], length: usize) -> Result<(), WriteFault> {
     write_text(&mut ToStd::new(&mut *file), bytes)?;
-    let written = bytes.len() as u64;
+    let written = length as u64;
     if file.set_len(written).is_ok() && file.sync_all().is_ok() {
         Ok(())
     } else {
@@ -236,14 +252,14 @@ fn replace_target<R: AllocGlobal + Files<File = File>>(
 struct Replacement<'a> {
     /// The name of the file whose place it takes.
     target: &'a str,
-    /// Its own name until then.
+    /// The new file's own name until then.
     name: &'a str,
     old: &'a Old,
 }
 
 impl Replacement<'_> {
     /// Writes the new file and puts it in the place of the old one, or its bytes.
-    fn put<R: Files<File = File>>(
+    fn put<R: AllocGlobal + Files<File = File>>(
         &self,
         rt: &R,
         file: &mut File,
@@ -251,7 +267,7 @@ impl Replacement<'_> {
     ) -> Result<(), ReplaceFault> {
         self.look_at_target(rt)?;
         let is_owned = give_owner_and_rights(file, self.old).is_ok();
-        write_whole(file, bytes).map_err(ReplaceFault::Write)?;
+        write_whole(file, bytes, bytes.len()).map_err(ReplaceFault::Write)?;
         if !self.is_named(rt, file) {
             return Err(ReplaceFault::CannotReplace);
         }
@@ -271,16 +287,19 @@ impl Replacement<'_> {
     }
 
     /// Writes the bytes into the old file itself.
-    fn write_in_place<R: Files<File = File>>(
+    fn write_in_place<R: AllocGlobal + Files<File = File>>(
         &self,
         rt: &R,
         bytes: &[u8],
     ) -> Result<(), ReplaceFault> {
+        let padded = padded(rt.alloc(), bytes, self.old.text_length())?;
         let Ok(mut file) = OpenOptions::new().write(true).open(rt, self.target) else {
             return Err(ReplaceFault::CannotReplace);
         };
         match self.old.refusal_in_place(file.metadata()) {
-            None => write_whole(&mut file, bytes).map_err(ReplaceFault::Partly),
+            None => write_whole(&mut file, padded.as_slice(), bytes.len()).map_err(
+                ReplaceFault::Partly,
+            ),
             Some(fault) => Err(fault),
         }
     }

@@ -59,7 +59,7 @@ IsHeldDown tables i numbers = (k : ℕ) × (k < key_count) × (is_down k numbers
 abbrev pub AreUp : List ℕ → Type 0
 AreUp numbers = (k : ℕ) → k < key_count → is_down k numbers ≡ false
 
--- one key bears the modifier or lock throughout: kmap_bearer tells this key, and KMAP_BORNE_THROUGHOUT
+-- the key bears the modifier or lock throughout: kmap_bearer tells this key, and KMAP_BORNE_THROUGHOUT
 abbrev pub IsBorneThroughout : List ℕ → ℕ → Holding → Type 0
 IsBorneThroughout tables k a = (m : MapValue) → IsMap m → tables ≡ image m → BearsThroughout m k a
 

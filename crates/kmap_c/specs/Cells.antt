@@ -9,7 +9,7 @@ use Rattle.console_core.specs.Raw.{raw_of}
 use Rattle.console_core.specs.declared.event.Answer.{Answer}
 use Rattle.console_core.specs.declared.event.Answer.TheVariants as answer
 
--- its character, or its action as one that is taken
+-- the character of a cell, or its action as one that is taken
 abbrev pub answer_in : Cell → Answer
 answer_in (Char c) = answer.Char c false
 answer_in (Act a.BackTab) = answer.BackTab

@@ -12,7 +12,7 @@ use Rattle.console_core.specs.declared.event.Event.TheVariants as event
 abbrev pub is_event : ℕ → Bool
 is_event n = nat_le n 257
 
--- the event of such a number
+-- the event that a number up to 257 stands for
 abbrev pub event_of : ℕ → Event
 event_of n =
     if nat_le n 127 then event.Press n

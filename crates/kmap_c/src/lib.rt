@@ -633,12 +633,12 @@ pub extern "C" fn kmap_modifiers(console: &KmapConsole) -> u8
         → WasDelivered first second numbers console.now.store
         → (i : ModifierValue) → bit_is_set result (modifier_index i) ≡ true
         → IsHeldDown (in_force_after first second numbers) i numbers }
-    // between any tables, one that a key bears throughout in those in force is on exactly while this key is down
+    // between any tables, a modifier that a key bears throughout in those in force is on exactly while this key is down
     ensures exactly_while { (first second numbers : List ℕ) → AreTables first → AreTables second
         → WasDelivered first second numbers console.now.store
         → (i : ModifierValue) (k : ℕ) → IsBorneThroughout (in_force_after first second numbers) k (Holding.Mod i)
         → bit_is_set result (modifier_index i) ≡ is_down k numbers }
-    // nor does one stay on once every key's release was delivered
+    // no modifier stays on once every key's release was delivered
     ensures all_up { (first second numbers : List ℕ) → AreAccepted first → AreAccepted second
         → WasDelivered first second numbers console.now.store → AreUp numbers → result ≡ 0 }
 {
@@ -651,10 +651,10 @@ pub extern "C" fn kmap_modifiers(console: &KmapConsole) -> u8
 pub extern "C" fn kmap_locks(console: &KmapConsole) -> u8
     ensures bits { (ms : Maps) (h : List EventValue) → KeptAt ms h console.now.store
         → (l : LockValue) → bit_is_set result (lock_index l) ≡ is_locked_after ms l h }
-    // so no other bit is set
+    // no other bit is set
     ensures in_range { result < 16 }
-    // where no other tables are loaded, one that a key bears throughout is on exactly after an odd number of presses of
-    // this key that are no repeats
+    // where no other tables are loaded, a lock that a key bears throughout is on exactly after an odd number of presses
+    // of this key that are no repeats
     ensures fresh_presses { (first second numbers : List ℕ) → AreTables first → AreTables second
         → WasDelivered first second numbers console.now.store → LoadsNoOther first second numbers
         → (l : LockValue) (k : ℕ) → IsBorneThroughout first k (Holding.Lock l)

@@ -11,7 +11,7 @@ use Rattle.kmap_runs.proofs.Common.{script_event_line, event_lines, filled_all, 
 use Rattle.std.proofs.lemmas.List.{reverse-append}
 use Rattle.std.proofs.lemmas.List.Elements.{All-nil, All-cons}
 use Rattle.keymap_core.specs.Numbers.{key_count, column_count, accent_limit}
-use Rattle.console_core.specs.declared.selection.Sight.TheVariants.{Cell, Locks}
+use Rattle.console_states.specs.declared.selection.Sight.TheVariants.{Cell, Locks}
 use Rattle.keymap_cover.specs.declared.parts.Counts.{Counts}
 use Rattle.keymap_cover.specs.declared.parts.Cover.{Cover}
 use Rattle.keymap_cover.specs.declared.parts.Verdict.{Verdict}

@@ -13,7 +13,7 @@ pieces_more : {X : Type 0} (f : ℕ → List X) (a n : ℕ)
 pieces_more f a zero = append-nil (f a) ∙ ap f (omega arith)
 pieces_more f a (suc n) = search (rules, append_assoc, pieces_more f (a + 1) n)
 
--- the pieces of one number more end with its piece
+-- the pieces of the numbers up to one end with its piece
 pub pieces_on : {X : Type 0} (f : ℕ → List X) (n : ℕ)
     → flat_map f (range_with_len 0 (n + 1)) ≡ flat_map f (range_with_len 0 n) ++ f n
 pieces_on f n =
@@ -26,7 +26,7 @@ pub piece_behind : {X : Type 0} (f : ℕ → List X) (i : ℕ) (old all more : L
 piece_behind f i old all more e piece =
     cc (append_assoc old (flat_map f (range_with_len 0 i)) (f i), pieces_on f i)
 
--- the same where nothing stands before
+-- the pieces below a number, and the piece of that number behind these
 pub piece_more : {X : Type 0} (f : ℕ → List X) (i : ℕ) (all more : List X)
     → all ≡ flat_map f (range_with_len 0 i) → more ≡ all ++ f i → more ≡ flat_map f (range_with_len 0 (i + 1))
 piece_more f i all more e piece = piece ∙ ap (λ t. t ++ f i) e ∙ sym (pieces_on f i)
@@ -44,7 +44,7 @@ pub alike_one : (is_listed : Sight → Bool) (first : ℕ) → AreAlike is_liste
 alike_one is_listed first = λ slot from below.
     let same : slot ≡ first = omega (arith, from, below) in ap (row_text is_listed) same
 
--- and one slot more
+-- a further slot that is like the first
 pub alike_more : (is_listed : Sight → Bool) (first end : ℕ) → AreAlike is_listed first end
     → row_text is_listed end ≡ row_text is_listed first → AreAlike is_listed first (end + 1)
 alike_more is_listed first end alike same = search (rules, cases_lt)

@@ -1,6 +1,7 @@
 mod Chained
 mod Comments
 mod Common
+mod Counted
 mod CoverScripts
 mod Covered
 mod Dumped

@@ -17,10 +17,10 @@ use Rattle.keymap_core.specs.declared.action.Modifier.TheVariants.{LeftShift}
 use Rattle.keymap_text.specs.Sources.{TakesWhole, ReadsMap}
 use Rattle.keymap_text.proofs.Verdicts.{one_map}
 use Rattle.console_core.specs.History.{Maps, answers_to}
-use Rattle.console_core.specs.declared.outcome.Sticking.{Sticking}
-use Rattle.console_core.specs.Typing.{AreTyped}
-use Rattle.console_core.specs.declared.outcome.Sticking.TheVariants.{Sticks, Never, Undecided}
-use Rattle.console_core.specs.Sticking.{IsAnswer, IsAnswerBetween}
+use Rattle.console_states.specs.declared.outcome.Sticking.{Sticking}
+use Rattle.console_states.specs.Typing.{AreTyped}
+use Rattle.console_states.specs.declared.outcome.Sticking.TheVariants.{Sticks, Never, Undecided}
+use Rattle.console_states.specs.Sticking.{IsAnswer, IsAnswerBetween}
 use Rattle.keymap_check.specs.Report.{report_of}
 use Rattle.keymap_check.specs.Scripts.{demonstration_of}
 use Rattle.keymap_check.proofs.Demonstrated.{demonstrations_leave_modifiers_on}
@@ -146,12 +146,12 @@ typing-delivers m cs x t = delivers-these (typing_script x) x.events.items (typi
 keys-of : (events : List Event) → HasKeys (reverse events) → HasKeys events
 keys-of events keys = subst HasKeys (reverse-reverse events) (All-reversed HasKey (reverse events) keys)
 
--- the lines of such events
+-- the lines of events of keys deliver these
 lines-deliver : (events : List Event) → HasKeys (reverse events)
     → Delivers (flat_map event_line events) (reverse events)
 lines-deliver events keys = delivers-these _ events (events-script events (keys-of events keys))
 
--- the same behind a comment with the names of modifiers
+-- the lines of events of keys, behind a comment with the names of modifiers, deliver these
 script-delivers : (on : List Modifier) (events : List Event) → HasKeys (reverse events)
     → Delivers (script_text on events) (reverse events)
 script-delivers on events keys =

@@ -62,7 +62,7 @@ lines_end starts from es ks i old new all past lines before =
 one_more : (n : ℕ) → 1 + n ≡ suc n
 one_more n = omega arith
 
--- else the character is shown first
+-- a character that is no line feed is shown first
 line_on : (c : ℕ) (cs : List ℕ) → is_line_feed c ≡ false → line_shown (c ∷ cs) ≡ shown c ++ line_shown cs
 line_on c cs e = search (rules, one_more)
 

@@ -2,16 +2,20 @@
 -- events. What is told stands at the places `{}` of its words.
 use Rattle.std.specs.Prelude.{◌≡◌, ℕ, ◌<◌, ◌≤◌, ◌+◌, ◌-◌, ◌==◌, Bool, true, false, List, [], ◌∷◌, ◌++◌, decimal}
 use Rattle.std.specs.Prelude.{codes, length, map, slice_index_or, if◌then◌else◌}
-use Rattle.std.specs.List.{flat_map, list_any, range_with_len}
+use Rattle.std.specs.List.{Contains, flat_map, list_any, range_with_len}
 use Rattle.keymap_core.specs.Accents.{AccentValue}
 use Rattle.keymap_core.specs.Actions.{name_of}
 use Rattle.keymap_core.specs.declared.action.Action.TheVariants as act
+use Rattle.keymap_core.specs.Bounds.{IsMap}
 use Rattle.keymap_core.specs.Maps.{MapValue, accent_or_blank}
 use Rattle.keymap_core.specs.Numbers.{slot_limit, column_count, accent_limit}
-use Rattle.console_core.specs.declared.selection.Sight.{Sight}
-use Rattle.console_core.specs.declared.selection.Sight.TheVariants.{Cell, Locks, Pair}
-use Rattle.keymap_cover.specs.Covering.{verdict_of, is_verdict, counts_of}
+use Rattle.console_states.specs.declared.selection.Sight.{Sight}
+use Rattle.console_states.specs.declared.selection.Sight.TheVariants.{Cell, Locks, Pair}
+use Rattle.console_states.specs.Sights.{Enumerates, IsReachable}
+use Rattle.console_states.specs.Visiting.{CanVisit, IsPair}
+use Rattle.keymap_cover.specs.Covering.{Covers, verdict_of, is_verdict, counts_of}
 use Rattle.keymap_cover.specs.SightLists.{all_cells, all_lock_settings}
+use Rattle.keymap_cover.specs.Told.{AreTold, IsTold}
 use Rattle.keymap_cover.specs.declared.parts.Cover.{Cover}
 use Rattle.keymap_cover.specs.declared.parts.Counts.{Counts}
 use Rattle.keymap_cover.specs.declared.parts.Verdict.{Verdict}
@@ -40,7 +44,7 @@ never_word = codes "never"
 abbrev pub unstuck_word : List ℕ
 unstuck_word = codes "not before a modifier sticks"
 
--- whether this is the verdict on a sight
+-- whether the cover has this verdict on a sight
 abbrev pub has_verdict : MapValue → Cover → Verdict → Sight → Bool
 has_verdict m c v x = is_verdict v (verdict_of m c x)
 
@@ -80,12 +84,12 @@ abbrev pub row_text : (Sight → Bool) → ℕ → List ℕ
 row_text is_listed slot =
     headed (codes "; columns") (columns_text is_listed slot) ++ headed (codes "; locks") (settings_text is_listed slot)
 
--- the same is listed of the slots from one on to before another
+-- all slots from one on to before another have the same listed
 abbrev pub AreAlike : (Sight → Bool) → ℕ → ℕ → Type 0
 AreAlike is_listed first end =
     (slot : ℕ) → first ≤ slot → slot < end → row_text is_listed slot ≡ row_text is_listed first
 
--- and not of the slot behind them, if there is one
+-- the slot behind the end, if there is one, has something else listed
 abbrev pub EndsAlike : (Sight → Bool) → ℕ → ℕ → Type 0
 EndsAlike is_listed first end = end < slot_limit → row_text is_listed end ≡ row_text is_listed first → ⊥
 
@@ -124,6 +128,22 @@ bases_at m i = bases_of (accent_or_blank m i)
 -- all pairs of an accent with the blank or a base
 abbrev pub all_pairs : MapValue → List Sight
 all_pairs m = flat_map (λ i. map (Pair i) (bases_at m i)) (range_with_len 0 accent_limit)
+
+-- all of which it is told how many are seen
+abbrev pub counted : MapValue → List Sight
+counted m = (all_cells ++ all_lock_settings) ++ all_pairs m
+
+-- The sights that are counted are those that are told of, and each pair is counted once.
+abbrev pub CountedAreTold : Type 0
+CountedAreTold =
+    (m : MapValue) → IsMap m
+    → AreTold m (counted m) × Enumerates (λ x. IsPair x × IsTold m x) (all_pairs m)
+
+-- What is counted or listed as left out presses can see, and it can't be visited.
+abbrev pub LeftOutCannotBeVisited : Type 0
+LeftOutCannotBeVisited =
+    (m : MapValue) (c : Cover) (x : Sight) → IsMap m → Covers m c → Contains (counted m) x
+    → has_verdict m c LeftOut x ≡ true → IsReachable m x × (CanVisit m x → ⊥)
 
 -- a character, if its pair with an accent is listed
 abbrev pub character_text : (Sight → Bool) → ℕ → ℕ → List ℕ

@@ -82,7 +82,7 @@ command_fault_line (command.ReadSentence f) = read_fault (codes "sentence") f
 command_fault_line (command.NotText offset) =
     filled (codes "kmap: sentence offset {}: not UTF-8\n") (decimal offset ∷ [])
 command_fault_line (command.NoWay offset c) =
-    filled (codes "kmap: sentence offset {}: no key types {}\n") (decimal offset ∷ code_text c ∷ [])
+    filled (codes "kmap: sentence offset {}: no keys found for {}\n") (decimal offset ∷ code_text c ∷ [])
 command_fault_line command.TooLong = codes "kmap: text: more than 1048576 bytes when formatted\n"
 command_fault_line command.TooManyStates = codes "kmap: more than 65536 states\n"
 

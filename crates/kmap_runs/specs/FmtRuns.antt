@@ -25,7 +25,7 @@ pub record LaysOut (before after : Option (List ℕ)) (text laid : List ℕ) : T
   pub value : laid ≡ formatted text
 
 -- The text was read whole, and is not laid out: it has this fault, or it spells a keymap and its layout is too long.
--- Or it was not read whole.
+-- Or the text was not read whole.
 abbrev pub RefusesLayout : Option (List ℕ) → Option (List ℕ) → CommandError → Type 0
 RefusesLayout before after (command.Run error.Memory) = ⊤
 RefusesLayout before after (command.Run (error.Text f)) = (text : List ℕ) × TakesWhole before after text × Fault text f
@@ -61,7 +61,7 @@ PrintedLayoutsSpellTheSame =
     → PrintsLayout {X = Unit {0}} (Some text) after (Some []) (Some laid) (Ok (tt {0}))
     → (m : MapValue) × Spells text m × Spells laid m
 
--- So does the layout that is handed out for a text.
+-- The layout that is handed out for a text spells the keymap that the text spells.
 abbrev pub ChangedTextsSpellTheSame : Type 0
 ChangedTextsSpellTheSame =
     (text laid : List ℕ) (after : Option (List ℕ)) → ChangesText (Some text) after laid

@@ -63,7 +63,7 @@ of_playing (play.Write f) = error.Write f
 abbrev pub of_writer : WriteFault → RunError
 of_writer f = error.Write f
 
--- the same of a command
+-- the error of the writer, as one of a command
 abbrev pub of_command_writer : WriteFault → CommandError
 of_command_writer f = command.Run (error.Write f)
 
@@ -122,12 +122,12 @@ abbrev pub StaysIf : Option Moves → Type 0
 StaysIf None = ⊤
 StaysIf (Some m) = Stays m
 
--- whether its reader has failed
+-- whether the reader of a second text, if there is one, has failed
 abbrev pub has_failed_if : {N : Type 0} → (N → Bool) → Option N → Bool
 has_failed_if has_failed None = false
 has_failed_if has_failed (Some reader) = has_failed reader
 
--- its keymap
+-- the keymap of a second text, if there is one
 abbrev pub ReadsNext : Option Moves → Result (Option MapValue) RunError → Type 0
 ReadsNext None (Ok None) = ⊤
 ReadsNext (Some m) (Ok (Some map)) = ReadsKeymap m (Ok map)

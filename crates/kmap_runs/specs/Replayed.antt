@@ -1,11 +1,11 @@
 -- What the printed scripts do when they are played back.
 use Rattle.std.specs.Prelude.{◌≡◌, ℕ, List, [], ◌++◌, Option, Some, None, codes, map, reverse}
 use Rattle.keymap_core.specs.Maps.{MapValue}
-use Rattle.console_core.specs.declared.outcome.Sticking.{Sticking}
-use Rattle.console_core.specs.declared.outcome.Sticking.TheVariants.{Sticks, Never, Undecided}
+use Rattle.console_states.specs.declared.outcome.Sticking.{Sticking}
+use Rattle.console_states.specs.declared.outcome.Sticking.TheVariants.{Sticks, Never, Undecided}
 use Rattle.console_core.specs.declared.event.Event.{Event}
 use Rattle.console_core.specs.History.{Maps, between}
-use Rattle.console_core.specs.Sticking.{HasFewestPresses, HasFewestPressesBetween, LeavesOn, LeavesOnBetween}
+use Rattle.console_states.specs.Sticking.{HasFewestPresses, HasFewestPressesBetween, LeavesOn, LeavesOnBetween}
 use Rattle.keymap_text.specs.Meaning.{Spells}
 use Rattle.keymap_check.specs.Report.{report_of}
 use Rattle.keymap_check.specs.Scripts.{demonstration_of}
@@ -47,7 +47,7 @@ FoundReplays IsSo (Sticks events on) =
 FoundReplays IsSo Never = IsScript (found_text Never) []
 FoundReplays IsSo (Undecided p) = IsScript (found_text (Undecided p)) []
 
--- These events leave a modifier on, by the fewest presses.
+-- The events leave a modifier on, by the fewest presses.
 abbrev pub SticksSoonest : MapValue → List Event → Type 0
 SticksSoonest m h = LeavesOn m h × HasFewestPresses m h
 
@@ -86,7 +86,7 @@ pub record ShowsCover (m : MapValue) (script : List ℕ) : Type 0 where
   pub nothing_else : (sent : List Sent) → IsScript script sent → sent ≡ events_sent cover
   pub delivers : reverse (delivered (events_sent cover)) ≡ history cover
 
--- This is what is shown of the events of a cover of the keymap that the text spells, played on it.
+-- What is shown of the events of a cover of the keymap that the text spells, played on it.
 abbrev pub PlaysCover : Show → List ℕ → List ℕ → Type 0
 PlaysCover show text told =
     (m : MapValue) × (c : Cover) × Spells text m × Covers m c

@@ -12,13 +12,13 @@ use Rattle.keymap_draw.specs.declared.board.Board.{Board}
 use Rattle.keymap_draw.specs.Pictures.{IsPicture, drawing}
 use Rattle.keymap_draw.specs.Told.{AgreeWhereShown}
 use Rattle.keymap_draw.specs.WellFormed.{IsPlain, IsWellFormed}
-use Rattle.console_core.specs.declared.outcome.Sticking.{Sticking}
-use Rattle.console_core.specs.declared.typing.Typing.{Typing}
+use Rattle.console_states.specs.declared.outcome.Sticking.{Sticking}
+use Rattle.console_states.specs.declared.typing.Typing.{Typing}
 use Rattle.console_core.specs.Headline.{IsSafe}
 use Rattle.keymap_check.specs.Promises.{KeepsPromise}
 use Rattle.console_core.specs.History.{between}
-use Rattle.console_core.specs.Moves.{alone}
-use Rattle.console_core.specs.Sticking.{IsAnswer, IsAnswerBetween, NeverSticks, ReachesMoreThan, state_limit}
+use Rattle.console_states.specs.Moves.{alone}
+use Rattle.console_states.specs.Sticking.{IsAnswer, IsAnswerBetween, NeverSticks, ReachesMoreThan, state_limit}
 use Rattle.keymap_cover.specs.declared.parts.Cover.{Cover}
 use Rattle.keymap_cover.specs.Covering.{Covers}
 use Rattle.play_core.specs.declared.type_error.TypeError.TheVariants as type
@@ -146,7 +146,7 @@ AcceptedKeepTheirPromise =
     (show : Bool) (text out : Moves) → ChecksText show text out (Ok true)
     → (m : MapValue) × ReadsText text (Ok m) × KeepsPromise m
 
--- One file is compiled of a text and then dumped as another text: both spell the same keymap.
+-- A file is compiled of a text and then dumped as another text: both spell the same keymap.
 abbrev pub AreDumped : (Moves → Moves → Result (Unit {0}) RunError → Type 0)
     → (Option (List ℕ) → Option (List ℕ) → Result MapValue TableError → Type 0) → Type 0
 AreDumped Compiles Reads =

@@ -4,8 +4,8 @@ use Rattle.std.specs.List.{flat_map}
 use Rattle.keymap_core.specs.declared.action.Modifier.{Modifier}
 use Rattle.keymap_core.specs.declared.action.Holding.TheVariants as holding
 use Rattle.console_core.specs.declared.event.Event.{Event}
-use Rattle.console_core.specs.declared.outcome.Sticking.{Sticking}
-use Rattle.console_core.specs.declared.outcome.Sticking.TheVariants.{Sticks, Never, Undecided}
+use Rattle.console_states.specs.declared.outcome.Sticking.{Sticking}
+use Rattle.console_states.specs.declared.outcome.Sticking.TheVariants.{Sticks, Never, Undecided}
 use Rattle.play_core.specs.Spelling.{event_line}
 use Rattle.kmap_runs.specs.Report.{holding_name}
 use Rattle.kmap_runs.specs.Comments.{comment}

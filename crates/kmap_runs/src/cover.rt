@@ -3,7 +3,7 @@
 ghost use Rattle.std.specs.Prelude.{◌≡◌, ◌<◌, ◌≤◌, ◌+◌, ◌++◌, [], IsTrue, false, map, OnOk, IfOk};
 ghost use Rattle.std.specs.List.{flat_map};
 ghost use Rattle.keymap_core.specs.Numbers.{slot_limit, accent_limit};
-ghost use Rattle.console_core.specs.declared.selection.Sight.TheVariants as SightValue;
+ghost use Rattle.console_states.specs.declared.selection.Sight.TheVariants as SightValue;
 ghost use Rattle.keymap_cover.specs.Covering.{verdict_of, counts_of};
 ghost use Rattle.messages.specs.Filled.{has_places};
 ghost use Rattle.kmap_runs.specs.Cover as spec;
@@ -14,7 +14,8 @@ use crate::words::{
     LOCK_SETTINGS, LOCKS, NEVER, NLOCK, NO_LOCK, ONE_SLOT, ONE_WAY_PART, PAIRS, PAIRS_PART, REPEAT,
     SLOTS, TRIALS_PART, UNSTUCK,
 };
-use console_core::{Event, Sight};
+use console_core::Event;
+use console_states::Sight;
 use keymap_core::{ACCENT_LIMIT, Accent, AccentIndex, Action, COLUMN_COUNT, KeyMap, SLOT_LIMIT};
 use keymap_cover::{Cover, Part, ScriptEvent, Start, Verdict, cells, lock_settings};
 use messages::{either, fill, number, small};
@@ -117,7 +118,7 @@ fn row_of(alloc: Global, listing: &Listing, slot: u8) -> Result<Vec<u8>, AllocEr
     Ok(text)
 }
 
-/// Whether this is listed of the slot.
+/// Whether the row is what is listed of the slot.
 fn has_row(alloc: Global, listing: &Listing, slot: u8, row: &[u8]) -> Result<bool, AllocError>
     ensures same { IfOk result (λ same. IsTrue same → spec.row_text (spec.is_in listing.now) slot ≡ row.now) }
     ensures other { IfOk result (λ same. same ≡ false → spec.row_text (spec.is_in listing.now) slot ≡ row.now → ⊥) }

@@ -50,7 +50,7 @@ pub enum CommandError {
     ReadSentence(ReadFault),
     #[error("the sentence is not UTF-8")]
     NotText { offset: u64 },
-    #[error("no key types a character of the sentence")]
+    #[error("no keys were found for a character of the sentence")]
     NoWay { offset: u64, c: char },
     #[error("the text is too long when formatted")]
     TooLong,
@@ -106,7 +106,7 @@ pub(crate) const ENDLESS: &[u8] = b"kmap: {}: more than 1048576 bytes\n";
 
 pub(crate) const NOT_TEXT: &[u8] = b"kmap: sentence offset {}: not UTF-8\n";
 
-pub(crate) const NO_WAY: &[u8] = b"kmap: sentence offset {}: no key types {}\n";
+pub(crate) const NO_WAY: &[u8] = b"kmap: sentence offset {}: no keys found for {}\n";
 
 pub(crate) const WIDE_CELL: &[u8] = b"kmap: cell too wide at slot {} column {}\n";
 

@@ -4,18 +4,18 @@ ghost use Rattle.std.specs.Prelude.{◌≡◌, List, [], ℕ, reverse, All, Opti
 ghost use Rattle.keymap_core.specs.Maps.{MapValue};
 ghost use Rattle.keymap_cover.specs.Covering.{history};
 ghost use Rattle.keymap_cover.specs.declared.parts.Cover.{Cover as CoverValue};
-ghost use Rattle.console_core.specs.declared.outcome.Sticking.{Sticking as StickingValue};
-ghost use Rattle.console_core.specs.declared.typing.Typing.{Typing as TypingValue};
+ghost use Rattle.console_states.specs.declared.outcome.Sticking.{Sticking as StickingValue};
+ghost use Rattle.console_states.specs.declared.typing.Typing.{Typing as TypingValue};
 ghost use Rattle.console_core.specs.History.{HasKeys, Maps};
-ghost use Rattle.console_core.specs.Sticking.{IsAnswer, IsAnswerBetween};
-ghost use Rattle.console_core.specs.Typing.{AreTyped, characters_of};
+ghost use Rattle.console_states.specs.Sticking.{IsAnswer, IsAnswerBetween};
+ghost use Rattle.console_states.specs.Typing.{AreTyped, characters_of};
 ghost use Rattle.play_core.specs.Playing.{Plays};
 ghost use Rattle.play_core.specs.Runs.{moves};
 ghost use Rattle.play_core.specs.Scripts.{IsScript};
 ghost use Rattle.play_core.specs.declared.show.Show.{Show as ShowValue};
 ghost use Rattle.play_core.specs.declared.show.Show.TheVariants as show;
 ghost use Rattle.play_core.specs.Typing.{IsTyped};
-ghost use Rattle.kmap_runs.specs.Cover.{IsCoverText};
+ghost use Rattle.kmap_runs.specs.Cover.{CountedAreTold, IsCoverText, LeftOutCannotBeVisited};
 ghost use Rattle.kmap_runs.specs.Report.{report};
 ghost use Rattle.kmap_runs.specs.Replayed.{Delivers, ScriptTypes, AnswerReplays, AnswerReplaysBetween, ShowsScript};
 ghost use Rattle.kmap_runs.specs.Replayed.{PlaysCover, events_sent};
@@ -29,6 +29,7 @@ ghost use Rattle.keymap_lint_text.specs.Shown.{IsPlainText};
 ghost use Rattle.std.specs.Char.{IsScalar};
 
 use keymap_check::laws::safe_maps_keep_their_promise;
+use keymap_cover::laws::counts_are_of_verdicts;
 use keymap_draw::laws::{pictures_are_plain, pictures_are_well_formed, pictures_tell_keymaps};
 use keymap_fmt::laws::keymap_stays;
 use keymap_lint::laws::well_texts_never_stick;
@@ -76,6 +77,16 @@ pub fn typed_sentences_come_back()
 pub fn printed_demonstrations_leave_a_modifier_on()
     ensures { (m : MapValue) → ShowsScript m (report m true) }
 {}
+
+/// The numbers of cells, lock settings and pairs that are printed of a cover count what is told of, each pair once. What
+/// is counted as left out can be seen by presses, but not visited: no moves lead to a press that sees it from which,
+/// once all keys are let go, more of them lead home.
+pub fn counted_sights_are_told()
+    ensures told { CountedAreTold }
+    ensures left_out { LeftOutCannotBeVisited }
+{
+    counts_are_of_verdicts();
+}
 
 /// What is printed of a cover, its comments with counts and lists, the comment that begins each part and a line for
 /// each event, is a script of exactly these events.

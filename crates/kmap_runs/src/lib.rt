@@ -9,7 +9,7 @@
 //! the `RunError` that a run answers, and `write_command_error` that of the `CommandError` of those that lay out, type
 //! and test, which fail for reasons of their own too.
 //!
-//! It stands on all other libraries of the workspace but that for C, and on nothing that opens files or reads a
+//! Below the crate stand all other libraries of the workspace but that for C, and nothing that opens files or reads a
 //! command line. Each contract says with one definition, `Runs` of `play_core`, which inputs were read to which values
 //! (`specs/Inputs.antt`), and which text was given of them (`specs/Runs.antt`): it was written, or after a fault of the
 //! writer its first bytes, and nothing after any other refusal; a device is blamed only if it failed. Those of

@@ -5,7 +5,8 @@ ghost use Rattle.kmap_runs.specs.Search as spec;
 
 use crate::event_lines::{push_comment, push_events};
 use crate::words::{NEVER_STICKS, STICKS, UNDECIDED};
-use console_core::{Event, Sticking};
+use console_core::Event;
+use console_states::Sticking;
 use keymap_core::{Holding, Modifier};
 use messages::{number, parted};
 use std::alloc::{AllocError, Global};

@@ -9,7 +9,7 @@ ghost use Rattle.play_core.specs.Runs.{moves};
 use crate::fault_line::RunError;
 use crate::inputs::read_keymaps;
 use crate::search::found_text;
-use console_core::{Sticking, sticking, sticking_between};
+use console_states::{Sticking, sticking, sticking_between};
 use keymap_core::{KeyMap, Read, Write, write_text};
 use std::alloc::{AllocError, Global};
 

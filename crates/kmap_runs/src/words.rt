@@ -43,7 +43,7 @@ pub(crate) const LOCK_SETTINGS: &[u8] = b"lock settings";
 
 pub(crate) const ALL_PAIRS: &[u8] = b"pairs";
 
-// What that script doesn't see: of slots, and of an accent with characters.
+// What the script doesn't see: of slots, and of an accent with characters.
 pub(crate) const ONE_SLOT: &[u8] = b" {}: slot {}{}";
 
 pub(crate) const SLOTS: &[u8] = b" {}: slots {} to {}{}";
@@ -71,7 +71,7 @@ pub(crate) const BOTH_LOCKS: &[u8] = b" clock+nlock";
 
 pub(crate) const LISTED: &[u8] = b" {}";
 
-// Where its parts begin.
+// Where the parts of the script begin.
 pub(crate) const CELLS_PART: &[u8] = b" cells";
 
 pub(crate) const PAIRS_PART: &[u8] = b" pairs";

@@ -47,7 +47,7 @@ pub decimal_all : (p : ℕ → Bool) → ((d : ℕ) → d < 10 → p (digit_glyp
 unfolding digits
 decimal_all p each n = onto_all p each 64 n [] refl
 
--- the same, by computation
+-- the digits of each number pass where the ten digits do, by computation
 pub decimal_passes : (p : ℕ → Bool) → agree_below (λ d. p (digit_glyph false d)) (λ _. true) 10 ≡ true → (n : ℕ)
     → list_all p (decimal n) ≡ true
 decimal_passes p h n = decimal_all p (λ d low. agree_below_at (λ d. p (digit_glyph false d)) (λ _. true) 10 d h low) n

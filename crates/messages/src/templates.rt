@@ -105,7 +105,7 @@ pub fn line(words: &[u8], told: &[&[u8]]) -> Line
     line
 }
 
-/// One of two texts.
+/// The first or the second of two texts.
 pub fn either<'a>(is_first: bool, first: &'a [u8], second: &'a [u8]) -> &'a [u8]
     ensures { result.now ≡ (if is_first then first.now else second.now) }
 {

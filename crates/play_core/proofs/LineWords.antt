@@ -44,7 +44,7 @@ HasFront bs n =
     (rest : List (List ℕ)) × (slice_split separates_words bs ≡ take n bs ∷ rest)
     × (filter is_there rest ≡ words_in (drop n bs))
 
--- one more byte of the front of a line, by its class
+-- a further byte of the front of a line, by its class
 front_more : (t : Bool) (b : ℕ) (bs : List ℕ) → separates_words b ≡ t → HasFront bs (position_or_len separates_words bs)
     → HasFront (b ∷ bs) (position_or_len separates_words (b ∷ bs))
 unfolding words_in

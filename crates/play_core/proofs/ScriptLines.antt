@@ -167,7 +167,7 @@ no_part script n e =
 
 -- ---- lines that are read
 
--- there are parts, whether the first byte separates or not
+-- some part is there, whether the first byte separates or not
 parts_by : {X : Type 0} (t : Bool) (x : X) (parts : List (List X))
     → is_there (cond t ([] ∷ parts) (onto_first x parts)) ≡ true
 parts_by true x parts = refl
@@ -179,7 +179,7 @@ pub parts_there : {X : Type 0} (p : X → Bool) (xs : List X) → is_there (slic
 parts_there p [] = refl
 parts_there p (x ∷ xs) = parts_by (p x) x (slice_split p xs)
 
--- there is a line that is left
+-- a line is left
 read-within : {script rest : List ℕ} {number : ℕ} {sent : List Sent} → IsReadTo script number sent rest
     → number < length (parts_of script)
 unfolding parts_of
@@ -198,7 +198,7 @@ pub read-few : (script rest : List ℕ) (number : ℕ) (sent : List Sent) → Is
     → number ≤ length script
 read-few script rest number sent read = omega (arith, read-within read, few_lines script)
 
--- one more line was read
+-- a further line was read
 pub read-more : (script text rest : List ℕ) (number : ℕ) (sent : List Sent) (what : What)
     → IsReadTo script number sent text → BeginsWithEvent text what rest
     → IsReadTo script (number + 1) (sent ++ (record { lost = false; what = what }) ∷ []) rest

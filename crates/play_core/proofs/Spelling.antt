@@ -110,7 +110,7 @@ marked-script s lt =
 
 -- ---- lines
 
--- one line before a script
+-- a line before a script
 pub line-script : (line : Line) (rest : List ℕ) (sent : List Sent) → IsWritable line → IsScript rest sent
     → IsScript (line_text line ++ rest) (sent_by line ++ sent)
 line-script (sends s) rest sent lt h =

@@ -15,7 +15,7 @@ same_bits (true ∷ xs) (true ∷ ys) l e = ap (λ bits. true ∷ bits) (same_bi
 same_bits (false ∷ xs) (false ∷ ys) l e = ap (λ bits. false ∷ bits) (same_bits xs ys (omega arith) (omega arith))
 same_bits _ _ l e = absurd (omega arith)
 
--- the same modifiers and locks on have the same tail
+-- modifiers and locks of which the same are on have the same tail
 same_tail : (on still_on : Modifier → Bool) (locked still_locked : Lock → Bool)
     → map on modifiers ++ map locked locks ≡ map still_on modifiers ++ map still_locked locks
     → tail_of on locked ≡ tail_of still_on still_locked

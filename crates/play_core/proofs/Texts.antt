@@ -38,7 +38,7 @@ pub typed-nil : typed_text [] ≡ []
 unfolding typed_text
 typed-nil = refl
 
--- one answer types its own text
+-- a single answer types its own text
 pub typed-one : (a : Answer) → typed_text (a ∷ []) ≡ typed_by a
 unfolding typed_text
 typed-one a = append-nil (typed_by a)
@@ -57,14 +57,14 @@ unfolding text_after lines_after
 text-nil show.Lines ms h = refl
 text-nil show.Typed ms h = typed-nil
 
--- one event has its own output
+-- a single event has its own output
 pub text-one : (shown : Show) (ms : Maps) (h : List Event) (e : Event)
     → text_after shown ms h (e ∷ []) ≡ event_output shown ms h e
 unfolding text_after lines_after
 text-one show.Lines ms h e = append-nil (line_after ms h e)
 text-one show.Typed ms h e = typed-one (answer_to ms h e)
 
--- the events of one more
+-- the events of a further line that is sent
 pub delivered-more : (sent : List Sent) (i : ℕ) (one : Sent) → i < length sent → one ≡ get_or sent i one
     → delivered (take (i + 1) sent) ≡ delivered (take i sent) ++ delivered (one ∷ [])
 delivered-more sent i one h e =

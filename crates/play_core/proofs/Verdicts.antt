@@ -133,7 +133,7 @@ front-events : (words : List (List ℕ)) (o : Option Sent) (lines : List (List (
 front-events words None lines sent none h = rw none h
 front-events words (Some s) lines sent is h = rw (event_there words s is.0) (is, h)
 
--- such a line before others
+-- a line without a word, or an event, before others
 front-judged : (words : List (List ℕ)) (o : Option Sent) (lines : List (List (List ℕ))) → IsReading words (Ok o)
     → Judged lines → Judged (words ∷ lines)
 front-judged words o lines is (inl (sent, h)) = inl (in_front o sent, front-events words o lines sent is h)
@@ -160,7 +160,7 @@ here words lines first = inr (record {
   first = first;
 })
 
--- one more line, by its reading
+-- a further line, by its reading
 judged_by : (words : List (List ℕ)) (lines : List (List (List ℕ))) (r : Result (Option Sent) LineFault)
     → IsReading words r → Judged lines → Judged (words ∷ lines)
 judged_by words lines (Ok o) h rest = front-judged words o lines h rest

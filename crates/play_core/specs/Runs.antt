@@ -26,7 +26,7 @@ Stays m = Keeps m.old m.new
 
 -- ---- what is read
 
--- One byte more than the limit was taken.
+-- A byte more than the limit was taken.
 pub record GoesPast (m : Moves) (f : ReadFault) : Type 0 where
   pub bytes : List ℕ
   pub taken : Consumes m.old m.new bytes
@@ -58,7 +58,7 @@ abbrev pub ReadsAs : {A F E : Type 0} → (F → E) → (Result A F → Type 0) 
 ReadsAs told_as Reads (Ok a) = Reads (Ok a)
 ReadsAs {F = F} told_as Reads (Err e) = (f : F) × (e ≡ told_as f) × Reads (Err f)
 
--- One input and then another, which stays as it is where the first one is refused.
+-- A first input and then a second, which stays as it is where the first one is refused.
 abbrev pub ReadsBoth : {A B E : Type 0} → (Result A E → Type 0) → (Result B E → Type 0) → Type 0 → Result (A × B) E
     → Type 0
 ReadsBoth First Second stays (Ok v) = First (Ok v.0) × Second (Ok v.1)

@@ -47,7 +47,7 @@ Tells words (Up k) = (number : List ℕ) × (words ≡ codes "up" ∷ number ∷
 Tells words Reset = words ≡ codes "reset" ∷ []
 Tells words Load = words ≡ codes "load" ∷ []
 
--- the same after `lost`, where what is sent is lost
+-- the word `lost` before the words of what is sent, where that is lost
 abbrev pub mark_of : Bool → List (List ℕ)
 mark_of true = codes "lost" ∷ []
 mark_of false = []

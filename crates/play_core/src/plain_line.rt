@@ -38,21 +38,21 @@ pub fn plain_line(text: &[u8]) -> Option<(What, &[u8])>
     }
 }
 
-/// Whether these are the letters of `down`. Four letters are compared at once, as a number, the first the least.
+/// Whether the letters are those of `down`. Four letters are compared at once, as a number, the first the least.
 fn is_down(letters: [u8; 4]) -> bool
     ensures { IsTrue result → letters ≡ codes "down" }
 {
     u32::from_le_bytes(letters) == 0x6e77_6f64
 }
 
-/// Whether these are the letters of `up`, a blank and 0.
+/// Whether the letters are those of `up`, a blank and 0.
 fn is_up(letters: [u8; 4]) -> bool
     ensures { IsTrue result → letters ≡ codes "up " ++ 0 ∷ [] }
 {
     u32::from_le_bytes(letters) == 0x0020_7075
 }
 
-/// Whether these are the first letters of `repeat`.
+/// Whether the letters are the first ones of `repeat`.
 fn is_repe(letters: [u8; 4]) -> bool
     ensures { IsTrue result → letters ≡ codes "repe" }
 {

@@ -1,4 +1,4 @@
-//! One line of a script.
+//! A line of a script.
 ghost use Rattle.std.specs.Prelude.{◌≡◌};
 ghost use Rattle.play_core.specs.Scripts.{words_of, words_in};
 ghost use Rattle.play_core.specs.Inner.Readings.{reading, sent_by, what_of, what_alone, what_with_key, key_in};
@@ -11,7 +11,7 @@ use keymap_core::KeyCode;
 #[derive(Clone, Copy)]
 pub enum LineFault {
     Form,
-    /// It has the form of an event, with a number above 127.
+    /// The line has the form of an event, with a number above 127.
     Key,
 }
 

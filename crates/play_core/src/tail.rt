@@ -61,7 +61,7 @@ impl Tail {
         self.number
     }
 
-    /// Adds its text.
+    /// Adds the text of the tail.
     #[inline(always)]
     fn push(&self, text: &mut Piece)
         requires { length text.old.items + 96 ≤ 4096 }

@@ -10,8 +10,9 @@ pub enum TypeError {
     /// The sentence isn't UTF-8: the offset of its first byte that belongs to no character.
     #[error("not UTF-8 at offset {offset}")]
     NotText { offset: u64 },
-    /// No keys type the character, the first such in the sentence, at the offset of its first byte.
-    #[error("no key types the character at offset {offset}")]
+    /// Moves lead to no keys that type the character, from which more of them lead home: the first such character of
+    /// the sentence, and the offset of its first byte.
+    #[error("no keys were found for the character at offset {offset}")]
     NoWay { offset: u64, c: char },
     /// The keymap has more states than a search goes over, and no keys were found among these that type a character.
     #[error("more states than a search goes over")]

@@ -1,6 +1,6 @@
 //! Readers and writers for tests: they fail in mid-stream, give or take so many bytes at a time, and count their calls.
 //!
-//! They stand on the devices of keymap_core, whose laws they keep; they tell no reader which bytes are left and no
+//! The devices stand on those of keymap_core, whose laws they keep; they tell no reader which bytes are left and no
 //! writer's caller which were taken, so a test looks at their fields.
 ghost use Rattle.std.specs.Prelude.{[], None, false, length, true, ◌-◌, ◌^◌, ◌≡◌};
 
@@ -11,11 +11,11 @@ use keymap_core::{Failed, Read, Write};
 #[derive(Drop)]
 pub struct Tape<'a> {
     pub text: &'a [u8],
-    /// What it gives behind the text.
+    /// What the tape gives behind the text.
     pub rest: u8,
-    /// How many bytes there are.
+    /// How many bytes the tape has.
     pub size: usize,
-    /// How many bytes it gives at a time.
+    /// How many bytes the tape gives at a time.
     pub pace: usize,
     /// How many bytes it gives before it fails: in place of the end where these are all.
     pub most: usize,

@@ -19,7 +19,7 @@ pub(crate) fn expect_equal_at<R: Debug, T: PartialEq + Debug>(
     assert_eq!(rt; left, right, "{row:?}");
 }
 
-/// It holds; else the test fails and names the row of a table.
+/// The condition holds; else the test fails and names the row of a table.
 pub(crate) fn expect_at<R: Debug>(rt: &impl Abort, row: &R, holds: bool) {
     assert!(rt; holds, "{row:?}");
 }

@@ -2,7 +2,8 @@
 
 use crate::asserts::{expect_at, expect_equal_at};
 use crate::console::expect_shown;
-use console_core::{Event, PlainConsole, Sticking, replay, sticking, sticking_between};
+use console_core::{Event, PlainConsole, replay};
+use console_states::{Sticking, sticking, sticking_between};
 use keymap_core::{KeyMap, Lock, Modifier};
 use keymap_text::read_map;
 use std::alloc::Global;

@@ -73,7 +73,7 @@ static WRITES: [(Format, &[u8]); 3] = [
     (NARROW, LETTER_AND_SHIFT),
 ];
 
-/// It has just the first bytes then.
+/// A writer that fails has just the first bytes.
 #[test]
 fn a_writer_that_fails_after_each_number_of_bytes_is_a_fault(rt: HostRuntime) -> Result<(), Fail> {
     for &(format, text) in &WRITES {

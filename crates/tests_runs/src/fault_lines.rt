@@ -87,7 +87,7 @@ static TABLE_KINDS: [(TableFaultKind, &[u8]); 9] = [
     ),
 ];
 
-/// Other faults of runs, and their lines.
+/// Further faults of runs, and their lines.
 static LINES: [(RunError, &[u8]); 15] = [
     (
         RunError::Next(TextFault {
@@ -174,21 +174,21 @@ static COMMAND_LINES: [(CommandError, &[u8]); 8] = [
     ),
     (
         CommandError::NoWay { offset: 0, c: '\n' },
-        b"kmap: sentence offset 0: no key types U+000a\n",
+        b"kmap: sentence offset 0: no keys found for U+000a\n",
     ),
     (
         CommandError::NoWay {
             offset: u64::MAX,
             c: '\u{1f600}',
         },
-        b"kmap: sentence offset 18446744073709551615: no key types U+1f600\n",
+        b"kmap: sentence offset 18446744073709551615: no keys found for U+1f600\n",
     ),
     (
         CommandError::NoWay {
             offset: 1,
             c: '\u{10ffff}',
         },
-        b"kmap: sentence offset 1: no key types U+10ffff\n",
+        b"kmap: sentence offset 1: no keys found for U+10ffff\n",
     ),
     (
         CommandError::TooLong,

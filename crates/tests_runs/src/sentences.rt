@@ -1,7 +1,8 @@
 //! The events that type a sentence, and what keeps one from being typed.
 
 use crate::asserts::expect_equal_at;
-use console_core::{Event, Keyed};
+use console_core::Event;
+use console_states::Keyed;
 use keymap_text::read_map;
 use play_core::{TypeError, read_script, type_sentence};
 use std::alloc::Global;

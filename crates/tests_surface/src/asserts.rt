@@ -9,7 +9,7 @@ pub(crate) fn expect_equal<T: PartialEq + Debug>(rt: &impl Abort, left: &T, righ
     assert_eq!(rt; left, right);
 }
 
-/// It holds; else the test fails and names what was looked at.
+/// The condition holds; else the test fails and names what was looked at.
 pub(crate) fn expect(rt: &impl Abort, what: &str, holds: bool) {
     assert!(rt; holds, "{what}");
 }

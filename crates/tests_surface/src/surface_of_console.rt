@@ -166,7 +166,7 @@ fn word_console_between(rt: HostRuntime) {
     expect_equal(&rt, &loaded(&rt, &mut console), &(true, SMALL_A));
 }
 
-/// Three presses of a dead key: it is pending, gives its own character, and is pending again.
+/// Presses a dead key three times: it is pending, gives its own character, and is pending again.
 fn expect_acute<R: Abort + AllocGlobal, T: Translator>(rt: &R, console: &mut T) {
     let acute: Answer = Answer::Char {
         c: '\u{b4}',

@@ -9,7 +9,7 @@ pub record SurveyValue : Type 0 where
   pub places : ℕ
   pub bits : List ℕ
 
--- it is one of this map
+-- the survey is one of this map
 pub record IsSurvey (m : MapValue) (s : SurveyValue) : Type 0 where
   pub places : s.places ≡ place_count m
   pub bits : HasBits m s.bits

@@ -4,8 +4,8 @@ use Rattle.std.specs.Prelude.{ℕ, ◌==◌, List, [], ◌∷◌, map, length, O
 use Rattle.std.specs.List.{flat_map, range_with_len}
 use Rattle.keymap_core.specs.Accents.{AccentValue}
 use Rattle.keymap_core.specs.Maps.{MapValue, accent_at}
-use Rattle.console_core.specs.declared.selection.Sight.{Sight}
-use Rattle.console_core.specs.declared.selection.Sight.TheVariants as sight
+use Rattle.console_states.specs.declared.selection.Sight.{Sight}
+use Rattle.console_states.specs.declared.selection.Sight.TheVariants as sight
 
 abbrev pub base_pair : ℕ → ℕ × ℕ → Sight
 base_pair i p = sight.Pair i p.0
@@ -17,6 +17,6 @@ pairs_of i (Some a) = if a.own == 0 then [] else sight.Pair i 32 ∷ map (base_p
 abbrev pub pairs_at : MapValue → ℕ → List Sight
 pairs_at m i = pairs_of i (accent_at m i)
 
--- those of the accents up to the last defined one
+-- the pairs of the accents up to the last defined one
 abbrev pub pairs_in : MapValue → List Sight
 pairs_in m = flat_map (pairs_at m) (range_with_len 0 (length m.accents))

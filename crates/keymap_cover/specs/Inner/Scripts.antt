@@ -8,20 +8,20 @@ use Rattle.keymap_core.specs.Numbers.{key_count}
 use Rattle.console_core.specs.declared.event.Event.{Event}
 use Rattle.console_core.specs.declared.event.Event.TheVariants.{Release}
 use Rattle.keymap_core.specs.declared.action.Lock.{Lock}
-use Rattle.console_core.specs.declared.selection.Sight.{Sight}
+use Rattle.console_states.specs.declared.selection.Sight.{Sight}
 use Rattle.keymap_core.specs.declared.entry.Cell.TheVariants.{Char}
-use Rattle.console_core.specs.declared.selection.Selection.{Selection}
-use Rattle.console_core.specs.declared.selection.Sight.TheVariants as sight
+use Rattle.console_states.specs.declared.selection.Selection.{Selection}
+use Rattle.console_states.specs.declared.selection.Sight.TheVariants as sight
 use Rattle.console_core.specs.History.{Maps, between, is_locked_after, pressed, HasKeys, IsNoLoad}
-use Rattle.console_core.specs.Visiting.{AreTaken, CanVisit, HasLocks, ExplorerValue}
-use Rattle.console_core.specs.Sights.{look_selected, SeesNext, SeesAlong}
-use Rattle.console_core.specs.Sticking.{IsOfPressedKey}
+use Rattle.console_states.specs.Visiting.{AreTaken, CanVisit, HasLocks, ExplorerValue}
+use Rattle.console_states.specs.Sights.{look_selected, SeesNext, SeesAlong}
+use Rattle.console_states.specs.Sticking.{IsOfPressedKey}
 use Rattle.keymap_cover.specs.declared.script_event.ScriptEvent.{ScriptEvent}
 use Rattle.keymap_cover.specs.declared.script.Script.{Script}
 use Rattle.keymap_cover.specs.ScriptEvents.{events_of, is_down, ArePossible}
 use Rattle.keymap_cover.specs.SeenSights.{has_seen}
 use Rattle.keymap_cover.specs.declared.parts.Start.{Start}
-use Rattle.keymap_cover.specs.Covering.{IsAtRest, SeesKeysBy, SeesToldBy}
+use Rattle.keymap_cover.specs.Covering.{IsAtRest, IsScrollOff, SeesKeysBy, SeesToldBy}
 use Rattle.keymap_cover.specs.Inner.Adding.{StandBehind}
 
 -- x is there, and what was there before, and nothing else
@@ -46,7 +46,7 @@ AddsSights m h k old now =
     (x : Sight) → (old x ≡ true → now x ≡ true) × (SeesNext m h k x → now x ≡ true)
     × (now x ≡ true → (old x ≡ true) ⊎ SeesNext m h k x)
 
--- these events of a script made this history, after which these keys are pressed, and this was seen
+-- the events of a script made this history, after which these keys are pressed, and this was seen
 pub record IsScript (m : MapValue) (h : List Event) (events : List ScriptEvent) (down : List Bool) (saw : Sight → Bool)
     : Type 0 where
   pub history : events_of (reverse events) ≡ h
@@ -75,7 +75,7 @@ ComesAfter h g = (later : List Event) × (g ≡ later ++ h)
 abbrev pub GoesBy : MapValue → Event → Standing → Script → Standing → Script → Type 0
 GoesBy m e stood before stands t = (h : List Event) → RunsAlong m stood h before → RunsAlong m stands (e ∷ h) t
 
--- It runs along by one event more, or not at all where that is a release of a key that isn't pressed, or a load.
+-- The console runs along by an event, or not at all where that is a release of a key that isn't pressed, or a load.
 abbrev pub GoesIfTaken : MapValue → Event → Standing → Script → Standing → Script → Type 0
 GoesIfTaken m e stood before stands t =
     (h : List Event) → RunsAlong m stood h before
@@ -86,41 +86,35 @@ abbrev pub TurnsNone : MapValue → List Event → List Event → Type 0
 TurnsNone m h g =
     ComesAfter h g × ((l : Lock) → is_locked_after (between m m) l g ≡ is_locked_after (between m m) l h)
 
--- it runs along by the release of the key, or not at all where that isn't pressed
+-- the console runs along by the release of the key, or not at all where that isn't pressed
 abbrev pub GoesUp : MapValue → ℕ → Standing → Script → Standing → Script → Type 0
 GoesUp m k stood before stands t =
     (h : List Event) → RunsAlong m stood h before
     → (g : List Event) × RunsAlong m stands g t × TurnsNone m h g × (pressed k h ≡ true → g ≡ Release k ∷ h)
 
--- it runs along by some events more, that turn no lock
+-- the console runs along by some events more, that turn no lock
 abbrev pub GoesOn : MapValue → Standing → Script → Standing → Script → Type 0
 GoesOn m stood before stands t =
     (h : List Event) → RunsAlong m stood h before → (g : List Event) × RunsAlong m stands g t × TurnsNone m h g
 
--- and comes to rest
+-- the console runs along by some events more, that turn no lock, and comes to rest
 abbrev pub GoesToRest : MapValue → Standing → Script → Standing → Script → Type 0
 GoesToRest m stood before stands t =
     (h : List Event) → RunsAlong m stood h before
     → (g : List Event) × RunsAlong m stands g t × TurnsNone m h g × IsAtRest m g
 
--- it runs along by some events more, which are exactly these if they are taken
+-- the console runs along by some events more, which are exactly these if they are taken
 abbrev pub GoesAlong : MapValue → List Event → Standing → Script → Standing → Script → Type 0
 GoesAlong m later stood before stands t =
     (h : List Event) → RunsAlong m stood h before
     → (g : List Event) × RunsAlong m stands g t × ComesAfter h g × (AreTaken h later → g ≡ later ++ h)
 
--- the same, and it comes to rest by some events more, that turn no lock
+-- the console runs along by these events, as above, and comes to rest by some more, that turn no lock
 abbrev pub GoesAlongToRest : MapValue → List Event → Standing → Script → Standing → Script → Type 0
 GoesAlongToRest m later stood before stands t =
     (h : List Event) → RunsAlong m stood h before
     → (g : List Event) × RunsAlong m stands g t × IsAtRest m g × ComesAfter h g
     × (AreTaken h later → TurnsNone m (later ++ h) g)
-
--- the console runs along by some events more, and comes to rest
-abbrev pub GoesFurther : MapValue → Standing → Script → Standing → Script → Type 0
-GoesFurther m stood before stands t =
-    (h : List Event) → RunsAlong m stood h before
-    → (g : List Event) × RunsAlong m stands g t × IsAtRest m g × ComesAfter h g
 
 abbrev pub AreUp : List Bool → Type 0
 AreUp down = (k : ℕ) → k < key_count → slice_index_or down k false ≡ false
@@ -129,10 +123,21 @@ AreUp down = (k : ℕ) → k < key_count → slice_index_or down k false ≡ fal
 abbrev pub IsResting : MapValue → Standing → Script → List Event → Type 0
 IsResting m stands t h = RunsAlong m stands h t × AreUp t.pressed × IsAtRest m h
 
--- it goes on so by some events more
+-- the console runs along by some events more, until it is at rest
+abbrev pub GoesFurther : MapValue → Standing → Script → Standing → Script → Type 0
+GoesFurther m stood before stands t =
+    (h : List Event) → RunsAlong m stood h before → (g : List Event) × IsResting m stands t g × ComesAfter h g
+
+-- the console goes on at rest by some events more
 abbrev pub GoesResting : MapValue → Standing → Script → Standing → Script → Type 0
 GoesResting m stood before stands t =
     (h : List Event) → IsResting m stood before h → (g : List Event) × IsResting m stands t g × ComesAfter h g
+
+-- and the scroll lock is off, or presses can't turn it off
+abbrev pub GoesScrollOff : MapValue → Standing → Script → Standing → Script → Type 0
+GoesScrollOff m stood before stands t =
+    (h : List Event) → IsResting m stood before h
+    → (g : List Event) × IsResting m stands t g × ComesAfter h g × IsScrollOff m g
 
 -- The console runs along a script that is at rest with no key down, and the explorer's locks are on.
 pub record IsUnderWay (m : MapValue) (stands : Standing) (p : ExplorerValue) (t : Script) (h : List Event)
@@ -143,16 +148,16 @@ pub record IsUnderWay (m : MapValue) (stands : Standing) (p : ExplorerValue) (t 
   pub map : p.map ≡ m
   pub locks : HasLocks m p.locks h
 
--- it goes on so by some events more, and then this holds
+-- the console goes on under way by some events more, and then this holds
 abbrev pub GoesUnderWay : MapValue → Standing → ExplorerValue → Script → Standing → ExplorerValue → Script → Type 0
     → Type 0
 GoesUnderWay m stood p before stands q t P =
     (h : List Event) → IsUnderWay m stood p before h
     → (g : List Event) × IsUnderWay m stands q t g × ComesAfter h g × P
 
--- a script of which no key is down at the end, and which is at rest
+-- a script of which no key is down at the end, which is at rest, and which leaves the scroll lock off if presses can
 abbrev pub EndsAtRest : MapValue → Script → Type 0
-EndsAtRest m t = AreUp t.pressed × ((h : List Event) × IsScriptOf m h t × IsAtRest m h)
+EndsAtRest m t = AreUp t.pressed × ((h : List Event) × IsScriptOf m h t × IsAtRest m h × IsScrollOff m h)
 
 -- what of these can be visited was seen
 abbrev pub SeesAll : MapValue → List Sight → Script → Type 0
@@ -164,7 +169,7 @@ ShowsTold m n t =
     (n ≤ length t.events.items) × SeesKeysBy m t.events.items n
     × SeesToldBy m t.events.items (length t.events.items)
 
--- And so it did before the parts begin that stand behind those of cells and of pairs.
+-- A script shows as much before the parts begin that stand behind those of cells and of pairs.
 abbrev pub ShowsInParts : MapValue → List ScriptEvent → List Start → Type 0
 ShowsInParts m events starts =
     (first second : ℕ) × SeesKeysBy m events first × SeesToldBy m events second × (second ≤ length events)

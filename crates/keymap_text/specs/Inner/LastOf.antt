@@ -5,7 +5,7 @@ use Rattle.keymap_text.specs.Types.{Placed, Slot, Accent}
 use Rattle.keymap_text.specs.declared.last.LastDefinitions.{LastDefinitions}
 use Rattle.keymap_text.specs.Placed.{last_of}
 
--- these are the last ones of the definitions
+-- the tables have the last definition of each slot and each accent
 pub record HasLast (last : LastDefinitions) (ds : List Placed) : Type 0 where
   pub slots_length : length last.slots ≡ slot_limit
   pub accents_length : length last.accents ≡ accent_limit

@@ -42,7 +42,7 @@ pub record Moves (old new : Reading) (w y : List ℕ) : Type 0 where
   pub fed : new.offset + length new.pending.items ≡ old.offset + length old.pending.items + length w
   pub line : (b : List ℕ) → Lined old b → Lined new (b ++ w)
 
--- These bytes have a fault that stands whatever follows them.
+-- The bytes have a fault that stands whatever follows them.
 pub record Breaks (old : Reading) (bytes : List ℕ) (e : TextFault) : Type 0 where
   pub takes : (x : List ℕ) → resume old (bytes ++ x) ≡ Faulty e.kind e.offset true
   pub line : (b : List ℕ) → Lined old b → e.line ≡ line (b ++ bytes) e.offset

@@ -20,7 +20,7 @@ pub record Advances (old new : GrammarState) (rest : List ℕ) (n : ℕ) : Type 
       → judge old (tokens_after 0 q (rest ++ x)) ≡ judge new (tokens_after 0 (q + n) (drop n rest ++ x))
   pub inside : n ≤ length rest
 
--- These bytes have a fault behind the first n of them, whatever follows.
+-- The bytes have a fault behind the first n of them, whatever follows.
 pub record Refuses (old : GrammarState) (rest : List ℕ) (f : TextFaultKind) (n : ℕ) : Type 0 where
   pub takes : (q : ℕ) (x : List ℕ) → judge old (tokens_after 0 q (rest ++ x)) ≡ Faulty f (q + n) true
   pub inside : n ≤ length rest
@@ -41,7 +41,7 @@ abbrev pub Fits : Result ℕ Stop → List ℕ → Type 0
 Fits (Ok n) rest = n ≤ length rest
 Fits (Err e) rest = e.at ≤ length rest
 
--- and the text stands at a place
+-- no more bytes were taken than there are, and the text stands at a place
 abbrev pub Leaves : Result ℕ Stop → Grammar → List ℕ → Type 0
 Leaves (Ok n) g rest = (n ≤ length rest) × IsPlace g.place g.accent
 Leaves (Err e) g rest = e.at ≤ length rest
@@ -93,7 +93,7 @@ pub record FrontsBehind (rest : List ℕ) (i : Item) (n : ℕ) : Type 0 where
   pub fronts : Fronts (take (length rest - blanks) (drop blanks rest)) i size
   pub sum : n ≡ blanks + size
 
--- So is one that stands for the character c.
+-- A whole token, which stands for the character c, is in front behind blanks, of n bytes together, whatever follows.
 pub record FrontsCharacter (rest : List ℕ) (c : ℕ) (n : ℕ) : Type 0 where
   pub item : Item
   pub behind : FrontsBehind rest item n
@@ -109,7 +109,7 @@ TookCell (Ok n) old new i rest = record {
 }
 TookCell (Err e) old new i rest = (m : MapValue) (slot : ℕ) → Refuses (at m (CellAt slot i old.entry)) rest e.kind e.at
 
--- These bytes show no whole token: there are none, or they end in the comment, the word or the quoted character that
+-- The bytes show no whole token: there are none, or they end in the comment, the word or the quoted character that
 -- they begin with.
 abbrev pub IsOpen : List ℕ → Type 0
 IsOpen [] = Unit {0}

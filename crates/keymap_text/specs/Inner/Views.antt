@@ -62,7 +62,7 @@ abbrev pub Steps : Result (Unit {0}) TextFaultKind → Result spec.GrammarState 
 Steps (Ok u) r s = r ≡ Ok s
 Steps (Err f) r s = r ≡ Err f
 
--- What it did to something that takes definitions: it left d, which shows the map of the step of the definitions, and
+-- What the step did to something that takes definitions: it left d, which shows the map of the definitions' step, and
 -- the text stands at p.
 abbrev pub StepsInto : {D : Type 0} → (D → MapValue → Type 0) → D → Result (Unit {0}) TextFaultKind
     → Result spec.GrammarState TextFaultKind → spec.GrammarPlace → Type 0

@@ -54,7 +54,7 @@ reading [] = Ok None
 reading (word ∷ rest) =
     if bytes_eq word (codes "lost") then reading_of_lost rest else sent_by false (what_of word rest)
 
--- So many lines of the script were read, which are these events, and the rest is what follows them.
+-- The first lines of the script, as many as the number, were read as these events, and the rest is what follows them.
 pub record IsReadTo (script : List ℕ) (number : ℕ) (sent : List Sent) (rest : List ℕ) : Type 0 where
   pub events : AreEvents (take number (lines_of script)) sent
   pub parts : drop number (parts_of script) ≡ parts_of rest

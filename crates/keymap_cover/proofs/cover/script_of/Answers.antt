@@ -15,7 +15,7 @@ starts_of-requires-clause-first g c =
     (g.T.Translator.stands c.try_keys.new.console) d (g.T.Translator.stands c.go_onward.new.console) e
     c.in_ok-first.first
     (under-way-new m A c.args.explorer.now a c.requires.explorer (c.requires.new, c.in_ok-script.ensures m))
-    c.in_ok-first.ensures c.in_ok-try_keys.ensures.along c.in_ok-try_keys.ensures.up c.in_ok-go_onward.ensures in
+    c.in_ok-first.ensures c.in_ok-try_keys.ensures c.in_ok-go_onward.ensures in
     subst (λ n. c.in_ok-first.first ≤ n) (sym (c.len-second.ensures ∙ b.events.ok.0)) whole.3
 
 pub starts_of-requires-clause-second : goal.starts_of-requires-clause-second
@@ -31,7 +31,7 @@ starts_of-requires-clause-second g c =
     (g.T.Translator.stands c.try_keys.new.console) d (g.T.Translator.stands c.go_onward.new.console) e
     c.in_ok-first.first
     (under-way-new m A c.args.explorer.now a c.requires.explorer (c.requires.new, c.in_ok-script.ensures m))
-    c.in_ok-first.ensures c.in_ok-try_keys.ensures.along c.in_ok-try_keys.ensures.up c.in_ok-go_onward.ensures in
+    c.in_ok-first.ensures c.in_ok-try_keys.ensures c.in_ok-go_onward.ensures in
     subst (λ n. n ≤ c.len-third.result) (sym (c.len-second.ensures ∙ b.events.ok.0))
     (subst (λ n. length b.events.items ≤ n) (sym (c.len-third.ensures ∙ d.events.ok.0)) whole.4)
 
@@ -48,7 +48,7 @@ starts_of-requires-clause-third g c =
     (g.T.Translator.stands c.try_keys.new.console) d (g.T.Translator.stands c.go_onward.new.console) e
     c.in_ok-first.first
     (under-way-new m A c.args.explorer.now a c.requires.explorer (c.requires.new, c.in_ok-script.ensures m))
-    c.in_ok-first.ensures c.in_ok-try_keys.ensures.along c.in_ok-try_keys.ensures.up c.in_ok-go_onward.ensures in
+    c.in_ok-first.ensures c.in_ok-try_keys.ensures c.in_ok-go_onward.ensures in
     subst (λ n. n ≤ c.len.result) (sym (c.len-third.ensures ∙ d.events.ok.0))
     (subst (λ n. length d.events.items ≤ n) (sym (c.len.ensures ∙ e.events.ok.0)) whole.5)
 
@@ -65,7 +65,7 @@ returns g c =
     (g.T.Translator.stands c.try_keys.new.console) d (g.T.Translator.stands c.go_onward.new.console) e
     c.in_ok-first.first
     (under-way-new m A c.args.explorer.now a c.requires.explorer (c.requires.new, c.in_ok-script.ensures m))
-    c.in_ok-first.ensures c.in_ok-try_keys.ensures.along c.in_ok-try_keys.ensures.up c.in_ok-go_onward.ensures in
+    c.in_ok-first.ensures c.in_ok-try_keys.ensures c.in_ok-go_onward.ensures in
     let second : c.len-second.result ≡ length b.events.items = c.len-second.ensures ∙ b.events.ok.0 in (
       whole.0,
       (

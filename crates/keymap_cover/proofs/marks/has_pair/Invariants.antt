@@ -1,4 +1,4 @@
--- none below the place is it
+-- no pair below the place is the one that is looked for
 use Rattle.keymap_cover.proofs.Common.{◌≡◌, ◌<◌, ℕ, get_or}
 use Rattle.keymap_cover.proofs.marks.has_pair.Given as goal
 

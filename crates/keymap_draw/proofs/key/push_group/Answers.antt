@@ -31,7 +31,7 @@ both class finding feed title shape x y A said printed e f g =
 both class finding feed title shape x y _ said printed e f g =
     (record { all = λ fs. rw (e, f, g) refl }, record { all = λ fs. rw (e, f, g) refl })
 
--- what they tell
+-- what words tell, by what they are read as
 told : {w : List ℕ} {ts : List Told} {new : List Fact} → Reads w ts new → facts_over in_svg w ts ≡ new
 told {new = new} h =
     ap (λ s. reverse (facts_of s)) (h.all []) ∙ ap reverse (append-nil (reverse new)) ∙ reverse-reverse new

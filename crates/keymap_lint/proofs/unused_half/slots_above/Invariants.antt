@@ -2,7 +2,7 @@ use Rattle.keymap_lint.proofs.Common.{◌≡◌, ◌≤◌, array_vec_len, gathe
 use Rattle.keymap_lint.specs.Kinds.{slot_above}
 use Rattle.keymap_lint.proofs.unused_half.slots_above.Given as goal
 
--- those of the keys so far
+-- the slots from 128 on of the keys so far
 abbrev pub invariant-loop-key : goal.invariant-loop-key
 invariant-loop-key l = record {
   found : l.slots.items ≡ gathered (slot_above l.text) l.key;

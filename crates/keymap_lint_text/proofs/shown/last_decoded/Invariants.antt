@@ -2,7 +2,7 @@ use Rattle.keymap_lint_text.proofs.Common.{◌≡◌, ◌-◌, ◌≤◌, ◌++�
 use Rattle.std.proofs.Common.{reverse}
 use Rattle.keymap_lint_text.proofs.shown.last_decoded.Given as goal
 
--- those of the bytes that are left, and behind them the characters so far, the last one first
+-- the characters of the bytes that are left, and behind them those so far, the last one first
 abbrev pub invariant-loop-rest : goal.invariant-loop-rest
 invariant-loop-rest l = record {
   few : length l.characters.items ≤ l.limit;

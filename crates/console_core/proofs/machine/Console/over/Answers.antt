@@ -1,4 +1,5 @@
-use Rattle.console_core.proofs.Common.{All-nil, HasKey}
+use Rattle.console_core.proofs.Common.{HasKey}
+use Rattle.std.proofs.lemmas.List.Elements.{All-nil}
 use Rattle.console_core.proofs.Agreeing.{stands-start}
 use Rattle.console_core.proofs.machine.Console.over.Goals as goal
 

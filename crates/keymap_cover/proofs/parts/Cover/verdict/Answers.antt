@@ -1,13 +1,17 @@
-use Rattle.keymap_cover.proofs.Common.{refl, sym, ◌∙◌, true≢false, rules}
+use Rattle.keymap_cover.proofs.Common.{subst, sym, ◌∙◌, ap, if◌then◌else◌}
+use Rattle.console_states.specs.Sights.{can_see}
+use Rattle.keymap_cover.specs.declared.parts.Verdict.TheVariants.{Seen, LeftOut, Never}
+use Rattle.keymap_cover.specs.Covering.{IsVerdict}
+use Rattle.keymap_cover.proofs.Verdicts.{counts_are_of_verdicts}
 use Rattle.keymap_cover.proofs.parts.Cover.verdict.Goals as goal
 
-pub returns-then-may_see-clause-told : goal.returns-then-may_see-clause-told
-returns-then-may_see-clause-told c = search (rules)
-
-pub returns-else-may_see-clause-told : goal.returns-else-may_see-clause-told
-returns-else-may_see-clause-told c =
-    λ covers. (
-      (λ along. true≢false (sym (covers.all_seen c.args.sight along) ∙ sym c.has.ensures ∙ c.if-has.false)),
-      c.if-may_see.ensures.unreachable covers.sights refl,
-      c.if-may_see.ensures.never covers.sights refl,
-    )
+pub returns-else-can_see-clause-told : goal.returns-else-can_see-clause-told
+returns-else-can_see-clause-told c =
+    λ covers.
+    let m = c.args.map.now in
+    let x = c.args.sight in
+    subst (λ v. IsVerdict m c.args.self.now x v)
+    (ap (λ t. if t then Seen else (if can_see m c.args.self.now.sights x then LeftOut else Never))
+    (sym c.has.ensures ∙ c.if-has.false)
+    ∙ ap (λ t. if t then LeftOut else Never) (sym c.can_see.ensures.value ∙ c.if-can_see.false))
+    (counts_are_of_verdicts m c.args.self.now covers x)

@@ -1,7 +1,0 @@
--- the releases of the holders of the modifiers below the place were added
-use Rattle.console_core.proofs.Common.{◌≡◌, ◌++◌, take, modifiers, releases, state_of}
-use Rattle.console_core.proofs.held.Held.push_releases.Given as goal
-
-abbrev pub invariant-loop-modifier : goal.invariant-loop-modifier
-invariant-loop-modifier l =
-    l.events.items ≡ l.fn.events.items ++ releases (state_of l.self) (take l.modifier-index modifiers)

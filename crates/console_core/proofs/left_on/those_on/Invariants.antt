@@ -1,8 +1,0 @@
-use Rattle.console_core.proofs.Common.{◌≡◌, take, List, filter, Event, Maps, is_on_after}
-use Rattle.console_core.proofs.left_on.those_on.Given as goal
-
--- those that are on among the modifiers so far
-abbrev pub invariant-loop-modifier : goal.invariant-loop-modifier
-invariant-loop-modifier g l =
-    (ms : Maps) (h : List Event) → g.T.Translator.stands l.console ms h
-    → l.on.items ≡ filter (λ i. is_on_after ms i h) (take l.modifier-index l.modifiers)

@@ -1,7 +1,0 @@
--- those of the states below the place
-use Rattle.console_core.proofs.Common.{[], IsOfferedIn, Adds, IsInSome, under_of}
-use Rattle.console_core.proofs.offers.accents_of.Given as goal
-
-abbrev pub invariant-loop-place : goal.invariant-loop-place
-invariant-loop-place l =
-    Adds (λ a. IsInSome l.met.entries l.place (λ s. IsOfferedIn (under_of l.maps) s a)) [] l.accents.items

@@ -1,6 +1,0 @@
--- those below the place were added
-use Rattle.console_core.proofs.Common.{under_of, AreSeedsTo}
-use Rattle.console_core.proofs.offers.add_offering.Given as goal
-
-abbrev pub invariant-loop-place : goal.invariant-loop-place
-invariant-loop-place l = AreSeedsTo (under_of l.maps) l.accent l.met.entries l.place l.states.entries

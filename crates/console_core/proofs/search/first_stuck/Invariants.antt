@@ -1,6 +1,0 @@
--- none below the place does
-use Rattle.console_core.proofs.Common.{under_of, AreSafe}
-use Rattle.console_core.proofs.search.first_stuck.Given as goal
-
-abbrev pub invariant-loop-place : goal.invariant-loop-place
-invariant-loop-place l = AreSafe (under_of l.maps) l.met.entries l.place

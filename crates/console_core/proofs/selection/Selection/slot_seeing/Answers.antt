@@ -1,6 +1,0 @@
-use Rattle.console_core.proofs.Common.{rules}
-use Rattle.console_core.proofs.Visible.{key-of-slot}
-use Rattle.console_core.proofs.selection.Selection.slot_seeing.Goals as goal
-
-pub returns-else-sees : goal.returns-else-sees
-returns-else-sees c = search (rules, key-of-slot)

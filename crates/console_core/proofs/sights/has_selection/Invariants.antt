@@ -1,6 +1,0 @@
--- none below the place is it
-use Rattle.console_core.proofs.Common.{◌≡◌, ◌<◌, ℕ, get_or}
-use Rattle.console_core.proofs.sights.has_selection.Given as goal
-
-abbrev pub invariant-loop-other : goal.invariant-loop-other
-invariant-loop-other l = (n : ℕ) → n < l.other-index → get_or l.selections n l.selection ≡ l.selection → ⊥

@@ -1,6 +1,0 @@
-use Rattle.console_core.proofs.Common.{false_from_ne_true, true≢false, is_composed, rules}
-use Rattle.console_core.proofs.Visible.{some-member}
-use Rattle.console_core.proofs.sights.is_composed.Goals as goal
-
-pub returns : goal.returns
-returns c = search (rules, false_from_ne_true, some-member, true≢false)

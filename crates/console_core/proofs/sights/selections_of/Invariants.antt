@@ -1,7 +1,0 @@
--- those of the states below the place
-use Rattle.console_core.proofs.Common.{◌≡◌, [], Adds, IsInSome, selection_of}
-use Rattle.console_core.proofs.sights.selections_of.Given as goal
-
-abbrev pub invariant-loop-place : goal.invariant-loop-place
-invariant-loop-place l =
-    Adds (λ y. IsInSome l.met.entries l.place (λ s. selection_of s ≡ y)) [] l.selections.items

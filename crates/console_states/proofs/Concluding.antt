@@ -1,0 +1,103 @@
+-- What the search concludes of all paths from what it met.
+use Rattle.console_states.proofs.Common.{suc, ◌≡◌, ℕ, ◌+◌, ◌<◌, inl, inr, List, length, slice_get, Some, refl, ap}
+use Rattle.console_states.proofs.Common.{rules, subst, sym, ◌∙◌, arith, cases_lt, slice_get_within, Modifier, Event}
+use Rattle.console_states.proofs.Common.{Move, End, TooMany, Under, State, start, IsMove, moved, presses_of}
+use Rattle.console_states.proofs.Common.{IsForgetful, HolderForgets, script_of_path, state_of, Entry, Entries, IsMetBy}
+use Rattle.console_states.proofs.Common.{IsReached, AreDone, AreSafe, IsStuck, HasEnded, unscrolled, presses}
+use Rattle.console_states.proofs.Common.{NeverSticksUnder, ReleasesPressedKeys}
+use Rattle.console_states.specs.declared.search.End.TheVariants.{Complete}
+use Rattle.console_states.specs.Inner.Searching.{IsScriptTo, IsEnd}
+use Rattle.console_states.specs.Sticking.{NoneSticksUnderBy, LeavesOnUnder, HasFewestUnder}
+use Rattle.console_states.proofs.Deciding.{under-self, never-under, sticks_if_reached}
+use Rattle.console_states.proofs.Scripts.{presses-script, releases-script}
+use Rattle.console_states.proofs.Searching.{met-up, all-done}
+use Rattle.console_states.proofs.Staying.{IsKeptBelow, IsSafeBelow, never-sticks, sticks-late}
+use Rattle.console_states.proofs.Unscrolled.{leaves-scroll_or_turns, moves-unscrolled, same_moved, scroll-moved}
+
+-- The states met by at most p presses, but for the scroll lock.
+abbrev pub IsAmong : Entries → ℕ → State → Type 0
+IsAmong es p s = (t : State) × IsMetBy es p t × (unscrolled t ≡ unscrolled s)
+
+-- where a move leads from one of them, by fewer than n presses
+among-moved : (u : Under) (es : Entries) (n : ℕ) → AreDone u es n → (p q : ℕ) (s : State) (move : Move)
+    → p + presses_of move ≡ q → q < n → IsAmong es p s → IsMove u s move → IsAmong es q (moved u s move)
+among-moved u es n done p q s move e lt (t, (j, x, at, is, le), near) can =
+    elim (leaves-scroll_or_turns move) [
+      | inl leaves ↦
+          let here : IsMove u (state_of x.0) move =
+          subst (λ z. IsMove u z move) (sym is) (moves-unscrolled u s t move near can) in (
+            moved u t move,
+            met-up es (x.1.presses + presses_of move) q (moved u t move) (omega (arith, le, e))
+                (rw (← is) (done j x at move here leaves (omega (arith, le, e, lt)))),
+            same_moved u s t move near,
+          )
+      | inr (k, turns) ↦ rw turns (t, (j, x, at, is, omega (arith, le, e)), near ∙ scroll-moved s)
+    ]
+
+-- the moves keep the states that were met
+kept-below : (u : Under) (es : Entries) (n : ℕ) → IsMetBy es 0 start → AreDone u es n → IsKeptBelow u n (IsAmong es)
+kept-below u es n met done = record {
+  led = record {
+    more = λ p s (t, there, near). (t, met-up es p (suc p) t (omega arith) there, near);
+    moved = among-moved u es n done;
+  };
+  start = (start, met, refl);
+}
+
+-- the states that were met are safe where no holder looks up a character in those met by fewer than n presses
+safe-below : (u : Under) (es : Entries) (n : ℕ) → IsMetBy es 0 start → AreDone u es n
+    → ((j : ℕ) (x : Entry) → slice_get es j ≡ Some x → x.1.presses < n → IsForgetful u (state_of x.0) → ⊥)
+    → IsSafeBelow u n (IsAmong es)
+safe-below u es n met done safe = record {
+  kept = kept-below u es n met done;
+  safe = λ p lt s (t, (j, x, at, is, le), near) forgetful.
+      safe j x at (omega (arith, le, lt))
+      (subst (λ z. IsForgetful u z) (sym is) (subst (λ z. IsForgetful u z) (sym near) forgetful));
+}
+
+-- where all states were met and no holder looks up a character, no modifier sticks
+pub complete-never : (u : Under) (es : Entries) → HasEnded u start es Complete → AreSafe u es (length es)
+    → NeverSticksUnder u
+complete-never u es (s, ordered, all) safe =
+    never-under u
+    (never-sticks u (IsAmong es)
+    (λ n. safe-below u es n s.start (all-done u es all n) (λ j x at lt. safe j x at (slice_get_within es j x at))))
+
+-- where too many were, none does by the presses that are told
+pub none-late : (u : Under) (es : Entries) (p : ℕ) → HasEnded u start es (TooMany p) → AreSafe u es (length es)
+    → NoneSticksUnderBy u p
+none-late u es p (s, ordered, (more, within, done)) safe g keys admitted i (quiet, on) =
+    sticks-late u p (IsAmong es)
+    (safe-below u es p s.start done (λ j x at lt. safe j x at (slice_get_within es j x at))) g keys admitted i
+    quiet (on u.maps (under-self u))
+
+-- where fewer presses lead than to a place is done
+done-before : (u : Under) (es : Entries) (end : End) → IsEnd u start es end → (j : ℕ) (x : Entry)
+    → slice_get es j ≡ Some x → AreDone u es x.1.presses
+done-before u es Complete all j x at = all-done u es all x.1.presses
+done-before u es (TooMany p) (more, within, done) j x at = search rules
+
+-- At the first place where a holder looks up a character, the script of a path to it leaves its modifier on, by the
+-- fewest presses.
+pub stuck-sticks : (u : Under) (es : Entries) (end : End) (j k : ℕ) → HasEnded u start es end → IsStuck u es j k
+    → AreSafe u es j → (h : List Event) → IsScriptTo u es j k h → LeavesOnUnder u h × HasFewestUnder u h
+    × ReleasesPressedKeys h
+stuck-sticks u es end j k (s, ordered, ended) (x, at, stuck) safe h is =
+    let i : Modifier = stuck.0 in
+    let r : IsReached u start es j x = s.reached j x at in
+    let script : h ≡ script_of_path u r.0 k = is r.0 x at r.1 r.3 in
+    let left = sticks_if_reached u r.0 r.2 i k (subst (λ t. HolderForgets u t i k) (sym r.3) stuck.1) in
+    let count : presses h ≡ suc x.1.presses = ap presses script ∙ presses-script u r.0 k ∙ ap suc r.4 in (
+      subst (λ y. LeavesOnUnder u y) (sym script) (left.0, left.1, (i, left.2)),
+      (λ g keys admitted l (quiet, on).
+          let late : x.1.presses < presses g =
+          sticks-late u x.1.presses (IsAmong es)
+          (safe-below u es x.1.presses s.start (done-before u es end ended j x at) before) g keys admitted l quiet
+          (on u.maps (under-self u)) in
+          omega (arith, count, late)),
+      subst ReleasesPressedKeys (sym script) (releases-script u r.0 r.2 k),
+    )
+  where
+    before : (n : ℕ) (y : Entry) → slice_get es n ≡ Some y → y.1.presses < x.1.presses → IsForgetful u (state_of y.0)
+        → ⊥
+    before n y there lt = search (rules, cases_lt)

@@ -1,0 +1,53 @@
+-- What was met is distinct, so many entries are many states that paths lead to.
+use Rattle.console_states.proofs.Common.{zero, suc, ◌≡◌, ℕ, ◌<◌, ◌≤◌, false, inl, inr, [], ◌∷◌, length, get_or}
+use Rattle.console_states.proofs.Common.{slice_get, Some, subst, sym, ◌∙◌, arith, IsDistinct, keys_of, cases_lt}
+use Rattle.console_states.proofs.Common.{true≢false, slice_get-get_or, none-some, same_Some, Held, state_of, Entry}
+use Rattle.console_states.proofs.Common.{Entries, Searched, IsReached, AreWithin, Under, State, ReachesMoreThanFrom}
+use Rattle.std.specs.List.{AllByRecursion}
+use Rattle.std.proofs.lemmas.Map.Keys.{IsDistinct-head, IsDistinct-tail}
+use Rattle.console_states.proofs.SameStates.{are_same, same-tells}
+
+-- entries at two places
+rec-at : (P : Held → Type 0) (es : Entries) → AllByRecursion P (keys_of es) → (k : ℕ) (y : Entry)
+    → slice_get es k ≡ Some y → P y.0
+rec-at P [] all k y at = absurd (none-some y at)
+rec-at P (e ∷ es) all zero y at = subst (λ z. P z.0) (same_Some e y at) all.0
+rec-at P (e ∷ es) all (suc k) y at = rec-at P es all.1 k y at
+
+-- entries at two places of distinct ones are distinct
+pub distinct-at : (es : Entries) → IsDistinct are_same (keys_of es) → (j k : ℕ) (x y : Entry) → j < k
+    → slice_get es j ≡ Some x → slice_get es k ≡ Some y → are_same x.0 y.0 ≡ false
+distinct-at [] d j k x y lt at_j at_k = absurd (none-some x at_j)
+distinct-at (e ∷ es) d zero zero x y lt at_j at_k = absurd (omega (arith, lt))
+distinct-at (e ∷ es) d zero (suc k) x y lt at_j at_k =
+    subst (λ z. are_same z.0 y.0 ≡ false) (same_Some e x at_j)
+    (rec-at (λ z. are_same e.0 z ≡ false) es (IsDistinct-head are_same e.0 (keys_of es) d) k y at_k)
+distinct-at (e ∷ es) d (suc j) zero x y lt at_j at_k = absurd (omega (arith, lt))
+distinct-at (e ∷ es) d (suc j) (suc k) x y lt at_j at_k =
+    distinct-at es (IsDistinct-tail are_same e.0 (keys_of es) d) j k x y (omega (arith, lt)) at_j at_k
+
+-- more than n distinct entries are more than n states that paths of their presses lead to
+pub reaches-more : {o : State} (u : Under) (es : Entries) (a b n p : ℕ) → Searched u o es a b → AreWithin es p
+    → n < length es → IsDistinct are_same (keys_of es) → ReachesMoreThanFrom u o n p
+reaches-more {o} u es a b n p s within more distinct =
+    let d : Entry = s.start.1 in
+    let at : (j : ℕ) → j ≤ n → slice_get es j ≡ Some (get_or es j d) =
+    λ j le. slice_get-get_or es j d (omega (arith, le, more)) in
+    let apart : (j k : ℕ) → j ≤ n → k ≤ n → j < k → state_of (get_or es j d).0 ≡ state_of (get_or es k d).0 → ⊥ =
+    λ j k le_j le_k lt e.
+    true≢false (sym (same-tells (get_or es j d).0 (get_or es k d).0 e)
+    ∙ distinct-at es distinct j k (get_or es j d) (get_or es k d) lt (at j le_j) (at k le_k)) in (
+      (λ j. state_of (get_or es j d).0),
+      (λ j le. (s.reached j (get_or es j d) (at j le)).5),
+      (λ j le.
+          let r : IsReached u o es j (get_or es j d) = s.reached j (get_or es j d) (at j le) in
+          let few : (get_or es j d).1.presses ≤ p = within j (get_or es j d) (at j le) in
+          (r.0, r.2, omega (arith, few, r.4), r.3)),
+      (λ j k le_j le_k e. elim (cases_lt j k) [
+        | inl lt ↦ absurd (apart j k le_j le_k lt e)
+        | inr up ↦ elim (cases_lt k j) [
+          | inl lt ↦ absurd (apart k j le_k le_j lt (sym e))
+          | inr down ↦ omega (arith, up, down)
+        ]
+      ]),
+    )

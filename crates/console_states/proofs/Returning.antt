@@ -1,0 +1,87 @@
+-- From a state that was met without a route home no moves lead there.
+use Rattle.console_states.proofs.Common.{suc, ◌≡◌, ℕ, ◌+◌, List, [], ◌∷◌, length, slice_get, Some, ap, arith, subst}
+use Rattle.console_states.proofs.Common.{sym, ◌∙◌, inl, inr, MapValue, Under, alone, State, IsMove, moved}
+use Rattle.console_states.proofs.Common.{IsPathFrom, state_from, presses_of, IsHome, Routes, HasRoute, IsAstray, IsMet}
+use Rattle.console_states.proofs.Common.{AreSettled, state_of, Entry, Entries, IsMetBy, LeavesScroll, Searched}
+use Rattle.console_states.proofs.Common.{unscrolled, Move}
+use Rattle.console_states.proofs.Searching.{all-done}
+use Rattle.console_states.proofs.Unscrolled.{locks-near, leaves-scroll_or_turns, moves-unscrolled, same_moved}
+use Rattle.console_states.proofs.Unscrolled.{scroll-moved}
+
+-- home doesn't depend on the scroll lock
+pub near-is_home : (s t : State) → unscrolled t ≡ unscrolled s → IsHome s → IsHome t
+near-is_home s t e (free, off) =
+    ((λ i. ap (λ x. x.holder i) e ∙ free i), (λ l other. locks-near t s e l other ∙ off l other))
+
+-- where a move leads from a state that was met was met too
+met-met : (es : Entries) (p : ℕ) (s : State) → IsMetBy es p s → IsMet es s
+met-met es p s (j, x, at, is, le) = (j, x, at, is)
+
+-- where moves lead from these states is among them
+abbrev pub AreClosed : Under → Entries → Type 0
+AreClosed u es =
+    (j : ℕ) (x : Entry) → slice_get es j ≡ Some x → (move : Move) → IsMove u (state_of x.0) move → LeavesScroll move
+    → IsMet es (moved u (state_of x.0) move)
+
+pub move-met : {o : State} (u : Under) (es : Entries) → Searched u o es (length es) (length es) → AreClosed u es
+move-met u es s j x at move is leaves =
+    met-met es _ _ (all-done u es s (suc (x.1.presses + presses_of move)) j x at move is leaves (omega arith))
+
+-- a state near this one is among them
+abbrev pub IsNear : Entries → State → Type 0
+IsNear es s = (j : ℕ) × (x : Entry) × (slice_get es j ≡ Some x) × (unscrolled (state_of x.0) ≡ unscrolled s)
+
+-- a path from a state near an entry leads near an entry
+pub near-along : (u : Under) (es : Entries) → AreClosed u es → (s : State) (path : List Move) → IsNear es s
+    → IsPathFrom u s path → IsNear es (state_from u s path)
+near-along u es closed s [] near is = near
+near-along u es closed s (move ∷ path) near is =
+    let here : State = state_from u s path in
+    let (j, x, at, e) = near-along u es closed s path near is.1 in
+    elim (leaves-scroll_or_turns move) [
+      | inl leaves ↦
+          let (i, y, there, f) = closed j x at move (moves-unscrolled u here (state_of x.0) move e is.0) leaves in
+          (i, y, there, ap (λ z. unscrolled z) f ∙ same_moved u here (state_of x.0) move e)
+      | inr (k, turns) ↦
+          subst (λ z. IsNear es (moved u here z)) (sym turns) (j, x, at, e ∙ scroll-moved here)
+    ]
+
+-- a finished search met one near each that a path leads to
+pub near-met : {o : State} (u : Under) (es : Entries) → Searched u o es (length es) (length es) → (path : List Move)
+    → IsPathFrom u o path → IsNear es (state_from u o path)
+near-met {o} u es s path is =
+    let (j, x, at, e, le) = s.start in
+    near-along u es (move-met u es s) o path (j, x, at, ap (λ z. unscrolled z) e) is
+
+-- a met state without a route, near the state where a path has led
+abbrev pub StraysTo : Entries → Routes → State → Type 0
+StraysTo es routes s =
+    (j : ℕ) × (x : Entry) × (slice_get es j ≡ Some x) × (unscrolled (state_of x.0) ≡ unscrolled s)
+    × (HasRoute routes (state_of x.0) → ⊥)
+
+pub is-astray : (u : Under) (es : Entries) (routes : Routes) → AreSettled u es routes → (j : ℕ) (x : Entry)
+    → slice_get es j ≡ Some x → (HasRoute routes (state_of x.0) → ⊥) → IsAstray u routes (state_of x.0)
+is-astray u es routes settled j x at none = elim (settled j x at) [ inl has ↦ absurd (none has) | inr is ↦ is ]
+
+-- a move leads on astray
+pub strays-on : {o : State} (m : MapValue) (es : Entries) (routes : Routes)
+    → Searched (alone m) o es (length es) (length es)
+    → AreSettled (alone m) es routes → (s : State) (move : Move) → IsMove (alone m) s move → StraysTo es routes s
+    → StraysTo es routes (moved (alone m) s move)
+strays-on m es routes searched settled s move is (j, x, at, near, none) =
+    let u : Under = alone m in
+    elim (leaves-scroll_or_turns move) [
+      | inl leaves ↦
+          let here : IsMove u (state_of x.0) move = moves-unscrolled u s (state_of x.0) move near is in
+          let (i, y, there, e) = move-met u es searched j x at move here leaves in (
+            i,
+            y,
+            there,
+            ap (λ z. unscrolled z) e ∙ same_moved u s (state_of x.0) move near,
+            (λ has.
+                (is-astray u es routes settled j x at none).1 move here leaves
+                (subst (λ z. HasRoute routes z) e has)),
+          )
+      | inr (k, turns) ↦
+          subst (λ z. StraysTo es routes (moved u s z)) (sym turns) (j, x, at, near ∙ scroll-moved s, none)
+    ]

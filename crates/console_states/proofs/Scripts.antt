@@ -1,0 +1,510 @@
+-- The events along a path lead a console to the path's state, and a holder that looks up a character there leaves its
+-- modifier on.
+use Rattle.console_states.proofs.Common.{suc, ◌≡◌, ℕ, ◌<◌, ◌+◌, All, arith, Bool, true, false, ◌&&◌, ◌||◌, not, List}
+use Rattle.console_states.proofs.Common.{[], ◌∷◌, ◌++◌, Option, Some, None, refl, ap, subst, sym, ◌∙◌, inl, inr}
+use Rattle.console_states.proofs.Common.{if◌then◌else◌, append_assoc, ◌==◌, eqb-true, eq-eqb, cases_Bool, true≢false}
+use Rattle.console_states.proofs.Common.{false≢true, false_from_ne_true, and_parts, not-true, list_any, All-nil}
+use Rattle.console_states.proofs.Common.{All-cons, none-some, same_Some, same_action, same_modifier, same_lock}
+use Rattle.console_states.proofs.Common.{modifiers, MapValue, same_action-true, same_action-refl, none_unless}
+use Rattle.console_states.proofs.Common.{ResolvedEvent, held, remembered, taken_over, is_this_action, resolve_press}
+use Rattle.console_states.proofs.Common.{PressedCharacter, PressedAction, ReleasedKey, WasLoaded, Maps, resolved}
+use Rattle.console_states.proofs.Common.{is_on_after, is_second_in_force, pressed, HasKey, HasKeys, HasNoLoads, IsQuiet}
+use Rattle.console_states.proofs.Common.{between, is_locked_after, Under, State, start, map_of, look_in, Holds, IsIdle}
+use Rattle.console_states.proofs.Common.{with_holder, with_lock_turned, exchanged, IsFree, IsMove, moved, HolderForgets}
+use Rattle.console_states.proofs.Common.{state_after, IsPath, events_of_move, events_along, release_of, releases}
+use Rattle.console_states.proofs.Common.{script_of_path, presses_of, presses_along, state_from, IsPathFrom, alone}
+use Rattle.console_states.proofs.Common.{presses, IsSent, NeverForgets, ReleasesPressedKeys, Follows, HoldsSome, Exact}
+use Rattle.console_states.proofs.Common.{Stands, Action, Lock, Modifier, LeftShift, RightShift, LeftControl}
+use Rattle.console_states.proofs.Common.{RightControl, LeftAlt, RightAlt, AltShift, Meta, Cell, Char, Act, Event, Press}
+use Rattle.console_states.proofs.Common.{Release, Reset, Load, Move, Hold, Turn, LetGo, Exchange, rules}
+use Rattle.keymap_core.proofs.Lists.{option_or-none}
+use Rattle.std.proofs.lemmas.Bool.{or_parts}
+use Rattle.console_states.specs.Moves.{free_with}
+use Rattle.console_core.proofs.Bearing.{pressed_if, remembered-pressed}
+use Rattle.console_core.proofs.FreshPresses.{no_loads-first}
+use Rattle.console_core.proofs.OneMore.{resolved-start, resolved-more, held-start, held-character, held-action}
+use Rattle.console_core.proofs.OneMore.{held-reset, locked-reset, remembered-reset, pressed-reset, held-release}
+use Rattle.console_core.proofs.OneMore.{held-load, remembered-start, remembered-character, remembered-action}
+use Rattle.console_core.proofs.OneMore.{remembered-release, remembered-load, pressed-start, pressed-press}
+use Rattle.console_core.proofs.OneMore.{pressed-release, pressed-load}
+use Rattle.console_states.proofs.Staying.{follows-look, follows-start, follows-hold, follows-turn, follows-let_go}
+use Rattle.console_states.proofs.Staying.{follows-release, follows-load, takes, same_mods, some_mods}
+use Rattle.console_states.proofs.Staying.{IsKeptBelow, IsSafeBelow, NeverIn, never-sticks}
+use Rattle.keymap_core.specs.declared.action.Action.TheVariants as act
+use Rattle.keymap_core.specs.declared.action.Holding.TheVariants as holding
+
+-- a key that is idle remembers nothing
+pub idle-none : (r : List ResolvedEvent) (s : State) (k : ℕ) → Exact r s → IsIdle s k → remembered k r ≡ None
+idle-none r s k x idle = none_unless (remembered k r) (λ a e. let p : HoldsSome s k = x.only k a e in idle p.0 p.1)
+
+-- what another key remembers after a press
+pub other-remembered : (r : List ResolvedEvent) (k j : ℕ) (b : Action) → k == j ≡ false
+    → remembered j (PressedAction k b ∷ r) ≡ remembered j r
+other-remembered r k j b e = rw (remembered-action j k b r, e) (option_or-none (remembered j r))
+
+-- the holders after a move
+pub hold-self : (s : State) (i : Modifier) (k : ℕ) → Holds (with_holder s i (Some k)) k i
+hold-self s i k = ap (λ t. if t then Some k else s.holder i) (same_action-refl (act.Mod i))
+
+-- a key that takes a modifier leaves each other holder as it was
+hold-other : (s : State) (i : Modifier) (k n : ℕ) → s.holder i ≡ None → HoldsSome s n
+    → HoldsSome (with_holder s i (Some k)) n
+hold-other s i k n free p = search (rules, cases_Bool, none-some, same_mods)
+
+-- a key that lets go leaves each other holder as it was
+let_go-other : (s : State) (i : Modifier) (k n : ℕ) → Holds s k i → k == n ≡ false → HoldsSome s n
+    → HoldsSome (with_holder s i None) n
+let_go-other s i k n holds ne p = search (rules, cases_Bool, same_Some, same_mods, eq-eqb)
+
+-- the moves
+exact-hold : (r : List ResolvedEvent) (s : State) (k : ℕ) (i : Modifier) → Exact r s → IsIdle s k → s.holder i ≡ None
+    → Exact (PressedAction k (act.Mod i) ∷ r) (with_holder s i (Some k))
+exact-hold r s k i x idle free =
+    let e : taken_over (remembered k r) (act.Mod i) ≡ act.Mod i =
+    ap (λ o. taken_over o (act.Mod i)) (idle-none r s k x idle) in
+    record {
+      follows = follows-hold r s k (act.Mod i) i x.follows e;
+      only = λ n a q. elim (cases_Bool (k == n)) [
+        | inl t ↦ (i, subst (λ y. Holds (with_holder s i (Some k)) y i) (eqb-true k n t) (hold-self s i k))
+        | inr t ↦ hold-other s i k n free (x.only n a (sym (other-remembered r k n (act.Mod i) t) ∙ q))
+      ];
+      up = λ l. rw (held-action (holding.Lock l) k (act.Mod i) r, e) (x.up l);
+    }
+
+-- a mark that a press sets and the release clears is clear
+pub up_again : (t x : Bool) → x ≡ false → ((t || x) && not t) ≡ false
+up_again true x e = refl
+up_again false x e = rw e refl
+
+-- after a tap of a key the others remember what they did
+pub tap-only : (r now : List ResolvedEvent) (s : State) (k : ℕ) → Exact r s
+    → ((n : ℕ) → k == n ≡ false → remembered n now ≡ remembered n r) → (n : ℕ) (a : Action)
+    → remembered n (ReleasedKey k ∷ now) ≡ Some a → HoldsSome s n
+tap-only r now s k x same n a q = search (rules, cases_Bool, none-some, remembered-release)
+
+-- a press and release of an idle key that turns a lock
+exact-turn : (r : List ResolvedEvent) (s : State) (k : ℕ) (l : Lock) → Exact r s → IsIdle s k
+    → Exact (ReleasedKey k ∷ (PressedAction k (act.Lock l) ∷ r)) (with_lock_turned s l)
+exact-turn r s k l x idle =
+    let e : taken_over (remembered k r) (act.Lock l) ≡ act.Lock l =
+    ap (λ o. taken_over o (act.Lock l)) (idle-none r s k x idle) in
+    let now : remembered k (PressedAction k (act.Lock l) ∷ r) ≡ Some (act.Lock l) =
+    takes r k (act.Lock l) (holding.Lock l) e in
+    record {
+      follows =
+          follows-release (PressedAction k (act.Lock l) ∷ r) (with_lock_turned s l) k
+          (follows-turn r s k (act.Lock l) l x.follows e (x.up l)) (λ i. ap (λ o. is_this_action o (act.Mod i)) now);
+      only = tap-only r (PressedAction k (act.Lock l) ∷ r) s k x (λ n t. other-remembered r k n (act.Lock l) t);
+      up = λ j. rw (held-release (holding.Lock j) k (PressedAction k (act.Lock l) ∷ r), now)
+          (rw (held-action (holding.Lock j) k (act.Lock l) r, e) (up_again (same_lock l j) _ (x.up j)));
+    }
+
+-- a release of a holder
+exact-let_go : (r : List ResolvedEvent) (s : State) (k : ℕ) (i : Modifier) → Exact r s → Holds s k i
+    → Exact (ReleasedKey k ∷ r) (with_holder s i None)
+exact-let_go r s k i x holds = record {
+  follows = follows-let_go r s k i x.follows (x.follows.holds i k holds);
+  only = λ n a q. elim (cases_Bool (k == n)) [
+    | inl t ↦ absurd (none-some a (rw (remembered-release n k r, t) at q))
+    | inr t ↦ let_go-other s i k n holds t (x.only n a (rw (remembered-release n k r, t) at q))
+  ];
+  up = λ l. rw (held-release (holding.Lock l) k r, x.up l) refl;
+}
+
+-- a load, where nothing is held
+exact-exchange : (m : MapValue) (r : List ResolvedEvent) (s : State) → Exact r s → IsFree s
+    → Exact (WasLoaded m ∷ r) (exchanged m s)
+exact-exchange m r s x free = search (rules, follows-load, none-some, remembered-load, held-load)
+
+-- a press, by what is looked up
+pub pressed-look : (u : Under) (h : List Event) (s : State) (k : ℕ) (x : Cell) → Follows (resolved u.maps h) s
+    → s.is_second ≡ is_second_in_force h → look_in u s k ≡ x
+    → resolved u.maps (Press k ∷ h) ≡ resolve_press k x ∷ resolved u.maps h
+pressed-look u h s k x f second seen = search (rules, resolved-more, follows-look)
+
+-- what is pressed after a press and release of a key was before
+pub tapped-pressed : (h : List Event) (k n : ℕ) → pressed n (Release k ∷ Press k ∷ h) ≡ true → pressed n h ≡ true
+tapped-pressed h k n p = search (rules, cases_Bool, pressed-release, pressed-press)
+
+-- the events of a move lead from a state to the next
+pub stands-move : (u : Under) (h : List Event) (s : State) (move : Move) → IsMove u s move → Stands u h s
+    → Stands u (events_of_move move ++ h) (moved u s move)
+stands-move u h s (Hold k i) (lt, idle, seen, free) x = record {
+  exact =
+      rw (pressed-look u h s k (Act (act.Mod i)) x.exact.follows x.second seen)
+      (exact-hold (resolved u.maps h) s k i x.exact idle free);
+  second = x.second;
+  key = λ j n p. elim (cases_Bool (same_modifier i j)) [
+    | inl t ↦ subst (λ z. z < 128) (same_Some k n (rw t at p)) lt
+    | inr t ↦ x.key j n (rw t at p)
+  ];
+  pressed = λ n p. elim (cases_Bool (k == n)) [
+    | inl t ↦ (i, subst (λ y. Holds (with_holder s i (Some k)) y i) (eqb-true k n t) (hold-self s i k))
+    | inr t ↦ hold-other s i k n free (x.pressed n (rw (pressed-press n k h, t) at p))
+  ];
+  keys = All-cons HasKey (Press k) h lt x.keys;
+}
+stands-move u h s (Turn k l) (lt, idle, seen) x = record {
+  exact =
+      rw (
+        resolved-more u.maps (Press k ∷ h) (Release k),
+        pressed-look u h s k (Act (act.Lock l)) x.exact.follows x.second seen,
+      )
+      (exact-turn (resolved u.maps h) s k l x.exact idle);
+  second = x.second;
+  key = x.key;
+  pressed = λ n p. x.pressed n (tapped-pressed h k n p);
+  keys = All-cons HasKey (Release k) (Press k ∷ h) lt (All-cons HasKey (Press k) h lt x.keys);
+}
+stands-move u h s (LetGo k i) holds x = record {
+  exact = rw (resolved-more u.maps h (Release k)) (exact-let_go (resolved u.maps h) s k i x.exact holds);
+  second = x.second;
+  key = λ j n p. elim (cases_Bool (same_modifier i j)) [
+    | inl t ↦ absurd (none-some n (rw t at p))
+    | inr t ↦ x.key j n (rw t at p)
+  ];
+  pressed = λ n p. elim (cases_Bool (k == n)) [
+    | inl t ↦ absurd (false≢true (rw (pressed-release n k h, t) at p))
+    | inr t ↦ let_go-other s i k n holds t (x.pressed n (rw (pressed-release n k h, t) at p))
+  ];
+  keys = All-cons HasKey (Release k) h (x.key i k holds) x.keys;
+}
+stands-move u h s Exchange (free, loads) x = record {
+  exact =
+      rw (resolved-more u.maps h Load)
+      (rw (← x.second) (exact-exchange (map_of u (not s.is_second)) (resolved u.maps h) s x.exact free));
+  second = ap not x.second;
+  key = x.key;
+  pressed = λ n p. absurd (true≢false (sym p ∙ pressed-load n h));
+  keys = All-cons HasKey Load h tt x.keys;
+}
+
+-- no events lead to the start
+pub stands-start : (u : Under) → Stands u [] start
+stands-start u = record {
+  exact = rw (resolved-start u.maps) (record {
+    follows = follows-start;
+    only = λ k a e. absurd (none-some a (sym (remembered-start k) ∙ e));
+    up = λ l. held-start (holding.Lock l);
+  });
+  second = refl;
+  key = λ i k h. absurd (none-some k h);
+  pressed = λ k p. absurd (true≢false (sym p ∙ pressed-start k));
+  keys = All-nil HasKey;
+}
+
+-- A console stands in the state of a path after the events along it.
+pub stands : (u : Under) (path : List Move) → IsPath u path → Stands u (events_along path) (state_after u path)
+stands u [] is = stands-start u
+stands u (move ∷ path) is = stands-move u (events_along path) (state_after u path) move is.0 (stands u path is.1)
+
+-- A console that stands in a state stands in that of a path from there after the events along it.
+pub stands-from : (u : Under) (h : List Event) (s : State) (path : List Move) → Stands u h s → IsPathFrom u s path
+    → Stands u (events_along path ++ h) (state_from u s path)
+stands-from u h s [] x is = x
+stands-from u h s (move ∷ path) x is =
+    search (rules, append_assoc, stands-move, stands-from u h s path x is.1)
+
+-- After a reset a console of one map stands in the free state with the locks that are on.
+pub stands-reset : (m : MapValue) (h : List Event) → HasKeys h → HasNoLoads h
+    → Stands (alone m) (Reset ∷ h) (free_with (λ l. is_locked_after (between m m) l h))
+stands-reset m h keys none =
+    search (
+      rules,
+      resolved-more,
+      held-reset,
+      locked-reset,
+      none-some,
+      remembered-reset,
+      no_loads-first,
+      pressed-reset,
+      All-cons,
+    )
+
+-- The modifier is on, and no key remembers it.
+pub record IsLeft (ms : Maps) (h : List Event) (i : Modifier) : Type 0 where
+  pub on : is_on_after ms i h ≡ true
+  pub nobody : (k : ℕ) → remembered k (resolved ms h) ≡ Some (act.Mod i) → ⊥
+  pub keys : HasKeys h
+
+-- an option that isn't the action fails the test
+is_not : (o : Option Action) (a : Action) → (o ≡ Some a → ⊥) → is_this_action o a ≡ false
+is_not None a f = refl
+is_not (Some b) a f = false_from_ne_true (same_action b a) (λ e. f (ap (λ x. Some x) (same_action-true b a e)))
+
+-- a holder that looks up a character leaves its modifier on
+left-character : (u : Under) (h : List Event) (s : State) (i : Modifier) (k : ℕ) → Stands u h s
+    → HolderForgets u s i k → IsLeft u.maps (Press k ∷ h) i
+left-character u h s i k x (holds, (c, seen)) =
+    let now : resolved u.maps (Press k ∷ h) ≡ PressedCharacter k c ∷ resolved u.maps h =
+    pressed-look u h s k (Char c) x.exact.follows x.second seen in
+    record {
+      on = cc (now, held-character (holding.Mod i) k c (resolved u.maps h), x.exact.follows.on i, holds);
+      nobody = λ n e. elim (cases_Bool (k == n)) [
+        | inl t ↦ none-some (act.Mod i) (rw (now, remembered-character n k c (resolved u.maps h), t) at e)
+        | inr t ↦
+            let q : remembered n (resolved u.maps h) ≡ Some (act.Mod i) =
+            rw (now, remembered-character n k c (resolved u.maps h), t) at e in
+            let p : HoldsSome s n = x.exact.only n (act.Mod i) q in
+            let same : p.0 ≡ i = some_mods p.0 i (sym (x.exact.follows.holds p.0 n p.1) ∙ q) in
+            let key : k ≡ n = same_Some k n (sym holds ∙ ap (λ y. s.holder y) (sym same) ∙ p.1) in
+            true≢false (sym (eq-eqb k n key) ∙ t)
+      ];
+      keys = All-cons HasKey (Press k) h (x.key i k holds) x.keys;
+    }
+
+-- what is on and isn't lowered stays on
+kept_on : (x t : Bool) → x ≡ true → t ≡ false → (x && not t) ≡ true
+kept_on x t e f = rw (e, f) refl
+
+-- a release keeps a modifier on that is left so
+left-release : (ms : Maps) (h : List Event) (i : Modifier) (k : ℕ) → k < 128 → IsLeft ms h i
+    → IsLeft ms (Release k ∷ h) i
+left-release ms h i k lt x =
+    let now : resolved ms (Release k ∷ h) ≡ ReleasedKey k ∷ resolved ms h = resolved-more ms h (Release k) in
+    record {
+      on = rw (now, held-release (holding.Mod i) k (resolved ms h))
+          (kept_on _ _ x.on (is_not (remembered k (resolved ms h)) (act.Mod i) (x.nobody k)));
+      nobody = λ n e. elim (cases_Bool (k == n)) [
+        | inl t ↦ none-some (act.Mod i) (rw (now, remembered-release n k (resolved ms h), t) at e)
+        | inr t ↦ x.nobody n (rw (now, remembered-release n k (resolved ms h), t) at e)
+      ];
+      keys = All-cons HasKey (Release k) h lt x.keys;
+    }
+
+-- the release of a holder, if there is one, keeps it so
+left_more : (ms : Maps) (h : List Event) (i : Modifier) (o : Option ℕ) → ((k : ℕ) → o ≡ Some k → k < 128)
+    → IsLeft ms h i → IsLeft ms (release_of o ++ h) i
+left_more ms h i None f x = x
+left_more ms h i (Some k) f x = left-release ms h i k (f k refl) x
+
+-- the release of a holder, if there is one, stands behind the others
+pub apart : (o : Option ℕ) (g h : List Event) → (release_of o ++ g) ++ h ≡ release_of o ++ (g ++ h)
+apart None g h = refl
+apart (Some k) g h = refl
+
+-- the releases of all holders keep it so
+left-releases : (ms : Maps) (h : List Event) (s : State) (i : Modifier) (more : List Modifier)
+    → ((j : Modifier) (k : ℕ) → Holds s k j → k < 128) → IsLeft ms h i → IsLeft ms (releases s more ++ h) i
+left-releases ms h s i [] key x = x
+left-releases ms h s i (j ∷ more) key x =
+    search (rules, apart, left_more, left-releases ms h s i more key x)
+
+-- after the releases no holder of those modifiers is pressed
+abbrev HoldsNone : State → ℕ → List Modifier → Type 0
+HoldsNone s k [] = Unit {0}
+HoldsNone s k (i ∷ more) = (Holds s k i → ⊥) × HoldsNone s k more
+
+-- a key that is pressed after the release of a holder isn't that holder
+released_more : (k : ℕ) (h : List Event) (o : Option ℕ) → pressed k (release_of o ++ h) ≡ true
+    → (o ≡ Some k → ⊥) × (pressed k h ≡ true)
+released_more k h None p = ((λ e. none-some k e), p)
+released_more k h (Some j) p = search (rules, cases_Bool, pressed-release, eq-eqb, same_Some)
+
+-- a key that is pressed after the releases of all holders is none of them
+released : (k : ℕ) (h : List Event) (s : State) (more : List Modifier) → pressed k (releases s more ++ h) ≡ true
+    → HoldsNone s k more × (pressed k h ≡ true)
+released k h s [] p = (tt, p)
+released k h s (i ∷ more) p =
+    let q : (Holds s k i → ⊥) × (pressed k (releases s more ++ h) ≡ true) =
+    released_more k (releases s more ++ h) (s.holder i) (rw (apart (s.holder i) (releases s more) h) at p) in
+    let rest : HoldsNone s k more × (pressed k h ≡ true) = released k h s more q.1 in
+    ((q.0, rest.0), rest.1)
+
+-- a key that is no holder of any modifier holds none
+holds-none : (s : State) (k : ℕ) (i : Modifier) → HoldsNone s k modifiers → Holds s k i → ⊥
+holds-none s k LeftShift n = n.0
+holds-none s k RightShift n = n.1.0
+holds-none s k LeftControl n = n.1.1.0
+holds-none s k RightControl n = n.1.1.1.0
+holds-none s k LeftAlt n = n.1.1.1.1.0
+holds-none s k RightAlt n = n.1.1.1.1.1.0
+holds-none s k AltShift n = n.1.1.1.1.1.1.0
+holds-none s k Meta n = n.1.1.1.1.1.1.1.0
+
+-- after the releases of all holders no key is pressed
+quiet-after : (u : Under) (h : List Event) (s : State) (i : Modifier) (k : ℕ) → Stands u h s → Holds s k i
+    → IsQuiet (releases s modifiers ++ (Press k ∷ h))
+quiet-after u h s i k x holds n lt =
+    false_from_ne_true (pressed n (releases s modifiers ++ (Press k ∷ h))) (λ p.
+    let q : HoldsNone s n modifiers × (pressed n (Press k ∷ h) ≡ true) = released n (Press k ∷ h) s modifiers p in
+    elim (cases_Bool (k == n)) [
+      | inl t ↦ holds-none s n i q.0 (subst (λ y. Holds s y i) (eqb-true k n t) holds)
+      | inr t ↦
+          let w : HoldsSome s n = x.pressed n (rw (pressed-press n k h, t) at q.1) in
+          holds-none s n w.0 q.0 w.1
+    ])
+
+-- presses, releases and, where there are any, loads
+sent-release : (u : Under) (o : Option ℕ) (h : List Event) → All (IsSent u.has_loads) h
+    → All (IsSent u.has_loads) (release_of o ++ h)
+sent-release u None h x = x
+sent-release u (Some k) h x = All-cons (IsSent u.has_loads) (Release k) h tt x
+
+-- releases of holders are sent
+sent-releases : (u : Under) (s : State) (more : List Modifier) (h : List Event) → All (IsSent u.has_loads) h
+    → All (IsSent u.has_loads) (releases s more ++ h)
+sent-releases u s [] h x = x
+sent-releases u s (i ∷ more) h x = search (rules, apart, sent-release, sent-releases u s more h x)
+
+-- the events of a move are sent
+sent-move : (u : Under) (s : State) (move : Move) (h : List Event) → IsMove u s move → All (IsSent u.has_loads) h
+    → All (IsSent u.has_loads) (events_of_move move ++ h)
+sent-move u s (Hold k i) h is x = All-cons (IsSent u.has_loads) (Press k) h tt x
+sent-move u s (Turn k l) h is x = search (rules, All-cons)
+sent-move u s (LetGo k i) h is x = All-cons (IsSent u.has_loads) (Release k) h tt x
+sent-move u s Exchange h is x = All-cons (IsSent u.has_loads) Load h is.1 x
+
+-- the events along a path are sent
+sent-along : (u : Under) (path : List Move) → IsPath u path → All (IsSent u.has_loads) (events_along path)
+sent-along u [] is = All-nil (IsSent u.has_loads)
+sent-along u (move ∷ path) is =
+    sent-move u (state_after u path) move (events_along path) is.0 (sent-along u path is.1)
+
+-- how many presses the script has
+presses-release : (o : Option ℕ) (h : List Event) → presses (release_of o ++ h) ≡ presses h
+presses-release None h = refl
+presses-release (Some k) h = refl
+
+-- releases of holders have no presses
+presses-releases : (s : State) (more : List Modifier) (h : List Event) → presses (releases s more ++ h) ≡ presses h
+presses-releases s [] h = refl
+presses-releases s (i ∷ more) h = search (rules, apart, presses-release, presses-releases s more h)
+
+-- the events of a move have as many presses as the move
+presses-move : (move : Move) (h : List Event) → presses (events_of_move move ++ h) ≡ presses h + presses_of move
+presses-move (Hold k i) h = omega arith
+presses-move _ h = omega arith
+
+-- the events along a path have as many presses as the path
+presses-along : (path : List Move) → presses (events_along path) ≡ presses_along path
+presses-along [] = refl
+presses-along (move ∷ path) = presses-move move (events_along path) ∙ ap (λ n. n + presses_of move) (presses-along path)
+
+-- a script has one press more than its path
+pub presses-script : (u : Under) (path : List Move) (k : ℕ)
+    → presses (script_of_path u path k) ≡ suc (presses_along path)
+presses-script u path k = search (rules, presses-releases, presses-along)
+
+-- a holder is pressed
+pub holder-pressed : (u : Under) (h : List Event) (s : State) (i : Modifier) (k : ℕ) → Stands u h s → Holds s k i
+    → pressed k h ≡ true
+holder-pressed u h s i k x holds = remembered-pressed u.maps h k (act.Mod i) (x.exact.follows.holds i k holds)
+
+-- a key holds one modifier
+one-held : (u : Under) (h : List Event) (s : State) (i j : Modifier) (k : ℕ) → Stands u h s → Holds s k i
+    → Holds s k j → i ≡ j
+one-held u h s i j k x a b =
+    let e : Some (act.Mod i) ≡ Some (act.Mod j) = sym (x.exact.follows.holds i k a) ∙ x.exact.follows.holds j k b in cc
+
+-- the events along a path release pressed keys
+releases-along : (u : Under) (path : List Move) → IsPath u path → ReleasesPressedKeys (events_along path)
+releases-along u [] is = tt
+releases-along u (Hold k i ∷ path) is = (tt, releases-along u path is.1)
+releases-along u (Turn k l ∷ path) is =
+    (rw (pressed-press k k (events_along path), eq-eqb k k refl) refl, (tt, releases-along u path is.1))
+releases-along u (LetGo k i ∷ path) is = (
+  holder-pressed u (events_along path) (state_after u path) i k (stands u path is.1) is.0,
+  releases-along u path is.1,
+)
+releases-along u (Exchange ∷ path) is = (tt, releases-along u path is.1)
+
+-- a key that holds none of these modifiers stays pressed
+pressed-still : (s : State) (k : ℕ) (more : List Modifier) (h : List Event) → HoldsNone s k more
+    → pressed k h ≡ true → pressed k (releases s more ++ h) ≡ true
+pressed-still s k [] h none p = p
+pressed-still s k (i ∷ more) h (not_it, none) p =
+    rw (apart (s.holder i) (releases s more) h)
+    (go (s.holder i) not_it (pressed-still s k more h none p))
+  where
+    go : (o : Option ℕ) → (o ≡ Some k → ⊥) → pressed k (releases s more ++ h) ≡ true
+        → pressed k (release_of o ++ (releases s more ++ h)) ≡ true
+    go None f q = q
+    go (Some j) f q = search (rules, false_from_ne_true, eqb-true, pressed-release)
+
+-- no modifier stands twice in a list
+abbrev pub all_differ : List Modifier → Bool
+all_differ [] = true
+all_differ (i ∷ more) = not (list_any (same_modifier i) more) && all_differ more
+
+-- the holder of a modifier holds none of the others
+holds-no_other : (u : Under) (h : List Event) (s : State) (i : Modifier) (k : ℕ) → Stands u h s → Holds s k i
+    → (more : List Modifier) → list_any (same_modifier i) more ≡ false → HoldsNone s k more
+holds-no_other u h s i k x holds [] differs = tt
+holds-no_other u h s i k x holds (j ∷ more) differs =
+    let parts = or_parts (same_modifier i j) (list_any (same_modifier i) more) differs in (
+      (λ other.
+          let same : same_modifier i j ≡ true =
+          ap (λ m. same_modifier i m) (sym (one-held u h s i j k x holds other)) ∙ same_action-refl (act.Mod i) in
+          true≢false (sym same ∙ parts.0)),
+      holds-no_other u h s i k x holds more parts.1,
+    )
+
+-- the releases of the holders are of pressed keys, where the holders are pressed after g
+pub releases-holders : (u : Under) (h : List Event) (s : State) → Stands u h s → (g : List Event)
+    → ((i : Modifier) (k : ℕ) → Holds s k i → pressed k g ≡ true) → ReleasesPressedKeys g → (more : List Modifier)
+    → all_differ more ≡ true → ReleasesPressedKeys (releases s more ++ g)
+releases-holders u h s x g held ok [] differ = ok
+releases-holders u h s x g held ok (i ∷ more) differ =
+    rw (apart (s.holder i) (releases s more) g)
+    (go (s.holder i) refl (releases-holders u h s x g held ok more parts.1))
+  where
+    parts : (not (list_any (same_modifier i) more) ≡ true) × (all_differ more ≡ true)
+    parts = and_parts (not (list_any (same_modifier i) more)) (all_differ more) differ
+
+    go : (o : Option ℕ) → s.holder i ≡ o → ReleasesPressedKeys (releases s more ++ g)
+        → ReleasesPressedKeys (release_of o ++ (releases s more ++ g))
+    go None e rest = rest
+    go (Some k) e rest = (
+      pressed-still s k more g
+          (holds-no_other u h s i k x e more (not-true (list_any (same_modifier i) more) parts.0)) (held i k e),
+      rest,
+    )
+
+-- the script of a path releases pressed keys
+pub releases-script : (u : Under) (path : List Move) → IsPath u path → (k : ℕ)
+    → ReleasesPressedKeys (script_of_path u path k)
+releases-script u path is k =
+    search (rules, releases-holders, stands, pressed-press, pressed_if, holder-pressed, releases-along)
+
+-- the script to a state where a holder looks up a character leaves its modifier on
+left-after : (u : Under) (path : List Move) → IsPath u path → (i : Modifier) (k : ℕ)
+    → HolderForgets u (state_after u path) i k → IsLeft u.maps (script_of_path u path k) i
+left-after u path is i k forgets =
+    let x : Stands u (events_along path) (state_after u path) = stands u path is in
+    left-releases u.maps (Press k ∷ events_along path) (state_after u path) i modifiers x.key
+    (left-character u (events_along path) (state_after u path) i k x forgets)
+
+-- a path to a state where a holder looks up a character makes a modifier stick
+pub script-sticks : (u : Under) (path : List Move) → IsPath u path → (i : Modifier) (k : ℕ)
+    → HolderForgets u (state_after u path) i k
+    → HasKeys (script_of_path u path k) × All (IsSent u.has_loads) (script_of_path u path k)
+    × (IsQuiet (script_of_path u path k) × (is_on_after u.maps i (script_of_path u path k) ≡ true))
+script-sticks u path is i k forgets =
+    let left : IsLeft u.maps (script_of_path u path k) i = left-after u path is i k forgets in (
+      left.keys,
+      sent-releases u (state_after u path) modifiers (Press k ∷ events_along path)
+          (All-cons (IsSent u.has_loads) (Press k) (events_along path) tt (sent-along u path is)),
+      (quiet-after u (events_along path) (state_after u path) i k (stands u path is) forgets.0, left.on),
+    )
+
+-- the states that paths lead to
+abbrev pub Reached : Under → State → Type 0
+Reached u s = (path : List Move) × IsPath u path × (state_after u path ≡ s)
+
+-- a move from a state that is reached reaches the next
+pub reached-more : (u : Under) (s : State) (move : Move) → Reached u s → IsMove u s move → Reached u (moved u s move)
+reached-more u s move there is =
+    (move ∷ there.0, (subst (λ x. IsMove u x move) (sym there.2) is, there.1), ap (λ x. moved u x move) there.2)
+
+-- moves keep the states that are reached
+pub reached-kept : (u : Under) (n : ℕ) → IsKeptBelow u n (λ p s. Reached u s)
+reached-kept u n = search (rules, reached-more)
+
+-- where no path leads to a holder that looks up a character, they are safe
+pub reached-safe : (u : Under) → NeverForgets u → (n : ℕ) → IsSafeBelow u n (λ p s. Reached u s)
+reached-safe u never n = search (rules, reached-kept)
+
+-- without such a path no modifier ever sticks
+pub never-unless_reached : (u : Under) → NeverForgets u → NeverIn u
+never-unless_reached u never = never-sticks u (λ p s. Reached u s) (reached-safe u never)

@@ -1,0 +1,344 @@
+-- The search level by level: it meets what a release, a load or a press leads to, and closes and presses each place.
+use Rattle.console_states.proofs.Common.{cases_Bool, suc, ◌≡◌, ℕ, ◌+◌, ◌<◌, ◌≤◌, Bool, true, false, ◌⊎◌, inl, inr, []}
+use Rattle.console_states.proofs.Common.{◌∷◌, ◌++◌, IfSome, length, slice_get, Option, Some, None, refl, ap, subst, sym}
+use Rattle.console_states.proofs.Common.{◌∙◌, arith, cases_lt, true≢false, slice_get_within, same_Some, All-nil}
+use Rattle.console_states.proofs.Common.{All-cons, Modifier, Lock, Scroll, Act, Move, Hold, Turn, LetGo, Exchange, Held}
+use Rattle.console_states.proofs.Common.{Step, is_some, lookup, insert_entry, Under, State, look_in, with_holder}
+use Rattle.console_states.proofs.Common.{with_lock_turned, Holds, IsMove, moved, presses_of, state_of, Entry, Entries}
+use Rattle.console_states.proofs.Common.{Grows, IsStep, StepsTo, PressesLead, IsMetBy, AreMet, AreWithin, IsFrom}
+use Rattle.console_states.proofs.Common.{AreAdded, IsReached, AreDone, Searched, AreInOrder}
+use Rattle.console_states.specs.Inner.Searching.{IsClosed, IsPressed}
+use Rattle.console_states.proofs.SameStates.{are_same, tells-same}
+use Rattle.console_states.proofs.Growing.{at-now, at_old, at_new, all-at, from-cases, added-longer, one_entry}
+use Rattle.console_states.proofs.Growing.{grows-again, met-grows, met-last, moves-grow, reached-grows, reached-next}
+use Rattle.keymap_core.specs.declared.action.Action.TheVariants as act
+
+-- what was searched stays so when the entries grow
+pub searched-grows : {o : State} (u : Under) (es now : Entries) (place n p a b : ℕ) (y : Entry)
+    → slice_get es place ≡ Some y
+    → p ≡ y.1.presses + n
+    → AreAdded u (state_of y.0) place n p es now → a ≤ length es → b ≤ length es → Searched u o es a b
+    → Searched u o now a b
+searched-grows {o} u es now place n p a b y here e added le_a le_b s =
+    let g : Grows es now = (added.0, added.1) in
+    let lt : place < length es = slice_get_within es place y here in
+    let either : (j : ℕ) (x : Entry) → slice_get now j ≡ Some x
+    → (slice_get es j ≡ Some x) ⊎ ((length es ≤ j) × IsFrom u (state_of y.0) place n p x) =
+    from-cases u (state_of y.0) place n p es now added in
+    record {
+      start = met-grows es now 0 o g s.start;
+      reached = λ j x at. elim (either j x at) [
+        | inl old ↦ reached-grows u es now j x g (s.reached j x old)
+        | inr new ↦
+            reached-next u es now place n p y g (s.reached place y here) e j x
+            at (let le : length es ≤ j = new.0 in omega (arith, lt, le)) new.1
+      ];
+      pressed = λ j x at below. elim (either j x at) [
+        | inl old ↦ moves-grow u es now 1 (x.1.presses + 1) (state_of x.0) g (s.pressed j x old below)
+        | inr new ↦ let le : length es ≤ j = new.0 in absurd (omega (arith, below, le_a, le))
+      ];
+      closed = λ j x at below. elim (either j x at) [
+        | inl old ↦ moves-grow u es now 0 x.1.presses (state_of x.0) g (s.closed j x old below)
+        | inr new ↦ let le : length es ≤ j = new.0 in absurd (omega (arith, below, le_b, le))
+      ];
+    }
+
+-- fewer of them are asked for
+pub searched-fewer : {o : State} (u : Under) (es : Entries) (a b c d : ℕ) → c ≤ a → d ≤ b → Searched u o es a b
+    → Searched u o es c d
+searched-fewer u es a b c d le_c le_d s = record {
+  start = s.start;
+  reached = s.reached;
+  pressed = λ j x at lt. s.pressed j x at (omega (arith, lt, le_c));
+  closed = λ j x at lt. s.closed j x at (omega (arith, lt, le_d));
+}
+
+-- a place below n + 1 is below n, or n
+pub place_last : (j n : ℕ) → j < n + 1 → (j < n) ⊎ (j ≡ n)
+place_last j n lt = elim (cases_lt j n) [ inl below ↦ inl below | inr le ↦ inr (omega (arith, lt, le)) ]
+
+-- entries at the same place are the same
+pub same_entry : (es : Entries) (j n : ℕ) (x y : Entry)
+    → j ≡ n → slice_get es j ≡ Some x → slice_get es n ≡ Some y → y ≡ x
+same_entry es j n x y e at here = same_Some y x (sym here ∙ ap (λ k. slice_get es k) (sym e) ∙ at)
+
+-- a further entry whose releases are met
+pub searched-closed : {o : State} (u : Under) (es : Entries) (a n : ℕ) (y : Entry) → slice_get es n ≡ Some y
+    → IsClosed u es y
+    → Searched u o es a n → Searched u o es a (n + 1)
+searched-closed u es a n y here closed s = record {
+  start = s.start;
+  reached = s.reached;
+  pressed = s.pressed;
+  closed = λ j x at lt. elim (place_last j n lt) [
+    | inl below ↦ s.closed j x at below
+    | inr e ↦ subst (λ z. IsClosed u es z) (same_entry es j n x y e at here) closed
+  ];
+}
+
+-- a further entry whose presses are met
+pub searched-pressed : {o : State} (u : Under) (es : Entries) (n b : ℕ) (y : Entry) → slice_get es n ≡ Some y
+    → IsPressed u es y
+    → Searched u o es n b → Searched u o es (n + 1) b
+searched-pressed u es n b y here pressed s = record {
+  start = s.start;
+  reached = s.reached;
+  closed = s.closed;
+  pressed = λ j x at lt. elim (place_last j n lt) [
+    | inl below ↦ s.pressed j x at below
+    | inr e ↦ subst (λ z. IsPressed u es z) (same_entry es j n x y e at here) pressed
+  ];
+}
+
+-- entries in order are within the number of presses
+pub order-within : (es : Entries) (level p : ℕ) → AreInOrder es level p → AreWithin es p
+order-within es level p (order, ordered) j x at =
+    elim (cases_lt j level) [
+      | inl below ↦ let lt : x.1.presses < p = (order j x at).0 below in omega (arith, lt)
+      | inr le ↦ let e : x.1.presses ≡ p = (order j x at).1 le in omega (arith, e)
+    ]
+
+-- entries that no fewer presses lead to are added in order
+pub order-grows : (u : Under) (s : State) (place n p level : ℕ) (es now : Entries) → AreAdded u s place n p es now
+    → level ≤ length es → AreInOrder es level p → AreInOrder now level p
+order-grows u s place n p level es now added le order = (
+  (λ j x at. elim (either j x at) [
+    | inl old ↦ order.0 j x old
+    | inr (after, from) ↦ ((λ lt. absurd (omega (arith, lt, le, after))), (λ le_j. from.1))
+  ]),
+  (λ i j x y up at_i at_j. elim (either i x at_i) [
+    | inl old ↦ elim (either j y at_j) [
+      | inl old_j ↦ order.1 i j x y up old old_j
+      | inr (after, from) ↦
+          let within : x.1.presses ≤ p = order-within es level p order i x old in omega (arith, within, from.1)
+    ]
+    | inr (after, from) ↦ elim (either j y at_j) [
+      | inl old_j ↦
+          let lt : j < length es = slice_get_within es j y old_j in absurd (omega (arith, lt, up, after))
+      | inr (after_j, from_j) ↦ omega (arith, from.1, from_j.1)
+    ]
+  ]),
+)
+  where
+    either : (j : ℕ) (x : Entry) → slice_get now j ≡ Some x
+        → (slice_get es j ≡ Some x) ⊎ ((length es ≤ j) × IsFrom u s place n p x)
+    either = from-cases u s place n p es now added
+
+-- entries in order begin the next level
+pub order-next : (es : Entries) (level p : ℕ) → AreInOrder es level p → AreInOrder es (length es) (p + 1)
+order-next es level p order = (
+  (λ j x at.
+      let lt : j < length es = slice_get_within es j x at in (
+        (λ below. let le : x.1.presses ≤ p = order-within es level p order j x at in omega (arith, le)),
+        (λ le. absurd (omega (arith, lt, le))),
+      )),
+  order.1,
+)
+
+-- entries met by fewer presses than the level stand below it
+pub below_level : (es : Entries) (level p : ℕ) → AreInOrder es level p → (j : ℕ) (x : Entry) → slice_get es j ≡ Some x
+    → x.1.presses < p → j < level
+below_level es level p order j x at lt =
+    elim (cases_lt j level) [
+      | inl less ↦ less
+      | inr le ↦ let e : x.1.presses ≡ p = (order.0 j x at).1 le in absurd (omega (arith, e, lt))
+    ]
+
+-- what a press of a key that looks up a modifier, or a lock, leads to
+pub pressed-mod : (u : Under) (s : State) (k : ℕ) (i : Modifier) (step : Option Step)
+    → look_in u s k ≡ Act (act.Mod i) → StepsTo step (with_holder s i (Some k)) → PressesLead u s k (StepsTo step)
+pressed-mod u s k i step seen to idle = (
+  (λ j f free. let e : i ≡ j = cc in subst (λ n. StepsTo step (with_holder s n (Some k))) e to),
+  (λ l other f. absurd (cc (seen, f))),
+)
+
+pub pressed-lock : (u : Under) (s : State) (k : ℕ) (l : Lock) (step : Option Step)
+    → look_in u s k ≡ Act (act.Lock l) → StepsTo step (with_lock_turned s l) → PressesLead u s k (StepsTo step)
+pressed-lock u s k l step seen to idle = (
+  (λ j f free. absurd (cc (seen, f))),
+  (λ n other f. let e : l ≡ n = cc in subst (λ q. StepsTo step (with_lock_turned s q)) e to),
+)
+
+-- where a step leads is as what it leads to
+pub steps-to : (P : State → Type 0) (step : Option Step) (s : State) → StepsTo step s
+    → IfSome step (λ x. P (state_of x.to)) → P s
+steps-to P step s (x, e, is) all = subst P is (subst (λ o. IfSome o (λ x. P (state_of x.to))) e all)
+
+-- what holds where presses lead
+pub presses-map : (P Q : State → Type 0) → ((t : State) → P t → Q t) → (u : Under) (s : State) (k : ℕ)
+    → PressesLead u s k P → PressesLead u s k Q
+presses-map P Q f u s k lead idle = (
+  (λ i seen free. f (with_holder s i (Some k)) ((lead idle).0 i seen free)),
+  (λ l other seen. f (with_lock_turned s l) ((lead idle).1 l other seen)),
+)
+
+-- the moves without a press, and those with one
+pub frees-met : (u : Under) (es : Entries) (p : ℕ) (s : State)
+    → ((k : ℕ) (i : Modifier) → Holds s k i → IsMetBy es p (with_holder s i None))
+    → (IsMove u s Exchange → IsMetBy es p (moved u s Exchange)) → AreMet u es 0 p s
+frees-met u es p s let_go load (Hold k i) is leaves none = absurd (omega (arith, none))
+frees-met u es p s let_go load (Turn k l) is leaves none = absurd (omega (arith, none))
+frees-met u es p s let_go load (LetGo k i) is leaves none = let_go k i is
+frees-met u es p s let_go load Exchange is leaves none = load is
+
+pub presses-met : (u : Under) (es : Entries) (p : ℕ) (s : State)
+    → ((k : ℕ) → k < 128 → PressesLead u s k (IsMetBy es p)) → AreMet u es 1 p s
+presses-met u es p s press (Hold k i) (lt, idle, seen, free) leaves one = (press k lt idle).0 i seen free
+presses-met u es p s press (Turn k l) (lt, idle, seen) leaves one = (press k lt idle).1 l leaves seen
+presses-met u es p s press (LetGo k i) is leaves one = absurd (omega (arith, one))
+presses-met u es p s press Exchange is leaves one = absurd (omega (arith, one))
+
+-- a move takes no press or one
+pub no-press_or_one : (move : Move) → (presses_of move ≡ 0) ⊎ (presses_of move ≡ 1)
+no-press_or_one (Hold k i) = inr refl
+no-press_or_one (Turn k l) = inr refl
+no-press_or_one _ = inl refl
+
+-- what is met by a number of presses is by each larger one
+pub met-up : (es : Entries) (p q : ℕ) (s : State) → p ≤ q → IsMetBy es p s → IsMetBy es q s
+met-up es p q s up (j, x, at, is, le) = (j, x, at, is, omega (arith, le, up))
+
+-- what a call of `meet` adds
+pub meet-new : (es now : Entries) (place p : ℕ) (x : Step)
+    → now ≡ es ++ (x.to, record { presses = p; last = Some (place, x.by) }) ∷ [] → AreWithin es p
+    → IsMetBy now p (state_of x.to) × AreWithin now p × Grows es now
+    × ((u : Under) (h : Held) (n : ℕ) → IsStep u (state_of h) n x → AreAdded u (state_of h) place n p es now)
+meet-new es now place p x e within =
+    let entry : Entry = (x.to, record { presses = p; last = Some (place, x.by) }) in (
+      subst (λ y. IsMetBy y p (state_of x.to)) (sym e) (met-last es p entry (omega arith)),
+      (λ j y at. elim (cases_lt j (length es)) [
+        | inl lt ↦ within j y (at_old es (entry ∷ []) j y lt (subst (λ z. slice_get z j ≡ Some y) e at))
+        | inr le ↦
+            let k : (i : ℕ) × (slice_get (entry ∷ []) i ≡ Some y) =
+            at_new es (entry ∷ []) j y le (subst (λ z. slice_get z j ≡ Some y) e at) in
+            all-at (λ z. z.1.presses ≤ p) (entry ∷ []) k.0 y
+            (All-cons (λ z. z.1.presses ≤ p) entry [] (omega arith) (All-nil (λ z. z.1.presses ≤ p))) k.1
+      ]),
+      (entry ∷ [], e),
+      (λ u h n (is, to, by, leaves). (
+        entry ∷ [],
+        e,
+        All-cons (IsFrom u (state_of h) place n p) entry [] (x.by, refl, refl, is, to, by, leaves)
+            (All-nil (IsFrom u (state_of h) place n p)),
+      )),
+    )
+
+abbrev IsFound : Entries → Held → Type 0
+IsFound es k = (j : ℕ) × (x : Entry) × (slice_get es j ≡ Some x) × (state_of k ≡ state_of x.0)
+
+found : (es : Entries) (k : Held) → is_some (lookup (are_same k) es) ≡ true → IsFound es k
+found [] k e = absurd (true≢false (sym e))
+found (y ∷ es) k e = elim (cases_Bool (are_same k y.0)) [
+  | inl t ↦ (0, y, refl, tells-same k y.0 t)
+  | inr t ↦ let r : IsFound es k = found es k (rw t at e) in (suc r.0, r.1, r.2, r.3)
+]
+
+pub meet-old : (es : Entries) (p : ℕ) (k : Held) → is_some (lookup (are_same k) es) ≡ true → AreWithin es p
+    → IsMetBy es p (state_of k)
+meet-old es p k e within =
+    let r : IsFound es k = found es k e in
+    (r.0, r.1, r.2, sym r.3, within r.0 r.1 r.2)
+
+-- a place of a level is closed
+pub close-step : {o : State} (u : Under) (es now : Entries) (level p n : ℕ) (y : Entry) → Searched u o es level n
+    → AreInOrder es level p → level ≤ n → slice_get es n ≡ Some y
+    → AreAdded u (state_of y.0) n 0 p es now
+    → AreMet u now 0 p (state_of y.0) → Searched u o now level (n + 1) × AreInOrder now level p
+close-step {o} u es now level p n y s order le here added met =
+    let lt : n < length es = slice_get_within es n y here in
+    let e : y.1.presses ≡ p = (order.0 n y here).1 le in
+    let below : level ≤ length es = omega (arith, le, lt) in
+    let grown : Searched u o now level n =
+    searched-grows u es now n 0 p level n y here (omega (arith, e)) added below (omega (arith, lt)) s in
+    let closed : IsClosed u now y = subst (λ q. AreMet u now 0 q (state_of y.0)) (sym e) met in (
+      searched-closed u now level n y (at-now es now n y (added.0, added.1) here) closed grown,
+      order-grows u (state_of y.0) n 0 p level es now added below order,
+    )
+
+-- a place of a level is pressed
+pub press-step : {o : State} (u : Under) (old es now : Entries) (level p n : ℕ) (y : Entry)
+    → Searched u o es n (length old)
+    → AreInOrder old level p → Grows old es
+    → AreInOrder es (length old) (p + 1) → level ≤ n → n < length old → slice_get es n ≡ Some y
+    → AreAdded u (state_of y.0) n 1 (p + 1) es now → AreMet u now 1 (p + 1) (state_of y.0)
+    → Searched u o now (n + 1) (length old) × AreInOrder now (length old) (p + 1) × Grows old now
+press-step {o} u old es now level p n y s before g order le lt here added met =
+    let was : slice_get old n ≡ Some y = at_old old g.0 n y lt (subst (λ z. slice_get z n ≡ Some y) g.1 here) in
+    let e : y.1.presses ≡ p = (before.0 n y was).1 le in
+    let longer : length old ≤ length es = added-longer old es g in
+    let grown : Searched u o now n (length old) =
+    searched-grows u es now n 1 (p + 1) n (length old) y here (omega (arith, e)) added (omega (arith, lt, longer))
+    longer s in
+    let pressed : IsPressed u now y = subst (λ q. AreMet u now 1 (q + 1) (state_of y.0)) (sym e) met in (
+      searched-pressed u now n (length old) y (at-now es now n y (added.0, added.1) here) pressed grown,
+      order-grows u (state_of y.0) n 1 (p + 1) (length old) es now added longer order,
+      grows-again old es now g (added.0, added.1),
+    )
+
+-- the search begins at the start
+pub start-entries : (E : Held → Held → Bool) (es now : Entries) (x : Entry) → es ≡ [] → now ≡ insert_entry E es x.0 x.1
+    → now ≡ x ∷ []
+start-entries E es now x none e = e ∙ ap (λ z. insert_entry E z x.0 x.1) none
+
+-- a search begins with its origin
+pub searched-start : (u : Under) (h : Held) → (state_of h).is_locked Scroll ≡ false → (es : Entries)
+    → es ≡ (h, record { presses = 0; last = None }) ∷ []
+    → Searched u (state_of h) es 0 0 × AreInOrder es 0 0
+searched-start u h off es e =
+    let x : Entry = (h, record { presses = 0; last = None }) in
+    let only : (j : ℕ) (y : Entry) → slice_get es j ≡ Some y → (j ≡ 0) × (y ≡ x) =
+    λ j y at. one_entry x j y (subst (λ z. slice_get z j ≡ Some y) e at) in
+    let first : slice_get es 0 ≡ Some x = ap (λ z. slice_get z 0) e in (
+      record {
+        start = (0, x, first, refl, omega arith);
+        reached = λ j y at.
+            subst (λ z. IsReached u (state_of h) es j z) (sym (only j y at).1)
+            (rw (only j y at).0 ([], (x, first, refl), tt, refl, refl, off));
+        pressed = λ j y at lt. absurd (omega (arith, lt));
+        closed = λ j y at lt. absurd (omega (arith, lt));
+      },
+      (
+        (λ j y at. ((λ lt. absurd (omega (arith, lt))), (λ le. ap (λ z. z.1.presses) (only j y at).1))),
+        (λ i j y z up at_i at_j.
+            let e : y.1.presses ≡ 0 = ap (λ w. w.1.presses) (only i y at_i).1 in omega (arith, e)),
+      ),
+    )
+
+-- ---- what is done
+
+-- where moves lead from what is closed and pressed, by fewer than n presses
+done-by : (u : Under) (es : Entries) (n : ℕ)
+    → ((j : ℕ) (x : Entry) → slice_get es j ≡ Some x → x.1.presses < n → IsClosed u es x)
+    → ((j : ℕ) (x : Entry) → slice_get es j ≡ Some x → x.1.presses + 1 < n → IsPressed u es x) → AreDone u es n
+done-by u es n closed pressed j x at move is leaves lt = elim (no-press_or_one move) [
+  | inl none ↦
+      met-up es x.1.presses (x.1.presses + presses_of move) (moved u (state_of x.0) move) (omega (arith, none))
+      (closed j x at (omega (arith, lt, none)) move is leaves none)
+  | inr one ↦
+      met-up es (x.1.presses + 1) (x.1.presses + presses_of move) (moved u (state_of x.0) move) (omega (arith, one))
+      (pressed j x at (omega (arith, lt, one)) move is leaves one)
+]
+
+-- all that was met is
+pub all-done : {o : State} (u : Under) (es : Entries) → Searched u o es (length es) (length es) → (n : ℕ)
+    → AreDone u es n
+all-done u es s n =
+    done-by u es n (λ j x at lt. s.closed j x at (slice_get_within es j x at))
+    (λ j x at lt. s.pressed j x at (slice_get_within es j x at))
+
+-- where fewer presses than those of a level lead was met
+pub level-done : {o : State} (u : Under) (es : Entries) (level p : ℕ) → AreInOrder es level p
+    → Searched u o es level level → AreDone u es p
+level-done u es level p order s =
+    done-by u es p (λ j x at lt. s.closed j x at (below_level es level p order j x at lt))
+    (λ j x at lt. s.pressed j x at (below_level es level p order j x at (omega (arith, lt))))
+
+-- where as many presses lead was met, where the level was closed, and some of the next one was met
+pub closed-done : {o : State} (u : Under) (old es : Entries) (level p : ℕ) → AreInOrder old level p → Grows old es
+    → AreInOrder es (length old) (p + 1) → Searched u o es level (length old) → AreDone u es (p + 1)
+closed-done u old es level p before g order s =
+    done-by u es (p + 1) (λ j x at lt. s.closed j x at (below_level es (length old) (p + 1) order j x at lt))
+    (λ j x at lt.
+    let here : j < length old = below_level es (length old) (p + 1) order j x at (omega (arith, lt)) in
+    let was : slice_get old j ≡ Some x = at_old old g.0 j x here (subst (λ z. slice_get z j ≡ Some x) g.1 at) in
+    s.pressed j x at (below_level old level p before j x was (omega (arith, lt))))

@@ -1,0 +1,21 @@
+use Rattle.console_states.proofs.Common.{◌≡◌, length, arith, under_of, IsOfferedIn, rules}
+use Rattle.console_states.proofs.Adding.{adds-none, adds-place, enumerates}
+use Rattle.console_states.proofs.offers.accents_of.Goals as goal
+
+pub loop-place-init : goal.loop-place-init
+loop-place-init c = search (rules, adds-none)
+
+pub loop-place-preserved : goal.loop-place-preserved
+loop-place-preserved c =
+    adds-place (λ a s. IsOfferedIn (under_of c.args.maps.now) s a) c.args.met.now.entries c.loop-place.place
+    c.entry-held.result c.loop-place.accents.items c.add_offers.new.accents.items c.entry-held.ensures
+    c.loop-place.invariant c.in_ok-add_offers.ensures
+
+pub returns : goal.returns
+returns c =
+    let u = under_of c.args.maps.now in
+    let es = c.args.met.now.entries in
+    let e : c.loop-place.place ≡ length es =
+    omega (arith, c.loop-place-test.false, c.loop-place.auto.place-end, c.len-place-end.ensures.len) in
+    enumerates _ c.loop-place.accents.items
+    (rw (← e) c.loop-place.invariant)

@@ -1,0 +1,13 @@
+use Rattle.console_states.proofs.Common.{refl, state_of}
+use Rattle.console_states.proofs.RoutesHome.{all-off}
+use Rattle.console_states.proofs.offers.is_offered_unlocked.Goals as goal
+
+pub returns-in-Some : goal.returns-in-Some
+returns-in-Some c =
+    λ e. (
+      c.loop-place.place,
+      c.entry-held.result,
+      c.entry-held.ensures,
+      all-off (state_of c.entry-held.result.0).is_locked (c.if-not-is_any_locked.ensures.unlocked refl),
+      (c.in-Some.field-0, c.in-Some.ensures.0, c.in-Some.ensures.1),
+    )

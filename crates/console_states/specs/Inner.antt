@@ -1,0 +1,8 @@
+-- What mirrors functions of the code, or tells of private fields. Private contracts cite it; no public clause does.
+pub mod HeldBytes
+pub mod Exploring
+pub mod Adding
+pub mod Routes
+pub mod Searching
+pub mod Showing
+pub mod Standing

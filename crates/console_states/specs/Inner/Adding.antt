@@ -1,0 +1,102 @@
+-- What is added of the states that a search met. Mirrors src/sights.rt and src/offers.rt.
+use Rattle.std.specs.Prelude.{◌≡◌, ◌≢◌, ◌<◌, ◌⊎◌, ℕ, false, true, List, length, [], ◌∷◌, ◌++◌, Some, slice_get}
+use Rattle.std.specs.List.{Contains}
+use Rattle.keymap_core.specs.declared.action.Lock.{Lock}
+use Rattle.keymap_core.specs.declared.action.Lock.TheVariants.{Scroll}
+use Rattle.keymap_core.specs.Maps.{MapValue}
+use Rattle.keymap_core.specs.Numbers.{key_count}
+use Rattle.console_states.specs.Types.{Move, Selection, Sight, Offer}
+use Rattle.console_core.specs.Answers.{usable}
+use Rattle.console_states.specs.Moves.{Under, State, IsMove, moved, IsPath, state_after}
+use Rattle.console_states.specs.Sights.{CanCompose, Offers, IsOfferedIn, IsOfferedAlong, HasNoDoubles, Enumerates}
+use Rattle.console_states.specs.Sights.{accents_in}
+use Rattle.console_states.specs.Sights.{selection_of, SeesBy}
+use Rattle.console_states.specs.Inner.Routes.{IsMet}
+use Rattle.console_states.specs.Inner.Searching.{state_of, Entry, Entries, AreWithin, Grows, LeavesScroll}
+
+-- the list has x, which was added if it wasn't there
+abbrev pub IsWith : {X : Type 0} → X → List X → List X → Type 0
+IsWith x old now = ((now ≡ old) × Contains old x) ⊎ ((now ≡ old ++ x ∷ []) × (Contains old x → ⊥))
+
+-- What was added is all of which P holds, and nothing else, and nothing twice.
+pub record Adds {X : Type 0} (P : X → Type 0) (old now : List X) : Type 0 where
+  pub kept : (x : X) → Contains old x → Contains now x
+  pub all : (x : X) → P x → Contains now x
+  pub only : (x : X) → Contains now x → Contains old x ⊎ P x
+  pub once : HasNoDoubles old → HasNoDoubles now
+
+-- Q holds in a state that was met, below the place
+abbrev pub IsInSome : Entries → ℕ → (State → Type 0) → Type 0
+IsInSome es n Q = (j : ℕ) × (x : Entry) × (slice_get es j ≡ Some x) × (j < n) × Q (state_of x.0)
+
+-- the selections are those of the states that were met
+abbrev pub AreSelectionsOf : Entries → List Selection → Type 0
+AreSelectionsOf es ys = Enumerates (λ y. IsInSome es (length es) (λ s. selection_of s ≡ y)) ys
+
+-- the usable accent of this key was added
+abbrev pub AddsOffer : Under → State → ℕ → List ℕ → List ℕ → Type 0
+AddsOffer u s k old now = Adds (λ a. (usable u.maps.first a ≡ true) × Offers u s k a) old now
+
+-- the usable accents of the keys below n were added
+abbrev pub AddsOffers : Under → State → ℕ → List ℕ → List ℕ → Type 0
+AddsOffers u s n old now =
+    Adds (λ a. (usable u.maps.first a ≡ true) × ((k : ℕ) × (k < n) × Offers u s k a)) old now
+
+-- the accents are those that are offered in the states that were met
+abbrev pub AreAccentsOf : Under → Entries → List ℕ → Type 0
+AreAccentsOf u es accents = Enumerates (λ a. IsInSome es (length es) (λ s. IsOfferedIn u s a)) accents
+
+-- no lock is on but the scroll lock
+abbrev pub IsUnlocked : State → Type 0
+IsUnlocked s = (l : Lock) → l ≢ Scroll → s.is_locked l ≡ false
+
+-- the accent is offered in a state that was met and where no lock is on
+abbrev pub IsOfferedUnlocked : Under → Entries → ℕ → Type 0
+IsOfferedUnlocked u es accent =
+    (j : ℕ) × (x : Entry) × (slice_get es j ≡ Some x) × IsUnlocked (state_of x.0)
+    × ((k : ℕ) × (k < key_count) × Offers u (state_of x.0) k accent)
+
+-- a path leads to the state along which the accent is offered
+abbrev pub IsBehind : Under → ℕ → State → Type 0
+IsBehind u accent s =
+    (path : List Move) × IsPath u path × IsOfferedAlong u path accent × (state_after u path ≡ s)
+
+-- the state was added, if it wasn't there
+pub record AddsState (s : State) (old now : Entries) : Type 0 where
+  pub within : AreWithin now 0
+  pub grown : Grows old now
+  pub added : IsMet now s
+  pub only : (j : ℕ) (x : Entry) → slice_get now j ≡ Some x → (slice_get old j ≡ Some x) ⊎ (state_of x.0 ≡ s)
+
+-- The states are behind where the accent is offered, among them those below the place that were met and where it is.
+pub record AreSeedsTo (u : Under) (accent : ℕ) (met : Entries) (place : ℕ) (es : Entries) : Type 0 where
+  pub within : AreWithin es 0
+  pub seeds : (j : ℕ) (x : Entry) → slice_get met j ≡ Some x → j < place → IsOfferedIn u (state_of x.0) accent
+      → IsMet es (state_of x.0)
+  pub behind : (j : ℕ) (x : Entry) → slice_get es j ≡ Some x
+      → IsBehind u accent (state_of x.0) × ((state_of x.0).is_locked Scroll ≡ false)
+
+-- All seeds of what was met are among the states, and where moves lead from those below the number.
+pub record AreBehindTo (u : Under) (accent : ℕ) (met es : Entries) (n : ℕ) : Type 0 where
+  pub seeds : AreSeedsTo u accent met (length met) es
+  pub moved : (j : ℕ) (x : Entry) → slice_get es j ≡ Some x → j < n → (move : Move)
+      → IsMove u (state_of x.0) move → LeavesScroll move → IsMet es (moved u (state_of x.0) move)
+
+-- the states are those behind where the accent is offered
+abbrev pub AreBehind : Under → ℕ → Entries → Entries → Type 0
+AreBehind u accent met es = AreBehindTo u accent met es (length es)
+
+-- the offers are those of the accents
+pub record AreOffersOf (m : MapValue) (accents : List ℕ) (offers : List Offer) : Type 0 where
+  pub all : accents_in offers ≡ accents
+  pub each : (o : Offer) → Contains offers o → Enumerates (CanCompose m o.accent) o.selections.items
+
+-- a press of some key sees the sight under one of the selections
+abbrev pub IsSelectedBy : MapValue → List Selection → Sight → Type 0
+IsSelectedBy m selections x =
+    (y : Selection) × Contains selections y × ((k : ℕ) × (k < key_count) × SeesBy m y k x)
+
+-- a press of some key sees the sight under a selection where the accent can be pending
+abbrev pub IsComposedBy : MapValue → List Offer → ℕ → Sight → Type 0
+IsComposedBy m offers accent x =
+    (o : Offer) × Contains offers o × (o.accent ≡ accent) × IsSelectedBy m o.selections.items x

@@ -1,0 +1,220 @@
+//! Which accents can be pending, and in which states: those that moves lead to from where a key that holds nothing
+//! looks up the accent's dead key.
+ghost use Rattle.std.specs.Prelude.{◌≡◌, ◌<◌, ◌++◌, ◌∷◌, [], ℕ, List, true, length, OnOk, IfOk};
+ghost use Rattle.std.specs.List.{Contains};
+ghost use Rattle.keymap_core.specs.Numbers.{key_count};
+ghost use Rattle.console_core.specs.Answers.{usable};
+ghost use Rattle.console_states.specs.Moves.{alone, start};
+ghost use Rattle.console_states.specs.Sights.{CanCompose, Enumerates};
+ghost use Rattle.console_states.specs.Inner.Searching.{state_of, under_of, AreWithin, Searched, HasMetAll};
+ghost use Rattle.console_states.specs.Inner.Adding.{IsWith, AddsOffer, AddsOffers, AreAccentsOf, AreSelectionsOf};
+ghost use Rattle.console_states.specs.Inner.Adding.{IsOfferedUnlocked, AddsState, AreSeedsTo, AreBehind};
+ghost use Rattle.console_states.specs.Inner.Adding.{AreOffersOf};
+
+use crate::held::{Held, Keymaps};
+use crate::moving_keys::moving_keys;
+use crate::search::{Met, Origin, entry, meet_frees, meet_presses};
+use crate::selection::Selection;
+use crate::sights::{Offer, selections_of};
+use console_core::is_usable;
+use indexmap::IndexMap;
+use keymap_core::{KEY_COUNT, KeyCode, key_with};
+use std::alloc::{AllocError, Global};
+
+/// Adds the accent, if it isn't there.
+fn add_accent(accents: &mut Vec<u8>, accent: u8) -> Result<(), AllocError>
+    ensures { OnOk result (IsWith accent accents.old.items accents.new.items) }
+{
+    if !accents.contains(&accent) {
+        accents.push(accent)?;
+    }
+    Ok(())
+}
+
+/// Adds the accent whose dead key the key looks up, if the key holds nothing and the accent is usable.
+fn add_offer(
+    accents: &mut Vec<u8>,
+    maps: &Keymaps,
+    held: &Held,
+    key: KeyCode,
+) -> Result<(), AllocError>
+    ensures { OnOk result (AddsOffer (under_of maps.now) (state_of held.now) key accents.old.items
+        accents.new.items) }
+{
+    if let Some(accent) = held.offered(maps, key) {
+        if is_usable(maps.first, accent) {
+            add_accent(accents, accent)?;
+        }
+    }
+    Ok(())
+}
+
+/// Adds the accents that are offered in the state.
+fn add_offers(accents: &mut Vec<u8>, maps: &Keymaps, held: &Held) -> Result<(), AllocError>
+    ensures { OnOk result (AddsOffers (under_of maps.now) (state_of held.now) key_count accents.old.items
+        accents.new.items) }
+{
+    for code in 0..KEY_COUNT as u8 {
+        add_offer(accents, maps, held, key_with(code))?;
+    }
+    Ok(())
+}
+
+/// The accents that are offered in the states that were met, each once.
+fn accents_of(alloc: Global, met: &Met, maps: &Keymaps) -> Result<Vec<u8>, AllocError>
+    ensures { IfOk result (λ accents. AreAccentsOf (under_of maps.now) met.now.entries accents.items) }
+{
+    let mut accents = Vec::new(alloc);
+    for place in 0..met.len() {
+        let (held, _) = entry(met, place);
+        add_offers(&mut accents, maps, &held)?;
+    }
+    Ok(accents)
+}
+
+/// Whether the accent is offered in a state that was met and where no lock is on.
+fn is_offered_unlocked(met: &Met, maps: &Keymaps, accent: u8) -> bool
+    ensures { result ≡ true → IsOfferedUnlocked (under_of maps.now) met.now.entries accent }
+{
+    for place in 0..met.len() {
+        let (held, _) = entry(met, place);
+        if !held.is_any_locked() {
+            match held.key_offering(maps, accent) {
+                Some(_) => return true,
+                None => {}
+            }
+        }
+    }
+    false
+}
+
+/// Adds the state, if it isn't there.
+fn add_state(states: &mut Met, held: Held) -> Result<(), AllocError>
+    requires { AreWithin states.old.entries 0 }
+    ensures { OnOk result (AddsState (state_of held) states.old.entries states.new.entries) }
+{
+    if !states.contains_key(&held) {
+        let origin = Origin {
+            presses: 0,
+            last: None,
+        };
+        states.insert(held, origin)?;
+    }
+    Ok(())
+}
+
+/// Adds the states that were met and where the accent is offered.
+fn add_offering(states: &mut Met, met: &Met, maps: &Keymaps, accent: u8) -> Result<(), AllocError>
+    requires empty { states.old.entries ≡ [] }
+    requires usable { usable maps.now.first.now accent ≡ true }
+    requires searched { Searched (under_of maps.now) start met.now.entries (length met.now.entries)
+        (length met.now.entries) }
+    ensures { OnOk result (AreSeedsTo (under_of maps.now) accent met.now.entries (length met.now.entries)
+        states.new.entries) }
+{
+    for place in 0..met.len() {
+        let (held, _) = entry(met, place);
+        match held.key_offering(maps, accent) {
+            Some(_) => add_state(states, held)?,
+            None => {}
+        }
+    }
+    Ok(())
+}
+
+/// The states that moves lead to from where the accent is offered.
+fn behind(alloc: Global, met: &Met, maps: &Keymaps, accent: u8) -> Result<Met, AllocError>
+    requires usable { usable maps.now.first.now accent ≡ true }
+    requires searched { Searched (under_of maps.now) start met.now.entries (length met.now.entries)
+        (length met.now.entries) }
+    ensures { IfOk result (λ states. AreBehind (under_of maps.now) accent met.now.entries states.entries) }
+{
+    let keys = moving_keys(alloc, maps)?;
+    let mut states = IndexMap::new(alloc);
+    add_offering(&mut states, met, maps, accent)?;
+    let mut place = 0;
+    while place < states.len() {
+        let (held, _) = entry(&states, place);
+        meet_frees(&mut states, maps, place, &held, 0)?;
+        meet_presses(&mut states, maps, keys.as_slice(), place, &held, 0)?;
+        place += 1;
+    }
+    Ok(states)
+}
+
+/// What can be looked up while the accent is pending. Where it is offered with no lock on, letting go leads to the
+/// start, and so everywhere.
+fn selections_behind(
+    alloc: Global,
+    met: &Met,
+    maps: &Keymaps,
+    all: &[Selection],
+    accent: u8,
+) -> Result<Vec<Selection>, AllocError>
+    requires met { HasMetAll maps.now met.now.entries }
+    requires usable { usable maps.now.first.now accent ≡ true }
+    requires all { AreSelectionsOf met.now.entries all.now }
+    ensures { IfOk result (λ v. Enumerates (CanCompose maps.now.first.now accent) v.items) }
+{
+    if is_offered_unlocked(met, maps, accent) {
+        let mut selections = Vec::new(alloc);
+        selections.extend_from_slice(all)?;
+        Ok(selections)
+    } else {
+        let states = behind(alloc, met, maps, accent)?;
+        selections_of(alloc, &states)
+    }
+}
+
+/// Adds the offer.
+fn push_offer(offers: &mut Vec<Offer>, offer: Offer) -> Result<(), AllocError>
+    ensures { OnOk result (offers.new.items ≡ offers.old.items ++ offer ∷ []) }
+{
+    offers.push(offer)?;
+    Ok(())
+}
+
+/// What can be looked up while each of the accents is pending.
+fn offers_by(
+    alloc: Global,
+    met: &Met,
+    maps: &Keymaps,
+    all: &[Selection],
+    accents: &[u8],
+) -> Result<Vec<Offer>, AllocError>
+    requires met { HasMetAll maps.now met.now.entries }
+    requires all { AreSelectionsOf met.now.entries all.now }
+    requires usable { (a : ℕ) → Contains accents.now a → usable maps.now.first.now a ≡ true }
+    ensures { IfOk result (λ offers. AreOffersOf maps.now.first.now accents.now offers.items) }
+{
+    let mut offers = Vec::new(alloc);
+    for accent in accents {
+        let selections = selections_behind(alloc, met, maps, all, *accent)?;
+        push_offer(
+            &mut offers,
+            Offer {
+                accent: *accent,
+                selections,
+            },
+        )?;
+    }
+    Ok(offers)
+}
+
+/// The accents that are offered in the states that were met, which are all, and what can be looked up while they are
+/// pending.
+pub fn offers_of(
+    alloc: Global,
+    met: &Met,
+    maps: &Keymaps,
+    all: &[Selection],
+) -> Result<Vec<Offer>, AllocError>
+    requires met { HasMetAll maps.now met.now.entries }
+    requires all { AreSelectionsOf met.now.entries all.now }
+    ensures { IfOk result (λ offers. (accents : List ℕ)
+        × AreAccentsOf (alone maps.now.first.now) met.now.entries accents
+        × AreOffersOf maps.now.first.now accents offers.items) }
+{
+    let accents = accents_of(alloc, met, maps)?;
+    offers_by(alloc, met, maps, all, &accents)
+}

@@ -1,0 +1,337 @@
+//! The search for sticking modifiers over the states that presses, releases and loads lead to, by the number of
+//! presses.
+ghost use Rattle.std.specs.Prelude.{◌≡◌, ◌+◌, ◌<◌, ◌≤◌, ℕ, [], None, Some, length, reverse};
+ghost use Rattle.std.specs.Prelude.{slice_get, OnOk, IfOk, IfSome, MatchOption, false};
+ghost use Rattle.keymap_core.specs.Numbers.{key_count};
+ghost use Rattle.keymap_core.specs.declared.action.Modifier.{Modifier as ModifierValue};
+ghost use Rattle.keymap_core.specs.declared.action.Lock.TheVariants.{Scroll};
+ghost use Rattle.console_states.specs.declared.held.Held.{Held as HeldValue};
+ghost use Rattle.console_states.specs.Inner.Searching.{state_of, under_of, origin_of, IsMetBy, AreWithin, Grows};
+ghost use Rattle.console_states.specs.Inner.Searching.{IsStep, AreMet, AreAdded, Searched, AreInOrder, HasMovingKeys};
+ghost use Rattle.console_states.specs.Inner.Searching.{HasEnded, IsStuck, AreSafe, GoBack, IsScriptTo};
+ghost use Rattle.console_core.specs.History.{between};
+ghost use Rattle.console_states.specs.Moves.{Under, Holds, with_holder, start};
+ghost use Rattle.console_states.specs.Sticking.{IsAnswer, IsAnswerBetween, IsAnswerUnder, ReachesMoreThan, state_limit};
+
+use crate::held::{Held, Keymaps, Move, Step};
+use crate::left_on::left_on;
+use crate::moving_keys::moving_keys;
+use crate::outcome::Sticking;
+use console_core::Event;
+use indexmap::IndexMap;
+use keymap_core::{KeyCode, KeyMap, MODIFIERS};
+use std::alloc::{AllocError, Global};
+
+/// How many states the search goes over.
+const BOUND: usize = 65_536;
+
+/// How a state was come to: by so many presses, and at last, unless it is the start, by a move from the state at a
+/// place.
+#[derive(Clone, Copy, Debug, PartialEq, Eq)]
+pub struct Origin {
+    pub presses: usize,
+    pub last: Option<(usize, Move)>,
+}
+
+/// A place where the key holds a modifier and looks up a character.
+#[derive(Clone, Copy, Debug, PartialEq, Eq)]
+pub struct Stuck {
+    pub place: usize,
+    pub key: KeyCode,
+}
+
+/// How a search ended.
+#[derive(Clone, Copy, Debug, PartialEq, Eq)]
+pub enum End {
+    /// All states were met.
+    Complete,
+    /// More states were met than the search goes over, by at most so many presses.
+    TooMany(usize),
+}
+
+/// The states that were met, in their order.
+pub type Met = IndexMap<Held, Origin>;
+
+/// The state that was met at the place, and how it was come to.
+pub fn entry(met: &Met, place: usize) -> (Held, Origin)
+    requires { place < length met.now.entries }
+    ensures { slice_get met.now.entries place ≡ Some result }
+{
+    match met.get_index(place) {
+        Some((held, origin)) => (*held, *origin),
+        None => unreachable!(),
+    }
+}
+
+/// Adds where the step from the place leads, if that wasn't met.
+fn meet_step(met: &mut Met, place: usize, step: Step, presses: usize) -> Result<(), AllocError>
+    requires { AreWithin met.old.entries presses }
+    ensures met { OnOk result (IsMetBy met.new.entries presses (state_of step.to)) }
+    ensures within { OnOk result (AreWithin met.new.entries presses) }
+    ensures grown { OnOk result (Grows met.old.entries met.new.entries) }
+    ensures added { OnOk result ((u : Under) (h : HeldValue) (n : ℕ) → IsStep u (state_of h) n step
+        → AreAdded u (state_of h) place n presses met.old.entries met.new.entries) }
+{
+    if !met.contains_key(&step.to) {
+        let origin = Origin {
+            presses,
+            last: Some((place, step.by)),
+        };
+        met.insert(step.to, origin)?;
+    }
+    Ok(())
+}
+
+/// Adds where the step from the place leads, if there is one. Inlined, since half of the calls are given none.
+#[inline(always)]
+fn meet(met: &mut Met, place: usize, step: Option<Step>, presses: usize) -> Result<(), AllocError>
+    requires { AreWithin met.old.entries presses }
+    ensures met { OnOk result (IfSome step (λ x. IsMetBy met.new.entries presses (state_of x.to))) }
+    ensures within { OnOk result (AreWithin met.new.entries presses) }
+    ensures grown { OnOk result (Grows met.old.entries met.new.entries) }
+    ensures added { OnOk result ((u : Under) (h : HeldValue) (n : ℕ) → IfSome step (IsStep u (state_of h) n)
+        → AreAdded u (state_of h) place n presses met.old.entries met.new.entries) }
+{
+    match step {
+        Some(step) => meet_step(met, place, step, presses),
+        None => Ok(()),
+    }
+}
+
+/// Adds where letting go of the modifiers leads.
+fn meet_let_gos(met: &mut Met, place: usize, held: &Held, presses: usize) -> Result<(), AllocError>
+    requires { AreWithin met.old.entries presses }
+    ensures met { OnOk result ((k : ℕ) (i : ModifierValue) → Holds (state_of held.now) k i
+        → IsMetBy met.new.entries presses (with_holder (state_of held.now) i None)) }
+    ensures within { OnOk result (AreWithin met.new.entries presses) }
+    ensures added { OnOk result ((u : Under)
+        → AreAdded u (state_of held.now) place 0 presses met.old.entries met.new.entries) }
+{
+    for modifier in MODIFIERS {
+        meet(met, place, held.let_go(modifier), presses)?;
+    }
+    Ok(())
+}
+
+/// Adds where moves without a press lead: letting go of the modifiers, and a load.
+pub fn meet_frees(
+    met: &mut Met,
+    maps: &Keymaps,
+    place: usize,
+    held: &Held,
+    presses: usize,
+) -> Result<(), AllocError>
+    requires { AreWithin met.old.entries presses }
+    ensures met { OnOk result (AreMet (under_of maps.now) met.new.entries 0 presses (state_of held.now)) }
+    ensures added { OnOk result (AreAdded (under_of maps.now) (state_of held.now) place 0 presses met.old.entries
+        met.new.entries) }
+{
+    meet_let_gos(met, place, held, presses)?;
+    meet(met, place, held.exchange(maps), presses)?;
+    Ok(())
+}
+
+/// Adds where presses of keys lead, of which those are given that can be moves.
+pub fn meet_presses(
+    met: &mut Met,
+    maps: &Keymaps,
+    keys: &[KeyCode],
+    place: usize,
+    held: &Held,
+    presses: usize,
+) -> Result<(), AllocError>
+    requires within { AreWithin met.old.entries presses }
+    requires keys { HasMovingKeys (under_of maps.now) keys.now key_count }
+    ensures met { OnOk result (AreMet (under_of maps.now) met.new.entries 1 presses (state_of held.now)) }
+    ensures added { OnOk result (AreAdded (under_of maps.now) (state_of held.now) place 1 presses met.old.entries
+        met.new.entries) }
+{
+    for key in keys {
+        meet(met, place, held.pressed(maps, *key), presses)?;
+    }
+    Ok(())
+}
+
+/// Adds where letting go and loads lead from the states of a level, which as many presses lead to. Stops once too many
+/// were met.
+fn close(met: &mut Met, maps: &Keymaps, level: usize, presses: usize) -> Result<(), AllocError>
+    requires searched { Searched (under_of maps.now) (origin_of maps.now) met.old.entries level level }
+    requires order { AreInOrder met.old.entries level presses }
+    requires below { level ≤ length met.old.entries }
+    ensures searched { OnOk result (Searched (under_of maps.now) (origin_of maps.now) met.new.entries level level) }
+    ensures order { OnOk result (AreInOrder met.new.entries level presses) }
+    ensures grown { OnOk result (Grows met.old.entries met.new.entries) }
+    ensures closed { OnOk result (length met.new.entries ≤ state_limit
+        → Searched (under_of maps.now) (origin_of maps.now) met.new.entries level (length met.new.entries)) }
+{
+    let mut place = level;
+    while place < met.len() && met.len() <= BOUND {
+        let (held, _) = entry(met, place);
+        meet_frees(met, maps, place, &held, presses)?;
+        place += 1;
+    }
+    Ok(())
+}
+
+/// Adds where presses lead from the states of a level, which as many presses lead to. Stops once too many were met.
+fn press(
+    met: &mut Met,
+    maps: &Keymaps,
+    keys: &[KeyCode],
+    level: usize,
+    presses: usize,
+) -> Result<(), AllocError>
+    requires keys { HasMovingKeys (under_of maps.now) keys.now key_count }
+    requires small { presses < state_limit }
+    requires searched { Searched (under_of maps.now) (origin_of maps.now) met.old.entries level
+        (length met.old.entries) }
+    requires order { AreInOrder met.old.entries level presses }
+    requires below { level ≤ length met.old.entries }
+    ensures searched { OnOk result (length met.new.entries ≤ state_limit
+        → Searched (under_of maps.now) (origin_of maps.now) met.new.entries (length met.old.entries)
+        (length met.old.entries)) }
+    ensures closed { OnOk result (Searched (under_of maps.now) (origin_of maps.now) met.new.entries level
+        (length met.old.entries)) }
+    ensures order { OnOk result (AreInOrder met.new.entries (length met.old.entries) (presses + 1)) }
+    ensures grown { OnOk result (Grows met.old.entries met.new.entries) }
+{
+    let end = met.len();
+    for place in level..end {
+        if met.len() > BOUND {
+            return Ok(());
+        }
+        let (held, _) = entry(met, place);
+        meet_presses(met, maps, keys, place, &held, presses + 1)?;
+    }
+    Ok(())
+}
+
+/// The events to the state at the place, a repeat of the key, and the releases of all keys that hold a modifier.
+fn script(alloc: Global, met: &Met, stuck: Stuck) -> Result<Vec<Event>, AllocError>
+    requires place { stuck.place < length met.now.entries }
+    requires back { GoBack met.now.entries }
+    ensures { IfOk result (λ events. (u : Under)
+        → IsScriptTo u met.now.entries stuck.place stuck.key (reverse events.items)) }
+{
+    let mut events = Vec::new(alloc);
+    let (held, origin) = entry(met, stuck.place);
+    held.push_releases(&mut events)?;
+    events.push(Event::Press(stuck.key))?;
+    let mut last = origin.last;
+    while let Some((parent, by)) = last {
+        by.push_events(&mut events)?;
+        last = entry(met, parent).1.last;
+    }
+    events.reverse();
+    Ok(events)
+}
+
+/// Meets the states level by level, in the order of the fewest presses.
+pub fn meet_all(alloc: Global, met: &mut Met, maps: &Keymaps) -> Result<End, AllocError>
+    requires empty { met.old.entries ≡ [] }
+    requires scroll { (origin_of maps.now).is_locked Scroll ≡ false }
+    ensures { IfOk result (λ end. HasEnded (under_of maps.now) (origin_of maps.now) met.new.entries end) }
+{
+    let keys = moving_keys(alloc, maps)?;
+    met.insert(
+        maps.origin,
+        Origin {
+            presses: 0,
+            last: None,
+        },
+    )?;
+    let mut level = 0;
+    let mut presses = 0;
+    while level < met.len() {
+        close(met, maps, level, presses)?;
+        if met.len() > BOUND {
+            return Ok(End::TooMany(presses));
+        }
+        let end = met.len();
+        press(met, maps, keys.as_slice(), level, presses)?;
+        if met.len() > BOUND {
+            return Ok(End::TooMany(presses + 1));
+        }
+        level = end;
+        presses += 1;
+    }
+    Ok(End::Complete)
+}
+
+/// All states that moves lead to from the start, or nothing where the search gives up.
+pub fn all_states(alloc: Global, maps: &Keymaps) -> Result<Option<Met>, AllocError>
+    requires { origin_of maps.now ≡ start }
+    ensures { IfOk result (λ x. MatchOption x ((p : ℕ) × ReachesMoreThan (under_of maps.now) state_limit p)
+        (λ met. Searched (under_of maps.now) start met.entries (length met.entries) (length met.entries))) }
+{
+    let mut met = IndexMap::new(alloc);
+    match meet_all(alloc, &mut met, maps)? {
+        End::Complete => Ok(Some(met)),
+        End::TooMany(_) => Ok(None),
+    }
+}
+
+/// The first place where a key that holds a modifier looks up a character.
+pub fn first_stuck(met: &Met, maps: &Keymaps) -> Option<Stuck>
+    ensures { MatchOption result (AreSafe (under_of maps.now) met.now.entries (length met.now.entries))
+        (λ x. IsStuck (under_of maps.now) met.now.entries x.place x.key
+        × AreSafe (under_of maps.now) met.now.entries x.place) }
+{
+    for place in 0..met.len() {
+        let (held, _) = entry(met, place);
+        if let Some(key) = held.forgetful(maps) {
+            return Some(Stuck { place, key });
+        }
+    }
+    None
+}
+
+/// Decides whether presses, releases and, where there are any, loads can leave a modifier on while no key is pressed.
+fn decide(alloc: Global, maps: &Keymaps) -> Result<Sticking, AllocError>
+    requires { origin_of maps.now ≡ start }
+    ensures { IfOk result (λ answer. IsAnswerUnder (under_of maps.now) answer) }
+{
+    let mut met = IndexMap::new(alloc);
+    let end = meet_all(alloc, &mut met, maps)?;
+    if let Some(stuck) = first_stuck(&met, maps) {
+        let events = script(alloc, &met, stuck)?;
+        let modifiers = left_on(alloc, maps, events.as_slice())?;
+        return Ok(Sticking::Sticks { events, modifiers });
+    }
+    match end {
+        End::Complete => Ok(Sticking::Never),
+        End::TooMany(presses) => Ok(Sticking::Undecided(presses)),
+    }
+}
+
+/// Decides whether a keymap can leave a modifier on while no key is pressed.
+pub fn sticking(alloc: Global, map: &KeyMap) -> Result<Sticking, AllocError>
+    ensures { IfOk result (λ answer. IsAnswer map.now answer) }
+{
+    let maps = Keymaps {
+        first: map,
+        second: map,
+        has_loads: false,
+        origin: Held::start(),
+    };
+    decide(alloc, &maps)
+}
+
+/// Decides whether two keymaps, the first one in force to begin with, can leave a modifier on while no key is pressed,
+/// where each load exchanges the one in force. The bound counts the states of both, so this can be undecided where
+/// `sticking` decides of each of them.
+pub fn sticking_between(
+    alloc: Global,
+    first: &KeyMap,
+    second: &KeyMap,
+) -> Result<Sticking, AllocError>
+    ensures { IfOk result (λ answer. IsAnswerBetween (between first.now second.now) answer) }
+{
+    let maps = Keymaps {
+        first,
+        second,
+        has_loads: true,
+        origin: Held::start(),
+    };
+    decide(alloc, &maps)
+}

@@ -1,0 +1,27 @@
+//! The scroll lock, which is left off: a real console stands still while it is on.
+ghost use Rattle.std.specs.Prelude.{OnOk};
+ghost use Rattle.keymap_cover.specs.Inner.Scripts.{GoesScrollOff};
+
+use crate::script::Script;
+use console_core::Translator;
+use console_states::scroll_off;
+use keymap_core::{KeyMap, Lock};
+use std::alloc::{AllocError, Global};
+
+/// Turns the scroll lock off, if it is on and presses can do that.
+pub(crate) fn turn_scroll_off<T: Translator>(
+    alloc: Global,
+    script: &mut Script,
+    console: &mut T,
+    map: &KeyMap,
+) -> Result<(), AllocError>
+    ensures { OnOk result (GoesScrollOff map.now (T.stands console.old) script.old (T.stands console.new) script.new) }
+{
+    if !console.locked(Lock::Scroll) {
+        return Ok(());
+    }
+    if let Some(events) = scroll_off(alloc, map, &*console)? {
+        script.walk(console, map, &events)?;
+    }
+    Ok(())
+}

@@ -60,10 +60,10 @@ stand_on on.Ansi Iso = false
 stand_on _ _ = true
 
 abbrev pub has_run : Board → Run → Bool
-has_run board run = stand_on run.0 board
+has_run board run = stand_on run.on board
 
 abbrev pub keys_in : Board → Run → List Row
-keys_in board run = if has_run board run then laid run.1 run.2 run.3 run.4 else []
+keys_in board run = if has_run board run then laid run.x run.y run.shape run.codes else []
 
 -- the keys that a board draws, in their order
 abbrev pub keys_of : Board → List Row
@@ -74,4 +74,4 @@ has_code codes code = list_any (λ c. c == code && not (code == 0)) codes
 
 -- the key stands on the board
 unfoldable pub is_on : Board → ℕ → Bool
-is_on board code = list_any (λ run. has_run board run && has_code run.4 code) RUNS
+is_on board code = list_any (λ run. has_run board run && has_code run.codes code) RUNS

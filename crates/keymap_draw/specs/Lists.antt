@@ -11,7 +11,7 @@ use Rattle.keymap_core.specs.Accents.{AccentValue}
 use Rattle.keymap_core.specs.Actions.{name_of}
 use Rattle.keymap_core.specs.Below.{passing}
 use Rattle.keymap_core.specs.Borne.{any_below, is_upper_live}
-use Rattle.keymap_core.specs.Maps.{MapValue, entry_at, accent_at}
+use Rattle.keymap_core.specs.Maps.{MapValue, entry_at, accent_at, accent_or_blank}
 use Rattle.keymap_core.specs.Numbers.{key_count, accent_limit}
 use Rattle.keymap_check.specs.declared.finding.Finding.{Finding}
 use Rattle.keymap_check.specs.Said.{finding_words}
@@ -24,7 +24,7 @@ use Rattle.keymap_draw.specs.Facts.{Fact, numbered, group, image, text, titled}
 use Rattle.keymap_draw.specs.Facts.Fact.{End, Figure, Text}
 use Rattle.keymap_draw.specs.Halves.{slot_of}
 use Rattle.keymap_draw.specs.Legends.{accent_mark, character_legend, marked}
-use Rattle.keymap_draw.specs.Places.{own_of, size_class}
+use Rattle.keymap_draw.specs.Places.{size_class}
 use Rattle.keymap_draw.specs.Sheets.{dress}
 
 -- the i-th finding, two in a row
@@ -42,7 +42,7 @@ abbrev pub findings_height : ℕ → ℕ
 findings_height count = if count == 0 then 0 else 48 + (count + 1) / 2 * 20
 
 abbrev pub has_character : MapValue → ℕ → Bool
-has_character m i = not (own_of m i == 0)
+has_character m i = not ((accent_or_blank m i).own == 0)
 
 -- the accents that have a character
 unfoldable pub named_accents : MapValue → List ℕ
@@ -131,7 +131,7 @@ bears_dead_key m half i = any_below (slot_bears_dead_key m half i) key_count
 -- the accent has no character, and a drawn half bears its dead key
 unfoldable pub is_silent : MapValue → ℕ → Bool
 is_silent m i =
-    (own_of m i == 0) && (bears_dead_key m Lower i || (is_upper_live m && bears_dead_key m Upper i))
+    ((accent_or_blank m i).own == 0) && (bears_dead_key m Lower i || (is_upper_live m && bears_dead_key m Upper i))
 
 unfoldable pub silent_accents : MapValue → List ℕ
 silent_accents m = passing (is_silent m) accent_limit

@@ -65,10 +65,6 @@ is_class letter = list_any (λ c. c == letter) (codes " botuvwxyzcraedmfpg")
 abbrev pub IsClass : ℕ → Type 0
 IsClass letter = is_class letter ≡ true
 
--- the character that an accent gives by itself, 0 where there is none
-abbrev pub own_of : MapValue → ℕ → ℕ
-own_of m i = (accent_or_blank m i).own
-
 -- the letter for a word of so many characters: those for 2 to 8, of which the last is for longer ones too
 abbrev pub size_by : List ℕ → ℕ → ℕ
 size_by sizes n = slice_index sizes (min n 8 - 2)
@@ -95,7 +91,7 @@ plain_class column = if is_right column then Some 97 else None
 -- The class for its colour: e for a dead key whose accent has no character, d for any other, m for a modifier or lock.
 abbrev pub kind_class : MapValue → Column → Cell → Option ℕ
 kind_class m column (Char c) = plain_class column
-kind_class m column (Act (a.DeadKey i)) = Some (if own_of m i == 0 then 101 else 100)
+kind_class m column (Act (a.DeadKey i)) = Some (if (accent_or_blank m i).own == 0 then 101 else 100)
 kind_class m column (Act (a.Mod modifier)) = Some 109
 kind_class m column (Act (a.Lock lock)) = Some 109
 kind_class m column (Act action) = plain_class column

@@ -43,13 +43,13 @@ pub(crate) enum On {
 /// Keys of one shape, side by side: where the first one has its top left corner, and their codes, behind which zeros
 /// stand.
 #[derive(Clone, Copy)]
-pub(crate) struct Run(
-    pub(crate) On,
-    pub(crate) u16,
-    pub(crate) u16,
-    pub(crate) Shape,
-    pub(crate) [u8; 7],
-);
+pub(crate) struct Run {
+    pub(crate) on: On,
+    pub(crate) x: u16,
+    pub(crate) y: u16,
+    pub(crate) shape: Shape,
+    pub(crate) codes: [u8; 7],
+}
 
 impl Shape {
     ghost use Rattle.keymap_draw.specs.Boards.{letter as letter_of, width as width_of, height as height_of};
@@ -112,7 +112,7 @@ impl Board {
     pub(crate) fn has_run(self, run: &Run) -> bool
         ensures { result ≡ has_run self run.now }
     {
-        match (run.0, self) {
+        match (run.on, self) {
             (Iso, Board::Ansi) => false,
             (Ansi, Board::Iso) => false,
             _ => true,
@@ -125,7 +125,7 @@ impl Board {
         ensures { result ≡ is_on self code }
     {
         RUNS.iter()
-            .any(|run| self.has_run(run) && has_code(&run.4, code))
+            .any(|run| self.has_run(run) && has_code(&run.codes, code))
     }
 }
 
@@ -135,53 +135,66 @@ fn has_code(codes: &[u8], code: u8) -> bool
     codes.iter().any(|one| *one == code && code != 0)
 }
 
+/// A row of the table below.
+macro_rules! run {
+    ($on:expr, $x:expr, $y:expr, $shape:expr, $codes:expr) => {
+        Run {
+            on: $on,
+            x: $x,
+            y: $y,
+            shape: $shape,
+            codes: $codes,
+        }
+    };
+}
+
 /// The keys of the boards, in the order in which they are drawn. The ANSI board has no 102nd key, a flat Enter below a
 /// long key, and a longer left Shift. The codes up to 88 are the scan codes of set 1; those from 89 on are what
 /// FreeBSD's atkbd gives to scan codes behind e0 and e1 (sys/dev/atkbdc/atkbd.c).
 pub(crate) static RUNS: [Run; 39] = [
     // Esc; F1 to F4, F5 to F8, F9 to F12; Print Screen, Scroll Lock, Pause.
-    Run(Both, 0, 0, A, [1, 0, 0, 0, 0, 0, 0]),
-    Run(Both, 128, 0, A, [59, 60, 61, 62, 0, 0, 0]),
-    Run(Both, 416, 0, A, [63, 64, 65, 66, 0, 0, 0]),
-    Run(Both, 704, 0, A, [67, 68, 87, 88, 0, 0, 0]),
-    Run(Both, 976, 0, A, [92, 70, 104, 0, 0, 0, 0]),
+    run!(Both, 0, 0, A, [1, 0, 0, 0, 0, 0, 0]),
+    run!(Both, 128, 0, A, [59, 60, 61, 62, 0, 0, 0]),
+    run!(Both, 416, 0, A, [63, 64, 65, 66, 0, 0, 0]),
+    run!(Both, 704, 0, A, [67, 68, 87, 88, 0, 0, 0]),
+    run!(Both, 976, 0, A, [92, 70, 104, 0, 0, 0, 0]),
     // The row of the digits, with Backspace; Insert, Home, Page Up; Num Lock and the operators.
-    Run(Both, 0, 80, A, [41, 2, 3, 4, 5, 6, 0]),
-    Run(Both, 384, 80, A, [7, 8, 9, 10, 11, 12, 13]),
-    Run(Both, 832, 80, E, [14, 0, 0, 0, 0, 0, 0]),
-    Run(Both, 976, 80, A, [102, 94, 96, 0, 0, 0, 0]),
-    Run(Both, 1184, 80, A, [69, 91, 55, 74, 0, 0, 0]),
+    run!(Both, 0, 80, A, [41, 2, 3, 4, 5, 6, 0]),
+    run!(Both, 384, 80, A, [7, 8, 9, 10, 11, 12, 13]),
+    run!(Both, 832, 80, E, [14, 0, 0, 0, 0, 0, 0]),
+    run!(Both, 976, 80, A, [102, 94, 96, 0, 0, 0, 0]),
+    run!(Both, 1184, 80, A, [69, 91, 55, 74, 0, 0, 0]),
     // Tab, the row of Q to P and two more, Enter; Delete, End, Page Down; 7, 8, 9 and plus.
-    Run(Both, 0, 144, C, [15, 0, 0, 0, 0, 0, 0]),
-    Run(Both, 96, 144, A, [16, 17, 18, 19, 20, 0, 0]),
-    Run(Both, 416, 144, A, [21, 22, 23, 24, 25, 26, 27]),
-    Run(Iso, 864, 144, Enter, [28, 0, 0, 0, 0, 0, 0]),
-    Run(Ansi, 816, 208, F, [28, 0, 0, 0, 0, 0, 0]),
-    Run(Both, 976, 144, A, [103, 99, 101, 0, 0, 0, 0]),
-    Run(Both, 1184, 144, A, [71, 72, 73, 0, 0, 0, 0]),
-    Run(Both, 1376, 144, Tall, [78, 0, 0, 0, 0, 0, 0]),
+    run!(Both, 0, 144, C, [15, 0, 0, 0, 0, 0, 0]),
+    run!(Both, 96, 144, A, [16, 17, 18, 19, 20, 0, 0]),
+    run!(Both, 416, 144, A, [21, 22, 23, 24, 25, 26, 27]),
+    run!(Iso, 864, 144, Enter, [28, 0, 0, 0, 0, 0, 0]),
+    run!(Ansi, 816, 208, F, [28, 0, 0, 0, 0, 0, 0]),
+    run!(Both, 976, 144, A, [103, 99, 101, 0, 0, 0, 0]),
+    run!(Both, 1184, 144, A, [71, 72, 73, 0, 0, 0, 0]),
+    run!(Both, 1376, 144, Tall, [78, 0, 0, 0, 0, 0, 0]),
     // Caps Lock, the row of A to L and two more, and one more; 4, 5, 6.
-    Run(Both, 0, 208, D, [58, 0, 0, 0, 0, 0, 0]),
-    Run(Both, 112, 208, A, [30, 31, 32, 33, 34, 0, 0]),
-    Run(Both, 432, 208, A, [35, 36, 37, 38, 39, 40, 0]),
-    Run(Iso, 816, 208, A, [43, 0, 0, 0, 0, 0, 0]),
-    Run(Ansi, 864, 144, C, [43, 0, 0, 0, 0, 0, 0]),
-    Run(Both, 1184, 208, A, [75, 76, 77, 0, 0, 0, 0]),
+    run!(Both, 0, 208, D, [58, 0, 0, 0, 0, 0, 0]),
+    run!(Both, 112, 208, A, [30, 31, 32, 33, 34, 0, 0]),
+    run!(Both, 432, 208, A, [35, 36, 37, 38, 39, 40, 0]),
+    run!(Iso, 816, 208, A, [43, 0, 0, 0, 0, 0, 0]),
+    run!(Ansi, 864, 144, C, [43, 0, 0, 0, 0, 0, 0]),
+    run!(Both, 1184, 208, A, [75, 76, 77, 0, 0, 0, 0]),
     // Left Shift, the 102nd key, the row of Z to M and three more, right Shift; up; 1, 2, 3 and Enter.
-    Run(Iso, 0, 272, B, [42, 0, 0, 0, 0, 0, 0]),
-    Run(Iso, 80, 272, A, [86, 0, 0, 0, 0, 0, 0]),
-    Run(Ansi, 0, 272, F, [42, 0, 0, 0, 0, 0, 0]),
-    Run(Both, 144, 272, A, [44, 45, 46, 47, 48, 0, 0]),
-    Run(Both, 464, 272, A, [49, 50, 51, 52, 53, 0, 0]),
-    Run(Both, 784, 272, G, [54, 0, 0, 0, 0, 0, 0]),
-    Run(Both, 1040, 272, A, [95, 0, 0, 0, 0, 0, 0]),
-    Run(Both, 1184, 272, A, [79, 80, 81, 0, 0, 0, 0]),
-    Run(Both, 1376, 272, Tall, [89, 0, 0, 0, 0, 0, 0]),
+    run!(Iso, 0, 272, B, [42, 0, 0, 0, 0, 0, 0]),
+    run!(Iso, 80, 272, A, [86, 0, 0, 0, 0, 0, 0]),
+    run!(Ansi, 0, 272, F, [42, 0, 0, 0, 0, 0, 0]),
+    run!(Both, 144, 272, A, [44, 45, 46, 47, 48, 0, 0]),
+    run!(Both, 464, 272, A, [49, 50, 51, 52, 53, 0, 0]),
+    run!(Both, 784, 272, G, [54, 0, 0, 0, 0, 0, 0]),
+    run!(Both, 1040, 272, A, [95, 0, 0, 0, 0, 0, 0]),
+    run!(Both, 1184, 272, A, [79, 80, 81, 0, 0, 0, 0]),
+    run!(Both, 1376, 272, Tall, [89, 0, 0, 0, 0, 0, 0]),
     // Control, Super, Alt, the blank, Alt, Super, Menu, Control; left, down, right; 0 and the period.
-    Run(Both, 0, 336, B, [29, 105, 56, 0, 0, 0, 0]),
-    Run(Both, 240, 336, H, [57, 0, 0, 0, 0, 0, 0]),
-    Run(Both, 640, 336, B, [93, 106, 107, 90, 0, 0, 0]),
-    Run(Both, 976, 336, A, [97, 100, 98, 0, 0, 0, 0]),
-    Run(Both, 1184, 336, E, [82, 0, 0, 0, 0, 0, 0]),
-    Run(Both, 1312, 336, A, [83, 0, 0, 0, 0, 0, 0]),
+    run!(Both, 0, 336, B, [29, 105, 56, 0, 0, 0, 0]),
+    run!(Both, 240, 336, H, [57, 0, 0, 0, 0, 0, 0]),
+    run!(Both, 640, 336, B, [93, 106, 107, 90, 0, 0, 0]),
+    run!(Both, 976, 336, A, [97, 100, 98, 0, 0, 0, 0]),
+    run!(Both, 1184, 336, E, [82, 0, 0, 0, 0, 0, 0]),
+    run!(Both, 1312, 336, A, [83, 0, 0, 0, 0, 0, 0]),
 ];

@@ -1,5 +1,5 @@
 //! The drawing of one half of the slots: its headline, its board, and the keys that the board doesn't have.
-ghost use Rattle.std.specs.Prelude.{◌≡◌, ◌+◌, ◌*◌, ◌++◌, ◌∷◌, [], ◌≤◌, ◌<◌, ◌^◌, IfOk, length};
+ghost use Rattle.std.specs.Prelude.{◌≡◌, ◌++◌, ◌∷◌, [], ◌≤◌, ◌<◌, ◌^◌, IfOk, length};
 ghost use Rattle.std.specs.List.{flat_map};
 ghost use Rattle.keymap_draw.specs.Boards.{laid};
 ghost use Rattle.keymap_draw.specs.Facts.{numbered};
@@ -39,34 +39,33 @@ impl Half {
     }
 }
 
-/// Adds keys of a run side by side up to a code 0, the first one at x.
+/// Adds the keys of a run side by side, up to a code 0.
 fn push_keys(
     sheet: Sheet<InPicture>,
     drawing: &Drawing,
     half: Half,
     y: u32,
-    x: u32,
-    run: Run,
-    codes: &[u8],
+    run: &Run,
 ) -> Added<Sheet<InPicture>>
-    requires low { y < 2 ^ 16 }
-    requires few { x + 400 * length codes.now < 2 ^ 20 }
-    ensures { IfOk result (λ s. s
-        ≡ sheet ++ flat_map (spec.board_key drawing.now half y) (laid x run.2 run.3 codes.now)) }
+    requires { y < 2 ^ 16 }
+    ensures { IfOk result (λ s. s ≡ sheet ++ flat_map (spec.board_key drawing.now half y)
+        (laid run.now.x run.now.y run.now.shape run.now.codes)) }
 {
-    match codes {
-        [] => Ok(sheet),
-        [0, ..] => Ok(sheet),
-        [code, codes @ ..] => {
-            let cap = Cap {
-                x: 28 + x,
-                y: y + 12 + u32::from(run.2),
-                shape: run.3,
-            };
-            let sheet = push_key(sheet, drawing, half.slot(*code), cap)?;
-            push_keys(sheet, drawing, half, y, x + run.3.width(), run, codes)
+    let mut sheet = sheet;
+    let mut x = u32::from(run.x);
+    for code in &run.codes {
+        if *code == 0 {
+            break;
         }
+        let cap = Cap {
+            x: 28 + x,
+            y: y + 12 + u32::from(run.y),
+            shape: run.shape,
+        };
+        sheet = push_key(sheet, drawing, half.slot(*code), cap)?;
+        x += run.shape.width();
     }
+    Ok(sheet)
 }
 
 /// Adds the keys of a run, if the board has them.
@@ -81,7 +80,7 @@ fn push_run(
     ensures { IfOk result (λ s. s ≡ sheet ++ spec.run_keys drawing.now half y run.now) }
 {
     if drawing.board().has_run(run) {
-        push_keys(sheet, drawing, half, y, u32::from(run.1), *run, &run.4)
+        push_keys(sheet, drawing, half, y, run)
     } else {
         Ok(sheet)
     }
@@ -125,27 +124,6 @@ pub(crate) fn other_keys(drawing: &Drawing, half: Half) -> ArrayVec<u8, KEY_COUN
     keys
 }
 
-/// Adds a key that the board doesn't have, at its place of the rows.
-fn push_other_key(
-    sheet: Sheet<InPicture>,
-    drawing: &Drawing,
-    half: Half,
-    y: u32,
-    place: u32,
-    key: u8,
-) -> Added<Sheet<InPicture>>
-    requires low { y < 2 ^ 16 }
-    requires few { place ≤ 128 }
-    ensures { IfOk result (λ s. s ≡ sheet ++ spec.other_key drawing.now half y place key) }
-{
-    let cap = Cap {
-        x: 28 + place % 22 * 64,
-        y: y + 26 + place / 22 * 64,
-        shape: Shape::A,
-    };
-    push_key(sheet, drawing, half.slot(key), cap)
-}
-
 /// Adds the line above so many keys that the board doesn't have, if there are any.
 fn push_other_line(sheet: Sheet<InPicture>, y: u32, count: usize) -> Added<Sheet<InPicture>>
     requires low { y < 2 ^ 16 }
@@ -172,8 +150,13 @@ fn push_each_other(
 {
     let mut sheet = sheet;
     for i in 0..keys.len() {
-        let key = keys[i];
-        sheet = push_other_key(sheet, drawing, half, y, i as u32, key)?;
+        let place = i as u32;
+        let cap = Cap {
+            x: 28 + place % 22 * 64,
+            y: y + 26 + place / 22 * 64,
+            shape: Shape::A,
+        };
+        sheet = push_key(sheet, drawing, half.slot(keys[i]), cap)?;
     }
     Ok(sheet)
 }

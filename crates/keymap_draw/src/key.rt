@@ -13,7 +13,7 @@ use crate::drawing::Drawing;
 use crate::drawn::{DrawnCells, drawn, is_blank, stands_alone};
 use crate::legend::{cell_legend, is_word};
 use crate::markup::Added;
-use crate::place::{Column, code_x, legend_classes, legend_x, legend_y};
+use crate::place::{Column, Spot, code_x, legend_classes, legend_x, legend_y};
 use crate::sheet::Told::{Bytes, Characters, Number, Plain};
 use crate::sheet::{InKey, InPicture, Sheet, tell};
 use crate::words::{BOTH, CAPS, CODE, GROUP_END, KEY, KEY_OF, NUM, TEXT, TEXT_OF};
@@ -22,6 +22,15 @@ use keymap_check::{Finding, finding_words};
 use keymap_core::{Action, Cell, Entry, KEY_COUNT, KeyMap, LockFlag};
 use keymap_text::slot_words;
 use messages::Line;
+
+// The classes for the colour of a key: one that the check names, a blank one, a modifier or lock, and another action.
+const NAMED: &[u8] = b"f";
+
+const BLANK: &[u8] = b"p";
+
+const HOLDING: &[u8] = b"m";
+
+const DOING: &[u8] = b"g";
 
 /// The finding of a key, if the check names it.
 fn finding_of(findings: &[Finding], key: u8) -> Option<&Finding>
@@ -68,13 +77,13 @@ fn key_class(findings: &[Finding], slot: u8, entry: &Entry) -> &'static [u8]
 {
     let base = &entry.cells()[0];
     if finding_of(findings, slot % KEY_COUNT as u8).is_some() {
-        b"f"
+        NAMED
     } else if is_blank_entry(entry) {
-        b"p"
+        BLANK
     } else if is_holding(base) {
-        b"m"
+        HOLDING
     } else if is_doing(base) {
-        b"g"
+        DOING
     } else {
         b""
     }
@@ -197,43 +206,58 @@ fn push_code(sheet: Sheet<InKey>, slot: u8, flag: LockFlag, shape: Shape) -> Add
     tell(sheet, CODE, &[x, y, code, locks])
 }
 
-/// Adds the legend of a cell.
-fn push_legend(
-    sheet: Sheet<InKey>,
-    map: &KeyMap,
+/// What is drawn on the face of a cap of a shape: the legends of cells, of which one may stand alone.
+#[derive(Clone, Copy)]
+struct Face {
     shape: Shape,
-    column: Column,
-    cell: &Cell,
+    cells: DrawnCells,
     alone: bool,
-    tight: bool,
-) -> Added<Sheet<InKey>>
-    ensures { IfOk result (λ s. s ≡ sheet ++ spec.legend map.now shape column alone tight cell.now ∷ []) }
+}
+
+impl Face {
+    ghost use Rattle.keymap_draw.specs.Keys.{is_tight};
+
+    /// Where the legend of a column stands. It is tight where another one stands beside it on a small cap.
+    fn spot(&self, column: Column) -> Spot
+        ensures { result ≡ record {
+          shape = self.now.shape;
+          column = column;
+          alone = self.now.alone;
+          tight = is_tight self.now.shape self.now.cells column;
+        } }
+    {
+        Spot {
+            shape: self.shape,
+            column,
+            alone: self.alone,
+            tight: self.cells.cell(column.beside()).is_some() && self.shape.width() < 112,
+        }
+    }
+}
+
+/// Adds the legend of a cell.
+fn push_legend(sheet: Sheet<InKey>, map: &KeyMap, cell: &Cell, spot: Spot) -> Added<Sheet<InKey>>
+    ensures { IfOk result (λ s. s
+        ≡ sheet ++ spec.legend map.now spot.shape spot.column spot.alone spot.tight cell.now ∷ []) }
 {
     let legend = cell_legend(cell);
     let legend = legend.as_slice();
-    let classes = legend_classes(map, column, cell, legend, alone, tight);
-    let x = Number(legend_x(shape, column, alone));
-    let y = Number(legend_y(shape, column, alone, is_word(legend)));
+    let classes = legend_classes(map, cell, legend, spot);
+    let x = Number(legend_x(spot));
+    let y = Number(legend_y(spot, is_word(legend)));
     match classes.as_slice() {
         [] => tell(sheet, TEXT, &[x, y, Characters(legend)]),
         classes => tell(sheet, TEXT_OF, &[x, y, Plain(classes), Characters(legend)]),
     }
 }
 
-/// Adds the legend of a column, if its cell is drawn. It is tight where another one stands beside it on a small cap.
-fn push_drawn(
-    sheet: Sheet<InKey>,
-    map: &KeyMap,
-    shape: Shape,
-    cells: &DrawnCells,
-    alone: bool,
-    column: Column,
-) -> Added<Sheet<InKey>>
-    ensures { IfOk result (λ s. s ≡ sheet ++ spec.drawn_legend map.now shape alone cells.now column) }
+/// Adds the legend of a column, if its cell is drawn.
+fn push_drawn(sheet: Sheet<InKey>, map: &KeyMap, face: &Face, column: Column) -> Added<Sheet<InKey>>
+    ensures { IfOk result (λ s. s
+        ≡ sheet ++ spec.drawn_legend map.now face.now.shape face.now.alone face.now.cells column) }
 {
-    let tight = cells.cell(column.beside()).is_some() && shape.width() < 112;
-    match cells.cell(column) {
-        Some(cell) => push_legend(sheet, map, shape, column, &cell, alone, tight),
+    match face.cells.cell(column) {
+        Some(cell) => push_legend(sheet, map, &cell, face.spot(column)),
         None => Ok(sheet),
     }
 }
@@ -248,12 +272,15 @@ fn push_legends(
 ) -> Added<Sheet<InKey>>
     ensures { IfOk result (λ s. s ≡ sheet ++ spec.legends map.now shape entry.now) }
 {
-    let cells = drawn(entry);
-    let alone = stands_alone(entry);
-    let sheet = push_drawn(sheet, map, shape, &cells, alone, Column::Base)?;
-    let sheet = push_drawn(sheet, map, shape, &cells, alone, Column::Shift)?;
-    let sheet = push_drawn(sheet, map, shape, &cells, alone, Column::Alt)?;
-    push_drawn(sheet, map, shape, &cells, alone, Column::AltShift)
+    let face = Face {
+        shape,
+        cells: drawn(entry),
+        alone: stands_alone(entry),
+    };
+    let sheet = push_drawn(sheet, map, &face, Column::Base)?;
+    let sheet = push_drawn(sheet, map, &face, Column::Shift)?;
+    let sheet = push_drawn(sheet, map, &face, Column::Alt)?;
+    push_drawn(sheet, map, &face, Column::AltShift)
 }
 
 /// Adds the key of a slot at a place.

@@ -15,7 +15,7 @@ use crate::half::Half;
 use crate::key::said;
 use crate::legend::{Legend, character_legend, marked};
 use crate::markup::Added;
-use crate::place::{own_of, size_class};
+use crate::place::{DEAD_KEY, NO_ACCENT, size_class};
 use crate::sheet::Told::{Bytes, Characters, Number, Plain};
 use crate::sheet::{InPicture, InRow, InTable, Sheet, tell};
 use crate::tables::ACCENT_MARKS;
@@ -102,7 +102,7 @@ pub(crate) fn findings_height(count: usize) -> u32
 fn has_character(map: &KeyMap, index: u8) -> bool
     ensures { result ≡ spec.has_character map.now index }
 {
-    own_of(map, index) != '\0'
+    map.accent_or_blank(index).own() != '\0'
 }
 
 /// The accents that have a character.
@@ -248,7 +248,7 @@ fn push_accent(
     match map.accent(index) {
         Some(accent) => {
             let sheet = begin_accent(sheet, index, accent, y + 52 * place)?;
-            let sheet = push_heading(sheet, index, 36, b'd')?;
+            let sheet = push_heading(sheet, index, 36, DEAD_KEY)?;
             push_table(sheet, accent.own(), accent.pairs())
         }
         None => Ok(sheet),
@@ -348,7 +348,7 @@ fn is_silent(drawing: &Drawing, index: u8) -> bool
     ensures { result ≡ spec.is_silent drawing.now.map index }
 {
     let map = drawing.map();
-    own_of(map, index) == '\0'
+    map.accent_or_blank(index).own() == '\0'
         && (bears_dead_key(map, Half::Lower, index)
             || (drawing.is_upper_live() && bears_dead_key(map, Half::Upper, index)))
 }
@@ -384,7 +384,7 @@ fn push_each_silent(sheet: Sheet<InRow>, accents: &[u8]) -> Added<Sheet<InRow>>
     let mut sheet = sheet;
     for i in 0..accents.len() {
         let index = accents[i];
-        sheet = push_heading(sheet, index, 36 + 94 * i as u32, b'e')?;
+        sheet = push_heading(sheet, index, 36 + 94 * i as u32, NO_ACCENT)?;
     }
     Ok(sheet)
 }

@@ -11,15 +11,49 @@ use crate::legend::is_word;
 use arrayvec::ArrayVec;
 use keymap_core::{Action, Cell, KeyMap};
 
+// The classes of the style, each a letter. For the size of a text, by its pixels:
+const PX_21: u8 = b'z';
+
+const PX_16: u8 = b'w';
+
+const PX_13: u8 = b'x';
+
+const PX_12: u8 = b'v';
+
+const PX_11: u8 = b'o';
+
+const PX_10: u8 = b'u';
+
+const PX_9: u8 = b't';
+
+const PX_8: u8 = b'y';
+
+const PX_5: u8 = b'b';
+
+// For the side of a legend: on both sides of its place, or on the left of it.
+const ON_BOTH_SIDES: u8 = b'c';
+
+const ON_THE_LEFT: u8 = b'r';
+
+// For the colour of a legend: in a column with alt, a dead key, one whose accent has no character, and a modifier or
+// lock.
+const ALT: u8 = b'a';
+
+pub(crate) const DEAD_KEY: u8 = b'd';
+
+pub(crate) const NO_ACCENT: u8 = b'e';
+
+const HOLDING: u8 = b'm';
+
 /// The classes for the size of a word that stands alone, by its length: for 2 characters to 8, of which the last is for
 /// longer ones too.
-pub(crate) static ALONE_SIZES: [u8; 7] = *b"wwxxxuu";
+pub(crate) static ALONE_SIZES: [u8; 7] = [PX_16, PX_16, PX_13, PX_13, PX_13, PX_10, PX_10];
 
 /// The classes of a word in a corner that another legend stands beside on a small cap.
-pub(crate) static TIGHT_SIZES: [u8; 7] = *b"otyybbb";
+pub(crate) static TIGHT_SIZES: [u8; 7] = [PX_11, PX_9, PX_8, PX_8, PX_5, PX_5, PX_5];
 
 /// The classes of any other word in a corner.
-pub(crate) static CORNER_SIZES: [u8; 7] = *b"vvvoott";
+pub(crate) static CORNER_SIZES: [u8; 7] = [PX_12, PX_12, PX_12, PX_11, PX_11, PX_9, PX_9];
 
 /// A column that is drawn.
 #[derive(Clone, Copy)]
@@ -67,6 +101,16 @@ impl Column {
     }
 }
 
+/// Where a legend stands on a cap: in the corner of its column, or alone in the middle. In a corner it is tight where
+/// another one stands beside it on a small cap.
+#[derive(Clone, Copy)]
+pub(crate) struct Spot {
+    pub(crate) shape: Shape,
+    pub(crate) column: Column,
+    pub(crate) alone: bool,
+    pub(crate) tight: bool,
+}
+
 /// Where the code of a key begins.
 pub(crate) fn code_x(shape: Shape) -> u32
     ensures { result ≡ spec.code_x shape }
@@ -97,32 +141,32 @@ fn middle_x(shape: Shape) -> u32
 }
 
 /// Where the legend of a column stands, or one that stands alone.
-pub(crate) fn legend_x(shape: Shape, column: Column, alone: bool) -> u32
-    ensures { result ≡ spec.legend_x shape column alone }
+pub(crate) fn legend_x(spot: Spot) -> u32
+    ensures { result ≡ spec.legend_x spot.shape spot.column spot.alone }
 {
-    if alone {
-        middle_x(shape)
-    } else if column.is_right() {
-        shape.width() - 14
+    if spot.alone {
+        middle_x(spot.shape)
+    } else if spot.column.is_right() {
+        spot.shape.width() - 14
     } else {
         10
     }
 }
 
 /// The base line of the legend of a column, or of one that stands alone.
-pub(crate) fn legend_y(shape: Shape, column: Column, alone: bool, word: bool) -> u32
-    ensures { result ≡ spec.legend_y shape column alone word }
+pub(crate) fn legend_y(spot: Spot, word: bool) -> u32
+    ensures { result ≡ spec.legend_y spot.shape spot.column spot.alone word }
 {
-    if alone {
+    if spot.alone {
         if word {
-            shape.height() / 2 - 2
+            spot.shape.height() / 2 - 2
         } else {
-            shape.height() / 2 + 1
+            spot.shape.height() / 2 + 1
         }
-    } else if column.is_above() {
+    } else if spot.column.is_above() {
         20
     } else {
-        low_y(shape)
+        low_y(spot.shape)
     }
 }
 
@@ -143,7 +187,7 @@ pub(crate) fn size_class(legend: &[char], alone: bool, tight: bool) -> Option<u8
     ensures inner { list_all is_inner (option_to_list result) ≡ true }
 {
     if !is_word(legend) {
-        return if alone { Some(b'z') } else { None };
+        return if alone { Some(PX_21) } else { None };
     }
     Some(if alone {
         size_by(&ALONE_SIZES, legend.len())
@@ -160,21 +204,11 @@ fn side_class(column: Column, alone: bool) -> Option<u8>
     ensures class { list_all is_class (option_to_list result) ≡ true }
 {
     if alone {
-        Some(b'c')
+        Some(ON_BOTH_SIDES)
     } else if column.is_right() {
-        Some(b'r')
+        Some(ON_THE_LEFT)
     } else {
         None
-    }
-}
-
-/// The character that the accent gives by itself, 0 where there is none.
-pub(crate) fn own_of(map: &KeyMap, index: u8) -> char
-    ensures { result ≡ spec.own_of map.now index }
-{
-    match map.accent(index) {
-        Some(accent) => accent.own(),
-        None => '\0',
     }
 }
 
@@ -183,18 +217,15 @@ fn kind_class(map: &KeyMap, column: Column, cell: &Cell) -> Option<u8>
     ensures value { result ≡ spec.kind_class map.now column cell.now }
     ensures class { list_all is_class (option_to_list result) ≡ true }
 {
-    let plain = if column.is_right() { Some(b'a') } else { None };
+    let plain = if column.is_right() { Some(ALT) } else { None };
     match cell {
         Cell::Char(_) => plain,
         Cell::Act(Action::DeadKey(accent)) => {
-            Some(if own_of(map, accent.get()) == '\0' {
-                b'e'
-            } else {
-                b'd'
-            })
+            let own = map.accent_or_blank(accent.get()).own();
+            Some(if own == '\0' { NO_ACCENT } else { DEAD_KEY })
         }
-        Cell::Act(Action::Mod(_)) => Some(b'm'),
-        Cell::Act(Action::Lock(_)) => Some(b'm'),
+        Cell::Act(Action::Mod(_)) => Some(HOLDING),
+        Cell::Act(Action::Lock(_)) => Some(HOLDING),
         Cell::Act(_) => plain,
     }
 }
@@ -223,19 +254,18 @@ fn push_class(classes: &mut ArrayVec<u8, 6>, class: Option<u8>)
 #[tactic(auto, using(crate::proofs::Parts::classes_inner), unfolding(crate::specs::Places::legend_classes))]
 pub(crate) fn legend_classes(
     map: &KeyMap,
-    column: Column,
     cell: &Cell,
     legend: &[char],
-    alone: bool,
-    tight: bool,
+    spot: Spot,
 ) -> ArrayVec<u8, 6>
-    ensures value { result.items ≡ spec.legend_classes map.now column cell.now legend.now alone tight }
+    ensures value { result.items
+        ≡ spec.legend_classes map.now spot.column cell.now legend.now spot.alone spot.tight }
     ensures classes { list_all is_class result.items ≡ true }
     ensures inner { list_all is_inner result.items ≡ true }
 {
     let mut classes = ArrayVec::new();
-    push_class(&mut classes, size_class(legend, alone, tight));
-    push_class(&mut classes, side_class(column, alone));
-    push_class(&mut classes, kind_class(map, column, cell));
+    push_class(&mut classes, size_class(legend, spot.alone, spot.tight));
+    push_class(&mut classes, side_class(spot.column, spot.alone));
+    push_class(&mut classes, kind_class(map, spot.column, cell));
     classes
 }

@@ -5,3 +5,6 @@ pub mod Tables
 pub mod Named
 pub mod Well
 pub mod Standing
+pub mod Each
+pub mod InForce
+pub mod Faults

@@ -4,14 +4,14 @@ use Rattle.keymap_lint.proofs.Common.{get_or, refl, sym, ◌∙◌, ap, subst, a
 use Rattle.keymap_lint.proofs.Common.{range_with_len, true≢false, gathered, Faulty, Slot, Placed, Diagnostic, mixed_key}
 use Rattle.keymap_lint.proofs.Common.{missing_slot, selects, get_or-map-range_with_len, MapValue, last_of, rules}
 use Rattle.keymap_lint.proofs.Common.{Spelled, cell_in, cells_of}
-use Rattle.std.proofs.Common.{◌↔◌, ◌-◌, inl, inr}
+use Rattle.std.proofs.Common.{◌↔◌, inl, inr}
 use Rattle.std.specs.List.{list_any, Any}
 use Rattle.std.specs.Option.{is_some, option_or, option_to_list}
 use Rattle.std.specs.Prelude.{nat_lt}
 use Rattle.std.proofs.lemmas.Bool.{or_cases, or_left, or_right, and_parts, lt-ltb, le-ltb, eqb-true, eq-eqb, cases_Bool}
 use Rattle.std.proofs.lemmas.List.{get_or-replicate, length-append}
 use Rattle.std.proofs.lemmas.List.Elements.{All-head, All-nil}
-use Rattle.keymap_lint.proofs.Standing.{of_all}
+use Rattle.keymap_lint.proofs.Each.{of_all}
 use Rattle.std.proofs.Math.Bool.{or-true}
 use Rattle.std.proofs.lemmas.List.Sorted.{list_any-IsPermutation}
 use Rattle.keymap_core.specs.Bearers.{IsCellOf, IsUpperLive}
@@ -21,7 +21,7 @@ use Rattle.keymap_text.proofs.InForce.{no_slot}
 use Rattle.keymap_text.proofs.Verdicts.{one_map, not_both}
 use Rattle.keymap_lint.specs.Types.{Diagnostics, Spelled as OfSpelled, Holding, Cell, Char, Act, Finding, Defined}
 use Rattle.keymap_lint.specs.Types.{Accent, CellInForce}
-use Rattle.keymap_lint.specs.Kinds.{defines, is_mixed, mixed_keys, nul_keys, other_slot, missing_slots}
+use Rattle.keymap_lint.specs.Kinds.{defines, is_mixed, nul_keys, other_slot, missing_slots}
 use Rattle.keymap_lint.specs.Kinds.{selector, selector_of, half_by, half_defined, is_some_in}
 use Rattle.keymap_lint.specs.Lists.{AreOf, spelled_by, all_of}
 use Rattle.keymap_lint.specs.Promises.{names_keys, KeysAreNamedExactlyIfRefused, names_a_key}
@@ -101,9 +101,8 @@ same_slot (Accent i) slot e = absurd (true≢false (sym e))
 -- ---- a finding names a key
 
 -- both slots of the finding are defined
-mixed_names : (t : Spelled) (fs : List Finding) (f : Finding) → is_mixed t f ≡ true
-    → list_any names (mixed_key t fs f) ≡ true
-mixed_names t fs f h = search (rules, and_parts)
+mixed_names : (t : Spelled) (f : Finding) → is_mixed t f ≡ true → list_any names (mixed_key t f) ≡ true
+mixed_names t f h = search (rules, and_parts)
 
 -- ashift or alock in a slot below 128 is a cell that selects
 pub selecting : (t : Spelled) → HasUndefined t → IsUpperLive t.map
@@ -174,7 +173,7 @@ half_names t h f fs is mixed =
     simp (slots, keys, c.1) (go c.0 (selector t c.0) c.2)
   where
     go : (c : CellInForce) (o : Option Holding) → is_some o ≡ true
-        → list_any names (option_to_list (half_by c true (is_some_in (mixed_keys t (f ∷ fs))) o)) ≡ true
+        → list_any names (option_to_list (half_by c true o)) ≡ true
     go c (Some s) e = refl
     go c None e = absurd (true≢false (sym e))
 

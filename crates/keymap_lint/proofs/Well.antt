@@ -25,8 +25,8 @@ safe_never_sticks m safe ms h (first, loads) keys none =
 -- what names a key is an error, unless the search answers that no modifier sticks
 named_is_error : (k : Kind) → names_a_key k ≡ true → is_error (severity_of false k) ≡ true
 named_is_error kinds.NoKey h = refl
-named_is_error (kinds.MixedKey f c n) h = refl
-named_is_error (kinds.HalfDefined s true n) h = refl
+named_is_error (kinds.MixedKey f c) h = refl
+named_is_error (kinds.HalfDefined s true) h = refl
 named_is_error _ h = absurd (true≢false (sym h))
 
 none_by : {X : Type 0} (p q : X → Bool) → ((x : X) → q x ≡ true → p x ≡ true) → (xs : List X) → list_any p xs ≡ false

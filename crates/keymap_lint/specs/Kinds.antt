@@ -188,26 +188,19 @@ abbrev pub character_of : Cell → ℕ
 character_of (Char c) = c
 character_of (Act a) = 0
 
--- no finding of a greater key is one
-abbrev pub is_later : Spelled → ℕ → Finding → Bool
-is_later t key f = nat_lt key f.key && is_mixed t f
-
-abbrev pub is_greatest : Spelled → List Finding → ℕ → Bool
-is_greatest t findings key = not (list_any (is_later t key) findings)
-
-abbrev pub mixed_by : Spelled → List Finding → Finding → Option Placed → Option Diagnostic
-mixed_by t findings f (Some p) =
+abbrev pub mixed_by : Spelled → Finding → Option Placed → Option Diagnostic
+mixed_by t f (Some p) =
     if is_mixed t f
     then Some (at (offset_at t (p.first + (1 + f.holding_at.column))) (kinds.MixedKey f
-    (character_of (cell_at t.map f.character_at.slot f.character_at.column)) (is_greatest t findings f.key)))
+    (character_of (cell_at t.map f.character_at.slot f.character_at.column))))
     else None
-mixed_by t findings f None = None
+mixed_by t f None = None
 
-abbrev pub mixed_key : Spelled → List Finding → Finding → List Diagnostic
-mixed_key t findings f = option_to_list (mixed_by t findings f (last_of (Slot f.holding_at.slot) t.definitions))
+abbrev pub mixed_key : Spelled → Finding → List Diagnostic
+mixed_key t f = option_to_list (mixed_by t f (last_of (Slot f.holding_at.slot) t.definitions))
 
 abbrev pub mixed_keys : Spelled → List Finding → List Diagnostic
-mixed_keys t findings = flat_map (mixed_key t findings) findings
+mixed_keys t findings = flat_map (mixed_key t) findings
 
 -- the keys of the findings that have a character in a slot that isn't defined
 abbrev pub nul_key : Spelled → Finding → List ℕ
@@ -238,24 +231,22 @@ missing_slots t = if is_upper_live t.map then gathered (missing_slot t) slot_lim
 abbrev pub selects : Spelled → CellInForce → Bool
 selects t c = is_some (selector t c)
 
-abbrev pub half_by : CellInForce → Bool → Bool → Option Holding → Option Diagnostic
-half_by c has_keys has_mixed (Some s) =
-    Some (at c.span.start (kinds.HalfDefined s has_keys (has_keys && not has_mixed)))
-half_by c has_keys has_mixed None = None
+abbrev pub half_by : CellInForce → Bool → Option Holding → Option Diagnostic
+half_by c has_keys (Some s) = Some (at c.span.start (kinds.HalfDefined s has_keys))
+half_by c has_keys None = None
 
-abbrev pub half_at : Spelled → Bool → Bool → Option CellInForce → Option Diagnostic
-half_at t has_keys has_mixed (Some c) = half_by c has_keys has_mixed (selector t c)
-half_at t has_keys has_mixed None = None
+abbrev pub half_at : Spelled → Bool → Option CellInForce → Option Diagnostic
+half_at t has_keys (Some c) = half_by c has_keys (selector t c)
+half_at t has_keys None = None
 
--- what is said: whether there are such slots, such keys, and a mixed key
-abbrev pub half : Spelled → List CellInForce → Bool → Bool → Bool → Option Diagnostic
-half t cells has_slots has_keys has_mixed =
-    if has_slots then half_at t has_keys has_mixed (find (selects t) cells) else None
+-- what is said: whether there are such slots, and such keys
+abbrev pub half : Spelled → List CellInForce → Bool → Bool → Option Diagnostic
+half t cells has_slots has_keys =
+    if has_slots then half_at t has_keys (find (selects t) cells) else None
 
 abbrev pub is_some_in : {X : Type 0} → List X → Bool
 is_some_in xs = nat_lt 0 (length xs)
 
 abbrev pub half_defined : Spelled → List CellInForce → List Finding → List Diagnostic
 half_defined t cells findings =
-    option_to_list (half t cells (is_some_in (missing_slots t)) (is_some_in (nul_keys t findings))
-    (is_some_in (mixed_keys t findings)))
+    option_to_list (half t cells (is_some_in (missing_slots t)) (is_some_in (nul_keys t findings)))

@@ -60,8 +60,8 @@ IsOneByte t character c = (content t c ≡ Char character) × (c.span.end - c.sp
 -- what stands at the place of a diagnostic that tells of a cell: the modifier or lock, the selector, the dead key or
 -- the character of which it tells
 abbrev pub StandsThere : List ℕ → Spelled → ℕ → Kind → Type 0
-StandsThere text t place (kinds.MixedKey f character noted) = StandsAt text t place (IsHoldingOf t f character)
-StandsThere text t place (kinds.HalfDefined s keys noted) = StandsAt text t place (IsSelectorOf t s)
+StandsThere text t place (kinds.MixedKey f character) = StandsAt text t place (IsHoldingOf t f character)
+StandsThere text t place (kinds.HalfDefined s keys) = StandsAt text t place (IsSelectorOf t s)
 StandsThere text t place (kinds.DeadKey some) = StandsAt text t place (IsMissingDeadKey t)
 StandsThere text t place (kinds.BareDigit character) = StandsAt text t place (IsOneByte t character)
 StandsThere text t place k = ⊤

@@ -18,8 +18,8 @@ WellTextsNeverStick =
 
 -- the diagnostic names a key that is a modifier or lock and has a character
 abbrev pub names_a_key : Kind → Bool
-names_a_key (MixedKey finding character is_noted) = true
-names_a_key (HalfDefined selector has_keys is_noted) = has_keys
+names_a_key (MixedKey finding character) = true
+names_a_key (HalfDefined selector has_keys) = has_keys
 names_a_key _ = false
 
 abbrev pub names_keys : Lint → Bool

@@ -17,8 +17,8 @@ error_unless is_mild = if is_mild then Warning else Error
 
 abbrev pub severity_of : Bool → Kind → Severity
 severity_of never NoKey = Error
-severity_of never (MixedKey finding character is_noted) = error_unless never
-severity_of never (HalfDefined selector has_keys is_noted) = error_unless (never || not has_keys)
+severity_of never (MixedKey finding character) = error_unless never
+severity_of never (HalfDefined selector has_keys) = error_unless (never || not has_keys)
 severity_of never _ = Warning
 
 abbrev pub is_error : Severity → Bool

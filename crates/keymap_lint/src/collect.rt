@@ -1,8 +1,8 @@
 //! All that is said of a text, kind by kind.
-ghost use Rattle.std.specs.Prelude.{◌≡◌, ◌++◌, ◌≤◌, IfOk, length};
-ghost use Rattle.keymap_core.specs.Numbers.{key_count};
+ghost use Rattle.std.specs.Prelude.{◌≡◌, IfOk};
+ghost use Rattle.std.specs.Option.{option_to_list};
 ghost use Rattle.keymap_lint.specs.Spelled.{AreDefined};
-ghost use Rattle.keymap_lint.specs.Kinds.{half, is_some_in, missing_slots as missing_slots_of, nul_keys as nul_keys_of};
+ghost use Rattle.keymap_lint.specs.Kinds.{half_defined};
 ghost use Rattle.keymap_lint.specs.Lists.{of_keys, all_of};
 
 use crate::bare_digit::add_bare_digits;
@@ -10,8 +10,7 @@ use crate::cells::CellInForce;
 use crate::dead_key::dead_key;
 use crate::defined_again::add_defined_again;
 use crate::diagnostic::{Diagnostic, Found, add};
-use crate::half_defined::{half_defined, missing_slots};
-use crate::mixed_key::{mixed_keys, nul_keys};
+use crate::mixed_key::mixed_keys;
 use crate::no_key::no_key;
 use crate::no_shift::no_shift;
 use crate::pair_again::add_pairs_again;
@@ -21,31 +20,15 @@ use crate::zero_accent::add_zero_accents;
 use keymap_check::Finding;
 use std::alloc::{AllocError, Global};
 
-/// What is said of a text that doesn't define both slots of each key, where some key has both a modifier or lock and a
-/// character in slots that it defines, or none has.
-fn half_of(
-    text: &SpelledText,
-    cells: &[CellInForce],
-    findings: &[Finding],
-    has_mixed: bool,
-) -> Option<Diagnostic>
-    requires { length findings.now ≤ key_count }
-    ensures { result ≡ half text.now cells.now (is_some_in (missing_slots_of text.now))
-        (is_some_in (nul_keys_of text.now findings.now)) has_mixed }
-{
-    let has_slots = missing_slots(text).len() > 0;
-    let has_keys = nul_keys(text, findings).len() > 0;
-    half_defined(text, cells, has_slots, has_keys, has_mixed)
-}
-
-/// What is said of the keys.
+/// What is said of the keys, and of a text that doesn't define both slots of each key.
 fn said_of_keys(
     alloc: Global,
     text: &SpelledText,
     cells: &[CellInForce],
     findings: &[Finding],
+    half: Option<Diagnostic>,
 ) -> Result<Found, AllocError>
-    requires { length findings.now ≤ key_count }
+    requires { option_to_list half ≡ half_defined text.now cells.now findings.now }
     ensures { IfOk result (λ found. found.items ≡ of_keys text.now cells.now findings.now) }
 {
     let mixed = mixed_keys(alloc, text, findings)?;
@@ -53,7 +36,7 @@ fn said_of_keys(
     add(&mut found, no_key(text.map()))?;
     add(&mut found, no_shift(text.map()))?;
     found.extend_from_slice(mixed.as_slice())?;
-    add(&mut found, half_of(text, cells, findings, mixed.len() > 0))?;
+    add(&mut found, half)?;
     Ok(found)
 }
 
@@ -64,12 +47,13 @@ pub(crate) fn collect(
     text: &SpelledText,
     cells: &[CellInForce],
     findings: &[Finding],
+    half: Option<Diagnostic>,
 ) -> Result<Found, AllocError>
-    requires few { length findings.now ≤ key_count }
+    requires half { option_to_list half ≡ half_defined text.now cells.now findings.now }
     requires defined { AreDefined text.now }
     ensures { IfOk result (λ found. found.items ≡ all_of text.now cells.now findings.now) }
 {
-    let mut found = said_of_keys(alloc, text, cells, findings)?;
+    let mut found = said_of_keys(alloc, text, cells, findings, half)?;
     add_defined_again(&mut found, text)?;
     add(&mut found, dead_key(text, cells))?;
     add_zero_accents(&mut found, text, cells)?;

@@ -31,8 +31,6 @@ pub enum Kind {
         finding: Finding,
         /// The key's first character, which stands at `finding.character_at`.
         character: char,
-        /// No greater key has this: what the search answered is told behind it.
-        is_noted: bool,
     },
     /// Some cell selects the slots from 128 on, and of some key one slot is defined and the other one isn't. The slots
     /// that aren't are `Diagnostics::missing_slots`. It stands at the first ashift or alock of a slot below 128.
@@ -41,8 +39,6 @@ pub enum Kind {
         selector: Holding,
         /// Some key is a modifier or lock with a character in such a slot: the keys are `Diagnostics::nul_keys`.
         has_keys: bool,
-        /// `has_keys`, and no key is a `MixedKey`: what the search answered is told behind it.
-        is_noted: bool,
     },
     /// A definition without effect: a later one defines the same. It stands at its first token.
     DefinedAgain {

@@ -89,16 +89,14 @@ pub(crate) fn missing_slots(text: &SpelledText) -> ArrayVec<u8, SLOT_LIMIT>
     }
 }
 
-/// What is said of a text with such slots: whether some key has a modifier or lock and a character in one of them, and
-/// whether some key has both in slots that the text defines.
+/// What is said of a text with such slots: whether some key has a modifier or lock and a character in one of them.
 pub(crate) fn half_defined(
     text: &SpelledText,
     cells: &[CellInForce],
     has_slots: bool,
     has_keys: bool,
-    has_mixed: bool,
 ) -> Option<Diagnostic>
-    ensures { result ≡ half text.now cells.now has_slots has_keys has_mixed }
+    ensures { result ≡ half text.now cells.now has_slots has_keys }
 {
     if !has_slots {
         return None;
@@ -107,10 +105,6 @@ pub(crate) fn half_defined(
     let selector = selector(text, cell)?;
     Some(Diagnostic {
         place: Some(cell.span.start),
-        kind: Kind::HalfDefined {
-            selector,
-            has_keys,
-            is_noted: has_keys && !has_mixed,
-        },
+        kind: Kind::HalfDefined { selector, has_keys },
     })
 }

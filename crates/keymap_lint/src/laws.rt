@@ -16,7 +16,7 @@ pub fn keys_are_named_exactly_if_refused()
 {}
 
 /// Each cell of a definition in force is a token of the text that spells what the map has there.
-#[tactic(auto, using(crate::proofs::Standing::cells_in_force_are_spelled))]
+#[tactic(auto, using(crate::proofs::InForce::cells_in_force_are_spelled))]
 pub fn cells_in_force_are_spelled()
     ensures { CellsInForceAreSpelled }
 {}

@@ -1,9 +1,11 @@
 //! The diagnostics of a text.
 ghost use Rattle.std.specs.Prelude.{◌≡◌, ◌≤◌, IfOk, All, length};
+ghost use Rattle.std.specs.Option.{option_to_list};
 ghost use Rattle.keymap_core.specs.Numbers.{key_count};
 ghost use Rattle.keymap_text.specs.Meaning.{Spells};
 ghost use Rattle.keymap_lint.specs.Spelled.{AreDefined};
 ghost use Rattle.keymap_text.specs.Placed.{StandsAmong};
+ghost use Rattle.keymap_lint.specs.Kinds.{half_defined as half_defined_of};
 ghost use Rattle.keymap_lint.specs.Lists.{IsSearched, AreOrdered, all_of, spelled_with, AreOf, AreOfSpelled};
 ghost use Rattle.keymap_lint.specs.Lists.{AreOfMap, IsLint};
 ghost use Rattle.keymap_lint.specs.Positions.{LiesWithin};
@@ -12,7 +14,7 @@ use crate::cells::{CellInForce, cells_in_force};
 use crate::collect::collect;
 use crate::dead_key::missing_accents;
 use crate::diagnostic::{Diagnostic, Diagnostics, Lint};
-use crate::half_defined::missing_slots;
+use crate::half_defined::{half_defined, missing_slots};
 use crate::mixed_key::nul_keys;
 use crate::order::put_in_order;
 use crate::spelled::SpelledText;
@@ -41,12 +43,13 @@ fn ordered(
     text: &SpelledText,
     cells: &[CellInForce],
     findings: &[Finding],
+    half: Option<Diagnostic>,
 ) -> Result<Vec<Diagnostic>, AllocError>
-    requires few { length findings.now ≤ key_count }
+    requires half { option_to_list half ≡ half_defined_of text.now cells.now findings.now }
     requires defined { AreDefined text.now }
     ensures { IfOk result (λ found. AreOrdered (all_of text.now cells.now findings.now) found.items) }
 {
-    let mut found = collect(alloc, text, cells, findings)?;
+    let mut found = collect(alloc, text, cells, findings, half)?;
     put_in_order(&mut found)?;
     Ok(found)
 }
@@ -62,12 +65,15 @@ fn lint_with(
     requires defined { AreDefined text.now }
     ensures { IfOk result (λ l. AreOf text.now cells.now findings.now l) }
 {
-    let list = ordered(alloc, text, cells, findings)?;
+    let missing_slots = missing_slots(text);
+    let nul_keys = nul_keys(text, findings);
+    let half = half_defined(text, cells, missing_slots.len() > 0, nul_keys.len() > 0);
+    let list = ordered(alloc, text, cells, findings, half)?;
     let sticking = search(alloc, text.map(), findings)?;
     Ok(Diagnostics {
         list,
-        missing_slots: missing_slots(text),
-        nul_keys: nul_keys(text, findings),
+        missing_slots,
+        nul_keys,
         missing_accents: missing_accents(text, cells),
         unused_slots: unused_slots(text),
         sticking,

@@ -4,8 +4,7 @@ ghost use Rattle.std.specs.Option.{option_to_list};
 ghost use Rattle.arrayvec.specs.ArrayVec.{array_vec_len};
 ghost use Rattle.keymap_core.specs.Maps.{cell_at};
 ghost use Rattle.keymap_core.specs.Numbers.{key_count};
-ghost use Rattle.keymap_lint.specs.Kinds.{is_mixed as is_mixed_in, is_later as is_later_than, character_of};
-ghost use Rattle.keymap_lint.specs.Kinds.{is_greatest as is_greatest_in, mixed_key as mixed_key_of};
+ghost use Rattle.keymap_lint.specs.Kinds.{is_mixed as is_mixed_in, character_of, mixed_key as mixed_key_of};
 ghost use Rattle.keymap_lint.specs.Kinds.{mixed_keys as mixed_keys_of, nul_key, nul_keys as nul_keys_of};
 
 use crate::diagnostic::{Diagnostic, Found, Kind, add};
@@ -22,20 +21,6 @@ fn is_mixed(text: &SpelledText, finding: &Finding) -> bool
     text.defines(finding.holding_at.slot) && text.defines(finding.character_at.slot)
 }
 
-/// Whether the text defines both slots of the finding, and its key is greater than this one.
-fn is_later(text: &SpelledText, key: u8, finding: &Finding) -> bool
-    ensures { result ≡ is_later_than text.now key finding.now }
-{
-    key < finding.key.get() && is_mixed(text, finding)
-}
-
-/// Whether no such finding has a greater key.
-fn is_greatest(text: &SpelledText, findings: &[Finding], key: u8) -> bool
-    ensures { result ≡ is_greatest_in text.now findings.now key }
-{
-    !findings.iter().any(|finding| is_later(text, key, finding))
-}
-
 /// The character that stands at the place.
 fn character(text: &SpelledText, at: Place) -> char
     ensures { result ≡ character_of (cell_at text.now.map at.slot at.column) }
@@ -47,8 +32,8 @@ fn character(text: &SpelledText, at: Place) -> char
 }
 
 /// What is said of a finding whose slots the text defines.
-fn mixed_key(text: &SpelledText, findings: &[Finding], finding: &Finding) -> Option<Diagnostic>
-    ensures { option_to_list result ≡ mixed_key_of text.now findings.now finding.now }
+fn mixed_key(text: &SpelledText, finding: &Finding) -> Option<Diagnostic>
+    ensures { option_to_list result ≡ mixed_key_of text.now finding.now }
 {
     let column = finding.holding_at.column as usize;
     match text.slot(finding.holding_at.slot) {
@@ -57,7 +42,6 @@ fn mixed_key(text: &SpelledText, findings: &[Finding], finding: &Finding) -> Opt
             kind: Kind::MixedKey {
                 finding: *finding,
                 character: character(text, finding.character_at),
-                is_noted: is_greatest(text, findings, finding.key.get()),
             },
         }),
         _ => None,
@@ -74,7 +58,7 @@ pub(crate) fn mixed_keys(
 {
     let mut found = Vec::new(alloc);
     for finding in findings {
-        add(&mut found, mixed_key(text, findings, finding))?;
+        add(&mut found, mixed_key(text, finding))?;
     }
     Ok(found)
 }

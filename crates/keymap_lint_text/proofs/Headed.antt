@@ -106,7 +106,7 @@ each_said text l [] = said_none
 each_said text l (d ∷ ds) =
     All-append (λ (e : Remark). IsSaid e.said) (of_diagnostic text l d) (flat_map (of_diagnostic text l) ds)
     (said_cons (judged text l d) _ (kind_line d.kind, message_line text l d.kind)
-    (said_if (is_noted d.kind) (answer l.sticking) (answer_said l.sticking))) (each_said text l ds)
+    (said_if (is_noted l.list.items d.kind) (answer l.sticking) (answer_said l.sticking))) (each_said text l ds)
 
 beginning_said : (text : List ℕ) (place : ℕ) (kind : TextFaultKind) (d : Option DefinitionStart)
     → AreSaid (beginning text place kind d)
@@ -154,7 +154,7 @@ each_judged : (text : List ℕ) (l : Diagnostics) (ds : List Diagnostic)
     → filter is_judged (flat_map (of_diagnostic text l) ds) ≡ map (judged text l) ds
 each_judged text l [] = refl
 each_judged text l (d ∷ ds) =
-    let noted = noted_if (is_noted d.kind) (answer l.sticking) (answer_noted l.sticking) in
+    let noted = noted_if (is_noted l.list.items d.kind) (answer l.sticking) (answer_noted l.sticking) in
     cc (filter-append is_judged (of_diagnostic text l d) (flat_map (of_diagnostic text l) ds), each_judged text l ds)
 
 pub all_judged : (text : List ℕ) (l : Lint) → filter is_judged (remarks text l) ≡ diagnostics text l

@@ -169,8 +169,8 @@ pub message_line : (text : List ℕ) (l : Diagnostics) (kind : Kind) → IsLine 
 unfolding said.message_text
 message_line text l kinds.NoKey = fills words.NO_KEY.now [] refl tt
 message_line text l kinds.NoShift = fills words.NO_SHIFT.now [] refl tt
-message_line text l (kinds.MixedKey f c noted) = mixed_line f c _
-message_line text l (kinds.HalfDefined selector has_keys noted) = half_line l selector has_keys
+message_line text l (kinds.MixedKey f c) = mixed_line f c _
+message_line text l (kinds.HalfDefined selector has_keys) = half_line l selector has_keys
 message_line text l (kinds.DefinedAgain what last) = again_line what _
 message_line text l (kinds.DeadKey some) = dead_line l.missing_accents.items some
 message_line text l (kinds.ZeroAccent accent) = fills words.ZERO_ACCENT.now _ refl (accent_line accent, tt)

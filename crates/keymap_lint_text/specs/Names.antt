@@ -1,5 +1,7 @@
 -- The names of severities and kinds, and behind which kinds the answer of the search is told.
-use Rattle.std.specs.Prelude.{ℕ, Bool, false, List, codes}
+use Rattle.std.specs.Prelude.{ℕ, ◌+◌, ◌&&◌, not, nat_le, Bool, false, List, codes}
+use Rattle.std.specs.List.{list_any}
+use Rattle.keymap_lint.specs.declared.diagnostic.Diagnostic.{Diagnostic}
 use Rattle.keymap_lint.specs.declared.diagnostic.Kind.{Kind}
 use Rattle.keymap_lint.specs.declared.diagnostic.Kind.TheVariants as kinds
 use Rattle.keymap_lint.specs.declared.diagnostic.Severity.{Severity}
@@ -13,8 +15,8 @@ severity_text severities.Warning = codes "warning"
 unfoldable pub kind_text : Kind → List ℕ
 kind_text kinds.NoKey = codes "no-key"
 kind_text kinds.NoShift = codes "no-shift"
-kind_text (kinds.MixedKey finding character is_noted) = codes "mixed-key"
-kind_text (kinds.HalfDefined selector has_keys is_noted) = codes "half-defined"
+kind_text (kinds.MixedKey finding character) = codes "mixed-key"
+kind_text (kinds.HalfDefined selector has_keys) = codes "half-defined"
 kind_text (kinds.DefinedAgain what last) = codes "defined-again"
 kind_text (kinds.DeadKey defines_some) = codes "dead-key"
 kind_text (kinds.ZeroAccent accent) = codes "zero-accent"
@@ -22,7 +24,17 @@ kind_text (kinds.PairAgain accent base first) = codes "pair-again"
 kind_text kinds.UnusedHalf = codes "unused-half"
 kind_text (kinds.BareDigit character) = codes "bare-digit"
 
-unfoldable pub is_noted : Kind → Bool
-is_noted (kinds.MixedKey finding character noted) = noted
-is_noted (kinds.HalfDefined selector has_keys noted) = noted
-is_noted _ = false
+-- a mixed key, of this number or a greater one
+abbrev pub is_mixed_from : ℕ → Kind → Bool
+is_mixed_from key (kinds.MixedKey finding character) = nat_le key finding.key
+is_mixed_from key _ = false
+
+abbrev pub has_mixed_from : List Diagnostic → ℕ → Bool
+has_mixed_from list key = list_any (λ (d : Diagnostic). is_mixed_from key d.kind) list
+
+-- Of the diagnostics in a list, the answer of the search is told behind the mixed key with the greatest number, or,
+-- where no key is mixed, behind the half-defined text that has keys.
+unfoldable pub is_noted : List Diagnostic → Kind → Bool
+is_noted list (kinds.MixedKey finding character) = not (has_mixed_from list (finding.key + 1))
+is_noted list (kinds.HalfDefined selector has_keys) = has_keys && not (has_mixed_from list 0)
+is_noted list _ = false

@@ -72,9 +72,9 @@ bare_digit_text c = filled words.BARE_DIGIT.now (decimal c ∷ decimal c ∷ tol
 unfoldable pub message_text : List ℕ → Diagnostics → Kind → List ℕ
 message_text text l kinds.NoKey = filled words.NO_KEY.now []
 message_text text l kinds.NoShift = filled words.NO_SHIFT.now []
-message_text text l (kinds.MixedKey finding character is_noted) =
+message_text text l (kinds.MixedKey finding character) =
     mixed_key_text finding character (never_sticks l.sticking)
-message_text text l (kinds.HalfDefined selector has_keys is_noted) = half_defined_text l selector has_keys
+message_text text l (kinds.HalfDefined selector has_keys) = half_defined_text l selector has_keys
 message_text text l (kinds.DefinedAgain what last) = defined_again_text what (line text last)
 message_text text l (kinds.DeadKey defines_some) = dead_key_text l.missing_accents.items defines_some
 message_text text l (kinds.ZeroAccent accent) = filled words.ZERO_ACCENT.now (accent_name accent ∷ [])

@@ -36,7 +36,7 @@ judged text l d =
     (message_text text l d.kind))
 
 abbrev pub of_diagnostic : List ℕ → Diagnostics → Diagnostic → List Remark
-of_diagnostic text l d = judged text l d ∷ (if is_noted d.kind then answer l.sticking else [])
+of_diagnostic text l d = judged text l d ∷ (if is_noted l.list.items d.kind then answer l.sticking else [])
 
 -- faults that stand in a definition and may come from its beginning
 abbrev pub tells_beginning : TextFaultKind → Bool

@@ -208,7 +208,7 @@ impl<'a> Printer<'a> {
             kind_text(kind),
             said.as_slice(),
         )?;
-        if is_noted(kind) {
+        if is_noted(lint.list.as_slice(), kind) {
             self.answer(text, &lint.sticking)
         } else {
             Ok(())

@@ -15,7 +15,7 @@ use crate::words::{
 };
 use keymap_check::Finding;
 use keymap_core::Holding;
-use keymap_lint::{Diagnostics, Kind, Severity};
+use keymap_lint::{Diagnostic, Diagnostics, Kind, Severity};
 use keymap_text::{Defined, TextLines};
 use messages::{either, filled, number};
 use std::alloc::{AllocError, Global};
@@ -192,16 +192,13 @@ pub(crate) fn kind_message(
     match kind {
         Kind::NoKey => filled(alloc, NO_KEY, &[]),
         Kind::NoShift => filled(alloc, NO_SHIFT, &[]),
-        Kind::MixedKey {
+        Kind::MixedKey { finding, character } => mixed_key(
+            alloc,
             finding,
-            character,
-            ..
-        } => mixed_key(alloc, finding, *character, lint.never_sticks()),
-        Kind::HalfDefined {
-            selector,
-            has_keys,
-            ..
-        } => half_defined(alloc, lint, *selector, *has_keys),
+            *character,
+            lint.never_sticks(),
+        ),
+        Kind::HalfDefined { selector, has_keys } => half_defined(alloc, lint, *selector, *has_keys),
         Kind::DefinedAgain { what, last } => {
             defined_again(alloc, *what, source.number_at(*last))
         }
@@ -237,14 +234,31 @@ pub(crate) fn kind_message(
     }
 }
 
-/// Whether what the search answered is told behind a diagnostic of this kind.
-#[tactic(auto, unfolding(crate::specs::Names::is_noted))]
-pub(crate) fn is_noted(kind: &Kind) -> bool
-    ensures { result ≡ names.is_noted kind.now }
+/// Whether this is a `MixedKey` of a key from this one on.
+fn is_mixed_from(key: u8, kind: &Kind) -> bool
+    ensures { result ≡ names.is_mixed_from key kind.now }
 {
     match kind {
-        Kind::MixedKey { is_noted, .. } => *is_noted,
-        Kind::HalfDefined { is_noted, .. } => *is_noted,
+        Kind::MixedKey { finding, .. } => key <= finding.key.get(),
+        _ => false,
+    }
+}
+
+fn has_mixed_from(list: &[Diagnostic], key: u8) -> bool
+    ensures { result ≡ names.has_mixed_from list.now key }
+{
+    list.iter().any(|other| is_mixed_from(key, &other.kind))
+}
+
+/// Whether what the search answered is told behind a diagnostic of this kind, of all in the list: behind the `MixedKey`
+/// of the greatest key, or where there is none behind a `HalfDefined` that has keys.
+#[tactic(auto, unfolding(crate::specs::Names::is_noted))]
+pub(crate) fn is_noted(list: &[Diagnostic], kind: &Kind) -> bool
+    ensures { result ≡ names.is_noted list.now kind.now }
+{
+    match kind {
+        Kind::MixedKey { finding, .. } => !has_mixed_from(list, finding.key.get() + 1),
+        Kind::HalfDefined { has_keys, .. } => *has_keys && !has_mixed_from(list, 0),
         _ => false,
     }
 }

@@ -1,0 +1,143 @@
+-- What holds of each diagnostic that a text may have holds of all that it has.
+use Rattle.keymap_lint.proofs.Common.{◌≡◌, ℕ, ◌+◌, Bool, true, false, ◌&&◌, not, cond, List, [], ◌∷◌, ◌++◌}
+use Rattle.keymap_lint.proofs.Common.{length, refl, Option, Some, None}
+use Rattle.keymap_lint.proofs.Common.{find, flat_map, Slot, Placed, Diagnostic}
+use Rattle.keymap_lint.proofs.Common.{gathered, last_of, mixed_key, selects, again, is_missing, rules}
+use Rattle.keymap_lint.proofs.Common.{is_defined, zero_accent, pair_again, accent_pairs, has_base}
+use Rattle.keymap_lint.proofs.Common.{is_above_in_force, digit, Spelled}
+use Prim.Native.Nat.{zero, suc}
+use Rattle.std.proofs.Common.{◌-◌, All, ◌==◌}
+use Rattle.std.specs.Option.{option_to_list}
+use Rattle.std.proofs.lemmas.Bool.{eqb-true}
+use Rattle.std.proofs.lemmas.List.Elements.{All-nil, All-cons, All-head, All-tail, All-append}
+use Rattle.keymap_lint.specs.Types.{Holding, Cell, Char, Act, Finding, Accent, CellInForce}
+use Rattle.keymap_core.specs.Below.{first_below}
+use Rattle.keymap_core.specs.Borne.{is_upper_live, any_below}
+use Rattle.keymap_core.specs.Maps.{accent_at, cell_at}
+use Rattle.keymap_lint.specs.Kinds.{at, nowhere, no_key, no_shift, has_keys, has_shift, mixed_keys}
+use Rattle.keymap_lint.specs.Kinds.{character_of, half_at, half_defined, selector}
+use Rattle.keymap_lint.specs.Kinds.{is_some_in, missing_slots, nul_keys, defined_again, dead_key, dead_key_by}
+use Rattle.keymap_lint.specs.Kinds.{zero_accents, pair_by}
+use Rattle.keymap_lint.specs.Kinds.{pairs_by, pairs_again, base_at, paren, unused_by, unused_half, digit_by}
+use Rattle.keymap_lint.specs.Kinds.{bare_digits}
+use Rattle.keymap_lint.specs.Lists.{all_of, of_keys, of_definitions, of_rest}
+use Rattle.keymap_lint.specs.Spelled.{offset_at, content}
+use Rattle.keymap_lint.specs.declared.diagnostic.Kind.TheVariants as kinds
+
+-- ---- lists
+
+pub all_flat : {X Y : Type 0} (P : Y → Type 0) (Q : X → Type 0) (f : X → List Y) → ((x : X) → Q x → All P (f x))
+    → (xs : List X) → All Q xs → All P (flat_map f xs)
+all_flat P Q f h [] all = All-nil P
+all_flat P Q f h (x ∷ xs) all =
+    All-append P (f x) (flat_map f xs) (h x (All-head Q x xs all)) (all_flat P Q f h xs (All-tail Q x xs all))
+
+all_gathered : {Y : Type 0} (P : Y → Type 0) (f : ℕ → List Y) → ((n : ℕ) → All P (f n)) → (n : ℕ)
+    → All P (gathered f n)
+unfolding gathered
+all_gathered P f h zero = All-nil P
+all_gathered P f h (suc n) = All-append P (gathered f n) (f n) (all_gathered P f h n) (h n)
+
+all_one : {Y : Type 0} (P : Y → Type 0) (y : Y) → P y → All P (y ∷ [])
+all_one P y h = All-cons P y [] h (All-nil P)
+
+all_either : {X : Type 0} (P : X → Type 0) (b : Bool) (x y : X) → P x → P y → P (cond b x y)
+all_either P true x y h k = h
+all_either P false x y h k = k
+
+-- what is said only if the test says so
+all_if_so : {Y : Type 0} (P : Y → Type 0) (b : Bool) (y : Y) → (b ≡ true → P y)
+    → All P (option_to_list (cond b (Some y) None))
+all_if_so P true y h = all_one P y (h refl)
+all_if_so P false y h = All-nil P
+
+all_if : {Y : Type 0} (P : Y → Type 0) (b : Bool) (y : Y) → P y → All P (option_to_list (cond b (Some y) None))
+all_if P b y h = all_either (λ o. All P (option_to_list o)) b (Some y) None (all_one P y h) (All-nil P)
+
+-- ---- diagnostics
+
+-- The property holds of each diagnostic that a text with these cells and findings may have.
+pub record OfEach (P : Diagnostic → Type 0) (t : Spelled) (cells : List CellInForce) (fs : List Finding) : Type 0 where
+  pub no_key : P (nowhere kinds.NoKey)
+  pub no_shift : P (nowhere kinds.NoShift)
+  pub mixed : All (λ f. (p : Placed) → last_of (Slot f.holding_at.slot) t.definitions ≡ Some p
+      → P (at (offset_at t (p.first + (1 + f.holding_at.column))) (kinds.MixedKey f
+      (character_of (cell_at t.map f.character_at.slot f.character_at.column))))) fs
+  pub half : (c : CellInForce) (s : Holding) → find (selects t) cells ≡ Some c → selector t c ≡ Some s
+      → P (at c.span.start (kinds.HalfDefined s (is_some_in (nul_keys t fs))))
+  pub again : (p q : Placed) → P (at (offset_at t p.first) (kinds.DefinedAgain p.what (offset_at t q.first)))
+  pub dead : (c : CellInForce) → find (is_missing t) cells ≡ Some c
+      → P (at c.span.start (kinds.DeadKey (any_below (is_defined t) 15)))
+  pub zero : (i : ℕ) (p : Placed) → P (at (offset_at t (p.first + 1)) (kinds.ZeroAccent i))
+  pub pair : (i first base j k : ℕ) → P (at (paren t first j) (kinds.PairAgain i base (paren t first k)))
+  pub unused : (p : Placed) → P (at (offset_at t p.first) kinds.UnusedHalf)
+  pub digit : All (λ c. (n : ℕ) → content t c ≡ Char n → c.span.end - c.span.start ≡ 1
+      → P (at c.span.start (kinds.BareDigit n))) cells
+
+-- by whether there is one
+all_some : {X Y : Type 0} (P : Y → Type 0) (f : Option X → List Y) (o : Option X) → All P (f None)
+    → ((x : X) → o ≡ Some x → All P (f (Some x))) → All P (f o)
+all_some P f None h k = h
+all_some P f (Some x) h k = k x refl
+
+-- What holds of each kind of diagnostic holds of all that a text has.
+pub of_all : (P : Diagnostic → Type 0) (t : Spelled) (cells : List CellInForce) (fs : List Finding)
+    → OfEach P t cells fs → All P (all_of t cells fs)
+of_all P t cells fs h =
+    join (of_keys t cells fs ++ of_definitions t cells) (of_rest t cells)
+    (join (of_keys t cells fs) (of_definitions t cells)
+    (join ((no_key t.map ++ no_shift t.map) ++ mixed_keys t fs) (half_defined t cells fs)
+    (join (no_key t.map ++ no_shift t.map) (mixed_keys t fs)
+    (join (no_key t.map) (no_shift t.map)
+    (all_either (All P) (has_keys t.map) [] (nowhere kinds.NoKey ∷ []) none (all_one P _ h.no_key))
+    (all_either (All P) (has_keys t.map && not (has_shift t.map)) (nowhere kinds.NoShift ∷ []) []
+    (all_one P _ h.no_shift) none))
+    (all_flat P _ (mixed_key t) mixed fs h.mixed))
+    (all_either (λ o. All P (option_to_list o)) (is_some_in (missing_slots t)) (half_at t _ (find (selects t) cells))
+    None halves none))
+    (join (defined_again t ++ dead_key t cells) (zero_accents t cells)
+    (join (defined_again t) (dead_key t cells)
+    (all_flat P (λ p. Unit {0}) (again t) againby t.definitions (λ k d l. tt))
+    (all_some P (dead_key_by t) (find (is_missing t) cells) none (λ c e. all_one P _ (h.dead c e))))
+    (all_gathered P (zero_accent t cells) zero 15)))
+    (join (pairs_again t ++ unused_half t) (bare_digits t cells)
+    (join (pairs_again t) (unused_half t) (all_gathered P (accent_pairs t) pairs 15)
+    (all_either (All P) (is_upper_live t.map) [] (unused_by t (find (is_above_in_force t) t.definitions)) none
+    (all_some P (unused_by t) (find (is_above_in_force t) t.definitions) none (λ p e. all_one P _ (h.unused p)))))
+    (all_flat P _ (digit t) (λ c g. digits c (content t c) g) cells h.digit))
+  where
+    none : All P []
+    none = All-nil P
+
+    join : (xs ys : List Diagnostic) → All P xs → All P ys → All P (xs ++ ys)
+    join = All-append P
+
+    mixed : (f : Finding) → ((p : Placed) → last_of (Slot f.holding_at.slot) t.definitions ≡ Some p
+        → P (at (offset_at t (p.first + (1 + f.holding_at.column))) (kinds.MixedKey f
+        (character_of (cell_at t.map f.character_at.slot f.character_at.column)))))
+        → All P (mixed_key t f)
+    mixed f g = search (rules, all_some, none, all_if)
+
+    halves : All P (option_to_list (half_at t (is_some_in (nul_keys t fs)) (find (selects t) cells)))
+    halves = search (rules, all_some, none, all_one)
+
+    againby : (p : Placed) → Unit {0} → All P (again t p)
+    againby p u = search (rules, all_some, none, all_either, all_one)
+
+    zero : (i : ℕ) → All P (zero_accent t cells i)
+    zero i = search (rules, all_some, none, all_if)
+
+    pairs : (i : ℕ) → All P (accent_pairs t i)
+    pairs i =
+        all_some P (λ o. pairs_by t i o (accent_at t.map i)) (last_of (Accent i) t.definitions) none (λ p e.
+        all_some P (pairs_by t i (Some p)) (accent_at t.map i) none (λ a f.
+        all_gathered P (pair_again t i p.first a.pairs) (λ j.
+        all_some P (λ o. option_to_list (pair_by t i p.first (base_at a.pairs j) j o))
+        (first_below (has_base a.pairs j) j) none (λ k g. all_one P _ (h.pair i p.first (base_at a.pairs j) j k)))
+        (length a.pairs)))
+
+    digits : (c : CellInForce) (x : Cell) → ((n : ℕ) → x ≡ Char n → c.span.end - c.span.start ≡ 1
+        → P (at c.span.start (kinds.BareDigit n))) → All P (option_to_list (digit_by c x))
+    digits c (Act a) g = none
+    digits c (Char n) g =
+        all_if_so P (c.span.end - c.span.start == 1) _ (λ e. g n refl (eqb-true (c.span.end - c.span.start) 1 e))

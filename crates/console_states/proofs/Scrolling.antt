@@ -92,5 +92,5 @@ turns-off e x at (y, here, move) h same keys none on old there now is out last =
     rw last (
       (refl, tt, led.0.taken),
       rw behind (press-turns m (events_along path ++ Reset ∷ h) (state_from u t path) at.key Scroll stands idle seen Scroll
-      ∙ ap not is_on),
+          ∙ ap not is_on),
     )

@@ -1,10 +1,10 @@
 //! The calls of console_core, and of keymap_cover, which stands on it.
 use crate::devices::mark;
-use crate::inputs::{TRAP, map_of, sample};
+use crate::inputs::{SCROLL, TRAP, map_of, sample};
 use crate::outcome::{Outcome, ended, ended_keeping};
 use console_core::{
     Event, Explorer, PlainConsole, Sight, Sticking, Translator, WordConsole, find_onward, replay,
-    sights_of, sticking, sticking_between, type_characters,
+    scroll_off, sights_of, sticking, sticking_between, type_characters,
 };
 use keymap_core::{KeyCode, Lock, Modifier, Write};
 use keymap_cover::{Seen, cells, cover_of, lock_settings};
@@ -28,6 +28,7 @@ pub(crate) fn outcome_of<W: Write>(
         "Explorer::events_home" => comes_home(alloc, marks)?,
         "Reached::releases" => lets_go(alloc, marks)?,
         "find_onward" => goes_onward(alloc, marks)?,
+        "scroll_off" => turns_scroll_off(alloc, marks)?,
         "type_characters" => types_characters(alloc, marks)?,
         "cover_of" => covers(alloc, marks)?,
         "Seen::new" => sees_nothing(alloc, marks),
@@ -213,6 +214,15 @@ fn goes_onward<W: Write>(alloc: Global, marks: &mut W) -> Result<Outcome, AllocE
     let given = find_onward(alloc, &map, &PlainConsole::new(&map), &[cell]);
     mark(marks);
     Ok(ended(given.map(|onward| onward.is_some())))
+}
+
+/// The events that turn the scroll lock off where it can be turned with shift alone.
+fn turns_scroll_off<W: Write>(alloc: Global, marks: &mut W) -> Result<Outcome, AllocError> {
+    let map = map_of(alloc, SCROLL)?;
+    mark(marks);
+    let given = scroll_off(alloc, &map, &PlainConsole::new(&map));
+    mark(marks);
+    Ok(ended(given.map(|events| events.is_some())))
 }
 
 fn covers<W: Write>(alloc: Global, marks: &mut W) -> Result<Outcome, AllocError> {

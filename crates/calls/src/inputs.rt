@@ -18,6 +18,11 @@ pub(crate) const TRAP: &[u8] = b"029 lctrl lctrl lctrl lctrl lctrl lctrl lctrl l
 042 lshift lshift 'x' 'x' lshift lshift lshift lshift O
 ";
 
+/// A scroll lock behind shift.
+pub(crate) const SCROLL: &[u8] = b"042 lshift lshift lshift lshift lshift lshift lshift lshift O
+070 nop slock nop slock nop slock nop slock O
+";
+
 /// A text with a fault in its first byte.
 pub(crate) const FAULTY: &[u8] = b")";
 

@@ -1,5 +1,6 @@
 -- The verdicts that are counted are those that are told.
-use Rattle.keymap_cover.proofs.Common.{◌≡◌, ℕ, zero, ◌<◌, Bool, true, false, List, [], ◌∷◌, refl, ap, sym, ◌∙◌, true≢false}
+use Rattle.keymap_cover.proofs.Common.{◌≡◌, ℕ, zero, ◌<◌, Bool, true, false, List, [], ◌∷◌, refl, ap, sym, ◌∙◌}
+use Rattle.keymap_cover.proofs.Common.{true≢false}
 use Rattle.keymap_cover.proofs.Common.{if◌then◌else◌, MapValue, Sight, Event, alone, SeesAlong, IsReachable, has_seen}
 use Rattle.keymap_cover.proofs.Common.{IsTold, reverse}
 use Rattle.std.proofs.Common.{All}
@@ -37,7 +38,7 @@ counts_are_of_verdicts m c covers x = by (has_seen c.seen x) refl
       unseen e,
       hidden f,
       (λ h k admitted lt sees. hidden f
-      (sights_are_reachable m c.sights.forgets h k x (never-forgets m c.sights covers.sights) admitted lt sees)),
+          (sights_are_reachable m c.sights.forgets h k x (never-forgets m c.sights covers.sights) admitted lt sees)),
     )
 
     by : (t : Bool) → has_seen c.seen x ≡ t

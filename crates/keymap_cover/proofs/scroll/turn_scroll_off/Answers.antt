@@ -23,7 +23,7 @@ returns-in_default g c =
       w,
       ([], refl),
       inr (subst (λ o. MatchOption o (CannotScroll m h) (λ events. TurnsScrollOff m h (reverse events.items)))
-      c.in_default.is told),
+          c.in_default.is told),
     )
 
 pub returns-in_ok-walk : goal.returns-in_ok-walk

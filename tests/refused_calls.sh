@@ -103,6 +103,7 @@ refuses Explorer::events_to
 refuses Explorer::events_home
 refuses Reached::releases
 refuses find_onward
+refuses scroll_off
 yields type_characters
 yields cover_of
 refuses Seen::new

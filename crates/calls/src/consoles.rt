@@ -4,7 +4,8 @@ use crate::inputs::{Call, Lent};
 use crate::outcome::{Outcome, ended, ended_keeping};
 use console_core::{Event, PlainConsole, Translator, WordConsole, replay};
 use console_states::{
-    Explorer, Sight, Sticking, find_onward, sights_of, sticking, sticking_between, type_characters,
+    Explorer, Sight, Sticking, find_onward, scroll_off, sights_of, sticking, sticking_between,
+    type_characters,
 };
 use keymap_core::{KeyCode, Lock, Modifier, Write};
 use keymap_cover::{Seen, cells, cover_of, lock_settings};
@@ -26,6 +27,7 @@ pub(crate) fn of_keymaps<W: Write>(call: &Call<'_>, marks: &mut W) -> Option<Out
         "sights_of" => finds_sights(alloc, sample, marks),
         "Explorer::new" => explores(alloc, sample, marks),
         "find_onward" => goes_onward(alloc, sample, marks),
+        "scroll_off" => turns_scroll_off(alloc, sample, marks),
         "type_characters" => types_characters(alloc, sample, marks),
         "cover_of" => covers(alloc, sample, marks),
         "Seen::new" => sees_nothing(alloc, marks),
@@ -214,6 +216,14 @@ fn goes_onward<W: Write>(alloc: Global, lent: &Lent, marks: &mut W) -> Outcome {
     let console = PlainConsole::new(&lent.map);
     mark(marks);
     let given = find_onward(alloc, &lent.map, &console, &[cell]);
+    mark(marks);
+    ended(&given, matches!(&given, Ok(Some(_))))
+}
+
+fn turns_scroll_off<W: Write>(alloc: Global, lent: &Lent, marks: &mut W) -> Outcome {
+    let console = PlainConsole::new(&lent.map);
+    mark(marks);
+    let given = scroll_off(alloc, &lent.map, &console);
     mark(marks);
     ended(&given, matches!(&given, Ok(Some(_))))
 }

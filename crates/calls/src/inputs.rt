@@ -4,12 +4,13 @@ use keymap_tables::{NARROW_FILE, WIDE_FILE, write_narrow, write_tables};
 use keymap_text::read_map;
 use std::alloc::{AllocError, Global};
 
-/// Letters, a shift, a lock and a dead key with its accent.
+/// Letters, a shift, two locks and a dead key with its accent.
 pub(crate) const TEXT: &[u8] = b"018 'e' 'E' nop nop 'e' 'E' nop nop C
 026 dacu dacu dacu dacu dacu dacu dacu dacu O
 030 'a' 'A' nop nop 'a' 'A' nop nop C
 042 lshift lshift lshift lshift lshift lshift lshift lshift O
 058 clock clock clock clock clock clock clock clock O
+070 nop slock nop slock nop slock nop slock O
 dacu 180 ( 'e' 0xe9 )
 ";
 

@@ -86,11 +86,15 @@ turns-off e x at (y, here, move) h same keys none on old there now is out last =
     let behind : there ++ h ≡ events_along path ++ Reset ∷ h =
     ap (λ z. z ++ h) (out path trail ∙ ap (λ z. events_along path ++ z) is)
     ∙ append_assoc (events_along path) (Reset ∷ []) h in
-    let rests = at-reset m s h (λ i. ap (λ z. z.holder i) same) x.origin.1 keys none
-    (ap (λ z. z.is_locked Caps) (sym same), ap (λ z. z.is_locked Num) (sym same), ap (λ z. z.is_locked Alt) (sym same)) in
+    let rests = at-reset m s h (λ i. ap (λ z. z.holder i) same) x.origin.1 keys none (
+      ap (λ z. z.is_locked Caps) (sym same),
+      ap (λ z. z.is_locked Num) (sym same),
+      ap (λ z. z.is_locked Alt) (sym same),
+    ) in
     let led = out-leads e x at.place y here old there out h (rw is rests) in
     rw last (
       (refl, tt, led.0.taken),
-      rw behind (press-turns m (events_along path ++ Reset ∷ h) (state_from u t path) at.key Scroll stands idle seen Scroll
+      rw behind
+          (press-turns m (events_along path ++ Reset ∷ h) (state_from u t path) at.key Scroll stands idle seen Scroll
           ∙ ap not is_on),
     )

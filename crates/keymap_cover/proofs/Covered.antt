@@ -10,7 +10,8 @@ use Rattle.keymap_cover.specs.Inner.Scripts.{ShowsInParts}
 use Rattle.keymap_cover.proofs.Showing.{sees-more}
 
 pub script-covers : (m : MapValue) (h : List Event) (c : Cover) (down : List Bool)
-    → IsScript m h c.events.items down (has_seen c.seen) → IsAtRest m h × IsScrollOff m h → AreUp down → AreSightsOf m c.sights
+    → IsScript m h c.events.items down (has_seen c.seen) → IsAtRest m h × IsScrollOff m h → AreUp down
+    → AreSightsOf m c.sights
     → AreParts c.starts.items (length c.events.items) → ShowsInParts m c.events.items c.starts.items → Covers m c
 script-covers m h c down t (rest, off) up are parts (first, second, keys, told, le, behind) = record {
   seen = λ x has. subst (λ g. SeesAlong m g x) (sym t.history) (t.seen x has);
@@ -25,7 +26,8 @@ script-covers m h c down t (rest, off) up are parts (first, second, keys, told, 
   complete = λ x has can.
       subst (λ z. SeesAlong m (events_of (reverse z)) x) (take_all (length events) events (omega arith))
       (sees-more m events second (length events) x le (told x has can));
-  cells = λ s among later x has key can. sees-more m events first s.at x ((behind s among).0 later) (keys x has key can);
+  cells = λ s among later x has key can.
+      sees-more m events first s.at x ((behind s among).0 later) (keys x has key can);
   pairs = λ s among later x has can. sees-more m events second s.at x ((behind s among).1 later) (told x has can);
 }
   where

@@ -37,7 +37,8 @@ pub map-has : {X Y : Type 0} (f : X → Y) (xs : List X) (x : X) → Contains xs
 map-has f xs x (k, lt, at) =
     (k, omega (arith, lt, length-map xs f), get_or-map f xs k x (f x) lt ∙ ap f at)
 
-pub map-of : {X Y : Type 0} (f : X → Y) (xs : List X) (y : Y) → Contains (map f xs) y → (x : X) × Contains xs x × (f x ≡ y)
+pub map-of : {X Y : Type 0} (f : X → Y) (xs : List X) (y : Y) → Contains (map f xs) y
+    → (x : X) × Contains xs x × (f x ≡ y)
 map-of f [] y (k, lt, at) = absurd (omega (arith, lt))
 map-of f (x ∷ xs) y (zero, lt, at) = (x, first-has x xs, at)
 map-of f (x ∷ xs) y (suc k, lt, at) =

@@ -1,5 +1,6 @@
 -- The verdicts that are counted are those that are told.
-use Rattle.keymap_cover.proofs.Common.{◌≡◌, ℕ, zero, ◌<◌, Bool, true, false, List, [], ◌∷◌, refl, ap, sym, ◌∙◌, true≢false}
+use Rattle.keymap_cover.proofs.Common.{◌≡◌, ℕ, zero, ◌<◌, Bool, true, false, List, [], ◌∷◌, refl, ap, sym, ◌∙◌}
+use Rattle.keymap_cover.proofs.Common.{true≢false}
 use Rattle.keymap_cover.proofs.Common.{if◌then◌else◌, MapValue, Sight, Event, alone, SeesAlong, IsReachable, has_seen}
 use Rattle.keymap_cover.proofs.Common.{IsTold, reverse}
 use Rattle.std.proofs.Common.{All}

@@ -1,30 +1,30 @@
 -- The pairs that are counted are those that are told of, each once.
-use Rattle.kmap_runs.proofs.Common.{◌≡◌, ℕ, ◌+◌, ◌<◌, ◌==◌, Bool, true, false, List, [], ◌∷◌, ◌++◌, Option, Some, None}
-use Rattle.kmap_runs.proofs.Common.{refl, ap, subst, sym, ◌∙◌, arith, inl, inr, length, map, not, suc, zero, get_or, All}
+use Rattle.kmap_runs.proofs.Common.{◌≡◌, ℕ, ◌<◌, ◌==◌, Bool, true, false, List, [], ◌∷◌, ◌++◌, Option, Some, None}
+use Rattle.kmap_runs.proofs.Common.{refl, ap, subst, sym, ◌∙◌, arith, inl, inr, length, map, not, suc, zero, get_or}
 use Rattle.kmap_runs.proofs.Common.{flat_map, range_with_len, if◌then◌else◌, MapValue, Sight, Pair, bases_at, LeftOut}
 use Rattle.kmap_runs.proofs.Common.{add-one, get_or_default}
-use Rattle.std.proofs.Common.{◌⊎◌, ◌≢◌, slice_get}
-use Rattle.std.proofs.lemmas.Bool.{true≢false, false≢true, cases_Bool, eqb-true, eq-eqb}
+use Rattle.std.proofs.Common.{◌⊎◌, ◌≢◌}
+use Rattle.std.proofs.lemmas.Bool.{true≢false, false≢true, eqb-true, eq-eqb}
 use Rattle.std.proofs.lemmas.List.{get_or-map, length-map}
-use Rattle.std.proofs.lemmas.List.Elements.{All-append, Contains-append_cases, Contains-append_left, Contains-append_right}
+use Rattle.std.proofs.lemmas.List.Elements.{All-append, Contains-append_cases, Contains-append_left}
+use Rattle.std.proofs.lemmas.List.Elements.{Contains-append_right}
 use Rattle.std.proofs.lemmas.List.Kept.{AllPairs-cons}
 use Rattle.std.proofs.lemmas.Option.{get_or_from_slice_get, slice_get_within, unwrap_or-slice_get}
 use Rattle.std.specs.Option.{unwrap_or}
-use Rattle.std.specs.List.{AllPairs, Contains, list_any}
+use Rattle.std.specs.List.{Contains, list_any}
 use Rattle.keymap_core.specs.Accents.{AccentValue, blank}
 use Rattle.keymap_core.specs.Numbers.{accent_limit}
 use Rattle.kmap_runs.proofs.Covered.{pieces_on}
 use Rattle.keymap_core.specs.Bounds.{IsMap}
 use Rattle.keymap_core.specs.Maps.{accent_at, accent_or_blank}
-use Rattle.console_core.specs.Answers.{has_own, usable}
+use Rattle.console_core.specs.Answers.{has_own}
 use Rattle.console_states.specs.Sights.{Enumerates, HasNoDoubles, IsReachable}
 use Rattle.console_states.specs.Visiting.{CanVisit, IsPair}
 use Rattle.console_states.specs.Inner.Adding.{Adds, IsWith}
-use Rattle.console_states.proofs.Adding.{adds-both, adds-none, adds-one, enumerates}
+use Rattle.console_states.proofs.Adding.{adds-both, adds-none, adds-one}
 use Rattle.console_states.proofs.Visible.{any-member, some-member}
 use Rattle.keymap_cover.proofs.Telling.{all-told, key-told, map-has, map-of, range-has, range-of, flat-has, flat-of}
 use Rattle.keymap_cover.proofs.Telling.{usable-some}
-use Rattle.keymap_cover.specs.declared.parts.Cover.{Cover}
 use Rattle.keymap_cover.specs.declared.parts.Verdict.{Verdict}
 use Rattle.keymap_cover.specs.declared.parts.Verdict.TheVariants.{Seen, Never}
 use Rattle.keymap_cover.specs.Covering.{CountsAreOfVerdicts, IsVerdict, is_verdict, verdict_of}
@@ -90,13 +90,15 @@ append-once (x ∷ xs) ys first second apart =
     (λ z (k, lt, at) there. apart z (suc k, omega (arith, lt), at) there))
 
 -- the blank and the bases of an accent, if it has a character
-bases-of : (o : Option AccentValue) (a : AccentValue) → has_own o ≡ not (a.own == 0) → ((c : ℕ) → IsBaseOf o c → IsBaseIn a.pairs c)
+bases-of : (o : Option AccentValue) (a : AccentValue) → has_own o ≡ not (a.own == 0)
+    → ((c : ℕ) → IsBaseOf o c → IsBaseIn a.pairs c)
     → ((c : ℕ) → has_own o ≡ true → IsBaseIn a.pairs c → IsBaseOf o c)
     → Enumerates (λ c. (has_own o ≡ true) × ((c ≡ 32) ⊎ IsBaseOf o c)) (bases_of a)
 bases-of o a own out back = by (a.own == 0) refl
   where
     by : (t : Bool) → (a.own == 0) ≡ t
-        → Enumerates (λ c. (has_own o ≡ true) × ((c ≡ 32) ⊎ IsBaseOf o c)) (if t then [] else with_bases (32 ∷ []) a.pairs)
+        → Enumerates (λ c. (has_own o ≡ true) × ((c ≡ 32) ⊎ IsBaseOf o c))
+        (if t then [] else with_bases (32 ∷ []) a.pairs)
     by true e = record {
       all = λ c (has, is). absurd (true≢false (sym has ∙ own ∙ ap not e));
       only = λ c (k, lt, at). absurd (omega (arith, lt));
@@ -126,7 +128,8 @@ bases-told m i = by (accent_at m i) refl
   where
     by : (o : Option AccentValue) → accent_at m i ≡ o → Enumerates (λ c. IsTold m (sight.Pair i c)) (bases_at m i)
     by None e =
-        rw (accent-none m i e, e) (bases-of None blank refl (λ c none. absurd none) (λ c has base. absurd (false≢true has)))
+        rw (accent-none m i e, e)
+        (bases-of None blank refl (λ c none. absurd none) (λ c has base. absurd (false≢true has)))
     by (Some a) e = rw (accent-some m i a e, e) (bases-of (Some a) a refl (λ c base. base) (λ c has base. base))
 
 -- ---- and pairs

@@ -78,9 +78,9 @@ pub fn printed_demonstrations_leave_a_modifier_on()
     ensures { (m : MapValue) → ShowsScript m (report m true) }
 {}
 
-/// The numbers of cells, lock settings and pairs that are printed of a cover count what is told of, each pair once. What
-/// is counted as left out can be seen by presses, but not visited: no moves lead to a press that sees it from which,
-/// once all keys are let go, more of them lead home.
+/// The numbers of cells, lock settings and pairs that are printed of a cover count what is told of, each pair once.
+/// What is counted as left out can be seen by presses, but not visited: no moves lead to a press that sees it from
+/// which, once all keys are let go, more of them lead home.
 pub fn counted_sights_are_told()
     ensures told { CountedAreTold }
     ensures left_out { LeftOutCannotBeVisited }

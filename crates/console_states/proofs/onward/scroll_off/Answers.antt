@@ -1,5 +1,6 @@
 use Rattle.console_states.proofs.Common.{◌≡◌, ◌∷◌, ◌++◌, ◌∙◌, [], true, ap, reverse, slice_get_within, subst, sym}
-use Rattle.console_states.proofs.Common.{Press, Reset, Scroll, alone, between, is_locked_after, map_of_explored, origin_in}
+use Rattle.console_states.proofs.Common.{Press, Reset, Scroll, alone, between, is_locked_after, map_of_explored}
+use Rattle.console_states.proofs.Common.{origin_in}
 use Rattle.console_states.specs.Visiting.{CannotScroll, TurnsScrollOff, resting_after}
 use Rattle.console_states.proofs.GoingBack.{searched-back}
 use Rattle.console_states.proofs.Looking.{push-reversed}
@@ -26,7 +27,8 @@ returns-in_default g c =
     from ∙ c.free.ensures.value
     ∙ shown-resting m h (g.T.Translator.shows_locked c.args.console.now)
     (λ l. g.met.T.Translator.locked_where_it_stands c.args.console.now (between m m) h stands l) in
-    subst (λ n. CannotScroll n h) same (unturned e x c.in_default.ensures h (subst (λ n. origin_in e ≡ resting_after n h) (sym same) rests))
+    subst (λ n. CannotScroll n h) same
+    (unturned e x c.in_default.ensures h (subst (λ n. origin_in e ≡ resting_after n h) (sym same) rests))
 
 pub returns : goal.returns
 returns g c =

@@ -5,7 +5,8 @@ pub loop-code-preserved : goal.loop-code-preserved
 loop-code-preserved c =
     below_more _ _ c.loop-code.invariant
     (λ move. c.if-is_turned_by.ensures.never refl
-    (subst (λ k. IsMove (under_of c.args.maps.now) (state_of c.args.self.now) (Turn k Scroll)) (sym c.key_with-key.ensures)
+    (subst (λ k. IsMove (under_of c.args.maps.now) (state_of c.args.self.now) (Turn k Scroll))
+    (sym c.key_with-key.ensures)
     move))
 
 pub returns : goal.returns

@@ -96,19 +96,23 @@ fn report_steady(rt: HostRuntime) {
     expect(&rt, "alock is steady", steady);
 }
 
-/// The events of a key that is pressed and of one that is released.
-fn tap(rt: &impl Abort, code: u8) -> (Event, Event) {
-    let key: KeyCode = KeyCode::new(code).expect(rt, "a key");
-    (Event::Press(key), Event::Release(key))
+fn key(rt: &impl Abort, code: u8) -> KeyCode {
+    KeyCode::new(code).expect(rt, "a key")
 }
 
 #[test]
 fn demonstrate_what_sticks(rt: HostRuntime) {
     let map: KeyMap = read_map(rt.alloc(), SHIFT_WITH_TRAP).expect(&rt, "a map");
     let shown: Option<ArrayVec<Event, 11>> = demonstrate(&map);
-    let (shift, unshift) = tap(&rt, 42);
-    let (control, release) = tap(&rt, 29);
-    let wanted: [Event; 5] = [shift, control, shift, unshift, release];
+    let shift: KeyCode = key(&rt, 42);
+    let control: KeyCode = key(&rt, 29);
+    let wanted: [Event; 5] = [
+        Event::Press(shift),
+        Event::Press(control),
+        Event::Press(shift),
+        Event::Release(shift),
+        Event::Release(control),
+    ];
     let shown = shown.expect(&rt, "events");
     expect_equal(&rt, &shown.as_slice(), &wanted.as_slice());
 }

@@ -1,10 +1,8 @@
 -- What holds of each diagnostic that a text may have holds of all that it has.
-use Rattle.keymap_lint.proofs.Common.{◌≡◌, ℕ, ◌+◌, Bool, true, false, ◌&&◌, not, cond, List, [], ◌∷◌, ◌++◌}
-use Rattle.keymap_lint.proofs.Common.{length, refl, Option, Some, None}
-use Rattle.keymap_lint.proofs.Common.{find, flat_map, Slot, Placed, Diagnostic}
-use Rattle.keymap_lint.proofs.Common.{gathered, last_of, mixed_key, selects, again, is_missing, rules}
-use Rattle.keymap_lint.proofs.Common.{is_defined, zero_accent, pair_again, accent_pairs, has_base}
-use Rattle.keymap_lint.proofs.Common.{is_above_in_force, digit, Spelled}
+use Rattle.keymap_lint.proofs.Common.{◌≡◌, ℕ, ◌+◌, Bool, true, false, ◌&&◌, not, cond, List, [], ◌∷◌, ◌++◌, length}
+use Rattle.keymap_lint.proofs.Common.{refl, Option, Some, None, find, flat_map, Slot, Placed, Diagnostic, gathered}
+use Rattle.keymap_lint.proofs.Common.{last_of, mixed_key, selects, again, is_missing, rules, is_defined, zero_accent}
+use Rattle.keymap_lint.proofs.Common.{pair_again, accent_pairs, has_base, is_above_in_force, digit, Spelled}
 use Prim.Native.Nat.{zero, suc}
 use Rattle.std.proofs.Common.{◌-◌, All, ◌==◌}
 use Rattle.std.specs.Option.{option_to_list}
@@ -14,12 +12,10 @@ use Rattle.keymap_lint.specs.Types.{Holding, Cell, Char, Act, Finding, Accent, C
 use Rattle.keymap_core.specs.Below.{first_below}
 use Rattle.keymap_core.specs.Borne.{is_upper_live, any_below}
 use Rattle.keymap_core.specs.Maps.{accent_at, cell_at}
-use Rattle.keymap_lint.specs.Kinds.{at, nowhere, no_key, no_shift, has_keys, has_shift, mixed_keys}
-use Rattle.keymap_lint.specs.Kinds.{character_of, half_at, half_defined, selector}
-use Rattle.keymap_lint.specs.Kinds.{is_some_in, missing_slots, nul_keys, defined_again, dead_key, dead_key_by}
-use Rattle.keymap_lint.specs.Kinds.{zero_accents, pair_by}
-use Rattle.keymap_lint.specs.Kinds.{pairs_by, pairs_again, base_at, paren, unused_by, unused_half, digit_by}
-use Rattle.keymap_lint.specs.Kinds.{bare_digits}
+use Rattle.keymap_lint.specs.Kinds.{at, nowhere, no_key, no_shift, has_keys, has_shift, mixed_keys, character_of}
+use Rattle.keymap_lint.specs.Kinds.{half_at, half_defined, selector, is_some_in, missing_slots, nul_keys, defined_again}
+use Rattle.keymap_lint.specs.Kinds.{dead_key, dead_key_by, zero_accents, pair_by, pairs_by, pairs_again, base_at, paren}
+use Rattle.keymap_lint.specs.Kinds.{unused_by, unused_half, digit_by, bare_digits}
 use Rattle.keymap_lint.specs.Lists.{all_of, of_keys, of_definitions, of_rest}
 use Rattle.keymap_lint.specs.Spelled.{offset_at, content}
 use Rattle.keymap_lint.specs.declared.diagnostic.Kind.TheVariants as kinds

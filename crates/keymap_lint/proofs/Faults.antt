@@ -1,7 +1,5 @@
 -- The places that are told of a fault lie within the text.
-use Rattle.keymap_lint.proofs.Common.{ℕ, ◌≤◌, List, [], ◌∷◌}
-use Rattle.keymap_lint.proofs.Common.{length, arith, Option}
-use Rattle.keymap_lint.proofs.Common.{rules}
+use Rattle.keymap_lint.proofs.Common.{ℕ, ◌≤◌, List, [], ◌∷◌, length, arith, Option, rules}
 use Rattle.std.proofs.Common.{All, Result, Ok, Err, IfSome}
 use Rattle.std.proofs.lemmas.List.Elements.{All-head, All-tail}
 use Rattle.keymap_text.specs.Lexical.{TokenValue}

@@ -1,15 +1,13 @@
 -- The cells in force are tokens that spell what the map has there.
-use Rattle.keymap_lint.proofs.Common.{◌≡◌, ℕ, ◌+◌, ◌<◌, ◌≤◌, Bool, true, false, List, [], ◌∷◌}
-use Rattle.keymap_lint.proofs.Common.{length, map, take, get_or, refl, sym, ◌∙◌, ap, subst, arith, Option, Some, None}
-use Rattle.keymap_lint.proofs.Common.{flat_map, true≢false, get_or-map-range_with_len, Slot, Placed}
-use Rattle.keymap_lint.proofs.Common.{MapValue, last_of, rules}
+use Rattle.keymap_lint.proofs.Common.{◌≡◌, ℕ, ◌+◌, ◌<◌, ◌≤◌, Bool, true, false, List, [], ◌∷◌, length, map, take}
+use Rattle.keymap_lint.proofs.Common.{get_or, refl, sym, ◌∙◌, ap, subst, arith, Option, Some, None, flat_map}
+use Rattle.keymap_lint.proofs.Common.{true≢false, get_or-map-range_with_len, Slot, Placed, MapValue, last_of, rules}
 use Rattle.keymap_lint.proofs.Common.{Spelled, cell_in, cells_of}
 use Prim.Native.Nat.{zero, suc}
 use Rattle.std.proofs.Common.{drop, inl, inr, All, ◌==◌, length-drop}
 use Rattle.std.proofs.lemmas.Bool.{cases_lt, eqb-true}
 use Rattle.std.proofs.lemmas.List.{get_or_past, get_or-map, get_or-take, get_or-drop, length-take, length-map}
-use Rattle.std.proofs.lemmas.List.Elements.{All-nil}
-use Rattle.std.proofs.lemmas.List.Elements.{Contains-append_left, Contains-append_right, Contains-get_or}
+use Rattle.std.proofs.lemmas.List.Elements.{All-nil, Contains-append_left, Contains-append_right, Contains-get_or}
 use Rattle.std.specs.Prelude.{Contains, if◌then◌else◌}
 use Rattle.std.specs.Option.{option_or}
 use Rattle.std.specs.List.{range_with_len}

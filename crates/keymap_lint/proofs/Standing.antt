@@ -1,12 +1,9 @@
 -- The diagnostics stand in the text, at what they tell of.
-use Rattle.keymap_lint.proofs.Common.{◌≡◌, ℕ, ◌+◌, ◌<◌, ◌≤◌, Bool, true, false, not, cond, List}
-use Rattle.keymap_lint.proofs.Common.{length, get_or, refl, sym, ◌∙◌, ap, subst, arith, Option, Some, None}
-use Rattle.keymap_lint.proofs.Common.{find, true≢false, Slot, Placed}
-use Rattle.keymap_lint.proofs.Common.{Faulty, MapValue, last_of, selects, is_missing, rules}
-use Rattle.keymap_lint.proofs.Common.{Spelled, cell_in}
+use Rattle.keymap_lint.proofs.Common.{◌≡◌, ℕ, ◌+◌, ◌<◌, ◌≤◌, Bool, true, false, not, cond, List, length, get_or, refl}
+use Rattle.keymap_lint.proofs.Common.{sym, ◌∙◌, ap, subst, arith, Option, Some, None, find, true≢false, Slot, Placed}
+use Rattle.keymap_lint.proofs.Common.{Faulty, MapValue, last_of, selects, is_missing, rules, Spelled, cell_in}
 use Rattle.std.proofs.Common.{◌*◌, All, nat_lt}
-use Rattle.std.proofs.lemmas.List.Elements.{All-weaker, All-contains}
-use Rattle.std.proofs.lemmas.List.Elements.{Contains-get_or}
+use Rattle.std.proofs.lemmas.List.Elements.{All-weaker, All-contains, Contains-get_or}
 use Rattle.std.specs.Prelude.{Contains}
 use Rattle.std.specs.Option.{is_some}
 use Rattle.std.proofs.lemmas.Bool.Decides.{nat_tests}
@@ -14,8 +11,7 @@ use Rattle.std.proofs.lemmas.List.Folds.{find_at}
 use Rattle.std.proofs.lemmas.Option.{get_or_from_slice_get, slice_get_within}
 use Rattle.keymap_core.proofs.Lists.{find-true}
 use Rattle.std.proofs.lemmas.List.Sorted.{All-permutation}
-use Rattle.keymap_lint.specs.Types.{Holding, Cell, Char, Act, Finding, Accent, CellInForce, Lint}
-use Rattle.keymap_lint.specs.Types.{Spelled as OfSpelled}
+use Rattle.keymap_lint.specs.Types.{Holding, Cell, Char, Act, Finding, Accent, CellInForce, Lint, Spelled as OfSpelled}
 use Rattle.keymap_core.specs.Actions.{holding_action}
 use Rattle.keymap_core.specs.Maps.{cell_at}
 use Rattle.keymap_check.specs.Findings.{IsFinding}
@@ -24,11 +20,10 @@ use Rattle.keymap_text.specs.Placed.{Row, IsSpelledBy}
 use Rattle.keymap_text.specs.Places.{AtDefinition}
 use Rattle.keymap_text.proofs.Verdicts.{fault_to, fault_within}
 use Rattle.keymap_text.proofs.TokenPlaces.{tokens_are_placed}
-use Rattle.keymap_lint.specs.Kinds.{character_of, selector_of}
-use Rattle.keymap_lint.specs.Kinds.{dead_key_of, live_accent, is_missing_of}
+use Rattle.keymap_lint.specs.Kinds.{character_of, selector_of, dead_key_of, live_accent, is_missing_of}
 use Rattle.keymap_lint.specs.Lists.{spelled_by, all_of, IsLint}
-use Rattle.keymap_lint.specs.Positions.{SpellsCell, StandsWithin, DiagnosticsStandInTheText}
-use Rattle.keymap_lint.specs.Positions.{IsWithin, LiesWithin, StandsAt, StandsInText, IsHoldingOf, IsMissingDeadKey}
+use Rattle.keymap_lint.specs.Positions.{SpellsCell, StandsWithin, DiagnosticsStandInTheText, IsWithin, LiesWithin}
+use Rattle.keymap_lint.specs.Positions.{StandsAt, StandsInText, IsHoldingOf, IsMissingDeadKey}
 use Rattle.keymap_lint.specs.Spelled.{offset_at, cells_in_force, content, is_live}
 use Rattle.keymap_core.specs.declared.action.Action.TheVariants as act
 use Rattle.keymap_core.specs.declared.action.Modifier.TheVariants as modifier

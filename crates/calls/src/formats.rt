@@ -107,7 +107,7 @@ fn places_definitions<W: Write>(alloc: Global, marks: &mut W) -> Outcome {
     mark(marks);
     let given = definitions(alloc, TEXT);
     mark(marks);
-    let is_right = matches!(&given, Ok(placed) if placed.definitions.len() == 6);
+    let is_right = matches!(&given, Ok(placed) if placed.definitions.len() == 7);
     ended(&given, is_right)
 }
 

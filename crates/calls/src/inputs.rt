@@ -8,9 +8,9 @@ use std::alloc::{AllocError, Global};
 pub(crate) const TEXT: &[u8] = b"018 'e' 'E' nop nop 'e' 'E' nop nop C
 026 dacu dacu dacu dacu dacu dacu dacu dacu O
 030 'a' 'A' nop nop 'a' 'A' nop nop C
+031 nop slock nop slock nop slock nop slock O
 042 lshift lshift lshift lshift lshift lshift lshift lshift O
 058 clock clock clock clock clock clock clock clock O
-070 nop slock nop slock nop slock nop slock O
 dacu 180 ( 'e' 0xe9 )
 ";
 

@@ -36,11 +36,10 @@ pub(crate) fn of_trap<W: Write>(
     marks: &mut W,
 ) -> Result<Option<Outcome>, AllocError> {
     let alloc = call.alloc;
-    let lint = diagnostics(alloc, TRAP)?;
     Ok(match call.name {
         "diagnostics" => Some(diagnoses(alloc, TRAP, marks)),
         "diagnostics-faulty" => Some(diagnoses(alloc, FAULTY, marks)),
-        "lint_text" => Some(tells_diagnostics(alloc, &lint, marks)),
+        "lint_text" => Some(tells_diagnostics(alloc, marks)?),
         "shown_name" => Some(shows_name(alloc, marks)),
         "picture" => Some(draws(alloc, call.trap, marks)),
         _ => None,
@@ -54,12 +53,13 @@ fn diagnoses<W: Write>(alloc: Global, text: &[u8], marks: &mut W) -> Outcome {
     ended(&given, matches!(&given, Ok(Lint::Spelled(_))))
 }
 
-fn tells_diagnostics<W: Write>(alloc: Global, lint: &Lint, marks: &mut W) -> Outcome {
+fn tells_diagnostics<W: Write>(alloc: Global, marks: &mut W) -> Result<Outcome, AllocError> {
+    let lint = diagnostics(alloc, TRAP)?;
     mark(marks);
-    let given = lint_text(alloc, b"trap", TRAP, lint);
+    let given = lint_text(alloc, b"trap", TRAP, &lint);
     mark(marks);
     let is_right = matches!(&given, Ok(text) if text.as_slice().starts_with(b"trap:"));
-    ended(&given, is_right)
+    Ok(ended(&given, is_right))
 }
 
 fn shows_name<W: Write>(alloc: Global, marks: &mut W) -> Outcome {

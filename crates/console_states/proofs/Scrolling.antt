@@ -1,10 +1,10 @@
 -- Moves and a press turn the scroll lock off.
 use Rattle.console_states.proofs.Common.{◌≡◌, ℕ, Bool, true, false, not, List, [], ◌∷◌, ◌++◌, refl, ap, subst, sym, ◌∙◌}
-use Rattle.console_states.proofs.Common.{inl, inr, slice_get, Some, append_assoc, cases_Bool, true≢false, fun_ext}
+use Rattle.console_states.proofs.Common.{inl, inr, append_assoc, cases_Bool, true≢false, fun_ext}
 use Rattle.console_states.proofs.Common.{MapValue, Lock, Caps, Num, Scroll, Alt, Event, Press, Reset, Move, Hold, Turn}
 use Rattle.console_states.proofs.Common.{LetGo, Exchange, between, is_locked_after, HasKeys, HasNoLoads, Under, alone}
 use Rattle.console_states.proofs.Common.{State, IsMove, IsPathFrom, state_from, events_along, but_scroll, unscrolled}
-use Rattle.console_states.proofs.Common.{Explored, Entry, IsExplored, IsTrail, map_of_explored, origin_in, state_of}
+use Rattle.console_states.proofs.Common.{Explored, IsExplored, IsTrail, map_of_explored, origin_in, state_of}
 use Rattle.console_states.proofs.Common.{ReachesMoreThanFrom}
 use Rattle.console_states.specs.Sticking.{state_limit}
 use Rattle.console_states.specs.declared.explored.KeyAt.{KeyAt}

@@ -9,7 +9,8 @@ use Rattle.console_states.specs.declared.held.Held.{Held}
 use Rattle.console_states.specs.declared.onward.Onward.{Onward}
 use Rattle.console_states.specs.declared.selection.Sight.TheVariants as sight
 use Rattle.console_core.specs.History.{between, is_locked_after, HasKeys, HasNoLoads, IsNoLoad}
-use Rattle.console_states.specs.Moves.{Under, alone, State, state_of, IsPath, state_after, IsPathFrom, state_from, events_along, free_with}
+use Rattle.console_states.specs.Moves.{Under, alone, State, state_of, IsPath, state_after, IsPathFrom, state_from}
+use Rattle.console_states.specs.Moves.{events_along, free_with}
 use Rattle.console_states.specs.Returning.{IsHome, NoTurnIsOneWay, IsAfter, but_scroll, unscrolled}
 use Rattle.console_states.specs.Sights.{SeesBy, SeesAlong, CanPend, IsReachable, selection_of}
 use Rattle.console_states.specs.Sticking.{IsOfPressedKey, ReachesMoreThanFrom, state_limit}

@@ -14,8 +14,8 @@
 //! character that no keys can type.
 //!
 //! No call takes memory but `sticking`, `sticking_between`, `sights_of`, `find_onward`, `scroll_off`,
-//! `Reached::releases`, those of an `Explorer` and `type_characters`. These fail for want of memory, `type_characters` besides where a character
-//! can't be typed or more than 65,536 states can be reached, and no other call fails.
+//! `Reached::releases`, those of an `Explorer` and `type_characters`. These fail for want of memory, `type_characters`
+//! besides where a character can't be typed or more than 65,536 states can be reached, and no other call fails.
 #![tactic(auto)]
 
 mod explored;

@@ -1,16 +1,14 @@
 //! Presses that no moves lead back from, and such as turn the scroll lock.
-ghost use Rattle.std.specs.Prelude.{◌≡◌, ◌<◌, ◌++◌, ℕ, List, false, true, length, reverse, slice_get, Some, IfOk};
+ghost use Rattle.std.specs.Prelude.{◌≡◌, ◌<◌, ◌++◌, ℕ, List, false, true, reverse, Some, IfOk};
 ghost use Rattle.std.specs.Prelude.{MatchOption};
 ghost use Rattle.std.specs.List.{Contains};
 ghost use Rattle.keymap_core.specs.Actions.{modifiers};
-ghost use Rattle.keymap_core.specs.Numbers.{key_count};
 ghost use Rattle.console_states.specs.Types.{Event as EventValue, Scroll, Sight as SightValue, Turn};
 ghost use Rattle.console_core.specs.History.{between, is_locked_after, HasNoLoads};
 ghost use Rattle.console_states.specs.Moves.{IsIdle, IsMove, free_with, releases, state_of};
 ghost use Rattle.console_states.specs.Returning.{but_scroll};
-ghost use Rattle.console_states.specs.Sights.{SeesBy, selection_of};
+ghost use Rattle.console_states.specs.Sights.{selection_of};
 ghost use Rattle.console_states.specs.Visiting.{CannotScroll, IsOnward, TurnsScrollOff};
-ghost use Rattle.console_states.specs.Inner.Exploring.{map_of_explored};
 ghost use Rattle.console_states.specs.Inner.Searching.{under_of};
 ghost use Rattle.console_states.specs.Inner.Showing.{IsSeenAt, IsTurnAt, IsUnseen, IsUnturned};
 

@@ -1,21 +1,19 @@
 -- The verdicts that are counted are those that are told.
-use Rattle.keymap_cover.proofs.Common.{◌≡◌, ℕ, zero, ◌<◌, Bool, true, false, List, [], ◌∷◌, refl, ap, sym, ◌∙◌}
+use Rattle.keymap_cover.proofs.Common.{◌≡◌, ◌<◌, Bool, true, false, List, [], ◌∷◌, refl, sym, ◌∙◌}
 use Rattle.keymap_cover.proofs.Common.{true≢false}
-use Rattle.keymap_cover.proofs.Common.{if◌then◌else◌, MapValue, Sight, Event, alone, SeesAlong, IsReachable, has_seen}
-use Rattle.keymap_cover.proofs.Common.{IsTold, reverse}
-use Rattle.std.proofs.Common.{All}
+use Rattle.keymap_cover.proofs.Common.{if◌then◌else◌, MapValue, Sight, SeesAlong, IsReachable, has_seen}
+use Rattle.keymap_cover.proofs.Common.{IsTold}
 use Rattle.std.proofs.lemmas.List.Elements.{All-head, All-tail}
 use Rattle.console_states.specs.Returning.{NoTurnIsOneWay}
-use Rattle.console_states.specs.Sights.{SeesNext, IsAdmitted, can_see}
+use Rattle.console_states.specs.Sights.{can_see}
 use Rattle.console_states.proofs.Seeing.{sights_are_reachable}
 use Rattle.console_states.proofs.Visible.{all-seen, sees-all}
 use Rattle.console_states.proofs.Visitable.{seen_can_be_visited}
-use Rattle.keymap_core.specs.Numbers.{key_count}
 use Rattle.keymap_cover.specs.declared.parts.Cover.{Cover}
 use Rattle.keymap_cover.specs.declared.parts.Verdict.{Verdict}
 use Rattle.keymap_cover.specs.declared.parts.Verdict.TheVariants.{Seen, LeftOut, Never}
 use Rattle.keymap_cover.specs.Covering.{Covers, CountsAreOfVerdicts, NothingIsLeftOut, IsVerdict, history, verdict_of}
-use Rattle.keymap_cover.specs.Covering.{counts_of, is_verdict}
+use Rattle.keymap_cover.specs.Covering.{is_verdict}
 use Rattle.keymap_cover.proofs.Scripts.{never-forgets}
 
 pub counts_are_of_verdicts : CountsAreOfVerdicts

@@ -56,7 +56,8 @@ placed_at : (text : List ℕ) (n : ℕ) → IsPlaced text (get_or (tokens text) 
 placed_at text n = search (rules, cases_lt, tokens_are_placed, nothing, get_or_past, nothing_placed)
 
 -- each token begins within the text
-pub within : (text : List ℕ) (m : MapValue) (rows : List Row) (n : ℕ) → offset_at (spelled_by text m rows) n ≤ length text
+pub within : (text : List ℕ) (m : MapValue) (rows : List Row) (n : ℕ)
+    → offset_at (spelled_by text m rows) n ≤ length text
 within text m rows n = search (rules, nothing, span_is, placed_at)
 
 -- a cell of the definition in force

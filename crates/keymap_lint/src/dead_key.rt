@@ -1,5 +1,5 @@
 //! Dead keys of accents that the text doesn't define.
-ghost use Rattle.std.specs.Prelude.{◌≡◌, ◌<◌, ◌&&◌, not, find, option_copied};
+ghost use Rattle.std.specs.Prelude.{◌≡◌, ◌<◌, ◌&&◌, ℕ, not, find, option_copied, slice_index_or, false};
 ghost use Rattle.std.specs.Option.{option_to_list};
 ghost use Rattle.keymap_core.specs.Borne.{any_below};
 ghost use Rattle.keymap_core.specs.Numbers.{accent_limit};
@@ -9,7 +9,7 @@ ghost use Rattle.keymap_lint.specs.Kinds.{missing_accents as missing_accents_of,
 use crate::cells::CellInForce;
 use crate::diagnostic::{Diagnostic, Kind};
 use crate::spelled::SpelledText;
-use crate::zero_accent::{is_given, live_accent};
+use crate::zero_accent::live_accent;
 use arrayvec::ArrayVec;
 use keymap_core::{ACCENT_LIMIT, push_if};
 
@@ -58,12 +58,25 @@ pub(crate) fn dead_key(text: &SpelledText, cells: &[CellInForce]) -> Option<Diag
     }
 }
 
-/// Whether the text doesn't define the accent though a live cell is its dead key.
-fn is_absent(text: &SpelledText, cells: &[CellInForce], accent: u8) -> bool
-    requires { accent < accent_limit }
-    ensures { result ≡ (is_given_by text.now cells.now accent && not (is_defined text.now accent)) }
+/// Whether some live cell is the dead key of each accent.
+fn given_accents(text: &SpelledText, cells: &[CellInForce]) -> [bool; ACCENT_LIMIT]
+    ensures { (i : ℕ) → i < accent_limit → slice_index_or result i false ≡ is_given_by text.now cells.now i }
 {
-    is_given(text, cells, accent) && !text.defines_accent(accent)
+    let mut given = [false; ACCENT_LIMIT];
+    for cell in cells {
+        if let Some(accent) = live_accent(text, cell) {
+            given[accent as usize] = true;
+        }
+    }
+    given
+}
+
+/// Whether an accent is given and the text doesn't define it.
+fn is_absent(text: &SpelledText, is_given: bool, accent: u8) -> bool
+    requires { accent < accent_limit }
+    ensures { result ≡ (is_given && not (is_defined text.now accent)) }
+{
+    is_given && !text.defines_accent(accent)
 }
 
 /// The accents that the text doesn't define though a live cell is their dead key, in ascending order.
@@ -78,8 +91,13 @@ pub(crate) fn missing_accents(
     if first_missing(text, cells).is_none() {
         return accents;
     }
+    let given = given_accents(text, cells);
     for accent in 0..ACCENT_LIMIT as u8 {
-        push_if(&mut accents, accent, is_absent(text, cells, accent));
+        push_if(
+            &mut accents,
+            accent,
+            is_absent(text, given[accent as usize], accent),
+        );
     }
     accents
 }

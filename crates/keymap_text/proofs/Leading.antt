@@ -103,4 +103,22 @@ pub plain_spaces : (xs : List ℕ) → leading (λ c. c == 32) xs ≤ leading is
 plain_spaces [] = omega arith
 plain_spaces (x ∷ xs) = grind (arith, leading_fail, leading_pass, (plain_spaces xs))
 
+-- a space is a blank
+space_is : (c : ℕ) → (c == 32) ≡ true → is_space c ≡ true
+space_is c h = grind arith
+
+-- spaces up to a byte that is no blank are all blanks in front
+pub spaces_end : (xs : List ℕ) (n : ℕ) → n ≡ leading (λ c. c == 32) xs → is_space (get_or xs n 0) ≡ false
+    → n ≡ leading is_space xs
+spaces_end xs n h s =
+    sym (prefix_len_is is_space xs n 0 (omega (arith, h, leading_le (λ c. c == 32) xs))
+    (λ k l. space_is _ (prefix_len_passes (λ c. c == 32) xs k 0 (omega (arith, l, h)))) (λ l. s))
+
+-- a space in front is a blank
+pub some_space : (xs : List ℕ) → 0 < length xs → get_or xs 0 0 ≡ 32 → 1 ≤ leading is_space xs
+some_space [] l h = absurd (omega (arith, l))
+some_space (x ∷ xs) l h = omega (arith, leading_pass is_space x xs (ap is_space h))
+
+pub ruleset front_rules = (plain_spaces, leading_le, some_space)
+
 pub ruleset leading_rules = (prefix_len-drop_yes, prefix_len-drop_no, prefix_len-drop_all, prefix_len-le-length)

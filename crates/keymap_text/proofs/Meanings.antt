@@ -139,6 +139,28 @@ four_digits (n ∷ x ∷ a ∷ b ∷ c ∷ d ∷ e ∷ z) l o t p q r s h =
     )
 four_digits _ l o t p q r s h = absurd (omega (arith, l))
 
+-- a decimal digit is one of sixteen
+ten_of_sixteen : (c : ℕ) → digit_value c < 10 → digit_value c < 16
+ten_of_sixteen c h = omega (arith, h)
+
+-- a word of three digits in front, and what it means
+pub three_digits : (rest : List ℕ) → 3 < length rest → digit_value (get_or rest 0 0) < 10
+    → digit_value (get_or rest 1 0) < 10 → digit_value (get_or rest 2 0) < 10 → is_word (get_or rest 3 0) ≡ false
+    → (leading is_word rest ≡ 3) × (Number ((digit_value (get_or rest 0 0) * 10 + digit_value (get_or rest 1 0)) * 10
+    + digit_value (get_or rest 2 0)) ≡ meaning (take 3 rest))
+three_digits (a ∷ b ∷ c ∷ e ∷ z) l p q r h =
+    let ends = leading_fail is_word e z h in
+    let third = leading_pass is_word c (e ∷ z) (digit_in_word c (ten_of_sixteen c r)) in
+    let second = leading_pass is_word b (c ∷ e ∷ z) (digit_in_word b (ten_of_sixteen b q)) in
+    let first = leading_pass is_word a (b ∷ c ∷ e ∷ z) (digit_in_word a (ten_of_sixteen a p)) in
+    let sum : (digit_value a * 10 + digit_value b) * 10 + digit_value c ≡ number 10 (a ∷ b ∷ c ∷ []) = omega arith in (
+      omega (arith, ends, third, second, first),
+      ap Number sum ∙ decimal_meaning (a ∷ b ∷ c ∷ []) _
+          (sym (digits_good 10 (a ∷ b ∷ c ∷ []) (omega arith)
+          (rw (lt-ltb _ _ p, lt-ltb _ _ q, lt-ltb _ _ r) refl))),
+    )
+three_digits _ l p q r h = absurd (omega (arith, l))
+
 -- a name is true if the word with its key means so
 pub means_of : (key : ℕ) (m : Meaning) → m ≡ meaning (unpacked 8 key) → KeyMeans key m
 means_of key m e =

@@ -20,7 +20,7 @@ use crate::token::{
     Front, TokenKind, first_spaces, is_blank_byte, is_word_byte, line_len, short_word_len,
     token_front,
 };
-use crate::words::{Item, Meaning, four_digit_number, item_of, short_number};
+use crate::words::{Item, Meaning, four_digit_number, item_of, short_number, three_digit_number};
 use keymap_core::{Definitions, PAIR_LIMIT};
 
 /// Why bytes are refused, and how many stand before the fault.
@@ -63,7 +63,7 @@ fn front_name(rest: &[u8]) -> Option<(Item, usize)>
     }
 }
 
-/// The number in front, and how many bytes it has, if it is short. Most numbers of more than three digits are four
+/// The number in front, and how many bytes it has, if it is short. Most numbers are three digits or, of more, four
 /// hexadecimal ones, so these are read before the word is measured.
 #[inline(always)]
 fn front_number(rest: &[u8]) -> Option<(Item, usize)>
@@ -73,6 +73,9 @@ fn front_number(rest: &[u8]) -> Option<(Item, usize)>
 {
     if let Some(number) = four_digit_number(rest) {
         return Some((Item::Value(Meaning::Number(number as u128)), 6));
+    }
+    if let Some(number) = three_digit_number(rest) {
+        return Some((Item::Value(Meaning::Number(number as u128)), 3));
     }
     let n = short_word_len(rest);
     if n > 15 {

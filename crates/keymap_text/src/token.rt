@@ -119,27 +119,54 @@ fn space_run(bytes: &[u8]) -> usize
     first_set(others.to_bitmask())
 }
 
-/// How many blanks that end no line stand in front, up to a tab or carriage return behind spaces: spaces are seen at
-/// once, and what else stands in front is measured as a whole.
+/// How many blanks that end no line stand in front, up to a tab or carriage return behind spaces. Most often there is
+/// none, or one space; more are seen at once, and what else stands in front is measured as a whole.
 #[inline(always)]
-#[tactic(auto, using(crate::proofs::Leading::plain_spaces, crate::proofs::Leading::leading_le))]
+#[tactic(auto, using(crate::proofs::Leading::front_rules))]
 pub(crate) fn first_spaces(bytes: &[u8]) -> usize
     ensures length { result ≤ length bytes.now }
     ensures blank { result ≤ leading is_space bytes.now }
 {
     if bytes.len() >= 16 {
+        if bytes[1] > b' ' {
+            if bytes[0] > b' ' {
+                return 0;
+            }
+            if bytes[0] == b' ' {
+                return 1;
+            }
+        }
         let run = space_run(bytes);
         if run > 0 && run < 16 {
             return run;
         }
+        if bytes[0] > b' ' {
+            return 0;
+        }
     }
-    space_len(bytes)
+    all_space_len(bytes)
 }
 
-/// How many blanks, tabs and CRs stand in front.
+/// How many blanks, tabs and CRs stand in front: few spaces are seen at once.
+#[inline(always)]
+#[tactic(auto, using(crate::proofs::Leading::spaces_end, crate::proofs::Leading::leading_le))]
+pub fn space_len(bytes: &[u8]) -> usize
+    ensures length { result ≤ length bytes.now }
+    ensures value { result ≡ leading is_space bytes.now }
+{
+    if bytes.len() >= 16 {
+        let run = space_run(bytes);
+        if run < 16 && !is_space_byte(bytes[run]) {
+            return run;
+        }
+    }
+    all_space_len(bytes)
+}
+
+/// How many blanks, tabs and CRs stand in front, counted byte by byte.
 #[inline(never)]
 #[tactic(auto, using(crate::proofs::Leading::leading_rules))]
-pub fn space_len(bytes: &[u8]) -> usize
+fn all_space_len(bytes: &[u8]) -> usize
     ensures length { result ≤ length bytes.now }
     ensures value { result ≡ leading is_space bytes.now }
 {

@@ -203,6 +203,24 @@ pub(crate) fn four_digit_number(rest: &[u8]) -> Option<u64>
     Some(((first as u64 * 16 + second as u64) * 16 + third as u64) * 16 + last as u64)
 }
 
+/// The number in front that is three digits, with a byte behind it that is none of a word.
+#[inline(always)]
+pub(crate) fn three_digit_number(rest: &[u8]) -> Option<u64>
+    ensures { IfSome result (λ n. (3 < length rest.now) × (leading is_word rest.now ≡ 3)
+        × (Number n ≡ meaning (take 3 rest.now))) }
+{
+    if rest.len() < 4 || is_word_byte(rest[3]) {
+        return None;
+    }
+    let first = digit_value(rest[0]);
+    let second = digit_value(rest[1]);
+    let last = digit_value(rest[2]);
+    if first >= 10 || second >= 10 || last >= 10 {
+        return None;
+    }
+    Some((first as u64 * 10 + second as u64) * 10 + last as u64)
+}
+
 #[inline(never)]
 pub(crate) fn item_of(kind: TokenKind, bytes: &[u8]) -> Item
     requires { kind ≡ Word → length bytes.now ≤ 32 }

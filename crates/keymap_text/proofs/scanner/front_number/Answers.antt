@@ -12,3 +12,10 @@ returns-in-Some c =
 
 pub returns-in-Some-short_number : goal.returns-in-Some-short_number
 returns-in-Some-short_number c = search (rules, word_fronts)
+
+pub returns-in-Some-three_digit_number : goal.returns-in-Some-three_digit_number
+returns-in-Some-three_digit_number c =
+    let rest = c.args.rest.now in
+    let found = c.in-Some-three_digit_number.ensures in
+    subst (λ m. Fronts rest (Value m) 3) (sym found.2)
+    (word_fronts 3 rest (sym found.1) found.0 c.requires.word (omega arith))

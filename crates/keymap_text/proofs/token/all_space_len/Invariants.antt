@@ -1,5 +1,5 @@
 use Rattle.keymap_text.proofs.Common.{length, ◌-◌, ◌≡◌, ◌+◌, ◌≤◌, drop, is_space, leading}
-use Rattle.keymap_text.proofs.token.space_len.Given as goal
+use Rattle.keymap_text.proofs.token.all_space_len.Given as goal
 
 abbrev pub invariant-loop-i : goal.invariant-loop-i
 invariant-loop-i l = record {

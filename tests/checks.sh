@@ -124,6 +124,11 @@ done
 
 broken docs/ARCHITECTURE.md 's/ `spelled`,//' \
     'failed: docs/ARCHITECTURE.md names each file of src/ of keymap_lint, and no other' sh copy/tests/modules.sh
+broken docs/ARCHITECTURE.md 's/ (`Borne`)//' \
+    'failed: docs/ARCHITECTURE.md lists each file of lemmas of console_core once, and no other' \
+    sh copy/tests/modules.sh
+broken docs/ARCHITECTURE.md 's/-> Borne -> Bearing/-> Bearing -> Borne/' \
+    'failed: docs/ARCHITECTURE.md has an arrow from Bearing to Borne, which uses it' sh copy/tests/modules.sh
 broken docs/PROOFS.md 's,`tests/files.sh`,`tests/paths.sh`,' \
     'failed: docs/PROOFS.md names tests/paths.sh, which is there' sh copy/tests/modules.sh
 broken docs/FORMATS.md 's/no key is defined/no key is there/;s/defines no key/has no key/' \

@@ -1,6 +1,7 @@
 #!/bin/sh
 # Checks that docs/ARCHITECTURE.md has the crates of crates.txt and no others, that its lists of modules name the files
-# of each crate that it lists, and no others, and that each path that a page names is there.
+# of each crate that it lists, and no others, that its lists and pictures of lemmas are what the files of proofs/ use of
+# each other, and that each path that a page names is there.
 #
 # usage: modules.sh
 # The last line is 'N passed, M failed'; the status is 0 where none failed.
@@ -39,6 +40,23 @@ for crate, text in re.findall(r"^\*\*(\w+)\*\*\n(.*?)\n(?=\n(?!- )|\Z)", table, 
         there = {os.path.splitext(os.path.basename(it))[0] for it in glob.glob(f"crates/{crate}/{part}{files}")}
         told = set(re.findall(name, lists.get(part, "")))
         tell(there - COMMON == told - COMMON, f"docs/ARCHITECTURE.md names each file of {part} of {crate}, and no other")
+proofs = page.split("\n## How to read the proofs\n")[1].split("\n## ")[0]
+for crate, picture, text in re.findall(r"^\*\*Lemmas of (\w+)\*\*\n\n```\n(.*?)```\n(.*?)(?=\n\*\*|\Z)", proofs, re.M | re.S):
+    files = {os.path.splitext(os.path.basename(it))[0]: it for it in glob.glob(f"crates/{crate}/proofs/*.antt")}
+    uses = {}
+    for name in files.keys() - {"Lib", "Common"}:
+        used = re.findall(rf"^use Rattle\.{crate}\.proofs\.(\w+)", open(files[name], encoding="utf-8").read(), re.M)
+        uses[name] = (files.keys() & set(used)) - {"Common"}
+    told = re.findall(r"`([A-Z]\w*)`", text)
+    tell(sorted(told) == sorted(uses), f"docs/ARCHITECTURE.md lists each file of lemmas of {crate} once, and no other")
+    late = [it for n, it in enumerate(told) if uses.get(it, set()) - set(told[:n])]
+    tell(not late, f"docs/ARCHITECTURE.md lists the lemmas of {crate} behind those that they use: {late}")
+    for row in re.split(r";  |\n", picture.strip()):
+        steps = [step.split(", ") for step in row.split(" -> ")]
+        for before, after in zip(steps, steps[1:]):
+            for one in before:
+                for other in after:
+                    tell(one in uses.get(other, ()), f"docs/ARCHITECTURE.md has an arrow from {one} to {other}, which uses it")
 paths = {"/".join(it.split("/")[2:]) for it in glob.glob("crates/**", recursive=True)}
 for page in ["README.md", "CONTRIBUTING.md", *sorted(glob.glob("docs/*.md"))]:
     for path in re.findall(r"`((?:src|specs|proofs|tests|bench|examples)/[\w/.]+)`", open(page, encoding="utf-8").read()):

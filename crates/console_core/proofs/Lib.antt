@@ -1,4 +1,5 @@
 pub mod Agreeing
+pub mod Alike
 pub mod Bearing
 pub mod Borne
 pub mod Bytes

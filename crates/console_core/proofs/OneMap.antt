@@ -12,7 +12,7 @@ use Rattle.console_core.proofs.OneMore.{one_map, resolved-start, resolved-more, 
 use Rattle.console_core.proofs.OneMore.{locked-load, remembered-reset, remembered-load, pending-reset, pending-load}
 use Rattle.console_core.proofs.Borne.{AllLooked, locked-borne, resolved-looked}
 use Rattle.console_core.proofs.FreshPresses.{no_loads-first}
-use Rattle.console_core.proofs.Headline.{Same, same-resolve, same-step, same-answer_resolved, resolve-key}
+use Rattle.console_core.proofs.Alike.{Same, same-resolve, same-step, same-answer_resolved, resolve-key}
 use Rattle.console_core.proofs.Readings.{locked-count}
 use Rattle.keymap_core.specs.declared.action.Holding.TheVariants as holding
 

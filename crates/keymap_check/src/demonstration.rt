@@ -14,16 +14,22 @@ ghost use Rattle.keymap_check.specs.Inner.Surveyed.{IsSurvey};
 ghost use Rattle.keymap_check.specs.Shown.{HasShownTrap};
 
 use crate::finding::is_found;
-use crate::script::{BitKeys, Script, bit_keys, event_at, lacks_key, make_script};
+use crate::script::{BitKeys, GroupSet, Script, bit_keys, event_at, lacks_key, make_script};
 use crate::survey::Survey;
 use console_core::{Event, Translator, WordConsole, is_any_on};
 use keymap_core::{KEY_COUNT, KeyCode, KeyMap, key_with};
 
 /// Delivers presses or releases of the keys of the bits that are in the set and not in the other one.
 #[inline(always)]
-fn deliver<T: Translator>(console: &mut T, keys: &BitKeys, set: u8, except: u8, is_press: bool)
+fn deliver<T: Translator>(
+    console: &mut T,
+    keys: &BitKeys,
+    set: GroupSet,
+    except: GroupSet,
+    is_press: bool,
+)
     ensures { (ms : Maps) (h : List EventValue) → T.stands console.old ms h
-        → T.stands console.new ms (reverse (events_of is_press keys.now set except) ++ h) }
+        → T.stands console.new ms (reverse (events_of is_press keys.now set.bits except.bits) ++ h) }
 {
     for bit in 0..4 {
         match event_at(keys, set, except, bit, is_press) {
@@ -41,12 +47,12 @@ fn leaves_modifier_on<'m>(
     start: &WordConsole<'m>,
     keys: &BitKeys,
     key: KeyCode,
-    a: u8,
-    b: u8,
+    a: GroupSet,
+    b: GroupSet,
 ) -> bool
     ensures { (m : MapValue)
-        → ⟦<WordConsole<'m> as Translator>⟧.stands start.now (between m m) (reverse (start_of keys.now key a))
-        → result ≡ leaves_modifier_on_in m (script_of keys.now key a b) }
+        → ⟦<WordConsole<'m> as Translator>⟧.stands start.now (between m m) (reverse (start_of keys.now key a.bits))
+        → result ≡ leaves_modifier_on_in m (script_of keys.now key a.bits b.bits) }
 {
     let mut console = start.copied();
     deliver(&mut console, keys, a, b, false);
@@ -54,7 +60,7 @@ fn leaves_modifier_on<'m>(
     let _ = console.step(Event::Press(key));
     let _ = console.step(Event::Release(key));
     if is_any_on(&console) {
-        deliver(&mut console, keys, b, 0, false);
+        deliver(&mut console, keys, b, GroupSet::EMPTY, false);
         is_any_on(&console)
     } else {
         // The releases that are left turn no modifier on.
@@ -67,12 +73,13 @@ fn try_sets<'m>(
     start: &WordConsole<'m>,
     keys: &BitKeys,
     key: KeyCode,
-    a: u8,
-    b: u8,
+    a: GroupSet,
+    b: GroupSet,
 ) -> Option<Script>
     ensures { (m : MapValue)
-        → ⟦<WordConsole<'m> as Translator>⟧.stands start.now (between m m) (reverse (start_of keys.now key a))
-        → option_map (λ s. s.items) result ≡ find (leaves_modifier_on_in m) (scripts_of keys.now key a b) }
+        → ⟦<WordConsole<'m> as Translator>⟧.stands start.now (between m m) (reverse (start_of keys.now key a.bits))
+        → option_map (λ s. s.items) result
+        ≡ find (leaves_modifier_on_in m) (scripts_of keys.now key a.bits b.bits) }
 {
     if lacks_key(keys, b) || !leaves_modifier_on(start, keys, key, a, b) {
         return None;
@@ -81,24 +88,25 @@ fn try_sets<'m>(
 }
 
 /// A console that was delivered what the scripts of the key and the first set begin with.
-fn start<'m>(map: &'m KeyMap, keys: &BitKeys, key: KeyCode, a: u8) -> WordConsole<'m>
+fn start<'m>(map: &'m KeyMap, keys: &BitKeys, key: KeyCode, a: GroupSet) -> WordConsole<'m>
     ensures { ⟦<WordConsole<'m> as Translator>⟧.stands result (between map.now map.now)
-        (reverse (start_of keys.now key a)) }
+        (reverse (start_of keys.now key a.bits)) }
 {
     let mut console = WordConsole::new(map);
-    deliver(&mut console, keys, a, 0, true);
+    deliver(&mut console, keys, a, GroupSet::EMPTY, true);
     let _ = console.step(Event::Press(key));
     console
 }
 
 /// The first script of the key and the first set that leaves a modifier on. All begin alike: that is delivered once.
 #[tactic(auto, using(crate::proofs::Firsts::tries))]
-fn try_from(map: &KeyMap, keys: &BitKeys, key: KeyCode, a: u8) -> Option<Script>
-    ensures { option_map (λ s. s.items) result ≡ find (leaves_modifier_on_in map.now) (scripts_from keys.now key a) }
+fn try_from(map: &KeyMap, keys: &BitKeys, key: KeyCode, a: GroupSet) -> Option<Script>
+    ensures { option_map (λ s. s.items) result
+        ≡ find (leaves_modifier_on_in map.now) (scripts_from keys.now key a.bits) }
 {
     let start = start(map, keys, key, a);
     for b in 0..16 {
-        match try_sets(&start, keys, key, a, b) {
+        match try_sets(&start, keys, key, a, GroupSet { bits: b }) {
             Some(script) => return Some(script),
             None => {}
         }
@@ -107,8 +115,9 @@ fn try_from(map: &KeyMap, keys: &BitKeys, key: KeyCode, a: u8) -> Option<Script>
 }
 
 /// The first script that begins with the set a and leaves a modifier on, where a key is held for each bit of a.
-fn try_first_set(map: &KeyMap, keys: &BitKeys, key: KeyCode, a: u8) -> Option<Script>
-    ensures { option_map (λ s. s.items) result ≡ find (leaves_modifier_on_in map.now) (scripts_with keys.now key a) }
+fn try_first_set(map: &KeyMap, keys: &BitKeys, key: KeyCode, a: GroupSet) -> Option<Script>
+    ensures { option_map (λ s. s.items) result
+        ≡ find (leaves_modifier_on_in map.now) (scripts_with keys.now key a.bits) }
 {
     if lacks_key(keys, a) {
         None
@@ -123,7 +132,7 @@ fn try_key(map: &KeyMap, keys: &BitKeys, key: KeyCode) -> Option<Script>
     ensures { option_map (λ s. s.items) result ≡ find (leaves_modifier_on_in map.now) (scripts_for keys.now key) }
 {
     for a in 0..16 {
-        match try_first_set(map, keys, key, a) {
+        match try_first_set(map, keys, key, GroupSet { bits: a }) {
             Some(script) => return Some(script),
             None => {}
         }

@@ -18,12 +18,29 @@ pub type Script = ArrayVec<Event, 11>;
 /// For each of the four bits of a set the key that is held, where there is one.
 pub(crate) type BitKeys = [Option<KeyCode>; 4];
 
-/// Whether the set of shift, control, alt and ashift has the bit.
-fn has_bit(set: u8, bit: u8) -> bool
-    requires { bit < 4 }
-    ensures { result ≡ spec.has_bit set bit }
-{
-    (set >> bit) % 2 == 1
+/// A set of shift, control, alt and ashift, with a bit for each of them in this order.
+#[derive(Clone, Copy, Drop)]
+pub(crate) struct GroupSet {
+    pub(crate) bits: u8,
+}
+
+impl GroupSet {
+    pub(crate) const EMPTY: GroupSet = GroupSet { bits: 0 };
+
+    fn has(self, bit: u8) -> bool
+        requires { bit < 4 }
+        ensures { result ≡ spec.has_bit self.bits bit }
+    {
+        (self.bits >> bit) % 2 == 1
+    }
+
+    /// Whether the bit is in the set and not in the other one.
+    fn has_beyond(self, other: GroupSet, bit: u8) -> bool
+        requires { bit < 4 }
+        ensures { result ≡ spec.is_chosen self.bits other.bits bit }
+    {
+        self.has(bit) && !other.has(bit)
+    }
 }
 
 /// The modifiers that the bit of a set stands for.
@@ -36,14 +53,6 @@ fn group_at(bit: u8) -> Group
         2 => Group::Alt,
         _ => Group::AltShift,
     }
-}
-
-/// Whether the bit is in the set and not in the other one.
-fn is_chosen(set: u8, except: u8, bit: u8) -> bool
-    requires { bit < 4 }
-    ensures { result ≡ spec.is_chosen set except bit }
-{
-    has_bit(set, bit) && !has_bit(except, bit)
 }
 
 /// Whether the key bears a modifier of the bit, and isn't the tried one.
@@ -79,17 +88,17 @@ pub(crate) fn bit_keys(survey: &Survey, tried: u8) -> BitKeys
 }
 
 /// Whether the set has the bit and no key is held for it.
-fn is_lacking(keys: &BitKeys, set: u8, bit: u8) -> bool
+fn is_lacking(keys: &BitKeys, set: GroupSet, bit: u8) -> bool
     requires { bit < 4 }
-    ensures { result ≡ spec.is_lacking keys.now set bit }
+    ensures { result ≡ spec.is_lacking keys.now set.bits bit }
 {
-    has_bit(set, bit) && keys[bit as usize].is_none()
+    set.has(bit) && keys[bit as usize].is_none()
 }
 
 /// Whether the set has a bit for which no key is held.
 #[tactic(auto, unfolding(crate::specs::Scripts::lacks_key))]
-pub(crate) fn lacks_key(keys: &BitKeys, set: u8) -> bool
-    ensures { result ≡ spec.lacks_key keys.now set }
+pub(crate) fn lacks_key(keys: &BitKeys, set: GroupSet) -> bool
+    ensures { result ≡ spec.lacks_key keys.now set.bits }
 {
     is_lacking(keys, set, 0)
         || is_lacking(keys, set, 1)
@@ -110,16 +119,16 @@ fn event_of(key: KeyCode, is_press: bool) -> Event
 /// The press or release of the bit's key, if the bit is in the set and not in the other one.
 pub(crate) fn event_at(
     keys: &BitKeys,
-    set: u8,
-    except: u8,
+    set: GroupSet,
+    except: GroupSet,
     bit: u8,
     is_press: bool,
 ) -> Option<Event>
     requires { bit < 4 }
-    ensures { MatchOption result (spec.event_at is_press keys.now set except bit ≡ [])
-        (λ e. spec.event_at is_press keys.now set except bit ≡ e ∷ []) }
+    ensures { MatchOption result (spec.event_at is_press keys.now set.bits except.bits bit ≡ [])
+        (λ e. spec.event_at is_press keys.now set.bits except.bits bit ≡ e ∷ []) }
 {
-    if !is_chosen(set, except, bit) {
+    if !set.has_beyond(except, bit) {
         return None;
     }
     match keys[bit as usize] {
@@ -129,11 +138,11 @@ pub(crate) fn event_at(
 }
 
 /// Appends presses or releases of the keys of the bits that are in the set and not in the other one.
-fn push_events(script: &mut Script, keys: &BitKeys, set: u8, except: u8, is_press: bool)
-    requires { array_vec_len script.old + length (spec.events_of is_press keys.now set except) ≤ 11 }
-    ensures items { script.new.items ≡ script.old.items ++ spec.events_of is_press keys.now set except }
+fn push_events(script: &mut Script, keys: &BitKeys, set: GroupSet, except: GroupSet, is_press: bool)
+    requires { array_vec_len script.old + length (spec.events_of is_press keys.now set.bits except.bits) ≤ 11 }
+    ensures items { script.new.items ≡ script.old.items ++ spec.events_of is_press keys.now set.bits except.bits }
     ensures len { array_vec_len script.new
-        ≡ array_vec_len script.old + length (spec.events_of is_press keys.now set except) }
+        ≡ array_vec_len script.old + length (spec.events_of is_press keys.now set.bits except.bits) }
 {
     for bit in 0..4 {
         match event_at(keys, set, except, bit, is_press) {
@@ -145,16 +154,16 @@ fn push_events(script: &mut Script, keys: &BitKeys, set: u8, except: u8, is_pres
 
 /// The script that tries the key with the sets of bits.
 #[tactic(auto, using(crate::proofs::Lengths::room))]
-pub(crate) fn make_script(keys: &BitKeys, key: KeyCode, a: u8, b: u8) -> Script
-    ensures { result.items ≡ spec.script keys.now key a b }
+pub(crate) fn make_script(keys: &BitKeys, key: KeyCode, a: GroupSet, b: GroupSet) -> Script
+    ensures { result.items ≡ spec.script keys.now key a.bits b.bits }
 {
     let mut script = ArrayVec::new();
-    push_events(&mut script, keys, a, 0, true);
+    push_events(&mut script, keys, a, GroupSet::EMPTY, true);
     script.push(Event::Press(key));
     push_events(&mut script, keys, a, b, false);
     push_events(&mut script, keys, b, a, true);
     script.push(Event::Press(key));
     script.push(Event::Release(key));
-    push_events(&mut script, keys, b, 0, false);
+    push_events(&mut script, keys, b, GroupSet::EMPTY, false);
     script
 }

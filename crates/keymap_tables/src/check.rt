@@ -52,10 +52,7 @@ pub fn check_tables(bytes: &[u8]) -> Result<(), TableFault>
     ensures image { OnOk result ((m : MapValue) × IsMap m × (bytes.now ≡ image m)) }
     ensures fault { IfErr result (IsTableFault bytes.now) }
 {
-    match check_length(Layout::Wide, bytes) {
-        Ok(()) => {}
-        Err(fault) => return Err(fault),
-    }
+    check_length(Layout::Wide, bytes)?;
     let mut unkept = Unkept;
     read_content(Layout::Wide, bytes, &mut unkept)
 }

@@ -76,8 +76,5 @@ pub fn write_narrow<W: Write>(map: &KeyMap, writer: &mut W) -> Result<(), Narrow
     if let Some(wide) = too_wide(map) {
         return Err(NarrowError::TooWide(wide));
     }
-    match write_image(Layout::Narrow, map, writer) {
-        Ok(()) => Ok(()),
-        Err(fault) => Err(NarrowError::Write(fault)),
-    }
+    write_image(Layout::Narrow, map, writer).map_err(NarrowError::Write)
 }

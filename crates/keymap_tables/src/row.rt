@@ -27,9 +27,10 @@ pub(crate) trait Row: Sized + Drop {
 
     ghost faults: { LayoutValue → List ℕ → FaultOf };
 
-    /// The row fits in a file of the layout; it is one that such a file can have.
+    /// The numbers of the row fit in a file of the layout.
     ghost Fits: { LayoutValue → Self → Type 0 };
 
+    /// A file of the layout can have the row.
     ghost Is: { LayoutValue → Self → Type 0 };
 
     /// The numbers of a row by their index, 0 for one that is the code of an action.

@@ -18,4 +18,4 @@ pub use Rattle.std.proofs.Common.{Bool, List, [], ap, arith, drop, false, length
 pub use Rattle.std.proofs.Common.{ℕ, ◌*◌, ◌++◌, ◌+◌, ◌<◌, ◌==◌, ◌∙◌, ◌∷◌, ◌≡◌, ◌≢◌, ◌≤◌}
 pub use Rattle.std.proofs.lemmas.List.{map-append}
 pub use Rattle.std.specs.List.{flat_map, range_with_len}
-pub use Rattle.std.specs.Prelude.{map, negsuc, pos, reverse}
+pub use Rattle.std.specs.Prelude.{map, reverse}

@@ -1,5 +1,5 @@
 -- The number of a cell: that of the answer that it is by itself.
-use Rattle.std.specs.Prelude.{ℕ, ◌==◌, nat_lt, ℤ, pos, negsuc, List, length, false, ◌&&◌, if◌then◌else◌}
+use Rattle.std.specs.Prelude.{ℕ, ◌==◌, nat_lt, ℤ, List, length, false, ◌&&◌, if◌then◌else◌}
 use Rattle.keymap_core.specs.Numbers.{slot_limit, column_count}
 use Rattle.keymap_core.specs.declared.action.Action.TheVariants as a
 use Rattle.keymap_core.specs.declared.entry.Cell.{Cell}
@@ -8,6 +8,7 @@ use Rattle.keymap_tables.specs.Layouts.{wide, file_size}
 use Rattle.console_core.specs.Raw.{raw_of}
 use Rattle.console_core.specs.declared.event.Answer.{Answer}
 use Rattle.console_core.specs.declared.event.Answer.TheVariants as answer
+use Rattle.kmap_c.specs.Statuses as status
 
 -- the character of a cell, or its action as one that is taken
 abbrev pub answer_in : Cell → Answer
@@ -18,9 +19,8 @@ answer_in (Act x) = answer.Special x
 abbrev pub cell_number : Cell → ℕ
 cell_number cell = raw_of (answer_in cell)
 
--- 0, or -1 for a wrong length, or -10 where there is no such slot or column
 abbrev pub cell_status : List ℕ → ℕ → ℕ → ℤ
 cell_status tables slot column =
     if length tables == file_size wide
-    then (if nat_lt slot slot_limit && nat_lt column column_count then pos 0 else negsuc 9)
-    else negsuc 0
+    then (if nat_lt slot slot_limit && nat_lt column column_count then status.done else status.bad_place)
+    else status.bad_length

@@ -7,6 +7,7 @@ use Rattle.keymap_tables.specs.declared.fault.TableFaultKind.TheVariants.{Short,
 use Rattle.keymap_tables.specs.declared.fault.TableFaultKind.TheVariants.{BadAction, Combined, BadChar, NotEmpty}
 use Rattle.console_core.specs.declared.event.Event.{Event}
 use Rattle.console_core.specs.declared.event.Event.TheVariants as event
+use Rattle.kmap_c.specs.Statuses as status
 
 -- 0 to 127 a press of that key, 128 to 255 a release of the key less 128, 256 a reset, 257 a load
 abbrev pub is_event : ℕ → Bool
@@ -24,13 +25,16 @@ abbrev pub are_events : List ℕ → Bool
 are_events [] = true
 are_events (n ∷ rest) = is_event n && are_events rest
 
--- 0 where the call is done, -1 where a table file hasn't its length, -2 where a number names no event, -3 where there
--- are fewer places for answers than events; the first of these
+-- a table file hasn't its length, or else a number names no event, or else there are fewer places for answers than
+-- events
 abbrev pub status_of : List ℕ → List ℕ → List ℕ → ℕ → ℤ
 status_of first second numbers places =
     if (length first == file_size wide) && (length second == file_size wide)
-    then (if are_events numbers then (if nat_le (length numbers) places then pos 0 else negsuc 2) else negsuc 1)
-    else negsuc 0
+    then (
+    if are_events numbers then (if nat_le (length numbers) places then status.done else status.no_room)
+    else status.bad_event
+    )
+    else status.bad_length
 
 abbrev pub kind_number : TableFaultKind → ℕ
 kind_number Short = 1

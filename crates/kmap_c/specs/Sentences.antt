@@ -1,9 +1,10 @@
 -- The sentences that say what a number of a fault means, and what a finding does.
-use Rattle.std.specs.Prelude.{◌≡◌, ℕ, ◌+◌, ◌<◌, ◌≤◌, ℤ, pos, negsuc, List, [], ◌∷◌, ◌++◌, length, drop}
+use Rattle.std.specs.Prelude.{◌≡◌, ℕ, ◌+◌, ◌<◌, ◌≤◌, ℤ, List, [], ◌∷◌, ◌++◌, length, drop}
 use Rattle.keymap_core.specs.declared.action.Holding.{Holding}
 use Rattle.keymap_check.specs.Said.{said_of_key}
-use Rattle.kmap_c.specs.declared.KmapFinding.{KmapFinding}
+use Rattle.kmap_c.specs.declared.tables.KmapFinding.{KmapFinding}
 use Rattle.kmap_c.specs.declared.words.TheConstants as words
+use Rattle.kmap_c.specs.Statuses as status
 
 -- of the kinds of faults of a table file, from 0 on, which is none
 abbrev pub table_sentences : List (List ℕ)
@@ -33,8 +34,8 @@ abbrev pub name_size : ℕ
 name_size = 7
 
 -- A sentence or a name stands in front in a buffer that was `old`, and 0 behind it, where there is room for both; else
--- nothing was changed, and the status is -3.
-pub record IsSaid (sentence old : List ℕ) (status : ℤ) (new : List ℕ) : Type 0 where
+-- nothing was changed, and the result says that there is no room.
+pub record IsSaid (sentence old : List ℕ) (result : ℤ) (new : List ℕ) : Type 0 where
   pub said : length sentence < length old
-      → (status ≡ pos 0) × (new ≡ (sentence ++ 0 ∷ []) ++ drop (length sentence + 1) old)
-  pub no_room : length old ≤ length sentence → (status ≡ negsuc 2) × (new ≡ old)
+      → (result ≡ status.done) × (new ≡ (sentence ++ 0 ∷ []) ++ drop (length sentence + 1) old)
+  pub no_room : length old ≤ length sentence → (result ≡ status.no_room) × (new ≡ old)

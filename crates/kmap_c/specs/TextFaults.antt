@@ -3,7 +3,7 @@ use Rattle.std.specs.Prelude.{◌≡◌, ℕ}
 use Rattle.keymap_text.specs.declared.fault.TextFaultKind.{TextFaultKind}
 use Rattle.keymap_text.specs.declared.fault.TextFaultKind.TheVariants as kind
 use Rattle.keymap_text.specs.declared.fault.TextFault.{TextFault}
-use Rattle.kmap_c.specs.declared.KmapTextFault.{KmapTextFault}
+use Rattle.kmap_c.specs.declared.texts.KmapTextFault.{KmapTextFault}
 
 abbrev pub text_kind_number : TextFaultKind → ℕ
 text_kind_number kind.BadByte = 1

@@ -1,5 +1,5 @@
 -- What a caller in C is told of a keymap that isn't safe.
-use Rattle.std.specs.Prelude.{◌≡◌, ◌⊎◌, ◌==◌, nat_le, if◌then◌else◌, ℕ, ℤ, pos, negsuc, List, length}
+use Rattle.std.specs.Prelude.{◌≡◌, ◌⊎◌, ◌==◌, nat_le, if◌then◌else◌, ℕ, ℤ, List, length}
 use Rattle.keymap_core.specs.declared.entry.Cell.{Cell}
 use Rattle.keymap_core.specs.declared.entry.Cell.TheVariants.{Char, Act}
 use Rattle.keymap_core.specs.Actions.{holding_index}
@@ -10,8 +10,9 @@ use Rattle.keymap_check.specs.declared.bearer.Bearer.TheVariants.{Nobody, Throug
 use Rattle.keymap_tables.specs.Faults.{IsTableFault}
 use Rattle.keymap_tables.specs.Layouts.{wide, file_size}
 use Rattle.keymap_tables.specs.declared.fault.TableFault.{TableFault}
-use Rattle.kmap_c.specs.declared.KmapBearer.{KmapBearer}
-use Rattle.kmap_c.specs.declared.KmapFinding.{KmapFinding}
+use Rattle.kmap_c.specs.declared.tables.KmapBearer.{KmapBearer}
+use Rattle.kmap_c.specs.declared.tables.KmapFinding.{KmapFinding}
+use Rattle.kmap_c.specs.Statuses as status
 
 abbrev pub character_in : Cell → ℕ
 character_in (Char c) = c
@@ -31,13 +32,13 @@ pub record IsTold (m : MapValue) (f : Finding) (t : KmapFinding) : Type 0 where
 abbrev pub AreFaulty : List ℕ → Type 0
 AreFaulty tables = (length tables ≡ file_size wide) × ((f : TableFault) × IsTableFault tables f)
 
--- 0, or -1, -4 or -5
 abbrev pub IsAcceptance : ℤ → Type 0
-IsAcceptance r = (r ≡ pos 0) ⊎ (r ≡ negsuc 0) ⊎ (r ≡ negsuc 3) ⊎ (r ≡ negsuc 4)
+IsAcceptance r =
+    (r ≡ status.done) ⊎ (r ≡ status.bad_length) ⊎ (r ≡ status.faulty) ⊎ (r ≡ status.unsafe)
 
--- 0, or -1, -3 or -4
 abbrev pub IsPrintStatus : ℤ → Type 0
-IsPrintStatus r = (r ≡ pos 0) ⊎ (r ≡ negsuc 0) ⊎ (r ≡ negsuc 2) ⊎ (r ≡ negsuc 3)
+IsPrintStatus r =
+    (r ≡ status.done) ⊎ (r ≡ status.bad_length) ⊎ (r ≡ status.no_room) ⊎ (r ≡ status.faulty)
 
 abbrev pub IsToldBearer : Bearer → KmapBearer → Type 0
 IsToldBearer Nobody t = (t.kind ≡ 0) × (t.key ≡ 0)
@@ -45,7 +46,7 @@ IsToldBearer (Throughout k) t = (t.kind ≡ 1) × (t.key ≡ k)
 IsToldBearer (Sole k) t = (t.kind ≡ 2) × (t.key ≡ k)
 IsToldBearer Several t = (t.kind ≡ 3) × (t.key ≡ 0)
 
--- 0, or -1 for a wrong length, or -7 for what is no index of a modifier or lock
 abbrev pub bearer_status : List ℕ → ℕ → ℤ
 bearer_status tables holding =
-    if length tables == file_size wide then (if nat_le holding 11 then pos 0 else negsuc 6) else negsuc 0
+    if length tables == file_size wide then (if nat_le holding 11 then status.done else status.bad_holding)
+    else status.bad_length

@@ -80,10 +80,7 @@ fn read_text<R: Read>(alloc: Global, text: &mut R) -> Result<KeyMap, PlayError>
     ensures script_kept { blames Source.Script result ≡ false }
     ensures writer_kept { blames_writer result ≡ false }
 {
-    match read_from(alloc, text) {
-        Ok(map) => Ok(map),
-        Err(error) => Err(text_error(error)),
-    }
+    read_from(alloc, text).map_err(text_error)
 }
 
 /// The keymap of the next text.
@@ -94,10 +91,7 @@ fn read_next<N: Read>(alloc: Global, next: &mut N) -> Result<KeyMap, PlayError>
     ensures script_kept { blames Source.Script result ≡ false }
     ensures writer_kept { blames_writer result ≡ false }
 {
-    match read_from(alloc, next) {
-        Ok(map) => Ok(map),
-        Err(error) => Err(next_error(error)),
-    }
+    read_from(alloc, next).map_err(next_error)
 }
 
 /// The bytes of the script.
@@ -110,10 +104,7 @@ fn read_script_bytes<S: Read>(alloc: Global, script: &mut S) -> Result<Vec<u8>, 
     ensures next_kept { blames Source.Next result ≡ false }
     ensures writer_kept { blames_writer result ≡ false }
 {
-    match read_whole(alloc, script) {
-        Ok(bytes) => Ok(bytes),
-        Err(error) => Err(script_error(error)),
-    }
+    read_whole(alloc, script).map_err(script_error)
 }
 
 /// What a script sends.
@@ -148,10 +139,7 @@ fn play_script<S: Read, W: Write>(
 {
     let bytes = read_script_bytes(alloc, script)?;
     let sent = events_of(alloc, bytes.as_slice())?;
-    match play_events(show, first, second, sent.as_slice(), out) {
-        Ok(()) => Ok(()),
-        Err(fault) => Err(PlayError::Write(fault)),
-    }
+    play_events(show, first, second, sent.as_slice(), out).map_err(PlayError::Write)
 }
 
 /// Reads the text of a keymap and then a script, at most `LIMIT` bytes each, and plays the script on the keymap. A load

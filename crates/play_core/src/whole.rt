@@ -14,10 +14,7 @@ pub fn read_whole<R: Read>(alloc: Global, reader: &mut R) -> Result<Vec<u8>, Rea
         (λ e. ReadsWhole (moves (R.remaining reader.old) (R.remaining reader.new)) (Err e)) }
     ensures failed { R.has_failed reader.new ≡ (blames_device result || R.has_failed reader.old) }
 {
-    let bytes = match read_up_to(alloc, reader, LIMIT + 1) {
-        Ok(bytes) => bytes,
-        Err(error) => return Err(error),
-    };
+    let bytes = read_up_to(alloc, reader, LIMIT + 1)?;
     if bytes.len() > LIMIT {
         return Err(ReadError::Read(ReadFault {
             offset: LIMIT as u64,

@@ -14,14 +14,14 @@ use Rattle.keymap_tables.specs.Inner.Firsts.{HasNoFault}
 abbrev pub made_of : List Entry → List AccentValue → MapValue
 made_of entries accents = record { entries = entries; accents = accents }
 
--- an entry or an accent that there is in a file of the layout
+-- an entry or an accent that a file of the layout can have
 abbrev pub IsEntryIn : Layout → Entry → Type 0
 IsEntryIn l entry = IsEntry entry × EntryFits l entry
 
 abbrev pub IsAccentIn : Layout → AccentValue → Type 0
 IsAccentIn l accent = IsAccent accent × AccentFits l accent
 
--- Images of one size, which tell those that there are apart, and faults that none of them has.
+-- Images of one size, which tell the rows that a file can have apart, and faults that none of these has.
 pub record AreRows {X : Type 0} (row : X → List ℕ) (size : ℕ) (fault_in : List ℕ → FaultOf) (Is : X → Type 0)
     (blank : X) : Type 0 where
   pub some : 0 < size

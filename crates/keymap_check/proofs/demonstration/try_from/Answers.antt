@@ -4,6 +4,6 @@ use Rattle.keymap_check.proofs.demonstration.try_from.Goals as goal
 
 pub returns-in-Some : goal.returns-in-Some
 returns-in-Some c =
-    sym (try-found (leaves_modifier_on c.args.map.now) (scripts_of c.args.keys.now c.args.key c.args.a) c.loop-b.b 16
-    c.in-Some.script.items (omega arith) c.loop-b.invariant
+    sym (try-found (leaves_modifier_on c.args.map.now) (scripts_of c.args.keys.now c.args.key c.args.a.bits)
+    c.loop-b.b 16 c.in-Some.script.items (omega arith) c.loop-b.invariant
     (sym (c.in-Some.ensures c.args.map.now c.start-start.ensures)))

@@ -8,11 +8,12 @@ use Rattle.keymap_check.proofs.script.push_events.Goals as goal
 
 pub loop-bit-init : goal.loop-bit-init
 loop-bit-init c =
-    rw (gathered-none (event_at c.args.is_press c.args.keys.now c.args.set c.args.except)) (sym (append-nil _))
+    rw (gathered-none (event_at c.args.is_press c.args.keys.now c.args.set.bits c.args.except.bits))
+    (sym (append-nil _))
 
 pub push-requires : goal.push-requires
 push-requires c =
-    let f : ℕ → List Event = event_at c.args.is_press c.args.keys.now c.args.set c.args.except in
+    let f : ℕ → List Event = event_at c.args.is_press c.args.keys.now c.args.set.bits c.args.except.bits in
     let i = c.loop-bit.bit in
     let more : length (gathered f (i + 1)) ≡ length (gathered f i) + 1 =
     ap length (gathered-more f i) ∙ length-append _ _ ∙ ap (λ l. length (gathered f i) + length l) c.in-Some.ensures in

@@ -4,8 +4,5 @@ use Rattle.play_core.proofs.playing.play_script.Goals as goal
 pub returns-in_err-sent-clause-run : goal.returns-in_err-sent-clause-run
 returns-in_err-sent-clause-run g c = search (rules, err_from_is_err_and, Keeps-refl)
 
-pub returns-in-Ok-clause-run : goal.returns-in-Ok-clause-run
-returns-in-Ok-clause-run g c = search rules
-
 pub returns-clause-run : goal.returns-clause-run
 returns-clause-run g c = search rules

@@ -1,5 +1,5 @@
 use Rattle.kmap_c.proofs.Common.{subst, ◌∷◌, map, between, KeptAt, event_of}
-use Rattle.kmap_c.proofs.kmap_step_between.Goals as goal
+use Rattle.kmap_c.proofs.console.kmap_step_between.Goals as goal
 
 pub returns-clause-delivers : goal.returns-clause-delivers
 returns-clause-delivers c =

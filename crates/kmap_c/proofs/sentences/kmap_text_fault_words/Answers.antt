@@ -1,6 +1,6 @@
 use Rattle.kmap_c.proofs.Common.{◌∙◌}
 use Rattle.kmap_c.proofs.Numbers.{up_down, no_text_sentence}
-use Rattle.kmap_c.proofs.kmap_text_fault_words.Goals as goal
+use Rattle.kmap_c.proofs.sentences.kmap_text_fault_words.Goals as goal
 
 pub returns-clause-no_kind : goal.returns-clause-no_kind
 returns-clause-no_kind c =

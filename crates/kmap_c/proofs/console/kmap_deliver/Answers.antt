@@ -1,6 +1,6 @@
 use Rattle.kmap_c.proofs.Common.{subst, map, between, KeptAt, event_of}
 use Rattle.kmap_c.proofs.Calls.{delivered}
-use Rattle.kmap_c.proofs.kmap_deliver.Goals as goal
+use Rattle.kmap_c.proofs.console.kmap_deliver.Goals as goal
 
 pub returns-clause-delivers : goal.returns-clause-delivers
 returns-clause-delivers c =

@@ -1,7 +1,7 @@
 use Rattle.kmap_c.proofs.Common.{refl}
 use Rattle.std.proofs.Common.{inl, inr}
 use Rattle.kmap_c.proofs.Faulty.{unfaulty}
-use Rattle.kmap_c.proofs.kmap_accepts.Goals as goal
+use Rattle.kmap_c.proofs.tables.kmap_accepts.Goals as goal
 
 pub returns-in_default-clause-status : goal.returns-in_default-clause-status
 returns-in_default-clause-status c = inr (inl refl)

@@ -1,7 +1,7 @@
 use Rattle.kmap_c.proofs.Common.{rules}
 use Rattle.std.proofs.lemmas.Option.{same_Some}
 use Rattle.keymap_core.proofs.CodeLaws.{code-read, action-has_code}
-use Rattle.kmap_c.proofs.kmap_action_name.Goals as goal
+use Rattle.kmap_c.proofs.sentences.kmap_action_name.Goals as goal
 
 pub returns-in-Some-clause-said : goal.returns-in-Some-clause-said
 returns-in-Some-clause-said c = search (rules, same_Some, code-read)

@@ -1,6 +1,6 @@
 use Rattle.kmap_c.proofs.Common.{◌∙◌, map, between, event_of}
 use Rattle.kmap_c.proofs.Calls.{counts}
-use Rattle.kmap_c.proofs.kmap_locks.Goals as goal
+use Rattle.kmap_c.proofs.console.kmap_locks.Goals as goal
 
 pub returns-clause-fresh_presses : goal.returns-clause-fresh_presses
 returns-clause-fresh_presses c =

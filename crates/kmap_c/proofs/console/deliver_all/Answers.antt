@@ -2,7 +2,7 @@ use Rattle.kmap_c.proofs.Common.{◌∙◌, ◌++◌, ◌∷◌, [], List, ℕ, 
 use Rattle.std.proofs.lemmas.List.{take_more_set, length-set, drop-set-lt}
 use Rattle.console_core.proofs.Deliveries.{reverse-push}
 use Rattle.kmap_c.proofs.Delivered.{events-push, answers-push}
-use Rattle.kmap_c.proofs.deliver_all.Goals as goal
+use Rattle.kmap_c.proofs.console.deliver_all.Goals as goal
 
 pub loop-index-preserved : goal.loop-index-preserved
 loop-index-preserved g c =

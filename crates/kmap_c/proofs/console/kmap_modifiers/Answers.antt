@@ -1,7 +1,7 @@
 use Rattle.kmap_c.proofs.Common.{sym, ◌∙◌, arith, map, between, event_of}
 use Rattle.kmap_c.proofs.Calls.{held, follows}
 use Rattle.kmap_c.proofs.Numbers.{none-set, up_down}
-use Rattle.kmap_c.proofs.kmap_modifiers.Goals as goal
+use Rattle.kmap_c.proofs.console.kmap_modifiers.Goals as goal
 
 pub returns-clause-never_sticks : goal.returns-clause-never_sticks
 returns-clause-never_sticks c =

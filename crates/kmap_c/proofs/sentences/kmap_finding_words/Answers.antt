@@ -1,7 +1,8 @@
-use Rattle.kmap_c.proofs.Common.{◌≡◌, ◌∙◌, ◌++◌, ap, sym, subst, refl, List, ℕ, pos, negsuc, Holding, IsSaid}
+use Rattle.kmap_c.proofs.Common.{◌≡◌, ◌∙◌, ◌++◌, ap, sym, subst, refl, List, ℕ, Holding, IsSaid}
 use Rattle.kmap_c.specs.Sentences.{finding_sentence}
+use Rattle.kmap_c.specs.Statuses as status
 use Rattle.kmap_c.proofs.Numbers.{one_holding}
-use Rattle.kmap_c.proofs.kmap_finding_words.Goals as goal
+use Rattle.kmap_c.proofs.sentences.kmap_finding_words.Goals as goal
 
 pub returns-clause-said : goal.returns-clause-said
 returns-clause-said c =
@@ -14,6 +15,6 @@ returns-clause-said c =
     let s : IsSaid (finding_sentence a c.args.finding.now) c.args.words.now c.say.result c.say.new.words =
     subst (λ (s : List ℕ). IsSaid s c.args.words.now c.say.result c.say.new.words) sentence c.say.ensures.said in
     record {
-      said = λ room. let e : c.say.result ≡ pos 0 = (s.said room).0 in (rw e refl, (s.said room).1);
-      no_room = λ few. let e : c.say.result ≡ negsuc 2 = (s.no_room few).0 in (rw e refl, (s.no_room few).1);
+      said = λ room. let e : c.say.result ≡ status.done = (s.said room).0 in (rw e refl, (s.said room).1);
+      no_room = λ few. let e : c.say.result ≡ status.no_room = (s.no_room few).0 in (rw e refl, (s.no_room few).1);
     }

@@ -1,6 +1,6 @@
 use Rattle.kmap_c.proofs.Common.{◌≡◌, ◌++◌, List, length, take, drop, map, reverse, Event, Maps, answers_to, KeptAt}
 use Rattle.kmap_c.proofs.Common.{raw_of, event_of}
-use Rattle.kmap_c.proofs.deliver_all.Given as goal
+use Rattle.kmap_c.proofs.console.deliver_all.Given as goal
 
 -- The events so far are delivered, and their answers in place; the places past the events are as they were.
 abbrev pub invariant-loop-index : goal.invariant-loop-index

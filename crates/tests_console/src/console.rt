@@ -14,16 +14,16 @@ pub(crate) enum Input {
     Load,
 }
 
-pub(crate) fn key(code: u8) -> Result<KeyCode, &'static str> {
-    KeyCode::new(code).ok_or("no key has this code")
+pub(crate) fn key(rt: &impl Abort, code: u8) -> KeyCode {
+    KeyCode::new(code).expect(rt, "a key")
 }
 
-pub(crate) fn event(input: Input) -> Result<Event, &'static str> {
+pub(crate) fn event(rt: &impl Abort, input: Input) -> Event {
     match input {
-        Input::Down(code) => Ok(Event::Press(key(code)?)),
-        Input::Up(code) => Ok(Event::Release(key(code)?)),
-        Input::Reset => Ok(Event::Reset),
-        Input::Load => Ok(Event::Load),
+        Input::Down(code) => Event::Press(key(rt, code)),
+        Input::Up(code) => Event::Release(key(rt, code)),
+        Input::Reset => Event::Reset,
+        Input::Load => Event::Load,
     }
 }
 

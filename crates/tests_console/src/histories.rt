@@ -9,7 +9,6 @@ use keymap_core::{Action, KeyMap, Lock, Modifier};
 use keymap_text::read_map;
 use std::alloc::Global;
 use std::process::Abort;
-use std::test::Fail;
 use test_support::keymaps::{
     ACCENTS, BLANK_MACRON, CAPS_AND_NUM, CAPS_WITH_NOPS, LETTER_AND_SHIFT, SHIFT_AND_CAPS,
     SHIFT_WITH_TRAP, TWO_CONTROLS, TWO_SCROLL_LOCKS, TWO_SHIFTS, UPPER_HALF,
@@ -275,29 +274,28 @@ const CHARACTER_UNDER_CONTROL: &[Step] = &[
     (Up(29), Released(LCTRL), &[Modifier::LeftShift], &[], None),
 ];
 
-fn action(code: u8) -> Result<Action, &'static str> {
-    Action::from_code(code).ok_or("no action has this code")
+fn action(rt: &impl Abort, code: u8) -> Action {
+    Action::from_code(code).expect(rt, "an action")
 }
 
-fn answer(output: Output) -> Result<Answer, &'static str> {
+fn answer(rt: &impl Abort, output: Output) -> Answer {
     match output {
-        Nothing => Ok(Answer::None),
-        Error => Ok(Answer::Error),
-        Char(c) => Ok(Answer::Char { c, meta: false }),
-        MetaChar(c) => Ok(Answer::Char { c, meta: true }),
-        Special(code) => Ok(Answer::Special(action(code)?)),
-        Released(code) => Ok(Answer::Released(action(code)?)),
+        Nothing => Answer::None,
+        Error => Answer::Error,
+        Char(c) => Answer::Char { c, meta: false },
+        MetaChar(c) => Answer::Char { c, meta: true },
+        Special(code) => Answer::Special(action(rt, code)),
+        Released(code) => Answer::Released(action(rt, code)),
     }
 }
 
-fn deliver<T: Translator>(rt: &impl Abort, console: &mut T, steps: &[Step]) -> Result<(), Fail> {
+fn deliver<T: Translator>(rt: &impl Abort, console: &mut T, steps: &[Step]) {
     expect_shown(rt, console, &[], &[], None);
     for (input, output, on, locked, pending) in steps {
-        let given = console.step(event(*input)?);
-        expect_equal_at(rt, input, &given, &answer(*output)?);
+        let given = console.step(event(rt, *input));
+        expect_equal_at(rt, input, &given, &answer(rt, *output));
         expect_shown(rt, console, on, locked, *pending);
     }
-    Ok(())
 }
 
 /// The keymap that is in force first, the one that a load exchanges for it, and what is delivered. The histories stand
@@ -329,49 +327,37 @@ static LOADS: [History; 4] = [
     (SHIFT_AND_CAPS, LETTER_AND_SHIFT, TWO_LOADS),
 ];
 
-fn deliver_to_both(
-    rt: &impl Abort,
-    first: &KeyMap,
-    next: &KeyMap,
-    steps: &[Step],
-) -> Result<(), Fail> {
-    deliver(rt, &mut PlainConsole::between(first, next), steps)?;
-    deliver(rt, &mut WordConsole::between(first, next), steps)
+fn deliver_to_both(rt: &impl Abort, first: &KeyMap, next: &KeyMap, steps: &[Step]) {
+    deliver(rt, &mut PlainConsole::between(first, next), steps);
+    deliver(rt, &mut WordConsole::between(first, next), steps);
 }
 
 /// Asserts that both consoles, between the keymaps of these texts, answer so.
-fn expect_history(
-    rt: &impl Abort,
-    alloc: Global,
-    first: &[u8],
-    next: &[u8],
-    steps: &[Step],
-) -> Result<(), Fail> {
-    let first = read_map(alloc, first)?;
-    let next = read_map(alloc, next)?;
-    deliver_to_both(rt, &first, &next, steps)
+fn expect_history(rt: &impl Abort, alloc: Global, first: &[u8], next: &[u8], steps: &[Step]) {
+    let first = read_map(alloc, first).expect(rt, "a map");
+    let next = read_map(alloc, next).expect(rt, "a map");
+    deliver_to_both(rt, &first, &next, steps);
 }
 
-fn expect_histories(rt: &impl Abort, alloc: Global, histories: &[History]) -> Result<(), Fail> {
+fn expect_histories(rt: &impl Abort, alloc: Global, histories: &[History]) {
     for &(first, next, steps) in histories {
-        expect_history(rt, alloc, first, next, steps)?;
+        expect_history(rt, alloc, first, next, steps);
     }
-    Ok(())
 }
 
 #[test]
-fn both_consoles_answer_as_worked_out(rt: HostRuntime) -> Result<(), Fail> {
-    expect_histories(&rt, rt.alloc(), &MODIFIERS_AND_LOCKS)
+fn both_consoles_answer_as_worked_out(rt: HostRuntime) {
+    expect_histories(&rt, rt.alloc(), &MODIFIERS_AND_LOCKS);
 }
 
 #[test]
-fn both_consoles_compose_as_worked_out(rt: HostRuntime) -> Result<(), Fail> {
-    expect_histories(&rt, rt.alloc(), &ACCENTS_AND_DEAD_KEYS)
+fn both_consoles_compose_as_worked_out(rt: HostRuntime) {
+    expect_histories(&rt, rt.alloc(), &ACCENTS_AND_DEAD_KEYS);
 }
 
 #[test]
-fn both_consoles_load_as_worked_out(rt: HostRuntime) -> Result<(), Fail> {
-    expect_histories(&rt, rt.alloc(), &LOADS)
+fn both_consoles_load_as_worked_out(rt: HostRuntime) {
+    expect_histories(&rt, rt.alloc(), &LOADS);
 }
 
 /// Events that are replayed, their answers, and then the modifiers that are on and the pending accent.
@@ -382,20 +368,20 @@ struct Replayed {
     pending: Option<u8>,
 }
 
-fn events_of(alloc: Global, inputs: &[Input]) -> Result<Vec<Event>, Fail> {
+fn events_of(rt: &impl Abort, alloc: Global, inputs: &[Input]) -> Vec<Event> {
     let mut events = Vec::new(alloc);
     for input in inputs {
-        events.push(event(*input)?)?;
+        events.push(event(rt, *input)).expect(rt, "memory");
     }
-    Ok(events)
+    events
 }
 
-fn answers_of(alloc: Global, outputs: &[Output]) -> Result<Vec<Answer>, Fail> {
+fn answers_of(rt: &impl Abort, alloc: Global, outputs: &[Output]) -> Vec<Answer> {
     let mut answers = Vec::new(alloc);
     for output in outputs {
-        answers.push(answer(*output)?)?;
+        answers.push(answer(rt, *output)).expect(rt, "memory");
     }
-    Ok(answers)
+    answers
 }
 
 /// Asserts that the events are answered so, and what is on and pending then; no lock is on.
@@ -404,13 +390,12 @@ fn expect_replay<T: Translator>(
     alloc: Global,
     console: &mut T,
     replayed: &Replayed,
-) -> Result<(), Fail> {
-    let events = events_of(alloc, replayed.inputs)?;
-    let given = replay(alloc, console, events.as_slice())?;
-    let wanted = answers_of(alloc, replayed.outputs)?;
+) {
+    let events = events_of(rt, alloc, replayed.inputs);
+    let given = replay(alloc, console, events.as_slice()).expect(rt, "answers");
+    let wanted = answers_of(rt, alloc, replayed.outputs);
     expect_equal(rt, &given.as_slice(), &wanted.as_slice());
     expect_shown(rt, console, replayed.on, &[], replayed.pending);
-    Ok(())
 }
 
 /// Shift and caps lock, pressed and released.
@@ -429,31 +414,31 @@ fn expect_same_after_reset<T: Translator>(
     alloc: Global,
     first: &mut T,
     second: &mut T,
-) -> Result<(), Fail> {
-    let quiet = events_of(alloc, &QUIET)?;
-    let _answers = replay(alloc, first, quiet.as_slice())?;
-    let _answers = replay(alloc, second, quiet.as_slice())?;
+) {
+    let quiet = events_of(rt, alloc, &QUIET);
+    let _answers = replay(alloc, first, quiet.as_slice()).expect(rt, "answers");
+    let _answers = replay(alloc, second, quiet.as_slice()).expect(rt, "answers");
     expect_equal(rt, &second.step(Event::Reset), &Answer::None);
-    expect_replay(rt, alloc, first, &PRESSED_ONCE_MORE)?;
-    expect_replay(rt, alloc, second, &PRESSED_ONCE_MORE)
+    expect_replay(rt, alloc, first, &PRESSED_ONCE_MORE);
+    expect_replay(rt, alloc, second, &PRESSED_ONCE_MORE);
 }
 
 /// A console on which no key is pressed and no accent is pending goes on as after a reset.
 #[test]
-fn a_quiet_console_goes_on_as_after_a_reset(rt: HostRuntime) -> Result<(), Fail> {
-    let map = read_map(rt.alloc(), SHIFT_AND_CAPS)?;
+fn a_quiet_console_goes_on_as_after_a_reset(rt: HostRuntime) {
+    let map = read_map(rt.alloc(), SHIFT_AND_CAPS).expect(&rt, "a map");
     expect_same_after_reset(
         &rt,
         rt.alloc(),
         &mut PlainConsole::new(&map),
         &mut PlainConsole::new(&map),
-    )?;
+    );
     expect_same_after_reset(
         &rt,
         rt.alloc(),
         &mut WordConsole::new(&map),
         &mut WordConsole::new(&map),
-    )
+    );
 }
 
 /// Events, their answers as numbers, and the modifiers that are on after them.
@@ -467,13 +452,12 @@ static RAW: [(Input, u32, &[Modifier]); 7] = [
     (Up(56), 0xc000_0084, &[]),
 ];
 
-fn expect_raw<T: Translator>(rt: &impl Abort, console: &mut T) -> Result<(), Fail> {
+fn expect_raw<T: Translator>(rt: &impl Abort, console: &mut T) {
     for &(input, raw, on) in &RAW {
-        let answer = console.step(event(input)?);
+        let answer = console.step(event(rt, input));
         expect_equal_at(rt, &input, &answer.raw(), &raw);
         expect_shown(rt, console, on, &[], None);
     }
-    Ok(())
 }
 
 /// Answers, and their numbers.
@@ -485,15 +469,14 @@ static NUMBERS: [(Output, u32); 4] = [
 ];
 
 #[test]
-fn answers_have_their_numbers(rt: HostRuntime) -> Result<(), Fail> {
-    let map = read_map(rt.alloc(), ACCENTS)?;
-    expect_raw(&rt, &mut PlainConsole::new(&map))?;
-    expect_raw(&rt, &mut WordConsole::new(&map))?;
+fn answers_have_their_numbers(rt: HostRuntime) {
+    let map = read_map(rt.alloc(), ACCENTS).expect(&rt, "a map");
+    expect_raw(&rt, &mut PlainConsole::new(&map));
+    expect_raw(&rt, &mut WordConsole::new(&map));
     for &(output, number) in &NUMBERS {
-        let answer = answer(output)?;
+        let answer = answer(&rt, output);
         expect_equal(&rt, &answer.raw(), &number);
     }
-    Ok(())
 }
 
 /// The text of a keymap, and what is replayed on it. A key of the keymap of no keys gives the character 0. A dead key
@@ -520,11 +503,10 @@ static REPLAYS: [(&[u8], Replayed); 2] = [
 ];
 
 #[test]
-fn replays(rt: HostRuntime) -> Result<(), Fail> {
+fn replays(rt: HostRuntime) {
     for (text, replayed) in &REPLAYS {
-        let map = read_map(rt.alloc(), text)?;
-        expect_replay(&rt, rt.alloc(), &mut PlainConsole::new(&map), replayed)?;
-        expect_replay(&rt, rt.alloc(), &mut WordConsole::new(&map), replayed)?;
+        let map = read_map(rt.alloc(), text).expect(&rt, "a map");
+        expect_replay(&rt, rt.alloc(), &mut PlainConsole::new(&map), replayed);
+        expect_replay(&rt, rt.alloc(), &mut WordConsole::new(&map), replayed);
     }
-    Ok(())
 }

@@ -7,7 +7,6 @@ use keymap_check::{Bearer, Report, check};
 use keymap_core::{Holding, KeyCode, KeyMap, LOCKS, MODIFIERS, Modifier};
 use keymap_text::read_map;
 use std::process::Abort;
-use std::test::Fail;
 use test_support::keymaps::{
     ACCENTS, CAPS_AND_NUM, LETTER_AND_SHIFT, SHIFT_AND_CAPS, SHIFT_WITHOUT_TRAP, UPPER_HALF,
 };
@@ -46,15 +45,15 @@ fn follow(keys: &mut [KeyState], event: &Event) {
 }
 
 /// The next event of a linear congruential generator: half are presses, and one of sixteen is a reset.
-fn next_event(number: &mut u64, keys: &[KeyState]) -> Result<Event, &'static str> {
+fn next_event(rt: &impl Abort, number: &mut u64, keys: &[KeyState]) -> Event {
     *number = number.wrapping_mul(1_103_515_245).wrapping_add(12_345) % 2_147_483_648;
     let high = *number / 65_536;
-    let index = (high as usize).checked_rem(keys.len()).ok_or("no keys")?;
-    let state = keys.get(index).ok_or("no key")?;
+    let index = (high as usize).checked_rem(keys.len()).expect(rt, "keys");
+    let state = keys.get(index).expect(rt, "a key");
     match high / 256 % 16 {
-        0..=7 => event(Input::Down(state.code)),
-        8..=14 => event(Input::Up(state.code)),
-        _ => Ok(Event::Reset),
+        0..=7 => event(rt, Input::Down(state.code)),
+        8..=14 => event(rt, Input::Up(state.code)),
+        _ => Event::Reset,
     }
 }
 
@@ -101,19 +100,18 @@ fn bearer_throughout(code: u8) -> Bearer {
     KeyCode::new(code).map_or(Bearer::Nobody, Bearer::Throughout)
 }
 
-fn run(rt: &impl Abort, map: &KeyMap, keys: &mut [KeyState]) -> Result<(), Fail> {
+fn run(rt: &impl Abort, map: &KeyMap, keys: &mut [KeyState]) {
     let report = check(map);
     assert!(rt; report.accepted());
     let mut plain = PlainConsole::new(map);
     let mut word = WordConsole::new(map);
     let mut number = 1;
     for _ in 0..20_000 {
-        let event = next_event(&mut number, keys)?;
+        let event = next_event(rt, &mut number, keys);
         follow(keys, &event);
         step_both(rt, &mut plain, &mut word, &event);
         expect_promises(rt, &word, &report, keys);
     }
-    Ok(())
 }
 
 /// The text of a keymap, and the keys that it defines.
@@ -126,16 +124,15 @@ static MAPS: [(&[u8], &[u8]); 5] = [
 ];
 
 #[test]
-fn both_consoles_keep_the_promises(rt: HostRuntime) -> Result<(), Fail> {
+fn both_consoles_keep_the_promises(rt: HostRuntime) {
     for &(text, codes) in &MAPS {
-        let map = read_map(rt.alloc(), text)?;
+        let map = read_map(rt.alloc(), text).expect(&rt, "a map");
         let mut keys = Vec::new(rt.alloc());
         for &code in codes {
-            keys.push(state_of(code))?;
+            keys.push(state_of(code)).expect(&rt, "memory");
         }
-        run(&rt, &map, keys.as_mut_slice())?;
+        run(&rt, &map, keys.as_mut_slice());
     }
-    Ok(())
 }
 
 fn is_pressed(keys: &[KeyState], code: u8) -> bool {
@@ -146,15 +143,15 @@ fn is_pressed(keys: &[KeyState], code: u8) -> bool {
 /// No key of the keymap has a trap and it has no locks: a modifier is on only while the key that bears it is pressed,
 /// though the keymap is refused.
 #[test]
-fn without_traps_modifiers_are_on_only_while_pressed(rt: HostRuntime) -> Result<(), Fail> {
-    let map = read_map(rt.alloc(), SHIFT_WITHOUT_TRAP)?;
+fn without_traps_modifiers_are_on_only_while_pressed(rt: HostRuntime) {
+    let map = read_map(rt.alloc(), SHIFT_WITHOUT_TRAP).expect(&rt, "a map");
     assert!(rt; !check(&map).accepted());
     let mut console = WordConsole::new(&map);
     let mut keys = [29, 42].map(state_of);
     let mut number = 1;
     let mut was_on = [false; 8];
     for _ in 0..20_000 {
-        let event = next_event(&mut number, &keys)?;
+        let event = next_event(&rt, &mut number, &keys);
         follow(&mut keys, &event);
         console.step(event);
         for modifier in MODIFIERS {
@@ -172,5 +169,4 @@ fn without_traps_modifiers_are_on_only_while_pressed(rt: HostRuntime) -> Result<
         &was_on,
         &[true, false, true, false, false, false, false, false],
     );
-    Ok(())
 }

@@ -8,7 +8,6 @@ use keymap_check::{Bearer, Finding, Place, Report, check, demonstrate};
 use keymap_core::{Holding, LOCKS, Lock, MODIFIERS, Modifier};
 use keymap_text::read_map;
 use std::process::Abort;
-use std::test::Fail;
 use test_support::keymaps::{
     ALT_SHIFT_WITH_TRAP, CAPS_WITH_NOPS, DUMPED_LINE, SHIFT_ALONE, SHIFT_WITH_TRAP,
     SHIFT_WITHOUT_TRAP, TWO_SCROLL_LOCKS, UPPER_HALF,
@@ -130,86 +129,80 @@ static CHECKED: [Checked; 9] = [
     },
 ];
 
-fn bearer(borne: Borne) -> Result<Bearer, &'static str> {
+fn bearer(rt: &impl Abort, borne: Borne) -> Bearer {
     match borne {
-        Borne::Throughout(code) => Ok(Bearer::Throughout(key(code)?)),
-        Borne::Sole(code) => Ok(Bearer::Sole(key(code)?)),
-        Borne::Several => Ok(Bearer::Several),
+        Borne::Throughout(code) => Bearer::Throughout(key(rt, code)),
+        Borne::Sole(code) => Bearer::Sole(key(rt, code)),
+        Borne::Several => Bearer::Several,
     }
 }
 
 /// The bearer that the table names, or else nobody.
-fn bearer_in<T: Copy + PartialEq>(
-    bearers: &[(T, Borne)],
-    wanted: T,
-) -> Result<Bearer, &'static str> {
+fn bearer_in<T: Copy + PartialEq>(rt: &impl Abort, bearers: &[(T, Borne)], wanted: T) -> Bearer {
     for &(borne, by) in bearers {
         if borne == wanted {
-            return bearer(by);
+            return bearer(rt, by);
         }
     }
-    Ok(Bearer::Nobody)
+    Bearer::Nobody
 }
 
 /// Asserts that the report names these bearers and no more, and these steady locks and no more.
-fn expect_bearers(rt: &impl Abort, report: &Report, checked: &Checked) -> Result<(), &'static str> {
+fn expect_bearers(rt: &impl Abort, report: &Report, checked: &Checked) {
     for modifier in MODIFIERS {
         let given = report.bearer(Holding::Mod(modifier));
         expect_equal_at(
             rt,
             &modifier,
             &given,
-            &bearer_in(checked.bearers.0, modifier)?,
+            &bearer_in(rt, checked.bearers.0, modifier),
         );
     }
     for lock in LOCKS {
         let given = report.bearer(Holding::Lock(lock));
-        expect_equal_at(rt, &lock, &given, &bearer_in(checked.bearers.1, lock)?);
+        expect_equal_at(rt, &lock, &given, &bearer_in(rt, checked.bearers.1, lock));
         let is_steady = report.steady(lock);
         expect_equal_at(rt, &lock, &is_steady, &checked.steady.contains(&lock));
     }
-    Ok(())
 }
 
-fn finding(trap: Trap) -> Result<Finding, &'static str> {
+fn finding(rt: &impl Abort, trap: Trap) -> Finding {
     let (code, modifier, slot, column) = trap;
-    Ok(Finding {
-        key: key(code)?,
+    Finding {
+        key: key(rt, code),
         holding: Holding::Mod(modifier),
         holding_at: Place {
             slot: code,
             column: 0,
         },
         character_at: Place { slot, column },
-    })
+    }
 }
 
 /// Asserts that the events are those of the script; there are none where it is empty.
-fn expect_script(rt: &impl Abort, events: &[Event], script: &[Input]) -> Result<(), &'static str> {
+fn expect_script(rt: &impl Abort, events: &[Event], script: &[Input]) {
     expect_equal(rt, &events.len(), &script.len());
     for (given, input) in events.iter().zip(script) {
-        expect_equal_at(rt, input, given, &event(*input)?);
+        expect_equal_at(rt, input, given, &event(rt, *input));
     }
-    Ok(())
 }
 
 #[test]
-fn reports_are_as_worked_out(rt: HostRuntime) -> Result<(), Fail> {
+fn reports_are_as_worked_out(rt: HostRuntime) {
     for checked in &CHECKED {
-        let map = read_map(rt.alloc(), checked.text)?;
+        let map = read_map(rt.alloc(), checked.text).expect(&rt, "a map");
         let report = check(&map);
         let is_accepted = report.accepted() == checked.traps.is_empty();
         expect_at(&rt, &checked.text, is_accepted);
         let findings = report.findings();
         expect_equal_at(&rt, &checked.text, &findings.len(), &checked.traps.len());
         for (given, trap) in findings.iter().zip(checked.traps) {
-            expect_equal_at(&rt, &checked.text, given, &finding(*trap)?);
+            expect_equal_at(&rt, &checked.text, given, &finding(&rt, *trap));
         }
-        expect_bearers(&rt, &report, checked)?;
+        expect_bearers(&rt, &report, checked);
         match demonstrate(&map) {
-            Some(events) => expect_script(&rt, events.as_slice(), checked.script)?,
-            None => expect_script(&rt, &[], checked.script)?,
+            Some(events) => expect_script(&rt, events.as_slice(), checked.script),
+            None => expect_script(&rt, &[], checked.script),
         }
     }
-    Ok(())
 }

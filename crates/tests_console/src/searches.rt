@@ -8,7 +8,6 @@ use keymap_core::{KeyMap, Lock, Modifier};
 use keymap_text::read_map;
 use std::alloc::Global;
 use std::process::Abort;
-use std::test::Fail;
 use test_support::keymaps::{
     ALT_LOCK_TO_NOTHING, ALT_SHIFT_WITH_TRAP, CAPS_ALONE, CAPS_LOCK_TO_NOTHING,
     REMEMBERED_BUT_HELD_BY_ANOTHER, SHIFT_WITH_TRAP, STICKS_UNDER_CAPS, WOULD_STICK_UNDER_CAPS,
@@ -36,7 +35,7 @@ fn expect_found(
     maps: (&KeyMap, &KeyMap),
     found: Sticking,
     wanted: Found,
-) -> Result<(), Fail> {
+) {
     match (found, wanted) {
         (Sticking::Never, None) => {}
         (Sticking::Sticks { events, modifiers }, Some((presses, count, modifier, locks))) => {
@@ -44,12 +43,11 @@ fn expect_found(
             let counts = (presses_among(events.as_slice()), events.len());
             expect_equal_at(rt, &modifier, &counts, &(presses, count));
             let mut console = PlainConsole::between(maps.0, maps.1);
-            let _answers = replay(alloc, &mut console, events.as_slice())?;
+            let _answers = replay(alloc, &mut console, events.as_slice()).expect(rt, "answers");
             expect_shown(rt, &console, &[modifier], locks, None);
         }
         (_, wanted) => expect_at(rt, &wanted, false),
     }
-    Ok(())
 }
 
 static ALONE: [(&[u8], Found); 7] = [
@@ -66,13 +64,12 @@ static ALONE: [(&[u8], Found); 7] = [
 ];
 
 #[test]
-fn a_modifier_sticks_where_its_key_can_look_up_a_character(rt: HostRuntime) -> Result<(), Fail> {
+fn a_modifier_sticks_where_its_key_can_look_up_a_character(rt: HostRuntime) {
     for &(text, wanted) in &ALONE {
-        let map = read_map(rt.alloc(), text)?;
-        let found = sticking(rt.alloc(), &map)?;
-        expect_found(&rt, rt.alloc(), (&map, &map), found, wanted)?;
+        let map = read_map(rt.alloc(), text).expect(&rt, "a map");
+        let found = sticking(rt.alloc(), &map).expect(&rt, "memory");
+        expect_found(&rt, rt.alloc(), (&map, &map), found, wanted);
     }
-    Ok(())
 }
 
 /// A lock that one keymap bears lets a modifier of the other stick, where that bears it too. Between a keymap and
@@ -100,12 +97,11 @@ static BETWEEN: [(&[u8], &[u8], Found); 7] = [
 ];
 
 #[test]
-fn a_lock_of_another_map_lets_a_modifier_stick(rt: HostRuntime) -> Result<(), Fail> {
+fn a_lock_of_another_map_lets_a_modifier_stick(rt: HostRuntime) {
     for &(first, second, wanted) in &BETWEEN {
-        let first = read_map(rt.alloc(), first)?;
-        let second = read_map(rt.alloc(), second)?;
-        let found = sticking_between(rt.alloc(), &first, &second)?;
-        expect_found(&rt, rt.alloc(), (&first, &second), found, wanted)?;
+        let first = read_map(rt.alloc(), first).expect(&rt, "a map");
+        let second = read_map(rt.alloc(), second).expect(&rt, "a map");
+        let found = sticking_between(rt.alloc(), &first, &second).expect(&rt, "memory");
+        expect_found(&rt, rt.alloc(), (&first, &second), found, wanted);
     }
-    Ok(())
 }

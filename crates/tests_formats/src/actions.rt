@@ -2,7 +2,7 @@
 
 use crate::asserts::{expect_at, expect_equal_at};
 use keymap_core::{Action, Named};
-use std::test::Fail;
+use std::process::Abort;
 
 /// The codes of the keymap's actions and their names, but for the screens and function keys between the first and last.
 static TABLE: [(u8, &[u8]); 44] = [
@@ -61,9 +61,9 @@ fn is_named(action: &Action, name: &[u8]) -> bool {
 }
 
 #[test]
-fn actions_have_the_codes_and_names_of_the_table(rt: HostRuntime) -> Result<(), Fail> {
+fn actions_have_the_codes_and_names_of_the_table(rt: HostRuntime) {
     for &(code, name) in &TABLE {
-        let action = Action::from_code(code).ok_or("a code without an action")?;
+        let action = Action::from_code(code).expect(&rt, "an action");
         expect_equal_at(&rt, &code, &action.code(), &code);
         expect_at(&rt, &code, is_named(&action, name));
         expect_equal_at(&rt, &code, &Action::named(name), &Named::Action(action));
@@ -71,7 +71,6 @@ fn actions_have_the_codes_and_names_of_the_table(rt: HostRuntime) -> Result<(), 
     for &code in &UNUSED {
         expect_equal_at(&rt, &code, &Action::from_code(code), &None);
     }
-    Ok(())
 }
 
 /// What a word names, by the code of an action.
@@ -114,19 +113,18 @@ static WORDS: [(&[u8], Naming); 25] = [
     (b"", Unknown),
 ];
 
-fn named(wanted: Naming) -> Result<Named, &'static str> {
+fn named(rt: &impl Abort, wanted: Naming) -> Named {
     match wanted {
-        Code(code) => Ok(Named::Action(Action::from_code(code).ok_or("a code without an action")?)),
-        Combined => Ok(Named::Combined),
-        OutOfRange => Ok(Named::OutOfRange),
-        Unknown => Ok(Named::Unknown),
+        Code(code) => Named::Action(Action::from_code(code).expect(rt, "an action")),
+        Combined => Named::Combined,
+        OutOfRange => Named::OutOfRange,
+        Unknown => Named::Unknown,
     }
 }
 
 #[test]
-fn words_name_actions_or_none(rt: HostRuntime) -> Result<(), Fail> {
+fn words_name_actions_or_none(rt: HostRuntime) {
     for &(word, wanted) in &WORDS {
-        expect_equal_at(&rt, &word, &Action::named(word), &named(wanted)?);
+        expect_equal_at(&rt, &word, &Action::named(word), &named(&rt, wanted));
     }
-    Ok(())
 }

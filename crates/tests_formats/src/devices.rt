@@ -6,7 +6,6 @@ use keymap_core::{KeyMap, Read, ReadFault, ReadFaultKind, Write, WriteFault};
 use keymap_tables::{NarrowError, TableError};
 use keymap_text::{TextError, TextFault, TextFaultKind, print_map, read_from, read_map};
 use std::alloc::Global;
-use std::test::Fail;
 use test_support::devices::{Tape, comparing_with, sheet_of, tape_of};
 use test_support::keymaps::{ACCENTS, LETTER_AND_SHIFT};
 
@@ -75,11 +74,11 @@ static WRITES: [(Format, &[u8]); 3] = [
 
 /// A writer that fails has just the first bytes.
 #[test]
-fn a_writer_that_fails_after_each_number_of_bytes_is_a_fault(rt: HostRuntime) -> Result<(), Fail> {
+fn a_writer_that_fails_after_each_number_of_bytes_is_a_fault(rt: HostRuntime) {
     for &(format, text) in &WRITES {
-        let map = read_map(rt.alloc(), text)?;
+        let map = read_map(rt.alloc(), text).expect(&rt, "a map");
         let mut whole = sheet_of(LENGTH);
-        write_as(format, &map, &mut whole)?;
+        write_as(format, &map, &mut whole).expect(&rt, "a writer");
         let wanted = whole.bytes.as_slice();
         for most in 0..wanted.len() {
             let mut writer = comparing_with(wanted, most);
@@ -91,7 +90,6 @@ fn a_writer_that_fails_after_each_number_of_bytes_is_a_fault(rt: HostRuntime) ->
             expect_at(&rt, &(format, most), is_front);
         }
     }
-    Ok(())
 }
 
 const LIMIT: usize = 1_048_576;
@@ -137,7 +135,7 @@ static LIMITED: [Limited; 9] = [
 
 /// A text is read to its limit or its first fault, and one byte is asked for behind the limit.
 #[test]
-fn a_text_is_read_to_its_limit(rt: HostRuntime) -> Result<(), Fail> {
+fn a_text_is_read_to_its_limit(rt: HostRuntime) {
     for &(text, size, pace, most, error, taken) in &LIMITED {
         let mut tape = tape_of(text, size, pace, most);
         let answer = read_from(rt.alloc(), &mut tape);
@@ -146,7 +144,7 @@ fn a_text_is_read_to_its_limit(rt: HostRuntime) -> Result<(), Fail> {
             Ok(map) => expect_at(
                 &rt,
                 &(size, pace),
-                is_map && map == read_map(rt.alloc(), text)?,
+                is_map && map == read_map(rt.alloc(), text).expect(&rt, "a map"),
             ),
             Err(given) => expect_equal_at(&rt, &(size, pace), &Some(given), &error),
         }
@@ -159,5 +157,4 @@ fn a_text_is_read_to_its_limit(rt: HostRuntime) -> Result<(), Fail> {
         expect_at(&rt, &(size, pace), is_left);
         expect_equal_at(&rt, &(size, pace), &tape.failed(), &(error == Some(FAILED)));
     }
-    Ok(())
 }

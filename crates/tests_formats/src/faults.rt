@@ -6,8 +6,8 @@ use keymap_text::TextFaultKind::{
     ZeroBase,
 };
 use keymap_text::{TextError, TextFault, TextFaultKind, read_map};
-use std::alloc::{AllocError, Global};
-use std::test::Fail;
+use std::alloc::Global;
+use std::process::Abort;
 
 /// An accent with as many pairs as one has at most.
 pub(crate) const FULL_ACCENT: &[u8] = b"dgra 96 \
@@ -196,25 +196,24 @@ fn wanted_fault(place: usize, token: usize, kind: TextFaultKind) -> TextError {
     })
 }
 
-fn joined(alloc: Global, place: &[u8], token: &[u8]) -> Result<Vec<u8>, AllocError> {
+fn joined(rt: &impl Abort, alloc: Global, place: &[u8], token: &[u8]) -> Vec<u8> {
     let mut text = Vec::new(alloc);
-    text.extend_from_slice(place)?;
-    text.extend_from_slice(token)?;
-    Ok(text)
+    text.extend_from_slice(place).expect(rt, "memory");
+    text.extend_from_slice(token).expect(rt, "memory");
+    text
 }
 
 #[test]
-fn each_kind_of_fault_is_found_at_each_place(rt: HostRuntime) -> Result<(), Fail> {
+fn each_kind_of_fault_is_found_at_each_place(rt: HostRuntime) {
     expect_equal(&rt, &FULL_ACCENT.len(), &632);
     for &(token, kinds) in &TOKENS {
         for (place, kind) in PLACES.iter().zip(kinds) {
-            let text = joined(rt.alloc(), place, token)?;
+            let text = joined(&rt, rt.alloc(), place, token);
             let fault = read_map(rt.alloc(), text.as_slice()).err();
             let wanted = kind.map(|kind| wanted_fault(place.len(), token.len(), kind));
             expect_equal_at(&rt, &(token, place), &fault, &wanted);
         }
     }
-    Ok(())
 }
 
 /// Texts, and the offset, line and kind of their fault.

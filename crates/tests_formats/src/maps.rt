@@ -2,13 +2,12 @@
 
 use crate::asserts::expect_equal;
 use keymap_core::{Accent, Action, BadAccent, Cell, Entry, KeyMap, LockFlag, PairFault};
-use std::test::Fail;
 
 #[test]
-fn an_accent_takes_52_pairs(rt: HostRuntime) -> Result<(), Fail> {
+fn an_accent_takes_52_pairs(rt: HostRuntime) {
     let mut accent = Accent::new('`');
     for _ in 0..52 {
-        accent.push_pair('a', '\u{e0}')?;
+        accent.push_pair('a', '\u{e0}').expect(&rt, "a pair");
     }
     expect_equal(&rt, &accent.push_pair('\0', 'a'), &Err(PairFault::ZeroBase));
     expect_equal(
@@ -18,23 +17,22 @@ fn an_accent_takes_52_pairs(rt: HostRuntime) -> Result<(), Fail> {
     );
     expect_equal(&rt, &accent.pairs().len(), &52);
     expect_equal(&rt, &accent.own(), &'`');
-    Ok(())
 }
 
 #[test]
-fn accents_end_at_14(rt: HostRuntime) -> Result<(), Fail> {
-    let mut map = KeyMap::new(rt.alloc())?;
-    map.set_accent(14, Accent::new('x'))?;
+fn accents_end_at_14(rt: HostRuntime) {
+    let mut map = KeyMap::new(rt.alloc()).expect(&rt, "memory");
+    map.set_accent(14, Accent::new('x'))
+        .expect(&rt, "an accent");
     expect_equal(&rt, &map.n_accs(), &15);
-    let before = map.try_clone(rt.alloc())?;
+    let before = map.try_clone(rt.alloc()).expect(&rt, "memory");
     expect_equal(&rt, &map.set_accent(15, Accent::new('y')), &Err(BadAccent));
     assert!(rt; map == before);
-    Ok(())
 }
 
 #[test]
-fn slots_end_at_255(rt: HostRuntime) -> Result<(), Fail> {
-    let mut map = KeyMap::new(rt.alloc())?;
+fn slots_end_at_255(rt: HostRuntime) {
+    let mut map = KeyMap::new(rt.alloc()).expect(&rt, "memory");
     let nops = Entry {
         cells: [Cell::Act(Action::Nop); 8],
         flag: LockFlag::O,
@@ -46,5 +44,4 @@ fn slots_end_at_255(rt: HostRuntime) -> Result<(), Fail> {
     expect_equal(&rt, &map.n_keys(), &256);
     expect_equal(&rt, map.entry(3), &nops);
     expect_equal(&rt, map.entry(4), &Entry::undefined());
-    Ok(())
 }

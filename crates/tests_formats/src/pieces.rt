@@ -10,9 +10,8 @@ use keymap_text::TextFaultKind::{
 use keymap_text::{MapReader, TextError, TextFaultKind, read_map};
 use rand_core::utils::NextWord;
 use rand_pcg::Pcg32;
-use std::alloc::{AllocError, Global};
+use std::alloc::Global;
 use std::process::Abort;
-use std::test::Fail;
 use test_support::keymaps::{ACCENTS, LETTER_AND_SHIFT, UPPER_HALF};
 
 /// How often the lines of a text stand in it: it has some 90,000 bytes.
@@ -48,15 +47,15 @@ static ENDS: [(&[u8], Option<TextFaultKind>); 14] = [
     (b"dgra 96 ( 'a' 'b' ) ( 0", Some(ZeroBase)),
 ];
 
-fn long_text(alloc: Global, end: &[u8]) -> Result<Vec<u8>, AllocError> {
+fn long_text(rt: &impl Abort, alloc: Global, end: &[u8]) -> Vec<u8> {
     let mut text = Vec::new(alloc);
     for _ in 0..TIMES {
         for lines in [SIGNS, LETTER_AND_SHIFT, ACCENTS, UPPER_HALF] {
-            text.extend_from_slice(lines)?;
+            text.extend_from_slice(lines).expect(rt, "memory");
         }
     }
-    text.extend_from_slice(end)?;
-    Ok(text)
+    text.extend_from_slice(end).expect(rt, "memory");
+    text
 }
 
 /// The size of a piece: any number up to twice what each has if all of them have the same.
@@ -108,10 +107,10 @@ fn agree(one: &Result<KeyMap, TextError>, other: Result<KeyMap, TextError>) -> b
 }
 
 #[test]
-fn a_text_in_thousands_of_pieces_is_read_as_the_whole_is(rt: HostRuntime) -> Result<(), Fail> {
+fn a_text_in_thousands_of_pieces_is_read_as_the_whole_is(rt: HostRuntime) {
     let mut random = Pcg32::new(42, 54);
     for &(end, kind) in &ENDS {
-        let text = long_text(rt.alloc(), end)?;
+        let text = long_text(&rt, rt.alloc(), end);
         let whole = read_map(rt.alloc(), text.as_slice());
         expect_equal_at(&rt, &end, &kind_of(&whole), &kind);
         for pieces in PIECES {
@@ -119,5 +118,4 @@ fn a_text_in_thousands_of_pieces_is_read_as_the_whole_is(rt: HostRuntime) -> Res
             expect_at(&rt, &(end, pieces), agree(&whole, answer));
         }
     }
-    Ok(())
 }

@@ -4,8 +4,8 @@ use crate::asserts::{expect_at, expect_equal, expect_equal_at};
 use crate::reading::DUMPED;
 use keymap_core::{ToStd, Write, WriteFault};
 use keymap_text::{print_map, read_map};
-use std::alloc::{AllocError, Global};
-use std::test::Fail;
+use std::alloc::Global;
+use std::process::Abort;
 use test_support::devices::slow_sheet_of;
 use test_support::keymaps;
 
@@ -177,7 +177,7 @@ dmac nul
 ];
 
 /// The printed form of the map.
-fn printed_form(alloc: Global, printed: &Printed) -> Result<Vec<u8>, AllocError> {
+fn printed_form(rt: &impl Abort, alloc: Global, printed: &Printed) -> Vec<u8> {
     let mut wanted = Vec::new(alloc);
     let mut lines = printed.lines.iter();
     let mut next = lines.next();
@@ -185,42 +185,48 @@ fn printed_form(alloc: Global, printed: &Printed) -> Result<Vec<u8>, AllocError>
         let slot = [slot / 100, slot / 10 % 10, slot % 10].map(|digit| b'0' + (digit % 10) as u8);
         match next {
             Some(line) if line.starts_with(&slot) => {
-                wanted.extend_from_slice(line)?;
+                wanted.extend_from_slice(line).expect(rt, "memory");
                 next = lines.next();
             }
             _ => {
-                wanted.extend_from_slice(&slot)?;
-                wanted.extend_from_slice(UNDEFINED)?;
+                wanted.extend_from_slice(&slot).expect(rt, "memory");
+                wanted.extend_from_slice(UNDEFINED).expect(rt, "memory");
             }
         }
-        wanted.push(b'\n')?;
+        wanted.push(b'\n').expect(rt, "memory");
     }
-    wanted.extend_from_slice(printed.accents)?;
-    Ok(wanted)
+    wanted
+        .extend_from_slice(printed.accents)
+        .expect(rt, "memory");
+    wanted
 }
 
 #[test]
-fn maps_are_printed_and_read_again(rt: HostRuntime) -> Result<(), Fail> {
+fn maps_are_printed_and_read_again(rt: HostRuntime) {
     for printed in &MAPS {
-        let map = read_map(rt.alloc(), printed.text)?;
+        let map = read_map(rt.alloc(), printed.text).expect(&rt, "a map");
         let mut page = slow_sheet_of(7, usize::MAX);
-        print_map(&map, &mut page)?;
-        let wanted = printed_form(rt.alloc(), printed)?;
+        print_map(&map, &mut page).expect(&rt, "a writer");
+        let wanted = printed_form(&rt, rt.alloc(), printed);
         let bytes = page.bytes.as_slice();
         expect_equal_at(&rt, &printed.text, &bytes, &wanted.as_slice());
-        expect_at(&rt, &printed.text, read_map(rt.alloc(), bytes)? == map);
+        expect_at(
+            &rt,
+            &printed.text,
+            read_map(rt.alloc(), bytes).expect(&rt, "a map") == map,
+        );
     }
-    Ok(())
 }
 
 #[test]
-fn a_full_writer_is_a_fault(rt: HostRuntime) -> Result<(), Fail> {
-    let map = read_map(rt.alloc(), b"0 'a' 'A' SOH soh fkey1 scr16 0x20ac DEL b")?;
+fn a_full_writer_is_a_fault(rt: HostRuntime) {
+    let map = read_map(rt.alloc(), b"0 'a' 'A' SOH soh fkey1 scr16 0x20ac DEL b").expect(
+        &rt, "a map",
+    );
     let mut page = [0u8; 10];
     let mut writer = ToStd::new(page.as_mut_slice());
     let answer = print_map(&map, &mut writer);
     assert!(rt; writer.failed());
     expect_equal(&rt, &answer, &Err(WriteFault { written: 10 }));
     expect_equal(&rt, &page.as_slice(), &b"000 'a'   ".as_slice());
-    Ok(())
 }

@@ -7,7 +7,6 @@ use keymap_text::TextFaultKind::{BadLiteral, BadWord, EndInside, KeyTooLarge, Un
 use keymap_text::{MapReader, TextError, TextFault, TextFaultKind, print_map, read_map};
 use std::alloc::Global;
 use std::process::Abort;
-use std::test::Fail;
 use test_support::keymaps::{ACCENTS, LETTER_AND_SHIFT, UPPER_HALF};
 
 /// Whether the answer is the map.
@@ -19,15 +18,14 @@ pub(crate) fn is_map<E: Drop>(answer: Result<KeyMap, E>, map: &KeyMap) -> bool {
 }
 
 #[test]
-fn the_empty_text_is_the_map_of_no_keys(rt: HostRuntime) -> Result<(), Fail> {
-    let map = read_map(rt.alloc(), b"")?;
+fn the_empty_text_is_the_map_of_no_keys(rt: HostRuntime) {
+    let map = read_map(rt.alloc(), b"").expect(&rt, "a map");
     expect_equal(&rt, &(map.n_keys(), map.n_accs()), &(0, 0));
-    assert!(rt; map == KeyMap::new(rt.alloc())?);
-    assert!(rt; map == map.try_clone(rt.alloc())?);
+    assert!(rt; map == KeyMap::new(rt.alloc()).expect(&rt, "memory"));
+    assert!(rt; map == map.try_clone(rt.alloc()).expect(&rt, "memory"));
     let mut page = [b'x'; 1];
-    print_map(&map, &mut ToStd::new(page.as_mut_slice()))?;
+    print_map(&map, &mut ToStd::new(page.as_mut_slice())).expect(&rt, "a writer");
     expect_equal(&rt, &page, &[b'x']);
-    Ok(())
 }
 
 /// A line of the layout that kbdcontrol(1) dumps, with its header.
@@ -172,9 +170,9 @@ fn cell(typed: Typed) -> Option<Cell> {
 }
 
 #[test]
-fn keys_are_read(rt: HostRuntime) -> Result<(), Fail> {
+fn keys_are_read(rt: HostRuntime) {
     for &(text, n_keys, slot, cells, flag) in &KEYS {
-        let map = read_map(rt.alloc(), text)?;
+        let map = read_map(rt.alloc(), text).expect(&rt, "a map");
         expect_equal_at(&rt, &text, &map.n_keys(), &n_keys);
         let entry = map.entry(slot);
         for (given, typed) in entry.cells.iter().zip(cells) {
@@ -182,7 +180,6 @@ fn keys_are_read(rt: HostRuntime) -> Result<(), Fail> {
         }
         expect_equal_at(&rt, &(text, slot), &entry.flag, &flag);
     }
-    Ok(())
 }
 
 /// A text, how many accents its map has, an accent, its own character and its pairs.
@@ -207,14 +204,13 @@ fn parts(accent: Option<&Accent>) -> Option<(char, &[(char, char)])> {
 }
 
 #[test]
-fn accents_are_read(rt: HostRuntime) -> Result<(), Fail> {
+fn accents_are_read(rt: HostRuntime) {
     for &(text, n_accs, index, own, pairs) in &ACCENTS_READ {
-        let map = read_map(rt.alloc(), text)?;
+        let map = read_map(rt.alloc(), text).expect(&rt, "a map");
         expect_equal_at(&rt, &text, &map.n_accs(), &n_accs);
         let accent = parts(map.accent(index));
         expect_equal_at(&rt, &text, &accent, &Some((own, pairs)));
     }
-    Ok(())
 }
 
 /// Pieces, the offset and kind of the fault, and whether it comes before the end.
@@ -243,14 +239,14 @@ static FEEDINGS: [Feeding; 8] = [
 
 /// Words are judged when they are complete, and what was answered stays the answer.
 #[test]
-fn faults_in_pieces_are_answered_in_time(rt: HostRuntime) -> Result<(), Fail> {
+fn faults_in_pieces_are_answered_in_time(rt: HostRuntime) {
     for &(pieces, offset, kind, early) in &FEEDINGS {
         let wanted = TextFault {
             offset,
             line: 1,
             kind,
         };
-        let mut reader = MapReader::new(rt.alloc())?;
+        let mut reader = MapReader::new(rt.alloc()).expect(&rt, "memory");
         let mut answer = Ok(());
         for piece in pieces {
             assert!(rt; answer.is_ok() && reader.fed() <= 99 && piece.len() <= 99);
@@ -265,7 +261,6 @@ fn faults_in_pieces_are_answered_in_time(rt: HostRuntime) -> Result<(), Fail> {
         }
         expect_equal_at(&rt, &pieces, &reader.finish().err(), &Some(wanted));
     }
-    Ok(())
 }
 
 /// The map or fault of a text that is fed byte by byte.

@@ -6,7 +6,7 @@ use keymap_core::{FromStd, KeyMap, Read};
 use keymap_tables::{TableError, TableFault, TableFaultKind};
 use keymap_text::read_map;
 use std::alloc::Global;
-use std::test::Fail;
+use std::process::Abort;
 use test_support::devices::endless_tape_of;
 use test_support::keymaps::LETTER_AND_SHIFT;
 
@@ -190,10 +190,10 @@ static FAULTY: [Faulty; 29] = [
 
 /// Read from memory and from a device.
 #[test]
-fn each_fault_is_at_its_offset(rt: HostRuntime) -> Result<(), Fail> {
+fn each_fault_is_at_its_offset(rt: HostRuntime) {
     for &(form, count, changes, offset, kind) in &FAULTY {
-        let zeros = ZEROS.get(..count).ok_or("too few zeros")?;
-        let mut bytes = zeros.to_vec(rt.alloc())?;
+        let zeros = ZEROS.get(..count).expect(&rt, "zeros");
+        let mut bytes = zeros.to_vec(rt.alloc()).expect(&rt, "memory");
         for &(place, byte) in changes {
             if let Some(changed) = bytes.get_mut(place) {
                 *changed = byte;
@@ -205,14 +205,13 @@ fn each_fault_is_at_its_offset(rt: HostRuntime) -> Result<(), Fail> {
         let answer = form.read_from(rt.alloc(), &mut FromStd::new(bytes.as_slice()));
         expect_equal_at(&rt, &(form, changes), &fault_of(answer), &wanted);
     }
-    Ok(())
 }
 
 #[test]
-fn each_proper_prefix_is_short(rt: HostRuntime) -> Result<(), Fail> {
-    let map = read_map(rt.alloc(), LETTER_AND_SHIFT)?;
+fn each_proper_prefix_is_short(rt: HostRuntime) {
+    let map = read_map(rt.alloc(), LETTER_AND_SHIFT).expect(&rt, "a map");
     for &form in &FORMS {
-        let sheet = file_of(form, &map)?;
+        let sheet = file_of(&rt, form, &map);
         for length in 0..form.length() {
             let prefix = sheet.bytes.as_slice().get(..length).unwrap_or(b"");
             let wanted = TableFault {
@@ -223,7 +222,6 @@ fn each_proper_prefix_is_short(rt: HostRuntime) -> Result<(), Fail> {
             expect_equal_at(&rt, &(form, length), &fault, &Some(wanted));
         }
     }
-    Ok(())
 }
 
 /// Of zero bytes, which are a map as far as they go. It is left after one byte more than a file has.
@@ -242,30 +240,31 @@ fn a_reader_without_end_is_left(rt: HostRuntime) {
 }
 
 /// A fault, or a map whose image the bytes are.
-fn is_read_exactly(alloc: Global, form: Form, bytes: &[u8]) -> bool {
+fn is_read_exactly(rt: &impl Abort, alloc: Global, form: Form, bytes: &[u8]) -> bool {
     match form.read(alloc, bytes) {
         Err(TableError::Fault(_)) => true,
         Err(_) => false,
-        Ok(map) => match file_of(form, &map) {
-            Ok(sheet) => sheet.bytes.as_slice() == bytes,
-            Err(_) => false,
-        },
+        Ok(map) => file_of(rt, form, &map).bytes.as_slice() == bytes,
     }
 }
 
 /// Each byte in turn plus one, and with its top bit turned.
 #[test]
-fn each_changed_byte_is_a_fault_or_another_map(rt: HostRuntime) -> Result<(), Fail> {
-    let sheet = file_of(Form::Wide, &read_map(rt.alloc(), LETTER_AND_SHIFT)?)?;
-    let mut bytes = sheet.bytes.as_slice().to_vec(rt.alloc())?;
+fn each_changed_byte_is_a_fault_or_another_map(rt: HostRuntime) {
+    let map = read_map(rt.alloc(), LETTER_AND_SHIFT).expect(&rt, "a map");
+    let sheet = file_of(&rt, Form::Wide, &map);
+    let mut bytes = sheet
+        .bytes
+        .as_slice()
+        .to_vec(rt.alloc())
+        .expect(&rt, "memory");
     for (place, &byte) in sheet.bytes.as_slice().iter().enumerate() {
         for changed in [byte.wrapping_add(1), byte ^ 0x80, byte] {
             if let Some(there) = bytes.get_mut(place) {
                 *there = changed;
             }
-            let is_exact = changed == byte || is_read_exactly(rt.alloc(), Form::Wide, &bytes);
+            let is_exact = changed == byte || is_read_exactly(&rt, rt.alloc(), Form::Wide, &bytes);
             expect_at(&rt, &(place, changed), is_exact);
         }
     }
-    Ok(())
 }

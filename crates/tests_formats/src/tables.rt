@@ -10,7 +10,6 @@ use keymap_tables::{
 use keymap_text::read_map;
 use std::alloc::Global;
 use std::process::Abort;
-use std::test::Fail;
 use test_support::devices::{Sheet, sheet_of};
 use test_support::keymaps::{
     ACCENTS, ALT_SHIFT_WITH_TRAP, CAPS_AND_NUM, LETTER_AND_SHIFT, SHIFT_AND_CAPS, SHIFT_WITH_TRAP,
@@ -67,10 +66,10 @@ impl Form {
 }
 
 /// The file of a keymap.
-pub(crate) fn file_of(form: Form, map: &KeyMap) -> Result<Sheet, NarrowError> {
+pub(crate) fn file_of(rt: &impl Abort, form: Form, map: &KeyMap) -> Sheet {
     let mut sheet = sheet_of(LENGTH);
-    form.write(map, &mut sheet)?;
-    Ok(sheet)
+    form.write(map, &mut sheet).expect(rt, "a writer");
+    sheet
 }
 
 /// A text, the bytes of its file at some places, and how many of all are not 0.
@@ -180,16 +179,15 @@ fn expect_read(rt: &impl Abort, alloc: Global, row: (Form, &[u8]), bytes: &[u8],
 }
 
 #[test]
-fn files_have_their_bytes(rt: HostRuntime) -> Result<(), Fail> {
+fn files_have_their_bytes(rt: HostRuntime) {
     for &(form, text, places, used) in &FILES {
-        let map = read_map(rt.alloc(), text)?;
-        let sheet = file_of(form, &map)?;
+        let map = read_map(rt.alloc(), text).expect(&rt, "a map");
+        let sheet = file_of(&rt, form, &map);
         let bytes = sheet.bytes.as_slice();
         expect_bytes(&rt, (form, text), bytes, places, used);
         expect_at(&rt, &(form, text), sheet.writes <= most_writes(form));
         expect_read(&rt, rt.alloc(), (form, text), bytes, &map);
     }
-    Ok(())
 }
 
 /// A text, and the first place of its keymap that a narrow file can't hold.
@@ -234,15 +232,14 @@ static TOO_WIDE: [(&[u8], Wide); 6] = [
 ];
 
 #[test]
-fn the_first_place_that_does_not_fit_is_named(rt: HostRuntime) -> Result<(), Fail> {
+fn the_first_place_that_does_not_fit_is_named(rt: HostRuntime) {
     for &(text, wide) in &TOO_WIDE {
-        let map = read_map(rt.alloc(), text)?;
+        let map = read_map(rt.alloc(), text).expect(&rt, "a map");
         let mut sheet = sheet_of(LENGTH);
         let answer = write_narrow(&map, &mut sheet);
         expect_equal_at(&rt, &text, &answer, &Err(NarrowError::TooWide(wide)));
         assert!(rt; sheet.bytes.is_empty() && sheet.writes == 0 && !sheet.failed());
     }
-    Ok(())
 }
 
 /// Old files become narrow ones and come back.
@@ -260,29 +257,28 @@ static MIGRATED: [&[u8]; 10] = [
 ];
 
 #[test]
-fn wide_files_become_narrow_and_come_back(rt: HostRuntime) -> Result<(), Fail> {
+fn wide_files_become_narrow_and_come_back(rt: HostRuntime) {
     for &text in &MIGRATED {
-        let old = file_of(Form::Wide, &read_map(rt.alloc(), text)?)?;
-        let map = read_tables(rt.alloc(), old.bytes.as_slice())?;
-        let narrow = file_of(Form::Narrow, &map)?;
-        let back = read_narrow(rt.alloc(), narrow.bytes.as_slice())?;
-        let new = file_of(Form::Wide, &back)?;
+        let map = read_map(rt.alloc(), text).expect(&rt, "a map");
+        let old = file_of(&rt, Form::Wide, &map);
+        let map = read_tables(rt.alloc(), old.bytes.as_slice()).expect(&rt, "a map");
+        let narrow = file_of(&rt, Form::Narrow, &map);
+        let back = read_narrow(rt.alloc(), narrow.bytes.as_slice()).expect(&rt, "a map");
+        let new = file_of(&rt, Form::Wide, &back);
         expect_equal_at(&rt, &text, &narrow.bytes.len(), &NARROW_LENGTH);
         expect_at(&rt, &text, new.bytes.as_slice() == old.bytes.as_slice());
     }
-    Ok(())
 }
 
 /// Tables in place, of bytes that are no file: what the contracts leave open.
 #[test]
-fn what_is_no_cell_reads_as_character_0(rt: HostRuntime) -> Result<(), Fail> {
+fn what_is_no_cell_reads_as_character_0(rt: HostRuntime) {
     let bytes = [0xff; LENGTH];
-    let tables = Tables::new(&bytes).ok_or("no tables")?;
+    let tables = Tables::new(&bytes).expect(&rt, "tables");
     expect_equal(&rt, &tables.cell(0, 0), &Cell::Char('\0'));
     expect_equal(&rt, &tables.cell(255, 7), &Cell::Char('\0'));
     expect_equal(&rt, &tables.flag(255), &LockFlag::O);
     expect_equal(&rt, &tables.own(14), &None);
     expect_equal(&rt, &tables.own(15), &None);
     expect_equal(&rt, &tables.composed(0, 'a'), &None);
-    Ok(())
 }

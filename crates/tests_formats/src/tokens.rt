@@ -5,7 +5,6 @@ use keymap_core::{Action, LockFlag};
 use keymap_text::TextFaultKind::{BadByte, BadLiteral, BadWord, EndInside};
 use keymap_text::{Meaning, Span, TextFaultKind, Token, TokenKind, next_token, word_meaning};
 use std::process::Abort;
-use std::test::Fail;
 
 /// A text, a place, and the first token from there, where it begins and ends, or none.
 static TOKENS: [(&[u8], usize, Option<(TokenKind, usize, usize)>); 21] = [
@@ -51,15 +50,16 @@ fn placed(token: Option<Token<'_>>) -> Option<(TokenKind, usize, usize)> {
 }
 
 #[test]
-fn first_tokens_are_found(rt: HostRuntime) -> Result<(), Fail> {
+fn first_tokens_are_found(rt: HostRuntime) {
     for &(text, from, wanted) in &TOKENS {
-        let token = next_token(text, from)?;
+        let token = next_token(text, from).expect(&rt, "no fault");
         expect_equal_at(&rt, &text, &placed(token), &wanted);
     }
-    let token = next_token(b"abc", 1)?.ok_or("no token")?;
+    let token = next_token(b"abc", 1)
+        .expect(&rt, "no fault")
+        .expect(&rt, "a token");
     expect_equal(&rt, &token.slice, &b"bc".as_slice());
     expect_equal(&rt, &token.span, &Span { start: 1, end: 3 });
-    Ok(())
 }
 
 /// A text, a place, and the fault of the first token from there, with its offset and line.
@@ -90,9 +90,9 @@ static BROKEN: [(&[u8], usize, TextFaultKind, u64, u64); 23] = [
 ];
 
 #[test]
-fn broken_tokens_are_refused(rt: HostRuntime) -> Result<(), Fail> {
+fn broken_tokens_are_refused(rt: HostRuntime) {
     for &(text, from, kind, offset, line) in &BROKEN {
-        let fault = next_token(text, from).err().ok_or("no fault")?;
+        let fault = next_token(text, from).err().expect(&rt, "a fault");
         expect_equal_at(
             &rt,
             &text,
@@ -100,7 +100,6 @@ fn broken_tokens_are_refused(rt: HostRuntime) -> Result<(), Fail> {
             &(kind, offset, line),
         );
     }
-    Ok(())
 }
 
 /// The names of the characters 0 to 31.

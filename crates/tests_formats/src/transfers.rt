@@ -2,27 +2,25 @@
 
 use crate::asserts::{expect_equal, expect_equal_at};
 use keymap_core::{FromStd, Read, Stream, ToStd, Write, WriteFault, read_up_to, write_text};
-use std::test::Fail;
 use test_support::devices::{Sheet, reader_of, sheet_of};
 
 /// A limit, what is read of five bytes up to it, and how many reads that takes at most, a byte each.
 static LIMITS: [(usize, &[u8], u32); 2] = [(3, b"123", 4), (7, b"12345", 8)];
 
 #[test]
-fn reads_end_at_the_limit(rt: HostRuntime) -> Result<(), Fail> {
+fn reads_end_at_the_limit(rt: HostRuntime) {
     for &(limit, wanted, most_reads) in &LIMITS {
         let mut reader = reader_of(b"12345", 1, 9);
-        let bytes = read_up_to(rt.alloc(), &mut reader, limit)?;
+        let bytes = read_up_to(rt.alloc(), &mut reader, limit).expect(&rt, "bytes");
         expect_equal_at(&rt, &limit, &bytes.as_slice(), &wanted);
         assert!(rt; reader.reads <= most_reads && !reader.failed());
     }
-    Ok(())
 }
 
 #[test]
-fn readers_and_writers_of_std_are_devices(rt: HostRuntime) -> Result<(), Fail> {
+fn readers_and_writers_of_std_are_devices(rt: HostRuntime) {
     let mut reader = FromStd::new(b"12345".as_slice());
-    let bytes = read_up_to(rt.alloc(), &mut reader, 3)?;
+    let bytes = read_up_to(rt.alloc(), &mut reader, 3).expect(&rt, "bytes");
     expect_equal(&rt, &bytes.as_slice(), &b"123".as_slice());
     assert!(rt; !reader.failed());
     let mut room = [0u8; 4];
@@ -33,7 +31,6 @@ fn readers_and_writers_of_std_are_devices(rt: HostRuntime) -> Result<(), Fail> {
         &Err(WriteFault { written: 4 }),
     );
     assert!(rt; writer.failed());
-    Ok(())
 }
 
 /// Five pieces of 1,000 bytes: four wait in the buffer when the fifth comes.

@@ -4,7 +4,7 @@ ghost use Rattle.console_states.specs.declared.selection.Sight.{Sight as SightVa
 ghost use Rattle.console_core.specs.History.{between};
 ghost use Rattle.console_states.specs.Sights.{AreSightsOf, IsReachable};
 ghost use Rattle.console_states.specs.Visiting.{CanVisit};
-ghost use Rattle.keymap_cover.specs.Covering.{Covers, IsVerdict, verdict_of, IsCover};
+ghost use Rattle.keymap_cover.specs.Covering.{IsCover};
 ghost use Rattle.keymap_cover.specs.Inner.Scripts.{EndsAtRest, GoesFurther, GoesUnderWay, IsExplorerFor};
 ghost use Rattle.keymap_cover.specs.Inner.Scripts.{SeesAll, ShowsInParts, ShowsTold};
 ghost use Rattle.keymap_cover.specs.SeenSights.{has_seen};
@@ -13,33 +13,17 @@ ghost use Rattle.keymap_cover.specs.declared.parts.Start.{Start as StartValue};
 ghost use Rattle.keymap_cover.specs.Parts.{AreParts, part_place};
 ghost use Rattle.keymap_cover.specs.Inner.Adding.{ArePartsBelow, StandBehind};
 
-use crate::families::trials;
 use crate::one_way::go_onward;
-use crate::parts::{Cover, Part, Start, Verdict};
+use crate::parts::{Cover, Part, Start};
 use crate::script::Script;
 use crate::scroll::turn_scroll_off;
 use crate::seen::Seen;
 use crate::told::{told_of_keys, told_pairs};
+use crate::trials::trial_events;
 use console_core::{PlainConsole, Translator};
 use console_states::{Explorer, Selection, Sight, Sights, sights_of};
 use keymap_core::{KEY_COUNT, KeyCode, KeyMap, key_with};
 use std::alloc::{AllocError, Global};
-
-impl Cover {
-    /// What is told of a sight: seen, left out, or never seen.
-    pub fn verdict(&self, map: &KeyMap, sight: Sight) -> Verdict
-        ensures told { Covers map.now self.now → IsVerdict map.now self.now sight result }
-        ensures value { result ≡ verdict_of map.now self.now sight }
-    {
-        if self.seen.has(sight) {
-            Verdict::Seen
-        } else if self.sights.can_see(map, sight) {
-            Verdict::LeftOut
-        } else {
-            Verdict::Never
-        }
-    }
-}
 
 /// Whether the sight is left out: it can be seen, and wasn't.
 pub(crate) fn is_left_out(seen: &Seen, sights: &Sights, map: &KeyMap, sight: Sight) -> bool
@@ -209,7 +193,7 @@ fn try_keys<T: Translator>(
 {
     let home = explorer.events_home(alloc, &*console)?;
     script.walk(console, map, &home)?;
-    let trials = trials(alloc, map, explorer)?;
+    let trials = trial_events(alloc, map, explorer)?;
     script.walk(console, map, &trials)?;
     turn_scroll_off(alloc, script, console, map)
 }

@@ -1,4 +1,5 @@
 //! What cells do, as far as trials tell it apart.
+use console_core::is_usable;
 use keymap_core::{Action, Cell, KeyMap};
 
 /// What a cell does.
@@ -17,11 +18,6 @@ pub(crate) enum Kind {
     Paste,
     /// An action that ends a pending accent and is answered.
     Other,
-}
-
-/// Whether the accent has a character.
-pub(crate) fn is_usable(map: &KeyMap, accent: u8) -> bool {
-    map.accent_or_blank(accent).own() != '\0'
 }
 
 impl Kind {

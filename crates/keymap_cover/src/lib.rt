@@ -16,9 +16,7 @@
 //! can be visited, and before one behind that of pairs all pairs.
 #![tactic(auto)]
 
-mod counts;
 mod cover;
-mod families;
 mod idle_keys;
 mod kind;
 pub mod laws;
@@ -33,6 +31,7 @@ mod seen;
 mod sight_lists;
 mod told;
 mod trials;
+mod tried;
 mod walk;
 
 pub use cover::cover_of;

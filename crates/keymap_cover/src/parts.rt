@@ -1,7 +1,11 @@
 //! What is told of a keymap.
+ghost use Rattle.std.specs.Prelude.{◌≡◌};
+ghost use Rattle.keymap_cover.specs.Covering.{Covers, IsVerdict, verdict_of, counts_of};
+
 use crate::script_event::ScriptEvent;
 use crate::seen::Seen;
-use console_states::Sights;
+use console_states::{Sight, Sights};
+use keymap_core::KeyMap;
 
 /// A script, what it sees and what can be seen.
 #[derive(Drop)]
@@ -51,4 +55,39 @@ pub enum Part {
 pub struct Start {
     pub part: Part,
     pub at: usize,
+}
+
+impl Cover {
+    /// What is told of a sight: seen, left out, or never seen.
+    pub fn verdict(&self, map: &KeyMap, sight: Sight) -> Verdict
+        ensures told { Covers map.now self.now → IsVerdict map.now self.now sight result }
+        ensures value { result ≡ verdict_of map.now self.now sight }
+    {
+        if self.seen.has(sight) {
+            Verdict::Seen
+        } else if self.sights.can_see(map, sight) {
+            Verdict::LeftOut
+        } else {
+            Verdict::Never
+        }
+    }
+
+    /// How many of the sights are seen, left out, and never seen.
+    pub fn count(&self, map: &KeyMap, sights: &[Sight]) -> Counts
+        ensures { result ≡ counts_of (verdict_of map.now self.now) sights.now }
+    {
+        let mut counts = Counts {
+            seen: 0,
+            left_out: 0,
+            rest: 0,
+        };
+        for sight in sights {
+            match self.verdict(map, *sight) {
+                Verdict::Seen => counts.seen += 1,
+                Verdict::LeftOut => counts.left_out += 1,
+                Verdict::Never => counts.rest += 1,
+            }
+        }
+        counts
+    }
 }

@@ -1,21 +1,118 @@
-//! The events of trials while they are made, and a console that runs along.
+//! Trials of what keys do to each other, in five families.
 use crate::idle_keys::IdleKeys;
-use console_core::{Event, Translator, is_any_on};
+use crate::kind::Kind;
+use crate::probes::probes;
+use crate::tried::{are_tried, cell_with, is_between, rest_cell};
+use console_core::{Event, PlainConsole, Translator, is_any_on, is_usable};
 use console_states::{Explorer, KeyAt};
-use keymap_core::{KeyCode, KeyMap};
+use keymap_core::{
+    ACCENT_LIMIT, AccentIndex, Action, Cell, HOLDINGS, Holding, KEY_COUNT, KeyCode, KeyMap, Lock,
+    MODIFIERS, Modifier, key_with,
+};
 use std::alloc::{AllocError, Global};
+
+/// How many keys are pressed at once.
+const MANY: usize = 16;
+
+/// A step of a trial with two keys.
+#[derive(Clone, Copy)]
+enum Step {
+    PressFirst,
+    ReleaseFirst,
+    PressSecond,
+    ReleaseSecond,
+    Reset,
+    /// Taps the probes.
+    Ask,
+}
+
+/// A tap of the first key.
+const TAPPED: [Step; 2] = [Step::PressFirst, Step::ReleaseFirst];
+
+/// A tap of the first key, and a reset.
+const TAPPED_AND_RESET: [Step; 3] = [Step::PressFirst, Step::ReleaseFirst, Step::Reset];
+
+/// The first key is pressed, repeated, and reset while it is pressed.
+const REPEATED_AND_RESET: [Step; 5] = [
+    Step::PressFirst,
+    Step::PressFirst,
+    Step::Ask,
+    Step::Reset,
+    Step::ReleaseFirst,
+];
+
+/// The first key is released while the second one is pressed, and the second one is pressed once more.
+const OVERLAPPING: [Step; 6] = [
+    Step::PressFirst,
+    Step::PressSecond,
+    Step::Ask,
+    Step::ReleaseFirst,
+    Step::PressSecond,
+    Step::ReleaseSecond,
+];
+
+/// The first key is pressed before the second one, repeated and released while that is pressed, and then pressed while
+/// it is pressed, and repeated and released behind it.
+const ACROSS: [Step; 10] = [
+    Step::PressFirst,
+    Step::PressSecond,
+    Step::PressFirst,
+    Step::ReleaseFirst,
+    Step::ReleaseSecond,
+    Step::PressSecond,
+    Step::PressFirst,
+    Step::ReleaseSecond,
+    Step::PressFirst,
+    Step::ReleaseFirst,
+];
 
 /// The events so far, of which each trial begins with no key pressed, no modifier on and no accent pending, and with no
 /// lock on that picks cells, where moves turn them off again.
 #[derive(Drop)]
-pub(crate) struct Trials<'t, 'm, T: Translator> {
-    pub(crate) alloc: Global,
-    pub(crate) map: &'m KeyMap,
-    pub(crate) explorer: &'t Explorer<'m>,
-    pub(crate) idle: &'t IdleKeys,
-    pub(crate) probes: &'t [KeyCode],
-    pub(crate) console: &'t mut T,
-    pub(crate) events: Vec<Event>,
+struct Trials<'t, 'm, T: Translator> {
+    alloc: Global,
+    map: &'m KeyMap,
+    explorer: &'t Explorer<'m>,
+    idle: &'t IdleKeys,
+    probes: &'t [KeyCode],
+    console: &'t mut T,
+    events: Vec<Event>,
+}
+
+/// The events of all trials, for a console that is as a new one but for the scroll lock.
+pub(crate) fn trial_events<'m>(
+    alloc: Global,
+    map: &'m KeyMap,
+    explorer: &Explorer<'m>,
+) -> Result<Vec<Event>, AllocError> {
+    let mut console = PlainConsole::new(map);
+    trials_along(alloc, map, explorer, &mut console)
+}
+
+/// The events of all trials, while the console runs along.
+fn trials_along<'t, 'm, T: Translator>(
+    alloc: Global,
+    map: &'m KeyMap,
+    explorer: &'t Explorer<'m>,
+    console: &'t mut T,
+) -> Result<Vec<Event>, AllocError> {
+    let idle = IdleKeys::of(alloc, map, explorer)?;
+    let probes = probes(alloc, map, &idle.selections)?;
+    let mut trials = Trials {
+        alloc,
+        map,
+        explorer,
+        idle: &idle,
+        probes: &probes,
+        console,
+        events: Vec::new(alloc),
+    };
+    trials.together()?;
+    trials.alone()?;
+    trials.across()?;
+    trials.between()?;
+    trials.many()?;
+    Ok(trials.events)
 }
 
 impl<'t, 'm, T: Translator> Trials<'t, 'm, T> {
@@ -45,22 +142,16 @@ impl<'t, 'm, T: Translator> Trials<'t, 'm, T> {
         Ok(())
     }
 
-    /// Makes the steps: `a` presses the first key and `A` releases it, `b` and `B` the second one, `!` resets, and `?`
-    /// taps the probes.
-    pub(crate) fn play(
-        &mut self,
-        steps: &'static [u8],
-        first: KeyCode,
-        second: KeyCode,
-    ) -> Result<(), AllocError> {
+    /// Makes the steps with two keys.
+    fn play(&mut self, steps: &[Step], first: KeyCode, second: KeyCode) -> Result<(), AllocError> {
         for step in steps {
             match *step {
-                b'a' => self.deliver(&Event::Press(first))?,
-                b'A' => self.deliver(&Event::Release(first))?,
-                b'b' => self.deliver(&Event::Press(second))?,
-                b'B' => self.deliver(&Event::Release(second))?,
-                b'!' => self.deliver(&Event::Reset)?,
-                _ => self.ask()?,
+                Step::PressFirst => self.deliver(&Event::Press(first))?,
+                Step::ReleaseFirst => self.deliver(&Event::Release(first))?,
+                Step::PressSecond => self.deliver(&Event::Press(second))?,
+                Step::ReleaseSecond => self.deliver(&Event::Release(second))?,
+                Step::Reset => self.deliver(&Event::Reset)?,
+                Step::Ask => self.ask()?,
             }
         }
         Ok(())
@@ -73,7 +164,7 @@ impl<'t, 'm, T: Translator> Trials<'t, 'm, T> {
     }
 
     /// Goes to the place of the key, makes the steps with it, and comes back.
-    pub(crate) fn play_at(&mut self, steps: &'static [u8], at: KeyAt) -> Result<(), AllocError> {
+    fn play_at(&mut self, steps: &[Step], at: KeyAt) -> Result<(), AllocError> {
         let path = self.explorer.events_to(self.alloc, at.place)?;
         self.deliver_all(&path)?;
         self.play(steps, at.key, at.key)?;
@@ -85,10 +176,181 @@ impl<'t, 'm, T: Translator> Trials<'t, 'm, T> {
     }
 
     /// Ends a trial, behind which no key is pressed.
-    pub(crate) fn end(&mut self) -> Result<(), AllocError> {
+    fn end(&mut self) -> Result<(), AllocError> {
         if is_any_on(&*self.console) || self.console.pending().is_some() {
             self.deliver(&Event::Reset)?;
         }
         self.turn_locks_off()
+    }
+
+    /// The least key that is the action where nothing is on, but for this key.
+    fn bearer(&self, holding: Holding, other: Option<KeyCode>) -> Option<KeyCode> {
+        for code in 0..KEY_COUNT as u8 {
+            let key = key_with(code);
+            if rest_cell(self.map, key) == Cell::Act(holding.action()) && Some(key) != other {
+                return Some(key);
+            }
+        }
+        None
+    }
+
+    /// Whether the cell can be taken back: it is no lock that picks cells, or moves turn it off again.
+    fn is_taken_back(&self, cell: &Cell) -> bool {
+        match cell {
+            Cell::Act(Action::Lock(lock)) => self.explorer.takes_back(*lock),
+            _ => true,
+        }
+    }
+
+    /// A key of the one and another key of the other: the first is released while the second is pressed, and the second
+    /// is pressed once more.
+    fn try_two(&mut self, one: Holding, other: Holding) -> Result<(), AllocError> {
+        if let Some(first) = self.bearer(one, None) {
+            if let Some(second) = self.bearer(other, Some(first)) {
+                self.play(&OVERLAPPING, first, second)?;
+                self.end()?;
+            }
+        }
+        Ok(())
+    }
+
+    /// The action with itself and each that stands behind it.
+    fn try_from(&mut self, one: Holding) -> Result<(), AllocError> {
+        for other in HOLDINGS {
+            let is_back = self.is_taken_back(&Cell::Act(other.action()));
+            if one.index() <= other.index() && are_tried(one, other) && is_back {
+                self.try_two(one, other)?;
+            }
+        }
+        Ok(())
+    }
+
+    /// Two modifiers or locks.
+    fn together(&mut self) -> Result<(), AllocError> {
+        for one in HOLDINGS {
+            if self.is_taken_back(&Cell::Act(one.action())) {
+                self.try_from(one)?;
+            }
+        }
+        Ok(())
+    }
+
+    /// Each modifier and lock: pressed, repeated, and reset while it is pressed.
+    fn alone(&mut self) -> Result<(), AllocError> {
+        for holding in HOLDINGS {
+            let cell = Cell::Act(holding.action());
+            if let Some(at) = self.idle.first(&cell) {
+                if self.is_taken_back(&cell) {
+                    self.play_at(&REPEATED_AND_RESET, at)?;
+                    self.end()?;
+                }
+            }
+        }
+        Ok(())
+    }
+
+    /// Keys that look up two kinds of cells with and without the modifier that this key holds, kinds that weren't
+    /// tried.
+    fn try_columns(
+        &mut self,
+        done: &mut Vec<(Kind, Kind)>,
+        modifier: Modifier,
+        holder: KeyCode,
+    ) -> Result<(), AllocError> {
+        for code in 0..KEY_COUNT as u8 {
+            let key = key_with(code);
+            let one = rest_cell(self.map, key);
+            let other = cell_with(self.map, key, modifier);
+            let kinds = (Kind::roughly(&one), Kind::roughly(&other));
+            let is_holding = kinds.0 == Kind::Modifier || kinds.1 == Kind::Modifier;
+            if one != other && !is_holding && key != holder && !done.contains(&kinds) {
+                done.push(kinds)?;
+                self.play(&ACROSS, key, holder)?;
+                self.end()?;
+            }
+        }
+        Ok(())
+    }
+
+    /// Keys that are pressed in one column and released in another.
+    fn across(&mut self) -> Result<(), AllocError> {
+        let mut done = Vec::new(self.alloc);
+        for modifier in MODIFIERS {
+            if let Some(holder) = self.bearer(Holding::Mod(modifier), None) {
+                self.try_columns(&mut done, modifier, holder)?;
+            }
+        }
+        Ok(())
+    }
+
+    /// The first usable accent whose dead key can be tapped, and where.
+    fn dead_key(&self) -> Option<(AccentIndex, KeyAt)> {
+        for index in 0..ACCENT_LIMIT as u8 {
+            let accent = AccentIndex::new(index);
+            if is_usable(self.map, index) {
+                if let Some(at) = self.idle.first(&Cell::Act(Action::DeadKey(accent))) {
+                    return Some((accent, at));
+                }
+            }
+        }
+        None
+    }
+
+    /// The first key of each kind of cells that can stand between a dead key of the accent and a blank.
+    fn keys_between(&self, accent: AccentIndex) -> Result<Vec<KeyAt>, AllocError> {
+        let mut kinds = Vec::new(self.alloc);
+        let mut keys = Vec::new(self.alloc);
+        for idle in &self.idle.keys {
+            let kind = Kind::of(self.map, &idle.cell);
+            let is_new = is_between(self.map, accent, &idle.cell) && !kinds.contains(&kind);
+            if is_new && self.is_taken_back(&idle.cell) {
+                kinds.push(kind)?;
+                keys.push(idle.at)?;
+            }
+        }
+        Ok(keys)
+    }
+
+    /// Each kind of cells, and a reset, between a dead key and a blank.
+    fn between(&mut self) -> Result<(), AllocError> {
+        let Some((accent, dead)) = self.dead_key() else {
+            return Ok(());
+        };
+        let Some(blank) = self.idle.first(&Cell::Char(' ')) else {
+            return Ok(());
+        };
+        for key in &self.keys_between(accent)? {
+            self.play_at(&TAPPED, dead)?;
+            self.play_at(&TAPPED, *key)?;
+            self.play_at(&TAPPED, blank)?;
+            self.end()?;
+        }
+        self.play_at(&TAPPED_AND_RESET, dead)?;
+        self.play_at(&TAPPED, blank)?;
+        self.end()
+    }
+
+    /// The first keys that are another action than a modifier, a lock or a dead key where nothing is on.
+    fn other_keys(&self) -> Result<Vec<KeyCode>, AllocError> {
+        let mut keys = Vec::new(self.alloc);
+        for code in 0..KEY_COUNT as u8 {
+            let key = key_with(code);
+            if keys.len() < MANY && Kind::of(self.map, &rest_cell(self.map, key)).is_other() {
+                keys.push(key)?;
+            }
+        }
+        Ok(keys)
+    }
+
+    /// Many keys at once.
+    fn many(&mut self) -> Result<(), AllocError> {
+        let keys = self.other_keys()?;
+        for key in &keys {
+            self.deliver(&Event::Press(*key))?;
+        }
+        for key in &keys {
+            self.deliver(&Event::Release(*key))?;
+        }
+        self.end()
     }
 }

@@ -67,8 +67,9 @@ pub fn selections_of(alloc: Global, met: &Met) -> Result<Vec<Selection>, AllocEr
     Ok(selections)
 }
 
-/// Whether a press under one of the selections sees it, where a pair's accent is pending.
-fn is_selected(map: &KeyMap, selections: &[Selection], sight: Sight) -> bool
+/// As `is_selected`, of which there is one for each kind of sight, so that no selection asks which it is.
+#[inline(always)]
+fn is_selected_of_kind(map: &KeyMap, selections: &[Selection], sight: Sight) -> bool
     ensures { result ≡ is_selected map.now selections.now sight }
 {
     for selection in selections {
@@ -77,6 +78,23 @@ fn is_selected(map: &KeyMap, selections: &[Selection], sight: Sight) -> bool
         }
     }
     false
+}
+
+/// Whether a press under one of the selections sees it, where a pair's accent is pending.
+fn is_selected(map: &KeyMap, selections: &[Selection], sight: Sight) -> bool
+    ensures { result ≡ is_selected map.now selections.now sight }
+{
+    match sight {
+        Sight::Cell { slot, column } => {
+            is_selected_of_kind(map, selections, Sight::Cell { slot, column })
+        }
+        Sight::Locks { slot, caps, num } => {
+            is_selected_of_kind(map, selections, Sight::Locks { slot, caps, num })
+        }
+        Sight::Pair { accent, character } => {
+            is_selected_of_kind(map, selections, Sight::Pair { accent, character })
+        }
+    }
 }
 
 /// Whether a press sees it under one of the selections where the accent can be pending.

@@ -229,6 +229,15 @@ impl Held {
         false
     }
 
+    /// As `holds`, out of line: for where it is asked of few of the keys that are looked at.
+    #[inline(never)]
+    fn is_busy(&self, key: KeyCode) -> bool
+        ensures idle { result ≡ false → IsIdle (state_of self.now) key }
+        ensures busy { result ≡ true → IsIdle (state_of self.now) key → ⊥ }
+    {
+        self.holds(key)
+    }
+
     /// Whether no key holds a modifier.
     fn is_free(&self) -> bool
         ensures free { result ≡ true → IsFree (state_of self.now) }
@@ -298,7 +307,7 @@ impl Held {
     {
         match &self.look(maps, key) {
             Cell::Act(Action::DeadKey(accent)) => {
-                if self.holds(key) {
+                if self.is_busy(key) {
                     None
                 } else {
                     Some(accent.get())

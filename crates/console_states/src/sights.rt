@@ -9,7 +9,7 @@ ghost use Rattle.console_states.specs.Inner.Adding.{IsWith, AreSelectionsOf};
 
 use crate::held::{Held, Keymaps};
 use crate::offers::offers_of;
-use crate::search::{Met, all_states, entry, first_stuck};
+use crate::search::{End, Met, entry, first_stuck, meet_all};
 use crate::selection::{Selection, Sight};
 use keymap_core::KeyMap;
 use std::alloc::{AllocError, Global};
@@ -124,7 +124,7 @@ impl Sights {
 }
 
 /// What the states that were met, which are all, tell of that.
-fn sights_in(alloc: Global, met: &Met, maps: &Keymaps) -> Result<Sights, AllocError>
+pub fn sights_in(alloc: Global, met: &Met, maps: &Keymaps) -> Result<Sights, AllocError>
     requires { HasMetAll maps.now met.now.entries }
     ensures { IfOk result (λ x. AreSightsOf maps.now.first.now x) }
 {
@@ -146,10 +146,10 @@ pub fn sights_of(alloc: Global, map: &KeyMap) -> Result<Option<Sights>, AllocErr
         first: map,
         second: map,
         has_loads: false,
-        origin: Held::start(),
     };
-    match all_states(alloc, &maps)? {
-        Some(met) => Ok(Some(sights_in(alloc, &met, &maps)?)),
-        None => Ok(None),
+    let (met, end) = meet_all(alloc, &maps, &[Held::start()])?;
+    match end {
+        End::Complete => Ok(Some(sights_in(alloc, &met, &maps)?)),
+        End::TooMany(_) => Ok(None),
     }
 }

@@ -98,6 +98,7 @@ refuses sticking
 refuses sticking_between
 refuses sights_of
 refuses Explorer::new
+refuses Explorer::sights
 refuses Explorer::visit
 refuses Explorer::events_to
 refuses Explorer::events_home

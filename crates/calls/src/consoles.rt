@@ -56,6 +56,7 @@ fn explored<W: Write>(
 ) -> Option<Outcome> {
     let alloc = call.alloc;
     match call.name {
+        "Explorer::sights" => Some(tells_sights(alloc, explorer, marks)),
         "Explorer::visit" => Some(visits(alloc, explorer, marks)),
         "Explorer::events_to" => Some(goes_out(alloc, explorer, marks)),
         "Explorer::events_home" => Some(comes_home(alloc, call.sample, explorer, marks)),
@@ -156,6 +157,16 @@ fn explores<W: Write>(alloc: Global, lent: &Lent, marks: &mut W) -> Outcome {
     let given = Explorer::new(alloc, &lent.map);
     mark(marks);
     ended_keeping(&given, matches!(&given, Ok(Some(_))), lent.is_kept())
+}
+
+fn tells_sights<W: Write>(alloc: Global, explorer: &Explorer<'_>, marks: &mut W) -> Outcome {
+    mark(marks);
+    let given = explorer.sights(alloc);
+    mark(marks);
+    ended(
+        &given,
+        matches!(&given, Ok(sights) if !sights.offers.is_empty()),
+    )
 }
 
 /// Whether a call gave a list with events.

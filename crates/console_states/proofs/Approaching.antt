@@ -14,13 +14,14 @@ use Rattle.console_states.proofs.Common.{selection_of, slot_of, ComesHome, map_o
 use Rattle.console_states.proofs.Common.{HasTap, IsTapAt, dead_tap, HasRoute, LeadsHome, freed, state_of, Entry}
 use Rattle.console_states.proofs.Common.{IsTrail, IsReached, IsWhole, IsAfter, IsRepeated, IsAt, Leads, IsDeadFor}
 use Rattle.console_states.proofs.Common.{IsAim, ShowsNot, locks_in, Exact, HoldsSome, Stands, but_scroll, unscrolled}
-use Rattle.console_states.proofs.Common.{rules}
+use Rattle.console_states.proofs.Common.{Searched, length, rules}
 use Rattle.console_states.specs.Sights.{SeesAlong}
 use Rattle.console_states.specs.declared.explored.KeyAt.{KeyAt}
 use Rattle.console_states.specs.declared.explorer.Aim.{Aim}
 use Rattle.console_states.specs.Returning.{IsTurned}
 use Rattle.console_states.specs.Visiting.{HasLocks, AreTaken, CanVisit, Visits}
 use Rattle.console_states.specs.Inner.Exploring.{IsMetAt}
+use Rattle.console_states.specs.Inner.Searching.{HasMetAll}
 use Rattle.console_states.specs.Inner.Showing.{LeadsToSee, IsPressAt, IsRest, IsSteady, LeadsOn, LeadsComposing}
 use Rattle.console_states.specs.Inner.Standing.{free_after}
 use Rattle.console_states.proofs.Behind.{path-split}
@@ -31,6 +32,7 @@ use Rattle.console_states.proofs.Returning.{near-met, near-is_home}
 use Rattle.console_states.proofs.Scripts.{Reached, reached-more, hold-self, holder-pressed, stands-from, stands-move}
 use Rattle.console_states.proofs.Scripts.{stands-reset, pressed-look, other-remembered}
 use Rattle.console_states.proofs.Staying.{emptied, emptied-kept, emptied-none, follows-again, follows-nothing, kind_of}
+use Rattle.console_states.proofs.Beginning.{reached-one, start-one}
 use Rattle.console_states.proofs.Staying.{not_holding, same_mods}
 use Rattle.console_states.proofs.Taps.{exact-action, exact-character, stands-tap, stands-tapped}
 use Rattle.console_states.proofs.Unscrolled.{locks-near, moves-unscrolled, same_moved, same_states, same-scrolled}
@@ -94,7 +96,7 @@ pub out-leads : (e : Explored) → IsExplored e → (place : ℕ) (y : Entry) �
     → LeadsOn (map_of_explored e) (origin_in e) (state_of y.0) old now
 out-leads e x place y at old now is h a =
     let m : MapValue = map_of_explored e in
-    let r : IsReached (alone m) (origin_in e) e.met.entries place y = x.searched.reached place y at in
+    let r : IsReached (alone m) (origin_in e) e.met.entries place y = reached-one x.searched place y at in
     rw (is r.0 r.1, ← r.3) (at-path m (origin_in e) h old r.0 r.2 a)
 
 -- the events of a route lead home
@@ -396,6 +398,15 @@ pub after-rest : (u : Under) (s : State) (k : ℕ) (t : State) → s.is_second �
 after-rest u s k t first off (inl (l, idle, seen, turned)) = search rules
 after-rest u s k t first off (inr (none, is)) = rw is ((λ i. refl), first, off)
 
+-- a complete exploration from the start met all states
+pub whole-met : (e : Explored) → IsWhole e → HasMetAll e.maps e.met.entries
+whole-met e (x, begins, complete) = (
+  x.under,
+  subst (λ o. Searched (alone (map_of_explored e)) (o ∷ []) e.met.entries (length e.met.entries)
+      (length e.met.entries)) begins (x.whole complete).0,
+  x.few complete,
+)
+
 -- a complete exploration met a state near each that is reached
 pub met-near : (e : Explored) → IsWhole e → (s : State) → Reached (alone (map_of_explored e)) s
     → (j : ℕ) × (y : Entry) × (slice_get e.met.entries j ≡ Some y) × (unscrolled (state_of y.0) ≡ unscrolled s)
@@ -415,7 +426,7 @@ pub met-reached : (e : Explored) → IsWhole e → (j : ℕ) (y : Entry) → sli
     → Reached (alone (map_of_explored e)) (state_of y.0)
 met-reached e whole j y at =
     let u : Under = alone (map_of_explored e) in
-    let r : IsReached u (origin_in e) e.met.entries j y = whole.0.searched.reached j y at in (
+    let r : IsReached u (origin_in e) e.met.entries j y = reached-one whole.0.searched j y at in (
       r.0,
       subst (λ o. IsPathFrom u o r.0) whole.1 r.2,
       ap (λ o. state_from u o r.0) (sym whole.1) ∙ r.3,
@@ -441,7 +452,7 @@ pub route-reached : (e : Explored) → IsWhole e → (s : State) → Reached (al
     → s.is_locked Scroll ≡ false → ComesHome (alone (map_of_explored e)) s → HasRoute e.routes.entries s
 route-reached e whole s there off home =
     let (j, y, at, near) = met-near e whole s there in
-    let r = whole.0.searched.reached j y at in
+    let r = reached-one whole.0.searched j y at in
     subst (λ t. HasRoute e.routes.entries t) (same-scrolled (state_of y.0) s near (r.5 ∙ sym off))
     (route-near e whole j y at s near home)
 
@@ -538,7 +549,7 @@ shows-not e whole x none (path, is, can, (k, lt, sees, (before, was, home))) =
       | inl unseen ↦ unseen k lt (subst (λ z. SeesBy m z k x) (sym (ap (λ t. selection_of t) near)) sees)
       | inr (n, t, key, seen, after, astray) ↦
           let first = met-first e whole.0 j y at in
-          let r = whole.0.searched.reached j y at in
+          let r = reached-one whole.0.searched j y at in
           let rest = after-rest u (state_of y.0) n t first r.5 after in
           let there = after-reached m (state_of y.0) n t key (met-reached e whole j y at) after in
           let alike =
@@ -610,7 +621,7 @@ aims-at e whole x other o found = found-aim e whole x None (no-dead e x other) o
 -- behind a visit a console rests
 pub aim-rest : (e : Explored) → IsWhole e → (a : Aim) → IsAim e a → IsRest e (state_of a.next)
 aim-rest e whole a ((y, at, lt, sees, after, route), dead) =
-    let r = whole.0.searched.reached a.at.place y at in
+    let r = reached-one whole.0.searched a.at.place y at in
     let rest =
     after-rest (alone (map_of_explored e)) (state_of y.0) a.at.key (state_of a.next)
     (met-first e whole.0 a.at.place y at) r.5 after in
@@ -620,7 +631,7 @@ aim-rest e whole a ((y, at, lt, sees, after, route), dead) =
 pub start-rest : (e : Explored) → IsWhole e → (s : State) → s ≡ start → IsRest e s
 start-rest e whole s is =
     let (searched, settled) = whole.0.whole whole.2 in
-    let (j, y, at, here, le) = searched.start in
+    let (j, y, at, here, le) = start-one searched in
     let home : ComesHome (alone (map_of_explored e)) (state_of y.0) =
     rw (here ∙ whole.1) ([], tt, ((λ i. refl), (λ l other. refl))) in
     subst (λ t. IsRest e t) (sym is) (

@@ -12,6 +12,7 @@ use Rattle.console_states.specs.Sticking.{ReachesMoreThan, state_limit}
 use Rattle.console_states.specs.Inner.Exploring.{IsAccented, Leads, plain_tap}
 use Rattle.console_states.proofs.Exploring.{comes-route, path-append, can-tap-met, tap-can, types-direct}
 use Rattle.console_states.proofs.Exploring.{types-composed, returns-next}
+use Rattle.console_states.proofs.Beginning.{start-one}
 use Rattle.console_states.specs.declared.explored.Symbol.TheVariants as symbol
 use Rattle.console_states.specs.declared.typing.Typed.TheVariants as typed
 
@@ -156,7 +157,7 @@ pub no-route : (m : MapValue) (s : State) (e : Explored) → IsExploredFrom m s 
 no-route m s e v st none = elim (cases_Bool e.is_complete) [
   | inl complete ↦
       let (searched, settled) = v.0.whole complete in
-      let (j, x, at, is, le) = searched.start in
+      let (j, x, at, is, le) = start-one searched in
       let here = explored-returns m s e v st in
       absurd (none (rw (← is) (comes-route (map_of_explored e) e.met.entries e.routes.entries searched settled j x at
       (subst (λ t. ComesHome (alone (map_of_explored e)) t) (sym is) here.home))))

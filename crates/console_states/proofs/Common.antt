@@ -15,14 +15,14 @@ pub use Rattle.console_states.specs.Inner.Exploring.{AreKnown, AreExplorations, 
 pub use Rattle.console_states.specs.Inner.Exploring.{IsExplored, CanReturn, GoesAndTaps, IsTapAt, IsExploredFrom}
 pub use Rattle.console_states.specs.Inner.Exploring.{LeadsByTap, LetsGo, TypesOne, dead_tap, kept_if, map_of_explored}
 pub use Rattle.console_states.specs.Inner.Exploring.{origin_in, typed_along}
-pub use Rattle.console_states.specs.Inner.Adding.{Adds, AddsOffers, AreBehind, AreBehindTo, AreOffersOf, AreSeedsTo}
+pub use Rattle.console_states.specs.Inner.Adding.{Adds, AddsOffers, AreBehind, AreOffering, AreOffersOf}
 pub use Rattle.console_states.specs.Inner.Adding.{AreSelectionsOf, IsBehind, IsInSome, IsOfferedUnlocked, IsWith}
 pub use Rattle.console_states.specs.Inner.Routes.{AllLeadHome, AreSettled, HasRoute, IsAstray, IsMet, LeadsHome}
 pub use Rattle.console_states.specs.Inner.Routes.{NoPressLeads, Routes}
 pub use Rattle.console_states.specs.Inner.Searching.{AreAdded, AreDone, AreInOrder, AreMet, AreSafe, AreWithin, Entries}
 pub use Rattle.console_states.specs.Inner.Searching.{Entry, Grows, HasEnded, HasMovingKeys, IsFrom, IsMetBy, IsReached}
 pub use Rattle.console_states.specs.Inner.Searching.{IsStep, IsStuck, IsTrail, IsUnmoving, LeavesScroll, PressesLead}
-pub use Rattle.console_states.specs.Inner.Searching.{Searched, StepsTo, origin_of, state_of, under_of}
+pub use Rattle.console_states.specs.Inner.Searching.{Searched, StepsTo, state_of, under_of}
 pub use Rattle.console_states.specs.Inner.Showing.{IsAim, IsAt, IsDeadFor, IsRepeated, IsWhole, Leads, ShowsNot}
 pub use Rattle.console_states.specs.Inner.Showing.{locks_in}
 pub use Rattle.console_states.specs.Inner.Standing.{Exact, Follows, HoldsSome, Stands}

@@ -1,5 +1,5 @@
 -- What the search concludes of all paths from what it met.
-use Rattle.console_states.proofs.Common.{suc, ◌≡◌, ℕ, ◌+◌, ◌<◌, inl, inr, List, length, slice_get, Some, refl, ap}
+use Rattle.console_states.proofs.Common.{suc, ◌≡◌, ℕ, ◌+◌, ◌<◌, inl, inr, List, [], ◌∷◌, length, slice_get, Some, refl, ap}
 use Rattle.console_states.proofs.Common.{rules, subst, sym, ◌∙◌, arith, cases_lt, slice_get_within, Modifier, Event}
 use Rattle.console_states.proofs.Common.{Move, End, TooMany, Under, State, start, IsMove, moved, presses_of}
 use Rattle.console_states.proofs.Common.{IsForgetful, HolderForgets, script_of_path, state_of, Entry, Entries, IsMetBy}
@@ -10,6 +10,7 @@ use Rattle.console_states.specs.Inner.Searching.{IsScriptTo, IsEnd}
 use Rattle.console_states.specs.Sticking.{NoneSticksUnderBy, LeavesOnUnder, HasFewestUnder}
 use Rattle.console_states.proofs.Deciding.{under-self, never-under, sticks_if_reached}
 use Rattle.console_states.proofs.Scripts.{presses-script, releases-script}
+use Rattle.console_states.proofs.Beginning.{reached-one, start-one}
 use Rattle.console_states.proofs.Searching.{met-up, all-done}
 use Rattle.console_states.proofs.Staying.{IsKeptBelow, IsSafeBelow, never-sticks, sticks-late}
 use Rattle.console_states.proofs.Unscrolled.{leaves-scroll_or_turns, moves-unscrolled, same_moved, scroll-moved}
@@ -56,35 +57,36 @@ safe-below u es n met done safe = record {
 }
 
 -- where all states were met and no holder looks up a character, no modifier sticks
-pub complete-never : (u : Under) (es : Entries) → HasEnded u start es Complete → AreSafe u es (length es)
+pub complete-never : (u : Under) (es : Entries) → HasEnded u (start ∷ []) es Complete → AreSafe u es (length es)
     → NeverSticksUnder u
-complete-never u es (s, ordered, all) safe =
+complete-never u es ended safe =
     never-under u
     (never-sticks u (IsAmong es)
-    (λ n. safe-below u es n s.start (all-done u es all n) (λ j x at lt. safe j x at (slice_get_within es j x at))))
+    (λ n. safe-below u es n (start-one ended.searched) (all-done u es ended.is.0 n) (λ j x at lt. safe j x at (slice_get_within es j x at))))
 
 -- where too many were, none does by the presses that are told
-pub none-late : (u : Under) (es : Entries) (p : ℕ) → HasEnded u start es (TooMany p) → AreSafe u es (length es)
+pub none-late : (u : Under) (es : Entries) (p : ℕ) → HasEnded u (start ∷ []) es (TooMany p) → AreSafe u es (length es)
     → NoneSticksUnderBy u p
-none-late u es p (s, ordered, (more, within, done)) safe g keys admitted i (quiet, on) =
+none-late u es p ended safe g keys admitted i (quiet, on) =
     sticks-late u p (IsAmong es)
-    (safe-below u es p s.start done (λ j x at lt. safe j x at (slice_get_within es j x at))) g keys admitted i
+    (safe-below u es p (start-one ended.searched) ended.is.2 (λ j x at lt.
+    safe j x at (slice_get_within es j x at))) g keys admitted i
     quiet (on u.maps (under-self u))
 
 -- where fewer presses lead than to a place is done
-done-before : (u : Under) (es : Entries) (end : End) → IsEnd u start es end → (j : ℕ) (x : Entry)
+done-before : (u : Under) (es : Entries) (end : End) → IsEnd u (start ∷ []) es end → (j : ℕ) (x : Entry)
     → slice_get es j ≡ Some x → AreDone u es x.1.presses
-done-before u es Complete all j x at = all-done u es all x.1.presses
+done-before u es Complete all j x at = all-done u es all.0 x.1.presses
 done-before u es (TooMany p) (more, within, done) j x at = search rules
 
 -- At the first place where a holder looks up a character, the script of a path to it leaves its modifier on, by the
 -- fewest presses.
-pub stuck-sticks : (u : Under) (es : Entries) (end : End) (j k : ℕ) → HasEnded u start es end → IsStuck u es j k
+pub stuck-sticks : (u : Under) (es : Entries) (end : End) (j k : ℕ) → HasEnded u (start ∷ []) es end → IsStuck u es j k
     → AreSafe u es j → (h : List Event) → IsScriptTo u es j k h → LeavesOnUnder u h × HasFewestUnder u h
     × ReleasesPressedKeys h
-stuck-sticks u es end j k (s, ordered, ended) (x, at, stuck) safe h is =
+stuck-sticks u es end j k ended (x, at, stuck) safe h is =
     let i : Modifier = stuck.0 in
-    let r : IsReached u start es j x = s.reached j x at in
+    let r : IsReached u start es j x = reached-one ended.searched j x at in
     let script : h ≡ script_of_path u r.0 k = is r.0 x at r.1 r.3 in
     let left = sticks_if_reached u r.0 r.2 i k (subst (λ t. HolderForgets u t i k) (sym r.3) stuck.1) in
     let count : presses h ≡ suc x.1.presses = ap presses script ∙ presses-script u r.0 k ∙ ap suc r.4 in (
@@ -92,7 +94,8 @@ stuck-sticks u es end j k (s, ordered, ended) (x, at, stuck) safe h is =
       (λ g keys admitted l (quiet, on).
           let late : x.1.presses < presses g =
           sticks-late u x.1.presses (IsAmong es)
-          (safe-below u es x.1.presses s.start (done-before u es end ended j x at) before) g keys admitted l quiet
+          (safe-below u es x.1.presses (start-one ended.searched) (done-before u es end ended.is j x at) before) g keys
+          admitted l quiet
           (on u.maps (under-self u)) in
           omega (arith, count, late)),
       subst ReleasesPressedKeys (sym script) (releases-script u r.0 r.2 k),

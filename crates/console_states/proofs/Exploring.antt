@@ -13,6 +13,7 @@ use Rattle.console_core.proofs.OneMore.{is-nothing}
 use Rattle.console_states.proofs.SameStates.{are_same}
 use Rattle.console_states.specs.Inner.Exploring.{IsOrigin}
 use Rattle.console_states.proofs.Returning.{near-met, strays-on, StraysTo, is-astray, near-is_home}
+use Rattle.console_states.proofs.Beginning.{reached-one}
 use Rattle.console_states.proofs.Taps.{added-by, adds, tap-types, tap-direct, tap-dead, tap-composed}
 use Rattle.console_states.proofs.Unscrolled.{same_states}
 use Rattle.console_states.proofs.Visits.{near-path, path-first, home-near}
@@ -91,8 +92,8 @@ tap-near : (u : Under) (s t : State) (plain : Bool) (x : Symbol) (k : ℕ) → u
 tap-near u s t plain x k e is = subst (λ z. IsTapOf u z plain x k) (sym e) is
 
 -- moves from a state without a route stay astray
-strays-from : {o : State} (m : MapValue) (es : Entries) (routes : Routes)
-    → Searched (alone m) o es (length es) (length es) → AreSettled (alone m) es routes → (s : State) (path : List Move)
+strays-from : {os : List State} (m : MapValue) (es : Entries) (routes : Routes)
+    → Searched (alone m) os es (length es) (length es) → AreSettled (alone m) es routes → (s : State) (path : List Move)
     → IsPathFrom (alone m) s path → StraysTo es routes s
     → StraysTo es routes (state_from (alone m) s path)
 strays-from m es routes searched settled s [] is strays = strays
@@ -104,8 +105,8 @@ route-or-none : (routes : Routes) (k : Held) → HasRoute routes (state_of k) �
 route-or-none routes k = search (rules, cases_Bool, are_same, found-has, none-found, is-nothing)
 
 -- a route begins where moves lead home from
-pub comes-route : {o : State} (m : MapValue) (es : Entries) (routes : Routes)
-    → Searched (alone m) o es (length es) (length es) → AreSettled (alone m) es routes → (j : ℕ) (x : Entry)
+pub comes-route : {os : List State} (m : MapValue) (es : Entries) (routes : Routes)
+    → Searched (alone m) os es (length es) (length es) → AreSettled (alone m) es routes → (j : ℕ) (x : Entry)
     → slice_get es j ≡ Some x → ComesHome (alone m) (state_of x.0)
     → HasRoute routes (state_of x.0)
 comes-route m es routes searched settled j x at (later, is, home) = elim (route-or-none routes x.0) [
@@ -152,7 +153,7 @@ pub tap-can : (e : Explored) → IsExplored e → CanReturn (map_of_explored e) 
 tap-can e x st t (j, k, (y, at, has, tap)) =
     let m : MapValue = map_of_explored e in
     let u : Under = alone m in
-    let r : IsReached u (origin_in e) e.met.entries j y = x.searched.reached j y at in
+    let r : IsReached u (origin_in e) e.met.entries j y = reached-one x.searched j y at in
     let all = path-append u start st.path r.0 st.is (subst (λ s. IsPathFrom u s r.0) (sym st.leads) r.2) in
     let there : state_after u (r.0 ++ st.path) ≡ state_of y.0 =
     all.1 ∙ ap (λ s. state_from u s r.0) st.leads ∙ r.3 in (

@@ -2,14 +2,15 @@
 use Rattle.console_states.proofs.Common.{◌≡◌, ℕ, ◌+◌, ◌<◌, IfSome, List, [], ◌∷◌, ◌++◌, length, get_or, take, slice_get}
 use Rattle.console_states.proofs.Common.{Option, Some, None, refl, ap, sym, ◌∙◌, arith, append_assoc, slice_get_within}
 use Rattle.console_states.proofs.Common.{same_Some, append-nil, take_more, Modifier, Event, Press, Move, modifiers}
-use Rattle.console_states.proofs.Common.{Under, State, state_after, script_of_path, events_of_move, rules, events_along}
-use Rattle.console_states.proofs.Common.{release_of, releases, Entry, Entries, IsTrail, IsReached, Searched}
+use Rattle.console_states.proofs.Common.{Under, State, state_after, script_of_path, rules, events_along}
+use Rattle.console_states.proofs.Common.{release_of, releases, Entry, Entries, IsTrail, Searched}
+use Rattle.console_states.proofs.Common.{reverse, reverse-append, reverse-reverse}
 use Rattle.console_states.specs.Inner.Searching.{GoBack}
+use Rattle.console_states.proofs.Looking.{push-reversed}
 
 -- the way back from a place
-pub searched-back : {o : State} (u : Under) (es : Entries) (a b : ℕ) → Searched u o es a b → GoBack es
-searched-back {o} u es a b s j x parent by at last =
-    let r : IsReached u o es j x = s.reached j x at in back r.0 r.1
+pub searched-back : {os : List State} (u : Under) (es : Entries) (a b : ℕ) → Searched u os es a b → GoBack es
+searched-back u es a b s j x parent by at last = let (o, is, r) = s.reached j x at in back r.0 r.1
   where
     back : (path : List Move) → IsTrail es j path → parent < j
     back [] (y, there, none) = search (rules, same_Some)
@@ -27,17 +28,6 @@ pub trail-leads : (es : Entries) (j : ℕ) (path : List Move) (x : Entry) → sl
 trail-leads es j [] x at (y, there, none) = search (rules, same_Some)
 trail-leads es j (move ∷ path) x at (y, parent, there, last, lt, rest) = search (rules, same_Some)
 
-pub leads-next : (es : Entries) (last : ℕ × Move) (items : List Event) (rest : List Move) (target : List Event)
-    → LeadsBy es (Some last) rest → items ++ events_along rest ≡ target
-    → (y : Entry) → slice_get es last.0 ≡ Some y
-    → (more : List Move) × ((items ++ events_of_move last.1) ++ events_along more ≡ target) × LeadsBy es y.1.last more
-leads-next es last items [] target none e y at = absurd none
-leads-next es last items (move ∷ path) target (by, trail) e y at = (
-  path,
-  cc (append_assoc items (events_of_move last.1) (events_along path), by, e),
-  trail-leads es last.0 path y at trail,
-)
-
 -- the moves that were taken back, and those that are left, where the last of them is told
 pub move-next : (es : Entries) (last : ℕ × Move) (moves rest target : List Move) → LeadsBy es (Some last) rest
     → moves ++ rest ≡ target → (y : Entry) → slice_get es last.0 ≡ Some y
@@ -49,14 +39,16 @@ move-next es last moves (move ∷ path) target (by, trail) e y at = (
   trail-leads es last.0 path y at trail,
 )
 
-pub leads-end : (es : Entries) (items : List Event) (rest : List Move) (target : List Event) → LeadsBy es None rest
-    → items ++ events_along rest ≡ target → items ≡ target
-leads-end es items [] target x e = sym (append-nil items) ∙ e
-leads-end es items (move ∷ path) target none e = absurd none
-
-pub script-begin : (u : Under) (path : List Move) (k : ℕ) (s : State) (items : List Event) → state_after u path ≡ s
-    → items ≡ releases s modifiers ++ Press k ∷ [] → items ++ events_along path ≡ script_of_path u path k
-script-begin u path k s items at e = cc (e, append_assoc (releases s modifiers) (Press k ∷ []) (events_along path), at)
+-- the events to a place, a press there, and the releases of the holders
+pub script-is : (u : Under) (path : List Move) (k : ℕ) (s : State) (out events : List Event)
+    → reverse out ≡ events_along path ++ [] → events ≡ (out ++ Press k ∷ []) ++ reverse (releases s modifiers)
+    → state_after u path ≡ s → reverse events ≡ script_of_path u path k
+script-is u path k s out events is e at =
+    ap reverse e ∙ reverse-append (out ++ Press k ∷ []) (reverse (releases s modifiers))
+    ∙ ap (λ z. z ++ reverse (out ++ Press k ∷ [])) (reverse-reverse (releases s modifiers))
+    ∙ ap (λ z. releases s modifiers ++ z)
+    (push-reversed out (Press k) ∙ ap (λ z. Press k ∷ z) (is ∙ append-nil (events_along path)))
+    ∙ ap (λ t. releases t modifiers ++ Press k ∷ events_along path) (sym at)
 
 -- the releases of further holders
 releases-append : (s : State) (xs ys : List Modifier) → releases s (xs ++ ys) ≡ releases s xs ++ releases s ys

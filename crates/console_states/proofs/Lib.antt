@@ -1,6 +1,7 @@
 pub mod Adding
 pub mod Approaching
 pub mod Bases
+pub mod Beginning
 pub mod Behind
 pub mod Choosing
 pub mod Common

@@ -2,10 +2,12 @@
 use Rattle.console_states.proofs.Common.{zero, suc, ◌≡◌, ℕ, ◌<◌, ◌≤◌, false, inl, inr, [], ◌∷◌, length, get_or}
 use Rattle.console_states.proofs.Common.{slice_get, Some, subst, sym, ◌∙◌, arith, IsDistinct, keys_of, cases_lt}
 use Rattle.console_states.proofs.Common.{true≢false, slice_get-get_or, none-some, same_Some, Held, state_of, Entry}
-use Rattle.console_states.proofs.Common.{Entries, Searched, IsReached, AreWithin, Under, State, ReachesMoreThanFrom}
+use Rattle.console_states.proofs.Common.{Entries, HasEnded, IsReached, TooMany, Under, State, ReachesMoreThanFrom}
 use Rattle.std.specs.List.{AllByRecursion}
 use Rattle.std.proofs.lemmas.Map.Keys.{IsDistinct-head, IsDistinct-tail}
+use Rattle.console_states.specs.Inner.Searching.{AreMetOnce}
 use Rattle.console_states.proofs.SameStates.{are_same, same-tells}
+use Rattle.console_states.proofs.Beginning.{reached-one, start-one}
 
 -- entries at two places
 rec-at : (P : Held → Type 0) (es : Entries) → AllByRecursion P (keys_of es) → (k : ℕ) (y : Entry)
@@ -26,22 +28,29 @@ distinct-at (e ∷ es) d (suc j) zero x y lt at_j at_k = absurd (omega (arith, l
 distinct-at (e ∷ es) d (suc j) (suc k) x y lt at_j at_k =
     distinct-at es (IsDistinct-tail are_same e.0 (keys_of es) d) j k x y (omega (arith, lt)) at_j at_k
 
--- more than n distinct entries are more than n states that paths of their presses lead to
-pub reaches-more : {o : State} (u : Under) (es : Entries) (a b n p : ℕ) → Searched u o es a b → AreWithin es p
-    → n < length es → IsDistinct are_same (keys_of es) → ReachesMoreThanFrom u o n p
-reaches-more {o} u es a b n p s within more distinct =
-    let d : Entry = s.start.1 in
-    let at : (j : ℕ) → j ≤ n → slice_get es j ≡ Some (get_or es j d) =
+-- a state that was met is not met again
+pub met-once : (es : Entries) → IsDistinct are_same (keys_of es) → AreMetOnce es
+met-once es distinct i j x y lt at_i at_j e =
+    true≢false (sym (same-tells x.0 y.0 e) ∙ distinct-at es distinct i j x y lt at_i at_j)
+
+-- a search that met more states than it goes over shows that paths of its presses lead to so many
+pub reaches-more : {o : State} (u : Under) (es : Entries) (p : ℕ) → HasEnded u (o ∷ []) es (TooMany p)
+    → ReachesMoreThanFrom u o 65536 p
+reaches-more {o} u es p ended =
+    let more : 65536 < length es = ended.is.0 in
+    let d : Entry = (start-one ended.searched).1 in
+    let at : (j : ℕ) → j ≤ 65536 → slice_get es j ≡ Some (get_or es j d) =
     λ j le. slice_get-get_or es j d (omega (arith, le, more)) in
-    let apart : (j k : ℕ) → j ≤ n → k ≤ n → j < k → state_of (get_or es j d).0 ≡ state_of (get_or es k d).0 → ⊥ =
-    λ j k le_j le_k lt e.
-    true≢false (sym (same-tells (get_or es j d).0 (get_or es k d).0 e)
-    ∙ distinct-at es distinct j k (get_or es j d) (get_or es k d) lt (at j le_j) (at k le_k)) in (
+    let reached : (j : ℕ) → j ≤ 65536 → IsReached u o es j (get_or es j d) =
+    λ j le. reached-one ended.searched j (get_or es j d) (at j le) in
+    let apart : (j k : ℕ) → j ≤ 65536 → k ≤ 65536 → j < k → state_of (get_or es j d).0 ≡ state_of (get_or es k d).0
+    → ⊥ =
+    λ j k le_j le_k lt e. ended.once j k (get_or es j d) (get_or es k d) lt (at j le_j) (at k le_k) e in (
       (λ j. state_of (get_or es j d).0),
-      (λ j le. (s.reached j (get_or es j d) (at j le)).5),
+      (λ j le. (reached j le).5),
       (λ j le.
-          let r : IsReached u o es j (get_or es j d) = s.reached j (get_or es j d) (at j le) in
-          let few : (get_or es j d).1.presses ≤ p = within j (get_or es j d) (at j le) in
+          let r : IsReached u o es j (get_or es j d) = reached j le in
+          let few : (get_or es j d).1.presses ≤ p = ended.is.1 j (get_or es j d) (at j le) in
           (r.0, r.2, omega (arith, few, r.4), r.3)),
       (λ j k le_j le_k e. elim (cases_lt j k) [
         | inl lt ↦ absurd (apart j k le_j le_k lt e)

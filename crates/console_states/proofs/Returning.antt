@@ -4,6 +4,7 @@ use Rattle.console_states.proofs.Common.{sym, ◌∙◌, inl, inr, MapValue, Und
 use Rattle.console_states.proofs.Common.{IsPathFrom, state_from, presses_of, IsHome, Routes, HasRoute, IsAstray, IsMet}
 use Rattle.console_states.proofs.Common.{AreSettled, state_of, Entry, Entries, IsMetBy, LeavesScroll, Searched}
 use Rattle.console_states.proofs.Common.{unscrolled, Move}
+use Rattle.console_states.proofs.Beginning.{start-one}
 use Rattle.console_states.proofs.Searching.{all-done}
 use Rattle.console_states.proofs.Unscrolled.{locks-near, leaves-scroll_or_turns, moves-unscrolled, same_moved}
 use Rattle.console_states.proofs.Unscrolled.{scroll-moved}
@@ -23,7 +24,8 @@ AreClosed u es =
     (j : ℕ) (x : Entry) → slice_get es j ≡ Some x → (move : Move) → IsMove u (state_of x.0) move → LeavesScroll move
     → IsMet es (moved u (state_of x.0) move)
 
-pub move-met : {o : State} (u : Under) (es : Entries) → Searched u o es (length es) (length es) → AreClosed u es
+pub move-met : {os : List State} (u : Under) (es : Entries) → Searched u os es (length es) (length es)
+    → AreClosed u es
 move-met u es s j x at move is leaves =
     met-met es _ _ (all-done u es s (suc (x.1.presses + presses_of move)) j x at move is leaves (omega arith))
 
@@ -47,10 +49,10 @@ near-along u es closed s (move ∷ path) near is =
     ]
 
 -- a finished search met one near each that a path leads to
-pub near-met : {o : State} (u : Under) (es : Entries) → Searched u o es (length es) (length es) → (path : List Move)
-    → IsPathFrom u o path → IsNear es (state_from u o path)
+pub near-met : {o : State} (u : Under) (es : Entries) → Searched u (o ∷ []) es (length es) (length es)
+    → (path : List Move) → IsPathFrom u o path → IsNear es (state_from u o path)
 near-met {o} u es s path is =
-    let (j, x, at, e, le) = s.start in
+    let (j, x, at, e, le) = start-one s in
     near-along u es (move-met u es s) o path (j, x, at, ap (λ z. unscrolled z) e) is
 
 -- a met state without a route, near the state where a path has led
@@ -64,8 +66,8 @@ pub is-astray : (u : Under) (es : Entries) (routes : Routes) → AreSettled u es
 is-astray u es routes settled j x at none = elim (settled j x at) [ inl has ↦ absurd (none has) | inr is ↦ is ]
 
 -- a move leads on astray
-pub strays-on : {o : State} (m : MapValue) (es : Entries) (routes : Routes)
-    → Searched (alone m) o es (length es) (length es)
+pub strays-on : {os : List State} (m : MapValue) (es : Entries) (routes : Routes)
+    → Searched (alone m) os es (length es) (length es)
     → AreSettled (alone m) es routes → (s : State) (move : Move) → IsMove (alone m) s move → StraysTo es routes s
     → StraysTo es routes (moved (alone m) s move)
 strays-on m es routes searched settled s move is (j, x, at, near, none) =

@@ -15,6 +15,7 @@ use Rattle.console_states.specs.Inner.Standing.{free_after}
 use Rattle.console_states.proofs.Approaching.{at-reset, out-leads}
 use Rattle.console_states.proofs.Returning.{near-met}
 use Rattle.console_states.proofs.Scripts.{stands-from, stands-reset}
+use Rattle.console_states.proofs.Beginning.{reached-one}
 use Rattle.console_states.proofs.Unscrolled.{moves-unscrolled, same_states}
 use Rattle.console_states.proofs.Visits.{near-path, press-turns}
 
@@ -72,7 +73,7 @@ turns-off e x at (y, here, move) h same keys none on old there now is out last =
     let u : Under = alone m in
     let s : State = origin_in e in
     let t : State = free_after m h in
-    let (path, trail, from, leads, presses, off) = x.searched.reached at.place y here in
+    let (path, trail, from, leads, presses, off) = reached-one x.searched at.place y here in
     let near : unscrolled t ≡ unscrolled s = near-resting m h ∙ ap (λ z. unscrolled z) (sym same) in
     let (goes, alike) = near-path u s t path near from in
     let stands = stands-from u (Reset ∷ h) t path (stands-reset m h keys none) goes in

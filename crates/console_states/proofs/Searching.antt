@@ -1,37 +1,37 @@
 -- The search level by level: it meets what a release, a load or a press leads to, and closes and presses each place.
-use Rattle.console_states.proofs.Common.{cases_Bool, suc, ◌≡◌, ℕ, ◌+◌, ◌<◌, ◌≤◌, Bool, true, false, ◌⊎◌, inl, inr, []}
+use Rattle.console_states.proofs.Common.{cases_Bool, suc, List, ◌≡◌, ℕ, ◌+◌, ◌<◌, ◌≤◌, true, ◌⊎◌, inl, inr, []}
 use Rattle.console_states.proofs.Common.{◌∷◌, ◌++◌, IfSome, length, slice_get, Option, Some, None, refl, ap, subst, sym}
 use Rattle.console_states.proofs.Common.{◌∙◌, arith, cases_lt, true≢false, slice_get_within, same_Some, All-nil}
-use Rattle.console_states.proofs.Common.{All-cons, Modifier, Lock, Scroll, Act, Move, Hold, Turn, LetGo, Exchange, Held}
-use Rattle.console_states.proofs.Common.{Step, is_some, lookup, insert_entry, Under, State, look_in, with_holder}
+use Rattle.console_states.proofs.Common.{All-cons, Modifier, Lock, Act, Move, Hold, Turn, LetGo, Exchange, Held}
+use Rattle.console_states.proofs.Common.{Step, is_some, lookup, Under, State, look_in, with_holder}
 use Rattle.console_states.proofs.Common.{with_lock_turned, Holds, IsMove, moved, presses_of, state_of, Entry, Entries}
 use Rattle.console_states.proofs.Common.{Grows, IsStep, StepsTo, PressesLead, IsMetBy, AreMet, AreWithin, IsFrom}
-use Rattle.console_states.proofs.Common.{AreAdded, IsReached, AreDone, Searched, AreInOrder}
+use Rattle.console_states.proofs.Common.{AreAdded, AreDone, Searched, AreInOrder}
 use Rattle.console_states.specs.Inner.Searching.{IsClosed, IsPressed}
 use Rattle.console_states.proofs.SameStates.{are_same, tells-same}
-use Rattle.console_states.proofs.Growing.{at-now, at_old, at_new, all-at, from-cases, added-longer, one_entry}
-use Rattle.console_states.proofs.Growing.{grows-again, met-grows, met-last, moves-grow, reached-grows, reached-next}
+use Rattle.console_states.proofs.Growing.{at-now, at_old, at_new, all-at, from-cases, added-longer}
+use Rattle.console_states.proofs.Growing.{met-grows, met-last, moves-grow, reached-grows, reached-next}
 use Rattle.keymap_core.specs.declared.action.Action.TheVariants as act
 
 -- what was searched stays so when the entries grow
-pub searched-grows : {o : State} (u : Under) (es now : Entries) (place n p a b : ℕ) (y : Entry)
+pub searched-grows : {os : List State} (u : Under) (es now : Entries) (place n p a b : ℕ) (y : Entry)
     → slice_get es place ≡ Some y
     → p ≡ y.1.presses + n
-    → AreAdded u (state_of y.0) place n p es now → a ≤ length es → b ≤ length es → Searched u o es a b
-    → Searched u o now a b
-searched-grows {o} u es now place n p a b y here e added le_a le_b s =
+    → AreAdded u (state_of y.0) place n p es now → a ≤ length es → b ≤ length es → Searched u os es a b
+    → Searched u os now a b
+searched-grows {os} u es now place n p a b y here e added le_a le_b s =
     let g : Grows es now = (added.0, added.1) in
     let lt : place < length es = slice_get_within es place y here in
     let either : (j : ℕ) (x : Entry) → slice_get now j ≡ Some x
     → (slice_get es j ≡ Some x) ⊎ ((length es ≤ j) × IsFrom u (state_of y.0) place n p x) =
     from-cases u (state_of y.0) place n p es now added in
     record {
-      start = met-grows es now 0 o g s.start;
+      start = λ o is. met-grows es now 0 o g (s.start o is);
       reached = λ j x at. elim (either j x at) [
-        | inl old ↦ reached-grows u es now j x g (s.reached j x old)
-        | inr new ↦
-            reached-next u es now place n p y g (s.reached place y here) e j x
-            at (let le : length es ≤ j = new.0 in omega (arith, lt, le)) new.1
+        | inl old ↦ let (o, is, r) = s.reached j x old in (o, is, reached-grows u es now j x g r)
+        | inr (le, from) ↦
+            let (o, is, r) = s.reached place y here in
+            (o, is, reached-next u es now place n p y g r e j x at (omega (arith, lt, le)) from)
       ];
       pressed = λ j x at below. elim (either j x at) [
         | inl old ↦ moves-grow u es now 1 (x.1.presses + 1) (state_of x.0) g (s.pressed j x old below)
@@ -44,14 +44,21 @@ searched-grows {o} u es now place n p a b y here e added le_a le_b s =
     }
 
 -- fewer of them are asked for
-pub searched-fewer : {o : State} (u : Under) (es : Entries) (a b c d : ℕ) → c ≤ a → d ≤ b → Searched u o es a b
-    → Searched u o es c d
+pub searched-fewer : {os : List State} (u : Under) (es : Entries) (a b c d : ℕ) → c ≤ a → d ≤ b → Searched u os es a b
+    → Searched u os es c d
 searched-fewer u es a b c d le_c le_d s = record {
   start = s.start;
   reached = s.reached;
   pressed = λ j x at lt. s.pressed j x at (omega (arith, lt, le_c));
   closed = λ j x at lt. s.closed j x at (omega (arith, lt, le_d));
 }
+
+-- fewer of them, and what is asked for unless too many were met
+pub searched-both : {os : List State} (u : Under) (es : Entries) (a b c d e f : ℕ) → c ≤ a → d ≤ b
+    → (length es ≤ 65536 → (e ≤ a) × (f ≤ b)) → Searched u os es a b
+    → Searched u os es c d × (length es ≤ 65536 → Searched u os es e f)
+searched-both u es a b c d e f le_c le_d end s =
+    (searched-fewer u es a b c d le_c le_d s, (λ few. searched-fewer u es a b e f (end few).0 (end few).1 s))
 
 -- a place below n + 1 is below n, or n
 pub place_last : (j n : ℕ) → j < n + 1 → (j < n) ⊎ (j ≡ n)
@@ -63,9 +70,9 @@ pub same_entry : (es : Entries) (j n : ℕ) (x y : Entry)
 same_entry es j n x y e at here = same_Some y x (sym here ∙ ap (λ k. slice_get es k) (sym e) ∙ at)
 
 -- a further entry whose releases are met
-pub searched-closed : {o : State} (u : Under) (es : Entries) (a n : ℕ) (y : Entry) → slice_get es n ≡ Some y
+pub searched-closed : {os : List State} (u : Under) (es : Entries) (a n : ℕ) (y : Entry) → slice_get es n ≡ Some y
     → IsClosed u es y
-    → Searched u o es a n → Searched u o es a (n + 1)
+    → Searched u os es a n → Searched u os es a (n + 1)
 searched-closed u es a n y here closed s = record {
   start = s.start;
   reached = s.reached;
@@ -77,9 +84,9 @@ searched-closed u es a n y here closed s = record {
 }
 
 -- a further entry whose presses are met
-pub searched-pressed : {o : State} (u : Under) (es : Entries) (n b : ℕ) (y : Entry) → slice_get es n ≡ Some y
+pub searched-pressed : {os : List State} (u : Under) (es : Entries) (n b : ℕ) (y : Entry) → slice_get es n ≡ Some y
     → IsPressed u es y
-    → Searched u o es n b → Searched u o es (n + 1) b
+    → Searched u os es n b → Searched u os es (n + 1) b
 searched-pressed u es n b y here pressed s = record {
   start = s.start;
   reached = s.reached;
@@ -240,69 +247,29 @@ meet-old es p k e within =
     (r.0, r.1, r.2, sym r.3, within r.0 r.1 r.2)
 
 -- a place of a level is closed
-pub close-step : {o : State} (u : Under) (es now : Entries) (level p n : ℕ) (y : Entry) → Searched u o es level n
-    → AreInOrder es level p → level ≤ n → slice_get es n ≡ Some y
-    → AreAdded u (state_of y.0) n 0 p es now
-    → AreMet u now 0 p (state_of y.0) → Searched u o now level (n + 1) × AreInOrder now level p
-close-step {o} u es now level p n y s order le here added met =
+pub close-step : (u : Under) (es now : Entries) (level p n : ℕ) (y : Entry) → AreInOrder es level p → level ≤ n
+    → slice_get es n ≡ Some y → AreAdded u (state_of y.0) n 0 p es now → AreMet u now 0 p (state_of y.0)
+    → {os : List State} → Searched u os es level n → Searched u os now level (n + 1)
+close-step u es now level p n y order le here added met s =
     let lt : n < length es = slice_get_within es n y here in
     let e : y.1.presses ≡ p = (order.0 n y here).1 le in
-    let below : level ≤ length es = omega (arith, le, lt) in
-    let grown : Searched u o now level n =
-    searched-grows u es now n 0 p level n y here (omega (arith, e)) added below (omega (arith, lt)) s in
-    let closed : IsClosed u now y = subst (λ q. AreMet u now 0 q (state_of y.0)) (sym e) met in (
-      searched-closed u now level n y (at-now es now n y (added.0, added.1) here) closed grown,
-      order-grows u (state_of y.0) n 0 p level es now added below order,
-    )
+    searched-closed u now level n y (at-now es now n y (added.0, added.1) here)
+    (subst (λ q. AreMet u now 0 q (state_of y.0)) (sym e) met)
+    (searched-grows u es now n 0 p level n y here (omega (arith, e)) added (omega (arith, le, lt)) (omega (arith, lt)) s)
 
 -- a place of a level is pressed
-pub press-step : {o : State} (u : Under) (old es now : Entries) (level p n : ℕ) (y : Entry)
-    → Searched u o es n (length old)
-    → AreInOrder old level p → Grows old es
-    → AreInOrder es (length old) (p + 1) → level ≤ n → n < length old → slice_get es n ≡ Some y
+pub press-step : (u : Under) (old es now : Entries) (level p n : ℕ) (y : Entry) → AreInOrder old level p
+    → Grows old es → level ≤ n → n < length old → slice_get es n ≡ Some y
     → AreAdded u (state_of y.0) n 1 (p + 1) es now → AreMet u now 1 (p + 1) (state_of y.0)
-    → Searched u o now (n + 1) (length old) × AreInOrder now (length old) (p + 1) × Grows old now
-press-step {o} u old es now level p n y s before g order le lt here added met =
+    → {os : List State} → Searched u os es n (length old) → Searched u os now (n + 1) (length old)
+press-step u old es now level p n y before g le lt here added met s =
     let was : slice_get old n ≡ Some y = at_old old g.0 n y lt (subst (λ z. slice_get z n ≡ Some y) g.1 here) in
     let e : y.1.presses ≡ p = (before.0 n y was).1 le in
     let longer : length old ≤ length es = added-longer old es g in
-    let grown : Searched u o now n (length old) =
-    searched-grows u es now n 1 (p + 1) n (length old) y here (omega (arith, e)) added (omega (arith, lt, longer))
-    longer s in
-    let pressed : IsPressed u now y = subst (λ q. AreMet u now 1 (q + 1) (state_of y.0)) (sym e) met in (
-      searched-pressed u now n (length old) y (at-now es now n y (added.0, added.1) here) pressed grown,
-      order-grows u (state_of y.0) n 1 (p + 1) (length old) es now added longer order,
-      grows-again old es now g (added.0, added.1),
-    )
-
--- the search begins at the start
-pub start-entries : (E : Held → Held → Bool) (es now : Entries) (x : Entry) → es ≡ [] → now ≡ insert_entry E es x.0 x.1
-    → now ≡ x ∷ []
-start-entries E es now x none e = e ∙ ap (λ z. insert_entry E z x.0 x.1) none
-
--- a search begins with its origin
-pub searched-start : (u : Under) (h : Held) → (state_of h).is_locked Scroll ≡ false → (es : Entries)
-    → es ≡ (h, record { presses = 0; last = None }) ∷ []
-    → Searched u (state_of h) es 0 0 × AreInOrder es 0 0
-searched-start u h off es e =
-    let x : Entry = (h, record { presses = 0; last = None }) in
-    let only : (j : ℕ) (y : Entry) → slice_get es j ≡ Some y → (j ≡ 0) × (y ≡ x) =
-    λ j y at. one_entry x j y (subst (λ z. slice_get z j ≡ Some y) e at) in
-    let first : slice_get es 0 ≡ Some x = ap (λ z. slice_get z 0) e in (
-      record {
-        start = (0, x, first, refl, omega arith);
-        reached = λ j y at.
-            subst (λ z. IsReached u (state_of h) es j z) (sym (only j y at).1)
-            (rw (only j y at).0 ([], (x, first, refl), tt, refl, refl, off));
-        pressed = λ j y at lt. absurd (omega (arith, lt));
-        closed = λ j y at lt. absurd (omega (arith, lt));
-      },
-      (
-        (λ j y at. ((λ lt. absurd (omega (arith, lt))), (λ le. ap (λ z. z.1.presses) (only j y at).1))),
-        (λ i j y z up at_i at_j.
-            let e : y.1.presses ≡ 0 = ap (λ w. w.1.presses) (only i y at_i).1 in omega (arith, e)),
-      ),
-    )
+    searched-pressed u now n (length old) y (at-now es now n y (added.0, added.1) here)
+    (subst (λ q. AreMet u now 1 (q + 1) (state_of y.0)) (sym e) met)
+    (searched-grows u es now n 1 (p + 1) n (length old) y here (omega (arith, e)) added (omega (arith, lt, longer))
+    longer s)
 
 -- ---- what is done
 
@@ -320,22 +287,22 @@ done-by u es n closed pressed j x at move is leaves lt = elim (no-press_or_one m
 ]
 
 -- all that was met is
-pub all-done : {o : State} (u : Under) (es : Entries) → Searched u o es (length es) (length es) → (n : ℕ)
+pub all-done : {os : List State} (u : Under) (es : Entries) → Searched u os es (length es) (length es) → (n : ℕ)
     → AreDone u es n
 all-done u es s n =
     done-by u es n (λ j x at lt. s.closed j x at (slice_get_within es j x at))
     (λ j x at lt. s.pressed j x at (slice_get_within es j x at))
 
 -- where fewer presses than those of a level lead was met
-pub level-done : {o : State} (u : Under) (es : Entries) (level p : ℕ) → AreInOrder es level p
-    → Searched u o es level level → AreDone u es p
+pub level-done : {os : List State} (u : Under) (es : Entries) (level p : ℕ) → AreInOrder es level p
+    → Searched u os es level level → AreDone u es p
 level-done u es level p order s =
     done-by u es p (λ j x at lt. s.closed j x at (below_level es level p order j x at lt))
     (λ j x at lt. s.pressed j x at (below_level es level p order j x at (omega (arith, lt))))
 
 -- where as many presses lead was met, where the level was closed, and some of the next one was met
-pub closed-done : {o : State} (u : Under) (old es : Entries) (level p : ℕ) → AreInOrder old level p → Grows old es
-    → AreInOrder es (length old) (p + 1) → Searched u o es level (length old) → AreDone u es (p + 1)
+pub closed-done : {os : List State} (u : Under) (old es : Entries) (level p : ℕ) → AreInOrder old level p → Grows old es
+    → AreInOrder es (length old) (p + 1) → Searched u os es level (length old) → AreDone u es (p + 1)
 closed-done u old es level p before g order s =
     done-by u es (p + 1) (λ j x at lt. s.closed j x at (below_level es (length old) (p + 1) order j x at lt))
     (λ j x at lt.

@@ -16,6 +16,7 @@ use Rattle.console_states.specs.Inner.Showing.{IsUnseen}
 use Rattle.console_states.proofs.Approaching.{after-reached, met-near, met-reached, route-near, route-reached}
 use Rattle.console_states.proofs.Behind.{path-split}
 use Rattle.console_states.proofs.Returning.{near-met}
+use Rattle.console_states.proofs.Beginning.{reached-one}
 use Rattle.std.proofs.lemmas.Option.{get_or_from_slice_get, slice_get-get_or, slice_get-map}
 use Rattle.std.specs.Option.{option_map}
 use Rattle.console_states.proofs.Exploring.{has-home}
@@ -144,7 +145,7 @@ pub leads-by : (e : Explored) → IsExplored e → (place : ℕ) (y : Entry) →
     → ((path : List Move) → IsTrail e.met.entries place path → now ≡ events_along path ++ reverse old)
     → LeadsBy (map_of_explored e) (origin_in e) (state_of y.0) now
 leads-by e x place y at old now none is =
-    let r = x.searched.reached place y at in
+    let r = reached-one x.searched place y at in
     (r.0, r.2, r.3, is r.0 r.1 ∙ ap (λ z. events_along r.0 ++ reverse z) none ∙ append-nil (events_along r.0))
 
 -- the events of a route home

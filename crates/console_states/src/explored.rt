@@ -11,11 +11,10 @@ ghost use Rattle.console_states.specs.Inner.Routes.{HasRoute};
 ghost use Rattle.console_states.specs.Inner.Searching.{state_of, Entry};
 
 use crate::held::{Held, Keymaps};
-use crate::routes::{Routes, has_route, routes_home, state_at};
-use crate::search::{End, Met, meet_all};
+use crate::routes::{Routes, has_route, routes_home};
+use crate::search::{End, Met, meet_all, state_at};
 use crate::showing::{come_home, go_out, tap};
 use console_core::Event;
-use indexmap::IndexMap;
 use keymap_core::{Action, Cell, KEY_COUNT, KeyCode, KeyMap, MODIFIERS, key_with};
 use std::alloc::{AllocError, Global};
 
@@ -46,6 +45,7 @@ pub struct Tap {
 #[derive(Drop)]
 pub struct Explored<'m> {
     pub maps: Keymaps<'m>,
+    pub(crate) origin: Held,
     pub(crate) met: Met,
     pub(crate) routes: Routes,
     /// Whether the states that were met are all. Else they are more than 65,536.
@@ -65,16 +65,16 @@ pub fn explore<'m>(
         first: map,
         second: map,
         has_loads: false,
-        origin: *origin,
     };
-    let mut met = IndexMap::new(alloc);
-    let is_complete = match meet_all(alloc, &mut met, &maps)? {
+    let (met, end) = meet_all(alloc, &maps, &[*origin])?;
+    let is_complete = match end {
         End::Complete => true,
         End::TooMany(_) => false,
     };
     let routes = routes_home(alloc, &met, &maps)?;
     Ok(Explored {
         maps,
+        origin: *origin,
         met,
         routes,
         is_complete,
@@ -144,7 +144,7 @@ impl<'m> Explored<'m> {
     {
         for place in 0..self.met.len() {
             let held = state_at(&self.met, place);
-            if !is_near || held.has_locks_of(&self.maps.origin) {
+            if !is_near || held.has_locks_of(&self.origin) {
                 if let Some(key) = held.key_tapping(self.maps.first, tap) {
                     if has_route(&self.routes, &held) {
                         return Some(KeyAt { place, key });
@@ -200,8 +200,8 @@ impl<'m> Explored<'m> {
             (origin_in self.now) (reverse events.old.items) (reverse events.new.items))
             × (found ≡ false → HasRoute self.now.routes.entries (origin_in self.now) → ⊥)) }
     {
-        if has_route(&self.routes, &self.maps.origin) {
-            come_home(events, &self.routes, &self.maps.origin)?;
+        if has_route(&self.routes, &self.origin) {
+            come_home(events, &self.routes, &self.origin)?;
             Ok(true)
         } else {
             Ok(false)

@@ -7,6 +7,7 @@ ghost use Rattle.keymap_core.specs.Numbers.{key_count};
 ghost use Rattle.console_states.specs.declared.held.Held.{Held as HeldValue};
 ghost use Rattle.console_states.specs.Moves.{alone, start, free_with, state_of, with_lock_turned};
 ghost use Rattle.console_states.specs.Returning.{IsAfter, but_scroll};
+ghost use Rattle.console_states.specs.Sights.{AreSightsOf};
 ghost use Rattle.console_states.specs.Types.{Scroll};
 ghost use Rattle.console_states.specs.Typing.{ComesHome};
 ghost use Rattle.console_states.specs.Visiting.{AreStatesOf, CanReach, CanVisit, HasLocks, IsPressTold, IsWayHome};
@@ -21,9 +22,11 @@ ghost use Rattle.console_states.specs.Inner.Showing.{LeadsToSee, ShowsNot, locks
 use crate::explored::{Explored, KeyAt, Symbol, Tap, explore};
 use crate::held::{Held, Keymaps};
 use crate::onward::Reached;
-use crate::routes::{has_route, state_at};
+use crate::routes::has_route;
+use crate::search::state_at;
 use crate::selection::{Selection, Sight};
 use crate::showing::{come_home, go_out, tap};
+use crate::sights::{Sights, sights_in};
 use console_core::{Event, Translator};
 use keymap_core::{KeyCode, KeyMap, Lock};
 use std::alloc::{AllocError, Global};
@@ -307,6 +310,13 @@ impl<'m> Explorer<'m> {
         } else {
             Ok(None)
         }
+    }
+
+    /// What presses of keys can see.
+    pub fn sights(&self, alloc: Global) -> Result<Sights, AllocError>
+        ensures { IfOk result (λ x. AreSightsOf self.now.map x) }
+    {
+        sights_in(alloc, &self.explored.met, &self.explored.maps)
     }
 
     /// Aims at it, unless it can't be visited.

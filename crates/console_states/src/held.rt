@@ -5,13 +5,12 @@ mod moves;
 
 use keymap_core::{KeyCode, KeyMap, Lock, Modifier};
 
-/// The keymaps of a search, whether loads exchange them, and the state where it begins.
+/// The keymaps of a search, and whether loads exchange them.
 #[derive(Clone, Copy)]
 pub struct Keymaps<'m> {
     pub first: &'m KeyMap,
     pub second: &'m KeyMap,
     pub has_loads: bool,
-    pub origin: Held,
 }
 
 /// Which key holds each modifier on, which locks are on, and whether the second keymap is in force. Turns of the scroll

@@ -1,23 +1,20 @@
 //! Which accents can be pending, and in which states: those that moves lead to from where a key that holds nothing
 //! looks up the accent's dead key.
-ghost use Rattle.std.specs.Prelude.{◌≡◌, ◌<◌, ◌++◌, ◌∷◌, [], ℕ, List, true, length, OnOk, IfOk};
+ghost use Rattle.std.specs.Prelude.{◌≡◌, ◌++◌, ◌∷◌, [], ℕ, List, true, length, map, OnOk, IfOk};
 ghost use Rattle.std.specs.List.{Contains};
 ghost use Rattle.keymap_core.specs.Numbers.{key_count};
 ghost use Rattle.console_core.specs.Answers.{usable};
-ghost use Rattle.console_states.specs.Moves.{alone, start};
+ghost use Rattle.console_states.specs.Moves.{alone};
 ghost use Rattle.console_states.specs.Sights.{CanCompose, Enumerates};
-ghost use Rattle.console_states.specs.Inner.Searching.{state_of, under_of, AreWithin, Searched, HasMetAll};
+ghost use Rattle.console_states.specs.Inner.Searching.{state_of, under_of, HasMetAll};
 ghost use Rattle.console_states.specs.Inner.Adding.{IsWith, AddsOffer, AddsOffers, AreAccentsOf, AreSelectionsOf};
-ghost use Rattle.console_states.specs.Inner.Adding.{IsOfferedUnlocked, AddsState, AreSeedsTo, AreBehind};
-ghost use Rattle.console_states.specs.Inner.Adding.{AreOffersOf};
+ghost use Rattle.console_states.specs.Inner.Adding.{IsOfferedUnlocked, AreOffering, AreBehind, AreOffersOf};
 
 use crate::held::{Held, Keymaps};
-use crate::moving_keys::moving_keys;
-use crate::search::{Met, Origin, entry, meet_frees, meet_presses};
+use crate::search::{End, Met, entry, meet_all};
 use crate::selection::Selection;
 use crate::sights::{Offer, selections_of};
 use console_core::is_usable;
-use indexmap::IndexMap;
 use keymap_core::{KEY_COUNT, KeyCode, key_with};
 use std::alloc::{AllocError, Global};
 
@@ -88,58 +85,35 @@ fn is_offered_unlocked(met: &Met, maps: &Keymaps, accent: u8) -> bool
     false
 }
 
-/// Adds the state, if it isn't there.
-fn add_state(states: &mut Met, held: Held) -> Result<(), AllocError>
-    requires { AreWithin states.old.entries 0 }
-    ensures { OnOk result (AddsState (state_of held) states.old.entries states.new.entries) }
+/// The states that were met and where the accent is offered.
+fn offering(alloc: Global, met: &Met, maps: &Keymaps, accent: u8) -> Result<Vec<Held>, AllocError>
+    requires { usable maps.now.first.now accent ≡ true }
+    ensures { IfOk result (λ states. AreOffering (under_of maps.now) accent met.now.entries (length met.now.entries)
+        (map state_of states.items)) }
 {
-    if !states.contains_key(&held) {
-        let origin = Origin {
-            presses: 0,
-            last: None,
-        };
-        states.insert(held, origin)?;
-    }
-    Ok(())
-}
-
-/// Adds the states that were met and where the accent is offered.
-fn add_offering(states: &mut Met, met: &Met, maps: &Keymaps, accent: u8) -> Result<(), AllocError>
-    requires empty { states.old.entries ≡ [] }
-    requires usable { usable maps.now.first.now accent ≡ true }
-    requires searched { Searched (under_of maps.now) start met.now.entries (length met.now.entries)
-        (length met.now.entries) }
-    ensures { OnOk result (AreSeedsTo (under_of maps.now) accent met.now.entries (length met.now.entries)
-        states.new.entries) }
-{
+    let mut states = Vec::new(alloc);
     for place in 0..met.len() {
         let (held, _) = entry(met, place);
         match held.key_offering(maps, accent) {
-            Some(_) => add_state(states, held)?,
+            Some(_) => states.push(held)?,
             None => {}
         }
     }
-    Ok(())
+    Ok(states)
 }
 
-/// The states that moves lead to from where the accent is offered.
+/// The states that moves lead to from where the accent is offered, which are no more than were met.
 fn behind(alloc: Global, met: &Met, maps: &Keymaps, accent: u8) -> Result<Met, AllocError>
     requires usable { usable maps.now.first.now accent ≡ true }
-    requires searched { Searched (under_of maps.now) start met.now.entries (length met.now.entries)
-        (length met.now.entries) }
+    requires met { HasMetAll maps.now met.now.entries }
     ensures { IfOk result (λ states. AreBehind (under_of maps.now) accent met.now.entries states.entries) }
 {
-    let keys = moving_keys(alloc, maps)?;
-    let mut states = IndexMap::new(alloc);
-    add_offering(&mut states, met, maps, accent)?;
-    let mut place = 0;
-    while place < states.len() {
-        let (held, _) = entry(&states, place);
-        meet_frees(&mut states, maps, place, &held, 0)?;
-        meet_presses(&mut states, maps, keys.as_slice(), place, &held, 0)?;
-        place += 1;
+    let origins = offering(alloc, met, maps, accent)?;
+    let (states, end) = meet_all(alloc, maps, &origins)?;
+    match end {
+        End::Complete => Ok(states),
+        End::TooMany(_) => unreachable!(),
     }
-    Ok(states)
 }
 
 /// What can be looked up while the accent is pending. Where it is offered with no lock on, letting go leads to the

@@ -14,7 +14,7 @@ ghost use Rattle.console_states.specs.Inner.Showing.{IsSeenAt, IsTurnAt, IsUnsee
 
 use crate::explored::{Explored, KeyAt, explore};
 use crate::held::{Held, Keymaps};
-use crate::routes::state_at;
+use crate::search::state_at;
 use crate::selection::{Selection, Sight};
 use crate::showing::go_out;
 use console_core::{Event, Translator};

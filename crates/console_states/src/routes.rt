@@ -144,17 +144,6 @@ fn settle(
     Ok(rest)
 }
 
-/// The state that was met at the place.
-pub fn state_at(met: &Met, place: usize) -> Held
-    requires { place < length met.now.entries }
-    ensures { (x : Entry) → slice_get met.now.entries place ≡ Some x → result ≡ x.0 }
-{
-    match met.get_index(place) {
-        Some((held, _)) => *held,
-        None => unreachable!(),
-    }
-}
-
 /// The states that were met.
 fn states_of(alloc: Global, met: &Met) -> Result<Vec<Held>, AllocError>
     ensures { IfOk result (λ states. (j : ℕ) (x : Entry) → slice_get met.now.entries j ≡ Some x

@@ -1,22 +1,24 @@
 //! The search for sticking modifiers over the states that presses, releases and loads lead to, by the number of
 //! presses.
-ghost use Rattle.std.specs.Prelude.{◌≡◌, ◌+◌, ◌<◌, ◌≤◌, ℕ, [], None, Some, length, reverse};
+ghost use Rattle.std.specs.Prelude.{◌≡◌, ◌+◌, ◌<◌, ◌≤◌, ◌∷◌, ◌++◌, ℕ, List, [], None, Some, length, map, reverse};
 ghost use Rattle.std.specs.Prelude.{slice_get, OnOk, IfOk, IfSome, MatchOption, false};
+ghost use Rattle.std.specs.List.{Contains};
 ghost use Rattle.keymap_core.specs.Numbers.{key_count};
 ghost use Rattle.keymap_core.specs.declared.action.Modifier.{Modifier as ModifierValue};
 ghost use Rattle.keymap_core.specs.declared.action.Lock.TheVariants.{Scroll};
 ghost use Rattle.console_states.specs.declared.held.Held.{Held as HeldValue};
-ghost use Rattle.console_states.specs.Inner.Searching.{state_of, under_of, origin_of, IsMetBy, AreWithin, Grows};
+ghost use Rattle.console_states.specs.Inner.Searching.{state_of, under_of, Entry, IsMetBy, AreWithin, Grows, IsBegun};
 ghost use Rattle.console_states.specs.Inner.Searching.{IsStep, AreMet, AreAdded, Searched, AreInOrder, HasMovingKeys};
 ghost use Rattle.console_states.specs.Inner.Searching.{HasEnded, IsStuck, AreSafe, GoBack, IsScriptTo};
 ghost use Rattle.console_core.specs.History.{between};
-ghost use Rattle.console_states.specs.Moves.{Under, Holds, with_holder, start};
-ghost use Rattle.console_states.specs.Sticking.{IsAnswer, IsAnswerBetween, IsAnswerUnder, ReachesMoreThan, state_limit};
+ghost use Rattle.console_states.specs.Moves.{Under, State, Holds, with_holder};
+ghost use Rattle.console_states.specs.Sticking.{IsAnswer, IsAnswerBetween, IsAnswerUnder, state_limit};
 
 use crate::held::{Held, Keymaps, Move, Step};
 use crate::left_on::left_on;
 use crate::moving_keys::moving_keys;
 use crate::outcome::Sticking;
+use crate::showing::go_out;
 use console_core::Event;
 use indexmap::IndexMap;
 use keymap_core::{KeyCode, KeyMap, MODIFIERS};
@@ -61,6 +63,14 @@ pub fn entry(met: &Met, place: usize) -> (Held, Origin)
         Some((held, origin)) => (*held, *origin),
         None => unreachable!(),
     }
+}
+
+/// The state that was met at the place.
+pub fn state_at(met: &Met, place: usize) -> Held
+    requires { place < length met.now.entries }
+    ensures { (x : Entry) → slice_get met.now.entries place ≡ Some x → result ≡ x.0 }
+{
+    entry(met, place).0
 }
 
 /// Adds where the step from the place leads, if that wasn't met.
@@ -114,7 +124,7 @@ fn meet_let_gos(met: &mut Met, place: usize, held: &Held, presses: usize) -> Res
 }
 
 /// Adds where moves without a press lead: letting go of the modifiers, and a load.
-pub fn meet_frees(
+fn meet_frees(
     met: &mut Met,
     maps: &Keymaps,
     place: usize,
@@ -132,7 +142,7 @@ pub fn meet_frees(
 }
 
 /// Adds where presses of keys lead, of which those are given that can be moves.
-pub fn meet_presses(
+fn meet_presses(
     met: &mut Met,
     maps: &Keymaps,
     keys: &[KeyCode],
@@ -155,14 +165,15 @@ pub fn meet_presses(
 /// Adds where letting go and loads lead from the states of a level, which as many presses lead to. Stops once too many
 /// were met.
 fn close(met: &mut Met, maps: &Keymaps, level: usize, presses: usize) -> Result<(), AllocError>
-    requires searched { Searched (under_of maps.now) (origin_of maps.now) met.old.entries level level }
     requires order { AreInOrder met.old.entries level presses }
     requires below { level ≤ length met.old.entries }
-    ensures searched { OnOk result (Searched (under_of maps.now) (origin_of maps.now) met.new.entries level level) }
+    ensures searched { OnOk result ((origins : List State)
+        → Searched (under_of maps.now) origins met.old.entries level level
+        → Searched (under_of maps.now) origins met.new.entries level level
+        × (length met.new.entries ≤ state_limit
+        → Searched (under_of maps.now) origins met.new.entries level (length met.new.entries))) }
     ensures order { OnOk result (AreInOrder met.new.entries level presses) }
     ensures grown { OnOk result (Grows met.old.entries met.new.entries) }
-    ensures closed { OnOk result (length met.new.entries ≤ state_limit
-        → Searched (under_of maps.now) (origin_of maps.now) met.new.entries level (length met.new.entries)) }
 {
     let mut place = level;
     while place < met.len() && met.len() <= BOUND {
@@ -183,15 +194,12 @@ fn press(
 ) -> Result<(), AllocError>
     requires keys { HasMovingKeys (under_of maps.now) keys.now key_count }
     requires small { presses < state_limit }
-    requires searched { Searched (under_of maps.now) (origin_of maps.now) met.old.entries level
-        (length met.old.entries) }
     requires order { AreInOrder met.old.entries level presses }
-    requires below { level ≤ length met.old.entries }
-    ensures searched { OnOk result (length met.new.entries ≤ state_limit
-        → Searched (under_of maps.now) (origin_of maps.now) met.new.entries (length met.old.entries)
-        (length met.old.entries)) }
-    ensures closed { OnOk result (Searched (under_of maps.now) (origin_of maps.now) met.new.entries level
-        (length met.old.entries)) }
+    ensures searched { OnOk result ((origins : List State)
+        → Searched (under_of maps.now) origins met.old.entries level (length met.old.entries)
+        → Searched (under_of maps.now) origins met.new.entries level (length met.old.entries)
+        × (length met.new.entries ≤ state_limit
+        → Searched (under_of maps.now) origins met.new.entries (length met.old.entries) (length met.old.entries))) }
     ensures order { OnOk result (AreInOrder met.new.entries (length met.old.entries) (presses + 1)) }
     ensures grown { OnOk result (Grows met.old.entries met.new.entries) }
 {
@@ -214,61 +222,64 @@ fn script(alloc: Global, met: &Met, stuck: Stuck) -> Result<Vec<Event>, AllocErr
         → IsScriptTo u met.now.entries stuck.place stuck.key (reverse events.items)) }
 {
     let mut events = Vec::new(alloc);
-    let (held, origin) = entry(met, stuck.place);
-    held.push_releases(&mut events)?;
+    go_out(&mut events, alloc, met, stuck.place)?;
     events.push(Event::Press(stuck.key))?;
-    let mut last = origin.last;
-    while let Some((parent, by)) = last {
-        by.push_events(&mut events)?;
-        last = entry(met, parent).1.last;
-    }
-    events.reverse();
+    let mut releases = Vec::new(alloc);
+    state_at(met, stuck.place).push_releases(&mut releases)?;
+    releases.reverse();
+    events.extend_from_slice(&releases)?;
     Ok(events)
 }
 
-/// Meets the states level by level, in the order of the fewest presses.
-pub fn meet_all(alloc: Global, met: &mut Met, maps: &Keymaps) -> Result<End, AllocError>
-    requires empty { met.old.entries ≡ [] }
-    requires scroll { (origin_of maps.now).is_locked Scroll ≡ false }
-    ensures { IfOk result (λ end. HasEnded (under_of maps.now) (origin_of maps.now) met.new.entries end) }
+/// Adds the state as one where the search begins, unless that was done.
+fn add_origin(met: &mut Met, held: Held) -> Result<(), AllocError>
+    ensures { OnOk result ((origins : List State) → IsBegun origins met.old.entries
+        → IsBegun (origins ++ state_of held ∷ []) met.new.entries) }
 {
-    let keys = moving_keys(alloc, maps)?;
-    met.insert(
-        maps.origin,
-        Origin {
+    if !met.contains_key(&held) {
+        let origin = Origin {
             presses: 0,
             last: None,
-        },
-    )?;
+        };
+        met.insert(held, origin)?;
+    }
+    Ok(())
+}
+
+/// The states where a search begins, each once.
+fn begin(alloc: Global, origins: &[Held]) -> Result<Met, AllocError>
+    ensures { IfOk result (λ met. IsBegun (map state_of origins.now) met.entries) }
+{
+    let mut met = IndexMap::new(alloc);
+    for origin in origins {
+        add_origin(&mut met, *origin)?;
+    }
+    Ok(met)
+}
+
+/// Meets the states that moves lead to from these, level by level, in the order of the fewest presses.
+pub fn meet_all(alloc: Global, maps: &Keymaps, origins: &[Held]) -> Result<(Met, End), AllocError>
+    requires { (o : State) → Contains (map state_of origins.now) o → o.is_locked Scroll ≡ false }
+    ensures { IfOk result (λ x. HasEnded (under_of maps.now) (map state_of origins.now) x.0.entries x.1) }
+{
+    let keys = moving_keys(alloc, maps)?;
+    let mut met = begin(alloc, origins)?;
     let mut level = 0;
     let mut presses = 0;
     while level < met.len() {
-        close(met, maps, level, presses)?;
+        close(&mut met, maps, level, presses)?;
         if met.len() > BOUND {
-            return Ok(End::TooMany(presses));
+            return Ok((met, End::TooMany(presses)));
         }
         let end = met.len();
-        press(met, maps, keys.as_slice(), level, presses)?;
+        press(&mut met, maps, keys.as_slice(), level, presses)?;
         if met.len() > BOUND {
-            return Ok(End::TooMany(presses + 1));
+            return Ok((met, End::TooMany(presses + 1)));
         }
         level = end;
         presses += 1;
     }
-    Ok(End::Complete)
-}
-
-/// All states that moves lead to from the start, or nothing where the search gives up.
-pub fn all_states(alloc: Global, maps: &Keymaps) -> Result<Option<Met>, AllocError>
-    requires { origin_of maps.now ≡ start }
-    ensures { IfOk result (λ x. MatchOption x ((p : ℕ) × ReachesMoreThan (under_of maps.now) state_limit p)
-        (λ met. Searched (under_of maps.now) start met.entries (length met.entries) (length met.entries))) }
-{
-    let mut met = IndexMap::new(alloc);
-    match meet_all(alloc, &mut met, maps)? {
-        End::Complete => Ok(Some(met)),
-        End::TooMany(_) => Ok(None),
-    }
+    Ok((met, End::Complete))
 }
 
 /// The first place where a key that holds a modifier looks up a character.
@@ -288,11 +299,9 @@ pub fn first_stuck(met: &Met, maps: &Keymaps) -> Option<Stuck>
 
 /// Decides whether presses, releases and, where there are any, loads can leave a modifier on while no key is pressed.
 fn decide(alloc: Global, maps: &Keymaps) -> Result<Sticking, AllocError>
-    requires { origin_of maps.now ≡ start }
     ensures { IfOk result (λ answer. IsAnswerUnder (under_of maps.now) answer) }
 {
-    let mut met = IndexMap::new(alloc);
-    let end = meet_all(alloc, &mut met, maps)?;
+    let (met, end) = meet_all(alloc, maps, &[Held::start()])?;
     if let Some(stuck) = first_stuck(&met, maps) {
         let events = script(alloc, &met, stuck)?;
         let modifiers = left_on(alloc, maps, events.as_slice())?;
@@ -312,7 +321,6 @@ pub fn sticking(alloc: Global, map: &KeyMap) -> Result<Sticking, AllocError>
         first: map,
         second: map,
         has_loads: false,
-        origin: Held::start(),
     };
     decide(alloc, &maps)
 }
@@ -331,7 +339,6 @@ pub fn sticking_between(
         first,
         second,
         has_loads: true,
-        origin: Held::start(),
     };
     decide(alloc, &maps)
 }

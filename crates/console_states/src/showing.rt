@@ -18,7 +18,7 @@ fn push_moves(events: &mut Vec<Event>, moves: &[Move]) -> Result<(), AllocError>
     ensures { OnOk result (reverse events.new.items ≡ events_along (reverse moves.now) ++ reverse events.old.items) }
 {
     for by in moves {
-        by.push_in_order(events)?;
+        by.push_events(events)?;
     }
     Ok(())
 }

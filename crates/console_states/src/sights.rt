@@ -9,7 +9,7 @@ ghost use Rattle.console_states.specs.Inner.Adding.{IsWith, AreSelectionsOf};
 
 use crate::held::{Held, Keymaps};
 use crate::offers::offers_of;
-use crate::search::{Met, all_states, entry, first_stuck};
+use crate::search::{End, Met, entry, first_stuck, meet_all};
 use crate::selection::{Selection, Sight};
 use keymap_core::KeyMap;
 use std::alloc::{AllocError, Global};
@@ -67,8 +67,9 @@ pub fn selections_of(alloc: Global, met: &Met) -> Result<Vec<Selection>, AllocEr
     Ok(selections)
 }
 
-/// Whether a press under one of the selections sees it, where a pair's accent is pending.
-fn is_selected(map: &KeyMap, selections: &[Selection], sight: Sight) -> bool
+/// As `is_selected`, of which there is one for each kind of sight, so that no selection asks which it is.
+#[inline(always)]
+fn is_selected_of_kind(map: &KeyMap, selections: &[Selection], sight: Sight) -> bool
     ensures { result ≡ is_selected map.now selections.now sight }
 {
     for selection in selections {
@@ -77,6 +78,23 @@ fn is_selected(map: &KeyMap, selections: &[Selection], sight: Sight) -> bool
         }
     }
     false
+}
+
+/// Whether a press under one of the selections sees it, where a pair's accent is pending.
+fn is_selected(map: &KeyMap, selections: &[Selection], sight: Sight) -> bool
+    ensures { result ≡ is_selected map.now selections.now sight }
+{
+    match sight {
+        Sight::Cell { slot, column } => {
+            is_selected_of_kind(map, selections, Sight::Cell { slot, column })
+        }
+        Sight::Locks { slot, caps, num } => {
+            is_selected_of_kind(map, selections, Sight::Locks { slot, caps, num })
+        }
+        Sight::Pair { accent, character } => {
+            is_selected_of_kind(map, selections, Sight::Pair { accent, character })
+        }
+    }
 }
 
 /// Whether a press sees it under one of the selections where the accent can be pending.
@@ -106,7 +124,7 @@ impl Sights {
 }
 
 /// What the states that were met, which are all, tell of that.
-fn sights_in(alloc: Global, met: &Met, maps: &Keymaps) -> Result<Sights, AllocError>
+pub fn sights_in(alloc: Global, met: &Met, maps: &Keymaps) -> Result<Sights, AllocError>
     requires { HasMetAll maps.now met.now.entries }
     ensures { IfOk result (λ x. AreSightsOf maps.now.first.now x) }
 {
@@ -128,10 +146,10 @@ pub fn sights_of(alloc: Global, map: &KeyMap) -> Result<Option<Sights>, AllocErr
         first: map,
         second: map,
         has_loads: false,
-        origin: Held::start(),
     };
-    match all_states(alloc, &maps)? {
-        Some(met) => Ok(Some(sights_in(alloc, &met, &maps)?)),
-        None => Ok(None),
+    let (met, end) = meet_all(alloc, &maps, &[Held::start()])?;
+    match end {
+        End::Complete => Ok(Some(sights_in(alloc, &met, &maps)?)),
+        End::TooMany(_) => Ok(None),
     }
 }

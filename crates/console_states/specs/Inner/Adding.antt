@@ -7,12 +7,11 @@ use Rattle.keymap_core.specs.Maps.{MapValue}
 use Rattle.keymap_core.specs.Numbers.{key_count}
 use Rattle.console_states.specs.Types.{Move, Selection, Sight, Offer}
 use Rattle.console_core.specs.Answers.{usable}
-use Rattle.console_states.specs.Moves.{Under, State, IsMove, moved, IsPath, state_after}
+use Rattle.console_states.specs.Moves.{Under, State, IsPath, state_after}
 use Rattle.console_states.specs.Sights.{CanCompose, Offers, IsOfferedIn, IsOfferedAlong, HasNoDoubles, Enumerates}
 use Rattle.console_states.specs.Sights.{accents_in}
 use Rattle.console_states.specs.Sights.{selection_of, SeesBy}
-use Rattle.console_states.specs.Inner.Routes.{IsMet}
-use Rattle.console_states.specs.Inner.Searching.{state_of, Entry, Entries, AreWithin, Grows, LeavesScroll}
+use Rattle.console_states.specs.Inner.Searching.{state_of, Entry, Entries, Searched}
 
 -- the list has x, which was added if it wasn't there
 abbrev pub IsWith : {X : Type 0} → X → List X → List X → Type 0
@@ -61,30 +60,17 @@ abbrev pub IsBehind : Under → ℕ → State → Type 0
 IsBehind u accent s =
     (path : List Move) × IsPath u path × IsOfferedAlong u path accent × (state_after u path ≡ s)
 
--- the state was added, if it wasn't there
-pub record AddsState (s : State) (old now : Entries) : Type 0 where
-  pub within : AreWithin now 0
-  pub grown : Grows old now
-  pub added : IsMet now s
-  pub only : (j : ℕ) (x : Entry) → slice_get now j ≡ Some x → (slice_get old j ≡ Some x) ⊎ (state_of x.0 ≡ s)
+-- the states are those that were met, below the place, and where the accent is offered
+pub record AreOffering (u : Under) (accent : ℕ) (met : Entries) (place : ℕ) (states : List State) : Type 0 where
+  pub all : (j : ℕ) (x : Entry) → slice_get met j ≡ Some x → j < place → IsOfferedIn u (state_of x.0) accent
+      → Contains states (state_of x.0)
+  pub only : (s : State) → Contains states s → IsInSome met place (λ t. (t ≡ s) × IsOfferedIn u t accent)
 
--- The states are behind where the accent is offered, among them those below the place that were met and where it is.
-pub record AreSeedsTo (u : Under) (accent : ℕ) (met : Entries) (place : ℕ) (es : Entries) : Type 0 where
-  pub within : AreWithin es 0
-  pub seeds : (j : ℕ) (x : Entry) → slice_get met j ≡ Some x → j < place → IsOfferedIn u (state_of x.0) accent
-      → IsMet es (state_of x.0)
-  pub behind : (j : ℕ) (x : Entry) → slice_get es j ≡ Some x
-      → IsBehind u accent (state_of x.0) × ((state_of x.0).is_locked Scroll ≡ false)
-
--- All seeds of what was met are among the states, and where moves lead from those below the number.
-pub record AreBehindTo (u : Under) (accent : ℕ) (met es : Entries) (n : ℕ) : Type 0 where
-  pub seeds : AreSeedsTo u accent met (length met) es
-  pub moved : (j : ℕ) (x : Entry) → slice_get es j ≡ Some x → j < n → (move : Move)
-      → IsMove u (state_of x.0) move → LeavesScroll move → IsMet es (moved u (state_of x.0) move)
-
--- the states are those behind where the accent is offered
+-- the states are those that moves lead to from where the accent is offered
 abbrev pub AreBehind : Under → ℕ → Entries → Entries → Type 0
-AreBehind u accent met es = AreBehindTo u accent met es (length es)
+AreBehind u accent met es =
+    (origins : List State) × AreOffering u accent met (length met) origins
+    × Searched u origins es (length es) (length es)
 
 -- the offers are those of the accents
 pub record AreOffersOf (m : MapValue) (accents : List ℕ) (offers : List Offer) : Type 0 where

@@ -1,6 +1,6 @@
 -- What an exploration keeps, and the events of one tap of a key. Mirrors `Explored` of src/explored.rt, src/ways.rt and
 -- src/typing.rt.
-use Rattle.std.specs.Prelude.{◌≡◌, ℕ, Bool, true, false, List, [], ◌∷◌, ◌++◌, length, reverse, None, Some, slice_get}
+use Rattle.std.specs.Prelude.{◌≡◌, ◌≤◌, ℕ, Bool, true, false, List, [], ◌∷◌, ◌++◌, length, reverse, None, Some, slice_get}
 use Rattle.std.specs.Prelude.{Option, map}
 use Rattle.keymap_core.specs.declared.action.Lock.TheVariants.{Scroll}
 use Rattle.keymap_core.specs.Maps.{MapValue}
@@ -25,14 +25,14 @@ use Rattle.console_states.specs.declared.typing.Typed.TheVariants as typed
 use Rattle.console_states.specs.declared.ways.Way.{Way}
 use Rattle.console_states.specs.declared.ways.Way.TheVariants as way
 use Rattle.console_states.specs.Inner.Routes.{AllEntries, AllLeadHome, HasRoute, AreSettled}
-use Rattle.console_states.specs.Inner.Searching.{state_of, under_of, origin_of, Entry, Searched}
+use Rattle.console_states.specs.Inner.Searching.{state_of, under_of, Entry, Searched}
 use Rattle.console_states.specs.Inner.Standing.{Stands}
 
 abbrev pub map_of_explored : Explored → MapValue
 map_of_explored e = e.maps.first.now
 
 abbrev pub origin_in : Explored → State
-origin_in e = origin_of e.maps
+origin_in e = state_of e.origin
 
 -- the scroll lock is off, and the first map is in force
 abbrev pub IsOrigin : State → Type 0
@@ -43,11 +43,13 @@ IsOrigin s = (s.is_locked Scroll ≡ false) × (s.is_second ≡ false)
 pub record IsExplored (e : Explored) : Type 0 where
   pub under : under_of e.maps ≡ alone (map_of_explored e)
   pub origin : IsOrigin (origin_in e)
-  pub searched : Searched (alone (map_of_explored e)) (origin_in e) e.met.entries 0 0
+  pub searched : Searched (alone (map_of_explored e)) (origin_in e ∷ []) e.met.entries 0 0
   pub home : AllLeadHome (alone (map_of_explored e)) e.routes.entries
   pub whole : e.is_complete ≡ true
-      → Searched (alone (map_of_explored e)) (origin_in e) e.met.entries (length e.met.entries) (length e.met.entries)
+      → Searched (alone (map_of_explored e)) (origin_in e ∷ []) e.met.entries (length e.met.entries)
+      (length e.met.entries)
       × AreSettled (alone (map_of_explored e)) e.met.entries e.routes.entries
+  pub few : e.is_complete ≡ true → length e.met.entries ≤ state_limit
   pub more : e.is_complete ≡ false
       → (p : ℕ) × ReachesMoreThanFrom (alone (map_of_explored e)) (origin_in e) state_limit p
 

@@ -23,14 +23,11 @@ use Rattle.console_states.specs.Moves.{Under, alone, State, start, look_in, IsId
 use Rattle.console_states.specs.Moves.{moved, presses_of, presses_along, state_from, IsPathFrom}
 use Rattle.console_states.specs.Moves.{state_after, script_of_path, with_holder, with_lock_turned}
 pub use Rattle.console_states.specs.Moves.{state_of}
-use Rattle.console_states.specs.Sticking.{ReachesMoreThanFrom, state_limit}
+use Rattle.console_states.specs.Sticking.{state_limit}
 
--- what a search of the keymaps goes under, and where it begins
+-- what a search of the keymaps goes under
 abbrev pub under_of : Keymaps → Under
 under_of x = record { maps = between x.first.now x.second.now; has_loads = x.has_loads }
-
-abbrev pub origin_of : Keymaps → State
-origin_of x = state_of x.origin
 
 -- a state that was met, and how it was come to
 abbrev pub Entry : Type 0
@@ -124,17 +121,26 @@ AreDone u es n =
     → x.1.presses + presses_of move < n
     → IsMetBy es (x.1.presses + presses_of move) (moved u (state_of x.0) move)
 
--- The origin, where the search begins, was met, and what was met is reached; those below `pressed_to` are pressed, and
--- those below `closed_to` are closed.
-pub record Searched (u : Under) (o : State) (es : Entries) (pressed_to closed_to : ℕ) : Type 0 where
-  pub start : IsMetBy es 0 o
-  pub reached : (j : ℕ) (x : Entry) → slice_get es j ≡ Some x → IsReached u o es j x
+-- The origins, where the search begins, were met by no press, and no other states.
+pub record IsBegun (origins : List State) (es : Entries) : Type 0 where
+  pub all : (o : State) → Contains origins o → IsMetBy es 0 o
+  pub only : (j : ℕ) (x : Entry) → slice_get es j ≡ Some x
+      → Contains origins (state_of x.0) × (x.1 ≡ record { presses = 0; last = None })
+
+-- The origins were met, and what was met is reached from one of them; those below `pressed_to` are pressed, and those
+-- below `closed_to` are closed.
+pub record Searched (u : Under) (origins : List State) (es : Entries) (pressed_to closed_to : ℕ) : Type 0 where
+  pub start : (o : State) → Contains origins o → IsMetBy es 0 o
+  pub reached : (j : ℕ) (x : Entry) → slice_get es j ≡ Some x
+      → (o : State) × Contains origins o × IsReached u o es j x
   pub pressed : (j : ℕ) (x : Entry) → slice_get es j ≡ Some x → j < pressed_to → IsPressed u es x
   pub closed : (j : ℕ) (x : Entry) → slice_get es j ≡ Some x → j < closed_to → IsClosed u es x
 
 -- a search of one keymap, without loads, met all states that moves lead to from the start
 abbrev pub HasMetAll : Keymaps → Entries → Type 0
-HasMetAll x es = (under_of x ≡ alone x.first.now) × Searched (alone x.first.now) start es (length es) (length es)
+HasMetAll x es =
+    (under_of x ≡ alone x.first.now) × Searched (alone x.first.now) (start ∷ []) es (length es) (length es)
+    × (length es ≤ state_limit)
 
 -- in the states below the place no holder looks up a character
 abbrev pub AreSafe : Under → Entries → ℕ → Type 0
@@ -166,11 +172,20 @@ IsScriptTo u es j k h =
 abbrev pub IsStuck : Under → Entries → ℕ → ℕ → Type 0
 IsStuck u es j k = (x : Entry) × (slice_get es j ≡ Some x) × ((i : Modifier) × HolderForgets u (state_of x.0) i k)
 
--- a search that ends so met all states that moves lead to, or too many
-abbrev pub IsEnd : Under → State → Entries → End → Type 0
-IsEnd u o es end.Complete = Searched u o es (length es) (length es)
-IsEnd u o es (end.TooMany p) = ReachesMoreThanFrom u o state_limit p × AreWithin es p × AreDone u es p
+-- each state was met once
+abbrev pub AreMetOnce : Entries → Type 0
+AreMetOnce es =
+    (i j : ℕ) (x y : Entry) → i < j → slice_get es i ≡ Some x → slice_get es j ≡ Some y → state_of x.0 ≡ state_of y.0
+    → ⊥
 
--- The search met the states in the order of the fewest presses.
-abbrev pub HasEnded : Under → State → Entries → End → Type 0
-HasEnded u o es end = Searched u o es 0 0 × AreOrdered es × IsEnd u o es end
+-- a search that ends so met all states that moves lead to, or more than it goes over
+abbrev pub IsEnd : Under → List State → Entries → End → Type 0
+IsEnd u origins es end.Complete = Searched u origins es (length es) (length es) × (length es ≤ state_limit)
+IsEnd u origins es (end.TooMany p) = (state_limit < length es) × AreWithin es p × AreDone u es p
+
+-- The search met the states in the order of the fewest presses from any of the origins, each once.
+pub record HasEnded (u : Under) (origins : List State) (es : Entries) (end : End) : Type 0 where
+  pub searched : Searched u origins es 0 0
+  pub ordered : AreOrdered es
+  pub once : AreMetOnce es
+  pub is : IsEnd u origins es end

@@ -32,27 +32,14 @@ use std::hash::{Hash, Hasher};
 
 impl Move {
     /// Adds the events of the move, in their order.
-    pub fn push_in_order(self, events: &mut Vec<Event>) -> Result<(), AllocError>
-        ensures { OnOk result (reverse events.new.items ≡ events_of_move self ++ reverse events.old.items) }
-    {
-        if let Move::Turn(key, _) = self {
-            events.push(Event::Press(key))?;
-            events.push(Event::Release(key))?;
-        } else {
-            self.push_events(events)?;
-        }
-        Ok(())
-    }
-
-    /// Adds the events of the move, the newest first.
     pub fn push_events(self, events: &mut Vec<Event>) -> Result<(), AllocError>
-        ensures { OnOk result (events.new.items ≡ events.old.items ++ events_of_move self) }
+        ensures { OnOk result (reverse events.new.items ≡ events_of_move self ++ reverse events.old.items) }
     {
         match self {
             Move::Hold(key, _) => events.push(Event::Press(key))?,
             Move::Turn(key, _) => {
-                events.push(Event::Release(key))?;
                 events.push(Event::Press(key))?;
+                events.push(Event::Release(key))?;
             }
             Move::LetGo(key, _) => events.push(Event::Release(key))?,
             Move::Exchange => events.push(Event::Load)?,
@@ -229,6 +216,15 @@ impl Held {
         false
     }
 
+    /// As `holds`, out of line: for where it is asked of few of the keys that are looked at.
+    #[inline(never)]
+    fn is_busy(&self, key: KeyCode) -> bool
+        ensures idle { result ≡ false → IsIdle (state_of self.now) key }
+        ensures busy { result ≡ true → IsIdle (state_of self.now) key → ⊥ }
+    {
+        self.holds(key)
+    }
+
     /// Whether no key holds a modifier.
     fn is_free(&self) -> bool
         ensures free { result ≡ true → IsFree (state_of self.now) }
@@ -298,7 +294,7 @@ impl Held {
     {
         match &self.look(maps, key) {
             Cell::Act(Action::DeadKey(accent)) => {
-                if self.holds(key) {
+                if self.is_busy(key) {
                     None
                 } else {
                     Some(accent.get())

@@ -1,38 +1,42 @@
-use Rattle.console_states.proofs.Common.{◌≤◌, ◌<◌, length, arith, state_of, under_of, rules}
-use Rattle.console_states.proofs.Offering.{added-within, behind-start, behind-step, behind-few}
+use Rattle.console_states.proofs.Common.{◌≡◌, ◌≤◌, ◌<◌, arith, length, map, subst, sym, false, Scroll, State, Contains}
+use Rattle.console_states.proofs.Common.{state_of, under_of, alone, AreOffering, HasEnded, TooMany}
+use Rattle.console_states.specs.declared.search.End.TheVariants.{Complete}
+use Rattle.console_states.proofs.Offering.{offering-off, behind-few}
 use Rattle.console_states.proofs.offers.behind.Goals as goal
 
-pub loop-place-init : goal.loop-place-init
-loop-place-init c = search (rules, behind-start)
-
-pub meet_frees-requires : goal.meet_frees-requires
-meet_frees-requires c = c.loop-place.invariant.seeds.within
-
-pub meet_presses-requires-clause-within : goal.meet_presses-requires-clause-within
-meet_presses-requires-clause-within c =
-    added-within (under_of c.args.maps.now) (state_of c.entry-held.result.0) c.loop-place.place 0
-    c.loop-place.states.entries c.meet_frees.new.met.entries c.in_ok-meet_frees.ensures.added
-    c.loop-place.invariant.seeds.within
-
-pub meet_presses-requires-clause-keys : goal.meet_presses-requires-clause-keys
-meet_presses-requires-clause-keys c = rw c.as_slice.ensures.value c.in_ok-keys.ensures
-
-pub loop-place-smaller : goal.loop-place-smaller
-loop-place-smaller c =
-    let es = c.loop-place.states.entries in
+pub meet_all-requires : goal.meet_all-requires
+meet_all-requires c =
     let met = c.args.met.now.entries in
-    let few : length es ≤ length met =
-    behind-few (under_of c.args.maps.now) c.args.accent met es c.requires.searched c.loop-place.invariant.seeds
-    c.len.ensures.unique in
-    let lt : c.loop-place.place < length es = omega (arith, c.loop-place-test.true, c.len.ensures.len) in
-    omega (arith, few, lt)
-
-pub loop-place-preserved : goal.loop-place-preserved
-loop-place-preserved c =
-    behind-step (under_of c.args.maps.now) c.args.accent c.args.met.now.entries c.loop-place.states.entries
-    c.meet_frees.new.met.entries c.meet_presses.new.met.entries c.loop-place.place c.entry-held.result
-    c.loop-place.invariant c.entry-held.ensures c.in_ok-meet_frees.ensures.added
-    c.in_ok-meet_presses.ensures.added c.in_ok-meet_frees.ensures.met c.in_ok-meet_presses.ensures.met
+    let os = map state_of c.in_ok-origins.origins.items in
+    subst (λ z. (o : State) → Contains (map state_of z) o → o.is_locked Scroll ≡ false) (sym c.deref.ensures.value)
+    (offering-off (alone c.args.maps.now.first.now) c.args.accent met os c.requires.met.1
+    (subst (λ u. AreOffering u c.args.accent met (length met) os) c.requires.met.0 c.in_ok-origins.ensures))
 
 pub returns : goal.returns
-returns c = search rules
+returns c =
+    let u = under_of c.args.maps.now in
+    let os = map state_of c.in_ok-origins.origins.items in
+    let es = c.in_ok-states.states.entries in
+    let ended : HasEnded u os es Complete =
+    subst (λ o. HasEnded u os es o) c.in-Complete.is
+    (subst (λ z. HasEnded u (map state_of z) es c.in_ok-states.end) c.deref.ensures.value c.in_ok-states.ensures) in
+    (os, c.in_ok-origins.ensures, ended.is.0)
+
+pub unreachable-requires : goal.unreachable-requires
+unreachable-requires c =
+    let u = alone c.args.maps.now.first.now in
+    let met = c.args.met.now.entries in
+    let os = map state_of c.in_ok-origins.origins.items in
+    let es = c.in_ok-states.states.entries in
+    let ended : HasEnded u os es (TooMany c.in-TooMany.field-0) =
+    subst (λ v. HasEnded v os es (TooMany c.in-TooMany.field-0)) c.requires.met.0
+    (subst (λ o. HasEnded (under_of c.args.maps.now) os es o) c.in-TooMany.is
+    (subst (λ z. HasEnded (under_of c.args.maps.now) (map state_of z) es c.in_ok-states.end) c.deref.ensures.value
+    c.in_ok-states.ensures)) in
+    let few : length es ≤ length met =
+    behind-few u c.args.accent met es os c.requires.met.1
+    (subst (λ v. AreOffering v c.args.accent met (length met) os) c.requires.met.0 c.in_ok-origins.ensures)
+    ended.searched ended.once in
+    let more : 65536 < length es = ended.is.0 in
+    let within : length met ≤ 65536 = c.requires.met.2 in
+    omega (arith, few, more, within)

@@ -1,17 +1,15 @@
-use Rattle.console_states.proofs.Common.{◌≤◌, ◌<◌, ◌+◌, [], length, sym, arith, append-nil, under_of, origin_of}
-use Rattle.console_states.proofs.Common.{Searched, AreInOrder, Grows, rules}
-use Rattle.console_states.proofs.Searching.{press-step, order-next, searched-fewer}
+use Rattle.console_states.proofs.Common.{◌≤◌, ◌<◌, ◌+◌, [], length, sym, arith, append-nil, state_of, under_of, AreAdded}
+use Rattle.console_states.proofs.Common.{rules}
+use Rattle.console_states.proofs.Growing.{added-longer, grows-again}
+use Rattle.console_states.proofs.Searching.{press-step, order-grows, order-next, searched-both}
 use Rattle.console_states.proofs.search.press.Goals as goal
 
 pub loop-place-init : goal.loop-place-init
 loop-place-init c = record {
-  searched = c.requires.searched;
+  searched = λ origins s. s;
   order = order-next c.args.met.now.entries c.args.level c.args.presses c.requires.order;
   grown = ([], sym (append-nil c.args.met.now.entries));
 }
-
-pub returns-then-len-gt-BOUND-clause-closed : goal.returns-then-len-gt-BOUND-clause-closed
-returns-then-len-gt-BOUND-clause-closed c = search (rules, searched-fewer)
 
 pub loop-place-preserved : goal.loop-place-preserved
 loop-place-preserved c =
@@ -20,22 +18,32 @@ loop-place-preserved c =
     let es = c.loop-place.met.entries in
     let now = c.meet_presses.new.met.entries in
     let n = c.loop-place.place in
+    let p = c.args.presses in
     let y = c.entry-held.result in
+    let before = c.loop-place.invariant in
+    let added : AreAdded u (state_of y.0) n 1 (p + 1) es now = c.in_ok-meet_presses.ensures.added in
     let le : c.args.level ≤ n = omega (arith, c.loop-place.auto.place) in
     let lt : n < length old = omega (arith, c.loop-place-test.true, c.len-end.ensures.len) in
-    let step : Searched u (origin_of c.args.maps.now) now (n + 1) (length old)
-    × AreInOrder now (length old) (c.args.presses + 1) × Grows old now =
-    press-step u old es now c.args.level c.args.presses n y c.loop-place.invariant.searched c.requires.order
-    c.loop-place.invariant.grown c.loop-place.invariant.order le lt c.entry-held.ensures
-    c.in_ok-meet_presses.ensures.added c.in_ok-meet_presses.ensures.met in
     record {
-      searched = step.0;
-      order = step.1;
-      grown = step.2;
+      searched = λ origins s.
+          press-step u old es now c.args.level p n y c.requires.order before.grown le lt c.entry-held.ensures added
+          c.in_ok-meet_presses.ensures.met (before.searched origins s);
+      order =
+          order-grows u (state_of y.0) n 1 (p + 1) (length old) es now added (added-longer old es before.grown)
+          before.order;
+      grown = grows-again old es now before.grown (added.0, added.1);
     }
 
-pub returns-clause-searched : goal.returns-clause-searched
-returns-clause-searched c = search (rules, searched-fewer)
+pub returns-then-len-gt-BOUND-clause-searched : goal.returns-then-len-gt-BOUND-clause-searched
+returns-then-len-gt-BOUND-clause-searched c =
+    λ origins s.
+    let old = length c.args.met.now.entries in
+    searched-both (under_of c.args.maps.now) c.loop-place.met.entries c.loop-place.place old c.args.level old old old
+    (search rules) (omega arith) (λ few. (search rules, omega arith)) (c.loop-place.invariant.searched origins s)
 
-pub returns-clause-closed : goal.returns-clause-closed
-returns-clause-closed c = search (rules, searched-fewer)
+pub returns-clause-searched : goal.returns-clause-searched
+returns-clause-searched c =
+    λ origins s.
+    let old = length c.args.met.now.entries in
+    searched-both (under_of c.args.maps.now) c.loop-place.met.entries c.loop-place.place old c.args.level old old old
+    (search rules) (omega arith) (λ few. (search rules, omega arith)) (c.loop-place.invariant.searched origins s)

@@ -2,6 +2,7 @@ use Rattle.console_states.proofs.Common.{subst, reverse, slice_get_within, alone
 use Rattle.console_states.proofs.Common.{LeadsHome, state_of, rules}
 use Rattle.console_states.proofs.Exploring.{tap-freed, tap-home}
 use Rattle.console_states.proofs.GoingBack.{searched-back}
+use Rattle.console_states.proofs.Beginning.{reached-one}
 use Rattle.console_states.proofs.explored.Explored.go_and_tap.Goals as goal
 
 pub go_out-requires-clause-back : goal.go_out-requires-clause-back
@@ -17,7 +18,7 @@ returns-in_ok-next c =
     let u = alone (map_of_explored e) in
     let is = c.state_at-held.ensures x at in
     tap-freed u (origin_in e) e.met.entries e.routes.entries c.args.at.place x c.args.at.key
-    (reverse c.args.events.now.items) _ _ _ _ (c.requires.explored.searched.reached c.args.at.place x at)
+    (reverse c.args.events.now.items) _ _ _ _ (reached-one c.requires.explored.searched c.args.at.place x at)
     c.requires.explored.home c.in_ok-go_out.ensures c.in_ok-tap.ensures
     (rw (← is) c.in_ok-next.ensures)
     (rw (← is, ← c.freed.ensures) (c.has_route.ensures.has c.if-has_route.true))
@@ -34,5 +35,5 @@ returns-in_ok-come_home c =
     let (moves, home, added) = c.in_ok-come_home.ensures (alone m) c.requires.explored.home in
     tap-home m (origin_in e) e.met.entries c.args.at.place x c.args.at.key
     (reverse c.args.events.now.items) _ _ _ moves _ c.requires.explored.origin
-    (c.requires.explored.searched.reached c.args.at.place x at) c.in_ok-go_out.ensures c.in_ok-tap.ensures
+    (reached-one c.requires.explored.searched c.args.at.place x at) c.in_ok-go_out.ensures c.in_ok-tap.ensures
     (subst (λ h. LeadsHome (alone m) (state_of h) moves) is home) added c.start.ensures

@@ -1,7 +1,7 @@
 use Rattle.console_states.proofs.Common.{false_from_ne_true, ◌<◌, length, refl, subst, sym, arith, below_more}
 use Rattle.console_states.proofs.Common.{◌∙◌, get_or_default, SeesBy, is_selected, rules}
 use Rattle.console_states.proofs.Visible.{selected-true, true-selected}
-use Rattle.console_states.proofs.sights.is_selected.Goals as goal
+use Rattle.console_states.proofs.sights.is_selected_of_kind.Goals as goal
 
 pub loop-selection-preserved : goal.loop-selection-preserved
 loop-selection-preserved c =

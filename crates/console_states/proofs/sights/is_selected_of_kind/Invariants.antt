@@ -1,6 +1,6 @@
 -- no press sees it under a selection below the place
 use Rattle.console_states.proofs.Common.{◌≡◌, ◌<◌, ℕ, get_or, key_count, Selection, SeesBy}
-use Rattle.console_states.proofs.sights.is_selected.Given as goal
+use Rattle.console_states.proofs.sights.is_selected_of_kind.Given as goal
 
 abbrev pub invariant-loop-selection : goal.invariant-loop-selection
 invariant-loop-selection l =

@@ -1,4 +1,5 @@
 mod Boards
+mod Columns
 mod Common
 mod Letters
 mod Loops

@@ -7,22 +7,23 @@ use Rattle.keymap_draw.proofs.Common.{Drawing, Fact, numbered, slot_of, run_keys
 use Rattle.keymap_draw.proofs.Common.{half_facts, named_accents, listed_accent, picture_facts, titles, told, told_in}
 use Rattle.keymap_draw.proofs.Common.{key_definition, accent_definition, title_of, State, Tells}
 use Rattle.std.proofs.lemmas.List.{map-append, nil_from_length, reverse-reverse}
-use Rattle.keymap_draw.proofs.Common.{◌==◌, true, false, eqb-true, length, append-nil, cond_both, Finding, MapValue, reverse}
+use Rattle.keymap_draw.proofs.Common.{◌==◌, true, false, eqb-true, length, append-nil, cond_both, Finding, MapValue}
+use Rattle.keymap_draw.proofs.Common.{reverse}
 use Rattle.keymap_draw.proofs.Common.{accents_list, findings_list, head, listed_finding, part, silent_list}
-use Rattle.keymap_draw.proofs.Common.{silent_name, table, accent_words, Number}
+use Rattle.keymap_draw.proofs.Common.{silent_name, table, accent_words}
 use Rattle.keymap_draw.specs.declared.board.Run.{Run}
 use Rattle.keymap_draw.specs.declared.place.Column.{Column}
 use Rattle.keymap_draw.specs.declared.place.Column.TheVariants.{Base, Shift, Alt, AltShift}
 use Rattle.keymap_draw.specs.Boards.{keys_in}
 use Rattle.keymap_draw.specs.Drawn.{cell_in, drawn, stands_alone}
 use Rattle.std.specs.Prelude.{codes, ◌*◌}
-use Rattle.keymap_draw.specs.Facts.{group}
-use Rattle.keymap_draw.specs.Sheets.{dress}
-use Rattle.keymap_draw.specs.declared.words.TheConstants as words
+use Rattle.keymap_draw.specs.ColourKey.{colour_key}
+use Rattle.keymap_draw.specs.Facts.{group, headline_at}
 use Rattle.keymap_draw.specs.Facts.Fact.{Begin, End, Figure, Text}
-use Rattle.keymap_draw.specs.Halves.{board_key, headline, name, others_line, sample, verdict}
+use Rattle.keymap_draw.specs.Halves.{board_key, headline, name, others_line, panel, sample, verdict}
 use Rattle.keymap_draw.specs.Keys.{title, is_tight, some_legend, drawn_legend, legends, key}
-use Rattle.keymap_draw.specs.Lists.{accent_row, composed, line, part_of, silent_accents, some_accent_row}
+use Rattle.keymap_draw.specs.Lists.{accent_row, composed, line, part_of, silent_accents, silent_line}
+use Rattle.keymap_draw.specs.Lists.{some_accent_row}
 use Rattle.keymap_draw.specs.Pictures.{upper, upper_keys, parts}
 use Rattle.keymap_draw.specs.Titles.{is_title}
 use Rattle.keymap_draw.specs.Told.{TitlesTell}
@@ -149,7 +150,7 @@ half_titled : (d : Drawing) (half : Half) (y : ℕ)
 unfolding half_facts
 half_titled d half y =
     keys_together d half (codes_in (keys_of d.board)) (other_keys d half)
-    (behind (headline_quiet d half (y + 26) ⊳ quiet (dress words.PANEL.now (Number (y + 40) ∷ [])) refl
+    (behind (headline_quiet d half (y + 26) ⊳ quiet (panel (y + 40) ∷ []) refl
     ⊳ runs_titled d half (y + 40) RUNS)
     (sample_quiet half (y + 52)))
     (line_quiet (y + 472) (length (other_keys d half)) ⊳ others_titled d half (y + 472) 0 (other_keys d half))
@@ -195,20 +196,20 @@ list_titled d is y =
     cond_both (length is == 0) _ _ (λ fs. Titled fs (of d (filter_map (accent_definition d.map) is)))
     (λ none. subst (λ is. Titled [] (of d (filter_map (accent_definition d.map) is)))
     (sym (nil_from_length is (eqb-true (length is) 0 none))) nothing)
-    (λ _. quiet (dress words.ACCENTS.now (Number (y + 26) ∷ [])) refl ⊳ accents_titled d (y + 40) 0 is)
+    (λ _. quiet (headline_at (y + 26) (codes "h") (codes "Accents") ∷ []) refl ⊳ accents_titled d (y + 40) 0 is)
 
 findings_quiet : (fs : List Finding) (y : ℕ) → Titled (findings_list fs y) []
 unfolding findings_list
 findings_quiet fs y =
     cond_both (length fs == 0) _ _ (λ fs. Titled fs []) (λ _. nothing)
-    (λ _. quiet (dress words.FINDINGS.now (Number (y + 26) ∷ [])) refl
+    (λ _. quiet (headline_at (y + 26) (codes "h no") (codes "Findings") ∷ []) refl
     ⊳ numbered_quiet (listed_finding y) (λ i f. record { are = refl }) 0 fs)
 
 silent_quiet : (is : List ℕ) (y : ℕ) → Titled (silent_list is y) []
 unfolding silent_list
 silent_quiet is y =
     cond_both (length is == 0) _ _ (λ fs. Titled fs []) (λ _. nothing)
-    (λ _. quiet (dress words.SILENT.now (Number (y + 16) ∷ Number (y + 26) ∷ [])) refl
+    (λ _. quiet (silent_line y) refl
     ⊳ numbered_quiet silent_name (λ k i. record { are = refl }) 0 is
     ⊳ quiet (End ∷ []) refl)
 
@@ -222,6 +223,10 @@ head_quiet : (count high : ℕ) → Titled (head count high) []
 unfolding head
 head_quiet count high = record { are = refl }
 
+end_quiet : (y : ℕ) → Titled (colour_key y) []
+unfolding colour_key
+end_quiet y = record { are = refl }
+
 pub picture_titles : (d : Drawing) → titles (picture_facts d) ≡ map (title_of d.findings) (told d)
 unfolding picture_facts parts told
 picture_titles d =
@@ -230,7 +235,7 @@ picture_titles d =
     (findings_quiet d.findings _))
     (list_titled d (named_accents d.map) _))
     (silent_quiet (silent_accents d.map) _))
-    (quiet (dress words.END.now (Number _ ∷ [])) refl)).are
+    (end_quiet _)).are
 
 facts_at : Option State → List Fact
 facts_at None = []

@@ -1,7 +1,7 @@
 -- Which cells of a slot are drawn on its cap: those of the columns 0 base, 1 shift, 4 alt and 5 alt shift, in this
 -- order.
-use Rattle.std.specs.Prelude.{ℕ, ◌+◌, ◌-◌, ◌%◌, ◌==◌, Bool, true, false, ◌||◌, ◌&&◌, not, List, [], ◌∷◌, slice_index_or}
-use Rattle.std.specs.Prelude.{Option, Some, None, if◌then◌else◌}
+use Rattle.std.specs.Prelude.{◌≡◌, ℕ, ◌+◌, ◌-◌, ◌%◌, ◌==◌, Bool, true, false, ◌||◌, ◌&&◌, not, List, [], ◌∷◌, All}
+use Rattle.std.specs.Prelude.{slice_index_or, Option, Some, None, if◌then◌else◌}
 use Rattle.std.specs.List.{list_any}
 use Rattle.keymap_core.specs.declared.action.Action.TheVariants as a
 use Rattle.keymap_core.specs.declared.entry.Cell.{Cell}
@@ -89,3 +89,18 @@ count_of d = count d.base + count d.shift + count d.alt + count d.alt_shift
 unfoldable pub stands_alone : Entry → Bool
 stands_alone e =
     (count_of (drawn e) == 1) && not (is_pair (different e).base (different e).shift)
+
+-- ---- laws
+
+-- what is drawn tells a cell: itself, or the capital of this small letter
+abbrev pub tells : Cell → Option Cell → Bool
+tells x None = false
+tells x (Some y) = is_same x y || is_pair (Some x) (Some y)
+
+abbrev pub is_told : DrawnCells → Cell → Bool
+is_told d x = tells x d.base || tells x d.shift || tells x d.alt || tells x d.alt_shift
+
+-- Of each of the four columns the cap tells the cell, unless nothing is drawn for it.
+abbrev pub EachCellIsTold : Type 0
+EachCellIsTold =
+    (e : Entry) → All (λ i. (is_blank (column e i) || is_told (drawn e) (column e i)) ≡ true) (0 ∷ 1 ∷ 4 ∷ 5 ∷ [])

@@ -1,5 +1,5 @@
 -- What a reader finds in a picture: groups, shapes and texts, in their order, and nothing else can be drawn in it.
-use Rattle.std.specs.Prelude.{ℕ, ◌+◌, List, [], ◌∷◌, ◌++◌, codes}
+use Rattle.std.specs.Prelude.{ℕ, ◌+◌, List, [], ◌∷◌, ◌++◌, codes, decimal}
 
 -- attributes with their values, in their order
 abbrev pub Attributes : Type 0
@@ -34,6 +34,23 @@ titled said = Text (codes "title") [] [] said
 -- a text of a class at a place of its group
 abbrev pub text : List ℕ → List ℕ → List ℕ → List ℕ → Fact
 text x y class said = Text (codes "text") class ((codes "x", x) ∷ (codes "y", y) ∷ []) said
+
+-- a cap, by the letter of its shape
+abbrev pub cap_by : List ℕ → Fact
+cap_by letter = Figure (codes "use") [] ((codes "href", codes "#" ++ letter) ∷ [])
+
+-- a headline, and a line of small letters above what it tells of
+abbrev pub headline_at : ℕ → List ℕ → List ℕ → Fact
+headline_at y class said = text (codes "28") (decimal y) class said
+
+-- the field behind a row below the keys
+abbrev pub row_field : Fact
+row_field = Figure (codes "rect") (codes "row")
+    ((codes "width", codes "1460") ∷ (codes "height", codes "48") ∷ (codes "rx", codes "8") ∷ [])
+
+-- a group that a screen reader passes over
+abbrev pub hidden : List ℕ → List ℕ → Fact
+hidden x y = Begin (codes "g") [] ((codes "aria-hidden", codes "true") ∷ (codes "transform", place_at x y) ∷ [])
 
 -- the facts of each thing, by its place
 unfoldable pub numbered : {A : Type 0} → (ℕ → A → List Fact) → ℕ → List A → List Fact

@@ -14,11 +14,9 @@ use Rattle.keymap_draw.specs.declared.half.Half.{Half}
 use Rattle.keymap_draw.specs.declared.half.Half.TheVariants.{Lower, Upper}
 use Rattle.keymap_draw.specs.Boards.{Row, keys_in, is_on}
 use Rattle.keymap_draw.specs.Drawings.{Drawing}
-use Rattle.keymap_draw.specs.declared.sheet.Told.TheVariants.{Number}
-use Rattle.keymap_draw.specs.declared.words.TheConstants as words
-use Rattle.keymap_draw.specs.Facts.{Fact, numbered, text}
+use Rattle.keymap_draw.specs.Facts.{Fact, cap_by, headline_at, hidden, numbered, text}
+use Rattle.keymap_draw.specs.Facts.Fact.{End, Figure}
 use Rattle.keymap_draw.specs.Keys.{key, is_blank_entry}
-use Rattle.keymap_draw.specs.Sheets.{dress, plain}
 
 -- the slot of a key
 abbrev pub slot_of : Half → ℕ → ℕ
@@ -58,27 +56,46 @@ verdict y count =
 -- the keymap, or its lower half
 abbrev pub name : Drawing → ℕ → List Fact
 name d y =
-    if is_upper_live d.map then dress words.LOWER_HALF.now (Number y ∷ []) else dress words.KEYMAP.now (Number y ∷ [])
+    if is_upper_live d.map then headline_at y (codes "h") (codes "Console keymap, lower half") ∷ []
+    else headline_at y (codes "h") (codes "Console keymap") ∷ []
 
 -- which half it is, and of the lower one the verdict
 abbrev pub headline : Drawing → Half → ℕ → List Fact
 headline d Lower y = name d y ++ verdict y (length d.findings) ∷ []
-headline d Upper y = dress words.UPPER_HALF.now (Number y ∷ [])
+headline d Upper y = headline_at y (codes "h") (codes "Upper half: while ashift or alock is on") ∷ []
 
 -- the key that shows where the legends stand, and what its number is
+abbrev pub sample_of : List ℕ → ℕ → List Fact
+sample_of number y =
+    hidden (codes "1212") (decimal y) ∷ cap_by (codes "f")
+    ∷ text (codes "8") (codes "57") [] (number ++ codes ", locks")
+    ∷ text (codes "10") (codes "20") (codes "v") (codes "shift")
+    ∷ text (codes "10") (codes "41") (codes "v") (codes "base")
+    ∷ text (codes "130") (codes "20") (codes "v r a") (codes "alt shift")
+    ∷ text (codes "130") (codes "41") (codes "v r a") (codes "alt")
+    ∷ End ∷ []
+
 abbrev pub sample : Half → ℕ → List Fact
-sample Lower y = dress words.SAMPLE.now (Number y ∷ plain words.KEY_CODE.now ∷ [])
-sample Upper y = dress words.SAMPLE.now (Number y ∷ plain words.SLOT.now ∷ [])
+sample Lower y = sample_of (codes "key code") y
+sample Upper y = sample_of (codes "slot") y
 
 abbrev pub others_line : ℕ → ℕ → List Fact
-others_line y count = if count == 0 then [] else dress words.OTHER_KEYS.now (Number (y + 16) ∷ [])
+others_line y count =
+    if count == 0 then [] else headline_at (y + 16) (codes "l") (codes "Keys that this board doesn't have") ∷ []
 
 -- the keys that the board doesn't have, below a line, if there are any
 abbrev pub others : Drawing → Half → ℕ → List ℕ → List Fact
 others d half y keys = others_line y (length keys) ++ numbered (other_key d half y) 0 keys
 
+-- the field behind a board
+abbrev pub panel : ℕ → Fact
+panel y =
+    Figure (codes "rect") (codes "panel")
+    ((codes "x", codes "16") ∷ (codes "y", decimal y) ∷ (codes "width", codes "1460") ∷ (codes "height", codes "420")
+    ∷ (codes "rx", codes "16") ∷ [])
+
 unfoldable pub half_facts : Drawing → Half → List ℕ → ℕ → List Fact
 half_facts d half keys y =
-    headline d half (y + 26) ++ dress words.PANEL.now (Number (y + 40) ∷ []) ++ flat_map (run_keys d half (y + 40)) RUNS
+    headline d half (y + 26) ++ panel (y + 40) ∷ [] ++ flat_map (run_keys d half (y + 40)) RUNS
     ++ sample half (y + 52)
     ++ others d half (y + 472) keys

@@ -22,11 +22,10 @@ use Rattle.keymap_draw.specs.declared.place.Column.{Column}
 use Rattle.keymap_draw.specs.declared.place.Column.TheVariants.{Base, Shift, Alt, AltShift}
 use Rattle.keymap_draw.specs.Boards.{letter, width, height}
 use Rattle.keymap_draw.specs.Drawn.{is_blank, column, cell_in, drawn, stands_alone}
-use Rattle.keymap_draw.specs.declared.words.TheConstants as words
 use Rattle.keymap_draw.specs.Legends.{cell_legend, is_word}
 use Rattle.keymap_draw.specs.Drawings.{Drawing}
-use Rattle.keymap_draw.specs.Facts.{Fact, image, titled, text}
-use Rattle.keymap_draw.specs.Facts.Fact.{End, Figure}
+use Rattle.keymap_draw.specs.Facts.{Fact, cap_by, image, titled, text}
+use Rattle.keymap_draw.specs.Facts.Fact.{End}
 use Rattle.keymap_draw.specs.Places.{beside_of, code_x, legend_x, legend_y, legend_classes}
 
 -- the finding of a key, if the check names it
@@ -76,11 +75,12 @@ finding_line (Some f) = finding_words f ++ codes "\n"
 abbrev pub title : List Finding → ℕ → Entry → List ℕ
 title fs slot e = finding_line (finding_of fs (slot % key_count)) ++ slot_words slot e
 
+-- a blank and the letter of the locks that turn shift around
 abbrev pub flag_words : LockFlag → List ℕ
 flag_words flag.O = []
-flag_words flag.C = words.CAPS.now
-flag_words flag.N = words.NUM.now
-flag_words flag.B = words.BOTH.now
+flag_words flag.C = codes " C"
+flag_words flag.N = codes " N"
+flag_words flag.B = codes " B"
 
 -- the slot's number and the letter of its locks
 abbrev pub code : ℕ → LockFlag → Shape → Fact
@@ -114,7 +114,7 @@ legends m shape e = legends_of m shape (stands_alone e) (drawn e)
 -- the group of a key with its title, and a cap by the letter of its shape
 abbrev pub titled_cap : List ℕ → List ℕ → ℕ → ℕ → Shape → List Fact
 titled_cap said class x y shape =
-    image class (decimal x) (decimal y) ∷ titled said ∷ Figure (codes "use") [] ((codes "href", codes "#" ++ letter shape ∷ []) ∷ []) ∷ []
+    image class (decimal x) (decimal y) ∷ titled said ∷ cap_by (letter shape ∷ []) ∷ []
 
 -- the title and the cap of a key
 abbrev pub cap : List Finding → ℕ → ℕ → ℕ → Shape → Entry → List Fact

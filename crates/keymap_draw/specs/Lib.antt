@@ -1,5 +1,6 @@
 pub mod Boards
 pub mod Characters
+pub mod ColourKey
 pub mod Drawings
 pub mod Drawn
 pub mod Facts

@@ -18,14 +18,11 @@ use Rattle.keymap_check.specs.Said.{finding_words}
 use Rattle.keymap_text.specs.Printed.{accent_words}
 use Rattle.keymap_draw.specs.declared.half.Half.{Half}
 use Rattle.keymap_draw.specs.declared.half.Half.TheVariants.{Lower, Upper}
-use Rattle.keymap_draw.specs.declared.sheet.Told.TheVariants.{Number}
-use Rattle.keymap_draw.specs.declared.words.TheConstants as words
-use Rattle.keymap_draw.specs.Facts.{Fact, numbered, group, image, text, titled}
-use Rattle.keymap_draw.specs.Facts.Fact.{End, Figure, Text}
+use Rattle.keymap_draw.specs.Facts.{Fact, headline_at, numbered, group, image, row_field, text, titled}
+use Rattle.keymap_draw.specs.Facts.Fact.{End, Text}
 use Rattle.keymap_draw.specs.Halves.{slot_of}
 use Rattle.keymap_draw.specs.Legends.{accent_mark, character_legend, marked}
 use Rattle.keymap_draw.specs.Places.{size_class}
-use Rattle.keymap_draw.specs.Sheets.{dress}
 
 -- the i-th finding, two in a row
 abbrev pub listed_finding : ℕ → ℕ → Finding → List Fact
@@ -36,7 +33,7 @@ listed_finding y i f =
 unfoldable pub findings_list : List Finding → ℕ → List Fact
 findings_list fs y =
     if length fs == 0 then []
-    else dress words.FINDINGS.now (Number (y + 26) ∷ []) ++ numbered (listed_finding y) 0 fs
+    else headline_at (y + 26) (codes "h no") (codes "Findings") ∷ [] ++ numbered (listed_finding y) 0 fs
 
 abbrev pub findings_height : ℕ → ℕ
 findings_height count = if count == 0 then 0 else 48 + (count + 1) / 2 * 20
@@ -85,10 +82,7 @@ heading i x class =
 
 -- a row begins with what its title says
 abbrev pub row_of : List ℕ → ℕ → List Fact
-row_of said y =
-    image [] (codes "16") (decimal y) ∷ titled said
-    ∷ Figure (codes "rect") (codes "row")
-    ((codes "width", codes "1460") ∷ (codes "height", codes "48") ∷ (codes "rx", codes "8") ∷ []) ∷ []
+row_of said y = image [] (codes "16") (decimal y) ∷ titled said ∷ row_field ∷ []
 
 -- the row of an accent, of which the title is the line of the printed form
 abbrev pub titled_row : ℕ → AccentValue → ℕ → List Fact
@@ -108,7 +102,7 @@ listed_accent m y place i = some_accent_row i (accent_at m i) (y + 52 * place)
 unfoldable pub accents_list : MapValue → List ℕ → ℕ → List Fact
 accents_list m accents y =
     if length accents == 0 then []
-    else dress words.ACCENTS.now (Number (y + 26) ∷ []) ++ numbered (listed_accent m (y + 40)) 0 accents
+    else headline_at (y + 26) (codes "h") (codes "Accents") ∷ [] ++ numbered (listed_accent m (y + 40)) 0 accents
 
 abbrev pub accents_height : ℕ → ℕ
 accents_height count = if count == 0 then 0 else 40 + count * 52
@@ -140,7 +134,9 @@ abbrev pub silent_name : ℕ → ℕ → List Fact
 silent_name place i = heading i (36 + 94 * place) 101
 
 abbrev pub silent_line : ℕ → List Fact
-silent_line y = dress words.SILENT.now (Number (y + 16) ∷ Number (y + 26) ∷ [])
+silent_line y =
+    headline_at (y + 16) (codes "l") (codes "Dead keys without an accent: the console answers them with an error")
+    ∷ group [] (codes "16") (decimal (y + 26)) ∷ row_field ∷ []
 
 -- the marks and the names of dead keys without an accent, side by side below a line, if there are any
 unfoldable pub silent_list : List ℕ → ℕ → List Fact

@@ -1,5 +1,5 @@
 -- The whole picture: what it tells of a keymap.
-use Rattle.std.specs.Prelude.{ℕ, ◌+◌, ◌==◌, List, [], ◌∷◌, ◌++◌, codes, length, if◌then◌else◌}
+use Rattle.std.specs.Prelude.{ℕ, ◌+◌, ◌==◌, List, [], ◌∷◌, ◌++◌, codes, decimal, length, if◌then◌else◌}
 use Rattle.keymap_core.specs.Borne.{is_upper_live}
 use Rattle.keymap_core.specs.Maps.{MapValue}
 use Rattle.keymap_check.specs.declared.finding.Finding.{Finding}
@@ -7,17 +7,25 @@ use Rattle.keymap_check.specs.Computed.{findings_of}
 use Rattle.keymap_draw.specs.declared.board.Board.{Board}
 use Rattle.keymap_draw.specs.declared.constants.TheConstants.{STYLE, SHAPES}
 use Rattle.keymap_draw.specs.declared.half.Half.TheVariants.{Lower, Upper}
-use Rattle.keymap_draw.specs.declared.sheet.Told.TheVariants.{Number}
 use Rattle.keymap_draw.specs.declared.whole.Starts.{Starts}
-use Rattle.keymap_draw.specs.declared.words.TheConstants as words
+use Rattle.keymap_draw.specs.ColourKey.{colour_key}
 use Rattle.keymap_draw.specs.Drawings.{Drawing}
 use Rattle.keymap_draw.specs.Facts.{Fact}
-use Rattle.keymap_draw.specs.Facts.Fact.{Text}
+use Rattle.keymap_draw.specs.Facts.Fact.{Begin, Figure, Text}
 use Rattle.keymap_draw.specs.Halves.{other_keys, half_height, half_facts}
 use Rattle.keymap_draw.specs.Lists.{findings_height, findings_list, named_accents, accents_height, accents_list}
 use Rattle.keymap_draw.specs.Lists.{silent_accents, silent_height, silent_list}
-use Rattle.keymap_draw.specs.Sheets.{dress, facts_from, opened}
-use Rattle.keymap_draw.specs.WellFormed.{Tells, start}
+use Rattle.keymap_draw.specs.Sheets.{facts_from, opened}
+use Rattle.keymap_draw.specs.WellFormed.{Tells}
+
+-- the picture begins, with its height
+abbrev pub begin : ℕ → Fact
+begin high =
+    Begin (codes "svg") []
+    ((codes "xmlns", codes "http://www.w3.org/2000/svg") ∷ (codes "width", codes "1492")
+    ∷ (codes "height", decimal high) ∷ (codes "viewBox", codes "0 0 1492 " ++ decimal high)
+    ∷ (codes "role", codes "graphics-document document") ∷ (codes "aria-labelledby", codes "title desc")
+    ∷ (codes "lang", codes "en") ∷ [])
 
 -- the title of the whole says whether the keymap is accepted
 abbrev pub heading : ℕ → Fact
@@ -25,15 +33,21 @@ heading count =
     Text (codes "title") [] ((codes "id", codes "title") ∷ [])
     (codes "Console keymap, " ++ (if count == 0 then codes "accepted" else codes "refused"))
 
+abbrev pub description : Fact
+description =
+    Text (codes "desc") [] ((codes "id", codes "desc") ∷ [])
+    (codes "A keyboard. On each key stand base below left, shift above left, alt below right and alt shift "
+    ++ codes "above right; its title is its line of the keymap.")
+
+abbrev pub page : ℕ → Fact
+page high = Figure (codes "rect") (codes "page") ((codes "width", codes "1492") ∷ (codes "height", decimal high) ∷ [])
+
 -- of a picture of some height with so many findings: its begin, its title and its description, the style, the shapes
 -- and the page
 unfoldable pub head : ℕ → ℕ → List Fact
 head count high =
-    facts_from start words.BEGIN.now (Number high ∷ Number high ∷ []) ++ heading count ∷ []
-    ++ facts_from opened words.DESCRIPTION.now []
-    ++ facts_from opened STYLE []
-    ++ facts_from opened SHAPES []
-    ++ dress words.PAGE.now (Number high ∷ [])
+    begin high ∷ heading count ∷ description ∷ [] ++ facts_from opened STYLE [] ++ facts_from opened SHAPES []
+    ++ page high ∷ []
 
 -- the upper half is drawn only if it is live
 abbrev pub upper : Drawing → List ℕ → ℕ → List Fact
@@ -70,7 +84,7 @@ parts d starts lower above named silent =
     ++ findings_list d.findings starts.findings
     ++ accents_list d.map named starts.accents
     ++ silent_list silent starts.silent
-    ++ dress words.END.now (Number starts.key ∷ [])
+    ++ colour_key starts.key
 
 -- the parts, with these keys below the boards, accents, and dead keys without one
 abbrev pub parts_with : Drawing → List ℕ → List ℕ → List ℕ → List ℕ → List Fact

@@ -112,7 +112,3 @@ facts_over begun words ts = facts_from (within begun []) words ts
 -- behind the begin of a picture, before its ids
 abbrev pub opened : State
 opened = at Text (record { begun = in_svg; ids = []; facts = [] })
-
--- the facts of words that stand between the parts of a picture
-abbrev pub dress : List ℕ → List Told → List Fact
-dress words ts = facts_over in_svg words ts

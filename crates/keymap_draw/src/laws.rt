@@ -8,6 +8,7 @@ ghost use Rattle.keymap_core.specs.declared.entry.Entry.{Entry as EntryValue};
 ghost use Rattle.keymap_check.specs.declared.finding.Finding.{Finding as FindingValue};
 ghost use Rattle.keymap_text.specs.Printed.{key_line, slot_words, accent_line, accent_words};
 ghost use Rattle.keymap_draw.specs.Drawings.{Drawing};
+ghost use Rattle.keymap_draw.specs.Drawn.{EachCellIsTold};
 ghost use Rattle.keymap_draw.specs.Keys.{key_class, names_key, red};
 ghost use Rattle.keymap_draw.specs.Keyboards.{BoardsAreKeyboards, EachKeyOnce, NoTwoOverlap, AllLieOnThePanel};
 ghost use Rattle.keymap_draw.specs.Letters.{PairsAreLetters, CapitalsAreOfOneLetter, LettersHaveOneCapital};
@@ -28,6 +29,13 @@ pub fn red_caps_are_findings()
         → names_key fs (slot % key_count) ≡ true }
     ensures named { (fs : List FindingValue) (slot : ℕ) (e : EntryValue) → names_key fs (slot % key_count) ≡ true
         → key_class fs slot e ≡ Some red }
+{}
+
+/// A cap tells each cell of the columns base, shift, alt and alt shift: by its own legend, by that of a cell that is the
+/// same, or by that of the capital of a small letter. For a blank cell nothing is drawn.
+#[tactic(auto, using(crate::proofs::Columns::each_cell_is_told))]
+pub fn each_cell_is_told()
+    ensures { EachCellIsTold }
 {}
 
 /// A picture is well formed: one element that holds all others, texts and tags of a few elements, each of which ends by

@@ -126,7 +126,8 @@ fn push_composed(sheet: Sheet<InTable>, place: u32, c: char) -> Added<Sheet<InTa
 {
     let legend = character_legend(c);
     let (x, said) = (Number(12 + 25 * place), Characters(legend.as_slice()));
-    match size_class(legend.as_slice(), false, true) {
+    let (alone, tight) = (false, true);
+    match size_class(legend.as_slice(), alone, tight) {
         None => tell(sheet, COMPOSED, &[x, said]),
         Some(class) => tell(sheet, COMPOSED_OF, &[x, Plain(&[class]), said]),
     }

@@ -4,11 +4,10 @@ ghost use Rattle.std.specs.Prelude.{◌≡◌, ◌++◌, ◌∷◌, [], true, Li
 ghost use Rattle.std.specs.List.{list_all};
 ghost use Rattle.messages.specs.Filled.{filled};
 ghost use Rattle.keymap_draw.specs.Facts.{Fact};
-ghost use Rattle.keymap_draw.specs.Sheets.{within, over, facts_over, dress, written, is_ready, in_svg, in_key, in_row};
+ghost use Rattle.keymap_draw.specs.Sheets.{within, over, facts_over, written, is_ready, in_svg, in_key, in_row};
 ghost use Rattle.keymap_draw.specs.Sheets.{in_table};
 ghost use Rattle.keymap_draw.specs.Pictures.{head};
-ghost use Rattle.keymap_draw.specs.declared.sheet.Told.TheVariants.{Number as NumberOf};
-ghost use Rattle.keymap_draw.specs.declared.words.TheConstants.{END as END_WORDS};
+ghost use Rattle.keymap_draw.specs.ColourKey.{colour_key};
 ghost use Rattle.keymap_draw.specs.WellFormed.{Element, Tells};
 
 use crate::constants::{SHAPES, STYLE};
@@ -146,7 +145,7 @@ pub(crate) fn begin(alloc: Global, count: usize, height: u32) -> Added<Sheet<InP
 
 /// The text of a picture, with the key to its colours at its end.
 pub(crate) fn finish(sheet: Sheet<InPicture>, y: u32) -> Added<Vec<u8>>
-    ensures { IfOk result (λ text. Tells (sheet ++ dress END_WORDS.now (NumberOf y ∷ [])) text.items) }
+    ensures { IfOk result (λ text. Tells (sheet ++ colour_key y) text.items) }
 {
     let Sheet { mut text, part: _ } = sheet;
     push_filled(&mut text, END, &[Told::Number(y)])?;

@@ -1,5 +1,5 @@
 //! The words and the markup of the picture, in their order. What is told stands at the places `{}`, in the order in
-//! which the contracts list it.
+//! which the contracts list it. What they tell the definitions say in facts of their own.
 
 /// The begin of the picture, with its height twice.
 pub(crate) const BEGIN: &[u8] =

@@ -4,18 +4,21 @@ use Rattle.keymap_lint.proofs.Common.{refl, Option, Some, None, find, flat_map, 
 use Rattle.keymap_lint.proofs.Common.{last_of, mixed_key, selects, again, is_missing, rules, is_defined, zero_accent}
 use Rattle.keymap_lint.proofs.Common.{pair_again, accent_pairs, has_base, is_above_in_force, digit, Spelled}
 use Prim.Native.Nat.{zero, suc}
-use Rattle.std.proofs.Common.{◌-◌, All, ◌==◌}
+use Rattle.std.proofs.Common.{◌-◌, ◌<◌, All, ◌==◌, arith}
 use Rattle.std.specs.Option.{option_to_list}
-use Rattle.std.proofs.lemmas.Bool.{eqb-true}
-use Rattle.std.proofs.lemmas.List.Elements.{All-nil, All-cons, All-head, All-tail, All-append}
+use Rattle.std.proofs.lemmas.Bool.{and_parts, eqb-true}
+use Rattle.std.proofs.lemmas.List.Elements.{All-nil, All-cons, All-head, All-tail, All-append, Contains-get_or}
+use Rattle.std.specs.Prelude.{Contains}
 use Rattle.keymap_lint.specs.Types.{Holding, Cell, Char, Act, Finding, Accent, CellInForce}
+use Rattle.keymap_core.specs.Accents.{AccentValue, own_of}
 use Rattle.keymap_core.specs.Below.{first_below}
+use Rattle.keymap_core.proofs.Below.{first_below-some}
 use Rattle.keymap_core.specs.Borne.{is_upper_live, any_below}
 use Rattle.keymap_core.specs.Maps.{accent_at, cell_at}
 use Rattle.keymap_lint.specs.Kinds.{at, nowhere, no_key, no_shift, has_keys, has_shift, mixed_keys, character_of}
 use Rattle.keymap_lint.specs.Kinds.{half_at, half_defined, selector, is_some_in, missing_slots, nul_keys, defined_again}
 use Rattle.keymap_lint.specs.Kinds.{dead_key, dead_key_by, zero_accents, pair_by, pairs_by, pairs_again, base_at, paren}
-use Rattle.keymap_lint.specs.Kinds.{unused_by, unused_half, digit_by, bare_digits}
+use Rattle.keymap_lint.specs.Kinds.{again_by, bare_digits, digit_by, is_given, is_zero, unused_by, unused_half, zero_by}
 use Rattle.keymap_lint.specs.Lists.{all_of, of_keys, of_definitions, of_rest}
 use Rattle.keymap_lint.specs.Spelled.{offset_at, content}
 use Rattle.keymap_lint.specs.declared.diagnostic.Kind.TheVariants as kinds
@@ -28,11 +31,12 @@ all_flat P Q f h [] all = All-nil P
 all_flat P Q f h (x ∷ xs) all =
     All-append P (f x) (flat_map f xs) (h x (All-head Q x xs all)) (all_flat P Q f h xs (All-tail Q x xs all))
 
-all_gathered : {Y : Type 0} (P : Y → Type 0) (f : ℕ → List Y) → ((n : ℕ) → All P (f n)) → (n : ℕ)
+all_gathered : {Y : Type 0} (P : Y → Type 0) (f : ℕ → List Y) (n : ℕ) → ((k : ℕ) → k < n → All P (f k))
     → All P (gathered f n)
 unfolding gathered
-all_gathered P f h zero = All-nil P
-all_gathered P f h (suc n) = All-append P (gathered f n) (f n) (all_gathered P f h n) (h n)
+all_gathered P f zero h = All-nil P
+all_gathered P f (suc n) h =
+    All-append P (gathered f n) (f n) (all_gathered P f n (λ k low. h k (omega (arith, low)))) (h n (omega arith))
 
 all_one : {Y : Type 0} (P : Y → Type 0) (y : Y) → P y → All P (y ∷ [])
 all_one P y h = All-cons P y [] h (All-nil P)
@@ -50,6 +54,12 @@ all_if_so P false y h = All-nil P
 all_if : {Y : Type 0} (P : Y → Type 0) (b : Bool) (y : Y) → P y → All P (option_to_list (cond b (Some y) None))
 all_if P b y h = all_either (λ o. All P (option_to_list o)) b (Some y) None (all_one P y h) (All-nil P)
 
+-- what is said unless the test says so
+all_unless : {Y : Type 0} (P : Y → Type 0) (b : Bool) (y : Y) → (b ≡ false → P y)
+    → All P (option_to_list (cond b None (Some y)))
+all_unless P true y h = All-nil P
+all_unless P false y h = all_one P y (h refl)
+
 -- ---- diagnostics
 
 -- The property holds of each diagnostic that a text with these cells and findings may have.
@@ -61,12 +71,18 @@ pub record OfEach (P : Diagnostic → Type 0) (t : Spelled) (cells : List CellIn
       (character_of (cell_at t.map f.character_at.slot f.character_at.column))))) fs
   pub half : (c : CellInForce) (s : Holding) → find (selects t) cells ≡ Some c → selector t c ≡ Some s
       → P (at c.span.start (kinds.HalfDefined s (is_some_in (nul_keys t fs))))
-  pub again : (p q : Placed) → P (at (offset_at t p.first) (kinds.DefinedAgain p.what (offset_at t q.first)))
+  pub again : (p q : Placed) → Contains t.definitions p → last_of p.what t.definitions ≡ Some q
+      → (q.first == p.first) ≡ false → P (at (offset_at t p.first) (kinds.DefinedAgain p.what (offset_at t q.first)))
   pub dead : (c : CellInForce) → find (is_missing t) cells ≡ Some c
       → P (at c.span.start (kinds.DeadKey (any_below (is_defined t) 15)))
-  pub zero : (i : ℕ) (p : Placed) → P (at (offset_at t (p.first + 1)) (kinds.ZeroAccent i))
-  pub pair : (i first base j k : ℕ) → P (at (paren t first j) (kinds.PairAgain i base (paren t first k)))
-  pub unused : (p : Placed) → P (at (offset_at t p.first) kinds.UnusedHalf)
+  pub zero : (i : ℕ) (p : Placed) → last_of (Accent i) t.definitions ≡ Some p
+      → is_zero (own_of (accent_at t.map i)) ≡ true → P (at (offset_at t (p.first + 1)) (kinds.ZeroAccent i))
+  pub pair : (i : ℕ) (p : Placed) (a : AccentValue) → last_of (Accent i) t.definitions ≡ Some p
+      → accent_at t.map i ≡ Some a → (j k : ℕ) → j < length a.pairs → k < j
+      → base_at a.pairs k ≡ base_at a.pairs j
+      → P (at (paren t p.first j) (kinds.PairAgain i (base_at a.pairs j) (paren t p.first k)))
+  pub unused : (p : Placed) → find (is_above_in_force t) t.definitions ≡ Some p
+      → P (at (offset_at t p.first) kinds.UnusedHalf)
   pub digit : All (λ c. (n : ℕ) → content t c ≡ Char n → c.span.end - c.span.start ≡ 1
       → P (at c.span.start (kinds.BareDigit n))) cells
 
@@ -93,13 +109,13 @@ of_all P t cells fs h =
     None halves none))
     (join (defined_again t ++ dead_key t cells) (zero_accents t cells)
     (join (defined_again t) (dead_key t cells)
-    (all_flat P (λ p. Unit {0}) (again t) againby t.definitions (λ k d l. tt))
+    (all_flat P (Contains t.definitions) (again t) againby t.definitions (λ k d l. Contains-get_or t.definitions k d l))
     (all_some P (dead_key_by t) (find (is_missing t) cells) none (λ c e. all_one P _ (h.dead c e))))
-    (all_gathered P (zero_accent t cells) zero 15)))
+    (all_gathered P (zero_accent t cells) 15 zero)))
     (join (pairs_again t ++ unused_half t) (bare_digits t cells)
-    (join (pairs_again t) (unused_half t) (all_gathered P (accent_pairs t) pairs 15)
+    (join (pairs_again t) (unused_half t) (all_gathered P (accent_pairs t) 15 pairs)
     (all_either (All P) (is_upper_live t.map) [] (unused_by t (find (is_above_in_force t) t.definitions)) none
-    (all_some P (unused_by t) (find (is_above_in_force t) t.definitions) none (λ p e. all_one P _ (h.unused p)))))
+    (all_some P (unused_by t) (find (is_above_in_force t) t.definitions) none (λ p e. all_one P _ (h.unused p e)))))
     (all_flat P _ (digit t) (λ c g. digits c (content t c) g) cells h.digit))
   where
     none : All P []
@@ -117,20 +133,26 @@ of_all P t cells fs h =
     halves : All P (option_to_list (half_at t (is_some_in (nul_keys t fs)) (find (selects t) cells)))
     halves = search (rules, all_some, none, all_one)
 
-    againby : (p : Placed) → Unit {0} → All P (again t p)
-    againby p u = search (rules, all_some, none, all_either, all_one)
+    againby : (p : Placed) → Contains t.definitions p → All P (again t p)
+    againby p among =
+        all_some P (λ o. option_to_list (again_by t p o)) (last_of p.what t.definitions) none
+        (λ q e. all_unless P (q.first == p.first) _ (λ ne. h.again p q among e ne))
 
-    zero : (i : ℕ) → All P (zero_accent t cells i)
-    zero i = search (rules, all_some, none, all_if)
+    zero : (i : ℕ) → i < 15 → All P (zero_accent t cells i)
+    zero i low =
+        all_some P (λ o. option_to_list (zero_by t cells i o)) (last_of (Accent i) t.definitions) none
+        (λ p e. all_if_so P (is_zero (own_of (accent_at t.map i)) && is_given t cells i) _
+        (λ both. h.zero i p e (and_parts _ _ both).0))
 
-    pairs : (i : ℕ) → All P (accent_pairs t i)
-    pairs i =
+    pairs : (i : ℕ) → i < 15 → All P (accent_pairs t i)
+    pairs i low =
         all_some P (λ o. pairs_by t i o (accent_at t.map i)) (last_of (Accent i) t.definitions) none (λ p e.
         all_some P (pairs_by t i (Some p)) (accent_at t.map i) none (λ a f.
-        all_gathered P (pair_again t i p.first a.pairs) (λ j.
+        all_gathered P (pair_again t i p.first a.pairs) (length a.pairs) (λ j few.
         all_some P (λ o. option_to_list (pair_by t i p.first (base_at a.pairs j) j o))
-        (first_below (has_base a.pairs j) j) none (λ k g. all_one P _ (h.pair i p.first (base_at a.pairs j) j k)))
-        (length a.pairs)))
+        (first_below (has_base a.pairs j) j) none (λ k g.
+        let first = first_below-some (has_base a.pairs j) j k g in
+        all_one P _ (h.pair i p a e f j k few first.0 (eqb-true (base_at a.pairs k) (base_at a.pairs j) first.1))))))
 
     digits : (c : CellInForce) (x : Cell) → ((n : ℕ) → x ≡ Char n → c.span.end - c.span.start ≡ 1
         → P (at c.span.start (kinds.BareDigit n))) → All P (option_to_list (digit_by c x))

@@ -8,7 +8,7 @@ use Rattle.std.proofs.Common.{drop, inl, inr, All, ◌==◌, length-drop}
 use Rattle.std.proofs.lemmas.Bool.{cases_lt, eqb-true}
 use Rattle.std.proofs.lemmas.List.{get_or_past, get_or-map, get_or-take, get_or-drop, length-take, length-map}
 use Rattle.std.proofs.lemmas.List.Elements.{All-nil, Contains-append_left, Contains-append_right, Contains-get_or}
-use Rattle.std.specs.Prelude.{Contains, if◌then◌else◌}
+use Rattle.std.specs.Prelude.{Contains, Ok, if◌then◌else◌}
 use Rattle.std.specs.Option.{option_or}
 use Rattle.std.specs.List.{range_with_len}
 use Rattle.std.proofs.lemmas.Bool.Decides.{nat_tests}
@@ -26,7 +26,7 @@ use Rattle.keymap_text.proofs.InForce.{slot_in_force}
 use Rattle.keymap_text.proofs.Parts.{slot_tokens}
 use Rattle.keymap_text.proofs.TokenPlaces.{tokens_are_placed}
 use Rattle.keymap_lint.specs.Lists.{spelled_by}
-use Rattle.keymap_lint.specs.Positions.{SpellsCell, CellsInForceAreSpelled}
+use Rattle.keymap_lint.specs.Positions.{HasToken, SpellsCell, CellsInForceAreSpelled}
 use Rattle.keymap_lint.specs.Spelled.{offset_at, cells_defined, cells_in_force, is_in_force, is_last, content}
 use Rattle.keymap_text.proofs.Parts as parts
 use Rattle.keymap_lint.proofs.Each.{all_flat}
@@ -34,7 +34,7 @@ use Rattle.keymap_lint.proofs.Each.{all_flat}
 -- ---- tokens
 
 -- a token that no text has
-nothing : TokenValue
+pub nothing : TokenValue
 nothing = record { kind = Word; bytes = []; start = 0; last = false }
 
 nothing_placed : (text : List ℕ) → IsPlaced text nothing
@@ -60,6 +60,17 @@ pub within : (text : List ℕ) (m : MapValue) (rows : List Row) (n : ℕ)
     → offset_at (spelled_by text m rows) n ≤ length text
 within text m rows n = search (rules, nothing, span_is, placed_at)
 
+-- the token with a number, by its place
+pub token_at : (text : List ℕ) (m : MapValue) (rows : List Row) (n : ℕ)
+    (IsSuch : TokenValue → Type 0) → n < length (tokens text) → IsSuch (get_or (tokens text) n nothing)
+    → HasToken text (offset_at (spelled_by text m rows) n) IsSuch
+token_at text m rows n IsSuch there such = record {
+  token = get_or (tokens text) n nothing;
+  among = Contains-get_or (tokens text) n nothing there;
+  start = ap (λ (s : Span). s.start) (sym (span_is (tokens text) n));
+  such = such;
+}
+
 -- a cell of the definition in force
 pub spelled_at : (text : List ℕ) (m : MapValue) (rows : List Row) → IsSpelledBy text m rows → (slot : ℕ) (p : Placed)
     → last_of (Slot slot) (places_of rows) ≡ Some p → (column : ℕ) → column < 8
@@ -79,14 +90,9 @@ spelled_at text m rows by slot p e column few =
     ∙ ap (λ n. get_or (tokens text) n nothing) (omega arith) in
     let short : column + 1 < length row = omega (arith, ten) in
     let its = get_or-map item_of row (column + 1) nothing (item_of nothing) short ∙ ap item_of same in
-    record {
-      token = token;
-      among = Contains-get_or (tokens text) (p.first + (1 + column)) nothing there;
-      start = ap (λ (s : Span). s.start) (sym (span_is (tokens text) (p.first + (1 + column))));
-      spells =
-          ap cell (sym its)
-          ∙ parts.cell_at (map item_of row) slot entry d column few (item_of nothing) (Char 0);
-    }
+    token_at text m rows (p.first + (1 + column)) (λ token. cell (item_of token) ≡ Ok (cell_at m slot column))
+    there
+    (ap cell (sym its) ∙ parts.cell_at (map item_of row) slot entry d column few (item_of nothing) (Char 0))
 
 -- ---- the cells in force
 
@@ -100,7 +106,7 @@ among_flat f y (z ∷ xs) x (suc k, l, e) h =
     Contains-append_right (f z) (flat_map f xs) y (among_flat f y xs x (k, omega (arith, l), e) h)
 
 -- the last definition of something is one of the definitions, and defines it
-last_there : (what : Defined) (ps : List Placed) (p : Placed) → last_of what ps ≡ Some p
+pub last_there : (what : Defined) (ps : List Placed) (p : Placed) → last_of what ps ≡ Some p
     → Contains ps p × (is_same p.what what ≡ true)
 unfolding last_of
 last_there what [] p e = absurd (cc)

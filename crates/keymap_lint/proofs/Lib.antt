@@ -7,4 +7,5 @@ pub mod Well
 pub mod Standing
 pub mod Each
 pub mod InForce
+pub mod Begun
 pub mod Faults

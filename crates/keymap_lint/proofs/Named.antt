@@ -192,11 +192,11 @@ none_names t cells =
       no_shift = refl;
       mixed = All-nil _;
       half = λ c s e g. refl;
-      again = λ p q. refl;
+      again = λ p q among e ne. refl;
       dead = λ c e. refl;
-      zero = λ i p. refl;
-      pair = λ i first base j k. refl;
-      unused = λ p. refl;
+      zero = λ i p e z. refl;
+      pair = λ i p a e f j k low less same. refl;
+      unused = λ p e. refl;
       digit = λ k c l n e f. refl;
     }))
 

@@ -29,6 +29,7 @@ use Rattle.keymap_core.specs.declared.action.Action.TheVariants as act
 use Rattle.keymap_core.specs.declared.action.Modifier.TheVariants as modifier
 use Rattle.keymap_core.specs.declared.action.Lock.TheVariants as lock
 use Rattle.keymap_core.specs.declared.action.Holding.TheVariants as holding
+use Rattle.keymap_lint.proofs.Begun.{again_there, replaced, unused_there, zero_there}
 use Rattle.keymap_lint.proofs.Each.{of_all}
 use Rattle.keymap_lint.proofs.Faults.{TellsPlaces, refused_within}
 use Rattle.keymap_lint.proofs.InForce.{cells_in_force_are_spelled, in_force_there, spelled_at, within}
@@ -87,7 +88,7 @@ all_of_text text m rows by fs are =
               );
             },
           );
-      again = λ p q. ((w p.first, w q.first), tt);
+      again = λ p q among e ne. ((w p.first, w q.first), replaced text m rows by p q among e ne);
       dead = λ c e.
           let its : SpellsCell text c.span.start (content t c) = found_has IsThere (is_missing t) cells there c e in (
             (low c.span.start (content t c) its, tt),
@@ -99,9 +100,12 @@ all_of_text text m rows by fs are =
               one = dead_key_there c (live_accent t c) refl (find-true (is_missing t) cells c e);
             },
           );
-      zero = λ i p. ((w (p.first + 1), tt), tt);
-      pair = λ i first base j k. ((w (first + (4 * j + 2)), w (first + (4 * k + 2))), tt);
-      unused = λ p. ((w p.first, tt), tt);
+      zero = λ i p e z. ((w (p.first + 1), tt), zero_there text m rows by i p e z);
+      pair = λ i p a e f j k low less same. (
+        (w (p.first + (4 * j + 2)), w (p.first + (4 * k + 2))),
+        again_there text m rows by i p a e f j k low less same,
+      );
+      unused = λ p e. ((w p.first, tt), unused_there text m rows by p e);
       digit = λ k d l n e f.
           let c : CellInForce = get_or cells k d in (
             (low c.span.start (content t c) (there k d l), tt),

@@ -1,26 +1,33 @@
 -- Where the diagnostics of a text stand, and what stands there.
-use Rattle.std.specs.Prelude.{◌≡◌, ℕ, ◌-◌, ◌<◌, ◌≤◌, true, List, All, Contains, length, None, IfSome, Ok, ⊤}
+use Rattle.std.specs.Prelude.{◌≡◌, ◌≢◌, ℕ, ◌+◌, ◌*◌, ◌-◌, ◌<◌, ◌≤◌, true, List, [], ◌∷◌, All, Contains, length, map}
+use Rattle.std.specs.Prelude.{take, drop, Some, None, IfSome, Ok, ⊤}
 use Rattle.keymap_core.specs.declared.action.Action.TheVariants as action
-use Rattle.keymap_lint.specs.Types.{Holding, Cell, Char, Act, Accent, CellInForce, Finding, Diagnostic, Diagnostics}
+use Rattle.keymap_lint.specs.Types.{Holding, Cell, Char, Act, Slot, Accent, CellInForce, Finding, Diagnostic}
+use Rattle.keymap_lint.specs.Types.{Defined, Diagnostics, Placed}
 use Rattle.keymap_lint.specs.Types.{Kind, Lint, Faulty, Spelled as OfSpelled}
 use Rattle.keymap_core.specs.Actions.{holding_action}
 use Rattle.keymap_core.specs.Maps.{MapValue, cell_at}
 use Rattle.keymap_core.specs.Numbers.{key_count}
-use Rattle.keymap_text.specs.Items.{cell}
+use Rattle.keymap_text.specs.Items.{cell, character}
 use Rattle.keymap_text.specs.Lexical.{TokenValue}
 use Rattle.keymap_text.specs.Meaning.{Spells, item_of, tokens}
-use Rattle.keymap_text.specs.Placed.{IsSpelledBy, Row, last_of}
+use Rattle.keymap_text.specs.Placed.{IsSpelledBy, Row, begins, last_of}
+use Rattle.keymap_text.specs.Rows.{ArePairs}
 use Rattle.keymap_text.specs.declared.wanted.FaultPlace.{FaultPlace}
 use Rattle.keymap_lint.specs.declared.diagnostic.Kind.TheVariants as kinds
 use Rattle.keymap_lint.specs.Lists.{IsLint, spelled_by}
-use Rattle.keymap_lint.specs.Spelled.{Spelled, cells_in_force, content, is_live}
+use Rattle.keymap_lint.specs.Spelled.{Spelled, cells_in_force, content, is_live, offset_at}
 
--- A token with this place spells this cell.
-pub record SpellsCell (text : List ℕ) (place : ℕ) (x : Cell) : Type 0 where
+-- A token of the text has this place, and is such a one.
+pub record HasToken (text : List ℕ) (place : ℕ) (IsSuch : TokenValue → Type 0) : Type 0 where
   pub token : TokenValue
   pub among : Contains (tokens text) token
   pub start : token.start ≡ place
-  pub spells : cell (item_of token) ≡ Ok x
+  pub such : IsSuch token
+
+-- A token with this place spells this cell.
+abbrev pub SpellsCell : List ℕ → ℕ → Cell → Type 0
+SpellsCell text place x = HasToken text place (λ token. cell (item_of token) ≡ Ok x)
 
 -- The cells in force are tokens that spell what the map has there.
 abbrev pub CellsInForceAreSpelled : Type 0
@@ -57,14 +64,62 @@ IsMissingDeadKey t c =
 abbrev pub IsOneByte : Spelled → ℕ → CellInForce → Type 0
 IsOneByte t character c = (content t c ≡ Char character) × (c.span.end - c.span.start ≡ 1)
 
--- what stands at the place of a diagnostic that tells of a cell: the modifier or lock, the selector, the dead key or
--- the character of which it tells
+-- A definition of this begins at the place, with its number or its name.
+pub record BeginsAt (text : List ℕ) (t : Spelled) (what : Defined) (place : ℕ) : Type 0 where
+  pub definition : Placed
+  pub among : Contains t.definitions definition
+  pub defines : definition.what ≡ what
+  pub at : offset_at t definition.first ≡ place
+  pub name : HasToken text place (λ token. begins (item_of token) ≡ Some what)
+
+-- it is the one in force
+abbrev pub BeginsInForceAt : List ℕ → Spelled → Defined → ℕ → Type 0
+BeginsInForceAt text t what place =
+    (b : BeginsAt text t what place) × (last_of what t.definitions ≡ Some b.definition)
+
+-- a definition stands there that isn't in force, and the one in force where it is told
+abbrev pub IsReplaced : List ℕ → Spelled → Defined → ℕ → ℕ → Type 0
+IsReplaced text t what place last =
+    (b : BeginsAt text t what place) × (l : BeginsInForceAt text t what last)
+    × (b.definition.first ≢ l.0.definition.first)
+
+-- The definition in force of an accent stands in the text, and behind its name the accent's character.
+pub record HasCharacter (text : List ℕ) (t : Spelled) (i c place : ℕ) : Type 0 where
+  pub definition : Placed
+  pub in_force : last_of (Accent i) t.definitions ≡ Some definition
+  pub at : offset_at t (definition.first + 1) ≡ place
+  pub own : HasToken text place (λ token. character (item_of token) ≡ Ok c)
+
+-- In the definition in force of an accent so many pairs stand before the place, and there four tokens that spell one
+-- with this base.
+pub record HasPair (text : List ℕ) (t : Spelled) (i base before place : ℕ) : Type 0 where
+  pub definition : Placed
+  pub in_force : last_of (Accent i) t.definitions ≡ Some definition
+  pub number : ℕ
+  pub behind : number ≡ definition.first + (2 + 4 * before)
+  pub at : offset_at t number ≡ place
+  pub pair : ℕ × ℕ
+  pub of_base : pair.0 ≡ base
+  pub spelled : ArePairs (map item_of (take 4 (drop number (tokens text)))) (pair ∷ [])
+
+-- a pair with this base, and before it one of the same accent with this base
+abbrev pub IsPairAgain : List ℕ → Spelled → ℕ → ℕ → ℕ → ℕ → Type 0
+IsPairAgain text t i base first place =
+    (k : ℕ) × (j : ℕ) × (k < j) × HasPair text t i base k first × HasPair text t i base j place
+
+-- what stands at the place of a diagnostic, if it has one: the token or the definition of which it tells
 abbrev pub StandsThere : List ℕ → Spelled → ℕ → Kind → Type 0
 StandsThere text t place (kinds.MixedKey f character) = StandsAt text t place (IsHoldingOf t f character)
 StandsThere text t place (kinds.HalfDefined s keys) = StandsAt text t place (IsSelectorOf t s)
 StandsThere text t place (kinds.DeadKey some) = StandsAt text t place (IsMissingDeadKey t)
 StandsThere text t place (kinds.BareDigit character) = StandsAt text t place (IsOneByte t character)
-StandsThere text t place k = ⊤
+StandsThere text t place (kinds.DefinedAgain what last) = IsReplaced text t what place last
+StandsThere text t place (kinds.ZeroAccent i) = HasCharacter text t i 0 place
+StandsThere text t place (kinds.PairAgain i base first) = IsPairAgain text t i base first place
+StandsThere text t place kinds.UnusedHalf =
+    (slot : ℕ) × (key_count ≤ slot) × BeginsInForceAt text t (Slot slot) place
+StandsThere text t place kinds.NoKey = ⊥
+StandsThere text t place kinds.NoShift = ⊥
 
 -- the further places that a diagnostic tells
 abbrev pub TellsWithin : List ℕ → Kind → Type 0

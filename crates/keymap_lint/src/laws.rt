@@ -23,7 +23,8 @@ pub fn cells_in_force_are_spelled()
 
 /// Each diagnostic that has a place stands within the text, and so do the further places that it tells. A `MixedKey`
 /// stands at a token that is its modifier or lock, a `HalfDefined` at its selector, a `DeadKey` at a dead key, and a
-/// `BareDigit` at its character.
+/// `BareDigit` at its character; a `DefinedAgain` and an `UnusedHalf` where a definition begins, a `ZeroAccent` at the
+/// character, and a `PairAgain` at its parenthesis.
 #[tactic(auto, using(crate::proofs::Standing::diagnostics_stand_in_the_text))]
 pub fn diagnostics_stand_in_the_text()
     ensures { DiagnosticsStandInTheText }

@@ -1,5 +1,5 @@
 -- What is shown of bytes, and what is told in words, stays in its line, and a terminal shows it.
-use Rattle.keymap_lint_text.proofs.Common.{◌≡◌, ℕ, ◌<◌, Bool, true, false, List, [], ◌∷◌, ◌++◌, refl, ap, sym, subst}
+use Rattle.keymap_lint_text.proofs.Common.{◌≡◌, ℕ, ◌<◌, Bool, true, false, List, [], ◌∷◌, ◌++◌, refl, ap, sym}
 use Rattle.keymap_lint_text.proofs.Common.{◌∙◌, arith, Option, Some, None, append-nil, drop, length, ◌==◌, ◌+◌, ◌-◌}
 use Rattle.keymap_lint_text.proofs.Common.{not, nat_lt, codes, decimal, map, encode_utf8, if◌then◌else◌, flat_map}
 use Rattle.keymap_lint_text.proofs.Common.{list_all, and_parts, nat_tests, flat_map-append, All-nil, All-cons}

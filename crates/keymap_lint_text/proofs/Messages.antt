@@ -1,11 +1,11 @@
 -- Each message stays in its line, and a terminal shows it.
-use Rattle.keymap_lint_text.proofs.Common.{◌≡◌, ℕ, ◌<◌, ◌/◌, ◌%◌, Bool, true, List, [], ◌∷◌, map, refl, arith, Option}
-use Rattle.keymap_lint_text.proofs.Common.{Some, None, drop, length, ◌==◌, nat_lt, codes, encode_utf8, if◌then◌else◌}
+use Rattle.keymap_lint_text.proofs.Common.{◌≡◌, ℕ, ◌<◌, ◌/◌, ◌%◌, Bool, true, List, [], ◌∷◌, refl, arith, Option}
+use Rattle.keymap_lint_text.proofs.Common.{Some, None, drop, length, ◌==◌, codes}
 use Rattle.keymap_lint_text.proofs.Common.{list_all, and_parts, nat_tests, All-take, slice_index, slice_index_or}
-use Rattle.keymap_lint_text.proofs.Common.{range_with_len, filled, IsSeen, IsLine, shown_chars, is_shown_byte}
+use Rattle.keymap_lint_text.proofs.Common.{range_with_len, IsSeen, IsLine, is_shown_byte}
 use Prim.Native.Nat.{zero, suc}
 use Rattle.std.proofs.lemmas.Bool.{and_from, cond_both}
-use Rattle.keymap_core.specs.Actions.{accent_names, holding_action, name_of}
+use Rattle.keymap_core.specs.Actions.{accent_names, name_of}
 use Rattle.keymap_core.specs.declared.action.Holding.{Holding}
 use Rattle.keymap_core.specs.declared.action.Holding.TheVariants as holding
 use Rattle.keymap_core.specs.declared.action.Action.TheVariants as action
@@ -25,10 +25,11 @@ use Rattle.keymap_lint.specs.declared.diagnostic.Kind.{Kind}
 use Rattle.keymap_lint.specs.declared.diagnostic.Kind.TheVariants as kinds
 use Rattle.keymap_lint_text.specs.declared.words.TheConstants as words
 use Rattle.keymap_lint_text.specs.Faults as fault
-use Rattle.keymap_lint_text.specs.Lists.{accent_name, accents_text, comma, listed_text, or_comma, ranges, run_text}
+use Rattle.keymap_lint_text.specs.Lists.{accent_name, accents_text, listed_text, ranges, run_text}
 use Rattle.keymap_lint_text.specs.Notes.{begins_text}
 use Rattle.keymap_lint_text.specs.Said as said
-use Rattle.keymap_lint_text.specs.Told.{column_text, defined_text, started_text, told_character, wanted_text, word_text}
+use Rattle.keymap_lint_text.specs.Told.{column_names, column_text, defined_text, started_text, told_character}
+use Rattle.keymap_lint_text.specs.Told.{wanted_text, word_text}
 use Rattle.keymap_lint_text.proofs.Lines.{all_seen, ascii, decimal_line, digit_printed, either, fills, line_chars}
 use Rattle.keymap_lint_text.proofs.Lines.{line_flat, line_if, line_none, modifier_line, ◌⊳◌}
 
@@ -63,11 +64,11 @@ character_line c = word_line _
 column_line : (column : ℕ) → IsLine (column_text column)
 unfolding column_text
 column_line column =
-    fills words.COLUMN.now _ refl
-    (decimal_line column, (named (map (λ name. name.now) words.COLUMN_NAMES) refl column, tt))
+    fills _ _ refl
+    (decimal_line column, (named column_names refl column, tt))
 
 defined_line : (what : Defined) → IsLine (defined_text what)
-defined_line (Slot slot) = fills words.SLOT.now _ refl (decimal_line slot, tt)
+defined_line (Slot slot) = fills _ _ refl (decimal_line slot, tt)
 defined_line (Accent i) = accent_line i
 
 started_line : (d : Option DefinitionStart) → IsLine (started_text d)
@@ -76,14 +77,14 @@ started_line (Some d) = defined_line d.what
 
 wanted_line : (w : Wanted) (d : Option DefinitionStart) → IsLine (wanted_text w d)
 unfolding wanted_text
-wanted_line wants.Definition d = fills words.A_DEFINITION.now [] refl tt
-wanted_line (wants.Cell column) d = fills words.A_CELL.now _ refl (started_line d, (column_line column, tt))
-wanted_line wants.Lock d = fills words.A_LOCK.now _ refl (started_line d, tt)
-wanted_line wants.AccentCharacter d = fills words.A_CHARACTER.now _ refl (started_line d, tt)
-wanted_line (wants.Pair n) d = fills words.A_PAIR.now _ refl (started_line d, tt)
-wanted_line (wants.Base n) d = fills words.A_BASE.now _ refl (started_line d, tt)
-wanted_line (wants.Composed n) d = fills words.A_RESULT.now _ refl (started_line d, tt)
-wanted_line (wants.PairEnd n) d = fills words.A_PAIR_END.now _ refl (started_line d, tt)
+wanted_line wants.Definition d = fills _ [] refl tt
+wanted_line (wants.Cell column) d = fills _ _ refl (started_line d, (column_line column, tt))
+wanted_line wants.Lock d = fills _ _ refl (started_line d, tt)
+wanted_line wants.AccentCharacter d = fills _ _ refl (started_line d, tt)
+wanted_line (wants.Pair n) d = fills _ _ refl (started_line d, tt)
+wanted_line (wants.Base n) d = fills _ _ refl (started_line d, tt)
+wanted_line (wants.Composed n) d = fills _ _ refl (started_line d, tt)
+wanted_line (wants.PairEnd n) d = fills _ _ refl (started_line d, tt)
 
 run_line : (ns : List ℕ) (i : ℕ) → IsLine (run_text ns i)
 run_line ns i =
@@ -115,7 +116,7 @@ not_joined_line (Accent i) = ascii _ refl
 mixed_line : (f : Finding) (c : ℕ) (never : Bool) → IsLine (said.mixed_key_text f c never)
 unfolding said.mixed_key_text
 mixed_line f c never =
-    fills words.MIXED_KEY.now _ refl (
+    fills _ _ refl (
       decimal_line f.key,
       (
         holding_line f.holding,
@@ -124,7 +125,7 @@ mixed_line f c never =
           (
             column_line f.character_at.column,
             (
-              either _ [] _ line_none (fills words.OTHER_SLOT.now _ refl (decimal_line f.character_at.slot, tt)),
+              either _ [] _ line_none (fills _ _ refl (decimal_line f.character_at.slot, tt)),
               (holding_line f.holding, (line_if never _ (ascii _ refl), tt)),
             ),
           ),
@@ -136,12 +137,12 @@ half_line : (l : Diagnostics) (selector : Holding) (has_keys : Bool)
     → IsLine (said.half_defined_text l selector has_keys)
 unfolding said.half_defined_text
 half_line l selector has_keys =
-    fills words.HALF_DEFINED.now _ refl (
+    fills _ _ refl (
       holding_line selector,
       (
-        counted_line words.MISSING_SLOT.now words.MISSING_SLOTS.now l.missing_slots.items refl refl,
+        counted_line _ _ l.missing_slots.items refl refl,
         (
-          line_if has_keys _ (counted_line words.NUL_KEY.now words.NUL_KEYS.now l.nul_keys.items refl refl),
+          line_if has_keys _ (counted_line _ _ l.nul_keys.items refl refl),
           tt,
         ),
       ),
@@ -150,7 +151,7 @@ half_line l selector has_keys =
 again_line : (what : Defined) (last : ℕ) → IsLine (said.defined_again_text what last)
 unfolding said.defined_again_text
 again_line what last =
-    fills words.DEFINED_AGAIN.now _ refl (defined_line what, (decimal_line last, (not_joined_line what, tt)))
+    fills _ _ refl (defined_line what, (decimal_line last, (not_joined_line what, tt)))
 
 dead_line : (missing : List ℕ) (some : Bool) → IsLine (said.dead_key_text missing some)
 unfolding said.dead_key_text
@@ -163,26 +164,33 @@ dead_line missing some =
 digit_line : (c : ℕ) → IsLine (said.bare_digit_text c)
 unfolding said.bare_digit_text
 digit_line c =
-    fills words.BARE_DIGIT.now _ refl (decimal_line c, (decimal_line c, (character_line c, (decimal_line c, tt))))
+    fills _ _ refl (decimal_line c, (decimal_line c, (character_line c, (decimal_line c, tt))))
+
+zero_line : (accent : ℕ) → IsLine (said.zero_accent_text accent)
+zero_line accent = fills _ _ refl (accent_line accent, tt)
+
+pair_line : (accent base first : ℕ) → IsLine (said.pair_again_text accent base first)
+pair_line accent base first = fills _ _ refl (accent_line accent, (character_line base, (decimal_line first, tt)))
+
+unused_line : (slots : List ℕ) → IsLine (said.unused_text slots)
+unused_line slots = counted_line _ _ slots refl refl
 
 pub message_line : (text : List ℕ) (l : Diagnostics) (kind : Kind) → IsLine (said.message_text text l kind)
 unfolding said.message_text
-message_line text l kinds.NoKey = fills words.NO_KEY.now [] refl tt
-message_line text l kinds.NoShift = fills words.NO_SHIFT.now [] refl tt
+message_line text l kinds.NoKey = fills _ [] refl tt
+message_line text l kinds.NoShift = fills _ [] refl tt
 message_line text l (kinds.MixedKey f c) = mixed_line f c _
 message_line text l (kinds.HalfDefined selector has_keys) = half_line l selector has_keys
 message_line text l (kinds.DefinedAgain what last) = again_line what _
 message_line text l (kinds.DeadKey some) = dead_line l.missing_accents.items some
-message_line text l (kinds.ZeroAccent accent) = fills words.ZERO_ACCENT.now _ refl (accent_line accent, tt)
-message_line text l (kinds.PairAgain accent base first) =
-    fills words.PAIR_AGAIN.now _ refl (accent_line accent, (character_line base, (decimal_line _, tt)))
-message_line text l kinds.UnusedHalf =
-    counted_line words.UNUSED_SLOT.now words.UNUSED_SLOTS.now l.unused_slots.items refl refl
+message_line text l (kinds.ZeroAccent accent) = zero_line accent
+message_line text l (kinds.PairAgain accent base first) = pair_line accent base _
+message_line text l kinds.UnusedHalf = unused_line l.unused_slots.items
 message_line text l (kinds.BareDigit c) = digit_line c
 
 pub begins_line : (what : Defined) → IsLine (begins_text what)
 unfolding begins_text
-begins_line what = fills words.BEGINS.now _ refl (defined_line what, tt)
+begins_line what = fills _ _ refl (defined_line what, tt)
 
 -- ---- of a text with a fault
 
@@ -202,12 +210,12 @@ byte_line : (bytes : List ℕ) → IsLine (fault.bad_byte_text bytes)
 unfolding fault.bad_byte_text
 byte_line bytes =
     cond_both (fault.is_unnamed (slice_index bytes 0)) _ _ IsLine
-    (λ h. fills words.UNNAMED_BYTE.now _ refl (hex_line _ (unnamed_low _ h), tt))
-    (λ _. either _ _ _ (fills words.MARK.now [] refl tt)
-    (fills words.BAD_BYTE.now _ refl (front_line bytes, (front_line bytes, tt))))
+    (λ h. fills _ _ refl (hex_line _ (unnamed_low _ h), tt))
+    (λ _. either _ _ _ (fills _ [] refl tt)
+    (fills _ _ refl (front_line bytes, (front_line bytes, tt))))
 
 nop_line : (w : Wanted) → IsLine (fault.nop_text w)
-nop_line w = line_if (fault.wants_cell w) words.MEANT_NOP.now (ascii _ refl)
+nop_line w = line_if (fault.wants_cell w) _ (ascii _ refl)
 
 meant_line : (bytes : List ℕ) (w : Wanted) → IsLine (fault.meant_text bytes w)
 unfolding fault.meant_text
@@ -218,39 +226,39 @@ meant_line bytes w =
 bad_word_line : (bytes : List ℕ) (w : Wanted) → IsLine (fault.bad_word_text bytes w)
 unfolding fault.bad_word_text
 bad_word_line bytes w =
-    either _ _ _ (fills words.LONG_WORD.now _ refl (decimal_line _, (nop_line w, tt)))
-    (fills words.BAD_WORD.now _ refl (word_line _, (meant_line bytes w, tt)))
+    either _ _ _ (fills _ _ refl (decimal_line _, (nop_line w, tt)))
+    (fills _ _ refl (word_line _, (meant_line bytes w, tt)))
 
 cells_line : (token : List ℕ) (w : Wanted) (d : Option DefinitionStart) → IsLine (fault.cells_text token w d)
 unfolding fault.cells_text
 cells_line token (wants.Cell n) d =
-    line_if _ _ (fills words.FEW_CELLS.now _ refl (started_line d, (decimal_line n, tt)))
-cells_line token wants.Lock d = fills words.ALL_CELLS.now [] refl tt
+    line_if _ _ (fills _ _ refl (started_line d, (decimal_line n, tt)))
+cells_line token wants.Lock d = fills _ [] refl tt
 cells_line token wants.Definition d = line_none
 cells_line token _ d = line_none
 
 end_line : (text : List ℕ) (f : FaultPlace) → IsLine (fault.end_text text f)
 unfolding fault.end_text
 end_line text f =
-    either _ _ _ (fills words.ENDS_QUOTED.now [] refl tt)
-    (fills words.ENDS.now _ refl (wanted_line f.wanted f.definition, tt))
+    either _ _ _ (fills _ [] refl tt)
+    (fills _ _ refl (wanted_line f.wanted f.definition, tt))
 
 pub fault_line : (text : List ℕ) (place : ℕ) (kind : TextFaultKind) (f : FaultPlace)
     → IsLine (fault.fault_text text place kind f)
 unfolding fault.fault_text
 fault_line text place faults.BadByte f = byte_line (drop place text)
-fault_line text place faults.BadLiteral f = fills words.BAD_LITERAL.now [] refl tt
+fault_line text place faults.BadLiteral f = fills _ [] refl tt
 fault_line text place faults.BadWord f = bad_word_line (drop place text) f.wanted
 fault_line text place faults.Unexpected f =
-    fills words.UNEXPECTED.now _ refl (word_line _, (wanted_line f.wanted f.definition, (cells_line _ f.wanted _, tt)))
-fault_line text place faults.KeyTooLarge f = fills words.KEY_TOO_LARGE.now _ refl (word_line _, tt)
-fault_line text place faults.BadChar f = fills words.BAD_CHAR.now _ refl (word_line _, tt)
+    fills _ _ refl (word_line _, (wanted_line f.wanted f.definition, (cells_line _ f.wanted _, tt)))
+fault_line text place faults.KeyTooLarge f = fills _ _ refl (word_line _, tt)
+fault_line text place faults.BadChar f = fills _ _ refl (word_line _, tt)
 fault_line text place faults.BadFunction f =
     fills words.BAD_FUNCTION.now _ refl (
       word_line _,
       (either _ _ _ (ascii words.SCREENS.now refl) (ascii words.FUNCTION_KEYS.now refl), tt),
     )
-fault_line text place faults.TooManyPairs f = fills words.TOO_MANY_PAIRS.now _ refl (started_line f.definition, tt)
-fault_line text place faults.ZeroBase f = fills words.ZERO_BASE.now [] refl tt
-fault_line text place faults.Combined f = fills words.COMBINED.now _ refl (word_line _, (word_line _, tt))
+fault_line text place faults.TooManyPairs f = fills _ _ refl (started_line f.definition, tt)
+fault_line text place faults.ZeroBase f = fills _ [] refl tt
+fault_line text place faults.Combined f = fills _ _ refl (word_line _, (word_line _, tt))
 fault_line text place faults.EndInside f = end_line text f

@@ -1,6 +1,6 @@
 -- What is said of the fault of a text.
 use Rattle.std.specs.Prelude.{ℕ, ◌-◌, ◌/◌, ◌%◌, ◌==◌, Bool, true, false, ◌&&◌, ◌||◌, not, nat_lt, if◌then◌else◌}
-use Rattle.std.specs.Prelude.{List, [], ◌∷◌, decimal, length, take, drop, slice_index, encode_utf8}
+use Rattle.std.specs.Prelude.{List, [], ◌∷◌, codes, decimal, length, take, drop, slice_index, encode_utf8}
 use Rattle.std.specs.Prelude.{Option, Some, None, Result, Ok, Err}
 use Rattle.std.specs.Char.{digit_char, is_ascii_hexdigit, to_ascii_lowercase}
 use Rattle.std.specs.List.{flat_map, before_first}
@@ -65,9 +65,11 @@ is_mark bytes = slice_index bytes 0 == 0xef && slice_index bytes 1 == 0xbb && sl
 
 unfoldable pub bad_byte_text : List ℕ → List ℕ
 bad_byte_text bytes =
-    if is_unnamed (slice_index bytes 0) then filled words.UNNAMED_BYTE.now (hex_byte (slice_index bytes 0) ∷ [])
-    else if is_mark bytes then filled words.MARK.now []
-    else filled words.BAD_BYTE.now (front_text bytes ∷ front_text bytes ∷ [])
+    if is_unnamed (slice_index bytes 0)
+    then filled (codes "the byte 0x{} begins no word") (hex_byte (slice_index bytes 0) ∷ [])
+    else if is_mark bytes then filled (codes "a byte order mark begins no word; remove it") []
+    else filled (codes "{} begins no word; a character that is meant is quoted: '{}'")
+    (front_text bytes ∷ front_text bytes ∷ [])
 
 abbrev pub wants_character : Wanted → Bool
 wants_character (wants.Cell n) = true
@@ -81,22 +83,24 @@ wants_cell (wants.Cell n) = true
 wants_cell _ = false
 
 abbrev pub nop_text : Wanted → List ℕ
-nop_text wanted = if wants_cell wanted then words.MEANT_NOP.now else []
+nop_text wanted = if wants_cell wanted then codes "; a cell that gives nothing is nop" else []
 
 -- what may have been meant by the word in front of these bytes
 unfoldable pub meant_text : List ℕ → Wanted → List ℕ
 meant_text bytes wanted =
     if nat_lt 0 (length (unicode_digits bytes))
-    then filled words.MEANT_NUMBER.now (word_text (unicode_digits bytes) ∷ word_text (unicode_digits bytes) ∷ [])
+    then filled (codes "; for U+{} write 0x{}")
+    (word_text (unicode_digits bytes) ∷ word_text (unicode_digits bytes) ∷ [])
     else if length (front_word bytes) == 1 && wants_character wanted
-    then filled words.MEANT_CHARACTER.now (word_text (front_word bytes) ∷ [])
+    then filled (codes "; the character is '{}'") (word_text (front_word bytes) ∷ [])
     else nop_text wanted
 
 unfoldable pub bad_word_text : List ℕ → Wanted → List ℕ
 bad_word_text bytes wanted =
     if nat_lt 32 (length (front_word bytes))
-    then filled words.LONG_WORD.now (decimal (length (front_word bytes)) ∷ nop_text wanted ∷ [])
-    else filled words.BAD_WORD.now (word_text (front_word bytes) ∷ meant_text bytes wanted ∷ [])
+    then filled (codes "a word has at most 32 bytes; this one has {}{}")
+    (decimal (length (front_word bytes)) ∷ nop_text wanted ∷ [])
+    else filled (codes "{} means nothing{}") (word_text (front_word bytes) ∷ meant_text bytes wanted ∷ [])
 
 abbrev pub is_letter : Meaning → Bool
 is_letter (Number n) = false
@@ -113,8 +117,8 @@ is_lock_letter token = length token == 1 && is_letter (meaning token)
 -- how many cells the slot has where its lock letter may be meant, or where one more token stands than it has cells
 unfoldable pub cells_text : List ℕ → Wanted → Option DefinitionStart → List ℕ
 cells_text token (wants.Cell n) d =
-    if is_lock_letter token then filled words.FEW_CELLS.now (started_text d ∷ decimal n ∷ []) else []
-cells_text token wants.Lock d = filled words.ALL_CELLS.now []
+    if is_lock_letter token then filled (codes "; {} has {} of 8 cells") (started_text d ∷ decimal n ∷ []) else []
+cells_text token wants.Lock d = filled (codes "; it has its 8 cells") []
 cells_text token wants.Definition d = []
 cells_text token wants.AccentCharacter d = []
 cells_text token (wants.Pair n) d = []
@@ -131,8 +135,8 @@ but_last bytes = take (length bytes - 1) bytes
 
 unfoldable pub end_text : List ℕ → FaultPlace → List ℕ
 end_text text f =
-    if is_refused (first_at text f.behind) then filled words.ENDS_QUOTED.now []
-    else filled words.ENDS.now (wanted_text f.wanted f.definition ∷ [])
+    if is_refused (first_at text f.behind) then filled (codes "the text ends in a quoted character") []
+    else filled (codes "the text ends where {} is wanted") (wanted_text f.wanted f.definition ∷ [])
 
 -- what is said of the fault of a text at a place
 unfoldable pub fault_text : List ℕ → ℕ → TextFaultKind → FaultPlace → List ℕ

@@ -7,7 +7,6 @@ use Rattle.keymap_core.specs.declared.action.Holding.TheVariants as holding
 use Rattle.console_core.specs.declared.event.Event.{Event}
 use Rattle.console_core.specs.declared.event.Event.TheVariants.{Press, Release, Reset, Load}
 use Rattle.keymap_text.specs.declared.placed.Defined.{Defined}
-use Rattle.keymap_lint_text.specs.declared.words.TheConstants as words
 use Rattle.messages.specs.Filled.{filled}
 use Rattle.keymap_lint_text.specs.Told.{defined_text}
 
@@ -37,8 +36,7 @@ abbrev pub events_text : List Event → List ℕ
 events_text [] = []
 events_text (e ∷ es) = event_text e ++ flat_map further_event es
 
--- The answers of the search are verdicts, so they stand here in their bytes: the modifiers that stay on, and the events
--- after which they do; or that it is undecided.
+-- the answers of the search: the modifiers that stay on, and the events after which they do; or that it is undecided
 unfoldable pub sticks_text : List Modifier → List Event → List ℕ
 sticks_text stuck events =
     modifiers_text stuck ++ codes " " ++ (if length stuck == 1 then codes "stays" else codes "stay")
@@ -49,4 +47,4 @@ undecided_text = codes "whether a modifier can stay on is undecided: more than 6
 
 -- where a definition begins that a fault stands in
 unfoldable pub begins_text : Defined → List ℕ
-begins_text what = filled words.BEGINS.now (defined_text what ∷ [])
+begins_text what = filled (codes "{} is defined from here on") (defined_text what ∷ [])

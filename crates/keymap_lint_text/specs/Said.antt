@@ -1,10 +1,8 @@
--- What is said of a text that spells a keymap: of each kind its words, filled with what the diagnostic tells. That no
--- modifier ever stays on is a verdict, so it stands here in its bytes.
+-- What is said of a text that spells a keymap: of each kind its words, filled with what the diagnostic tells.
 use Rattle.std.specs.Prelude.{ℕ, Bool, ◌==◌, if◌then◌else◌, List, [], ◌∷◌, codes, decimal, length}
 use Rattle.keymap_core.specs.Actions.{holding_action, name_of}
 use Rattle.keymap_core.specs.declared.action.Holding.{Holding}
 use Rattle.keymap_check.specs.declared.finding.Finding.{Finding}
-use Rattle.keymap_check.specs.declared.finding.Place.{Place}
 use Rattle.keymap_text.specs.declared.placed.Defined.{Defined}
 use Rattle.keymap_text.specs.declared.placed.Defined.TheVariants.{Slot, Accent}
 use Rattle.keymap_text.specs.Meaning.{line}
@@ -49,36 +47,57 @@ half_defined_text l selector has_keys =
 
 abbrev pub not_joined : Defined → List ℕ
 not_joined (Slot slot) = []
-not_joined (Accent i) = words.NOT_JOINED.now
+not_joined (Accent i) = codes ", and pairs are not joined"
 
 -- a definition without effect, and the line of the last one
 unfoldable pub defined_again_text : Defined → ℕ → List ℕ
 defined_again_text what last =
-    filled words.DEFINED_AGAIN.now (defined_text what ∷ decimal last ∷ not_joined what ∷ [])
+    filled (codes "this definition of {} has no effect: line {} defines it again{}")
+    (defined_text what ∷ decimal last ∷ not_joined what ∷ [])
 
 -- dead keys of accents that aren't defined, where some other accent is defined or none
 unfoldable pub dead_key_text : List ℕ → Bool → List ℕ
 dead_key_text missing defines_some =
     if defines_some
-    then filled words.DEAD_KEY.now (accents_text missing
-    ∷ (if length missing == 1 then words.ONE_ACCENT.now else words.ACCENTS.now) ∷ [])
-    else filled words.NO_ACCENT.now (accents_text missing ∷ [])
+    then filled (codes "the text does not define {}, so pressing {} is an error") (accents_text missing
+    ∷ (if length missing == 1 then codes "it" else codes "one") ∷ [])
+    else filled (codes "the text defines no accent, so pressing {} is an error") (accents_text missing ∷ [])
 
 -- a character that is spelled as a bare digit
 unfoldable pub bare_digit_text : ℕ → List ℕ
-bare_digit_text c = filled words.BARE_DIGIT.now (decimal c ∷ decimal c ∷ told_character c ∷ decimal c ∷ [])
+bare_digit_text c =
+    filled (codes "{} is the character number {}, which is {}; the digit is '{}'")
+    (decimal c ∷ decimal c ∷ told_character c ∷ decimal c ∷ [])
+
+-- an accent with the character 0
+abbrev pub zero_accent_text : ℕ → List ℕ
+zero_accent_text accent =
+    filled
+    (codes "with the character 0 {} counts as not defined, so pressing it is an error and its pairs have no effect")
+    (accent_name accent ∷ [])
+
+-- a pair whose base the accent has before it, and the line of that
+abbrev pub pair_again_text : ℕ → ℕ → ℕ → List ℕ
+pair_again_text accent base first =
+    filled (codes "this pair has no effect: {} has one with the base {} before it, in line {}")
+    (accent_name accent ∷ told_character base ∷ decimal first ∷ [])
+
+-- slots that no key selects
+abbrev pub unused_text : List ℕ → List ℕ
+unused_text slots =
+    counted (codes "no key is ashift or alock, so slot {} is never looked at")
+    (codes "no key is ashift or alock, so slots {} are never looked at") slots
 
 -- what is said of a text by a diagnostic of this kind
 unfoldable pub message_text : List ℕ → Diagnostics → Kind → List ℕ
-message_text text l kinds.NoKey = filled words.NO_KEY.now []
-message_text text l kinds.NoShift = filled words.NO_SHIFT.now []
+message_text text l kinds.NoKey = filled (codes "the text defines no key") []
+message_text text l kinds.NoShift = filled (codes "no key is lshift or rshift") []
 message_text text l (kinds.MixedKey finding character) =
     mixed_key_text finding character (never_sticks l.sticking)
 message_text text l (kinds.HalfDefined selector has_keys) = half_defined_text l selector has_keys
 message_text text l (kinds.DefinedAgain what last) = defined_again_text what (line text last)
 message_text text l (kinds.DeadKey defines_some) = dead_key_text l.missing_accents.items defines_some
-message_text text l (kinds.ZeroAccent accent) = filled words.ZERO_ACCENT.now (accent_name accent ∷ [])
-message_text text l (kinds.PairAgain accent base first) =
-    filled words.PAIR_AGAIN.now (accent_name accent ∷ told_character base ∷ decimal (line text first) ∷ [])
-message_text text l kinds.UnusedHalf = counted words.UNUSED_SLOT.now words.UNUSED_SLOTS.now l.unused_slots.items
+message_text text l (kinds.ZeroAccent accent) = zero_accent_text accent
+message_text text l (kinds.PairAgain accent base first) = pair_again_text accent base (line text first)
+message_text text l kinds.UnusedHalf = unused_text l.unused_slots.items
 message_text text l (kinds.BareDigit character) = bare_digit_text character

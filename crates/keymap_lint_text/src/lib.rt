@@ -2,9 +2,8 @@
 //! text and a caret.
 //!
 //! `lint_text` is all of it. Which lines are printed, and what each tells, `specs/Whole.antt` and the definitions that
-//! it cites say. A message is there the words of its kind, filled with what the diagnostic tells in their order; these
-//! words are data of `src/words.rt`, and docs/FORMATS.md has each of them. What the search answers is a verdict, so the
-//! definitions have its bytes. The module `laws` says what who reads the lines may rely on.
+//! it cites say. A message is there the words of its kind, filled with what the diagnostic tells in their order;
+//! docs/FORMATS.md has each of them. The module `laws` says what who reads the lines may rely on.
 #![tactic(auto)]
 
 mod excerpt;

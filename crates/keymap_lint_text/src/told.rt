@@ -1,5 +1,5 @@
 //! What the diagnostics tell of: tokens, characters, columns, definitions, and what is wanted.
-ghost use Rattle.std.specs.Prelude.{◌≡◌, slice_index_or, map, take, encode_utf8, [], IfOk};
+ghost use Rattle.std.specs.Prelude.{◌≡◌, slice_index_or, take, encode_utf8, [], IfOk};
 ghost use Rattle.std.specs.List.{flat_map};
 ghost use Rattle.keymap_lint_text.specs.Shown.{shown_chars as shown_of};
 ghost use Rattle.keymap_lint_text.specs.Told as spec;
@@ -45,7 +45,7 @@ pub(crate) fn told_character(alloc: Global, c: char) -> Result<Vec<u8>, AllocErr
 
 /// What selects a column of a slot.
 fn column_name(column: usize) -> &'static [u8]
-    ensures { result.now ≡ slice_index_or (map (λ name. name.now) COLUMN_NAMES) column [] }
+    ensures { result.now ≡ slice_index_or spec.column_names column [] }
 {
     if column < 8 {
         COLUMN_NAMES[column]

@@ -1,5 +1,7 @@
 //! The words of the diagnostics. What is told stands at the places `{}`. The forms are those of docs/FORMATS.md,
-//! "Diagnostics"; no contract has these words.
+//! "Diagnostics". The definitions have most of them in bytes of their own (specs/Heads.antt, Said.antt, Told.antt,
+//! Notes.antt and Faults.antt), which are proved to be the same. The words of a mixed key, of a text that is half
+//! defined and of most faults they take from here.
 
 // A diagnostic or note: the file, the line, the column and what is said, or the file and what is said.
 pub(crate) const AT_PLACE: &[u8] = b"{}:{}:{}: {}\n";

@@ -1,7 +1,7 @@
 use Rattle.keymap_draw.proofs.Common.{◌≡◌, ◌==◌, Bool, true, false, [], ◌∷◌, ◌++◌, refl, ap, Some, codes, reverse}
 use Rattle.keymap_draw.proofs.Common.{Number, Plain, ReadAs, in_svg, within, is_inner, State, at, start, scan, Text}
 use Rattle.keymap_draw.proofs.Common.{Fact, List, ℕ, head, if◌then◌else◌, list_all}
-use Rattle.keymap_draw.specs.Pictures.{heading}
+use Rattle.keymap_draw.specs.Pictures.{begin as svg, description, heading}
 use Rattle.keymap_draw.specs.Sheets.{facts_from, opened}
 use Rattle.keymap_draw.specs.declared.constants.TheConstants.{STYLE, SHAPES}
 use Rattle.keymap_draw.proofs.Parts.{behind}
@@ -21,13 +21,13 @@ abbrev title : List (List ℕ)
 title = codes "title" ∷ []
 
 abbrev opening : ℕ → List Fact
-opening high = reverse (facts_from start words.BEGIN.now (Number high ∷ Number high ∷ []))
+opening high = svg high ∷ []
 
 abbrev titled : ℕ → ℕ → List Fact
 titled count high = heading count ∷ opening high
 
 abbrev described : ℕ → ℕ → List Fact
-described count high = reverse (facts_from opened words.DESCRIPTION.now []) ++ titled count high
+described count high = description ∷ titled count high
 
 abbrev styled : ℕ → ℕ → List Fact
 styled count high = reverse (facts_from opened STYLE []) ++ described count high

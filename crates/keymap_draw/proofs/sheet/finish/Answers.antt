@@ -1,13 +1,14 @@
 use Rattle.keymap_draw.proofs.Common.{[], ◌∷◌, ◌++◌, ◌∙◌, ap, refl, reverse, List, Some, Fact, ReadAs, at, Text}
 use Rattle.keymap_draw.proofs.Common.{Number, last_facts}
-use Rattle.keymap_draw.specs.Sheets.{dress, ids}
+use Rattle.keymap_draw.specs.ColourKey.{colour_key}
+use Rattle.keymap_draw.specs.Sheets.{ids}
 use Rattle.keymap_draw.proofs.Parts.{behind}
 use Rattle.keymap_draw.proofs.Scans.{turned_back}
 use Rattle.keymap_draw.specs.declared.words.TheConstants as words
 use Rattle.keymap_draw.proofs.sheet.finish.Goals as goal
 
 end : goal.In_ok-push_filled → List Fact
-end c = dress words.END.now (Number c.args.y ∷ [])
+end c = colour_key c.args.y
 
 read : (c : goal.In_ok-push_filled)
     → ReadAs (at Text (record {
@@ -15,7 +16,7 @@ read : (c : goal.In_ok-push_filled)
       ids = ids;
       facts = reverse (end c) ++ last_facts c.sheet.inside.text.items;
     })) c.push_filled.new.text.items
-unfolding end
+unfolding end colour_key
 read c = behind words.END.now (Number c.args.y ∷ []) c.sheet.invariant c.in_ok-push_filled.ensures refl refl
 
 pub returns : goal.returns

@@ -1,8 +1,7 @@
-use Rattle.keymap_draw.proofs.Common.{◌+◌, ◌++◌, ◌∙◌, [], ◌∷◌, ap, subst, length, IfOk, Tells, Lower, Number}
+use Rattle.keymap_draw.proofs.Common.{◌+◌, ◌++◌, ◌∙◌, ap, subst, length, IfOk, Tells, Lower}
 use Rattle.keymap_draw.proofs.Common.{accents_list, findings_list, half_facts, head, silent_list}
 use Rattle.keymap_draw.specs.Pictures.{upper, parts}
-use Rattle.keymap_draw.specs.Sheets.{dress}
-use Rattle.keymap_draw.specs.declared.words.TheConstants as words
+use Rattle.keymap_draw.specs.ColourKey.{colour_key}
 use Rattle.keymap_draw.proofs.whole.draw.Goals as goal
 
 pub returns : goal.returns
@@ -11,7 +10,7 @@ returns c =
     let d = c.args.drawing.now in
     let starts = c.args.starts in
     let listed = c.args.listed in
-    let end = dress words.END.now (Number starts.key ∷ []) in
+    let end = colour_key starts.key in
     subst (λ fs. IfOk c.finish.result (λ text. Tells (fs ++ end) text.items))
     (c.in_ok-sheet-6.ensures ∙ ap (λ l. l ++ silent_list listed.silent.now starts.silent)
     (c.in_ok-sheet-5.ensures

@@ -110,6 +110,7 @@ yields cover_of
 refuses Seen::new
 refuses cells
 refuses lock_settings
+yields changes
 refuses diagnostics
 refuses diagnostics-faulty fault
 yields lint_text

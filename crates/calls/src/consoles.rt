@@ -1,4 +1,4 @@
-//! The calls of console_core and console_states, and of keymap_cover, which stands on them.
+//! The calls of console_core and console_states, and of keymap_cover and keymap_diff, which stand on them.
 use crate::devices::mark;
 use crate::inputs::{Call, Lent};
 use crate::outcome::{Outcome, ended, ended_keeping};
@@ -9,6 +9,7 @@ use console_states::{
 };
 use keymap_core::{KeyCode, Lock, Modifier, Write};
 use keymap_cover::{Seen, cells, cover_of, lock_settings};
+use keymap_diff::{Versions, changes};
 use std::alloc::{AllocError, Global};
 
 /// Makes a call on a keymap and its consoles. There is none where no such call has the name.
@@ -33,6 +34,7 @@ pub(crate) fn of_keymaps<W: Write>(call: &Call<'_>, marks: &mut W) -> Option<Out
         "Seen::new" => sees_nothing(alloc, marks),
         "cells" => lists_cells(alloc, marks),
         "lock_settings" => lists_lock_settings(alloc, marks),
+        "changes" => compares(alloc, trap, sample, marks),
         _ => return None,
     };
     Some(outcome)
@@ -265,4 +267,20 @@ fn lists_lock_settings<W: Write>(alloc: Global, marks: &mut W) -> Outcome {
     let given = lock_settings(alloc);
     mark(marks);
     ended(&given, matches!(&given, Ok(sights) if sights.len() == 1024))
+}
+
+fn compares<W: Write>(alloc: Global, lent: &Lent, next: &Lent, marks: &mut W) -> Outcome {
+    let versions = Versions {
+        old: &lent.map,
+        new: &next.map,
+        seen: None,
+    };
+    mark(marks);
+    let given = changes(alloc, &versions);
+    mark(marks);
+    ended_keeping(
+        &given,
+        matches!(&given, Ok(found) if !found.is_empty()),
+        lent.is_kept(),
+    )
 }

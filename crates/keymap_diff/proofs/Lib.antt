@@ -1,0 +1,4 @@
+pub mod Pushing
+pub mod Marks
+pub mod Bases
+pub mod Same

@@ -3,7 +3,7 @@ use Rattle.console_core.proofs.Common.{◌≡◌, ◌≢◌, ℕ, ◌<◌, Bool,
 use Rattle.console_core.proofs.Common.{Some, None, refl, ap, subst, sym, ◌∙◌, inl, inr, if◌then◌else◌, ◌==◌, reverse}
 use Rattle.console_core.proofs.Common.{eqb-true, cases_Bool, true≢false, false_from_ne_true, All-head, All-tail, Action}
 use Rattle.console_core.proofs.Common.{Lock, Holding, Cell, Char, Act, Event, Press, Release, Reset, Load, same_action}
-use Rattle.console_core.proofs.Common.{holding_action, MapValue, ResolvedEvent, held, locked, remembered, pending}
+use Rattle.console_core.proofs.Common.{holding_action, MapValue, ResolvedEvent, held, locked, remembered}
 use Rattle.console_core.proofs.Common.{taken_over, unless_nop, look, resolve_press, turns, Maps, in_force, resolved}
 use Rattle.console_core.proofs.Common.{pressed, HasKey, HasKeys, IsCellOf, BearsThroughout, IsSafe, same_action-true}
 use Rattle.console_core.proofs.Common.{option_or, none-some, rules}

@@ -21,7 +21,7 @@ use crate::seen::Seen;
 use crate::told::{told_of_keys, told_pairs};
 use crate::trials::trial_events;
 use console_core::{PlainConsole, Translator};
-use console_states::{Explorer, Selection, Sight, Sights, sights_of};
+use console_states::{Explorer, Selection, Sight, Sights};
 use keymap_core::{KEY_COUNT, KeyCode, KeyMap, key_with};
 use std::alloc::{AllocError, Global};
 
@@ -226,20 +226,16 @@ fn script_of<T: Translator>(
 pub fn cover_of(alloc: Global, map: &KeyMap) -> Result<Option<Cover>, AllocError>
     ensures { IfOk result (λ x. IsCover map.now x) }
 {
-    let Some(sights) = sights_of(alloc, map)? else {
+    let Some(mut explorer) = Explorer::new(alloc, map)? else {
         return Ok(None);
     };
-    match Explorer::new(alloc, map)? {
-        Some(mut explorer) => {
-            let mut console = PlainConsole::new(map);
-            let (script, starts) = script_of(alloc, &mut explorer, &mut console, map, &sights)?;
-            Ok(Some(Cover {
-                events: script.events,
-                starts,
-                seen: script.seen,
-                sights,
-            }))
-        }
-        None => Ok(None),
-    }
+    let sights = explorer.sights(alloc)?;
+    let mut console = PlainConsole::new(map);
+    let (script, starts) = script_of(alloc, &mut explorer, &mut console, map, &sights)?;
+    Ok(Some(Cover {
+        events: script.events,
+        starts,
+        seen: script.seen,
+        sights,
+    }))
 }

@@ -1,6 +1,7 @@
 use Rattle.keymap_cover.proofs.Common.{ℕ, subst, alone, AreSightsOf, rules}
 use Rattle.std.proofs.Common.{MatchOption}
 use Rattle.console_states.specs.Sticking.{ReachesMoreThan, state_limit}
+use Rattle.keymap_cover.specs.Inner.Scripts.{IsExplorerFor}
 use Rattle.keymap_cover.proofs.Covered.{script-covers}
 use Rattle.keymap_cover.proofs.cover.cover_of.Goals as goal
 
@@ -8,13 +9,20 @@ pub script_of-requires-clause-explorer : goal.script_of-requires-clause-explorer
 script_of-requires-clause-explorer c = search (rules, alone)
 
 pub script_of-requires-clause-sights : goal.script_of-requires-clause-sights
-script_of-requires-clause-sights c = search (rules, alone)
-
-pub returns-in_ok-script-in-Some-2 : goal.returns-in_ok-script-in-Some-2
-returns-in_ok-script-in-Some-2 c =
+script_of-requires-clause-sights c =
     let m = c.args.map.now in
-    let are : AreSightsOf m c.in-Some.sights =
-    subst (λ o. MatchOption o ((p : ℕ) × ReachesMoreThan (alone m) state_limit p) (λ x. AreSightsOf m x)) c.in-Some.is
-    c.in_ok-sights.ensures in
-    let ((up, (h, t, rest, off)), shown, parts) = c.in_ok-script-in-Some-2.ensures in
-    script-covers m h _ c.in_ok-script-in-Some-2.script.pressed t (rest, off) up are parts shown
+    let is : IsExplorerFor m c.in-Some.explorer =
+    subst (λ o. MatchOption o ((p : ℕ) × ReachesMoreThan (alone m) state_limit p) (λ p. IsExplorerFor m p)) c.in-Some.is
+    c.in_ok-explorer.ensures.explorer in
+    subst (λ n. AreSightsOf n c.in_ok-sights.sights) is.0 c.in_ok-sights.ensures
+
+pub returns : goal.returns
+returns c =
+    let m = c.args.map.now in
+    let is : IsExplorerFor m c.in-Some.explorer =
+    subst (λ o. MatchOption o ((p : ℕ) × ReachesMoreThan (alone m) state_limit p) (λ p. IsExplorerFor m p)) c.in-Some.is
+    c.in_ok-explorer.ensures.explorer in
+    let are : AreSightsOf m c.in_ok-sights.sights =
+    subst (λ n. AreSightsOf n c.in_ok-sights.sights) is.0 c.in_ok-sights.ensures in
+    let ((up, (h, t, rest, off)), shown, parts) = c.in_ok-script.ensures in
+    script-covers m h _ c.in_ok-script.script.pressed t (rest, off) up are parts shown

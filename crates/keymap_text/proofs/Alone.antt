@@ -7,7 +7,7 @@ use Rattle.keymap_text.specs.Alone.{IsWide, StandsAlone}
 use Rattle.keymap_text.proofs.InFront.{InFront, Left, Right, Quote, Letters, in_front_is, front_left, front_right}
 use Rattle.keymap_text.proofs.InFront.{front_quote, front_word, front_fits, short_word, skipped_by}
 use Rattle.keymap_text.proofs.Leading.{leading_pass, leading_fail}
-use Rattle.keymap_text.proofs.Quoted.{literal_alone, literal_wide, literal_on_line}
+use Rattle.keymap_text.proofs.QuotedFound.{literal_alone, literal_wide, literal_on_line}
 
 -- the bytes that pass a test, and others behind them of which the first doesn't
 leading_cut : (p : ℕ → Bool) (s y : List ℕ) → leading p y ≡ 0 → leading p (take (leading p s) s ++ y) ≡ leading p s

@@ -3,6 +3,7 @@ pub mod Leading
 pub mod Splitting
 pub mod Literals
 pub mod InFront
+pub mod QuotedFound
 pub mod Quoted
 pub mod Steps
 pub mod Numbers
@@ -10,6 +11,7 @@ pub mod Judged
 pub mod Faults
 pub mod Folded
 pub mod Row
+pub mod RowTaken
 pub mod Verdicts
 pub mod Lines
 pub mod LineStarts

@@ -7,39 +7,39 @@ use Rattle.keymap_text.proofs.Common.{same_name, digits_of, number, is_digit}
 use Rattle.std.proofs.lemmas.List.Folds.{list_all_at, list_all_more}
 
 -- no row has no name
-pub look_none : (w : List ℕ) → meaning_by_names [] w ≡ None
+pub no_rows : (w : List ℕ) → meaning_by_names [] w ≡ None
 unfolding meaning_by_names
-look_none w = refl
+no_rows w = refl
 
 -- the first row has the name
-pub look_here : (name : Name) (names : List Name) (w : List ℕ) → same_name (letters name.0) w ≡ true
+pub first_has_name : (name : Name) (names : List Name) (w : List ℕ) → same_name (letters name.0) w ≡ true
     → meaning_by_names (name ∷ names) w ≡ Some (sense_meaning name.1)
 unfolding meaning_by_names
-look_here name names w h = ap (λ b. cond b (Some (sense_meaning name.1)) (meaning_by_names names w)) h
+first_has_name name names w h = ap (λ b. cond b (Some (sense_meaning name.1)) (meaning_by_names names w)) h
 
 -- the first row has another name
-pub look_on : (name : Name) (names : List Name) (w : List ℕ) → same_name (letters name.0) w ≡ false
+pub first_has_another : (name : Name) (names : List Name) (w : List ℕ) → same_name (letters name.0) w ≡ false
     → meaning_by_names (name ∷ names) w ≡ meaning_by_names names w
 unfolding meaning_by_names
-look_on name names w h = ap (λ b. cond b (Some (sense_meaning name.1)) (meaning_by_names names w)) h
+first_has_another name names w h = ap (λ b. cond b (Some (sense_meaning name.1)) (meaning_by_names names w)) h
 
 -- past the last row there is no name
-pub look_end : (names : List Name) (i : ℕ) (w : List ℕ) → length names ≤ i → meaning_by_names (drop i names) w ≡ None
-look_end names i w h = at_drop_all (λ n. meaning_by_names n w) names i h ∙ look_none w
+pub no_row_left : (names : List Name) (i : ℕ) (w : List ℕ) → length names ≤ i → meaning_by_names (drop i names) w ≡ None
+no_row_left names i w h = at_drop_all (λ n. meaning_by_names n w) names i h ∙ no_rows w
 
 -- the row at a place has the name
-pub look_here_at : (names : List Name) (i : ℕ) (d : Name) (w : List ℕ) → i < length names
+pub row_has_name : (names : List Name) (i : ℕ) (d : Name) (w : List ℕ) → i < length names
     → same_name (letters (get_or names i d).0) w ≡ true
     → meaning_by_names (drop i names) w ≡ Some (sense_meaning (get_or names i d).1)
-look_here_at names i d w h e = ap (λ n. meaning_by_names n w) (drop-cons names i d h) ∙ look_here _ _ w e
+row_has_name names i d w h e = ap (λ n. meaning_by_names n w) (drop-cons names i d h) ∙ first_has_name _ _ w e
 
 -- the row at a place has another name
-pub look_on_at : (names : List Name) (i : ℕ) (d : Name) (w : List ℕ) → i < length names
+pub row_has_another : (names : List Name) (i : ℕ) (d : Name) (w : List ℕ) → i < length names
     → same_name (letters (get_or names i d).0) w ≡ false
     → meaning_by_names (drop i names) w ≡ meaning_by_names (drop (i + 1) names) w
-look_on_at names i d w h e = grind (arith, drop-cons, look_on)
+row_has_another names i d w h e = grind (arith, drop-cons, first_has_another)
 
-pub ruleset look_rules = (look_end, look_here_at, look_on_at)
+pub ruleset look_rules = (no_row_left, row_has_name, row_has_another)
 
 -- a further digit makes a number four bits longer at most
 bound_step : (n base d i : ℕ) → n < 2 ^ (4 * i) → base ≤ 16 → d < base → n * base + d < 2 ^ (4 * (i + 1))

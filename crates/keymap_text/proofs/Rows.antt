@@ -9,7 +9,7 @@ use Rattle.keymap_text.proofs.Fronts.{left_fronts}
 use Rattle.keymap_text.proofs.Scanning.{blanks_advance, token_advances, token_refuses, behind_advances, advances_on}
 use Rattle.keymap_text.proofs.Scanning.{refuses_on, after_blanks}
 use Rattle.keymap_text.specs.Inner.Grammar as spec
-use Rattle.keymap_text.proofs.Row.{open_taken, base_taken, result_taken, close_taken, take_cell}
+use Rattle.keymap_text.proofs.RowTaken.{open_taken, base_taken, result_taken, close_taken, take_cell}
 
 -- the place of the cell with this index, or of the lock letter behind the eight cells
 abbrev pub cell_place : ℕ → ℕ → Entry → GrammarPlace

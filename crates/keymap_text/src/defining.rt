@@ -6,7 +6,7 @@ ghost use Rattle.keymap_text.specs.Inner.Scanning.{Answers};
 
 use crate::fault::TextFault;
 use crate::grammar::Grammar;
-use crate::scanner::{Stop, behind, end, scan};
+use crate::scanner::{Stop, behind, scan, take_end};
 use crate::token::fault_at;
 use keymap_core::Definitions;
 
@@ -20,7 +20,7 @@ fn take_all<D: Definitions>(text: &[u8], into: &mut D) -> Result<(), Stop>
         Ok(n) => n,
         Err(stop) => return Err(stop),
     };
-    match end(&mut grammar, into, &text[n..]) {
+    match take_end(&mut grammar, into, &text[n..]) {
         Ok(()) => Ok(()),
         Err(stop) => Err(behind(n, stop)),
     }

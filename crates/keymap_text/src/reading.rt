@@ -10,7 +10,7 @@ ghost use Rattle.keymap_text.specs.Inner.Grammar as spec;
 
 use crate::fault::{TextFault, TextFaultKind};
 use crate::grammar::Grammar;
-use crate::scanner::{end, next, scan};
+use crate::scanner::{scan, take_any_token, take_end};
 use crate::token::{line_feeds, line_len};
 use arrayvec::ArrayVec;
 use keymap_core::KeyMap;
@@ -90,7 +90,7 @@ impl Reading {
         ensures says { Says result (resume self []) }
         ensures place { IfErr result (λ e. IsFaultOfPending e self) }
     {
-        match end(&mut self.grammar, &mut self.map, self.pending.as_slice()) {
+        match take_end(&mut self.grammar, &mut self.map, self.pending.as_slice()) {
             Ok(()) => Ok(self.map),
             Err(stop) => Err(TextFault {
                 kind: stop.kind,
@@ -145,7 +145,7 @@ impl Reading {
         let had = self.pending.len();
         let few = few(had, piece.len());
         extend(&mut self.pending, &piece[..few]);
-        match next(&mut self.grammar, &mut self.map, self.pending.as_slice()) {
+        match take_any_token(&mut self.grammar, &mut self.map, self.pending.as_slice()) {
             Ok(0) => Ok(few),
             Ok(n) => {
                 let taken = n - had;

@@ -88,7 +88,7 @@ fn front_number(rest: &[u8]) -> Option<(Item, usize)>
 }
 
 /// The token in front of the bytes, and how many bytes it has, where they show at once that it is whole. Other tokens
-/// are left to `next`.
+/// are left to `take_any_token`.
 #[inline(always)]
 fn whole_token(rest: &[u8]) -> Option<(Item, usize)>
     requires { 0 < length rest.now }
@@ -157,7 +157,7 @@ pub(crate) fn scan<D: Definitions>(grammar: &mut Grammar, into: &mut D, bytes: &
 {
     let mut at = 0;
     while at < bytes.len() {
-        match step(grammar, into, &bytes[at..]) {
+        match take_in_front(grammar, into, &bytes[at..]) {
             Ok(0) => return Ok(at),
             Ok(n) => at += n,
             Err(stop) => return Err(behind(at, stop)),
@@ -169,15 +169,15 @@ pub(crate) fn scan<D: Definitions>(grammar: &mut Grammar, into: &mut D, bytes: &
 /// Takes as much in front as is seen at once, and else what stands in front. Answers how many bytes were taken, and 0
 /// where no whole token is in front.
 #[inline(always)]
-fn step<D: Definitions>(grammar: &mut Grammar, into: &mut D, rest: &[u8]) -> Taken
+fn take_in_front<D: Definitions>(grammar: &mut Grammar, into: &mut D, rest: &[u8]) -> Taken
     requires place { IsPlace grammar.old.place grammar.old.accent }
     requires some { 0 < length rest.now }
     ensures takes { Takes D.shows into.old into.new result grammar.old grammar.new rest.now }
     ensures leaves { Leaves result grammar.new rest.now }
     ensures open { result ≡ Ok 0 → IsOpen rest.now }
 {
-    match quick(grammar, into, rest) {
-        Ok(0) => other(grammar, into, rest),
+    match take_whole_tokens(grammar, into, rest) {
+        Ok(0) => take_any_piece(grammar, into, rest),
         Ok(n) => Ok(n),
         Err(stop) => Err(stop),
     }
@@ -185,7 +185,7 @@ fn step<D: Definitions>(grammar: &mut Grammar, into: &mut D, rest: &[u8]) -> Tak
 
 /// Takes blanks and what is behind them, as far as that is the end of a line or whole tokens.
 #[inline(always)]
-fn quick<D: Definitions>(grammar: &mut Grammar, into: &mut D, rest: &[u8]) -> Taken
+fn take_whole_tokens<D: Definitions>(grammar: &mut Grammar, into: &mut D, rest: &[u8]) -> Taken
     requires place { IsPlace grammar.old.place grammar.old.accent }
     ensures takes { Takes D.shows into.old into.new result grammar.old grammar.new rest.now }
     ensures leaves { Leaves result grammar.new rest.now }
@@ -213,7 +213,13 @@ fn after_spaces<D: Definitions>(grammar: &mut Grammar, into: &mut D, rest: &[u8]
     }
     let begun = before_cells(grammar, into, rest)?;
     match grammar.place {
-        Place::Cell { slot, index } => match cells(grammar, into, slot, index, &rest[begun..]) {
+        Place::Cell { slot, index } => match take_row_of_cells(
+            grammar,
+            into,
+            slot,
+            index,
+            &rest[begun..],
+        ) {
             Ok(n) => Ok(begun + n),
             Err(stop) => Err(behind(begun, stop)),
         },
@@ -237,7 +243,7 @@ fn before_cells<D: Definitions>(grammar: &mut Grammar, into: &mut D, rest: &[u8]
     if paired > 0 {
         return Ok(paired);
     }
-    token(grammar, into, rest)
+    take_whole_token(grammar, into, rest)
 }
 
 /// Takes the pair in front where one is wanted and is seen whole. Answers how many bytes it has, and 0 where nothing
@@ -295,7 +301,7 @@ fn pair(grammar: &mut Grammar, index: u8, rest: &[u8]) -> usize
 /// Takes the cells in front from this column on, each with the blanks before it, and behind the eighth the lock
 /// letter and the end of the line. The place is kept only behind the last cell.
 #[inline(always)]
-fn cells<D: Definitions>(
+fn take_row_of_cells<D: Definitions>(
     grammar: &mut Grammar,
     into: &mut D,
     slot: u8,
@@ -390,7 +396,7 @@ fn next_cell(grammar: &mut Grammar, index: u8, rest: &[u8]) -> Taken
 
 /// Takes the whole token in front. Answers how many bytes it has, and 0 where it isn't seen at once.
 #[inline(always)]
-fn token<D: Definitions>(grammar: &mut Grammar, into: &mut D, rest: &[u8]) -> Taken
+fn take_whole_token<D: Definitions>(grammar: &mut Grammar, into: &mut D, rest: &[u8]) -> Taken
     requires place { IsPlace grammar.old.place grammar.old.accent }
     requires some { 0 < length rest.now }
     ensures takes { Takes D.shows into.old into.new result grammar.old grammar.new rest.now }
@@ -407,7 +413,7 @@ fn token<D: Definitions>(grammar: &mut Grammar, into: &mut D, rest: &[u8]) -> Ta
 
 /// Takes the blank, comment or token in front. Answers how many bytes it has, and 0 where the bytes break it off.
 #[inline(never)]
-fn other<D: Definitions>(grammar: &mut Grammar, into: &mut D, rest: &[u8]) -> Taken
+fn take_any_piece<D: Definitions>(grammar: &mut Grammar, into: &mut D, rest: &[u8]) -> Taken
     requires place { IsPlace grammar.old.place grammar.old.accent }
     requires some { 0 < length rest.now }
     ensures takes { Takes D.shows into.old into.new result grammar.old grammar.new rest.now }
@@ -418,7 +424,7 @@ fn other<D: Definitions>(grammar: &mut Grammar, into: &mut D, rest: &[u8]) -> Ta
         return Ok(1);
     }
     if rest[0] != b'#' {
-        return next(grammar, into, rest);
+        return take_any_token(grammar, into, rest);
     }
     let n = line_len(rest);
     if n < rest.len() { Ok(n) } else { Ok(0) }
@@ -438,7 +444,11 @@ fn is_whole(kind: TokenKind, size: usize, rest: &[u8]) -> bool
 }
 
 /// Takes the token in front. Answers how many bytes it has, and 0 where the bytes break it off.
-pub(crate) fn next<D: Definitions>(grammar: &mut Grammar, into: &mut D, rest: &[u8]) -> Taken
+pub(crate) fn take_any_token<D: Definitions>(
+    grammar: &mut Grammar,
+    into: &mut D,
+    rest: &[u8],
+) -> Taken
     requires place { IsPlace grammar.old.place grammar.old.accent }
     requires some { 0 < length rest.now }
     requires stands { IsFalse (separates (slice_index rest.now 0)) }
@@ -493,7 +503,7 @@ fn last_word<D: Definitions>(grammar: &mut Grammar, into: &mut D, tail: &[u8]) -
 }
 
 /// The text ends behind these bytes, which show no whole token.
-pub(crate) fn end<D: Definitions>(
+pub(crate) fn take_end<D: Definitions>(
     grammar: &mut Grammar,
     into: &mut D,
     tail: &[u8],

@@ -6,15 +6,15 @@ pub returns-in-Err-clause-takes : goal.returns-in-Err-clause-takes
 returns-in-Err-clause-takes g c = λ shows.
     (true, refused_whole c.in-Err.ensures.takes c.new-grammar.ensures shows)
 
-pub returns-in-Ok-end-clause-takes : goal.returns-in-Ok-end-clause-takes
-returns-in-Ok-end-clause-takes g c = λ shows.
+pub returns-in-Ok-take_end-clause-takes : goal.returns-in-Ok-take_end-clause-takes
+returns-in-Ok-take_end-clause-takes g c = λ shows.
     let a = taken_whole c.in-Ok.ensures.takes refl c.new-grammar.ensures shows in
-    let e = c.in-Ok-end.ensures.ends a.0 a.1 in (e.0, e.1, a.2 ∙ e.2 c.in-Ok.n)
+    let e = c.in-Ok-take_end.ensures.ends a.0 a.1 in (e.0, e.1, a.2 ∙ e.2 c.in-Ok.n)
 
-pub returns-in-Err-end-clause-takes : goal.returns-in-Err-end-clause-takes
-returns-in-Err-end-clause-takes g c = λ shows.
+pub returns-in-Err-take_end-clause-takes : goal.returns-in-Err-take_end-clause-takes
+returns-in-Err-take_end-clause-takes g c = λ shows.
     let a = taken_whole c.in-Ok.ensures.takes refl c.new-grammar.ensures shows in
-    let e = c.in-Err-end.ensures.ends a.0 a.1 in (
+    let e = c.in-Err-take_end.ensures.ends a.0 a.1 in (
       false,
       a.2 ∙ e.1 c.in-Ok.n ∙ ap₂ (λ k q. Faulty k q false) (sym c.behind.ensures.kind) (sym c.behind.ensures.at),
     )

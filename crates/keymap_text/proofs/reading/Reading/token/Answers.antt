@@ -12,8 +12,8 @@ pub few-few-requires : goal.few-few-requires
 few-few-requires c =
     omega (arith, open_few c.args.self.now.pending.items c.requires.reader.tail c.requires.token)
 
-pub next-requires-clause-stands : goal.next-requires-clause-stands
-next-requires-clause-stands c = search (rules, first_same, open_stands)
+pub take_any_token-requires-clause-stands : goal.take_any_token-requires-clause-stands
+take_any_token-requires-clause-stands c = search (rules, first_same, open_stands)
 
 pub overflow_sub-taken : goal.overflow_sub-taken
 overflow_sub-taken c = search (rules, open_longer)
@@ -34,7 +34,8 @@ returns-in-Ok-eq0 c =
     record {
       inside = c.few-few.ensures.inside;
       moves = extended r _ bytes (take few piece) (drop few piece) c.in-Ok-eq0.field-0
-          (of_map (state_view r) (grammar_view c.next.new.grammar) c.next.new.into bytes c.in-Ok-eq0.field-0
+          (of_map (state_view r) (grammar_view c.take_any_token.new.grammar) c.take_any_token.new.into bytes
+          c.in-Ok-eq0.field-0
           (c.in-Ok-eq0.ensures.takes.took r.map refl)) c.in-Ok-eq0.field-0-test joint
           (sym c.as_slice.ensures.value) refl
           refl
@@ -75,7 +76,7 @@ returns-in-Ok c =
           (subst (λ (s : GrammarState). Advances (state_view r) s (bytes ++ drop few piece) n)
           (sym (ap (λ (s : Reading). state_view s) c.pass.ensures))
           (advances_more (state_view r) _ bytes (drop few piece) n
-          (of_map (state_view r) (grammar_view c.next.new.grammar) c.next.new.into bytes n
+          (of_map (state_view r) (grammar_view c.take_any_token.new.grammar) c.take_any_token.new.into bytes n
           (c.in-Ok.ensures.takes.took r.map refl))))
           (joined r.pending.items bytes piece few joint
           ∙ ap (λ (t : List ℕ). r.pending.items ++ t) (sym (take-append-drop k piece)))

@@ -1,7 +1,7 @@
 use Rattle.keymap_text.proofs.Common.{◌≤◌, ◌-◌, length, MapValue, at, Advances}
 use Rattle.keymap_text.proofs.Rows.{cell_place}
 use Rattle.keymap_text.specs.Inner.Grammar as spec
-use Rattle.keymap_text.proofs.scanner.cells.Given as goal
+use Rattle.keymap_text.proofs.scanner.take_row_of_cells.Given as goal
 
 abbrev pub invariant-loop-index : goal.invariant-loop-index
 invariant-loop-index g l = record {

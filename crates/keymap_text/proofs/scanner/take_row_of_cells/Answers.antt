@@ -4,7 +4,7 @@ use Rattle.keymap_text.proofs.Rows.{is_cell, is_lock, next_place}
 use Rattle.keymap_text.proofs.Scanning.{stays, advances_on, refuses_on, takes_on, takes_same}
 use Rattle.keymap_text.specs.declared.grammar.Place.TheVariants as places
 use Rattle.keymap_text.specs.Inner.Grammar as spec
-use Rattle.keymap_text.proofs.scanner.cells.Goals as goal
+use Rattle.keymap_text.proofs.scanner.take_row_of_cells.Goals as goal
 
 pub loop-index-init : goal.loop-index-init
 loop-index-init g c = search (rules, is_cell, stays)

@@ -2,7 +2,7 @@ use Rattle.keymap_text.proofs.Common.{refl, length-take-le, rules}
 use Rattle.keymap_text.proofs.Scanning.{takes_token, takes_fault}
 use Rattle.keymap_text.proofs.InFront.{front_fits}
 use Rattle.keymap_text.proofs.Tails.{open_word, open_quote, found_here, refused_here}
-use Rattle.keymap_text.proofs.scanner.next.Goals as goal
+use Rattle.keymap_text.proofs.scanner.take_any_token.Goals as goal
 
 pub returns-then-not-is_whole-clause-open : goal.returns-then-not-is_whole-clause-open
 returns-then-not-is_whole-clause-open g c = search (rules, open_word)

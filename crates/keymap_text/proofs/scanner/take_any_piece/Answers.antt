@@ -1,7 +1,7 @@
 use Rattle.keymap_text.proofs.Common.{◌≡◌, ℕ, sym, ◌∙◌, arith, Result, Ok, Stop, rules}
 use Rattle.keymap_text.proofs.Scanning.{takes_same, blank_advances, comment_advances}
 use Rattle.keymap_text.proofs.Tails.{open_comment, comment_some}
-use Rattle.keymap_text.proofs.scanner.other.Goals as goal
+use Rattle.keymap_text.proofs.scanner.take_any_piece.Goals as goal
 
 ok_is : (n k : ℕ) → ◌≡◌ {A = Result ℕ Stop} (Ok n) (Ok k) → n ≡ k
 ok_is n k h = cc

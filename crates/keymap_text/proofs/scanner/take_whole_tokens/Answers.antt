@@ -1,6 +1,6 @@
 use Rattle.keymap_text.proofs.Common.{refl}
 use Rattle.keymap_text.proofs.Scanning.{takes_same, takes_on, faults_on, blanks_advance}
-use Rattle.keymap_text.proofs.scanner.quick.Goals as goal
+use Rattle.keymap_text.proofs.scanner.take_whole_tokens.Goals as goal
 
 pub returns-then-n-rest-clause-takes : goal.returns-then-n-rest-clause-takes
 returns-then-n-rest-clause-takes g c =

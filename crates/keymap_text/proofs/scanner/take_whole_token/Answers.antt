@@ -1,6 +1,6 @@
 use Rattle.keymap_text.proofs.Common.{refl}
 use Rattle.keymap_text.proofs.Scanning.{takes_token, takes_fault, takes_same, stays}
-use Rattle.keymap_text.proofs.scanner.token.Goals as goal
+use Rattle.keymap_text.proofs.scanner.take_whole_token.Goals as goal
 
 pub returns-in-None-clause-takes : goal.returns-in-None-clause-takes
 returns-in-None-clause-takes g c = takes_same (λ s. stays s c.args.rest.now)

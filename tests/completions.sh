@@ -96,7 +96,7 @@ in_bash() {
 }
 if is_there bash; then
     in_bash 'check cover compile' kmap c
-    in_bash '--show --help -h' kmap check -
+    in_bash '--show --brief --help -h' kmap check -
     in_bash '--next' kmap play letter --n
     in_bash '' kmap play le
     in_bash 'lint' kmap l
@@ -117,7 +117,7 @@ in_fish() {
 : > line
 if is_there fish; then
     in_fish 'check cover compile' 'kmap c'
-    in_fish '--show --help -h' 'kmap check -'
+    in_fish '--show --brief --help -h' 'kmap check -'
     in_fish '--next' 'kmap play letter --n'
     in_fish 'letter' 'kmap play le'
     in_fish 'letter' 'kmap play --next le'

@@ -56,6 +56,11 @@ static SUBCOMMANDS: [Described; 10] = [
                 "show",
                 "Also prints key presses that leave a modifier on, if found",
             ),
+            FlagWithout(
+                "brief",
+                "Prints one line a text, its name and the verdict",
+                "show",
+            ),
         ],
     },
     Described {
@@ -212,6 +217,17 @@ pub(crate) fn refusal(alloc: Global, kind: ErrorKind, message: &str) -> Result<E
     command(alloc)?.error(kind, message)
 }
 
+/// What is told of a text that is checked.
+#[derive(Clone, Copy)]
+pub(crate) enum CheckMode {
+    /// The report.
+    Report,
+    /// The report, with key presses that leave a modifier on.
+    Show,
+    /// The verdict alone, in a line with the name of the text.
+    Brief,
+}
+
 /// What is done with the layout of a text.
 #[derive(Clone, Copy)]
 pub(crate) enum FmtMode {
@@ -237,7 +253,7 @@ pub(crate) enum Request<'m, 'a> {
     },
     Check {
         texts: &'m [&'a str],
-        show: bool,
+        mode: CheckMode,
     },
     Lint {
         texts: &'m [&'a str],
@@ -289,9 +305,16 @@ fn compile_request<'m, 'a>(words: &'m ArgMatches<'a>) -> Option<Request<'m, 'a>>
 }
 
 fn check_request<'m, 'a>(words: &'m ArgMatches<'a>) -> Option<Request<'m, 'a>> {
+    let mode = if words.get_flag("show") {
+        CheckMode::Show
+    } else if words.get_flag("brief") {
+        CheckMode::Brief
+    } else {
+        CheckMode::Report
+    };
     Some(Request::Check {
         texts: words.get_strs("TEXT")?,
-        show: words.get_flag("show"),
+        mode,
     })
 }
 

@@ -268,7 +268,7 @@ where
     W: Write,
 {
     match request {
-        Request::Check { texts, show } => check(rt, texts, show, faults),
+        Request::Check { texts, mode } => check(rt, texts, mode, faults),
         Request::Lint {
             texts,
             name,

@@ -36,7 +36,7 @@ use Rattle.kmap_runs.specs.Inputs.{of_command_writer, of_writer, ReadsBytes, Rea
 use Rattle.kmap_runs.specs.Inputs.{ReadsSentence, ReadsText}
 use Rattle.kmap_runs.specs.LintRuns.{IsLinted}
 use Rattle.kmap_runs.specs.Replayed.{ShowsCover}
-use Rattle.kmap_runs.specs.Report.{report}
+use Rattle.kmap_runs.specs.Report.{brief_line, report}
 use Rattle.kmap_runs.specs.Search.{found_text, is_never}
 use Rattle.kmap_runs.specs.Typing.{typing_script}
 
@@ -63,6 +63,13 @@ Reports show m accepted told = (IsTrue accepted ↔ IsSafe m) × (told ≡ repor
 
 abbrev pub ChecksText : Bool → Moves → Moves → Result Bool RunError → Type 0
 ChecksText show text out r = Runs of_writer (ReadsText text) LacksNothing (Reports show) out r
+
+-- whether the map is safe, and a line that tells it under the name of the file
+abbrev pub ReportsBriefly : List ℕ → MapValue → Bool → List ℕ → Type 0
+ReportsBriefly file m accepted told = (IsTrue accepted ↔ IsSafe m) × (told ≡ brief_line file accepted)
+
+abbrev pub ChecksBriefly : List ℕ → Moves → Moves → Result Bool RunError → Type 0
+ChecksBriefly file text out r = Runs of_writer (ReadsText text) LacksMemory (ReportsBriefly file) out r
 
 -- the map of a file of tables as text; `Reads` says what reading the file answers
 abbrev pub DumpsFile : (Option (List ℕ) → Option (List ℕ) → Result MapValue TableError → Type 0) → Moves → Moves

@@ -9,7 +9,7 @@ _kmap_words() {
     lint) echo '--strict --name -h --help' ;;
     fmt) echo '--check --print -h --help' ;;
     play) echo '--typed --next -h --help' ;;
-    type) echo '-h --help' ;;
+    type) echo '--text -h --help' ;;
     cover) echo '-h --help' ;;
     compile) echo '--narrow -h --help' ;;
     dump) echo '--narrow -h --help' ;;

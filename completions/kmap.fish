@@ -44,6 +44,7 @@ complete -c kmap -n '__kmap_after play' -l typed -d 'Prints the typed bytes inst
 complete -c kmap -n '__kmap_after play' -l next -r -F -d 'The keymap text that a load puts in force'
 complete -c kmap -n '__kmap_after play' -s h -l help -d 'Print help'
 
+complete -c kmap -n '__kmap_after type' -l text -x -d 'The sentence itself'
 complete -c kmap -n '__kmap_after type' -s h -l help -d 'Print help'
 
 complete -c kmap -n '__kmap_after cover' -s h -l help -d 'Print help'

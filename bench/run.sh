@@ -273,12 +273,16 @@ echo "map of $("$program" check refused | grep -c '^key ') findings, checked: $p
 echo "  $(transfers check refused); with --show: $(transfers check --show refused)"
 measured check-show "$shown"
 
-one=$(cost search "$keymap")
-other=$(cost search "$examples/de.kbd")
-both=$(cost search "$keymap" --next "$examples/de.kbd")
-echo "search of us.kbd: $one $unit, of de.kbd: $other $unit; between them: $both $unit, times" \
+# Their lock key is a character in one column, for which `check` refuses them: so the search goes over their states.
+for name in us de; do
+    sed "/^  058/s/clock /'x'   /8" "$examples/$name.kbd" > $name.refused
+done
+one=$(cost search us.refused)
+other=$(cost search de.refused)
+both=$(cost search us.refused --next de.refused)
+echo "search of us.kbd, refused: $one $unit, of de.kbd: $other $unit; between them: $both $unit, times" \
     "$(awk -v a="$one" -v b="$other" -v c="$both" 'BEGIN { printf "%.2f", c / (a > b ? a : b) }')"
-echo "  $(transfers search "$keymap" --next "$examples/de.kbd")"
+echo "  $(transfers search us.refused --next de.refused)"
 measured search "$one"
 measured search-between-to-one "$(ratio "$both" "$([ "$one" -gt "$other" ] && echo "$one" || echo "$other")")"
 

@@ -4,12 +4,12 @@
 _kmap_words() {
     case $1 in
     '') echo 'check search lint fmt play type cover compile dump draw help -h --help -V --version' ;;
-    check) echo '--show -h --help' ;;
+    check) echo '--show --brief -h --help' ;;
     search) echo '--next -h --help' ;;
     lint) echo '--strict --name -h --help' ;;
     fmt) echo '--check --print -h --help' ;;
     play) echo '--typed --next -h --help' ;;
-    type) echo '-h --help' ;;
+    type) echo '--text -h --help' ;;
     cover) echo '-h --help' ;;
     compile) echo '--narrow -h --help' ;;
     dump) echo '--narrow -h --help' ;;

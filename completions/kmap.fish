@@ -26,6 +26,7 @@ complete -c kmap -n '__kmap_after' -s h -l help -d 'Print help'
 complete -c kmap -n '__kmap_after' -s V -l version -d 'Print version'
 
 complete -c kmap -n '__kmap_after check' -l show -d 'Also prints key presses that leave a modifier on, if found'
+complete -c kmap -n '__kmap_after check' -l brief -d 'Prints one line a text, its name and the verdict'
 complete -c kmap -n '__kmap_after check' -s h -l help -d 'Print help'
 
 complete -c kmap -n '__kmap_after search' -l next -r -F -d 'The keymap text that a load puts in force'
@@ -43,6 +44,7 @@ complete -c kmap -n '__kmap_after play' -l typed -d 'Prints the typed bytes inst
 complete -c kmap -n '__kmap_after play' -l next -r -F -d 'The keymap text that a load puts in force'
 complete -c kmap -n '__kmap_after play' -s h -l help -d 'Print help'
 
+complete -c kmap -n '__kmap_after type' -l text -x -d 'The sentence itself'
 complete -c kmap -n '__kmap_after type' -s h -l help -d 'Print help'
 
 complete -c kmap -n '__kmap_after cover' -s h -l help -d 'Print help'

@@ -96,7 +96,7 @@ in_bash() {
 }
 if is_there bash; then
     in_bash 'check cover compile' kmap c
-    in_bash '--show --help -h' kmap check -
+    in_bash '--show --brief --help -h' kmap check -
     in_bash '--next' kmap play letter --n
     in_bash '' kmap play le
     in_bash 'lint' kmap l
@@ -104,6 +104,7 @@ if is_there bash; then
     in_bash '' kmap lint letter le
     in_bash 'fmt' kmap f
     in_bash '--check' kmap fmt --c
+    in_bash '--text --help -h' kmap type letter -
     in_bash 'compile check cover' kmap help c
     in_bash '--help --version' kmap --
 fi
@@ -117,7 +118,7 @@ in_fish() {
 : > line
 if is_there fish; then
     in_fish 'check cover compile' 'kmap c'
-    in_fish '--show --help -h' 'kmap check -'
+    in_fish '--show --brief --help -h' 'kmap check -'
     in_fish '--next' 'kmap play letter --n'
     in_fish 'letter' 'kmap play le'
     in_fish 'letter' 'kmap play --next le'
@@ -127,6 +128,8 @@ if is_there fish; then
     in_fish 'letter line' 'kmap lint letter l'
     in_fish 'fmt' 'kmap f'
     in_fish '--check' 'kmap fmt --c'
+    in_fish '--text --help -h' 'kmap type letter -'
+    in_fish '' 'kmap type letter --text le'
     in_fish 'compile check cover' 'kmap help c'
     in_fish '--help --version' 'kmap --'
 fi

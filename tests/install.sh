@@ -38,6 +38,7 @@ share/doc/kmap/docs/GUIDE.md
 share/doc/kmap/docs/PROOFS.md
 share/doc/kmap/docs/TRANSLATION.md
 share/doc/kmap/docs/de.svg
+share/examples/kmap/accents.kbd
 share/examples/kmap/de.kbd
 share/examples/kmap/de.script
 share/examples/kmap/kmap.py

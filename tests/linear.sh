@@ -57,11 +57,14 @@ done
 grows 'lint of many lines' lint "$fixed" lines.small lines.large
 grows 'lint of one line' lint "$fixed" line.small line.large
 
-make_states 6 > states.small
-make_states 7 > states.large
-for command in search cover; do
-    fixed=$(cost $command empty)
-    grows "$command of many states" $command "$fixed" states.small states.large
+# One key more, for which `check` refuses the keymap, has the search go over the states.
+for size in small large; do
+    make_states $([ $size = small ] && echo 6 || echo 7) > states.$size
+    for slot in 127 255; do
+        echo "$slot 'x' lshift 'x' lshift 'x' lshift 'x' lshift O"
+    done | cat states.$size - > refused.$size
 done
+grows 'search of many states' search "$(cost search empty)" refused.small refused.large
+grows 'cover of many states' cover "$(cost cover empty)" states.small states.large
 
 counted

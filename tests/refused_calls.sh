@@ -127,6 +127,7 @@ refuses play_next-typed
 yields type_sentence
 refuses check_run
 refuses check_run-shown
+yields check_brief_run
 refuses search_run
 refuses search_run-next
 refuses dump_run

@@ -135,6 +135,7 @@ refuses 1 search caps --next locked
 goes_on=yes
 refuses 0 type letter sentence
 # So does a vector.
+refuses 0 check letter --brief
 refuses 0 lint letter
 refuses 1 lint trap
 refuses 0 fmt --print letter

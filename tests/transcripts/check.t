@@ -215,6 +215,28 @@ A name that a terminal does not show:
   slock nobody
   alock nobody
 
+With --brief each text has one line, and faults are told as without it:
+  $ kmap check --brief shift
+  shift: accepted
+  $ kmap check --brief trap.kbd
+  trap.kbd: refused
+  [1]
+  $ kmap check shift trap.kbd cut none1 letter --brief
+  shift: accepted
+  trap.kbd: refused
+  letter: accepted
+  ! kmap: cut: text line 1 offset 3: EndInside
+  ! kmap: cannot open none1
+  [1]
+  $ kmap check --brief letter shift
+  letter: accepted
+  shift: accepted
+  $ kmap check --brief cut
+  ! kmap: text line 1 offset 3: EndInside
+  [1]
+  $ kmap check --brief "$(printf 'a\033[31mb')"
+  a�[31mb: accepted
+
 The examples are accepted:
   $ kmap check "$examples/us.kbd" > report
   $ head -n 1 report

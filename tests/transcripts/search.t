@@ -35,18 +35,25 @@ What was found does stick:
   press 42: char 0; mods lshift; locks alock
   release 42: none; mods lshift; locks alock
 
-Too many states to decide; the number of presses is shown as P:
+Too many states to decide, of a keymap that `check` refuses; the number of presses is shown as P:
   $ awk 'BEGIN {
   >     split("lshift rshift lctrl rctrl lalt ralt", name, " ")
-  >     for (key = 0; key < 48; key++) {
+  >     for (key = 0; key < 90; key++) {
   >         cell = name[key % 6 + 1]
   >         print key, cell, cell, cell, cell, cell, cell, cell, cell, "O"
   >     }
-  > }' > many
+  > }' > holders
+  $ { cat holders; echo "100 'a' 'a' 'a' 'a' 'a' 'a' 'a' lshift O"; } > many
   $ kmap search many > found
   [1]
   $ sed 's/ [0-9][0-9]* / P /' found
   # undecided: no list of up to P presses sticks
+
+As many states, of a keymap that `check` accepts:
+  $ kmap check holders | head -n 1
+  accepted
+  $ kmap search holders
+  # never sticks
 
 A text with a fault, and none:
   $ printf "1 '" > cut
@@ -102,11 +109,19 @@ In the other order, with the option in front:
   up 42
   [1]
 
-Too many states between two:
+Too many states between two, of which `check` refuses one, and accepts both:
   $ kmap search many --next lock > found
   [1]
   $ sed 's/ [0-9][0-9]* / P /' found
   # undecided: no list of up to P presses sticks
+  $ kmap search holders --next many > found
+  [1]
+  $ sed 's/ [0-9][0-9]* / P /' found
+  # undecided: no list of up to P presses sticks
+  $ kmap search holders --next lock
+  # never sticks
+  $ kmap search holders --next holders
+  # never sticks
 
 A fault of the first, of the next, a folder as next, and none:
   $ mkdir folder

@@ -25,6 +25,28 @@ In the comment nothing stands that a terminal does not show:
 No sentence takes no event:
   $ : > nothing
   $ kmap type shift nothing
+  $ kmap type shift --text ''
+
+A sentence in place of a file, also one that begins with a dash or is one:
+  $ kmap type shift --text A
+  # A
+  down 42
+  down 30
+  up 30
+  up 42
+  $ kmap type --text=aA shift > script
+  $ printf aA > sentence
+  $ kmap type shift sentence | cmp - script
+  $ kmap type shift --text=-
+  ! kmap: sentence offset 0: no keys found for U+002d
+  [1]
+  $ kmap type "$examples/de.kbd" --text 'Grüße, -x' > script
+  $ kmap play --typed "$examples/de.kbd" script
+  Grüße, -x (no-eol)
+  $ kmap type - --text a < shift
+  # a
+  down 30
+  up 30
 
 What a script is printed for comes back from it, and stands in its comment:
   $ printf 'Hello, FREEBSD café! ~{|}\\' > sentence

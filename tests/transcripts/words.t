@@ -68,6 +68,18 @@ Wrong words end with status 2, and something is told of them:
   [2]
   $ grep -c "'--check' cannot be used with '--print'" told
   1
+  $ wrong check --show --brief letter
+  [2]
+  $ grep -c "'--brief' cannot be used with '--show'\|'--show' cannot be used with '--brief'" told
+  1
+  $ wrong type letter
+  [2]
+  $ wrong type letter tap --text a
+  [2]
+  $ wrong type --text a
+  [2]
+  $ wrong type letter --text
+  [2]
 
 A flag that stands twice counts once; what takes a file is refused, and so are flags that exclude each other:
   $ kmap check --show letter --show > shown

@@ -5,8 +5,9 @@ use crate::outcome::{Outcome, ended, ended_untouched, is_text};
 use keymap_core::Write;
 use keymap_draw::Board;
 use kmap_runs::{
-    RunError, check_run, compile_narrow_run, compile_run, cover_run, draw_run, dump_narrow_run,
-    dump_run, file_error_line, fmt_print_run, fmt_run, lint_run, search_run, type_run,
+    RunError, check_brief_run, check_run, compile_narrow_run, compile_run, cover_run, draw_run,
+    dump_narrow_run, dump_run, file_error_line, fmt_print_run, fmt_run, lint_run, search_run,
+    type_run,
 };
 use std::alloc::Global;
 
@@ -16,6 +17,7 @@ pub(crate) fn of_texts<W: Write>(call: &Call<'_>, marks: &mut W) -> Option<Outco
     let outcome = match call.name {
         "check_run" => checks(alloc, TEXT, false, marks),
         "check_run-shown" => checks(alloc, TRAP, true, marks),
+        "check_brief_run" => checks_briefly(alloc, marks),
         "search_run" => searches(alloc, marks),
         "search_run-next" => searches_next(alloc, marks),
         "draw_run" => draws(alloc, marks),
@@ -54,6 +56,14 @@ fn checks<W: Write>(alloc: Global, text: &[u8], show: bool, marks: &mut W) -> Ou
     let given = check_run(alloc, &mut reader, show, &mut out);
     mark(marks);
     ended_untouched(&given, given == Ok(!show), out.writes)
+}
+
+fn checks_briefly<W: Write>(alloc: Global, marks: &mut W) -> Outcome {
+    let (mut reader, mut out) = (reader_of(TRAP), writer());
+    mark(marks);
+    let given = check_brief_run(alloc, b"trap", &mut reader, &mut out);
+    mark(marks);
+    ended_untouched(&given, given == Ok(false), out.writes)
 }
 
 fn searches<W: Write>(alloc: Global, marks: &mut W) -> Outcome {

@@ -19,9 +19,14 @@ enum Word {
     FlagWithout(&'static str, &'static str, &'static str),
     /// An option, with the name of the file that it takes in between.
     FileOption(&'static str, &'static str, &'static str),
+    /// A file that stands unless an option does, whose name stands last.
+    FileUnless(&'static str, &'static str, &'static str),
+    /// An option that takes a text, with the name of the text in between, and that of the file in whose place it stands
+    /// last.
+    TextOption(&'static str, &'static str, &'static str, &'static str),
 }
 
-use Word::{File, FileOption, Files, Flag, FlagWithout};
+use Word::{File, FileOption, FileUnless, Files, Flag, FlagWithout, TextOption};
 
 /// What the help says of a subcommand, and the words that it takes.
 struct Described {
@@ -55,6 +60,11 @@ static SUBCOMMANDS: [Described; 10] = [
             Flag(
                 "show",
                 "Also prints key presses that leave a modifier on, if found",
+            ),
+            FlagWithout(
+                "brief",
+                "Prints one line a text, its name and the verdict",
+                "show",
             ),
         ],
     },
@@ -103,7 +113,11 @@ static SUBCOMMANDS: [Described; 10] = [
         name: "type",
         about: "Prints a script of key presses that types a sentence",
         example: "Example: kmap type de.kbd sentence > script{n}{n}kmap(1) tells which keys are taken.",
-        words: &[STREAM, File("SENTENCE", "The sentence, in UTF-8, or -")],
+        words: &[
+            STREAM,
+            FileUnless("SENTENCE", "The sentence, in UTF-8, or -", "text"),
+            TextOption("text", "STRING", "The sentence itself", "SENTENCE"),
+        ],
     },
     Described {
         name: "cover",
@@ -165,6 +179,13 @@ fn argument<'a>(alloc: Global, word: Word) -> Result<Arg<'a>, AllocError> {
             let option = named(alloc, name, help, ArgAction::Set).long(name);
             Ok(option.value_name(value))
         }
+        FileUnless(name, help, option) => {
+            named(alloc, name, help, ArgAction::Set).required_unless_present(option)
+        }
+        TextOption(name, value, help, file) => {
+            let option = named(alloc, name, help, ArgAction::Set).long(name);
+            option.value_name(value).conflicts_with(file)
+        }
     }
 }
 
@@ -212,6 +233,24 @@ pub(crate) fn refusal(alloc: Global, kind: ErrorKind, message: &str) -> Result<E
     command(alloc)?.error(kind, message)
 }
 
+/// What is told of a text that is checked.
+#[derive(Clone, Copy)]
+pub(crate) enum CheckMode {
+    /// The report.
+    Report,
+    /// The report, with key presses that leave a modifier on.
+    Show,
+    /// The verdict alone, in a line with the name of the text.
+    Brief,
+}
+
+/// A sentence that is typed.
+#[derive(Clone, Copy, Drop)]
+pub(crate) enum Sentence<'a> {
+    File(&'a str),
+    Text(&'a str),
+}
+
 /// What is done with the layout of a text.
 #[derive(Clone, Copy)]
 pub(crate) enum FmtMode {
@@ -237,7 +276,7 @@ pub(crate) enum Request<'m, 'a> {
     },
     Check {
         texts: &'m [&'a str],
-        show: bool,
+        mode: CheckMode,
     },
     Lint {
         texts: &'m [&'a str],
@@ -262,7 +301,7 @@ pub(crate) enum Request<'m, 'a> {
     },
     Type {
         text: &'a str,
-        sentence: &'a str,
+        sentence: Sentence<'a>,
     },
     Cover {
         text: &'a str,
@@ -289,9 +328,16 @@ fn compile_request<'m, 'a>(words: &'m ArgMatches<'a>) -> Option<Request<'m, 'a>>
 }
 
 fn check_request<'m, 'a>(words: &'m ArgMatches<'a>) -> Option<Request<'m, 'a>> {
+    let mode = if words.get_flag("show") {
+        CheckMode::Show
+    } else if words.get_flag("brief") {
+        CheckMode::Brief
+    } else {
+        CheckMode::Report
+    };
     Some(Request::Check {
         texts: words.get_strs("TEXT")?,
-        show: words.get_flag("show"),
+        mode,
     })
 }
 
@@ -334,9 +380,13 @@ fn play_request<'m, 'a>(words: &'m ArgMatches<'a>) -> Option<Request<'m, 'a>> {
 }
 
 fn type_request<'m, 'a>(words: &'m ArgMatches<'a>) -> Option<Request<'m, 'a>> {
+    let sentence = match words.get_str("text") {
+        Some(text) => Sentence::Text(text),
+        None => Sentence::File(words.get_str("SENTENCE")?),
+    };
     Some(Request::Type {
         text: words.get_str("TEXT")?,
-        sentence: words.get_str("SENTENCE")?,
+        sentence,
     })
 }
 
@@ -386,7 +436,7 @@ fn reads_twice(request: &Request<'_, '_>) -> bool {
         }
         | Request::Type {
             text,
-            sentence: other,
+            sentence: Sentence::File(other),
         } => { is_standard_input(text) && is_standard_input(other) }
         _ => false,
     }

@@ -1,5 +1,5 @@
 //! A run of the program: the words, the files that they name, and the exit status.
-use crate::command_line::{Request, contradiction, matches_of, request_of};
+use crate::command_line::{Request, Sentence, contradiction, matches_of, request_of};
 use crate::compile::compile;
 use crate::format::format_texts;
 use crate::inputs::{given, given_if_named, opened, opened_if_named};
@@ -7,7 +7,7 @@ use crate::output::Output;
 use crate::refusal::{contradicted, not_text, refused};
 use crate::texts::{check, lint};
 use clap::ArgMatches;
-use keymap_core::{Read, Write, write_text};
+use keymap_core::{FromStd, Read, Write, write_text};
 use keymap_draw::Board;
 use keymap_lint_text::shown_name;
 use kmap_runs::{
@@ -268,7 +268,7 @@ where
     W: Write,
 {
     match request {
-        Request::Check { texts, show } => check(rt, texts, show, faults),
+        Request::Check { texts, mode } => check(rt, texts, mode, faults),
         Request::Lint {
             texts,
             name,
@@ -375,14 +375,26 @@ fn play_in<'a, R: AllocGlobal + Print, S: Read>(
     }
 }
 
-fn type_sentence<'a, R>(rt: &R, text: &'a str, sentence: &'a str) -> Result<(), Failure<'a>>
+fn type_sentence<'a, R>(rt: &R, text: &'a str, sentence: Sentence<'a>) -> Result<(), Failure<'a>>
 where
     R: AllocGlobal + Files + Input + Print,
 {
     let mut text = given(rt, text)?;
-    let mut sentence = given(rt, sentence)?;
+    match sentence {
+        Sentence::File(name) => type_in(rt, &mut text, &mut given(rt, name)?),
+        Sentence::Text(sentence) => {
+            type_in(rt, &mut text, &mut FromStd::new(sentence.as_bytes()))
+        }
+    }
+}
+
+fn type_in<'a, R: AllocGlobal + Print, S: Read, T: Read>(
+    rt: &R,
+    text: &mut S,
+    sentence: &mut T,
+) -> Result<(), Failure<'a>> {
     let mut out = Output::new(rt);
-    let outcome = type_run(rt.alloc(), &mut text, &mut sentence, &mut out);
+    let outcome = type_run(rt.alloc(), text, sentence, &mut out);
     out.outcome(outcome)
 }
 

@@ -1,10 +1,11 @@
 //! The commands that look at one text after the other and answer whether all is well: `kmap check` and `kmap lint`.
+use crate::command_line::CheckMode;
 use crate::inputs::{given, is_standard_input, opened};
 use crate::output::{Output, tell};
 use crate::program::{Failure, of_many};
 use keymap_core::{Read, ToStd, Write};
 use keymap_lint_text::shown_name;
-use kmap_runs::{RunError, check_run, lint_run};
+use kmap_runs::{RunError, check_brief_run, check_run, lint_run};
 use std::alloc::{AllocError, Global};
 use std::fs::Files;
 
@@ -13,7 +14,7 @@ use std::fs::Files;
 pub(crate) fn check<'a, R, W>(
     rt: &R,
     texts: &[&'a str],
-    show: bool,
+    mode: CheckMode,
     faults: &mut W,
 ) -> Result<bool, Failure<'a>>
 where
@@ -21,26 +22,51 @@ where
     W: Write,
 {
     if texts.len() == 1 {
-        return check_alone(rt, texts[0], show);
+        return check_alone(rt, texts[0], mode);
     }
     let mut well = true;
     for text in texts {
-        well = of_many(rt.alloc(), check_named(rt, text, show), faults)? && well;
+        well = of_many(rt.alloc(), check_named(rt, text, mode), faults)? && well;
     }
     Ok(well)
 }
 
-fn check_alone<'a, R>(rt: &R, text: &'a str, show: bool) -> Result<bool, Failure<'a>>
+fn check_alone<'a, R>(rt: &R, text: &'a str, mode: CheckMode) -> Result<bool, Failure<'a>>
 where
     R: AllocGlobal + Files + Print,
 {
     let mut source = opened(rt, text)?;
     let mut out = Output::new(rt);
-    let outcome = check_run(rt.alloc(), &mut source, show, &mut out);
+    let outcome = match mode {
+        CheckMode::Report => check_run(rt.alloc(), &mut source, false, &mut out),
+        CheckMode::Show => check_run(rt.alloc(), &mut source, true, &mut out),
+        CheckMode::Brief => check_brief_run(rt.alloc(), text.as_bytes(), &mut source, &mut out),
+    };
     out.outcome(outcome)
 }
 
-fn check_named<'a, R>(rt: &R, text: &'a str, show: bool) -> Result<bool, Failure<'a>>
+fn check_named<'a, R>(rt: &R, text: &'a str, mode: CheckMode) -> Result<bool, Failure<'a>>
+where
+    R: AllocGlobal + Files + Print,
+{
+    match mode {
+        CheckMode::Report => report_named(rt, text, false),
+        CheckMode::Show => report_named(rt, text, true),
+        CheckMode::Brief => verdict_named(rt, text),
+    }
+}
+
+fn verdict_named<'a, R>(rt: &R, text: &'a str) -> Result<bool, Failure<'a>>
+where
+    R: AllocGlobal + Files + Print,
+{
+    let mut source = opened(rt, text)?;
+    let mut out = Output::new(rt);
+    let outcome = check_brief_run(rt.alloc(), text.as_bytes(), &mut source, &mut out);
+    out.file_outcome(text, outcome)
+}
+
+fn report_named<'a, R>(rt: &R, text: &'a str, show: bool) -> Result<bool, Failure<'a>>
 where
     R: AllocGlobal + Files + Print,
 {

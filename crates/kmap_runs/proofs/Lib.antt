@@ -1,3 +1,4 @@
+mod Accepted
 mod Chained
 mod Comments
 mod Common

@@ -13,11 +13,18 @@ use Rattle.keymap_check.specs.declared.finding.Finding.{Finding}
 use Rattle.keymap_check.specs.Report.{ReportValue, report_of, bearer_in, is_steady_in}
 use Rattle.keymap_check.specs.Said.{finding_words}
 use Rattle.keymap_check.specs.Scripts.{demonstration_of}
+use Rattle.keymap_lint_text.specs.Shown.{shown_name}
 use Rattle.play_core.specs.Spelling.{event_line}
 use Rattle.messages.specs.Filled.{filled}
 
 abbrev pub holding_name : Holding → List ℕ
 holding_name a = name_of (holding_action a)
+
+-- the name of a file, as it is shown, and whether its keymap is accepted
+abbrev pub brief_line : List ℕ → Bool → List ℕ
+brief_line file is_accepted =
+    filled (codes "{}: {}")
+    (shown_name file ∷ (if is_accepted then codes "accepted\n" else codes "refused\n") ∷ [])
 
 abbrev pub verdict_line : List Finding → List ℕ
 verdict_line [] = codes "accepted\n"

@@ -13,6 +13,7 @@ use Rattle.keymap_draw.specs.Pictures.{IsPicture, drawing}
 use Rattle.keymap_draw.specs.Told.{AgreeWhereShown}
 use Rattle.keymap_draw.specs.WellFormed.{IsPlain, IsWellFormed}
 use Rattle.console_states.specs.declared.outcome.Sticking.{Sticking}
+use Rattle.console_states.specs.declared.outcome.Sticking.TheVariants.{Never}
 use Rattle.console_states.specs.declared.typing.Typing.{Typing}
 use Rattle.console_core.specs.Headline.{IsSafe}
 use Rattle.keymap_check.specs.Promises.{KeepsPromise}
@@ -35,7 +36,7 @@ use Rattle.kmap_runs.specs.Inputs.{of_command_writer, of_writer, ReadsBytes, Rea
 use Rattle.kmap_runs.specs.Inputs.{ReadsSentence, ReadsText}
 use Rattle.kmap_runs.specs.LintRuns.{IsLinted}
 use Rattle.kmap_runs.specs.Replayed.{ShowsCover}
-use Rattle.kmap_runs.specs.Report.{report}
+use Rattle.kmap_runs.specs.Report.{brief_line, report}
 use Rattle.kmap_runs.specs.Search.{found_text, is_never}
 use Rattle.kmap_runs.specs.Typing.{typing_script}
 
@@ -62,6 +63,13 @@ Reports show m accepted told = (IsTrue accepted ↔ IsSafe m) × (told ≡ repor
 
 abbrev pub ChecksText : Bool → Moves → Moves → Result Bool RunError → Type 0
 ChecksText show text out r = Runs of_writer (ReadsText text) LacksNothing (Reports show) out r
+
+-- whether the map is safe, and a line that tells it under the name of the file
+abbrev pub ReportsBriefly : List ℕ → MapValue → Bool → List ℕ → Type 0
+ReportsBriefly file m accepted told = (IsTrue accepted ↔ IsSafe m) × (told ≡ brief_line file accepted)
+
+abbrev pub ChecksBriefly : List ℕ → Moves → Moves → Result Bool RunError → Type 0
+ChecksBriefly file text out r = Runs of_writer (ReadsText text) LacksMemory (ReportsBriefly file) out r
 
 -- the map of a file of tables as text; `Reads` says what reading the file answers
 abbrev pub DumpsFile : (Option (List ℕ) → Option (List ℕ) → Result MapValue TableError → Type 0) → Moves → Moves
@@ -99,10 +107,16 @@ abbrev pub IsFound : MapValue × Option MapValue → Sticking → Type 0
 IsFound (m, None) found = IsAnswer m found
 IsFound (m, Some n) found = IsAnswerBetween (between m n) found
 
--- whether no modifier ever sticks, and what was found
+-- the map of one text is safe, or those of two are
+abbrev pub AreSafe : MapValue × Option MapValue → Type 0
+AreSafe (m, None) = IsSafe m
+AreSafe (m, Some n) = IsSafe m × IsSafe n
+
+-- Whether no modifier ever sticks, and what was found. Of safe maps, however many states they have, none does.
 abbrev pub Finds : MapValue × Option MapValue → Bool → List ℕ → Type 0
 Finds v never told =
-    (found : Sticking) × IsFound v found × (never ≡ is_never found) × (told ≡ found_text found)
+    (found : Sticking) × IsFound v found × (AreSafe v → found ≡ Never) × (never ≡ is_never found)
+    × (told ≡ found_text found)
 
 abbrev pub SearchesTexts : Moves → Option Moves → Moves → Result Bool RunError → Type 0
 SearchesTexts text next out r = Runs of_writer (ReadsKeymaps text next) LacksMemory Finds out r

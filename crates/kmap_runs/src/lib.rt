@@ -1,13 +1,14 @@
 //! The runs of the program `kmap` over any reader and writer, and the line that tells why a run failed.
 //!
-//! `check_run` writes the report of the check on the map that a text spells, `search_run` what the search for sticking
-//! modifiers found, under one map or between those of two texts; `lint_run` writes the diagnostics of a text,
-//! `fmt_print_run` the text in the layout, which `fmt_run` hands out where it differs, `draw_run` a picture of its map,
-//! `cover_run` a script that tests a console, and `type_run` one that types a sentence; `compile_run` and
-//! `compile_narrow_run` write the table file of a text, `dump_run` and `dump_narrow_run` print the map of one. Playing
-//! is `play` and `play_next` of `play_core`, whose errors `RunError` takes over. `write_run_error` writes the line of
-//! the `RunError` that a run answers, and `write_command_error` that of the `CommandError` of those that lay out, type
-//! and test, which fail for reasons of their own too.
+//! `check_run` writes the report of the check on the map that a text spells, `check_brief_run` its verdict in a line
+//! with the name of the file, `search_run` what the search for sticking modifiers found, under one map or between those
+//! of two texts; `lint_run` writes the diagnostics of a text, `fmt_print_run` the text in the layout, which `fmt_run`
+//! hands out where it differs, `draw_run` a picture of its map, `cover_run` a script that tests a console, and
+//! `type_run` one that types a sentence; `compile_run` and `compile_narrow_run` write the table file of a text,
+//! `dump_run` and `dump_narrow_run` print the map of one. Playing is `play` and `play_next` of `play_core`, whose
+//! errors `RunError` takes over. `write_run_error` writes the line of the `RunError` that a run answers, and
+//! `write_command_error` that of the `CommandError` of those that lay out, type and test, which fail for reasons of
+//! their own too.
 //!
 //! Below the crate stand all other libraries of the workspace but that for C, and nothing that opens files or reads a
 //! command line. Each contract says with one definition, `Runs` of `play_core`, which inputs were read to which values
@@ -17,6 +18,7 @@
 //! what is printed as a script is one, what it does when it is played, and what else holds of what a run writes.
 #![tactic(auto)]
 
+mod brief_runs;
 mod cover;
 mod cover_runs;
 mod event_lines;
@@ -33,6 +35,7 @@ mod type_runs;
 mod typing;
 mod words;
 
+pub use brief_runs::check_brief_run;
 pub use cover_runs::cover_run;
 pub use fault_line::{
     CommandError, RunError, file_error_line, write_command_error, write_run_error,

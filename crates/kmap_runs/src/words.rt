@@ -24,6 +24,9 @@ pub(crate) const DEMONSTRATION: &[u8] = b"demonstration:\n";
 
 pub(crate) const NO_DEMONSTRATION: &[u8] = b"demonstration: none\n";
 
+// The name of a text and the verdict, in one line.
+pub(crate) const BRIEF: &[u8] = b"{}: {}";
+
 // What the search found: the names of the modifiers that are on at the end, or up to how many presses none is.
 pub(crate) const STICKS: &[u8] = b" sticks:{}";
 

@@ -1,4 +1,4 @@
-//! What differs between two keymaps, as the lines of `kmap diff` tell it.
+//! What differs between two keymaps, and whether any press of a key meets it.
 //!
 //! The crate stands on `keymap_core`, whose keymaps it compares, and on `console_states`, whose `Sights` tell whether
 //! any press meets what differs. `specs/Changes.antt` says what differs: how many slots and accents there are, cells,

@@ -1,6 +1,6 @@
 -- The bases of pairs, and what is pushed for each.
-use Rattle.std.proofs.Common.{◌≡◌, ℕ, ◌+◌, ◌<◌, ◌⊎◌, inl, inr, Bool, true, false, List, [], ◌∷◌, ◌++◌, Option, Some}
-use Rattle.std.proofs.Common.{get_or, length, refl, ap, subst, sym, ◌∙◌, arith, eqb, not, take, None}
+use Rattle.std.proofs.Common.{◌≡◌, ℕ, ◌+◌, ◌<◌, ◌⊎◌, inl, inr, Bool, false, List, [], ◌∷◌, ◌++◌, Option, Some}
+use Rattle.std.proofs.Common.{get_or, length, refl, ap, subst, sym, ◌∙◌, arith, eqb, not, take, None, rules}
 use Rattle.std.proofs.lemmas.Bool.{eqb-true, eq-eqb, true≢false}
 use Rattle.std.specs.Prelude.{if◌then◌else◌, is_some}
 use Rattle.std.specs.Option.{option_eq, option_to_list}
@@ -9,7 +9,7 @@ use Rattle.std.proofs.Common.{◌==◌}
 use Rattle.keymap_core.specs.Accents.{first_result}
 use Rattle.keymap_core.specs.Numbers.{accent_limit}
 use Rattle.keymap_diff.specs.Changes.{IsChangeOf, IsMark, MeetsPair, pairs_of, place_of}
-use Rattle.keymap_diff.specs.Inner.Pushing.{HasBase, IsNewBase, IsOfBase, IsOfBaseIn, IsAt, IsOne, Pushes}
+use Rattle.keymap_diff.specs.Inner.Pushing.{HasBase, IsOfBase, IsOfBaseIn, IsOne, Pushes}
 use Rattle.keymap_diff.specs.Inner.Pushing.{PushesAt, PushesBases}
 use Rattle.keymap_diff.specs.Types.{Change, Pair, Versions}
 use Rattle.keymap_diff.proofs.Marks.{mark-one, pairs-only}
@@ -22,27 +22,11 @@ pub first-push : (ps : List (ℕ × ℕ)) (p : ℕ × ℕ) (c : ℕ)
     → first_result (ps ++ p ∷ []) c
     ≡ (if is_some (first_result ps c) then first_result ps c else if p.0 == c then Some p.1 else None)
 first-push [] p c = refl
-first-push (q ∷ ps) p c = by (q.0 == c) (first-push ps p c)
-  where
-    by : (t : Bool)
-        → first_result (ps ++ p ∷ []) c
-        ≡ (if is_some (first_result ps c) then first_result ps c else if p.0 == c then Some p.1 else None)
-        → (if t then Some q.1 else first_result (ps ++ p ∷ []) c)
-        ≡ (if is_some (if t then Some q.1 else first_result ps c) then (if t then Some q.1 else first_result ps c)
-        else if p.0 == c then Some p.1 else None)
-    by true e = refl
-    by false e = e
+first-push (q ∷ ps) p c = search (rules, first-push ps p c)
 
 -- whether a base is one of these pairs or of one more
 pub base-more : (ps : List (ℕ × ℕ)) (p : ℕ × ℕ) (c : ℕ) → HasBase (ps ++ p ∷ []) c → HasBase ps c ⊎ (p.0 ≡ c)
-base-more ps p c has = by (first_result ps c) (p.0 == c) refl refl
-  where
-    by : (r : Option ℕ) (t : Bool) → first_result ps c ≡ r → (p.0 == c) ≡ t → HasBase ps c ⊎ (p.0 ≡ c)
-    by (Some d) t e f = inl (λ none. let g : Some d ≡ None = sym e ∙ none in cc)
-    by None true e f = inr (eqb-true p.0 c f)
-    by None false e f =
-        absurd (has (first-push ps p c ∙ ap (λ z. if is_some z then z else if p.0 == c then Some p.1 else None) e
-        ∙ ap (λ t. if t then Some p.1 else None) f))
+base-more ps p c has = search (rules, eqb-true, first-push)
 
 pub base-kept : (ps : List (ℕ × ℕ)) (p : ℕ × ℕ) (c : ℕ) → HasBase ps c → HasBase (ps ++ p ∷ []) c
 base-kept ps p c has none = grind (arith, first-push ps p c)
@@ -80,15 +64,7 @@ pub pair-only : (v : Versions) (i base : ℕ) (w : Bool)
     → IsMark (is_some v.seen) v.old.now v.new.now (MeetsPair i base) w → (x : Change)
     → IsChangeOf v x × IsOfBase i (λ c. c ≡ base) x
     → Pair i base (first_result (pairs_of v.old.now i) base) (first_result (pairs_of v.new.now i) base) w ≡ x
-pair-only v i base w mark (Pair j c a b u) (is, of) =
-    let e : j ≡ i = of.0 in
-    let f : c ≡ base = of.1 in
-    let IsMarked = λ (z y : ℕ). IsMark (is_some v.seen) v.old.now v.new.now (MeetsPair z y) u in
-    let old = is.1 in
-    let new = is.2 in
-    let same = mark-one (is_some v.seen) v.old.now v.new.now (MeetsPair i base) w u mark
-    (subst (λ y. IsMarked i y) f (subst (λ z. IsMarked z c) e is.4)) in
-    cc
+pair-only v i base w mark (Pair j c a b u) (is, of) = search (rules, mark-one)
 pair-only v i base w mark x (is, of) = absurd of
 
 -- ---- the changes of bases
@@ -98,95 +74,31 @@ pub bases-more : (v : Versions) (i : ℕ) (before ps : List (ℕ × ℕ)) (p : �
     → first_result before p.0 ≡ None → first_result ps p.0 ≡ None → PushesBases v i before ps old mid
     → Pushes (IsOfBaseIn v i (λ c. c ≡ p.0)) mid now → PushesBases v i before (ps ++ p ∷ []) old now
 bases-more v i before ps p old mid now new first a b =
-    pushes-both (IsOfBaseIn v i (IsNewBase before ps))
-    (IsOfBaseIn v i (λ c. c ≡ p.0))
-    (IsOfBaseIn v i (IsNewBase before (ps ++ p ∷ []))) old mid now
-    (λ x (is, of). elim (base-parts i (IsNewBase before ps) (λ c. c ≡ p.0) (IsNewBase before (ps ++ p ∷ [])) parts x of)
-    [ inl one ↦ inl (is, one) | inr other ↦ inr (is, other) ])
-    (λ x (is, of). (
-      is,
-      base-as i (IsNewBase before ps) (IsNewBase before (ps ++ p ∷ []))
-          (λ c (has, none). (base-kept ps p c has, none)) x of,
-    ))
-    (λ x (is, of). (is, base-as i (λ c. c ≡ p.0) (IsNewBase before (ps ++ p ∷ [])) last x of))
-    (λ x (is, of) (js, also). base-apart i (IsNewBase before ps) (λ c. c ≡ p.0)
-    (λ c (has, none) e. has (ap (λ z. first_result ps z) e ∙ first)) x of also)
-    (λ x y (is, of) (js, also).
-    let e = base-place i (IsNewBase before ps) x of in
-    let f = base-place i (λ c. c ≡ p.0) y also in
-    omega (arith, e, f))
-    a b
-  where
-    parts : (c : ℕ) → IsNewBase before (ps ++ p ∷ []) c → IsNewBase before ps c ⊎ (c ≡ p.0)
-    parts c (has, none) = elim (base-more ps p c has) [ inl one ↦ inl (one, none) | inr e ↦ inr (sym e) ]
-
-    last : (c : ℕ) → c ≡ p.0 → IsNewBase before (ps ++ p ∷ []) c
-    last c e = subst (λ z. IsNewBase before (ps ++ p ∷ []) z) (sym e) (base-last ps p, new)
+    search (
+      rules,
+      pushes-both,
+      base-parts,
+      base-as,
+      base-kept,
+      base-apart,
+      base-place,
+      base-more,
+      base-last,
+    )
 
 -- of one more pair, whose base one before it has
 pub bases-same : (v : Versions) (i : ℕ) (before ps : List (ℕ × ℕ)) (p : ℕ × ℕ) (old now : List Change)
     → (first_result before p.0 ≡ None → first_result ps p.0 ≡ None → ⊥) → PushesBases v i before ps old now
     → PushesBases v i before (ps ++ p ∷ []) old now
 bases-same v i before ps p old now among a =
-    pushes-as (IsOfBaseIn v i (IsNewBase before ps))
-    (IsOfBaseIn v i (IsNewBase before (ps ++ p ∷ []))) old now
-    (λ x (is, of). (is, base-as i (IsNewBase before (ps ++ p ∷ [])) (IsNewBase before ps) out x of))
-    (λ x (is, of). (
-      is,
-      base-as i (IsNewBase before ps) (IsNewBase before (ps ++ p ∷ []))
-          (λ c (has, none). (base-kept ps p c has, none)) x of,
-    ))
-    a
-  where
-    out : (c : ℕ) → IsNewBase before (ps ++ p ∷ []) c → IsNewBase before ps c
-    out c (has, none) = elim (base-more ps p c has) [
-      | inl one ↦ (one, none)
-      | inr e ↦
-          ((λ first. among (ap (λ z. first_result before z) e ∙ none) (ap (λ z. first_result ps z) e ∙ first)), none)
-    ]
+    search (rules, pushes-as, base-as, base-kept, base-more)
 
 -- those of the old pairs and then of the new ones are all of an accent
 pub bases-all : (v : Versions) (i : ℕ) (old mid now : List Change) → i < accent_limit
     → PushesBases v i [] (pairs_of v.old.now i) old mid
     → PushesBases v i (pairs_of v.old.now i) (pairs_of v.new.now i) mid now
     → PushesAt v (2321 + i) old now
-bases-all v i old mid now few a b =
-    pushes-both (IsOfBaseIn v i (IsNewBase [] ps))
-    (IsOfBaseIn v i (IsNewBase ps qs)) (IsAt v (2321 + i)) old mid now parts
-    (λ x (is, of). between x is (base-place i (IsNewBase [] ps) x of))
-    (λ x (is, of). between x is (base-place i (IsNewBase ps qs) x of))
-    (λ x (is, of) (js, also). base-apart i (IsNewBase [] ps) (IsNewBase ps qs) (λ c (has, n) (hs, none). has none) x of
-    also)
-    (λ x y (is, of) (js, also).
-    let e = base-place i (IsNewBase [] ps) x of in
-    let f = base-place i (IsNewBase ps qs) y also in
-    omega (arith, e, f))
-    a b
-  where
-    ps : List (ℕ × ℕ)
-    ps = pairs_of v.old.now i
-
-    qs : List (ℕ × ℕ)
-    qs = pairs_of v.new.now i
-
-    between : (x : Change) → IsChangeOf v x → place_of x ≡ 2321 + i → IsAt v (2321 + i) x
-    between x is e = (is, e)
-
-    differs : (c : ℕ) (a b : Option ℕ) (u : Bool) → IsChangeOf v (Pair i c a b u) → (r : Option ℕ)
-        → first_result ps c ≡ r
-        → IsOfBase i (IsNewBase [] ps) (Pair i c a b u) ⊎ IsOfBase i (IsNewBase ps qs) (Pair i c a b u)
-    differs c a b u is (Some d) e = inl (refl, ((λ none. let f : Some d ≡ None = sym e ∙ none in cc), refl))
-    differs c a b u is None e = inr (refl, ((λ none. is.3 (sym is.1 ∙ e ∙ sym none ∙ is.2)), e))
-
-    parts : (x : Change) → IsAt v (2321 + i) x
-        → (IsChangeOf v x × IsOfBase i (IsNewBase [] ps) x) ⊎ (IsChangeOf v x × IsOfBase i (IsNewBase ps qs) x)
-    parts x (is, here) =
-        let (c, a, b, u, at) = pairs-only v i few x (is, here) in
-        subst
-        (λ z. (IsChangeOf v z × IsOfBase i (IsNewBase [] ps) z) ⊎ (IsChangeOf v z × IsOfBase i (IsNewBase ps qs) z))
-        at
-        (let here : IsChangeOf v (Pair i c a b u) = subst (λ z. IsChangeOf v z) (sym at) is in
-        elim (differs c a b u here (first_result ps c) refl) [ inl p ↦ inl (here, p) | inr q ↦ inr (here, q) ])
+bases-all v i old mid now few a b = search (rules, pushes-both, base-place, base-apart, pairs-only)
 
 -- ---- what two make of bases
 
@@ -195,11 +107,7 @@ pub same_result : (a b : Option ℕ) (t : Bool) → t ≡ not (option_eq eqb a b
 same_result None None t e f = refl
 same_result None (Some y) t e f = absurd (true≢false (sym e ∙ f))
 same_result (Some x) None t e f = absurd (true≢false (sym e ∙ f))
-same_result (Some x) (Some y) t e f = ap (λ z. Some z) (eqb-true x y (by (eqb x y) (sym e ∙ f)))
-  where
-    by : (u : Bool) → not u ≡ false → u ≡ true
-    by true g = refl
-    by false g = absurd (true≢false g)
+same_result (Some x) (Some y) t e f = search (rules, eqb-true)
 
 -- a base more has the same result
 pub agree_more : (ps old new : List (ℕ × ℕ)) (i : ℕ) (d : ℕ × ℕ) → i < length ps
@@ -218,12 +126,7 @@ pub pair_one : (v : Versions) (i base : ℕ) (a b : Option ℕ) (w : Bool) → i
     → first_result (pairs_of v.old.now i) base ≡ a → first_result (pairs_of v.new.now i) base ≡ b → (a ≡ b → ⊥)
     → IsMark (is_some v.seen) v.old.now v.new.now (MeetsPair i base) w
     → IsOne (IsOfBaseIn v i (λ c. c ≡ base)) (Some (Pair i base a b w))
-pair_one v i base a b w few old new ne mark = (
-  ((few, old, new, ne, mark), (refl, refl)),
-  (λ x is. ap (λ y. Pair i base y b w) (sym old)
-      ∙ ap (λ y. Pair i base (first_result (pairs_of v.old.now i) base) y w) (sym new)
-      ∙ pair-only v i base w mark x is),
-)
+pair_one v i base a b w few old new ne mark = search (rules, pair-only)
 
 pub bases_step : (v : Versions) (i : ℕ) (before ps : List (ℕ × ℕ)) (index : ℕ) (d : ℕ × ℕ) (o : Option Change)
     (old mid now : List Change) → index < length ps → PushesBases v i before (take index ps) old mid

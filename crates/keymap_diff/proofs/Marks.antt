@@ -1,6 +1,6 @@
 -- What tells that a change is unseen.
 use Rattle.std.proofs.Common.{◌≡◌, ℕ, ◌+◌, ◌*◌, ◌/◌, ◌%◌, ◌<◌, ◌≤◌, inl, inr, Bool, true, false, refl, ap}
-use Rattle.std.proofs.Common.{Option, None, Some, subst, sym, ◌∙◌, arith}
+use Rattle.std.proofs.Common.{Option, None, Some, subst, sym, ◌∙◌, arith, rules}
 use Rattle.std.specs.Prelude.{is_some}
 use Rattle.keymap_core.specs.Maps.{MapValue, entry_at, cell_at}
 use Rattle.keymap_core.specs.Numbers.{slot_limit, column_count, accent_limit}
@@ -29,15 +29,7 @@ pub cell-only : (v : Versions) (slot column place : ℕ) (w : Bool) → column <
     → IsAt v (1 + place) x
     → Cell slot column (cell_at v.old.now slot column) (cell_at v.new.now slot column) w ≡ x
 cell-only v slot column place w eight few split mark (Cell s c a b u) (is, at) =
-    let lt = is.1 in
-    let e : s ≡ slot = omega (arith, at, lt, eight, split) in
-    let f : c ≡ column = omega (arith, at, lt, eight, split) in
-    let old = is.2 in
-    let new = is.3 in
-    let IsMarked = λ (z y : ℕ). IsMark (is_some v.seen) v.old.now v.new.now (MeetsCell z y) u in
-    let same = mark-one (is_some v.seen) v.old.now v.new.now (MeetsCell slot column) w u mark
-    (subst (λ y. IsMarked slot y) f (subst (λ z. IsMarked z c) e is.5)) in
-    cc
+    search (rules, mark-one)
 cell-only v slot column place w eight few split mark x (is, at) = absurd (omega (arith, at, eight, few, split))
 
 pub letter-only : (v : Versions) (slot : ℕ) (w : Bool) → slot < slot_limit
@@ -45,24 +37,13 @@ pub letter-only : (v : Versions) (slot : ℕ) (w : Bool) → slot < slot_limit
     (MeetsLetters slot (entry_at v.old.now slot).flag (entry_at v.new.now slot).flag) w
     → (x : Change) → IsAt v (2049 + slot) x
     → Letter slot (entry_at v.old.now slot).flag (entry_at v.new.now slot).flag w ≡ x
-letter-only v slot w few mark (Letter s a b u) (is, at) =
-    let e : s ≡ slot = omega (arith, at) in
-    let old : (entry_at v.old.now slot).flag ≡ a = subst (λ z. (entry_at v.old.now z).flag ≡ a) e is.1 in
-    let new : (entry_at v.new.now slot).flag ≡ b = subst (λ z. (entry_at v.new.now z).flag ≡ b) e is.2 in
-    let IsMarked = λ (z : ℕ) (f g : LockFlag). IsMark (is_some v.seen) v.old.now v.new.now (MeetsLetters z f g) u in
-    let same = mark-one (is_some v.seen) v.old.now v.new.now
-    (MeetsLetters slot (entry_at v.old.now slot).flag (entry_at v.new.now slot).flag) w u mark
-    (subst (λ g. IsMarked slot (entry_at v.old.now slot).flag g) (sym new)
-    (subst (λ f. IsMarked slot f b) (sym old) (subst (λ z. IsMarked z a b) e is.4))) in
-    cc
-letter-only v slot w few mark x (is, at) =
-    let lt = is.0 in let le = is.1 in absurd (omega (arith, at, few, lt, le))
+letter-only v slot w few mark (Letter s a b u) (is, at) = search (rules, mark-one)
+letter-only v slot w few mark x (is, at) = search rules
 
 pub order-only : (v : Versions) (accent : ℕ) → accent < accent_limit → (x : Change)
     → IsAt v (2336 + accent) x → ListedOtherwise accent ≡ x
 order-only v accent few (ListedOtherwise i) (is, at) = let e : i ≡ accent = omega (arith, at) in cc
-order-only v accent few x (is, at) =
-    let lt = is.0 in let le = is.1 in absurd (omega (arith, at, few, lt, le))
+order-only v accent few x (is, at) = search rules
 
 -- what stands at the place of an accent's pairs is one of these
 pub pairs-only : (v : Versions) (accent : ℕ) → accent < accent_limit → (x : Change)
@@ -70,8 +51,7 @@ pub pairs-only : (v : Versions) (accent : ℕ) → accent < accent_limit → (x 
     → (base : ℕ) × (a b : Option ℕ) × (u : Bool) × (Pair accent base a b u ≡ x)
 pairs-only v accent few (Pair i c a b u) (is, at) =
     let e : i ≡ accent = omega (arith, at) in (c, a, b, u, ap (λ z. Pair z c a b u) (sym e))
-pairs-only v accent few x (is, at) =
-    let lt = is.0 in let le = is.1 in absurd (omega (arith, at, few, lt, le))
+pairs-only v accent few x (is, at) = search rules
 
 -- ---- what no press meets
 
@@ -98,30 +78,14 @@ pub letter_one : (v : Versions) (slot : ℕ) (f g : LockFlag) (w : Bool) → slo
     → (entry_at v.old.now slot).flag ≡ f → (entry_at v.new.now slot).flag ≡ g → (f ≡ g → ⊥)
     → IsMark (is_some v.seen) v.old.now v.new.now (MeetsLetters slot f g) w
     → IsOne (IsAt v (2049 + slot)) (Some (Letter slot f g w))
-letter_one v slot f g w few old new ne mark = (((few, old, new, ne, mark), refl), only)
-  where
-    IsMarked : LockFlag → LockFlag → Type 0
-    IsMarked a b = IsMark (is_some v.seen) v.old.now v.new.now (MeetsLetters slot a b) w
-
-    only : (x : Change) → IsAt v (2049 + slot) x → Letter slot f g w ≡ x
-    only x is =
-        ap (λ a. Letter slot a g w) (sym old) ∙ ap (λ b. Letter slot (entry_at v.old.now slot).flag b w) (sym new)
-        ∙ letter-only v slot w few
-        (subst (λ a. IsMark (is_some v.seen) v.old.now v.new.now
-        (MeetsLetters slot a (entry_at v.new.now slot).flag) w) (sym old)
-        (subst (λ b. IsMark (is_some v.seen) v.old.now v.new.now (MeetsLetters slot f b) w) (sym new) mark)) x is
+letter_one v slot f g w few old new ne mark = search (rules, letter-only)
 
 pub cell_one : (v : Versions) (slot column place : ℕ) (a b : CellValue) (w : Bool) → column < column_count
     → slot < slot_limit → place ≡ slot * 8 + column → cell_at v.old.now slot column ≡ a
     → cell_at v.new.now slot column ≡ b → (a ≡ b → ⊥)
     → IsMark (is_some v.seen) v.old.now v.new.now (MeetsCell slot column) w
     → IsOne (IsAt v (1 + place)) (Some (Cell slot column a b w))
-cell_one v slot column place a b w eight few split old new ne mark = (
-  ((few, eight, old, new, ne, mark), ap (λ z. 1 + z) (sym split)),
-  (λ x is. ap (λ y. Cell slot column y b w) (sym old)
-      ∙ ap (λ y. Cell slot column (cell_at v.old.now slot column) y w) (sym new)
-      ∙ cell-only v slot column place w eight few split mark x is),
-)
+cell_one v slot column place a b w eight few split old new ne mark = search (rules, cell-only)
 
 pub order_one : (v : Versions) (i : ℕ) → i < accent_limit
     → HaveSameResults (pairs_of v.old.now i) (pairs_of v.new.now i)
@@ -130,10 +94,7 @@ order_one v i few same ne = (((few, same, ne), refl), order-only v i few)
 
 pub order_none : (v : Versions) (i : ℕ) → i < accent_limit → pairs_of v.old.now i ≡ pairs_of v.new.now i
     → IsOne (IsAt v (2336 + i)) None
-order_none v i few same x is =
-    let here : IsChangeOf v (ListedOtherwise i) =
-    subst (λ z. IsChangeOf v z) (sym (order-only v i few x is)) is.0 in
-    here.2 same
+order_none v i few same x is = search (rules, order-only)
 
 pub place_below : (v : Versions) (x : Change) → IsChangeOf v x → place_of x < 2351
 place_below v (Slots a b) is = omega arith

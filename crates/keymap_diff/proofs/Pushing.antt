@@ -1,6 +1,6 @@
 -- What is pushed behind a list, and what is pushed behind that.
 use Rattle.std.proofs.Common.{◌≡◌, ℕ, ◌+◌, ◌≤◌, ◌⊎◌, inl, inr, List, [], ◌∷◌, ◌++◌, get_or, refl, ap, Option}
-use Rattle.std.proofs.Common.{None, Some, subst, sym, ◌∙◌, arith, append_assoc}
+use Rattle.std.proofs.Common.{None, Some, subst, sym, ◌∙◌, arith, append_assoc, rules}
 use Rattle.std.proofs.lemmas.Bool.{cases_lt}
 use Rattle.std.proofs.lemmas.List.{append-nil}
 use Rattle.std.proofs.lemmas.List.Elements.{All-append, Contains-append_cases, Contains-append_left}
@@ -8,10 +8,10 @@ use Rattle.std.proofs.lemmas.List.Elements.{Contains-append_right, Contains-get_
 use Rattle.std.proofs.lemmas.List.Kept.{AllPairs-cons}
 use Rattle.std.specs.List.{AllPairs, Contains}
 use Rattle.std.specs.Option.{option_to_list}
-use Prim.Native.Nat.{suc, zero}
+use Prim.Native.Nat.{suc}
 use Rattle.keymap_diff.specs.Changes.{AreChanges, place_of}
 use Rattle.keymap_diff.proofs.Marks.{place_below}
-use Rattle.keymap_diff.specs.Inner.Pushing.{Pushes, IsAt, IsBetween, IsOne, PushesAt, PushesPlaces}
+use Rattle.keymap_diff.specs.Inner.Pushing.{Pushes, IsAt, IsOne, PushesAt, PushesPlaces}
 use Rattle.keymap_diff.specs.Types.{Change, Versions}
 
 -- ---- what is so of each two elements
@@ -36,33 +36,11 @@ apart-append R (x ∷ xs) ys first second across =
 
 pub pushes-none : (P : Change → Type 0) (old now : List Change) → now ≡ old → ((x : Change) → P x → ⊥)
     → Pushes P old now
-pushes-none P old now e none = record {
-  more = [];
-  is = e ∙ sym (append-nil old);
-  each = record {
-    all = λ x p. absurd (none x p);
-    only = λ x (k, lt, at). absurd (omega (arith, lt));
-    once = none-apart (λ x y. x ≡ y → ⊥);
-  };
-  in_order = none-apart (λ x y. place_of x ≤ place_of y);
-}
+pushes-none P old now e none = search (rules, append-nil, none-apart)
 
 pub pushes-one : (P : Change → Type 0) (x : Change) (old now : List Change) → now ≡ old ++ x ∷ [] → P x
     → ((y : Change) → P y → x ≡ y) → Pushes P old now
-pushes-one P x old now e is only = record {
-  more = x ∷ [];
-  is = e;
-  each = record {
-    all = λ y p. (0, omega arith, only y p);
-    only = λ y there. one y there;
-    once = one-apart (λ a b. a ≡ b → ⊥) x;
-  };
-  in_order = one-apart (λ a b. place_of a ≤ place_of b) x;
-}
-  where
-    one : (y : Change) → Contains (x ∷ []) y → P y
-    one y (zero, lt, at) = subst P at is
-    one y (suc k, lt, at) = absurd (omega (arith, lt))
+pushes-one P x old now e is only = search (rules, one-apart)
 
 -- what P says and then Q is what R says, where each of P stands before each of Q
 pub pushes-both : (P Q R : Change → Type 0) (old mid now : List Change) → ((x : Change) → R x → P x ⊎ Q x)
@@ -90,16 +68,7 @@ pushes-both P Q R old mid now parts left right apart rises a b = record {
 -- what P says is what R says
 pub pushes-as : (P R : Change → Type 0) (old now : List Change) → ((x : Change) → R x → P x)
     → ((x : Change) → P x → R x) → Pushes P old now → Pushes R old now
-pushes-as P R old now out back a = record {
-  more = a.more;
-  is = a.is;
-  each = record {
-    all = λ x r. a.each.all x (out x r);
-    only = λ x there. back x (a.each.only x there);
-    once = a.each.once;
-  };
-  in_order = a.in_order;
-}
+pushes-as P R old now out back a = search rules
 
 -- one change, or none
 pub pushes-option : (P : Change → Type 0) (o : Option Change) (old now : List Change) → IsOne P o
@@ -110,27 +79,17 @@ pushes-option P (Some x) old now one e = pushes-one P x old now e one.0 one.1
 -- what stands at places up to one, and from there on
 pub places-both : (v : Versions) (low at high : ℕ) (old mid now : List Change) → low ≤ at → at ≤ high
     → PushesPlaces v low at old mid → PushesPlaces v at high mid now → PushesPlaces v low high old now
-places-both v low at high old mid now below above a b =
-    pushes-both (IsBetween v low at) (IsBetween v at high) (IsBetween v low high) old mid now
-    (λ x (is, from, to).
-    elim (cases_lt (place_of x) at) [ inl lt ↦ inl (is, from, lt) | inr le ↦ inr (is, le, to) ])
-    (λ x (is, from, to). (is, from, omega (arith, to, above)))
-    (λ x (is, from, to). (is, omega (arith, from, below), to))
-    (λ x (is, from, to) (js, le, till). omega (arith, to, le))
-    (λ x y (is, from, to) (js, le, till). omega (arith, to, le)) a b
+places-both v low at high old mid now below above a b = search (rules, pushes-both, cases_lt)
 
 -- one place
 pub places-one : (v : Versions) (at high : ℕ) (old now : List Change) → high ≡ at + 1 → PushesAt v at old now
     → PushesPlaces v at high old now
-places-one v at high old now e a =
-    pushes-as (IsAt v at) (IsBetween v at high) old now (λ x (is, from, to). (is, omega (arith, from, to, e)))
-    (λ x (is, here). (is, omega (arith, here), omega (arith, here, e))) a
+places-one v at high old now e a = search (rules, pushes-as)
 
 -- and one more
 pub places-more : (v : Versions) (low at high : ℕ) (old mid now : List Change) → low ≤ at → high ≡ at + 1
     → PushesPlaces v low at old mid → PushesAt v at mid now → PushesPlaces v low high old now
-places-more v low at high old mid now below e a b =
-    places-both v low at high old mid now below (omega (arith, e)) a (places-one v at high mid now e b)
+places-more v low at high old mid now below e a b = search (rules, places-both, places-one)
 
 -- and one more, of which it is known what differs there
 pub places_step : (v : Versions) (low at high : ℕ) (o : Option Change) (old mid now : List Change) → low ≤ at

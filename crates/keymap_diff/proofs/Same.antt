@@ -1,6 +1,6 @@
 -- Nothing differs exactly if the keymaps are the same.
 use Rattle.std.proofs.Common.{◌≡◌, ℕ, ◌<◌, ◌==◌, ◌&&◌, inl, inr, Bool, true, false, List, [], ◌∷◌, Option, Some, None}
-use Rattle.std.proofs.Common.{length, refl, ap, subst, sym, ◌∙◌, arith, rules}
+use Rattle.std.proofs.Common.{length, refl, subst, sym, ◌∙◌, arith, rules}
 use Rattle.std.proofs.lemmas.Bool.{eqb-true, eq-eqb, true≢false}
 use Rattle.std.proofs.lemmas.List.{ext_get_or}
 use Rattle.std.specs.Bool.{Decides}
@@ -48,8 +48,7 @@ result-stable : (a b : Option ℕ) → ((a ≡ b → ⊥) → ⊥) → a ≡ b
 result-stable None None not_not = refl
 result-stable None (Some y) not_not = absurd (not_not (λ e. cc))
 result-stable (Some x) None not_not = absurd (not_not (λ e. cc))
-result-stable (Some x) (Some y) not_not =
-    ap (λ z. Some z) (stable (x ≡ y) (x == y) (number-same x y) (λ ne. not_not (λ e. ne cc)))
+result-stable (Some x) (Some y) not_not = search (rules, stable, number-same)
 
 -- one of the marks is right
 marked : (known : Bool) (m n : MapValue) (Meets : MapValue → Type 0) → ((u : Bool) → IsMark known m n Meets u → ⊥)
@@ -144,10 +143,7 @@ pub nothing_if_same : NothingIfSame
 nothing_if_same v found bounds also are = ((λ e. same (none e)), nothing found are)
   where
     none : found ≡ [] → (x : Change) → IsChange (is_some v.seen) v.old.now v.new.now x → ⊥
-    none e x is =
-        let (k, lt, at) = are.each.all x is in
-        let z : length found ≡ 0 = ap (λ q. length q) e in
-        omega (arith, lt, z)
+    none e x is = search rules
 
     same : ((x : Change) → IsChange (is_some v.seen) v.old.now v.new.now x → ⊥) → v.old.now ≡ v.new.now
     same nothing_differs =

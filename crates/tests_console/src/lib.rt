@@ -1,5 +1,5 @@
-//! The tests of console_core, console_states and keymap_check: histories on both consoles, the searches for sticking
-//! modifiers, and the check of keymaps. They say what no clause says.
+//! The tests of console_core, console_states, keymap_check and keymap_diff: histories on both consoles, the searches
+//! for sticking modifiers, the check of keymaps, and how two differ. They say what no clause says.
 //!
 //! A crate with tests is proved once more together with them, so the libraries have none of their own. Nothing here is
 //! exported.
@@ -9,6 +9,8 @@
 mod asserts;
 #[cfg(test)]
 mod console;
+#[cfg(test)]
+mod differences;
 #[cfg(test)]
 mod histories;
 #[cfg(test)]

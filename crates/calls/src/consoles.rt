@@ -269,7 +269,7 @@ fn lists_lock_settings<W: Write>(alloc: Global, marks: &mut W) -> Outcome {
     ended(&given, matches!(&given, Ok(sights) if sights.len() == 1024))
 }
 
-fn compares<W: Write>(alloc: Global, lent: &Lent, next: &Lent, marks: &mut W) -> Outcome {
+fn compares<'l, W: Write>(alloc: Global, lent: &'l Lent, next: &'l Lent, marks: &mut W) -> Outcome {
     let versions = Versions {
         old: &lent.map,
         new: &next.map,

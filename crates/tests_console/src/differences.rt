@@ -61,6 +61,20 @@ fn keymap(rt: &impl Abort, alloc: Global, plus: Entry, tilde: Accent) -> KeyMap 
     map
 }
 
+fn changes_between<'m>(
+    rt: &impl Abort,
+    alloc: Global,
+    old: &'m KeyMap,
+    new: &'m KeyMap,
+) -> Vec<Change> {
+    let versions = Versions {
+        old,
+        new,
+        seen: None,
+    };
+    changes(alloc, &versions).expect(rt, "the differences")
+}
+
 #[test]
 fn differences_are_as_worked_out(rt: HostRuntime) {
     let gap = entry(GROUP, Cell::Char('~'), GROUP);
@@ -71,12 +85,7 @@ fn differences_are_as_worked_out(rt: HostRuntime) {
     }
     let filled = entry(Cell::Char('+'), dead_tilde(), dead_tilde());
     let new = keymap(&rt, rt.alloc(), filled, tilde);
-    let versions = Versions {
-        old: &old,
-        new: &new,
-        seen: None,
-    };
-    let found = changes(rt.alloc(), &versions).expect(&rt, "the differences");
+    let found = changes_between(&rt, rt.alloc(), &old, &new);
     let expected = [
         cell(2, GROUP, Cell::Char('+')),
         cell(4, Cell::Char('~'), dead_tilde()),

@@ -36,11 +36,6 @@ base-last ps p none = grind (arith, first-push ps p p.0, eq-eqb p.0 p.0 refl)
 
 -- ---- the change of a base
 
-of-base : (i : ℕ) (P : ℕ → Type 0) (x : Change) → IsOfBase i P x
-    → (c : ℕ) × (a b : Option ℕ) × (u : Bool) × (Pair i c a b u ≡ x) × P c
-of-base i P (Pair j c a b u) (e, p) = (c, a, b, u, ap (λ z. Pair z c a b u) (sym e), p)
-of-base i P x none = absurd none
-
 base-as : (i : ℕ) (P Q : ℕ → Type 0) → ((c : ℕ) → P c → Q c) → (x : Change) → IsOfBase i P x → IsOfBase i Q x
 base-as i P Q f (Pair j c a b u) (e, p) = (e, f c p)
 base-as i P Q f x none = absurd none

@@ -1,5 +1,5 @@
 //! Finding what differs between two keymaps.
-ghost use Rattle.std.specs.Prelude.{◌≡◌, ◌<◌, ◌+◌, ◌++◌, ℕ, OnOk, IfOk, None, false, true, is_some};
+ghost use Rattle.std.specs.Prelude.{◌≡◌, ◌<◌, ◌+◌, ◌++◌, ℕ, OnOk, IfOk, None, false, true};
 ghost use Rattle.std.specs.Option.{option_to_list};
 ghost use Rattle.keymap_core.specs.Numbers.{accent_limit};
 ghost use Rattle.keymap_core.specs.Accents.{first_result};

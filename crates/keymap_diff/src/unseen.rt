@@ -1,5 +1,5 @@
 //! Whether any press meets what differs, under either keymap.
-ghost use Rattle.std.specs.Prelude.{◌≡◌, ◌<◌, ℕ, true, false, is_some};
+ghost use Rattle.std.specs.Prelude.{◌≡◌, ◌<◌, true, false, is_some};
 ghost use Rattle.keymap_core.specs.Numbers.{accent_limit, column_count};
 ghost use Rattle.console_states.specs.Sights.{AreSightsOf, IsReachable};
 ghost use Rattle.keymap_diff.specs.Changes.{HaveSights, IsMark, MeetsSetting, MeetsLetters, MeetsDeadKeyAt};

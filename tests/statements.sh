@@ -3,8 +3,8 @@
 # public type or of an implementation of a public trait, names what its file imports from a `specs.Inner` module; and no
 # file of `specs` outside of `Inner` imports from one. So what a public contract says is read without `specs/Inner`.
 #
-# The view, the invariant and the inverse of a `Model` tell of private fields, and may name anything. So may two files
-# of keymap_text: what a `MapReader` keeps is a place in the machine that reads a text.
+# The view, the invariant and the inverse of a `Model` and what a `Hash` feeds tell of private fields, and may name
+# anything. So may two files of keymap_text: what a `MapReader` keeps is a place in the machine that reads a text.
 #
 # usage: statements.sh [FOLDER]
 # The last line is 'N passed, M failed'; the status is 0 where none failed.
@@ -180,6 +180,7 @@ line ~ /^[ \t]+ghost [A-Za-z_]+( =|:)/ && line !~ /ghost use / {
     sub(/[ :=].*/, "", member)
     public = owner in exported || trait in exported
     if (trait == "Model" && (member == "view" || member == "invariant" || member == "inverse")) public = 0
+    if (trait == "Hash" && (member == "hash_input" || member == "respects_eq")) public = 0
     item = owner " ghost " member
     in_ghost = 1
     text = line

@@ -21,7 +21,7 @@ use Rattle.console_states.specs.declared.explorer.Aim.{Aim}
 use Rattle.console_states.specs.Returning.{IsTurned}
 use Rattle.console_states.specs.Visiting.{HasLocks, AreTaken, CanVisit, Visits}
 use Rattle.console_states.specs.Inner.Exploring.{IsMetAt}
-use Rattle.console_states.specs.Inner.Searching.{HasMetAll}
+use Rattle.console_states.specs.Searching.{HasMetAll}
 use Rattle.console_states.specs.Inner.Showing.{LeadsToSee, IsPressAt, IsRest, IsSteady, LeadsOn, LeadsComposing}
 use Rattle.console_states.specs.Inner.Standing.{free_after}
 use Rattle.console_states.proofs.Behind.{path-split}

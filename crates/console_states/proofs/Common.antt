@@ -19,10 +19,10 @@ pub use Rattle.console_states.specs.Inner.Adding.{Adds, AddsOffers, AreBehind, A
 pub use Rattle.console_states.specs.Inner.Adding.{AreSelectionsOf, IsBehind, IsInSome, IsOfferedUnlocked, IsWith}
 pub use Rattle.console_states.specs.Inner.Routes.{AllLeadHome, AreSettled, HasRoute, IsAstray, IsMet, LeadsHome}
 pub use Rattle.console_states.specs.Inner.Routes.{NoPressLeads, Routes}
-pub use Rattle.console_states.specs.Inner.Searching.{AreAdded, AreDone, AreInOrder, AreMet, AreSafe, AreWithin, Entries}
-pub use Rattle.console_states.specs.Inner.Searching.{Entry, Grows, HasEnded, HasMovingKeys, IsFrom, IsMetBy, IsReached}
-pub use Rattle.console_states.specs.Inner.Searching.{IsStep, IsStuck, IsTrail, IsUnmoving, LeavesScroll, PressesLead}
-pub use Rattle.console_states.specs.Inner.Searching.{Searched, StepsTo, state_of, under_of}
+pub use Rattle.console_states.specs.Searching.{AreAdded, AreDone, AreInOrder, AreMet, AreSafe, AreWithin, Entries}
+pub use Rattle.console_states.specs.Searching.{Entry, Grows, HasEnded, HasMovingKeys, IsFrom, IsMetBy, IsReached}
+pub use Rattle.console_states.specs.Searching.{IsStep, IsStuck, IsTrail, IsUnmoving, LeavesScroll, PressesLead}
+pub use Rattle.console_states.specs.Searching.{Searched, StepsTo, state_of, under_of}
 pub use Rattle.console_states.specs.Inner.Showing.{IsAim, IsAt, IsDeadFor, IsRepeated, IsWhole, Leads, ShowsNot}
 pub use Rattle.console_states.specs.Inner.Showing.{locks_in}
 pub use Rattle.console_states.specs.Inner.Standing.{Exact, Follows, HoldsSome, Stands}

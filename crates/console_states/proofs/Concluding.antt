@@ -1,12 +1,13 @@
 -- What the search concludes of all paths from what it met.
-use Rattle.console_states.proofs.Common.{suc, ◌≡◌, ℕ, ◌+◌, ◌<◌, inl, inr, List, [], ◌∷◌, length, slice_get, Some, refl, ap}
+use Rattle.console_states.proofs.Common.{suc, ◌≡◌, ℕ, ◌+◌, ◌<◌, inl, inr, List, [], ◌∷◌, length, slice_get, Some, refl}
+use Rattle.console_states.proofs.Common.{ap}
 use Rattle.console_states.proofs.Common.{rules, subst, sym, ◌∙◌, arith, cases_lt, slice_get_within, Modifier, Event}
 use Rattle.console_states.proofs.Common.{Move, End, TooMany, Under, State, start, IsMove, moved, presses_of}
 use Rattle.console_states.proofs.Common.{IsForgetful, HolderForgets, script_of_path, state_of, Entry, Entries, IsMetBy}
 use Rattle.console_states.proofs.Common.{IsReached, AreDone, AreSafe, IsStuck, HasEnded, unscrolled, presses}
 use Rattle.console_states.proofs.Common.{NeverSticksUnder, ReleasesPressedKeys}
 use Rattle.console_states.specs.declared.search.End.TheVariants.{Complete}
-use Rattle.console_states.specs.Inner.Searching.{IsScriptTo, IsEnd}
+use Rattle.console_states.specs.Searching.{IsScriptTo, IsEnd}
 use Rattle.console_states.specs.Sticking.{NoneSticksUnderBy, LeavesOnUnder, HasFewestUnder}
 use Rattle.console_states.proofs.Deciding.{under-self, never-under, sticks_if_reached}
 use Rattle.console_states.proofs.Scripts.{presses-script, releases-script}
@@ -20,7 +21,7 @@ abbrev pub IsAmong : Entries → ℕ → State → Type 0
 IsAmong es p s = (t : State) × IsMetBy es p t × (unscrolled t ≡ unscrolled s)
 
 -- where a move leads from one of them, by fewer than n presses
-among-moved : (u : Under) (es : Entries) (n : ℕ) → AreDone u es n → (p q : ℕ) (s : State) (move : Move)
+pub among-moved : (u : Under) (es : Entries) (n : ℕ) → AreDone u es n → (p q : ℕ) (s : State) (move : Move)
     → p + presses_of move ≡ q → q < n → IsAmong es p s → IsMove u s move → IsAmong es q (moved u s move)
 among-moved u es n done p q s move e lt (t, (j, x, at, is, le), near) can =
     elim (leaves-scroll_or_turns move) [
@@ -36,7 +37,7 @@ among-moved u es n done p q s move e lt (t, (j, x, at, is, le), near) can =
     ]
 
 -- the moves keep the states that were met
-kept-below : (u : Under) (es : Entries) (n : ℕ) → IsMetBy es 0 start → AreDone u es n → IsKeptBelow u n (IsAmong es)
+pub kept-below : (u : Under) (es : Entries) (n : ℕ) → IsMetBy es 0 start → AreDone u es n → IsKeptBelow u n (IsAmong es)
 kept-below u es n met done = record {
   led = record {
     more = λ p s (t, there, near). (t, met-up es p (suc p) t (omega arith) there, near);
@@ -46,7 +47,7 @@ kept-below u es n met done = record {
 }
 
 -- the states that were met are safe where no holder looks up a character in those met by fewer than n presses
-safe-below : (u : Under) (es : Entries) (n : ℕ) → IsMetBy es 0 start → AreDone u es n
+pub safe-below : (u : Under) (es : Entries) (n : ℕ) → IsMetBy es 0 start → AreDone u es n
     → ((j : ℕ) (x : Entry) → slice_get es j ≡ Some x → x.1.presses < n → IsForgetful u (state_of x.0) → ⊥)
     → IsSafeBelow u n (IsAmong es)
 safe-below u es n met done safe = record {
@@ -62,7 +63,9 @@ pub complete-never : (u : Under) (es : Entries) → HasEnded u (start ∷ []) es
 complete-never u es ended safe =
     never-under u
     (never-sticks u (IsAmong es)
-    (λ n. safe-below u es n (start-one ended.searched) (all-done u es ended.is.0 n) (λ j x at lt. safe j x at (slice_get_within es j x at))))
+    (λ n.
+    safe-below u es n (start-one ended.searched) (all-done u es ended.is.0 n)
+    (λ j x at lt. safe j x at (slice_get_within es j x at))))
 
 -- where too many were, none does by the presses that are told
 pub none-late : (u : Under) (es : Entries) (p : ℕ) → HasEnded u (start ∷ []) es (TooMany p) → AreSafe u es (length es)
@@ -74,7 +77,7 @@ none-late u es p ended safe g keys admitted i (quiet, on) =
     quiet (on u.maps (under-self u))
 
 -- where fewer presses lead than to a place is done
-done-before : (u : Under) (es : Entries) (end : End) → IsEnd u (start ∷ []) es end → (j : ℕ) (x : Entry)
+pub done-before : (u : Under) (es : Entries) (end : End) → IsEnd u (start ∷ []) es end → (j : ℕ) (x : Entry)
     → slice_get es j ≡ Some x → AreDone u es x.1.presses
 done-before u es Complete all j x at = all-done u es all.0 x.1.presses
 done-before u es (TooMany p) (more, within, done) j x at = search rules

@@ -5,7 +5,7 @@ use Rattle.console_states.proofs.Common.{same_Some, append-nil, take_more, Modif
 use Rattle.console_states.proofs.Common.{Under, State, state_after, script_of_path, rules, events_along}
 use Rattle.console_states.proofs.Common.{release_of, releases, Entry, Entries, IsTrail, Searched}
 use Rattle.console_states.proofs.Common.{reverse, reverse-append, reverse-reverse}
-use Rattle.console_states.specs.Inner.Searching.{GoBack}
+use Rattle.console_states.specs.Searching.{GoBack}
 use Rattle.console_states.proofs.Looking.{push-reversed}
 
 -- the way back from a place

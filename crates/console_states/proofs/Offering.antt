@@ -13,7 +13,7 @@ use Rattle.indexmap.proofs.IndexTableLemmas.Probe.{pigeonhole}
 use Rattle.std.proofs.lemmas.Bool.{true_from_ne_false}
 use Rattle.console_states.specs.Sights.{CanCompose, CanOffer, Enumerates, accents_in, IsOfferedAlong}
 use Rattle.console_states.specs.Inner.Adding.{AreAccentsOf}
-use Rattle.console_states.specs.Inner.Searching.{AreMetOnce}
+use Rattle.console_states.specs.Searching.{AreMetOnce}
 use Rattle.console_states.proofs.Adding.{empty-none}
 use Rattle.console_states.proofs.Unscrolled.{same-scrolled}
 use Rattle.console_states.proofs.Behind.{behind-offered, behind-more, behind-path, path-split}
@@ -193,8 +193,8 @@ composing-behind m accent met es ys searched behind are = record {
 }
 
 -- Where the accent is offered with no lock on, all let go leads to the start, so all states are behind.
-start-behind : (m : MapValue) (accent : ℕ) (met : Entries) → Searched (alone m) (start ∷ []) met (length met) (length met)
-    → usable m accent ≡ true → IsOfferedUnlocked (alone m) met accent → IsBehind (alone m) accent start
+start-behind : (m : MapValue) (accent : ℕ) (met : Entries)
+    → Searched (alone m) (start ∷ []) met (length met) (length met) → usable m accent ≡ true → IsOfferedUnlocked (alone m) met accent → IsBehind (alone m) accent start
 start-behind m accent met searched can (j, x, at, unlocked, offers) =
     let u : Under = alone m in
     let s : State = state_of x.0 in
@@ -242,7 +242,7 @@ offers-more m accents offers now o before e is = rw e (record {
 })
 
 -- an accent of the offers has one
-has-offer : (offers : List Offer) (accent : ℕ) → Contains (accents_in offers) accent
+pub has-offer : (offers : List Offer) (accent : ℕ) → Contains (accents_in offers) accent
     → (o : Offer) × Contains offers o × (o.accent ≡ accent)
 has-offer [] accent (k, lt, at) = absurd (omega (arith, lt))
 has-offer (o ∷ offers) accent (zero, lt, at) = (o, (0, omega arith, refl), at)

@@ -5,7 +5,7 @@ use Rattle.console_states.proofs.Common.{true≢false, slice_get-get_or, none-so
 use Rattle.console_states.proofs.Common.{Entries, HasEnded, IsReached, TooMany, Under, State, ReachesMoreThanFrom}
 use Rattle.std.specs.List.{AllByRecursion}
 use Rattle.std.proofs.lemmas.Map.Keys.{IsDistinct-head, IsDistinct-tail}
-use Rattle.console_states.specs.Inner.Searching.{AreMetOnce}
+use Rattle.console_states.specs.Searching.{AreMetOnce}
 use Rattle.console_states.proofs.SameStates.{are_same, same-tells}
 use Rattle.console_states.proofs.Beginning.{reached-one, start-one}
 

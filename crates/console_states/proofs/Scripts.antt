@@ -377,7 +377,7 @@ presses-move (Hold k i) h = omega arith
 presses-move _ h = omega arith
 
 -- the events along a path have as many presses as the path
-presses-along : (path : List Move) → presses (events_along path) ≡ presses_along path
+pub presses-along : (path : List Move) → presses (events_along path) ≡ presses_along path
 presses-along [] = refl
 presses-along (move ∷ path) = presses-move move (events_along path) ∙ ap (λ n. n + presses_of move) (presses-along path)
 

@@ -7,7 +7,7 @@ use Rattle.console_states.proofs.Common.{Step, is_some, lookup, Under, State, lo
 use Rattle.console_states.proofs.Common.{with_lock_turned, Holds, IsMove, moved, presses_of, state_of, Entry, Entries}
 use Rattle.console_states.proofs.Common.{Grows, IsStep, StepsTo, PressesLead, IsMetBy, AreMet, AreWithin, IsFrom}
 use Rattle.console_states.proofs.Common.{AreAdded, AreDone, Searched, AreInOrder}
-use Rattle.console_states.specs.Inner.Searching.{IsClosed, IsPressed}
+use Rattle.console_states.specs.Searching.{IsClosed, IsPressed}
 use Rattle.console_states.proofs.SameStates.{are_same, tells-same}
 use Rattle.console_states.proofs.Growing.{at-now, at_old, at_new, all-at, from-cases, added-longer}
 use Rattle.console_states.proofs.Growing.{met-grows, met-last, moves-grow, reached-grows, reached-next}
@@ -255,7 +255,8 @@ close-step u es now level p n y order le here added met s =
     let e : y.1.presses ≡ p = (order.0 n y here).1 le in
     searched-closed u now level n y (at-now es now n y (added.0, added.1) here)
     (subst (λ q. AreMet u now 0 q (state_of y.0)) (sym e) met)
-    (searched-grows u es now n 0 p level n y here (omega (arith, e)) added (omega (arith, le, lt)) (omega (arith, lt)) s)
+    (searched-grows u es now n 0 p level n y here (omega (arith, e)) added (omega (arith, le, lt)) (omega (arith, lt))
+    s)
 
 -- a place of a level is pressed
 pub press-step : (u : Under) (old es now : Entries) (level p n : ℕ) (y : Entry) → AreInOrder old level p

@@ -166,7 +166,7 @@ behind-release m r k i (s, behind, f) =
     (t, there, g)
 
 -- an accent is pending only behind where it is offered
-pends-behind : (m : MapValue) (forgets : Bool) (h : List Event) (i : ℕ) → (forgets ≡ false → NeverForgets (alone m))
+pub pends-behind : (m : MapValue) (forgets : Bool) (h : List Event) (i : ℕ) → (forgets ≡ false → NeverForgets (alone m))
     → IsAdmitted m forgets h → pending m (resolved (between m m) h) ≡ Some i
     → StandsBehind m i (resolved (between m m) h)
 pends-behind m forgets [] i never admitted e = search (rules, pending-start, resolved-start)

@@ -3,6 +3,5 @@ pub mod HeldBytes
 pub mod Exploring
 pub mod Adding
 pub mod Routes
-pub mod Searching
 pub mod Showing
 pub mod Standing

@@ -1,6 +1,7 @@
 pub mod Inner
 pub mod Moves
 pub mod Returning
+pub mod Searching
 pub mod Sights
 pub mod Sticking
 pub mod Types

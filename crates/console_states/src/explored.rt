@@ -8,7 +8,7 @@ ghost use Rattle.console_states.specs.Inner.Exploring.{map_of_explored, origin_i
 ghost use Rattle.console_states.specs.Inner.Exploring.{GoesAndTaps, IsOrigin, LetsGo, IsExploredFrom, GoesHome};
 ghost use Rattle.console_states.specs.Inner.Exploring.{IsMetAt};
 ghost use Rattle.console_states.specs.Inner.Routes.{HasRoute};
-ghost use Rattle.console_states.specs.Inner.Searching.{state_of, Entry};
+ghost use Rattle.console_states.specs.Searching.{state_of, Entry};
 
 use crate::held::{Held, Keymaps};
 use crate::routes::{Routes, has_route, routes_home};

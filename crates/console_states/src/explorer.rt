@@ -15,7 +15,7 @@ ghost use Rattle.console_states.specs.Visiting.{LeadsBy, Visits};
 ghost use Rattle.console_states.specs.Sticking.{ReachesMoreThan, state_limit};
 ghost use Rattle.console_states.specs.Inner.Exploring.{map_of_explored, origin_in, IsExplored, IsMetAt, IsTapAt};
 ghost use Rattle.console_states.specs.Inner.Exploring.{dead_tap};
-ghost use Rattle.console_states.specs.Inner.Searching.{under_of, Entry};
+ghost use Rattle.console_states.specs.Searching.{under_of, Entry};
 ghost use Rattle.console_states.specs.Inner.Showing.{IsAim, IsPressAt, IsRest, IsWhole, Leads, LeadsComposing};
 ghost use Rattle.console_states.specs.Inner.Showing.{LeadsToSee, ShowsNot, locks_in};
 

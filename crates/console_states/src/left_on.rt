@@ -3,7 +3,7 @@ ghost use Rattle.std.specs.Prelude.{◌≡◌, List, filter, reverse, IfOk};
 ghost use Rattle.console_core.specs.declared.event.Event.{Event as EventValue};
 ghost use Rattle.console_core.specs.History.{Maps, is_on_after};
 ghost use Rattle.console_states.specs.Sticking.{AreOnAfter};
-ghost use Rattle.console_states.specs.Inner.Searching.{under_of};
+ghost use Rattle.console_states.specs.Searching.{under_of};
 
 use crate::held::Keymaps;
 use console_core::{Event, Translator, WordConsole};

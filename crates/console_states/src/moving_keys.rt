@@ -4,7 +4,7 @@ ghost use Rattle.keymap_core.specs.Maps.{cell_at};
 ghost use Rattle.keymap_core.specs.Numbers.{key_count, column_count};
 ghost use Rattle.console_core.specs.Columns.{slot_of};
 ghost use Rattle.console_states.specs.Moves.{State, look_in};
-ghost use Rattle.console_states.specs.Inner.Searching.{under_of, IsUnmoving, HasMovingKeys};
+ghost use Rattle.console_states.specs.Searching.{under_of, IsUnmoving, HasMovingKeys};
 
 use crate::held::Keymaps;
 use keymap_core::{Action, Cell, KEY_COUNT, KeyCode, KeyMap, Lock, key_with};

@@ -6,7 +6,7 @@ ghost use Rattle.keymap_core.specs.Numbers.{key_count};
 ghost use Rattle.console_core.specs.Answers.{usable};
 ghost use Rattle.console_states.specs.Moves.{alone};
 ghost use Rattle.console_states.specs.Sights.{CanCompose, Enumerates};
-ghost use Rattle.console_states.specs.Inner.Searching.{state_of, under_of, HasMetAll};
+ghost use Rattle.console_states.specs.Searching.{state_of, under_of, HasMetAll};
 ghost use Rattle.console_states.specs.Inner.Adding.{IsWith, AddsOffer, AddsOffers, AreAccentsOf, AreSelectionsOf};
 ghost use Rattle.console_states.specs.Inner.Adding.{IsOfferedUnlocked, AreOffering, AreBehind, AreOffersOf};
 

@@ -9,7 +9,7 @@ ghost use Rattle.console_states.specs.Moves.{IsIdle, IsMove, free_with, releases
 ghost use Rattle.console_states.specs.Returning.{but_scroll};
 ghost use Rattle.console_states.specs.Sights.{selection_of};
 ghost use Rattle.console_states.specs.Visiting.{CannotScroll, IsOnward, TurnsScrollOff};
-ghost use Rattle.console_states.specs.Inner.Searching.{under_of};
+ghost use Rattle.console_states.specs.Searching.{under_of};
 ghost use Rattle.console_states.specs.Inner.Showing.{IsSeenAt, IsTurnAt, IsUnseen, IsUnturned};
 
 use crate::explored::{Explored, KeyAt, explore};

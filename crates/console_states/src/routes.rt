@@ -5,7 +5,7 @@ ghost use Rattle.std.specs.List.{Contains};
 ghost use Rattle.keymap_core.specs.Numbers.{key_count};
 ghost use Rattle.console_states.specs.declared.held.Held.{Held as HeldValue};
 ghost use Rattle.console_states.specs.Moves.{Under, State};
-ghost use Rattle.console_states.specs.Inner.Searching.{state_of, under_of, Entry, IsStep};
+ghost use Rattle.console_states.specs.Searching.{state_of, under_of, Entry, IsStep};
 ghost use Rattle.console_states.specs.Inner.Routes.{LeadsHome, AllLeadHome, HasRoute, IsAstray, NoLetGoLeads};
 ghost use Rattle.console_states.specs.Inner.Routes.{NoPressLeads};
 

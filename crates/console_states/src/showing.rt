@@ -4,7 +4,7 @@ ghost use Rattle.console_core.specs.declared.event.Event.TheVariants as event;
 ghost use Rattle.console_states.specs.declared.held.Move.{Move as MoveValue};
 ghost use Rattle.console_states.specs.Moves.{Under, events_along};
 ghost use Rattle.console_states.specs.Inner.Routes.{AllLeadHome, HasRoute, LeadsHome};
-ghost use Rattle.console_states.specs.Inner.Searching.{state_of, GoBack, IsTrail};
+ghost use Rattle.console_states.specs.Searching.{state_of, GoBack, IsTrail};
 
 use crate::held::{Held, Move};
 use crate::routes::Routes;

@@ -4,7 +4,7 @@ ghost use Rattle.std.specs.List.{Contains};
 ghost use Rattle.console_states.specs.Moves.{alone};
 ghost use Rattle.console_states.specs.Sticking.{ReachesMoreThan, state_limit};
 ghost use Rattle.console_states.specs.Sights.{AreSightsOf, IsReachable, can_see, is_selected, is_composed};
-ghost use Rattle.console_states.specs.Inner.Searching.{HasMetAll};
+ghost use Rattle.console_states.specs.Searching.{HasMetAll};
 ghost use Rattle.console_states.specs.Inner.Adding.{IsWith, AreSelectionsOf};
 
 use crate::held::{Held, Keymaps};

@@ -8,7 +8,7 @@ ghost use Rattle.console_states.specs.Inner.Exploring.{AreKnown, AreExplorations
 ghost use Rattle.console_states.specs.Inner.Exploring.{IsExploredFrom};
 ghost use Rattle.console_states.specs.Inner.Exploring.{Leads, LeadsByTap, TypesOne};
 ghost use Rattle.console_states.specs.Inner.Routes.{HasEntry};
-ghost use Rattle.console_states.specs.Inner.Searching.{state_of};
+ghost use Rattle.console_states.specs.Searching.{state_of};
 
 use crate::explored::{Explored, Tap, explore};
 use crate::held::Held;

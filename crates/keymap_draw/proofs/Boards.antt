@@ -3,7 +3,8 @@ use Rattle.keymap_draw.proofs.Common.{zero, suc, ◌≡◌, Bool, true, ◌&&◌
 use Rattle.keymap_draw.proofs.Common.{and_parts, not-true, Board, Iso, Ansi, Row, keys_of, each}
 use Rattle.std.proofs.Common.{AllPairs}
 use Rattle.std.proofs.lemmas.Bool.{eqb-false}
-use Rattle.keymap_draw.specs.Keyboards.{BoardsAreKeyboards, EachKeyOnce, NoTwoOverlap, AllLieOnThePanel, are_apart, is_on_panel}
+use Rattle.keymap_draw.specs.Keyboards.{BoardsAreKeyboards, EachKeyOnce, NoTwoOverlap, AllLieOnThePanel, are_apart}
+use Rattle.keymap_draw.specs.Keyboards.{is_on_panel}
 
 -- each with each behind it
 abbrev pub pairwise : {X : Type 0} → (X → X → Bool) → List X → Bool

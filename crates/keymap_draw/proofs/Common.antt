@@ -54,7 +54,8 @@ unfoldable pub use Rattle.keymap_text.specs.Printed.{accent_words, slot_words}
 pub use Rattle.keymap_text.specs.Rows.{AccentDefinition, Definition}
 pub use Rattle.messages.proofs.Passed.{decimal_passes}
 pub use Rattle.std.proofs.Common.{All, Bool, List, None, Option, Some, [], ap, append-nil, append_assoc, arith, drop}
-pub use Rattle.std.proofs.Common.{false, get_or, inl, inr, length, map, not, refl, reverse, rules, subst, sym, take, true, ℕ}
+pub use Rattle.std.proofs.Common.{false, get_or, inl, inr, length, map, not, refl, reverse, rules, subst, sym, take}
+pub use Rattle.std.proofs.Common.{true, ℕ}
 pub use Rattle.std.proofs.Common.{◌%◌, ◌&&◌, ◌++◌, ◌+◌, ◌<◌, ◌==◌, ◌||◌, ◌∙◌, ◌∷◌, ◌≡◌, ◌≤◌}
 pub use Rattle.std.proofs.lemmas.Bool.{agree_below, agree_below_at, and_parts, cases_order, cond_both, eqb-true}
 pub use Rattle.std.proofs.lemmas.Bool.{ltb-true, not-true, or_cases}

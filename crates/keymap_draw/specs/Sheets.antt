@@ -1,5 +1,6 @@
 -- The text of a picture that isn't complete: where its end stands, and what it tells so far.
-use Rattle.std.specs.Prelude.{◌≡◌, ℕ, ◌&&◌, not, ◌==◌, ◌||◌, Bool, List, [], ◌∷◌, ◌++◌, codes, decimal, Option, Some, reverse}
+use Rattle.std.specs.Prelude.{◌≡◌, ℕ, ◌&&◌, not, ◌==◌, ◌||◌, Bool, List, [], ◌∷◌, ◌++◌, codes, decimal, Option, Some}
+use Rattle.std.specs.Prelude.{reverse}
 use Rattle.std.specs.Prelude.{None, true, if◌then◌else◌, slice_index}
 use Rattle.std.specs.List.{list_all, flat_map}
 use Rattle.std.specs.Option.{option_and_then}

@@ -4,7 +4,7 @@ use Rattle.keymap_text.proofs.Common.{◌++◌, length, take, drop, slice_index,
 use Rattle.keymap_text.proofs.Common.{Option, Some, None, length-append, append_assoc, append-nil}
 use Rattle.keymap_text.proofs.Common.{⊎_elim, true≢false, take_at, ◌&&◌, add-one, list_all, get_or_at, drop_more}
 use Rattle.keymap_text.proofs.Common.{drop_all, stays_on_line, Found, literal}
-use Rattle.keymap_text.proofs.Common.{quoted, closing, unclosed, is_lone, first, nat_tests}
+use Rattle.keymap_text.proofs.Common.{quoted, closing, unclosed, is_lone, nat_tests}
 use Rattle.keymap_text.proofs.Common.{decoded, Decoded, good}
 use Rattle.keymap_text.proofs.Common.{TokenKind, Literal}
 use Rattle.std.proofs.lemmas.List.Folds.{list_all-append}

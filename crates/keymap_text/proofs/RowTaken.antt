@@ -4,7 +4,7 @@ use Rattle.keymap_text.proofs.Common.{length, take, refl, ◌∙◌, ap, arith, 
 use Rattle.keymap_text.proofs.Common.{Some, None, length-append, length-set, append_assoc, append-nil, ne_eqb}
 use Rattle.keymap_text.proofs.Common.{eq-eqb, none-some, same_Some, take_more_set, TextFaultKind}
 use Rattle.keymap_text.proofs.Common.{Entry, Cell, LockFlag, Item, Open, Close, Value, Number, Act, Letter}
-use Rattle.keymap_text.proofs.Common.{AccentValue, MapValue, undefined, with_entry, with_accent, character, cell, lock}
+use Rattle.keymap_text.proofs.Common.{AccentValue, MapValue, undefined, with_entry, with_accent, character, cell}
 use Rattle.keymap_text.proofs.Common.{GrammarState, GrammarPlace, CellAt, LockAt, AccentCharacter, rules}
 use Rattle.keymap_text.proofs.Common.{AfterAccent, PairBase, PairResult, PairEnd, accept, at, at_end}
 use Rattle.keymap_text.proofs.Common.{first_of, with_cell, with_pair, after_cell, after_base, ◌>>=◌}

@@ -5,7 +5,7 @@ use crate::output::{Output, tell};
 use crate::program::{Failure, FileFault, is_of_output, of_many, report, report_name, well};
 use crate::replace::{Old, ReplaceFault, replace};
 use keymap_core::{FromStd, Write, read_up_to};
-use kmap_runs::{CommandError, RunError, fmt_print_run, fmt_run};
+use kmap_runs::{RunError, fmt_print_run, fmt_run};
 use std::alloc::{AllocError, Global};
 use std::fs;
 use std::fs::{File, Files, Metadata};

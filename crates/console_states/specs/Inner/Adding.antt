@@ -11,7 +11,7 @@ use Rattle.console_states.specs.Moves.{Under, State, IsPath, state_after}
 use Rattle.console_states.specs.Sights.{CanCompose, Offers, IsOfferedIn, IsOfferedAlong, HasNoDoubles, Enumerates}
 use Rattle.console_states.specs.Sights.{accents_in}
 use Rattle.console_states.specs.Sights.{selection_of, SeesBy}
-use Rattle.console_states.specs.Inner.Searching.{state_of, Entry, Entries, Searched}
+use Rattle.console_states.specs.Searching.{state_of, Entry, Entries, Searched}
 
 -- the list has x, which was added if it wasn't there
 abbrev pub IsWith : {X : Type 0} → X → List X → List X → Type 0

@@ -1,6 +1,7 @@
 -- What an exploration keeps, and the events of one tap of a key. Mirrors `Explored` of src/explored.rt, src/ways.rt and
 -- src/typing.rt.
-use Rattle.std.specs.Prelude.{◌≡◌, ◌≤◌, ℕ, Bool, true, false, List, [], ◌∷◌, ◌++◌, length, reverse, None, Some, slice_get}
+use Rattle.std.specs.Prelude.{◌≡◌, ◌≤◌, ℕ, Bool, true, false, List, [], ◌∷◌, ◌++◌, length, reverse, None, Some}
+use Rattle.std.specs.Prelude.{slice_get}
 use Rattle.std.specs.Prelude.{Option, map}
 use Rattle.keymap_core.specs.declared.action.Lock.TheVariants.{Scroll}
 use Rattle.keymap_core.specs.Maps.{MapValue}
@@ -25,7 +26,7 @@ use Rattle.console_states.specs.declared.typing.Typed.TheVariants as typed
 use Rattle.console_states.specs.declared.ways.Way.{Way}
 use Rattle.console_states.specs.declared.ways.Way.TheVariants as way
 use Rattle.console_states.specs.Inner.Routes.{AllEntries, AllLeadHome, HasRoute, AreSettled}
-use Rattle.console_states.specs.Inner.Searching.{state_of, under_of, Entry, Searched}
+use Rattle.console_states.specs.Searching.{state_of, under_of, Entry, Searched}
 use Rattle.console_states.specs.Inner.Standing.{Stands}
 
 abbrev pub map_of_explored : Explored → MapValue

@@ -12,7 +12,7 @@ use Rattle.keymap_core.specs.declared.entry.Cell.TheVariants.{Act}
 use Rattle.console_states.specs.Moves.{Under, State, IsMove, moved, Holds, IsIdle, look_in, state_from, IsPathFrom}
 use Rattle.console_states.specs.Moves.{with_holder, with_lock_turned}
 use Rattle.console_states.specs.Returning.{IsHome}
-use Rattle.console_states.specs.Inner.Searching.{state_of, Entry, Entries, LeavesScroll}
+use Rattle.console_states.specs.Searching.{state_of, Entry, Entries, LeavesScroll}
 
 -- the moves, the oldest first, lead home, and leave the scroll lock off
 abbrev pub LeadsHome : Under → State → List Move → Type 0

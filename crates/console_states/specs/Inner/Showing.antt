@@ -18,7 +18,7 @@ use Rattle.console_states.specs.Visiting.{AreTaken, Locks}
 use Rattle.console_states.specs.Sights.{IsPendingFor, IsReachable, SeesBy, selection_of}
 use Rattle.console_states.specs.Inner.Exploring.{map_of_explored, origin_in, IsExplored, IsTapAt, dead_tap}
 use Rattle.console_states.specs.Inner.Routes.{HasRoute}
-use Rattle.console_states.specs.Inner.Searching.{state_of, under_of, Entry, Entries}
+use Rattle.console_states.specs.Searching.{state_of, under_of, Entry, Entries}
 use Rattle.console_states.specs.Inner.Standing.{Stands}
 
 -- The states were explored from the start, and these are all.

@@ -17,7 +17,7 @@ ghost use Rattle.console_states.specs.Moves.{IsForgetful, events_of_move, releas
 ghost use Rattle.console_states.specs.declared.held.Move.TheVariants.{Exchange as ExchangeMove};
 ghost use Rattle.console_states.specs.Sights.{selection_of, Offers};
 ghost use Rattle.console_states.specs.Returning.{IsHome, but_scroll, freed};
-ghost use Rattle.console_states.specs.Inner.Searching.{state_of, under_of, StepsTo, PressesLead, IsStep};
+ghost use Rattle.console_states.specs.Searching.{state_of, under_of, StepsTo, PressesLead, IsStep};
 ghost use Rattle.console_states.specs.Inner.Showing.{IsRepeated, IsSteady};
 ghost use Rattle.console_states.specs.Inner.HeldBytes.{holder_number, bytes_of, held-equal, bool_equal, same-bytes};
 
@@ -335,7 +335,7 @@ impl Held {
     }
 
     /// Whether the key holds a modifier and looks up an action, so that one more press of it keeps the state.
-    pub fn is_repeated(&self, maps: &Keymaps, key: KeyCode) -> bool
+    pub(crate) fn is_repeated(&self, maps: &Keymaps, key: KeyCode) -> bool
         ensures { result ≡ true → IsRepeated (under_of maps.now) (state_of self.now) key }
     {
         match self.look(maps, key) {
@@ -345,7 +345,7 @@ impl Held {
     }
 
     /// Whether a press of the key and its release keep the state, but for the scroll lock.
-    pub fn is_steady(&self, maps: &Keymaps, key: KeyCode) -> bool
+    pub(crate) fn is_steady(&self, maps: &Keymaps, key: KeyCode) -> bool
         ensures { result ≡ true → IsSteady (under_of maps.now) (state_of self.now) key }
     {
         if self.holds(key) {

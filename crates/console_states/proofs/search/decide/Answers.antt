@@ -1,4 +1,5 @@
-use Rattle.console_states.proofs.Common.{◌≡◌, [], ◌∷◌, reverse, ap, subst, Scroll, slice_get_within, TooMany, Under, start, under_of}
+use Rattle.console_states.proofs.Common.{◌≡◌, [], ◌∷◌, reverse, ap, subst, Scroll, slice_get_within, TooMany, Under}
+use Rattle.console_states.proofs.Common.{start, under_of}
 use Rattle.console_states.proofs.Common.{Entries, HasEnded, State, End, rules}
 use Rattle.console_states.proofs.Concluding.{complete-never, none-late, stuck-sticks}
 use Rattle.console_states.proofs.Deciding.{sent-admitted, are-on-under}

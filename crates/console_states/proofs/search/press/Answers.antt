@@ -1,4 +1,5 @@
-use Rattle.console_states.proofs.Common.{◌≤◌, ◌<◌, ◌+◌, [], length, sym, arith, append-nil, state_of, under_of, AreAdded}
+use Rattle.console_states.proofs.Common.{◌≤◌, ◌<◌, ◌+◌, [], length, sym, arith, append-nil, state_of, under_of}
+use Rattle.console_states.proofs.Common.{AreAdded}
 use Rattle.console_states.proofs.Common.{rules}
 use Rattle.console_states.proofs.Growing.{added-longer, grows-again}
 use Rattle.console_states.proofs.Searching.{press-step, order-grows, order-next, searched-both}

@@ -1,4 +1,4 @@
-use Rattle.console_states.proofs.Common.{[], ◌∷◌, ap, subst, Scroll, refl, start, alone, HasEnded, TooMany, rules}
+use Rattle.console_states.proofs.Common.{[], ◌∷◌, ap, subst, Scroll, refl, start, alone, HasEnded, TooMany}
 use Rattle.console_states.specs.declared.search.End.TheVariants.{Complete}
 use Rattle.console_states.proofs.Reaching.{reaches-more}
 use Rattle.console_states.proofs.Beginning.{one-off}

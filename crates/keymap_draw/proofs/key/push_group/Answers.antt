@@ -1,4 +1,5 @@
-use Rattle.keymap_draw.proofs.Common.{◌≡◌, ℕ, List, [], ◌∷◌, ◌++◌, ◌∙◌, Some, ap, sym, append-nil, arith, refl, reverse, subst, IfOk}
+use Rattle.keymap_draw.proofs.Common.{◌≡◌, ℕ, List, [], ◌∷◌, ◌++◌, ◌∙◌, Some, ap, sym, append-nil, arith, refl, reverse}
+use Rattle.keymap_draw.proofs.Common.{subst, IfOk}
 use Rattle.keymap_draw.proofs.Common.{Number, Shape, Told, Plain, Bytes, Fact, within, in_svg, over, facts_of}
 use Rattle.std.proofs.Common.{Bor}
 use Rattle.std.proofs.lemmas.List.{nil_from_length, reverse-reverse}

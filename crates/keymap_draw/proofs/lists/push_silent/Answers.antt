@@ -1,4 +1,5 @@
-use Rattle.keymap_draw.proofs.Common.{◌≡◌, ◌==◌, ◌++◌, ◌∙◌, [], ◌∷◌, false, ap, sym, arith, length, nat_tests, subst, IfOk}
+use Rattle.keymap_draw.proofs.Common.{◌≡◌, ◌==◌, ◌++◌, ◌∙◌, [], ◌∷◌, false, ap, sym, arith, length, nat_tests, subst}
+use Rattle.keymap_draw.proofs.Common.{IfOk}
 use Rattle.keymap_draw.proofs.Common.{if◌then◌else◌, numbered, silent_list, silent_name}
 use Rattle.keymap_draw.specs.Facts.Fact.{End}
 use Rattle.keymap_draw.specs.Lists.{silent_line}

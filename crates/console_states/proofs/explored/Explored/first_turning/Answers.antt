@@ -1,4 +1,4 @@
-use Rattle.console_states.proofs.Common.{◌≡◌, inl, inr, slice_get, Some, IsMove, Scroll, Turn, subst, sym, arith, ◌∙◌}
+use Rattle.console_states.proofs.Common.{◌≡◌, inl, inr, slice_get, Some, IsMove, Scroll, Turn, subst, sym, arith}
 use Rattle.console_states.proofs.Common.{slice_get_within, state_of, under_of}
 use Rattle.console_states.proofs.Looking.{entry-at}
 use Rattle.console_states.proofs.Searching.{place_last}

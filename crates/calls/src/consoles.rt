@@ -3,10 +3,8 @@ use crate::devices::mark;
 use crate::inputs::{Call, Lent};
 use crate::outcome::{Outcome, ended, ended_keeping};
 use console_core::{Event, PlainConsole, Translator, WordConsole, replay};
-use console_states::{
-    Explorer, Sight, Sticking, find_onward, scroll_off, sights_of, sticking, sticking_between,
-    type_characters,
-};
+use console_scripts::{Explorer, find_onward, scroll_off, type_characters};
+use console_states::{Sight, Sticking, sights_of, sticking, sticking_between};
 use keymap_core::{KeyCode, Lock, Modifier, Write};
 use keymap_cover::{Seen, cells, cover_of, lock_settings};
 use keymap_diff::{Versions, changes};

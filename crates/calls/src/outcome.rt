@@ -1,5 +1,5 @@
 //! What came of a call.
-use console_states::TypingError;
+use console_scripts::TypingError;
 use keymap_core::ReadError;
 use keymap_fmt::FormatError;
 use keymap_tables::TableError;

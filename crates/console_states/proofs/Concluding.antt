@@ -13,7 +13,7 @@ use Rattle.console_states.proofs.Deciding.{under-self, never-under, sticks_if_re
 use Rattle.console_states.proofs.Scripts.{presses-script, releases-script}
 use Rattle.console_states.proofs.Beginning.{reached-one, start-one}
 use Rattle.console_states.proofs.Searching.{met-up, all-done}
-use Rattle.console_states.proofs.Staying.{IsKeptBelow, IsSafeBelow, never-sticks, sticks-late}
+use Rattle.console_states.proofs.Sparing.{IsKeptBelow, IsSafeBelow, never-sticks, sticks-late}
 use Rattle.console_states.proofs.Unscrolled.{leaves-scroll_or_turns, moves-unscrolled, same_moved, scroll-moved}
 
 -- The states met by at most p presses, but for the scroll lock.

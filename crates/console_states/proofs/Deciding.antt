@@ -11,7 +11,7 @@ use Rattle.console_states.specs.Sticking.{NeverSticksUnlessReached, SticksIfReac
 use Rattle.console_core.proofs.Headline.{on_only_while_pressed, off_once_quiet}
 use Rattle.console_core.proofs.OneMap.{first_in_force, without_loads}
 use Rattle.console_states.proofs.Scripts.{script-sticks, never-unless_reached}
-use Rattle.console_states.proofs.Staying.{NeverIn}
+use Rattle.console_states.proofs.Sparing.{NeverIn}
 
 -- a search speaks of the maps that it goes over
 pub under-self : (u : Under) → AreUnder u u.maps

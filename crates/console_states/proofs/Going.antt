@@ -6,7 +6,7 @@ use Rattle.console_states.proofs.Common.{look_in, IsMove, events_of_move, events
 use Rattle.console_states.proofs.Common.{SeesNext, IsPendingFor, selection_of, Stands, Act, Event, Press, Release, Move}
 use Rattle.console_states.proofs.Common.{Hold, Turn, LetGo, Exchange, Sight, rules}
 use Rattle.console_core.proofs.OneMore.{one_map, resolved-more, pending-action, pending-release}
-use Rattle.console_states.proofs.Scripts.{stands-from, idle-none, pressed-look}
+use Rattle.console_states.proofs.Standing.{stands-from, idle-none, pressed-look}
 use Rattle.console_states.proofs.Seeing.{follows-selection}
 use Rattle.keymap_core.specs.declared.action.Action.TheVariants as act
 use Rattle.console_states.specs.declared.selection.Sight.TheVariants as sight

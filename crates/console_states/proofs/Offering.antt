@@ -17,8 +17,7 @@ use Rattle.console_states.specs.Searching.{AreMetOnce}
 use Rattle.console_states.proofs.Adding.{empty-none}
 use Rattle.console_states.proofs.Unscrolled.{same-scrolled}
 use Rattle.console_states.proofs.Behind.{behind-offered, behind-more, behind-path, path-split}
-use Rattle.console_states.proofs.Exploring.{home-start}
-use Rattle.console_states.proofs.Returning.{IsNear, move-met, near-along, near-met}
+use Rattle.console_states.proofs.Returning.{home-start, IsNear, move-met, near-along, near-met}
 use Rattle.console_states.proofs.Beginning.{reached-one}
 use Rattle.console_states.proofs.Searching.{place_last, same_entry}
 use Rattle.console_states.proofs.Staying.{emptied, emptied-kept, emptied-none}

@@ -1,18 +1,36 @@
--- From a state that was met without a route home no moves lead there.
+-- Where no lock is on but the scroll lock; and what a finished search met.
 use Rattle.console_states.proofs.Common.{suc, ◌≡◌, ℕ, ◌+◌, List, [], ◌∷◌, length, slice_get, Some, ap, arith, subst}
-use Rattle.console_states.proofs.Common.{sym, ◌∙◌, inl, inr, MapValue, Under, alone, State, IsMove, moved}
-use Rattle.console_states.proofs.Common.{IsPathFrom, state_from, presses_of, IsHome, Routes, HasRoute, IsAstray, IsMet}
-use Rattle.console_states.proofs.Common.{AreSettled, state_of, Entry, Entries, IsMetBy, LeavesScroll, Searched}
-use Rattle.console_states.proofs.Common.{unscrolled, Move}
+use Rattle.console_states.proofs.Common.{sym, ◌∙◌, inl, inr, Under, State, IsMove, moved}
+use Rattle.console_states.proofs.Common.{IsPathFrom, state_from, presses_of, IsHome}
+use Rattle.console_states.proofs.Common.{state_of, Entry, Entries, IsMetBy, LeavesScroll, Searched}
+use Rattle.console_states.proofs.Common.{unscrolled, Move, ◌≢◌, Bool, false, refl, Lock, Caps, Num, Scroll, Alt}
+use Rattle.console_states.proofs.Common.{start, rules}
+use Rattle.console_states.specs.Searching.{IsMet}
 use Rattle.console_states.proofs.Beginning.{start-one}
 use Rattle.console_states.proofs.Searching.{all-done}
 use Rattle.console_states.proofs.Unscrolled.{locks-near, leaves-scroll_or_turns, moves-unscrolled, same_moved}
-use Rattle.console_states.proofs.Unscrolled.{scroll-moved}
+use Rattle.console_states.proofs.Unscrolled.{scroll-moved, same_states}
 
 -- home doesn't depend on the scroll lock
 pub near-is_home : (s t : State) → unscrolled t ≡ unscrolled s → IsHome s → IsHome t
 near-is_home s t e (free, off) =
     ((λ i. ap (λ x. x.holder i) e ∙ free i), (λ l other. locks-near t s e l other ∙ off l other))
+
+-- no lock is on but the scroll lock
+pub all-off : (on : Lock → Bool) → (on Caps ≡ false) × (on Num ≡ false) × (on Alt ≡ false) → (l : Lock) → l ≢ Scroll
+    → on l ≡ false
+all-off on off Caps other = off.0
+all-off on off Num other = off.1
+all-off on off Alt other = off.2
+all-off on off Scroll other = absurd (other refl)
+
+pub none-on : (on : Lock → Bool) → ((l : Lock) → l ≢ Scroll → on l ≡ false)
+    → (on Caps ≡ false) × (on Num ≡ false) × (on Alt ≡ false)
+none-on on off = (off Caps (λ q. cc), off Num (λ q. cc), off Alt (λ q. cc))
+
+-- home is the start, where the scroll lock is off
+pub home-start : (s : State) → IsHome s → s.is_second ≡ false → s.is_locked Scroll ≡ false → s ≡ start
+home-start s (free, off) first scroll = search (rules, same_states)
 
 -- where a move leads from a state that was met was met too
 met-met : (es : Entries) (p : ℕ) (s : State) → IsMetBy es p s → IsMet es s
@@ -54,36 +72,3 @@ pub near-met : {o : State} (u : Under) (es : Entries) → Searched u (o ∷ []) 
 near-met {o} u es s path is =
     let (j, x, at, e, le) = start-one s in
     near-along u es (move-met u es s) o path (j, x, at, ap (λ z. unscrolled z) e) is
-
--- a met state without a route, near the state where a path has led
-abbrev pub StraysTo : Entries → Routes → State → Type 0
-StraysTo es routes s =
-    (j : ℕ) × (x : Entry) × (slice_get es j ≡ Some x) × (unscrolled (state_of x.0) ≡ unscrolled s)
-    × (HasRoute routes (state_of x.0) → ⊥)
-
-pub is-astray : (u : Under) (es : Entries) (routes : Routes) → AreSettled u es routes → (j : ℕ) (x : Entry)
-    → slice_get es j ≡ Some x → (HasRoute routes (state_of x.0) → ⊥) → IsAstray u routes (state_of x.0)
-is-astray u es routes settled j x at none = elim (settled j x at) [ inl has ↦ absurd (none has) | inr is ↦ is ]
-
--- a move leads on astray
-pub strays-on : {os : List State} (m : MapValue) (es : Entries) (routes : Routes)
-    → Searched (alone m) os es (length es) (length es)
-    → AreSettled (alone m) es routes → (s : State) (move : Move) → IsMove (alone m) s move → StraysTo es routes s
-    → StraysTo es routes (moved (alone m) s move)
-strays-on m es routes searched settled s move is (j, x, at, near, none) =
-    let u : Under = alone m in
-    elim (leaves-scroll_or_turns move) [
-      | inl leaves ↦
-          let here : IsMove u (state_of x.0) move = moves-unscrolled u s (state_of x.0) move near is in
-          let (i, y, there, e) = move-met u es searched j x at move here leaves in (
-            i,
-            y,
-            there,
-            ap (λ z. unscrolled z) e ∙ same_moved u s (state_of x.0) move near,
-            (λ has.
-                (is-astray u es routes settled j x at none).1 move here leaves
-                (subst (λ z. HasRoute routes z) e has)),
-          )
-      | inr (k, turns) ↦
-          subst (λ z. StraysTo es routes (moved u s z)) (sym turns) (j, x, at, near ∙ scroll-moved s, none)
-    ]

@@ -17,8 +17,11 @@ use Rattle.console_states.specs.Sights.{selection_with, selection_after, LooksAr
 use Rattle.console_core.proofs.OneMore.{one_map, resolved-start, resolved-more, pending-start, pending-character}
 use Rattle.console_core.proofs.OneMore.{pending-action, pending-release, pending-reset}
 use Rattle.console_states.proofs.Behind.{behind-offered, behind-more}
-use Rattle.console_states.proofs.Staying.{follows-look, follows-nothing, not_holding, stays, Stays, AreSpared}
-use Rattle.console_states.proofs.Staying.{KeepsHeld, clean-spared, LeadsOn, stays-press, stays-release}
+use Rattle.console_states.proofs.Following.{follows-look, follows-nothing, not_holding}
+use Rattle.console_states.proofs.Sparing.{stays, AreSpared}
+use Rattle.console_states.proofs.Staying.{Stays}
+use Rattle.console_states.proofs.Sparing.{clean-spared}
+use Rattle.console_states.proofs.Staying.{KeepsHeld, LeadsOn, stays-press, stays-release}
 use Rattle.console_states.proofs.Scripts.{Reached, reached-kept}
 use Rattle.keymap_core.specs.declared.action.Action.TheVariants as act
 use Rattle.console_states.specs.declared.selection.Sight.TheVariants as sight

@@ -12,11 +12,11 @@ use Rattle.console_states.specs.Sticking.{IsPressOrRelease}
 use Rattle.console_states.proofs.Behind.{path-split}
 use Rattle.console_states.proofs.Going.{going-sees, pending-along, tap-pending}
 use Rattle.console_core.proofs.OneMore.{resolved-start, pending-start}
-use Rattle.console_states.proofs.Scripts.{idle-none, stands-from, stands-start, holder-pressed}
-use Rattle.console_states.proofs.Taps.{stands-tap}
+use Rattle.console_states.proofs.Scripts.{holder-pressed}
+use Rattle.console_states.proofs.Standing.{idle-none, stands-from, stands-start}
+use Rattle.console_states.proofs.Tapping.{dead-tapped}
 use Rattle.console_states.proofs.Visits.{press-presses}
 use Rattle.keymap_core.specs.declared.action.Action.TheVariants as act
-use Rattle.console_states.specs.declared.explored.Symbol.TheVariants as symbol
 use Rattle.console_states.specs.declared.selection.Sight.TheVariants as sight
 
 -- presses, and releases of pressed keys, of which no press forgets that its key holds a modifier
@@ -104,8 +104,7 @@ short-along m h s path x is = search (rules, stands-from, plain-along)
 short-tap : (m : MapValue) (h : List Event) (s : State) (k accent : ℕ) → IsShort m h s → k < 128 → IsIdle s k
     → look_in (alone m) s k ≡ Act (act.DeadKey accent) → IsShort m (Release k ∷ Press k ∷ h) s
 short-tap m h s k accent x lt idle seen = record {
-  stands = stands-tap (alone m) h s false (symbol.DeadKey accent) k x.stands
-      (lt, idle, seen, (λ e. absurd (false≢true e)));
+  stands = dead-tapped (alone m) h s accent k lt x.stands idle seen;
   plain = plain-release m (Press k ∷ h) k (press-presses k h) (plain-idle m h s k x.stands idle x.plain);
 }
 

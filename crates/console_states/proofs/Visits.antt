@@ -7,8 +7,8 @@ use Rattle.console_states.proofs.Common.{alone, State, start, look_in, IsIdle, s
 use Rattle.console_states.proofs.Common.{IsHome, HoldsSome, Stands, unscrolled, Action, Lock}
 use Rattle.console_states.proofs.Common.{Cell, Char, Act, Event, Press, Move, Hold, Turn, LetGo, Exchange}
 use Rattle.console_core.proofs.OneMore.{locked-character, locked-action, pressed-press}
-use Rattle.console_states.proofs.Scripts.{idle-none, pressed-look}
-use Rattle.console_states.proofs.Staying.{follows-turn}
+use Rattle.console_states.proofs.Standing.{idle-none, pressed-look}
+use Rattle.console_states.proofs.Following.{follows-turn}
 use Rattle.console_states.proofs.Unscrolled.{moves-unscrolled, same_moved, same_states}
 use Rattle.keymap_core.specs.declared.action.Action.TheVariants as act
 

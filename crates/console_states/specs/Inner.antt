@@ -1,7 +1,4 @@
 -- What mirrors functions of the code, or tells of private fields. Private contracts cite it; no public clause does.
 pub mod HeldBytes
-pub mod Exploring
 pub mod Adding
-pub mod Routes
-pub mod Showing
 pub mod Standing

@@ -5,5 +5,3 @@ pub mod Searching
 pub mod Sights
 pub mod Sticking
 pub mod Types
-pub mod Typing
-pub mod Visiting

@@ -110,6 +110,17 @@ HolderForgets u s i k = Holds s k i × ((c : ℕ) × (look_in u s k ≡ Char c))
 abbrev pub IsForgetful : Under → State → Type 0
 IsForgetful u s = (i : Modifier) × (k : ℕ) × HolderForgets u s i k
 
+-- A press of the key and its release keep the state, but for the scroll lock: the key holds nothing, and looks up no
+-- modifier that is held and no lock but that one.
+abbrev pub IsSteady : Under → State → ℕ → Type 0
+IsSteady u s k =
+    (k < key_count) × IsIdle s k × ((i : Modifier) → look_in u s k ≡ Act (act.Mod i) → s.holder i ≡ None)
+    × ((l : Lock) → look_in u s k ≡ Act (act.Lock l) → l ≡ Scroll)
+
+-- the key holds a modifier, and looks up an action: a press of it keeps the state
+abbrev pub IsRepeated : Under → State → ℕ → Type 0
+IsRepeated u s k = (IsIdle s k → ⊥) × ((b : Action) × (look_in u s k ≡ Act b))
+
 -- Paths from a state: moves with the newest first, each possible in the state where the moves before it lead.
 abbrev pub state_from : Under → State → List Move → State
 state_from u s [] = s

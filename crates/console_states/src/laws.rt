@@ -1,11 +1,8 @@
-//! Laws that tie states and moves to lists of events: which paths leave a modifier on, what can be seen, visited and
-//! typed.
+//! Laws that tie states and moves to lists of events: which paths leave a modifier on, and what can be seen.
 ghost use Rattle.console_states.specs.Sticking.{NeverSticksUnlessReached, SticksIfReached};
 ghost use Rattle.console_states.specs.Sticking.{SafeNeverSticksBetween, SafeNeverForgets, SafeNeverAnswersSticks};
 ghost use Rattle.console_states.specs.Sticking.{AnswersAlikeOfOneKeymap};
 ghost use Rattle.console_states.specs.Sights.{LooksAreSelected, SightsAreReachable, ReachableIsSeen};
-ghost use Rattle.console_states.specs.Typing.{TypedCanBeTyped};
-ghost use Rattle.console_states.specs.Visiting.{SeenCanBeVisited};
 
 /// A keymap, or two that loads exchange, can leave a modifier on while no key is pressed exactly if a path of moves
 /// leads to a state where a key that holds a modifier looks up a character: then the events along the path, a repeat of
@@ -39,15 +36,4 @@ pub fn sights_are_reachable()
     ensures selected { LooksAreSelected }
     ensures reachable { SightsAreReachable }
     ensures seen { ReachableIsSeen }
-{}
-
-/// What can be visited can be seen. Where no turn of a lock is one-way, all that can be seen can be visited.
-pub fn what_is_seen_can_be_visited()
-    ensures { SeenCanBeVisited }
-{}
-
-/// What an admitted list of presses, repeats, releases and resets types that leaves a new console as a new one, moves
-/// and taps can type. So where they can't type a character, no such list does.
-pub fn what_is_typed_can_be_typed()
-    ensures { TypedCanBeTyped }
 {}

@@ -1,20 +1,16 @@
-//! The events that lead home from a state that was met, and from where the search began to one.
-ghost use Rattle.std.specs.Prelude.{◌≡◌, ◌<◌, ◌++◌, ◌∷◌, List, length, reverse, OnOk, IfOk};
-ghost use Rattle.console_core.specs.declared.event.Event.TheVariants as event;
+//! The events that lead from where the search began to a state that was met.
+ghost use Rattle.std.specs.Prelude.{◌≡◌, ◌<◌, ◌++◌, List, length, reverse, OnOk, IfOk};
 ghost use Rattle.console_states.specs.declared.held.Move.{Move as MoveValue};
-ghost use Rattle.console_states.specs.Moves.{Under, events_along};
-ghost use Rattle.console_states.specs.Inner.Routes.{AllLeadHome, HasRoute, LeadsHome};
-ghost use Rattle.console_states.specs.Searching.{state_of, GoBack, IsTrail};
+ghost use Rattle.console_states.specs.Moves.{events_along};
+ghost use Rattle.console_states.specs.Searching.{GoBack, IsTrail};
 
-use crate::held::{Held, Move};
-use crate::routes::Routes;
+use crate::held::Move;
 use crate::search::{Met, entry};
 use console_core::Event;
-use keymap_core::KeyCode;
 use std::alloc::{AllocError, Global};
 
 /// Adds the events of the moves in their order.
-fn push_moves(events: &mut Vec<Event>, moves: &[Move]) -> Result<(), AllocError>
+pub fn push_moves(events: &mut Vec<Event>, moves: &[Move]) -> Result<(), AllocError>
     ensures { OnOk result (reverse events.new.items ≡ events_along (reverse moves.now) ++ reverse events.old.items) }
 {
     for by in moves {
@@ -40,19 +36,6 @@ fn moves_to(alloc: Global, met: &Met, place: usize) -> Result<Vec<Move>, AllocEr
     Ok(moves)
 }
 
-/// Adds the events that lead home from the state.
-pub fn come_home(events: &mut Vec<Event>, routes: &Routes, held: &Held) -> Result<(), AllocError>
-    requires { HasRoute routes.now.entries (state_of held.now) }
-    ensures { OnOk result ((u : Under) → AllLeadHome u routes.now.entries
-        → (moves : List MoveValue) × LeadsHome u (state_of held.now) moves
-        × (reverse events.new.items ≡ events_along (reverse moves) ++ reverse events.old.items)) }
-{
-    match routes.get(held) {
-        Some(route) => push_moves(events, &route.moves),
-        None => unreachable!(),
-    }
-}
-
 /// Adds the events that lead from home to the state at the place.
 pub fn go_out(
     events: &mut Vec<Event>,
@@ -67,13 +50,4 @@ pub fn go_out(
 {
     let moves = moves_to(alloc, met, place)?;
     push_moves(events, &moves)
-}
-
-/// Adds a press of the key and its release.
-pub fn tap(events: &mut Vec<Event>, key: KeyCode) -> Result<(), AllocError>
-    ensures { OnOk result (reverse events.new.items ≡ event.Release key ∷ event.Press key ∷ reverse events.old.items) }
-{
-    events.push(Event::Press(key))?;
-    events.push(Event::Release(key))?;
-    Ok(())
 }

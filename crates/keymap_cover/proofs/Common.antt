@@ -4,7 +4,7 @@ pub use Rattle.console_core.specs.Columns.{bit}
 pub use Rattle.console_core.specs.History.{Maps, between}
 unfoldable pub use Rattle.console_core.specs.History.{resolved}
 pub use Rattle.console_states.specs.Moves.{alone}
-pub use Rattle.console_states.specs.Visiting.{AreTaken, CanVisit, IsPair}
+pub use Rattle.console_scripts.specs.Visiting.{AreTaken, CanVisit, IsPair}
 pub use Rattle.console_states.specs.Sights.{AreSightsOf, IsReachable, SeesAlong}
 pub use Rattle.console_core.specs.declared.event.Event.{Event}
 pub use Rattle.console_states.specs.declared.selection.Sight.{Sight}

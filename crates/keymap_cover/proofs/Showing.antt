@@ -14,7 +14,7 @@ use Rattle.std.proofs.Math.Seq.{drop-append_seam, take-add}
 use Rattle.std.proofs.lemmas.List.{length-reverse, length-take-le, take_all}
 use Rattle.keymap_core.specs.declared.action.Lock.TheVariants.{Caps, Num, Scroll, Alt}
 use Rattle.console_core.specs.History.{HasNoLoads, IsNoLoad}
-use Rattle.console_states.specs.Visiting.{HasLocks, ExplorerValue, TurnsScrollOff, Visits}
+use Rattle.console_scripts.specs.Visiting.{HasLocks, ExplorerValue, TurnsScrollOff, Visits}
 use Rattle.keymap_cover.specs.Covering.{IsScrollOff}
 use Rattle.keymap_cover.specs.Inner.Scripts.{RunsAlong, IsScriptOf, IsUnderWay, GoesFurther, SeesAll, ShowsTold}
 use Rattle.keymap_cover.specs.Inner.Scripts.{EndsAtRest, GoesScrollOff, IsResting}

@@ -12,7 +12,7 @@ use Rattle.console_states.specs.declared.selection.Sight.{Sight}
 use Rattle.console_core.specs.History.{between, is_on_after, is_locked_after, accent_pending_after, HasKeys, IsQuiet}
 use Rattle.console_states.specs.Moves.{alone}
 use Rattle.console_states.specs.Returning.{NoTurnIsOneWay}
-use Rattle.console_states.specs.Visiting.{CanVisit, CannotScroll, IsPair}
+use Rattle.console_scripts.specs.Visiting.{CanVisit, CannotScroll, IsPair}
 use Rattle.console_states.specs.Sticking.{ReachesMoreThan, state_limit}
 use Rattle.console_states.specs.Sights.{SeesNext, SeesAlong, IsAdmitted, IsReachable, AreSightsOf, can_see}
 use Rattle.keymap_cover.specs.declared.parts.Cover.{Cover}

@@ -3,7 +3,7 @@ ghost use Rattle.std.specs.Prelude.{◌≡◌, ◌⊎◌, ◌+◌, ◌≤◌, []
 ghost use Rattle.console_states.specs.declared.selection.Sight.{Sight as SightValue};
 ghost use Rattle.console_core.specs.History.{between};
 ghost use Rattle.console_states.specs.Sights.{AreSightsOf, IsReachable};
-ghost use Rattle.console_states.specs.Visiting.{CanVisit};
+ghost use Rattle.console_scripts.specs.Visiting.{CanVisit};
 ghost use Rattle.keymap_cover.specs.Covering.{IsCover};
 ghost use Rattle.keymap_cover.specs.Inner.Scripts.{EndsAtRest, GoesFurther, GoesUnderWay, IsExplorerFor};
 ghost use Rattle.keymap_cover.specs.Inner.Scripts.{SeesAll, ShowsInParts, ShowsTold};
@@ -21,7 +21,8 @@ use crate::seen::Seen;
 use crate::told::{told_of_keys, told_pairs};
 use crate::trials::trial_events;
 use console_core::{PlainConsole, Translator};
-use console_states::{Explorer, Selection, Sight, Sights};
+use console_scripts::Explorer;
+use console_states::{Selection, Sight, Sights};
 use keymap_core::{KEY_COUNT, KeyCode, KeyMap, key_with};
 use std::alloc::{AllocError, Global};
 

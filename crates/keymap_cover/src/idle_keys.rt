@@ -1,5 +1,6 @@
 //! What keys that hold nothing look up in the states that were explored.
-use console_states::{Explorer, KeyAt, Reached, Selection};
+use console_scripts::{Explorer, KeyAt, Reached};
+use console_states::Selection;
 use keymap_core::{Cell, KEY_COUNT, KeyMap, key_with};
 use std::alloc::{AllocError, Global};
 

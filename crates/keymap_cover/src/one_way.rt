@@ -9,7 +9,8 @@ use crate::scroll::turn_scroll_off;
 use crate::seen::Seen;
 use crate::told::told_of_keys;
 use console_core::{Event, Translator};
-use console_states::{Onward, Sight, Sights, find_onward};
+use console_scripts::{Onward, find_onward};
+use console_states::{Sight, Sights};
 use keymap_core::{KEY_COUNT, KeyMap, key_with};
 use std::alloc::{AllocError, Global};
 

@@ -4,7 +4,7 @@ ghost use Rattle.keymap_cover.specs.Inner.Scripts.{GoesScrollOff};
 
 use crate::script::Script;
 use console_core::Translator;
-use console_states::scroll_off;
+use console_scripts::scroll_off;
 use keymap_core::{KeyMap, Lock};
 use std::alloc::{AllocError, Global};
 

@@ -2,12 +2,12 @@
 pub use Prim.Native.Nat.{suc}
 pub use Rattle.arrayvec.specs.ArrayVec.{array_vec_len}
 pub use Rattle.console_core.specs.History.{HasKey, HasKeys}
-pub use Rattle.console_states.specs.Typing.{AreEnds, characters_of}
+pub use Rattle.console_scripts.specs.Typing.{AreEnds, characters_of}
 pub use Rattle.console_core.specs.declared.event.Event.{Event}
 pub use Rattle.console_states.specs.declared.selection.Sight.{Sight}
 pub use Rattle.console_states.specs.declared.selection.Sight.TheVariants.{Pair}
-pub use Rattle.console_states.specs.declared.typing.Keyed.{Keyed}
-pub use Rattle.console_states.specs.declared.typing.Typing.{Typing}
+pub use Rattle.console_scripts.specs.declared.typing.Keyed.{Keyed}
+pub use Rattle.console_scripts.specs.declared.typing.Typing.{Typing}
 pub use Rattle.keymap_core.proofs.Lists.{All-reversed}
 pub use Rattle.keymap_core.specs.Actions.{name_of}
 unfoldable pub use Rattle.keymap_core.specs.CodePoints.{code_text}

@@ -19,7 +19,7 @@ use Rattle.keymap_core.specs.Bounds.{IsMap}
 use Rattle.keymap_core.specs.Maps.{accent_at, accent_or_blank}
 use Rattle.console_core.specs.Answers.{has_own}
 use Rattle.console_states.specs.Sights.{Enumerates, HasNoDoubles, IsReachable}
-use Rattle.console_states.specs.Visiting.{CanVisit, IsPair}
+use Rattle.console_scripts.specs.Visiting.{CanVisit, IsPair}
 use Rattle.console_states.specs.Inner.Adding.{Adds, IsWith}
 use Rattle.console_states.proofs.Adding.{adds-both, adds-none, adds-one}
 use Rattle.console_states.proofs.Visible.{any-member, some-member}

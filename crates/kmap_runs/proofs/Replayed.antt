@@ -18,7 +18,7 @@ use Rattle.keymap_text.specs.Sources.{TakesWhole, ReadsMap}
 use Rattle.keymap_text.proofs.Verdicts.{one_map}
 use Rattle.console_core.specs.History.{Maps, answers_to}
 use Rattle.console_states.specs.declared.outcome.Sticking.{Sticking}
-use Rattle.console_states.specs.Typing.{AreTyped}
+use Rattle.console_scripts.specs.Typing.{AreTyped}
 use Rattle.console_states.specs.declared.outcome.Sticking.TheVariants.{Sticks, Never, Undecided}
 use Rattle.console_states.specs.Sticking.{IsAnswer, IsAnswerBetween}
 use Rattle.keymap_check.specs.Report.{report_of}

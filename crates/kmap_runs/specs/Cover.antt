@@ -12,7 +12,7 @@ use Rattle.keymap_core.specs.Numbers.{slot_limit, column_count, accent_limit}
 use Rattle.console_states.specs.declared.selection.Sight.{Sight}
 use Rattle.console_states.specs.declared.selection.Sight.TheVariants.{Cell, Locks, Pair}
 use Rattle.console_states.specs.Sights.{Enumerates, IsReachable}
-use Rattle.console_states.specs.Visiting.{CanVisit, IsPair}
+use Rattle.console_scripts.specs.Visiting.{CanVisit, IsPair}
 use Rattle.keymap_cover.specs.Covering.{Covers, verdict_of, is_verdict, counts_of}
 use Rattle.keymap_cover.specs.SightLists.{all_cells, all_lock_settings}
 use Rattle.keymap_cover.specs.Told.{AreTold, IsTold}

@@ -14,7 +14,7 @@ use Rattle.keymap_draw.specs.Told.{AgreeWhereShown}
 use Rattle.keymap_draw.specs.WellFormed.{IsPlain, IsWellFormed}
 use Rattle.console_states.specs.declared.outcome.Sticking.{Sticking}
 use Rattle.console_states.specs.declared.outcome.Sticking.TheVariants.{Never}
-use Rattle.console_states.specs.declared.typing.Typing.{Typing}
+use Rattle.console_scripts.specs.declared.typing.Typing.{Typing}
 use Rattle.console_core.specs.Headline.{IsSafe}
 use Rattle.keymap_check.specs.Promises.{KeepsPromise}
 use Rattle.console_core.specs.History.{between}

@@ -4,9 +4,9 @@ use Rattle.std.specs.Prelude.{codes, if◌then◌else◌}
 use Rattle.std.specs.List.{flat_map, before_first}
 use Rattle.keymap_core.specs.Unseen.{is_unseen}
 use Rattle.console_core.specs.declared.event.Event.{Event}
-use Rattle.console_states.specs.declared.typing.Keyed.{Keyed}
-use Rattle.console_states.specs.declared.typing.Typing.{Typing}
-use Rattle.console_states.specs.Typing.{characters_of}
+use Rattle.console_scripts.specs.declared.typing.Keyed.{Keyed}
+use Rattle.console_scripts.specs.declared.typing.Typing.{Typing}
+use Rattle.console_scripts.specs.Typing.{characters_of}
 use Rattle.keymap_core.specs.CodePoints.{code_text}
 use Rattle.play_core.specs.Spelling.{event_line}
 use Rattle.kmap_runs.specs.Comments.{comment}

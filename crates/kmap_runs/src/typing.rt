@@ -1,12 +1,12 @@
 //! The script that types a sentence.
 ghost use Rattle.std.specs.Prelude.{◌≡◌, ◌++◌, true, length, OnOk, IfOk};
-ghost use Rattle.console_states.specs.Typing.{AreEnds, characters_of};
+ghost use Rattle.console_scripts.specs.Typing.{AreEnds, characters_of};
 ghost use Rattle.kmap_runs.specs.Typing as spec;
 
 use crate::event_lines::push_events;
 use crate::words::SENTENCE;
 use console_core::Event;
-use console_states::{Keyed, Typing};
+use console_scripts::{Keyed, Typing};
 use keymap_core::{code_text, is_unseen};
 use messages::parted;
 use std::alloc::{AllocError, Global};

@@ -7,8 +7,8 @@ use Rattle.std.specs.Char.{len_utf8}
 use Rattle.std.proofs.lemmas.Str.{encodes-append, length-encode}
 use Rattle.std.specs.Prelude.{filter, encode_utf8}
 use Rattle.keymap_core.specs.Maps.{MapValue}
-use Rattle.console_states.specs.declared.typing.Typing.{Typing}
-use Rattle.console_states.specs.Typing.{plainly, types_something}
+use Rattle.console_scripts.specs.declared.typing.Typing.{Typing}
+use Rattle.console_scripts.specs.Typing.{plainly, types_something}
 use Rattle.play_core.specs.Typing.{alone, IsTyped}
 use Rattle.console_core.specs.declared.event.Answer.TheVariants as answer
 

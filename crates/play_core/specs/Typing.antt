@@ -2,11 +2,11 @@
 use Rattle.std.specs.Prelude.{◌≡◌, ℕ, true, List, [], ◌∷◌, ◌++◌, length, All, ⊤}
 use Rattle.std.specs.Str.{IsUtf8, IsValidUpTo, all_scalars, encode_utf8_all}
 use Rattle.keymap_core.specs.Maps.{MapValue}
-use Rattle.console_states.specs.declared.typing.Typing.{Typing}
+use Rattle.console_scripts.specs.declared.typing.Typing.{Typing}
 use Rattle.console_core.specs.History.{Maps, between, answers_to}
 use Rattle.console_states.specs.Moves.{alone as under_alone}
 use Rattle.console_states.specs.Sticking.{ReachesMoreThan, state_limit}
-use Rattle.console_states.specs.Typing.{AreTyped, CanType}
+use Rattle.console_scripts.specs.Typing.{AreTyped, CanType}
 use Rattle.play_core.specs.declared.type_error.TypeError.{TypeError}
 use Rattle.play_core.specs.declared.type_error.TypeError.TheVariants.{Memory, NotText, NoWay, TooManyStates}
 use Rattle.play_core.specs.Written.{typed_text}

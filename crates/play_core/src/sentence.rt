@@ -4,7 +4,7 @@ ghost use Rattle.std.specs.Str.{encode_utf8_all};
 ghost use Rattle.play_core.specs.Typing.{IsTyped, IsTypeError};
 
 use crate::type_error::TypeError;
-use console_states::{Typing, TypingError, type_characters};
+use console_scripts::{Typing, TypingError, type_characters};
 use keymap_core::KeyMap;
 use std::alloc::Global;
 use std::str::from_utf8;

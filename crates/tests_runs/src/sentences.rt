@@ -2,7 +2,7 @@
 
 use crate::asserts::expect_equal_at;
 use console_core::Event;
-use console_states::Keyed;
+use console_scripts::Keyed;
 use keymap_text::read_map;
 use play_core::{TypeError, read_script, type_sentence};
 use std::alloc::Global;

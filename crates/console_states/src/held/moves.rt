@@ -13,12 +13,11 @@ ghost use Rattle.keymap_core.specs.declared.entry.Cell.TheVariants.{Act};
 ghost use Rattle.console_states.specs.Moves.{Under, start as start_state, is_held as is_held_in, look_in, IsIdle};
 ghost use Rattle.console_states.specs.Moves.{map_in, next_map, exchanged as exchanged_in, IsFree, free_with};
 ghost use Rattle.console_states.specs.Moves.{with_holder as with_holder_in, with_lock_turned, HolderForgets};
-ghost use Rattle.console_states.specs.Moves.{IsForgetful, events_of_move, releases, Holds, IsMove, moved};
+ghost use Rattle.console_states.specs.Moves.{IsForgetful, IsRepeated, IsSteady, events_of_move, releases, Holds, IsMove, moved};
 ghost use Rattle.console_states.specs.declared.held.Move.TheVariants.{Exchange as ExchangeMove};
 ghost use Rattle.console_states.specs.Sights.{selection_of, Offers};
 ghost use Rattle.console_states.specs.Returning.{IsHome, but_scroll, freed};
 ghost use Rattle.console_states.specs.Searching.{state_of, under_of, StepsTo, PressesLead, IsStep};
-ghost use Rattle.console_states.specs.Inner.Showing.{IsRepeated, IsSteady};
 ghost use Rattle.console_states.specs.Inner.HeldBytes.{holder_number, bytes_of, held-equal, bool_equal, same-bytes};
 
 use super::{Held, Keymaps, Move, Step};
@@ -335,7 +334,7 @@ impl Held {
     }
 
     /// Whether the key holds a modifier and looks up an action, so that one more press of it keeps the state.
-    pub(crate) fn is_repeated(&self, maps: &Keymaps, key: KeyCode) -> bool
+    pub fn is_repeated(&self, maps: &Keymaps, key: KeyCode) -> bool
         ensures { result ≡ true → IsRepeated (under_of maps.now) (state_of self.now) key }
     {
         match self.look(maps, key) {
@@ -345,7 +344,7 @@ impl Held {
     }
 
     /// Whether a press of the key and its release keep the state, but for the scroll lock.
-    pub(crate) fn is_steady(&self, maps: &Keymaps, key: KeyCode) -> bool
+    pub fn is_steady(&self, maps: &Keymaps, key: KeyCode) -> bool
         ensures { result ≡ true → IsSteady (under_of maps.now) (state_of self.now) key }
     {
         if self.holds(key) {

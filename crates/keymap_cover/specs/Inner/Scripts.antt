@@ -13,7 +13,7 @@ use Rattle.keymap_core.specs.declared.entry.Cell.TheVariants.{Char}
 use Rattle.console_states.specs.declared.selection.Selection.{Selection}
 use Rattle.console_states.specs.declared.selection.Sight.TheVariants as sight
 use Rattle.console_core.specs.History.{Maps, between, is_locked_after, pressed, HasKeys, IsNoLoad}
-use Rattle.console_states.specs.Visiting.{AreTaken, CanVisit, HasLocks, ExplorerValue}
+use Rattle.console_scripts.specs.Visiting.{AreTaken, CanVisit, HasLocks, ExplorerValue}
 use Rattle.console_states.specs.Sights.{look_selected, SeesNext, SeesAlong}
 use Rattle.console_states.specs.Sticking.{IsOfPressedKey}
 use Rattle.keymap_cover.specs.declared.script_event.ScriptEvent.{ScriptEvent}

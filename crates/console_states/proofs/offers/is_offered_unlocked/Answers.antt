@@ -1,5 +1,5 @@
 use Rattle.console_states.proofs.Common.{refl, state_of}
-use Rattle.console_states.proofs.RoutesHome.{all-off}
+use Rattle.console_states.proofs.Returning.{all-off}
 use Rattle.console_states.proofs.offers.is_offered_unlocked.Goals as goal
 
 pub returns-in-Some : goal.returns-in-Some

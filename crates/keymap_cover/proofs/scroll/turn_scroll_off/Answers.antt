@@ -1,7 +1,7 @@
 use Rattle.keymap_cover.proofs.Common.{[], refl, inl, inr, sym, reverse, subst, ◌∙◌, between, GoesAlongToRest}
 use Rattle.std.proofs.Common.{MatchOption}
 use Rattle.keymap_core.specs.declared.action.Lock.TheVariants.{Scroll}
-use Rattle.console_states.specs.Visiting.{CannotScroll, TurnsScrollOff}
+use Rattle.console_scripts.specs.Visiting.{CannotScroll, TurnsScrollOff}
 use Rattle.keymap_cover.proofs.Showing.{script-loads, walks-off}
 use Rattle.keymap_cover.proofs.scroll.turn_scroll_off.Goals as goal
 

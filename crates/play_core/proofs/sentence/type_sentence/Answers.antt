@@ -3,7 +3,7 @@ use Rattle.play_core.proofs.Common.{encode_utf8_all, AreTyped, rules}
 use Rattle.std.specs.Str.{IsUtf8, chars, all_scalars}
 use Rattle.std.proofs.lemmas.Str.{chars_from_encodes, encodes-chars, scalars-chars}
 use Rattle.std.proofs.lemmas.Option.{slice_get-get_or, slice_get_within, same_Some}
-use Rattle.console_states.specs.Typing.{CanType}
+use Rattle.console_scripts.specs.Typing.{CanType}
 use Rattle.play_core.proofs.Sentences.{split-item, typed-sentence}
 use Rattle.play_core.proofs.sentence.type_sentence.Goals as goal
 

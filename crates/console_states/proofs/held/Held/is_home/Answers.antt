@@ -1,5 +1,5 @@
 use Rattle.console_states.proofs.Common.{not-true, state_of, rules}
-use Rattle.console_states.proofs.RoutesHome.{all-off, none-on}
+use Rattle.console_states.proofs.Returning.{all-off, none-on}
 use Rattle.std.proofs.lemmas.Bool.{not-false}
 use Rattle.console_states.proofs.held.Held.is_home.Goals as goal
 

@@ -1,0 +1,64 @@
+-- The names of definitions and of std that more than one file of these proofs uses, passed on from one place.
+pub use Prim.Native.Nat.{suc, zero}
+pub use Rattle.console_core.specs.Answers.{answer_action, composed_by, usable}
+pub use Rattle.console_core.specs.Columns.{slot_of}
+pub use Rattle.console_core.specs.History.{HasKey, HasKeys, HasNoLoads, IsNoLoad, IsQuiet, accent_pending_after}
+pub use Rattle.console_core.specs.History.{between, in_force, is_locked_after, is_on_after, is_second_in_force}
+unfoldable pub use Rattle.console_core.specs.History.{pressed, resolved}
+pub use Rattle.console_core.specs.Inner.Kept.{next_pending}
+pub use Rattle.console_core.specs.Reading.{look_after, remembered_after}
+pub use Rattle.console_core.specs.Resolved.{ResolvedEvent, is_this_action, pending, resolve_press, taken_over}
+unfoldable pub use Rattle.console_core.specs.Resolved.{held, locked, look, remembered}
+pub use Rattle.console_core.specs.Resolved.ResolvedEvent.{PressedAction, PressedCharacter, ReleasedKey}
+pub use Rattle.console_scripts.specs.Inner.Exploring.{AreExplorations, AreKnown, CanAccent, CanReturn, GoesAndTaps}
+pub use Rattle.console_scripts.specs.Inner.Exploring.{HasTap, HasTyped, IsBase, IsExplored, IsExploredFrom, IsTapAt}
+pub use Rattle.console_scripts.specs.Inner.Exploring.{LeadsByTap, LetsGo, TypesOne, dead_tap, kept_if}
+pub use Rattle.console_scripts.specs.Inner.Exploring.{map_of_explored, origin_in, typed_along}
+pub use Rattle.console_scripts.specs.Inner.Routes.{AllLeadHome, AreSettled, HasRoute, IsAstray, LeadsHome}
+pub use Rattle.console_scripts.specs.Inner.Routes.{NoPressLeads, Routes}
+pub use Rattle.console_scripts.specs.Inner.Showing.{IsAim, IsAt, IsDeadFor, IsWhole, Leads, ShowsNot, locks_in}
+pub use Rattle.console_scripts.specs.Typing.{CanTap, CanType, ComesHome, IsAsNew, IsTapOf, cell_of, composed_of}
+pub use Rattle.console_scripts.specs.Typing.{plainly, types_something}
+pub use Rattle.console_scripts.specs.declared.explored.Explored.{Explored}
+pub use Rattle.console_scripts.specs.declared.explored.Symbol.{Symbol}
+pub use Rattle.console_scripts.specs.declared.explored.Tap.{Tap}
+pub use Rattle.console_states.specs.Inner.Standing.{Exact, Follows, HoldsSome, Stands}
+pub use Rattle.console_states.specs.Moves.{Holds, IsFree, IsIdle, IsMove, IsPath, IsPathFrom, IsRepeated, State}
+pub use Rattle.console_states.specs.Moves.{Under, alone, events_along, events_of_move, is_held, look_in, map_in}
+pub use Rattle.console_states.specs.Moves.{moved, presses_along, start, state_after, state_from, with_holder}
+pub use Rattle.console_states.specs.Moves.{with_lock_turned}
+pub use Rattle.console_states.specs.Returning.{IsAfter, IsHome, but_scroll, freed, unscrolled}
+pub use Rattle.console_states.specs.Searching.{Entries, Entry, HasEnded, IsReached, IsStep, IsTrail, PressesLead}
+pub use Rattle.console_states.specs.Searching.{Searched, StepsTo, state_of, under_of}
+pub use Rattle.console_states.specs.Sights.{AreSightsOf, IsAdmitted, IsPendingFor, IsReachable, SeesBy}
+pub use Rattle.console_states.specs.Sights.{look_selected, selection_of}
+pub use Rattle.console_states.specs.Sticking.{NeverForgets, ReachesMoreThanFrom, presses}
+pub use Rattle.console_states.specs.Types.{Act, Action, Alt, AltShift, Answer, Caps, Cell, Char, Event, Exchange}
+pub use Rattle.console_states.specs.Types.{Hold, Holding, LeftAlt, LeftControl, LeftShift, LetGo, Load, Lock, Meta}
+pub use Rattle.console_states.specs.Types.{Modifier, Move, Num, Press, Release, Reset, RightAlt, RightControl}
+pub use Rattle.console_states.specs.Types.{RightShift, Scroll, Sight, Turn}
+pub use Rattle.console_states.specs.declared.held.Held.{Held}
+pub use Rattle.console_states.specs.declared.held.Step.{Step}
+pub use Rattle.indexmap.specs.IndexMap.{insert_entry}
+pub use Rattle.keymap_core.proofs.Lists.{none_unless}
+pub use Rattle.keymap_core.proofs.SameActions.{same_action-true}
+pub use Rattle.keymap_core.specs.Accents.{own_of}
+pub use Rattle.keymap_core.specs.Actions.{holding_action, modifier_index, same_action, same_modifier}
+pub use Rattle.keymap_core.specs.Maps.{MapValue, accent_at}
+pub use Rattle.keymap_core.specs.Numbers.{key_count}
+pub use Rattle.std.proofs.Common.{All, Bool, Err, IfOk, IfSome, List, MatchOption, None, Ok, Option, Result, Some}
+pub use Rattle.std.proofs.Common.{[], ap, append_assoc, arith, below_more, eqb, false, filter, get_or}
+pub use Rattle.std.proofs.Common.{if◌then◌else◌, inl, inr, length, map, not, option_copied, refl, reverse, rules}
+pub use Rattle.std.proofs.Common.{slice_get, subst, sym, take, true, ℕ, ◌&&◌, ◌++◌, ◌+◌, ◌-◌, ◌<◌, ◌==◌, ◌∙◌, ◌∷◌}
+pub use Rattle.std.proofs.Common.{◌≡◌, ◌≢◌, ◌≤◌, ◌⊎◌}
+pub use Rattle.std.proofs.lemmas.Bool.{and_parts, cases_Bool, cases_lt, eq-eqb, eqb-true, false_from_ne_true}
+pub use Rattle.std.proofs.lemmas.Bool.{false≢true, true≢false}
+pub use Rattle.std.proofs.lemmas.List.{append-nil, get_or_default, reverse-append, reverse-reverse, take_all}
+pub use Rattle.std.proofs.lemmas.List.{take_more}
+pub use Rattle.std.proofs.lemmas.List.Elements.{All-cons, All-head, All-nil, Contains-append_left, Contains-push}
+pub use Rattle.std.proofs.lemmas.List.Elements.{Contains-push_cases}
+pub use Rattle.std.proofs.lemmas.Option.{none-some, same_Some, slice_get-get_or, slice_get_within}
+pub use Rattle.std.specs.List.{Contains}
+pub use Rattle.std.specs.Map.{keys_of, lookup}
+pub use Rattle.std.specs.Option.{is_some}
+pub use mathlib.Core.Path.{fun_ext}

@@ -1,0 +1,196 @@
+-- What an exploration met, and which taps can be made.
+use Rattle.console_scripts.proofs.Common.{◌≡◌, ◌⊎◌, ℕ, Bool, true, false, List, [], ◌∷◌, ◌++◌, length, slice_get, Some}
+use Rattle.console_scripts.proofs.Common.{None, refl, ap, subst, sym, ◌∙◌, inl, inr, reverse, append_assoc, rules}
+use Rattle.console_scripts.proofs.Common.{cases_Bool, Held, MapValue, Event, Press, Release, Move, Explored, Symbol}
+use Rattle.console_scripts.proofs.Common.{Tap}
+use Rattle.console_scripts.proofs.Common.{usable, Under, alone, State, start, state_after, IsPathFrom, state_from}
+use Rattle.console_scripts.proofs.Common.{events_along, ComesHome, IsTapOf, CanTap, CanType, composed_of}
+use Rattle.console_scripts.proofs.Common.{map_of_explored, origin_in, IsExplored, CanReturn, HasTap, LetsGo}
+use Rattle.console_scripts.proofs.Common.{GoesAndTaps}
+use Rattle.console_scripts.proofs.Common.{HasTyped, TypesOne, LeadsHome, Routes, AllLeadHome, HasRoute, AreSettled}
+use Rattle.console_scripts.proofs.Common.{freed, state_of, Entry, Entries, IsTrail, IsReached, Searched, unscrolled}
+use Rattle.console_scripts.proofs.Common.{Scroll}
+use Rattle.console_scripts.proofs.Entries.{none-found, found-has}
+use Rattle.console_core.proofs.OneMore.{is-nothing}
+use Rattle.console_states.proofs.SameStates.{are_same}
+use Rattle.console_scripts.specs.Inner.Exploring.{IsOrigin}
+use Rattle.console_states.proofs.Returning.{near-met, near-is_home}
+use Rattle.console_scripts.proofs.Astray.{strays-on, StraysTo, is-astray}
+use Rattle.console_states.proofs.Beginning.{reached-one}
+use Rattle.console_scripts.proofs.Taps.{added-by, adds, tap-types, tap-direct, tap-dead, tap-composed}
+use Rattle.console_states.proofs.Visits.{near-path, path-first, home-near}
+use Rattle.console_scripts.specs.declared.explored.Symbol.TheVariants as symbol
+
+-- a route that begins at a state leads home
+pub has-leads : (u : Under) (routes : Routes) (s : State) → AllLeadHome u routes → HasRoute routes s
+    → (moves : List Move) × LeadsHome u s moves
+has-leads u [] s all has = absurd has
+has-leads u (x ∷ routes) s all (inl is) = (x.1.moves.items, subst (λ t. LeadsHome u t x.1.moves.items) is all.0)
+has-leads u (x ∷ routes) s all (inr later) = has-leads u routes s all.1 later
+
+pub has-home : (u : Under) (routes : Routes) (s : State) → AllLeadHome u routes → HasRoute routes s → ComesHome u s
+has-home u routes s all has = let (moves, home) = has-leads u routes s all has in (reverse moves, home.0, home.1)
+
+-- a path behind another
+pub path-append : (u : Under) (s : State) (path later : List Move) → IsPathFrom u s path
+    → IsPathFrom u (state_from u s path) later
+    → IsPathFrom u s (later ++ path) × (state_from u s (later ++ path) ≡ state_from u (state_from u s path) later)
+path-append u s path [] is more = (is, refl)
+path-append u s path (move ∷ later) is more = search (rules, path-append u s path later is more.1)
+
+-- ---- a tap and the moves around it
+
+-- a tap at a place, and all holders let go, where a route begins then
+pub tap-freed : (u : Under) (o : State) (es : Entries) (routes : Routes) (j : ℕ) (x : Entry) (k : ℕ)
+    → (h h1 h2 now : List Event) (next : State) → IsReached u o es j x → AllLeadHome u routes
+    → ((path : List Move) → IsTrail es j path → h1 ≡ events_along path ++ h) → h2 ≡ Release k ∷ Press k ∷ h1
+    → LetsGo (state_of x.0) h2 now next → HasRoute routes (freed (state_of x.0))
+    → GoesAndTaps u o (state_of x.0) k h now next
+tap-freed u o es routes j x k h h1 h2 now next r all e1 e2 go has = record {
+  out = r.0;
+  back = go.path;
+  goes = r.2;
+  there = r.3;
+  returns = go.is u;
+  leads = go.leads u;
+  events = go.events ∙ ap (λ z. events_along go.path ++ z) (e2 ∙ ap (λ z. Release k ∷ Press k ∷ z) (e1 r.0 r.1));
+  free = λ i. ap (λ t. t.holder i) go.freed;
+  off = ap (λ t. t.is_locked Scroll) go.freed ∙ r.5;
+  home = subst (λ t. ComesHome u t) (sym go.freed) (has-home u routes (freed (state_of x.0)) all has);
+}
+
+-- a tap at a place, and the route home from there
+pub tap-home : (m : MapValue) (o : State) (es : Entries) (j : ℕ) (x : Entry) (k : ℕ) → (h h1 h2 now : List Event)
+    → (moves : List Move) (next : State) → IsOrigin o → IsReached (alone m) o es j x
+    → ((path : List Move) → IsTrail es j path → h1 ≡ events_along path ++ h) → h2 ≡ Release k ∷ Press k ∷ h1
+    → LeadsHome (alone m) (state_of x.0) moves → now ≡ events_along (reverse moves) ++ h2 → next ≡ start
+    → GoesAndTaps (alone m) o (state_of x.0) k h now next
+tap-home m o es j x k h h1 h2 now moves next origin r e1 e2 home e is =
+    search (rules, path-first, home-start)
+
+-- from a state that can return, moves and a tap lead to another one that can
+pub returns-next : (m : MapValue) (o s : State) (k : ℕ) (h now : List Event) (next : State) → CanReturn m o
+    → GoesAndTaps (alone m) o s k h now next
+    → CanReturn m next
+returns-next m o s k h now next st x = search (rules, path-append)
+
+-- a state that can return is an origin
+pub returns-origin : (m : MapValue) (s : State) → CanReturn m s → IsOrigin s
+returns-origin m s st = (st.off, ap (λ t. t.is_second) (sym st.leads) ∙ path-first m start st.path st.is)
+
+pub start-returns : (m : MapValue) → CanReturn m start
+start-returns m = search rules
+
+-- ---- which taps can be made
+
+-- a tap doesn't depend on the scroll lock
+tap-near : (u : Under) (s t : State) (plain : Bool) (x : Symbol) (k : ℕ) → unscrolled t ≡ unscrolled s
+    → IsTapOf u s plain x k
+    → IsTapOf u t plain x k
+tap-near u s t plain x k e is = subst (λ z. IsTapOf u z plain x k) (sym e) is
+
+-- moves from a state without a route stay astray
+strays-from : {os : List State} (m : MapValue) (es : Entries) (routes : Routes)
+    → Searched (alone m) os es (length es) (length es) → AreSettled (alone m) es routes → (s : State) (path : List Move)
+    → IsPathFrom (alone m) s path → StraysTo es routes s
+    → StraysTo es routes (state_from (alone m) s path)
+strays-from m es routes searched settled s [] is strays = strays
+strays-from m es routes searched settled s (move ∷ path) is strays =
+    search (rules, strays-on, strays-from m es routes searched settled s path is.1 strays)
+
+-- a route begins at a state, or none does
+route-or-none : (routes : Routes) (k : Held) → HasRoute routes (state_of k) ⊎ (HasRoute routes (state_of k) → ⊥)
+route-or-none routes k = search (rules, cases_Bool, are_same, found-has, none-found, is-nothing)
+
+-- a route begins where moves lead home from
+pub comes-route : {os : List State} (m : MapValue) (es : Entries) (routes : Routes)
+    → Searched (alone m) os es (length es) (length es) → AreSettled (alone m) es routes → (j : ℕ) (x : Entry)
+    → slice_get es j ≡ Some x → ComesHome (alone m) (state_of x.0)
+    → HasRoute routes (state_of x.0)
+comes-route m es routes searched settled j x at (later, is, home) = elim (route-or-none routes x.0) [
+  | inl has ↦ has
+  | inr none ↦
+      let (i, y, there, near, no_route) =
+      strays-from m es routes searched settled (state_of x.0) later is (j, x, at, refl, none) in
+      absurd ((is-astray (alone m) es routes settled i y there no_route).0
+      (near-is_home (state_from (alone m) (state_of x.0) later) (state_of y.0) near home))
+]
+
+-- what can be tapped at all can be tapped in a complete exploration
+pub can-tap-met : (e : Explored) → IsExplored e → e.is_complete ≡ true → CanReturn (map_of_explored e) (origin_in e)
+    → (t : Tap) → CanTap (map_of_explored e) t.is_plain t.symbol
+    → HasTap e t
+can-tap-met e x complete st t (path, is, (later, goes, home), (k, tap)) =
+    let m : MapValue = map_of_explored e in
+    let u : Under = alone m in
+    let o : State = origin_in e in
+    let es : Entries = e.met.entries in
+    let (searched, settled) = x.whole complete in
+    let (back, returns, at_home) = st.home in
+    let base : State = state_from u o back in
+    let first : base.is_second ≡ false =
+    path-first m o back returns ∙ (returns-origin m o st).1 in
+    let near : unscrolled base ≡ unscrolled start = home-near base at_home first in
+    let q = near-path u start base path near is in
+    let all = path-append u o back path returns q.0 in
+    let (j, y, at, met) = near-met u es searched (path ++ back) all.0 in
+    let s : State = state_of y.0 in
+    let same : unscrolled s ≡ unscrolled (state_after u path) = met ∙ ap (λ z. unscrolled z) all.1 ∙ q.1 in
+    let ends = near-path u (state_after u path) s later same goes in
+    let route : HasRoute e.routes.entries s =
+    comes-route m es e.routes.entries searched settled j y at (
+      later,
+      ends.0,
+      near-is_home (state_from u (state_after u path) later) (state_from u s later) ends.1 home,
+    ) in
+    (j, k, (y, at, route, tap-near u (state_after u path) s t.is_plain t.symbol k same tap))
+
+-- what an exploration finds can be tapped
+pub tap-can : (e : Explored) → IsExplored e → CanReturn (map_of_explored e) (origin_in e) → (t : Tap) → HasTap e t
+    → CanTap (map_of_explored e) t.is_plain t.symbol
+tap-can e x st t (j, k, (y, at, has, tap)) =
+    let m : MapValue = map_of_explored e in
+    let u : Under = alone m in
+    let r : IsReached u (origin_in e) e.met.entries j y = reached-one x.searched j y at in
+    let all = path-append u start st.path r.0 st.is (subst (λ s. IsPathFrom u s r.0) (sym st.leads) r.2) in
+    let there : state_after u (r.0 ++ st.path) ≡ state_of y.0 =
+    all.1 ∙ ap (λ s. state_from u s r.0) st.leads ∙ r.3 in (
+      r.0 ++ st.path,
+      all.0,
+      subst (λ s. ComesHome u s) (sym there) (has-home u e.routes.entries (state_of y.0) x.home has),
+      (k, subst (λ s. IsTapOf u s t.is_plain t.symbol k) (sym there) tap),
+    )
+
+-- ---- one character
+
+-- a character typed by one tap
+pub types-direct : (m : MapValue) (o s : State) (c k : ℕ) (h now : List Event) (next : State) → CanReturn m o
+    → GoesAndTaps (alone m) o s k h now next → IsTapOf (alone m) s true (symbol.Character c) k → CanType m c
+    → TypesOne m c o h now next
+types-direct m o s c k h now next st x tap can = record {
+  can = can;
+  can_return = returns-next m o s k h now next st x;
+  added = added-by x;
+  events = adds x;
+  types = λ g cs before.
+      tap-types m o s k h now next None None cs (cs ++ c ∷ []) x (λ g t. tap-direct m g s cs c k t tap) g before;
+}
+
+-- by a dead key and a tap behind it
+pub types-composed : (m : MapValue) (o s mid t : State) (i : ℕ) (y : Symbol) (c k n : ℕ) (h between now : List Event)
+    → (next : State) → CanReturn m o → GoesAndTaps (alone m) o s k h between mid
+    → IsTapOf (alone m) s false (symbol.DeadKey i) k → usable m i ≡ true
+    → GoesAndTaps (alone m) mid t n between now next → IsTapOf (alone m) t true y n → composed_of m i y ≡ Some c
+    → CanType m c → TypesOne m c o h now next
+types-composed m o s mid t i y c k n h between now next st x dead can_use z tap made can = record {
+  can = can;
+  can_return = returns-next m mid t n between now next (returns-next m o s k h between mid st x) z;
+  added = added-by z ++ added-by x;
+  events = adds z ∙ ap (λ w. added-by z ++ w) (adds x) ∙ sym (append_assoc (added-by z) (added-by x) h);
+  types = λ g cs before.
+      subst (λ w. HasTyped m w next None (cs ++ c ∷ [])) (sym (append_assoc (added-by z) (added-by x) g))
+      (tap-types m mid t n between now next (Some i) None cs (cs ++ c ∷ []) z
+      (λ g b. tap-composed m g t cs i y c n b tap can_use made) (added-by x ++ g)
+      (tap-types m o s k h between mid None (Some i) cs cs x (λ g b. tap-dead m g s cs i k b dead can_use) g
+      before));
+}

@@ -1,0 +1,16 @@
+pub mod Aiming
+pub mod Approaching
+pub mod Astray
+pub mod Bases
+pub mod Choosing
+pub mod Common
+pub mod Entries
+pub mod Exploring
+pub mod Known
+pub mod Leading
+pub mod Refused
+pub mod RoutesHome
+pub mod Scrolling
+pub mod Taps
+pub mod Typings
+pub mod Visitable

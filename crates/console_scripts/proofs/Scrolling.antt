@@ -1,0 +1,102 @@
+-- Moves and a press turn the scroll lock off.
+use Rattle.console_scripts.proofs.Common.{◌≡◌, ℕ, Bool, true, not, List, [], ◌∷◌, ◌++◌, refl, ap, subst, sym, ◌∙◌}
+use Rattle.console_scripts.proofs.Common.{inl, inr, append_assoc, cases_Bool, true≢false, fun_ext}
+use Rattle.console_scripts.proofs.Common.{MapValue, Lock, Caps, Num, Scroll, Alt, Event, Press, Reset, Move, Hold, Turn}
+use Rattle.console_scripts.proofs.Common.{LetGo, Exchange, between, is_locked_after, HasKeys, HasNoLoads, Under, alone}
+use Rattle.console_scripts.proofs.Common.{State, IsMove, IsPathFrom, state_from, events_along, but_scroll, unscrolled}
+use Rattle.console_scripts.proofs.Common.{Explored, IsExplored, IsTrail, map_of_explored, origin_in, state_of}
+use Rattle.console_scripts.proofs.Common.{ReachesMoreThanFrom}
+use Rattle.console_states.specs.Sticking.{state_limit}
+use Rattle.console_scripts.specs.declared.explored.KeyAt.{KeyAt}
+use Rattle.console_states.specs.Moves.{free_with}
+use Rattle.console_scripts.specs.Visiting.{CannotScroll, TurnsScrollOff, resting_after}
+use Rattle.console_scripts.specs.Inner.Showing.{IsTurnAt, IsUnturned}
+use Rattle.console_states.specs.Inner.Standing.{free_after}
+use Rattle.console_scripts.proofs.Approaching.{at-reset}
+use Rattle.console_scripts.proofs.Leading.{out-leads}
+use Rattle.console_states.proofs.Returning.{near-met}
+use Rattle.console_states.proofs.Standing.{stands-from, stands-reset}
+use Rattle.console_states.proofs.Beginning.{reached-one}
+use Rattle.console_states.proofs.Unscrolled.{moves-unscrolled, same_states}
+use Rattle.console_states.proofs.Visits.{near-path, press-turns}
+
+-- two states that differ in the scroll lock differ in it wherever a path leads
+differs-along : (m : MapValue) (s t : State) (path : List Move) → t.is_locked Scroll ≡ not (s.is_locked Scroll)
+    → IsPathFrom (alone m) s path
+    → (state_from (alone m) t path).is_locked Scroll ≡ not ((state_from (alone m) s path).is_locked Scroll)
+differs-along m s t [] e is = e
+differs-along m s t (Hold k i ∷ path) e is = differs-along m s t path e is.1
+differs-along m s t (Turn k Caps ∷ path) e is = differs-along m s t path e is.1
+differs-along m s t (Turn k Num ∷ path) e is = differs-along m s t path e is.1
+differs-along m s t (Turn k Scroll ∷ path) e is = ap not (differs-along m s t path e is.1)
+differs-along m s t (Turn k Alt ∷ path) e is = differs-along m s t path e is.1
+differs-along m s t (LetGo k i ∷ path) e is = differs-along m s t path e is.1
+differs-along m s t (Exchange ∷ path) e is = absurd (true≢false (sym is.0.1))
+
+-- where a console shows that it rests
+pub shown-resting : (m : MapValue) (h : List Event) (on : Lock → Bool)
+    → ((l : Lock) → on l ≡ is_locked_after (between m m) l h) → free_with (but_scroll on) ≡ resting_after m h
+shown-resting m h on e = ap (λ f. free_with (but_scroll f)) (fun_ext e)
+
+-- the scroll lock aside, that is where it stands behind a reset
+near-resting : (m : MapValue) (h : List Event) → unscrolled (free_after m h) ≡ unscrolled (resting_after m h)
+near-resting m h = same_states _ _ (λ i. refl) lock refl
+  where
+    lock : (l : Lock) → (unscrolled (free_after m h)).is_locked l ≡ (unscrolled (resting_after m h)).is_locked l
+    lock Caps = refl
+    lock _ = refl
+
+-- no moves lead to a turn where no press turns it in what was met
+pub unturned : (e : Explored) → IsExplored e → IsUnturned e → (h : List Event)
+    → origin_in e ≡ resting_after (map_of_explored e) h → CannotScroll (map_of_explored e) h
+unturned e x none h same (path, k, is) = subst (λ s. (p : ℕ) × ReachesMoreThanFrom u s state_limit p) same
+    (elim (cases_Bool e.is_complete) [
+      | inl complete ↦
+          let from = subst (λ s. IsPathFrom u s (Turn k Scroll ∷ path)) (sym same) is in
+          let (j, z, at, near) = near-met u e.met.entries (x.whole complete).0 path from.1 in
+          absurd (none j k z at (subst (λ v. IsMove v (state_of z.0) (Turn k Scroll)) (sym x.under)
+          (moves-unscrolled u (state_from u (origin_in e) path) (state_of z.0) (Turn k Scroll) near from.0)))
+      | inr more ↦ x.more more
+    ])
+  where
+    u : Under
+    u = alone (map_of_explored e)
+
+-- a reset, the events to a place, and a press there that turns it
+pub turns-off : (e : Explored) → IsExplored e → (at : KeyAt) → IsTurnAt e at → (h : List Event)
+    → origin_in e ≡ resting_after (map_of_explored e) h → HasKeys h → HasNoLoads h
+    → is_locked_after (between (map_of_explored e) (map_of_explored e)) Scroll h ≡ true
+    → (old there now : List Event) → old ≡ Reset ∷ []
+    → ((path : List Move) → IsTrail e.met.entries at.place path → there ≡ events_along path ++ old)
+    → now ≡ Press at.key ∷ there → TurnsScrollOff (map_of_explored e) h now
+turns-off e x at (y, here, move) h same keys none on old there now is out last =
+    let m : MapValue = map_of_explored e in
+    let u : Under = alone m in
+    let s : State = origin_in e in
+    let t : State = free_after m h in
+    let (path, trail, from, leads, presses, off) = reached-one x.searched at.place y here in
+    let near : unscrolled t ≡ unscrolled s = near-resting m h ∙ ap (λ z. unscrolled z) (sym same) in
+    let (goes, alike) = near-path u s t path near from in
+    let stands = stands-from u (Reset ∷ h) t path (stands-reset m h keys none) goes in
+    let is_on : (state_from u t path).is_locked Scroll ≡ true =
+    differs-along m s t path (on ∙ sym (ap not x.origin.0)) from ∙ ap (λ z. not (z.is_locked Scroll)) leads
+    ∙ ap not off in
+    let (lt, idle, seen) : IsMove u (state_from u t path) (Turn at.key Scroll) =
+    moves-unscrolled u (state_of y.0) (state_from u t path) (Turn at.key Scroll)
+    (alike ∙ ap (λ z. unscrolled z) leads)
+    (subst (λ v. IsMove v (state_of y.0) (Turn at.key Scroll)) x.under move) in
+    let behind : there ++ h ≡ events_along path ++ Reset ∷ h =
+    ap (λ z. z ++ h) (out path trail ∙ ap (λ z. events_along path ++ z) is)
+    ∙ append_assoc (events_along path) (Reset ∷ []) h in
+    let rests = at-reset m s h (λ i. ap (λ z. z.holder i) same) x.origin.1 keys none (
+      ap (λ z. z.is_locked Caps) (sym same),
+      ap (λ z. z.is_locked Num) (sym same),
+      ap (λ z. z.is_locked Alt) (sym same),
+    ) in
+    let led = out-leads e x at.place y here old there out h (rw is rests) in
+    rw last (
+      (refl, tt, led.0.taken),
+      rw behind
+          (press-turns m (events_along path ++ Reset ∷ h) (state_from u t path) at.key Scroll stands idle seen Scroll
+          ∙ ap not is_on),
+    )

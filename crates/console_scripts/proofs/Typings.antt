@@ -1,0 +1,220 @@
+-- Characters typed one after another, and that a console is as new behind them.
+use Rattle.console_scripts.proofs.Common.{zero, suc, ◌≡◌, ◌+◌, ◌<◌, ◌≤◌, ◌⊎◌, ℕ, Bool, inl, inr, true, false, List}
+use Rattle.console_scripts.proofs.Common.{[], ◌∷◌, ◌++◌, All, Some, None, refl, ap, subst, sym, ◌∙◌, arith}
+use Rattle.console_scripts.proofs.Common.{append_assoc}
+use Rattle.console_scripts.proofs.Common.{map, reverse, take, length, get_or, slice_get, if◌then◌else◌, filter, rules}
+use Rattle.console_scripts.proofs.Common.{false_from_ne_true, reverse-append, reverse-reverse, take_more, take_all}
+use Rattle.console_scripts.proofs.Common.{All-nil, none-some, same_Some, MapValue, Event, Answer, between}
+use Rattle.console_scripts.proofs.Common.{accent_pending_after, HasKey, HasKeys, alone}
+use Rattle.console_scripts.proofs.Common.{State, start, state_from, events_along, CanType, IsAsNew, plainly}
+use Rattle.console_scripts.proofs.Common.{types_something, HasTyped, CanReturn, TypesOne, kept_if, typed_along}
+use Rattle.console_scripts.proofs.Common.{IsQuiet, Stands, append-nil}
+use Rattle.console_scripts.specs.Inner.Exploring.{GoesHome}
+use Rattle.console_core.specs.History.{answers_to}
+use Rattle.std.proofs.Common.{drop}
+use Rattle.std.proofs.Math.Seq.{drop-append_seam}
+use Rattle.std.proofs.lemmas.List.{map_push, length-append, length-map, length-take-le, take-append-le}
+use Rattle.std.proofs.lemmas.List.Elements.{All-push}
+use Rattle.console_scripts.specs.declared.typing.Keyed.{Keyed}
+use Rattle.console_scripts.specs.declared.typing.Typing.{Typing}
+use Rattle.keymap_core.proofs.Lists.{All-reversed}
+use Rattle.console_scripts.specs.Typing.{AreEnds, AreParts, AreTyped, Types, characters_of}
+use Rattle.console_core.proofs.Deliveries.{reverse-cons}
+use Rattle.console_scripts.proofs.Exploring.{start-returns}
+use Rattle.console_states.proofs.Returning.{home-start}
+use Rattle.console_states.proofs.Standing.{idle-none, stands-start}
+use Rattle.console_core.proofs.OneMore.{pending-start, resolved-start}
+use Rattle.console_states.proofs.Going.{pending-is}
+use Rattle.console_scripts.proofs.Taps.{quiet-free, walked}
+use Rattle.console_states.proofs.Visits.{path-first}
+
+-- a console that stands at the start, with nothing pending, is as a new one
+pub as-new : (m : MapValue) (h : List Event) → Stands (alone m) h start → accent_pending_after (between m m) h ≡ None
+    → IsAsNew m h
+as-new m h st none = search (rules, false_from_ne_true, none-some, idle-none)
+
+-- the answers that type something, in their order
+kept-filter : (t : Bool) (a : Answer) (xs ys : List Answer)
+    → reverse (if t then a ∷ xs else xs) ++ ys ≡ reverse xs ++ (kept_if t a ++ ys)
+kept-filter true a xs ys = cc (reverse-append (a ∷ []) xs, append_assoc (reverse xs) (a ∷ []) ys)
+kept-filter false a xs ys = refl
+
+answers-along : (m : MapValue) (h es : List Event)
+    → typed_along m (reverse es ++ h)
+    ≡ reverse (filter types_something (answers_to (between m m) h es)) ++ typed_along m h
+answers-along m h [] = refl
+answers-along m h (e ∷ es) = search (rules, reverse-cons, kept-filter, answers-along m (e ∷ h) es)
+
+map-reverse : {A B : Type 0} (f : A → B) (xs : List A) → map f (reverse xs) ≡ reverse (map f xs)
+map-reverse f [] = refl
+map-reverse f (x ∷ xs) =
+    cc (reverse-append (x ∷ []) xs, map_push f (reverse xs) x, map-reverse f xs, reverse-append (f x ∷ []) (map f xs))
+
+typed-answers : (m : MapValue) (es : List Event) (cs : List ℕ) → typed_along m (reverse es) ≡ map plainly (reverse cs)
+    → Types m es cs
+typed-answers m es cs e =
+    let xs : List Answer = filter types_something (answers_to (between m m) [] es) in
+    let back : reverse xs ≡ map plainly (reverse cs) =
+    cc (append-nil (reverse xs), answers-along m [] es, append-nil (reverse es), e) in
+    sym (reverse-reverse xs) ∙ ap (λ z. reverse z) (back ∙ map-reverse plainly cs) ∙ reverse-reverse (map plainly cs)
+
+-- ---- one after another
+
+-- the characters up to the place were typed
+pub record HaveBeenTyped (m : MapValue) (cs : List ℕ) (place : ℕ) (keyed : List Keyed) (es : List Event)
+    (s : State) : Type 0
+  where
+    pub can_return : CanReturn m s
+    pub characters : characters_of keyed ≡ take place cs
+    pub ends : AreEnds 0 keyed (length es)
+    pub parts : AreParts m cs keyed es
+    pub can : All (λ c. CanType m c) (take place cs)
+    pub typed : HasTyped m (reverse es) s None (take place cs)
+    pub below : place ≤ length cs
+
+pub typed-none : (m : MapValue) (cs : List ℕ) (keyed : List Keyed) (es : List Event) (s : State) → keyed ≡ [] → es ≡ []
+    → s ≡ start
+    → HaveBeenTyped m cs 0 keyed es s
+typed-none m cs keyed es s none nothing is = record {
+  can_return = subst (λ t. CanReturn m t) (sym is) (start-returns m);
+  characters = ap characters_of none;
+  ends = subst (λ z. AreEnds 0 z (length es)) (sym none) (omega arith);
+  parts = subst (λ z. AreParts m cs z es) (sym none) (λ i k at. absurd (none-some k at));
+  can = All-nil (λ c. CanType m c);
+  typed = record {
+    stands = rw (nothing, is) (stands-start (alone m));
+    changes = rw nothing tt;
+    pending = cc (nothing, pending-is m [], resolved-start (between m m), pending-start m);
+    typed = ap (λ z. typed_along m (reverse z)) nothing;
+  };
+  below = omega arith;
+}
+
+-- the element at a place of a list with one more is an old one or the last
+last-cases : {X : Type 0} (xs : List X) (y x : X) (i : ℕ) → slice_get (xs ++ y ∷ []) i ≡ Some x
+    → (slice_get xs i ≡ Some x) ⊎ ((i ≡ length xs) × (y ≡ x))
+last-cases [] y x zero at = inr (refl, same_Some y x at)
+last-cases [] y x (suc i) at = absurd (none-some x at)
+last-cases (z ∷ xs) y x zero at = inl at
+last-cases (z ∷ xs) y x (suc i) at =
+    elim (last-cases xs y x i at) [ inl old ↦ inl old | inr new ↦ inr (ap (λ n. suc n) new.0, new.1) ]
+
+-- a further end behind the others
+ends-more : (from last : ℕ) (ks : List Keyed) (k : Keyed) → AreEnds from ks last → last ≤ k.end
+    → AreEnds from (ks ++ k ∷ []) k.end
+ends-more from last [] k ends le = (omega (arith, ends, le), omega arith)
+ends-more from last (j ∷ ks) k ends le = (ends.0, ends-more j.end last ks k ends.1 le)
+
+ends-later : (from last later : ℕ) (ks : List Keyed) → AreEnds from ks last → last ≤ later → AreEnds from ks later
+ends-later from last later [] ends le = omega (arith, ends, le)
+ends-later from last later (j ∷ ks) ends le = (ends.0, ends-later j.end last later ks ends.1 le)
+
+-- what parts type stays so when events are added
+parts-later : (m : MapValue) (cs : List ℕ) (ks : List Keyed) (es more : List Event) → AreParts m cs ks es
+    → AreParts m cs ks (es ++ more)
+parts-later m cs ks es more parts i k at =
+    let (le, quiet, types) = parts i k at in
+    let same : take k.end es ≡ take k.end (es ++ more) = sym (take-append-le k.end es more le) in (
+      omega (arith, le, length-append es more),
+      subst (λ z. IsQuiet (reverse z)) same quiet,
+      subst (λ z. Types m z (take (i + 1) cs)) same types,
+    )
+
+-- the events that a way adds stand behind the old ones
+added-behind : (m : MapValue) (c : ℕ) (s next : State) (old now : List Event)
+    → (types : TypesOne m c s (reverse old) (reverse now) next) → now ≡ old ++ reverse types.added
+added-behind m c s next old now types =
+    cc (reverse-reverse now, types.events, reverse-append types.added (reverse old), reverse-reverse old)
+
+pub fits-behind : (m : MapValue) (c : ℕ) (s next : State) (old now : List Event)
+    → TypesOne m c s (reverse old) (reverse now) next → length old ≤ length now
+fits-behind m c s next old now types =
+    omega (arith, ap length (added-behind m c s next old now types), length-append old (reverse types.added))
+
+-- the events that are added to others are a way by themselves
+pub types-alone : (m : MapValue) (c : ℕ) (s next : State) (old now : List Event)
+    → TypesOne m c s (reverse old) (reverse now) next → TypesOne m c s [] (reverse (drop (length old) now)) next
+types-alone m c s next old now types = record {
+  can = types.can;
+  can_return = types.can_return;
+  added = types.added;
+  events = ap (λ z. reverse (drop (length old) z)) (added-behind m c s next old now types)
+      ∙ ap (λ z. reverse z) (drop-append_seam old (reverse types.added)) ∙ reverse-reverse types.added
+      ∙ sym (append-nil types.added);
+  types = types.types;
+}
+
+-- events that type a character, behind others
+pub types-behind : (m : MapValue) (c : ℕ) (s next : State) (old es now : List Event)
+    → TypesOne m c s [] (reverse es) next → now ≡ old ++ es → TypesOne m c s (reverse old) (reverse now) next
+types-behind m c s next old es now types e = search (rules, reverse-append, append-nil)
+
+pub typed-one : (m : MapValue) (cs : List ℕ) (place : ℕ) (keyed after : List Keyed) (es now : List Event) (s : State)
+    → (k : Keyed) (next : State) → HaveBeenTyped m cs place keyed es s → place < length cs
+    → k.character ≡ get_or cs place k.character → k.end ≡ length now
+    → TypesOne m k.character s (reverse es) (reverse now) next → after ≡ keyed ++ k ∷ []
+    → HaveBeenTyped m cs (place + 1) after now next
+typed-one m cs place keyed after es now s k next x lt is ends types e =
+    let c : ℕ = k.character in
+    let more : take (place + 1) cs ≡ take place cs ++ c ∷ [] =
+    take_more cs place c lt ∙ ap (λ z. take place cs ++ z ∷ []) (sym is) in
+    let typed : HasTyped m (reverse now) next None (take (place + 1) cs) =
+    rw (more, types.events) (types.types (reverse es) (take place cs) x.typed) in
+    let behind : now ≡ es ++ reverse types.added = added-behind m c s next es now types in
+    let le : length es ≤ length now = fits-behind m c s next es now types in
+    let count : length keyed ≡ place =
+    sym (length-map keyed (λ (k : Keyed). k.character)) ∙ ap length x.characters
+    ∙ length-take-le place cs x.below in
+    record {
+      can_return = types.can_return;
+      characters = ap characters_of e ∙ map_push (λ (k : Keyed). k.character) keyed k
+          ∙ ap (λ z. z ++ c ∷ []) x.characters ∙ sym more;
+      ends = rw (e, ← ends) (ends-more 0 (length es) keyed k x.ends (omega (arith, ends, le)));
+      parts = λ i j at. elim (last-cases keyed k j i (subst (λ z. slice_get z i ≡ Some j) e at)) [
+        | inl old ↦ rw behind (parts-later m cs keyed es (reverse types.added) x.parts i j old)
+        | inr (here, same) ↦
+            let end : j.end ≡ length now = ap (λ (z : Keyed). z.end) (sym same) ∙ ends in
+            let all : take j.end now ≡ now = take_all j.end now (omega (arith, end)) in (
+              omega (arith, end),
+              rw all (quiet-free (alone m) (reverse now) next typed.stands types.can_return.free),
+              rw (here ∙ count, all) (typed-answers m now (take (place + 1) cs) typed.typed),
+            )
+      ];
+      can = rw more (All-push (λ c. CanType m c) (take place cs) c x.can types.can);
+      typed = typed;
+      below = omega (arith, lt);
+    }
+
+-- all were typed, and the console is home
+pub typed-all : (m : MapValue) (cs : List ℕ) (place : ℕ) (x : Typing) (es : List Event) (s : State)
+    → HaveBeenTyped m cs place x.keyed.items es s → take place cs ≡ cs
+    → GoesHome (alone m) s (reverse es) (reverse x.events.items) → (cs ≡ [] → x.events.items ≡ [])
+    → AreTyped m cs x
+typed-all m cs place x es s typed all (back, is, home, off, e) none =
+    let now : List Event = x.events.items in
+    let there : State = state_from (alone m) s back in
+    let first : there.is_second ≡ false =
+    cc (path-first m s back is, typed.can_return.leads, path-first m start typed.can_return.path typed.can_return.is) in
+    let ends : there ≡ start = home-start there home first off in
+    let end : HasTyped m (reverse now) start None cs =
+    rw (e, ← ends, ← all) (walked m (reverse es) s None (take place cs) back typed.typed is) in
+    let behind : now ≡ es ++ reverse (events_along back) =
+    cc (reverse-reverse now, e, reverse-append (events_along back) (reverse es), reverse-reverse es) in
+    record {
+      characters = typed.characters ∙ all;
+      ends = ends-later 0 (length es) (length now) x.keyed.items typed.ends
+          (omega (arith, ap length behind, length-append es (reverse (events_along back))));
+      keys = subst HasKeys (reverse-reverse now) (All-reversed HasKey (reverse now) end.stands.keys);
+      changes = end.changes;
+      none = none;
+      types = typed-answers m now cs end.typed;
+      parts = rw behind (parts-later m cs x.keyed.items es (reverse (events_along back)) typed.parts);
+      new = as-new m (reverse now) end.stands end.pending;
+    }
+
+-- nothing is typed where there was nothing to type
+pub typed-nothing : (m : MapValue) (cs : List ℕ) (x : Typing) → cs ≡ [] → x.keyed.items ≡ [] → x.events.items ≡ []
+    → AreTyped m cs x
+typed-nothing m cs x empty keyed events =
+    typed-all m cs 0 x [] start (typed-none m cs x.keyed.items [] start keyed refl refl) (sym empty)
+    ([], tt, ((λ i. refl), (λ l other. refl)), refl, ap (λ z. reverse z) events) (λ e. events)

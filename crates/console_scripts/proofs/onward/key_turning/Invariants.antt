@@ -1,0 +1,7 @@
+-- no press of a key below the code turns the scroll lock
+use Rattle.console_scripts.proofs.Common.{◌<◌, ℕ, IsMove, Scroll, Turn, state_of, under_of}
+use Rattle.console_scripts.proofs.onward.key_turning.Given as goal
+
+abbrev pub invariant-loop-code : goal.invariant-loop-code
+invariant-loop-code l =
+    (k : ℕ) → k < l.code → IsMove (under_of l.maps) (state_of l.held) (Turn k Scroll) → ⊥

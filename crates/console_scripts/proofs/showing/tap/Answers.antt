@@ -1,0 +1,6 @@
+use Rattle.console_scripts.proofs.Common.{rules}
+use Rattle.console_states.proofs.Looking.{push-reversed}
+use Rattle.console_scripts.proofs.showing.tap.Goals as goal
+
+pub returns : goal.returns
+returns c = search (rules, push-reversed)

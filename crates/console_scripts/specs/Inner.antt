@@ -1,0 +1,4 @@
+-- What mirrors functions of the code, or tells of private fields. Private contracts cite it; no public clause does.
+pub mod Exploring
+pub mod Routes
+pub mod Showing

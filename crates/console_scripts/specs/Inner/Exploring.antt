@@ -1,0 +1,192 @@
+-- What an exploration keeps, and the events of one tap of a key. Mirrors `Explored` of src/explored.rt, src/ways.rt and
+-- src/typing.rt.
+use Rattle.std.specs.Prelude.{◌≡◌, ◌≤◌, ℕ, Bool, true, false, List, [], ◌∷◌, ◌++◌, length, reverse, None, Some}
+use Rattle.std.specs.Prelude.{slice_get}
+use Rattle.std.specs.Prelude.{Option, map}
+use Rattle.keymap_core.specs.declared.action.Lock.TheVariants.{Scroll}
+use Rattle.keymap_core.specs.Maps.{MapValue}
+use Rattle.console_states.specs.Types.{Event, Press, Release, Move, Answer}
+use Rattle.console_scripts.specs.declared.explored.Explored.{Explored}
+use Rattle.console_scripts.specs.declared.explored.Tap.{Tap}
+use Rattle.console_states.specs.declared.held.Held.{Held}
+use Rattle.console_states.specs.Moves.{Under, alone, State, IsFree, IsPath, state_after, IsPathFrom, state_from}
+use Rattle.console_states.specs.Moves.{events_along}
+use Rattle.console_states.specs.Returning.{IsHome, freed}
+use Rattle.console_states.specs.Sticking.{ReachesMoreThanFrom, ReachesMoreThan, state_limit}
+use Rattle.console_core.specs.History.{answer_to, between, accent_pending_after}
+use Rattle.console_scripts.specs.Typing.{ComesHome, IsTapOf, types_something, plainly, composed_of, CanType, ChangeKeys}
+use Rattle.console_core.specs.Answers.{usable}
+use Rattle.console_scripts.specs.declared.explored.Symbol.{Symbol}
+use Rattle.console_scripts.specs.declared.explored.Symbol.TheVariants as symbol
+use Rattle.console_scripts.specs.declared.ways.Accented.{Accented}
+use Rattle.console_scripts.specs.declared.typing.Found.{Found}
+use Rattle.console_scripts.specs.declared.typing.Sought.{Sought}
+use Rattle.console_scripts.specs.declared.typing.Typed.{Typed}
+use Rattle.console_scripts.specs.declared.typing.Typed.TheVariants as typed
+use Rattle.console_scripts.specs.declared.ways.Way.{Way}
+use Rattle.console_scripts.specs.declared.ways.Way.TheVariants as way
+use Rattle.console_scripts.specs.Inner.Routes.{AllEntries, AllLeadHome, HasRoute, AreSettled}
+use Rattle.console_states.specs.Searching.{state_of, under_of, Entry, Searched}
+use Rattle.console_states.specs.Inner.Standing.{Stands}
+
+abbrev pub map_of_explored : Explored → MapValue
+map_of_explored e = e.maps.first.now
+
+abbrev pub origin_in : Explored → State
+origin_in e = state_of e.origin
+
+-- the scroll lock is off, and the first map is in force
+abbrev pub IsOrigin : State → Type 0
+IsOrigin s = (s.is_locked Scroll ≡ false) × (s.is_second ≡ false)
+
+-- The states of a map without loads that moves lead to from the origin, with routes home. If they are all, a route
+-- begins at each from which moves lead home.
+pub record IsExplored (e : Explored) : Type 0 where
+  pub under : under_of e.maps ≡ alone (map_of_explored e)
+  pub origin : IsOrigin (origin_in e)
+  pub searched : Searched (alone (map_of_explored e)) (origin_in e ∷ []) e.met.entries 0 0
+  pub home : AllLeadHome (alone (map_of_explored e)) e.routes.entries
+  pub whole : e.is_complete ≡ true
+      → Searched (alone (map_of_explored e)) (origin_in e ∷ []) e.met.entries (length e.met.entries)
+      (length e.met.entries)
+      × AreSettled (alone (map_of_explored e)) e.met.entries e.routes.entries
+  pub few : e.is_complete ≡ true → length e.met.entries ≤ state_limit
+  pub more : e.is_complete ≡ false
+      → (p : ℕ) × ReachesMoreThanFrom (alone (map_of_explored e)) (origin_in e) state_limit p
+
+-- A state where nothing is held and the scroll lock is off, that moves lead to and from which moves lead home.
+pub record CanReturn (m : MapValue) (s : State) : Type 0 where
+  pub free : IsFree s
+  pub off : s.is_locked Scroll ≡ false
+  pub path : List Move
+  pub is : IsPath (alone m) path
+  pub leads : state_after (alone m) path ≡ s
+  pub home : ComesHome (alone m) s
+
+-- at the place, from which a route leads home, a tap of the key is so
+abbrev pub IsTapAt : Explored → Tap → ℕ → ℕ → Type 0
+IsTapAt e t j k =
+    (x : Entry) × (slice_get e.met.entries j ≡ Some x) × HasRoute e.routes.entries (state_of x.0)
+    × IsTapOf (alone (map_of_explored e)) (state_of x.0) t.is_plain t.symbol k
+
+abbrev pub HasTap : Explored → Tap → Type 0
+HasTap e t = (j k : ℕ) × IsTapAt e t j k
+
+-- the place has a state from which a route leads home
+abbrev pub IsMetAt : Explored → ℕ → Type 0
+IsMetAt e j = (x : Entry) × (slice_get e.met.entries j ≡ Some x) × HasRoute e.routes.entries (state_of x.0)
+
+-- all holders let go, one after another: the events of that, newest first, came after h
+pub record LetsGo (s : State) (h now : List Event) (next : State) : Type 0 where
+  pub path : List Move
+  pub is : (u : Under) → IsPathFrom u s path
+  pub leads : (u : Under) → state_from u s path ≡ next
+  pub freed : next ≡ freed s
+  pub events : now ≡ events_along path ++ h
+
+-- After h came moves from the first state to the second, a tap of the key, and moves on to the last state, where
+-- nothing is held, and from which moves lead home.
+pub record GoesAndTaps (u : Under) (o s : State) (k : ℕ) (h now : List Event) (next : State) : Type 0 where
+  pub out : List Move
+  pub back : List Move
+  pub goes : IsPathFrom u o out
+  pub there : state_from u o out ≡ s
+  pub returns : IsPathFrom u s back
+  pub leads : state_from u s back ≡ next
+  pub events : now ≡ events_along back ++ (Release k ∷ Press k ∷ (events_along out ++ h))
+  pub free : IsFree next
+  pub off : next.is_locked Scroll ≡ false
+  pub home : ComesHome u next
+
+-- moves lead home from the state, and the scroll lock is off then: their events, newest first, came after h
+abbrev pub GoesHome : Under → State → List Event → List Event → Type 0
+GoesHome u s h now =
+    (back : List Move) × IsPathFrom u s back × IsHome (state_from u s back)
+    × ((state_from u s back).is_locked Scroll ≡ false) × (now ≡ events_along back ++ h)
+
+-- the answers that type something along a list, the newest first
+abbrev pub kept_if : Bool → Answer → List Answer
+kept_if true a = a ∷ []
+kept_if false a = []
+
+abbrev pub typed_along : MapValue → List Event → List Answer
+typed_along m [] = []
+typed_along m (e ∷ h) =
+    kept_if (types_something (answer_to (between m m) h e)) (answer_to (between m m) h e) ++ typed_along m h
+
+-- After the events, which press released keys and release pressed ones, the console stands in the state, with this
+-- accent pending, and these characters were typed.
+pub record HasTyped (m : MapValue) (h : List Event) (s : State) (p : Option ℕ) (cs : List ℕ) : Type 0 where
+  pub stands : Stands (alone m) h s
+  pub changes : ChangeKeys h
+  pub pending : accent_pending_after (between m m) h ≡ p
+  pub typed : typed_along m h ≡ map plainly (reverse cs)
+
+-- explorations by the state where they begin
+abbrev pub Explorations : Type 0
+Explorations = List (Held × Explored)
+
+abbrev pub IsExploredFrom : MapValue → State → Explored → Type 0
+IsExploredFrom m s e = IsExplored e × (map_of_explored e ≡ m) × (origin_in e ≡ s)
+
+abbrev pub AreExplorations : MapValue → Explorations → Type 0
+AreExplorations m explorations = AllEntries (λ k e. IsExploredFrom m (state_of k) e) explorations
+
+-- the taps of a character or of what comes behind a dead key, and of the dead key of an accent
+abbrev pub plain_tap : Symbol → Tap
+plain_tap x = record { symbol = x; is_plain = true }
+
+abbrev pub dead_tap : ℕ → Tap
+dead_tap i = record { symbol = symbol.DeadKey i; is_plain = false }
+
+-- the cell can be tapped, and types the character while the accent is pending
+abbrev pub IsBase : MapValue → Explored → ℕ → ℕ → Symbol → Type 0
+IsBase m e i c x = (composed_of m i x ≡ Some c) × HasTap e (plain_tap x)
+
+-- a base of the accent can be tapped, and its dead key
+abbrev pub CanAccent : MapValue → Explored → ℕ → ℕ → Symbol → Type 0
+CanAccent m e c i x = (usable m i ≡ true) × HasTap e (dead_tap i) × IsBase m e i c x
+
+abbrev pub IsAccented : MapValue → Explored → ℕ → ℕ → Accented → Type 0
+IsAccented m e c i a =
+    (usable m i ≡ true) × IsTapAt e (dead_tap i) a.dead.place a.dead.key × IsBase m e i c a.then
+
+-- the taps of a way to type the character can be made
+abbrev pub IsWay : MapValue → Explored → ℕ → Way → Type 0
+IsWay m e c (way.Direct at) = IsTapAt e (plain_tap (symbol.Character c)) at.place at.key
+IsWay m e c (way.Composed a) = (i : ℕ) × IsAccented m e c i a
+
+-- no way types the character
+abbrev pub HasNoWay : MapValue → Explored → ℕ → Type 0
+HasNoWay m e c =
+    (HasTap e (plain_tap (symbol.Character c)) → ⊥) × ((i : ℕ) (x : Symbol) → CanAccent m e c i x → ⊥)
+
+-- what a search for a tap answers
+abbrev pub LeadsByTap : Explored → Tap → List Event → List Event → Typed → Type 0
+LeadsByTap e t h now (typed.To next) =
+    (j k : ℕ) × (x : Entry) × (slice_get e.met.entries j ≡ Some x) × HasRoute e.routes.entries (state_of x.0)
+    × IsTapOf (alone (map_of_explored e)) (state_of x.0) t.is_plain t.symbol k
+    × GoesAndTaps (alone (map_of_explored e)) (origin_in e) (state_of x.0) k h now (state_of next)
+LeadsByTap e t h now typed.NoWay = (e.is_complete ≡ true) × (HasTap e t → ⊥) × (now ≡ h)
+LeadsByTap e t h now typed.TooManyStates = (e.is_complete ≡ false) × (HasTap e t → ⊥) × (now ≡ h)
+
+-- The events that came after h type the character from the state, and lead to the next one.
+pub record TypesOne (m : MapValue) (c : ℕ) (s : State) (h now : List Event) (next : State) : Type 0 where
+  pub can : CanType m c
+  pub can_return : CanReturn m next
+  pub added : List Event
+  pub events : now ≡ added ++ h
+  pub types : (g : List Event) (cs : List ℕ) → HasTyped m g s None cs → HasTyped m (added ++ g) next None (cs ++ c ∷ [])
+
+-- what was typed before, by the character and the state where it began
+abbrev pub IsKnown : MapValue → Sought → Found → Type 0
+IsKnown m k v =
+    TypesOne m k.character (state_of k.from) [] (reverse v.events.items) (state_of v.next)
+
+abbrev pub AreKnown : MapValue → List (Sought × Found) → Type 0
+AreKnown m known = AllEntries (IsKnown m) known
+
+abbrev pub Leads : MapValue → ℕ → State → List Event → List Event → Typed → Type 0
+Leads m c s h now (typed.To next) = TypesOne m c s h now (state_of next)
+Leads m c s h now typed.NoWay = CanType m c → ⊥
+Leads m c s h now typed.TooManyStates = (p : ℕ) × ReachesMoreThan (alone m) state_limit p

@@ -1,0 +1,127 @@
+-- How the events of a visit lead a console, step by step. Mirrors src/showing.rt and src/explorer.rt.
+use Rattle.std.specs.Prelude.{◌≡◌, ◌⊎◌, ℕ, ◌<◌, true, false, List, ◌++◌, Option, None, Some, slice_get, IfSome}
+use Rattle.std.specs.Map.{keys_of}
+use Rattle.keymap_core.specs.declared.action.Action.TheVariants as act
+use Rattle.keymap_core.specs.Maps.{MapValue}
+use Rattle.keymap_core.specs.Numbers.{key_count}
+use Rattle.console_states.specs.Types.{Caps, Num, Scroll, Alt, Event, Sight, Turn}
+use Rattle.console_scripts.specs.declared.explored.Explored.{Explored}
+use Rattle.console_scripts.specs.declared.explored.KeyAt.{KeyAt}
+use Rattle.console_scripts.specs.declared.explorer.Aim.{Aim}
+use Rattle.console_states.specs.declared.held.Held.{Held}
+use Rattle.console_states.specs.declared.selection.Sight.TheVariants as sight
+use Rattle.console_core.specs.Answers.{usable}
+use Rattle.console_core.specs.History.{between, accent_pending_after}
+use Rattle.console_states.specs.Moves.{alone, State, start, IsFree, IsMove}
+use Rattle.console_states.specs.Returning.{IsAfter, unscrolled}
+use Rattle.console_scripts.specs.Visiting.{AreTaken, Locks}
+use Rattle.console_states.specs.Sights.{IsPendingFor, IsReachable, SeesBy, selection_of}
+use Rattle.console_scripts.specs.Inner.Exploring.{map_of_explored, origin_in, IsExplored, IsTapAt, dead_tap}
+use Rattle.console_scripts.specs.Inner.Routes.{HasRoute}
+use Rattle.console_states.specs.Searching.{state_of, under_of, Entry, Entries}
+use Rattle.console_states.specs.Inner.Standing.{Stands}
+
+-- The states were explored from the start, and these are all.
+abbrev pub IsWhole : Explored → Type 0
+IsWhole e = IsExplored e × (origin_in e ≡ start) × (e.is_complete ≡ true)
+
+-- Behind h the events, which are taken, led a console to a state that is this one but for the scroll lock.
+pub record IsAt (m : MapValue) (s : State) (h later : List Event) : Type 0 where
+  pub at : State
+  pub stands : Stands (alone m) (later ++ h) at
+  pub near : unscrolled at ≡ unscrolled s
+  pub taken : AreTaken h later
+
+-- wherever the first events lead a console to the one state, the second lead it to the other
+abbrev pub Leads : MapValue → State → State → List Event → List Event → Type 0
+Leads m s t old now = (h : List Event) → IsAt m s h old → IsAt m t h now
+
+-- the second events lead there and keep the accent that is pending
+abbrev pub LeadsOn : MapValue → State → State → List Event → List Event → Type 0
+LeadsOn m s t old now =
+    (h : List Event) → IsAt m s h old
+    → IsAt m t h now
+    × (accent_pending_after (between m m) (now ++ h) ≡ accent_pending_after (between m m) (old ++ h))
+
+-- the second events lead there and leave the accent pending, if none was before and it is usable
+abbrev pub LeadsComposing : MapValue → ℕ → State → State → List Event → List Event → Type 0
+LeadsComposing m accent s t old now =
+    (h : List Event) → IsAt m s h old
+    → IsAt m t h now
+    × (accent_pending_after (between m m) (old ++ h) ≡ None → usable m accent ≡ true
+    → accent_pending_after (between m m) (now ++ h) ≡ Some accent)
+
+-- the second events lead to where what can be seen of the sight is seen by the press that sees it
+abbrev pub LeadsToSee : MapValue → Sight → State → State → List Event → List Event → Type 0
+LeadsToSee m x s t old now =
+    (h : List Event) → IsAt m s h old
+    → IsAt m t h now
+    × (accent_pending_after (between m m) (old ++ h) ≡ None → IsReachable m x → IsPendingFor m (now ++ h) x)
+
+-- In the state of the place a press of the key sees it, and leads to a state from which a route leads home.
+abbrev pub IsPressAt : Explored → Sight → KeyAt → State → Type 0
+IsPressAt e x at t =
+    (y : Entry) × (slice_get e.met.entries at.place ≡ Some y) × (at.key < key_count)
+    × SeesBy (map_of_explored e) (selection_of (state_of y.0)) at.key x
+    × IsAfter (alone (map_of_explored e)) (state_of y.0) at.key t × HasRoute e.routes.entries t
+
+-- at the place no press sees it, or one does that leads to where no route begins
+abbrev pub ShowsNot : Explored → Sight → Entry → Type 0
+ShowsNot e x y =
+    ((k : ℕ) → k < key_count → SeesBy (map_of_explored e) (selection_of (state_of y.0)) k x → ⊥)
+    ⊎ ((k : ℕ) × (t : State) × (k < key_count) × SeesBy (map_of_explored e) (selection_of (state_of y.0)) k x
+    × IsAfter (alone (map_of_explored e)) (state_of y.0) k t × (HasRoute e.routes.entries t → ⊥))
+
+-- in the state of the place a press of the key sees it, where a pair's accent is pending
+abbrev pub IsSeenAt : Explored → Sight → KeyAt → Type 0
+IsSeenAt e x at =
+    (y : Entry) × (slice_get e.met.entries at.place ≡ Some y) × (at.key < key_count)
+    × SeesBy (map_of_explored e) (selection_of (state_of y.0)) at.key x
+
+-- no press at any place sees the sight
+abbrev pub IsUnseen : Explored → Sight → Type 0
+IsUnseen e x =
+    (j k : ℕ) (y : Entry) → slice_get e.met.entries j ≡ Some y → k < key_count
+    → SeesBy (map_of_explored e) (selection_of (state_of y.0)) k x → ⊥
+
+-- in the state of the place a press of the key turns the scroll lock
+abbrev pub IsTurnAt : Explored → KeyAt → Type 0
+IsTurnAt e at =
+    (y : Entry) × (slice_get e.met.entries at.place ≡ Some y)
+    × IsMove (under_of e.maps) (state_of y.0) (Turn at.key Scroll)
+
+-- and no press does at any place
+abbrev pub IsUnturned : Explored → Type 0
+IsUnturned e =
+    (j k : ℕ) (y : Entry) → slice_get e.met.entries j ≡ Some y → IsMove (under_of e.maps) (state_of y.0) (Turn k Scroll)
+    → ⊥
+
+-- before a pair the dead key of its accent is tapped, and before nothing else
+abbrev pub IsDeadFor : Explored → Sight → Option KeyAt → Type 0
+IsDeadFor e (sight.Pair accent c) (Some at) = IsTapAt e (dead_tap accent) at.place at.key
+IsDeadFor e (sight.Pair accent c) None = ⊥
+IsDeadFor e (sight.Cell slot column) (Some at) = ⊥
+IsDeadFor e (sight.Cell slot column) None = Unit {0}
+IsDeadFor e (sight.Locks slot caps num) (Some at) = ⊥
+IsDeadFor e (sight.Locks slot caps num) None = Unit {0}
+
+abbrev pub IsAim : Explored → Aim → Type 0
+IsAim e a = IsPressAt e a.sight a.at (state_of a.next) × IsDeadFor e a.sight a.dead
+
+-- the states that were met, in their order
+abbrev pub states_in : Entries → List Held
+states_in es = keys_of es
+
+abbrev pub locks_in : State → Locks
+locks_in s = record { caps = s.is_locked Caps; num = s.is_locked Num; alt = s.is_locked Alt }
+
+abbrev pub sight_aimed : Option Aim → Option Sight
+sight_aimed None = None
+sight_aimed (Some a) = Some a.sight
+
+-- nothing is held and the first map is in force, and a route home begins
+abbrev pub IsRest : Explored → State → Type 0
+IsRest e s = IsFree s × (s.is_second ≡ false) × HasRoute e.routes.entries s
+
+abbrev pub IsExplorer : Explored → State → Option Aim → Type 0
+IsExplorer e s aim = IsWhole e × IsRest e s × IfSome aim (λ a. IsAim e a)

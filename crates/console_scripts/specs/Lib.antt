@@ -1,0 +1,3 @@
+pub mod Inner
+pub mod Typing
+pub mod Visiting

@@ -1,0 +1,207 @@
+//! The states that presses lead to from one where no key holds a modifier, the taps that can be made in them, and the
+//! events of those.
+ghost use Rattle.std.specs.Prelude.{◌≡◌, true, false, reverse, slice_get, Some, IfOk};
+ghost use Rattle.std.specs.Prelude.{MatchOption, ℕ};
+ghost use Rattle.console_states.specs.Moves.{Under, alone, map_in};
+ghost use Rattle.console_scripts.specs.Typing.{IsTapOf, cell_of};
+ghost use Rattle.console_scripts.specs.Inner.Exploring.{map_of_explored, origin_in, IsExplored, IsTapAt, HasTap};
+ghost use Rattle.console_scripts.specs.Inner.Exploring.{GoesAndTaps, IsOrigin, LetsGo, IsExploredFrom, GoesHome};
+ghost use Rattle.console_scripts.specs.Inner.Exploring.{IsMetAt};
+ghost use Rattle.console_scripts.specs.Inner.Routes.{HasRoute};
+ghost use Rattle.console_states.specs.Searching.{state_of, Entry};
+
+use crate::routes::{Routes, has_route, routes_home};
+use crate::showing::{come_home, tap};
+use console_core::Event;
+use console_states::{End, Held, Keymaps, Met, go_out, meet_all, state_at};
+use keymap_core::{Action, Cell, KEY_COUNT, KeyCode, KeyMap, MODIFIERS, key_with};
+use std::alloc::{AllocError, Global};
+
+/// A place where a state was met, and a key to press there.
+#[derive(Clone, Copy, Debug)]
+pub struct KeyAt {
+    pub place: usize,
+    pub key: KeyCode,
+}
+
+/// What a key that is tapped looks up.
+#[derive(Clone, Copy, Debug, PartialEq, Eq)]
+pub enum Symbol {
+    Character(char),
+    /// The dead key of the accent.
+    DeadKey(u8),
+}
+
+/// What is to be tapped. Where it is to be plain, meta is off.
+#[derive(Clone, Copy, Debug)]
+pub struct Tap {
+    pub symbol: Symbol,
+    pub is_plain: bool,
+}
+
+/// The states that presses lead to from the origin, which is one of them, in the order of the fewest presses, and
+/// routes home from them.
+#[derive(Drop)]
+pub struct Explored<'m> {
+    pub maps: Keymaps<'m>,
+    pub(crate) origin: Held,
+    pub(crate) met: Met,
+    pub(crate) routes: Routes,
+    /// Whether the states that were met are all. Else they are more than 65,536.
+    pub is_complete: bool,
+}
+
+/// Explores the states from the origin.
+pub fn explore<'m>(
+    alloc: Global,
+    map: &'m KeyMap,
+    origin: &Held,
+) -> Result<Explored<'m>, AllocError>
+    requires { IsOrigin (state_of origin.now) }
+    ensures { IfOk result (λ e. IsExploredFrom map.now (state_of origin.now) e) }
+{
+    let maps = Keymaps {
+        first: map,
+        second: map,
+        has_loads: false,
+    };
+    let (met, end) = meet_all(alloc, &maps, &[*origin])?;
+    let is_complete = match end {
+        End::Complete => true,
+        End::TooMany(_) => false,
+    };
+    let routes = routes_home(alloc, &met, &maps)?;
+    Ok(Explored {
+        maps,
+        origin: *origin,
+        met,
+        routes,
+        is_complete,
+    })
+}
+
+/// Whether the cell is the symbol.
+fn is_symbol(cell: &Cell, symbol: Symbol) -> bool
+    ensures same { result ≡ true → cell.now ≡ cell_of symbol }
+    ensures other { result ≡ false → cell.now ≡ cell_of symbol → ⊥ }
+{
+    match symbol {
+        Symbol::Character(wanted) => match cell {
+            Cell::Char(c) => *c == wanted,
+            Cell::Act(_) => false,
+        },
+        Symbol::DeadKey(wanted) => match cell {
+            Cell::Act(Action::DeadKey(accent)) => accent.get() == wanted,
+            _ => false,
+        },
+    }
+}
+
+/// A key that holds nothing in the state and looks up the cell.
+fn key_tapping(held: &Held, map: &KeyMap, tap: &Tap) -> Option<KeyCode>
+    ensures { (u : Under) → map_in u (state_of held.now) ≡ map.now
+        → MatchOption result ((k : ℕ) → IsTapOf u (state_of held.now) tap.now.is_plain tap.now.symbol k → ⊥)
+        (λ k. IsTapOf u (state_of held.now) tap.now.is_plain tap.now.symbol k) }
+{
+    if tap.is_plain && held.is_meta_held() {
+        return None;
+    }
+    let selection = held.selection();
+    for code in 0..KEY_COUNT as u8 {
+        let key = key_with(code);
+        if is_symbol(&selection.look(map, key), tap.symbol) && !held.holds(key) {
+            return Some(key);
+        }
+    }
+    None
+}
+
+/// All keys let go, one after another: adds the events of that, and answers the state behind them.
+fn let_all_go(from: &Held, events: &mut Vec<Event>) -> Result<Held, AllocError>
+    ensures { IfOk result (λ held. LetsGo (state_of from.now) (reverse events.old.items) (reverse events.new.items)
+        (state_of held)) }
+{
+    let mut held = *from;
+    for modifier in MODIFIERS {
+        if let Some(key) = held.holder(modifier) {
+            events.push(Event::Release(key))?;
+            held = held.with_holder(modifier, None);
+        }
+    }
+    Ok(held)
+}
+
+impl<'m> Explored<'m> {
+    /// The first place from which a route leads home and where a key can be tapped so, and that key. Near places have
+    /// the locks of the origin.
+    pub fn first_place(&self, tap: &Tap, is_near: bool) -> Option<KeyAt>
+        requires { IsExplored self.now }
+        ensures { MatchOption result (is_near ≡ false → HasTap self.now tap.now → ⊥)
+            (λ at. IsTapAt self.now tap.now at.place at.key) }
+    {
+        for place in 0..self.met.len() {
+            let held = state_at(&self.met, place);
+            if !is_near || held.has_locks_of(&self.origin) {
+                if let Some(key) = key_tapping(&held, self.maps.first, tap) {
+                    if has_route(&self.routes, &held) {
+                        return Some(KeyAt { place, key });
+                    }
+                }
+            }
+        }
+        None
+    }
+
+    /// A place from which a route leads home and where a key can be tapped so, and that key: with the locks of the
+    /// origin, if there is one, and by the fewest presses.
+    pub fn place_tapping(&self, tap: &Tap) -> Option<KeyAt>
+        requires { IsExplored self.now }
+        ensures { MatchOption result (HasTap self.now tap.now → ⊥) (λ at. IsTapAt self.now tap.now at.place at.key) }
+    {
+        match self.first_place(tap, true) {
+            Some(at) => Some(at),
+            None => self.first_place(tap, false),
+        }
+    }
+
+    /// Adds the events from the origin to the place, a tap of the key there, and those behind it to a state where no
+    /// key holds a modifier, from which a route leads home. Answers that state.
+    pub fn go_and_tap(
+        &self,
+        alloc: Global,
+        events: &mut Vec<Event>,
+        at: KeyAt,
+    ) -> Result<Held, AllocError>
+        requires explored { IsExplored self.now }
+        requires route { IsMetAt self.now at.place }
+        ensures { IfOk result (λ next. (x : Entry) → slice_get self.now.met.entries at.place ≡ Some x
+            → GoesAndTaps (alone (map_of_explored self.now)) (origin_in self.now) (state_of x.0) at.key
+            (reverse events.old.items) (reverse events.new.items) (state_of next)) }
+    {
+        go_out(events, alloc, &self.met, at.place)?;
+        tap(events, at.key)?;
+        let held = state_at(&self.met, at.place);
+        if has_route(&self.routes, &held.freed()) {
+            let next = let_all_go(&held, events)?;
+            Ok(next)
+        } else {
+            come_home(events, &self.routes, &held)?;
+            Ok(Held::start())
+        }
+    }
+
+    /// Adds the events from the origin home, if a route begins there.
+    pub fn go_home(&self, events: &mut Vec<Event>) -> Result<bool, AllocError>
+        requires { IsExplored self.now }
+        ensures { IfOk result (λ found. (found ≡ true → GoesHome (alone (map_of_explored self.now))
+            (origin_in self.now) (reverse events.old.items) (reverse events.new.items))
+            × (found ≡ false → HasRoute self.now.routes.entries (origin_in self.now) → ⊥)) }
+    {
+        if has_route(&self.routes, &self.origin) {
+            come_home(events, &self.routes, &self.origin)?;
+            Ok(true)
+        } else {
+            Ok(false)
+        }
+    }
+}

@@ -1,0 +1,222 @@
+-- The events along a path lead a console to the state of the path.
+use Rattle.console_states.proofs.Common.{◌≡◌, ℕ, ◌<◌, ◌+◌, Bool, true, false, ◌&&◌, ◌||◌, not, List}
+use Rattle.console_states.proofs.Common.{[], ◌∷◌, ◌++◌, Some, None, refl, ap, subst, sym, ◌∙◌, inl, inr}
+use Rattle.console_states.proofs.Common.{if◌then◌else◌, append_assoc, ◌==◌, eqb-true, eq-eqb, cases_Bool}
+use Rattle.console_states.proofs.Common.{true≢false}
+use Rattle.console_states.proofs.Common.{false≢true, All-nil}
+use Rattle.console_states.proofs.Common.{All-cons, none-some, same_Some, same_modifier, same_lock}
+use Rattle.console_states.proofs.Common.{MapValue, same_action-refl, none_unless}
+use Rattle.console_states.proofs.Common.{ResolvedEvent, remembered, taken_over, is_this_action, resolve_press}
+use Rattle.console_states.proofs.Common.{PressedAction, ReleasedKey, WasLoaded, resolved}
+use Rattle.console_states.proofs.Common.{is_second_in_force, pressed, HasKey, HasKeys, HasNoLoads}
+use Rattle.console_states.proofs.Common.{between, is_locked_after, Under, State, start, map_of, look_in, Holds}
+use Rattle.console_states.proofs.Common.{IsIdle}
+use Rattle.console_states.proofs.Common.{with_holder, with_lock_turned, exchanged, IsFree, IsMove, moved}
+use Rattle.console_states.proofs.Common.{state_after, IsPath, events_of_move, events_along}
+use Rattle.console_states.proofs.Common.{state_from, IsPathFrom, alone}
+use Rattle.console_states.proofs.Common.{Follows, HoldsSome, Exact}
+use Rattle.console_states.proofs.Common.{Stands, Action, Lock, Modifier}
+use Rattle.console_states.proofs.Common.{Cell, Act, Event, Press}
+use Rattle.console_states.proofs.Common.{Release, Reset, Load, Move, Hold, Turn, LetGo, Exchange, rules}
+use Rattle.keymap_core.proofs.Lists.{option_or-none}
+use Rattle.console_states.specs.Moves.{free_with}
+use Rattle.console_core.proofs.FreshPresses.{no_loads-first}
+use Rattle.console_core.proofs.OneMore.{resolved-start, resolved-more, held-start, held-action}
+use Rattle.console_core.proofs.OneMore.{held-reset, locked-reset, remembered-reset, pressed-reset, held-release}
+use Rattle.console_core.proofs.OneMore.{held-load, remembered-start, remembered-action}
+use Rattle.console_core.proofs.OneMore.{remembered-release, remembered-load, pressed-start, pressed-press}
+use Rattle.console_core.proofs.OneMore.{pressed-release, pressed-load}
+use Rattle.console_states.proofs.Following.{follows-look, follows-hold, follows-turn, follows-let_go}
+use Rattle.console_states.proofs.Staying.{follows-start}
+use Rattle.console_states.proofs.Following.{follows-release, takes, same_mods}
+use Rattle.console_states.proofs.Staying.{follows-load}
+use Rattle.keymap_core.specs.declared.action.Action.TheVariants as act
+use Rattle.keymap_core.specs.declared.action.Holding.TheVariants as holding
+
+-- a key that is idle remembers nothing
+pub idle-none : (r : List ResolvedEvent) (s : State) (k : ℕ) → Exact r s → IsIdle s k → remembered k r ≡ None
+idle-none r s k x idle = none_unless (remembered k r) (λ a e. let p : HoldsSome s k = x.only k a e in idle p.0 p.1)
+
+-- what another key remembers after a press
+pub other-remembered : (r : List ResolvedEvent) (k j : ℕ) (b : Action) → k == j ≡ false
+    → remembered j (PressedAction k b ∷ r) ≡ remembered j r
+other-remembered r k j b e = rw (remembered-action j k b r, e) (option_or-none (remembered j r))
+
+-- the holders after a move
+pub hold-self : (s : State) (i : Modifier) (k : ℕ) → Holds (with_holder s i (Some k)) k i
+hold-self s i k = ap (λ t. if t then Some k else s.holder i) (same_action-refl (act.Mod i))
+
+-- a key that takes a modifier leaves each other holder as it was
+hold-other : (s : State) (i : Modifier) (k n : ℕ) → s.holder i ≡ None → HoldsSome s n
+    → HoldsSome (with_holder s i (Some k)) n
+hold-other s i k n free p = search (rules, cases_Bool, none-some, same_mods)
+
+-- a key that lets go leaves each other holder as it was
+let_go-other : (s : State) (i : Modifier) (k n : ℕ) → Holds s k i → k == n ≡ false → HoldsSome s n
+    → HoldsSome (with_holder s i None) n
+let_go-other s i k n holds ne p = search (rules, cases_Bool, same_Some, same_mods, eq-eqb)
+
+-- the moves
+exact-hold : (r : List ResolvedEvent) (s : State) (k : ℕ) (i : Modifier) → Exact r s → IsIdle s k → s.holder i ≡ None
+    → Exact (PressedAction k (act.Mod i) ∷ r) (with_holder s i (Some k))
+exact-hold r s k i x idle free =
+    let e : taken_over (remembered k r) (act.Mod i) ≡ act.Mod i =
+    ap (λ o. taken_over o (act.Mod i)) (idle-none r s k x idle) in
+    record {
+      follows = follows-hold r s k (act.Mod i) i x.follows e;
+      only = λ n a q. elim (cases_Bool (k == n)) [
+        | inl t ↦ (i, subst (λ y. Holds (with_holder s i (Some k)) y i) (eqb-true k n t) (hold-self s i k))
+        | inr t ↦ hold-other s i k n free (x.only n a (sym (other-remembered r k n (act.Mod i) t) ∙ q))
+      ];
+      up = λ l. rw (held-action (holding.Lock l) k (act.Mod i) r, e) (x.up l);
+    }
+
+-- a mark that a press sets and the release clears is clear
+pub up_again : (t x : Bool) → x ≡ false → ((t || x) && not t) ≡ false
+up_again true x e = refl
+up_again false x e = rw e refl
+
+-- after a tap of a key the others remember what they did
+pub tap-only : (r now : List ResolvedEvent) (s : State) (k : ℕ) → Exact r s
+    → ((n : ℕ) → k == n ≡ false → remembered n now ≡ remembered n r) → (n : ℕ) (a : Action)
+    → remembered n (ReleasedKey k ∷ now) ≡ Some a → HoldsSome s n
+tap-only r now s k x same n a q = search (rules, cases_Bool, none-some, remembered-release)
+
+-- a press and release of an idle key that turns a lock
+exact-turn : (r : List ResolvedEvent) (s : State) (k : ℕ) (l : Lock) → Exact r s → IsIdle s k
+    → Exact (ReleasedKey k ∷ (PressedAction k (act.Lock l) ∷ r)) (with_lock_turned s l)
+exact-turn r s k l x idle =
+    let e : taken_over (remembered k r) (act.Lock l) ≡ act.Lock l =
+    ap (λ o. taken_over o (act.Lock l)) (idle-none r s k x idle) in
+    let now : remembered k (PressedAction k (act.Lock l) ∷ r) ≡ Some (act.Lock l) =
+    takes r k (act.Lock l) (holding.Lock l) e in
+    record {
+      follows =
+          follows-release (PressedAction k (act.Lock l) ∷ r) (with_lock_turned s l) k
+          (follows-turn r s k (act.Lock l) l x.follows e (x.up l)) (λ i. ap (λ o. is_this_action o (act.Mod i)) now);
+      only = tap-only r (PressedAction k (act.Lock l) ∷ r) s k x (λ n t. other-remembered r k n (act.Lock l) t);
+      up = λ j. rw (held-release (holding.Lock j) k (PressedAction k (act.Lock l) ∷ r), now)
+          (rw (held-action (holding.Lock j) k (act.Lock l) r, e) (up_again (same_lock l j) _ (x.up j)));
+    }
+
+-- a release of a holder
+exact-let_go : (r : List ResolvedEvent) (s : State) (k : ℕ) (i : Modifier) → Exact r s → Holds s k i
+    → Exact (ReleasedKey k ∷ r) (with_holder s i None)
+exact-let_go r s k i x holds = record {
+  follows = follows-let_go r s k i x.follows (x.follows.holds i k holds);
+  only = λ n a q. elim (cases_Bool (k == n)) [
+    | inl t ↦ absurd (none-some a (rw (remembered-release n k r, t) at q))
+    | inr t ↦ let_go-other s i k n holds t (x.only n a (rw (remembered-release n k r, t) at q))
+  ];
+  up = λ l. rw (held-release (holding.Lock l) k r, x.up l) refl;
+}
+
+-- a load, where nothing is held
+exact-exchange : (m : MapValue) (r : List ResolvedEvent) (s : State) → Exact r s → IsFree s
+    → Exact (WasLoaded m ∷ r) (exchanged m s)
+exact-exchange m r s x free = search (rules, follows-load, none-some, remembered-load, held-load)
+
+-- a press, by what is looked up
+pub pressed-look : (u : Under) (h : List Event) (s : State) (k : ℕ) (x : Cell) → Follows (resolved u.maps h) s
+    → s.is_second ≡ is_second_in_force h → look_in u s k ≡ x
+    → resolved u.maps (Press k ∷ h) ≡ resolve_press k x ∷ resolved u.maps h
+pressed-look u h s k x f second seen = search (rules, resolved-more, follows-look)
+
+-- what is pressed after a press and release of a key was before
+pub tapped-pressed : (h : List Event) (k n : ℕ) → pressed n (Release k ∷ Press k ∷ h) ≡ true → pressed n h ≡ true
+tapped-pressed h k n p = search (rules, cases_Bool, pressed-release, pressed-press)
+
+-- the events of a move lead from a state to the next
+pub stands-move : (u : Under) (h : List Event) (s : State) (move : Move) → IsMove u s move → Stands u h s
+    → Stands u (events_of_move move ++ h) (moved u s move)
+stands-move u h s (Hold k i) (lt, idle, seen, free) x = record {
+  exact =
+      rw (pressed-look u h s k (Act (act.Mod i)) x.exact.follows x.second seen)
+      (exact-hold (resolved u.maps h) s k i x.exact idle free);
+  second = x.second;
+  key = λ j n p. elim (cases_Bool (same_modifier i j)) [
+    | inl t ↦ subst (λ z. z < 128) (same_Some k n (rw t at p)) lt
+    | inr t ↦ x.key j n (rw t at p)
+  ];
+  pressed = λ n p. elim (cases_Bool (k == n)) [
+    | inl t ↦ (i, subst (λ y. Holds (with_holder s i (Some k)) y i) (eqb-true k n t) (hold-self s i k))
+    | inr t ↦ hold-other s i k n free (x.pressed n (rw (pressed-press n k h, t) at p))
+  ];
+  keys = All-cons HasKey (Press k) h lt x.keys;
+}
+stands-move u h s (Turn k l) (lt, idle, seen) x = record {
+  exact =
+      rw (
+        resolved-more u.maps (Press k ∷ h) (Release k),
+        pressed-look u h s k (Act (act.Lock l)) x.exact.follows x.second seen,
+      )
+      (exact-turn (resolved u.maps h) s k l x.exact idle);
+  second = x.second;
+  key = x.key;
+  pressed = λ n p. x.pressed n (tapped-pressed h k n p);
+  keys = All-cons HasKey (Release k) (Press k ∷ h) lt (All-cons HasKey (Press k) h lt x.keys);
+}
+stands-move u h s (LetGo k i) holds x = record {
+  exact = rw (resolved-more u.maps h (Release k)) (exact-let_go (resolved u.maps h) s k i x.exact holds);
+  second = x.second;
+  key = λ j n p. elim (cases_Bool (same_modifier i j)) [
+    | inl t ↦ absurd (none-some n (rw t at p))
+    | inr t ↦ x.key j n (rw t at p)
+  ];
+  pressed = λ n p. elim (cases_Bool (k == n)) [
+    | inl t ↦ absurd (false≢true (rw (pressed-release n k h, t) at p))
+    | inr t ↦ let_go-other s i k n holds t (x.pressed n (rw (pressed-release n k h, t) at p))
+  ];
+  keys = All-cons HasKey (Release k) h (x.key i k holds) x.keys;
+}
+stands-move u h s Exchange (free, loads) x = record {
+  exact =
+      rw (resolved-more u.maps h Load)
+      (rw (← x.second) (exact-exchange (map_of u (not s.is_second)) (resolved u.maps h) s x.exact free));
+  second = ap not x.second;
+  key = x.key;
+  pressed = λ n p. absurd (true≢false (sym p ∙ pressed-load n h));
+  keys = All-cons HasKey Load h tt x.keys;
+}
+
+-- no events lead to the start
+pub stands-start : (u : Under) → Stands u [] start
+stands-start u = record {
+  exact = rw (resolved-start u.maps) (record {
+    follows = follows-start;
+    only = λ k a e. absurd (none-some a (sym (remembered-start k) ∙ e));
+    up = λ l. held-start (holding.Lock l);
+  });
+  second = refl;
+  key = λ i k h. absurd (none-some k h);
+  pressed = λ k p. absurd (true≢false (sym p ∙ pressed-start k));
+  keys = All-nil HasKey;
+}
+
+-- A console stands in the state of a path after the events along it.
+pub stands : (u : Under) (path : List Move) → IsPath u path → Stands u (events_along path) (state_after u path)
+stands u [] is = stands-start u
+stands u (move ∷ path) is = stands-move u (events_along path) (state_after u path) move is.0 (stands u path is.1)
+
+-- A console that stands in a state stands in that of a path from there after the events along it.
+pub stands-from : (u : Under) (h : List Event) (s : State) (path : List Move) → Stands u h s → IsPathFrom u s path
+    → Stands u (events_along path ++ h) (state_from u s path)
+stands-from u h s [] x is = x
+stands-from u h s (move ∷ path) x is =
+    search (rules, append_assoc, stands-move, stands-from u h s path x is.1)
+
+-- After a reset a console of one map stands in the free state with the locks that are on.
+pub stands-reset : (m : MapValue) (h : List Event) → HasKeys h → HasNoLoads h
+    → Stands (alone m) (Reset ∷ h) (free_with (λ l. is_locked_after (between m m) l h))
+stands-reset m h keys none =
+    search (
+      rules,
+      resolved-more,
+      held-reset,
+      locked-reset,
+      none-some,
+      remembered-reset,
+      no_loads-first,
+      pressed-reset,
+      All-cons,
+    )

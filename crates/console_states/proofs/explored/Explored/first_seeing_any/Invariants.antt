@@ -1,8 +1,0 @@
--- no press sees one of the sights before the place
-use Rattle.console_states.proofs.Common.{◌≡◌, ◌<◌, ℕ, get_or, Sight}
-use Rattle.console_states.specs.Inner.Showing.{IsUnseen}
-use Rattle.console_states.proofs.explored.Explored.first_seeing_any.Given as goal
-
-abbrev pub invariant-loop-sight : goal.invariant-loop-sight
-invariant-loop-sight l =
-    (n : ℕ) (x : Sight) → n < l.sight-index → get_or l.sights n x ≡ x → IsUnseen l.self x

@@ -1,7 +1,0 @@
-use Rattle.console_states.proofs.Common.{subst, sym}
-use Rattle.console_states.specs.Visiting.{CanVisit}
-use Rattle.console_states.proofs.explorer.Explorer.aim_at.Goals as goal
-
-pub returns-in-None-clause-never : goal.returns-in-None-clause-never
-returns-in-None-clause-never c =
-    λ none can. c.in-None.ensures (subst (λ p. CanVisit p.map c.args.sight) (sym c.self.view_is) can)

@@ -1,9 +1,0 @@
--- no key below this one is tapped so
-use Rattle.console_states.proofs.Common.{◌≡◌, ◌<◌, ℕ, Under, map_in, IsTapOf, state_of}
-use Rattle.console_states.proofs.held.Held.key_tapping.Given as goal
-
-abbrev pub invariant-loop-code : goal.invariant-loop-code
-invariant-loop-code l =
-    (u : Under) → map_in u (state_of l.self) ≡ l.map → (k : ℕ) → k < l.code
-    → IsTapOf u (state_of l.self) l.tap.is_plain l.tap.symbol k
-    → ⊥

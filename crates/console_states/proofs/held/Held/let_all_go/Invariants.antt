@@ -1,9 +1,0 @@
--- the holders of the modifiers so far have let go
-use Rattle.console_states.proofs.Common.{reverse, state_of}
-use Rattle.console_states.proofs.Taps.{LetsGoTo}
-use Rattle.console_states.proofs.held.Held.let_all_go.Given as goal
-
-abbrev pub invariant-loop-modifier : goal.invariant-loop-modifier
-invariant-loop-modifier l =
-    LetsGoTo (state_of l.self) (reverse l.fn.events.items) (reverse l.events.items) (state_of l.held)
-    l.modifier-index

@@ -1,5 +1,0 @@
-use Rattle.console_states.proofs.Refused.{typed-can}
-use Rattle.console_states.proofs.laws.what_is_typed_can_be_typed.Goals as goal
-
-pub returns : goal.returns
-returns c = typed-can

@@ -13,6 +13,7 @@ ghost use Rattle.console_states.specs.Searching.{state_of};
 use crate::explored::{Explored, Tap, explore};
 use crate::ways::{Way, plain, way_for};
 use console_core::Event;
+use console_states::Held;
 use indexmap::IndexMap;
 use keymap_core::KeyMap;
 use std::alloc::{AllocError, Global};

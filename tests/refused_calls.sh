@@ -97,6 +97,9 @@ refuses replay-word
 refuses sticking
 refuses sticking_between
 refuses sights_of
+refuses meet_all
+refuses sights_in
+refuses go_out
 refuses Explorer::new
 refuses Explorer::sights
 refuses Explorer::visit

@@ -1,4 +1,5 @@
-//! The calls of console_core and console_states, and of keymap_cover and keymap_diff, which stand on them.
+//! The calls of console_core, console_states and console_scripts, and of keymap_cover and keymap_diff, which stand on
+//! them.
 use crate::devices::mark;
 use crate::inputs::{Call, Lent};
 use crate::outcome::{Outcome, ended, ended_keeping};

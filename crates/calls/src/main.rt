@@ -16,6 +16,7 @@ mod formats;
 mod inputs;
 mod outcome;
 mod runs;
+mod searches;
 mod steps;
 mod texts;
 
@@ -59,6 +60,9 @@ fn outcome_of<W: Write>(call: &Call<'_>, marks: &mut W) -> Result<Option<Outcome
         return Ok(Some(outcome));
     }
     if let Some(outcome) = texts::of_trap(call, marks)? {
+        return Ok(Some(outcome));
+    }
+    if let Some(outcome) = searches::of_searches(call, marks)? {
         return Ok(Some(outcome));
     }
     consoles::of_explorer(call, marks)

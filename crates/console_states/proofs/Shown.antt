@@ -20,11 +20,11 @@ use Rattle.keymap_core.specs.declared.action.Action.TheVariants as act
 use Rattle.console_states.specs.declared.selection.Sight.TheVariants as sight
 
 -- presses, and releases of pressed keys, of which no press forgets that its key holds a modifier
-record IsPlain (m : MapValue) (h : List Event) : Type 0 where
-  sent : All IsPressOrRelease h
-  loads : HasNoLoads h
-  releases : ReleasesPressedKeys h
-  clean : IsClean (between m m) h
+pub record IsPlain (m : MapValue) (h : List Event) : Type 0 where
+  pub sent : All IsPressOrRelease h
+  pub loads : HasNoLoads h
+  pub releases : ReleasesPressedKeys h
+  pub clean : IsClean (between m m) h
 
 plain-start : (m : MapValue) → IsPlain m []
 plain-start m = record {
@@ -90,25 +90,25 @@ plain-along m h s (move ∷ path) x is plain =
     search (rules, append_assoc, plain-move, stands-from, plain-along m h s path x is.1 plain)
 
 -- After the list the console stands in the state; the list is plain.
-record IsShort (m : MapValue) (h : List Event) (s : State) : Type 0 where
-  stands : Stands (alone m) h s
-  plain : IsPlain m h
+pub record IsShort (m : MapValue) (h : List Event) (s : State) : Type 0 where
+  pub stands : Stands (alone m) h s
+  pub plain : IsPlain m h
 
-short-start : (m : MapValue) → IsShort m [] start
+pub short-start : (m : MapValue) → IsShort m [] start
 short-start m = search (rules, stands-start, plain-start)
 
-short-along : (m : MapValue) (h : List Event) (s : State) (path : List Move) → IsShort m h s
+pub short-along : (m : MapValue) (h : List Event) (s : State) (path : List Move) → IsShort m h s
     → IsPathFrom (alone m) s path → IsShort m (events_along path ++ h) (state_from (alone m) s path)
 short-along m h s path x is = search (rules, stands-from, plain-along)
 
-short-tap : (m : MapValue) (h : List Event) (s : State) (k accent : ℕ) → IsShort m h s → k < 128 → IsIdle s k
+pub short-tap : (m : MapValue) (h : List Event) (s : State) (k accent : ℕ) → IsShort m h s → k < 128 → IsIdle s k
     → look_in (alone m) s k ≡ Act (act.DeadKey accent) → IsShort m (Release k ∷ Press k ∷ h) s
 short-tap m h s k accent x lt idle seen = record {
   stands = dead-tapped (alone m) h s accent k lt x.stands idle seen;
   plain = plain-release m (Press k ∷ h) k (press-presses k h) (plain-idle m h s k x.stands idle x.plain);
 }
 
-short-admitted : (m : MapValue) (h : List Event) (s : State) → IsShort m h s
+pub short-admitted : (m : MapValue) (h : List Event) (s : State) → IsShort m h s
     → All IsPressOrRelease h × ReleasesPressedKeys h × IsAdmitted m true h
 short-admitted m h s x =
     (x.plain.sent, x.plain.releases, (x.stands.keys, x.plain.loads, (λ e. x.plain.clean)))

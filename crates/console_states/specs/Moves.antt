@@ -4,7 +4,7 @@ use Rattle.std.specs.Prelude.{◌≡◌, ℕ, ◌+◌, ◌<◌, Bool, false, tru
 use Rattle.std.specs.Prelude.{if◌then◌else◌, slice_index_or}
 use Rattle.std.specs.Option.{is_some}
 use Rattle.console_states.specs.Types.{Modifier, Lock, Cell, Char, Act, Event, Press, Release, Load, Move, Hold, Turn}
-use Rattle.console_states.specs.Types.{LetGo, Exchange}
+use Rattle.console_states.specs.Types.{LetGo, Exchange, Action, Caps, Num, Scroll, Alt}
 use Rattle.keymap_core.specs.declared.action.Action.TheVariants as act
 use Rattle.keymap_core.specs.declared.action.Holding.TheVariants as holding
 use Rattle.keymap_core.specs.Actions.{same_modifier, same_lock, modifiers, modifier_index, lock_index}
@@ -116,6 +116,11 @@ abbrev pub IsSteady : Under → State → ℕ → Type 0
 IsSteady u s k =
     (k < key_count) × IsIdle s k × ((i : Modifier) → look_in u s k ≡ Act (act.Mod i) → s.holder i ≡ None)
     × ((l : Lock) → look_in u s k ≡ Act (act.Lock l) → l ≡ Scroll)
+
+-- the same locks are on but for the scroll lock, which picks no cell
+abbrev pub HaveSameLocks : State → State → Type 0
+HaveSameLocks s t =
+    (s.is_locked Caps ≡ t.is_locked Caps) × (s.is_locked Num ≡ t.is_locked Num) × (s.is_locked Alt ≡ t.is_locked Alt)
 
 -- the key holds a modifier, and looks up an action: a press of it keeps the state
 abbrev pub IsRepeated : Under → State → ℕ → Type 0

@@ -13,7 +13,8 @@ ghost use Rattle.keymap_core.specs.declared.entry.Cell.TheVariants.{Act};
 ghost use Rattle.console_states.specs.Moves.{Under, start as start_state, is_held as is_held_in, look_in, IsIdle};
 ghost use Rattle.console_states.specs.Moves.{map_in, next_map, exchanged as exchanged_in, IsFree, free_with};
 ghost use Rattle.console_states.specs.Moves.{with_holder as with_holder_in, with_lock_turned, HolderForgets};
-ghost use Rattle.console_states.specs.Moves.{IsForgetful, IsRepeated, IsSteady, events_of_move, releases, Holds, IsMove, moved};
+ghost use Rattle.console_states.specs.Moves.{HaveSameLocks, IsForgetful, IsRepeated, IsSteady};
+ghost use Rattle.console_states.specs.Moves.{events_of_move, releases, Holds, IsMove, moved};
 ghost use Rattle.console_states.specs.declared.held.Move.TheVariants.{Exchange as ExchangeMove};
 ghost use Rattle.console_states.specs.Sights.{selection_of, Offers};
 ghost use Rattle.console_states.specs.Returning.{IsHome, but_scroll, freed};
@@ -170,8 +171,11 @@ impl Held {
         self.is_held(Modifier::Meta)
     }
 
-    /// Whether the same locks are on.
-    pub fn has_locks_of(&self, other: &Held) -> bool {
+    /// Whether the same locks are on but for the scroll lock.
+    pub fn has_locks_of(&self, other: &Held) -> bool
+        ensures same { result ≡ true → HaveSameLocks (state_of self.now) (state_of other.now) }
+        ensures other { result ≡ false → HaveSameLocks (state_of self.now) (state_of other.now) → ⊥ }
+    {
         self.is_locked(Lock::Caps) == other.is_locked(Lock::Caps)
             && self.is_locked(Lock::Num) == other.is_locked(Lock::Num)
             && self.is_locked(Lock::Alt) == other.is_locked(Lock::Alt)
@@ -335,7 +339,8 @@ impl Held {
 
     /// Whether the key holds a modifier and looks up an action, so that one more press of it keeps the state.
     pub fn is_repeated(&self, maps: &Keymaps, key: KeyCode) -> bool
-        ensures { result ≡ true → IsRepeated (under_of maps.now) (state_of self.now) key }
+        ensures repeated { result ≡ true → IsRepeated (under_of maps.now) (state_of self.now) key }
+        ensures other { result ≡ false → IsRepeated (under_of maps.now) (state_of self.now) key → ⊥ }
     {
         match self.look(maps, key) {
             Cell::Act(_) => self.holds(key),
@@ -345,7 +350,8 @@ impl Held {
 
     /// Whether a press of the key and its release keep the state, but for the scroll lock.
     pub fn is_steady(&self, maps: &Keymaps, key: KeyCode) -> bool
-        ensures { result ≡ true → IsSteady (under_of maps.now) (state_of self.now) key }
+        ensures steady { result ≡ true → IsSteady (under_of maps.now) (state_of self.now) key }
+        ensures other { result ≡ false → IsSteady (under_of maps.now) (state_of self.now) key → ⊥ }
     {
         if self.holds(key) {
             return false;

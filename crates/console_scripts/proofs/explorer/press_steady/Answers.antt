@@ -10,4 +10,4 @@ returns-then-is_repeated c =
     let k = c.args.key in
     let old = reverse c.args.events.now.items in
     rw (ap reverse c.in_ok-push.ensures.items ∙ push-reversed c.args.events.now.items (Press k))
-    (repeat-leads m s k old (subst (λ u. IsRepeated u s k) one (c.is_repeated.ensures c.if-is_repeated.true)))
+    (repeat-leads m s k old (subst (λ u. IsRepeated u s k) one (c.is_repeated.ensures.repeated c.if-is_repeated.true)))

@@ -1,0 +1,81 @@
+//! The calls on what a search of console_states met.
+use crate::devices::mark;
+use crate::inputs::{Call, Lent};
+use crate::outcome::{Outcome, ended, ended_keeping};
+use console_states::{End, Held, Keymaps, go_out, meet_all, sights_in};
+use keymap_core::{KeyMap, Write};
+use std::alloc::{AllocError, Global};
+
+fn alone<'m>(map: &'m KeyMap) -> Keymaps<'m> {
+    Keymaps {
+        first: map,
+        second: map,
+        has_loads: false,
+    }
+}
+
+fn meets_all<W: Write>(alloc: Global, lent: &Lent, marks: &mut W) -> Outcome {
+    let maps = alone(&lent.map);
+    mark(marks);
+    let given = meet_all(alloc, &maps, &[Held::start()]);
+    mark(marks);
+    ended_keeping(
+        &given,
+        matches!(&given, Ok((met, End::Complete)) if met.len() > 1),
+        lent.is_kept(),
+    )
+}
+
+/// What is seen in the states that were met, if these are all.
+fn tells_what_is_seen<W: Write>(
+    alloc: Global,
+    lent: &Lent,
+    marks: &mut W,
+) -> Result<Option<Outcome>, AllocError> {
+    let maps = alone(&lent.map);
+    let (met, end) = meet_all(alloc, &maps, &[Held::start()])?;
+    match end {
+        End::TooMany(_) => Ok(None),
+        End::Complete => {
+            mark(marks);
+            let given = sights_in(alloc, &met, &maps);
+            mark(marks);
+            Ok(Some(ended(
+                &given,
+                matches!(&given, Ok(sights) if !sights.offers.is_empty()),
+            )))
+        }
+    }
+}
+
+/// The events to the second state that was met.
+fn tells_the_way<W: Write>(
+    alloc: Global,
+    lent: &Lent,
+    marks: &mut W,
+) -> Result<Option<Outcome>, AllocError> {
+    let maps = alone(&lent.map);
+    let (met, _) = meet_all(alloc, &maps, &[Held::start()])?;
+    if met.len() < 2 {
+        return Ok(None);
+    }
+    let mut events = Vec::new(alloc);
+    mark(marks);
+    let given = go_out(&mut events, alloc, &met, 1);
+    mark(marks);
+    Ok(Some(ended(&given, given.is_err() || !events.is_empty())))
+}
+
+/// Makes a call on what a search met. There is none where no such call has the name.
+pub(crate) fn of_searches<W: Write>(
+    call: &Call<'_>,
+    marks: &mut W,
+) -> Result<Option<Outcome>, AllocError> {
+    let Call { alloc, sample, .. } = *call;
+    match call.name {
+        "meet_all" => Ok(Some(meets_all(alloc, sample, marks))),
+        "sights_in" => tells_what_is_seen(alloc, sample, marks),
+        "go_out" => tells_the_way(alloc, sample, marks),
+        _ => Ok(None),
+    }
+}

@@ -115,3 +115,8 @@ within-less b c (Some limit) le within = omega (arith, le, within)
 pub if-ok : {A E : Type 0} (P Q : A → Type 0) → ((x : A) → P x → Q x) → (r : Result A E) → IfOk r P → IfOk r Q
 if-ok P Q f (Ok x) is = f x is
 if-ok P Q f (Err e) is = tt
+
+pub if-both : {A E : Type 0} (P Q R : A → Type 0) → ((x : A) → P x → Q x → R x) → (r : Result A E) → IfOk r P → IfOk r Q
+    → IfOk r R
+if-both P Q R f (Ok x) is also = f x is also
+if-both P Q R f (Err e) is also = tt

@@ -1,7 +1,10 @@
 use Rattle.keymap_diff.proofs.Common.{◌≡◌, ◌+◌, refl, ap, arith, subst, sym, ◌∙◌, map, state_of, State, Contains, Scroll, false, Some}
 use Rattle.keymap_diff.proofs.Common.{none-some, same_Some, ◌≤◌, Option, ℕ, Entry}
-use Rattle.keymap_diff.specs.Inner.Searches.{IsSearched, IsWithin}
-use Rattle.keymap_diff.proofs.Offers.{clear-before, clear-both, clear-searched, if-ok, offering-off}
+use Rattle.keymap_diff.proofs.Common.{IfOk, Ok, rules}
+use Rattle.std.proofs.Common.{◌-◌, ◌/◌}
+use Rattle.keymap_diff.specs.Inner.Searches.{IsClearBehind, IsNoFurther, IsSearched, IsWithin}
+use Rattle.keymap_diff.specs.declared.nearest.Nearest.{Nearest}
+use Rattle.keymap_diff.proofs.Offers.{clear-before, clear-both, clear-searched, if-both, if-ok, offering-off}
 use Rattle.keymap_diff.proofs.Offers.{one-origin, some-origin, within-less}
 use Rattle.keymap_diff.proofs.Common.{alone, IsOfferedIn}
 use Rattle.keymap_diff.proofs.telling.Offering.+nearest.Goals as goal
@@ -79,3 +82,55 @@ pub found-requires-clause-cells : goal.found-requires-clause-cells
 found-requires-clause-cells t c =
     c.requires.cells (c.presses_to-before.result + 1 + c.in-Some.more)
     (within-less _ _ c.args.nearest.limit (omega arith) (c.is_beyond-2.ensures.beyond c.if-not-is_beyond-2.false))
+
+pub returns-then-high-low-eq1-clause-limit : goal.returns-then-high-low-eq1-clause-limit
+returns-then-high-low-eq1-clause-limit t c =
+    let p = c.presses_to-before.result + 1 + c.in-Some.more in
+    if-ok (λ (x : Nearest). x.limit ≡ Some p) (λ (x : Nearest). IsNoFurther x.limit c.args.nearest.limit)
+    (λ x e b is. within-less b (p + 1) c.args.nearest.limit
+    (let le : b ≤ p = subst (λ o. IsWithin b o) e is in omega (arith, le))
+    (c.is_beyond-2.ensures.beyond c.if-not-is_beyond-2.false))
+    c.found.result c.found.ensures.limit
+
+pub returns-then-high-low-eq1-clause-clear : goal.returns-then-high-low-eq1-clause-clear
+returns-then-high-low-eq1-clause-clear t c =
+    let m = c.args.self.now.both.old.now in
+    let n = c.args.self.now.both.new.now in
+    let i = c.args.self.now.accent in
+    let es = c.args.self.now.met.now.entries in
+    let p = c.presses_to-before.result + 1 + c.in-Some.more in
+    if-ok (λ (x : Nearest). x.limit ≡ Some p)
+    (λ (x : Nearest). (b : ℕ) → IsWithin b x.limit → IsClearBehind m n i es c.args.low c.args.high b)
+    (λ x e b is. let le : b ≤ p = subst (λ o. IsWithin b o) e is in
+    clear-searched m n i es c.args.low c.args.high b c.presses_to-before.result
+    (map state_of c.in_ok-origins.origins.items) c.in_ok-searched.searched c.requires.met c.in_ok-origins.ensures
+    (subst (λ z. IsSearched m n (map state_of z) (Some i) c.in_ok-searched.searched) c.deref.ensures.value
+    c.in_ok-searched.ensures) c.presses_to-before.ensures.value
+    (λ more f. subst (λ r. b ≤ c.presses_to-before.result + 1 + r) (same_Some c.in-Some.more more (sym c.in-Some.is ∙ f)) le))
+    c.found.result c.found.ensures.limit
+
+pub nearest-requires-2 : goal.nearest-requires-2
+nearest-requires-2 t c =
+    let cells = λ (b : ℕ) (is : IsWithin b c.in_ok-nearer.nearer.limit). c.requires.cells b (c.in_ok-nearer.ensures.limit b is) in
+    (search rules, (c.requires.usable, (c.requires.met, ((search rules, c.requires.places.1), (c.requires.small,
+    (c.in_ok-nearer.ensures.nearest, cells))))))
+
+pub returns-clause-limit : goal.returns-clause-limit
+returns-clause-limit t c =
+    if-ok (λ (x : Nearest). IsNoFurther x.limit c.in_ok-nearer.nearer.limit)
+    (λ (x : Nearest). IsNoFurther x.limit c.args.nearest.limit)
+    (λ x less b is. c.in_ok-nearer.ensures.limit b (less b is)) c.nearest-2.result c.nearest-2.ensures.limit
+
+pub returns-clause-clear : goal.returns-clause-clear
+returns-clause-clear t c =
+    let m = c.args.self.now.both.old.now in
+    let n = c.args.self.now.both.new.now in
+    let i = c.args.self.now.accent in
+    let es = c.args.self.now.met.now.entries in
+    let middle = c.args.low + (c.args.high - c.args.low) / 2 in
+    if-both (λ (x : Nearest). IsNoFurther x.limit c.in_ok-nearer.nearer.limit)
+    (λ (x : Nearest). (b : ℕ) → IsWithin b x.limit → IsClearBehind m n i es middle c.args.high b)
+    (λ (x : Nearest). (b : ℕ) → IsWithin b x.limit → IsClearBehind m n i es c.args.low c.args.high b)
+    (λ x less right b is. clear-both m n i es c.args.low middle c.args.high b
+    (c.in_ok-nearer.ensures.clear b (less b is)) (right b is))
+    c.nearest-2.result c.nearest-2.ensures.limit c.nearest-2.ensures.clear

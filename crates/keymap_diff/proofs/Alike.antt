@@ -8,12 +8,12 @@ use Rattle.keymap_diff.proofs.Common.{is_pending, char_or_error, answer_char, an
 use Rattle.keymap_diff.proofs.Common.{answer_release, next_pending, unless_nop, taken_over, held, locked, on, remembered}
 use Rattle.keymap_diff.proofs.Common.{pending, look, resolve_press, answer_resolved, ResolvedEvent, PressedCharacter}
 use Rattle.keymap_diff.proofs.Common.{PressedAction, ReleasedKey, WasReset, between, resolved, answer_to, answers_to}
-use Rattle.keymap_diff.proofs.Common.{HasKey, IsNoLoad, alone, State, is_held, IsIdle, Follows, presses, IsAdmitted}
-use Rattle.keymap_diff.proofs.Common.{NeverForgets, looked_up, AreCellsAlike, AreCellsClear, IsAccentClear, Gives}
+use Rattle.keymap_diff.proofs.Common.{HasKey, IsNoLoad, alone, State, is_held, Follows, presses, IsAdmitted}
+use Rattle.keymap_diff.proofs.Common.{NeverForgets, looked_up, AreCellsAlike, AreCellsClear, IsAccentClear}
 use Rattle.keymap_diff.proofs.Common.{IsUnnoticed, MakesSame, ShowsNothing, IsAnsweredAlike}
 use Rattle.console_core.specs.Columns.{look_with}
 use Rattle.keymap_diff.specs.Telling.{AnswersAreSame}
-use Rattle.keymap_diff.proofs.Reached.{stands-by, pends-by, PendsBy}
+use Rattle.keymap_diff.proofs.Reached.{stands-by, pends-by}
 use Rattle.console_core.proofs.OneMore.{resolved-start, resolved-more, held-character, held-action}
 use Rattle.console_core.proofs.OneMore.{held-release, held-reset, locked-character, locked-action}
 use Rattle.console_core.proofs.OneMore.{locked-release, locked-reset, remembered-character}

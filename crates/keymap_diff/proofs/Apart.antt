@@ -1,36 +1,30 @@
 -- What was found tells the two keymaps apart, or else that too many states are reached.
-use Rattle.keymap_diff.proofs.Common.{suc, ◌≡◌, ℕ, ◌+◌, ◌<◌, ◌≤◌, false, true, inl, inr, List, [], ◌∷◌, ◌++◌, length}
-use Rattle.keymap_diff.proofs.Common.{slice_get, Option, Some, None, refl, ap, subst, sym, ◌∙◌, arith, cases_lt, reverse}
-use Rattle.keymap_diff.proofs.Common.{append_assoc, none-some, same_Some, All-cons, Contains, MatchOption, MapValue}
+use Rattle.keymap_diff.proofs.Common.{suc, ◌≡◌, ℕ, ◌+◌, ◌<◌, true, inl, inr, List, [], ◌∷◌, ◌++◌, length}
+use Rattle.keymap_diff.proofs.Common.{Option, Some, None, refl, ap, subst, sym, ◌∙◌, arith, reverse}
+use Rattle.keymap_diff.proofs.Common.{append_assoc, same_Some, All-cons, MatchOption, MapValue}
 use Rattle.keymap_diff.proofs.Common.{Move, Hold, Turn, LetGo, Exchange, Event, Press, Release, Act, HasKey}
-use Rattle.keymap_diff.proofs.Common.{IsPressOrRelease, ReleasesPressedKeys, usable, between, resolved, pending}
-use Rattle.keymap_diff.proofs.Common.{alone, Under, State, start, IsIdle, IsPath, IsPathFrom, look_in, state_after}
+use Rattle.keymap_diff.proofs.Common.{IsPressOrRelease, usable, between}
+use Rattle.keymap_diff.proofs.Common.{alone, Under, State, start, IsIdle, IsPathFrom, look_in, state_after}
 use Rattle.keymap_diff.proofs.Common.{state_from, presses_along, presses_of, events_along, events_of_move, presses}
-use Rattle.keymap_diff.proofs.Common.{state_of, Entry, Entries, IsReached, IsTrail, Searched, NeverForgets, TellsApart}
+use Rattle.keymap_diff.proofs.Common.{state_of, Entries, IsReached, IsTrail, TellsApart}
 use Rattle.keymap_diff.proofs.Common.{answer_to, Answer, ◌≢◌}
 use Rattle.console_states.proofs.Looking.{push-reversed}
-use Rattle.keymap_diff.proofs.Common.{Shows, ShowsNothing, AreCellsClear, End, TooMany, Complete}
+use Rattle.keymap_diff.proofs.Common.{Shows, ShowsNothing, AreCellsClear}
 use Rattle.keymap_diff.specs.Telling.{IsToldBy}
-use Rattle.keymap_diff.specs.Inner.Searches.{IsFoundBy, IsMetAt, IsMetFromStart, IsReach, IsReachAt, IsScript, IsSearched}
+use Rattle.keymap_diff.specs.Inner.Searches.{IsFoundBy, IsMetFromStart, IsReach, IsReachAt, IsScript, IsSearched}
 use Rattle.keymap_diff.specs.Inner.Searches.{IsSearchedAt, IsTappedAt, IsWithin}
 use Rattle.keymap_diff.specs.Inner.Showing.{IsFirstShown, NoneShowsBelow}
 use Rattle.keymap_diff.specs.declared.searched.Searched.{Searched as SearchedValue}
 use Rattle.keymap_diff.specs.declared.showing.Shown.{Shown}
 use Rattle.keymap_diff.specs.declared.telling.Telling.{Telling}
 use Rattle.keymap_diff.specs.declared.telling.Telling.TheVariants.{Told, Never, Undecided}
-use Rattle.console_states.specs.Sticking.{ReachesMoreThan}
-use Rattle.console_states.specs.Searching.{AreMetOnce, AreOrdered, AreSafe}
-use Rattle.console_states.proofs.Beginning.{reached-one, start-one}
+use Rattle.console_states.proofs.Beginning.{reached-one}
 use Rattle.console_states.proofs.Behind.{path-split}
-use Rattle.console_states.proofs.Concluding.{safe-below}
 use Rattle.console_states.proofs.Going.{pending-is, tap-pending}
-use Rattle.console_states.proofs.Searching.{all-done}
 use Rattle.console_states.proofs.Shown.{short-tap}
 use Rattle.console_states.proofs.Tapping.{dead-tapped}
 use Rattle.console_states.proofs.Visits.{press-presses}
-use Rattle.std.proofs.lemmas.Option.{slice_get-get_or, slice_get_within}
-use Rattle.std.proofs.Common.{get_or}
-use Rattle.keymap_diff.proofs.Clearing.{among-along, searched-cells}
+use Rattle.keymap_diff.proofs.Clearing.{searched-cells}
 use Rattle.keymap_diff.proofs.Unlike.{Placed, IsPressAnsweredAlike, look-in, path-too, placed-along, placed-path}
 use Rattle.keymap_diff.proofs.Unlike.{told-accent, told-cells}
 use Rattle.keymap_core.specs.declared.action.Action.TheVariants as act

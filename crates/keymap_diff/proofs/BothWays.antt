@@ -1,8 +1,8 @@
 -- What is told of safe keymaps is the same both ways.
-use Rattle.keymap_diff.proofs.Common.{◌≡◌, ◌<◌, ◌≤◌, ℕ, true, List, [], ◌∷◌, ◌++◌, subst, refl, sym, arith, rules}
-use Rattle.keymap_diff.proofs.Common.{All-head, All-tail, Event, Press, Act, Char, HasKey, HasKeys, HasNoLoads, MapValue}
-use Rattle.keymap_diff.proofs.Common.{between, resolved, in_force, IsAdmitted, IsClean, IsPressOrRelease, IsNoLoad}
-use Rattle.keymap_diff.proofs.Common.{Release, Reset, Load, All, true≢false, IsAnsweredAlike, TellsApart, presses, reverse}
+use Rattle.keymap_diff.proofs.Common.{◌≡◌, ◌<◌, ◌≤◌, ℕ, true, List, [], ◌∷◌, ◌++◌, subst, refl, sym, arith}
+use Rattle.keymap_diff.proofs.Common.{All-head, All-tail, Event, Press, Act, Char, HasKey, HasKeys, MapValue}
+use Rattle.keymap_diff.proofs.Common.{between, resolved, in_force, IsAdmitted, IsPressOrRelease, IsNoLoad}
+use Rattle.keymap_diff.proofs.Common.{Release, Reset, Load, true≢false, IsAnsweredAlike, TellsApart, presses, reverse}
 use Rattle.keymap_diff.proofs.Common.{Bool, Answer}
 use Rattle.std.proofs.lemmas.List.Elements.{All-weaker}
 use Rattle.keymap_core.specs.Bearers.{IsCellOf}
@@ -13,9 +13,8 @@ use Rattle.console_core.proofs.Facts.{looks_are_cells}
 use Rattle.console_core.proofs.OneMap.{one_in_force}
 use Rattle.keymap_core.specs.declared.action.Action.TheVariants as act
 use Rattle.keymap_core.specs.declared.action.Holding.TheVariants as holding
-use Rattle.keymap_diff.specs.Telling.{AgreesBothWays, AgreeOnPresses, IsTelling, IsToldBy, SafeListsAreClean}
+use Rattle.keymap_diff.specs.Telling.{AgreesBothWays, IsToldBy, SafeListsAreClean}
 use Rattle.keymap_diff.specs.Telling.{SameIsNeverTold}
-use Rattle.keymap_diff.specs.declared.telling.Telling.{Telling}
 use Rattle.keymap_diff.specs.declared.telling.Telling.TheVariants.{Told, Never, Undecided}
 
 later-keys : (later h : List Event) → HasKeys (later ++ h) → HasKeys h

@@ -1,9 +1,9 @@
 -- What a search met tells of all paths: where a press shows nothing in what it met, none does where fewer presses lead
 -- than to where something shows or the search gave up.
-use Rattle.keymap_diff.proofs.Common.{zero, suc, ◌≡◌, ℕ, ◌+◌, ◌<◌, ◌≤◌, inl, inr, List, [], ◌∷◌, ◌++◌, length, slice_get, Option}
-use Rattle.keymap_diff.proofs.Common.{Some, None, refl, ap, subst, sym, ◌∙◌, arith, rules, cases_lt, slice_get_within}
+use Rattle.keymap_diff.proofs.Common.{zero, suc, ◌≡◌, ℕ, ◌+◌, ◌<◌, ◌≤◌, inl, inr, List, [], ◌∷◌, length, slice_get, Option}
+use Rattle.keymap_diff.proofs.Common.{Some, None, refl, ap, subst, sym, ◌∙◌, arith, cases_lt, slice_get_within}
 use Rattle.keymap_diff.proofs.Common.{Contains, MatchOption, MapValue, Move, End, TooMany, Complete, alone, State, start}
-use Rattle.keymap_diff.proofs.Common.{IsPath, IsPathFrom, state_from, state_after, presses_along, presses_of, IsReached}
+use Rattle.keymap_diff.proofs.Common.{IsPath, IsPathFrom, state_from, state_after, presses_along, presses_of}
 use Rattle.keymap_diff.proofs.Common.{state_of, Entry, Entries, IsMetBy, IsTrail, AreDone, HasEnded, unscrolled}
 use Rattle.keymap_diff.proofs.Common.{NoneShows, ShowsNothing, AreCellsClear, IsAccentClear, IsOfferedIn, Hold, Turn}
 use Rattle.keymap_diff.proofs.Common.{LetGo, Exchange, Under}
@@ -13,7 +13,7 @@ use Rattle.keymap_diff.specs.declared.searched.Searched.{Searched}
 use Rattle.keymap_diff.specs.declared.showing.Shown.{Shown}
 use Rattle.console_states.specs.Searching.{Searched as SearchedStates, AreOrdered}
 use Rattle.console_states.proofs.Concluding.{IsAmong, among-moved}
-use Rattle.console_states.proofs.Searching.{all-done, met-up}
+use Rattle.console_states.proofs.Searching.{all-done}
 use Rattle.console_states.proofs.Unscrolled.{moves-unscrolled, same_moved}
 
 -- no more presses lead to a place than stand before it

@@ -1,9 +1,9 @@
 -- How a search ends where nothing shows: all states were met, or more than it goes over.
-use Rattle.keymap_diff.proofs.Common.{zero, suc, ◌≡◌, ℕ, ◌+◌, ◌<◌, ◌≤◌, true, false, Bool, inl, inr, List, [], ◌∷◌, ◌++◌, length}
+use Rattle.keymap_diff.proofs.Common.{suc, ◌≡◌, ℕ, ◌+◌, ◌<◌, ◌≤◌, false, Bool, inl, inr, List, [], ◌∷◌, ◌++◌, length}
 use Rattle.keymap_diff.proofs.Common.{slice_get, Option, Some, None, refl, ap, subst, sym, ◌∙◌, arith, cases_lt, none-some}
-use Rattle.keymap_diff.proofs.Common.{same_Some, slice_get_within, Contains, MatchOption, MapValue, Move, alone, Under}
+use Rattle.keymap_diff.proofs.Common.{same_Some, slice_get_within, Contains, MatchOption, MapValue, Move, alone}
 use Rattle.keymap_diff.proofs.Common.{State, start, IsPath, IsPathFrom, state_after, state_from, presses_along, state_of}
-use Rattle.keymap_diff.proofs.Common.{Entry, Entries, HasEnded, IsTrail, Searched, NeverForgets, End, TooMany, Complete}
+use Rattle.keymap_diff.proofs.Common.{Entry, Entries, HasEnded, Searched, NeverForgets, End, TooMany, Complete}
 use Rattle.keymap_diff.proofs.Common.{is_some, true≢false}
 use Rattle.std.proofs.lemmas.Option.{slice_get-get_or}
 use Rattle.std.proofs.Common.{get_or}

@@ -1,8 +1,8 @@
 -- The places that offer an accent, and what searches from them tell of all paths by a tap of its dead key.
-use Rattle.keymap_diff.proofs.Common.{zero, suc, ◌≡◌, ℕ, ◌+◌, ◌<◌, ◌≤◌, true, inl, inr, List, [], ◌∷◌, ◌++◌, length}
+use Rattle.keymap_diff.proofs.Common.{suc, ◌≡◌, ℕ, ◌+◌, ◌≤◌, inl, inr, List, [], ◌∷◌, ◌++◌}
 use Rattle.keymap_diff.proofs.Common.{slice_get, Option, Some, None, refl, ap, subst, sym, ◌∙◌, arith, cases_lt, none-some}
-use Rattle.keymap_diff.proofs.Common.{same_Some, slice_get_within, Contains, MapValue, Move, alone, State, start, state_of}
-use Rattle.keymap_diff.proofs.Common.{Entry, Entries, IsPath, state_after, IsOfferedIn, IsPathFrom, presses_along, NoneShows, state_from}
+use Rattle.keymap_diff.proofs.Common.{Contains, MapValue, alone, State, state_of}
+use Rattle.keymap_diff.proofs.Common.{Entry, Entries, IsOfferedIn, presses_along}
 use Rattle.keymap_diff.proofs.Common.{Scroll, false}
 use Rattle.std.proofs.lemmas.List.Elements.{Contains-append_left, Contains-push, Contains-push_cases}
 use Rattle.keymap_diff.specs.Inner.Searches.{AreOffering, IsClearBehind, IsMetAt, IsMetFromStart, IsReach, IsSearched}

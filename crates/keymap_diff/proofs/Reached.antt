@@ -1,10 +1,10 @@
 -- The states in which a console stands, by the presses that lead there, and where an accent is pending.
 use Rattle.keymap_diff.proofs.Common.{suc, ◌≡◌, ℕ, ◌+◌, ◌<◌, ◌≤◌, Bool, true, false, List, [], ◌∷◌, Some, refl, ap}
 use Rattle.keymap_diff.proofs.Common.{subst, sym, ◌∙◌, inl, inr, arith, rules, All-head, true≢false, None}
-use Rattle.keymap_diff.proofs.Common.{Action, Modifier, Cell, Char, Act, Event, Press, Release, Reset, Load, Move, LetGo}
+use Rattle.keymap_diff.proofs.Common.{Action, Cell, Char, Act, Event, Press, Release, Reset, Load, Move, LetGo}
 use Rattle.keymap_diff.proofs.Common.{MapValue, ResolvedEvent, PressedAction, ReleasedKey, remembered, taken_over}
 use Rattle.keymap_diff.proofs.Common.{pending, look, resolve_press, between, resolved, is_second_in_force, same_action}
-use Rattle.keymap_diff.proofs.Common.{HasKey, IsNoLoad, alone, State, IsIdle, IsMove, moved, look_in, IsPath, IsPathFrom}
+use Rattle.keymap_diff.proofs.Common.{HasKey, IsNoLoad, alone, State, IsMove, moved, look_in, IsPath, IsPathFrom}
 use Rattle.keymap_diff.proofs.Common.{state_after, state_from, presses_along, presses_of, presses, NeverForgets}
 use Rattle.keymap_diff.proofs.Common.{IsAdmitted, IsOfferedIn, Follows, usable, holding_action}
 use Rattle.console_core.proofs.OneMore.{one_map, resolved-start, resolved-more, pending-start, pending-character}

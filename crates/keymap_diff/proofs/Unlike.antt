@@ -1,22 +1,21 @@
 -- Where a key shows a difference of two keymaps, a press of it or its release is answered differently.
-use Rattle.keymap_diff.proofs.Common.{◌≡◌, ◌≢◌, ℕ, ◌+◌, ◌<◌, ◌≤◌, ◌⊎◌, Bool, false, true, List, [], ◌∷◌, ◌++◌, Option}
+use Rattle.keymap_diff.proofs.Common.{◌≡◌, ◌≢◌, ℕ, ◌≤◌, ◌⊎◌, Bool, false, true, List, [], ◌∷◌, ◌++◌, Option}
 use Rattle.keymap_diff.proofs.Common.{Some, None, refl, ap, subst, sym, ◌∙◌, inl, inr, arith, cases_Bool, true≢false}
 use Rattle.keymap_diff.proofs.Common.{option_or, eq-eqb, same_action, same_action-true, same_action-refl, Action}
 use Rattle.keymap_diff.proofs.Common.{Modifier, Meta, Cell, Char, Act, Event, Press, Release, Answer, Move, Hold, Turn}
-use Rattle.keymap_diff.proofs.Common.{LetGo, Exchange, MapValue, accent_at, own_of, composed_by, usable, answer_char}
+use Rattle.keymap_diff.proofs.Common.{LetGo, Exchange, MapValue, accent_at, composed_by, usable, answer_char}
 use Rattle.keymap_diff.proofs.Common.{answer_action, answer_release, answer_dead_key, char_or_error, unless_nop}
 use Rattle.keymap_diff.proofs.Common.{taken_over, on, remembered, pending, resolve_press, answer_resolved}
 use Rattle.keymap_diff.proofs.Common.{ResolvedEvent, between, resolved, answer_to, alone, State, IsIdle, IsPath}
-use Rattle.keymap_diff.proofs.Common.{IsPathFrom, IsOfferedIn, look_in, moved, start, state_after, state_from}
+use Rattle.keymap_diff.proofs.Common.{IsPathFrom, look_in, moved, start, state_after, state_from}
 use Rattle.keymap_diff.proofs.Common.{presses_along, events_along, Stands, false≢true, TellsApart, looked_up}
-use Rattle.keymap_diff.proofs.Common.{AreCellsAlike, AreCellsClear, Gives, IsUnnoticed, MakesSame, Shows, ShowsNothing}
+use Rattle.keymap_diff.proofs.Common.{AreCellsAlike, AreCellsClear, Gives, IsUnnoticed, Shows, ShowsNothing}
 use Rattle.console_core.specs.declared.event.Answer.TheVariants as answer
 use Rattle.keymap_diff.proofs.Alike.{look-is, own-composed, press-answered, press-resolved}
 use Rattle.console_core.proofs.OneMore.{one_map, resolved-start, pending-start, remembered-character, remembered-action}
-use Rattle.console_states.proofs.Going.{pending-along, pending-is, tap-pending}
-use Rattle.console_states.proofs.Shown.{IsShort, short-start, short-along, short-tap}
+use Rattle.console_states.proofs.Going.{pending-along}
+use Rattle.console_states.proofs.Shown.{IsShort, short-start, short-along}
 use Rattle.console_states.proofs.Standing.{idle-none, stands-from, stands-start}
-use Rattle.console_states.proofs.Tapping.{dead-tapped}
 use Rattle.keymap_core.specs.declared.action.Action.TheVariants as act
 
 -- ---- by the cells that the key looks up

@@ -1,7 +1,7 @@
 use Rattle.keymap_diff.proofs.Apart.{cells-told}
 use Rattle.keymap_diff.proofs.Ending.{goes-back, searched-many, searched-never, shown-place}
-use Rattle.keymap_diff.proofs.Common.{[], ◌∷◌, ◌++◌, ◌≤◌, None, ap, arith, refl, reverse, subst, sym, ◌∙◌, start, events_along}
-use Rattle.keymap_diff.proofs.Common.{alone, MatchOption, length, Under}
+use Rattle.keymap_diff.proofs.Common.{[], ◌∷◌, ◌++◌, None, ap, arith, reverse, subst, ◌∙◌, start, events_along}
+use Rattle.keymap_diff.proofs.Common.{MatchOption, length}
 use Rattle.console_states.specs.Searching.{AreSafe, IsStuck}
 use Rattle.keymap_diff.proofs.Clearing.{start-reached}
 use Rattle.keymap_diff.proofs.nearest.by_cells.Goals.{in-Some+in_ok-go_out-in-Some+in_ok-telling-in-Some}

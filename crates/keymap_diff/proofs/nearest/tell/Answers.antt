@@ -16,9 +16,13 @@ returns c =
     script-release m n c.args.events.items _ _ c.deref-3.result.now c.deref-4.result.now c.args.key _ _
     c.in_ok-push.ensures.items c.in_ok-push-2.ensures.items c.deref-3.ensures.value c.deref-4.ensures.value
     c.answer-old-2.ensures c.answer-new-2.ensures in
-    inr (e, a, b,
-    sym (subst (λ z. c.answer-old.result ≡ answer_to (between m m) (reverse z) (Press c.args.key)) c.deref.ensures.value
-    c.answer-old.ensures)
-    ∙ c.are_same.ensures.same c.if-not-are_same.false
-    ∙ subst (λ z. c.answer-new.result ≡ answer_to (between n n) (reverse z) (Press c.args.key)) c.deref-2.ensures.value
-    c.answer-new.ensures)
+    inr (
+      e,
+      a,
+      b,
+      sym (subst (λ z. c.answer-old.result ≡ answer_to (between m m) (reverse z) (Press c.args.key)) c.deref.ensures.value
+          c.answer-old.ensures)
+          ∙ c.are_same.ensures.same c.if-not-are_same.false
+          ∙ subst (λ z. c.answer-new.result ≡ answer_to (between n n) (reverse z) (Press c.args.key)) c.deref-2.ensures.value
+          c.answer-new.ensures,
+    )

@@ -1,4 +1,3 @@
-use Rattle.std.proofs.Common.{refl}
 use Rattle.keymap_diff.proofs.Clearing.{presses-few}
 use Rattle.keymap_diff.proofs.searched.presses_to.Goals as goal
 

@@ -1,4 +1,4 @@
-use Rattle.keymap_diff.proofs.Common.{refl, arith}
+use Rattle.keymap_diff.proofs.Common.{refl}
 use Rattle.keymap_diff.proofs.searched.reach.Goals as goal
 
 pub returns-in-Some-clause-reach : goal.returns-in-Some-clause-reach

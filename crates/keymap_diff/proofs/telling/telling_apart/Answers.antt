@@ -1,6 +1,6 @@
-use Rattle.keymap_diff.proofs.Common.{◌≡◌, ℕ, ◌+◌, ◌<◌, ◌≤◌, true, false, inl, inr, [], ◌∷◌, Option, Some, None, length, List}
+use Rattle.keymap_diff.proofs.Common.{◌≡◌, ℕ, ◌<◌, ◌≤◌, true, false, inl, inr, [], ◌∷◌, Option, Some, None, length, List}
 use Rattle.keymap_diff.proofs.Common.{refl, sym, subst, ◌∙◌, arith, cases_lt, true≢false, slice_get_within, MapValue, accent_at}
-use Rattle.keymap_diff.proofs.Common.{AreCellsClear, IsAccentClear, start, usable, IsAdmitted, TellsApart, presses, Event}
+use Rattle.keymap_diff.proofs.Common.{AreCellsClear, IsAccentClear, usable, IsAdmitted, TellsApart, presses, Event}
 use Rattle.console_states.proofs.Searching.{place_last}
 use Rattle.keymap_diff.proofs.Alike.{below}
 use Rattle.keymap_diff.proofs.Clearing.{searched-cells, searched-near}

@@ -1,6 +1,6 @@
-use Rattle.keymap_diff.proofs.Common.{◌≡◌, ◌+◌, refl, ap, arith, subst, sym, ◌∙◌, map, state_of, State, Contains, Scroll, false, Some}
-use Rattle.keymap_diff.proofs.Common.{none-some, same_Some, ◌≤◌, Option, ℕ, Entry}
-use Rattle.keymap_diff.proofs.Common.{IfOk, Ok, rules}
+use Rattle.keymap_diff.proofs.Common.{◌≡◌, ◌+◌, arith, subst, sym, ◌∙◌, map, state_of, State, Contains, Scroll, false, Some}
+use Rattle.keymap_diff.proofs.Common.{same_Some, ◌≤◌, ℕ}
+use Rattle.keymap_diff.proofs.Common.{rules}
 use Rattle.std.proofs.Common.{◌-◌, ◌/◌}
 use Rattle.keymap_diff.specs.Inner.Searches.{IsClearBehind, IsNoFurther, IsSearched, IsWithin}
 use Rattle.keymap_diff.specs.declared.nearest.Nearest.{Nearest}
@@ -57,10 +57,13 @@ found-requires-clause-at t c =
     some-origin m n i es c.args.low c.args.high c.in-Some.more os c.in_ok-searched.searched
     (subst (λ z. IsSearched m n (map state_of z) (Some i) c.in_ok-searched.searched) c.deref.ensures.value
     c.in_ok-searched.ensures) c.in-Some.is c.in_ok-origins.ensures in
-    let (j, x, there, le, lt, same, is) = c.in_ok-origins.ensures.only o has in
-    (y, at, subst (λ z. IsOfferedIn (alone m) z i)
-    (one-origin m i es c.args.low c.args.high os y at (omega (arith, c.if-high-low-eq1.true)) c.in_ok-origins.ensures o has)
-    is)
+    let (j, x, there, le, lt, same, is) = c.in_ok-origins.ensures.only o has in (
+      y,
+      at,
+      subst (λ z. IsOfferedIn (alone m) z i)
+          (one-origin m i es c.args.low c.args.high os y at (omega (arith, c.if-high-low-eq1.true)) c.in_ok-origins.ensures o has)
+          is,
+    )
 
 pub found-requires-clause-searched : goal.found-requires-clause-searched
 found-requires-clause-searched t c =
@@ -111,9 +114,22 @@ returns-then-high-low-eq1-clause-clear t c =
 
 pub nearest-requires-2 : goal.nearest-requires-2
 nearest-requires-2 t c =
-    let cells = λ (b : ℕ) (is : IsWithin b c.in_ok-nearer.nearer.limit). c.requires.cells b (c.in_ok-nearer.ensures.limit b is) in
-    (search rules, (c.requires.usable, (c.requires.met, ((search rules, c.requires.places.1), (c.requires.small,
-    (c.in_ok-nearer.ensures.nearest, cells))))))
+    let cells = λ (b : ℕ) (is : IsWithin b c.in_ok-nearer.nearer.limit). c.requires.cells b (c.in_ok-nearer.ensures.limit b is) in (
+      search rules,
+      (
+        c.requires.usable,
+        (
+          c.requires.met,
+          (
+            (search rules, c.requires.places.1),
+            (
+              c.requires.small,
+              (c.in_ok-nearer.ensures.nearest, cells),
+            ),
+          ),
+        ),
+      ),
+    )
 
 pub returns-clause-limit : goal.returns-clause-limit
 returns-clause-limit t c =

@@ -1,4 +1,4 @@
-use Rattle.keymap_diff.proofs.Common.{[], ◌∷◌, ◌++◌, ◌≡◌, ap, subst, sym, ◌∙◌, state_of, alone, slice_get_within, same_Some}
+use Rattle.keymap_diff.proofs.Common.{◌∷◌, ◌++◌, ap, subst, sym, ◌∙◌, state_of, alone, slice_get_within, same_Some}
 use Rattle.keymap_diff.proofs.Common.{Offers, Under, reverse, events_along, Press, Release}
 use Rattle.console_states.proofs.GoingBack.{searched-back}
 use Rattle.keymap_diff.proofs.Apart.{tap-reversed}

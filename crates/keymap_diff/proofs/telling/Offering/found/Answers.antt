@@ -1,5 +1,4 @@
-use Rattle.keymap_diff.proofs.Common.{◌∷◌, ◌+◌, [], Some, None, Contains, State, alone, start, state_of, subst, sym, reverse, refl, arith}
-use Rattle.keymap_diff.proofs.Common.{IsPath, state_after, presses_along, Move, ◌≡◌, ◌≤◌, ap, ◌∙◌, same_Some}
+use Rattle.keymap_diff.proofs.Common.{◌+◌, Some, sym, reverse, refl}
 use Rattle.keymap_diff.proofs.Apart.{accent-told}
 use Rattle.keymap_diff.proofs.Ending.{goes-back, searched-many, shown-place, tapped-reached}
 use Rattle.keymap_diff.proofs.telling.Offering.found.Goals.{in-Some+in_ok-events-in-Some+in_ok-go_out-in-Some+in_ok-telling-in-Some}

@@ -1,4 +1,4 @@
-use Rattle.keymap_diff.proofs.Common.{[], ◌∷◌, ap, ◌∙◌, map, state_of, alone, subst, rules, Offers, Under, arith}
+use Rattle.keymap_diff.proofs.Common.{[], ◌∷◌, ap, ◌∙◌, map, state_of, subst, Offers, Under, arith}
 use Rattle.std.proofs.lemmas.List.{map-append}
 use Rattle.keymap_diff.proofs.Offers.{offering-none, offering-more, offering-skip}
 use Rattle.keymap_diff.specs.Inner.Searches.{AreOffering}

@@ -120,9 +120,8 @@ fn show_all<T: Translator + Drop>(
 
 /// Adds that the part begins there, unless it ends there.
 fn begin(starts: &mut Vec<Start>, part: Part, at: usize, end: usize) -> Result<(), AllocError>
-    requires below { ArePartsBelow (part_place part) starts.old.items at }
-    requires order { at ≤ end }
-    ensures below { OnOk result (ArePartsBelow (part_place part + 1) starts.new.items end) }
+    ensures below { OnOk result (ArePartsBelow (part_place part) starts.old.items at → at ≤ end
+        → ArePartsBelow (part_place part + 1) starts.new.items end) }
     ensures added { OnOk result ((s : StartValue) → Contains starts.new.items s
         → Contains starts.old.items s ⊎ ((s.part ≡ part) × (s.at ≡ at))) }
 {
@@ -140,11 +139,10 @@ fn starts_of(
     third: usize,
     last: usize,
 ) -> Result<Vec<Start>, AllocError>
-    requires first { first ≤ second }
-    requires second { second ≤ third }
-    requires third { third ≤ last }
-    ensures parts { IfOk result (λ starts. AreParts starts.items last) }
-    ensures behind { IfOk result (λ starts. StandBehind starts.items first second) }
+    ensures parts { IfOk result (λ starts. first ≤ second → second ≤ third → third ≤ last
+        → AreParts starts.items last) }
+    ensures behind { IfOk result (λ starts. first ≤ second → second ≤ third
+        → StandBehind starts.items first second) }
 {
     let mut starts = Vec::new(alloc);
     begin(&mut starts, Part::Cells, 0, first)?;

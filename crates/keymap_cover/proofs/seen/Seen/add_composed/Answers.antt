@@ -1,6 +1,6 @@
 use Rattle.keymap_cover.proofs.Common.{has_seen, rules}
 use Rattle.keymap_cover.proofs.Scripts.{pair-added, pair-not}
-use Rattle.keymap_cover.proofs.walk.add_pair.Goals as goal
+use Rattle.keymap_cover.proofs.seen.Seen.add_composed.Goals as goal
 
 pub returns-in_ok-add_pair : goal.returns-in_ok-add_pair
 returns-in_ok-add_pair c = search (rules, has_seen, pair-added)

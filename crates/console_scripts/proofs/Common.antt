@@ -33,10 +33,10 @@ pub use Rattle.console_states.specs.Searching.{Searched, StepsTo, state_of, unde
 pub use Rattle.console_states.specs.Sights.{AreSightsOf, IsAdmitted, IsPendingFor, IsReachable, SeesBy}
 pub use Rattle.console_states.specs.Sights.{look_selected, selection_of}
 pub use Rattle.console_states.specs.Sticking.{NeverForgets, ReachesMoreThanFrom, presses}
-pub use Rattle.console_states.specs.Types.{Act, Action, Alt, AltShift, Answer, Caps, Cell, Char, Event, Exchange}
-pub use Rattle.console_states.specs.Types.{Hold, Holding, LeftAlt, LeftControl, LeftShift, LetGo, Load, Lock, Meta}
-pub use Rattle.console_states.specs.Types.{Modifier, Move, Num, Press, Release, Reset, RightAlt, RightControl}
-pub use Rattle.console_states.specs.Types.{RightShift, Scroll, Sight, Turn}
+pub use Rattle.console_scripts.specs.Types.{Act, Action, Alt, AltShift, Answer, Caps, Cell, Char, Event, Exchange}
+pub use Rattle.console_scripts.specs.Types.{Hold, Holding, LeftAlt, LeftControl, LeftShift, LetGo, Load, Lock, Meta}
+pub use Rattle.console_scripts.specs.Types.{Modifier, Move, Num, Press, Release, Reset, RightAlt, RightControl}
+pub use Rattle.console_scripts.specs.Types.{RightShift, Scroll, Sight, Turn}
 pub use Rattle.console_states.specs.declared.held.Held.{Held}
 pub use Rattle.console_states.specs.declared.held.Step.{Step}
 pub use Rattle.indexmap.specs.IndexMap.{insert_entry}

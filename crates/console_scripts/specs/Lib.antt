@@ -1,3 +1,4 @@
 pub mod Inner
+pub mod Types
 pub mod Typing
 pub mod Visiting

@@ -4,7 +4,7 @@ use Rattle.std.specs.Prelude.{◌≡◌, ◌⊎◌, ℕ, ◌<◌, Bool, false, L
 use Rattle.std.specs.List.{Contains}
 use Rattle.keymap_core.specs.Maps.{MapValue}
 use Rattle.keymap_core.specs.Numbers.{key_count}
-use Rattle.console_states.specs.Types.{Lock, Caps, Num, Scroll, Alt, Event, Move, Turn, Selection, Sight}
+use Rattle.console_scripts.specs.Types.{Lock, Caps, Num, Scroll, Alt, Event, Move, Turn, Selection, Sight}
 use Rattle.console_states.specs.declared.held.Held.{Held}
 use Rattle.console_scripts.specs.declared.onward.Onward.{Onward}
 use Rattle.console_states.specs.declared.selection.Sight.TheVariants as sight

@@ -8,7 +8,7 @@ ghost use Rattle.console_states.specs.declared.held.Held.{Held as HeldValue};
 ghost use Rattle.console_states.specs.Moves.{alone, start, free_with, state_of, with_lock_turned};
 ghost use Rattle.console_states.specs.Returning.{IsAfter, but_scroll};
 ghost use Rattle.console_states.specs.Sights.{AreSightsOf};
-ghost use Rattle.console_states.specs.Types.{Scroll};
+ghost use Rattle.console_scripts.specs.Types.{Scroll};
 ghost use Rattle.console_scripts.specs.Typing.{ComesHome};
 ghost use Rattle.console_scripts.specs.Visiting.{AreStatesOf, CanReach, CanVisit, HasLocks, IsPressTold, IsWayHome};
 ghost use Rattle.console_scripts.specs.Visiting.{LeadsBy, Visits};

@@ -3,7 +3,7 @@ ghost use Rattle.std.specs.Prelude.{◌≡◌, ◌<◌, ◌++◌, ℕ, List, fal
 ghost use Rattle.std.specs.Prelude.{MatchOption};
 ghost use Rattle.std.specs.List.{Contains};
 ghost use Rattle.keymap_core.specs.Actions.{modifiers};
-ghost use Rattle.console_states.specs.Types.{Event as EventValue, Scroll, Sight as SightValue, Turn};
+ghost use Rattle.console_scripts.specs.Types.{Event as EventValue, Scroll, Sight as SightValue, Turn};
 ghost use Rattle.console_core.specs.History.{between, is_locked_after, HasNoLoads};
 ghost use Rattle.console_states.specs.Moves.{IsIdle, IsMove, free_with, releases, state_of};
 ghost use Rattle.console_states.specs.Returning.{but_scroll};

@@ -9,7 +9,6 @@ use keymap_core::{Read, ReadFault, ReadFaultKind, Write, WriteFault};
 use play_core::{PlayError, Show, Source, play_next, typed};
 use std::alloc::Global;
 use std::process::Abort;
-use std::test::Fail;
 use test_support::devices::{ROOM, Sheet, reader_of, sheet_of};
 use test_support::keymaps::{ACCENTS, LETTER_AND_SHIFT, SHIFT_AND_CAPS};
 
@@ -182,15 +181,15 @@ fn expect_repeated(rt: &impl Abort, out: &Sheet, line: &[u8], count: usize) {
 }
 
 #[test]
-fn long_outputs_take_few_writes(rt: HostRuntime) -> Result<(), Fail> {
+fn long_outputs_take_few_writes(rt: HostRuntime) {
     for &(show, front, line, count, shown) in &LONG {
         let script = repeated(front, line, count);
         let mut out = sheet_of(usize::MAX);
-        play_long(rt.alloc(), show, script.as_slice(), &mut out)?;
+        play_long(rt.alloc(), show, script.as_slice(), &mut out).expect(&rt, "a play");
         expect_repeated(&rt, &out, shown, count);
     }
     let mut out = sheet_of(usize::MAX);
-    typed(&[Answer::Char { c: 'é', meta: true }; 1400], &mut out)?;
+    let answers = [Answer::Char { c: 'é', meta: true }; 1400];
+    typed(&answers, &mut out).expect(&rt, "bytes");
     expect_repeated(&rt, &out, b"\x1b\xc3\xa9", 1400);
-    Ok(())
 }

@@ -5,7 +5,6 @@ use console_core::Answer;
 use keymap_core::FromStd;
 use play_core::{PlayError, Show, play, play_next, typed};
 use std::alloc::Global;
-use std::test::Fail;
 use test_support::devices::{Sheet, sheet_of};
 use test_support::keymaps::{
     ACCENTS, CAPS_AND_NUM, LETTER_AND_SHIFT, NOP_UNDER_CONTROL, SHIFT_AND_CAPS, SHIFT_WITH_TRAP,
@@ -237,29 +236,27 @@ release 58: none; mods none; locks none
 ];
 
 #[test]
-fn plays_write_their_lines_and_bytes(rt: HostRuntime) -> Result<(), Fail> {
+fn plays_write_their_lines_and_bytes(rt: HostRuntime) {
     for &(played, wanted) in &PLAYS {
         let mut out = sheet_of(usize::MAX);
-        play_texts(rt.alloc(), played, &mut out)?;
+        play_texts(rt.alloc(), played, &mut out).expect(&rt, "a play");
         expect_equal_at(&rt, &played.3, &out.bytes.as_slice(), &wanted.as_bytes());
     }
-    Ok(())
 }
 
 #[test]
-fn answers_type_their_bytes(rt: HostRuntime) -> Result<(), Fail> {
+fn answers_type_their_bytes(rt: HostRuntime) {
     let mut out = sheet_of(usize::MAX);
     let answers = [
         Answer::Char { c: 'é', meta: true },
         Answer::None,
         Answer::BackTab,
     ];
-    typed(&answers, &mut out)?;
+    typed(&answers, &mut out).expect(&rt, "bytes");
     expect_equal(
         &rt,
         &out.bytes.as_slice(),
         &b"\x1b\xc3\xa9\x1b[Z".as_slice(),
     );
-    typed(&[], &mut sheet_of(0))?;
-    Ok(())
+    typed(&[], &mut sheet_of(0)).expect(&rt, "no bytes");
 }

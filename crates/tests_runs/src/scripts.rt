@@ -3,22 +3,23 @@
 use crate::asserts::{expect_equal, expect_equal_at};
 use keymap_core::KeyCode;
 use play_core::{ScriptError, ScriptFault, Sent, What, read_script};
-use std::test::Fail;
 
 #[test]
-fn scripts_are_read(rt: HostRuntime) -> Result<(), Fail> {
-    assert!(rt; read_script(rt.alloc(), b"")?.is_empty());
-    let key = KeyCode::new(42).ok_or("a key")?;
-    let events = read_script(rt.alloc(), b" lost  up 042 # x")?;
+fn scripts_are_read(rt: HostRuntime) {
+    let nothing = read_script(rt.alloc(), b"").expect(&rt, "a script");
+    assert!(rt; nothing.is_empty());
+    let key = KeyCode::new(42).expect(&rt, "a key");
+    let events = read_script(rt.alloc(), b" lost  up 042 # x").expect(&rt, "a script");
     let wanted = [Sent {
         lost: true,
         what: What::Up(key),
     }];
     expect_equal(&rt, &events.as_slice(), &wanted.as_slice());
     expect_equal(&rt, &wanted[0].event(), &None);
-    let events = read_script(rt.alloc(), b"# down\n\t\r\ndown 30#x\nlost load\n")?;
+    let events = read_script(rt.alloc(), b"# down\n\t\r\ndown 30#x\nlost load\n").expect(
+        &rt, "a script",
+    );
     expect_equal(&rt, &events.len(), &2);
-    Ok(())
 }
 
 static FAULTS: [(&str, ScriptFault); 10] = [

@@ -7,7 +7,6 @@ use keymap_text::read_map;
 use play_core::{TypeError, read_script, type_sentence};
 use std::alloc::Global;
 use std::process::Abort;
-use std::test::Fail;
 use test_support::keymaps::{ACCENTS, LETTER_AND_SHIFT, TWO_DEAD_KEYS};
 
 /// Latin letters in the lower half and Greek ones in the upper one, between which alock changes.
@@ -138,48 +137,40 @@ static REFUSED: [(&[u8], &[u8], TypeError); 8] = [
 ];
 
 /// The events of a script without lost ones.
-fn events_of(alloc: Global, script: &[u8]) -> Result<Vec<Event>, Fail> {
-    let script = read_script(alloc, script)?;
+fn events_of(rt: &impl Abort, alloc: Global, script: &[u8]) -> Vec<Event> {
+    let script = read_script(alloc, script).expect(rt, "a script");
     let mut events = Vec::new(alloc);
     for sent in &script {
         if let Some(event) = sent.event() {
-            events.push(event)?;
+            events.push(event).expect(rt, "memory");
         }
     }
-    Ok(events)
+    events
 }
 
-fn expect_typed(
-    rt: &impl Abort,
-    alloc: Global,
-    text: &[u8],
-    sentence: &[u8],
-    script: &[u8],
-) -> Result<(), Fail> {
-    let map = read_map(alloc, text)?;
-    let wanted = events_of(alloc, script)?;
+fn expect_typed(rt: &impl Abort, alloc: Global, text: &[u8], sentence: &[u8], script: &[u8]) {
+    let map = read_map(alloc, text).expect(rt, "a keymap");
+    let wanted = events_of(rt, alloc, script);
     match type_sentence(alloc, &map, sentence) {
         Ok(typing) => {
             expect_equal_at(rt, &sentence, &typing.events.as_slice(), &wanted.as_slice());
         }
         Err(error) => expect_equal_at(rt, &sentence, &Some(error), &None),
     }
-    Ok(())
 }
 
 #[test]
-fn sentences_are_typed_by_the_nearest_keys(rt: HostRuntime) -> Result<(), Fail> {
+fn sentences_are_typed_by_the_nearest_keys(rt: HostRuntime) {
     for &(text, sentence, script) in &TYPED {
-        expect_typed(&rt, rt.alloc(), text, sentence, script)?;
+        expect_typed(&rt, rt.alloc(), text, sentence, script);
     }
-    Ok(())
 }
 
 /// Of a letter of each layout: the lock is turned for the second one, and back behind it.
 #[test]
-fn each_character_tells_where_its_events_end(rt: HostRuntime) -> Result<(), Fail> {
-    let map = read_map(rt.alloc(), TWO_LAYOUTS)?;
-    let typing = type_sentence(rt.alloc(), &map, b"a\xce\xb1")?;
+fn each_character_tells_where_its_events_end(rt: HostRuntime) {
+    let map = read_map(rt.alloc(), TWO_LAYOUTS).expect(&rt, "a keymap");
+    let typing = type_sentence(rt.alloc(), &map, b"a\xce\xb1").expect(&rt, "events");
     let wanted = [
         Keyed {
             character: 'a',
@@ -192,15 +183,13 @@ fn each_character_tells_where_its_events_end(rt: HostRuntime) -> Result<(), Fail
     ];
     expect_equal_at(&rt, &"keyed", &typing.keyed.as_slice(), &wanted.as_slice());
     expect_equal_at(&rt, &"events", &typing.events.len(), &8);
-    Ok(())
 }
 
 #[test]
-fn what_no_keys_type_is_refused(rt: HostRuntime) -> Result<(), Fail> {
+fn what_no_keys_type_is_refused(rt: HostRuntime) {
     for &(text, sentence, error) in &REFUSED {
-        let map = read_map(rt.alloc(), text)?;
+        let map = read_map(rt.alloc(), text).expect(&rt, "a keymap");
         let answer = type_sentence(rt.alloc(), &map, sentence);
         expect_equal_at(&rt, &sentence, &answer.err(), &Some(error));
     }
-    Ok(())
 }

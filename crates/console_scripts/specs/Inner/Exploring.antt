@@ -5,7 +5,7 @@ use Rattle.std.specs.Prelude.{slice_get}
 use Rattle.std.specs.Prelude.{Option, map}
 use Rattle.keymap_core.specs.declared.action.Lock.TheVariants.{Scroll}
 use Rattle.keymap_core.specs.Maps.{MapValue}
-use Rattle.console_states.specs.Types.{Event, Press, Release, Move, Answer}
+use Rattle.console_scripts.specs.Types.{Event, Press, Release, Move, Answer}
 use Rattle.console_scripts.specs.declared.explored.Explored.{Explored}
 use Rattle.console_scripts.specs.declared.explored.Tap.{Tap}
 use Rattle.console_states.specs.declared.held.Held.{Held}

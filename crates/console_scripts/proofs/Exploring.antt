@@ -14,7 +14,7 @@ use Rattle.console_scripts.proofs.Entries.{none-found, found-has}
 use Rattle.console_core.proofs.OneMore.{is-nothing}
 use Rattle.console_states.proofs.SameStates.{are_same}
 use Rattle.console_scripts.specs.Inner.Exploring.{IsOrigin}
-use Rattle.console_states.proofs.Returning.{near-met, near-is_home}
+use Rattle.console_states.proofs.Returning.{home-start, near-met, near-is_home}
 use Rattle.console_scripts.proofs.Astray.{strays-on, StraysTo, is-astray}
 use Rattle.console_states.proofs.Beginning.{reached-one}
 use Rattle.console_scripts.proofs.Taps.{added-by, adds, tap-types, tap-direct, tap-dead, tap-composed}

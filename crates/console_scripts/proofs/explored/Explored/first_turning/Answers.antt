@@ -8,9 +8,9 @@ pub returns-in-Some : goal.returns-in-Some
 returns-in-Some c =
     let e = c.args.self.now in
     let (y, at, is) =
-    entry-at e.met.entries c.loop-place.place c.state_at.result
+    entry-at e.met.entries c.loop-place.place c.state_at-held.result
     (omega (arith, c.loop-place-test.true, c.loop-place.auto.place-end, c.len-place-end.ensures.len))
-    c.state_at.ensures in (
+    c.state_at-held.ensures in (
       y,
       at,
       subst (λ x. IsMove (under_of e.maps) (state_of x) (Turn c.in-Some.key Scroll)) is c.in-Some.ensures,
@@ -23,7 +23,7 @@ loop-place-preserved c =
     elim (place_last j c.loop-place.place lt) [
       | inl below ↦ c.loop-place.invariant j k y below at move
       | inr f ↦
-          let here = c.state_at.ensures y (subst (λ i. slice_get e.met.entries i ≡ Some y) f at) in
+          let here = c.state_at-held.ensures y (subst (λ i. slice_get e.met.entries i ≡ Some y) f at) in
           c.in_default.ensures k (subst (λ x. IsMove (under_of e.maps) (state_of x) (Turn k Scroll)) (sym here) move)
     ]
 

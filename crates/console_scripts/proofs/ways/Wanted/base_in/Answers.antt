@@ -2,7 +2,7 @@ use Rattle.console_scripts.proofs.Common.{◌+◌, ℕ, take, get_or, inl, inr, 
 use Rattle.console_scripts.proofs.Common.{get_or_default, rules}
 use Rattle.console_scripts.proofs.RoutesHome.{before-next}
 use Rattle.console_scripts.specs.declared.explored.Symbol.TheVariants as symbol
-use Rattle.console_scripts.proofs.ways.base_in.Goals as goal
+use Rattle.console_scripts.proofs.ways.Wanted.base_in.Goals as goal
 
 pub loop-pair-preserved : goal.loop-pair-preserved
 loop-pair-preserved c =

@@ -1,7 +1,7 @@
 use Rattle.console_scripts.proofs.Common.{inl, inr, subst, arith, CanAccent, rules}
 use Rattle.console_scripts.proofs.Bases.{usable-below}
 use Rattle.console_states.proofs.Searching.{place_last}
-use Rattle.console_scripts.proofs.ways.dead_key_for.Goals as goal
+use Rattle.console_scripts.proofs.ways.Wanted.dead_key.Goals as goal
 
 pub loop-accent-preserved : goal.loop-accent-preserved
 loop-accent-preserved c =
@@ -12,7 +12,8 @@ loop-accent-preserved c =
         | inl below ↦ c.loop-accent.invariant.none far i x below can
         | inr e ↦
             c.in_default-accented_by.ensures far x
-            (subst (λ j. CanAccent c.args.map.now c.args.explored.now c.args.c j x) e can)
+            (subst (λ j. CanAccent c.args.self.now.map.now c.args.self.now.explored.now c.args.self.now.character j x)
+            e can)
       ];
     }
 

@@ -1,7 +1,7 @@
 use Rattle.console_scripts.proofs.Common.{subst, reverse, LeadsByTap, state_of}
 use Rattle.console_scripts.proofs.Choosing.{no-way, too-many, leads-direct, behind-dead, composed-leads}
 use Rattle.console_scripts.proofs.Exploring.{returns-origin}
-use Rattle.console_scripts.proofs.typing.type_from.Goals as goal
+use Rattle.console_scripts.proofs.typing.Scribe.type_from.Goals as goal
 
 pub see-requires-clause-origin : goal.see-requires-clause-origin
 see-requires-clause-origin c = returns-origin c.args.map.now (state_of c.args.from.now) c.requires.can_return
@@ -23,7 +23,7 @@ returns-in_ok-next-in-Some-Direct-clause-leads c =
     let at = c.in-Some-Direct.at in
     let (x, there, has, tap) = rw c.in-Some-Direct.field-0-is at c.in-Some-Direct.ensures in
     leads-direct m (state_of c.args.from.now) c.explored_from-explored.result.now c.args.c
-    (reverse c.args.events.now.items) (reverse c.go_and_tap.new.events.items) c.in_ok-next-in-Some-Direct.next
+    (reverse c.args.self.now.events.items) (reverse c.go_and_tap.new.events.items) c.in_ok-next-in-Some-Direct.next
     (c.explored_from-explored.ensures m c.in_ok-see.ensures.explorations) c.requires.can_return
     (at.place, at.key, x, there, has, tap, c.in_ok-next-in-Some-Direct.ensures x there)
 
@@ -43,27 +43,27 @@ see-requires-in-Some-Composed-clause-origin c =
     let (i, accented) = rw c.in-Some-Composed.field-0-is at c.in-Some-Composed.ensures in
     returns-origin m middle
     (behind-dead m (state_of c.args.from.now) c.explored_from-explored.result.now i c.args.c c.in-Some-Composed.found
-    (reverse c.args.events.now.items) (reverse c.go_and_tap-in-Some-Composed.new.events.items) middle
+    (reverse c.args.self.now.events.items) (reverse c.go_and_tap-in-Some-Composed.new.events.items) middle
     (c.explored_from-explored.ensures m c.in_ok-see.ensures.explorations) c.requires.can_return accented
     c.in_ok-middle-in-Some-Composed.ensures)
 
 pub tap_from-requires : goal.tap_from-requires
-tap_from-requires c = (c.explored_from.ensures c.args.map.now c.in_ok-see-in-Some-Composed.ensures.explorations).0
+tap_from-requires c = (c.explored_from-behind.ensures c.args.map.now c.in_ok-see-in-Some-Composed.ensures.explorations).0
 
 pub returns-in_ok-last-in-Some-Composed-clause-leads : goal.returns-in_ok-last-in-Some-Composed-clause-leads
 returns-in_ok-last-in-Some-Composed-clause-leads c =
     let m = c.args.map.now in
-    let f = c.explored_from.result.now in
+    let f = c.explored_from-behind.result.now in
     let between = reverse c.go_and_tap-in-Some-Composed.new.events.items in
     let now = reverse c.tap_from.new.events.items in
     let last = c.in_ok-last-in-Some-Composed.last in
     let (i, accented) = rw c.in-Some-Composed.field-0-is at c.in-Some-Composed.ensures in
     composed-leads m (state_of c.args.from.now) c.explored_from-explored.result.now f i c.args.c
-    c.in-Some-Composed.found (reverse c.args.events.now.items) between now
+    c.in-Some-Composed.found (reverse c.args.self.now.events.items) between now
     (state_of c.in_ok-middle-in-Some-Composed.middle) last
     (c.explored_from-explored.ensures m c.in_ok-see.ensures.explorations) c.requires.can_return accented
     c.in_ok-middle-in-Some-Composed.ensures
-    (c.explored_from.ensures m c.in_ok-see-in-Some-Composed.ensures.explorations)
+    (c.explored_from-behind.ensures m c.in_ok-see-in-Some-Composed.ensures.explorations)
     (subst (λ t. LeadsByTap f t between now last) c.plain.ensures c.in_ok-last-in-Some-Composed.ensures)
 
 pub returns-then-explored-clause-leads : goal.returns-then-explored-clause-leads

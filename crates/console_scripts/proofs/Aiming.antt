@@ -1,9 +1,9 @@
 -- Where nothing is aimed at no visit can be made.
-use Rattle.console_scripts.proofs.Common.{◌≡◌, ◌≢◌, ◌<◌, ℕ, Bool, true, false, List, [], ◌∷◌, ◌++◌, slice_get}
+use Rattle.console_scripts.proofs.Common.{◌≡◌, ◌<◌, ℕ, Bool, true, false, List, [], ◌∷◌, ◌++◌, slice_get}
 use Rattle.console_scripts.proofs.Common.{Option, MatchOption, Some, None, refl, ap, subst, sym, ◌∙◌, inl, inr}
 use Rattle.console_scripts.proofs.Common.{arith, false≢true}
 use Rattle.console_scripts.proofs.Common.{MapValue}
-use Rattle.console_scripts.proofs.Common.{Lock, Caps, Num, Scroll, Alt, Cell, Char, Act}
+use Rattle.console_scripts.proofs.Common.{Lock, Caps, Num, Scroll, Alt, Char, Act}
 use Rattle.console_scripts.proofs.Common.{Move, Turn, LetGo, Sight, Explored}
 use Rattle.console_scripts.proofs.Common.{Under}
 use Rattle.console_scripts.proofs.Common.{alone, State, start, IsFree, IsIdle, look_in, IsMove, IsPath}

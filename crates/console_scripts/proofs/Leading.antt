@@ -1,5 +1,5 @@
 -- Events lead a console from state to state: along moves, by taps and by one more press of a holder.
-use Rattle.console_scripts.proofs.Common.{◌≡◌, ◌≢◌, ◌<◌, ℕ, Bool, true, false, List, [], ◌∷◌, ◌++◌, reverse}
+use Rattle.console_scripts.proofs.Common.{◌≡◌, ◌<◌, ℕ, Bool, true, false, List, [], ◌∷◌, ◌++◌, reverse}
 use Rattle.console_scripts.proofs.Common.{slice_get}
 use Rattle.console_scripts.proofs.Common.{Option, Some, None, refl, ap, subst, sym, ◌∙◌, inl, inr}
 use Rattle.console_scripts.proofs.Common.{append_assoc, if◌then◌else◌, ◌==◌, cases_Bool, eqb-true, false≢true}

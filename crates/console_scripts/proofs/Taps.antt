@@ -29,7 +29,6 @@ use Rattle.console_states.proofs.Unscrolled.{same_states}
 use Rattle.console_states.proofs.Following.{follows-look}
 use Rattle.console_states.proofs.Following.{not_holding}
 use Rattle.keymap_core.specs.declared.action.Action.TheVariants as act
-use Rattle.keymap_core.specs.declared.action.Holding.TheVariants as holding
 use Rattle.console_core.specs.declared.event.Answer.TheVariants as answer
 use Rattle.console_scripts.specs.declared.explored.Symbol.TheVariants as symbol
 use Rattle.console_states.proofs.Tapping.{exact-character, exact-action, stands-tapped}

@@ -193,7 +193,8 @@ composing-behind m accent met es ys searched behind are = record {
 
 -- Where the accent is offered with no lock on, all let go leads to the start, so all states are behind.
 start-behind : (m : MapValue) (accent : ℕ) (met : Entries)
-    → Searched (alone m) (start ∷ []) met (length met) (length met) → usable m accent ≡ true → IsOfferedUnlocked (alone m) met accent → IsBehind (alone m) accent start
+    → Searched (alone m) (start ∷ []) met (length met) (length met) → usable m accent ≡ true
+    → IsOfferedUnlocked (alone m) met accent → IsBehind (alone m) accent start
 start-behind m accent met searched can (j, x, at, unlocked, offers) =
     let u : Under = alone m in
     let s : State = state_of x.0 in

@@ -1,5 +1,5 @@
 -- What can be seen is seen by a press after a clean list of presses and releases.
-use Rattle.console_states.proofs.Common.{◌≡◌, ◌<◌, ℕ, true, false, List, [], ◌∷◌, ◌++◌, All, Some, None, refl, ap}
+use Rattle.console_states.proofs.Common.{◌≡◌, ◌<◌, ℕ, true, List, [], ◌∷◌, ◌++◌, All, Some, None, refl, ap}
 use Rattle.console_states.proofs.Common.{subst, ◌∙◌, append_assoc, false≢true, All-nil, All-cons, none-some, MapValue}
 use Rattle.console_states.proofs.Common.{Modifier, Act, Char, Event, Press, Release, Move, Hold, Turn, LetGo, Exchange}
 use Rattle.console_states.proofs.Common.{Sight, between, resolved, pressed, HasNoLoads, IsNoLoad, Under, alone, State}

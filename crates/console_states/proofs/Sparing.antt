@@ -1,4 +1,5 @@
--- Whatever presses, releases, resets and loads come, a console goes on from states that moves lead to by as many presses.
+-- Whatever presses, releases, resets and loads come, a console goes on from states that moves lead to by as many
+-- presses.
 use Rattle.console_states.proofs.Common.{suc, ◌≡◌, ℕ, ◌+◌, ◌<◌, ◌≤◌, true, false, not, List}
 use Rattle.console_states.proofs.Common.{[], ◌∷◌, refl, ap, subst, sym, ◌∙◌, inl, inr}
 use Rattle.console_states.proofs.Common.{arith, cases_Bool, cases_lt, true≢false}

@@ -1,5 +1,5 @@
 -- The events along a path lead a console to the state of the path.
-use Rattle.console_states.proofs.Common.{◌≡◌, ℕ, ◌<◌, ◌+◌, Bool, true, false, ◌&&◌, ◌||◌, not, List}
+use Rattle.console_states.proofs.Common.{◌≡◌, ℕ, ◌<◌, Bool, true, false, ◌&&◌, ◌||◌, not, List}
 use Rattle.console_states.proofs.Common.{[], ◌∷◌, ◌++◌, Some, None, refl, ap, subst, sym, ◌∙◌, inl, inr}
 use Rattle.console_states.proofs.Common.{if◌then◌else◌, append_assoc, ◌==◌, eqb-true, eq-eqb, cases_Bool}
 use Rattle.console_states.proofs.Common.{true≢false}

@@ -3,7 +3,7 @@ use Rattle.console_states.proofs.Common.{◌≡◌, ℕ, ◌<◌, Bool, true, fa
 use Rattle.console_states.proofs.Common.{none-some, [], ◌∷◌, Option, Some, None, refl, ap, sym, ◌∙◌, inl, inr}
 use Rattle.console_states.proofs.Common.{cases_Bool}
 use Rattle.console_states.proofs.Common.{holding_action, MapValue, same_action-refl}
-use Rattle.console_states.proofs.Common.{ResolvedEvent, held, locked, on, remembered, taken_over}
+use Rattle.console_states.proofs.Common.{ResolvedEvent, held, locked, remembered, taken_over}
 use Rattle.console_states.proofs.Common.{is_this_action, resolve_press, PressedAction}
 use Rattle.console_states.proofs.Common.{ReleasedKey, WasLoaded}
 use Rattle.console_states.proofs.Common.{Under, State, start}

@@ -1,7 +1,7 @@
 -- A tap of a key that looks up a character, or an action that nothing holds, leaves the console in its state.
 use Rattle.console_states.proofs.Common.{◌≡◌, ◌<◌, ◌∙◌, ℕ, false, List, ◌∷◌, None, refl, ap}
 use Rattle.console_states.proofs.Common.{inl, inr, cases_Bool, eq-eqb, All-cons, same_action, holding_action, rules}
-use Rattle.console_states.proofs.Common.{key_count, Action, Holding, Modifier, Lock, Cell, Act, Event, Press, Release}
+use Rattle.console_states.proofs.Common.{key_count, Action, Holding, Modifier, Cell, Act, Event, Press, Release}
 use Rattle.console_states.proofs.Common.{ResolvedEvent, remembered, taken_over, is_this_action, resolve_press}
 use Rattle.console_states.proofs.Common.{PressedCharacter, PressedAction, ReleasedKey, resolved, Under, State, IsIdle}
 use Rattle.console_states.proofs.Common.{look_in, Exact, Stands}

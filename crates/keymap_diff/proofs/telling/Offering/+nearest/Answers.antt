@@ -1,4 +1,4 @@
-use Rattle.keymap_diff.proofs.Common.{◌≡◌, ◌+◌, arith, subst, sym, ◌∙◌, map, state_of, State, Contains, Scroll, false, Some}
+use Rattle.keymap_diff.proofs.Common.{◌≡◌, ◌+◌, arith, subst, sym, ◌∙◌, map, state_of, Some}
 use Rattle.keymap_diff.proofs.Common.{same_Some, ◌≤◌, ℕ}
 use Rattle.keymap_diff.proofs.Common.{rules}
 use Rattle.std.proofs.Common.{◌-◌, ◌/◌}
@@ -16,10 +16,7 @@ returns-then-not-is_beyond-clause-clear t c = λ b within.
     (c.is_beyond.ensures.within c.if-not-is_beyond.true b within)
 
 pub from-requires : goal.from-requires
-from-requires t c =
-    subst (λ z. (o : State) → Contains (map state_of z) o → o.is_locked Scroll ≡ false) (sym c.deref.ensures.value)
-    (offering-off c.args.self.now.both.old.now c.args.self.now.accent c.args.self.now.met.now.entries c.args.low
-    c.args.high (map state_of c.in_ok-origins.origins.items) c.requires.met c.in_ok-origins.ensures)
+from-requires t c = search (rules, offering-off)
 
 pub returns-in_default-clause-clear : goal.returns-in_default-clause-clear
 returns-in_default-clause-clear t c = λ b within.

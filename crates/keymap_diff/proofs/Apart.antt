@@ -1,16 +1,13 @@
 -- What was found tells the two keymaps apart, or else that too many states are reached.
 use Rattle.std.proofs.Common.{rules}
-use Rattle.keymap_diff.proofs.Common.{suc, ◌≡◌, ℕ, ◌+◌, ◌<◌, true, inl, inr, List, [], ◌∷◌, ◌++◌, length}
-use Rattle.keymap_diff.proofs.Common.{Option, Some, None, refl, ap, subst, sym, ◌∙◌, arith, reverse}
-use Rattle.keymap_diff.proofs.Common.{append_assoc, same_Some, All-cons, MatchOption, MapValue}
-use Rattle.keymap_diff.proofs.Common.{Move, Event, Press, Release, Act}
-use Rattle.keymap_diff.proofs.Common.{usable, between}
-use Rattle.keymap_diff.proofs.Common.{alone, Under, State, start, IsIdle, IsPathFrom, look_in, state_after}
-use Rattle.keymap_diff.proofs.Common.{state_from, presses_along, events_along, presses}
-use Rattle.keymap_diff.proofs.Common.{state_of, Entries, IsReached, IsTrail, TellsApart}
-use Rattle.keymap_diff.proofs.Common.{answer_to, Answer, ◌≢◌}
+use Rattle.keymap_diff.proofs.Common.{suc, ◌≡◌, ℕ, ◌+◌, ◌<◌, true, inl, inr, List, [], ◌∷◌, ◌++◌, length, Option, Some}
+use Rattle.keymap_diff.proofs.Common.{None, refl, ap, subst, sym, ◌∙◌, arith, reverse, append_assoc, same_Some}
+use Rattle.keymap_diff.proofs.Common.{All-cons, MatchOption, MapValue, Move, Event, Press, Release, Act, usable}
+use Rattle.keymap_diff.proofs.Common.{between, alone, Under, State, start, IsIdle, IsPathFrom, look_in, state_after}
+use Rattle.keymap_diff.proofs.Common.{state_from, presses_along, events_along, presses, state_of, Entries, IsReached}
+use Rattle.keymap_diff.proofs.Common.{IsTrail, TellsApart, answer_to, Answer, ◌≢◌, NoneShows, Shows, ShowsNothing}
+use Rattle.keymap_diff.proofs.Common.{AreCellsClear}
 use Rattle.console_states.proofs.Looking.{push-reversed}
-use Rattle.keymap_diff.proofs.Common.{Shows, ShowsNothing, AreCellsClear}
 use Rattle.keymap_diff.specs.Inner.Searches.{IsFoundBy, IsMetFromStart, IsReach, IsReachAt, IsScript, IsSearched}
 use Rattle.keymap_diff.specs.Inner.Searches.{IsSearchedAt, IsTappedAt, IsWithin}
 use Rattle.keymap_diff.specs.Inner.Showing.{IsFirstShown, NoneShowsBelow}
@@ -19,7 +16,6 @@ use Rattle.keymap_diff.specs.declared.showing.Shown.{Shown}
 use Rattle.keymap_diff.specs.declared.telling.Telling.{Telling}
 use Rattle.keymap_diff.specs.declared.telling.Telling.TheVariants.{Told, Never, Undecided}
 use Rattle.console_states.proofs.Beginning.{reached-one}
-use Rattle.console_states.proofs.Behind.{path-split}
 use Rattle.console_states.proofs.Going.{pending-is, tap-pending}
 use Rattle.console_states.proofs.Shown.{short-tap}
 use Rattle.console_states.proofs.Tapping.{dead-tapped}
@@ -126,18 +122,14 @@ accent-told m n i es place total x met (y, os, there, alone_there, s) (before, m
     l.4 ∙ ap (λ v. v.1.presses) (same_Some z a (sym here ∙ a_at)) ∙ sym count ∙ same_Some q more (sym same ∙ reach) in
     let s1 : State = state_after (alone m) first in
     let on : IsPathFrom (alone m) s1 later = subst (λ v. IsPathFrom (alone m) v later) (sym r.3) l.2 in
-    let (whole, to, all) = path-join (alone m) start later first r.2 on in
-    let (first_too, first_same) = path-too m n total clear first r.2 (omega (arith, few, sum)) in
-    let (whole_too, whole_same) = path-too m n total clear (later ++ first) whole (omega (arith, all, few, few_later, sum)) in
-    let parts = path-split (alone n) start later first whole_too in
-    let on_too : IsPathFrom (alone n) s1 later = subst (λ v. IsPathFrom (alone n) v later) first_same parts.1 in
-    let leads : state_from (alone n) s1 later ≡ state_from (alone m) s1 later =
-    subst (λ v. state_from (alone n) v later ≡ state_from (alone m) s1 later) first_same (sym parts.2 ∙ whole_same ∙ to) in
-    let one : w ≡ y = same_Some w y (sym w_at ∙ there) in
-    let here1 : state_of w.0 ≡ s1 = ap (λ v. state_of v.0) one ∙ sym r.3 in
-    let idle1 : IsIdle s1 d = subst (λ v. IsIdle v d) here1 idle in
-    let seen1 : look_in (alone m) s1 d ≡ Act (act.DeadKey i) =
-    subst (λ v. look_in (alone m) v d ≡ Act (act.DeadKey i)) here1 seen in
+    let clear_on : (path : List Move) → IsPathFrom (alone m) s1 path → presses_along path < suc more
+    → NoneShows m n None (state_from (alone m) s1 path) =
+    λ path is lt k last. let (whole, to, all) = path-join (alone m) start path first r.2 is in
+    subst (λ v. ShowsNothing m n None v k) to (clear (path ++ first) whole (omega (arith, all, few, lt, sum)) k last) in
+    let (on_too, leads) = path-too m n s1 (suc more) clear_on later on (omega (arith, few_later)) in
+    let here1 : state_of w.0 ≡ s1 = ap (λ v. state_of v.0) (same_Some w y (sym w_at ∙ there)) ∙ sym r.3 in
+    let (idle1, seen1) =
+    subst (λ v. IsIdle v d × (look_in (alone m) v d ≡ Act (act.DeadKey i))) here1 (idle, seen) in
     let (seen_too, can_too) =
     dead-too m n s1 d i (clear first r.2 (omega (arith, few, sum)) d key) idle1 seen1 can in
     let start1 : List Event = events_along first ++ [] in
@@ -150,14 +142,12 @@ accent-told m n i es place total x met (y, os, there, alone_there, s) (before, m
     placed-along m n (Release d ∷ Press d ∷ start1) s1 (Some i) later tapped on on_too leads in
     let at_end : s2 ≡ state_of z.0 = ap (λ v. state_from (alone m) v later) r.3 ∙ l.3 in
     let shown : Shows m n (Some i) s2 at.key = subst (λ v. Shows m n (Some i) v at.key) (sym at_end) shows in
-    let nothing : ShowsNothing m n None s2 at.key =
-    subst (λ v. ShowsNothing m n None v at.key) to
-    (clear (later ++ first) whole (omega (arith, all, few, few_later, sum)) at.key last) in
+    let nothing = clear_on later on (omega (arith, few_later)) at.key last in
     let counted : presses end1 ≡ total =
     presses-on later (Release d ∷ Press d ∷ start1)
     ∙ ap (λ v. presses_along later + suc v) (presses-on first []) ∙ omega (arith, few, few_later, sum) in
     script-told m n end1 s2 (Some i) at.key total placed last
-    (λ alike. absurd (told-accent m n end1 s2 at.key i placed can can_too nothing shown alike)) counted t
+    (λ alike released. told-accent m n end1 s2 at.key i placed can can_too nothing shown alike) counted t
     (subst (λ v. IsScript m n v at.key t) (events l.0 l.1 ∙ ap (λ v. events_along later ++ v) (taps r.0 r.1)) script)
 
 -- ---- the script

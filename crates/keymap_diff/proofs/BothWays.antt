@@ -1,10 +1,9 @@
 -- What is told of safe keymaps is the same both ways.
 use Rattle.std.proofs.Common.{rules}
-use Rattle.keymap_diff.proofs.Common.{◌≡◌, ◌<◌, ◌≤◌, ℕ, true, List, [], ◌∷◌, ◌++◌, subst, refl, sym}
-use Rattle.keymap_diff.proofs.Common.{All-head, All-tail, Event, Press, Act, Char, HasKey, HasKeys, MapValue}
-use Rattle.keymap_diff.proofs.Common.{between, resolved, in_force, IsAdmitted, IsPressOrRelease, IsNoLoad}
-use Rattle.keymap_diff.proofs.Common.{Release, Reset, Load, true≢false, IsAnsweredAlike, TellsApart, presses, reverse}
-use Rattle.keymap_diff.proofs.Common.{Bool, Answer}
+use Rattle.keymap_diff.proofs.Common.{◌≡◌, ◌<◌, ◌≤◌, ℕ, true, List, [], ◌∷◌, ◌++◌, subst, refl, sym, All-head, All-tail}
+use Rattle.keymap_diff.proofs.Common.{Event, Press, Act, Char, HasKey, HasKeys, MapValue, between, resolved, in_force}
+use Rattle.keymap_diff.proofs.Common.{IsAdmitted, IsPressOrRelease, IsNoLoad, Release, Reset, Load, true≢false}
+use Rattle.keymap_diff.proofs.Common.{IsAnsweredAlike, TellsApart, presses, reverse, Bool, Answer}
 use Rattle.std.proofs.lemmas.List.Elements.{All-weaker}
 use Rattle.keymap_core.specs.Bearers.{IsCellOf}
 use Rattle.console_core.specs.Headline.{IsSafe}
@@ -14,8 +13,7 @@ use Rattle.console_core.proofs.Facts.{looks_are_cells}
 use Rattle.console_core.proofs.OneMap.{one_in_force}
 use Rattle.keymap_core.specs.declared.action.Action.TheVariants as act
 use Rattle.keymap_core.specs.declared.action.Holding.TheVariants as holding
-use Rattle.keymap_diff.specs.Telling.{AgreesBothWays, IsToldBy, SafeListsAreClean}
-use Rattle.keymap_diff.specs.Telling.{SameIsNeverTold}
+use Rattle.keymap_diff.specs.Telling.{AgreesBothWays, IsToldBy, SafeListsAreClean, SameIsNeverTold}
 use Rattle.keymap_diff.specs.declared.telling.Telling.TheVariants.{Told, Never, Undecided}
 
 later-keys : (later h : List Event) → HasKeys (later ++ h) → HasKeys h

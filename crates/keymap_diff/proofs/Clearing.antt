@@ -1,13 +1,12 @@
 -- What a search met tells of all paths: where a press shows nothing in what it met, none does where fewer presses lead
 -- than to where something shows or the search gave up.
 use Rattle.std.proofs.Common.{rules}
-use Rattle.keymap_diff.proofs.Common.{zero, suc, ◌≡◌, ℕ, ◌+◌, ◌<◌, ◌≤◌, List, [], ◌∷◌, length, slice_get, Option}
-use Rattle.keymap_diff.proofs.Common.{Some, None, refl, ap, subst, sym, ◌∙◌, arith, cases_lt, slice_get_within}
-use Rattle.keymap_diff.proofs.Common.{Contains, MatchOption, MapValue, Move, End, TooMany, Complete, alone, State, start}
-use Rattle.keymap_diff.proofs.Common.{IsPath, IsPathFrom, state_from, state_after, presses_along, presses_of}
-use Rattle.keymap_diff.proofs.Common.{state_of, Entry, Entries, IsMetBy, IsTrail, AreDone, HasEnded, unscrolled}
-use Rattle.keymap_diff.proofs.Common.{NoneShows, ShowsNothing, AreCellsClear, IsAccentClear, IsOfferedIn}
-use Rattle.keymap_diff.proofs.Common.{Under}
+use Rattle.keymap_diff.proofs.Common.{zero, suc, ◌≡◌, ℕ, ◌+◌, ◌<◌, ◌≤◌, List, [], ◌∷◌, length, slice_get, Option, Some}
+use Rattle.keymap_diff.proofs.Common.{None, refl, ap, subst, sym, ◌∙◌, arith, cases_lt, slice_get_within, Contains}
+use Rattle.keymap_diff.proofs.Common.{MatchOption, MapValue, Move, End, TooMany, Complete, alone, State, start, IsPath}
+use Rattle.keymap_diff.proofs.Common.{IsPathFrom, state_from, state_after, presses_along, presses_of, state_of, Entry}
+use Rattle.keymap_diff.proofs.Common.{Entries, IsMetBy, IsTrail, AreDone, HasEnded, unscrolled, NoneShows, ShowsNothing}
+use Rattle.keymap_diff.proofs.Common.{AreCellsClear, IsAccentClear, IsOfferedIn, Under}
 use Rattle.keymap_diff.specs.Inner.Searches.{AreNear, IsClearBehind, IsReach, IsSearched, IsWithin}
 use Rattle.keymap_diff.specs.Inner.Showing.{NoneShowsBelow, IsFirstShown}
 use Rattle.keymap_diff.specs.declared.searched.Searched.{Searched}

@@ -1,13 +1,12 @@
 -- How a search ends where nothing shows: all states were met, or more than it goes over.
-use Rattle.std.proofs.Common.{rules}
+use Rattle.std.proofs.Common.{rules, get_or}
 use Rattle.keymap_diff.proofs.Common.{suc, ◌≡◌, ℕ, ◌+◌, ◌<◌, ◌≤◌, false, Bool, inl, inr, List, [], ◌∷◌, ◌++◌, length}
-use Rattle.keymap_diff.proofs.Common.{slice_get, Option, Some, None, refl, ap, subst, sym, ◌∙◌, arith, cases_lt, none-some}
-use Rattle.keymap_diff.proofs.Common.{same_Some, slice_get_within, Contains, MatchOption, MapValue, Move, alone}
-use Rattle.keymap_diff.proofs.Common.{State, start, IsPath, IsPathFrom, state_after, state_from, presses_along, state_of}
-use Rattle.keymap_diff.proofs.Common.{Entry, Entries, Searched, NeverForgets, End, TooMany, Complete}
-use Rattle.keymap_diff.proofs.Common.{is_some, true≢false}
+use Rattle.keymap_diff.proofs.Common.{slice_get, Option, Some, None, refl, ap, subst, sym, ◌∙◌, arith, cases_lt}
+use Rattle.keymap_diff.proofs.Common.{none-some, same_Some, slice_get_within, Contains, MatchOption, MapValue, Move}
+use Rattle.keymap_diff.proofs.Common.{alone, State, start, IsPath, IsPathFrom, state_after, state_from, presses_along}
+use Rattle.keymap_diff.proofs.Common.{state_of, Entry, Entries, Searched, NeverForgets, End, TooMany, Complete, is_some}
+use Rattle.keymap_diff.proofs.Common.{true≢false}
 use Rattle.std.proofs.lemmas.Option.{slice_get-get_or}
-use Rattle.std.proofs.Common.{get_or}
 use Rattle.keymap_diff.specs.Inner.Searches.{IsMetAt, IsMetFromStart, IsReach, IsSearched}
 use Rattle.keymap_diff.specs.declared.searched.Searched.{Searched as SearchedValue}
 use Rattle.keymap_diff.specs.declared.showing.Shown.{Shown}

@@ -1,15 +1,12 @@
 -- The places that offer an accent, and what searches from them tell of all paths by a tap of its dead key.
-use Rattle.std.proofs.Common.{rules}
-use Rattle.keymap_diff.proofs.Common.{suc, ◌≡◌, ℕ, ◌+◌, ◌≤◌, inl, inr, List, [], ◌∷◌, ◌++◌}
-use Rattle.keymap_diff.proofs.Common.{slice_get, Option, Some, None, refl, ap, subst, sym, ◌∙◌, arith, cases_lt, none-some}
-use Rattle.keymap_diff.proofs.Common.{Contains, MapValue, alone, State, state_of}
-use Rattle.keymap_diff.proofs.Common.{Entry, Entries, IsOfferedIn, presses_along}
-use Rattle.keymap_diff.proofs.Common.{Scroll, false}
+use Rattle.std.proofs.Common.{rules, Result, Err}
+use Rattle.keymap_diff.proofs.Common.{suc, ◌≡◌, ℕ, ◌+◌, ◌≤◌, inl, inr, List, [], ◌∷◌, ◌++◌, slice_get, Option, Some}
+use Rattle.keymap_diff.proofs.Common.{None, refl, ap, subst, sym, ◌∙◌, arith, cases_lt, none-some, Contains, MapValue}
+use Rattle.keymap_diff.proofs.Common.{alone, State, state_of, Entry, Entries, IsOfferedIn, presses_along, Scroll, false}
+use Rattle.keymap_diff.proofs.Common.{map, IfOk, Ok}
+use Rattle.console_states.specs.declared.held.Held.{Held}
 use Rattle.std.proofs.lemmas.List.Elements.{Contains-append_left, Contains-push, Contains-push_cases}
-use Rattle.keymap_diff.specs.Inner.Searches.{AreOffering, IsClearBehind, IsMetAt, IsMetFromStart, IsSearched}
-use Rattle.keymap_diff.specs.Inner.Searches.{IsWithin}
-use Rattle.keymap_diff.proofs.Common.{IfOk, Ok}
-use Rattle.std.proofs.Common.{Result, Err}
+use Rattle.keymap_diff.specs.Inner.Searches.{AreOffering, IsClearBehind, IsMetAt, IsMetFromStart, IsSearched, IsWithin}
 use Rattle.keymap_diff.specs.declared.searched.Searched.{Searched as SearchedValue}
 use Rattle.console_states.proofs.Adding.{empty-none}
 use Rattle.console_states.proofs.Beginning.{reached-one}
@@ -61,13 +58,15 @@ pub clear-before : (m n : MapValue) (i : ℕ) (es : Entries) (low high b : ℕ) 
 clear-before m n i es low high b q met (y, there, e) few j x at le lt offered path is less =
     let up : y.1.presses ≤ x.1.presses = met.1 low j y x le there at in absurd (omega (arith, up, less, few, e))
 
-pub clear-searched : (m n : MapValue) (i : ℕ) (es : Entries) (low high b q : ℕ) (states : List State) (x : SearchedValue)
-    → IsMetFromStart m es → AreOffering m i es low high states → IsSearched m n states (Some i) x → IsMetAt es low q
+pub clear-searched : (m n : MapValue) (i : ℕ) (es : Entries) (low high b q : ℕ) (given states : List Held)
+    (x : SearchedValue) → given ≡ states → IsMetFromStart m es → AreOffering m i es low high (map state_of states)
+    → IsSearched m n (map state_of given) (Some i) x → IsMetAt es low q
     → ((more : ℕ) → x.reach ≡ Some more → b ≤ q + 1 + more) → IsClearBehind m n i es low high b
-clear-searched m n i es low high b q states x met offering s (y, there, e) few j z at le lt offered path is less k key =
+clear-searched m n i es low high b q given states x same met offering s (y, there, e) few j z at le lt offered path is less k key =
     let up : y.1.presses ≤ z.1.presses = met.1 low j y z le there at in
-    searched-clear m n states (Some i) x s (suc (presses_along path))
-    (within x.reach refl up) (state_of z.0) (offering.all j z at le lt offered) path is (omega arith) k key
+    searched-clear m n (map state_of given) (Some i) x s (suc (presses_along path)) (within x.reach refl up) (state_of z.0)
+    (subst (λ l. Contains (map state_of l) (state_of z.0)) (sym same) (offering.all j z at le lt offered)) path is
+    (omega arith) k key
   where
     within : (r : Option ℕ) → x.reach ≡ r → y.1.presses ≤ z.1.presses → IsWithin (suc (presses_along path)) x.reach
     within None is_none up = subst (λ o. IsWithin (suc (presses_along path)) o) (sym is_none) tt

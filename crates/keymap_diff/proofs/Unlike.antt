@@ -1,6 +1,6 @@
 -- Where a key shows a difference of two keymaps, a press of it or its release is answered differently.
 use Rattle.std.proofs.Common.{rules}
-use Rattle.keymap_diff.proofs.Common.{◌≡◌, ◌≢◌, ℕ, ◌≤◌, ◌⊎◌, Bool, false, true, List, [], ◌∷◌, ◌++◌, Option}
+use Rattle.keymap_diff.proofs.Common.{◌≡◌, ◌≢◌, ℕ, ◌≤◌, ◌⊎◌, Bool, true, List, [], ◌∷◌, ◌++◌, Option}
 use Rattle.keymap_diff.proofs.Common.{Some, None, refl, ap, subst, sym, ◌∙◌, inl, inr, arith, cases_Bool, true≢false}
 use Rattle.keymap_diff.proofs.Common.{option_or, eq-eqb, same_action, same_action-true, same_action-refl, Action}
 use Rattle.keymap_diff.proofs.Common.{Modifier, Meta, Cell, Char, Act, Event, Press, Release, Answer, Move, Hold, Turn}
@@ -10,7 +10,7 @@ use Rattle.keymap_diff.proofs.Common.{taken_over, on, remembered, pending, resol
 use Rattle.keymap_diff.proofs.Common.{ResolvedEvent, between, resolved, answer_to, alone, State, IsIdle, IsPath}
 use Rattle.keymap_diff.proofs.Common.{IsPathFrom, look_in, start, state_after, state_from}
 use Rattle.keymap_diff.proofs.Common.{presses_along, events_along, Stands, false≢true, TellsApart, looked_up}
-use Rattle.keymap_diff.proofs.Common.{AreCellsAlike, AreCellsClear, Gives, IsUnnoticed, Shows, ShowsNothing}
+use Rattle.keymap_diff.proofs.Common.{◌<◌, NoneShows, AreCellsAlike, AreCellsClear, Gives, IsUnnoticed, Shows, ShowsNothing}
 use Rattle.console_core.specs.declared.event.Answer.TheVariants as answer
 use Rattle.keymap_diff.proofs.Alike.{look-is, own-composed, press-answered, press-resolved}
 use Rattle.console_core.proofs.OneMore.{one_map, resolved-start, pending-start, remembered-character, remembered-action}
@@ -66,10 +66,14 @@ idle-cells m n b d (Char c) (Act a) p q = absurd (no-char n b d c a p)
 idle-cells m n b d (Act a) (Char c) p q = absurd (no-char m d b c a (sym p))
 idle-cells m n b d (Act a) (Act e) p q = search (rules, released-same, act-same, dead-usable)
 
--- of a key that remembers a modifier
-other-action : (i : Modifier) (a : Action) → same_action (act.Mod i) a ≡ false → a ≢ act.Mod i
-other-action i a t e =
-    true≢false (sym (same_action-refl (act.Mod i)) ∙ ap (λ z. same_action (act.Mod i) z) (sym e) ∙ t)
+-- a key that remembers a modifier takes that or nothing
+taken-held : (m : MapValue) (b : Bool) (i : Modifier) (a : Action)
+    → ((a ≡ act.Mod i) × (answer_action m None b (taken_over (Some (act.Mod i)) a) ≡ answer.Special (act.Mod i)))
+    ⊎ ((a ≢ act.Mod i) × (answer_action m None b (taken_over (Some (act.Mod i)) a) ≡ answer.None))
+taken-held m b i a = elim (cases_Bool (same_action (act.Mod i) a)) [
+  | inl t ↦ let e = sym (same_action-true (act.Mod i) a t) in inl (e, rw (e, same_action-refl (act.Mod i)) refl)
+  | inr t ↦ inr ((λ e. true≢false (sym (same_action-refl (act.Mod i)) ∙ ap (λ z. same_action (act.Mod i) z) (sym e) ∙ t)), rw t refl)
+]
 
 held-cells : (m n : MapValue) (b d : Bool) (i : Modifier) (x y : Cell)
     → answer_cell m None b (Some (act.Mod i)) x ≡ answer_cell n None d (Some (act.Mod i)) y
@@ -77,30 +81,17 @@ held-cells : (m n : MapValue) (b d : Bool) (i : Modifier) (x y : Cell)
 held-cells m n b d i (Char c) (Char e) p = inl (char-alike m n b d c e p)
 held-cells m n b d i (Char c) (Act a) p = absurd (no-char n b d c (taken_over (Some (act.Mod i)) a) p)
 held-cells m n b d i (Act a) (Char c) p = absurd (no-char m d b c (taken_over (Some (act.Mod i)) a) (sym p))
-held-cells m n b d i (Act a) (Act e) p = elim (cases_Bool (same_action (act.Mod i) a)) [
-  | inl t ↦ elim (cases_Bool (same_action (act.Mod i) e)) [
-    | inl u ↦
-        let f : act.Mod i ≡ a = same_action-true (act.Mod i) a t in
-        let g : act.Mod i ≡ e = same_action-true (act.Mod i) e u in
-        inl (ap (λ z. Act z) (sym f ∙ g), (λ j q. absurd (no-dead j (f ∙ act-same a (act.DeadKey j) q))))
-    | inr u ↦
-        let f : act.Mod i ≡ a = same_action-true (act.Mod i) a t in
-        let g : answer_action m None b a ≡ answer.None = rw (t, u) at p in
-        let h : answer.Special (act.Mod i) ≡ answer.None = subst (λ z. answer_action m None b z ≡ answer.None) (sym f) g in
-        absurd (cc)
+held-cells m n b d i (Act a) (Act e) p = elim (taken-held m b i a) [
+  | inl (f, x) ↦ elim (taken-held n d i e) [
+    | inl (g, y) ↦
+        inl (ap (λ z. Act z) (f ∙ sym g), (λ j q. let h : act.Mod i ≡ act.DeadKey j = sym f ∙ act-same a _ q in absurd (cc)))
+    | inr (g, y) ↦ let h : answer.Special (act.Mod i) ≡ answer.None = sym x ∙ p ∙ y in absurd (cc)
   ]
-  | inr t ↦ elim (cases_Bool (same_action (act.Mod i) e)) [
-    | inl u ↦
-        let f : act.Mod i ≡ e = same_action-true (act.Mod i) e u in
-        let g : answer.None ≡ answer_action n None d e = rw (t, u) at p in
-        let h : answer.None ≡ answer.Special (act.Mod i) = subst (λ z. answer.None ≡ answer_action n None d z) (sym f) g in
-        absurd (cc)
-    | inr u ↦ inr (other-action i a t, other-action i e u)
+  | inr (f, x) ↦ elim (taken-held n d i e) [
+    | inl (g, y) ↦ let h : answer.None ≡ answer.Special (act.Mod i) = sym x ∙ p ∙ y in absurd (cc)
+    | inr (g, y) ↦ inr (f, g)
   ]
 ]
-  where
-    no-dead : (j : ℕ) → act.Mod i ≡ act.DeadKey j → ⊥
-    no-dead j q = cc
 
 -- what an accent makes is told by the answer
 made-same : (b d : Bool) (x y : Option ℕ) → char_or_error b x ≡ char_or_error d y → x ≡ y
@@ -195,16 +186,19 @@ idle-look m n s k x idle (inl (same, usably)) seen = look-in n s k ∙ sym same 
 idle-look m n s k x idle (inr (i, holds, u, v)) seen = absurd (idle i holds)
 
 -- where fewer presses show nothing, a path is one under both keymaps
-pub path-too : (m n : MapValue) (b : ℕ) → AreCellsClear m n b → (path : List Move) → IsPath (alone m) path
-    → presses_along path ≤ b → IsPath (alone n) path × (state_after (alone n) path ≡ state_after (alone m) path)
-path-too m n b clear [] is le = (tt, refl)
-path-too m n b clear (Hold k i ∷ path) is le =
-    search (rules, idle-look, path-too m n b clear path is.1 (omega (arith, le)))
-path-too m n b clear (Turn k l ∷ path) is le =
-    search (rules, idle-look, path-too m n b clear path is.1 (omega (arith, le)))
-path-too m n b clear (LetGo k i ∷ path) is le =
-    search (rules, path-too m n b clear path is.1 (omega (arith, le)))
-path-too m n b clear (Exchange ∷ path) is le = absurd (false≢true is.0.1)
+pub path-too : (m n : MapValue) (s : State) (b : ℕ)
+    → ((path : List Move) → IsPathFrom (alone m) s path → presses_along path < b
+    → NoneShows m n None (state_from (alone m) s path))
+    → (path : List Move) → IsPathFrom (alone m) s path → presses_along path ≤ b
+    → IsPathFrom (alone n) s path × (state_from (alone n) s path ≡ state_from (alone m) s path)
+path-too m n s b clear [] is le = (tt, refl)
+path-too m n s b clear (Hold k i ∷ path) is le =
+    search (rules, idle-look, path-too m n s b clear path is.1 (omega (arith, le)))
+path-too m n s b clear (Turn k l ∷ path) is le =
+    search (rules, idle-look, path-too m n s b clear path is.1 (omega (arith, le)))
+path-too m n s b clear (LetGo k i ∷ path) is le =
+    search (rules, path-too m n s b clear path is.1 (omega (arith, le)))
+path-too m n s b clear (Exchange ∷ path) is le = absurd (false≢true is.0.1)
 
 placed-start : (m n : MapValue) → Placed m n [] start None
 placed-start m n = search (rules, short-start, stands-start, resolved-start, pending-start)
@@ -226,5 +220,5 @@ placed-along m n h s p path x is too same = record {
 pub placed-path : (m n : MapValue) (b : ℕ) (path : List Move) → AreCellsClear m n b → IsPath (alone m) path
     → presses_along path ≤ b → Placed m n (events_along path ++ []) (state_after (alone m) path) None
 placed-path m n b path clear is le =
-    let (too, same) = path-too m n b clear path is le in
+    let (too, same) = path-too m n start b clear path is le in
     placed-along m n [] start None path (placed-start m n) is too same

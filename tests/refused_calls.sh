@@ -115,6 +115,7 @@ refuses Seen::new
 refuses cells
 refuses lock_settings
 yields changes
+refuses telling_apart
 refuses diagnostics
 refuses diagnostics-faulty fault
 yields lint_text

@@ -19,3 +19,5 @@ mod promises;
 mod reports;
 #[cfg(test)]
 mod searches;
+#[cfg(test)]
+mod tellings;

@@ -41,18 +41,16 @@ fn tells_what_is_seen<W: Write>(
 ) -> Result<Option<Outcome>, AllocError> {
     let maps = alone(&lent.map);
     let (met, end) = meet_all(alloc, &maps, &[Held::start()])?;
-    match end {
-        End::TooMany(_) => Ok(None),
-        End::Complete => {
-            mark(marks);
-            let given = sights_in(alloc, &met, &maps);
-            mark(marks);
-            Ok(Some(ended(
-                &given,
-                matches!(&given, Ok(sights) if !sights.offers.is_empty()),
-            )))
-        }
-    }
+    let End::Complete = end else {
+        return Ok(None);
+    };
+    mark(marks);
+    let given = sights_in(alloc, &met, &maps);
+    mark(marks);
+    Ok(Some(ended(
+        &given,
+        matches!(&given, Ok(sights) if !sights.offers.is_empty()),
+    )))
 }
 
 /// The events to the second state that was met.

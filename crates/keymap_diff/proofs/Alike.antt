@@ -1,7 +1,8 @@
 -- Two consoles of two keymaps stay alike as long as no press shows a difference, and answer alike.
+use Rattle.std.proofs.Common.{rules}
 use Rattle.keymap_diff.proofs.Common.{◌≡◌, ◌≢◌, ℕ, ◌<◌, ◌≤◌, ◌⊎◌, Bool, true, List, [], ◌∷◌, ◌++◌, Option, Some, None}
 use Rattle.keymap_diff.proofs.Common.{false, refl, ap, subst, sym, ◌∙◌, inl, inr, arith, cases_Bool, true≢false, ◌==◌, reverse}
-use Rattle.keymap_diff.proofs.Common.{option_or, All-head, fun_ext, eqb-true, append-nil, same_action}
+use Rattle.keymap_diff.proofs.Common.{option_or, All-head, fun_ext, eqb-true, append-nil}
 use Rattle.keymap_diff.proofs.Common.{same_action-true, Action, Lock, Modifier, Meta, Holding, Cell, Char, Act, Event}
 use Rattle.keymap_diff.proofs.Common.{Press, Release, Reset, Load, MapValue, accent_at, own_of, usable, composed_by}
 use Rattle.keymap_diff.proofs.Common.{is_pending, char_or_error, answer_char, answer_action, answer_dead_key}
@@ -59,21 +60,12 @@ next-same m n p _ same = refl
 -- ---- one more event under both
 
 alike-start : (m n : MapValue) → Alike m n [] []
-alike-start m n = record {
-  held = λ a. refl;
-  locked = λ l. refl;
-  remembered = λ k. refl;
-  pending = pending-start m ∙ sym (pending-start n);
-}
+alike-start m n = search (rules, pending-start)
 
 alike-character : (m n : MapValue) (r q : List ResolvedEvent) (k c : ℕ) → Alike m n r q
     → Alike m n (PressedCharacter k c ∷ r) (PressedCharacter k c ∷ q)
-alike-character m n r q k c x = record {
-  held = λ a. cc (held-character a k c r, x.held a, held-character a k c q);
-  locked = λ l. cc (locked-character l k c r, x.locked l, locked-character l k c q);
-  remembered = λ j. cc (remembered-character j k c r, x.remembered j, remembered-character j k c q);
-  pending = pending-character m k c r ∙ sym (pending-character n k c q);
-}
+alike-character m n r q k c x =
+    search (rules, held-character, locked-character, remembered-character, pending-character)
 
 -- two actions by which the key takes the same, and remembers the same
 alike-action : (m n : MapValue) (r q : List ResolvedEvent) (k : ℕ) (a b : Action) → Alike m n r q
@@ -101,20 +93,11 @@ alike-action m n r q k a b x taken kept same =
 
 alike-release : (m n : MapValue) (r q : List ResolvedEvent) (k : ℕ) → Alike m n r q
     → Alike m n (ReleasedKey k ∷ r) (ReleasedKey k ∷ q)
-alike-release m n r q k x = record {
-  held = λ a. rw (held-release a k r, held-release a k q, x.held a, x.remembered k) refl;
-  locked = λ l. cc (locked-release l k r, x.locked l, locked-release l k q);
-  remembered = λ j. cc (remembered-release j k r, x.remembered j, remembered-release j k q);
-  pending = pending-release m k r ∙ x.pending ∙ sym (pending-release n k q);
-}
+alike-release m n r q k x =
+    search (rules, held-release, locked-release, remembered-release, pending-release)
 
 alike-reset : (m n : MapValue) (r q : List ResolvedEvent) → Alike m n r q → Alike m n (WasReset ∷ r) (WasReset ∷ q)
-alike-reset m n r q x = record {
-  held = λ a. held-reset a r ∙ sym (held-reset a q);
-  locked = λ l. cc (locked-reset l r, x.locked l, locked-reset l q);
-  remembered = λ j. remembered-reset j r ∙ sym (remembered-reset j q);
-  pending = pending-reset m r ∙ sym (pending-reset n q);
-}
+alike-reset m n r q x = search (rules, held-reset, locked-reset, remembered-reset, pending-reset)
 
 -- ---- what is answered
 
@@ -133,11 +116,7 @@ char-same m n (Some i) meta c same = ap (λ o. char_or_error meta o) (same i ref
 
 -- an accent's own character is what it makes of 32
 pub own-composed : (m : MapValue) (i : ℕ) → own_of (accent_at m i) ≡ composed_by (accent_at m i) 32
-own-composed m i = go (accent_at m i)
-  where
-    go : (o : Option _) → own_of o ≡ composed_by o 32
-    go None = refl
-    go (Some a) = refl
+own-composed m i = search rules
 
 pending-is_some : (i : ℕ) (p : Option ℕ) → is_pending i p ≡ true → p ≡ Some i
 pending-is_some i None e = absurd (true≢false (sym e))
@@ -145,10 +124,7 @@ pending-is_some i (Some j) e = ap (λ z. Some z) (eqb-true j i e)
 
 dead-same : (m n : MapValue) (p : Option ℕ) (meta : Bool) (i : ℕ) → usable m i ≡ usable n i
     → (p ≡ Some i → MakesSame m n i 32) → answer_dead_key m p meta i ≡ answer_dead_key n p meta i
-dead-same m n p meta i same own = elim (cases_Bool (is_pending i p)) [
-  | inl t ↦ rw (same, t, own-composed m i, own-composed n i, own (pending-is_some i p t)) refl
-  | inr t ↦ rw (same, t) refl
-]
+dead-same m n p meta i same own = search (rules, cases_Bool, own-composed, pending-is_some)
 
 action-same : (m n : MapValue) (p : Option ℕ) (meta : Bool) (a : Action) → AreUsableAlike m n a
     → ComposesDead m n p a → answer_action m p meta a ≡ answer_action n p meta a
@@ -176,19 +152,10 @@ ShowNothingFor m n o x y =
 taken-usable : (m n : MapValue) (o : Option Action) (a : Action) → AreUsableAlike m n a
     → AreUsableAlike m n (taken_over o a)
 taken-usable m n None a same = same
-taken-usable m n (Some b) a same = elim (cases_Bool (same_action b a)) [
-  | inl t ↦ rw t same
-  | inr t ↦ rw t (λ i e. absurd (no-dead i e))
-]
-  where
-    no-dead : (i : ℕ) → act.Nop ≡ act.DeadKey i → ⊥
-    no-dead i e = cc
+taken-usable m n (Some b) a same = search (rules, cases_Bool)
 
 unnoticed-nop : (i : Modifier) (a : Action) → a ≢ act.Mod i → taken_over (Some (act.Mod i)) a ≡ act.Nop
-unnoticed-nop i a other = elim (cases_Bool (same_action (act.Mod i) a)) [
-  | inl t ↦ absurd (other (sym (same_action-true (act.Mod i) a t)))
-  | inr t ↦ rw t refl
-]
+unnoticed-nop i a other = search (rules, cases_Bool, same_action-true)
 
 -- after it the consoles are alike, and it is answered alike
 abbrev pub IsPressAlike : MapValue → MapValue → List ResolvedEvent → List ResolvedEvent → ℕ → Cell → Cell → Type 0

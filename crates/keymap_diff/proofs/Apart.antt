@@ -1,16 +1,13 @@
 -- What was found tells the two keymaps apart, or else that too many states are reached.
-use Rattle.keymap_diff.proofs.Common.{suc, ◌≡◌, ℕ, ◌+◌, ◌<◌, true, inl, inr, List, [], ◌∷◌, ◌++◌, length}
-use Rattle.keymap_diff.proofs.Common.{Option, Some, None, refl, ap, subst, sym, ◌∙◌, arith, reverse}
-use Rattle.keymap_diff.proofs.Common.{append_assoc, same_Some, All-cons, MatchOption, MapValue}
-use Rattle.keymap_diff.proofs.Common.{Move, Hold, Turn, LetGo, Exchange, Event, Press, Release, Act, HasKey}
-use Rattle.keymap_diff.proofs.Common.{IsPressOrRelease, usable, between}
-use Rattle.keymap_diff.proofs.Common.{alone, Under, State, start, IsIdle, IsPathFrom, look_in, state_after}
-use Rattle.keymap_diff.proofs.Common.{state_from, presses_along, presses_of, events_along, events_of_move, presses}
-use Rattle.keymap_diff.proofs.Common.{state_of, Entries, IsReached, IsTrail, TellsApart}
-use Rattle.keymap_diff.proofs.Common.{answer_to, Answer, ◌≢◌}
+use Rattle.std.proofs.Common.{rules}
+use Rattle.keymap_diff.proofs.Common.{suc, ◌≡◌, ℕ, ◌+◌, ◌<◌, true, inl, inr, List, [], ◌∷◌, ◌++◌, length, Option, Some}
+use Rattle.keymap_diff.proofs.Common.{None, refl, ap, subst, sym, ◌∙◌, arith, reverse, append_assoc, same_Some}
+use Rattle.keymap_diff.proofs.Common.{All-cons, MatchOption, MapValue, Move, Event, Press, Release, Act, usable}
+use Rattle.keymap_diff.proofs.Common.{between, alone, Under, State, start, IsIdle, IsPathFrom, look_in, state_after}
+use Rattle.keymap_diff.proofs.Common.{state_from, presses_along, events_along, presses, state_of, Entries, IsReached}
+use Rattle.keymap_diff.proofs.Common.{IsTrail, TellsApart, answer_to, Answer, ◌≢◌, NoneShows, Shows, ShowsNothing}
+use Rattle.keymap_diff.proofs.Common.{AreCellsClear}
 use Rattle.console_states.proofs.Looking.{push-reversed}
-use Rattle.keymap_diff.proofs.Common.{Shows, ShowsNothing, AreCellsClear}
-use Rattle.keymap_diff.specs.Telling.{IsToldBy}
 use Rattle.keymap_diff.specs.Inner.Searches.{IsFoundBy, IsMetFromStart, IsReach, IsReachAt, IsScript, IsSearched}
 use Rattle.keymap_diff.specs.Inner.Searches.{IsSearchedAt, IsTappedAt, IsWithin}
 use Rattle.keymap_diff.specs.Inner.Showing.{IsFirstShown, NoneShowsBelow}
@@ -19,7 +16,6 @@ use Rattle.keymap_diff.specs.declared.showing.Shown.{Shown}
 use Rattle.keymap_diff.specs.declared.telling.Telling.{Telling}
 use Rattle.keymap_diff.specs.declared.telling.Telling.TheVariants.{Told, Never, Undecided}
 use Rattle.console_states.proofs.Beginning.{reached-one}
-use Rattle.console_states.proofs.Behind.{path-split}
 use Rattle.console_states.proofs.Going.{pending-is, tap-pending}
 use Rattle.console_states.proofs.Shown.{short-tap}
 use Rattle.console_states.proofs.Tapping.{dead-tapped}
@@ -32,47 +28,16 @@ use Rattle.keymap_core.specs.declared.action.Action.TheVariants as act
 -- as many presses stand in the events of a path and those before them
 presses-on : (path : List Move) (h : List Event) → presses (events_along path ++ h) ≡ presses_along path + presses h
 presses-on [] h = omega arith
-presses-on (move ∷ path) h =
-    ap presses (append_assoc (events_of_move move) (events_along path) h)
-    ∙ one move (events_along path ++ h) ∙ ap (λ z. z + presses_of move) (presses-on path h)
-    ∙ omega arith
-  where
-    one : (move : Move) (g : List Event) → presses (events_of_move move ++ g) ≡ presses g + presses_of move
-    one (Hold k i) g = omega arith
-    one (Turn k l) g = omega arith
-    one (LetGo k i) g = omega arith
-    one Exchange g = omega arith
+presses-on (move ∷ path) h = search (rules, append_assoc, presses-on path h)
 
 -- a script behind where both consoles stand alike
 script-told : (m n : MapValue) (h : List Event) (s : State) (p : Option ℕ) (k q : ℕ) → Placed m n h s p → k < 128
     → (IsPressAnsweredAlike m n h k → TellsApart m n (Release k ∷ Press k ∷ h)) → presses h ≡ q → (t : Telling)
     → IsScript m n h k t → IsFoundBy m n t (Some q)
 script-told m n h s p k q x key told count (Told es old new) (inl (e, a, b, apart)) =
-    subst (λ z. IsToldBy m n z old new × ((l : ℕ) × (Some q ≡ Some l) × (presses z ≡ l + 1))) (sym e) (
-      record {
-        apart = apart;
-        old_answer = a;
-        new_answer = b;
-        keys = All-cons HasKey (Press k) h key x.first.stands.keys;
-        sent = All-cons IsPressOrRelease (Press k) h tt x.first.plain.sent;
-        releases = (tt, x.first.plain.releases);
-      },
-      (q, refl, omega (arith, count)),
-    )
+    search (rules, All-cons)
 script-told m n h s p k q x key told count (Told es old new) (inr (e, a, b, same)) =
-    subst (λ z. IsToldBy m n z old new × ((l : ℕ) × (Some q ≡ Some l) × (presses z ≡ l + 1))) (sym e) (
-      record {
-        apart = told same;
-        old_answer = a;
-        new_answer = b;
-        keys = All-cons HasKey (Release k) (Press k ∷ h) key (All-cons HasKey (Press k) h key x.first.stands.keys);
-        sent =
-            All-cons IsPressOrRelease (Release k) (Press k ∷ h) tt
-            (All-cons IsPressOrRelease (Press k) h tt x.first.plain.sent);
-        releases = (press-presses k h, (tt, x.first.plain.releases));
-      },
-      (q, refl, omega (arith, count)),
-    )
+    search (rules, All-cons, press-presses)
 script-told m n h s p k q x key told count (Never f) is = absurd is
 script-told m n h s p k q x key told count (Undecided r) is = absurd is
 
@@ -107,12 +72,7 @@ pub path-join : (u : Under) (s : State) (later before : List Move) → IsPathFro
     × (state_from u s (later ++ before) ≡ state_from u (state_from u s before) later)
     × (presses_along (later ++ before) ≡ presses_along before + presses_along later)
 path-join u s [] before is more = (is, refl, omega arith)
-path-join u s (move ∷ later) before is more =
-    let (rest, same, count) = path-join u s later before is more.1 in
-    (rw same (more.0, rest), ap (λ t. moved-by t) same, omega (arith, count))
-  where
-    moved-by : State → State
-    moved-by t = state_from u t (move ∷ [])
+path-join u s (move ∷ later) before is more = search (rules, path-join u s later before is more.1)
 
 -- ---- behind a tap
 
@@ -134,9 +94,7 @@ placed-tapped m n h s d i x key idle seen seen_too can can_too = record {
 dead-too : (m n : MapValue) (s : State) (d i : ℕ) → ShowsNothing m n None s d → IsIdle s d
     → look_in (alone m) s d ≡ Act (act.DeadKey i) → usable m i ≡ true
     → (look_in (alone n) s d ≡ Act (act.DeadKey i)) × (usable n i ≡ true)
-dead-too m n s d i (inl (same, usably)) idle seen can =
-    let looked = sym (look-in m s d) ∙ seen in
-    (look-in n s d ∙ sym same ∙ looked, sym (usably i looked) ∙ can)
+dead-too m n s d i (inl (same, usably)) idle seen can = search (rules, look-in)
 dead-too m n s d i (inr (j, holds, u, v)) idle seen can = absurd (idle j holds)
 
 -- where something shows behind a tap of the accent's dead key
@@ -164,18 +122,14 @@ accent-told m n i es place total x met (y, os, there, alone_there, s) (before, m
     l.4 ∙ ap (λ v. v.1.presses) (same_Some z a (sym here ∙ a_at)) ∙ sym count ∙ same_Some q more (sym same ∙ reach) in
     let s1 : State = state_after (alone m) first in
     let on : IsPathFrom (alone m) s1 later = subst (λ v. IsPathFrom (alone m) v later) (sym r.3) l.2 in
-    let (whole, to, all) = path-join (alone m) start later first r.2 on in
-    let (first_too, first_same) = path-too m n total clear first r.2 (omega (arith, few, sum)) in
-    let (whole_too, whole_same) = path-too m n total clear (later ++ first) whole (omega (arith, all, few, few_later, sum)) in
-    let parts = path-split (alone n) start later first whole_too in
-    let on_too : IsPathFrom (alone n) s1 later = subst (λ v. IsPathFrom (alone n) v later) first_same parts.1 in
-    let leads : state_from (alone n) s1 later ≡ state_from (alone m) s1 later =
-    subst (λ v. state_from (alone n) v later ≡ state_from (alone m) s1 later) first_same (sym parts.2 ∙ whole_same ∙ to) in
-    let one : w ≡ y = same_Some w y (sym w_at ∙ there) in
-    let here1 : state_of w.0 ≡ s1 = ap (λ v. state_of v.0) one ∙ sym r.3 in
-    let idle1 : IsIdle s1 d = subst (λ v. IsIdle v d) here1 idle in
-    let seen1 : look_in (alone m) s1 d ≡ Act (act.DeadKey i) =
-    subst (λ v. look_in (alone m) v d ≡ Act (act.DeadKey i)) here1 seen in
+    let clear_on : (path : List Move) → IsPathFrom (alone m) s1 path → presses_along path < suc more
+    → NoneShows m n None (state_from (alone m) s1 path) =
+    λ path is lt k last. let (whole, to, all) = path-join (alone m) start path first r.2 is in
+    subst (λ v. ShowsNothing m n None v k) to (clear (path ++ first) whole (omega (arith, all, few, lt, sum)) k last) in
+    let (on_too, leads) = path-too m n s1 (suc more) clear_on later on (omega (arith, few_later)) in
+    let here1 : state_of w.0 ≡ s1 = ap (λ v. state_of v.0) (same_Some w y (sym w_at ∙ there)) ∙ sym r.3 in
+    let (idle1, seen1) =
+    subst (λ v. IsIdle v d × (look_in (alone m) v d ≡ Act (act.DeadKey i))) here1 (idle, seen) in
     let (seen_too, can_too) =
     dead-too m n s1 d i (clear first r.2 (omega (arith, few, sum)) d key) idle1 seen1 can in
     let start1 : List Event = events_along first ++ [] in
@@ -188,14 +142,12 @@ accent-told m n i es place total x met (y, os, there, alone_there, s) (before, m
     placed-along m n (Release d ∷ Press d ∷ start1) s1 (Some i) later tapped on on_too leads in
     let at_end : s2 ≡ state_of z.0 = ap (λ v. state_from (alone m) v later) r.3 ∙ l.3 in
     let shown : Shows m n (Some i) s2 at.key = subst (λ v. Shows m n (Some i) v at.key) (sym at_end) shows in
-    let nothing : ShowsNothing m n None s2 at.key =
-    subst (λ v. ShowsNothing m n None v at.key) to
-    (clear (later ++ first) whole (omega (arith, all, few, few_later, sum)) at.key last) in
+    let nothing = clear_on later on (omega (arith, few_later)) at.key last in
     let counted : presses end1 ≡ total =
     presses-on later (Release d ∷ Press d ∷ start1)
     ∙ ap (λ v. presses_along later + suc v) (presses-on first []) ∙ omega (arith, few, few_later, sum) in
     script-told m n end1 s2 (Some i) at.key total placed last
-    (λ alike. absurd (told-accent m n end1 s2 at.key i placed can can_too nothing shown alike)) counted t
+    (λ alike released. told-accent m n end1 s2 at.key i placed can can_too nothing shown alike) counted t
     (subst (λ v. IsScript m n v at.key t) (events l.0 l.1 ∙ ap (λ v. events_along later ++ v) (taps r.0 r.1)) script)
 
 -- ---- the script
@@ -207,18 +159,12 @@ pub script-press : (m n : MapValue) (events now s t : List Event) (k : ℕ) (a b
     → (reverse now ≡ Press k ∷ reverse events) × (answer_to (between m m) (reverse events) (Press k) ≡ a)
     × (answer_to (between n n) (reverse events) (Press k) ≡ b) × TellsApart m n (Press k ∷ reverse events)
 script-press m n events now s t k a b items s_is t_is a_is b_is differ =
-    let old : answer_to (between m m) (reverse events) (Press k) ≡ a =
-    sym (subst (λ z. a ≡ answer_to (between m m) (reverse z) (Press k)) s_is a_is) in
-    let new : answer_to (between n n) (reverse events) (Press k) ≡ b =
-    sym (subst (λ z. b ≡ answer_to (between n n) (reverse z) (Press k)) t_is b_is) in
-    (ap reverse items ∙ push-reversed events (Press k), old, new, (λ same. differ (sym old ∙ same ∙ new)))
+    search (rules, push-reversed)
 
 -- the events of a tap
 pub tap-reversed : (events mid now : List Event) (k : ℕ) → mid ≡ events ++ Press k ∷ [] → now ≡ mid ++ Release k ∷ []
     → reverse now ≡ Release k ∷ Press k ∷ reverse events
-tap-reversed events mid now k mid_is items =
-    ap reverse items ∙ push-reversed mid (Release k)
-    ∙ ap (λ z. Release k ∷ z) (ap reverse mid_is ∙ push-reversed events (Press k))
+tap-reversed events mid now k mid_is items = search (rules, push-reversed)
 
 -- its release, where the press is answered alike
 pub script-release : (m n : MapValue) (events mid now s t : List Event) (k : ℕ) (a b : Answer)
@@ -228,8 +174,4 @@ pub script-release : (m n : MapValue) (events mid now s t : List Event) (k : ℕ
     × (answer_to (between m m) (Press k ∷ reverse events) (Release k) ≡ a)
     × (answer_to (between n n) (Press k ∷ reverse events) (Release k) ≡ b)
 script-release m n events mid now s t k a b mid_is items s_is t_is a_is b_is =
-    let pressed : reverse mid ≡ Press k ∷ reverse events = ap reverse mid_is ∙ push-reversed events (Press k) in (
-      tap-reversed events mid now k mid_is items,
-      sym (subst (λ z. a ≡ answer_to (between m m) z (Release k)) (ap reverse s_is ∙ pressed) a_is),
-      sym (subst (λ z. b ≡ answer_to (between n n) z (Release k)) (ap reverse t_is ∙ pressed) b_is),
-    )
+    search (rules, push-reversed, tap-reversed)

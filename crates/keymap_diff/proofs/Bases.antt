@@ -1,16 +1,14 @@
 -- The bases of pairs, and what is pushed for each.
-use Rattle.std.proofs.Common.{◌≡◌, ℕ, ◌+◌, ◌<◌, ◌⊎◌, inl, inr, Bool, false, List, [], ◌∷◌, ◌++◌, Option, Some}
-use Rattle.std.proofs.Common.{get_or, length, refl, ap, subst, sym, ◌∙◌, arith, eqb, not, take, None, rules}
+use Rattle.std.proofs.Common.{◌≡◌, ℕ, ◌+◌, ◌<◌, ◌⊎◌, inl, inr, Bool, false, List, [], ◌∷◌, ◌++◌, Option, Some, get_or}
+use Rattle.std.proofs.Common.{length, refl, ap, subst, sym, ◌∙◌, arith, eqb, not, take, None, rules, ◌==◌}
 use Rattle.std.proofs.lemmas.Bool.{eqb-true, eq-eqb, true≢false}
 use Rattle.std.specs.Prelude.{if◌then◌else◌, is_some}
 use Rattle.std.specs.Option.{option_eq, option_to_list}
 use Rattle.std.proofs.lemmas.List.{take_more}
-use Rattle.std.proofs.Common.{◌==◌}
 use Rattle.keymap_core.specs.Accents.{first_result}
 use Rattle.keymap_core.specs.Numbers.{accent_limit}
 use Rattle.keymap_diff.specs.Changes.{IsChangeOf, IsMark, MeetsPair, pairs_of, place_of}
-use Rattle.keymap_diff.specs.Inner.Pushing.{HasBase, IsOfBase, IsOfBaseIn, IsOne, Pushes}
-use Rattle.keymap_diff.specs.Inner.Pushing.{PushesAt, PushesBases}
+use Rattle.keymap_diff.specs.Inner.Pushing.{HasBase, IsOfBase, IsOfBaseIn, IsOne, Pushes, PushesAt, PushesBases}
 use Rattle.keymap_diff.specs.Types.{Change, Pair, Versions}
 use Rattle.keymap_diff.proofs.Marks.{mark-one, pairs-only}
 use Rattle.keymap_diff.proofs.Pushing.{pushes-as, pushes-both, pushes-option}

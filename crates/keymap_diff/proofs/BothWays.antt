@@ -1,9 +1,9 @@
 -- What is told of safe keymaps is the same both ways.
-use Rattle.keymap_diff.proofs.Common.{◌≡◌, ◌<◌, ◌≤◌, ℕ, true, List, [], ◌∷◌, ◌++◌, subst, refl, sym, arith}
-use Rattle.keymap_diff.proofs.Common.{All-head, All-tail, Event, Press, Act, Char, HasKey, HasKeys, MapValue}
-use Rattle.keymap_diff.proofs.Common.{between, resolved, in_force, IsAdmitted, IsPressOrRelease, IsNoLoad}
-use Rattle.keymap_diff.proofs.Common.{Release, Reset, Load, true≢false, IsAnsweredAlike, TellsApart, presses, reverse}
-use Rattle.keymap_diff.proofs.Common.{Bool, Answer}
+use Rattle.std.proofs.Common.{rules}
+use Rattle.keymap_diff.proofs.Common.{◌≡◌, ◌<◌, ◌≤◌, ℕ, true, List, [], ◌∷◌, ◌++◌, subst, refl, sym, All-head, All-tail}
+use Rattle.keymap_diff.proofs.Common.{Event, Press, Act, Char, HasKey, HasKeys, MapValue, between, resolved, in_force}
+use Rattle.keymap_diff.proofs.Common.{IsAdmitted, IsPressOrRelease, IsNoLoad, Release, Reset, Load, true≢false}
+use Rattle.keymap_diff.proofs.Common.{IsAnsweredAlike, TellsApart, presses, reverse, Bool, Answer}
 use Rattle.std.proofs.lemmas.List.Elements.{All-weaker}
 use Rattle.keymap_core.specs.Bearers.{IsCellOf}
 use Rattle.console_core.specs.Headline.{IsSafe}
@@ -13,8 +13,7 @@ use Rattle.console_core.proofs.Facts.{looks_are_cells}
 use Rattle.console_core.proofs.OneMap.{one_in_force}
 use Rattle.keymap_core.specs.declared.action.Action.TheVariants as act
 use Rattle.keymap_core.specs.declared.action.Holding.TheVariants as holding
-use Rattle.keymap_diff.specs.Telling.{AgreesBothWays, IsToldBy, SafeListsAreClean}
-use Rattle.keymap_diff.specs.Telling.{SameIsNeverTold}
+use Rattle.keymap_diff.specs.Telling.{AgreesBothWays, IsToldBy, SafeListsAreClean, SameIsNeverTold}
 use Rattle.keymap_diff.specs.declared.telling.Telling.TheVariants.{Told, Never, Undecided}
 
 later-keys : (later h : List Event) → HasKeys (later ++ h) → HasKeys h
@@ -66,9 +65,7 @@ late m n g p old new safe told after =
 
 pub agrees_both_ways : AgreesBothWays
 agrees_both_ways m n (Told es a b) (Told fs c d) safe safe_too (told, fewest) (told_too, fewest_too) =
-    let le = few m n (reverse fs.items) (reverse es.items) c d safe told_too fewest in
-    let le_too = few n m (reverse es.items) (reverse fs.items) a b safe_too told fewest_too in
-    omega (arith, le, le_too)
+    search (rules, few)
 agrees_both_ways m n (Told es a b) (Never forgets) safe safe_too (told, fewest) never =
     told.apart (apart-back (reverse es.items)
     (never (reverse es.items) (told-admitted n m forgets (reverse es.items) a b safe_too told)))
@@ -77,8 +74,7 @@ agrees_both_ways m n (Told es a b) (Never forgets) safe safe_too (told, fewest) 
     apart-back [] same = tt
     apart-back (e ∷ h) same = sym same
 agrees_both_ways m n (Never forgets) (Told es a b) safe safe_too never (told, fewest) =
-    apart-too m n (reverse es.items) told.apart
-    (never (reverse es.items) (told-admitted m n forgets (reverse es.items) a b safe told))
+    search (rules, apart-too, told-admitted)
 agrees_both_ways m n (Told es a b) (Undecided p) safe safe_too (told, fewest) (more, after) =
     late n m (reverse es.items) p a b safe_too told after
 agrees_both_ways m n (Undecided p) (Told es a b) safe safe_too (more, after) (told, fewest) =

@@ -1,12 +1,12 @@
 -- What a search met tells of all paths: where a press shows nothing in what it met, none does where fewer presses lead
 -- than to where something shows or the search gave up.
-use Rattle.keymap_diff.proofs.Common.{zero, suc, ◌≡◌, ℕ, ◌+◌, ◌<◌, ◌≤◌, inl, inr, List, [], ◌∷◌, length, slice_get, Option}
-use Rattle.keymap_diff.proofs.Common.{Some, None, refl, ap, subst, sym, ◌∙◌, arith, cases_lt, slice_get_within}
-use Rattle.keymap_diff.proofs.Common.{Contains, MatchOption, MapValue, Move, End, TooMany, Complete, alone, State, start}
-use Rattle.keymap_diff.proofs.Common.{IsPath, IsPathFrom, state_from, state_after, presses_along, presses_of}
-use Rattle.keymap_diff.proofs.Common.{state_of, Entry, Entries, IsMetBy, IsTrail, AreDone, HasEnded, unscrolled}
-use Rattle.keymap_diff.proofs.Common.{NoneShows, ShowsNothing, AreCellsClear, IsAccentClear, IsOfferedIn, Hold, Turn}
-use Rattle.keymap_diff.proofs.Common.{LetGo, Exchange, Under}
+use Rattle.std.proofs.Common.{rules}
+use Rattle.keymap_diff.proofs.Common.{zero, suc, ◌≡◌, ℕ, ◌+◌, ◌<◌, ◌≤◌, List, [], ◌∷◌, length, slice_get, Option, Some}
+use Rattle.keymap_diff.proofs.Common.{None, refl, ap, subst, sym, ◌∙◌, arith, cases_lt, slice_get_within, Contains}
+use Rattle.keymap_diff.proofs.Common.{MatchOption, MapValue, Move, End, TooMany, Complete, alone, State, start, IsPath}
+use Rattle.keymap_diff.proofs.Common.{IsPathFrom, state_from, state_after, presses_along, presses_of, state_of, Entry}
+use Rattle.keymap_diff.proofs.Common.{Entries, IsMetBy, IsTrail, AreDone, HasEnded, unscrolled, NoneShows, ShowsNothing}
+use Rattle.keymap_diff.proofs.Common.{AreCellsClear, IsAccentClear, IsOfferedIn, Under}
 use Rattle.keymap_diff.specs.Inner.Searches.{AreNear, IsClearBehind, IsReach, IsSearched, IsWithin}
 use Rattle.keymap_diff.specs.Inner.Showing.{NoneShowsBelow, IsFirstShown}
 use Rattle.keymap_diff.specs.declared.searched.Searched.{Searched}
@@ -20,13 +20,7 @@ use Rattle.console_states.proofs.Unscrolled.{moves-unscrolled, same_moved}
 trail-few : (es : Entries) (j : ℕ) (path : List Move) → IsTrail es j path → presses_along path ≤ j
 trail-few es j [] is = omega arith
 trail-few es j (move ∷ path) (x, parent, at, last, lt, is) =
-    let le = trail-few es parent path is in omega (arith, le, lt, one move)
-  where
-    one : (move : Move) → presses_of move ≤ 1
-    one (Hold k i) = omega arith
-    one (Turn k l) = omega arith
-    one (LetGo k i) = omega arith
-    one Exchange = omega arith
+    search (rules, trail-few es parent path is)
 
 pub presses-few : {os : List State} (u : Under) (es : Entries) (a b j : ℕ) (x : Entry) → SearchedStates u os es a b
     → slice_get es j ≡ Some x → x.1.presses ≤ j
@@ -49,14 +43,9 @@ reach-done : (m : MapValue) (os : List State) (es : Entries) (end : End) (shown 
     → HasEnded (alone m) os es end → IsReach es end shown reach → (b : ℕ) → IsWithin b reach
     → AreDone (alone m) es b
 reach-done m os es Complete shown reach ended is b within = all-done (alone m) es ended.is.0 b
-reach-done m os es (TooMany p) None reach ended (q, same, (x, at, e)) b within = λ j y here move can leaves lt.
-    let le : b ≤ q = subst (λ z. IsWithin b z) same within in
-    let few : x.1.presses ≤ p = ended.is.1 65536 x at in
-    ended.is.2 j y here move can leaves (omega (arith, lt, le, few, e))
-reach-done m os es (TooMany p) (Some shown) reach ended (q, same, (x, at, e)) b within = λ j y here move can leaves lt.
-    let le : b ≤ q = subst (λ z. IsWithin b z) same within in
-    let few : x.1.presses ≤ p = ended.is.1 shown.place x at in
-    ended.is.2 j y here move can leaves (omega (arith, lt, le, few, e))
+reach-done m os es (TooMany p) None reach ended (q, same, (x, at, e)) b within = search rules
+reach-done m os es (TooMany p) (Some shown) reach ended (q, same, (x, at, e)) b within =
+    search rules
 
 -- and in what was met by fewer presses no key shows anything
 reach-none : (m n : MapValue) (p : Option ℕ) (es : Entries) (end : End) (shown : Option Shown) (reach : Option ℕ)
@@ -66,13 +55,7 @@ reach-none : (m n : MapValue) (p : Option ℕ) (es : Entries) (end : End) (shown
     → NoneShows m n p (state_of x.0)
 reach-none m n p es end None reach ordered is none b within j x at lt = none j x at (slice_get_within es j x at)
 reach-none m n p es end (Some shown) reach ordered (q, same, (y, there, e)) (z, here, key, shows, none) b within j x at lt =
-    elim (cases_lt j shown.place) [
-      | inl below ↦ none j x at below
-      | inr le ↦
-          let few : b ≤ q = subst (λ z. IsWithin b z) same within in
-          let up : y.1.presses ≤ x.1.presses = ordered shown.place j y x le there at in
-          absurd (omega (arith, lt, few, up, e))
-    ]
+    search (rules, cases_lt)
 
 -- so none does where fewer presses lead
 pub searched-clear : (m n : MapValue) (os : List State) (p : Option ℕ) (x : Searched) → IsSearched m n os p x → (b : ℕ)
@@ -114,10 +97,7 @@ path-near : (m : MapValue) (s t : State) (path : List Move) → unscrolled t ≡
     × (unscrolled (state_from (alone m) t path) ≡ unscrolled (state_from (alone m) s path))
 path-near m s t [] e is = (tt, e)
 path-near m s t (move ∷ path) e is =
-    let (rest, near) = path-near m s t path e is.1 in (
-      (moves-unscrolled (alone m) (state_from (alone m) s path) (state_from (alone m) t path) move near is.0, rest),
-      same_moved (alone m) (state_from (alone m) s path) (state_from (alone m) t path) move near,
-    )
+    search (rules, moves-unscrolled, same_moved, path-near m s t path e is.1)
 
 -- where all places that offer the accent are clear, so are all paths by a tap of its dead key
 pub behind-clear : (m n : MapValue) (i : ℕ) (es : Entries) (b : ℕ) → AreNear m es b

@@ -1,14 +1,13 @@
 -- How a search ends where nothing shows: all states were met, or more than it goes over.
+use Rattle.std.proofs.Common.{rules, get_or}
 use Rattle.keymap_diff.proofs.Common.{suc, ◌≡◌, ℕ, ◌+◌, ◌<◌, ◌≤◌, false, Bool, inl, inr, List, [], ◌∷◌, ◌++◌, length}
-use Rattle.keymap_diff.proofs.Common.{slice_get, Option, Some, None, refl, ap, subst, sym, ◌∙◌, arith, cases_lt, none-some}
-use Rattle.keymap_diff.proofs.Common.{same_Some, slice_get_within, Contains, MatchOption, MapValue, Move, alone}
-use Rattle.keymap_diff.proofs.Common.{State, start, IsPath, IsPathFrom, state_after, state_from, presses_along, state_of}
-use Rattle.keymap_diff.proofs.Common.{Entry, Entries, HasEnded, Searched, NeverForgets, End, TooMany, Complete}
-use Rattle.keymap_diff.proofs.Common.{is_some, true≢false}
+use Rattle.keymap_diff.proofs.Common.{slice_get, Option, Some, None, refl, ap, subst, sym, ◌∙◌, arith, cases_lt}
+use Rattle.keymap_diff.proofs.Common.{none-some, same_Some, slice_get_within, Contains, MatchOption, MapValue, Move}
+use Rattle.keymap_diff.proofs.Common.{alone, State, start, IsPath, IsPathFrom, state_after, state_from, presses_along}
+use Rattle.keymap_diff.proofs.Common.{state_of, Entry, Entries, Searched, NeverForgets, End, TooMany, Complete, is_some}
+use Rattle.keymap_diff.proofs.Common.{true≢false}
 use Rattle.std.proofs.lemmas.Option.{slice_get-get_or}
-use Rattle.std.proofs.Common.{get_or}
 use Rattle.keymap_diff.specs.Inner.Searches.{IsMetAt, IsMetFromStart, IsReach, IsSearched}
-use Rattle.keymap_diff.specs.Inner.Showing.{IsFirstShown, NoneShowsBelow}
 use Rattle.keymap_diff.specs.declared.searched.Searched.{Searched as SearchedValue}
 use Rattle.keymap_diff.specs.declared.showing.Shown.{Shown}
 use Rattle.console_states.specs.Sticking.{ReachesMoreThan}
@@ -24,11 +23,7 @@ use Rattle.keymap_diff.proofs.Clearing.{among-along}
 -- the place where something shows, and the way back from there
 pub shown-place : (m n : MapValue) (os : List State) (p : Option ℕ) (x : SearchedValue) → IsSearched m n os p x
     → (at : Shown) → x.shown ≡ Some at → at.place < length x.met.entries
-shown-place m n os p x s at e =
-    let (z, here, key, shows, none) =
-    subst (λ o. MatchOption o (NoneShowsBelow m n p x.met.entries (length x.met.entries))
-    (λ at. IsFirstShown m n p x.met.entries at.place at.key)) e s.shown in
-    slice_get_within x.met.entries at.place z here
+shown-place m n os p x s at e = search (rules, slice_get_within)
 
 pub goes-back : (m n : MapValue) (os : List State) (p : Option ℕ) (x : SearchedValue) → IsSearched m n os p x
     → GoBack x.met.entries
@@ -102,19 +97,11 @@ pub searched-never : (m n : MapValue) (x : SearchedValue) (stuck : Option Stuck)
     (λ y. IsStuck (alone m) x.met.entries y.place y.key × AreSafe (alone m) x.met.entries y.place)
     → forgets ≡ is_some stuck → forgets ≡ false → NeverForgets (alone m)
 searched-never m n x (Some y) forgets s none e stuck is f = absurd (true≢false (sym is ∙ f))
-searched-never m n x None forgets s none e safe is f =
-    by s.end s.ended (subst (λ o. IsReach x.met.entries s.end o x.reach) none s.reach)
-  where
-    by : (end : End) → HasEnded (alone m) (start ∷ []) x.met.entries end → IsReach x.met.entries end None x.reach
-        → NeverForgets (alone m)
-    by Complete ended reach = safe-never m x.met.entries ended.is.0 safe
-    by (TooMany r) ended (l, is, at) = absurd (none-some l (sym e ∙ is))
+searched-never m n x None forgets s none e safe is f = search (rules, safe-never, none-some)
 
 -- as many presses lead to a place as it was met by
 pub tapped-reached : (m : MapValue) (es : Entries) (place before : ℕ) (y : Entry) → IsMetFromStart m es
     → slice_get es place ≡ Some y → IsMetAt es place before → (o : State) → o ≡ state_of y.0
     → (path : List Move) × IsPath (alone m) path × (presses_along path ≤ before + 1) × (state_after (alone m) path ≡ o)
 tapped-reached m es place before y met at (z, there, count) o is =
-    let r = reached-one met.0 place y at in
-    let same : y.1.presses ≡ before = ap (λ w. w.1.presses) (same_Some y z (sym at ∙ there)) ∙ sym count in
-    (r.0, r.2, omega (arith, r.4, same), r.3 ∙ sym is)
+    search (rules, reached-one, same_Some)

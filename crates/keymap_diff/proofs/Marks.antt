@@ -1,6 +1,6 @@
 -- What tells that a change is unseen.
-use Rattle.std.proofs.Common.{◌≡◌, ℕ, ◌+◌, ◌*◌, ◌/◌, ◌%◌, ◌<◌, ◌≤◌, inl, inr, Bool, true, false, refl, ap}
-use Rattle.std.proofs.Common.{Option, None, Some, subst, sym, ◌∙◌, arith, rules}
+use Rattle.std.proofs.Common.{◌≡◌, ℕ, ◌+◌, ◌*◌, ◌/◌, ◌%◌, ◌<◌, ◌≤◌, inl, inr, Bool, true, false, refl, ap, Option, None}
+use Rattle.std.proofs.Common.{Some, subst, sym, ◌∙◌, arith, rules}
 use Rattle.std.specs.Prelude.{is_some}
 use Rattle.keymap_core.specs.Maps.{MapValue, entry_at, cell_at}
 use Rattle.keymap_core.specs.Numbers.{slot_limit, column_count, accent_limit}
@@ -8,8 +8,7 @@ use Rattle.keymap_core.specs.declared.entry.Cell.{Cell as CellValue}
 use Rattle.keymap_diff.specs.Changes.{IsMark, IsChangeOf, MeetsCell, MeetsLetters, MeetsSetting, MeetsDeadKey}
 use Rattle.keymap_diff.specs.Changes.{MeetsDeadKeyAt, place_of, pairs_of, HaveSameResults}
 use Rattle.keymap_diff.specs.Inner.Pushing.{IsAt, IsOne}
-use Rattle.keymap_diff.specs.Types.{Change, Slots, Cell, Letter, Accents, Pair, ListedOtherwise, Versions}
-use Rattle.keymap_diff.specs.Types.{LockFlag}
+use Rattle.keymap_diff.specs.Types.{Change, Slots, Cell, Letter, Accents, Pair, ListedOtherwise, Versions, LockFlag}
 
 -- one mark alone is right
 pub mark-one : (known : Bool) (m n : MapValue) (Meets : MapValue → Type 0) (u w : Bool) → IsMark known m n Meets u

@@ -1,15 +1,12 @@
 -- The places that offer an accent, and what searches from them tell of all paths by a tap of its dead key.
-use Rattle.keymap_diff.proofs.Common.{suc, ◌≡◌, ℕ, ◌+◌, ◌≤◌, inl, inr, List, [], ◌∷◌, ◌++◌}
-use Rattle.keymap_diff.proofs.Common.{slice_get, Option, Some, None, refl, ap, subst, sym, ◌∙◌, arith, cases_lt, none-some}
-use Rattle.keymap_diff.proofs.Common.{Contains, MapValue, alone, State, state_of}
-use Rattle.keymap_diff.proofs.Common.{Entry, Entries, IsOfferedIn, presses_along}
-use Rattle.keymap_diff.proofs.Common.{Scroll, false}
+use Rattle.std.proofs.Common.{rules, Result, Err}
+use Rattle.keymap_diff.proofs.Common.{suc, ◌≡◌, ℕ, ◌+◌, ◌≤◌, inl, inr, List, [], ◌∷◌, ◌++◌, slice_get, Option, Some}
+use Rattle.keymap_diff.proofs.Common.{None, refl, ap, subst, sym, ◌∙◌, arith, cases_lt, none-some, Contains, MapValue}
+use Rattle.keymap_diff.proofs.Common.{alone, State, state_of, Entry, Entries, IsOfferedIn, presses_along, Scroll, false}
+use Rattle.keymap_diff.proofs.Common.{map, IfOk, Ok}
+use Rattle.console_states.specs.declared.held.Held.{Held}
 use Rattle.std.proofs.lemmas.List.Elements.{Contains-append_left, Contains-push, Contains-push_cases}
-use Rattle.keymap_diff.specs.Inner.Searches.{AreOffering, IsClearBehind, IsMetAt, IsMetFromStart, IsReach, IsSearched}
-use Rattle.keymap_diff.specs.Inner.Searches.{IsWithin}
-use Rattle.keymap_diff.specs.declared.showing.Shown.{Shown}
-use Rattle.keymap_diff.proofs.Common.{End, Complete, TooMany, IfOk, Ok}
-use Rattle.std.proofs.Common.{Result, Err}
+use Rattle.keymap_diff.specs.Inner.Searches.{AreOffering, IsClearBehind, IsMetAt, IsMetFromStart, IsSearched, IsWithin}
 use Rattle.keymap_diff.specs.declared.searched.Searched.{Searched as SearchedValue}
 use Rattle.console_states.proofs.Adding.{empty-none}
 use Rattle.console_states.proofs.Beginning.{reached-one}
@@ -18,10 +15,7 @@ use Rattle.keymap_diff.proofs.Clearing.{searched-clear}
 
 pub offering-none : (m : MapValue) (i : ℕ) (es : Entries) (low : ℕ) (states : List State) → states ≡ []
     → AreOffering m i es low low states
-offering-none m i es low states e = record {
-  all = λ j x at le lt. absurd (omega (arith, le, lt));
-  only = λ s has. absurd (empty-none states s e has);
-}
+offering-none m i es low states e = search (rules, empty-none)
 
 pub offering-more : (m : MapValue) (i : ℕ) (es : Entries) (low n : ℕ) (states : List State) (x : Entry) → low ≤ n
     → AreOffering m i es low n states → slice_get es n ≡ Some x → IsOfferedIn (alone m) (state_of x.0) i
@@ -64,19 +58,19 @@ pub clear-before : (m n : MapValue) (i : ℕ) (es : Entries) (low high b : ℕ) 
 clear-before m n i es low high b q met (y, there, e) few j x at le lt offered path is less =
     let up : y.1.presses ≤ x.1.presses = met.1 low j y x le there at in absurd (omega (arith, up, less, few, e))
 
-pub clear-searched : (m n : MapValue) (i : ℕ) (es : Entries) (low high b q : ℕ) (states : List State) (x : SearchedValue)
-    → IsMetFromStart m es → AreOffering m i es low high states → IsSearched m n states (Some i) x → IsMetAt es low q
+pub clear-searched : (m n : MapValue) (i : ℕ) (es : Entries) (low high b q : ℕ) (given states : List Held)
+    (x : SearchedValue) → given ≡ states → IsMetFromStart m es → AreOffering m i es low high (map state_of states)
+    → IsSearched m n (map state_of given) (Some i) x → IsMetAt es low q
     → ((more : ℕ) → x.reach ≡ Some more → b ≤ q + 1 + more) → IsClearBehind m n i es low high b
-clear-searched m n i es low high b q states x met offering s (y, there, e) few j z at le lt offered path is less k key =
+clear-searched m n i es low high b q given states x same met offering s (y, there, e) few j z at le lt offered path is less k key =
     let up : y.1.presses ≤ z.1.presses = met.1 low j y z le there at in
-    searched-clear m n states (Some i) x s (suc (presses_along path))
-    (within x.reach refl up) (state_of z.0) (offering.all j z at le lt offered) path is (omega arith) k key
+    searched-clear m n (map state_of given) (Some i) x s (suc (presses_along path)) (within x.reach refl up) (state_of z.0)
+    (subst (λ l. Contains (map state_of l) (state_of z.0)) (sym same) (offering.all j z at le lt offered)) path is
+    (omega arith) k key
   where
     within : (r : Option ℕ) → x.reach ≡ r → y.1.presses ≤ z.1.presses → IsWithin (suc (presses_along path)) x.reach
     within None is_none up = subst (λ o. IsWithin (suc (presses_along path)) o) (sym is_none) tt
-    within (Some more) is_some up =
-        let le_b = few more is_some in
-        subst (λ o. IsWithin (suc (presses_along path)) o) (sym is_some) (omega (arith, less, le_b, up, e))
+    within (Some more) is_some up = search rules
 
 -- the places of both halves
 pub clear-both : (m n : MapValue) (i : ℕ) (es : Entries) (low middle high b : ℕ) → IsClearBehind m n i es low middle b
@@ -98,15 +92,7 @@ one-origin m i es low high states y at few offering o has =
 pub some-origin : (m n : MapValue) (i : ℕ) (es : Entries) (low high more : ℕ) (states : List State) (x : SearchedValue)
     → IsSearched m n states (Some i) x → x.reach ≡ Some more → AreOffering m i es low high states
     → (o : State) × Contains states o
-some-origin m n i es low high more states x s e offering =
-    let (j, z, at) = by x.shown s.end s.reach in
-    let (o, has, r) = s.ended.searched.reached j z at in (o, has)
-  where
-    by : (shown : Option Shown) (end : End) → IsReach x.met.entries end shown x.reach
-        → (j : ℕ) × (z : Entry) × (slice_get x.met.entries j ≡ Some z)
-    by (Some at) end (q, is, (z, there, count)) = (at.place, z, there)
-    by None Complete is = absurd (none-some more (sym is ∙ e))
-    by None (TooMany p) (q, is, (z, there, count)) = (65536, z, there)
+some-origin m n i es low high more states x s e offering = search (rules, none-some)
 
 pub within-less : (b c : ℕ) (o : Option ℕ) → b ≤ c → IsWithin c o → IsWithin b o
 within-less b c None le within = tt

@@ -1,12 +1,12 @@
 -- The states in which a console stands, by the presses that lead there, and where an accent is pending.
 use Rattle.keymap_diff.proofs.Common.{suc, ◌≡◌, ℕ, ◌+◌, ◌<◌, ◌≤◌, Bool, true, false, List, [], ◌∷◌, Some, refl, ap}
-use Rattle.keymap_diff.proofs.Common.{subst, sym, ◌∙◌, inl, inr, arith, rules, All-head, true≢false, None}
-use Rattle.keymap_diff.proofs.Common.{Action, Cell, Char, Act, Event, Press, Release, Reset, Load, Move, LetGo}
-use Rattle.keymap_diff.proofs.Common.{MapValue, ResolvedEvent, PressedAction, ReleasedKey, remembered, taken_over}
-use Rattle.keymap_diff.proofs.Common.{pending, look, resolve_press, between, resolved, is_second_in_force, same_action}
-use Rattle.keymap_diff.proofs.Common.{HasKey, IsNoLoad, alone, State, IsMove, moved, look_in, IsPath, IsPathFrom}
-use Rattle.keymap_diff.proofs.Common.{state_after, state_from, presses_along, presses_of, presses, NeverForgets}
-use Rattle.keymap_diff.proofs.Common.{IsAdmitted, IsOfferedIn, Follows, usable, holding_action}
+use Rattle.keymap_diff.proofs.Common.{subst, sym, ◌∙◌, inl, inr, arith, rules, All-head, true≢false, None, Action, Cell}
+use Rattle.keymap_diff.proofs.Common.{Char, Act, Event, Press, Release, Reset, Load, Move, LetGo, MapValue}
+use Rattle.keymap_diff.proofs.Common.{ResolvedEvent, PressedAction, ReleasedKey, remembered, taken_over, pending, look}
+use Rattle.keymap_diff.proofs.Common.{resolve_press, between, resolved, is_second_in_force, same_action, HasKey}
+use Rattle.keymap_diff.proofs.Common.{IsNoLoad, alone, State, IsMove, moved, look_in, IsPath, IsPathFrom, state_after}
+use Rattle.keymap_diff.proofs.Common.{state_from, presses_along, presses_of, presses, NeverForgets, IsAdmitted}
+use Rattle.keymap_diff.proofs.Common.{IsOfferedIn, Follows, usable, holding_action, Hold, Turn}
 use Rattle.console_core.proofs.OneMore.{one_map, resolved-start, resolved-more, pending-start, pending-character}
 use Rattle.console_core.proofs.OneMore.{pending-action, pending-release, pending-reset}
 use Rattle.console_states.proofs.Following.{follows-look, follows-nothing, not_holding}
@@ -14,7 +14,6 @@ use Rattle.console_states.proofs.Seeing.{admitted-before, keeps-held, taken-dead
 use Rattle.console_states.proofs.Sparing.{IsKeptBelow, AreSpared, stays}
 use Rattle.console_states.proofs.Staying.{LeadsOn, stays-press, stays-release}
 use Rattle.keymap_core.specs.declared.action.Action.TheVariants as act
-use Rattle.keymap_diff.proofs.Common.{Hold, Turn}
 
 -- a path of at most p presses leads to the state
 abbrev pub ReachedBy : MapValue → ℕ → State → Type 0

@@ -1,5 +1,6 @@
 -- Where a key shows a difference of two keymaps, a press of it or its release is answered differently.
-use Rattle.keymap_diff.proofs.Common.{◌≡◌, ◌≢◌, ℕ, ◌≤◌, ◌⊎◌, Bool, false, true, List, [], ◌∷◌, ◌++◌, Option}
+use Rattle.std.proofs.Common.{rules}
+use Rattle.keymap_diff.proofs.Common.{◌≡◌, ◌≢◌, ℕ, ◌≤◌, ◌⊎◌, Bool, true, List, [], ◌∷◌, ◌++◌, Option}
 use Rattle.keymap_diff.proofs.Common.{Some, None, refl, ap, subst, sym, ◌∙◌, inl, inr, arith, cases_Bool, true≢false}
 use Rattle.keymap_diff.proofs.Common.{option_or, eq-eqb, same_action, same_action-true, same_action-refl, Action}
 use Rattle.keymap_diff.proofs.Common.{Modifier, Meta, Cell, Char, Act, Event, Press, Release, Answer, Move, Hold, Turn}
@@ -7,9 +8,9 @@ use Rattle.keymap_diff.proofs.Common.{LetGo, Exchange, MapValue, accent_at, comp
 use Rattle.keymap_diff.proofs.Common.{answer_action, answer_release, answer_dead_key, char_or_error, unless_nop}
 use Rattle.keymap_diff.proofs.Common.{taken_over, on, remembered, pending, resolve_press, answer_resolved}
 use Rattle.keymap_diff.proofs.Common.{ResolvedEvent, between, resolved, answer_to, alone, State, IsIdle, IsPath}
-use Rattle.keymap_diff.proofs.Common.{IsPathFrom, look_in, moved, start, state_after, state_from}
+use Rattle.keymap_diff.proofs.Common.{IsPathFrom, look_in, start, state_after, state_from}
 use Rattle.keymap_diff.proofs.Common.{presses_along, events_along, Stands, false≢true, TellsApart, looked_up}
-use Rattle.keymap_diff.proofs.Common.{AreCellsAlike, AreCellsClear, Gives, IsUnnoticed, Shows, ShowsNothing}
+use Rattle.keymap_diff.proofs.Common.{◌<◌, NoneShows, AreCellsAlike, AreCellsClear, Gives, IsUnnoticed, Shows, ShowsNothing}
 use Rattle.console_core.specs.declared.event.Answer.TheVariants as answer
 use Rattle.keymap_diff.proofs.Alike.{look-is, own-composed, press-answered, press-resolved}
 use Rattle.console_core.proofs.OneMore.{one_map, resolved-start, pending-start, remembered-character, remembered-action}
@@ -41,45 +42,21 @@ cell-kept r k (Act a) = rw (remembered-action k k a r, eq-eqb k k refl) refl
 
 -- a character is answered as no action is, where no accent is pending
 no-char : (m : MapValue) (b d : Bool) (c : ℕ) (a : Action) → answer.Char c b ≡ answer_action m None d a → ⊥
-no-char m b d c (act.DeadKey i) e = elim (cases_Bool (usable m i)) [
-  | inl t ↦ let f : answer.Char c b ≡ answer.None = rw t at e in cc
-  | inr t ↦ let f : answer.Char c b ≡ answer.Error = rw t at e in cc
-]
+no-char m b d c (act.DeadKey i) e = search (rules, cases_Bool)
 no-char m b d c _ e = cc
 
 released-same : (a e : Action) → answer_release (unless_nop a) ≡ answer_release (unless_nop e) → a ≡ e
-released-same a e p = elim (cases_Bool (same_action a act.Nop)) [
-  | inl t ↦ elim (cases_Bool (same_action e act.Nop)) [
-    | inl u ↦ same_action-true a act.Nop t ∙ sym (same_action-true e act.Nop u)
-    | inr u ↦ let f : answer.None ≡ answer.Released e = rw (t, u) at p in absurd (cc)
-  ]
-  | inr t ↦ elim (cases_Bool (same_action e act.Nop)) [
-    | inl u ↦ let f : answer.Released a ≡ answer.None = rw (t, u) at p in absurd (cc)
-    | inr u ↦ let f : answer.Released a ≡ answer.Released e = rw (t, u) at p in cc
-  ]
-]
+released-same a e p = search (rules, cases_Bool, same_action-true)
 
 dead-usable : (m n : MapValue) (b d : Bool) (i : ℕ) → answer_dead_key m None b i ≡ answer_dead_key n None d i
     → usable m i ≡ usable n i
-dead-usable m n b d i p = elim (cases_Bool (usable m i)) [
-  | inl t ↦ elim (cases_Bool (usable n i)) [
-    | inl u ↦ t ∙ sym u
-    | inr u ↦ let f : answer.None ≡ answer.Error = rw (t, u) at p in absurd (cc)
-  ]
-  | inr t ↦ elim (cases_Bool (usable n i)) [
-    | inl u ↦ let f : answer.Error ≡ answer.None = rw (t, u) at p in absurd (cc)
-    | inr u ↦ t ∙ sym u
-  ]
-]
+dead-usable m n b d i p = search (rules, cases_Bool)
 
 act-same : (a e : Action) → Act a ≡ Act e → a ≡ e
 act-same a e p = cc
 
 char-alike : (m n : MapValue) (b d : Bool) (c e : ℕ) → answer.Char c b ≡ answer.Char e d → AreCellsAlike m n (Char c) (Char e)
-char-alike m n b d c e p = (let f : c ≡ e = cc in ap (λ z. Char z) f, (λ i q. absurd (no q)))
-  where
-    no : {i : ℕ} → Char c ≡ Act (act.DeadKey i) → ⊥
-    no q = cc
+char-alike m n b d c e p = search rules
 
 -- of a key that remembers nothing, where both are answered alike
 idle-cells : (m n : MapValue) (b d : Bool) (x y : Cell) → answer_cell m None b None x ≡ answer_cell n None d None y
@@ -87,19 +64,16 @@ idle-cells : (m n : MapValue) (b d : Bool) (x y : Cell) → answer_cell m None b
 idle-cells m n b d (Char c) (Char e) p q = char-alike m n b d c e p
 idle-cells m n b d (Char c) (Act a) p q = absurd (no-char n b d c a p)
 idle-cells m n b d (Act a) (Char c) p q = absurd (no-char m d b c a (sym p))
-idle-cells m n b d (Act a) (Act e) p q =
-    let same : a ≡ e = released-same a e q in
-    (ap (λ z. Act z) same, (λ i f. by i (act-same a (act.DeadKey i) f) (sym same ∙ act-same a (act.DeadKey i) f)))
-  where
-    by : (i : ℕ) → a ≡ act.DeadKey i → e ≡ act.DeadKey i → usable m i ≡ usable n i
-    by i f g = dead-usable m n b d i
-        (subst (λ z. answer_action m None b z ≡ answer_dead_key n None d i) f
-        (subst (λ z. answer_action m None b a ≡ answer_action n None d z) g p))
+idle-cells m n b d (Act a) (Act e) p q = search (rules, released-same, act-same, dead-usable)
 
--- of a key that remembers a modifier
-other-action : (i : Modifier) (a : Action) → same_action (act.Mod i) a ≡ false → a ≢ act.Mod i
-other-action i a t e =
-    true≢false (sym (same_action-refl (act.Mod i)) ∙ ap (λ z. same_action (act.Mod i) z) (sym e) ∙ t)
+-- a key that remembers a modifier takes that or nothing
+taken-held : (m : MapValue) (b : Bool) (i : Modifier) (a : Action)
+    → ((a ≡ act.Mod i) × (answer_action m None b (taken_over (Some (act.Mod i)) a) ≡ answer.Special (act.Mod i)))
+    ⊎ ((a ≢ act.Mod i) × (answer_action m None b (taken_over (Some (act.Mod i)) a) ≡ answer.None))
+taken-held m b i a = elim (cases_Bool (same_action (act.Mod i) a)) [
+  | inl t ↦ let e = sym (same_action-true (act.Mod i) a t) in inl (e, rw (e, same_action-refl (act.Mod i)) refl)
+  | inr t ↦ inr ((λ e. true≢false (sym (same_action-refl (act.Mod i)) ∙ ap (λ z. same_action (act.Mod i) z) (sym e) ∙ t)), rw t refl)
+]
 
 held-cells : (m n : MapValue) (b d : Bool) (i : Modifier) (x y : Cell)
     → answer_cell m None b (Some (act.Mod i)) x ≡ answer_cell n None d (Some (act.Mod i)) y
@@ -107,30 +81,17 @@ held-cells : (m n : MapValue) (b d : Bool) (i : Modifier) (x y : Cell)
 held-cells m n b d i (Char c) (Char e) p = inl (char-alike m n b d c e p)
 held-cells m n b d i (Char c) (Act a) p = absurd (no-char n b d c (taken_over (Some (act.Mod i)) a) p)
 held-cells m n b d i (Act a) (Char c) p = absurd (no-char m d b c (taken_over (Some (act.Mod i)) a) (sym p))
-held-cells m n b d i (Act a) (Act e) p = elim (cases_Bool (same_action (act.Mod i) a)) [
-  | inl t ↦ elim (cases_Bool (same_action (act.Mod i) e)) [
-    | inl u ↦
-        let f : act.Mod i ≡ a = same_action-true (act.Mod i) a t in
-        let g : act.Mod i ≡ e = same_action-true (act.Mod i) e u in
-        inl (ap (λ z. Act z) (sym f ∙ g), (λ j q. absurd (no-dead j (f ∙ act-same a (act.DeadKey j) q))))
-    | inr u ↦
-        let f : act.Mod i ≡ a = same_action-true (act.Mod i) a t in
-        let g : answer_action m None b a ≡ answer.None = rw (t, u) at p in
-        let h : answer.Special (act.Mod i) ≡ answer.None = subst (λ z. answer_action m None b z ≡ answer.None) (sym f) g in
-        absurd (cc)
+held-cells m n b d i (Act a) (Act e) p = elim (taken-held m b i a) [
+  | inl (f, x) ↦ elim (taken-held n d i e) [
+    | inl (g, y) ↦
+        inl (ap (λ z. Act z) (f ∙ sym g), (λ j q. let h : act.Mod i ≡ act.DeadKey j = sym f ∙ act-same a _ q in absurd (cc)))
+    | inr (g, y) ↦ let h : answer.Special (act.Mod i) ≡ answer.None = sym x ∙ p ∙ y in absurd (cc)
   ]
-  | inr t ↦ elim (cases_Bool (same_action (act.Mod i) e)) [
-    | inl u ↦
-        let f : act.Mod i ≡ e = same_action-true (act.Mod i) e u in
-        let g : answer.None ≡ answer_action n None d e = rw (t, u) at p in
-        let h : answer.None ≡ answer.Special (act.Mod i) = subst (λ z. answer.None ≡ answer_action n None d z) (sym f) g in
-        absurd (cc)
-    | inr u ↦ inr (other-action i a t, other-action i e u)
+  | inr (f, x) ↦ elim (taken-held n d i e) [
+    | inl (g, y) ↦ let h : answer.None ≡ answer.Special (act.Mod i) = sym x ∙ p ∙ y in absurd (cc)
+    | inr (g, y) ↦ inr (f, g)
   ]
 ]
-  where
-    no-dead : (j : ℕ) → act.Mod i ≡ act.DeadKey j → ⊥
-    no-dead j q = cc
 
 -- what an accent makes is told by the answer
 made-same : (b d : Bool) (x y : Option ℕ) → char_or_error b x ≡ char_or_error d y → x ≡ y
@@ -154,18 +115,12 @@ press-cell : (m : MapValue) (h : List Event) (s : State) (k : ℕ) (p : Option �
     → Stands (alone m) h s
     → pending m (resolved (between m m) h) ≡ p → remembered k (resolved (between m m) h) ≡ o
     → answer_to (between m m) h (Press k) ≡ answer_cell m p (on Meta (resolved (between m m) h)) o (looked_up m s k)
-press-cell m h s k p o x is rem =
-    let r : List ResolvedEvent = resolved (between m m) h in
-    press-answered m h k
-    ∙ rw (look-is m r s k x.exact.follows, cell-answered m r k (looked_up m s k), is, rem) refl
+press-cell m h s k p o x is rem = search (rules, press-answered, look-is, cell-answered)
 
 release-cell : (m : MapValue) (h : List Event) (s : State) (k : ℕ) (o : Option Action) → Stands (alone m) h s
     → remembered k (resolved (between m m) h) ≡ o
     → answer_to (between m m) (Press k ∷ h) (Release k) ≡ answer_release (kept_cell o (looked_up m s k))
-release-cell m h s k o x rem =
-    let r : List ResolvedEvent = resolved (between m m) h in
-    ap answer_release
-    (rw (press-resolved m h k, look-is m r s k x.exact.follows, cell-kept r k (looked_up m s k), rem) refl)
+release-cell m h s k o x rem = search (rules, press-resolved, look-is, cell-kept)
 
 -- the presses are answered alike
 abbrev pub IsPressAnsweredAlike : MapValue → MapValue → List Event → ℕ → Type 0
@@ -231,35 +186,22 @@ idle-look m n s k x idle (inl (same, usably)) seen = look-in n s k ∙ sym same 
 idle-look m n s k x idle (inr (i, holds, u, v)) seen = absurd (idle i holds)
 
 -- where fewer presses show nothing, a path is one under both keymaps
-pub path-too : (m n : MapValue) (b : ℕ) → AreCellsClear m n b → (path : List Move) → IsPath (alone m) path
-    → presses_along path ≤ b → IsPath (alone n) path × (state_after (alone n) path ≡ state_after (alone m) path)
-path-too m n b clear [] is le = (tt, refl)
-path-too m n b clear (Hold k i ∷ path) is le =
-    let (too, same) = path-too m n b clear path is.1 (omega (arith, le)) in
-    let (key, idle, seen, free) = is.0 in
-    let shows = clear path is.1 (omega (arith, le)) k key in (
-      rw same ((key, idle, idle-look m n (state_after (alone m) path) k (Act (act.Mod i)) idle shows seen, free), too),
-      ap (λ s. moved (alone n) s (Hold k i)) same,
-    )
-path-too m n b clear (Turn k l ∷ path) is le =
-    let (too, same) = path-too m n b clear path is.1 (omega (arith, le)) in
-    let (key, idle, seen) = is.0 in
-    let shows = clear path is.1 (omega (arith, le)) k key in (
-      rw same ((key, idle, idle-look m n (state_after (alone m) path) k (Act (act.Lock l)) idle shows seen), too),
-      ap (λ s. moved (alone n) s (Turn k l)) same,
-    )
-path-too m n b clear (LetGo k i ∷ path) is le =
-    let (too, same) = path-too m n b clear path is.1 (omega (arith, le)) in
-    (rw same (is.0, too), ap (λ s. moved (alone n) s (LetGo k i)) same)
-path-too m n b clear (Exchange ∷ path) is le = absurd (false≢true is.0.1)
+pub path-too : (m n : MapValue) (s : State) (b : ℕ)
+    → ((path : List Move) → IsPathFrom (alone m) s path → presses_along path < b
+    → NoneShows m n None (state_from (alone m) s path))
+    → (path : List Move) → IsPathFrom (alone m) s path → presses_along path ≤ b
+    → IsPathFrom (alone n) s path × (state_from (alone n) s path ≡ state_from (alone m) s path)
+path-too m n s b clear [] is le = (tt, refl)
+path-too m n s b clear (Hold k i ∷ path) is le =
+    search (rules, idle-look, path-too m n s b clear path is.1 (omega (arith, le)))
+path-too m n s b clear (Turn k l ∷ path) is le =
+    search (rules, idle-look, path-too m n s b clear path is.1 (omega (arith, le)))
+path-too m n s b clear (LetGo k i ∷ path) is le =
+    search (rules, path-too m n s b clear path is.1 (omega (arith, le)))
+path-too m n s b clear (Exchange ∷ path) is le = absurd (false≢true is.0.1)
 
 placed-start : (m n : MapValue) → Placed m n [] start None
-placed-start m n = record {
-  first = short-start m;
-  second = stands-start (alone n);
-  first_pending = ap (λ r. pending m r) (resolved-start (between m m)) ∙ pending-start m;
-  second_pending = ap (λ r. pending n r) (resolved-start (between n n)) ∙ pending-start n;
-}
+placed-start m n = search (rules, short-start, stands-start, resolved-start, pending-start)
 
 -- a path under both keeps what is pending
 pub placed-along : (m n : MapValue) (h : List Event) (s : State) (p : Option ℕ) (path : List Move) → Placed m n h s p
@@ -278,5 +220,5 @@ placed-along m n h s p path x is too same = record {
 pub placed-path : (m n : MapValue) (b : ℕ) (path : List Move) → AreCellsClear m n b → IsPath (alone m) path
     → presses_along path ≤ b → Placed m n (events_along path ++ []) (state_after (alone m) path) None
 placed-path m n b path clear is le =
-    let (too, same) = path-too m n b clear path is le in
+    let (too, same) = path-too m n start b clear path is le in
     placed-along m n [] start None path (placed-start m n) is too same

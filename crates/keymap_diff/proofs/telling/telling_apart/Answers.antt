@@ -1,5 +1,6 @@
-use Rattle.keymap_diff.proofs.Common.{◌≡◌, ℕ, ◌<◌, ◌≤◌, true, false, inl, inr, [], ◌∷◌, Option, Some, None, length, List}
-use Rattle.keymap_diff.proofs.Common.{refl, sym, subst, ◌∙◌, arith, cases_lt, true≢false, slice_get_within, MapValue, accent_at}
+use Rattle.std.proofs.Common.{rules}
+use Rattle.keymap_diff.proofs.Common.{◌≡◌, ℕ, ◌<◌, ◌≤◌, true, inl, inr, [], ◌∷◌, Option, Some, None, length, List}
+use Rattle.keymap_diff.proofs.Common.{sym, subst, arith, cases_lt, true≢false, slice_get_within, MapValue}
 use Rattle.keymap_diff.proofs.Common.{AreCellsClear, IsAccentClear, usable, IsAdmitted, TellsApart, presses, Event}
 use Rattle.console_states.proofs.Searching.{place_last}
 use Rattle.keymap_diff.proofs.Alike.{below}
@@ -12,11 +13,7 @@ use Rattle.keymap_diff.proofs.telling.telling_apart.Goals as goal
 
 -- an accent past the last one can't be used
 past-unusable : (m : MapValue) (i : ℕ) → length m.accents ≤ i → usable m i ≡ true → ⊥
-past-unusable m i past is = go (accent_at m i) refl
-  where
-    go : (o : Option _) → accent_at m i ≡ o → ⊥
-    go None e = let no : usable m i ≡ false = rw e refl in true≢false (sym is ∙ no)
-    go (Some a) e = let within = slice_get_within m.accents i a e in omega (arith, past, within)
+past-unusable m i past is = search (rules, slice_get_within)
 
 -- all is clear within the limit: so no list within it tells the keymaps apart
 found-tells : (m n : MapValue) (x : Telling) (limit : Option ℕ) → IsFoundBy m n x limit

@@ -1,48 +1,31 @@
-use Rattle.keymap_diff.proofs.Common.{◌≡◌, ◌+◌, arith, subst, sym, ◌∙◌, map, state_of, State, Contains, Scroll, false, Some}
-use Rattle.keymap_diff.proofs.Common.{same_Some, ◌≤◌, ℕ}
-use Rattle.keymap_diff.proofs.Common.{rules}
+use Rattle.keymap_diff.proofs.Common.{◌≡◌, ◌+◌, arith, subst, sym, ◌∙◌, map, state_of, Some, same_Some, ◌≤◌, ℕ, rules}
+use Rattle.keymap_diff.proofs.Common.{alone, IsOfferedIn}
 use Rattle.std.proofs.Common.{◌-◌, ◌/◌}
 use Rattle.keymap_diff.specs.Inner.Searches.{IsClearBehind, IsNoFurther, IsSearched, IsWithin}
 use Rattle.keymap_diff.specs.declared.nearest.Nearest.{Nearest}
 use Rattle.keymap_diff.proofs.Offers.{clear-before, clear-both, clear-searched, if-both, if-ok, offering-off}
 use Rattle.keymap_diff.proofs.Offers.{one-origin, some-origin, within-less}
-use Rattle.keymap_diff.proofs.Common.{alone, IsOfferedIn}
 use Rattle.keymap_diff.proofs.telling.Offering.+nearest.Goals as goal
 
 pub returns-then-not-is_beyond-clause-clear : goal.returns-then-not-is_beyond-clause-clear
 returns-then-not-is_beyond-clause-clear t c = λ b within.
-    clear-before c.args.self.now.both.old.now c.args.self.now.both.new.now c.args.self.now.accent c.args.self.now.met.now.entries c.args.low c.args.high b
-    c.presses_to-before.result c.requires.met c.presses_to-before.ensures.value
+    let at = c.args.self.now in
+    clear-before at.both.old.now at.both.new.now at.accent _ _ c.args.high b _ c.requires.met c.presses_to-before.ensures.value
     (c.is_beyond.ensures.within c.if-not-is_beyond.true b within)
 
 pub from-requires : goal.from-requires
-from-requires t c =
-    subst (λ z. (o : State) → Contains (map state_of z) o → o.is_locked Scroll ≡ false) (sym c.deref.ensures.value)
-    (offering-off c.args.self.now.both.old.now c.args.self.now.accent c.args.self.now.met.now.entries c.args.low
-    c.args.high (map state_of c.in_ok-origins.origins.items) c.requires.met c.in_ok-origins.ensures)
+from-requires t c = search (rules, offering-off)
 
 pub returns-in_default-clause-clear : goal.returns-in_default-clause-clear
 returns-in_default-clause-clear t c = λ b within.
-    let m = c.args.self.now.both.old.now in
-    let n = c.args.self.now.both.new.now in
-    let i = c.args.self.now.accent in
-    clear-searched m n i c.args.self.now.met.now.entries c.args.low c.args.high b c.presses_to-before.result
-    (map state_of c.in_ok-origins.origins.items) c.in_ok-searched.searched c.requires.met c.in_ok-origins.ensures
-    (subst (λ z. IsSearched m n (map state_of z) (Some i) c.in_ok-searched.searched) c.deref.ensures.value
-    c.in_ok-searched.ensures)
-    c.presses_to-before.ensures.value (λ more e. absurd (c.in_default.not-Some more e))
+    clear-searched _ _ _ _ _ _ b _ _ _ _ c.deref.ensures.value c.requires.met c.in_ok-origins.ensures
+    c.in_ok-searched.ensures c.presses_to-before.ensures.value (λ more e. absurd (c.in_default.not-Some more e))
 
 pub returns-then-not-is_beyond-2-clause-clear : goal.returns-then-not-is_beyond-2-clause-clear
 returns-then-not-is_beyond-2-clause-clear t c = λ b within.
-    let m = c.args.self.now.both.old.now in
-    let n = c.args.self.now.both.new.now in
-    let i = c.args.self.now.accent in
     let few = c.is_beyond-2.ensures.within c.if-not-is_beyond-2.true b within in
-    clear-searched m n i c.args.self.now.met.now.entries c.args.low c.args.high b c.presses_to-before.result
-    (map state_of c.in_ok-origins.origins.items) c.in_ok-searched.searched c.requires.met c.in_ok-origins.ensures
-    (subst (λ z. IsSearched m n (map state_of z) (Some i) c.in_ok-searched.searched) c.deref.ensures.value
-    c.in_ok-searched.ensures)
-    c.presses_to-before.ensures.value
+    clear-searched _ _ _ _ _ _ b _ _ _ _ c.deref.ensures.value c.requires.met c.in_ok-origins.ensures
+    c.in_ok-searched.ensures c.presses_to-before.ensures.value
     (λ more e. subst (λ r. b ≤ c.presses_to-before.result + 1 + r) (same_Some c.in-Some.more more (sym c.in-Some.is ∙ e)) few)
 
 pub found-requires-clause-at : goal.found-requires-clause-at
@@ -97,19 +80,15 @@ returns-then-high-low-eq1-clause-limit t c =
 
 pub returns-then-high-low-eq1-clause-clear : goal.returns-then-high-low-eq1-clause-clear
 returns-then-high-low-eq1-clause-clear t c =
-    let m = c.args.self.now.both.old.now in
-    let n = c.args.self.now.both.new.now in
-    let i = c.args.self.now.accent in
-    let es = c.args.self.now.met.now.entries in
+    let at = c.args.self.now in
     let p = c.presses_to-before.result + 1 + c.in-Some.more in
     if-ok (λ (x : Nearest). x.limit ≡ Some p)
-    (λ (x : Nearest). (b : ℕ) → IsWithin b x.limit → IsClearBehind m n i es c.args.low c.args.high b)
-    (λ x e b is. let le : b ≤ p = subst (λ o. IsWithin b o) e is in
-    clear-searched m n i es c.args.low c.args.high b c.presses_to-before.result
-    (map state_of c.in_ok-origins.origins.items) c.in_ok-searched.searched c.requires.met c.in_ok-origins.ensures
-    (subst (λ z. IsSearched m n (map state_of z) (Some i) c.in_ok-searched.searched) c.deref.ensures.value
-    c.in_ok-searched.ensures) c.presses_to-before.ensures.value
-    (λ more f. subst (λ r. b ≤ c.presses_to-before.result + 1 + r) (same_Some c.in-Some.more more (sym c.in-Some.is ∙ f)) le))
+    (λ (x : Nearest). (b : ℕ) → IsWithin b x.limit
+    → IsClearBehind at.both.old.now at.both.new.now at.accent at.met.now.entries c.args.low c.args.high b)
+    (λ x e b is. clear-searched _ _ _ _ _ _ b _ _ _ _ c.deref.ensures.value c.requires.met c.in_ok-origins.ensures
+    c.in_ok-searched.ensures c.presses_to-before.ensures.value
+    (λ more f. subst (λ r. b ≤ c.presses_to-before.result + 1 + r) (same_Some c.in-Some.more more (sym c.in-Some.is ∙ f))
+    (subst (λ o. IsWithin b o) e is)))
     c.found.result c.found.ensures.limit
 
 pub nearest-requires-2 : goal.nearest-requires-2

@@ -1,4 +1,5 @@
-use Rattle.keymap_diff.proofs.Common.{◌∷◌, ◌++◌, ap, subst, sym, ◌∙◌, state_of, alone, slice_get_within, same_Some}
+use Rattle.std.proofs.Common.{rules}
+use Rattle.keymap_diff.proofs.Common.{◌∷◌, ◌++◌, ap, subst, ◌∙◌, state_of, alone, slice_get_within, same_Some}
 use Rattle.keymap_diff.proofs.Common.{Offers, Under, reverse, events_along, Press, Release}
 use Rattle.console_states.proofs.GoingBack.{searched-back}
 use Rattle.keymap_diff.proofs.Apart.{tap-reversed}
@@ -17,13 +18,7 @@ entry-held-requires c =
     let (x, at, is) = c.requires.at in slice_get_within c.args.self.now.met.now.entries c.args.place x at
 
 pub unreachable-requires : goal.unreachable-requires
-unreachable-requires c =
-    let (x, at, is) = c.requires.at in
-    let i = c.args.self.now.accent in
-    let one = same_Some x c.entry-held.result (sym at ∙ c.entry-held.ensures) in
-    subst (λ (u : Under). Offers u (state_of c.entry-held.result.0) is.1.0 i → ⊥) c.maps.ensures.alone
-    (c.in-None.ensures is.1.0 is.1.1)
-    (subst (λ z. Offers (alone c.args.self.now.both.old.now) (state_of z.0) is.1.0 i) one is.1.2)
+unreachable-requires c = search (rules, same_Some)
 
 pub returns : goal.returns
 returns c =

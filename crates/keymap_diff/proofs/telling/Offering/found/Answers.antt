@@ -1,3 +1,4 @@
+use Rattle.std.proofs.Common.{rules}
 use Rattle.keymap_diff.proofs.Common.{◌+◌, Some, sym, reverse, refl}
 use Rattle.keymap_diff.proofs.Apart.{accent-told}
 use Rattle.keymap_diff.proofs.Ending.{goes-back, searched-many, shown-place, tapped-reached}
@@ -6,14 +7,10 @@ use Rattle.keymap_diff.proofs.telling.Offering.found.Goals.{in-None}
 use Rattle.keymap_diff.proofs.telling.Offering.found.Goals as goal
 
 pub go_out-requires-clause-place : goal.go_out-requires-clause-place
-go_out-requires-clause-place c =
-    let (y, os, at, one, s) = c.requires.searched in
-    shown-place _ _ os (Some c.args.self.now.accent) c.args.searched.now s c.in-Some.at c.in-Some.is
+go_out-requires-clause-place c = search (rules, shown-place)
 
 pub go_out-requires-clause-back : goal.go_out-requires-clause-back
-go_out-requires-clause-back c =
-    let (y, os, at, one, s) = c.requires.searched in
-    goes-back _ _ os (Some c.args.self.now.accent) c.args.searched.now s
+go_out-requires-clause-back c = search (rules, goes-back)
 
 pub returns-clause-nearest : goal.returns-clause-nearest
 returns-clause-nearest c =

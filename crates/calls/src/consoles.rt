@@ -8,7 +8,7 @@ use console_scripts::{Explorer, Typist, find_onward, scroll_off, type_characters
 use console_states::{Sight, Sticking, sights_of, sticking, sticking_between};
 use keymap_core::{KeyCode, Lock, Modifier, Write};
 use keymap_cover::{Seen, cells, cover_of, lock_settings};
-use keymap_diff::{Versions, changes};
+use keymap_diff::{Telling, Versions, changes, telling_apart};
 use std::alloc::{AllocError, Global};
 
 /// Makes a call on a keymap and its consoles. There is none where no such call has the name.
@@ -35,6 +35,7 @@ pub(crate) fn of_keymaps<W: Write>(call: &Call<'_>, marks: &mut W) -> Option<Out
         "cells" => lists_cells(alloc, marks),
         "lock_settings" => lists_lock_settings(alloc, marks),
         "changes" => compares(alloc, trap, sample, marks),
+        "telling_apart" => tells_apart(alloc, trap, sample, marks),
         _ => return None,
     };
     Some(outcome)
@@ -292,6 +293,17 @@ fn compares<'l, W: Write>(alloc: Global, lent: &'l Lent, next: &'l Lent, marks: 
     ended_keeping(
         &given,
         matches!(&given, Ok(found) if !found.is_empty()),
+        lent.is_kept(),
+    )
+}
+
+fn tells_apart<W: Write>(alloc: Global, lent: &Lent, next: &Lent, marks: &mut W) -> Outcome {
+    mark(marks);
+    let given = telling_apart(alloc, &lent.map, &next.map);
+    mark(marks);
+    ended_keeping(
+        &given,
+        matches!(&given, Ok(Telling::Told { .. })),
         lent.is_kept(),
     )
 }

@@ -293,6 +293,24 @@ An old keymap in which shift can stick:
   # told apart: char 0 -> char 121
   down 100
 
+A key that is pressed again, where shift is a character under control; and a key that forgets in the new keymap alone:
+  $ sed "s/'x'    'x'/'x' 'y'/" "$examples/trap.kbd" > trap-again
+  $ kmap diff "$examples/trap.kbd" trap-again
+  # told apart: char 120 -> char 121
+  # cell: slot 42; ctrl shift: 'x' -> 'y'
+  down 42
+  down 29
+  repeat 42
+  [1]
+  $ apart "$examples/trap.kbd" trap-again
+  $ sed "s/'x'    'x'/lshift lshift/" "$examples/trap.kbd" > safe
+  $ kmap diff safe "$examples/trap.kbd"
+  # told apart: lshift -> char 120
+  # cell: slot 42; ctrl, ctrl shift: lshift -> 'x'
+  down 29
+  down 42
+  [1]
+
 65,536 states, and more; the number of presses is shown as P:
   $ states() {
   >     awk -v each="$1" 'BEGIN {

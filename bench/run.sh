@@ -1,10 +1,10 @@
 #!/bin/sh
 # Measures the program on large inputs: what a byte of text and an event of a script cost, how these costs grow from a
 # tenth of the largest size to the whole, how many reads and writes a run makes, what lint and fmt cost, what the
-# longest search for a demonstration costs, what the search of a keymap and that between two cost, what the script of
-# a sentence costs, what the script that tests a console costs, what a picture costs, and what an event costs over a
-# keymap in memory and over its tables. Where instructions are counted it compares what is measured with bench/limits,
-# tells each limit that is passed, and fails then.
+# longest search for a demonstration costs, what the search of a keymap and that between two cost, what the differences
+# of two keymaps cost, what the script of a sentence costs, what the script that tests a console costs, what a picture
+# costs, and what an event costs over a keymap in memory and over its tables. Where instructions are counted it compares
+# what is measured with bench/limits, tells each limit that is passed, and fails then.
 #
 # usage: run.sh PROGRAM CALLS
 # CALLS is the program of crates/calls, LIMITS another file of limits, and README another text whose table is written.
@@ -286,6 +286,18 @@ echo "  $(transfers search us.refused --next de.refused)"
 measured search "$one"
 measured search-between-to-one "$(ratio "$both" "$([ "$one" -gt "$other" ] && echo "$one" || echo "$other")")"
 
+same=$(cost diff "$keymap" "$keymap")
+differing=$(cost diff "$keymap" "$examples/de.kbd")
+echo "differences of us.kbd and itself: $same $unit; of us.kbd and de.kbd: $differing $unit, times" \
+    "$(per "$differing" 0 "$same")"
+echo "  $(transfers diff "$keymap" "$examples/de.kbd")"
+measured diff-same "$same"
+# as many states as the search goes over, and an accent that no key has
+make_states 8 > states
+{ cat states; echo "dacu 180 ( 'a' 0xe1 )"; } > states.accent
+echo "the same of a keymap of 65,536 states: $(cost diff states states.accent) $unit;" \
+    "$("$program" diff states states.accent | head -n 1)"
+
 tr -dc '\012a-zA-Z0-9 ,.;:!?' < text.whole | tr '\012' ' ' | head -c 32768 > sentence
 "$program" type "$keymap" sentence > typing.script || exit 1
 typing=$(cost type "$keymap" sentence)
@@ -301,8 +313,6 @@ covered=$(cost cover "$keymap")
 echo "script that tests a console, of us.kbd: $covered $unit; $("$program" cover "$keymap" | grep -vc '^#') events"
 echo "  $(transfers cover "$keymap")"
 measured cover "$covered"
-# as many states as the search goes over
-make_states 8 > states
 covered=$(cost cover states)
 echo "the same of a keymap of 65,536 states: $covered $unit; $("$program" cover states | grep -vc '^#') events"
 measured cover-most-states "$covered"

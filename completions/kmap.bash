@@ -3,9 +3,10 @@
 # _kmap_words COMMAND: the words that stand after a command, or after the name of the program where it is empty
 _kmap_words() {
     case $1 in
-    '') echo 'check search lint fmt play type cover compile dump draw help -h --help -V --version' ;;
+    '') echo 'check search diff lint fmt play type cover compile dump draw help -h --help -V --version' ;;
     check) echo '--show --brief -h --help' ;;
     search) echo '--next -h --help' ;;
+    diff) echo '-h --help' ;;
     lint) echo '--strict --name -h --help' ;;
     fmt) echo '--check --print -h --help' ;;
     play) echo '--typed --next -h --help' ;;
@@ -14,7 +15,7 @@ _kmap_words() {
     compile) echo '--narrow -h --help' ;;
     dump) echo '--narrow -h --help' ;;
     draw) echo '--ansi -h --help' ;;
-    help) echo 'check search lint fmt play type cover compile dump draw help' ;;
+    help) echo 'check search diff lint fmt play type cover compile dump draw help' ;;
     esac
 }
 

@@ -13,6 +13,7 @@ end
 complete -c kmap -n '__kmap_after' -f
 complete -c kmap -n '__kmap_after' -a check -d 'Accepts a keymap only if no key can leave a modifier on'
 complete -c kmap -n '__kmap_after' -a search -d 'Decides whether key presses can leave a modifier on'
+complete -c kmap -n '__kmap_after' -a diff -d 'Tells what differs between two keymaps, and whether anybody can notice'
 complete -c kmap -n '__kmap_after' -a lint -d 'Tells what is wrong or doubtful in keymap texts, and where'
 complete -c kmap -n '__kmap_after' -a fmt -d 'Writes keymap texts in one layout, and changes nothing else'
 complete -c kmap -n '__kmap_after' -a play -d 'Prints what the console answers to a script of key presses'
@@ -31,6 +32,8 @@ complete -c kmap -n '__kmap_after check' -s h -l help -d 'Print help'
 
 complete -c kmap -n '__kmap_after search' -l next -r -F -d 'The keymap text that a load puts in force'
 complete -c kmap -n '__kmap_after search' -s h -l help -d 'Print help'
+
+complete -c kmap -n '__kmap_after diff' -s h -l help -d 'Print help'
 
 complete -c kmap -n '__kmap_after lint' -l strict -d 'Counts warnings as errors'
 complete -c kmap -n '__kmap_after lint' -l name -r -F -d 'The name that standard input is told under'
@@ -61,6 +64,7 @@ complete -c kmap -n '__kmap_after draw' -s h -l help -d 'Print help'
 complete -c kmap -n '__kmap_after help' -f
 complete -c kmap -n '__kmap_after help' -a check
 complete -c kmap -n '__kmap_after help' -a search
+complete -c kmap -n '__kmap_after help' -a diff
 complete -c kmap -n '__kmap_after help' -a lint
 complete -c kmap -n '__kmap_after help' -a fmt
 complete -c kmap -n '__kmap_after help' -a play

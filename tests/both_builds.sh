@@ -103,6 +103,7 @@ texts() {
     same "$1" check --show /dev/stdin
     same "$1" search /dev/stdin
     same "$1" search /dev/stdin --next ../us.kbd
+    same "$1" diff /dev/stdin ../us.kbd
     same "$1" lint /dev/stdin
     same any fmt --print /dev/stdin
     same any fmt --check /dev/stdin

@@ -87,6 +87,7 @@ fails_to_write 'checks two' check shift letter
 fails_to_write 'shows' check --show "$examples/trap.kbd"
 fails_to_write 'searches' search shift
 fails_to_write 'searches two' search lock --next locked
+fails_to_write 'compares' diff shift letter
 fails_to_write 'lints' lint "$examples/trap.kbd"
 fails_to_write 'lints a fault' lint bad
 fails_to_write 'lays out' fmt --print letter
@@ -132,6 +133,7 @@ leaves() {
 leaves 'checks' check shift
 leaves 'checks two' check shift letter
 leaves 'searches' search shift
+leaves 'compares' diff shift letter
 leaves 'lints' lint "$examples/trap.kbd"
 leaves 'lays out' fmt --print letter
 leaves 'tells what is not laid out' fmt --check letter letter

@@ -119,6 +119,7 @@ refuses telling_apart
 refuses diagnostics
 refuses diagnostics-faulty fault
 yields lint_text
+yields ranges
 yields shown_name
 refuses format
 refuses picture
@@ -135,6 +136,7 @@ refuses check_run-shown
 yields check_brief_run
 refuses search_run
 refuses search_run-next
+yields diff_run
 refuses dump_run
 refuses dump_narrow_run
 refuses compile_run
@@ -157,7 +159,7 @@ sed 's/-.*//' "$folder/known" | sort -u > "$folder/called"
 python3 "$tests/takes_memory.py" | sort > "$folder/exported"
 same_text 'each exported function that takes memory is called' "$folder/exported" "$folder/called"
 # a method is called on a value
-sed -n '/mark(marks);/{n;s/^    let given = \([A-Za-z_:.]*\)(.*/\1/p;}' "$calls"/*.rt |
+sed -n '/mark(marks);/{n;s/^ *let given = \([A-Za-z_:.]*\)(.*/\1/p;}' "$calls"/*.rt |
     sed 's/.*[.:]//' | sort -u > "$folder/between"
 sed 's/.*://' "$folder/called" | sort -u > "$folder/names"
 same_text 'what is called between the marks is what the calls are named by' "$folder/names" "$folder/between"

@@ -135,6 +135,8 @@ refuses 1 search caps --next locked
 goes_on=yes
 refuses 0 type letter sentence
 # So does a vector.
+refuses 0 diff letter letter
+refuses 1 diff letter shift
 refuses 0 check letter --brief
 refuses 0 lint letter
 refuses 1 lint trap
@@ -151,6 +153,8 @@ refuses 0 compile shift made --narrow
 # What asks for less after a refusal gets none then.
 rest=yes
 export REFUSE_REST=1
+refuses 0 diff letter letter
+refuses 1 diff letter shift
 refuses 0 cover letter
 refuses 0 type letter sentence
 refuses 0 lint letter

@@ -1,10 +1,10 @@
 #!/bin/sh
 # Checks that docs/FORMATS.md has each message word for word: of `kmap lint`, the constants of keymap_lint_text's
 # words.rt, in the section "Diagnostics"; of the report and of scripts, those of kmap_runs' words.rt, in "The report of
-# check", "What the search found", "The script that types a sentence" and "The script that tests a console". And that it
-# has the line of `kmap check` on a key, which stands in pictures and in the C library too: the constant FINDING of
-# keymap_check's words.rt; the fault lines of kmap_runs' fault_line.rt, in "Fault lines"; and the sentences of the C
-# library, those of kmap_c's words.rt, in their order.
+# check", "What the search found", "What differs between two keymaps", "The script that types a sentence" and "The script
+# that tests a console". And that it has the line of `kmap check` on a key, which stands in pictures and in the C library
+# too: the constant FINDING of keymap_check's words.rt; the fault lines of kmap_runs' fault_line.rt, in "Fault lines"; and
+# the sentences of the C library, those of kmap_c's words.rt, in their order.
 #
 # A message has `{}` where something is told. The page has it in backquotes, with a letter, a word in capitals or `..`
 # at such a place, or another message, or nothing; or it has it at such a place alone. Names of columns stand in one
@@ -45,11 +45,17 @@ plain = [pattern(words, []) for words in messages.values() if words.strip("{}: [
 plain += [re.escape(name) for name in names]
 
 
-# The message with one of its places filled by these words.
+# The message with one of its places filled by these words, and theirs by words in capitals.
 def filled(message, words):
+    inner = "[A-Z]+".join(map(re.escape, words.split("{}")))
     parts = message.split("{}")
     halves = [("{}".join(parts[:at]), "{}".join(parts[at:])) for at in range(1, len(parts))]
-    return [pattern(before, plain) + re.escape(words) + pattern(behind, plain) for before, behind in halves]
+    return [pattern(before, plain) + inner + pattern(behind, plain) for before, behind in halves]
+
+
+# Whether the words stand in the span, with something at their places.
+def may_be(words, span):
+    return all(part in span for part in words.removesuffix("\\n").split("{}"))
 
 
 def is_told(words):
@@ -57,9 +63,8 @@ def is_told(words):
     if any(map(whole.fullmatch, told)):
         return True
     # a pattern is made only for a span in which the words stand, since it takes longer to make than to match
-    spans = [span for span in told if words in span]
-    patterns = (it for message in messages.values() for it in filled(message, words)) if spans else ()
-    return any(re.fullmatch(it, span) for it in patterns for span in spans)
+    pairs = ((it, span) for it in messages.values() for span in told if may_be(words, span) and may_be(it, span))
+    return any(re.fullmatch(it, span) for message, span in pairs for it in filled(message, words))
 
 
 found = {name: is_told(words) for name, words in messages.items()}
@@ -147,8 +152,8 @@ lacks_line() {
 tells() {
     case $words in
         "$lint") set -- "$1" Diagnostics ;;
-        *) set -- "$1" 'The report of check' 'What the search found' 'The script that types a sentence' \
-            'The script that tests a console' ;;
+        *) set -- "$1" 'The report of check' 'What the search found' 'What differs between two keymaps' \
+            'The script that types a sentence' 'The script that tests a console' ;;
     esac
     file=$1
     shift
@@ -186,7 +191,9 @@ if [ "$passed" -gt 0 ] && [ "$failed" -eq 0 ]; then
         'no quoted {} character stands here'
     holds 'another end is seen' misses "$lint" NOT_JOINED 'are not joined' 'are not joined.'
     holds 'another name of a column is seen' misses "$lint" COLUMN_NAMES 'b"alt ctrl"' 'b"ctrl alt"'
-    holds 'another word of a comment is seen' misses "$runs" UNDECIDED 'no list of up to' 'no list up to'
+    holds 'another word of a comment is seen' misses "$runs" UNDECIDED 'presses sticks' 'presses stick'
+    holds 'another word of a verdict is seen' misses "$runs" NOT_TOLD 'not told apart' 'never told apart'
+    holds 'another word of what differs is seen' misses "$runs" PAIR 'pair: {}; {}' 'pair: {}, {}'
     holds 'another word at a place is seen' misses "$runs" LOCK_SETTINGS '"lock settings"' '"settings"'
     holds 'another word of a list is seen' misses "$runs" BOTH_LOCKS 'clock+nlock' 'clock nlock'
     holds 'another word of a run of slots is seen' misses "$runs" SLOTS 'slots {} to {}' 'slots {} - {}'

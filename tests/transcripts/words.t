@@ -18,6 +18,7 @@ The help of the program and of each command has an example and names a manual pa
   kmap
   check
   search
+  diff
   lint
   fmt
   play
@@ -51,6 +52,10 @@ Wrong words end with status 2, and something is told of them:
   $ wrong play letter
   [2]
   $ wrong search letter tap
+  [2]
+  $ wrong diff letter
+  [2]
+  $ wrong diff letter letter letter
   [2]
   $ wrong check letter --loud
   [2]

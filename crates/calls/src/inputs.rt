@@ -14,6 +14,18 @@ pub(crate) const TEXT: &[u8] = b"018 'e' 'E' nop nop 'e' 'E' nop nop C
 dacu 180 ( 'e' 0xe9 )
 ";
 
+/// The same but for what the accent makes of its base, which only a tap of the dead key tells, and for a slot that no key
+/// selects.
+pub(crate) const CHANGED: &[u8] = b"018 'e' 'E' nop nop 'e' 'E' nop nop C
+026 dacu dacu dacu dacu dacu dacu dacu dacu O
+030 'a' 'A' nop nop 'a' 'A' nop nop C
+031 nop slock nop slock nop slock nop slock O
+042 lshift lshift lshift lshift lshift lshift lshift lshift O
+058 clock clock clock clock clock clock clock clock O
+158 'a' 'A' nop nop 'a' 'A' nop nop C
+dacu 180 ( 'e' 0xea )
+";
+
 /// A shift that is a character where control is on.
 pub(crate) const TRAP: &[u8] = b"029 lctrl lctrl lctrl lctrl lctrl lctrl lctrl lctrl O
 042 lshift lshift 'x' 'x' lshift lshift lshift lshift O

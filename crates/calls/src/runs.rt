@@ -1,13 +1,13 @@
 //! The calls of kmap_runs. Where memory is refused, nothing was written.
 use crate::devices::{Given, mark, reader_of, writer};
-use crate::inputs::{Call, SENTENCE, TEXT, TRAP};
+use crate::inputs::{CHANGED, Call, SENTENCE, TEXT, TRAP};
 use crate::outcome::{Outcome, ended, ended_untouched, is_text};
 use keymap_core::Write;
 use keymap_draw::Board;
 use kmap_runs::{
-    RunError, check_brief_run, check_run, compile_narrow_run, compile_run, cover_run, draw_run,
-    dump_narrow_run, dump_run, file_error_line, fmt_print_run, fmt_run, lint_run, search_run,
-    type_run,
+    RunError, check_brief_run, check_run, compile_narrow_run, compile_run, cover_run, diff_run,
+    draw_run, dump_narrow_run, dump_run, file_error_line, fmt_print_run, fmt_run, lint_run,
+    search_run, type_run,
 };
 use std::alloc::Global;
 
@@ -20,6 +20,7 @@ pub(crate) fn of_texts<W: Write>(call: &Call<'_>, marks: &mut W) -> Option<Outco
         "check_brief_run" => checks_briefly(alloc, marks),
         "search_run" => searches(alloc, marks),
         "search_run-next" => searches_next(alloc, marks),
+        "diff_run" => compares(alloc, marks),
         "draw_run" => draws(alloc, marks),
         "lint_run" => lints(alloc, marks),
         "fmt_run" => formats(alloc, marks),
@@ -79,6 +80,15 @@ fn searches_next<W: Write>(alloc: Global, marks: &mut W) -> Outcome {
     let mut next = Some(reader_of(TRAP));
     mark(marks);
     let given = search_run(alloc, &mut reader, &mut next, &mut out);
+    mark(marks);
+    ended_untouched(&given, given == Ok(false), out.writes)
+}
+
+/// The keymaps differ.
+fn compares<W: Write>(alloc: Global, marks: &mut W) -> Outcome {
+    let (mut reader, mut next, mut out) = (reader_of(TEXT), reader_of(CHANGED), writer());
+    mark(marks);
+    let given = diff_run(alloc, &mut reader, &mut next, &mut out);
     mark(marks);
     ended_untouched(&given, given == Ok(false), out.writes)
 }

@@ -7,7 +7,7 @@ use keymap_core::Write;
 use keymap_draw::{Board, picture};
 use keymap_fmt::format;
 use keymap_lint::{Lint, diagnostics};
-use keymap_lint_text::{lint_text, shown_name};
+use keymap_lint_text::{lint_text, ranges, shown_name};
 use messages::filled;
 use play_core::{Show, play, play_next, read_script, read_whole, type_sentence};
 use std::alloc::{AllocError, Global};
@@ -40,6 +40,7 @@ pub(crate) fn of_trap<W: Write>(
         "diagnostics" => Some(diagnoses(alloc, TRAP, marks)),
         "diagnostics-faulty" => Some(diagnoses(alloc, FAULTY, marks)),
         "lint_text" => Some(tells_diagnostics(alloc, marks)?),
+        "ranges" => Some(tells_ranges(alloc, marks)),
         "shown_name" => Some(shows_name(alloc, marks)),
         "picture" => Some(draws(alloc, call.trap, marks)),
         _ => None,
@@ -60,6 +61,13 @@ fn tells_diagnostics<W: Write>(alloc: Global, marks: &mut W) -> Result<Outcome, 
     mark(marks);
     let is_right = matches!(&given, Ok(text) if text.as_slice().starts_with(b"trap:"));
     Ok(ended(&given, is_right))
+}
+
+fn tells_ranges<W: Write>(alloc: Global, marks: &mut W) -> Outcome {
+    mark(marks);
+    let given = ranges(alloc, &[2, 3, 4, 30]);
+    mark(marks);
+    ended(&given, is_text(&given, b"2 to 4, 30"))
 }
 
 fn shows_name<W: Write>(alloc: Global, marks: &mut W) -> Outcome {

@@ -18,5 +18,7 @@ mod told;
 mod whole;
 mod words;
 
+pub use lists::{accent_name, ranges};
 pub use shown::shown_name;
+pub use told::column_name;
 pub use whole::lint_text;

@@ -49,7 +49,7 @@ fn push_run(text: &mut Vec<u8>, numbers: &[u8], place: usize) -> Result<(), Allo
 }
 
 /// Ascending numbers, as `129 to 212, 254`.
-pub(crate) fn ranges(alloc: Global, numbers: &[u8]) -> Result<Vec<u8>, AllocError>
+pub fn ranges(alloc: Global, numbers: &[u8]) -> Result<Vec<u8>, AllocError>
     ensures { IfOk result (λ text. text.items ≡ spec.ranges numbers.now) }
 {
     let mut text = Vec::new(alloc);
@@ -60,7 +60,7 @@ pub(crate) fn ranges(alloc: Global, numbers: &[u8]) -> Result<Vec<u8>, AllocErro
 }
 
 /// The name of an accent; nothing where there is no accent with this index.
-pub(crate) fn accent_name(accent: u8) -> Name
+pub fn accent_name(accent: u8) -> Name
     ensures { result.items ≡ spec.accent_name accent }
 {
     if usize::from(accent) < ACCENT_LIMIT {

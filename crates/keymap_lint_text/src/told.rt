@@ -44,7 +44,7 @@ pub(crate) fn told_character(alloc: Global, c: char) -> Result<Vec<u8>, AllocErr
 }
 
 /// What selects a column of a slot.
-fn column_name(column: usize) -> &'static [u8]
+pub fn column_name(column: usize) -> &'static [u8]
     ensures { result.now ≡ slice_index_or spec.column_names column [] }
 {
     if column < 8 {

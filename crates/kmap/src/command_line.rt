@@ -50,7 +50,7 @@ const STREAMS: Word = Files("TEXT", "The keymap texts, or - for standard input")
 
 const NEXT: Word = FileOption("next", "TEXT2", "The keymap text that a load puts in force");
 
-static SUBCOMMANDS: [Described; 10] = [
+static SUBCOMMANDS: [Described; 11] = [
     Described {
         name: "check",
         about: "Accepts a keymap only if no key can leave a modifier on",
@@ -73,6 +73,12 @@ static SUBCOMMANDS: [Described; 10] = [
         about: "Decides whether key presses can leave a modifier on",
         example: "Example: kmap search de.kbd{n}{n}kmap(1) tells how to read the answer.",
         words: &[STREAM, NEXT],
+    },
+    Described {
+        name: "diff",
+        about: "Tells what differs between two keymaps, and whether anybody can notice",
+        example: "Example: kmap diff old.kbd new.kbd{n}{n}kmap(1) tells how to read the answer.",
+        words: &[STREAM, File("TEXT2", "The new keymap text, or -")],
     },
     Described {
         name: "lint",
@@ -293,6 +299,10 @@ pub(crate) enum Request<'m, 'a> {
         text: &'a str,
         next: Option<&'a str>,
     },
+    Diff {
+        text: &'a str,
+        next: &'a str,
+    },
     Play {
         text: &'a str,
         next: Option<&'a str>,
@@ -370,6 +380,13 @@ fn search_request<'m, 'a>(words: &'m ArgMatches<'a>) -> Option<Request<'m, 'a>> 
     })
 }
 
+fn diff_request<'m, 'a>(words: &'m ArgMatches<'a>) -> Option<Request<'m, 'a>> {
+    Some(Request::Diff {
+        text: words.get_str("TEXT")?,
+        next: words.get_str("TEXT2")?,
+    })
+}
+
 fn play_request<'m, 'a>(words: &'m ArgMatches<'a>) -> Option<Request<'m, 'a>> {
     Some(Request::Play {
         text: words.get_str("TEXT")?,
@@ -413,6 +430,7 @@ pub(crate) fn request_of<'m, 'a>(matches: &'m ArgMatches<'a>) -> Option<Request<
         "lint" => lint_request(words),
         "fmt" => fmt_request(words),
         "search" => search_request(words),
+        "diff" => diff_request(words),
         "play" => play_request(words),
         "type" => type_request(words),
         "cover" => cover_request(words),
@@ -434,6 +452,7 @@ fn reads_twice(request: &Request<'_, '_>) -> bool {
             text,
             next: Some(other),
         }
+        | Request::Diff { text, next: other }
         | Request::Type {
             text,
             sentence: Sentence::File(other),

@@ -11,8 +11,8 @@ use keymap_core::{FromStd, Read, Write, write_text};
 use keymap_draw::Board;
 use keymap_lint_text::shown_name;
 use kmap_runs::{
-    CommandError, RunError, cover_run, draw_run, dump_narrow_run, dump_run, file_error_line,
-    search_run, type_run, write_command_error, write_run_error,
+    CommandError, RunError, cover_run, diff_run, draw_run, dump_narrow_run, dump_run,
+    file_error_line, search_run, type_run, write_command_error, write_run_error,
 };
 use play_core::{Show, play_next};
 use std::alloc::{AllocError, Global};
@@ -260,8 +260,8 @@ fn named_line(alloc: Global, front: &[u8], name: &str, end: &[u8]) -> Result<Vec
     Ok(line)
 }
 
-/// Answers a request: whether all is well, which only a refused map denies, one that isn't known never to stick, or a
-/// text with an error.
+/// Answers a request: whether all is well, which only a refused map denies, one that isn't known never to stick, another
+/// one where they should be the same, or a text with an error.
 fn answer<'a, R, W>(rt: &R, request: Request<'_, 'a>, faults: &mut W) -> Result<bool, Failure<'a>>
 where
     R: AllocGlobal + Files<File = File> + Input + Print,
@@ -276,6 +276,7 @@ where
         } => lint(rt, texts, name, is_strict, faults),
         Request::Fmt { texts, mode } => format_texts(rt, mode, texts, faults),
         Request::Search { text, next } => search(rt, text, next),
+        Request::Diff { text, next } => diff(rt, text, next),
         Request::Dump { tables, narrow } => well(dump(rt, tables, narrow)),
         Request::Compile { text, out, narrow } => well(compile(rt, text, out, narrow)),
         Request::Play {
@@ -317,6 +318,17 @@ fn search_in<'a, R: AllocGlobal + Print, S: Read, N: Read>(
 ) -> Result<bool, Failure<'a>> {
     let mut out = Output::new(rt);
     let outcome = search_run(rt.alloc(), text, next, &mut out);
+    out.outcome(outcome)
+}
+
+fn diff<'a, R>(rt: &R, text: &'a str, next: &'a str) -> Result<bool, Failure<'a>>
+where
+    R: AllocGlobal + Files + Input + Print,
+{
+    let mut text = given(rt, text)?;
+    let mut next = given(rt, next)?;
+    let mut out = Output::new(rt);
+    let outcome = diff_run(rt.alloc(), &mut text, &mut next, &mut out);
     out.outcome(outcome)
 }
 

@@ -6,6 +6,7 @@ mod Counted
 mod CoverScripts
 mod Covered
 mod Dumped
+mod OneSlot
 mod PlainScripts
 mod Replayed
 mod Scripts

@@ -95,6 +95,10 @@ blames_tables _ = false
 abbrev pub ReadsText : Moves → Result MapValue RunError → Type 0
 ReadsText m r = ReadsAs of_text (ReadsKeymap m) r
 
+-- the keymap of a second text
+abbrev pub ReadsOther : Moves → Result MapValue RunError → Type 0
+ReadsOther m r = ReadsAs of_next (ReadsKeymap m) r
+
 -- the bytes of the text
 abbrev pub ReadsBytes : Moves → Result (List ℕ) RunError → Type 0
 ReadsBytes m r = ReadsAs of_text_bytes (ReadsWhole m) r

@@ -1,8 +1,10 @@
 pub mod Comments
 pub mod Cover
+pub mod Diff
 pub mod FaultLine
 pub mod FmtRuns
 pub mod Inputs
+pub mod Joined
 pub mod LintRuns
 pub mod Replayed
 pub mod Report

@@ -1,5 +1,5 @@
 -- What the runs of the program do to the devices that they are lent.
-use Rattle.std.specs.Prelude.{◌≡◌, ◌↔◌, IsTrue, ℕ, Bool, true, false, List, [], All, Option, Some, None}
+use Rattle.std.specs.Prelude.{◌≡◌, ◌≢◌, ◌↔◌, ◌⊎◌, IsTrue, ℕ, Bool, true, false, List, [], All, Option, Some, None}
 use Rattle.std.specs.Prelude.{Result, Ok, Err, ⊤}
 use Rattle.std.specs.Io.KnownBytes.{Appends}
 use Rattle.keymap_core.specs.Bounds.{IsMap}
@@ -22,6 +22,11 @@ use Rattle.console_states.specs.Moves.{alone}
 use Rattle.console_states.specs.Sticking.{IsAnswer, IsAnswerBetween, NeverSticks, ReachesMoreThan, state_limit}
 use Rattle.keymap_cover.specs.declared.parts.Cover.{Cover}
 use Rattle.keymap_cover.specs.Covering.{Covers}
+use Rattle.keymap_diff.specs.Changes.{AreChanges, HaveSights}
+use Rattle.keymap_diff.specs.Telling.{IsTelling}
+use Rattle.keymap_diff.specs.declared.change.Change.{Change}
+use Rattle.keymap_diff.specs.declared.versions.Versions.{Versions}
+use Rattle.keymap_diff.specs.declared.telling.Telling.{Telling}
 use Rattle.play_core.specs.declared.type_error.TypeError.TheVariants as type
 use Rattle.play_core.specs.Runs.{Moves, moves, ReadsBoth, Runs, Stays}
 use Rattle.play_core.specs.Typing.{IsTyped, IsTypeError}
@@ -32,8 +37,9 @@ use Rattle.kmap_runs.specs.declared.fault_line.RunError.TheVariants as error
 use Rattle.kmap_runs.specs.declared.fault_line.CommandError.{CommandError}
 use Rattle.kmap_runs.specs.declared.fault_line.CommandError.TheVariants as command
 use Rattle.kmap_runs.specs.Cover.{IsCoverText}
+use Rattle.kmap_runs.specs.Diff.{diff_text, same_text}
 use Rattle.kmap_runs.specs.Inputs.{of_command_writer, of_writer, ReadsBytes, ReadsFile, ReadsForCommand, ReadsKeymaps}
-use Rattle.kmap_runs.specs.Inputs.{ReadsSentence, ReadsText}
+use Rattle.kmap_runs.specs.Inputs.{ReadsOther, ReadsSentence, ReadsText}
 use Rattle.kmap_runs.specs.LintRuns.{IsLinted}
 use Rattle.kmap_runs.specs.Replayed.{ShowsCover}
 use Rattle.kmap_runs.specs.Report.{brief_line, report}
@@ -120,6 +126,30 @@ Finds v never told =
 
 abbrev pub SearchesTexts : Moves → Option Moves → Moves → Result Bool RunError → Type 0
 SearchesTexts text next out r = Runs of_writer (ReadsKeymaps text next) LacksMemory Finds out r
+
+-- the search for what presses can see gives up over the states of the map
+abbrev pub GivesUp : MapValue → Type 0
+GivesUp m = (p : ℕ) × ReachesMoreThan (alone m) state_limit p
+
+-- The maps, and what presses can see under each, unless a search gave up.
+abbrev pub AreVersions : MapValue → MapValue → Versions → Type 0
+AreVersions m n v =
+    (v.old.now ≡ m) × (v.new.now ≡ n) × HaveSights v × (v.seen ≡ None → GivesUp m ⊎ GivesUp n)
+
+-- what is told of maps that differ: whether anybody can tell them apart, each change, and how
+abbrev pub TellsDifferences : MapValue → MapValue → List ℕ → Type 0
+TellsDifferences m n text =
+    (v : Versions) × (found : List Change) × (telling : Telling)
+    × AreVersions m n v × AreChanges v found × IsTelling m n telling × (text ≡ diff_text telling found)
+
+-- Whether the maps are the same, and what is told of them.
+abbrev pub Compares : MapValue × MapValue → Bool → List ℕ → Type 0
+Compares (m, n) true text = (m ≡ n) × (text ≡ same_text)
+Compares (m, n) false text = (m ≢ n) × TellsDifferences m n text
+
+abbrev pub DiffsTexts : Moves → Moves → Moves → Result Bool RunError → Type 0
+DiffsTexts text next out r =
+    Runs of_writer (ReadsBoth (ReadsText text) (ReadsOther next) (Stays next)) LacksMemory Compares out r
 
 -- why no script is printed for a map
 abbrev pub LacksCover : MapValue → CommandError → Type 0

@@ -3,8 +3,8 @@ ghost use Rattle.std.specs.Prelude.{◌≡◌, ◌||◌, false, Ok, Err, MatchRe
 ghost use Rattle.std.specs.Option.{is_some};
 ghost use Rattle.keymap_tables.specs.Sources.{ReadsTables, ReadsNarrow};
 ghost use Rattle.kmap_runs.specs.Inputs as spec;
-ghost use Rattle.kmap_runs.specs.Inputs.{ReadsBytes, ReadsFile, ReadsKeymaps, ReadsNext, ReadsSentence, ReadsText};
-ghost use Rattle.kmap_runs.specs.Inputs.{blames_next, blames_sentence, blames_tables, blames_text};
+ghost use Rattle.kmap_runs.specs.Inputs.{ReadsBytes, ReadsFile, ReadsKeymaps, ReadsNext, ReadsOther, ReadsSentence};
+ghost use Rattle.kmap_runs.specs.Inputs.{ReadsText, blames_next, blames_sentence, blames_tables, blames_text};
 ghost use Rattle.kmap_runs.specs.Inputs.{has_failed_if, moves_if, run_of};
 ghost use Rattle.kmap_runs.specs.Runs.{blames_writer};
 ghost use Rattle.play_core.specs.Runs.{moves};
@@ -74,6 +74,19 @@ fn read_next<N: Read>(alloc: Global, next: &mut Option<N>) -> Result<Option<KeyM
             Err(error) => Err(next_error(error)),
         },
         None => Ok(None),
+    }
+}
+
+/// The map of a second text.
+pub(crate) fn read_other<N: Read>(alloc: Global, next: &mut N) -> Result<KeyMap, RunError>
+    ensures reads { ReadsOther (moves (N.remaining next.old) (N.remaining next.new)) result }
+    ensures failed { N.has_failed next.new ≡ (blames_next result || N.has_failed next.old) }
+    ensures text_kept { blames_text result ≡ false }
+    ensures writer_kept { blames_writer result ≡ false }
+{
+    match read_from(alloc, next) {
+        Ok(map) => Ok(map),
+        Err(error) => Err(next_error(error)),
     }
 }
 

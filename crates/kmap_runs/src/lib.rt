@@ -21,10 +21,13 @@
 mod brief_runs;
 mod cover;
 mod cover_runs;
+mod diff;
+mod diff_runs;
 mod event_lines;
 mod fault_line;
 mod fmt_runs;
 mod inputs;
+mod joined;
 pub mod laws;
 mod lint_runs;
 mod report;
@@ -37,6 +40,7 @@ mod words;
 
 pub use brief_runs::check_brief_run;
 pub use cover_runs::cover_run;
+pub use diff_runs::diff_run;
 pub use fault_line::{
     CommandError, RunError, file_error_line, write_command_error, write_run_error,
 };

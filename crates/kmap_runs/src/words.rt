@@ -85,3 +85,55 @@ pub(crate) const ONE_WAY_PART: &[u8] = b" one-way";
 
 // A repeat, which no other printed script has.
 pub(crate) const REPEAT: &[u8] = b"repeat {}\n";
+
+// What tells two keymaps apart: nothing, since they are the same; the last of the events, with the answer under each; no
+// list of events, or none before a modifier sticks; or up to how many presses none does.
+pub(crate) const SAME: &[u8] = b" same";
+
+pub(crate) const TOLD: &[u8] = b" told apart: {} -> {}";
+
+pub(crate) const NEVER_TOLD: &[u8] = b" never told apart";
+
+pub(crate) const NOT_TOLD: &[u8] = b" not told apart before a modifier sticks";
+
+pub(crate) const UNTOLD: &[u8] = b" undecided: no list of up to {} presses tells them apart";
+
+// An answer, in the words of `play`.
+pub(crate) const ERROR: &[u8] = b"error";
+
+pub(crate) const CHARACTER: &[u8] = b"char {}";
+
+pub(crate) const META_CHARACTER: &[u8] = b"meta char {}";
+
+pub(crate) const BACK_TAB: &[u8] = b"btab";
+
+pub(crate) const RELEASED: &[u8] = b"released {}";
+
+// What changes, from what to what, and whether no press meets it. What changes is one of those below.
+pub(crate) const CHANGE: &[u8] = b" {}{}: {} -> {}";
+
+pub(crate) const LISTED_OTHERWISE: &[u8] = b" {}: listed otherwise, with the same results";
+
+pub(crate) const UNSEEN: &[u8] = b"unseen ";
+
+pub(crate) const SLOT_COUNT: &[u8] = b"slots";
+
+pub(crate) const CELL: &[u8] = b"cell: {}; {}";
+
+pub(crate) const LOCK: &[u8] = b"lock: {}";
+
+pub(crate) const ACCENT_COUNT: &[u8] = b"accents";
+
+pub(crate) const ACCENT: &[u8] = b"accent: {}";
+
+pub(crate) const PAIR: &[u8] = b"pair: {}; {}";
+
+pub(crate) const ORDER: &[u8] = b"pairs: {}";
+
+pub(crate) const ONE: &[u8] = b"slot {}";
+
+pub(crate) const SEVERAL_SLOTS: &[u8] = b"slots {}";
+
+pub(crate) const ALL_COLUMNS: &[u8] = b"all columns";
+
+pub(crate) const NO_RESULT: &[u8] = b"none";

@@ -146,15 +146,8 @@ Each answer is told in the words of `play`:
   down 15
   [1]
 
-A look-up of `nop` or `nul` is told last of those with as few presses:
-  $ { base 000 nul; base 001 "'a'"; } > one
+A look-up of `nop` or `nul` tells too:
   $ { base 000 nop; base 001 "'b'"; } > other
-  $ kmap diff one other
-  # told apart: char 97 -> char 98
-  # cell: slot 0; base: nul -> nop
-  # cell: slot 1; base: 'a' -> 'b'
-  down 1
-  [1]
   $ { base 000 nul; base 001 "'b'"; } > one
   $ kmap diff one other
   # told apart: char 0 -> none

@@ -26,8 +26,8 @@ RT = rt
 CC = cc
 INSTALL = install
 # What commands of README leave in examples/ is not installed.
-EXAMPLE_FILES = accents.kbd de.kbd de.script kmap.py line.numbers line.script load.c test_keymap.py trap.kbd type.c \
-    type.py us.kbd
+EXAMPLE_FILES = accents.kbd de.kbd de.script kmap.py line.numbers line.script live.c load.c test_keymap.py trap.kbd \
+    type.c type.py us.kbd
 # The documents for users; ARCHITECTURE and DECISIONS are for those who work on the repository.
 DOCUMENTS = docs/FORMATS.md docs/GUIDE.md docs/PROOFS.md docs/TRANSLATION.md docs/de.svg
 QUICK = play us.kbd line.script --typed

@@ -89,6 +89,7 @@ def _library() -> ctypes.CDLL:
         "kmap_fault_words": (status, number, written, size),
         "kmap_text_fault_words": (status, number, written, size),
         "kmap_finding_words": (status, ctypes.POINTER(_Finding), written, size),
+        "kmap_key_of_evdev": (status, number),
         "kmap_start": (None, console),
         "kmap_step_between": (
             status, given, size, given, size, console, ctypes.c_uint16, ctypes.POINTER(number),
@@ -343,6 +344,12 @@ class Console:
         """The accent that waits for its character, if one does."""
         index = _kmap.kmap_pending(self._state)
         return None if index < 0 else ACCENTS[index]
+
+
+def key_of_evdev(number: int) -> Optional[int]:
+    """The code of the key that has this number in evdev; None where a board of 105 keys has no such key."""
+    key = _kmap.kmap_key_of_evdev(number)
+    return None if key < 0 else key
 
 
 def _key(code: int) -> int:

@@ -363,6 +363,14 @@ uint8_t kmap_locks(const struct kmap_console *console);
  */
 int32_t kmap_pending(const struct kmap_console *console);
 
+/*
+ * The code of the key that has this number in evdev, KEY_ESC to KEY_COMPOSE of linux/input-event-codes.h, or -1 where
+ * no key of a board of 105 keys has it. KMAP_PRESS and KMAP_RELEASE make KMAP_NO_EVENT of -1.
+ *
+ * Needs: nothing. At once: all calls. Stack: 16 bytes.
+ */
+int32_t kmap_key_of_evdev(uint32_t code);
+
 #ifdef __cplusplus
 }
 #endif

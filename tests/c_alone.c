@@ -88,7 +88,7 @@ static int are_typed(void)
 	    KMAP_PRESS(30), &answer) == KMAP_OK && answer == 'A'
 	    && kmap_deliver(tables.bytes, sizeof tables.bytes, tables.bytes, sizeof tables.bytes, &console, events, 2,
 	    answers, 2) == KMAP_OK && kmap_modifiers(&console) == 0 && kmap_locks(&console) == 0
-	    && kmap_pending(&console) == -1;
+	    && kmap_pending(&console) == -1 && kmap_key_of_evdev(100) == 93;
 }
 
 __attribute__((force_align_arg_pointer)) void _start(void)

@@ -233,6 +233,39 @@ static void check_names(void)
 	holds("no room at all", kmap_action_name(0, name, 0) == KMAP_NO_ROOM);
 }
 
+/*
+ * Keys by their numbers in evdev, which stand in linux/input-event-codes.h, and by the codes that sys/dev/atkbdc/atkbd.c
+ * gives to their scan codes. What stands between two keys is the same in both.
+ */
+static const struct {
+	uint32_t evdev;
+	int32_t key;
+} keys[] = {
+	{ 0, -1 }, { 1, 1 }, { 30, 30 }, { 83, 83 }, { 84, -1 }, { 85, -1 }, { 86, 86 }, { 87, 87 }, { 88, 88 },
+	{ 89, -1 }, { 95, -1 }, { 96, 0x59 }, { 97, 0x5a }, { 98, 0x5b }, { 99, 0x5c }, { 100, 0x5d }, { 101, -1 },
+	{ 102, 0x5e }, { 103, 0x5f }, { 104, 0x60 }, { 105, 0x61 }, { 106, 0x62 }, { 107, 0x63 }, { 108, 0x64 },
+	{ 109, 0x65 }, { 110, 0x66 }, { 111, 0x67 }, { 112, -1 }, { 118, -1 }, { 119, 0x68 }, { 120, -1 }, { 124, -1 },
+	{ 125, 0x69 }, { 126, 0x6a }, { 127, 0x6b }, { 128, -1 }, { 256 + 30, -1 }, { UINT32_MAX, -1 },
+};
+
+static void check_keys(void)
+{
+	char which[64];
+	unsigned found = 0;
+	uint32_t number;
+	size_t i;
+
+	for (i = 0; i < sizeof keys / sizeof keys[0]; i++) {
+		snprintf(which, sizeof which, "the key of number %lu", (unsigned long)keys[i].evdev);
+		holds(which, kmap_key_of_evdev(keys[i].evdev) == keys[i].key);
+	}
+	for (number = 0; number < 1024; number++)
+		found += kmap_key_of_evdev(number) != -1;
+	holds("a board of 105 keys", found == 105);
+	holds("no key gives no event", KMAP_PRESS(kmap_key_of_evdev(84)) == KMAP_NO_EVENT
+	    && KMAP_RELEASE(kmap_key_of_evdev(97)) == KMAP_RELEASE(90));
+}
+
 /* Any bytes are safe: this only has to come back. */
 static void check_noise(void)
 {
@@ -269,6 +302,7 @@ int main(int argc, char **argv)
 	check_faults();
 	check_cells();
 	check_names();
+	check_keys();
 	check_noise();
 	printf("%u passed, %u failed\n", passed, failed);
 	return failed != 0;

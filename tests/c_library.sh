@@ -134,6 +134,26 @@ if is_there "$cc"; then
     holds 'the loader tells that it is given a folder' says 1 'load: .: cannot be read' empty ./load .
     holds 'the loader tells how it is used' says 2 'usage: load TEXT < NUMBERS' empty ./load
 
+    if [ "$(uname -s)" = Linux ] && is_there python3; then
+        holds 'the console of a device compiles' compiled "$examples/live.c" -o live
+        python3 -c 'import struct, sys
+for line in sys.stdin:
+    if line.startswith("E: "):
+        at, kind, code, value = line.split()[1:]
+        second, micro = at.split(".")
+        sys.stdout.buffer.write(struct.pack("@llHHi", int(second), int(micro), int(kind, 16), int(code, 16), int(value)))
+' < "$top/tests/live.events" > recorded
+        ./live "$examples/de.kbd" < recorded > got
+        printf 'A€bbc' > wanted
+        same_text 'the console of a device types what was recorded' wanted got
+        holds 'it refuses an unsafe keymap' says 1 "live: $examples/trap.kbd: not safe: $finding" recorded \
+            ./live "$examples/trap.kbd"
+        holds 'it refuses a faulty text' \
+            says 1 'live: faulty.kbd: line 1, offset 4: a byte that begins no token' recorded ./live faulty.kbd
+        holds 'it tells that there is no file' says 1 'live: none: cannot be opened' recorded ./live none
+        holds 'it tells how it is used' says 2 'usage: live TEXT < DEVICE' recorded ./live
+    fi
+
     # The example of README, in a function that is given a text.
     program_of "$top/README.md" > readme.c
     holds 'the example of README compiles' compiled readme.c -o readme
@@ -174,14 +194,15 @@ if is_there "$cc"; then
             '1, type: ..; name the library by KMAP_LIBRARY or its folder by LD_LIBRARY_PATH' ]
         holds 'the library for Python tells cells and actions' env KMAP_LIBRARY=./libkmap.so PYTHONPATH="$examples" \
             python3 -B -c 'import sys
-from kmap import Action, Console, Keymap
+from kmap import Action, Console, Keymap, key_of_evdev
 keymap = Keymap.from_file(sys.argv[1])
 assert keymap[30][:3] == ("a", "A", "\x01") and keymap[255] == ("\0",) * 8
 assert keymap[59][2] == 51 and str(keymap[59][2]) == "fkey25" and isinstance(keymap[59][2], Action)
 assert [str(cell) for cell in keymap[15][:3]] == ["\t", "btab", "nop"] and str(keymap[41][4]) == "dgra"
 assert len(list(keymap)) == 256
 assert str(Console(keymap).press(42).action) == "lshift" and Console(keymap).press(30).action is None
-assert str(Action(1)) == "" and repr(Action(2)) == "<Action 2 lshift>"' "$examples/us.kbd"
+assert str(Action(1)) == "" and repr(Action(2)) == "<Action 2 lshift>"
+assert key_of_evdev(30) == 30 and key_of_evdev(97) == 90 and key_of_evdev(84) is None' "$examples/us.kbd"
         KMAP_LIBRARY=./libkmap.so python3 -B "$examples/test_keymap.py" > got
         printf 'test_no_modifier_sticks passed\ntest_shift passed\n' > wanted
         same_text 'the tests of a keymap in Python pass' wanted got

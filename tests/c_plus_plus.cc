@@ -60,6 +60,7 @@ void type(const kmap_tables &tables)
 	kmap_console console;
 	uint32_t answer = 0;
 
+	holds(KMAP_PRESS(kmap_key_of_evdev(97)) == KMAP_PRESS(90) && kmap_key_of_evdev(90) == -1);
 	kmap_start(&console);
 	holds(kmap_step(tables.bytes, sizeof tables.bytes, &console, kmap_press(42), &answer) == KMAP_OK
 	    && KMAP_IS_ACTION(answer) && kmap_modifiers(&console) == KMAP_LSHIFT);

@@ -119,8 +119,13 @@ static void call_pending(void)
 	kmap_pending(&console);
 }
 
+static void call_key_of_evdev(void)
+{
+	kmap_key_of_evdev(kind);
+}
+
 enum { CHECK, READ_TEXT, PRINT_TEXT, ACCEPTS, BEARER, CELL, ACTION_NAME, FAULT_WORDS, TEXT_FAULT_WORDS, FINDING_WORDS,
-	START, STEP, STEP_BETWEEN, DELIVER, MODIFIERS, LOCKS, PENDING, CALLS };
+	START, STEP, STEP_BETWEEN, DELIVER, MODIFIERS, LOCKS, PENDING, KEY_OF_EVDEV, CALLS };
 
 /* The calls, and the most that each took so far. */
 static struct {
@@ -145,6 +150,7 @@ static struct {
 	{ "modifiers", call_modifiers, 0 },
 	{ "locks", call_locks, 0 },
 	{ "pending", call_pending, 0 },
+	{ "key_of_evdev", call_key_of_evdev, 0 },
 };
 
 static void run_called(void)
@@ -208,8 +214,10 @@ static void measure_words(void)
 		measure(FAULT_WORDS);
 		measure(TEXT_FAULT_WORDS);
 	}
-	for (kind = 0; kind < 258; kind++)
+	for (kind = 0; kind < 258; kind++) {
 		measure(ACTION_NAME);
+		measure(KEY_OF_EVDEV);
+	}
 	finding = longest;
 	measure(FINDING_WORDS);
 }

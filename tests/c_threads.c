@@ -74,6 +74,7 @@ static void ask(struct work *work)
 		add(work, &cell, sizeof cell);
 		memset(work->words, 0, sizeof work->words);
 		add_status(work, kmap_action_name(number, work->words, sizeof work->words));
+		add_status(work, kmap_key_of_evdev(number));
 		add_status(work, kmap_fault_words(number, work->words + 8, sizeof work->words - 8));
 		add(work, work->words, sizeof work->words);
 		add_status(work, kmap_text_fault_words(number, work->words, sizeof work->words));

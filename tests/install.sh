@@ -44,6 +44,7 @@ share/examples/kmap/de.script
 share/examples/kmap/kmap.py
 share/examples/kmap/line.numbers
 share/examples/kmap/line.script
+share/examples/kmap/live.c
 share/examples/kmap/load.c
 share/examples/kmap/test_keymap.py
 share/examples/kmap/trap.kbd
@@ -61,6 +62,7 @@ share/man/man3/kmap_check.3
 share/man/man3/kmap_deliver.3
 share/man/man3/kmap_fault_words.3
 share/man/man3/kmap_finding_words.3
+share/man/man3/kmap_key_of_evdev.3
 share/man/man3/kmap_locks.3
 share/man/man3/kmap_modifiers.3
 share/man/man3/kmap_pending.3

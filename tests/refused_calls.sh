@@ -109,6 +109,7 @@ refuses Reached::releases
 refuses find_onward
 refuses scroll_off
 yields type_characters
+refuses Typist::new
 yields cover_of
 refuses Seen::new
 refuses cells

@@ -8,7 +8,7 @@ answers. A console whose mistake is not found gets events drawn at random as wel
 is missed; if not, nothing here tells the two apart under this keymap. A line for each keymap tells how many are found,
 and which are missed. The status is 1 where fewer are found than FLOORS says or fewer than nine of ten of those that are
 told apart, where one is missed that MISSED doesn't name, where a keymap of SHORT has a longer script, or where some
-mistake is told apart under no keymap.
+mistake is told apart under no keymap. Where no text is given, docs/GUIDE.md has to have the counts of GUIDED.
 
 The console is written from docs/TRANSLATION.md and docs/FORMATS.md and shares nothing with the program: with no mistake
 it must give each line that `play` gives.
@@ -46,6 +46,9 @@ FLOORS = {
     "tests/pictures/fr-dvorak.kbd": 113,
     "tests/consoles/all.kbd": 128,
 }
+
+# The keymap of which the guide tells what its script finds.
+GUIDED = "examples/us.kbd"
 
 # The keymaps whose scripts have at most so many events.
 SHORT = {"examples/us.kbd": 4000, "examples/de.kbd": 4000}
@@ -726,18 +729,29 @@ class Measured:
             yield f"missed without a reason: {mistake}"
 
 
+def guided(found, apart, events):
+    """The words of the guide on the script of GUIDED and what it finds."""
+    return (
+        f"So the script has {events:,} events",
+        f"Such scripts were tried on {len(MISTAKES)} wrong consoles",
+        f"Of the {apart} that some events tell from a right one under {Path(GUIDED).name} this script finds {found}.",
+    )
+
+
 def main():
     program, *texts = sys.argv[1:]
     top = Path(__file__).resolve().parent.parent
+    guide = " ".join((top / "docs/GUIDE.md").read_text().split())
     told, failed = set(), False
     for name in texts or FLOORS:
         measured = Measured(program, name if texts else str(top / name))
         told |= measured.found | measured.missed
-        apart = len(measured.found | measured.missed)
-        print(f"{name}: {len(measured.found)} of {apart} wrong consoles found by {len(measured.events)} events")
+        counts = len(measured.found), len(measured.found | measured.missed), len(measured.events)
+        print("{}: {} of {} wrong consoles found by {} events".format(name, *counts))
         for mistake in sorted(measured.missed):
             print(f"    missed: {mistake}: {MISSED.get(mistake, 'no reason is known')}")
-        for complaint in measured.complaints(name):
+        lacking = [words for words in guided(*counts) if name == GUIDED and words not in guide]
+        for complaint in (*measured.complaints(name), *(f"docs/GUIDE.md lacks: {words}" for words in lacking)):
             failed = True
             print(f"failed: {name}: {complaint}")
     for mistake in [] if texts else [mistake for mistake in MISTAKES if mistake not in told]:

@@ -4,7 +4,7 @@ use crate::devices::mark;
 use crate::inputs::{Call, Lent};
 use crate::outcome::{Outcome, ended, ended_keeping};
 use console_core::{Event, PlainConsole, Translator, WordConsole, replay};
-use console_scripts::{Explorer, find_onward, scroll_off, type_characters};
+use console_scripts::{Explorer, Typist, find_onward, scroll_off, type_characters};
 use console_states::{Sight, Sticking, sights_of, sticking, sticking_between};
 use keymap_core::{KeyCode, Lock, Modifier, Write};
 use keymap_cover::{Seen, cells, cover_of, lock_settings};
@@ -29,6 +29,7 @@ pub(crate) fn of_keymaps<W: Write>(call: &Call<'_>, marks: &mut W) -> Option<Out
         "find_onward" => goes_onward(alloc, sample, marks),
         "scroll_off" => turns_scroll_off(alloc, sample, marks),
         "type_characters" => types_characters(alloc, sample, marks),
+        "Typist::new" => tells_typing(alloc, sample, marks),
         "cover_of" => covers(alloc, sample, marks),
         "Seen::new" => sees_nothing(alloc, marks),
         "cells" => lists_cells(alloc, marks),
@@ -150,6 +151,17 @@ fn types_characters<W: Write>(alloc: Global, lent: &Lent, marks: &mut W) -> Outc
     let given = type_characters(alloc, &lent.map, &['a', 'é', 'a', 'A', 'é']);
     mark(marks);
     let is_right = matches!(&given, Ok(typing) if typing.keyed.len() == 5);
+    ended_keeping(&given, is_right, lent.is_kept())
+}
+
+fn tells_typing<W: Write>(alloc: Global, lent: &Lent, marks: &mut W) -> Outcome {
+    mark(marks);
+    let given = Typist::new(alloc, &lent.map);
+    mark(marks);
+    let is_right = match &given {
+        Ok(typist) => { typist.can_type('é') == Some(true) && typist.can_type('ß') == Some(false) }
+        Err(_) => false,
+    };
     ended_keeping(&given, is_right, lent.is_kept())
 }
 

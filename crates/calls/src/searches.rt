@@ -1,4 +1,8 @@
 //! The calls on what a search of console_states met.
+ghost use Rattle.std.specs.Prelude.{◌≡◌};
+ghost use Rattle.console_states.specs.Moves.{alone};
+ghost use Rattle.console_states.specs.Searching.{under_of};
+
 use crate::devices::mark;
 use crate::inputs::{Call, Lent};
 use crate::outcome::{Outcome, ended, ended_keeping};
@@ -6,7 +10,10 @@ use console_states::{End, Held, Keymaps, go_out, meet_all, sights_in};
 use keymap_core::{KeyMap, Write};
 use std::alloc::{AllocError, Global};
 
-fn alone<'m>(map: &'m KeyMap) -> Keymaps<'m> {
+/// A keymap that no load exchanges.
+fn alone<'m>(map: &'m KeyMap) -> Keymaps<'m>
+    ensures { under_of result ≡ alone result.first.now }
+{
     Keymaps {
         first: map,
         second: map,

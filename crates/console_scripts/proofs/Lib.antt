@@ -13,4 +13,5 @@ pub mod RoutesHome
 pub mod Scrolling
 pub mod Taps
 pub mod Typings
+pub mod Typists
 pub mod Visitable

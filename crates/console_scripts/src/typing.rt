@@ -120,49 +120,6 @@ fn tap_from(
     }
 }
 
-/// Adds the events that type the character from the state.
-fn type_from<'m>(
-    explorations: &mut Explorations<'m>,
-    alloc: Global,
-    events: &mut Vec<Event>,
-    map: &'m KeyMap,
-    from: &Held,
-    c: char,
-) -> Result<Typed, AllocError>
-    requires explorations { AreExplorations map.now explorations.old.entries }
-    requires can_return { CanReturn map.now (state_of from.now) }
-    ensures explorations { OnOk result (AreExplorations map.now explorations.new.entries) }
-    ensures leads { IfOk result (λ r. Leads map.now c (state_of from.now) (reverse events.old.items)
-        (reverse events.new.items) r) }
-{
-    see(explorations, alloc, map, from)?;
-    let explored = explored_from(explorations, from);
-    match way_for(explored, map, c) {
-        Some(Way::Direct(at)) => {
-            let next = explored.go_and_tap(alloc, events, at)?;
-            Ok(Typed::To(next))
-        }
-        Some(Way::Composed(found)) => {
-            let middle = explored.go_and_tap(alloc, events, found.dead)?;
-            see(explorations, alloc, map, &middle)?;
-            let last = tap_from(
-                explored_from(explorations, &middle),
-                alloc,
-                events,
-                &plain(found.then),
-            )?;
-            Ok(last)
-        }
-        None => {
-            if explored.is_complete {
-                Ok(Typed::NoWay)
-            } else {
-                Ok(Typed::TooManyStates)
-            }
-        }
-    }
-}
-
 /// A character, and the state from which it is to be typed.
 #[derive(Clone, Copy, Debug, PartialEq, Eq, Hash)]
 struct Sought {
@@ -200,23 +157,20 @@ fn recall(
     }
 }
 
-/// Keeps the events from a place on, which type the character from the state.
+/// Keeps the events, which type the character from the state.
 fn keep(
     known: &mut Known,
     alloc: Global,
     sought: &Sought,
     events: &[Event],
-    start: usize,
     next: &Held,
 ) -> Result<(), AllocError>
-    requires { start ≤ length events.now }
     ensures { OnOk result ((m : MapValue) → AreKnown m known.old.entries
-        → TypesOne m sought.now.character (state_of sought.now.from) [] (reverse (drop start events.now))
-        (state_of next.now)
+        → TypesOne m sought.now.character (state_of sought.now.from) [] (reverse events.now) (state_of next.now)
         → AreKnown m known.new.entries) }
 {
     let mut kept = Vec::new(alloc);
-    kept.extend_from_slice(&events[start..])?;
+    kept.extend_from_slice(events)?;
     let found = Found {
         events: kept,
         next: *next,
@@ -225,39 +179,75 @@ fn keep(
     Ok(())
 }
 
-/// Adds the events that type the character from the state, and keeps them for the next time.
-fn type_next<'m>(
-    explorations: &mut Explorations<'m>,
-    known: &mut Known,
+/// What was explored and typed before, and the events so far.
+#[derive(Drop)]
+struct Scribe<'m> {
     alloc: Global,
-    events: &mut Vec<Event>,
-    map: &'m KeyMap,
-    sought: &Sought,
-) -> Result<Typed, AllocError>
-    requires explorations { AreExplorations map.now explorations.old.entries }
-    requires known { AreKnown map.now known.old.entries }
-    requires can_return { CanReturn map.now (state_of sought.now.from) }
-    ensures explorations { OnOk result (AreExplorations map.now explorations.new.entries) }
-    ensures known { OnOk result (AreKnown map.now known.new.entries) }
-    ensures leads { IfOk result (λ r. Leads map.now sought.now.character (state_of sought.now.from)
-        (reverse events.old.items) (reverse events.new.items) r) }
-{
-    if let Some(next) = recall(known, events, sought)? {
-        return Ok(Typed::To(next));
+    explorations: Explorations<'m>,
+    known: Known,
+    events: Vec<Event>,
+}
+
+impl<'m> Scribe<'m> {
+    /// Adds the events that type the character from the state.
+    fn type_from(&mut self, map: &'m KeyMap, from: &Held, c: char) -> Result<Typed, AllocError>
+        requires explorations { AreExplorations map.now self.old.explorations.entries }
+        requires can_return { CanReturn map.now (state_of from.now) }
+        ensures explorations { OnOk result (AreExplorations map.now self.new.explorations.entries) }
+        ensures known { OnOk result (self.new.known ≡ self.old.known) }
+        ensures leads { IfOk result (λ r. Leads map.now c (state_of from.now) (reverse self.old.events.items)
+            (reverse self.new.events.items) r) }
+    {
+        see(&mut self.explorations, self.alloc, map, from)?;
+        let explored = explored_from(&self.explorations, from);
+        match way_for(explored, map, c) {
+            Some(Way::Direct(at)) => {
+                let next = explored.go_and_tap(self.alloc, &mut self.events, at)?;
+                Ok(Typed::To(next))
+            }
+            Some(Way::Composed(found)) => {
+                let middle = explored.go_and_tap(self.alloc, &mut self.events, found.dead)?;
+                see(&mut self.explorations, self.alloc, map, &middle)?;
+                let behind = explored_from(&self.explorations, &middle);
+                let last = tap_from(behind, self.alloc, &mut self.events, &plain(found.then))?;
+                Ok(last)
+            }
+            None => {
+                if explored.is_complete {
+                    Ok(Typed::NoWay)
+                } else {
+                    Ok(Typed::TooManyStates)
+                }
+            }
+        }
     }
-    let start = events.len();
-    let typed = type_from(
-        explorations,
-        alloc,
-        events,
-        map,
-        &sought.from,
-        sought.character,
-    )?;
-    if let Typed::To(next) = &typed {
-        keep(known, alloc, sought, events, start, next)?;
+
+    /// Adds the events that type the character from the state, and keeps them for the next time.
+    fn type_next(&mut self, map: &'m KeyMap, sought: &Sought) -> Result<Typed, AllocError>
+        requires explorations { AreExplorations map.now self.old.explorations.entries }
+        requires known { AreKnown map.now self.old.known.entries }
+        requires can_return { CanReturn map.now (state_of sought.now.from) }
+        ensures explorations { OnOk result (AreExplorations map.now self.new.explorations.entries) }
+        ensures known { OnOk result (AreKnown map.now self.new.known.entries) }
+        ensures leads { IfOk result (λ r. Leads map.now sought.now.character (state_of sought.now.from)
+            (reverse self.old.events.items) (reverse self.new.events.items) r) }
+    {
+        if let Some(next) = recall(&self.known, &mut self.events, sought)? {
+            return Ok(Typed::To(next));
+        }
+        let start = self.events.len();
+        let typed = self.type_from(map, &sought.from, sought.character)?;
+        if let Typed::To(next) = &typed {
+            keep(
+                &mut self.known,
+                self.alloc,
+                sought,
+                &self.events[start..],
+                next,
+            )?;
+        }
+        Ok(typed)
     }
-    Ok(typed)
 }
 
 fn push_keyed(keyed: &mut Vec<Keyed>, one: Keyed) -> Result<(), AllocError>
@@ -267,48 +257,7 @@ fn push_keyed(keyed: &mut Vec<Keyed>, one: Keyed) -> Result<(), AllocError>
     Ok(())
 }
 
-/// Types characters one after another from no key pressed, and goes home. What it fills is empty.
-fn type_each<'m>(
-    explorations: &mut Explorations<'m>,
-    known: &mut Known,
-    alloc: Global,
-    map: &'m KeyMap,
-    characters: &[char],
-    typing: &mut Typing,
-) -> Result<(), TypingError>
-    requires explorations { AreExplorations map.now explorations.old.entries }
-    requires known { AreKnown map.now known.old.entries }
-    requires keyed { typing.old.keyed.items ≡ [] }
-    requires events { typing.old.events.items ≡ [] }
-    ensures typed { OnOk result (AreTyped map.now characters.now typing.new) }
-    ensures error { IfErr result (λ error. IsTypingError map.now characters.now error) }
-{
-    if characters.is_empty() {
-        return Ok(());
-    }
-    let mut from = Held::start();
-    let mut place = 0;
-    while place < characters.len() {
-        let character = characters[place];
-        let sought = Sought { from, character };
-        match type_next(explorations, known, alloc, &mut typing.events, map, &sought)? {
-            Typed::To(next) => from = next,
-            Typed::NoWay => return Err(TypingError::NoWay(place)),
-            Typed::TooManyStates => return Err(TypingError::TooManyStates),
-        }
-        let end = typing.events.len();
-        push_keyed(&mut typing.keyed, Keyed { character, end })?;
-        place += 1;
-    }
-    see(explorations, alloc, map, &from)?;
-    if explored_from(explorations, &from).go_home(&mut typing.events)? {
-        Ok(())
-    } else {
-        Err(TypingError::TooManyStates)
-    }
-}
-
-/// Types characters one after another.
+/// Types characters one after another from no key pressed, and goes home.
 pub fn type_characters(
     alloc: Global,
     map: &KeyMap,
@@ -317,19 +266,40 @@ pub fn type_characters(
     ensures typed { IfOk result (λ typing. AreTyped map.now characters.now typing) }
     ensures error { IfErr result (λ error. IsTypingError map.now characters.now error) }
 {
-    let mut explorations = IndexMap::new(alloc);
-    let mut known = IndexMap::new(alloc);
-    let mut typing = Typing {
-        keyed: Vec::new(alloc),
+    let mut scribe = Scribe {
+        alloc,
+        explorations: IndexMap::new(alloc),
+        known: IndexMap::new(alloc),
         events: Vec::new(alloc),
     };
-    type_each(
-        &mut explorations,
-        &mut known,
-        alloc,
-        map,
-        characters,
-        &mut typing,
-    )?;
-    Ok(typing)
+    let mut keyed = Vec::new(alloc);
+    if characters.is_empty() {
+        return Ok(Typing {
+            keyed,
+            events: scribe.events,
+        });
+    }
+    let mut from = Held::start();
+    let mut place = 0;
+    while place < characters.len() {
+        let character = characters[place];
+        let sought = Sought { from, character };
+        match scribe.type_next(map, &sought)? {
+            Typed::To(next) => from = next,
+            Typed::NoWay => return Err(TypingError::NoWay(place)),
+            Typed::TooManyStates => return Err(TypingError::TooManyStates),
+        }
+        let end = scribe.events.len();
+        push_keyed(&mut keyed, Keyed { character, end })?;
+        place += 1;
+    }
+    let all = &mut scribe;
+    see(&mut all.explorations, alloc, map, &from)?;
+    if !explored_from(&all.explorations, &from).go_home(&mut all.events)? {
+        return Err(TypingError::TooManyStates);
+    }
+    Ok(Typing {
+        keyed,
+        events: scribe.events,
+    })
 }

@@ -44,156 +44,11 @@ pub fn plain(symbol: Symbol) -> Tap
     }
 }
 
-/// Whether the tap can be made, with `is_near` at a near place.
-fn can_tap(explored: &Explored, tap: &Tap, is_near: bool) -> bool
-    requires { IsExplored explored.now }
-    ensures can { result ≡ true → HasTap explored.now tap.now }
-    ensures none { result ≡ false → is_near ≡ false → HasTap explored.now tap.now → ⊥ }
-{
-    match explored.first_place(tap, is_near) {
-        Some(_) => true,
-        None => false,
-    }
-}
-
-/// Whether the symbol can be tapped, and types the character while the accent is pending.
-fn is_base(
-    explored: &Explored,
-    map: &KeyMap,
-    index: u8,
-    then: Symbol,
-    c: char,
-    is_near: bool,
-) -> bool
-    requires { IsExplored explored.now }
-    ensures base { result ≡ true → IsBase map.now explored.now index c then }
-    ensures none { result ≡ false → is_near ≡ false → IsBase map.now explored.now index c then → ⊥ }
-{
-    match composed(map, index, then) {
-        Some(made) => made == c && can_tap(explored, &plain(then), is_near),
-        None => false,
-    }
-}
-
 /// The base of the pair.
 fn base_of(pair: &(char, char)) -> Symbol
     ensures { result ≡ symbol.Character pair.now.0 }
 {
     Symbol::Character(pair.0)
-}
-
-/// The base of a pair of the accent, if it can be tapped to type the character while the accent is pending.
-fn base_in(
-    explored: &Explored,
-    map: &KeyMap,
-    accent: &Accent,
-    index: u8,
-    c: char,
-    is_near: bool,
-) -> Option<Symbol>
-    requires { IsExplored explored.now }
-    ensures { MatchOption result (is_near ≡ false → (p : ℕ × ℕ) → Contains accent.now.pairs p
-        → IsBase map.now explored.now index c (symbol.Character p.0) → ⊥)
-        (λ x. IsBase map.now explored.now index c x) }
-{
-    for pair in accent.pairs() {
-        let base = base_of(pair);
-        if is_base(explored, map, index, base, c, is_near) {
-            return Some(base);
-        }
-    }
-    None
-}
-
-/// The blank or the accent's dead key, if it can be tapped to type the character while the accent is pending.
-fn other_base(
-    explored: &Explored,
-    map: &KeyMap,
-    index: u8,
-    c: char,
-    is_near: bool,
-) -> Option<Symbol>
-    requires { IsExplored explored.now }
-    ensures { MatchOption result (is_near ≡ false → (IsBase map.now explored.now index c (symbol.Character 32) → ⊥)
-        × (IsBase map.now explored.now index c (symbol.DeadKey index) → ⊥))
-        (λ x. IsBase map.now explored.now index c x) }
-{
-    let blank = Symbol::Character(' ');
-    let dead = Symbol::DeadKey(index);
-    if is_base(explored, map, index, blank, c, is_near) {
-        Some(blank)
-    } else if is_base(explored, map, index, dead, c, is_near) {
-        Some(dead)
-    } else {
-        None
-    }
-}
-
-/// What can be tapped to type the character while the accent is pending.
-fn base_for(
-    explored: &Explored,
-    map: &KeyMap,
-    accent: &Accent,
-    index: u8,
-    c: char,
-    is_near: bool,
-) -> Option<Symbol>
-    requires explored { IsExplored explored.now }
-    requires accent { accent_at map.now index ≡ Some accent.now }
-    ensures { MatchOption result (is_near ≡ false → (x : SymbolValue) → IsBase map.now explored.now index c x → ⊥)
-        (λ x. IsBase map.now explored.now index c x) }
-{
-    match base_in(explored, map, accent, index, c, is_near) {
-        Some(base) => Some(base),
-        None => other_base(explored, map, index, c, is_near),
-    }
-}
-
-/// The dead key of the accent, and what can be tapped behind it to type the character.
-fn accented_by(
-    explored: &Explored,
-    map: &KeyMap,
-    accent: &Accent,
-    index: u8,
-    c: char,
-    is_near: bool,
-) -> Option<Accented>
-    requires explored { IsExplored explored.now }
-    requires accent { accent_at map.now index ≡ Some accent.now }
-    ensures { MatchOption result (is_near ≡ false → (x : SymbolValue) → CanAccent map.now explored.now c index x → ⊥)
-        (λ a. IsAccented map.now explored.now c index a) }
-{
-    if accent.own() == '\0' {
-        return None;
-    }
-    let tap = Tap {
-        symbol: Symbol::DeadKey(index),
-        is_plain: false,
-    };
-    match explored.first_place(&tap, is_near) {
-        Some(dead) => match base_for(explored, map, accent, index, c, is_near) {
-            Some(then) => Some(Accented { dead, then }),
-            None => None,
-        },
-        None => None,
-    }
-}
-
-/// A dead key, and what can be tapped behind it to type the character.
-fn dead_key_for(explored: &Explored, map: &KeyMap, c: char, is_near: bool) -> Option<Accented>
-    requires { IsExplored explored.now }
-    ensures { MatchOption result
-        (is_near ≡ false → (i : ℕ) (x : SymbolValue) → CanAccent map.now explored.now c i x → ⊥)
-        (λ a. (i : ℕ) × IsAccented map.now explored.now c i a) }
-{
-    let mut index = 0;
-    while let Some(accent) = map.accent(index) {
-        if let Some(found) = accented_by(explored, map, accent, index, c, is_near) {
-            return Some(found);
-        }
-        index += 1;
-    }
-    None
 }
 
 /// What is tapped to type a character.
@@ -205,29 +60,168 @@ pub enum Way {
     Composed(Accented),
 }
 
-/// A way to type the character: by one key, if there is such, or else by a dead key and another one. With `is_near` all
-/// of them are at near places.
-fn way_at(explored: &Explored, map: &KeyMap, c: char, is_near: bool) -> Option<Way>
-    requires { IsExplored explored.now }
-    ensures { MatchOption result (is_near ≡ false → HasNoWay map.now explored.now c)
-        (λ w. IsWay map.now explored.now c w) }
-{
-    match explored.first_place(&plain(Symbol::Character(c)), is_near) {
-        Some(at) => Some(Way::Direct(at)),
-        None => match dead_key_for(explored, map, c, is_near) {
-            Some(found) => Some(Way::Composed(found)),
+/// A character that is to be typed, and where keys may be tapped for it: at all places that were explored, or at near
+/// ones alone.
+#[derive(Clone, Copy)]
+struct Wanted<'t, 'm> {
+    explored: &'t Explored<'m>,
+    map: &'t KeyMap,
+    character: char,
+    is_near: bool,
+}
+
+impl<'t, 'm> Wanted<'t, 'm> {
+    /// Whether the tap can be made.
+    fn can_tap(&self, tap: &Tap) -> bool
+        requires { IsExplored self.now.explored.now }
+        ensures can { result ≡ true → HasTap self.now.explored.now tap.now }
+        ensures none { result ≡ false → self.now.is_near ≡ false → HasTap self.now.explored.now tap.now → ⊥ }
+    {
+        match self.explored.first_place(tap, self.is_near) {
+            Some(_) => true,
+            None => false,
+        }
+    }
+
+    /// Whether the symbol can be tapped, and types the character while the accent is pending.
+    fn is_base(&self, index: u8, then: Symbol) -> bool
+        requires { IsExplored self.now.explored.now }
+        ensures base { let w = self.now in result ≡ true → IsBase w.map.now w.explored.now index w.character then }
+        ensures none { let w = self.now in result ≡ false → w.is_near ≡ false
+            → IsBase w.map.now w.explored.now index w.character then → ⊥ }
+    {
+        match composed(self.map, index, then) {
+            Some(made) => made == self.character && self.can_tap(&plain(then)),
+            None => false,
+        }
+    }
+
+    /// The base of a pair of the accent, if it can be tapped to type the character while the accent is pending.
+    fn base_in(&self, accent: &Accent, index: u8) -> Option<Symbol>
+        requires { IsExplored self.now.explored.now }
+        ensures { let w = self.now in MatchOption result (w.is_near ≡ false → (p : ℕ × ℕ)
+            → Contains accent.now.pairs p
+            → IsBase w.map.now w.explored.now index w.character (symbol.Character p.0) → ⊥)
+            (λ x. IsBase w.map.now w.explored.now index w.character x) }
+    {
+        for pair in accent.pairs() {
+            let base = base_of(pair);
+            if self.is_base(index, base) {
+                return Some(base);
+            }
+        }
+        None
+    }
+
+    /// The blank or the accent's dead key, if it can be tapped to type the character while the accent is pending.
+    fn other_base(&self, index: u8) -> Option<Symbol>
+        requires { IsExplored self.now.explored.now }
+        ensures { let w = self.now in MatchOption result (w.is_near ≡ false
+            → (IsBase w.map.now w.explored.now index w.character (symbol.Character 32) → ⊥)
+            × (IsBase w.map.now w.explored.now index w.character (symbol.DeadKey index) → ⊥))
+            (λ x. IsBase w.map.now w.explored.now index w.character x) }
+    {
+        let blank = Symbol::Character(' ');
+        let dead = Symbol::DeadKey(index);
+        if self.is_base(index, blank) {
+            Some(blank)
+        } else if self.is_base(index, dead) {
+            Some(dead)
+        } else {
+            None
+        }
+    }
+
+    /// What can be tapped to type the character while the accent is pending.
+    fn base_for(&self, accent: &Accent, index: u8) -> Option<Symbol>
+        requires explored { IsExplored self.now.explored.now }
+        requires accent { accent_at self.now.map.now index ≡ Some accent.now }
+        ensures { let w = self.now in MatchOption result (w.is_near ≡ false → (x : SymbolValue)
+            → IsBase w.map.now w.explored.now index w.character x → ⊥)
+            (λ x. IsBase w.map.now w.explored.now index w.character x) }
+    {
+        match self.base_in(accent, index) {
+            Some(base) => Some(base),
+            None => self.other_base(index),
+        }
+    }
+
+    /// The dead key of the accent, and what can be tapped behind it to type the character.
+    fn accented_by(&self, accent: &Accent, index: u8) -> Option<Accented>
+        requires explored { IsExplored self.now.explored.now }
+        requires accent { accent_at self.now.map.now index ≡ Some accent.now }
+        ensures { let w = self.now in MatchOption result (w.is_near ≡ false → (x : SymbolValue)
+            → CanAccent w.map.now w.explored.now w.character index x → ⊥)
+            (λ a. IsAccented w.map.now w.explored.now w.character index a) }
+    {
+        if accent.own() == '\0' {
+            return None;
+        }
+        let tap = Tap {
+            symbol: Symbol::DeadKey(index),
+            is_plain: false,
+        };
+        match self.explored.first_place(&tap, self.is_near) {
+            Some(dead) => match self.base_for(accent, index) {
+                Some(then) => Some(Accented { dead, then }),
+                None => None,
+            },
             None => None,
-        },
+        }
+    }
+
+    /// A dead key, and what can be tapped behind it to type the character.
+    fn dead_key(&self) -> Option<Accented>
+        requires { IsExplored self.now.explored.now }
+        ensures { let w = self.now in MatchOption result (w.is_near ≡ false → (i : ℕ) (x : SymbolValue)
+            → CanAccent w.map.now w.explored.now w.character i x → ⊥)
+            (λ a. (i : ℕ) × IsAccented w.map.now w.explored.now w.character i a) }
+    {
+        let mut index = 0;
+        while let Some(accent) = self.map.accent(index) {
+            if let Some(found) = self.accented_by(accent, index) {
+                return Some(found);
+            }
+            index += 1;
+        }
+        None
+    }
+
+    /// A way to type the character: by one key, if there is such, or else by a dead key and another one.
+    fn way(&self) -> Option<Way>
+        requires { IsExplored self.now.explored.now }
+        ensures { let w = self.now in MatchOption result
+            (w.is_near ≡ false → HasNoWay w.map.now w.explored.now w.character)
+            (λ x. IsWay w.map.now w.explored.now w.character x) }
+    {
+        let tap = plain(Symbol::Character(self.character));
+        match self.explored.first_place(&tap, self.is_near) {
+            Some(at) => Some(Way::Direct(at)),
+            None => match self.dead_key() {
+                Some(found) => Some(Way::Composed(found)),
+                None => None,
+            },
+        }
     }
 }
 
 /// A way to type the character: at near places, if there is such, or else at all.
-pub fn way_for(explored: &Explored, map: &KeyMap, c: char) -> Option<Way>
+pub fn way_for(explored: &Explored, map: &KeyMap, character: char) -> Option<Way>
     requires { IsExplored explored.now }
-    ensures { MatchOption result (HasNoWay map.now explored.now c) (λ w. IsWay map.now explored.now c w) }
+    ensures { MatchOption result (HasNoWay map.now explored.now character)
+        (λ w. IsWay map.now explored.now character w) }
 {
-    match way_at(explored, map, c, true) {
+    let mut wanted = Wanted {
+        explored,
+        map,
+        character,
+        is_near: true,
+    };
+    match wanted.way() {
         Some(way) => Some(way),
-        None => way_at(explored, map, c, false),
+        None => {
+            wanted.is_near = false;
+            wanted.way()
+        }
     }
 }

@@ -12,7 +12,7 @@ pub use Rattle.keymap_core.specs.Maps.{MapValue}
 pub use Rattle.keymap_cover.specs.Covering.{SeesKeysBy, SeesToldBy}
 pub use Rattle.keymap_cover.specs.Inner.Adding.{ArePartsBelow, StandBehind}
 pub use Rattle.keymap_cover.specs.Inner.Pairs.{base_pair, pairs_at, pairs_in}
-pub use Rattle.keymap_cover.specs.Inner.Scripts.{AddsPair, AreUp, ComesAfter, GoesAlong, GoesAlongToRest, GoesIfTaken}
+pub use Rattle.keymap_cover.specs.Inner.Scripts.{AddsPair, AreUp, ComesAfter, GoesAlong, GoesAlongToRest}
 pub use Rattle.keymap_cover.specs.Inner.Scripts.{GoesOn, GoesResting, GoesUnderWay, IsScript, Standing}
 pub use Rattle.keymap_cover.specs.Parts.{AreParts, part_place}
 pub use Rattle.keymap_cover.specs.SeenSights.{has_seen, is_pair}

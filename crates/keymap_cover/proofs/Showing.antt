@@ -16,7 +16,7 @@ use Rattle.keymap_core.specs.declared.action.Lock.TheVariants.{Caps, Num, Scroll
 use Rattle.console_core.specs.History.{HasNoLoads, IsNoLoad}
 use Rattle.console_scripts.specs.Visiting.{HasLocks, ExplorerValue, TurnsScrollOff, Visits}
 use Rattle.keymap_cover.specs.Covering.{IsScrollOff}
-use Rattle.keymap_cover.specs.Inner.Scripts.{RunsAlong, IsScriptOf, IsUnderWay, GoesFurther, SeesAll, ShowsTold}
+use Rattle.keymap_cover.specs.Inner.Scripts.{RunsAlong, IsScriptOf, IsUnderWay, SeesAll, ShowsTold}
 use Rattle.keymap_cover.specs.Inner.Scripts.{EndsAtRest, GoesScrollOff, IsResting}
 use Rattle.keymap_cover.proofs.Telling.{all-told, key-told}
 use Rattle.keymap_cover.proofs.Scripts.{at-rest_new}
@@ -35,7 +35,7 @@ events-loads (script_event.Up k ∷ xs) = All-cons IsNoLoad (event_of (script_ev
 events-loads (script_event.Reset ∷ xs) = All-cons IsNoLoad (event_of script_event.Reset) (events_of xs) refl
     (events-loads xs)
 
-pub script-loads : (m : MapValue) (h : List Event) (t : Script) → IsScriptOf m h t → HasNoLoads h
+pub script-loads : {T : Type 0} (m : MapValue) (h : List Event) (t : Script T) → IsScriptOf m h t → HasNoLoads h
 script-loads m h t script = subst HasNoLoads script.history (events-loads (reverse t.events.items))
 
 -- what is seen along a list is seen along a longer one
@@ -45,41 +45,40 @@ sees-longer m h g x (more, is) (later, before, k, at, sees) =
     (more ++ later, before, k, ap (λ z. more ++ z) at ∙ sym (append_assoc more later _), sees)
 
 -- what was seen once was seen later
-pub seen-still : (m : MapValue) (h g : List Event) (a b : Script) (x : Sight) → IsScriptOf m h a → IsScriptOf m g b
-    → ComesAfter h g → has_seen a.seen x ≡ true → has_seen b.seen x ≡ true
+pub seen-still : {T : Type 0} (m : MapValue) (h g : List Event) (a b : Script T) (x : Sight) → IsScriptOf m h a
+    → IsScriptOf m g b → ComesAfter h g → has_seen a.seen x ≡ true → has_seen b.seen x ≡ true
 seen-still m h g a b x before now after has = now.all_seen x (sees-longer m h g x after (before.seen x has))
 
 -- a visit goes on, and sees what was aimed at
-pub visit-goes : (m : MapValue) (A : Standing) (p : ExplorerValue) (a : Script) (B : Standing) (q : ExplorerValue)
-    (b : Script) (later : List Event) → q.map ≡ p.map → Visits p.map p.locks q.locks p.aim later
-    → GoesAlongToRest m later A a B b → AreUp b.pressed
-    → GoesUnderWay m A p a B q b ((x : Sight) → p.aim ≡ Some x → IsReachable m x → has_seen b.seen x ≡ true)
-visit-goes m A p a B q b later same visits walk up h w =
-    let (g, run, rest, after, exact) = walk h w.runs in
-    let v = subst (λ z. Visits z p.locks q.locks p.aim later) w.map visits in
-    let (taken, locks, sees) = v h w.runs.1.keys (script-loads m h a w.runs.1) w.locks in
+pub visit-goes : {T : Type 0} (s : Standing T) (m : MapValue) (p : ExplorerValue) (a : Script T) (q : ExplorerValue)
+    (b : Script T) (later : List Event) → q.map ≡ p.map → Visits p.map p.locks q.locks p.aim later
+    → GoesAlongToRest m later s a b → AreUp b.pressed
+    → GoesUnderWay m s p a q b ((x : Sight) → p.aim ≡ Some x → IsReachable m x → has_seen b.seen x ≡ true)
+visit-goes s m p a q b later same visits walk up h ((at, ups, still), map, on) =
+    let (g, run, rest, after, exact) = walk h at in
+    let v = subst (λ z. Visits z p.locks q.locks p.aim later) map visits in
+    let (taken, locks, sees) = v h at.1.keys (script-loads m h a at.1) on in
     let turns = exact taken in (
       g,
-      record {
-        runs = run;
-        up = up;
-        rest = rest;
-        map = same ∙ w.map;
-        locks = (turns.1 Caps ∙ locks.0, turns.1 Num ∙ locks.1, turns.1 Alt ∙ locks.2);
-      },
+      (
+        (run, up, rest),
+        same ∙ map,
+        (turns.1 Caps ∙ locks.0, turns.1 Num ∙ locks.1, turns.1 Alt ∙ locks.2),
+      ),
       after,
       (λ x aim can. run.1.all_seen x (sees-longer m (later ++ h) g x turns.0 (sees x aim can))),
     )
 
 -- the explorer aims at something else
-pub aims-else : (m : MapValue) (A : Standing) (p q : ExplorerValue) (t : Script) (h : List Event) → (q.map ≡ p.map)
-    × (q.locks ≡ p.locks) → IsUnderWay m A p t h → IsUnderWay m A q t h
-aims-else m A p q t h (map, locks) w = grind (arith)
+pub aims-else : {T : Type 0} (s : Standing T) (m : MapValue) (p q : ExplorerValue) (t : Script T) (h : List Event)
+    → (q.map ≡ p.map) × (q.locks ≡ p.locks) → IsUnderWay m s h p t → IsUnderWay m s h q t
+aims-else s m p q t h (map, locks) w = grind (arith)
 
 -- nothing is done
-pub stays-so : (m : MapValue) (A : Standing) (p q : ExplorerValue) (t : Script) (P : Type 0) → (q.map ≡ p.map)
-    × (q.locks ≡ p.locks) → ((h : List Event) → IsUnderWay m A p t h → P) → GoesUnderWay m A p t A q t P
-stays-so m A p q t P same holds h w = (h, aims-else m A p q t h same w, ([], refl), holds h w)
+pub stays-so : {T : Type 0} (s : Standing T) (m : MapValue) (p q : ExplorerValue) (t : Script T) (P : Type 0)
+    → (q.map ≡ p.map) × (q.locks ≡ p.locks) → ((h : List Event) → IsUnderWay m s h p t → P)
+    → GoesUnderWay m s p t q t P
+stays-so s m p q t P same holds h w = (h, aims-else s m p q t h same w, ([], refl), holds h w)
 
 -- what holds of the elements before a place, and of that at the place
 pub holds-more : (xs : List Sight) (i : ℕ) (d : Sight) (P : Sight → Type 0) → i < length xs → P (get_or xs i d)
@@ -88,25 +87,21 @@ pub holds-more : (xs : List Sight) (i : ℕ) (d : Sight) (P : Sight → Type 0) 
 holds-more xs i d P within here before n x lt at = grind (arith, eqb-true, get_or_default, eq-eqb)
 
 -- what holds of the sights before a place, and of that at the place, as the script goes on
-pub all-more : (m : MapValue) (A : Standing) (p : ExplorerValue) (a : Script) (B : Standing)
-    (q : ExplorerValue) (b : Script) (C : Standing) (r : ExplorerValue) (c : Script)
-    (xs : List Sight) (i : ℕ)
-    (d : Sight)
-    → i < length xs
-    → GoesUnderWay m A p a B q b ((n : ℕ) (x : Sight) → n < i → get_or xs n x ≡ x → CanVisit m x
+pub all-more : {T : Type 0} (s : Standing T) (m : MapValue) (p : ExplorerValue) (a : Script T) (q : ExplorerValue)
+    (b : Script T) (r : ExplorerValue) (c : Script T) (xs : List Sight) (i : ℕ) (d : Sight) → i < length xs
+    → GoesUnderWay m s p a q b ((n : ℕ) (x : Sight) → n < i → get_or xs n x ≡ x → CanVisit m x
     → has_seen b.seen x ≡ true)
-    → GoesUnderWay m B q b C r c (CanVisit m (get_or xs i d)
-    → has_seen c.seen (get_or xs i d) ≡ true)
-    → GoesUnderWay m A p a C r c ((n : ℕ) (x : Sight) → n < i + 1 → get_or xs n x ≡ x
-    → CanVisit m x → has_seen c.seen x ≡ true)
-all-more m A p a B q b C r c xs i d lt first next h w =
+    → GoesUnderWay m s q b r c (CanVisit m (get_or xs i d) → has_seen c.seen (get_or xs i d) ≡ true)
+    → GoesUnderWay m s p a r c ((n : ℕ) (x : Sight) → n < i + 1 → get_or xs n x ≡ x → CanVisit m x
+    → has_seen c.seen x ≡ true)
+all-more s m p a q b r c xs i d lt first next h w =
     let (g, v, after, before) = first h w in
     let (f, u, more, here) = next g v in (
       f,
       u,
       after-more h g f after more,
       holds-more xs i d (λ x. CanVisit m x → has_seen c.seen x ≡ true) lt here
-          (λ n x below at can. seen-still m g f b c x v.runs.1 u.runs.1 more (before n x below at can)),
+          (λ n x below at can. seen-still m g f b c x v.0.0.1 u.0.0.1 more (before n x below at can)),
     )
 
 -- ---- the whole script
@@ -115,13 +110,14 @@ length-events_of : (xs : List ScriptEvent) → length (events_of xs) ≡ length 
 length-events_of [] = refl
 length-events_of (x ∷ xs) = ap suc (length-events_of xs)
 
-script-length : (m : MapValue) (h : List Event) (t : Script) → IsScriptOf m h t → length h ≡ length t.events.items
+script-length : {T : Type 0} (m : MapValue) (h : List Event) (t : Script T) → IsScriptOf m h t
+    → length h ≡ length t.events.items
 script-length m h t script =
     ap (λ z. length z) (sym script.history) ∙ length-events_of (reverse t.events.items) ∙ length-reverse t.events.items
 
 -- a script that goes on gets no shorter
-pub script-longer : (m : MapValue) (h g : List Event) (a b : Script) → IsScriptOf m h a → IsScriptOf m g b
-    → ComesAfter h g → length a.events.items ≤ length b.events.items
+pub script-longer : {T : Type 0} (m : MapValue) (h g : List Event) (a b : Script T) → IsScriptOf m h a
+    → IsScriptOf m g b → ComesAfter h g → length a.events.items ≤ length b.events.items
 script-longer m h g a b before now (later, is) =
     let e = script-length m h a before in
     let f = script-length m g b now in
@@ -133,15 +129,12 @@ nothing-down : (xs : List ScriptEvent) (k : ℕ) → events_of xs ≡ [] → is_
 nothing-down [] k e = refl
 nothing-down (x ∷ xs) k e = let none : event_of x ∷ events_of xs ≡ [] = e in cc
 
-pub under-way-new : (m : MapValue) (A : Standing) (p : ExplorerValue) (t : Script) → (p.map ≡ m) × HasLocks m p.locks []
-    → RunsAlong m A [] t → IsUnderWay m A p t []
-under-way-new m A p t is_new run = record {
-  runs = run;
-  up = λ k lt. run.1.pressed k lt ∙ nothing-down (reverse t.events.items) k run.1.history;
-  rest = at-rest_new m;
-  map = is_new.0;
-  locks = is_new.1;
-}
+pub under-way-new : {T : Type 0} (s : Standing T) (m : MapValue) (p : ExplorerValue) (t : Script T)
+    → (p.map ≡ m) × HasLocks m p.locks [] → RunsAlong m s [] t → IsUnderWay m s [] p t
+under-way-new s m p t (map, locks) run =
+    let up : AreUp t.pressed =
+    λ k lt. run.1.pressed k lt ∙ nothing-down (reverse t.events.items) k run.1.history in
+    ((run, up, at-rest_new m), map, locks)
 
 -- ---- the first events of a script
 
@@ -172,8 +165,8 @@ length-first xs n le =
     length-events_of (reverse (take n xs)) ∙ length-reverse (take n xs) ∙ length-take-le n xs le
 
 -- a script that goes on has the same first events
-pub first-still : (m : MapValue) (h g : List Event) (a b : Script) (n : ℕ) → IsScriptOf m h a → IsScriptOf m g b
-    → ComesAfter h g → n ≤ length a.events.items
+pub first-still : {T : Type 0} (m : MapValue) (h g : List Event) (a b : Script T) (n : ℕ) → IsScriptOf m h a
+    → IsScriptOf m g b → ComesAfter h g → n ≤ length a.events.items
     → events_of (reverse (take n a.events.items)) ≡ events_of (reverse (take n b.events.items))
 first-still m h g a b n before now after le =
     let xs = a.events.items in
@@ -197,8 +190,8 @@ sees-more m xs n k x le sees =
     sees-longer m (events_of (reverse (take n xs))) (events_of (reverse (take k xs))) x (take-longer xs n k le) sees
 
 -- what was seen, all events of the script see
-seen-by : (m : MapValue) (h : List Event) (t : Script) (x : Sight) → IsScriptOf m h t → has_seen t.seen x ≡ true
-    → SeesAlong m (events_of (reverse (take (length t.events.items) t.events.items))) x
+seen-by : {T : Type 0} (m : MapValue) (h : List Event) (t : Script T) (x : Sight) → IsScriptOf m h t
+    → has_seen t.seen x ≡ true → SeesAlong m (events_of (reverse (take (length t.events.items) t.events.items))) x
 seen-by m h t x script has =
     subst (λ z. SeesAlong m z x)
     (sym (ap (λ z. events_of (reverse z)) (take_all (length t.events.items) t.events.items (omega arith))
@@ -212,21 +205,21 @@ pub can-see : (m : MapValue) (x : Sight) → CanVisit m x → IsReachable m x
 can-see m x (path, is, can, (k, lt, sees, back)) = (path, is, can, (k, lt, sees))
 
 -- the keys first, and then the pairs
-pub told-shown : (m : MapValue) (A : Standing) (p : ExplorerValue) (a : Script) (B : Standing) (q : ExplorerValue)
-    (b : Script) (C : Standing) (r : ExplorerValue) (d : Script) (xs ys : List Sight) (n : ℕ)
+pub told-shown : {T : Type 0} (s : Standing T) (m : MapValue) (p : ExplorerValue) (a : Script T) (q : ExplorerValue)
+    (b : Script T) (r : ExplorerValue) (d : Script T) (xs ys : List Sight) (n : ℕ)
     → xs ≡ all_cells ++ all_lock_settings → ys ≡ pairs_in m → n ≡ length b.events.items
-    → GoesUnderWay m A p a B q b (SeesAll m xs b) → GoesUnderWay m B q b C r d (SeesAll m ys d)
-    → GoesUnderWay m A p a C r d (ShowsTold m n d)
-told-shown m A p a B q b C r d xs ys n keys pairs is first second h w =
+    → GoesUnderWay m s p a q b (SeesAll m xs b) → GoesUnderWay m s q b r d (SeesAll m ys d)
+    → GoesUnderWay m s p a r d (ShowsTold m n d)
+told-shown s m p a q b r d xs ys n keys pairs is first second h w =
     let (g, v, after, seen) = first h w in
     let (f, u, more, all) = second g v in
-    let longer = script-longer m g f b d v.runs.1 u.runs.1 more in
+    let longer = script-longer m g f b d v.0.0.1 u.0.0.1 more in
     let same =
-    first-still m g f b d (length b.events.items) v.runs.1 u.runs.1 more (omega arith) in
+    first-still m g f b d (length b.events.items) v.0.0.1 u.0.0.1 more (omega arith) in
     let by_keys : SeesKeysBy m d.events.items (length b.events.items) =
     λ x told key can.
     subst (λ z. SeesAlong m z x) same
-    (seen-by m g b x v.runs.1
+    (seen-by m g b x v.0.0.1
     (seen x (subst (λ z. Contains z x) (sym keys) (key-told m x told key)) can)) in (
       f,
       u,
@@ -235,52 +228,52 @@ told-shown m A p a B q b C r d xs ys n keys pairs is first second h w =
         omega (arith, is, longer),
         subst (λ k. SeesKeysBy m d.events.items k) (sym is) by_keys,
         (λ x told can.
-            seen-by m f d x u.runs.1
+            seen-by m f d x u.0.0.1
             (elim (Contains-append_cases xs ys x
             ((all-told m (xs ++ ys) (ap (λ z. z ++ ys) keys
             ∙ ap (λ z. (all_cells ++ all_lock_settings) ++ z) pairs) x).0 told)) [
-              | inl key ↦ seen-still m g f b d x v.runs.1 u.runs.1 more (seen x key can)
+              | inl key ↦ seen-still m g f b d x v.0.0.1 u.0.0.1 more (seen x key can)
               | inr pair ↦ all x pair can
             ])),
       ),
     )
 
 -- a walk behind another, and the events that turn the scroll lock off
-pub walks-further : (m : MapValue) (x y : List Event) (A : Standing) (a : Script) (B : Standing) (b : Script)
-    (C : Standing) (d : Script) (D : Standing) (e : Script) → GoesAlongToRest m x A a B b → GoesAlongToRest m y B b C d
-    → AreUp d.pressed → GoesScrollOff m C d D e → GoesFurther m A a D e
-walks-further m x y A a B b C d D e first second up last h at =
-    let (g, run, rest, after, exact) = first h at in
+pub walks-further : {T : Type 0} (s : Standing T) (m : MapValue) (x y : List Event) (a b d e : Script T)
+    → GoesAlongToRest m x s a b → GoesAlongToRest m y s b d → AreUp d.pressed → GoesScrollOff m s d e
+    → GoesScrollOff m s a e
+walks-further s m x y a b d e first second up last h at =
+    let (g, run, rest, after, exact) = first h at.0 in
     let (f, end, there, more, same) = second g run in
     let (k, resting, behind, off) = last f (end, up, there) in
-    (k, resting, after-more h f k (after-more h g f after more) behind)
+    (k, resting, after-more h f k (after-more h g f after more) behind, off)
 
 -- a walk by events that turn the scroll lock off
-pub walks-off : (m : MapValue) (later h : List Event) (A : Standing) (a : Script) (B : Standing) (b : Script)
-    → RunsAlong m A h a → GoesAlongToRest m later A a B b → AreUp b.pressed → TurnsScrollOff m h later
-    → (g : List Event) × IsResting m B b g × ComesAfter h g × IsScrollOff m g
-walks-off m later h A a B b at walk up (taken, off) =
+pub walks-off : {T : Type 0} (s : Standing T) (m : MapValue) (later h : List Event) (a b : Script T)
+    → RunsAlong m s h a → GoesAlongToRest m later s a b → AreUp b.pressed → TurnsScrollOff m h later
+    → (g : List Event) × IsResting m s g b × ComesAfter h g × IsScrollOff m g
+walks-off s m later h a b at walk up (taken, off) =
     let (g, run, rest, after, exact) = walk h at in
     (g, (run, up, rest), after, inl ((exact taken).1 Scroll ∙ off))
 
 -- what is told of is seen, and then the script goes further, and onward
-pub script-whole : (m : MapValue) (A : Standing) (p : ExplorerValue) (a : Script) (B : Standing) (q : ExplorerValue)
-    (b : Script) (C : Standing) (d : Script) (D : Standing) (e : Script) (n : ℕ) → IsUnderWay m A p a []
-    → GoesUnderWay m A p a B q b (ShowsTold m n b) → GoesFurther m B b C d → GoesScrollOff m C d D e
+pub script-whole : {T : Type 0} (s : Standing T) (m : MapValue) (p : ExplorerValue) (a : Script T) (q : ExplorerValue)
+    (b d e : Script T) (n : ℕ) → IsUnderWay m s [] p a → GoesUnderWay m s p a q b (ShowsTold m n b)
+    → GoesScrollOff m s b d → GoesScrollOff m s d e
     → EndsAtRest m e × SeesKeysBy m e.events.items n × SeesToldBy m e.events.items (length b.events.items)
     × (n ≤ length b.events.items) × (length b.events.items ≤ length d.events.items)
     × (length d.events.items ≤ length e.events.items)
-script-whole m A p a B q b C d D e n new shown further onward =
+script-whole s m p a q b d e n new shown further onward =
     let (g, w, after, (le, keys, told)) = shown [] new in
-    let (f, resting, more) = further g w.runs in
+    let (f, resting, more, scrolled) = further g w.0 in
     let (k, (end, ups, still), last, off) = onward f resting in
     let all = after-more g f k more last in
-    let same = first-still m g k b e n w.runs.1 end.1 all le in
-    let same_all = first-still m g k b e (length b.events.items) w.runs.1 end.1 all (omega arith) in (
+    let same = first-still m g k b e n w.0.0.1 end.1 all le in
+    let same_all = first-still m g k b e (length b.events.items) w.0.0.1 end.1 all (omega arith) in (
       (ups, (k, end.1, still, off)),
       (λ x has key can. subst (λ z. SeesAlong m z x) same (keys x has key can)),
       (λ x has can. subst (λ z. SeesAlong m z x) same_all (told x has can)),
       le,
-      script-longer m g f b d w.runs.1 resting.0.1 more,
+      script-longer m g f b d w.0.0.1 resting.0.1 more,
       script-longer m f k d e resting.0.1 end.1 last,
     )

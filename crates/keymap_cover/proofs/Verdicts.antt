@@ -1,5 +1,5 @@
 -- The verdicts that are counted are those that are told.
-use Rattle.keymap_cover.proofs.Common.{◌≡◌, ◌<◌, Bool, true, false, List, [], ◌∷◌, refl, sym, ◌∙◌}
+use Rattle.keymap_cover.proofs.Common.{◌≡◌, Bool, true, false, [], ◌∷◌, refl, sym, ◌∙◌}
 use Rattle.keymap_cover.proofs.Common.{true≢false}
 use Rattle.keymap_cover.proofs.Common.{if◌then◌else◌, MapValue, Sight, SeesAlong, IsReachable, has_seen}
 use Rattle.keymap_cover.proofs.Common.{IsTold}

@@ -2,7 +2,7 @@
 use Rattle.keymap_cover.proofs.Common.{◌≡◌, ℕ, ◌+◌, ◌<◌, Bool, false, List, [], ◌∷◌, ◌++◌, refl, ap, subst, sym}
 use Rattle.keymap_cover.proofs.Common.{◌∙◌, arith, append_assoc, get_or, length, reverse, take, Result, Ok, Err}
 use Rattle.keymap_cover.proofs.Common.{slice_index_or, OnOk, eqb-true, eq-eqb, true≢false, reverse-append, MapValue}
-use Rattle.keymap_cover.proofs.Common.{Event, Standing, between, resolved, AreTaken, Script, ComesAfter, GoesIfTaken}
+use Rattle.keymap_cover.proofs.Common.{Event, Standing, between, resolved, AreTaken, Script, ComesAfter}
 use Rattle.keymap_cover.proofs.Common.{GoesOn}
 use Rattle.keymap_cover.proofs.Common.{GoesAlong, GoesAlongToRest}
 use Rattle.std.proofs.Common.{◌≢◌}
@@ -15,15 +15,15 @@ use Rattle.keymap_cover.proofs.Scripts.{at-rest}
 use Rattle.console_core.specs.declared.event.Event.TheVariants as event
 
 -- an event that is delivered
-pub by-taken : (m : MapValue) (e : Event) (A : Standing) (a : Script) (B : Standing) (b : Script) → GoesBy m e A a B b
-    → GoesIfTaken m e A a B b
-by-taken m e A a B b goes h at = (e ∷ h, goes h at, (e ∷ [], refl), (λ none of. refl))
+pub by-taken : {T : Type 0} (s : Standing T) (m : MapValue) (e : Event) (a b : Script T) → GoesBy m e s a b
+    → GoesAlong m (e ∷ []) s a b
+by-taken s m e a b goes h at = (e ∷ h, goes h at, (e ∷ [], refl), (λ taken. refl))
 
 -- a release, where it turns no lock
-pub up-taken : (m : MapValue) (k : ℕ) (A : Standing) (a : Script) (B : Standing) (b : Script) → GoesUp m k A a B b
-    → GoesIfTaken m (event.Release k) A a B b
-up-taken m k A a B b goes h at =
-    let (g, run, (after, locks), exact) = goes h at in (g, run, after, (λ none of. exact of))
+pub up-taken : {T : Type 0} (s : Standing T) (m : MapValue) (k : ℕ) (a b : Script T) → GoesUp m k s a b
+    → GoesAlong m (event.Release k ∷ []) s a b
+up-taken s m k a b goes h at =
+    let (g, run, (after, locks), exact) = goes h at in (g, run, after, (λ taken. exact taken.1))
 
 pub release-turns_none : (m : MapValue) (h : List Event) (k : ℕ) → TurnsNone m h (event.Release k ∷ h)
 release-turns_none m h k = (
@@ -45,24 +45,24 @@ turns-more : (m : MapValue) (a b c : List Event) → TurnsNone m a b → TurnsNo
 turns-more m a b c (x, e) (y, f) = (after-more a b c x y, (λ l. f l ∙ e l))
 
 -- a load, in whose place there is a reset
-pub no-load : (m : MapValue) (e : Event) (A : Standing) (a : Script) (B : Standing) (b : Script)
-    → ((k : ℕ) → e ≡ event.Press k → ⊥) → ((k : ℕ) → e ≡ event.Release k → ⊥) → GoesBy m event.Reset A a B b
-    → GoesIfTaken m e A a B b
-no-load m event.Reset A a B b not-press not-release goes = by-taken m event.Reset A a B b goes
-no-load m event.Load A a B b not-press not-release goes =
-    λ h at. (event.Reset ∷ h, goes h at, (event.Reset ∷ [], refl), (λ none of. absurd (true≢false none)))
-no-load m (event.Press k) A a B b not-press not-release goes = absurd (not-press k refl)
-no-load m (event.Release k) A a B b not-press not-release goes = absurd (not-release k refl)
+pub no-load : {T : Type 0} (s : Standing T) (m : MapValue) (e : Event) (a b : Script T)
+    → ((k : ℕ) → e ≡ event.Press k → ⊥) → ((k : ℕ) → e ≡ event.Release k → ⊥) → GoesBy m event.Reset s a b
+    → GoesAlong m (e ∷ []) s a b
+no-load s m event.Reset a b not-press not-release goes = by-taken s m event.Reset a b goes
+no-load s m event.Load a b not-press not-release goes =
+    λ h at. (event.Reset ∷ h, goes h at, (event.Reset ∷ [], refl), (λ taken. absurd (true≢false taken.0)))
+no-load s m (event.Press k) a b not-press not-release goes = absurd (not-press k refl)
+no-load s m (event.Release k) a b not-press not-release goes = absurd (not-release k refl)
 
 -- a reset comes to rest
-pub to-rest : (m : MapValue) (A : Standing) (a : Script) (B : Standing) (b : Script) → GoesBy m event.Reset A a B b
-    → GoesToRest m A a B b
-to-rest m A a B b goes h at = (event.Reset ∷ h, goes h at, reset-turns_none m h, at-rest m h)
+pub to-rest : {T : Type 0} (s : Standing T) (m : MapValue) (a b : Script T) → GoesBy m event.Reset s a b
+    → GoesToRest m s a b
+to-rest s m a b goes h at = (event.Reset ∷ h, goes h at, reset-turns_none m h, at-rest m h)
 
 -- a further release behind some events
-pub on-more : (m : MapValue) (k : ℕ) (A : Standing) (a : Script) (B : Standing) (b : Script) (C : Standing) (c : Script)
-    → GoesOn m A a B b → GoesUp m k B b C c → GoesOn m A a C c
-on-more m k A a B b C c first last h at =
+pub on-more : {T : Type 0} (s : Standing T) (m : MapValue) (k : ℕ) (a b c : Script T) → GoesOn m s a b
+    → GoesUp m k s b c → GoesOn m s a c
+on-more s m k a b c first last h at =
     let (g, run, turns) = first h at in
     let (f, end, more, exact) = last g run in
     (f, end, turns-more m h g f turns more)
@@ -74,11 +74,10 @@ pub up-more : (old now : List Bool) (n k : ℕ) → k ≡ n → slice_index_or n
 up-more old now n k is up others below j lt = grind (arith, eqb-true, eq-eqb)
 
 -- the events that were delivered one by one
-pub along-more : (m : MapValue) (events : List Event) (i : ℕ) (e : Event) (A : Standing) (a : Script) (B : Standing)
-    (b : Script) (C : Standing) (c : Script) → i < length events → e ≡ get_or events i e
-    → GoesAlong m (reverse (take i events)) A a B b → GoesIfTaken m e B b C c
-    → GoesAlong m (reverse (take (i + 1) events)) A a C c
-along-more m events i e A a B b C c lt is first last h at =
+pub along-more : {T : Type 0} (s : Standing T) (m : MapValue) (events : List Event) (i : ℕ) (e : Event)
+    (a b c : Script T) → i < length events → e ≡ get_or events i e → GoesAlong m (reverse (take i events)) s a b
+    → GoesAlong m (e ∷ []) s b c → GoesAlong m (reverse (take (i + 1) events)) s a c
+along-more s m events i e a b c lt is first last h at =
     let later : List Event = reverse (take i events) in
     let next : reverse (take (i + 1) events) ≡ e ∷ later =
     ap reverse (take_more events i e lt) ∙ ap (λ x. reverse (take i events ++ x ∷ [])) (sym is)
@@ -91,15 +90,14 @@ along-more m events i e A a B b C c lt is first last h at =
       (λ taken.
           let (none, of, others) : AreTaken h (e ∷ later) = subst (λ z. AreTaken h z) next taken in
           let here : g ≡ later ++ h = same others in
-          exact none (subst (λ z. IsOfPressedKey e z) (sym here) of)
+          exact (none, subst (λ z. IsOfPressedKey e z) (sym here) of, tt)
           ∙ ap (λ z. e ∷ z) here ∙ ap (λ z. z ++ h) (sym next)),
     )
 
 -- a walk along events, some more, and to rest
-pub along-rest : (m : MapValue) (later : List Event) (A : Standing) (a : Script) (B : Standing) (b : Script)
-    (C : Standing) (c : Script) (D : Standing) (d : Script) → GoesAlong m later A a B b → GoesOn m B b C c
-    → GoesToRest m C c D d → GoesAlongToRest m later A a D d
-along-rest m later A a B b C c D d first then last h at =
+pub along-rest : {T : Type 0} (s : Standing T) (m : MapValue) (later : List Event) (a b c d : Script T)
+    → GoesAlong m later s a b → GoesOn m s b c → GoesToRest m s c d → GoesAlongToRest m later s a d
+along-rest s m later a b c d first then last h at =
     let (g, run, before, same) = first h at in
     let (f, go, turns) = then g run in
     let (k, end, more, rest) = last f go in

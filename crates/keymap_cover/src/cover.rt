@@ -5,7 +5,7 @@ ghost use Rattle.console_core.specs.History.{between};
 ghost use Rattle.console_states.specs.Sights.{AreSightsOf, IsReachable};
 ghost use Rattle.console_scripts.specs.Visiting.{CanVisit};
 ghost use Rattle.keymap_cover.specs.Covering.{IsCover};
-ghost use Rattle.keymap_cover.specs.Inner.Scripts.{EndsAtRest, GoesFurther, GoesUnderWay, IsExplorerFor};
+ghost use Rattle.keymap_cover.specs.Inner.Scripts.{EndsAtRest, GoesScrollOff, GoesUnderWay, IsExplorerFor};
 ghost use Rattle.keymap_cover.specs.Inner.Scripts.{SeesAll, ShowsInParts, ShowsTold};
 ghost use Rattle.keymap_cover.specs.SeenSights.{has_seen};
 ghost use Rattle.std.specs.List.{Contains};
@@ -64,36 +64,31 @@ fn new_keys(
 }
 
 /// Goes where a press sees what the explorer aims at.
-fn show<T: Translator>(
-    alloc: Global,
+fn show<T: Translator + Drop>(
     explorer: &mut Explorer,
-    script: &mut Script,
-    console: &mut T,
+    script: &mut Script<T>,
     map: &KeyMap,
 ) -> Result<(), AllocError>
-    ensures { OnOk result (GoesUnderWay map.now (T.stands console.old) explorer.old script.old (T.stands console.new)
-        explorer.new script.new ((x : SightValue) → explorer.old.aim ≡ Some x → IsReachable map.now x
-        → has_seen script.new.seen x ≡ true)) }
+    ensures { OnOk result (GoesUnderWay map.now T.stands explorer.old script.old explorer.new script.new
+        ((x : SightValue) → explorer.old.aim ≡ Some x → IsReachable map.now x → has_seen script.new.seen x ≡ true)) }
 {
-    let keys = new_keys(alloc, explorer, &script.seen, map)?;
-    let events = explorer.visit(alloc, &keys)?;
-    script.walk(console, map, &events)?;
+    let keys = new_keys(script.alloc, explorer, &script.seen, map)?;
+    let events = explorer.visit(script.alloc, &keys)?;
+    script.walk(map, &events)?;
     Ok(())
 }
 
 /// Goes where a press sees it, if it is left out and the explorer finds such a press.
-fn show_left_out<T: Translator>(
-    alloc: Global,
+fn show_left_out<T: Translator + Drop>(
     explorer: &mut Explorer,
-    script: &mut Script,
-    console: &mut T,
+    script: &mut Script<T>,
     map: &KeyMap,
     sights: &Sights,
     sight: Sight,
 ) -> Result<(), AllocError>
     requires { AreSightsOf map.now sights.now }
-    ensures { OnOk result (GoesUnderWay map.now (T.stands console.old) explorer.old script.old (T.stands console.new)
-        explorer.new script.new (CanVisit map.now sight → has_seen script.new.seen sight ≡ true)) }
+    ensures { OnOk result (GoesUnderWay map.now T.stands explorer.old script.old explorer.new script.new
+        (CanVisit map.now sight → has_seen script.new.seen sight ≡ true)) }
 {
     if !is_left_out(&script.seen, sights, map, sight) {
         return Ok(());
@@ -101,35 +96,32 @@ fn show_left_out<T: Translator>(
     if !explorer.aim_at(sight) {
         return Ok(());
     }
-    show(alloc, explorer, script, console, map)?;
+    show(explorer, script, map)?;
     Ok(())
 }
 
 /// Goes where presses see what is left out of these.
-fn show_all<T: Translator>(
-    alloc: Global,
+fn show_all<T: Translator + Drop>(
     explorer: &mut Explorer,
-    script: &mut Script,
-    console: &mut T,
+    script: &mut Script<T>,
     map: &KeyMap,
     sights: &Sights,
     told: &[Sight],
 ) -> Result<(), AllocError>
     requires { AreSightsOf map.now sights.now }
-    ensures { OnOk result (GoesUnderWay map.now (T.stands console.old) explorer.old script.old (T.stands console.new)
-        explorer.new script.new (SeesAll map.now told.now script.new)) }
+    ensures { OnOk result (GoesUnderWay map.now T.stands explorer.old script.old explorer.new script.new
+        (SeesAll map.now told.now script.new)) }
 {
     for sight in told {
-        show_left_out(alloc, explorer, script, console, map, sights, *sight)?;
+        show_left_out(explorer, script, map, sights, *sight)?;
     }
     Ok(())
 }
 
 /// Adds that the part begins there, unless it ends there.
 fn begin(starts: &mut Vec<Start>, part: Part, at: usize, end: usize) -> Result<(), AllocError>
-    requires below { ArePartsBelow (part_place part) starts.old.items at }
-    requires order { at ≤ end }
-    ensures below { OnOk result (ArePartsBelow (part_place part + 1) starts.new.items end) }
+    ensures below { OnOk result (ArePartsBelow (part_place part) starts.old.items at → at ≤ end
+        → ArePartsBelow (part_place part + 1) starts.new.items end) }
     ensures added { OnOk result ((s : StartValue) → Contains starts.new.items s
         → Contains starts.old.items s ⊎ ((s.part ≡ part) × (s.at ≡ at))) }
 {
@@ -147,11 +139,10 @@ fn starts_of(
     third: usize,
     last: usize,
 ) -> Result<Vec<Start>, AllocError>
-    requires first { first ≤ second }
-    requires second { second ≤ third }
-    requires third { third ≤ last }
-    ensures parts { IfOk result (λ starts. AreParts starts.items last) }
-    ensures behind { IfOk result (λ starts. StandBehind starts.items first second) }
+    ensures parts { IfOk result (λ starts. first ≤ second → second ≤ third → third ≤ last
+        → AreParts starts.items last) }
+    ensures behind { IfOk result (λ starts. first ≤ second → second ≤ third
+        → StandBehind starts.items first second) }
 {
     let mut starts = Vec::new(alloc);
     begin(&mut starts, Part::Cells, 0, first)?;
@@ -162,63 +153,59 @@ fn starts_of(
 }
 
 /// Goes where presses see cells and lock settings, and then pairs. Answers how many events there were between.
-fn show_told<T: Translator>(
-    alloc: Global,
+fn show_told<T: Translator + Drop>(
     explorer: &mut Explorer,
-    script: &mut Script,
-    console: &mut T,
+    script: &mut Script<T>,
     map: &KeyMap,
     sights: &Sights,
 ) -> Result<usize, AllocError>
     requires { AreSightsOf map.now sights.now }
-    ensures { IfOk result (λ first. GoesUnderWay map.now (T.stands console.old) explorer.old script.old
-        (T.stands console.new) explorer.new script.new (ShowsTold map.now first script.new)) }
+    ensures { IfOk result (λ first. GoesUnderWay map.now T.stands explorer.old script.old explorer.new script.new
+        (ShowsTold map.now first script.new)) }
 {
-    let keys = told_of_keys(alloc)?;
-    show_all(alloc, explorer, script, console, map, sights, &keys)?;
+    let keys = told_of_keys(script.alloc)?;
+    show_all(explorer, script, map, sights, &keys)?;
     let first = script.events.len();
-    let pairs = told_pairs(alloc, map)?;
-    show_all(alloc, explorer, script, console, map, sights, &pairs)?;
+    let pairs = told_pairs(script.alloc, map)?;
+    show_all(explorer, script, map, sights, &pairs)?;
     Ok(first)
 }
 
 /// Goes home, makes the trials, and turns the scroll lock off.
-fn try_keys<T: Translator>(
-    alloc: Global,
+fn try_keys<T: Translator + Drop>(
     explorer: &Explorer,
-    script: &mut Script,
-    console: &mut T,
+    script: &mut Script<T>,
     map: &KeyMap,
 ) -> Result<(), AllocError>
-    ensures { OnOk result (GoesFurther map.now (T.stands console.old) script.old (T.stands console.new) script.new) }
+    ensures { OnOk result (GoesScrollOff map.now T.stands script.old script.new) }
 {
-    let home = explorer.events_home(alloc, &*console)?;
-    script.walk(console, map, &home)?;
-    let trials = trial_events(alloc, map, explorer)?;
-    script.walk(console, map, &trials)?;
-    turn_scroll_off(alloc, script, console, map)
+    let home = explorer.events_home(script.alloc, &script.console)?;
+    script.walk(map, &home)?;
+    let trials = trial_events(script.alloc, map, explorer)?;
+    script.walk(map, &trials)?;
+    turn_scroll_off(script, map)
 }
 
 /// The script, and where its parts begin.
-fn script_of<T: Translator>(
+fn script_of<T: Translator + Drop>(
     alloc: Global,
     explorer: &mut Explorer,
-    console: &mut T,
+    console: T,
     map: &KeyMap,
     sights: &Sights,
-) -> Result<(Script, Vec<Start>), AllocError>
-    requires new { T.stands console.old (between map.now map.now) [] }
+) -> Result<(Script<T>, Vec<Start>), AllocError>
+    requires new { T.stands console (between map.now map.now) [] }
     requires explorer { IsExplorerFor map.now explorer.old }
     requires sights { AreSightsOf map.now sights.now }
     ensures { IfOk result (λ t. EndsAtRest map.now t.0 × ShowsInParts map.now t.0.events.items t.1.items
         × AreParts t.1.items (length t.0.events.items)) }
 {
-    let mut script = Script::new(alloc)?;
-    let first = show_told(alloc, explorer, &mut script, console, map, sights)?;
+    let mut script = Script::new(alloc, console)?;
+    let first = show_told(explorer, &mut script, map, sights)?;
     let second = script.events.len();
-    try_keys(alloc, explorer, &mut script, console, map)?;
+    try_keys(explorer, &mut script, map)?;
     let third = script.events.len();
-    go_onward(alloc, &mut script, console, map, sights)?;
+    go_onward(&mut script, map, sights)?;
     let starts = starts_of(alloc, first, second, third, script.events.len())?;
     Ok((script, starts))
 }
@@ -231,8 +218,8 @@ pub fn cover_of(alloc: Global, map: &KeyMap) -> Result<Option<Cover>, AllocError
         return Ok(None);
     };
     let sights = explorer.sights(alloc)?;
-    let mut console = PlainConsole::new(map);
-    let (script, starts) = script_of(alloc, &mut explorer, &mut console, map, &sights)?;
+    let console = PlainConsole::new(map);
+    let (script, starts) = script_of(alloc, &mut explorer, console, map, &sights)?;
     Ok(Some(Cover {
         events: script.events,
         starts,

@@ -20,7 +20,6 @@ mod cover;
 mod idle_keys;
 mod kind;
 pub mod laws;
-mod marks;
 mod one_way;
 mod parts;
 mod probes;
@@ -32,7 +31,6 @@ mod sight_lists;
 mod told;
 mod trials;
 mod tried;
-mod walk;
 
 pub use cover::cover_of;
 pub use parts::{Counts, Cover, Part, Start, Verdict};

@@ -64,57 +64,51 @@ fn unseen(alloc: Global, seen: &Seen, sights: &[Sight]) -> Result<Vec<Sight>, Al
 }
 
 /// Goes where a press sees one of these, and tells whether there is such a press.
-fn show_onward<T: Translator>(
-    alloc: Global,
-    script: &mut Script,
-    console: &mut T,
+fn show_onward<T: Translator + Drop>(
+    script: &mut Script<T>,
     map: &KeyMap,
     left: &[Sight],
 ) -> Result<bool, AllocError>
-    ensures { OnOk result (GoesResting map.now (T.stands console.old) script.old (T.stands console.new) script.new) }
+    ensures { OnOk result (GoesResting map.now T.stands script.old script.new) }
 {
     if left.is_empty() {
         return Ok(false);
     }
-    let Some(onward) = find_onward(alloc, map, &*console, left)? else {
+    let Some(onward) = find_onward(script.alloc, map, &script.console, left)? else {
         return Ok(false);
     };
-    let events = events_onward(alloc, map, &script.seen, &onward)?;
-    script.walk(console, map, &events)?;
+    let events = events_onward(script.alloc, map, &script.seen, &onward)?;
+    script.walk(map, &events)?;
     Ok(true)
 }
 
 /// Goes where presses see what is left out of the cells and lock settings, by turns that can't be taken back. Each time
 /// something more of it is seen, until nothing of it can be seen from where the console stands.
-fn show_all_onward<T: Translator>(
-    alloc: Global,
-    script: &mut Script,
-    console: &mut T,
+fn show_all_onward<T: Translator + Drop>(
+    script: &mut Script<T>,
     map: &KeyMap,
     sights: &Sights,
 ) -> Result<(), AllocError>
-    ensures { OnOk result (GoesResting map.now (T.stands console.old) script.old (T.stands console.new) script.new) }
+    ensures { OnOk result (GoesResting map.now T.stands script.old script.new) }
 {
-    let mut left = left_out(alloc, &script.seen, sights, map)?;
+    let mut left = left_out(script.alloc, &script.seen, sights, map)?;
     for _ in 0..left.len() {
-        if !show_onward(alloc, script, console, map, &left)? {
+        if !show_onward(script, map, &left)? {
             return Ok(());
         }
-        left = unseen(alloc, &script.seen, &left)?;
+        left = unseen(script.alloc, &script.seen, &left)?;
     }
     Ok(())
 }
 
 /// Goes onward, and turns the scroll lock off.
-pub(crate) fn go_onward<T: Translator>(
-    alloc: Global,
-    script: &mut Script,
-    console: &mut T,
+pub(crate) fn go_onward<T: Translator + Drop>(
+    script: &mut Script<T>,
     map: &KeyMap,
     sights: &Sights,
 ) -> Result<(), AllocError>
-    ensures { OnOk result (GoesScrollOff map.now (T.stands console.old) script.old (T.stands console.new) script.new) }
+    ensures { OnOk result (GoesScrollOff map.now T.stands script.old script.new) }
 {
-    show_all_onward(alloc, script, console, map, sights)?;
-    turn_scroll_off(alloc, script, console, map)
+    show_all_onward(script, map, sights)?;
+    turn_scroll_off(script, map)
 }

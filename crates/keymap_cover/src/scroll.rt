@@ -6,22 +6,20 @@ use crate::script::Script;
 use console_core::Translator;
 use console_scripts::scroll_off;
 use keymap_core::{KeyMap, Lock};
-use std::alloc::{AllocError, Global};
+use std::alloc::AllocError;
 
 /// Turns the scroll lock off, if it is on and presses can do that.
-pub(crate) fn turn_scroll_off<T: Translator>(
-    alloc: Global,
-    script: &mut Script,
-    console: &mut T,
+pub(crate) fn turn_scroll_off<T: Translator + Drop>(
+    script: &mut Script<T>,
     map: &KeyMap,
 ) -> Result<(), AllocError>
-    ensures { OnOk result (GoesScrollOff map.now (T.stands console.old) script.old (T.stands console.new) script.new) }
+    ensures { OnOk result (GoesScrollOff map.now T.stands script.old script.new) }
 {
-    if !console.locked(Lock::Scroll) {
+    if !script.console.locked(Lock::Scroll) {
         return Ok(());
     }
-    if let Some(events) = scroll_off(alloc, map, &*console)? {
-        script.walk(console, map, &events)?;
+    if let Some(events) = scroll_off(script.alloc, map, &script.console)? {
+        script.walk(map, &events)?;
     }
     Ok(())
 }

@@ -4,3 +4,4 @@ pub mod Delivered
 pub mod Numbers
 pub mod Said
 pub mod Faulty
+pub mod Numbered

@@ -1,4 +1,4 @@
--- A script while it is made. Mirrors src/marks.rt, src/walk.rt and src/cover.rt.
+-- A script while it is made. Mirrors src/seen.rt, src/script.rt and src/cover.rt.
 use Rattle.std.specs.Prelude.{◌≡◌, ◌⊎◌, ℕ, ◌<◌, ◌≤◌, Bool, true, false, List, [], ◌∷◌, ◌++◌, Option, Some, reverse}
 use Rattle.std.specs.Prelude.{length}
 use Rattle.std.specs.Prelude.{slice_index_or}
@@ -12,10 +12,9 @@ use Rattle.console_states.specs.declared.selection.Sight.{Sight}
 use Rattle.keymap_core.specs.declared.entry.Cell.TheVariants.{Char}
 use Rattle.console_states.specs.declared.selection.Selection.{Selection}
 use Rattle.console_states.specs.declared.selection.Sight.TheVariants as sight
-use Rattle.console_core.specs.History.{Maps, between, is_locked_after, pressed, HasKeys, IsNoLoad}
+use Rattle.console_core.specs.History.{Maps, between, is_locked_after, pressed, HasKeys}
 use Rattle.console_scripts.specs.Visiting.{AreTaken, CanVisit, HasLocks, ExplorerValue}
 use Rattle.console_states.specs.Sights.{look_selected, SeesNext, SeesAlong}
-use Rattle.console_states.specs.Sticking.{IsOfPressedKey}
 use Rattle.keymap_cover.specs.declared.script_event.ScriptEvent.{ScriptEvent}
 use Rattle.keymap_cover.specs.declared.script.Script.{Script}
 use Rattle.keymap_cover.specs.ScriptEvents.{events_of, is_down, ArePossible}
@@ -56,30 +55,24 @@ pub record IsScript (m : MapValue) (h : List Event) (events : List ScriptEvent) 
   pub seen : (x : Sight) → saw x ≡ true → SeesAlong m h x
   pub all_seen : (x : Sight) → SeesAlong m h x → saw x ≡ true
 
-abbrev pub IsScriptOf : MapValue → List Event → Script → Type 0
+abbrev pub IsScriptOf : {T : Type 0} → MapValue → List Event → Script T → Type 0
 IsScriptOf m h t = IsScript m h t.events.items t.pressed (has_seen t.seen)
 
 -- how a console stands, under two keymaps, at a list
-abbrev pub Standing : Type 1
-Standing = Maps → List Event → Type 0
+abbrev pub Standing : Type 0 → Type 1
+Standing T = T → Maps → List Event → Type 0
 
--- a console that stands so runs along the script, which made this list
-abbrev pub RunsAlong : MapValue → Standing → List Event → Script → Type 0
-RunsAlong m stands h t = stands (between m m) h × IsScriptOf m h t
+-- the console of the script runs along, and this list was made
+abbrev pub RunsAlong : {T : Type 0} → MapValue → Standing T → List Event → Script T → Type 0
+RunsAlong m stands h t = stands t.console (between m m) h × IsScriptOf m h t
 
 -- the events of the one list came after the other
 abbrev pub ComesAfter : List Event → List Event → Type 0
 ComesAfter h g = (later : List Event) × (g ≡ later ++ h)
 
 -- the console runs along by one event more
-abbrev pub GoesBy : MapValue → Event → Standing → Script → Standing → Script → Type 0
-GoesBy m e stood before stands t = (h : List Event) → RunsAlong m stood h before → RunsAlong m stands (e ∷ h) t
-
--- The console runs along by an event, or not at all where that is a release of a key that isn't pressed, or a load.
-abbrev pub GoesIfTaken : MapValue → Event → Standing → Script → Standing → Script → Type 0
-GoesIfTaken m e stood before stands t =
-    (h : List Event) → RunsAlong m stood h before
-    → (g : List Event) × RunsAlong m stands g t × ComesAfter h g × (IsNoLoad e → IsOfPressedKey e h → g ≡ e ∷ h)
+abbrev pub GoesBy : {T : Type 0} → MapValue → Event → Standing T → Script T → Script T → Type 0
+GoesBy m e stands a b = (h : List Event) → RunsAlong m stands h a → RunsAlong m stands (e ∷ h) b
 
 -- the events of the one list came after the other, and turned no lock
 abbrev pub TurnsNone : MapValue → List Event → List Event → Type 0
@@ -87,84 +80,74 @@ TurnsNone m h g =
     ComesAfter h g × ((l : Lock) → is_locked_after (between m m) l g ≡ is_locked_after (between m m) l h)
 
 -- the console runs along by the release of the key, or not at all where that isn't pressed
-abbrev pub GoesUp : MapValue → ℕ → Standing → Script → Standing → Script → Type 0
-GoesUp m k stood before stands t =
-    (h : List Event) → RunsAlong m stood h before
-    → (g : List Event) × RunsAlong m stands g t × TurnsNone m h g × (pressed k h ≡ true → g ≡ Release k ∷ h)
+abbrev pub GoesUp : {T : Type 0} → MapValue → ℕ → Standing T → Script T → Script T → Type 0
+GoesUp m k stands a b =
+    (h : List Event) → RunsAlong m stands h a
+    → (g : List Event) × RunsAlong m stands g b × TurnsNone m h g × (pressed k h ≡ true → g ≡ Release k ∷ h)
 
 -- the console runs along by some events more, that turn no lock
-abbrev pub GoesOn : MapValue → Standing → Script → Standing → Script → Type 0
-GoesOn m stood before stands t =
-    (h : List Event) → RunsAlong m stood h before → (g : List Event) × RunsAlong m stands g t × TurnsNone m h g
+abbrev pub GoesOn : {T : Type 0} → MapValue → Standing T → Script T → Script T → Type 0
+GoesOn m stands a b =
+    (h : List Event) → RunsAlong m stands h a → (g : List Event) × RunsAlong m stands g b × TurnsNone m h g
 
 -- the console runs along by some events more, that turn no lock, and comes to rest
-abbrev pub GoesToRest : MapValue → Standing → Script → Standing → Script → Type 0
-GoesToRest m stood before stands t =
-    (h : List Event) → RunsAlong m stood h before
-    → (g : List Event) × RunsAlong m stands g t × TurnsNone m h g × IsAtRest m g
+abbrev pub GoesToRest : {T : Type 0} → MapValue → Standing T → Script T → Script T → Type 0
+GoesToRest m stands a b =
+    (h : List Event) → RunsAlong m stands h a
+    → (g : List Event) × RunsAlong m stands g b × TurnsNone m h g × IsAtRest m g
 
 -- the console runs along by some events more, which are exactly these if they are taken
-abbrev pub GoesAlong : MapValue → List Event → Standing → Script → Standing → Script → Type 0
-GoesAlong m later stood before stands t =
-    (h : List Event) → RunsAlong m stood h before
-    → (g : List Event) × RunsAlong m stands g t × ComesAfter h g × (AreTaken h later → g ≡ later ++ h)
+abbrev pub GoesAlong : {T : Type 0} → MapValue → List Event → Standing T → Script T → Script T → Type 0
+GoesAlong m later stands a b =
+    (h : List Event) → RunsAlong m stands h a
+    → (g : List Event) × RunsAlong m stands g b × ComesAfter h g × (AreTaken h later → g ≡ later ++ h)
 
 -- the console runs along by these events, as above, and comes to rest by some more, that turn no lock
-abbrev pub GoesAlongToRest : MapValue → List Event → Standing → Script → Standing → Script → Type 0
-GoesAlongToRest m later stood before stands t =
-    (h : List Event) → RunsAlong m stood h before
-    → (g : List Event) × RunsAlong m stands g t × IsAtRest m g × ComesAfter h g
+abbrev pub GoesAlongToRest : {T : Type 0} → MapValue → List Event → Standing T → Script T → Script T → Type 0
+GoesAlongToRest m later stands a b =
+    (h : List Event) → RunsAlong m stands h a
+    → (g : List Event) × RunsAlong m stands g b × IsAtRest m g × ComesAfter h g
     × (AreTaken h later → TurnsNone m (later ++ h) g)
 
 abbrev pub AreUp : List Bool → Type 0
 AreUp down = (k : ℕ) → k < key_count → slice_index_or down k false ≡ false
 
 -- the console runs along a script that is at rest with no key down
-abbrev pub IsResting : MapValue → Standing → Script → List Event → Type 0
-IsResting m stands t h = RunsAlong m stands h t × AreUp t.pressed × IsAtRest m h
-
--- the console runs along by some events more, until it is at rest
-abbrev pub GoesFurther : MapValue → Standing → Script → Standing → Script → Type 0
-GoesFurther m stood before stands t =
-    (h : List Event) → RunsAlong m stood h before → (g : List Event) × IsResting m stands t g × ComesAfter h g
+abbrev pub IsResting : {T : Type 0} → MapValue → Standing T → List Event → Script T → Type 0
+IsResting m stands h t = RunsAlong m stands h t × AreUp t.pressed × IsAtRest m h
 
 -- the console goes on at rest by some events more
-abbrev pub GoesResting : MapValue → Standing → Script → Standing → Script → Type 0
-GoesResting m stood before stands t =
-    (h : List Event) → IsResting m stood before h → (g : List Event) × IsResting m stands t g × ComesAfter h g
+abbrev pub GoesResting : {T : Type 0} → MapValue → Standing T → Script T → Script T → Type 0
+GoesResting m stands a b =
+    (h : List Event) → IsResting m stands h a → (g : List Event) × IsResting m stands g b × ComesAfter h g
 
 -- and the scroll lock is off, or presses can't turn it off
-abbrev pub GoesScrollOff : MapValue → Standing → Script → Standing → Script → Type 0
-GoesScrollOff m stood before stands t =
-    (h : List Event) → IsResting m stood before h
-    → (g : List Event) × IsResting m stands t g × ComesAfter h g × IsScrollOff m g
+abbrev pub GoesScrollOff : {T : Type 0} → MapValue → Standing T → Script T → Script T → Type 0
+GoesScrollOff m stands a b =
+    (h : List Event) → IsResting m stands h a
+    → (g : List Event) × IsResting m stands g b × ComesAfter h g × IsScrollOff m g
 
 -- The console runs along a script that is at rest with no key down, and the explorer's locks are on.
-pub record IsUnderWay (m : MapValue) (stands : Standing) (p : ExplorerValue) (t : Script) (h : List Event)
-    : Type 0 where
-  pub runs : RunsAlong m stands h t
-  pub up : AreUp t.pressed
-  pub rest : IsAtRest m h
-  pub map : p.map ≡ m
-  pub locks : HasLocks m p.locks h
+abbrev pub IsUnderWay : {T : Type 0} → MapValue → Standing T → List Event → ExplorerValue → Script T → Type 0
+IsUnderWay m stands h p t = IsResting m stands h t × (p.map ≡ m) × HasLocks m p.locks h
 
 -- the console goes on under way by some events more, and then this holds
-abbrev pub GoesUnderWay : MapValue → Standing → ExplorerValue → Script → Standing → ExplorerValue → Script → Type 0
-    → Type 0
-GoesUnderWay m stood p before stands q t P =
-    (h : List Event) → IsUnderWay m stood p before h
-    → (g : List Event) × IsUnderWay m stands q t g × ComesAfter h g × P
+abbrev pub GoesUnderWay : {T : Type 0} → MapValue → Standing T → ExplorerValue → Script T → ExplorerValue → Script T
+    → Type 0 → Type 0
+GoesUnderWay m stands p a q b P =
+    (h : List Event) → IsUnderWay m stands h p a
+    → (g : List Event) × IsUnderWay m stands g q b × ComesAfter h g × P
 
 -- a script of which no key is down at the end, which is at rest, and which leaves the scroll lock off if presses can
-abbrev pub EndsAtRest : MapValue → Script → Type 0
+abbrev pub EndsAtRest : {T : Type 0} → MapValue → Script T → Type 0
 EndsAtRest m t = AreUp t.pressed × ((h : List Event) × IsScriptOf m h t × IsAtRest m h × IsScrollOff m h)
 
 -- what of these can be visited was seen
-abbrev pub SeesAll : MapValue → List Sight → Script → Type 0
+abbrev pub SeesAll : {T : Type 0} → MapValue → List Sight → Script T → Type 0
 SeesAll m xs t = (x : Sight) → Contains xs x → CanVisit m x → has_seen t.seen x ≡ true
 
 -- a script saw in its first n events what of the keys can be visited, and in all of them what of all that is told of
-abbrev pub ShowsTold : MapValue → ℕ → Script → Type 0
+abbrev pub ShowsTold : {T : Type 0} → MapValue → ℕ → Script T → Type 0
 ShowsTold m n t =
     (n ≤ length t.events.items) × SeesKeysBy m t.events.items n
     × SeesToldBy m t.events.items (length t.events.items)

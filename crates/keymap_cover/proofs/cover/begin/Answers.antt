@@ -5,8 +5,9 @@ use Rattle.keymap_cover.proofs.cover.begin.Goals as goal
 
 pub returns-in_ok-push-clause-below : goal.returns-in_ok-push-clause-below
 returns-in_ok-push-clause-below c =
+    λ below order.
     parts-more (part_place c.args.part) c.args.starts.now.items c.push.new.self.items _ c.args.at c.args.end refl
-    c.requires.below c.in_ok-push.ensures.items refl c.if-at-end.true
+    below c.in_ok-push.ensures.items refl c.if-at-end.true
 
 pub returns-in_ok-push-clause-added : goal.returns-in_ok-push-clause-added
 returns-in_ok-push-clause-added c =

@@ -5,10 +5,9 @@ use Rattle.keymap_cover.proofs.cover.show.Goals as goal
 pub returns : goal.returns
 returns g c =
     let m = c.args.map.now in
-    let A = g.T.Translator.stands c.args.console.now in
-    let B = g.T.Translator.stands c.walk.new.console in
-    visit-goes m A c.args.explorer.now c.args.script.now B c.visit.new.self c.walk.new.self
+    let s = g.T.Translator.stands in
+    visit-goes s m c.args.explorer.now c.args.script.now c.visit.new.self c.walk.new.self
     (reverse c.in_ok-events.events.items) c.in_ok-events.ensures.kept c.in_ok-events.ensures.visits
-    (subst (λ xs. GoesAlongToRest m (reverse xs) A c.args.script.now B c.walk.new.self) c.deref-2.ensures.value
+    (subst (λ xs. GoesAlongToRest m (reverse xs) s c.args.script.now c.walk.new.self) c.deref-2.ensures.value
     c.in_ok-walk.ensures.along)
     c.in_ok-walk.ensures.up

@@ -7,11 +7,9 @@ loop-sight-init g c = search (rules, stays-so)
 
 pub loop-sight-preserved : goal.loop-sight-preserved
 loop-sight-preserved g c =
-    all-more c.args.map.now (g.T.Translator.stands c.args.console.now) c.args.explorer.now c.args.script.now
-    (g.T.Translator.stands c.loop-sight.console) c.loop-sight.explorer c.loop-sight.script
-    (g.T.Translator.stands c.show_left_out.new.console) c.show_left_out.new.explorer c.show_left_out.new.script
-    c.args.told.now c.loop-sight.sight-index _ c.loop-sight-test.true c.loop-sight.invariant
-    c.in_ok-show_left_out.ensures
+    all-more g.T.Translator.stands c.args.map.now c.args.explorer.now c.args.script.now c.loop-sight.explorer
+    c.loop-sight.script c.show_left_out.new.explorer c.show_left_out.new.script c.args.told.now
+    c.loop-sight.sight-index _ c.loop-sight-test.true c.loop-sight.invariant c.in_ok-show_left_out.ensures
 
 pub returns : goal.returns
 returns g c =

@@ -5,6 +5,5 @@ use Rattle.keymap_cover.proofs.cover.show_all.Given as goal
 
 abbrev pub invariant-loop-sight : goal.invariant-loop-sight
 invariant-loop-sight g l =
-    GoesUnderWay l.map (g.T.Translator.stands l.fn.console) l.fn.explorer l.fn.script (g.T.Translator.stands l.console)
-    l.explorer l.script ((n : ℕ) (x : Sight) → n < l.sight-index → get_or l.told n x ≡ x → CanVisit l.map x
-    → has_seen l.script.seen x ≡ true)
+    GoesUnderWay l.map g.T.Translator.stands l.fn.explorer l.fn.script l.explorer l.script ((n : ℕ) (x : Sight)
+    → n < l.sight-index → get_or l.told n x ≡ x → CanVisit l.map x → has_seen l.script.seen x ≡ true)

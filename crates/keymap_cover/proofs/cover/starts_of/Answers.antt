@@ -1,16 +1,20 @@
-use Rattle.keymap_cover.proofs.Common.{refl}
+use Rattle.keymap_cover.proofs.Common.{refl, arith}
 use Rattle.keymap_cover.proofs.Ordered.{parts-none, stand-behind}
 use Rattle.keymap_cover.proofs.cover.starts_of.Goals as goal
 
-pub begin-requires-clause-below : goal.begin-requires-clause-below
-begin-requires-clause-below c = parts-none c.new-starts.result.items 0 c.new-starts.ensures.items refl
-
 pub returns-clause-parts : goal.returns-clause-parts
-returns-clause-parts c = c.in_ok-begin-4.ensures.below.parts
+returns-clause-parts c =
+    λ one two three.
+    let none = parts-none c.new-starts.result.items 0 c.new-starts.ensures.items refl in
+    let cells = c.in_ok-begin.ensures.below none (omega arith) in
+    let pairs = c.in_ok-begin-2.ensures.below cells one in
+    let trials = c.in_ok-begin-3.ensures.below pairs two in
+    (c.in_ok-begin-4.ensures.below trials three).parts
 
 pub returns-clause-behind : goal.returns-clause-behind
 returns-clause-behind c =
+    λ one two.
     stand-behind c.new-starts.result.items c.begin.new.starts.items c.begin-2.new.starts.items
-    c.begin-3.new.starts.items c.begin-4.new.starts.items c.args.first c.args.second c.args.third c.requires.first
-    c.requires.second c.new-starts.ensures.items c.in_ok-begin.ensures.added c.in_ok-begin-2.ensures.added
+    c.begin-3.new.starts.items c.begin-4.new.starts.items c.args.first c.args.second c.args.third one two
+    c.new-starts.ensures.items c.in_ok-begin.ensures.added c.in_ok-begin-2.ensures.added
     c.in_ok-begin-3.ensures.added c.in_ok-begin-4.ensures.added

@@ -9,14 +9,14 @@ pub returns-then-not-locked : goal.returns-then-not-locked
 returns-then-not-locked g c =
     λ h w.
     let m = c.args.map.now in
-    let shown = g.met.T.Translator.locked_where_it_stands c.args.console.now (between m m) h w.0.0 Scroll in
+    let shown = g.met.T.Translator.locked_where_it_stands c.args.script.now.console (between m m) h w.0.0 Scroll in
     (h, w, ([], refl), inl (sym shown ∙ sym c.locked.ensures ∙ c.if-not-locked.true))
 
 pub returns-in_default : goal.returns-in_default
 returns-in_default g c =
     λ h w.
     let m = c.args.map.now in
-    let shown = g.met.T.Translator.locked_where_it_stands c.args.console.now (between m m) h w.0.0 Scroll in
+    let shown = g.met.T.Translator.locked_where_it_stands c.args.script.now.console (between m m) h w.0.0 Scroll in
     let told = c.in_ok-events.ensures h w.0.0 (script-loads m h c.args.script.now w.0.1)
     (sym shown ∙ sym c.locked.ensures ∙ c.if-not-locked.false) in (
       h,
@@ -30,14 +30,13 @@ pub returns-in_ok-walk : goal.returns-in_ok-walk
 returns-in_ok-walk g c =
     λ h w.
     let m = c.args.map.now in
-    let A = g.T.Translator.stands c.args.console.now in
-    let B = g.T.Translator.stands c.walk.new.console in
-    let shown = g.met.T.Translator.locked_where_it_stands c.args.console.now (between m m) h w.0.0 Scroll in
-    let told = c.in_ok-events.ensures h w.0.0 (script-loads m h c.args.script.now w.0.1)
+    let s = g.T.Translator.stands in
+    let a = c.args.script.now in
+    let shown = g.met.T.Translator.locked_where_it_stands a.console (between m m) h w.0.0 Scroll in
+    let told = c.in_ok-events.ensures h w.0.0 (script-loads m h a w.0.1)
     (sym shown ∙ sym c.locked.ensures ∙ c.if-not-locked.false) in
-    walks-off m (reverse c.in-Some.events.items) h A c.args.script.now B c.walk.new.self w.0
-    (subst (λ xs. GoesAlongToRest m (reverse xs) A c.args.script.now B c.walk.new.self) c.deref.ensures.value
-    c.in_ok-walk.ensures.along)
+    walks-off s m (reverse c.in-Some.events.items) h a c.walk.new.self w.0
+    (subst (λ xs. GoesAlongToRest m (reverse xs) s a c.walk.new.self) c.deref.ensures.value c.in_ok-walk.ensures.along)
     c.in_ok-walk.ensures.up
     (subst (λ o. MatchOption o (CannotScroll m h) (λ events. TurnsScrollOff m h (reverse events.items))) c.in-Some.is
     told)

@@ -4,8 +4,7 @@ use Rattle.keymap_cover.proofs.script.Script.reset.Goals as goal
 
 pub returns-clause-along : goal.returns-clause-along
 returns-clause-along g c =
-    λ h (stands, t).
-    let m = c.args.map.now in
+    λ m h (stands, t).
     let old = c.args.self.now in (
       c.step.ensures.next _ h stands,
       script-reset m h old.events.items c.push.new.self.items old.pressed (has_seen old.seen)

@@ -7,8 +7,7 @@ use Rattle.keymap_cover.proofs.script.Script.up.Goals as goal
 
 pub returns-in_ok-push-clause-along : goal.returns-in_ok-push-clause-along
 returns-in_ok-push-clause-along g c =
-    λ h (stands, t).
-    let m = c.args.map.now in
+    λ m h (stands, t).
     let old = c.args.self.now in
     let k = c.args.key in
     let len : length old.pressed ≡ 128 = old.pressed_len in
@@ -30,12 +29,12 @@ returns-in_ok-push-clause-along g c =
 
 pub returns-else-is_pressed-clause-along : goal.returns-else-is_pressed-clause-along
 returns-else-is_pressed-clause-along g c =
-    λ h (stands, t).
+    λ m h (stands, t).
     let old = c.args.self.now in (
       h,
       (stands, t),
       (([], refl), (λ l. refl)),
       (λ of.
-          absurd (up-not c.args.map.now h old.events.items old.pressed (has_seen old.seen) c.args.key t
+          absurd (up-not m h old.events.items old.pressed (has_seen old.seen) c.args.key t
           c.is_pressed.ensures.in_range (sym c.is_pressed.ensures.value ∙ c.if-is_pressed.false) of)),
     )

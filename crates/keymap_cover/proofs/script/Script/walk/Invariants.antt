@@ -4,5 +4,4 @@ use Rattle.keymap_cover.proofs.script.Script.walk.Given as goal
 
 abbrev pub invariant-loop-event : goal.invariant-loop-event
 invariant-loop-event g l =
-    GoesAlong l.map (reverse (take l.event-index l.events)) (g.T.Translator.stands l.fn.console) l.fn.self
-    (g.T.Translator.stands l.console) l.self
+    GoesAlong l.map (reverse (take l.event-index l.events)) g.T.Translator.stands l.fn.self l.self

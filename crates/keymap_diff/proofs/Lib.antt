@@ -1,4 +1,13 @@
-pub mod Pushing
-pub mod Marks
+pub mod Alike
+pub mod Apart
 pub mod Bases
+pub mod BothWays
+pub mod Clearing
+pub mod Common
+pub mod Ending
+pub mod Marks
+pub mod Offers
+pub mod Pushing
+pub mod Reached
 pub mod Same
+pub mod Unlike

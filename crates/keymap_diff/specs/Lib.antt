@@ -1,3 +1,4 @@
 pub mod Changes
 pub mod Inner
+pub mod Telling
 pub mod Types

@@ -158,7 +158,7 @@ fn agree(pairs: &[(char, char)], old: &[(char, char)], new: &[(char, char)]) -> 
 }
 
 /// Whether both make the same of each base.
-fn have_same_results(old: &[(char, char)], new: &[(char, char)]) -> bool
+pub(crate) fn have_same_results(old: &[(char, char)], new: &[(char, char)]) -> bool
     ensures same { result ≡ true → HaveSameResults old.now new.now }
     ensures other { result ≡ false → HaveSameResults old.now new.now → ⊥ }
 {

@@ -1,0 +1,235 @@
+-- What was found tells the two keymaps apart, or else that too many states are reached.
+use Rattle.keymap_diff.proofs.Common.{suc, ◌≡◌, ℕ, ◌+◌, ◌<◌, true, inl, inr, List, [], ◌∷◌, ◌++◌, length}
+use Rattle.keymap_diff.proofs.Common.{Option, Some, None, refl, ap, subst, sym, ◌∙◌, arith, reverse}
+use Rattle.keymap_diff.proofs.Common.{append_assoc, same_Some, All-cons, MatchOption, MapValue}
+use Rattle.keymap_diff.proofs.Common.{Move, Hold, Turn, LetGo, Exchange, Event, Press, Release, Act, HasKey}
+use Rattle.keymap_diff.proofs.Common.{IsPressOrRelease, usable, between}
+use Rattle.keymap_diff.proofs.Common.{alone, Under, State, start, IsIdle, IsPathFrom, look_in, state_after}
+use Rattle.keymap_diff.proofs.Common.{state_from, presses_along, presses_of, events_along, events_of_move, presses}
+use Rattle.keymap_diff.proofs.Common.{state_of, Entries, IsReached, IsTrail, TellsApart}
+use Rattle.keymap_diff.proofs.Common.{answer_to, Answer, ◌≢◌}
+use Rattle.console_states.proofs.Looking.{push-reversed}
+use Rattle.keymap_diff.proofs.Common.{Shows, ShowsNothing, AreCellsClear}
+use Rattle.keymap_diff.specs.Telling.{IsToldBy}
+use Rattle.keymap_diff.specs.Inner.Searches.{IsFoundBy, IsMetFromStart, IsReach, IsReachAt, IsScript, IsSearched}
+use Rattle.keymap_diff.specs.Inner.Searches.{IsSearchedAt, IsTappedAt, IsWithin}
+use Rattle.keymap_diff.specs.Inner.Showing.{IsFirstShown, NoneShowsBelow}
+use Rattle.keymap_diff.specs.declared.searched.Searched.{Searched as SearchedValue}
+use Rattle.keymap_diff.specs.declared.showing.Shown.{Shown}
+use Rattle.keymap_diff.specs.declared.telling.Telling.{Telling}
+use Rattle.keymap_diff.specs.declared.telling.Telling.TheVariants.{Told, Never, Undecided}
+use Rattle.console_states.proofs.Beginning.{reached-one}
+use Rattle.console_states.proofs.Behind.{path-split}
+use Rattle.console_states.proofs.Going.{pending-is, tap-pending}
+use Rattle.console_states.proofs.Shown.{short-tap}
+use Rattle.console_states.proofs.Tapping.{dead-tapped}
+use Rattle.console_states.proofs.Visits.{press-presses}
+use Rattle.keymap_diff.proofs.Clearing.{searched-cells}
+use Rattle.keymap_diff.proofs.Unlike.{Placed, IsPressAnsweredAlike, look-in, path-too, placed-along, placed-path}
+use Rattle.keymap_diff.proofs.Unlike.{told-accent, told-cells}
+use Rattle.keymap_core.specs.declared.action.Action.TheVariants as act
+
+-- as many presses stand in the events of a path and those before them
+presses-on : (path : List Move) (h : List Event) → presses (events_along path ++ h) ≡ presses_along path + presses h
+presses-on [] h = omega arith
+presses-on (move ∷ path) h =
+    ap presses (append_assoc (events_of_move move) (events_along path) h)
+    ∙ one move (events_along path ++ h) ∙ ap (λ z. z + presses_of move) (presses-on path h)
+    ∙ omega arith
+  where
+    one : (move : Move) (g : List Event) → presses (events_of_move move ++ g) ≡ presses g + presses_of move
+    one (Hold k i) g = omega arith
+    one (Turn k l) g = omega arith
+    one (LetGo k i) g = omega arith
+    one Exchange g = omega arith
+
+-- a script behind where both consoles stand alike
+script-told : (m n : MapValue) (h : List Event) (s : State) (p : Option ℕ) (k q : ℕ) → Placed m n h s p → k < 128
+    → (IsPressAnsweredAlike m n h k → TellsApart m n (Release k ∷ Press k ∷ h)) → presses h ≡ q → (t : Telling)
+    → IsScript m n h k t → IsFoundBy m n t (Some q)
+script-told m n h s p k q x key told count (Told es old new) (inl (e, a, b, apart)) =
+    subst (λ z. IsToldBy m n z old new × ((l : ℕ) × (Some q ≡ Some l) × (presses z ≡ l + 1))) (sym e) (
+      record {
+        apart = apart;
+        old_answer = a;
+        new_answer = b;
+        keys = All-cons HasKey (Press k) h key x.first.stands.keys;
+        sent = All-cons IsPressOrRelease (Press k) h tt x.first.plain.sent;
+        releases = (tt, x.first.plain.releases);
+      },
+      (q, refl, omega (arith, count)),
+    )
+script-told m n h s p k q x key told count (Told es old new) (inr (e, a, b, same)) =
+    subst (λ z. IsToldBy m n z old new × ((l : ℕ) × (Some q ≡ Some l) × (presses z ≡ l + 1))) (sym e) (
+      record {
+        apart = told same;
+        old_answer = a;
+        new_answer = b;
+        keys = All-cons HasKey (Release k) (Press k ∷ h) key (All-cons HasKey (Press k) h key x.first.stands.keys);
+        sent =
+            All-cons IsPressOrRelease (Release k) (Press k ∷ h) tt
+            (All-cons IsPressOrRelease (Press k) h tt x.first.plain.sent);
+        releases = (press-presses k h, (tt, x.first.plain.releases));
+      },
+      (q, refl, omega (arith, count)),
+    )
+script-told m n h s p k q x key told count (Never f) is = absurd is
+script-told m n h s p k q x key told count (Undecided r) is = absurd is
+
+-- where something shows without an accent
+pub cells-told : (m n : MapValue) (x : SearchedValue) → IsSearched m n (start ∷ []) None x → (at : Shown)
+    → x.shown ≡ Some at → (h : List Event)
+    → ((path : List Move) → IsTrail x.met.entries at.place path → h ≡ events_along path ++ []) → (t : Telling)
+    → IsScript m n h at.key t → IsFoundBy m n t x.reach
+cells-told m n x s at e h events t script =
+    let es : Entries = x.met.entries in
+    let (q, same, (y, there, count)) = subst (λ o. IsReach es s.end o x.reach) e s.reach in
+    let (z, here, key, shows, none) =
+    subst (λ o. MatchOption o (NoneShowsBelow m n None es (length es))
+    (λ at. IsFirstShown m n None es at.place at.key)) e s.shown in
+    let r : IsReached (alone m) start es at.place z = reached-one s.ended.searched at.place z here in
+    let one : y ≡ z = same_Some y z (sym there ∙ here) in
+    let few : presses_along r.0 ≡ q = r.4 ∙ ap (λ w. w.1.presses) (sym one) ∙ sym count in
+    let clear : AreCellsClear m n q = searched-cells m n x s q (subst (λ o. IsWithin q o) (sym same) (omega arith)) in
+    let placed : Placed m n (events_along r.0 ++ []) (state_after (alone m) r.0) None =
+    placed-path m n q r.0 clear r.2 (omega (arith, few)) in
+    let shown : Shows m n None (state_after (alone m) r.0) at.key =
+    subst (λ v. Shows m n None v at.key) (sym r.3) shows in
+    subst (λ o. IsFoundBy m n t o) (sym same)
+    (script-told m n (events_along r.0 ++ []) (state_after (alone m) r.0) None at.key q placed key
+    (told-cells m n (events_along r.0 ++ []) (state_after (alone m) r.0) at.key placed shown)
+    (presses-on r.0 [] ∙ omega (arith, few)) t
+    (subst (λ g. IsScript m n g at.key t) (events r.0 r.1) script))
+
+-- paths in two parts
+pub path-join : (u : Under) (s : State) (later before : List Move) → IsPathFrom u s before
+    → IsPathFrom u (state_from u s before) later → IsPathFrom u s (later ++ before)
+    × (state_from u s (later ++ before) ≡ state_from u (state_from u s before) later)
+    × (presses_along (later ++ before) ≡ presses_along before + presses_along later)
+path-join u s [] before is more = (is, refl, omega arith)
+path-join u s (move ∷ later) before is more =
+    let (rest, same, count) = path-join u s later before is more.1 in
+    (rw same (more.0, rest), ap (λ t. moved-by t) same, omega (arith, count))
+  where
+    moved-by : State → State
+    moved-by t = state_from u t (move ∷ [])
+
+-- ---- behind a tap
+
+-- a tap of a dead key that both take leaves its accent pending
+placed-tapped : (m n : MapValue) (h : List Event) (s : State) (d i : ℕ) → Placed m n h s None → d < 128 → IsIdle s d
+    → look_in (alone m) s d ≡ Act (act.DeadKey i) → look_in (alone n) s d ≡ Act (act.DeadKey i) → usable m i ≡ true
+    → usable n i ≡ true → Placed m n (Release d ∷ Press d ∷ h) s (Some i)
+placed-tapped m n h s d i x key idle seen seen_too can can_too = record {
+  first = short-tap m h s d i x.first key idle seen;
+  second = dead-tapped (alone n) h s i d key x.second idle seen_too;
+  first_pending =
+      sym (pending-is m (Release d ∷ Press d ∷ h))
+      ∙ tap-pending m h s d i x.first.stands idle seen can x.first_pending;
+  second_pending =
+      sym (pending-is n (Release d ∷ Press d ∷ h)) ∙ tap-pending n h s d i x.second idle seen_too can_too x.second_pending;
+}
+
+-- an idle key that shows nothing looks up the dead key under both, which can be used under both
+dead-too : (m n : MapValue) (s : State) (d i : ℕ) → ShowsNothing m n None s d → IsIdle s d
+    → look_in (alone m) s d ≡ Act (act.DeadKey i) → usable m i ≡ true
+    → (look_in (alone n) s d ≡ Act (act.DeadKey i)) × (usable n i ≡ true)
+dead-too m n s d i (inl (same, usably)) idle seen can =
+    let looked = sym (look-in m s d) ∙ seen in
+    (look-in n s d ∙ sym same ∙ looked, sym (usably i looked) ∙ can)
+dead-too m n s d i (inr (j, holds, u, v)) idle seen can = absurd (idle j holds)
+
+-- where something shows behind a tap of the accent's dead key
+pub accent-told : (m n : MapValue) (i : ℕ) (es : Entries) (place presses : ℕ) (x : SearchedValue) → IsMetFromStart m es
+    → IsSearchedAt m n i es place x → IsReachAt es place x.reach presses → AreCellsClear m n presses
+    → usable m i ≡ true → (at : Shown) → x.shown ≡ Some at → (h g : List Event) → IsTappedAt m i es place h
+    → ((path : List Move) → IsTrail x.met.entries at.place path → g ≡ events_along path ++ h) → (t : Telling)
+    → IsScript m n g at.key t → IsFoundBy m n t (Some presses)
+accent-told m n i es place total x met (y, os, there, alone_there, s) (before, more, (b, b_at, b_is), reach, sum) clear can at e h g
+    (w, d, w_at, key, (idle, seen), taps) events t script =
+    let fs : Entries = x.met.entries in
+    let (q, same, (a, a_at, count)) = subst (λ o. IsReach fs s.end o x.reach) e s.reach in
+    let (z, here, last, shows, none) =
+    subst (λ o. MatchOption o (NoneShowsBelow m n (Some i) fs (length fs))
+    (λ at. IsFirstShown m n (Some i) fs at.place at.key)) e s.shown in
+    let r : IsReached (alone m) start es place y = reached-one met.0 place y there in
+    let (o, has, from) = s.ended.searched.reached at.place z here in
+    let l : IsReached (alone m) (state_of y.0) fs at.place z =
+    subst (λ v. IsReached (alone m) v fs at.place z) (alone_there o has) from in
+    let first : List Move = r.0 in
+    let later : List Move = l.0 in
+    let few : presses_along first ≡ before =
+    r.4 ∙ ap (λ v. v.1.presses) (same_Some y b (sym there ∙ b_at)) ∙ sym b_is in
+    let few_later : presses_along later ≡ more =
+    l.4 ∙ ap (λ v. v.1.presses) (same_Some z a (sym here ∙ a_at)) ∙ sym count ∙ same_Some q more (sym same ∙ reach) in
+    let s1 : State = state_after (alone m) first in
+    let on : IsPathFrom (alone m) s1 later = subst (λ v. IsPathFrom (alone m) v later) (sym r.3) l.2 in
+    let (whole, to, all) = path-join (alone m) start later first r.2 on in
+    let (first_too, first_same) = path-too m n total clear first r.2 (omega (arith, few, sum)) in
+    let (whole_too, whole_same) = path-too m n total clear (later ++ first) whole (omega (arith, all, few, few_later, sum)) in
+    let parts = path-split (alone n) start later first whole_too in
+    let on_too : IsPathFrom (alone n) s1 later = subst (λ v. IsPathFrom (alone n) v later) first_same parts.1 in
+    let leads : state_from (alone n) s1 later ≡ state_from (alone m) s1 later =
+    subst (λ v. state_from (alone n) v later ≡ state_from (alone m) s1 later) first_same (sym parts.2 ∙ whole_same ∙ to) in
+    let one : w ≡ y = same_Some w y (sym w_at ∙ there) in
+    let here1 : state_of w.0 ≡ s1 = ap (λ v. state_of v.0) one ∙ sym r.3 in
+    let idle1 : IsIdle s1 d = subst (λ v. IsIdle v d) here1 idle in
+    let seen1 : look_in (alone m) s1 d ≡ Act (act.DeadKey i) =
+    subst (λ v. look_in (alone m) v d ≡ Act (act.DeadKey i)) here1 seen in
+    let (seen_too, can_too) =
+    dead-too m n s1 d i (clear first r.2 (omega (arith, few, sum)) d key) idle1 seen1 can in
+    let start1 : List Event = events_along first ++ [] in
+    let tapped : Placed m n (Release d ∷ Press d ∷ start1) s1 (Some i) =
+    placed-tapped m n start1 s1 d i (placed-path m n total first clear r.2 (omega (arith, few, sum))) key idle1 seen1
+    seen_too can can_too in
+    let s2 : State = state_from (alone m) s1 later in
+    let end1 : List Event = events_along later ++ Release d ∷ Press d ∷ start1 in
+    let placed : Placed m n end1 s2 (Some i) =
+    placed-along m n (Release d ∷ Press d ∷ start1) s1 (Some i) later tapped on on_too leads in
+    let at_end : s2 ≡ state_of z.0 = ap (λ v. state_from (alone m) v later) r.3 ∙ l.3 in
+    let shown : Shows m n (Some i) s2 at.key = subst (λ v. Shows m n (Some i) v at.key) (sym at_end) shows in
+    let nothing : ShowsNothing m n None s2 at.key =
+    subst (λ v. ShowsNothing m n None v at.key) to
+    (clear (later ++ first) whole (omega (arith, all, few, few_later, sum)) at.key last) in
+    let counted : presses end1 ≡ total =
+    presses-on later (Release d ∷ Press d ∷ start1)
+    ∙ ap (λ v. presses_along later + suc v) (presses-on first []) ∙ omega (arith, few, few_later, sum) in
+    script-told m n end1 s2 (Some i) at.key total placed last
+    (λ alike. absurd (told-accent m n end1 s2 at.key i placed can can_too nothing shown alike)) counted t
+    (subst (λ v. IsScript m n v at.key t) (events l.0 l.1 ∙ ap (λ v. events_along later ++ v) (taps r.0 r.1)) script)
+
+-- ---- the script
+
+-- a press that is answered differently
+pub script-press : (m n : MapValue) (events now s t : List Event) (k : ℕ) (a b : Answer) → now ≡ events ++ Press k ∷ []
+    → s ≡ events → t ≡ events → a ≡ answer_to (between m m) (reverse s) (Press k)
+    → b ≡ answer_to (between n n) (reverse t) (Press k) → a ≢ b
+    → (reverse now ≡ Press k ∷ reverse events) × (answer_to (between m m) (reverse events) (Press k) ≡ a)
+    × (answer_to (between n n) (reverse events) (Press k) ≡ b) × TellsApart m n (Press k ∷ reverse events)
+script-press m n events now s t k a b items s_is t_is a_is b_is differ =
+    let old : answer_to (between m m) (reverse events) (Press k) ≡ a =
+    sym (subst (λ z. a ≡ answer_to (between m m) (reverse z) (Press k)) s_is a_is) in
+    let new : answer_to (between n n) (reverse events) (Press k) ≡ b =
+    sym (subst (λ z. b ≡ answer_to (between n n) (reverse z) (Press k)) t_is b_is) in
+    (ap reverse items ∙ push-reversed events (Press k), old, new, (λ same. differ (sym old ∙ same ∙ new)))
+
+-- the events of a tap
+pub tap-reversed : (events mid now : List Event) (k : ℕ) → mid ≡ events ++ Press k ∷ [] → now ≡ mid ++ Release k ∷ []
+    → reverse now ≡ Release k ∷ Press k ∷ reverse events
+tap-reversed events mid now k mid_is items =
+    ap reverse items ∙ push-reversed mid (Release k)
+    ∙ ap (λ z. Release k ∷ z) (ap reverse mid_is ∙ push-reversed events (Press k))
+
+-- its release, where the press is answered alike
+pub script-release : (m n : MapValue) (events mid now s t : List Event) (k : ℕ) (a b : Answer)
+    → mid ≡ events ++ Press k ∷ [] → now ≡ mid ++ Release k ∷ [] → s ≡ mid → t ≡ mid
+    → a ≡ answer_to (between m m) (reverse s) (Release k) → b ≡ answer_to (between n n) (reverse t) (Release k)
+    → (reverse now ≡ Release k ∷ Press k ∷ reverse events)
+    × (answer_to (between m m) (Press k ∷ reverse events) (Release k) ≡ a)
+    × (answer_to (between n n) (Press k ∷ reverse events) (Release k) ≡ b)
+script-release m n events mid now s t k a b mid_is items s_is t_is a_is b_is =
+    let pressed : reverse mid ≡ Press k ∷ reverse events = ap reverse mid_is ∙ push-reversed events (Press k) in (
+      tap-reversed events mid now k mid_is items,
+      sym (subst (λ z. a ≡ answer_to (between m m) z (Release k)) (ap reverse s_is ∙ pressed) a_is),
+      sym (subst (λ z. b ≡ answer_to (between n n) z (Release k)) (ap reverse t_is ∙ pressed) b_is),
+    )

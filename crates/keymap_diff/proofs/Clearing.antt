@@ -1,0 +1,136 @@
+-- What a search met tells of all paths: where a press shows nothing in what it met, none does where fewer presses lead
+-- than to where something shows or the search gave up.
+use Rattle.keymap_diff.proofs.Common.{zero, suc, ◌≡◌, ℕ, ◌+◌, ◌<◌, ◌≤◌, inl, inr, List, [], ◌∷◌, length, slice_get, Option}
+use Rattle.keymap_diff.proofs.Common.{Some, None, refl, ap, subst, sym, ◌∙◌, arith, cases_lt, slice_get_within}
+use Rattle.keymap_diff.proofs.Common.{Contains, MatchOption, MapValue, Move, End, TooMany, Complete, alone, State, start}
+use Rattle.keymap_diff.proofs.Common.{IsPath, IsPathFrom, state_from, state_after, presses_along, presses_of}
+use Rattle.keymap_diff.proofs.Common.{state_of, Entry, Entries, IsMetBy, IsTrail, AreDone, HasEnded, unscrolled}
+use Rattle.keymap_diff.proofs.Common.{NoneShows, ShowsNothing, AreCellsClear, IsAccentClear, IsOfferedIn, Hold, Turn}
+use Rattle.keymap_diff.proofs.Common.{LetGo, Exchange, Under}
+use Rattle.keymap_diff.specs.Inner.Searches.{AreNear, IsClearBehind, IsReach, IsSearched, IsWithin}
+use Rattle.keymap_diff.specs.Inner.Showing.{NoneShowsBelow, IsFirstShown}
+use Rattle.keymap_diff.specs.declared.searched.Searched.{Searched}
+use Rattle.keymap_diff.specs.declared.showing.Shown.{Shown}
+use Rattle.console_states.specs.Searching.{Searched as SearchedStates, AreOrdered}
+use Rattle.console_states.proofs.Concluding.{IsAmong, among-moved}
+use Rattle.console_states.proofs.Searching.{all-done}
+use Rattle.console_states.proofs.Unscrolled.{moves-unscrolled, same_moved}
+
+-- no more presses lead to a place than stand before it
+trail-few : (es : Entries) (j : ℕ) (path : List Move) → IsTrail es j path → presses_along path ≤ j
+trail-few es j [] is = omega arith
+trail-few es j (move ∷ path) (x, parent, at, last, lt, is) =
+    let le = trail-few es parent path is in omega (arith, le, lt, one move)
+  where
+    one : (move : Move) → presses_of move ≤ 1
+    one (Hold k i) = omega arith
+    one (Turn k l) = omega arith
+    one (LetGo k i) = omega arith
+    one Exchange = omega arith
+
+pub presses-few : {os : List State} (u : Under) (es : Entries) (a b j : ℕ) (x : Entry) → SearchedStates u os es a b
+    → slice_get es j ≡ Some x → x.1.presses ≤ j
+presses-few u es a b j x s at =
+    let (o, has, r) = s.reached j x at in let le = trail-few es j r.0 r.1 in omega (arith, le, r.4)
+
+-- a path of fewer presses from an origin leads to what was met
+pub among-along : (m : MapValue) (os : List State) (es : Entries) (b : ℕ) → AreDone (alone m) es b
+    → ((o : State) → Contains os o → IsMetBy es 0 o) → (o : State) → Contains os o → (path : List Move)
+    → IsPathFrom (alone m) o path → presses_along path < b
+    → IsAmong es (presses_along path) (state_from (alone m) o path)
+among-along m os es b done begun o has [] is lt = (o, begun o has, refl)
+among-along m os es b done begun o has (move ∷ path) is lt =
+    among-moved (alone m) es b done (presses_along path) (presses_along path + presses_of move)
+    (state_from (alone m) o path) move refl lt
+    (among-along m os es b done begun o has path is.1 (omega (arith, lt))) is.0
+
+-- within the reach all is done
+reach-done : (m : MapValue) (os : List State) (es : Entries) (end : End) (shown : Option Shown) (reach : Option ℕ)
+    → HasEnded (alone m) os es end → IsReach es end shown reach → (b : ℕ) → IsWithin b reach
+    → AreDone (alone m) es b
+reach-done m os es Complete shown reach ended is b within = all-done (alone m) es ended.is.0 b
+reach-done m os es (TooMany p) None reach ended (q, same, (x, at, e)) b within = λ j y here move can leaves lt.
+    let le : b ≤ q = subst (λ z. IsWithin b z) same within in
+    let few : x.1.presses ≤ p = ended.is.1 65536 x at in
+    ended.is.2 j y here move can leaves (omega (arith, lt, le, few, e))
+reach-done m os es (TooMany p) (Some shown) reach ended (q, same, (x, at, e)) b within = λ j y here move can leaves lt.
+    let le : b ≤ q = subst (λ z. IsWithin b z) same within in
+    let few : x.1.presses ≤ p = ended.is.1 shown.place x at in
+    ended.is.2 j y here move can leaves (omega (arith, lt, le, few, e))
+
+-- and in what was met by fewer presses no key shows anything
+reach-none : (m n : MapValue) (p : Option ℕ) (es : Entries) (end : End) (shown : Option Shown) (reach : Option ℕ)
+    → AreOrdered es → IsReach es end shown reach
+    → MatchOption shown (NoneShowsBelow m n p es (length es)) (λ at. IsFirstShown m n p es at.place at.key) → (b : ℕ)
+    → IsWithin b reach → (j : ℕ) (x : Entry) → slice_get es j ≡ Some x → x.1.presses < b
+    → NoneShows m n p (state_of x.0)
+reach-none m n p es end None reach ordered is none b within j x at lt = none j x at (slice_get_within es j x at)
+reach-none m n p es end (Some shown) reach ordered (q, same, (y, there, e)) (z, here, key, shows, none) b within j x at lt =
+    elim (cases_lt j shown.place) [
+      | inl below ↦ none j x at below
+      | inr le ↦
+          let few : b ≤ q = subst (λ z. IsWithin b z) same within in
+          let up : y.1.presses ≤ x.1.presses = ordered shown.place j y x le there at in
+          absurd (omega (arith, lt, few, up, e))
+    ]
+
+-- so none does where fewer presses lead
+pub searched-clear : (m n : MapValue) (os : List State) (p : Option ℕ) (x : Searched) → IsSearched m n os p x → (b : ℕ)
+    → IsWithin b x.reach → (o : State) → Contains os o → (path : List Move) → IsPathFrom (alone m) o path
+    → presses_along path < b → NoneShows m n p (state_from (alone m) o path)
+searched-clear m n os p x s b within o has path is lt k key =
+    let es : Entries = x.met.entries in
+    let done = reach-done m os es s.end x.shown x.reach s.ended s.reach b within in
+    let (t, (j, y, at, same, le), near) = among-along m os es b done s.ended.searched.start o has path is lt in
+    near-shows p _ _ (subst (λ z. ShowsNothing m n p z k) same
+    (reach-none m n p es s.end x.shown x.reach s.ended.ordered s.reach s.shown b within j y at (omega (arith, le, lt)) k
+    key)) near
+  where
+    near-shows : (q : Option ℕ) (s t : State) → ShowsNothing m n q s k → unscrolled s ≡ unscrolled t
+        → ShowsNothing m n q t k
+    near-shows None s t shows e = subst (λ z. ShowsNothing m n None z k) e shows
+    near-shows (Some i) s t shows e = subst (λ z. ShowsNothing m n (Some i) z k) e shows
+
+-- where fewer presses lead from the start was met
+pub searched-near : (m n : MapValue) (x : Searched) → IsSearched m n (start ∷ []) None x → (b : ℕ)
+    → IsWithin b x.reach → AreNear m x.met.entries b
+searched-near m n x s b within path is lt =
+    let es : Entries = x.met.entries in
+    let done = reach-done m (start ∷ []) es s.end x.shown x.reach s.ended s.reach b within in
+    let (t, (j, y, at, same, le), near) =
+    among-along m (start ∷ []) es b done s.ended.searched.start start (0, omega arith, refl) path is lt in
+    (j, y, at, le, ap (λ z. unscrolled z) same ∙ near)
+
+pub searched-cells : (m n : MapValue) (x : Searched) → IsSearched m n (start ∷ []) None x → (b : ℕ)
+    → IsWithin b x.reach → AreCellsClear m n b
+searched-cells m n x s b within path is lt =
+    searched-clear m n (start ∷ []) None x s b within start (0, omega arith, refl) path is lt
+
+-- ---- from the places that offer an accent
+
+-- a path from a state near another is one from that, and leads near
+path-near : (m : MapValue) (s t : State) (path : List Move) → unscrolled t ≡ unscrolled s → IsPathFrom (alone m) s path
+    → IsPathFrom (alone m) t path
+    × (unscrolled (state_from (alone m) t path) ≡ unscrolled (state_from (alone m) s path))
+path-near m s t [] e is = (tt, e)
+path-near m s t (move ∷ path) e is =
+    let (rest, near) = path-near m s t path e is.1 in (
+      (moves-unscrolled (alone m) (state_from (alone m) s path) (state_from (alone m) t path) move near is.0, rest),
+      same_moved (alone m) (state_from (alone m) s path) (state_from (alone m) t path) move near,
+    )
+
+-- where all places that offer the accent are clear, so are all paths by a tap of its dead key
+pub behind-clear : (m n : MapValue) (i : ℕ) (es : Entries) (b : ℕ) → AreNear m es b
+    → IsClearBehind m n i es 0 (length es) b → IsAccentClear m n i b
+behind-clear m n i es b near clear before later made offered is lt k key =
+    let (j, x, at, le, e) = near before made (omega (arith, lt)) in
+    let (path, to) = path-near m (state_after (alone m) before) (state_of x.0) later e is in
+    subst (λ z. ShowsNothing m n (Some i) z k) to
+    (clear j x at (omega arith) (slice_get_within es j x at)
+    (subst (λ z. IsOfferedIn (alone m) z i) (sym e) offered) later path (omega (arith, lt, le)) k key)
+
+-- a path of no press leads to the start
+pub start-reached : {m : MapValue} (o : State) → Contains (start ∷ []) o
+    → (path : List Move) × IsPath (alone m) path × (presses_along path ≤ 0) × (state_after (alone m) path ≡ o)
+start-reached o (zero, lt, is) = ([], tt, omega arith, is)
+start-reached o (suc k, lt, is) = absurd (omega (arith, lt))

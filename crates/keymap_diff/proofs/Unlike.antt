@@ -1,0 +1,282 @@
+-- Where a key shows a difference of two keymaps, a press of it or its release is answered differently.
+use Rattle.keymap_diff.proofs.Common.{◌≡◌, ◌≢◌, ℕ, ◌≤◌, ◌⊎◌, Bool, false, true, List, [], ◌∷◌, ◌++◌, Option}
+use Rattle.keymap_diff.proofs.Common.{Some, None, refl, ap, subst, sym, ◌∙◌, inl, inr, arith, cases_Bool, true≢false}
+use Rattle.keymap_diff.proofs.Common.{option_or, eq-eqb, same_action, same_action-true, same_action-refl, Action}
+use Rattle.keymap_diff.proofs.Common.{Modifier, Meta, Cell, Char, Act, Event, Press, Release, Answer, Move, Hold, Turn}
+use Rattle.keymap_diff.proofs.Common.{LetGo, Exchange, MapValue, accent_at, composed_by, usable, answer_char}
+use Rattle.keymap_diff.proofs.Common.{answer_action, answer_release, answer_dead_key, char_or_error, unless_nop}
+use Rattle.keymap_diff.proofs.Common.{taken_over, on, remembered, pending, resolve_press, answer_resolved}
+use Rattle.keymap_diff.proofs.Common.{ResolvedEvent, between, resolved, answer_to, alone, State, IsIdle, IsPath}
+use Rattle.keymap_diff.proofs.Common.{IsPathFrom, look_in, moved, start, state_after, state_from}
+use Rattle.keymap_diff.proofs.Common.{presses_along, events_along, Stands, false≢true, TellsApart, looked_up}
+use Rattle.keymap_diff.proofs.Common.{AreCellsAlike, AreCellsClear, Gives, IsUnnoticed, Shows, ShowsNothing}
+use Rattle.console_core.specs.declared.event.Answer.TheVariants as answer
+use Rattle.keymap_diff.proofs.Alike.{look-is, own-composed, press-answered, press-resolved}
+use Rattle.console_core.proofs.OneMore.{one_map, resolved-start, pending-start, remembered-character, remembered-action}
+use Rattle.console_states.proofs.Going.{pending-along}
+use Rattle.console_states.proofs.Shown.{IsShort, short-start, short-along}
+use Rattle.console_states.proofs.Standing.{idle-none, stands-from, stands-start}
+use Rattle.keymap_core.specs.declared.action.Action.TheVariants as act
+
+-- ---- by the cells that the key looks up
+
+-- the answer to a press that looks up the cell, and what the key remembers after it, by what it remembered before
+abbrev answer_cell : MapValue → Option ℕ → Bool → Option Action → Cell → Answer
+answer_cell m p b o (Char c) = answer_char m p b c
+answer_cell m p b o (Act a) = answer_action m p b (taken_over o a)
+
+abbrev kept_cell : Option Action → Cell → Option Action
+kept_cell o (Char c) = None
+kept_cell o (Act a) = option_or o (unless_nop a)
+
+cell-answered : (m : MapValue) (r : List ResolvedEvent) (k : ℕ) (x : Cell)
+    → answer_resolved m (resolve_press k x) r ≡ answer_cell m (pending m r) (on Meta r) (remembered k r) x
+cell-answered m r k (Char c) = refl
+cell-answered m r k (Act a) = refl
+
+cell-kept : (r : List ResolvedEvent) (k : ℕ) (x : Cell)
+    → remembered k (resolve_press k x ∷ r) ≡ kept_cell (remembered k r) x
+cell-kept r k (Char c) = rw (remembered-character k k c r, eq-eqb k k refl) refl
+cell-kept r k (Act a) = rw (remembered-action k k a r, eq-eqb k k refl) refl
+
+-- a character is answered as no action is, where no accent is pending
+no-char : (m : MapValue) (b d : Bool) (c : ℕ) (a : Action) → answer.Char c b ≡ answer_action m None d a → ⊥
+no-char m b d c (act.DeadKey i) e = elim (cases_Bool (usable m i)) [
+  | inl t ↦ let f : answer.Char c b ≡ answer.None = rw t at e in cc
+  | inr t ↦ let f : answer.Char c b ≡ answer.Error = rw t at e in cc
+]
+no-char m b d c _ e = cc
+
+released-same : (a e : Action) → answer_release (unless_nop a) ≡ answer_release (unless_nop e) → a ≡ e
+released-same a e p = elim (cases_Bool (same_action a act.Nop)) [
+  | inl t ↦ elim (cases_Bool (same_action e act.Nop)) [
+    | inl u ↦ same_action-true a act.Nop t ∙ sym (same_action-true e act.Nop u)
+    | inr u ↦ let f : answer.None ≡ answer.Released e = rw (t, u) at p in absurd (cc)
+  ]
+  | inr t ↦ elim (cases_Bool (same_action e act.Nop)) [
+    | inl u ↦ let f : answer.Released a ≡ answer.None = rw (t, u) at p in absurd (cc)
+    | inr u ↦ let f : answer.Released a ≡ answer.Released e = rw (t, u) at p in cc
+  ]
+]
+
+dead-usable : (m n : MapValue) (b d : Bool) (i : ℕ) → answer_dead_key m None b i ≡ answer_dead_key n None d i
+    → usable m i ≡ usable n i
+dead-usable m n b d i p = elim (cases_Bool (usable m i)) [
+  | inl t ↦ elim (cases_Bool (usable n i)) [
+    | inl u ↦ t ∙ sym u
+    | inr u ↦ let f : answer.None ≡ answer.Error = rw (t, u) at p in absurd (cc)
+  ]
+  | inr t ↦ elim (cases_Bool (usable n i)) [
+    | inl u ↦ let f : answer.Error ≡ answer.None = rw (t, u) at p in absurd (cc)
+    | inr u ↦ t ∙ sym u
+  ]
+]
+
+act-same : (a e : Action) → Act a ≡ Act e → a ≡ e
+act-same a e p = cc
+
+char-alike : (m n : MapValue) (b d : Bool) (c e : ℕ) → answer.Char c b ≡ answer.Char e d → AreCellsAlike m n (Char c) (Char e)
+char-alike m n b d c e p = (let f : c ≡ e = cc in ap (λ z. Char z) f, (λ i q. absurd (no q)))
+  where
+    no : {i : ℕ} → Char c ≡ Act (act.DeadKey i) → ⊥
+    no q = cc
+
+-- of a key that remembers nothing, where both are answered alike
+idle-cells : (m n : MapValue) (b d : Bool) (x y : Cell) → answer_cell m None b None x ≡ answer_cell n None d None y
+    → answer_release (kept_cell None x) ≡ answer_release (kept_cell None y) → AreCellsAlike m n x y
+idle-cells m n b d (Char c) (Char e) p q = char-alike m n b d c e p
+idle-cells m n b d (Char c) (Act a) p q = absurd (no-char n b d c a p)
+idle-cells m n b d (Act a) (Char c) p q = absurd (no-char m d b c a (sym p))
+idle-cells m n b d (Act a) (Act e) p q =
+    let same : a ≡ e = released-same a e q in
+    (ap (λ z. Act z) same, (λ i f. by i (act-same a (act.DeadKey i) f) (sym same ∙ act-same a (act.DeadKey i) f)))
+  where
+    by : (i : ℕ) → a ≡ act.DeadKey i → e ≡ act.DeadKey i → usable m i ≡ usable n i
+    by i f g = dead-usable m n b d i
+        (subst (λ z. answer_action m None b z ≡ answer_dead_key n None d i) f
+        (subst (λ z. answer_action m None b a ≡ answer_action n None d z) g p))
+
+-- of a key that remembers a modifier
+other-action : (i : Modifier) (a : Action) → same_action (act.Mod i) a ≡ false → a ≢ act.Mod i
+other-action i a t e =
+    true≢false (sym (same_action-refl (act.Mod i)) ∙ ap (λ z. same_action (act.Mod i) z) (sym e) ∙ t)
+
+held-cells : (m n : MapValue) (b d : Bool) (i : Modifier) (x y : Cell)
+    → answer_cell m None b (Some (act.Mod i)) x ≡ answer_cell n None d (Some (act.Mod i)) y
+    → AreCellsAlike m n x y ⊎ (IsUnnoticed i x × IsUnnoticed i y)
+held-cells m n b d i (Char c) (Char e) p = inl (char-alike m n b d c e p)
+held-cells m n b d i (Char c) (Act a) p = absurd (no-char n b d c (taken_over (Some (act.Mod i)) a) p)
+held-cells m n b d i (Act a) (Char c) p = absurd (no-char m d b c (taken_over (Some (act.Mod i)) a) (sym p))
+held-cells m n b d i (Act a) (Act e) p = elim (cases_Bool (same_action (act.Mod i) a)) [
+  | inl t ↦ elim (cases_Bool (same_action (act.Mod i) e)) [
+    | inl u ↦
+        let f : act.Mod i ≡ a = same_action-true (act.Mod i) a t in
+        let g : act.Mod i ≡ e = same_action-true (act.Mod i) e u in
+        inl (ap (λ z. Act z) (sym f ∙ g), (λ j q. absurd (no-dead j (f ∙ act-same a (act.DeadKey j) q))))
+    | inr u ↦
+        let f : act.Mod i ≡ a = same_action-true (act.Mod i) a t in
+        let g : answer_action m None b a ≡ answer.None = rw (t, u) at p in
+        let h : answer.Special (act.Mod i) ≡ answer.None = subst (λ z. answer_action m None b z ≡ answer.None) (sym f) g in
+        absurd (cc)
+  ]
+  | inr t ↦ elim (cases_Bool (same_action (act.Mod i) e)) [
+    | inl u ↦
+        let f : act.Mod i ≡ e = same_action-true (act.Mod i) e u in
+        let g : answer.None ≡ answer_action n None d e = rw (t, u) at p in
+        let h : answer.None ≡ answer.Special (act.Mod i) = subst (λ z. answer.None ≡ answer_action n None d z) (sym f) g in
+        absurd (cc)
+    | inr u ↦ inr (other-action i a t, other-action i e u)
+  ]
+]
+  where
+    no-dead : (j : ℕ) → act.Mod i ≡ act.DeadKey j → ⊥
+    no-dead j q = cc
+
+-- what an accent makes is told by the answer
+made-same : (b d : Bool) (x y : Option ℕ) → char_or_error b x ≡ char_or_error d y → x ≡ y
+made-same b d None None e = refl
+made-same b d None (Some c) e = let f : answer.Error ≡ answer.Char c d = e in absurd (cc)
+made-same b d (Some c) None e = let f : answer.Char c b ≡ answer.Error = e in absurd (cc)
+made-same b d (Some c) (Some e) p =
+    let f : answer.Char c b ≡ answer.Char e d = p in let g : c ≡ e = cc in ap (λ z. Some z) g
+
+-- ---- behind a list of events
+
+-- both consoles stand in the state after the list, and the same is pending
+pub record Placed (m n : MapValue) (h : List Event) (s : State) (p : Option ℕ) : Type 0 where
+  pub first : IsShort m h s
+  pub second : Stands (alone n) h s
+  pub first_pending : pending m (resolved (between m m) h) ≡ p
+  pub second_pending : pending n (resolved (between n n) h) ≡ p
+
+-- the answers to a press and to the release behind it
+press-cell : (m : MapValue) (h : List Event) (s : State) (k : ℕ) (p : Option ℕ) (o : Option Action)
+    → Stands (alone m) h s
+    → pending m (resolved (between m m) h) ≡ p → remembered k (resolved (between m m) h) ≡ o
+    → answer_to (between m m) h (Press k) ≡ answer_cell m p (on Meta (resolved (between m m) h)) o (looked_up m s k)
+press-cell m h s k p o x is rem =
+    let r : List ResolvedEvent = resolved (between m m) h in
+    press-answered m h k
+    ∙ rw (look-is m r s k x.exact.follows, cell-answered m r k (looked_up m s k), is, rem) refl
+
+release-cell : (m : MapValue) (h : List Event) (s : State) (k : ℕ) (o : Option Action) → Stands (alone m) h s
+    → remembered k (resolved (between m m) h) ≡ o
+    → answer_to (between m m) (Press k ∷ h) (Release k) ≡ answer_release (kept_cell o (looked_up m s k))
+release-cell m h s k o x rem =
+    let r : List ResolvedEvent = resolved (between m m) h in
+    ap answer_release
+    (rw (press-resolved m h k, look-is m r s k x.exact.follows, cell-kept r k (looked_up m s k), rem) refl)
+
+-- the presses are answered alike
+abbrev pub IsPressAnsweredAlike : MapValue → MapValue → List Event → ℕ → Type 0
+IsPressAnsweredAlike m n h k = answer_to (between m m) h (Press k) ≡ answer_to (between n n) h (Press k)
+
+-- a key that shows something where no accent is pending: if its press is answered alike, its release isn't
+pub told-cells : (m n : MapValue) (h : List Event) (s : State) (k : ℕ) → Placed m n h s None → Shows m n None s k
+    → IsPressAnsweredAlike m n h k → TellsApart m n (Release k ∷ Press k ∷ h)
+told-cells m n h s k x (unlike, inl idle) same released =
+    let rem : remembered k (resolved (between m m) h) ≡ None =
+    idle-none (resolved (between m m) h) s k x.first.stands.exact idle in
+    let rem_too : remembered k (resolved (between n n) h) ≡ None =
+    idle-none (resolved (between n n) h) s k x.second.exact idle in
+    unlike (idle-cells m n _ _ (looked_up m s k) (looked_up n s k)
+    (sym (press-cell m h s k None None x.first.stands x.first_pending rem) ∙ same
+    ∙ press-cell n h s k None None x.second x.second_pending rem_too)
+    (sym (release-cell m h s k None x.first.stands rem) ∙ released ∙ release-cell n h s k None x.second rem_too))
+told-cells m n h s k x (unlike, inr (i, holds, noticed)) same released =
+    elim (held-cells m n _ _ i (looked_up m s k) (looked_up n s k)
+    (sym (press-cell m h s k None (Some (act.Mod i)) x.first.stands x.first_pending
+    (x.first.stands.exact.follows.holds i k holds)) ∙ same
+    ∙ press-cell n h s k None (Some (act.Mod i)) x.second x.second_pending (x.second.exact.follows.holds i k holds))) [
+      | inl alike ↦ unlike alike
+      | inr (u, v) ↦ noticed u v
+    ]
+
+-- the answer to a press that puts the accent on the character
+press-made : (m : MapValue) (h : List Event) (s : State) (k i c : ℕ) → Stands (alone m) h s → usable m i ≡ true
+    → pending m (resolved (between m m) h) ≡ Some i → Gives m i s k c
+    → answer_to (between m m) h (Press k)
+    ≡ char_or_error (on Meta (resolved (between m m) h)) (composed_by (accent_at m i) c)
+press-made m h s k i c x can is (inl seen) =
+    press-cell m h s k (Some i) _ x is refl ∙ rw seen refl
+press-made m h s k i c x can is (inr (idle, seen, blank)) =
+    press-cell m h s k (Some i) None x is (idle-none (resolved (between m m) h) s k x.exact idle)
+    ∙ rw (seen, can, eq-eqb i i refl, own-composed m i, ← blank) refl
+
+-- what it puts the accent on under the one keymap it does under the other, where nothing shows without an accent
+gives-too : (m n : MapValue) (s : State) (k i c : ℕ) → ShowsNothing m n None s k → Gives m i s k c → Gives n i s k c
+gives-too m n s k i c (inl (same, usably)) (inl seen) = inl (sym same ∙ seen)
+gives-too m n s k i c (inl (same, usably)) (inr (idle, seen, blank)) = inr (idle, sym same ∙ seen, blank)
+gives-too m n s k i c (inr (j, holds, u, v)) (inl seen) = absurd (subst (λ z. IsUnnoticed j z) seen u)
+gives-too m n s k i c (inr (j, holds, u, v)) (inr (idle, seen, blank)) = absurd (idle j holds)
+
+-- a key that shows something while an accent is pending: its press isn't answered alike
+pub told-accent : (m n : MapValue) (h : List Event) (s : State) (k i : ℕ) → Placed m n h s (Some i) → usable m i ≡ true
+    → usable n i ≡ true → ShowsNothing m n None s k → Shows m n (Some i) s k → IsPressAnsweredAlike m n h k → ⊥
+told-accent m n h s k i x can can_too nothing (c, gives, unlike) same =
+    unlike (made-same _ _ (composed_by (accent_at m i) c) (composed_by (accent_at n i) c)
+    (sym (press-made m h s k i c x.first.stands can x.first_pending gives) ∙ same
+    ∙ press-made n h s k i c x.second can_too x.second_pending (gives-too m n s k i c nothing gives)))
+
+-- ---- along a path
+
+-- what a key looks up in a state of one map
+pub look-in : (m : MapValue) (s : State) (k : ℕ) → look_in (alone m) s k ≡ looked_up m s k
+look-in m s k = cc (one_map m s.is_second)
+
+-- an idle key that shows nothing looks up the same under both
+idle-look : (m n : MapValue) (s : State) (k : ℕ) (x : Cell) → IsIdle s k → ShowsNothing m n None s k
+    → look_in (alone m) s k ≡ x → look_in (alone n) s k ≡ x
+idle-look m n s k x idle (inl (same, usably)) seen = look-in n s k ∙ sym same ∙ sym (look-in m s k) ∙ seen
+idle-look m n s k x idle (inr (i, holds, u, v)) seen = absurd (idle i holds)
+
+-- where fewer presses show nothing, a path is one under both keymaps
+pub path-too : (m n : MapValue) (b : ℕ) → AreCellsClear m n b → (path : List Move) → IsPath (alone m) path
+    → presses_along path ≤ b → IsPath (alone n) path × (state_after (alone n) path ≡ state_after (alone m) path)
+path-too m n b clear [] is le = (tt, refl)
+path-too m n b clear (Hold k i ∷ path) is le =
+    let (too, same) = path-too m n b clear path is.1 (omega (arith, le)) in
+    let (key, idle, seen, free) = is.0 in
+    let shows = clear path is.1 (omega (arith, le)) k key in (
+      rw same ((key, idle, idle-look m n (state_after (alone m) path) k (Act (act.Mod i)) idle shows seen, free), too),
+      ap (λ s. moved (alone n) s (Hold k i)) same,
+    )
+path-too m n b clear (Turn k l ∷ path) is le =
+    let (too, same) = path-too m n b clear path is.1 (omega (arith, le)) in
+    let (key, idle, seen) = is.0 in
+    let shows = clear path is.1 (omega (arith, le)) k key in (
+      rw same ((key, idle, idle-look m n (state_after (alone m) path) k (Act (act.Lock l)) idle shows seen), too),
+      ap (λ s. moved (alone n) s (Turn k l)) same,
+    )
+path-too m n b clear (LetGo k i ∷ path) is le =
+    let (too, same) = path-too m n b clear path is.1 (omega (arith, le)) in
+    (rw same (is.0, too), ap (λ s. moved (alone n) s (LetGo k i)) same)
+path-too m n b clear (Exchange ∷ path) is le = absurd (false≢true is.0.1)
+
+placed-start : (m n : MapValue) → Placed m n [] start None
+placed-start m n = record {
+  first = short-start m;
+  second = stands-start (alone n);
+  first_pending = ap (λ r. pending m r) (resolved-start (between m m)) ∙ pending-start m;
+  second_pending = ap (λ r. pending n r) (resolved-start (between n n)) ∙ pending-start n;
+}
+
+-- a path under both keeps what is pending
+pub placed-along : (m n : MapValue) (h : List Event) (s : State) (p : Option ℕ) (path : List Move) → Placed m n h s p
+    → IsPathFrom (alone m) s path → IsPathFrom (alone n) s path
+    → state_from (alone n) s path ≡ state_from (alone m) s path
+    → Placed m n (events_along path ++ h) (state_from (alone m) s path) p
+placed-along m n h s p path x is too same = record {
+  first = short-along m h s path x.first is;
+  second =
+      subst (λ t. Stands (alone n) (events_along path ++ h) t) same (stands-from (alone n) h s path x.second too);
+  first_pending = pending-along m h s path x.first.stands is ∙ x.first_pending;
+  second_pending = pending-along n h s path x.second too ∙ x.second_pending;
+}
+
+-- so does the way from the start
+pub placed-path : (m n : MapValue) (b : ℕ) (path : List Move) → AreCellsClear m n b → IsPath (alone m) path
+    → presses_along path ≤ b → Placed m n (events_along path ++ []) (state_after (alone m) path) None
+placed-path m n b path clear is le =
+    let (too, same) = path-too m n b clear path is le in
+    placed-along m n [] start None path (placed-start m n) is too same

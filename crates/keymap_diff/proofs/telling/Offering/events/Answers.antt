@@ -1,0 +1,43 @@
+use Rattle.keymap_diff.proofs.Common.{◌∷◌, ◌++◌, ap, subst, sym, ◌∙◌, state_of, alone, slice_get_within, same_Some}
+use Rattle.keymap_diff.proofs.Common.{Offers, Under, reverse, events_along, Press, Release}
+use Rattle.console_states.proofs.GoingBack.{searched-back}
+use Rattle.keymap_diff.proofs.Apart.{tap-reversed}
+use Rattle.keymap_diff.proofs.telling.Offering.events.Goals as goal
+
+pub go_out-requires-clause-place : goal.go_out-requires-clause-place
+go_out-requires-clause-place c =
+    let (x, at, is) = c.requires.at in slice_get_within c.args.self.now.met.now.entries c.args.place x at
+
+pub go_out-requires-clause-back : goal.go_out-requires-clause-back
+go_out-requires-clause-back c =
+    searched-back (alone c.args.self.now.both.old.now) c.args.self.now.met.now.entries 0 0 c.requires.met.0
+
+pub entry-held-requires : goal.entry-held-requires
+entry-held-requires c =
+    let (x, at, is) = c.requires.at in slice_get_within c.args.self.now.met.now.entries c.args.place x at
+
+pub unreachable-requires : goal.unreachable-requires
+unreachable-requires c =
+    let (x, at, is) = c.requires.at in
+    let i = c.args.self.now.accent in
+    let one = same_Some x c.entry-held.result (sym at ∙ c.entry-held.ensures) in
+    subst (λ (u : Under). Offers u (state_of c.entry-held.result.0) is.1.0 i → ⊥) c.maps.ensures.alone
+    (c.in-None.ensures is.1.0 is.1.1)
+    (subst (λ z. Offers (alone c.args.self.now.both.old.now) (state_of z.0) is.1.0 i) one is.1.2)
+
+pub returns : goal.returns
+returns c =
+    let i = c.args.self.now.accent in
+    let x = c.entry-held.result in
+    let d = c.in-Some.key in (
+      x,
+      d,
+      c.entry-held.ensures,
+      c.in-Some.ensures.0,
+      subst (λ (u : Under). Offers u (state_of x.0) d i) c.maps.ensures.alone c.in-Some.ensures.1,
+      (λ path trail.
+          tap-reversed c.go_out.new.events.items _ _ d c.in_ok-push-in-Some.ensures.items
+          c.in_ok-push-in-Some-2.ensures.items
+          ∙ ap (λ z. Release d ∷ Press d ∷ z)
+          (c.in_ok-go_out.ensures path trail ∙ ap (λ z. events_along path ++ reverse z) c.new-events.ensures.items)),
+    )

@@ -1,0 +1,82 @@
+-- What a press of a key and its release show of the difference of two keymaps. Mirrors src/showing.rt.
+use Rattle.std.specs.Prelude.{◌≡◌, ◌≢◌, ◌⊎◌, ℕ, ◌+◌, ◌<◌, List, Option, Some, None, slice_get}
+use Rattle.keymap_core.specs.declared.action.Action.TheVariants as act
+use Rattle.keymap_core.specs.declared.action.Modifier.{Modifier}
+use Rattle.keymap_core.specs.declared.entry.Cell.{Cell}
+use Rattle.keymap_core.specs.declared.entry.Cell.TheVariants.{Char, Act}
+use Rattle.keymap_core.specs.Maps.{MapValue, accent_at}
+use Rattle.keymap_core.specs.Numbers.{key_count}
+use Rattle.console_core.specs.Answers.{composed_by, usable}
+use Rattle.console_states.specs.Moves.{State, alone, Holds, IsIdle, IsPath, IsPathFrom, state_after, state_from}
+use Rattle.console_states.specs.Moves.{presses_along}
+use Rattle.console_states.specs.Sights.{look_selected, selection_of, IsOfferedIn}
+use Rattle.console_states.specs.Searching.{state_of, Entry, Entries}
+use Rattle.console_states.specs.declared.held.Move.{Move}
+
+-- what the key looks up in the state
+abbrev pub looked_up : MapValue → State → ℕ → Cell
+looked_up m s k = look_selected m (selection_of s) k
+
+-- the same cell, and a dead key that can be used under both keymaps or under neither
+abbrev pub AreCellsAlike : MapValue → MapValue → Cell → Cell → Type 0
+AreCellsAlike m n x y = (x ≡ y) × ((i : ℕ) → x ≡ Act (act.DeadKey i) → usable m i ≡ usable n i)
+
+-- a key that holds the modifier takes nothing by the cell
+abbrev pub IsUnnoticed : Modifier → Cell → Type 0
+IsUnnoticed i (Char c) = ⊥
+IsUnnoticed i (Act a) = a ≢ act.Mod i
+
+-- A press of the key puts the pending accent on the character: the key looks it up, or holds nothing and looks up the
+-- accent's dead key, which is as 32.
+abbrev pub Gives : MapValue → ℕ → State → ℕ → ℕ → Type 0
+Gives m i s k c =
+    (looked_up m s k ≡ Char c) ⊎ (IsIdle s k × (looked_up m s k ≡ Act (act.DeadKey i)) × (c ≡ 32))
+
+-- the accent makes the same of the character
+abbrev pub MakesSame : MapValue → MapValue → ℕ → ℕ → Type 0
+MakesSame m n i c = composed_by (accent_at m i) c ≡ composed_by (accent_at n i) c
+
+-- A press of the key and its release show nothing. Where no accent is pending the key looks up cells that are alike, or
+-- holds a modifier and takes nothing by either; where one is, that makes the same of what it is put on.
+abbrev pub ShowsNothing : MapValue → MapValue → Option ℕ → State → ℕ → Type 0
+ShowsNothing m n None s k =
+    AreCellsAlike m n (looked_up m s k) (looked_up n s k)
+    ⊎ ((i : Modifier) × Holds s k i × IsUnnoticed i (looked_up m s k) × IsUnnoticed i (looked_up n s k))
+ShowsNothing m n (Some i) s k = (c : ℕ) → Gives m i s k c → MakesSame m n i c
+
+-- They show something.
+abbrev pub Shows : MapValue → MapValue → Option ℕ → State → ℕ → Type 0
+Shows m n None s k =
+    (AreCellsAlike m n (looked_up m s k) (looked_up n s k) → ⊥)
+    × (IsIdle s k
+    ⊎ ((i : Modifier) × Holds s k i × (IsUnnoticed i (looked_up m s k) → IsUnnoticed i (looked_up n s k) → ⊥)))
+Shows m n (Some i) s k = (c : ℕ) × Gives m i s k c × (MakesSame m n i c → ⊥)
+
+-- no key shows anything in the state
+abbrev pub NoneShows : MapValue → MapValue → Option ℕ → State → Type 0
+NoneShows m n p s = (k : ℕ) → k < key_count → ShowsNothing m n p s k
+
+-- in the states below the place no key shows anything
+abbrev pub NoneShowsBelow : MapValue → MapValue → Option ℕ → Entries → ℕ → Type 0
+NoneShowsBelow m n p es place =
+    (j : ℕ) (x : Entry) → slice_get es j ≡ Some x → j < place → NoneShows m n p (state_of x.0)
+
+-- at the place the key does, and no key below it
+abbrev pub IsFirstShown : MapValue → MapValue → Option ℕ → Entries → ℕ → ℕ → Type 0
+IsFirstShown m n p es j k =
+    (x : Entry) × (slice_get es j ≡ Some x) × (k < key_count) × Shows m n p (state_of x.0) k
+    × NoneShowsBelow m n p es j
+
+-- no key shows anything where fewer than b presses lead, and no accent is pending
+abbrev pub AreCellsClear : MapValue → MapValue → ℕ → Type 0
+AreCellsClear m n b =
+    (path : List Move) → IsPath (alone m) path → presses_along path < b
+    → NoneShows m n None (state_after (alone m) path)
+
+-- nor where they lead by a tap of the accent's dead key
+abbrev pub IsAccentClear : MapValue → MapValue → ℕ → ℕ → Type 0
+IsAccentClear m n i b =
+    (before later : List Move) → IsPath (alone m) before → IsOfferedIn (alone m) (state_after (alone m) before) i
+    → IsPathFrom (alone m) (state_after (alone m) before) later
+    → presses_along before + 1 + presses_along later < b
+    → NoneShows m n (Some i) (state_from (alone m) (state_after (alone m) before) later)

@@ -1,0 +1,187 @@
+//! What a press of a key shows of the difference of two keymaps.
+ghost use Rattle.std.specs.Prelude.{◌≡◌, ◌<◌, ◌^◌, ℕ, None, Some, true, false, length, IfSome, MatchOption};
+ghost use Rattle.keymap_core.specs.Maps.{accent_at};
+ghost use Rattle.keymap_core.specs.Numbers.{key_count};
+ghost use Rattle.console_core.specs.Answers.{composed_by};
+ghost use Rattle.console_states.specs.Moves.{Holds, IsIdle, alone};
+ghost use Rattle.console_states.specs.Searching.{state_of, under_of};
+ghost use Rattle.keymap_diff.specs.Inner.Showing.{AreCellsAlike, IsFirstShown, IsUnnoticed, MakesSame, NoneShows};
+ghost use Rattle.keymap_diff.specs.Inner.Showing.{NoneShowsBelow, Shows, ShowsNothing};
+
+use crate::compared::have_same_results;
+use console_core::is_usable;
+use console_states::{Held, Keymaps, Met, entry};
+use keymap_core::{
+    Action, Cell, KEY_COUNT, KeyCode, KeyMap, Keymap, MODIFIERS, Modifier, key_with,
+};
+
+/// Two keymaps that are told apart.
+#[derive(Clone, Copy)]
+pub(crate) struct Both<'a> {
+    pub(crate) old: &'a KeyMap,
+    pub(crate) new: &'a KeyMap,
+}
+
+/// A place where a press of the key, or its release, shows the difference.
+#[derive(Clone, Copy)]
+pub(crate) struct Shown {
+    pub(crate) place: usize,
+    pub(crate) key: KeyCode,
+}
+
+/// Whether a key that holds the modifier takes nothing by the cell.
+fn is_unnoticed(cell: &Cell, modifier: Modifier) -> bool
+    ensures unnoticed { result ≡ true → IsUnnoticed modifier cell.now }
+    ensures noticed { result ≡ false → IsUnnoticed modifier cell.now → ⊥ }
+{
+    match cell {
+        Cell::Char(_) => false,
+        Cell::Act(action) => *action != Action::Mod(modifier),
+    }
+}
+
+/// The modifier that the key holds, if it holds one.
+fn held_by(held: &Held, key: KeyCode) -> Option<Modifier>
+    ensures { MatchOption result (IsIdle (state_of held.now) key) (λ i. Holds (state_of held.now) key i) }
+{
+    for modifier in MODIFIERS {
+        if let Some(holder) = held.holder(modifier) {
+            if holder.get() == key.get() {
+                return Some(modifier);
+            }
+        }
+    }
+    None
+}
+
+/// What the accent makes of the character.
+fn made(map: &KeyMap, accent: u8, c: char) -> Option<char>
+    ensures { result ≡ composed_by (accent_at map.now accent) c }
+{
+    if c == ' ' {
+        map.own(accent)
+    } else {
+        map.composed(accent, c)
+    }
+}
+
+impl<'a> Both<'a> {
+    /// The keymaps of the searches: states and moves are those of the old keymap alone.
+    pub(crate) fn maps(&self) -> Keymaps<'a>
+        ensures alone { under_of result ≡ alone self.now.old.now }
+        ensures first { result.first.now ≡ self.now.old.now }
+    {
+        Keymaps {
+            first: self.old,
+            second: self.old,
+            has_loads: false,
+        }
+    }
+
+    /// Whether the cells are the same, and a dead key can be used under both keymaps or under neither.
+    fn are_alike(&self, old: &Cell, new: &Cell) -> bool
+        ensures alike { result ≡ true → AreCellsAlike self.now.old.now self.now.new.now old.now new.now }
+        ensures differ { result ≡ false → AreCellsAlike self.now.old.now self.now.new.now old.now new.now → ⊥ }
+    {
+        if *old != *new {
+            return false;
+        }
+        match old {
+            Cell::Act(Action::DeadKey(accent)) => {
+                is_usable(self.old, accent.get()) == is_usable(self.new, accent.get())
+            }
+            _ => true,
+        }
+    }
+
+    /// Whether the accent makes the same of the character.
+    fn makes_alike(&self, accent: u8, c: char) -> bool
+        ensures same { result ≡ true → MakesSame self.now.old.now self.now.new.now accent c }
+        ensures other { result ≡ false → MakesSame self.now.old.now self.now.new.now accent c → ⊥ }
+    {
+        let old = made(self.old, accent, c);
+        let new = made(self.new, accent, c);
+        old == new
+    }
+
+    /// Whether the accent makes the same of each character.
+    pub(crate) fn makes_all_alike(&self, accent: u8) -> bool
+        ensures { result ≡ true → (c : ℕ) → MakesSame self.now.old.now self.now.new.now accent c }
+    {
+        let old = self.old.accent_or_blank(accent);
+        let new = self.new.accent_or_blank(accent);
+        self.makes_alike(accent, ' ') && have_same_results(old.pairs(), new.pairs())
+    }
+
+    /// Whether the cells that the key looks up show the difference, where no accent is pending.
+    fn shows_cells(&self, held: &Held, key: KeyCode) -> bool
+        ensures shown { result ≡ true → Shows self.now.old.now self.now.new.now None (state_of held.now) key }
+        ensures nothing { result ≡ false → ShowsNothing self.now.old.now self.now.new.now None (state_of held.now) key }
+    {
+        let selection = held.selection();
+        let old = selection.look(self.old, key);
+        let new = selection.look(self.new, key);
+        if self.are_alike(&old, &new) {
+            return false;
+        }
+        match held_by(held, key) {
+            None => true,
+            Some(modifier) => !(is_unnoticed(&old, modifier) && is_unnoticed(&new, modifier)),
+        }
+    }
+
+    /// Whether what the pending accent makes shows it.
+    fn shows_accent(&self, held: &Held, accent: u8, key: KeyCode) -> bool
+        ensures shown { result ≡ true → Shows self.now.old.now self.now.new.now (Some accent) (state_of held.now) key }
+        ensures nothing { result ≡ false → ShowsNothing self.now.old.now self.now.new.now (Some accent) (state_of held.now) key }
+    {
+        match &held.selection().look(self.old, key) {
+            Cell::Char(c) => !self.makes_alike(accent, *c),
+            Cell::Act(Action::DeadKey(other)) => {
+                other.get() == accent && !held.holds(key) && !self.makes_alike(accent, ' ')
+            }
+            Cell::Act(_) => false,
+        }
+    }
+
+    /// Whether a press of the key or its release shows it.
+    fn shows(&self, held: &Held, pending: Option<u8>, key: KeyCode) -> bool
+        ensures shown { result ≡ true → Shows self.now.old.now self.now.new.now pending (state_of held.now) key }
+        ensures nothing { result ≡ false → ShowsNothing self.now.old.now self.now.new.now pending (state_of held.now) key }
+    {
+        match pending {
+            None => self.shows_cells(held, key),
+            Some(accent) => self.shows_accent(held, accent, key),
+        }
+    }
+
+    /// The first key that does.
+    fn key_showing(&self, held: &Held, pending: Option<u8>) -> Option<KeyCode>
+        ensures { MatchOption result (NoneShows self.now.old.now self.now.new.now pending (state_of held.now))
+            (λ k. (k < key_count) × Shows self.now.old.now self.now.new.now pending (state_of held.now) k) }
+    {
+        for code in 0..KEY_COUNT as u8 {
+            let key = key_with(code);
+            if self.shows(held, pending, key) {
+                return Some(key);
+            }
+        }
+        None
+    }
+
+    /// The first place where a key does.
+    pub(crate) fn first_showing(&self, met: &Met, pending: Option<u8>) -> Option<Shown>
+        ensures small { IfSome result (λ at. at.place < 2 ^ 63) }
+        ensures first { MatchOption result
+            (NoneShowsBelow self.now.old.now self.now.new.now pending met.now.entries (length met.now.entries))
+            (λ at. IsFirstShown self.now.old.now self.now.new.now pending met.now.entries at.place at.key) }
+    {
+        for place in 0..met.len() {
+            let (held, _) = entry(met, place);
+            if let Some(key) = self.key_showing(&held, pending) {
+                return Some(Shown { place, key });
+            }
+        }
+        None
+    }
+}

@@ -5,6 +5,7 @@ mod Common
 mod Counted
 mod CoverScripts
 mod Covered
+mod Differing
 mod Dumped
 mod OneSlot
 mod PlainScripts

@@ -1,5 +1,6 @@
 -- What differs between two keymaps, and what tells them apart, as a script. What is told stands at the places `{}` of its
 -- words.
+use mathlib.Core.Bool.{beq}
 use Rattle.std.specs.Prelude.{ℕ, ◌==◌, Bool, true, false, List, [], ◌∷◌, ◌++◌, ◌||◌, ◌&&◌, not}
 use Rattle.std.specs.Prelude.{codes, decimal, drop}
 use Rattle.std.specs.Prelude.{length, slice_index_or, Option, Some, None, if◌then◌else◌}
@@ -63,7 +64,7 @@ column_item columns column =
 -- the names of columns
 abbrev pub columns_text : List Bool → List ℕ
 columns_text columns =
-    if list_any (λ is_in. is_in == false) columns
+    if list_any (λ is_in. beq is_in false) columns
     then drop 2 (flat_map (column_item columns) (range_with_len 0 column_count))
     else codes "all columns"
 

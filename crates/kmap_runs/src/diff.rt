@@ -6,6 +6,7 @@ ghost use Rattle.keymap_core.specs.Numbers.{column_count};
 ghost use Rattle.keymap_text.specs.Printed.{cell_text as cell_text_of};
 ghost use Rattle.play_core.specs.Spelling.{sent_line};
 ghost use Rattle.play_core.specs.Written.{answer_text as answer_text_of};
+ghost use Rattle.kmap_runs.specs.Cover.{with_number};
 ghost use Rattle.kmap_runs.specs.Diff as spec;
 ghost use Rattle.kmap_runs.specs.Joined.{AreOfSome, told};
 
@@ -45,19 +46,25 @@ fn made_text(alloc: Global, made: Option<char>) -> Result<Vec<u8>, AllocError>
     }
 }
 
+/// Adds a slot, if it isn't there.
+fn add_slot(slots: &mut Vec<u8>, slot: u8) -> Added
+    ensures { OnOk result (slots.new.items ≡ with_number slots.old.items slot) }
+{
+    if !slots.contains(&slot) {
+        slots.push(slot)?;
+    }
+    Ok(())
+}
+
 /// Adds the slot of the change, if it isn't there.
-fn add_slot(slots: &mut Vec<u8>, change: &Change) -> Added
+fn add_slot_of(slots: &mut Vec<u8>, change: &Change) -> Added
     ensures { OnOk result (slots.new.items ≡ spec.with_slot slots.old.items change.now) }
 {
     match change {
-        Change::Cell { slot, .. } | Change::Letter { slot, .. } => {
-            if !slots.contains(slot) {
-                slots.push(*slot)?;
-            }
-        }
-        _ => {}
+        Change::Cell { slot, .. } => add_slot(slots, *slot),
+        Change::Letter { slot, .. } => add_slot(slots, *slot),
+        _ => Ok(()),
     }
-    Ok(())
 }
 
 fn slots_of(alloc: Global, changes: &[Change]) -> Result<Vec<u8>, AllocError>
@@ -65,7 +72,7 @@ fn slots_of(alloc: Global, changes: &[Change]) -> Result<Vec<u8>, AllocError>
 {
     let mut slots = Vec::new(alloc);
     for change in changes {
-        add_slot(&mut slots, change)?;
+        add_slot_of(&mut slots, change)?;
     }
     Ok(slots)
 }
@@ -178,14 +185,14 @@ fn subject(alloc: Global, line: &Line) -> Result<Vec<u8>, AllocError>
 {
     let changes = line.changes.as_slice();
     match line.label.way {
-        Change::Slots { .. } => filled(alloc, SLOT_COUNT, &[]),
+        Change::Slots { .. } => Vec::from_slice(alloc, SLOT_COUNT),
         Change::Cell { .. } => {
             let slots = slots_text(alloc, changes)?;
             let columns = columns_text(alloc, &line.label.columns)?;
             filled(alloc, CELL, &[slots.as_slice(), columns.as_slice()])
         }
         Change::Letter { .. } => filled(alloc, LOCK, &[slots_text(alloc, changes)?.as_slice()]),
-        Change::Accents { .. } => filled(alloc, ACCENT_COUNT, &[]),
+        Change::Accents { .. } => Vec::from_slice(alloc, ACCENT_COUNT),
         Change::Accent { accent, .. } => filled(alloc, ACCENT, &[accent_name(accent).as_slice()]),
         Change::Pair { accent, .. } => {
             let bases = bases_text(alloc, changes)?;

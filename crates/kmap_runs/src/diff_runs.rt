@@ -24,7 +24,7 @@ fn are_same<'a>(alloc: Global, old: &'a KeyMap, new: &'a KeyMap) -> Result<bool,
     the_same_keymaps_have_no_changes();
     let seen = None;
     let found = changes(alloc, &Versions { old, new, seen })?;
-    Ok(found.is_empty())
+    Ok(found.as_slice().is_empty())
 }
 
 /// Two keymaps with what presses can see under each, unless a search gave up.

@@ -1,0 +1,113 @@
+-- Events behind others: what is sent for them, and whether a key is pressed after them.
+use Rattle.kmap_runs.proofs.Common.{◌≡◌, ℕ, ◌+◌, ◌<◌, Bool, true, false, List, [], ◌∷◌, ◌++◌, length, take, get_or}
+use Rattle.kmap_runs.proofs.Common.{reverse, if◌then◌else◌, refl, ap, sym, ◌∙◌, rules, append_assoc, append-nil, flat_map, Event, Sent}
+use Rattle.kmap_runs.proofs.Common.{codes, comment, map, Ok}
+use Rattle.std.proofs.Common.{eqb-true}
+use Rattle.std.specs.Prelude.{◌||◌, ◌&&◌, not, ◌==◌, IfOk, Result, Err}
+use Rattle.std.proofs.lemmas.Grind.{flat_map-append}
+use Rattle.std.proofs.lemmas.List.{reverse-append, take_more, nil_from_length}
+use Rattle.console_core.proofs.Deliveries.{reverse-cons}
+use Rattle.console_core.proofs.OneMore.{pressed-press, pressed-release, pressed-reset, pressed-load}
+use Rattle.console_core.specs.History.{pressed}
+use Rattle.console_core.specs.declared.event.Event.TheVariants as event
+use Rattle.play_core.specs.Spelling.{sent_line}
+use Rattle.keymap_diff.specs.declared.change.Change.{Change}
+use Rattle.keymap_diff.specs.declared.change.Change.TheVariants as change
+use Rattle.kmap_runs.specs.Diff.{is_pressed_by, is_unseen_way, line_text, sent_along, sent_behind, unseen_text}
+use Rattle.kmap_runs.specs.Diff.{values_of, way_line}
+use Rattle.kmap_runs.specs.Joined.{told}
+use Rattle.kmap_runs.specs.declared.joined.Line.{Line}
+
+by_press : (a b : Bool) → (if b then true else a) ≡ (a || b)
+by_press true true = refl
+by_press true false = refl
+by_press false true = refl
+by_press false false = refl
+
+by_release : (a b : Bool) → (if b then false else a) ≡ (a && not b)
+by_release true true = refl
+by_release true false = refl
+by_release false true = refl
+by_release false false = refl
+
+-- whether a key is pressed after a further event
+pressed_on : (k : ℕ) (e : Event) (h : List Event) → pressed k (e ∷ h) ≡ is_pressed_by e k (pressed k h)
+pressed_on k (event.Press j) h = pressed-press k j h ∙ by_press (pressed k h) (j == k)
+pressed_on k (event.Release j) h = pressed-release k j h ∙ by_release (pressed k h) (j == k)
+pressed_on k event.Reset h = pressed-reset k h
+pressed_on k event.Load h = pressed-load k h
+
+-- the first events of a list, and the next one, with the newest first
+reverse_more : (es : List Event) (i : ℕ) (e : Event) → i < length es → e ≡ get_or es i e
+    → reverse (take (i + 1) es) ≡ e ∷ reverse (take i es)
+reverse_more es i e low at =
+    let more = take_more es i e low in
+    let swapped = reverse-append (take i es) (e ∷ []) in cc (more, at, swapped)
+
+pub pressed_more : (k : ℕ) (es : List Event) (i : ℕ) (e : Event) (was : Bool) → i < length es → e ≡ get_or es i e
+    → was ≡ pressed k (reverse (take i es)) → is_pressed_by e k was ≡ pressed k (reverse (take (i + 1) es))
+pressed_more k es i e was low at so =
+    ap (is_pressed_by e k) so ∙ sym (pressed_on k e (reverse (take i es)))
+    ∙ ap (pressed k) (sym (reverse_more es i e low at))
+
+-- what is sent for events, and for one behind them
+sent_behind_all : (h es : List Event) (e : Event)
+    → sent_along h (es ++ e ∷ []) ≡ sent_along h es ++ sent_behind (reverse es ++ h) e ∷ []
+sent_behind_all h [] e = refl
+sent_behind_all h (x ∷ es) e =
+    ap (λ l. sent_behind h x ∷ l) (sent_behind_all (x ∷ h) es e)
+    ∙ ap (λ g. sent_behind h x ∷ sent_along (x ∷ h) es ++ sent_behind g e ∷ []) (sym (reverse-cons x es h))
+
+-- the lines of the first events, and that of the next one
+lines_more : (es : List Event) (i : ℕ) (e : Event) → i < length es → e ≡ get_or es i e
+    → flat_map sent_line (sent_along [] (take (i + 1) es))
+    ≡ flat_map sent_line (sent_along [] (take i es)) ++ sent_line (sent_behind (reverse (take i es)) e)
+lines_more es i e low at =
+    let more = take_more es i e low in
+    let sent = sent_behind_all [] (take i es) e in
+    let whole = append-nil (reverse (take i es)) in
+    let lines = flat_map-append sent_line (sent_along [] (take i es)) (sent_behind (reverse (take i es)) e ∷ []) in
+    let one = append-nil (sent_line (sent_behind (reverse (take i es)) e)) in cc (more, at, sent, whole, lines, one)
+
+pub script_more : (es before : List Event) (i : ℕ) (e : Event) (old all more : List ℕ)
+    → more ≡ all ++ sent_line (sent_behind (reverse before) e)
+    → all ≡ old ++ flat_map sent_line (sent_along [] (take i es)) → before ≡ take i es → i < length es
+    → e ≡ get_or es i e → more ≡ old ++ flat_map sent_line (sent_along [] (take (i + 1) es))
+script_more es before i e old all more line so front low at =
+    let behind = lines_more es i e low at in
+    cc (
+      line,
+      so,
+      front,
+      behind,
+      append_assoc old (flat_map sent_line (sent_along [] (take i es))) (sent_line (sent_behind (reverse (take i es)) e)),
+    )
+
+-- the texts of lines, and those of what they tell
+pub lines_told : (ls : List Line) → flat_map (λ l. line_text (told l)) ls ≡ flat_map line_text (map told ls)
+lines_told [] = refl
+lines_told (l ∷ ls) = ap (λ t. line_text (told l) ++ t) (lines_told ls)
+
+-- the line of what changes otherwise than by how pairs are listed
+pub other_line : (way : Change) (subject : List ℕ) → ((i : ℕ) → way ≡ change.ListedOtherwise i → ⊥)
+    → way_line way subject
+    ≡ comment (codes " {}{}: {} -> {}")
+    (unseen_text (is_unseen_way way) ∷ subject ∷ (values_of way).0 ∷ (values_of way).1 ∷ [])
+other_line (change.ListedOtherwise i) subject other = absurd (other i refl)
+other_line (change.Slots a b) subject other = refl
+other_line (change.Cell s c a b u) subject other = refl
+other_line (change.Letter s a b u) subject other = refl
+other_line (change.Accents a b) subject other = refl
+other_line (change.Accent i a b u) subject other = refl
+other_line (change.Pair i base a b u) subject other = refl
+
+-- whether nothing was found is whether this holds
+pub none_found : {X P : Type 0} (xs : List X) (none : Bool) → none ≡ (length xs == 0)
+    → (xs ≡ [] → P) × (P → xs ≡ []) → (none ≡ true → P) × (P → none ≡ true)
+none_found xs none e law =
+    (λ yes. law.0 (nil_from_length xs (eqb-true _ 0 (sym e ∙ yes))), λ p. e ∙ ap (λ z. length z == 0) (law.1 p))
+
+-- what holds of the value, if there is one, by what else holds of it
+pub so_if_ok : {X E : Type 0} (r : Result X E) (P Q : X → Type 0) → ((x : X) → P x → Q x) → IfOk r P → IfOk r Q
+so_if_ok (Ok x) P Q so p = so x p
+so_if_ok (Err e) P Q so p = tt

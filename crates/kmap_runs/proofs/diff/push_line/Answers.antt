@@ -1,0 +1,29 @@
+use Rattle.kmap_runs.proofs.Common.{◌≡◌, ap}
+use Rattle.kmap_runs.specs.Diff.{subject_text, values_of}
+use Rattle.kmap_runs.specs.Joined.{told}
+use Rattle.kmap_runs.proofs.Differing.{other_line}
+use Rattle.kmap_runs.proofs.diff.push_line.Goals as goal
+
+pub returns-in-ListedOtherwise : goal.returns-in-ListedOtherwise
+returns-in-ListedOtherwise c =
+    rw c.in-ListedOtherwise.is
+    (rw (c.as_slice.ensures.value, c.in_ok-subject.ensures, c.in-ListedOtherwise.is) at c.push_comment.ensures)
+
+pub returns : goal.returns
+returns c =
+    let line = c.args.line.now in
+    let way = line.label.way in
+    let values = c.in_ok-old-in_default.ensures in
+    let old : c.in_ok-old-in_default.old.items ≡ (values_of way).0 = ap (λ p. p.0) values in
+    let new : c.in_ok-old-in_default.new.items ≡ (values_of way).1 = ap (λ p. p.1) values in
+    rw (other_line way (subject_text (told line)) c.in_default.not-ListedOtherwise)
+    (rw (
+      c.either-unseen.ensures,
+      c.is_unseen_way.ensures,
+      c.as_slice-in_default.ensures.value,
+      c.in_ok-subject.ensures,
+      c.as_slice-in_default-2.ensures.value,
+      old,
+      c.as_slice-in_default-3.ensures.value,
+      new,
+    ) at c.push_comment-in_default.ensures)

@@ -31,15 +31,14 @@ fn keymap(rt: &impl Abort, alloc: Global, base: Cell, shifted: Cell, enye: char)
     map
 }
 
+/// Each second column is one with shift.
 fn set(map: &mut KeyMap, slot: u8, base: Cell, shifted: Cell) {
-    let cells = [base, shifted, base, shifted, base, shifted, base, shifted];
-    map.set(
-        slot,
-        Entry {
-            cells,
-            flag: LockFlag::O,
-        },
-    );
+    let mut cells = [base; 8];
+    for column in 0..4 {
+        cells[2 * column + 1] = shifted;
+    }
+    let flag = LockFlag::O;
+    map.set(slot, Entry { cells, flag });
 }
 
 fn press(key: u8) -> Event {
@@ -89,7 +88,13 @@ fn nop_is_told_from_a_dead_key_by_the_release(rt: HostRuntime) {
     let new = keymap(&rt, rt.alloc(), Cell::Act(dead_tilde()), NOP, 'm');
     let events = [press(2), release(2)];
     let released = Answer::Released(dead_tilde());
-    expect_told(&rt, rt.alloc(), (&old, &new), &events, (Answer::None, released));
+    expect_told(
+        &rt,
+        rt.alloc(),
+        (&old, &new),
+        &events,
+        (Answer::None, released),
+    );
 }
 
 #[test]

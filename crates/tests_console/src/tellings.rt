@@ -2,10 +2,9 @@
 //! can't.
 
 use crate::asserts::expect_equal;
+use crate::console::{Input, event};
 use console_core::{Answer, Event};
-use keymap_core::{
-    Accent, AccentIndex, Action, Cell, Entry, KeyMap, Lock, LockFlag, Modifier, key_with,
-};
+use keymap_core::{Accent, AccentIndex, Action, Cell, Entry, KeyMap, Lock, LockFlag, Modifier};
 use keymap_diff::{Telling, telling_apart};
 use std::alloc::Global;
 use std::process::Abort;
@@ -41,14 +40,6 @@ fn set(map: &mut KeyMap, slot: u8, base: Cell, shifted: Cell) {
     map.set(slot, Entry { cells, flag });
 }
 
-fn press(key: u8) -> Event {
-    Event::Press(key_with(key))
-}
-
-fn release(key: u8) -> Event {
-    Event::Release(key_with(key))
-}
-
 fn expect_told(
     rt: &impl Abort,
     alloc: Global,
@@ -77,7 +68,7 @@ fn character(c: char) -> Answer {
 fn cells_are_told_by_a_press(rt: HostRuntime) {
     let old = keymap(&rt, rt.alloc(), NOP, Cell::Char('a'), 'm');
     let new = keymap(&rt, rt.alloc(), NOP, Cell::Char('b'), 'm');
-    let events = [press(1), press(2)];
+    let events = [event(&rt, Input::Down(1)), event(&rt, Input::Down(2))];
     let answers = (character('a'), character('b'));
     expect_told(&rt, rt.alloc(), (&old, &new), &events, answers);
 }
@@ -86,7 +77,7 @@ fn cells_are_told_by_a_press(rt: HostRuntime) {
 fn nop_is_told_from_a_dead_key_by_the_release(rt: HostRuntime) {
     let old = keymap(&rt, rt.alloc(), NOP, NOP, 'm');
     let new = keymap(&rt, rt.alloc(), Cell::Act(dead_tilde()), NOP, 'm');
-    let events = [press(2), release(2)];
+    let events = [event(&rt, Input::Down(2)), event(&rt, Input::Up(2))];
     let released = Answer::Released(dead_tilde());
     expect_told(
         &rt,
@@ -101,7 +92,12 @@ fn nop_is_told_from_a_dead_key_by_the_release(rt: HostRuntime) {
 fn accents_are_told_behind_their_dead_key(rt: HostRuntime) {
     let old = keymap(&rt, rt.alloc(), NOP, Cell::Act(dead_tilde()), 'm');
     let new = keymap(&rt, rt.alloc(), NOP, Cell::Act(dead_tilde()), 'o');
-    let events = [press(1), press(2), release(2), press(3)];
+    let events = [
+        event(&rt, Input::Down(1)),
+        event(&rt, Input::Down(2)),
+        event(&rt, Input::Up(2)),
+        event(&rt, Input::Down(3)),
+    ];
     let answers = (character('m'), character('o'));
     expect_told(&rt, rt.alloc(), (&old, &new), &events, answers);
 }

@@ -1,97 +1,95 @@
 //! Keymaps that can be told apart, with the events and the two answers that were worked out by hand, and keymaps that
 //! can't.
 
-use crate::asserts::expect_equal;
+use crate::asserts::{expect_equal, expect_equal_at};
 use crate::console::{Input, event};
 use console_core::{Answer, Event};
-use keymap_core::{Accent, AccentIndex, Action, Cell, Entry, KeyMap, Lock, LockFlag, Modifier};
+use keymap_core::{AccentIndex, Action, KeyMap};
 use keymap_diff::{Telling, telling_apart};
+use keymap_text::read_map;
 use std::alloc::Global;
 use std::process::Abort;
 
-const TILDE: u8 = 3;
+/// Key 2 gives a character with shift, and in the other keymap another one.
+const LETTER: &[u8] = b"001 lshift lshift lshift lshift lshift lshift lshift lshift O
+002 nop 'a' nop 'a' nop 'a' nop 'a' O
+";
 
-const NOP: Cell = Cell::Act(Action::Nop);
+const OTHER_LETTER: &[u8] = b"001 lshift lshift lshift lshift lshift lshift lshift lshift O
+002 nop 'b' nop 'b' nop 'b' nop 'b' O
+";
 
-const SHIFT: Cell = Cell::Act(Action::Mod(Modifier::LeftShift));
+/// Key 2 is `nop`, and in the other keymap a dead key.
+const NOTHING: &[u8] = b"002 nop nop nop nop nop nop nop nop O
+dtil '~' ( 'n' 'm' )
+";
 
-/// A keymap of `nop` where key 1 is lshift, key 2 has the cells without and with shift, and key 3 is `n`.
-fn keymap(rt: &impl Abort, alloc: Global, base: Cell, shifted: Cell, enye: char) -> KeyMap {
-    let mut map = KeyMap::new(alloc).expect(rt, "a keymap");
-    for slot in 0..=255u8 {
-        set(&mut map, slot, NOP, NOP);
-    }
-    set(&mut map, 1, SHIFT, SHIFT);
-    set(&mut map, 2, base, shifted);
-    set(&mut map, 3, Cell::Char('n'), Cell::Char('n'));
-    let mut tilde = Accent::new('~');
-    tilde.push_pair('n', enye).expect(rt, "a pair");
-    map.set_accent(TILDE, tilde).expect(rt, "the tilde");
-    map
-}
+const DEAD_KEY: &[u8] = b"002 dtil nop dtil nop dtil nop dtil nop O
+dtil '~' ( 'n' 'm' )
+";
 
-/// Each second column is one with shift.
-fn set(map: &mut KeyMap, slot: u8, base: Cell, shifted: Cell) {
-    let mut cells = [base; 8];
-    for column in 0..4 {
-        cells[2 * column + 1] = shifted;
-    }
-    let flag = LockFlag::O;
-    map.set(slot, Entry { cells, flag });
-}
+/// With shift key 2 is a dead key, behind which the two keymaps make another character of that of key 3.
+const ACCENT: &[u8] = b"001 lshift lshift lshift lshift lshift lshift lshift lshift O
+002 nop dtil nop dtil nop dtil nop dtil O
+003 'n' 'n' 'n' 'n' 'n' 'n' 'n' 'n' O
+dtil '~' ( 'n' 'm' )
+";
 
-fn expect_told(
-    rt: &impl Abort,
-    alloc: Global,
-    maps: (&KeyMap, &KeyMap),
-    wanted: &[Event],
-    answers: (Answer, Answer),
-) {
-    match telling_apart(alloc, maps.0, maps.1).expect(rt, "an answer") {
-        Telling::Told { events, old, new } => {
-            expect_equal(rt, &events.as_slice(), &wanted);
-            expect_equal(rt, &(old, new), &answers);
-        }
-        _ => expect_equal(rt, &false, &true),
-    }
-}
+const OTHER_ACCENT: &[u8] = b"001 lshift lshift lshift lshift lshift lshift lshift lshift O
+002 nop dtil nop dtil nop dtil nop dtil O
+003 'n' 'n' 'n' 'n' 'n' 'n' 'n' 'n' O
+dtil '~' ( 'n' 'o' )
+";
 
-fn dead_tilde() -> Action {
-    Action::DeadKey(AccentIndex::new(TILDE))
-}
+/// A key that holds shift looks up another action in each of the two, which does nothing there.
+const HOLDER: &[u8] = b"001 lshift nop lshift nop lshift nop lshift nop O
+";
+
+const OTHER_HOLDER: &[u8] = b"001 lshift clock lshift clock lshift clock lshift clock O
+";
 
 fn character(c: char) -> Answer {
     Answer::Char { c, meta: false }
 }
 
+fn map_of(rt: &impl Abort, alloc: Global, text: &[u8]) -> KeyMap {
+    read_map(alloc, text).expect(rt, "a keymap")
+}
+
+fn expect_told(
+    rt: &impl Abort,
+    alloc: Global,
+    (old, new): (&[u8], &[u8]),
+    wanted: &[Event],
+    answers: (Answer, Answer),
+) {
+    let (first, second) = (map_of(rt, alloc, old), map_of(rt, alloc, new));
+    match telling_apart(alloc, &first, &second).expect(rt, "an answer") {
+        Telling::Told { events, old, new } => {
+            expect_equal(rt, &events.as_slice(), &wanted);
+            expect_equal(rt, &(old, new), &answers);
+        }
+        _ => expect_equal_at(rt, &answers, &false, &true),
+    }
+}
+
 #[test]
 fn cells_are_told_by_a_press(rt: HostRuntime) {
-    let old = keymap(&rt, rt.alloc(), NOP, Cell::Char('a'), 'm');
-    let new = keymap(&rt, rt.alloc(), NOP, Cell::Char('b'), 'm');
     let events = [event(&rt, Input::Down(1)), event(&rt, Input::Down(2))];
     let answers = (character('a'), character('b'));
-    expect_told(&rt, rt.alloc(), (&old, &new), &events, answers);
+    expect_told(&rt, rt.alloc(), (LETTER, OTHER_LETTER), &events, answers);
 }
 
 #[test]
 fn nop_is_told_from_a_dead_key_by_the_release(rt: HostRuntime) {
-    let old = keymap(&rt, rt.alloc(), NOP, NOP, 'm');
-    let new = keymap(&rt, rt.alloc(), Cell::Act(dead_tilde()), NOP, 'm');
     let events = [event(&rt, Input::Down(2)), event(&rt, Input::Up(2))];
-    let released = Answer::Released(dead_tilde());
-    expect_told(
-        &rt,
-        rt.alloc(),
-        (&old, &new),
-        &events,
-        (Answer::None, released),
-    );
+    let tilde = Action::DeadKey(AccentIndex::new(3));
+    let answers = (Answer::None, Answer::Released(tilde));
+    expect_told(&rt, rt.alloc(), (NOTHING, DEAD_KEY), &events, answers);
 }
 
 #[test]
 fn accents_are_told_behind_their_dead_key(rt: HostRuntime) {
-    let old = keymap(&rt, rt.alloc(), NOP, Cell::Act(dead_tilde()), 'm');
-    let new = keymap(&rt, rt.alloc(), NOP, Cell::Act(dead_tilde()), 'o');
     let events = [
         event(&rt, Input::Down(1)),
         event(&rt, Input::Down(2)),
@@ -99,15 +97,13 @@ fn accents_are_told_behind_their_dead_key(rt: HostRuntime) {
         event(&rt, Input::Down(3)),
     ];
     let answers = (character('m'), character('o'));
-    expect_told(&rt, rt.alloc(), (&old, &new), &events, answers);
+    expect_told(&rt, rt.alloc(), (ACCENT, OTHER_ACCENT), &events, answers);
 }
 
 #[test]
 fn a_holder_that_looks_up_another_action_is_never_told(rt: HostRuntime) {
-    let mut old = keymap(&rt, rt.alloc(), NOP, NOP, 'm');
-    let mut new = keymap(&rt, rt.alloc(), NOP, NOP, 'o');
-    set(&mut old, 1, SHIFT, NOP);
-    set(&mut new, 1, SHIFT, Cell::Act(Action::Lock(Lock::Caps)));
+    let old = map_of(&rt, rt.alloc(), HOLDER);
+    let new = map_of(&rt, rt.alloc(), OTHER_HOLDER);
     match telling_apart(rt.alloc(), &old, &new).expect(&rt, "an answer") {
         Telling::Never { forgets } => expect_equal(&rt, &forgets, &false),
         _ => expect_equal(&rt, &false, &true),

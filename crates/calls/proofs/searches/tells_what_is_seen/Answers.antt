@@ -5,7 +5,7 @@ use Rattle.console_states.specs.declared.search.End.TheVariants.{Complete}
 use Rattle.calls.proofs.searches.tells_what_is_seen.Goals as goal
 
 pub sights_in-given-requires : goal.sights_in-given-requires
-sights_in-given-requires c =
+sights_in-given-requires g c =
     let u : Under = alone c.alone-maps.result.first.now in
     let es = c.in_ok-met.met.entries in
     let ended : HasEnded u (start ∷ []) es Complete =

@@ -10,6 +10,7 @@ use keymap_text::read_map;
 use kmap_runs::RunError;
 use std::alloc::Global;
 use std::process::Abort;
+use std::test::Fail;
 use test_support::devices::{reader_of, slow_sheet_of};
 use test_support::keymaps::{
     ALT_SHIFT_WITH_TRAP, CAPS_ALONE, CAPS_WITH_NOPS, DUMPED_LINE, LETTER_AND_SHIFT, SHIFT_ALONE,
@@ -233,9 +234,9 @@ fn runs_write_their_output(rt: HostRuntime) {
 static TAKEN: [usize; 5] = [0, 1, 4095, 4096, 10_000];
 
 #[test]
-fn a_picture_is_written_until_its_writer_fails(rt: HostRuntime) {
-    let map = read_map(rt.alloc(), LETTER_AND_SHIFT).expect(&rt, "a keymap");
-    let wanted = picture(rt.alloc(), &map, &check(&map), Board::Iso).expect(&rt, "a picture");
+fn a_picture_is_written_until_its_writer_fails(rt: HostRuntime) -> Result<(), Fail> {
+    let map = read_map(rt.alloc(), LETTER_AND_SHIFT)?;
+    let wanted = picture(rt.alloc(), &map, &check(&map), Board::Iso)?;
     for &most in &TAKEN {
         let mut text = reader_of(LETTER_AND_SHIFT, 512, usize::MAX);
         let mut second = reader_of(b"", 1, usize::MAX);
@@ -255,18 +256,17 @@ fn a_picture_is_written_until_its_writer_fails(rt: HostRuntime) {
             is_front && writer.bytes.len() == most && writer.failed(),
         );
     }
+    Ok(())
 }
 
 const PRINTED: &[u8] = b"000 'a'    'A'    soh    soh    fkey01 scr16  0x20ac del    B\n";
 
 /// Tables print as their keymap, also narrow ones.
 #[test]
-fn tables_print_as_their_map(rt: HostRuntime) {
+fn tables_print_as_their_map(rt: HostRuntime) -> Result<(), Fail> {
     expect_written(&rt, rt.alloc(), Run::Dump, (&[0; 15_524], b""), true, b"");
-    let map = read_map(rt.alloc(), b"0 'a' 'A' SOH soh fkey1 scr16 0x20ac DEL b").expect(
-        &rt, "a keymap",
-    );
-    let tables = tables_of(&map).expect(&rt, "tables");
+    let map = read_map(rt.alloc(), b"0 'a' 'A' SOH soh fkey1 scr16 0x20ac DEL b")?;
+    let tables = tables_of(&map)?;
     expect_written(
         &rt,
         rt.alloc(),
@@ -277,17 +277,15 @@ fn tables_print_as_their_map(rt: HostRuntime) {
     );
     let mut printed = Vec::new(rt.alloc());
     for slot in 0..43u8 {
-        let number = [b'0', b'0' + slot / 10, b'0' + slot % 10];
-        printed.extend_from_slice(&number).expect(&rt, "memory");
+        printed.extend_from_slice(&[b'0', b'0' + slot / 10, b'0' + slot % 10])?;
         let rest: &[u8] = match slot {
             30 => b" 'a'    'A'    soh    soh    'a'    'A'    soh    soh    C\n",
             42 => b" lshift lshift lshift lshift lshift lshift lshift lshift O\n",
             _ => b" nul    nul    nul    nul    nul    nul    nul    nul    O\n",
         };
-        printed.extend_from_slice(rest).expect(&rt, "memory");
+        printed.extend_from_slice(rest)?;
     }
-    let map = read_map(rt.alloc(), LETTER_AND_SHIFT).expect(&rt, "a keymap");
-    let narrow = narrow_of(&map).expect(&rt, "tables");
+    let narrow = narrow_of(&read_map(rt.alloc(), LETTER_AND_SHIFT)?)?;
     expect_written(
         &rt,
         rt.alloc(),
@@ -296,6 +294,7 @@ fn tables_print_as_their_map(rt: HostRuntime) {
         true,
         &printed,
     );
+    Ok(())
 }
 
 fn has_line(report: &[u8], line: &[u8]) -> bool {
@@ -313,13 +312,13 @@ static LOCK_LINES: [(&[u8], &[u8]); 6] = [
 ];
 
 #[test]
-fn bearers_have_their_lines(rt: HostRuntime) {
+fn bearers_have_their_lines(rt: HostRuntime) -> Result<(), Fail> {
     for &(text, line) in &LOCK_LINES {
         let mut text = reader_of(text, 1, usize::MAX);
         let mut second = reader_of(b"", 1, usize::MAX);
         let mut writer = slow_sheet_of(1, usize::MAX);
-        let given = perform(Run::Check, rt.alloc(), &mut text, &mut second, &mut writer);
-        let _accepted = given.expect(&rt, "a report");
+        perform(Run::Check, rt.alloc(), &mut text, &mut second, &mut writer)?;
         expect_at(&rt, &line, has_line(writer.bytes.as_slice(), line));
     }
+    Ok(())
 }

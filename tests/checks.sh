@@ -65,6 +65,19 @@ broken() {
     mended "$file"
 }
 
+# each_told FILE EXPRESSION COMMAND LINE..: where the file is changed so, the command fails and says lines that begin so
+each_told() {
+    file=$1 expression=$2 command=$3
+    shift 3
+    breaks "$file" "$expression"
+    refuses "$1" "$command"
+    shift
+    for line do
+        holds "it does not say: $line" grep -q "^$line" said
+    done
+    mended "$file"
+}
+
 broken Makefile 's/^VERSION = .*/VERSION = 1.2/' \
     'failed: the Makefile has a version of three numbers' sh copy/tests/version.sh
 for page in man/kmap.1 man/kmap.3 man/kmap.5; do
@@ -87,8 +100,9 @@ broken docs/GUIDE.md "1s/\$/ $older/" "failed: $older stands in: ./docs/GUIDE.md
 manual() {
     sh copy/tests/manual.sh "$program"
 }
-broken docs/FORMATS.md '/^| BadWord |/d' 'failed: the formats have the kinds of faults of the sources' manual
-broken docs/FORMATS.md '/^| dead-key |/d' 'failed: the formats have the kinds of diagnostics of the sources' manual
+each_told docs/FORMATS.md '/^| BadWord |/d; /^| dead-key |/d' manual \
+    'failed: the formats have the kinds of faults of the sources' \
+    'failed: the formats have the kinds of diagnostics of the sources'
 broken include/kmap.h '/ kmap_start(/d' 'failed: the header has the functions of the sources' manual
 broken include/kmap.h 's/^#define KMAP_BAD_KIND .*//' \
     'failed: the header has the statuses of the sources' manual
@@ -105,15 +119,13 @@ for pair in 'dump spill the.help.lists.the.commands.of.the.source' \
 done
 
 # What the pages and completions lack.
-broken man/kmap.1 '/^\.It Cm draw /d' 'failed: kmap(1) has the command draw' manual
-broken man/kmap.1 '/^\.It Fl Fl typed/d' 'failed: kmap(1) has the option --typed of: play' manual
-broken man/kmap.1 's/BadWord/BadWards/' 'failed: kmap(1) tells of BadWord' manual
-broken man/kmap.1 's/^\.It dead-key$/.It dead-keys/' 'failed: kmap(1) tells what to do about dead-key' manual
-broken man/kmap.3 's/KMAP_BAD_KIND/KMAP_KIND/' 'failed: kmap(3) tells of KMAP_BAD_KIND' manual
-broken man/kmap.3 's/^\.Nm kmap_press/.Nm kmap_presses/' 'failed: kmap(3) has the name kmap_press' manual
-broken man/kmap.3 's/^\(\.F[on]\) kmap_start/\1 kmap_begin/' 'failed: kmap(3) tells of kmap_start' manual
-broken man/kmap.3 's/^\(\.It Fn kmap_check Ta\) .*/\1 100/' \
-    'failed: kmap(3) tells of the stack what the header does' manual
+each_told man/kmap.1 '/^\.It Cm draw /d; /^\.It Fl Fl typed/d; s/BadWord/BadWards/; s/^\.It dead-key$/.It dead-keys/' manual \
+    'failed: kmap(1) has the command draw' 'failed: kmap(1) has the option --typed of: play' \
+    'failed: kmap(1) tells of BadWord' 'failed: kmap(1) tells what to do about dead-key'
+each_told man/kmap.3 's/KMAP_BAD_KIND/KMAP_KIND/; s/^\.Nm kmap_press/.Nm kmap_presses/
+    s/^\(\.F[on]\) kmap_start/\1 kmap_begin/; s/^\(\.It Fn kmap_check Ta\) .*/\1 100/' manual \
+    'failed: kmap(3) tells of KMAP_BAD_KIND' 'failed: kmap(3) has the name kmap_press' \
+    'failed: kmap(3) tells of kmap_start' 'failed: kmap(3) tells of the stack what the header does'
 broken include/kmap.h '/^ \* At once: calls may share the text/d' \
     'failed: the comment of each function says what it needs and takes, but of: kmap_read_text' manual
 for shell in bash fish zsh; do

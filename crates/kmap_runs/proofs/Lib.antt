@@ -5,6 +5,7 @@ mod Common
 mod Counted
 mod CoverScripts
 mod Covered
+mod DiffScripts
 mod Differing
 mod Dumped
 mod OneSlot

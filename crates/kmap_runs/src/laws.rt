@@ -16,9 +16,13 @@ ghost use Rattle.play_core.specs.declared.show.Show.{Show as ShowValue};
 ghost use Rattle.play_core.specs.declared.show.Show.TheVariants as show;
 ghost use Rattle.play_core.specs.Typing.{IsTyped};
 ghost use Rattle.kmap_runs.specs.Cover.{CountedAreTold, IsCoverText, LeftOutCannotBeVisited};
+ghost use Rattle.keymap_diff.specs.Telling.{IsTelling};
+ghost use Rattle.keymap_diff.specs.declared.change.Change.{Change as ChangeValue};
+ghost use Rattle.keymap_diff.specs.declared.telling.Telling.{Telling as TellingValue};
+ghost use Rattle.kmap_runs.specs.Diff.{same_text};
 ghost use Rattle.kmap_runs.specs.Report.{report};
 ghost use Rattle.kmap_runs.specs.Replayed.{Delivers, ScriptTypes, AnswerReplays, AnswerReplaysBetween, ShowsScript};
-ghost use Rattle.kmap_runs.specs.Replayed.{PlaysCover, events_sent};
+ghost use Rattle.kmap_runs.specs.Replayed.{PlaysCover, TellingReplays, events_sent};
 ghost use Rattle.kmap_runs.specs.FmtRuns.{ChangedTextsSpellTheSame, PrintedLayoutsSpellTheSame};
 ghost use Rattle.keymap_tables.specs.Sources.{ReadsNarrow, ReadsTables};
 ghost use Rattle.kmap_runs.specs.Runs.{AcceptedKeepTheirPromise, AreDumped, CompilesNarrowly, CompilesText};
@@ -62,6 +66,16 @@ pub fn typing_scripts_are_plain()
 pub fn found_scripts_deliver_the_answer()
     ensures alone { (m : MapValue) (found : StickingValue) → IsAnswer m found → AnswerReplays m found }
     ensures between { (ms : Maps) (found : StickingValue) → IsAnswerBetween ms found → AnswerReplaysBetween ms found }
+{}
+
+/// What is printed of keymaps that differ is a script. Where they are told apart, it sends exactly the events that do
+/// so, none of them lost: `down` for a press of a key that isn't pressed, `repeat` for one of a key that is, and `up`
+/// of a pressed key. Two consoles that play it, one of each keymap alone, answer all events alike but the last, and
+/// that by the two answers of the verdict. Else it sends nothing, as what is printed of keymaps that are the same.
+pub fn told_scripts_tell_keymaps_apart()
+    ensures differ { (m n : MapValue) (found : List ChangeValue) (telling : TellingValue) → IsTelling m n telling
+        → TellingReplays m n found telling }
+    ensures same { IsScript same_text [] }
 {}
 
 /// What `play` types of the script that `type_run` printed for a sentence, over the same text, is that sentence.

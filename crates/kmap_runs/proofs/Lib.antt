@@ -8,6 +8,8 @@ mod Covered
 mod DiffScripts
 mod Differing
 mod Dumped
+mod EachOnce
+mod NamedSlots
 mod OneSlot
 mod PlainScripts
 mod Replayed

@@ -8,6 +8,7 @@ use Rattle.keymap_diff.proofs.Common.{state_from, presses_along, events_along, p
 use Rattle.keymap_diff.proofs.Common.{IsTrail, TellsApart, answer_to, Answer, ◌≢◌, NoneShows, Shows, ShowsNothing}
 use Rattle.keymap_diff.proofs.Common.{AreCellsClear}
 use Rattle.console_states.proofs.Looking.{push-reversed}
+use Rattle.keymap_diff.specs.Telling.{EndsByPress, IsAnsweredAlike}
 use Rattle.keymap_diff.specs.Inner.Searches.{IsFoundBy, IsMetFromStart, IsReach, IsReachAt, IsScript, IsSearched}
 use Rattle.keymap_diff.specs.Inner.Searches.{IsSearchedAt, IsTappedAt, IsWithin}
 use Rattle.keymap_diff.specs.Inner.Showing.{IsFirstShown, NoneShowsBelow}
@@ -17,7 +18,7 @@ use Rattle.keymap_diff.specs.declared.telling.Telling.{Telling}
 use Rattle.keymap_diff.specs.declared.telling.Telling.TheVariants.{Told, Never, Undecided}
 use Rattle.console_states.proofs.Beginning.{reached-one}
 use Rattle.console_states.proofs.Going.{pending-is, tap-pending}
-use Rattle.console_states.proofs.Shown.{short-tap}
+use Rattle.console_states.proofs.Shown.{short-admitted, short-tap}
 use Rattle.console_states.proofs.Tapping.{dead-tapped}
 use Rattle.console_states.proofs.Visits.{press-presses}
 use Rattle.keymap_diff.proofs.Clearing.{searched-cells}
@@ -30,14 +31,23 @@ presses-on : (path : List Move) (h : List Event) → presses (events_along path 
 presses-on [] h = omega arith
 presses-on (move ∷ path) h = search (rules, append_assoc, presses-on path h)
 
+-- the press behind where both consoles stand alike, and its release
+ends-press : (m n : MapValue) (h g : List Event) (s : State) (p : Option ℕ) (k : ℕ) → Placed m n g s p
+    → h ≡ Press k ∷ g → EndsByPress m n h
+ends-press m n h g s p k x e = (g, k, (short-admitted m g s x.first).2, inl e)
+
+ends-release : (m n : MapValue) (h g : List Event) (s : State) (p : Option ℕ) (k : ℕ) → Placed m n g s p
+    → h ≡ Release k ∷ Press k ∷ g → IsAnsweredAlike m n (Press k ∷ g) → EndsByPress m n h
+ends-release m n h g s p k x e same = (g, k, (short-admitted m g s x.first).2, inr (e, same))
+
 -- a script behind where both consoles stand alike
 script-told : (m n : MapValue) (h : List Event) (s : State) (p : Option ℕ) (k q : ℕ) → Placed m n h s p → k < 128
     → (IsPressAnsweredAlike m n h k → TellsApart m n (Release k ∷ Press k ∷ h)) → presses h ≡ q → (t : Telling)
     → IsScript m n h k t → IsFoundBy m n t (Some q)
 script-told m n h s p k q x key told count (Told es old new) (inl (e, a, b, apart)) =
-    search (rules, All-cons)
+    search (rules, All-cons, ends-press)
 script-told m n h s p k q x key told count (Told es old new) (inr (e, a, b, same)) =
-    search (rules, All-cons, press-presses)
+    search (rules, All-cons, press-presses, ends-release)
 script-told m n h s p k q x key told count (Never f) is = absurd is
 script-told m n h s p k q x key told count (Undecided r) is = absurd is
 

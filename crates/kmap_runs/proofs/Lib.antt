@@ -11,3 +11,4 @@ mod OneSlot
 mod PlainScripts
 mod Replayed
 mod Scripts
+mod Untyped

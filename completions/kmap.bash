@@ -10,7 +10,7 @@ _kmap_words() {
     lint) echo '--strict --name -h --help' ;;
     fmt) echo '--check --print -h --help' ;;
     play) echo '--typed --next -h --help' ;;
-    type) echo '--text -h --help' ;;
+    type) echo '--text --missing -h --help' ;;
     cover) echo '-h --help' ;;
     compile) echo '--narrow -h --help' ;;
     dump) echo '--narrow -h --help' ;;

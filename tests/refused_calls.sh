@@ -156,6 +156,7 @@ yields lint_run
 refuses fmt_run
 refuses fmt_print_run
 yields type_run
+yields missing_run
 yields cover_run
 yields file_error_line
 

@@ -140,6 +140,7 @@ refuses 1 search caps --next locked
 # A hash map that is refused room to grow asks for what it needs now, so this may go on and write the same.
 goes_on=yes
 refuses 0 type letter sentence
+refuses 1 type letter shift --missing
 # So does a vector.
 refuses 0 diff letter letter
 refuses 1 diff letter shift

@@ -37,6 +37,10 @@ pub(crate) const FAULTY: &[u8] = b")";
 /// Letters, one of which takes the dead key before its base, often enough that their list outgrows its memory.
 pub(crate) const SENTENCE: &[u8] = b"aA\xc3\xa9AaA\xc3\xa9AaA\xc3\xa9AaA\xc3\xa9A";
 
+/// A sentence of which most characters have no keys, enough of them that their lists outgrow their memory.
+pub(crate) const LACKING: &[u8] =
+    b"abcdefghijklmnopqrstuvwxyz\nABCDEFGHIJKLMNOPQRSTUVWXYZ\xe2\x82\xac\n";
+
 /// The keymap of a text without a fault.
 pub(crate) fn map_of(alloc: Global, text: &[u8]) -> Result<KeyMap, AllocError> {
     match read_map(alloc, text) {

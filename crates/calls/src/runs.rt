@@ -1,13 +1,13 @@
 //! The calls of kmap_runs. Where memory is refused, nothing was written.
 use crate::devices::{Given, mark, reader_of, writer};
-use crate::inputs::{CHANGED, Call, SENTENCE, TEXT, TRAP};
+use crate::inputs::{CHANGED, Call, LACKING, SENTENCE, TEXT, TRAP};
 use crate::outcome::{Outcome, ended, ended_untouched, is_text};
 use keymap_core::Write;
 use keymap_draw::Board;
 use kmap_runs::{
     RunError, check_brief_run, check_run, compile_narrow_run, compile_run, cover_run, diff_run,
     draw_run, dump_narrow_run, dump_run, file_error_line, fmt_print_run, fmt_run, lint_run,
-    search_run, type_run,
+    missing_run, search_run, type_run,
 };
 use std::alloc::Global;
 
@@ -26,6 +26,7 @@ pub(crate) fn of_texts<W: Write>(call: &Call<'_>, marks: &mut W) -> Option<Outco
         "fmt_run" => formats(alloc, marks),
         "fmt_print_run" => prints_formatted(alloc, marks),
         "type_run" => types(alloc, marks),
+        "missing_run" => tells_missing(alloc, marks),
         "cover_run" => covers(alloc, marks),
         "file_error_line" => tells_of_a_file(alloc, marks),
         _ => return None,
@@ -165,6 +166,15 @@ fn types<W: Write>(alloc: Global, marks: &mut W) -> Outcome {
     let given = type_run(alloc, &mut reader, &mut sentence, &mut out);
     mark(marks);
     ended_untouched(&given, true, out.writes)
+}
+
+fn tells_missing<W: Write>(alloc: Global, marks: &mut W) -> Outcome {
+    let (mut reader, mut out) = (reader_of(TEXT), writer());
+    let mut sentence = reader_of(LACKING);
+    mark(marks);
+    let given = missing_run(alloc, b"s", &mut reader, &mut sentence, &mut out);
+    mark(marks);
+    ended_untouched(&given, given == Ok(false), out.writes)
 }
 
 fn covers<W: Write>(alloc: Global, marks: &mut W) -> Outcome {

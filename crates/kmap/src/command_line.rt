@@ -123,6 +123,7 @@ static SUBCOMMANDS: [Described; 11] = [
             STREAM,
             FileUnless("SENTENCE", "The sentence, in UTF-8, or -", "text"),
             TextOption("text", "STRING", "The sentence itself", "SENTENCE"),
+            Flag("missing", "Prints the characters that no keys type instead"),
         ],
     },
     Described {
@@ -339,6 +340,7 @@ pub(crate) enum Request<'m, 'a> {
     Type {
         text: &'a str,
         sentence: Sentence<'a>,
+        missing: bool,
     },
     Cover {
         text: &'a str,
@@ -433,6 +435,7 @@ fn type_request<'m, 'a>(words: &'m ArgMatches<'a>) -> Option<Request<'m, 'a>> {
     Some(Request::Type {
         text: words.get_str("TEXT")?,
         sentence,
+        missing: words.get_flag("missing"),
     })
 }
 
@@ -486,6 +489,7 @@ fn reads_twice(request: &Request<'_, '_>) -> bool {
         | Request::Type {
             text,
             sentence: Sentence::File(other),
+            ..
         } => { is_standard_input(text) && is_standard_input(other) }
         _ => false,
     }

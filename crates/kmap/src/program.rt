@@ -12,7 +12,7 @@ use keymap_draw::Board;
 use keymap_lint_text::shown_name;
 use kmap_runs::{
     CommandError, RunError, cover_run, diff_run, draw_run, dump_narrow_run, dump_run,
-    file_error_line, search_run, type_run, write_command_error, write_run_error,
+    file_error_line, missing_run, search_run, type_run, write_command_error, write_run_error,
 };
 use play_core::{Show, play_next};
 use std::alloc::{AllocError, Global};
@@ -288,7 +288,11 @@ where
             let show = if typed { Show::Typed } else { Show::Lines };
             well(play(rt, show, text, next, script))
         }
-        Request::Type { text, sentence } => well(type_sentence(rt, text, sentence)),
+        Request::Type {
+            text,
+            sentence,
+            missing,
+        } => type_sentence(rt, text, sentence, missing),
         Request::Cover { text } => well(cover(rt, text)),
         Request::Draw { text, ansi, title } => well(draw(rt, text, ansi, title)),
     }
@@ -387,27 +391,56 @@ fn play_in<'a, R: AllocGlobal + Print, S: Read>(
     }
 }
 
-fn type_sentence<'a, R>(rt: &R, text: &'a str, sentence: Sentence<'a>) -> Result<(), Failure<'a>>
+fn type_sentence<'a, R>(
+    rt: &R,
+    text: &'a str,
+    sentence: Sentence<'a>,
+    missing: bool,
+) -> Result<bool, Failure<'a>>
 where
     R: AllocGlobal + Files + Input + Print,
 {
     let mut text = given(rt, text)?;
+    let missing_of = if missing {
+        Some(name_of(&sentence))
+    } else {
+        None
+    };
     match sentence {
-        Sentence::File(name) => type_in(rt, &mut text, &mut given(rt, name)?),
-        Sentence::Text(sentence) => {
-            type_in(rt, &mut text, &mut FromStd::new(sentence.as_bytes()))
+        Sentence::File(name) => type_in(rt, missing_of, &mut text, &mut given(rt, name)?),
+        Sentence::Text(words) => {
+            let mut words = FromStd::new(words.as_bytes());
+            type_in(rt, missing_of, &mut text, &mut words)
         }
     }
 }
 
+/// The name that a sentence is told under. One without a file has the word for it that faults have.
+fn name_of<'a>(sentence: &Sentence<'a>) -> &'a str {
+    match sentence {
+        Sentence::File(name) => name,
+        Sentence::Text(_) => "sentence",
+    }
+}
+
+/// Types the sentence, or where a name for it is given tells which of its characters no keys type.
 fn type_in<'a, R: AllocGlobal + Print, S: Read, T: Read>(
     rt: &R,
+    missing_of: Option<&str>,
     text: &mut S,
     sentence: &mut T,
-) -> Result<(), Failure<'a>> {
+) -> Result<bool, Failure<'a>> {
     let mut out = Output::new(rt);
-    let outcome = type_run(rt.alloc(), text, sentence, &mut out);
-    out.outcome(outcome)
+    match missing_of {
+        Some(name) => {
+            let outcome = missing_run(rt.alloc(), name.as_bytes(), text, sentence, &mut out);
+            out.outcome(outcome)
+        }
+        None => {
+            let outcome = type_run(rt.alloc(), text, sentence, &mut out);
+            well(out.outcome(outcome))
+        }
+    }
 }
 
 fn cover<'a, R>(rt: &R, text: &'a str) -> Result<(), Failure<'a>>

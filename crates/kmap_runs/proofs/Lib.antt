@@ -14,3 +14,4 @@ mod OneSlot
 mod PlainScripts
 mod Replayed
 mod Scripts
+mod Untyped

@@ -6,6 +6,7 @@ pub mod FmtRuns
 pub mod Inputs
 pub mod Joined
 pub mod LintRuns
+pub mod Missing
 pub mod Replayed
 pub mod Report
 pub mod Runs

@@ -1,6 +1,6 @@
 -- What the runs of the program do to the devices that they are lent.
-use Rattle.std.specs.Prelude.{◌≡◌, ◌≢◌, ◌↔◌, ◌⊎◌, IsTrue, ℕ, Bool, true, false, List, [], All, Option, Some, None}
-use Rattle.std.specs.Prelude.{Result, Ok, Err, ⊤}
+use Rattle.std.specs.Prelude.{◌≡◌, ◌≢◌, ◌↔◌, ◌⊎◌, ◌==◌, IsTrue, ℕ, Bool, true, false, List, [], All, Option, Some, None}
+use Rattle.std.specs.Prelude.{Result, Ok, Err, ⊤, length}
 use Rattle.std.specs.Io.KnownBytes.{Appends}
 use Rattle.keymap_core.specs.Bounds.{IsMap}
 use Rattle.keymap_core.specs.Maps.{MapValue}
@@ -30,6 +30,7 @@ use Rattle.keymap_diff.specs.declared.telling.Telling.{Telling}
 use Rattle.play_core.specs.declared.type_error.TypeError.TheVariants as type
 use Rattle.play_core.specs.Runs.{Moves, moves, ReadsBoth, Runs, Stays}
 use Rattle.play_core.specs.Typing.{IsTyped, IsTypeError}
+use Rattle.keymap_lint_text.specs.Shown.{shown_name}
 use Rattle.keymap_text.specs.Meaning.{Spells}
 use Rattle.keymap_text.specs.Sources.{TakesWhole}
 use Rattle.kmap_runs.specs.declared.fault_line.RunError.{RunError}
@@ -41,6 +42,8 @@ use Rattle.kmap_runs.specs.Diff.{diff_text, same_text}
 use Rattle.kmap_runs.specs.Inputs.{of_command_writer, of_writer, ReadsBytes, ReadsFile, ReadsForCommand, ReadsKeymaps}
 use Rattle.kmap_runs.specs.Inputs.{ReadsOther, ReadsSentence, ReadsText}
 use Rattle.kmap_runs.specs.LintRuns.{IsLinted}
+use Rattle.kmap_runs.specs.Missing.{AreMissingIn, missing_text}
+use Rattle.kmap_runs.specs.declared.missing.Missing.{Missing}
 use Rattle.kmap_runs.specs.Replayed.{ShowsCover}
 use Rattle.kmap_runs.specs.Report.{brief_line, report}
 use Rattle.kmap_runs.specs.Search.{found_text, is_never}
@@ -181,6 +184,25 @@ TypesSentence text sentence out r =
     Runs of_command_writer
     (ReadsBoth (ReadsForCommand (ReadsText text)) (ReadsSentence sentence) (Stays sentence))
     (λ v e. LacksScript v.0 v.1 e) (λ v _ told. Types v.0 v.1 told) out r
+
+-- why it isn't told which characters of a sentence keys can't type
+abbrev pub LacksDecision : MapValue → List ℕ → CommandError → Type 0
+LacksDecision m bytes (command.Run error.Memory) = ⊤
+LacksDecision m bytes (command.NotText offset) = IsTypeError m bytes (type.NotText offset)
+LacksDecision m bytes command.TooManyStates = IsTypeError m bytes type.TooManyStates
+LacksDecision m bytes _ = ⊥
+
+-- whether keys can type all characters of the sentence, and a line under its name for each that they can't
+abbrev pub MissingAreTold : List ℕ → MapValue → List ℕ → Bool → List ℕ → Type 0
+MissingAreTold name m bytes can_type_all told =
+    (found : List Missing) × AreMissingIn m bytes found × (can_type_all ≡ (length found == 0))
+    × (told ≡ missing_text (shown_name name) bytes found)
+
+abbrev pub TellsMissing : List ℕ → Moves → Moves → Moves → Result Bool CommandError → Type 0
+TellsMissing name text sentence out r =
+    Runs of_command_writer
+    (ReadsBoth (ReadsForCommand (ReadsText text)) (ReadsSentence sentence) (Stays sentence))
+    (λ v e. LacksDecision v.0 v.1 e) (λ v all told. MissingAreTold name v.0 v.1 all told) out r
 
 -- ---- laws
 

@@ -37,6 +37,12 @@ pub(crate) const UNDECIDED: &[u8] = b" undecided: no list of up to {} presses st
 // A line of the sentence, before what types it.
 pub(crate) const SENTENCE: &[u8] = b" {}";
 
+// A character of a sentence that keys can't type: the name of the sentence, the line, the column, and the character, its
+// number and where a terminal shows it itself.
+pub(crate) const AT_PLACE: &[u8] = b"{}:{}:{}: {}\n";
+
+pub(crate) const SHOWN: &[u8] = b"{} '{}'";
+
 // How many sights of a kind the script that tests a console sees, leaves out and never sees, and these kinds.
 pub(crate) const COUNTS: &[u8] = b" {}: {}, left out {}, {} {}";
 

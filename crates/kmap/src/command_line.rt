@@ -17,7 +17,7 @@ enum Word {
     Flag(&'static str, &'static str),
     /// A flag that isn't taken beside another one, whose name stands last.
     FlagWithout(&'static str, &'static str, &'static str),
-    /// An option, with the name of the file that it takes in between.
+    /// An option, with the name of the file or the text that it takes in between.
     FileOption(&'static str, &'static str, &'static str),
     /// A file that stands unless an option does, whose name stands last.
     FileUnless(&'static str, &'static str, &'static str),
@@ -157,6 +157,7 @@ static SUBCOMMANDS: [Described; 11] = [
         words: &[
             STREAM,
             Flag("ansi", "Draws a board of 104 keys in place of 105"),
+            FileOption("title", "NAME", "The name in the headline"),
         ],
     },
 ];
@@ -319,6 +320,8 @@ pub(crate) enum Request<'m, 'a> {
     Draw {
         text: &'a str,
         ansi: bool,
+        /// The name in the headline, where one is given.
+        title: &'a str,
     },
 }
 
@@ -417,6 +420,7 @@ fn draw_request<'m, 'a>(words: &'m ArgMatches<'a>) -> Option<Request<'m, 'a>> {
     Some(Request::Draw {
         text: words.get_str("TEXT")?,
         ansi: words.get_flag("ansi"),
+        title: words.get_str("title").unwrap_or(""),
     })
 }
 

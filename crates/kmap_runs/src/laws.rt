@@ -110,8 +110,8 @@ pub fn printed_covers_are_played()
         → PlaysCover show text told }
 {}
 
-/// What the run that draws wrote for a text, whatever the text is, is well formed and printable ASCII: no keymap brings
-/// an element, an attribute or a link of its own into a page.
+/// What the run that draws wrote for a text under a name, whatever the two are, is well formed and printable ASCII: no
+/// keymap and no name brings an element, an attribute or a link of its own into a page.
 pub fn drawn_pictures_are_well_formed()
     ensures { DrawnAreWellFormed }
 {

@@ -171,6 +171,28 @@ The signs of XML, and a dead key without an accent:
   >     "<title>003 ''' '&#x003c;' '&#x003c;' '&#x003c;' '&#x0026;' '&#x003e;' '&#x003e;' '&#x003e;' C</title>"
   $ has "Dead keys without an accent"
 
+A word that is wider than its place is shrunk to it: beside another one, alone, in a corner, and on a wider cap.
+  $ cat > words << 'END'
+  > 2 clock lalt nop nop slock lshift nop nop O
+  > 3 'a' 0x2003 nop nop 'b' 0x2002 nop nop O
+  > 4 0x2003 nop nop nop nop nop nop nop O
+  > 5 ashift nop nop nop nop nop nop nop O
+  > 6 'a' 0x10ffff nop nop nop nop nop nop O
+  > 7 'a' ashift nop nop nop nop nop nop O
+  > 15 0x10ffff 'a' nop nop 'b' nop nop nop O
+  > 58 0x10ffff 'a' nop nop 'b' nop nop nop O
+  > 14 0x10ffff 'a' nop nop 'b' nop nop nop O
+  > END
+  $ draws words
+  $ grep -o '<text [^>]*textLength[^<]*' picture
+  <text x="10" y="41" class="y m" textLength="18" lengthAdjust="spacingAndGlyphs">clock
+  <text x="50" y="41" class="y r m" textLength="18" lengthAdjust="spacingAndGlyphs">slock
+  <text x="10" y="20" class="b" textLength="18" lengthAdjust="spacingAndGlyphs">U+2003
+  <text x="50" y="20" class="b r a" textLength="18" lengthAdjust="spacingAndGlyphs">U+2002
+  <text x="30" y="30" class="x c" textLength="46" lengthAdjust="spacingAndGlyphs">U+2003
+  <text x="10" y="20" class="t" textLength="38" lengthAdjust="spacingAndGlyphs">U+10ffff
+  <text x="10" y="41" class="t" textLength="42" lengthAdjust="spacingAndGlyphs">U+10ffff
+
 A name stands in the title of the whole and in the headline, as text, and an empty one is as none:
   $ draws "$examples/trap.kbd" --title 'Müller & <Söhne> ]]>'
   $ has '<title id="title">M&#x00fc;ller &#x0026; &#x003c;S&#x00f6;hne&#x003e; ]]&#x003e;, refused</title>' \

@@ -1,6 +1,7 @@
 -- What is shown of a name, and how words are read behind it.
 use Rattle.keymap_draw.proofs.Common.{zero, suc, ◌≡◌, ℕ, Bool, true, false, List, [], ◌∷◌, ◌++◌, refl, map, take}
-use Rattle.keymap_draw.proofs.Common.{nat_lt, ◌∙◌, sym, append-nil, append_assoc, length, cond_both, list_all, is_seen, if◌then◌else◌}
+use Rattle.keymap_draw.proofs.Common.{nat_lt, ◌∙◌, sym, append-nil, append_assoc, length, cond_both, list_all, is_seen}
+use Rattle.keymap_draw.proofs.Common.{if◌then◌else◌}
 use Rattle.bstr.specs.Utf8.{lossy_chars}
 use Rattle.messages.proofs.Passed.{append_all}
 use Rattle.keymap_draw.specs.Drawings.{shown_character, shortened, shown_name}

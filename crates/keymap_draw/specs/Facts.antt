@@ -1,5 +1,5 @@
 -- What a reader finds in a picture: groups, shapes and texts, in their order, and nothing else can be drawn in it.
-use Rattle.std.specs.Prelude.{ℕ, ◌+◌, List, [], ◌∷◌, ◌++◌, codes, decimal}
+use Rattle.std.specs.Prelude.{ℕ, ◌+◌, List, [], ◌∷◌, ◌++◌, codes, decimal, Option, Some, None}
 
 -- attributes with their values, in their order
 abbrev pub Attributes : Type 0
@@ -34,6 +34,17 @@ titled said = Text (codes "title") [] [] said
 -- a text of a class at a place of its group
 abbrev pub text : List ℕ → List ℕ → List ℕ → List ℕ → Fact
 text x y class said = Text (codes "text") class ((codes "x", x) ∷ (codes "y", y) ∷ []) said
+
+-- how a text is shrunk to a length, if it is
+abbrev pub shrinking : Option ℕ → Attributes
+shrinking None = []
+shrinking (Some length) =
+    (codes "textLength", decimal length) ∷ (codes "lengthAdjust", codes "spacingAndGlyphs") ∷ []
+
+-- a text of a class at a place of its group, shrunk to a length if it is
+abbrev pub text_within : List ℕ → List ℕ → List ℕ → Option ℕ → List ℕ → Fact
+text_within x y class length said =
+    Text (codes "text") class ((codes "x", x) ∷ (codes "y", y) ∷ shrinking length) said
 
 -- a cap, by the letter of its shape
 abbrev pub cap_by : List ℕ → Fact

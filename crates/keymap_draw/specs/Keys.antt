@@ -24,9 +24,9 @@ use Rattle.keymap_draw.specs.Boards.{letter, width, height}
 use Rattle.keymap_draw.specs.Drawn.{is_blank, column, cell_in, drawn, stands_alone}
 use Rattle.keymap_draw.specs.Legends.{cell_legend, is_word}
 use Rattle.keymap_draw.specs.Drawings.{Drawing}
-use Rattle.keymap_draw.specs.Facts.{Fact, cap_by, image, titled, text}
+use Rattle.keymap_draw.specs.Facts.{Fact, cap_by, image, titled, text, text_within}
 use Rattle.keymap_draw.specs.Facts.Fact.{End}
-use Rattle.keymap_draw.specs.Places.{beside_of, code_x, legend_x, legend_y, legend_classes}
+use Rattle.keymap_draw.specs.Places.{beside_of, code_x, legend_x, legend_y, legend_classes, shrunk_length}
 
 -- the finding of a key, if the check names it
 abbrev pub finding_of : List Finding → ℕ → Option Finding
@@ -89,8 +89,9 @@ code slot l shape = text (decimal (code_x shape)) (decimal (height shape - 7)) [
 -- the legend of a cell; it is tight where another one stands beside it on a small cap
 abbrev pub legend : MapValue → Shape → Column → Bool → Bool → Cell → Fact
 legend m shape c alone tight cell =
-    text (decimal (legend_x shape c alone)) (decimal (legend_y shape c alone (is_word (cell_legend cell))))
-    (legend_classes m c cell (cell_legend cell) alone tight) (cell_legend cell)
+    text_within (decimal (legend_x shape c alone)) (decimal (legend_y shape c alone (is_word (cell_legend cell))))
+    (legend_classes m c cell (cell_legend cell) alone tight) (shrunk_length shape (cell_legend cell) alone tight)
+    (cell_legend cell)
 
 abbrev pub some_legend : MapValue → Shape → Column → Bool → Bool → Option Cell → List Fact
 some_legend m shape c alone tight None = []

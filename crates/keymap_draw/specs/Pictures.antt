@@ -42,8 +42,8 @@ description =
 abbrev pub page : ℕ → Fact
 page high = Figure (codes "rect") (codes "page") ((codes "width", codes "1492") ∷ (codes "height", decimal high) ∷ [])
 
--- of a picture of a name and some height with so many findings: its begin, its title and its description, the style, the shapes
--- and the page
+-- of a picture of a name and some height with so many findings: its begin, its title and its description, the style,
+-- the shapes and the page
 unfoldable pub head : List ℕ → ℕ → ℕ → List Fact
 head name count high =
     begin high ∷ heading name count ∷ description ∷ [] ++ facts_from opened STYLE [] ++ facts_from opened SHAPES []

@@ -1,5 +1,6 @@
 -- Where texts stand on a cap, and the classes by which the style gives them size, side and colour.
-use Rattle.std.specs.Prelude.{ℕ, ◌+◌, ◌-◌, ◌/◌, ◌==◌, Bool, true, false, List, [], ◌∷◌, ◌++◌, codes, length, min}
+use Rattle.std.specs.Prelude.{ℕ, ◌+◌, ◌-◌, ◌*◌, ◌/◌, ◌==◌, nat_lt, Bool, true, false, ◌&&◌, not, List, [], ◌∷◌, ◌++◌}
+use Rattle.std.specs.Prelude.{codes, length, min, slice_index_or}
 use Rattle.std.specs.Prelude.{◌≡◌, Option, Some, None, option_to_list, slice_index, if◌then◌else◌}
 use Rattle.std.specs.List.{list_any}
 use Rattle.keymap_core.specs.declared.action.Action.TheVariants as a
@@ -79,6 +80,45 @@ size_class legend alone tight =
     )
     else if alone then Some 122
     else None
+
+-- how high the letters of a word are, by the class for its size
+abbrev pub pixels : ℕ → ℕ
+pixels class =
+    if class == 119 then 16
+    else if class == 120 then 13
+    else if class == 118 then 12
+    else if class == 111 then 11
+    else if class == 117 then 10
+    else if class == 116 then 9
+    else if class == 121 then 8
+    else 5
+
+-- a word that is the code of a character: U+ and digits
+abbrev pub is_code : List ℕ → Bool
+is_code legend = is_word legend && (slice_index_or legend 1 0 == 43)
+
+-- how wide a word is taken to be, in tenths: seven tenths of its height for each character of a code, and six for each
+-- of another word
+abbrev pub tenths : List ℕ → ℕ → ℕ
+tenths legend high = length legend * high * (if is_code legend then 7 else 6)
+
+-- how wide the place of a legend is: the face of the cap but for its edges, half of it, or all of a small cap's where
+-- no legend stands beside
+abbrev pub room : Shape → Bool → Bool → ℕ
+room s alone tight =
+    if alone then width s - 16
+    else if nat_lt (width s) 112 && not tight then width s - 24
+    else (width s - 24) / 2
+
+-- a word that is wider than its place is shrunk to two units less
+abbrev pub shrunk_by : List ℕ → ℕ → Option ℕ → Option ℕ
+shrunk_by legend place None = None
+shrunk_by legend place (Some class) =
+    if is_word legend && nat_lt (place * 10) (tenths legend (pixels class)) then Some (place - 2) else None
+
+-- the length to which a legend is shrunk, if it is
+unfoldable pub shrunk_length : Shape → List ℕ → Bool → Bool → Option ℕ
+shrunk_length s legend alone tight = shrunk_by legend (room s alone tight) (size_class legend alone tight)
 
 -- The class for its side: c lets it stand on both sides of its place, r on the left of it, and none on the right.
 abbrev pub side_class : Column → Bool → Option ℕ

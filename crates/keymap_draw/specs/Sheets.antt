@@ -91,7 +91,7 @@ is_ready t = list_all is_seen (characters t)
 abbrev pub ends_told : ℕ → Bool
 ends_told c = c == 60 || c == 44
 
--- the reader behind what is told, in a value or between tags, where a tag or a comma stands behind what has references
+-- the reader behind what is told, in a value or between tags; behind what has references a tag or a comma stands
 abbrev pub taking : Place → Read → Told → List ℕ → Option State
 taking (Value tag name value) r (told.Plain t) behind = Some (at (Value tag name (value ++ t.now)) r)
 taking (Value tag name value) r (told.Number n) behind = Some (at (Value tag name (value ++ decimal n)) r)

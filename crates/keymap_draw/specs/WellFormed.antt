@@ -46,7 +46,7 @@ attributes =
     codes "xmlns" ∷ codes "width" ∷ codes "height" ∷ codes "viewBox" ∷ codes "role" ∷ codes "aria-labelledby"
     ∷ codes "aria-hidden"
     ∷ codes "lang" ∷ codes "id" ∷ codes "class" ∷ codes "transform" ∷ codes "href" ∷ codes "fill" ∷ codes "x"
-    ∷ codes "y" ∷ codes "rx" ∷ codes "d" ∷ []
+    ∷ codes "y" ∷ codes "rx" ∷ codes "d" ∷ codes "textLength" ∷ codes "lengthAdjust" ∷ []
 
 abbrev pub is_among : List (List ℕ) → List ℕ → Bool
 is_among names name = list_any (bytes_eq name) names

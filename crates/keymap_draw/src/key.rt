@@ -1,9 +1,10 @@
 //! A key of the picture: its cap, its code and its legends. Its title is its line of the printed form.
-ghost use Rattle.std.specs.Prelude.{◌≡◌, ◌++◌, ◌∷◌, [], true, IfOk, option_copied, option_to_list};
+ghost use Rattle.std.specs.Prelude.{◌≡◌, ◌++◌, ◌∷◌, [], true, IfOk, Some, decimal, option_copied, option_to_list};
 ghost use Rattle.std.specs.List.{list_all};
 ghost use Rattle.keymap_core.specs.Maps.{entry_at};
 ghost use Rattle.keymap_check.specs.Said.{finding_words as finding_words_of};
 ghost use Rattle.keymap_text.specs.Printed.{slot_words as slot_words_of};
+ghost use Rattle.keymap_draw.specs.Facts.{text_within};
 ghost use Rattle.keymap_draw.specs.Keys as spec;
 ghost use Rattle.keymap_draw.specs.Places.{is_class};
 ghost use Rattle.keymap_draw.specs.Sheets.{is_inner, is_seen};
@@ -13,10 +14,10 @@ use crate::drawing::Drawing;
 use crate::drawn::{DrawnCells, drawn, is_blank, stands_alone};
 use crate::legend::{cell_legend, is_word};
 use crate::markup::Added;
-use crate::place::{Column, Spot, code_x, legend_classes, legend_x, legend_y};
+use crate::place::{Column, Spot, code_x, legend_classes, legend_x, legend_y, shrunk_length};
 use crate::sheet::Told::{Bytes, Characters, Number, Plain};
 use crate::sheet::{InKey, InPicture, Sheet, tell};
-use crate::words::{BOTH, CAPS, CODE, GROUP_END, KEY, KEY_OF, NUM, TEXT, TEXT_OF};
+use crate::words::{BOTH, CAPS, CODE, GROUP_END, KEY, KEY_OF, NUM, SHRUNK_TEXT, TEXT, TEXT_OF};
 use arrayvec::ArrayVec;
 use keymap_check::{Finding, finding_words};
 use keymap_core::{Action, Cell, Entry, KEY_COUNT, KeyMap, LockFlag};
@@ -235,6 +236,28 @@ impl Face {
     }
 }
 
+/// Adds a legend at a place, shrunk to a length.
+fn push_shrunk<'a>(
+    sheet: Sheet<InKey>,
+    place: (u32, u32),
+    classes: &'a [u8],
+    length: u32,
+    legend: &'a [char],
+) -> Added<Sheet<InKey>>
+    requires inner { list_all is_inner classes.now ≡ true }
+    requires seen { list_all is_seen legend.now ≡ true }
+    ensures { IfOk result (λ s. s ≡ sheet
+        ++ text_within (decimal place.0) (decimal place.1) classes.now (Some length) legend.now ∷ []) }
+{
+    let (x, y) = (Number(place.0), Number(place.1));
+    let (classes, length) = (Plain(classes), Number(length));
+    tell(
+        sheet,
+        SHRUNK_TEXT,
+        &[x, y, classes, length, Characters(legend)],
+    )
+}
+
 /// Adds the legend of a cell.
 fn push_legend(sheet: Sheet<InKey>, map: &KeyMap, cell: &Cell, spot: Spot) -> Added<Sheet<InKey>>
     ensures { IfOk result (λ s. s
@@ -243,11 +266,14 @@ fn push_legend(sheet: Sheet<InKey>, map: &KeyMap, cell: &Cell, spot: Spot) -> Ad
     let legend = cell_legend(cell);
     let legend = legend.as_slice();
     let classes = legend_classes(map, cell, legend, spot);
-    let x = Number(legend_x(spot));
-    let y = Number(legend_y(spot, is_word(legend)));
-    match classes.as_slice() {
-        [] => tell(sheet, TEXT, &[x, y, Characters(legend)]),
-        classes => tell(sheet, TEXT_OF, &[x, y, Plain(classes), Characters(legend)]),
+    let (left, base) = (legend_x(spot), legend_y(spot, is_word(legend)));
+    let (x, y) = (Number(left), Number(base));
+    match shrunk_length(legend, spot) {
+        Some(length) => push_shrunk(sheet, (left, base), classes.as_slice(), length, legend),
+        None => match classes.as_slice() {
+            [] => tell(sheet, TEXT, &[x, y, Characters(legend)]),
+            classes => tell(sheet, TEXT_OF, &[x, y, Plain(classes), Characters(legend)]),
+        },
     }
 }
 

@@ -168,6 +168,7 @@ fn read_cell(cell: &Cell)
 pub(crate) fn cell_legend(cell: &Cell) -> Legend
     ensures value { result.items ≡ spec.cell_legend cell.now }
     ensures seen { list_all is_seen result.items ≡ true }
+    ensures short { length result.items ≤ 8 }
 {
     read_cell(cell);
     match cell {

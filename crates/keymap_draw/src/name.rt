@@ -9,7 +9,7 @@ use bstr::ByteSlice;
 use keymap_core::is_unseen;
 use std::alloc::Global;
 
-/// How many characters of a name are shown: as many as have room before the verdict, also where each is as wide as high.
+/// How many characters of a name are shown: as many as have room before the verdict, if each is as wide as high.
 const MOST: usize = 48;
 
 /// Whether XML takes the character and a terminal shows it.

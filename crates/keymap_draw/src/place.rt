@@ -1,5 +1,5 @@
 //! Where texts stand on a cap, and the classes by which the style gives them size, side and colour.
-ghost use Rattle.std.specs.Prelude.{◌≡◌, ◌≤◌, ◌+◌, true, option_to_list};
+ghost use Rattle.std.specs.Prelude.{◌≡◌, ◌≤◌, ◌+◌, true, length, option_to_list};
 ghost use Rattle.std.specs.List.{list_all};
 ghost use Rattle.arrayvec.specs.ArrayVec.{array_vec_len};
 ghost use Rattle.keymap_draw.specs.Places as spec;
@@ -196,6 +196,70 @@ pub(crate) fn size_class(legend: &[char], alone: bool, tight: bool) -> Option<u8
     } else {
         size_by(&CORNER_SIZES, legend.len())
     })
+}
+
+/// How high the letters of a word are, by the class for its size.
+fn pixels(class: u8) -> u32
+    ensures value { result ≡ spec.pixels class }
+    ensures most { result ≤ 16 }
+{
+    match class {
+        PX_16 => 16,
+        PX_13 => 13,
+        PX_12 => 12,
+        PX_11 => 11,
+        PX_10 => 10,
+        PX_9 => 9,
+        PX_8 => 8,
+        _ => 5,
+    }
+}
+
+/// Whether a word is the code of a character.
+fn is_code(legend: &[char]) -> bool
+    ensures { result ≡ spec.is_code legend.now }
+{
+    is_word(legend) && legend[1] == '+'
+}
+
+/// How wide a word is taken to be, in tenths.
+fn tenths(legend: &[char], high: u32) -> u32
+    requires short { length legend.now ≤ 8 }
+    requires low { high ≤ 16 }
+    ensures { result ≡ spec.tenths legend.now high }
+{
+    legend.len() as u32 * high * if is_code(legend) { 7 } else { 6 }
+}
+
+/// How wide the place of a legend is.
+fn room(spot: Spot) -> u32
+    ensures value { result ≡ spec.room spot.shape spot.alone spot.tight }
+    ensures some { 2 ≤ result }
+    ensures most { result ≤ 384 }
+{
+    let wide = spot.shape.width();
+    if spot.alone {
+        wide - 16
+    } else if wide < 112 && !spot.tight {
+        wide - 24
+    } else {
+        (wide - 24) / 2
+    }
+}
+
+/// The length to which a legend is shrunk, if it is a word that is wider than its place.
+#[tactic(auto, unfolding(crate::specs::Places::shrunk_length))]
+pub(crate) fn shrunk_length(legend: &[char], spot: Spot) -> Option<u32>
+    requires { length legend.now ≤ 8 }
+    ensures { result ≡ spec.shrunk_length spot.shape legend.now spot.alone spot.tight }
+{
+    let class = size_class(legend, spot.alone, spot.tight)?;
+    let place = room(spot);
+    if is_word(legend) && place * 10 < tenths(legend, pixels(class)) {
+        Some(place - 2)
+    } else {
+        None
+    }
 }
 
 /// The class for the side of a legend.

@@ -129,8 +129,8 @@ fn draw(alloc: Global, drawing: &Drawing, starts: Starts, listed: Listed) -> Add
     finish(sheet, starts.key)
 }
 
-/// The picture of a keymap on a board, as SVG, with the findings of a report on it. It is headed by a name, in UTF-8, of
-/// which 48 characters are shown at most, and by `Console keymap` where that is empty.
+/// The picture of a keymap on a board, as SVG, with the findings of a report on it. It is headed by a name, in UTF-8,
+/// of which 48 characters are shown at most, and by `Console keymap` where that is empty.
 #[tactic(auto, unfolding(crate::specs::Pictures::picture_facts))]
 pub fn picture(
     alloc: Global,

@@ -80,6 +80,10 @@ pub(crate) const TEXT: &[u8] = b"<text x=\"{}\" y=\"{}\">{}</text>";
 
 pub(crate) const TEXT_OF: &[u8] = b"<text x=\"{}\" y=\"{}\" class=\"{}\">{}</text>";
 
+/// A text with its place and classes, and the length to which it is shrunk.
+pub(crate) const SHRUNK_TEXT: &[u8] =
+    b"<text x=\"{}\" y=\"{}\" class=\"{}\" textLength=\"{}\" lengthAdjust=\"spacingAndGlyphs\">{}</text>";
+
 /// The headline of the findings, with where it stands.
 pub(crate) const FINDINGS: &[u8] = b"<text x=\"28\" y=\"{}\" class=\"h no\">Findings</text>\n";
 

@@ -155,6 +155,49 @@ A look-up of `nop` or `nul` tells too:
   down 0
   [1]
 
+But where no more presses lead to one that looks up neither in either keymap, that one is told: of another key, in another
+state, or behind a dead key.
+  $ { base 000 nul; base 001 "'b'"; } > one
+  $ { base 000 nop; base 001 "'c'"; } > other
+  $ kmap diff one other
+  # told apart: char 98 -> char 99
+  # cell: slot 0; base: nul -> nop
+  # cell: slot 1; base: 'b' -> 'c'
+  down 1
+  [1]
+  $ { echo "0 nop nop nop nop nop nop nop nop O"; echo "30 'a' 'A' nop nop nop nop nop nop O"; } > one
+  $ { echo "0 nop nop nul nop nop nop nop nop O"; echo "30 'a' 'B' nop nop nop nop nop nop O"; } > other
+  $ { all 29 lctrl; all 42 lshift; } | tee -a one >> other
+  $ kmap diff one other
+  # told apart: char 65 -> char 66
+  # cell: slot 0; ctrl: nop -> nul
+  # cell: slot 30; shift: 'A' -> 'B'
+  down 42
+  down 30
+  [1]
+  $ { echo "0 nop nop nop nop nop nop nop nop O"; echo "dacu 180 ( 'a' 225 )"; } > one
+  $ { echo "0 nop nop nul nop nop nop nop nop O"; echo "dacu 180 ( 'a' 226 )"; } > other
+  $ { all 29 lctrl; all 30 "'a'"; all 40 dacu; } > keys
+  $ cat keys one > old && cat keys other > new
+  $ kmap diff old new
+  # told apart: char 225 -> char 226
+  # cell: slot 0; ctrl: nop -> nul
+  # pair: dacu; 'a': 0x00e1 -> 0x00e2
+  down 40
+  up 40
+  down 30
+  [1]
+
+A key that looks up one of them is told where fewer presses lead there:
+  $ { base 000 nul; echo "30 'a' 'A' nop nop nop nop nop nop O"; all 42 lshift; } > one
+  $ { base 000 nop; echo "30 'a' 'B' nop nop nop nop nop nop O"; all 42 lshift; } > other
+  $ kmap diff one other
+  # told apart: char 0 -> none
+  # cell: slot 0; base: nul -> nop
+  # cell: slot 30; shift: 'A' -> 'B'
+  down 0
+  [1]
+
 Lines that are joined: the columns of a slot, and the slots with the same columns; what is unseen is told apart.
   $ {
   >     for slot in 2 3 4 30; do echo "$slot 'a' 'A' 'a' 'A' nop nop nop nop O"; done

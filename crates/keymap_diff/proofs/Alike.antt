@@ -1,20 +1,23 @@
 -- Two consoles of two keymaps stay alike as long as no press shows a difference, and answer alike.
 use Rattle.std.proofs.Common.{rules}
 use Rattle.keymap_diff.proofs.Common.{◌≡◌, ◌≢◌, ℕ, ◌<◌, ◌≤◌, ◌⊎◌, Bool, true, List, [], ◌∷◌, ◌++◌, Option, Some, None}
-use Rattle.keymap_diff.proofs.Common.{false, refl, ap, subst, sym, ◌∙◌, inl, inr, arith, cases_Bool, true≢false, ◌==◌, reverse}
+use Rattle.keymap_diff.proofs.Common.{false, refl, ap, subst, sym, ◌∙◌, inl, inr, arith, cases_Bool, true≢false, ◌==◌}
+use Rattle.keymap_diff.proofs.Common.{reverse}
 use Rattle.keymap_diff.proofs.Common.{option_or, All-head, fun_ext, eqb-true, append-nil}
 use Rattle.keymap_diff.proofs.Common.{same_action-true, Action, Lock, Modifier, Meta, Holding, Cell, Char, Act, Event}
 use Rattle.keymap_diff.proofs.Common.{Press, Release, Reset, Load, MapValue, accent_at, own_of, usable, composed_by}
 use Rattle.keymap_diff.proofs.Common.{is_pending, char_or_error, answer_char, answer_action, answer_dead_key}
-use Rattle.keymap_diff.proofs.Common.{answer_release, next_pending, unless_nop, taken_over, held, locked, on, remembered}
+use Rattle.keymap_diff.proofs.Common.{answer_release, next_pending, unless_nop, taken_over, held, locked, on}
+use Rattle.keymap_diff.proofs.Common.{remembered}
 use Rattle.keymap_diff.proofs.Common.{pending, look, resolve_press, answer_resolved, ResolvedEvent, PressedCharacter}
 use Rattle.keymap_diff.proofs.Common.{PressedAction, ReleasedKey, WasReset, between, resolved, answer_to, answers_to}
 use Rattle.keymap_diff.proofs.Common.{HasKey, IsNoLoad, alone, State, is_held, Follows, presses, IsAdmitted}
 use Rattle.keymap_diff.proofs.Common.{NeverForgets, looked_up, AreCellsAlike, AreCellsClear, IsAccentClear}
-use Rattle.keymap_diff.proofs.Common.{IsUnnoticed, MakesSame, ShowsNothing, IsAnsweredAlike}
+use Rattle.keymap_diff.proofs.Common.{IsUnnoticed, MakesSame, ShowsNothing, IsAnsweredAlike, ArePlain, ArePlainClear}
+use Rattle.keymap_diff.proofs.Common.{IsPlain, LooksUpPlain, ◌+◌}
 use Rattle.console_core.specs.Columns.{look_with}
 use Rattle.keymap_diff.specs.Telling.{AnswersAreSame}
-use Rattle.keymap_diff.proofs.Reached.{stands-by, pends-by}
+use Rattle.keymap_diff.proofs.Reached.{ReachedBy, stands-by, pends-by}
 use Rattle.console_core.proofs.OneMore.{resolved-start, resolved-more, held-character, held-action}
 use Rattle.console_core.proofs.OneMore.{held-release, held-reset, locked-character, locked-action}
 use Rattle.console_core.proofs.OneMore.{locked-release, locked-reset, remembered-character}
@@ -53,7 +56,8 @@ alike-look m n r q k x =
 abbrev pub AreUsableAlike : MapValue → MapValue → Action → Type 0
 AreUsableAlike m n a = (i : ℕ) → a ≡ act.DeadKey i → usable m i ≡ usable n i
 
-next-same : (m n : MapValue) (p : Option ℕ) (a : Action) → AreUsableAlike m n a → next_pending m p a ≡ next_pending n p a
+next-same : (m n : MapValue) (p : Option ℕ) (a : Action) → AreUsableAlike m n a
+    → next_pending m p a ≡ next_pending n p a
 next-same m n p (act.DeadKey i) same = rw (same i refl) refl
 next-same m n p _ same = refl
 
@@ -195,7 +199,8 @@ press-held m n r q k i (Act a) (Act b) alike rem u v =
     )
 
 one-press : (m n : MapValue) (r q : List ResolvedEvent) (k : ℕ) (x y : Cell) → Alike m n r q
-    → ShowNothingFor m n (remembered k r) x y → ComposesCell m n (pending m r) (remembered k r) x → IsPressAlike m n r q k x y
+    → ShowNothingFor m n (remembered k r) x y → ComposesCell m n (pending m r) (remembered k r) x
+    → IsPressAlike m n r q k x y
 one-press m n r q k x y alike (inl (e, usably)) compose =
     subst (λ z. IsPressAlike m n r q k x z) e (press-same m n r q k x alike usably compose)
 one-press m n r q k x y alike (inr (i, rem, u, v)) compose = press-held m n r q k i x y alike rem u v
@@ -224,7 +229,8 @@ press-event m n h s k alike f nothing compose =
     by (inl same) = inl same
     by (inr (i, holds, u, v)) = inr (i, f.holds i k holds, u, v)
 
--- where an accent is pending and the console stands in a state, a press of a key that shows nothing there composes alike
+-- where an accent is pending and the console stands in a state, a press of a key that shows nothing there composes
+-- alike
 composes-there : (m n : MapValue) (r : List ResolvedEvent) (s : State) (k i : ℕ) → Follows r s
     → ShowsNothing m n (Some i) s k
     → ((c : ℕ) → look m r k ≡ Char c → MakesSame m n i c)
@@ -237,22 +243,17 @@ composes-there m n r s k i f nothing =
           nothing 32 (inr ((λ j holds. free j (f.holds j k holds)), sym seen ∙ e ∙ ap (λ z. Act z) same, refl))),
     )
 
--- Where fewer than b presses show nothing, whatever list of at most b presses comes: the consoles stay alike, and answer
--- alike.
-pub below : (m n : MapValue) (forgets : Bool) (b : ℕ) → (forgets ≡ false → NeverForgets (alone m))
-    → AreCellsClear m n b → ((i : ℕ) → IsAccentClear m n i b) → (h : List Event) → IsAdmitted m forgets h
-    → presses h ≤ b → AlikeAfter m n h × IsAnsweredAlike m n h
-below m n forgets b never cells accents [] given le =
-    (rw (resolved-start (between m m), resolved-start (between n n)) (alike-start m n), tt)
-below m n forgets b never cells accents (Press k ∷ h) given le =
+-- one more press, of a key that shows nothing in each state where the list leads
+more-press : (m n : MapValue) (forgets : Bool) (b : ℕ) (h : List Event) (k : ℕ) → (forgets ≡ false
+    → NeverForgets (alone m))
+    → ((i : ℕ) → IsAccentClear m n i b) → IsAdmitted m forgets (Press k ∷ h) → presses h < b → AlikeAfter m n h
+    → ((s : State) → ReachedBy m (presses h) s → Follows (resolved (between m m) h) s → ShowsNothing m n None s k)
+    → AlikeAfter m n (Press k ∷ h) × IsAnsweredAlike m n (Press k ∷ h)
+more-press m n forgets b h k never accents given lt alike shows =
     let r : List ResolvedEvent = resolved (between m m) h in
-    let lt : presses h < b = omega (arith, le) in
     let key : k < 128 = All-head HasKey (Press k) h given.0 in
     let before : IsAdmitted m forgets h = admitted-before m forgets (Press k) h given in
-    let (alike, answered) = below m n forgets b never cells accents h before (omega (arith, lt)) in
-    let (s, (path, is, few, leads), f) = stands-by m forgets h never before in
-    let nothing : ShowsNothing m n None s k =
-    subst (λ t. ShowsNothing m n None t k) leads (cells path is (omega (arith, few, lt)) k key) in
+    let (s, there, f) = stands-by m forgets h never before in
     let composes : (i : ℕ) → pending m r ≡ Some i
     → ((c : ℕ) → look m r k ≡ Char c → MakesSame m n i c)
     × ((a : Action) → look m r k ≡ Act a → taken_over (remembered k r) a ≡ act.DeadKey i → MakesSame m n i 32) =
@@ -261,23 +262,80 @@ below m n forgets b never cells accents (Press k ∷ h) given le =
     composes-there m n r t k i g
     (subst (λ z. ShowsNothing m n (Some i) z k) to
     (accents i first later made offered on (omega (arith, count, lt)) k key)) in
-    press-event m n h s k alike f nothing
+    press-event m n h s k alike f (shows s there f)
     ((λ c seen i e. (composes i e).0 c seen), (λ a seen i taken e. (composes i e).1 a seen taken))
+
+more-release : (m n : MapValue) (h : List Event) (k : ℕ) → AlikeAfter m n h
+    → AlikeAfter m n (Release k ∷ h) × IsAnsweredAlike m n (Release k ∷ h)
+more-release m n h k alike = (
+  rw (resolved-more (between m m) h (Release k), resolved-more (between n n) h (Release k))
+      (alike-release m n (resolved (between m m) h) (resolved (between n n) h) k alike),
+  ap answer_release (alike.remembered k),
+)
+
+more-reset : (m n : MapValue) (h : List Event) → AlikeAfter m n h
+    → AlikeAfter m n (Reset ∷ h) × IsAnsweredAlike m n (Reset ∷ h)
+more-reset m n h alike = (
+  rw (resolved-more (between m m) h Reset, resolved-more (between n n) h Reset)
+      (alike-reset m n (resolved (between m m) h) (resolved (between n n) h) alike),
+  refl,
+)
+
+-- Where fewer than b presses show nothing, whatever list of at most b presses comes: the consoles stay alike, and
+-- answer
+-- alike.
+pub below : (m n : MapValue) (forgets : Bool) (b : ℕ) → (forgets ≡ false → NeverForgets (alone m))
+    → AreCellsClear m n b → ((i : ℕ) → IsAccentClear m n i b) → (h : List Event) → IsAdmitted m forgets h
+    → presses h ≤ b → AlikeAfter m n h × IsAnsweredAlike m n h
+below m n forgets b never cells accents [] given le =
+    (rw (resolved-start (between m m), resolved-start (between n n)) (alike-start m n), tt)
+below m n forgets b never cells accents (Press k ∷ h) given le =
+    let lt : presses h < b = omega (arith, le) in
+    let key : k < 128 = All-head HasKey (Press k) h given.0 in
+    let (alike, answered) =
+    below m n forgets b never cells accents h (admitted-before m forgets (Press k) h given) (omega (arith, lt)) in
+    more-press m n forgets b h k never accents given lt alike
+    (λ s (path, is, few, leads) f.
+    subst (λ t. ShowsNothing m n None t k) leads (cells path is (omega (arith, few, lt)) k key))
 below m n forgets b never cells accents (Release k ∷ h) given le =
-    let (alike, answered) =
-    below m n forgets b never cells accents h (admitted-before m forgets (Release k) h given) le in (
-      rw (resolved-more (between m m) h (Release k), resolved-more (between n n) h (Release k))
-          (alike-release m n (resolved (between m m) h) (resolved (between n n) h) k alike),
-      ap answer_release (alike.remembered k),
-    )
+    more-release m n h k
+    (below m n forgets b never cells accents h (admitted-before m forgets (Release k) h given) le).0
 below m n forgets b never cells accents (Reset ∷ h) given le =
-    let (alike, answered) =
-    below m n forgets b never cells accents h (admitted-before m forgets Reset h given) le in (
-      rw (resolved-more (between m m) h Reset, resolved-more (between n n) h Reset)
-          (alike-reset m n (resolved (between m m) h) (resolved (between n n) h) alike),
-      refl,
-    )
+    more-reset m n h (below m n forgets b never cells accents h (admitted-before m forgets Reset h given) le).0
 below m n forgets b never cells accents (Load ∷ h) given le = absurd (true≢false (All-head IsNoLoad Load h given.1))
+
+-- And where b presses show nothing by plain cells, nor anything behind an accent, so are lists of one press more of
+-- which
+-- the last looks up plain cells.
+pub plain-below : (m n : MapValue) (forgets : Bool) (b : ℕ) → (forgets ≡ false → NeverForgets (alone m))
+    → AreCellsClear m n b → ((i : ℕ) → IsAccentClear m n i (b + 1)) → ArePlainClear m n (b + 1) → (h : List Event)
+    → IsAdmitted m forgets h → presses h ≤ b + 1 → LooksUpPlain m n h → AlikeAfter m n h × IsAnsweredAlike m n h
+plain-below m n forgets b never cells accents clear [] given le looks = absurd looks
+plain-below m n forgets b never cells accents clear (Press k ∷ h) given le (plain, plain_too) =
+    let r : List ResolvedEvent = resolved (between m m) h in
+    let q : List ResolvedEvent = resolved (between n n) h in
+    let lt : presses h < b + 1 = omega (arith, le) in
+    let key : k < 128 = All-head HasKey (Press k) h given.0 in
+    let (alike, answered) =
+    below m n forgets b never cells
+    (λ i before later made offered is few. accents i before later made offered is (omega (arith, few)))
+    h (admitted-before m forgets (Press k) h given) (omega (arith, lt)) in
+    more-press m n forgets (b + 1) h k never accents given lt alike
+    (λ s (path, is, few, leads) f.
+    let shows : ArePlain m n s k → ShowsNothing m n None s k =
+    subst (λ t. ArePlain m n t k → ShowsNothing m n None t k) leads (clear path is (omega (arith, few, lt)) k key) in
+    shows (
+      subst IsPlain (ap (λ z. look z r k) (one_in_force m h) ∙ look-is m r s k f) plain,
+      subst IsPlain (ap (λ z. look z q k) (one_in_force n h) ∙ alike-look m n r q k alike ∙ look-is n r s k f) plain_too,
+    ))
+plain-below m n forgets b never cells accents clear (Release k ∷ h) given le looks =
+    more-release m n h k
+    (plain-below m n forgets b never cells accents clear h (admitted-before m forgets (Release k) h given) le looks).0
+plain-below m n forgets b never cells accents clear (Reset ∷ h) given le looks =
+    more-reset m n h
+    (plain-below m n forgets b never cells accents clear h (admitted-before m forgets Reset h given) le looks).0
+plain-below m n forgets b never cells accents clear (Load ∷ h) given le looks =
+    absurd (true≢false (All-head IsNoLoad Load h given.1))
 
 -- where no list tells them apart, the answers to each are the same
 pub answers_are_same : AnswersAreSame

@@ -64,20 +64,20 @@ late m n g p old new safe told after =
     after g (told-admitted m n true g old new safe told) (apart-too m n g told.apart)
 
 pub agrees_both_ways : AgreesBothWays
-agrees_both_ways m n (Told es a b) (Told fs c d) safe safe_too (told, fewest) (told_too, fewest_too) =
+agrees_both_ways m n (Told es a b) (Told fs c d) safe safe_too (told, fewest, plain) (told_too, fewest_too, plain_too) =
     search (rules, few)
-agrees_both_ways m n (Told es a b) (Never forgets) safe safe_too (told, fewest) never =
+agrees_both_ways m n (Told es a b) (Never forgets) safe safe_too (told, fewest, plain) never =
     told.apart (apart-back (reverse es.items)
     (never (reverse es.items) (told-admitted n m forgets (reverse es.items) a b safe_too told)))
   where
     apart-back : (h : List Event) → IsAnsweredAlike n m h → IsAnsweredAlike m n h
     apart-back [] same = tt
     apart-back (e ∷ h) same = sym same
-agrees_both_ways m n (Never forgets) (Told es a b) safe safe_too never (told, fewest) =
+agrees_both_ways m n (Never forgets) (Told es a b) safe safe_too never (told, fewest, plain) =
     search (rules, apart-too, told-admitted)
-agrees_both_ways m n (Told es a b) (Undecided p) safe safe_too (told, fewest) (more, after) =
+agrees_both_ways m n (Told es a b) (Undecided p) safe safe_too (told, fewest, plain) (more, after) =
     late n m (reverse es.items) p a b safe_too told after
-agrees_both_ways m n (Undecided p) (Told es a b) safe safe_too (more, after) (told, fewest) =
+agrees_both_ways m n (Undecided p) (Told es a b) safe safe_too (more, after) (told, fewest, plain) =
     late m n (reverse es.items) p a b safe told after
 agrees_both_ways m n (Never forgets) (Never others) safe safe_too never never_too = tt
 agrees_both_ways m n (Never forgets) (Undecided p) safe safe_too never after = tt

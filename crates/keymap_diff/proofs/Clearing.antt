@@ -6,8 +6,13 @@ use Rattle.keymap_diff.proofs.Common.{None, refl, ap, subst, sym, ◌∙◌, ari
 use Rattle.keymap_diff.proofs.Common.{MatchOption, MapValue, Move, End, TooMany, Complete, alone, State, start, IsPath}
 use Rattle.keymap_diff.proofs.Common.{IsPathFrom, state_from, state_after, presses_along, presses_of, state_of, Entry}
 use Rattle.keymap_diff.proofs.Common.{Entries, IsMetBy, IsTrail, AreDone, HasEnded, unscrolled, NoneShows, ShowsNothing}
-use Rattle.keymap_diff.proofs.Common.{AreCellsClear, IsAccentClear, IsOfferedIn, Under}
-use Rattle.keymap_diff.specs.Inner.Searches.{AreNear, IsClearBehind, IsReach, IsSearched, IsWithin}
+use Rattle.keymap_diff.proofs.Common.{AreCellsClear, IsAccentClear, IsOfferedIn, Under, ArePlain, ArePlainClear, inl}
+use Rattle.keymap_diff.proofs.Common.{inr}
+use Rattle.keymap_diff.specs.Inner.Searches.{AreNear, GoesBeyond, IsClearBehind, IsReach, IsSearched, IsWithin}
+use Rattle.keymap_diff.specs.Inner.Searches.{IsFoundBy, IsMetAt, NonePlainFrom, bound_by}
+use Rattle.keymap_diff.specs.declared.telling.Telling.{Telling}
+use Rattle.keymap_diff.specs.declared.telling.Telling.TheVariants.{Told, Never, Undecided}
+use Rattle.keymap_diff.proofs.Common.{Bool, false, true, same_Some}
 use Rattle.keymap_diff.specs.Inner.Showing.{NoneShowsBelow, IsFirstShown}
 use Rattle.keymap_diff.specs.declared.searched.Searched.{Searched}
 use Rattle.keymap_diff.specs.declared.showing.Shown.{Shown}
@@ -63,10 +68,10 @@ pub searched-clear : (m n : MapValue) (os : List State) (p : Option ℕ) (x : Se
     → presses_along path < b → NoneShows m n p (state_from (alone m) o path)
 searched-clear m n os p x s b within o has path is lt k key =
     let es : Entries = x.met.entries in
-    let done = reach-done m os es s.end x.shown x.reach s.ended s.reach b within in
+    let done = reach-done m os es x.end x.shown x.reach s.ended s.reach b within in
     let (t, (j, y, at, same, le), near) = among-along m os es b done s.ended.searched.start o has path is lt in
     near-shows p _ _ (subst (λ z. ShowsNothing m n p z k) same
-    (reach-none m n p es s.end x.shown x.reach s.ended.ordered s.reach s.shown b within j y at (omega (arith, le, lt)) k
+    (reach-none m n p es x.end x.shown x.reach s.ended.ordered s.reach s.shown b within j y at (omega (arith, le, lt)) k
     key)) near
   where
     near-shows : (q : Option ℕ) (s t : State) → ShowsNothing m n q s k → unscrolled s ≡ unscrolled t
@@ -79,7 +84,7 @@ pub searched-near : (m n : MapValue) (x : Searched) → IsSearched m n (start �
     → IsWithin b x.reach → AreNear m x.met.entries b
 searched-near m n x s b within path is lt =
     let es : Entries = x.met.entries in
-    let done = reach-done m (start ∷ []) es s.end x.shown x.reach s.ended s.reach b within in
+    let done = reach-done m (start ∷ []) es x.end x.shown x.reach s.ended s.reach b within in
     let (t, (j, y, at, same, le), near) =
     among-along m (start ∷ []) es b done s.ended.searched.start start (0, omega arith, refl) path is lt in
     (j, y, at, le, ap (λ z. unscrolled z) same ∙ near)
@@ -88,6 +93,60 @@ pub searched-cells : (m n : MapValue) (x : Searched) → IsSearched m n (start �
     → IsWithin b x.reach → AreCellsClear m n b
 searched-cells m n x s b within path is lt =
     searched-clear m n (start ∷ []) None x s b within start (0, omega arith, refl) path is lt
+
+-- something shows by as many presses as the place was met by
+pub reach-is : (m n : MapValue) (os : List State) (p : Option ℕ) (x : Searched) (at : Shown) (q : ℕ)
+    → IsSearched m n os p x → x.shown ≡ Some at → IsMetAt x.met.entries at.place q → x.reach ≡ Some q
+reach-is m n os p x at q s shown (y, here, e) =
+    let (r, same, (z, there, f)) = subst (λ o. IsReach x.met.entries x.end o x.reach) shown s.reach in
+    same ∙ ap (λ v. Some v) (f ∙ ap (λ w. w.1.presses) (same_Some z y (sym there ∙ here)) ∙ sym e)
+
+-- Where q presses lead from the start and the search went on beyond, no key that looks up plain cells shows anything,
+-- if
+-- none did from the first place on where something showed.
+pub searched-plain : (m n : MapValue) (x : Searched) (at : Shown) (q : ℕ) → IsSearched m n (start ∷ []) None x
+    → x.shown ≡ Some at → GoesBeyond q x.end → NonePlainFrom m n x.met.entries at.place q → ArePlainClear m n (q + 1)
+searched-plain m n x at q s shown beyond none path is lt k key =
+    let es : Entries = x.met.entries in
+    let (t, (j, y, there, same, le), near) =
+    among-along m (start ∷ []) es (q + 1) (done x.end s.ended beyond) s.ended.searched.start start
+    (0, omega arith, refl) path is lt in
+    let shows : ArePlain m n (state_of y.0) k → ShowsNothing m n None (state_of y.0) k =
+    elim (cases_lt j at.place) [
+      | inl before ↦ λ plain. earlier j y there before
+      | inr from ↦ none j y there from (omega (arith, le, lt)) k key
+    ] in
+    subst (λ z. ArePlain m n z k → ShowsNothing m n None z k) (ap (λ z. unscrolled z) same ∙ near) shows
+  where
+    done : (end : End) → HasEnded (alone m) (start ∷ []) x.met.entries end → GoesBeyond q end
+        → AreDone (alone m) x.met.entries (q + 1)
+    done Complete ended more = all-done (alone m) x.met.entries ended.is.0 (q + 1)
+    done (TooMany p) ended more = λ j y there move can leaves few.
+        ended.is.2 j y there move can leaves (omega (arith, few, more))
+
+    earlier : (j : ℕ) (y : Entry) → slice_get x.met.entries j ≡ Some y → j < at.place
+        → ShowsNothing m n None (state_of y.0) k
+    earlier j y there before =
+        let (z, here, last, something, below) =
+        subst (λ o. MatchOption o (NoneShowsBelow m n None x.met.entries (length x.met.entries))
+        (λ a. IsFirstShown m n None x.met.entries a.place a.key)) shown s.shown in
+        below j y there before k key
+
+-- where fewer presses lead than what would be taken instead has, no key shows anything
+pub cells-within : (m n : MapValue) (t : Telling) (limit : Option ℕ) (wants : Bool) (b : ℕ)
+    → IsFoundBy m n t limit wants
+    → IsWithin (b + 1) (bound_by wants limit) → AreCellsClear m n b
+cells-within m n (Told events old new) limit wants b (told, (p, e, count, cells, settled)) is = λ path made lt.
+    cells path made (omega (arith, lt, by wants (subst (λ o. IsWithin (b + 1) (bound_by wants o)) e is)))
+  where
+    by : (w : Bool) → IsWithin (b + 1) (bound_by w (Some p)) → b ≤ p
+    by false le = omega (arith, le)
+    by true le = omega (arith, le)
+cells-within m n (Never forgets) limit wants b (e, off, never, cells) is = cells b
+cells-within m n (Undecided p) limit wants b (e, off, many, cells) is = λ path made lt.
+    let le : b + 1 ≤ p =
+    subst (λ o. IsWithin (b + 1) o) e (subst (λ w. IsWithin (b + 1) (bound_by w limit)) off is) in
+    cells path made (omega (arith, lt, le))
 
 -- ---- from the places that offer an accent
 
@@ -100,10 +159,10 @@ path-near m s t (move ∷ path) e is =
     search (rules, moves-unscrolled, same_moved, path-near m s t path e is.1)
 
 -- where all places that offer the accent are clear, so are all paths by a tap of its dead key
-pub behind-clear : (m n : MapValue) (i : ℕ) (es : Entries) (b : ℕ) → AreNear m es b
+pub behind-clear : (m n : MapValue) (i : ℕ) (es : Entries) (b : ℕ) → ((c : ℕ) → c + 1 ≤ b → AreNear m es c)
     → IsClearBehind m n i es 0 (length es) b → IsAccentClear m n i b
 behind-clear m n i es b near clear before later made offered is lt k key =
-    let (j, x, at, le, e) = near before made (omega (arith, lt)) in
+    let (j, x, at, le, e) = near (presses_along before + 1) (omega (arith, lt)) before made (omega arith) in
     let (path, to) = path-near m (state_after (alone m) before) (state_of x.0) later e is in
     subst (λ z. ShowsNothing m n (Some i) z k) to
     (clear j x at (omega arith) (slice_get_within es j x at)

@@ -6,19 +6,19 @@ use Rattle.keymap_diff.proofs.Common.{none-some, same_Some, slice_get_within, Co
 use Rattle.keymap_diff.proofs.Common.{alone, State, start, IsPath, IsPathFrom, state_after, state_from, presses_along}
 use Rattle.keymap_diff.proofs.Common.{state_of, Entry, Entries, Searched, NeverForgets, End, TooMany, Complete, is_some}
 use Rattle.keymap_diff.proofs.Common.{true≢false}
-use Rattle.std.proofs.lemmas.Option.{slice_get-get_or}
-use Rattle.keymap_diff.specs.Inner.Searches.{IsMetAt, IsMetFromStart, IsReach, IsSearched}
+use Rattle.std.proofs.lemmas.Option.{slice_get-get_or, slice_get_cases}
+use Rattle.keymap_diff.specs.Inner.Searches.{GoesBeyond, IsMetAt, IsMetFromStart, IsReach, IsSearched}
 use Rattle.keymap_diff.specs.declared.searched.Searched.{Searched as SearchedValue}
 use Rattle.keymap_diff.specs.declared.showing.Shown.{Shown}
 use Rattle.console_states.specs.Sticking.{ReachesMoreThan}
-use Rattle.console_states.specs.Searching.{AreMetOnce, AreOrdered, AreSafe, GoBack, IsStuck}
+use Rattle.console_states.specs.Searching.{AreMetOnce, AreOrdered, AreSafe, GoBack, HasEnded, IsStuck}
 use Rattle.console_states.specs.declared.search.Stuck.{Stuck}
 use Rattle.console_states.proofs.Beginning.{reached-one, start-one}
 use Rattle.console_states.proofs.Concluding.{safe-below}
 use Rattle.console_states.proofs.Searching.{all-done}
 use Rattle.console_states.proofs.GoingBack.{searched-back}
 use Rattle.keymap_diff.proofs.Apart.{path-join}
-use Rattle.keymap_diff.proofs.Clearing.{among-along}
+use Rattle.keymap_diff.proofs.Clearing.{among-along, start-reached}
 
 -- the place where something shows, and the way back from there
 pub shown-place : (m n : MapValue) (os : List State) (p : Option ℕ) (x : SearchedValue) → IsSearched m n os p x
@@ -82,13 +82,40 @@ pub searched-many : (m n : MapValue) (os : List State) (p : Option ℕ) (x : Sea
     → ReachesMoreThan (alone m) 65536 t
 searched-many m n os p x c q t sum s none e from =
     subst (λ z. ReachesMoreThan (alone m) 65536 z) sum
-    (by s.end (subst (λ o. IsReach x.met.entries s.end o x.reach) none s.reach))
+    (by x.end (subst (λ o. IsReach x.met.entries x.end o x.reach) none s.reach))
   where
     by : (end : End) → IsReach x.met.entries end None x.reach → ReachesMoreThan (alone m) 65536 (c + q)
     by Complete is = absurd (none-some q (sym is ∙ e))
     by (TooMany r) (l, is, at) =
         reaches-many m os x.met.entries c q s.ended.searched s.ended.ordered s.ended.once
         (subst (λ z. IsMetAt x.met.entries 65536 z) (same_Some l q (sym is ∙ e)) at) from
+
+reaches-up : (m : MapValue) (q p : ℕ) → p ≤ q → ReachesMoreThan (alone m) 65536 p → ReachesMoreThan (alone m) 65536 q
+reaches-up m q p le (states, off, led, apart) =
+    (states, off, (λ j few. let (path, is, count, to) = led j few in (path, is, omega (arith, count, le), to)), apart)
+
+-- where the search went on no further than q presses lead
+pub not-beyond : (m n : MapValue) (x : SearchedValue) (q : ℕ) → IsSearched m n (start ∷ []) None x
+    → (GoesBeyond q x.end → ⊥) → ReachesMoreThan (alone m) 65536 q
+not-beyond m n x q s ended = by x.end s.ended ended
+  where
+    by : (end : End) → HasEnded (alone m) (start ∷ []) x.met.entries end → (GoesBeyond q end → ⊥)
+        → ReachesMoreThan (alone m) 65536 q
+    by Complete is over = absurd (over tt)
+    by (TooMany p) is over =
+        let (long, within, done) = is.is in
+        let few : p ≤ q = elim (cases_lt q p) [
+          | inl lt ↦ absurd (over lt)
+          | inr le ↦ le
+        ] in
+        elim (slice_get_cases x.met.entries 65536).1 [
+          | inl (d, lt, at, same) ↦
+              let most = within 65536 d at in
+              reaches-up m q (0 + d.1.presses) (omega (arith, most, few))
+              (reaches-many m (start ∷ []) x.met.entries 0 d.1.presses is.searched is.ordered is.once (d, at, refl)
+              start-reached)
+          | inr (past, none) ↦ absurd (omega (arith, long, past))
+        ]
 
 -- where nothing shows and all was met
 pub searched-never : (m n : MapValue) (x : SearchedValue) (stuck : Option Stuck) (forgets : Bool)

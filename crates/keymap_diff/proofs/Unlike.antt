@@ -10,7 +10,8 @@ use Rattle.keymap_diff.proofs.Common.{taken_over, on, remembered, pending, resol
 use Rattle.keymap_diff.proofs.Common.{ResolvedEvent, between, resolved, answer_to, alone, State, IsIdle, IsPath}
 use Rattle.keymap_diff.proofs.Common.{IsPathFrom, look_in, start, state_after, state_from}
 use Rattle.keymap_diff.proofs.Common.{presses_along, events_along, Stands, false≢true, TellsApart, looked_up}
-use Rattle.keymap_diff.proofs.Common.{◌<◌, NoneShows, AreCellsAlike, AreCellsClear, Gives, IsUnnoticed, Shows, ShowsNothing}
+use Rattle.keymap_diff.proofs.Common.{◌<◌, NoneShows, AreCellsAlike, AreCellsClear, Gives, IsUnnoticed, Shows}
+use Rattle.keymap_diff.proofs.Common.{ShowsNothing}
 use Rattle.console_core.specs.declared.event.Answer.TheVariants as answer
 use Rattle.keymap_diff.proofs.Alike.{look-is, own-composed, press-answered, press-resolved}
 use Rattle.console_core.proofs.OneMore.{one_map, resolved-start, pending-start, remembered-character, remembered-action}
@@ -55,7 +56,8 @@ dead-usable m n b d i p = search (rules, cases_Bool)
 act-same : (a e : Action) → Act a ≡ Act e → a ≡ e
 act-same a e p = cc
 
-char-alike : (m n : MapValue) (b d : Bool) (c e : ℕ) → answer.Char c b ≡ answer.Char e d → AreCellsAlike m n (Char c) (Char e)
+char-alike : (m n : MapValue) (b d : Bool) (c e : ℕ) → answer.Char c b ≡ answer.Char e d
+    → AreCellsAlike m n (Char c) (Char e)
 char-alike m n b d c e p = search rules
 
 -- of a key that remembers nothing, where both are answered alike
@@ -159,7 +161,7 @@ press-made m h s k i c x can is (inr (idle, seen, blank)) =
     ∙ rw (seen, can, eq-eqb i i refl, own-composed m i, ← blank) refl
 
 -- what it puts the accent on under the one keymap it does under the other, where nothing shows without an accent
-gives-too : (m n : MapValue) (s : State) (k i c : ℕ) → ShowsNothing m n None s k → Gives m i s k c → Gives n i s k c
+pub gives-too : (m n : MapValue) (s : State) (k i c : ℕ) → ShowsNothing m n None s k → Gives m i s k c → Gives n i s k c
 gives-too m n s k i c (inl (same, usably)) (inl seen) = inl (sym same ∙ seen)
 gives-too m n s k i c (inl (same, usably)) (inr (idle, seen, blank)) = inr (idle, sym same ∙ seen, blank)
 gives-too m n s k i c (inr (j, holds, u, v)) (inl seen) = absurd (subst (λ z. IsUnnoticed j z) seen u)

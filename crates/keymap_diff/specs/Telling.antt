@@ -1,12 +1,16 @@
 -- Whether two keymaps can be told apart at a console: two consoles, one with each, get the same events, and answer one
 -- of them differently.
-use Rattle.std.specs.Prelude.{◌≡◌, ◌⊎◌, ℕ, ◌<◌, ◌≤◌, Bool, true, List, [], ◌∷◌, ◌++◌, All, reverse}
+use Rattle.std.specs.Prelude.{◌≡◌, ◌≢◌, ◌⊎◌, ℕ, ◌<◌, ◌≤◌, Bool, true, List, [], ◌∷◌, ◌++◌, All, reverse}
+use Rattle.keymap_core.specs.declared.action.Action.TheVariants as act
+use Rattle.keymap_core.specs.declared.entry.Cell.{Cell}
+use Rattle.keymap_core.specs.declared.entry.Cell.TheVariants.{Char, Act}
 use Rattle.keymap_core.specs.Maps.{MapValue}
 use Rattle.console_core.specs.declared.event.Answer.{Answer}
 use Rattle.console_core.specs.declared.event.Event.{Event}
 use Rattle.console_core.specs.declared.event.Event.TheVariants.{Press, Release}
 use Rattle.console_core.specs.Headline.{IsSafe}
 use Rattle.console_core.specs.History.{between, answer_to, answers_to, HasKeys}
+use Rattle.console_core.specs.Reading.{look_after}
 use Rattle.console_states.specs.Moves.{alone}
 use Rattle.console_states.specs.Sights.{IsAdmitted, IsClean}
 use Rattle.console_states.specs.Sticking.{presses, IsPressOrRelease, ReleasesPressedKeys, ReachesMoreThan, state_limit}
@@ -35,6 +39,24 @@ HasFewestTelling m n h = (g : List Event) → IsAdmitted m true g → TellsApart
 abbrev pub IsNotToldBy : MapValue → MapValue → ℕ → Type 0
 IsNotToldBy m n p = (g : List Event) → IsAdmitted m true g → TellsApart m n g → p < presses g
 
+-- the cell is neither `nop` nor the character 0
+abbrev pub IsPlain : Cell → Type 0
+IsPlain (Char c) = c ≢ 0
+IsPlain (Act a) = a ≢ act.Nop
+
+-- The newest press of the list looks up a plain cell under each keymap.
+abbrev pub LooksUpPlain : MapValue → MapValue → List Event → Type 0
+LooksUpPlain m n [] = ⊥
+LooksUpPlain m n (Press k ∷ h) = IsPlain (look_after (between m m) k h) × IsPlain (look_after (between n n) k h)
+LooksUpPlain m n (e ∷ h) = LooksUpPlain m n h
+
+-- If a clean list of no more presses tells them apart with such a look-up, this one has such a look-up too, or before
+-- its last press more states are reached than a search goes over.
+abbrev pub IsPlainIfAny : MapValue → MapValue → List Event → Type 0
+IsPlainIfAny m n h =
+    (g : List Event) → IsAdmitted m true g → TellsApart m n g → presses g ≤ presses h → LooksUpPlain m n g
+    → LooksUpPlain m n h ⊎ ((p : ℕ) × (p < presses h) × ReachesMoreThan (alone m) state_limit p)
+
 -- the newest event of the list is answered so
 abbrev pub IsAnsweredBy : MapValue → List Event → Answer → Type 0
 IsAnsweredBy m [] a = ⊥
@@ -61,6 +83,7 @@ pub record IsToldBy (m n : MapValue) (h : List Event) (old new : Answer) : Type 
 abbrev pub IsTelling : MapValue → MapValue → Telling → Type 0
 IsTelling m n (Told events old new) =
     IsToldBy m n (reverse events.items) old new × HasFewestTelling m n (reverse events.items)
+    × IsPlainIfAny m n (reverse events.items)
 IsTelling m n (Never forgets) = IsNeverTold m n forgets
 IsTelling m n (Undecided p) = ReachesMoreThan (alone m) state_limit p × IsNotToldBy m n p
 

@@ -1,15 +1,12 @@
 //! Whether two keymaps can be told apart at a console, and by how few presses.
-ghost use Rattle.std.specs.Prelude.{◌≡◌, ◌<◌, ◌≤◌, ◌+◌, ◌^◌, ◌∷◌, [], ℕ, List, Some, None, true, length, map, reverse, IfOk};
-ghost use Rattle.keymap_core.specs.Maps.{MapValue};
+ghost use Rattle.std.specs.Prelude.{◌≡◌, ◌<◌, ◌≤◌, ◌+◌, ◌^◌, ℕ, Some, true, length, map, reverse, IfOk};
 ghost use Rattle.console_core.specs.Answers.{usable};
-ghost use Rattle.console_states.specs.declared.held.Move.{Move as MoveValue};
-ghost use Rattle.console_states.specs.Moves.{alone, start, events_along};
-ghost use Rattle.console_states.specs.Searching.{state_of, Entry, Entries, IsTrail};
+ghost use Rattle.console_states.specs.Searching.{state_of};
 ghost use Rattle.keymap_diff.specs.Telling.{IsTelling};
 ghost use Rattle.keymap_diff.specs.Inner.Showing.{AreCellsClear, IsAccentClear};
-ghost use Rattle.keymap_diff.specs.Inner.Searches.{AreOffering, IsClearBehind, IsNearest, IsNoFurther, IsSearched};
-ghost use Rattle.keymap_diff.specs.Inner.Searches.{AreNear, IsMetFromStart, IsOfferedAt, IsReachAt, IsSearchedAt, IsTappedAt};
-ghost use Rattle.keymap_diff.specs.Inner.Searches.{IsWithin};
+ghost use Rattle.keymap_diff.specs.Inner.Searches.{AreOffering, IsClearBehind, IsNearest, IsNoFurther};
+ghost use Rattle.keymap_diff.specs.Inner.Searches.{AreNear, IsMetFromStart, IsOfferedAt, IsReachAt};
+ghost use Rattle.keymap_diff.specs.Inner.Searches.{IsSearchedAt, IsTappedAt, IsWithin, bound_of};
 
 use crate::nearest::{Nearest, by_cells, tell};
 use crate::searched::{Searched, presses_to};
@@ -17,6 +14,7 @@ use crate::showing::Both;
 use console_core::{Answer, Event, is_usable};
 use console_states::{Held, Met, entry, go_out};
 use keymap_core::KeyMap;
+use keymap_core::laws::every_keymap_is_within_the_bounds;
 use std::alloc::{AllocError, Global};
 
 /// Whether two keymaps can be told apart at a console.
@@ -85,13 +83,15 @@ impl<'a> Offering<'a> {
         Ok(events)
     }
 
-    /// What the search from the state at the place found, which is nearer than what was found before.
+    /// What the search from the state at the place found by so many presses, which is nearer than what was found
+    /// before, or as near and plain.
     fn found(
         &self,
         alloc: Global,
         place: usize,
         searched: &Searched,
         presses: usize,
+        nearest: Nearest,
     ) -> Result<Nearest, AllocError>
         requires met { IsMetFromStart self.now.both.old.now self.now.met.now.entries }
         requires at { IsOfferedAt self.now.both.old.now self.now.accent self.now.met.now.entries place }
@@ -99,21 +99,26 @@ impl<'a> Offering<'a> {
             searched.now }
         requires presses { IsReachAt self.now.met.now.entries place searched.now.reach presses }
         requires cells { AreCellsClear self.now.both.old.now self.now.both.new.now presses }
+        requires nearest { IsNearest self.now.both.old.now self.now.both.new.now nearest }
+        requires beyond { IsWithin (presses + 1) (bound_of nearest) }
         ensures nearest { IfOk result (λ x. IsNearest self.now.both.old.now self.now.both.new.now x) }
-        ensures limit { IfOk result (λ x. x.limit ≡ Some presses) }
+        ensures bound { IfOk result (λ x. bound_of x ≡ Some presses) }
     {
-        let telling = match searched.shown {
+        every_keymap_is_within_the_bounds(self.both.old);
+        every_keymap_is_within_the_bounds(self.both.new);
+        match searched.shown {
             Some(at) => {
                 let mut events = self.events(alloc, place)?;
                 go_out(&mut events, alloc, &searched.met, at.place)?;
-                tell(&self.both, events, at.key)?
+                let telling = tell(&self.both, events, at.key)?;
+                Ok(Nearest {
+                    telling,
+                    limit: Some(presses),
+                    wants_plain: false,
+                })
             }
-            None => Telling::Undecided(presses),
-        };
-        Ok(Nearest {
-            telling,
-            limit: Some(presses),
-        })
+            None => Ok(nearest.given_up(presses)),
+        }
     }
 
     /// The nearest, with the places from `low` to before `high` counted in. One search from all of them tells whether
@@ -130,10 +135,9 @@ impl<'a> Offering<'a> {
         requires places { (low < high) × (high ≤ length self.now.met.now.entries) }
         requires small { high < 2 ^ 63 }
         requires nearest { IsNearest self.now.both.old.now self.now.both.new.now nearest }
-        requires cells { (b : ℕ) → IsWithin b nearest.limit → AreCellsClear self.now.both.old.now self.now.both.new.now b }
         ensures nearest { IfOk result (λ x. IsNearest self.now.both.old.now self.now.both.new.now x) }
-        ensures limit { IfOk result (λ x. IsNoFurther x.limit nearest.limit) }
-        ensures clear { IfOk result (λ x. (b : ℕ) → IsWithin b x.limit
+        ensures bound { IfOk result (λ x. IsNoFurther (bound_of x) (bound_of nearest)) }
+        ensures clear { IfOk result (λ x. (b : ℕ) → IsWithin b (bound_of x)
             → IsClearBehind self.now.both.old.now self.now.both.new.now self.now.accent self.now.met.now.entries low high b) }
     {
         let before = presses_to(self.met, low) + 1;
@@ -149,7 +153,7 @@ impl<'a> Offering<'a> {
             return Ok(nearest);
         }
         if high - low == 1 {
-            return self.found(alloc, low, &searched, before + more);
+            return self.found(alloc, low, &searched, before + more, nearest);
         }
         let middle = low + (high - low) / 2;
         let nearer = self.nearest(alloc, low, middle, nearest)?;
@@ -166,12 +170,11 @@ fn with_accent(
     nearest: Nearest,
 ) -> Result<Nearest, AllocError>
     requires met { IsMetFromStart both.now.old.now met.now.entries }
-    requires near { (b : ℕ) → IsWithin b nearest.limit → AreNear both.now.old.now met.now.entries b }
+    requires near { (b : ℕ) → IsWithin (b + 1) (bound_of nearest) → AreNear both.now.old.now met.now.entries b }
     requires nearest { IsNearest both.now.old.now both.now.new.now nearest }
-    requires cells { (b : ℕ) → IsWithin b nearest.limit → AreCellsClear both.now.old.now both.now.new.now b }
     ensures nearest { IfOk result (λ x. IsNearest both.now.old.now both.now.new.now x) }
-    ensures limit { IfOk result (λ x. IsNoFurther x.limit nearest.limit) }
-    ensures clear { IfOk result (λ x. (b : ℕ) → IsWithin b x.limit
+    ensures bound { IfOk result (λ x. IsNoFurther (bound_of x) (bound_of nearest)) }
+    ensures clear { IfOk result (λ x. (b : ℕ) → IsWithin b (bound_of x)
         → IsAccentClear both.now.old.now both.now.new.now accent b) }
 {
     if is_usable(both.old, accent) && !both.makes_all_alike(accent) {

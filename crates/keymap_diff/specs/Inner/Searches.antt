@@ -1,6 +1,6 @@
 -- What searches found of what tells two keymaps apart. Mirrors src/searched.rt, src/nearest.rt and src/telling.rt.
-use Rattle.std.specs.Prelude.{◌≡◌, ◌⊎◌, ℕ, ◌+◌, ◌<◌, ◌≤◌, ◌^◌, false, List, [], ◌∷◌, ◌++◌, reverse, length, Option, Some}
-use Rattle.std.specs.Prelude.{None, slice_get, IfSome, MatchOption}
+use Rattle.std.specs.Prelude.{◌≡◌, ◌⊎◌, ℕ, ◌+◌, ◌<◌, ◌≤◌, ◌^◌, Bool, false, true, List, [], ◌∷◌, ◌++◌, reverse, length}
+use Rattle.std.specs.Prelude.{Option, Some, None, slice_get, IfSome, MatchOption}
 use Rattle.std.specs.List.{Contains}
 use Rattle.keymap_core.specs.Maps.{MapValue}
 use Rattle.keymap_core.specs.Numbers.{key_count}
@@ -22,8 +22,9 @@ use Rattle.keymap_diff.specs.declared.searched.Searched.{Searched}
 use Rattle.keymap_diff.specs.declared.showing.Shown.{Shown}
 use Rattle.keymap_diff.specs.declared.telling.Telling.{Telling}
 use Rattle.keymap_diff.specs.declared.telling.Telling.TheVariants.{Told, Never, Undecided}
-use Rattle.keymap_diff.specs.Telling.{TellsApart, IsToldBy}
-use Rattle.keymap_diff.specs.Inner.Showing.{NoneShowsBelow, IsFirstShown, NoneShows}
+use Rattle.keymap_diff.specs.Telling.{TellsApart, IsToldBy, LooksUpPlain}
+use Rattle.keymap_diff.specs.Inner.Showing.{NoneShowsBelow, IsFirstShown, NoneShows, Shows, AreCellsClear, ArePlain}
+use Rattle.keymap_diff.specs.Inner.Showing.{ArePlainClear, NoneShowsPlain}
 
 -- the bound is within the limit
 abbrev pub IsWithin : ℕ → Option ℕ → Type 0
@@ -48,12 +49,27 @@ IsEndAt es (TooMany p) None = state_limit < length es
 
 -- a search from these states, with this accent pending or none
 pub record IsSearched (m n : MapValue) (origins : List State) (p : Option ℕ) (x : Searched) : Type 0 where
-  pub end : End
-  pub ended : HasEnded (alone m) origins x.met.entries end
-  pub reach : IsReach x.met.entries end x.shown x.reach
+  pub ended : HasEnded (alone m) origins x.met.entries x.end
+  pub reach : IsReach x.met.entries x.end x.shown x.reach
   pub small : IfSome x.reach (λ q. q < 2 ^ 63)
   pub shown : MatchOption x.shown (NoneShowsBelow m n p x.met.entries (length x.met.entries))
       (λ at. IsFirstShown m n p x.met.entries at.place at.key)
+
+-- the search met all states that q presses lead to
+abbrev pub GoesBeyond : ℕ → End → Type 0
+GoesBeyond q Complete = Unit {0}
+GoesBeyond q (TooMany p) = q < p
+
+-- at the place, which q presses lead to, the key shows something by plain cells where no accent is pending
+abbrev pub IsPlainAt : MapValue → MapValue → Entries → Shown → ℕ → Type 0
+IsPlainAt m n es at q =
+    (x : Entry) × (slice_get es at.place ≡ Some x) × (q ≡ x.1.presses) × (at.key < key_count)
+    × Shows m n None (state_of x.0) at.key × ArePlain m n (state_of x.0) at.key
+
+-- from the place on, where no more than q presses lead, no key that looks up plain cells shows anything
+abbrev pub NonePlainFrom : MapValue → MapValue → Entries → ℕ → ℕ → Type 0
+NonePlainFrom m n es place q =
+    (j : ℕ) (x : Entry) → slice_get es j ≡ Some x → place ≤ j → x.1.presses ≤ q → NoneShowsPlain m n (state_of x.0)
 
 -- Behind the events a press of the key, or its release too where that is answered alike, and the answers to the last.
 abbrev pub IsScript : MapValue → MapValue → List Event → ℕ → Telling → Type 0
@@ -66,20 +82,44 @@ IsScript m n h k (Told events old new) =
     × (answer_to (between m m) h (Press k) ≡ answer_to (between n n) h (Press k)))
 IsScript m n h k _ = ⊥
 
--- what was found, with as many presses as the limit and one more, or where the search gave up
-abbrev pub IsFoundBy : MapValue → MapValue → Telling → Option ℕ → Type 0
-IsFoundBy m n (Told events old new) limit =
+-- Whether plain cells are wanted in place of those of a list with one press more than p. They are where its own aren't
+-- plain, and then no key that looks up plain cells shows anything where p presses lead and no accent is pending.
+abbrev pub IsSettled : MapValue → MapValue → List Event → ℕ → Bool → Type 0
+IsSettled m n h p true = ArePlainClear m n (p + 1)
+IsSettled m n h p false = LooksUpPlain m n h ⊎ ReachesMoreThan (alone m) state_limit p
+
+-- What was found, with as many presses as the limit and one more, or where the search gave up. Where fewer lead, no key
+-- shows anything while no accent is pending.
+abbrev pub IsFoundBy : MapValue → MapValue → Telling → Option ℕ → Bool → Type 0
+IsFoundBy m n (Told events old new) limit wants_plain =
     IsToldBy m n (reverse events.items) old new
-    × ((l : ℕ) × (limit ≡ Some l) × (presses (reverse events.items) ≡ l + 1))
-IsFoundBy m n (Never forgets) limit = (limit ≡ None) × (forgets ≡ false → NeverForgets (alone m))
-IsFoundBy m n (Undecided p) limit = (limit ≡ Some p) × ReachesMoreThan (alone m) state_limit p
+    × ((p : ℕ) × (limit ≡ Some p) × (presses (reverse events.items) ≡ p + 1) × AreCellsClear m n p
+    × IsSettled m n (reverse events.items) p wants_plain)
+IsFoundBy m n (Never forgets) limit wants_plain =
+    (limit ≡ None) × (wants_plain ≡ false) × (forgets ≡ false → NeverForgets (alone m))
+    × ((b : ℕ) → AreCellsClear m n b)
+IsFoundBy m n (Undecided p) limit wants_plain =
+    (limit ≡ Some p) × (wants_plain ≡ false) × ReachesMoreThan (alone m) state_limit p × AreCellsClear m n p
 
 abbrev pub IsNearest : MapValue → MapValue → Nearest → Type 0
-IsNearest m n x = IsFoundBy m n x.telling x.limit
+IsNearest m n x = IsFoundBy m n x.telling x.limit x.wants_plain
+
+-- A list of one press more than a number below the bound would be taken instead.
+abbrev pub bound_by : Bool → Option ℕ → Option ℕ
+bound_by false limit = limit
+bound_by true None = None
+bound_by true (Some limit) = Some (limit + 1)
+
+abbrev pub bound_of : Nearest → Option ℕ
+bound_of x = bound_by x.wants_plain x.limit
 
 -- what is within the one limit is within the other
 abbrev pub IsNoFurther : Option ℕ → Option ℕ → Type 0
 IsNoFurther limit other = (b : ℕ) → IsWithin b limit → IsWithin b other
+
+-- what is within the one limit is within the other and one more
+abbrev pub IsOneFurther : Option ℕ → Option ℕ → Type 0
+IsOneFurther limit other = (b : ℕ) → IsWithin (b + 1) limit → IsWithin b other
 
 -- the states that were met at these places and offer the accent
 pub record AreOffering (m : MapValue) (i : ℕ) (es : Entries) (low high : ℕ) (states : List State) : Type 0 where

@@ -1,10 +1,11 @@
 #!/bin/sh
 # Measures the program on large inputs: what a byte of text and an event of a script cost, how these costs grow from a
-# tenth of the largest size to the whole, how many reads and writes a run makes, what lint and fmt cost, what the
-# longest search for a demonstration costs, what the search of a keymap and that between two cost, what the differences
-# of two keymaps cost, what the script of a sentence costs, what the script that tests a console costs, what a picture
-# costs, and what an event costs over a keymap in memory and over its tables. Where instructions are counted it compares
-# what is measured with bench/limits, tells each limit that is passed, and fails then.
+# tenth of the largest size to the whole, how many reads and writes a run makes, what lint and fmt cost, what the check of
+# one keymap with the start of the program costs, what the longest search for a demonstration costs, what the search of a
+# keymap and that between two cost, what the differences of two keymaps cost, what the script of a sentence costs, what
+# the script that tests a console costs, what a picture costs, and what an event costs over a keymap in memory and over
+# its tables. Where instructions are counted it compares what is measured with bench/limits, tells each limit that is
+# passed, and fails then.
 #
 # usage: run.sh PROGRAM CALLS
 # CALLS is the program of crates/calls, LIMITS another file of limits, and README another text whose table is written.
@@ -245,7 +246,8 @@ done
 
 checked=$(cost check "$keymap")
 linted=$(cost lint "$keymap")
-echo "us.kbd, told by lint: $linted $unit, times $(per "$linted" 0 "$checked") what check costs"
+echo "us.kbd, checked: $checked $unit; told by lint: $linted $unit, times $(per "$linted" 0 "$checked")"
+measured check "$checked"
 
 for show in '' --typed; do
     # The flag is left out where it is empty.

@@ -14,7 +14,7 @@ _kmap_words() {
     cover) echo '-h --help' ;;
     compile) echo '--narrow -h --help' ;;
     dump) echo '--narrow -h --help' ;;
-    draw) echo '--ansi -h --help' ;;
+    draw) echo '--ansi --title -h --help' ;;
     help) echo 'check search diff lint fmt play type cover compile dump draw help' ;;
     esac
 }

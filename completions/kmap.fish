@@ -59,6 +59,7 @@ complete -c kmap -n '__kmap_after dump' -l narrow -d 'Reads a narrow file'
 complete -c kmap -n '__kmap_after dump' -s h -l help -d 'Print help'
 
 complete -c kmap -n '__kmap_after draw' -l ansi -d 'Draws a board of 104 keys in place of 105'
+complete -c kmap -n '__kmap_after draw' -l title -x -d 'The name in the headline'
 complete -c kmap -n '__kmap_after draw' -s h -l help -d 'Print help'
 
 complete -c kmap -n '__kmap_after help' -f

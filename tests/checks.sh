@@ -65,6 +65,19 @@ broken() {
     mended "$file"
 }
 
+# each_told FILE EXPRESSION COMMAND LINE..: where the file is changed so, the command fails and says lines that begin so
+each_told() {
+    file=$1 expression=$2 command=$3
+    shift 3
+    breaks "$file" "$expression"
+    refuses "$1" "$command"
+    shift
+    for line do
+        holds "it does not say: $line" grep -q "^$line" said
+    done
+    mended "$file"
+}
+
 broken Makefile 's/^VERSION = .*/VERSION = 1.2/' \
     'failed: the Makefile has a version of three numbers' sh copy/tests/version.sh
 for page in man/kmap.1 man/kmap.3 man/kmap.5; do
@@ -87,8 +100,9 @@ broken docs/GUIDE.md "1s/\$/ $older/" "failed: $older stands in: ./docs/GUIDE.md
 manual() {
     sh copy/tests/manual.sh "$program"
 }
-broken docs/FORMATS.md '/^| BadWord |/d' 'failed: the formats have the kinds of faults of the sources' manual
-broken docs/FORMATS.md '/^| dead-key |/d' 'failed: the formats have the kinds of diagnostics of the sources' manual
+each_told docs/FORMATS.md '/^| BadWord |/d; /^| dead-key |/d' manual \
+    'failed: the formats have the kinds of faults of the sources' \
+    'failed: the formats have the kinds of diagnostics of the sources'
 broken include/kmap.h '/ kmap_start(/d' 'failed: the header has the functions of the sources' manual
 broken include/kmap.h 's/^#define KMAP_BAD_KIND .*//' \
     'failed: the header has the statuses of the sources' manual
@@ -105,15 +119,13 @@ for pair in 'dump spill the.help.lists.the.commands.of.the.source' \
 done
 
 # What the pages and completions lack.
-broken man/kmap.1 '/^\.It Cm draw /d' 'failed: kmap(1) has the command draw' manual
-broken man/kmap.1 '/^\.It Fl Fl typed/d' 'failed: kmap(1) has the option --typed of: play' manual
-broken man/kmap.1 's/BadWord/BadWards/' 'failed: kmap(1) tells of BadWord' manual
-broken man/kmap.1 's/^\.It dead-key$/.It dead-keys/' 'failed: kmap(1) tells what to do about dead-key' manual
-broken man/kmap.3 's/KMAP_BAD_KIND/KMAP_KIND/' 'failed: kmap(3) tells of KMAP_BAD_KIND' manual
-broken man/kmap.3 's/^\.Nm kmap_press/.Nm kmap_presses/' 'failed: kmap(3) has the name kmap_press' manual
-broken man/kmap.3 's/^\(\.F[on]\) kmap_start/\1 kmap_begin/' 'failed: kmap(3) tells of kmap_start' manual
-broken man/kmap.3 's/^\(\.It Fn kmap_check Ta\) .*/\1 100/' \
-    'failed: kmap(3) tells of the stack what the header does' manual
+each_told man/kmap.1 '/^\.It Cm draw /d; /^\.It Fl Fl typed/d; s/BadWord/BadWards/; s/^\.It dead-key$/.It dead-keys/' manual \
+    'failed: kmap(1) has the command draw' 'failed: kmap(1) has the option --typed of: play' \
+    'failed: kmap(1) tells of BadWord' 'failed: kmap(1) tells what to do about dead-key'
+each_told man/kmap.3 's/KMAP_BAD_KIND/KMAP_KIND/; s/^\.Nm kmap_press/.Nm kmap_presses/
+    s/^\(\.F[on]\) kmap_start/\1 kmap_begin/; s/^\(\.It Fn kmap_check Ta\) .*/\1 100/' manual \
+    'failed: kmap(3) tells of KMAP_BAD_KIND' 'failed: kmap(3) has the name kmap_press' \
+    'failed: kmap(3) tells of kmap_start' 'failed: kmap(3) tells of the stack what the header does'
 broken include/kmap.h '/^ \* At once: calls may share the text/d' \
     'failed: the comment of each function says what it needs and takes, but of: kmap_read_text' manual
 for shell in bash fish zsh; do
@@ -133,11 +145,23 @@ broken docs/PROOFS.md 's,`tests/files.sh`,`tests/paths.sh`,' \
     'failed: docs/PROOFS.md names tests/paths.sh, which is there' sh copy/tests/modules.sh
 broken docs/FORMATS.md 's/no key is defined/no key is there/;s/defines no key/has no key/' \
     'bad NO_KEY' sh copy/tests/words.sh
-broken crates/keymap_core/src/unseen.rt 's/c == 0x3164/c == 0x3165/' '' python3 -B copy/bench/unseen.py --check
-broken crates/keymap_draw/src/characters.rt 's/Span(0x7fd, 0x7fd),//' '' python3 -B copy/bench/unseen.py --check
-broken crates/keymap_draw/specs/Characters.antt 's/0xfffe (c/0xffff (c/' '' python3 -B copy/bench/unseen.py --check
-broken crates/keymap_draw/src/tables.rt 's/b"lrm  "/b"rlm  "/' '' python3 -B copy/bench/unseen.py --check
-broken crates/keymap_draw/specs/Names.antt 's/"wj"/"zwj"/' '' python3 -B copy/bench/unseen.py --check
+
+# Tables of characters and lists of names with another entry, each in its own file, and each is told.
+breaks crates/keymap_core/src/unseen.rt 's/c == 0x3164/c == 0x3165/'
+breaks crates/keymap_draw/src/characters.rt 's/Span(0x7fd, 0x7fd),//'
+breaks crates/keymap_draw/specs/Characters.antt 's/0xfffe (c/0xffff (c/'
+breaks crates/keymap_draw/src/tables.rt 's/b"lrm  "/b"rlm  "/'
+breaks crates/keymap_draw/specs/Names.antt 's/"wj"/"zwj"/'
+refuses 'keymap_core/src/unseen.rt: missing of Default_Ignorable_Code_Point: 3164' \
+    python3 -B copy/bench/unseen.py --check
+for line in 'characters.rt: missing of Mn and Me of these blocks: 07FD' 'Characters.antt: missing of what has a number: FFFE' \
+    'tables.rt: not the name of 0x200e: rlm' 'Names.antt: not the name of 0x2060: zwj'; do
+    holds "it does not say: $line" grep -q "^keymap_draw/[a-z]*/$line" said
+done
+for file in keymap_core/src/unseen.rt keymap_draw/src/characters.rt keymap_draw/specs/Characters.antt \
+    keymap_draw/src/tables.rt keymap_draw/specs/Names.antt; do
+    mended crates/$file
+done
 
 # A transcript in which a command prints something else, one that ends before its end, one without a command, and none.
 transcripts() {
@@ -277,8 +301,12 @@ for file in crates/kmap/out/kmap crates/kmap_c/out/libkmap_c.a crates/kmap_c/out
     cp "$top/$file" "copy/$file"
 done
 cp "$top/build.sh" "$top/LICENSE" copy
-broken README.md 's/^down 42$/down 43/' 'failed: README.md: printf' sh copy/tests/guide.sh
-broken docs/GUIDE.md 's/^test_shift passed$/test_shift failed/' 'failed: docs/GUIDE.md: cp us.kbd' sh copy/tests/guide.sh
+breaks README.md 's/^down 42$/down 43/'
+breaks docs/GUIDE.md 's/^test_shift passed$/test_shift failed/'
+refuses 'failed: README.md: printf' sh copy/tests/guide.sh
+holds 'it does not say: failed: docs/GUIDE.md: cp us.kbd' grep -q '^failed: docs/GUIDE.md: cp us.kbd' said
+mended README.md
+mended docs/GUIDE.md
 
 # What is installed where README leaves a line out that a shell has to know, and a document that names what isn't there.
 breaks README.md '/^export PKG_CONFIG_PATH=/d'

@@ -26,15 +26,25 @@ fi
 # Where it isn't empty, all later allocations are refused too.
 rest=
 
+# lines: how many lines standard input has. The shell counts them by itself, as each of thousands of processes that count
+# would take as long as a call.
+lines() {
+    number_of_lines=0
+    while IFS= read -r line; do
+        number_of_lines=$((number_of_lines + 1))
+    done
+}
+
 # answered CALL NUMBER: what the call answers with this one of its own allocations refused, where it has that many, and
 # how many it has; unless it ends well, its status is told behind the answer
 answered() {
-    rm -f "$folder/count"
-    # shellcheck disable=SC2086 # it is one word or none
-    got=$(env $rest ALLOCATIONS="$folder/count" MARKED=1 REFUSE="$2" LD_PRELOAD="$folder/refuse.so" \
+    : > "$folder/count"
+    if [ -n "$rest" ]; then export REFUSE_REST=1; else unset REFUSE_REST; fi
+    got=$(ALLOCATIONS="$folder/count" MARKED=1 REFUSE="$2" LD_PRELOAD="$folder/refuse.so" \
         "$program" "$1" 2> "$folder/marks") || got="$got, status $?"
-    [ $(($(wc -l < "$folder/marks"))) -eq 2 ] || got="$got, $(($(wc -l < "$folder/marks"))) marks"
-    count=$(cat "$folder/count")
+    lines < "$folder/marks"
+    [ $number_of_lines -eq 2 ] || got="$got, $number_of_lines marks"
+    IFS= read -r count < "$folder/count" || count=
 }
 
 # answers CALL NUMBER WANTED [OTHER]: it answers so, or as the other
@@ -55,7 +65,7 @@ refuses() {
     while [ $number -le "$all" ]; do
         rest=
         answers "$1" $number memory "${3:-memory}"
-        rest=REFUSE_REST=1
+        rest=yes
         answers "$1" $number memory
         number=$((number + 1))
     done

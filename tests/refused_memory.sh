@@ -47,7 +47,7 @@ printf 'aaa' > sentence
 } | head -c 1048576 > large
 "$program" compile letter tables || exit 1
 "$program" compile letter small --narrow || exit 1
-echo 'kmap: out of memory' > said
+said='kmap: out of memory'
 
 passed=0
 failed=0
@@ -74,9 +74,15 @@ before() {
     )
 }
 
+# says_so: standard error is the one line on memory. The shell reads it by itself, as each of thousands of processes
+# that compare files would take as long as the program.
+says_so() {
+    { IFS= read -r line && [ "$line" = "$said" ] && ! IFS= read -r line && [ -z "$line" ]; } < stderr
+}
+
 # is_told: the program ended as it must where it is out of memory
 is_told() {
-    [ "$got" -eq 1 ] && [ ! -s stdout ] && [ ! -e made ] && cmp -s said stderr
+    [ "$got" -eq 1 ] && [ ! -s stdout ] && [ ! -e made ] && says_so
 }
 
 # is_same: the program ended as it does with ample memory, where it may
@@ -177,7 +183,7 @@ while [ $number -le "$(cat count)" ]; do
     cp letter made
     REFUSE=$number LD_PRELOAD=./refuse.so "$program" fmt made > stdout 2> stderr
     got=$?
-    if [ $got -eq 1 ] && [ ! -s stdout ] && cmp -s letter made && cmp -s said stderr && [ ! -e made.kmap-fmt ]; then
+    if [ $got -eq 1 ] && [ ! -s stdout ] && cmp -s letter made && says_so && [ ! -e made.kmap-fmt ]; then
         told=$((told + 1))
         passed=$((passed + 1))
     elif [ $got -eq 0 ] && cmp -s wanted stdout && cmp -s good made && [ ! -e made.kmap-fmt ]; then

@@ -41,16 +41,8 @@ def pattern(words, fillers):
     return place.join(re.escape(part) for part in words.removesuffix("\\n").split("{}"))
 
 
-plain = [pattern(words, []) for words in messages.values() if words.strip("{}: []\\n")]
-plain += [re.escape(name) for name in names]
-
-
-# The message with one of its places filled by these words, and theirs by words in capitals.
-def filled(message, words):
-    inner = "[A-Z]+".join(map(re.escape, words.split("{}")))
-    parts = message.split("{}")
-    halves = [("{}".join(parts[:at]), "{}".join(parts[at:])) for at in range(1, len(parts))]
-    return [pattern(before, plain) + inner + pattern(behind, plain) for before, behind in halves]
+plain = {words: pattern(words, []) for words in messages.values() if words.strip("{}: []\\n")}
+plain.update((name, re.escape(name)) for name in names)
 
 
 # Whether the words stand in the span, with something at their places.
@@ -58,13 +50,25 @@ def may_be(words, span):
     return all(part in span for part in words.removesuffix("\\n").split("{}"))
 
 
+# The patterns of what may stand in the span: one of all messages would take longer to make than to match.
+def fillers_of(span):
+    return [it for words, it in plain.items() if may_be(words, span)]
+
+
+# The message with one of its places filled by these words, and theirs by words in capitals.
+def filled(message, words, fillers):
+    inner = "[A-Z]+".join(map(re.escape, words.split("{}")))
+    parts = message.split("{}")
+    halves = [("{}".join(parts[:at]), "{}".join(parts[at:])) for at in range(1, len(parts))]
+    return [pattern(before, fillers) + inner + pattern(behind, fillers) for before, behind in halves]
+
+
 def is_told(words):
-    whole = re.compile(pattern(words, plain))
-    if any(map(whole.fullmatch, told)):
+    spans = [span for span in told if may_be(words, span)]
+    if any(re.fullmatch(pattern(words, fillers_of(span)), span) for span in spans):
         return True
-    # a pattern is made only for a span in which the words stand, since it takes longer to make than to match
-    pairs = ((it, span) for it in messages.values() for span in told if may_be(words, span) and may_be(it, span))
-    return any(re.fullmatch(it, span) for message, span in pairs for it in filled(message, words))
+    pairs = ((it, span) for span in spans for it in messages.values() if may_be(it, span))
+    return any(re.fullmatch(it, span) for message, span in pairs for it in filled(message, words, fillers_of(span)))
 
 
 found = {name: is_told(words) for name, words in messages.items()}

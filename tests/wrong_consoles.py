@@ -246,7 +246,7 @@ class Console:
     """A console with one mistake, or with none."""
 
     def __init__(self, keymap, mistake=None):
-        self.keymap, self.mistake = keymap, mistake
+        self.keymap, self.mistake, self.words = keymap, mistake, mistake or ""
         self.remembered = {}
         self.on, self.locked, self.marked, self.pending = set(), set(), set(), None
         # What only wrong consoles keep.
@@ -260,22 +260,25 @@ class Console:
             said, answer = f"release {key}", self.release(key)
         else:
             said, answer = f"press {key}", self.press(key)
-        modifiers = [name for name in MODIFIERS if name in self.on]
-        locks = [name for name in LOCKS if name in self.locked]
-        return f"{said}: {answer}; mods {' '.join(modifiers) or 'none'}; locks {' '.join(locks) or 'none'}"
+        modifiers = " ".join([name for name in MODIFIERS if name in self.on]) if self.on else ""
+        locks = " ".join([name for name in LOCKS if name in self.locked]) if self.locked else ""
+        return f"{said}: {answer}; mods {modifiers or 'none'}; locks {locks or 'none'}"
 
     # which cell is looked up
 
     def either(self, left, right, name):
+        is_left, is_right = left in self.on, right in self.on
+        if name not in self.words:
+            return is_left or is_right
         if self.mistake == f"{name} is not looked at":
             return False
         if self.mistake == f"the right {name} is not looked at":
-            return left in self.on
+            return is_left
         if self.mistake == f"the left {name} is not looked at":
-            return right in self.on
+            return is_right
         if self.mistake == f"both {name}s cancel":
-            return (left in self.on) != (right in self.on)
-        return left in self.on or right in self.on
+            return is_left != is_right
+        return is_left or is_right
 
     def is_upper(self):
         ashift, alock = "ashift" in self.on, "alock" in self.locked
@@ -580,13 +583,12 @@ class Console:
         action = self.remembered.get(key)
         if mistake != "a release keeps what is remembered":
             self.remembered.pop(key, None)
-        now = self.look(key)
         if mistake == "a release is that of the cell that is looked up then":
-            action = now if isinstance(now, str) and now != "nop" else None
+            action = self.action_now(key)
         if mistake == "a release goes over the upper half that is selected then" and self.is_upper():
-            action = now if isinstance(now, str) and now != "nop" else None
+            action = self.action_now(key)
         if mistake == "a release of a key that remembers nothing is that of its cell" and action is None:
-            action = now if isinstance(now, str) and now != "nop" else None
+            action = self.action_now(key)
         if action is None:
             return "none"
         if action in MODIFIERS:
@@ -598,6 +600,11 @@ class Console:
         elif mistake == "a release of a dead key gives nothing" and action in ACCENTS:
             return "none"
         return action if mistake == "a release gives the action" else f"released {action}"
+
+    def action_now(self, key):
+        """What a press would remember now."""
+        cell = self.look(key)
+        return cell if isinstance(cell, str) and cell != "nop" else None
 
     def lower(self, key, action):
         mistake = self.mistake

@@ -171,6 +171,30 @@ The signs of XML, and a dead key without an accent:
   >     "<title>003 ''' '&#x003c;' '&#x003c;' '&#x003c;' '&#x0026;' '&#x003e;' '&#x003e;' '&#x003e;' C</title>"
   $ has "Dead keys without an accent"
 
+A name stands in the title of the whole and in the headline, as text, and an empty one is as none:
+  $ draws "$examples/trap.kbd" --title 'Müller & <Söhne> ]]>'
+  $ has '<title id="title">M&#x00fc;ller &#x0026; &#x003c;S&#x00f6;hne&#x003e; ]]&#x003e;, refused</title>' \
+  >     '<text x="28" y="42" class="h">M&#x00fc;ller &#x0026; &#x003c;S&#x00f6;hne&#x003e; ]]&#x003e;</text>'
+  $ grep -c 'Console keymap' picture
+  0
+  [1]
+  $ draws whole --title ' a]'
+  $ has '<title id="title"> a], refused</title>' '<text x="28" y="42" class="h"> a], lower half</text>' \
+  >     'class="h">Upper half: while ashift or alock is on</text>'
+  $ draws "$examples/us.kbd" --title ''
+  $ cp picture before
+  $ draws "$examples/us.kbd"
+  $ cmp picture before
+
+What a terminal doesn't show or XML forbids is U+FFFD, and a name has 48 characters at most:
+  $ draws empty --title "$(printf 'a\tb\033c\302\205d\342\200\256e\357\277\276f\360\237\277\277')"
+  $ has '>a&#xfffd;b&#xfffd;c&#xfffd;d&#xfffd;e&#xfffd;f&#x1ffff;</text>'
+  $ draws empty --title "$(printf '%048d' 1)"
+  $ has '>000000000000000000000000000000000000000000000001</text>'
+  $ draws empty --title "$(printf '%049d' 1)"
+  $ has '>00000000000000000000000000000000000000000000000&#x2026;</text>' \
+  >     '>00000000000000000000000000000000000000000000000&#x2026;, accepted</title>'
+
 A text with a fault, and none:
   $ printf "1 '" > cut
   $ kmap draw cut

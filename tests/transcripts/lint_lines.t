@@ -19,7 +19,7 @@ Tabs, which are shown as ~ here:
     ~  ~^
 
 A CR before the line feed is none of the line, but no other:
-  $ printf '30 zz\r\n31\r\n' > t
+  $ printf '30 zz\r\n\r\n' > t
   $ kmap lint t
   t:1:4: error: zz means nothing; a cell that gives nothing is nop [BadWord]
     30 zz
@@ -210,9 +210,12 @@ JSON, a picture, PostScript, and a script:
   t:1:1: error: down means nothing [BadWord]
     down 42
     ^
+  t:2:1: error: up means nothing [BadWord]
+    up 42
+    ^
   [1]
 
-A program, and tables, of which one diagnostic is printed, without controls:
+A program, and tables, of which a diagnostic for each line is printed, without controls but tabs:
   $ printf '\177ELF\002\001\001' > t
   $ kmap lint t
   t:1:1: error: the byte 0x7f begins no word [BadByte]
@@ -222,9 +225,11 @@ A program, and tables, of which one diagnostic is printed, without controls:
   $ kmap compile "$examples/us.kbd" t
   $ kmap lint t > printed
   [1]
+  $ tr -cd '\n' < t | wc -c
+  13
   $ grep -c '^t:' printed
-  1
-  $ tr -d '\012\040-\176\200-\377' < printed | wc -c
+  14
+  $ tr -d '\011\012\040-\176\200-\377' < printed | wc -c
   0
 
 Every line with a place is in the form that compilers have: FILE:LINE:COLUMN: SEVERITY: MESSAGE, and no other is.

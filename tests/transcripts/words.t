@@ -86,6 +86,21 @@ Wrong words end with status 2, and something is told of them:
   $ wrong type letter --text
   [2]
 
+A slip is told with the name that is meant, of all subcommands or of the options of one, and with the usage of what was
+understood:
+  $ wrong chekc letter
+  [2]
+  $ grep -e 'tip: ' -e 'Usage: ' told
+    tip: a similar subcommand exists: 'check'
+  Usage: kmap <COMMAND>
+  $ wrong check --brif letter
+  [2]
+  $ grep -e 'tip: ' -e 'Usage: ' told
+    tip: a similar argument exists: '--brief'
+  Usage: kmap check --brief <TEXT>...
+  $ kmap help check > help
+  $ kmap check --help | cmp - help
+
 A flag that stands twice counts once; what takes a file is refused, and so are flags that exclude each other:
   $ kmap check --show letter --show > shown
   $ kmap check --show letter | cmp - shown

@@ -128,7 +128,7 @@ fn compiles_narrowly<W: Write>(alloc: Global, marks: &mut W) -> Outcome {
 fn draws<W: Write>(alloc: Global, marks: &mut W) -> Outcome {
     let (mut reader, mut out) = (reader_of(TEXT), writer());
     mark(marks);
-    let given = draw_run(alloc, &mut reader, Board::Iso, &mut out);
+    let given = draw_run(alloc, &mut reader, Board::Iso, b"name", &mut out);
     mark(marks);
     ended_untouched(&given, true, out.writes)
 }

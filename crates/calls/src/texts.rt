@@ -87,7 +87,7 @@ fn formats<W: Write>(alloc: Global, marks: &mut W) -> Outcome {
 fn draws<W: Write>(alloc: Global, lent: &Lent, marks: &mut W) -> Outcome {
     let report = check(&lent.map);
     mark(marks);
-    let given = picture(alloc, &lent.map, &report, Board::Iso);
+    let given = picture(alloc, &lent.map, &report, Board::Iso, b"name");
     mark(marks);
     let is_right = matches!(&given, Ok(drawn) if !drawn.is_empty());
     ended_keeping(&given, is_right, lent.is_kept())

@@ -1,6 +1,5 @@
 //! Presses that no moves lead back from, and such as turn the scroll lock.
-ghost use Rattle.std.specs.Prelude.{◌≡◌, ◌<◌, ◌++◌, ℕ, List, false, true, reverse, Some, IfOk};
-ghost use Rattle.std.specs.Prelude.{MatchOption};
+ghost use Rattle.std.specs.Prelude.{◌≡◌, ◌<◌, ℕ, List, false, true, reverse, Some, IfOk, MatchOption};
 ghost use Rattle.std.specs.List.{Contains};
 ghost use Rattle.keymap_core.specs.Actions.{modifiers};
 ghost use Rattle.console_scripts.specs.Types.{Event as EventValue, Scroll, Sight as SightValue, Turn};

@@ -1,7 +1,6 @@
 //! The events that type characters, one after another: each by a way near the state where the character before it has
 //! left the locks, if there is one there.
-ghost use Rattle.std.specs.Prelude.{◌≡◌, ◌≤◌, ◌++◌, ◌∷◌, [], None, Some, drop, length, reverse, OnOk, IfOk, IfErr};
-ghost use Rattle.std.specs.Prelude.{MatchOption};
+ghost use Rattle.std.specs.Prelude.{◌≡◌, ◌++◌, ◌∷◌, [], None, Some, reverse, OnOk, IfOk, IfErr, MatchOption};
 ghost use Rattle.keymap_core.specs.Maps.{MapValue};
 ghost use Rattle.console_scripts.specs.Typing.{AreTyped, IsTypingError};
 ghost use Rattle.console_scripts.specs.Inner.Exploring.{AreKnown, AreExplorations, IsExplored, IsOrigin, CanReturn};

@@ -87,7 +87,3 @@ pub left-smaller : (es : Entries) (parent : ℕ) (move : Move) (y : Entry) (last
     → slice_get es parent ≡ Some y → last ≡ Some (parent, move)
     → places_left y.1.last < places_left last
 left-smaller es parent move y last back at e = search rules
-
--- a place has one entry
-pub same-place : (es : Entries) (j : ℕ) (x y : Entry) → slice_get es j ≡ Some x → slice_get es j ≡ Some y → x ≡ y
-same-place es j x y at here = same_Some x y (sym at ∙ here)

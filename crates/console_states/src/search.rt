@@ -141,23 +141,29 @@ fn meet_frees(
     Ok(())
 }
 
-/// Adds where presses of keys lead, of which those are given that can be moves.
+/// A state, and the place at which it was met.
+#[derive(Clone, Copy)]
+struct Placed {
+    place: usize,
+    held: Held,
+}
+
+/// Adds where presses of keys lead from a state, of which those are given that can be moves.
 fn meet_presses(
     met: &mut Met,
     maps: &Keymaps,
     keys: &[KeyCode],
-    place: usize,
-    held: &Held,
+    from: Placed,
     presses: usize,
 ) -> Result<(), AllocError>
     requires within { AreWithin met.old.entries presses }
     requires keys { HasMovingKeys (under_of maps.now) keys.now key_count }
-    ensures met { OnOk result (AreMet (under_of maps.now) met.new.entries 1 presses (state_of held.now)) }
-    ensures added { OnOk result (AreAdded (under_of maps.now) (state_of held.now) place 1 presses met.old.entries
+    ensures met { OnOk result (AreMet (under_of maps.now) met.new.entries 1 presses (state_of from.held)) }
+    ensures added { OnOk result (AreAdded (under_of maps.now) (state_of from.held) from.place 1 presses met.old.entries
         met.new.entries) }
 {
     for key in keys {
-        meet(met, place, held.pressed(maps, *key), presses)?;
+        meet(met, from.place, from.held.pressed(maps, *key), presses)?;
     }
     Ok(())
 }
@@ -209,7 +215,7 @@ fn press(
             return Ok(());
         }
         let (held, _) = entry(met, place);
-        meet_presses(met, maps, keys, place, &held, presses + 1)?;
+        meet_presses(met, maps, keys, Placed { place, held }, presses + 1)?;
     }
     Ok(())
 }

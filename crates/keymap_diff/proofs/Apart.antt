@@ -16,6 +16,7 @@ use Rattle.std.proofs.lemmas.Option.{get_or_from_slice_get}
 use Rattle.console_core.proofs.OneMap.{one_in_force}
 use Rattle.console_states.specs.Sticking.{ReachesMoreThan}
 use Rattle.console_states.proofs.Looking.{push-reversed}
+use Rattle.keymap_diff.specs.Telling.{EndsByPress, IsAnsweredAlike}
 use Rattle.keymap_diff.specs.Inner.Searches.{IsFoundBy, IsMetFromStart, IsReach, IsReachAt, IsScript, IsSearched}
 use Rattle.keymap_diff.specs.Inner.Searches.{IsSearchedAt, IsSettled, IsTappedAt, IsWithin}
 use Rattle.keymap_diff.specs.Telling.{IsToldBy}
@@ -27,7 +28,7 @@ use Rattle.keymap_diff.specs.declared.telling.Telling.{Telling}
 use Rattle.keymap_diff.specs.declared.telling.Telling.TheVariants.{Told, Never, Undecided}
 use Rattle.console_states.proofs.Beginning.{reached-one}
 use Rattle.console_states.proofs.Going.{pending-is, tap-pending}
-use Rattle.console_states.proofs.Shown.{short-tap}
+use Rattle.console_states.proofs.Shown.{short-admitted, short-tap}
 use Rattle.console_states.proofs.Tapping.{dead-tapped}
 use Rattle.console_states.proofs.Visits.{press-presses}
 use Rattle.keymap_diff.proofs.Clearing.{searched-cells}
@@ -40,6 +41,15 @@ presses-on : (path : List Move) (h : List Event) → presses (events_along path 
 presses-on [] h = omega arith
 presses-on (move ∷ path) h = search (rules, append_assoc, presses-on path h)
 
+-- the press behind where both consoles stand alike, and its release
+ends-press : (m n : MapValue) (h g : List Event) (s : State) (p : Option ℕ) (k : ℕ) → Placed m n g s p
+    → h ≡ Press k ∷ g → EndsByPress m n h
+ends-press m n h g s p k x e = (g, k, (short-admitted m g s x.first).2, inl e)
+
+ends-release : (m n : MapValue) (h g : List Event) (s : State) (p : Option ℕ) (k : ℕ) → Placed m n g s p
+    → h ≡ Release k ∷ Press k ∷ g → IsAnsweredAlike m n (Press k ∷ g) → EndsByPress m n h
+ends-release m n h g s p k x e same = (g, k, (short-admitted m g s x.first).2, inr (e, same))
+
 -- a script behind where both consoles stand alike tells them apart by one press more
 abbrev IsToldIn : MapValue → MapValue → Telling → ℕ → Type 0
 IsToldIn m n (Told es old new) q = IsToldBy m n (reverse es.items) old new × (presses (reverse es.items) ≡ q + 1)
@@ -49,9 +59,9 @@ script-told : (m n : MapValue) (h : List Event) (s : State) (p : Option ℕ) (k 
     → (IsPressAnsweredAlike m n h k → TellsApart m n (Release k ∷ Press k ∷ h)) → presses h ≡ q → (t : Telling)
     → IsScript m n h k t → IsToldIn m n t q
 script-told m n h s p k q x key told count (Told es old new) (inl (e, a, b, apart)) =
-    search (rules, All-cons)
+    search (rules, All-cons, ends-press)
 script-told m n h s p k q x key told count (Told es old new) (inr (e, a, b, same)) =
-    search (rules, All-cons, press-presses)
+    search (rules, All-cons, press-presses, ends-release)
 script-told m n h s p k q x key told count (Never f) is = absurd is
 script-told m n h s p k q x key told count (Undecided r) is = absurd is
 

@@ -5,6 +5,7 @@ pub mod BothWays
 pub mod Clearing
 pub mod Common
 pub mod Ending
+pub mod LastEvents
 pub mod Marks
 pub mod Offers
 pub mod Pushing

@@ -18,7 +18,7 @@ use Rattle.keymap_diff.specs.Changes.{MeetsLetters, MeetsPair, pairs_of, result_
 use Rattle.keymap_diff.specs.Types.{Change, Slots, Cell, Letter, Accents, Accent, Pair, ListedOtherwise, LockFlag}
 
 -- what can't be false is so, where a test decides it
-stable : (P : Type 0) (b : Bool) → Decides b P → ((P → ⊥) → ⊥) → P
+pub stable : (P : Type 0) (b : Bool) → Decides b P → ((P → ⊥) → ⊥) → P
 stable P true d not_not = d.0 refl
 stable P false d not_not = absurd (not_not (λ p. true≢false (sym (d.1 p))))
 

@@ -1,13 +1,14 @@
 -- Whether two keymaps can be told apart at a console: two consoles, one with each, get the same events, and answer one
 -- of them differently.
-use Rattle.std.specs.Prelude.{◌≡◌, ◌≢◌, ◌⊎◌, ℕ, ◌<◌, ◌≤◌, Bool, true, List, [], ◌∷◌, All, reverse}
+use Rattle.std.specs.Prelude.{◌≡◌, ◌≢◌, ◌⊎◌, ℕ, ◌<◌, ◌≤◌, Bool, true, List, [], ◌∷◌, ◌++◌, All}
+use Rattle.std.specs.Prelude.{reverse}
 use Rattle.keymap_core.specs.declared.action.Action.TheVariants as act
 use Rattle.keymap_core.specs.declared.entry.Cell.{Cell}
 use Rattle.keymap_core.specs.declared.entry.Cell.TheVariants.{Char, Act}
 use Rattle.keymap_core.specs.Maps.{MapValue}
 use Rattle.console_core.specs.declared.event.Answer.{Answer}
 use Rattle.console_core.specs.declared.event.Event.{Event}
-use Rattle.console_core.specs.declared.event.Event.TheVariants.{Press}
+use Rattle.console_core.specs.declared.event.Event.TheVariants.{Press, Release}
 use Rattle.console_core.specs.Headline.{IsSafe}
 use Rattle.console_core.specs.History.{between, answer_to, answers_to, HasKeys}
 use Rattle.console_core.specs.Reading.{look_after}
@@ -62,8 +63,14 @@ abbrev pub IsAnsweredBy : MapValue → List Event → Answer → Type 0
 IsAnsweredBy m [] a = ⊥
 IsAnsweredBy m (e ∷ h) a = answer_to (between m m) h e ≡ a
 
+-- Behind a clean list it has one press more, or that press, which is answered alike, and the release of its key.
+abbrev pub EndsByPress : MapValue → MapValue → List Event → Type 0
+EndsByPress m n h =
+    (g : List Event) × (k : ℕ) × IsAdmitted m true g
+    × ((h ≡ Press k ∷ g) ⊎ ((h ≡ Release k ∷ Press k ∷ g) × IsAnsweredAlike m n (Press k ∷ g)))
+
 -- The list of presses and releases, each release of a pressed key, tells them apart by these answers to its newest
--- event.
+-- event, which is its last press or the release behind that.
 pub record IsToldBy (m n : MapValue) (h : List Event) (old new : Answer) : Type 0 where
   pub apart : TellsApart m n h
   pub old_answer : IsAnsweredBy m h old
@@ -71,6 +78,7 @@ pub record IsToldBy (m n : MapValue) (h : List Event) (old new : Answer) : Type 
   pub keys : HasKeys h
   pub sent : All IsPressOrRelease h
   pub releases : ReleasesPressedKeys h
+  pub ends : EndsByPress m n h
 
 -- what each answer of the search says
 abbrev pub IsTelling : MapValue → MapValue → Telling → Type 0
@@ -79,6 +87,18 @@ IsTelling m n (Told events old new) =
     × IsPlainIfAny m n (reverse events.items)
 IsTelling m n (Never forgets) = IsNeverTold m n forgets
 IsTelling m n (Undecided p) = ReachesMoreThan (alone m) state_limit p × IsNotToldBy m n p
+
+-- The answers to these events, in their order, are the same but for the last, which are these.
+abbrev pub DifferAtLast : MapValue → MapValue → List Event → Answer → Answer → Type 0
+DifferAtLast m n events old new =
+    (same : List Answer) × (answers_to (between m m) [] events ≡ same ++ old ∷ [])
+    × (answers_to (between n n) [] events ≡ same ++ new ∷ [])
+
+-- The list that the search answers is answered alike up to its last event.
+abbrev pub ToldListsDifferAtLast : Type 0
+ToldListsDifferAtLast =
+    (m n : MapValue) (h : List Event) (old new : Answer) → IsToldBy m n h old new → HasFewestTelling m n h
+    → DifferAtLast m n (reverse h) old new
 
 -- Where no list tells them apart, the answers to each are the same.
 abbrev pub AnswersAreSame : Type 0

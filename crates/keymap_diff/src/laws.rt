@@ -1,6 +1,7 @@
 //! Laws of the definitions. No function here does anything.
 ghost use Rattle.keymap_diff.specs.Changes.{NothingIfSame};
 ghost use Rattle.keymap_diff.specs.Telling.{AgreesBothWays, AnswersAreSame, SafeListsAreClean, SameIsNeverTold};
+ghost use Rattle.keymap_diff.specs.Telling.{ToldListsDifferAtLast};
 
 /// Nothing differs exactly if the keymaps are the same.
 pub fn the_same_keymaps_have_no_changes()
@@ -10,6 +11,12 @@ pub fn the_same_keymaps_have_no_changes()
 /// Where no list of events tells two keymaps apart, the answers to each list are the same.
 pub fn keymaps_that_are_never_told_answer_alike()
     ensures { AnswersAreSame }
+{}
+
+/// What tells two keymaps apart by the fewest presses is answered alike up to its last event.
+#[tactic(auto, using(crate::proofs::LastEvents::told_lists_differ_at_last))]
+pub fn told_lists_differ_at_their_last_event()
+    ensures { ToldListsDifferAtLast }
 {}
 
 /// In a safe keymap no list of events makes a key forget that it holds a modifier.

@@ -3,6 +3,7 @@ mod Columns
 mod Common
 mod Letters
 mod Loops
+mod Names
 mod Parts
 mod Plain
 mod Red

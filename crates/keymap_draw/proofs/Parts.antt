@@ -4,7 +4,7 @@ use Rattle.keymap_draw.proofs.Common.{Number, None, refl, sym, ap, ◌∙◌, su
 use Rattle.keymap_draw.proofs.Common.{if◌then◌else◌, list_all, flat_map, eqb-true, name_of, Finding, finding_words}
 use Rattle.keymap_draw.proofs.Common.{Told, Plain, Bytes, Fact, escaped, is_class, within, is_inner, is_seen, over}
 use Rattle.keymap_draw.proofs.Common.{ReadAs, IsWithin, last_facts, reverse, State, Read, Place, Element, at, scan}
-use Rattle.keymap_draw.proofs.Common.{none-some}
+use Rattle.keymap_draw.proofs.Common.{none-some, ◌||◌, or_cases, inl, inr}
 use Rattle.keymap_draw.proofs.Common.{saying, within_element, Text, Value, nat_tests}
 use Rattle.std.specs.Prelude.{slice_index}
 use Rattle.std.specs.Option.{option_and_then}
@@ -12,11 +12,11 @@ use Rattle.std.proofs.lemmas.Option.{option_and_then_some}
 use Rattle.keymap_core.specs.declared.action.Holding.{Holding}
 use Rattle.keymap_core.specs.Actions.{holding_action}
 use Rattle.keymap_draw.specs.declared.sheet.Told.TheVariants.{Characters}
-use Rattle.keymap_draw.specs.Sheets.{written, is_ready, taking}
+use Rattle.keymap_draw.specs.Sheets.{ends_told, written, is_ready, taking}
 use Rattle.messages.specs.Filled.{filled, words_before, words_behind}
 use Rattle.keymap_draw.proofs.Scans.{both_true, first_true, second_true, failed, scan-append, inside_from, was_inside}
 use Rattle.keymap_draw.proofs.Scans.{value_scan, text_scan, further, decimal_inner, place, ends as ends_in}
-use Rattle.keymap_draw.proofs.Scans.{escaped_scan, tag_scan}
+use Rattle.keymap_draw.proofs.Scans.{escaped_scan, end_scan}
 use Rattle.messages.proofs.Passed.{filled_all}
 use Rattle.keymap_core.specs.declared.action.Holding.TheVariants as h
 use Rattle.keymap_core.specs.declared.action.Modifier.TheVariants as m
@@ -24,34 +24,34 @@ use Rattle.keymap_core.specs.declared.action.Lock.TheVariants as l
 
 -- ---- what is told at a place
 
-before_tag : (w : List ℕ) → words_before (60 ∷ w) ≡ 60 ∷ words_before w
-before_tag w = search rules
+before_end : (c : ℕ) (w : List ℕ) → ends_told c ≡ true → words_before (c ∷ w) ≡ c ∷ words_before w
+before_end c w h = elim (or_cases (c == 60) (c == 44) h) [
+  | inl tag ↦ rw (eqb-true c 60 tag) (search rules)
+  | inr comma ↦ rw (eqb-true c 44 comma) (search rules)
+]
 
--- bytes behind words that begin with a tag
-begins_tag : (w : List ℕ) (ts : List Told) → slice_index w 0 ≡ 60
-    → (bs : List ℕ) × (filled w (map written ts) ≡ 60 ∷ bs)
+-- bytes behind words that begin with a tag or a comma
+begins_end : (w : List ℕ) (ts : List Told) → ends_told (slice_index w 0) ≡ true
+    → (bs : List ℕ) × (filled w (map written ts) ≡ slice_index w 0 ∷ bs)
 unfolding filled
-begins_tag [] ts e = cc
-begins_tag (c ∷ w) ts e = subst (λ d. (bs : List ℕ) × (filled (d ∷ w) (map written ts) ≡ 60 ∷ bs)) (sym e) (by ts)
-  where
-    by : (ts : List Told) → (bs : List ℕ) × (filled (60 ∷ w) (map written ts) ≡ 60 ∷ bs)
-    by [] = (w, refl)
-    by (t ∷ ts) =
-        let rest : List ℕ = filled (words_behind (60 ∷ w)) (map written ts) in
-        ((words_before w ++ written t) ++ rest, ap (λ b. (b ++ written t) ++ rest) (before_tag w))
+begins_end [] ts h = cc
+begins_end (c ∷ w) [] h = (w, refl)
+begins_end (c ∷ w) (t ∷ ts) h =
+    let rest : List ℕ = filled (words_behind (c ∷ w)) (map written ts) in
+    ((words_before w ++ written t) ++ rest, ap (λ b. (b ++ written t) ++ rest) (before_end c w h))
 
--- the reader behind characters that have references, before a tag
+-- the reader behind characters that have references, before a tag or a comma
 escaped_taken : (r : Read) (cs next : List ℕ) (ts : List Told) (b : Bool) (q : State) → list_all is_seen cs ≡ true
-    → slice_index next 0 == 60 ≡ b → (if b then within_element Text (saying cs r) else None) ≡ Some q
+    → ends_told (slice_index next 0) ≡ b → (if b then within_element Text (saying cs r) else None) ≡ Some q
     → scan (scan (Some (at Text r)) (flat_map escaped cs)) (filled next (map written ts))
     ≡ scan (Some q) (filled next (map written ts))
 escaped_taken r cs next ts false q h t e = absurd (none-some q e)
 escaped_taken r cs next ts true q h t e =
     let (i, f) = inside_from Text (saying cs r) q e in
-    let (bs, g) = begins_tag next ts (eqb-true (slice_index next 0) 60 t) in
+    let (bs, g) = begins_end next ts t in
     ap (λ o. scan o (filled next (map written ts))) (escaped_scan r false cs (was_inside r cs i) h)
     ∙ ap (scan (Some (at (place (ends_in false cs)) (saying cs r)))) g
-    ∙ tag_scan (saying cs r) (ends_in false cs) bs
+    ∙ end_scan (saying cs r) (ends_in false cs) (slice_index next 0) bs t
     ∙ sym (ap (scan (Some (at Text (saying cs r)))) g)
     ∙ ap (λ o. scan o (filled next (map written ts))) f
 
@@ -66,8 +66,8 @@ taken (Value tag name value) r (Number n) next ts q h e =
 taken Text r (Number n) next ts q h e =
     search (rules, inside_from, text_scan, was_inside, decimal_inner)
 taken Text r (Plain t) next ts q h e = search (rules, inside_from, text_scan, was_inside)
-taken Text r (Bytes t) next ts q h e = escaped_taken r t.now next ts (slice_index next 0 == 60) q h refl e
-taken Text r (Characters t) next ts q h e = escaped_taken r t.now next ts (slice_index next 0 == 60) q h refl e
+taken Text r (Bytes t) next ts q h e = escaped_taken r t.now next ts (ends_told (slice_index next 0)) q h refl e
+taken Text r (Characters t) next ts q h e = escaped_taken r t.now next ts (ends_told (slice_index next 0)) q h refl e
 taken _ r t next ts q h e = absurd (none-some q e)
 
 -- ---- words

@@ -16,6 +16,7 @@ use Rattle.std.proofs.Common.{◌*◌}
 use Rattle.std.specs.Char.{digit_char}
 use Rattle.messages.proofs.Passed.{append_all}
 use Rattle.keymap_draw.specs.Markup.{is_referred, reference}
+use Rattle.keymap_draw.specs.Sheets.{ends_told}
 use Rattle.keymap_draw.specs.WellFormed.Place.{Bracket, Number}
 
 pub scan-append : (s : Option State) (a b : List ℕ) → scan s (a ++ b) ≡ scan (scan s a) b
@@ -239,11 +240,14 @@ escaped_scan r q (c ∷ cs) i h =
     (escaped_scan (saying (c ∷ []) r) (c == 93) cs (still_inside r (c ∷ []) i) (second_true _ h))
     ∙ ap (λ s. Some (at (place (ends q (c ∷ cs))) s)) (saying_more r (c ∷ []) cs)
 
--- a tag behind them
-pub tag_scan : (r : Read) (q : Bool) (bs : List ℕ)
-    → scan (Some (at (place q) r)) (60 ∷ bs) ≡ scan (Some (at Text r)) (60 ∷ bs)
-tag_scan r false bs = refl
-tag_scan r true bs = refl
+-- a tag or a comma behind them
+pub end_scan : (r : Read) (q : Bool) (c : ℕ) (bs : List ℕ) → ends_told c ≡ true
+    → scan (Some (at (place q) r)) (c ∷ bs) ≡ scan (Some (at Text r)) (c ∷ bs)
+end_scan r false c bs h = refl
+end_scan r true c bs h = ap (λ d. scan (if is_plain c then (if d then None else in_text r c) else None) bs) (no_end c h)
+  where
+    no_end : (c : ℕ) → ends_told c ≡ true → c == 62 ≡ false
+    no_end c h = grind (arith, nat_tests)
 
 -- ---- the text of a picture
 

@@ -219,9 +219,9 @@ upper_titled : (d : Drawing) (y : ℕ)
     → Titled (upper d (upper_keys d) y) (of d (if is_upper_live d.map then told_in d Upper else []))
 upper_titled d y = search (rules, half_titled, nothing)
 
-head_quiet : (count high : ℕ) → Titled (head count high) []
+head_quiet : (name : List ℕ) (count high : ℕ) → Titled (head name count high) []
 unfolding head
-head_quiet count high = record { are = refl }
+head_quiet name count high = record { are = refl }
 
 end_quiet : (y : ℕ) → Titled (colour_key y) []
 unfolding colour_key
@@ -231,7 +231,7 @@ pub picture_titles : (d : Drawing) → titles (picture_facts d) ≡ map (title_o
 unfolding picture_facts parts told
 picture_titles d =
     (behind (behind (together d (told_in d Lower ++ (if is_upper_live d.map then told_in d Upper else [])) _
-    (behind (together d (told_in d Lower) _ (head_quiet _ _ ⊳ half_titled d Lower 16) (upper_titled d _))
+    (behind (together d (told_in d Lower) _ (head_quiet _ _ _ ⊳ half_titled d Lower 16) (upper_titled d _))
     (findings_quiet d.findings _))
     (list_titled d (named_accents d.map) _))
     (silent_quiet (silent_accents d.map) _))

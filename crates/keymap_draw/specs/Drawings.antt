@@ -1,10 +1,31 @@
--- What a picture is drawn of: a keymap with findings of a check, on a board.
-use Rattle.std.specs.Prelude.{List}
+-- What a picture is drawn of: a keymap with findings of a check, on a board, and the name that it is headed by.
+use Rattle.std.specs.Prelude.{ℕ, nat_lt, List, [], ◌∷◌, ◌++◌, codes, length, map, take, if◌then◌else◌}
+use Rattle.bstr.specs.Utf8.{lossy_chars}
 use Rattle.keymap_core.specs.Maps.{MapValue}
 use Rattle.keymap_check.specs.declared.finding.Finding.{Finding}
 use Rattle.keymap_draw.specs.declared.board.Board.{Board}
+use Rattle.keymap_draw.specs.Sheets.{is_seen}
 
 pub record Drawing : Type 0 where
   pub map : MapValue
   pub findings : List Finding
   pub board : Board
+  -- the characters of the name
+  pub name : List ℕ
+
+-- U+FFFD stands for a character that XML doesn't take or that a terminal doesn't show
+abbrev pub shown_character : ℕ → ℕ
+shown_character c = if is_seen c then c else 0xfffd
+
+-- of more than 48 characters the first 47, and an ellipsis
+abbrev pub shortened : List ℕ → List ℕ
+shortened cs = if nat_lt 48 (length cs) then take 47 cs ++ 0x2026 ∷ [] else cs
+
+-- the name that is given in bytes; one U+FFFD stands for each maximal piece that isn't UTF-8
+unfoldable pub shown_name : List ℕ → List ℕ
+shown_name given = shortened (map shown_character (lossy_chars given))
+
+-- the name by which a picture is headed, also where an empty one is given
+abbrev pub name_of : List ℕ → List ℕ
+name_of [] = codes "Console keymap"
+name_of given = shown_name given

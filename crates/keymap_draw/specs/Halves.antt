@@ -56,8 +56,8 @@ verdict y count =
 -- the keymap, or its lower half
 abbrev pub name : Drawing → ℕ → List Fact
 name d y =
-    if is_upper_live d.map then headline_at y (codes "h") (codes "Console keymap, lower half") ∷ []
-    else headline_at y (codes "h") (codes "Console keymap") ∷ []
+    if is_upper_live d.map then headline_at y (codes "h") (d.name ++ codes ", lower half") ∷ []
+    else headline_at y (codes "h") d.name ∷ []
 
 -- which half it is, and of the lower one the verdict
 abbrev pub headline : Drawing → Half → ℕ → List Fact

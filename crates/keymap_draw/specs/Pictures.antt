@@ -9,7 +9,7 @@ use Rattle.keymap_draw.specs.declared.constants.TheConstants.{STYLE, SHAPES}
 use Rattle.keymap_draw.specs.declared.half.Half.TheVariants.{Lower, Upper}
 use Rattle.keymap_draw.specs.declared.whole.Starts.{Starts}
 use Rattle.keymap_draw.specs.ColourKey.{colour_key}
-use Rattle.keymap_draw.specs.Drawings.{Drawing}
+use Rattle.keymap_draw.specs.Drawings.{Drawing, name_of}
 use Rattle.keymap_draw.specs.Facts.{Fact}
 use Rattle.keymap_draw.specs.Facts.Fact.{Begin, Figure, Text}
 use Rattle.keymap_draw.specs.Halves.{other_keys, half_height, half_facts}
@@ -27,11 +27,11 @@ begin high =
     ∷ (codes "role", codes "graphics-document document") ∷ (codes "aria-labelledby", codes "title desc")
     ∷ (codes "lang", codes "en") ∷ [])
 
--- the title of the whole says whether the keymap is accepted
-abbrev pub heading : ℕ → Fact
-heading count =
+-- the title of the whole has the name, and says whether the keymap is accepted
+abbrev pub heading : List ℕ → ℕ → Fact
+heading name count =
     Text (codes "title") [] ((codes "id", codes "title") ∷ [])
-    (codes "Console keymap, " ++ (if count == 0 then codes "accepted" else codes "refused"))
+    ((name ++ codes ", ") ++ (if count == 0 then codes "accepted" else codes "refused"))
 
 abbrev pub description : Fact
 description =
@@ -42,11 +42,11 @@ description =
 abbrev pub page : ℕ → Fact
 page high = Figure (codes "rect") (codes "page") ((codes "width", codes "1492") ∷ (codes "height", decimal high) ∷ [])
 
--- of a picture of some height with so many findings: its begin, its title and its description, the style, the shapes
+-- of a picture of a name and some height with so many findings: its begin, its title and its description, the style, the shapes
 -- and the page
-unfoldable pub head : ℕ → ℕ → List Fact
-head count high =
-    begin high ∷ heading count ∷ description ∷ [] ++ facts_from opened STYLE [] ++ facts_from opened SHAPES []
+unfoldable pub head : List ℕ → ℕ → ℕ → List Fact
+head name count high =
+    begin high ∷ heading name count ∷ description ∷ [] ++ facts_from opened STYLE [] ++ facts_from opened SHAPES []
     ++ page high ∷ []
 
 -- the upper half is drawn only if it is live
@@ -80,7 +80,7 @@ starts_of d lower upper named silent = record {
 -- the parts, one below the other, and below them what the colours mean
 unfoldable pub parts : Drawing → Starts → List ℕ → List ℕ → List ℕ → List ℕ → List Fact
 parts d starts lower above named silent =
-    head (length d.findings) (starts.key + 76) ++ half_facts d Lower lower 16 ++ upper d above starts.upper
+    head d.name (length d.findings) (starts.key + 76) ++ half_facts d Lower lower 16 ++ upper d above starts.upper
     ++ findings_list d.findings starts.findings
     ++ accents_list d.map named starts.accents
     ++ silent_list silent starts.silent
@@ -98,9 +98,11 @@ picture_facts d = parts_with d (other_keys d Lower) (upper_keys d) (named_accent
 abbrev pub IsPicture : Drawing → List ℕ → Type 0
 IsPicture d bytes = Tells (picture_facts d) bytes
 
-abbrev pub IsPictureWith : MapValue → List Finding → Board → List ℕ → Type 0
-IsPictureWith m fs board bytes = IsPicture (record { map = m; findings = fs; board = board }) bytes
+-- the picture of a map with these findings, under a name that is given
+abbrev pub IsPictureWith : MapValue → List Finding → Board → List ℕ → List ℕ → Type 0
+IsPictureWith m fs board given bytes =
+    IsPicture (record { map = m; findings = fs; board = board; name = name_of given }) bytes
 
--- what is drawn of a map: with the findings of the check
-abbrev pub drawing : MapValue → Board → Drawing
-drawing m board = record { map = m; findings = findings_of m; board = board }
+-- what is drawn of a map under a name that is given: with the findings of the check
+abbrev pub drawing : MapValue → Board → List ℕ → Drawing
+drawing m board given = record { map = m; findings = findings_of m; board = board; name = name_of given }

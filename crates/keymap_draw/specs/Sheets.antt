@@ -87,13 +87,17 @@ is_ready (told.Plain t) = list_all is_inner t.now
 is_ready (told.Number n) = true
 is_ready t = list_all is_seen (characters t)
 
--- the reader behind what is told, in a value or between tags, where a tag stands behind what has references
+-- a tag or a comma begins
+abbrev pub ends_told : ℕ → Bool
+ends_told c = c == 60 || c == 44
+
+-- the reader behind what is told, in a value or between tags, where a tag or a comma stands behind what has references
 abbrev pub taking : Place → Read → Told → List ℕ → Option State
 taking (Value tag name value) r (told.Plain t) behind = Some (at (Value tag name (value ++ t.now)) r)
 taking (Value tag name value) r (told.Number n) behind = Some (at (Value tag name (value ++ decimal n)) r)
 taking Text r (told.Plain t) behind = within_element Text (saying t.now r)
 taking Text r (told.Number n) behind = within_element Text (saying (decimal n) r)
-taking Text r t behind = if slice_index behind 0 == 60 then within_element Text (saying (characters t) r) else None
+taking Text r t behind = if ends_told (slice_index behind 0) then within_element Text (saying (characters t) r) else None
 taking p r t behind = None
 
 -- the reader behind words with what is told at their places

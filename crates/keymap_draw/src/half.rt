@@ -9,7 +9,7 @@ use crate::board::{RUNS, Run, Shape};
 use crate::drawing::Drawing;
 use crate::key::{Cap, is_blank_entry, push_key};
 use crate::markup::Added;
-use crate::sheet::Told::{Number, Plain};
+use crate::sheet::Told::{Characters, Number, Plain};
 use crate::sheet::{InPicture, Sheet, tell};
 use crate::words::{
     IS_ACCEPTED, KEY_CODE, KEYMAP, LOWER_HALF, MORE_FINDINGS, ONE_FINDING, OTHER_KEYS, PANEL,
@@ -203,14 +203,14 @@ fn push_verdict(sheet: Sheet<InPicture>, y: u32, count: u32) -> Added<Sheet<InPi
     }
 }
 
-/// Adds what is drawn, the keymap or its lower half.
+/// Adds the name, and that this is the lower half where both are drawn.
 fn push_name(sheet: Sheet<InPicture>, drawing: &Drawing, y: u32) -> Added<Sheet<InPicture>>
     ensures { IfOk result (λ s. s ≡ sheet ++ spec.name drawing.now y) }
 {
     if drawing.is_upper_live() {
-        tell(sheet, LOWER_HALF, &[Number(y)])
+        tell(sheet, LOWER_HALF, &[Number(y), Characters(drawing.name())])
     } else {
-        tell(sheet, KEYMAP, &[Number(y)])
+        tell(sheet, KEYMAP, &[Number(y), Characters(drawing.name())])
     }
 }
 

@@ -24,6 +24,7 @@ pub mod laws;
 mod legend;
 mod lists;
 mod markup;
+mod name;
 mod place;
 mod sheet;
 mod tables;

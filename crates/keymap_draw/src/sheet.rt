@@ -5,7 +5,7 @@ ghost use Rattle.std.specs.List.{list_all};
 ghost use Rattle.messages.specs.Filled.{filled};
 ghost use Rattle.keymap_draw.specs.Facts.{Fact};
 ghost use Rattle.keymap_draw.specs.Sheets.{within, over, facts_over, written, is_ready, in_svg, in_key, in_row};
-ghost use Rattle.keymap_draw.specs.Sheets.{in_table};
+ghost use Rattle.keymap_draw.specs.Sheets.{in_table, is_seen};
 ghost use Rattle.keymap_draw.specs.Pictures.{head};
 ghost use Rattle.keymap_draw.specs.ColourKey.{colour_key};
 ghost use Rattle.keymap_draw.specs.WellFormed.{Element, Tells};
@@ -124,15 +124,22 @@ pub(crate) fn tell<P: Part, Q: Part>(
     })
 }
 
-/// The head of a picture of some height: its begin, its title and its description, the style, the shapes and the page.
-pub(crate) fn begin(alloc: Global, count: usize, height: u32) -> Added<Sheet<InPicture>>
-    ensures { IfOk result (λ s. s ≡ head count height) }
+/// The head of a picture of a name and some height: its begin, its title and its description, the style, the shapes and
+/// the page.
+pub(crate) fn begin(
+    alloc: Global,
+    name: &[char],
+    count: usize,
+    height: u32,
+) -> Added<Sheet<InPicture>>
+    requires { list_all is_seen name.now ≡ true }
+    ensures { IfOk result (λ s. s ≡ head name.now count height) }
 {
     let mut text = Vec::new(alloc);
     let high = Told::Number(height);
     let verdict = Told::Plain(either(count == 0, ACCEPTED, REFUSED));
     push_filled(&mut text, BEGIN, &[high, high])?;
-    push_filled(&mut text, TITLE, &[verdict])?;
+    push_filled(&mut text, TITLE, &[Told::Characters(name), verdict])?;
     text.extend_from_slice(DESCRIPTION)?;
     text.extend_from_slice(&STYLE)?;
     text.extend_from_slice(&SHAPES)?;

@@ -12,6 +12,7 @@ use crate::lists::{
     silent_accents, silent_height,
 };
 use crate::markup::Added;
+use crate::name::name_of;
 use crate::sheet::{InPicture, Sheet, begin, finish};
 use arrayvec::ArrayVec;
 use keymap_check::Report;
@@ -114,7 +115,12 @@ fn draw(alloc: Global, drawing: &Drawing, starts: Starts, listed: Listed) -> Add
     ensures { IfOk result (λ text. Tells (spec.parts drawing.now starts listed.entry.lower.now
         listed.entry.upper.now listed.entry.named.now listed.entry.silent.now) text.items) }
 {
-    let sheet = begin(alloc, drawing.findings().len(), starts.key + 76)?;
+    let sheet = begin(
+        alloc,
+        drawing.name(),
+        drawing.findings().len(),
+        starts.key + 76,
+    )?;
     let sheet = push_half(sheet, drawing, Half::Lower, listed.lower, 16)?;
     let sheet = push_upper(sheet, drawing, listed.upper, starts.upper)?;
     let sheet = push_findings(sheet, drawing.findings(), starts.findings)?;
@@ -123,17 +129,20 @@ fn draw(alloc: Global, drawing: &Drawing, starts: Starts, listed: Listed) -> Add
     finish(sheet, starts.key)
 }
 
-/// The picture of a keymap on a board, as SVG, with the findings of a report on it.
+/// The picture of a keymap on a board, as SVG, with the findings of a report on it. It is headed by a name, in UTF-8, of
+/// which 48 characters are shown at most, and by `Console keymap` where that is empty.
 #[tactic(auto, unfolding(crate::specs::Pictures::picture_facts))]
 pub fn picture(
     alloc: Global,
     map: &KeyMap,
     report: &Report,
     board: Board,
+    name: &[u8],
 ) -> Result<Vec<u8>, AllocError>
-    ensures { IfOk result (λ text. spec.IsPictureWith map.now report.now.findings board text.items) }
+    ensures { IfOk result (λ text. spec.IsPictureWith map.now report.now.findings board name.now text.items) }
 {
-    let drawing = Drawing::new(map, report, board);
+    let shown = name_of(alloc, name)?;
+    let drawing = Drawing::new(map, report, board, shown.as_slice());
     let (lower, upper) = (other_keys(&drawing, Half::Lower), upper_keys(&drawing));
     let (named, silent) = (named_accents(map), silent_accents(&drawing));
     let listed = Listed {

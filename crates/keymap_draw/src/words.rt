@@ -6,8 +6,8 @@ pub(crate) const BEGIN: &[u8] =
     b"<svg xmlns=\"http://www.w3.org/2000/svg\" width=\"1492\" height=\"{}\" viewBox=\"0 0 1492 {}\" \
 role=\"graphics-document document\" aria-labelledby=\"title desc\" lang=\"en\">\n";
 
-/// The title of the whole, with whether the keymap is accepted.
-pub(crate) const TITLE: &[u8] = b"<title id=\"title\">Console keymap, {}</title>\n";
+/// The title of the whole, with the name and whether the keymap is accepted.
+pub(crate) const TITLE: &[u8] = b"<title id=\"title\">{}, {}</title>\n";
 
 /// What the picture shows.
 pub(crate) const DESCRIPTION: &[u8] = b"<desc id=\"desc\">\
@@ -21,11 +21,10 @@ pub(crate) const REFUSED: &[u8] = b"refused";
 /// The page, with its height.
 pub(crate) const PAGE: &[u8] = b"<rect class=\"page\" width=\"1492\" height=\"{}\"/>\n";
 
-// The headlines of the halves: where they stand, and which half it is or what the check says.
-pub(crate) const KEYMAP: &[u8] = b"<text x=\"28\" y=\"{}\" class=\"h\">Console keymap</text>\n";
+// The headlines of the halves: where they stand, and the name, which half it is or what the check says.
+pub(crate) const KEYMAP: &[u8] = b"<text x=\"28\" y=\"{}\" class=\"h\">{}</text>\n";
 
-pub(crate) const LOWER_HALF: &[u8] =
-    b"<text x=\"28\" y=\"{}\" class=\"h\">Console keymap, lower half</text>\n";
+pub(crate) const LOWER_HALF: &[u8] = b"<text x=\"28\" y=\"{}\" class=\"h\">{}, lower half</text>\n";
 
 pub(crate) const UPPER_HALF: &[u8] =
     b"<text x=\"28\" y=\"{}\" class=\"h\">Upper half: while ashift or alock is on</text>\n";

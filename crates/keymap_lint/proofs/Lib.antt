@@ -8,4 +8,4 @@ pub mod Standing
 pub mod Each
 pub mod InForce
 pub mod Begun
-pub mod Faults
+pub mod FaultPlaces

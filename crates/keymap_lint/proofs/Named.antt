@@ -38,6 +38,7 @@ use Rattle.keymap_lint.specs.Spelled.{cells_in_force}
 use Rattle.keymap_core.specs.declared.action.Action.TheVariants as act
 use Rattle.keymap_core.specs.declared.action.Modifier.TheVariants as modifier
 use Rattle.keymap_core.specs.declared.action.Lock.TheVariants as lock
+use Rattle.keymap_lint.proofs.FaultPlaces.{has_fault}
 
 -- whether a diagnostic names a key
 abbrev pub names : Diagnostic → Bool
@@ -236,4 +237,5 @@ pub keys_are_named_exactly_if_refused : KeysAreNamedExactlyIfRefused
 keys_are_named_exactly_if_refused text m (OfSpelled l) spells (n, spelled, (rows, by, (fs, are, is))) =
     subst (λ m. (names_keys (OfSpelled l) ≡ false) ↔ IsSafe m) (one_map text n m spelled spells)
     (named_exactly (spelled_by text n rows) (no_slot text n rows by) fs are l is)
-keys_are_named_exactly_if_refused text m (Faulty f place) spells (fault, is) = absurd (not_both text m f spells fault)
+keys_are_named_exactly_if_refused text m (Faulty faults) spells (some, are) =
+    let faulty = has_fault 20 text faults.items some are in absurd (not_both text m faulty.0 spells faulty.1)

@@ -1,6 +1,6 @@
 -- The diagnostics stand in the text, at what they tell of.
 use Rattle.keymap_lint.proofs.Common.{◌≡◌, ℕ, ◌+◌, ◌<◌, ◌≤◌, Bool, true, false, not, cond, List, length, get_or, refl}
-use Rattle.keymap_lint.proofs.Common.{sym, ◌∙◌, ap, subst, arith, Option, Some, None, find, true≢false, Slot, Placed}
+use Rattle.keymap_lint.proofs.Common.{sym, ◌∙◌, ap, arith, Option, Some, None, find, true≢false, Slot, Placed}
 use Rattle.keymap_lint.proofs.Common.{Faulty, MapValue, last_of, selects, is_missing, rules, Spelled, cell_in}
 use Rattle.std.proofs.Common.{◌*◌, All, nat_lt}
 use Rattle.std.proofs.lemmas.List.Elements.{All-weaker, All-contains, Contains-get_or}
@@ -15,10 +15,7 @@ use Rattle.keymap_lint.specs.Types.{Holding, Cell, Char, Act, Finding, Accent, C
 use Rattle.keymap_core.specs.Actions.{holding_action}
 use Rattle.keymap_core.specs.Maps.{cell_at}
 use Rattle.keymap_check.specs.Findings.{IsFinding}
-use Rattle.keymap_text.specs.Meaning.{tokens}
 use Rattle.keymap_text.specs.Placed.{Row, IsSpelledBy}
-use Rattle.keymap_text.specs.Places.{AtDefinition}
-use Rattle.keymap_text.proofs.Verdicts.{fault_to, fault_within}
 use Rattle.keymap_text.proofs.TokenPlaces.{tokens_are_placed}
 use Rattle.keymap_lint.specs.Kinds.{character_of, selector_of, dead_key_of, live_accent, is_missing_of}
 use Rattle.keymap_lint.specs.Lists.{spelled_by, all_of, IsLint}
@@ -31,7 +28,7 @@ use Rattle.keymap_core.specs.declared.action.Lock.TheVariants as lock
 use Rattle.keymap_core.specs.declared.action.Holding.TheVariants as holding
 use Rattle.keymap_lint.proofs.Begun.{again_there, replaced, unused_there, zero_there}
 use Rattle.keymap_lint.proofs.Each.{of_all}
-use Rattle.keymap_lint.proofs.Faults.{TellsPlaces, refused_within}
+use Rattle.keymap_lint.proofs.FaultPlaces.{all_lie_within}
 use Rattle.keymap_lint.proofs.InForce.{cells_in_force_are_spelled, in_force_there, spelled_at, within}
 
 -- a cell that selects the slots from 128 on is what is told of it
@@ -176,11 +173,7 @@ diagnostics_stand_in_the_text text (OfSpelled l) (m, spells, (rows, by, (fs, are
   rows,
   (spells, by, search (rules, All-permutation, all_of_text)),
 )
-diagnostics_stand_in_the_text text (Faulty f place) ((early, at_it), is) = (
-  fault_within text f.kind f.offset early (fault_to text f.kind f.offset early at_it.0),
-  subst (TellsPlaces text) (sym is)
-      (refused_within text AtDefinition None 0 (tokens text) (tokens_are_placed text) tt (omega arith)),
-)
+diagnostics_stand_in_the_text text (Faulty faults) (some, are) = all_lie_within 20 text 0 faults.items are
 
 -- what lies within a text
 pub lies_within : (text : List ℕ) (l : Lint) → IsLint text l → LiesWithin text l
@@ -189,4 +182,4 @@ lies_within text (OfSpelled l) is = go (diagnostics_stand_in_the_text text (OfSp
     go : StandsInText text (OfSpelled l) → LiesWithin text (OfSpelled l)
     go (m, rows, (spells, by, all)) =
         All-weaker (StandsWithin text (spelled_by text m rows)) (IsWithin text) (λ d h. h.0) l.list.items all
-lies_within text (Faulty f place) is = diagnostics_stand_in_the_text text (Faulty f place) is
+lies_within text (Faulty faults) is = diagnostics_stand_in_the_text text (Faulty faults) is

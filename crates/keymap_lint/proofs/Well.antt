@@ -59,4 +59,4 @@ well_texts_never_stick text (Spelled l) (m, spells, (rows, by, (fs, are, is))) w
     go (Some Never) e s = s.1
     go (Some (Sticks events on)) e s = quietly (ap never_sticks e)
     go (Some (Undecided p)) e s = quietly (ap never_sticks e)
-well_texts_never_stick text (Faulty f place) is well = absurd (true≢false well)
+well_texts_never_stick text (Faulty faults) is well = absurd (true≢false well)

@@ -1,6 +1,7 @@
 pub mod Severities
 pub mod Spelled
 pub mod Kinds
+pub mod Faults
 pub mod Lists
 pub mod Promises
 pub mod Positions

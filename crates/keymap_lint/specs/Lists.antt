@@ -1,4 +1,4 @@
--- What is said of a text: its fault, or its diagnostics in their order and what some of them tell of.
+-- What is said of a text: its faults, or its diagnostics in their order and what some of them tell of.
 use Rattle.std.specs.Prelude.{◌≡◌, ℕ, ◌<◌, List, ◌++◌, length, map, Option, Some, None, IsPermutation, IsSortedByKey}
 use Rattle.std.specs.List.Sorted.{IsStableByKey}
 use Rattle.std.specs.Option.{option_cmp}
@@ -8,11 +8,9 @@ use Rattle.keymap_lint.specs.Types.{Sticking, Finding, Span, Placed, CellInForce
 use Rattle.keymap_lint.specs.Types.{Spelled as IsSpelled}
 use Rattle.console_states.specs.Sticking.{IsAnswer}
 use Rattle.keymap_check.specs.Findings.{AreFindings}
-use Rattle.keymap_text.specs.declared.wanted.FaultPlace.{FaultPlace}
-use Rattle.keymap_text.specs.Meaning.{Spells, Fault as FaultOf, tokens}
+use Rattle.keymap_text.specs.Meaning.{Spells, tokens}
 use Rattle.keymap_text.specs.Placed.{Row, IsSpelledBy, places_of, span_of}
-use Rattle.keymap_text.specs.Places.{AtDefinition}
-use Rattle.keymap_text.specs.Wanted.{fault_place_view, first_refused}
+use Rattle.keymap_lint.specs.Faults.{AreFaults, fault_limit}
 use Rattle.keymap_lint.specs.Spelled.{Spelled, cells_in_force}
 use Rattle.keymap_lint.specs.Kinds.{no_key, no_shift, mixed_keys, half_defined, defined_again, dead_key}
 use Rattle.keymap_lint.specs.Kinds.{zero_accents, pairs_again, unused_half, bare_digits, missing_slots, nul_keys}
@@ -68,11 +66,7 @@ spelled_by text m rows = spelled_with (places_of rows) (map span_of (tokens text
 abbrev pub AreOfMap : List ℕ → MapValue → Diagnostics → Type 0
 AreOfMap text m l = (rows : List Row) × IsSpelledBy text m rows × AreOfSpelled (spelled_by text m rows) l
 
--- what is wanted where the text goes wrong, and the definition that has begun
-abbrev pub IsWanted : List ℕ → FaultPlace → Type 0
-IsWanted text place = fault_place_view place ≡ first_refused AtDefinition None 0 (tokens text)
-
--- What is said of a text: its fault, or the diagnostics of the map that it spells.
+-- What is said of a text: its faults, or the diagnostics of the map that it spells.
 abbrev pub IsLint : List ℕ → Lint → Type 0
-IsLint text (Faulty f place) = FaultOf text f × IsWanted text place
+IsLint text (Faulty faults) = (0 < length faults.items) × AreFaults fault_limit text 0 faults.items
 IsLint text (IsSpelled l) = (m : MapValue) × Spells text m × AreOfMap text m l

@@ -4,7 +4,7 @@ use Rattle.std.specs.Prelude.{take, drop, Some, None, IfSome, Ok, ⊤}
 use Rattle.keymap_core.specs.declared.action.Action.TheVariants as action
 use Rattle.keymap_lint.specs.Types.{Holding, Cell, Char, Act, Slot, Accent, CellInForce, Finding, Diagnostic}
 use Rattle.keymap_lint.specs.Types.{Defined, Diagnostics, Placed}
-use Rattle.keymap_lint.specs.Types.{Kind, Lint, Faulty, Spelled as OfSpelled}
+use Rattle.keymap_lint.specs.Types.{Kind, Lint, Faulty, PlacedFault, Spelled as OfSpelled}
 use Rattle.keymap_core.specs.Actions.{holding_action}
 use Rattle.keymap_core.specs.Maps.{MapValue, cell_at}
 use Rattle.keymap_core.specs.Numbers.{key_count}
@@ -13,7 +13,6 @@ use Rattle.keymap_text.specs.Lexical.{TokenValue}
 use Rattle.keymap_text.specs.Meaning.{Spells, item_of, tokens}
 use Rattle.keymap_text.specs.Placed.{IsSpelledBy, Row, begins, last_of}
 use Rattle.keymap_text.specs.Rows.{ArePairs}
-use Rattle.keymap_text.specs.declared.wanted.FaultPlace.{FaultPlace}
 use Rattle.keymap_lint.specs.declared.diagnostic.Kind.TheVariants as kinds
 use Rattle.keymap_lint.specs.Lists.{IsLint, spelled_by}
 use Rattle.keymap_lint.specs.Spelled.{Spelled, cells_in_force, content, is_live, offset_at}
@@ -131,13 +130,15 @@ TellsWithin text k = ⊤
 abbrev pub IsWithin : List ℕ → Diagnostic → Type 0
 IsWithin text d = IfSome d.place (λ p. p ≤ length text) × TellsWithin text d.kind
 
--- where the token before a fault ends, and where the definition begins
-abbrev pub FaultLiesWithin : List ℕ → FaultPlace → Type 0
-FaultLiesWithin text place = IfSome place.definition (λ d. d.offset ≤ length text) × (place.behind ≤ length text)
+-- where a fault stands, where the token before it ends, and where the definition begins
+abbrev pub FaultLiesWithin : List ℕ → PlacedFault → Type 0
+FaultLiesWithin text f =
+    (f.fault.offset ≤ length text) × IfSome f.place.definition (λ d. d.offset ≤ length text)
+    × (f.place.behind ≤ length text)
 
 -- Each place that is told of a text lies within it.
 abbrev pub LiesWithin : List ℕ → Lint → Type 0
-LiesWithin text (Faulty f place) = (f.offset ≤ length text) × FaultLiesWithin text place
+LiesWithin text (Faulty faults) = All (FaultLiesWithin text) faults.items
 LiesWithin text (OfSpelled l) = All (IsWithin text) l.list.items
 
 -- a diagnostic stands at what it tells of
@@ -153,7 +154,7 @@ AllStand text m rows l =
     Spells text m × IsSpelledBy text m rows × All (StandsWithin text (spelled_by text m rows)) l.list.items
 
 abbrev pub StandsInText : List ℕ → Lint → Type 0
-StandsInText text (Faulty f place) = (f.offset ≤ length text) × FaultLiesWithin text place
+StandsInText text (Faulty faults) = All (FaultLiesWithin text) faults.items
 StandsInText text (OfSpelled l) = (m : MapValue) × (rows : List Row) × AllStand text m rows l
 
 abbrev pub DiagnosticsStandInTheText : Type 0

@@ -30,5 +30,5 @@ is_error_among l = list_any (λ (d : Diagnostic). is_error (severity_of (never_s
 
 -- the text has a fault, or some diagnostic is an error
 abbrev pub has_error : Lint → Bool
-has_error (Faulty fault place) = true
+has_error (Faulty faults) = true
 has_error (Spelled l) = is_error_among l

@@ -15,3 +15,4 @@ pub use Rattle.keymap_lint.specs.declared.diagnostic.Diagnostics.{Diagnostics}
 pub use Rattle.keymap_lint.specs.declared.diagnostic.Kind.{Kind}
 pub use Rattle.keymap_lint.specs.declared.diagnostic.Lint.{Lint}
 pub use Rattle.keymap_lint.specs.declared.diagnostic.Lint.TheVariants.{Faulty, Spelled}
+pub use Rattle.keymap_lint.specs.declared.diagnostic.PlacedFault.{PlacedFault}

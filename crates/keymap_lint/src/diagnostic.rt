@@ -96,15 +96,19 @@ pub struct Diagnostics {
     pub sticking: Option<Sticking>,
 }
 
+/// A fault, what is wanted there, and the definition that has begun. Offsets and lines are those of the whole text.
+#[derive(Clone, Copy, Debug, PartialEq, Eq)]
+pub struct PlacedFault {
+    pub fault: TextFault,
+    pub place: FaultPlace,
+}
+
 /// What is said of a text.
 #[derive(Debug, Drop)]
 pub enum Lint {
-    /// The text has a fault: it spells no keymap.
-    Faulty {
-        fault: TextFault,
-        /// What is wanted there, and the definition that has begun.
-        place: FaultPlace,
-    },
+    /// The text spells no keymap. It has one of these faults at least, in their order: the first one is its fault, and
+    /// each other one is that of what stands behind the line of the one before, as a text of its own.
+    Faulty(Vec<PlacedFault>),
     /// The text spells a keymap.
     Spelled(Diagnostics),
 }
@@ -166,7 +170,7 @@ impl Lint {
         ensures { result ≡ spec.has_error self.now }
     {
         match self {
-            Lint::Faulty { .. } => true,
+            Lint::Faulty(_) => true,
             Lint::Spelled(diagnostics) => diagnostics.has_error(),
         }
     }

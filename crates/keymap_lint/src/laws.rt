@@ -1,6 +1,7 @@
-//! Laws of the diagnostics: what they promise of the keymap that a text spells. No function here does anything.
+//! Laws of the diagnostics: what they promise of the keymap that a text spells, and of its faults. No function here
+//! does anything.
 ghost use Rattle.keymap_lint.specs.Positions.{CellsInForceAreSpelled, DiagnosticsStandInTheText};
-ghost use Rattle.keymap_lint.specs.Promises.{WellTextsNeverStick, KeysAreNamedExactlyIfRefused};
+ghost use Rattle.keymap_lint.specs.Promises.{FaultsAreInOrder, KeysAreNamedExactlyIfRefused, WellTextsNeverStick};
 
 /// Where no diagnostic of a text is an error, the text spells a keymap, and after each list of presses and releases a
 /// modifier is on only while a key that bears it is pressed: so none is on once no key is pressed.
@@ -28,4 +29,11 @@ pub fn cells_in_force_are_spelled()
 #[tactic(auto, using(crate::proofs::Standing::diagnostics_stand_in_the_text))]
 pub fn diagnostics_stand_in_the_text()
     ensures { DiagnosticsStandInTheText }
+{}
+
+/// Of a text with a fault there are 20 faults at most. The first one is the fault of the text, and each other one stands
+/// in a later line than the one before it.
+#[tactic(auto, using(crate::proofs::FaultPlaces::faults_are_in_order))]
+pub fn faults_are_in_order()
+    ensures { FaultsAreInOrder }
 {}

@@ -1,9 +1,9 @@
-//! The diagnostics of a keymap text: its fault, or what is wrong or doubtful in a text that spells a keymap.
+//! The diagnostics of a keymap text: its faults, or what is wrong or doubtful in a text that spells a keymap.
 //!
 //! keymap_text tells where the parts of a text stand; the crate also takes the check and the search for sticking
 //! modifiers. `diagnostics` answers values, each with the offset of its place; the words are those of keymap_lint_text.
 //!
-//! What is promised (`IsLint`, `specs/Lists.antt`): the fault of a text that has one, and else kind by kind exactly the
+//! What is promised (`IsLint`, `specs/Lists.antt`): the faults of a text that has one, and else kind by kind exactly the
 //! diagnostics that the definitions say, each at its place, those without a place first and then by place.
 #![tactic(auto)]
 
@@ -13,6 +13,7 @@ mod collect;
 mod dead_key;
 mod defined_again;
 mod diagnostic;
+mod faults;
 mod half_defined;
 pub mod laws;
 mod lint;
@@ -25,5 +26,5 @@ mod spelled;
 mod unused_half;
 mod zero_accent;
 
-pub use diagnostic::{Diagnostic, Diagnostics, Kind, Lint, Severity};
+pub use diagnostic::{Diagnostic, Diagnostics, Kind, Lint, PlacedFault, Severity};
 pub use lint::diagnostics;

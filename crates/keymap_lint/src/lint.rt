@@ -14,6 +14,7 @@ use crate::cells::{CellInForce, cells_in_force};
 use crate::collect::collect;
 use crate::dead_key::missing_accents;
 use crate::diagnostic::{Diagnostic, Diagnostics, Lint};
+use crate::faults::faults;
 use crate::half_defined::{half_defined, missing_slots};
 use crate::mixed_key::nul_keys;
 use crate::order::put_in_order;
@@ -22,9 +23,7 @@ use crate::unused_half::unused_slots;
 use console_states::{Sticking, sticking};
 use keymap_check::{Finding, check};
 use keymap_core::KeyMap;
-use keymap_text::{
-    Placed, Span, TextError, definitions, last_definitions, read_map, wanted_at_fault,
-};
+use keymap_text::{Placed, Span, TextError, definitions, last_definitions, read_map};
 use std::alloc::{AllocError, Global};
 
 /// What the search for sticking modifiers answers, where the check has findings.
@@ -117,7 +116,7 @@ fn lint_map(alloc: Global, text: &[u8], map: &KeyMap) -> Result<Diagnostics, All
     Ok(lint)
 }
 
-/// What is said of a text: its fault, or its diagnostics in their order, first those without a place, then by their
+/// What is said of a text: its faults, or its diagnostics in their order, first those without a place, then by their
 /// place, those of one place in the order of the kinds, and several of a kind by key. The search for sticking modifiers
 /// runs only where the check has findings. `Err` means that memory was refused.
 pub fn diagnostics(alloc: Global, text: &[u8]) -> Result<Lint, AllocError>
@@ -126,10 +125,7 @@ pub fn diagnostics(alloc: Global, text: &[u8]) -> Result<Lint, AllocError>
 {
     match read_map(alloc, text) {
         Ok(map) => Ok(Lint::Spelled(lint_map(alloc, text, &map)?)),
-        Err(TextError::Fault(fault)) => Ok(Lint::Faulty {
-            fault,
-            place: wanted_at_fault(text),
-        }),
+        Err(TextError::Fault(_)) => Ok(Lint::Faulty(faults(alloc, text)?)),
         Err(_) => Err(AllocError),
     }
 }

@@ -16,7 +16,7 @@ unfoldable pub use Rattle.keymap_lint_text.specs.Names.{kind_text}
 pub use Rattle.keymap_lint_text.specs.Shown.{IsLine, IsPlainText, IsSeen, ended, is_shown_byte, last, lines_text}
 pub use Rattle.keymap_lint_text.specs.Shown.{shown_char}
 unfoldable pub use Rattle.keymap_lint_text.specs.Shown.{shown_chars, shown_name}
-pub use Rattle.keymap_lint_text.specs.Whole.{answer, beginning, judged, of_diagnostic}
+pub use Rattle.keymap_lint_text.specs.Whole.{answer, beginning, judged, of_diagnostic, of_fault}
 pub use Rattle.keymap_text.specs.FaultNames.{fault_name}
 pub use Rattle.keymap_text.specs.LineOf.{before_in_line}
 pub use Rattle.keymap_text.specs.Meaning.{line}

@@ -5,7 +5,7 @@ use Rattle.keymap_lint_text.proofs.Common.{flat_map, flat_map-append, All-nil, A
 use Rattle.keymap_lint_text.proofs.Common.{Diagnostics, before_in_line, line, TextFaultKind, excerpt}
 use Rattle.keymap_lint_text.proofs.Common.{Said, Remark, remark, head, place_text, said_text, printed, is_noted}
 use Rattle.keymap_lint_text.proofs.Common.{ended, shown_name, IsLine, IsPlainText, answer, judged, of_diagnostic}
-use Rattle.keymap_lint_text.proofs.Common.{beginning}
+use Rattle.keymap_lint_text.proofs.Common.{beginning, of_fault}
 use Rattle.std.specs.Prelude.{◌&&◌, nat_lt}
 use Rattle.std.specs.List.{All, filter}
 use Rattle.std.proofs.lemmas.List.Elements.{All-head, All-tail, filter-append}
@@ -13,6 +13,7 @@ use Rattle.std.proofs.lemmas.Bool.{cond_both}
 use Rattle.console_states.specs.declared.outcome.Sticking.{Sticking}
 use Rattle.console_states.specs.declared.outcome.Sticking.TheVariants.{Sticks, Never, Undecided}
 use Rattle.keymap_lint.specs.declared.diagnostic.Lint.{Lint}
+use Rattle.keymap_lint.specs.declared.diagnostic.PlacedFault.{PlacedFault}
 use Rattle.keymap_lint.specs.declared.diagnostic.Lint.TheVariants.{Faulty, Spelled}
 use Rattle.keymap_text.specs.LineOf.{rest_of_line}
 use Rattle.keymap_text.specs.declared.wanted.DefinitionStart.{DefinitionStart}
@@ -116,10 +117,16 @@ beginning_said text place kind (Some d) =
     said_if (tells_beginning kind && nat_lt (line text d.offset) (line text place)) (note ∷ [])
     (said_cons note [] (begins_line d.what) said_none)
 
+faults_said : (text : List ℕ) (fs : List PlacedFault) → AreSaid (flat_map (of_fault text) fs)
+faults_said text [] = said_none
+faults_said text (f ∷ fs) =
+    All-append (λ (e : Remark). IsSaid e.said) (of_fault text f) (flat_map (of_fault text) fs)
+    (said_cons (fault_remark text f) _
+    (fault_name_line f.fault.kind, fault_line text f.fault.offset f.fault.kind f.place)
+    (beginning_said text f.fault.offset f.fault.kind f.place.definition)) (faults_said text fs)
+
 all_said : (text : List ℕ) (l : Lint) → AreSaid (remarks text l)
-all_said text (Faulty f place) =
-    said_cons _ _ (fault_name_line f.kind, fault_line text f.offset f.kind place)
-    (beginning_said text f.offset f.kind place.definition)
+all_said text (Faulty faults) = faults_said text faults.items
 all_said text (Spelled l) = each_said text l l.list.items
 
 pub lint_headed : (file text : List ℕ) (l : Lint) (bytes : List ℕ) → IsLintText file text l bytes
@@ -157,7 +164,13 @@ each_judged text l (d ∷ ds) =
     let noted = noted_if (is_noted l.list.items d.kind) (answer l.sticking) (answer_noted l.sticking) in
     cc (filter-append is_judged (of_diagnostic text l d) (flat_map (of_diagnostic text l) ds), each_judged text l ds)
 
+faults_judged : (text : List ℕ) (fs : List PlacedFault)
+    → filter is_judged (flat_map (of_fault text) fs) ≡ map (fault_remark text) fs
+faults_judged text [] = refl
+faults_judged text (f ∷ fs) =
+    let noted = beginning_noted text f.fault.offset f.fault.kind f.place.definition in
+    cc (filter-append is_judged (of_fault text f) (flat_map (of_fault text) fs), noted, faults_judged text fs)
+
 pub all_judged : (text : List ℕ) (l : Lint) → filter is_judged (remarks text l) ≡ diagnostics text l
-all_judged text (Faulty f place) =
-    ap (λ t. fault_remark text f.offset f.kind place ∷ t) (beginning_noted text f.offset f.kind place.definition)
+all_judged text (Faulty faults) = faults_judged text faults.items
 all_judged text (Spelled l) = each_judged text l l.list.items

@@ -44,9 +44,9 @@ is_judged e = is_judged_of e.said
     is_judged_of (Said.Judged severity kind message) = true
     is_judged_of _ = false
 
--- the remarks that are no notes: the fault, or the diagnostics in their order
+-- the remarks that are no notes: the faults, or the diagnostics, in their order
 abbrev pub diagnostics : List ℕ → Lint → List Remark
-diagnostics text (Faulty f place) = fault_remark text f.offset f.kind place ∷ []
+diagnostics text (Faulty faults) = map (fault_remark text) faults.items
 diagnostics text (Spelled l) = map (judged text l) l.list.items
 
 abbrev pub EachDiagnosticIsOneRemark : Type 0

@@ -8,12 +8,12 @@ use Rattle.keymap_lint.specs.declared.diagnostic.Diagnostic.{Diagnostic}
 use Rattle.keymap_lint.specs.declared.diagnostic.Diagnostics.{Diagnostics}
 use Rattle.keymap_lint.specs.declared.diagnostic.Lint.{Lint}
 use Rattle.keymap_lint.specs.declared.diagnostic.Lint.TheVariants.{Faulty, Spelled}
+use Rattle.keymap_lint.specs.declared.diagnostic.PlacedFault.{PlacedFault}
 use Rattle.keymap_lint.specs.declared.diagnostic.Severity.TheVariants.{Error}
 use Rattle.keymap_lint.specs.Severities.{severity_of, never_sticks}
 use Rattle.keymap_text.specs.declared.fault.TextFaultKind.{TextFaultKind}
 use Rattle.keymap_text.specs.declared.fault.TextFaultKind.TheVariants as faults
 use Rattle.keymap_text.specs.declared.wanted.DefinitionStart.{DefinitionStart}
-use Rattle.keymap_text.specs.declared.wanted.FaultPlace.{FaultPlace}
 use Rattle.keymap_text.specs.FaultNames.{fault_name}
 use Rattle.keymap_text.specs.Meaning.{line}
 use Rattle.keymap_lint_text.specs.Faults.{fault_text}
@@ -53,16 +53,17 @@ beginning text place kind (Some d) =
     then remark (Some d.offset) (Said.Noted (begins_text d.what)) ∷ []
     else []
 
-abbrev pub fault_remark : List ℕ → ℕ → TextFaultKind → FaultPlace → Remark
-fault_remark text place kind f =
-    remark (Some place) (Said.Judged Error (fault_name kind) (fault_text text place kind f))
+abbrev pub fault_remark : List ℕ → PlacedFault → Remark
+fault_remark text f =
+    remark (Some f.fault.offset) (Said.Judged Error (fault_name f.fault.kind)
+    (fault_text text f.fault.offset f.fault.kind f.place))
 
-abbrev pub of_fault : List ℕ → ℕ → TextFaultKind → FaultPlace → List Remark
-of_fault text place kind f = fault_remark text place kind f ∷ beginning text place kind f.definition
+abbrev pub of_fault : List ℕ → PlacedFault → List Remark
+of_fault text f = fault_remark text f ∷ beginning text f.fault.offset f.fault.kind f.place.definition
 
--- the fault, or the diagnostics in their order, each with its notes behind it
+-- the faults, or the diagnostics, in their order, each with its notes behind it
 abbrev pub remarks : List ℕ → Lint → List Remark
-remarks text (Faulty f place) = of_fault text f.offset f.kind place
+remarks text (Faulty faults) = flat_map (of_fault text) faults.items
 remarks text (Spelled l) = flat_map (of_diagnostic text l) l.list.items
 
 abbrev pub lint_text : List ℕ → List ℕ → Lint → List ℕ

@@ -13,8 +13,8 @@ pub fn printed_lines_are_plain()
 {}
 
 /// Of a text that spells a keymap each diagnostic has one line that tells its place, its severity and its kind, in the
-/// order of the diagnostics; of a text with a fault there is one for the fault. Each further line either begins with
-/// two blanks, whatever the text has there, or is the first line of a note. A name of a file that begins with two
+/// order of the diagnostics; of a text with faults each fault has one, in their order. Each further line either begins
+/// with two blanks, whatever the text has there, or is the first line of a note. A name of a file that begins with two
 /// blanks makes each line do so.
 pub fn diagnostics_have_one_head()
     ensures remarks { EachDiagnosticIsOneRemark }

@@ -6,7 +6,7 @@ ghost use Rattle.keymap_lint_text.specs.Heads.{Said};
 ghost use Rattle.keymap_lint_text.specs.Shown.{lines_text};
 ghost use Rattle.keymap_lint_text.specs.Whole.{answer, beginning, of_diagnostic, of_fault};
 ghost use Rattle.keymap_lint_text.specs.Whole.{tells_beginning as tells_beginning_of};
-ghost use Rattle.keymap_lint.specs.Positions.{IsWithin};
+ghost use Rattle.keymap_lint.specs.Positions.{FaultLiesWithin, IsWithin};
 ghost use Rattle.std.specs.List.{flat_map};
 
 use crate::excerpt::push_excerpt;
@@ -15,8 +15,8 @@ use crate::notes::{begins_message, sticks_message, undecided_message};
 use crate::said::{is_noted, kind_message, kind_text, severity_text};
 use crate::words::{AT_NO_PLACE, AT_PLACE, DIAGNOSTIC, NOTE};
 use console_states::Sticking;
-use keymap_lint::{Diagnostic, Diagnostics, Severity};
-use keymap_text::{DefinitionStart, FaultPlace, TextFaultKind, TextLines};
+use keymap_lint::{Diagnostic, Diagnostics, PlacedFault, Severity};
+use keymap_text::{DefinitionStart, TextFaultKind, TextLines};
 use messages::{fill, filled, number};
 use std::alloc::{AllocError, Global};
 
@@ -147,21 +147,15 @@ impl<'a> Printer<'a> {
         }
     }
 
-    /// Adds the diagnostic of a fault at a place.
-    pub(crate) fn fault(
-        &self,
-        text: &mut Vec<u8>,
-        place: usize,
-        kind: TextFaultKind,
-        fault: &FaultPlace,
-    ) -> Result<(), AllocError>
-        requires place { place ≤ length self.now.source.now }
-        requires behind { fault.now.behind ≤ length self.now.source.now }
-        requires start { IfSome fault.now.definition (λ d. d.offset ≤ length self.now.source.now) }
+    /// Adds a fault, and where its definition begins.
+    fn fault(&self, text: &mut Vec<u8>, found: &PlacedFault) -> Result<(), AllocError>
+        requires { FaultLiesWithin self.now.source.now found.now }
         ensures { OnOk result (text.new.items ≡ text.old.items ++ spec.printed self.now.file.now
-            self.now.source.now (of_fault self.now.source.now place kind fault.now)) }
+            self.now.source.now (of_fault self.now.source.now found.now)) }
     {
-        let said = fault_message(self.alloc, self.source.text(), place, kind, fault)?;
+        let kind = found.fault.kind;
+        let place = found.fault.offset as usize;
+        let said = fault_message(self.alloc, self.source.text(), place, kind, &found.place)?;
         self.diagnostic(
             text,
             Some(place),
@@ -169,7 +163,23 @@ impl<'a> Printer<'a> {
             kind.name(),
             said.as_slice(),
         )?;
-        self.beginning(text, place, kind, fault.definition)
+        self.beginning(text, place, kind, found.place.definition)
+    }
+
+    /// Adds faults, one behind the other.
+    pub(crate) fn faults(
+        &self,
+        text: &mut Vec<u8>,
+        list: &[PlacedFault],
+    ) -> Result<(), AllocError>
+        requires { All (FaultLiesWithin self.now.source.now) list.now }
+        ensures { OnOk result (text.new.items ≡ text.old.items ++ spec.printed self.now.file.now
+            self.now.source.now (flat_map (of_fault self.now.source.now) list.now)) }
+    {
+        for found in list {
+            self.fault(text, found)?;
+        }
+        Ok(())
     }
 
     /// Adds what the search answered, if some modifier stays on or may stay on.

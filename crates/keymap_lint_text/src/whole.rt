@@ -17,14 +17,14 @@ fn text_under(alloc: Global, file: &[u8], source: &[u8], lint: &Lint) -> Result<
 {
     let mut text = Vec::new(alloc);
     match lint {
-        Lint::Faulty { fault, place } => {
+        Lint::Faulty(faults) => {
             let lines = TextLines::new(alloc, source)?;
             let printer = Printer {
                 alloc,
                 file,
                 source: &lines,
             };
-            printer.fault(&mut text, fault.offset as usize, fault.kind, place)?;
+            printer.faults(&mut text, faults.as_slice())?;
         }
         Lint::Spelled(diagnostics) => {
             let list = diagnostics.list.as_slice();

@@ -17,7 +17,7 @@ enum Word {
     Flag(&'static str, &'static str),
     /// A flag that isn't taken beside another one, whose name stands last.
     FlagWithout(&'static str, &'static str, &'static str),
-    /// An option, with the name of the file that it takes in between.
+    /// An option, with the name of the file or the text that it takes in between.
     FileOption(&'static str, &'static str, &'static str),
     /// A file that stands unless an option does, whose name stands last.
     FileUnless(&'static str, &'static str, &'static str),
@@ -157,6 +157,7 @@ static SUBCOMMANDS: [Described; 11] = [
         words: &[
             STREAM,
             Flag("ansi", "Draws a board of 104 keys in place of 105"),
+            FileOption("title", "NAME", "The name in the headline"),
         ],
     },
 ];
@@ -195,18 +196,34 @@ fn argument<'a>(alloc: Global, word: Word) -> Result<Arg<'a>, AllocError> {
     }
 }
 
-fn subcommand<'a>(alloc: Global, described: &Described) -> Result<Command<'a>, AllocError> {
-    let mut command = Command::new(alloc, described.name)
-        .about(described.about)
-        .after_help(described.example);
-    for word in described.words {
-        command = command.arg(argument(alloc, *word)?)?;
+fn arguments<'a>(alloc: Global, words: &[Word]) -> Result<Vec<Arg<'a>>, AllocError> {
+    let mut arguments = Vec::new(alloc);
+    for word in words {
+        arguments.push(argument(alloc, *word)?)?;
     }
-    Ok(command)
+    Ok(arguments)
 }
 
-/// The program itself, without its subcommands.
-fn without_subcommands<'a>(alloc: Global) -> Command<'a> {
+fn subcommand<'a>(alloc: Global, described: &Described) -> Result<Command<'a>, AllocError> {
+    let arguments = arguments(alloc, described.words)?;
+    Command::new(alloc, described.name)
+        .about(described.about)
+        .after_help(described.example)
+        .args(arguments)
+}
+
+fn subcommands<'a>(alloc: Global, described: &[Described]) -> Result<Vec<Command<'a>>, AllocError> {
+    let mut subcommands = Vec::new(alloc);
+    for one in described {
+        subcommands.push(subcommand(alloc, one)?)?;
+    }
+    Ok(subcommands)
+}
+
+/// The program with these subcommands. What `clap` makes is owned where nothing fails, since a proof goes over all of
+/// its fields at each way out.
+fn command<'a>(alloc: Global, described: &[Described]) -> Result<Command<'a>, AllocError> {
+    let subcommands = subcommands(alloc, described)?;
     Command::new(alloc, "kmap")
         .version(VERSION)
         .about("Reads, checks, converts, draws and plays console keymaps")
@@ -215,15 +232,25 @@ fn without_subcommands<'a>(alloc: Global) -> Command<'a> {
         )
         .subcommand_required(true)
         .arg_required_else_help(true)
+        .subcommands(subcommands)
 }
 
-/// The subcommands of the program and their words.
-fn command<'a>(alloc: Global) -> Result<Command<'a>, AllocError> {
-    let mut program = without_subcommands(alloc);
-    for described in &SUBCOMMANDS {
-        program = program.subcommand(subcommand(alloc, described)?)?;
+/// All subcommands. What names the table itself is proved over all that stands in it, so this alone does.
+fn all_subcommands() -> &'static [Described] {
+    &SUBCOMMANDS
+}
+
+/// The subcommands that words can be about: the one that the first word behind the name of the program names, since
+/// `clap` looks at no other then, whatever it tells of the words; all where it names none.
+fn named_by<S: AsStr>(words: &[S]) -> &'static [Described] {
+    let all = all_subcommands();
+    let Some(word) = words.get(1) else {
+        return all;
+    };
+    match all.iter().position(|one| one.name == word.as_str()) {
+        Some(place) => &all[place..=place],
+        None => all,
     }
-    Ok(program)
 }
 
 /// What `clap` takes the words for.
@@ -231,12 +258,12 @@ pub(crate) fn matches_of<'a, S>(alloc: Global, words: &'a [S]) -> Result<ArgMatc
 where
     S: AsStr,
 {
-    command(alloc)?.try_get_matches_from(words)
+    command(alloc, named_by(words))?.try_get_matches_from(words)
 }
 
 /// A refusal as `clap` words its own.
 pub(crate) fn refusal(alloc: Global, kind: ErrorKind, message: &str) -> Result<Error, AllocError> {
-    command(alloc)?.error(kind, message)
+    command(alloc, all_subcommands())?.error(kind, message)
 }
 
 /// What is told of a text that is checked.
@@ -319,6 +346,8 @@ pub(crate) enum Request<'m, 'a> {
     Draw {
         text: &'a str,
         ansi: bool,
+        /// The name in the headline, where one is given.
+        title: &'a str,
     },
 }
 
@@ -417,6 +446,7 @@ fn draw_request<'m, 'a>(words: &'m ArgMatches<'a>) -> Option<Request<'m, 'a>> {
     Some(Request::Draw {
         text: words.get_str("TEXT")?,
         ansi: words.get_flag("ansi"),
+        title: words.get_str("title").unwrap_or(""),
     })
 }
 

@@ -290,7 +290,7 @@ where
         }
         Request::Type { text, sentence } => well(type_sentence(rt, text, sentence)),
         Request::Cover { text } => well(cover(rt, text)),
-        Request::Draw { text, ansi } => well(draw(rt, text, ansi)),
+        Request::Draw { text, ansi, title } => well(draw(rt, text, ansi, title)),
     }
 }
 
@@ -420,13 +420,13 @@ where
     out.outcome(outcome)
 }
 
-fn draw<'a, R>(rt: &R, text: &'a str, ansi: bool) -> Result<(), Failure<'a>>
+fn draw<'a, R>(rt: &R, text: &'a str, ansi: bool, title: &str) -> Result<(), Failure<'a>>
 where
     R: AllocGlobal + Files + Input + Print,
 {
     let board = if ansi { Board::Ansi } else { Board::Iso };
     let mut source = given(rt, text)?;
     let mut out = Output::new(rt);
-    let outcome = draw_run(rt.alloc(), &mut source, board, &mut out);
+    let outcome = draw_run(rt.alloc(), &mut source, board, title.as_bytes(), &mut out);
     out.outcome(outcome)
 }

@@ -1,23 +1,45 @@
 -- The sentences that say what a number of a fault means, and what a finding does.
-use Rattle.std.specs.Prelude.{◌≡◌, ℕ, ◌+◌, ◌<◌, ◌≤◌, ℤ, List, [], ◌∷◌, ◌++◌, length, drop}
+use Rattle.std.specs.Prelude.{◌≡◌, ℕ, ◌+◌, ◌<◌, ◌≤◌, ℤ, List, [], ◌∷◌, ◌++◌, codes, length, drop}
 use Rattle.keymap_core.specs.declared.action.Holding.{Holding}
 use Rattle.keymap_check.specs.Said.{said_of_key}
 use Rattle.kmap_c.specs.declared.tables.KmapFinding.{KmapFinding}
-use Rattle.kmap_c.specs.declared.words.TheConstants as words
 use Rattle.kmap_c.specs.Statuses as status
+
+-- of a modifier that is joined with the alt lock, in a table file or in a text
+abbrev pub combined : List ℕ
+combined = codes "a modifier joined with alock, which is not supported"
 
 -- of the kinds of faults of a table file, from 0 on, which is none
 abbrev pub table_sentences : List (List ℕ)
 table_sentences =
-    [] ∷ words.TOO_SHORT.now ∷ words.TOO_LONG.now ∷ words.BAD_COUNT.now ∷ words.BAD_PAD.now ∷ words.BAD_FLAG.now
-    ∷ words.BAD_ACTION.now ∷ words.COMBINED.now ∷ words.BAD_NUMBER.now ∷ words.NOT_EMPTY.now ∷ []
+    []
+    ∷ codes "the file is too short"
+    ∷ codes "the file is too long"
+    ∷ codes "more than 256 slots, or more than 15 accents"
+    ∷ codes "a pad that is not 0"
+    ∷ codes "a lock flag above 3"
+    ∷ codes "a number that is no action, in a cell that is marked as one"
+    ∷ combined
+    ∷ codes "a number that is no character"
+    ∷ codes "a byte that is not 0 in a slot, an accent or a pair that is not in use"
+    ∷ []
 
 -- of the kinds of faults of a text, from 0 on, which is none
 abbrev pub text_sentences : List (List ℕ)
 text_sentences =
-    [] ∷ words.BAD_BYTE.now ∷ words.BAD_LITERAL.now ∷ words.BAD_WORD.now ∷ words.UNEXPECTED.now
-    ∷ words.KEY_TOO_LARGE.now ∷ words.BAD_CHARACTER.now ∷ words.BAD_FUNCTION.now ∷ words.TOO_MANY_PAIRS.now
-    ∷ words.ZERO_BASE.now ∷ words.COMBINED.now ∷ words.END_INSIDE.now ∷ []
+    []
+    ∷ codes "a byte that begins no token"
+    ∷ codes "no quoted character stands here: an apostrophe, one character other than a line feed, an apostrophe"
+    ∷ codes "a word without a meaning, or of more than 32 bytes"
+    ∷ codes "a token that is not wanted here"
+    ∷ codes "a slot above 255"
+    ∷ codes "a number that is no character: characters are 0 to 0xd7ff and 0xe000 to 0x10ffff"
+    ∷ codes "a screen or function key that does not exist: there are scr01 to scr16 and fkey01 to fkey96"
+    ∷ codes "an accent has 52 pairs already, and room for no more"
+    ∷ codes "the base of a pair is a character other than 0"
+    ∷ combined
+    ∷ codes "the text ends inside a token or a definition"
+    ∷ []
 
 -- what a finding does, as the line of `kmap check` says it
 abbrev pub finding_sentence : Holding → KmapFinding → List ℕ

@@ -1,5 +1,5 @@
 //! The printed form of the keymap that tables show, in a buffer of the caller.
-ghost use Rattle.std.specs.Prelude.{◌≡◌, ℕ, ◌^◌, ◌≤◌, List, ◌++◌};
+ghost use Rattle.std.specs.Prelude.{ℕ, ◌^◌, ◌≤◌, List, ◌++◌};
 ghost use Rattle.keymap_core.specs.Maps.{MapValue};
 ghost use Rattle.keymap_text.specs.Printed.{printed, key_lines, accent_lines};
 ghost use Rattle.kmap_c.specs.Buffers.{HasPut};

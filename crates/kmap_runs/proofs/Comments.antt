@@ -1,6 +1,7 @@
 -- Texts that stay in their line, and comments of such texts, which send nothing.
 use Rattle.kmap_runs.proofs.Common.{suc, ◌≡◌, ℕ, zero, ◌<◌, ◌==◌, Bool, true, false, not, List, [], ◌∷◌, ◌++◌, get_or}
 use Rattle.kmap_runs.proofs.Common.{refl, subst, arith, append-nil, decimal, if◌then◌else◌, codes, flat_map, not-true}
+use Rattle.kmap_runs.proofs.Common.{append_assoc}
 use Rattle.kmap_runs.proofs.Common.{name_of, code_text, filled_all, EachPasses, Sent, IsScript, script-nil, line-script}
 use Rattle.kmap_runs.proofs.Common.{comment, rules}
 use Rattle.std.specs.Prelude.{◌/◌, ◌%◌, nat_lt}
@@ -42,12 +43,12 @@ decimal-line n = search (rules, decimal_all)
 
 -- ---- names and numbers of characters
 
-text-at : (texts : List (List ℕ)) → EachPasses is_in_line texts → (i : ℕ) → IsInLine (get_or texts i [])
+pub text-at : (texts : List (List ℕ)) → EachPasses is_in_line texts → (i : ℕ) → IsInLine (get_or texts i [])
 text-at [] each i = refl
 text-at (t ∷ ts) each zero = each.0
 text-at (t ∷ ts) each (suc i) = text-at ts each.1 i
 
-names : (texts : List (List ℕ)) → list_all (list_all is_in_line) texts ≡ true → EachPasses is_in_line texts
+pub names : (texts : List (List ℕ)) → list_all (list_all is_in_line) texts ≡ true → EachPasses is_in_line texts
 names [] h = tt
 names (t ∷ ts) h =
     let both = and_parts (list_all is_in_line t) (list_all (list_all is_in_line) ts) h in (both.0, names ts both.1)
@@ -62,16 +63,24 @@ upper_all p true t a b h k = refl
 upper_all p false true a b h k = rw k refl
 upper_all p false false a b h k = rw (h, k) refl
 
--- what each hexadecimal digit passes, as U and a plus sign do, the number of a character passes
+-- what each hexadecimal digit passes, the digits of a character's number pass
+digits-all : (p : ℕ → Bool) → ((d : ℕ) → d < 16 → p (digit_char d) ≡ true) → (c : ℕ)
+    → list_all p (code_digits c) ≡ true
+unfolding code_digits
+digits-all p each c =
+    let at : (unit : ℕ) → p (digit_at c unit) ≡ true = λ unit. each ((c / unit) % 16) (omega arith) in
+    append_all p (upper_digits c) _
+    (upper_all p (nat_lt c 0x10000) (nat_lt c 0x100000) _ _ (at 0x100000) (at 0x10000))
+    (rw (at 0x1000, at 0x100, at 0x10, at 1) refl)
+
+-- and the number does where U and a plus sign do
 pub code_all : (p : ℕ → Bool) → list_all p (codes "U+") ≡ true → ((d : ℕ) → d < 16 → p (digit_char d) ≡ true)
     → (c : ℕ) → list_all p (code_text c) ≡ true
-unfolding code_text code_digits
-code_all p h each c =
-    let at : (unit : ℕ) → p (digit_at c unit) ≡ true = λ unit. each ((c / unit) % 16) (omega arith) in
-    append_all p (codes "U+") _ h
-    (append_all p (upper_digits c) _
-    (upper_all p (nat_lt c 0x10000) (nat_lt c 0x100000) _ _ (at 0x100000) (at 0x10000))
-    (rw (at 0x1000, at 0x100, at 0x10, at 1) refl))
+unfolding code_text
+code_all p h each c = append_all p (codes "U+") (code_digits c) h (digits-all p each c)
+
+pub digits-line : (c : ℕ) → IsInLine (code_digits c)
+digits-line c = search (rules, digits-all)
 
 pub code-line : (c : ℕ) → IsInLine (code_text c)
 code-line c = search (rules, code_all)
@@ -90,3 +99,34 @@ pub comment-alone : (words : List ℕ) (told : List (List ℕ)) → IsInLine wor
     → IsScript (comment words told) []
 comment-alone words told w t =
     subst (λ t. IsScript t []) (append-nil (comment words told)) (comment-before words told w t [] [] script-nil)
+
+-- ---- texts before a script
+
+-- before any script the text sends this first
+pub record Adds (text : List ℕ) (first : List Sent) : Type 0 where
+  pub before : (rest : List ℕ) (sent : List Sent) → IsScript rest sent → IsScript (text ++ rest) (first ++ sent)
+
+pub adds-nil : Adds [] []
+adds-nil = record { before = λ rest sent h. h }
+
+infixl 10 ◌⊳◌
+pub ◌⊳◌ : {a b : List ℕ} {xs ys : List Sent} → Adds a xs → Adds b ys → Adds (a ++ b) (xs ++ ys)
+◌⊳◌ {a} {b} {xs} {ys} h k = search (rules, append_assoc)
+
+pub quiet-flat : {X : Type 0} (f : X → List ℕ) → ((x : X) → Adds (f x) []) → (xs : List X) → Adds (flat_map f xs) []
+quiet-flat f each [] = adds-nil
+quiet-flat f each (x ∷ xs) = each x ⊳ quiet-flat f each xs
+
+pub quiet-if : (t : Bool) (text : List ℕ) → Adds text [] → Adds (if t then text else []) []
+quiet-if true text h = h
+quiet-if false text h = adds-nil
+
+-- a text that sends this is a script of it
+pub adds-script : (text : List ℕ) (sent : List Sent) → Adds text sent → IsScript text sent
+adds-script text sent h =
+    subst (λ t. IsScript t sent) (append-nil text) (subst (IsScript _) (append-nil sent) (h.before [] [] script-nil))
+
+-- a comment sends nothing
+pub quiet-comment : (words : List ℕ) (told : List (List ℕ)) → IsInLine words → EachPasses is_in_line told
+    → Adds (comment words told) []
+quiet-comment words told w t = record { before = comment-before words told w t }

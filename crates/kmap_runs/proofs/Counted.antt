@@ -46,7 +46,7 @@ accent-some m i a e = get_or_from_slice_get m.accents i a blank e
 -- ---- numbers, each once
 
 -- a number behind others
-with-number : (ns : List ℕ) (n : ℕ) → IsWith n ns (with_number ns n)
+pub with-number : (ns : List ℕ) (n : ℕ) → IsWith n ns (with_number ns n)
 with-number ns n = by (list_any (λ m. m == n) ns) refl
   where
     by : (t : Bool) → list_any (λ m. m == n) ns ≡ t → IsWith n ns (if t then ns else ns ++ n ∷ [])

@@ -1,13 +1,13 @@
 -- What is printed to test a console is a script of its events.
 use Rattle.kmap_runs.proofs.Common.{suc, ◌≡◌, ℕ, zero, ◌+◌, ◌<◌, ◌==◌, Bool, true, false, List, [], ◌∷◌, ◌++◌, length}
-use Rattle.kmap_runs.proofs.Common.{map, drop, get_or, refl, sym, ap, subst, ◌∙◌, append_assoc, append-nil, lit<, rules}
+use Rattle.kmap_runs.proofs.Common.{map, drop, get_or, refl, sym, ap, subst, ◌∙◌, lit<, rules}
 use Rattle.kmap_runs.proofs.Common.{if◌then◌else◌, decimal, add-one, ◌-◌, Option, Some, Ok, reverse, All, flat_map}
 use Rattle.kmap_runs.proofs.Common.{range_with_len, reverse-reverse, All-head, All-tail, name_of, MapValue}
-use Rattle.kmap_runs.proofs.Common.{All-reversed, Sight, Pair, HasKey, HasKeys, LeftOut, Never, Reset, Spells, Sent}
-use Rattle.kmap_runs.proofs.Common.{IsScript, Plays, moves, sends, script-nil, line-script, one_list}
+use Rattle.kmap_runs.proofs.Common.{All-reversed, Sight, Pair, HasKey, HasKeys, LeftOut, Never, Reset, Spells}
+use Rattle.kmap_runs.proofs.Common.{IsScript, Plays, moves, sends, line-script, one_list}
 use Rattle.kmap_runs.proofs.Common.{comment, column_text, row_text, has_verdict, row_line, ListsSlots, AddsLists}
 use Rattle.kmap_runs.proofs.Common.{bases_at, character_text, accent_line, accent_lines, rest_word, start_line}
-use Rattle.kmap_runs.proofs.Common.{script_event_line, event_lines, filled_all, EachPasses, codes}
+use Rattle.kmap_runs.proofs.Common.{script_event_line, event_lines, filled_all, codes}
 use Rattle.std.proofs.lemmas.List.{reverse-append}
 use Rattle.std.proofs.lemmas.List.Elements.{All-nil, All-cons}
 use Rattle.keymap_core.specs.Numbers.{key_count, column_count, accent_limit}
@@ -33,40 +33,10 @@ use Rattle.kmap_runs.specs.Replayed.{events_sent, ShowsCover, PlaysCover}
 use Rattle.kmap_runs.specs.Runs.{CoversText, IsCovered}
 use Rattle.kmap_runs.proofs.Replayed.{taken-whole, same-map}
 use Rattle.kmap_runs.proofs.Comments.{is_in_line, IsInLine, append-line, flat-line, if-line, decimal-line, name-line}
-use Rattle.kmap_runs.proofs.Comments.{comment-before}
+use Rattle.kmap_runs.proofs.Comments.{Adds, adds-nil, adds-script, quiet-comment, quiet-flat, quiet-if, ◌⊳◌}
 use Rattle.keymap_core.specs.declared.action.Action.TheVariants as act
 
--- ---- texts before a script
-
--- before any script the text sends this first
-record Adds (text : List ℕ) (first : List Sent) : Type 0 where
-  before : (rest : List ℕ) (sent : List Sent) → IsScript rest sent → IsScript (text ++ rest) (first ++ sent)
-
-adds-nil : Adds [] []
-adds-nil = record { before = λ rest sent h. h }
-
-infixl 10 ◌⊳◌
-◌⊳◌ : {a b : List ℕ} {xs ys : List Sent} → Adds a xs → Adds b ys → Adds (a ++ b) (xs ++ ys)
-◌⊳◌ {a} {b} {xs} {ys} h k = search (rules, append_assoc)
-
-quiet-flat : {X : Type 0} (f : X → List ℕ) → ((x : X) → Adds (f x) []) → (xs : List X) → Adds (flat_map f xs) []
-quiet-flat f each [] = adds-nil
-quiet-flat f each (x ∷ xs) = each x ⊳ quiet-flat f each xs
-
-quiet-if : (t : Bool) (text : List ℕ) → Adds text [] → Adds (if t then text else []) []
-quiet-if true text h = h
-quiet-if false text h = adds-nil
-
--- a text that sends this is a script of it
-adds-script : (text : List ℕ) (sent : List Sent) → Adds text sent → IsScript text sent
-adds-script text sent h =
-    subst (λ t. IsScript t sent) (append-nil text) (subst (IsScript _) (append-nil sent) (h.before [] [] script-nil))
-
 -- ---- comments
-
-quiet-comment : (words : List ℕ) (told : List (List ℕ)) → IsInLine words → EachPasses is_in_line told
-    → Adds (comment words told) []
-quiet-comment words told w t = record { before = comment-before words told w t }
 
 quiet-counts : (rest name : List ℕ) (n : Counts) → IsInLine rest → IsInLine name → Adds (counts_line rest name n) []
 unfolding counts_line

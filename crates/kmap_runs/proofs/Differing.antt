@@ -1,7 +1,7 @@
 -- Events behind others: what is sent for them, and whether a key is pressed after them.
 use Rattle.kmap_runs.proofs.Common.{◌≡◌, ℕ, ◌+◌, ◌<◌, Bool, true, false, List, [], ◌∷◌, ◌++◌, length, take, get_or}
-use Rattle.kmap_runs.proofs.Common.{reverse, if◌then◌else◌, refl, ap, sym, ◌∙◌, rules, append_assoc, append-nil, flat_map, Event, Sent}
-use Rattle.kmap_runs.proofs.Common.{codes, comment, map, Ok}
+use Rattle.kmap_runs.proofs.Common.{reverse, if◌then◌else◌, refl, ap, sym, ◌∙◌, append_assoc, append-nil, flat_map}
+use Rattle.kmap_runs.proofs.Common.{codes, comment, map, Ok, Event}
 use Rattle.std.proofs.Common.{eqb-true}
 use Rattle.std.specs.Prelude.{◌||◌, ◌&&◌, not, ◌==◌, IfOk, Result, Err}
 use Rattle.std.proofs.lemmas.Grind.{flat_map-append}
@@ -80,7 +80,8 @@ script_more es before i e old all more line so front low at =
       so,
       front,
       behind,
-      append_assoc old (flat_map sent_line (sent_along [] (take i es))) (sent_line (sent_behind (reverse (take i es)) e)),
+      append_assoc old (flat_map sent_line (sent_along [] (take i es)))
+          (sent_line (sent_behind (reverse (take i es)) e)),
     )
 
 -- the texts of lines, and those of what they tell

@@ -5,8 +5,11 @@ mod Common
 mod Counted
 mod CoverScripts
 mod Covered
+mod DiffScripts
 mod Differing
 mod Dumped
+mod EachOnce
+mod NamedSlots
 mod OneSlot
 mod PlainScripts
 mod Replayed

@@ -1,6 +1,7 @@
 -- Changes that are told in one line: those of one slot stand together.
-use Rattle.kmap_runs.proofs.Common.{◌≡◌, ◌∙◌, ◌==◌, ◌≤◌, ◌<◌, ◌+◌, ◌*◌, ◌-◌, ◌++◌, ◌∷◌, [], ℕ, Bool, true, false, List, length, map}
-use Rattle.kmap_runs.proofs.Common.{take, drop, get_or, refl, sym, ap, subst, arith, rules, inl, inr, All, All-head, All-tail}
+use Rattle.kmap_runs.proofs.Common.{◌≡◌, ◌∙◌, ◌==◌, ◌≤◌, ◌<◌, ◌+◌, ◌*◌, ◌-◌, ◌++◌, ◌∷◌, [], ℕ, Bool, true, false, List}
+use Rattle.kmap_runs.proofs.Common.{length, map, take, drop, get_or, refl, sym, ap, subst, arith, inl, inr, All}
+use Rattle.kmap_runs.proofs.Common.{All-head, All-tail}
 use Rattle.std.proofs.Math.ListN.{set}
 use Rattle.std.proofs.lemmas.Bool.{and_parts, cases_lt, eq-eqb, eqb-true, false_from_ne_true, true≢false}
 use Rattle.std.proofs.lemmas.List.Elements.{Contains-get_or}
@@ -9,16 +10,17 @@ use Rattle.keymap_diff.specs.contracts.change.ChangePartialEq.TheImpl as change
 use Rattle.std.specs.Prelude.{◌||◌}
 use Rattle.std.specs.List.{list_any}
 use Rattle.std.proofs.lemmas.List.Folds.{list_any-append, list_any_none}
-use Rattle.std.proofs.lemmas.List.{drop-drop, drop_more, get_or_default, get_or-drop, get_or-take, length-drop, length-take-le, drop-take, take-take, drop-set, map-append, take-append-drop, take-set}
+use Rattle.std.proofs.lemmas.List.{drop-drop, drop_more, get_or_default, get_or-drop, get_or-take, length-drop}
+use Rattle.std.proofs.lemmas.List.{length-take-le, drop-take, take-take, drop-set, map-append, take-append-drop}
+use Rattle.std.proofs.lemmas.List.{take-set}
 use Rattle.keymap_diff.specs.declared.change.Change.{Change}
-use Rattle.keymap_diff.specs.declared.change.Change.TheVariants.{Slots, Cell, Letter, Accents, Accent, Pair}
-use Rattle.keymap_diff.specs.declared.change.Change.TheVariants.{ListedOtherwise}
+use Rattle.keymap_diff.specs.declared.change.Change.TheVariants.{Cell, Accents}
 use Rattle.keymap_diff.specs.declared.versions.Versions.{Versions}
 use Rattle.keymap_diff.specs.Changes.{AreChanges, IsChangeOf, place_of}
 use Rattle.kmap_runs.specs.contracts.joined.LabelPartialEq.TheImpl as label
 use Rattle.kmap_runs.specs.declared.joined.Label.{Label}
 use Rattle.kmap_runs.specs.declared.joined.Line.{Line}
-use Rattle.kmap_runs.specs.Joined.{AreOfSome, IsRun, Told, are_of_one_slot, at, is_of_slot, label_of, has_in, has, told}
+use Rattle.kmap_runs.specs.Joined.{IsRun, Told, are_of_one_slot, at, is_of_slot, label_of, has, told}
 use Rattle.kmap_runs.specs.Joined.{with_change, with_changes}
 
 -- no cell before the place is of the slot of one from there on
@@ -224,7 +226,8 @@ pub run-more : (v : Versions) (found : List Change) (first end : ℕ) (lines mor
 run-more v found first end lines more are some within cut ends e f =
     let run = run_of found first end in
     let labels : All (λ x. label_of run x ≡ label_of found x) run = λ j d low.
-    let lt : first + j < end = omega (arith, low, some, length-take-le (end - first) (drop first found) (omega (arith, within, some, length-drop first found))) in
+    let few = length-take-le (end - first) (drop first found) (omega (arith, within, some, length-drop first found)) in
+    let lt : first + j < end = omega (arith, low, some, few) in
     let here : get_or run j d ≡ at found (first + j) =
     get_or-take (end - first) (drop first found) j d (omega (arith, lt)) ∙ get_or-drop first found j d
     ∙ same-at found (first + j) d (omega (arith, lt, within)) in

@@ -97,12 +97,12 @@ abbrev pub CompilesNarrowly : Moves → Moves → Result (Unit {0}) RunError →
 CompilesNarrowly text out r =
     Runs of_writer (ReadsText text) LacksRoom (λ m _ told. IsMap m × Fits m × (told ≡ narrow_image m)) out r
 
--- the picture of a map on a board
-abbrev pub Draws : Board → MapValue → Unit {0} → List ℕ → Type 0
-Draws board m _ told = IsMap m × IsPicture (drawing m board) told
+-- the picture of a map on a board, under a name that is given
+abbrev pub Draws : Board → List ℕ → MapValue → Unit {0} → List ℕ → Type 0
+Draws board name m _ told = IsMap m × IsPicture (drawing m board name) told
 
-abbrev pub DrawsText : Board → Moves → Moves → Result (Unit {0}) RunError → Type 0
-DrawsText board text out r = Runs of_writer (ReadsText text) LacksMemory (Draws board) out r
+abbrev pub DrawsText : Board → List ℕ → Moves → Moves → Result (Unit {0}) RunError → Type 0
+DrawsText board name text out r = Runs of_writer (ReadsText text) LacksMemory (Draws board name) out r
 
 -- whether no diagnostic is an error, and the diagnostics under the name of the file
 abbrev pub LintsText : List ℕ → Moves → Moves → Result Bool RunError → Type 0
@@ -199,20 +199,20 @@ AreDumped Compiles Reads =
     → DumpsFile Reads (moves (Some file) u) (moves (Some []) (Some told)) (Ok (tt {0}))
     → (m : MapValue) × Spells text m × Spells told m
 
--- What is drawn, whatever the text is: bytes that are well formed and printable ASCII.
+-- What is drawn, whatever the text and the name are: bytes that are well formed and printable ASCII.
 abbrev pub DrawnAreWellFormed : Type 0
 DrawnAreWellFormed =
-    (board : Board) (text out : Moves) → DrawsText board text out (Ok (tt {0}))
+    (board : Board) (name : List ℕ) (text out : Moves) → DrawsText board name text out (Ok (tt {0}))
     → (drawn : List ℕ) × Appends out.old out.new drawn × IsWellFormed drawn × All IsPlain drawn
 
 -- Two texts of which the same bytes are drawn spell keymaps that are the same as far as their picture shows them.
 abbrev pub DrawnTellKeymaps : Type 0
 DrawnTellKeymaps =
-    (board another : Board) (text other : Moves) (drawn : List ℕ)
-    → DrawsText board text (moves (Some []) (Some drawn)) (Ok (tt {0}))
-    → DrawsText another other (moves (Some []) (Some drawn)) (Ok (tt {0}))
+    (board another : Board) (name title : List ℕ) (text other : Moves) (drawn : List ℕ)
+    → DrawsText board name text (moves (Some []) (Some drawn)) (Ok (tt {0}))
+    → DrawsText another title other (moves (Some []) (Some drawn)) (Ok (tt {0}))
     → (m n : MapValue) × ReadsText text (Ok m) × ReadsText other (Ok n)
-    × AgreeWhereShown (drawing m board) (drawing n another)
+    × AgreeWhereShown (drawing m board name) (drawing n another title)
 
 -- A text that is called well spells a keymap under which no list of presses and releases leaves a modifier on.
 abbrev pub WellLintedNeverStick : Type 0

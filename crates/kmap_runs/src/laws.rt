@@ -16,9 +16,15 @@ ghost use Rattle.play_core.specs.declared.show.Show.{Show as ShowValue};
 ghost use Rattle.play_core.specs.declared.show.Show.TheVariants as show;
 ghost use Rattle.play_core.specs.Typing.{IsTyped};
 ghost use Rattle.kmap_runs.specs.Cover.{CountedAreTold, IsCoverText, LeftOutCannotBeVisited};
+ghost use Rattle.keymap_diff.specs.Telling.{IsTelling};
+ghost use Rattle.keymap_diff.specs.declared.change.Change.{Change as ChangeValue};
+ghost use Rattle.keymap_diff.specs.declared.telling.Telling.{Telling as TellingValue};
+ghost use Rattle.kmap_runs.specs.Diff.{same_text};
+ghost use Rattle.kmap_runs.specs.Joined.{lines_of};
 ghost use Rattle.kmap_runs.specs.Report.{report};
 ghost use Rattle.kmap_runs.specs.Replayed.{Delivers, ScriptTypes, AnswerReplays, AnswerReplaysBetween, ShowsScript};
-ghost use Rattle.kmap_runs.specs.Replayed.{PlaysCover, events_sent};
+ghost use Rattle.kmap_runs.specs.Replayed.{PlaysCover, TellingReplays, events_sent};
+ghost use Rattle.kmap_runs.specs.ToldOnce.{AreToldOnce, NoLineIfSame, TellsAllColumns, TheirSlotsAreNamed};
 ghost use Rattle.kmap_runs.specs.FmtRuns.{ChangedTextsSpellTheSame, PrintedLayoutsSpellTheSame};
 ghost use Rattle.keymap_tables.specs.Sources.{ReadsNarrow, ReadsTables};
 ghost use Rattle.kmap_runs.specs.Runs.{AcceptedKeepTheirPromise, AreDumped, CompilesNarrowly, CompilesText};
@@ -30,6 +36,7 @@ ghost use Rattle.std.specs.Char.{IsScalar};
 
 use keymap_check::laws::safe_maps_keep_their_promise;
 use keymap_cover::laws::counts_are_of_verdicts;
+use keymap_diff::laws::the_same_keymaps_have_no_changes;
 use keymap_draw::laws::{pictures_are_plain, pictures_are_well_formed, pictures_tell_keymaps};
 use keymap_fmt::laws::keymap_stays;
 use keymap_lint::laws::well_texts_never_stick;
@@ -63,6 +70,28 @@ pub fn found_scripts_deliver_the_answer()
     ensures alone { (m : MapValue) (found : StickingValue) → IsAnswer m found → AnswerReplays m found }
     ensures between { (ms : Maps) (found : StickingValue) → IsAnswerBetween ms found → AnswerReplaysBetween ms found }
 {}
+
+/// What is printed of keymaps that differ is a script. Where they are told apart, it sends exactly the events that do
+/// so, none of them lost: `down` for a press of a key that isn't pressed, `repeat` for one of a key that is, and `up`
+/// of a pressed key. Two consoles that play it, one of each keymap alone, answer all events alike but the last, and
+/// that by the two answers of the verdict. Else it sends nothing, as what is printed of keymaps that are the same.
+pub fn told_scripts_tell_keymaps_apart()
+    ensures differ { (m n : MapValue) (found : List ChangeValue) (telling : TellingValue) → IsTelling m n telling
+        → TellingReplays m n found telling }
+    ensures same { IsScript same_text [] }
+{}
+
+/// Each change between two keymaps is told in one line, with those that change in the same way alone. A line of cells
+/// names their slots, each once, and the columns that change so in each of these; no other cell is of both. There is a
+/// line exactly if the keymaps aren't the same.
+pub fn changes_are_told_once()
+    ensures once { (found : List ChangeValue) → AreToldOnce found (lines_of found) }
+    ensures slots { TheirSlotsAreNamed }
+    ensures columns { (found : List ChangeValue) → All TellsAllColumns (lines_of found) }
+    ensures none { NoLineIfSame }
+{
+    the_same_keymaps_have_no_changes();
+}
 
 /// What `play` types of the script that `type_run` printed for a sentence, over the same text, is that sentence.
 pub fn typed_sentences_come_back()
@@ -110,8 +139,8 @@ pub fn printed_covers_are_played()
         → PlaysCover show text told }
 {}
 
-/// What the run that draws wrote for a text, whatever the text is, is well formed and printable ASCII: no keymap brings
-/// an element, an attribute or a link of its own into a page.
+/// What the run that draws wrote for a text under a name, whatever the two are, is well formed and printable ASCII: no
+/// keymap and no name brings an element, an attribute or a link of its own into a page.
 pub fn drawn_pictures_are_well_formed()
     ensures { DrawnAreWellFormed }
 {

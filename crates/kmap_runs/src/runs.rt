@@ -117,31 +117,32 @@ pub fn compile_narrow_run<R: Read, W: Write>(
     }
 }
 
-/// The picture of a map on a board, with what the check finds.
-fn drawn_on(alloc: Global, map: &KeyMap, board: Board) -> Result<Vec<u8>, AllocError>
-    ensures { IfOk result (λ text. IsMap map.now × IsPicture (drawing map.now board) text.items) }
+/// The picture of a map on a board under a name, with what the check finds.
+fn drawn_on(alloc: Global, map: &KeyMap, board: Board, name: &[u8]) -> Result<Vec<u8>, AllocError>
+    ensures { IfOk result (λ text. IsMap map.now × IsPicture (drawing map.now board name.now) text.items) }
 {
     every_keymap_is_within_the_bounds(map);
-    match picture(alloc, map, &check(map), board) {
+    match picture(alloc, map, &check(map), board, name) {
         Ok(drawn) => Ok(drawn),
         Err(error) => Err(error),
     }
 }
 
-/// Reads a text and writes the picture of its map on a board.
+/// Reads a text and writes the picture of its map on a board, headed by a name, as `picture` says.
 pub fn draw_run<R: Read, W: Write>(
     alloc: Global,
     reader: &mut R,
     board: Board,
+    name: &[u8],
     writer: &mut W,
 ) -> Result<(), RunError>
-    ensures run { DrawsText board (moves (R.remaining reader.old) (R.remaining reader.new))
+    ensures run { DrawsText board name.now (moves (R.remaining reader.old) (R.remaining reader.new))
         (moves (W.contents writer.old) (W.contents writer.new)) result }
     ensures reader_failed { R.has_failed reader.new ≡ (blames_text result || R.has_failed reader.old) }
     ensures writer_failed { W.has_failed writer.new ≡ (blames_writer result || W.has_failed writer.old) }
 {
     let map = read_text(alloc, reader)?;
-    let Ok(drawn) = drawn_on(alloc, &map, board) else {
+    let Ok(drawn) = drawn_on(alloc, &map, board, name) else {
         return Err(RunError::Memory);
     };
     write_text(writer, drawn.as_slice()).map_err(RunError::Write)

@@ -120,16 +120,22 @@ fn events_of(alloc: Global, script: &[u8]) -> Result<Vec<Sent>, PlayError>
     }
 }
 
-/// Reads a script and plays it on two maps.
+/// The keymap in force at first, and that which a load exchanges it for.
+#[derive(Clone, Copy)]
+struct Loaded<'a> {
+    first: &'a KeyMap,
+    second: &'a KeyMap,
+}
+
+/// Reads a script and plays it on two keymaps.
 fn play_script<S: Read, W: Write>(
     alloc: Global,
     show: Show,
-    first: &KeyMap,
-    second: &KeyMap,
+    maps: &Loaded,
     script: &mut S,
     out: &mut W,
 ) -> Result<(), PlayError>
-    ensures run { PlaysScript show (between first.now second.now)
+    ensures run { PlaysScript show (between maps.now.first.now maps.now.second.now)
         (moves (S.remaining script.old) (S.remaining script.new))
         (moves (W.contents out.old) (W.contents out.new)) result }
     ensures script_failed { S.has_failed script.new ≡ (blames Source.Script result || S.has_failed script.old) }
@@ -139,7 +145,7 @@ fn play_script<S: Read, W: Write>(
 {
     let bytes = read_script_bytes(alloc, script)?;
     let sent = events_of(alloc, bytes.as_slice())?;
-    play_events(show, first, second, sent.as_slice(), out).map_err(PlayError::Write)
+    play_events(show, maps.first, maps.second, sent.as_slice(), out).map_err(PlayError::Write)
 }
 
 /// Reads the text of a keymap and then a script, at most `LIMIT` bytes each, and plays the script on the keymap. A load
@@ -159,7 +165,11 @@ pub fn play<R: Read, S: Read, W: Write>(
     ensures writer_failed { W.has_failed out.new ≡ (blames_writer result || W.has_failed out.old) }
 {
     let map = read_text(alloc, text)?;
-    play_script(alloc, show, &map, &map, script, out)
+    let alone = Loaded {
+        first: &map,
+        second: &map,
+    };
+    play_script(alloc, show, &alone, script, out)
 }
 
 /// Reads the texts of two keymaps and then a script, and plays the script on them: the first is in force, and each load
@@ -183,5 +193,9 @@ pub fn play_next<R: Read, N: Read, S: Read, W: Write>(
 {
     let first = read_text(alloc, text)?;
     let second = read_next(alloc, next)?;
-    play_script(alloc, show, &first, &second, script, out)
+    let maps = Loaded {
+        first: &first,
+        second: &second,
+    };
+    play_script(alloc, show, &maps, script, out)
 }

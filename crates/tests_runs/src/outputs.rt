@@ -236,7 +236,7 @@ static TAKEN: [usize; 5] = [0, 1, 4095, 4096, 10_000];
 #[test]
 fn a_picture_is_written_until_its_writer_fails(rt: HostRuntime) -> Result<(), Fail> {
     let map = read_map(rt.alloc(), LETTER_AND_SHIFT)?;
-    let wanted = picture(rt.alloc(), &map, &check(&map), Board::Iso)?;
+    let wanted = picture(rt.alloc(), &map, &check(&map), Board::Iso, b"")?;
     for &most in &TAKEN {
         let mut text = reader_of(LETTER_AND_SHIFT, 512, usize::MAX);
         let mut second = reader_of(b"", 1, usize::MAX);

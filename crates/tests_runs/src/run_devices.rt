@@ -51,7 +51,7 @@ pub(crate) fn perform(
         Run::DumpNarrow => dump_narrow_run(alloc, first, writer).and(Ok(true))?,
         Run::Compile => compile_run(alloc, first, writer).and(Ok(true))?,
         Run::CompileNarrow => compile_narrow_run(alloc, first, writer).and(Ok(true))?,
-        Run::Draw => draw_run(alloc, first, Board::Iso, writer).and(Ok(true))?,
+        Run::Draw => draw_run(alloc, first, Board::Iso, b"", writer).and(Ok(true))?,
         Run::Lint => lint_run(alloc, b"t", first, writer)?,
         Run::Layout => fmt_print_run(alloc, first, writer).and(Ok(true))?,
     };

@@ -11,7 +11,7 @@ loop-key-preserved c =
     let es = c.loop-key.met.entries in
     let now = c.meet.new.met.entries in
     let p = c.args.presses in
-    let s = state_of c.args.held.now in
+    let s = state_of c.args.from.held in
     let keys = c.args.keys.now in
     record {
       within = c.in_ok-meet.ensures.within;
@@ -27,14 +27,14 @@ loop-key-preserved c =
           (λ t to. steps-to (IsMetBy now p) c.pressed.result t to c.in_ok-meet.ensures.met) u s c.key-item.result
           c.pressed.ensures.leads));
       added =
-          added-again u s c.args.place 1 p c.args.met.now.entries es now c.loop-key.invariant.added
-          (c.in_ok-meet.ensures.added u c.args.held.now 1 c.pressed.ensures.step);
+          added-again u s c.args.from.place 1 p c.args.met.now.entries es now c.loop-key.invariant.added
+          (c.in_ok-meet.ensures.added u c.args.from.held 1 c.pressed.ensures.step);
     }
 
 pub returns-clause-met : goal.returns-clause-met
 returns-clause-met c =
     let u = under_of c.args.maps.now in
-    let s = state_of c.args.held.now in
+    let s = state_of c.args.from.held in
     let met = IsMetBy c.loop-key.met.entries c.args.presses in
     presses-met u c.loop-key.met.entries c.args.presses s
     (all-pressed met u s c.args.keys.now 128 c.requires.keys

@@ -6,6 +6,6 @@ abbrev pub invariant-loop-key : goal.invariant-loop-key
 invariant-loop-key l = record {
   within : AreWithin l.met.entries l.presses;
   met : (j : ℕ) → j < l.key-index
-      → PressesLead (under_of l.maps) (state_of l.held) (get_or l.keys j 0) (IsMetBy l.met.entries l.presses);
-  added : AreAdded (under_of l.maps) (state_of l.held) l.place 1 l.presses l.fn.met.entries l.met.entries;
+      → PressesLead (under_of l.maps) (state_of l.from.held) (get_or l.keys j 0) (IsMetBy l.met.entries l.presses);
+  added : AreAdded (under_of l.maps) (state_of l.from.held) l.from.place 1 l.presses l.fn.met.entries l.met.entries;
 }

@@ -12,7 +12,8 @@ returns-in_ok-push-clause-below c =
 pub returns-in_ok-push-clause-added : goal.returns-in_ok-push-clause-added
 returns-in_ok-push-clause-added c =
     λ s has.
-    elim (Contains-push_cases c.args.starts.now.items _ s (subst (λ xs. Contains xs s) c.in_ok-push.ensures.items has)) [
+    elim (Contains-push_cases c.args.starts.now.items _ s
+    (subst (λ xs. Contains xs s) c.in_ok-push.ensures.items has)) [
       | inl before ↦ inl before
       | inr e ↦ inr (ap (λ x. x.part) (sym e), ap (λ x. x.at) (sym e))
     ]

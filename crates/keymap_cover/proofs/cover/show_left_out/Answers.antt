@@ -4,8 +4,10 @@ use Rattle.keymap_cover.proofs.cover.show_left_out.Goals as goal
 
 pub returns-then-not-is_left_out : goal.returns-then-not-is_left_out
 returns-then-not-is_left_out g c =
-    stays-so g.T.Translator.stands c.args.map.now c.args.explorer.now c.args.explorer.now c.args.script.now _ (refl, refl)
-    (λ h w can. c.is_left_out.ensures.none c.requires c.if-not-is_left_out.true (can-see c.args.map.now c.args.sight can))
+    stays-so g.T.Translator.stands c.args.map.now c.args.explorer.now c.args.explorer.now c.args.script.now _
+    (refl, refl)
+    (λ h w can.
+    c.is_left_out.ensures.none c.requires c.if-not-is_left_out.true (can-see c.args.map.now c.args.sight can))
 
 pub returns-then-not-aim_at : goal.returns-then-not-aim_at
 returns-then-not-aim_at g c =

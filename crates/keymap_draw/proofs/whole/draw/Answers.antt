@@ -21,5 +21,7 @@ returns c =
     ∙ ap (λ l. l ++ findings_list d.findings starts.findings)
     (c.in_ok-sheet-3.ensures ∙ ap (λ l. l ++ upper d listed.upper.now starts.upper)
     (c.in_ok-sheet-2.ensures ∙ ap (λ l. l ++ half_facts d Lower listed.lower.now 16)
-    (c.in_ok-sheet.ensures ∙ ap (λ fs. head (length fs) (starts.key + 76)) c.findings.ensures.findings))))))
+    (c.in_ok-sheet.ensures
+    ∙ ap (λ name. head name (length c.findings.result.now) (starts.key + 76)) c.name.ensures.name
+    ∙ ap (λ fs. head d.name (length fs) (starts.key + 76)) c.findings.ensures.findings))))))
     c.finish.ensures

@@ -1,4 +1,4 @@
-use Rattle.kmap_runs.proofs.Common.{◌≡◌, ◌∙◌, get_or_default, refl, take}
+use Rattle.kmap_runs.proofs.Common.{◌∙◌, get_or_default, refl, take}
 use Rattle.kmap_runs.proofs.Differing.{script_more}
 use Rattle.kmap_runs.proofs.diff.push_script.Goals as goal
 

@@ -1,4 +1,4 @@
-use Rattle.kmap_runs.proofs.Common.{get_or_default, refl, rules}
+use Rattle.kmap_runs.proofs.Common.{get_or_default, rules}
 use Rattle.kmap_runs.proofs.OneSlot.{changed}
 use Rattle.kmap_runs.proofs.joined.add.Goals as goal
 

@@ -48,7 +48,8 @@ see-requires-in-Some-Composed-clause-origin c =
     c.in_ok-middle-in-Some-Composed.ensures)
 
 pub tap_from-requires : goal.tap_from-requires
-tap_from-requires c = (c.explored_from-behind.ensures c.args.map.now c.in_ok-see-in-Some-Composed.ensures.explorations).0
+tap_from-requires c =
+    (c.explored_from-behind.ensures c.args.map.now c.in_ok-see-in-Some-Composed.ensures.explorations).0
 
 pub returns-in_ok-last-in-Some-Composed-clause-leads : goal.returns-in_ok-last-in-Some-Composed-clause-leads
 returns-in_ok-last-in-Some-Composed-clause-leads c =

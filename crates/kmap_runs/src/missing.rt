@@ -27,7 +27,7 @@ pub(crate) struct Missing {
     pub(crate) character: char,
 }
 
-/// Adds a character that wasn't seen before and that keys can't type. Answers whether it is known that they can't.
+/// Adds a character that wasn't seen before, if keys can't type it. Answers whether that is known.
 fn add_untyped(
     seen: &mut HashSet<char>,
     found: &mut Vec<Missing>,

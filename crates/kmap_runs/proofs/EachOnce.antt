@@ -216,7 +216,7 @@ own-line found (m ∷ lines) apart all line (zero, lt, at) y among e =
       | inr there ↦
           let (n, has, is) = flat-of changes_of lines y there in
           let of_n = All-contains (λ x. label_of found x ≡ n.0) n.1 y
-              (All-contains (IsLineOf found) lines n (All-tail (IsLineOf found) m lines all) has).same is in
+          (All-contains (IsLineOf found) lines n (All-tail (IsLineOf found) m lines all) has).same is in
           absurd (All-contains (λ line. m.0 ≢ line.0) lines n apart.0 has (ap (λ (z : Told). z.0) at ∙ sym e ∙ of_n))
     ]
 own-line found (m ∷ lines) apart all line (suc k, lt, at) y among e =
@@ -252,12 +252,13 @@ columns-told found line has s c a b u is k lt =
     let y : Change = Cell s k a b u in
     let label : label_of found x ≡ line.0 = All-contains (λ x. label_of found x ≡ line.0) line.1 x of_line.same is in
     let test : get_or line.0.columns k false ≡ has_in found x k =
-        ap (λ (l : Label). get_or l.columns k false) (sym label) ∙ column-is found x k lt in
-    let whole = changes-all found [] found in
-    ( (λ e. own-line found lines (apart-all found [] found tt) all line has y
-        (Contains-permutation _ _ y whole (member-has found y (sym test ∙ e))) label),
+    ap (λ (l : Label). get_or l.columns k false) (sym label) ∙ column-is found x k lt in
+    let whole = changes-all found [] found in (
+      (λ e. own-line found lines (apart-all found [] found tt) all line has y
+          (Contains-permutation _ _ y whole (member-has found y (sym test ∙ e))) label),
       (λ there. test ∙ has-member found y (Contains-permutation _ _ y (IsPermutation-sym _ _ whole)
-        (flat-has changes_of lines line y has there))))
+          (flat-has changes_of lines line y has there))),
+    )
 
 pub all-columns : (found : List Change) → All TellsAllColumns (lines_of found)
 all-columns found = λ i d lt. columns-told found (get_or (lines_of found) i d) (Contains-get_or (lines_of found) i d lt)

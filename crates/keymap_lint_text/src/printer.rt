@@ -167,11 +167,7 @@ impl<'a> Printer<'a> {
     }
 
     /// Adds faults, one behind the other.
-    pub(crate) fn faults(
-        &self,
-        text: &mut Vec<u8>,
-        list: &[PlacedFault],
-    ) -> Result<(), AllocError>
+    pub(crate) fn faults(&self, text: &mut Vec<u8>, list: &[PlacedFault]) -> Result<(), AllocError>
         requires { All (FaultLiesWithin self.now.source.now) list.now }
         ensures { OnOk result (text.new.items ≡ text.old.items ++ spec.printed self.now.file.now
             self.now.source.now (flat_map (of_fault self.now.source.now) list.now)) }

@@ -132,7 +132,7 @@ yields lint_text
 yields ranges
 yields shown_name
 refuses format
-refuses picture
+yields picture
 refuses filled
 refuses read_script
 refuses read_whole
@@ -151,7 +151,7 @@ refuses dump_run
 refuses dump_narrow_run
 refuses compile_run
 refuses compile_narrow_run
-refuses draw_run
+yields draw_run
 yields lint_run
 refuses fmt_run
 refuses fmt_print_run

@@ -5,6 +5,7 @@ mod Common
 mod Counted
 mod CoverScripts
 mod Covered
+mod DiffLines
 mod DiffScripts
 mod Differing
 mod Dumped

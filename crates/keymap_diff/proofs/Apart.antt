@@ -20,7 +20,7 @@ use Rattle.keymap_diff.specs.Telling.{EndsByPress, IsAnsweredAlike}
 use Rattle.keymap_diff.specs.Inner.Searches.{IsFoundBy, IsMetFromStart, IsReach, IsReachAt, IsScript, IsSearched}
 use Rattle.keymap_diff.specs.Inner.Searches.{IsSearchedAt, IsSettled, IsTappedAt, IsWithin}
 use Rattle.keymap_diff.specs.Telling.{IsToldBy}
-use Rattle.keymap_diff.proofs.Alike.{look-is}
+use Rattle.keymap_diff.proofs.OneEvent.{look-is}
 use Rattle.keymap_diff.specs.Inner.Showing.{IsFirstShown, NoneShowsBelow}
 use Rattle.keymap_diff.specs.declared.searched.Searched.{Searched as SearchedValue}
 use Rattle.keymap_diff.specs.declared.showing.Shown.{Shown}
@@ -150,7 +150,8 @@ placed-tapped m n h s d i x key idle seen seen_too can can_too = record {
       sym (pending-is m (Release d ∷ Press d ∷ h))
       ∙ tap-pending m h s d i x.first.stands idle seen can x.first_pending;
   second_pending =
-      sym (pending-is n (Release d ∷ Press d ∷ h)) ∙ tap-pending n h s d i x.second idle seen_too can_too x.second_pending;
+      sym (pending-is n (Release d ∷ Press d ∷ h))
+      ∙ tap-pending n h s d i x.second idle seen_too can_too x.second_pending;
 }
 
 -- an idle key that shows nothing looks up the dead key under both, which can be used under both
@@ -198,7 +199,8 @@ pub accent-told : (m n : MapValue) (i : ℕ) (es : Entries) (place presses : ℕ
     → usable m i ≡ true → (at : Shown) → x.shown ≡ Some at → (h g : List Event) → IsTappedAt m i es place h
     → ((path : List Move) → IsTrail x.met.entries at.place path → g ≡ events_along path ++ h) → (t : Telling)
     → IsScript m n g at.key t → IsFoundBy m n t (Some presses) false
-accent-told m n i es place total x bounds also met (y, os, there, alone_there, s) (before, more, (b, b_at, b_is), reach, sum) clear can at e h g
+accent-told m n i es place total x bounds also met (y, os, there, alone_there, s)
+    (before, more, (b, b_at, b_is), reach, sum) clear can at e h g
     (w, d, w_at, key, (idle, seen), taps) events t script =
     let fs : Entries = x.met.entries in
     let (q, same, (a, a_at, count)) = subst (λ o. IsReach fs x.end o x.reach) e s.reach in

@@ -59,7 +59,8 @@ reach-none : (m n : MapValue) (p : Option ℕ) (es : Entries) (end : End) (shown
     → IsWithin b reach → (j : ℕ) (x : Entry) → slice_get es j ≡ Some x → x.1.presses < b
     → NoneShows m n p (state_of x.0)
 reach-none m n p es end None reach ordered is none b within j x at lt = none j x at (slice_get_within es j x at)
-reach-none m n p es end (Some shown) reach ordered (q, same, (y, there, e)) (z, here, key, shows, none) b within j x at lt =
+reach-none m n p es end (Some shown) reach ordered (q, same, (y, there, e)) (z, here, key, shows, none) b within j x at
+    lt =
     search (rules, cases_lt)
 
 -- so none does where fewer presses lead
@@ -102,8 +103,7 @@ reach-is m n os p x at q s shown (y, here, e) =
     same ∙ ap (λ v. Some v) (f ∙ ap (λ w. w.1.presses) (same_Some z y (sym there ∙ here)) ∙ sym e)
 
 -- Where q presses lead from the start and the search went on beyond, no key that looks up plain cells shows anything,
--- if
--- none did from the first place on where something showed.
+-- if none did from the first place on where something showed.
 pub searched-plain : (m n : MapValue) (x : Searched) (at : Shown) (q : ℕ) → IsSearched m n (start ∷ []) None x
     → x.shown ≡ Some at → GoesBeyond q x.end → NonePlainFrom m n x.met.entries at.place q → ArePlainClear m n (q + 1)
 searched-plain m n x at q s shown beyond none path is lt k key =

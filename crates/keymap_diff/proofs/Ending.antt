@@ -30,8 +30,8 @@ pub goes-back : (m n : MapValue) (os : List State) (p : Option ℕ) (x : Searche
 goes-back m n os p x s = searched-back (alone m) x.met.entries 0 0 s.ended.searched
 
 -- many entries are many states that paths lead to
-pub reaches-many : (m : MapValue) (os : List State) (es : Entries) (c q : ℕ) → Searched (alone m) os es 0 0 → AreOrdered es
-    → AreMetOnce es → IsMetAt es 65536 q
+pub reaches-many : (m : MapValue) (os : List State) (es : Entries) (c q : ℕ) → Searched (alone m) os es 0 0
+    → AreOrdered es → AreMetOnce es → IsMetAt es 65536 q
     → ((o : State) → Contains os o
     → (path : List Move) × IsPath (alone m) path × (presses_along path ≤ c) × (state_after (alone m) path ≡ o))
     → ReachesMoreThan (alone m) 65536 (c + q)

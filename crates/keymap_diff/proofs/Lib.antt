@@ -8,6 +8,7 @@ pub mod Ending
 pub mod LastEvents
 pub mod Marks
 pub mod Offers
+pub mod OneEvent
 pub mod Pushing
 pub mod Reached
 pub mod Same

@@ -28,7 +28,8 @@ offering-more m i es low n states x up before at offered = record {
         (Contains-push states (state_of x.0))
   ];
   only = λ s has. elim (Contains-push_cases states (state_of x.0) s has) [
-    | inl was ↦ let (j, y, there, le, lt, same, is) = before.only s was in (j, y, there, le, omega (arith, lt), same, is)
+    | inl was ↦
+        let (j, y, there, le, lt, same, is) = before.only s was in (j, y, there, le, omega (arith, lt), same, is)
     | inr same ↦ (n, x, at, up, omega arith, same, subst (λ z. IsOfferedIn (alone m) z i) same offered)
   ];
 }
@@ -42,7 +43,8 @@ offering-skip m i es low n states x before at none = record {
     | inr e ↦
         absurd (none (subst (λ z. IsOfferedIn (alone m) (state_of z.0) i) (sym (same_entry es j n y x e there at)) is))
   ];
-  only = λ s has. let (j, y, there, le, lt, same, is) = before.only s has in (j, y, there, le, omega (arith, lt), same, is);
+  only = λ s has.
+      let (j, y, there, le, lt, same, is) = before.only s has in (j, y, there, le, omega (arith, lt), same, is);
 }
 
 -- the scroll lock is off there
@@ -62,9 +64,11 @@ pub clear-searched : (m n : MapValue) (i : ℕ) (es : Entries) (low high b q : �
     (x : SearchedValue) → given ≡ states → IsMetFromStart m es → AreOffering m i es low high (map state_of states)
     → IsSearched m n (map state_of given) (Some i) x → IsMetAt es low q
     → ((more : ℕ) → x.reach ≡ Some more → b ≤ q + 1 + more) → IsClearBehind m n i es low high b
-clear-searched m n i es low high b q given states x same met offering s (y, there, e) few j z at le lt offered path is less k key =
+clear-searched m n i es low high b q given states x same met offering s (y, there, e) few j z at le lt offered path is
+    less k key =
     let up : y.1.presses ≤ z.1.presses = met.1 low j y z le there at in
-    searched-clear m n (map state_of given) (Some i) x s (suc (presses_along path)) (within x.reach refl up) (state_of z.0)
+    searched-clear m n (map state_of given) (Some i) x s (suc (presses_along path)) (within x.reach refl up)
+    (state_of z.0)
     (subst (λ l. Contains (map state_of l) (state_of z.0)) (sym same) (offering.all j z at le lt offered)) path is
     (omega arith) k key
   where

@@ -13,7 +13,7 @@ use Rattle.keymap_diff.proofs.Common.{presses_along, events_along, Stands, false
 use Rattle.keymap_diff.proofs.Common.{◌<◌, NoneShows, AreCellsAlike, AreCellsClear, Gives, IsUnnoticed, Shows}
 use Rattle.keymap_diff.proofs.Common.{ShowsNothing}
 use Rattle.console_core.specs.declared.event.Answer.TheVariants as answer
-use Rattle.keymap_diff.proofs.Alike.{look-is, own-composed, press-answered, press-resolved}
+use Rattle.keymap_diff.proofs.OneEvent.{look-is, own-composed, press-answered, press-resolved}
 use Rattle.console_core.proofs.OneMore.{one_map, resolved-start, pending-start, remembered-character, remembered-action}
 use Rattle.console_states.proofs.Going.{pending-along}
 use Rattle.console_states.proofs.Shown.{IsShort, short-start, short-along}
@@ -74,7 +74,11 @@ taken-held : (m : MapValue) (b : Bool) (i : Modifier) (a : Action)
     ⊎ ((a ≢ act.Mod i) × (answer_action m None b (taken_over (Some (act.Mod i)) a) ≡ answer.None))
 taken-held m b i a = elim (cases_Bool (same_action (act.Mod i) a)) [
   | inl t ↦ let e = sym (same_action-true (act.Mod i) a t) in inl (e, rw (e, same_action-refl (act.Mod i)) refl)
-  | inr t ↦ inr ((λ e. true≢false (sym (same_action-refl (act.Mod i)) ∙ ap (λ z. same_action (act.Mod i) z) (sym e) ∙ t)), rw t refl)
+  | inr t ↦ inr (
+    (λ e. true≢false (sym (same_action-refl (act.Mod i))
+        ∙ ap (λ z. same_action (act.Mod i) z) (sym e) ∙ t)),
+    rw t refl,
+  )
 ]
 
 held-cells : (m n : MapValue) (b d : Bool) (i : Modifier) (x y : Cell)
@@ -86,7 +90,10 @@ held-cells m n b d i (Act a) (Char c) p = absurd (no-char m d b c (taken_over (S
 held-cells m n b d i (Act a) (Act e) p = elim (taken-held m b i a) [
   | inl (f, x) ↦ elim (taken-held n d i e) [
     | inl (g, y) ↦
-        inl (ap (λ z. Act z) (f ∙ sym g), (λ j q. let h : act.Mod i ≡ act.DeadKey j = sym f ∙ act-same a _ q in absurd (cc)))
+        inl (
+          ap (λ z. Act z) (f ∙ sym g),
+          (λ j q. let h : act.Mod i ≡ act.DeadKey j = sym f ∙ act-same a _ q in absurd (cc)),
+        )
     | inr (g, y) ↦ let h : answer.Special (act.Mod i) ≡ answer.None = sym x ∙ p ∙ y in absurd (cc)
   ]
   | inr (f, x) ↦ elim (taken-held n d i e) [

@@ -2,9 +2,9 @@
 //! keymaps apart.
 //!
 //! The crate stands on `keymap_core`, whose keymaps it compares, on `console_core`, whose consoles the two are told
-//! apart by, and on `console_states`, whose searches tell what presses meet. `specs/Changes.antt` says what differs: how
-//! many slots and accents there are, cells, lock letters, the own characters of accents, what accents make of bases, and
-//! the order of pairs. `specs/Telling.antt` says what it is to be told apart.
+//! apart by, and on `console_states`, whose searches tell what presses meet. `specs/Changes.antt` says what differs:
+//! how many slots and accents there are, cells, lock letters, the own characters of accents, what accents make of
+//! bases, and the order of pairs. `specs/Telling.antt` says what it is to be told apart.
 #![tactic(auto)]
 
 mod change;

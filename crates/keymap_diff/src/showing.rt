@@ -145,7 +145,8 @@ impl<'a> Both<'a> {
     /// Whether what the pending accent makes shows it.
     fn shows_accent(&self, held: &Held, accent: u8, key: KeyCode) -> bool
         ensures shown { result ≡ true → Shows self.now.old.now self.now.new.now (Some accent) (state_of held.now) key }
-        ensures nothing { result ≡ false → ShowsNothing self.now.old.now self.now.new.now (Some accent) (state_of held.now) key }
+        ensures nothing { result ≡ false
+            → ShowsNothing self.now.old.now self.now.new.now (Some accent) (state_of held.now) key }
     {
         match &held.selection().look(self.old, key) {
             Cell::Char(c) => !self.makes_alike(accent, *c),
@@ -159,7 +160,8 @@ impl<'a> Both<'a> {
     /// Whether a press of the key or its release shows it.
     fn shows(&self, held: &Held, pending: Option<u8>, key: KeyCode) -> bool
         ensures shown { result ≡ true → Shows self.now.old.now self.now.new.now pending (state_of held.now) key }
-        ensures nothing { result ≡ false → ShowsNothing self.now.old.now self.now.new.now pending (state_of held.now) key }
+        ensures nothing { result ≡ false
+            → ShowsNothing self.now.old.now self.now.new.now pending (state_of held.now) key }
     {
         match pending {
             None => self.shows_cells(held, key),

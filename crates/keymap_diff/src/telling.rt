@@ -43,14 +43,22 @@ struct Offering<'a> {
     accent: u8,
 }
 
+/// What the search from the state at a place found with the accent pending, and by how many presses from the start.
+#[derive(Clone, Copy)]
+struct Behind<'a> {
+    place: usize,
+    searched: &'a Searched,
+    presses: usize,
+}
+
 impl<'a> Offering<'a> {
     /// The states at the places from `low` to before `high` that offer the accent.
     fn states(&self, alloc: Global, low: usize, high: usize) -> Result<Vec<Held>, AllocError>
         requires low { low ≤ high }
         requires high { high ≤ length self.now.met.now.entries }
         requires usable { usable self.now.both.old.now self.now.accent ≡ true }
-        ensures { IfOk result (λ states. AreOffering self.now.both.old.now self.now.accent self.now.met.now.entries low high
-            (map state_of states.items)) }
+        ensures { IfOk result (λ states. AreOffering self.now.both.old.now self.now.accent self.now.met.now.entries low
+            high (map state_of states.items)) }
     {
         let mut states = Vec::new(alloc);
         for place in low..high {
@@ -83,41 +91,34 @@ impl<'a> Offering<'a> {
         Ok(events)
     }
 
-    /// What the search from the state at the place found by so many presses, which is nearer than what was found
-    /// before, or as near and plain.
-    fn found(
-        &self,
-        alloc: Global,
-        place: usize,
-        searched: &Searched,
-        presses: usize,
-        nearest: Nearest,
-    ) -> Result<Nearest, AllocError>
+    /// What the search behind a tap found, which is nearer than what was found before, or as near and plain.
+    fn found(&self, alloc: Global, behind: &Behind, nearest: Nearest) -> Result<Nearest, AllocError>
         requires met { IsMetFromStart self.now.both.old.now self.now.met.now.entries }
-        requires at { IsOfferedAt self.now.both.old.now self.now.accent self.now.met.now.entries place }
-        requires searched { IsSearchedAt self.now.both.old.now self.now.both.new.now self.now.accent self.now.met.now.entries place
-            searched.now }
-        requires presses { IsReachAt self.now.met.now.entries place searched.now.reach presses }
-        requires cells { AreCellsClear self.now.both.old.now self.now.both.new.now presses }
+        requires at { IsOfferedAt self.now.both.old.now self.now.accent self.now.met.now.entries behind.now.place }
+        requires searched { IsSearchedAt self.now.both.old.now self.now.both.new.now self.now.accent
+            self.now.met.now.entries behind.now.place behind.now.searched.now }
+        requires presses { IsReachAt self.now.met.now.entries behind.now.place behind.now.searched.now.reach
+            behind.now.presses }
+        requires cells { AreCellsClear self.now.both.old.now self.now.both.new.now behind.now.presses }
         requires nearest { IsNearest self.now.both.old.now self.now.both.new.now nearest }
-        requires beyond { IsWithin (presses + 1) (bound_of nearest) }
+        requires beyond { IsWithin (behind.now.presses + 1) (bound_of nearest) }
         ensures nearest { IfOk result (λ x. IsNearest self.now.both.old.now self.now.both.new.now x) }
-        ensures bound { IfOk result (λ x. bound_of x ≡ Some presses) }
+        ensures bound { IfOk result (λ x. bound_of x ≡ Some behind.now.presses) }
     {
         every_keymap_is_within_the_bounds(self.both.old);
         every_keymap_is_within_the_bounds(self.both.new);
-        match searched.shown {
+        match behind.searched.shown {
             Some(at) => {
-                let mut events = self.events(alloc, place)?;
-                go_out(&mut events, alloc, &searched.met, at.place)?;
+                let mut events = self.events(alloc, behind.place)?;
+                go_out(&mut events, alloc, &behind.searched.met, at.place)?;
                 let telling = tell(&self.both, events, at.key)?;
                 Ok(Nearest {
                     telling,
-                    limit: Some(presses),
+                    limit: Some(behind.presses),
                     wants_plain: false,
                 })
             }
-            None => Ok(nearest.given_up(presses)),
+            None => Ok(nearest.given_up(behind.presses)),
         }
     }
 
@@ -138,7 +139,8 @@ impl<'a> Offering<'a> {
         ensures nearest { IfOk result (λ x. IsNearest self.now.both.old.now self.now.both.new.now x) }
         ensures bound { IfOk result (λ x. IsNoFurther (bound_of x) (bound_of nearest)) }
         ensures clear { IfOk result (λ x. (b : ℕ) → IsWithin b (bound_of x)
-            → IsClearBehind self.now.both.old.now self.now.both.new.now self.now.accent self.now.met.now.entries low high b) }
+            → IsClearBehind self.now.both.old.now self.now.both.new.now self.now.accent self.now.met.now.entries low
+            high b) }
     {
         let before = presses_to(self.met, low) + 1;
         if !nearest.is_beyond(before) {
@@ -153,7 +155,12 @@ impl<'a> Offering<'a> {
             return Ok(nearest);
         }
         if high - low == 1 {
-            return self.found(alloc, low, &searched, before + more, nearest);
+            let behind = Behind {
+                place: low,
+                searched: &searched,
+                presses: before + more,
+            };
+            return self.found(alloc, &behind, nearest);
         }
         let middle = low + (high - low) / 2;
         let nearer = self.nearest(alloc, low, middle, nearest)?;

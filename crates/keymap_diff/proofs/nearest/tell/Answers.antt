@@ -20,9 +20,9 @@ returns c =
       e,
       a,
       b,
-      sym (subst (λ z. c.answer-old.result ≡ answer_to (between m m) (reverse z) (Press c.args.key)) c.deref.ensures.value
-          c.answer-old.ensures)
+      sym (subst (λ z. c.answer-old.result ≡ answer_to (between m m) (reverse z) (Press c.args.key))
+          c.deref.ensures.value c.answer-old.ensures)
           ∙ c.are_same.ensures.same c.if-not-are_same.false
-          ∙ subst (λ z. c.answer-new.result ≡ answer_to (between n n) (reverse z) (Press c.args.key)) c.deref-2.ensures.value
-          c.answer-new.ensures,
+          ∙ subst (λ z. c.answer-new.result ≡ answer_to (between n n) (reverse z) (Press c.args.key))
+          c.deref-2.ensures.value c.answer-new.ensures,
     )

@@ -27,7 +27,8 @@ plain_as_near-requires-clause-first c =
 
 pub tell_at-requires-clause-place : goal.tell_at-requires-clause-place
 tell_at-requires-clause-place c =
-    let (z, here, count, key, shows, plain) = c.in-Some.ensures c.presses_to-presses.result c.presses_to-presses.ensures.value in
+    let (z, here, count, key, shows, plain) =
+    c.in-Some.ensures c.presses_to-presses.result c.presses_to-presses.ensures.value in
     slice_get_within c.args.searched.now.met.entries c.in-Some.at.place z here
 
 pub tell_at-requires-clause-back : goal.tell_at-requires-clause-back
@@ -71,4 +72,5 @@ returns-in_ok-telling-in-None-clause-nearest c =
     (reach-is m n (start ∷ []) None x first q c.requires.searched c.requires.shown value) z here
     (count ∙ ap (λ w. w.1.presses) (same_Some y z (sym there ∙ here))) key shows
     (settled m n x first q wants c.requires.searched c.requires.shown c.goes_beyond.ensures.beyond
-    c.goes_beyond.ensures.ended (c.in-None.ensures q value) (state_of z.0)) h events c.in_ok-telling-in-None.telling script
+    c.goes_beyond.ensures.ended (c.in-None.ensures q value) (state_of z.0)) h events
+    c.in_ok-telling-in-None.telling script

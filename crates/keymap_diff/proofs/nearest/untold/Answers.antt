@@ -16,8 +16,8 @@ returns-clause-nearest c =
           rw w.telling-is (
             w.in-Some.is,
             refl,
-            searched-many m n (start ∷ []) None x 0 w.in-Some.presses w.in-Some.presses (omega arith) c.requires.searched
-                c.requires.none w.in-Some.is start-reached,
+            searched-many m n (start ∷ []) None x 0 w.in-Some.presses w.in-Some.presses (omega arith)
+                c.requires.searched c.requires.none w.in-Some.is start-reached,
             searched-cells m n x c.requires.searched w.in-Some.presses
                 (subst (λ o. IsWithin w.in-Some.presses o) (sym w.in-Some.is) (omega arith)),
           )

@@ -88,5 +88,6 @@ returns c =
     (λ b is i. elim (cases_lt i c.loop-accent.accent) [
       | inl lt ↦ c.loop-accent.invariant.2 b is i lt
       | inr past ↦ λ before later made offered.
-          absurd (past-unusable m i (omega (arith, past, c.loop-accent-test.false, c.n_accs-accent-end.ensures.value)) offered.0)
+          absurd (past-unusable m i (omega (arith, past, c.loop-accent-test.false, c.n_accs-accent-end.ensures.value))
+          offered.0)
     ])

@@ -11,8 +11,8 @@ use Rattle.keymap_diff.proofs.telling.Offering.+nearest.Goals as goal
 pub returns-then-not-is_beyond-clause-clear : goal.returns-then-not-is_beyond-clause-clear
 returns-then-not-is_beyond-clause-clear t c = λ b within.
     let at = c.args.self.now in
-    clear-before at.both.old.now at.both.new.now at.accent _ _ c.args.high b _ c.requires.met c.presses_to-before.ensures.value
-    (c.is_beyond.ensures.within c.if-not-is_beyond.true b within)
+    clear-before at.both.old.now at.both.new.now at.accent _ _ c.args.high b _ c.requires.met
+    c.presses_to-before.ensures.value (c.is_beyond.ensures.within c.if-not-is_beyond.true b within)
 
 pub from-requires : goal.from-requires
 from-requires t c = search (rules, offering-off)
@@ -27,7 +27,8 @@ returns-then-not-is_beyond-2-clause-clear t c = λ b within.
     let few = c.is_beyond-2.ensures.within c.if-not-is_beyond-2.true b within in
     clear-searched _ _ _ _ _ _ b _ _ _ _ c.deref.ensures.value c.requires.met c.in_ok-origins.ensures
     c.in_ok-searched.ensures c.presses_to-before.ensures.value
-    (λ more e. subst (λ r. b ≤ c.presses_to-before.result + 1 + r) (same_Some c.in-Some.more more (sym c.in-Some.is ∙ e)) few)
+    (λ more e. subst (λ r. b ≤ c.presses_to-before.result + 1 + r)
+    (same_Some c.in-Some.more more (sym c.in-Some.is ∙ e)) few)
 
 pub found-requires-clause-at : goal.found-requires-clause-at
 found-requires-clause-at t c =
@@ -45,7 +46,8 @@ found-requires-clause-at t c =
       y,
       at,
       subst (λ z. IsOfferedIn (alone m) z i)
-          (one-origin m i es c.args.low c.args.high os y at (omega (arith, c.if-high-low-eq1.true)) c.in_ok-origins.ensures o has)
+          (one-origin m i es c.args.low c.args.high os y at (omega (arith, c.if-high-low-eq1.true))
+          c.in_ok-origins.ensures o has)
           is,
     )
 
@@ -91,8 +93,8 @@ returns-then-high-low-eq1-clause-clear t c =
     → IsClearBehind at.both.old.now at.both.new.now at.accent at.met.now.entries c.args.low c.args.high b)
     (λ x e b is. clear-searched _ _ _ _ _ _ b _ _ _ _ c.deref.ensures.value c.requires.met c.in_ok-origins.ensures
     c.in_ok-searched.ensures c.presses_to-before.ensures.value
-    (λ more f. subst (λ r. b ≤ c.presses_to-before.result + 1 + r) (same_Some c.in-Some.more more (sym c.in-Some.is ∙ f))
-    (subst (λ o. IsWithin b o) e is)))
+    (λ more f. subst (λ r. b ≤ c.presses_to-before.result + 1 + r)
+    (same_Some c.in-Some.more more (sym c.in-Some.is ∙ f)) (subst (λ o. IsWithin b o) e is)))
     c.found.result c.found.ensures.bound
 
 pub nearest-requires-2 : goal.nearest-requires-2

@@ -16,9 +16,9 @@ returns-in_ok-telling-in-Some-clause-nearest c =
     let n = c.args.self.now.both.new.now in
     let i = c.args.self.now.accent in
     let met = c.args.self.now.met.now.entries in
-    let x = c.args.searched.now in
+    let x = c.args.behind.now.searched.now in
     let (z, z_at, offered) = c.requires.at in
-    accent-told m n i met c.args.place c.args.presses x c.every_keymap_is_within_the_bounds.ensures
+    accent-told m n i met c.args.behind.now.place c.args.behind.now.presses x c.every_keymap_is_within_the_bounds.ensures
     c.every_keymap_is_within_the_bounds-2.ensures c.requires.met c.requires.searched c.requires.presses c.requires.cells
     offered.0 c.in-Some.at c.in-Some.is (reverse c.in_ok-events-in-Some.events.items)
     (reverse c.go_out.new.events.items) c.in_ok-events-in-Some.ensures c.in_ok-go_out-in-Some.ensures _
@@ -30,9 +30,9 @@ returns-in-None-clause-nearest c =
     let n = c.args.self.now.both.new.now in
     let i = c.args.self.now.accent in
     let met = c.args.self.now.met.now.entries in
-    let x = c.args.searched.now in
+    let x = c.args.behind.now.searched.now in
     let (y, os, y_at, one, s) = c.requires.searched in
     let (before, more, at, reach, sum) = c.requires.presses in
     c.given_up.ensures.nearest m n c.requires.nearest c.requires.beyond c.requires.cells
-    (searched-many m n os (Some i) x (before + 1) more c.args.presses (sym sum) s c.in-None.is reach
-    (λ o has. tapped-reached m met c.args.place before y c.requires.met y_at at o (one o has)))
+    (searched-many m n os (Some i) x (before + 1) more c.args.behind.now.presses (sym sum) s c.in-None.is reach
+    (λ o has. tapped-reached m met c.args.behind.now.place before y c.requires.met y_at at o (one o has)))

@@ -21,12 +21,14 @@ loop-place-preserved c =
           rw w.states-is
           (rw (ap (λ z. map state_of z) w.in_ok-push-in-Some.ensures.items
           ∙ map-append state_of c.loop-place.states.items (x.0 ∷ []))
-          (offering-more m i met c.args.low n old x c.loop-place.auto.place c.loop-place.invariant c.entry-held.ensures (
+          (offering-more m i met c.args.low n old x c.loop-place.auto.place c.loop-place.invariant
+          c.entry-held.ensures (
             c.requires.usable,
             (
               w.in-Some.field-0,
               w.in-Some.ensures.0,
-              subst (λ (u : Under). Offers u (state_of x.0) w.in-Some.field-0 i) c.maps.ensures.alone w.in-Some.ensures.1,
+              subst (λ (u : Under). Offers u (state_of x.0) w.in-Some.field-0 i) c.maps.ensures.alone
+                  w.in-Some.ensures.1,
             ),
           )))
       | in-None w ↦

@@ -3,8 +3,10 @@ use Rattle.console_states.proofs.Common.{◌≡◌, ◌≢◌, ℕ, ◌+◌, ◌
 use Rattle.console_states.proofs.Common.{ap, subst, sym, ◌∙◌, arith, slice_get, Some, Contains, true≢false}
 use Rattle.console_states.proofs.Common.{get_or_default, Contains-push, Contains-push_cases, Contains-append_left, Cell}
 use Rattle.console_states.proofs.Common.{Act, usable, Under, State, look_in, Offers, state_of, Entry}
-use Rattle.console_states.proofs.Common.{Entries, IsWith, Adds, IsInSome, AddsOffers, rules}
+use Rattle.console_states.proofs.Common.{Entries, IsWith, Adds, IsInSome, AddsOffers, get_or, rules}
 use Rattle.console_states.specs.Inner.Adding.{AddsOffer}
+use Rattle.console_states.specs.Inner.KeyLists.{AreKeysOf}
+use Rattle.console_states.specs.declared.key_lists.CellKind.TheVariants.{DeadKey}
 use Rattle.std.proofs.lemmas.List.Quantifiers.{all_pairs_push}
 use Rattle.console_states.specs.Sights.{Enumerates, HasNoDoubles}
 use Rattle.console_states.proofs.Searching.{place_last, same_entry}
@@ -79,15 +81,38 @@ pub unusable-none : (u : Under) (s : State) (k a : ℕ) → Offers u s k a → u
     → (b : ℕ) → usable u.maps.first b ≡ true → Offers u s k b → ⊥
 unusable-none u s k a is not_usable b can offers = search (rules, true≢false, one_accent)
 
+-- the usable accents of the keys below the place were added
+abbrev pub AddsOffersOf : Under → State → List ℕ → ℕ → List ℕ → List ℕ → Type 0
+AddsOffersOf u s keys n old now =
+    Adds (λ a. (usable u.maps.first a ≡ true) × ((j : ℕ) × (j < n) × Offers u s (get_or keys j 0) a)) old now
+
 -- the offer of a further key
-pub offers-more : (u : Under) (s : State) (n : ℕ) (old mid now : List ℕ) → AddsOffers u s n old mid
-    → AddsOffer u s n mid now → AddsOffers u s (n + 1) old now
-offers-more u s n old mid now before next =
-    adds-both (λ a. (usable u.maps.first a ≡ true) × ((k : ℕ) × (k < n) × Offers u s k a))
-    (λ a. (usable u.maps.first a ≡ true) × Offers u s n a)
-    (λ a. (usable u.maps.first a ≡ true) × ((k : ℕ) × (k < n + 1) × Offers u s k a)) old mid now
+pub offers-more : (u : Under) (s : State) (keys : List ℕ) (n : ℕ) (old mid now : List ℕ)
+    → AddsOffersOf u s keys n old mid → AddsOffer u s (get_or keys n 0) mid now
+    → AddsOffersOf u s keys (n + 1) old now
+offers-more u s keys n old mid now before next =
+    adds-both (λ a. (usable u.maps.first a ≡ true) × ((j : ℕ) × (j < n) × Offers u s (get_or keys j 0) a))
+    (λ a. (usable u.maps.first a ≡ true) × Offers u s (get_or keys n 0) a)
+    (λ a. (usable u.maps.first a ≡ true) × ((j : ℕ) × (j < n + 1) × Offers u s (get_or keys j 0) a)) old mid now
     (λ a (can, (k, lt, is)). elim (place_last k n lt) [
       | inl below ↦ inl (can, (k, below, is))
-      | inr e ↦ inr (can, subst (λ j. Offers u s j a) e is)
+      | inr e ↦ inr (can, subst (λ j. Offers u s (get_or keys j 0) a) e is)
     ])
     (λ a (can, (k, lt, is)). (can, (k, omega (arith, lt), is))) (λ a (can, is). (can, (n, omega arith, is))) before next
+
+-- those of all keys that have a dead key are those of all keys
+pub offers-all : (u : Under) (s : State) (keys : List ℕ) (n : ℕ) (old now : List ℕ) → AreKeysOf DeadKey u keys n
+    → AddsOffersOf u s keys (length keys) old now → AddsOffers u s n old now
+offers-all u s keys n old now (has, below) added =
+    adds-as (λ a. (usable u.maps.first a ≡ true) × ((j : ℕ) × (j < length keys) × Offers u s (get_or keys j 0) a))
+    (λ a. (usable u.maps.first a ≡ true) × ((k : ℕ) × (k < n) × Offers u s k a)) old now
+    (λ a (can, (j, lt, is)). (
+      can,
+      (get_or keys j 0, below (get_or keys j 0) (j, lt, sym (get_or_default keys j 0 (get_or keys j 0) lt)), is),
+    ))
+    (λ a (can, (k, lt, is)). elim (has k lt) [
+      | inl (j, there, e) ↦
+          (can, (j, there, subst (λ q. Offers u s q a) (sym (get_or_default keys j 0 k there ∙ e)) is))
+      | inr other ↦ absurd (other s a is.1)
+    ])
+    added

@@ -8,8 +8,8 @@ pub mod Following
 pub mod Going
 pub mod GoingBack
 pub mod Growing
+pub mod KeyLists
 pub mod Looking
-pub mod MovingKeys
 pub mod Offering
 pub mod Reaching
 pub mod Results

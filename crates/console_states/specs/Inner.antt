@@ -1,4 +1,5 @@
 -- What mirrors functions of the code, or tells of private fields. Private contracts cite it; no public clause does.
 pub mod HeldBytes
 pub mod Adding
+pub mod KeyLists
 pub mod Standing

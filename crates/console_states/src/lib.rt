@@ -14,9 +14,9 @@
 #![tactic(auto)]
 
 mod held;
+mod key_lists;
 pub mod laws;
 mod left_on;
-mod moving_keys;
 mod offers;
 mod outcome;
 mod search;

@@ -9,13 +9,16 @@ ghost use Rattle.console_states.specs.Sights.{CanCompose, Enumerates};
 ghost use Rattle.console_states.specs.Searching.{state_of, under_of, HasMetAll};
 ghost use Rattle.console_states.specs.Inner.Adding.{IsWith, AddsOffer, AddsOffers, AreAccentsOf, AreSelectionsOf};
 ghost use Rattle.console_states.specs.Inner.Adding.{IsOfferedUnlocked, AreOffering, AreBehind, AreOffersOf};
+ghost use Rattle.console_states.specs.Inner.KeyLists.{AreKeysOf};
+ghost use Rattle.console_states.specs.declared.key_lists.CellKind.TheVariants.{DeadKey};
 
 use crate::held::{Held, Keymaps};
+use crate::key_lists::dead_keys;
 use crate::search::{End, Met, entry, meet_all};
 use crate::selection::Selection;
 use crate::sights::{Offer, selections_of};
 use console_core::is_usable;
-use keymap_core::{KEY_COUNT, KeyCode, key_with};
+use keymap_core::KeyCode;
 use std::alloc::{AllocError, Global};
 
 /// Adds the accent, if it isn't there.
@@ -46,13 +49,19 @@ fn add_offer(
     Ok(())
 }
 
-/// Adds the accents that are offered in the state.
-fn add_offers(accents: &mut Vec<u8>, maps: &Keymaps, held: &Held) -> Result<(), AllocError>
+/// Adds the accents that are offered in the state, of which the keys are given that can offer one.
+fn add_offers(
+    accents: &mut Vec<u8>,
+    maps: &Keymaps,
+    held: &Held,
+    keys: &[KeyCode],
+) -> Result<(), AllocError>
+    requires { AreKeysOf DeadKey (under_of maps.now) keys.now key_count }
     ensures { OnOk result (AddsOffers (under_of maps.now) (state_of held.now) key_count accents.old.items
         accents.new.items) }
 {
-    for code in 0..KEY_COUNT as u8 {
-        add_offer(accents, maps, held, key_with(code))?;
+    for key in keys {
+        add_offer(accents, maps, held, *key)?;
     }
     Ok(())
 }
@@ -61,10 +70,11 @@ fn add_offers(accents: &mut Vec<u8>, maps: &Keymaps, held: &Held) -> Result<(), 
 fn accents_of(alloc: Global, met: &Met, maps: &Keymaps) -> Result<Vec<u8>, AllocError>
     ensures { IfOk result (λ accents. AreAccentsOf (under_of maps.now) met.now.entries accents.items) }
 {
+    let keys = dead_keys(alloc, maps)?;
     let mut accents = Vec::new(alloc);
     for place in 0..met.len() {
         let (held, _) = entry(met, place);
-        add_offers(&mut accents, maps, &held)?;
+        add_offers(&mut accents, maps, &held, keys.as_slice())?;
     }
     Ok(accents)
 }

@@ -15,8 +15,8 @@ ghost use Rattle.console_states.specs.Moves.{Under, State, Holds, with_holder};
 ghost use Rattle.console_states.specs.Sticking.{IsAnswer, IsAnswerBetween, IsAnswerUnder, state_limit};
 
 use crate::held::{Held, Keymaps, Move, Step};
+use crate::key_lists::moving_keys;
 use crate::left_on::left_on;
-use crate::moving_keys::moving_keys;
 use crate::outcome::Sticking;
 use crate::showing::go_out;
 use console_core::Event;

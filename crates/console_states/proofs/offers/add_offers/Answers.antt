@@ -1,12 +1,27 @@
-use Rattle.console_states.proofs.Common.{rules}
-use Rattle.console_states.proofs.Adding.{adds-none, offers-more}
+use Rattle.console_states.proofs.Common.{length, arith, ◌≡◌, refl, subst, state_of, under_of, get_or_read_under, rules}
+use Rattle.console_states.proofs.Adding.{AddsOffersOf, adds-none, offers-all, offers-more}
+use Rattle.console_states.specs.Inner.Adding.{AddsOffer}
 use Rattle.console_states.proofs.offers.add_offers.Goals as goal
 
-pub loop-code-init : goal.loop-code-init
-loop-code-init c = search (rules, adds-none)
+pub loop-key-init : goal.loop-key-init
+loop-key-init c = search (rules, adds-none)
 
-pub loop-code-preserved : goal.loop-code-preserved
-loop-code-preserved c = search (rules, offers-more)
+pub loop-key-preserved : goal.loop-key-preserved
+loop-key-preserved c =
+    let u = under_of c.args.maps.now in
+    let s = state_of c.args.held.now in
+    let keys = c.args.keys.now in
+    offers-more u s keys c.loop-key.key-index c.args.accents.now.items c.loop-key.accents.items
+    c.add_offer.new.accents.items c.loop-key.invariant
+    (subst (λ k. AddsOffer u s k c.loop-key.accents.items c.add_offer.new.accents.items)
+    (get_or_read_under keys c.loop-key.key-index (length keys) c.key-item.result 0 c.key-item.is c.loop-key-test.true
+    refl) c.in_ok-add_offer.ensures)
 
 pub returns : goal.returns
-returns c = search rules
+returns c =
+    let u = under_of c.args.maps.now in
+    let s = state_of c.args.held.now in
+    let keys = c.args.keys.now in
+    let e : c.loop-key.key-index ≡ length keys = omega (arith, c.loop-key-test.false, c.loop-key.auto.key-index-end) in
+    offers-all u s keys 128 c.args.accents.now.items c.loop-key.accents.items c.requires
+    (subst (λ n. AddsOffersOf u s keys n c.args.accents.now.items c.loop-key.accents.items) e c.loop-key.invariant)

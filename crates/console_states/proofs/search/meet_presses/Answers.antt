@@ -1,7 +1,7 @@
 use Rattle.console_states.proofs.Common.{get_or, length, subst, refl, below_more, arith, get_or_read_under, state_of}
 use Rattle.console_states.proofs.Common.{under_of, PressesLead, StepsTo, IsMetBy}
 use Rattle.console_states.proofs.Growing.{added-again, met-grows}
-use Rattle.console_states.proofs.MovingKeys.{all-pressed}
+use Rattle.console_states.proofs.KeyLists.{all-pressed}
 use Rattle.console_states.proofs.Searching.{presses-map, presses-met, steps-to}
 use Rattle.console_states.proofs.search.meet_presses.Goals as goal
 

@@ -1,7 +1,8 @@
 use Rattle.console_states.proofs.Common.{◌≡◌, length, get_or, ap, subst, ◌∙◌, refl, below_more, arith}
-use Rattle.console_states.proofs.Common.{get_or_read_under, IsUnmoving, Char}
+use Rattle.console_states.proofs.Common.{get_or_read_under, Char}
+use Rattle.console_states.specs.Inner.KeyLists.{IsOther}
 use Rattle.keymap_core.specs.Maps.{entry_at}
-use Rattle.console_states.proofs.moving_keys.moves_in_slot.Goals as goal
+use Rattle.console_states.proofs.key_lists.has_in_slot.Goals as goal
 
 pub loop-cell-preserved : goal.loop-cell-preserved
 loop-cell-preserved c =
@@ -12,7 +13,8 @@ loop-cell-preserved c =
     let same : cells ≡ (entry_at c.args.map.now c.args.slot).cells =
     c.cells-cell-items.ensures.cells ∙ ap (λ x. x.cells) c.entry.ensures in
     below_more _ _ c.loop-cell.invariant
-    (subst IsUnmoving (read ∙ ap (λ xs. get_or xs n (Char 0)) same) (c.is_moving.ensures c.if-is_moving.false))
+    (subst (IsOther c.args.kind) (read ∙ ap (λ xs. get_or xs n (Char 0)) same)
+    (c.is_of_kind.ensures c.if-is_of_kind.false))
 
 pub returns : goal.returns
 returns c =

@@ -2,6 +2,7 @@ pub mod Alike
 pub mod Apart
 pub mod Bases
 pub mod BothWays
+pub mod CanShow
 pub mod Clearing
 pub mod Common
 pub mod Ending

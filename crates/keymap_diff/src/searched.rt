@@ -62,7 +62,8 @@ impl Searched {
         ensures { IfOk result (λ x. IsSearched both.now.old.now both.now.new.now (map state_of origins.now) pending x) }
     {
         let (met, end) = meet_all(alloc, &both.maps(), origins)?;
-        let shown = both.first_showing(&met, pending);
+        let keys = both.keys_showing(alloc, pending)?;
+        let shown = both.first_showing(&met, pending, keys.as_slice());
         let reach = reach(&met, end, &shown);
         Ok(Searched {
             met,

@@ -1,20 +1,22 @@
 //! What a press of a key shows of the difference of two keymaps.
-ghost use Rattle.std.specs.Prelude.{◌≡◌, ◌<◌, ◌^◌, ℕ, None, Some, true, false, length, IfSome, MatchOption};
+ghost use Rattle.std.specs.Prelude.{◌≡◌, ◌<◌, ◌^◌, ℕ, None, Some, true, false, length, IfOk, IfSome, MatchOption};
 ghost use Rattle.keymap_core.specs.Maps.{accent_at};
 ghost use Rattle.keymap_core.specs.Numbers.{key_count};
 ghost use Rattle.console_core.specs.Answers.{composed_by};
-ghost use Rattle.console_states.specs.Moves.{Holds, IsIdle, alone};
+ghost use Rattle.console_states.specs.Moves.{Holds, IsIdle, State, alone};
 ghost use Rattle.console_states.specs.Searching.{state_of, under_of};
 ghost use Rattle.keymap_diff.specs.Inner.Showing.{AreCellsAlike, IsFirstShown, IsUnnoticed, MakesSame, NoneShows};
 ghost use Rattle.keymap_diff.specs.Inner.Showing.{ArePlain, NoneShowsBelow, NoneShowsPlain, Shows, ShowsNothing};
+ghost use Rattle.keymap_diff.specs.Inner.Showing.{AreShowing, IsClear, IsSlotClear};
 ghost use Rattle.keymap_diff.specs.Telling.{IsPlain};
 
 use crate::compared::have_same_results;
 use console_core::is_usable;
 use console_states::{Held, Keymaps, Met, entry};
 use keymap_core::{
-    Action, Cell, KEY_COUNT, KeyCode, KeyMap, Keymap, MODIFIERS, Modifier, key_with,
+    Action, COLUMN_COUNT, Cell, KEY_COUNT, KeyCode, KeyMap, Keymap, MODIFIERS, Modifier, key_with,
 };
+use std::alloc::{AllocError, Global};
 
 /// Two keymaps that are told apart.
 #[derive(Clone, Copy)]
@@ -169,15 +171,75 @@ impl<'a> Both<'a> {
         }
     }
 
-    /// The first key that does.
-    fn key_showing(&self, held: &Held, pending: Option<u8>) -> Option<KeyCode>
+    /// Whether a press that looks up the cells can show it in some state.
+    fn can_show(&self, pending: Option<u8>, old: &Cell, new: &Cell) -> bool
+        ensures { result ≡ false → IsClear self.now.old.now self.now.new.now pending old.now new.now }
+    {
+        match pending {
+            None => !self.are_alike(old, new),
+            Some(accent) => match old {
+                Cell::Char(c) => !self.makes_alike(accent, *c),
+                Cell::Act(Action::DeadKey(other)) => {
+                    other.get() == accent && !self.makes_alike(accent, ' ')
+                }
+                Cell::Act(_) => false,
+            },
+        }
+    }
+
+    /// Whether a press that looks up the slot can.
+    fn can_show_in_slot(&self, pending: Option<u8>, slot: u8) -> bool
+        ensures { result ≡ false → IsSlotClear self.now.old.now self.now.new.now pending slot }
+    {
+        let old = self.old.entry(slot);
+        let new = self.new.entry(slot);
+        if old.flag != new.flag {
+            return true;
+        }
+        for column in 0..COLUMN_COUNT {
+            if self.can_show(pending, &old.cells[column], &new.cells[column]) {
+                return true;
+            }
+        }
+        false
+    }
+
+    /// Whether a press of the key can.
+    fn can_key_show(&self, pending: Option<u8>, key: KeyCode) -> bool
+        ensures { result ≡ false
+            → (s : State) → ShowsNothing self.now.old.now self.now.new.now pending s key }
+    {
+        self.can_show_in_slot(pending, key.get())
+            || self.can_show_in_slot(pending, key.get() + KEY_COUNT as u8)
+    }
+
+    /// The keys whose presses can show it in some state, in their order.
+    pub(crate) fn keys_showing(
+        &self,
+        alloc: Global,
+        pending: Option<u8>,
+    ) -> Result<Vec<KeyCode>, AllocError>
+        ensures { IfOk result (λ keys. AreShowing self.now.old.now self.now.new.now pending keys.items key_count) }
+    {
+        let mut keys = Vec::new(alloc);
+        for code in 0..KEY_COUNT as u8 {
+            let key = key_with(code);
+            if self.can_key_show(pending, key) {
+                keys.push(key)?;
+            }
+        }
+        Ok(keys)
+    }
+
+    /// The first of these keys that does.
+    fn key_showing(&self, held: &Held, pending: Option<u8>, keys: &[KeyCode]) -> Option<KeyCode>
+        requires { AreShowing self.now.old.now self.now.new.now pending keys.now key_count }
         ensures { MatchOption result (NoneShows self.now.old.now self.now.new.now pending (state_of held.now))
             (λ k. (k < key_count) × Shows self.now.old.now self.now.new.now pending (state_of held.now) k) }
     {
-        for code in 0..KEY_COUNT as u8 {
-            let key = key_with(code);
-            if self.shows(held, pending, key) {
-                return Some(key);
+        for key in keys {
+            if self.shows(held, pending, *key) {
+                return Some(*key);
             }
         }
         None
@@ -211,8 +273,14 @@ impl<'a> Both<'a> {
         None
     }
 
-    /// The first place where a key does.
-    pub(crate) fn first_showing(&self, met: &Met, pending: Option<u8>) -> Option<Shown>
+    /// The first place where one of these keys does.
+    pub(crate) fn first_showing(
+        &self,
+        met: &Met,
+        pending: Option<u8>,
+        keys: &[KeyCode],
+    ) -> Option<Shown>
+        requires { AreShowing self.now.old.now self.now.new.now pending keys.now key_count }
         ensures small { IfSome result (λ at. at.place < 2 ^ 63) }
         ensures first { MatchOption result
             (NoneShowsBelow self.now.old.now self.now.new.now pending met.now.entries (length met.now.entries))
@@ -220,7 +288,7 @@ impl<'a> Both<'a> {
     {
         for place in 0..met.len() {
             let (held, _) = entry(met, place);
-            if let Some(key) = self.key_showing(&held, pending) {
+            if let Some(key) = self.key_showing(&held, pending, keys) {
                 return Some(Shown { place, key });
             }
         }

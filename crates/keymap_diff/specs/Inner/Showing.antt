@@ -1,11 +1,12 @@
 -- What a press of a key and its release show of the difference of two keymaps. Mirrors src/showing.rt.
 use Rattle.std.specs.Prelude.{◌≡◌, ◌≢◌, ◌⊎◌, ℕ, ◌+◌, ◌<◌, List, Option, Some, None, slice_get}
+use Rattle.std.specs.List.{Contains}
 use Rattle.keymap_core.specs.declared.action.Action.TheVariants as act
 use Rattle.keymap_core.specs.declared.action.Modifier.{Modifier}
 use Rattle.keymap_core.specs.declared.entry.Cell.{Cell}
 use Rattle.keymap_core.specs.declared.entry.Cell.TheVariants.{Char, Act}
-use Rattle.keymap_core.specs.Maps.{MapValue, accent_at}
-use Rattle.keymap_core.specs.Numbers.{key_count}
+use Rattle.keymap_core.specs.Maps.{MapValue, accent_at, cell_at, entry_at}
+use Rattle.keymap_core.specs.Numbers.{key_count, column_count}
 use Rattle.console_core.specs.Answers.{composed_by, usable}
 use Rattle.console_states.specs.Moves.{State, alone, Holds, IsIdle, IsPath, IsPathFrom, state_after, state_from}
 use Rattle.console_states.specs.Moves.{presses_along}
@@ -52,6 +53,27 @@ Shows m n None s k =
     × (IsIdle s k
     ⊎ ((i : Modifier) × Holds s k i × (IsUnnoticed i (looked_up m s k) → IsUnnoticed i (looked_up n s k) → ⊥)))
 Shows m n (Some i) s k = (c : ℕ) × Gives m i s k c × (MakesSame m n i c → ⊥)
+
+-- The accent is put on the character by a press that looks up the cell, which is that or the accent's dead key.
+abbrev pub GivesBy : ℕ → Cell → ℕ → Type 0
+GivesBy i x c = (x ≡ Char c) ⊎ ((x ≡ Act (act.DeadKey i)) × (c ≡ 32))
+
+-- a press that looks up the cells shows nothing, whatever key holds what
+abbrev pub IsClear : MapValue → MapValue → Option ℕ → Cell → Cell → Type 0
+IsClear m n None x y = AreCellsAlike m n x y
+IsClear m n (Some i) x y = (c : ℕ) → GivesBy i x c → MakesSame m n i c
+
+-- nor does any that looks up the slot
+abbrev pub IsSlotClear : MapValue → MapValue → Option ℕ → ℕ → Type 0
+IsSlotClear m n p slot =
+    ((entry_at m slot).flag ≡ (entry_at n slot).flag)
+    × ((column : ℕ) → column < column_count → IsClear m n p (cell_at m slot column) (cell_at n slot column))
+
+-- each key below the number that shows something in some state is among these, and these are below it
+abbrev pub AreShowing : MapValue → MapValue → Option ℕ → List ℕ → ℕ → Type 0
+AreShowing m n p keys b =
+    ((k : ℕ) → k < b → Contains keys k ⊎ ((s : State) → ShowsNothing m n p s k))
+    × ((k : ℕ) → Contains keys k → k < b)
 
 -- no key shows anything in the state
 abbrev pub NoneShows : MapValue → MapValue → Option ℕ → State → Type 0

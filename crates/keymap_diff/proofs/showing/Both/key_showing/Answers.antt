@@ -1,11 +1,29 @@
-use Rattle.std.proofs.Common.{below_more, subst, refl}
+use Rattle.std.proofs.Common.{below_more, subst, refl, arith, length}
+use Rattle.std.proofs.lemmas.List.{get_or_read_under}
 use Rattle.console_states.specs.Searching.{state_of}
 use Rattle.keymap_diff.specs.Inner.Showing.{ShowsNothing}
+use Rattle.keymap_diff.proofs.CanShow.{none-of, showing-below}
 use Rattle.keymap_diff.proofs.showing.Both.key_showing.Goals as goal
 
-pub loop-code-preserved : goal.loop-code-preserved
-loop-code-preserved c =
-    below_more _ _ c.loop-code.invariant
+pub loop-key-preserved : goal.loop-key-preserved
+loop-key-preserved c =
+    below_more _ _ c.loop-key.invariant
     (subst
     (λ z. ShowsNothing c.args.self.now.old.now c.args.self.now.new.now c.args.pending (state_of c.args.held.now) z)
-    c.key_with-key.ensures (c.if-shows.ensures.nothing refl))
+    (get_or_read_under c.args.keys.now c.loop-key.key-index (length c.args.keys.now) c.key-item.result 0 c.key-item.is
+    c.loop-key-test.true refl) (c.if-shows.ensures.nothing refl))
+
+pub returns : goal.returns
+returns c =
+    none-of c.args.self.now.old.now c.args.self.now.new.now c.args.pending c.args.keys.now (state_of c.args.held.now)
+    c.requires (λ j lt. c.loop-key.invariant j (omega (arith, lt, c.loop-key-test.false)))
+
+pub returns-then-shows : goal.returns-then-shows
+returns-then-shows c =
+    let keys = c.args.keys.now in (
+      showing-below c.args.self.now.old.now c.args.self.now.new.now c.args.pending keys 128 c.loop-key.key-index
+          c.key-item.result c.requires c.loop-key-test.true
+          (get_or_read_under keys c.loop-key.key-index (length keys) c.key-item.result 0 c.key-item.is
+          c.loop-key-test.true refl),
+      c.if-shows.ensures.shown refl,
+    )

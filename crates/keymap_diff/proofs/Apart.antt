@@ -129,6 +129,15 @@ cells-told m n x at q wants s same z here count key shows settled h events t scr
     (told-cells m n (events_along r.0 ++ []) (state_after (alone m) r.0) at.key placed shown)
     (presses-on r.0 [] ∙ omega (arith, few)) t there)
 
+-- and where something shows by plain cells at the start
+pub start-told : (m n : MapValue) (k : ℕ) → k < 128 → Shows m n None start k → ArePlain m n start k → (t : Telling)
+    → IsScript m n [] k t → IsFoundBy m n t (Some 0) false
+start-told m n k key shows plain t script =
+    let clear : AreCellsClear m n 0 = λ path is lt. absurd (omega (arith, lt)) in
+    let placed : Placed m n [] start None = placed-path m n 0 [] clear tt (omega arith) in
+    script-found m n [] start None k 0 false placed clear (inl plain) t script
+    (script-told m n [] start None k 0 placed key (told-cells m n [] start k placed shows) refl t script)
+
 -- paths in two parts
 pub path-join : (u : Under) (s : State) (later before : List Move) → IsPathFrom u s before
     → IsPathFrom u (state_from u s before) later → IsPathFrom u s (later ++ before)

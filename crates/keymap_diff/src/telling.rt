@@ -196,12 +196,17 @@ fn with_accent(
     }
 }
 
-/// Decides whether any list of presses, releases and resets tells two keymaps apart, and by how few presses.
+/// Decides whether any list of presses, releases and resets tells two keymaps apart, and by how few presses. Where one
+/// press at the start does by plain cells, nothing is nearer, and no search is made.
 pub fn telling_apart(alloc: Global, old: &KeyMap, new: &KeyMap) -> Result<Telling, AllocError>
     ensures { IfOk result (λ answer. IsTelling old.now new.now answer) }
 {
     let both = Both { old, new };
-    let searched = Searched::from(alloc, &both, &[Held::start()], None)?;
+    let start = Held::start();
+    if let Some(key) = both.plain_key(&start) {
+        return tell(&both, Vec::new(alloc), key);
+    }
+    let searched = Searched::from(alloc, &both, &[start], None)?;
     let mut nearest = by_cells(alloc, &both, &searched)?;
     for accent in 0..old.n_accs() {
         nearest = with_accent(alloc, &both, &searched.met, accent, nearest)?;

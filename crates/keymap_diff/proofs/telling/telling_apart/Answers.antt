@@ -3,11 +3,13 @@ use Rattle.keymap_diff.proofs.Common.{◌≡◌, ℕ, ◌<◌, ◌≤◌, true, 
 use Rattle.keymap_diff.proofs.Common.{sym, subst, arith, cases_lt, true≢false, slice_get_within, MapValue}
 use Rattle.keymap_diff.proofs.Common.{AreCellsClear, IsAccentClear, usable, IsAdmitted, TellsApart, presses, Event}
 use Rattle.console_states.proofs.Searching.{place_last}
-use Rattle.keymap_diff.proofs.Common.{Bool, false, ◌+◌, reverse}
+use Rattle.keymap_diff.proofs.Common.{ArePlain, Bool, Shows, false, ◌+◌, reverse}
 use Rattle.keymap_diff.proofs.Alike.{below, plain-below}
+use Rattle.keymap_diff.proofs.Apart.{start-told}
 use Rattle.keymap_diff.proofs.Clearing.{searched-near}
+use Rattle.keymap_diff.proofs.Offers.{if-ok}
 use Rattle.keymap_diff.specs.Telling.{IsPlainIfAny, IsTelling}
-use Rattle.keymap_diff.specs.Inner.Searches.{IsFoundBy, IsSearched, IsSettled, IsWithin, bound_by}
+use Rattle.keymap_diff.specs.Inner.Searches.{IsFoundBy, IsScript, IsSearched, IsSettled, IsWithin, bound_by}
 use Rattle.keymap_diff.specs.declared.telling.Telling.{Telling}
 use Rattle.keymap_diff.specs.declared.telling.Telling.TheVariants.{Told, Never, Undecided}
 use Rattle.keymap_diff.proofs.telling.telling_apart.Goals as goal
@@ -64,7 +66,7 @@ found-tells m n x limit wants found accents = by x wants found (λ b is. accents
 pub with_accent-requires-clause-near : goal.with_accent-requires-clause-near
 with_accent-requires-clause-near c = λ b is.
     searched-near c.args.old.now c.args.new.now c.in_ok-searched.searched
-    (subst (λ z. IsSearched c.args.old.now c.args.new.now (z ∷ []) None c.in_ok-searched.searched) c.start.ensures
+    (subst (λ z. IsSearched c.args.old.now c.args.new.now (z ∷ []) None c.in_ok-searched.searched) c.start-start.ensures
     c.in_ok-searched.ensures)
     b (c.loop-accent.invariant.1 b is)
 
@@ -91,3 +93,17 @@ returns c =
           absurd (past-unusable m i (omega (arith, past, c.loop-accent-test.false, c.n_accs-accent-end.ensures.value))
           offered.0)
     ])
+
+pub returns-in-Some : goal.returns-in-Some
+returns-in-Some c =
+    let m = c.args.old.now in
+    let n = c.args.new.now in
+    let k = c.in-Some.key in
+    let (key, shows, plain) = c.in-Some.ensures in
+    if-ok (λ (x : Telling). IsScript m n (reverse c.new.result.items) k x) (λ (x : Telling). IsTelling m n x)
+    (λ x script. found-tells m n x (Some 0) false
+    (start-told m n k key (subst (λ s. Shows m n None s k) c.start-start.ensures shows)
+    (subst (λ s. ArePlain m n s k) c.start-start.ensures plain) x
+    (subst (λ es. IsScript m n (reverse es) k x) c.new.ensures.items script))
+    (λ b is i before later made offered to lt. absurd (omega (arith, lt, is))))
+    c.tell.result c.tell.ensures

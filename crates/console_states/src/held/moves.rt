@@ -379,6 +379,7 @@ impl Held {
         ensures leads { (k : ℕ) → Holds (state_of self.now) k modifier
             → StepsTo result (with_holder_in (state_of self.now) modifier None) }
         ensures step { (u : Under) → IfSome result (IsStep u (state_of self.now) 0) }
+        ensures none { (state_of self.now).holder modifier ≡ None → result ≡ None }
     {
         match self.holder(modifier) {
             Some(key) => Some(Step {

@@ -396,6 +396,7 @@ impl Held {
         ensures leads { IsMove (under_of maps.now) (state_of self.now) ExchangeMove
             → StepsTo result (moved (under_of maps.now) (state_of self.now) ExchangeMove) }
         ensures step { IfSome result (IsStep (under_of maps.now) (state_of self.now) 0) }
+        ensures none { (IsMove (under_of maps.now) (state_of self.now) ExchangeMove → ⊥) → result ≡ None }
     {
         if maps.has_loads && self.is_free() {
             Some(Step {

@@ -153,6 +153,13 @@ presses_of (Turn k l) = 1
 presses_of (LetGo k i) = 0
 presses_of Exchange = 0
 
+-- the move begins with a press of the key
+abbrev pub IsPressOf : ℕ → Move → Type 0
+IsPressOf k (Hold j i) = j ≡ k
+IsPressOf k (Turn j l) = j ≡ k
+IsPressOf k (LetGo j i) = ⊥
+IsPressOf k Exchange = ⊥
+
 abbrev pub presses_along : List Move → ℕ
 presses_along [] = 0
 presses_along (move ∷ path) = presses_along path + presses_of move

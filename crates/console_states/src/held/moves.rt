@@ -14,7 +14,7 @@ ghost use Rattle.console_states.specs.Moves.{Under, start as start_state, is_hel
 ghost use Rattle.console_states.specs.Moves.{map_in, next_map, exchanged as exchanged_in, IsFree, free_with};
 ghost use Rattle.console_states.specs.Moves.{with_holder as with_holder_in, with_lock_turned, HolderForgets};
 ghost use Rattle.console_states.specs.Moves.{HaveSameLocks, IsForgetful, IsRepeated, IsSteady};
-ghost use Rattle.console_states.specs.Moves.{events_of_move, releases, Holds, IsMove, moved};
+ghost use Rattle.console_states.specs.Moves.{events_of_move, releases, Holds, IsMove, IsPressOf, moved};
 ghost use Rattle.console_states.specs.declared.held.Move.TheVariants.{Exchange as ExchangeMove};
 ghost use Rattle.console_states.specs.Sights.{selection_of, Offers};
 ghost use Rattle.console_states.specs.Returning.{IsHome, but_scroll, freed};
@@ -412,6 +412,7 @@ impl Held {
     pub fn pressed(&self, maps: &Keymaps, key: KeyCode) -> Option<Step>
         ensures leads { PressesLead (under_of maps.now) (state_of self.now) key (StepsTo result) }
         ensures step { IfSome result (IsStep (under_of maps.now) (state_of self.now) 1) }
+        ensures key { IfSome result (λ x. IsPressOf key x.by) }
     {
         match self.look(maps, key) {
             Cell::Act(Action::Mod(modifier)) => {

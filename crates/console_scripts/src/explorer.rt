@@ -296,6 +296,7 @@ impl<'m> Explorer<'m> {
         ensures explorer { IfOk result (λ x. MatchOption x ((p : ℕ) × ReachesMoreThan (alone map.now) state_limit p)
             (λ p. (p.map ≡ map.now) × HasLocks map.now p.locks [])) }
         ensures states { IfOk result (λ x. IfSome x (λ p. AreStatesOf map.now p.states)) }
+        ensures aim { IfOk result (λ x. IfSome x (λ p. p.aim ≡ None)) }
     {
         let explored = explore(alloc, map, &Held::start())?;
         if explored.is_complete {

@@ -1,7 +1,7 @@
 //! Makes visits that show what presses can see: each leads from home to a state in which a press sees
 //! something, and to where a route leads home again.
 ghost use Rattle.std.specs.Prelude.{◌≡◌, ◌≢◌, ◌<◌, [], ℕ, false, true, None, Some, length, reverse, slice_get};
-ghost use Rattle.std.specs.Prelude.{OnOk, IfOk, IfSome, MatchOption};
+ghost use Rattle.std.specs.Prelude.{OnOk, OnErr, IfOk, IfSome, MatchOption};
 ghost use Rattle.keymap_core.specs.Maps.{MapValue};
 ghost use Rattle.keymap_core.specs.Numbers.{key_count};
 ghost use Rattle.console_states.specs.declared.held.Held.{Held as HeldValue};
@@ -354,6 +354,7 @@ impl<'m> Explorer<'m> {
         ensures kept { self.new.map ≡ self.old.map }
         ensures states { self.new.states ≡ self.old.states }
         ensures done { OnOk result (self.new.aim ≡ None) }
+        ensures refused { OnErr result (self.new ≡ self.old) }
         ensures visits { IfOk result (λ events. Visits self.old.map self.old.locks self.new.locks self.old.aim
             (reverse events.items)) }
     {

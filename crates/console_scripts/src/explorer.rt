@@ -354,6 +354,7 @@ impl<'m> Explorer<'m> {
         ensures kept { self.new.map ≡ self.old.map }
         ensures states { self.new.states ≡ self.old.states }
         ensures done { OnOk result (self.new.aim ≡ None) }
+        ensures none { IfOk result (λ events. self.old.aim ≡ None → (events.items ≡ []) × (self.new ≡ self.old)) }
         ensures refused { OnErr result (self.new ≡ self.old) }
         ensures visits { IfOk result (λ events. Visits self.old.map self.old.locks self.new.locks self.old.aim
             (reverse events.items)) }

@@ -12,10 +12,9 @@ use Rattle.console_scripts.proofs.Common.{freed, state_of, Entry}
 use Rattle.console_scripts.proofs.Common.{IsWhole, IsAfter, IsAt}
 use Rattle.console_scripts.proofs.Common.{locks_in, but_scroll, unscrolled}
 use Rattle.console_scripts.proofs.Common.{rules}
-use Rattle.console_states.specs.Sights.{SeesAlong}
 use Rattle.console_scripts.specs.declared.explored.KeyAt.{KeyAt}
 use Rattle.console_states.specs.Returning.{IsTurned}
-use Rattle.console_scripts.specs.Visiting.{HasLocks, Visits}
+use Rattle.console_scripts.specs.Visiting.{EndsSeeing, HasLocks, Visits}
 use Rattle.console_scripts.specs.Inner.Showing.{LeadsToSee, IsPressAt, IsRest, LeadsOn}
 use Rattle.console_states.specs.Inner.Standing.{free_after}
 use Rattle.console_states.proofs.Going.{going-sees, pending-is}
@@ -59,10 +58,9 @@ press-locks m s h l k after a is = (lock is Caps (λ e. cc), lock is Num (λ e. 
 
 -- the press at the end sees the sight
 press-sees : (m : MapValue) (s : State) (h l : List Event) (k : ℕ) (x : Sight) → IsAt m s h l
-    → SeesBy m (selection_of s) k x → IsPendingFor m (l ++ h) x → SeesAlong m (Press k ∷ (l ++ h)) x
+    → SeesBy m (selection_of s) k x → IsPendingFor m (l ++ h) x → EndsSeeing m h (Press k ∷ l) x
 press-sees m s h l k x a sees waits = (
-  [],
-  l ++ h,
+  l,
   k,
   refl,
   going-sees m (l ++ h) a.at [] k x a.stands tt

@@ -4,7 +4,7 @@ use Rattle.std.specs.Prelude.{◌≡◌, ◌⊎◌, ℕ, ◌<◌, Bool, false, L
 use Rattle.std.specs.List.{Contains}
 use Rattle.keymap_core.specs.Maps.{MapValue}
 use Rattle.keymap_core.specs.Numbers.{key_count}
-use Rattle.console_scripts.specs.Types.{Lock, Caps, Num, Scroll, Alt, Event, Move, Turn, Selection, Sight}
+use Rattle.console_scripts.specs.Types.{Lock, Caps, Num, Scroll, Alt, Event, Press, Move, Turn, Selection, Sight}
 use Rattle.console_states.specs.declared.held.Held.{Held}
 use Rattle.console_scripts.specs.declared.onward.Onward.{Onward}
 use Rattle.console_states.specs.declared.selection.Sight.TheVariants as sight
@@ -12,7 +12,7 @@ use Rattle.console_core.specs.History.{between, is_locked_after, HasKeys, HasNoL
 use Rattle.console_states.specs.Moves.{Under, alone, State, state_of, IsPath, state_after, IsPathFrom, state_from}
 use Rattle.console_states.specs.Moves.{events_along, free_with}
 use Rattle.console_states.specs.Returning.{IsHome, NoTurnIsOneWay, IsAfter, but_scroll, unscrolled}
-use Rattle.console_states.specs.Sights.{SeesBy, SeesAlong, CanPend, IsReachable, selection_of}
+use Rattle.console_states.specs.Sights.{SeesBy, SeesNext, CanPend, IsReachable, selection_of}
 use Rattle.console_states.specs.Sticking.{IsOfPressedKey, ReachesMoreThanFrom, state_limit}
 use Rattle.console_scripts.specs.Typing.{ComesHome}
 
@@ -42,13 +42,18 @@ abbrev pub AreTaken : List Event → List Event → Type 0
 AreTaken h [] = Unit {0}
 AreTaken h (e ∷ later) = IsNoLoad e × IsOfPressedKey e (later ++ h) × AreTaken h later
 
--- Behind each list without loads that leaves these locks on, the events are taken, leave those locks on, and what was
--- aimed at is seen, if it can be.
+-- The events, newest first, end with a press that sees the sight behind h.
+abbrev pub EndsSeeing : MapValue → List Event → List Event → Sight → Type 0
+EndsSeeing m h later x =
+    (before : List Event) × (k : ℕ) × (later ≡ Press k ∷ before) × SeesNext m (before ++ h) k x
+
+-- Behind each list without loads that leaves these locks on, the events are taken, leave those locks on, and end with a
+-- press that sees what was aimed at, if it can be seen.
 abbrev pub Visits : MapValue → Locks → Locks → Option Sight → List Event → Type 0
 Visits m before after aim later =
     (h : List Event) → HasKeys h → HasNoLoads h → HasLocks m before h
     → AreTaken h later × HasLocks m after (later ++ h)
-    × ((x : Sight) → aim ≡ Some x → IsReachable m x → SeesAlong m (later ++ h) x)
+    × ((x : Sight) → aim ≡ Some x → IsReachable m x → EndsSeeing m h later x)
 
 -- Where a press of the key in the state leads once all keys are let go, from there moves lead home.
 abbrev pub LeadsBack : Under → State → ℕ → Type 0

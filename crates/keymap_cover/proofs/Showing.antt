@@ -14,7 +14,7 @@ use Rattle.std.proofs.Math.Seq.{drop-append_seam, take-add}
 use Rattle.std.proofs.lemmas.List.{length-reverse, length-take-le, take_all}
 use Rattle.keymap_core.specs.declared.action.Lock.TheVariants.{Caps, Num, Scroll, Alt}
 use Rattle.console_core.specs.History.{HasNoLoads, IsNoLoad}
-use Rattle.console_scripts.specs.Visiting.{HasLocks, ExplorerValue, TurnsScrollOff, Visits}
+use Rattle.console_scripts.specs.Visiting.{EndsSeeing, HasLocks, ExplorerValue, TurnsScrollOff, Visits}
 use Rattle.keymap_cover.specs.Covering.{IsScrollOff}
 use Rattle.keymap_cover.specs.Inner.Scripts.{RunsAlong, IsScriptOf, IsUnderWay, SeesAll, ShowsTold}
 use Rattle.keymap_cover.specs.Inner.Scripts.{EndsAtRest, GoesScrollOff, IsResting}
@@ -44,6 +44,11 @@ sees-longer m h g x (more, is) (later, before, k, at, sees) =
     subst (λ z. SeesAlong m z x) (sym is)
     (more ++ later, before, k, ap (λ z. more ++ z) at ∙ sym (append_assoc more later _), sees)
 
+-- what the press sees that ends the events of a visit is seen along
+sees-ending : (m : MapValue) (h later : List Event) (x : Sight) → EndsSeeing m h later x → SeesAlong m (later ++ h) x
+sees-ending m h later x (before, k, is, sees) =
+    subst (λ z. SeesAlong m (z ++ h) x) (sym is) ([], before ++ h, k, refl, sees)
+
 -- what was seen once was seen later
 pub seen-still : {T : Type 0} (m : MapValue) (h g : List Event) (a b : Script T) (x : Sight) → IsScriptOf m h a
     → IsScriptOf m g b → ComesAfter h g → has_seen a.seen x ≡ true → has_seen b.seen x ≡ true
@@ -66,7 +71,8 @@ visit-goes s m p a q b later same visits walk up h ((at, ups, still), map, on) =
         (turns.1 Caps ∙ locks.0, turns.1 Num ∙ locks.1, turns.1 Alt ∙ locks.2),
       ),
       after,
-      (λ x aim can. run.1.all_seen x (sees-longer m (later ++ h) g x turns.0 (sees x aim can))),
+      (λ x aim can.
+          run.1.all_seen x (sees-longer m (later ++ h) g x turns.0 (sees-ending m h later x (sees x aim can)))),
     )
 
 -- the explorer aims at something else

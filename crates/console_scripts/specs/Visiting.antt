@@ -12,7 +12,7 @@ use Rattle.console_core.specs.History.{between, is_locked_after, HasKeys, HasNoL
 use Rattle.console_states.specs.Moves.{Under, alone, State, state_of, IsPath, state_after, IsPathFrom, state_from}
 use Rattle.console_states.specs.Moves.{events_along, free_with}
 use Rattle.console_states.specs.Returning.{IsHome, NoTurnIsOneWay, IsAfter, but_scroll, unscrolled}
-use Rattle.console_states.specs.Sights.{SeesBy, SeesNext, CanPend, IsReachable, selection_of}
+use Rattle.console_states.specs.Sights.{SeesBy, SeesNext, CanPend, IsReachable, selection_of, selection_after}
 use Rattle.console_states.specs.Sticking.{IsOfPressedKey, ReachesMoreThanFrom, state_limit}
 use Rattle.console_scripts.specs.Typing.{ComesHome}
 
@@ -22,13 +22,15 @@ pub record Locks : Type 0 where
   pub num : Bool
   pub alt : Bool
 
--- What an explorer tells: the keymap, the states that moves lead to, the locks that its events leave on, and what the
--- next visit aims at.
+-- What an explorer tells: the keymap, the states that moves lead to, the locks that its events leave on, what the next
+-- visit aims at, and what picks the cells where that leads and the key that is pressed there, if no dead key comes
+-- before.
 pub record ExplorerValue : Type 0 where
   pub map : MapValue
   pub states : List Held
   pub locks : Locks
   pub aim : Option Sight
+  pub press : Option (Selection × ℕ)
 
 -- the locks are on after the list as told
 abbrev pub HasLocks : MapValue → Locks → List Event → Type 0
@@ -54,6 +56,13 @@ Visits m before after aim later =
     (h : List Event) → HasKeys h → HasNoLoads h → HasLocks m before h
     → AreTaken h later × HasLocks m after (later ++ h)
     × ((x : Sight) → aim ≡ Some x → IsReachable m x → EndsSeeing m h later x)
+
+-- Behind each list without loads that leaves these locks on, the events, newest first, end with the press of the key,
+-- where the selection is the one that is told.
+abbrev pub EndsAsTold : MapValue → Locks → Option (Selection × ℕ) → List Event → Type 0
+EndsAsTold m before press later =
+    (p : Selection × ℕ) → press ≡ Some p → (h : List Event) → HasKeys h → HasNoLoads h → HasLocks m before h
+    → (earlier : List Event) × (later ≡ Press p.1 ∷ earlier) × (selection_after m (earlier ++ h) ≡ p.0)
 
 -- Where a press of the key in the state leads once all keys are let go, from there moves lead home.
 abbrev pub LeadsBack : Under → State → ℕ → Type 0

@@ -1,9 +1,10 @@
 -- How the events of a visit lead a console, step by step. Mirrors src/showing.rt and src/explorer.rt.
 use Rattle.std.specs.Prelude.{◌≡◌, ◌⊎◌, ℕ, ◌<◌, true, false, List, ◌++◌, Option, None, Some, slice_get, IfSome}
 use Rattle.std.specs.Map.{keys_of}
+use Rattle.std.specs.Option.{option_map}
 use Rattle.keymap_core.specs.Maps.{MapValue}
 use Rattle.keymap_core.specs.Numbers.{key_count}
-use Rattle.console_scripts.specs.Types.{Caps, Num, Scroll, Alt, Event, Sight, Turn}
+use Rattle.console_scripts.specs.Types.{Caps, Num, Scroll, Alt, Event, Selection, Sight, Turn}
 use Rattle.console_scripts.specs.declared.explored.Explored.{Explored}
 use Rattle.console_scripts.specs.declared.explored.KeyAt.{KeyAt}
 use Rattle.console_scripts.specs.declared.explorer.Aim.{Aim}
@@ -117,6 +118,17 @@ locks_in s = record { caps = s.is_locked Caps; num = s.is_locked Num; alt = s.is
 abbrev pub sight_aimed : Option Aim → Option Sight
 sight_aimed None = None
 sight_aimed (Some a) = Some a.sight
+
+-- what picks the cells at the place where the press is made that sees what is aimed at, and its key; nothing behind a
+-- dead key
+abbrev pub press_behind : Explored → KeyAt → Option KeyAt → Option (Selection × ℕ)
+press_behind e at (Some dead) = None
+press_behind e at None =
+    option_map (λ (y : Entry). (selection_of (state_of y.0), at.key)) (slice_get e.met.entries at.place)
+
+abbrev pub press_aimed : Explored → Option Aim → Option (Selection × ℕ)
+press_aimed e None = None
+press_aimed e (Some a) = press_behind e a.at a.dead
 
 -- nothing is held and the first map is in force, and a route home begins
 abbrev pub IsRest : Explored → State → Type 0

@@ -1,6 +1,6 @@
 use Rattle.console_scripts.proofs.Common.{◌∷◌, ◌++◌, [], reverse, ap, ◌∙◌, Press, Reset, map_of_explored, state_of}
 use Rattle.console_scripts.proofs.Common.{alone}
-use Rattle.console_scripts.proofs.Approaching.{visits}
+use Rattle.console_scripts.proofs.Approaching.{ends-told, visits}
 use Rattle.console_scripts.proofs.Leading.{home-leads}
 use Rattle.console_states.proofs.Looking.{push-reversed}
 use Rattle.console_scripts.proofs.explored.Explored.events_of.Goals as goal
@@ -14,13 +14,20 @@ returns c =
     let m = map_of_explored e in
     let s = state_of c.args.from.now in
     let aim = c.args.aim.now in
+    let next = state_of aim.next in
     let (moves, home, events) = c.in_ok-come_home.ensures (alone m) c.requires.explored.0.home in
+    let a = reverse c.push.new.self.items in
+    let b = reverse c.come_home.new.events.items in
+    let there = reverse c.approach.new.events.items in
+    let now = reverse c.push-2.new.self.items in
     let begun =
     ap reverse c.in_ok-push.ensures.items ∙ ap (λ z. reverse (z ++ Reset ∷ [])) c.new-events.ensures.items in
-    visits e c.requires.explored s (state_of aim.next) c.requires.from aim.sight aim.at c.requires.aim.0
-    (reverse c.push.new.self.items) (reverse c.come_home.new.events.items) (reverse c.approach.new.events.items)
-    (reverse c.push-2.new.self.items) begun
-    (home-leads m s moves c.requires.from.1 home (reverse c.push.new.self.items)
-    (reverse c.come_home.new.events.items) events)
-    c.in_ok-approach.ensures
-    (ap reverse c.in_ok-push-2.ensures.items ∙ push-reversed c.approach.new.events.items (Press aim.at.key))
+    let back = home-leads m s moves c.requires.from.1 home a b events in
+    let on = c.in_ok-approach.ensures in
+    let last =
+    ap reverse c.in_ok-push-2.ensures.items ∙ push-reversed c.approach.new.events.items (Press aim.at.key) in (
+      visits e c.requires.explored s next c.requires.from aim.sight aim.at c.requires.aim.0 a b there now begun back on
+          last,
+      ends-told e c.requires.explored s next c.requires.from aim.sight aim.at aim.dead c.requires.aim.0 a b there now
+          begun back on last,
+    )

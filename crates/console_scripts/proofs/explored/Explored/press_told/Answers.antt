@@ -4,15 +4,15 @@ use Rattle.console_scripts.specs.Visiting.{IsPair}
 use Rattle.console_scripts.proofs.Visitable.{dead-pair, no-pair}
 use Rattle.console_scripts.proofs.explored.Explored.press_told.Goals as goal
 
-pub returns-in-Some : goal.returns-in-Some
-returns-in-Some c =
+pub returns-in-Some-clause-told : goal.returns-in-Some-clause-told
+returns-in-Some-clause-told c =
     let e = c.args.self.now in
     let x = c.args.aim.now.sight in
     λ y same. subst IsPair (same_Some x y same)
     (dead-pair e x _ (subst (λ o. IsDeadFor e x o) c.in-Some.is c.requires.1))
 
-pub returns-in-None : goal.returns-in-None
-returns-in-None c =
+pub returns-in-None-clause-told : goal.returns-in-None-clause-told
+returns-in-None-clause-told c =
     let e = c.args.self.now in
     let x = c.args.aim.now.sight in
     let (y, at, lt, sees, after, route) = c.requires.0 in (

@@ -23,8 +23,8 @@ pub use Rattle.keymap_cover.specs.Told.{IsTold}
 pub use Rattle.keymap_cover.specs.declared.script_event.ScriptEvent.{ScriptEvent}
 pub use Rattle.keymap_cover.specs.declared.script.Script.{Script}
 pub use Rattle.std.proofs.Common.{Bool, Err, List, None, Ok, Option, Result, Some, [], ap, append_assoc, arith, false}
-pub use Rattle.std.proofs.Common.{get_or, if◌then◌else◌, inl, inr, length, map, not, refl, reverse, rules, subst, sym}
-pub use Rattle.std.proofs.Common.{take, true, ℕ, ◌++◌, ◌+◌, ◌<◌, ◌∙◌, ◌∷◌, ◌≡◌, ◌≤◌, ◌⊎◌}
+pub use Rattle.std.proofs.Common.{filter, get_or, if◌then◌else◌, inl, inr, length, map, not, refl, reverse, rules}
+pub use Rattle.std.proofs.Common.{subst, sym, take, true, ℕ, ◌++◌, ◌+◌, ◌<◌, ◌∙◌, ◌∷◌, ◌≡◌, ◌≤◌, ◌⊎◌}
 pub use Rattle.std.proofs.Math.Bool.{and-false}
 pub use Rattle.std.proofs.lemmas.Bool.{eq-eqb, eqb-true, true≢false}
 pub use Rattle.std.proofs.lemmas.List.{get_or_default, reverse-append}

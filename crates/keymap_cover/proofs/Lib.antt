@@ -1,7 +1,10 @@
 mod Common
+mod Ahead
 mod Covered
+pub mod Left
 pub mod Listed
 pub mod Marking
+pub mod Onward
 pub mod Showing
 pub mod Telling
 pub mod Scripts

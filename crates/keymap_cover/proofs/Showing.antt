@@ -17,14 +17,14 @@ use Rattle.console_core.specs.History.{HasNoLoads, IsNoLoad}
 use Rattle.console_scripts.specs.Visiting.{EndsSeeing, HasLocks, ExplorerValue, TurnsScrollOff, Visits}
 use Rattle.keymap_cover.specs.Covering.{IsScrollOff}
 use Rattle.keymap_cover.specs.Inner.Scripts.{RunsAlong, IsScriptOf, IsUnderWay, SeesAll, ShowsTold}
-use Rattle.keymap_cover.specs.Inner.Scripts.{EndsAtRest, GoesScrollOff, IsResting}
+use Rattle.keymap_cover.specs.Inner.Scripts.{EndsAtRest, GoesScrollOff, GoesToEnd, IsResting}
 use Rattle.keymap_cover.proofs.Telling.{all-told, key-told}
 use Rattle.keymap_cover.proofs.Scripts.{at-rest_new}
 use Rattle.keymap_cover.proofs.Walking.{after-more}
 use Rattle.keymap_cover.specs.declared.script_event.ScriptEvent.TheVariants as script_event
 
 -- events make no loads
-events-loads : (xs : List ScriptEvent) → HasNoLoads (events_of xs)
+pub events-loads : (xs : List ScriptEvent) → HasNoLoads (events_of xs)
 events-loads [] = All-nil IsNoLoad
 events-loads (script_event.Down k ∷ xs) = All-cons IsNoLoad (event_of (script_event.Down k)) (events_of xs) refl
     (events-loads xs)
@@ -39,7 +39,7 @@ pub script-loads : {T : Type 0} (m : MapValue) (h : List Event) (t : Script T) �
 script-loads m h t script = subst HasNoLoads script.history (events-loads (reverse t.events.items))
 
 -- what is seen along a list is seen along a longer one
-sees-longer : (m : MapValue) (h g : List Event) (x : Sight) → ComesAfter h g → SeesAlong m h x → SeesAlong m g x
+pub sees-longer : (m : MapValue) (h g : List Event) (x : Sight) → ComesAfter h g → SeesAlong m h x → SeesAlong m g x
 sees-longer m h g x (more, is) (later, before, k, at, sees) =
     subst (λ z. SeesAlong m z x) (sym is)
     (more ++ later, before, k, ap (λ z. more ++ z) at ∙ sym (append_assoc more later _), sees)
@@ -265,18 +265,18 @@ walks-off s m later h a b at walk up (taken, off) =
 -- what is told of is seen, and then the script goes further, and onward
 pub script-whole : {T : Type 0} (s : Standing T) (m : MapValue) (p : ExplorerValue) (a : Script T) (q : ExplorerValue)
     (b d e : Script T) (n : ℕ) → IsUnderWay m s [] p a → GoesUnderWay m s p a q b (ShowsTold m n b)
-    → GoesScrollOff m s b d → GoesScrollOff m s d e
+    → GoesScrollOff m s b d → GoesToEnd m s d e
     → EndsAtRest m e × SeesKeysBy m e.events.items n × SeesToldBy m e.events.items (length b.events.items)
     × (n ≤ length b.events.items) × (length b.events.items ≤ length d.events.items)
     × (length d.events.items ≤ length e.events.items)
 script-whole s m p a q b d e n new shown further onward =
     let (g, w, after, (le, keys, told)) = shown [] new in
     let (f, resting, more, scrolled) = further g w.0 in
-    let (k, (end, ups, still), last, off) = onward f resting in
+    let (k, (end, ups, still), last, off, ahead) = onward f resting in
     let all = after-more g f k more last in
     let same = first-still m g k b e n w.0.0.1 end.1 all le in
     let same_all = first-still m g k b e (length b.events.items) w.0.0.1 end.1 all (omega arith) in (
-      (ups, (k, end.1, still, off)),
+      (ups, (k, end.1, still, off, ahead)),
       (λ x has key can. subst (λ z. SeesAlong m z x) same (keys x has key can)),
       (λ x has can. subst (λ z. SeesAlong m z x) same_all (told x has can)),
       le,

@@ -12,9 +12,9 @@ use Rattle.console_states.specs.declared.selection.Sight.{Sight}
 use Rattle.console_core.specs.History.{between, is_on_after, is_locked_after, accent_pending_after, HasKeys, IsQuiet}
 use Rattle.console_states.specs.Moves.{alone}
 use Rattle.console_states.specs.Returning.{NoTurnIsOneWay}
-use Rattle.console_scripts.specs.Visiting.{CanVisit, CannotScroll, IsPair}
-use Rattle.console_states.specs.Sticking.{ReachesMoreThan, state_limit}
-use Rattle.console_states.specs.Sights.{SeesNext, SeesAlong, IsAdmitted, IsReachable, AreSightsOf, can_see}
+use Rattle.console_scripts.specs.Visiting.{CanVisit, CannotScroll, IsPair, SeesFrom, resting_after}
+use Rattle.console_states.specs.Sticking.{ReachesMoreThan, ReachesMoreThanFrom, state_limit}
+use Rattle.console_states.specs.Sights.{SeesNext, SeesAlong, IsAdmitted, IsClean, IsReachable, AreSightsOf, can_see}
 use Rattle.keymap_cover.specs.declared.parts.Cover.{Cover}
 use Rattle.keymap_cover.specs.declared.parts.Part.TheVariants.{Cells, Pairs}
 use Rattle.keymap_cover.specs.declared.parts.Start.{Start}
@@ -39,6 +39,11 @@ IsAtRest m h =
 -- The scroll lock is off, or presses can't turn it off: no moves lead from there to a press that turns it.
 abbrev pub IsScrollOff : MapValue → List Event → Type 0
 IsScrollOff m h = (is_locked_after (between m m) Scroll h ≡ false) ⊎ CannotScroll m h
+
+-- No moves lead from where the list ends to a press that sees it, or more states can be reached than are gone over.
+abbrev pub CannotSee : MapValue → List Event → Sight → Type 0
+CannotSee m h x =
+    SeesFrom m (resting_after m h) x → (p : ℕ) × ReachesMoreThanFrom (alone m) (resting_after m h) state_limit p
 
 -- what the first n events see of the cells and lock settings that can be visited: all of it
 abbrev pub SeesKeysBy : MapValue → List ScriptEvent → ℕ → Type 0
@@ -68,6 +73,9 @@ pub record Covers (m : MapValue) (c : Cover) : Type 0 where
   pub parts : AreParts c.starts.items (length c.events.items)
   -- nothing that is told of and can be visited is left out
   pub complete : (x : Sight) → IsTold m x → CanVisit m x → SeesAlong m (history c) x
+  -- at the end no moves lead to a press that sees one of the cells and lock settings that can be seen and were not
+  pub onward : (x : Sight) → IsTold m x → (IsPair x → ⊥) → IsReachable m x → (SeesAlong m (history c) x → ⊥)
+      → CannotSee m (history c) x
   -- before a part behind that of cells begins, each cell and lock setting that can be visited was seen; and before one
   -- behind that of pairs, each pair too
   pub cells : (s : Start) → Contains c.starts.items s → part_place Cells < part_place s.part
@@ -118,6 +126,13 @@ abbrev pub NothingIsLeftOut : Type 0
 NothingIsLeftOut =
     (m : MapValue) (c : Cover) → Covers m c → NoTurnIsOneWay m → (xs : List Sight) → All (IsTold m) xs
     → (counts_of (verdict_of m c) xs).left_out ≡ 0
+
+-- Where no press of the script makes a console forget a modifier, or none can, no moves lead from its end to a press
+-- that sees one of the cells and lock settings that it didn't see.
+abbrev pub NothingIsAhead : Type 0
+NothingIsAhead =
+    (m : MapValue) (c : Cover) → Covers m c → (c.sights.forgets ≡ true → IsClean (between m m) (history c))
+    → (x : Sight) → IsTold m x → (IsPair x → ⊥) → (SeesAlong m (history c) x → ⊥) → CannotSee m (history c) x
 
 -- the cover of the keymap, or the search gives up
 abbrev pub IsCover : MapValue → Option Cover → Type 0

@@ -2,3 +2,4 @@
 pub mod Scripts
 pub mod Pairs
 pub mod Adding
+pub mod OneWay

@@ -5,6 +5,7 @@ ghost use Rattle.console_core.specs.History.{between};
 ghost use Rattle.console_states.specs.Sights.{AreSightsOf, IsReachable};
 ghost use Rattle.console_scripts.specs.Visiting.{CanVisit};
 ghost use Rattle.keymap_cover.specs.Covering.{IsCover};
+ghost use Rattle.keymap_cover.specs.Inner.OneWay.{is_left};
 ghost use Rattle.keymap_cover.specs.Inner.Scripts.{EndsAtRest, GoesScrollOff, GoesUnderWay, IsExplorerFor};
 ghost use Rattle.keymap_cover.specs.Inner.Scripts.{SeesAll, ShowsInParts, ShowsTold};
 ghost use Rattle.keymap_cover.specs.SeenSights.{has_seen};
@@ -32,6 +33,7 @@ pub(crate) fn is_left_out(seen: &Seen, sights: &Sights, map: &KeyMap, sight: Sig
         → has_seen seen.now sight ≡ true }
     ensures some { AreSightsOf map.now sights.now → result ≡ true → IsReachable map.now sight
         × (has_seen seen.now sight ≡ false) }
+    ensures value { result ≡ is_left map.now seen.now sights.now sight }
 {
     !seen.has(sight) && sights.can_see(map, sight)
 }

@@ -1,6 +1,11 @@
 //! What only turns of locks lead to that can't be taken back.
-ghost use Rattle.std.specs.Prelude.{OnOk};
-ghost use Rattle.keymap_cover.specs.Inner.Scripts.{GoesResting, GoesScrollOff};
+ghost use Rattle.std.specs.Prelude.{◌≡◌, ◌∷◌, ◌++◌, [], filter, not, IfOk, OnOk};
+ghost use Rattle.console_core.specs.declared.event.Event.TheVariants.{Press, Reset};
+ghost use Rattle.console_states.specs.Sights.{AreSightsOf};
+ghost use Rattle.keymap_cover.specs.SeenSights.{has_seen};
+ghost use Rattle.keymap_cover.specs.SightLists.{all_cells, all_lock_settings};
+ghost use Rattle.keymap_cover.specs.Inner.OneWay.{is_left, AreKeys, GoesLeaving, GoesToNext, SeesRest};
+ghost use Rattle.keymap_cover.specs.Inner.Scripts.{GoesResting, GoesToEnd};
 
 use crate::cover::{is_left_out, sees_new};
 use crate::probes::changes_nothing;
@@ -42,9 +47,13 @@ fn left_out(
     seen: &Seen,
     sights: &Sights,
     map: &KeyMap,
-) -> Result<Vec<Sight>, AllocError> {
+) -> Result<Vec<Sight>, AllocError>
+    ensures { IfOk result (λ left. left.items
+        ≡ filter (is_left map.now seen.now sights.now) (all_cells ++ all_lock_settings)) }
+{
+    let keys = told_of_keys(alloc)?;
     let mut left = Vec::new(alloc);
-    for sight in &told_of_keys(alloc)? {
+    for sight in &keys {
         if is_left_out(seen, sights, map, *sight) {
             left.push(*sight)?;
         }
@@ -53,7 +62,9 @@ fn left_out(
 }
 
 /// The sights of a list that weren't seen.
-fn unseen(alloc: Global, seen: &Seen, sights: &[Sight]) -> Result<Vec<Sight>, AllocError> {
+fn unseen(alloc: Global, seen: &Seen, sights: &[Sight]) -> Result<Vec<Sight>, AllocError>
+    ensures { IfOk result (λ left. left.items ≡ filter (λ x. not (has_seen seen.now x)) sights.now) }
+{
     let mut left = Vec::new(alloc);
     for sight in sights {
         if !seen.has(*sight) {
@@ -82,18 +93,69 @@ fn show_onward<T: Translator + Drop>(
     Ok(true)
 }
 
-/// Goes where presses see what is left out of the cells and lock settings, by turns that can't be taken back. Each time
-/// something more of it is seen, until nothing of it can be seen from where the console stands.
+/// Goes where presses see these, by turns that can't be taken back, while each time something more of them is seen.
+/// Answers what wasn't seen.
 fn show_all_onward<T: Translator + Drop>(
     script: &mut Script<T>,
     map: &KeyMap,
-    sights: &Sights,
-) -> Result<(), AllocError>
-    ensures { OnOk result (GoesResting map.now T.stands script.old script.new) }
+    sights: Vec<Sight>,
+) -> Result<Vec<Sight>, AllocError>
+    ensures { IfOk result (λ left. GoesLeaving map.now T.stands sights.items script.old script.new left.items) }
 {
-    let mut left = left_out(script.alloc, &script.seen, sights, map)?;
+    let mut left = sights;
     for _ in 0..left.len() {
         if !show_onward(script, map, &left)? {
+            return Ok(left);
+        }
+        left = unseen(script.alloc, &script.seen, &left)?;
+    }
+    Ok(left)
+}
+
+/// A reset, and the events to the press.
+fn events_from_reset(alloc: Global, onward: &Onward) -> Result<Vec<Event>, AllocError>
+    ensures { IfOk result (λ events. events.items
+        ≡ Reset ∷ (onward.now.events.items ++ Press onward.now.key ∷ [])) }
+{
+    let mut events = Vec::new(alloc);
+    events.push(Event::Reset)?;
+    events.extend_from_slice(&onward.events)?;
+    events.push(Event::Press(onward.key))?;
+    Ok(events)
+}
+
+/// Goes where a press sees one of these, from a reset on, and turns the scroll lock off. Tells whether there is such a
+/// press.
+fn show_next<T: Translator + Drop>(
+    script: &mut Script<T>,
+    map: &KeyMap,
+    left: &[Sight],
+) -> Result<bool, AllocError>
+    ensures { IfOk result (λ more. AreKeys left.now
+        → GoesToNext map.now T.stands left.now script.old script.new more) }
+{
+    let Some(onward) = find_onward(script.alloc, map, &script.console, left)? else {
+        return Ok(false);
+    };
+    let events = events_from_reset(script.alloc, &onward)?;
+    script.walk(map, &events)?;
+    turn_scroll_off(script, map)?;
+    Ok(true)
+}
+
+/// Goes on where presses see these, until none of them can be seen from where the console stands. There are such
+/// presses behind one that made a console forget what turned a lock, which then turns it no more before a reset; and
+/// behind those that turned the scroll lock off.
+fn show_rest<T: Translator + Drop>(
+    script: &mut Script<T>,
+    map: &KeyMap,
+    sights: Vec<Sight>,
+) -> Result<(), AllocError>
+    ensures { OnOk result (AreKeys sights.items → SeesRest map.now T.stands sights.items script.old script.new) }
+{
+    let mut left = sights;
+    for _ in 0..left.len() {
+        if !show_next(script, map, &left)? {
             return Ok(());
         }
         left = unseen(script.alloc, &script.seen, &left)?;
@@ -101,14 +163,17 @@ fn show_all_onward<T: Translator + Drop>(
     Ok(())
 }
 
-/// Goes onward, and turns the scroll lock off.
+/// Goes onward, until nothing that is left out of the cells and lock settings can be seen from where the console
+/// stands, and turns the scroll lock off.
 pub(crate) fn go_onward<T: Translator + Drop>(
     script: &mut Script<T>,
     map: &KeyMap,
     sights: &Sights,
 ) -> Result<(), AllocError>
-    ensures { OnOk result (GoesScrollOff map.now T.stands script.old script.new) }
+    ensures { OnOk result (AreSightsOf map.now sights.now → GoesToEnd map.now T.stands script.old script.new) }
 {
-    show_all_onward(script, map, sights)?;
-    turn_scroll_off(script, map)
+    let left = left_out(script.alloc, &script.seen, sights, map)?;
+    let rest = show_all_onward(script, map, left)?;
+    turn_scroll_off(script, map)?;
+    show_rest(script, map, rest)
 }

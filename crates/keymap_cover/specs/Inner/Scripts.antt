@@ -13,14 +13,15 @@ use Rattle.keymap_core.specs.declared.entry.Cell.TheVariants.{Char}
 use Rattle.console_states.specs.declared.selection.Selection.{Selection}
 use Rattle.console_states.specs.declared.selection.Sight.TheVariants as sight
 use Rattle.console_core.specs.History.{Maps, between, is_locked_after, pressed, HasKeys}
-use Rattle.console_scripts.specs.Visiting.{AreTaken, CanVisit, HasLocks, ExplorerValue}
-use Rattle.console_states.specs.Sights.{look_selected, SeesNext, SeesAlong}
+use Rattle.console_scripts.specs.Visiting.{AreTaken, CanVisit, HasLocks, ExplorerValue, IsPair}
+use Rattle.console_states.specs.Sights.{look_selected, IsReachable, SeesNext, SeesAlong}
 use Rattle.keymap_cover.specs.declared.script_event.ScriptEvent.{ScriptEvent}
 use Rattle.keymap_cover.specs.declared.script.Script.{Script}
 use Rattle.keymap_cover.specs.ScriptEvents.{events_of, is_down, ArePossible}
 use Rattle.keymap_cover.specs.SeenSights.{has_seen}
+use Rattle.keymap_cover.specs.Told.{IsTold}
 use Rattle.keymap_cover.specs.declared.parts.Start.{Start}
-use Rattle.keymap_cover.specs.Covering.{IsAtRest, IsScrollOff, SeesKeysBy, SeesToldBy}
+use Rattle.keymap_cover.specs.Covering.{CannotSee, IsAtRest, IsScrollOff, SeesKeysBy, SeesToldBy}
 use Rattle.keymap_cover.specs.Inner.Adding.{StandBehind}
 
 -- x is there, and what was there before, and nothing else
@@ -127,6 +128,17 @@ GoesScrollOff m stands a b =
     (h : List Event) → IsResting m stands h a
     → (g : List Event) × IsResting m stands g b × ComesAfter h g × IsScrollOff m g
 
+-- of the cells and lock settings each that can be seen was seen, or by no press to which moves lead from the list's end
+abbrev pub LeavesNoneAhead : {T : Type 0} → MapValue → List Event → Script T → Type 0
+LeavesNoneAhead m h t =
+    (x : Sight) → IsTold m x → (IsPair x → ⊥) → IsReachable m x → (has_seen t.seen x ≡ true) ⊎ CannotSee m h x
+
+-- the same, and so it is of the cells and lock settings
+abbrev pub GoesToEnd : {T : Type 0} → MapValue → Standing T → Script T → Script T → Type 0
+GoesToEnd m stands a b =
+    (h : List Event) → IsResting m stands h a
+    → (g : List Event) × IsResting m stands g b × ComesAfter h g × IsScrollOff m g × LeavesNoneAhead m g b
+
 -- The console runs along a script that is at rest with no key down, and the explorer's locks are on.
 abbrev pub IsUnderWay : {T : Type 0} → MapValue → Standing T → List Event → ExplorerValue → Script T → Type 0
 IsUnderWay m stands h p t = IsResting m stands h t × (p.map ≡ m) × HasLocks m p.locks h
@@ -138,9 +150,12 @@ GoesUnderWay m stands p a q b P =
     (h : List Event) → IsUnderWay m stands h p a
     → (g : List Event) × IsUnderWay m stands g q b × ComesAfter h g × P
 
--- a script of which no key is down at the end, which is at rest, and which leaves the scroll lock off if presses can
+-- a script of which no key is down at the end, which is at rest, and which leaves the scroll lock off if presses can and
+-- no cell or lock setting ahead
 abbrev pub EndsAtRest : {T : Type 0} → MapValue → Script T → Type 0
-EndsAtRest m t = AreUp t.pressed × ((h : List Event) × IsScriptOf m h t × IsAtRest m h × IsScrollOff m h)
+EndsAtRest m t =
+    AreUp t.pressed
+    × ((h : List Event) × IsScriptOf m h t × IsAtRest m h × IsScrollOff m h × LeavesNoneAhead m h t)
 
 -- what of these can be visited was seen
 abbrev pub SeesAll : {T : Type 0} → MapValue → List Sight → Script T → Type 0

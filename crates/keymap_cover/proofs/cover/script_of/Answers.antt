@@ -13,7 +13,7 @@ returns g c =
     let whole =
     script-whole s m c.args.explorer.now a c.show_told.new.explorer b d e c.in_ok-first.first
     (under-way-new s m c.args.explorer.now a c.requires.explorer (c.in_ok-script.ensures m c.requires.new))
-    c.in_ok-first.ensures c.in_ok-try_keys.ensures c.in_ok-go_onward.ensures in
+    c.in_ok-first.ensures c.in_ok-try_keys.ensures (c.in_ok-go_onward.ensures c.requires.sights) in
     let second : c.len-second.result ≡ length b.events.items = c.len-second.ensures ∙ b.events.ok.0 in
     let third : c.len-third.result ≡ length d.events.items = c.len-third.ensures ∙ d.events.ok.0 in
     let last : c.len.result ≡ length e.events.items = c.len.ensures ∙ e.events.ok.0 in

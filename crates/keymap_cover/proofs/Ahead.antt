@@ -1,0 +1,71 @@
+-- Behind a list that is spoken of a console stands where moves lead from the start, so moves from there lead to nothing
+-- that can't be seen.
+use Rattle.keymap_cover.proofs.Common.{◌≡◌, Bool, false, List, ◌++◌, refl, ap, subst, sym, ◌∙◌, reverse}
+use Rattle.keymap_cover.proofs.Common.{MapValue, Event, Sight, IsPair, IsReachable, alone, between, resolved}
+use Rattle.keymap_core.specs.declared.action.Lock.{Lock}
+use Rattle.keymap_core.specs.declared.action.Lock.TheVariants.{Caps, Num, Scroll, Alt}
+use Rattle.keymap_core.specs.declared.action.Modifier.{Modifier}
+use Rattle.console_core.specs.History.{is_on_after}
+use Rattle.console_states.specs.declared.held.Move.{Move}
+use Rattle.console_states.specs.declared.selection.Sight.TheVariants as sight
+use Rattle.console_states.specs.Inner.Standing.{Follows}
+use Rattle.console_states.specs.Moves.{IsPathFrom, State, start, state_from}
+use Rattle.console_states.specs.Returning.{unscrolled}
+use Rattle.console_states.specs.Sights.{CanPend, IsAdmitted, SeesBy, selection_of}
+use Rattle.console_states.specs.Sticking.{NeverForgets}
+use Rattle.console_states.proofs.Seeing.{stands-in}
+use Rattle.console_states.proofs.Unscrolled.{same_states}
+use Rattle.console_states.proofs.Visits.{near-path, path-first}
+use Rattle.console_scripts.specs.Visiting.{SeesFrom, resting_after}
+use Rattle.console_scripts.proofs.Exploring.{path-append}
+use Rattle.keymap_cover.specs.Covering.{IsAtRest, NothingIsAhead, history}
+use Rattle.keymap_cover.proofs.Scripts.{never-forgets, not-some}
+use Rattle.keymap_cover.proofs.Showing.{events-loads}
+
+-- at rest a console stands in the free state with the locks that are on, but for the scroll lock
+near-resting : (m : MapValue) (h : List Event) (s : State) → Follows (resolved (between m m) h) s
+    → ((i : Modifier) → is_on_after (between m m) i h ≡ false) → s.is_second ≡ false
+    → unscrolled s ≡ unscrolled (resting_after m h)
+near-resting m h s f off first =
+    same_states (unscrolled s) (unscrolled (resting_after m h)) (λ i. not-some (s.holder i) (sym (f.on i) ∙ off i)) lock
+    first
+  where
+    lock : (l : Lock) → (unscrolled s).is_locked l ≡ (unscrolled (resting_after m h)).is_locked l
+    lock Caps = sym (f.locked Caps)
+    lock Num = sym (f.locked Num)
+    lock Scroll = refl
+    lock Alt = sym (f.locked Alt)
+
+-- a cell or a lock setting needs no accent
+needs-none : (m : MapValue) (path : List Move) (x : Sight) → (IsPair x → ⊥) → CanPend m path x
+needs-none m path (sight.Cell slot column) key = tt
+needs-none m path (sight.Locks slot caps num) key = tt
+needs-none m path (sight.Pair accent c) key = absurd (key tt)
+
+-- what can be seen from the end can be seen
+seen-from : (m : MapValue) (forgets : Bool) (h : List Event) (x : Sight) → (forgets ≡ false → NeverForgets (alone m))
+    → IsAdmitted m forgets h → IsAtRest m h → (IsPair x → ⊥) → SeesFrom m (resting_after m h) x → IsReachable m x
+seen-from m forgets h x never admitted rest key (path, is, (k, lt, sees)) =
+    let u = alone m in
+    let (s, (way, made, there), f, second) = stands-in m forgets h never admitted in
+    let near =
+    near-resting m h s f rest.1 (ap (λ (z : State). z.is_second) (sym there) ∙ path-first m start way made) in
+    let (goes, alike) = near-path u (resting_after m h) s path near is in
+    let (whole, leads) = path-append u start way path made (subst (λ z. IsPathFrom u z path) (sym there) goes) in
+    let same = leads ∙ ap (λ z. state_from u z path) there in (
+      path ++ way,
+      whole,
+      needs-none m (path ++ way) x key,
+      (
+        k,
+        lt,
+        subst (λ z. SeesBy m z k x) (sym (ap (λ z. selection_of z) same ∙ ap (λ z. selection_of z) alike)) sees,
+      ),
+    )
+
+pub nothing_is_ahead : NothingIsAhead
+nothing_is_ahead m c covers clean x told key unseen from =
+    covers.onward x told key
+    (seen-from m c.sights.forgets (history c) x (never-forgets m c.sights covers.sights)
+    (covers.keys, events-loads (reverse c.events.items), clean) covers.rest key from)
+    unseen from

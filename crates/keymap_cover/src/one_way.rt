@@ -93,8 +93,8 @@ fn show_onward<T: Translator + Drop>(
     Ok(true)
 }
 
-/// Goes where presses see these, by turns that can't be taken back, while each time something more of them is seen.
-/// Answers what wasn't seen.
+/// Goes where presses see these, by turns that can't be taken back, as long as there are such presses and at most as
+/// often as there are sights. Answers what wasn't seen.
 fn show_all_onward<T: Translator + Drop>(
     script: &mut Script<T>,
     map: &KeyMap,
@@ -143,9 +143,9 @@ fn show_next<T: Translator + Drop>(
     Ok(true)
 }
 
-/// Goes on where presses see these, until none of them can be seen from where the console stands. There are such
-/// presses behind one that made a console forget what turned a lock, which then turns it no more before a reset; and
-/// behind those that turned the scroll lock off.
+/// Goes on where presses see these, until none of them can be seen from where the console stands. A reset comes before
+/// each, since a lock that a press made the console forget is turned no more before one; behind it events lead where
+/// their moves do, so each time something more is seen.
 fn show_rest<T: Translator + Drop>(
     script: &mut Script<T>,
     map: &KeyMap,

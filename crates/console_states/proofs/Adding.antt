@@ -5,7 +5,8 @@ use Rattle.console_states.proofs.Common.{get_or_default, Contains-push, Contains
 use Rattle.console_states.proofs.Common.{Act, usable, Under, State, look_in, Offers, state_of, Entry}
 use Rattle.console_states.proofs.Common.{Entries, IsWith, Adds, IsInSome, AddsOffers, get_or, rules}
 use Rattle.console_states.specs.Inner.Adding.{AddsOffer}
-use Rattle.console_states.specs.Inner.KeyLists.{AreKeysOf}
+use Rattle.console_states.specs.Inner.KeyLists.{AreKeysOf, IsOther}
+use Rattle.console_states.proofs.KeyLists.{read-below}
 use Rattle.console_states.specs.declared.key_lists.CellKind.TheVariants.{DeadKey}
 use Rattle.std.proofs.lemmas.List.Quantifiers.{all_pairs_push}
 use Rattle.console_states.specs.Sights.{Enumerates, HasNoDoubles}
@@ -108,7 +109,7 @@ offers-all u s keys n old now (has, below) added =
     (λ a. (usable u.maps.first a ≡ true) × ((k : ℕ) × (k < n) × Offers u s k a)) old now
     (λ a (can, (j, lt, is)). (
       can,
-      (get_or keys j 0, below (get_or keys j 0) (j, lt, sym (get_or_default keys j 0 (get_or keys j 0) lt)), is),
+      (get_or keys j 0, read-below (λ k. (t : State) → IsOther DeadKey (look_in u t k)) keys n j (has, below) lt, is),
     ))
     (λ a (can, (k, lt, is)). elim (has k lt) [
       | inl (j, there, e) ↦

@@ -1,10 +1,11 @@
 -- The keys that have a cell of a kind. A search that presses those with cells that can be moves presses all.
 use Rattle.console_states.proofs.Common.{◌≡◌, ℕ, ◌+◌, ◌<◌, Bool, true, false, inl, inr, List, [], ◌∷◌, ◌++◌, subst, sym}
-use Rattle.console_states.proofs.Common.{below_more, get_or, length, ◌∙◌, get_or_default, Contains, Contains-push}
+use Rattle.console_states.proofs.Common.{below_more, get_or, length, ◌∙◌, ◌⊎◌, get_or_default, Contains, Contains-push}
 use Rattle.console_states.proofs.Common.{Contains-append_left, Contains-push_cases, MapValue, cell_at, slot_of}
-use Rattle.console_states.proofs.Common.{arith, look_with, Under, State, look_in, map_of, is_held, PressesLead, IsUnmoving, HasMovingKeys}
+use Rattle.console_states.proofs.Common.{arith, look_with, Under, State, look_in, map_of, is_held}
+use Rattle.console_states.proofs.Common.{PressesLead, IsUnmoving, HasMovingKeys}
 use Rattle.console_core.proofs.Borne.{column_of-lt}
-use Rattle.console_states.specs.Inner.KeyLists.{AreKeysOf, HasKeysOf, IsOther}
+use Rattle.console_states.specs.Inner.KeyLists.{IsOther}
 use Rattle.console_states.specs.declared.key_lists.CellKind.{CellKind}
 
 -- the cells of a key in its two slots are those that it may look up
@@ -31,10 +32,14 @@ pub other-key : (kind : CellKind) (u : Under) (k : ℕ)
     → (s : State) → IsOther kind (look_in u s k)
 other-key kind u k first second s = other_in kind u s k s.is_second first second
 
+-- each number below n is among the keys or has P, and the keys are below n
+abbrev pub HasAllBut : (ℕ → Type 0) → List ℕ → ℕ → Type 0
+HasAllBut P keys n = ((k : ℕ) → k < n → Contains keys k ⊎ P k) × ((k : ℕ) → Contains keys k → k < n)
+
 -- the next key is added
-pub keys-with : (kind : CellKind) (u : Under) (keys now : List ℕ) (n : ℕ) → now ≡ keys ++ n ∷ []
-    → AreKeysOf kind u keys n → AreKeysOf kind u now (n + 1)
-keys-with kind u keys now n e (has, below) = (
+pub keys-with : (P : ℕ → Type 0) (keys now : List ℕ) (n : ℕ) → now ≡ keys ++ n ∷ [] → HasAllBut P keys n
+    → HasAllBut P now (n + 1)
+keys-with P keys now n e (has, below) = (
   below_more _ _
       (λ k lt. elim (has k lt) [
         | inl is ↦ inl (subst (λ xs. Contains xs k) (sym e) (Contains-append_left keys (n ∷ []) k is))
@@ -47,13 +52,19 @@ keys-with kind u keys now n e (has, below) = (
   ]),
 )
 
--- the next key looks up none in any state
-pub keys-without : (kind : CellKind) (u : Under) (keys now : List ℕ) (n : ℕ) → now ≡ keys
-    → ((s : State) → IsOther kind (look_in u s n)) → AreKeysOf kind u keys n → AreKeysOf kind u now (n + 1)
-keys-without kind u keys now n e other (has, below) = (
-  below_more _ _ (subst (λ xs. HasKeysOf kind u xs n) (sym e) has) (inr other),
+-- the next key has P
+pub keys-without : (P : ℕ → Type 0) (keys now : List ℕ) (n : ℕ) → now ≡ keys → P n → HasAllBut P keys n
+    → HasAllBut P now (n + 1)
+keys-without P keys now n e other (has, below) = (
+  below_more _ _ (subst (λ xs. (k : ℕ) → k < n → Contains xs k ⊎ P k) (sym e) has) (inr other),
   (λ k is. let lt = below k (subst (λ xs. Contains xs k) e is) in omega (arith, lt)),
 )
+
+-- a key that is read of the list
+pub read-below : (P : ℕ → Type 0) (keys : List ℕ) (n j : ℕ) → HasAllBut P keys n → j < length keys
+    → get_or keys j 0 < n
+read-below P keys n j (has, below) lt =
+    below (get_or keys j 0) (j, lt, sym (get_or_default keys j 0 (get_or keys j 0) lt))
 
 -- a press of a key that looks up no modifier, and no lock but the scroll lock, leads nowhere
 pressed-unmoving : (P : State → Type 0) (u : Under) (s : State) (k : ℕ) → IsUnmoving (look_in u s k)

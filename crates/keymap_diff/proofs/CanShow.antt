@@ -1,9 +1,8 @@
 -- The keys whose presses can show a difference: where none of these shows it, no key does.
-use Rattle.keymap_diff.proofs.Common.{◌≡◌, ◌⊎◌, ℕ, ◌+◌, ◌<◌, Bool, true, false, inl, inr, List, [], ◌∷◌, ◌++◌, Option}
-use Rattle.keymap_diff.proofs.Common.{Some, None, ap, arith, below_more, subst, sym, ◌∙◌, length, Contains, MapValue, State}
-use Rattle.keymap_diff.proofs.Common.{NoneShows, ShowsNothing, look_selected, looked_up}
+use Rattle.keymap_diff.proofs.Common.{◌≡◌, ℕ, ◌+◌, ◌<◌, Bool, true, false, inl, inr, List, Option, Some, None, ap}
+use Rattle.keymap_diff.proofs.Common.{subst, ◌∙◌, length, MapValue, State, NoneShows, ShowsNothing, look_selected}
+use Rattle.keymap_diff.proofs.Common.{looked_up}
 use Rattle.std.proofs.Common.{get_or}
-use Rattle.std.proofs.lemmas.List.Elements.{Contains-append_left, Contains-push, Contains-push_cases}
 use Rattle.console_core.proofs.Borne.{column_of-lt}
 use Rattle.console_core.specs.Columns.{column_of, exactly_one, flips_shift, slot_of}
 use Rattle.std.proofs.lemmas.List.{get_or_default}
@@ -39,31 +38,6 @@ slots-clear m n p k a b e f low high s =
     (subst (λ column. IsClear m n p (look_selected m y k) (cell_at n (slot_in y k) column)) same
     (cells (column_in m y k) (column_of-lt _ _ _)))
 
--- the next key is added
-pub showing-with : (m n : MapValue) (p : Option ℕ) (keys now : List ℕ) (b : ℕ) → now ≡ keys ++ b ∷ []
-    → AreShowing m n p keys b → AreShowing m n p now (b + 1)
-showing-with m n p keys now b e (has, below) = (
-  below_more _ _
-      (λ k lt. elim (has k lt) [
-        | inl is ↦ inl (subst (λ xs. Contains xs k) (sym e) (Contains-append_left keys (b ∷ []) k is))
-        | inr nothing ↦ inr nothing
-      ])
-      (inl (subst (λ xs. Contains xs b) (sym e) (Contains-push keys b))),
-  (λ k is. elim (Contains-push_cases keys b k (subst (λ xs. Contains xs k) e is)) [
-    | inl was ↦ let lt = below k was in omega (arith, lt)
-    | inr same ↦ omega (arith, same)
-  ]),
-)
-
--- the next key shows nothing in any state
-pub showing-without : (m n : MapValue) (p : Option ℕ) (keys now : List ℕ) (b : ℕ) → now ≡ keys
-    → ((s : State) → ShowsNothing m n p s b) → AreShowing m n p keys b → AreShowing m n p now (b + 1)
-showing-without m n p keys now b e nothing (has, below) = (
-  below_more _ _ (subst (λ xs. (k : ℕ) → k < b → Contains xs k ⊎ ((s : State) → ShowsNothing m n p s k)) (sym e) has)
-      (inr nothing),
-  (λ k is. let lt = below k (subst (λ xs. Contains xs k) e is) in omega (arith, lt)),
-)
-
 -- where none of the keys shows anything, none at all does
 pub none-of : (m n : MapValue) (p : Option ℕ) (keys : List ℕ) (s : State) → AreShowing m n p keys 128
     → ((j : ℕ) → j < length keys → ShowsNothing m n p s (get_or keys j 0)) → NoneShows m n p s
@@ -71,9 +45,3 @@ none-of m n p keys s (has, below) none k lt = elim (has k lt) [
   | inl (j, there, e) ↦ subst (λ q. ShowsNothing m n p s q) (get_or_default keys j 0 k there ∙ e) (none j there)
   | inr nothing ↦ nothing s
 ]
-
-pub showing-below : (m n : MapValue) (p : Option ℕ) (keys : List ℕ) (b j k : ℕ) → AreShowing m n p keys b
-    → j < length keys → k ≡ get_or keys j 0 → k < b
-showing-below m n p keys b j k (has, below) lt e =
-    subst (λ q. q < b) (sym e)
-    (below (get_or keys j 0) (j, lt, sym (get_or_default keys j 0 (get_or keys j 0) lt)))

@@ -1,7 +1,7 @@
 use Rattle.std.proofs.Common.{rules}
-use Rattle.keymap_diff.proofs.Common.{[], ◌∷◌, ◌++◌, ap, ◌∙◌, refl, subst, arith, ShowsNothing}
+use Rattle.keymap_diff.proofs.Common.{[], ◌∷◌, ◌++◌, ap, ◌∙◌, refl, subst, arith, ShowsNothing, State, ℕ}
 use Rattle.console_states.proofs.Adding.{empty-none}
-use Rattle.keymap_diff.proofs.CanShow.{showing-with, showing-without}
+use Rattle.console_states.proofs.KeyLists.{keys-with, keys-without}
 use Rattle.keymap_diff.proofs.showing.Both.keys_showing.Goals.{then-can_key_show+in_ok-push, else-can_key_show}
 use Rattle.keymap_diff.proofs.showing.Both.keys_showing.Goals as goal
 
@@ -13,15 +13,16 @@ loop-code-preserved c =
     let m = c.args.self.now.old.now in
     let n = c.args.self.now.new.now in
     let p = c.args.pending in
+    let nothing = λ (k : ℕ). (s : State) → ShowsNothing m n p s k in
     let keys = c.loop-code.keys.items in
     let code = c.loop-code.code in
     elim c.if-can_key_show.branch [
       | then-can_key_show+in_ok-push w ↦
-          showing-with m n p keys c.if-can_key_show.keys.items code
+          keys-with nothing keys c.if-can_key_show.keys.items code
           (ap (λ v. v.items) w.keys-is ∙ w.in_ok-push.ensures.items ∙ ap (λ k. keys ++ k ∷ []) c.key_with-key.ensures)
           c.loop-code.invariant
       | else-can_key_show w ↦
-          showing-without m n p keys c.if-can_key_show.keys.items code (ap (λ v. v.items) w.keys-is)
+          keys-without nothing keys c.if-can_key_show.keys.items code (ap (λ v. v.items) w.keys-is)
           (λ s. subst (λ k. ShowsNothing m n p s k) c.key_with-key.ensures (w.if-can_key_show.ensures refl s))
           c.loop-code.invariant
     ]

@@ -20,9 +20,9 @@ returns-in_ok-telling-in-Some-clause-nearest c =
     let (z, z_at, offered) = c.requires.at in
     accent-told m n i met c.args.behind.now.place c.args.behind.now.presses x
     c.every_keymap_is_within_the_bounds.ensures c.every_keymap_is_within_the_bounds-2.ensures c.requires.met
-    c.requires.searched c.requires.presses c.requires.cells offered.0 c.in-Some.at c.in-Some.is (reverse c.in_ok-events-in-Some.events.items)
-    (reverse c.go_out.new.events.items) c.in_ok-events-in-Some.ensures c.in_ok-go_out-in-Some.ensures _
-    c.in_ok-telling-in-Some.ensures
+    c.requires.searched c.requires.presses c.requires.cells offered.0 c.in-Some.at c.in-Some.is
+    (reverse c.in_ok-events-in-Some.events.items) (reverse c.go_out.new.events.items)
+    c.in_ok-events-in-Some.ensures c.in_ok-go_out-in-Some.ensures _ c.in_ok-telling-in-Some.ensures
 
 pub returns-in-None-clause-nearest : goal.returns-in-None-clause-nearest
 returns-in-None-clause-nearest c =

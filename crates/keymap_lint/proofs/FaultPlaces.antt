@@ -1,21 +1,18 @@
--- The faults of a text: the places that are told of them lie within it, and they stand in its order.
-use Rattle.keymap_lint.proofs.Common.{◌≡◌, ℕ, ◌+◌, ◌<◌, ◌≤◌, List, [], ◌∷◌, length, map, take, arith, refl, sym, ap}
-use Rattle.keymap_lint.proofs.Common.{◌++◌, Faulty}
-use Rattle.keymap_lint.proofs.Common.{subst, ◌∙◌, Option, None, Some, rules}
+-- The faults of a text: the places that are told of them lie within it.
+use Rattle.keymap_lint.proofs.Common.{◌≡◌, ℕ, ◌+◌, ◌++◌, ◌<◌, ◌≤◌, ◌∙◌, List, [], ◌∷◌, length, map, take}
+use Rattle.keymap_lint.proofs.Common.{Option, None, Some, arith, refl, sym, ap, subst, rules}
 use Prim.Native.Nat.{zero, suc}
-use Rattle.std.proofs.Common.{◌==◌, All, Result, Ok, Err, IfSome, drop, ap₂, get_or, inl, inr, zero-add, ◌-◌, ◌⊎◌, append_assoc, append-nil, length-append}
+use Rattle.std.proofs.Common.{◌-◌, ◌⊎◌, All, Result, Ok, Err, IfSome, drop, inl, inr, zero-add}
+use Rattle.std.proofs.Common.{append_assoc, append-nil, length-append}
 use Rattle.std.proofs.lemmas.Bool.{cases_lt}
-use Rattle.std.proofs.lemmas.List.{drop_all, length-drop, length-take, take_all}
+use Rattle.std.proofs.lemmas.List.{drop_all, length-drop, take_all}
 use Rattle.std.proofs.lemmas.List.Elements.{All-head, All-tail, All-nil, All-cons}
-use Rattle.std.proofs.lemmas.List.Sums.{count_by-le-length}
-use Rattle.std.specs.List.Sorted.{IsStrictlyIncreasing}
 use Rattle.std.specs.Option.{option_map}
-use Rattle.std.specs.Prelude.{MatchOption, slice_get}
+use Rattle.std.specs.Prelude.{MatchOption}
 use Rattle.keymap_core.specs.Maps.{MapValue}
 use Rattle.keymap_lint.specs.Faults.{AreFaults, IsFaultBehind, IsWanted, start_behind}
 use Rattle.keymap_lint.specs.Positions.{FaultLiesWithin}
-use Rattle.keymap_lint.specs.Promises.{AreInOrder, FaultsAreInOrder}
-use Rattle.keymap_lint.specs.Types.{PlacedFault, Spelled}
+use Rattle.keymap_lint.specs.Types.{PlacedFault}
 use Rattle.keymap_text.proofs.Lines.{feeds, line_more}
 use Rattle.keymap_text.proofs.LineStarts.{next_start}
 use Rattle.keymap_text.proofs.TokenPlaces.{tokens_are_placed}
@@ -103,7 +100,7 @@ spelled_by_nothing text n h =
     (map_of [], subst (λ t. Spells t (map_of [])) (sym (drop_all n text (omega (arith, h)))) nothing_spells)
 
 -- a fault stands behind no more bytes than there are
-begun_inside : (text : List ℕ) (n : ℕ) (f : PlacedFault) → IsFaultBehind text n f → n ≤ length text
+pub begun_inside : (text : List ℕ) (n : ℕ) (f : PlacedFault) → IsFaultBehind text n f → n ≤ length text
 begun_inside text n f is = elim (cases_lt (length text) n) [
   | inl past ↦
       let none = spelled_by_nothing text n past in
@@ -156,120 +153,6 @@ next_line text place h =
     subst (λ (k : ℕ). line (drop place text) (k + 1) ≡ 2) (zero-add n) next.number in
     let same : line_end text place + 1 ≡ place + (n + 1) = omega arith in
     ap (line text) same ∙ omega (arith, line_behind text place (n + 1), there)
-
--- a line's number
-pub line_bound : (text : List ℕ) (place : ℕ) → line text place ≤ length text + 1
-line_bound text place =
-    omega (arith, count_by-le-length (λ c. c == 10) (take place text), length-take place text)
-
--- ---- the faults stand in order
-
-few_faults : (limit : ℕ) (text : List ℕ) (n : ℕ) (fs : List PlacedFault) → AreFaults limit text n fs
-    → length fs ≤ limit
-few_faults zero text n fs e = omega (arith, ap length e)
-few_faults (suc limit) text n [] is = omega arith
-few_faults (suc limit) text n (f ∷ fs) is =
-    omega (arith, few_faults limit text (line_end text f.fault.offset + 1) fs is.1)
-
-own_lines : (limit : ℕ) (text : List ℕ) (n : ℕ) (fs : List PlacedFault) → AreFaults limit text n fs
-    → All (λ (f : PlacedFault). f.fault.line ≡ line text f.fault.offset) fs
-own_lines zero text n fs e =
-    subst (All (λ (f : PlacedFault). f.fault.line ≡ line text f.fault.offset)) (sym e) (All-nil _)
-own_lines (suc limit) text n [] is = All-nil _
-own_lines (suc limit) text n (f ∷ fs) is =
-    All-cons (λ (f : PlacedFault). f.fault.line ≡ line text f.fault.offset) f fs is.0.line
-    (own_lines limit text (line_end text f.fault.offset + 1) fs is.1)
-
--- numbers that rise, with a lesser one in front
-suc_more : (k : ℕ) → suc (k + 1) ≡ suc k + 1
-suc_more k = omega arith
-
-rises : (x : ℕ) (xs : List ℕ) → (0 < length xs → x < get_or xs 0 0) → IsStrictlyIncreasing xs
-    → IsStrictlyIncreasing (x ∷ xs)
-rises x xs front more zero h = front (omega (arith, h))
-rises x xs front more (suc k) h =
-    subst (λ (n : ℕ). get_or xs k 0 < get_or (x ∷ xs) n 0) (suc_more k) (more k (omega (arith, h)))
-
--- the next fault stands behind the line of the one before
-abbrev IsBehind : PlacedFault → PlacedFault → Type 0
-IsBehind f g = (f.fault.line < g.fault.line) × (f.fault.offset < g.fault.offset)
-
-behind_line : (text : List ℕ) (f g : PlacedFault) → f.fault.line ≡ line text f.fault.offset
-    → IsFaultBehind text (line_end text f.fault.offset + 1) g → IsBehind f g
-behind_line text f g e is =
-    let n = line_end text f.fault.offset + 1 in
-    let inside = begun_inside text n g is in
-    let next = next_line text f.fault.offset (omega (arith, inside)) in
-    let there = line_behind text n is.own.fault.offset in (
-      omega (arith, e, is.line, ap (line text) is.offset, next, there),
-      omega (arith, is.offset),
-    )
-
-first_behind : (limit : ℕ) (text : List ℕ) (f g : PlacedFault) (fs : List PlacedFault)
-    → f.fault.line ≡ line text f.fault.offset
-    → AreFaults limit text (line_end text f.fault.offset + 1) (g ∷ fs) → IsBehind f g
-first_behind zero text f g fs e is = absurd (cc)
-first_behind (suc limit) text f g fs e is = behind_line text f g e is.0
-
-in_order : (limit : ℕ) (text : List ℕ) (n : ℕ) (fs : List PlacedFault) → AreFaults limit text n fs
-    → IsStrictlyIncreasing (map (λ (f : PlacedFault). f.fault.line) fs)
-    × IsStrictlyIncreasing (map (λ (f : PlacedFault). f.fault.offset) fs)
-in_order limit text n [] is = (λ k h. absurd (omega (arith, h)), λ k h. absurd (omega (arith, h)))
-in_order zero text n (f ∷ fs) is = absurd (cc)
-in_order (suc limit) text n (f ∷ fs) is =
-    let more = in_order limit text (line_end text f.fault.offset + 1) fs is.1 in (
-      rises f.fault.line (map (λ (f : PlacedFault). f.fault.line) fs) (lines fs is.1) more.0,
-      rises f.fault.offset (map (λ (f : PlacedFault). f.fault.offset) fs) (offsets fs is.1) more.1,
-    )
-  where
-    lines : (gs : List PlacedFault) → AreFaults limit text (line_end text f.fault.offset + 1) gs
-        → 0 < length (map (λ (f : PlacedFault). f.fault.line) gs)
-        → f.fault.line < get_or (map (λ (f : PlacedFault). f.fault.line) gs) 0 0
-    lines [] later h = absurd (omega (arith, h))
-    lines (g ∷ gs) later h = (first_behind limit text f g gs is.0.line later).0
-
-    offsets : (gs : List PlacedFault) → AreFaults limit text (line_end text f.fault.offset + 1) gs
-        → 0 < length (map (λ (f : PlacedFault). f.fault.offset) gs)
-        → f.fault.offset < get_or (map (λ (f : PlacedFault). f.fault.offset) gs) 0 0
-    offsets [] later h = absurd (omega (arith, h))
-    offsets (g ∷ gs) later h = (first_behind limit text f g gs is.0.line later).1
-
--- the first fault is that of the text
-first_is : (limit : ℕ) (text : List ℕ) (fs : List PlacedFault) → AreFaults limit text 0 fs → (f : PlacedFault)
-    → slice_get fs 0 ≡ Some f → Fault text f.fault
-first_is limit text [] is f e = absurd (cc)
-first_is zero text (g ∷ gs) is f e = absurd (cc)
-first_is (suc limit) text (g ∷ gs) is f e = subst (λ (f : PlacedFault). Fault text f.fault) (same e) (whole g is.0)
-  where
-    same : Some g ≡ Some f → g ≡ f
-    same e = cc
-
-    whole : (g : PlacedFault) → IsFaultBehind text 0 g → Fault text g.fault
-    whole g is =
-        let own = is.is_fault in (
-          own.0,
-          (
-            own.1.0 ∙ ap₂ (λ k o. Some (record { kind = k; offset = o; early = own.0 })) (sym is.kind)
-                (omega (arith, is.offset)),
-            is.line,
-          ),
-        )
-
-pub faults_in_order : (text : List ℕ) (fs : List PlacedFault) → 0 < length fs → AreFaults 20 text 0 fs
-    → AreInOrder text fs
-faults_in_order text fs some is =
-    let rising = in_order 20 text 0 fs is in record {
-      few = few_faults 20 text 0 fs is;
-      some = some;
-      first = first_is 20 text fs is;
-      lines = own_lines 20 text 0 fs is;
-      later = rising.0;
-      behind = rising.1;
-    }
-
-pub faults_are_in_order : FaultsAreInOrder
-faults_are_in_order text (Faulty faults) (some, are) = faults_in_order text faults.items some are
-faults_are_in_order text (Spelled l) is = tt
 
 -- ---- the list of a text
 
@@ -328,11 +211,6 @@ offset_fits text n f within h = omega (arith, within, fault_inside (drop n text)
 pub line_in_whole : (text : List ℕ) (n lines : ℕ) (f : TextFault) → lines ≡ feeds (take n text)
     → Fault (drop n text) f → lines + f.line ≡ line text (n + f.offset)
 line_in_whole text n lines f e h = omega (arith, e, h.1.1, line_behind text n f.offset)
-
-pub line_fits : (text : List ℕ) (n lines : ℕ) (f : TextFault) → lines ≡ feeds (take n text)
-    → Fault (drop n text) f → lines + f.line ≤ length text + 1
-line_fits text n lines f e h =
-    omega (arith, line_in_whole text n lines f e h, line_bound text (n + f.offset))
 
 rest_is : (text : List ℕ) (n : ℕ) → take (length text - n) (drop n text) ≡ drop n text
 rest_is text n = take_all (length text - n) (drop n text) (omega (arith, length-drop n text))

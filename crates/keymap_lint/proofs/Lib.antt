@@ -9,3 +9,4 @@ pub mod Each
 pub mod InForce
 pub mod Begun
 pub mod FaultPlaces
+pub mod FaultOrder

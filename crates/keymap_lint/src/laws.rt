@@ -31,9 +31,9 @@ pub fn diagnostics_stand_in_the_text()
     ensures { DiagnosticsStandInTheText }
 {}
 
-/// Of a text with a fault there are 20 faults at most. The first one is the fault of the text, and each other one stands
-/// in a later line than the one before it.
-#[tactic(auto, using(crate::proofs::FaultPlaces::faults_are_in_order))]
+/// Of a text with a fault there are 20 faults at most. The first one is the fault of the text, and each other one
+/// stands in a later line than the one before it.
+#[tactic(auto, using(crate::proofs::FaultOrder::faults_are_in_order))]
 pub fn faults_are_in_order()
     ensures { FaultsAreInOrder }
 {}

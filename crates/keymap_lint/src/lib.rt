@@ -3,8 +3,8 @@
 //! keymap_text tells where the parts of a text stand; the crate also takes the check and the search for sticking
 //! modifiers. `diagnostics` answers values, each with the offset of its place; the words are those of keymap_lint_text.
 //!
-//! What is promised (`IsLint`, `specs/Lists.antt`): the faults of a text that has one, and else kind by kind exactly the
-//! diagnostics that the definitions say, each at its place, those without a place first and then by place.
+//! What is promised (`IsLint`, `specs/Lists.antt`): the faults of a text that has one, and else kind by kind exactly
+//! the diagnostics that the definitions say, each at its place, those without a place first and then by place.
 #![tactic(auto)]
 
 mod bare_digit;

@@ -1,6 +1,7 @@
 //! The faults of a text: behind the line of a fault it is read on, as a text of its own.
-ghost use Rattle.std.specs.Prelude.{◌≡◌, ◌+◌, ◌<◌, ◌≤◌, ◌==◌, count_by, drop, take, length, IfOk, MatchOption};
+ghost use Rattle.std.specs.Prelude.{◌≡◌, ◌+◌, ◌≤◌, ◌==◌, count_by, drop, take, length, IfOk, MatchOption};
 ghost use Rattle.keymap_core.specs.Maps.{MapValue};
+ghost use Rattle.keymap_text.specs.LineOf.{line_end as end_of_line};
 ghost use Rattle.keymap_text.specs.Meaning.{Fault, Spells};
 ghost use Rattle.keymap_lint.specs.Faults.{AreFaults, IsFaultBehind, IsWanted, fault_limit, place_behind};
 
@@ -72,6 +73,14 @@ fn fault_behind(
     }
 }
 
+/// Where reading goes on behind a fault: behind its line.
+fn behind_line(text: &[u8], fault: &TextFault) -> usize
+    requires { fault.now.offset ≤ length text.now }
+    ensures { result ≡ end_of_line text.now fault.now.offset + 1 }
+{
+    line_end(text, fault.offset as usize) + 1
+}
+
 /// The faults of a text in their order.
 pub(crate) fn faults(alloc: Global, text: &[u8]) -> Result<Vec<PlacedFault>, AllocError>
     ensures { IfOk result (λ faults. AreFaults fault_limit text.now 0 faults.items) }
@@ -84,7 +93,7 @@ pub(crate) fn faults(alloc: Global, text: &[u8]) -> Result<Vec<PlacedFault>, All
             return Ok(faults);
         };
         faults.push(found)?;
-        start = line_end(text, found.fault.offset as usize) + 1;
+        start = behind_line(text, &found.fault);
         lines = found.fault.line;
     }
     Ok(faults)

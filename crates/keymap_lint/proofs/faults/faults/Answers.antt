@@ -11,8 +11,8 @@ returns-in_default c =
     faults_end c.args.text.now c.loop-alloc.start c.loop-alloc.faults.items c.loop-alloc.invariant.goes_on
     (inl (none_found _ _ c.in_ok-found.field-0 c.in_default.not-Some c.in_ok-found.ensures))
 
-pub line_end-start-requires : goal.line_end-start-requires
-line_end-start-requires c =
+pub behind_line-start-requires : goal.behind_line-start-requires
+behind_line-start-requires c =
     (lies_behind c.args.text.now c.loop-alloc.start c.in-Some.found (rw c.in-Some.is at c.in_ok-found.ensures)).0
 
 pub loop-alloc-preserved : goal.loop-alloc-preserved
@@ -26,11 +26,11 @@ loop-alloc-preserved c =
       few =
           omega (arith, low, ap length pushed, length-append c.loop-alloc.faults.items (found ∷ []));
       lines =
-          subst (λ (e : ℕ). e + 1 ≤ length text → found.fault.line ≡ feeds (take (e + 1) text))
-          (sym c.line_end-start.ensures.value) (lines_behind text found.fault.offset found.fault.line is.line);
+          subst (λ (n : ℕ). n ≤ length text → found.fault.line ≡ feeds (take n text)) (sym c.behind_line-start.ensures)
+          (lines_behind text found.fault.offset found.fault.line is.line);
       goes_on =
-          subst (λ (e : ℕ). (more : List PlacedFault) → AreFaults (20 - length c.push.new.self.items) text (e + 1) more
-          → AreFaults 20 text 0 (c.push.new.self.items ++ more)) (sym c.line_end-start.ensures.value)
+          subst (λ (n : ℕ). (more : List PlacedFault) → AreFaults (20 - length c.push.new.self.items) text n more
+          → AreFaults 20 text 0 (c.push.new.self.items ++ more)) (sym c.behind_line-start.ensures)
           (λ more later. faults_more text c.loop-alloc.start c.loop-alloc.faults.items c.push.new.self.items more found
           low pushed c.loop-alloc.invariant.goes_on is later);
     }

@@ -1,6 +1,6 @@
 -- How words are read with what is told at their places.
 use Rattle.keymap_draw.proofs.Common.{◌≡◌, ℕ, ◌==◌, Bool, true, false, List, [], ◌∷◌, ◌++◌, Option, Some, rules}
-use Rattle.keymap_draw.proofs.Common.{Number, None, refl, sym, ap, ◌∙◌, subst, map, arith, decimal}
+use Rattle.keymap_draw.proofs.Common.{Number, None, refl, sym, ap, ◌∙◌, map, arith, decimal}
 use Rattle.keymap_draw.proofs.Common.{if◌then◌else◌, list_all, flat_map, eqb-true, name_of, Finding, finding_words}
 use Rattle.keymap_draw.proofs.Common.{Told, Plain, Bytes, Fact, escaped, is_class, within, is_inner, is_seen, over}
 use Rattle.keymap_draw.proofs.Common.{ReadAs, IsWithin, last_facts, reverse, State, Read, Place, Element, at, scan}

@@ -97,7 +97,8 @@ taking (Value tag name value) r (told.Plain t) behind = Some (at (Value tag name
 taking (Value tag name value) r (told.Number n) behind = Some (at (Value tag name (value ++ decimal n)) r)
 taking Text r (told.Plain t) behind = within_element Text (saying t.now r)
 taking Text r (told.Number n) behind = within_element Text (saying (decimal n) r)
-taking Text r t behind = if ends_told (slice_index behind 0) then within_element Text (saying (characters t) r) else None
+taking Text r t behind =
+    if ends_told (slice_index behind 0) then within_element Text (saying (characters t) r) else None
 taking p r t behind = None
 
 -- the reader behind words with what is told at their places

@@ -31,8 +31,8 @@ pub fn red_caps_are_findings()
         → key_class fs slot e ≡ Some red }
 {}
 
-/// A cap tells each cell of the columns base, shift, alt and alt shift: by its own legend, by that of a cell that is the
-/// same, or by that of the capital of a small letter. For a blank cell nothing is drawn.
+/// A cap tells each cell of the columns base, shift, alt and alt shift: by its own legend, by that of a cell that is
+/// the same, or by that of the capital of a small letter. For a blank cell nothing is drawn.
 #[tactic(auto, using(crate::proofs::Columns::each_cell_is_told))]
 pub fn each_cell_is_told()
     ensures { EachCellIsTold }
@@ -68,8 +68,8 @@ pub fn classes_are_of_a_list()
         → All IsClass (option_to_list (key_class fs slot e)) }
 {}
 
-/// What the title of a key tells is its line of the printed form with one blank in place of several, and what that of an
-/// accent tells is its line.
+/// What the title of a key tells is its line of the printed form with one blank in place of several, and what that of
+/// an accent tells is its line.
 #[tactic(auto, using(crate::proofs::ToldTwice::line_laws))]
 pub fn titles_are_printed_lines()
     ensures key { (slot : ℕ) (e : EntryValue) → All IsCell e.cells
@@ -86,8 +86,8 @@ pub fn pictures_tell_keymaps()
     ensures keymap { PicturesTellKeymaps }
 {}
 
-/// The keys of a board are those of a keyboard, row by row and in each row from left to right. Each key code stands once,
-/// no two caps overlap, and all lie on the panel.
+/// The keys of a board are those of a keyboard, row by row and in each row from left to right. Each key code stands
+/// once, no two caps overlap, and all lie on the panel.
 pub fn boards_are_keyboards()
     ensures rows { BoardsAreKeyboards }
     ensures once { EachKeyOnce }

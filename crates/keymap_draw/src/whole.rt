@@ -90,7 +90,8 @@ fn upper_keys(drawing: &Drawing) -> ArrayVec<u8, KEY_COUNT>
     }
 }
 
-/// What is listed in a picture: the keys below the boards of the two halves, the accents, and the dead keys without one.
+/// What is listed in a picture: the keys below the boards of the two halves, the accents, and the dead keys without
+/// one.
 #[derive(Clone, Copy)]
 struct Listed<'a> {
     lower: &'a [u8],

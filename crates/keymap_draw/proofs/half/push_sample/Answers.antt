@@ -4,7 +4,8 @@ use Rattle.keymap_draw.proofs.half.push_sample.Goals as goal
 
 pub returns-in-Lower : goal.returns-in-Lower
 returns-in-Lower c =
-    subst (λ half. IfOk c.tell.result (λ s. s ≡ c.args.sheet ++ sample half c.args.y)) (sym c.in-Lower.is) c.tell.ensures
+    subst (λ half. IfOk c.tell.result (λ s. s ≡ c.args.sheet ++ sample half c.args.y)) (sym c.in-Lower.is)
+    c.tell.ensures
 
 pub returns-in-Upper : goal.returns-in-Upper
 returns-in-Upper c =

@@ -11,7 +11,8 @@ returns-then-count-eq1 c = rw c.if-count-eq1.true c.tell-then-count-eq1.ensures
 
 -- the letters behind a number, as they are read
 letters : (n : List ℕ)
-    → n ++ codes " " ++ codes "f" ++ codes "i" ++ codes "n" ++ codes "d" ++ codes "i" ++ codes "n" ++ codes "g" ++ codes "s"
+    → n ++ codes " " ++ codes "f" ++ codes "i" ++ codes "n" ++ codes "d" ++ codes "i" ++ codes "n" ++ codes "g"
+    ++ codes "s"
     ≡ n ++ codes " findings"
 letters n = simp append_assoc
 

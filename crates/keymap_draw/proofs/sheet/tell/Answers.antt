@@ -9,7 +9,8 @@ new : (g : Given.Over) → goal.In_ok-push_filled g → List Fact
 new g c = facts_over g.P.Part.begun c.args.words.now c.args.told.now
 
 read : (g : Given.Over) (c : goal.In_ok-push_filled g)
-    → ReadAs (within g.Q.Part.begun (reverse (new g c) ++ last_facts c.sheet.inside.text.items)) c.push_filled.new.text.items
+    → ReadAs (within g.Q.Part.begun (reverse (new g c) ++ last_facts c.sheet.inside.text.items))
+    c.push_filled.new.text.items
 unfolding new
 read g c =
     led c.args.words.now c.args.told.now (new g c) c.sheet.invariant c.in_ok-push_filled.ensures c.requires.ready

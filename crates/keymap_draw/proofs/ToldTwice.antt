@@ -3,7 +3,10 @@ use Rattle.keymap_draw.proofs.Common.{◌≡◌, ℕ, ◌++◌, refl, sym, appen
 use Rattle.keymap_draw.proofs.Common.{accent_words, unfilled, unseen_name, other_legend, character_legend}
 use Rattle.keymap_text.specs.Printed.{accent_line}
 use Rattle.keymap_draw.specs.Names.{LegendsAreNames, NoOthersAreNamed}
+use Rattle.std.specs.Prelude.{take, drop}
+use Rattle.keymap_draw.specs.declared.constants.TheConstants.{STYLE}
 use Rattle.keymap_draw.specs.Shapes.{CapsAreOfTheirKeys}
+use Rattle.keymap_draw.specs.Sizes.{SizesAreOfTheStyle}
 use Rattle.keymap_draw.proofs.Squeezed.{key_squeezed}
 
 pub legends_are_names : LegendsAreNames
@@ -17,6 +20,10 @@ no_others_are_named = refl
 pub caps_are_of_their_keys : CapsAreOfTheirKeys
 unfolding digits
 caps_are_of_their_keys = refl
+
+pub sizes_are_of_the_style : SizesAreOfTheStyle
+unfolding digits
+sizes_are_of_the_style = (take 398 STYLE, drop 540 STYLE, refl)
 
 pub accent_is_line : (i : ℕ) (accent : AccentValue) → accent_line i accent ≡ accent_words i accent ++ codes "\n"
 unfolding accent_line accent_words

@@ -19,3 +19,4 @@ pub mod Keyboards
 pub mod Letters
 pub mod Names
 pub mod Shapes
+pub mod Sizes

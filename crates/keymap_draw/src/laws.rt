@@ -18,6 +18,7 @@ ghost use Rattle.keymap_draw.specs.Names.{LegendsAreNames, NoOthersAreNamed};
 ghost use Rattle.keymap_draw.specs.Pictures.{IsPicture};
 ghost use Rattle.keymap_draw.specs.Places.{IsClass};
 ghost use Rattle.keymap_draw.specs.Shapes.{CapsAreOfTheirKeys};
+ghost use Rattle.keymap_draw.specs.Sizes.{SizesAreOfTheStyle};
 ghost use Rattle.keymap_draw.specs.Titles.{squeezed};
 ghost use Rattle.keymap_draw.specs.Told.{TitlesTell, PicturesTellDefinitions, PicturesTellKeymaps};
 ghost use Rattle.keymap_draw.specs.WellFormed.{IsPlain, IsShown, IsSeen, IsWellFormed};
@@ -100,6 +101,13 @@ pub fn boards_are_keyboards()
 #[tactic(auto, using(crate::proofs::ToldTwice::caps_are_of_their_keys))]
 pub fn caps_are_of_their_keys()
     ensures { CapsAreOfTheirKeys }
+{}
+
+/// The style draws the letters of a word as high as its class says, by which it is told whether the word is wider than
+/// its place and has to be shrunk.
+#[tactic(auto, using(crate::proofs::ToldTwice::sizes_are_of_the_style))]
+pub fn sizes_are_of_the_style()
+    ensures { SizesAreOfTheStyle }
 {}
 
 /// A character that nobody sees has the name for a legend that Unicode abbreviates its name to, and no other character

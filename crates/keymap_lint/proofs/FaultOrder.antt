@@ -1,8 +1,8 @@
 -- The faults of a text stand in its order, each in a later line than the one before it.
-use Rattle.keymap_lint.proofs.Common.{◌≡◌, ℕ, ◌+◌, ◌<◌, ◌≤◌, ◌∙◌, List, [], ◌∷◌, length, map, Some}
-use Rattle.keymap_lint.proofs.Common.{Faulty, arith, sym, ap, subst}
+use Rattle.keymap_lint.proofs.Common.{◌≡◌, ℕ, ◌+◌, ◌<◌, ◌≤◌, List, [], ◌∷◌, length, map, Some}
+use Rattle.keymap_lint.proofs.Common.{Faulty, arith, sym, ap, subst, rules}
 use Prim.Native.Nat.{zero, suc}
-use Rattle.std.proofs.Common.{◌-◌, All, ap₂, get_or}
+use Rattle.std.proofs.Common.{◌-◌, All, get_or}
 use Rattle.std.proofs.lemmas.List.Elements.{All-nil, All-cons}
 use Rattle.std.specs.List.Sorted.{IsStrictlyIncreasing}
 use Rattle.std.specs.Prelude.{slice_get}
@@ -26,8 +26,7 @@ own_lines zero text n fs e =
     subst (All (λ (f : PlacedFault). f.fault.line ≡ line text f.fault.offset)) (sym e) (All-nil _)
 own_lines (suc limit) text n [] is = All-nil _
 own_lines (suc limit) text n (f ∷ fs) is =
-    All-cons (λ (f : PlacedFault). f.fault.line ≡ line text f.fault.offset) f fs is.0.line
-    (own_lines limit text (line_end text f.fault.offset + 1) fs is.1)
+    search (rules, All-cons, own_lines limit text (line_end text f.fault.offset + 1) fs is.1)
 
 -- numbers that rise, with a lesser one in front
 suc_more : (k : ℕ) → suc (k + 1) ≡ suc k + 1
@@ -88,21 +87,7 @@ first_is : (limit : ℕ) (text : List ℕ) (fs : List PlacedFault) → AreFaults
     → slice_get fs 0 ≡ Some f → Fault text f.fault
 first_is limit text [] is f e = absurd (cc)
 first_is zero text (g ∷ gs) is f e = absurd (cc)
-first_is (suc limit) text (g ∷ gs) is f e = subst (λ (f : PlacedFault). Fault text f.fault) (same e) (whole g is.0)
-  where
-    same : Some g ≡ Some f → g ≡ f
-    same e = cc
-
-    whole : (g : PlacedFault) → IsFaultBehind text 0 g → Fault text g.fault
-    whole g is =
-        let own = is.is_fault in (
-          own.0,
-          (
-            own.1.0 ∙ ap₂ (λ k o. Some (record { kind = k; offset = o; early = own.0 })) (sym is.kind)
-                (omega (arith, is.offset)),
-            is.line,
-          ),
-        )
+first_is (suc limit) text (g ∷ gs) is f e = search rules
 
 pub faults_in_order : (text : List ℕ) (fs : List PlacedFault) → 0 < length fs → AreFaults 20 text 0 fs
     → AreInOrder text fs

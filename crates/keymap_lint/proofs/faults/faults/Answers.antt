@@ -1,8 +1,5 @@
-use Rattle.keymap_lint.proofs.Common.{◌≡◌, ◌+◌, ◌++◌, ◌∷◌, ◌<◌, ◌≤◌, ℕ, List, [], length, take, arith, ap, sym, subst}
+use Rattle.keymap_lint.proofs.Common.{arith, rules}
 use Rattle.std.proofs.Common.{◌-◌, inl, inr, length-append}
-use Rattle.keymap_text.proofs.Lines.{feeds}
-use Rattle.keymap_lint.specs.Faults.{AreFaults, IsFaultBehind}
-use Rattle.keymap_lint.specs.Types.{PlacedFault}
 use Rattle.keymap_lint.proofs.FaultPlaces.{faults_end, faults_more, lies_behind, lines_behind, none_found}
 use Rattle.keymap_lint.proofs.faults.faults.Goals as goal
 
@@ -16,24 +13,7 @@ behind_line-start-requires c =
     (lies_behind c.args.text.now c.loop-alloc.start c.in-Some.found (rw c.in-Some.is at c.in_ok-found.ensures)).0
 
 pub loop-alloc-preserved : goal.loop-alloc-preserved
-loop-alloc-preserved c =
-    let text = c.args.text.now in
-    let found = c.in-Some.found in
-    let is : IsFaultBehind text c.loop-alloc.start found = rw c.in-Some.is at c.in_ok-found.ensures in
-    let low : length c.loop-alloc.faults.items < 20 = omega (arith, c.loop-alloc-test.true, c.len.ensures) in
-    let pushed : c.push.new.self.items ≡ c.loop-alloc.faults.items ++ found ∷ [] = c.in_ok-push.ensures.items in
-    record {
-      few =
-          omega (arith, low, ap length pushed, length-append c.loop-alloc.faults.items (found ∷ []));
-      lines =
-          subst (λ (n : ℕ). n ≤ length text → found.fault.line ≡ feeds (take n text)) (sym c.behind_line-start.ensures)
-          (lines_behind text found.fault.offset found.fault.line is.line);
-      goes_on =
-          subst (λ (n : ℕ). (more : List PlacedFault) → AreFaults (20 - length c.push.new.self.items) text n more
-          → AreFaults 20 text 0 (c.push.new.self.items ++ more)) (sym c.behind_line-start.ensures)
-          (λ more later. faults_more text c.loop-alloc.start c.loop-alloc.faults.items c.push.new.self.items more found
-          low pushed c.loop-alloc.invariant.goes_on is later);
-    }
+loop-alloc-preserved c = search (rules, length-append, lines_behind, faults_more)
 
 pub returns : goal.returns
 returns c =

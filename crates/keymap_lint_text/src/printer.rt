@@ -89,23 +89,6 @@ impl<'a> Printer<'a> {
         }
     }
 
-    /// Adds a diagnostic of the text at a place, if it has one.
-    pub(crate) fn diagnostic(
-        &self,
-        text: &mut Vec<u8>,
-        place: Option<usize>,
-        severity: Severity,
-        kind: &[u8],
-        message: &[u8],
-    ) -> Result<(), AllocError>
-        requires { IfSome place (λ p. p ≤ length self.now.source.now) }
-        ensures { OnOk result (text.new.items ≡ text.old.items ++ spec.printed_of self.now.file.now
-            self.now.source.now (spec.remark place (Said.Judged severity kind.now message.now))) }
-    {
-        let said = judged(self.alloc, severity_text(severity), kind, message)?;
-        self.push(text, place, said.as_slice())
-    }
-
     /// Adds a note at a place, if it has one.
     pub(crate) fn note(
         &self,
@@ -155,14 +138,14 @@ impl<'a> Printer<'a> {
     {
         let kind = found.fault.kind;
         let place = found.fault.offset as usize;
-        let said = fault_message(self.alloc, self.source.text(), place, kind, &found.place)?;
-        self.diagnostic(
-            text,
-            Some(place),
-            Severity::Error,
+        let message = fault_message(self.alloc, self.source.text(), place, kind, &found.place)?;
+        let said = judged(
+            self.alloc,
+            severity_text(Severity::Error),
             kind.name(),
-            said.as_slice(),
+            message.as_slice(),
         )?;
+        self.push(text, Some(place), said.as_slice())?;
         self.beginning(text, place, kind, found.place.definition)
     }
 
@@ -205,15 +188,10 @@ impl<'a> Printer<'a> {
             self.now.source.now (of_diagnostic self.now.source.now lint.now diagnostic.now)) }
     {
         let kind = &diagnostic.kind;
-        let severity = kind.severity(lint.never_sticks());
-        let said = kind_message(self.alloc, self.source, lint, kind)?;
-        self.diagnostic(
-            text,
-            diagnostic.place,
-            severity,
-            kind_text(kind),
-            said.as_slice(),
-        )?;
+        let severity = severity_text(kind.severity(lint.never_sticks()));
+        let message = kind_message(self.alloc, self.source, lint, kind)?;
+        let said = judged(self.alloc, severity, kind_text(kind), message.as_slice())?;
+        self.push(text, diagnostic.place, said.as_slice())?;
         if is_noted(lint.list.as_slice(), kind) {
             self.answer(text, &lint.sticking)
         } else {

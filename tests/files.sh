@@ -369,7 +369,7 @@ echo 't:52427:1: warning: this definition of slot 1 has no effect: line 52428 de
 sed -n "$((1 + 3 * 52426 + 1))p" got > last
 same_text 'a warning in each line: the last one' want last
 
-# An editor reads the places of diagnostics.
+# An editor reads the places of diagnostics, and of the note of the whole text.
 if is_there vim; then
     cp "$examples/trap.kbd" .
     ln -s "$program" kmap
@@ -377,7 +377,7 @@ if is_there vim; then
         -c 'call writefile(map(getqflist(), {_, q -> printf("%d %d %d", q.valid, q.lnum, q.col)}), "places")' \
         -c 'qa!' > vim.said 2>&1
     grep '^1 ' places > got
-    echo '1 6 9' > want
+    printf '%s\n' '1 6 9' '1 1 1' > want
     same_text 'the places that vim reads' want got
 fi
 

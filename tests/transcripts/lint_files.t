@@ -12,7 +12,7 @@ Each file is judged alone, in the order of the words, under the name that it has
   ./bad:1:4: error: zz means nothing; a cell that gives nothing is nop [BadWord]
     30 zz
        ^
-  doubtful: warning: no key is lshift or rshift [no-shift]
+  doubtful:1:1: warning: no key is lshift or rshift [no-shift]
   folder/../folder/bad:1:4: error: zz means nothing; a cell that gives nothing is nop [BadWord]
     30 zz
        ^
@@ -28,7 +28,7 @@ Each file is judged alone, in the order of the words, under the name that it has
 
 The status where no file has an error, and where the first one has:
   $ kmap lint clean doubtful clean
-  doubtful: warning: no key is lshift or rshift [no-shift]
+  doubtful:1:1: warning: no key is lshift or rshift [no-shift]
   $ kmap lint bad clean
   bad:1:4: error: zz means nothing; a cell that gives nothing is nop [BadWord]
     30 zz
@@ -63,7 +63,7 @@ A file that is not there, alone and among others, and two:
   ! kmap: cannot open none
   [1]
   $ kmap lint doubtful none bad clean
-  doubtful: warning: no key is lshift or rshift [no-shift]
+  doubtful:1:1: warning: no key is lshift or rshift [no-shift]
   bad:1:4: error: zz means nothing; a cell that gives nothing is nop [BadWord]
     30 zz
        ^
@@ -87,7 +87,7 @@ Both outputs in one are in the order of the files:
 
 A folder:
   $ kmap lint folder doubtful
-  doubtful: warning: no key is lshift or rshift [no-shift]
+  doubtful:1:1: warning: no key is lshift or rshift [no-shift]
   ! kmap: folder: text: read fault at offset 0
   [1]
 
@@ -127,25 +127,25 @@ With --strict warnings count as errors, and what is printed stays. The option st
   $ cp "$examples/us.kbd" good
   $ head -n 25 good > begun
   $ kmap lint begun
-  begun: warning: no key is lshift or rshift [no-shift]
+  begun:1:1: warning: no key is lshift or rshift [no-shift]
   begun:17:44: warning: the text defines no accent, so pressing dcir is an error [dead-key]
       007   '6'    '^'    rs     rs     '6'    dcir   rs     rs      O
                                                ^
   $ kmap lint --strict begun
-  begun: warning: no key is lshift or rshift [no-shift]
+  begun:1:1: warning: no key is lshift or rshift [no-shift]
   begun:17:44: warning: the text defines no accent, so pressing dcir is an error [dead-key]
       007   '6'    '^'    rs     rs     '6'    dcir   rs     rs      O
                                                ^
   [1]
   $ kmap lint begun --strict
-  begun: warning: no key is lshift or rshift [no-shift]
+  begun:1:1: warning: no key is lshift or rshift [no-shift]
   begun:17:44: warning: the text defines no accent, so pressing dcir is an error [dead-key]
       007   '6'    '^'    rs     rs     '6'    dcir   rs     rs      O
                                                ^
   [1]
   $ kmap lint good --strict good
   $ kmap lint --strict good begun good
-  begun: warning: no key is lshift or rshift [no-shift]
+  begun:1:1: warning: no key is lshift or rshift [no-shift]
   begun:17:44: warning: the text defines no accent, so pressing dcir is an error [dead-key]
       007   '6'    '^'    rs     rs     '6'    dcir   rs     rs      O
                                                ^
@@ -166,19 +166,19 @@ Twice it is the same, as behind an alias that has it:
   -:6:9: error: key 42 is lshift here and the character 'x' in column 2 (ctrl); put lshift or nop for its characters [mixed-key]
       042   lshift lshift 'x'    'x'    lshift lshift lshift lshift  O
             ^
-  -: note: lshift stays on with no key pressed, after: down 42, down 29, down 42, up 29, up 42
+  -:1:1: note: lshift stays on with no key pressed, after: down 42, down 29, down 42, up 29, up 42
   [1]
   $ kmap lint --name 'a b.kbd' - < trap.kbd
   a b.kbd:6:9: error: key 42 is lshift here and the character 'x' in column 2 (ctrl); put lshift or nop for its characters [mixed-key]
       042   lshift lshift 'x'    'x'    lshift lshift lshift lshift  O
             ^
-  a b.kbd: note: lshift stays on with no key pressed, after: down 42, down 29, down 42, up 29, up 42
+  a b.kbd:1:1: note: lshift stays on with no key pressed, after: down 42, down 29, down 42, up 29, up 42
   [1]
   $ kmap lint - --name 'a b.kbd' < trap.kbd
   a b.kbd:6:9: error: key 42 is lshift here and the character 'x' in column 2 (ctrl); put lshift or nop for its characters [mixed-key]
       042   lshift lshift 'x'    'x'    lshift lshift lshift lshift  O
             ^
-  a b.kbd: note: lshift stays on with no key pressed, after: down 42, down 29, down 42, up 29, up 42
+  a b.kbd:1:1: note: lshift stays on with no key pressed, after: down 42, down 29, down 42, up 29, up 42
   [1]
 
 A file keeps its own name:
@@ -186,11 +186,11 @@ A file keeps its own name:
   a b.kbd:6:9: error: key 42 is lshift here and the character 'x' in column 2 (ctrl); put lshift or nop for its characters [mixed-key]
       042   lshift lshift 'x'    'x'    lshift lshift lshift lshift  O
             ^
-  a b.kbd: note: lshift stays on with no key pressed, after: down 42, down 29, down 42, up 29, up 42
+  a b.kbd:1:1: note: lshift stays on with no key pressed, after: down 42, down 29, down 42, up 29, up 42
   trap.kbd:6:9: error: key 42 is lshift here and the character 'x' in column 2 (ctrl); put lshift or nop for its characters [mixed-key]
       042   lshift lshift 'x'    'x'    lshift lshift lshift lshift  O
             ^
-  trap.kbd: note: lshift stays on with no key pressed, after: down 42, down 29, down 42, up 29, up 42
+  trap.kbd:1:1: note: lshift stays on with no key pressed, after: down 42, down 29, down 42, up 29, up 42
   [1]
 
 So a name without `-` names nothing, and nor does one without a character. Both are refused:
@@ -221,7 +221,7 @@ A name that a terminal does not show:
   a�b:6:9: error: key 42 is lshift here and the character 'x' in column 2 (ctrl); put lshift or nop for its characters [mixed-key]
       042   lshift lshift 'x'    'x'    lshift lshift lshift lshift  O
             ^
-  a�b: note: lshift stays on with no key pressed, after: down 42, down 29, down 42, up 29, up 42
+  a�b:1:1: note: lshift stays on with no key pressed, after: down 42, down 29, down 42, up 29, up 42
   [1]
 
 A folder as standard input:
@@ -239,5 +239,5 @@ A file whose name is that of standard input:
   ./-:6:9: error: key 42 is lshift here and the character 'x' in column 2 (ctrl); put lshift or nop for its characters [mixed-key]
       042   lshift lshift 'x'    'x'    lshift lshift lshift lshift  O
             ^
-  ./-: note: lshift stays on with no key pressed, after: down 42, down 29, down 42, up 29, up 42
+  ./-:1:1: note: lshift stays on with no key pressed, after: down 42, down 29, down 42, up 29, up 42
   [1]

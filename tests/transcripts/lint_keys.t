@@ -10,28 +10,28 @@ Nothing is said of one key and of the examples:
 no-key. An empty text, comments alone, and an accent alone:
   $ : > t
   $ kmap lint t
-  t: error: the text defines no key [no-key]
+  t:1:1: error: the text defines no key [no-key]
   [1]
   $ printf '# nothing\n\n' > t
   $ kmap lint t
-  t: error: the text defines no key [no-key]
+  t:1:1: error: the text defines no key [no-key]
   [1]
   $ echo "dacu 180 ( 'a' 0xe1 )" > t
   $ kmap lint t
-  t: error: the text defines no key [no-key]
+  t:1:1: error: the text defines no key [no-key]
   [1]
 
 no-shift. Either shift key will do, in any column, but not in a slot that no key selects:
   $ echo "30 'a' 'A' nop nop 'a' 'A' nop nop C" > t
   $ kmap lint t
-  t: warning: no key is lshift or rshift [no-shift]
+  t:1:1: warning: no key is lshift or rshift [no-shift]
   $ echo '54 rshift rshift rshift rshift rshift rshift rshift rshift O' > t
   $ kmap lint t
   $ echo '54 nop nop nop nop nop nop nop rshift O' > t
   $ kmap lint t
   $ echo '170 lshift lshift lshift lshift lshift lshift lshift lshift O' > t
   $ kmap lint t
-  t: warning: no key is lshift or rshift [no-shift]
+  t:1:1: warning: no key is lshift or rshift [no-shift]
   t:1:1: warning: no key is ashift or alock, so slot 170 is never looked at [unused-half]
     170 lshift lshift lshift lshift lshift lshift lshift lshift O
     ^
@@ -42,7 +42,7 @@ mixed-key. A modifier that is a character in another column, as in the example t
   trap.kbd:6:9: error: key 42 is lshift here and the character 'x' in column 2 (ctrl); put lshift or nop for its characters [mixed-key]
       042   lshift lshift 'x'    'x'    lshift lshift lshift lshift  O
             ^
-  trap.kbd: note: lshift stays on with no key pressed, after: down 42, down 29, down 42, up 29, up 42
+  trap.kbd:1:1: note: lshift stays on with no key pressed, after: down 42, down 29, down 42, up 29, up 42
   [1]
 
 One that is a character in the other slot of its key:
@@ -56,7 +56,7 @@ One that is a character in the other slot of its key:
   t:1:4: error: key 42 is lshift here and the character 'x' in column 0 (base) of slot 170; put lshift or nop for its characters [mixed-key]
     42 lshift lshift lshift lshift lshift lshift lshift lshift O
        ^
-  t: note: lshift stays on with no key pressed, after: down 42, down 58, up 58, down 42, up 42
+  t:1:1: note: lshift stays on with no key pressed, after: down 42, down 58, up 58, down 42, up 42
   [1]
 
 A warning where it never sticks:
@@ -79,7 +79,7 @@ A search for what sticks that gives up:
   t:49:9: error: key 100 is lshift here and the character 'x' in column 0 (base); put lshift or nop for its characters [mixed-key]
     100 'x' lshift 'x' lshift 'x' lshift 'x' lshift O
             ^
-  t: note: whether a modifier can stay on is undecided: more than 65536 states
+  t:1:1: note: whether a modifier can stay on is undecided: more than 65536 states
   [1]
 
 What the search found is told behind the greatest key, wherever that stands:
@@ -91,7 +91,7 @@ What the search found is told behind the greatest key, wherever that stands:
   > END
   $ kmap lint t > printed
   [1]
-  $ sed -n 's/^\(t:[0-9:]*\) .*key \([0-9]*\) is .*/\1 \2/p; s/^t: note: .*/note/p' printed
+  $ sed -n 's/^\(t:[0-9:]*\) .*key \([0-9]*\) is .*/\1 \2/p; s/^t:1:1: note: .*/note/p' printed
   t:1:8: 90
   note
   t:2:8: 89
@@ -119,7 +119,7 @@ The upper half that is left out, an error where a modifier sticks, and a warning
   t:2:4: error: alock selects the slots from 128 on, but the text does not define slots 170, 186, which give nul; so keys 42, 58 are each a modifier or lock with a character [half-defined]
     58 alock alock alock alock alock alock alock alock O
        ^
-  t: note: lshift stays on with no key pressed, after: down 42, down 58, up 58, down 42, up 42
+  t:1:1: note: lshift stays on with no key pressed, after: down 42, down 58, up 58, down 42, up 42
   [1]
   $ cat > t << 'END'
   > 42 lshift lshift lshift lshift lshift lshift lshift lshift O
@@ -170,11 +170,11 @@ Both at two keys: what the search found is told once.
   > 93 ashift ashift ashift ashift ashift ashift ashift ashift O
   > END
   $ kmap lint t
-  t: warning: no key is lshift or rshift [no-shift]
+  t:1:1: warning: no key is lshift or rshift [no-shift]
   t:1:4: error: key 58 is clock here and the character 'x' in column 7 (alt ctrl shift); put clock or nop for its characters [mixed-key]
     58 clock clock clock clock clock clock clock 'x' O
        ^
-  t: note: ashift stays on with no key pressed, after: down 93, down 93, up 93
+  t:1:1: note: ashift stays on with no key pressed, after: down 93, down 93, up 93
   t:2:4: error: ashift selects the slots from 128 on, but the text does not define slots 186, 221, which give nul; so key 93 is a modifier or lock with a character [half-defined]
     93 ashift ashift ashift ashift ashift ashift ashift ashift O
        ^

@@ -148,7 +148,7 @@ What people hand in by mistake: a text that was cut off in a word, in a quoted c
                     ^
   [1]
   $ kmap lint begun
-  begun: warning: no key is lshift or rshift [no-shift]
+  begun:1:1: warning: no key is lshift or rshift [no-shift]
   begun:17:44: warning: the text defines no accent, so pressing dcir is an error [dead-key]
       007   '6'    '^'    rs     rs     '6'    dcir   rs     rs      O
                                                ^
@@ -232,13 +232,15 @@ A program, and tables, of which a diagnostic for each line is printed, without c
   $ tr -d '\011\012\040-\176\200-\377' < printed | wc -c
   0
 
-Every line with a place is in the form that compilers have: FILE:LINE:COLUMN: SEVERITY: MESSAGE, and no other is.
+Every first line is in the form that compilers have: FILE:LINE:COLUMN: SEVERITY: MESSAGE, and no other is.
   $ cp "$examples/trap.kbd" .
   $ echo '30 zz' > bad
   $ kmap lint trap.kbd begun u bad > printed
   [1]
   $ grep -cE '^[^:]*:[0-9]+:[0-9]+: (error|warning|note): ' printed
-  4
+  6
+  $ grep -c '^[^ ]' printed
+  6
 
 The name of a file is shown as its text is, in one line, also that of a folder.
   $ name=$(printf 'a\033[31m\nb\342\200\256c')

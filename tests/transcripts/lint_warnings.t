@@ -171,7 +171,7 @@ bare-digit. Of cells alone, and of one decimal digit:
     2 1 '2' 03 0x4 10 5 9 0 O
                           ^
 
-The order: first what has no place, then by place.
+The order: first what is of the whole text, then by place.
   $ cat > t << 'END'
   > 2 1 dacu nop nop nop nop nop nop O
   > 30 'a' 'A' nop nop 'a' 'A' nop nop C
@@ -180,7 +180,7 @@ The order: first what has no place, then by place.
   > 2 nop dacu nop nop nop nop nop 7 O
   > END
   $ kmap lint t
-  t: warning: no key is lshift or rshift [no-shift]
+  t:1:1: warning: no key is lshift or rshift [no-shift]
   t:1:1: warning: this definition of slot 2 has no effect: line 5 defines it again [defined-again]
     2 1 dacu nop nop nop nop nop nop O
     ^

@@ -3,9 +3,9 @@ use Rattle.keymap_lint_text.proofs.Common.{◌≡◌, ℕ, Bool, true, false, Li
 use Rattle.keymap_lint_text.proofs.Common.{append_assoc, Option, Some, None, ◌==◌, not, decimal, length, ◌+◌, list_all}
 use Rattle.keymap_lint_text.proofs.Common.{and_parts, before_in_line, line, Severity, Said, Remark, head}
 use Rattle.keymap_lint_text.proofs.Common.{said_text}
-use Rattle.keymap_lint_text.proofs.Common.{remark, take, subst, arith, length-drop, cases_lt, inl, inr, ◌-◌, ◌<◌, ◌≤◌}
+use Rattle.keymap_lint_text.proofs.Common.{take, subst, arith, length-drop, cases_lt, inl, inr, ◌-◌, ◌<◌, ◌≤◌}
 use Prim.Native.Nat.{zero, suc}
-use Rattle.std.specs.Prelude.{◌&&◌, ◌^◌, slice_index}
+use Rattle.std.specs.Prelude.{◌^◌, IfSome}
 use Rattle.std.specs.List.{count_by, suffix_len}
 use Rattle.std.proofs.Common.{get_or, length-take}
 use Rattle.std.proofs.lemmas.Fmt.{decimal_injective}
@@ -14,14 +14,14 @@ use Rattle.std.proofs.lemmas.List.Sums.{suffix_len-take_yes}
 use Rattle.keymap_text.specs.LineOf.{is_feed}
 use Rattle.std.proofs.lemmas.List.{append_cancel_left}
 use Rattle.keymap_lint_text.specs.Names.{severity_text}
-use Rattle.keymap_lint_text.specs.Promises.{AreAlike, LiesIn, label}
+use Rattle.keymap_lint_text.specs.Promises.{AreAlike, LiesIn, label, place_or_beginning}
 use Rattle.keymap_lint_text.proofs.Headed.{behind, head_is}
 use Rattle.messages.proofs.Passed.{decimal_passes}
 use Rattle.keymap_lint.specs.declared.diagnostic.Severity.TheVariants as severities
 
--- a byte that is neither a colon nor a blank
+-- a byte other than a colon
 abbrev is_inner : ℕ → Bool
-is_inner c = not (c == 58) && not (c == 32)
+is_inner c = not (c == 58)
 
 inner_digits : (n : ℕ) → list_all is_inner (decimal n) ≡ true
 inner_digits n = decimal_passes is_inner refl n
@@ -31,18 +31,13 @@ same_front : (xs ys us vs : List ℕ) → list_all is_inner xs ≡ true → list
     → xs ++ (58 ∷ us) ≡ ys ++ (58 ∷ vs) → (xs ≡ ys) × (us ≡ vs)
 same_front [] [] us vs h k e = (refl, cc)
 same_front [] (y ∷ ys) us vs h k e =
-    let same : y ≡ 58 = cc in cc (ap is_inner same, (and_parts (is_inner y) (list_all is_inner ys) k).0)
+    let same : y ≡ 58 = cc in cc (same, (and_parts (is_inner y) (list_all is_inner ys) k).0)
 same_front (x ∷ xs) [] us vs h k e =
-    let same : x ≡ 58 = cc in cc (ap is_inner same, (and_parts (is_inner x) (list_all is_inner xs) h).0)
+    let same : x ≡ 58 = cc in cc (same, (and_parts (is_inner x) (list_all is_inner xs) h).0)
 same_front (x ∷ xs) (y ∷ ys) us vs h k e =
     let more : xs ++ (58 ∷ us) ≡ ys ++ (58 ∷ vs) = cc in
     let rest = same_front xs ys us vs (and_parts (is_inner x) (list_all is_inner xs) h).1
     (and_parts (is_inner y) (list_all is_inner ys) k).1 more in (cc (rest.0), rest.1)
-
-no_blank : (ds x y : List ℕ) → list_all is_inner ds ≡ true → 32 ∷ x ≡ ds ++ (58 ∷ y) → ⊥
-no_blank [] x y h e = let never : true ≡ false = ap (λ t. slice_index t 0 == 32) e in cc
-no_blank (d ∷ ds) x y h e =
-    let same : d ≡ 32 = cc in cc (ap is_inner same, (and_parts (is_inner d) (list_all is_inner ds) h).0)
 
 -- ---- what is said
 
@@ -133,7 +128,7 @@ abbrev column : List ℕ → ℕ → List ℕ
 column text p = decimal (length (before_in_line text p) + 1)
 
 placed_is : (text : List ℕ) (p : ℕ) (x : List ℕ)
-    → behind text (Some p) ++ x ≡ decimal (line text p) ++ (58 ∷ (column text p ++ (58 ∷ 32 ∷ x)))
+    → behind text p ++ x ≡ decimal (line text p) ++ (58 ∷ (column text p ++ (58 ∷ 32 ∷ x)))
 placed_is text p x = simp append_assoc
 
 -- the numbers of a line and a column are below 2 ^ 64
@@ -153,28 +148,29 @@ by_numbers text p q l v w e f =
     let columns = decimal_injective _ _ (column_low text p l) (column_low text q l) f in
     same_place text p q v w lines (omega (arith, columns))
 
-alike_by : (text : List ℕ) (p q : Option ℕ) (s t : Said) → LiesIn text (remark p s) → LiesIn text (remark q t)
+alike_by : (text : List ℕ) (p q : ℕ) (s t : Said) → length text < 2 ^ 63 → p ≤ length text → q ≤ length text
     → behind text p ++ said_text s ≡ behind text q ++ said_text t → (p ≡ q) × (label s ≡ label t)
-alike_by text None None s t v w e =
-    let said : said_text s ≡ said_text t = cc in (refl, same_label s t said)
-alike_by text None (Some q) s t v w e =
-    absurd (no_blank (decimal (line text q)) _ _ (inner_digits (line text q)) (e ∙ placed_is text q (said_text t)))
-alike_by text (Some p) None s t v w e =
-    absurd (no_blank (decimal (line text p)) _ _ (inner_digits (line text p))
-    (sym e ∙ placed_is text p (said_text s)))
-alike_by text (Some p) (Some q) s t v w e =
+alike_by text p q s t l v w e =
     let lines = same_front (decimal (line text p)) (decimal (line text q)) _ _ (inner_digits (line text p))
     (inner_digits (line text q)) (sym (placed_is text p (said_text s)) ∙ e ∙ placed_is text q (said_text t)) in
     let columns = same_front (column text p) (column text q) (32 ∷ said_text s) (32 ∷ said_text t)
     (inner_digits (length (before_in_line text p) + 1)) (inner_digits (length (before_in_line text q) + 1)) lines.1 in
     let said : said_text s ≡ said_text t = cc (columns.1) in (
-      ap Some (by_numbers text p q v.0 v.1 w.1 lines.0 columns.0),
+      by_numbers text p q l v w lines.0 columns.0,
       same_label s t said,
     )
+
+within : (text : List ℕ) (place : Option ℕ) → IfSome place (λ p. p ≤ length text)
+    → place_or_beginning place ≤ length text
+within text None h = omega arith
+within text (Some place) h = h
 
 pub heads_alike : (file text : List ℕ) (d e : Remark) → LiesIn text d → LiesIn text e
     → head file text d ≡ head file text e → AreAlike d e
 heads_alike file text d e v w is =
     let rest = append_cancel_left file _ _ (sym (head_is file text d) ∙ is ∙ head_is file text e) in
-    let same : behind text d.place ++ said_text d.said ≡ behind text e.place ++ said_text e.said = cc in
-    let both = alike_by text d.place e.place d.said e.said v w same in record { place = both.0; label = both.1 }
+    let p = place_or_beginning d.place in
+    let q = place_or_beginning e.place in
+    let same : behind text p ++ said_text d.said ≡ behind text q ++ said_text e.said = cc in
+    let both = alike_by text p q d.said e.said v.0 (within text d.place v.1) (within text e.place w.1) same in
+    record { place = both.0; label = both.1 }

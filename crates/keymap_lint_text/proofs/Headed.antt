@@ -9,7 +9,9 @@ use Rattle.keymap_lint_text.proofs.Common.{beginning, of_fault}
 use Rattle.std.specs.Prelude.{◌&&◌, nat_lt}
 use Rattle.std.specs.List.{All, filter}
 use Rattle.std.proofs.lemmas.List.Elements.{All-head, All-tail, filter-append}
+use Rattle.std.proofs.Common.{arith}
 use Rattle.std.proofs.lemmas.Bool.{cond_both}
+use Rattle.std.proofs.lemmas.Fmt.{decimal_digit}
 use Rattle.console_states.specs.declared.outcome.Sticking.{Sticking}
 use Rattle.console_states.specs.declared.outcome.Sticking.TheVariants.{Sticks, Never, Undecided}
 use Rattle.keymap_lint.specs.declared.diagnostic.Lint.{Lint}
@@ -19,6 +21,7 @@ use Rattle.keymap_text.specs.LineOf.{rest_of_line}
 use Rattle.keymap_text.specs.declared.wanted.DefinitionStart.{DefinitionStart}
 use Rattle.keymap_lint_text.specs.Heads.{below}
 use Rattle.keymap_lint_text.specs.Promises.{is_indented, is_flush, HasHeads, is_judged, diagnostics}
+use Rattle.keymap_lint_text.specs.Promises.{place_or_beginning}
 use Rattle.keymap_lint_text.specs.Notes.{begins_text}
 use Rattle.keymap_lint_text.specs.Whole.{IsLintText, fault_remark, remarks, tells_beginning}
 use Rattle.keymap_lint_text.proofs.Lines.{IsSaid, ascii, excerpt_lines, fault_name_line, head_line, kind_line}
@@ -26,17 +29,18 @@ use Rattle.keymap_lint_text.proofs.Lines.{name_line, sticks_line}
 use Rattle.keymap_lint_text.proofs.Messages.{begins_line, fault_line, message_line}
 
 -- what stands behind the file and a colon
-abbrev pub behind : List ℕ → Option ℕ → List ℕ
-behind text None = codes " "
-behind text (Some place) =
+abbrev pub behind : List ℕ → ℕ → List ℕ
+behind text place =
     decimal (line text place) ++ codes ":" ++ decimal (length (before_in_line text place) + 1) ++ codes ": "
 
 pub head_is : (file text : List ℕ) (e : Remark)
-    → head file text e ≡ file ++ (codes ":" ++ (behind text e.place ++ said_text e.said))
+    → head file text e ≡ file ++ (codes ":" ++ (behind text (place_or_beginning e.place) ++ said_text e.said))
 head_is file text e = ap (λ t. t ++ said_text e.said) (parts e.place) ∙ simp append_assoc
   where
-    parts : (place : Option ℕ) → place_text file text place ≡ file ++ (codes ":" ++ behind text place)
-    parts None = refl
+    parts : (place : Option ℕ)
+        → place_text file text place ≡ file ++ (codes ":" ++ behind text (place_or_beginning place))
+    parts None =
+        ap (λ one. file ++ (codes ":" ++ (one ++ codes ":" ++ one ++ codes ": "))) (sym (decimal_digit 1 (omega arith)))
     parts (Some place) = simp append_assoc
 
 indented_front : (file y : List ℕ) → is_indented (file ++ codes ":" ++ y) ≡ is_indented file
@@ -46,8 +50,8 @@ indented_front (a ∷ b ∷ file) y = refl
 
 head_indented : (file text : List ℕ) (e : Remark) → is_indented (head file text e) ≡ is_indented file
 head_indented file text e =
-    ap is_indented (head_is file text e ∙ sym (append_assoc file (codes ":") (behind text e.place ++ said_text e.said)))
-    ∙ indented_front file (behind text e.place ++ said_text e.said)
+    ap is_indented (head_is file text e ∙ sym (append_assoc file (codes ":") (behind text (place_or_beginning e.place) ++ said_text e.said)))
+    ∙ indented_front file (behind text (place_or_beginning e.place) ++ said_text e.said)
 
 below_indented : (text : List ℕ) (place : Option ℕ) → filter is_flush (below text place) ≡ []
 unfolding excerpt

@@ -197,7 +197,7 @@ severity_line severities.Error = ascii _ refl
 severity_line _ = ascii _ refl
 
 place_line : (file text : List ℕ) (place : Option ℕ) → IsLine file → IsLine (place_text file text place)
-place_line file text None p = p ⊳ ascii (codes ": ") refl
+place_line file text None p = p ⊳ ascii (codes ":1:1: ") refl
 place_line file text (Some place) p =
     p ⊳ ascii (codes ":") refl ⊳ decimal_line (line text place) ⊳ ascii (codes ":") refl
     ⊳ decimal_line (length (before_in_line text place) + 1) ⊳ ascii (codes ": ") refl

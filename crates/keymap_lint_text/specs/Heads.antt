@@ -14,7 +14,7 @@ pub data Said : Type 0 where
   Judged : Severity → List ℕ → List ℕ → Said
   Noted : List ℕ → Said
 
--- What is said at a place, or of the whole text.
+-- What is said at a place, or of the whole text, which has none.
 pub record Remark : Type 0 where
   pub place : Option ℕ
   pub said : Said
@@ -22,9 +22,10 @@ pub record Remark : Type 0 where
 abbrev pub remark : Option ℕ → Said → Remark
 remark place said = record { place = place; said = said }
 
--- the file, the line and its column, both counted from 1, or the file alone; columns are bytes
+-- The file, the line and its column, both counted from 1; columns are bytes. What is said of the whole text stands at the
+-- beginning of its first line.
 abbrev pub place_text : List ℕ → List ℕ → Option ℕ → List ℕ
-place_text file text None = file ++ codes ": "
+place_text file text None = file ++ codes ":1:1: "
 place_text file text (Some place) =
     file ++ codes ":" ++ decimal (line text place) ++ codes ":"
     ++ decimal (length (before_in_line text place) + 1) ++ codes ": "

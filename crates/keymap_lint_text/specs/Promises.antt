@@ -1,6 +1,6 @@
 -- What who reads the diagnostics of a text may rely on.
 use Rattle.std.specs.Prelude.{◌≡◌, ℕ, ◌+◌, ◌-◌, ◌^◌, ◌<◌, ◌≤◌, ◌==◌, ◌&&◌, not, Bool, true, false, List, [], ◌∷◌}
-use Rattle.std.specs.Prelude.{◌++◌, codes, map, take, drop, encode_utf8, length, min, slice_index, IfSome}
+use Rattle.std.specs.Prelude.{◌++◌, codes, map, take, drop, encode_utf8, length, min, slice_index, IfSome, Option, Some, None}
 use Rattle.std.specs.List.{All, filter, flat_map, list_all}
 use Rattle.console_core.specs.declared.event.Event.{Event}
 use Rattle.keymap_core.specs.declared.action.Modifier.{Modifier}
@@ -61,9 +61,15 @@ label _ = codes "note"
 abbrev pub LiesIn : List ℕ → Remark → Type 0
 LiesIn text e = (length text < 2 ^ 63) × IfSome e.place (λ p. p ≤ length text)
 
--- Two remarks of which one line is the head stand at the same place, and both are errors, warnings or notes.
+-- what is said of the whole text is told at its beginning
+abbrev pub place_or_beginning : Option ℕ → ℕ
+place_or_beginning None = 0
+place_or_beginning (Some place) = place
+
+-- Two remarks of which one line is the head stand at the same place, where one of the whole text stands at its
+-- beginning, and both are errors, warnings or notes.
 pub record AreAlike (d e : Remark) : Type 0 where
-  pub place : d.place ≡ e.place
+  pub place : place_or_beginning d.place ≡ place_or_beginning e.place
   pub label : label d.said ≡ label e.said
 
 abbrev pub HeadsTellPlaces : Type 0

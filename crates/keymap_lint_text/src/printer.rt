@@ -61,7 +61,7 @@ pub(crate) struct Printer<'a> {
 
 impl<'a> Printer<'a> {
     /// Adds what is said at a place, if it has one: `FILE:LINE:COLUMN: SAID`, the line of the text and the caret, or
-    /// `FILE: SAID` alone.
+    /// `FILE:1:1: SAID` alone.
     #[tactic(auto, unfolding(messages::specs::Filled::filled))]
     fn push(&self, text: &mut Vec<u8>, place: Option<usize>, said: &[u8]) -> Result<(), AllocError>
         requires { IfSome place (λ p. p ≤ length self.now.source.now) }

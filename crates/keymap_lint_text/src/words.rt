@@ -3,10 +3,11 @@
 //! Notes.antt and Faults.antt), which are proved to be the same. The words of a mixed key, of a text that is half
 //! defined and of most faults they take from here.
 
-// A diagnostic or note: the file, the line, the column and what is said, or the file and what is said.
+// A diagnostic or note: the file, the line, the column and what is said, or where it is said of the whole text the file
+// and what is said.
 pub(crate) const AT_PLACE: &[u8] = b"{}:{}:{}: {}\n";
 
-pub(crate) const AT_NO_PLACE: &[u8] = b"{}: {}\n";
+pub(crate) const AT_NO_PLACE: &[u8] = b"{}:1:1: {}\n";
 
 // The severity, the message and the kind; or the message.
 pub(crate) const DIAGNOSTIC: &[u8] = b"{}: {} [{}]";

@@ -188,7 +188,7 @@ static OUTPUTS: [Output; 17] = [
         b"",
         b"",
         false,
-        b"t: error: the text defines no key [no-key]\n",
+        b"t:1:1: error: the text defines no key [no-key]\n",
     ),
     (Run::Layout, b"\n # a text", b"", true, b"# a text\n"),
 ];

@@ -157,11 +157,32 @@ UTF-16 with and without its mark, and UTF-8 with one.
   $ printf '\377\376' > t
   $ printf '30 nop\n' | sed 's/./&@/g' | tr '@' '\000' >> t
   $ kmap lint t
-  t:1:1: error: � begins no word; a character that is meant is quoted: '�' [BadByte]
+  t:1:1: error: the text is UTF-16; save it as UTF-8 [BadByte]
     ��3�0� �n�o�p�
     ^
   [1]
-  $ tail -c +3 t > u
+  $ printf '\376\377\0003\0000\000 \000\n\000x' > t
+  $ kmap lint t
+  t:1:1: error: the text is UTF-16; save it as UTF-8 [BadByte]
+    ���3�0� �
+    ^
+  t:2:1: error: the text is UTF-16; save it as UTF-8 [BadByte]
+    �x
+    ^
+  [1]
+  $ printf '\377' > t
+  $ kmap lint t
+  t:1:1: error: � begins no word; a character that is meant is quoted: '�' [BadByte]
+    �
+    ^
+  [1]
+  $ printf '42 lshift lshift lshift lshift lshift lshift lshift lshift O\n\377\376' > t
+  $ kmap lint t
+  t:2:1: error: � begins no word; a character that is meant is quoted: '�' [BadByte]
+    ��
+    ^
+  [1]
+  $ printf '30 nop\n' | sed 's/./&@/g' | tr '@' '\000' > u
   $ kmap lint u
   u:1:2: error: the byte 0x00 begins no word [BadByte]
     3�0� �n�o�p�

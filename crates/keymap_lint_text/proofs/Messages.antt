@@ -206,13 +206,17 @@ hex_line c low =
     ascii _ (and_from _ _ (digit_printed (c / 16) (omega arith))
     (and_from _ _ (digit_printed (c % 16) (omega arith)) refl))
 
-byte_line : (bytes : List ℕ) → IsLine (fault.bad_byte_text bytes)
-unfolding fault.bad_byte_text
-byte_line bytes =
+lone_line : (bytes : List ℕ) → IsLine (fault.lone_byte_text bytes)
+unfolding fault.lone_byte_text
+lone_line bytes =
     cond_both (fault.is_unnamed (slice_index bytes 0)) _ _ IsLine
     (λ h. fills _ _ refl (hex_line _ (unnamed_low _ h), tt))
     (λ _. either _ _ _ (fills _ [] refl tt)
     (fills _ _ refl (front_line bytes, (front_line bytes, tt))))
+
+byte_line : (text bytes : List ℕ) → IsLine (fault.bad_byte_text text bytes)
+unfolding fault.bad_byte_text
+byte_line text bytes = either _ _ _ (fills _ [] refl tt) (lone_line bytes)
 
 nop_line : (w : Wanted) → IsLine (fault.nop_text w)
 nop_line w = line_if (fault.wants_cell w) _ (ascii _ refl)
@@ -246,7 +250,7 @@ end_line text f =
 pub fault_line : (text : List ℕ) (place : ℕ) (kind : TextFaultKind) (f : FaultPlace)
     → IsLine (fault.fault_text text place kind f)
 unfolding fault.fault_text
-fault_line text place faults.BadByte f = byte_line (drop place text)
+fault_line text place faults.BadByte f = byte_line text (drop place text)
 fault_line text place faults.BadLiteral f = fills _ [] refl tt
 fault_line text place faults.BadWord f = bad_word_line (drop place text) f.wanted
 fault_line text place faults.Unexpected f =

@@ -63,13 +63,23 @@ hex_byte c = digit_char (c / 16) ∷ digit_char (c % 16) ∷ []
 abbrev pub is_mark : List ℕ → Bool
 is_mark bytes = slice_index bytes 0 == 0xef && slice_index bytes 1 == 0xbb && slice_index bytes 2 == 0xbf
 
-unfoldable pub bad_byte_text : List ℕ → List ℕ
-bad_byte_text bytes =
+-- the two bytes of a byte order mark in UTF-16, in either order, begin the text
+abbrev pub is_utf16 : List ℕ → Bool
+is_utf16 text =
+    slice_index text 0 == 0xff && slice_index text 1 == 0xfe || slice_index text 0 == 0xfe && slice_index text 1 == 0xff
+
+unfoldable pub lone_byte_text : List ℕ → List ℕ
+lone_byte_text bytes =
     if is_unnamed (slice_index bytes 0)
     then filled (codes "the byte 0x{} begins no word") (hex_byte (slice_index bytes 0) ∷ [])
     else if is_mark bytes then filled (codes "a byte order mark begins no word; remove it") []
     else filled (codes "{} begins no word; a character that is meant is quoted: '{}'")
     (front_text bytes ∷ front_text bytes ∷ [])
+
+-- what is said of the bytes of a text from a place on that begin no token
+unfoldable pub bad_byte_text : List ℕ → List ℕ → List ℕ
+bad_byte_text text bytes =
+    if is_utf16 text then filled (codes "the text is UTF-16; save it as UTF-8") [] else lone_byte_text bytes
 
 abbrev pub wants_character : Wanted → Bool
 wants_character (wants.Cell n) = true
@@ -140,7 +150,7 @@ end_text text f =
 
 -- what is said of the fault of a text at a place
 unfoldable pub fault_text : List ℕ → ℕ → TextFaultKind → FaultPlace → List ℕ
-fault_text text place faults.BadByte f = bad_byte_text (drop place text)
+fault_text text place faults.BadByte f = bad_byte_text text (drop place text)
 fault_text text place faults.BadLiteral f = filled words.BAD_LITERAL.now []
 fault_text text place faults.BadWord f = bad_word_text (drop place text) f.wanted
 fault_text text place faults.Unexpected f =

@@ -7,7 +7,7 @@ use crate::told::{first_shown, started, wanted, word};
 use crate::words::{
     ALL_CELLS, BAD_BYTE, BAD_CHAR, BAD_FUNCTION, BAD_LITERAL, BAD_WORD, COMBINED, ENDS,
     ENDS_QUOTED, FEW_CELLS, FUNCTION_KEYS, KEY_TOO_LARGE, LONG_WORD, MARK, MEANT_CHARACTER,
-    MEANT_NOP, MEANT_NUMBER, SCREENS, TOO_MANY_PAIRS, UNEXPECTED, UNNAMED_BYTE, ZERO_BASE,
+    MEANT_NOP, MEANT_NUMBER, SCREENS, TOO_MANY_PAIRS, UNEXPECTED, UNNAMED_BYTE, UTF16, ZERO_BASE,
 };
 use keymap_core::hex_digit;
 use keymap_text::{
@@ -99,10 +99,17 @@ fn begins_with_mark(bytes: &[u8]) -> bool
     bytes.len() > 2 && bytes[0] == 0xef && bytes[1] == 0xbb && bytes[2] == 0xbf
 }
 
+/// Whether the byte order mark of UTF-16 begins a text, in either order of bytes.
+fn is_utf16(text: &[u8]) -> bool
+    ensures { result ≡ spec.is_utf16 text.now }
+{
+    text.len() > 1 && (text[0] == 0xff && text[1] == 0xfe || text[0] == 0xfe && text[1] == 0xff)
+}
+
 /// What is said of bytes that begin no token.
-#[tactic(auto, unfolding(crate::specs::Faults::bad_byte_text))]
-fn bad_byte(alloc: Global, bytes: &[u8]) -> Result<Vec<u8>, AllocError>
-    ensures { IfOk result (λ text. text.items ≡ spec.bad_byte_text bytes.now) }
+#[tactic(auto, unfolding(crate::specs::Faults::lone_byte_text))]
+fn lone_byte(alloc: Global, bytes: &[u8]) -> Result<Vec<u8>, AllocError>
+    ensures { IfOk result (λ text. text.items ≡ spec.lone_byte_text bytes.now) }
 {
     let byte = first_byte(bytes);
     if byte < 33 || byte == 127 {
@@ -118,6 +125,18 @@ fn bad_byte(alloc: Global, bytes: &[u8]) -> Result<Vec<u8>, AllocError>
             BAD_BYTE,
             &[character.as_slice(), character.as_slice()],
         )
+    }
+}
+
+/// What is said of the bytes of a text from a place on that begin no token.
+#[tactic(auto, unfolding(crate::specs::Faults::bad_byte_text))]
+fn bad_byte(alloc: Global, source: &[u8], bytes: &[u8]) -> Result<Vec<u8>, AllocError>
+    ensures { IfOk result (λ text. text.items ≡ spec.bad_byte_text source.now bytes.now) }
+{
+    if is_utf16(source) {
+        filled(alloc, UTF16, &[])
+    } else {
+        lone_byte(alloc, bytes)
     }
 }
 
@@ -271,7 +290,7 @@ pub(crate) fn fault_message(
     let told = word(alloc, name)?;
     let told = told.as_slice();
     match kind {
-        TextFaultKind::BadByte => bad_byte(alloc, rest),
+        TextFaultKind::BadByte => bad_byte(alloc, source, rest),
         TextFaultKind::BadLiteral => filled(alloc, BAD_LITERAL, &[]),
         TextFaultKind::BadWord => bad_word(alloc, rest, fault.wanted),
         TextFaultKind::Unexpected => {

@@ -83,6 +83,8 @@ pub(crate) const BAD_BYTE: &[u8] = b"{} begins no word; a character that is mean
 
 pub(crate) const MARK: &[u8] = b"a byte order mark begins no word; remove it";
 
+pub(crate) const UTF16: &[u8] = b"the text is UTF-16; save it as UTF-8";
+
 pub(crate) const BAD_LITERAL: &[u8] =
     b"no quoted character stands here: an apostrophe, one character other than a line feed, an apostrophe";
 

@@ -21,6 +21,20 @@ no-key. An empty text, comments alone, and an accent alone:
   t:1:1: error: the text defines no key [no-key]
   [1]
 
+A comment reaches to the end of a text whose lines end in CR alone, and not where an LF or no CR stands in it:
+  $ printf '# mine\r42 lshift lshift lshift lshift lshift lshift lshift lshift O\r' > t
+  $ kmap lint t
+  t:1:1: error: the text defines no key: its lines end in CR alone, so a comment reaches to its end; end them in LF [no-key]
+  [1]
+  $ printf '# nothing\r\n' > t
+  $ kmap lint t
+  t:1:1: error: the text defines no key [no-key]
+  [1]
+  $ printf '# nothing' > t
+  $ kmap lint t
+  t:1:1: error: the text defines no key [no-key]
+  [1]
+
 no-shift. Either shift key will do, in any column, but not in a slot that no key selects:
   $ echo "30 'a' 'A' nop nop 'a' 'A' nop nop C" > t
   $ kmap lint t

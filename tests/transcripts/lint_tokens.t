@@ -44,15 +44,47 @@ Bytes that are not shown: a form feed, the byte 127, and one that is no characte
 BadLiteral. Two characters between apostrophes, an apostrophe that is missing, and a line feed between them:
   $ echo "30 'ab' 'b'" > t
   $ kmap lint t
-  t:1:4: error: no quoted character stands here: an apostrophe, one character other than a line feed, an apostrophe [BadLiteral]
+  t:1:4: error: two characters stand between the apostrophes: U+0061 and U+0062; a quoted character is one [BadLiteral]
     30 'ab' 'b'
        ^
   [1]
   $ echo "30 'a 'b'" > t
   $ kmap lint t
-  t:1:4: error: no quoted character stands here: an apostrophe, one character other than a line feed, an apostrophe [BadLiteral]
+  t:1:4: error: two characters stand between the apostrophes: U+0061 and U+0020; a quoted character is one [BadLiteral]
     30 'a 'b'
        ^
+  [1]
+  $ printf "30 'e\314\201' nop\n30 '\360\237\230\200\303\244'" > t
+  $ kmap lint t
+  t:1:4: error: two characters stand between the apostrophes: U+0065 and U+0301; a quoted character is one [BadLiteral]
+    30 'é' nop
+       ^
+  t:2:4: error: two characters stand between the apostrophes: U+1f600 and U+00e4; a quoted character is one [BadLiteral]
+    30 '😀ä'
+       ^
+  [1]
+
+Three characters, two without an apostrophe behind them, bytes that are no UTF-8, and a line feed among the two:
+  $ printf "30 'abc'\n30 'ab" > t
+  $ kmap lint t
+  t:1:4: error: no quoted character stands here: an apostrophe, one character other than a line feed, an apostrophe [BadLiteral]
+    30 'abc'
+       ^
+  t:2:4: error: no quoted character stands here: an apostrophe, one character other than a line feed, an apostrophe [BadLiteral]
+    30 'ab
+       ^
+  [1]
+  $ printf "30 '\344\344'\n30 'a\n'" > t
+  $ kmap lint t
+  t:1:4: error: no quoted character stands here: an apostrophe, one character other than a line feed, an apostrophe [BadLiteral]
+    30 '��'
+       ^
+  t:2:4: error: no quoted character stands here: an apostrophe, one character other than a line feed, an apostrophe [BadLiteral]
+    30 'a
+       ^
+  t:3:2: error: the text ends in a quoted character [EndInside]
+    '
+     ^
   [1]
   $ printf "30 '\n" > t
   $ kmap lint t

@@ -1,11 +1,13 @@
 -- Each message stays in its line, and a terminal shows it.
 use Rattle.keymap_lint_text.proofs.Common.{◌≡◌, ℕ, ◌<◌, ◌/◌, ◌%◌, Bool, true, List, [], ◌∷◌, refl, arith, Option}
-use Rattle.keymap_lint_text.proofs.Common.{Some, None, drop, length, ◌==◌, codes}
+use Rattle.keymap_lint_text.proofs.Common.{Some, None, drop, length, ◌==◌, codes, nat_lt}
 use Rattle.keymap_lint_text.proofs.Common.{list_all, and_parts, nat_tests, All-take, slice_index, slice_index_or}
 use Rattle.keymap_lint_text.proofs.Common.{range_with_len, IsSeen, IsLine, is_shown_byte}
 use Prim.Native.Nat.{zero, suc}
 use Rattle.std.proofs.lemmas.Bool.{and_from, cond_both}
 use Rattle.keymap_core.specs.Actions.{accent_names, name_of}
+use Rattle.keymap_core.specs.CodePoints.{digit_at, upper_digits}
+unfoldable use Rattle.keymap_core.specs.CodePoints.{code_digits}
 use Rattle.keymap_core.specs.declared.action.Holding.{Holding}
 use Rattle.keymap_core.specs.declared.action.Holding.TheVariants as holding
 use Rattle.keymap_core.specs.declared.action.Action.TheVariants as action
@@ -175,9 +177,13 @@ pair_line accent base first = fills _ _ refl (accent_line accent, (character_lin
 unused_line : (slots : List ℕ) → IsLine (said.unused_text slots)
 unused_line slots = counted_line _ _ slots refl refl
 
+no_key_line : (text : List ℕ) → IsLine (said.no_key_text text)
+unfolding said.no_key_text
+no_key_line text = fills _ _ refl (line_if (said.ends_in_cr text) _ (ascii _ refl), tt)
+
 pub message_line : (text : List ℕ) (l : Diagnostics) (kind : Kind) → IsLine (said.message_text text l kind)
 unfolding said.message_text
-message_line text l kinds.NoKey = fills _ [] refl tt
+message_line text l kinds.NoKey = no_key_line text
 message_line text l kinds.NoShift = fills _ [] refl tt
 message_line text l (kinds.MixedKey f c) = mixed_line f c _
 message_line text l (kinds.HalfDefined selector has_keys) = half_line l selector has_keys
@@ -218,6 +224,30 @@ byte_line : (text bytes : List ℕ) → IsLine (fault.bad_byte_text text bytes)
 unfolding fault.bad_byte_text
 byte_line text bytes = either _ _ _ (fills _ [] refl tt) (lone_line bytes)
 
+hex_digit_line : (c unit : ℕ) (ds : List ℕ) → IsLine ds → IsLine (digit_at c unit ∷ ds)
+hex_digit_line c unit ds p =
+    ascii (digit_at c unit ∷ []) (and_from _ _ (digit_printed ((c / unit) % 16) (omega arith)) refl) ⊳ p
+
+upper_line : (c : ℕ) → IsLine (upper_digits c)
+upper_line c =
+    either (nat_lt c 0x10000) [] _ line_none
+    (either (nat_lt c 0x100000) _ _ (hex_digit_line c 0x10000 [] line_none)
+    (hex_digit_line c 0x100000 _ (hex_digit_line c 0x10000 [] line_none)))
+
+code_line : (c : ℕ) → IsLine (code_digits c)
+unfolding code_digits
+code_line c =
+    upper_line c
+    ⊳ hex_digit_line c 0x1000 _ (hex_digit_line c 0x100 _ (hex_digit_line c 0x10 _ (hex_digit_line c 1 [] line_none)))
+
+between_line : (both : Option (ℕ × ℕ)) → IsLine (fault.between_text both)
+between_line None = fills words.BAD_LITERAL.now [] refl tt
+between_line (Some both) = fills _ _ refl (code_line both.0, (code_line both.1, tt))
+
+literal_line : (bytes : List ℕ) → IsLine (fault.bad_literal_text bytes)
+unfolding fault.bad_literal_text
+literal_line bytes = between_line (fault.two_characters (drop 1 bytes))
+
 nop_line : (w : Wanted) → IsLine (fault.nop_text w)
 nop_line w = line_if (fault.wants_cell w) _ (ascii _ refl)
 
@@ -251,7 +281,7 @@ pub fault_line : (text : List ℕ) (place : ℕ) (kind : TextFaultKind) (f : Fau
     → IsLine (fault.fault_text text place kind f)
 unfolding fault.fault_text
 fault_line text place faults.BadByte f = byte_line text (drop place text)
-fault_line text place faults.BadLiteral f = fills _ [] refl tt
+fault_line text place faults.BadLiteral f = literal_line (drop place text)
 fault_line text place faults.BadWord f = bad_word_line (drop place text) f.wanted
 fault_line text place faults.Unexpected f =
     fills _ _ refl (word_line _, (wanted_line f.wanted f.definition, (cells_line _ f.wanted _, tt)))

@@ -4,6 +4,8 @@ use Rattle.std.specs.Prelude.{List, [], ◌∷◌, codes, decimal, length, take,
 use Rattle.std.specs.Prelude.{Option, Some, None, Result, Ok, Err}
 use Rattle.std.specs.Char.{digit_char, is_ascii_hexdigit, to_ascii_lowercase}
 use Rattle.std.specs.List.{flat_map, before_first}
+use Rattle.bstr.specs.Utf8.{decoded}
+use Rattle.keymap_core.specs.CodePoints.{code_digits}
 use Rattle.keymap_text.specs.declared.fault.TextFaultKind.{TextFaultKind}
 use Rattle.keymap_text.specs.declared.fault.TextFaultKind.TheVariants as faults
 use Rattle.keymap_text.specs.declared.wanted.Wanted.{Wanted}
@@ -81,6 +83,34 @@ unfoldable pub bad_byte_text : List ℕ → List ℕ → List ℕ
 bad_byte_text text bytes =
     if is_utf16 text then filled (codes "the text is UTF-16; save it as UTF-8") [] else lone_byte_text bytes
 
+-- the character in front of bytes, if one other than a line feed stands there, and how many bytes it has
+unfoldable pub front_character : List ℕ → Option (ℕ × ℕ)
+front_character bytes = elim (decoded bytes).char [
+  | None ↦ None
+  | Some c ↦ if c == 10 then None else Some (c, (decoded bytes).size)
+]
+
+-- the two characters in front of bytes, where an apostrophe stands behind them
+unfoldable pub two_characters : List ℕ → Option (ℕ × ℕ)
+two_characters bytes = elim (front_character bytes) [
+  | None ↦ None
+  | Some first ↦ elim (front_character (drop first.1 bytes)) [
+    | None ↦ None
+    | Some second ↦
+        if slice_index (drop second.1 (drop first.1 bytes)) 0 == 39 then Some (first.0, second.0) else None
+  ]
+]
+
+abbrev pub between_text : Option (ℕ × ℕ) → List ℕ
+between_text None = filled words.BAD_LITERAL.now []
+between_text (Some both) =
+    filled (codes "two characters stand between the apostrophes: U+{} and U+{}; a quoted character is one")
+    (code_digits both.0 ∷ code_digits both.1 ∷ [])
+
+-- what is said of an apostrophe that begins no quoted character, by the bytes from it on
+unfoldable pub bad_literal_text : List ℕ → List ℕ
+bad_literal_text bytes = between_text (two_characters (drop 1 bytes))
+
 abbrev pub wants_character : Wanted → Bool
 wants_character (wants.Cell n) = true
 wants_character wants.AccentCharacter = true
@@ -151,7 +181,7 @@ end_text text f =
 -- what is said of the fault of a text at a place
 unfoldable pub fault_text : List ℕ → ℕ → TextFaultKind → FaultPlace → List ℕ
 fault_text text place faults.BadByte f = bad_byte_text text (drop place text)
-fault_text text place faults.BadLiteral f = filled words.BAD_LITERAL.now []
+fault_text text place faults.BadLiteral f = bad_literal_text (drop place text)
 fault_text text place faults.BadWord f = bad_word_text (drop place text) f.wanted
 fault_text text place faults.Unexpected f =
     filled words.UNEXPECTED.now (word_text (token_bytes (first_at text place)) ∷ wanted_text f.wanted f.definition

@@ -1,5 +1,6 @@
 -- What is said of a text that spells a keymap: of each kind its words, filled with what the diagnostic tells.
-use Rattle.std.specs.Prelude.{ℕ, Bool, ◌==◌, if◌then◌else◌, List, [], ◌∷◌, codes, decimal, length}
+use Rattle.std.specs.Prelude.{ℕ, Bool, ◌==◌, ◌&&◌, not, if◌then◌else◌, List, [], ◌∷◌, codes, decimal, length}
+use Rattle.std.specs.List.{list_any}
 use Rattle.keymap_core.specs.Actions.{holding_action, name_of}
 use Rattle.keymap_core.specs.declared.action.Holding.{Holding}
 use Rattle.keymap_check.specs.declared.finding.Finding.{Finding}
@@ -88,9 +89,23 @@ unused_text slots =
     counted (codes "no key is ashift or alock, so slot {} is never looked at")
     (codes "no key is ashift or alock, so slots {} are never looked at") slots
 
+abbrev pub has_byte : ℕ → List ℕ → Bool
+has_byte byte text = list_any (λ c. c == byte) text
+
+-- the lines of a text end in CR alone
+abbrev pub ends_in_cr : List ℕ → Bool
+ends_in_cr text = has_byte 13 text && not (has_byte 10 text)
+
+-- a text without a key, which a comment that reaches to the end of the text may hide
+unfoldable pub no_key_text : List ℕ → List ℕ
+no_key_text text =
+    filled (codes "the text defines no key{}") ((if ends_in_cr text
+    then codes ": its lines end in CR alone, so a comment reaches to its end; end them in LF" else [])
+    ∷ [])
+
 -- what is said of a text by a diagnostic of this kind
 unfoldable pub message_text : List ℕ → Diagnostics → Kind → List ℕ
-message_text text l kinds.NoKey = filled (codes "the text defines no key") []
+message_text text l kinds.NoKey = no_key_text text
 message_text text l kinds.NoShift = filled (codes "no key is lshift or rshift") []
 message_text text l (kinds.MixedKey finding character) =
     mixed_key_text finding character (never_sticks l.sticking)

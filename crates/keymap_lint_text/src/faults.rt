@@ -7,9 +7,10 @@ use crate::told::{first_shown, started, wanted, word};
 use crate::words::{
     ALL_CELLS, BAD_BYTE, BAD_CHAR, BAD_FUNCTION, BAD_LITERAL, BAD_WORD, COMBINED, ENDS,
     ENDS_QUOTED, FEW_CELLS, FUNCTION_KEYS, KEY_TOO_LARGE, LONG_WORD, MARK, MEANT_CHARACTER,
-    MEANT_NOP, MEANT_NUMBER, SCREENS, TOO_MANY_PAIRS, UNEXPECTED, UNNAMED_BYTE, UTF16, ZERO_BASE,
+    MEANT_NOP, MEANT_NUMBER, SCREENS, TOO_MANY_PAIRS, TWO_CHARACTERS, UNEXPECTED, UNNAMED_BYTE,
+    UTF16, ZERO_BASE,
 };
-use keymap_core::hex_digit;
+use keymap_core::{code_digits, hex_digit};
 use keymap_text::{
     DefinitionStart, FaultPlace, Meaning, TextFaultKind, Wanted, next_token, word_len, word_meaning,
 };
@@ -140,6 +141,64 @@ fn bad_byte(alloc: Global, source: &[u8], bytes: &[u8]) -> Result<Vec<u8>, Alloc
     }
 }
 
+/// The bytes from a place on; none where they end before it.
+fn behind(bytes: &[u8], place: usize) -> &[u8]
+    ensures { result.now ≡ drop place bytes.now }
+{
+    if place < bytes.len() {
+        &bytes[place..]
+    } else {
+        &[]
+    }
+}
+
+/// The character in front of bytes, if one other than a line feed stands there, and how many bytes it has.
+#[tactic(auto, unfolding(crate::specs::Faults::front_character))]
+fn front_character(bytes: &[u8]) -> Option<(char, usize)>
+    ensures { result ≡ spec.front_character bytes.now }
+{
+    let (character, size) = bstr::decode_utf8(bytes);
+    match character {
+        None | Some('\n') => None,
+        Some(c) => Some((c, size)),
+    }
+}
+
+/// The two characters in front of bytes, where an apostrophe stands behind them.
+#[tactic(auto, unfolding(crate::specs::Faults::two_characters))]
+fn two_characters(bytes: &[u8]) -> Option<(char, char)>
+    ensures { result ≡ spec.two_characters bytes.now }
+{
+    let (first, size) = front_character(bytes)?;
+    let rest = behind(bytes, size);
+    let (second, size) = front_character(rest)?;
+    if first_byte(behind(rest, size)) == b'\'' {
+        Some((first, second))
+    } else {
+        None
+    }
+}
+
+/// What is said of an apostrophe that begins no quoted character, by the bytes from it on.
+#[tactic(auto, unfolding(crate::specs::Faults::bad_literal_text))]
+fn bad_literal(alloc: Global, bytes: &[u8]) -> Result<Vec<u8>, AllocError>
+    ensures { IfOk result (λ text. text.items ≡ spec.bad_literal_text bytes.now) }
+{
+    match two_characters(behind(bytes, 1)) {
+        None => filled(alloc, BAD_LITERAL, &[]),
+        Some((first, second)) => {
+            filled(
+                alloc,
+                TWO_CHARACTERS,
+                &[
+                    code_digits(first).as_slice(),
+                    code_digits(second).as_slice(),
+                ],
+            )
+        }
+    }
+}
+
 fn wants_character(wanted: Wanted) -> bool
     ensures { result ≡ spec.wants_character wanted }
 {
@@ -264,14 +323,6 @@ fn end_inside(alloc: Global, source: &[u8], fault: &FaultPlace) -> Result<Vec<u8
     }
 }
 
-/// The bytes from a place on.
-fn bytes_from(bytes: &[u8], place: usize) -> &[u8]
-    requires { place ≤ length bytes.now }
-    ensures { result.now ≡ drop place bytes.now }
-{
-    &bytes[place..]
-}
-
 /// What is said of the fault of a text at a place.
 #[tactic(auto, unfolding(crate::specs::Faults::fault_text))]
 pub(crate) fn fault_message(
@@ -285,13 +336,13 @@ pub(crate) fn fault_message(
     requires behind { fault.now.behind ≤ length source.now }
     ensures { IfOk result (λ text. text.items ≡ spec.fault_text source.now place kind fault.now) }
 {
-    let rest = bytes_from(source, place);
+    let rest = behind(source, place);
     let name = front_word(rest);
     let told = word(alloc, name)?;
     let told = told.as_slice();
     match kind {
         TextFaultKind::BadByte => bad_byte(alloc, source, rest),
-        TextFaultKind::BadLiteral => filled(alloc, BAD_LITERAL, &[]),
+        TextFaultKind::BadLiteral => bad_literal(alloc, rest),
         TextFaultKind::BadWord => bad_word(alloc, rest, fault.wanted),
         TextFaultKind::Unexpected => {
             let token = token_at(source, place);

@@ -9,9 +9,9 @@ ghost use Rattle.keymap_lint_text.specs.Said as spec;
 use crate::lists::{accent_name, accents, ranges};
 use crate::told::{column as column_text, defined, told_character};
 use crate::words::{
-    ACCENTS, BARE_DIGIT, DEAD_KEY, DEFINED_AGAIN, HALF_DEFINED, MISSING_SLOT, MISSING_SLOTS,
-    MIXED_KEY, NEVER_STICKS, NO_ACCENT, NO_KEY, NO_SHIFT, NOT_JOINED, NUL_KEY, NUL_KEYS,
-    ONE_ACCENT, OTHER_SLOT, PAIR_AGAIN, UNUSED_SLOT, UNUSED_SLOTS, ZERO_ACCENT,
+    ACCENTS, BARE_DIGIT, CR_ALONE, DEAD_KEY, DEFINED_AGAIN, HALF_DEFINED, MISSING_SLOT,
+    MISSING_SLOTS, MIXED_KEY, NEVER_STICKS, NO_ACCENT, NO_KEY, NO_SHIFT, NOT_JOINED, NUL_KEY,
+    NUL_KEYS, ONE_ACCENT, OTHER_SLOT, PAIR_AGAIN, UNUSED_SLOT, UNUSED_SLOTS, ZERO_ACCENT,
 };
 use keymap_check::Finding;
 use keymap_core::Holding;
@@ -178,6 +178,27 @@ fn bare_digit(alloc: Global, character: char) -> Result<Vec<u8>, AllocError>
     filled(alloc, BARE_DIGIT, &[digit, digit, text.as_slice(), digit])
 }
 
+fn has_byte(byte: u8, text: &[u8]) -> bool
+    ensures { result ≡ spec.has_byte byte text.now }
+{
+    text.iter().any(|c| *c == byte)
+}
+
+/// Whether the lines of a text end in CR alone.
+fn ends_in_cr(text: &[u8]) -> bool
+    ensures { result ≡ spec.ends_in_cr text.now }
+{
+    has_byte(b'\r', text) && !has_byte(b'\n', text)
+}
+
+/// What is said of a text without a key, which a comment that reaches to the end of the text may hide.
+#[tactic(auto, unfolding(crate::specs::Said::no_key_text))]
+fn no_key(alloc: Global, source: &[u8]) -> Result<Vec<u8>, AllocError>
+    ensures { IfOk result (λ text. text.items ≡ spec.no_key_text source.now) }
+{
+    filled(alloc, NO_KEY, &[either(ends_in_cr(source), CR_ALONE, b"")])
+}
+
 /// What is said of a text that spells a keymap. A character is given as it is printed in a keymap.
 #[tactic(auto, unfolding(crate::specs::Said::message_text))]
 pub(crate) fn kind_message(
@@ -190,7 +211,7 @@ pub(crate) fn kind_message(
     ensures { IfOk result (λ text. text.items ≡ spec.message_text source.now lint.now kind.now) }
 {
     match kind {
-        Kind::NoKey => filled(alloc, NO_KEY, &[]),
+        Kind::NoKey => no_key(alloc, source.text()),
         Kind::NoShift => filled(alloc, NO_SHIFT, &[]),
         Kind::MixedKey { finding, character } => mixed_key(
             alloc,

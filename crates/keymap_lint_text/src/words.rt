@@ -15,7 +15,10 @@ pub(crate) const DIAGNOSTIC: &[u8] = b"{}: {} [{}]";
 pub(crate) const NOTE: &[u8] = b"note: {}";
 
 // Of a text that spells a keymap.
-pub(crate) const NO_KEY: &[u8] = b"the text defines no key";
+pub(crate) const NO_KEY: &[u8] = b"the text defines no key{}";
+
+pub(crate) const CR_ALONE: &[u8] =
+    b": its lines end in CR alone, so a comment reaches to its end; end them in LF";
 
 pub(crate) const NO_SHIFT: &[u8] = b"no key is lshift or rshift";
 
@@ -87,6 +90,9 @@ pub(crate) const UTF16: &[u8] = b"the text is UTF-16; save it as UTF-8";
 
 pub(crate) const BAD_LITERAL: &[u8] =
     b"no quoted character stands here: an apostrophe, one character other than a line feed, an apostrophe";
+
+pub(crate) const TWO_CHARACTERS: &[u8] =
+    b"two characters stand between the apostrophes: U+{} and U+{}; a quoted character is one";
 
 pub(crate) const BAD_WORD: &[u8] = b"{} means nothing{}";
 

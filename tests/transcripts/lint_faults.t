@@ -24,7 +24,7 @@ and the note of the last one shows where its definition begins:
   t:5:10: error: ( stands where the number of a slot or the name of an accent is wanted [Unexpected]
              ( 'u' 0xf9 )
              ^
-  t:7:9: error: eof means nothing; a cell that gives nothing is nop [BadWord]
+  t:7:9: error: eof means nothing; did you mean eot [BadWord]
         eot eof 'd' 'D' eot eot C
             ^
   t:6:1: note: slot 32 is defined from here on

@@ -107,6 +107,47 @@ BadWord. A word without a meaning, where a cell is wanted and where the characte
          ^
   [1]
 
+A word that is one name but for one letter, which is left out, added, or another one, at the front, inside and at the
+end; in capitals; also where no cell is wanted:
+  $ printf '30 shif\n30 lshif\n30 lshft\n30 rctr\n30 lshiftt\n30 llshift\n30 lshuft\n30 mshift\n30 lshifd\n' > t
+  $ kmap lint t | grep error
+  t:1:4: error: shif means nothing; a cell that gives nothing is nop [BadWord]
+  t:2:4: error: lshif means nothing; did you mean lshift [BadWord]
+  t:3:4: error: lshft means nothing; did you mean lshift [BadWord]
+  t:4:4: error: rctr means nothing; did you mean rctrl [BadWord]
+  t:5:4: error: lshiftt means nothing; did you mean lshift [BadWord]
+  t:6:4: error: llshift means nothing; did you mean lshift [BadWord]
+  t:7:4: error: lshuft means nothing; did you mean lshift [BadWord]
+  t:8:4: error: mshift means nothing; a cell that gives nothing is nop [BadWord]
+  t:9:4: error: lshifd means nothing; did you mean lshift [BadWord]
+  $ printf '30 LShif\n30 noop\ndacux 180\ndacu nux\n30 fkeyl0\n30 scro1\n30 altt\n30 delt\n30 backtap\n' > t
+  $ kmap lint t | grep error
+  t:1:4: error: LShif means nothing; did you mean lshift [BadWord]
+  t:2:4: error: noop means nothing; did you mean nop [BadWord]
+  t:3:1: error: dacux means nothing; did you mean dacu [BadWord]
+  t:4:6: error: nux means nothing; did you mean nul [BadWord]
+  t:5:4: error: fkeyl0 means nothing; a cell that gives nothing is nop [BadWord]
+  t:6:4: error: scro1 means nothing; a cell that gives nothing is nop [BadWord]
+  t:7:4: error: altt means nothing; did you mean alt [BadWord]
+  t:8:4: error: delt means nothing; did you mean del [BadWord]
+  t:9:4: error: backtap means nothing; did you mean backtab [BadWord]
+
+Each name of keymap(5) with one letter more; so and em have others near then, so their letter comes in front:
+  $ names='nul soh stx etx eot enq ack bel bs ht nl vt ff cr si dle dc1 dc2 dc3 dc4 nak syn etb can sub esc fs gs rs ns del
+  > lf np us nop lshift rshift clock nlock slock lalt btab lctrl nscr rctrl ralt alock ashift meta boot debug susp saver
+  > stby pscr panic halt pdwn paste dgra dacu dcir dtil dmac dbre ddot duml dsla drin dced dapo ddac dogo dcar alt ctrl
+  > backtab ddia'
+  $ names="$names $(printf 'scr%02d ' $(seq 16)) $(printf 'fkey%02d ' $(seq 96))"
+  $ printf '30 %sq\n' $names | split -l 20 - word.
+  $ kmap lint word.* | sed -n 's/.*; did you mean \(.*\) \[BadWord\]$/\1/p' > meant
+  $ printf '%s\n' $names | diff - meant
+  $ wc -l < meant
+  190
+  $ printf '30 xso\n30 xem\n' > t
+  $ kmap lint t | grep error
+  t:1:4: error: xso means nothing; did you mean so [BadWord]
+  t:2:4: error: xem means nothing; did you mean em [BadWord]
+
 A letter without apostrophes, as a cell, as the character of an accent, as a base and as a result:
   $ echo '30 x' > t
   $ kmap lint t

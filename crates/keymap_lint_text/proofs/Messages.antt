@@ -251,11 +251,15 @@ literal_line bytes = between_line (fault.two_characters (drop 1 bytes))
 nop_line : (w : Wanted) → IsLine (fault.nop_text w)
 nop_line w = line_if (fault.wants_cell w) _ (ascii _ refl)
 
+near_line : (word : List ℕ) (w : Wanted) → IsLine (fault.near_text word w)
+unfolding fault.near_text
+near_line word w = either _ _ _ (fills _ _ refl (word_line _, tt)) (nop_line w)
+
 meant_line : (bytes : List ℕ) (w : Wanted) → IsLine (fault.meant_text bytes w)
 unfolding fault.meant_text
 meant_line bytes w =
     either _ _ _ (fills words.MEANT_NUMBER.now _ refl (word_line _, (word_line _, tt)))
-    (either _ _ _ (fills words.MEANT_CHARACTER.now _ refl (word_line _, tt)) (nop_line w))
+    (either _ _ _ (fills words.MEANT_CHARACTER.now _ refl (word_line _, tt)) (near_line _ w))
 
 bad_word_line : (bytes : List ℕ) (w : Wanted) → IsLine (fault.bad_word_text bytes w)
 unfolding fault.bad_word_text

@@ -19,6 +19,7 @@ use Rattle.keymap_text.specs.Lexical.{TokenValue, tokens_after, first, is_word}
 use Rattle.keymap_text.specs.Words.{meaning}
 use Rattle.keymap_lint_text.specs.declared.words.TheConstants as words
 use Rattle.messages.specs.Filled.{filled}
+use Rattle.keymap_lint_text.specs.Near.{known_name, near_names}
 use Rattle.keymap_lint_text.specs.Shown.{shown_chars}
 use Rattle.keymap_lint_text.specs.Told.{word_text, started_text, wanted_text}
 
@@ -125,6 +126,13 @@ wants_cell _ = false
 abbrev pub nop_text : Wanted → List ℕ
 nop_text wanted = if wants_cell wanted then codes "; a cell that gives nothing is nop" else []
 
+-- the one name that differs in one letter from a word, or the one that a cell may want
+unfoldable pub near_text : List ℕ → Wanted → List ℕ
+near_text word wanted =
+    if length (near_names word) == 1
+    then filled (codes "; did you mean {}") (word_text (known_name (slice_index (near_names word) 0)) ∷ [])
+    else nop_text wanted
+
 -- what may have been meant by the word in front of these bytes
 unfoldable pub meant_text : List ℕ → Wanted → List ℕ
 meant_text bytes wanted =
@@ -133,7 +141,7 @@ meant_text bytes wanted =
     (word_text (unicode_digits bytes) ∷ word_text (unicode_digits bytes) ∷ [])
     else if length (front_word bytes) == 1 && wants_character wanted
     then filled (codes "; the character is '{}'") (word_text (front_word bytes) ∷ [])
-    else nop_text wanted
+    else near_text (front_word bytes) wanted
 
 unfoldable pub bad_word_text : List ℕ → Wanted → List ℕ
 bad_word_text bytes wanted =

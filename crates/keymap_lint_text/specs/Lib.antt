@@ -3,6 +3,7 @@ pub mod Heads
 pub mod Names
 pub mod Said
 pub mod Faults
+pub mod Near
 pub mod Told
 pub mod Lists
 pub mod Notes

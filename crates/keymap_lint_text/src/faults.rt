@@ -3,12 +3,13 @@ ghost use Rattle.std.specs.Prelude.{◌≡◌, ◌<◌, ◌≤◌, ◌-◌, leng
 ghost use Rattle.std.specs.List.{before_first};
 ghost use Rattle.keymap_lint_text.specs.Faults as spec;
 
+use crate::near::{behind, known_name, near_names};
 use crate::told::{first_shown, started, wanted, word};
 use crate::words::{
     ALL_CELLS, BAD_BYTE, BAD_CHAR, BAD_FUNCTION, BAD_LITERAL, BAD_WORD, COMBINED, ENDS,
     ENDS_QUOTED, FEW_CELLS, FUNCTION_KEYS, KEY_TOO_LARGE, LONG_WORD, MARK, MEANT_CHARACTER,
-    MEANT_NOP, MEANT_NUMBER, SCREENS, TOO_MANY_PAIRS, TWO_CHARACTERS, UNEXPECTED, UNNAMED_BYTE,
-    UTF16, ZERO_BASE,
+    MEANT_NAME, MEANT_NOP, MEANT_NUMBER, SCREENS, TOO_MANY_PAIRS, TWO_CHARACTERS, UNEXPECTED,
+    UNNAMED_BYTE, UTF16, ZERO_BASE,
 };
 use keymap_core::{code_digits, hex_digit};
 use keymap_text::{
@@ -141,17 +142,6 @@ fn bad_byte(alloc: Global, source: &[u8], bytes: &[u8]) -> Result<Vec<u8>, Alloc
     }
 }
 
-/// The bytes from a place on; none where they end before it.
-fn behind(bytes: &[u8], place: usize) -> &[u8]
-    ensures { result.now ≡ drop place bytes.now }
-{
-    if place < bytes.len() {
-        &bytes[place..]
-    } else {
-        &[]
-    }
-}
-
 /// The character in front of bytes, if one other than a line feed stands there, and how many bytes it has.
 #[tactic(auto, unfolding(crate::specs::Faults::front_character))]
 fn front_character(bytes: &[u8]) -> Option<(char, usize)>
@@ -217,6 +207,22 @@ fn wants_cell(wanted: Wanted) -> bool
     matches!(wanted, Wanted::Cell { .. })
 }
 
+/// The one name that differs in one letter from a word, or the one that a cell may want.
+#[tactic(auto, unfolding(crate::specs::Faults::near_text))]
+fn near_message(alloc: Global, token: &[u8], wanted: Wanted) -> Result<Vec<u8>, AllocError>
+    ensures { IfOk result (λ text. text.items ≡ spec.near_text token.now wanted) }
+{
+    let near = near_names(alloc, token)?;
+    let near = near.as_slice();
+    if near.len() == 1 {
+        let name = known_name(near[0]);
+        let told = word(alloc, name.as_slice())?;
+        filled(alloc, MEANT_NAME, &[told.as_slice()])
+    } else {
+        Vec::from_slice(alloc, either(wants_cell(wanted), MEANT_NOP, b""))
+    }
+}
+
 /// What may have been meant by the word in front of bytes.
 #[tactic(auto, unfolding(crate::specs::Faults::meant_text))]
 fn meant(alloc: Global, bytes: &[u8], wanted: Wanted) -> Result<Vec<u8>, AllocError>
@@ -230,7 +236,7 @@ fn meant(alloc: Global, bytes: &[u8], wanted: Wanted) -> Result<Vec<u8>, AllocEr
     } else if token.len() == 1 && wants_character(wanted) {
         filled(alloc, MEANT_CHARACTER, &[word(alloc, token)?.as_slice()])
     } else {
-        Vec::from_slice(alloc, either(wants_cell(wanted), MEANT_NOP, b""))
+        near_message(alloc, token, wanted)
     }
 }
 

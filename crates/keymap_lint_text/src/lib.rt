@@ -10,6 +10,7 @@ mod excerpt;
 mod faults;
 pub mod laws;
 mod lists;
+mod near;
 mod notes;
 mod printer;
 mod said;

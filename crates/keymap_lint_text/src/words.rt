@@ -102,6 +102,8 @@ pub(crate) const MEANT_NUMBER: &[u8] = b"; for U+{} write 0x{}";
 
 pub(crate) const MEANT_CHARACTER: &[u8] = b"; the character is '{}'";
 
+pub(crate) const MEANT_NAME: &[u8] = b"; did you mean {}";
+
 pub(crate) const MEANT_NOP: &[u8] = b"; a cell that gives nothing is nop";
 
 pub(crate) const UNEXPECTED: &[u8] = b"{} stands where {} is wanted{}";

@@ -294,11 +294,14 @@ echo "differences of us.kbd and itself: $same $unit; of us.kbd and de.kbd: $diff
     "$(per "$differing" 0 "$same")"
 echo "  $(transfers diff "$keymap" "$examples/de.kbd")"
 measured diff-same "$same"
+measured diff "$differing"
 # as many states as the search goes over, and an accent that no key has
 make_states 8 > states
 { cat states; echo "dacu 180 ( 'a' 0xe1 )"; } > states.accent
-echo "the same of a keymap of 65,536 states: $(cost diff states states.accent) $unit;" \
+differing=$(cost diff states states.accent)
+echo "the same of a keymap of 65,536 states: $differing $unit;" \
     "$("$program" diff states states.accent | head -n 1)"
+measured diff-most-states "$differing"
 
 tr -dc '\012a-zA-Z0-9 ,.;:!?' < text.whole | tr '\012' ' ' | head -c 32768 > sentence
 "$program" type "$keymap" sentence > typing.script || exit 1

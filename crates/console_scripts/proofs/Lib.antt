@@ -7,6 +7,7 @@ pub mod Common
 pub mod Entries
 pub mod Exploring
 pub mod Known
+pub mod Lacking
 pub mod Leading
 pub mod Refused
 pub mod RoutesHome

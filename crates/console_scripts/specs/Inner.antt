@@ -2,3 +2,4 @@
 pub mod Exploring
 pub mod Routes
 pub mod Showing
+pub mod Symbols

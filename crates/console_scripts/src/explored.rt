@@ -8,10 +8,12 @@ ghost use Rattle.console_scripts.specs.Inner.Exploring.{map_of_explored, origin_
 ghost use Rattle.console_scripts.specs.Inner.Exploring.{GoesAndTaps, IsOrigin, LetsGo, IsExploredFrom, GoesHome};
 ghost use Rattle.console_scripts.specs.Inner.Exploring.{IsMetAt};
 ghost use Rattle.console_scripts.specs.Inner.Routes.{HasRoute};
+ghost use Rattle.console_scripts.specs.Inner.Symbols.{AreKeysWith};
 ghost use Rattle.console_states.specs.Searching.{state_of, Entry};
 
 use crate::routes::{Routes, has_route, routes_home};
 use crate::showing::{come_home, tap};
+use crate::symbols::keys_with;
 use console_core::Event;
 use console_states::{End, Held, Keymaps, Met, go_out, meet_all, state_at};
 use keymap_core::{Action, Cell, KEY_COUNT, KeyCode, KeyMap, MODIFIERS, key_with};
@@ -81,7 +83,7 @@ pub fn explore<'m>(
 }
 
 /// Whether the cell is the symbol.
-fn is_symbol(cell: &Cell, symbol: Symbol) -> bool
+pub fn is_symbol(cell: &Cell, symbol: Symbol) -> bool
     ensures same { result ≡ true → cell.now ≡ cell_of symbol }
     ensures other { result ≡ false → cell.now ≡ cell_of symbol → ⊥ }
 {
@@ -97,8 +99,9 @@ fn is_symbol(cell: &Cell, symbol: Symbol) -> bool
     }
 }
 
-/// A key that holds nothing in the state and looks up the cell.
-fn key_tapping(held: &Held, map: &KeyMap, tap: &Tap) -> Option<KeyCode>
+/// A key that holds nothing in the state and looks up the cell, of those that have the symbol.
+fn key_tapping(held: &Held, map: &KeyMap, tap: &Tap, have: &[bool; KEY_COUNT]) -> Option<KeyCode>
+    requires { AreKeysWith map.now tap.now.symbol have.now }
     ensures { (u : Under) → map_in u (state_of held.now) ≡ map.now
         → MatchOption result ((k : ℕ) → IsTapOf u (state_of held.now) tap.now.is_plain tap.now.symbol k → ⊥)
         (λ k. IsTapOf u (state_of held.now) tap.now.is_plain tap.now.symbol k) }
@@ -108,9 +111,11 @@ fn key_tapping(held: &Held, map: &KeyMap, tap: &Tap) -> Option<KeyCode>
     }
     let selection = held.selection();
     for code in 0..KEY_COUNT as u8 {
-        let key = key_with(code);
-        if is_symbol(&selection.look(map, key), tap.symbol) && !held.holds(key) {
-            return Some(key);
+        if have[code as usize] {
+            let key = key_with(code);
+            if is_symbol(&selection.look(map, key), tap.symbol) && !held.holds(key) {
+                return Some(key);
+            }
         }
     }
     None
@@ -139,10 +144,11 @@ impl<'m> Explored<'m> {
         ensures { MatchOption result (is_near ≡ false → HasTap self.now tap.now → ⊥)
             (λ at. IsTapAt self.now tap.now at.place at.key) }
     {
+        let have = keys_with(self.maps.first, tap.symbol);
         for place in 0..self.met.len() {
             let held = state_at(&self.met, place);
             if !is_near || held.has_locks_of(&self.origin) {
-                if let Some(key) = key_tapping(&held, self.maps.first, tap) {
+                if let Some(key) = key_tapping(&held, self.maps.first, tap, &have) {
                     if has_route(&self.routes, &held) {
                         return Some(KeyAt { place, key });
                     }

@@ -19,6 +19,7 @@ pub mod laws;
 mod onward;
 mod routes;
 mod showing;
+mod symbols;
 mod typing;
 mod typist;
 mod ways;

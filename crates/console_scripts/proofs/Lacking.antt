@@ -1,0 +1,30 @@
+-- The keys that have a symbol in some cell: where neither of its slots has it, a key looks it up by no selection.
+use Rattle.console_scripts.proofs.Common.{◌≡◌, ℕ, ◌+◌, ◌<◌, Bool, true, false, List, length, get_or, subst, sym, ◌∙◌}
+use Rattle.console_scripts.proofs.Common.{arith, below_more, true≢false, MapValue, slot_of, cell_of, Symbol}
+use Rattle.std.specs.Prelude.{set}
+use Rattle.std.proofs.lemmas.List.{get_or-set_same, get_or-set_other}
+use Rattle.keymap_core.specs.Maps.{cell_at}
+use Rattle.console_core.proofs.Borne.{column_of-lt}
+use Rattle.console_scripts.specs.Inner.Symbols.{LacksSymbol}
+
+-- no cell of the slot is the symbol
+abbrev pub IsNotIn : MapValue → Symbol → ℕ → Type 0
+IsNotIn m symbol slot = (column : ℕ) → column < 8 → cell_at m slot column ≡ cell_of symbol → ⊥
+
+in-half : (m : MapValue) (symbol : Symbol) (k a b : ℕ) → a ≡ k → b ≡ k → IsNotIn m symbol a
+    → IsNotIn m symbol (b + 128) → (upper : Bool) → IsNotIn m symbol (slot_of k upper)
+in-half m symbol k a b e f low high false = subst (IsNotIn m symbol) e low
+in-half m symbol k a b e f low high true = subst (λ j. IsNotIn m symbol (j + 128)) f high
+
+pub lacks : (m : MapValue) (symbol : Symbol) (k a b : ℕ) → a ≡ k → b ≡ k → IsNotIn m symbol a
+    → IsNotIn m symbol (b + 128) → LacksSymbol m symbol k
+lacks m symbol k a b e f low high y = in-half m symbol k a b e f low high y.upper _ (column_of-lt _ _ _)
+
+-- Of each number below the place that isn't marked it is so; the place is marked, so it is of each up to there.
+pub marked : (P : ℕ → Type 0) (marks : List Bool) (n : ℕ) → n < length marks
+    → ((k : ℕ) → k < n → get_or marks k false ≡ false → P k)
+    → (k : ℕ) → k < n + 1 → get_or (set marks n true) k false ≡ false → P k
+marked P marks n within before =
+    below_more _ _
+    (λ k lt no. before k lt (sym (get_or-set_other marks n k true false (λ e. omega (arith, lt, e))) ∙ no))
+    (λ no. absurd (true≢false (sym (get_or-set_same marks n true false within) ∙ no)))

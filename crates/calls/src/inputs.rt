@@ -14,8 +14,8 @@ pub(crate) const TEXT: &[u8] = b"018 'e' 'E' nop nop 'e' 'E' nop nop C
 dacu 180 ( 'e' 0xe9 )
 ";
 
-/// The same but for what the accent makes of its base, which only a tap of the dead key tells, and for a slot that no key
-/// selects.
+/// The same but for what the accent makes of its base, which only a tap of the dead key tells, and for a slot that no
+/// key selects.
 pub(crate) const CHANGED: &[u8] = b"018 'e' 'E' nop nop 'e' 'E' nop nop C
 026 dacu dacu dacu dacu dacu dacu dacu dacu O
 030 'a' 'A' nop nop 'a' 'A' nop nop C

@@ -354,7 +354,8 @@ impl<'m> Explorer<'m> {
         }
     }
 
-    /// The events of a visit. The keys are tapped there that keep the state; not where it is behind a dead key.
+    /// The events of a visit. The keys are tapped there that keep the state; not where it is behind a dead key. Which
+    /// keys are tapped on the way is in no clause: a visit without them sees what it is to see, too.
     pub fn visit(&mut self, alloc: Global, keys: &[KeyCode]) -> Result<Vec<Event>, AllocError>
         ensures kept { self.new.map ≡ self.old.map }
         ensures states { self.new.states ≡ self.old.states }

@@ -1,7 +1,7 @@
 //! The keys that have a symbol in some cell: no other key can be tapped for it, in whatever state.
-ghost use Rattle.std.specs.Prelude.{◌≡◌, ◌<◌, ℕ, false, slice_index_or};
+ghost use Rattle.std.specs.Prelude.{◌≡◌, ◌<◌, ℕ, false};
 ghost use Rattle.keymap_core.specs.Maps.{cell_at};
-ghost use Rattle.keymap_core.specs.Numbers.{key_count, column_count};
+ghost use Rattle.keymap_core.specs.Numbers.{column_count};
 ghost use Rattle.console_scripts.specs.Inner.Symbols.{AreKeysWith, LacksSymbol};
 ghost use Rattle.console_scripts.specs.Typing.{cell_of};
 

@@ -11,9 +11,9 @@ use Rattle.keymap_draw.specs.declared.board.Shape.TheVariants.{A, B, C, D, E, F,
 use Rattle.keymap_draw.specs.Boards.{Row, keys_of, width, height}
 
 -- keys one behind the other, the first with its corner at this place
-abbrev pub row : ℕ → ℕ → List (ℕ × Shape) → List Row
-row x y [] = []
-row x y (key ∷ keys) = record { code = key.0; x = x; y = y; shape = key.1 } ∷ row (x + width key.1) y keys
+abbrev pub keys_from : ℕ → ℕ → List (ℕ × Shape) → List Row
+keys_from x y [] = []
+keys_from x y (key ∷ keys) = record { code = key.0; x = x; y = y; shape = key.1 } ∷ keys_from (x + width key.1) y keys
 
 -- keys of one shape, and of the shape of letters
 abbrev pub of_shape : Shape → List ℕ → List (ℕ × Shape)
@@ -25,48 +25,48 @@ alike codes = of_shape A codes
 -- Escape; F1 to F4, F5 to F8, F9 to F12; Print Screen, Scroll Lock, Pause
 abbrev pub function_row : List Row
 function_row =
-    row 0 0 (alike (1 ∷ [])) ++ row 128 0 (alike (59 ∷ 60 ∷ 61 ∷ 62 ∷ []))
-    ++ row 416 0 (alike (63 ∷ 64 ∷ 65 ∷ 66 ∷ []))
-    ++ row 704 0 (alike (67 ∷ 68 ∷ 87 ∷ 88 ∷ []))
-    ++ row 976 0 (alike (92 ∷ 70 ∷ 104 ∷ []))
+    keys_from 0 0 (alike (1 ∷ [])) ++ keys_from 128 0 (alike (59 ∷ 60 ∷ 61 ∷ 62 ∷ []))
+    ++ keys_from 416 0 (alike (63 ∷ 64 ∷ 65 ∷ 66 ∷ []))
+    ++ keys_from 704 0 (alike (67 ∷ 68 ∷ 87 ∷ 88 ∷ []))
+    ++ keys_from 976 0 (alike (92 ∷ 70 ∷ 104 ∷ []))
 
 -- grave, 1 to 0, minus, equal and Backspace; Insert, Home, Page Up; Num Lock, and on the number pad slash, asterisk and
 -- minus
 abbrev pub digit_row : List Row
 digit_row =
-    row 0 80 (alike (41 ∷ 2 ∷ 3 ∷ 4 ∷ 5 ∷ 6 ∷ 7 ∷ 8 ∷ 9 ∷ 10 ∷ 11 ∷ 12 ∷ 13 ∷ []) ++ (14, E) ∷ [])
-    ++ row 976 80 (alike (102 ∷ 94 ∷ 96 ∷ []))
-    ++ row 1184 80 (alike (69 ∷ 91 ∷ 55 ∷ 74 ∷ []))
+    keys_from 0 80 (alike (41 ∷ 2 ∷ 3 ∷ 4 ∷ 5 ∷ 6 ∷ 7 ∷ 8 ∷ 9 ∷ 10 ∷ 11 ∷ 12 ∷ 13 ∷ []) ++ (14, E) ∷ [])
+    ++ keys_from 976 80 (alike (102 ∷ 94 ∷ 96 ∷ []))
+    ++ keys_from 1184 80 (alike (69 ∷ 91 ∷ 55 ∷ 74 ∷ []))
 
 -- Tab, Q W E R T Y U I O P and two more, and what stands behind them
 abbrev pub upper_row : List (ℕ × Shape) → List Row
 upper_row last =
-    row 0 144 ((15, C) ∷ alike (16 ∷ 17 ∷ 18 ∷ 19 ∷ 20 ∷ 21 ∷ 22 ∷ 23 ∷ 24 ∷ 25 ∷ 26 ∷ 27 ∷ []) ++ last)
-    ++ row 976 144 (alike (103 ∷ 99 ∷ 101 ∷ []))
-    ++ row 1184 144 (alike (71 ∷ 72 ∷ 73 ∷ []) ++ (78, Tall) ∷ [])
+    keys_from 0 144 ((15, C) ∷ alike (16 ∷ 17 ∷ 18 ∷ 19 ∷ 20 ∷ 21 ∷ 22 ∷ 23 ∷ 24 ∷ 25 ∷ 26 ∷ 27 ∷ []) ++ last)
+    ++ keys_from 976 144 (alike (103 ∷ 99 ∷ 101 ∷ []))
+    ++ keys_from 1184 144 (alike (71 ∷ 72 ∷ 73 ∷ []) ++ (78, Tall) ∷ [])
 
 -- Caps Lock, A S D F G H J K L and two more, and what stands behind them; 4, 5, 6 of the number pad. In the row above:
 -- Delete, End, Page Down; 7, 8, 9 of the number pad and its plus.
 abbrev pub home_row : List (ℕ × Shape) → List Row
 home_row last =
-    row 0 208 ((58, D) ∷ alike (30 ∷ 31 ∷ 32 ∷ 33 ∷ 34 ∷ 35 ∷ 36 ∷ 37 ∷ 38 ∷ 39 ∷ 40 ∷ []) ++ last)
-    ++ row 1184 208 (alike (75 ∷ 76 ∷ 77 ∷ []))
+    keys_from 0 208 ((58, D) ∷ alike (30 ∷ 31 ∷ 32 ∷ 33 ∷ 34 ∷ 35 ∷ 36 ∷ 37 ∷ 38 ∷ 39 ∷ 40 ∷ []) ++ last)
+    ++ keys_from 1184 208 (alike (75 ∷ 76 ∷ 77 ∷ []))
 
 -- the left Shift with what stands behind it, Z X C V B N M and three more, the right Shift; the arrow up; 1, 2, 3 of
 -- the number pad and its Enter
 abbrev pub lower_row : List (ℕ × Shape) → List Row
 lower_row first =
-    row 0 272 (first ++ alike (44 ∷ 45 ∷ 46 ∷ 47 ∷ 48 ∷ 49 ∷ 50 ∷ 51 ∷ 52 ∷ 53 ∷ []) ++ (54, G) ∷ [])
-    ++ row 1040 272 (alike (95 ∷ []))
-    ++ row 1184 272 (alike (79 ∷ 80 ∷ 81 ∷ []) ++ (89, Tall) ∷ [])
+    keys_from 0 272 (first ++ alike (44 ∷ 45 ∷ 46 ∷ 47 ∷ 48 ∷ 49 ∷ 50 ∷ 51 ∷ 52 ∷ 53 ∷ []) ++ (54, G) ∷ [])
+    ++ keys_from 1040 272 (alike (95 ∷ []))
+    ++ keys_from 1184 272 (alike (79 ∷ 80 ∷ 81 ∷ []) ++ (89, Tall) ∷ [])
 
 -- Control, Super, Alt, the blank, Alt, Super, Menu, Control; the arrows left, down and right; 0 and the period of the
 -- number pad
 abbrev pub blank_row : List Row
 blank_row =
-    row 0 336 (of_shape B (29 ∷ 105 ∷ 56 ∷ []) ++ (57, H) ∷ of_shape B (93 ∷ 106 ∷ 107 ∷ 90 ∷ []))
-    ++ row 976 336 (alike (97 ∷ 100 ∷ 98 ∷ []))
-    ++ row 1184 336 ((82, E) ∷ alike (83 ∷ []))
+    keys_from 0 336 (of_shape B (29 ∷ 105 ∷ 56 ∷ []) ++ (57, H) ∷ of_shape B (93 ∷ 106 ∷ 107 ∷ 90 ∷ []))
+    ++ keys_from 976 336 (alike (97 ∷ 100 ∷ 98 ∷ []))
+    ++ keys_from 1184 336 ((82, E) ∷ alike (83 ∷ []))
 
 -- The ISO board has a high Enter behind the upper letters, one key more behind the home letters, and one behind a short
 -- left Shift; the ANSI one has that key behind the upper letters, and a flat Enter and a long left Shift.

@@ -50,8 +50,8 @@ indented_front (a ∷ b ∷ file) y = refl
 
 head_indented : (file text : List ℕ) (e : Remark) → is_indented (head file text e) ≡ is_indented file
 head_indented file text e =
-    ap is_indented (head_is file text e ∙ sym (append_assoc file (codes ":") (behind text (place_or_beginning e.place) ++ said_text e.said)))
-    ∙ indented_front file (behind text (place_or_beginning e.place) ++ said_text e.said)
+    let rest = behind text (place_or_beginning e.place) ++ said_text e.said in
+    ap is_indented (head_is file text e ∙ sym (append_assoc file (codes ":") rest)) ∙ indented_front file rest
 
 below_indented : (text : List ℕ) (place : Option ℕ) → filter is_flush (below text place) ≡ []
 unfolding excerpt

@@ -22,8 +22,8 @@ pub record Remark : Type 0 where
 abbrev pub remark : Option ℕ → Said → Remark
 remark place said = record { place = place; said = said }
 
--- The file, the line and its column, both counted from 1; columns are bytes. What is said of the whole text stands at the
--- beginning of its first line.
+-- The file, the line and its column, both counted from 1; columns are bytes. What is said of the whole text stands at
+-- the beginning of its first line.
 abbrev pub place_text : List ℕ → List ℕ → Option ℕ → List ℕ
 place_text file text None = file ++ codes ":1:1: "
 place_text file text (Some place) =

@@ -21,8 +21,8 @@ known_name n =
     else if nat_lt n 288 then control_name (n - 256)
     else slice_index_or more_names (n - 288) []
 
--- Up to this place the word is the name, and so it is behind the place, where one letter there is taken out of the word,
--- of the name, or of both.
+-- Up to this place the word is the name, and so it is behind the place, where one letter there is taken out of the
+-- word, of the name, or of both.
 abbrev pub is_near_at : List ℕ → List ℕ → ℕ → Bool
 is_near_at word name i =
     same_name (take i word) (take i name)

@@ -1,6 +1,7 @@
 -- What who reads the diagnostics of a text may rely on.
 use Rattle.std.specs.Prelude.{◌≡◌, ℕ, ◌+◌, ◌-◌, ◌^◌, ◌<◌, ◌≤◌, ◌==◌, ◌&&◌, not, Bool, true, false, List, [], ◌∷◌}
-use Rattle.std.specs.Prelude.{◌++◌, codes, map, take, drop, encode_utf8, length, min, slice_index, IfSome, Option, Some, None}
+use Rattle.std.specs.Prelude.{◌++◌, codes, map, take, drop, encode_utf8, length, min, slice_index, IfSome}
+use Rattle.std.specs.Prelude.{Option, Some, None}
 use Rattle.std.specs.List.{All, filter, flat_map, list_all}
 use Rattle.console_core.specs.declared.event.Event.{Event}
 use Rattle.keymap_core.specs.declared.action.Modifier.{Modifier}

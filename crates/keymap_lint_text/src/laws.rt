@@ -22,8 +22,8 @@ pub fn diagnostics_have_one_head()
 {}
 
 /// From the first line of a diagnostic or a note it can be read at which place of a text it stands, and whether it is
-/// an error, a warning or a note: no two of them that differ in this have the same line. One of the whole text stands at
-/// its beginning, so it may have the line of one that stands there.
+/// an error, a warning or a note: no two of them that differ in this have the same line. One of the whole text stands
+/// at its beginning, so it may have the line of one that stands there.
 pub fn heads_tell_their_places()
     ensures { HeadsTellPlaces }
 {}

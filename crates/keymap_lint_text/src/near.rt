@@ -84,7 +84,8 @@ pub(crate) fn behind(bytes: &[u8], place: usize) -> &[u8]
     }
 }
 
-/// Whether the word is the name up to a place, and behind it where one letter there is taken out of one of them or both.
+/// Whether the word is the name up to a place, and behind it where one letter there is taken out of one of them or of
+/// both.
 fn is_near_at(word: &[u8], name: &[u8], place: usize) -> bool
     requires { place ≤ length word.now }
     ensures { result ≡ spec.is_near_at word.now name.now place }

@@ -15,8 +15,8 @@ use std::io::Read;
 const SUFFIX: &str = ".kmap-fmt";
 
 /// Whether all is well: no text had a fault, and none was to be changed where they are only compared. A text that can't
-/// be laid out or written gets its line, and the next one follows; where the output fails, none does. Where no one reads
-/// the names any more, the texts are still written.
+/// be laid out or written gets its line, and the next one follows; where the output fails, none does. Where no one
+/// reads the names any more, the texts are still written.
 pub(crate) fn format_texts<'a, R, W>(
     rt: &R,
     mode: FmtMode,

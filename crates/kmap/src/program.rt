@@ -260,8 +260,8 @@ fn named_line(alloc: Global, front: &[u8], name: &str, end: &[u8]) -> Result<Vec
     Ok(line)
 }
 
-/// Answers a request: whether all is well, which only a refused map denies, one that isn't known never to stick, another
-/// one where they should be the same, a character that no keys type, or a text with an error.
+/// Answers a request: whether all is well, which only a refused map denies, one that isn't known never to stick,
+/// another one where they should be the same, a character that no keys type, or a text with an error.
 fn answer<'a, R, W>(rt: &R, request: Request<'_, 'a>, faults: &mut W) -> Result<bool, Failure<'a>>
 where
     R: AllocGlobal + Files<File = File> + Input + Print,

@@ -2,8 +2,8 @@
 //! once they are on the disk. Where a step fails, the new file is removed and the old one has not changed.
 //!
 //! Beside the file of another user the new one mostly can't get its owner, or its name. Then the bytes are written into
-//! the old file too, and only then the new one is removed: at each moment one of the two is whole, with the old bytes or
-//! the new ones.
+//! the old file too, and only then the new one is removed: at each moment one of the two is whole, with the old bytes
+//! or the new ones.
 //!
 //! Whoever may write the folder can put another file under a name at any time. So the new file gets its owner, group
 //! and rights by its descriptor, before a byte is in it, and takes the place of the old one only if both names still

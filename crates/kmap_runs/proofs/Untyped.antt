@@ -1,6 +1,7 @@
 -- Of characters one after another, those that keys can't type.
 use Rattle.std.proofs.Common.{◌≡◌, ◌∙◌, ◌+◌, ◌<◌, ◌≤◌, ◌⊎◌, ◌∷◌, ◌++◌, ℕ, All, Bool, List, [], ap, append_assoc}
-use Rattle.std.proofs.Common.{arith, below_more, eqb, false, get_or, inl, inr, length, length-append, refl, subst, sym, true, true≢false}
+use Rattle.std.proofs.Common.{arith, below_more, eqb, false, get_or, inl, inr, length, length-append, refl, subst}
+use Rattle.std.proofs.Common.{sym, true, true≢false}
 use Rattle.std.proofs.lemmas.Bool.{eqb-true}
 use Rattle.std.proofs.lemmas.List.{get_or_append_left, get_or_push, map-append}
 use Rattle.std.proofs.lemmas.List.Elements.{All-contains, All-map, All-push, All-weaker, Contains-append_left}

@@ -1,11 +1,10 @@
--- What differs between two keymaps, and what tells them apart, as a script. What is told stands at the places `{}` of its
--- words.
+-- What differs between two keymaps, and what tells them apart, as a script. What is told stands at the places `{}` of
+-- its words.
 use mathlib.Core.Bool.{beq}
 use Rattle.std.specs.Prelude.{ℕ, ◌==◌, Bool, true, false, List, [], ◌∷◌, ◌++◌, ◌||◌, ◌&&◌, not}
 use Rattle.std.specs.Prelude.{codes, decimal, drop}
 use Rattle.std.specs.Prelude.{length, slice_index_or, Option, Some, None, if◌then◌else◌}
 use Rattle.std.specs.List.{flat_map, list_any, range_with_len}
-use Rattle.keymap_core.specs.Actions.{name_of}
 use Rattle.keymap_core.specs.Numbers.{column_count}
 use Rattle.keymap_text.specs.Printed.{cell_text, character_text, flag_letter}
 use Rattle.keymap_diff.specs.declared.change.Change.{Change}

@@ -1,5 +1,6 @@
 -- The characters of a sentence that keys can't type, and what is printed of them.
-use Rattle.std.specs.Prelude.{◌≡◌, ◌<◌, ℕ, List, [], ◌∷◌, ◌++◌, ◌⊎◌, All, Some, ⊤, true, codes, encode_utf8, length, map}
+use Rattle.std.specs.Prelude.{◌≡◌, ◌<◌, ℕ, List, [], ◌∷◌, ◌++◌, ◌⊎◌, All, Some, ⊤, true, codes, encode_utf8, length}
+use Rattle.std.specs.Prelude.{map}
 use Rattle.std.specs.Prelude.{if◌then◌else◌, slice_index}
 use Rattle.std.specs.List.{Contains, flat_map}
 use Rattle.std.specs.Str.{all_scalars, encode_utf8_all}

@@ -1,5 +1,5 @@
 //! What differs between two keymaps, and what tells them apart, as a script that `kmap play` reads with either.
-ghost use Rattle.std.specs.Prelude.{◌≡◌, ◌<◌, ◌++◌, [], decimal, drop, map, reverse, IfOk, OnOk};
+ghost use Rattle.std.specs.Prelude.{◌≡◌, ◌<◌, ◌++◌, [], decimal, drop, reverse, IfOk, OnOk};
 ghost use Rattle.std.specs.List.{flat_map, range_with_len};
 ghost use Rattle.console_core.specs.History.{pressed};
 ghost use Rattle.keymap_core.specs.Numbers.{column_count};

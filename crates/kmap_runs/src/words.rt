@@ -37,8 +37,8 @@ pub(crate) const UNDECIDED: &[u8] = b" undecided: no list of up to {} presses st
 // A line of the sentence, before what types it.
 pub(crate) const SENTENCE: &[u8] = b" {}";
 
-// A character of a sentence that keys can't type: the name of the sentence, the line, the column, and the character, its
-// number and where a terminal shows it itself.
+// A character of a sentence that keys can't type: the name of the sentence, the line, the column, and the character,
+// its number and where a terminal shows it itself.
 pub(crate) const AT_PLACE: &[u8] = b"{}:{}:{}: {}\n";
 
 pub(crate) const SHOWN: &[u8] = b"{} '{}'";
@@ -92,8 +92,8 @@ pub(crate) const ONE_WAY_PART: &[u8] = b" one-way";
 // A repeat, which no other printed script has.
 pub(crate) const REPEAT: &[u8] = b"repeat {}\n";
 
-// What tells two keymaps apart: nothing, since they are the same; the last of the events, with the answer under each; no
-// list of events, or none before a modifier sticks; or up to how many presses none does.
+// What tells two keymaps apart: nothing, since they are the same; the last of the events, with the answer under each;
+// no list of events, or none before a modifier sticks; or up to how many presses none does.
 pub(crate) const SAME: &[u8] = b" same";
 
 pub(crate) const TOLD: &[u8] = b" told apart: {} -> {}";

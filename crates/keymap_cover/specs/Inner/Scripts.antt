@@ -150,8 +150,8 @@ GoesUnderWay m stands p a q b P =
     (h : List Event) → IsUnderWay m stands h p a
     → (g : List Event) × IsUnderWay m stands g q b × ComesAfter h g × P
 
--- a script of which no key is down at the end, which is at rest, and which leaves the scroll lock off if presses can and
--- no cell or lock setting ahead
+-- a script of which no key is down at the end, which is at rest, and which leaves the scroll lock off if presses can
+-- turn it off, and no cell or lock setting ahead
 abbrev pub EndsAtRest : {T : Type 0} → MapValue → Script T → Type 0
 EndsAtRest m t =
     AreUp t.pressed

@@ -29,7 +29,8 @@ loop-code-preserved c =
             | else-is_symbol-via-else-is_symbol v ↦ w.is_symbol.ensures.other v.if-is_symbol.false looked
           ]
       | else-have-code w ↦
-          c.requires n (omega (arith, c.loop-code-test.true, c.loop-code.auto.code-end)) w.if-have-code.false (selection_of s) seen
+          c.requires n (omega (arith, c.loop-code-test.true, c.loop-code.auto.code-end)) w.if-have-code.false
+          (selection_of s) seen
     ])
 
 pub returns : goal.returns

@@ -1,4 +1,5 @@
-use Rattle.kmap_runs.proofs.Common.{◌≡◌, ◌∙◌, ◌+◌, ◌<◌, ◌∷◌, ◌++◌, [], ℕ, Ok, true, ap, arith, length, rules, subst, sym}
+use Rattle.kmap_runs.proofs.Common.{◌≡◌, ◌∙◌, ◌+◌, ◌<◌, ◌∷◌, ◌++◌, [], ℕ, Ok, true, ap, arith, length, rules, subst}
+use Rattle.kmap_runs.proofs.Common.{sym}
 use Rattle.kmap_runs.proofs.Common.{take}
 use Rattle.std.proofs.lemmas.List.{take_more}
 use Rattle.std.specs.List.{list_any}
@@ -35,8 +36,8 @@ loop-c-preserved c =
           ∙ ap (λ z. list_any (nat_eq q) z) (sym more);
       are =
           subst (λ z. AreMissing c.args.typist.now z c.add_untyped.new.found.items) (sym more)
-          (judged-more c.args.typist.now (take k cs) one c.loop-c.found.items c.add_untyped.new.found.items before.offset
-          before.are
+          (judged-more c.args.typist.now (take k cs) one c.loop-c.found.items c.add_untyped.new.found.items
+          before.offset before.are
           (λ e. c.add_untyped.ensures.again known (before.seen x ∙ e))
           (λ e. c.add_untyped.ensures.new known (before.seen x ∙ e)));
     }

@@ -107,6 +107,7 @@ refuses replay-word
 refuses sticking
 refuses sticking_between
 refuses sights_of
+yields some_sights
 refuses meet_all
 refuses sights_in
 refuses go_out
@@ -124,7 +125,7 @@ yields cover_of
 refuses Seen::new
 refuses cells
 refuses lock_settings
-yields changes
+yields differences
 refuses telling_apart
 refuses diagnostics
 refuses diagnostics-faulty fault

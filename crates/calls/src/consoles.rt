@@ -5,10 +5,10 @@ use crate::inputs::{Call, Lent};
 use crate::outcome::{Outcome, ended, ended_keeping};
 use console_core::{Event, PlainConsole, Translator, WordConsole, replay};
 use console_scripts::{Explorer, Typist, find_onward, scroll_off, type_characters};
-use console_states::{Sight, Sticking, sights_of, sticking, sticking_between};
+use console_states::{Sight, Sticking, sights_of, some_sights, sticking, sticking_between};
 use keymap_core::{KeyCode, Lock, Modifier, Write};
 use keymap_cover::{Seen, cells, cover_of, lock_settings};
-use keymap_diff::{Telling, Versions, changes, telling_apart};
+use keymap_diff::{Telling, differences, telling_apart};
 use std::alloc::{AllocError, Global};
 
 /// Makes a call on a keymap and its consoles. There is none where no such call has the name.
@@ -25,6 +25,7 @@ pub(crate) fn of_keymaps<W: Write>(call: &Call<'_>, marks: &mut W) -> Option<Out
         "sticking" => searches(alloc, trap, marks),
         "sticking_between" => searches_between(alloc, trap, sample, marks),
         "sights_of" => finds_sights(alloc, sample, marks),
+        "some_sights" => finds_some_sights(alloc, sample, marks),
         "Explorer::new" => explores(alloc, sample, marks),
         "find_onward" => goes_onward(alloc, sample, marks),
         "scroll_off" => turns_scroll_off(alloc, sample, marks),
@@ -34,7 +35,7 @@ pub(crate) fn of_keymaps<W: Write>(call: &Call<'_>, marks: &mut W) -> Option<Out
         "Seen::new" => sees_nothing(alloc, marks),
         "cells" => lists_cells(alloc, marks),
         "lock_settings" => lists_lock_settings(alloc, marks),
-        "changes" => compares(alloc, trap, sample, marks),
+        "differences" => compares(alloc, trap, sample, marks),
         "telling_apart" => tells_apart(alloc, trap, sample, marks),
         _ => return None,
     };
@@ -145,6 +146,14 @@ fn finds_sights<W: Write>(alloc: Global, lent: &Lent, marks: &mut W) -> Outcome 
     let given = sights_of(alloc, &lent.map);
     mark(marks);
     ended_keeping(&given, matches!(&given, Ok(Some(_))), lent.is_kept())
+}
+
+fn finds_some_sights<W: Write>(alloc: Global, lent: &Lent, marks: &mut W) -> Outcome {
+    mark(marks);
+    let given = some_sights(alloc, &lent.map);
+    mark(marks);
+    let is_right = matches!(&given, Ok(sights) if !sights.selections.is_empty());
+    ended_keeping(&given, is_right, lent.is_kept())
 }
 
 fn types_characters<W: Write>(alloc: Global, lent: &Lent, marks: &mut W) -> Outcome {
@@ -281,14 +290,9 @@ fn lists_lock_settings<W: Write>(alloc: Global, marks: &mut W) -> Outcome {
     ended(&given, matches!(&given, Ok(sights) if sights.len() == 1024))
 }
 
-fn compares<'l, W: Write>(alloc: Global, lent: &'l Lent, next: &'l Lent, marks: &mut W) -> Outcome {
-    let versions = Versions {
-        old: &lent.map,
-        new: &next.map,
-        seen: None,
-    };
+fn compares<W: Write>(alloc: Global, lent: &Lent, next: &Lent, marks: &mut W) -> Outcome {
     mark(marks);
-    let given = changes(alloc, &versions);
+    let given = differences(alloc, &lent.map, &next.map);
     mark(marks);
     ended_keeping(
         &given,

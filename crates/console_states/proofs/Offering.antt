@@ -11,7 +11,8 @@ use Rattle.console_states.proofs.Common.{unscrolled, IsBehind, AreBehind, AreOff
 use Rattle.console_states.proofs.Common.{AreSelectionsOf, AreOffersOf, IsInSome, rules}
 use Rattle.indexmap.proofs.IndexTableLemmas.Probe.{pigeonhole}
 use Rattle.std.proofs.lemmas.Bool.{true_from_ne_false}
-use Rattle.console_states.specs.Sights.{CanCompose, CanOffer, Enumerates, accents_in, IsOfferedAlong}
+use Rattle.console_states.specs.Sights.{AreComposed, CanCompose, CanOffer, CanSelect, Enumerates, accents_in}
+use Rattle.console_states.specs.Sights.{IsOfferedAlong}
 use Rattle.console_states.specs.Inner.Adding.{AreAccentsOf}
 use Rattle.console_states.specs.Searching.{AreMetOnce}
 use Rattle.console_states.proofs.Adding.{empty-none}
@@ -192,9 +193,8 @@ composing-behind m accent met es ys searched behind are = record {
 }
 
 -- Where the accent is offered with no lock on, all let go leads to the start, so all states are behind.
-start-behind : (m : MapValue) (accent : ℕ) (met : Entries)
-    → Searched (alone m) (start ∷ []) met (length met) (length met) → usable m accent ≡ true
-    → IsOfferedUnlocked (alone m) met accent → IsBehind (alone m) accent start
+start-behind : (m : MapValue) (accent : ℕ) (met : Entries) {a b : ℕ} → Searched (alone m) (start ∷ []) met a b
+    → usable m accent ≡ true → IsOfferedUnlocked (alone m) met accent → IsBehind (alone m) accent start
 start-behind m accent met searched can (j, x, at, unlocked, offers) =
     let u : Under = alone m in
     let s : State = state_of x.0 in
@@ -207,6 +207,16 @@ start-behind m accent met searched can (j, x, at, unlocked, offers) =
     (emptied-kept (λ t. IsBehind u accent t) (λ t k i there holds. behind-more u accent t (LetGo k i) there holds) s
     here)
 
+pub composing-some : (m : MapValue) (accent : ℕ) (met : Entries) {a b : ℕ} (ys : List Selection)
+    → Searched (alone m) (start ∷ []) met a b → usable m accent ≡ true → IsOfferedUnlocked (alone m) met accent
+    → AreSelectionsOf met ys → (y : Selection) → Contains ys y → CanCompose m accent y
+composing-some m accent met ys searched can offered are y has =
+    let (j, x, at, lt, e) = are.only y has in
+    let r : IsReached (alone m) start met j x = reached-one searched j x at in
+    behind-composes m accent (state_of x.0) y
+    (rw (← r.3) (behind-path (alone m) accent start r.0 (start-behind m accent met searched can offered) r.2))
+    e
+
 pub composing-all : (m : MapValue) (accent : ℕ) (met : Entries) (ys : List Selection)
     → Searched (alone m) (start ∷ []) met (length met) (length met) → usable m accent ≡ true
     → IsOfferedUnlocked (alone m) met accent → AreSelectionsOf met ys → Enumerates (CanCompose m accent) ys
@@ -214,16 +224,20 @@ composing-all m accent met ys searched can offered are = record {
   all = λ y (path, is, along, e).
       let (j, x, at, near) = near-met (alone m) met searched path is in
       are.all y (j, x, at, slice_get_within met j x at, ap (λ s. selection_of s) near ∙ e);
-  only = λ y has.
-      let (j, x, at, lt, e) = are.only y has in
-      let r : IsReached (alone m) start met j x = reached-one searched j x at in
-      behind-composes m accent (state_of x.0) y
-      (rw (← r.3) (behind-path (alone m) accent start r.0 (start-behind m accent met searched can offered) r.2))
-      e;
+  only = λ y has. composing-some m accent met ys searched can offered are y has;
   once = are.once;
 }
 
 -- ---- all together
+
+-- what was met can be selected
+pub selecting-some : (m : MapValue) (met : Entries) {a b : ℕ} (ys : List Selection)
+    → Searched (alone m) (start ∷ []) met a b → AreSelectionsOf met ys → (y : Selection) → Contains ys y
+    → CanSelect m y
+selecting-some m met ys searched are y has =
+    let (j, x, at, lt, e) = are.only y has in
+    let r : IsReached (alone m) start met j x = reached-one searched j x at in
+    (r.0, r.2, ap (λ s. selection_of s) r.3 ∙ e)
 
 -- the offers of a further accent
 accents-push : (offers : List Offer) (o : Offer) → accents_in (offers ++ o ∷ []) ≡ accents_in offers ++ o.accent ∷ []
@@ -249,6 +263,14 @@ has-offer (o ∷ offers) accent (zero, lt, at) = (o, (0, omega arith, refl), at)
 has-offer (o ∷ offers) accent (suc k, lt, at) =
     let (p, (n, below, is), same) = has-offer offers accent (k, omega (arith, lt), at) in
     (p, (suc n, omega (arith, below), is), same)
+
+-- a further offer of what can be composed
+pub composed-push : (m : MapValue) (offers now : List Offer) (o : Offer) → AreComposed m offers → now ≡ offers ++ o ∷ []
+    → ((y : Selection) → Contains o.selections.items y → CanCompose m o.accent y) → AreComposed m now
+composed-push m offers now o before e is = rw e (λ p has. elim (Contains-push_cases offers o p has) [
+  | inl was ↦ before p was
+  | inr same ↦ subst (λ q. (y : Selection) → Contains q.selections.items y → CanCompose m q.accent y) same is
+])
 
 -- where an accent can be pending, an offer of it has the selection
 pub composing-has : (m : MapValue) (x : Sights) (accent : ℕ) (y : Selection) → AreSightsOf m x → CanCompose m accent y

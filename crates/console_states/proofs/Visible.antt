@@ -4,6 +4,7 @@ use Rattle.console_states.proofs.Common.{subst, sym, ◌∙◌, arith, ◌==◌,
 use Rattle.console_states.proofs.Common.{true≢false, Cell, Char, Act, Selection, Sight, Offer, Sights, MapValue}
 use Rattle.console_states.proofs.Common.{key_count, alone, state_after, look_selected, SeesBy, is_selected}
 use Rattle.console_states.proofs.Common.{can_see, AreSightsOf, IsReachable, selection_of, rules}
+use Rattle.console_states.specs.Sights.{AreSomeSights}
 use Rattle.std.proofs.lemmas.Bool.{or_cases}
 use Rattle.std.proofs.Common.{◌%◌}
 use Rattle.std.specs.List.{range_with_len}
@@ -100,20 +101,28 @@ true-composed m offers accent x passes =
     let p = and_parts (o.accent == accent) (is_selected m o.selections.items x) pass in
     (o, has, eqb-true o.accent accent p.0, true-selected m o.selections.items x p.1)
 
+-- what is seen by some can be seen
+pub sees-some : (m : MapValue) (s : Sights) → AreSomeSights m s → (x : Sight) → can_see m s x ≡ true → IsReachable m x
+sees-some m s are (sight.Pair accent c) e =
+    let (o, has, same, (y, there, (k, lt, sees))) = true-composed m s.offers.items accent (sight.Pair accent c) e in
+    let (path, is, offered, leads) = subst (λ a. CanCompose m a y) same (are.composing o has y there) in
+    (path, is, offered, (k, lt, subst (λ z. SeesBy m z k (sight.Pair accent c)) (sym leads) sees))
+sees-some m s are (sight.Cell slot column) e =
+    let (y, there, (k, lt, sees)) = true-selected m s.selections.items (sight.Cell slot column) e in
+    let (path, is, leads) = are.selections y there in
+    (path, is, tt, (k, lt, subst (λ z. SeesBy m z k (sight.Cell slot column)) (sym leads) sees))
+sees-some m s are (sight.Locks slot caps num) e =
+    let (y, there, (k, lt, sees)) = true-selected m s.selections.items (sight.Locks slot caps num) e in
+    let (path, is, leads) = are.selections y there in
+    (path, is, tt, (k, lt, subst (λ z. SeesBy m z k (sight.Locks slot caps num)) (sym leads) sees))
+
 -- what can be seen passes the test, and nothing else
 pub sees-all : (m : MapValue) (s : Sights) → AreSightsOf m s → (x : Sight) → can_see m s x ≡ true → IsReachable m x
-sees-all m s are (sight.Pair accent c) e =
-    let (o, has, same, (y, there, (k, lt, sees))) = true-composed m s.offers.items accent (sight.Pair accent c) e in
-    let (path, is, offered, leads) = subst (λ a. CanCompose m a y) same ((are.composing o has).only y there) in
-    (path, is, offered, (k, lt, subst (λ z. SeesBy m z k (sight.Pair accent c)) (sym leads) sees))
-sees-all m s are (sight.Cell slot column) e =
-    let (y, there, (k, lt, sees)) = true-selected m s.selections.items (sight.Cell slot column) e in
-    let (path, is, leads) = are.selections.only y there in
-    (path, is, tt, (k, lt, subst (λ z. SeesBy m z k (sight.Cell slot column)) (sym leads) sees))
-sees-all m s are (sight.Locks slot caps num) e =
-    let (y, there, (k, lt, sees)) = true-selected m s.selections.items (sight.Locks slot caps num) e in
-    let (path, is, leads) = are.selections.only y there in
-    (path, is, tt, (k, lt, subst (λ z. SeesBy m z k (sight.Locks slot caps num)) (sym leads) sees))
+sees-all m s are x e =
+    sees-some m s (record {
+      selections = are.selections.only;
+      composing = λ o has. (are.composing o has).only;
+    }) x e
 
 pub all-seen : (m : MapValue) (s : Sights) → AreSightsOf m s → (x : Sight) → IsReachable m x → can_see m s x ≡ true
 all-seen m s are (sight.Pair accent c) (path, is, offered, (k, lt, sees)) =

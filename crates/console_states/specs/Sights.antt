@@ -150,6 +150,16 @@ pub record AreSightsOf (m : MapValue) (x : Sights) : Type 0 where
   pub composing : (o : Offer) → Contains x.offers.items o → Enumerates (CanCompose m o.accent) o.selections.items
   pub forgets : (x.forgets ≡ true → CanForget m) × (CanForget m → x.forgets ≡ true)
 
+-- Under each selection that is offered with an accent the accent can be pending.
+abbrev pub AreComposed : MapValue → List Offer → Type 0
+AreComposed m offers =
+    (o : Offer) → Contains offers o → (y : Selection) → Contains o.selections.items y → CanCompose m o.accent y
+
+-- What a search found is some of what moves lead to.
+pub record AreSomeSights (m : MapValue) (x : Sights) : Type 0 where
+  pub selections : (y : Selection) → Contains x.selections.items y → CanSelect m y
+  pub composing : AreComposed m x.offers.items
+
 -- What a press after a list sees can be seen: after all lists if no path leads to where a holder looks up a character,
 -- and else after clean ones.
 abbrev pub SightsAreReachable : Type 0

@@ -9,6 +9,7 @@
 //! `go_out` tells the events to one of them. `sticking` decides by it whether a keymap can leave a modifier on while no
 //! key is pressed, `sticking_between` whether two that loads exchange can. `sights_of` finds by the same search what
 //! presses can look up, and behind which accents. All of them may give up where more than 65,536 states can be reached.
+//! `some_sights` looks at few states alone, and so never does.
 //!
 //! No call takes memory but these, `sights_in`, and those that push events, and none fails but for want of memory.
 #![tactic(auto)]
@@ -31,4 +32,4 @@ pub use search::{
 };
 pub use selection::{Selection, Sight};
 pub use showing::{go_out, push_moves};
-pub use sights::{Offer, Sights, sights_in, sights_of};
+pub use sights::{Offer, Sights, sights_in, sights_of, some_sights};

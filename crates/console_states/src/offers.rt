@@ -4,11 +4,12 @@ ghost use Rattle.std.specs.Prelude.{◌≡◌, ◌++◌, ◌∷◌, [], ℕ, Lis
 ghost use Rattle.std.specs.List.{Contains};
 ghost use Rattle.keymap_core.specs.Numbers.{key_count};
 ghost use Rattle.console_core.specs.Answers.{usable};
-ghost use Rattle.console_states.specs.Moves.{alone};
-ghost use Rattle.console_states.specs.Sights.{CanCompose, Enumerates};
-ghost use Rattle.console_states.specs.Searching.{state_of, under_of, HasMetAll};
+ghost use Rattle.console_states.specs.Moves.{alone, start};
+ghost use Rattle.console_states.specs.Sights.{AreComposed, CanCompose, Enumerates};
+ghost use Rattle.console_states.specs.Searching.{state_of, under_of, HasMetAll, Searched};
 ghost use Rattle.console_states.specs.Inner.Adding.{IsWith, AddsOffer, AddsOffers, AreAccentsOf, AreSelectionsOf};
-ghost use Rattle.console_states.specs.Inner.Adding.{IsOfferedUnlocked, AreOffering, AreBehind, AreOffersOf};
+ghost use Rattle.console_states.specs.Inner.Adding.{IsOfferedUnlocked, AreUnlocked, AreOffering};
+ghost use Rattle.console_states.specs.Inner.Adding.{AreBehind, AreOffersOf};
 ghost use Rattle.console_states.specs.Inner.KeyLists.{AreKeysOf};
 ghost use Rattle.console_states.specs.declared.key_lists.CellKind.TheVariants.{DeadKey};
 
@@ -126,6 +127,14 @@ fn behind(alloc: Global, met: &Met, maps: &Keymaps, accent: u8) -> Result<Met, A
     }
 }
 
+fn copied(alloc: Global, selections: &[Selection]) -> Result<Vec<Selection>, AllocError>
+    ensures { IfOk result (λ v. v.items ≡ selections.now) }
+{
+    let mut copies = Vec::new(alloc);
+    copies.extend_from_slice(selections)?;
+    Ok(copies)
+}
+
 /// What can be looked up while the accent is pending. Where it is offered with no lock on, letting go leads to the
 /// start, and so everywhere.
 fn selections_behind(
@@ -141,9 +150,7 @@ fn selections_behind(
     ensures { IfOk result (λ v. Enumerates (CanCompose maps.now.first.now accent) v.items) }
 {
     if is_offered_unlocked(met, maps, accent) {
-        let mut selections = Vec::new(alloc);
-        selections.extend_from_slice(all)?;
-        Ok(selections)
+        copied(alloc, all)
     } else {
         let states = behind(alloc, met, maps, accent)?;
         selections_of(alloc, &states)
@@ -174,6 +181,49 @@ fn offers_by(
     let mut offers = Vec::new(alloc);
     for accent in accents {
         let selections = selections_behind(alloc, met, maps, all, *accent)?;
+        push_offer(
+            &mut offers,
+            Offer {
+                accent: *accent,
+                selections,
+            },
+        )?;
+    }
+    Ok(offers)
+}
+
+/// The accents that are offered in the states that were met and where no lock is on.
+fn unlocked_accents(alloc: Global, met: &Met, maps: &Keymaps) -> Result<Vec<u8>, AllocError>
+    ensures { IfOk result (λ accents. AreUnlocked (under_of maps.now) met.now.entries accents.items) }
+{
+    let keys = dead_keys(alloc, maps)?;
+    let mut accents = Vec::new(alloc);
+    for place in 0..met.len() {
+        let (held, _) = entry(met, place);
+        if held.is_any_locked() {
+            continue;
+        }
+        add_offers(&mut accents, maps, &held, keys.as_slice())?;
+    }
+    Ok(accents)
+}
+
+/// Of the accents, those that are offered where no lock is on, and some of what can be looked up while they are pending.
+pub fn some_offers(
+    alloc: Global,
+    met: &Met,
+    maps: &Keymaps,
+    some: &[Selection],
+) -> Result<Vec<Offer>, AllocError>
+    requires alone { under_of maps.now ≡ alone maps.now.first.now }
+    requires met { Searched (alone maps.now.first.now) (start ∷ []) met.now.entries 0 0 }
+    requires some { AreSelectionsOf met.now.entries some.now }
+    ensures { IfOk result (λ offers. AreComposed maps.now.first.now offers.items) }
+{
+    let mut offers = Vec::new(alloc);
+    let accents = unlocked_accents(alloc, met, maps)?;
+    for accent in &accents {
+        let selections = copied(alloc, some)?;
         push_offer(
             &mut offers,
             Offer {

@@ -11,7 +11,7 @@ ghost use Rattle.console_states.specs.Searching.{state_of, under_of, Entry, IsMe
 ghost use Rattle.console_states.specs.Searching.{IsStep, AreMet, AreAdded, Searched, AreInOrder, HasMovingKeys};
 ghost use Rattle.console_states.specs.Searching.{HasEnded, IsStuck, AreSafe, GoBack, IsScriptTo};
 ghost use Rattle.console_core.specs.History.{between};
-ghost use Rattle.console_states.specs.Moves.{Under, State, Holds, with_holder};
+ghost use Rattle.console_states.specs.Moves.{Under, State, Holds, start, with_holder};
 ghost use Rattle.console_states.specs.Sticking.{IsAnswer, IsAnswerBetween, IsAnswerUnder, state_limit};
 
 use crate::held::{Held, Keymaps, Move, Step};
@@ -286,6 +286,28 @@ pub fn meet_all(alloc: Global, maps: &Keymaps, origins: &[Held]) -> Result<(Met,
         presses += 1;
     }
     Ok((met, End::Complete))
+}
+
+/// Meets the states that at most three presses lead to from the start, and maybe more; not all if they are too many.
+pub(crate) fn meet_few(alloc: Global, maps: &Keymaps) -> Result<Met, AllocError>
+    ensures { IfOk result (λ met. Searched (under_of maps.now) (start ∷ []) met.entries 0 0) }
+{
+    let keys = moving_keys(alloc, maps)?;
+    let mut met = begin(alloc, &[Held::start()])?;
+    let mut level = 0;
+    for presses in 0..3 {
+        close(&mut met, maps, level, presses)?;
+        if met.len() > BOUND {
+            return Ok(met);
+        }
+        let end = met.len();
+        press(&mut met, maps, keys.as_slice(), level, presses)?;
+        if met.len() > BOUND {
+            return Ok(met);
+        }
+        level = end;
+    }
+    Ok(met)
 }
 
 /// The first place where a key that holds a modifier looks up a character.

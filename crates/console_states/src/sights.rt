@@ -3,13 +3,14 @@ ghost use Rattle.std.specs.Prelude.{◌≡◌, ℕ, false, true, OnOk, IfOk, Mat
 ghost use Rattle.std.specs.List.{Contains};
 ghost use Rattle.console_states.specs.Moves.{alone};
 ghost use Rattle.console_states.specs.Sticking.{ReachesMoreThan, state_limit};
-ghost use Rattle.console_states.specs.Sights.{AreSightsOf, IsReachable, can_see, is_selected, is_composed};
+ghost use Rattle.console_states.specs.Sights.{AreSightsOf, AreSomeSights, IsReachable, can_see, is_selected};
+ghost use Rattle.console_states.specs.Sights.{is_composed};
 ghost use Rattle.console_states.specs.Searching.{HasMetAll};
 ghost use Rattle.console_states.specs.Inner.Adding.{IsWith, AreSelectionsOf};
 
 use crate::held::{Held, Keymaps};
-use crate::offers::offers_of;
-use crate::search::{End, Met, entry, first_stuck, meet_all};
+use crate::offers::{offers_of, some_offers};
+use crate::search::{End, Met, entry, first_stuck, meet_all, meet_few};
 use crate::selection::{Selection, Sight};
 use keymap_core::KeyMap;
 use std::alloc::{AllocError, Global};
@@ -110,8 +111,9 @@ fn is_composed(map: &KeyMap, offers: &[Offer], accent: u8, sight: Sight) -> bool
 }
 
 impl Sights {
-    /// Whether a press can see it, under the keymap that these are of.
+    /// Whether a press can see it, under the keymap that these are of; where they are some alone, whether they show it.
     pub fn can_see(&self, map: &KeyMap, sight: Sight) -> bool
+        ensures some { AreSomeSights map.now self.now → result ≡ true → IsReachable map.now sight }
         ensures reachable { AreSightsOf map.now self.now → result ≡ true → IsReachable map.now sight }
         ensures unreachable { AreSightsOf map.now self.now → result ≡ false → IsReachable map.now sight → ⊥ }
         ensures value { result ≡ can_see map.now self.now sight }
@@ -152,4 +154,23 @@ pub fn sights_of(alloc: Global, map: &KeyMap) -> Result<Option<Sights>, AllocErr
         End::Complete => Ok(Some(sights_in(alloc, &met, &maps)?)),
         End::TooMany(_) => Ok(None),
     }
+}
+
+/// Some of what presses of keys can see under the keymap: what those can that a few presses lead to.
+pub fn some_sights(alloc: Global, map: &KeyMap) -> Result<Sights, AllocError>
+    ensures { IfOk result (λ x. AreSomeSights map.now x) }
+{
+    let maps = Keymaps {
+        first: map,
+        second: map,
+        has_loads: false,
+    };
+    let met = meet_few(alloc, &maps)?;
+    let selections = selections_of(alloc, &met)?;
+    let offers = some_offers(alloc, &met, &maps, &selections)?;
+    Ok(Sights {
+        selections,
+        offers,
+        forgets: first_stuck(&met, &maps).is_some(),
+    })
 }

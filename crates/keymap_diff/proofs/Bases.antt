@@ -7,8 +7,9 @@ use Rattle.std.specs.Option.{option_eq, option_to_list}
 use Rattle.std.proofs.lemmas.List.{take_more}
 use Rattle.keymap_core.specs.Accents.{first_result}
 use Rattle.keymap_core.specs.Numbers.{accent_limit}
-use Rattle.keymap_diff.specs.Changes.{IsChangeOf, IsMark, MeetsPair, pairs_of, place_of}
+use Rattle.keymap_diff.specs.Changes.{IsMark, MeetsPair, pairs_of, place_of}
 use Rattle.keymap_diff.specs.Inner.Pushing.{HasBase, IsOfBase, IsOfBaseIn, IsOne, Pushes, PushesAt, PushesBases}
+use Rattle.keymap_diff.specs.Inner.Versions.{IsChangeOf}
 use Rattle.keymap_diff.specs.Types.{Change, Pair, Versions}
 use Rattle.keymap_diff.proofs.Marks.{mark-one, pairs-only}
 use Rattle.keymap_diff.proofs.Pushing.{pushes-as, pushes-both, pushes-option}

@@ -6,6 +6,7 @@ pub mod CanShow
 pub mod Clearing
 pub mod Common
 pub mod Ending
+pub mod Known
 pub mod LastEvents
 pub mod Marks
 pub mod Offers

@@ -5,9 +5,10 @@ use Rattle.std.specs.Prelude.{is_some}
 use Rattle.keymap_core.specs.Maps.{MapValue, entry_at, cell_at}
 use Rattle.keymap_core.specs.Numbers.{slot_limit, column_count, accent_limit}
 use Rattle.keymap_core.specs.declared.entry.Cell.{Cell as CellValue}
-use Rattle.keymap_diff.specs.Changes.{IsMark, IsChangeOf, MeetsCell, MeetsLetters, MeetsSetting, MeetsDeadKey}
+use Rattle.keymap_diff.specs.Changes.{IsMark, MeetsCell, MeetsLetters, MeetsSetting, MeetsDeadKey}
 use Rattle.keymap_diff.specs.Changes.{MeetsDeadKeyAt, place_of, pairs_of, HaveSameResults}
 use Rattle.keymap_diff.specs.Inner.Pushing.{IsAt, IsOne}
+use Rattle.keymap_diff.specs.Inner.Versions.{IsChangeOf}
 use Rattle.keymap_diff.specs.Types.{Change, Slots, Cell, Letter, Accents, Pair, ListedOtherwise, Versions, LockFlag}
 
 -- one mark alone is right

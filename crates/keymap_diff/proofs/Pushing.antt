@@ -1,4 +1,5 @@
 -- What is pushed behind a list, and what is pushed behind that.
+use Rattle.std.proofs.Common.{is_some}
 use Rattle.std.proofs.Common.{◌≡◌, ℕ, ◌+◌, ◌≤◌, ◌⊎◌, inl, inr, List, [], ◌∷◌, ◌++◌, get_or, refl, ap, Option}
 use Rattle.std.proofs.Common.{None, Some, subst, sym, ◌∙◌, arith, append_assoc, rules}
 use Rattle.std.proofs.lemmas.Bool.{cases_lt}
@@ -99,10 +100,11 @@ places_step v low at high o old mid now below next a one e =
     places-more v low at high old mid now below next a (pushes-option (IsAt v at) o mid now one e)
 
 -- all places, behind nothing
-pub all_pushed : (v : Versions) (old now : List Change) → old ≡ [] → PushesPlaces v 0 2351 old now → AreChanges v now
+pub all_pushed : (v : Versions) (old now : List Change) → old ≡ [] → PushesPlaces v 0 2351 old now
+    → AreChanges (is_some v.seen) v.old.now v.new.now now
 all_pushed v old now e a =
     let same : now ≡ a.more = a.is ∙ ap (λ z. z ++ a.more) e in
-    subst (λ z. AreChanges v z) (sym same) (record {
+    subst (λ z. AreChanges (is_some v.seen) v.old.now v.new.now z) (sym same) (record {
       each = record {
         all = λ x is. a.each.all x (is, omega arith, place_below v x is);
         only = λ x there. (a.each.only x there).0;

@@ -5,7 +5,6 @@ use Rattle.std.proofs.lemmas.Bool.{eqb-true, eq-eqb, true≢false}
 use Rattle.std.proofs.lemmas.List.{ext_get_or}
 use Rattle.std.specs.Bool.{Decides}
 use Rattle.std.specs.Cmp.Lexicographic.{pointwise, pointwise_decides}
-use Rattle.std.specs.Prelude.{is_some}
 use Rattle.keymap_core.specs.contracts.entry.CellPartialEq.TheImpl as cell
 use Rattle.keymap_core.specs.contracts.entry.LockFlagPartialEq.TheImpl as flag
 use Rattle.keymap_core.specs.Accents.{blank}
@@ -140,19 +139,18 @@ none-same known m (Pair i c a b u) is = is.3 (sym is.1 ∙ is.2)
 none-same known m (ListedOtherwise i) is = is.2 refl
 
 pub nothing_if_same : NothingIfSame
-nothing_if_same v found bounds also are = ((λ e. same (none e)), nothing found are)
+nothing_if_same m n found bounds also (known, reason, are) = ((λ e. same (none e)), nothing found are)
   where
-    none : found ≡ [] → (x : Change) → IsChange (is_some v.seen) v.old.now v.new.now x → ⊥
+    none : found ≡ [] → (x : Change) → IsChange known m n x → ⊥
     none e x is = search rules
 
-    same : ((x : Change) → IsChange (is_some v.seen) v.old.now v.new.now x → ⊥) → v.old.now ≡ v.new.now
+    same : ((x : Change) → IsChange known m n x → ⊥) → m ≡ n
     same nothing_differs =
-        let entries = entries-same (is_some v.seen) v.old.now v.new.now bounds also nothing_differs in
-        let accents = accents-same (is_some v.seen) v.old.now v.new.now bounds also nothing_differs in
+        let entries = entries-same known m n bounds also nothing_differs in
+        let accents = accents-same known m n bounds also nothing_differs in
         λ i. record { entries = entries i; accents = accents i }
 
-    nothing : (xs : List Change) → AreChanges v xs → v.old.now ≡ v.new.now → xs ≡ []
+    nothing : (xs : List Change) → AreChanges known m n xs → m ≡ n → xs ≡ []
     nothing [] is e = refl
     nothing (x ∷ xs) is e =
-        absurd (none-same (is_some v.seen) v.old.now x
-        (subst (λ n. IsChange (is_some v.seen) v.old.now n x) (sym e) (is.each.only x (0, omega arith, refl))))
+        absurd (none-same known m x (subst (λ z. IsChange known m z x) (sym e) (is.each.only x (0, omega arith, refl))))

@@ -1,16 +1,17 @@
 -- What differs between two keymaps, and whether any press meets it.
 use Rattle.std.specs.Prelude.{◌≡◌, ◌≢◌, ◌⊎◌, ℕ, ◌+◌, ◌*◌, ◌<◌, ◌≤◌, ⊤, Bool, true, false, List, [], Option, None, Some}
-use Rattle.std.specs.Prelude.{is_some}
 use Rattle.std.specs.List.{AllPairs}
 use Rattle.keymap_core.specs.Accents.{first_result}
 use Rattle.keymap_core.specs.Bounds.{IsMap}
 use Rattle.keymap_core.specs.Maps.{MapValue, n_keys_of, n_accs_of, entry_at, cell_at, accent_or_blank}
 use Rattle.keymap_core.specs.Numbers.{slot_limit, column_count, accent_limit}
 use Rattle.console_core.specs.Columns.{flips_shift}
-use Rattle.console_states.specs.Sights.{AreSightsOf, Enumerates, IsReachable}
+use Rattle.console_states.specs.Moves.{alone}
+use Rattle.console_states.specs.Sights.{Enumerates, IsReachable}
+use Rattle.console_states.specs.Sticking.{ReachesMoreThan, state_limit}
 use Rattle.console_states.specs.declared.selection.Sight.TheVariants as sight
 use Rattle.keymap_diff.specs.Types.{DeadKey, Act, LockFlag, Change, Slots, Cell, Letter, Accents, Accent, Pair}
-use Rattle.keymap_diff.specs.Types.{ListedOtherwise, Seen, Versions}
+use Rattle.keymap_diff.specs.Types.{ListedOtherwise}
 
 -- ---- whether a press meets what differs
 
@@ -88,24 +89,26 @@ place_of (Accent i a b u) = 2306 + i
 place_of (Pair i base a b u) = 2321 + i
 place_of (ListedOtherwise i) = 2336 + i
 
--- what presses can see is that under each of the keymaps
-abbrev pub AreSights : MapValue → MapValue → Option Seen → Type 0
-AreSights m n None = ⊤
-AreSights m n (Some s) = AreSightsOf m s.old.now × AreSightsOf n s.new.now
-
-abbrev pub HaveSights : Versions → Type 0
-HaveSights v = AreSights v.old.now v.new.now v.seen
-
-abbrev pub IsChangeOf : Versions → Change → Type 0
-IsChangeOf v x = IsChange (is_some v.seen) v.old.now v.new.now x
-
 -- The changes are all that differs, each once, by their places.
-pub record AreChanges (v : Versions) (found : List Change) : Type 0 where
-  pub each : Enumerates (IsChangeOf v) found
+pub record AreChanges (known : Bool) (m n : MapValue) (found : List Change) : Type 0 where
+  pub each : Enumerates (IsChange known m n) found
   pub in_order : AllPairs (λ x y. place_of x ≤ place_of y) found
+
+-- more states can be reached under the keymap than a search goes over
+abbrev pub GivesUp : MapValue → Type 0
+GivesUp m = (p : ℕ) × ReachesMoreThan (alone m) state_limit p
+
+-- It is known what presses can see, unless a search gave up.
+abbrev pub IsKnown : Bool → MapValue → MapValue → Type 0
+IsKnown true m n = ⊤
+IsKnown false m n = GivesUp m ⊎ GivesUp n
+
+-- all that differs, with whether it is unseen
+abbrev pub AreDifferences : MapValue → MapValue → List Change → Type 0
+AreDifferences m n found = (known : Bool) × IsKnown known m n × AreChanges known m n found
 
 -- Nothing differs exactly if the keymaps are the same.
 abbrev pub NothingIfSame : Type 0
 NothingIfSame =
-    (v : Versions) (found : List Change) → IsMap v.old.now → IsMap v.new.now → AreChanges v found
-    → (found ≡ [] → v.old.now ≡ v.new.now) × (v.old.now ≡ v.new.now → found ≡ [])
+    (m n : MapValue) (found : List Change) → IsMap m → IsMap n → AreDifferences m n found
+    → (found ≡ [] → m ≡ n) × (m ≡ n → found ≡ [])

@@ -2,3 +2,4 @@
 pub mod Pushing
 pub mod Searches
 pub mod Showing
+pub mod Versions

@@ -1,11 +1,12 @@
 //! Finding what differs between two keymaps.
-ghost use Rattle.std.specs.Prelude.{◌≡◌, ◌<◌, ◌+◌, ◌++◌, ℕ, OnOk, IfOk, None, false, true};
+ghost use Rattle.std.specs.Prelude.{◌≡◌, ◌<◌, ◌+◌, ◌++◌, ℕ, OnOk, IfOk, None, false, true, is_some};
 ghost use Rattle.std.specs.Option.{option_to_list};
 ghost use Rattle.keymap_core.specs.Numbers.{accent_limit};
 ghost use Rattle.keymap_core.specs.Accents.{first_result};
-ghost use Rattle.keymap_diff.specs.Changes.{HaveSights, HaveSameResults, AreChanges};
+ghost use Rattle.keymap_diff.specs.Changes.{HaveSameResults, AreChanges};
 ghost use Rattle.keymap_diff.specs.Inner.Pushing.{HasBase, IsOne, IsAt, IsOfBaseIn, PushesAt, PushesPlaces};
 ghost use Rattle.keymap_diff.specs.Inner.Pushing.{PushesBases};
+ghost use Rattle.keymap_diff.specs.Inner.Versions.{HaveSights};
 
 use crate::change::Change;
 use crate::unseen::{Letters, is_dead_key_unseen, is_unseen};
@@ -281,9 +282,10 @@ fn push_listed_otherwise(found: &mut Vec<Change>, versions: &Versions) -> Added
 }
 
 /// What differs between the keymaps, each cell, lock letter, accent and pair by itself.
-pub fn changes(alloc: Global, versions: &Versions) -> Result<Vec<Change>, AllocError>
+pub(crate) fn changes(alloc: Global, versions: &Versions) -> Result<Vec<Change>, AllocError>
     requires { HaveSights versions.now }
-    ensures { IfOk result (λ found. AreChanges versions.now found.items) }
+    ensures { IfOk result (λ found. AreChanges (is_some versions.now.seen) versions.now.old.now versions.now.new.now
+        found.items) }
 {
     let mut found = Vec::new(alloc);
     add(&mut found, slot_counts(versions))?;

@@ -10,6 +10,7 @@
 mod change;
 mod compared;
 pub mod laws;
+mod marking;
 mod nearest;
 mod searched;
 mod showing;
@@ -18,6 +19,5 @@ mod unseen;
 mod versions;
 
 pub use change::Change;
-pub use compared::changes;
+pub use marking::differences;
 pub use telling::{Telling, telling_apart};
-pub use versions::{Seen, Versions};

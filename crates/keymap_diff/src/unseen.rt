@@ -1,9 +1,9 @@
 //! Whether any press meets what differs, under either keymap.
 ghost use Rattle.std.specs.Prelude.{◌≡◌, ◌<◌, true, false, is_some};
 ghost use Rattle.keymap_core.specs.Numbers.{accent_limit, column_count};
-ghost use Rattle.console_states.specs.Sights.{AreSightsOf, IsReachable};
-ghost use Rattle.keymap_diff.specs.Changes.{HaveSights, IsMark, MeetsSetting, MeetsLetters, MeetsDeadKeyAt};
-ghost use Rattle.keymap_diff.specs.Changes.{MeetsDeadKey};
+ghost use Rattle.console_states.specs.Sights.{AreSightsOf, AreSomeSights, IsReachable};
+ghost use Rattle.keymap_diff.specs.Changes.{IsMark, MeetsSetting, MeetsLetters, MeetsDeadKeyAt, MeetsDeadKey};
+ghost use Rattle.keymap_diff.specs.Inner.Versions.{HaveSights};
 
 use crate::versions::Versions;
 use console_core::flips;
@@ -38,9 +38,10 @@ impl Letters {
     /// Whether a press can look up the slot under this setting of clock and nlock, and one of the letters alone flips
     /// shift there.
     fn are_seen_under(self, map: &KeyMap, sights: &Sights, caps: bool, num: bool) -> bool
-        requires { AreSightsOf map.now sights.now }
+        requires { AreSomeSights map.now sights.now }
         ensures seen { result ≡ true → MeetsSetting self.slot self.old self.new caps num map.now }
-        ensures unseen { result ≡ false → MeetsSetting self.slot self.old self.new caps num map.now → ⊥ }
+        ensures unseen { AreSightsOf map.now sights.now → result ≡ false
+            → MeetsSetting self.slot self.old self.new caps num map.now → ⊥ }
     {
         let old = flips(self.old, caps, num);
         let new = flips(self.new, caps, num);
@@ -49,10 +50,11 @@ impl Letters {
     }
 
     /// Whether a press can look up the slot under a setting where one of the letters alone flips shift.
-    fn are_seen(self, map: &KeyMap, sights: &Sights) -> bool
-        requires { AreSightsOf map.now sights.now }
+    pub(crate) fn are_seen(self, map: &KeyMap, sights: &Sights) -> bool
+        requires { AreSomeSights map.now sights.now }
         ensures seen { result ≡ true → MeetsLetters self.slot self.old self.new map.now }
-        ensures unseen { result ≡ false → MeetsLetters self.slot self.old self.new map.now → ⊥ }
+        ensures unseen { AreSightsOf map.now sights.now → result ≡ false
+            → MeetsLetters self.slot self.old self.new map.now → ⊥ }
     {
         self.are_seen_under(map, sights, false, false)
             || self.are_seen_under(map, sights, false, true)
@@ -79,11 +81,11 @@ impl Letters {
 
 /// Whether the cell is the dead key of the accent, and a press can look it up.
 fn sees_dead_key_at(map: &KeyMap, sights: &Sights, accent: u8, slot: u8, column: usize) -> bool
-    requires sights { AreSightsOf map.now sights.now }
+    requires sights { AreSomeSights map.now sights.now }
     requires accent { accent < accent_limit }
     requires column { column < column_count }
     ensures seen { result ≡ true → MeetsDeadKeyAt accent map.now slot column }
-    ensures unseen { result ≡ false → MeetsDeadKeyAt accent map.now slot column → ⊥ }
+    ensures unseen { AreSightsOf map.now sights.now → result ≡ false → MeetsDeadKeyAt accent map.now slot column → ⊥ }
 {
     let cell = map.entry(slot).cells[column];
     let dead_key = Cell::Act(Action::DeadKey(AccentIndex::new(accent)));
@@ -91,11 +93,11 @@ fn sees_dead_key_at(map: &KeyMap, sights: &Sights, accent: u8, slot: u8, column:
 }
 
 /// Whether a press can look up the dead key of the accent.
-fn sees_dead_key(map: &KeyMap, sights: &Sights, accent: u8) -> bool
-    requires sights { AreSightsOf map.now sights.now }
+pub(crate) fn sees_dead_key(map: &KeyMap, sights: &Sights, accent: u8) -> bool
+    requires sights { AreSomeSights map.now sights.now }
     requires accent { accent < accent_limit }
     ensures seen { result ≡ true → MeetsDeadKey accent map.now }
-    ensures unseen { result ≡ false → MeetsDeadKey accent map.now → ⊥ }
+    ensures unseen { AreSightsOf map.now sights.now → result ≡ false → MeetsDeadKey accent map.now → ⊥ }
 {
     for place in 0..SLOT_LIMIT * COLUMN_COUNT {
         let slot = (place / COLUMN_COUNT) as u8;

@@ -2,10 +2,10 @@
 use Rattle.std.specs.Prelude.{◌≡◌, ℕ, ◌+◌, ◌<◌, ◌≤◌, ◌==◌, Bool, true, false, List, [], ◌∷◌, ◌++◌, length}
 use Rattle.std.specs.Prelude.{if◌then◌else◌, slice_index_or}
 use Rattle.std.specs.List.{list_any}
-use Rattle.keymap_diff.specs.Changes.{AreChanges}
+use Rattle.keymap_core.specs.Maps.{MapValue}
+use Rattle.keymap_diff.specs.Changes.{AreDifferences}
 use Rattle.keymap_diff.specs.declared.change.Change.{Change}
 use Rattle.keymap_diff.specs.declared.change.Change.TheVariants.{Cell, Letter, Accents, Pair}
-use Rattle.keymap_diff.specs.declared.versions.Versions.{Versions}
 use Rattle.keymap_diff.specs.contracts.change.ChangePartialEq.TheImpl as change
 use Rattle.kmap_runs.specs.contracts.joined.LabelPartialEq.TheImpl as label
 use Rattle.kmap_runs.specs.declared.joined.Label.{Label}
@@ -61,7 +61,7 @@ lines_of found = with_changes found [] found
 
 -- they are the changes between some keymaps
 abbrev pub AreOfSome : List Change → Type 0
-AreOfSome found = (v : Versions) × AreChanges v found
+AreOfSome found = (m n : MapValue) × AreDifferences m n found
 
 abbrev pub is_of_slot : ℕ → Change → Bool
 is_of_slot slot (Cell s c a b u) = s == slot

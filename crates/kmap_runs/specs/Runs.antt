@@ -1,5 +1,5 @@
 -- What the runs of the program do to the devices that they are lent.
-use Rattle.std.specs.Prelude.{◌≡◌, ◌≢◌, ◌↔◌, ◌⊎◌, ◌==◌, IsTrue, ℕ, Bool, true, false, List, [], All, Option, Some, None}
+use Rattle.std.specs.Prelude.{◌≡◌, ◌≢◌, ◌↔◌, ◌==◌, IsTrue, ℕ, Bool, true, false, List, [], All, Option, Some, None}
 use Rattle.std.specs.Prelude.{Result, Ok, Err, ⊤, length}
 use Rattle.std.specs.Io.KnownBytes.{Appends}
 use Rattle.keymap_core.specs.Bounds.{IsMap}
@@ -22,10 +22,9 @@ use Rattle.console_states.specs.Moves.{alone}
 use Rattle.console_states.specs.Sticking.{IsAnswer, IsAnswerBetween, NeverSticks, ReachesMoreThan, state_limit}
 use Rattle.keymap_cover.specs.declared.parts.Cover.{Cover}
 use Rattle.keymap_cover.specs.Covering.{Covers}
-use Rattle.keymap_diff.specs.Changes.{AreChanges, HaveSights}
+use Rattle.keymap_diff.specs.Changes.{AreDifferences}
 use Rattle.keymap_diff.specs.Telling.{IsTelling}
 use Rattle.keymap_diff.specs.declared.change.Change.{Change}
-use Rattle.keymap_diff.specs.declared.versions.Versions.{Versions}
 use Rattle.keymap_diff.specs.declared.telling.Telling.{Telling}
 use Rattle.play_core.specs.declared.type_error.TypeError.TheVariants as type
 use Rattle.play_core.specs.Runs.{Moves, moves, ReadsBoth, Runs, Stays}
@@ -130,20 +129,11 @@ Finds v never told =
 abbrev pub SearchesTexts : Moves → Option Moves → Moves → Result Bool RunError → Type 0
 SearchesTexts text next out r = Runs of_writer (ReadsKeymaps text next) LacksMemory Finds out r
 
--- the search for what presses can see gives up over the states of the map
-abbrev pub GivesUp : MapValue → Type 0
-GivesUp m = (p : ℕ) × ReachesMoreThan (alone m) state_limit p
-
--- The maps, and what presses can see under each, unless a search gave up.
-abbrev pub AreVersions : MapValue → MapValue → Versions → Type 0
-AreVersions m n v =
-    (v.old.now ≡ m) × (v.new.now ≡ n) × HaveSights v × (v.seen ≡ None → GivesUp m ⊎ GivesUp n)
-
 -- what is told of maps that differ: whether anybody can tell them apart, each change, and how
 abbrev pub TellsDifferences : MapValue → MapValue → List ℕ → Type 0
 TellsDifferences m n text =
-    (v : Versions) × (found : List Change) × (telling : Telling)
-    × AreVersions m n v × AreChanges v found × IsTelling m n telling × (text ≡ diff_text telling found)
+    (found : List Change) × (telling : Telling)
+    × AreDifferences m n found × IsTelling m n telling × (text ≡ diff_text telling found)
 
 -- Whether the maps are the same, and what is told of them.
 abbrev pub Compares : MapValue × MapValue → Bool → List ℕ → Type 0

@@ -6,10 +6,10 @@ use Rattle.keymap_core.specs.Bounds.{IsMap}
 use Rattle.keymap_core.specs.Numbers.{column_count}
 use Rattle.keymap_core.specs.declared.entry.Cell.{Cell as CellValue}
 use Rattle.console_states.specs.Sights.{Enumerates}
-use Rattle.keymap_diff.specs.Changes.{AreChanges}
+use Rattle.keymap_core.specs.Maps.{MapValue}
+use Rattle.keymap_diff.specs.Changes.{AreDifferences}
 use Rattle.keymap_diff.specs.declared.change.Change.{Change}
 use Rattle.keymap_diff.specs.declared.change.Change.TheVariants.{Cell, Letter}
-use Rattle.keymap_diff.specs.declared.versions.Versions.{Versions}
 use Rattle.kmap_runs.specs.Diff.{with_slots}
 use Rattle.kmap_runs.specs.Joined.{Told, lines_of, way_of}
 
@@ -52,5 +52,5 @@ TheirSlotsAreNamed = (xs : List Change) → Enumerates (HasSlot xs) (with_slots 
 -- There is no line exactly if the keymaps are the same.
 abbrev pub NoLineIfSame : Type 0
 NoLineIfSame =
-    (v : Versions) (found : List Change) → IsMap v.old.now → IsMap v.new.now → AreChanges v found
-    → (lines_of found ≡ [] → v.old.now ≡ v.new.now) × (v.old.now ≡ v.new.now → lines_of found ≡ [])
+    (m n : MapValue) (found : List Change) → IsMap m → IsMap n → AreDifferences m n found
+    → (lines_of found ≡ [] → m ≡ n) × (m ≡ n → lines_of found ≡ [])

@@ -1,70 +1,54 @@
 //! The run that tells what differs between two keymaps, and what tells them apart.
-ghost use Rattle.std.specs.Prelude.{◌≡◌, ◌↔◌, ◌||◌, IsTrue, IfOk, MatchOption};
-ghost use Rattle.console_states.specs.Sights.{AreSightsOf};
+ghost use Rattle.std.specs.Prelude.{◌≡◌, ◌↔◌, ◌||◌, IsTrue, IfOk};
+ghost use Rattle.keymap_diff.specs.Changes.{AreDifferences};
 ghost use Rattle.kmap_runs.specs.Inputs.{blames_next, blames_text};
-ghost use Rattle.kmap_runs.specs.Runs.{AreVersions, Compares, DiffsTexts, GivesUp, TellsDifferences, blames_writer};
+ghost use Rattle.kmap_runs.specs.Runs.{Compares, DiffsTexts, TellsDifferences, blames_writer};
 ghost use Rattle.play_core.specs.Runs.{moves};
 
 use crate::diff::{diff_text, same_text};
 use crate::fault_line::RunError;
 use crate::inputs::{read_other, read_text};
-use console_states::{Sights, sights_of};
 use keymap_core::laws::every_keymap_is_within_the_bounds;
 use keymap_core::{KeyMap, Read, Write, write_text};
 use keymap_diff::laws::the_same_keymaps_have_no_changes;
-use keymap_diff::{Seen, Versions, changes, telling_apart};
+use keymap_diff::{Change, differences, telling_apart};
 use std::alloc::{AllocError, Global};
 
-/// Whether the keymaps are the same.
-fn are_same<'a>(alloc: Global, old: &'a KeyMap, new: &'a KeyMap) -> Result<bool, AllocError>
-    ensures { IfOk result (λ same. IsTrue same ↔ (old.now ≡ new.now)) }
+/// Whether the keymaps are the same, by what differs between them.
+fn are_same(old: &KeyMap, new: &KeyMap, found: &[Change]) -> bool
+    requires { AreDifferences old.now new.now found.now }
+    ensures { IsTrue result ↔ (old.now ≡ new.now) }
 {
     every_keymap_is_within_the_bounds(old);
     every_keymap_is_within_the_bounds(new);
     the_same_keymaps_have_no_changes();
-    let seen = None;
-    let found = changes(alloc, &Versions { old, new, seen })?;
-    Ok(found.as_slice().is_empty())
+    found.is_empty()
 }
 
-/// Two keymaps with what presses can see under each, unless a search gave up.
-fn versions_of<'a>(
-    old: &'a KeyMap,
-    new: &'a KeyMap,
-    old_sights: &'a Option<Sights>,
-    new_sights: &'a Option<Sights>,
-) -> Versions<'a>
-    requires old { MatchOption old_sights.now (GivesUp old.now) (AreSightsOf old.now) }
-    requires new { MatchOption new_sights.now (GivesUp new.now) (AreSightsOf new.now) }
-    ensures { AreVersions old.now new.now result }
-{
-    let seen = match (old_sights, new_sights) {
-        (Some(old), Some(new)) => Some(Seen { old, new }),
-        _ => None,
-    };
-    Versions { old, new, seen }
-}
-
-/// What is told of keymaps that differ.
-fn differing(alloc: Global, old: &KeyMap, new: &KeyMap) -> Result<Vec<u8>, AllocError>
+/// What is told of keymaps between which this differs.
+fn differing(
+    alloc: Global,
+    old: &KeyMap,
+    new: &KeyMap,
+    found: &[Change],
+) -> Result<Vec<u8>, AllocError>
+    requires { AreDifferences old.now new.now found.now }
     ensures { IfOk result (λ text. TellsDifferences old.now new.now text.items) }
 {
-    let old_sights = sights_of(alloc, old)?;
-    let new_sights = sights_of(alloc, new)?;
-    let versions = versions_of(old, new, &old_sights, &new_sights);
-    let found = changes(alloc, &versions)?;
     let telling = telling_apart(alloc, old, new)?;
-    diff_text(alloc, &telling, found.as_slice())
+    diff_text(alloc, &telling, found)
 }
 
 /// Whether the keymaps are the same, and what is told of them.
 fn compared(alloc: Global, old: &KeyMap, new: &KeyMap) -> Result<(bool, Vec<u8>), AllocError>
     ensures { IfOk result (λ r. Compares (old.now, new.now) r.0 r.1.items) }
 {
-    if are_same(alloc, old, new)? {
+    let found = differences(alloc, old, new)?;
+    let found = found.as_slice();
+    if are_same(old, new, found) {
         Ok((true, same_text(alloc)?))
     } else {
-        Ok((false, differing(alloc, old, new)?))
+        Ok((false, differing(alloc, old, new, found)?))
     }
 }
 

@@ -1,9 +1,9 @@
 //! Two keymaps whose differences were worked out by hand: a key that gives characters in one column more, and with alt
-//! a dead key in place of its character, where nothing is known of what presses see.
+//! a dead key in place of its character, where no key holds control or alt, so that no press meets any of it.
 
 use crate::asserts::expect_equal;
 use keymap_core::{Accent, AccentIndex, Action, Cell, Entry, KeyMap, LockFlag};
-use keymap_diff::{Change, Versions, changes};
+use keymap_diff::{Change, differences};
 use std::alloc::Global;
 use std::process::Abort;
 
@@ -21,7 +21,7 @@ fn cell(column: u8, old: Cell, new: Cell) -> Change {
         column,
         old,
         new,
-        is_unseen: false,
+        is_unseen: true,
     }
 }
 
@@ -31,7 +31,7 @@ fn pair(base: char, composed: char) -> Change {
         base,
         old: None,
         new: Some(composed),
-        is_unseen: false,
+        is_unseen: true,
     }
 }
 
@@ -61,20 +61,6 @@ fn keymap(rt: &impl Abort, alloc: Global, plus: Entry, tilde: Accent) -> KeyMap 
     map
 }
 
-fn changes_between<'m>(
-    rt: &impl Abort,
-    alloc: Global,
-    old: &'m KeyMap,
-    new: &'m KeyMap,
-) -> Vec<Change> {
-    let versions = Versions {
-        old,
-        new,
-        seen: None,
-    };
-    changes(alloc, &versions).expect(rt, "the differences")
-}
-
 #[test]
 fn differences_are_as_worked_out(rt: HostRuntime) {
     let gap = entry(GROUP, Cell::Char('~'), GROUP);
@@ -85,7 +71,7 @@ fn differences_are_as_worked_out(rt: HostRuntime) {
     }
     let filled = entry(Cell::Char('+'), dead_tilde(), dead_tilde());
     let new = keymap(&rt, rt.alloc(), filled, tilde);
-    let found = changes_between(&rt, rt.alloc(), &old, &new);
+    let found = differences(rt.alloc(), &old, &new).expect(&rt, "the differences");
     let expected = [
         cell(2, GROUP, Cell::Char('+')),
         cell(4, Cell::Char('~'), dead_tilde()),
@@ -94,7 +80,7 @@ fn differences_are_as_worked_out(rt: HostRuntime) {
             accent: TILDE,
             old: '\0',
             new: '~',
-            is_unseen: false,
+            is_unseen: true,
         },
         pair('a', '\u{e3}'),
         pair('n', '\u{f1}'),

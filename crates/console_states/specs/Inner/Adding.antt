@@ -55,6 +55,11 @@ IsOfferedUnlocked u es accent =
     (j : ℕ) × (x : Entry) × (slice_get es j ≡ Some x) × IsUnlocked (state_of x.0)
     × ((k : ℕ) × (k < key_count) × Offers u (state_of x.0) k accent)
 
+-- the accents are usable, and offered in states that were met and where no lock is on
+abbrev pub AreUnlocked : Under → Entries → List ℕ → Type 0
+AreUnlocked u es accents =
+    (a : ℕ) → Contains accents a → (usable u.maps.first a ≡ true) × IsOfferedUnlocked u es a
+
 -- a path leads to the state along which the accent is offered
 abbrev pub IsBehind : Under → ℕ → State → Type 0
 IsBehind u accent s =

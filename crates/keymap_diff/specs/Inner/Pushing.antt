@@ -3,7 +3,8 @@ use Rattle.std.specs.Prelude.{◌≡◌, ◌≢◌, ℕ, ◌<◌, ◌≤◌, Lis
 use Rattle.std.specs.List.{AllPairs}
 use Rattle.keymap_core.specs.Accents.{first_result}
 use Rattle.console_states.specs.Sights.{Enumerates}
-use Rattle.keymap_diff.specs.Changes.{IsChangeOf, place_of}
+use Rattle.keymap_diff.specs.Changes.{place_of}
+use Rattle.keymap_diff.specs.Inner.Versions.{IsChangeOf}
 use Rattle.keymap_diff.specs.Types.{Change, Pair, Versions}
 
 -- What is pushed is all of which P holds, each once, by their places.

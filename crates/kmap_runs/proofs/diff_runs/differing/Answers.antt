@@ -1,4 +1,4 @@
-use Rattle.kmap_runs.proofs.Common.{◌≡◌, ◌∙◌, ap}
+use Rattle.kmap_runs.proofs.Common.{◌≡◌}
 use Rattle.kmap_runs.specs.Diff.{diff_text}
 use Rattle.kmap_runs.specs.Runs.{TellsDifferences}
 use Rattle.kmap_runs.proofs.Differing.{so_if_ok}
@@ -6,15 +6,8 @@ use Rattle.kmap_runs.proofs.diff_runs.differing.Goals as goal
 
 pub returns : goal.returns
 returns c =
-    so_if_ok _ (λ text. text.items ≡ diff_text c.in_ok-telling.telling c.as_slice.result.now)
+    let found = c.args.found.now in
+    let telling = c.in_ok-telling.telling in
+    so_if_ok _ (λ text. text.items ≡ diff_text telling found)
     (λ text. TellsDifferences c.args.old.now c.args.new.now text.items)
-    (λ text is. (
-      c.versions_of-versions.result,
-      c.in_ok-found.found.items,
-      c.in_ok-telling.telling,
-      c.versions_of-versions.ensures,
-      c.in_ok-found.ensures,
-      c.in_ok-telling.ensures,
-      is ∙ ap (diff_text c.in_ok-telling.telling) c.as_slice.ensures.value,
-    ))
-    c.diff_text.ensures
+    (λ text is. (found, telling, c.requires, c.in_ok-telling.ensures, is)) c.diff_text.ensures

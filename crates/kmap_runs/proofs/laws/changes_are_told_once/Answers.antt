@@ -14,6 +14,6 @@ pub returns-clause-columns : goal.returns-clause-columns
 returns-clause-columns c = all-columns
 
 pub returns-clause-none : goal.returns-clause-none
-returns-clause-none c = λ v found old new are.
-    let law = c.the_same_keymaps_have_no_changes.ensures v found old new are in
+returns-clause-none c = λ m n found old new are.
+    let law = c.the_same_keymaps_have_no_changes.ensures m n found old new are in
     ((λ e. law.0 (no-line found e)), (λ same. ap lines_of (law.1 same)))

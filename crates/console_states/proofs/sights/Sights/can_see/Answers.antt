@@ -1,9 +1,13 @@
 use Rattle.console_states.proofs.Common.{◌≡◌, sym, ◌∙◌, true≢false, can_see, rules}
-use Rattle.console_states.proofs.Visible.{sees-all, all-seen, seen-otherwise}
+use Rattle.console_states.proofs.Visible.{sees-all, sees-some, all-seen, seen-otherwise}
 use Rattle.console_states.proofs.sights.Sights.can_see.Goals as goal
 
 pair-value : (c : goal.After-is_composed) → c.is_composed.result ≡ can_see c.args.map.now c.args.self.now c.args.sight
 pair-value c = search rules
+
+pub returns-in-Pair-clause-some : goal.returns-in-Pair-clause-some
+returns-in-Pair-clause-some c =
+    λ are e. sees-some c.args.map.now c.args.self.now are c.args.sight (sym (pair-value c) ∙ e)
 
 pub returns-in-Pair-clause-reachable : goal.returns-in-Pair-clause-reachable
 returns-in-Pair-clause-reachable c =
@@ -20,6 +24,7 @@ returns-in_default c =
     c.is_selected.ensures
     ∙ seen-otherwise m s _ c.args.sight c.in_default.not-Pair c.deref-in_default.ensures.value in
     record {
+      some = λ are e. sees-some m s are c.args.sight (sym value ∙ e);
       reachable = λ are e. sees-all m s are c.args.sight (sym value ∙ e);
       unreachable = λ are e can. true≢false (sym (all-seen m s are c.args.sight can) ∙ sym value ∙ e);
       value = value;

@@ -1,0 +1,7 @@
+-- the accents of the states below the place
+use Rattle.console_states.proofs.Common.{under_of}
+use Rattle.console_states.specs.Inner.Adding.{AreUnlocked}
+use Rattle.console_states.proofs.offers.unlocked_accents.Given as goal
+
+abbrev pub invariant-loop-place : goal.invariant-loop-place
+invariant-loop-place l = AreUnlocked (under_of l.maps) l.met.entries l.accents.items

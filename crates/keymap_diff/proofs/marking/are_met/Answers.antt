@@ -1,0 +1,32 @@
+use Rattle.std.proofs.Common.{◌<◌, ◌∙◌, false, length, refl, subst, sym, arith, below_more}
+use Rattle.std.proofs.lemmas.List.{get_or_read_under}
+use Rattle.keymap_diff.specs.Inner.Versions.{IsMet}
+use Rattle.keymap_diff.proofs.Known.{known-met, has-accent}
+use Rattle.keymap_diff.proofs.marking.are_met.Goals as goal
+
+pub is_met-requires-clause-accent : goal.is_met-requires-clause-accent
+is_met-requires-clause-accent c =
+    let found = c.args.found.now in
+    let x = c.change-item.result in
+    let n = c.loop-change.change-index in
+    has-accent false c.args.old.now c.args.new.now x
+    (c.requires.each.only x (
+      n,
+      c.loop-change-test.true,
+      sym (get_or_read_under found n (length found) x x c.change-item.is c.loop-change-test.true refl),
+    ))
+
+pub loop-change-preserved : goal.loop-change-preserved
+loop-change-preserved c =
+    let found = c.args.found.now in
+    let n = c.loop-change.change-index in
+    let within : n < length found = c.loop-change-test.true in
+    below_more _ _ c.loop-change.invariant
+    (λ x at. subst (λ z. IsMet c.args.old.now c.args.new.now z)
+    (get_or_read_under found n (length found) c.change-item.result x c.change-item.is within refl ∙ at)
+    (c.is_met.ensures c.if-not-is_met.false))
+
+pub returns : goal.returns
+returns c e =
+    known-met c.args.old.now c.args.new.now c.args.found.now c.requires
+    (λ x (k, lt, at). c.loop-change.invariant k (omega (arith, lt, c.loop-change-test.false)) x at)

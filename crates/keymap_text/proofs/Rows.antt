@@ -28,28 +28,19 @@ pub next_place : (slot i : ℕ) (e : Entry) → after_cell slot i e ≡ cell_pla
 next_place slot i e = grind arith
 
 -- a cell that was taken, and the blanks before it
-pub cell_taken : (m : MapValue) (slot i b n : ℕ) (e : Entry) (rest : List ℕ) (t : Item) (c : Cell)
-    → b ≤ leading is_space rest → b ≤ length rest → Fronts (take (length rest - b) (drop b rest)) t n → cell t ≡ Ok c
-    → Advances (at m (spec.CellAt slot i e)) (at m (after_cell slot i (with_cell e i c))) rest (b + n)
-cell_taken m slot i b n e rest t c h l f k = after_blanks _ _ rest t b n h l f (take_cell m slot i e t c k)
-
--- a cell that is refused
-pub cell_refused : (m : MapValue) (slot i b n : ℕ) (e : Entry) (rest : List ℕ) (t : Item) (f : TextFaultKind)
-    → b ≤ leading is_space rest → b ≤ length rest → Fronts (take (length rest - b) (drop b rest)) t n → cell t ≡ Err f
-    → Refuses (at m (spec.CellAt slot i e)) rest f b
-unfolding accept
-cell_refused m slot i b n e rest t f h l r k =
-    refuses_on _ _ rest _ b 0 b f (blanks_advance (at m (spec.CellAt slot i e)) b rest h l) refl
-    (token_refuses _ _ t n f r (ap (λ r. r >>= λ c. Ok (at m (after_cell slot i (with_cell e i c)))) k)) (omega arith)
+pub cell_taken : (m : MapValue) (slot i n : ℕ) (e : Entry) (rest : List ℕ) (t : Item) (c : Cell)
+    → FrontsBehind rest t n → cell t ≡ Ok c
+    → Advances (at m (spec.CellAt slot i e)) (at m (after_cell slot i (with_cell e i c))) rest n
+cell_taken m slot i n e rest t c f k = behind_advances _ _ rest t n f (take_cell m slot i e t c k)
 
 -- the lock letter, and the blanks before it
-pub letter_taken : (m : MapValue) (slot b n : ℕ) (e : Entry) (rest : List ℕ) (t : Item) (f : LockFlag)
-    → b ≤ leading is_space rest → b ≤ length rest → Fronts (take (length rest - b) (drop b rest)) t n → lock t ≡ Ok f
+pub letter_taken : (m : MapValue) (slot n : ℕ) (e : Entry) (rest : List ℕ) (t : Item) (f : LockFlag)
+    → FrontsBehind rest t n → lock t ≡ Ok f
     → Advances (at m (spec.LockAt slot e))
-    (at (with_entry m slot (record { cells = e.cells; flag = f })) spec.Definition) rest (b + n)
+    (at (with_entry m slot (record { cells = e.cells; flag = f })) spec.Definition) rest n
 unfolding accept
-letter_taken m slot b n e rest t f h l r k =
-    after_blanks _ _ rest t b n h l r (ap (λ r. r >>= λ f.
+letter_taken m slot n e rest t f h k =
+    behind_advances _ _ rest t n h (ap (λ r. r >>= λ f.
     Ok (at (with_entry m slot (record { cells = e.cells; flag = f })) spec.Definition)) k)
 
 -- a pair is taken

@@ -94,6 +94,11 @@ pub behind_advances : (s s' : GrammarState) (rest : List ℕ) (t : Item) (n : �
 behind_advances s s' rest t n f a =
     rw f.sum (after_blanks s s' rest t f.blanks f.size f.are_blank f.inside f.fronts a)
 
+-- a token behind blanks ends within the bytes
+pub behind_inside : (rest : List ℕ) (t : Item) (n : ℕ) → FrontsBehind rest t n → n ≤ length rest
+behind_inside rest t n f =
+    omega (arith, f.sum, f.inside, f.fronts.inside, length-drop f.blanks rest, ap length (to_end rest f.blanks))
+
 -- What takes definitions was not touched.
 pub takes_same : {D : Type 0} {shows : D → MapValue → Type 0} {d : D} {g : Grammar} {rest : List ℕ} {n : ℕ}
     → ((s : GrammarState) → Advances s s rest n) → Takes shows d d (Ok n) g g rest

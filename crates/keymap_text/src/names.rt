@@ -271,6 +271,17 @@ fn numbered_meaning(key: u64) -> Option<Meaning>
     None
 }
 
+/// The meaning of the words with this key, if they are a name.
+#[inline(always)]
+fn meaning_of_key(key: u64) -> Option<Meaning>
+    ensures { IfSome result (KeyMeans key) }
+{
+    match key_meaning(&NAMES, key) {
+        Some(meaning) => Some(meaning),
+        None => numbered_meaning(key),
+    }
+}
+
 /// The meaning of the word of n bytes in front, if it is a name of at most eight bytes.
 #[inline(always)]
 pub(crate) fn name_meaning(bytes: &[u8], n: usize) -> Option<Meaning>
@@ -280,11 +291,18 @@ pub(crate) fn name_meaning(bytes: &[u8], n: usize) -> Option<Meaning>
     if n > 8 {
         return None;
     }
-    let key = key_of(bytes, n);
-    match key_meaning(&NAMES, key) {
-        Some(meaning) => Some(meaning),
-        None => numbered_meaning(key),
-    }
+    meaning_of_key(key_of(bytes, n))
+}
+
+/// The same, where it is known that no byte has to be looked for.
+#[inline(always)]
+pub(crate) fn name_of_eight(bytes: &[u8], n: usize) -> Option<Meaning>
+    requires word { n ≤ leading is_word bytes.now }
+    requires short { n ≤ 8 }
+    requires room { 8 ≤ length bytes.now }
+    ensures { IfSome result (λ m. m ≡ meaning (take n bytes.now)) }
+{
+    meaning_of_key(key_of_eight(bytes, n))
 }
 
 /// The control characters 0 to 31 in their order, del, further names of characters, the lock letters, and the actions

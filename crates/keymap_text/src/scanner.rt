@@ -10,15 +10,15 @@ ghost use Rattle.keymap_text.specs.Types.{TokenKind as TokenKindValue, Word};
 ghost use Rattle.keymap_text.specs.Inner.Grammar as spec;
 ghost use Rattle.keymap_text.specs.Inner.Grammar.{GrammarState};
 ghost use Rattle.keymap_text.specs.Inner.Views.{grammar_view, IsPlace};
-ghost use Rattle.keymap_text.specs.Inner.Scanning.{Advances, Takes, Leaves, TookCell, Fits, TakesLast, Ends, Fronts};
+ghost use Rattle.keymap_text.specs.Inner.Scanning.{Advances, Takes, Leaves, TookCell, TakesLast, Ends, Fronts};
 ghost use Rattle.keymap_text.specs.Inner.Scanning.{FrontsBehind, FrontsCharacter, IsOpen};
 
 use crate::fault::TextFaultKind;
 use crate::grammar::{Grammar, Place, cell_of, character_of, lock_of, push_pair};
-use crate::names::name_meaning;
+use crate::names::{name_meaning, name_of_eight};
 use crate::token::{
     Front, TokenKind, first_spaces, is_blank_byte, is_word_byte, line_len, short_word_len,
-    token_front,
+    space_run, token_front, word_run,
 };
 use crate::words::{Item, Meaning, four_digit_number, item_of, short_number, three_digit_number};
 use keymap_core::{Definitions, PAIR_LIMIT};
@@ -71,8 +71,10 @@ fn front_number(rest: &[u8]) -> Option<(Item, usize)>
     requires word { is_word (slice_index rest.now 0) ≡ true }
     ensures { IfSome result (λ found. Fronts rest.now found.0 found.1) }
 {
-    if let Some(number) = four_digit_number(rest) {
-        return Some((Item::Value(Meaning::Number(number as u128)), 6));
+    if rest.len() > 6 {
+        if let Some(number) = four_digit_number(rest) {
+            return Some((Item::Value(Meaning::Number(number as u128)), 6));
+        }
     }
     if let Some(number) = three_digit_number(rest) {
         return Some((Item::Value(Meaning::Number(number as u128)), 3));
@@ -115,19 +117,72 @@ fn whole_token(rest: &[u8]) -> Option<(Item, usize)>
     }
 }
 
-/// The character in front, behind blanks, and how many bytes these have, where the bytes show that it is whole.
+/// The name in front, and how many bytes it has, if it is one of at most seven bytes.
+#[inline(always)]
+fn name_of_sixteen(rest: &[u8]) -> Option<(Item, usize)>
+    requires { 16 ≤ length rest.now }
+    ensures { IfSome result (λ found. Fronts rest.now found.0 found.1) }
+{
+    let n = word_run(rest);
+    if n < 1 || n > 7 {
+        return None;
+    }
+    match name_of_eight(rest, n) {
+        Some(meaning) => Some((Item::Value(meaning), n)),
+        None => None,
+    }
+}
+
+/// The token in front, and how many bytes it has, if it is one of most: a name, a quoted character, or `0x` and four
+/// digits.
+#[inline(always)]
+fn token_of_sixteen(rest: &[u8]) -> Option<(Item, usize)>
+    requires { 16 ≤ length rest.now }
+    ensures { IfSome result (λ found. Fronts rest.now found.0 found.1) }
+{
+    let c = rest[0];
+    if c > b'9' {
+        return name_of_sixteen(rest);
+    }
+    if c == b'\'' {
+        if rest[1] < b' ' || rest[1] > b'~' || rest[2] != b'\'' {
+            return None;
+        }
+        return Some((Item::Value(Meaning::Char(rest[1] as char)), 3));
+    }
+    match four_digit_number(rest) {
+        Some(number) => Some((Item::Value(Meaning::Number(number as u128)), 6)),
+        None => None,
+    }
+}
+
+/// Such a token in front, behind spaces, and how many bytes it has with them, where that is seen at once.
+#[inline(always)]
+fn item_in_front(rest: &[u8]) -> Option<(Item, usize)>
+    ensures { IfSome result (λ found. FrontsBehind rest.now found.0 found.1) }
+{
+    if rest.len() < 32 {
+        return None;
+    }
+    let spaces = space_run(rest);
+    if spaces > 15 {
+        return None;
+    }
+    match token_of_sixteen(&rest[spaces..]) {
+        None => None,
+        Some((item, n)) => Some((item, spaces + n)),
+    }
+}
+
+/// The character in front, and how many bytes it has with the spaces before it, where that is seen at once.
 #[inline(always)]
 fn character_in_front(rest: &[u8]) -> Option<(char, usize)>
     ensures { IfSome result (λ found. FrontsCharacter rest.now found.0 found.1) }
 {
-    let blanks = first_spaces(rest);
-    if blanks == rest.len() {
-        return None;
-    }
-    match whole_token(&rest[blanks..]) {
+    match item_in_front(rest) {
         None => None,
         Some((item, n)) => match character_of(&item) {
-            Ok(c) => Some((c, blanks + n)),
+            Ok(c) => Some((c, n)),
             Err(_) => None,
         },
     }
@@ -200,7 +255,7 @@ fn take_whole_tokens<D: Definitions>(grammar: &mut Grammar, into: &mut D, rest: 
     }
 }
 
-/// Takes the end of a line in front, or a whole token, and the cells where these are wanted then.
+/// Takes the end of a line in front, or a pair or a whole token, and the cells that are wanted then.
 #[inline(always)]
 fn after_spaces<D: Definitions>(grammar: &mut Grammar, into: &mut D, rest: &[u8]) -> Taken
     requires place { IsPlace grammar.old.place grammar.old.accent }
@@ -211,34 +266,23 @@ fn after_spaces<D: Definitions>(grammar: &mut Grammar, into: &mut D, rest: &[u8]
     if rest[0] == b'\n' {
         return Ok(1);
     }
-    let begun = before_cells(grammar, into, rest)?;
+    let begun = pair_or_token(grammar, into, rest)?;
     match grammar.place {
-        Place::Cell { slot, index } => match take_row_of_cells(
-            grammar,
-            into,
-            slot,
-            index,
-            &rest[begun..],
-        ) {
-            Ok(n) => Ok(begun + n),
-            Err(stop) => Err(behind(begun, stop)),
-        },
+        Place::Cell { slot, index } => {
+            Ok(begun + take_row_of_cells(grammar, into, slot, index, &rest[begun..]))
+        }
         _ => Ok(begun),
     }
 }
 
-/// Takes the pair or the whole token in front, unless a cell is wanted. Answers how many bytes it has, and 0 where
-/// nothing was taken.
+/// Takes the pair or the whole token in front. Answers how many bytes it has, and 0 where nothing was taken.
 #[inline(always)]
-fn before_cells<D: Definitions>(grammar: &mut Grammar, into: &mut D, rest: &[u8]) -> Taken
+fn pair_or_token<D: Definitions>(grammar: &mut Grammar, into: &mut D, rest: &[u8]) -> Taken
     requires place { IsPlace grammar.old.place grammar.old.accent }
     requires some { 0 < length rest.now }
     ensures takes { Takes D.shows into.old into.new result grammar.old grammar.new rest.now }
     ensures leaves { Leaves result grammar.new rest.now }
 {
-    if let Place::Cell { .. } = grammar.place {
-        return Ok(0);
-    }
     let paired = pair_in_front(grammar, rest);
     if paired > 0 {
         return Ok(paired);
@@ -298,8 +342,8 @@ fn pair(grammar: &mut Grammar, index: u8, rest: &[u8]) -> usize
     end + n
 }
 
-/// Takes the cells in front from this column on, each with the blanks before it, and behind the eighth the lock
-/// letter and the end of the line. The place is kept only behind the last cell.
+/// Takes the cells in front from this column on that are seen at once, and behind the eighth the lock letter and the end
+/// of the line. Answers how many bytes were taken. The place is kept only behind the last cell.
 #[inline(always)]
 fn take_row_of_cells<D: Definitions>(
     grammar: &mut Grammar,
@@ -307,34 +351,29 @@ fn take_row_of_cells<D: Definitions>(
     slot: u8,
     first: u8,
     rest: &[u8],
-) -> Taken
+) -> usize
     requires place { grammar.old.place ≡ Place.Cell slot first }
     requires index { first < column_count }
-    ensures takes { Takes D.shows into.old into.new result grammar.old grammar.new rest.now }
-    ensures leaves { Leaves result grammar.new rest.now }
+    ensures takes { Takes D.shows into.old into.new (Ok result) grammar.old grammar.new rest.now }
+    ensures leaves { Leaves (Ok result) grammar.new rest.now }
 {
     let mut taken: usize = 0;
     let mut index = first;
     while index < 8 {
-        match next_cell(grammar, index, &rest[taken..]) {
-            Err(stop) => return Err(behind(taken, stop)),
-            Ok(0) => {
-                grammar.place = Place::Cell { slot, index };
-                return Ok(taken);
-            }
-            Ok(n) => {
-                taken += n;
-                index += 1;
-            }
+        let n = next_cell(grammar, index, &rest[taken..]);
+        if n == 0 {
+            grammar.place = Place::Cell { slot, index };
+            return taken;
         }
+        taken += n;
+        index += 1;
     }
     grammar.place = Place::Lock { slot };
-    let lettered = letter(grammar, into, slot, &rest[taken..]);
-    taken += lettered;
-    Ok(taken + line_end(&rest[taken..]))
+    taken += letter(grammar, into, slot, &rest[taken..]);
+    taken + line_end(&rest[taken..])
 }
 
-/// Takes the lock letter in front, where it is seen whole. Answers how many bytes it has with the blanks before it,
+/// Takes the lock letter in front, where it is seen at once. Answers how many bytes it has with the spaces before it,
 /// and 0 where nothing was taken.
 #[inline(always)]
 fn letter<D: Definitions>(grammar: &mut Grammar, into: &mut D, slot: u8, rest: &[u8]) -> usize
@@ -342,16 +381,12 @@ fn letter<D: Definitions>(grammar: &mut Grammar, into: &mut D, slot: u8, rest: &
     ensures takes { Takes D.shows into.old into.new (Ok result) grammar.old grammar.new rest.now }
     ensures leaves { Leaves (Ok result) grammar.new rest.now }
 {
-    let blanks = first_spaces(rest);
-    if blanks == rest.len() {
-        return 0;
-    }
-    match whole_token(&rest[blanks..]) {
+    match item_in_front(rest) {
         None => 0,
         Some((item, n)) => match lock_of(&item) {
             Ok(flag) => {
                 grammar.close_entry(into, slot, flag);
-                blanks + n
+                n
             }
             Err(_) => 0,
         },
@@ -370,26 +405,22 @@ fn line_end(rest: &[u8]) -> usize
     if rest[0] == b'\n' { 1 } else { 0 }
 }
 
-/// Takes the cell in front and the blanks before it, but for the place. Answers how many bytes these have, and 0 where
-/// the bytes show none that is whole.
+/// Takes the cell in front and the spaces before it, but for the place. Answers how many bytes these have, and 0 where
+/// no cell is seen at once.
 #[inline(always)]
-fn next_cell(grammar: &mut Grammar, index: u8, rest: &[u8]) -> Taken
+fn next_cell(grammar: &mut Grammar, index: u8, rest: &[u8]) -> usize
     requires { index < column_count }
     ensures took { TookCell result grammar.old grammar.new index rest.now }
-    ensures fits { Fits result rest.now }
+    ensures inside { result ≤ length rest.now }
 {
-    let blanks = first_spaces(rest);
-    if blanks == rest.len() {
-        return Ok(0);
-    }
-    match whole_token(&rest[blanks..]) {
-        None => Ok(0),
+    match item_in_front(rest) {
+        None => 0,
         Some((item, n)) => match cell_of(&item) {
             Ok(cell) => {
                 grammar.entry.cells[index as usize] = cell;
-                Ok(blanks + n)
+                n
             }
-            Err(kind) => Err(Stop { kind, at: blanks }),
+            Err(_) => 0,
         },
     }
 }

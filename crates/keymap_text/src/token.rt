@@ -111,7 +111,7 @@ pub fn is_space_byte(c: u8) -> bool
 
 /// How many of the first sixteen bytes are spaces, up to one that isn't: all are compared at once.
 #[inline(always)]
-fn space_run(bytes: &[u8]) -> usize
+pub(crate) fn space_run(bytes: &[u8]) -> usize
     requires { 16 ≤ length bytes.now }
     ensures { result < 16 → result ≡ leading (λ c. c == 32) bytes.now }
 {
@@ -186,7 +186,7 @@ pub(crate) fn is_word_byte(c: u8) -> bool
 
 /// How many of the first sixteen bytes are word bytes, up to one that isn't: all are compared at once.
 #[inline(always)]
-fn word_run(bytes: &[u8]) -> usize
+pub(crate) fn word_run(bytes: &[u8]) -> usize
     requires { 16 ≤ length bytes.now }
     ensures { result < 16 → result ≡ leading is_word bytes.now }
 {

@@ -187,10 +187,11 @@ pub(crate) fn short_number(word: &[u8]) -> Option<u64>
 /// The number in front that is `0x` and four digits, with a byte behind it that is none of a word.
 #[inline(always)]
 pub(crate) fn four_digit_number(rest: &[u8]) -> Option<u64>
+    requires { 7 ≤ length rest.now }
     ensures { IfSome result (λ n. (6 < length rest.now) × (leading is_word rest.now ≡ 6)
         × (Number n ≡ meaning (take 6 rest.now))) }
 {
-    if rest.len() < 7 || rest[0] != b'0' || rest[1] != b'x' || is_word_byte(rest[6]) {
+    if rest[0] != b'0' || rest[1] != b'x' || is_word_byte(rest[6]) {
         return None;
     }
     let first = digit_value(rest[2]);

@@ -36,11 +36,6 @@ pub record Takes {D : Type 0} (shows : D → MapValue → Type 0) (d d' : D) (r 
     (rest : List ℕ) : Type 0 where
   pub took : (m : MapValue) → shows d m → Took shows d' r (at m (grammar_view g)) (grammar_view g') rest
 
--- no more bytes than there are
-abbrev pub Fits : Result ℕ Stop → List ℕ → Type 0
-Fits (Ok n) rest = n ≤ length rest
-Fits (Err e) rest = e.at ≤ length rest
-
 -- no more bytes were taken than there are, and the text stands at a place
 abbrev pub Leaves : Result ℕ Stop → Grammar → List ℕ → Type 0
 Leaves (Ok n) g rest = (n ≤ length rest) × IsPlace g.place g.accent
@@ -99,15 +94,11 @@ pub record FrontsCharacter (rest : List ℕ) (c : ℕ) (n : ℕ) : Type 0 where
   pub behind : FrontsBehind rest item n
   pub is : character item ≡ Ok c
 
--- What was done with the cell of this index: it was taken with the blanks before it, or nothing was, or there is a
--- fault behind the blanks.
-abbrev pub TookCell : Result ℕ Stop → Grammar → Grammar → ℕ → List ℕ → Type 0
-TookCell (Ok n) old new i rest = record {
-  none : n ≡ 0 → new ≡ old;
-  some : 0 < n → (m : MapValue) (slot : ℕ)
-      → Advances (at m (CellAt slot i old.entry)) (at m (after_cell slot i new.entry)) rest n;
-}
-TookCell (Err e) old new i rest = (m : MapValue) (slot : ℕ) → Refuses (at m (CellAt slot i old.entry)) rest e.kind e.at
+-- What was done with the cell of this index: it was taken with the blanks before it, n bytes together, or nothing was.
+pub record TookCell (n : ℕ) (old new : Grammar) (i : ℕ) (rest : List ℕ) : Type 0 where
+  pub none : n ≡ 0 → new ≡ old
+  pub some : 0 < n → (m : MapValue) (slot : ℕ)
+      → Advances (at m (CellAt slot i old.entry)) (at m (after_cell slot i new.entry)) rest n
 
 -- The bytes show no whole token: there are none, or they end in the comment, the word or the quoted character that
 -- they begin with.

@@ -1,14 +1,10 @@
 use Rattle.keymap_text.proofs.Common.{refl, ap, is_blank}
-use Rattle.keymap_text.proofs.Scanning.{takes_same, takes_on, faults_on, blank_advances}
+use Rattle.keymap_text.proofs.Scanning.{takes_same, takes_on, blank_advances}
 use Rattle.keymap_text.proofs.scanner.after_spaces.Goals as goal
 
 pub returns-then-rest-eq10-clause-takes : goal.returns-then-rest-eq10-clause-takes
 returns-then-rest-eq10-clause-takes g c =
     takes_same (λ s. blank_advances s c.args.rest.now c.requires.some (ap is_blank c.if-rest-eq10.true))
 
-pub returns-in-Ok-clause-takes : goal.returns-in-Ok-clause-takes
-returns-in-Ok-clause-takes g c = takes_on c.in_ok-begun.ensures.takes refl c.in-Ok.ensures.takes
-
-pub returns-in-Err-clause-takes : goal.returns-in-Err-clause-takes
-returns-in-Err-clause-takes g c =
-    faults_on c.in_ok-begun.ensures.takes refl c.in-Err.ensures.takes c.behind.ensures.kind c.behind.ensures.at
+pub returns-in-Cell-clause-takes : goal.returns-in-Cell-clause-takes
+returns-in-Cell-clause-takes g c = takes_on c.in_ok-begun.ensures.takes refl c.take_row_of_cells.ensures.takes

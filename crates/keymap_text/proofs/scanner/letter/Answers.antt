@@ -1,6 +1,6 @@
-use Rattle.keymap_text.proofs.Common.{◌+◌, sym, subst, with_entry, at, Advances, place_view, grammar_view, rules}
+use Rattle.keymap_text.proofs.Common.{sym, subst, with_entry, at, Advances, place_view, grammar_view, rules}
 use Rattle.keymap_text.proofs.Rows.{letter_taken}
-use Rattle.keymap_text.proofs.Scanning.{takes_same, stays}
+use Rattle.keymap_text.proofs.Scanning.{behind_inside, takes_same, stays}
 use Rattle.keymap_text.specs.Inner.Grammar as spec
 use Rattle.keymap_text.proofs.scanner.letter.Goals as goal
 
@@ -9,7 +9,7 @@ returns-in-Ok-clause-takes g c =
     let r = c.args.grammar.now in
     let new = c.close_entry.new.self in
     let rest = c.args.rest.now in
-    let size = c.first_spaces-blanks.result + c.in-Some.n in
+    let size = c.in-Some.n in
     record {
       took = λ m h.
           let m' = with_entry m c.args.slot (record { cells = r.entry.cells; flag = c.in-Ok.flag }) in (
@@ -20,14 +20,13 @@ returns-in-Ok-clause-takes g c =
                 (subst (λ p. Advances (at m (spec.LockAt c.args.slot r.entry))
                 (at m' (place_view p new.entry new.accent))
                 rest size) (sym c.close_entry.ensures.place)
-                (letter_taken m c.args.slot c.first_spaces-blanks.result c.in-Some.n r.entry rest c.in-Some.item
-                c.in-Ok.flag c.first_spaces-blanks.ensures.blank c.first_spaces-blanks.ensures.length c.in-Some.ensures
+                (letter_taken m c.args.slot c.in-Some.n r.entry rest c.in-Some.item c.in-Ok.flag c.in-Some.ensures
                 (sym c.in-Ok.ensures))),
           );
     }
 
 pub returns-in-Ok-clause-leaves : goal.returns-in-Ok-clause-leaves
-returns-in-Ok-clause-leaves g c = search rules
+returns-in-Ok-clause-leaves g c = search (rules, behind_inside)
 
 pub returns-in-None-clause-takes : goal.returns-in-None-clause-takes
 returns-in-None-clause-takes g c =

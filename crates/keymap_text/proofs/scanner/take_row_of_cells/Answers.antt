@@ -15,17 +15,17 @@ loop-index-preserved g c =
     let slot = c.args.slot in
     let rest = c.args.rest.now in
     let first = spec.CellAt slot c.args.first c.args.grammar.now.entry in
-    let new = c.next_cell.new.grammar in
+    let new = c.next_cell-n.new.grammar in
     record {
-      inside = omega (arith, c.in-Ok.ensures.fits);
+      inside = omega (arith, c.next_cell-n.ensures.inside);
       index = omega (arith, c.loop-index-test.true);
       taken = λ m.
-          subst (λ p. Advances (at m first) (at m p) rest (l.taken + c.in-Ok.n))
+          subst (λ p. Advances (at m first) (at m p) rest (l.taken + c.next_cell-n.result))
           (next_place slot l.index new.entry)
-          (advances_on (at m first) _ _ rest _ l.taken c.in-Ok.n
+          (advances_on (at m first) _ _ rest _ l.taken c.next_cell-n.result
           (subst (λ p. Advances (at m first) (at m p) rest l.taken)
           (sym (is_cell slot l.index l.grammar.entry c.loop-index-test.true)) (l.invariant.taken m)) refl
-          (c.in-Ok.ensures.took.some (omega (arith, c.in-Ok.n-test)) m slot));
+          (c.next_cell-n.ensures.took.some (omega (arith, c.if-n-eq0.false)) m slot));
     }
 
 -- the cells so far, from the place where the first of them is wanted
@@ -35,29 +35,13 @@ so_far : (m : MapValue) (slot first : ℕ) (r : Grammar) (s : GrammarState) (res
 so_far m slot first r s rest n place a =
     subst (λ p. Advances (at m (place_view p r.entry r.accent)) s rest n) (sym place) a
 
-pub returns-in-Err-clause-takes : goal.returns-in-Err-clause-takes
-returns-in-Err-clause-takes g c =
+pub returns-then-n-eq0-clause-takes : goal.returns-then-n-eq0-clause-takes
+returns-then-n-eq0-clause-takes g c =
     let l = c.loop-index in
     let slot = c.args.slot in
     let rest = c.args.rest.now in
     let r = c.args.grammar.now in
-    record {
-      took = λ m h.
-          subst (λ f. Refuses (at m (grammar_view r)) rest f c.behind.result.at) (sym c.behind.ensures.kind)
-          (refuses_on (at m (grammar_view r)) _ rest _ l.taken c.in-Err.stop.at c.behind.result.at c.in-Err.stop.kind
-          (so_far m slot c.args.first r _ rest l.taken c.requires.place
-          (subst (λ p. Advances (at m (spec.CellAt slot c.args.first r.entry)) (at m p) rest l.taken)
-          (sym (is_cell slot l.index l.grammar.entry c.loop-index-test.true)) (l.invariant.taken m))) refl
-          (c.in-Err.ensures.took m slot) c.behind.ensures.at);
-    }
-
-pub returns-in-Ok-eq0-clause-takes : goal.returns-in-Ok-eq0-clause-takes
-returns-in-Ok-eq0-clause-takes g c =
-    let l = c.loop-index in
-    let slot = c.args.slot in
-    let rest = c.args.rest.now in
-    let r = c.args.grammar.now in
-    let same = c.in-Ok-eq0.ensures.took.none c.in-Ok-eq0.field-0-test in
+    let same = c.next_cell-n.ensures.took.none c.if-n-eq0.true in
     record {
       took = λ m h. (
         m,
@@ -87,4 +71,4 @@ returns-clause-takes g c =
             (l.invariant.taken m)),
       );
     } in
-    takes_on (takes_on before refl c.letter-lettered.ensures.takes) refl (takes_same c.line_end.ensures.advances)
+    takes_on (takes_on before refl c.letter-taken.ensures.takes) refl (takes_same c.line_end.ensures.advances)

@@ -1,4 +1,4 @@
-use Rattle.keymap_text.proofs.scanner.before_cells.Goals as goal
+use Rattle.keymap_text.proofs.scanner.pair_or_token.Goals as goal
 
 pub returns-then-paired-gt0-clause-takes : goal.returns-then-paired-gt0-clause-takes
 returns-then-paired-gt0-clause-takes g c =

@@ -161,11 +161,11 @@ fn token_of_sixteen(rest: &[u8]) -> Option<(Item, usize)>
 fn item_in_front(rest: &[u8]) -> Option<(Item, usize)>
     ensures { IfSome result (λ found. FrontsBehind rest.now found.0 found.1) }
 {
-    if rest.len() < 32 {
+    if rest.len() < 24 {
         return None;
     }
     let spaces = space_run(rest);
-    if spaces > 15 {
+    if spaces > 8 {
         return None;
     }
     match token_of_sixteen(&rest[spaces..]) {

@@ -1,13 +1,12 @@
 -- What taking cells, the lock letter and the pair of an accent makes of the rest of a text.
-use Rattle.keymap_text.proofs.Common.{◌≡◌, ◌≢◌, ℕ, ◌+◌, ◌-◌, ◌<◌, ◌≤◌, ◌==◌, cond, List, length, take, drop, get_or}
-use Rattle.keymap_text.proofs.Common.{refl, ap, arith, Ok, Err, AccentValue, MapValue, with_entry, Entry, Cell}
-use Rattle.keymap_text.proofs.Common.{LockFlag, TextFaultKind, Item, Open, Close, cell, lock, leading, is_space}
+use Rattle.keymap_text.proofs.Common.{◌≡◌, ◌≢◌, ℕ, ◌+◌, ◌-◌, ◌<◌, ◌==◌, cond, List, length, take, drop, get_or}
+use Rattle.keymap_text.proofs.Common.{refl, ap, arith, Ok, AccentValue, MapValue, with_entry, Entry, Cell}
+use Rattle.keymap_text.proofs.Common.{LockFlag, Item, Open, Close, cell, lock}
 use Rattle.keymap_text.proofs.Common.{GrammarPlace, at, accept, after_cell, with_cell, with_pair, ◌>>=◌, Advances}
-use Rattle.keymap_text.proofs.Common.{Refuses, Fronts, FrontsBehind, FrontsCharacter}
+use Rattle.keymap_text.proofs.Common.{Fronts, FrontsBehind, FrontsCharacter}
 use Rattle.keymap_core.specs.Numbers.{pair_limit}
 use Rattle.keymap_text.proofs.Fronts.{left_fronts}
-use Rattle.keymap_text.proofs.Scanning.{blanks_advance, token_advances, token_refuses, behind_advances, advances_on}
-use Rattle.keymap_text.proofs.Scanning.{refuses_on, after_blanks}
+use Rattle.keymap_text.proofs.Scanning.{token_advances, behind_advances, advances_on}
 use Rattle.keymap_text.specs.Inner.Grammar as spec
 use Rattle.keymap_text.proofs.RowTaken.{open_taken, base_taken, result_taken, close_taken, take_cell}
 

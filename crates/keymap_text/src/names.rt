@@ -284,6 +284,7 @@ fn meaning_of_key(key: u64) -> Option<Meaning>
 
 /// The meaning of the word of n bytes in front, if it is a name of at most eight bytes.
 #[inline(always)]
+#[tactic(auto, using(crate::proofs::Meanings::some_means))]
 pub(crate) fn name_meaning(bytes: &[u8], n: usize) -> Option<Meaning>
     requires { n ≤ leading is_word bytes.now }
     ensures { IfSome result (λ m. m ≡ meaning (take n bytes.now)) }
@@ -294,8 +295,9 @@ pub(crate) fn name_meaning(bytes: &[u8], n: usize) -> Option<Meaning>
     meaning_of_key(key_of(bytes, n))
 }
 
-/// The same, where it is known that no byte has to be looked for.
+/// The same of a word of at most eight bytes, where that many are there to be read at once.
 #[inline(always)]
+#[tactic(auto, using(crate::proofs::Meanings::some_means))]
 pub(crate) fn name_of_eight(bytes: &[u8], n: usize) -> Option<Meaning>
     requires word { n ≤ leading is_word bytes.now }
     requires short { n ≤ 8 }

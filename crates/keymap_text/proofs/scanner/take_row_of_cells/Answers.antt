@@ -1,7 +1,7 @@
 use Rattle.keymap_text.proofs.Common.{◌≡◌, ◌+◌, ℕ, List, refl, sym, ◌∙◌, ap, subst, arith, Ok, Grammar, MapValue, rules}
-use Rattle.keymap_text.proofs.Common.{GrammarState, at, Advances, Refuses, Takes, place_view, grammar_view}
+use Rattle.keymap_text.proofs.Common.{GrammarState, at, Advances, Takes, place_view, grammar_view}
 use Rattle.keymap_text.proofs.Rows.{is_cell, is_lock, next_place}
-use Rattle.keymap_text.proofs.Scanning.{stays, advances_on, refuses_on, takes_on, takes_same}
+use Rattle.keymap_text.proofs.Scanning.{stays, advances_on, takes_on, takes_same}
 use Rattle.keymap_text.specs.declared.grammar.Place.TheVariants as places
 use Rattle.keymap_text.specs.Inner.Grammar as spec
 use Rattle.keymap_text.proofs.scanner.take_row_of_cells.Goals as goal

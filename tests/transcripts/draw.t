@@ -193,6 +193,37 @@ A word that is wider than its place is shrunk to it: beside another one, alone, 
   <text x="10" y="20" class="t" textLength="38" lengthAdjust="spacingAndGlyphs">U+10ffff
   <text x="10" y="41" class="t" textLength="42" lengthAdjust="spacingAndGlyphs">U+10ffff
 
+Signs of some scripts are smaller, from the first of their blocks to the last: beside others, in a corner, alone, and in
+the table of an accent. Key 0 stands below the board.
+  $ cells aff b00 dff e00 eff f00 109f 10a0 177f 1780 17ff 1800 19df 19e0 19ff 1a00 a97f a980 a9df a9e0 > t
+  $ draws t
+  $ grep -o '<text [^>]*class="[wo][ "][^<]*' picture | sed 's/.*class=//'
+  "o">&#x0f00;
+  "o r a">&#x109f;
+  "o">&#x1780;
+  "o r a">&#x17ff;
+  "o">&#x19e0;
+  "o r a">&#x19ff;
+  "o">&#xa980;
+  "o r a">&#xa9df;
+  "o">&#x0b00;
+  "o r a">&#x0dff;
+  $ cat > large << 'END'
+  > 2 0xf04 0xfb9 nop nop nop nop nop nop O
+  > 3 0xf04 nop nop nop nop nop nop nop O
+  > 4 0x905 nop nop nop nop nop nop nop O
+  > dacu 0xf05 ( 0xf40 0xe01 )
+  > END
+  $ draws large
+  $ grep -o '<text [^>]*>&#x0[ef9][^<]*' picture
+  <text x="10" y="41" class="o">&#x0f04;
+  <text x="10" y="20" class="o">&#x0fb9;
+  <text x="30" y="33" class="w c">&#x0f04;
+  <text x="30" y="33" class="z c">&#x0905;
+  <text x="37" class="o">&#x0f40;
+  <text x="12" class="o">&#x0f05;
+  <text x="37">&#x0e01;
+
 A name stands in the title of the whole and in the headline, as text, and an empty one is as none:
   $ draws "$examples/trap.kbd" --title 'Müller & <Söhne> ]]>'
   $ has '<title id="title">M&#x00fc;ller &#x0026; &#x003c;S&#x00f6;hne&#x003e; ]]&#x003e;, refused</title>' \

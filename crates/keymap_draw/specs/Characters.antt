@@ -1,6 +1,6 @@
 -- Which characters have a number for a legend, beside those that a terminal doesn't show, and which are marks, by
--- Unicode's properties.
-use Rattle.std.specs.Prelude.{ℕ, ◌%◌, nat_le, Bool, ◌||◌, List}
+-- Unicode's properties; and which are of scripts with large signs, by its blocks.
+use Rattle.std.specs.Prelude.{ℕ, ◌%◌, nat_le, Bool, ◌||◌, List, [], ◌∷◌}
 use Rattle.std.specs.List.{list_any}
 use Rattle.keymap_core.specs.Actions.{within}
 use Rattle.keymap_draw.specs.declared.characters.Span.{Span}
@@ -15,3 +15,14 @@ is_numbered c = is_in NUMBERED c || nat_le 0xfffe (c % 0x10000)
 
 unfoldable pub is_mark : ℕ → Bool
 is_mark c = is_in MARKS c
+
+-- the first code point and the last of each block of a script many of whose signs are wider or lower than others
+abbrev pub large_blocks : List (ℕ × ℕ)
+large_blocks =
+    -- Oriya, Tamil, Telugu, Kannada, Malayalam, Sinhala
+    (0xb00, 0xb7f) ∷ (0xb80, 0xbff) ∷ (0xc00, 0xc7f) ∷ (0xc80, 0xcff) ∷ (0xd00, 0xd7f) ∷ (0xd80, 0xdff)
+    -- Tibetan, Myanmar, Khmer and its symbols, Javanese
+    ∷ (0xf00, 0xfff) ∷ (0x1000, 0x109f) ∷ (0x1780, 0x17ff) ∷ (0x19e0, 0x19ff) ∷ (0xa980, 0xa9df) ∷ []
+
+unfoldable pub is_large : ℕ → Bool
+is_large c = list_any (λ block. within block.0 block.1 c) large_blocks

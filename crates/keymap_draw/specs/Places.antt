@@ -13,6 +13,7 @@ use Rattle.keymap_draw.specs.declared.place.Column.{Column}
 use Rattle.keymap_draw.specs.declared.place.Column.TheVariants.{Base, Shift, Alt, AltShift}
 use Rattle.keymap_draw.specs.declared.place.TheConstants.{ALONE_SIZES, TIGHT_SIZES, CORNER_SIZES}
 use Rattle.keymap_draw.specs.Boards.{width, height}
+use Rattle.keymap_draw.specs.Characters.{is_large}
 use Rattle.keymap_draw.specs.Legends.{is_word}
 
 abbrev pub is_right : Column → Bool
@@ -70,7 +71,8 @@ IsClass letter = is_class letter ≡ true
 abbrev pub size_by : List ℕ → ℕ → ℕ
 size_by sizes n = slice_index sizes (min n 8 - 2)
 
--- the class for the size of a legend, z for a sign that stands alone
+-- the class for the size of a legend: of a sign of a script with large ones w alone and o in a corner, and z of another
+-- sign that stands alone
 abbrev pub size_class : List ℕ → Bool → Bool → Option ℕ
 size_class legend alone tight =
     if is_word legend then Some (
@@ -78,10 +80,11 @@ size_class legend alone tight =
     else if tight then size_by TIGHT_SIZES (length legend)
     else size_by CORNER_SIZES (length legend)
     )
+    else if list_any is_large legend then Some (if alone then 119 else 111)
     else if alone then Some 122
     else None
 
--- how high the letters of a word are, by the class for its size
+-- how high the letters of a word or a large sign are, by the class for its size
 abbrev pub pixels : ℕ → ℕ
 pixels class =
     if class == 119 then 16

@@ -18,7 +18,7 @@ ghost use Rattle.keymap_draw.specs.Names.{LegendsAreNames, NoOthersAreNamed};
 ghost use Rattle.keymap_draw.specs.Pictures.{IsPicture};
 ghost use Rattle.keymap_draw.specs.Places.{IsClass};
 ghost use Rattle.keymap_draw.specs.Shapes.{CapsAreOfTheirKeys};
-ghost use Rattle.keymap_draw.specs.Sizes.{SizesAreOfTheStyle};
+ghost use Rattle.keymap_draw.specs.Sizes.{LargeSignsFit, SizesAreOfTheStyle};
 ghost use Rattle.keymap_draw.specs.Titles.{squeezed};
 ghost use Rattle.keymap_draw.specs.Told.{TitlesTell, PicturesTellDefinitions, PicturesTellKeymaps};
 ghost use Rattle.keymap_draw.specs.WellFormed.{IsPlain, IsShown, IsSeen, IsWellFormed};
@@ -108,6 +108,13 @@ pub fn caps_are_of_their_keys()
 #[tactic(auto, using(crate::proofs::ToldTwice::sizes_are_of_the_style))]
 pub fn sizes_are_of_the_style()
     ensures { SizesAreOfTheStyle }
+{}
+
+/// A sign of a script many of whose signs are large isn't wider than its place on any cap, where it is at most eighteen
+/// tenths as wide as its letters are high.
+#[tactic(auto, using(crate::proofs::ToldTwice::large_signs_fit))]
+pub fn large_signs_fit()
+    ensures { LargeSignsFit }
 {}
 
 /// A character that nobody sees has the name for a legend that Unicode abbreviates its name to, and no other character

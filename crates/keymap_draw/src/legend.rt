@@ -1,12 +1,13 @@
 //! What is written on a cap for a cell: nothing, a sign (one character, or a mark on a dotted circle), or a word of
 //! letters and digits.
 ghost use Rattle.std.specs.Prelude.{◌≡◌, ◌<◌, ◌≤◌, ◌+◌, ◌++◌, ◌∷◌, [], true, length, decimal};
-ghost use Rattle.std.specs.List.{list_all};
+ghost use Rattle.std.specs.List.{list_all, list_any};
 ghost use Rattle.keymap_core.specs.Bounds.{IsCell};
+ghost use Rattle.keymap_draw.specs.Characters.{is_large as is_large_sign};
 ghost use Rattle.keymap_draw.specs.Legends as spec;
 ghost use Rattle.keymap_draw.specs.Sheets.{is_seen};
 
-use crate::characters::{is_mark, is_numbered};
+use crate::characters::{is_large, is_mark, is_numbered};
 use crate::tables::{ACCENT_MARKS, UNSEEN_NAMES, UnseenName};
 use arrayvec::ArrayVec;
 use keymap_core::{Action, Cell, code_text, is_unseen};
@@ -182,4 +183,11 @@ pub(crate) fn is_word(legend: &[char]) -> bool
     ensures { result ≡ spec.is_word legend.now }
 {
     legend.len() >= 2 && legend[0] != DOTTED_CIRCLE
+}
+
+/// Whether a character of the legend is of a script with large signs.
+pub(crate) fn has_large(legend: &[char]) -> bool
+    ensures { result ≡ list_any is_large_sign legend.now }
+{
+    legend.iter().any(|c| is_large(*c))
 }

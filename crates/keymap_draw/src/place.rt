@@ -7,7 +7,7 @@ ghost use Rattle.keymap_draw.specs.Places.{is_class};
 ghost use Rattle.keymap_draw.specs.Sheets.{is_inner};
 
 use crate::board::Shape;
-use crate::legend::is_word;
+use crate::legend::{has_large, is_word};
 use arrayvec::ArrayVec;
 use keymap_core::{Action, Cell, KeyMap};
 
@@ -186,19 +186,24 @@ pub(crate) fn size_class(legend: &[char], alone: bool, tight: bool) -> Option<u8
     ensures class { list_all is_class (option_to_list result) ≡ true }
     ensures inner { list_all is_inner (option_to_list result) ≡ true }
 {
-    if !is_word(legend) {
-        return if alone { Some(PX_21) } else { None };
-    }
-    Some(if alone {
-        size_by(&ALONE_SIZES, legend.len())
-    } else if tight {
-        size_by(&TIGHT_SIZES, legend.len())
+    if is_word(legend) {
+        Some(if alone {
+            size_by(&ALONE_SIZES, legend.len())
+        } else if tight {
+            size_by(&TIGHT_SIZES, legend.len())
+        } else {
+            size_by(&CORNER_SIZES, legend.len())
+        })
+    } else if has_large(legend) {
+        Some(if alone { PX_16 } else { PX_11 })
+    } else if alone {
+        Some(PX_21)
     } else {
-        size_by(&CORNER_SIZES, legend.len())
-    })
+        None
+    }
 }
 
-/// How high the letters of a word are, by the class for its size.
+/// How high the letters of a word or a large sign are, by the class for its size.
 fn pixels(class: u8) -> u32
     ensures value { result ≡ spec.pixels class }
     ensures most { result ≤ 16 }

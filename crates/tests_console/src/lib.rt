@@ -1,5 +1,6 @@
 //! The tests of console_core, console_states, keymap_check and keymap_diff: histories on both consoles, the searches
-//! for sticking modifiers, the check of keymaps, and how two differ. They say what no clause says.
+//! for sticking modifiers, the check of keymaps, and how two differ. They say what no clause says. The modules
+//! `surface_of_..` have what the libraries have for others, as in `tests_formats`.
 //!
 //! A crate with tests is proved once more together with them, so the libraries have none of their own. Nothing here is
 //! exported.
@@ -19,5 +20,9 @@ mod promises;
 mod reports;
 #[cfg(test)]
 mod searches;
+#[cfg(test)]
+mod surface_of_check;
+#[cfg(test)]
+mod surface_of_console;
 #[cfg(test)]
 mod tellings;

@@ -1,5 +1,6 @@
 //! The tests of play_core and kmap_runs: scripts and what is played of them, the events that type a sentence, what the
-//! runs of the program write, and devices that fail. They say what no clause says.
+//! runs of the program write, and devices that fail. They say what no clause says. The modules
+//! `surface_of_..` have what the libraries have for others, as in `tests_formats`.
 //!
 //! A crate with tests is proved once more together with them, so the libraries have none of their own. Nothing here is
 //! exported.
@@ -23,3 +24,7 @@ mod run_devices;
 mod scripts;
 #[cfg(test)]
 mod sentences;
+#[cfg(test)]
+mod surface_of_play;
+#[cfg(test)]
+mod surface_of_runs;

@@ -1,12 +1,12 @@
 //! kmap_runs: the runs of the program `kmap` that check and dump, and the line of an error.
 
-use crate::asserts::{expect, expect_equal};
-use crate::devices::{broken_drip_of, drip_of, page_of};
+use crate::asserts::{expect_at, expect_equal};
 use keymap_core::{ReadFault, WriteFault};
 use keymap_tables::{TableFault, Wide};
 use keymap_text::TextFault;
 use kmap_runs::{RunError, check_run, dump_narrow_run, dump_run, write_run_error};
 use play_core::{PlayError, ScriptFault};
+use test_support::devices::{reader_of, sheet_of};
 use test_support::keymaps::{LETTER_AND_SHIFT, SHIFT_WITH_TRAP};
 
 /// What a run failed of. What other commands fail of besides is told by a type around it.
@@ -60,7 +60,11 @@ alock nobody
 
 #[test]
 fn check_run_accepts(rt: HostRuntime) {
-    let (mut text, show, mut out) = (drip_of(LETTER_AND_SHIFT), false, page_of(999));
+    let (mut text, show, mut out) = (
+        reader_of(LETTER_AND_SHIFT, 1, usize::MAX),
+        false,
+        sheet_of(999),
+    );
     let accepted: Result<bool, RunError> = check_run(rt.alloc(), &mut text, show, &mut out);
     expect_equal(&rt, &accepted, &Ok(true));
     expect_equal(&rt, &out.bytes.as_slice(), &ACCEPTED);
@@ -68,30 +72,42 @@ fn check_run_accepts(rt: HostRuntime) {
 
 #[test]
 fn check_run_shows(rt: HostRuntime) {
-    let (mut text, show, mut out) = (drip_of(SHIFT_WITH_TRAP), true, page_of(999));
+    let (mut text, show, mut out) = (
+        reader_of(SHIFT_WITH_TRAP, 1, usize::MAX),
+        true,
+        sheet_of(999),
+    );
     let accepted: Result<bool, RunError> = check_run(rt.alloc(), &mut text, show, &mut out);
     expect_equal(&rt, &accepted, &Ok(false));
     let script = b"demonstration:\ndown 42\ndown 29\ndown 42\nup 42\nup 29\n";
-    expect(&rt, "the script", out.bytes.ends_with(script));
+    expect_at(&rt, &"the script", out.bytes.ends_with(script));
 }
 
 #[test]
 fn dump_run_of_zeros(rt: HostRuntime) {
-    let (zeros, mut out) = ([0; 15_524], page_of(0));
-    let dumped: Result<(), RunError> = dump_run(rt.alloc(), &mut drip_of(&zeros), &mut out);
+    let (zeros, mut out) = ([0; 15_524], sheet_of(0));
+    let dumped: Result<(), RunError> = dump_run(
+        rt.alloc(),
+        &mut reader_of(&zeros, 1, usize::MAX),
+        &mut out,
+    );
     expect_equal(&rt, &dumped, &Ok(()));
 }
 
 #[test]
 fn dump_narrow_run_of_zeros(rt: HostRuntime) {
-    let (zeros, mut out) = ([0; 4_139], page_of(0));
-    let dumped: Result<(), RunError> = dump_narrow_run(rt.alloc(), &mut drip_of(&zeros), &mut out);
+    let (zeros, mut out) = ([0; 4_139], sheet_of(0));
+    let dumped: Result<(), RunError> = dump_narrow_run(
+        rt.alloc(),
+        &mut reader_of(&zeros, 1, usize::MAX),
+        &mut out,
+    );
     expect_equal(&rt, &dumped, &Ok(()));
 }
 
 #[test]
 fn run_errors(rt: HostRuntime) {
-    let (mut broken, mut out) = (broken_drip_of(b""), page_of(0));
+    let (mut broken, mut out) = (reader_of(b"", 1, 0), sheet_of(0));
     let dumped: Result<(), RunError> = dump_run(rt.alloc(), &mut broken, &mut out);
     expect_equal(&rt, &dumped.map_err(blamed), &Err("a reader"));
 }
@@ -105,7 +121,7 @@ fn run_error_from_play_error(rt: HostRuntime) {
 #[test]
 fn write_run_error_to_a_page(rt: HostRuntime) {
     let error: RunError = RunError::Write(WriteFault { written: 10 });
-    let mut out = page_of(999);
+    let mut out = sheet_of(999);
     let written: Result<(), WriteFault> = write_run_error(&error, &mut out);
     expect_equal(&rt, &written, &Ok(()));
     expect_equal(

@@ -1,6 +1,6 @@
 //! keymap_check: the check of a keymap, and the demonstration that a modifier sticks.
 
-use crate::asserts::{expect, expect_equal};
+use crate::asserts::{expect_at, expect_equal};
 use arrayvec::ArrayVec;
 use console_core::Event;
 use keymap_check::{Bearer, Finding, Place, Report, check, demonstrate};
@@ -93,7 +93,7 @@ fn report_steady(rt: HostRuntime) {
     let report: Report = report_on(&rt, UPPER_HALF);
     let alock: Lock = lock(holding(&rt, 0x82)).expect(&rt, "a lock");
     let steady: bool = report.steady(alock);
-    expect(&rt, "alock is steady", steady);
+    expect_at(&rt, &"alock is steady", steady);
 }
 
 fn key(rt: &impl Abort, code: u8) -> KeyCode {

@@ -1,7 +1,6 @@
 //! keymap_text: tokens, words, the reader of texts and the printer.
 
 use crate::asserts::expect_equal;
-use crate::devices::{drip_of, page_of};
 use keymap_core::{Action, KeyMap, LockFlag, ReadFault, ReadFaultKind, WriteFault};
 use keymap_text::{
     MapReader, Meaning, Span, TextError, TextFault, TextFaultKind, Token, TokenKind, next_token,
@@ -9,6 +8,7 @@ use keymap_text::{
 };
 use std::alloc::AllocError;
 use std::process::Abort;
+use test_support::devices::{reader_of, sheet_of};
 use test_support::keymaps::LETTER_AND_SHIFT;
 
 fn kind_of_token(kind: TokenKind) -> &'static str {
@@ -172,7 +172,7 @@ fn euro<R: Abort + AllocGlobal>(rt: &R) -> KeyMap {
 
 #[test]
 fn print_map_to_a_page(rt: HostRuntime) {
-    let mut page = page_of(10);
+    let mut page = sheet_of(10);
     let printed: Result<(), WriteFault> = print_map(&euro(&rt), &mut page);
     expect_equal(&rt, &printed, &Err(WriteFault { written: 10 }));
     expect_equal(&rt, &page.bytes.as_slice(), &b"000 'a'   ".as_slice());
@@ -205,7 +205,10 @@ fn map_reader_finish(rt: HostRuntime) {
 }
 
 #[test]
-fn read_from_a_drip(rt: HostRuntime) {
-    let map: Result<KeyMap, TextError> = read_from(rt.alloc(), &mut drip_of(LETTER_AND_SHIFT));
+fn read_from_a_tape(rt: HostRuntime) {
+    let map: Result<KeyMap, TextError> = read_from(
+        rt.alloc(),
+        &mut reader_of(LETTER_AND_SHIFT, 1, usize::MAX),
+    );
     expect_equal(&rt, &map.expect(&rt, "a map").n_keys(), &43);
 }

@@ -1,7 +1,6 @@
 //! play_core: scripts, and what is played of them.
 
-use crate::asserts::{expect, expect_equal};
-use crate::devices::{broken_drip_of, drip_of, page_of};
+use crate::asserts::{expect_at, expect_equal};
 use console_core::{Answer, Event};
 use keymap_core::{KeyCode, ReadFault, WriteFault};
 use keymap_text::TextFault;
@@ -10,6 +9,7 @@ use play_core::{
     typed,
 };
 use std::process::Abort;
+use test_support::devices::{reader_of, sheet_of};
 use test_support::keymaps::{LETTER_AND_SHIFT, NOP_UNDER_CONTROL, SHIFT_AND_CAPS};
 
 /// The word of a line, and the code of its key.
@@ -130,7 +130,11 @@ const TAP: &[u8] = b"down 30\nup 30\n";
 
 #[test]
 fn play_lines(rt: HostRuntime) {
-    let (mut text, mut script, mut out) = (drip_of(NOP_UNDER_CONTROL), drip_of(TAP), page_of(999));
+    let (mut text, mut script, mut out) = (
+        reader_of(NOP_UNDER_CONTROL, 1, usize::MAX),
+        reader_of(TAP, 1, usize::MAX),
+        sheet_of(999),
+    );
     let played: Result<(), PlayError> = play(
         rt.alloc(),
         Show::Lines,
@@ -146,7 +150,11 @@ fn play_lines(rt: HostRuntime) {
 
 #[test]
 fn play_typed(rt: HostRuntime) {
-    let (mut text, mut script, mut out) = (drip_of(NOP_UNDER_CONTROL), drip_of(TAP), page_of(1));
+    let (mut text, mut script, mut out) = (
+        reader_of(NOP_UNDER_CONTROL, 1, usize::MAX),
+        reader_of(TAP, 1, usize::MAX),
+        sheet_of(1),
+    );
     let show: Show = Show::Typed;
     let played: Result<(), PlayError> = play(rt.alloc(), show, &mut text, &mut script, &mut out);
     expect_equal(&rt, &(played, has_lines(show)), &(Ok(()), false));
@@ -155,7 +163,11 @@ fn play_typed(rt: HostRuntime) {
 
 #[test]
 fn play_blames_a_source(rt: HostRuntime) {
-    let (mut text, mut script, mut out) = (drip_of(b""), broken_drip_of(TAP), page_of(0));
+    let (mut text, mut script, mut out) = (
+        reader_of(b"", 1, usize::MAX),
+        reader_of(TAP, 1, TAP.len()),
+        sheet_of(0),
+    );
     let played: Result<(), PlayError> = play(
         rt.alloc(),
         Show::Lines,
@@ -168,9 +180,12 @@ fn play_blames_a_source(rt: HostRuntime) {
 
 #[test]
 fn play_next_after_a_load(rt: HostRuntime) {
-    let (mut text, mut next) = (drip_of(SHIFT_AND_CAPS), drip_of(LETTER_AND_SHIFT));
-    let mut script = drip_of(b"down 58\nup 58\ndown 42\nload\ndown 30\n");
-    let mut out = page_of(999);
+    let (mut text, mut next) = (
+        reader_of(SHIFT_AND_CAPS, 1, usize::MAX),
+        reader_of(LETTER_AND_SHIFT, 1, usize::MAX),
+    );
+    let mut script = reader_of(b"down 58\nup 58\ndown 42\nload\ndown 30\n", 1, usize::MAX);
+    let mut out = sheet_of(999);
     let played: Result<(), PlayError> = play_next(
         rt.alloc(),
         Show::Lines,
@@ -181,13 +196,16 @@ fn play_next_after_a_load(rt: HostRuntime) {
     );
     expect_equal(&rt, &played, &Ok(()));
     let last = b"load: none; mods none; locks none\npress 30: char 97; mods none; locks none\n";
-    expect(&rt, "the last lines", out.bytes.ends_with(last));
+    expect_at(&rt, &"the last lines", out.bytes.ends_with(last));
 }
 
 #[test]
 fn play_next_of_a_fault(rt: HostRuntime) {
-    let (mut text, mut next) = (drip_of(b""), drip_of(b"1 '"));
-    let (mut script, mut out) = (drip_of(b""), page_of(0));
+    let (mut text, mut next) = (
+        reader_of(b"", 1, usize::MAX),
+        reader_of(b"1 '", 1, usize::MAX),
+    );
+    let (mut script, mut out) = (reader_of(b"", 1, usize::MAX), sheet_of(0));
     let played: Result<(), PlayError> = play_next(
         rt.alloc(),
         Show::Lines,
@@ -202,7 +220,7 @@ fn play_next_of_a_fault(rt: HostRuntime) {
 #[test]
 fn typed_answers(rt: HostRuntime) {
     let answers: [Answer; 2] = [Answer::BackTab, Answer::Char { c: 'e', meta: true }];
-    let mut out = page_of(4);
+    let mut out = sheet_of(4);
     let written: Result<(), WriteFault> = typed(&answers, &mut out);
     expect_equal(&rt, &written, &Err(WriteFault { written: 4 }));
     expect_equal(&rt, &out.bytes.as_slice(), &b"\x1b[Z\x1b".as_slice());

@@ -1,7 +1,6 @@
 //! keymap_tables: table files and narrow files.
 
-use crate::asserts::{expect, expect_equal};
-use crate::devices::{Page, drip_of, page_of};
+use crate::asserts::{expect_at, expect_equal};
 use keymap_core::{KeyMap, ReadFault, WriteFault};
 use keymap_tables::{
     NarrowError, TableError, TableFault, TableFaultKind, Wide, read_narrow, read_narrow_from,
@@ -9,6 +8,7 @@ use keymap_tables::{
 };
 use keymap_text::read_map;
 use std::process::Abort;
+use test_support::devices::{Sheet, reader_of, sheet_of};
 use test_support::keymaps::LETTER_AND_SHIFT;
 
 /// The keymap of two keys.
@@ -18,7 +18,7 @@ fn sample<R: Abort + AllocGlobal>(rt: &R) -> KeyMap {
 
 #[test]
 fn write_tables_to_a_page(rt: HostRuntime) {
-    let mut page = page_of(15_524);
+    let mut page = sheet_of(15_524);
     let written: Result<(), WriteFault> = write_tables(&sample(&rt), &mut page);
     expect_equal(&rt, &(written, page.bytes.len()), &(Ok(()), 15_524));
 }
@@ -89,9 +89,12 @@ fn read_tables_of_a_length(rt: HostRuntime) {
 }
 
 #[test]
-fn read_tables_from_a_drip(rt: HostRuntime) {
+fn read_tables_from_a_tape(rt: HostRuntime) {
     let file = [0; 15_524];
-    let map: Result<KeyMap, TableError> = read_tables_from(rt.alloc(), &mut drip_of(&file));
+    let map: Result<KeyMap, TableError> = read_tables_from(
+        rt.alloc(),
+        &mut reader_of(&file, 1, usize::MAX),
+    );
     expect_equal(&rt, &map.expect(&rt, "a map").n_keys(), &0);
 }
 
@@ -118,23 +121,23 @@ fn numbers(wide: Wide) -> (u8, u8) {
 fn write_narrow_of_a_wide_map(rt: HostRuntime) {
     let text = b"0 'a' 'A' SOH soh fkey1 scr16 0x20ac DEL b";
     let map = read_map(rt.alloc(), text).expect(&rt, "a map");
-    let mut page = page_of(4_139);
+    let mut page = sheet_of(4_139);
     let written: Result<(), NarrowError> = write_narrow(&map, &mut page);
     let wide: Option<Wide> = written.err().and_then(too_wide);
     expect_equal(&rt, &wide, &Some(Wide::Cell { slot: 0, column: 6 }));
     expect_equal(&rt, &wide.map(numbers), &Some((0, 6)));
-    expect(&rt, "nothing is written", page.bytes.is_empty());
+    expect_at(&rt, &"nothing is written", page.bytes.is_empty());
 }
 
 /// The narrow file of the sample.
-fn narrow_sample<R: Abort + AllocGlobal>(rt: &R) -> Page {
-    let mut page = page_of(4_139);
+fn narrow_sample<R: Abort + AllocGlobal>(rt: &R) -> Sheet {
+    let mut page = sheet_of(4_139);
     let _ = write_narrow(&sample(rt), &mut page);
     page
 }
 
 fn expect_sample<R: Abort + AllocGlobal>(rt: &R, map: Result<KeyMap, TableError>) {
-    expect(rt, "the same map", map.expect(rt, "a map") == sample(rt));
+    expect_at(rt, &"the same map", map.expect(rt, "a map") == sample(rt));
 }
 
 #[test]
@@ -146,9 +149,9 @@ fn read_narrow_of_a_file(rt: HostRuntime) {
 }
 
 #[test]
-fn read_narrow_from_a_drip(rt: HostRuntime) {
+fn read_narrow_from_a_tape(rt: HostRuntime) {
     let file = narrow_sample(&rt);
-    let mut drip = drip_of(file.bytes.as_slice());
-    let map: Result<KeyMap, TableError> = read_narrow_from(rt.alloc(), &mut drip);
+    let mut tape = reader_of(file.bytes.as_slice(), 1, usize::MAX);
+    let map: Result<KeyMap, TableError> = read_narrow_from(rt.alloc(), &mut tape);
     expect_sample(&rt, map);
 }

@@ -1,7 +1,6 @@
 //! keymap_core: keys, actions, entries, accents and keymaps, and the devices that bytes come from and go to.
 
-use crate::asserts::{expect, expect_equal};
-use crate::devices::{broken_drip_of, drip_of, page_of};
+use crate::asserts::{expect_at, expect_equal};
 use arrayvec::ArrayVec;
 use keymap_core::{
     Accent, Action, BadAccent, Cell, Entry, Failed, FromStd, Holding, KeyCode, KeyMap, Lock,
@@ -10,12 +9,13 @@ use keymap_core::{
 };
 use std::alloc::AllocError;
 use std::process::Abort;
+use test_support::devices::{reader_of, sheet_of};
 
 #[test]
 fn key_code_new(rt: HostRuntime) {
     let last: Option<KeyCode> = KeyCode::new(127);
     let none: Option<KeyCode> = KeyCode::new(128);
-    expect(&rt, "127 and 128", last.is_some() && none.is_none());
+    expect_at(&rt, &"127 and 128", last.is_some() && none.is_none());
 }
 
 #[test]
@@ -34,7 +34,7 @@ fn action(rt: &impl Abort, code: u8) -> Action {
 fn action_from_code(rt: HostRuntime) {
     let paste: Option<Action> = Action::from_code(0xa3);
     let combined: Option<Action> = Action::from_code(0x9b);
-    expect(&rt, "a3 and 9b", paste.is_some() && combined.is_none());
+    expect_at(&rt, &"a3 and 9b", paste.is_some() && combined.is_none());
 }
 
 #[test]
@@ -69,8 +69,8 @@ fn action_holding(rt: HostRuntime) {
     let lshift: Option<Holding> = action(&rt, 0x02).holding();
     let clock: Option<Holding> = action(&rt, 0x04).holding();
     let nop: Option<Holding> = action(&rt, 0x00).holding();
-    expect(&rt, "lshift", is_modifier(lshift.expect(&rt, "lshift")));
-    expect(&rt, "clock", !is_modifier(clock.expect(&rt, "clock")));
+    expect_at(&rt, &"lshift", is_modifier(lshift.expect(&rt, "lshift")));
+    expect_at(&rt, &"clock", !is_modifier(clock.expect(&rt, "clock")));
     expect_equal(&rt, &nop, &None);
 }
 
@@ -154,7 +154,7 @@ fn entry_undefined(rt: HostRuntime) {
 #[test]
 fn accent_new(rt: HostRuntime) {
     let acute: Accent = Accent::new('\u{b4}');
-    expect(&rt, "no pairs", acute.pairs().is_empty());
+    expect_at(&rt, &"no pairs", acute.pairs().is_empty());
 }
 
 #[test]
@@ -195,7 +195,7 @@ fn no_keys<R: Abort + AllocGlobal>(rt: &R) -> KeyMap {
 #[test]
 fn key_map_new(rt: HostRuntime) {
     let map: Result<KeyMap, AllocError> = KeyMap::new(rt.alloc());
-    expect(&rt, "a map", map.is_ok());
+    expect_at(&rt, &"a map", map.is_ok());
 }
 
 #[test]
@@ -241,7 +241,7 @@ fn key_map_accent(rt: HostRuntime) {
     let first: Option<&Accent> = map.accent(0);
     let second: Option<&Accent> = map.accent(1);
     expect_equal(&rt, &first.expect(&rt, "an accent").own(), &'x');
-    expect(&rt, "a second accent", second.is_none());
+    expect_at(&rt, &"a second accent", second.is_none());
 }
 
 #[test]
@@ -276,8 +276,8 @@ fn read_once<R: Read>(reader: &mut R) -> (Result<usize, Failed>, bool) {
 
 #[test]
 fn read(rt: HostRuntime) {
-    let given = read_once(&mut drip_of(b"ab"));
-    let broken = read_once(&mut broken_drip_of(b""));
+    let given = read_once(&mut reader_of(b"ab", 1, usize::MAX));
+    let broken = read_once(&mut reader_of(b"", 1, 0));
     expect_equal(&rt, &given, &(Ok(1), false));
     expect_equal(&rt, &broken, &(Err(Failed), true));
 }
@@ -291,8 +291,8 @@ fn write_once<W: Write>(writer: &mut W) -> (Result<usize, Failed>, bool) {
 
 #[test]
 fn write(rt: HostRuntime) {
-    let taken = write_once(&mut page_of(2));
-    let full = write_once(&mut page_of(0));
+    let taken = write_once(&mut sheet_of(2));
+    let full = write_once(&mut sheet_of(0));
     expect_equal(&rt, &taken, &(Ok(2), false));
     expect_equal(&rt, &full, &(Err(Failed), true));
 }
@@ -339,7 +339,11 @@ fn broken_at(error: ReadError) -> Option<u64> {
 #[test]
 fn read_up_to_a_limit(rt: HostRuntime) {
     let max: usize = 3;
-    let bytes: Result<Vec<u8>, ReadError> = read_up_to(rt.alloc(), &mut drip_of(b"12345"), max);
+    let bytes: Result<Vec<u8>, ReadError> = read_up_to(
+        rt.alloc(),
+        &mut reader_of(b"12345", 1, usize::MAX),
+        max,
+    );
     expect_equal(
         &rt,
         &bytes.expect(&rt, "bytes").as_slice(),
@@ -349,6 +353,6 @@ fn read_up_to_a_limit(rt: HostRuntime) {
 
 #[test]
 fn read_up_to_a_failure(rt: HostRuntime) {
-    let bytes: Result<Vec<u8>, ReadError> = read_up_to(rt.alloc(), &mut broken_drip_of(b"12"), 3);
+    let bytes: Result<Vec<u8>, ReadError> = read_up_to(rt.alloc(), &mut reader_of(b"12", 1, 2), 3);
     expect_equal(&rt, &bytes.err().and_then(broken_at), &Some(2));
 }

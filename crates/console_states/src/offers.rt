@@ -208,7 +208,8 @@ fn unlocked_accents(alloc: Global, met: &Met, maps: &Keymaps) -> Result<Vec<u8>,
     Ok(accents)
 }
 
-/// Of the accents, those that are offered where no lock is on, and some of what can be looked up while they are pending.
+/// Of the accents, those that are offered where no lock is on, and some of what can be looked up while they are
+/// pending.
 pub fn some_offers(
     alloc: Global,
     met: &Met,

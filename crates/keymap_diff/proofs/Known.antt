@@ -41,7 +41,8 @@ met-change m n (ListedOtherwise i) is met = is
 -- one mark alone is right
 seen-same : (m n : MapValue) (x : Change) → IsChange true m n x → IsChange true m n (seen x) → seen x ≡ x
 seen-same m n (Cell s c a b u) is other = ap (Cell s c a b) (mark-one true m n (MeetsCell s c) false u other.5 is.5)
-seen-same m n (Letter s a b u) is other = ap (Letter s a b) (mark-one true m n (MeetsLetters s a b) false u other.4 is.4)
+seen-same m n (Letter s a b u) is other =
+    ap (Letter s a b) (mark-one true m n (MeetsLetters s a b) false u other.4 is.4)
 seen-same m n (Accent i a b u) is other = ap (Accent i a b) (mark-one true m n (MeetsDeadKey i) false u other.4 is.4)
 seen-same m n (Pair i base a b u) is other =
     ap (Pair i base a b) (mark-one true m n (MeetsPair i base) false u other.4 is.4)

@@ -342,8 +342,8 @@ fn pair(grammar: &mut Grammar, index: u8, rest: &[u8]) -> usize
     end + n
 }
 
-/// Takes the cells in front from this column on that are seen at once, and behind the eighth the lock letter and the end
-/// of the line. Answers how many bytes were taken. The place is kept only behind the last cell.
+/// Takes the cells in front from this column on that are seen at once, and behind the eighth the lock letter and the
+/// end of the line. Answers how many bytes were taken. The place is kept only behind the last cell.
 #[inline(always)]
 fn take_row_of_cells<D: Definitions>(
     grammar: &mut Grammar,

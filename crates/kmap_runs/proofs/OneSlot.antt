@@ -50,17 +50,23 @@ changed lines i x y l c low at is same more before =
 abbrev pub Compared : Type 0
 Compared = Bool × MapValue × MapValue
 
+abbrev IsChangeOf : Compared → Change → Type 0
+IsChangeOf v x = IsChange v.0 v.1 v.2 x
+
+abbrev pub AreChangesOf : Compared → List Change → Type 0
+AreChangesOf v found = AreChanges v.0 v.1 v.2 found
+
 -- the places of the cells of a slot
 abbrev IsOfSlot : ℕ → Change → Type 0
 IsOfSlot s x = (s < 256) × (1 + s * 8 ≤ place_of x) × (place_of x < 9 + s * 8)
 
-of-slot : (v : Compared) (s : ℕ) (x : Change) → IsChange v.0 v.1 v.2 x → is_of_slot s x ≡ true → IsOfSlot s x
+of-slot : (v : Compared) (s : ℕ) (x : Change) → IsChangeOf v x → is_of_slot s x ≡ true → IsOfSlot s x
 of-slot v s (Cell r c a b u) is e =
     let same : r ≡ s = eqb-true r s e in
     (omega (arith, is.0, same), omega (arith, same), omega (arith, same, is.1))
 of-slot v s x is e = absurd (true≢false (sym e))
 
-slot-of : (v : Compared) (s : ℕ) (x : Change) → IsChange v.0 v.1 v.2 x → IsOfSlot s x → is_of_slot s x ≡ true
+slot-of : (v : Compared) (s : ℕ) (x : Change) → IsChangeOf v x → IsOfSlot s x → is_of_slot s x ≡ true
 slot-of v s (Cell r c a b u) is (few, from, below) = eq-eqb r s (omega (arith, is.1, from, below))
 slot-of v s x is (few, from, below) = absurd (omega (arith, few, from, below))
 
@@ -73,11 +79,11 @@ same-slot : (s : ℕ) (x y : Change) → is_of_slot s x ≡ true → is_of_slot 
 same-slot s (Cell r c a b u) y e f = subst (λ z. is_of_slot z y ≡ true) (sym (eqb-true r s e)) f
 same-slot s x y e f = absurd (true≢false (sym e))
 
-is-found : (v : Compared) (found : List Change) (i : ℕ) → AreChanges v.0 v.1 v.2 found → i < length found
-    → IsChange v.0 v.1 v.2 (at found i)
+is-found : (v : Compared) (found : List Change) (i : ℕ) → AreChangesOf v found → i < length found
+    → IsChangeOf v (at found i)
 is-found v found i are low = are.each.only (at found i) (Contains-get_or found i (Accents 0 0) low)
 
-ordered : (v : Compared) (found : List Change) (i j : ℕ) → AreChanges v.0 v.1 v.2 found → i ≤ j → j < length found
+ordered : (v : Compared) (found : List Change) (i j : ℕ) → AreChangesOf v found → i ≤ j → j < length found
     → place_of (at found i) ≤ place_of (at found j)
 ordered v found i j are le low = elim (cases_lt i j) [
   | inl lt ↦ are.in_order i j (Accents 0 0) lt low
@@ -85,7 +91,7 @@ ordered v found i j are le low = elim (cases_lt i j) [
 ]
 
 -- a change between two cells of a slot is one of them
-between : (v : Compared) (s : ℕ) (x e y : Change) → IsChange v.0 v.1 v.2 x → IsChange v.0 v.1 v.2 e → IsChange v.0 v.1 v.2 y
+between : (v : Compared) (s : ℕ) (x e y : Change) → IsChangeOf v x → IsChangeOf v e → IsChangeOf v y
     → is_of_slot s x ≡ true → is_of_slot s y ≡ true → place_of x ≤ place_of e → place_of e ≤ place_of y
     → is_of_slot s e ≡ true
 between v s x e y xs es ys of_x of_y le ge =
@@ -94,14 +100,14 @@ between v s x e y xs es ys of_x of_y le ge =
     slot-of v s e es (a.0, omega (arith, a.1, le), omega (arith, b.2, ge))
 
 -- one that shares slots with two shares one with both
-shared : (v : Compared) (s r : ℕ) (x : Change) → IsChange v.0 v.1 v.2 x → is_of_slot s x ≡ true → is_of_slot r x ≡ true → s ≡ r
+shared : (v : Compared) (s r : ℕ) (x : Change) → IsChangeOf v x → is_of_slot s x ≡ true → is_of_slot r x ≡ true → s ≡ r
 shared v s r x is of_s of_r =
     let a = of-slot v s x is of_s in
     let b = of-slot v r x is of_r in
     omega (arith, a.1, a.2, b.1, b.2)
 
 -- behind a run no cell is of a slot of those up to its end
-pub cut-more : (v : Compared) (found : List Change) (first end : ℕ) → AreChanges v.0 v.1 v.2 found → first < end
+pub cut-more : (v : Compared) (found : List Change) (first end : ℕ) → AreChangesOf v found → first < end
     → end ≤ length found → IsRun found first end → IsCut found first → IsCut found end
 cut-more v found first end are more within run cut j k before from low =
     elim (cases_lt j first) [
@@ -222,7 +228,7 @@ slot-label found others (Cell s c a b u) each =
 slot-label found others x each = refl
 
 -- the lines with a run more
-pub run-more : (v : Compared) (found : List Change) (first end : ℕ) (lines more : List Told) → AreChanges v.0 v.1 v.2 found
+pub run-more : (v : Compared) (found : List Change) (first end : ℕ) (lines more : List Told) → AreChangesOf v found
     → first < end → end ≤ length found → IsCut found first → IsCut found end
     → lines ≡ with_changes found [] (take first found)
     → more ≡ with_changes (run_of found first end) lines (run_of found first end)

@@ -288,8 +288,8 @@ impl Held {
         None
     }
 
-    /// The accent whose dead key a press of the key looks up, where the key holds nothing. Inlined, so that the selection
-    /// is made once for all keys that are asked for in one state.
+    /// The accent whose dead key a press of the key looks up, where the key holds nothing. Inlined, so that the
+    /// selection is made once for all keys that are asked for in one state.
     #[inline(always)]
     pub fn offered(&self, maps: &Keymaps, key: KeyCode) -> Option<u8>
         ensures { MatchOption result ((accent : ℕ) → IsIdle (state_of self.now) key

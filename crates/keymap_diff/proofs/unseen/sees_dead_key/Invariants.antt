@@ -5,4 +5,5 @@ use Rattle.keymap_diff.proofs.unseen.sees_dead_key.Given as goal
 
 -- no press looks up the dead key at the places so far
 abbrev pub invariant-loop-place : goal.invariant-loop-place
-invariant-loop-place l = AreSightsOf l.map l.sights → (k : ℕ) → k < l.place → MeetsDeadKeyAt l.accent l.map (k / 8) (k % 8) → ⊥
+invariant-loop-place l =
+    AreSightsOf l.map l.sights → (k : ℕ) → k < l.place → MeetsDeadKeyAt l.accent l.map (k / 8) (k % 8) → ⊥

@@ -12,4 +12,5 @@ returns-in-Some c =
     let rest = c.args.rest.now in
     let found = c.in-Some.ensures in
     subst (λ m. Fronts rest (Value m) 6) (sym found.2)
-    (word_fronts 6 rest (sym found.1) found.0 (prefix_len_passes is_word rest 0 0 (omega (arith, found.1))) (omega arith))
+    (word_fronts 6 rest (sym found.1) found.0 (prefix_len_passes is_word rest 0 0 (omega (arith, found.1)))
+    (omega arith))

@@ -1,5 +1,5 @@
 -- A token reads alone: its bytes are the same token wherever a blank stands behind them.
-use Rattle.keymap_text.proofs.Common.{◌≡◌, ℕ, ◌+◌, ◌≤◌, Bool, true, false, List, [], ◌∷◌, ◌++◌, take, sym, ◌∙◌, ap}
+use Rattle.keymap_text.proofs.Common.{◌≡◌, ℕ, ◌≤◌, Bool, true, false, List, [], ◌∷◌, ◌++◌, take, sym, ◌∙◌, ap}
 use Rattle.keymap_text.proofs.Common.{refl, arith, add-one, ◌&&◌, slice_index, list_all, nat_tests, TokenKind, rules}
 use Rattle.keymap_text.proofs.Common.{Literal, leading, is_blank, is_word, stays_on_line, separates, Skipped}
 use Rattle.keymap_text.proofs.Common.{Found, front_of}

@@ -3,7 +3,7 @@ use Rattle.keymap_text.proofs.Common.{◌≡◌, ℕ, zero, suc, ◌+◌, ◌<�
 use Rattle.keymap_text.proofs.Common.{[], ◌∷◌, ◌++◌, length, get_or, map, refl, sym, ◌∙◌, ap, ap₂, subst, arith, Ok}
 use Rattle.keymap_text.proofs.Common.{Option, Some, None, append_assoc, append-nil, eqb-true, eq-eqb, ne_eqb}
 use Rattle.keymap_text.proofs.Common.{All, flat_map, range_with_len, option_or, blank, MapValue, undefined}
-use Rattle.keymap_text.proofs.Common.{name_of, Cell, Item, Value, Char, Act, character, cell, tokens_after, Definition}
+use Rattle.keymap_text.proofs.Common.{name_of, Cell, Item, Value, Act, character, cell, tokens_after, Definition}
 use Rattle.keymap_text.proofs.Common.{KeyDefinition, AccentDefinition, Defines, IsRow, no_definition, one_definition}
 use Rattle.keymap_text.proofs.Common.{last, of_slot, of_index, greatest, slots_needed, accents_needed, or_default}
 use Rattle.keymap_text.proofs.Common.{map_of, key_line, accent_line, printed, key_lines, accent_lines, Spells}

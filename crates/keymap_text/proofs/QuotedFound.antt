@@ -1,5 +1,5 @@
 -- What is found at an apostrophe: a character, and an apostrophe that closes it.
-use Rattle.keymap_text.proofs.Common.{◌≡◌, ◌≢◌, inl, inr, ℕ, ◌+◌, ◌<◌, ◌≤◌, true, false, List, [], ◌∷◌}
+use Rattle.keymap_text.proofs.Common.{◌≡◌, ◌≢◌, inl, inr, ℕ, ◌+◌, ◌<◌, ◌≤◌, true, List, [], ◌∷◌}
 use Rattle.keymap_text.proofs.Common.{◌++◌, length, take, drop, slice_index, refl, sym, ◌∙◌, ap, ap₂, arith}
 use Rattle.keymap_text.proofs.Common.{Option, Some, None, length-append, append_assoc, append-nil}
 use Rattle.keymap_text.proofs.Common.{⊎_elim, true≢false, take_at, ◌&&◌, add-one, list_all, get_or_at, drop_more}

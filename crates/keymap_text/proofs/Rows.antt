@@ -3,7 +3,7 @@ use Rattle.keymap_text.proofs.Common.{◌≡◌, ◌≢◌, ℕ, ◌+◌, ◌-�
 use Rattle.keymap_text.proofs.Common.{refl, ap, arith, Ok, AccentValue, MapValue, with_entry, Entry, Cell}
 use Rattle.keymap_text.proofs.Common.{LockFlag, Item, Open, Close, cell, lock}
 use Rattle.keymap_text.proofs.Common.{GrammarPlace, at, accept, after_cell, with_cell, with_pair, ◌>>=◌, Advances}
-use Rattle.keymap_text.proofs.Common.{Fronts, FrontsBehind, FrontsCharacter}
+use Rattle.keymap_text.proofs.Common.{FrontsBehind, FrontsCharacter}
 use Rattle.keymap_core.specs.Numbers.{pair_limit}
 use Rattle.keymap_text.proofs.Fronts.{left_fronts}
 use Rattle.keymap_text.proofs.Scanning.{token_advances, behind_advances, advances_on}

@@ -16,7 +16,6 @@ use Rattle.keymap_text.proofs.Faults.{found_of, fault_is, same_fault}
 use Rattle.keymap_text.proofs.Folded.{puts, puts_are}
 use Rattle.keymap_text.proofs.Row.{steps, stands_after, stands_first, row_at_end, ok_is, err_ok}
 use Rattle.keymap_text.proofs.RowTaken.{row_defined}
-use Rattle.keymap_text.specs.declared.fault.TextFaultKind.TheVariants as faults
 use Rattle.keymap_text.specs.Lexical as lexical
 
 abbrev pub items_of : Tokens → List Item

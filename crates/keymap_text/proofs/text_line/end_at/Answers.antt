@@ -1,4 +1,4 @@
-use Rattle.keymap_text.proofs.Common.{◌-◌, rules}
+use Rattle.keymap_text.proofs.Common.{rules}
 use Rattle.keymap_text.proofs.LineStarts.{end_of_place}
 use Rattle.keymap_text.proofs.text_line.end_at.Goals as goal
 

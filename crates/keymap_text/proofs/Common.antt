@@ -15,8 +15,8 @@ pub use Rattle.keymap_text.specs.Inner.Grammar.{empty_map, first_of, start, step
 unfoldable pub use Rattle.keymap_text.specs.Inner.Grammar.{accept, at_end}
 pub use Rattle.keymap_text.specs.Inner.Judging.{Faulty, Spelled, Verdict, ended, verdict}
 unfoldable pub use Rattle.keymap_text.specs.Inner.Judging.{judge}
-pub use Rattle.keymap_text.specs.Inner.Keys.{ArePlaced, AreWordBytes, IsTrueName, KeyMeans, first_of_sixteen}
-pub use Rattle.keymap_text.specs.Inner.Keys.{function_name, name_key, pack, screen_name, unpacked}
+pub use Rattle.keymap_text.specs.Inner.Keys.{ArePlaced, IsTrueName, KeyMeans, first_of_sixteen, is_from_zero}
+pub use Rattle.keymap_text.specs.Inner.Keys.{function_name, name_key, pack, raised, screen_name, unpacked}
 pub use Rattle.keymap_text.specs.Inner.LastOf.{HasLast}
 pub use Rattle.keymap_text.specs.Inner.Placed.{ComesNext, behind, is_open, tokens_from}
 unfoldable pub use Rattle.keymap_text.specs.Inner.Placed.{begun}

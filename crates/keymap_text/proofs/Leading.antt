@@ -4,7 +4,8 @@ use Rattle.keymap_text.proofs.Common.{◌++◌, length, take, drop, get_or, sym,
 use Rattle.keymap_text.proofs.Common.{drop-cons, append-nil, length-take-le, get_or-take, drop_all, prefix_len_is}
 use Rattle.keymap_text.proofs.Common.{prefix_len-drop_yes, prefix_len-drop_no, prefix_len-drop_all}
 use Rattle.keymap_text.proofs.Common.{prefix_len-le-length, prefix_len_passes, prefix_len_stops, Some, None}
-use Rattle.keymap_text.proofs.Common.{IsFirstByte, is_byte, leading, stays_on_line, is_space}
+use Rattle.keymap_text.proofs.Common.{IsFirstByte, is_byte, leading, stays_on_line, is_space, is_word, is_from_zero}
+use Rattle.keymap_text.proofs.Common.{nat_tests}
 use Rattle.std.proofs.lemmas.List.Folds.{prefix_len-append}
 
 -- the number, where the first byte passes and where it does not
@@ -102,6 +103,11 @@ line_whole bytes h =
 pub plain_spaces : (xs : List ℕ) → leading (λ c. c == 32) xs ≤ leading is_space xs
 plain_spaces [] = omega arith
 plain_spaces (x ∷ xs) = grind (arith, leading_fail, leading_pass, (plain_spaces xs))
+
+-- and no more letters and digits than bytes from '0' on
+pub word_from_zero : (xs : List ℕ) → leading is_word xs ≤ leading is_from_zero xs
+word_from_zero [] = omega arith
+word_from_zero (x ∷ xs) = grind (arith, nat_tests, leading_fail, leading_pass, (word_from_zero xs))
 
 -- a space is a blank
 space_is : (c : ℕ) → (c == 32) ≡ true → is_space c ≡ true

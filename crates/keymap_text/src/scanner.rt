@@ -17,8 +17,8 @@ use crate::fault::TextFaultKind;
 use crate::grammar::{Grammar, Place, cell_of, character_of, lock_of, push_pair};
 use crate::names::{name_meaning, name_of_eight};
 use crate::token::{
-    Front, TokenKind, first_spaces, is_blank_byte, is_word_byte, line_len, short_word_len,
-    space_run, token_front, word_run,
+    Front, TokenKind, first_spaces, is_blank_byte, is_word_byte, line_len, run_from_zero,
+    short_word_len, space_run, token_front,
 };
 use crate::words::{Item, Meaning, four_digit_number, item_of, short_number, three_digit_number};
 use keymap_core::{Definitions, PAIR_LIMIT};
@@ -123,7 +123,7 @@ fn name_of_sixteen(rest: &[u8]) -> Option<(Item, usize)>
     requires { 16 ≤ length rest.now }
     ensures { IfSome result (λ found. Fronts rest.now found.0 found.1) }
 {
-    let n = word_run(rest);
+    let n = run_from_zero(rest);
     if n < 1 || n > 7 {
         return None;
     }

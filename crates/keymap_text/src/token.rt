@@ -3,7 +3,7 @@
 ghost use Rattle.std.specs.Prelude.{◌≡◌, ◌+◌, ◌<◌, ◌≤◌, ◌==◌, length, drop, slice_index, if◌then◌else◌, IsFalse, IfOk};
 ghost use Rattle.std.specs.Prelude.{IfSome, IfErr, count_by, ◌^◌};
 ghost use Rattle.keymap_text.specs.Lexical as lexical;
-ghost use Rattle.keymap_text.specs.Inner.Keys.{first_of_sixteen};
+ghost use Rattle.keymap_text.specs.Inner.Keys.{first_of_sixteen, is_from_zero};
 ghost use Rattle.keymap_text.specs.Lexical.{is_blank, is_space, is_word, stays_on_line, separates, leading, is_lone};
 ghost use Rattle.keymap_text.specs.Lexical.{literal, word, front_of, tokens_after, first};
 ghost use Rattle.keymap_text.specs.Meaning.{line};
@@ -195,6 +195,17 @@ pub(crate) fn word_run(bytes: &[u8]) -> usize
     let from_0 = v - u8x16::splat(b'0');
     let others = from_a.simd_ge(u8x16::splat(26)) & from_0.simd_ge(u8x16::splat(10));
     first_set(others.to_bitmask())
+}
+
+/// How many of the first sixteen bytes are among the 128 from `0` on, as all word bytes are, up to one that isn't: this
+/// takes one compare.
+#[inline(always)]
+pub(crate) fn run_from_zero(bytes: &[u8]) -> usize
+    requires { 16 ≤ length bytes.now }
+    ensures { result < 16 → result ≡ leading is_from_zero bytes.now }
+{
+    let from_0 = u8x16::from_slice(bytes) - u8x16::splat(b'0');
+    first_set(from_0.simd_ge(u8x16::splat(128)).to_bitmask())
 }
 
 /// The place of the lowest bit that is set, 16 where none is.

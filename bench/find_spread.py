@@ -19,7 +19,6 @@ from pathlib import Path
 SOURCE = Path(__file__).resolve().parent.parent / "crates/keymap_text/src/names.rt"
 KEPT = (1 << 64) - 1
 HIGHEST = 56
-NO_NAME = 255
 MOST_NAMES = 128
 TRIES = 20_000_000
 
@@ -38,14 +37,14 @@ def candidates():
 
 
 def places_of(keys, spread):
-    """Where each key leads, as a table of indexes; None where two lead to the same place."""
-    places = [NO_NAME] * 256
+    """Where each key leads, as a table of indexes, 0 where none does; None where two lead to the same place."""
+    places = [None] * 256
     for index, key in enumerate(keys):
         place = (key * spread & KEPT) >> HIGHEST
-        if places[place] != NO_NAME:
+        if places[place] is not None:
             return None
         places[place] = index
-    return places
+    return [index or 0 for index in places]
 
 
 def find(keys):

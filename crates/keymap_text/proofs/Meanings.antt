@@ -7,10 +7,11 @@ use Rattle.keymap_text.proofs.Common.{digit_value, named_of, Number, Act, Name, 
 use Rattle.keymap_text.proofs.Common.{KeyMeans, IsTrueName, function_name, screen_name, name_key, ArePlaced, along}
 use Rattle.keymap_text.proofs.Common.{leading, is_word, is_from_zero, raised, meaning, sense_meaning, letters}
 use Rattle.keymap_text.proofs.Common.{meaning_by_names, named, table, digits_of, number, number_after, is_digit}
-use Rattle.keymap_text.proofs.Common.{of_action, subst, length-take-le, take-append-drop}
+use Rattle.keymap_text.proofs.Common.{of_action, ltb-true, subst, length-take-le, take-append-drop}
 use Rattle.std.proofs.lemmas.Str.Ascii.{lowercase-lowercase}
 use Rattle.keymap_core.specs.declared.named.Named.{Named}
 use Rattle.keymap_text.specs.Inner.Keys.{place_of}
+use Rattle.keymap_text.specs.declared.names.TheConstants.{PLACES}
 use Rattle.keymap_text.proofs.Keys.{unpack_packed, raised_words}
 use Rattle.keymap_text.proofs.Leading.{leading_pass, leading_fail, leading_le, leading_part, leading_grows}
 use Rattle.keymap_text.proofs.Numbers.{digits_good, none_of}
@@ -192,6 +193,10 @@ names_true =
 -- no name hides another, by computation
 pub names_placed : ArePlaced NAMES
 names_placed i d h = along (λ i. place_of (name_key (get_or NAMES i d))) (λ i. i) 0 84 refl i (omega arith) h
+
+-- each place is that of a name, by computation
+pub places_inside : (i : ℕ) → i < 256 → get_or PLACES i 0 < length NAMES
+places_inside i h = ltb-true _ _ (along (λ i. nat_lt (get_or PLACES i 0) 84) (λ _. true) 0 256 refl i (omega arith) h)
 
 -- the key of a function key's name means that key, by computation
 pub function_means : (n key : ℕ) → 0 < n → n ≤ 96 → key ≡ function_name n → KeyMeans key (Act (a.Function n))

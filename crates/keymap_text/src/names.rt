@@ -1,7 +1,7 @@
 //! The names of characters, lock letters and actions: one table, by which words are read and control characters are
 //! printed. It sees the letters of one word.
 ghost use Rattle.std.specs.Prelude.{◌≡◌, ◌==◌, ◌⊎◌, ◌≤◌, ◌<◌, if◌then◌else◌, All, IfSome, length, map, take, Some};
-ghost use Rattle.std.specs.Prelude.{ℕ, ◌+◌, ◌*◌, ◌/◌, ◌%◌, None, IsSome, slice_index_or};
+ghost use Rattle.std.specs.Prelude.{ℕ, ◌+◌, ◌*◌, ◌/◌, ◌%◌, None, IsSome, slice_index, slice_index_or};
 ghost use Rattle.keymap_text.specs.Lexical.{leading, is_word};
 ghost use Rattle.keymap_text.specs.Words.{meaning, is_letter, letters, same_name, sense_meaning, meaning_by_names};
 ghost use Rattle.keymap_text.specs.Words.{named, table};
@@ -216,12 +216,14 @@ fn key_at_end(bytes: &[u8], n: usize) -> u64
 fn key_meaning(names: &[Name], key: u64) -> Option<Meaning>
     requires means { All IsTrueName names.now }
     requires placed { ArePlaced names.now }
+    requires inside { (i : ℕ) → i < 256 → slice_index PLACES i < length names.now }
     ensures means { IfSome result (KeyMeans key) }
     ensures found { (i : ℕ) (d : Name) → i < length names.now → name_key (slice_index_or names.now i d) ≡ key
         → IsSome result }
 {
     let place = PLACES[(key.wrapping_mul(SPREAD) / 0x100_0000_0000_0000) as usize] as usize;
-    if place < names.len() && u64::from_le_bytes(names[place].0) == key {
+    prove!(place < names.len());
+    if u64::from_le_bytes(names[place].0) == key {
         Some(meaning_of(names[place].1))
     } else {
         None
@@ -399,19 +401,15 @@ static NAMES: [Name; 84] = [
 /// numbers, as bench/find_spread.py does, which prints it and `PLACES` for the names above.
 const SPREAD: u64 = 0xebcb_a9e4_71cd_1edd;
 
-/// Where the name stands whose key times `SPREAD` has this high byte; 255 where none has.
+/// Where the name stands whose key times `SPREAD` has this high byte; 0, where `nul` is, where none has.
 static PLACES: [u8; 256] = [
-    255, 64, 255, 255, 6, 13, 255, 255, 255, 32, 255, 255, 255, 255, 255, 255, 255, 255, 255, 255,
-    43, 255, 255, 22, 255, 71, 255, 255, 11, 255, 255, 27, 255, 255, 255, 255, 255, 255, 80, 1,
-    255, 76, 255, 66, 255, 61, 45, 79, 59, 7, 78, 255, 58, 255, 255, 9, 4, 255, 255, 255, 12, 255,
-    255, 60, 83, 23, 24, 255, 255, 255, 255, 255, 20, 255, 17, 255, 255, 255, 255, 255, 255, 67,
-    47, 255, 74, 255, 255, 255, 82, 255, 255, 255, 255, 255, 255, 14, 255, 10, 255, 255, 255, 35,
-    21, 255, 255, 255, 255, 255, 255, 70, 255, 5, 255, 255, 255, 255, 41, 255, 255, 255, 255, 255,
-    63, 255, 255, 255, 255, 77, 29, 255, 255, 255, 255, 255, 255, 255, 255, 255, 51, 255, 255, 255,
-    255, 34, 255, 75, 255, 255, 28, 69, 255, 255, 255, 15, 255, 44, 53, 73, 19, 255, 55, 30, 255,
-    48, 255, 255, 255, 255, 255, 255, 255, 255, 255, 255, 255, 255, 255, 255, 255, 255, 255, 46,
-    255, 255, 255, 68, 65, 54, 255, 255, 255, 2, 255, 255, 255, 33, 255, 255, 255, 255, 37, 255,
-    255, 255, 56, 49, 255, 255, 72, 255, 255, 255, 255, 255, 36, 255, 255, 81, 3, 40, 255, 39, 255,
-    255, 255, 255, 25, 57, 255, 8, 255, 255, 255, 255, 38, 255, 255, 255, 255, 50, 255, 26, 31,
-    255, 18, 16, 52, 255, 255, 0, 42, 255, 255, 62, 255, 255,
+    0, 64, 0, 0, 6, 13, 0, 0, 0, 32, 0, 0, 0, 0, 0, 0, 0, 0, 0, 0, 43, 0, 0, 22, 0, 71, 0, 0, 11,
+    0, 0, 27, 0, 0, 0, 0, 0, 0, 80, 1, 0, 76, 0, 66, 0, 61, 45, 79, 59, 7, 78, 0, 58, 0, 0, 9, 4,
+    0, 0, 0, 12, 0, 0, 60, 83, 23, 24, 0, 0, 0, 0, 0, 20, 0, 17, 0, 0, 0, 0, 0, 0, 67, 47, 0, 74,
+    0, 0, 0, 82, 0, 0, 0, 0, 0, 0, 14, 0, 10, 0, 0, 0, 35, 21, 0, 0, 0, 0, 0, 0, 70, 0, 5, 0, 0, 0,
+    0, 41, 0, 0, 0, 0, 0, 63, 0, 0, 0, 0, 77, 29, 0, 0, 0, 0, 0, 0, 0, 0, 0, 51, 0, 0, 0, 0, 34, 0,
+    75, 0, 0, 28, 69, 0, 0, 0, 15, 0, 44, 53, 73, 19, 0, 55, 30, 0, 48, 0, 0, 0, 0, 0, 0, 0, 0, 0,
+    0, 0, 0, 0, 0, 0, 0, 0, 46, 0, 0, 0, 68, 65, 54, 0, 0, 0, 2, 0, 0, 0, 33, 0, 0, 0, 0, 37, 0, 0,
+    0, 56, 49, 0, 0, 72, 0, 0, 0, 0, 0, 36, 0, 0, 81, 3, 40, 0, 39, 0, 0, 0, 0, 25, 57, 0, 8, 0, 0,
+    0, 0, 38, 0, 0, 0, 0, 50, 0, 26, 31, 0, 18, 16, 52, 0, 0, 0, 42, 0, 0, 62, 0, 0,
 ];

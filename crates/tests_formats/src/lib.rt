@@ -3,10 +3,10 @@
 //! what no clause says.
 //!
 //! The modules `surface_of_..` have nothing but what the libraries have for others: each item that a caller may name,
-//! by its name and its signature, in a short test that calls it as an outsider would. Whoever changes one of these items
-//! has to change its test too, and sees there that other programs may stand on it. Types are written out, so that
-//! another result doesn't compile; each enum is matched without a rest, so that another variant doesn't either. What the
-//! calls mean is told by their contracts and by the other tests.
+//! by its name and its signature, in a short test that calls it as an outsider would. Whoever changes one of these
+//! items has to change its test too, and sees there that other programs may stand on it. Types are written out, so that
+//! another result doesn't compile; each enum is matched without a rest, so that another variant doesn't either. What
+//! the calls mean is told by their contracts and by the other tests.
 //!
 //! A crate with tests is proved once more together with them, so the libraries have none of their own. Nothing here is
 //! exported.

@@ -50,6 +50,9 @@ fn are_met(alloc: Global, old: &KeyMap, new: &KeyMap, found: &[Change]) -> Resul
     requires { AreChanges false old.now new.now found.now }
     ensures { IfOk result (λ met. met ≡ true → AreChanges true old.now new.now found.now) }
 {
+    if found.is_empty() {
+        return Ok(true);
+    }
     let some_old = some_sights(alloc, old)?;
     let some_new = some_sights(alloc, new)?;
     for change in found {

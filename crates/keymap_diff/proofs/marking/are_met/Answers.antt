@@ -1,4 +1,5 @@
-use Rattle.std.proofs.Common.{◌<◌, ◌∙◌, false, length, refl, subst, sym, arith, below_more}
+use Rattle.std.proofs.Common.{◌≡◌, ◌<◌, ◌∙◌, false, length, refl, subst, sym, arith, below_more}
+use Rattle.std.proofs.lemmas.Bool.{eqb-true}
 use Rattle.std.proofs.lemmas.List.{get_or_read_under}
 use Rattle.keymap_diff.specs.Inner.Versions.{IsMet}
 use Rattle.keymap_diff.proofs.Known.{known-met, has-accent}
@@ -15,6 +16,12 @@ is_met-requires-clause-accent c =
       c.loop-change-test.true,
       sym (get_or_read_under found n (length found) x x c.change-item.is c.loop-change-test.true refl),
     ))
+
+pub returns-then-is_empty : goal.returns-then-is_empty
+returns-then-is_empty c e =
+    let none : length c.args.found.now ≡ 0 = eqb-true _ 0 (sym c.is_empty.ensures ∙ c.if-is_empty.true) in
+    known-met c.args.old.now c.args.new.now c.args.found.now c.requires
+    (λ x (k, lt, at). absurd (omega (arith, lt, none)))
 
 pub loop-change-preserved : goal.loop-change-preserved
 loop-change-preserved c =

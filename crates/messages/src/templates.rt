@@ -46,12 +46,12 @@ pub fn fill(text: &mut Vec<u8>, words: &[u8], told: &[&[u8]]) -> Result<(), Allo
     }
 }
 
-/// Words with a text at each of their places.
+/// Words with a text at each of their places. Mostly they are no longer than a line.
 pub fn filled(alloc: Global, words: &[u8], told: &[&[u8]]) -> Result<Vec<u8>, AllocError>
     requires { IsTrue (spec.has_places words.now (map (λ t. t.now) told.now)) }
     ensures { IfOk result (λ text. text.items ≡ spec.filled words.now (map (λ t. t.now) told.now)) }
 {
-    let mut text = Vec::new(alloc);
+    let mut text = Vec::with_capacity(alloc, LINE)?;
     fill(&mut text, words, told)?;
     Ok(text)
 }

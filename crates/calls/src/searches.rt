@@ -1,7 +1,4 @@
 //! The calls on what a search of console_states met.
-ghost use Rattle.std.specs.Prelude.{◌≡◌};
-ghost use Rattle.console_states.specs.Moves.{alone};
-ghost use Rattle.console_states.specs.Searching.{under_of};
 
 use crate::devices::mark;
 use crate::inputs::{Call, Lent};
@@ -10,19 +7,8 @@ use console_states::{End, Held, Keymaps, go_out, meet_all, sights_in};
 use keymap_core::{KeyMap, Write};
 use std::alloc::{AllocError, Global};
 
-/// A keymap that no load exchanges.
-fn alone<'m>(map: &'m KeyMap) -> Keymaps<'m>
-    ensures { under_of result ≡ alone result.first.now }
-{
-    Keymaps {
-        first: map,
-        second: map,
-        has_loads: false,
-    }
-}
-
 fn meets_all<W: Write>(alloc: Global, lent: &Lent, marks: &mut W) -> Outcome {
-    let maps = alone(&lent.map);
+    let maps = Keymaps::alone(&lent.map);
     mark(marks);
     let given = meet_all(alloc, &maps, &[Held::start()]);
     mark(marks);
@@ -39,7 +25,7 @@ fn tells_what_is_seen<W: Write>(
     lent: &Lent,
     marks: &mut W,
 ) -> Result<Option<Outcome>, AllocError> {
-    let maps = alone(&lent.map);
+    let maps = Keymaps::alone(&lent.map);
     let (met, end) = meet_all(alloc, &maps, &[Held::start()])?;
     let End::Complete = end else {
         return Ok(None);
@@ -59,7 +45,7 @@ fn tells_the_way<W: Write>(
     lent: &Lent,
     marks: &mut W,
 ) -> Result<Option<Outcome>, AllocError> {
-    let maps = alone(&lent.map);
+    let maps = Keymaps::alone(&lent.map);
     let (met, _) = meet_all(alloc, &maps, &[Held::start()])?;
     if met.len() < 2 {
         return Ok(None);

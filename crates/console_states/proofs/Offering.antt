@@ -4,22 +4,23 @@ use Rattle.console_states.proofs.Common.{◌∷◌, ◌++◌, length, refl, slic
 use Rattle.console_states.proofs.Common.{arith, Contains, Contains-append_left, Contains-push, cases_lt, Scroll}
 use Rattle.console_states.proofs.Common.{Contains-push_cases, slice_get_within, MapValue, Move, LetGo}
 use Rattle.console_states.proofs.Common.{Selection, Offer, Sights, usable, Under, alone, State, start}
-use Rattle.console_states.proofs.Common.{IsPath, state_after, IsForgetful, IsOfferedIn}
+use Rattle.console_states.proofs.Common.{IsMove, IsPath, IsStep, Step, moved, state_after, IsForgetful, IsOfferedIn}
 use Rattle.console_states.proofs.Common.{AreSightsOf, selection_of, state_of, Entry, Entries}
-use Rattle.console_states.proofs.Common.{IsReached, Searched, AreSafe, IsStuck}
+use Rattle.console_states.proofs.Common.{Searched, AreSafe, IsStuck}
 use Rattle.console_states.proofs.Common.{unscrolled, IsBehind, AreBehind, AreOffering, IsOfferedUnlocked}
 use Rattle.console_states.proofs.Common.{AreSelectionsOf, AreOffersOf, IsInSome, rules}
 use Rattle.indexmap.proofs.IndexTableLemmas.Probe.{pigeonhole}
 use Rattle.std.proofs.lemmas.Bool.{true_from_ne_false}
 use Rattle.console_states.specs.Sights.{AreComposed, CanCompose, CanOffer, CanSelect, Enumerates, accents_in}
 use Rattle.console_states.specs.Sights.{IsOfferedAlong}
-use Rattle.console_states.specs.Inner.Adding.{AreAccentsOf}
+use Rattle.console_states.specs.Inner.Adding.{AreAccentsOf, IsLedTo, OffersUnlocked}
 use Rattle.console_states.specs.Searching.{AreMetOnce}
 use Rattle.console_states.proofs.Adding.{empty-none}
 use Rattle.console_states.proofs.Unscrolled.{same-scrolled}
 use Rattle.console_states.proofs.Behind.{behind-offered, behind-more, behind-path, path-split}
 use Rattle.console_states.proofs.Returning.{home-start, IsNear, move-met, near-along, near-met}
 use Rattle.console_states.proofs.Beginning.{reached-one}
+use Rattle.console_states.proofs.Growing.{scroll-left}
 use Rattle.console_states.proofs.Searching.{place_last, same_entry}
 use Rattle.console_states.proofs.Staying.{emptied, emptied-kept, emptied-none}
 use Rattle.console_states.proofs.Visits.{path-first}
@@ -193,51 +194,54 @@ composing-behind m accent met es ys searched behind are = record {
 }
 
 -- Where the accent is offered with no lock on, all let go leads to the start, so all states are behind.
-start-behind : (m : MapValue) (accent : ℕ) (met : Entries) {a b : ℕ} → Searched (alone m) (start ∷ []) met a b
-    → usable m accent ≡ true → IsOfferedUnlocked (alone m) met accent → IsBehind (alone m) accent start
-start-behind m accent met searched can (j, x, at, unlocked, offers) =
+start-behind : (m : MapValue) (accent : ℕ) (s : State) → IsLedTo (alone m) s → usable m accent ≡ true
+    → OffersUnlocked (alone m) s accent → IsBehind (alone m) accent start
+start-behind m accent s (path, is, leads, off) can (unlocked, offers) =
     let u : Under = alone m in
-    let s : State = state_of x.0 in
-    let r : IsReached u start met j x = reached-one searched j x at in
     let here : IsBehind u accent s =
-    behind-offered u r.0 accent r.2 (subst (λ t. IsOfferedIn u t accent) (sym r.3) (can, offers)) r.3 in
-    let first : s.is_second ≡ false = ap (λ t. t.is_second) (sym r.3) ∙ path-first m start r.0 r.2 in
+    behind-offered u path accent is (subst (λ t. IsOfferedIn u t accent) (sym leads) (can, offers)) leads in
+    let first : s.is_second ≡ false = ap (λ t. t.is_second) (sym leads) ∙ path-first m start path is in
     subst (λ t. IsBehind u accent t)
-    (home-start (emptied s) ((λ i. emptied-none s i), unlocked) first r.5)
+    (home-start (emptied s) ((λ i. emptied-none s i), unlocked) first off)
     (emptied-kept (λ t. IsBehind u accent t) (λ t k i there holds. behind-more u accent t (LetGo k i) there holds) s
     here)
 
-pub composing-some : (m : MapValue) (accent : ℕ) (met : Entries) {a b : ℕ} (ys : List Selection)
-    → Searched (alone m) (start ∷ []) met a b → usable m accent ≡ true → IsOfferedUnlocked (alone m) met accent
-    → AreSelectionsOf met ys → (y : Selection) → Contains ys y → CanCompose m accent y
-composing-some m accent met ys searched can offered are y has =
-    let (j, x, at, lt, e) = are.only y has in
-    let r : IsReached (alone m) start met j x = reached-one searched j x at in
-    behind-composes m accent (state_of x.0) y
-    (rw (← r.3) (behind-path (alone m) accent start r.0 (start-behind m accent met searched can offered) r.2))
-    e
+pub composing-some : (m : MapValue) (accent : ℕ) (s : State) (y : Selection) → IsLedTo (alone m) s
+    → usable m accent ≡ true → OffersUnlocked (alone m) s accent → CanSelect m y → CanCompose m accent y
+composing-some m accent s y led can offers (path, is, e) =
+    behind-composes m accent (state_after (alone m) path) y
+    (behind-path (alone m) accent start path (start-behind m accent s led can offers) is) e
+
+-- where a step leads from there
+pub led-on : (u : Under) (s : State) (n : ℕ) (x : Step) → IsLedTo u s → IsStep u s n x → IsLedTo u (state_of x.to)
+led-on u s n x (path, is, leads, off) (move, next, count, leaves) = (
+  x.by ∷ path,
+  (subst (λ t. IsMove u t x.by) (sym leads) move, is),
+  ap (λ t. moved u t x.by) leads ∙ sym next,
+  subst (λ t. t.is_locked Scroll ≡ false) (sym next) (scroll-left u s x.by leaves off),
+)
+
+-- what was met
+led-met : (u : Under) (met : Entries) {a b : ℕ} → Searched u (start ∷ []) met a b → (j : ℕ) (x : Entry)
+    → slice_get met j ≡ Some x → IsLedTo u (state_of x.0)
+led-met u met searched j x at = let r = reached-one searched j x at in (r.0, r.2, r.3, r.5)
 
 pub composing-all : (m : MapValue) (accent : ℕ) (met : Entries) (ys : List Selection)
     → Searched (alone m) (start ∷ []) met (length met) (length met) → usable m accent ≡ true
     → IsOfferedUnlocked (alone m) met accent → AreSelectionsOf met ys → Enumerates (CanCompose m accent) ys
-composing-all m accent met ys searched can offered are = record {
+composing-all m accent met ys searched can (i, z, here, offers) are = record {
   all = λ y (path, is, along, e).
       let (j, x, at, near) = near-met (alone m) met searched path is in
       are.all y (j, x, at, slice_get_within met j x at, ap (λ s. selection_of s) near ∙ e);
-  only = λ y has. composing-some m accent met ys searched can offered are y has;
+  only = λ y has.
+      let (j, x, at, lt, e) = are.only y has in
+      let (path, is, leads, off) = led-met (alone m) met searched j x at in
+      composing-some m accent (state_of z.0) y (led-met (alone m) met searched i z here) can offers
+      (path, is, ap (λ s. selection_of s) leads ∙ e);
   once = are.once;
 }
 
 -- ---- all together
-
--- what was met can be selected
-pub selecting-some : (m : MapValue) (met : Entries) {a b : ℕ} (ys : List Selection)
-    → Searched (alone m) (start ∷ []) met a b → AreSelectionsOf met ys → (y : Selection) → Contains ys y
-    → CanSelect m y
-selecting-some m met ys searched are y has =
-    let (j, x, at, lt, e) = are.only y has in
-    let r : IsReached (alone m) start met j x = reached-one searched j x at in
-    (r.0, r.2, ap (λ s. selection_of s) r.3 ∙ e)
 
 -- the offers of a further accent
 accents-push : (offers : List Offer) (o : Offer) → accents_in (offers ++ o ∷ []) ≡ accents_in offers ++ o.accent ∷ []

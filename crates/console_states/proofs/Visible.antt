@@ -116,13 +116,17 @@ sees-some m s are (sight.Locks slot caps num) e =
     let (path, is, leads) = are.selections y there in
     (path, is, tt, (k, lt, subst (λ z. SeesBy m z k (sight.Locks slot caps num)) (sym leads) sees))
 
+-- all that can be seen is some of it
+pub sights-some : (m : MapValue) (s : Sights) → AreSightsOf m s → AreSomeSights m s
+sights-some m s are = record {
+  selections = are.selections.only;
+  composing = λ o has. (are.composing o has).only;
+  forgets = are.forgets.0;
+}
+
 -- what can be seen passes the test, and nothing else
 pub sees-all : (m : MapValue) (s : Sights) → AreSightsOf m s → (x : Sight) → can_see m s x ≡ true → IsReachable m x
-sees-all m s are x e =
-    sees-some m s (record {
-      selections = are.selections.only;
-      composing = λ o has. (are.composing o has).only;
-    }) x e
+sees-all m s are x e = sees-some m s (sights-some m s are) x e
 
 pub all-seen : (m : MapValue) (s : Sights) → AreSightsOf m s → (x : Sight) → IsReachable m x → can_see m s x ≡ true
 all-seen m s are (sight.Pair accent c) (path, is, offered, (k, lt, sees)) =

@@ -155,10 +155,11 @@ abbrev pub AreComposed : MapValue → List Offer → Type 0
 AreComposed m offers =
     (o : Offer) → Contains offers o → (y : Selection) → Contains o.selections.items y → CanCompose m o.accent y
 
--- What a search found is some of what moves lead to.
+-- What was found is some of what moves lead to.
 pub record AreSomeSights (m : MapValue) (x : Sights) : Type 0 where
   pub selections : (y : Selection) → Contains x.selections.items y → CanSelect m y
   pub composing : AreComposed m x.offers.items
+  pub forgets : x.forgets ≡ true → CanForget m
 
 -- What a press after a list sees can be seen: after all lists if no path leads to where a holder looks up a character,
 -- and else after clean ones.

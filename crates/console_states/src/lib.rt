@@ -14,6 +14,7 @@
 //! No call takes memory but these, `sights_in`, and those that push events, and none fails but for want of memory.
 #![tactic(auto)]
 
+mod few;
 mod held;
 mod key_lists;
 pub mod laws;

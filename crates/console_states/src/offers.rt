@@ -4,12 +4,12 @@ ghost use Rattle.std.specs.Prelude.{◌≡◌, ◌++◌, ◌∷◌, [], ℕ, Lis
 ghost use Rattle.std.specs.List.{Contains};
 ghost use Rattle.keymap_core.specs.Numbers.{key_count};
 ghost use Rattle.console_core.specs.Answers.{usable};
-ghost use Rattle.console_states.specs.Moves.{alone, start};
+ghost use Rattle.console_states.specs.Moves.{alone};
 ghost use Rattle.console_states.specs.Sights.{AreComposed, CanCompose, Enumerates};
-ghost use Rattle.console_states.specs.Searching.{state_of, under_of, HasMetAll, Searched};
+ghost use Rattle.console_states.specs.Searching.{state_of, under_of, HasMetAll};
 ghost use Rattle.console_states.specs.Inner.Adding.{IsWith, AddsOffer, AddsOffers, AreAccentsOf, AreSelectionsOf};
 ghost use Rattle.console_states.specs.Inner.Adding.{IsOfferedUnlocked, AreUnlocked, AreOffering};
-ghost use Rattle.console_states.specs.Inner.Adding.{AreBehind, AreOffersOf};
+ghost use Rattle.console_states.specs.Inner.Adding.{AreBehind, AreLedTo, AreOffersOf, CanSelectEach};
 ghost use Rattle.console_states.specs.Inner.KeyLists.{AreKeysOf};
 ghost use Rattle.console_states.specs.declared.key_lists.CellKind.TheVariants.{DeadKey};
 
@@ -192,37 +192,36 @@ fn offers_by(
     Ok(offers)
 }
 
-/// The accents that are offered in the states that were met and where no lock is on.
-fn unlocked_accents(alloc: Global, met: &Met, maps: &Keymaps) -> Result<Vec<u8>, AllocError>
-    ensures { IfOk result (λ accents. AreUnlocked (under_of maps.now) met.now.entries accents.items) }
+/// The accents that are offered in those of the states where no lock is on.
+fn unlocked_accents(alloc: Global, states: &[Held], maps: &Keymaps) -> Result<Vec<u8>, AllocError>
+    ensures { IfOk result (λ accents. AreUnlocked (under_of maps.now) states.now accents.items) }
 {
     let keys = dead_keys(alloc, maps)?;
     let mut accents = Vec::new(alloc);
-    for place in 0..met.len() {
-        let (held, _) = entry(met, place);
+    for held in states {
         if held.is_any_locked() {
             continue;
         }
-        add_offers(&mut accents, maps, &held, keys.as_slice())?;
+        add_offers(&mut accents, maps, held, keys.as_slice())?;
     }
     Ok(accents)
 }
 
-/// Of the accents, those that are offered where no lock is on, and some of what can be looked up while they are
-/// pending.
+/// Of the accents, those that are offered in one of the states where no lock is on, and some of what can be looked up
+/// while they are pending.
 pub fn some_offers(
     alloc: Global,
-    met: &Met,
+    states: &[Held],
     maps: &Keymaps,
     some: &[Selection],
 ) -> Result<Vec<Offer>, AllocError>
     requires alone { under_of maps.now ≡ alone maps.now.first.now }
-    requires met { Searched (alone maps.now.first.now) (start ∷ []) met.now.entries 0 0 }
-    requires some { AreSelectionsOf met.now.entries some.now }
+    requires led { AreLedTo (under_of maps.now) states.now }
+    requires some { CanSelectEach maps.now.first.now some.now }
     ensures { IfOk result (λ offers. AreComposed maps.now.first.now offers.items) }
 {
     let mut offers = Vec::new(alloc);
-    let accents = unlocked_accents(alloc, met, maps)?;
+    let accents = unlocked_accents(alloc, states, maps)?;
     for accent in &accents {
         let selections = copied(alloc, some)?;
         push_offer(

@@ -288,28 +288,6 @@ pub fn meet_all(alloc: Global, maps: &Keymaps, origins: &[Held]) -> Result<(Met,
     Ok((met, End::Complete))
 }
 
-/// Meets the states that at most three presses lead to from the start, and maybe more; not all if they are too many.
-pub(crate) fn meet_few(alloc: Global, maps: &Keymaps) -> Result<Met, AllocError>
-    ensures { IfOk result (λ met. Searched (under_of maps.now) (start ∷ []) met.entries 0 0) }
-{
-    let keys = moving_keys(alloc, maps)?;
-    let mut met = begin(alloc, &[Held::start()])?;
-    let mut level = 0;
-    for presses in 0..3 {
-        close(&mut met, maps, level, presses)?;
-        if met.len() > BOUND {
-            return Ok(met);
-        }
-        let end = met.len();
-        press(&mut met, maps, keys.as_slice(), level, presses)?;
-        if met.len() > BOUND {
-            return Ok(met);
-        }
-        level = end;
-    }
-    Ok(met)
-}
-
 /// The first place where a key that holds a modifier looks up a character.
 pub fn first_stuck(met: &Met, maps: &Keymaps) -> Option<Stuck>
     ensures { MatchOption result (AreSafe (under_of maps.now) met.now.entries (length met.now.entries))
@@ -345,12 +323,7 @@ fn decide(alloc: Global, maps: &Keymaps) -> Result<Sticking, AllocError>
 pub fn sticking(alloc: Global, map: &KeyMap) -> Result<Sticking, AllocError>
     ensures { IfOk result (λ answer. IsAnswer map.now answer) }
 {
-    let maps = Keymaps {
-        first: map,
-        second: map,
-        has_loads: false,
-    };
-    decide(alloc, &maps)
+    decide(alloc, &Keymaps::alone(map))
 }
 
 /// Decides whether two keymaps, the first one in force to begin with, can leave a modifier on while no key is pressed,

@@ -1,16 +1,18 @@
 //! What presses of keys can see: what the states that the search meets tell of that.
 ghost use Rattle.std.specs.Prelude.{◌≡◌, ℕ, false, true, OnOk, IfOk, MatchOption};
 ghost use Rattle.std.specs.List.{Contains};
+ghost use Rattle.keymap_core.specs.Maps.{MapValue};
 ghost use Rattle.console_states.specs.Moves.{alone};
 ghost use Rattle.console_states.specs.Sticking.{ReachesMoreThan, state_limit};
 ghost use Rattle.console_states.specs.Sights.{AreSightsOf, AreSomeSights, IsReachable, can_see, is_selected};
 ghost use Rattle.console_states.specs.Sights.{is_composed};
 ghost use Rattle.console_states.specs.Searching.{HasMetAll};
-ghost use Rattle.console_states.specs.Inner.Adding.{IsWith, AreSelectionsOf};
+ghost use Rattle.console_states.specs.Inner.Adding.{AreLedTo, AreSelectionsOf, CanSelectEach, IsWith};
 
+use crate::few::few_states;
 use crate::held::{Held, Keymaps};
 use crate::offers::{offers_of, some_offers};
-use crate::search::{End, Met, entry, first_stuck, meet_all, meet_few};
+use crate::search::{End, Met, entry, first_stuck, meet_all};
 use crate::selection::{Selection, Sight};
 use keymap_core::KeyMap;
 use std::alloc::{AllocError, Global};
@@ -22,7 +24,8 @@ pub struct Sights {
     pub selections: Vec<Selection>,
     /// The usable accents whose dead keys are looked up by keys that hold nothing, each once.
     pub offers: Vec<Offer>,
-    /// Whether a key that holds a modifier looks up a character, so that the modifier can be forgotten.
+    /// Whether a key that holds a modifier looks up a character, so that the modifier can be forgotten. Where these are
+    /// some sights alone, that isn't asked.
     pub forgets: bool,
 }
 
@@ -144,11 +147,7 @@ pub fn sights_of(alloc: Global, map: &KeyMap) -> Result<Option<Sights>, AllocErr
     ensures { IfOk result (λ x. MatchOption x ((p : ℕ) × ReachesMoreThan (alone map.now) state_limit p)
         (λ s. AreSightsOf map.now s)) }
 {
-    let maps = Keymaps {
-        first: map,
-        second: map,
-        has_loads: false,
-    };
+    let maps = Keymaps::alone(map);
     let (met, end) = meet_all(alloc, &maps, &[Held::start()])?;
     match end {
         End::Complete => Ok(Some(sights_in(alloc, &met, &maps)?)),
@@ -156,21 +155,28 @@ pub fn sights_of(alloc: Global, map: &KeyMap) -> Result<Option<Sights>, AllocErr
     }
 }
 
+/// The selections of the states.
+fn some_selections(alloc: Global, states: &[Held]) -> Result<Vec<Selection>, AllocError>
+    ensures { IfOk result (λ v. (m : MapValue) → AreLedTo (alone m) states.now → CanSelectEach m v.items) }
+{
+    let mut selections = Vec::new(alloc);
+    for held in states {
+        selections.push(held.selection())?;
+    }
+    Ok(selections)
+}
+
 /// Some of what presses of keys can see under the keymap: what those can that a few presses lead to.
 pub fn some_sights(alloc: Global, map: &KeyMap) -> Result<Sights, AllocError>
     ensures { IfOk result (λ x. AreSomeSights map.now x) }
 {
-    let maps = Keymaps {
-        first: map,
-        second: map,
-        has_loads: false,
-    };
-    let met = meet_few(alloc, &maps)?;
-    let selections = selections_of(alloc, &met)?;
-    let offers = some_offers(alloc, &met, &maps, &selections)?;
+    let maps = Keymaps::alone(map);
+    let states = few_states(alloc, &maps)?;
+    let selections = some_selections(alloc, &states)?;
+    let offers = some_offers(alloc, &states, &maps, &selections)?;
     Ok(Sights {
         selections,
         offers,
-        forgets: first_stuck(&met, &maps).is_some(),
+        forgets: false,
     })
 }

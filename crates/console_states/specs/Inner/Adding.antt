@@ -1,15 +1,16 @@
--- What is added of the states that a search met. Mirrors src/sights.rt and src/offers.rt.
-use Rattle.std.specs.Prelude.{◌≡◌, ◌≢◌, ◌<◌, ◌⊎◌, ℕ, false, true, List, length, [], ◌∷◌, ◌++◌, Some, slice_get}
+-- What is added of the states that a search met, or of a few. Mirrors src/sights.rt, src/offers.rt and src/few.rt.
+use Rattle.std.specs.Prelude.{◌≡◌, ◌≢◌, ◌<◌, ◌⊎◌, ℕ, false, true, List, length, [], ◌∷◌, ◌++◌, Some, slice_get, All}
 use Rattle.std.specs.List.{Contains}
 use Rattle.keymap_core.specs.declared.action.Lock.{Lock}
 use Rattle.keymap_core.specs.declared.action.Lock.TheVariants.{Scroll}
 use Rattle.keymap_core.specs.Maps.{MapValue}
 use Rattle.keymap_core.specs.Numbers.{key_count}
 use Rattle.console_states.specs.Types.{Move, Selection, Sight, Offer}
+use Rattle.console_states.specs.declared.held.Held.{Held}
 use Rattle.console_core.specs.Answers.{usable}
 use Rattle.console_states.specs.Moves.{Under, State, IsPath, state_after}
-use Rattle.console_states.specs.Sights.{CanCompose, Offers, IsOfferedIn, IsOfferedAlong, HasNoDoubles, Enumerates}
-use Rattle.console_states.specs.Sights.{accents_in}
+use Rattle.console_states.specs.Sights.{CanCompose, CanSelect, Offers, IsOfferedIn, IsOfferedAlong, HasNoDoubles}
+use Rattle.console_states.specs.Sights.{Enumerates, accents_in}
 use Rattle.console_states.specs.Sights.{selection_of, SeesBy}
 use Rattle.console_states.specs.Searching.{state_of, Entry, Entries, Searched}
 
@@ -49,16 +50,31 @@ AreAccentsOf u es accents = Enumerates (λ a. IsInSome es (length es) (λ s. IsO
 abbrev pub IsUnlocked : State → Type 0
 IsUnlocked s = (l : Lock) → l ≢ Scroll → s.is_locked l ≡ false
 
--- the accent is offered in a state that was met and where no lock is on
+-- no lock is on in the state, and some key offers the accent
+abbrev pub OffersUnlocked : Under → State → ℕ → Type 0
+OffersUnlocked u s accent = IsUnlocked s × ((k : ℕ) × (k < key_count) × Offers u s k accent)
+
+-- so it is in a state that was met
 abbrev pub IsOfferedUnlocked : Under → Entries → ℕ → Type 0
 IsOfferedUnlocked u es accent =
-    (j : ℕ) × (x : Entry) × (slice_get es j ≡ Some x) × IsUnlocked (state_of x.0)
-    × ((k : ℕ) × (k < key_count) × Offers u (state_of x.0) k accent)
+    (j : ℕ) × (x : Entry) × (slice_get es j ≡ Some x) × OffersUnlocked u (state_of x.0) accent
 
--- the accents are usable, and offered in states that were met and where no lock is on
-abbrev pub AreUnlocked : Under → Entries → List ℕ → Type 0
-AreUnlocked u es accents =
-    (a : ℕ) → Contains accents a → (usable u.maps.first a ≡ true) × IsOfferedUnlocked u es a
+-- a path of moves leads to the state, and the scroll lock is off there
+abbrev pub IsLedTo : Under → State → Type 0
+IsLedTo u s = (path : List Move) × IsPath u path × (state_after u path ≡ s) × (s.is_locked Scroll ≡ false)
+
+abbrev pub AreLedTo : Under → List Held → Type 0
+AreLedTo u states = All (λ h. IsLedTo u (state_of h)) states
+
+-- moves lead to each of the selections
+abbrev pub CanSelectEach : MapValue → List Selection → Type 0
+CanSelectEach m ys = (y : Selection) → Contains ys y → CanSelect m y
+
+-- each of the accents is usable, and offered in one of the states where no lock is on
+abbrev pub AreUnlocked : Under → List Held → List ℕ → Type 0
+AreUnlocked u states accents =
+    (a : ℕ) → Contains accents a
+    → (usable u.maps.first a ≡ true) × ((h : Held) × Contains states h × OffersUnlocked u (state_of h) a)
 
 -- a path leads to the state along which the accent is offered
 abbrev pub IsBehind : Under → ℕ → State → Type 0

@@ -10,7 +10,8 @@ ghost use Rattle.keymap_core.specs.declared.action.Lock.TheVariants.{Caps, Num, 
 ghost use Rattle.keymap_core.specs.declared.action.Lock.{Lock as LockValue};
 ghost use Rattle.keymap_core.specs.declared.action.Action.TheVariants.{DeadKey, Lock as LockAction};
 ghost use Rattle.keymap_core.specs.declared.entry.Cell.TheVariants.{Act};
-ghost use Rattle.console_states.specs.Moves.{Under, start as start_state, is_held as is_held_in, look_in, IsIdle};
+ghost use Rattle.console_states.specs.Moves.{Under, alone, start as start_state, is_held as is_held_in};
+ghost use Rattle.console_states.specs.Moves.{look_in, IsIdle};
 ghost use Rattle.console_states.specs.Moves.{map_in, next_map, exchanged as exchanged_in, IsFree, free_with};
 ghost use Rattle.console_states.specs.Moves.{with_holder as with_holder_in, with_lock_turned, HolderForgets};
 ghost use Rattle.console_states.specs.Moves.{HaveSameLocks, IsForgetful, IsRepeated, IsSteady};
@@ -29,6 +30,20 @@ use keymap_core::{
 };
 use std::alloc::AllocError;
 use std::hash::{Hash, Hasher};
+
+impl<'m> Keymaps<'m> {
+    /// A keymap alone, without loads.
+    pub fn alone(map: &'m KeyMap) -> Keymaps<'m>
+        ensures alone { under_of result ≡ alone map.now }
+        ensures first { result.first.now ≡ map.now }
+    {
+        Keymaps {
+            first: map,
+            second: map,
+            has_loads: false,
+        }
+    }
+}
 
 impl Move {
     /// Adds the events of the move, in their order.

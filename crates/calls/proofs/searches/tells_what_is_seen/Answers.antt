@@ -1,16 +1,12 @@
-use Rattle.std.proofs.Common.{[], ◌∷◌, subst}
-use Rattle.console_states.specs.Moves.{Under, alone, start}
-use Rattle.console_states.specs.Searching.{HasEnded, under_of}
+use Rattle.console_states.specs.Moves.{start}
 use Rattle.console_states.specs.declared.search.End.TheVariants.{Complete}
+use Rattle.console_states.proofs.Reaching.{ended-alone, met-alone}
 use Rattle.calls.proofs.searches.tells_what_is_seen.Goals as goal
 
 pub sights_in-given-requires : goal.sights_in-given-requires
 sights_in-given-requires g c =
-    let u : Under = alone c.alone-maps.result.first.now in
     let es = c.in_ok-met.met.entries in
-    let ended : HasEnded u (start ∷ []) es Complete =
-    subst (λ o. HasEnded u (start ∷ []) es o) c.in-Complete.is
-    (subst (λ v. HasEnded v (start ∷ []) es c.in_ok-met.end) c.alone-maps.ensures
-    (subst (λ s. HasEnded (under_of c.alone-maps.result) (s ∷ []) es c.in_ok-met.end) c.start.ensures
-    c.in_ok-met.ensures)) in
-    (c.alone-maps.ensures, ended.is.0, ended.is.1)
+    let map = c.alone-maps.ensures in
+    let ended =
+    ended-alone _ _ es _ start _ Complete map.alone c.start.ensures c.in-Complete.is c.in_ok-met.ensures in
+    met-alone c.alone-maps.result _ es map.alone map.first ended.is.0 ended.is.1

@@ -8,6 +8,8 @@ returns-in-Some c =
       c.loop-place.place,
       c.entry-held.result,
       c.entry-held.ensures,
-      all-off (state_of c.entry-held.result.0).is_locked (c.if-not-is_any_locked.ensures.unlocked refl),
-      (c.in-Some.field-0, c.in-Some.ensures.0, c.in-Some.ensures.1),
+      (
+        all-off (state_of c.entry-held.result.0).is_locked (c.if-not-is_any_locked.ensures.unlocked refl),
+        (c.in-Some.field-0, c.in-Some.ensures.0, c.in-Some.ensures.1),
+      ),
     )

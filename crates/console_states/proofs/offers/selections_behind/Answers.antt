@@ -1,4 +1,4 @@
-use Rattle.console_states.proofs.Common.{◌≡◌, refl, subst, sym, IsOfferedUnlocked, AreBehind, AreSelectionsOf}
+use Rattle.console_states.proofs.Common.{refl, subst, sym, IsOfferedUnlocked, AreBehind, AreSelectionsOf}
 use Rattle.console_states.proofs.Offering.{composing-all, composing-behind}
 use Rattle.console_states.proofs.Results.{ok-then}
 use Rattle.console_states.proofs.offers.selections_behind.Goals as goal

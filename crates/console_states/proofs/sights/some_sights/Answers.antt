@@ -1,14 +1,28 @@
-use Rattle.console_states.proofs.Common.{subst, sym, refl, AreSelectionsOf}
-use Rattle.console_states.proofs.Offering.{selecting-some}
+use Rattle.console_states.proofs.Common.{alone, false≢true, subst, sym, under_of}
+use Rattle.console_states.specs.Sights.{AreComposed}
+use Rattle.console_states.specs.Inner.Adding.{AreLedTo, CanSelectEach}
 use Rattle.console_states.proofs.sights.some_sights.Goals as goal
+
+pub some_offers-requires-clause-led : goal.some_offers-requires-clause-led
+some_offers-requires-clause-led c =
+    subst (λ z. AreLedTo (under_of c.alone-maps.result) z) (sym c.deref-2.ensures.value) c.in_ok-states.ensures
 
 pub some_offers-requires-clause-some : goal.some_offers-requires-clause-some
 some_offers-requires-clause-some c =
-    subst (λ z. AreSelectionsOf c.in_ok-met.met.entries z) (sym c.deref.ensures.value) c.in_ok-selections.ensures
+    let map = c.alone-maps.ensures in
+    subst (λ m. CanSelectEach m c.deref-3.result.now) (sym map.first)
+    (subst (λ z. CanSelectEach c.args.map.now z) (sym c.deref-3.ensures.value)
+    (c.in_ok-selections.ensures c.args.map.now
+    (subst (λ z. AreLedTo (alone c.args.map.now) z) (sym c.deref.ensures.value)
+    (subst (λ u. AreLedTo u c.in_ok-states.states.items) map.alone c.in_ok-states.ensures))))
 
 pub returns : goal.returns
-returns c = record {
-  selections = selecting-some c.args.map.now c.in_ok-met.met.entries c.in_ok-selections.selections.items
-      c.in_ok-met.ensures c.in_ok-selections.ensures;
-  composing = c.in_ok-offers.ensures;
-}
+returns c =
+    let map = c.alone-maps.ensures in
+    record {
+      selections = c.in_ok-selections.ensures c.args.map.now
+          (subst (λ z. AreLedTo (alone c.args.map.now) z) (sym c.deref.ensures.value)
+          (subst (λ u. AreLedTo u c.in_ok-states.states.items) map.alone c.in_ok-states.ensures));
+      composing = subst (λ m. AreComposed m c.in_ok-offers.offers.items) map.first c.in_ok-offers.ensures;
+      forgets = λ e. absurd (false≢true e);
+    }

@@ -1,0 +1,50 @@
+//! A few of the states that presses lead to, for who can do with some of what presses see.
+ghost use Rattle.std.specs.Prelude.{OnOk, IfOk};
+ghost use Rattle.console_states.specs.Searching.{under_of};
+ghost use Rattle.console_states.specs.Inner.Adding.{AreLedTo};
+
+use crate::held::{Held, Keymaps};
+use keymap_core::{KEY_COUNT, KeyCode, key_with};
+use std::alloc::{AllocError, Global};
+
+/// Whether one of the states has the selection of this one.
+fn has_selection_of(states: &[Held], held: &Held) -> bool {
+    let selection = held.selection();
+    for state in states {
+        if state.selection() == selection {
+            return true;
+        }
+    }
+    false
+}
+
+/// Adds where a press of the key leads from each of the states.
+fn push_pressed(states: &mut Vec<Held>, maps: &Keymaps, key: KeyCode) -> Result<(), AllocError>
+    requires { AreLedTo (under_of maps.now) states.old.items }
+    ensures { OnOk result (AreLedTo (under_of maps.now) states.new.items) }
+{
+    for place in 0..states.len() {
+        if let Some(step) = states[place].pressed(maps, key) {
+            states.push(step.to)?;
+        }
+    }
+    Ok(())
+}
+
+/// Some states that presses lead to: for each of shift, control, alt, the upper half and the locks that flip shift that
+/// one press at the start turns on, a key that does, and these keys together. So they are at most 64.
+pub(crate) fn few_states(alloc: Global, maps: &Keymaps) -> Result<Vec<Held>, AllocError>
+    ensures { IfOk result (λ states. AreLedTo (under_of maps.now) states.items) }
+{
+    let mut states = Vec::new(alloc);
+    states.push(Held::start())?;
+    for code in 0..KEY_COUNT as u8 {
+        let key = key_with(code);
+        if let Some(step) = Held::start().pressed(maps, key) {
+            if !has_selection_of(&states, &step.to) {
+                push_pressed(&mut states, maps, key)?;
+            }
+        }
+    }
+    Ok(states)
+}

@@ -1,4 +1,5 @@
 -- Two consoles of two keymaps stay alike as long as no press shows a difference, and answer alike.
+use Rattle.std.proofs.Common.{rules}
 use Rattle.keymap_diff.proofs.Common.{◌≡◌, ℕ, ◌<◌, ◌≤◌, Bool, List, [], ◌∷◌, ◌++◌, Some, None, false, refl, ap, subst}
 use Rattle.keymap_diff.proofs.Common.{sym, ◌∙◌, inl, inr, arith, true≢false, reverse, All-head, append-nil, Action}
 use Rattle.keymap_diff.proofs.Common.{Char, Act, Event, Press, Release, Reset, Load, MapValue, answer_release}
@@ -85,11 +86,7 @@ more-release m n h k alike = (
 
 more-reset : (m n : MapValue) (h : List Event) → AlikeAfter m n h
     → AlikeAfter m n (Reset ∷ h) × IsAnsweredAlike m n (Reset ∷ h)
-more-reset m n h alike = (
-  rw (resolved-more (between m m) h Reset, resolved-more (between n n) h Reset)
-      (alike-reset m n (resolved (between m m) h) (resolved (between n n) h) alike),
-  refl,
-)
+more-reset m n h alike = search (rules, resolved-more, alike-reset)
 
 -- Where fewer than b presses show nothing, whatever list of at most b presses comes: the consoles stay alike, and
 -- answer alike.

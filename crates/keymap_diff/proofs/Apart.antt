@@ -6,10 +6,10 @@ use Rattle.keymap_diff.proofs.Common.{All-cons, MatchOption, MapValue, Move, Eve
 use Rattle.keymap_diff.proofs.Common.{between, alone, Under, State, start, IsIdle, IsPathFrom, look_in, state_after}
 use Rattle.keymap_diff.proofs.Common.{state_from, presses_along, events_along, presses, state_of, Entries, IsReached}
 use Rattle.keymap_diff.proofs.Common.{IsTrail, TellsApart, answer_to, Answer, ◌≢◌, NoneShows, Shows, ShowsNothing}
-use Rattle.keymap_diff.proofs.Common.{AreCellsClear, ArePlain, ArePlainClear, IsPlain, LooksUpPlain, Gives, MakesSame}
+use Rattle.keymap_diff.proofs.Common.{AreCellsClear, ArePlain, ArePlainClear, LooksUpPlain}
 use Rattle.keymap_diff.proofs.Common.{Bool, false, cases_Bool, eqb-true, ◌==◌, ◌⊎◌, All, All-head, All-tail, Entry}
 use Rattle.keymap_diff.proofs.Common.{slice_get, slice_get_within}
-use Rattle.keymap_diff.proofs.Common.{resolved, look, looked_up, accent_at, composed_by}
+use Rattle.keymap_diff.proofs.Common.{accent_at, composed_by}
 use Rattle.keymap_core.specs.Accents.{AccentValue, first_result}
 use Rattle.keymap_core.specs.Bounds.{IsAccent, IsMap, IsPair}
 use Rattle.std.proofs.lemmas.Option.{get_or_from_slice_get}
@@ -68,14 +68,7 @@ script-told m n h s p k q x key told count (Undecided r) is = absurd is
 -- where both consoles stand alike the key looks up what it does in the state
 looks-plain : (m n : MapValue) (h : List Event) (s : State) (p : Option ℕ) (k : ℕ) → Placed m n h s p → ArePlain m n s k
     → LooksUpPlain m n (Press k ∷ h)
-looks-plain m n h s p k x (plain, plain_too) = (
-  subst IsPlain
-      (sym (ap (λ z. look z (resolved (between m m) h) k) (one_in_force m h)
-      ∙ look-is m (resolved (between m m) h) s k x.first.stands.exact.follows)) plain,
-  subst IsPlain
-      (sym (ap (λ z. look z (resolved (between n n) h) k) (one_in_force n h)
-      ∙ look-is n (resolved (between n n) h) s k x.second.exact.follows)) plain_too,
-)
+looks-plain m n h s p k x (plain, plain_too) = search (rules, one_in_force, look-is)
 
 -- the key looks up plain cells there, or why the script is taken nonetheless
 abbrev pub IsSettledAt : MapValue → MapValue → State → ℕ → ℕ → Bool → Type 0
@@ -192,14 +185,7 @@ zero-made m i bounds = by (accent_at m i) refl
 -- so a key that shows something while the accent is pending looks up plain cells
 accent-plain : (m n : MapValue) (s : State) (k i : ℕ) → IsMap m → IsMap n → ShowsNothing m n None s k
     → Shows m n (Some i) s k → ArePlain m n s k
-accent-plain m n s k i bounds also nothing (c, gives, unlike) =
-    (by m gives, by n (gives-too m n s k i c nothing gives))
-  where
-    by : (o : MapValue) → Gives o i s k c → IsPlain (looked_up o s k)
-    by o (inl seen) =
-        subst IsPlain (sym seen)
-        (λ e. unlike (subst (λ z. MakesSame m n i z) (sym e) (zero-made m i bounds ∙ sym (zero-made n i also))))
-    by o (inr (idle, seen, blank)) = subst IsPlain (sym seen) (λ e. cc)
+accent-plain m n s k i bounds also nothing (c, gives, unlike) = search (rules, gives-too, zero-made)
 
 -- where something shows behind a tap of the accent's dead key
 pub accent-told : (m n : MapValue) (i : ℕ) (es : Entries) (place presses : ℕ) (x : SearchedValue) → IsMap m → IsMap n

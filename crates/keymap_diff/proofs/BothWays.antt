@@ -45,11 +45,8 @@ no-load Load is = absurd (true≢false (sym is))
 
 told-admitted : (m n : MapValue) (forgets : Bool) (h : List Event) (old new : Answer) → IsSafe m
     → IsToldBy n m h old new → IsAdmitted m forgets h
-told-admitted m n forgets h old new safe told = (
-  told.keys,
-  All-weaker IsPressOrRelease IsNoLoad no-load h told.sent,
-  (λ e. safe_lists_are_clean m h safe told.keys),
-)
+told-admitted m n forgets h old new safe told =
+    search (rules, All-weaker, no-load, safe_lists_are_clean)
 
 apart-too : (m n : MapValue) (h : List Event) → TellsApart n m h → TellsApart m n h
 apart-too m n [] apart same = apart tt

@@ -12,7 +12,7 @@ use Rattle.keymap_diff.specs.Inner.Searches.{AreNear, GoesBeyond, IsClearBehind,
 use Rattle.keymap_diff.specs.Inner.Searches.{IsFoundBy, IsMetAt, NonePlainFrom, bound_by}
 use Rattle.keymap_diff.specs.declared.telling.Telling.{Telling}
 use Rattle.keymap_diff.specs.declared.telling.Telling.TheVariants.{Told, Never, Undecided}
-use Rattle.keymap_diff.proofs.Common.{Bool, false, true, same_Some}
+use Rattle.keymap_diff.proofs.Common.{Bool, same_Some}
 use Rattle.keymap_diff.specs.Inner.Showing.{NoneShowsBelow, IsFirstShown}
 use Rattle.keymap_diff.specs.declared.searched.Searched.{Searched}
 use Rattle.keymap_diff.specs.declared.showing.Shown.{Shown}
@@ -98,9 +98,7 @@ searched-cells m n x s b within path is lt =
 -- something shows by as many presses as the place was met by
 pub reach-is : (m n : MapValue) (os : List State) (p : Option ℕ) (x : Searched) (at : Shown) (q : ℕ)
     → IsSearched m n os p x → x.shown ≡ Some at → IsMetAt x.met.entries at.place q → x.reach ≡ Some q
-reach-is m n os p x at q s shown (y, here, e) =
-    let (r, same, (z, there, f)) = subst (λ o. IsReach x.met.entries x.end o x.reach) shown s.reach in
-    same ∙ ap (λ v. Some v) (f ∙ ap (λ w. w.1.presses) (same_Some z y (sym there ∙ here)) ∙ sym e)
+reach-is m n os p x at q s shown (y, here, e) = search (rules, same_Some)
 
 -- Where q presses lead from the start and the search went on beyond, no key that looks up plain cells shows anything,
 -- if none did from the first place on where something showed.
@@ -126,27 +124,16 @@ searched-plain m n x at q s shown beyond none path is lt k key =
 
     earlier : (j : ℕ) (y : Entry) → slice_get x.met.entries j ≡ Some y → j < at.place
         → ShowsNothing m n None (state_of y.0) k
-    earlier j y there before =
-        let (z, here, last, something, below) =
-        subst (λ o. MatchOption o (NoneShowsBelow m n None x.met.entries (length x.met.entries))
-        (λ a. IsFirstShown m n None x.met.entries a.place a.key)) shown s.shown in
-        below j y there before k key
+    earlier j y there before = search rules
 
 -- where fewer presses lead than what would be taken instead has, no key shows anything
 pub cells-within : (m n : MapValue) (t : Telling) (limit : Option ℕ) (wants : Bool) (b : ℕ)
     → IsFoundBy m n t limit wants
     → IsWithin (b + 1) (bound_by wants limit) → AreCellsClear m n b
-cells-within m n (Told events old new) limit wants b (told, (p, e, count, cells, settled)) is = λ path made lt.
-    cells path made (omega (arith, lt, by wants (subst (λ o. IsWithin (b + 1) (bound_by wants o)) e is)))
-  where
-    by : (w : Bool) → IsWithin (b + 1) (bound_by w (Some p)) → b ≤ p
-    by false le = omega (arith, le)
-    by true le = omega (arith, le)
+cells-within m n (Told events old new) limit wants b (told, (p, e, count, cells, settled)) is =
+    search rules
 cells-within m n (Never forgets) limit wants b (e, off, never, cells) is = cells b
-cells-within m n (Undecided p) limit wants b (e, off, many, cells) is = λ path made lt.
-    let le : b + 1 ≤ p =
-    subst (λ o. IsWithin (b + 1) o) e (subst (λ w. IsWithin (b + 1) (bound_by w limit)) off is) in
-    cells path made (omega (arith, lt, le))
+cells-within m n (Undecided p) limit wants b (e, off, many, cells) is = search rules
 
 -- ---- from the places that offer an accent
 

@@ -1,13 +1,12 @@
 -- Changes that presses meet are marked so where it is known what presses can see, as where it isn't.
-use Rattle.std.proofs.Common.{◌≡◌, ◌⊎◌, Bool, true, false, List, Option, None, Some, refl, ap, subst, is_some}
+use Rattle.std.proofs.Common.{rules}
+use Rattle.std.proofs.Common.{◌≡◌, Bool, true, false, List, refl, ap, is_some}
 use Rattle.std.specs.List.{Contains}
 use Rattle.keymap_core.specs.Maps.{MapValue}
-use Rattle.console_states.specs.Sights.{AreSightsOf, AreSomeSights}
-use Rattle.console_states.specs.declared.sights.Sights.{Sights}
-use Rattle.keymap_diff.specs.Changes.{AreChanges, AreDifferences, GivesUp, IsChange, IsKnown, MeetsCell}
+use Rattle.keymap_diff.specs.Changes.{AreChanges, AreDifferences, IsChange, MeetsCell}
 use Rattle.keymap_diff.specs.Changes.{MeetsDeadKey, MeetsLetters, MeetsPair}
 use Rattle.keymap_diff.specs.Inner.Versions.{AreVersions, HasAccent, IsMet}
-use Rattle.keymap_diff.specs.Types.{Change, Slots, Cell, Letter, Accents, Accent, Pair, ListedOtherwise, Seen, Versions}
+use Rattle.keymap_diff.specs.Types.{Change, Slots, Cell, Letter, Accents, Accent, Pair, ListedOtherwise, Versions}
 use Rattle.keymap_diff.proofs.Marks.{mark-one}
 
 -- the change, as if it were seen
@@ -52,37 +51,11 @@ seen-same m n (ListedOtherwise i) is other = refl
 
 pub known-met : (m n : MapValue) (found : List Change) → AreChanges false m n found
     → ((x : Change) → Contains found x → IsMet m n x) → AreChanges true m n found
-known-met m n found are met = record {
-  each = record {
-    all = λ x is.
-        let has = are.each.all (seen x) (seen-change m n x is) in
-        let same = seen-same m n x is (met-change m n (seen x) (seen-change m n x is) (met (seen x) has)) in
-        subst (λ z. Contains found z) same has;
-    only = λ x has. met-change m n x (are.each.only x has) (met x has);
-    once = are.each.once;
-  };
-  in_order = are.in_order;
-}
+known-met m n found are met = search (rules, seen-change, seen-same, met-change)
 
 pub differences-of : (m n : MapValue) (v : Versions) (found : List Change) → AreVersions m n v
     → AreChanges (is_some v.seen) v.old.now v.new.now found → AreDifferences m n found
-differences-of m n v found (old, new, sights, gave_up) are = (
-  is_some v.seen,
-  known v.seen gave_up,
-  subst (λ z. AreChanges (is_some v.seen) m z found) new
-      (subst (λ z. AreChanges (is_some v.seen) z v.new.now found) old are),
-)
-  where
-    known : (o : Option Seen) → (o ≡ None → GivesUp m ⊎ GivesUp n) → IsKnown (is_some o) m n
-    known None up = up refl
-    known (Some s) up = tt
-
--- all that can be seen is some of it
-pub sights-some : (m : MapValue) (x : Sights) → AreSightsOf m x → AreSomeSights m x
-sights-some m x are = record {
-  selections = are.selections.only;
-  composing = λ o has. (are.composing o has).only;
-}
+differences-of m n v found (old, new, sights, gave_up) are = search rules
 
 pub has-accent : (known : Bool) (m n : MapValue) (x : Change) → IsChange known m n x → HasAccent x
 has-accent known m n (Accent i a b u) is = is.0

@@ -14,4 +14,6 @@ pub mod OneEvent
 pub mod Pushing
 pub mod Reached
 pub mod Same
+pub mod SameChanges
+pub mod SameMoves
 pub mod Unlike

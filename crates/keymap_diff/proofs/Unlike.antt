@@ -1,8 +1,8 @@
 -- Where a key shows a difference of two keymaps, a press of it or its release is answered differently.
 use Rattle.std.proofs.Common.{rules}
 use Rattle.keymap_diff.proofs.Common.{◌≡◌, ◌≢◌, ℕ, ◌≤◌, ◌⊎◌, Bool, true, List, [], ◌∷◌, ◌++◌, Option}
-use Rattle.keymap_diff.proofs.Common.{Some, None, refl, ap, subst, sym, ◌∙◌, inl, inr, arith, cases_Bool, true≢false}
-use Rattle.keymap_diff.proofs.Common.{option_or, eq-eqb, same_action, same_action-true, same_action-refl, Action}
+use Rattle.keymap_diff.proofs.Common.{Some, None, refl, ap, subst, sym, ◌∙◌, inl, inr, arith, cases_Bool}
+use Rattle.keymap_diff.proofs.Common.{option_or, eq-eqb, same_action-true, same_action-refl, Action}
 use Rattle.keymap_diff.proofs.Common.{Modifier, Meta, Cell, Char, Act, Event, Press, Release, Answer, Move, Hold, Turn}
 use Rattle.keymap_diff.proofs.Common.{LetGo, Exchange, MapValue, accent_at, composed_by, usable, answer_char}
 use Rattle.keymap_diff.proofs.Common.{answer_action, answer_release, answer_dead_key, char_or_error, unless_nop}
@@ -72,14 +72,7 @@ idle-cells m n b d (Act a) (Act e) p q = search (rules, released-same, act-same,
 taken-held : (m : MapValue) (b : Bool) (i : Modifier) (a : Action)
     → ((a ≡ act.Mod i) × (answer_action m None b (taken_over (Some (act.Mod i)) a) ≡ answer.Special (act.Mod i)))
     ⊎ ((a ≢ act.Mod i) × (answer_action m None b (taken_over (Some (act.Mod i)) a) ≡ answer.None))
-taken-held m b i a = elim (cases_Bool (same_action (act.Mod i) a)) [
-  | inl t ↦ let e = sym (same_action-true (act.Mod i) a t) in inl (e, rw (e, same_action-refl (act.Mod i)) refl)
-  | inr t ↦ inr (
-    (λ e. true≢false (sym (same_action-refl (act.Mod i))
-        ∙ ap (λ z. same_action (act.Mod i) z) (sym e) ∙ t)),
-    rw t refl,
-  )
-]
+taken-held m b i a = search (rules, cases_Bool, same_action-true, same_action-refl)
 
 held-cells : (m n : MapValue) (b d : Bool) (i : Modifier) (x y : Cell)
     → answer_cell m None b (Some (act.Mod i)) x ≡ answer_cell n None d (Some (act.Mod i)) y
@@ -87,20 +80,7 @@ held-cells : (m n : MapValue) (b d : Bool) (i : Modifier) (x y : Cell)
 held-cells m n b d i (Char c) (Char e) p = inl (char-alike m n b d c e p)
 held-cells m n b d i (Char c) (Act a) p = absurd (no-char n b d c (taken_over (Some (act.Mod i)) a) p)
 held-cells m n b d i (Act a) (Char c) p = absurd (no-char m d b c (taken_over (Some (act.Mod i)) a) (sym p))
-held-cells m n b d i (Act a) (Act e) p = elim (taken-held m b i a) [
-  | inl (f, x) ↦ elim (taken-held n d i e) [
-    | inl (g, y) ↦
-        inl (
-          ap (λ z. Act z) (f ∙ sym g),
-          (λ j q. let h : act.Mod i ≡ act.DeadKey j = sym f ∙ act-same a _ q in absurd (cc)),
-        )
-    | inr (g, y) ↦ let h : answer.Special (act.Mod i) ≡ answer.None = sym x ∙ p ∙ y in absurd (cc)
-  ]
-  | inr (f, x) ↦ elim (taken-held n d i e) [
-    | inl (g, y) ↦ let h : answer.None ≡ answer.Special (act.Mod i) = sym x ∙ p ∙ y in absurd (cc)
-    | inr (g, y) ↦ inr (f, g)
-  ]
-]
+held-cells m n b d i (Act a) (Act e) p = search (rules, taken-held, act-same)
 
 -- what an accent makes is told by the answer
 made-same : (b d : Bool) (x y : Option ℕ) → char_or_error b x ≡ char_or_error d y → x ≡ y

@@ -1,5 +1,5 @@
 -- What differs between two keymaps, and whether any press meets it.
-use Rattle.std.specs.Prelude.{◌≡◌, ◌≢◌, ◌⊎◌, ℕ, ◌+◌, ◌*◌, ◌<◌, ◌≤◌, ⊤, Bool, true, false, List, [], Option, None, Some}
+use Rattle.std.specs.Prelude.{◌≡◌, ◌≢◌, ◌⊎◌, ℕ, ◌+◌, ◌*◌, ◌<◌, ◌≤◌, ⊤, Bool, true, false, List, [], Option}
 use Rattle.std.specs.List.{AllPairs}
 use Rattle.keymap_core.specs.Accents.{first_result}
 use Rattle.keymap_core.specs.Bounds.{IsMap}

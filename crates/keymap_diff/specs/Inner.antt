@@ -1,4 +1,5 @@
 -- What private contracts cite; no public clause does.
+pub mod Moving
 pub mod Pushing
 pub mod Searches
 pub mod Showing

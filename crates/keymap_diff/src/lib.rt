@@ -11,6 +11,7 @@ mod change;
 mod compared;
 pub mod laws;
 mod marking;
+mod moving;
 mod nearest;
 mod searched;
 mod showing;

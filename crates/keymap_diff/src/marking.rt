@@ -1,16 +1,20 @@
 //! What differs between two keymaps, and what of it no press meets.
 //!
 //! Mostly presses meet all of it in the states that a few of them lead to, so these are looked at first.
-ghost use Rattle.std.specs.Prelude.{◌≡◌, false, true, IfOk, MatchOption};
-ghost use Rattle.console_states.specs.Sights.{AreSightsOf, AreSomeSights};
-ghost use Rattle.keymap_diff.specs.Changes.{AreChanges, AreDifferences, GivesUp};
-ghost use Rattle.keymap_diff.specs.Inner.Versions.{AreVersions, HasAccent, IsMet, MeetsChange};
+ghost use Rattle.std.specs.Prelude.{◌≡◌, false, true, IfOk};
+ghost use Rattle.console_states.specs.Sights.{AreSomeSights};
+ghost use Rattle.keymap_diff.specs.Changes.{AreChanges, AreDifferences};
+ghost use Rattle.keymap_diff.specs.Inner.Moving.{HaveSameMoves};
+ghost use Rattle.keymap_diff.specs.Inner.Versions.{AreVersions, HasAccent, IsMet, IsSeenOfBoth, MeetsChange};
 
 use crate::change::Change;
 use crate::compared::changes;
+use crate::moving::have_same_moves;
 use crate::unseen::{Letters, sees_dead_key};
 use crate::versions::{Seen, Versions};
-use console_states::{Sight, Sights, sights_of, some_sights};
+use console_states::{
+    End, Held, Keymaps, Sight, Sights, meet_all, sights_in, sights_of, some_sights,
+};
 use keymap_core::KeyMap;
 use std::alloc::{AllocError, Global};
 
@@ -63,20 +67,49 @@ fn are_met(alloc: Global, old: &KeyMap, new: &KeyMap, found: &[Change]) -> Resul
     Ok(true)
 }
 
+/// What presses can see under each of two keymaps, unless the search gave up.
+type BothSights = Option<(Sights, Sights)>;
+
+/// What presses can see under each of the keymaps, by one search for both.
+fn sights_of_same_moves(alloc: Global, old: &KeyMap, new: &KeyMap) -> Result<BothSights, AllocError>
+    requires { HaveSameMoves old.now new.now }
+    ensures { IfOk result (IsSeenOfBoth old.now new.now) }
+{
+    let (met, end) = meet_all(alloc, &Keymaps::alone(old), &[Held::start()])?;
+    match end {
+        End::Complete => {
+            let old_sights = sights_in(alloc, &met, &Keymaps::alone(old))?;
+            let new_sights = sights_in(alloc, &met, &Keymaps::alone(new))?;
+            Ok(Some((old_sights, new_sights)))
+        }
+        End::TooMany(_) => Ok(None),
+    }
+}
+
+/// What presses can see under each of the keymaps.
+fn both_sights(alloc: Global, old: &KeyMap, new: &KeyMap) -> Result<BothSights, AllocError>
+    ensures { IfOk result (IsSeenOfBoth old.now new.now) }
+{
+    if have_same_moves(old, new) {
+        return sights_of_same_moves(alloc, old, new);
+    }
+    let Some(old_sights) = sights_of(alloc, old)? else {
+        return Ok(None);
+    };
+    let Some(new_sights) = sights_of(alloc, new)? else {
+        return Ok(None);
+    };
+    Ok(Some((old_sights, new_sights)))
+}
+
 /// Two keymaps with what presses can see under each, unless a search gave up.
-fn versions_of<'a>(
-    old: &'a KeyMap,
-    new: &'a KeyMap,
-    old_sights: &'a Option<Sights>,
-    new_sights: &'a Option<Sights>,
-) -> Versions<'a>
-    requires old { MatchOption old_sights.now (GivesUp old.now) (AreSightsOf old.now) }
-    requires new { MatchOption new_sights.now (GivesUp new.now) (AreSightsOf new.now) }
+fn versions_of<'a>(old: &'a KeyMap, new: &'a KeyMap, sights: &'a BothSights) -> Versions<'a>
+    requires { IsSeenOfBoth old.now new.now sights.now }
     ensures { AreVersions old.now new.now result }
 {
-    let seen = match (old_sights, new_sights) {
-        (Some(old), Some(new)) => Some(Seen { old, new }),
-        _ => None,
+    let seen = match sights {
+        Some((old, new)) => Some(Seen { old, new }),
+        None => None,
     };
     Versions { old, new, seen }
 }
@@ -85,9 +118,8 @@ fn versions_of<'a>(
 fn marked(alloc: Global, old: &KeyMap, new: &KeyMap) -> Result<Vec<Change>, AllocError>
     ensures { IfOk result (λ found. AreDifferences old.now new.now found.items) }
 {
-    let old_sights = sights_of(alloc, old)?;
-    let new_sights = sights_of(alloc, new)?;
-    changes(alloc, &versions_of(old, new, &old_sights, &new_sights))
+    let sights = both_sights(alloc, old, new)?;
+    changes(alloc, &versions_of(old, new, &sights))
 }
 
 /// What differs between the keymaps, each cell, lock letter, accent and pair by itself, and whether it is unseen. Where

@@ -85,11 +85,7 @@ impl<'a> Both<'a> {
         ensures alone { under_of result ≡ alone self.now.old.now }
         ensures first { result.first.now ≡ self.now.old.now }
     {
-        Keymaps {
-            first: self.old,
-            second: self.old,
-            has_loads: false,
-        }
+        Keymaps::alone(self.old)
     }
 
     /// Whether the cells are the same, and a dead key can be used under both keymaps or under neither.

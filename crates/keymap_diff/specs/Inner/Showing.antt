@@ -63,11 +63,15 @@ abbrev pub IsClear : MapValue → MapValue → Option ℕ → Cell → Cell → 
 IsClear m n None x y = AreCellsAlike m n x y
 IsClear m n (Some i) x y = (c : ℕ) → GivesBy i x c → MakesSame m n i c
 
+-- the letters of the slot are the same under both keymaps, and R holds of the cells of each column
+abbrev pub AreSlotsAlike : (Cell → Cell → Type 0) → MapValue → MapValue → ℕ → Type 0
+AreSlotsAlike R m n slot =
+    ((entry_at m slot).flag ≡ (entry_at n slot).flag)
+    × ((column : ℕ) → column < column_count → R (cell_at m slot column) (cell_at n slot column))
+
 -- nor does any that looks up the slot
 abbrev pub IsSlotClear : MapValue → MapValue → Option ℕ → ℕ → Type 0
-IsSlotClear m n p slot =
-    ((entry_at m slot).flag ≡ (entry_at n slot).flag)
-    × ((column : ℕ) → column < column_count → IsClear m n p (cell_at m slot column) (cell_at n slot column))
+IsSlotClear m n p slot = AreSlotsAlike (IsClear m n p) m n slot
 
 -- each key below the number that shows something in some state is among these, and these are below it
 abbrev pub AreShowing : MapValue → MapValue → Option ℕ → List ℕ → ℕ → Type 0

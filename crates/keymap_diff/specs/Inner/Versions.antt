@@ -1,9 +1,11 @@
 -- Two keymaps with what presses can see under each, and which changes presses meet. Mirrors src/versions.rt and
 -- src/marking.rt.
-use Rattle.std.specs.Prelude.{◌≡◌, ◌<◌, ◌⊎◌, ℕ, ⊤, Option, None, Some, is_some}
+use Rattle.std.specs.Prelude.{◌≡◌, ◌<◌, ◌⊎◌, ⊤, Option, None, Some, is_some}
+use Rattle.std.specs.Prelude.{MatchOption}
 use Rattle.keymap_core.specs.Maps.{MapValue}
 use Rattle.keymap_core.specs.Numbers.{accent_limit}
 use Rattle.console_states.specs.Sights.{AreSightsOf}
+use Rattle.console_states.specs.declared.sights.Sights.{Sights}
 use Rattle.keymap_diff.specs.Changes.{GivesUp, IsChange, MeetsCell, MeetsDeadKey, MeetsLetters, MeetsPair}
 use Rattle.keymap_diff.specs.Types.{Change, Cell, Letter, Accent, Pair, Seen, Versions}
 
@@ -14,6 +16,10 @@ AreSights m n (Some s) = AreSightsOf m s.old.now × AreSightsOf n s.new.now
 
 abbrev pub HaveSights : Versions → Type 0
 HaveSights v = AreSights v.old.now v.new.now v.seen
+
+-- what presses can see under each of the keymaps; none where a search gave up
+abbrev pub IsSeenOfBoth : MapValue → MapValue → Option (Sights × Sights) → Type 0
+IsSeenOfBoth m n seen = MatchOption seen (GivesUp m ⊎ GivesUp n) (λ s. AreSightsOf m s.0 × AreSightsOf n s.1)
 
 -- the two keymaps with what presses can see, unless a search gave up
 abbrev pub AreVersions : MapValue → MapValue → Versions → Type 0

@@ -1,6 +1,7 @@
-use Rattle.keymap_diff.proofs.Common.{◌≡◌, ◌+◌, ◌≤◌, ℕ, Bool, false, Option, Some, MapValue, alone, ap, arith, inr}
+use Rattle.std.proofs.Common.{rules}
+use Rattle.keymap_diff.proofs.Common.{◌≡◌, ◌+◌, ℕ, Bool, false, Option, Some, MapValue, alone, ap, inr}
 use Rattle.keymap_diff.proofs.Common.{none-some}
-use Rattle.keymap_diff.proofs.Common.{refl, same_Some, subst, sym, ◌∙◌, AreCellsClear}
+use Rattle.keymap_diff.proofs.Common.{refl, same_Some, sym, ◌∙◌, AreCellsClear}
 use Rattle.console_states.specs.Sticking.{ReachesMoreThan}
 use Rattle.keymap_diff.specs.Inner.Searches.{IsFoundBy, IsWithin, bound_by}
 use Rattle.keymap_diff.specs.declared.telling.Telling.{Telling}
@@ -15,17 +16,8 @@ kept : (m n : MapValue) (t : Telling) (limit : Option ℕ) (wants : Bool) (p : �
 kept m n (Told events old new) limit wants p e (told, (q, f, count, cells, settled)) is clear many =
     (told, (p, refl, count ∙ ap (λ z. z + 1) (same_Some q p (sym f ∙ e)), clear, inr many))
 kept m n (Never forgets) limit wants p e (none, off, never, cells) is clear many = absurd (none-some p (sym none ∙ e))
-kept m n (Undecided r) limit wants p e (f, off, more, cells) is clear many =
-    let le : p + 1 ≤ p = subst (λ o. IsWithin (p + 1) o) e (subst (λ w. IsWithin (p + 1) (bound_by w limit)) off is) in
-    absurd (omega (arith, le))
+kept m n (Undecided r) limit wants p e (f, off, more, cells) is clear many = search rules
 
 pub returns-clause-nearest : goal.returns-clause-nearest
 returns-clause-nearest c m n found is clear many =
-    elim c.if-is_at.branch [
-      | then-is_at w ↦
-          rw w.telling-is
-          (kept m n c.args.self.telling c.args.self.limit c.args.self.wants_plain c.args.presses
-          (c.is_at.ensures.here w.if-is_at.true) found is clear many)
-      | else-is_at+in-Told-1 w ↦ rw w.telling-is (refl, refl, many, clear)
-      | else-is_at+in-Never-1 w ↦ rw w.telling-is (refl, refl, many, clear)
-    ]
+    search (rules, then-is_at, kept, else-is_at+in-Told-1, else-is_at+in-Never-1)

@@ -1,3 +1,4 @@
+use Rattle.std.proofs.Common.{rules}
 use Rattle.std.proofs.Common.{below_more, subst, sym, refl, arith, length, ◌<◌}
 use Rattle.std.proofs.lemmas.List.{get_or_read_under}
 use Rattle.console_states.specs.Searching.{state_of}
@@ -8,12 +9,7 @@ use Rattle.keymap_diff.proofs.CanShow.{none-of}
 use Rattle.keymap_diff.proofs.showing.Both.key_showing.Goals as goal
 
 pub loop-key-preserved : goal.loop-key-preserved
-loop-key-preserved c =
-    below_more _ _ c.loop-key.invariant
-    (subst
-    (λ z. ShowsNothing c.args.self.now.old.now c.args.self.now.new.now c.args.pending (state_of c.args.held.now) z)
-    (get_or_read_under c.args.keys.now c.loop-key.key-index (length c.args.keys.now) c.key-item.result 0 c.key-item.is
-    c.loop-key-test.true refl) (c.if-shows.ensures.nothing refl))
+loop-key-preserved c = search (rules, below_more, get_or_read_under)
 
 pub returns : goal.returns
 returns c =

@@ -1,9 +1,8 @@
 -- Behind a list that is spoken of a console stands where moves lead from the start, so moves from there lead to nothing
 -- that can't be seen.
-use Rattle.keymap_cover.proofs.Common.{◌≡◌, Bool, false, List, ◌++◌, refl, ap, subst, sym, ◌∙◌, reverse}
+use Rattle.std.proofs.Common.{rules}
+use Rattle.keymap_cover.proofs.Common.{◌≡◌, Bool, false, List, ◌++◌, ap, subst, sym, ◌∙◌, reverse}
 use Rattle.keymap_cover.proofs.Common.{MapValue, Event, Sight, IsPair, IsReachable, alone, between, resolved}
-use Rattle.keymap_core.specs.declared.action.Lock.{Lock}
-use Rattle.keymap_core.specs.declared.action.Lock.TheVariants.{Caps, Num, Scroll, Alt}
 use Rattle.keymap_core.specs.declared.action.Modifier.{Modifier}
 use Rattle.console_core.specs.History.{is_on_after}
 use Rattle.console_states.specs.declared.held.Move.{Move}
@@ -26,15 +25,7 @@ use Rattle.keymap_cover.proofs.Showing.{events-loads}
 near-resting : (m : MapValue) (h : List Event) (s : State) → Follows (resolved (between m m) h) s
     → ((i : Modifier) → is_on_after (between m m) i h ≡ false) → s.is_second ≡ false
     → unscrolled s ≡ unscrolled (resting_after m h)
-near-resting m h s f off first =
-    same_states (unscrolled s) (unscrolled (resting_after m h)) (λ i. not-some (s.holder i) (sym (f.on i) ∙ off i)) lock
-    first
-  where
-    lock : (l : Lock) → (unscrolled s).is_locked l ≡ (unscrolled (resting_after m h)).is_locked l
-    lock Caps = sym (f.locked Caps)
-    lock Num = sym (f.locked Num)
-    lock Scroll = refl
-    lock Alt = sym (f.locked Alt)
+near-resting m h s f off first = search (rules, same_states, not-some)
 
 -- a cell or a lock setting needs no accent
 needs-none : (m : MapValue) (path : List Move) (x : Sight) → (IsPair x → ⊥) → CanPend m path x

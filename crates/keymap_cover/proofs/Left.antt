@@ -1,6 +1,7 @@
 -- What is left of a list of sights: those that pass a test. None of the cells and lock settings is a pair.
-use Rattle.keymap_cover.proofs.Common.{zero, suc, ◌≡◌, ℕ, ◌+◌, ◌≤◌, Bool, true, false, List, [], ◌∷◌, ◌++◌, refl, ap}
-use Rattle.keymap_cover.proofs.Common.{subst, sym, ◌∙◌, arith, filter, inl, inr, length, map, Contains, range_with_len}
+use Rattle.std.proofs.Common.{rules}
+use Rattle.keymap_cover.proofs.Common.{zero, suc, ◌≡◌, ℕ, ◌+◌, ◌≤◌, Bool, true, false, List, [], ◌∷◌, ◌++◌, refl}
+use Rattle.keymap_cover.proofs.Common.{subst, sym, arith, filter, inl, inr, length, map, Contains, range_with_len}
 use Rattle.keymap_cover.proofs.Common.{Contains-append_cases, Sight, all_cells, all_lock_settings, cell_at_place}
 use Rattle.keymap_cover.proofs.Common.{lock_setting_at_place, IsPair}
 use Rattle.keymap_cover.specs.Inner.OneWay.{AreKeys}
@@ -15,9 +16,7 @@ filter-later p y xs x rest false e = rw e rest
 pub filter-has : (p : Sight → Bool) (xs : List Sight) (x : Sight) → Contains xs x → p x ≡ true
     → Contains (filter p xs) x
 filter-has p [] x (n, lt, at) passes = absurd (omega (arith, lt))
-filter-has p (y ∷ xs) x (zero, lt, at) passes =
-    let t : p y ≡ true = ap p at ∙ passes in
-    rw t (zero, omega arith, at)
+filter-has p (y ∷ xs) x (zero, lt, at) passes = search rules
 filter-has p (y ∷ xs) x (suc n, lt, at) passes =
     filter-later p y xs x (filter-has p xs x (n, omega (arith, lt), at) passes) (p y) refl
 
@@ -25,11 +24,7 @@ filter-cases : (p : Sight → Bool) (y : Sight) (xs : List Sight) (x : Sight)
     → (Contains (filter p xs) x → Contains xs x) → Contains (filter p (y ∷ xs)) x → (t : Bool) → p y ≡ t
     → Contains (y ∷ xs) x
 filter-cases p y xs x rest has false e = later-has y xs x (rest (rw e at has))
-filter-cases p y xs x rest has true e = by (rw e at has)
-  where
-    by : Contains (y ∷ filter p xs) x → Contains (y ∷ xs) x
-    by (zero, lt, at) = (zero, omega arith, at)
-    by (suc n, lt, at) = later-has y xs x (rest (n, omega (arith, lt), at))
+filter-cases p y xs x rest has true e = search (rules, later-has)
 
 pub filter-of : (p : Sight → Bool) (xs : List Sight) (x : Sight) → Contains (filter p xs) x → Contains xs x
 filter-of p [] x has = has
@@ -48,9 +43,7 @@ filter-short p (y ∷ xs) = filter-shorter p y xs 0 (filter-short p xs) (p y) re
 pub filter-fewer : (p : Sight → Bool) (xs : List Sight) (x : Sight) → Contains xs x → p x ≡ false
     → length (filter p xs) + 1 ≤ length xs
 filter-fewer p [] x (n, lt, at) fails = absurd (omega (arith, lt))
-filter-fewer p (y ∷ xs) x (zero, lt, at) fails =
-    let f : p y ≡ false = ap p at ∙ fails in
-    rw f (omega (arith, filter-short p xs))
+filter-fewer p (y ∷ xs) x (zero, lt, at) fails = search (rules, filter-short)
 filter-fewer p (y ∷ xs) x (suc n, lt, at) fails =
     filter-shorter p y xs 1 (filter-fewer p xs x (n, omega (arith, lt), at) fails) (p y) refl
 

@@ -1,4 +1,5 @@
 -- A script goes onward while it sees more of what is left, and then no moves lead to a press that sees any of it.
+use Rattle.std.proofs.Common.{rules}
 use Rattle.keymap_cover.proofs.Common.{◌≡◌, ℕ, ◌+◌, ◌≤◌, ◌⊎◌, inl, inr, Bool, true, false, List, []}
 use Rattle.keymap_cover.proofs.Common.{◌∷◌, ◌++◌, Option, None, Some, refl, ap, subst, sym, ◌∙◌, arith, append_assoc}
 use Rattle.keymap_cover.proofs.Common.{filter, length, not, reverse, reverse-append, true≢false}
@@ -96,9 +97,7 @@ onward-sees m h xs o events ((path, is, ends, led), lt, (x, has, sees)) single k
 pub found-at : (m : MapValue) (h : List Event) (xs : List Sight) (shows : Lock → Bool) (found o : Option Onward)
     → ((l : Lock) → shows l ≡ is_locked_after (between m m) l h)
     → IsOnward m (free_with (but_scroll shows)) xs found → found ≡ o → IsOnward m (resting_after m h) xs o
-found-at m h xs shows found o same is e =
-    subst (λ q. IsOnward m (resting_after m h) xs q) e
-    (subst (λ s. IsOnward m s xs found) (shown-resting m h shows same) is)
+found-at m h xs shows found o same is e = search (rules, shown-resting)
 
 -- where there is such a press
 pub goes-next : {T : Type 0} (s : Standing T) (m : MapValue) (xs : List Sight) (o : Onward) (events : List Event)

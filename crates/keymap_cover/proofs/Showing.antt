@@ -1,4 +1,5 @@
 -- A console goes from visit to visit, and sees what can be seen.
+use Rattle.std.proofs.Common.{rules}
 use Rattle.keymap_cover.proofs.Common.{suc, ◌≡◌, ℕ, ◌+◌, ◌<◌, ◌≤◌, true, false, List, [], ◌∷◌, ◌++◌, Some, refl}
 use Rattle.keymap_cover.proofs.Common.{ap, subst, sym, inl, inr, ◌∙◌, arith, append_assoc, length, get_or, reverse}
 use Rattle.keymap_cover.proofs.Common.{Contains, eqb-true, eq-eqb}
@@ -12,7 +13,7 @@ use Rattle.std.proofs.Common.{length-append}
 use Rattle.std.proofs.Common.{◌-◌, drop}
 use Rattle.std.proofs.Math.Seq.{drop-append_seam, take-add}
 use Rattle.std.proofs.lemmas.List.{length-reverse, length-take-le, take_all}
-use Rattle.keymap_core.specs.declared.action.Lock.TheVariants.{Caps, Num, Scroll, Alt}
+use Rattle.keymap_core.specs.declared.action.Lock.TheVariants.{Caps, Num, Alt}
 use Rattle.console_core.specs.History.{HasNoLoads, IsNoLoad}
 use Rattle.console_scripts.specs.Visiting.{EndsSeeing, HasLocks, ExplorerValue, TurnsScrollOff, Visits}
 use Rattle.keymap_cover.specs.Covering.{IsScrollOff}
@@ -198,11 +199,7 @@ sees-more m xs n k x le sees =
 -- what was seen, all events of the script see
 seen-by : {T : Type 0} (m : MapValue) (h : List Event) (t : Script T) (x : Sight) → IsScriptOf m h t
     → has_seen t.seen x ≡ true → SeesAlong m (events_of (reverse (take (length t.events.items) t.events.items))) x
-seen-by m h t x script has =
-    subst (λ z. SeesAlong m z x)
-    (sym (ap (λ z. events_of (reverse z)) (take_all (length t.events.items) t.events.items (omega arith))
-    ∙ script.history))
-    (script.seen x has)
+seen-by m h t x script has = search (rules, take_all)
 
 -- ---- what is told of
 
@@ -258,9 +255,7 @@ walks-further s m x y a b d e first second up last h at =
 pub walks-off : {T : Type 0} (s : Standing T) (m : MapValue) (later h : List Event) (a b : Script T)
     → RunsAlong m s h a → GoesAlongToRest m later s a b → AreUp b.pressed → TurnsScrollOff m h later
     → (g : List Event) × IsResting m s g b × ComesAfter h g × IsScrollOff m g
-walks-off s m later h a b at walk up (taken, off) =
-    let (g, run, rest, after, exact) = walk h at in
-    (g, (run, up, rest), after, inl ((exact taken).1 Scroll ∙ off))
+walks-off s m later h a b at walk up (taken, off) = search rules
 
 -- what is told of is seen, and then the script goes further, and onward
 pub script-whole : {T : Type 0} (s : Standing T) (m : MapValue) (p : ExplorerValue) (a : Script T) (q : ExplorerValue)

@@ -187,8 +187,7 @@ all-told m xs e x = (
     has (sight.Cell s c) (slot, column) =
         search (rules, Contains-append_left, all_cells, all_lock_settings, pairs_in, cell-has)
     has (sight.Locks s caps num) slot =
-        Contains-append_left (all_cells ++ all_lock_settings) (pairs_in m) (sight.Locks s caps num)
-        (Contains-append_right all_cells all_lock_settings (sight.Locks s caps num) (setting-has s caps num slot))
+        search (rules, Contains-append_left, Contains-append_right, setting-has)
     has (sight.Pair i c) (own, is) =
         let (a, some) = usable-some (accent_at m i) own in
         Contains-append_right (all_cells ++ all_lock_settings) (pairs_in m) (sight.Pair i c)

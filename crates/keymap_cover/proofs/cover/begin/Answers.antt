@@ -1,4 +1,4 @@
-use Rattle.keymap_cover.proofs.Common.{inl, inr, ap, refl, subst, sym, Contains, part_place, rules}
+use Rattle.keymap_cover.proofs.Common.{refl, part_place, rules}
 use Rattle.std.proofs.lemmas.List.Elements.{Contains-push_cases}
 use Rattle.keymap_cover.proofs.Ordered.{parts-skip, parts-more}
 use Rattle.keymap_cover.proofs.cover.begin.Goals as goal
@@ -10,13 +10,7 @@ returns-in_ok-push-clause-below c =
     below c.in_ok-push.ensures.items refl c.if-at-end.true
 
 pub returns-in_ok-push-clause-added : goal.returns-in_ok-push-clause-added
-returns-in_ok-push-clause-added c =
-    λ s has.
-    elim (Contains-push_cases c.args.starts.now.items _ s
-    (subst (λ xs. Contains xs s) c.in_ok-push.ensures.items has)) [
-      | inl before ↦ inl before
-      | inr e ↦ inr (ap (λ x. x.part) (sym e), ap (λ x. x.at) (sym e))
-    ]
+returns-in_ok-push-clause-added c = search (rules, Contains-push_cases)
 
 pub returns-else-at-end-clause-below : goal.returns-else-at-end-clause-below
 returns-else-at-end-clause-below c = search (rules, parts-skip, part_place)

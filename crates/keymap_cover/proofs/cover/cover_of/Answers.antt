@@ -9,12 +9,7 @@ pub script_of-requires-clause-explorer : goal.script_of-requires-clause-explorer
 script_of-requires-clause-explorer c = search (rules, alone)
 
 pub script_of-requires-clause-sights : goal.script_of-requires-clause-sights
-script_of-requires-clause-sights c =
-    let m = c.args.map.now in
-    let is : IsExplorerFor m c.in-Some.explorer =
-    subst (λ o. MatchOption o ((p : ℕ) × ReachesMoreThan (alone m) state_limit p) (λ p. IsExplorerFor m p)) c.in-Some.is
-    c.in_ok-explorer.ensures.explorer in
-    subst (λ n. AreSightsOf n c.in_ok-sights.sights) is.0 c.in_ok-sights.ensures
+script_of-requires-clause-sights c = search rules
 
 pub returns : goal.returns
 returns c =

@@ -1,4 +1,4 @@
-use Rattle.keymap_cover.proofs.Common.{arith, rules}
+use Rattle.keymap_cover.proofs.Common.{rules}
 use Rattle.keymap_cover.proofs.Showing.{all-more, stays-so}
 use Rattle.keymap_cover.proofs.cover.show_all.Goals as goal
 
@@ -12,11 +12,4 @@ loop-sight-preserved g c =
     c.loop-sight.sight-index _ c.loop-sight-test.true c.loop-sight.invariant c.in_ok-show_left_out.ensures
 
 pub returns : goal.returns
-returns g c =
-    λ h w.
-    let (f, v, after, seen) = c.loop-sight.invariant h w in (
-      f,
-      v,
-      after,
-      (λ x (n, lt, at) can. seen n x (omega (arith, lt, c.loop-sight-test.false)) at can),
-    )
+returns g c = search rules

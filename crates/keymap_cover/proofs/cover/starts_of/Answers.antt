@@ -1,15 +1,9 @@
-use Rattle.keymap_cover.proofs.Common.{refl, arith}
+use Rattle.std.proofs.Common.{rules}
 use Rattle.keymap_cover.proofs.Ordered.{parts-none, stand-behind}
 use Rattle.keymap_cover.proofs.cover.starts_of.Goals as goal
 
 pub returns-clause-parts : goal.returns-clause-parts
-returns-clause-parts c =
-    λ one two three.
-    let none = parts-none c.new-starts.result.items 0 c.new-starts.ensures.items refl in
-    let cells = c.in_ok-begin.ensures.below none (omega arith) in
-    let pairs = c.in_ok-begin-2.ensures.below cells one in
-    let trials = c.in_ok-begin-3.ensures.below pairs two in
-    (c.in_ok-begin-4.ensures.below trials three).parts
+returns-clause-parts c = search (rules, parts-none)
 
 pub returns-clause-behind : goal.returns-clause-behind
 returns-clause-behind c =

@@ -1,4 +1,5 @@
 -- The pairs that are counted are those that are told of, each once.
+use Rattle.std.proofs.Common.{rules}
 use Rattle.kmap_runs.proofs.Common.{◌≡◌, ℕ, ◌<◌, ◌==◌, Bool, true, false, List, [], ◌∷◌, ◌++◌, Option, Some, None}
 use Rattle.kmap_runs.proofs.Common.{refl, ap, subst, sym, ◌∙◌, arith, inl, inr, length, map, not, suc, zero, get_or}
 use Rattle.kmap_runs.proofs.Common.{flat_map, range_with_len, if◌then◌else◌, MapValue, Sight, Pair, bases_at, LeftOut}
@@ -50,9 +51,7 @@ pub with-number : (ns : List ℕ) (n : ℕ) → IsWith n ns (with_number ns n)
 with-number ns n = by (list_any (λ m. m == n) ns) refl
   where
     by : (t : Bool) → list_any (λ m. m == n) ns ≡ t → IsWith n ns (if t then ns else ns ++ n ∷ [])
-    by true e =
-        let (m, has, is) = some-member (λ m. m == n) ns e in
-        inl (refl, subst (λ z. Contains ns z) (eqb-true m n is) has)
+    by true e = search (rules, some-member, eqb-true)
     by false e =
         inr (refl, (λ has. true≢false (sym (any-member (λ m. m == n) ns n has (eq-eqb n n refl)) ∙ e)))
 
@@ -99,11 +98,7 @@ bases-of o a own out back = by (a.own == 0) refl
     by : (t : Bool) → (a.own == 0) ≡ t
         → Enumerates (λ c. (has_own o ≡ true) × ((c ≡ 32) ⊎ IsBaseOf o c))
         (if t then [] else with_bases (32 ∷ []) a.pairs)
-    by true e = record {
-      all = λ c (has, is). absurd (true≢false (sym has ∙ own ∙ ap not e));
-      only = λ c (k, lt, at). absurd (omega (arith, lt));
-      once = no-doubles;
-    }
+    by true e = search (rules, no-doubles)
     by false e =
         let more = bases-behind (32 ∷ []) a.pairs in
         let has : has_own o ≡ true = own ∙ ap not e in
@@ -127,9 +122,7 @@ bases-told : (m : MapValue) (i : ℕ) → Enumerates (λ c. IsTold m (sight.Pair
 bases-told m i = by (accent_at m i) refl
   where
     by : (o : Option AccentValue) → accent_at m i ≡ o → Enumerates (λ c. IsTold m (sight.Pair i c)) (bases_at m i)
-    by None e =
-        rw (accent-none m i e, e)
-        (bases-of None blank refl (λ c none. absurd none) (λ c has base. absurd (false≢true has)))
+    by None e = search (rules, accent-none, bases-of)
     by (Some a) e = rw (accent-some m i a e, e) (bases-of (Some a) a refl (λ c base. base) (λ c has base. base))
 
 -- ---- and pairs

@@ -2,7 +2,7 @@
 use Rattle.kmap_runs.proofs.Common.{suc, ◌≡◌, ℕ, zero, ◌+◌, ◌<◌, ◌==◌, Bool, true, false, List, [], ◌∷◌, ◌++◌, length}
 use Rattle.kmap_runs.proofs.Common.{map, drop, get_or, refl, sym, ap, subst, ◌∙◌, lit<, rules}
 use Rattle.kmap_runs.proofs.Common.{if◌then◌else◌, decimal, add-one, ◌-◌, Option, Some, Ok, reverse, All, flat_map}
-use Rattle.kmap_runs.proofs.Common.{range_with_len, reverse-reverse, All-head, All-tail, name_of, MapValue}
+use Rattle.kmap_runs.proofs.Common.{range_with_len, reverse-reverse, All-head, All-tail, MapValue}
 use Rattle.kmap_runs.proofs.Common.{All-reversed, Sight, Pair, HasKey, HasKeys, LeftOut, Never, Reset, Spells}
 use Rattle.kmap_runs.proofs.Common.{IsScript, Plays, moves, sends, line-script, one_list}
 use Rattle.kmap_runs.proofs.Common.{comment, column_text, row_text, has_verdict, row_line, ListsSlots, AddsLists}
@@ -34,7 +34,6 @@ use Rattle.kmap_runs.specs.Runs.{CoversText, IsCovered}
 use Rattle.kmap_runs.proofs.Replayed.{taken-whole, same-map}
 use Rattle.kmap_runs.proofs.Comments.{is_in_line, IsInLine, append-line, flat-line, if-line, decimal-line, name-line}
 use Rattle.kmap_runs.proofs.Comments.{Adds, adds-nil, adds-script, quiet-comment, quiet-flat, quiet-if, ◌⊳◌}
-use Rattle.keymap_core.specs.declared.action.Action.TheVariants as act
 
 -- ---- comments
 
@@ -108,9 +107,7 @@ quiet-listed {is_listed} {word} f (ListsSlots.more_slots first end text before b
 quiet-characters : (word : List ℕ) (i : ℕ) (text : List ℕ) → IsInLine word → IsInLine text
     → Adds (line_of_characters word i text) []
 quiet-characters word i [] f g = adds-nil
-quiet-characters word i (x ∷ xs) f g =
-    quiet-comment (codes " {}: {} with{}") (word ∷ name_of (act.DeadKey i) ∷ (x ∷ xs) ∷ []) refl
-    (f, (name-line i, (g, tt)))
+quiet-characters word i (x ∷ xs) f g = search (rules, quiet-comment, name-line)
 
 -- a line for each accent
 quiet-accents : (is_listed : Sight → Bool) (word : List ℕ) (m : MapValue) → IsInLine word

@@ -1,14 +1,13 @@
 -- What is told of a difference between two keymaps stays in its line.
+use Rattle.std.proofs.Common.{rules}
 use Rattle.kmap_runs.proofs.Common.{◌≡◌, ℕ, ◌+◌, ◌==◌, Bool, true, false, List, [], ◌∷◌, ◌++◌, Option, Some, None}
 use Rattle.kmap_runs.proofs.Common.{refl, subst, arith, decimal, drop, length, if◌then◌else◌, ne_eqb, codes, flat_map}
 use Rattle.kmap_runs.proofs.Common.{range_with_len, name_of, filled_all}
-use Rattle.std.specs.Prelude.{◌≢◌, ◌/◌, ◌%◌, ◌||◌, nat_lt, slice_index, slice_index_or}
-use Rattle.std.specs.List.{list_all, list_any}
+use Rattle.std.specs.Prelude.{◌≢◌, ◌/◌, ◌%◌, ◌||◌, nat_lt, slice_index_or}
+use Rattle.std.specs.List.{list_all}
 use Rattle.std.proofs.lemmas.Bool.{cond_both, true≢false}
-use mathlib.Core.Bool.{beq}
 use Rattle.keymap_core.specs.Actions.{accent_names, two_digits}
 use Rattle.keymap_core.specs.CodePoints.{code_digits}
-use Rattle.keymap_core.specs.Numbers.{column_count}
 use Rattle.keymap_core.specs.declared.action.Action.{Action}
 use Rattle.keymap_core.specs.declared.action.Action.TheVariants as act
 use Rattle.keymap_core.specs.declared.action.Lock.{Lock}
@@ -21,8 +20,7 @@ use Rattle.keymap_core.specs.declared.entry.LockFlag.{LockFlag}
 use Rattle.keymap_core.specs.declared.entry.LockFlag.TheVariants as flags
 use Rattle.keymap_text.specs.Printed.{cell_text, character_text, control_name, flag_letter}
 use Rattle.keymap_text.specs.Words.{control_names}
-use Rattle.keymap_lint_text.specs.Lists.{accent_name, begins_run, comma, ends_run, ranges, run_text}
-use Rattle.keymap_lint_text.specs.Told.{column_names}
+use Rattle.keymap_lint_text.specs.Lists.{accent_name, ranges, run_text}
 use Rattle.messages.proofs.Passed.{parts_all}
 use Rattle.console_core.specs.declared.event.Answer.{Answer}
 use Rattle.console_core.specs.declared.event.Answer.TheVariants as answer
@@ -32,8 +30,8 @@ use Rattle.keymap_diff.specs.declared.change.Change.TheVariants.{ListedOtherwise
 use Rattle.play_core.specs.Written.{answer_text}
 use Rattle.kmap_runs.proofs.Comments.{IsInLine, append-line, decimal-line, digits-line, flat-line, if-line}
 use Rattle.kmap_runs.proofs.Comments.{is_in_line, name-line, names, text-at}
-use Rattle.kmap_runs.specs.Diff.{base_item, bases_text, column_item, columns_text, item, made_text, slots_text}
-use Rattle.kmap_runs.specs.Diff.{subject_of, unseen_text, values_of, with_slots}
+use Rattle.kmap_runs.specs.Diff.{base_item, bases_text, columns_text, item, made_text, slots_text}
+use Rattle.kmap_runs.specs.Diff.{subject_of, unseen_text, values_of}
 
 either-line : (t : Bool) (a b : List ℕ) → IsInLine a → IsInLine b → IsInLine (if t then a else b)
 either-line t a b h k = cond_both t a b IsInLine (λ _. h) (λ _. k)
@@ -112,34 +110,20 @@ answer-line answer.BackTab = refl
 answer-line (answer.Released a) = append-line (codes "released ") (name_of a) refl (action-line a)
 
 run-line : (ns : List ℕ) (i : ℕ) → IsInLine (run_text ns i)
-run-line ns i =
-    let n : List ℕ = decimal (slice_index ns i) in
-    let line : IsInLine n = decimal-line (slice_index ns i) in
-    either-line (begins_run ns i) (comma i ++ n) (if ends_run ns i then codes " to " ++ n else [])
-    (append-line (comma i) n (either-line (i == 0) [] (codes ", ") refl refl) line)
-    (if-line (ends_run ns i) (codes " to " ++ n) (append-line (codes " to ") n refl line))
+run-line ns i = search (rules, decimal-line, either-line, append-line, if-line)
 
 ranges-line : (ns : List ℕ) → IsInLine (ranges ns)
 ranges-line ns = flat-line (run_text ns) (run-line ns) (range_with_len 0 (length ns))
 
 slots-line : (xs : List Change) → IsInLine (slots_text xs)
-slots-line xs =
-    let slots : List ℕ = with_slots [] xs in
-    filled_all is_in_line (if length slots == 1 then codes "slot {}" else codes "slots {}") (ranges slots ∷ [])
-    (either-line (length slots == 1) (codes "slot {}") (codes "slots {}") refl refl) (ranges-line slots, tt)
+slots-line xs = search (rules, filled_all, is_in_line, either-line, ranges-line)
 
 item-line : (text : List ℕ) → IsInLine text → IsInLine (item text)
 item-line text h = append-line (codes ", ") text refl h
 
 columns-line : (columns : List Bool) → IsInLine (columns_text columns)
 columns-line columns =
-    let names : List ℕ = flat_map (column_item columns) (range_with_len 0 column_count) in
-    either-line (list_any (λ is_in. beq is_in false) columns) (drop 2 names) (codes "all columns")
-    (drop-line 2 names (flat-line (column_item columns) (λ column.
-    let name : List ℕ = slice_index_or column_names column [] in
-    if-line (slice_index_or columns column false) (item name) (item-line name (named column_names refl column)))
-    (range_with_len 0 column_count)))
-    refl
+    search (rules, names, either-line, drop-line, flat-line, if-line, item-line, named)
 
 base-line : (x : Change) → IsInLine (base_item x)
 base-line (Pair i base a b u) = item-line (character_text base) (character-line base)
@@ -156,16 +140,14 @@ bases-line xs = drop-line 2 (flat_map base_item xs) (flat-line base_item base-li
 pub subject-line : (way : Change) (columns : List Bool) (xs : List Change) → IsInLine (subject_of way columns xs)
 subject-line (Slots a b) columns xs = refl
 subject-line (Cell s c a b u) columns xs =
-    filled_all is_in_line (codes "cell: {}; {}") (slots_text xs ∷ columns_text columns ∷ []) refl
-    (slots-line xs, (columns-line columns, tt))
+    search (rules, filled_all, is_in_line, slots-line, columns-line)
 subject-line (Letter s a b u) columns xs =
     filled_all is_in_line (codes "lock: {}") (slots_text xs ∷ []) refl (slots-line xs, tt)
 subject-line (Accents a b) columns xs = refl
 subject-line (Accent i a b u) columns xs =
     filled_all is_in_line (codes "accent: {}") (accent_name i ∷ []) refl (accent-line i, tt)
 subject-line (Pair i base a b u) columns xs =
-    filled_all is_in_line (codes "pair: {}; {}") (accent_name i ∷ bases_text xs ∷ []) refl
-    (accent-line i, (bases-line xs, tt))
+    search (rules, filled_all, is_in_line, accent-line, bases-line)
 subject-line (ListedOtherwise i) columns xs =
     filled_all is_in_line (codes "pairs: {}") (accent_name i ∷ []) refl (accent-line i, tt)
 

@@ -1,6 +1,7 @@
 -- What is printed of two keymaps is a script of the events that tell them apart.
-use Rattle.kmap_runs.proofs.Common.{◌≡◌, ℕ, ◌+◌, ◌<◌, true, false, List, [], ◌∷◌, ◌++◌, refl, sym, ap, subst, ◌∙◌}
-use Rattle.kmap_runs.proofs.Common.{append-nil, lit<, decimal, reverse, codes, flat_map, reverse-reverse, All}
+use Rattle.std.proofs.Common.{rules}
+use Rattle.kmap_runs.proofs.Common.{◌≡◌, ℕ, ◌<◌, true, false, List, [], ◌∷◌, ◌++◌, refl, sym, ap, subst, ◌∙◌}
+use Rattle.kmap_runs.proofs.Common.{append-nil, lit<, reverse, codes, flat_map, reverse-reverse, All}
 use Rattle.kmap_runs.proofs.Common.{All-head, All-tail, All-reversed, MapValue, HasKey, HasKeys, Event, Sent}
 use Rattle.kmap_runs.proofs.Common.{IsScript, comment, sends, line-script, one_list}
 use Rattle.std.specs.Prelude.{◌≢◌}
@@ -22,13 +23,11 @@ use Rattle.keymap_diff.specs.declared.telling.Telling.TheVariants.{Told, Never, 
 use Rattle.play_core.specs.Delivery.{delivered}
 use Rattle.play_core.specs.Scripts.{key_of}
 use Rattle.play_core.specs.Spelling.{sent_line, sent_of}
-use Rattle.play_core.specs.Written.{answer_text}
 use Rattle.play_core.specs.declared.sent.What.TheVariants as what
 use Rattle.kmap_runs.proofs.Comments.{Adds, IsInLine, adds-nil, adds-script, decimal-line, quiet-comment, quiet-flat}
 use Rattle.kmap_runs.proofs.Comments.{◌⊳◌}
-use Rattle.kmap_runs.specs.Diff.{diff_text, is_unseen_way, line_text, lines_text, same_text, sent_along, sent_behind}
-use Rattle.kmap_runs.specs.Diff.{subject_text, unseen_text, values_of, verdict_line, way_line}
-use Rattle.kmap_runs.specs.Joined.{lines_of}
+use Rattle.kmap_runs.specs.Diff.{diff_text, is_unseen_way, lines_text, same_text, sent_along, sent_behind}
+use Rattle.kmap_runs.specs.Diff.{unseen_text, values_of, verdict_line, way_line}
 use Rattle.kmap_runs.specs.Replayed.{FitsKeys, TellingReplays}
 use Rattle.kmap_runs.proofs.DiffLines.{answer-line, subject-line, unseen-line, values-line}
 
@@ -37,11 +36,7 @@ use Rattle.kmap_runs.proofs.DiffLines.{answer-line, subject-line, unseen-line, v
 quiet-change : (way : Change) (subject : List ℕ) → IsInLine subject
     → Adds (comment (codes " {}{}: {} -> {}")
     (unseen_text (is_unseen_way way) ∷ subject ∷ (values_of way).0 ∷ (values_of way).1 ∷ [])) []
-quiet-change way subject h =
-    let values = values-line way in
-    quiet-comment (codes " {}{}: {} -> {}")
-    (unseen_text (is_unseen_way way) ∷ subject ∷ (values_of way).0 ∷ (values_of way).1 ∷ []) refl
-    (unseen-line (is_unseen_way way), (h, (values.0, (values.1, tt))))
+quiet-change way subject h = search (rules, values-line, quiet-comment, unseen-line)
 
 quiet-way : (way : Change) (subject : List ℕ) → IsInLine subject → Adds (way_line way subject) []
 quiet-way (ListedOtherwise i) subject h =
@@ -54,19 +49,13 @@ quiet-way (Accent i a b u) subject h = quiet-change (Accent i a b u) subject h
 quiet-way (Pair i base a b u) subject h = quiet-change (Pair i base a b u) subject h
 
 quiet-lines : (found : List Change) → Adds (lines_text found) []
-quiet-lines found =
-    quiet-flat line_text
-    (λ line. quiet-way line.0.way (subject_text line) (subject-line line.0.way line.0.columns line.1)) (lines_of found)
+quiet-lines found = search (rules, quiet-flat, quiet-way, subject-line)
 
 quiet-verdict : (t : Telling) → Adds (verdict_line t) []
-quiet-verdict (Told events a b) =
-    quiet-comment (codes " told apart: {} -> {}") (answer_text a ∷ answer_text b ∷ []) refl
-    (answer-line a, (answer-line b, tt))
+quiet-verdict (Told events a b) = search (rules, quiet-comment, answer-line)
 quiet-verdict (Never false) = quiet-comment (codes " never told apart") [] refl tt
 quiet-verdict (Never true) = quiet-comment (codes " not told apart before a modifier sticks") [] refl tt
-quiet-verdict (Undecided p) =
-    quiet-comment (codes " undecided: no list of up to {} presses tells them apart") (decimal p ∷ []) refl
-    (decimal-line p, tt)
+quiet-verdict (Undecided p) = search (rules, quiet-comment, decimal-line)
 
 -- ---- the events
 
@@ -99,9 +88,7 @@ events-add h (e ∷ events) keys =
 -- what is sent for an event delivers it
 delivers-one : (h : List Event) (e : Event) (rest : List Sent)
     → delivered (sent_behind h e ∷ rest) ≡ e ∷ delivered rest
-delivers-one h (event.Press k) rest =
-    cond_both (pressed k h) (repeated k) (pressed_down k)
-    (λ (s : Sent). delivered (s ∷ rest) ≡ event.Press k ∷ delivered rest) (λ _. refl) (λ _. refl)
+delivers-one h (event.Press k) rest = search (rules, cond_both)
 delivers-one h (event.Release k) rest = refl
 delivers-one h event.Reset rest = refl
 delivers-one h event.Load rest = refl
@@ -115,9 +102,7 @@ delivers-all h (e ∷ events) =
 
 fits-one : (h : List Event) (e : Event) → IsPressOrRelease e → IsOfPressedKey e h
     → ((sent_behind h e).lost ≡ false) × FitsKeys h (sent_behind h e).what
-fits-one h (event.Press k) is down =
-    cond_both (pressed k h) (repeated k) (pressed_down k) (λ (s : Sent). (s.lost ≡ false) × FitsKeys h s.what)
-    (λ e. (refl, e)) (λ e. (refl, e))
+fits-one h (event.Press k) is down = search (rules, cond_both)
 fits-one h (event.Release k) is down = (refl, down)
 fits-one h event.Reset is down = absurd is
 fits-one h event.Load is down = absurd (true≢false (sym is))
@@ -133,23 +118,14 @@ fits : (h events : List Event) → All IsPressOrRelease events → ReleasesPress
 fits h [] sent releases [] after s e = let f : [] ≡ s ∷ after = e in cc
 fits h [] sent releases (b ∷ before) after s e = let f : [] ≡ b ∷ (before ++ s ∷ after) = e in cc
 fits h (x ∷ events) sent releases [] after s e =
-    let f : sent_behind h x ∷ sent_along (x ∷ h) events ≡ s ∷ after = e in
-    let first : sent_behind h x ≡ s = cc in
-    subst (λ (z : Sent). (z.lost ≡ false) × FitsKeys h z.what) first
-    (fits-one h x (All-head IsPressOrRelease x events sent)
-    (releases-at (reverse events) h x (subst ReleasesPressedKeys (reverse-cons x events h) releases)))
+    search (rules, fits-one, All-head, releases-at, reverse-cons)
 fits h (x ∷ events) sent releases (b ∷ before) after s e =
-    let f : sent_behind h x ∷ sent_along (x ∷ h) events ≡ b ∷ (before ++ s ∷ after) = e in
-    let first : sent_behind h x ≡ b = cc in
-    let rest : sent_along (x ∷ h) events ≡ before ++ s ∷ after = cc in
-    let so =
-    fits (x ∷ h) events (All-tail IsPressOrRelease x events sent)
-    (subst ReleasesPressedKeys (reverse-cons x events h) releases) before after s rest in
-    let told : delivered (b ∷ before) ≡ x ∷ delivered before =
-    ap (λ (z : Sent). delivered (z ∷ before)) (sym first) ∙ delivers-one h x before in (
-      so.0,
-      subst (λ z. FitsKeys z s.what)
-          (sym (reverse-cons x (delivered before) h) ∙ ap (λ z. reverse z ++ h) (sym told)) so.1,
+    search (
+      rules,
+      All-tail,
+      reverse-cons,
+      delivers-one,
+      fits (x ∷ h) events (All-tail IsPressOrRelease x events sent),
     )
 
 -- ---- the whole text

@@ -1,4 +1,5 @@
 -- Events behind others: what is sent for them, and whether a key is pressed after them.
+use Rattle.std.proofs.Common.{rules}
 use Rattle.kmap_runs.proofs.Common.{◌≡◌, ℕ, ◌+◌, ◌<◌, Bool, true, false, List, [], ◌∷◌, ◌++◌, length, take, get_or}
 use Rattle.kmap_runs.proofs.Common.{reverse, if◌then◌else◌, refl, ap, sym, ◌∙◌, append_assoc, append-nil, flat_map}
 use Rattle.kmap_runs.proofs.Common.{codes, comment, map, Ok, Event}
@@ -46,17 +47,13 @@ reverse_more es i e low at =
 
 pub pressed_more : (k : ℕ) (es : List Event) (i : ℕ) (e : Event) (was : Bool) → i < length es → e ≡ get_or es i e
     → was ≡ pressed k (reverse (take i es)) → is_pressed_by e k was ≡ pressed k (reverse (take (i + 1) es))
-pressed_more k es i e was low at so =
-    ap (is_pressed_by e k) so ∙ sym (pressed_on k e (reverse (take i es)))
-    ∙ ap (pressed k) (sym (reverse_more es i e low at))
+pressed_more k es i e was low at so = search (rules, pressed_on, reverse_more)
 
 -- what is sent for events, and for one behind them
 sent_behind_all : (h es : List Event) (e : Event)
     → sent_along h (es ++ e ∷ []) ≡ sent_along h es ++ sent_behind (reverse es ++ h) e ∷ []
 sent_behind_all h [] e = refl
-sent_behind_all h (x ∷ es) e =
-    ap (λ l. sent_behind h x ∷ l) (sent_behind_all (x ∷ h) es e)
-    ∙ ap (λ g. sent_behind h x ∷ sent_along (x ∷ h) es ++ sent_behind g e ∷ []) (sym (reverse-cons x es h))
+sent_behind_all h (x ∷ es) e = search (rules, reverse-cons, sent_behind_all (x ∷ h) es e)
 
 -- the lines of the first events, and that of the next one
 lines_more : (es : List Event) (i : ℕ) (e : Event) → i < length es → e ≡ get_or es i e
@@ -74,15 +71,7 @@ pub script_more : (es before : List Event) (i : ℕ) (e : Event) (old all more :
     → all ≡ old ++ flat_map sent_line (sent_along [] (take i es)) → before ≡ take i es → i < length es
     → e ≡ get_or es i e → more ≡ old ++ flat_map sent_line (sent_along [] (take (i + 1) es))
 script_more es before i e old all more line so front low at =
-    let behind = lines_more es i e low at in
-    cc (
-      line,
-      so,
-      front,
-      behind,
-      append_assoc old (flat_map sent_line (sent_along [] (take i es)))
-          (sent_line (sent_behind (reverse (take i es)) e)),
-    )
+    search (rules, lines_more, append_assoc)
 
 -- the texts of lines, and those of what they tell
 pub lines_told : (ls : List Line) → flat_map (λ l. line_text (told l)) ls ≡ flat_map line_text (map told ls)

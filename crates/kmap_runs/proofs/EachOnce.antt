@@ -1,14 +1,14 @@
 -- Each change is told in one line, and a line names what its changes are of.
+use Rattle.std.proofs.Common.{rules}
 use Rattle.kmap_runs.proofs.Common.{◌≡◌, ◌∙◌, ◌<◌, ◌++◌, ◌∷◌, [], ℕ, Bool, true, false, List, length, zero, suc, All}
-use Rattle.kmap_runs.proofs.Common.{get_or, refl, sym, ap, subst, arith, rules, inl, inr, if◌then◌else◌, append-nil}
-use Rattle.kmap_runs.proofs.Common.{append_assoc, All-head, All-tail, Option, flat_map, ◌==◌}
+use Rattle.kmap_runs.proofs.Common.{get_or, refl, sym, ap, subst, arith, inl, inr, if◌then◌else◌, append-nil}
+use Rattle.kmap_runs.proofs.Common.{append_assoc, All-head, All-tail, flat_map}
 use Rattle.std.specs.Prelude.{◌≢◌, IsPermutation}
 use Rattle.std.specs.List.{AllPairs, Contains}
 use Rattle.std.specs.Bool.{Decides}
 use Rattle.std.specs.Cmp.Lexicographic.{pointwise_decides}
-use Rattle.std.specs.Option.{option_eq}
 use Rattle.std.proofs.lemmas.Bool.{true≢false}
-use Rattle.std.proofs.lemmas.Bool.Decides.{Decides-and, Decides-eqb}
+use Rattle.std.proofs.lemmas.Bool.Decides.{Decides-and}
 use Rattle.std.proofs.lemmas.List.{nil_from_length}
 use Rattle.std.proofs.lemmas.List.Sorted.{IsPermutation-refl, IsPermutation-trans, IsPermutation-sym}
 use Rattle.std.proofs.lemmas.List.Sorted.{IsPermutation-append_right, IsPermutation-append_left, length_permutation}
@@ -17,50 +17,18 @@ use Rattle.std.proofs.lemmas.List.Elements.{All-nil, All-cons, All-weaker, All-p
 use Rattle.std.proofs.lemmas.List.Elements.{Contains-append_cases}
 use Rattle.std.proofs.lemmas.List.Kept.{AllPairs-cons}
 use Rattle.keymap_core.specs.Numbers.{column_count}
-use Rattle.keymap_core.specs.declared.entry.Cell.{Cell as CellValue}
-use Rattle.keymap_core.specs.declared.entry.LockFlag.{LockFlag}
-use Rattle.keymap_core.specs.contracts.entry.CellPartialEq.TheImpl as cell
-use Rattle.keymap_core.specs.contracts.entry.LockFlagPartialEq.TheImpl as flag
 use Rattle.console_states.proofs.Visible.{any-member, some-member}
 use Rattle.keymap_cover.proofs.Telling.{flat-has, flat-of}
+use Rattle.keymap_diff.proofs.SameChanges.{bool-same, change-same}
 use Rattle.keymap_diff.specs.contracts.change.ChangePartialEq.TheImpl as change
 use Rattle.keymap_diff.specs.declared.change.Change.{Change}
-use Rattle.keymap_diff.specs.declared.change.Change.TheVariants.{Slots, Cell, Letter, Accents, Accent, Pair}
-use Rattle.keymap_diff.specs.declared.change.Change.TheVariants.{ListedOtherwise}
+use Rattle.keymap_diff.specs.declared.change.Change.TheVariants.{Cell}
 use Rattle.kmap_runs.specs.contracts.joined.LabelPartialEq.TheImpl as label
 use Rattle.kmap_runs.specs.declared.joined.Label.{Label}
 use Rattle.kmap_runs.specs.Joined.{Told, has, has_in, label_of, lines_of, way_of, with_change, with_changes}
 use Rattle.kmap_runs.specs.ToldOnce.{AreToldOnce, IsOfOneWay, TellsAllColumns, changes_of}
-use mathlib.Core.Bool.{beq}
 
-cell-same : (a b : CellValue) → Decides (cell.eq-value.it a b) (a ≡ b)
-cell-same a b = search rules
-
-flag-same : (a b : LockFlag) → Decides (flag.eq-value.it a b) (a ≡ b)
-flag-same a b = search rules
-
-bool-same : (a b : Bool) → Decides (beq a b) (a ≡ b)
-bool-same a b = search rules
-
-option-same : (a b : Option ℕ) → Decides (option_eq (λ x y. x == y) a b) (a ≡ b)
-option-same a b = search rules
-
-change-same : (a b : Change) → Decides (change.eq-value.it a b) (a ≡ b)
-change-same (Slots a b) (Slots c d) = search rules
-change-same (Cell r d x z w) (Cell s c a b u) =
-    let rest = Decides-and _ _ (cell-same x a) (Decides-and _ _ (cell-same z b) (bool-same w u)) in
-    let whole = Decides-and _ _ (Decides-eqb r s) (Decides-and _ _ (Decides-eqb d c) rest) in (
-      λ e. let p = whole.0 e in cc (p.0, p.1.0, p.1.1.0, p.1.1.1.0, p.1.1.1.1),
-      λ e. whole.1 (cc, (cc, (cc, (cc, cc)))),
-    )
-change-same (Letter r x z w) (Letter s a b u) = search (rules, flag-same, bool-same)
-change-same (Accents a b) (Accents c d) = search rules
-change-same (Accent r x z w) (Accent s a b u) = search (rules, bool-same)
-change-same (Pair r d x z w) (Pair s c a b u) = search (rules, option-same, bool-same)
-change-same (ListedOtherwise a) (ListedOtherwise b) = search rules
-change-same a b = (λ e. absurd (true≢false (sym e)), λ e. cc)
-
-label-same : (a b : Label) → Decides (label.eq-value.it a b) (a ≡ b)
+pub label-same : (a b : Label) → Decides (label.eq-value.it a b) (a ≡ b)
 label-same a b =
     let d = Decides-and _ _ (change-same a.way b.way) (pointwise_decides bool-same a.columns b.columns) in (
       λ h. let e = d.0 h in λ i. record { way = e.0 i; columns = e.1 i },
@@ -82,8 +50,7 @@ changes-more (line ∷ lines) l x = by (label.eq-value.it line.0 l) (changes-mor
         → IsPermutation ((line.1 ++ changes_in lines) ++ x ∷ [])
         (changes_in (if t then (line.0, line.1 ++ x ∷ []) ∷ lines else line ∷ with_change lines l x))
     by true more =
-        rw (append_assoc line.1 (changes_in lines) (x ∷ []), append_assoc line.1 (x ∷ []) (changes_in lines))
-        (IsPermutation-append_right line.1 _ _ (IsPermutation-append_comm (changes_in lines) (x ∷ [])))
+        search (rules, append_assoc, IsPermutation-append_right, IsPermutation-append_comm)
     by false more =
         rw (append_assoc line.1 (changes_in lines) (x ∷ [])) (IsPermutation-append_right line.1 _ _ more)
 
@@ -108,11 +75,7 @@ not-nil (y ∷ xs) x e = let f : y ∷ (xs ++ x ∷ []) ≡ [] = e in cc
 
 lines-more : (found : List Change) (lines : List Told) (x : Change) → All (IsLineOf found) lines
     → All (IsLineOf found) (with_change lines (label_of found x) x)
-lines-more found [] x all =
-    All-cons (IsLineOf found) (label_of found x, x ∷ []) [] (record {
-      some = λ e. let f : x ∷ [] ≡ [] = e in cc;
-      same = All-cons (λ y. label_of found y ≡ label_of found x) x [] refl (All-nil _);
-    }) (All-nil (IsLineOf found))
+lines-more found [] x all = search (rules, All-cons, All-nil)
 lines-more found (line ∷ lines) x all =
     by (label.eq-value.it line.0 (label_of found x)) refl
     (lines-more found lines x (All-tail (IsLineOf found) line lines all))

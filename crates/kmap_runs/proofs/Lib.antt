@@ -1,5 +1,6 @@
 mod Accepted
 mod Chained
+mod Columns
 mod Comments
 mod Common
 mod Counted
@@ -10,6 +11,7 @@ mod DiffScripts
 mod Differing
 mod Dumped
 mod EachOnce
+mod LineOf
 mod NamedSlots
 mod OneSlot
 mod PlainScripts

@@ -1,8 +1,8 @@
 -- Changes that are told in one line: those of one slot stand together.
+use Rattle.std.proofs.Common.{rules}
 use Rattle.kmap_runs.proofs.Common.{◌≡◌, ◌∙◌, ◌==◌, ◌≤◌, ◌<◌, ◌+◌, ◌*◌, ◌-◌, ◌++◌, ◌∷◌, [], ℕ, Bool, true, false, List}
-use Rattle.kmap_runs.proofs.Common.{length, map, take, drop, get_or, refl, sym, ap, subst, arith, inl, inr, All}
+use Rattle.kmap_runs.proofs.Common.{length, take, drop, get_or, refl, sym, ap, subst, arith, inl, inr, All}
 use Rattle.kmap_runs.proofs.Common.{All-head, All-tail}
-use Rattle.std.proofs.Math.ListN.{set}
 use Rattle.std.proofs.lemmas.Bool.{and_parts, cases_lt, eq-eqb, eqb-true, false_from_ne_true, true≢false}
 use Rattle.std.proofs.lemmas.List.Elements.{Contains-get_or}
 use Rattle.keymap_core.specs.declared.entry.Cell.{Cell as CellValue}
@@ -10,39 +10,20 @@ use Rattle.keymap_diff.specs.contracts.change.ChangePartialEq.TheImpl as change
 use Rattle.std.specs.Prelude.{◌||◌}
 use Rattle.std.specs.List.{list_any}
 use Rattle.std.proofs.lemmas.List.Folds.{list_any-append, list_any_none}
-use Rattle.std.proofs.lemmas.List.{drop-drop, drop_more, get_or_default, get_or-drop, get_or-take, length-drop}
-use Rattle.std.proofs.lemmas.List.{length-take-le, drop-take, take-take, drop-set, map-append, take-append-drop}
-use Rattle.std.proofs.lemmas.List.{take-set}
+use Rattle.std.proofs.lemmas.List.{drop-drop, get_or_default, get_or-drop, get_or-take, length-drop}
+use Rattle.std.proofs.lemmas.List.{length-take-le, drop-take, take-take, take-append-drop}
 use Rattle.keymap_diff.specs.declared.change.Change.{Change}
 use Rattle.keymap_diff.specs.declared.change.Change.TheVariants.{Cell, Accents}
 use Rattle.keymap_core.specs.Maps.{MapValue}
 use Rattle.keymap_diff.specs.Changes.{AreChanges, IsChange, place_of}
-use Rattle.kmap_runs.specs.contracts.joined.LabelPartialEq.TheImpl as label
 use Rattle.kmap_runs.specs.declared.joined.Label.{Label}
-use Rattle.kmap_runs.specs.declared.joined.Line.{Line}
-use Rattle.kmap_runs.specs.Joined.{IsRun, Told, are_of_one_slot, at, is_of_slot, label_of, has, told}
+use Rattle.kmap_runs.specs.Joined.{IsRun, Told, are_of_one_slot, at, is_of_slot, label_of, has}
 use Rattle.kmap_runs.specs.Joined.{with_change, with_changes}
 
 -- no cell before the place is of the slot of one from there on
 abbrev pub IsCut : List Change → ℕ → Type 0
 IsCut found first =
     (j k : ℕ) → j < first → first ≤ k → k < length found → are_of_one_slot (at found j) (at found k) ≡ false
-
--- ---- a line with one change more
-
--- the line at the place has the label, and those before it don't
-pub changed : (lines : List Line) (i : ℕ) (x y : Line) (l : Label) (c : Change) → i < length lines
-    → x ≡ get_or lines i x → label.eq-value.it x.label l ≡ true → y.label ≡ x.label
-    → y.changes.items ≡ x.changes.items ++ c ∷ []
-    → with_change (map told lines) l c ≡ map told (take i lines) ++ with_change (map told (drop i lines)) l c
-    → map told (set lines i y) ≡ with_change (map told lines) l c
-changed lines i x y l c low at is same more before =
-    let front : drop i lines ≡ x ∷ drop (i + 1) lines = cc (drop_more lines i x low) in
-    let parted : set lines i y ≡ take i lines ++ y ∷ drop (i + 1) lines =
-    cc (take-append-drop i (set lines i y), take-set lines i y, drop-set lines i y low) in
-    let line : with_change (told x ∷ map told (drop (i + 1) lines)) l c ≡ told y ∷ map told (drop (i + 1) lines) =
-    rw (is, same, more) refl in
-    cc (map-append told (take i lines) (y ∷ drop (i + 1) lines))
 
 -- ---- changes of one slot stand together
 
@@ -61,9 +42,7 @@ abbrev IsOfSlot : ℕ → Change → Type 0
 IsOfSlot s x = (s < 256) × (1 + s * 8 ≤ place_of x) × (place_of x < 9 + s * 8)
 
 of-slot : (v : Compared) (s : ℕ) (x : Change) → IsChangeOf v x → is_of_slot s x ≡ true → IsOfSlot s x
-of-slot v s (Cell r c a b u) is e =
-    let same : r ≡ s = eqb-true r s e in
-    (omega (arith, is.0, same), omega (arith, same), omega (arith, same, is.1))
+of-slot v s (Cell r c a b u) is e = search (rules, eqb-true)
 of-slot v s x is e = absurd (true≢false (sym e))
 
 slot-of : (v : Compared) (s : ℕ) (x : Change) → IsChangeOf v x → IsOfSlot s x → is_of_slot s x ≡ true
@@ -94,17 +73,11 @@ ordered v found i j are le low = elim (cases_lt i j) [
 between : (v : Compared) (s : ℕ) (x e y : Change) → IsChangeOf v x → IsChangeOf v e → IsChangeOf v y
     → is_of_slot s x ≡ true → is_of_slot s y ≡ true → place_of x ≤ place_of e → place_of e ≤ place_of y
     → is_of_slot s e ≡ true
-between v s x e y xs es ys of_x of_y le ge =
-    let a = of-slot v s x xs of_x in
-    let b = of-slot v s y ys of_y in
-    slot-of v s e es (a.0, omega (arith, a.1, le), omega (arith, b.2, ge))
+between v s x e y xs es ys of_x of_y le ge = search (rules, of-slot, slot-of)
 
 -- one that shares slots with two shares one with both
 shared : (v : Compared) (s r : ℕ) (x : Change) → IsChangeOf v x → is_of_slot s x ≡ true → is_of_slot r x ≡ true → s ≡ r
-shared v s r x is of_s of_r =
-    let a = of-slot v s x is of_s in
-    let b = of-slot v r x is of_r in
-    omega (arith, a.1, a.2, b.1, b.2)
+shared v s r x is of_s of_r = search (rules, of-slot)
 
 -- behind a run no cell is of a slot of those up to its end
 pub cut-more : (v : Compared) (found : List Change) (first end : ℕ) → AreChangesOf v found → first < end
@@ -165,9 +138,7 @@ run_of found first end = take (end - first) (drop first found)
 none-of : (xs : List Change) (s c : ℕ) (a b : CellValue) (u : Bool)
     → ((j : ℕ) (d : Change) → j < length xs → is_of_slot s (get_or xs j d) ≡ true → ⊥)
     → has xs (Cell s c a b u) ≡ false
-none-of xs s c a b u none =
-    list_any_none (λ y. change.eq-value.it y (Cell s c a b u)) xs
-    (λ j d low. false_from_ne_true _ (λ e. none j d low (same-cell (get_or xs j d) s c a b u e)))
+none-of xs s c a b u none = search (rules, list_any_none, false_from_ne_true, same-cell)
 
 same-at : (xs : List Change) (i : ℕ) (d : Change) → i < length xs → get_or xs i d ≡ at xs i
 same-at xs i d low = get_or_default xs i d (Accents 0 0) low

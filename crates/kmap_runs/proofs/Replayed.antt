@@ -24,7 +24,6 @@ use Rattle.console_states.specs.Sticking.{IsAnswer, IsAnswerBetween}
 use Rattle.keymap_check.specs.Report.{report_of}
 use Rattle.keymap_check.specs.Scripts.{demonstration_of}
 use Rattle.keymap_check.proofs.Demonstrated.{demonstrations_leave_modifiers_on}
-use Rattle.play_core.specs.Delivery.{delivered}
 use Rattle.play_core.specs.Spelling.{IsWritable, sent_of}
 use Rattle.play_core.specs.Typing.{alone, IsTyped}
 use Rattle.play_core.specs.Written.{typed_text, text_after}
@@ -33,7 +32,7 @@ use Rattle.kmap_runs.specs.Report.{check_text, demonstration_text, report}
 use Rattle.kmap_runs.specs.Search.{script_text, found_text}
 use Rattle.kmap_runs.specs.Runs.{TypesSentence}
 use Rattle.kmap_runs.specs.Replayed.{ScriptTypes, Delivers, AnswerReplays, AnswerReplaysBetween, ShowsDemonstration}
-use Rattle.kmap_runs.specs.Replayed.{ShowsScript, sent_for}
+use Rattle.kmap_runs.specs.Replayed.{ShowsScript}
 use Rattle.kmap_runs.proofs.Comments.{IsInLine, flat-line, decimal-line, code-line, comment-before, comment-alone}
 use Rattle.console_core.specs.declared.event.Event.TheVariants as event
 use Rattle.play_core.specs.declared.show.Show.TheVariants as show
@@ -129,13 +128,7 @@ typing-types m bytes x t = search (rules, typing-sends, typed-back)
 -- a script that sends events sends nothing else, and delivers them
 delivers-these : (script : List ℕ) (events : List Event) → IsScript script (map sent_of events)
     → Delivers script (reverse events)
-delivers-these script events is =
-    let same : sent_for (reverse events) ≡ map sent_of events = ap (map sent_of) (reverse-reverse events) in
-    record {
-      is = subst (IsScript script) (sym same) is;
-      nothing_else = λ sent h. one_list script sent (map sent_of events) h is ∙ sym same;
-      delivers = ap (λ s. reverse (delivered s)) same ∙ ap reverse (delivers events);
-    }
+delivers-these script events is = search (rules, reverse-reverse, one_list, delivers)
 
 -- what is printed to type characters delivers their events, and nothing else
 pub typing-delivers : (m : MapValue) (cs : List ℕ) (x : Typing) → AreTyped m cs x

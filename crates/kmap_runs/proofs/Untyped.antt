@@ -1,6 +1,7 @@
 -- Of characters one after another, those that keys can't type.
-use Rattle.std.proofs.Common.{◌≡◌, ◌∙◌, ◌+◌, ◌<◌, ◌≤◌, ◌⊎◌, ◌∷◌, ◌++◌, ℕ, All, Bool, List, [], ap, append_assoc}
-use Rattle.std.proofs.Common.{arith, below_more, eqb, false, get_or, inl, inr, length, length-append, refl, subst}
+use Rattle.std.proofs.Common.{rules}
+use Rattle.std.proofs.Common.{◌≡◌, ◌∙◌, ◌<◌, ◌≤◌, ◌⊎◌, ◌∷◌, ◌++◌, ℕ, All, Bool, List, [], ap, append_assoc}
+use Rattle.std.proofs.Common.{arith, below_more, eqb, false, inl, inr, length, length-append, refl, subst}
 use Rattle.std.proofs.Common.{sym, true, true≢false}
 use Rattle.std.proofs.lemmas.Bool.{eqb-true}
 use Rattle.std.proofs.lemmas.List.{get_or_append_left, get_or_push, map-append}
@@ -11,7 +12,7 @@ use Rattle.std.proofs.lemmas.Map.Views.{Contains-from_any, list_any-from_Contain
 use Rattle.std.proofs.lemmas.Str.{chars_from_encodes, encodes-append, len_utf8_bounds, length-encode, scalars-chars}
 use Rattle.std.specs.Cmp.{nat_eq_equiv}
 use Rattle.std.specs.List.{Contains, list_any}
-use Rattle.std.specs.Prelude.{encode_utf8, if◌then◌else◌, nat_eq, ◌||◌}
+use Rattle.std.specs.Prelude.{if◌then◌else◌, nat_eq, ◌||◌}
 use Rattle.std.specs.Str.{IsUtf8, all_scalars, encode_utf8_all}
 use Rattle.keymap_core.specs.Maps.{MapValue}
 use Rattle.console_scripts.specs.Typing.{CanType}
@@ -22,13 +23,7 @@ use Rattle.kmap_runs.specs.declared.missing.Missing.{Missing}
 
 -- what stands first does so with one more behind it
 stands-still : (cs : List ℕ) (c : ℕ) (x : Missing) → StandsFirst cs x → StandsFirst (cs ++ c ∷ []) x
-stands-still cs c x s = record {
-  before = s.before;
-  after = s.after ++ c ∷ [];
-  there = ap (λ z. z ++ c ∷ []) s.there ∙ append_assoc s.before (x.character ∷ s.after) (c ∷ []);
-  first = s.first;
-  offset = s.offset;
-}
+stands-still cs c x s = search (rules, append_assoc)
 
 -- one that isn't among those before it
 stands-last : (cs : List ℕ) (x : Missing) → list_any (eqb x.character) cs ≡ false
@@ -46,33 +41,14 @@ stands-last cs x new is = record {
 pub stands-inside : (cs : List ℕ) (n : ℕ) (x : Missing) → n ≡ length (encode_utf8_all cs) → StandsFirst cs x
     → x.offset < n
 stands-inside cs n x is s =
-    let e = ap length (ap encode_utf8_all s.there ∙ encodes-append s.before (x.character ∷ s.after)) in
-    let a = length-append (encode_utf8_all s.before) (encode_utf8 x.character ++ encode_utf8_all s.after) in
-    let b = length-append (encode_utf8 x.character) (encode_utf8_all s.after) in
-    let l = length-encode x.character in
-    let some = len_utf8_bounds x.character in
-    let at = s.offset in
-    omega arith
+    search (rules, encodes-append, length-append, length-encode, len_utf8_bounds)
 
 -- ---- numbers that ascend
 
 -- with a greater one behind them
 ascend-more : (ns : List ℕ) (n : ℕ) → Ascend ns → All (λ k. k < n) ns → Ascend (ns ++ n ∷ [])
 ascend-more ns n ascend below i j lt inside =
-    let all : length (ns ++ n ∷ []) ≡ length ns + 1 = length-append ns (n ∷ []) in
-    below_more (λ k. i < k → get_or (ns ++ n ∷ []) i 0 < get_or (ns ++ n ∷ []) k 0) (length ns)
-    (λ k near less.
-    let i_inside : i < length ns = omega arith in
-    let left = get_or_append_left ns (n ∷ []) 0 i i_inside in
-    let right = get_or_append_left ns (n ∷ []) 0 k near in
-    rw (left, right) (ascend i k less near))
-    (λ less.
-    let left = get_or_append_left ns (n ∷ []) 0 i less in
-    let right = get_or_push ns n 0 (length ns) refl in
-    rw (left, right) (below i 0 less))
-    j
-    (omega arith)
-    lt
+    search (rules, length-append, below_more, get_or_append_left, get_or_push)
 
 -- ---- one character more
 
@@ -167,10 +143,7 @@ either false false = refl
 pub seen-more : (q x : ℕ) (new old : Bool) (cs : List ℕ) → new ≡ (if nat_eq x q then true else old)
     → old ≡ list_any (nat_eq q) cs
     → new ≡ list_any (nat_eq q) (cs ++ x ∷ [])
-seen-more q x new old cs is same =
-    is ∙ ap (λ b. if b then true else old) (nat_eq_equiv.symm x q)
-    ∙ ap (λ o. if nat_eq q x then true else o) same ∙ either (nat_eq q x) (list_any (nat_eq q) cs)
-    ∙ sym (list_any-append (nat_eq q) cs (x ∷ []))
+seen-more q x new old cs is same = search (rules, nat_eq, either, list_any-append)
 
 -- ---- of a sentence
 

@@ -1,5 +1,5 @@
 -- Which changes are told in one line.
-use Rattle.std.specs.Prelude.{◌≡◌, ℕ, ◌+◌, ◌<◌, ◌≤◌, ◌==◌, Bool, true, false, List, [], ◌∷◌, ◌++◌, length}
+use Rattle.std.specs.Prelude.{◌≡◌, ℕ, ◌<◌, ◌==◌, Bool, true, false, List, [], ◌∷◌, ◌++◌, length}
 use Rattle.std.specs.Prelude.{if◌then◌else◌, slice_index_or}
 use Rattle.std.specs.List.{list_any}
 use Rattle.keymap_core.specs.Maps.{MapValue}
@@ -26,14 +26,15 @@ abbrev pub has_in : List Change → Change → ℕ → Bool
 has_in found (Cell s c a b u) column = has found (Cell s column a b u)
 has_in found x column = false
 
+-- whether it does in each column
+abbrev pub columns_in : List Change → Change → List Bool
+columns_in found x =
+    has_in found x 0 ∷ has_in found x 1 ∷ has_in found x 2 ∷ has_in found x 3 ∷ has_in found x 4 ∷ has_in found x 5
+    ∷ has_in found x 6 ∷ has_in found x 7 ∷ []
+
 -- What a line tells beside the slots or bases: the way of its changes, and of cells the columns that change so.
 abbrev pub label_of : List Change → Change → Label
-label_of found x = record {
-  way = way_of x;
-  columns =
-      has_in found x 0 ∷ has_in found x 1 ∷ has_in found x 2 ∷ has_in found x 3 ∷ has_in found x 4 ∷ has_in found x 5
-      ∷ has_in found x 6 ∷ has_in found x 7 ∷ [];
-}
+label_of found x = record { way = way_of x; columns = columns_in found x }
 
 -- a line: what it tells, and its changes
 abbrev pub Told : Type 0

@@ -3,6 +3,7 @@ pub mod Cover
 pub mod Diff
 pub mod FaultLine
 pub mod FmtRuns
+pub mod Inner
 pub mod Inputs
 pub mod Joined
 pub mod LintRuns

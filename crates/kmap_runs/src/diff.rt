@@ -1,5 +1,5 @@
 //! What differs between two keymaps, and what tells them apart, as a script that `kmap play` reads with either.
-ghost use Rattle.std.specs.Prelude.{◌≡◌, ◌<◌, ◌++◌, [], decimal, drop, reverse, IfOk, OnOk};
+ghost use Rattle.std.specs.Prelude.{◌≡◌, ◌<◌, ◌≤◌, ◌++◌, [], drop, length, reverse, IfOk, OnOk};
 ghost use Rattle.std.specs.List.{flat_map, range_with_len};
 ghost use Rattle.console_core.specs.History.{pressed};
 ghost use Rattle.keymap_core.specs.Numbers.{column_count};
@@ -17,32 +17,45 @@ use crate::words::{
     LOCK, META_CHARACTER, NEVER_TOLD, NO_RESULT, NOT_TOLD, ONE, ORDER, PAIR, RELEASED, REPEAT,
     SAME, SEVERAL_SLOTS, SLOT_COUNT, TOLD, UNSEEN, UNTOLD,
 };
+use arrayvec::ArrayVec;
 use console_core::{Answer, Event};
 use keymap_core::{COLUMN_COUNT, Cell, KeyCode};
 use keymap_diff::{Change, Telling};
 use keymap_lint_text::{accent_name, column_name, ranges};
 use keymap_text::{character_text, flag_letter};
-use messages::{either, fill, filled, number, small};
+use messages::{LINE, either, fill, filled, number, small};
 use std::alloc::{AllocError, Global};
 
 type Added = Result<(), AllocError>;
 
-fn cell_text(alloc: Global, cell: Cell) -> Result<Vec<u8>, AllocError>
-    ensures { IfOk result (λ text. text.items ≡ cell_text_of cell) }
+/// What something is in one of the keymaps.
+type Value = ArrayVec<u8, 20>;
+
+fn value(text: &[u8]) -> Value
+    requires { length text.now ≤ 20 }
+    ensures { result.items ≡ text.now }
+{
+    let mut value = Value::new();
+    let _ = value.try_extend_from_slice(text);
+    value
+}
+
+fn cell_value(cell: Cell) -> Value
+    ensures { result.items ≡ cell_text_of cell }
 {
     match cell {
-        Cell::Char(c) => Vec::from_slice(alloc, character_text(c).as_slice()),
-        Cell::Act(action) => Vec::from_slice(alloc, action.name().as_slice()),
+        Cell::Char(c) => value(character_text(c).as_slice()),
+        Cell::Act(action) => value(action.name().as_slice()),
     }
 }
 
 /// What an accent makes of a base, if it takes it.
-fn made_text(alloc: Global, made: Option<char>) -> Result<Vec<u8>, AllocError>
-    ensures { IfOk result (λ text. text.items ≡ spec.made_text made) }
+fn made_value(made: Option<char>) -> Value
+    ensures { result.items ≡ spec.made_text made }
 {
     match made {
-        Some(c) => Vec::from_slice(alloc, character_text(c).as_slice()),
-        None => Vec::from_slice(alloc, NO_RESULT),
+        Some(c) => value(character_text(c).as_slice()),
+        None => value(NO_RESULT),
     }
 }
 
@@ -131,7 +144,7 @@ fn columns_text(alloc: Global, columns: &[bool; COLUMN_COUNT]) -> Result<Vec<u8>
     ensures { IfOk result (λ text. text.items ≡ spec.columns_text columns.now) }
 {
     if columns.contains(&false) {
-        let mut list = Vec::new(alloc);
+        let mut list = Vec::with_capacity(alloc, LINE)?;
         push_columns(&mut list, columns)?;
         Vec::from_slice(alloc, without_comma(list.as_slice()))
     } else {
@@ -161,7 +174,7 @@ fn push_bases(list: &mut Vec<u8>, changes: &[Change]) -> Added
 fn bases_text(alloc: Global, changes: &[Change]) -> Result<Vec<u8>, AllocError>
     ensures { IfOk result (λ text. text.items ≡ spec.bases_text changes.now) }
 {
-    let mut list = Vec::new(alloc);
+    let mut list = Vec::with_capacity(alloc, LINE)?;
     push_bases(&mut list, changes)?;
     Vec::from_slice(alloc, without_comma(list.as_slice()))
 }
@@ -208,32 +221,18 @@ fn subject(alloc: Global, line: &Line) -> Result<Vec<u8>, AllocError>
     }
 }
 
-fn number_text(alloc: Global, n: u16) -> Result<Vec<u8>, AllocError>
-    ensures { IfOk result (λ text. text.items ≡ decimal n) }
-{
-    Vec::from_slice(alloc, number(u64::from(n)).as_slice())
-}
-
 /// What it is in the old keymap, and what in the new one.
-fn values(alloc: Global, way: &Change) -> Result<(Vec<u8>, Vec<u8>), AllocError>
-    ensures { IfOk result (λ texts. (texts.0.items, texts.1.items) ≡ spec.values_of way.now) }
+fn values(way: &Change) -> (Value, Value)
+    ensures { (result.0.items, result.1.items) ≡ spec.values_of way.now }
 {
     match *way {
-        Change::Slots { old, new } => Ok((number_text(alloc, old)?, number_text(alloc, new)?)),
-        Change::Cell { old, new, .. } => Ok((cell_text(alloc, old)?, cell_text(alloc, new)?)),
-        Change::Letter { old, new, .. } => Ok((
-            Vec::from_slice(alloc, &[flag_letter(old)])?,
-            Vec::from_slice(alloc, &[flag_letter(new)])?,
-        )),
-        Change::Accents { old, new } => Ok((
-            number_text(alloc, u16::from(old))?,
-            number_text(alloc, u16::from(new))?,
-        )),
-        Change::Accent { old, new, .. } => {
-            Ok((made_text(alloc, Some(old))?, made_text(alloc, Some(new))?))
-        }
-        Change::Pair { old, new, .. } => Ok((made_text(alloc, old)?, made_text(alloc, new)?)),
-        Change::ListedOtherwise { .. } => Ok((Vec::new(alloc), Vec::new(alloc))),
+        Change::Slots { old, new } => (number(u64::from(old)), number(u64::from(new))),
+        Change::Cell { old, new, .. } => (cell_value(old), cell_value(new)),
+        Change::Letter { old, new, .. } => (value(&[flag_letter(old)]), value(&[flag_letter(new)])),
+        Change::Accents { old, new } => (number(u64::from(old)), number(u64::from(new))),
+        Change::Accent { old, new, .. } => (made_value(Some(old)), made_value(Some(new))),
+        Change::Pair { old, new, .. } => (made_value(old), made_value(new)),
+        Change::ListedOtherwise { .. } => (Value::new(), Value::new()),
     }
 }
 
@@ -249,7 +248,7 @@ fn push_line(text: &mut Vec<u8>, alloc: Global, line: &Line) -> Added
             &[subject.as_slice()],
         ),
         _ => {
-            let (old, new) = values(alloc, way)?;
+            let (old, new) = values(way);
             let unseen = either(is_unseen_way(way), UNSEEN, b"");
             push_comment(
                 text,

@@ -8,9 +8,7 @@ pub returns-in_err-told-clause-run : goal.returns-in_err-told-clause-run
 returns-in_err-told-clause-run g c = search (rules, err_from_is_err_and, Keeps-refl)
 
 pub returns-in-Ok-clause-run : goal.returns-in-Ok-clause-run
-returns-in-Ok-clause-run g c =
-    let bytes = rw c.as_slice.ensures.value at c.in-Ok.ensures.bytes in
-    (c.in_ok-map.map, c.in_ok-told.told.items, c.in_ok-map.ensures.reads, c.in_ok-told.ensures.ok, bytes)
+returns-in-Ok-clause-run g c = search rules
 
 pub returns-clause-run : goal.returns-clause-run
 returns-clause-run g c =

@@ -1,5 +1,5 @@
-use Rattle.kmap_runs.proofs.Common.{◌≡◌, ap}
-use Rattle.kmap_runs.specs.Diff.{subject_text, values_of}
+use Rattle.kmap_runs.proofs.Common.{ap}
+use Rattle.kmap_runs.specs.Diff.{subject_text}
 use Rattle.kmap_runs.specs.Joined.{told}
 use Rattle.kmap_runs.proofs.Differing.{other_line}
 use Rattle.kmap_runs.proofs.diff.push_line.Goals as goal
@@ -13,9 +13,9 @@ pub returns : goal.returns
 returns c =
     let line = c.args.line.now in
     let way = line.label.way in
-    let values = c.in_ok-old-in_default.ensures in
-    let old : c.in_ok-old-in_default.old.items ≡ (values_of way).0 = ap (λ p. p.0) values in
-    let new : c.in_ok-old-in_default.new.items ≡ (values_of way).1 = ap (λ p. p.1) values in
+    let values = c.values-old.ensures in
+    let old = ap (λ p. p.0) values in
+    let new = ap (λ p. p.1) values in
     rw (other_line way (subject_text (told line)) c.in_default.not-ListedOtherwise)
     (rw (
       c.either-unseen.ensures,

@@ -13,8 +13,9 @@ loop-first-preserved c =
     c.loop-first.invariant.cut in
     record {
       inside = inside;
+      labels = c.in_ok-add_all.ensures.labels;
       lines =
           run-more v found c.loop-first.first c.slot_end-end.result _ _ are some inside
-          c.loop-first.invariant.cut ends c.loop-first.invariant.lines c.in_ok-add_all.ensures;
+          c.loop-first.invariant.cut ends c.loop-first.invariant.lines c.in_ok-add_all.ensures.lines;
       cut = ends;
     }

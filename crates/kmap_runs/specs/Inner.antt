@@ -1,0 +1,2 @@
+-- What private contracts cite; no public clause does.
+pub mod Labels

@@ -4,7 +4,7 @@ use crate::devices::mark;
 use crate::inputs::{Call, Lent};
 use crate::outcome::{Outcome, ended, ended_keeping};
 use console_states::{End, Held, Keymaps, go_out, meet_all, sights_in};
-use keymap_core::{KeyMap, Write};
+use keymap_core::Write;
 use std::alloc::{AllocError, Global};
 
 fn meets_all<W: Write>(alloc: Global, lent: &Lent, marks: &mut W) -> Outcome {

@@ -177,8 +177,8 @@ refuses 'failed: there is no .*/copy/tests/transcripts/' transcripts
 cp "$top"/tests/transcripts/*.t copy/tests/transcripts
 
 # Edits that must fail, by a kit that only tells what a prover said: two of a file that are refused where it says, one that
-# is refused elsewhere, in a branch, for a name that is gone, ones that can't be applied, of which nothing is told, that say
-# nothing, and none at all. And a kit that has no such function.
+# is refused elsewhere, in a branch, for a name that is gone, without the edit too, ones that can't be applied, of which
+# nothing is told, that say nothing, and none at all. And a kit that has no such function.
 file=crates/keymap_check/must-fail/promises.edit
 rm -r copy/crates/*/must-fail
 mkdir -p "copy/${file%/*}" kit/bin
@@ -201,9 +201,11 @@ import os, types
 class Crate:
     def ci(self, flags, tests): return 0
 def say(text, out=None): print("rt:", text)
-rtlib = types.SimpleNamespace(text_of=lambda path: open(path).read())
+rtlib = types.SimpleNamespace(text_of=lambda path: open(path).read(), PARTS=("src", "specs", "proofs"))
 def read_edit(edit, folder): return {}, None
-def checked(*given): return types.SimpleNamespace(stdout=open(os.environ["TOLD"]).read())
+def checked(crate=None, *given):
+    is_before = crate and crate.folder.endswith("/before")
+    return types.SimpleNamespace(stdout=open(os.environ["BEFORE" if is_before else "TOLD"]).read())
 def must_fail(crate, edit, flags, kept=None):
     said = checked().stdout
     is_refused = said.startswith(("note", "proofs"))
@@ -216,8 +218,9 @@ def main(words):
 PY
 printf '#!/bin/sh\necho "%s/kit/START-HERE.md"\n' "$folder" > rt
 chmod +x rt
-TOLD=$folder/told
-export TOLD
+TOLD=$folder/told BEFORE=$folder/before
+export TOLD BEFORE
+: > before
 at=$(grep -n '^fn is_acting' copy/crates/keymap_check/src/bearer.rt | cut -d: -f1)
 also=$(grep -n 'fn accepted' copy/crates/keymap_check/src/report.rt | cut -d: -f1)
 also="src/report.rt:$also:1: it is not proved (\`returns-clause-whole\`)"
@@ -227,6 +230,11 @@ wrong="$file: the file says is_acting returns, the kit tells"
 tells "src/bearer.rt:$((at + 4)):5: it is not proved (\`returns\`)" "$also"
 holds 'edits are refused where their file says' is_refused > said
 holds 'the edits are counted' grep -qx '2 edits refused where they say, 0 not' said
+tells "$also" && mv told before
+tells "src/bearer.rt:$((at + 4)):5: it is not proved (\`returns\`)" "$also"
+is_refused > said
+holds 'what is refused without its edit is said' grep -q 'not refused by the edits alone.*: accepted whole$' said
+: > before
 export ENDS=3
 is_refused > said
 holds 'the status of the kit is passed on' [ $? -eq 3 ]
@@ -250,7 +258,46 @@ rm "copy/$file"
 refuses '0 edits refused where they say, 0 not' is_refused
 sed -i 's/^def must_fail/def try_edit/' kit/bin/rt
 refuses 'tests/kit.py knows .*, and this kit has no `must_fail` in bin/rt' is_refused
-unset TOLD
+unset TOLD BEFORE
+
+# Functions that stand alone: one is left as it is, and so are a law and a constant's; the others lose their bodies, and
+# each line that is left stays where it is.
+cat > functions.rt << 'RT'
+pub fn named(n: u8) -> u8
+    ensures { result ≡ n }
+{
+    n
+}
+
+impl Text {
+    #[tactic(auto, using(crate::proofs::Some::lemma))]
+    fn other(&self) -> u8 {
+        let one = 1;
+        one
+    }
+
+    const fn counted() -> u8 {
+        1
+    }
+}
+
+pub fn law()
+    ensures { Law }
+{}
+
+fn last<T>(
+    of: &[T],
+) -> usize
+    ensures { result ≡ length of.now }
+{
+    of.len()
+}
+RT
+sed -e '/#\[tactic/s/.*//' -e 's/^    fn other/#[tactic(none)] &/' -e 's/^fn last/#[tactic(none)] &/' \
+    -e 's/.*let one = 1;/unreachable!()/' -e 's/^        one$//' -e 's/.*of.len()/unreachable!()/' functions.rt > wanted
+PYTHONPATH=$top/tests python3 -B -c "import alone
+print(alone.without_bodies(alone.text_of('functions.rt'), {'named'}), end='')" > alone.rt
+holds 'the other functions lose their bodies' cmp alone.rt wanted
 
 # What is measured against limits, by the end of the script that measures: a limit that is passed, one of nothing that
 # is measured, a measure without a limit, and one that is no number.

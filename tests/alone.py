@@ -11,7 +11,7 @@ import shutil
 from kit import write
 
 PROOF_FILES = ("Answers.antt", "Invariants.antt", "Proof.antt")
-# (a constant may need what a `const fn` answers)
+# (not a `const fn`, whose answer a constant may need)
 HEAD = re.compile(r"( *)(?:pub(?:\([^)]*\))? )?(?:unsafe )?(?:extern \"C\" )?fn (\w+)")
 # ends the line before a body, whose brace stands alone behind a contract
 OPENS = re.compile(r"(?! *(?:ensures|requires|ghost)\b).* \{$")

@@ -260,8 +260,8 @@ sed -i 's/^def must_fail/def try_edit/' kit/bin/rt
 refuses 'tests/kit.py knows .*, and this kit has no `must_fail` in bin/rt' is_refused
 unset TOLD BEFORE
 
-# Functions that stand alone: one is left as it is, and so are a law and a constant's; the others lose their bodies, and
-# each line that is left stays where it is.
+# Functions that stand alone: the one that is named stays as it is, and so do a law and a `const fn`; the others lose their
+# bodies, and each line that is left stays where it is.
 cat > functions.rt << 'RT'
 pub fn named(n: u8) -> u8
     ensures { result ≡ n }

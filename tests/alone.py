@@ -15,6 +15,8 @@ PROOF_FILES = ("Answers.antt", "Invariants.antt", "Proof.antt")
 HEAD = re.compile(r"( *)(?:pub(?:\([^)]*\))? )?(?:unsafe )?(?:extern \"C\" )?fn (\w+)")
 # ends the line before a body, whose brace stands alone behind a contract
 OPENS = re.compile(r"(?! *(?:ensures|requires|ghost)\b).* \{$")
+# what the prover makes of a function's body and proof, as another file of proofs would name it
+MADE = re.compile(r"\bproofs\.[\w.]*?\+?(\w+)\.(?:Answers|Code|Goals|Invariants|Met|Proof)\b")
 
 
 def text_of(path):
@@ -47,6 +49,16 @@ def without_bodies(text, names):
             at = end
         at += 1
     return "\n".join(lines)
+
+
+def rests_on_others(folder, names):
+    """Whether what proves the functions of these names rests on the body or the proof of another: whether any file of
+    proofs that is left names one, or they are in a cycle of calls, which has one proof."""
+    left = [f"{at}/{file}" for at, _, files in os.walk(f"{folder}/proofs") for file in files
+            if file not in PROOF_FILES or os.path.basename(at).lstrip("+") in names]
+    named = {it for path in left for it in MADE.findall(text_of(path))}
+    sources = "".join(map(text_of, glob.glob(f"{folder}/src/**/*.rt", recursive=True)))
+    return bool(named - names) or "#[cycle(" in sources
 
 
 def leave_alone(folder, names, parts, texts, to):

@@ -178,7 +178,8 @@ cp "$top"/tests/transcripts/*.t copy/tests/transcripts
 
 # Edits that must fail, by a kit that only tells what a prover said: two of a file that are refused where it says, one that
 # is refused elsewhere, in a branch, for a name that is gone, without the edit too, ones that can't be applied, of which
-# nothing is told, that say nothing, and none at all. And a kit that has no such function.
+# nothing is told, that say nothing, and none at all. Without the edits nothing is checked in a crate that was proved just
+# before, unless a proof there rests on another function. And a kit that has no such function.
 file=crates/keymap_check/must-fail/promises.edit
 rm -r copy/crates/*/must-fail
 mkdir -p "copy/${file%/*}" kit/bin
@@ -225,15 +226,23 @@ at=$(grep -n '^fn is_acting' copy/crates/keymap_check/src/bearer.rt | cut -d: -f
 also=$(grep -n 'fn accepted' copy/crates/keymap_check/src/report.rt | cut -d: -f1)
 also="src/report.rt:$also:1: it is not proved (\`returns-clause-whole\`)"
 tells() { printf 'note: %s\n' "$@" > told; }
-is_refused() { RT=$folder/rt python3 copy/tests/refused; }
+is_refused() { RT=$folder/rt python3 copy/tests/refused "$@"; }
 wrong="$file: the file says is_acting returns, the kit tells"
 tells "src/bearer.rt:$((at + 4)):5: it is not proved (\`returns\`)" "$also"
 holds 'edits are refused where their file says' is_refused > said
 holds 'the edits are counted' grep -qx '2 edits refused where they say, 0 not' said
 tells "$also" && mv told before
 tells "src/bearer.rt:$((at + 4)):5: it is not proved (\`returns\`)" "$also"
+refused_before='not refused by the edits alone.*: accepted whole$'
+is_refused keymap_check > said
+holds 'what is refused without its edit is said' grep -q "$refused_before" said
 is_refused > said
-holds 'what is refused without its edit is said' grep -q 'not refused by the edits alone.*: accepted whole$' said
+holds 'a crate that was proved is not proved again' [ "$(grep -c "$refused_before" said)" -eq 0 ]
+resting=copy/crates/keymap_check/proofs/Resting.antt
+echo 'use Rattle.keymap_check.proofs.bearer.bearer_of.Met.{met}' > $resting
+is_refused > said
+holds 'where a proof rests on another function it is' grep -q "$refused_before" said
+rm $resting
 : > before
 export ENDS=3
 is_refused > said

@@ -52,12 +52,14 @@ def without_bodies(text, names):
 
 
 def rests_on_others(folder, names):
-    """Whether what proves the functions of these names rests on the body or the proof of another: whether any file of
-    proofs that is left names one, or they are in a cycle of calls, which has one proof."""
-    left = [f"{at}/{file}" for at, _, files in os.walk(f"{folder}/proofs") for file in files
-            if file not in PROOF_FILES or os.path.basename(at).lstrip("+") in names]
-    named = {it for path in left for it in MADE.findall(text_of(path))}
+    """Whether what proves the functions of these names rests on the body or the proof of another: whether a file of proofs
+    that is left, or an attribute, names one, or they are in a cycle of calls, which has one proof."""
     sources = "".join(map(text_of, glob.glob(f"{folder}/src/**/*.rt", recursive=True)))
+    texts = [sources.replace("::", ".")]
+    for at, _, files in os.walk(f"{folder}/proofs"):
+        is_own = os.path.basename(at).lstrip("+") in names
+        texts += [text_of(f"{at}/{file}") for file in files if is_own or file not in PROOF_FILES]
+    named = {it for text in texts for it in MADE.findall(text)}
     return bool(named - names) or "#[cycle(" in sources
 
 

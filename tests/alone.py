@@ -16,7 +16,7 @@ HEAD = re.compile(r"( *)(?:pub(?:\([^)]*\))? )?(?:unsafe )?(?:extern \"C\" )?fn 
 # ends the line before a body, whose brace stands alone behind a contract
 OPENS = re.compile(r"(?! *(?:ensures|requires|ghost)\b).* \{$")
 # what the prover makes of a function's body and proof, as another file of proofs would name it
-MADE = re.compile(r"\bproofs\.[\w.]*?\+?(\w+)\.(?:Answers|Code|Goals|Invariants|Met|Proof)\b")
+MADE = re.compile(r"\bproofs\.[\w.]*?\+?(\w+)\.(?:Answers|Code|Given|Goals|Invariants|Met|Proof)\b")
 
 
 def text_of(path):

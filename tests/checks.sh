@@ -236,8 +236,8 @@ tells "src/bearer.rt:$((at + 4)):5: it is not proved (\`returns\`)" "$also"
 refused_before='not refused by the edits alone.*: accepted whole$'
 is_refused keymap_check > said
 holds 'what is refused without its edit is said' grep -q "$refused_before" said
-is_refused > said
-holds 'a crate that was proved is not proved again' [ "$(grep -c "$refused_before" said)" -eq 0 ]
+holds 'in a crate that was proved they are refused' is_refused > said
+holds 'which is not proved again' [ "$(grep -c "$refused_before" said)" -eq 0 ]
 resting=copy/crates/keymap_check/proofs/Resting.antt
 echo 'use Rattle.keymap_check.proofs.bearer.bearer_of.Met.{met}' > $resting
 is_refused > said

@@ -3,7 +3,7 @@ use Rattle.std.proofs.Common.{rules}
 use Rattle.keymap_diff.proofs.Common.{◌≡◌, ◌<◌, ◌≤◌, ℕ, true, List, [], ◌∷◌, ◌++◌, subst, refl, sym, All-head, All-tail}
 use Rattle.keymap_diff.proofs.Common.{Event, Press, Act, Char, HasKey, HasKeys, MapValue, between, resolved, in_force}
 use Rattle.keymap_diff.proofs.Common.{IsAdmitted, IsPressOrRelease, IsNoLoad, Release, Reset, Load, true≢false}
-use Rattle.keymap_diff.proofs.Common.{IsAnsweredAlike, TellsApart, presses, reverse, Bool, Answer}
+use Rattle.keymap_diff.proofs.Common.{TellsApart, arith, presses, reverse, Bool, Answer}
 use Rattle.std.proofs.lemmas.List.Elements.{All-weaker}
 use Rattle.keymap_core.specs.Bearers.{IsCellOf}
 use Rattle.console_core.specs.Headline.{IsSafe}
@@ -65,16 +65,17 @@ late m n g p old new safe told after =
 
 pub agrees_both_ways : AgreesBothWays
 agrees_both_ways m n (Told es a b) (Told fs c d) safe safe_too (told, fewest, plain) (told_too, fewest_too, plain_too) =
-    search (rules, few)
+    omega (
+      arith,
+      few m n (reverse fs.items) (reverse es.items) c d safe told_too fewest,
+      few n m (reverse es.items) (reverse fs.items) a b safe_too told fewest_too,
+    )
 agrees_both_ways m n (Told es a b) (Never forgets) safe safe_too (told, fewest, plain) never =
-    told.apart (apart-back (reverse es.items)
-    (never (reverse es.items) (told-admitted n m forgets (reverse es.items) a b safe_too told)))
-  where
-    apart-back : (h : List Event) → IsAnsweredAlike n m h → IsAnsweredAlike m n h
-    apart-back [] same = tt
-    apart-back (e ∷ h) same = sym same
+    apart-too n m (reverse es.items) told.apart
+    (never (reverse es.items) (told-admitted n m forgets (reverse es.items) a b safe_too told))
 agrees_both_ways m n (Never forgets) (Told es a b) safe safe_too never (told, fewest, plain) =
-    search (rules, apart-too, told-admitted)
+    apart-too m n (reverse es.items) told.apart
+    (never (reverse es.items) (told-admitted m n forgets (reverse es.items) a b safe told))
 agrees_both_ways m n (Told es a b) (Undecided p) safe safe_too (told, fewest, plain) (more, after) =
     late n m (reverse es.items) p a b safe_too told after
 agrees_both_ways m n (Undecided p) (Told es a b) safe safe_too (more, after) (told, fewest, plain) =

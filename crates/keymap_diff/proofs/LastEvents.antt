@@ -1,18 +1,31 @@
 -- A list that tells two keymaps apart by the fewest presses is answered alike up to its last event.
 use Rattle.keymap_diff.proofs.Common.{◌≡◌, ◌<◌, ◌≤◌, true, inl, inr, List, [], ◌∷◌, ◌++◌, refl, ap, subst, sym, ◌∙◌}
 use Rattle.keymap_diff.proofs.Common.{arith, reverse, append-nil, MapValue, Event, Press, Release, Reset, Load, Answer}
-use Rattle.keymap_diff.proofs.Common.{between, answer_to, answers_to, presses, IsAdmitted, rules}
+use Rattle.keymap_diff.proofs.Common.{between, answer_to, answers_to, presses, IsAdmitted, true≢false}
 use Rattle.std.proofs.lemmas.List.{reverse-append, reverse-reverse}
 use Rattle.std.specs.Bool.{Decides}
+use Rattle.std.specs.Cmp.{booleans_Decides}
+use Rattle.std.proofs.lemmas.Bool.Decides.{Decides-and, Decides-eqb}
 use Rattle.console_core.proofs.Deliveries.{answers_to-push}
 use Rattle.console_core.specs.History.{Maps}
 use Rattle.console_core.specs.contracts.event.AnswerPartialEq.TheImpl as answer
+use Rattle.console_core.specs.declared.event.Answer.TheVariants as variant
 use Rattle.console_states.proofs.Seeing.{admitted-before}
-use Rattle.keymap_diff.proofs.Same.{stable}
+use Rattle.keymap_diff.proofs.Same.{action-same, stable}
 use Rattle.keymap_diff.specs.Telling.{DifferAtLast, HasFewestTelling, IsAnsweredBy, ToldListsDifferAtLast}
 
-answer-same : (a b : Answer) → Decides (answer.eq-value.it a b) (a ≡ b)
-answer-same a b = search rules
+pub answer-same : (a b : Answer) → Decides (answer.eq-value.it a b) (a ≡ b)
+answer-same (variant.Special a) (variant.Special b) =
+    let d = action-same a b in (λ e. ap (λ z. variant.Special z) (d.0 e), λ e. d.1 (cc))
+answer-same (variant.Released a) (variant.Released b) =
+    let d = action-same a b in (λ e. ap (λ z. variant.Released z) (d.0 e), λ e. d.1 (cc))
+answer-same (variant.Char c m) (variant.Char d n) =
+    let both = Decides-and _ _ (Decides-eqb c d) (booleans_Decides m n) in
+    (λ e. let p = both.0 e in cc (p.0, p.1), λ e. both.1 (cc, cc))
+answer-same variant.None variant.None = (λ e. refl, λ e. refl)
+answer-same variant.Error variant.Error = (λ e. refl, λ e. refl)
+answer-same variant.BackTab variant.BackTab = (λ e. refl, λ e. refl)
+answer-same a b = (λ e. absurd (true≢false (sym e)), λ e. cc)
 
 -- the answers to events, of which the newest comes first, and to one behind them
 answers-more : (ms : Maps) (e : Event) (h : List Event)

@@ -1,17 +1,19 @@
 -- Nothing differs exactly if the keymaps are the same.
 use Rattle.std.proofs.Common.{◌≡◌, ℕ, ◌<◌, ◌==◌, ◌&&◌, inl, inr, Bool, true, false, List, [], ◌∷◌, Option, Some, None}
-use Rattle.std.proofs.Common.{length, refl, subst, sym, ◌∙◌, arith, rules}
+use Rattle.std.proofs.Common.{length, refl, ap, subst, sym, ◌∙◌, arith, rules}
 use Rattle.std.proofs.lemmas.Bool.{eqb-true, eq-eqb, true≢false}
 use Rattle.std.proofs.lemmas.List.{ext_get_or}
 use Rattle.std.specs.Bool.{Decides}
 use Rattle.std.specs.Cmp.Lexicographic.{pointwise, pointwise_decides}
+use Rattle.keymap_core.specs.contracts.action.ActionPartialEq.TheImpl as action
 use Rattle.keymap_core.specs.contracts.entry.CellPartialEq.TheImpl as cell
 use Rattle.keymap_core.specs.contracts.entry.LockFlagPartialEq.TheImpl as flag
 use Rattle.keymap_core.specs.Accents.{blank}
 use Rattle.keymap_core.specs.Bounds.{IsMap}
 use Rattle.keymap_core.specs.Maps.{MapValue, n_keys_of, n_accs_of, entry_at, cell_at, accent_or_blank, undefined}
+use Rattle.keymap_core.specs.declared.action.Action.{Action}
 use Rattle.keymap_core.specs.declared.entry.Cell.{Cell as CellValue}
-use Rattle.keymap_core.specs.declared.entry.Cell.TheVariants.{Char}
+use Rattle.keymap_core.specs.declared.entry.Cell.TheVariants.{Act, Char}
 use Rattle.keymap_diff.specs.Changes.{AreChanges, IsChange, IsMark, NothingIfSame, MeetsCell, MeetsDeadKey}
 use Rattle.keymap_diff.specs.Changes.{MeetsLetters, MeetsPair, pairs_of, result_at, HaveSameResults}
 use Rattle.keymap_diff.specs.Types.{Change, Slots, Cell, Letter, Accents, Accent, Pair, ListedOtherwise, LockFlag}
@@ -21,10 +23,16 @@ pub stable : (P : Type 0) (b : Bool) → Decides b P → ((P → ⊥) → ⊥) �
 stable P true d not_not = d.0 refl
 stable P false d not_not = absurd (not_not (λ p. true≢false (sym (d.1 p))))
 
-cell-same : (a b : CellValue) → Decides (cell.eq-value.it a b) (a ≡ b)
-cell-same a b = search rules
+-- `==` decides whether two actions are the same, two cells and two letters
+pub action-same : (a b : Action) → Decides (action.eq-value.it a b) (a ≡ b)
+action-same a b = search rules
 
-flag-same : (a b : LockFlag) → Decides (flag.eq-value.it a b) (a ≡ b)
+pub cell-same : (a b : CellValue) → Decides (cell.eq-value.it a b) (a ≡ b)
+cell-same (Char c) (Char d) = (λ e. ap (λ z. Char z) (eqb-true c d e), λ e. eq-eqb c d (cc))
+cell-same (Act a) (Act b) = let d = action-same a b in (λ e. ap (λ z. Act z) (d.0 e), λ e. d.1 (cc))
+cell-same a b = (λ e. absurd (true≢false (sym e)), λ e. cc)
+
+pub flag-same : (a b : LockFlag) → Decides (flag.eq-value.it a b) (a ≡ b)
 flag-same a b = search rules
 
 abbrev is_same_pair : ℕ × ℕ → ℕ × ℕ → Bool

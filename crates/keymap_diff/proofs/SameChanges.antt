@@ -4,19 +4,10 @@ use Rattle.std.specs.Bool.{Decides}
 use Rattle.std.specs.Option.{option_eq}
 use Rattle.std.proofs.lemmas.Bool.{true≢false}
 use Rattle.std.proofs.lemmas.Bool.Decides.{Decides-and, Decides-eqb}
-use Rattle.keymap_core.specs.declared.entry.Cell.{Cell as CellValue}
-use Rattle.keymap_core.specs.declared.entry.LockFlag.{LockFlag}
-use Rattle.keymap_core.specs.contracts.entry.CellPartialEq.TheImpl as cell
-use Rattle.keymap_core.specs.contracts.entry.LockFlagPartialEq.TheImpl as flag
+use Rattle.keymap_diff.proofs.Same.{cell-same, flag-same}
 use Rattle.keymap_diff.specs.contracts.change.ChangePartialEq.TheImpl as change
 use Rattle.keymap_diff.specs.Types.{Change, Slots, Cell, Letter, Accents, Accent, Pair, ListedOtherwise}
 use mathlib.Core.Bool.{beq}
-
-cell-same : (a b : CellValue) → Decides (cell.eq-value.it a b) (a ≡ b)
-cell-same a b = search rules
-
-flag-same : (a b : LockFlag) → Decides (flag.eq-value.it a b) (a ≡ b)
-flag-same a b = search rules
 
 pub bool-same : (a b : Bool) → Decides (beq a b) (a ≡ b)
 bool-same a b = search rules

@@ -8,6 +8,7 @@ use Rattle.keymap_diff.proofs.Common.{LetGo, Exchange, MapValue, accent_at, comp
 use Rattle.keymap_diff.proofs.Common.{answer_action, answer_release, answer_dead_key, char_or_error, unless_nop}
 use Rattle.keymap_diff.proofs.Common.{taken_over, on, remembered, pending, resolve_press, answer_resolved}
 use Rattle.keymap_diff.proofs.Common.{ResolvedEvent, between, resolved, answer_to, alone, State, IsIdle, IsPath}
+use Rattle.keymap_diff.proofs.Common.{Holds, IsMove, with_holder, with_lock_turned}
 use Rattle.keymap_diff.proofs.Common.{IsPathFrom, look_in, start, state_after, state_from}
 use Rattle.keymap_diff.proofs.Common.{presses_along, events_along, Stands, false≢true, TellsApart, looked_up}
 use Rattle.keymap_diff.proofs.Common.{◌<◌, NoneShows, AreCellsAlike, AreCellsClear, Gives, IsUnnoticed, Shows}
@@ -182,11 +183,20 @@ pub path-too : (m n : MapValue) (s : State) (b : ℕ)
     → IsPathFrom (alone n) s path × (state_from (alone n) s path ≡ state_from (alone m) s path)
 path-too m n s b clear [] is le = (tt, refl)
 path-too m n s b clear (Hold k i ∷ path) is le =
-    search (rules, idle-look, path-too m n s b clear path is.1 (omega (arith, le)))
+    let (too, same) = path-too m n s b clear path is.1 (omega (arith, le)) in
+    let looks = idle-look m n (state_from (alone m) s path) k _ is.0.1 (clear path is.1 (omega (arith, le)) k is.0.0) is.0.2 in (
+      (subst (λ t. IsMove (alone n) t (Hold k i)) (sym same) (is.0.0, is.0.1, looks, is.0.3), too),
+      ap (λ t. with_holder t i (Some k)) same,
+    )
 path-too m n s b clear (Turn k l ∷ path) is le =
-    search (rules, idle-look, path-too m n s b clear path is.1 (omega (arith, le)))
+    let (too, same) = path-too m n s b clear path is.1 (omega (arith, le)) in
+    let looks = idle-look m n (state_from (alone m) s path) k _ is.0.1 (clear path is.1 (omega (arith, le)) k is.0.0) is.0.2 in (
+      (subst (λ t. IsMove (alone n) t (Turn k l)) (sym same) (is.0.0, is.0.1, looks), too),
+      ap (λ t. with_lock_turned t l) same,
+    )
 path-too m n s b clear (LetGo k i ∷ path) is le =
-    search (rules, path-too m n s b clear path is.1 (omega (arith, le)))
+    let (too, same) = path-too m n s b clear path is.1 (omega (arith, le)) in
+    ((subst (λ t. Holds t k i) (sym same) is.0, too), ap (λ t. with_holder t i None) same)
 path-too m n s b clear (Exchange ∷ path) is le = absurd (false≢true is.0.1)
 
 placed-start : (m n : MapValue) → Placed m n [] start None

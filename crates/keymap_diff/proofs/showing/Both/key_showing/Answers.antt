@@ -1,4 +1,3 @@
-use Rattle.std.proofs.Common.{rules}
 use Rattle.std.proofs.Common.{below_more, subst, sym, refl, arith, length, ◌<◌}
 use Rattle.std.proofs.lemmas.List.{get_or_read_under}
 use Rattle.console_states.specs.Searching.{state_of}
@@ -9,7 +8,13 @@ use Rattle.keymap_diff.proofs.CanShow.{none-of}
 use Rattle.keymap_diff.proofs.showing.Both.key_showing.Goals as goal
 
 pub loop-key-preserved : goal.loop-key-preserved
-loop-key-preserved c = search (rules, below_more, get_or_read_under)
+loop-key-preserved c =
+    let maps = c.args.self.now in
+    let keys = c.args.keys.now in
+    below_more _ _ c.loop-key.invariant
+    (subst (λ k. ShowsNothing maps.old.now maps.new.now c.args.pending (state_of c.args.held.now) k)
+    (get_or_read_under keys _ (length keys) c.key-item.result 0 c.key-item.is c.loop-key-test.true refl)
+    (c.if-shows.ensures.nothing refl))
 
 pub returns : goal.returns
 returns c =

@@ -1,14 +1,14 @@
-use Rattle.std.proofs.Common.{rules}
 use Rattle.keymap_diff.proofs.Common.{◌+◌, Some, sym, reverse}
 use Rattle.keymap_diff.proofs.Apart.{accent-told}
 use Rattle.keymap_diff.proofs.Ending.{goes-back, searched-many, shown-place, tapped-reached}
 use Rattle.keymap_diff.proofs.telling.Offering.found.Goals as goal
 
 pub go_out-requires-clause-place : goal.go_out-requires-clause-place
-go_out-requires-clause-place c = search (rules, shown-place)
+go_out-requires-clause-place c =
+    shown-place _ _ _ _ _ c.requires.searched.4 c.in-Some.at c.in-Some.is
 
 pub go_out-requires-clause-back : goal.go_out-requires-clause-back
-go_out-requires-clause-back c = search (rules, goes-back)
+go_out-requires-clause-back c = goes-back _ _ _ _ _ c.requires.searched.4
 
 pub returns-in_ok-telling-in-Some-clause-nearest : goal.returns-in_ok-telling-in-Some-clause-nearest
 returns-in_ok-telling-in-Some-clause-nearest c =

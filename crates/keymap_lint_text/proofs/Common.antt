@@ -3,14 +3,12 @@ pub use Rattle.bstr.specs.Utf8.{lossy_chars, or_replacement, pieces}
 pub use Rattle.console_core.specs.declared.event.Event.{Event}
 pub use Rattle.keymap_core.proofs.Lists.{along}
 pub use Rattle.keymap_core.specs.declared.action.Modifier.{Modifier}
-pub use Rattle.keymap_lint.specs.Severities.{severity_of}
 pub use Rattle.keymap_lint.specs.declared.diagnostic.Diagnostic.{Diagnostic}
 pub use Rattle.keymap_lint.specs.declared.diagnostic.Diagnostics.{Diagnostics}
 pub use Rattle.keymap_lint.specs.declared.diagnostic.Severity.{Severity}
-pub use Rattle.keymap_lint.specs.declared.diagnostic.Severity.TheVariants.{Error}
 pub use Rattle.keymap_lint_text.specs.Excerpt.{below, left_out, lines_of, reach, shown_before, without_cr}
 unfoldable pub use Rattle.keymap_lint_text.specs.Excerpt.{excerpt}
-pub use Rattle.keymap_lint_text.specs.Heads.{Remark, Said, head, place_text, printed, remark, said_text}
+pub use Rattle.keymap_lint_text.specs.Heads.{Remark, Said, head, place_text, printed, printed_of, remark, said_text}
 pub use Rattle.keymap_lint_text.specs.Names.{is_noted}
 unfoldable pub use Rattle.keymap_lint_text.specs.Names.{kind_text}
 pub use Rattle.keymap_lint_text.specs.Shown.{IsLine, IsPlainText, IsSeen, ended, is_shown_byte, last, lines_text}
@@ -31,9 +29,7 @@ pub use Rattle.std.proofs.lemmas.Bool.Decides.{nat_tests}
 pub use Rattle.std.proofs.lemmas.Grind.{flat_map-append}
 pub use Rattle.std.proofs.lemmas.List.{drop-append-le, map-append}
 pub use Rattle.std.proofs.lemmas.List.Elements.{All-append, All-cons, All-nil, All-take}
-pub use Rattle.std.proofs.lemmas.Result.{on_ok_weaker}
 pub use Rattle.std.proofs.lemmas.Str.{encode_ascii}
-pub use Rattle.std.specs.Fmt.{digit_glyph}
 pub use Rattle.std.specs.List.{flat_map, list_all, range_with_len}
 pub use Rattle.std.specs.Prelude.{IfOk, decimal, encode_utf8, if◌then◌else◌, min, not, slice_index}
 pub use Rattle.std.specs.Prelude.{slice_index_or, ◌%◌, ◌/◌, ◌==◌}

@@ -8,13 +8,14 @@ use Rattle.keymap_lint_text.proofs.Common.{Event, along, Modifier, Severity, Tex
 use Rattle.keymap_lint_text.proofs.Common.{line, filled, excerpt, lines_of, below, left_out, shown_before, without_cr}
 use Rattle.keymap_lint_text.proofs.Common.{Said, Remark, head, place_text, said_text, kind_text, shown_char}
 use Rattle.keymap_lint_text.proofs.Common.{shown_chars, shown_name, is_shown_byte, IsSeen, IsLine}
-use Rattle.keymap_lint_text.proofs.Common.{range_with_len}
+use Rattle.keymap_lint_text.proofs.Common.{range_with_len, take, append_assoc, printed, printed_of}
 use Rattle.keymap_text.proofs.Pieces.{pieces_on}
 use Prim.Native.Nat.{zero, suc}
 pub use Rattle.messages.proofs.Passed.{EachPasses, append_all, decimal_all, filled_all}
 use Rattle.messages.proofs.Passed.{decimal_passes, parts_all}
 use Rattle.std.proofs.lemmas.Bool.{agree_below_at, cond_both, or_left, or_right}
-use Rattle.std.proofs.Common.{rules, All}
+use Rattle.std.proofs.Common.{rules, All, get_or}
+use Rattle.std.proofs.lemmas.List.{flat_map_more, take_more}
 use Rattle.std.specs.Prelude.{◌||◌, IsTrue}
 use Rattle.std.specs.Char.{IsScalar, digit_char}
 use Rattle.std.specs.List.{position_or_len}
@@ -131,6 +132,25 @@ line_flat f each xs = line_each (λ _. Unit {0}) f (λ x _. each x) xs (λ k d _
 pub piece_more : (f : ℕ → List ℕ) (i : ℕ) (text more : List ℕ) → text ≡ flat_map f (range_with_len 0 i)
     → more ≡ text ++ f i → more ≡ flat_map f (range_with_len 0 (i + 1))
 piece_more f i text more e piece = piece ∙ ap (λ t. t ++ f i) e ∙ sym (pieces_on f i)
+
+-- behind what some elements give stands what the next one gives
+pub next_given : {X A : Type 0} (f : X → List A) (xs : List X) (i : ℕ) (x d : X) (front text more : List A)
+    → i < length xs → x ≡ get_or xs i d → text ≡ front ++ flat_map f (take i xs) → more ≡ text ++ f x
+    → more ≡ front ++ flat_map f (take (i + 1) xs)
+next_given f xs i x d front text more l is e given =
+    let taken = ap (λ y. take i xs ++ y ∷ []) is ∙ sym (take_more xs i d l) in
+    given ∙ ap (λ t. t ++ f x) e ∙ flat_map_more f front (take i xs) x ∙ ap (λ ys. front ++ flat_map f ys) taken
+
+-- the same of what is printed of the remarks that elements give
+pub next_printed : {X : Type 0} (file source : List ℕ) (f : X → List Remark) (xs : List X) (i : ℕ) (x d : X)
+    (front text more : List ℕ) → i < length xs → x ≡ get_or xs i d
+    → text ≡ front ++ printed file source (flat_map f (take i xs)) → more ≡ text ++ printed file source (f x)
+    → more ≡ front ++ printed file source (flat_map f (take (i + 1) xs))
+next_printed file source f xs i x d front text more l is e given =
+    let before = flat_map f (take i xs) in
+    let next = next_given f xs i x d [] before (before ++ f x) l is refl refl in
+    let parted = flat_map-append (printed_of file source) before (f x) in
+    cc (append_assoc front (printed file source before) (printed file source (f x)))
 
 -- ---- digits
 

@@ -4,7 +4,6 @@ use Rattle.keymap_lint_text.proofs.excerpt.shown_part.Goals as goal
 pub returns-then-rest-lt-SHOWN_LIMIT : goal.returns-then-rest-lt-SHOWN_LIMIT
 returns-then-rest-lt-SHOWN_LIMIT c =
     let part = drop c.args.skipped c.args.characters.now in
-    take_all (length c.args.characters.now - c.args.skipped) part
-    (omega (arith, length-drop c.args.skipped c.args.characters.now))
-    ∙ sym (take_all 120 part
-    (omega (arith, length-drop c.args.skipped c.args.characters.now, c.if-rest-lt-SHOWN_LIMIT.true)))
+    let size = length-drop c.args.skipped c.args.characters.now in
+    take_all (length c.args.characters.now - c.args.skipped) part (omega (arith, size))
+    ∙ sym (take_all 120 part (omega (arith, size, c.if-rest-lt-SHOWN_LIMIT.true)))

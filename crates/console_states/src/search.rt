@@ -263,6 +263,32 @@ fn begin(alloc: Global, origins: &[Held]) -> Result<Met, AllocError>
     Ok(met)
 }
 
+/// Meets the states that moves lead to from those that were met, level by level, in the order of the fewest presses. Of
+/// the keys those are given that can be moves.
+fn meet_levels(met: &mut Met, maps: &Keymaps, keys: &[KeyCode]) -> Result<End, AllocError>
+    requires keys { HasMovingKeys (under_of maps.now) keys.now key_count }
+    requires order { AreInOrder met.old.entries 0 0 }
+    ensures { IfOk result (λ end. (origins : List State) → Searched (under_of maps.now) origins met.old.entries 0 0
+        → HasEnded (under_of maps.now) origins met.new.entries end) }
+{
+    let mut level = 0;
+    let mut presses = 0;
+    while level < met.len() {
+        close(met, maps, level, presses)?;
+        if met.len() > BOUND {
+            return Ok(End::TooMany(presses));
+        }
+        let end = met.len();
+        press(met, maps, keys, level, presses)?;
+        if met.len() > BOUND {
+            return Ok(End::TooMany(presses + 1));
+        }
+        level = end;
+        presses += 1;
+    }
+    Ok(End::Complete)
+}
+
 /// Meets the states that moves lead to from these, level by level, in the order of the fewest presses.
 pub fn meet_all(alloc: Global, maps: &Keymaps, origins: &[Held]) -> Result<(Met, End), AllocError>
     requires { (o : State) → Contains (map state_of origins.now) o → o.is_locked Scroll ≡ false }
@@ -270,22 +296,8 @@ pub fn meet_all(alloc: Global, maps: &Keymaps, origins: &[Held]) -> Result<(Met,
 {
     let keys = moving_keys(alloc, maps)?;
     let mut met = begin(alloc, origins)?;
-    let mut level = 0;
-    let mut presses = 0;
-    while level < met.len() {
-        close(&mut met, maps, level, presses)?;
-        if met.len() > BOUND {
-            return Ok((met, End::TooMany(presses)));
-        }
-        let end = met.len();
-        press(&mut met, maps, keys.as_slice(), level, presses)?;
-        if met.len() > BOUND {
-            return Ok((met, End::TooMany(presses + 1)));
-        }
-        level = end;
-        presses += 1;
-    }
-    Ok((met, End::Complete))
+    let end = meet_levels(&mut met, maps, keys.as_slice())?;
+    Ok((met, end))
 }
 
 /// The first place where a key that holds a modifier looks up a character.
@@ -303,13 +315,13 @@ pub fn first_stuck(met: &Met, maps: &Keymaps) -> Option<Stuck>
     None
 }
 
-/// Decides whether presses, releases and, where there are any, loads can leave a modifier on while no key is pressed.
-fn decide(alloc: Global, maps: &Keymaps) -> Result<Sticking, AllocError>
+/// What the states that a search met tell of whether a modifier can be left on while no key is pressed.
+fn conclude(alloc: Global, maps: &Keymaps, met: &Met, end: End) -> Result<Sticking, AllocError>
+    requires { HasEnded (under_of maps.now) (start ∷ []) met.now.entries end }
     ensures { IfOk result (λ answer. IsAnswerUnder (under_of maps.now) answer) }
 {
-    let (met, end) = meet_all(alloc, maps, &[Held::start()])?;
-    if let Some(stuck) = first_stuck(&met, maps) {
-        let events = script(alloc, &met, stuck)?;
+    if let Some(stuck) = first_stuck(met, maps) {
+        let events = script(alloc, met, stuck)?;
         let modifiers = left_on(alloc, maps, events.as_slice())?;
         return Ok(Sticking::Sticks { events, modifiers });
     }
@@ -317,6 +329,14 @@ fn decide(alloc: Global, maps: &Keymaps) -> Result<Sticking, AllocError>
         End::Complete => Ok(Sticking::Never),
         End::TooMany(presses) => Ok(Sticking::Undecided(presses)),
     }
+}
+
+/// Decides whether presses, releases and, where there are any, loads can leave a modifier on while no key is pressed.
+fn decide(alloc: Global, maps: &Keymaps) -> Result<Sticking, AllocError>
+    ensures { IfOk result (λ answer. IsAnswerUnder (under_of maps.now) answer) }
+{
+    let (met, end) = meet_all(alloc, maps, &[Held::start()])?;
+    conclude(alloc, maps, &met, end)
 }
 
 /// Decides whether a keymap can leave a modifier on while no key is pressed.

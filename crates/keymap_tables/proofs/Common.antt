@@ -19,7 +19,7 @@ pub use Rattle.keymap_tables.specs.Inner.Taken.{AreRows, IsAccentIn, IsEntryIn, 
 pub use Rattle.keymap_tables.specs.Layouts.{accent_size, count_size, n_accs_place, narrow, number_limit, number_size}
 pub use Rattle.keymap_tables.specs.Layouts.{number_width, pad_size, part, slot_size, slots_place, wide}
 pub use Rattle.keymap_tables.specs.Types.{Act, BadPad, Cell, Char, Entry, Layout, Narrow, NotEmpty, TableFault}
-pub use Rattle.keymap_tables.specs.Types.{TableFaultKind, Wide}
+pub use Rattle.keymap_tables.specs.Types.{BadAction, TableFaultKind, Wide}
 pub use Rattle.std.proofs.Common.{All, List, None, Some, [], add-one, add-zero, ap, append-nil, append_assoc, arith}
 pub use Rattle.std.proofs.Common.{cond, drop, false, get_or, inl, inr, length, length-append, length-drop, mul-suc}
 pub use Rattle.std.proofs.Common.{mul-zero, mul_comm, refl, replicate, rules, set, subst, suc, sym, take, true, zero, ℕ}
@@ -32,10 +32,10 @@ pub use Rattle.std.proofs.lemmas.Grind.{common_steps, flat_map-append}
 pub use Rattle.std.proofs.lemmas.List.{drop-drop, drop_at, get_or-append_right, get_or-drop, get_or-replicate}
 pub use Rattle.std.proofs.lemmas.List.{get_or-take, get_or_past, length-replicate, length_push}
 pub use Rattle.std.proofs.lemmas.List.{replicate-append-replicate, same_lists, take-append-drop, take_all, take_at}
-pub use Rattle.std.proofs.lemmas.List.{take_more, take_more_set}
+pub use Rattle.std.proofs.lemmas.List.{length-set, take_more, take_more_set}
 pub use Rattle.std.proofs.lemmas.List.Elements.{All-append, All-cons, All-from_get_or, All-get_or, All-head, All-nil}
 pub use Rattle.std.proofs.lemmas.List.Elements.{All-push, All-replicate, All-same, All-tail, All-weaker}
 pub use Rattle.std.specs.Char.{IsScalar}
 pub use Rattle.std.specs.Int.{from_le_bytes, w16, w8}
 pub use Rattle.std.specs.List.{flat_map}
-pub use Rattle.std.specs.Prelude.{Bool, Err, IfErr, Ok, Option, Result, nat_le, slice_index}
+pub use Rattle.std.specs.Prelude.{Bool, Err, IfErr, MatchResult, Ok, Option, Result, nat_le, slice_index}

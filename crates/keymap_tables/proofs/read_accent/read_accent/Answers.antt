@@ -1,5 +1,5 @@
 use Rattle.keymap_tables.proofs.Common.{arith, ◌≡◌, ◌+◌, ◌*◌, ◌<◌, ◌≤◌, ◌∙◌, None, Some, sym, refl, ap, subst}
-use Rattle.keymap_tables.proofs.Common.{common_steps, rules, length, ℕ, take, List, append-nil, mul-zero, IsScalar}
+use Rattle.keymap_tables.proofs.Common.{rules, length, flat_map, ℕ, take, List, append-nil, mul-zero, IsScalar}
 use Rattle.keymap_tables.proofs.Common.{All-nil, All-cons, All-same, All-push, length_push, AccentValue, IsPair}
 use Rattle.keymap_tables.proofs.Common.{number_at, char_fault, number_fault, zero_fault, accent_fault, pairs_in}
 use Rattle.keymap_tables.proofs.Common.{IsFirstFault, AccentFits, number_bytes, numbers_of, HasNoFault, number_width}
@@ -32,7 +32,12 @@ module _ (l : Layout) (bytes : List ℕ) (i : ℕ) (used : i < 1 + 2 * pairs_in 
   )
 
 pub returns-in_err-read_char-clause-fault : goal.returns-in_err-read_char-clause-fault
-returns-in_err-read_char-clause-fault c = grind (arith, common_steps, err_passed, fails, mul-zero)
+returns-in_err-read_char-clause-fault c =
+    err_passed _ _ _ c.from_residual.ensures.1
+    (fails c.args.layout c.args.bytes.now 0 (omega arith)
+    (λ p below. absurd (omega (arith, below, mul-zero (number_size c.args.layout))))
+    (omega (arith, c.count_pairs-pairs.ensures)) _
+    c.in_err-read_char.ensures.fault.0 c.in_err-read_char.ensures.fault.1)
 
 pub loop-pair-init : goal.loop-pair-init
 loop-pair-init c =
@@ -54,7 +59,10 @@ loop-pair-init c =
     }
 
 pub returns-in_err-base-clause-fault : goal.returns-in_err-base-clause-fault
-returns-in_err-base-clause-fault c = search (rules, err_passed, fails)
+returns-in_err-base-clause-fault c =
+    err_passed _ _ _ c.from_residual-in_err-base.ensures.1
+    (fails c.args.layout c.args.bytes.now (1 + 2 * c.loop-pair.pair) (omega arith) c.loop-pair.invariant.sound
+    (omega (arith, c.count_pairs-pairs.ensures)) _ c.in_err-base.ensures.fault.0 c.in_err-base.ensures.fault.1)
 
 pub returns-in_err-composed-clause-fault : goal.returns-in_err-composed-clause-fault
 returns-in_err-composed-clause-fault c =
@@ -83,10 +91,15 @@ loop-pair-preserved c =
     let own = ap (λ (a : AccentValue). a.own) pushed in
     let pairs = ap (λ (a : AccentValue). a.pairs) pushed in
     record {
-      bytes = search (rules, pair-read);
+      bytes =
+          ap (λ (a : AccentValue). flat_map (number_bytes c.args.layout) (numbers_of a)) pushed
+          ∙ pair-read l bytes _ _ i _ _ small c.requires (omega (arith, few)) c.loop-pair.invariant.bytes base composed;
       count = ap length pairs ∙ length_push _ _ ∙ ap (λ (k : ℕ). k + 1) c.loop-pair.invariant.count;
       character = subst IsScalar (sym own) c.loop-pair.invariant.character;
-      known = search (rules, All-same, All-push);
+      known =
+          All-same IsPair _ _ pairs
+          (All-push IsPair _ _ c.loop-pair.invariant.known
+          (c.in_ok-base.ensures.known, some, c.in_ok-composed.ensures.known));
       fits =
           subst (AccentFits l) (sym pushed)
           (pair-fits l _ _ _ c.loop-pair.invariant.fits

@@ -35,7 +35,7 @@ PROGRAM = crates/kmap/out/kmap
 LIBRARY = crates/kmap_c/out/libkmap_c.a
 SHARED = crates/kmap_c/out/libkmap.so
 SONAME = libkmap.so.0
-CALLS = crates/calls/out/calls
+TESTS_RUNS = crates/tests_runs/out/tests_runs_tests
 
 # the calls of the library, under each of which its page is found
 NAMES = sed -n 's/^[a-z0-9_ ]* \(kmap_[a-z_]*\)(.*/\1/p' include/kmap.h
@@ -70,8 +70,8 @@ quick:
 test:
 	@RT="$(RT)" CC="$(CC)" MAKE="$(MAKE)" python3 tests/unproved
 
-# `rt ci` builds both programs anew, each by LLVM and by Rattle's own compiler (.by-rattle), and the C library, and the
-# scripts take what it leaves.
+# `rt ci` builds the program anew, by LLVM and by Rattle's own compiler (.by-rattle), the tests of the crates and the C
+# library, and the scripts take what it leaves.
 check: test
 	RT="$(RT)" python3 tests/refused
 	@RT="$(RT)" sh build.sh kmap_c out/libkmap_c.a lib
@@ -110,12 +110,12 @@ scripts:
 	sh tests/install.sh
 	sh tests/guide.sh
 	sh tests/refused_memory.sh $(PROGRAM)
-	sh tests/refused_calls.sh $(CALLS)
+	sh tests/refused_calls.sh $(TESTS_RUNS)
 	sh tests/linear.sh $(PROGRAM)
 
 bench: all
-	@RT="$(RT)" sh build.sh calls out/calls run -- read_map
-	sh bench/run.sh $(PROGRAM) $(CALLS)
+	@RT="$(RT)" sh build.sh tests_runs out/tests_runs_tests test
+	sh bench/run.sh $(PROGRAM) $(TESTS_RUNS)
 
 install: all
 	$(INSTALL) -d "$(DESTDIR)$(PREFIX)/bin" "$(LIB)/pkgconfig" "$(INCLUDE)" "$(MAN)/man1" "$(MAN)/man3" \

@@ -7,21 +7,21 @@
 # its tables. Where instructions are counted it compares what is measured with bench/limits, tells each limit that is
 # passed, and fails then.
 #
-# usage: run.sh PROGRAM CALLS
-# CALLS is the program of crates/calls, LIMITS another file of limits, and README another text whose table is written.
-# Costs are instructions, counted by perf(1) or else by callgrind of valgrind(1), or else microseconds of processor
-# time. Reads and writes are the system calls of these names, among them a few of the loader, counted by strace(1), or
-# else by `valgrind --trace-syscalls=yes`.
+# usage: run.sh PROGRAM TESTS
+# TESTS has the tests of crates/tests_runs, of which one steps consoles, LIMITS is another file of limits, and README
+# another text whose table is written. Costs are instructions, counted by perf(1) or else by callgrind of valgrind(1), or
+# else microseconds of processor time. Reads and writes are the system calls of these names, among them a few of the
+# loader, counted by strace(1), or else by `valgrind --trace-syscalls=yes`.
 
 program=${1:-crates/kmap/out/kmap}
-calls=${2:-crates/calls/out/calls}
+tests=${2:-crates/tests_runs/out/tests_runs_tests}
 case $program in
 /*) ;;
 *) program=$PWD/$program ;;
 esac
-case $calls in
+case $tests in
 /*) ;;
-*) calls=$PWD/$calls ;;
+*) tests=$PWD/$tests ;;
 esac
 examples=$(cd "$(dirname "$0")/../examples" && pwd)
 here=$(cd "$(dirname "$0")" && pwd)
@@ -328,9 +328,9 @@ echo "  $(transfers draw "$keymap")"
 measured picture "$picture"
 
 # Ten thousand rounds of eight events, without one round.
-program=$calls
-over_map=$(per "$(cost steps map 10000)" "$(cost steps map 1)" 79992)
-over_tables=$(per "$(cost steps tables 10000)" "$(cost steps tables 1)" 79992)
+program=$tests
+over_map=$(per "$(cost calls::answers steps map 10000)" "$(cost calls::answers steps map 1)" 79992)
+over_tables=$(per "$(cost calls::answers steps tables 10000)" "$(cost calls::answers steps tables 1)" 79992)
 echo "an event over a keymap: $over_map $unit; over its tables: $over_tables $unit, times" \
     "$(ratio "$over_tables" "$over_map")"
 measured keymap-an-event "$over_map"

@@ -1,16 +1,17 @@
 #!/bin/sh
-# Makes each call of the program of crates/calls with each of its own allocations refused in turn, alone and together
-# with all later ones: it answers that memory was refused, and leaves alone what it must. With ample memory it never
-# answers so.
+# Makes each call of the module `calls` of crates/tests_runs with each of its own allocations refused in turn, alone and
+# together with all later ones: it answers that memory was refused, and leaves alone what it must. With ample memory it
+# never answers so.
 #
 # It also looks whether each exported function of the libraries that takes an allocator is called there, itself: that
 # it can be called through another one shows nothing of what it answers.
 #
 # usage: refused_calls.sh PROGRAM
-# PROGRAM is that of crates/calls, which makes the calls and tells of what they left alone. The last line is
-# 'N passed, M failed'; the status is 0 where none failed. It needs the C compiler that CC names, cc unless it is set.
+# PROGRAM has the tests of that crate, of which one makes the call that is named behind it, and tells of what that left
+# alone. The last line is 'N passed, M failed'; the status is 0 where none failed. It needs the C compiler that CC names,
+# cc unless it is set.
 
-program=${1:-crates/calls/out/calls}
+program=${1:-crates/tests_runs/out/tests_runs_tests}
 tests=$(dirname "$0")
 . "$tests/shared.sh"
 folder=$(mktemp -d) || exit 1
@@ -22,6 +23,12 @@ if ! command -v "${CC:-cc}" > /dev/null; then
     exit 1
 fi
 "${CC:-cc}" -shared -fPIC -O1 -o "$folder/refuse.so" "$tests/refuse.c" -ldl || exit 1
+
+# the test that makes calls, and what a test that ended well prints behind its own lines
+test=$("$program" --list | sed -n 's/^\(.*calls::answers\): test$/\1/p')
+ends='
+
+test result: ok'
 
 # Where it isn't empty, all later allocations are refused too.
 rest=
@@ -41,7 +48,8 @@ answered() {
     : > "$folder/count"
     if [ -n "$rest" ]; then export REFUSE_REST=1; else unset REFUSE_REST; fi
     got=$(ALLOCATIONS="$folder/count" MARKED=1 REFUSE="$2" LD_PRELOAD="$folder/refuse.so" \
-        "$program" "$1" 2> "$folder/marks") || got="$got, status $?"
+        "$program" "$test" "$1" 2> "$folder/marks") || got="$got, status $?"
+    got=${got%"$ends"}
     lines < "$folder/marks"
     [ $number_of_lines -eq 2 ] || got="$got, $number_of_lines marks"
     IFS= read -r count < "$folder/count" || count=
@@ -161,12 +169,12 @@ yields missing_run
 yields cover_run
 yields file_error_line
 
-# The calls that the program knows are those above; between its marks it calls what they are named by, and that is each
+# The calls that the module knows are those above; between its marks it calls what they are named by, and that is each
 # exported function that takes memory.
-calls=$tests/../crates/calls/src
+calls=$tests/../crates/tests_runs/src/calls
 sed -n 's/^        "\([A-Za-z_:-]*\)" => .*/\1/p' "$calls"/*.rt | sort > "$folder/known"
 sed -n 's/^\(refuses\|yields\|takes_none\) \([A-Za-z_:-]*\).*/\2/p' "$0" | sort > "$folder/made"
-same_text 'each call of the program is made here' "$folder/known" "$folder/made"
+same_text 'each call of the module is made here' "$folder/known" "$folder/made"
 sed 's/-.*//' "$folder/known" | sort -u > "$folder/called"
 python3 "$tests/takes_memory.py" | sort > "$folder/exported"
 same_text 'each exported function that takes memory is called' "$folder/exported" "$folder/called"

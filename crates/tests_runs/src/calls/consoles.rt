@@ -1,8 +1,8 @@
 //! The calls of console_core, console_states and console_scripts, and of keymap_cover and keymap_diff, which stand on
 //! them.
-use crate::devices::mark;
-use crate::inputs::{Call, Lent};
-use crate::outcome::{Outcome, ended, ended_keeping};
+use crate::calls::devices::mark;
+use crate::calls::inputs::{Call, Lent};
+use crate::calls::outcome::{Outcome, ended, ended_keeping};
 use console_core::{Event, PlainConsole, Translator, WordConsole, replay};
 use console_scripts::{Explorer, Typist, find_onward, scroll_off, type_characters};
 use console_states::{Sight, Sticking, sights_of, some_sights, sticking, sticking_between};

@@ -10,7 +10,7 @@ use std::alloc::AllocError;
 use std::fmt;
 
 /// What a call answered.
-#[derive(Clone, Copy, Debug, PartialEq, Eq)]
+#[derive(Clone, Copy, PartialEq, Eq)]
 pub enum Answer {
     Done,
     /// Memory was refused.
@@ -20,7 +20,7 @@ pub enum Answer {
 }
 
 /// What a call answered, and whether it left alone what it must.
-#[derive(Clone, Copy, Debug, PartialEq, Eq)]
+#[derive(Clone, Copy)]
 pub struct Outcome {
     pub answer: Answer,
     pub kept: bool,

@@ -1,7 +1,7 @@
 //! The calls of keymap_core, keymap_text and keymap_tables.
-use crate::devices::{mark, reader_of};
-use crate::inputs::{Call, FAULTY, Lent, TEXT, script};
-use crate::outcome::{Outcome, ended, ended_keeping, ended_untouched, is_text};
+use crate::calls::devices::{mark, reader_of};
+use crate::calls::inputs::{Call, FAULTY, Lent, TEXT, script};
+use crate::calls::outcome::{Outcome, ended, ended_keeping, ended_untouched, is_text};
 use keymap_core::{KeyMap, Write, read_up_to};
 use keymap_tables::{
     NARROW_FILE, WIDE_FILE, read_narrow, read_narrow_from, read_tables, read_tables_from,

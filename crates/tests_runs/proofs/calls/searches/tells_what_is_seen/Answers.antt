@@ -1,7 +1,7 @@
 use Rattle.console_states.specs.Moves.{start}
 use Rattle.console_states.specs.declared.search.End.TheVariants.{Complete}
 use Rattle.console_states.proofs.Reaching.{ended-alone, met-alone}
-use Rattle.calls.proofs.searches.tells_what_is_seen.Goals as goal
+use Rattle.tests_runs.proofs.calls.searches.tells_what_is_seen.Goals as goal
 
 pub sights_in-given-requires : goal.sights_in-given-requires
 sights_in-given-requires g c =

@@ -1,7 +1,7 @@
 //! The calls of kmap_runs. Where memory is refused, nothing was written.
-use crate::devices::{Given, mark, reader_of, writer};
-use crate::inputs::{CHANGED, Call, LACKING, SENTENCE, TEXT, TRAP};
-use crate::outcome::{Outcome, ended, ended_untouched, is_text};
+use crate::calls::devices::{Given, mark, reader_of, writer};
+use crate::calls::inputs::{CHANGED, Call, LACKING, SENTENCE, TEXT, TRAP};
+use crate::calls::outcome::{Outcome, ended, ended_untouched, is_text};
 use keymap_core::Write;
 use keymap_draw::Board;
 use kmap_runs::{

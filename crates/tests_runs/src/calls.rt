@@ -1,15 +1,14 @@
 //! Makes calls of the libraries that scripts look at from outside, and prints what they answered.
 //!
-//! An argument names one call, whose allocations are refused (`tests/refused_calls.sh`): there is one at least for each
-//! exported function of the libraries that takes memory. What the call needs is made before. A line goes to standard
-//! error right before the call and right after it, so that the call's own allocations can be told from all others. The
-//! answer is `ok`, `memory` where memory was refused, or `fault`. ` changed` follows it where the call did not leave
-//! alone what it must: the map or the console that it was lent, or a device that it was not to touch.
+//! It is one test, which a script runs by its name. An argument behind that names one call, whose allocations are refused
+//! (`tests/refused_calls.sh`): there is one at least for each exported function of the libraries that takes memory. What
+//! the call needs is made before. A line goes to standard error right before the call and right after it, so that the
+//! call's own allocations can be told from all others. The answer is `ok`, `memory` where memory was refused, or `fault`.
+//! ` changed` follows it where the call did not leave alone what it must: the map or the console that it was lent, or a
+//! device that it was not to touch.
 //!
 //! Behind `steps` stand `map` or `tables`, and how many rounds of eight events a console takes, 1 or 10000. The answer
 //! is the sum of the console's, and `make bench` counts the instructions.
-#![tactic(auto)]
-
 mod consoles;
 mod devices;
 mod formats;
@@ -20,8 +19,8 @@ mod searches;
 mod steps;
 mod texts;
 
-use crate::inputs::{Call, Lent, TEXT, TRAP, narrow, tables};
-use crate::outcome::Outcome;
+use crate::calls::inputs::{Call, Lent, TEXT, TRAP, narrow, tables};
+use crate::calls::outcome::Outcome;
 use keymap_core::{ToStd, Write};
 use std::alloc::AllocError;
 use std::{env, io};
@@ -90,14 +89,15 @@ fn answer_by_name(rt: &HostRuntime, name: &str) -> io::Result<()> {
     answer(rt, &call)
 }
 
-fn main(rt: HostRuntime) -> io::Result<()> {
+#[test]
+fn answers(rt: HostRuntime) -> io::Result<()> {
     let words: Vec<String> = env::args(&rt)?.collect(rt.alloc())?;
     match words.as_slice() {
-        [_, word, rest @ ..] if word.as_str() == "steps" => {
+        [_, _, word, rest @ ..] if word.as_str() == "steps" => {
             let sum = steps::sum(rt.alloc(), rest)?;
             println!(rt; "{sum}")
         }
-        [_, name, ..] => answer_by_name(&rt, name.as_str()),
+        [_, _, name, ..] => answer_by_name(&rt, name.as_str()),
         _ => println!(rt; "no call is named"),
     }
 }

@@ -1,8 +1,8 @@
 //! The calls on what a search of console_states met.
 
-use crate::devices::mark;
-use crate::inputs::{Call, Lent};
-use crate::outcome::{Outcome, ended, ended_keeping};
+use crate::calls::devices::mark;
+use crate::calls::inputs::{Call, Lent};
+use crate::calls::outcome::{Outcome, ended, ended_keeping};
 use console_states::{End, Held, Keymaps, go_out, meet_all, sights_in};
 use keymap_core::Write;
 use std::alloc::{AllocError, Global};

@@ -1,7 +1,7 @@
 //! The calls of keymap_lint, keymap_lint_text, keymap_fmt, keymap_draw and messages, and those of play_core.
-use crate::devices::{mark, reader_of, writer};
-use crate::inputs::{Call, FAULTY, Lent, SENTENCE, TEXT, TRAP, script};
-use crate::outcome::{Outcome, ended, ended_keeping, ended_untouched, is_text};
+use crate::calls::devices::{mark, reader_of, writer};
+use crate::calls::inputs::{Call, FAULTY, Lent, SENTENCE, TEXT, TRAP, script};
+use crate::calls::outcome::{Outcome, ended, ended_keeping, ended_untouched, is_text};
 use keymap_check::check;
 use keymap_core::Write;
 use keymap_draw::{Board, picture};

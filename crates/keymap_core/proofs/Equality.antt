@@ -1,6 +1,9 @@
 -- `==` of values tells whether they are the same.
 use Rattle.keymap_core.proofs.Common.{◌≡◌, ◌==◌, ℕ, Bool, ap, rules, ◌&&◌, and_parts, MapValue, Cell}
+use Rattle.keymap_core.proofs.SameActions.{action-same}
+use Rattle.keymap_core.specs.declared.entry.Cell.TheVariants.{Char, Act}
 use Rattle.std.specs.Bool.{Decides}
+use Rattle.std.proofs.lemmas.Bool.Decides.{Decides-eqb, Decides-like}
 use Rattle.std.specs.Cmp.Lexicographic.{pointwise, pointwise_decides}
 use Rattle.std.proofs.lemmas.Bool.{and_from}
 use Rattle.keymap_core.specs.Accents.{AccentValue}
@@ -17,8 +20,11 @@ both-Decides p q P Q d e =
     (λ h. let parts = and_parts p q h in (d.0 parts.0, e.0 parts.1), λ h. and_from p q (d.1 h.0) (e.1 h.1))
 
 -- `==` decides whether two cells are the same
-cell-same : (a b : Cell) → Decides (cell.eq-value.it a b) (a ≡ b)
-cell-same a b = search rules
+pub cell-same : (a b : Cell) → Decides (cell.eq-value.it a b) (a ≡ b)
+cell-same (Char x) (Char y) = Decides-like _ (λ e. ap Char e) (λ e. cc) (Decides-eqb x y)
+cell-same (Act x) (Act y) = Decides-like _ (λ e. ap Act e) (λ e. cc) (action-same x y)
+cell-same (Char x) (Act y) = ((λ h. cc), (λ h. cc))
+cell-same (Act x) (Char y) = ((λ h. cc), (λ h. cc))
 
 -- `==` decides whether two lock flags are the same
 flag-same : (a b : LockFlag) → Decides (flag.eq-value.it a b) (a ≡ b)

@@ -1,6 +1,9 @@
 -- The test for the same action.
 use Rattle.keymap_core.proofs.Common.{◌≡◌, ℕ, true, cond, eqb, refl, ap, eqb-true, eq-eqb, and_parts, rules}
-use Rattle.keymap_core.proofs.Common.{Modifier, Lock, Action, same_action}
+use Rattle.keymap_core.proofs.Common.{Modifier, Lock, Action, same_action, subst}
+use Rattle.std.specs.Bool.{Decides}
+use Rattle.std.proofs.lemmas.Bool.Decides.{same_from_decides}
+use Rattle.keymap_core.specs.contracts.action.ActionPartialEq.TheImpl as equal
 use Rattle.keymap_core.specs.declared.action.Modifier.TheVariants.{LeftShift, RightShift, LeftControl, RightControl}
 use Rattle.keymap_core.specs.declared.action.Modifier.TheVariants.{LeftAlt, RightAlt, AltShift, Meta}
 use Rattle.keymap_core.specs.declared.action.Lock.TheVariants.{Caps, Num, Scroll, Alt}
@@ -64,3 +67,13 @@ same_action-true a b e = search (rules, and_parts, eqb-true, action_of-parts)
 pub same_action-refl : (a : Action) → same_action a a ≡ true
 same_action-refl a =
     rw (eq-eqb (action_kind a) (action_kind a) refl, eq-eqb (action_number a) (action_number a) refl) refl
+
+-- `==` decides whether two actions are the same
+pub action-same : (a b : Action) → Decides (equal.eq-value.it a b) (a ≡ b)
+action-same a b = search rules
+
+-- `==` of actions is the test for the same action
+pub equal-same : (a b : Action) → equal.eq-value.it a b ≡ same_action a b
+equal-same a b =
+    same_from_decides _ _ (action-same a b)
+    (same_action-true a b, λ e. subst (λ x. same_action a x ≡ true) e (same_action-refl a))

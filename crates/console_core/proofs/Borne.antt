@@ -7,7 +7,7 @@ use Rattle.console_core.proofs.Common.{Act, Event, Press, Release, Reset, Load, 
 use Rattle.console_core.proofs.Common.{cell_at, slot_of, exactly_one, ResolvedEvent, held, locked, remembered}
 use Rattle.console_core.proofs.Common.{taken_over, unless_nop, look, resolve_press, Maps, in_force, loaded, resolved}
 use Rattle.console_core.proofs.Common.{HasKey, HasKeys, PressedCharacter, PressedAction, ReleasedKey, WasReset}
-use Rattle.console_core.proofs.Common.{WasLoaded, IsCellOf, is_borne, bears-borne, same_action-true, rules}
+use Rattle.console_core.proofs.Common.{WasLoaded, IsCellOf, is_borne, bears-borne, same_action-true, ap}
 use Rattle.console_core.specs.Columns.{column_of}
 use Rattle.keymap_core.specs.Bearers.{StandsIn, IsUpperLive}
 use Rattle.console_core.proofs.OneMore.{resolved-start, resolved-more, held-start, held-character, held-action}
@@ -51,14 +51,16 @@ offers-holding a = rw (holding-not_nop a) refl
 taken_over-same : (held b : Action) (a : Holding) (t : Bool) → same_action held b ≡ t
     → same_action (if t then b else act.Nop) (holding_action a) ≡ true
     → (b ≡ holding_action a) × (Some held ≡ Some (holding_action a))
-taken_over-same held b a true e h = search (rules, same_action-true)
+taken_over-same held b a true e h =
+    let f = same_action-true b (holding_action a) h in (f, ap Some (same_action-true held b e ∙ f))
 taken_over-same held b a false e h = absurd (true≢false (sym h ∙ nop-not_holding a))
 
 -- a holding action that is taken was looked up, and is then remembered
 pub taken-holding : (o : Option Action) (b : Action) (a : Holding)
     → same_action (taken_over o b) (holding_action a) ≡ true
     → (b ≡ holding_action a) × (option_or o (unless_nop b) ≡ Some (holding_action a))
-taken-holding None b a h = search (rules, same_action-true, offers-holding)
+taken-holding None b a h =
+    let f = same_action-true b (holding_action a) h in (f, ap unless_nop f ∙ offers-holding a)
 taken-holding (Some held) b a h = taken_over-same held b a (same_action held b) refl h
 
 -- what is held makes the upper half live, where each of its cells does
@@ -99,7 +101,8 @@ locked-borne m l (PressedAction k b ∷ r) all h =
     ]
 locked-borne m l (ReleasedKey k ∷ r) all h = locked-borne m l r all.1 (sym (locked-release l k r) ∙ h)
 locked-borne m l (WasReset ∷ r) all h = locked-borne m l r all.1 (sym (locked-reset l r) ∙ h)
-locked-borne m l (WasLoaded n ∷ r) all h = search (rules, and_parts, locked-load)
+locked-borne m l (WasLoaded n ∷ r) all h =
+    subst (λ x. is_borne x (holding.Lock l) ≡ true) all (and_parts _ _ (sym (locked-load l n r) ∙ h)).0
 
 -- an alt lock that is on makes the upper half live
 pub locked-upper : (m : MapValue) (r : List ResolvedEvent) → AllLooked m r → locked lock.Alt r ≡ true → IsUpperLive m

@@ -7,7 +7,7 @@ use Rattle.console_core.proofs.Common.{MapValue, cell_at, is_borne, bears-borne,
 use Rattle.console_core.proofs.Common.{ResolvedEvent, held, locked, remembered, taken_over, look, resolve_press, turns}
 use Rattle.console_core.proofs.Common.{Maps, in_force, loaded, is_second_in_force, resolved_event, resolved, pressed}
 use Rattle.console_core.proofs.Common.{HasKey, HasKeys, IsNoLoad, HasNoLoads, IsCellOf, BearsThroughout, is_fresh_press}
-use Rattle.console_core.proofs.Common.{same_action-refl, rules}
+use Rattle.console_core.proofs.Common.{same_action-refl}
 use Rattle.console_core.specs.Headline.{LockedByFreshPresses}
 use Rattle.console_core.proofs.OneMore.{resolved-start, resolved-more, locked-start, locked-more, press-unlocks}
 use Rattle.console_core.proofs.Borne.{AllLooked, taken-holding, look-cell, resolved-looked}
@@ -53,7 +53,10 @@ turns-bearer ms k j l h false (Act b) bears keys lt e is =
 turns-fresh : (ms : Maps) (k : ℕ) (l : Lock) (e : Event) (h : List Event)
     → BearsThroughout (in_force ms h) k (holding.Lock l) → HasKeys (e ∷ h)
     → turns l (resolved_event ms h e) (resolved ms h) ≡ is_fresh_press k e h
-turns-fresh ms k l (Press j) h bears keys = search (rules, All-tail, turns-bearer, All-head, look-cell, resolved-looked)
+turns-fresh ms k l (Press j) h bears keys =
+    let before : HasKeys h = All-tail HasKey (Press j) h keys in
+    turns-bearer ms k j l h (j == k) _ bears before (All-head HasKey (Press j) h keys) refl
+    (look-cell (in_force ms h) (resolved ms h) j (resolved-looked ms h before))
 turns-fresh ms k l (Release j) h bears keys = refl
 turns-fresh ms k l Reset h bears keys = refl
 turns-fresh ms k l Load h bears keys = refl
@@ -90,7 +93,8 @@ either_bears false ms l k first f = first
 -- the key bears the lock throughout in the map in force
 bears-in_force : (ms : Maps) (l : Lock) (k : ℕ) (h : List Event) → BearsThroughout ms.first k (holding.Lock l)
     → Bearer ms l k h → BearsThroughout (in_force ms h) k (holding.Lock l)
-bears-in_force ms l k h first (inl none) = search (rules, either_bears, true≢false, no_loads-first)
+bears-in_force ms l k h first (inl none) =
+    either_bears (is_second_in_force h) ms l k first (λ e. absurd (true≢false (sym e ∙ no_loads-first h none)))
 bears-in_force ms l k h first (inr second) = either_bears (is_second_in_force h) ms l k first (λ e. second)
 
 -- the key bore the lock so before the last event

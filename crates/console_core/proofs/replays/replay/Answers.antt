@@ -1,5 +1,6 @@
-use Rattle.console_core.proofs.Common.{◌≡◌, ◌+◌, ◌∷◌, ◌++◌, [], take, ap, subst, sym, ◌∙◌, arith, reverse, common_steps}
+use Rattle.console_core.proofs.Common.{◌≡◌, ◌+◌, ◌∷◌, ◌++◌, [], take, ap, subst, sym, ◌∙◌, arith, reverse}
 use Rattle.console_core.proofs.Common.{answers_to, HasKeys, is_locked_after}
+use Rattle.std.proofs.lemmas.List.{take_all}
 use Rattle.console_core.proofs.Headline.{on_only_while_pressed, on_exactly_while_pressed, off_once_quiet}
 use Rattle.console_core.proofs.Headline.{goes_on_as_after_reset, repeats-kept}
 use Rattle.console_core.proofs.FreshPresses.{locked_by_fresh_presses}
@@ -30,10 +31,22 @@ loop-event-preserved g c =
           (c.step.ensures.next ms _ (c.loop-event.invariant.stands ms h s));
     }
 
+pub returns-clause-answers : goal.returns-clause-answers
+returns-clause-answers g c =
+    λ ms h s. let e : take c.loop-event.event-index c.args.events.now ≡ c.args.events.now =
+    take_all _ _ c.loop-event-test.false in
+    rw e at (c.loop-event.invariant.answers ms h s)
+
+pub returns-clause-next : goal.returns-clause-next
+returns-clause-next g c =
+    λ ms h s. let e : take c.loop-event.event-index c.args.events.now ≡ c.args.events.now =
+    take_all _ _ c.loop-event-test.false in
+    rw e at (c.loop-event.invariant.stands ms h s)
+
 pub returns-clause-on_only_while_pressed : goal.returns-clause-on_only_while_pressed
 returns-clause-on_only_while_pressed g c =
     λ ms h s safe i on.
-    let e : take c.loop-event.event-index c.args.events.now ≡ c.args.events.now = grind (arith, common_steps) in
+    let e : take c.loop-event.event-index c.args.events.now ≡ c.args.events.now = take_all _ _ c.loop-event-test.false in
     let at : g.T.Translator.stands c.loop-event.console ms (reverse c.args.events.now ++ h) =
     rw e at (c.loop-event.invariant.stands ms h s) in
     on_only_while_pressed ms _ safe (g.met.T.Translator.keys_where_it_stands _ _ _ at) i
@@ -42,7 +55,7 @@ returns-clause-on_only_while_pressed g c =
 pub returns-clause-on_exactly_while_pressed : goal.returns-clause-on_exactly_while_pressed
 returns-clause-on_exactly_while_pressed g c =
     λ ms h s i k bears.
-    let e : take c.loop-event.event-index c.args.events.now ≡ c.args.events.now = grind (arith, common_steps) in
+    let e : take c.loop-event.event-index c.args.events.now ≡ c.args.events.now = take_all _ _ c.loop-event-test.false in
     let at : g.T.Translator.stands c.loop-event.console ms (reverse c.args.events.now ++ h) =
     rw e at (c.loop-event.invariant.stands ms h s) in
     g.met.T.Translator.on_where_it_stands _ _ _ at i
@@ -51,7 +64,7 @@ returns-clause-on_exactly_while_pressed g c =
 pub returns-clause-repeats_turn_no_steady_lock : goal.returns-clause-repeats_turn_no_steady_lock
 returns-clause-repeats_turn_no_steady_lock g c =
     λ ms h s earlier repeats split are l steady.
-    let e : take c.loop-event.event-index c.args.events.now ≡ c.args.events.now = grind (arith, common_steps) in
+    let e : take c.loop-event.event-index c.args.events.now ≡ c.args.events.now = take_all _ _ c.loop-event-test.false in
     let at : g.T.Translator.stands c.loop-event.console ms (reverse c.args.events.now ++ h) =
     rw e at (c.loop-event.invariant.stands ms h s) in
     let joined : reverse c.args.events.now ++ h ≡ reverse repeats ++ (reverse earlier ++ h) =
@@ -63,7 +76,7 @@ returns-clause-repeats_turn_no_steady_lock g c =
 pub returns-clause-off_once_quiet : goal.returns-clause-off_once_quiet
 returns-clause-off_once_quiet g c =
     λ ms h s safe quiet i.
-    let e : take c.loop-event.event-index c.args.events.now ≡ c.args.events.now = grind (arith, common_steps) in
+    let e : take c.loop-event.event-index c.args.events.now ≡ c.args.events.now = take_all _ _ c.loop-event-test.false in
     let at : g.T.Translator.stands c.loop-event.console ms (reverse c.args.events.now ++ h) =
     rw e at (c.loop-event.invariant.stands ms h s) in
     g.met.T.Translator.on_where_it_stands _ _ _ at i
@@ -72,7 +85,7 @@ returns-clause-off_once_quiet g c =
 pub returns-clause-goes_on_as_after_reset : goal.returns-clause-goes_on_as_after_reset
 returns-clause-goes_on_as_after_reset g c =
     λ ms h s safe quiet p.
-    let e : take c.loop-event.event-index c.args.events.now ≡ c.args.events.now = grind (arith, common_steps) in
+    let e : take c.loop-event.event-index c.args.events.now ≡ c.args.events.now = take_all _ _ c.loop-event-test.false in
     let at : g.T.Translator.stands c.loop-event.console ms (reverse c.args.events.now ++ h) =
     rw e at (c.loop-event.invariant.stands ms h s) in
     goes_on_as_after_reset ms _ safe (g.met.T.Translator.keys_where_it_stands _ _ _ at) quiet
@@ -81,7 +94,7 @@ returns-clause-goes_on_as_after_reset g c =
 pub returns-clause-locked_by_fresh_presses : goal.returns-clause-locked_by_fresh_presses
 returns-clause-locked_by_fresh_presses g c =
     λ ms h s l k first bearer.
-    let e : take c.loop-event.event-index c.args.events.now ≡ c.args.events.now = grind (arith, common_steps) in
+    let e : take c.loop-event.event-index c.args.events.now ≡ c.args.events.now = take_all _ _ c.loop-event-test.false in
     let at : g.T.Translator.stands c.loop-event.console ms (reverse c.args.events.now ++ h) =
     rw e at (c.loop-event.invariant.stands ms h s) in
     g.met.T.Translator.locked_where_it_stands _ _ _ at l
@@ -90,7 +103,7 @@ returns-clause-locked_by_fresh_presses g c =
 pub returns-clause-looks_plainly : goal.returns-clause-looks_plainly
 returns-clause-looks_plainly g c =
     λ ms h s plain none k.
-    let e : take c.loop-event.event-index c.args.events.now ≡ c.args.events.now = grind (arith, common_steps) in
+    let e : take c.loop-event.event-index c.args.events.now ≡ c.args.events.now = take_all _ _ c.loop-event-test.false in
     let at : g.T.Translator.stands c.loop-event.console ms (reverse c.args.events.now ++ h) =
     rw e at (c.loop-event.invariant.stands ms h s) in
     shown-plain ms _ none (g.met.T.Translator.keys_where_it_stands _ _ _ at) plain k
@@ -100,7 +113,7 @@ returns-clause-looks_plainly g c =
 pub returns-clause-on_only_while_pressed_without_traps : goal.returns-clause-on_only_while_pressed_without_traps
 returns-clause-on_only_while_pressed_without_traps g c =
     λ ms h s locks i free on.
-    let e : take c.loop-event.event-index c.args.events.now ≡ c.args.events.now = grind (arith, common_steps) in
+    let e : take c.loop-event.event-index c.args.events.now ≡ c.args.events.now = take_all _ _ c.loop-event-test.false in
     let at : g.T.Translator.stands c.loop-event.console ms (reverse c.args.events.now ++ h) =
     rw e at (c.loop-event.invariant.stands ms h s) in
     on_only_while_pressed_without_traps ms _ (g.met.T.Translator.keys_where_it_stands _ _ _ at) locks i free

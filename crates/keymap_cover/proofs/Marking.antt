@@ -2,7 +2,9 @@
 use Rattle.keymap_cover.proofs.Common.{zero, suc, ◌≡◌, ℕ, ◌<◌, ◌≤◌, arith, Bool, true, false, List, [], refl, ap, subst}
 use Rattle.keymap_cover.proofs.Common.{sym, ◌∙◌, length, if◌then◌else◌, ◌==◌, slice_set, slice_index_or, replicate}
 use Rattle.keymap_cover.proofs.Common.{Contains, list_any, and-false, eqb-true, eq-eqb, true≢false, bit, Sight}
-use Rattle.keymap_cover.proofs.Common.{cell_place, lock_setting_place, is_pair}
+use Rattle.keymap_cover.proofs.Common.{cell_place, lock_setting_place, is_pair, ◌∷◌, ◌++◌, ◌⊎◌, inl, inr}
+use Rattle.std.proofs.lemmas.List.Elements.{Contains-append_left, Contains-push, Contains-push_cases}
+use Rattle.keymap_cover.specs.Inner.Scripts.{IsWith}
 use Rattle.std.proofs.Common.{◌&&◌}
 use Rattle.std.specs.Prelude.{nat_lt}
 use Rattle.std.proofs.lemmas.Bool.{and_from, and_parts, false_from_ne_true}
@@ -24,7 +26,7 @@ bit-small true = omega arith
 bit-small false = omega arith
 
 -- the test of a pair
-is-this : (i c : ℕ) → is_pair i c (sight.Pair i c) ≡ true
+pub is-this : (i c : ℕ) → is_pair i c (sight.Pair i c) ≡ true
 is-this i c = and_from (i == i) (c == c) (eq-eqb i i refl) (eq-eqb c c refl)
 
 this-is : (i c : ℕ) (x : Sight) → is_pair i c x ≡ true → x ≡ sight.Pair i c
@@ -41,6 +43,30 @@ pair-value pairs i c r then-so then-not =
     (λ e. false_from_ne_true (list_any (is_pair i c) pairs) (λ passes.
     let (x, has, is) = some-member (is_pair i c) pairs passes in
     then-not e (subst (λ z. Contains pairs z) (this-is i c x is) has)))
+
+-- what is seen once a pair is added
+pub pair-marked : (cells settings : List Bool) (pairs more : List Sight) (i c : ℕ) → more ≡ pairs ++ sight.Pair i c ∷ []
+    → IsWith (sight.Pair i c) (seen_in cells settings pairs) (seen_in cells settings more)
+pair-marked cells settings pairs more i c e =
+    let has = subst (λ z. Contains z (sight.Pair i c)) (sym e) (Contains-push pairs (sight.Pair i c)) in
+    (any-member (is_pair i c) more (sight.Pair i c) has (is-this i c), at)
+  where
+    at : (y : Sight) → (seen_in cells settings pairs y ≡ true → seen_in cells settings more y ≡ true)
+        × (seen_in cells settings more y ≡ true → (seen_in cells settings pairs y ≡ true) ⊎ (sight.Pair i c ≡ y))
+    at (sight.Cell s d) = ((λ was. was), (λ now. inl now))
+    at (sight.Locks s a b) = ((λ was. was), (λ now. inl now))
+    at (sight.Pair j d) = (
+      (λ was.
+          let (x, has, is) = some-member (is_pair j d) pairs was in
+          any-member (is_pair j d) more x
+          (subst (λ z. Contains z x) (sym e) (Contains-append_left pairs (sight.Pair i c ∷ []) x has)) is),
+      (λ now.
+          let (x, has, is) = some-member (is_pair j d) more now in
+          elim (Contains-push_cases pairs (sight.Pair i c) x (subst (λ z. Contains z x) e has)) [
+            | inl old ↦ inl (any-member (is_pair j d) pairs x old is)
+            | inr new ↦ inr (new ∙ this-is j d x is)
+          ]),
+    )
 
 -- nothing is marked in an array of false
 off : (n i : ℕ) → slice_index_or (replicate n false) i false ≡ false

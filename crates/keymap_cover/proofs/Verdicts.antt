@@ -1,9 +1,6 @@
 -- The verdicts that are counted are those that are told.
-use Rattle.std.proofs.Common.{rules}
-use Rattle.keymap_cover.proofs.Common.{◌≡◌, Bool, true, false, [], ◌∷◌, refl, sym, ◌∙◌}
-use Rattle.keymap_cover.proofs.Common.{true≢false}
+use Rattle.keymap_cover.proofs.Common.{◌≡◌, Bool, true, false, [], ◌∷◌, refl, subst, sym, ◌∙◌, true≢false, IsTold}
 use Rattle.keymap_cover.proofs.Common.{if◌then◌else◌, MapValue, Sight, SeesAlong, IsReachable, has_seen}
-use Rattle.keymap_cover.proofs.Common.{IsTold}
 use Rattle.std.proofs.lemmas.List.Elements.{All-head, All-tail}
 use Rattle.console_states.specs.Returning.{NoTurnIsOneWay}
 use Rattle.console_states.specs.Sights.{can_see}
@@ -28,13 +25,27 @@ counts_are_of_verdicts m c covers x = by (has_seen c.seen x) refl
 
     otherwise : has_seen c.seen x ≡ false → (t : Bool) → can_see m c.sights x ≡ t
         → IsVerdict m c x (if t then LeftOut else Never)
-    otherwise e true f = search (rules, unseen, sees-all)
-    otherwise e false f = search (rules, unseen, hidden, sights_are_reachable, never-forgets)
+    otherwise e true f =
+        (unseen e, sees-all m c.sights covers.sights x f, (λ told can. unseen e (covers.complete x told can)))
+    otherwise e false f = (
+      unseen e,
+      hidden f,
+      (λ h k admitted lt sees. hidden f (sights_are_reachable m c.sights.forgets h k x
+          (never-forgets m c.sights covers.sights) admitted lt sees)),
+    )
 
     by : (t : Bool) → has_seen c.seen x ≡ t
         → IsVerdict m c x (if t then Seen else (if can_see m c.sights x then LeftOut else Never))
     by true e = covers.seen x e
     by false e = otherwise e (can_see m c.sights x) refl
+
+-- what is told by two tests is so
+pub told-so : (m : MapValue) (c : Cover) (x : Sight) (s t : Bool) → s ≡ has_seen c.seen x → t ≡ can_see m c.sights x
+    → Covers m c → IsVerdict m c x (if s then Seen else (if t then LeftOut else Never))
+told-so m c x s t e f covers =
+    subst (λ b. IsVerdict m c x (if s then Seen else (if b then LeftOut else Never))) (sym f)
+    (subst (λ b. IsVerdict m c x (if b then Seen else (if can_see m c.sights x then LeftOut else Never))) (sym e)
+    (counts_are_of_verdicts m c covers x))
 
 -- where all that can be seen can be visited, nothing that is told of is left out
 never-left_out : (m : MapValue) (c : Cover) → Covers m c → NoTurnIsOneWay m → (x : Sight) → IsTold m x

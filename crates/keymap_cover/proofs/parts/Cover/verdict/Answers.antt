@@ -1,17 +1,16 @@
-use Rattle.keymap_cover.proofs.Common.{subst, sym, ◌∙◌, ap, if◌then◌else◌}
-use Rattle.console_states.specs.Sights.{can_see}
-use Rattle.keymap_cover.specs.declared.parts.Verdict.TheVariants.{Seen, LeftOut, Never}
-use Rattle.keymap_cover.specs.Covering.{IsVerdict}
-use Rattle.keymap_cover.proofs.Verdicts.{counts_are_of_verdicts}
+use Rattle.keymap_cover.proofs.Common.{sym, ◌∙◌, true, false}
+use Rattle.keymap_cover.proofs.Verdicts.{told-so}
 use Rattle.keymap_cover.proofs.parts.Cover.verdict.Goals as goal
+
+pub returns-then-has-clause-told : goal.returns-then-has-clause-told
+returns-then-has-clause-told c = λ covers. covers.seen c.args.sight (sym c.has.ensures ∙ c.if-has.true)
+
+pub returns-then-can_see-clause-told : goal.returns-then-can_see-clause-told
+returns-then-can_see-clause-told c =
+    told-so c.args.map.now c.args.self.now c.args.sight false true (sym c.if-has.false ∙ c.has.ensures)
+    (sym c.if-can_see.true ∙ c.can_see.ensures.value)
 
 pub returns-else-can_see-clause-told : goal.returns-else-can_see-clause-told
 returns-else-can_see-clause-told c =
-    λ covers.
-    let m = c.args.map.now in
-    let x = c.args.sight in
-    subst (λ v. IsVerdict m c.args.self.now x v)
-    (ap (λ t. if t then Seen else (if can_see m c.args.self.now.sights x then LeftOut else Never))
-    (sym c.has.ensures ∙ c.if-has.false)
-    ∙ ap (λ t. if t then LeftOut else Never) (sym c.can_see.ensures.value ∙ c.if-can_see.false))
-    (counts_are_of_verdicts m c.args.self.now covers x)
+    told-so c.args.map.now c.args.self.now c.args.sight false false (sym c.if-has.false ∙ c.has.ensures)
+    (sym c.if-can_see.false ∙ c.can_see.ensures.value)

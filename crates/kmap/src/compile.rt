@@ -7,14 +7,14 @@ use keymap_tables::{NARROW_FILE, WIDE_FILE};
 use keymap_text::{LIMIT, read_into};
 use kmap_runs::{RunError, compile_narrow_run, compile_run};
 use std::fs;
-use std::fs::{File, Files, Metadata};
+use std::fs::{File, Metadata};
 
 /// What a new table file has behind the name of the old one until it takes its place.
 const SUFFIX: &str = ".kmap-new";
 
 /// Whether a file of this name can be replaced by a new one. A pipe, a device or a folder can't, nor can a link to
 /// nothing; and what the program was given as an open file is to be written there, whatever file it is.
-fn is_replaceable<R: Files>(rt: &R, out: &str) -> bool {
+fn is_replaceable(rt: &HostRuntime, out: &str) -> bool {
     match fs::symlink_metadata(rt, out) {
         Ok(found) if found.is_symlink() && is_of_the_system(out) => false,
         Ok(_) => fs::metadata(rt, out).is_ok_and(|file| file.is_file()),
@@ -28,7 +28,7 @@ fn is_of_the_system(name: &str) -> bool {
 }
 
 /// Whether OUT is the file that the text was read from. What has no bytes of its own, as a terminal, may be both.
-fn is_the_text<R: Files>(rt: &R, text: &Metadata, out: &str) -> bool {
+fn is_the_text(rt: &HostRuntime, text: &Metadata, out: &str) -> bool {
     text.is_file() && fs::metadata(rt, out).is_ok_and(|found| is_same(&found, text))
 }
 
@@ -52,10 +52,7 @@ impl Definitions for Came {
 
 /// Whether OUT is a keymap text itself, in which a definition stands before any fault. What isn't a regular file isn't
 /// read.
-fn is_a_text<'a, R>(rt: &R, out: &str) -> Result<bool, Failure<'a>>
-where
-    R: AllocGlobal + Files<File = File>,
-{
+fn is_a_text<'a>(rt: &HostRuntime, out: &str) -> Result<bool, Failure<'a>> {
     if !fs::metadata(rt, out).is_ok_and(|found| found.is_file()) {
         return Ok(false);
     }
@@ -77,15 +74,12 @@ where
 /// of writing, since a new file takes the place of the old one. A keymap that doesn't fit in a narrow file leaves an
 /// empty OUT, which nobody takes for its tables. An OUT that is a keymap text stays: it may be the second of many that
 /// were meant for another command.
-pub(crate) fn compile<'a, R>(
-    rt: &R,
+pub(crate) fn compile<'a>(
+    rt: &HostRuntime,
     text: &'a str,
     out: &'a str,
     narrow: bool,
-) -> Result<(), Failure<'a>>
-where
-    R: AllocGlobal + Files<File = File>,
-{
+) -> Result<(), Failure<'a>> {
     let file = opened_file(rt, text)?;
     let Ok(found) = file.metadata() else {
         return Err(Failure::File(text, FileFault::CannotOpen));
@@ -113,10 +107,7 @@ where
 }
 
 /// Writes a table file under this name: in place where no new file can take the place of the old one.
-fn write_table<'a, R>(rt: &R, table: &[u8], out: &'a str) -> Result<(), Failure<'a>>
-where
-    R: AllocGlobal + Files<File = File>,
-{
+fn write_table<'a>(rt: &HostRuntime, table: &[u8], out: &'a str) -> Result<(), Failure<'a>> {
     if is_replaceable(rt, out) {
         let old = match fs::metadata(rt, out) {
             Ok(old) => Old::Owned(old),

@@ -1,14 +1,14 @@
 //! `kmap fmt`: texts are laid out, and written, compared or printed.
 use crate::command_line::FmtMode;
 use crate::inputs::{Source, buffered, given, is_standard_input, opened_file};
-use crate::output::{Output, tell};
+use crate::output::{Faults, Output, tell};
 use crate::program::{Failure, FileFault, is_of_output, of_many, report, report_name, well};
 use crate::replace::{Old, ReplaceFault, replace};
-use keymap_core::{FromStd, Write, read_up_to};
+use keymap_core::{FromStd, read_up_to};
 use kmap_runs::{RunError, fmt_print_run, fmt_run};
 use std::alloc::{AllocError, Global};
 use std::fs;
-use std::fs::{File, Files, Metadata};
+use std::fs::{File, Metadata};
 use std::io::Read;
 
 /// What a new file has behind the name of the old one until it takes its place.
@@ -17,16 +17,12 @@ const SUFFIX: &str = ".kmap-fmt";
 /// Whether all is well: no text had a fault, and none was to be changed where they are only compared. A text that can't
 /// be laid out or written gets its line, and the next one follows; where the output fails, none does. Where no one
 /// reads the names any more, the texts are still written.
-pub(crate) fn format_texts<'a, R, W>(
-    rt: &R,
+pub(crate) fn format_texts<'a>(
+    rt: &HostRuntime,
     mode: FmtMode,
     texts: &[&'a str],
-    faults: &mut W,
-) -> Result<bool, Failure<'a>>
-where
-    R: AllocGlobal + Files<File = File> + Input + Print,
-    W: Write,
-{
+    faults: &mut Faults,
+) -> Result<bool, Failure<'a>> {
     let mut replaced = Vec::new(rt.alloc());
     let mut well = true;
     for text in texts {
@@ -49,17 +45,18 @@ where
 }
 
 /// Writes a line for each text that was replaced before the output failed.
-fn report_replaced<R: AllocGlobal, W: Write>(rt: &R, replaced: &[&str], faults: &mut W) {
+fn report_replaced(rt: &HostRuntime, replaced: &[&str], faults: &mut Faults) {
     for text in replaced {
         report_name(rt.alloc(), b"kmap: ", text, b": replaced\n", faults);
     }
 }
 
 /// Writes a text anew if it isn't in the layout, and keeps its name.
-fn write_one<'a, R>(rt: &R, text: &'a str, replaced: &mut Vec<&'a str>) -> Result<bool, Failure<'a>>
-where
-    R: AllocGlobal + Files<File = File> + Input + Print,
-{
+fn write_one<'a>(
+    rt: &HostRuntime,
+    text: &'a str,
+    replaced: &mut Vec<&'a str>,
+) -> Result<bool, Failure<'a>> {
     if is_standard_input(text) {
         return print_one(rt, text);
     }
@@ -71,16 +68,13 @@ where
 }
 
 /// Writes a layout in the place of its text, and tells the name. Another run may have written the same meanwhile.
-fn rewrite<'a, R>(
-    rt: &R,
+fn rewrite<'a>(
+    rt: &HostRuntime,
     text: &'a str,
     old: &Old,
     laid: &[u8],
     replaced: &mut Vec<&'a str>,
-) -> Result<(), Failure<'a>>
-where
-    R: AllocGlobal + Files<File = File> + Print,
-{
+) -> Result<(), Failure<'a>> {
     let line = name_line(rt.alloc(), text)?;
     replaced.reserve(1)?;
     match replace(rt, text, old, SUFFIX, laid) {
@@ -94,7 +88,7 @@ where
 }
 
 /// Whether a file has these bytes and no others.
-fn has_text<R: AllocGlobal + Files>(rt: &R, name: &str, bytes: &[u8]) -> bool {
+fn has_text(rt: &HostRuntime, name: &str, bytes: &[u8]) -> bool {
     match fs::open(rt, name) {
         Ok(file) => read_up_to(rt.alloc(), &mut FromStd::new(file), bytes.len() + 1).is_ok_and(
             |found| found.as_slice() == bytes,
@@ -104,10 +98,7 @@ fn has_text<R: AllocGlobal + Files>(rt: &R, name: &str, bytes: &[u8]) -> bool {
 }
 
 /// A regular file, which is open, and what is known of it.
-fn regular<'a, R>(rt: &R, text: &'a str) -> Result<(Metadata, File), Failure<'a>>
-where
-    R: Files<File = File>,
-{
+fn regular<'a>(rt: &HostRuntime, text: &'a str) -> Result<(Metadata, File), Failure<'a>> {
     // A pipe isn't opened, since that waits for its other end.
     match fs::metadata(rt, text) {
         Ok(found) if found.is_file() => {}
@@ -123,10 +114,7 @@ where
 }
 
 /// Whether a text is in the layout. If not, its name is told.
-fn check_one<'a, R>(rt: &R, text: &'a str) -> Result<bool, Failure<'a>>
-where
-    R: AllocGlobal + Files + Input + Print,
-{
+fn check_one<'a>(rt: &HostRuntime, text: &'a str) -> Result<bool, Failure<'a>> {
     let is_laid = laid_out(rt, text, given(rt, text)?)?.is_none();
     if !is_laid {
         tell_name(rt, text)?;
@@ -134,15 +122,12 @@ where
     Ok(is_laid)
 }
 
-fn tell_name<'a, R: AllocGlobal + Print>(rt: &R, name: &str) -> Result<(), Failure<'a>> {
+fn tell_name<'a>(rt: &HostRuntime, name: &str) -> Result<(), Failure<'a>> {
     let line = name_line(rt.alloc(), name)?;
     tell(rt, line.as_bytes())
 }
 
-fn print_one<'a, R>(rt: &R, text: &'a str) -> Result<bool, Failure<'a>>
-where
-    R: AllocGlobal + Files + Input + Print,
-{
+fn print_one<'a>(rt: &HostRuntime, text: &'a str) -> Result<bool, Failure<'a>> {
     let mut source = given(rt, text)?;
     let mut out = Output::new(rt);
     let outcome = fmt_print_run(rt.alloc(), &mut source, &mut out);
@@ -150,8 +135,8 @@ where
 }
 
 /// The layout of a text where that differs from it.
-fn laid_out<'a, R: AllocGlobal, F: Read + Drop>(
-    rt: &R,
+fn laid_out<'a, F: Read + Drop>(
+    rt: &HostRuntime,
     text: &'a str,
     mut source: Source<F>,
 ) -> Result<Option<Vec<u8>>, Failure<'a>> {

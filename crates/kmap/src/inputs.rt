@@ -2,8 +2,8 @@
 use crate::program::{Failure, FileFault};
 use keymap_core::FromStd;
 use kmap_runs::RunError;
-use std::fs::Files;
-use std::io::{BufReader, Read};
+use std::fs::File;
+use std::io::{BufReader, Read, StdinLock};
 use std::{fs, io};
 
 /// How many bytes of a file are asked for at once.
@@ -15,12 +15,12 @@ pub(crate) type Source<F> = FromStd<BufReader<F>>;
 
 /// What a name stands for.
 #[derive(Drop)]
-pub(crate) enum Origin<F, I> {
-    File(F),
-    StandardInput(I),
+pub(crate) enum Origin {
+    File(File),
+    StandardInput(StdinLock<'static>),
 }
 
-impl<F: Read, I: Read> Read for Origin<F, I> {
+impl Read for Origin {
     fn read(&mut self, buf: &mut [u8]) -> io::Result<usize> {
         match self {
             Origin::File(file) => file.read(buf),
@@ -35,18 +35,15 @@ pub(crate) fn is_standard_input(name: &str) -> bool {
 }
 
 /// The file of a name that is taken as given.
-pub(crate) fn opened<'a, R: AllocGlobal + Files>(
-    rt: &R,
-    name: &'a str,
-) -> Result<Source<R::File>, Failure<'a>> {
+pub(crate) fn opened<'a>(rt: &HostRuntime, name: &'a str) -> Result<Source<File>, Failure<'a>> {
     buffered(rt, opened_file(rt, name)?)
 }
 
 /// The second text, where one is named.
-pub(crate) fn opened_if_named<'a, R: AllocGlobal + Files>(
-    rt: &R,
+pub(crate) fn opened_if_named<'a>(
+    rt: &HostRuntime,
     name: Option<&'a str>,
-) -> Result<Option<Source<R::File>>, Failure<'a>> {
+) -> Result<Option<Source<File>>, Failure<'a>> {
     match name {
         Some(name) => Ok(Some(opened(rt, name)?)),
         None => Ok(None),
@@ -54,10 +51,7 @@ pub(crate) fn opened_if_named<'a, R: AllocGlobal + Files>(
 }
 
 /// What a name stands for, where it may be the standard input.
-pub(crate) fn given<'a, R: AllocGlobal + Files + Input>(
-    rt: &R,
-    name: &'a str,
-) -> Result<Source<Origin<R::File, R::Reader>>, Failure<'a>> {
+pub(crate) fn given<'a>(rt: &HostRuntime, name: &'a str) -> Result<Source<Origin>, Failure<'a>> {
     buffered(
         rt,
         if is_standard_input(name) {
@@ -69,25 +63,25 @@ pub(crate) fn given<'a, R: AllocGlobal + Files + Input>(
 }
 
 /// What a second name stands for, where there is one.
-pub(crate) fn given_if_named<'a, R: AllocGlobal + Files + Input>(
-    rt: &R,
+pub(crate) fn given_if_named<'a>(
+    rt: &HostRuntime,
     name: Option<&'a str>,
-) -> Result<Option<Source<Origin<R::File, R::Reader>>>, Failure<'a>> {
+) -> Result<Option<Source<Origin>>, Failure<'a>> {
     match name {
         Some(name) => Ok(Some(given(rt, name)?)),
         None => Ok(None),
     }
 }
 
-pub(crate) fn opened_file<'a, R: Files>(rt: &R, name: &'a str) -> Result<R::File, Failure<'a>> {
+pub(crate) fn opened_file<'a>(rt: &HostRuntime, name: &'a str) -> Result<File, Failure<'a>> {
     match fs::open(rt, name) {
         Ok(file) => Ok(file),
         Err(_) => Err(Failure::File(name, FileFault::CannotOpen)),
     }
 }
 
-pub(crate) fn buffered<'a, R: AllocGlobal, F: Read + Drop>(
-    rt: &R,
+pub(crate) fn buffered<'a, F: Read + Drop>(
+    rt: &HostRuntime,
     file: F,
 ) -> Result<Source<F>, Failure<'a>> {
     match BufReader::with_capacity(rt.alloc(), READ_AHEAD, file) {

@@ -1,14 +1,17 @@
-//! The standard output.
+//! The standard output, and the standard error, which gets the lines of faults.
 ghost use Rattle.std.specs.Prelude.{None};
 
 use crate::program::Failure;
-use keymap_core::{Failed, Write, write_text};
+use keymap_core::{Failed, ToStd, Write, write_text};
 use kmap_runs::{CommandError, RunError};
 use std::io;
-use std::io::Write as _;
+use std::io::{Stderr, Write as _};
+
+/// Where a fault gets its line.
+pub(crate) type Faults = ToStd<Stderr>;
 
 /// Writes a text at once.
-pub(crate) fn tell<'n, R: Print>(rt: &R, text: &[u8]) -> Result<(), Failure<'n>> {
+pub(crate) fn tell<'n>(rt: &HostRuntime, text: &[u8]) -> Result<(), Failure<'n>> {
     let mut out = Output::new(rt);
     let told = write_text(&mut out, text).map_err(RunError::Write);
     out.outcome(told)
@@ -16,15 +19,15 @@ pub(crate) fn tell<'n, R: Print>(rt: &R, text: &[u8]) -> Result<(), Failure<'n>>
 
 /// The standard output, and what became of it.
 #[derive(Drop)]
-pub(crate) struct Output<'a, R> {
-    rt: &'a R,
+pub(crate) struct Output<'a> {
+    rt: &'a HostRuntime,
     has_failed: bool,
     is_empty: bool,
     has_reader: bool,
 }
 
-impl<'a, R: Print> Output<'a, R> {
-    pub(crate) fn new(rt: &'a R) -> Output<'a, R> {
+impl<'a> Output<'a> {
+    pub(crate) fn new(rt: &'a HostRuntime) -> Output<'a> {
         Output {
             rt,
             has_failed: false,
@@ -70,7 +73,7 @@ impl<'a, R: Print> Output<'a, R> {
     }
 }
 
-impl<R: Print> Write for Output<'_, R> {
+impl Write for Output<'_> {
     ghost contents = { λ _. None };
 
     ghost has_failed = { λ output. output.has_failed };

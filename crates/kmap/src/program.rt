@@ -3,11 +3,11 @@ use crate::command_line::{Request, Sentence, contradiction, matches_of, request_
 use crate::compile::compile;
 use crate::format::format_texts;
 use crate::inputs::{given, given_if_named, opened, opened_if_named};
-use crate::output::Output;
+use crate::output::{Faults, Output};
 use crate::refusal::{contradicted, not_text, refused};
 use crate::texts::{check, lint};
 use clap::ArgMatches;
-use keymap_core::{FromStd, Read, Write, write_text};
+use keymap_core::{FromStd, Read, write_text};
 use keymap_draw::Board;
 use keymap_lint_text::shown_name;
 use kmap_runs::{
@@ -17,9 +17,7 @@ use kmap_runs::{
 use play_core::{Show, play_next};
 use std::alloc::{AllocError, Global};
 use std::convert::AsStr;
-use std::fs::{File, Files};
 use std::process::ExitCode;
-use std::rt::Env;
 use std::{env, io};
 
 /// Why the program ends with status 1, besides a refused map.
@@ -72,11 +70,7 @@ pub(crate) fn is_of_output(error: &CommandError) -> bool {
 }
 
 /// Does what the words of the command line ask for. A fault is one line to `faults`.
-pub(crate) fn run<R, W>(rt: &R, faults: &mut W) -> ExitCode
-where
-    R: Env + AllocGlobal + Files<File = File> + Input + Print + Eprint,
-    W: Write,
-{
+pub(crate) fn run(rt: &HostRuntime, faults: &mut Faults) -> ExitCode {
     match words_run(rt, faults) {
         Ok(status) => status,
         Err(AllocError) => {
@@ -87,7 +81,7 @@ where
 }
 
 /// The words of the command line, or none where one of them is no text.
-fn words_of<R: Env + AllocGlobal>(rt: &R) -> Result<Option<Vec<String>>, AllocError> {
+fn words_of(rt: &HostRuntime) -> Result<Option<Vec<String>>, AllocError> {
     match env::args(rt) {
         Ok(words) => Ok(Some(words.collect(rt.alloc())?)),
         Err(error) => {
@@ -99,11 +93,7 @@ fn words_of<R: Env + AllocGlobal>(rt: &R) -> Result<Option<Vec<String>>, AllocEr
     }
 }
 
-fn words_run<R, W>(rt: &R, faults: &mut W) -> Result<ExitCode, AllocError>
-where
-    R: Env + AllocGlobal + Files<File = File> + Input + Print + Eprint,
-    W: Write,
-{
+fn words_run(rt: &HostRuntime, faults: &mut Faults) -> Result<ExitCode, AllocError> {
     match words_of(rt)? {
         Some(words) => text_run(rt, words.as_slice(), faults),
         None => not_text(rt),
@@ -117,11 +107,11 @@ fn asks_by_option(command: &str, option: &str) -> bool {
 
 /// Does what words that are text ask for. `clap` takes no option behind `help`, so one that asks for help is told in
 /// other words, under the name that the program was called by.
-fn text_run<R, W>(rt: &R, words: &[String], faults: &mut W) -> Result<ExitCode, AllocError>
-where
-    R: Env + AllocGlobal + Files<File = File> + Input + Print + Eprint,
-    W: Write,
-{
+fn text_run(
+    rt: &HostRuntime,
+    words: &[String],
+    faults: &mut Faults,
+) -> Result<ExitCode, AllocError> {
     match words {
         [name, command, option, ..] if asks_by_option(command.as_str(), option.as_str()) => {
             command_run(rt, &[name.as_str(), "help", "help"], faults)
@@ -131,11 +121,13 @@ where
 }
 
 /// Does what a command line asks for.
-fn command_run<R, S, W>(rt: &R, words: &[S], faults: &mut W) -> Result<ExitCode, AllocError>
+fn command_run<S>(
+    rt: &HostRuntime,
+    words: &[S],
+    faults: &mut Faults,
+) -> Result<ExitCode, AllocError>
 where
-    R: Env + AllocGlobal + Files<File = File> + Input + Print + Eprint,
     S: AsStr,
-    W: Write,
 {
     match matches_of(rt.alloc(), words) {
         Ok(matches) => matched_run(rt, &matches, faults),
@@ -143,15 +135,11 @@ where
     }
 }
 
-fn matched_run<R, W>(
-    rt: &R,
+fn matched_run(
+    rt: &HostRuntime,
     matches: &ArgMatches<'_>,
-    faults: &mut W,
-) -> Result<ExitCode, AllocError>
-where
-    R: Env + AllocGlobal + Files<File = File> + Input + Print + Eprint,
-    W: Write,
-{
+    faults: &mut Faults,
+) -> Result<ExitCode, AllocError> {
     let Some(request) = request_of(matches) else {
         return not_text(rt);
     };
@@ -173,10 +161,10 @@ pub(crate) fn status(is_well: bool) -> ExitCode {
 }
 
 /// Whether all is well. A failure also gets its line.
-pub(crate) fn is_well<W: Write>(
+pub(crate) fn is_well(
     alloc: Global,
     outcome: Result<bool, Failure<'_>>,
-    faults: &mut W,
+    faults: &mut Faults,
 ) -> bool {
     match outcome {
         Ok(well) => well,
@@ -189,10 +177,10 @@ pub(crate) fn is_well<W: Write>(
 
 /// Whether all is well with one text of many. One that can't be read gets its line, so that the next one can follow;
 /// where the output fails, none does.
-pub(crate) fn of_many<'a, W: Write>(
+pub(crate) fn of_many<'a>(
     alloc: Global,
     outcome: Result<bool, Failure<'a>>,
-    faults: &mut W,
+    faults: &mut Faults,
 ) -> Result<bool, Failure<'a>> {
     match outcome {
         Err(failure) if failure.is_of_output() => Err(failure),
@@ -201,7 +189,7 @@ pub(crate) fn of_many<'a, W: Write>(
 }
 
 /// Writes the line of a failure. Where that can't be done, the status stays.
-pub(crate) fn report<W: Write>(alloc: Global, failure: &Failure<'_>, faults: &mut W) {
+pub(crate) fn report(alloc: Global, failure: &Failure<'_>, faults: &mut Faults) {
     match failure {
         Failure::Command(_, error @ CommandError::Run(RunError::Memory))
         | Failure::Command(None, error) => {
@@ -231,7 +219,7 @@ fn words_of_fault(fault: FileFault) -> (&'static [u8], &'static [u8]) {
     }
 }
 
-fn report_of_file<W: Write>(alloc: Global, name: &str, error: &CommandError, faults: &mut W) {
+fn report_of_file(alloc: Global, name: &str, error: &CommandError, faults: &mut Faults) {
     let _ = match file_error_line(alloc, name.as_bytes(), error) {
         Ok(line) => write_text(faults, line.as_slice()),
         Err(AllocError) => write_run_error(&RunError::Memory, faults),
@@ -239,12 +227,12 @@ fn report_of_file<W: Write>(alloc: Global, name: &str, error: &CommandError, fau
 }
 
 /// Writes a line that has the name of a file, as it is shown. It is written at once, as that of another run may be.
-pub(crate) fn report_name<W: Write>(
+pub(crate) fn report_name(
     alloc: Global,
     front: &[u8],
     name: &str,
     end: &[u8],
-    faults: &mut W,
+    faults: &mut Faults,
 ) {
     let _ = match named_line(alloc, front, name, end) {
         Ok(line) => write_text(faults, line.as_slice()),
@@ -262,11 +250,11 @@ fn named_line(alloc: Global, front: &[u8], name: &str, end: &[u8]) -> Result<Vec
 
 /// Answers a request: whether all is well, which only a refused map denies, one that isn't known never to stick,
 /// another one where they should be the same, a character that no keys type, or a text with an error.
-fn answer<'a, R, W>(rt: &R, request: Request<'_, 'a>, faults: &mut W) -> Result<bool, Failure<'a>>
-where
-    R: AllocGlobal + Files<File = File> + Input + Print,
-    W: Write,
-{
+fn answer<'a>(
+    rt: &HostRuntime,
+    request: Request<'_, 'a>,
+    faults: &mut Faults,
+) -> Result<bool, Failure<'a>> {
     match request {
         Request::Check { texts, mode } => check(rt, texts, mode, faults),
         Request::Lint {
@@ -306,17 +294,14 @@ pub(crate) fn well<'a>(outcome: Result<(), Failure<'a>>) -> Result<bool, Failure
     }
 }
 
-fn search<'a, R>(rt: &R, text: &'a str, next: Option<&'a str>) -> Result<bool, Failure<'a>>
-where
-    R: AllocGlobal + Files + Input + Print,
-{
+fn search<'a>(rt: &HostRuntime, text: &'a str, next: Option<&'a str>) -> Result<bool, Failure<'a>> {
     let mut text = given(rt, text)?;
     let mut next = given_if_named(rt, next)?;
     search_in(rt, &mut text, &mut next)
 }
 
-fn search_in<'a, R: AllocGlobal + Print, S: Read, N: Read>(
-    rt: &R,
+fn search_in<'a, S: Read, N: Read>(
+    rt: &HostRuntime,
     text: &mut S,
     next: &mut Option<N>,
 ) -> Result<bool, Failure<'a>> {
@@ -325,10 +310,7 @@ fn search_in<'a, R: AllocGlobal + Print, S: Read, N: Read>(
     out.outcome(outcome)
 }
 
-fn diff<'a, R>(rt: &R, text: &'a str, next: &'a str) -> Result<bool, Failure<'a>>
-where
-    R: AllocGlobal + Files + Input + Print,
-{
+fn diff<'a>(rt: &HostRuntime, text: &'a str, next: &'a str) -> Result<bool, Failure<'a>> {
     let mut text = given(rt, text)?;
     let mut next = given(rt, next)?;
     let mut out = Output::new(rt);
@@ -343,10 +325,7 @@ pub(crate) fn run_outcome<'a, T>(outcome: Result<T, RunError>) -> Result<T, Fail
     }
 }
 
-fn dump<'a, R>(rt: &R, tables: &'a str, narrow: bool) -> Result<(), Failure<'a>>
-where
-    R: AllocGlobal + Files + Print,
-{
+fn dump<'a>(rt: &HostRuntime, tables: &'a str, narrow: bool) -> Result<(), Failure<'a>> {
     let mut source = opened(rt, tables)?;
     let mut out = Output::new(rt);
     let outcome = if narrow {
@@ -357,24 +336,21 @@ where
     out.outcome(outcome)
 }
 
-fn play<'a, R>(
-    rt: &R,
+fn play<'a>(
+    rt: &HostRuntime,
     show: Show,
     text: &'a str,
     next: Option<&'a str>,
     script: &'a str,
-) -> Result<(), Failure<'a>>
-where
-    R: AllocGlobal + Files + Print,
-{
+) -> Result<(), Failure<'a>> {
     let mut text = opened(rt, text)?;
     let mut next = opened_if_named(rt, next)?;
     let mut script = opened(rt, script)?;
     play_in(rt, show, &mut text, &mut next, &mut script)
 }
 
-fn play_in<'a, R: AllocGlobal + Print, S: Read>(
-    rt: &R,
+fn play_in<'a, S: Read>(
+    rt: &HostRuntime,
     show: Show,
     text: &mut S,
     next: &mut Option<S>,
@@ -391,15 +367,12 @@ fn play_in<'a, R: AllocGlobal + Print, S: Read>(
     }
 }
 
-fn type_sentence<'a, R>(
-    rt: &R,
+fn type_sentence<'a>(
+    rt: &HostRuntime,
     text: &'a str,
     sentence: Sentence<'a>,
     missing: bool,
-) -> Result<bool, Failure<'a>>
-where
-    R: AllocGlobal + Files + Input + Print,
-{
+) -> Result<bool, Failure<'a>> {
     let mut text = given(rt, text)?;
     let missing_of = if missing {
         Some(name_of(&sentence))
@@ -424,8 +397,8 @@ fn name_of<'a>(sentence: &Sentence<'a>) -> &'a str {
 }
 
 /// Types the sentence, or where a name for it is given tells which of its characters no keys type.
-fn type_in<'a, R: AllocGlobal + Print, S: Read, T: Read>(
-    rt: &R,
+fn type_in<'a, S: Read, T: Read>(
+    rt: &HostRuntime,
     missing_of: Option<&str>,
     text: &mut S,
     sentence: &mut T,
@@ -443,20 +416,14 @@ fn type_in<'a, R: AllocGlobal + Print, S: Read, T: Read>(
     }
 }
 
-fn cover<'a, R>(rt: &R, text: &'a str) -> Result<(), Failure<'a>>
-where
-    R: AllocGlobal + Files + Input + Print,
-{
+fn cover<'a>(rt: &HostRuntime, text: &'a str) -> Result<(), Failure<'a>> {
     let mut source = given(rt, text)?;
     let mut out = Output::new(rt);
     let outcome = cover_run(rt.alloc(), &mut source, &mut out);
     out.outcome(outcome)
 }
 
-fn draw<'a, R>(rt: &R, text: &'a str, ansi: bool, title: &str) -> Result<(), Failure<'a>>
-where
-    R: AllocGlobal + Files + Input + Print,
-{
+fn draw<'a>(rt: &HostRuntime, text: &'a str, ansi: bool, title: &str) -> Result<(), Failure<'a>> {
     let board = if ansi { Board::Ansi } else { Board::Iso };
     let mut source = given(rt, text)?;
     let mut out = Output::new(rt);

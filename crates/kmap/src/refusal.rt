@@ -1,9 +1,8 @@
 //! What is told of a command line that isn't taken: that its words are wrong, or the help or version that they ask for.
 use crate::command_line::{matches_of, refusal};
-use crate::output::tell;
+use crate::output::{Faults, tell};
 use crate::program::{is_well, status, well};
 use clap::error::{Error, ErrorKind};
-use keymap_core::Write;
 use keymap_lint_text::shown_name;
 use std::alloc::{AllocError, Global};
 use std::convert::AsStr;
@@ -15,16 +14,14 @@ use std::rt::Env;
 const WRONG_WORDS: u8 = 2;
 
 /// Tells what `clap` says of the words. What it repeats of them is shown as the name of a file is.
-pub(crate) fn refused<R, S, W>(
-    rt: &R,
+pub(crate) fn refused<S>(
+    rt: &HostRuntime,
     error: &Error,
     words: &[S],
-    faults: &mut W,
+    faults: &mut Faults,
 ) -> Result<ExitCode, AllocError>
 where
-    R: AllocGlobal + Print + Eprint,
     S: AsStr,
-    W: Write,
 {
     if error.kind() == ErrorKind::OutOfMemory {
         return Err(AllocError);
@@ -42,16 +39,13 @@ where
 }
 
 /// Writes the help or the version. If that can't be done, it is a fault like that of any other output.
-fn helped<R: AllocGlobal + Print, W: Write>(rt: &R, text: &str, faults: &mut W) -> ExitCode {
+fn helped(rt: &HostRuntime, text: &str, faults: &mut Faults) -> ExitCode {
     let outcome = well(tell(rt, text.as_bytes()));
     status(is_well(rt.alloc(), outcome, faults))
 }
 
 /// Tells that the words are wrong.
-fn wrong<R>(rt: &R, error: &Error, words: &[String]) -> Result<ExitCode, AllocError>
-where
-    R: AllocGlobal + Eprint,
-{
+fn wrong(rt: &HostRuntime, error: &Error, words: &[String]) -> Result<ExitCode, AllocError> {
     if error.kind() == ErrorKind::OutOfMemory {
         return Err(AllocError);
     }
@@ -112,7 +106,7 @@ fn around_part(text: &str) -> Option<(&str, &str, &str)> {
 }
 
 /// Tells which of the words is no text.
-pub(crate) fn not_text<R: Env + AllocGlobal + Eprint>(rt: &R) -> Result<ExitCode, AllocError> {
+pub(crate) fn not_text(rt: &HostRuntime) -> Result<ExitCode, AllocError> {
     let message = match first_no_text(rt)? {
         Some((number, shown)) => {
             format!(in rt.alloc(); "argument {number} is not valid UTF-8: {shown}")?
@@ -123,24 +117,18 @@ pub(crate) fn not_text<R: Env + AllocGlobal + Eprint>(rt: &R) -> Result<ExitCode
 }
 
 /// Tells that words that are taken one by one can't stand together.
-pub(crate) fn contradicted<R>(rt: &R, message: &str) -> Result<ExitCode, AllocError>
-where
-    R: AllocGlobal + Eprint,
-{
+pub(crate) fn contradicted(rt: &HostRuntime, message: &str) -> Result<ExitCode, AllocError> {
     told(rt, ErrorKind::ArgumentConflict, message)
 }
 
-fn told<R>(rt: &R, kind: ErrorKind, message: &str) -> Result<ExitCode, AllocError>
-where
-    R: AllocGlobal + Eprint,
-{
+fn told(rt: &HostRuntime, kind: ErrorKind, message: &str) -> Result<ExitCode, AllocError> {
     let refusal = refusal(rt.alloc(), kind, message)?;
     let _ = rt.eprint(&refusal);
     Ok(ExitCode::from(WRONG_WORDS))
 }
 
 /// Which word is the first that is no text, counted from the one behind the name of the program, and how it is shown.
-fn first_no_text<R: Env + AllocGlobal>(rt: &R) -> Result<Option<(usize, String)>, AllocError> {
+fn first_no_text(rt: &HostRuntime) -> Result<Option<(usize, String)>, AllocError> {
     for number in 0..usize::MAX {
         let Some(bytes) = word_bytes(rt, number)? else {
             return Ok(None);
@@ -154,7 +142,7 @@ fn first_no_text<R: Env + AllocGlobal>(rt: &R) -> Result<Option<(usize, String)>
 }
 
 /// The bytes of a word, if there are so many words.
-fn word_bytes<R: Env + AllocGlobal>(rt: &R, number: usize) -> Result<Option<Vec<u8>>, AllocError> {
+fn word_bytes(rt: &HostRuntime, number: usize) -> Result<Option<Vec<u8>>, AllocError> {
     let mut room = 256_usize;
     for _ in 0..usize::BITS {
         let mut bytes = vec![in rt.alloc(); 0_u8; room]?;

@@ -94,7 +94,7 @@ impl Old {
 }
 
 /// The name of the file itself where a name is a link to it.
-fn target_of<R: AllocGlobal + Files>(rt: &R, name: &str) -> Result<String, ReplaceFault> {
+fn target_of(rt: &HostRuntime, name: &str) -> Result<String, ReplaceFault> {
     match fs::symlink_metadata(rt, name) {
         Ok(metadata) if metadata.is_symlink() => match rt.canonicalize(rt.alloc(), name) {
             Ok(path) => Ok(path.into_string()),
@@ -106,7 +106,7 @@ fn target_of<R: AllocGlobal + Files>(rt: &R, name: &str) -> Result<String, Repla
 }
 
 /// Whether a file may be written.
-fn is_writable<R: Files>(rt: &R, name: &str) -> bool {
+fn is_writable(rt: &HostRuntime, name: &str) -> bool {
     OpenOptions::new().write(true).open(rt, name).is_ok()
 }
 
@@ -138,7 +138,7 @@ fn new_name(alloc: Global, target: &str, suffix: &str, number: u32) -> Result<St
 }
 
 /// Makes a file that isn't there. One that is to get the owner of another is nobody else's until then.
-fn created<R: Files>(rt: &R, name: &str, is_private: bool) -> io::Result<R::File> {
+fn created(rt: &HostRuntime, name: &str, is_private: bool) -> io::Result<File> {
     let mut how = OpenOptions::new();
     how.write(true).create_new(true);
     if is_private {
@@ -160,12 +160,12 @@ fn why_not_created(name: String, why: io::ErrorKind) -> ReplaceFault {
 
 /// Makes a new file without a byte beside a target. It has the suffix behind the name of that; where others have such a
 /// name, also a number.
-fn new_file<R: AllocGlobal + Files>(
-    rt: &R,
+fn new_file(
+    rt: &HostRuntime,
     target: &str,
     suffix: &str,
     is_private: bool,
-) -> Result<(String, R::File), ReplaceFault> {
+) -> Result<(String, File), ReplaceFault> {
     for number in 1..=NAMES {
         let name = new_name(rt.alloc(), target, suffix, number)?;
         match created(rt, name.as_str(), is_private) {
@@ -213,8 +213,8 @@ fn write_whole(file: &mut File, bytes: &[u8], length: usize) -> Result<(), Write
 
 /// Writes bytes into a new file, which takes the place of the file of this name, of which this is known. The new file
 /// has the suffix behind that name until then.
-pub(crate) fn replace<R: AllocGlobal + Files<File = File>>(
-    rt: &R,
+pub(crate) fn replace(
+    rt: &HostRuntime,
     name: &str,
     old: &Old,
     suffix: &str,
@@ -224,8 +224,8 @@ pub(crate) fn replace<R: AllocGlobal + Files<File = File>>(
     replace_target(rt, target.as_str(), old, suffix, bytes)
 }
 
-fn replace_target<R: AllocGlobal + Files<File = File>>(
-    rt: &R,
+fn replace_target(
+    rt: &HostRuntime,
     target: &str,
     old: &Old,
     suffix: &str,
@@ -259,12 +259,7 @@ struct Replacement<'a> {
 
 impl Replacement<'_> {
     /// Writes the new file and puts it in the place of the old one, or its bytes.
-    fn put<R: AllocGlobal + Files<File = File>>(
-        &self,
-        rt: &R,
-        file: &mut File,
-        bytes: &[u8],
-    ) -> Result<(), ReplaceFault> {
+    fn put(&self, rt: &HostRuntime, file: &mut File, bytes: &[u8]) -> Result<(), ReplaceFault> {
         self.look_at_target(rt)?;
         let is_owned = give_owner_and_rights(file, self.old).is_ok();
         write_whole(file, bytes, bytes.len()).map_err(ReplaceFault::Write)?;
@@ -279,7 +274,7 @@ impl Replacement<'_> {
     }
 
     /// Looks whether the old file still is what it is to be. Another run may have replaced it meanwhile.
-    fn look_at_target<R: Files>(&self, rt: &R) -> Result<(), ReplaceFault> {
+    fn look_at_target(&self, rt: &HostRuntime) -> Result<(), ReplaceFault> {
         match self.old.refusal(fs::symlink_metadata(rt, self.target)) {
             None => Ok(()),
             Some(fault) => Err(fault),
@@ -287,11 +282,7 @@ impl Replacement<'_> {
     }
 
     /// Writes the bytes into the old file itself.
-    fn write_in_place<R: AllocGlobal + Files<File = File>>(
-        &self,
-        rt: &R,
-        bytes: &[u8],
-    ) -> Result<(), ReplaceFault> {
+    fn write_in_place(&self, rt: &HostRuntime, bytes: &[u8]) -> Result<(), ReplaceFault> {
         let padded = padded(rt.alloc(), bytes, self.old.text_length())?;
         let Ok(mut file) = OpenOptions::new().write(true).open(rt, self.target) else {
             return Err(ReplaceFault::CannotReplace);
@@ -305,7 +296,7 @@ impl Replacement<'_> {
     }
 
     /// Whether the name of the new file still stands for it.
-    fn is_named<R: Files>(&self, rt: &R, file: &File) -> bool {
+    fn is_named(&self, rt: &HostRuntime, file: &File) -> bool {
         match (fs::symlink_metadata(rt, self.name), file.metadata()) {
             (Ok(found), Ok(new)) => is_same(&found, &new),
             _ => false,
@@ -313,7 +304,7 @@ impl Replacement<'_> {
     }
 
     /// Removes the new file, unless it has the name of the old one by now.
-    fn remove<R: Files>(&self, rt: &R, file: &File) {
+    fn remove(&self, rt: &HostRuntime, file: &File) {
         if self.is_named(rt, file) {
             let _ = rt.remove_file(self.name);
         }

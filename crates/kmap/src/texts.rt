@@ -1,26 +1,21 @@
 //! The commands that look at one text after the other and answer whether all is well: `kmap check` and `kmap lint`.
 use crate::command_line::CheckMode;
 use crate::inputs::{given, is_standard_input, opened};
-use crate::output::{Output, tell};
+use crate::output::{Faults, Output, tell};
 use crate::program::{Failure, of_many};
-use keymap_core::{Read, ToStd, Write};
+use keymap_core::{Read, ToStd};
 use keymap_lint_text::shown_name;
 use kmap_runs::{RunError, check_brief_run, check_run, lint_run};
 use std::alloc::{AllocError, Global};
-use std::fs::Files;
 
 /// Whether each text is accepted. Where there are many, each report stands behind the name of its text, and a line on a
 /// fault has the name too.
-pub(crate) fn check<'a, R, W>(
-    rt: &R,
+pub(crate) fn check<'a>(
+    rt: &HostRuntime,
     texts: &[&'a str],
     mode: CheckMode,
-    faults: &mut W,
-) -> Result<bool, Failure<'a>>
-where
-    R: AllocGlobal + Files + Print,
-    W: Write,
-{
+    faults: &mut Faults,
+) -> Result<bool, Failure<'a>> {
     if texts.len() == 1 {
         return check_alone(rt, texts[0], mode);
     }
@@ -31,10 +26,7 @@ where
     Ok(well)
 }
 
-fn check_alone<'a, R>(rt: &R, text: &'a str, mode: CheckMode) -> Result<bool, Failure<'a>>
-where
-    R: AllocGlobal + Files + Print,
-{
+fn check_alone<'a>(rt: &HostRuntime, text: &'a str, mode: CheckMode) -> Result<bool, Failure<'a>> {
     let mut source = opened(rt, text)?;
     let mut out = Output::new(rt);
     let outcome = match mode {
@@ -45,10 +37,7 @@ where
     out.outcome(outcome)
 }
 
-fn check_named<'a, R>(rt: &R, text: &'a str, mode: CheckMode) -> Result<bool, Failure<'a>>
-where
-    R: AllocGlobal + Files + Print,
-{
+fn check_named<'a>(rt: &HostRuntime, text: &'a str, mode: CheckMode) -> Result<bool, Failure<'a>> {
     match mode {
         CheckMode::Report => report_named(rt, text, false),
         CheckMode::Show => report_named(rt, text, true),
@@ -56,20 +45,14 @@ where
     }
 }
 
-fn verdict_named<'a, R>(rt: &R, text: &'a str) -> Result<bool, Failure<'a>>
-where
-    R: AllocGlobal + Files + Print,
-{
+fn verdict_named<'a>(rt: &HostRuntime, text: &'a str) -> Result<bool, Failure<'a>> {
     let mut source = opened(rt, text)?;
     let mut out = Output::new(rt);
     let outcome = check_brief_run(rt.alloc(), text.as_bytes(), &mut source, &mut out);
     out.file_outcome(text, outcome)
 }
 
-fn report_named<'a, R>(rt: &R, text: &'a str, show: bool) -> Result<bool, Failure<'a>>
-where
-    R: AllocGlobal + Files + Print,
-{
+fn report_named<'a>(rt: &HostRuntime, text: &'a str, show: bool) -> Result<bool, Failure<'a>> {
     let mut report = Vec::new(rt.alloc());
     let accepted = reported(rt, text, show, &mut report)?;
     let told = behind_name(rt.alloc(), text, report.as_slice())?;
@@ -78,15 +61,12 @@ where
 }
 
 /// Whether a text is accepted, with its report in memory.
-fn reported<'a, R>(
-    rt: &R,
+fn reported<'a>(
+    rt: &HostRuntime,
     text: &'a str,
     show: bool,
     report: &mut Vec<u8>,
-) -> Result<bool, Failure<'a>>
-where
-    R: AllocGlobal + Files,
-{
+) -> Result<bool, Failure<'a>> {
     let mut source = opened(rt, text)?;
     let outcome = check_run(rt.alloc(), &mut source, show, &mut ToStd::new(report));
     outcome.map_err(|error| failure_in_memory(text, error))
@@ -109,17 +89,13 @@ fn behind_name(alloc: Global, name: &str, report: &[u8]) -> Result<Vec<u8>, Allo
 }
 
 /// Whether no text has an error, or where warnings count as errors, nothing is said of any.
-pub(crate) fn lint<'a, R, W>(
-    rt: &R,
+pub(crate) fn lint<'a>(
+    rt: &HostRuntime,
     texts: &[&'a str],
     name: Option<&'a str>,
     is_strict: bool,
-    faults: &mut W,
-) -> Result<bool, Failure<'a>>
-where
-    R: AllocGlobal + Files + Input + Print,
-    W: Write,
-{
+    faults: &mut Faults,
+) -> Result<bool, Failure<'a>> {
     let mut well = true;
     for text in texts {
         well = of_many(rt.alloc(), lint_one(rt, text, name, is_strict), faults)? && well;
@@ -127,15 +103,12 @@ where
     Ok(well)
 }
 
-fn lint_one<'a, R>(
-    rt: &R,
+fn lint_one<'a>(
+    rt: &HostRuntime,
     text: &'a str,
     name: Option<&'a str>,
     is_strict: bool,
-) -> Result<bool, Failure<'a>>
-where
-    R: AllocGlobal + Files + Input + Print,
-{
+) -> Result<bool, Failure<'a>> {
     let place = match name {
         Some(name) if is_standard_input(text) => name,
         _ => text,
@@ -144,8 +117,8 @@ where
     lint_in(rt, place, &mut source, is_strict)
 }
 
-fn lint_in<'a, R: AllocGlobal + Print, S: Read>(
-    rt: &R,
+fn lint_in<'a, S: Read>(
+    rt: &HostRuntime,
     place: &'a str,
     source: &mut S,
     is_strict: bool,

@@ -22,9 +22,11 @@ action_word action known = grind (arith, along)
 -- the name of an action means that action
 pub action_meaning : (action : Action) → IsAction action → meaning (name_of action) ≡ Act action
 unfolding meaning digits_of named
-action_meaning (a.Screen k) known = grind (arith, along)
+action_meaning (a.Screen k) known =
+    along (λ k. meaning (name_of (a.Screen k))) (λ k. Act (a.Screen k)) 1 16 refl k (omega arith) (omega arith)
 action_meaning (a.Function k) known = function_meaning k (omega arith) (omega arith)
-action_meaning (a.DeadKey k) known = grind (arith, along)
+action_meaning (a.DeadKey k) known =
+    along (λ k. meaning (name_of (a.DeadKey k))) (λ k. Act (a.DeadKey k)) 0 15 refl k (omega arith) (omega arith)
 action_meaning (a.Mod m.LeftShift) known = refl
 action_meaning (a.Lock l.Caps) known = refl
 action_meaning _ known = refl

@@ -14,7 +14,7 @@ use keymap_core::{
 };
 
 /// What a name means, as plain data, since a static can't hold a value that has a model of its own.
-#[derive(Clone, Copy, Debug)]
+#[derive(Clone, Copy)]
 pub(crate) enum Sense {
     Char(u8),
     Letter(LockFlag),
@@ -37,7 +37,7 @@ pub(crate) enum Sense {
 }
 
 /// A name in lower case, filled with blanks to eight bytes, and what it means.
-#[derive(Clone, Copy, Debug)]
+#[derive(Clone, Copy)]
 pub(crate) struct Name(pub(crate) [u8; 8], pub(crate) Sense);
 
 /// How long a name is without the blanks that fill it.

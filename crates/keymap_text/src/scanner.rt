@@ -330,10 +330,11 @@ fn pair(grammar: &mut Grammar, index: u8, rest: &[u8]) -> usize
     if base == '\0' {
         return 0;
     }
-    let Some((composed, j)) = character_in_front(&rest[1 + i..]) else {
+    let middle = 1 + i;
+    let Some((composed, j)) = character_in_front(&rest[middle..]) else {
         return 0;
     };
-    let end = 1 + i + j;
+    let end = middle + j;
     let n = close_in_front(&rest[end..]);
     if n == 0 {
         return 0;

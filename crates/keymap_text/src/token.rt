@@ -5,7 +5,7 @@ ghost use Rattle.std.specs.Prelude.{IfSome, IfErr, count_by, ◌^◌};
 ghost use Rattle.keymap_text.specs.Lexical as lexical;
 ghost use Rattle.keymap_text.specs.Inner.Keys.{first_of_sixteen, is_from_zero};
 ghost use Rattle.keymap_text.specs.Lexical.{is_blank, is_space, is_word, stays_on_line, separates, leading, is_lone};
-ghost use Rattle.keymap_text.specs.Lexical.{literal, word, front_of, tokens_after, first};
+ghost use Rattle.keymap_text.specs.Lexical.{literal, quoted, word, front_of, tokens_after, first};
 ghost use Rattle.keymap_text.specs.Meaning.{line};
 ghost use Rattle.keymap_text.specs.Tokens.{result_view};
 ghost use Rattle.keymap_text.specs.Inner.Views.{front_view, FoundFits};
@@ -331,7 +331,6 @@ fn is_lone_byte(bytes: &[u8]) -> bool
 }
 
 /// The quoted character whose bytes these are, after the first apostrophe.
-#[tactic(auto, unfolding(crate::specs::Lexical::literal))]
 pub(crate) fn literal_front(bytes: &[u8]) -> Front
     ensures value { front_view result ≡ literal bytes.now }
     ensures fits { FoundFits result (length bytes.now) }
@@ -340,6 +339,14 @@ pub(crate) fn literal_front(bytes: &[u8]) -> Front
         return Front::Found(TokenKind::Literal(bytes[0] as char), 2);
     }
     let (character, size) = bstr::decode_utf8(bytes);
+    character_front(bytes, character, size)
+}
+
+/// The quoted character, where this one stands first in the bytes, or none of them begins one, and has that size.
+fn character_front(bytes: &[u8], character: Option<char>, size: usize) -> Front
+    ensures value { front_view result ≡ quoted (record { char = character; size = size }) bytes.now }
+    ensures fits { FoundFits result (length bytes.now) }
+{
     match character {
         Some('\n') => Front::Refused(TextFaultKind::BadLiteral),
         Some(c) => {

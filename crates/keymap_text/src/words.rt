@@ -26,7 +26,7 @@ pub enum Meaning {
 }
 
 /// What a token stands for in a definition.
-#[derive(Clone, Copy, Debug, PartialEq, Eq)]
+#[derive(Clone, Copy)]
 pub(crate) enum Item {
     Open,
     Close,

@@ -1,18 +1,21 @@
-use Rattle.keymap_text.proofs.Common.{◌≡◌, ℕ, List, true, false, cond, length, None, refl, sym, ◌∙◌, ap, ◌==◌, eq-eqb}
-use Rattle.keymap_text.proofs.Common.{slice_index, decoded, Decoded, Literal, literal, is_lone, quoted, Unfinished}
-use Rattle.keymap_text.proofs.Common.{Found, rules}
+use Rattle.keymap_text.proofs.Common.{◌≡◌, ℕ, List, Bool, true, false, cond, sym, ◌∙◌, ap, ap₂, slice_index, decoded}
+use Rattle.keymap_text.proofs.Common.{literal, is_lone, quoted, Literal, Found}
 use Rattle.keymap_text.proofs.token.literal_front.Goals as goal
 
-open_quote : (d : Decoded) (bytes : List ℕ) → d.char ≡ None → (length bytes == d.size) ≡ true
-    → quoted d bytes ≡ Unfinished
-open_quote d bytes e f = rw e (rw f refl)
-
-open_literal : (bytes : List ℕ) → is_lone bytes ≡ false → (decoded bytes).char ≡ None
-    → (length bytes == (decoded bytes).size) ≡ true → Unfinished ≡ literal bytes
+-- what is quoted, by whether that is a lone byte
+by_lone : (bytes : List ℕ) (lone : Bool) → is_lone bytes ≡ lone
+    → cond lone (Found (Literal (slice_index bytes 0)) 2) (quoted (decoded bytes) bytes) ≡ literal bytes
 unfolding literal
-open_literal bytes a e f =
-    sym (ap (λ b. cond b (Found (Literal (slice_index bytes 0)) 2) (quoted (decoded bytes) bytes)) a
-    ∙ open_quote (decoded bytes) bytes e f)
+by_lone bytes lone e =
+    ap (λ b. cond b (Found (Literal (slice_index bytes 0)) 2) (quoted (decoded bytes) bytes)) (sym e)
 
-pub returns-then-bytes-size-2-clause-value : goal.returns-then-bytes-size-2-clause-value
-returns-then-bytes-size-2-clause-value c = search (rules, open_literal, eq-eqb)
+pub returns-then-is_lone_byte-clause-value : goal.returns-then-is_lone_byte-clause-value
+returns-then-is_lone_byte-clause-value c =
+    by_lone c.args.bytes.now true (sym c.is_lone_byte.ensures ∙ c.if-is_lone_byte.true)
+
+pub returns-clause-value : goal.returns-clause-value
+returns-clause-value c =
+    c.character_front.ensures.value
+    ∙ ap₂ (λ o n. quoted (record { char = o; size = n }) c.args.bytes.now) c.decode-character.ensures.char
+    c.decode-character.ensures.size
+    ∙ by_lone c.args.bytes.now false (sym c.is_lone_byte.ensures ∙ c.if-is_lone_byte.false)

@@ -320,7 +320,7 @@ fn push_class(classes: &mut ArrayVec<u8, 6>, class: Option<u8>)
 }
 
 /// The classes of a legend: for its size, its side and its kind.
-#[tactic(auto, using(crate::proofs::Parts::classes_inner), unfolding(crate::specs::Places::legend_classes))]
+#[tactic(auto, unfolding(crate::specs::Places::legend_classes))]
 pub(crate) fn legend_classes(
     map: &KeyMap,
     cell: &Cell,

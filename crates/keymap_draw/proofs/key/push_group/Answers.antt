@@ -1,12 +1,13 @@
 use Rattle.keymap_draw.proofs.Common.{◌≡◌, ℕ, List, [], ◌∷◌, ◌++◌, ◌∙◌, Some, ap, sym, append-nil, arith, refl, reverse}
-use Rattle.keymap_draw.proofs.Common.{subst, IfOk}
+use Rattle.keymap_draw.proofs.Common.{subst, true, IfOk}
 use Rattle.keymap_draw.proofs.Common.{Number, Shape, Told, Plain, Bytes, Fact, within, in_svg, over, facts_of}
 use Rattle.std.proofs.Common.{Bor}
 use Rattle.std.proofs.lemmas.List.{nil_from_length, reverse-reverse}
 use Rattle.keymap_draw.specs.declared.board.Shape.TheVariants.{A}
 use Rattle.keymap_draw.specs.Boards.{letter}
 use Rattle.keymap_draw.specs.Keys.{titled_cap}
-use Rattle.keymap_draw.specs.Sheets.{in_key, facts_over}
+use Rattle.keymap_draw.specs.Sheets.{in_key, facts_over, ids}
+use Rattle.keymap_draw.specs.WellFormed.{is_among}
 use Rattle.keymap_draw.specs.declared.words.TheConstants as words
 use Rattle.keymap_draw.proofs.key.push_group.Goals as goal
 
@@ -21,16 +22,20 @@ group x y finding feed title shape =
 record Reads (w : List ℕ) (ts : List Told) (new : List Fact) : Type 0 where
   all : (fs : List Fact) → over (Some (within in_svg fs)) w ts ≡ Some (within in_key (reverse new ++ fs))
 
--- the words without a class and those with one, by the shape, whose letter is an id
+-- the letter of a shape is an id
+letter_known : (s : Shape) → is_among ids (letter s ∷ []) ≡ true
+letter_known A = refl
+letter_known _ = refl
+
+-- the words without a class and those with one
 both : (class finding feed title shape : Words) (x y : ℕ) (s : Shape) (said printed : List ℕ) → finding.now ≡ said
     → title.now ≡ printed → shape.now ≡ letter s ∷ []
     → Reads words.KEY.now (group x y finding feed title shape) (titled_cap ((said ++ feed.now) ++ printed) [] x y s)
     × Reads words.KEY_OF.now (Plain class ∷ group x y finding feed title shape)
     (titled_cap ((said ++ feed.now) ++ printed) class.now x y s)
-both class finding feed title shape x y A said printed e f g =
-    (record { all = λ fs. rw (e, f, g) refl }, record { all = λ fs. rw (e, f, g) refl })
-both class finding feed title shape x y _ said printed e f g =
-    (record { all = λ fs. rw (e, f, g) refl }, record { all = λ fs. rw (e, f, g) refl })
+both class finding feed title shape x y s said printed e f g =
+    let known : is_among ids shape.now ≡ true = rw g (letter_known s) in
+    (record { all = λ fs. rw (e, f, known, g) refl }, record { all = λ fs. rw (e, f, known, g) refl })
 
 -- what words tell, by what they are read as
 told : {w : List ℕ} {ts : List Told} {new : List Fact} → Reads w ts new → facts_over in_svg w ts ≡ new

@@ -1,11 +1,12 @@
 use Rattle.keymap_draw.proofs.Common.{◌≡◌, ◌==◌, Bool, true, false, [], ◌∷◌, ◌++◌, refl, ap, Some, codes, reverse}
 use Rattle.keymap_draw.proofs.Common.{Number, Plain, ReadAs, in_svg, within, is_inner, State, at, start, scan, Text}
-use Rattle.keymap_draw.proofs.Common.{Fact, List, ℕ, head, if◌then◌else◌, list_all}
+use Rattle.keymap_draw.proofs.Common.{◌∙◌, Fact, List, ℕ, head, if◌then◌else◌, list_all}
 use Rattle.keymap_draw.specs.Pictures.{begin as svg, description, heading}
 use Rattle.keymap_draw.specs.Facts.Fact.{Text as Said}
 use Rattle.keymap_draw.specs.Sheets.{facts_from, opened}
 use Rattle.keymap_draw.specs.declared.sheet.Told.TheVariants.{Characters}
 use Rattle.keymap_draw.specs.declared.constants.TheConstants.{STYLE, SHAPES}
+use Rattle.std.proofs.lemmas.List.{reverse-reverse}
 use Rattle.keymap_draw.proofs.Names.{one_by_one, all_behind}
 use Rattle.keymap_draw.proofs.Parts.{behind}
 use Rattle.keymap_draw.proofs.Scans.{told, is_within, further}
@@ -64,16 +65,18 @@ read c =
     (rw (c.requires, c.either.ensures, verdict_inner (n == 0)) refl)
     (rw c.either.ensures (all_said name _ (opening high))) in
     let told_what : ReadAs (begun (codes "desc" ∷ title) (described name n high)) c.extend_from_slice.new.self.items =
-    further words.DESCRIPTION.now named c.in_ok-extend_from_slice.ensures.items refl in
+    further {t = begun (codes "desc" ∷ title) (described name n high)} words.DESCRIPTION.now named
+    c.in_ok-extend_from_slice.ensures.items refl in
     let with_style : ReadAs (begun (codes "desc" ∷ title) (styled name n high)) c.extend_from_slice-2.new.self.items =
-    further STYLE told_what c.in_ok-extend_from_slice-2.ensures.items refl in
+    further {t = begun (codes "desc" ∷ title) (styled name n high)} STYLE told_what
+    c.in_ok-extend_from_slice-2.ensures.items refl in
     let with_shapes : ReadAs (within in_svg (shaped name n high)) c.extend_from_slice-3.new.self.items =
-    further SHAPES with_style c.in_ok-extend_from_slice-3.ensures.items refl in
+    further {t = within in_svg (shaped name n high)} SHAPES with_style
+    c.in_ok-extend_from_slice-3.ensures.items refl in
     behind words.PAGE.now (Number high ∷ []) with_shapes c.in_ok-push_filled-3.ensures refl refl
 
 pub invariant_of-result : goal.invariant_of-result
 invariant_of-result c = is_within (read c)
 
 pub returns : goal.returns
-unfolding head
-returns c = told (read c)
+returns c = told (read c) ∙ reverse-reverse _

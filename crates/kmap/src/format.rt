@@ -15,30 +15,43 @@ use std::io::Read;
 const SUFFIX: &str = ".kmap-fmt";
 
 /// Whether all is well: no text had a fault, and none was to be changed where they are only compared. A text that can't
-/// be laid out or written gets its line, and the next one follows; where the output fails, none does. Where no one
-/// reads the names any more, the texts are still written.
+/// be laid out or written gets its line, and the next one follows; where the output fails, none does.
 pub(crate) fn format_texts<'a>(
     rt: &HostRuntime,
     mode: FmtMode,
     texts: &[&'a str],
     faults: &mut Faults,
 ) -> Result<bool, Failure<'a>> {
-    let mut replaced = Vec::new(rt.alloc());
     let mut well = true;
     for text in texts {
         let outcome = match mode {
-            FmtMode::Write => write_one(rt, text, &mut replaced),
+            FmtMode::Write => return write_texts(rt, texts, faults),
             FmtMode::Check => check_one(rt, text),
             FmtMode::Print => print_one(rt, text),
         };
-        match (mode, outcome) {
-            (FmtMode::Write, Err(Failure::NoReader)) => well = false,
-            (FmtMode::Write, Err(Failure::Command(None, error))) if is_of_output(&error) => {
+        well = of_many(rt.alloc(), outcome, faults)? && well;
+    }
+    Ok(well)
+}
+
+/// Writes texts anew. Where no one reads the names any more, the texts are still written; where the output fails, it is
+/// told which texts were replaced before.
+fn write_texts<'a>(
+    rt: &HostRuntime,
+    texts: &[&'a str],
+    faults: &mut Faults,
+) -> Result<bool, Failure<'a>> {
+    let mut replaced = Vec::new(rt.alloc());
+    let mut well = true;
+    for text in texts {
+        match write_one(rt, text, &mut replaced) {
+            Err(Failure::NoReader) => well = false,
+            Err(Failure::Command(None, error)) if is_of_output(&error) => {
                 report(rt.alloc(), &Failure::Command(Some(text), error), faults);
                 report_replaced(rt, replaced.as_slice(), faults);
                 return Ok(false);
             }
-            (_, outcome) => well = of_many(rt.alloc(), outcome, faults)? && well,
+            outcome => well = of_many(rt.alloc(), outcome, faults)? && well,
         }
     }
     Ok(well)

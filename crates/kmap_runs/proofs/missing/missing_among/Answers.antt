@@ -1,7 +1,7 @@
 use Rattle.kmap_runs.proofs.Common.{◌≡◌, ◌∙◌, ◌+◌, ◌<◌, ◌∷◌, ◌++◌, [], ℕ, Ok, true, ap, arith, length, rules, subst}
 use Rattle.kmap_runs.proofs.Common.{sym}
 use Rattle.kmap_runs.proofs.Common.{take}
-use Rattle.std.proofs.lemmas.List.{take_more}
+use Rattle.std.proofs.lemmas.List.{take_all, take_more}
 use Rattle.std.specs.List.{list_any}
 use Rattle.std.specs.Prelude.{nat_eq}
 use Rattle.kmap_runs.proofs.Untyped.{judged-more, seen-more}
@@ -41,3 +41,12 @@ loop-c-preserved c =
           (λ e. c.add_untyped.ensures.again known (before.seen x ∙ e))
           (λ e. c.add_untyped.ensures.new known (before.seen x ∙ e)));
     }
+
+pub returns-then-not-branch : goal.returns-then-not-branch
+returns-then-not-branch c =
+    c.add_untyped.ensures.undecided (c.in_ok-add_untyped.was ∙ ap (λ b. Ok b) c.if-not-branch.true)
+
+pub returns : goal.returns
+returns c =
+    subst (λ z. AreMissing c.args.typist.now z c.loop-c.found.items) (take_all _ _ c.loop-c-test.false)
+    c.loop-c.invariant.are

@@ -2,14 +2,18 @@
 use Rattle.play_core.proofs.Common.{◌≡◌, ℕ, ◌<◌, List, [], ◌∷◌, ◌++◌, refl, ap, sym, ◌∙◌, map, length, take, drop}
 use Rattle.play_core.proofs.Common.{get_or, ◌+◌, ◌≤◌, arith, length-append, suc, take_more, flat_map, encode_utf8_all}
 use Rattle.play_core.proofs.Common.{Answer, answers_to, AreTyped, typed_by, typed_text, drop-cons, take-append-drop}
-use Rattle.play_core.proofs.Common.{rules}
+use Rattle.play_core.proofs.Common.{Some, subst, rules}
 use Rattle.std.specs.Char.{len_utf8}
-use Rattle.std.proofs.lemmas.Str.{encodes-append, length-encode}
+use Rattle.std.specs.Str.{IsUtf8, all_scalars, chars}
+use Rattle.std.proofs.lemmas.Option.{slice_get-get_or, slice_get_within, same_Some}
+use Rattle.std.proofs.lemmas.Str.{encodes-append, encodes-chars, length-encode, scalars-chars}
 use Rattle.std.specs.Prelude.{filter, encode_utf8}
 use Rattle.keymap_core.specs.Maps.{MapValue}
 use Rattle.console_scripts.specs.declared.typing.Typing.{Typing}
-use Rattle.console_scripts.specs.Typing.{plainly, types_something}
-use Rattle.play_core.specs.Typing.{alone, IsTyped}
+use Rattle.console_scripts.specs.declared.typing.TypingError.{TypingError}
+use Rattle.console_scripts.specs.declared.typing.TypingError.TheVariants as error
+use Rattle.console_scripts.specs.Typing.{CanType, IsTypingError, plainly, types_something}
+use Rattle.play_core.specs.Typing.{alone, IsTyped, IsUntyped}
 use Rattle.console_core.specs.declared.event.Answer.TheVariants as answer
 
 -- ---- what is typed
@@ -45,6 +49,31 @@ typed-sentence m bytes cs x text are = record {
 -- characters are those before an index, the one there, and those behind
 pub split-item : (cs : List ℕ) (k c : ℕ) → k < length cs → c ≡ get_or cs k c → cs ≡ take k cs ++ c ∷ drop (suc k) cs
 split-item cs k c lt is = search (rules, take-append-drop, drop-cons)
+
+-- the place of a character without a way is one of the characters
+pub way_within : (m : MapValue) (cs : List ℕ) (e : TypingError) (place : ℕ) → e ≡ error.NoWay place
+    → IsTypingError m cs e → place < length cs
+way_within m cs e place is wrong =
+    let (can, (c, at, none)) = subst (IsTypingError m cs) is wrong in slice_get_within cs place c at
+
+-- the first character of a text that keys can't type
+pub untyped : (m : MapValue) (bytes cs : List ℕ) (e : TypingError) (place c offset : ℕ) → IsUtf8 bytes
+    → cs ≡ chars bytes → e ≡ error.NoWay place → IsTypingError m cs e → c ≡ get_or cs place c
+    → offset ≡ length (encode_utf8_all (take place cs)) → IsUntyped m bytes offset c
+untyped m bytes cs e place c offset u same is wrong there at =
+    let (can, (y, found, none)) = subst (IsTypingError m cs) is wrong in
+    let lt = slice_get_within cs place y found in
+    let split = sym (split-item cs place c lt there) ∙ same in
+    let one : c ≡ y =
+    same_Some c y (sym (slice_get-get_or cs place c lt ∙ ap (λ z. Some z) (sym there)) ∙ found) in (
+      take place cs,
+      drop (suc place) cs,
+      ap all_scalars split ∙ scalars-chars bytes u,
+      ap encode_utf8_all split ∙ encodes-chars bytes u,
+      at,
+      can,
+      (λ z. none (subst (λ d. CanType m d) one z)),
+    )
 
 -- a character's bytes fit where the text has room for all
 pub room-for : (cs : List ℕ) (k c : ℕ) → k < length cs → c ≡ get_or cs k c

@@ -1,50 +1,44 @@
-use Rattle.play_core.proofs.Common.{◌≡◌, ◌∙◌, ◌<◌, ◌++◌, ◌∷◌, true, sym, ap, subst, take, drop, length, Some, suc}
-use Rattle.play_core.proofs.Common.{encode_utf8_all, AreTyped, rules}
-use Rattle.std.specs.Str.{IsUtf8, chars, all_scalars}
-use Rattle.std.proofs.lemmas.Str.{chars_from_encodes, encodes-chars, scalars-chars}
-use Rattle.std.proofs.lemmas.Option.{slice_get-get_or, slice_get_within, same_Some}
-use Rattle.console_scripts.specs.Typing.{CanType}
-use Rattle.play_core.proofs.Sentences.{split-item, typed-sentence}
+use Rattle.play_core.proofs.Common.{◌≡◌, ◌∙◌, ◌<◌, ℕ, Ok, ap, encode_utf8_all, length, subst, sym, take, AreTyped}
+use Rattle.std.specs.Str.{chars}
+use Rattle.std.proofs.lemmas.Iterator.{YieldsList-from_chars, items_from_collect}
+use Rattle.std.proofs.lemmas.Str.{encodes-chars}
+use Rattle.console_scripts.specs.Typing.{IsTypingError}
+use Rattle.play_core.proofs.Sentences.{untyped, typed-sentence, way_within}
 use Rattle.play_core.proofs.sentence.type_sentence.Goals as goal
 
 pub returns-in-Ok-type_characters-clause-ok : goal.returns-in-Ok-type_characters-clause-ok
 returns-in-Ok-type_characters-clause-ok c =
+    let (same, u) = c.in-Ok.ensures.cases in
     let cs = c.in_ok-characters.characters.items in
-    let u : IsUtf8 c.in-Ok.text.now = subst IsUtf8 (sym c.in-Ok.ensures.cases.0) c.in-Ok.ensures.cases.1 in
-    let is : cs ≡ chars c.in-Ok.text.now = search (rules, chars_from_encodes) in
+    let is : cs ≡ chars c.args.sentence.now =
+    items_from_collect {E = ℕ} (Ok c.in_ok-characters.characters) c.in_ok-characters.ensures.ran
+    (YieldsList-from_chars c.args.sentence.now u (c.chars.ensures.rest ∙ same)) in
     typed-sentence c.args.map.now c.args.sentence.now cs c.in-Ok-type_characters.typing
-    (ap encode_utf8_all is ∙ encodes-chars c.in-Ok.text.now u ∙ c.in-Ok.ensures.cases.0)
+    (ap encode_utf8_all is ∙ encodes-chars c.args.sentence.now u)
     (subst (λ z. AreTyped c.args.map.now z c.in-Ok-type_characters.typing) c.as_slice.ensures.value
     c.in-Ok-type_characters.ensures.typed)
 
 pub offset_of-requires-clause-place : goal.offset_of-requires-clause-place
-offset_of-requires-clause-place c = search (rules, slice_get_within)
+offset_of-requires-clause-place c =
+    subst (λ n. c.in-Err-NoWay.place < n) (c.as_slice.ensures.len ∙ sym c.deref.ensures.len)
+    (way_within c.args.map.now c.as_slice.result.now _ _ c.in-Err-NoWay.field-0-is c.in-Err-NoWay.ensures.error)
 
 pub index-requires : goal.index-requires
-index-requires c = search (rules, slice_get_within)
+index-requires c =
+    subst (λ n. c.in-Err-NoWay.place < n) c.as_slice.ensures.len
+    (way_within c.args.map.now c.as_slice.result.now _ _ c.in-Err-NoWay.field-0-is c.in-Err-NoWay.ensures.error)
 
 pub returns-in-Err-NoWay-clause-err : goal.returns-in-Err-NoWay-clause-err
 returns-in-Err-NoWay-clause-err c =
     let m = c.args.map.now in
     let bytes = c.args.sentence.now in
     let cs = c.in_ok-characters.characters.items in
-    let place = c.in-Err-NoWay.place in
-    let x = c.index.result.now in
-    let error = rw c.in-Err-NoWay.field-0-is at c.in-Err-NoWay.ensures.error in
-    let (can, (y, at, none)) = rw c.as_slice.ensures.value at error in
-    let lt : place < length cs = slice_get_within cs place y at in
-    let same : x ≡ y = same_Some x y (sym (slice_get-get_or cs place x lt ∙ ap (λ z. Some z) (sym c.index.ensures))
-    ∙ at) in
-    let u : IsUtf8 bytes = search rules in
-    let text : encode_utf8_all cs ≡ bytes = search rules in
-    let scalars : all_scalars cs ≡ true =
-    subst (λ z. all_scalars z ≡ true) (sym (chars_from_encodes cs bytes u text)) (scalars-chars bytes u) in
-    let split : cs ≡ take place cs ++ x ∷ drop (suc place) cs = split-item cs place x lt c.index.ensures in (
-      take place cs,
-      drop (suc place) cs,
-      subst (λ z. all_scalars z ≡ true) split scalars,
-      ap encode_utf8_all (sym split) ∙ text,
-      c.offset_of.ensures ∙ ap (λ z. length (encode_utf8_all (take place z))) c.deref.ensures.value,
-      can,
-      (λ z. none (subst (λ d. CanType m d) same z)),
-    )
+    let (same, u) = c.in-Ok.ensures.cases in
+    let is : cs ≡ chars bytes =
+    items_from_collect {E = ℕ} (Ok c.in_ok-characters.characters) c.in_ok-characters.ensures.ran
+    (YieldsList-from_chars bytes u (c.chars.ensures.rest ∙ same)) in
+    untyped m bytes cs _ c.in-Err-NoWay.place c.index.result.now c.offset_of.result u is
+    c.in-Err-NoWay.field-0-is
+    (subst (λ z. IsTypingError m z c.in-Err-NoWay.field-0) c.as_slice.ensures.value c.in-Err-NoWay.ensures.error)
+    c.index.ensures
+    (c.offset_of.ensures ∙ ap (λ z. length (encode_utf8_all (take c.in-Err-NoWay.place z))) c.deref.ensures.value)

@@ -5,11 +5,10 @@ use Rattle.keymap_lint_text.proofs.Common.{flat_map, flat_map-append, All-nil, A
 use Rattle.keymap_lint_text.proofs.Common.{Diagnostics, before_in_line, line, TextFaultKind, excerpt}
 use Rattle.keymap_lint_text.proofs.Common.{Said, Remark, remark, head, place_text, said_text, printed, is_noted}
 use Rattle.keymap_lint_text.proofs.Common.{ended, shown_name, IsLine, IsPlainText, answer, judged, of_diagnostic}
-use Rattle.keymap_lint_text.proofs.Common.{beginning, of_fault}
+use Rattle.keymap_lint_text.proofs.Common.{arith, beginning, of_fault}
 use Rattle.std.specs.Prelude.{◌&&◌, nat_lt}
 use Rattle.std.specs.List.{All, filter}
 use Rattle.std.proofs.lemmas.List.Elements.{All-head, All-tail, filter-append}
-use Rattle.std.proofs.Common.{arith}
 use Rattle.std.proofs.lemmas.Bool.{cond_both}
 use Rattle.std.proofs.lemmas.Fmt.{decimal_digit}
 use Rattle.console_states.specs.declared.outcome.Sticking.{Sticking}

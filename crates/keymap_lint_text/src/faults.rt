@@ -1,7 +1,10 @@
 //! What is said of the fault of a text.
-ghost use Rattle.std.specs.Prelude.{◌≡◌, ◌<◌, ◌≤◌, ◌-◌, length, take, slice_index, position, IfOk, IfSome};
+ghost use Rattle.std.specs.Prelude.{◌≡◌, ◌<◌, ◌≤◌, ◌-◌, ◌∷◌, [], length, take, slice_index, position, IfOk, IfSome};
 ghost use Rattle.std.specs.List.{before_first};
+ghost use Rattle.messages.specs.Filled.{filled as filled_with};
 ghost use Rattle.keymap_lint_text.specs.Faults as spec;
+ghost use Rattle.keymap_lint_text.specs.Told.{wanted_text, word_text};
+ghost use Rattle.keymap_lint_text.specs.declared.words.TheConstants as words;
 
 use crate::near::{behind, known_name, near_names};
 use crate::told::{first_shown, started, wanted, word};
@@ -329,6 +332,22 @@ fn end_inside(alloc: Global, source: &[u8], fault: &FaultPlace) -> Result<Vec<u8
     }
 }
 
+/// What is said of a token that stands where something else is wanted.
+fn unexpected(alloc: Global, token: &[u8], fault: &FaultPlace) -> Result<Vec<u8>, AllocError>
+    ensures { IfOk result (λ text. text.items ≡ filled_with words.UNEXPECTED.now (word_text token.now
+        ∷ wanted_text fault.now.wanted fault.now.definition
+        ∷ spec.cells_text token.now fault.now.wanted fault.now.definition ∷ [])) }
+{
+    let told = word(alloc, token)?;
+    let what = wanted(alloc, fault.wanted, fault.definition)?;
+    let cells = cells(alloc, token, fault.wanted, fault.definition)?;
+    filled(
+        alloc,
+        UNEXPECTED,
+        &[told.as_slice(), what.as_slice(), cells.as_slice()],
+    )
+}
+
 /// What is said of the fault of a text at a place.
 #[tactic(auto, unfolding(crate::specs::Faults::fault_text))]
 pub(crate) fn fault_message(
@@ -350,17 +369,7 @@ pub(crate) fn fault_message(
         TextFaultKind::BadByte => bad_byte(alloc, source, rest),
         TextFaultKind::BadLiteral => bad_literal(alloc, rest),
         TextFaultKind::BadWord => bad_word(alloc, rest, fault.wanted),
-        TextFaultKind::Unexpected => {
-            let token = token_at(source, place);
-            let told = word(alloc, token)?;
-            let what = wanted(alloc, fault.wanted, fault.definition)?;
-            let cells = cells(alloc, token, fault.wanted, fault.definition)?;
-            filled(
-                alloc,
-                UNEXPECTED,
-                &[told.as_slice(), what.as_slice(), cells.as_slice()],
-            )
-        }
+        TextFaultKind::Unexpected => unexpected(alloc, token_at(source, place), fault),
         TextFaultKind::KeyTooLarge => filled(alloc, KEY_TOO_LARGE, &[told]),
         TextFaultKind::BadChar => filled(alloc, BAD_CHAR, &[told]),
         TextFaultKind::BadFunction => {

@@ -3,11 +3,12 @@ ghost use Rattle.std.specs.Prelude.{◌≡◌, ◌<◌, ℕ, List, false, true, 
 ghost use Rattle.std.specs.List.{Contains};
 ghost use Rattle.keymap_core.specs.Actions.{modifiers};
 ghost use Rattle.console_scripts.specs.Types.{Event as EventValue, Scroll, Sight as SightValue, Turn};
-ghost use Rattle.console_core.specs.History.{between, is_locked_after, HasNoLoads};
+ghost use Rattle.console_core.specs.History.{between, is_locked_after, HasKeys, HasNoLoads};
 ghost use Rattle.console_states.specs.Moves.{IsIdle, IsMove, free_with, releases, state_of};
 ghost use Rattle.console_states.specs.Returning.{but_scroll};
 ghost use Rattle.console_states.specs.Sights.{selection_of};
-ghost use Rattle.console_scripts.specs.Visiting.{CannotScroll, IsOnward, TurnsScrollOff};
+ghost use Rattle.console_scripts.specs.Visiting.{CannotScroll, IsOnward, TurnsScrollOff, resting_after};
+ghost use Rattle.console_scripts.specs.Inner.Exploring.{map_of_explored, origin_in, IsExplored};
 ghost use Rattle.console_states.specs.Searching.{under_of};
 ghost use Rattle.console_scripts.specs.Inner.Showing.{IsSeenAt, IsTurnAt, IsUnseen, IsUnturned};
 
@@ -83,6 +84,24 @@ impl<'m> Explored<'m> {
         }
         None
     }
+
+    /// A press that sees one of these, from the origin, whether moves lead back or not.
+    fn go_onward(&self, alloc: Global, sights: &[Sight]) -> Result<Option<Onward>, AllocError>
+        requires { IsExplored self.now }
+        ensures { IfOk result (λ x. IsOnward (map_of_explored self.now) (origin_in self.now) sights.now x) }
+    {
+        let Some(at) = self.first_seeing_any(sights) else {
+            return Ok(None);
+        };
+        let mut events = Vec::new(alloc);
+        go_out(&mut events, alloc, &self.met, at.place)?;
+        let held = state_at(&self.met, at.place);
+        Ok(Some(Onward {
+            events,
+            state: Reached { held },
+            key: at.key,
+        }))
+    }
 }
 
 /// A press that sees one of these, from where the console stands while no key holds a modifier, whether moves lead back
@@ -96,17 +115,7 @@ pub fn find_onward<T: Translator>(
     ensures { IfOk result (λ x. IsOnward map.now (free_with (but_scroll (T.shows_locked console.now))) sights.now x) }
 {
     let explored = explore(alloc, map, &Held::free(console))?;
-    let Some(at) = explored.first_seeing_any(sights) else {
-        return Ok(None);
-    };
-    let mut events = Vec::new(alloc);
-    go_out(&mut events, alloc, &explored.met, at.place)?;
-    let held = state_at(&explored.met, at.place);
-    Ok(Some(Onward {
-        events,
-        state: Reached { held },
-        key: at.key,
-    }))
+    explored.go_onward(alloc, sights)
 }
 
 /// Whether a press of the key turns the scroll lock.
@@ -145,6 +154,25 @@ impl<'m> Explored<'m> {
         }
         None
     }
+
+    /// The events that turn the scroll lock off where it is on, if the origin is where the console stands but for that
+    /// lock: a reset, moves, and a press.
+    fn go_turning(&self, alloc: Global) -> Result<Option<Vec<Event>>, AllocError>
+        requires { IsExplored self.now }
+        ensures { let m = map_of_explored self.now in IfOk result (λ x. (h : List EventValue)
+            → origin_in self.now ≡ resting_after m h → HasKeys h → HasNoLoads h
+            → is_locked_after (between m m) Scroll h ≡ true
+            → MatchOption x (CannotScroll m h) (λ events. TurnsScrollOff m h (reverse events.items))) }
+    {
+        let Some(at) = self.first_turning() else {
+            return Ok(None);
+        };
+        let mut events = Vec::new(alloc);
+        events.push(Event::Reset)?;
+        go_out(&mut events, alloc, &self.met, at.place)?;
+        events.push(Event::Press(at.key))?;
+        Ok(Some(events))
+    }
 }
 
 /// The events that turn the scroll lock off from where the console stands while it is on and no key holds a modifier: a
@@ -159,12 +187,5 @@ pub fn scroll_off<T: Translator>(
         → MatchOption x (CannotScroll map.now h) (λ events. TurnsScrollOff map.now h (reverse events.items))) }
 {
     let explored = explore(alloc, map, &Held::free(console))?;
-    let Some(at) = explored.first_turning() else {
-        return Ok(None);
-    };
-    let mut events = Vec::new(alloc);
-    events.push(Event::Reset)?;
-    go_out(&mut events, alloc, &explored.met, at.place)?;
-    events.push(Event::Press(at.key))?;
-    Ok(Some(events))
+    explored.go_turning(alloc)
 }

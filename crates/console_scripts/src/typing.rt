@@ -178,6 +178,13 @@ fn keep(
     Ok(())
 }
 
+fn push_keyed(keyed: &mut Vec<Keyed>, one: Keyed) -> Result<(), AllocError>
+    ensures { OnOk result (keyed.new.items ≡ keyed.old.items ++ one ∷ []) }
+{
+    keyed.push(one)?;
+    Ok(())
+}
+
 /// What was explored and typed before, and the events so far.
 #[derive(Drop)]
 struct Scribe<'m> {
@@ -247,13 +254,45 @@ impl<'m> Scribe<'m> {
         }
         Ok(typed)
     }
-}
 
-fn push_keyed(keyed: &mut Vec<Keyed>, one: Keyed) -> Result<(), AllocError>
-    ensures { OnOk result (keyed.new.items ≡ keyed.old.items ++ one ∷ []) }
-{
-    keyed.push(one)?;
-    Ok(())
+    /// Adds the characters and the events that type them, one after another from no key pressed, and those home.
+    fn type_all(
+        &mut self,
+        map: &'m KeyMap,
+        characters: &[char],
+        keyed: &mut Vec<Keyed>,
+    ) -> Result<(), TypingError>
+        requires explorations { AreExplorations map.now self.old.explorations.entries }
+        requires known { AreKnown map.now self.old.known.entries }
+        requires keyed { keyed.old.items ≡ [] }
+        requires events { self.old.events.items ≡ [] }
+        ensures typed { OnOk result
+            (AreTyped map.now characters.now (record { keyed = keyed.new; events = self.new.events })) }
+        ensures error { IfErr result (λ error. IsTypingError map.now characters.now error) }
+    {
+        if characters.is_empty() {
+            return Ok(());
+        }
+        let mut from = Held::start();
+        let mut place = 0;
+        while place < characters.len() {
+            let character = characters[place];
+            let sought = Sought { from, character };
+            match self.type_next(map, &sought)? {
+                Typed::To(next) => from = next,
+                Typed::NoWay => return Err(TypingError::NoWay(place)),
+                Typed::TooManyStates => return Err(TypingError::TooManyStates),
+            }
+            let end = self.events.len();
+            push_keyed(keyed, Keyed { character, end })?;
+            place += 1;
+        }
+        see(&mut self.explorations, self.alloc, map, &from)?;
+        if !explored_from(&self.explorations, &from).go_home(&mut self.events)? {
+            return Err(TypingError::TooManyStates);
+        }
+        Ok(())
+    }
 }
 
 /// Types characters one after another from no key pressed, and goes home.
@@ -272,31 +311,7 @@ pub fn type_characters(
         events: Vec::new(alloc),
     };
     let mut keyed = Vec::new(alloc);
-    if characters.is_empty() {
-        return Ok(Typing {
-            keyed,
-            events: scribe.events,
-        });
-    }
-    let mut from = Held::start();
-    let mut place = 0;
-    while place < characters.len() {
-        let character = characters[place];
-        let sought = Sought { from, character };
-        match scribe.type_next(map, &sought)? {
-            Typed::To(next) => from = next,
-            Typed::NoWay => return Err(TypingError::NoWay(place)),
-            Typed::TooManyStates => return Err(TypingError::TooManyStates),
-        }
-        let end = scribe.events.len();
-        push_keyed(&mut keyed, Keyed { character, end })?;
-        place += 1;
-    }
-    let all = &mut scribe;
-    see(&mut all.explorations, alloc, map, &from)?;
-    if !explored_from(&all.explorations, &from).go_home(&mut all.events)? {
-        return Err(TypingError::TooManyStates);
-    }
+    scribe.type_all(map, characters, &mut keyed)?;
     Ok(Typing {
         keyed,
         events: scribe.events,

@@ -1,80 +1,9 @@
-use Rattle.console_scripts.proofs.Common.{◌==◌, length, ap, subst, sym, ◌∙◌, reverse, take_all, eqb-true, true≢false}
-use Rattle.console_scripts.proofs.Common.{slice_get-get_or, AreKnown, AreExplorations}
-use Rattle.console_scripts.proofs.Common.{state_of, rules}
-use Rattle.std.proofs.lemmas.List.{nil_from_length}
-use Rattle.console_scripts.specs.Inner.Exploring.{Leads}
-use Rattle.console_scripts.proofs.Choosing.{no-route}
-use Rattle.console_scripts.proofs.Exploring.{returns-origin}
-use Rattle.console_scripts.proofs.Typings.{typed-none, typed-one, typed-all, typed-nothing}
+use Rattle.console_scripts.proofs.Common.{subst, sym, AreKnown, AreExplorations}
 use Rattle.console_scripts.proofs.typing.type_characters.Goals as goal
 
-pub returns-then-is_empty-clause-typed : goal.returns-then-is_empty-clause-typed
-returns-then-is_empty-clause-typed c =
-    typed-nothing c.args.map.now c.args.characters.now _
-    (nil_from_length c.args.characters.now (eqb-true _ 0 (sym c.is_empty.ensures ∙ c.if-is_empty.true)))
-    c.new-keyed.ensures.items c.new-3.ensures.items
+pub type_all-requires-clause-explorations : goal.type_all-requires-clause-explorations
+type_all-requires-clause-explorations c =
+    subst (λ v. AreExplorations c.args.map.now v) (sym c.new.ensures.empty) tt
 
-pub loop-place-init : goal.loop-place-init
-loop-place-init c = record {
-  explorations = subst (λ v. AreExplorations c.args.map.now v) (sym c.new.ensures.empty) tt;
-  known = subst (λ v. AreKnown c.args.map.now v) (sym c.new-2.ensures.empty) tt;
-  typed = typed-none c.args.map.now c.args.characters.now c.new-keyed.result.items c.new-3.result.items
-      (state_of c.start-from.result) c.new-keyed.ensures.items c.new-3.ensures.items c.start-from.ensures;
-}
-
-pub returns-in-NoWay-clause-error : goal.returns-in-NoWay-clause-error
-returns-in-NoWay-clause-error c =
-    let cs = c.args.characters.now in
-    let x = c.index-characters-place.result in (
-      c.loop-place.invariant.typed.can,
-      (
-        x,
-        cc (slice_get-get_or cs c.loop-place.place x c.loop-place-test.true, c.index-characters-place.is),
-        subst (λ r. Leads c.args.map.now x (state_of c.loop-place.from) (reverse c.loop-place.scribe.events.items)
-            (reverse c.type_next.new.self.events.items) r) c.in-NoWay.is c.in_ok-next.ensures.leads,
-      ),
-    )
-
-pub loop-place-preserved : goal.loop-place-preserved
-loop-place-preserved c =
-    let m = c.args.map.now in
-    let x = c.index-characters-place.result in
-    let old = c.loop-place.scribe.events.items in
-    let now = c.type_next.new.self.events.items in
-    record {
-      explorations = c.in_ok-next.ensures.explorations;
-      known = c.in_ok-next.ensures.known;
-      typed = typed-one m c.args.characters.now c.loop-place.place c.loop-place.keyed.items c.push_keyed.new.keyed.items
-          old now (state_of c.loop-place.from) (record { character = x; end = c.len-end.result })
-          (state_of c.in-To.next) c.loop-place.invariant.typed c.loop-place-test.true c.index-characters-place.is
-          (c.len-end.ensures ∙ c.type_next.new.self.events.ok.0)
-          (subst (λ r. Leads m x (state_of c.loop-place.from) (reverse old) (reverse now) r) c.in-To.is
-          c.in_ok-next.ensures.leads)
-          c.in_ok-push_keyed.ensures;
-    }
-
-pub see-requires-clause-origin : goal.see-requires-clause-origin
-see-requires-clause-origin c = search (rules, returns-origin)
-
-pub go_home-requires : goal.go_home-requires
-go_home-requires c = (c.explored_from.ensures c.args.map.now c.in_ok-see.ensures.explorations).0
-
-pub returns-clause-typed : goal.returns-clause-typed
-returns-clause-typed c =
-    let m = c.args.map.now in
-    let cs = c.args.characters.now in
-    let s = state_of c.loop-place.from in
-    let v = c.explored_from.ensures m c.in_ok-see.ensures.explorations in
-    typed-all m cs c.loop-place.place (record { keyed = c.loop-place.keyed; events = c.go_home.new.events })
-    c.loop-place.scribe.events.items s c.loop-place.invariant.typed
-    (take_all c.loop-place.place cs c.loop-place-test.false)
-    (rw (← v.2, ← v.1) (c.in_ok-go_home.ensures.0 c.if-not-branch.false))
-    (λ e.
-    absurd (true≢false (ap (λ z. length z == 0) (sym e) ∙ sym c.is_empty.ensures ∙ c.if-is_empty.false)))
-
-pub returns-then-not-branch-clause-error : goal.returns-then-not-branch-clause-error
-returns-then-not-branch-clause-error c =
-    let m = c.args.map.now in
-    no-route m (state_of c.loop-place.from) c.explored_from.result.now
-    (c.explored_from.ensures m c.in_ok-see.ensures.explorations) c.loop-place.invariant.typed.can_return
-    (c.in_ok-go_home.ensures.1 c.if-not-branch.true)
+pub type_all-requires-clause-known : goal.type_all-requires-clause-known
+type_all-requires-clause-known c = subst (λ v. AreKnown c.args.map.now v) (sym c.new-2.ensures.empty) tt

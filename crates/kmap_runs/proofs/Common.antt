@@ -37,7 +37,7 @@ pub use Rattle.play_core.specs.declared.sent.Sent.{Sent}
 pub use Rattle.std.proofs.Common.{All, Bool, List, None, Ok, Option, Some, [], add-one, ap, append-nil, append_assoc}
 pub use Rattle.std.proofs.Common.{arith, decimal, drop, false, get_or, if◌then◌else◌, inl, inr, length, lit<, map}
 pub use Rattle.std.proofs.Common.{ne_eqb, not, refl, rules, subst, sym, take, true, zero, ℕ, ◌*◌, ◌++◌, ◌+◌, ◌-◌, ◌<◌}
-pub use Rattle.std.proofs.Common.{◌==◌, ◌∙◌, ◌∷◌, ◌≡◌, ◌≤◌}
+pub use Rattle.std.proofs.Common.{Err, Result, ◌==◌, ◌∙◌, ◌∷◌, ◌≡◌, ◌≤◌}
 pub use Rattle.std.proofs.KnownBytes.{Keeps-refl}
 pub use Rattle.std.proofs.lemmas.Bool.{not-true}
 pub use Rattle.std.proofs.lemmas.List.{get_or_default, reverse-reverse}

@@ -18,3 +18,4 @@ mod PlainScripts
 mod Replayed
 mod Scripts
 mod Untyped
+mod Written

@@ -8,9 +8,10 @@ ghost use Rattle.play_core.specs.Runs.{moves};
 
 use crate::fault_line::RunError;
 use crate::inputs::read_text;
+use crate::runs::answer_once_written;
 use crate::words::{ACCEPTED, BRIEF, REFUSED};
 use keymap_check::check;
-use keymap_core::{KeyMap, Read, Write, write_text};
+use keymap_core::{KeyMap, Read, Write};
 use keymap_lint_text::shown_name;
 use messages::filled;
 use std::alloc::{AllocError, Global};
@@ -52,8 +53,5 @@ pub fn check_brief_run<R: Read, W: Write>(
     let Ok(line) = brief_line(alloc, file, accepted) else {
         return Err(RunError::Memory);
     };
-    match write_text(writer, line.as_slice()) {
-        Ok(()) => Ok(accepted),
-        Err(fault) => Err(RunError::Write(fault)),
-    }
+    answer_once_written(writer, line.as_slice(), accepted)
 }

@@ -7,7 +7,8 @@ ghost use Rattle.play_core.specs.Runs.{moves};
 use crate::cover::cover_text;
 use crate::fault_line::{CommandError, RunError};
 use crate::inputs::read_text;
-use keymap_core::{KeyMap, Read, Write, write_text};
+use crate::runs::command_once_written;
+use keymap_core::{KeyMap, Read, Write};
 use keymap_cover::cover_of;
 use std::alloc::{AllocError, Global};
 
@@ -41,8 +42,5 @@ pub fn cover_run<R: Read, W: Write>(
 {
     let map = read_text(alloc, reader)?;
     let told = covered(alloc, &map)?;
-    match write_text(writer, told.as_slice()) {
-        Ok(()) => Ok(()),
-        Err(fault) => Err(CommandError::Run(RunError::Write(fault))),
-    }
+    command_once_written(writer, told.as_slice(), ())
 }

@@ -8,8 +8,9 @@ ghost use Rattle.play_core.specs.Runs.{moves};
 use crate::diff::{diff_text, same_text};
 use crate::fault_line::RunError;
 use crate::inputs::{read_other, read_text};
+use crate::runs::answer_once_written;
 use keymap_core::laws::every_keymap_is_within_the_bounds;
-use keymap_core::{KeyMap, Read, Write, write_text};
+use keymap_core::{KeyMap, Read, Write};
 use keymap_diff::laws::the_same_keymaps_have_no_changes;
 use keymap_diff::{Change, differences, telling_apart};
 use std::alloc::{AllocError, Global};
@@ -72,8 +73,5 @@ pub fn diff_run<R: Read, N: Read, W: Write>(
     let Ok((same, told)) = compared(alloc, &old, &new) else {
         return Err(RunError::Memory);
     };
-    match write_text(writer, told.as_slice()) {
-        Ok(()) => Ok(same),
-        Err(fault) => Err(RunError::Write(fault)),
-    }
+    answer_once_written(writer, told.as_slice(), same)
 }

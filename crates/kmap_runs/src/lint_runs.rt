@@ -7,7 +7,8 @@ ghost use Rattle.play_core.specs.Runs.{moves};
 
 use crate::fault_line::RunError;
 use crate::inputs::read_text_bytes;
-use keymap_core::{Read, Write, write_text};
+use crate::runs::answer_once_written;
+use keymap_core::{Read, Write};
 use keymap_lint::diagnostics;
 use keymap_lint_text::lint_text;
 use std::alloc::{AllocError, Global};
@@ -38,8 +39,5 @@ pub fn lint_run<R: Read, W: Write>(
     let Ok((is_well, told)) = linted(alloc, file, source.as_slice()) else {
         return Err(RunError::Memory);
     };
-    match write_text(writer, told.as_slice()) {
-        Ok(()) => Ok(is_well),
-        Err(fault) => Err(RunError::Write(fault)),
-    }
+    answer_once_written(writer, told.as_slice(), is_well)
 }

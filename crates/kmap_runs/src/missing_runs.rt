@@ -7,12 +7,12 @@ ghost use Rattle.play_core.specs.Runs.{moves};
 use crate::fault_line::{CommandError, RunError};
 use crate::inputs::{read_sentence, read_text};
 use crate::missing::{missing_in, missing_text};
-use keymap_core::{KeyMap, Read, Write, write_text};
+use crate::runs::command_once_written;
+use keymap_core::{KeyMap, Read, Write};
 use play_core::TypeError;
 use std::alloc::{AllocError, Global};
 
 /// Whether keys can type each character of the sentence, and the lines of those that they can't.
-#[tactic(auto, using(crate::proofs::Untyped::offsets_within))]
 fn told_of(
     alloc: Global,
     name: &[u8],
@@ -54,8 +54,5 @@ pub fn missing_run<R: Read, S: Read, W: Write>(
     let map = read_text(alloc, text)?;
     let bytes = read_sentence(alloc, sentence)?;
     let (can_type_all, told) = told_of(alloc, name, &map, bytes.as_slice())?;
-    match write_text(writer, told.as_slice()) {
-        Ok(()) => Ok(can_type_all),
-        Err(fault) => Err(CommandError::Run(RunError::Write(fault))),
-    }
+    command_once_written(writer, told.as_slice(), can_type_all)
 }

@@ -1,14 +1,16 @@
 //! The runs of the program over any reader and writer.
-ghost use Rattle.std.specs.Prelude.{◌≡◌, ◌||◌, [], IfOk};
+ghost use Rattle.std.specs.Prelude.{◌≡◌, ◌||◌, false, [], IfOk, MatchResult};
+ghost use Rattle.std.specs.Io.KnownBytes.{Appends};
 ghost use Rattle.keymap_core.specs.Bounds.{IsMap};
 ghost use Rattle.keymap_draw.specs.Pictures.{IsPicture, drawing};
 ghost use Rattle.keymap_tables.specs.Sources.{ReadsTables, ReadsNarrow};
-ghost use Rattle.kmap_runs.specs.Inputs.{blames_tables, blames_text};
+ghost use Rattle.kmap_runs.specs.Inputs.{blames_next, blames_sentence, blames_tables, blames_text, of_command_writer};
+ghost use Rattle.kmap_runs.specs.Inputs.{of_writer, run_of};
 ghost use Rattle.kmap_runs.specs.Runs.{ChecksText, CompilesNarrowly, CompilesText, DrawsText, DumpsFile, Reports};
 ghost use Rattle.kmap_runs.specs.Runs.{blames_writer};
-ghost use Rattle.play_core.specs.Runs.{moves};
+ghost use Rattle.play_core.specs.Runs.{StopsWriting, moves};
 
-use crate::fault_line::RunError;
+use crate::fault_line::{CommandError, RunError};
 use crate::inputs::{read_narrow_file, read_table_file, read_text};
 use crate::report::{Text, append_report};
 use keymap_check::check;
@@ -18,6 +20,44 @@ use keymap_draw::{Board, picture};
 use keymap_tables::{NarrowError, write_narrow, write_tables};
 use keymap_text::print_map;
 use std::alloc::{AllocError, Global};
+
+/// Writes a text, and once all of it is written answers this.
+pub(crate) fn answer_once_written<X: Copy, W: Write>(
+    writer: &mut W,
+    told: &[u8],
+    answer: X,
+) -> Result<X, RunError>
+    ensures bytes { MatchResult result
+        (λ x. (x ≡ answer) × Appends (W.contents writer.old) (W.contents writer.new) told.now)
+        (λ e. StopsWriting of_writer e told.now (moves (W.contents writer.old) (W.contents writer.new))) }
+    ensures text_kept { blames_text result ≡ false }
+    ensures next_kept { blames_next result ≡ false }
+    ensures failed { W.has_failed writer.new ≡ (blames_writer result || W.has_failed writer.old) }
+{
+    match write_text(writer, told) {
+        Ok(()) => Ok(answer),
+        Err(fault) => Err(RunError::Write(fault)),
+    }
+}
+
+/// The same, with an error of a command.
+pub(crate) fn command_once_written<X: Copy, W: Write>(
+    writer: &mut W,
+    told: &[u8],
+    answer: X,
+) -> Result<X, CommandError>
+    ensures bytes { MatchResult result
+        (λ x. (x ≡ answer) × Appends (W.contents writer.old) (W.contents writer.new) told.now)
+        (λ e. StopsWriting of_command_writer e told.now (moves (W.contents writer.old) (W.contents writer.new))) }
+    ensures text_kept { blames_text (run_of result) ≡ false }
+    ensures sentence_kept { blames_sentence result ≡ false }
+    ensures failed { W.has_failed writer.new ≡ (blames_writer (run_of result) || W.has_failed writer.old) }
+{
+    match write_text(writer, told) {
+        Ok(()) => Ok(answer),
+        Err(fault) => Err(CommandError::Run(RunError::Write(fault))),
+    }
+}
 
 /// Checks a map and appends the report. Answers whether the map is accepted.
 fn reported(map: &KeyMap, show: bool, text: &mut Text) -> bool
@@ -145,5 +185,5 @@ pub fn draw_run<R: Read, W: Write>(
     let Ok(drawn) = drawn_on(alloc, &map, board, name) else {
         return Err(RunError::Memory);
     };
-    write_text(writer, drawn.as_slice()).map_err(RunError::Write)
+    answer_once_written(writer, drawn.as_slice(), ())
 }

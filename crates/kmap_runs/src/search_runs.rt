@@ -8,10 +8,11 @@ ghost use Rattle.play_core.specs.Runs.{moves};
 
 use crate::fault_line::RunError;
 use crate::inputs::read_keymaps;
+use crate::runs::answer_once_written;
 use crate::search::found_text;
 use console_states::{Sticking, sticking, sticking_between};
 use keymap_check::check;
-use keymap_core::{KeyMap, Read, Write, write_text};
+use keymap_core::{KeyMap, Read, Write};
 use std::alloc::{AllocError, Global};
 
 fn is_never(found: &Sticking) -> bool
@@ -89,8 +90,5 @@ pub fn search_run<R: Read, N: Read, W: Write>(
     let Ok((never, told)) = searched(alloc, &first, &second) else {
         return Err(RunError::Memory);
     };
-    match write_text(writer, told.as_slice()) {
-        Ok(()) => Ok(never),
-        Err(fault) => Err(RunError::Write(fault)),
-    }
+    answer_once_written(writer, told.as_slice(), never)
 }

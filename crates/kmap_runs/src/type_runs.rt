@@ -6,8 +6,9 @@ ghost use Rattle.play_core.specs.Runs.{moves};
 
 use crate::fault_line::{CommandError, RunError};
 use crate::inputs::{read_sentence, read_text};
+use crate::runs::command_once_written;
 use crate::typing::typing_script;
-use keymap_core::{KeyMap, Read, Write, write_text};
+use keymap_core::{KeyMap, Read, Write};
 use play_core::{TypeError, type_sentence};
 use std::alloc::{AllocError, Global};
 
@@ -47,8 +48,5 @@ pub fn type_run<R: Read, S: Read, W: Write>(
     let map = read_text(alloc, text)?;
     let bytes = read_sentence(alloc, sentence)?;
     let script = script_for(alloc, &map, bytes.as_slice())?;
-    match write_text(writer, script.as_slice()) {
-        Ok(()) => Ok(()),
-        Err(fault) => Err(CommandError::Run(RunError::Write(fault))),
-    }
+    command_once_written(writer, script.as_slice(), ())
 }

@@ -1,4 +1,7 @@
-use Rattle.kmap_runs.proofs.Common.{inl, refl, err_from_is_err_and, Keeps-refl, rules}
+use Rattle.kmap_runs.proofs.Common.{err_from_is_err_and, moves, Keeps-refl, rules}
+use Rattle.kmap_runs.proofs.Written.{once_written}
+use Rattle.kmap_runs.specs.Inputs.{ReadsForCommand, ReadsText, of_command_writer}
+use Rattle.kmap_runs.specs.Runs.{IsCovered, LacksCover}
 use Rattle.kmap_runs.proofs.cover_runs.cover_run.Goals as goal
 
 pub returns-in_err-map-clause-run : goal.returns-in_err-map-clause-run
@@ -7,17 +10,8 @@ returns-in_err-map-clause-run g c = search (rules, err_from_is_err_and, Keeps-re
 pub returns-in_err-told-clause-run : goal.returns-in_err-told-clause-run
 returns-in_err-told-clause-run g c = search (rules, err_from_is_err_and, Keeps-refl)
 
-pub returns-in-Ok-clause-run : goal.returns-in-Ok-clause-run
-returns-in-Ok-clause-run g c = search rules
-
 pub returns-clause-run : goal.returns-clause-run
 returns-clause-run g c =
-    let bytes = rw c.as_slice.ensures.value at c.in-Err.ensures.bytes in
-    inl (
-      c.in_ok-map.map,
-      tt,
-      c.in_ok-told.told.items,
-      c.in_ok-map.ensures.reads,
-      c.in_ok-told.ensures.ok,
-      (c.in-Err.fault, refl, bytes.0, bytes.1),
-    )
+    once_written of_command_writer (ReadsForCommand (ReadsText (moves _ _))) LacksCover IsCovered (moves _ _)
+    c.in_ok-map.map tt c.in_ok-told.told.items _ c.in_ok-map.ensures.reads c.in_ok-told.ensures.ok
+    (rw c.as_slice.ensures.value at c.command_once_written.ensures.bytes)

@@ -1,4 +1,8 @@
-use Rattle.kmap_runs.proofs.Common.{inl, inr, refl, err_from_is_err_and, Keeps-refl, rules}
+use Rattle.kmap_runs.proofs.Common.{inr, refl, err_from_is_err_and, moves, Keeps-refl, rules}
+use Rattle.kmap_runs.proofs.Written.{once_written}
+use Rattle.play_core.specs.Runs.{ReadsBoth, Stays}
+use Rattle.kmap_runs.specs.Inputs.{ReadsOther, ReadsText, of_writer}
+use Rattle.kmap_runs.specs.Runs.{Compares, LacksMemory}
 use Rattle.kmap_runs.proofs.diff_runs.diff_run.Goals as goal
 
 pub returns-in_err-old-clause-run : goal.returns-in_err-old-clause-run
@@ -10,32 +14,13 @@ returns-in_err-new-clause-run g c = search (rules, err_from_is_err_and, Keeps-re
 pub returns-in_default-clause-run : goal.returns-in_default-clause-run
 returns-in_default-clause-run g c =
     inr (
-      inr (
-        (c.in_ok-old.old, c.in_ok-new.new),
-        (c.in_ok-old.ensures.reads, c.in_ok-new.ensures.reads),
-        refl,
-      ),
+      inr ((c.in_ok-old.old, c.in_ok-new.new), (c.in_ok-old.ensures.reads, c.in_ok-new.ensures.reads), refl),
       Keeps-refl _,
-    )
-
-pub returns-in-Ok-write_text-clause-run : goal.returns-in-Ok-write_text-clause-run
-returns-in-Ok-write_text-clause-run g c =
-    let bytes = rw c.as_slice.ensures.value at c.in-Ok-write_text.ensures.bytes in (
-      (c.in_ok-old.old, c.in_ok-new.new),
-      c.in-Ok.told.items,
-      (c.in_ok-old.ensures.reads, c.in_ok-new.ensures.reads),
-      c.in-Ok.ensures,
-      bytes,
     )
 
 pub returns-clause-run : goal.returns-clause-run
 returns-clause-run g c =
-    let bytes = rw c.as_slice.ensures.value at c.in-Err.ensures.bytes in
-    inl (
-      (c.in_ok-old.old, c.in_ok-new.new),
-      c.in-Ok.same,
-      c.in-Ok.told.items,
-      (c.in_ok-old.ensures.reads, c.in_ok-new.ensures.reads),
-      c.in-Ok.ensures,
-      (c.in-Err.fault, refl, bytes.0, bytes.1),
-    )
+    once_written of_writer (ReadsBoth (ReadsText (moves _ _)) (ReadsOther (moves _ _)) (Stays (moves _ _))) LacksMemory
+    Compares (moves _ _) (c.in_ok-old.old, c.in_ok-new.new) c.in-Ok.same c.in-Ok.told.items _
+    (c.in_ok-old.ensures.reads, c.in_ok-new.ensures.reads) c.in-Ok.ensures
+    (rw c.as_slice.ensures.value at c.answer_once_written.ensures.bytes)

@@ -1,4 +1,8 @@
-use Rattle.kmap_runs.proofs.Common.{inl, inr, refl, err_from_is_err_and, Keeps-refl, rules}
+use Rattle.kmap_runs.proofs.Common.{inr, err_from_is_err_and, moves, Keeps-refl, rules}
+use Rattle.kmap_runs.proofs.Written.{once_written}
+use Rattle.kmap_runs.specs.Inputs.{ReadsForCommand, ReadsSentence, ReadsText, of_command_writer}
+use Rattle.kmap_runs.specs.Runs.{LacksDecision, MissingAreTold}
+use Rattle.play_core.specs.Runs.{ReadsBoth, Stays}
 use Rattle.kmap_runs.proofs.missing_runs.missing_run.Goals as goal
 
 pub returns-in_err-map-clause-run : goal.returns-in_err-map-clause-run
@@ -22,31 +26,12 @@ returns-in_err-can_type_all-clause-run g c =
       Keeps-refl _,
     ))
 
-pub returns-in-Ok-clause-run : goal.returns-in-Ok-clause-run
-returns-in-Ok-clause-run g c =
-    let tells = rw c.as_slice.ensures.value at c.in_ok-can_type_all.ensures.ok in
-    let bytes = rw c.as_slice-2.ensures.value at c.in-Ok.ensures.bytes in (
-      (c.in_ok-map.map, c.in_ok-bytes.bytes.items),
-      c.in_ok-can_type_all.told.items,
-      (c.in_ok-map.ensures.reads, c.in_ok-bytes.ensures.reads),
-      tells,
-      bytes,
-    )
-
 pub returns-clause-run : goal.returns-clause-run
 returns-clause-run g c =
-    let tells = rw c.as_slice.ensures.value at c.in_ok-can_type_all.ensures.ok in
-    let bytes = rw c.as_slice-2.ensures.value at c.in-Err.ensures.bytes in
-    inl (
-      (c.in_ok-map.map, c.in_ok-bytes.bytes.items),
-      c.in_ok-can_type_all.can_type_all,
-      c.in_ok-can_type_all.told.items,
-      (c.in_ok-map.ensures.reads, c.in_ok-bytes.ensures.reads),
-      tells,
-      (
-        c.in-Err.fault,
-        refl,
-        bytes.0,
-        bytes.1,
-      ),
-    )
+    once_written of_command_writer
+    (ReadsBoth (ReadsForCommand (ReadsText (moves _ _))) (ReadsSentence (moves _ _)) (Stays (moves _ _)))
+    (λ v e. LacksDecision v.0 v.1 e) (λ v all told. MissingAreTold c.args.name.now v.0 v.1 all told) (moves _ _)
+    (c.in_ok-map.map, c.in_ok-bytes.bytes.items) c.in_ok-can_type_all.can_type_all c.in_ok-can_type_all.told.items _
+    (c.in_ok-map.ensures.reads, c.in_ok-bytes.ensures.reads)
+    (rw c.as_slice.ensures.value at c.in_ok-can_type_all.ensures.ok)
+    (rw c.as_slice-2.ensures.value at c.command_once_written.ensures.bytes)

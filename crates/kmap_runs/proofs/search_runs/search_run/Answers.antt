@@ -1,4 +1,7 @@
-use Rattle.kmap_runs.proofs.Common.{inl, inr, refl, err_from_is_err_and, Keeps-refl, rules}
+use Rattle.kmap_runs.proofs.Common.{inr, refl, err_from_is_err_and, moves, Keeps-refl, rules}
+use Rattle.kmap_runs.proofs.Written.{once_written}
+use Rattle.kmap_runs.specs.Inputs.{ReadsKeymaps, of_writer}
+use Rattle.kmap_runs.specs.Runs.{Finds, LacksMemory}
 use Rattle.kmap_runs.proofs.search_runs.search_run.Goals as goal
 
 pub returns-in_err-first-clause-run : goal.returns-in_err-first-clause-run
@@ -8,24 +11,8 @@ pub returns-in_default-clause-run : goal.returns-in_default-clause-run
 returns-in_default-clause-run g c =
     inr (inr ((c.in_ok-first.first, c.in_ok-first.second), c.in_ok-first.ensures.reads, refl), Keeps-refl _)
 
-pub returns-in-Ok-write_text-clause-run : goal.returns-in-Ok-write_text-clause-run
-returns-in-Ok-write_text-clause-run g c =
-    let bytes = rw c.as_slice.ensures.value at c.in-Ok-write_text.ensures.bytes in (
-      (c.in_ok-first.first, c.in_ok-first.second),
-      c.in-Ok.told.items,
-      c.in_ok-first.ensures.reads,
-      c.in-Ok.ensures,
-      bytes,
-    )
-
 pub returns-clause-run : goal.returns-clause-run
 returns-clause-run g c =
-    let bytes = rw c.as_slice.ensures.value at c.in-Err.ensures.bytes in
-    inl (
-      (c.in_ok-first.first, c.in_ok-first.second),
-      c.in-Ok.never,
-      c.in-Ok.told.items,
-      c.in_ok-first.ensures.reads,
-      c.in-Ok.ensures,
-      (c.in-Err.fault, refl, bytes.0, bytes.1),
-    )
+    once_written of_writer (ReadsKeymaps (moves _ _) _) LacksMemory Finds (moves _ _)
+    (c.in_ok-first.first, c.in_ok-first.second) c.in-Ok.never c.in-Ok.told.items _
+    c.in_ok-first.ensures.reads c.in-Ok.ensures (rw c.as_slice.ensures.value at c.answer_once_written.ensures.bytes)

@@ -1,4 +1,8 @@
-use Rattle.kmap_runs.proofs.Common.{inl, inr, refl, err_from_is_err_and, Keeps-refl, rules}
+use Rattle.kmap_runs.proofs.Common.{inr, err_from_is_err_and, moves, Keeps-refl, rules}
+use Rattle.kmap_runs.proofs.Written.{once_written}
+use Rattle.kmap_runs.specs.Inputs.{ReadsForCommand, ReadsSentence, ReadsText, of_command_writer}
+use Rattle.kmap_runs.specs.Runs.{LacksScript, Types}
+use Rattle.play_core.specs.Runs.{ReadsBoth, Stays}
 use Rattle.kmap_runs.proofs.type_runs.type_run.Goals as goal
 
 pub returns-in_err-map-clause-run : goal.returns-in_err-map-clause-run
@@ -21,31 +25,11 @@ returns-in_err-script-clause-run g c =
       Keeps-refl _,
     ))
 
-pub returns-in-Ok-clause-run : goal.returns-in-Ok-clause-run
-returns-in-Ok-clause-run g c =
-    let types = rw c.as_slice.ensures.value at c.in_ok-script.ensures.ok in
-    let bytes = rw c.as_slice-2.ensures.value at c.in-Ok.ensures.bytes in (
-      (c.in_ok-map.map, c.in_ok-bytes.bytes.items),
-      c.in_ok-script.script.items,
-      (c.in_ok-map.ensures.reads, c.in_ok-bytes.ensures.reads),
-      types,
-      bytes,
-    )
-
 pub returns-clause-run : goal.returns-clause-run
 returns-clause-run g c =
-    let types = rw c.as_slice.ensures.value at c.in_ok-script.ensures.ok in
-    let bytes = rw c.as_slice-2.ensures.value at c.in-Err.ensures.bytes in
-    inl (
-      (c.in_ok-map.map, c.in_ok-bytes.bytes.items),
-      tt,
-      c.in_ok-script.script.items,
-      (c.in_ok-map.ensures.reads, c.in_ok-bytes.ensures.reads),
-      types,
-      (
-        c.in-Err.fault,
-        refl,
-        bytes.0,
-        bytes.1,
-      ),
-    )
+    once_written of_command_writer
+    (ReadsBoth (ReadsForCommand (ReadsText (moves _ _))) (ReadsSentence (moves _ _)) (Stays (moves _ _)))
+    (λ v e. LacksScript v.0 v.1 e) (λ v _ told. Types v.0 v.1 told) (moves _ _)
+    (c.in_ok-map.map, c.in_ok-bytes.bytes.items) tt c.in_ok-script.script.items _
+    (c.in_ok-map.ensures.reads, c.in_ok-bytes.ensures.reads) (rw c.as_slice.ensures.value at c.in_ok-script.ensures.ok)
+    (rw c.as_slice-2.ensures.value at c.command_once_written.ensures.bytes)

@@ -1,0 +1,18 @@
+use Rattle.kmap_runs.proofs.Common.{inr, refl, err_from_is_err_and, moves, Keeps-refl, rules}
+use Rattle.kmap_runs.proofs.Written.{once_written}
+use Rattle.kmap_runs.specs.Inputs.{ReadsText, of_writer}
+use Rattle.kmap_runs.specs.Runs.{Draws, LacksMemory}
+use Rattle.kmap_runs.proofs.runs.draw_run.Goals as goal
+
+pub returns-in_err-map-clause-run : goal.returns-in_err-map-clause-run
+returns-in_err-map-clause-run g c = search (rules, err_from_is_err_and, Keeps-refl)
+
+pub returns-in_default-clause-run : goal.returns-in_default-clause-run
+returns-in_default-clause-run g c =
+    inr (inr (c.in_ok-map.map, c.in_ok-map.ensures.reads, refl), Keeps-refl _)
+
+pub returns-clause-run : goal.returns-clause-run
+returns-clause-run g c =
+    once_written of_writer (ReadsText (moves _ _)) LacksMemory (Draws c.args.board c.args.name.now) (moves _ _)
+    c.in_ok-map.map tt c.in-Ok.drawn.items _ c.in_ok-map.ensures.reads c.in-Ok.ensures
+    (rw c.as_slice.ensures.value at c.answer_once_written.ensures.bytes)

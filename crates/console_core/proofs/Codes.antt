@@ -1,7 +1,8 @@
 -- Actions kept by their codes.
 use Rattle.console_core.proofs.Common.{ne_eqb, false_from_ne_true, ◌≡◌, ℕ, ◌<◌, Bool, true, false, List, length}
 use Rattle.console_core.proofs.Common.{set, Option, None, Some, refl, ap, if◌then◌else◌, ◌==◌, ◌≢◌}
-use Rattle.console_core.proofs.Common.{same_action-true, get_or-replicate_default, get_or, Action, same_action, sym, ◌∙◌}
+use Rattle.console_core.proofs.Common.{same_action-true, get_or-replicate_default, get_or, Action, same_action, sym}
+use Rattle.console_core.proofs.Common.{◌∙◌}
 use Rattle.std.proofs.Common.{replicate}
 use Rattle.std.specs.Prelude.{option_map}
 use Rattle.keymap_core.specs.Actions.{code_of, action_of}

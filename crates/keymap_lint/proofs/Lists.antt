@@ -19,7 +19,8 @@ pub flat_step : {X Y : Type 0} (f : X → List Y) (xs zs : List X) (i : ℕ) (x 
     → zs ≡ xs → i < length zs → x ≡ get_or zs i d → old ≡ front ++ flat_map f (take i xs) → more ≡ f x
     → new ≡ old ++ more → new ≡ front ++ flat_map f (take (i + 1) xs)
 flat_step f xs zs i x d front old new more same l is so_far gives push =
-    let all = ap (λ y. take i xs ++ y ∷ []) (is ∙ ap (λ t. get_or t i d) same) ∙ sym (take_more xs i d (rw same at l)) in
+    let one = is ∙ ap (λ t. get_or t i d) same in
+    let all = ap (λ y. take i xs ++ y ∷ []) one ∙ sym (take_more xs i d (rw same at l)) in
     push ∙ ap (λ t. t ++ more) so_far ∙ ap (λ t. front ++ flat_map f (take i xs) ++ t) gives
     ∙ flat_map_more f front (take i xs) x ∙ ap (λ ys. front ++ flat_map f ys) all
 

@@ -1,11 +1,11 @@
 //! Makes calls of the libraries that scripts look at from outside, and prints what they answered.
 //!
-//! It is one test, which a script runs by its name. An argument behind that names one call, whose allocations are refused
-//! (`tests/refused_calls.sh`): there is one at least for each exported function of the libraries that takes memory. What
-//! the call needs is made before. A line goes to standard error right before the call and right after it, so that the
-//! call's own allocations can be told from all others. The answer is `ok`, `memory` where memory was refused, or `fault`.
-//! ` changed` follows it where the call did not leave alone what it must: the map or the console that it was lent, or a
-//! device that it was not to touch.
+//! It is one test, which a script runs by its name. An argument behind that names one call, whose allocations are
+//! refused (`tests/refused_calls.sh`): there is one at least for each exported function of the libraries that takes
+//! memory. What the call needs is made before. A line goes to standard error right before the call and right after it,
+//! so that the call's own allocations can be told from all others. The answer is `ok`, `memory` where memory was
+//! refused, or `fault`. ` changed` follows it where the call did not leave alone what it must: the map or the console
+//! that it was lent, or a device that it was not to touch.
 //!
 //! Behind `steps` stand `map` or `tables`, and how many rounds of eight events a console takes, 1 or 10000. The answer
 //! is the sum of the console's, and `make bench` counts the instructions.

@@ -46,7 +46,8 @@ returns-clause-next g c =
 pub returns-clause-on_only_while_pressed : goal.returns-clause-on_only_while_pressed
 returns-clause-on_only_while_pressed g c =
     λ ms h s safe i on.
-    let e : take c.loop-event.event-index c.args.events.now ≡ c.args.events.now = take_all _ _ c.loop-event-test.false in
+    let e : take c.loop-event.event-index c.args.events.now ≡ c.args.events.now =
+    take_all _ _ c.loop-event-test.false in
     let at : g.T.Translator.stands c.loop-event.console ms (reverse c.args.events.now ++ h) =
     rw e at (c.loop-event.invariant.stands ms h s) in
     on_only_while_pressed ms _ safe (g.met.T.Translator.keys_where_it_stands _ _ _ at) i
@@ -55,7 +56,8 @@ returns-clause-on_only_while_pressed g c =
 pub returns-clause-on_exactly_while_pressed : goal.returns-clause-on_exactly_while_pressed
 returns-clause-on_exactly_while_pressed g c =
     λ ms h s i k bears.
-    let e : take c.loop-event.event-index c.args.events.now ≡ c.args.events.now = take_all _ _ c.loop-event-test.false in
+    let e : take c.loop-event.event-index c.args.events.now ≡ c.args.events.now =
+    take_all _ _ c.loop-event-test.false in
     let at : g.T.Translator.stands c.loop-event.console ms (reverse c.args.events.now ++ h) =
     rw e at (c.loop-event.invariant.stands ms h s) in
     g.met.T.Translator.on_where_it_stands _ _ _ at i
@@ -64,7 +66,8 @@ returns-clause-on_exactly_while_pressed g c =
 pub returns-clause-repeats_turn_no_steady_lock : goal.returns-clause-repeats_turn_no_steady_lock
 returns-clause-repeats_turn_no_steady_lock g c =
     λ ms h s earlier repeats split are l steady.
-    let e : take c.loop-event.event-index c.args.events.now ≡ c.args.events.now = take_all _ _ c.loop-event-test.false in
+    let e : take c.loop-event.event-index c.args.events.now ≡ c.args.events.now =
+    take_all _ _ c.loop-event-test.false in
     let at : g.T.Translator.stands c.loop-event.console ms (reverse c.args.events.now ++ h) =
     rw e at (c.loop-event.invariant.stands ms h s) in
     let joined : reverse c.args.events.now ++ h ≡ reverse repeats ++ (reverse earlier ++ h) =
@@ -76,7 +79,8 @@ returns-clause-repeats_turn_no_steady_lock g c =
 pub returns-clause-off_once_quiet : goal.returns-clause-off_once_quiet
 returns-clause-off_once_quiet g c =
     λ ms h s safe quiet i.
-    let e : take c.loop-event.event-index c.args.events.now ≡ c.args.events.now = take_all _ _ c.loop-event-test.false in
+    let e : take c.loop-event.event-index c.args.events.now ≡ c.args.events.now =
+    take_all _ _ c.loop-event-test.false in
     let at : g.T.Translator.stands c.loop-event.console ms (reverse c.args.events.now ++ h) =
     rw e at (c.loop-event.invariant.stands ms h s) in
     g.met.T.Translator.on_where_it_stands _ _ _ at i
@@ -85,7 +89,8 @@ returns-clause-off_once_quiet g c =
 pub returns-clause-goes_on_as_after_reset : goal.returns-clause-goes_on_as_after_reset
 returns-clause-goes_on_as_after_reset g c =
     λ ms h s safe quiet p.
-    let e : take c.loop-event.event-index c.args.events.now ≡ c.args.events.now = take_all _ _ c.loop-event-test.false in
+    let e : take c.loop-event.event-index c.args.events.now ≡ c.args.events.now =
+    take_all _ _ c.loop-event-test.false in
     let at : g.T.Translator.stands c.loop-event.console ms (reverse c.args.events.now ++ h) =
     rw e at (c.loop-event.invariant.stands ms h s) in
     goes_on_as_after_reset ms _ safe (g.met.T.Translator.keys_where_it_stands _ _ _ at) quiet
@@ -94,7 +99,8 @@ returns-clause-goes_on_as_after_reset g c =
 pub returns-clause-locked_by_fresh_presses : goal.returns-clause-locked_by_fresh_presses
 returns-clause-locked_by_fresh_presses g c =
     λ ms h s l k first bearer.
-    let e : take c.loop-event.event-index c.args.events.now ≡ c.args.events.now = take_all _ _ c.loop-event-test.false in
+    let e : take c.loop-event.event-index c.args.events.now ≡ c.args.events.now =
+    take_all _ _ c.loop-event-test.false in
     let at : g.T.Translator.stands c.loop-event.console ms (reverse c.args.events.now ++ h) =
     rw e at (c.loop-event.invariant.stands ms h s) in
     g.met.T.Translator.locked_where_it_stands _ _ _ at l
@@ -103,7 +109,8 @@ returns-clause-locked_by_fresh_presses g c =
 pub returns-clause-looks_plainly : goal.returns-clause-looks_plainly
 returns-clause-looks_plainly g c =
     λ ms h s plain none k.
-    let e : take c.loop-event.event-index c.args.events.now ≡ c.args.events.now = take_all _ _ c.loop-event-test.false in
+    let e : take c.loop-event.event-index c.args.events.now ≡ c.args.events.now =
+    take_all _ _ c.loop-event-test.false in
     let at : g.T.Translator.stands c.loop-event.console ms (reverse c.args.events.now ++ h) =
     rw e at (c.loop-event.invariant.stands ms h s) in
     shown-plain ms _ none (g.met.T.Translator.keys_where_it_stands _ _ _ at) plain k
@@ -113,7 +120,8 @@ returns-clause-looks_plainly g c =
 pub returns-clause-on_only_while_pressed_without_traps : goal.returns-clause-on_only_while_pressed_without_traps
 returns-clause-on_only_while_pressed_without_traps g c =
     λ ms h s locks i free on.
-    let e : take c.loop-event.event-index c.args.events.now ≡ c.args.events.now = take_all _ _ c.loop-event-test.false in
+    let e : take c.loop-event.event-index c.args.events.now ≡ c.args.events.now =
+    take_all _ _ c.loop-event-test.false in
     let at : g.T.Translator.stands c.loop-event.console ms (reverse c.args.events.now ++ h) =
     rw e at (c.loop-event.invariant.stands ms h s) in
     on_only_while_pressed_without_traps ms _ (g.met.T.Translator.keys_where_it_stands _ _ _ at) locks i free

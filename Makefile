@@ -35,7 +35,7 @@ PROGRAM = crates/kmap/out/kmap
 LIBRARY = crates/kmap_c/out/libkmap_c.a
 SHARED = crates/kmap_c/out/libkmap.so
 SONAME = libkmap.so.0
-TESTS_RUNS = crates/tests_runs/out/tests_runs_tests
+TESTS = crates/tests/out/tests_tests
 
 # the calls of the library, under each of which its page is found
 NAMES = sed -n 's/^[a-z0-9_ ]* \(kmap_[a-z_]*\)(.*/\1/p' include/kmap.h
@@ -110,12 +110,12 @@ scripts:
 	sh tests/install.sh
 	sh tests/guide.sh
 	sh tests/refused_memory.sh $(PROGRAM)
-	sh tests/refused_calls.sh $(TESTS_RUNS)
+	sh tests/refused_calls.sh $(TESTS)
 	sh tests/linear.sh $(PROGRAM)
 
 bench: all
-	@RT="$(RT)" sh build.sh tests_runs out/tests_runs_tests test
-	sh bench/run.sh $(PROGRAM) $(TESTS_RUNS)
+	@RT="$(RT)" sh build.sh tests out/tests_tests test
+	sh bench/run.sh $(PROGRAM) $(TESTS)
 
 install: all
 	$(INSTALL) -d "$(DESTDIR)$(PREFIX)/bin" "$(LIB)/pkgconfig" "$(INCLUDE)" "$(MAN)/man1" "$(MAN)/man3" \

@@ -8,13 +8,13 @@
 # passed, and fails then.
 #
 # usage: run.sh PROGRAM TESTS
-# TESTS has the tests of crates/tests_runs, of which one steps consoles, LIMITS is another file of limits, and README
+# TESTS has the tests of crates/tests, of which one steps consoles, LIMITS is another file of limits, and README
 # another text whose table is written. Costs are instructions, counted by perf(1) or else by callgrind of valgrind(1), or
 # else microseconds of processor time. Reads and writes are the system calls of these names, among them a few of the
 # loader, counted by strace(1), or else by `valgrind --trace-syscalls=yes`.
 
 program=${1:-crates/kmap/out/kmap}
-tests=${2:-crates/tests_runs/out/tests_runs_tests}
+tests=${2:-crates/tests/out/tests_tests}
 case $program in
 /*) ;;
 *) program=$PWD/$program ;;

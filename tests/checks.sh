@@ -468,7 +468,7 @@ refuses 'failed: KeyMap::new takes no memory' sh copy/tests/refused_calls.sh ./o
 holds 'the calls are those of the sources' [ "$(grep -c '^failed: each' said)" -eq 0 ]
 broken crates/messages/src/templates.rt "s/^pub fn number(n: u64)/pub fn number(alloc: Global, n: u64)/" \
     'failed: each exported function that takes memory is called' sh copy/tests/refused_calls.sh ./ok
-broken crates/tests_runs/src/calls/runs.rt 's/given = dump_run(/given = dump_narrow_run(/' \
+broken crates/tests/src/calls/runs.rt 's/given = dump_run(/given = dump_narrow_run(/' \
     'failed: what is called between the marks is what the calls are named by' sh copy/tests/refused_calls.sh ./ok
 
 # A picture without a reader of XML, and two builds that both fail: of the tools only those are there that are named.

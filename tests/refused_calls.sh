@@ -1,5 +1,5 @@
 #!/bin/sh
-# Makes each call of the module `calls` of crates/tests_runs with each of its own allocations refused in turn, alone and
+# Makes each call of the module `calls` of crates/tests with each of its own allocations refused in turn, alone and
 # together with all later ones: it answers that memory was refused, and leaves alone what it must. With ample memory it
 # never answers so.
 #
@@ -11,7 +11,7 @@
 # alone. The last line is 'N passed, M failed'; the status is 0 where none failed. It needs the C compiler that CC names,
 # cc unless it is set.
 
-program=${1:-crates/tests_runs/out/tests_runs_tests}
+program=${1:-crates/tests/out/tests_tests}
 tests=$(dirname "$0")
 . "$tests/shared.sh"
 folder=$(mktemp -d) || exit 1
@@ -171,7 +171,7 @@ yields file_error_line
 
 # The calls that the module knows are those above; between its marks it calls what they are named by, and that is each
 # exported function that takes memory.
-calls=$tests/../crates/tests_runs/src/calls
+calls=$tests/../crates/tests/src/calls
 sed -n 's/^        "\([A-Za-z_:-]*\)" => .*/\1/p' "$calls"/*.rt | sort > "$folder/known"
 sed -n 's/^\(refuses\|yields\|takes_none\) \([A-Za-z_:-]*\).*/\2/p' "$0" | sort > "$folder/made"
 same_text 'each call of the module is made here' "$folder/known" "$folder/made"

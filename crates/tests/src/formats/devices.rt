@@ -1,0 +1,160 @@
+//! Readers and writers that fail at each byte, and how much is read of a text that is too long.
+
+use crate::asserts::{expect_at, expect_equal_at};
+use crate::formats::tables::{Form, LENGTH};
+use crate::support::devices::{Tape, comparing_with, sheet_of, tape_of};
+use crate::support::keymaps::{ACCENTS, LETTER_AND_SHIFT};
+use keymap_core::{KeyMap, Read, ReadFault, ReadFaultKind, Write, WriteFault};
+use keymap_tables::{NarrowError, TableError};
+use keymap_text::{TextError, TextFault, TextFaultKind, print_map, read_from, read_map};
+use std::alloc::Global;
+
+/// What is read or written.
+#[derive(Clone, Copy, Debug)]
+enum Format {
+    Text,
+    Tables(Form),
+}
+
+const WIDE: Format = Format::Tables(Form::Wide);
+
+const NARROW: Format = Format::Tables(Form::Narrow);
+
+/// The fault of a reader that failed or had too much.
+fn read_fault(alloc: Global, format: Format, tape: &mut Tape<'_>) -> Option<ReadFault> {
+    match format {
+        Format::Text => match read_from(alloc, tape) {
+            Err(TextError::Read(fault)) => Some(fault),
+            _ => None,
+        },
+        Format::Tables(form) => match form.read_from(alloc, tape) {
+            Err(TableError::Read(fault)) => Some(fault),
+            _ => None,
+        },
+    }
+}
+
+/// What is read of a text and then blanks, how many bytes there are, and how many come at a time.
+static READS: [(Format, &[u8], usize, usize); 3] = [
+    (Format::Text, LETTER_AND_SHIFT, 100, 13),
+    (WIDE, b"", 15_524, 4_000),
+    (NARROW, b"", 4_139, 4_139),
+];
+
+/// The last failure is in place of the end.
+#[test]
+fn a_reader_that_fails_after_each_number_of_bytes_is_a_fault(rt: HostRuntime) {
+    for &(format, text, size, pace) in &READS {
+        for most in 0..=size {
+            let mut tape = tape_of(text, size, pace, most);
+            let wanted = ReadFault {
+                offset: most as u64,
+                kind: ReadFaultKind::Device,
+            };
+            let fault = read_fault(rt.alloc(), format, &mut tape);
+            expect_equal_at(&rt, &(format, most), &fault, &Some(wanted));
+            assert!(rt; tape.failed());
+        }
+    }
+}
+
+fn write_as<W: Write>(format: Format, map: &KeyMap, writer: &mut W) -> Result<(), NarrowError> {
+    match format {
+        Format::Text => print_map(map, writer).map_err(NarrowError::Write),
+        Format::Tables(form) => form.write(map, writer),
+    }
+}
+
+/// The printed form has more bytes than are gathered before they are written.
+static WRITES: [(Format, &[u8]); 3] = [
+    (Format::Text, ACCENTS),
+    (WIDE, LETTER_AND_SHIFT),
+    (NARROW, LETTER_AND_SHIFT),
+];
+
+/// A writer that fails has just the first bytes.
+#[test]
+fn a_writer_that_fails_after_each_number_of_bytes_is_a_fault(rt: HostRuntime) {
+    for &(format, text) in &WRITES {
+        let map = read_map(rt.alloc(), text).expect(&rt, "a map");
+        let mut whole = sheet_of(LENGTH);
+        write_as(format, &map, &mut whole).expect(&rt, "a writer");
+        let wanted = whole.bytes.as_slice();
+        for most in 0..wanted.len() {
+            let mut writer = comparing_with(wanted, most);
+            let written = most as u64;
+            let fault = NarrowError::Write(WriteFault { written });
+            let answer = write_as(format, &map, &mut writer);
+            expect_equal_at(&rt, &(format, most), &answer, &Err(fault));
+            let is_front = writer.is_same && writer.taken == most && writer.failed();
+            expect_at(&rt, &(format, most), is_front);
+        }
+    }
+}
+
+const LIMIT: usize = 1_048_576;
+
+const ENDLESS: TextError = TextError::Read(ReadFault {
+    offset: 1_048_576,
+    kind: ReadFaultKind::Endless,
+});
+
+const FAILED: TextError = TextError::Read(ReadFault {
+    offset: 1_048_576,
+    kind: ReadFaultKind::Device,
+});
+
+const BAD_LITERAL: TextError = TextError::Fault(TextFault {
+    offset: 2,
+    line: 1,
+    kind: TextFaultKind::BadLiteral,
+});
+
+/// A text and how many bytes there are with the blanks behind it, how many come at a time and at most, the error, and
+/// how many are taken at most.
+type Limited = (&'static [u8], usize, usize, usize, Option<TextError>, usize);
+
+static LIMITED: [Limited; 9] = [
+    (LETTER_AND_SHIFT, 100, 1, usize::MAX, None, 100),
+    (b"", LIMIT, 1, usize::MAX, None, LIMIT),
+    (b"", LIMIT + 1, 1, usize::MAX, Some(ENDLESS), LIMIT + 1),
+    (b"", usize::MAX, 1, usize::MAX, Some(ENDLESS), LIMIT + 1),
+    (b"", usize::MAX, 512, usize::MAX, Some(ENDLESS), LIMIT + 1),
+    (b"", usize::MAX, 1, LIMIT, Some(FAILED), LIMIT),
+    (b"", usize::MAX, 512, LIMIT, Some(FAILED), LIMIT),
+    (b"1 'ab'", usize::MAX, 1, usize::MAX, Some(BAD_LITERAL), 6),
+    (
+        b"1 'ab'",
+        usize::MAX,
+        512,
+        usize::MAX,
+        Some(BAD_LITERAL),
+        512,
+    ),
+];
+
+/// A text is read to its limit or its first fault, and one byte is asked for behind the limit.
+#[test]
+fn a_text_is_read_to_its_limit(rt: HostRuntime) {
+    for &(text, size, pace, most, error, taken) in &LIMITED {
+        let mut tape = tape_of(text, size, pace, most);
+        let answer = read_from(rt.alloc(), &mut tape);
+        let is_map = error.is_none();
+        match answer {
+            Ok(map) => expect_at(
+                &rt,
+                &(size, pace),
+                is_map && map == read_map(rt.alloc(), text).expect(&rt, "a map"),
+            ),
+            Err(given) => expect_equal_at(&rt, &(size, pace), &Some(given), &error),
+        }
+        let most_reads = taken
+            .checked_div(pace)
+            .unwrap_or(0)
+            .saturating_add(2)
+            .min(1_048_578);
+        let is_left = tape.given <= taken && tape.reads as usize <= most_reads;
+        expect_at(&rt, &(size, pace), is_left);
+        expect_equal_at(&rt, &(size, pace), &tape.failed(), &(error == Some(FAILED)));
+    }
+}

@@ -1,0 +1,300 @@
+//! The runs of the program over inputs that are faulty, that fail after each number of bytes, and that have no end:
+//! nothing is written then.
+
+use crate::asserts::{expect_at, expect_equal_at};
+use crate::support::devices::{ROOM, Sheet, Tape, endless_tape_of, sheet_of, tape_of};
+use crate::support::keymaps::LETTER_AND_SHIFT;
+use arrayvec::ArrayVec;
+use keymap_core::{KeyMap, Read, ReadFault, ReadFaultKind, Write, WriteFault};
+use keymap_draw::Board;
+use keymap_tables::{NarrowError, TableFault, TableFaultKind, write_narrow, write_tables};
+use keymap_text::{TextFault, TextFaultKind};
+use kmap_runs::{
+    CommandError, RunError, check_run, compile_narrow_run, compile_run, draw_run, dump_narrow_run,
+    dump_run, fmt_print_run, lint_run, search_run, type_run,
+};
+use std::alloc::Global;
+use std::mem::replace;
+
+/// A run; the check without and with its demonstration.
+#[derive(Clone, Copy, Debug, PartialEq)]
+pub(crate) enum Run {
+    Check,
+    Show,
+    Search,
+    SearchNext,
+    Type,
+    Dump,
+    DumpNarrow,
+    Compile,
+    CompileNarrow,
+    Draw,
+    Lint,
+    Layout,
+}
+
+/// What a run answers of its first input and, where it has one, its second; true where it tells nothing else.
+pub(crate) fn perform(
+    what: Run,
+    alloc: Global,
+    first: &mut Tape<'_>,
+    second: &mut Tape<'_>,
+    writer: &mut Sheet,
+) -> Result<bool, CommandError> {
+    let answer = match what {
+        Run::Check => check_run(alloc, first, false, writer)?,
+        Run::Show => check_run(alloc, first, true, writer)?,
+        Run::Search => search_run(alloc, first, &mut None::<Tape<'_>>, writer)?,
+        Run::SearchNext => search_between(alloc, first, second, writer)?,
+        Run::Type => type_run(alloc, first, second, writer).and(Ok(true))?,
+        Run::Dump => dump_run(alloc, first, writer).and(Ok(true))?,
+        Run::DumpNarrow => dump_narrow_run(alloc, first, writer).and(Ok(true))?,
+        Run::Compile => compile_run(alloc, first, writer).and(Ok(true))?,
+        Run::CompileNarrow => compile_narrow_run(alloc, first, writer).and(Ok(true))?,
+        Run::Draw => draw_run(alloc, first, Board::Iso, b"", writer).and(Ok(true))?,
+        Run::Lint => lint_run(alloc, b"t", first, writer)?,
+        Run::Layout => fmt_print_run(alloc, first, writer).and(Ok(true))?,
+    };
+    Ok(answer)
+}
+
+fn search_between(
+    alloc: Global,
+    first: &mut Tape<'_>,
+    second: &mut Tape<'_>,
+    writer: &mut Sheet,
+) -> Result<bool, RunError> {
+    let mut next = Some(replace(second, tape_of(b"", 0, 1, 0)));
+    let answer = search_run(alloc, first, &mut next, writer);
+    if let Some(next) = next {
+        *second = next;
+    }
+    answer
+}
+
+/// The table file of the keymap.
+pub(crate) fn tables_of(map: &KeyMap) -> Result<ArrayVec<u8, ROOM>, WriteFault> {
+    let mut sheet = sheet_of(usize::MAX);
+    write_tables(map, &mut sheet)?;
+    Ok(sheet.bytes)
+}
+
+/// The narrow file of the keymap.
+pub(crate) fn narrow_of(map: &KeyMap) -> Result<ArrayVec<u8, ROOM>, NarrowError> {
+    let mut sheet = sheet_of(usize::MAX);
+    write_narrow(map, &mut sheet)?;
+    Ok(sheet.bytes)
+}
+
+pub(crate) const DEVICE: ReadFault = ReadFault {
+    offset: 0,
+    kind: ReadFaultKind::Device,
+};
+
+/// The fault of a reader that gives more than the limit of a text or a sentence.
+pub(crate) const ENDLESS: ReadFault = ReadFault {
+    offset: 1_048_576,
+    kind: ReadFaultKind::Endless,
+};
+
+/// An input of a run.
+#[derive(Clone, Copy, Debug, PartialEq)]
+enum Input {
+    Text,
+    Next,
+    Sentence,
+    Tables,
+}
+
+fn read_error(input: Input, fault: ReadFault) -> CommandError {
+    match input {
+        Input::Text => RunError::ReadText(fault).into(),
+        Input::Next => RunError::ReadNext(fault).into(),
+        Input::Sentence => CommandError::ReadSentence(fault),
+        Input::Tables => RunError::ReadTables(fault).into(),
+    }
+}
+
+/// What a run reads of an input: whether that is its first one, bytes and then blanks, and how many there are.
+type Reading = (Run, Input, bool, &'static [u8], usize);
+
+static READINGS: [Reading; 13] = [
+    (Run::Check, Input::Text, true, LETTER_AND_SHIFT, 100),
+    (Run::Search, Input::Text, true, LETTER_AND_SHIFT, 100),
+    (Run::SearchNext, Input::Text, true, LETTER_AND_SHIFT, 100),
+    (Run::SearchNext, Input::Next, false, LETTER_AND_SHIFT, 100),
+    (Run::Type, Input::Text, true, LETTER_AND_SHIFT, 100),
+    (Run::Type, Input::Sentence, false, b"aAa", 3),
+    (Run::Dump, Input::Tables, true, b"", 15_524),
+    (Run::DumpNarrow, Input::Tables, true, b"", 4_139),
+    (Run::Compile, Input::Text, true, LETTER_AND_SHIFT, 100),
+    (Run::CompileNarrow, Input::Text, true, LETTER_AND_SHIFT, 100),
+    (Run::Draw, Input::Text, true, LETTER_AND_SHIFT, 100),
+    (Run::Lint, Input::Text, true, LETTER_AND_SHIFT, 100),
+    (Run::Layout, Input::Text, true, LETTER_AND_SHIFT, 100),
+];
+
+/// After the last byte too, in place of the end. What is read after it is not asked.
+#[test]
+fn an_input_that_fails_after_each_number_of_bytes_is_named(rt: HostRuntime) {
+    for &(what, input, is_first, bytes, size) in &READINGS {
+        for most in 0..=size {
+            let mut failing = tape_of(bytes, size, 4096, most);
+            let mut other = tape_of(LETTER_AND_SHIFT, 100, 64, usize::MAX);
+            let mut writer = sheet_of(usize::MAX);
+            let answer = if is_first {
+                perform(what, rt.alloc(), &mut failing, &mut other, &mut writer)
+            } else {
+                perform(what, rt.alloc(), &mut other, &mut failing, &mut writer)
+            };
+            let fault = ReadFault {
+                offset: most as u64,
+                kind: ReadFaultKind::Device,
+            };
+            expect_equal_at(&rt, &(input, most), &answer, &Err(read_error(input, fault)));
+            let is_left = failing.failed() && !other.failed() && writer.writes == 0;
+            expect_at(
+                &rt,
+                &(input, most),
+                is_left && (!is_first || other.reads == 0),
+            );
+        }
+    }
+}
+
+const ENDLESS_TEXT: CommandError = CommandError::Run(RunError::ReadText(ENDLESS));
+
+const ENDLESS_NEXT: CommandError = CommandError::Run(RunError::ReadNext(ENDLESS));
+
+const ENDLESS_SENTENCE: CommandError = CommandError::ReadSentence(ENDLESS);
+
+const LONG_FILE: CommandError = CommandError::Run(RunError::Tables(LONG));
+
+const LONG_NARROW_FILE: CommandError = CommandError::Run(RunError::Tables(LONG_NARROW));
+
+/// A run over an input without an end, whether that is its first one, the error, and the most reads.
+static ENDLESS_READINGS: [(Run, bool, CommandError, u32); 9] = [
+    (Run::Show, true, ENDLESS_TEXT, 1_048_578),
+    (Run::Search, true, ENDLESS_TEXT, 1_048_578),
+    (Run::SearchNext, false, ENDLESS_NEXT, 1_048_578),
+    (Run::Type, true, ENDLESS_TEXT, 1_048_578),
+    (Run::Type, false, ENDLESS_SENTENCE, 1_048_578),
+    (Run::Lint, true, ENDLESS_TEXT, 1_048_578),
+    (Run::Layout, true, ENDLESS_TEXT, 1_048_578),
+    (Run::Dump, true, LONG_FILE, 15_526),
+    (Run::DumpNarrow, true, LONG_NARROW_FILE, 4_141),
+];
+
+const LONG: TableFault = TableFault {
+    offset: 15_524,
+    kind: TableFaultKind::Long,
+};
+
+const LONG_NARROW: TableFault = TableFault {
+    offset: 4_139,
+    kind: TableFaultKind::Long,
+};
+
+/// What a reader without an end gives a run: zeros in place of tables, blanks in place of a text.
+fn endless_byte(what: Run) -> u8 {
+    match what {
+        Run::Dump | Run::DumpNarrow => 0,
+        _ => b' ',
+    }
+}
+
+#[test]
+fn an_input_without_end_is_left(rt: HostRuntime) {
+    for &(what, is_first, error, most_reads) in &ENDLESS_READINGS {
+        let mut endless = endless_tape_of(endless_byte(what));
+        let mut other = tape_of(LETTER_AND_SHIFT, 100, 64, usize::MAX);
+        let mut writer = sheet_of(usize::MAX);
+        let answer = if is_first {
+            perform(what, rt.alloc(), &mut endless, &mut other, &mut writer)
+        } else {
+            perform(what, rt.alloc(), &mut other, &mut endless, &mut writer)
+        };
+        expect_equal_at(&rt, &what, &answer, &Err(error));
+        let is_left = endless.reads <= most_reads && !endless.failed() && writer.writes == 0;
+        expect_at(&rt, &what, is_left);
+    }
+}
+
+const END_INSIDE: TextFault = TextFault {
+    offset: 3,
+    line: 1,
+    kind: TextFaultKind::EndInside,
+};
+
+const BAD_LITERAL: TextFault = TextFault {
+    offset: 2,
+    line: 1,
+    kind: TextFaultKind::BadLiteral,
+};
+
+const BROKEN_TEXT: CommandError = CommandError::Run(RunError::Text(END_INSIDE));
+
+const BROKEN_NEXT: CommandError = CommandError::Run(RunError::Next(END_INSIDE));
+
+const BAD_TEXT: CommandError = CommandError::Run(RunError::Text(BAD_LITERAL));
+
+/// A run over two inputs, and its first fault.
+static FAULTY: [(Run, &[u8], &[u8], CommandError); 12] = [
+    (Run::Check, b"1 'ab'", b"", BAD_TEXT),
+    (Run::Search, b"1 '", b"", BROKEN_TEXT),
+    (Run::Compile, b"1 '", b"", BROKEN_TEXT),
+    (Run::Draw, b"1 'ab'", b"", BAD_TEXT),
+    (Run::Layout, b"1 'ab'", b"", BAD_TEXT),
+    (Run::SearchNext, b"1 '", b"1 '", BROKEN_TEXT),
+    (Run::SearchNext, LETTER_AND_SHIFT, b"1 '", BROKEN_NEXT),
+    (Run::Type, b"1 '", b"\xff", BROKEN_TEXT),
+    (
+        Run::Type,
+        LETTER_AND_SHIFT,
+        b"ab",
+        CommandError::NoWay { offset: 1, c: 'b' },
+    ),
+    (
+        Run::Type,
+        LETTER_AND_SHIFT,
+        b"A\xc3\xa9a",
+        CommandError::NoWay { offset: 1, c: 'é' },
+    ),
+    (
+        Run::Type,
+        LETTER_AND_SHIFT,
+        b"b\xe2\x82",
+        CommandError::NotText { offset: 1 },
+    ),
+    (
+        Run::Type,
+        LETTER_AND_SHIFT,
+        b"\xff",
+        CommandError::NotText { offset: 0 },
+    ),
+];
+
+const BAD_FLAG: TableFault = TableFault {
+    offset: 37,
+    kind: TableFaultKind::BadFlag,
+};
+
+#[test]
+fn a_faulty_input_is_named(rt: HostRuntime) {
+    for &(what, first, second, error) in &FAULTY {
+        let mut first = tape_of(first, first.len(), 64, usize::MAX);
+        let mut second = tape_of(second, second.len(), 64, usize::MAX);
+        let mut writer = sheet_of(usize::MAX);
+        let answer = perform(what, rt.alloc(), &mut first, &mut second, &mut writer);
+        expect_equal_at(&rt, &what, &answer, &Err(error));
+        assert!(rt; writer.writes == 0);
+    }
+    let mut tables = [0; 15_524];
+    tables[0] = 1;
+    tables[37] = 4;
+    let mut file = tape_of(&tables, 15_524, 4096, usize::MAX);
+    let mut writer = sheet_of(usize::MAX);
+    let answer = dump_run(rt.alloc(), &mut file, &mut writer);
+    expect_equal_at(&rt, &BAD_FLAG, &answer, &Err(RunError::Tables(BAD_FLAG)));
+    assert!(rt; writer.writes == 0);
+}

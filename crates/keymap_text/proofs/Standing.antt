@@ -129,7 +129,14 @@ still old new w y z o l f r t = record {
 pub extended : (old new : Reading) (bytes w y : List ℕ) (n : ℕ) → Advances (state_view old) (state_view new) bytes n
     → n ≡ 0 → bytes ≡ old.pending.items ++ w → new.pending.items ≡ bytes → new.offset ≡ old.offset
     → new.line ≡ old.line → IsReader new → Moves old new w y
-extended old new bytes w y n a z e p q l r = grind (arith, append_assoc, feeds_append, length-append, open_feeds, still)
+extended old new bytes w y n a z e p q l r =
+    still old new w y
+    (omega (arith, feeds_append old.pending.items w, ap feeds (p ∙ e), open_feeds new.pending.items r.tail))
+    (omega (arith, q)) l (omega (arith, q, ap length (p ∙ e), length-append old.pending.items w)) r (λ x.
+    ap (λ t. judge (state_view old) (tokens_after 0 old.offset t)) (sym (append_assoc old.pending.items w (y ++ x))
+    ∙ ap (λ (t : List ℕ). t ++ (y ++ x)) (sym e)) ∙ a.takes old.offset (y ++ x)
+    ∙ ap₂ (λ q (t : List ℕ). judge (state_view new) (tokens_after 0 q (t ++ (y ++ x)))) (omega (arith, q, z))
+    (ap (λ n. drop n bytes) z ∙ sym p))
 
 -- tokens were taken, of which the first begins with what was pending
 pub passed : (old new : Reading) (bytes w y : List ℕ) (n : ℕ) → Advances (state_view old) (state_view new) bytes n

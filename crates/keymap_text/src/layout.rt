@@ -90,7 +90,8 @@ fn character_places(c: char) -> Option<[u8; 6]>
 #[inline(always)]
 fn push_text<const N: usize>(line: &mut ArrayVec<u8, N>, text: &[u8])
     requires { length line.old.items + length text.now ≤ N }
-    ensures { line.new.items ≡ line.old.items ++ text.now }
+    ensures text { line.new.items ≡ line.old.items ++ text.now }
+    ensures size { length line.new.items ≡ length line.old.items + length text.now }
 {
     line.try_extend_from_slice(text).unwrap();
 }

@@ -1,5 +1,6 @@
-use Rattle.keymap_text.proofs.Common.{refl, sym, ◌∙◌, ap₂, true, false, Faulty}
+use Rattle.keymap_text.proofs.Common.{arith, refl, sym, ◌∙◌, ap₂, true, false, Faulty}
 use Rattle.keymap_text.proofs.Judged.{taken_whole, refused_whole}
+use Rattle.std.proofs.lemmas.Grind.{common_steps}
 use Rattle.keymap_text.proofs.defining.take_all.Goals as goal
 
 pub returns-in-Err-clause-takes : goal.returns-in-Err-clause-takes
@@ -18,3 +19,6 @@ returns-in-Err-take_end-clause-takes g c = λ shows.
       false,
       a.2 ∙ e.1 c.in-Ok.n ∙ ap₂ (λ k q. Faulty k q false) (sym c.behind.ensures.kind) (sym c.behind.ensures.at),
     )
+
+pub returns-in-Err-take_end-clause-inside : goal.returns-in-Err-take_end-clause-inside
+returns-in-Err-take_end-clause-inside g c = grind (arith, common_steps)

@@ -8,3 +8,6 @@ returns-then-rest-eq10-clause-takes g c =
 
 pub returns-in-Cell-clause-takes : goal.returns-in-Cell-clause-takes
 returns-in-Cell-clause-takes g c = takes_on c.in_ok-begun.ensures.takes refl c.take_row_of_cells.ensures.takes
+
+pub returns-in_default : goal.returns-in_default
+returns-in_default g c = record { takes = c.in_ok-begun.ensures.takes; leaves = c.in_ok-begun.ensures.leaves }

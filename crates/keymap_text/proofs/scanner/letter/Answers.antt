@@ -31,3 +31,6 @@ returns-in-Ok-clause-leaves g c = search (rules, behind_inside)
 pub returns-in-None-clause-takes : goal.returns-in-None-clause-takes
 returns-in-None-clause-takes g c =
     takes_same (λ s. stays s c.args.rest.now)
+
+pub returns-in-Err-clause-takes : goal.returns-in-Err-clause-takes
+returns-in-Err-clause-takes g c = takes_same (λ s. stays s c.args.rest.now)

@@ -59,3 +59,6 @@ pub returns-clause-inside : goal.returns-clause-inside
 returns-clause-inside c =
     ends c.args.rest.now _ _ _ (both c.args.rest.now _ _ _ _ c.requires.some c.in-Some.ensures
     c.in-Some-character_in_front.ensures) (c.close_in_front-n.ensures (omega arith))
+
+pub returns-clause-place : goal.returns-clause-place
+returns-clause-place c = rw c.requires.after (rw c.requires.after at c.requires.place)

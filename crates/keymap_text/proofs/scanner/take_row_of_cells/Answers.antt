@@ -4,6 +4,7 @@ use Rattle.keymap_text.proofs.Rows.{is_cell, is_lock, next_place}
 use Rattle.keymap_text.proofs.Scanning.{stays, advances_on, takes_on, takes_same}
 use Rattle.keymap_text.specs.declared.grammar.Place.TheVariants as places
 use Rattle.keymap_text.specs.Inner.Grammar as spec
+use Rattle.std.proofs.lemmas.Grind.{common_steps}
 use Rattle.keymap_text.proofs.scanner.take_row_of_cells.Goals as goal
 
 pub loop-index-init : goal.loop-index-init
@@ -72,3 +73,6 @@ returns-clause-takes g c =
       );
     } in
     takes_on (takes_on before refl c.letter-taken.ensures.takes) refl (takes_same c.line_end.ensures.advances)
+
+pub returns-clause-leaves : goal.returns-clause-leaves
+returns-clause-leaves g c = grind (arith, common_steps)

@@ -1,4 +1,4 @@
-use Rattle.keymap_text.proofs.Common.{rules, arith, refl, subst, Err, sym, TextError, ReadsMap, limit, length-take-le}
+use Rattle.keymap_text.proofs.Common.{rules, arith, refl, limit, length-take-le}
 use Rattle.keymap_text.proofs.Feeding.{fed_none, fed_more, fed_early, fed_whole, fed_fails, fed_past, at_once_more}
 use Rattle.keymap_text.proofs.Feeding.{at_once_whole}
 use Rattle.keymap_text.proofs.source.read_from.Goals as goal
@@ -42,17 +42,14 @@ returns-in-Ok-eq0-read-clause-reads g c =
 
 pub returns-in-Ok-read-2-clause-reads : goal.returns-in-Ok-read-2-clause-reads
 returns-in-Ok-read-2-clause-reads g c =
-    let past = fed_past (g.R.Read.remaining c.read-2.new.self) c.read-2.new.buffer c.loop-taken.invariant.fed
-    (omega arith) (omega arith) c.in-Ok-read-2.ensures.bound (omega arith) c.in-Ok-read-2.ensures.bytes.0 in
-    subst (λ (e : TextError). ReadsMap (g.R.Read.remaining c.args.reader.now) (g.R.Read.remaining c.read-2.new.self)
-    (Err e)) (sym c.read_fault-in-Ok-read-2.ensures) past
+    rw c.read_fault-in-Ok-read-2.ensures (fed_past (g.R.Read.remaining c.read-2.new.self) c.read-2.new.buffer
+    c.loop-taken.invariant.fed (omega arith) (omega arith) c.in-Ok-read-2.ensures.bound (omega arith)
+    c.in-Ok-read-2.ensures.bytes.0)
 
 pub returns-in-Err-read-clause-reads : goal.returns-in-Err-read-clause-reads
 returns-in-Err-read-clause-reads g c =
-    let fails = fed_fails (g.R.Read.remaining c.read-2.new.self) limit c.loop-taken.invariant.fed
-    (omega arith) c.loop-taken.invariant.within c.in-Err-read.ensures.bytes in
-    subst (λ (e : TextError). ReadsMap (g.R.Read.remaining c.args.reader.now) (g.R.Read.remaining c.read-2.new.self)
-    (Err e)) (sym c.read_fault-in-Err-read.ensures) fails
+    rw c.read_fault-in-Err-read.ensures (fed_fails (g.R.Read.remaining c.read-2.new.self) limit
+    c.loop-taken.invariant.fed (omega arith) c.loop-taken.invariant.within c.in-Err-read.ensures.bytes)
 
 pub returns-in-Ok-eq0-clause-at_once : goal.returns-in-Ok-eq0-clause-at_once
 returns-in-Ok-eq0-clause-at_once g c =
@@ -69,3 +66,17 @@ pub returns-in-Ok-eq0-read-clause-at_once : goal.returns-in-Ok-eq0-read-clause-a
 returns-in-Ok-eq0-read-clause-at_once g c =
     at_once_whole _ c.read-2.new.buffer c.conclude-in-Ok-eq0-read.result c.loop-taken.invariant.fed
     c.in-Ok-eq0-read.field-0-test c.in-Ok-eq0-read.ensures.bytes.0
+
+pub returns-in-Err-clause-reads : goal.returns-in-Err-clause-reads
+returns-in-Err-clause-reads g c =
+    rw c.read_fault.ensures (fed_fails (g.R.Read.remaining c.read.new.self) c.loop-taken.taken
+    c.loop-taken.invariant.fed refl c.loop-taken.invariant.within c.in-Err.ensures.bytes)
+
+pub returns-in-Err-clause-at_once : goal.returns-in-Err-clause-at_once
+returns-in-Err-clause-at_once g c = rw c.read_fault.ensures tt
+
+pub returns-in-Ok-read-2-clause-at_once : goal.returns-in-Ok-read-2-clause-at_once
+returns-in-Ok-read-2-clause-at_once g c = rw c.read_fault-in-Ok-read-2.ensures tt
+
+pub returns-in-Err-read-clause-at_once : goal.returns-in-Err-read-clause-at_once
+returns-in-Err-read-clause-at_once g c = rw c.read_fault-in-Err-read.ensures tt

@@ -13,3 +13,6 @@ returns c =
     (omega (arith, second)) (omega (arith, third)) (omega (arith, last))
     (sym c.is_word_byte.ensures ∙ c.if-is_word_byte.false) in
     (omega arith, four.0, ap Number (omega (arith, first, second, third, last)) ∙ four.1)
+
+pub bounds-rest-2 : goal.bounds-rest-2
+bounds-rest-2 c = omega arith

@@ -1,6 +1,6 @@
 use Rattle.keymap_text.proofs.Common.{◌≡◌, ◌+◌, ◌++◌, ℕ, List, [], take, drop, length, refl, sym, ◌∙◌, ap, subst, arith}
-use Rattle.keymap_text.proofs.Common.{length-take-le, take-append-drop, Reading, line, GrammarState, Moves, Advances}
-use Rattle.keymap_text.proofs.Common.{Refuses, state_view, grammar_view, IsPlace}
+use Rattle.keymap_text.proofs.Common.{length-take, length-take-le, take-append-drop, Reading, line, GrammarState}
+use Rattle.keymap_text.proofs.Common.{Moves, Advances, Refuses, state_view, grammar_view, IsPlace}
 use Rattle.keymap_text.proofs.Lines.{line_behind}
 use Rattle.keymap_text.proofs.Splitting.{to_end}
 use Rattle.keymap_text.proofs.Standing.{passed, moves_on, breaks, of_map}
@@ -44,3 +44,6 @@ returns-in-Err c =
     (λ b h. c.fault.ensures.line ∙ line_behind r b rest at h
     ∙ ap (λ q. line (b ++ rest) q) {x = r.offset + length r.pending.items + at}
     (omega (arith, place, ap length c.requires.none)))
+
+pub pass-requires-clause-room : goal.pass-requires-clause-room
+pass-requires-clause-room c = omega (arith, length-take c.in-Ok.n c.args.rest.now)

@@ -1,6 +1,6 @@
 use Rattle.keymap_text.proofs.Common.{◌≡◌, ◌+◌, ◌-◌, ◌<◌, ◌≤◌, ◌++◌, ℕ, List, length, take, drop, get_or, refl, sym}
-use Rattle.keymap_text.proofs.Common.{◌∙◌, ap, subst, arith, Ok, length-append, length-take-le, take-append-drop, rules}
-use Rattle.keymap_text.proofs.Common.{Reading, GrammarState, Advances, Refuses, IsOpen, state_view}
+use Rattle.keymap_text.proofs.Common.{◌∙◌, ap, subst, arith, Ok, length-append, length-take, length-take-le, rules}
+use Rattle.keymap_text.proofs.Common.{take-append-drop, Reading, GrammarState, Advances, Refuses, IsOpen, state_view}
 use Rattle.keymap_text.proofs.Common.{grammar_view, IsPlace}
 use Rattle.keymap_text.proofs.Lines.{pending_line}
 use Rattle.keymap_text.proofs.Standing.{extended, passed, breaks, advances_more, refuses_more, joined, of_map}
@@ -105,3 +105,9 @@ returns-in-Err c =
       from = omega (arith, c.fault.ensures.offset);
       to = omega (arith, c.fault.ensures.offset);
     }))
+
+pub pass-requires : goal.pass-requires
+pass-requires c = record {
+  low = omega (arith, c.requires.reader.low);
+  room = omega (arith, length-take (c.in-Ok.n - c.len-had.result) c.args.piece.now, c.len-had.ensures.value);
+}

@@ -3,7 +3,7 @@ use Rattle.keymap_check.proofs.Common.{zero, suc, ◌≡◌, ◌≢◌, ℕ, ◌
 use Rattle.keymap_check.proofs.Common.{subst, sym, ◌∙◌, inl, inr, arith, true≢false, Lock, Holding, Cell, Act, Bearer}
 use Rattle.keymap_check.proofs.Common.{Nobody, holding_action, MapValue, IsCellOf, Bears, BearsThroughout, below-suc}
 use Rattle.keymap_check.proofs.Common.{IsPlain, IsSteady, IsActing, first_place, cell_of, is_holding, bears_holding}
-use Rattle.keymap_check.proofs.Common.{bearer_with, next_bearer, bearer_below, bearer_of, IsBearer, ReportValue, rules}
+use Rattle.keymap_check.proofs.Common.{bearer_with, next_bearer, bearer_below, bearer_of, IsBearer, ReportValue}
 use Rattle.keymap_check.proofs.Common.{bearer_in}
 use Rattle.std.proofs.lemmas.Bool.{cond_both}
 use Rattle.std.specs.Option.{is_none}
@@ -23,7 +23,8 @@ use Rattle.keymap_check.specs.declared.kind.Kind.TheVariants as kind
 
 -- a key that passes the test bears the holding action
 pub bears-true : (m : MapValue) (k : ℕ) (a : Holding) → bears_holding m k a ≡ true → Bears m k a
-bears-true m k a e = search (rules, has-cell, is_holding-true)
+bears-true m k a e =
+    let h = (has-cell m (kind.Holding a) k).0 e in subst (IsCellOf m k) (is_holding-true a h.0 h.2) h.1
 
 -- a key that bears the holding action passes the test
 pub true-bears : (m : MapValue) (k : ℕ) (a : Holding) → Bears m k a → bears_holding m k a ≡ true
@@ -84,8 +85,12 @@ added m a n b is (Empty s f) =
       (λ j lt other. elim (below-suc j n lt) [ inl l ↦ absurd (f j l other) | inr q ↦ q ]),
       ap (λ x. next_bearer x (bearer_with m a n)) s,
     )
-added m a n b is (Single s) = search (rules, next_by)
-added m a n b is (Many s t) = search rules
+added m a n b is (Single s) =
+    Many (ap (λ x. next_bearer x (bearer_with m a n)) s.4 ∙ next_by s.0 _ _)
+    (s.0, n, omega (arith, s.1), omega arith, (λ e. omega (arith, e, s.1)), s.2, is)
+added m a n b is (Many s t) =
+    Many (ap (λ x. next_bearer x (bearer_with m a n)) s)
+    (t.0, t.1, omega (arith, t.2), omega (arith, t.3), t.4, t.5, t.6)
 
 -- the bearer among the keys below n says which of them bear
 pub found : (m : MapValue) (a : Holding) (n : ℕ) → BearerAmong m a n (bearer_below m a n)
@@ -168,7 +173,8 @@ true-steady m l b (Single s) steady =
 
 -- the locks that pass the test are the steady ones
 pub steady_locks_are_computed : SteadyLocksAreComputed
-steady_locks_are_computed m l = search (rules, steady-true, found, true-steady)
+steady_locks_are_computed m l =
+    let b = found m (holding.Lock l) 128 in (steady-true m l _ b, true-steady m l _ b)
 
 -- what a bearer that is reported says
 pub throughout-bears : (m : MapValue) (a : Holding) (k : ℕ) → bearer_of m a ≡ Throughout k → BearsThroughout m k a

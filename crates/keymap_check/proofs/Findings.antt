@@ -1,8 +1,8 @@
 -- A map has no findings exactly if it is safe.
-use Rattle.keymap_check.proofs.Common.{zero, suc, ◌≡◌, ℕ, ◌<◌, ◌++◌, List, [], ◌∷◌, Option, Some, None, refl, ap, rules}
-use Rattle.keymap_check.proofs.Common.{sym, ◌∙◌, inl, inr, arith, true≢false, MapValue}
+use Rattle.keymap_check.proofs.Common.{zero, suc, ◌≡◌, ℕ, ◌<◌, ◌++◌, List, [], ◌∷◌, Option, Some, None, refl, ap, subst}
+use Rattle.keymap_check.proofs.Common.{sym, ◌∙◌, inl, inr, arith, true≢false, MapValue, IsCellOf, Act, Char}
 use Rattle.keymap_check.proofs.Common.{gathered, below-suc, first_place, cell_of, finding_by, findings_at}
-use Rattle.keymap_check.proofs.Common.{IsUnsafeKey, has_some, Finding, true, ◌&&◌, and_parts, is_some, ◌↔◌}
+use Rattle.keymap_check.proofs.Common.{IsUnsafeKey, has_some, Finding, true, ◌&&◌, and_parts, is_some, ◌↔◌, holding_action}
 use Rattle.std.proofs.lemmas.Bool.{and_from}
 use Rattle.keymap_check.specs.Report.{NoFindingsExactlyIfSafe}
 use Rattle.keymap_check.proofs.Same.{character-cell, IsHeldBy, holding-cell, holding-any}
@@ -46,8 +46,18 @@ found m k = found_by m k (first_place m kind.AnyHolding k) (first_place m kind.C
 
 -- a key has a finding exactly if it is unsafe
 pub unsafe-key : (m : MapValue) (k : ℕ) → (has_some (findings_at m k) ≡ true) ↔ IsUnsafeKey m k
-unsafe-key m k =
-    search (rules, and_parts, found, has-cell, holding-cell, character-cell, and_from, holding-any)
+unsafe-key m k = (
+  (λ t.
+      let p = and_parts _ _ (sym (found m k) ∙ t) in
+      let h = (has-cell m kind.AnyHolding k).0 p.0 in
+      let c = (has-cell m kind.Character k).0 p.1 in
+      let a = holding-cell h.0 h.2 in
+      let char = character-cell c.0 c.2 in
+      (a.0, subst (IsCellOf m k) a.1 h.1, (char.0, subst (IsCellOf m k) char.1 c.1))),
+  (λ u.
+      found m k ∙ and_from _ _ ((has-cell m kind.AnyHolding k).1 (Act (holding_action u.0), u.1, holding-any u.0))
+      ((has-cell m kind.Character k).1 (Char u.2.0, u.2.1, refl))),
+)
 
 none_there : (fs : List Finding) → (has_some fs ≡ true → ⊥) → fs ≡ []
 none_there [] f = refl

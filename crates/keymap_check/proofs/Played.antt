@@ -9,7 +9,6 @@ use Rattle.keymap_core.proofs.HoldingTests.{no-modifier}
 use Rattle.console_core.proofs.OneMore.{resolved-more, held-release}
 use Rattle.console_core.proofs.Deliveries.{reverse-push}
 use Rattle.keymap_check.specs.Scripts.{start_of}
-use Rattle.keymap_core.specs.declared.action.Holding.TheVariants as holding
 
 -- the events of a script, the newest first
 pub played : (keys : List (Option ℕ)) (k a b : ℕ)

@@ -23,7 +23,6 @@ use Rattle.keymap_check.proofs.Places.{HasCellOf, has-cell}
 use Rattle.keymap_check.proofs.Findings.{unsafe-key}
 use Rattle.keymap_check.proofs.TriedScripts.{alone-complete, tried-none}
 use Rattle.keymap_core.specs.declared.action.Action.TheVariants as act
-use Rattle.keymap_core.specs.declared.action.Lock.TheVariants as lock
 use Rattle.keymap_core.specs.declared.action.Holding.TheVariants as holding
 use Rattle.keymap_check.specs.declared.kind.Group.TheVariants as group
 use Rattle.keymap_check.specs.declared.kind.Kind.TheVariants as kind

@@ -8,7 +8,6 @@ use Rattle.keymap_check.specs.Tried.{BearsGroup, IsBitKey, BitKeysAreLeast, Trie
 use Rattle.keymap_check.proofs.Places.{has-cell}
 use Rattle.keymap_check.proofs.Findings.{unsafe-key}
 use Rattle.keymap_check.proofs.Shown.{group-cell, group-bit}
-use Rattle.keymap_core.specs.declared.action.Action.TheVariants as act
 use Rattle.keymap_check.specs.declared.kind.Group.TheVariants as group
 use Rattle.keymap_check.specs.declared.kind.Kind.TheVariants as kind
 

@@ -6,7 +6,7 @@ ghost use Rattle.keymap_check.specs.Inner.CellBits.{mask_of};
 use keymap_core::{Action, Cell, Holding, Modifier};
 
 /// The modifiers that count as one when a column or a slot is looked up.
-#[derive(Clone, Copy, Debug, PartialEq, Eq)]
+#[derive(Clone, Copy)]
 pub enum Group {
     Shift,
     Control,
@@ -15,7 +15,7 @@ pub enum Group {
 }
 
 /// A kind of cells.
-#[derive(Clone, Copy, Debug, PartialEq, Eq)]
+#[derive(Clone, Copy)]
 pub enum Kind {
     Character,
     /// A modifier or a lock.

@@ -1,6 +1,5 @@
 use Rattle.keymap_check.proofs.Common.{rules}
 use Rattle.keymap_check.proofs.Findings.{found}
-use Rattle.keymap_check.specs.declared.kind.Kind.TheVariants as kind
 use Rattle.keymap_check.proofs.finding.is_found.Goals as goal
 
 pub returns-then-has : goal.returns-then-has

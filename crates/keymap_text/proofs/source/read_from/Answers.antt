@@ -80,3 +80,6 @@ returns-in-Ok-read-2-clause-at_once g c = rw c.read_fault-in-Ok-read-2.ensures t
 
 pub returns-in-Err-read-clause-at_once : goal.returns-in-Err-read-clause-at_once
 returns-in-Err-read-clause-at_once g c = rw c.read_fault-in-Err-read.ensures tt
+
+pub returns-in-Err-read-clause-failed : goal.returns-in-Err-read-clause-failed
+returns-in-Err-read-clause-failed g c = rw c.read_fault-in-Err-read.ensures c.in-Err-read.ensures.failed

@@ -1,6 +1,8 @@
-//! How the tests compare values. What `assert_eq!` does where two values differ is proved wherever it stands, and
-//! here it stands once. A library can't have this function, since it may end the process.
+//! How the tests compare values, and read keymaps. What `assert_eq!` does where two values differ is proved wherever it
+//! stands, and here it stands once. A library can't have this function, since it may end the process.
 
+use keymap_core::KeyMap;
+use keymap_text::read_map;
 use std::fmt::Debug;
 use std::process::Abort;
 
@@ -22,4 +24,9 @@ pub(crate) fn expect_equal_at<R: Debug, T: PartialEq + Debug>(
 /// The condition holds; else the test fails and names the row of a table.
 pub(crate) fn expect_at<R: Debug>(rt: &impl Abort, row: &R, holds: bool) {
     assert!(rt; holds, "{row:?}");
+}
+
+/// The keymap of a text without a fault.
+pub(crate) fn map_of<R: Abort + AllocGlobal>(rt: &R, text: &[u8]) -> KeyMap {
+    read_map(rt.alloc(), text).expect(rt, "a map")
 }

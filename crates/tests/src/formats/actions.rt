@@ -64,9 +64,9 @@ fn is_named(action: &Action, name: &[u8]) -> bool {
 fn actions_have_the_codes_and_names_of_the_table(rt: HostRuntime) {
     for &(code, name) in &TABLE {
         let action = Action::from_code(code).expect(&rt, "an action");
-        expect_equal_at(&rt, &code, &action.code(), &code);
         expect_at(&rt, &code, is_named(&action, name));
-        expect_equal_at(&rt, &code, &Action::named(name), &Named::Action(action));
+        let named = (action.code(), Action::named(name));
+        expect_equal_at(&rt, &code, &named, &(code, Named::Action(action)));
     }
     for &code in &UNUSED {
         expect_equal_at(&rt, &code, &Action::from_code(code), &None);

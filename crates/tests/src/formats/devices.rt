@@ -1,6 +1,7 @@
 //! Readers and writers that fail at each byte, and how much is read of a text that is too long.
 
-use crate::asserts::{expect_at, expect_equal_at};
+use crate::asserts::{expect_at, expect_equal_at, map_of};
+use crate::formats::reading::is_map;
 use crate::formats::tables::{Form, LENGTH};
 use crate::support::devices::{Tape, comparing_with, sheet_of, tape_of};
 use crate::support::keymaps::{ACCENTS, LETTER_AND_SHIFT};
@@ -47,10 +48,8 @@ fn a_reader_that_fails_after_each_number_of_bytes_is_a_fault(rt: HostRuntime) {
     for &(format, text, size, pace) in &READS {
         for most in 0..=size {
             let mut tape = tape_of(text, size, pace, most);
-            let wanted = ReadFault {
-                offset: most as u64,
-                kind: ReadFaultKind::Device,
-            };
+            let (offset, kind) = (most as u64, ReadFaultKind::Device);
+            let wanted = ReadFault { offset, kind };
             let fault = read_fault(rt.alloc(), format, &mut tape);
             expect_equal_at(&rt, &(format, most), &fault, &Some(wanted));
             assert!(rt; tape.failed());
@@ -76,7 +75,7 @@ static WRITES: [(Format, &[u8]); 3] = [
 #[test]
 fn a_writer_that_fails_after_each_number_of_bytes_is_a_fault(rt: HostRuntime) {
     for &(format, text) in &WRITES {
-        let map = read_map(rt.alloc(), text).expect(&rt, "a map");
+        let map = map_of(&rt, text);
         let mut whole = sheet_of(LENGTH);
         write_as(format, &map, &mut whole).expect(&rt, "a writer");
         let wanted = whole.bytes.as_slice();
@@ -139,21 +138,13 @@ fn a_text_is_read_to_its_limit(rt: HostRuntime) {
     for &(text, size, pace, most, error, taken) in &LIMITED {
         let mut tape = tape_of(text, size, pace, most);
         let answer = read_from(rt.alloc(), &mut tape);
-        let is_map = error.is_none();
-        match answer {
-            Ok(map) => expect_at(
-                &rt,
-                &(size, pace),
-                is_map && map == read_map(rt.alloc(), text).expect(&rt, "a map"),
-            ),
-            Err(given) => expect_equal_at(&rt, &(size, pace), &Some(given), &error),
+        if let Ok(map) = &answer {
+            let is_same = is_map(read_map(rt.alloc(), text), map);
+            expect_at(&rt, &(size, pace), is_same);
         }
-        let most_reads = taken
-            .checked_div(pace)
-            .unwrap_or(0)
-            .saturating_add(2)
-            .min(1_048_578);
-        let is_left = tape.given <= taken && tape.reads as usize <= most_reads;
+        expect_equal_at(&rt, &(size, pace), &answer.err(), &error);
+        let most_reads = taken.checked_div(pace).unwrap_or(0).saturating_add(2);
+        let is_left = tape.given <= taken && tape.reads as usize <= most_reads.min(1_048_578);
         expect_at(&rt, &(size, pace), is_left);
         expect_equal_at(&rt, &(size, pace), &tape.failed(), &(error == Some(FAILED)));
     }

@@ -184,23 +184,22 @@ static TOKENS: [(&[u8], Kinds); 27] = [
 
 /// The fault of a text that is a place and a token: it stands at the token, and at the end where the text ends inside
 /// of something.
-fn wanted_fault(place: usize, token: usize, kind: TextFaultKind) -> TextError {
-    let offset = match kind {
+fn wanted_fault(place: usize, token: usize, kind: Option<TextFaultKind>) -> Option<TextError> {
+    let kind = kind?;
+    let at = match kind {
         TextFaultKind::EndInside => place.saturating_add(token),
         _ => place,
     };
-    TextError::Fault(TextFault {
-        offset: offset as u64,
-        line: 1,
-        kind,
-    })
+    let (offset, line) = (at as u64, 1);
+    Some(TextError::Fault(TextFault { offset, line, kind }))
 }
 
-fn joined(rt: &impl Abort, alloc: Global, place: &[u8], token: &[u8]) -> Vec<u8> {
+/// The fault of the text that is a place and a token.
+fn fault_of(rt: &impl Abort, alloc: Global, place: &[u8], token: &[u8]) -> Option<TextError> {
     let mut text = Vec::new(alloc);
     text.extend_from_slice(place).expect(rt, "memory");
     text.extend_from_slice(token).expect(rt, "memory");
-    text
+    read_map(alloc, text.as_slice()).err()
 }
 
 #[test]
@@ -208,9 +207,8 @@ fn each_kind_of_fault_is_found_at_each_place(rt: HostRuntime) {
     expect_equal(&rt, &FULL_ACCENT.len(), &632);
     for &(token, kinds) in &TOKENS {
         for (place, kind) in PLACES.iter().zip(kinds) {
-            let text = joined(&rt, rt.alloc(), place, token);
-            let fault = read_map(rt.alloc(), text.as_slice()).err();
-            let wanted = kind.map(|kind| wanted_fault(place.len(), token.len(), kind));
+            let fault = fault_of(&rt, rt.alloc(), place, token);
+            let wanted = wanted_fault(place.len(), token.len(), kind);
             expect_equal_at(&rt, &(token, place), &fault, &wanted);
         }
     }

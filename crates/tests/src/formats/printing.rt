@@ -1,7 +1,7 @@
 //! Printing maps, and reading them again.
 
-use crate::asserts::{expect_at, expect_equal, expect_equal_at};
-use crate::formats::reading::DUMPED;
+use crate::asserts::{expect_at, expect_equal, expect_equal_at, map_of};
+use crate::formats::reading::{DUMPED, is_map};
 use crate::support::devices::slow_sheet_of;
 use crate::support::keymaps;
 use keymap_core::{ToStd, Write, WriteFault};
@@ -10,7 +10,6 @@ use std::alloc::Global;
 use std::process::Abort;
 
 /// A text, how many lines its map has for keys, those of them that are not undefined, and the lines for accents.
-#[derive(Clone, Copy)]
 struct Printed {
     text: &'static [u8],
     keys: usize,
@@ -176,13 +175,17 @@ dmac nul
     },
 ];
 
+fn digit(number: usize) -> u8 {
+    b'0' + (number % 10) as u8
+}
+
 /// The printed form of the map.
 fn printed_form(rt: &impl Abort, alloc: Global, printed: &Printed) -> Vec<u8> {
     let mut wanted = Vec::new(alloc);
     let mut lines = printed.lines.iter();
     let mut next = lines.next();
     for slot in 0..printed.keys {
-        let slot = [slot / 100, slot / 10 % 10, slot % 10].map(|digit| b'0' + (digit % 10) as u8);
+        let slot = [slot / 100, slot / 10, slot].map(digit);
         match next {
             Some(line) if line.starts_with(&slot) => {
                 wanted.extend_from_slice(line).expect(rt, "memory");
@@ -204,25 +207,20 @@ fn printed_form(rt: &impl Abort, alloc: Global, printed: &Printed) -> Vec<u8> {
 #[test]
 fn maps_are_printed_and_read_again(rt: HostRuntime) {
     for printed in &MAPS {
-        let map = read_map(rt.alloc(), printed.text).expect(&rt, "a map");
+        let map = map_of(&rt, printed.text);
         let mut page = slow_sheet_of(7, usize::MAX);
         print_map(&map, &mut page).expect(&rt, "a writer");
         let wanted = printed_form(&rt, rt.alloc(), printed);
         let bytes = page.bytes.as_slice();
         expect_equal_at(&rt, &printed.text, &bytes, &wanted.as_slice());
-        expect_at(
-            &rt,
-            &printed.text,
-            read_map(rt.alloc(), bytes).expect(&rt, "a map") == map,
-        );
+        let is_same = is_map(read_map(rt.alloc(), bytes), &map);
+        expect_at(&rt, &printed.text, is_same);
     }
 }
 
 #[test]
 fn a_full_writer_is_a_fault(rt: HostRuntime) {
-    let map = read_map(rt.alloc(), b"0 'a' 'A' SOH soh fkey1 scr16 0x20ac DEL b").expect(
-        &rt, "a map",
-    );
+    let map = map_of(&rt, b"0 'a' 'A' SOH soh fkey1 scr16 0x20ac DEL b");
     let mut page = [0u8; 10];
     let mut writer = ToStd::new(page.as_mut_slice());
     let answer = print_map(&map, &mut writer);

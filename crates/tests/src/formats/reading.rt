@@ -1,6 +1,6 @@
 //! Reading texts, whole and in pieces: the keymaps that were worked out by hand, and when a fault is answered.
 
-use crate::asserts::{expect_at, expect_equal, expect_equal_at};
+use crate::asserts::{expect_at, expect_equal, expect_equal_at, map_of};
 use crate::formats::faults::FULL_ACCENT;
 use crate::support::keymaps::{ACCENTS, LETTER_AND_SHIFT, UPPER_HALF};
 use keymap_core::{Accent, Action, Cell, KeyMap, LockFlag, ToStd};
@@ -19,10 +19,10 @@ pub(crate) fn is_map<E: Drop>(answer: Result<KeyMap, E>, map: &KeyMap) -> bool {
 
 #[test]
 fn the_empty_text_is_the_map_of_no_keys(rt: HostRuntime) {
-    let map = read_map(rt.alloc(), b"").expect(&rt, "a map");
+    let map = map_of(&rt, b"");
     expect_equal(&rt, &(map.n_keys(), map.n_accs()), &(0, 0));
-    assert!(rt; map == KeyMap::new(rt.alloc()).expect(&rt, "memory"));
-    assert!(rt; map == map.try_clone(rt.alloc()).expect(&rt, "memory"));
+    assert!(rt; is_map(KeyMap::new(rt.alloc()), &map));
+    assert!(rt; is_map(map.try_clone(rt.alloc()), &map));
     let mut page = [b'x'; 1];
     print_map(&map, &mut ToStd::new(page.as_mut_slice())).expect(&rt, "a writer");
     expect_equal(&rt, &page, &[b'x']);
@@ -172,7 +172,7 @@ fn cell(typed: Typed) -> Option<Cell> {
 #[test]
 fn keys_are_read(rt: HostRuntime) {
     for &(text, n_keys, slot, cells, flag) in &KEYS {
-        let map = read_map(rt.alloc(), text).expect(&rt, "a map");
+        let map = map_of(&rt, text);
         expect_equal_at(&rt, &text, &map.n_keys(), &n_keys);
         let entry = map.entry(slot);
         for (given, typed) in entry.cells.iter().zip(cells) {
@@ -206,7 +206,7 @@ fn parts(accent: Option<&Accent>) -> Option<(char, &[(char, char)])> {
 #[test]
 fn accents_are_read(rt: HostRuntime) {
     for &(text, n_accs, index, own, pairs) in &ACCENTS_READ {
-        let map = read_map(rt.alloc(), text).expect(&rt, "a map");
+        let map = map_of(&rt, text);
         expect_equal_at(&rt, &text, &map.n_accs(), &n_accs);
         let accent = parts(map.accent(index));
         expect_equal_at(&rt, &text, &accent, &Some((own, pairs)));
@@ -241,23 +241,19 @@ static FEEDINGS: [Feeding; 8] = [
 #[test]
 fn faults_in_pieces_are_answered_in_time(rt: HostRuntime) {
     for &(pieces, offset, kind, early) in &FEEDINGS {
-        let wanted = TextFault {
-            offset,
-            line: 1,
-            kind,
-        };
+        let line = 1;
+        let wanted = TextFault { offset, line, kind };
         let mut reader = MapReader::new(rt.alloc()).expect(&rt, "memory");
         let mut answer = Ok(());
         for piece in pieces {
             assert!(rt; answer.is_ok() && reader.fed() <= 99 && piece.len() <= 99);
             answer = reader.feed(piece);
         }
+        let fault = early.then_some(wanted);
+        expect_equal_at(&rt, &pieces, &answer.err(), &fault);
         if early {
-            expect_equal_at(&rt, &pieces, &answer, &Err(wanted));
             assert!(rt; reader.fed() <= 99);
-            expect_equal_at(&rt, &pieces, &reader.feed(b" "), &Err(wanted));
-        } else {
-            expect_equal_at(&rt, &pieces, &answer, &Ok(()));
+            expect_equal_at(&rt, &pieces, &reader.feed(b" ").err(), &fault);
         }
         expect_equal_at(&rt, &pieces, &reader.finish().err(), &Some(wanted));
     }

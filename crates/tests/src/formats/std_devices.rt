@@ -62,23 +62,20 @@ static KINDS: [io::ErrorKind; 4] = [
 /// A call of the device is one call of the reader, and its flag stays; a loop over the device ends with the failure.
 #[test]
 fn a_read_of_std_is_made_once(rt: HostRuntime) {
-    let wanted = ReadFault {
-        offset: 0,
-        kind: ReadFaultKind::Device,
-    };
+    let (offset, kind) = (0, ReadFaultKind::Device);
+    let wanted = ReadFault { offset, kind };
     for &kind in &KINDS {
         let mut reader = failing_once(Some(kind));
         let mut device = FromStd::new(&mut reader);
         let mut buffer = [0; 4];
         let answers = (device.read(&mut buffer), device.failed());
         let answers_again = (device.read(&mut buffer), device.failed());
-        expect_equal(&rt, &answers, &(Err(Failed), true));
-        expect_equal(&rt, &answers_again, &(Ok(1), true));
-        expect_equal(&rt, &reader.calls, &2);
+        let given = (answers, answers_again, reader.calls);
+        expect_equal(&rt, &given, &((Err(Failed), true), (Ok(1), true), 2));
         let mut reader = failing_once(Some(kind));
         let answer = read_up_to(rt.alloc(), &mut FromStd::new(&mut reader), 4).err();
-        expect_equal(&rt, &answer, &Some(ReadError::Read(wanted)));
-        expect_equal(&rt, &reader.calls, &1);
+        let given = (answer, reader.calls);
+        expect_equal(&rt, &given, &(Some(ReadError::Read(wanted)), 1));
     }
 }
 
@@ -90,9 +87,8 @@ fn a_write_of_std_is_made_once(rt: HostRuntime) {
         let mut device = ToStd::new(&mut writer);
         let answers = (device.write(b"1234"), device.failed());
         let answers_again = (device.write(b"1234"), device.failed());
-        expect_equal(&rt, &answers, &(Err(Failed), true));
-        expect_equal(&rt, &answers_again, &(Ok(1), true));
-        expect_equal(&rt, &writer.calls, &2);
+        let given = (answers, answers_again, writer.calls);
+        expect_equal(&rt, &given, &((Err(Failed), true), (Ok(1), true), 2));
     }
     for error in [
         Some(io::ErrorKind::Interrupted),
@@ -101,7 +97,7 @@ fn a_write_of_std_is_made_once(rt: HostRuntime) {
     ] {
         let mut writer = failing_once(error);
         let answer = write_text(&mut ToStd::new(&mut writer), b"1234");
-        expect_equal(&rt, &answer, &Err(WriteFault { written: 0 }));
-        expect_equal(&rt, &writer.calls, &1);
+        let given = (answer, writer.calls);
+        expect_equal(&rt, &given, &(Err(WriteFault { written: 0 }), 1));
     }
 }

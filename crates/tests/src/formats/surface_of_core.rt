@@ -69,9 +69,8 @@ fn action_holding(rt: HostRuntime) {
     let lshift: Option<Holding> = action(&rt, 0x02).holding();
     let clock: Option<Holding> = action(&rt, 0x04).holding();
     let nop: Option<Holding> = action(&rt, 0x00).holding();
-    expect_at(&rt, &"lshift", is_modifier(lshift.expect(&rt, "lshift")));
-    expect_at(&rt, &"clock", !is_modifier(clock.expect(&rt, "clock")));
-    expect_equal(&rt, &nop, &None);
+    let modifiers = (lshift.map(is_modifier), clock.map(is_modifier), nop);
+    expect_equal(&rt, &modifiers, &(Some(true), Some(false), None));
 }
 
 #[test]
@@ -123,8 +122,7 @@ fn character(cell: Cell) -> Option<char> {
 fn cells(rt: HostRuntime) {
     let nul: Cell = Cell::Char('\0');
     let nop: Cell = Cell::Act(action(&rt, 0x00));
-    expect_equal(&rt, &character(nul), &Some('\0'));
-    expect_equal(&rt, &character(nop), &None);
+    expect_equal(&rt, &(character(nul), character(nop)), &(Some('\0'), None));
 }
 
 fn letter(flag: LockFlag) -> char {
@@ -147,8 +145,8 @@ fn entry_undefined(rt: HostRuntime) {
     let undefined: Entry = Entry::undefined();
     let Entry { cells, flag } = undefined;
     let _: [Cell; 8] = cells;
-    expect_equal(&rt, &character(cells[7]), &Some('\0'));
-    expect_equal(&rt, &letter(flag), &'O');
+    let given = (character(cells[7]), letter(flag));
+    expect_equal(&rt, &given, &(Some('\0'), 'O'));
 }
 
 #[test]
@@ -175,8 +173,7 @@ fn accent_push_pair(rt: HostRuntime) {
     let mut acute: Accent = Accent::new('\u{b4}');
     let pushed: Result<(), PairFault> = acute.push_pair('e', '\u{e9}');
     let refused: Result<(), PairFault> = acute.push_pair('\0', '\u{e9}');
-    expect_equal(&rt, &pushed, &Ok(()));
-    expect_equal(&rt, &refused.map_err(refusal), &Err(1));
+    expect_equal(&rt, &(pushed, refused.map_err(refusal)), &(Ok(()), Err(1)));
 }
 
 #[test]
@@ -230,8 +227,8 @@ fn key_map_set_accent(rt: HostRuntime) {
     let mut map: KeyMap = no_keys(&rt);
     let set: Result<(), BadAccent> = map.set_accent(14, Accent::new('x'));
     let refused: Result<(), BadAccent> = map.set_accent(15, Accent::new('x'));
-    expect_equal(&rt, &(set, refused), &(Ok(()), Err(BadAccent)));
-    expect_equal(&rt, &map.n_accs(), &15);
+    let given = (set, refused, map.n_accs());
+    expect_equal(&rt, &given, &(Ok(()), Err(BadAccent), 15));
 }
 
 #[test]
@@ -278,8 +275,8 @@ fn read_once<R: Read>(reader: &mut R) -> (Result<usize, Failed>, bool) {
 fn read(rt: HostRuntime) {
     let given = read_once(&mut reader_of(b"ab", 1, usize::MAX));
     let broken = read_once(&mut reader_of(b"", 1, 0));
-    expect_equal(&rt, &given, &(Ok(1), false));
-    expect_equal(&rt, &broken, &(Err(Failed), true));
+    let answers = [given, broken];
+    expect_equal(&rt, &answers, &[(Ok(1), false), (Err(Failed), true)]);
 }
 
 /// What one write and then the flag answer, of any writer.
@@ -293,8 +290,7 @@ fn write_once<W: Write>(writer: &mut W) -> (Result<usize, Failed>, bool) {
 fn write(rt: HostRuntime) {
     let taken = write_once(&mut sheet_of(2));
     let full = write_once(&mut sheet_of(0));
-    expect_equal(&rt, &taken, &(Ok(2), false));
-    expect_equal(&rt, &full, &(Err(Failed), true));
+    expect_equal(&rt, &[taken, full], &[(Ok(2), false), (Err(Failed), true)]);
 }
 
 #[test]
@@ -307,8 +303,8 @@ fn from_std_new(rt: HostRuntime) {
 fn to_std_new(rt: HostRuntime) {
     let mut room: [u8; 2] = [0; 2];
     let mut writer: ToStd<&mut [u8]> = ToStd::new(room.as_mut_slice());
-    expect_equal(&rt, &write_once(&mut writer), &(Ok(2), false));
-    expect_equal(&rt, &write_once(&mut writer), &(Err(Failed), true));
+    let answers = [write_once(&mut writer), write_once(&mut writer)];
+    expect_equal(&rt, &answers, &[(Ok(2), false), (Err(Failed), true)]);
 }
 
 #[test]
@@ -339,16 +335,10 @@ fn broken_at(error: ReadError) -> Option<u64> {
 #[test]
 fn read_up_to_a_limit(rt: HostRuntime) {
     let max: usize = 3;
-    let bytes: Result<Vec<u8>, ReadError> = read_up_to(
-        rt.alloc(),
-        &mut reader_of(b"12345", 1, usize::MAX),
-        max,
-    );
-    expect_equal(
-        &rt,
-        &bytes.expect(&rt, "bytes").as_slice(),
-        &b"123".as_slice(),
-    );
+    let mut tape = reader_of(b"12345", 1, usize::MAX);
+    let bytes: Result<Vec<u8>, ReadError> = read_up_to(rt.alloc(), &mut tape, max);
+    let bytes: Vec<u8> = bytes.expect(&rt, "bytes");
+    expect_equal(&rt, &bytes.as_slice(), &b"123".as_slice());
 }
 
 #[test]

@@ -1,6 +1,7 @@
 //! keymap_tables: table files and narrow files.
 
-use crate::asserts::{expect_at, expect_equal};
+use crate::asserts::{expect_at, expect_equal, map_of};
+use crate::formats::table_faults::change;
 use crate::support::devices::{Sheet, reader_of, sheet_of};
 use crate::support::keymaps::LETTER_AND_SHIFT;
 use keymap_core::{KeyMap, ReadFault, WriteFault};
@@ -8,12 +9,11 @@ use keymap_tables::{
     NarrowError, TableError, TableFault, TableFaultKind, Wide, read_narrow, read_narrow_from,
     read_tables, read_tables_from, write_narrow, write_tables,
 };
-use keymap_text::read_map;
 use std::process::Abort;
 
 /// The keymap of two keys.
 fn sample<R: Abort + AllocGlobal>(rt: &R) -> KeyMap {
-    read_map(rt.alloc(), LETTER_AND_SHIFT).expect(rt, "a map")
+    map_of(rt, LETTER_AND_SHIFT)
 }
 
 #[test]
@@ -68,11 +68,7 @@ static FAULTS: [(&[(usize, u8)], (u64, u8)); 7] = [
 fn table_fault_of_each_kind(rt: HostRuntime) {
     for &(changes, wanted) in &FAULTS {
         let mut file = [0; 15_524];
-        for &(place, byte) in changes {
-            if let Some(changed) = file.get_mut(place) {
-                *changed = byte;
-            }
-        }
+        change(&mut file, changes);
         let map: Result<KeyMap, TableError> = read_tables(rt.alloc(), &file);
         expect_equal(&rt, &map.err().and_then(judged), &Some(wanted));
     }
@@ -82,19 +78,16 @@ fn table_fault_of_each_kind(rt: HostRuntime) {
 fn read_tables_of_a_length(rt: HostRuntime) {
     let map: Result<KeyMap, TableError> = read_tables(rt.alloc(), &[0; 15_524]);
     expect_equal(&rt, &map.expect(&rt, "a map").n_keys(), &0);
-    let short = read_tables(rt.alloc(), &[0; 15_523]).err();
-    expect_equal(&rt, &short.and_then(judged), &Some((15_523, 1)));
-    let long = read_tables(rt.alloc(), &[0; 15_525]).err();
-    expect_equal(&rt, &long.and_then(judged), &Some((15_524, 2)));
+    let short = read_tables(rt.alloc(), &[0; 15_523]).err().and_then(judged);
+    let long = read_tables(rt.alloc(), &[0; 15_525]).err().and_then(judged);
+    expect_equal(&rt, &(short, long), &(Some((15_523, 1)), Some((15_524, 2))));
 }
 
 #[test]
 fn read_tables_from_a_tape(rt: HostRuntime) {
     let file = [0; 15_524];
-    let map: Result<KeyMap, TableError> = read_tables_from(
-        rt.alloc(),
-        &mut reader_of(&file, 1, usize::MAX),
-    );
+    let mut tape = reader_of(&file, 1, usize::MAX);
+    let map: Result<KeyMap, TableError> = read_tables_from(rt.alloc(), &mut tape);
     expect_equal(&rt, &map.expect(&rt, "a map").n_keys(), &0);
 }
 
@@ -120,12 +113,12 @@ fn numbers(wide: Wide) -> (u8, u8) {
 #[test]
 fn write_narrow_of_a_wide_map(rt: HostRuntime) {
     let text = b"0 'a' 'A' SOH soh fkey1 scr16 0x20ac DEL b";
-    let map = read_map(rt.alloc(), text).expect(&rt, "a map");
+    let map = map_of(&rt, text);
     let mut page = sheet_of(4_139);
     let written: Result<(), NarrowError> = write_narrow(&map, &mut page);
     let wide: Option<Wide> = written.err().and_then(too_wide);
-    expect_equal(&rt, &wide, &Some(Wide::Cell { slot: 0, column: 6 }));
-    expect_equal(&rt, &wide.map(numbers), &Some((0, 6)));
+    let wanted = (Some(Wide::Cell { slot: 0, column: 6 }), Some((0, 6)));
+    expect_equal(&rt, &(wide, wide.map(numbers)), &wanted);
     expect_at(&rt, &"nothing is written", page.bytes.is_empty());
 }
 

@@ -1,6 +1,6 @@
 //! keymap_text: tokens, words, the reader of texts and the printer.
 
-use crate::asserts::expect_equal;
+use crate::asserts::{expect_equal, map_of};
 use crate::support::devices::{reader_of, sheet_of};
 use crate::support::keymaps::LETTER_AND_SHIFT;
 use keymap_core::{Action, KeyMap, LockFlag, ReadFault, ReadFaultKind, WriteFault};
@@ -135,10 +135,8 @@ fn judged(error: TextError) -> Option<(u64, u64, u8)> {
 
 #[test]
 fn read_map_of_a_map(rt: HostRuntime) {
-    let map: Result<KeyMap, TextError> = read_map(
-        rt.alloc(),
-        b"255 nop nop nop nop nop nop nop nop O",
-    );
+    let text = b"255 nop nop nop nop nop nop nop nop O";
+    let map: Result<KeyMap, TextError> = read_map(rt.alloc(), text);
     expect_equal(&rt, &map.expect(&rt, "a map").n_keys(), &256);
 }
 
@@ -167,15 +165,15 @@ fn text_fault_of_each_kind(rt: HostRuntime) {
 /// The keymap of one key.
 fn euro<R: Abort + AllocGlobal>(rt: &R) -> KeyMap {
     let text = b"0 'a' 'A' SOH soh fkey1 scr16 0x20ac DEL b";
-    read_map(rt.alloc(), text).expect(rt, "a map")
+    map_of(rt, text)
 }
 
 #[test]
 fn print_map_to_a_page(rt: HostRuntime) {
     let mut page = sheet_of(10);
     let printed: Result<(), WriteFault> = print_map(&euro(&rt), &mut page);
-    expect_equal(&rt, &printed, &Err(WriteFault { written: 10 }));
-    expect_equal(&rt, &page.bytes.as_slice(), &b"000 'a'   ".as_slice());
+    let wanted = (Err(WriteFault { written: 10 }), b"000 'a'   ".as_slice());
+    expect_equal(&rt, &(printed, page.bytes.as_slice()), &wanted);
 }
 
 #[test]
@@ -188,12 +186,11 @@ fn map_reader_new(rt: HostRuntime) {
 #[test]
 fn map_reader_feed(rt: HostRuntime) {
     let mut reader: MapReader = MapReader::new(rt.alloc()).expect(&rt, "a reader");
-    let first: Result<(), TextFault> = reader.feed(b"25");
-    expect_equal(&rt, &(first, reader.fed()), &(Ok(()), 2));
-    let second: Result<(), TextFault> = reader.feed(b"6");
-    expect_equal(&rt, &(second, reader.fed()), &(Ok(()), 3));
+    let first: (Result<(), TextFault>, u64) = (reader.feed(b"25"), reader.fed());
+    let second: (Result<(), TextFault>, u64) = (reader.feed(b"6"), reader.fed());
     let third: Result<(), TextFault> = reader.feed(b" ");
-    expect_equal(&rt, &third.map_err(parts_of), &Err((0, 1, 5)));
+    let given = (first, second, third.map_err(parts_of));
+    expect_equal(&rt, &given, &((Ok(()), 2), (Ok(()), 3), Err((0, 1, 5))));
 }
 
 #[test]
@@ -206,9 +203,7 @@ fn map_reader_finish(rt: HostRuntime) {
 
 #[test]
 fn read_from_a_tape(rt: HostRuntime) {
-    let map: Result<KeyMap, TextError> = read_from(
-        rt.alloc(),
-        &mut reader_of(LETTER_AND_SHIFT, 1, usize::MAX),
-    );
+    let mut tape = reader_of(LETTER_AND_SHIFT, 1, usize::MAX);
+    let map: Result<KeyMap, TextError> = read_from(rt.alloc(), &mut tape);
     expect_equal(&rt, &map.expect(&rt, "a map").n_keys(), &43);
 }

@@ -1,17 +1,25 @@
 //! Faults of table files of both forms: wrong lengths, changed bytes, and readers without an end.
 
-use crate::asserts::{expect_at, expect_equal_at};
+use crate::asserts::{expect_at, expect_equal_at, map_of};
 use crate::formats::tables::{FORMS, Form, LENGTH, NARROW_LENGTH, file_of};
 use crate::support::devices::endless_tape_of;
 use crate::support::keymaps::LETTER_AND_SHIFT;
 use keymap_core::{FromStd, KeyMap, Read};
 use keymap_tables::{TableError, TableFault, TableFaultKind};
-use keymap_text::read_map;
 use std::alloc::Global;
 use std::process::Abort;
 
 /// More zeros than a table file has.
 static ZEROS: [u8; 15_525] = [0; 15_525];
+
+/// Changes bytes, each with its place.
+pub(crate) fn change(bytes: &mut [u8], changes: &[(usize, u8)]) {
+    for &(place, byte) in changes {
+        if let Some(changed) = bytes.get_mut(place) {
+            *changed = byte;
+        }
+    }
+}
 
 /// The fault of the bytes, where that is the answer.
 fn fault_of(answer: Result<KeyMap, TableError>) -> Option<TableFault> {
@@ -194,30 +202,24 @@ fn each_fault_is_at_its_offset(rt: HostRuntime) {
     for &(form, count, changes, offset, kind) in &FAULTY {
         let zeros = ZEROS.get(..count).expect(&rt, "zeros");
         let mut bytes = zeros.to_vec(rt.alloc()).expect(&rt, "memory");
-        for &(place, byte) in changes {
-            if let Some(changed) = bytes.get_mut(place) {
-                *changed = byte;
-            }
-        }
+        change(&mut bytes, changes);
         let wanted = Some(TableFault { offset, kind });
-        let answer = form.read(rt.alloc(), &bytes);
-        expect_equal_at(&rt, &(form, changes), &fault_of(answer), &wanted);
-        let answer = form.read_from(rt.alloc(), &mut FromStd::new(bytes.as_slice()));
-        expect_equal_at(&rt, &(form, changes), &fault_of(answer), &wanted);
+        let fault = fault_of(form.read(rt.alloc(), bytes.as_slice()));
+        let mut reader = FromStd::new(bytes.as_slice());
+        let read = fault_of(form.read_from(rt.alloc(), &mut reader));
+        expect_equal_at(&rt, &(form, changes), &(fault, read), &(wanted, wanted));
     }
 }
 
 #[test]
 fn each_proper_prefix_is_short(rt: HostRuntime) {
-    let map = read_map(rt.alloc(), LETTER_AND_SHIFT).expect(&rt, "a map");
+    let map = map_of(&rt, LETTER_AND_SHIFT);
     for &form in &FORMS {
         let sheet = file_of(&rt, form, &map);
         for length in 0..form.length() {
             let prefix = sheet.bytes.as_slice().get(..length).unwrap_or(b"");
-            let wanted = TableFault {
-                offset: length as u64,
-                kind: TableFaultKind::Short,
-            };
+            let (offset, kind) = (length as u64, TableFaultKind::Short);
+            let wanted = TableFault { offset, kind };
             let fault = fault_of(form.read(rt.alloc(), prefix));
             expect_equal_at(&rt, &(form, length), &fault, &Some(wanted));
         }
@@ -229,10 +231,8 @@ fn each_proper_prefix_is_short(rt: HostRuntime) {
 fn a_reader_without_end_is_left(rt: HostRuntime) {
     for &form in &FORMS {
         let mut reader = endless_tape_of(0);
-        let wanted = TableFault {
-            offset: form.length() as u64,
-            kind: TableFaultKind::Long,
-        };
+        let (offset, kind) = (form.length() as u64, TableFaultKind::Long);
+        let wanted = TableFault { offset, kind };
         let fault = fault_of(form.read_from(rt.alloc(), &mut reader));
         expect_equal_at(&rt, &form, &fault, &Some(wanted));
         assert!(rt; reader.reads as usize <= form.length().saturating_add(2) && !reader.failed());
@@ -251,19 +251,13 @@ fn is_read_exactly(rt: &impl Abort, alloc: Global, form: Form, bytes: &[u8]) -> 
 /// Each byte in turn plus one, and with its top bit turned.
 #[test]
 fn each_changed_byte_is_a_fault_or_another_map(rt: HostRuntime) {
-    let map = read_map(rt.alloc(), LETTER_AND_SHIFT).expect(&rt, "a map");
-    let sheet = file_of(&rt, Form::Wide, &map);
-    let mut bytes = sheet
-        .bytes
-        .as_slice()
-        .to_vec(rt.alloc())
-        .expect(&rt, "memory");
-    for (place, &byte) in sheet.bytes.as_slice().iter().enumerate() {
+    let mut sheet = file_of(&rt, Form::Wide, &map_of(&rt, LETTER_AND_SHIFT));
+    let bytes = sheet.bytes.as_mut_slice();
+    for place in 0..bytes.len() {
+        let byte = bytes[place];
         for changed in [byte.wrapping_add(1), byte ^ 0x80, byte] {
-            if let Some(there) = bytes.get_mut(place) {
-                *there = changed;
-            }
-            let is_exact = changed == byte || is_read_exactly(&rt, rt.alloc(), Form::Wide, &bytes);
+            bytes[place] = changed;
+            let is_exact = changed == byte || is_read_exactly(&rt, rt.alloc(), Form::Wide, bytes);
             expect_at(&rt, &(place, changed), is_exact);
         }
     }

@@ -1,6 +1,6 @@
 //! Table files of both forms: their bytes as they were published, and what a narrow file can't hold.
 
-use crate::asserts::{expect_at, expect_equal, expect_equal_at};
+use crate::asserts::{expect_at, expect_equal, expect_equal_at, map_of};
 use crate::formats::reading::is_map;
 use crate::support::devices::{Sheet, sheet_of};
 use crate::support::keymaps::{
@@ -12,7 +12,6 @@ use keymap_tables::{
     NarrowError, TableError, Tables, Wide, read_narrow, read_narrow_from, read_tables,
     read_tables_from, write_narrow, write_tables,
 };
-use keymap_text::read_map;
 use std::alloc::Global;
 use std::process::Abort;
 
@@ -154,6 +153,10 @@ fn most_writes(form: Form) -> u32 {
     }
 }
 
+fn is_used(byte: &&u8) -> bool {
+    **byte != 0
+}
+
 /// Asserts that the bytes stand at their places, and that so many of all are not 0.
 fn expect_bytes(
     rt: &impl Abort,
@@ -167,7 +170,7 @@ fn expect_bytes(
         let given = bytes.get(place..).unwrap_or(b"");
         expect_at(rt, &(row.0, place), given.starts_with(wanted));
     }
-    let count = bytes.iter().filter(|byte| **byte != 0).count();
+    let count = bytes.iter().filter(is_used).count();
     expect_equal_at(rt, &row, &count, &used);
 }
 
@@ -181,7 +184,7 @@ fn expect_read(rt: &impl Abort, alloc: Global, row: (Form, &[u8]), bytes: &[u8],
 #[test]
 fn files_have_their_bytes(rt: HostRuntime) {
     for &(form, text, places, used) in &FILES {
-        let map = read_map(rt.alloc(), text).expect(&rt, "a map");
+        let map = map_of(&rt, text);
         let sheet = file_of(&rt, form, &map);
         let bytes = sheet.bytes.as_slice();
         expect_bytes(&rt, (form, text), bytes, places, used);
@@ -234,9 +237,8 @@ static TOO_WIDE: [(&[u8], Wide); 6] = [
 #[test]
 fn the_first_place_that_does_not_fit_is_named(rt: HostRuntime) {
     for &(text, wide) in &TOO_WIDE {
-        let map = read_map(rt.alloc(), text).expect(&rt, "a map");
         let mut sheet = sheet_of(LENGTH);
-        let answer = write_narrow(&map, &mut sheet);
+        let answer = write_narrow(&map_of(&rt, text), &mut sheet);
         expect_equal_at(&rt, &text, &answer, &Err(NarrowError::TooWide(wide)));
         assert!(rt; sheet.bytes.is_empty() && sheet.writes == 0 && !sheet.failed());
     }
@@ -259,8 +261,7 @@ static MIGRATED: [&[u8]; 10] = [
 #[test]
 fn wide_files_become_narrow_and_come_back(rt: HostRuntime) {
     for &text in &MIGRATED {
-        let map = read_map(rt.alloc(), text).expect(&rt, "a map");
-        let old = file_of(&rt, Form::Wide, &map);
+        let old = file_of(&rt, Form::Wide, &map_of(&rt, text));
         let map = read_tables(rt.alloc(), old.bytes.as_slice()).expect(&rt, "a map");
         let narrow = file_of(&rt, Form::Narrow, &map);
         let back = read_narrow(rt.alloc(), narrow.bytes.as_slice()).expect(&rt, "a map");
@@ -275,10 +276,12 @@ fn wide_files_become_narrow_and_come_back(rt: HostRuntime) {
 fn what_is_no_cell_reads_as_character_0(rt: HostRuntime) {
     let bytes = [0xff; LENGTH];
     let tables = Tables::new(&bytes).expect(&rt, "tables");
-    expect_equal(&rt, &tables.cell(0, 0), &Cell::Char('\0'));
-    expect_equal(&rt, &tables.cell(255, 7), &Cell::Char('\0'));
-    expect_equal(&rt, &tables.flag(255), &LockFlag::O);
-    expect_equal(&rt, &tables.own(14), &None);
-    expect_equal(&rt, &tables.own(15), &None);
-    expect_equal(&rt, &tables.composed(0, 'a'), &None);
+    let key = (tables.cell(0, 0), tables.cell(255, 7), tables.flag(255));
+    let accents = (tables.own(14), tables.own(15), tables.composed(0, 'a'));
+    expect_equal(
+        &rt,
+        &key,
+        &(Cell::Char('\0'), Cell::Char('\0'), LockFlag::O),
+    );
+    expect_equal(&rt, &accents, &(None, None, None));
 }

@@ -3,7 +3,9 @@
 use crate::asserts::{expect_equal, expect_equal_at};
 use keymap_core::{Action, LockFlag};
 use keymap_text::TextFaultKind::{BadByte, BadLiteral, BadWord, EndInside};
-use keymap_text::{Meaning, Span, TextFaultKind, Token, TokenKind, next_token, word_meaning};
+use keymap_text::{
+    Meaning, Span, TextFault, TextFaultKind, Token, TokenKind, next_token, word_meaning,
+};
 use std::process::Abort;
 
 /// A text, a place, and the first token from there, where it begins and ends, or none.
@@ -58,8 +60,8 @@ fn first_tokens_are_found(rt: HostRuntime) {
     let token = next_token(b"abc", 1)
         .expect(&rt, "no fault")
         .expect(&rt, "a token");
-    expect_equal(&rt, &token.slice, &b"bc".as_slice());
-    expect_equal(&rt, &token.span, &Span { start: 1, end: 3 });
+    let wanted = (b"bc".as_slice(), Span { start: 1, end: 3 });
+    expect_equal(&rt, &(token.slice, token.span), &wanted);
 }
 
 /// A text, a place, and the fault of the first token from there, with its offset and line.
@@ -92,13 +94,8 @@ static BROKEN: [(&[u8], usize, TextFaultKind, u64, u64); 23] = [
 #[test]
 fn broken_tokens_are_refused(rt: HostRuntime) {
     for &(text, from, kind, offset, line) in &BROKEN {
-        let fault = next_token(text, from).err().expect(&rt, "a fault");
-        expect_equal_at(
-            &rt,
-            &text,
-            &(fault.kind, fault.offset, fault.line),
-            &(kind, offset, line),
-        );
+        let fault = TextFault { offset, line, kind };
+        expect_equal_at(&rt, &text, &next_token(text, from).err(), &Some(fault));
     }
 }
 

@@ -25,11 +25,8 @@ fn readers_and_writers_of_std_are_devices(rt: HostRuntime) {
     assert!(rt; !reader.failed());
     let mut room = [0u8; 4];
     let mut writer = ToStd::new(room.as_mut_slice());
-    expect_equal(
-        &rt,
-        &write_text(&mut writer, b"12345"),
-        &Err(WriteFault { written: 4 }),
-    );
+    let answer = write_text(&mut writer, b"12345");
+    expect_equal(&rt, &answer, &Err(WriteFault { written: 4 }));
     assert!(rt; writer.failed());
 }
 

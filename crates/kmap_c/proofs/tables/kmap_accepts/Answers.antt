@@ -32,3 +32,6 @@ returns-in-None-clause-faulty c = unfaulty _ c.args.tables.now (λ e. cc) c.in-O
 
 pub returns-in-Some-first_finding-clause-faulty : goal.returns-in-Some-first_finding-clause-faulty
 returns-in-Some-first_finding-clause-faulty c = unfaulty _ c.args.tables.now (λ e. cc) c.in-Ok.ensures.image
+
+pub returns-in-Some-first_finding-clause-unchanged : goal.returns-in-Some-first_finding-clause-unchanged
+returns-in-Some-first_finding-clause-unchanged c = λ others. absurd (others refl)

@@ -3,9 +3,10 @@
 #                    where nothing changed
 # make quick         types a line with a program that is built without a proof, once: QUICK='check de.kbd' for other words,
 #                    in examples/
-# make test          runs all tests on what it builds without a proof, in minutes
+# make test          runs all tests on what it builds without a proof, in 5 to 9 minutes of processor time
 # make check         the gate: `make test`, then proves every crate that this machine has not proved as it stands, tries
-#                    its edits that must be refused, and runs the scripts on what is proved
+#                    its edits that must be refused, and runs the scripts on what is proved, in one to two and a half
+#                    hours of processor time from nothing, as fast as the machine is
 # make bench         measures the program on large inputs, and fails where a limit of bench/limits is passed
 # make install       installs the program, the C library with its header, manual pages, completions, examples and
 #                    documents below $(DESTDIR)$(PREFIX), and writes nothing here where all is built

@@ -1,8 +1,8 @@
 -- A map has no findings exactly if it is safe.
 use Rattle.keymap_check.proofs.Common.{zero, suc, ◌≡◌, ℕ, ◌<◌, ◌++◌, List, [], ◌∷◌, Option, Some, None, refl, ap, subst}
 use Rattle.keymap_check.proofs.Common.{sym, ◌∙◌, inl, inr, arith, true≢false, MapValue, IsCellOf, Act, Char}
-use Rattle.keymap_check.proofs.Common.{gathered, below-suc, first_place, cell_of, finding_by, findings_at}
-use Rattle.keymap_check.proofs.Common.{IsUnsafeKey, has_some, Finding, true, ◌&&◌, and_parts, is_some, ◌↔◌, holding_action}
+use Rattle.keymap_check.proofs.Common.{gathered, below-suc, first_place, cell_of, finding_by, findings_at, is_some}
+use Rattle.keymap_check.proofs.Common.{IsUnsafeKey, has_some, Finding, true, ◌&&◌, and_parts, ◌↔◌, holding_action}
 use Rattle.std.proofs.lemmas.Bool.{and_from}
 use Rattle.keymap_check.specs.Report.{NoFindingsExactlyIfSafe}
 use Rattle.keymap_check.proofs.Same.{character-cell, IsHeldBy, holding-cell, holding-any}

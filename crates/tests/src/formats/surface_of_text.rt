@@ -3,7 +3,7 @@
 use crate::asserts::{expect_equal, map_of};
 use crate::support::devices::{reader_of, sheet_of};
 use crate::support::keymaps::LETTER_AND_SHIFT;
-use keymap_core::{Action, KeyMap, LockFlag, ReadFault, ReadFaultKind, WriteFault};
+use keymap_core::{Action, KeyMap, LockFlag, ReadFault, WriteFault};
 use keymap_text::{
     MapReader, Meaning, Span, TextError, TextFault, TextFaultKind, Token, TokenKind, next_token,
     print_map, read_from, read_map, word_meaning,

@@ -89,6 +89,7 @@ other-build:
 # the tests of what stands in the repository, and of the scripts themselves: `make test` alone runs these
 texts:
 	@$(LINK_SHARED)
+	RT="$(RT)" sh tests/layout.sh
 	sh tests/statements.sh
 	sh tests/names.sh
 	sh tests/words.sh

@@ -143,6 +143,8 @@ broken docs/ARCHITECTURE.md 's/-> Borne -> Bearing/-> Bearing -> Borne/' \
     'failed: docs/ARCHITECTURE.md has an arrow from Bearing to Borne, which uses it' sh copy/tests/modules.sh
 broken docs/PROOFS.md 's,`tests/files.sh`,`tests/paths.sh`,' \
     'failed: docs/PROOFS.md names tests/paths.sh, which is there' sh copy/tests/modules.sh
+broken crates/messages/src/lib.rt 's/^mod /  mod /;s/^pub use/  pub use/' 'failed: messages is as `rt fmt` writes it' \
+    sh copy/tests/layout.sh messages
 broken docs/FORMATS.md 's/no key is defined/no key is there/;s/defines no key/has no key/' \
     'bad NO_KEY' sh copy/tests/words.sh
 
@@ -177,9 +179,9 @@ refuses 'failed: there is no .*/copy/tests/transcripts/' transcripts
 cp "$top"/tests/transcripts/*.t copy/tests/transcripts
 
 # Edits that must fail, by a kit that only tells what a prover said: two of a file that are refused where it says, one that
-# is refused elsewhere, in a branch, for a name that is gone, without the edit too, ones that can't be applied, of which
-# nothing is told, that say nothing, and none at all. Without the edits nothing is checked in a crate that was proved just
-# before, unless a proof there rests on another function. And a kit that has no such function.
+# is refused elsewhere, in a branch, for a goal or a step that is gone, without the edit too, ones that can't be applied,
+# of which nothing is told, that say nothing, and none at all. Without the edits nothing is checked in a crate that was
+# proved just before, unless a proof there rests on another function. And a kit that has no such function.
 file=crates/keymap_check/must-fail/promises.edit
 rm -r copy/crates/*/must-fail
 mkdir -p "copy/${file%/*}" kit/bin
@@ -257,6 +259,9 @@ refuses "$wrong accepted whole, is_acting kept" is_refused
 tells 'proofs/Steady.antt:1:1: error: `steady` is not proved' "$also"
 refuses "$wrong Steady.antt steady, accepted whole" is_refused
 holds 'the other edit is refused' grep -qx '1 edits refused where they say, 1 not' said
+tells 'proofs/bearer/is_acting/Answers.antt:3:5: error: `returns`: record `Lts.After-has`
+  has no field `key`' "$also"
+refuses "$wrong accepted whole" is_refused
 echo 'BAD EDIT: it stands there no more' > told
 refuses "$wrong BAD EDIT" is_refused
 : > told

@@ -12,7 +12,7 @@ use Rattle.keymap_diff.specs.Inner.Searches.{AreNear, GoesBeyond, IsClearBehind,
 use Rattle.keymap_diff.specs.Inner.Searches.{IsFoundBy, IsMetAt, NonePlainFrom, bound_by}
 use Rattle.keymap_diff.specs.declared.telling.Telling.{Telling}
 use Rattle.keymap_diff.specs.declared.telling.Telling.TheVariants.{Told, Never, Undecided}
-use Rattle.keymap_diff.proofs.Common.{Bool, same_Some}
+use Rattle.keymap_diff.proofs.Common.{Bool, false, true, none-some, same_Some}
 use Rattle.keymap_diff.specs.Inner.Showing.{NoneShowsBelow, IsFirstShown}
 use Rattle.keymap_diff.specs.declared.searched.Searched.{Searched}
 use Rattle.keymap_diff.specs.declared.showing.Shown.{Shown}
@@ -124,16 +124,28 @@ searched-plain m n x at q s shown beyond none path is lt k key =
 
     earlier : (j : ℕ) (y : Entry) → slice_get x.met.entries j ≡ Some y → j < at.place
         → ShowsNothing m n None (state_of y.0) k
-    earlier j y there before = search rules
+    earlier j y there before =
+        let (z, here, low, shows, none) : IsFirstShown m n None x.met.entries at.place at.key =
+        subst (λ o. MatchOption o (NoneShowsBelow m n None x.met.entries (length x.met.entries))
+        (λ a. IsFirstShown m n None x.met.entries a.place a.key)) shown s.shown in
+        none j y there before k key
+
+-- what is within the bound is no more than the limit
+below : {b : ℕ} (wants : Bool) (limit : Option ℕ) (p : ℕ) → limit ≡ Some p → IsWithin (b + 1) (bound_by wants limit)
+    → b ≤ p
+below false (Some q) p e is = let same = same_Some q p e in omega (arith, same, is)
+below true (Some q) p e is = let same = same_Some q p e in omega (arith, same, is)
+below wants None p e is = absurd (none-some p e)
 
 -- where fewer presses lead than what would be taken instead has, no key shows anything
 pub cells-within : (m n : MapValue) (t : Telling) (limit : Option ℕ) (wants : Bool) (b : ℕ)
     → IsFoundBy m n t limit wants
     → IsWithin (b + 1) (bound_by wants limit) → AreCellsClear m n b
 cells-within m n (Told events old new) limit wants b (told, (p, e, count, cells, settled)) is =
-    search rules
+    let le = below wants limit p e is in λ path of lt. cells path of (omega (arith, lt, le))
 cells-within m n (Never forgets) limit wants b (e, off, never, cells) is = cells b
-cells-within m n (Undecided p) limit wants b (e, off, many, cells) is = search rules
+cells-within m n (Undecided p) limit wants b (e, off, many, cells) is =
+    let le = below wants limit p e is in λ path of lt. cells path of (omega (arith, lt, le))
 
 -- ---- from the places that offer an accent
 

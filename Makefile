@@ -86,16 +86,18 @@ other-build:
 	sh tests/stopped.sh $(PROGRAM).by-rattle
 	sh tests/both_builds.sh $(PROGRAM) $(PROGRAM).by-rattle
 
-# the tests of what stands in the repository, and of the scripts themselves: `make test` alone runs these
+# the tests of what stands in the repository, of the scripts themselves, and of how costs grow, which is the same however
+# the program is built: `make test` alone runs these
 texts:
 	@$(LINK_SHARED)
-	RT="$(RT)" sh tests/layout.sh
+	RT="$(RT)" python3 tests/layout
 	sh tests/statements.sh
 	sh tests/names.sh
 	sh tests/words.sh
 	sh tests/modules.sh
 	python3 -B bench/unseen.py --check
 	sh tests/checks.sh $(PROGRAM)
+	sh tests/linear.sh $(PROGRAM)
 
 # the tests of what is built; `make check` builds the static library alone
 scripts:
@@ -113,7 +115,6 @@ scripts:
 	sh tests/guide.sh
 	sh tests/refused_memory.sh $(PROGRAM)
 	sh tests/refused_calls.sh $(TESTS)
-	sh tests/linear.sh $(PROGRAM)
 
 bench: all
 	@RT="$(RT)" sh build.sh tests out/tests_tests test

@@ -144,7 +144,7 @@ broken docs/ARCHITECTURE.md 's/-> Borne -> Bearing/-> Bearing -> Borne/' \
 broken docs/PROOFS.md 's,`tests/files.sh`,`tests/paths.sh`,' \
     'failed: docs/PROOFS.md names tests/paths.sh, which is there' sh copy/tests/modules.sh
 broken crates/messages/src/lib.rt 's/^mod /  mod /;s/^pub use/  pub use/' 'failed: messages is as `rt fmt` writes it' \
-    sh copy/tests/layout.sh messages
+    python3 copy/tests/layout messages
 broken docs/FORMATS.md 's/no key is defined/no key is there/;s/defines no key/has no key/' \
     'bad NO_KEY' sh copy/tests/words.sh
 

@@ -7,22 +7,22 @@ use std::fmt::Debug;
 use std::process::Abort;
 
 /// The values are equal; else the test fails and shows both.
-pub(crate) fn expect_equal<T: PartialEq + Debug>(rt: &impl Abort, left: &T, right: &T) {
+pub(crate) fn expect_equal<T: PartialEq + Debug + Copy>(rt: &impl Abort, left: T, right: T) {
     assert_eq!(rt; left, right);
 }
 
 /// The values of a row of a table are equal; else the test fails and names the row.
-pub(crate) fn expect_equal_at<R: Debug, T: PartialEq + Debug>(
+pub(crate) fn expect_equal_at<R: Debug + Copy, T: PartialEq + Debug + Copy>(
     rt: &impl Abort,
-    row: &R,
-    left: &T,
-    right: &T,
+    row: R,
+    left: T,
+    right: T,
 ) {
     assert_eq!(rt; left, right, "{row:?}");
 }
 
 /// The condition holds; else the test fails and names the row of a table.
-pub(crate) fn expect_at<R: Debug>(rt: &impl Abort, row: &R, holds: bool) {
+pub(crate) fn expect_at<R: Debug + Copy>(rt: &impl Abort, row: R, holds: bool) {
     assert!(rt; holds, "{row:?}");
 }
 

@@ -37,11 +37,11 @@ pub(crate) fn expect_shown<T: Translator>(
 ) {
     for modifier in MODIFIERS {
         let is_on = console.on(modifier);
-        expect_equal_at(rt, &modifier, &is_on, &on.contains(&modifier));
+        expect_equal_at(rt, modifier, is_on, on.contains(&modifier));
     }
     for lock in LOCKS {
         let is_locked = console.locked(lock);
-        expect_equal_at(rt, &lock, &is_locked, &locked.contains(&lock));
+        expect_equal_at(rt, lock, is_locked, locked.contains(&lock));
     }
-    expect_equal(rt, &console.pending(), &pending);
+    expect_equal(rt, console.pending(), pending);
 }

@@ -86,5 +86,5 @@ fn differences_are_as_worked_out(rt: HostRuntime) {
         pair('n', '\u{f1}'),
         pair('o', '\u{f5}'),
     ];
-    expect_equal(&rt, &found.as_slice(), &expected.as_slice());
+    expect_equal(&rt, found.as_slice(), expected.as_slice());
 }

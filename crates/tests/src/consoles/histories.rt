@@ -293,7 +293,7 @@ fn deliver<T: Translator>(rt: &impl Abort, console: &mut T, steps: &[Step]) {
     expect_shown(rt, console, &[], &[], None);
     for (input, output, on, locked, pending) in steps {
         let given = console.step(event(rt, *input));
-        expect_equal_at(rt, input, &given, &answer(rt, *output));
+        expect_equal_at(rt, input, given, answer(rt, *output));
         expect_shown(rt, console, on, locked, *pending);
     }
 }
@@ -394,7 +394,7 @@ fn expect_replay<T: Translator>(
     let events = events_of(rt, alloc, replayed.inputs);
     let given = replay(alloc, console, events.as_slice()).expect(rt, "answers");
     let wanted = answers_of(rt, alloc, replayed.outputs);
-    expect_equal(rt, &given.as_slice(), &wanted.as_slice());
+    expect_equal(rt, given.as_slice(), wanted.as_slice());
     expect_shown(rt, console, replayed.on, &[], replayed.pending);
 }
 
@@ -418,7 +418,7 @@ fn expect_same_after_reset<T: Translator>(
     let quiet = events_of(rt, alloc, &QUIET);
     let _answers = replay(alloc, first, quiet.as_slice()).expect(rt, "answers");
     let _answers = replay(alloc, second, quiet.as_slice()).expect(rt, "answers");
-    expect_equal(rt, &second.step(Event::Reset), &Answer::None);
+    expect_equal(rt, second.step(Event::Reset), Answer::None);
     expect_replay(rt, alloc, first, &PRESSED_ONCE_MORE);
     expect_replay(rt, alloc, second, &PRESSED_ONCE_MORE);
 }
@@ -455,7 +455,7 @@ static RAW: [(Input, u32, &[Modifier]); 7] = [
 fn expect_raw<T: Translator>(rt: &impl Abort, console: &mut T) {
     for &(input, raw, on) in &RAW {
         let answer = console.step(event(rt, input));
-        expect_equal_at(rt, &input, &answer.raw(), &raw);
+        expect_equal_at(rt, input, answer.raw(), raw);
         expect_shown(rt, console, on, &[], None);
     }
 }
@@ -475,7 +475,7 @@ fn answers_have_their_numbers(rt: HostRuntime) {
     expect_raw(&rt, &mut WordConsole::new(&map));
     for &(output, number) in &NUMBERS {
         let answer = answer(&rt, output);
-        expect_equal(&rt, &answer.raw(), &number);
+        expect_equal(&rt, answer.raw(), number);
     }
 }
 

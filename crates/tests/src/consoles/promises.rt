@@ -65,14 +65,14 @@ fn step_both<P: Translator, W: Translator>(
     event: &Event,
 ) {
     let answer = plain.step(*event);
-    expect_equal(rt, &word.step(*event), &answer);
+    expect_equal(rt, word.step(*event), answer);
     for modifier in MODIFIERS {
-        expect_equal(rt, &plain.on(modifier), &word.on(modifier));
+        expect_equal(rt, plain.on(modifier), word.on(modifier));
     }
     for lock in LOCKS {
-        expect_equal(rt, &plain.locked(lock), &word.locked(lock));
+        expect_equal(rt, plain.locked(lock), word.locked(lock));
     }
-    expect_equal(rt, &plain.pending(), &word.pending());
+    expect_equal(rt, plain.pending(), word.pending());
 }
 
 /// Asserts what the report promises of the modifiers and locks that one of the keys bears throughout.
@@ -85,12 +85,12 @@ fn expect_promises<T: Translator>(
     for state in keys {
         for modifier in MODIFIERS {
             if report.bearer(Holding::Mod(modifier)) == bearer_throughout(state.code) {
-                expect_equal(rt, &console.on(modifier), &state.is_pressed);
+                expect_equal(rt, console.on(modifier), state.is_pressed);
             }
         }
         for lock in LOCKS {
             if report.bearer(Holding::Lock(lock)) == bearer_throughout(state.code) {
-                expect_equal(rt, &console.locked(lock), &state.is_odd);
+                expect_equal(rt, console.locked(lock), state.is_odd);
             }
         }
     }
@@ -160,13 +160,13 @@ fn without_traps_modifiers_are_on_only_while_pressed(rt: HostRuntime) {
                 Modifier::LeftControl => is_pressed(&keys, 29),
                 _ => false,
             };
-            expect_at(&rt, &modifier, may_be_on || !console.on(modifier));
+            expect_at(&rt, modifier, may_be_on || !console.on(modifier));
             was_on[modifier.index()] |= console.on(modifier);
         }
     }
     expect_equal(
         &rt,
-        &was_on,
-        &[true, false, true, false, false, false, false, false],
+        was_on,
+        [true, false, true, false, false, false, false, false],
     );
 }

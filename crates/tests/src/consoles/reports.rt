@@ -153,16 +153,16 @@ fn expect_bearers(rt: &impl Abort, report: &Report, checked: &Checked) {
         let given = report.bearer(Holding::Mod(modifier));
         expect_equal_at(
             rt,
-            &modifier,
-            &given,
-            &bearer_in(rt, checked.bearers.0, modifier),
+            modifier,
+            given,
+            bearer_in(rt, checked.bearers.0, modifier),
         );
     }
     for lock in LOCKS {
         let given = report.bearer(Holding::Lock(lock));
-        expect_equal_at(rt, &lock, &given, &bearer_in(rt, checked.bearers.1, lock));
+        expect_equal_at(rt, lock, given, bearer_in(rt, checked.bearers.1, lock));
         let is_steady = report.steady(lock);
-        expect_equal_at(rt, &lock, &is_steady, &checked.steady.contains(&lock));
+        expect_equal_at(rt, lock, is_steady, checked.steady.contains(&lock));
     }
 }
 
@@ -181,7 +181,7 @@ fn finding(rt: &impl Abort, trap: Trap) -> Finding {
 
 /// Asserts that the events are those of the script; there are none where it is empty.
 fn expect_script(rt: &impl Abort, events: &[Event], script: &[Input]) {
-    expect_equal(rt, &events.len(), &script.len());
+    expect_equal(rt, events.len(), script.len());
     for (given, input) in events.iter().zip(script) {
         expect_equal_at(rt, input, given, &event(rt, *input));
     }
@@ -193,11 +193,11 @@ fn reports_are_as_worked_out(rt: HostRuntime) {
         let map = read_map(rt.alloc(), checked.text).expect(&rt, "a map");
         let report = check(&map);
         let is_accepted = report.accepted() == checked.traps.is_empty();
-        expect_at(&rt, &checked.text, is_accepted);
+        expect_at(&rt, checked.text, is_accepted);
         let findings = report.findings();
-        expect_equal_at(&rt, &checked.text, &findings.len(), &checked.traps.len());
+        expect_equal_at(&rt, checked.text, findings.len(), checked.traps.len());
         for (given, trap) in findings.iter().zip(checked.traps) {
-            expect_equal_at(&rt, &checked.text, given, &finding(&rt, *trap));
+            expect_equal_at(&rt, checked.text, given, &finding(&rt, *trap));
         }
         expect_bearers(&rt, &report, checked);
         match demonstrate(&map) {

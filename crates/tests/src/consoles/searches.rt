@@ -39,14 +39,14 @@ fn expect_found(
     match (found, wanted) {
         (Sticking::Never, None) => {}
         (Sticking::Sticks { events, modifiers }, Some((presses, count, modifier, locks))) => {
-            expect_equal_at(rt, &modifier, &modifiers.as_slice(), &[modifier].as_slice());
+            expect_equal_at(rt, modifier, modifiers.as_slice(), [modifier].as_slice());
             let counts = (presses_among(events.as_slice()), events.len());
-            expect_equal_at(rt, &modifier, &counts, &(presses, count));
+            expect_equal_at(rt, modifier, counts, (presses, count));
             let mut console = PlainConsole::between(maps.0, maps.1);
             let _answers = replay(alloc, &mut console, events.as_slice()).expect(rt, "answers");
             expect_shown(rt, &console, &[modifier], locks, None);
         }
-        (_, wanted) => expect_at(rt, &wanted, false),
+        (_, wanted) => expect_at(rt, wanted, false),
     }
 }
 

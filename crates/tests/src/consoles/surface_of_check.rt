@@ -20,7 +20,7 @@ fn report_on<R: Abort + AllocGlobal>(rt: &R, text: &[u8]) -> Report {
 fn report_accepted(rt: HostRuntime) {
     let refused: bool = report_on(&rt, SHIFT_WITH_TRAP).accepted();
     let accepted: bool = report_on(&rt, UPPER_HALF).accepted();
-    expect_equal(&rt, &(refused, accepted), &(false, true));
+    expect_equal(&rt, (refused, accepted), (false, true));
 }
 
 /// A finding: its key, the code of its holding action and the places of that and of the character.
@@ -50,8 +50,8 @@ fn report_findings(rt: HostRuntime) {
     let report: Report = report_on(&rt, SHIFT_WITH_TRAP);
     let findings: &ArrayVec<Finding, 128> = report.findings();
     let first: Finding = *findings.first().expect(&rt, "a finding");
-    expect_equal(&rt, &findings.len(), &1);
-    expect_equal(&rt, &parts_of(first), &(42, 0x02, (42, 0), (42, 2)));
+    expect_equal(&rt, findings.len(), 1);
+    expect_equal(&rt, parts_of(first), (42, 0x02, (42, 0), (42, 2)));
 }
 
 /// What an action holds.
@@ -76,9 +76,9 @@ fn report_bearer(rt: HostRuntime) {
     let lshift: Bearer = report.bearer(holding(&rt, 0x02));
     let lctrl: Bearer = report.bearer(holding(&rt, 0x09));
     let meta: Bearer = report.bearer(holding(&rt, 0x84));
-    expect_equal(&rt, &borne(lshift), &("sole", Some(42)));
-    expect_equal(&rt, &borne(lctrl), &("throughout", Some(29)));
-    expect_equal(&rt, &borne(meta), &("nobody", None));
+    expect_equal(&rt, borne(lshift), ("sole", Some(42)));
+    expect_equal(&rt, borne(lctrl), ("throughout", Some(29)));
+    expect_equal(&rt, borne(meta), ("nobody", None));
 }
 
 fn lock(holding: Holding) -> Option<Lock> {
@@ -93,7 +93,7 @@ fn report_steady(rt: HostRuntime) {
     let report: Report = report_on(&rt, UPPER_HALF);
     let alock: Lock = lock(holding(&rt, 0x82)).expect(&rt, "a lock");
     let steady: bool = report.steady(alock);
-    expect_at(&rt, &"alock is steady", steady);
+    expect_at(&rt, "alock is steady", steady);
 }
 
 fn key(rt: &impl Abort, code: u8) -> KeyCode {
@@ -114,5 +114,5 @@ fn demonstrate_what_sticks(rt: HostRuntime) {
         Event::Release(control),
     ];
     let shown = shown.expect(&rt, "events");
-    expect_equal(&rt, &shown.as_slice(), &wanted.as_slice());
+    expect_equal(&rt, shown.as_slice(), wanted.as_slice());
 }

@@ -28,10 +28,10 @@ fn key_of(event: Event) -> Option<u8> {
 
 #[test]
 fn events(rt: HostRuntime) {
-    expect_equal(&rt, &key_of(Event::Press(key(&rt, 30))), &Some(30));
-    expect_equal(&rt, &key_of(Event::Release(key(&rt, 30))), &Some(30));
-    expect_equal(&rt, &key_of(Event::Reset), &None);
-    expect_equal(&rt, &key_of(Event::Load), &None);
+    expect_equal(&rt, key_of(Event::Press(key(&rt, 30))), Some(30));
+    expect_equal(&rt, key_of(Event::Release(key(&rt, 30))), Some(30));
+    expect_equal(&rt, key_of(Event::Reset), None);
+    expect_equal(&rt, key_of(Event::Load), None);
 }
 
 /// The number of what an answer gives: of a character or of an action.
@@ -52,13 +52,13 @@ fn given(answer: Answer) -> u32 {
 #[test]
 fn answers(rt: HostRuntime) {
     let special: Answer = Answer::Special(action(&rt, 0x02));
-    expect_equal(&rt, &given(special), &0x02);
-    expect_equal(&rt, &given(Answer::None), &0);
+    expect_equal(&rt, given(special), 0x02);
+    expect_equal(&rt, given(Answer::None), 0);
 }
 
 fn expect_raw(rt: &impl Abort, answer: Answer, wanted: u32) {
     let raw: u32 = answer.raw();
-    expect_equal(rt, &raw, &wanted);
+    expect_equal(rt, raw, wanted);
 }
 
 #[test]
@@ -120,8 +120,8 @@ fn plain_console_new(rt: HostRuntime) {
     let shown = pressed(&rt, &mut console, 42);
     expect_equal(
         &rt,
-        &shown,
-        &(Answer::Special(action(&rt, 0x02)), true, false, None),
+        shown,
+        (Answer::Special(action(&rt, 0x02)), true, false, None),
     );
 }
 
@@ -132,8 +132,8 @@ fn word_console_new(rt: HostRuntime) {
     let shown = pressed(&rt, &mut console, 42);
     expect_equal(
         &rt,
-        &shown,
-        &(Answer::Special(action(&rt, 0x02)), true, false, None),
+        shown,
+        (Answer::Special(action(&rt, 0x02)), true, false, None),
     );
 }
 
@@ -155,7 +155,7 @@ fn plain_console_between(rt: HostRuntime) {
     let first: KeyMap = read_map(rt.alloc(), SHIFT_AND_CAPS).expect(&rt, "a map");
     let second: KeyMap = read_map(rt.alloc(), LETTER_AND_SHIFT).expect(&rt, "a map");
     let mut console: PlainConsole<'_> = PlainConsole::between(&first, &second);
-    expect_equal(&rt, &loaded(&rt, &mut console), &(true, SMALL_A));
+    expect_equal(&rt, loaded(&rt, &mut console), (true, SMALL_A));
 }
 
 #[test]
@@ -163,7 +163,7 @@ fn word_console_between(rt: HostRuntime) {
     let first: KeyMap = read_map(rt.alloc(), SHIFT_AND_CAPS).expect(&rt, "a map");
     let second: KeyMap = read_map(rt.alloc(), LETTER_AND_SHIFT).expect(&rt, "a map");
     let mut console: WordConsole<'_> = WordConsole::between(&first, &second);
-    expect_equal(&rt, &loaded(&rt, &mut console), &(true, SMALL_A));
+    expect_equal(&rt, loaded(&rt, &mut console), (true, SMALL_A));
 }
 
 /// Presses a dead key three times: it is pending, gives its own character, and is pending again.
@@ -177,10 +177,10 @@ fn expect_acute<R: Abort + AllocGlobal, T: Translator>(rt: &R, console: &mut T) 
     let answers: Result<Vec<Answer>, AllocError> = replay(rt.alloc(), console, &events);
     expect_equal(
         rt,
-        &answers.expect(rt, "answers").as_slice(),
-        &wanted.as_slice(),
+        answers.expect(rt, "answers").as_slice(),
+        wanted.as_slice(),
     );
-    expect_equal(rt, &console.pending(), &Some(1));
+    expect_equal(rt, console.pending(), Some(1));
 }
 
 #[test]

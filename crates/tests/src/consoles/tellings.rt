@@ -66,10 +66,10 @@ fn expect_told(
     let (first, second) = (map_of(rt, alloc, old), map_of(rt, alloc, new));
     match telling_apart(alloc, &first, &second).expect(rt, "an answer") {
         Telling::Told { events, old, new } => {
-            expect_equal(rt, &events.as_slice(), &wanted);
-            expect_equal(rt, &(old, new), &answers);
+            expect_equal(rt, events.as_slice(), wanted);
+            expect_equal(rt, (old, new), answers);
         }
-        _ => expect_equal_at(rt, &answers, &false, &true),
+        _ => expect_equal_at(rt, answers, false, true),
     }
 }
 
@@ -105,7 +105,7 @@ fn a_holder_that_looks_up_another_action_is_never_told(rt: HostRuntime) {
     let old = map_of(&rt, rt.alloc(), HOLDER);
     let new = map_of(&rt, rt.alloc(), OTHER_HOLDER);
     match telling_apart(rt.alloc(), &old, &new).expect(&rt, "an answer") {
-        Telling::Never { forgets } => expect_equal(&rt, &forgets, &false),
-        _ => expect_equal(&rt, &false, &true),
+        Telling::Never { forgets } => expect_equal(&rt, forgets, false),
+        _ => expect_equal(&rt, false, true),
     }
 }

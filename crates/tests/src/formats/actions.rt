@@ -64,12 +64,12 @@ fn is_named(action: &Action, name: &[u8]) -> bool {
 fn actions_have_the_codes_and_names_of_the_table(rt: HostRuntime) {
     for &(code, name) in &TABLE {
         let action = Action::from_code(code).expect(&rt, "an action");
-        expect_at(&rt, &code, is_named(&action, name));
+        expect_at(&rt, code, is_named(&action, name));
         let named = (action.code(), Action::named(name));
-        expect_equal_at(&rt, &code, &named, &(code, Named::Action(action)));
+        expect_equal_at(&rt, code, named, (code, Named::Action(action)));
     }
     for &code in &UNUSED {
-        expect_equal_at(&rt, &code, &Action::from_code(code), &None);
+        expect_equal_at(&rt, code, Action::from_code(code), None);
     }
 }
 
@@ -125,6 +125,6 @@ fn named(rt: &impl Abort, wanted: Naming) -> Named {
 #[test]
 fn words_name_actions_or_none(rt: HostRuntime) {
     for &(word, wanted) in &WORDS {
-        expect_equal_at(&rt, &word, &Action::named(word), &named(&rt, wanted));
+        expect_equal_at(&rt, word, Action::named(word), named(&rt, wanted));
     }
 }

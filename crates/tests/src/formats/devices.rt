@@ -51,7 +51,7 @@ fn a_reader_that_fails_after_each_number_of_bytes_is_a_fault(rt: HostRuntime) {
             let (offset, kind) = (most as u64, ReadFaultKind::Device);
             let wanted = ReadFault { offset, kind };
             let fault = read_fault(rt.alloc(), format, &mut tape);
-            expect_equal_at(&rt, &(format, most), &fault, &Some(wanted));
+            expect_equal_at(&rt, (format, most), fault, Some(wanted));
             assert!(rt; tape.failed());
         }
     }
@@ -84,9 +84,9 @@ fn a_writer_that_fails_after_each_number_of_bytes_is_a_fault(rt: HostRuntime) {
             let written = most as u64;
             let fault = NarrowError::Write(WriteFault { written });
             let answer = write_as(format, &map, &mut writer);
-            expect_equal_at(&rt, &(format, most), &answer, &Err(fault));
+            expect_equal_at(&rt, (format, most), answer, Err(fault));
             let is_front = writer.is_same && writer.taken == most && writer.failed();
-            expect_at(&rt, &(format, most), is_front);
+            expect_at(&rt, (format, most), is_front);
         }
     }
 }
@@ -140,12 +140,12 @@ fn a_text_is_read_to_its_limit(rt: HostRuntime) {
         let answer = read_from(rt.alloc(), &mut tape);
         if let Ok(map) = &answer {
             let is_same = is_map(read_map(rt.alloc(), text), map);
-            expect_at(&rt, &(size, pace), is_same);
+            expect_at(&rt, (size, pace), is_same);
         }
-        expect_equal_at(&rt, &(size, pace), &answer.err(), &error);
+        expect_equal_at(&rt, (size, pace), answer.err(), error);
         let most_reads = taken.checked_div(pace).unwrap_or(0).saturating_add(2);
         let is_left = tape.given <= taken && tape.reads as usize <= most_reads.min(1_048_578);
-        expect_at(&rt, &(size, pace), is_left);
-        expect_equal_at(&rt, &(size, pace), &tape.failed(), &(error == Some(FAILED)));
+        expect_at(&rt, (size, pace), is_left);
+        expect_equal_at(&rt, (size, pace), tape.failed(), (error == Some(FAILED)));
     }
 }

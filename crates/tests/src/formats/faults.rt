@@ -204,12 +204,12 @@ fn fault_of(rt: &impl Abort, alloc: Global, place: &[u8], token: &[u8]) -> Optio
 
 #[test]
 fn each_kind_of_fault_is_found_at_each_place(rt: HostRuntime) {
-    expect_equal(&rt, &FULL_ACCENT.len(), &632);
+    expect_equal(&rt, FULL_ACCENT.len(), 632);
     for &(token, kinds) in &TOKENS {
         for (place, kind) in PLACES.iter().zip(kinds) {
             let fault = fault_of(&rt, rt.alloc(), place, token);
             let wanted = wanted_fault(place.len(), token.len(), kind);
-            expect_equal_at(&rt, &(token, place), &fault, &wanted);
+            expect_equal_at(&rt, (token, place), fault, wanted);
         }
     }
 }
@@ -243,6 +243,6 @@ fn the_first_fault_is_answered(rt: HostRuntime) {
     for &(text, offset, line, kind) in &FAULTS {
         let fault = TextFault { offset, line, kind };
         let found = read_map(rt.alloc(), text).err();
-        expect_equal_at(&rt, &text, &found, &Some(TextError::Fault(fault)));
+        expect_equal_at(&rt, text, found, Some(TextError::Fault(fault)));
     }
 }

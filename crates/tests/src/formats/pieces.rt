@@ -112,10 +112,10 @@ fn a_text_in_thousands_of_pieces_is_read_as_the_whole_is(rt: HostRuntime) {
     for &(end, kind) in &ENDS {
         let text = long_text(&rt, rt.alloc(), end);
         let whole = read_map(rt.alloc(), text.as_slice());
-        expect_equal_at(&rt, &end, &kind_of(&whole), &kind);
+        expect_equal_at(&rt, end, kind_of(&whole), kind);
         for pieces in PIECES {
             let answer = read_in_pieces(&rt, rt.alloc(), &mut random, text.as_slice(), pieces);
-            expect_at(&rt, &(end, pieces), agree(&whole, answer));
+            expect_at(&rt, (end, pieces), agree(&whole, answer));
         }
     }
 }

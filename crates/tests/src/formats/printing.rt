@@ -212,9 +212,9 @@ fn maps_are_printed_and_read_again(rt: HostRuntime) {
         print_map(&map, &mut page).expect(&rt, "a writer");
         let wanted = printed_form(&rt, rt.alloc(), printed);
         let bytes = page.bytes.as_slice();
-        expect_equal_at(&rt, &printed.text, &bytes, &wanted.as_slice());
+        expect_equal_at(&rt, printed.text, bytes, wanted.as_slice());
         let is_same = is_map(read_map(rt.alloc(), bytes), &map);
-        expect_at(&rt, &printed.text, is_same);
+        expect_at(&rt, printed.text, is_same);
     }
 }
 
@@ -225,6 +225,6 @@ fn a_full_writer_is_a_fault(rt: HostRuntime) {
     let mut writer = ToStd::new(page.as_mut_slice());
     let answer = print_map(&map, &mut writer);
     assert!(rt; writer.failed());
-    expect_equal(&rt, &answer, &Err(WriteFault { written: 10 }));
-    expect_equal(&rt, &page.as_slice(), &b"000 'a'   ".as_slice());
+    expect_equal(&rt, answer, Err(WriteFault { written: 10 }));
+    expect_equal(&rt, page.as_slice(), b"000 'a'   ".as_slice());
 }

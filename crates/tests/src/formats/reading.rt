@@ -20,12 +20,12 @@ pub(crate) fn is_map<E: Drop>(answer: Result<KeyMap, E>, map: &KeyMap) -> bool {
 #[test]
 fn the_empty_text_is_the_map_of_no_keys(rt: HostRuntime) {
     let map = map_of(&rt, b"");
-    expect_equal(&rt, &(map.n_keys(), map.n_accs()), &(0, 0));
+    expect_equal(&rt, (map.n_keys(), map.n_accs()), (0, 0));
     assert!(rt; is_map(KeyMap::new(rt.alloc()), &map));
     assert!(rt; is_map(map.try_clone(rt.alloc()), &map));
     let mut page = [b'x'; 1];
     print_map(&map, &mut ToStd::new(page.as_mut_slice())).expect(&rt, "a writer");
-    expect_equal(&rt, &page, &[b'x']);
+    expect_equal(&rt, page, [b'x']);
 }
 
 /// A line of the layout that kbdcontrol(1) dumps, with its header.
@@ -173,12 +173,12 @@ fn cell(typed: Typed) -> Option<Cell> {
 fn keys_are_read(rt: HostRuntime) {
     for &(text, n_keys, slot, cells, flag) in &KEYS {
         let map = map_of(&rt, text);
-        expect_equal_at(&rt, &text, &map.n_keys(), &n_keys);
+        expect_equal_at(&rt, text, map.n_keys(), n_keys);
         let entry = map.entry(slot);
         for (given, typed) in entry.cells.iter().zip(cells) {
-            expect_equal_at(&rt, &(text, slot), &Some(*given), &cell(typed));
+            expect_equal_at(&rt, (text, slot), Some(*given), cell(typed));
         }
-        expect_equal_at(&rt, &(text, slot), &entry.flag, &flag);
+        expect_equal_at(&rt, (text, slot), entry.flag, flag);
     }
 }
 
@@ -207,9 +207,9 @@ fn parts(accent: Option<&Accent>) -> Option<(char, &[(char, char)])> {
 fn accents_are_read(rt: HostRuntime) {
     for &(text, n_accs, index, own, pairs) in &ACCENTS_READ {
         let map = map_of(&rt, text);
-        expect_equal_at(&rt, &text, &map.n_accs(), &n_accs);
+        expect_equal_at(&rt, text, map.n_accs(), n_accs);
         let accent = parts(map.accent(index));
-        expect_equal_at(&rt, &text, &accent, &Some((own, pairs)));
+        expect_equal_at(&rt, text, accent, Some((own, pairs)));
     }
 }
 
@@ -250,12 +250,12 @@ fn faults_in_pieces_are_answered_in_time(rt: HostRuntime) {
             answer = reader.feed(piece);
         }
         let fault = early.then_some(wanted);
-        expect_equal_at(&rt, &pieces, &answer.err(), &fault);
+        expect_equal_at(&rt, pieces, answer.err(), fault);
         if early {
             assert!(rt; reader.fed() <= 99);
-            expect_equal_at(&rt, &pieces, &reader.feed(b" ").err(), &fault);
+            expect_equal_at(&rt, pieces, reader.feed(b" ").err(), fault);
         }
-        expect_equal_at(&rt, &pieces, &reader.finish().err(), &Some(wanted));
+        expect_equal_at(&rt, pieces, reader.finish().err(), Some(wanted));
     }
 }
 
@@ -286,7 +286,7 @@ fn is_read_the_same(rt: &impl Abort, alloc: Global, text: &[u8]) -> bool {
 fn each_prefix_is_read_the_same_byte_by_byte(rt: HostRuntime) {
     for text in [ACCENTS, UPPER_HALF, LETTER_AND_SHIFT] {
         for end in 0..=text.len() {
-            expect_at(&rt, &end, is_read_the_same(&rt, rt.alloc(), &text[..end]));
+            expect_at(&rt, end, is_read_the_same(&rt, rt.alloc(), &text[..end]));
         }
     }
 }

@@ -71,11 +71,11 @@ fn a_read_of_std_is_made_once(rt: HostRuntime) {
         let answers = (device.read(&mut buffer), device.failed());
         let answers_again = (device.read(&mut buffer), device.failed());
         let given = (answers, answers_again, reader.calls);
-        expect_equal(&rt, &given, &((Err(Failed), true), (Ok(1), true), 2));
+        expect_equal(&rt, given, ((Err(Failed), true), (Ok(1), true), 2));
         let mut reader = failing_once(Some(kind));
         let answer = read_up_to(rt.alloc(), &mut FromStd::new(&mut reader), 4).err();
         let given = (answer, reader.calls);
-        expect_equal(&rt, &given, &(Some(ReadError::Read(wanted)), 1));
+        expect_equal(&rt, given, (Some(ReadError::Read(wanted)), 1));
     }
 }
 
@@ -88,7 +88,7 @@ fn a_write_of_std_is_made_once(rt: HostRuntime) {
         let answers = (device.write(b"1234"), device.failed());
         let answers_again = (device.write(b"1234"), device.failed());
         let given = (answers, answers_again, writer.calls);
-        expect_equal(&rt, &given, &((Err(Failed), true), (Ok(1), true), 2));
+        expect_equal(&rt, given, ((Err(Failed), true), (Ok(1), true), 2));
     }
     for error in [
         Some(io::ErrorKind::Interrupted),
@@ -98,6 +98,6 @@ fn a_write_of_std_is_made_once(rt: HostRuntime) {
         let mut writer = failing_once(error);
         let answer = write_text(&mut ToStd::new(&mut writer), b"1234");
         let given = (answer, writer.calls);
-        expect_equal(&rt, &given, &(Err(WriteFault { written: 0 }), 1));
+        expect_equal(&rt, given, (Err(WriteFault { written: 0 }), 1));
     }
 }

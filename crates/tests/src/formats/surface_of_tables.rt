@@ -20,7 +20,7 @@ fn sample<R: Abort + AllocGlobal>(rt: &R) -> KeyMap {
 fn write_tables_to_a_page(rt: HostRuntime) {
     let mut page = sheet_of(15_524);
     let written: Result<(), WriteFault> = write_tables(&sample(&rt), &mut page);
-    expect_equal(&rt, &(written, page.bytes.len()), &(Ok(()), 15_524));
+    expect_equal(&rt, (written, page.bytes.len()), (Ok(()), 15_524));
 }
 
 /// The number of a kind in the list of the kinds.
@@ -70,17 +70,17 @@ fn table_fault_of_each_kind(rt: HostRuntime) {
         let mut file = [0; 15_524];
         change(&mut file, changes);
         let map: Result<KeyMap, TableError> = read_tables(rt.alloc(), &file);
-        expect_equal(&rt, &map.err().and_then(judged), &Some(wanted));
+        expect_equal(&rt, map.err().and_then(judged), Some(wanted));
     }
 }
 
 #[test]
 fn read_tables_of_a_length(rt: HostRuntime) {
     let map: Result<KeyMap, TableError> = read_tables(rt.alloc(), &[0; 15_524]);
-    expect_equal(&rt, &map.expect(&rt, "a map").n_keys(), &0);
+    expect_equal(&rt, map.expect(&rt, "a map").n_keys(), 0);
     let short = read_tables(rt.alloc(), &[0; 15_523]).err().and_then(judged);
     let long = read_tables(rt.alloc(), &[0; 15_525]).err().and_then(judged);
-    expect_equal(&rt, &(short, long), &(Some((15_523, 1)), Some((15_524, 2))));
+    expect_equal(&rt, (short, long), (Some((15_523, 1)), Some((15_524, 2))));
 }
 
 #[test]
@@ -88,7 +88,7 @@ fn read_tables_from_a_tape(rt: HostRuntime) {
     let file = [0; 15_524];
     let mut tape = reader_of(&file, 1, usize::MAX);
     let map: Result<KeyMap, TableError> = read_tables_from(rt.alloc(), &mut tape);
-    expect_equal(&rt, &map.expect(&rt, "a map").n_keys(), &0);
+    expect_equal(&rt, map.expect(&rt, "a map").n_keys(), 0);
 }
 
 /// Why a narrow file was not written: the place that is too wide.
@@ -118,8 +118,8 @@ fn write_narrow_of_a_wide_map(rt: HostRuntime) {
     let written: Result<(), NarrowError> = write_narrow(&map, &mut page);
     let wide: Option<Wide> = written.err().and_then(too_wide);
     let wanted = (Some(Wide::Cell { slot: 0, column: 6 }), Some((0, 6)));
-    expect_equal(&rt, &(wide, wide.map(numbers)), &wanted);
-    expect_at(&rt, &"nothing is written", page.bytes.is_empty());
+    expect_equal(&rt, (wide, wide.map(numbers)), wanted);
+    expect_at(&rt, "nothing is written", page.bytes.is_empty());
 }
 
 /// The narrow file of the sample.
@@ -130,13 +130,13 @@ fn narrow_sample<R: Abort + AllocGlobal>(rt: &R) -> Sheet {
 }
 
 fn expect_sample<R: Abort + AllocGlobal>(rt: &R, map: Result<KeyMap, TableError>) {
-    expect_at(rt, &"the same map", map.expect(rt, "a map") == sample(rt));
+    expect_at(rt, "the same map", map.expect(rt, "a map") == sample(rt));
 }
 
 #[test]
 fn read_narrow_of_a_file(rt: HostRuntime) {
     let file = narrow_sample(&rt);
-    expect_equal(&rt, &file.bytes.get(..2), &Some([0x2b, 0].as_slice()));
+    expect_equal(&rt, file.bytes.get(..2), Some([0x2b, 0].as_slice()));
     let map: Result<KeyMap, TableError> = read_narrow(rt.alloc(), file.bytes.as_slice());
     expect_sample(&rt, map);
 }

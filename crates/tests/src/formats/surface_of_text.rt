@@ -50,7 +50,7 @@ static TOKENS: [(&[u8], usize, (&str, &[u8], usize, usize)); 4] = [
 #[test]
 fn next_token_of_each_kind(rt: HostRuntime) {
     for &(text, at, wanted) in &TOKENS {
-        expect_equal(&rt, &token(text, at), &Ok(wanted));
+        expect_equal(&rt, token(text, at), Ok(wanted));
     }
 }
 
@@ -94,7 +94,7 @@ fn word_meaning_of_each_kind(rt: HostRuntime) {
     for &(word, wanted) in &WORDS {
         assert!(rt; word.len() <= 32);
         let meaning: Meaning = word_meaning(word);
-        expect_equal(&rt, &kind_of_word(meaning), &wanted);
+        expect_equal(&rt, kind_of_word(meaning), wanted);
     }
 }
 
@@ -137,7 +137,7 @@ fn judged(error: TextError) -> Option<(u64, u64, u8)> {
 fn read_map_of_a_map(rt: HostRuntime) {
     let text = b"255 nop nop nop nop nop nop nop nop O";
     let map: Result<KeyMap, TextError> = read_map(rt.alloc(), text);
-    expect_equal(&rt, &map.expect(&rt, "a map").n_keys(), &256);
+    expect_equal(&rt, map.expect(&rt, "a map").n_keys(), 256);
 }
 
 /// Texts, and their faults. What has too many pairs is long.
@@ -158,7 +158,7 @@ static FAULTS: [(&[u8], (u64, u64, u8)); 10] = [
 fn text_fault_of_each_kind(rt: HostRuntime) {
     for &(text, wanted) in &FAULTS {
         let map: Result<KeyMap, TextError> = read_map(rt.alloc(), text);
-        expect_equal(&rt, &map.err().and_then(judged), &Some(wanted));
+        expect_equal(&rt, map.err().and_then(judged), Some(wanted));
     }
 }
 
@@ -173,14 +173,14 @@ fn print_map_to_a_page(rt: HostRuntime) {
     let mut page = sheet_of(10);
     let printed: Result<(), WriteFault> = print_map(&euro(&rt), &mut page);
     let wanted = (Err(WriteFault { written: 10 }), b"000 'a'   ".as_slice());
-    expect_equal(&rt, &(printed, page.bytes.as_slice()), &wanted);
+    expect_equal(&rt, (printed, page.bytes.as_slice()), wanted);
 }
 
 #[test]
 fn map_reader_new(rt: HostRuntime) {
     let reader: Result<MapReader, AllocError> = MapReader::new(rt.alloc());
     let fed: u64 = reader.expect(&rt, "a reader").fed();
-    expect_equal(&rt, &fed, &0);
+    expect_equal(&rt, fed, 0);
 }
 
 #[test]
@@ -190,7 +190,7 @@ fn map_reader_feed(rt: HostRuntime) {
     let second: (Result<(), TextFault>, u64) = (reader.feed(b"6"), reader.fed());
     let third: Result<(), TextFault> = reader.feed(b" ");
     let given = (first, second, third.map_err(parts_of));
-    expect_equal(&rt, &given, &((Ok(()), 2), (Ok(()), 3), Err((0, 1, 5))));
+    expect_equal(&rt, given, ((Ok(()), 2), (Ok(()), 3), Err((0, 1, 5))));
 }
 
 #[test]
@@ -198,12 +198,12 @@ fn map_reader_finish(rt: HostRuntime) {
     let mut reader: MapReader = MapReader::new(rt.alloc()).expect(&rt, "a reader");
     let _ = reader.feed(b"256");
     let map: Result<KeyMap, TextFault> = reader.finish();
-    expect_equal(&rt, &map.err().map(parts_of), &Some((0, 1, 5)));
+    expect_equal(&rt, map.err().map(parts_of), Some((0, 1, 5)));
 }
 
 #[test]
 fn read_from_a_tape(rt: HostRuntime) {
     let mut tape = reader_of(LETTER_AND_SHIFT, 1, usize::MAX);
     let map: Result<KeyMap, TextError> = read_from(rt.alloc(), &mut tape);
-    expect_equal(&rt, &map.expect(&rt, "a map").n_keys(), &43);
+    expect_equal(&rt, map.expect(&rt, "a map").n_keys(), 43);
 }

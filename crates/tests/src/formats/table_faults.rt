@@ -207,7 +207,7 @@ fn each_fault_is_at_its_offset(rt: HostRuntime) {
         let fault = fault_of(form.read(rt.alloc(), bytes.as_slice()));
         let mut reader = FromStd::new(bytes.as_slice());
         let read = fault_of(form.read_from(rt.alloc(), &mut reader));
-        expect_equal_at(&rt, &(form, changes), &(fault, read), &(wanted, wanted));
+        expect_equal_at(&rt, (form, changes), (fault, read), (wanted, wanted));
     }
 }
 
@@ -221,7 +221,7 @@ fn each_proper_prefix_is_short(rt: HostRuntime) {
             let (offset, kind) = (length as u64, TableFaultKind::Short);
             let wanted = TableFault { offset, kind };
             let fault = fault_of(form.read(rt.alloc(), prefix));
-            expect_equal_at(&rt, &(form, length), &fault, &Some(wanted));
+            expect_equal_at(&rt, (form, length), fault, Some(wanted));
         }
     }
 }
@@ -234,7 +234,7 @@ fn a_reader_without_end_is_left(rt: HostRuntime) {
         let (offset, kind) = (form.length() as u64, TableFaultKind::Long);
         let wanted = TableFault { offset, kind };
         let fault = fault_of(form.read_from(rt.alloc(), &mut reader));
-        expect_equal_at(&rt, &form, &fault, &Some(wanted));
+        expect_equal_at(&rt, form, fault, Some(wanted));
         assert!(rt; reader.reads as usize <= form.length().saturating_add(2) && !reader.failed());
     }
 }
@@ -258,7 +258,7 @@ fn each_changed_byte_is_a_fault_or_another_map(rt: HostRuntime) {
         for changed in [byte.wrapping_add(1), byte ^ 0x80, byte] {
             bytes[place] = changed;
             let is_exact = changed == byte || is_read_exactly(&rt, rt.alloc(), Form::Wide, bytes);
-            expect_at(&rt, &(place, changed), is_exact);
+            expect_at(&rt, (place, changed), is_exact);
         }
     }
 }

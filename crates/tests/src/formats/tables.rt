@@ -165,20 +165,20 @@ fn expect_bytes(
     places: &[(usize, &[u8])],
     used: usize,
 ) {
-    expect_equal_at(rt, &row, &bytes.len(), &row.0.length());
+    expect_equal_at(rt, row, bytes.len(), row.0.length());
     for &(place, wanted) in places {
         let given = bytes.get(place..).unwrap_or(b"");
-        expect_at(rt, &(row.0, place), given.starts_with(wanted));
+        expect_at(rt, (row.0, place), given.starts_with(wanted));
     }
     let count = bytes.iter().filter(is_used).count();
-    expect_equal_at(rt, &row, &count, &used);
+    expect_equal_at(rt, row, count, used);
 }
 
 /// Asserts that the bytes are read as the map, from memory and from a device.
 fn expect_read(rt: &impl Abort, alloc: Global, row: (Form, &[u8]), bytes: &[u8], map: &KeyMap) {
-    expect_at(rt, &row, is_map(row.0.read(alloc, bytes), map));
+    expect_at(rt, row, is_map(row.0.read(alloc, bytes), map));
     let mut reader = FromStd::new(bytes);
-    expect_at(rt, &row, is_map(row.0.read_from(alloc, &mut reader), map));
+    expect_at(rt, row, is_map(row.0.read_from(alloc, &mut reader), map));
 }
 
 #[test]
@@ -188,7 +188,7 @@ fn files_have_their_bytes(rt: HostRuntime) {
         let sheet = file_of(&rt, form, &map);
         let bytes = sheet.bytes.as_slice();
         expect_bytes(&rt, (form, text), bytes, places, used);
-        expect_at(&rt, &(form, text), sheet.writes <= most_writes(form));
+        expect_at(&rt, (form, text), sheet.writes <= most_writes(form));
         expect_read(&rt, rt.alloc(), (form, text), bytes, &map);
     }
 }
@@ -239,7 +239,7 @@ fn the_first_place_that_does_not_fit_is_named(rt: HostRuntime) {
     for &(text, wide) in &TOO_WIDE {
         let mut sheet = sheet_of(LENGTH);
         let answer = write_narrow(&map_of(&rt, text), &mut sheet);
-        expect_equal_at(&rt, &text, &answer, &Err(NarrowError::TooWide(wide)));
+        expect_equal_at(&rt, text, answer, Err(NarrowError::TooWide(wide)));
         assert!(rt; sheet.bytes.is_empty() && sheet.writes == 0 && !sheet.failed());
     }
 }
@@ -266,8 +266,8 @@ fn wide_files_become_narrow_and_come_back(rt: HostRuntime) {
         let narrow = file_of(&rt, Form::Narrow, &map);
         let back = read_narrow(rt.alloc(), narrow.bytes.as_slice()).expect(&rt, "a map");
         let new = file_of(&rt, Form::Wide, &back);
-        expect_equal_at(&rt, &text, &narrow.bytes.len(), &NARROW_LENGTH);
-        expect_at(&rt, &text, new.bytes.as_slice() == old.bytes.as_slice());
+        expect_equal_at(&rt, text, narrow.bytes.len(), NARROW_LENGTH);
+        expect_at(&rt, text, new.bytes.as_slice() == old.bytes.as_slice());
     }
 }
 
@@ -278,10 +278,6 @@ fn what_is_no_cell_reads_as_character_0(rt: HostRuntime) {
     let tables = Tables::new(&bytes).expect(&rt, "tables");
     let key = (tables.cell(0, 0), tables.cell(255, 7), tables.flag(255));
     let accents = (tables.own(14), tables.own(15), tables.composed(0, 'a'));
-    expect_equal(
-        &rt,
-        &key,
-        &(Cell::Char('\0'), Cell::Char('\0'), LockFlag::O),
-    );
-    expect_equal(&rt, &accents, &(None, None, None));
+    expect_equal(&rt, key, (Cell::Char('\0'), Cell::Char('\0'), LockFlag::O));
+    expect_equal(&rt, accents, (None, None, None));
 }

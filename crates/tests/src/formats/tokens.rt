@@ -55,13 +55,13 @@ fn placed(token: Option<Token<'_>>) -> Option<(TokenKind, usize, usize)> {
 fn first_tokens_are_found(rt: HostRuntime) {
     for &(text, from, wanted) in &TOKENS {
         let token = next_token(text, from).expect(&rt, "no fault");
-        expect_equal_at(&rt, &text, &placed(token), &wanted);
+        expect_equal_at(&rt, text, placed(token), wanted);
     }
     let token = next_token(b"abc", 1)
         .expect(&rt, "no fault")
         .expect(&rt, "a token");
     let wanted = (b"bc".as_slice(), Span { start: 1, end: 3 });
-    expect_equal(&rt, &(token.slice, token.span), &wanted);
+    expect_equal(&rt, (token.slice, token.span), wanted);
 }
 
 /// A text, a place, and the fault of the first token from there, with its offset and line.
@@ -95,7 +95,7 @@ static BROKEN: [(&[u8], usize, TextFaultKind, u64, u64); 23] = [
 fn broken_tokens_are_refused(rt: HostRuntime) {
     for &(text, from, kind, offset, line) in &BROKEN {
         let fault = TextFault { offset, line, kind };
-        expect_equal_at(&rt, &text, &next_token(text, from).err(), &Some(fault));
+        expect_equal_at(&rt, text, next_token(text, from).err(), Some(fault));
     }
 }
 
@@ -178,7 +178,7 @@ fn meaning(means: Means) -> Option<Meaning> {
 
 fn expect_meaning(rt: &impl Abort, word: &[u8], wanted: Option<Meaning>) {
     assert!(rt; word.len() <= 32);
-    expect_equal_at(rt, &word, &Some(word_meaning(word)), &wanted);
+    expect_equal_at(rt, word, Some(word_meaning(word)), wanted);
 }
 
 #[test]

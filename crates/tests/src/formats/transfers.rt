@@ -12,7 +12,7 @@ fn reads_end_at_the_limit(rt: HostRuntime) {
     for &(limit, wanted, most_reads) in &LIMITS {
         let mut reader = reader_of(b"12345", 1, 9);
         let bytes = read_up_to(rt.alloc(), &mut reader, limit).expect(&rt, "bytes");
-        expect_equal_at(&rt, &limit, &bytes.as_slice(), &wanted);
+        expect_equal_at(&rt, limit, bytes.as_slice(), wanted);
         assert!(rt; reader.reads <= most_reads && !reader.failed());
     }
 }
@@ -21,12 +21,12 @@ fn reads_end_at_the_limit(rt: HostRuntime) {
 fn readers_and_writers_of_std_are_devices(rt: HostRuntime) {
     let mut reader = FromStd::new(b"12345".as_slice());
     let bytes = read_up_to(rt.alloc(), &mut reader, 3).expect(&rt, "bytes");
-    expect_equal(&rt, &bytes.as_slice(), &b"123".as_slice());
+    expect_equal(&rt, bytes.as_slice(), b"123".as_slice());
     assert!(rt; !reader.failed());
     let mut room = [0u8; 4];
     let mut writer = ToStd::new(room.as_mut_slice());
     let answer = write_text(&mut writer, b"12345");
-    expect_equal(&rt, &answer, &Err(WriteFault { written: 4 }));
+    expect_equal(&rt, answer, Err(WriteFault { written: 4 }));
     assert!(rt; writer.failed());
 }
 
@@ -45,6 +45,6 @@ fn stream_pieces(writer: &mut Sheet) -> Result<(), WriteFault> {
 #[test]
 fn pieces_are_gathered(rt: HostRuntime) {
     let mut writer = sheet_of(9000);
-    expect_equal(&rt, &stream_pieces(&mut writer), &Ok(()));
-    expect_equal(&rt, &(writer.bytes.len(), writer.writes), &(5000, 2));
+    expect_equal(&rt, stream_pieces(&mut writer), Ok(()));
+    expect_equal(&rt, (writer.bytes.len(), writer.writes), (5000, 2));
 }

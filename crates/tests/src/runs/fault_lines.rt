@@ -230,16 +230,16 @@ fn each_fault_has_its_line(rt: HostRuntime) {
             line: 1,
             kind,
         };
-        expect_at(&rt, &kind, is_told(&RunError::Text(fault).into(), line));
+        expect_at(&rt, kind, is_told(&RunError::Text(fault).into(), line));
     }
     for &(kind, line) in &TABLE_KINDS {
         let fault = TableFault { offset: 37, kind };
-        expect_at(&rt, &kind, is_told(&RunError::Tables(fault).into(), line));
+        expect_at(&rt, kind, is_told(&RunError::Tables(fault).into(), line));
     }
     for (error, line) in &LINES {
-        expect_at(&rt, &line, is_told(&CommandError::Run(*error), line));
+        expect_at(&rt, line, is_told(&CommandError::Run(*error), line));
     }
     for (error, line) in &COMMAND_LINES {
-        expect_at(&rt, &line, is_told(error, line));
+        expect_at(&rt, line, is_told(error, line));
     }
 }

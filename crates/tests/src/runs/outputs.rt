@@ -213,11 +213,11 @@ fn expect_written(
         } else {
             Ok(answer)
         };
-        expect_equal_at(rt, &(what, most), &given, &told);
+        expect_equal_at(rt, (what, most), given, told);
         let is_front = writer.bytes.as_slice() == &wanted[..most];
         expect_at(
             rt,
-            &(what, most),
+            (what, most),
             is_front && writer.failed() == (most < wanted.len()),
         );
     }
@@ -245,14 +245,14 @@ fn a_picture_is_written_until_its_writer_fails(rt: HostRuntime) -> Result<(), Fa
         let written = most as u64;
         expect_equal_at(
             &rt,
-            &most,
-            &given,
-            &Err(RunError::Write(WriteFault { written }).into()),
+            most,
+            given,
+            Err(RunError::Write(WriteFault { written }).into()),
         );
         let is_front = wanted.as_slice().starts_with(writer.bytes.as_slice());
         expect_at(
             &rt,
-            &most,
+            most,
             is_front && writer.bytes.len() == most && writer.failed(),
         );
     }
@@ -318,7 +318,7 @@ fn bearers_have_their_lines(rt: HostRuntime) -> Result<(), Fail> {
         let mut second = reader_of(b"", 1, usize::MAX);
         let mut writer = slow_sheet_of(1, usize::MAX);
         perform(Run::Check, rt.alloc(), &mut text, &mut second, &mut writer)?;
-        expect_at(&rt, &line, has_line(writer.bytes.as_slice(), line));
+        expect_at(&rt, line, has_line(writer.bytes.as_slice(), line));
     }
     Ok(())
 }

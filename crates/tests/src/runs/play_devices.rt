@@ -40,14 +40,14 @@ fn expect_named(rt: &impl Abort, alloc: Global, source: Source, most: usize) {
         kind: ReadFaultKind::Device,
     };
     let wanted = Err(PlayError::Read(source, fault));
-    expect_equal_at(rt, &(source, most), &answer, &wanted);
+    expect_equal_at(rt, (source, most), answer, wanted);
     let failed = (text.failed(), next.failed(), script.failed());
     let wanted = (
         source == Source::Text,
         source == Source::Next,
         source == Source::Script,
     );
-    expect_equal_at(rt, &(source, most), &failed, &wanted);
+    expect_equal_at(rt, (source, most), failed, wanted);
     assert!(rt; out.writes == 0 && !out.failed());
 }
 
@@ -108,13 +108,9 @@ fn a_writer_that_fails_after_each_number_of_bytes_has_the_first(rt: HostRuntime)
             let mut out = sheet_of(most);
             let answer = play_texts(rt.alloc(), played, &mut out);
             let told = written(most, wanted.len()).map_err(PlayError::Write);
-            expect_equal_at(&rt, &most, &answer, &told);
+            expect_equal_at(&rt, most, answer, told);
             let is_front = out.bytes.as_slice() == &wanted.as_bytes()[..most];
-            expect_at(
-                &rt,
-                &most,
-                is_front && out.failed() == (most < wanted.len()),
-            );
+            expect_at(&rt, most, is_front && out.failed() == (most < wanted.len()));
         }
     }
 }
@@ -130,13 +126,9 @@ fn typed_answers_that_stop_have_the_first_bytes(rt: HostRuntime) {
     for most in 0..=wanted.len() {
         let mut out = sheet_of(most);
         let answer = typed(&answers, &mut out);
-        expect_equal_at(&rt, &most, &answer, &written(most, wanted.len()));
+        expect_equal_at(&rt, most, answer, written(most, wanted.len()));
         let is_front = out.bytes.as_slice() == &wanted[..most];
-        expect_at(
-            &rt,
-            &most,
-            is_front && out.failed() == (most < wanted.len()),
-        );
+        expect_at(&rt, most, is_front && out.failed() == (most < wanted.len()));
     }
 }
 
@@ -175,7 +167,7 @@ fn expect_repeated(rt: &impl Abort, out: &Sheet, line: &[u8], count: usize) {
     let is_same = out.bytes.as_slice() == wanted.as_slice();
     expect_at(
         rt,
-        &count,
+        count,
         is_same && out.writes as usize <= wanted.len() / 4096 + 1,
     );
 }

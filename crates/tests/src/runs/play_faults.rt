@@ -93,7 +93,7 @@ fn the_first_fault_is_named_and_nothing_is_written(rt: HostRuntime) {
     for &(played, fault) in &FAULTS {
         let mut out = sheet_of(usize::MAX);
         let answer = play_texts(rt.alloc(), played, &mut out);
-        expect_equal_at(&rt, &played.3, &answer, &Err(error(fault)));
+        expect_equal_at(&rt, played.3, answer, Err(error(fault)));
         assert!(rt; out.writes == 0 && !out.failed);
     }
 }
@@ -135,8 +135,8 @@ fn texts_and_scripts_are_read_to_their_limit(rt: HostRuntime) {
         } else {
             Ok(())
         };
-        expect_equal_at(&rt, &source, &answer, &wanted);
+        expect_equal_at(&rt, source, answer, wanted);
         let is_left = out.writes == 0 && long.reads <= LIMIT as u32 + 2 && !long.failed();
-        expect_at(&rt, &source, is_left);
+        expect_at(&rt, source, is_left);
     }
 }

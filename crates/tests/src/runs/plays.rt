@@ -240,7 +240,7 @@ fn plays_write_their_lines_and_bytes(rt: HostRuntime) {
     for &(played, wanted) in &PLAYS {
         let mut out = sheet_of(usize::MAX);
         play_texts(rt.alloc(), played, &mut out).expect(&rt, "a play");
-        expect_equal_at(&rt, &played.3, &out.bytes.as_slice(), &wanted.as_bytes());
+        expect_equal_at(&rt, played.3, out.bytes.as_slice(), wanted.as_bytes());
     }
 }
 
@@ -253,10 +253,6 @@ fn answers_type_their_bytes(rt: HostRuntime) {
         Answer::BackTab,
     ];
     typed(&answers, &mut out).expect(&rt, "bytes");
-    expect_equal(
-        &rt,
-        &out.bytes.as_slice(),
-        &b"\x1b\xc3\xa9\x1b[Z".as_slice(),
-    );
+    expect_equal(&rt, out.bytes.as_slice(), b"\x1b\xc3\xa9\x1b[Z".as_slice());
     typed(&[], &mut sheet_of(0)).expect(&rt, "no bytes");
 }

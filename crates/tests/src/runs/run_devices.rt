@@ -151,11 +151,11 @@ fn an_input_that_fails_after_each_number_of_bytes_is_named(rt: HostRuntime) {
                 offset: most as u64,
                 kind: ReadFaultKind::Device,
             };
-            expect_equal_at(&rt, &(input, most), &answer, &Err(read_error(input, fault)));
+            expect_equal_at(&rt, (input, most), answer, Err(read_error(input, fault)));
             let is_left = failing.failed() && !other.failed() && writer.writes == 0;
             expect_at(
                 &rt,
-                &(input, most),
+                (input, most),
                 is_left && (!is_first || other.reads == 0),
             );
         }
@@ -214,9 +214,9 @@ fn an_input_without_end_is_left(rt: HostRuntime) {
         } else {
             perform(what, rt.alloc(), &mut other, &mut endless, &mut writer)
         };
-        expect_equal_at(&rt, &what, &answer, &Err(error));
+        expect_equal_at(&rt, what, answer, Err(error));
         let is_left = endless.reads <= most_reads && !endless.failed() && writer.writes == 0;
-        expect_at(&rt, &what, is_left);
+        expect_at(&rt, what, is_left);
     }
 }
 
@@ -286,7 +286,7 @@ fn a_faulty_input_is_named(rt: HostRuntime) {
         let mut second = tape_of(second, second.len(), 64, usize::MAX);
         let mut writer = sheet_of(usize::MAX);
         let answer = perform(what, rt.alloc(), &mut first, &mut second, &mut writer);
-        expect_equal_at(&rt, &what, &answer, &Err(error));
+        expect_equal_at(&rt, what, answer, Err(error));
         assert!(rt; writer.writes == 0);
     }
     let mut tables = [0; 15_524];
@@ -295,6 +295,6 @@ fn a_faulty_input_is_named(rt: HostRuntime) {
     let mut file = tape_of(&tables, 15_524, 4096, usize::MAX);
     let mut writer = sheet_of(usize::MAX);
     let answer = dump_run(rt.alloc(), &mut file, &mut writer);
-    expect_equal_at(&rt, &BAD_FLAG, &answer, &Err(RunError::Tables(BAD_FLAG)));
+    expect_equal_at(&rt, BAD_FLAG, answer, Err(RunError::Tables(BAD_FLAG)));
     assert!(rt; writer.writes == 0);
 }

@@ -14,12 +14,12 @@ fn scripts_are_read(rt: HostRuntime) {
         lost: true,
         what: What::Up(key),
     }];
-    expect_equal(&rt, &events.as_slice(), &wanted.as_slice());
-    expect_equal(&rt, &wanted[0].event(), &None);
+    expect_equal(&rt, events.as_slice(), wanted.as_slice());
+    expect_equal(&rt, wanted[0].event(), None);
     let events = read_script(rt.alloc(), b"# down\n\t\r\ndown 30#x\nlost load\n").expect(
         &rt, "a script",
     );
-    expect_equal(&rt, &events.len(), &2);
+    expect_equal(&rt, events.len(), 2);
 }
 
 static FAULTS: [(&str, ScriptFault); 10] = [
@@ -42,7 +42,7 @@ static FAULTS: [(&str, ScriptFault); 10] = [
 fn faults_name_their_line(rt: HostRuntime) {
     for &(script, fault) in &FAULTS {
         let answer = read_script(rt.alloc(), script.as_bytes()).err();
-        expect_equal_at(&rt, &script, &answer, &Some(ScriptError::Fault(fault)));
+        expect_equal_at(&rt, script, answer, Some(ScriptError::Fault(fault)));
     }
 }
 
@@ -57,8 +57,8 @@ fn a_script_that_is_cut_has_the_fault_of_its_last_line(rt: HostRuntime) {
         let events = before.saturating_add(usize::from(is_last_there));
         let fault = ScriptFault::BadLine((before as u64).saturating_add(1));
         match read_script(rt.alloc(), cut) {
-            Ok(given) => expect_equal_at(&rt, &end, &given.len(), &events),
-            Err(error) => expect_equal_at(&rt, &end, &error, &ScriptError::Fault(fault)),
+            Ok(given) => expect_equal_at(&rt, end, given.len(), events),
+            Err(error) => expect_equal_at(&rt, end, error, ScriptError::Fault(fault)),
         }
     }
 }

@@ -153,9 +153,9 @@ fn expect_typed(rt: &impl Abort, alloc: Global, text: &[u8], sentence: &[u8], sc
     let wanted = events_of(rt, alloc, script);
     match type_sentence(alloc, &map, sentence) {
         Ok(typing) => {
-            expect_equal_at(rt, &sentence, &typing.events.as_slice(), &wanted.as_slice());
+            expect_equal_at(rt, sentence, typing.events.as_slice(), wanted.as_slice());
         }
-        Err(error) => expect_equal_at(rt, &sentence, &Some(error), &None),
+        Err(error) => expect_equal_at(rt, sentence, Some(error), None),
     }
 }
 
@@ -181,8 +181,8 @@ fn each_character_tells_where_its_events_end(rt: HostRuntime) {
             end: 6,
         },
     ];
-    expect_equal_at(&rt, &"keyed", &typing.keyed.as_slice(), &wanted.as_slice());
-    expect_equal_at(&rt, &"events", &typing.events.len(), &8);
+    expect_equal_at(&rt, "keyed", typing.keyed.as_slice(), wanted.as_slice());
+    expect_equal_at(&rt, "events", typing.events.len(), 8);
 }
 
 #[test]
@@ -190,6 +190,6 @@ fn what_no_keys_type_is_refused(rt: HostRuntime) {
     for &(text, sentence, error) in &REFUSED {
         let map = read_map(rt.alloc(), text).expect(&rt, "a keymap");
         let answer = type_sentence(rt.alloc(), &map, sentence);
-        expect_equal_at(&rt, &sentence, &answer.err(), &Some(error));
+        expect_equal_at(&rt, sentence, answer.err(), Some(error));
     }
 }

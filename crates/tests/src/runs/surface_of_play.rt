@@ -25,7 +25,7 @@ fn told(what: What) -> (&'static str, Option<u8>) {
 
 /// The only thing that a script sends.
 fn only(rt: &impl Abort, sent: &[Sent]) -> Sent {
-    expect_equal(rt, &sent.len(), &1);
+    expect_equal(rt, sent.len(), 1);
     *sent.first().expect(rt, "an event")
 }
 
@@ -34,7 +34,7 @@ fn read_script_of_a_line(rt: HostRuntime) {
     let sent: Result<Vec<Sent>, ScriptError> = read_script(rt.alloc(), b" lost  up 042 # x");
     let Sent { lost, what } = only(&rt, sent.expect(&rt, "events").as_slice());
     let _: bool = lost;
-    expect_equal(&rt, &(lost, told(what)), &(true, ("up", Some(42))));
+    expect_equal(&rt, (lost, told(what)), (true, ("up", Some(42))));
 }
 
 /// The name of a script's fault and its line, none where memory was refused.
@@ -56,8 +56,8 @@ fn parts_of(fault: ScriptFault) -> (&'static str, u64) {
 fn script_faults(rt: HostRuntime) {
     let key: Option<ScriptError> = read_script(rt.alloc(), b"down 128").err();
     let line: Option<ScriptError> = read_script(rt.alloc(), b"reset\ndown").err();
-    expect_equal(&rt, &key.and_then(judged), &Some(("BadKey", 1)));
-    expect_equal(&rt, &line.and_then(judged), &Some(("BadLine", 2)));
+    expect_equal(&rt, key.and_then(judged), Some(("BadKey", 1)));
+    expect_equal(&rt, line.and_then(judged), Some(("BadLine", 2)));
 }
 
 /// What is delivered of a repeat of a key, where it is lost and where it isn't.
@@ -82,8 +82,8 @@ fn pressed(event: Event) -> Option<u8> {
 
 #[test]
 fn sent_event(rt: HostRuntime) {
-    expect_equal(&rt, &delivered(30, false).and_then(pressed), &Some(30));
-    expect_equal(&rt, &delivered(30, true).and_then(pressed), &None);
+    expect_equal(&rt, delivered(30, false).and_then(pressed), Some(30));
+    expect_equal(&rt, delivered(30, true).and_then(pressed), None);
 }
 
 /// Whether a show has lines.
@@ -142,10 +142,10 @@ fn play_lines(rt: HostRuntime) {
         &mut script,
         &mut out,
     );
-    expect_equal(&rt, &played, &Ok(()));
+    expect_equal(&rt, played, Ok(()));
     let wanted =
         b"press 30: char 97; mods none; locks none\nrelease 30: none; mods none; locks none\n";
-    expect_equal(&rt, &out.bytes.as_slice(), &wanted.as_slice());
+    expect_equal(&rt, out.bytes.as_slice(), wanted.as_slice());
 }
 
 #[test]
@@ -157,8 +157,8 @@ fn play_typed(rt: HostRuntime) {
     );
     let show: Show = Show::Typed;
     let played: Result<(), PlayError> = play(rt.alloc(), show, &mut text, &mut script, &mut out);
-    expect_equal(&rt, &(played, has_lines(show)), &(Ok(()), false));
-    expect_equal(&rt, &out.bytes.as_slice(), &b"a".as_slice());
+    expect_equal(&rt, (played, has_lines(show)), (Ok(()), false));
+    expect_equal(&rt, out.bytes.as_slice(), b"a".as_slice());
 }
 
 #[test]
@@ -175,7 +175,7 @@ fn play_blames_a_source(rt: HostRuntime) {
         &mut script,
         &mut out,
     );
-    expect_equal(&rt, &played.map_err(blamed), &Err("script"));
+    expect_equal(&rt, played.map_err(blamed), Err("script"));
 }
 
 #[test]
@@ -194,9 +194,9 @@ fn play_next_after_a_load(rt: HostRuntime) {
         &mut script,
         &mut out,
     );
-    expect_equal(&rt, &played, &Ok(()));
+    expect_equal(&rt, played, Ok(()));
     let last = b"load: none; mods none; locks none\npress 30: char 97; mods none; locks none\n";
-    expect_at(&rt, &"the last lines", out.bytes.ends_with(last));
+    expect_at(&rt, "the last lines", out.bytes.ends_with(last));
 }
 
 #[test]
@@ -214,7 +214,7 @@ fn play_next_of_a_fault(rt: HostRuntime) {
         &mut script,
         &mut out,
     );
-    expect_equal(&rt, &played.map_err(blamed), &Err("a next text"));
+    expect_equal(&rt, played.map_err(blamed), Err("a next text"));
 }
 
 #[test]
@@ -222,6 +222,6 @@ fn typed_answers(rt: HostRuntime) {
     let answers: [Answer; 2] = [Answer::BackTab, Answer::Char { c: 'e', meta: true }];
     let mut out = sheet_of(4);
     let written: Result<(), WriteFault> = typed(&answers, &mut out);
-    expect_equal(&rt, &written, &Err(WriteFault { written: 4 }));
-    expect_equal(&rt, &out.bytes.as_slice(), &b"\x1b[Z\x1b".as_slice());
+    expect_equal(&rt, written, Err(WriteFault { written: 4 }));
+    expect_equal(&rt, out.bytes.as_slice(), b"\x1b[Z\x1b".as_slice());
 }

@@ -66,8 +66,8 @@ fn check_run_accepts(rt: HostRuntime) {
         sheet_of(999),
     );
     let accepted: Result<bool, RunError> = check_run(rt.alloc(), &mut text, show, &mut out);
-    expect_equal(&rt, &accepted, &Ok(true));
-    expect_equal(&rt, &out.bytes.as_slice(), &ACCEPTED);
+    expect_equal(&rt, accepted, Ok(true));
+    expect_equal(&rt, out.bytes.as_slice(), ACCEPTED);
 }
 
 #[test]
@@ -78,9 +78,9 @@ fn check_run_shows(rt: HostRuntime) {
         sheet_of(999),
     );
     let accepted: Result<bool, RunError> = check_run(rt.alloc(), &mut text, show, &mut out);
-    expect_equal(&rt, &accepted, &Ok(false));
+    expect_equal(&rt, accepted, Ok(false));
     let script = b"demonstration:\ndown 42\ndown 29\ndown 42\nup 42\nup 29\n";
-    expect_at(&rt, &"the script", out.bytes.ends_with(script));
+    expect_at(&rt, "the script", out.bytes.ends_with(script));
 }
 
 #[test]
@@ -91,7 +91,7 @@ fn dump_run_of_zeros(rt: HostRuntime) {
         &mut reader_of(&zeros, 1, usize::MAX),
         &mut out,
     );
-    expect_equal(&rt, &dumped, &Ok(()));
+    expect_equal(&rt, dumped, Ok(()));
 }
 
 #[test]
@@ -102,20 +102,20 @@ fn dump_narrow_run_of_zeros(rt: HostRuntime) {
         &mut reader_of(&zeros, 1, usize::MAX),
         &mut out,
     );
-    expect_equal(&rt, &dumped, &Ok(()));
+    expect_equal(&rt, dumped, Ok(()));
 }
 
 #[test]
 fn run_errors(rt: HostRuntime) {
     let (mut broken, mut out) = (reader_of(b"", 1, 0), sheet_of(0));
     let dumped: Result<(), RunError> = dump_run(rt.alloc(), &mut broken, &mut out);
-    expect_equal(&rt, &dumped.map_err(blamed), &Err("a reader"));
+    expect_equal(&rt, dumped.map_err(blamed), Err("a reader"));
 }
 
 #[test]
 fn run_error_from_play_error(rt: HostRuntime) {
     let error: RunError = RunError::from(PlayError::Memory);
-    expect_equal(&rt, &blamed(error), &"memory");
+    expect_equal(&rt, blamed(error), "memory");
 }
 
 #[test]
@@ -123,10 +123,10 @@ fn write_run_error_to_a_page(rt: HostRuntime) {
     let error: RunError = RunError::Write(WriteFault { written: 10 });
     let mut out = sheet_of(999);
     let written: Result<(), WriteFault> = write_run_error(&error, &mut out);
-    expect_equal(&rt, &written, &Ok(()));
+    expect_equal(&rt, written, Ok(()));
     expect_equal(
         &rt,
-        &out.bytes.as_slice(),
-        &b"kmap: write fault after 10 bytes\n".as_slice(),
+        out.bytes.as_slice(),
+        b"kmap: write fault after 10 bytes\n".as_slice(),
     );
 }

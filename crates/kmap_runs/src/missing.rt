@@ -1,8 +1,9 @@
 //! The characters of a sentence that keys can't type, and the lines that tell them.
 ghost use Rattle.std.specs.HashSet.{contains};
-ghost use Rattle.std.specs.Prelude.{◌≡◌, ◌⊎◌, ◌∷◌, ◌++◌, ◌^◌, ◌<◌, ◌≤◌, [], ℕ, All, Ok, true, false, length, nat_eq};
-ghost use Rattle.std.specs.Prelude.{if◌then◌else◌, IfOk, IfErr, OnOk, MatchOption};
-ghost use Rattle.std.specs.Str.{encode_utf8_all};
+ghost use Rattle.std.specs.Prelude.{◌≡◌, ◌⊎◌, ◌∷◌, ◌++◌, ◌^◌, ◌<◌, ◌≤◌, [], ℕ, All, List, Ok, true, false, length, nat_eq};
+ghost use Rattle.std.specs.Prelude.{if◌then◌else◌, IfOk, IfErr, OnOk};
+ghost use Rattle.std.specs.Str.{IsUtf8, encode_utf8_all};
+ghost use Rattle.keymap_core.specs.Maps.{MapValue};
 ghost use Rattle.console_scripts.specs.Typing.{CanType};
 ghost use Rattle.keymap_lint_text.specs.Shown.{shown_name as shown_name_of};
 ghost use Rattle.kmap_runs.specs.Missing as spec;
@@ -56,15 +57,15 @@ fn add_untyped(
     }
 }
 
-/// Those of the characters that keys can't type, or nothing where that isn't known. Each different one is decided once.
+/// Those of the characters that keys can't type, if that is known of all. Each different one is decided once.
 fn missing_among(
     alloc: Global,
     typist: &Typist,
     characters: &[char],
-) -> Result<Option<Vec<Missing>>, AllocError>
+) -> Result<Vec<Missing>, TypeError>
     requires { length (encode_utf8_all characters.now) < 2 ^ 64 }
-    ensures { IfOk result (λ r. MatchOption r (IsUndecided typist.now)
-        (λ found. AreMissing typist.now characters.now found.items)) }
+    ensures ok { IfOk result (λ found. AreMissing typist.now characters.now found.items) }
+    ensures err { (bytes : List ℕ) → IfErr result (IsMissingError typist.now bytes) }
 {
     let mut seen = HashSet::new(alloc);
     let mut found = Vec::new(alloc);
@@ -75,11 +76,24 @@ fn missing_among(
             character: *c,
         };
         if !add_untyped(&mut seen, &mut found, typist, one)? {
-            return Ok(None);
+            return Err(TypeError::TooManyStates);
         }
         offset += c.len_utf8();
     }
-    Ok(Some(found))
+    Ok(found)
+}
+
+/// The characters of a sentence, if all of it is text.
+fn characters_of(alloc: Global, sentence: &[u8]) -> Result<Vec<char>, TypeError>
+    ensures ok { IfOk result (λ cs. IsUtf8 sentence.now × (encode_utf8_all cs.items ≡ sentence.now)) }
+    ensures err { (m : MapValue) → IfErr result (IsMissingError m sentence.now) }
+{
+    match from_utf8(sentence) {
+        Ok(text) => Ok(text.chars().collect(alloc)?),
+        Err(error) => Err(TypeError::NotText {
+            offset: error.valid_up_to() as u64,
+        }),
+    }
 }
 
 /// The characters of the sentence that keys can't type. The whole of it is read as text first, so a byte that isn't
@@ -92,20 +106,9 @@ pub(crate) fn missing_in(
     ensures ok { IfOk result (λ found. AreMissingIn map.now sentence.now found.items) }
     ensures err { IfErr result (IsMissingError map.now sentence.now) }
 {
-    let text = match from_utf8(sentence) {
-        Ok(text) => text,
-        Err(error) => {
-            return Err(TypeError::NotText {
-                offset: error.valid_up_to() as u64,
-            });
-        }
-    };
-    let characters: Vec<char> = text.chars().collect(alloc)?;
+    let characters = characters_of(alloc, sentence)?;
     let typist = Typist::new(alloc, map)?;
-    match missing_among(alloc, &typist, characters.as_slice())? {
-        Some(found) => Ok(found),
-        None => Err(TypeError::TooManyStates),
-    }
+    missing_among(alloc, &typist, characters.as_slice())
 }
 
 /// The number of a character, and behind it the character, where a terminal shows it.

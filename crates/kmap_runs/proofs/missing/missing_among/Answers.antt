@@ -42,11 +42,11 @@ loop-c-preserved c =
           (λ e. c.add_untyped.ensures.new known (before.seen x ∙ e)));
     }
 
-pub returns-then-not-branch : goal.returns-then-not-branch
-returns-then-not-branch c =
+pub returns-then-not-branch-clause-err : goal.returns-then-not-branch-clause-err
+returns-then-not-branch-clause-err c bytes =
     c.add_untyped.ensures.undecided (c.in_ok-add_untyped.was ∙ ap (λ b. Ok b) c.if-not-branch.true)
 
-pub returns : goal.returns
-returns c =
+pub returns-clause-ok : goal.returns-clause-ok
+returns-clause-ok c =
     subst (λ z. AreMissing c.args.typist.now z c.loop-c.found.items) (take_all _ _ c.loop-c-test.false)
     c.loop-c.invariant.are

@@ -86,8 +86,8 @@ other-build:
 	sh tests/stopped.sh $(PROGRAM).by-rattle
 	sh tests/both_builds.sh $(PROGRAM) $(PROGRAM).by-rattle
 
-# the tests of what stands in the repository, of the scripts themselves, and of how costs grow, which is the same however
-# the program is built: `make test` alone runs these
+# the tests of what stands in the repository, of the scripts themselves, and of how costs grow, which is the same
+# however the program is built: `make test` alone runs these
 texts:
 	@$(LINK_SHARED)
 	RT="$(RT)" python3 tests/layout

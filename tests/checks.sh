@@ -179,9 +179,9 @@ refuses 'failed: there is no .*/copy/tests/transcripts/' transcripts
 cp "$top"/tests/transcripts/*.t copy/tests/transcripts
 
 # Edits that must fail, by a kit that only tells what a prover said: two of a file that are refused where it says, one that
-# is refused elsewhere, in a branch, for a goal or a step that is gone, without the edit too, ones that can't be applied,
-# of which nothing is told, that say nothing, and none at all. Without the edits nothing is checked in a crate that was
-# proved just before, unless a proof there rests on another function. And a kit that has no such function.
+# is refused elsewhere, in a branch, for a goal or a step that is gone, without the edit too, ones that can't be
+# applied, of which nothing is told, that say nothing, and none at all. Without the edits nothing is checked in a crate
+# that was proved just before, unless a proof there rests on another function. And a kit that has no such function.
 file=crates/keymap_check/must-fail/promises.edit
 rm -r copy/crates/*/must-fail
 mkdir -p "copy/${file%/*}" kit/bin

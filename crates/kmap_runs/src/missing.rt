@@ -1,7 +1,7 @@
 //! The characters of a sentence that keys can't type, and the lines that tell them.
 ghost use Rattle.std.specs.HashSet.{contains};
-ghost use Rattle.std.specs.Prelude.{◌≡◌, ◌⊎◌, ◌∷◌, ◌++◌, ◌^◌, ◌<◌, ◌≤◌, [], ℕ, All, List, Ok, true, false, length, nat_eq};
-ghost use Rattle.std.specs.Prelude.{if◌then◌else◌, IfOk, IfErr, OnOk};
+ghost use Rattle.std.specs.Prelude.{◌≡◌, ◌⊎◌, ◌∷◌, ◌++◌, ◌^◌, ◌<◌, ◌≤◌, [], ℕ, All, List, true, false, length, nat_eq};
+ghost use Rattle.std.specs.Prelude.{if◌then◌else◌, Ok, IfOk, IfErr, OnOk};
 ghost use Rattle.std.specs.Str.{IsUtf8, encode_utf8_all};
 ghost use Rattle.keymap_core.specs.Maps.{MapValue};
 ghost use Rattle.console_scripts.specs.Typing.{CanType};

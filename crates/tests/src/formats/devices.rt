@@ -146,6 +146,6 @@ fn a_text_is_read_to_its_limit(rt: HostRuntime) {
         let most_reads = taken.checked_div(pace).unwrap_or(0).saturating_add(2);
         let is_left = tape.given <= taken && tape.reads as usize <= most_reads.min(1_048_578);
         expect_at(&rt, (size, pace), is_left);
-        expect_equal_at(&rt, (size, pace), tape.failed(), (error == Some(FAILED)));
+        expect_equal_at(&rt, (size, pace), tape.failed(), error == Some(FAILED));
     }
 }

@@ -1,7 +1,7 @@
 //! What the runs of the program write: reports, scripts and printed keymaps, also into a writer that fails after each
 //! number of bytes.
 
-use crate::asserts::{expect_at, expect_equal_at};
+use crate::asserts::{expect_at, expect_equal_at, map_of};
 use crate::runs::run_devices::{Run, narrow_of, perform, tables_of};
 use crate::support::devices::{reader_of, slow_sheet_of};
 use crate::support::keymaps::{
@@ -11,11 +11,9 @@ use crate::support::keymaps::{
 use keymap_check::check;
 use keymap_core::{Write, WriteFault};
 use keymap_draw::{Board, picture};
-use keymap_text::read_map;
 use kmap_runs::RunError;
-use std::alloc::Global;
+use std::alloc::{AllocError, Global};
 use std::process::Abort;
-use std::test::Fail;
 
 const ACCEPTED: &[u8] = b"accepted
 lshift throughout 42
@@ -233,49 +231,50 @@ fn runs_write_their_output(rt: HostRuntime) {
 /// How many bytes of a picture, which is longer, a writer takes before it fails.
 static TAKEN: [usize; 5] = [0, 1, 4095, 4096, 10_000];
 
+/// A writer of so many bytes takes that much of the picture.
+fn expect_front(rt: &impl Abort, alloc: Global, most: usize, picture: &[u8]) {
+    let mut text = reader_of(LETTER_AND_SHIFT, 512, usize::MAX);
+    let mut second = reader_of(b"", 1, usize::MAX);
+    let mut writer = slow_sheet_of(1, most);
+    let given = perform(Run::Draw, alloc, &mut text, &mut second, &mut writer);
+    let written = most as u64;
+    let told = Err(RunError::Write(WriteFault { written }).into());
+    expect_equal_at(rt, most, given, told);
+    let is_front = picture.starts_with(writer.bytes.as_slice());
+    expect_at(
+        rt,
+        most,
+        is_front && writer.bytes.len() == most && writer.failed(),
+    );
+}
+
 #[test]
-fn a_picture_is_written_until_its_writer_fails(rt: HostRuntime) -> Result<(), Fail> {
-    let map = read_map(rt.alloc(), LETTER_AND_SHIFT)?;
-    let wanted = picture(rt.alloc(), &map, &check(&map), Board::Iso, b"")?;
+fn a_picture_is_written_until_its_writer_fails(rt: HostRuntime) {
+    let map = map_of(&rt, LETTER_AND_SHIFT);
+    let wanted = picture(rt.alloc(), &map, &check(&map), Board::Iso, b"").expect(&rt, "memory");
     for &most in &TAKEN {
-        let mut text = reader_of(LETTER_AND_SHIFT, 512, usize::MAX);
-        let mut second = reader_of(b"", 1, usize::MAX);
-        let mut writer = slow_sheet_of(1, most);
-        let given = perform(Run::Draw, rt.alloc(), &mut text, &mut second, &mut writer);
-        let written = most as u64;
-        expect_equal_at(
-            &rt,
-            most,
-            given,
-            Err(RunError::Write(WriteFault { written }).into()),
-        );
-        let is_front = wanted.as_slice().starts_with(writer.bytes.as_slice());
-        expect_at(
-            &rt,
-            most,
-            is_front && writer.bytes.len() == most && writer.failed(),
-        );
+        expect_front(&rt, rt.alloc(), most, wanted.as_slice());
     }
-    Ok(())
 }
 
 const PRINTED: &[u8] = b"000 'a'    'A'    soh    soh    fkey01 scr16  0x20ac del    B\n";
 
-/// Tables print as their keymap, also narrow ones.
 #[test]
-fn tables_print_as_their_map(rt: HostRuntime) -> Result<(), Fail> {
+fn empty_tables_print_nothing(rt: HostRuntime) {
     expect_written(&rt, rt.alloc(), Run::Dump, (&[0; 15_524], b""), true, b"");
-    let map = read_map(rt.alloc(), b"0 'a' 'A' SOH soh fkey1 scr16 0x20ac DEL b")?;
-    let tables = tables_of(&map)?;
-    expect_written(
-        &rt,
-        rt.alloc(),
-        Run::Dump,
-        (tables.as_slice(), b""),
-        true,
-        PRINTED,
-    );
-    let mut printed = Vec::new(rt.alloc());
+}
+
+#[test]
+fn tables_print_as_their_map(rt: HostRuntime) {
+    let map = map_of(&rt, b"0 'a' 'A' SOH soh fkey1 scr16 0x20ac DEL b");
+    let tables = tables_of(&map).expect(&rt, "a table file");
+    let inputs: (&[u8], &[u8]) = (tables.as_slice(), b"");
+    expect_written(&rt, rt.alloc(), Run::Dump, inputs, true, PRINTED);
+}
+
+/// What the keymap of a letter and a shift prints as: all slots up to the shift.
+fn letter_and_shift(alloc: Global) -> Result<Vec<u8>, AllocError> {
+    let mut printed = Vec::new(alloc);
     for slot in 0..43u8 {
         printed.extend_from_slice(&[b'0', b'0' + slot / 10, b'0' + slot % 10])?;
         let rest: &[u8] = match slot {
@@ -285,16 +284,16 @@ fn tables_print_as_their_map(rt: HostRuntime) -> Result<(), Fail> {
         };
         printed.extend_from_slice(rest)?;
     }
-    let narrow = narrow_of(&read_map(rt.alloc(), LETTER_AND_SHIFT)?)?;
-    expect_written(
-        &rt,
-        rt.alloc(),
-        Run::DumpNarrow,
-        (narrow.as_slice(), b""),
-        true,
-        &printed,
-    );
-    Ok(())
+    Ok(printed)
+}
+
+#[test]
+fn narrow_tables_print_as_their_map(rt: HostRuntime) {
+    let map = map_of(&rt, LETTER_AND_SHIFT);
+    let narrow = narrow_of(&map).expect(&rt, "a narrow file");
+    let inputs: (&[u8], &[u8]) = (narrow.as_slice(), b"");
+    let printed = letter_and_shift(rt.alloc()).expect(&rt, "memory");
+    expect_written(&rt, rt.alloc(), Run::DumpNarrow, inputs, true, &printed);
 }
 
 fn has_line(report: &[u8], line: &[u8]) -> bool {
@@ -312,13 +311,13 @@ static LOCK_LINES: [(&[u8], &[u8]); 6] = [
 ];
 
 #[test]
-fn bearers_have_their_lines(rt: HostRuntime) -> Result<(), Fail> {
+fn bearers_have_their_lines(rt: HostRuntime) {
     for &(text, line) in &LOCK_LINES {
         let mut text = reader_of(text, 1, usize::MAX);
         let mut second = reader_of(b"", 1, usize::MAX);
         let mut writer = slow_sheet_of(1, usize::MAX);
-        perform(Run::Check, rt.alloc(), &mut text, &mut second, &mut writer)?;
-        expect_at(&rt, line, has_line(writer.bytes.as_slice(), line));
+        let told = perform(Run::Check, rt.alloc(), &mut text, &mut second, &mut writer);
+        let has_line = has_line(writer.bytes.as_slice(), line);
+        expect_at(&rt, line, told.is_ok() && has_line);
     }
-    Ok(())
 }

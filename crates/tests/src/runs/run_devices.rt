@@ -41,21 +41,24 @@ pub(crate) fn perform(
     second: &mut Tape<'_>,
     writer: &mut Sheet,
 ) -> Result<bool, CommandError> {
-    let answer = match what {
-        Run::Check => check_run(alloc, first, false, writer)?,
-        Run::Show => check_run(alloc, first, true, writer)?,
-        Run::Search => search_run(alloc, first, &mut None::<Tape<'_>>, writer)?,
-        Run::SearchNext => search_between(alloc, first, second, writer)?,
-        Run::Type => type_run(alloc, first, second, writer).and(Ok(true))?,
-        Run::Dump => dump_run(alloc, first, writer).and(Ok(true))?,
-        Run::DumpNarrow => dump_narrow_run(alloc, first, writer).and(Ok(true))?,
-        Run::Compile => compile_run(alloc, first, writer).and(Ok(true))?,
-        Run::CompileNarrow => compile_narrow_run(alloc, first, writer).and(Ok(true))?,
-        Run::Draw => draw_run(alloc, first, Board::Iso, b"", writer).and(Ok(true))?,
-        Run::Lint => lint_run(alloc, b"t", first, writer)?,
-        Run::Layout => fmt_print_run(alloc, first, writer).and(Ok(true))?,
-    };
-    Ok(answer)
+    match what {
+        Run::Check => of_run(check_run(alloc, first, false, writer)),
+        Run::Show => of_run(check_run(alloc, first, true, writer)),
+        Run::Search => of_run(search_run(alloc, first, &mut None::<Tape<'_>>, writer)),
+        Run::SearchNext => of_run(search_between(alloc, first, second, writer)),
+        Run::Type => type_run(alloc, first, second, writer).and(Ok(true)),
+        Run::Dump => of_run(dump_run(alloc, first, writer).and(Ok(true))),
+        Run::DumpNarrow => of_run(dump_narrow_run(alloc, first, writer).and(Ok(true))),
+        Run::Compile => of_run(compile_run(alloc, first, writer).and(Ok(true))),
+        Run::CompileNarrow => of_run(compile_narrow_run(alloc, first, writer).and(Ok(true))),
+        Run::Draw => of_run(draw_run(alloc, first, Board::Iso, b"", writer).and(Ok(true))),
+        Run::Lint => of_run(lint_run(alloc, b"t", first, writer)),
+        Run::Layout => fmt_print_run(alloc, first, writer).and(Ok(true)),
+    }
+}
+
+fn of_run(answer: Result<bool, RunError>) -> Result<bool, CommandError> {
+    Ok(answer?)
 }
 
 fn search_between(

@@ -14,13 +14,11 @@ use Rattle.console_scripts.proofs.Common.{locks_in, but_scroll, unscrolled}
 use Rattle.console_scripts.proofs.Common.{rules}
 use Rattle.console_scripts.specs.declared.explored.KeyAt.{KeyAt}
 use Rattle.console_scripts.specs.Types.{Selection}
-use Rattle.std.specs.Option.{option_map}
 use Rattle.console_states.specs.Returning.{IsTurned}
-use Rattle.console_scripts.specs.Visiting.{EndsAsTold, EndsSeeing, HasLocks, Visits}
-use Rattle.console_scripts.specs.Inner.Showing.{LeadsToSee, IsPressAt, IsRest, LeadsOn, press_behind}
+use Rattle.console_scripts.specs.Visiting.{EndsSeeing, HasLocks, Visits}
+use Rattle.console_scripts.specs.Inner.Showing.{LeadsToSee, IsPressAt, IsRest, LeadsOn}
 use Rattle.console_states.specs.Inner.Standing.{free_after}
 use Rattle.console_states.proofs.Going.{going-sees, pending-is}
-use Rattle.console_states.proofs.Seeing.{follows-selection}
 use Rattle.console_core.proofs.OneMore.{resolved-more, pending-reset}
 use Rattle.console_states.proofs.Standing.{stands-reset}
 use Rattle.console_states.proofs.Unscrolled.{locks-near, same_moved, same_states}
@@ -111,36 +109,4 @@ visits e whole s next rest x at (y, here, lt, sees, after, route) old home there
           let e : x ≡ w = cc in
           rw (← e) (press-sees m (state_of y.0) h there at.key x c.0 sees
           (c.1 (b.1 ∙ ap (λ z. pends m (z ++ h)) is ∙ reset-pends m h) (subst (λ z. IsReachable m z) (sym e) can)))),
-    )
-
--- what is told of the press is so where it is made
-press-told : (e : Explored) (at : KeyAt) (y : Entry) → slice_get e.met.entries at.place ≡ Some y → (dead : Option KeyAt)
-    (p : Selection × ℕ) → press_behind e at dead ≡ Some p
-    → (selection_of (state_of y.0) ≡ p.0) × (at.key ≡ p.1)
-press-told e at y here (Some dead) p is = absurd (none-some p is)
-press-told e at y here None p is =
-    let same : (selection_of (state_of y.0), at.key) ≡ p =
-    same_Some _ _
-    (sym (ap (λ o. option_map (λ (z : Entry). (selection_of (state_of z.0), at.key)) o) here) ∙ is) in
-    (ap (λ q. q.0) same, ap (λ q. q.1) same)
-
--- So the events of a visit end as was told.
-pub ends-told : (e : Explored) → IsWhole e → (s next : State) → IsRest e s → (x : Sight) (at : KeyAt)
-    (dead : Option KeyAt) → IsPressAt e x at next
-    → (old home there now : List Event) → old ≡ Reset ∷ []
-    → LeadsOn (map_of_explored e) s start old home
-    → ((y : Entry) → slice_get e.met.entries at.place ≡ Some y
-    → LeadsToSee (map_of_explored e) x start (state_of y.0) home there)
-    → now ≡ Press at.key ∷ there
-    → EndsAsTold (map_of_explored e) (locks_in s) (press_behind e at dead) now
-ends-told e whole s next rest x at dead (y, here, lt, sees, after, route) old home there now is back on last p told
-    h keys none locks =
-    let m : MapValue = map_of_explored e in
-    let a : IsAt m s h old = subst (λ z. IsAt m s h z) (sym is) (at-reset m s h rest.0 rest.1 keys none locks) in
-    let c : IsAt m (state_of y.0) h there = (on y here h (back h a).0).0 in
-    let same = press-told e at y here dead p told in (
-      there,
-      last ∙ ap (λ k. Press k ∷ there) same.1,
-      follows-selection (resolved (between m m) (there ++ h)) c.at c.stands.exact.follows
-          ∙ ap (λ z. selection_of z) c.near ∙ same.0,
     )

@@ -210,14 +210,3 @@ off-turned Caps other = refl
 off-turned Num other = refl
 off-turned Alt other = refl
 off-turned Scroll other = absurd (other refl)
-
--- only behind a dead key is a pair seen
-pub dead-pair : (e : Explored) (x : Sight) (d : KeyAt) → IsDeadFor e x (Some d) → IsPair x
-dead-pair e (sight.Pair accent c) d dead = tt
-dead-pair e (sight.Cell slot column) d dead = dead
-dead-pair e (sight.Locks slot caps num) d dead = dead
-
-pub no-pair : (e : Explored) (x : Sight) → IsDeadFor e x None → IsPair x → ⊥
-no-pair e (sight.Pair accent c) dead pair = dead
-no-pair e (sight.Cell slot column) dead pair = pair
-no-pair e (sight.Locks slot caps num) dead pair = pair

@@ -22,15 +22,13 @@ pub record Locks : Type 0 where
   pub num : Bool
   pub alt : Bool
 
--- What an explorer tells: the keymap, the states that moves lead to, the locks that its events leave on, what the next
--- visit aims at, and what picks the cells where that leads and the key that is pressed there, if no dead key comes
--- before.
+-- What an explorer tells: the keymap, the states that moves lead to, the locks that its events leave on, and what the
+-- next visit aims at.
 pub record ExplorerValue : Type 0 where
   pub map : MapValue
   pub states : List Held
   pub locks : Locks
   pub aim : Option Sight
-  pub press : Option (Selection × ℕ)
 
 -- the locks are on after the list as told
 abbrev pub HasLocks : MapValue → Locks → List Event → Type 0
@@ -56,13 +54,6 @@ Visits m before after aim later =
     (h : List Event) → HasKeys h → HasNoLoads h → HasLocks m before h
     → AreTaken h later × HasLocks m after (later ++ h)
     × ((x : Sight) → aim ≡ Some x → IsReachable m x → EndsSeeing m h later x)
-
--- Behind each list without loads that leaves these locks on, the events, newest first, end with the press of the key,
--- where the selection is the one that is told.
-abbrev pub EndsAsTold : MapValue → Locks → Option (Selection × ℕ) → List Event → Type 0
-EndsAsTold m before press later =
-    (p : Selection × ℕ) → press ≡ Some p → (h : List Event) → HasKeys h → HasNoLoads h → HasLocks m before h
-    → (earlier : List Event) × (later ≡ Press p.1 ∷ earlier) × (selection_after m (earlier ++ h) ≡ p.0)
 
 -- Where a press of the key in the state leads once all keys are let go, from there moves lead home.
 abbrev pub LeadsBack : Under → State → ℕ → Type 0
@@ -110,13 +101,6 @@ IsWayHome m s h =
 abbrev pub IsPair : Sight → Type 0
 IsPair (sight.Pair accent c) = Unit {0}
 IsPair _ = ⊥
-
--- What is told of the press to which the next visit leads: under the selection a press of the key sees what is aimed
--- at. Nothing is told of a press behind a dead key.
-abbrev pub IsPressTold : MapValue → Option Sight → Option (Selection × ℕ) → Type 0
-IsPressTold m aim None = (x : Sight) → aim ≡ Some x → IsPair x
-IsPressTold m aim (Some p) =
-    (x : Sight) × (aim ≡ Some x) × (IsPair x → ⊥) × (p.1 < key_count) × SeesBy m p.0 p.1 x
 
 -- moves lead from the state to where a press of some key sees it, where a pair's accent is pending
 abbrev pub SeesFrom : MapValue → State → Sight → Type 0

@@ -10,14 +10,14 @@ ghost use Rattle.console_states.specs.Returning.{IsAfter, but_scroll};
 ghost use Rattle.console_states.specs.Sights.{AreSightsOf};
 ghost use Rattle.console_scripts.specs.Types.{Scroll};
 ghost use Rattle.console_scripts.specs.Typing.{ComesHome};
-ghost use Rattle.console_scripts.specs.Visiting.{AreStatesOf, CanReach, CanVisit, HasLocks, IsPressTold, IsWayHome};
-ghost use Rattle.console_scripts.specs.Visiting.{EndsAsTold, LeadsBy, Visits};
+ghost use Rattle.console_scripts.specs.Visiting.{AreStatesOf, CanReach, CanVisit, HasLocks, IsWayHome};
+ghost use Rattle.console_scripts.specs.Visiting.{LeadsBy, Visits};
 ghost use Rattle.console_states.specs.Sticking.{ReachesMoreThan, state_limit};
 ghost use Rattle.console_scripts.specs.Inner.Exploring.{map_of_explored, origin_in, IsExplored, IsMetAt, IsTapAt};
 ghost use Rattle.console_scripts.specs.Inner.Exploring.{dead_tap};
 ghost use Rattle.console_states.specs.Searching.{under_of, Entry};
 ghost use Rattle.console_scripts.specs.Inner.Showing.{IsAim, IsPressAt, IsRest, IsWhole, Leads, LeadsComposing};
-ghost use Rattle.console_scripts.specs.Inner.Showing.{LeadsToSee, ShowsNot, locks_in, press_behind};
+ghost use Rattle.console_scripts.specs.Inner.Showing.{LeadsToSee, ShowsNot, locks_in};
 
 use crate::explored::{Explored, KeyAt, Symbol, Tap, explore};
 use crate::onward::Reached;
@@ -57,7 +57,7 @@ pub struct Explorer<'m> {
 impl<'m> Model for Explorer<'m> {
     ghost use Rattle.console_scripts.specs.Visiting.{ExplorerValue};
     ghost use Rattle.console_states.specs.Moves.{state_of};
-    ghost use Rattle.console_scripts.specs.Inner.Showing.{IsExplorer, locks_in, press_aimed, sight_aimed, states_in};
+    ghost use Rattle.console_scripts.specs.Inner.Showing.{IsExplorer, locks_in, sight_aimed, states_in};
 
     ghost Value = { ExplorerValue };
 
@@ -66,7 +66,6 @@ impl<'m> Model for Explorer<'m> {
       states = states_in p.explored.met.entries;
       locks = locks_in (state_of p.from);
       aim = sight_aimed p.aim;
-      press = press_aimed p.explored p.aim;
     } };
 
     ghost invariant = { λ p. IsExplorer p.explored (state_of p.from) p.aim };
@@ -260,8 +259,6 @@ impl<'m> Explored<'m> {
     /// before.
     fn press_told(&self, aim: &Aim) -> Option<(Selection, KeyCode)>
         requires { IsAim self.now aim.now }
-        ensures told { IsPressTold (map_of_explored self.now) (Some aim.now.sight) result }
-        ensures value { result ≡ press_behind self.now aim.now.at aim.now.dead }
     {
         match aim.dead {
             Some(_) => None,
@@ -281,9 +278,7 @@ impl<'m> Explored<'m> {
         requires from { IsRest self.now (state_of from.now) }
         requires aim { IsAim self.now aim.now }
         ensures { IfOk result (λ events. Visits (map_of_explored self.now) (locks_in (state_of from.now))
-            (locks_in (state_of aim.now.next)) (Some aim.now.sight) (reverse events.items)
-            × EndsAsTold (map_of_explored self.now) (locks_in (state_of from.now))
-            (press_behind self.now aim.now.at aim.now.dead) (reverse events.items)) }
+            (locks_in (state_of aim.now.next)) (Some aim.now.sight) (reverse events.items)) }
     {
         let mut events = Vec::new(alloc);
         events.push(Event::Reset)?;
@@ -344,10 +339,7 @@ impl<'m> Explorer<'m> {
 
     /// What picks the cells where the next visit leads, and the key that is pressed there, if others may be tapped
     /// before.
-    pub fn next_press(&self) -> Option<(Selection, KeyCode)>
-        ensures told { IsPressTold self.now.map self.now.aim result }
-        ensures value { result ≡ self.now.press }
-    {
+    pub fn next_press(&self) -> Option<(Selection, KeyCode)> {
         match self.aim {
             Some(aim) => self.explored.press_told(&aim),
             None => None,
@@ -363,8 +355,6 @@ impl<'m> Explorer<'m> {
         ensures none { IfOk result (λ events. self.old.aim ≡ None → (events.items ≡ []) × (self.new ≡ self.old)) }
         ensures refused { OnErr result (self.new ≡ self.old) }
         ensures visits { IfOk result (λ events. Visits self.old.map self.old.locks self.new.locks self.old.aim
-            (reverse events.items)) }
-        ensures pressed { IfOk result (λ events. EndsAsTold self.old.map self.old.locks self.old.press
             (reverse events.items)) }
     {
         let _map: &KeyMap = self.explored.maps.first;

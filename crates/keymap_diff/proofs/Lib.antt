@@ -14,6 +14,4 @@ pub mod OneEvent
 pub mod Pushing
 pub mod Reached
 pub mod Same
-pub mod SameChanges
-pub mod SameMoves
 pub mod Unlike

@@ -1,5 +1,4 @@
 -- What private contracts cite; no public clause does.
-pub mod Moving
 pub mod Pushing
 pub mod Searches
 pub mod Showing

@@ -11,7 +11,6 @@ mod change;
 mod compared;
 pub mod laws;
 mod marking;
-mod moving;
 mod nearest;
 mod searched;
 mod showing;

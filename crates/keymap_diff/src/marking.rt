@@ -2,20 +2,15 @@
 //!
 //! Mostly presses meet all of it in the states that a few of them lead to, so these are looked at first.
 ghost use Rattle.std.specs.Prelude.{◌≡◌, false, true, IfOk};
-ghost use Rattle.console_states.specs.Searching.{HasMetAll};
-ghost use Rattle.console_states.specs.Sights.{AreSightsOf, AreSomeSights};
+ghost use Rattle.console_states.specs.Sights.{AreSomeSights};
 ghost use Rattle.keymap_diff.specs.Changes.{AreChanges, AreDifferences};
-ghost use Rattle.keymap_diff.specs.Inner.Moving.{HaveSameMoves};
 ghost use Rattle.keymap_diff.specs.Inner.Versions.{AreVersions, HasAccent, IsMet, IsSeenOfBoth, MeetsChange};
 
 use crate::change::Change;
 use crate::compared::changes;
-use crate::moving::have_same_moves;
 use crate::unseen::{Letters, sees_dead_key};
 use crate::versions::{Seen, Versions};
-use console_states::{
-    End, Held, Keymaps, Met, Sight, Sights, meet_all, sights_in, sights_of, some_sights,
-};
+use console_states::{Sight, Sights, sights_of, some_sights};
 use keymap_core::KeyMap;
 use std::alloc::{AllocError, Global};
 
@@ -71,43 +66,10 @@ fn are_met(alloc: Global, old: &KeyMap, new: &KeyMap, found: &[Change]) -> Resul
 /// What presses can see under each of two keymaps, unless the search gave up.
 type BothSights = Option<(Sights, Sights)>;
 
-/// What presses can see under each of two keymaps, by the states that were met, which are all under each.
-fn sights_of_each(
-    alloc: Global,
-    met: &Met,
-    old: &Keymaps,
-    new: &Keymaps,
-) -> Result<(Sights, Sights), AllocError>
-    requires old { HasMetAll old.now met.now.entries }
-    requires new { HasMetAll new.now met.now.entries }
-    ensures { IfOk result (λ s. AreSightsOf old.now.first.now s.0 × AreSightsOf new.now.first.now s.1) }
-{
-    let old_sights = sights_in(alloc, met, old)?;
-    let new_sights = sights_in(alloc, met, new)?;
-    Ok((old_sights, new_sights))
-}
-
-/// What presses can see under each of the keymaps, by one search for both.
-fn sights_of_same_moves(alloc: Global, old: &KeyMap, new: &KeyMap) -> Result<BothSights, AllocError>
-    requires { HaveSameMoves old.now new.now }
-    ensures { IfOk result (IsSeenOfBoth old.now new.now) }
-{
-    let old_alone = Keymaps::alone(old);
-    let new_alone = Keymaps::alone(new);
-    let (met, end) = meet_all(alloc, &old_alone, &[Held::start()])?;
-    match end {
-        End::Complete => Ok(Some(sights_of_each(alloc, &met, &old_alone, &new_alone)?)),
-        End::TooMany(_) => Ok(None),
-    }
-}
-
 /// What presses can see under each of the keymaps.
 fn both_sights(alloc: Global, old: &KeyMap, new: &KeyMap) -> Result<BothSights, AllocError>
     ensures { IfOk result (IsSeenOfBoth old.now new.now) }
 {
-    if have_same_moves(old, new) {
-        return sights_of_same_moves(alloc, old, new);
-    }
     let Some(old_sights) = sights_of(alloc, old)? else {
         return Ok(None);
     };

@@ -35,9 +35,6 @@ pub use Rattle.keymap_draw.specs.Places.{is_class}
 pub use Rattle.keymap_draw.specs.Sheets.{IsWithin, ReadAs, facts_in, facts_of, in_svg, is_inner, is_seen, over}
 pub use Rattle.keymap_draw.specs.Sheets.{within}
 unfoldable pub use Rattle.keymap_draw.specs.Sheets.{last_facts}
-pub use Rattle.keymap_draw.specs.Titles.{titles}
-pub use Rattle.keymap_draw.specs.Told.{accent_definition, key_definition, title_of, told_in}
-unfoldable pub use Rattle.keymap_draw.specs.Told.{told}
 pub use Rattle.keymap_draw.specs.WellFormed.{Element, Place, Read, State, Tells, at, is_plain, is_shown, saying, scan}
 pub use Rattle.keymap_draw.specs.WellFormed.{start, step, within_element}
 pub use Rattle.keymap_draw.specs.WellFormed.Place.{Text, Value}

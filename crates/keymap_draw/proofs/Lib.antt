@@ -8,8 +8,5 @@ mod Parts
 mod Plain
 mod Red
 mod Scans
-mod Squeezed
 mod Texts
-mod Titles
-mod Told
 mod ToldTwice

@@ -1,13 +1,11 @@
--- The tables, the shapes and the lines of the code are those that are told a second time.
-use Rattle.keymap_draw.proofs.Common.{◌≡◌, ℕ, ◌++◌, arith, refl, sym, append_assoc, codes, digits, AccentValue}
-use Rattle.keymap_draw.proofs.Common.{accent_words, unfilled, unseen_name, other_legend, character_legend}
-use Rattle.keymap_text.specs.Printed.{accent_line}
+-- The tables and the shapes of the code are those that are told a second time.
+use Rattle.keymap_draw.proofs.Common.{arith, refl, digits}
+use Rattle.keymap_draw.proofs.Common.{unfilled, unseen_name, other_legend, character_legend}
 use Rattle.keymap_draw.specs.Names.{LegendsAreNames, NoOthersAreNamed}
 use Rattle.std.specs.Prelude.{take, drop}
 use Rattle.keymap_draw.specs.declared.constants.TheConstants.{STYLE}
 use Rattle.keymap_draw.specs.Shapes.{CapsAreOfTheirKeys}
 use Rattle.keymap_draw.specs.Sizes.{SizesAreOfTheStyle, LargeSignsFit}
-use Rattle.keymap_draw.proofs.Squeezed.{key_squeezed}
 
 pub legends_are_names : LegendsAreNames
 unfolding unfilled unseen_name other_legend character_legend
@@ -27,9 +25,3 @@ sizes_are_of_the_style = (take 398 STYLE, drop 540 STYLE, refl)
 
 pub large_signs_fit : LargeSignsFit
 large_signs_fit _ c alone tight h = rw h (grind (arith))
-
-pub accent_is_line : (i : ℕ) (accent : AccentValue) → accent_line i accent ≡ accent_words i accent ++ codes "\n"
-unfolding accent_line accent_words
-accent_is_line i accent = sym (simp append_assoc)
-
-pub ruleset line_laws = (key_squeezed, accent_is_line)

@@ -12,8 +12,6 @@ pub mod Markup
 pub mod Pictures
 pub mod Places
 pub mod Sheets
-pub mod Titles
-pub mod Told
 pub mod WellFormed
 pub mod Keyboards
 pub mod Letters

@@ -1,12 +1,12 @@
 //! Laws of the definitions. No function here does anything.
-ghost use Rattle.std.specs.Prelude.{◌≡◌, ℕ, ◌%◌, ◌<◌, ◌++◌, List, Some, true, All, option_to_list, codes};
+ghost use Rattle.std.specs.Prelude.{◌≡◌, ℕ, ◌%◌, ◌<◌, List, Some, true, All, option_to_list};
 ghost use Rattle.keymap_core.specs.Accents.{AccentValue};
 ghost use Rattle.keymap_core.specs.Bounds.{IsCell};
 ghost use Rattle.keymap_core.specs.Numbers.{key_count};
 ghost use Rattle.keymap_core.specs.declared.entry.Cell.{Cell as CellValue};
 ghost use Rattle.keymap_core.specs.declared.entry.Entry.{Entry as EntryValue};
 ghost use Rattle.keymap_check.specs.declared.finding.Finding.{Finding as FindingValue};
-ghost use Rattle.keymap_text.specs.Printed.{key_line, slot_words, accent_line, accent_words};
+ghost use Rattle.keymap_text.specs.Printed.{slot_words, accent_words};
 ghost use Rattle.keymap_draw.specs.Drawings.{Drawing};
 ghost use Rattle.keymap_draw.specs.Drawn.{EachCellIsTold};
 ghost use Rattle.keymap_draw.specs.Keys.{key_class, names_key, red};
@@ -19,8 +19,6 @@ ghost use Rattle.keymap_draw.specs.Pictures.{IsPicture};
 ghost use Rattle.keymap_draw.specs.Places.{IsClass};
 ghost use Rattle.keymap_draw.specs.Shapes.{CapsAreOfTheirKeys};
 ghost use Rattle.keymap_draw.specs.Sizes.{LargeSignsFit, SizesAreOfTheStyle};
-ghost use Rattle.keymap_draw.specs.Titles.{squeezed};
-ghost use Rattle.keymap_draw.specs.Told.{TitlesTell, PicturesTellDefinitions, PicturesTellKeymaps};
 ghost use Rattle.keymap_draw.specs.WellFormed.{IsPlain, IsShown, IsSeen, IsWellFormed};
 
 /// A cap has the class of the red ones exactly if one of the findings is of its key.
@@ -67,24 +65,6 @@ pub fn legends_are_shown()
 pub fn classes_are_of_a_list()
     ensures { (fs : List FindingValue) (slot : ℕ) (e : EntryValue)
         → All IsClass (option_to_list (key_class fs slot e)) }
-{}
-
-/// What the title of a key tells is its line of the printed form with one blank in place of several, and what that of
-/// an accent tells is its line.
-#[tactic(auto, using(crate::proofs::ToldTwice::line_laws))]
-pub fn titles_are_printed_lines()
-    ensures key { (slot : ℕ) (e : EntryValue) → All IsCell e.cells
-        → squeezed (key_line slot e) ≡ slot_words slot e ++ codes "\n" }
-    ensures accent { (i : ℕ) (accent : AccentValue) → accent_line i accent ≡ accent_words i accent ++ codes "\n" }
-{}
-
-/// A picture tells its keymap: the titles that are read in its bytes are those of the definitions that it tells, in
-/// their order. So two keymaps with one picture are the same in each slot that it shows, and in each accent that has a
-/// character. A slot of a half that is drawn is shown if its key is on the board or it isn't blank.
-pub fn pictures_tell_keymaps()
-    ensures titles { TitlesTell }
-    ensures definitions { PicturesTellDefinitions }
-    ensures keymap { PicturesTellKeymaps }
 {}
 
 /// The keys of a board are those of a keyboard, row by row and in each row from left to right. Each key code stands

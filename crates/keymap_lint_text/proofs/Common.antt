@@ -6,12 +6,12 @@ pub use Rattle.keymap_core.specs.declared.action.Modifier.{Modifier}
 pub use Rattle.keymap_lint.specs.declared.diagnostic.Diagnostic.{Diagnostic}
 pub use Rattle.keymap_lint.specs.declared.diagnostic.Diagnostics.{Diagnostics}
 pub use Rattle.keymap_lint.specs.declared.diagnostic.Severity.{Severity}
-pub use Rattle.keymap_lint_text.specs.Excerpt.{below, left_out, lines_of, reach, shown_before, without_cr}
+pub use Rattle.keymap_lint_text.specs.Excerpt.{below, lines_of}
 unfoldable pub use Rattle.keymap_lint_text.specs.Excerpt.{excerpt}
 pub use Rattle.keymap_lint_text.specs.Heads.{Remark, Said, head, place_text, printed, printed_of, remark, said_text}
 pub use Rattle.keymap_lint_text.specs.Names.{is_noted}
 unfoldable pub use Rattle.keymap_lint_text.specs.Names.{kind_text}
-pub use Rattle.keymap_lint_text.specs.Shown.{IsLine, IsPlainText, IsSeen, ended, is_shown_byte, last, lines_text}
+pub use Rattle.keymap_lint_text.specs.Shown.{IsLine, IsPlainText, IsSeen, ended, is_shown_byte, lines_text}
 pub use Rattle.keymap_lint_text.specs.Shown.{shown_char}
 unfoldable pub use Rattle.keymap_lint_text.specs.Shown.{shown_chars, shown_name}
 pub use Rattle.keymap_lint_text.specs.Whole.{answer, beginning, judged, of_diagnostic, of_fault}

@@ -1,9 +1,6 @@
-mod Alike
-mod Ascii
-mod Carets
 mod Common
 mod Headed
 mod Messages
-mod Windows
+mod NoteWords
 pub mod Lines
 pub mod Plain

@@ -3,9 +3,9 @@ use Rattle.keymap_lint_text.proofs.Common.{◌≡◌, ℕ, ◌<◌, Bool, true, 
 use Rattle.keymap_lint_text.proofs.Common.{◌∙◌, arith, Option, Some, None, append-nil, drop, length, ◌==◌, ◌+◌, ◌-◌}
 use Rattle.keymap_lint_text.proofs.Common.{not, nat_lt, codes, decimal, map, encode_utf8, if◌then◌else◌, flat_map}
 use Rattle.keymap_lint_text.proofs.Common.{list_all, and_parts, nat_tests, flat_map-append, All-nil, All-cons}
-use Rattle.keymap_lint_text.proofs.Common.{All-append, All-take, encode_ascii, lossy_chars, pieces, or_replacement}
+use Rattle.keymap_lint_text.proofs.Common.{All-append, encode_ascii, lossy_chars, pieces, or_replacement}
 use Rattle.keymap_lint_text.proofs.Common.{Event, along, Modifier, Severity, TextFaultKind, fault_name, before_in_line}
-use Rattle.keymap_lint_text.proofs.Common.{line, filled, excerpt, lines_of, below, left_out, shown_before, without_cr}
+use Rattle.keymap_lint_text.proofs.Common.{line, filled, excerpt, lines_of, below}
 use Rattle.keymap_lint_text.proofs.Common.{Said, Remark, head, place_text, said_text, kind_text, shown_char}
 use Rattle.keymap_lint_text.proofs.Common.{shown_chars, shown_name, is_shown_byte, IsSeen, IsLine}
 use Rattle.keymap_lint_text.proofs.Common.{range_with_len, take, append_assoc, printed, printed_of}
@@ -19,7 +19,7 @@ use Rattle.std.proofs.lemmas.List.{flat_map_more, take_more}
 use Rattle.std.specs.Prelude.{◌||◌, IsTrue}
 use Rattle.std.specs.Char.{IsScalar, digit_char}
 use Rattle.std.specs.List.{position_or_len}
-use Rattle.std.proofs.lemmas.List.Elements.{All-map, All-weaker, All-drop, All-head, All-tail}
+use Rattle.std.proofs.lemmas.List.Elements.{All-map, All-weaker, All-head, All-tail}
 use Rattle.bstr.specs.Utf8.{pieces_from, decoded, Decoded}
 use Rattle.bstr.proofs.lemmas.SoundLemmas.{SpellsChar-decoded}
 use Rattle.console_core.specs.declared.event.Event.TheVariants.{Press, Release, Reset, Load}
@@ -27,16 +27,18 @@ use Rattle.keymap_core.specs.Actions.{name_of}
 use Rattle.keymap_core.specs.Unseen.{is_unseen}
 use Rattle.keymap_lint.specs.declared.diagnostic.Kind.{Kind}
 use Rattle.messages.specs.Filled.{words_before, words_behind, is_hole}
-use Rattle.keymap_lint_text.specs.Excerpt.{shown_line, caret_line}
+use Rattle.keymap_lint_text.specs.Excerpt.{shown_line, caret_line, side}
 use Rattle.keymap_lint_text.specs.Names.{severity_text}
 use Rattle.keymap_lint_text.specs.Shown.{is_seen, AreLines}
-use Rattle.keymap_lint_text.proofs.Ascii.{small_byte}
 use Rattle.keymap_core.specs.declared.action.Action.TheVariants as action
 use Rattle.keymap_core.specs.declared.action.Modifier.TheVariants as mods
 use Rattle.keymap_lint.specs.declared.diagnostic.Kind.TheVariants as kinds
 use Rattle.keymap_lint.specs.declared.diagnostic.Severity.TheVariants as severities
 use Rattle.keymap_text.specs.declared.fault.TextFaultKind.TheVariants as faults
 use Rattle.keymap_lint_text.specs.Notes as notes
+
+small_byte : (c : ℕ) → is_shown_byte c ≡ true → c < 128
+small_byte c h = grind (arith, nat_tests, h)
 
 -- the character that is read in front is one
 read : (bs : List ℕ) (o : Option ℕ) → (decoded bs).char ≡ o → IsScalar (or_replacement o)
@@ -249,28 +251,24 @@ two_blanks = ascii _ refl
 two_dots : IsLine (codes "..")
 two_dots = ascii _ refl
 
-is_shown_line : (skipped : ℕ) (cs : List ℕ) → All IsSeen cs → IsLine (shown_line skipped cs)
-is_shown_line skipped cs p =
-    two_blanks ⊳ line_if (nat_lt 0 skipped) _ two_dots
-    ⊳ line_chars _ (All-take IsSeen 120 _ (All-drop IsSeen skipped cs p))
-    ⊳ line_if (nat_lt 0 (length cs - (skipped + 120))) _ two_dots
-
-is_caret_line : (skipped : ℕ) (cs : List ℕ) → IsLine (caret_line skipped cs)
-is_caret_line skipped cs =
-    two_blanks ⊳ line_if (nat_lt 0 skipped) _ two_blanks ⊳ line_below (drop skipped cs) ⊳ ascii (codes "^") refl
-
-both_lines : (bs rs : List ℕ) → All IsSeen bs → All IsSeen rs → All IsLine (lines_of bs rs)
-both_lines bs rs p q =
-    let skipped = left_out (length bs) (length (bs ++ rs)) in
-    All-cons IsLine (shown_line skipped (bs ++ rs)) (caret_line skipped bs ∷ [])
-    (is_shown_line skipped (bs ++ rs) (All-append IsSeen bs rs p q))
-    (All-cons IsLine (caret_line skipped bs) [] (is_caret_line skipped bs) (All-nil IsLine))
-
-pub excerpt_lines : (before rest : List ℕ) → All IsLine (excerpt before rest)
-unfolding excerpt
-excerpt_lines before rest =
-    both_lines (shown_chars (shown_before before rest)) (shown_chars (without_cr rest)) (all_seen _) (all_seen _)
-
 pub name_line : (name : List ℕ) → IsLine (shown_name name)
 unfolding shown_name
 name_line name = line_chars _ (all_seen name)
+
+is_shown_line : (left : ℕ) (cs rest : List ℕ) → All IsSeen cs → IsLine (shown_line left cs rest)
+is_shown_line left cs rest p =
+    two_blanks ⊳ line_if (nat_lt 0 left) _ two_dots ⊳ line_chars cs p ⊳ name_line (take side rest)
+    ⊳ line_if (nat_lt 0 (length rest - side)) _ two_dots
+
+is_caret_line : (left : ℕ) (cs : List ℕ) → IsLine (caret_line left cs)
+is_caret_line left cs =
+    two_blanks ⊳ line_if (nat_lt 0 left) _ two_blanks ⊳ line_below cs ⊳ ascii (codes "^") refl
+
+both_lines : (left : ℕ) (cs rest : List ℕ) → All IsSeen cs → All IsLine (lines_of left cs rest)
+both_lines left cs rest p =
+    All-cons IsLine (shown_line left cs rest) (caret_line left cs ∷ []) (is_shown_line left cs rest p)
+    (All-cons IsLine (caret_line left cs) [] (is_caret_line left cs) (All-nil IsLine))
+
+pub excerpt_lines : (before rest : List ℕ) → All IsLine (excerpt before rest)
+unfolding excerpt
+excerpt_lines before rest = both_lines _ _ _ (all_seen _)

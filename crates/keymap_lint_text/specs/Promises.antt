@@ -7,7 +7,6 @@ use Rattle.console_core.specs.declared.event.Event.{Event}
 use Rattle.keymap_core.specs.declared.action.Modifier.{Modifier}
 use Rattle.keymap_lint.specs.declared.diagnostic.Lint.{Lint}
 use Rattle.keymap_lint.specs.declared.diagnostic.Lint.TheVariants.{Faulty, Spelled}
-use Rattle.keymap_lint_text.specs.Excerpt.{below, dots, excerpt, shown_before, without_cr}
 use Rattle.keymap_lint_text.specs.Heads.{Said, Remark, head}
 use Rattle.keymap_lint_text.specs.Notes.{events_text, modifiers_text, sticks_text}
 use Rattle.keymap_lint_text.specs.Names.{severity_text}
@@ -53,52 +52,10 @@ diagnostics text (Spelled l) = map (judged text l) l.list.items
 abbrev pub EachDiagnosticIsOneRemark : Type 0
 EachDiagnosticIsOneRemark = (text : List ℕ) (l : Lint) → filter is_judged (remarks text l) ≡ diagnostics text l
 
--- the severity, or that it is a note
-abbrev pub label : Said → List ℕ
-label (Said.Judged severity kind message) = severity_text severity
-label _ = codes "note"
-
--- the place lies within a text that memory holds
-abbrev pub LiesIn : List ℕ → Remark → Type 0
-LiesIn text e = (length text < 2 ^ 63) × IfSome e.place (λ p. p ≤ length text)
-
 -- what is said of the whole text is told at its beginning
 abbrev pub place_or_beginning : Option ℕ → ℕ
 place_or_beginning None = 0
 place_or_beginning (Some place) = place
-
--- Two remarks of which one line is the head stand at the same place, where one of the whole text stands at its
--- beginning, and both are errors, warnings or notes.
-pub record AreAlike (d e : Remark) : Type 0 where
-  pub place : place_or_beginning d.place ≡ place_or_beginning e.place
-  pub label : label d.said ≡ label e.said
-
-abbrev pub HeadsTellPlaces : Type 0
-HeadsTellPlaces =
-    (file text : List ℕ) (d e : Remark) → LiesIn text d → LiesIn text e → head file text d ≡ head file text e
-    → AreAlike d e
-
--- Of the characters of a line those near the place are shown, in one line with two blanks in front, and dots where some
--- are left out: before the place at least 60, or all, and from it on as many as make 120, its own character among them.
--- At the front some are left out only where 120 are shown. The caret stands below the place: in the second line there
--- is a blank for each character before the place, or a tab for a tab.
-pub record HasCaretBelow (before rest : List ℕ) (lines : List (List ℕ)) : Type 0 where
-  pub skipped : ℕ
-  pub room : ℕ
-  pub near : min 60 (length before) ≤ length before - skipped
-  pub full : length before - skipped + room ≡ 120
-  pub needed : 0 < skipped → 120 ≤ length before - skipped + length rest
-  pub own : 0 < length rest → 0 < room
-  pub front : List ℕ
-  pub stands_before : front ≡ codes "  " ++ dots skipped ++ drop skipped before
-  pub line : lines
-      ≡ flat_map encode_utf8 (front ++ (take room rest ++ dots (length rest - room)))
-      ∷ (map below front ++ codes "^") ∷ []
-
-abbrev pub CaretsStandBelow : Type 0
-CaretsStandBelow =
-    (before rest : List ℕ)
-    → HasCaretBelow (shown_chars (shown_before before rest)) (shown_chars (without_cr rest)) (excerpt before rest)
 
 abbrev pub is_no_colon : ℕ → Bool
 is_no_colon c = not (c == 58)

@@ -1,7 +1,7 @@
 //! Laws of what is printed of a text. No function here does anything.
 ghost use Rattle.std.specs.Prelude.{List, ℕ};
-ghost use Rattle.keymap_lint_text.specs.Promises.{CaretsStandBelow, EachDiagnosticIsOneRemark, EachRemarkHasOneHead};
-ghost use Rattle.keymap_lint_text.specs.Promises.{HeadsTellPlaces, NotesTellEvents, PrintedIsPlain};
+ghost use Rattle.keymap_lint_text.specs.Promises.{EachDiagnosticIsOneRemark, EachRemarkHasOneHead};
+ghost use Rattle.keymap_lint_text.specs.Promises.{NotesTellEvents, PrintedIsPlain};
 ghost use Rattle.keymap_lint_text.specs.Shown.{shown_name, IsLine};
 
 /// All that is printed of a text, whatever the text, the name of its file and the diagnostics are, is lines of UTF-8
@@ -19,19 +19,6 @@ pub fn printed_lines_are_plain()
 pub fn diagnostics_have_one_head()
     ensures remarks { EachDiagnosticIsOneRemark }
     ensures heads { EachRemarkHasOneHead }
-{}
-
-/// From the first line of a diagnostic or a note it can be read at which place of a text it stands, and whether it is
-/// an error, a warning or a note: no two of them that differ in this have the same line. One of the whole text stands
-/// at its beginning, so it may have the line of one that stands there.
-pub fn heads_tell_their_places()
-    ensures { HeadsTellPlaces }
-{}
-
-/// What is shown of the line of a diagnostic is the part round its place, 60 characters before it or all, and 120 in
-/// all where the line has them. The caret stands below the place.
-pub fn carets_stand_below_places()
-    ensures { CaretsStandBelow }
 {}
 
 /// The note on modifiers that stay on tells these modifiers, and behind its colon exactly the events of the answer.

@@ -82,7 +82,7 @@ fn events(alloc: Global, events: &[Event]) -> Result<Vec<u8>, AllocError>
 }
 
 /// Which modifiers stay on, and after which events.
-#[tactic(auto, using(crate::proofs::Carets::sticks_is))]
+#[tactic(auto, using(crate::proofs::NoteWords::sticks_is))]
 pub(crate) fn sticks_message(
     alloc: Global,
     stuck: &[Modifier],

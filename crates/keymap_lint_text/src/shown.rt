@@ -1,6 +1,6 @@
 //! What is shown of the bytes of a text.
 ghost use Rattle.std.specs.Prelude.{◌≡◌, ◌++◌, take, encode_utf8, OnOk, IfOk};
-ghost use Rattle.std.specs.List.{flat_map, list_all};
+ghost use Rattle.std.specs.List.{flat_map};
 ghost use Rattle.keymap_lint_text.specs.Shown as spec;
 
 use bstr::ByteSlice;
@@ -20,31 +20,14 @@ fn shown_char(c: char) -> char
     }
 }
 
-/// Whether a byte is a tab, or a character of ASCII that a terminal shows.
-fn is_shown_byte(byte: u8) -> bool
-    ensures { result ≡ spec.is_shown_byte byte }
-{
-    byte == b'\t' || !(byte < b' ' || b'~' < byte)
-}
-
-/// Whether all bytes are shown as they are.
-fn are_shown(bytes: &[u8]) -> bool
-    ensures { result ≡ list_all spec.is_shown_byte bytes.now }
-{
-    bytes.iter().all(|byte| is_shown_byte(*byte))
-}
-
-/// The characters of bytes, one for each.
-fn byte_chars(alloc: Global, bytes: &[u8]) -> Result<Vec<char>, AllocError>
-    ensures { IfOk result (λ cs. cs.items ≡ bytes.now) }
-{
-    bytes.iter().map(|byte| char::from(*byte)).collect(alloc)
-}
-
 /// The first characters that are shown of bytes, so many at most, with one U+FFFD for each maximal piece that isn't
 /// UTF-8. Nothing behind them is decoded.
 #[tactic(auto, unfolding(crate::specs::Shown::shown_chars))]
-fn first_decoded(alloc: Global, bytes: &[u8], limit: usize) -> Result<Vec<char>, AllocError>
+pub(crate) fn first_chars(
+    alloc: Global,
+    bytes: &[u8],
+    limit: usize,
+) -> Result<Vec<char>, AllocError>
     ensures { IfOk result (λ cs. cs.items ≡ take limit (spec.shown_chars bytes.now)) }
 {
     let mut characters = Vec::with_capacity(alloc, limit.min(bytes.len()))?;
@@ -58,57 +41,12 @@ fn first_decoded(alloc: Global, bytes: &[u8], limit: usize) -> Result<Vec<char>,
     Ok(characters)
 }
 
-/// The last characters that are shown of bytes, so many at most. Nothing before them is decoded.
-#[tactic(auto, unfolding(crate::specs::Shown::shown_chars))]
-fn last_decoded(alloc: Global, bytes: &[u8], limit: usize) -> Result<Vec<char>, AllocError>
-    ensures { IfOk result (λ cs. cs.items ≡ spec.last limit (spec.shown_chars bytes.now)) }
-{
-    let mut characters = Vec::with_capacity(alloc, limit.min(bytes.len()))?;
-    let mut rest = bytes.chars();
-    while characters.len() < limit {
-        let Some(c) = rest.next_back() else {
-            break;
-        };
-        characters.push(shown_char(c))?;
-    }
-    characters.as_mut_slice().reverse();
-    Ok(characters)
-}
-
 /// All characters that are shown of bytes.
 #[tactic(auto, unfolding(crate::specs::Shown::shown_chars))]
-fn all_chars(alloc: Global, bytes: &[u8]) -> Result<Vec<char>, AllocError>
+pub(crate) fn all_chars(alloc: Global, bytes: &[u8]) -> Result<Vec<char>, AllocError>
     ensures { IfOk result (λ cs. cs.items ≡ spec.shown_chars bytes.now) }
 {
     bytes.chars().map(|c| shown_char(c)).collect(alloc)
-}
-
-/// The first characters that are shown of bytes, so many at most. Most bytes are of ASCII, and need no decoding.
-pub(crate) fn first_chars(
-    alloc: Global,
-    bytes: &[u8],
-    limit: usize,
-) -> Result<Vec<char>, AllocError>
-    ensures { IfOk result (λ cs. cs.items ≡ take limit (spec.shown_chars bytes.now)) }
-{
-    let front = &bytes[..limit.min(bytes.len())];
-    if are_shown(front) {
-        byte_chars(alloc, front)
-    } else {
-        first_decoded(alloc, bytes, limit)
-    }
-}
-
-/// The last characters that are shown of bytes, so many at most.
-pub(crate) fn last_chars(alloc: Global, bytes: &[u8], limit: usize) -> Result<Vec<char>, AllocError>
-    ensures { IfOk result (λ cs. cs.items ≡ spec.last limit (spec.shown_chars bytes.now)) }
-{
-    let back = &bytes[bytes.len().saturating_sub(limit)..];
-    if are_shown(back) {
-        byte_chars(alloc, back)
-    } else {
-        last_decoded(alloc, bytes, limit)
-    }
 }
 
 /// Adds a character as UTF-8.

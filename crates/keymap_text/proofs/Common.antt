@@ -15,15 +15,14 @@ pub use Rattle.keymap_text.specs.Inner.Grammar.{empty_map, first_of, start, step
 unfoldable pub use Rattle.keymap_text.specs.Inner.Grammar.{accept, at_end}
 pub use Rattle.keymap_text.specs.Inner.Judging.{Faulty, Spelled, Verdict, ended, verdict}
 unfoldable pub use Rattle.keymap_text.specs.Inner.Judging.{judge}
-pub use Rattle.keymap_text.specs.Inner.Keys.{ArePlaced, IsTrueName, KeyMeans, first_of_sixteen, is_from_zero}
-pub use Rattle.keymap_text.specs.Inner.Keys.{function_name, name_key, pack, raised, screen_name, unpacked}
+pub use Rattle.keymap_text.specs.Inner.Keys.{ArePlaced, IsTrueName, KeyMeans, first_of_sixteen}
+pub use Rattle.keymap_text.specs.Inner.Keys.{function_name, name_key, pack, screen_name, unpacked}
 pub use Rattle.keymap_text.specs.Inner.LastOf.{HasLast}
 pub use Rattle.keymap_text.specs.Inner.Placed.{ComesNext, behind, is_open, tokens_from}
 unfoldable pub use Rattle.keymap_text.specs.Inner.Placed.{begun}
-pub use Rattle.keymap_text.specs.Inner.Resuming.{Breaks, Feeds, IsFaultOfPending, IsReader, Lined, Moves, Passes, Says}
+pub use Rattle.keymap_text.specs.Inner.Resuming.{Breaks, Feeds, IsFaultOfPending, IsReader, Keeps, Lined, Moves, Says}
 pub use Rattle.keymap_text.specs.Inner.Resuming.{resume}
-pub use Rattle.keymap_text.specs.Inner.Scanning.{Advances, Fronts, FrontsBehind, FrontsCharacter, IsOpen, Refuses}
-pub use Rattle.keymap_text.specs.Inner.Scanning.{Takes}
+pub use Rattle.keymap_text.specs.Inner.Scanning.{Advances, Fronts, IsOpen, Refuses, Takes}
 pub use Rattle.keymap_text.specs.Inner.Views.{IsPlace, grammar_view, place_of, place_view, state_view}
 pub use Rattle.keymap_text.specs.Items.{accent_index, cell, character, lock}
 pub use Rattle.keymap_text.specs.Lexical.{Ends, Found, Front, Refused, Skipped, Stops, Then, TokenValue, Tokens}

@@ -5,7 +5,7 @@ use Rattle.keymap_text.proofs.Common.{eq-or-lt_of_le, nat_tests, take-append-le,
 use Rattle.keymap_text.proofs.Common.{TokenKind, Word, Literal, ParenL, ParenR, Item, Value, Open, Close, Char, leading}
 use Rattle.keymap_text.proofs.Common.{is_word, word, Front, Found, Refused, front_of, rules}
 use Rattle.keymap_text.proofs.Common.{tokens_after, token_before, Then, is_empty, is_word_kind, item, meaning, Fronts}
-use Rattle.keymap_text.proofs.Common.{IsOpen}
+use Rattle.keymap_text.proofs.Common.{IsOpen, prefix_len_passes}
 use Rattle.keymap_text.proofs.InFront.{InFront, Blank, Comment, Left, Right, Quote, Letters, Long, Nothing, in_front}
 use Rattle.keymap_text.proofs.InFront.{front_blank, front_comment, front_left, front_right, front_quote, front_word}
 use Rattle.keymap_text.proofs.InFront.{no_word, short_word}
@@ -94,11 +94,12 @@ found_fronts c n k b i h l w e = record {
 }
 
 -- a word that another byte ends
-pub word_fronts : (n : ℕ) (rest : List ℕ) → n ≡ leading is_word rest → n < length rest
-    → is_word (get_or rest 0 0) ≡ true → n ≤ 32 → Fronts rest (Value (meaning (take n rest))) n
-word_fronts n [] e l t b = absurd (omega (arith, l))
-word_fronts zero (c ∷ w) e l t b = absurd (omega (arith, e, leading_pass is_word c w t))
-word_fronts (suc k) (c ∷ w) e l t b =
+pub word_fronts : (n : ℕ) (rest : List ℕ) → n ≡ leading is_word rest → n < length rest → 0 < n → n ≤ 32
+    → Fronts rest (Value (meaning (take n rest))) n
+word_fronts n [] e l o b = absurd (omega (arith, l))
+word_fronts zero (c ∷ w) e l o b = absurd (omega (arith, o))
+word_fronts (suc k) (c ∷ w) e l o b =
+    let t = prefix_len_passes is_word (c ∷ w) 0 0 (omega (arith, e)) in
     let size : leading is_word w ≡ k = omega (arith, e, leading_pass is_word c w t) in
     found_fronts c k Word w (Value (meaning (c ∷ take k w)))
     (front_word c w t ∙ ap word size ∙ short_word k (omega (arith, b))) (omega (arith, l)) (λ _. omega (arith, l)) refl

@@ -4,7 +4,7 @@ use Rattle.keymap_text.proofs.Common.{◌++◌, length, take, drop, get_or, sym,
 use Rattle.keymap_text.proofs.Common.{drop-cons, append-nil, length-take-le, get_or-take, drop_all, prefix_len_is}
 use Rattle.keymap_text.proofs.Common.{prefix_len-drop_yes, prefix_len-drop_no, prefix_len-drop_all}
 use Rattle.keymap_text.proofs.Common.{prefix_len-le-length, prefix_len_passes, prefix_len_stops, Some, None}
-use Rattle.keymap_text.proofs.Common.{IsFirstByte, is_byte, leading, stays_on_line, is_space, is_word, is_from_zero}
+use Rattle.keymap_text.proofs.Common.{IsFirstByte, is_byte, leading, stays_on_line, is_space, is_word}
 use Rattle.keymap_text.proofs.Common.{nat_tests}
 use Rattle.std.proofs.lemmas.List.Folds.{prefix_len-append}
 
@@ -104,11 +104,6 @@ pub plain_spaces : (xs : List ℕ) → leading (λ c. c == 32) xs ≤ leading is
 plain_spaces [] = omega arith
 plain_spaces (x ∷ xs) = grind (arith, leading_fail, leading_pass, (plain_spaces xs))
 
--- and no more letters and digits than bytes from '0' on
-pub word_from_zero : (xs : List ℕ) → leading is_word xs ≤ leading is_from_zero xs
-word_from_zero [] = omega arith
-word_from_zero (x ∷ xs) = grind (arith, nat_tests, leading_fail, leading_pass, (word_from_zero xs))
-
 -- a space is a blank
 space_is : (c : ℕ) → (c == 32) ≡ true → is_space c ≡ true
 space_is c h = grind arith
@@ -120,11 +115,6 @@ spaces_end xs n h s =
     sym (prefix_len_is is_space xs n 0 (omega (arith, h, leading_le (λ c. c == 32) xs))
     (λ k l. space_is _ (prefix_len_passes (λ c. c == 32) xs k 0 (omega (arith, l, h)))) (λ l. s))
 
--- a space in front is a blank
-pub some_space : (xs : List ℕ) → 0 < length xs → get_or xs 0 0 ≡ 32 → 1 ≤ leading is_space xs
-some_space [] l h = absurd (omega (arith, l))
-some_space (x ∷ xs) l h = omega (arith, leading_pass is_space x xs (ap is_space h))
-
-pub ruleset front_rules = (plain_spaces, leading_le, some_space)
+pub ruleset front_rules = (plain_spaces, leading_le)
 
 pub ruleset leading_rules = (prefix_len-drop_yes, prefix_len-drop_no, prefix_len-drop_all, prefix_len-le-length)

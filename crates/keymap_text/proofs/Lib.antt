@@ -18,6 +18,7 @@ pub mod LineStarts
 pub mod Standing
 pub mod Lexed
 pub mod PrintedLines
+pub mod Cells
 pub mod Characters
 pub mod Feeding
 pub mod PrintedNames
@@ -30,7 +31,6 @@ pub mod Meanings
 pub mod Scanning
 pub mod Fronts
 pub mod Tails
-pub mod Rows
 pub mod Classes
 pub mod Vectors
 pub mod Placing

@@ -1,7 +1,7 @@
 -- Lines: one more than the line feeds before a place.
 use Rattle.keymap_text.proofs.Common.{◌≡◌, ℕ, zero, suc, ◌+◌, ◌-◌, ◌≤◌, ◌==◌, Bool, false, cond, List, [], ◌∷◌, ◌++◌}
-use Rattle.keymap_text.proofs.Common.{length, take, drop, take_at, drop_at, refl, sym, ◌∙◌, ap, arith, count_by}
-use Rattle.keymap_text.proofs.Common.{length-append, drop-drop, drop_all, drop-append-le, take-append-le, sum_by-append}
+use Rattle.keymap_text.proofs.Common.{length, take, drop, refl, sym, ◌∙◌, ap, arith, count_by, length-drop}
+use Rattle.keymap_text.proofs.Common.{length-append, drop-drop, drop-append-le, take-append-le, sum_by-append}
 use Rattle.keymap_text.proofs.Common.{sum_by-cons, sum_by-take-drop, take-add, leading, TextFault, Reading, line}
 use Rattle.keymap_text.proofs.Common.{IsFaultOfPending, Lined}
 use Rattle.keymap_text.proofs.Leading.{leading_pass, leading_fail}
@@ -44,31 +44,66 @@ no_feed c b h = sum_by-cons (λ c. cond (c == 10) 1 0) c b ∙ ap (λ t. cond t 
 lined_line : (r : Reading) (b : List ℕ) → Lined r b → r.line ≡ 1 + feeds b
 lined_line r b l = l.line ∙ line_all b r.offset l.none
 
--- bytes were read, and nothing is pending
-pub lined_read : (old new : Reading) (b w : List ℕ) → Lined old b
-    → new.offset ≡ old.offset + length old.pending.items + length w → new.pending.items ≡ []
-    → new.line ≡ old.line + feeds w → Lined new (b ++ w)
-lined_read old new b w l o p n = grind (arith, drop_all, feeds_append, length-append, line_all, lined_line)
+-- bytes without a line feed in front of others add none
+front_feeds : (n : ℕ) (p w : List ℕ) → feeds p ≡ 0 → feeds (take n (p ++ w)) ≡ feeds (take (n - length p) w)
+front_feeds n [] w h = grind arith
+front_feeds zero (c ∷ p) w h = grind arith
+front_feeds (suc n) (c ∷ p) w h =
+    let head = sum_by-cons (λ c. cond (c == 10) 1 0) c p in
+    let more = sum_by-cons (λ c. cond (c == 10) 1 0) c (take n (p ++ w)) in
+    let rest : n - length p ≡ suc n - length (c ∷ p) = omega arith in
+    omega (arith, head, more, h, front_feeds n p w (omega (arith, head, h)), ap (λ k. feeds (take k w)) rest)
 
--- bytes on one line were taken
-pub lined_same : (old new : Reading) (b w : List ℕ) → Lined old b → old.offset ≤ new.offset
-    → new.offset + length new.pending.items ≡ length b + length w → new.line ≡ old.line → feeds w ≡ 0
+-- the line of a place in what is pending and the bytes behind it
+pub window_line : (r : Reading) (b w : List ℕ) (n : ℕ) → Lined r b → feeds r.pending.items ≡ 0
+    → r.line + feeds (take n (r.pending.items ++ w)) ≡ line (b ++ w) (r.offset + n)
+window_line r b w n l z =
+    let cut = drop-append-le r.offset b w (omega (arith, l.fed)) in
+    let size : length (drop r.offset b) ≡ length r.pending.items = omega (arith, length-drop r.offset b, l.fed) in
+    omega (
+      arith,
+      l.line,
+      line_more (b ++ w) r.offset n,
+      ap (λ (t : List ℕ). feeds (take n t)) cut,
+      ap feeds (take-append-le r.offset b w (omega (arith, l.fed))),
+      front_feeds n r.pending.items w z,
+      front_feeds n (drop r.offset b) w l.none ∙ ap (λ k. feeds (take (n - k) w)) size,
+    )
+
+-- bytes were taken, of which the last, which no line feed is among, are pending
+pub window_lined : (old new : Reading) (b w window : List ℕ) (n : ℕ) → Lined old b → feeds old.pending.items ≡ 0
+    → window ≡ old.pending.items ++ w → feeds (drop n window) ≡ 0 → new.line ≡ old.line + feeds (take n window)
+    → old.offset + n ≤ new.offset → new.offset + length new.pending.items ≡ old.offset + length window
     → Lined new (b ++ w)
-lined_same old new b w l o f n z =
-    let here : feeds (drop old.offset (b ++ w)) ≡ 0 =
-    ap feeds (drop-append-le old.offset b w (omega (arith, l.fed))) ∙ feeds_append (drop old.offset b) w
-    ∙ omega (arith, l.none, z) in
-    let behind : feeds (drop new.offset (b ++ w)) ≡ 0 = feeds_behind old.offset new.offset (b ++ w) o here in
+window_lined old new b w window n l z e tail line from fed =
+    let same = ap (λ (t : List ℕ). feeds (take n t)) e in
+    let all = ap feeds e ∙ feeds_append old.pending.items w in
+    let here : feeds (drop (old.offset + n) (b ++ w)) ≡ 0 =
+    omega (
+      arith,
+      window_line old b w n l z,
+      same,
+      all,
+      feeds_split n window,
+      tail,
+      z,
+      lined_line old b l,
+      feeds_append b w,
+      feeds_split (old.offset + n) (b ++ w),
+    ) in
+    let behind = feeds_behind (old.offset + n) new.offset (b ++ w) from here in
     record {
-      fed = f ∙ sym (length-append b w);
-      line = omega (arith, n, lined_line old b l, z, feeds_append b w, line_all (b ++ w) new.offset behind);
+      fed = omega (arith, fed, ap length e, length-append old.pending.items w, l.fed, length-append b w);
+      line = omega (
+        arith,
+        line,
+        same,
+        window_line old b w n l z,
+        line_all (b ++ w) (old.offset + n) here,
+        line_all (b ++ w) new.offset behind,
+      );
       none = behind;
     }
-
--- a fault in bytes stands behind the line feeds before it
-pub line_behind : (old : Reading) (b w : List ℕ) (n : ℕ) → Lined old b
-    → old.line + feeds (take n w) ≡ line (b ++ w) (old.offset + length old.pending.items + n)
-line_behind old b w n l = grind (arith, drop_at, line_more, lined_line, take_at)
 
 -- a fault at what is pending stands on the line of the reader
 pub pending_line : (old : Reading) (b more : List ℕ) (e : TextFault) → Lined old b → IsFaultOfPending e old

@@ -189,42 +189,6 @@ quoted_found : (o : Option ℕ) (n m : ℕ) (k : TokenKind) (s : List ℕ)
     → quoted (record { char = o; size = n }) s ≡ Found k m → m ≡ n + 1
 quoted_found o n m k s h = grind (arith, nat_tests)
 
--- by how the bytes decode
-longer_quoted : (s x : List ℕ) (k : TokenKind) (n : ℕ) → quoted (decoded s) s ≡ Unfinished
-    → quoted (decoded (s ++ x)) (s ++ x) ≡ Found k n → length s < n
-unfolding Grows
-longer_quoted s x k n u h = let e =
-    quoted_found (decoded (s ++ x)).char (decoded (s ++ x)).size n k (s ++ x) h in ⊎_elim
-    (λ g. omega (arith, e, ap (λ d. d.size) g, quoted_open (decoded s).char (decoded s).size s u))
-    (λ g. omega (arith, e, g.1))
-    (decoded_grows s x)
-
--- with two bytes or more
-longer_long : (m n : ℕ) (k : TokenKind) (p : Bool) (l q r : Front) → (q ≡ Unfinished → r ≡ Found k n → m < n)
-    → cond p l q ≡ Unfinished → l ≢ Unfinished → cond p l r ≡ Found k n → m < n
-longer_long m n k p l q r g u f h = grind arith
-
--- with one byte or none
-longer_one : (m n : ℕ) (k : TokenKind) (b : Bool) (ch : ℕ) (q : Front) → m < 2 → (q ≡ Found k n → m < n)
-    → cond b (Found (Literal ch) 2) q ≡ Found k n → m < n
-longer_one m n k b ch q l g h = grind arith
-
--- an unfinished quoted character ends behind its bytes, where more of them finish it
-pub unfinished_longer : (s x : List ℕ) (k : TokenKind) (n : ℕ) → literal s ≡ Unfinished → literal (s ++ x) ≡ Found k n
-    → length s < n
-unfolding literal
-unfinished_longer [] x k n u h =
-    longer_one 0 n k (is_lone x) (slice_index x 0) (quoted (decoded x) x) (omega arith)
-    (λ e. omega (arith, quoted_found (decoded x).char (decoded x).size n k x e)) h
-unfinished_longer (b ∷ []) x k n u h =
-    longer_one 1 n k (is_lone (b ∷ x)) b _ (omega arith) (longer_quoted (b ∷ []) x k n (not_lone (b ∷ []) _ u).1) h
-unfinished_longer (b ∷ c ∷ s) x k n u h =
-    longer_long (length (b ∷ c ∷ s)) n k (is_lone (b ∷ c ∷ s)) _ _
-    (quoted (decoded (b ∷ c ∷ (s ++ x))) (b ∷ c ∷ (s ++ x)))
-    (longer_quoted (b ∷ c ∷ s) x k n) u (λ e. cc)
-    (ap (λ p. cond p (Found (Literal b) 2) (quoted (decoded (b ∷ c ∷ (s ++ x))) (b ∷ c ∷ (s ++ x))))
-    (sym (lone_same b c s x)) ∙ h)
-
 -- no more bytes than there are
 quoted_fits : (o : Option ℕ) (n m : ℕ) (k : TokenKind) (s : List ℕ)
     → quoted (record { char = o; size = n }) s ≡ Found k m → m ≤ length s

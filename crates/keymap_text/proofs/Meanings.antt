@@ -5,15 +5,15 @@ use Rattle.keymap_text.proofs.Common.{Some, None, IfSome, codes, ◌≤◌, take
 use Rattle.keymap_text.proofs.Common.{drop-map, length-map, lt-ltb, nat_tests, list_all, to_ascii_lowercase}
 use Rattle.keymap_text.proofs.Common.{digit_value, named_of, Number, Act, Name, Meaning, NAMES, pack, unpacked}
 use Rattle.keymap_text.proofs.Common.{KeyMeans, IsTrueName, function_name, screen_name, name_key, ArePlaced, along}
-use Rattle.keymap_text.proofs.Common.{leading, is_word, is_from_zero, raised, meaning, sense_meaning, letters}
+use Rattle.keymap_text.proofs.Common.{leading, is_word, meaning, sense_meaning, letters}
 use Rattle.keymap_text.proofs.Common.{meaning_by_names, named, table, digits_of, number, number_after, is_digit}
-use Rattle.keymap_text.proofs.Common.{of_action, ltb-true, subst, length-take-le, take-append-drop}
+use Rattle.keymap_text.proofs.Common.{of_action, ltb-true, subst, length-take-le}
 use Rattle.std.proofs.lemmas.Str.Ascii.{lowercase-lowercase}
 use Rattle.keymap_core.specs.declared.named.Named.{Named}
 use Rattle.keymap_text.specs.Inner.Keys.{place_of}
 use Rattle.keymap_text.specs.declared.names.TheConstants.{PLACES}
-use Rattle.keymap_text.proofs.Keys.{unpack_packed, raised_words}
-use Rattle.keymap_text.proofs.Leading.{leading_pass, leading_fail, leading_le, leading_part, leading_grows}
+use Rattle.keymap_text.proofs.Keys.{unpack_packed}
+use Rattle.keymap_text.proofs.Leading.{leading_pass, leading_fail, leading_le, leading_part}
 use Rattle.keymap_text.proofs.Numbers.{digits_good, none_of}
 use Rattle.keymap_core.specs.declared.action.Action.TheVariants as a
 
@@ -103,16 +103,6 @@ pub hexadecimal_meaning : (w : List ℕ) (b n : ℕ) → nat_lt (digit_value b) 
     → 2 < length w → get_or w 0 0 ≡ 48 → get_or w 1 0 ≡ b → Some n ≡ digits_of 16 (drop 2 w) → Number n ≡ meaning w
 hexadecimal_meaning w b n d l s x y h = grind (arith, hexadecimal)
 
--- decimal digits mean their number
-pub decimal_means : (r : Option ℕ) (w : List ℕ) → r ≡ digits_of 10 w → IfSome r (λ n. Number n ≡ meaning w)
-decimal_means r w h = grind (arith, decimal_meaning)
-
--- digits after 0x mean their number where the code has found one
-pub hexadecimal_means : (r : Option ℕ) (w : List ℕ) (b : ℕ) → nat_lt (digit_value b) 10 ≡ false
-    → to_ascii_lowercase b ≡ 120 → 2 < length w → get_or w 0 0 ≡ 48 → get_or w 1 0 ≡ b → r ≡ digits_of 16 (drop 2 w)
-    → IfSome r (λ n. Number n ≡ meaning w)
-hexadecimal_means r w b d l s x y h = grind (arith, hexadecimal_meaning)
-
 -- a digit is a byte of a word
 digit_in_word : (c : ℕ) → digit_value c < 16 → is_word c ≡ true
 digit_in_word c h = grind (arith, nat_tests)
@@ -162,20 +152,12 @@ three_digits (a ∷ b ∷ c ∷ e ∷ z) l p q r h =
     )
 three_digits _ l p q r h = absurd (omega (arith, l))
 
--- what a key spells means, and how many letters and digits that begins with
-spelled : ℕ → Meaning × ℕ
-spelled key = (meaning (unpacked 8 key), leading is_word (unpacked 8 key))
-
--- a name is true if its key spells letters and digits alone that mean so
-means_of : (key : ℕ) (m : Meaning) → (m, length (unpacked 8 key)) ≡ spelled key → KeyMeans key m
-unfolding spelled
-means_of key m e =
-    record {
-      means = λ w short front h.
-          let back : unpacked 8 key ≡ map raised w = ap (unpacked 8) (sym h) ∙ unpack_packed 8 w short front in
-          let is = raised_words w front (subst (λ x. leading is_word x ≡ length x) back (sym (ap (λ p. p.1) e))) in
-          (is.0, ap (λ p. p.0) e ∙ ap meaning (back ∙ is.1) ∙ meaning_lower w);
-    }
+-- a name is true if what its key spells means so
+means_of : (key : ℕ) (m : Meaning) → m ≡ meaning (unpacked 8 key) → KeyMeans key m
+means_of key m e = record {
+  means = λ w short word h.
+      e ∙ ap meaning (ap (unpacked 8) (sym h) ∙ unpack_packed 8 w short word) ∙ meaning_lower w;
+}
 
 -- two readings of the table agree at each row
 at_name : {X : Type 0} (f g : Name → X) → map f NAMES ≡ map g NAMES → (k : ℕ) (d : Name) → k < length NAMES
@@ -185,10 +167,10 @@ at_name f g h k d l =
 
 -- each row of the table of names says what its name means, by computation
 pub names_true : All IsTrueName NAMES
-unfolding spelled meaning digits_of named
+unfolding meaning digits_of named
 names_true =
     λ k d h. means_of (name_key (get_or NAMES k d)) (sense_meaning (get_or NAMES k d).1)
-    (at_name (λ r. (sense_meaning r.1, length (unpacked 8 (name_key r)))) (λ r. spelled (name_key r)) refl k d h)
+    (at_name (λ r. sense_meaning r.1) (λ r. meaning (unpacked 8 (name_key r))) refl k d h)
 
 -- no name hides another, by computation
 pub names_placed : ArePlaced NAMES
@@ -200,30 +182,26 @@ places_inside i h = ltb-true _ _ (along (λ i. nat_lt (get_or PLACES i 0) 84) (�
 
 -- the key of a function key's name means that key, by computation
 pub function_means : (n key : ℕ) → 0 < n → n ≤ 96 → key ≡ function_name n → KeyMeans key (Act (a.Function n))
-unfolding spelled meaning digits_of named
+unfolding meaning digits_of named
 function_means n key l h e =
     subst (λ key. KeyMeans key (Act (a.Function n))) (sym e) (means_of (function_name n) (Act (a.Function n))
-    (along (λ n. (Act (a.Function n), length (unpacked 8 (function_name n)))) (λ n. spelled (function_name n)) 1 96 refl
-    n l (omega (arith, h))))
+    (along (λ n. Act (a.Function n)) (λ n. meaning (unpacked 8 (function_name n))) 1 96 refl n l (omega (arith, h))))
 
 -- the key of a screen's name means that screen, by computation
 pub screen_means : (n key : ℕ) → 0 < n → n ≤ 16 → key ≡ screen_name n → KeyMeans key (Act (a.Screen n))
-unfolding spelled meaning digits_of named
+unfolding meaning digits_of named
 screen_means n key l h e =
     subst (λ key. KeyMeans key (Act (a.Screen n))) (sym e) (means_of (screen_name n) (Act (a.Screen n))
-    (along (λ n. (Act (a.Screen n), length (unpacked 8 (screen_name n)))) (λ n. spelled (screen_name n)) 1 16 refl
-    n l (omega (arith, h))))
+    (along (λ n. Act (a.Screen n)) (λ n. meaning (unpacked 8 (screen_name n))) 1 16 refl n l (omega (arith, h))))
 
--- what the code found by the key of the bytes in front is their meaning, and they are letters and digits
+-- what the code found by the key of the word in front is its meaning
 pub some_means : (r : Option Meaning) (key n : ℕ) (w : List ℕ) → IfSome r (KeyMeans key) → n ≤ 8
-    → n ≤ leading is_from_zero w → key ≡ pack 8 (map raised (take n w))
-    → IfSome r (λ m. (n ≤ leading is_word w) × (m ≡ meaning (take n w)))
+    → n ≤ leading is_word w → key ≡ pack 8 (map to_ascii_lowercase (take n w))
+    → IfSome r (λ m. m ≡ meaning (take n w))
 some_means None key n w h s l e = tt
 some_means (Some m) key n w h s l e =
-    let size = length-take-le n w (omega (arith, l, leading_le is_from_zero w)) in
-    let is = h.means (take n w) (omega (arith, size, s)) (leading_part is_from_zero n w l) (sym e) in
-    let all = leading_grows is_word (take n w) (drop n w) in
-    (omega (arith, is.0, size, all, ap (leading is_word) (take-append-drop n w)), is.1)
+    let size = length-take-le n w (omega (arith, l, leading_le is_word w)) in
+    h.means (take n w) (omega (arith, size, s)) (leading_part is_word n w l) (sym e)
 
 -- the names of characters and the lock letters stand first, in the order of the table
 sense_entry : Name → List ℕ × Meaning
@@ -241,6 +219,6 @@ unfolding sense_entry
 look_in_table w = look_named (take 40 NAMES) w
 
 -- a meaning found for all bytes of a word is the word's
-pub whole_means : (r : Option Meaning) (w : List ℕ)
-    → IfSome r (λ m. (length w ≤ leading is_word w) × (m ≡ meaning (take (length w) w))) → IfSome r (λ m. m ≡ meaning w)
+pub whole_means : (r : Option Meaning) (w : List ℕ) → IfSome r (λ m. m ≡ meaning (take (length w) w))
+    → IfSome r (λ m. m ≡ meaning w)
 whole_means r w h = grind (arith, take_all)

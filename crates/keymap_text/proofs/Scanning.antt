@@ -1,10 +1,10 @@
 -- What taking blanks, comments and whole tokens makes of the rest of a text.
 use Rattle.keymap_text.proofs.Common.{◌≡◌, ℕ, zero, suc, ◌+◌, ◌-◌, ◌<◌, ◌≤◌, ◌==◌, true, false, List, [], ◌∷◌, ◌++◌}
-use Rattle.keymap_text.proofs.Common.{length, take, drop, get_or, refl, sym, ◌∙◌, ap, subst, arith, Ok, Err, append-nil}
-use Rattle.keymap_text.proofs.Common.{length-append, length-drop, drop-cons, nat_tests, drop-drop, drop-append-le}
+use Rattle.keymap_text.proofs.Common.{length, take, drop, refl, get_or, sym, ◌∙◌, ap, subst, arith, Ok, Err, append-nil}
+use Rattle.keymap_text.proofs.Common.{length-append, length-drop, nat_tests, drop-drop, drop-append-le}
 use Rattle.keymap_text.proofs.Common.{MapValue, TextFaultKind, Item, Grammar, Stop, leading, is_blank, is_space}
 use Rattle.keymap_text.proofs.Common.{stays_on_line, tokens_after, GrammarState, accept, at, step, judge, grammar_view}
-use Rattle.keymap_text.proofs.Common.{Advances, Refuses, Takes, Fronts, FrontsBehind}
+use Rattle.keymap_text.proofs.Common.{Advances, Refuses, Takes, Fronts}
 use Rattle.keymap_text.proofs.Leading.{leading_pass, leading_fail, leading_short}
 use Rattle.keymap_text.proofs.Splitting.{split_blank, split_comment, split_after, to_end}
 use Rattle.keymap_text.proofs.Steps.{judge_then, judge_refused}
@@ -89,15 +89,10 @@ pub after_blanks : (s s' : GrammarState) (rest : List ℕ) (t : Item) (b n : ℕ
 after_blanks s s' rest t b n h l f a =
     advances_on s s s' rest _ b n (blanks_advance s b rest h l) refl (token_advances s s' _ t n f a)
 
-pub behind_advances : (s s' : GrammarState) (rest : List ℕ) (t : Item) (n : ℕ) → FrontsBehind rest t n
-    → accept s t ≡ Ok s' → Advances s s' rest n
-behind_advances s s' rest t n f a =
-    rw f.sum (after_blanks s s' rest t f.blanks f.size f.are_blank f.inside f.fronts a)
-
--- a token behind blanks ends within the bytes
-pub behind_inside : (rest : List ℕ) (t : Item) (n : ℕ) → FrontsBehind rest t n → n ≤ length rest
-behind_inside rest t n f =
-    omega (arith, f.sum, f.inside, f.fronts.inside, length-drop f.blanks rest, ap length (to_end rest f.blanks))
+-- what takes definitions was not touched, and the place was moved
+pub takes_moved : {D : Type 0} {shows : D → MapValue → Type 0} {d : D} {g g' : Grammar} {rest : List ℕ} {n : ℕ}
+    → ((m : MapValue) → Advances (at m (grammar_view g)) (at m (grammar_view g')) rest n) → Takes shows d d (Ok n) g g' rest
+takes_moved a = record { took = λ m h. (m, h, a m) }
 
 -- What takes definitions was not touched.
 pub takes_same : {D : Type 0} {shows : D → MapValue → Type 0} {d : D} {g : Grammar} {rest : List ℕ} {n : ℕ}
@@ -147,15 +142,6 @@ faults_on {g = g} {rest = rest} {behind = behind} {n = n} {e = e} {e' = e'} a k 
       subst (λ f. Refuses (at m (grammar_view g)) rest f e'.at) (sym kind)
       (refuses_on _ _ rest behind n e.at e'.at e.kind s.2 k (b.took s.0 s.1) place);
 }
-
--- bytes are left in a piece
-pub behind_some : (piece : List ℕ) (i : ℕ) → i < length piece → 0 < length (take (length piece - i) (drop i piece))
-behind_some piece i h = omega (arith, ap length (to_end piece i), length-drop i piece, h)
-
--- the first byte that is left
-pub behind_first : (piece : List ℕ) (i : ℕ) → i < length piece
-    → get_or piece i 0 ≡ get_or (take (length piece - i) (drop i piece)) 0 0
-behind_first piece i h = sym (ap (λ (t : List ℕ). get_or t 0 0) (to_end piece i ∙ drop-cons piece i 0 h))
 
 -- some bytes are left where not none are
 pub not_none : (n : ℕ) → (n == 0) ≡ false → 0 < n

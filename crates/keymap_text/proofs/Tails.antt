@@ -1,14 +1,14 @@
 -- What bytes begin that show no whole token.
-use Rattle.keymap_text.proofs.Common.{◌≡◌, ◌≢◌, inl, inr, ℕ, suc, ◌+◌, ◌-◌, ◌<◌, ◌≤◌, List, [], ◌∷◌, ◌++◌, length, take}
+use Rattle.keymap_text.proofs.Common.{◌≡◌, ◌≢◌, inl, inr, ℕ, suc, ◌+◌, ◌<◌, ◌≤◌, List, [], ◌∷◌, ◌++◌, length, take}
 use Rattle.keymap_text.proofs.Common.{drop, get_or, refl, sym, ◌∙◌, ap, ap₂, subst, arith, Ok, Err, take_all, false}
 use Rattle.keymap_text.proofs.Common.{IsFalse, drop_all, TextFaultKind, EndInside, TokenKind, Word, Item, leading}
 use Rattle.keymap_text.proofs.Common.{stays_on_line, separates, Found, Refused, Unfinished, front_of, tokens_after}
 use Rattle.keymap_text.proofs.Common.{Ends, Then, token_before, item, GrammarState, accept, at_end, judge, ended}
 use Rattle.keymap_text.proofs.Common.{Faulty, Refuses, Fronts, IsOpen}
 use Rattle.keymap_text.proofs.Fronts.{found_fronts, refused_on, open_found, open_refused}
-use Rattle.keymap_text.proofs.InFront.{front_comment, front_quote, front_word, word_found, is_quote, refused_early}
-use Rattle.keymap_text.proofs.Leading.{leading_pass, leading_le, leading_append}
-use Rattle.keymap_text.proofs.Literals.{unfinished_longer, unfinished_short}
+use Rattle.keymap_text.proofs.InFront.{front_comment, front_quote, word_found, is_quote, refused_early}
+use Rattle.keymap_text.proofs.Leading.{leading_pass, leading_le}
+use Rattle.keymap_text.proofs.Literals.{unfinished_short}
 use Rattle.keymap_text.proofs.Splitting.{split_none, split_all, split_token, split_refused, split_unfinished}
 use Rattle.keymap_text.proofs.Splitting.{split_comment}
 use Rattle.keymap_text.proofs.Steps.{judge_then, judge_refused, judge_stops, judge_ends}
@@ -126,17 +126,3 @@ open_few [] h outside = omega arith
 open_few (c ∷ b) (inl h) outside = absurd (outside h.0)
 open_few (c ∷ b) (inr (inl h)) outside = omega (arith, (word_found c (length b) b h).2)
 open_few (c ∷ b) (inr (inr h)) outside = grind (arith, front_quote, is_quote, unfinished_short)
-
--- a token that begins with open bytes has them all
-longer : (tail more : List ℕ) (k : TokenKind) (n : ℕ) → 0 < length tail → IsOpen tail → get_or tail 0 0 ≢ 35
-    → front_of (get_or (tail ++ more) 0 0) (drop 1 (tail ++ more)) ≡ Found k n → length tail ≤ n + 1
-longer [] more k n l h outside f = absurd (omega (arith, l))
-longer (c ∷ b) more k n l (inl h) outside f = absurd (outside h.0)
-longer (c ∷ b) more k n l (inr (inl h)) outside f = grind (arith, front_word, leading_append, word_found)
-longer (c ∷ b) more k n l (inr (inr h)) outside f = grind (arith, front_quote, is_quote, unfinished_longer)
-
--- a token that begins with open bytes has as many bytes at least
-pub open_longer : (bytes tail more : List ℕ) (k : TokenKind) (n : ℕ) → bytes ≡ tail ++ more → 0 < length tail
-    → IsOpen tail → get_or tail 0 0 ≢ 35 → front_of (get_or bytes 0 0) (drop 1 bytes) ≡ Found k (n - 1) → 0 < n
-    → length tail ≤ n
-open_longer bytes tail more k n e l o outside f some = grind (arith, longer)

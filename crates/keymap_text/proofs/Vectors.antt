@@ -4,7 +4,7 @@ use Rattle.keymap_text.proofs.Common.{length, get_or, replicate, Fits, w8, refl,
 use Rattle.keymap_text.proofs.Common.{agree_below, agree_below_at, not-true, not-false, map-map, mask_l-mod}
 use Rattle.keymap_text.proofs.Common.{length-chunk, get_or-chunk, leading_from_mask_l, trailing_mask_l, length-map}
 use Rattle.keymap_text.proofs.Common.{prefix_len-le-length, prefix_len_is, prefix_len_passes, prefix_len_stops}
-use Rattle.keymap_text.proofs.Common.{prefix_len, leading, first_of_sixteen}
+use Rattle.keymap_text.proofs.Common.{prefix_len, leading, first_of_sixteen, ⊎_elim, cases_lt, true≢false}
 use lib.Lanes.{chunk, zip2, mask_l, top}
 
 -- vectors that were computed lane by lane from v
@@ -55,6 +55,20 @@ module _ (q : ℕ → Bool) (d : List ℕ) (r : ℕ) (z : List ℕ) (room : 16 �
       let at = in_chunk d k (omega (arith, counted, long, bound, to)) in
       subst (λ x. stops x ≡ false) at (not-true _ (prefix_len_passes (λ x. not (stops x)) (chunk 0 16 d) k 0
       (omega (arith, counted, to))))
+
+  -- all bytes before the lowest bit pass q
+  pub run_at_most : agree_below stops (λ x. not (q x)) 256 ≡ true → r ≤ leading q d
+  run_at_most all = ⊎_elim
+      (λ l.
+      let bound = prefix_len-le-length (λ x. not (stops x)) (chunk 0 16 d) in
+      let stop = prefix_len_stops q d 0 (omega (arith, l, counted, long, room, bound)) in
+      let same = agree_below_at stops (λ x. not (q x)) 256 (get_or d (leading q d) 0) all (fits (leading q d)).fits in
+      absurd (true≢false (ap not (sym stop) ∙ sym same ∙ goes_on (leading q d) l)))
+      (λ l. l)
+      (cases_lt (leading q d) r)
+
+  pub run_bound : r ≤ 16
+  run_bound = omega (arith, counted, long, prefix_len-le-length (λ x. not (stops x)) (chunk 0 16 d))
 
   -- a lane stops just where q fails
   pub run_in : agree_below stops (λ x. not (q x)) 256 ≡ true → r < 16 → leading q d ≡ r

@@ -64,7 +64,7 @@ fn scalar_of(n: u128) -> Result<char, TextFaultKind>
 }
 
 #[inline(always)]
-pub(crate) fn character_of(item: &Item) -> Result<char, TextFaultKind>
+fn character_of(item: &Item) -> Result<char, TextFaultKind>
     ensures { result ≡ items.character item.now }
 {
     match item {
@@ -88,7 +88,7 @@ pub(crate) fn cell_of(item: &Item) -> Result<Cell, TextFaultKind>
 }
 
 #[inline(always)]
-pub(crate) fn lock_of(item: &Item) -> Result<LockFlag, TextFaultKind>
+fn lock_of(item: &Item) -> Result<LockFlag, TextFaultKind>
     ensures { result ≡ items.lock item.now }
 {
     match item {
@@ -133,7 +133,7 @@ pub(crate) fn first_place(item: &Item) -> Result<Place, TextFaultKind>
 
 /// Adds a pair, for which there is room, to the accent.
 #[inline(always)]
-pub(crate) fn push_pair(accent: &mut Accent, base: char, composed: char)
+fn push_pair(accent: &mut Accent, base: char, composed: char)
     requires room { length accent.old.pairs < pair_limit }
     requires base { base ≢ 0 }
     ensures { accent.new ≡ spec.with_pair accent.old base composed }
@@ -231,7 +231,7 @@ impl Grammar {
 
     /// Puts the entry that is complete.
     #[inline(always)]
-    pub(crate) fn close_entry<D: Definitions>(&mut self, into: &mut D, slot: u8, flag: LockFlag)
+    fn close_entry<D: Definitions>(&mut self, into: &mut D, slot: u8, flag: LockFlag)
         ensures shows { (m : MapValue) → D.shows into.old m
             → D.shows into.new (with_entry m slot (record { cells = self.old.entry.cells; flag = flag })) }
         ensures place { self.new.place ≡ Place.Definition }

@@ -2,10 +2,11 @@
 //! printed. It sees the letters of one word.
 ghost use Rattle.std.specs.Prelude.{◌≡◌, ◌==◌, ◌⊎◌, ◌≤◌, ◌<◌, if◌then◌else◌, All, IfSome, length, map, take, Some};
 ghost use Rattle.std.specs.Prelude.{ℕ, ◌+◌, ◌*◌, ◌/◌, ◌%◌, None, IsSome, slice_index, slice_index_or};
+ghost use Rattle.std.specs.Char.{to_ascii_lowercase};
 ghost use Rattle.keymap_text.specs.Lexical.{leading, is_word};
 ghost use Rattle.keymap_text.specs.Words.{meaning, is_letter, letters, same_name, sense_meaning, meaning_by_names};
 ghost use Rattle.keymap_text.specs.Words.{named, table};
-ghost use Rattle.keymap_text.specs.Inner.Keys.{pack, raised, is_from_zero, KeyMeans, IsTrueName, ArePlaced, name_key};
+ghost use Rattle.keymap_text.specs.Inner.Keys.{pack, KeyMeans, IsTrueName, ArePlaced, name_key};
 ghost use Rattle.keymap_text.specs.Printed as printed;
 
 use crate::words::Meaning;
@@ -172,9 +173,9 @@ static LOW_BYTES: [u64; 9] = [
 /// The key of n bytes in front: with the bit of lower case and filled with blanks, as a number.
 #[inline(always)]
 fn key_of(bytes: &[u8], n: usize) -> u64
-    requires from_zero { n ≤ leading is_from_zero bytes.now }
+    requires word { n ≤ leading is_word bytes.now }
     requires short { n ≤ 8 }
-    ensures { result ≡ pack 8 (map raised (take n bytes.now)) }
+    ensures { result ≡ pack 8 (map to_ascii_lowercase (take n bytes.now)) }
 {
     if bytes.len() < 8 {
         key_at_end(bytes, n)
@@ -185,10 +186,10 @@ fn key_of(bytes: &[u8], n: usize) -> u64
 
 #[inline(always)]
 fn key_of_eight(bytes: &[u8], n: usize) -> u64
-    requires from_zero { n ≤ leading is_from_zero bytes.now }
+    requires word { n ≤ leading is_word bytes.now }
     requires short { n ≤ 8 }
     requires room { 8 ≤ length bytes.now }
-    ensures { result ≡ pack 8 (map raised (take n bytes.now)) }
+    ensures { result ≡ pack 8 (map to_ascii_lowercase (take n bytes.now)) }
 {
     let eight = bytes.first_chunk::<8>().unwrap();
     (u64::from_le_bytes(*eight) & LOW_BYTES[n]) | 0x2020_2020_2020_2020
@@ -196,10 +197,10 @@ fn key_of_eight(bytes: &[u8], n: usize) -> u64
 
 #[inline(never)]
 fn key_at_end(bytes: &[u8], n: usize) -> u64
-    requires from_zero { n ≤ leading is_from_zero bytes.now }
+    requires word { n ≤ leading is_word bytes.now }
     requires short { n ≤ 8 }
     requires inside { n ≤ length bytes.now }
-    ensures { result ≡ pack 8 (map raised (take n bytes.now)) }
+    ensures { result ≡ pack 8 (map to_ascii_lowercase (take n bytes.now)) }
 {
     let mut eight = [b' '; 8];
     let mut i: usize = 0;
@@ -285,27 +286,15 @@ fn meaning_of_key(key: u64) -> Option<Meaning>
 
 /// The meaning of the word of n bytes in front, if it is a name of at most eight bytes.
 #[inline(always)]
-#[tactic(auto, using(crate::proofs::Meanings::some_means, crate::proofs::Leading::word_from_zero))]
+#[tactic(auto, using(crate::proofs::Meanings::some_means))]
 pub(crate) fn name_meaning(bytes: &[u8], n: usize) -> Option<Meaning>
     requires { n ≤ leading is_word bytes.now }
-    ensures { IfSome result (λ m. (n ≤ leading is_word bytes.now) × (m ≡ meaning (take n bytes.now))) }
+    ensures { IfSome result (λ m. m ≡ meaning (take n bytes.now)) }
 {
     if n > 8 {
         return None;
     }
     meaning_of_key(key_of(bytes, n))
-}
-
-/// The meaning of these n of the eight bytes in front, if they are a name, and so letters and digits alone.
-#[inline(always)]
-#[tactic(auto, using(crate::proofs::Meanings::some_means))]
-pub(crate) fn name_of_eight(bytes: &[u8], n: usize) -> Option<Meaning>
-    requires from_zero { n ≤ leading is_from_zero bytes.now }
-    requires short { n ≤ 8 }
-    requires room { 8 ≤ length bytes.now }
-    ensures { IfSome result (λ m. (n ≤ leading is_word bytes.now) × (m ≡ meaning (take n bytes.now))) }
-{
-    meaning_of_key(key_of_eight(bytes, n))
 }
 
 /// The control characters 0 to 31 in their order, del, further names of characters, the lock letters, and the actions

@@ -1,17 +1,15 @@
-//! Reading a text that comes in pieces: what a piece shows whole is read at once, and the bytes of a token that isn't
-//! whole yet are kept and read again with the next piece. It keeps the offset and the line.
-ghost use Rattle.std.specs.Prelude.{◌≡◌, ◌≢◌, ◌==◌, ℕ, ◌+◌, ◌<◌, ◌≤◌, ◌^◌, ◌++◌, [], List, length, slice_index, IfErr};
-ghost use Rattle.std.specs.Prelude.{count_by};
+//! Reading a text that comes in pieces: the bytes of a token that isn't whole yet are kept, and read again in front of
+//! the bytes that follow them. It keeps the offset and the line.
+ghost use Rattle.std.specs.Prelude.{◌≡◌, ◌==◌, ℕ, ◌+◌, ◌<◌, ◌≤◌, ◌^◌, ◌++◌, [], List, length, IfErr, count_by};
 ghost use Rattle.keymap_text.specs.Inner.Judging.{verdict};
 ghost use Rattle.keymap_text.specs.Inner.Scanning.{IsOpen};
-ghost use Rattle.keymap_text.specs.Inner.Resuming.{resume, IsReader, Feeds, Completes, Passes, Moves, Says};
-ghost use Rattle.keymap_text.specs.Inner.Resuming.{IsFaultOfPending};
+ghost use Rattle.keymap_text.specs.Inner.Resuming.{resume, IsReader, Feeds, Keeps, Says, IsFaultOfPending};
 ghost use Rattle.keymap_text.specs.Inner.Grammar as spec;
 
 use crate::fault::{TextFault, TextFaultKind};
 use crate::grammar::Grammar;
-use crate::scanner::{scan, take_any_token, take_end};
-use crate::token::{line_feeds, line_len};
+use crate::scanner::{scan, take_end};
+use crate::token::line_feeds;
 use arrayvec::ArrayVec;
 use keymap_core::KeyMap;
 
@@ -21,32 +19,35 @@ pub(crate) struct Reading {
     /// The map so far.
     pub(crate) map: KeyMap,
     pub(crate) grammar: Grammar,
-    /// The bytes of the token that is not whole yet, at most 32, with room for the byte behind them; of a comment that
-    /// goes on the `#`, with bytes of it or none.
-    pub(crate) pending: ArrayVec<u8, 33>,
+    /// The bytes of the token that is not whole yet, at most 32; of a comment that goes on, a `#`.
+    pub(crate) pending: ArrayVec<u8, 32>,
     /// The place of the first pending byte.
     pub(crate) offset: u64,
     /// The line of the first pending byte.
     pub(crate) line: u64,
 }
 
-/// How many bytes of a piece are read with those that are pending: no token has more than 33 with the byte behind it.
-fn few(had: usize, piece: usize) -> usize
-    requires { had ≤ 32 }
-    ensures bound { had + result ≤ 33 }
-    ensures inside { result ≤ piece }
-    ensures enough { result < piece → had + result ≡ 33 }
+/// How many bytes of a piece are looked at together.
+const FEW: usize = 512;
+
+/// Adds bytes, for which there is room.
+fn extend<const N: usize>(items: &mut ArrayVec<u8, N>, bytes: &[u8])
+    requires { length items.old.items + length bytes.now ≤ N }
+    ensures { items.new.items ≡ items.old.items ++ bytes.now }
 {
-    let room = 33 - had;
-    if piece < room { piece } else { room }
+    items.try_extend_from_slice(bytes).unwrap();
 }
 
-/// Adds bytes, for which there is room, to what is pending.
-fn extend(pending: &mut ArrayVec<u8, 33>, bytes: &[u8])
-    requires { length pending.old.items + length bytes.now ≤ 33 }
-    ensures { pending.new.items ≡ pending.old.items ++ bytes.now }
+/// The bytes that are pending, and those behind them.
+fn window(pending: &[u8], bytes: &[u8]) -> ArrayVec<u8, 544>
+    requires pending { length pending.now ≤ 32 }
+    requires few { length bytes.now ≤ 512 }
+    ensures { result.items ≡ pending.now ++ bytes.now }
 {
-    pending.try_extend_from_slice(bytes).unwrap();
+    let mut window = ArrayVec::new();
+    extend(&mut window, pending);
+    extend(&mut window, bytes);
+    window
 }
 
 impl Reading {
@@ -73,14 +74,15 @@ impl Reading {
         requires room { self.old.offset + length self.old.pending.items + length piece.now < 2 ^ 63 }
         ensures { Feeds result self.old self.new piece.now }
     {
-        let begun = match self.complete(piece) {
-            Ok(begun) => begun,
-            Err(fault) => return Err(fault),
-        };
-        if begun == piece.len() {
-            return Ok(());
+        let mut at = 0;
+        while at < piece.len() {
+            let end = piece.len().min(at + FEW);
+            match self.take(&piece[at..end]) {
+                Ok(()) => at = end,
+                Err(fault) => return Err(fault),
+            }
         }
-        self.scan(&piece[begun..])
+        Ok(())
     }
 
     /// The text ends here.
@@ -100,91 +102,34 @@ impl Reading {
         }
     }
 
-    /// Takes the rest of what is pending. Answers how many bytes that has, which are all where it isn't whole still.
-    #[inline(never)]
-    fn complete(&mut self, piece: &[u8]) -> Result<usize, TextFault>
-        requires reader { IsReader self.old }
-        requires room { self.old.offset + length self.old.pending.items + length piece.now < 2 ^ 63 }
-        ensures { Completes result self.old self.new piece.now }
-    {
-        let pending = self.pending.as_slice();
-        if pending.is_empty() {
-            return Ok(0);
-        }
-        if pending[0] == b'#' {
-            return Ok(self.comment(piece));
-        }
-        self.token(piece)
-    }
-
-    /// Takes the rest of a comment, as far as the end of its line, which is left.
-    fn comment(&mut self, piece: &[u8]) -> usize
-        requires reader { IsReader self.old }
-        requires some { 0 < length self.old.pending.items }
-        requires comment { slice_index self.old.pending.items 0 ≡ 35 }
-        requires room { self.old.offset + length self.old.pending.items + length piece.now < 2 ^ 63 }
-        ensures { Passes self.old self.new piece.now result }
-    {
-        let n = line_len(piece);
-        self.offset += n as u64;
-        if n < piece.len() {
-            self.offset += self.pending.len() as u64;
-            self.pending.clear();
-        }
-        n
-    }
-
-    /// Takes the rest of a token.
-    fn token(&mut self, piece: &[u8]) -> Result<usize, TextFault>
-        requires reader { IsReader self.old }
-        requires some { 0 < length self.old.pending.items }
-        requires token { slice_index self.old.pending.items 0 ≢ 35 }
-        requires room { self.old.offset + length self.old.pending.items + length piece.now < 2 ^ 63 }
-        ensures { Completes result self.old self.new piece.now }
-    {
-        let had = self.pending.len();
-        let few = few(had, piece.len());
-        extend(&mut self.pending, &piece[..few]);
-        match take_any_token(&mut self.grammar, &mut self.map, self.pending.as_slice()) {
-            Ok(0) => Ok(few),
-            Ok(n) => {
-                let taken = n - had;
-                self.pending.clear();
-                self.offset += had as u64;
-                self.pass(&piece[..taken]);
-                Ok(taken)
-            }
-            Err(stop) => Err(self.fault(&[], stop.kind)),
-        }
-    }
-
-    /// Takes the tokens of these bytes, and keeps what they break off.
+    /// Takes few bytes: the tokens of what is pending and of them, but for what they break off, which is kept.
     #[inline(always)]
-    fn scan(&mut self, rest: &[u8]) -> Result<(), TextFault>
+    fn take(&mut self, bytes: &[u8]) -> Result<(), TextFault>
         requires reader { IsReader self.old }
-        requires none { self.old.pending.items ≡ [] }
-        requires room { self.old.offset + length rest.now < 2 ^ 63 }
-        ensures { Feeds result self.old self.new rest.now }
+        requires few { length bytes.now ≤ 512 }
+        requires room { self.old.offset + length self.old.pending.items + length bytes.now < 2 ^ 63 }
+        ensures { Feeds result self.old self.new bytes.now }
     {
-        match scan(&mut self.grammar, &mut self.map, rest) {
+        let window = window(self.pending.as_slice(), bytes);
+        let window = window.as_slice();
+        match scan(&mut self.grammar, &mut self.map, window) {
             Ok(n) => {
-                self.pass(&rest[..n]);
-                self.keep(&rest[n..]);
+                self.pass(&window[..n]);
+                self.keep(&window[n..]);
                 Ok(())
             }
-            Err(stop) => Err(self.fault(&rest[..stop.at], stop.kind)),
+            Err(stop) => Err(self.fault(&window[..stop.at], stop.kind)),
         }
     }
 
-    /// Keeps the last bytes of a piece, which show no whole token; of a comment only its last byte, as a `#`.
+    /// Keeps the last bytes, which show no whole token, as what is pending; of a comment only its last byte, as a `#`.
     #[inline(always)]
     fn keep(&mut self, tail: &[u8])
-        requires reader { IsReader self.old }
         requires tail { IsOpen tail.now }
-        requires none { self.old.pending.items ≡ [] }
         requires room { self.old.offset + length tail.now < 2 ^ 63 }
-        ensures { Moves self.old self.new tail.now [] }
+        ensures { Keeps self.old self.new tail.now }
     {
+        self.pending.clear();
         if tail.is_empty() {
             return;
         }

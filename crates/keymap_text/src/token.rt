@@ -3,7 +3,7 @@
 ghost use Rattle.std.specs.Prelude.{◌≡◌, ◌+◌, ◌<◌, ◌≤◌, ◌==◌, length, drop, slice_index, if◌then◌else◌, IsFalse, IfOk};
 ghost use Rattle.std.specs.Prelude.{IfSome, IfErr, count_by, ◌^◌};
 ghost use Rattle.keymap_text.specs.Lexical as lexical;
-ghost use Rattle.keymap_text.specs.Inner.Keys.{first_of_sixteen, is_from_zero};
+ghost use Rattle.keymap_text.specs.Inner.Keys.{first_of_sixteen};
 ghost use Rattle.keymap_text.specs.Lexical.{is_blank, is_space, is_word, stays_on_line, separates, leading, is_lone};
 ghost use Rattle.keymap_text.specs.Lexical.{literal, quoted, word, front_of, tokens_after, first};
 ghost use Rattle.keymap_text.specs.Meaning.{line};
@@ -54,30 +54,6 @@ pub(crate) fn is_blank_byte(c: u8) -> bool
     c == b' ' || c == b'\t' || c == b'\r' || c == b'\n'
 }
 
-/// Which bytes are blanks that end no line.
-static SPACE_BYTES: [bool; 256] = [
-    false, false, false, false, false, false, false, false, false, true, false, false, false, true,
-    false, false, false, false, false, false, false, false, false, false, false, false, false,
-    false, false, false, false, false, true, false, false, false, false, false, false, false,
-    false, false, false, false, false, false, false, false, false, false, false, false, false,
-    false, false, false, false, false, false, false, false, false, false, false, false, false,
-    false, false, false, false, false, false, false, false, false, false, false, false, false,
-    false, false, false, false, false, false, false, false, false, false, false, false, false,
-    false, false, false, false, false, false, false, false, false, false, false, false, false,
-    false, false, false, false, false, false, false, false, false, false, false, false, false,
-    false, false, false, false, false, false, false, false, false, false, false, false, false,
-    false, false, false, false, false, false, false, false, false, false, false, false, false,
-    false, false, false, false, false, false, false, false, false, false, false, false, false,
-    false, false, false, false, false, false, false, false, false, false, false, false, false,
-    false, false, false, false, false, false, false, false, false, false, false, false, false,
-    false, false, false, false, false, false, false, false, false, false, false, false, false,
-    false, false, false, false, false, false, false, false, false, false, false, false, false,
-    false, false, false, false, false, false, false, false, false, false, false, false, false,
-    false, false, false, false, false, false, false, false, false, false, false, false, false,
-    false, false, false, false, false, false, false, false, false, false, false, false, false,
-    false, false, false, false, false, false, false, false,
-];
-
 /// Which bytes are ASCII letters and digits.
 static WORD_BYTES: [bool; 256] = [
     false, false, false, false, false, false, false, false, false, false, false, false, false,
@@ -106,21 +82,23 @@ static WORD_BYTES: [bool; 256] = [
 pub fn is_space_byte(c: u8) -> bool
     ensures { result ≡ is_space c }
 {
-    SPACE_BYTES[c as usize]
+    c == b' ' || c == b'\t' || c == b'\r'
 }
 
 /// How many of the first sixteen bytes are spaces, up to one that isn't: all are compared at once.
 #[inline(always)]
 pub(crate) fn space_run(bytes: &[u8]) -> usize
     requires { 16 ≤ length bytes.now }
-    ensures { result < 16 → result ≡ leading (λ c. c == 32) bytes.now }
+    ensures some { result ≤ leading (λ c. c == 32) bytes.now }
+    ensures all { result < 16 → result ≡ leading (λ c. c == 32) bytes.now }
+    ensures bound { result ≤ 16 }
 {
     let others = u8x16::from_slice(bytes).simd_ne(u8x16::splat(b' '));
     first_set(others.to_bitmask())
 }
 
-/// How many blanks that end no line stand in front, up to a tab or carriage return behind spaces. Most often there is
-/// none, or one space; more are seen at once, and what else stands in front is measured as a whole.
+/// How many blanks that end no line stand in front, up to a tab or carriage return behind spaces: at most sixteen spaces
+/// are seen at once.
 #[inline(always)]
 #[tactic(auto, using(crate::proofs::Leading::front_rules))]
 pub(crate) fn first_spaces(bytes: &[u8]) -> usize
@@ -128,16 +106,8 @@ pub(crate) fn first_spaces(bytes: &[u8]) -> usize
     ensures blank { result ≤ leading is_space bytes.now }
 {
     if bytes.len() >= 16 {
-        if bytes[1] > b' ' {
-            if bytes[0] > b' ' {
-                return 0;
-            }
-            if bytes[0] == b' ' {
-                return 1;
-            }
-        }
         let run = space_run(bytes);
-        if run > 0 && run < 16 {
+        if run > 0 {
             return run;
         }
         if bytes[0] > b' ' {
@@ -186,7 +156,7 @@ pub(crate) fn is_word_byte(c: u8) -> bool
 
 /// How many of the first sixteen bytes are word bytes, up to one that isn't: all are compared at once.
 #[inline(always)]
-pub(crate) fn word_run(bytes: &[u8]) -> usize
+fn word_run(bytes: &[u8]) -> usize
     requires { 16 ≤ length bytes.now }
     ensures { result < 16 → result ≡ leading is_word bytes.now }
 {
@@ -195,17 +165,6 @@ pub(crate) fn word_run(bytes: &[u8]) -> usize
     let from_0 = v - u8x16::splat(b'0');
     let others = from_a.simd_ge(u8x16::splat(26)) & from_0.simd_ge(u8x16::splat(10));
     first_set(others.to_bitmask())
-}
-
-/// How many of the first sixteen bytes are among the 128 from `0` on, as all word bytes are, up to one that isn't: this
-/// takes one compare.
-#[inline(always)]
-pub(crate) fn run_from_zero(bytes: &[u8]) -> usize
-    requires { 16 ≤ length bytes.now }
-    ensures { result < 16 → result ≡ leading is_from_zero bytes.now }
-{
-    let from_0 = u8x16::from_slice(bytes) - u8x16::splat(b'0');
-    first_set(from_0.simd_ge(u8x16::splat(128)).to_bitmask())
 }
 
 /// The place of the lowest bit that is set, 16 where none is.
@@ -368,18 +327,6 @@ fn character_front(bytes: &[u8], character: Option<char>, size: usize) -> Front
     }
 }
 
-/// The quoted character whose bytes these are; a printable byte of ASCII and an apostrophe are seen at once.
-#[inline(always)]
-fn quoted_front(bytes: &[u8]) -> Front
-    ensures value { front_view result ≡ literal bytes.now }
-    ensures fits { FoundFits result (length bytes.now) }
-{
-    if bytes.len() > 1 && bytes[0] >= b' ' && bytes[0] <= b'~' && bytes[1] == b'\'' {
-        return Front::Found(TokenKind::Literal(bytes[0] as char), 2);
-    }
-    literal_front(bytes)
-}
-
 /// What stands at the front of some bytes that begin with neither a blank nor a comment.
 #[inline(always)]
 #[tactic(auto, unfolding(crate::specs::Lexical::front_of))]
@@ -394,7 +341,7 @@ pub(crate) fn token_front(bytes: &[u8]) -> Front
     match c {
         b'(' => Front::Found(TokenKind::ParenL, 0),
         b')' => Front::Found(TokenKind::ParenR, 0),
-        b'\'' => quoted_front(rest),
+        b'\'' => literal_front(rest),
         _ => word_front(c, rest),
     }
 }

@@ -58,7 +58,7 @@ fn digit_value(c: u8) -> u8
 
 /// The number that the digits spell; none where there are no bytes or one of them is no digit.
 #[inline(never)]
-fn long_number_of(base: u8, digits: &[u8]) -> Option<u128>
+fn number_of(base: u8, digits: &[u8]) -> Option<u128>
     requires base { base ≤ 16 }
     requires length { length digits.now ≤ 32 }
     ensures { result ≡ digits_of base digits.now }
@@ -75,42 +75,6 @@ fn long_number_of(base: u8, digits: &[u8]) -> Option<u128>
         n = n * base as u128 + d as u128;
     }
     Some(n)
-}
-
-/// The number that few digits spell; none where there are no bytes or one of them is no digit.
-#[inline(always)]
-fn short_number_of(base: u8, digits: &[u8]) -> Option<u64>
-    requires base { base ≤ 16 }
-    requires length { length digits.now ≤ 15 }
-    ensures { result ≡ digits_of base digits.now }
-{
-    if digits.is_empty() {
-        return None;
-    }
-    let mut n: u64 = 0;
-    for c in digits {
-        let d = digit_value(*c);
-        if d >= base {
-            return None;
-        }
-        n = n * base as u64 + d as u64;
-    }
-    Some(n)
-}
-
-#[inline(always)]
-fn number_of(base: u8, digits: &[u8]) -> Option<u128>
-    requires base { base ≤ 16 }
-    requires length { length digits.now ≤ 32 }
-    ensures { result ≡ digits_of base digits.now }
-{
-    if digits.len() > 15 {
-        return long_number_of(base, digits);
-    }
-    match short_number_of(base, digits) {
-        Some(n) => Some(n as u128),
-        None => None,
-    }
 }
 
 /// The number after the prefix.
@@ -170,18 +134,6 @@ pub fn word_meaning(word: &[u8]) -> Meaning
         Some(meaning) => meaning,
         None => action_meaning(Action::named(word)),
     }
-}
-
-/// The number that a word of few bytes spells, if it spells one.
-#[inline(always)]
-pub(crate) fn short_number(word: &[u8]) -> Option<u64>
-    requires { length word.now ≤ 15 }
-    ensures { IfSome result (λ n. Number n ≡ meaning word.now) }
-{
-    if word.len() > 2 && word[0] == b'0' && word[1] == b'x' {
-        return short_number_of(16, &word[2..]);
-    }
-    short_number_of(10, word)
 }
 
 /// The number in front that is `0x` and four digits, with a byte behind it that is none of a word.

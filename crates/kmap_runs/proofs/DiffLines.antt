@@ -20,8 +20,8 @@ use Rattle.keymap_core.specs.declared.entry.LockFlag.{LockFlag}
 use Rattle.keymap_core.specs.declared.entry.LockFlag.TheVariants as flags
 use Rattle.keymap_text.specs.Printed.{cell_text, character_text, control_name, flag_letter}
 use Rattle.keymap_text.specs.Words.{control_names}
-use Rattle.keymap_lint_text.specs.Lists.{accent_name, ranges, run_text}
-use Rattle.messages.proofs.Passed.{parts_all}
+use Rattle.keymap_lint_text.specs.Lists.{accent_name}
+use Rattle.keymap_lint_text.specs.Told.{column_names}
 use Rattle.console_core.specs.declared.event.Answer.{Answer}
 use Rattle.console_core.specs.declared.event.Answer.TheVariants as answer
 use Rattle.keymap_diff.specs.declared.change.Change.{Change}
@@ -30,14 +30,10 @@ use Rattle.keymap_diff.specs.declared.change.Change.TheVariants.{ListedOtherwise
 use Rattle.play_core.specs.Written.{answer_text}
 use Rattle.kmap_runs.proofs.Comments.{IsInLine, append-line, decimal-line, digits-line, flat-line, if-line}
 use Rattle.kmap_runs.proofs.Comments.{is_in_line, name-line, names, text-at}
-use Rattle.kmap_runs.specs.Diff.{base_item, bases_text, columns_text, item, made_text, slots_text}
-use Rattle.kmap_runs.specs.Diff.{subject_of, unseen_text, values_of}
+use Rattle.kmap_runs.specs.Diff.{made_text, subject_of, unseen_text, values_of}
 
 either-line : (t : Bool) (a b : List ℕ) → IsInLine a → IsInLine b → IsInLine (if t then a else b)
 either-line t a b h k = cond_both t a b IsInLine (λ _. h) (λ _. k)
-
-drop-line : (n : ℕ) (text : List ℕ) → IsInLine text → IsInLine (drop n text)
-drop-line n text h = (parts_all is_in_line n text h).1
 
 -- a name of a list of names
 named : (texts : List (List ℕ)) → list_all (list_all is_in_line) texts ≡ true → (i : ℕ)
@@ -109,46 +105,20 @@ answer-line (answer.Special a) = action-line a
 answer-line answer.BackTab = refl
 answer-line (answer.Released a) = append-line (codes "released ") (name_of a) refl (action-line a)
 
-run-line : (ns : List ℕ) (i : ℕ) → IsInLine (run_text ns i)
-run-line ns i = search (rules, decimal-line, either-line, append-line, if-line)
-
-ranges-line : (ns : List ℕ) → IsInLine (ranges ns)
-ranges-line ns = flat-line (run_text ns) (run-line ns) (range_with_len 0 (length ns))
-
-slots-line : (xs : List Change) → IsInLine (slots_text xs)
-slots-line xs = search (rules, filled_all, is_in_line, either-line, ranges-line)
-
-item-line : (text : List ℕ) → IsInLine text → IsInLine (item text)
-item-line text h = append-line (codes ", ") text refl h
-
-columns-line : (columns : List Bool) → IsInLine (columns_text columns)
-columns-line columns =
-    search (rules, names, either-line, drop-line, flat-line, if-line, item-line, named)
-
-base-line : (x : Change) → IsInLine (base_item x)
-base-line (Pair i base a b u) = item-line (character_text base) (character-line base)
-base-line (Slots a b) = refl
-base-line (Cell s c a b u) = refl
-base-line (Letter s a b u) = refl
-base-line (Accents a b) = refl
-base-line (Accent i a b u) = refl
-base-line (ListedOtherwise i) = refl
-
-bases-line : (xs : List Change) → IsInLine (bases_text xs)
-bases-line xs = drop-line 2 (flat_map base_item xs) (flat-line base_item base-line xs)
-
-pub subject-line : (way : Change) (columns : List Bool) (xs : List Change) → IsInLine (subject_of way columns xs)
-subject-line (Slots a b) columns xs = refl
-subject-line (Cell s c a b u) columns xs =
-    search (rules, filled_all, is_in_line, slots-line, columns-line)
-subject-line (Letter s a b u) columns xs =
-    filled_all is_in_line (codes "lock: {}") (slots_text xs ∷ []) refl (slots-line xs, tt)
-subject-line (Accents a b) columns xs = refl
-subject-line (Accent i a b u) columns xs =
+pub subject-line : (x : Change) → IsInLine (subject_of x)
+subject-line (Slots a b) = refl
+subject-line (Cell s c a b u) =
+    filled_all is_in_line (codes "cell: slot {}; {}") (decimal s ∷ slice_index_or column_names c [] ∷ []) refl
+    (decimal-line s, (named column_names refl c, tt))
+subject-line (Letter s a b u) =
+    filled_all is_in_line (codes "lock: slot {}") (decimal s ∷ []) refl (decimal-line s, tt)
+subject-line (Accents a b) = refl
+subject-line (Accent i a b u) =
     filled_all is_in_line (codes "accent: {}") (accent_name i ∷ []) refl (accent-line i, tt)
-subject-line (Pair i base a b u) columns xs =
-    search (rules, filled_all, is_in_line, accent-line, bases-line)
-subject-line (ListedOtherwise i) columns xs =
+subject-line (Pair i base a b u) =
+    filled_all is_in_line (codes "pair: {}; {}") (accent_name i ∷ character_text base ∷ []) refl
+    (accent-line i, (character-line base, tt))
+subject-line (ListedOtherwise i) =
     filled_all is_in_line (codes "pairs: {}") (accent_name i ∷ []) refl (accent-line i, tt)
 
 pub values-line : (way : Change) → IsInLine (values_of way).0 × IsInLine (values_of way).1

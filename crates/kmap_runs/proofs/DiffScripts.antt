@@ -26,30 +26,31 @@ use Rattle.play_core.specs.Spelling.{sent_line, sent_of}
 use Rattle.play_core.specs.declared.sent.What.TheVariants as what
 use Rattle.kmap_runs.proofs.Comments.{Adds, IsInLine, adds-nil, adds-script, decimal-line, quiet-comment, quiet-flat}
 use Rattle.kmap_runs.proofs.Comments.{◌⊳◌}
-use Rattle.kmap_runs.specs.Diff.{diff_text, is_unseen_way, lines_text, same_text, sent_along, sent_behind}
-use Rattle.kmap_runs.specs.Diff.{unseen_text, values_of, verdict_line, way_line}
+use Rattle.kmap_runs.specs.Diff.{diff_text, is_unseen, line_text, lines_text, same_text, sent_along, sent_behind}
+use Rattle.kmap_runs.specs.Diff.{subject_of, unseen_text, values_of, verdict_line}
 use Rattle.kmap_runs.specs.Replayed.{FitsKeys, TellingReplays}
 use Rattle.kmap_runs.proofs.DiffLines.{answer-line, subject-line, unseen-line, values-line}
 
 -- ---- the comments before the events
 
-quiet-change : (way : Change) (subject : List ℕ) → IsInLine subject
+quiet-change : (x : Change)
     → Adds (comment (codes " {}{}: {} -> {}")
-    (unseen_text (is_unseen_way way) ∷ subject ∷ (values_of way).0 ∷ (values_of way).1 ∷ [])) []
-quiet-change way subject h = search (rules, values-line, quiet-comment, unseen-line)
+    (unseen_text (is_unseen x) ∷ subject_of x ∷ (values_of x).0 ∷ (values_of x).1 ∷ [])) []
+quiet-change x = search (rules, subject-line, values-line, quiet-comment, unseen-line)
 
-quiet-way : (way : Change) (subject : List ℕ) → IsInLine subject → Adds (way_line way subject) []
-quiet-way (ListedOtherwise i) subject h =
-    quiet-comment (codes " {}: listed otherwise, with the same results") (subject ∷ []) refl (h, tt)
-quiet-way (Slots a b) subject h = quiet-change (Slots a b) subject h
-quiet-way (Cell s c a b u) subject h = quiet-change (Cell s c a b u) subject h
-quiet-way (Letter s a b u) subject h = quiet-change (Letter s a b u) subject h
-quiet-way (Accents a b) subject h = quiet-change (Accents a b) subject h
-quiet-way (Accent i a b u) subject h = quiet-change (Accent i a b u) subject h
-quiet-way (Pair i base a b u) subject h = quiet-change (Pair i base a b u) subject h
+quiet-line : (x : Change) → Adds (line_text x) []
+quiet-line (ListedOtherwise i) =
+    quiet-comment (codes " {}: listed otherwise, with the same results") (subject_of (ListedOtherwise i) ∷ []) refl
+    (subject-line (ListedOtherwise i), tt)
+quiet-line (Slots a b) = quiet-change (Slots a b)
+quiet-line (Cell s c a b u) = quiet-change (Cell s c a b u)
+quiet-line (Letter s a b u) = quiet-change (Letter s a b u)
+quiet-line (Accents a b) = quiet-change (Accents a b)
+quiet-line (Accent i a b u) = quiet-change (Accent i a b u)
+quiet-line (Pair i base a b u) = quiet-change (Pair i base a b u)
 
 quiet-lines : (found : List Change) → Adds (lines_text found) []
-quiet-lines found = search (rules, quiet-flat, quiet-way, subject-line)
+quiet-lines found = quiet-flat line_text quiet-line found
 
 quiet-verdict : (t : Telling) → Adds (verdict_line t) []
 quiet-verdict (Told events a b) = search (rules, quiet-comment, answer-line)

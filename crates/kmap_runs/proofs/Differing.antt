@@ -14,10 +14,8 @@ use Rattle.console_core.specs.declared.event.Event.TheVariants as event
 use Rattle.play_core.specs.Spelling.{sent_line}
 use Rattle.keymap_diff.specs.declared.change.Change.{Change}
 use Rattle.keymap_diff.specs.declared.change.Change.TheVariants as change
-use Rattle.kmap_runs.specs.Diff.{is_pressed_by, is_unseen_way, line_text, sent_along, sent_behind, unseen_text}
-use Rattle.kmap_runs.specs.Diff.{values_of, way_line}
-use Rattle.kmap_runs.specs.Joined.{told}
-use Rattle.kmap_runs.specs.declared.joined.Line.{Line}
+use Rattle.kmap_runs.specs.Diff.{is_pressed_by, is_unseen, line_text, sent_along, sent_behind, subject_of, unseen_text}
+use Rattle.kmap_runs.specs.Diff.{values_of}
 
 by_press : (a b : Bool) → (if b then true else a) ≡ (a || b)
 by_press true true = refl
@@ -73,23 +71,18 @@ pub script_more : (es before : List Event) (i : ℕ) (e : Event) (old all more :
 script_more es before i e old all more line so front low at =
     search (rules, lines_more, append_assoc)
 
--- the texts of lines, and those of what they tell
-pub lines_told : (ls : List Line) → flat_map (λ l. line_text (told l)) ls ≡ flat_map line_text (map told ls)
-lines_told [] = refl
-lines_told (l ∷ ls) = ap (λ t. line_text (told l) ++ t) (lines_told ls)
-
 -- the line of what changes otherwise than by how pairs are listed
-pub other_line : (way : Change) (subject : List ℕ) → ((i : ℕ) → way ≡ change.ListedOtherwise i → ⊥)
-    → way_line way subject
+pub other_line : (x : Change) → ((i : ℕ) → x ≡ change.ListedOtherwise i → ⊥)
+    → line_text x
     ≡ comment (codes " {}{}: {} -> {}")
-    (unseen_text (is_unseen_way way) ∷ subject ∷ (values_of way).0 ∷ (values_of way).1 ∷ [])
-other_line (change.ListedOtherwise i) subject other = absurd (other i refl)
-other_line (change.Slots a b) subject other = refl
-other_line (change.Cell s c a b u) subject other = refl
-other_line (change.Letter s a b u) subject other = refl
-other_line (change.Accents a b) subject other = refl
-other_line (change.Accent i a b u) subject other = refl
-other_line (change.Pair i base a b u) subject other = refl
+    (unseen_text (is_unseen x) ∷ subject_of x ∷ (values_of x).0 ∷ (values_of x).1 ∷ [])
+other_line (change.ListedOtherwise i) other = absurd (other i refl)
+other_line (change.Slots a b) other = refl
+other_line (change.Cell s c a b u) other = refl
+other_line (change.Letter s a b u) other = refl
+other_line (change.Accents a b) other = refl
+other_line (change.Accent i a b u) other = refl
+other_line (change.Pair i base a b u) other = refl
 
 -- whether nothing was found is whether this holds
 pub none_found : {X P : Type 0} (xs : List X) (none : Bool) → none ≡ (length xs == 0)

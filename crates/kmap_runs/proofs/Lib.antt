@@ -1,6 +1,5 @@
 mod Accepted
 mod Chained
-mod Columns
 mod Comments
 mod Common
 mod Counted
@@ -10,10 +9,6 @@ mod DiffLines
 mod DiffScripts
 mod Differing
 mod Dumped
-mod EachOnce
-mod LineOf
-mod NamedSlots
-mod OneSlot
 mod PlainScripts
 mod Replayed
 mod Scripts

@@ -3,14 +3,11 @@ pub mod Cover
 pub mod Diff
 pub mod FaultLine
 pub mod FmtRuns
-pub mod Inner
 pub mod Inputs
-pub mod Joined
 pub mod LintRuns
 pub mod Missing
 pub mod Replayed
 pub mod Report
 pub mod Runs
 pub mod Search
-pub mod ToldOnce
 pub mod Typing

@@ -10,7 +10,6 @@ use Rattle.keymap_tables.specs.Fits.{Fits, IsFirstWide}
 use Rattle.keymap_tables.specs.Image.{image, narrow_image}
 use Rattle.keymap_draw.specs.declared.board.Board.{Board}
 use Rattle.keymap_draw.specs.Pictures.{IsPicture, drawing}
-use Rattle.keymap_draw.specs.Told.{AgreeWhereShown}
 use Rattle.keymap_draw.specs.WellFormed.{IsPlain, IsWellFormed}
 use Rattle.console_states.specs.declared.outcome.Sticking.{Sticking}
 use Rattle.console_states.specs.declared.outcome.Sticking.TheVariants.{Never}
@@ -216,15 +215,6 @@ abbrev pub DrawnAreWellFormed : Type 0
 DrawnAreWellFormed =
     (board : Board) (name : List ℕ) (text out : Moves) → DrawsText board name text out (Ok (tt {0}))
     → (drawn : List ℕ) × Appends out.old out.new drawn × IsWellFormed drawn × All IsPlain drawn
-
--- Two texts of which the same bytes are drawn spell keymaps that are the same as far as their picture shows them.
-abbrev pub DrawnTellKeymaps : Type 0
-DrawnTellKeymaps =
-    (board another : Board) (name title : List ℕ) (text other : Moves) (drawn : List ℕ)
-    → DrawsText board name text (moves (Some []) (Some drawn)) (Ok (tt {0}))
-    → DrawsText another title other (moves (Some []) (Some drawn)) (Ok (tt {0}))
-    → (m n : MapValue) × ReadsText text (Ok m) × ReadsText other (Ok n)
-    × AgreeWhereShown (drawing m board name) (drawing n another title)
 
 -- A text that is called well spells a keymap under which no list of presses and releases leaves a modifier on.
 abbrev pub WellLintedNeverStick : Type 0

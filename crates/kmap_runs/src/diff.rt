@@ -1,29 +1,25 @@
 //! What differs between two keymaps, and what tells them apart, as a script that `kmap play` reads with either.
-ghost use Rattle.std.specs.Prelude.{◌≡◌, ◌<◌, ◌≤◌, ◌++◌, [], drop, length, reverse, IfOk, OnOk};
-ghost use Rattle.std.specs.List.{flat_map, range_with_len};
+ghost use Rattle.std.specs.Prelude.{◌≡◌, ◌≤◌, ◌++◌, [], length, reverse, IfOk, OnOk};
+ghost use Rattle.std.specs.List.{flat_map};
 ghost use Rattle.console_core.specs.History.{pressed};
-ghost use Rattle.keymap_core.specs.Numbers.{column_count};
 ghost use Rattle.keymap_text.specs.Printed.{cell_text as cell_text_of};
 ghost use Rattle.play_core.specs.Spelling.{sent_line};
 ghost use Rattle.play_core.specs.Written.{answer_text as answer_text_of};
-ghost use Rattle.kmap_runs.specs.Cover.{with_number};
 ghost use Rattle.kmap_runs.specs.Diff as spec;
-ghost use Rattle.kmap_runs.specs.Joined.{AreOfSome, told};
 
 use crate::event_lines::{event_line, push_comment};
-use crate::joined::{Line, lines_of};
 use crate::words::{
-    ACCENT, ACCENT_COUNT, ALL_COLUMNS, BACK_TAB, CELL, CHANGE, CHARACTER, ERROR, LISTED_OTHERWISE,
-    LOCK, META_CHARACTER, NEVER_TOLD, NO_RESULT, NOT_TOLD, ONE, ORDER, PAIR, RELEASED, REPEAT,
-    SAME, SEVERAL_SLOTS, SLOT_COUNT, TOLD, UNSEEN, UNTOLD,
+    ACCENT, ACCENT_COUNT, BACK_TAB, CELL, CHANGE, CHARACTER, ERROR, LISTED_OTHERWISE, LOCK,
+    META_CHARACTER, NEVER_TOLD, NO_RESULT, NOT_TOLD, ORDER, PAIR, RELEASED, REPEAT, SAME,
+    SLOT_COUNT, TOLD, UNSEEN, UNTOLD,
 };
 use arrayvec::ArrayVec;
 use console_core::{Answer, Event};
-use keymap_core::{COLUMN_COUNT, Cell, KeyCode};
+use keymap_core::{Cell, KeyCode};
 use keymap_diff::{Change, Telling};
-use keymap_lint_text::{accent_name, column_name, ranges};
+use keymap_lint_text::{accent_name, column_name};
 use keymap_text::{character_text, flag_letter};
-use messages::{LINE, either, fill, filled, number, small};
+use messages::{either, fill, filled, number, small};
 use std::alloc::{AllocError, Global};
 
 type Added = Result<(), AllocError>;
@@ -59,131 +55,11 @@ fn made_value(made: Option<char>) -> Value
     }
 }
 
-/// Adds a slot, if it isn't there.
-fn add_slot(slots: &mut Vec<u8>, slot: u8) -> Added
-    ensures { OnOk result (slots.new.items ≡ with_number slots.old.items slot) }
+/// Whether no press meets what changes.
+fn is_unseen(change: &Change) -> bool
+    ensures { result ≡ spec.is_unseen change.now }
 {
-    if !slots.contains(&slot) {
-        slots.push(slot)?;
-    }
-    Ok(())
-}
-
-/// Adds the slot of the change, if it isn't there.
-fn add_slot_of(slots: &mut Vec<u8>, change: &Change) -> Added
-    ensures { OnOk result (slots.new.items ≡ spec.with_slot slots.old.items change.now) }
-{
-    match change {
-        Change::Cell { slot, .. } => add_slot(slots, *slot),
-        Change::Letter { slot, .. } => add_slot(slots, *slot),
-        _ => Ok(()),
-    }
-}
-
-fn slots_of(alloc: Global, changes: &[Change]) -> Result<Vec<u8>, AllocError>
-    ensures { IfOk result (λ slots. slots.items ≡ spec.with_slots [] changes.now) }
-{
-    let mut slots = Vec::new(alloc);
-    for change in changes {
-        add_slot_of(&mut slots, change)?;
-    }
-    Ok(slots)
-}
-
-/// The slots of the changes, each once.
-fn slots_text(alloc: Global, changes: &[Change]) -> Result<Vec<u8>, AllocError>
-    ensures { IfOk result (λ text. text.items ≡ spec.slots_text changes.now) }
-{
-    let slots = slots_of(alloc, changes)?;
-    let words = either(slots.len() == 1, ONE, SEVERAL_SLOTS);
-    filled(alloc, words, &[ranges(alloc, slots.as_slice())?.as_slice()])
-}
-
-/// Adds a comma and a text.
-fn push_item(list: &mut Vec<u8>, text: &[u8]) -> Added
-    ensures { OnOk result (list.new.items ≡ list.old.items ++ spec.item text.now) }
-{
-    list.extend_from_slice(b", ")?;
-    list.extend_from_slice(text)
-}
-
-/// A list of texts without the comma before the first one.
-fn without_comma(list: &[u8]) -> &[u8]
-    ensures { result.now ≡ drop 2 list.now }
-{
-    match list {
-        [_, _, rest @ ..] => rest,
-        _ => &[],
-    }
-}
-
-/// Adds the name of the column, if it is one of these.
-fn push_column(list: &mut Vec<u8>, columns: &[bool; COLUMN_COUNT], column: usize) -> Added
-    requires { column < column_count }
-    ensures { OnOk result (list.new.items ≡ list.old.items ++ spec.column_item columns.now column) }
-{
-    if columns[column] {
-        push_item(list, column_name(column))
-    } else {
-        Ok(())
-    }
-}
-
-fn push_columns(list: &mut Vec<u8>, columns: &[bool; COLUMN_COUNT]) -> Added
-    ensures { OnOk result (list.new.items
-        ≡ list.old.items ++ flat_map (spec.column_item columns.now) (range_with_len 0 column_count)) }
-{
-    for column in 0..COLUMN_COUNT {
-        push_column(list, columns, column)?;
-    }
-    Ok(())
-}
-
-/// The names of the columns.
-fn columns_text(alloc: Global, columns: &[bool; COLUMN_COUNT]) -> Result<Vec<u8>, AllocError>
-    ensures { IfOk result (λ text. text.items ≡ spec.columns_text columns.now) }
-{
-    if columns.contains(&false) {
-        let mut list = Vec::with_capacity(alloc, LINE)?;
-        push_columns(&mut list, columns)?;
-        Vec::from_slice(alloc, without_comma(list.as_slice()))
-    } else {
-        Vec::from_slice(alloc, ALL_COLUMNS)
-    }
-}
-
-fn push_base(list: &mut Vec<u8>, change: &Change) -> Added
-    ensures { OnOk result (list.new.items ≡ list.old.items ++ spec.base_item change.now) }
-{
-    match change {
-        Change::Pair { base, .. } => push_item(list, character_text(*base).as_slice()),
-        _ => Ok(()),
-    }
-}
-
-fn push_bases(list: &mut Vec<u8>, changes: &[Change]) -> Added
-    ensures { OnOk result (list.new.items ≡ list.old.items ++ flat_map spec.base_item changes.now) }
-{
-    for change in changes {
-        push_base(list, change)?;
-    }
-    Ok(())
-}
-
-/// The bases of the changes.
-fn bases_text(alloc: Global, changes: &[Change]) -> Result<Vec<u8>, AllocError>
-    ensures { IfOk result (λ text. text.items ≡ spec.bases_text changes.now) }
-{
-    let mut list = Vec::with_capacity(alloc, LINE)?;
-    push_bases(&mut list, changes)?;
-    Vec::from_slice(alloc, without_comma(list.as_slice()))
-}
-
-/// Whether no press meets what changes in this way.
-fn is_unseen_way(way: &Change) -> bool
-    ensures { result ≡ spec.is_unseen_way way.now }
-{
-    match *way {
+    match *change {
         Change::Cell { is_unseen, .. }
         | Change::Letter { is_unseen, .. }
         | Change::Accent { is_unseen, .. }
@@ -192,27 +68,27 @@ fn is_unseen_way(way: &Change) -> bool
     }
 }
 
-/// What changes: of an accent its name.
-fn subject(alloc: Global, line: &Line) -> Result<Vec<u8>, AllocError>
-    ensures { IfOk result (λ text. text.items ≡ spec.subject_text (told line.now)) }
+/// What changes.
+fn subject(alloc: Global, change: &Change) -> Result<Vec<u8>, AllocError>
+    ensures { IfOk result (λ text. text.items ≡ spec.subject_of change.now) }
 {
-    let changes = line.changes.as_slice();
-    match line.label.way {
+    match *change {
         Change::Slots { .. } => Vec::from_slice(alloc, SLOT_COUNT),
-        Change::Cell { .. } => {
-            let slots = slots_text(alloc, changes)?;
-            let columns = columns_text(alloc, &line.label.columns)?;
-            filled(alloc, CELL, &[slots.as_slice(), columns.as_slice()])
+        Change::Cell { slot, column, .. } => {
+            let name = column_name(usize::from(column));
+            filled(alloc, CELL, &[number(u64::from(slot)).as_slice(), name])
         }
-        Change::Letter { .. } => filled(alloc, LOCK, &[slots_text(alloc, changes)?.as_slice()]),
+        Change::Letter { slot, .. } => filled(alloc, LOCK, &[number(u64::from(slot)).as_slice()]),
         Change::Accents { .. } => Vec::from_slice(alloc, ACCENT_COUNT),
         Change::Accent { accent, .. } => filled(alloc, ACCENT, &[accent_name(accent).as_slice()]),
-        Change::Pair { accent, .. } => {
-            let bases = bases_text(alloc, changes)?;
+        Change::Pair { accent, base, .. } => {
             filled(
                 alloc,
                 PAIR,
-                &[accent_name(accent).as_slice(), bases.as_slice()],
+                &[
+                    accent_name(accent).as_slice(),
+                    character_text(base).as_slice(),
+                ],
             )
         }
         Change::ListedOtherwise { accent } => {
@@ -222,10 +98,10 @@ fn subject(alloc: Global, line: &Line) -> Result<Vec<u8>, AllocError>
 }
 
 /// What it is in the old keymap, and what in the new one.
-fn values(way: &Change) -> (Value, Value)
-    ensures { (result.0.items, result.1.items) ≡ spec.values_of way.now }
+fn values(change: &Change) -> (Value, Value)
+    ensures { (result.0.items, result.1.items) ≡ spec.values_of change.now }
 {
-    match *way {
+    match *change {
         Change::Slots { old, new } => (number(u64::from(old)), number(u64::from(new))),
         Change::Cell { old, new, .. } => (cell_value(old), cell_value(new)),
         Change::Letter { old, new, .. } => (value(&[flag_letter(old)]), value(&[flag_letter(new)])),
@@ -236,20 +112,19 @@ fn values(way: &Change) -> (Value, Value)
     }
 }
 
-fn push_line(text: &mut Vec<u8>, alloc: Global, line: &Line) -> Added
-    ensures { OnOk result (text.new.items ≡ text.old.items ++ spec.line_text (told line.now)) }
+fn push_line(text: &mut Vec<u8>, alloc: Global, change: &Change) -> Added
+    ensures { OnOk result (text.new.items ≡ text.old.items ++ spec.line_text change.now) }
 {
-    let subject = subject(alloc, line)?;
-    let way = &line.label.way;
-    match way {
+    let subject = subject(alloc, change)?;
+    match change {
         Change::ListedOtherwise { .. } => push_comment(
             text,
             LISTED_OTHERWISE,
             &[subject.as_slice()],
         ),
         _ => {
-            let (old, new) = values(way);
-            let unseen = either(is_unseen_way(way), UNSEEN, b"");
+            let (old, new) = values(change);
+            let unseen = either(is_unseen(change), UNSEEN, b"");
             push_comment(
                 text,
                 CHANGE,
@@ -259,11 +134,11 @@ fn push_line(text: &mut Vec<u8>, alloc: Global, line: &Line) -> Added
     }
 }
 
-fn push_lines(text: &mut Vec<u8>, alloc: Global, lines: &[Line]) -> Added
-    ensures { OnOk result (text.new.items ≡ text.old.items ++ flat_map (λ l. spec.line_text (told l)) lines.now) }
+fn push_lines(text: &mut Vec<u8>, alloc: Global, changes: &[Change]) -> Added
+    ensures { OnOk result (text.new.items ≡ text.old.items ++ spec.lines_text changes.now) }
 {
-    for line in lines {
-        push_line(text, alloc, line)?;
+    for change in changes {
+        push_line(text, alloc, change)?;
     }
     Ok(())
 }
@@ -383,13 +258,11 @@ pub(crate) fn diff_text(
     telling: &Telling,
     changes: &[Change],
 ) -> Result<Vec<u8>, AllocError>
-    requires { AreOfSome changes.now }
     ensures { IfOk result (λ text. text.items ≡ spec.diff_text telling.now changes.now) }
 {
     let mut text = Vec::new(alloc);
     push_verdict(&mut text, alloc, telling)?;
-    let lines = lines_of(alloc, changes)?;
-    push_lines(&mut text, alloc, lines.as_slice())?;
+    push_lines(&mut text, alloc, changes)?;
     push_events(&mut text, telling)?;
     Ok(text)
 }

@@ -20,15 +20,13 @@ ghost use Rattle.keymap_diff.specs.Telling.{IsTelling};
 ghost use Rattle.keymap_diff.specs.declared.change.Change.{Change as ChangeValue};
 ghost use Rattle.keymap_diff.specs.declared.telling.Telling.{Telling as TellingValue};
 ghost use Rattle.kmap_runs.specs.Diff.{same_text};
-ghost use Rattle.kmap_runs.specs.Joined.{lines_of};
 ghost use Rattle.kmap_runs.specs.Report.{report};
 ghost use Rattle.kmap_runs.specs.Replayed.{Delivers, ScriptTypes, AnswerReplays, AnswerReplaysBetween, ShowsScript};
 ghost use Rattle.kmap_runs.specs.Replayed.{PlaysCover, TellingReplays, events_sent};
-ghost use Rattle.kmap_runs.specs.ToldOnce.{AreToldOnce, NoLineIfSame, TellsAllColumns, TheirSlotsAreNamed};
 ghost use Rattle.kmap_runs.specs.FmtRuns.{ChangedTextsSpellTheSame, PrintedLayoutsSpellTheSame};
 ghost use Rattle.keymap_tables.specs.Sources.{ReadsNarrow, ReadsTables};
 ghost use Rattle.kmap_runs.specs.Runs.{AcceptedKeepTheirPromise, AreDumped, CompilesNarrowly, CompilesText};
-ghost use Rattle.kmap_runs.specs.Runs.{CoversText, DrawnAreWellFormed, DrawnTellKeymaps};
+ghost use Rattle.kmap_runs.specs.Runs.{CoversText, DrawnAreWellFormed};
 ghost use Rattle.kmap_runs.specs.Runs.{PrintedCoversAreScripts, TypesSentence, WellLintedNeverStick};
 ghost use Rattle.kmap_runs.specs.Typing.{typing_script};
 ghost use Rattle.keymap_lint_text.specs.Shown.{IsPlainText};
@@ -36,8 +34,7 @@ ghost use Rattle.std.specs.Char.{IsScalar};
 
 use keymap_check::laws::safe_maps_keep_their_promise;
 use keymap_cover::laws::counts_are_of_verdicts;
-use keymap_diff::laws::the_same_keymaps_have_no_changes;
-use keymap_draw::laws::{pictures_are_plain, pictures_are_well_formed, pictures_tell_keymaps};
+use keymap_draw::laws::{pictures_are_plain, pictures_are_well_formed};
 use keymap_fmt::laws::keymap_stays;
 use keymap_lint::laws::well_texts_never_stick;
 use keymap_tables::laws::{an_image_has_one_map, each_map_fits_in_a_table_file, images_are_whole};
@@ -80,18 +77,6 @@ pub fn told_scripts_tell_keymaps_apart()
         → TellingReplays m n found telling }
     ensures same { IsScript same_text [] }
 {}
-
-/// Each change between two keymaps is told in one line, with those that change in the same way alone. A line of cells
-/// names their slots, each once, and the columns that change so in each of these; no other cell is of both. There is a
-/// line exactly if the keymaps aren't the same.
-pub fn changes_are_told_once()
-    ensures once { (found : List ChangeValue) → AreToldOnce found (lines_of found) }
-    ensures slots { TheirSlotsAreNamed }
-    ensures columns { (found : List ChangeValue) → All TellsAllColumns (lines_of found) }
-    ensures none { NoLineIfSame }
-{
-    the_same_keymaps_have_no_changes();
-}
 
 /// What `play` types of the script that `type_run` printed for a sentence, over the same text, is that sentence.
 pub fn typed_sentences_come_back()
@@ -146,13 +131,6 @@ pub fn drawn_pictures_are_well_formed()
 {
     pictures_are_well_formed();
     pictures_are_plain();
-}
-
-/// Two texts of which the same bytes are drawn spell keymaps that are the same as far as their picture shows them.
-pub fn drawn_pictures_tell_keymaps()
-    ensures { DrawnTellKeymaps }
-{
-    pictures_tell_keymaps();
 }
 
 /// A text that the run that prints diagnostics calls well spells a keymap under which no list of presses and releases

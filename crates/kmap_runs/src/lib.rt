@@ -27,7 +27,6 @@ mod event_lines;
 mod fault_line;
 mod fmt_runs;
 mod inputs;
-mod joined;
 pub mod laws;
 mod lint_runs;
 mod missing;

@@ -124,9 +124,9 @@ pub(crate) const UNSEEN: &[u8] = b"unseen ";
 
 pub(crate) const SLOT_COUNT: &[u8] = b"slots";
 
-pub(crate) const CELL: &[u8] = b"cell: {}; {}";
+pub(crate) const CELL: &[u8] = b"cell: slot {}; {}";
 
-pub(crate) const LOCK: &[u8] = b"lock: {}";
+pub(crate) const LOCK: &[u8] = b"lock: slot {}";
 
 pub(crate) const ACCENT_COUNT: &[u8] = b"accents";
 

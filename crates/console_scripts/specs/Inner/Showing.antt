@@ -119,17 +119,6 @@ abbrev pub sight_aimed : Option Aim → Option Sight
 sight_aimed None = None
 sight_aimed (Some a) = Some a.sight
 
--- what picks the cells at the place where the press is made that sees what is aimed at, and its key; nothing behind a
--- dead key
-abbrev pub press_behind : Explored → KeyAt → Option KeyAt → Option (Selection × ℕ)
-press_behind e at (Some dead) = None
-press_behind e at None =
-    option_map (λ (y : Entry). (selection_of (state_of y.0), at.key)) (slice_get e.met.entries at.place)
-
-abbrev pub press_aimed : Explored → Option Aim → Option (Selection × ℕ)
-press_aimed e None = None
-press_aimed e (Some a) = press_behind e a.at a.dead
-
 -- nothing is held and the first map is in force, and a route home begins
 abbrev pub IsRest : Explored → State → Type 0
 IsRest e s = IsFree s × (s.is_second ≡ false) × HasRoute e.routes.entries s

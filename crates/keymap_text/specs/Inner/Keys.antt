@@ -1,7 +1,8 @@
 -- The keys of words: their bytes as one number. Mirrors `key_of`, `key_meaning` and `numbered_meaning` of src/names.rt,
--- and `run_from_zero` and `first_set` of src/token.rt.
-use Rattle.std.specs.Prelude.{◌≡◌, ℕ, zero, suc, ◌+◌, ◌*◌, ◌/◌, ◌%◌, ◌≤◌, Bool, ◌&&◌, nat_lt, nat_le}
+-- and `first_set` of src/token.rt.
+use Rattle.std.specs.Prelude.{◌≡◌, ℕ, zero, suc, ◌+◌, ◌*◌, ◌/◌, ◌%◌, ◌≤◌}
 use Rattle.std.specs.Prelude.{if◌then◌else◌, ◌==◌, List, [], ◌∷◌, length, map, ◌<◌, ◌^◌, slice_index, slice_index_or}
+use Rattle.std.specs.Char.{to_ascii_lowercase}
 use Rattle.std.specs.Int.{from_le_bytes, trailing_zeros, w64}
 use Rattle.keymap_text.specs.Lexical.{is_word, leading}
 use Rattle.keymap_text.specs.Types.{Name, Meaning}
@@ -26,18 +27,10 @@ function_name n = 0x2020303079656b66 + n / 10 * 0x100000000 + n % 10 * 0x1000000
 abbrev pub screen_name : ℕ → ℕ
 screen_name n = 0x2020203030726373 + n / 10 * 0x1000000 + n % 10 * 0x100000000
 
--- one of the 128 bytes from '0' on
-abbrev pub is_from_zero : ℕ → Bool
-is_from_zero c = nat_le 48 c && nat_lt c 176
-
--- with the bit 32, which letters have in lower case, and digits have
-abbrev pub raised : ℕ → ℕ
-raised c = if c / 32 % 2 == 0 then c + 32 else c
-
--- all such bytes that have this key are letters and digits, and mean m
+-- all words of at most eight bytes that have this key mean m
 pub record KeyMeans (key : ℕ) (m : Meaning) : Type 0 where
-  pub means : (w : List ℕ) → length w ≤ 8 → leading is_from_zero w ≡ length w → pack 8 (map raised w) ≡ key
-      → (leading is_word w ≡ length w) × (m ≡ meaning w)
+  pub means : (w : List ℕ) → length w ≤ 8 → leading is_word w ≡ length w → pack 8 (map to_ascii_lowercase w) ≡ key
+      → m ≡ meaning w
 
 abbrev pub IsTrueName : Name → Type 0
 IsTrueName name = KeyMeans (from_le_bytes w64 name.0) (sense_meaning name.1)

@@ -1,12 +1,11 @@
 -- What taking bytes in front of a text does to what is made of the text. Mirrors src/scanner.rt.
-use Rattle.std.specs.Prelude.{◌≡◌, ℕ, Bool, ◌+◌, ◌<◌, ◌≤◌, true, false, List, [], ◌∷◌, ◌++◌, length, take, drop, Result}
-use Rattle.std.specs.Prelude.{Ok, Err, ◌⊎◌, ◌-◌}
+use Rattle.std.specs.Prelude.{◌≡◌, ℕ, Bool, ◌+◌, ◌<◌, ◌≤◌, true, false, List, [], ◌∷◌, ◌++◌, length, drop, Result}
+use Rattle.std.specs.Prelude.{Ok, Err, ◌⊎◌}
 use Rattle.keymap_core.specs.Maps.{MapValue}
 use Rattle.keymap_text.specs.Types.{TextFaultKind, Item, Word}
 use Rattle.keymap_text.specs.declared.grammar.Grammar.{Grammar}
 use Rattle.keymap_text.specs.declared.scanner.Stop.{Stop}
-use Rattle.keymap_text.specs.Items.{character}
-use Rattle.keymap_text.specs.Lexical.{tokens_after, TokenValue, Then, leading, stays_on_line, is_space, front_of, Found}
+use Rattle.keymap_text.specs.Lexical.{tokens_after, TokenValue, Then, leading, stays_on_line, front_of, Found}
 use Rattle.keymap_text.specs.Lexical.{Unfinished}
 use Rattle.keymap_text.specs.Meaning.{is_settled}
 use Rattle.keymap_text.specs.Words.{item}
@@ -78,21 +77,6 @@ pub record Fronts (rest : List ℕ) (i : Item) (n : ℕ) : Type 0 where
   pub settled : (q : ℕ) (x : List ℕ) → is_settled (token q x) ≡ true
   pub some : 0 < n
   pub inside : n ≤ length rest
-
--- A whole token, which stands for i, is in front behind blanks, of n bytes together, whatever follows.
-pub record FrontsBehind (rest : List ℕ) (i : Item) (n : ℕ) : Type 0 where
-  pub blanks : ℕ
-  pub size : ℕ
-  pub are_blank : blanks ≤ leading is_space rest
-  pub inside : blanks ≤ length rest
-  pub fronts : Fronts (take (length rest - blanks) (drop blanks rest)) i size
-  pub sum : n ≡ blanks + size
-
--- A whole token, which stands for the character c, is in front behind blanks, of n bytes together, whatever follows.
-pub record FrontsCharacter (rest : List ℕ) (c : ℕ) (n : ℕ) : Type 0 where
-  pub item : Item
-  pub behind : FrontsBehind rest item n
-  pub is : character item ≡ Ok c
 
 -- What was done with the cell of this index: it was taken with the blanks before it, n bytes together, or nothing was.
 pub record TookCell (n : ℕ) (old new : Grammar) (i : ℕ) (rest : List ℕ) : Type 0 where

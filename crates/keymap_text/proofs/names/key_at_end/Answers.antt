@@ -6,8 +6,8 @@ use Rattle.keymap_text.proofs.names.key_at_end.Goals as goal
 copied : (eight bytes : List ℕ) (i n : ℕ) → i ≤ n → n ≤ i → take i eight ≡ take i bytes → take n eight ≡ take n bytes
 copied eight bytes i n h k e = subst (λ (m : ℕ). take m eight ≡ take m bytes) (omega (arith, h, k)) e
 
-pub key_of_eight-requires-clause-from_zero : goal.key_of_eight-requires-clause-from_zero
-key_of_eight-requires-clause-from_zero c = search (rules, leading_same, copied)
+pub key_of_eight-requires-clause-word : goal.key_of_eight-requires-clause-word
+key_of_eight-requires-clause-word c = search (rules, leading_same, copied)
 
 pub returns : goal.returns
 returns c = search (rules, copied)

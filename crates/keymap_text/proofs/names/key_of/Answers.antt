@@ -1,6 +1,6 @@
-use Rattle.keymap_text.proofs.Common.{arith, is_from_zero}
+use Rattle.keymap_text.proofs.Common.{arith, is_word}
 use Rattle.keymap_text.proofs.Leading.{leading_le}
 use Rattle.keymap_text.proofs.names.key_of.Goals as goal
 
 pub key_at_end-requires-clause-inside : goal.key_at_end-requires-clause-inside
-key_at_end-requires-clause-inside c = omega (arith, leading_le is_from_zero c.args.bytes.now, c.requires.from_zero)
+key_at_end-requires-clause-inside c = omega (arith, leading_le is_word c.args.bytes.now, c.requires.word)

@@ -1,4 +1,4 @@
-use Rattle.keymap_text.proofs.Common.{sym, subst, arith, Fronts, rules}
+use Rattle.keymap_text.proofs.Common.{sym, subst, arith, Fronts}
 use Rattle.keymap_text.specs.declared.words.Item.TheVariants.{Value}
 use Rattle.keymap_text.proofs.Fronts.{word_fronts}
 use Rattle.keymap_text.proofs.scanner.front_number.Goals as goal
@@ -8,14 +8,11 @@ returns-in-Some c =
     let rest = c.args.rest.now in
     let found = c.in-Some.ensures in
     subst (λ m. Fronts rest (Value m) 6) (sym found.2)
-    (word_fronts 6 rest (sym found.1) found.0 c.requires.word (omega arith))
-
-pub returns-in-Some-short_number : goal.returns-in-Some-short_number
-returns-in-Some-short_number c = search (rules, word_fronts)
+    (word_fronts 6 rest (sym found.1) found.0 (omega arith) (omega arith))
 
 pub returns-in-Some-three_digit_number : goal.returns-in-Some-three_digit_number
 returns-in-Some-three_digit_number c =
     let rest = c.args.rest.now in
     let found = c.in-Some-three_digit_number.ensures in
     subst (λ m. Fronts rest (Value m) 3) (sym found.2)
-    (word_fronts 3 rest (sym found.1) found.0 c.requires.word (omega arith))
+    (word_fronts 3 rest (sym found.1) found.0 (omega arith) (omega arith))

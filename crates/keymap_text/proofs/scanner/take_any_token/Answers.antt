@@ -1,4 +1,4 @@
-use Rattle.keymap_text.proofs.Common.{refl, sym, ap, ◌∙◌, arith, Found, length-take-le, rules}
+use Rattle.keymap_text.proofs.Common.{refl, length-take-le, rules}
 use Rattle.keymap_text.proofs.Scanning.{takes_token, takes_fault}
 use Rattle.keymap_text.proofs.InFront.{front_fits}
 use Rattle.keymap_text.proofs.Tails.{open_word, open_quote, found_here, refused_here}
@@ -29,7 +29,3 @@ returns-in-Refused-clause-takes g c = record {
 
 pub returns-in-Unfinished-clause-open : goal.returns-in-Unfinished-clause-open
 returns-in-Unfinished-clause-open g c = λ _. open_quote c.args.rest.now c.requires.some c.in-Unfinished.ensures.value
-
-pub returns-in-Ok-clause-found : goal.returns-in-Ok-clause-found
-returns-in-Ok-clause-found g c = λ _.
-    (c.in-Found.kind, sym c.in-Found.ensures.value ∙ ap (Found c.in-Found.kind) (omega arith))

@@ -1,6 +1,4 @@
 use Rattle.kmap_runs.proofs.Common.{ap}
-use Rattle.kmap_runs.specs.Diff.{subject_text}
-use Rattle.kmap_runs.specs.Joined.{told}
 use Rattle.kmap_runs.proofs.Differing.{other_line}
 use Rattle.kmap_runs.proofs.diff.push_line.Goals as goal
 
@@ -11,15 +9,13 @@ returns-in-ListedOtherwise c =
 
 pub returns : goal.returns
 returns c =
-    let line = c.args.line.now in
-    let way = line.label.way in
     let values = c.values-old.ensures in
     let old = ap (λ p. p.0) values in
     let new = ap (λ p. p.1) values in
-    rw (other_line way (subject_text (told line)) c.in_default.not-ListedOtherwise)
+    rw (other_line c.args.change.now c.in_default.not-ListedOtherwise)
     (rw (
       c.either-unseen.ensures,
-      c.is_unseen_way.ensures,
+      c.is_unseen.ensures,
       c.as_slice-in_default.ensures.value,
       c.in_ok-subject.ensures,
       c.as_slice-in_default-2.ensures.value,

@@ -1,8 +1,6 @@
-use Rattle.kmap_runs.proofs.Common.{◌≡◌, ◌++◌, take, flat_map}
-use Rattle.kmap_runs.specs.Diff.{line_text}
-use Rattle.kmap_runs.specs.Joined.{told}
+use Rattle.kmap_runs.proofs.Common.{◌≡◌, ◌++◌, take}
+use Rattle.kmap_runs.specs.Diff.{lines_text}
 use Rattle.kmap_runs.proofs.diff.push_lines.Given as goal
 
-abbrev pub invariant-loop-line : goal.invariant-loop-line
-invariant-loop-line l =
-    l.text.items ≡ l.fn.text.items ++ flat_map (λ x. line_text (told x)) (take l.line-index l.lines)
+abbrev pub invariant-loop-change : goal.invariant-loop-change
+invariant-loop-change l = l.text.items ≡ l.fn.text.items ++ lines_text (take l.change-index l.changes)

@@ -1,6 +1,6 @@
 use Rattle.console_scripts.proofs.Common.{◌∷◌, ◌++◌, [], reverse, ap, ◌∙◌, Press, Reset, map_of_explored, state_of}
 use Rattle.console_scripts.proofs.Common.{alone}
-use Rattle.console_scripts.proofs.Approaching.{ends-told, visits}
+use Rattle.console_scripts.proofs.Approaching.{visits}
 use Rattle.console_scripts.proofs.Leading.{home-leads}
 use Rattle.console_states.proofs.Looking.{push-reversed}
 use Rattle.console_scripts.proofs.explored.Explored.events_of.Goals as goal
@@ -25,9 +25,6 @@ returns c =
     let back = home-leads m s moves c.requires.from.1 home a b events in
     let on = c.in_ok-approach.ensures in
     let last =
-    ap reverse c.in_ok-push-2.ensures.items ∙ push-reversed c.approach.new.events.items (Press aim.at.key) in (
-      visits e c.requires.explored s next c.requires.from aim.sight aim.at c.requires.aim.0 a b there now begun back on
-          last,
-      ends-told e c.requires.explored s next c.requires.from aim.sight aim.at aim.dead c.requires.aim.0 a b there now
-          begun back on last,
-    )
+    ap reverse c.in_ok-push-2.ensures.items ∙ push-reversed c.approach.new.events.items (Press aim.at.key) in
+    visits e c.requires.explored s next c.requires.from aim.sight aim.at c.requires.aim.0 a b there now begun back on
+    last

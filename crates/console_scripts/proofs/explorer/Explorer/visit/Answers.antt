@@ -1,5 +1,5 @@
 use Rattle.console_scripts.proofs.Common.{ap, reverse, state_of, locks_in, rules}
-use Rattle.console_scripts.specs.Inner.Showing.{press_aimed, sight_aimed}
+use Rattle.console_scripts.specs.Inner.Showing.{sight_aimed}
 use Rattle.console_scripts.proofs.Aiming.{aim-rest}
 use Rattle.console_scripts.proofs.explorer.Explorer.visit.Goals as goal
 
@@ -11,9 +11,4 @@ returns-in_ok-events-in-Some-clause-visits c =
     let e = c.self.inside.explored in
     let next = locks_in (state_of c.in-Some.aim.next) in
     let events = reverse c.in_ok-events-in-Some.events.items in
-    rw (← c.self.view_is, ap sight_aimed c.in-Some.is) c.in_ok-events-in-Some.ensures.0
-
-pub returns-in_ok-events-in-Some-clause-pressed : goal.returns-in_ok-events-in-Some-clause-pressed
-returns-in_ok-events-in-Some-clause-pressed c =
-    let e = c.self.inside.explored in
-    rw (← c.self.view_is, ap (press_aimed e) c.in-Some.is) c.in_ok-events-in-Some.ensures.1
+    rw (← c.self.view_is, ap sight_aimed c.in-Some.is) c.in_ok-events-in-Some.ensures

@@ -1,9 +1,15 @@
-use Rattle.keymap_text.proofs.Common.{rules}
-use Rattle.keymap_text.proofs.Standing.{moves_whole, feeds_on}
+use Rattle.keymap_text.proofs.Common.{arith}
+use Rattle.keymap_text.proofs.Standing.{moves_piece, breaks_piece}
 use Rattle.keymap_text.proofs.reading.Reading.feed.Goals as goal
 
-pub returns-then-begun-piece : goal.returns-then-begun-piece
-returns-then-begun-piece c = search (rules, moves_whole)
+pub returns-in-Err : goal.returns-in-Err
+returns-in-Err c =
+    breaks_piece c.args.self.now c.loop-at.self c.args.piece.now c.loop-at.at c.min-end.result c.in-Err.fault
+    (omega arith) c.loop-at.invariant.moves c.in-Err.ensures
 
-pub returns : goal.returns
-returns c = search (rules, feeds_on)
+pub loop-at-preserved : goal.loop-at-preserved
+loop-at-preserved c = record {
+  inside = omega arith;
+  moves = moves_piece c.args.self.now c.loop-at.self _ c.args.piece.now c.loop-at.at c.min-end.result (omega arith)
+      c.loop-at.invariant.moves c.in-Ok.ensures;
+}

@@ -1,2 +1,0 @@
--- What private contracts cite; no public clause does.
-pub mod Labels

@@ -49,18 +49,25 @@ The other way round:
   down 29
   down 27
 
-Slots that no key selects, and pairs in another order:
+A slot that no key selects, and pairs in another order:
   $ {
   >     cat "$examples/us.kbd"
-  >     for slot in 130 131 132 133 134 135 136 137 138 139; do all $slot nop C; done
+  >     all 130 nop C
   >     sed -n '/^  dgra/,/^  dacu/p' "$examples/us.kbd" | sed '/dacu/d' |
   >         sed "s/\( *dgra *'.'\) *\(( 'a' 0x00e0 )\) \(( 'A' 0x00c0 )\)/\1 \3 \2/"
   > } > us-more.kbd
   $ kmap diff "$examples/us.kbd" us-more.kbd
   # never told apart
-  # slots: 109 -> 140
-  # unseen cell: slots 130 to 139; all columns: nul -> nop
-  # unseen lock: slots 130 to 139: O -> C
+  # slots: 109 -> 131
+  # unseen cell: slot 130; base: nul -> nop
+  # unseen cell: slot 130; shift: nul -> nop
+  # unseen cell: slot 130; ctrl: nul -> nop
+  # unseen cell: slot 130; ctrl shift: nul -> nop
+  # unseen cell: slot 130; alt: nul -> nop
+  # unseen cell: slot 130; alt shift: nul -> nop
+  # unseen cell: slot 130; alt ctrl: nul -> nop
+  # unseen cell: slot 130; alt ctrl shift: nul -> nop
+  # unseen lock: slot 130: O -> C
   # pairs: dgra: listed otherwise, with the same results
   [1]
 
@@ -198,7 +205,7 @@ A key that looks up one of them is told where fewer presses lead there:
   down 0
   [1]
 
-Lines that are joined: the columns of a slot, and the slots with the same columns; what is unseen is told apart.
+Each change has a line of its own, by slots and then by columns:
   $ {
   >     for slot in 2 3 4 30; do echo "$slot 'a' 'A' 'a' 'A' nop nop nop nop O"; done
   >     echo "31 'a' 'a' 'a' 'A' nop nop nop nop O"
@@ -211,9 +218,24 @@ Lines that are joined: the columns of a slot, and the slots with the same column
   > } > other
   $ kmap diff one other
   # told apart: char 97 -> char 98
-  # cell: slots 2 to 4, 30; base, ctrl: 'a' -> 'b'
-  # cell: slots 2 to 4, 30; shift, ctrl shift: 'A' -> 'B'
-  # cell: slot 31; base, shift: 'a' -> 'b'
+  # cell: slot 2; base: 'a' -> 'b'
+  # cell: slot 2; shift: 'A' -> 'B'
+  # cell: slot 2; ctrl: 'a' -> 'b'
+  # cell: slot 2; ctrl shift: 'A' -> 'B'
+  # cell: slot 3; base: 'a' -> 'b'
+  # cell: slot 3; shift: 'A' -> 'B'
+  # cell: slot 3; ctrl: 'a' -> 'b'
+  # cell: slot 3; ctrl shift: 'A' -> 'B'
+  # cell: slot 4; base: 'a' -> 'b'
+  # cell: slot 4; shift: 'A' -> 'B'
+  # cell: slot 4; ctrl: 'a' -> 'b'
+  # cell: slot 4; ctrl shift: 'A' -> 'B'
+  # cell: slot 30; base: 'a' -> 'b'
+  # cell: slot 30; shift: 'A' -> 'B'
+  # cell: slot 30; ctrl: 'a' -> 'b'
+  # cell: slot 30; ctrl shift: 'A' -> 'B'
+  # cell: slot 31; base: 'a' -> 'b'
+  # cell: slot 31; shift: 'a' -> 'b'
   # unseen cell: slot 31; alt ctrl shift: nop -> nul
   down 2
   [1]
@@ -221,8 +243,14 @@ Lines that are joined: the columns of a slot, and the slots with the same column
   $ { all 30 "'b'"; all 42 lshift; } > other
   $ kmap diff one other
   # told apart: char 97 -> char 98
-  # cell: slot 30; base, shift: 'a' -> 'b'
-  # unseen cell: slot 30; ctrl, ctrl shift, alt, alt shift, alt ctrl, alt ctrl shift: 'a' -> 'b'
+  # cell: slot 30; base: 'a' -> 'b'
+  # cell: slot 30; shift: 'a' -> 'b'
+  # unseen cell: slot 30; ctrl: 'a' -> 'b'
+  # unseen cell: slot 30; ctrl shift: 'a' -> 'b'
+  # unseen cell: slot 30; alt: 'a' -> 'b'
+  # unseen cell: slot 30; alt shift: 'a' -> 'b'
+  # unseen cell: slot 30; alt ctrl: 'a' -> 'b'
+  # unseen cell: slot 30; alt ctrl shift: 'a' -> 'b'
   down 30
   [1]
 
@@ -234,7 +262,9 @@ Lock letters, where the lock is there, and where it isn't:
   $ { letters C; all 58 clock; } > other
   $ kmap diff one other
   # told apart: char 97 -> char 65
-  # lock: slots 16 to 17, 30: O -> C
+  # lock: slot 16: O -> C
+  # lock: slot 17: O -> C
+  # lock: slot 30: O -> C
   down 58
   up 58
   down 16
@@ -244,13 +274,17 @@ Lock letters, where the lock is there, and where it isn't:
   $ letters C > other
   $ kmap diff one other
   # never told apart
-  # unseen lock: slots 16 to 17, 30: O -> C
+  # unseen lock: slot 16: O -> C
+  # unseen lock: slot 17: O -> C
+  # unseen lock: slot 30: O -> C
   [1]
   $ { letters C; all 58 clock; } > one
   $ { letters B; all 58 clock; } > other
   $ kmap diff one other
   # never told apart
-  # unseen lock: slots 16 to 17, 30: C -> B
+  # unseen lock: slot 16: C -> B
+  # unseen lock: slot 17: C -> B
+  # unseen lock: slot 30: C -> B
   [1]
 
 The upper half, which a lock selects:
@@ -259,7 +293,13 @@ The upper half, which a lock selects:
   $ kmap diff one other
   # told apart: char 98 -> char 99
   # cell: slot 158; base: 'b' -> 'c'
-  # unseen cell: slot 158; shift, ctrl, ctrl shift, alt, alt shift, alt ctrl, alt ctrl shift: 'b' -> 'c'
+  # unseen cell: slot 158; shift: 'b' -> 'c'
+  # unseen cell: slot 158; ctrl: 'b' -> 'c'
+  # unseen cell: slot 158; ctrl shift: 'b' -> 'c'
+  # unseen cell: slot 158; alt: 'b' -> 'c'
+  # unseen cell: slot 158; alt shift: 'b' -> 'c'
+  # unseen cell: slot 158; alt ctrl: 'b' -> 'c'
+  # unseen cell: slot 158; alt ctrl shift: 'b' -> 'c'
   down 58
   up 58
   down 30
@@ -274,7 +314,8 @@ What an accent makes of letters, on which keys give them and no key gives them:
   # pair: dacu; 'a': 0x00e1 -> 0x00e2
   # pair: dacu; 'e': 0x00e9 -> none
   # unseen pair: dacu; 'o': 0x00f3 -> 0x00f2
-  # unseen pair: dacu; 'u', 'i': none -> 0x00fa
+  # unseen pair: dacu; 'u': none -> 0x00fa
+  # unseen pair: dacu; 'i': none -> 0x00fa
   down 40
   up 40
   down 30
@@ -321,7 +362,14 @@ An old keymap in which shift can stick:
   $ { cat "$examples/trap.kbd"; all 130 nop; } > trap-more
   $ kmap diff "$examples/trap.kbd" trap-more | grep -v '^# slots'
   # not told apart before a modifier sticks
-  # unseen cell: slot 130; all columns: nul -> nop
+  # unseen cell: slot 130; base: nul -> nop
+  # unseen cell: slot 130; shift: nul -> nop
+  # unseen cell: slot 130; ctrl: nul -> nop
+  # unseen cell: slot 130; ctrl shift: nul -> nop
+  # unseen cell: slot 130; alt: nul -> nop
+  # unseen cell: slot 130; alt shift: nul -> nop
+  # unseen cell: slot 130; alt ctrl: nul -> nop
+  # unseen cell: slot 130; alt ctrl shift: nul -> nop
   $ kmap diff trap-more "$examples/trap.kbd" | head -n 1
   # not told apart before a modifier sticks
   $ { cat "$examples/trap.kbd"; all 100 "'y'"; } > trap-key
@@ -342,7 +390,8 @@ A key that is pressed again, where shift is a character under control; and a key
   $ sed "s/'x'    'x'/lshift lshift/" "$examples/trap.kbd" > safe
   $ kmap diff safe "$examples/trap.kbd"
   # told apart: lshift -> char 120
-  # cell: slot 42; ctrl, ctrl shift: lshift -> 'x'
+  # cell: slot 42; ctrl: lshift -> 'x'
+  # cell: slot 42; ctrl shift: lshift -> 'x'
   down 29
   down 42
   [1]
@@ -380,7 +429,22 @@ As many, where a press tells them apart at once:
   $ { cat one; all 90 "'a'"; all 218 "'a'"; } > other
   $ kmap diff one other | grep -v '^# slots'
   # told apart: char 0 -> char 97
-  # cell: slots 90, 218; all columns: nul -> 'a'
+  # cell: slot 90; base: nul -> 'a'
+  # cell: slot 90; shift: nul -> 'a'
+  # cell: slot 90; ctrl: nul -> 'a'
+  # cell: slot 90; ctrl shift: nul -> 'a'
+  # cell: slot 90; alt: nul -> 'a'
+  # cell: slot 90; alt shift: nul -> 'a'
+  # cell: slot 90; alt ctrl: nul -> 'a'
+  # cell: slot 90; alt ctrl shift: nul -> 'a'
+  # cell: slot 218; base: nul -> 'a'
+  # cell: slot 218; shift: nul -> 'a'
+  # cell: slot 218; ctrl: nul -> 'a'
+  # cell: slot 218; ctrl shift: nul -> 'a'
+  # cell: slot 218; alt: nul -> 'a'
+  # cell: slot 218; alt shift: nul -> 'a'
+  # cell: slot 218; alt ctrl: nul -> 'a'
+  # cell: slot 218; alt ctrl shift: nul -> 'a'
   down 90
 
 `-` is standard input, for one of both:

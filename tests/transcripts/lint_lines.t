@@ -61,8 +61,8 @@ direction, two bytes of a character of three, a byte that begins none, and one a
                                        ^
   [1]
 
-A line is cut to some 120 characters around the place. These have so many blanks, a word of two characters and so many
-signs:
+Of a line 120 bytes before the place are shown, and 120 from it on. These have so many blanks, a word of two characters
+and so many signs:
   $ line() {
   >     printf '%*szz%s\n' "$1" '' "$(printf '%*s' "$2" '' | tr ' ' '#')" > t
   >     kmap lint t
@@ -84,7 +84,7 @@ signs:
   [1]
   $ line 60 59
   t:1:61: error: zz means nothing [BadWord]
-                                                                zz##########################################################..
+                                                                zz###########################################################
                                                                 ^
   [1]
   $ line 61 57
@@ -94,18 +94,18 @@ signs:
   [1]
   $ line 61 58
   t:1:62: error: zz means nothing [BadWord]
-    ..                                                            zz##########################################################
-                                                                  ^
+                                                                 zz##########################################################
+                                                                 ^
   [1]
   $ line 61 59
   t:1:62: error: zz means nothing [BadWord]
-    ..                                                            zz##########################################################..
-                                                                  ^
+                                                                 zz###########################################################
+                                                                 ^
   [1]
   $ line 100 100
   t:1:101: error: zz means nothing [BadWord]
-    ..                                                            zz##########################################################..
-                                                                  ^
+                                                                                                        zz####################################################################################################
+                                                                                                        ^
   [1]
   $ line 118 0
   t:1:119: error: zz means nothing [BadWord]
@@ -114,23 +114,23 @@ signs:
   [1]
   $ line 119 0
   t:1:120: error: zz means nothing [BadWord]
-    ..                                                                                                                      zz
-                                                                                                                            ^
+                                                                                                                           zz
+                                                                                                                           ^
   [1]
   $ line 132 0
   t:1:133: error: zz means nothing [BadWord]
-    ..                                                                                                                      zz
-                                                                                                                            ^
+    ..                                                                                                                        zz
+                                                                                                                              ^
   [1]
   $ line 132 57
   t:1:133: error: zz means nothing [BadWord]
-    ..                                                             zz#########################################################
-                                                                   ^
+    ..                                                                                                                        zz#########################################################
+                                                                                                                              ^
   [1]
   $ line 2000 2000
   t:1:2001: error: zz means nothing [BadWord]
-    ..                                                            zz##########################################################..
-                                                                  ^
+    ..                                                                                                                        zz######################################################################################################################..
+                                                                                                                              ^
   [1]
 
 What people hand in by mistake: a text that was cut off in a word, in a quoted character, or between lines.

@@ -10,8 +10,11 @@ use Rattle.console_core.proofs.Common.{option_or, none-some, rules}
 use Rattle.keymap_core.proofs.Lists.{none_unless}
 use Rattle.console_core.specs.History.{accent_pending_after, IsQuiet}
 use Rattle.std.proofs.lemmas.Bool.{false≢true}
-use Rattle.console_core.specs.Headline.{IsSteady, IsActing, AreRepeats, OnOnlyWhilePressed, OnExactlyWhilePressed}
-use Rattle.console_core.specs.Headline.{RepeatsTurnNoSteadyLock, OffOnceQuiet, GoesOnAsAfterReset}
+use Rattle.console_core.specs.Headline.{IsSteady, IsActing, AreRepeats, IsOnOnlyWhilePressed}
+use Rattle.console_core.specs.Headline.{IsOffOnceQuiet, GoesOnAs, Headline, HeadlineHolds}
+use Rattle.console_core.specs.Reading.{turns_at}
+use Rattle.console_core.proofs.Common.{is_on_after, is_locked_after, fun_ext, Modifier}
+use Rattle.std.proofs.lemmas.List.Elements.{All-cons}
 use Rattle.console_core.proofs.OneMore.{resolved-more, locked-more, held-reset, locked-reset, remembered-character}
 use Rattle.console_core.proofs.OneMore.{remembered-action, remembered-release, remembered-reset, pending-reset}
 use Rattle.console_core.proofs.OneMore.{pressed-start, pressed-press, pressed-release, pressed-reset, pressed-load}
@@ -39,7 +42,8 @@ same_by false true f g = g refl
 same_by false false f g = refl
 
 -- in a safe map a modifier is on only while a key that bears it is pressed
-pub on_only_while_pressed : OnOnlyWhilePressed
+pub on_only_while_pressed : (ms : Maps) (h : List Event) → IsSafe (in_force ms h) → HasKeys h
+    → IsOnOnlyWhilePressed (in_force ms h) h (λ i. is_on_after ms i h)
 on_only_while_pressed ms h safe keys i on =
     borne-pressed ms h (act.Mod i) keys
     (held-remembered (in_force ms h) (holding.Mod i) (λ k lt b c x. safe k lt (holding.Mod i) b c x) (resolved ms h)
@@ -131,10 +135,6 @@ throughout_held ms h keys a k bears =
     remembered-held (in_force ms h) a k bears.1 (resolved ms h) all
     (s.1 ∙ ap (λ x. Some x) (act_act s.0 (holding_action a) (bears.2 (Act s.0) b.1))))
 
--- a modifier that a key bears throughout is on exactly while that key is pressed
-pub on_exactly_while_pressed : OnExactlyWhilePressed
-on_exactly_while_pressed ms h keys i k bears = throughout_held ms h keys (holding.Mod i) k bears
-
 -- a repeat of a key finds a steady lock down
 turned-false : (t d : Bool) → (t ≡ true → d ≡ true) → (t && not d) ≡ false
 turned-false true d f = rw (f refl) refl
@@ -162,7 +162,9 @@ repeat-turns ms h l k (Act b) steady keys p is =
     (resolved-looked ms h (All-tail HasKey (Press k) h keys)) f)
 
 -- a repeat turns no steady lock
-pub repeats_turn_no_steady_lock : RepeatsTurnNoSteadyLock
+pub repeats_turn_no_steady_lock : (ms : Maps) (h : List Event) (l : Lock) → IsSteady (in_force ms h) l → (k : ℕ)
+    → HasKeys (Press k ∷ h) → pressed k h ≡ true
+    → (turns_at ms l (Press k) h ≡ false) × (is_locked_after ms l (Press k ∷ h) ≡ is_locked_after ms l h)
 repeats_turn_no_steady_lock ms h l steady k keys p =
     let still : turns l (resolve_press k (look (in_force ms h) (resolved ms h) k)) (resolved ms h) ≡ false =
     repeat-turns ms h l k (look (in_force ms h) (resolved ms h) k) steady keys p
@@ -184,7 +186,8 @@ held-quiet ms h safe keys quiet a =
     true≢false (sym down ∙ quiet k lt))
 
 -- in a safe map no modifier is on once every key is released
-pub off_once_quiet : OffOnceQuiet
+pub off_once_quiet : (ms : Maps) (h : List Event) → IsSafe (in_force ms h) → HasKeys h
+    → IsOffOnceQuiet h (λ i. is_on_after ms i h)
 off_once_quiet ms h safe keys quiet i = held-quiet ms h safe keys quiet (holding.Mod i)
 
 -- once every key is released nothing is remembered
@@ -206,7 +209,8 @@ same-reset ms h safe keys quiet p = record {
 }
 
 -- in a safe map a console goes on as after a reset, once every key is released and nothing is pending
-pub goes_on_as_after_reset : GoesOnAsAfterReset
+goes_on_as_after_reset : (ms : Maps) (h : List Event) → IsSafe (in_force ms h) → HasKeys h → IsQuiet h
+    → accent_pending_after ms h ≡ None → GoesOnAs ms h (Reset ∷ h)
 goes_on_as_after_reset ms h safe keys quiet p later later_keys =
     let base : SameAfter ms h (Reset ∷ h) = same-reset ms h safe keys quiet p in
     let after : SameAfter ms (reverse later ++ h) (reverse later ++ (Reset ∷ h)) =
@@ -216,6 +220,27 @@ goes_on_as_after_reset ms h safe keys quiet p later later_keys =
       after.same.locked,
       same-pending ms (reverse later ++ h) (reverse later ++ (Reset ∷ h)) after,
     )
+
+-- the headline holds after every list of events
+pub headline_holds : HeadlineHolds
+headline_holds ms h keys = record {
+  on_only_while_pressed = λ safe. on_only_while_pressed ms h safe keys;
+  on_exactly_while_pressed = λ i k. throughout_held ms h keys (holding.Mod i) k;
+  repeats_turn_no_steady_lock = λ l steady k lt.
+      repeats_turn_no_steady_lock ms h l steady k (All-cons HasKey (Press k) h lt keys);
+  off_once_quiet = λ safe. off_once_quiet ms h safe keys;
+  as_after_reset_once_quiet = λ safe. goes_on_as_after_reset ms h safe keys;
+}
+
+-- and of what a console shows
+pub headline-shown : (ms : Maps) (h : List Event) → HasKeys h → (is_on : Modifier → Bool) (is_locked : Lock → Bool)
+    (pending : Option ℕ) → ((i : Modifier) → is_on i ≡ is_on_after ms i h)
+    → ((l : Lock) → is_locked l ≡ is_locked_after ms l h) → pending ≡ accent_pending_after ms h
+    → Headline (IsSafe (in_force ms h)) ms h is_on is_locked pending
+headline-shown ms h keys is_on is_locked pending on_is locked_is pending_is =
+    let e : is_on ≡ (λ i. is_on_after ms i h) = fun_ext on_is in
+    let f : is_locked ≡ (λ l. is_locked_after ms l h) = fun_ext locked_is in
+    rw (e, f, pending_is) (headline_holds ms h keys)
 
 -- events of which some more are of keys are of keys
 keys-before : (later h : List Event) → HasKeys (reverse later ++ h) → HasKeys h

@@ -1,7 +1,7 @@
 -- A place of a table after a write, by a test on the places.
 use Rattle.console_core.proofs.Common.{cases_Bool, ◌≡◌, ℕ, ◌<◌, Bool, true, false, eqb, List, length}
 use Rattle.console_core.proofs.Common.{get_or, set, ◌+◌, ◌&&◌, not, Some, ap, lit<, refl, sym, subst, arith, eqb-true}
-use Rattle.console_core.proofs.Common.{eqb-false, ne_eqb, Modifier, LeftShift, Lock, Caps, Num, Scroll, Alt, Holding}
+use Rattle.console_core.proofs.Common.{eqb-false, ne_eqb, Modifier, LeftShift, Lock, Caps, Holding}
 use Rattle.console_core.proofs.Common.{Action, holding_of, modifier_index, lock_index, holding_index, same_action}
 use Rattle.console_core.proofs.Common.{holding_action, rules}
 use Rattle.keymap_core.specs.Actions.{modifiers}
@@ -39,14 +39,10 @@ lock_mod m l = let h : modifier_index m < 8 = modifier_index-lt m in ne_eqb _ _ 
 -- holding actions are the same exactly where their indices are
 pub same_place : (a b : Holding)
     → same_action (holding_action a) (holding_action b) ≡ eqb (holding_index a) (holding_index b)
-same_place (holding.Mod m) (holding.Mod n) = refl
+same_place (holding.Mod m) (holding.Mod n) = search rules
 same_place (holding.Mod m) (holding.Lock l) = sym (mod_lock m l)
 same_place (holding.Lock l) (holding.Mod m) = sym (lock_mod m l)
-same_place (holding.Lock Caps) (holding.Lock Caps) = refl
-same_place (holding.Lock Num) (holding.Lock Caps) = refl
-same_place (holding.Lock Scroll) (holding.Lock Caps) = refl
-same_place (holding.Lock Alt) (holding.Lock Caps) = refl
-same_place _ _ = refl
+same_place (holding.Lock l) (holding.Lock k) = search rules
 
 -- the index of a holding action is one of twelve
 pub holding_index-lt : (a : Holding) → holding_index a < 12

@@ -100,7 +100,7 @@ same_mark_bit (holding.Lock l) (holding.Mod m) = search (rules, modifier_index-l
 
 -- locks are at the same bit exactly where they are the same
 pub same_lock_bit : (l k : Lock) → eqb (lock_bit l) (lock_bit k) ≡ same_lock l k
-same_lock_bit l k = shifted 8 (lock_index l) (lock_index k) (same_lock l k) refl
+same_lock_bit l k = shifted 8 (lock_index l) (lock_index k) (same_lock l k) (search rules)
 
 mark-not_lock : (a : Holding) (l : Lock) → mark_bit a ≡ lock_bit l → ⊥
 mark-not_lock (holding.Mod m) l e = search (rules, modifier_index-lt)

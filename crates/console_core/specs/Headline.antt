@@ -30,7 +30,7 @@
 --
 -- The last lines tell which public calls promise the clauses. Facts has the steps by which they are proved.
 use Rattle.std.specs.Prelude.{◌≡◌, ℕ, ◌<◌, ◌⊎◌, ◌==◌, ◌&&◌, not, List, [], ◌∷◌, ◌++◌, None, Bool, true, false, reverse}
-use Rattle.std.specs.Prelude.{◌≢◌}
+use Rattle.std.specs.Prelude.{◌≢◌, Option}
 use Rattle.console_core.specs.Types.{Modifier, Lock, Holding, Cell, Char, Act, Event, Press, Reset}
 use Rattle.keymap_core.specs.declared.action.Action.TheVariants as act
 use Rattle.keymap_core.specs.declared.action.Holding.TheVariants as holding
@@ -62,54 +62,19 @@ abbrev pub IsOnOnlyWhilePressed : MapValue → List Event → (Modifier → Bool
 IsOnOnlyWhilePressed m h is_on =
     (i : Modifier) → is_on i ≡ true → (k : ℕ) × (k < key_count) × Bears m k (holding.Mod i) × (pressed k h ≡ true)
 
-abbrev pub OnOnlyWhilePressed : Type 0
-OnOnlyWhilePressed =
-    (ms : Maps) (h : List Event) → IsSafe (in_force ms h) → HasKeys h
-    → IsOnOnlyWhilePressed (in_force ms h) h (λ i. is_on_after ms i h)
-
 -- A modifier that one key alone bears throughout is on exactly while that key is pressed.
 abbrev pub IsOnExactlyWhilePressed : MapValue → List Event → (Modifier → Bool) → Type 0
 IsOnExactlyWhilePressed m h is_on = (i : Modifier) (k : ℕ) → BearsThroughout m k (holding.Mod i) → is_on i ≡ pressed k h
 
-abbrev pub OnExactlyWhilePressed : Type 0
-OnExactlyWhilePressed =
-    (ms : Maps) (h : List Event) → HasKeys h → IsOnExactlyWhilePressed (in_force ms h) h (λ i. is_on_after ms i h)
-
--- A repeat doesn't turn a steady lock.
-abbrev pub RepeatsTurnNoSteadyLock : Type 0
-RepeatsTurnNoSteadyLock =
-    (ms : Maps) (h : List Event) → (l : Lock) → IsSteady (in_force ms h) l → (k : ℕ) → HasKeys (Press k ∷ h)
-    → pressed k h ≡ true
-    → (turns_at ms l (Press k) h ≡ false) × (is_locked_after ms l (Press k ∷ h) ≡ is_locked_after ms l h)
-
--- the events, in the order of their delivery, are all repeats after h
-abbrev pub AreRepeats : List Event → List Event → Type 0
-AreRepeats h [] = Unit {0}
-AreRepeats h (Press k ∷ later) = (pressed k h ≡ true) × AreRepeats (Press k ∷ h) later
-AreRepeats h (e ∷ later) = ⊥
-
--- Repeats, however many, leave a steady lock as it was before them.
-abbrev pub RepeatsKeepSteadyLocks : Type 0
-RepeatsKeepSteadyLocks =
-    (ms : Maps) (h : List Event) (repeats : List Event) → HasKeys (reverse repeats ++ h) → AreRepeats h repeats
-    → (l : Lock) → IsSteady (in_force ms h) l → is_locked_after ms l (reverse repeats ++ h) ≡ is_locked_after ms l h
-
--- The repeats that the events end in leave a steady lock as it was before them, where `is_locked` are the locks after h
--- and then the events.
-abbrev pub LastRepeatsTurnNoSteadyLock : Maps → List Event → List Event → (Lock → Bool) → Type 0
-LastRepeatsTurnNoSteadyLock ms h events is_locked =
-    (earlier : List Event) (repeats : List Event) → events ≡ earlier ++ repeats
-    → AreRepeats (reverse earlier ++ h) repeats
-    → (l : Lock) → IsSteady (in_force ms (reverse earlier ++ h)) l
-    → is_locked l ≡ is_locked_after ms l (reverse earlier ++ h)
+-- A repeat after h doesn't turn a steady lock, where `is_locked` are the locks after h.
+abbrev pub RepeatsTurnNoSteadyLock : Maps → List Event → (Lock → Bool) → Type 0
+RepeatsTurnNoSteadyLock ms h is_locked =
+    (l : Lock) → IsSteady (in_force ms h) l → (k : ℕ) → k < key_count → pressed k h ≡ true
+    → (turns_at ms l (Press k) h ≡ false) × (is_locked_after ms l (Press k ∷ h) ≡ is_locked l)
 
 -- Once no key is pressed, no modifier is on.
 abbrev pub IsOffOnceQuiet : List Event → (Modifier → Bool) → Type 0
 IsOffOnceQuiet h is_on = IsQuiet h → (i : Modifier) → is_on i ≡ false
-
-abbrev pub OffOnceQuiet : Type 0
-OffOnceQuiet = (ms : Maps) (h : List Event) → IsSafe (in_force ms h) → HasKeys h
-    → IsOffOnceQuiet h (λ i. is_on_after ms i h)
 
 -- Two lists of events after which a console goes on in the same way: the same answers to whatever comes, and the same
 -- modifiers, locks and pending accent after it.
@@ -121,11 +86,44 @@ GoesOnAs ms h h' =
     × ((l : Lock) → is_locked_after ms l (reverse later ++ h) ≡ is_locked_after ms l (reverse later ++ h'))
     × (accent_pending_after ms (reverse later ++ h) ≡ accent_pending_after ms (reverse later ++ h'))
 
--- Once no key is pressed and no accent is pending, a console goes on as after a reset.
-abbrev pub GoesOnAsAfterReset : Type 0
-GoesOnAsAfterReset =
-    (ms : Maps) (h : List Event) → IsSafe (in_force ms h) → HasKeys h → IsQuiet h → accent_pending_after ms h ≡ None
-    → GoesOnAs ms h (Reset ∷ h)
+-- The headline after the events h, where `is_on`, `is_locked` and `pending` tell what is on, locked and pending then.
+-- The clauses that want a safe keymap in force hold where `safe` does: that it is, or what tells that. The others hold
+-- of every keymap.
+--
+-- A modifier is on only while a key that bears it is pressed, and exactly then if one key alone bears it throughout. A
+-- repeat never turns a steady lock. Once no key is pressed, no modifier is on and, with no accent pending, the console
+-- goes on as after a reset.
+pub record Headline (safe : Type 0) (ms : Maps) (h : List Event) (is_on : Modifier → Bool) (is_locked : Lock → Bool)
+    (pending : Option ℕ) : Type 0 where
+  pub on_only_while_pressed : safe → IsOnOnlyWhilePressed (in_force ms h) h is_on
+  pub on_exactly_while_pressed : IsOnExactlyWhilePressed (in_force ms h) h is_on
+  pub repeats_turn_no_steady_lock : RepeatsTurnNoSteadyLock ms h is_locked
+  pub off_once_quiet : safe → IsOffOnceQuiet h is_on
+  pub as_after_reset_once_quiet : safe → IsQuiet h → pending ≡ None → GoesOnAs ms h (Reset ∷ h)
+
+-- what is on, locked and pending after the events meets it
+abbrev pub HeadlineAfter : Type 0 → Maps → List Event → Type 0
+HeadlineAfter safe ms h =
+    Headline safe ms h (λ i. is_on_after ms i h) (λ l. is_locked_after ms l h) (accent_pending_after ms h)
+
+-- So it does after every list of events, whichever keymap is in force.
+abbrev pub HeadlineHolds : Type 0
+HeadlineHolds = (ms : Maps) (h : List Event) → HasKeys h → HeadlineAfter (IsSafe (in_force ms h)) ms h
+
+-- the events, in the order of their delivery, are all repeats after h
+abbrev pub AreRepeats : List Event → List Event → Type 0
+AreRepeats h [] = Unit {0}
+AreRepeats h (Press k ∷ later) = (pressed k h ≡ true) × AreRepeats (Press k ∷ h) later
+AreRepeats h (e ∷ later) = ⊥
+
+-- The repeats that the events end in leave a steady lock as it was before them, where `is_locked` are the locks after h
+-- and then the events.
+abbrev pub LastRepeatsTurnNoSteadyLock : Maps → List Event → List Event → (Lock → Bool) → Type 0
+LastRepeatsTurnNoSteadyLock ms h events is_locked =
+    (earlier : List Event) (repeats : List Event) → events ≡ earlier ++ repeats
+    → AreRepeats (reverse earlier ++ h) repeats
+    → (l : Lock) → IsSteady (in_force ms (reverse earlier ++ h)) l
+    → is_locked l ≡ is_locked_after ms l (reverse earlier ++ h)
 
 -- a fresh press of the key
 abbrev pub is_fresh_press : ℕ → Event → List Event → Bool

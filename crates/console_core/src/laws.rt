@@ -1,8 +1,6 @@
 //! Laws over histories: the headline for all lists of events, the facts on which it stands, and each notion read on the
 //! positions of a list of events.
-ghost use Rattle.console_core.specs.Headline.{OnOnlyWhilePressed, OnExactlyWhilePressed, RepeatsTurnNoSteadyLock};
-ghost use Rattle.console_core.specs.Headline.{RepeatsKeepSteadyLocks, OffOnceQuiet, LockedByFreshPresses};
-ghost use Rattle.console_core.specs.Headline.{GoesOnAsAfterReset};
+ghost use Rattle.console_core.specs.Headline.{HeadlineHolds, LockedByFreshPresses};
 ghost use Rattle.console_core.specs.Facts.{LooksAreCells, DeadUpperHalfIsNotLookedAt, HoldingIsRemembered};
 ghost use Rattle.console_core.specs.Facts.{OnByPressedKey};
 ghost use Rattle.console_core.specs.Loads.{WithoutLoads, LoadsOfOneMapAreResets};
@@ -12,24 +10,11 @@ ghost use Rattle.console_core.specs.Reading.{NothingRememberedByPositions, Pendi
 ghost use Rattle.console_core.specs.Reading.{ResolvedAtPrefix, AnswersByCases};
 ghost use Rattle.console_core.specs.Traps.{OnOnlyWhilePressedWithoutTraps};
 
-/// In a safe map a modifier is on only while a key that bears it is pressed; in any map one that a key alone bears
-/// throughout is on exactly while that key is pressed.
-pub fn modifiers_follow_keys()
-    ensures only_while { OnOnlyWhilePressed }
-    ensures exactly_while { OnExactlyWhilePressed }
-{}
-
-/// A repeat never turns a steady lock, and any number of them leaves it as it was.
-pub fn repeats_turn_no_steady_lock()
-    ensures one { RepeatsTurnNoSteadyLock }
-    ensures any_number { RepeatsKeepSteadyLocks }
-{}
-
-/// Once no key is pressed, in a safe map, no modifier is on, and with no accent pending the console goes on as after a
-/// reset.
-pub fn quiet_is_a_reset()
-    ensures off { OffOnceQuiet }
-    ensures goes_on { GoesOnAsAfterReset }
+/// After every list of events a modifier is on only while a key that bears it is pressed, and exactly then if one key
+/// alone bears it throughout; a repeat turns no steady lock; once no key is pressed, no modifier is on, and with no
+/// accent pending the console goes on as after a reset. The first and the last two want a safe map in force.
+pub fn headline_holds()
+    ensures { HeadlineHolds }
 {}
 
 /// A lock that one key alone bears throughout, where there are loads in both maps, is on exactly after an odd number of

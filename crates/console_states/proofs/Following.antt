@@ -14,7 +14,7 @@ use Rattle.console_states.proofs.Common.{is_some, same_Some, Action, Lock, Modif
 use Rattle.console_states.proofs.Common.{Holding}
 use Rattle.console_states.proofs.Common.{rules}
 use Rattle.std.proofs.Math.Bool.{and-true, and-false}
-use Rattle.keymap_core.specs.Actions.{action_kind}
+use Rattle.keymap_core.specs.Actions.{holding_of}
 use Rattle.console_core.proofs.OneMore.{held-character, held-action}
 use Rattle.console_core.proofs.OneMore.{held-release, locked-character}
 use Rattle.console_core.proofs.OneMore.{locked-action, locked-release, remembered-character}
@@ -46,11 +46,12 @@ some_mods i j e = cc
 pub some_mod_lock : (i : Modifier) (l : Lock) → Some (act.Mod i) ≡ Some (act.Lock l) → ⊥
 some_mod_lock i l e = cc
 
--- an action is a modifier, a lock, or no holding action
-pub not_holding : (a : Action) (h : Holding) → eqb (action_kind a) 1 ≡ false → eqb (action_kind a) 2 ≡ false
-    → same_action a (holding_action h) ≡ false
-not_holding a (holding.Mod i) e f = rw e refl
-not_holding a (holding.Lock l) e f = rw f refl
+-- an action that is no holding one is none of them
+pub not_holding : (a : Action) (h : Holding) → holding_of a ≡ None → same_action a (holding_action h) ≡ false
+not_holding (act.Mod i) h e = absurd (none-some (sym e))
+not_holding (act.Lock l) h e = absurd (none-some (sym e))
+not_holding a (holding.Mod i) e = refl
+not_holding a (holding.Lock l) e = refl
 
 -- whether an action is a modifier, a lock or neither
 abbrev pub Kind : Action → Type 0
@@ -62,7 +63,7 @@ Kind a =
 pub kind_of : (a : Action) → Kind a
 kind_of (act.Mod i) = inl (i, refl)
 kind_of (act.Lock l) = inr (inl (l, refl))
-kind_of a = inr (inr (λ h. not_holding a h refl refl))
+kind_of a = inr (inr (λ h. not_holding a h refl))
 
 -- a press that looks up a character, of a key that holds nothing
 pub follows-character : (r : List ResolvedEvent) (s : State) (k c : ℕ) → Follows r s → IsIdle s k

@@ -136,7 +136,7 @@ behind-here m h k i b (s, (path, made, leads), f, is) lt seen taken can =
       behind-offered (alone m) path i made
           (subst (λ t. IsOfferedIn (alone m) t i) (sym leads) (can, (k, lt, (idle, looked)))) leads,
       follows-nothing r s k b f
-          (λ held. ap (λ a. same_action a (holding_action held)) taken ∙ not_holding (act.DeadKey i) held refl refl),
+          (λ held. ap (λ a. same_action a (holding_action held)) taken ∙ not_holding (act.DeadKey i) held refl),
     )
 
 -- moves keep a console behind it

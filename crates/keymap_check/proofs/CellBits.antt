@@ -15,7 +15,8 @@ use Rattle.std.proofs.lemmas.Nat.{and_or_apart, and_comm}
 use Rattle.std.specs.Int.Bits.{and_zero_l}
 use Rattle.std.proofs.lemmas.Nat.Bits.{bit_at_and, bit_at_or, bit_at_xor, bit_at-pow_same, bit_at-pow_other, bit_at-lt}
 use Rattle.std.proofs.lemmas.Nat.Bits.{bit_at-zero, bit_at_ones, and_pow}
-use Rattle.keymap_core.specs.Actions.{lock_index, holding_index}
+use Rattle.keymap_core.specs.Actions.{lock_index, holding_index, same_modifier}
+use Rattle.keymap_check.proofs.Common.{Modifier}
 use Rattle.keymap_check.specs.Inner.CellBits.{cell_bit, is_set, bits_of, mask_of}
 use Rattle.console_core.proofs.Places.{modifier_index-lt}
 use Rattle.console_core.proofs.WordBits.{lock_index-lt, two_cases}
@@ -37,10 +38,14 @@ is_set-pow k i = pow_by k i (eqb i k) refl
 apart : (i k : ℕ) → i ≢ k → is_set (2 ^ k) i ≡ false
 apart i k ne = is_set-pow k i ∙ ne_eqb i k ne
 
+-- modifiers are the same exactly where their indices are
+same_by-index : (i j : Modifier) → eqb (modifier_index i) (modifier_index j) ≡ same_modifier i j
+same_by-index i j = search rules
+
 -- a cell has the bit of a holding action exactly if it is that action
 holding-bit : (a : Holding) (x : Cell) → is_set (2 ^ holding_index a) (cell_bit x) ≡ is_holding a x
 holding-bit (holding.Mod i) (Char c) = apart 12 (modifier_index i) (λ e. omega (arith, modifier_index-lt i, e))
-holding-bit (holding.Mod i) (Act (act.Mod j)) = is_set-pow (modifier_index i) (modifier_index j)
+holding-bit (holding.Mod i) (Act (act.Mod j)) = is_set-pow (modifier_index i) (modifier_index j) ∙ same_by-index j i
 holding-bit (holding.Mod i) (Act (act.Lock l)) =
     apart (8 + lock_index l) (modifier_index i) (λ e. omega (arith, modifier_index-lt i, e))
 holding-bit (holding.Mod i) (Act act.Nop) = apart 13 (modifier_index i) (λ e. omega (arith, modifier_index-lt i, e))

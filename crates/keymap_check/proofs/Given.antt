@@ -4,7 +4,7 @@ use Rattle.keymap_check.proofs.Common.{Modifier, Event, MapValue, NobodyBearsCel
 use Rattle.keymap_check.proofs.Common.{demonstration_of, HasShownTrap}
 use Rattle.std.specs.Prelude.{IsSome, option_map}
 use Rattle.std.proofs.lemmas.Option.{none-some}
-use Rattle.console_states.specs.Sticking.{LeavesOn}
+use Rattle.keymap_check.specs.Shown.{LeavesModifierOn}
 use Rattle.keymap_check.proofs.Demonstrated.{demonstrations_leave_modifiers_on}
 use Rattle.keymap_check.proofs.Shown.{shown_traps_are_demonstrated}
 use Rattle.keymap_check.proofs.Trapless.{none_given}
@@ -12,7 +12,7 @@ use Rattle.keymap_check.proofs.Trapless.{none_given}
 module _ {S : Type 0} (items : S → List Event) (m : MapValue) where
   -- the demonstration leaves a modifier on
   pub leaves_on : (o : Option S) → option_map items o ≡ demonstration_of m
-      → IfSome o (λ s. LeavesOn m (reverse (items s)))
+      → IfSome o (λ s. LeavesModifierOn m (reverse (items s)))
   leaves_on None e = tt
   leaves_on (Some s) e = demonstrations_leave_modifiers_on m (items s) (sym e)
 

@@ -1,45 +1,24 @@
 -- The promises, from the laws over the two maps of a console.
-use Rattle.keymap_check.proofs.Common.{◌≡◌, ℕ, inl, inr, ap, subst, sym, ◌∙◌, All-cons, Lock, Modifier, Press, MapValue}
-use Rattle.keymap_check.proofs.Common.{BearsThroughout, Maps, HasKey, is_on_after, IsSteady, IsPlain, rules}
+use Rattle.keymap_check.proofs.Common.{◌≡◌, ℕ, inl, inr, ap, subst, sym, ◌∙◌, Lock, MapValue, BearsThroughout, Maps}
+use Rattle.keymap_check.proofs.Common.{IsPlain}
 use Rattle.std.proofs.Common.{◌⊎◌}
-use Rattle.console_core.specs.Headline.{IsSafe, OnOnlyWhilePressed, OnExactlyWhilePressed, RepeatsTurnNoSteadyLock}
-use Rattle.console_core.specs.Headline.{OffOnceQuiet, GoesOnAsAfterReset, LockedByFreshPresses, IsOnOnlyWhilePressed}
+use Rattle.console_core.specs.Headline.{IsSafe, HeadlineHolds, LockedByFreshPresses}
+use Rattle.console_core.specs.History.{in_force}
 use Rattle.console_core.specs.Plain.{plain_look, LooksPlainly}
-use Rattle.keymap_check.specs.Promises.{ModifiersAreOnOnlyWhilePressed, ModifierFollowsKey, NoRepeatTurns}
-use Rattle.keymap_check.specs.Promises.{ModifiersAreOffOnceQuiet, GoesOnAsAfterResetOnceQuiet, IsOnAfterOddFreshPresses}
-use Rattle.keymap_check.specs.Promises.{LooksPlainlyIn, KeepsPromise}
+use Rattle.keymap_check.specs.Promises.{IsOnAfterOddFreshPresses, LooksPlainlyIn, KeepsPromise}
 use Rattle.keymap_core.specs.declared.action.Holding.TheVariants as holding
 
--- in a safe map modifiers are on only while their keys are pressed
-pub only_while : OnOnlyWhilePressed → (m : MapValue) → IsSafe m → ModifiersAreOnOnlyWhilePressed m
-only_while law m safe ms h e keys =
-    subst (λ n. IsOnOnlyWhilePressed n h (λ i. is_on_after ms i h)) e (law ms h (subst IsSafe (sym e) safe) keys)
-
--- a modifier that a key bears throughout is on exactly while that key is pressed
-pub exactly_while : OnExactlyWhilePressed → (m : MapValue) (i : Modifier) (k : ℕ) → BearsThroughout m k (holding.Mod i)
-    → ModifierFollowsKey m i k
-exactly_while law m i k throughout ms h e keys =
-    law ms h keys i k (subst (λ n. BearsThroughout n k (holding.Mod i)) (sym e) throughout)
-
--- no repeat turns a steady lock
-pub repeats : RepeatsTurnNoSteadyLock → (m : MapValue) (l : Lock) → IsSteady m l → NoRepeatTurns m l
-repeats law m l steady ms h e keys k lt is =
-    law ms h l (subst (λ n. IsSteady n l) (sym e) steady) k (All-cons HasKey (Press k) h lt keys) is
-
--- in a safe map modifiers are off once every key is released
-pub off_once_quiet : OffOnceQuiet → (m : MapValue) → IsSafe m → ModifiersAreOffOnceQuiet m
-off_once_quiet law m safe ms h e keys quiet i = law ms h (subst IsSafe (sym e) safe) keys quiet i
-
--- in a safe map a console goes on as after a reset, once every key is released
-pub as_after_reset : GoesOnAsAfterReset → (m : MapValue) → IsSafe m → GoesOnAsAfterResetOnceQuiet m
-as_after_reset law m safe ms h e keys quiet none = law ms h (subst IsSafe (sym e) safe) keys quiet none
-
--- a safe map keeps the whole promise
-pub keeps_promise : OnOnlyWhilePressed → OnExactlyWhilePressed → RepeatsTurnNoSteadyLock → OffOnceQuiet
-    → GoesOnAsAfterReset
-    → (m : MapValue) → IsSafe m → KeepsPromise m
-keeps_promise on_only on_exactly repeats_turn_none off goes_on m safe =
-    search (rules, only_while, exactly_while, repeats, off_once_quiet, as_after_reset)
+-- a map keeps the promise where it is safe
+pub keeps_promise : HeadlineHolds → (m : MapValue) (accepted : Type 0) → (accepted → IsSafe m) → KeepsPromise m accepted
+keeps_promise law m accepted safe ms h e keys =
+    let headline = law ms h keys in
+    let in_force_safe : accepted → IsSafe (in_force ms h) = λ a. subst IsSafe (sym e) (safe a) in record {
+      on_only_while_pressed = λ a. headline.on_only_while_pressed (in_force_safe a);
+      on_exactly_while_pressed = headline.on_exactly_while_pressed;
+      repeats_turn_no_steady_lock = headline.repeats_turn_no_steady_lock;
+      off_once_quiet = λ a. headline.off_once_quiet (in_force_safe a);
+      as_after_reset_once_quiet = λ a. headline.as_after_reset_once_quiet (in_force_safe a);
+    }
 
 -- a key bears the lock throughout in the second map too, where that is the same
 same_map : (m : MapValue) (l : Lock) (k : ℕ) (ms : Maps) {P : Type 0} → BearsThroughout m k (holding.Lock l)

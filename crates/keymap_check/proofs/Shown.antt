@@ -3,7 +3,9 @@ use Rattle.keymap_check.proofs.Common.{◌≡◌, ◌≢◌, ℕ, ◌<◌, Bool,
 use Rattle.keymap_check.proofs.Common.{refl, ap, subst, sym, ◌∙◌, inl, inr, lit<, ◌==◌, reverse, true≢false, eq-eqb}
 use Rattle.keymap_check.proofs.Common.{eqb-true, and_parts, not-true, false_from_ne_true, is_some, is_other, lacks_key}
 use Rattle.keymap_check.proofs.Common.{Lock, Modifier, LeftShift, Cell, Char, Act, Event, Press, Release, Group, rules}
-use Rattle.keymap_check.proofs.Common.{modifier_index, MapValue, cell_at, IsCellOf, IsUpperLive, gathered}
+use Rattle.keymap_core.specs.Actions.{same_modifier}
+use Rattle.keymap_core.proofs.SameActions.{same_action-refl}
+use Rattle.keymap_check.proofs.Common.{MapValue, cell_at, IsCellOf, IsUpperLive, gathered}
 use Rattle.keymap_check.proofs.Common.{first_below-some, on, remembered, Maps, between, is_on_after, resolved}
 use Rattle.keymap_check.proofs.Common.{is_any_on_after, PressedAction, same_action-true, first_place, is_of_group}
 use Rattle.keymap_check.proofs.Common.{group_at, bears_group, bit_key, bit_keys, script, leaves_modifier_on}
@@ -63,8 +65,8 @@ look-two : (m : MapValue) (i y : Modifier) (k j : ℕ) → (k == j) ≡ false
 look-two m i y k j en = search (rules, look-bits, locked-two, bits-more, remembered-other, bits-one)
 
 -- the resolved events of the two scripts leave the modifier on
-self : (i : Modifier) → (modifier_index i == modifier_index i) ≡ true
-self i = eq-eqb (modifier_index i) (modifier_index i) refl
+self : (i : Modifier) → same_modifier i i ≡ true
+self i = same_action-refl (act.Mod i)
 
 -- a modifier whose key looks up a character stays on
 on-alone : (i : Modifier) (k c : ℕ)
@@ -74,7 +76,7 @@ on-alone i k c = rw (self i, eq-eqb k k refl) refl
 
 -- a modifier whose key looks up a character stays on under a second modifier, which is let go
 on-further : (i y : Modifier) (k j c : ℕ) → (j == k) ≡ false → (k == j) ≡ false
-    → (modifier_index y == modifier_index i) ≡ false
+    → same_modifier y i ≡ false
     → on i
     (ReleasedKey j ∷ ReleasedKey k ∷ PressedCharacter k c ∷ PressedAction j (act.Mod y)
     ∷ PressedAction k (act.Mod i) ∷ [])
@@ -208,8 +210,10 @@ same-modifier y i e = cc
 
 -- a modifier of another group is another modifier
 other_modifier : (i y : Modifier) (g : Group) → group_of i ≢ Some g → group_of y ≡ Some g
-    → (modifier_index y == modifier_index i) ≡ false
-other_modifier i y g ne e = search (rules, false_from_ne_true, same-modifier, same_action-true)
+    → same_modifier y i ≡ false
+other_modifier i y g ne e =
+    false_from_ne_true (same_modifier y i) (λ t.
+    ne (ap group_of (sym (same-modifier y i (same_action-true (act.Mod y) (act.Mod i) t))) ∙ e))
 
 -- a trap under one modifier more is demonstrated
 shown-further : (m : MapValue) (i : Modifier) (k : ℕ) (g : Group) (j : ℕ) → k < 128 → cell_at m k 0 ≡ Act (act.Mod i)

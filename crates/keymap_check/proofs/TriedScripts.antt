@@ -8,7 +8,7 @@ use Rattle.keymap_check.proofs.Common.{tried, leaves_modifier_on, demonstration_
 use Rattle.std.proofs.lemmas.List.Elements.{All-from_recursion, All-weaker}
 use Rattle.keymap_core.proofs.Lists.{All-reversed}
 use Rattle.console_core.specs.History.{HasKeys}
-use Rattle.console_states.specs.Sticking.{IsPressOrRelease}
+use Rattle.keymap_check.specs.Shown.{IsPressOrRelease}
 use Rattle.keymap_check.proofs.Firsts.{found-in, none-each}
 
 -- ---- which they are

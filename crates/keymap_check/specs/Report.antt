@@ -6,11 +6,7 @@ use Rattle.keymap_core.specs.declared.action.Holding.TheVariants as holding
 use Rattle.keymap_core.specs.Actions.{holdings, locks, holding_index, lock_index}
 use Rattle.keymap_core.specs.Maps.{MapValue}
 use Rattle.keymap_core.specs.Bearers.{NobodyBears, BearsThroughout, BearsNotThroughout, SeveralBear}
-use Rattle.console_states.specs.declared.outcome.Sticking.{Sticking}
 use Rattle.console_core.specs.Headline.{IsSafe, IsSteady}
-use Rattle.console_core.specs.History.{Maps}
-use Rattle.console_states.specs.Moves.{with_loads}
-use Rattle.console_states.specs.Sticking.{NeverSticksBetween, NeverForgets, IsAnswerBetween, says_sticks}
 use Rattle.keymap_check.specs.Computed.{bearer_of, is_steady, findings_of}
 use Rattle.keymap_check.specs.Findings.{AreFindings}
 
@@ -73,11 +69,3 @@ SteadyLocksAreComputed = (m : MapValue) (l : Lock) → (is_steady m l ≡ true) 
 
 abbrev pub NoFindingsExactlyIfSafe : Type 0
 NoFindingsExactlyIfSafe = (m : MapValue) → (findings_of m ≡ []) ↔ IsSafe m
-
--- Loads between two accepted maps leave no modifier on. So the search between them comes to no state where a key that
--- holds a modifier looks up a character, and never answers that one sticks.
-abbrev pub AcceptedNeverStick : Type 0
-AcceptedNeverStick =
-    (ms : Maps) → IsAccepted (report_of ms.first) → IsAccepted (report_of ms.second)
-    → NeverSticksBetween ms × NeverForgets (with_loads ms)
-    × ((a : Sticking) → IsAnswerBetween ms a → says_sticks a ≡ false)

@@ -1,16 +1,16 @@
 -- Traps that a demonstration shows.
-use Rattle.std.specs.Prelude.{◌≡◌, ◌≢◌, ℕ, ◌<◌, true, false, List, Option, None, Some, reverse}
+use Rattle.std.specs.Prelude.{◌≡◌, ◌≢◌, ℕ, ◌<◌, true, false, All, List, Option, None, Some}
 use Rattle.keymap_core.specs.declared.action.Action.{Action}
 use Rattle.keymap_core.specs.declared.action.Action.TheVariants as act
 use Rattle.keymap_check.specs.Types.{Modifier, LeftShift, RightShift, LeftControl, RightControl, LeftAlt, RightAlt}
-use Rattle.keymap_check.specs.Types.{AltShift, Meta, Cell, Char, Act, Event, Group}
+use Rattle.keymap_check.specs.Types.{AltShift, Meta, Cell, Char, Act, Event, Press, Release, Group}
 use Rattle.keymap_core.specs.Maps.{MapValue, cell_at}
 use Rattle.keymap_core.specs.Bearers.{IsCellOf, IsUpperLive}
 use Rattle.keymap_core.specs.Numbers.{key_count}
-use Rattle.console_states.specs.Sticking.{LeavesOn}
+use Rattle.console_core.specs.History.{between, HasKeys, IsQuiet, is_any_on_after}
 use Rattle.console_core.specs.Traps.{Bits, cell_with}
 use Rattle.keymap_check.specs.declared.kind.Group.TheVariants as group
-use Rattle.keymap_check.specs.Scripts.{bit_key, demonstration_of}
+use Rattle.keymap_check.specs.Scripts.{bit_key}
 
 -- the group of the modifier; meta has none
 abbrev pub group_of : Modifier → Option Group
@@ -65,8 +65,13 @@ HasShownTrap m i k =
     (k < key_count) × (cell_at m k 0 ≡ Act (act.Mod i))
     × ((further : Option Group) × HasCharacterWith m k (bits_with i further) × HasFurtherKey m k i further)
 
--- A demonstration leaves a modifier on in the sense of the search: its events are presses and releases of keys, and
--- after them no key is pressed and some modifier is on.
-abbrev pub DemonstrationsLeaveModifiersOn : Type 0
-DemonstrationsLeaveModifiersOn =
-    (m : MapValue) (events : List Event) → demonstration_of m ≡ Some events → LeavesOn m (reverse events)
+-- a press or a release
+abbrev pub IsPressOrRelease : Event → Type 0
+IsPressOrRelease (Press k) = Unit {0}
+IsPressOrRelease (Release k) = Unit {0}
+IsPressOrRelease _ = ⊥
+
+-- Presses and releases of keys, newest first, after which no key is pressed and some modifier is on.
+abbrev pub LeavesModifierOn : MapValue → List Event → Type 0
+LeavesModifierOn m h =
+    HasKeys h × All IsPressOrRelease h × IsQuiet h × (is_any_on_after (between m m) h ≡ true)

@@ -4,14 +4,13 @@ ghost use Rattle.keymap_check.specs.Types.{Modifier as ModifierValue, Event as E
 ghost use Rattle.keymap_core.specs.Maps.{MapValue};
 ghost use Rattle.keymap_core.specs.Numbers.{key_count};
 ghost use Rattle.console_core.specs.History.{Maps, between};
-ghost use Rattle.console_states.specs.Sticking.{LeavesOn};
 ghost use Rattle.console_core.specs.Traps.{NobodyBearsCellPickingLocks, HasNoTrap};
 ghost use Rattle.keymap_check.specs.Scripts.{leaves_modifier_on as leaves_modifier_on_in, events_of};
 ghost use Rattle.keymap_check.specs.Scripts.{start_of, script as script_of, scripts_of, scripts_from};
 ghost use Rattle.keymap_check.specs.Scripts.{scripts_with, scripts_for};
 ghost use Rattle.keymap_check.specs.Scripts.{tried_at, demonstration_of};
 ghost use Rattle.keymap_check.specs.Inner.Surveyed.{IsSurvey};
-ghost use Rattle.keymap_check.specs.Shown.{HasShownTrap};
+ghost use Rattle.keymap_check.specs.Shown.{HasShownTrap, LeavesModifierOn};
 
 use crate::finding::is_found;
 use crate::script::{BitKeys, GroupSet, Script, bit_keys, event_at, lacks_key, make_script};
@@ -178,7 +177,7 @@ fn first_script(map: &KeyMap, survey: &Survey) -> Option<Script>
 /// Where no script is given, a refused keymap can still stick, since no other scripts are tried.
 pub fn demonstrate(map: &KeyMap) -> Option<Script>
     ensures first { option_map (λ s. s.items) result ≡ demonstration_of map.now }
-    ensures leaves_on { IfSome result (λ s. LeavesOn map.now (reverse s.items)) }
+    ensures leaves_on { IfSome result (λ s. LeavesModifierOn map.now (reverse s.items)) }
     ensures shown { (i : ModifierValue) (k : ℕ) → HasShownTrap map.now i k → IsSome result }
     ensures without_traps { NobodyBearsCellPickingLocks map.now → ((i : ModifierValue) → HasNoTrap map.now i)
         → IsNone result }

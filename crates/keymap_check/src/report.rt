@@ -1,22 +1,19 @@
 //! The check and its report.
 ghost use Rattle.std.specs.Prelude.{◌≡◌, ◌↔◌, ℕ, IsTrue, true, IsNone, IfSome, slice_get};
-ghost use Rattle.keymap_check.specs.Types.{Modifier as ModifierValue, Lock as LockValue, Holding as HoldingValue};
+ghost use Rattle.keymap_check.specs.Types.{Lock as LockValue, Holding as HoldingValue};
 ghost use Rattle.console_core.specs.Headline.{IsSafe, IsSteady};
 ghost use Rattle.keymap_check.specs.Findings.{AreFindings, IsFirstFinding};
 ghost use Rattle.keymap_check.specs.Inner.Surveyed.{IsSurvey};
 ghost use Rattle.keymap_core.specs.Maps.{MapValue};
-ghost use Rattle.keymap_check.specs.Promises.{KeepsPromise, ModifierFollowsKey, NoRepeatTurns};
-ghost use Rattle.keymap_check.specs.Promises.{IsOnAfterOddFreshPresses, LooksPlainlyIn};
+ghost use Rattle.keymap_check.specs.Promises.{KeepsPromise, IsOnAfterOddFreshPresses, LooksPlainlyIn};
 ghost use Rattle.keymap_check.specs.Report.{IsAccepted, IsBearer, HasPlainBearers, bearer_in, is_steady_in, report_of};
 
 use crate::bearer::{Bearer, bearer_of, is_steady};
 use crate::finding::{Finding, findings};
-use crate::laws::{reports_are_computed, safe_maps_keep_their_promise};
+use crate::laws::reports_are_computed;
 use crate::survey::Survey;
 use arrayvec::ArrayVec;
-use console_core::laws::{
-    locks_count_fresh_presses, looks_plainly, modifiers_follow_keys, repeats_turn_no_steady_lock,
-};
+use console_core::laws::{headline_holds, locks_count_fresh_presses, looks_plainly};
 use keymap_core::{Holding, KEY_COUNT, KeyMap, Keymap, Lock, Modifier};
 use std::marker::Model;
 
@@ -129,10 +126,10 @@ pub fn check_shown<K: Keymap>(map: &K) -> Report
         → (a : HoldingValue) → IsBearer m a (bearer_in result a) }
     ensures steady { (m : MapValue) → K.shows map.now m
         → (l : LockValue) → (is_steady_in result l ≡ true) ↔ IsSteady m l }
-    ensures promise { (m : MapValue) → K.shows map.now m → IsAccepted result → KeepsPromise m }
+    ensures promise { (m : MapValue) → K.shows map.now m → KeepsPromise m (IsAccepted result) }
 {
     reports_are_computed();
-    safe_maps_keep_their_promise();
+    headline_holds();
     make_report(map)
 }
 
@@ -141,8 +138,9 @@ pub fn check_shown<K: Keymap>(map: &K) -> Report
 pub fn first_finding<K: Keymap>(map: &K) -> Option<Finding>
     ensures safe { (m : MapValue) → K.shows map.now m → IsNone result ↔ IsSafe m }
     ensures first { (m : MapValue) → K.shows map.now m → IfSome result (IsFirstFinding m) }
-    ensures promise { (m : MapValue) → K.shows map.now m → IsNone result → KeepsPromise m }
+    ensures promise { (m : MapValue) → K.shows map.now m → KeepsPromise m (IsNone result) }
 {
+    headline_holds();
     let report = check_shown(map);
     report.first()
 }
@@ -164,17 +162,11 @@ pub fn check(map: &KeyMap) -> Report
     ensures findings { AreFindings map.now result.findings }
     ensures bearers { (a : HoldingValue) → IsBearer map.now a (bearer_in result a) }
     ensures steady { (l : LockValue) → (is_steady_in result l ≡ true) ↔ IsSteady map.now l }
-    ensures promise { IsAccepted result → KeepsPromise map.now }
-    // what of it holds for every keymap, by what the report tells
-    ensures exactly_while { (i : ModifierValue) (k : ℕ) → bearer_in result (Holding.Mod i) ≡ Bearer.Throughout k
-        → ModifierFollowsKey map.now i k }
-    ensures repeats { (l : LockValue) → is_steady_in result l ≡ true → NoRepeatTurns map.now l }
+    ensures promise { KeepsPromise map.now (IsAccepted result) }
     ensures looks_plainly { HasPlainBearers result → LooksPlainlyIn map.now }
     ensures fresh_presses { (l : LockValue) (k : ℕ) → bearer_in result (Holding.Lock l) ≡ Bearer.Throughout k
         → IsOnAfterOddFreshPresses map.now l k }
 {
-    modifiers_follow_keys();
-    repeats_turn_no_steady_lock();
     locks_count_fresh_presses();
     looks_plainly();
     check_shown(map)

@@ -2,7 +2,6 @@
 use Rattle.keymap_core.proofs.Common.{◌≡◌, Bool, true, false, sym, ◌∙◌, list_any, true≢false, Modifier, rules}
 use Rattle.std.proofs.lemmas.Bool.{or_parts, true_from_ne_false}
 use Rattle.keymap_core.specs.Actions.{modifiers}
-use Rattle.keymap_core.specs.declared.action.Modifier.TheVariants as modifier
 
 -- where the test of all finds none, no modifier passes
 pub no-modifier : (f : Modifier → Bool) → list_any f modifiers ≡ false → (i : Modifier) → f i ≡ false

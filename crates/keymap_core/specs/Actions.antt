@@ -11,6 +11,9 @@ use Rattle.keymap_core.specs.declared.action.Lock.{Lock}
 use Rattle.keymap_core.specs.declared.action.Lock.TheVariants as l
 use Rattle.keymap_core.specs.declared.action.Holding.{Holding}
 use Rattle.keymap_core.specs.declared.action.Holding.TheVariants as h
+use Rattle.keymap_core.specs.contracts.action.ActionPartialEq.TheImpl as action_equal
+use Rattle.keymap_core.specs.contracts.action.ModifierPartialEq.TheImpl as modifier_equal
+use Rattle.keymap_core.specs.contracts.action.LockPartialEq.TheImpl as lock_equal
 
 -- a row of the table of actions
 pub record Row : Type 0 where
@@ -139,44 +142,15 @@ lock_index l.Num = 1
 lock_index l.Scroll = 2
 lock_index l.Alt = 3
 
--- the kind of an action: its place in the list of the kinds
-abbrev pub action_kind : Action → ℕ
-action_kind a.Nop = 0
-action_kind (a.Mod m) = 1
-action_kind (a.Lock l) = 2
-action_kind a.BackTab = 3
-action_kind a.NextScreen = 4
-action_kind a.PreviousScreen = 5
-action_kind (a.Screen n) = 6
-action_kind (a.Function n) = 7
-action_kind (a.DeadKey i) = 8
-action_kind a.Boot = 9
-action_kind a.Debug = 10
-action_kind a.Suspend = 11
-action_kind a.Saver = 12
-action_kind a.Standby = 13
-action_kind a.Panic = 14
-action_kind a.Halt = 15
-action_kind a.PowerDown = 16
-action_kind a.Paste = 17
-
--- which action of its kind it is, 0 where the kind has one alone
-abbrev pub action_number : Action → ℕ
-action_number (a.Mod m) = modifier_index m
-action_number (a.Lock l) = lock_index l
-action_number (a.Screen n) = n
-action_number (a.Function n) = n
-action_number (a.DeadKey i) = i
-action_number _ = 0
-
+-- whether two are the same, as `==` tells
 abbrev pub same_modifier : Modifier → Modifier → Bool
-same_modifier m n = modifier_index m == modifier_index n
+same_modifier = modifier_equal.eq-value.it
 
 abbrev pub same_lock : Lock → Lock → Bool
-same_lock l k = lock_index l == lock_index k
+same_lock = lock_equal.eq-value.it
 
 abbrev pub same_action : Action → Action → Bool
-same_action a b = (action_kind a == action_kind b) && (action_number a == action_number b)
+same_action = action_equal.eq-value.it
 
 -- the holding actions: the modifiers, then the locks
 abbrev pub holdings : List Holding

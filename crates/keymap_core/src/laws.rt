@@ -2,7 +2,7 @@
 ghost use Rattle.std.specs.Prelude.{◌≡◌, ◌≢◌, ◌↔◌, ◌<◌, ◌≤◌, ◌+◌, max, ℕ, List, All, map, Some, None, IsTrue};
 ghost use Rattle.std.specs.Char.{to_ascii_lowercase};
 ghost use Rattle.keymap_core.specs.Accents.{AccentValue, blank};
-ghost use Rattle.keymap_core.specs.Actions.{IsAction, IsCodeOfNoAction, code_of, name_of, action_of, same_action};
+ghost use Rattle.keymap_core.specs.Actions.{IsAction, IsCodeOfNoAction, code_of, name_of, action_of};
 ghost use Rattle.keymap_core.specs.Bearers.{Bears, IsUpperLive};
 ghost use Rattle.keymap_core.specs.Bounds.{IsEntry, IsAccent, IsMap};
 ghost use Rattle.keymap_core.specs.Borne.{is_borne, is_upper_live};
@@ -86,11 +86,6 @@ pub fn the_upper_half_is_live_by_test()
 pub fn holding_actions_are_borne_by_test()
     ensures { (map : MapValue) (action : Holding)
         → IsTrue (is_borne map action) ↔ ((key : ℕ) × (key < key_count) × Bears map key action) }
-{}
-
-/// The test for one action tells whether two are the same.
-pub fn the_same_action_is_told_by_test()
-    ensures { (a b : Action) → IsTrue (same_action a b) ↔ (a ≡ b) }
 {}
 
 /// Slots at or past the number of keys are undefined.

@@ -114,7 +114,7 @@ pends-here m r p k i b (s, (path, made, le, leads), f) lt seen taken can =
         leads,
       ),
       follows-nothing r s k b f
-          (λ held. ap (λ a. same_action a (holding_action held)) taken ∙ not_holding (act.DeadKey i) held refl refl),
+          (λ held. ap (λ a. same_action a (holding_action held)) taken ∙ not_holding (act.DeadKey i) held refl),
     )
 
 pends-press : (m : MapValue) (r : List ResolvedEvent) (p k i : ℕ) (b : Action) → PendsBy m i p r → k < 128

@@ -10,8 +10,7 @@ use Rattle.std.proofs.lemmas.List.{reverse-append}
 use Rattle.std.proofs.lemmas.List.Elements.{All-cons, All-map, All-weaker}
 use Rattle.keymap_core.specs.Bearers.{Bears, BearsThroughout}
 use Rattle.console_core.specs.declared.event.Event.TheVariants.{Press, Release, Reset, Load}
-use Rattle.console_core.specs.Headline.{IsSafe, OnOnlyWhilePressed, OnExactlyWhilePressed, LockedByFreshPresses}
-use Rattle.console_core.specs.Headline.{is_fresh_press}
+use Rattle.console_core.specs.Headline.{IsSafe, HeadlineHolds, LockedByFreshPresses, is_fresh_press}
 use Rattle.console_core.proofs.OneMore.{pressed-start, pressed-press, pressed-release, pressed-reset, pressed-load}
 use Rattle.console_core.specs.History.{IsNoLoad, HasNoLoads, is_load, is_second_in_force, HasKey, HasKeys, pressed}
 use Rattle.console_core.specs.History.{is_on_after, is_locked_after}
@@ -84,14 +83,14 @@ has_in_force true first second m n k i is_m is_n e f bears = (n, is_n, f, bears)
 has_in_force false first second m n k i is_m is_n e f bears = (m, is_m, e, bears)
 
 -- between accepted tables a modifier that is on is held down
-pub held : OnOnlyWhilePressed → (first second numbers : List ℕ) (a : AreAccepted first) (b : AreAccepted second)
+pub held : HeadlineHolds → (first second numbers : List ℕ) (a : AreAccepted first) (b : AreAccepted second)
     (i : Modifier) → is_on_after (between a.0 b.0) i (map event_of numbers) ≡ true
     → IsHeldDown (in_force_after first second numbers) i numbers
 held law first second numbers a b i on =
     let h : List Event = map event_of numbers in
     let second_is = exchanged_is_second numbers in
     let safe = safe_in_force (is_second_in_force h) a.0 b.0 a.3 b.3 in
-    let some = law (between a.0 b.0) h safe (have_keys numbers) i on in (
+    let some = (law (between a.0 b.0) h (have_keys numbers)).on_only_while_pressed safe i on in (
       some.0,
       some.1,
       sym (pressed_is_down some.0 numbers) ∙ some.3,
@@ -106,12 +105,12 @@ borne_in_force true first second m n k a is_m is_n e f throughout = throughout n
 borne_in_force false first second m n k a is_m is_n e f throughout = throughout m is_m e
 
 -- a modifier that a key bears throughout is on exactly while this key is down
-pub follows : OnExactlyWhilePressed → (first second numbers : List ℕ) (a : AreTables first) (b : AreTables second)
+pub follows : HeadlineHolds → (first second numbers : List ℕ) (a : AreTables first) (b : AreTables second)
     (i : Modifier) (k : ℕ) → IsBorneThroughout (in_force_after first second numbers) k (holding.Mod i)
     → is_on_after (between a.0 b.0) i (map event_of numbers) ≡ is_down k numbers
 follows law first second numbers a b i k throughout =
     let h : List Event = map event_of numbers in
-    law (between a.0 b.0) h (have_keys numbers) i k
+    (law (between a.0 b.0) h (have_keys numbers)).on_exactly_while_pressed i k
     (borne_in_force (is_second_in_force h) first second a.0 b.0 k (holding.Mod i) a.1 b.1 a.2 b.2
     (rw (exchanged_is_second numbers) throughout))
     ∙ pressed_is_down k numbers

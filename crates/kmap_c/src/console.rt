@@ -21,7 +21,7 @@ ghost use Rattle.kmap_c.specs.Numbers.{accent_number};
 ghost use Rattle.kmap_c.specs.Statuses as status;
 
 use crate::status::{BAD_EVENT, BAD_LENGTH, DONE, NO_ROOM};
-use console_core::laws::{locks_count_fresh_presses, modifiers_follow_keys};
+use console_core::laws::{headline_holds, locks_count_fresh_presses};
 use console_core::{
     Event, WordStore, locks_kept, modifiers_kept, pending_kept, start_kept, step_kept,
 };
@@ -208,7 +208,7 @@ pub extern "C" fn kmap_modifiers(console: &KmapConsole) -> u8
     ensures all_up { (first second numbers : List ℕ) → AreAccepted first → AreAccepted second
         → WasDelivered first second numbers console.now.store → AreUp numbers → result ≡ 0 }
 {
-    modifiers_follow_keys();
+    headline_holds();
     modifiers_kept(&console.store)
 }
 

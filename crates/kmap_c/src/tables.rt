@@ -22,6 +22,7 @@ ghost use Rattle.kmap_c.specs.Statuses as status;
 
 use crate::status::{BAD_HOLDING, BAD_LENGTH, BAD_PLACE, DONE, FAULTY, UNSAFE};
 use console_core::Answer;
+use keymap_check::laws::safe_maps_keep_their_promise;
 use keymap_check::{Bearer, Finding, check_shown, first_finding};
 use keymap_core::{Action, COLUMN_COUNT, Cell, Holding, Keymap, Lock, Modifier, SLOT_LIMIT};
 use keymap_tables::{TableFaultKind, Tables, check_tables};
@@ -116,7 +117,7 @@ fn told<K: Keymap>(map: &K, found: Finding) -> KmapFinding
 #[unsafe(no_mangle)]
 pub extern "C" fn kmap_accepts(tables: &[u8], finding: &mut KmapFinding) -> i32
     ensures accepted { result ≡ status.done
-        → (m : MapValue) × IsMap m × (tables.now ≡ image m) × IsSafe m × KeepsPromise m }
+        → (m : MapValue) × IsMap m × (tables.now ≡ image m) × IsSafe m × KeepsPromise m (IsSafe m) }
     ensures refused { result ≡ status.unsafe → (m : MapValue) × IsMap m × (tables.now ≡ image m) × (¬ IsSafe m)
         × ((f : FindingValue) × IsFirstFinding m f × IsTold m f finding.new) }
     ensures bad_length { (result ≡ status.bad_length) ↔ (length tables.now ≢ file_size wide) }
@@ -131,6 +132,7 @@ pub extern "C" fn kmap_accepts(tables: &[u8], finding: &mut KmapFinding) -> i32
         Ok(()) => {}
         Err(_) => return FAULTY,
     }
+    safe_maps_keep_their_promise();
     match first_finding(&shown) {
         None => DONE,
         Some(found) => {

@@ -7,6 +7,7 @@ use Rattle.console_core.specs.declared.event.Answer.{Answer}
 use Rattle.console_core.specs.declared.event.Event.{Event}
 use Rattle.console_core.specs.History.{Maps, between, pressed}
 use Rattle.console_states.specs.Sticking.{HasFewestPresses, HasFewestPressesBetween, LeavesOn, LeavesOnBetween}
+use Rattle.keymap_check.specs.Shown.{LeavesModifierOn}
 use Rattle.keymap_text.specs.Meaning.{Spells}
 use Rattle.keymap_check.specs.Report.{report_of}
 use Rattle.keymap_check.specs.Scripts.{demonstration_of}
@@ -74,7 +75,7 @@ abbrev pub ShowsDemonstration : MapValue → Option (List Event) → List ℕ �
 ShowsDemonstration m None text = text ≡ check_text (report_of m) ++ codes "demonstration: none\n"
 ShowsDemonstration m (Some events) text =
     (script : List ℕ) × (text ≡ check_text (report_of m) ++ (codes "demonstration:\n" ++ script))
-    × Delivers script (reverse events) × LeavesOn m (reverse events)
+    × Delivers script (reverse events) × LeavesModifierOn m (reverse events)
 
 abbrev pub ShowsScript : MapValue → List ℕ → Type 0
 ShowsScript m text = ShowsDemonstration m (demonstration_of m) text

@@ -199,7 +199,7 @@ TellsMissing name text sentence out r =
 abbrev pub AcceptedKeepTheirPromise : Type 0
 AcceptedKeepTheirPromise =
     (show : Bool) (text out : Moves) → ChecksText show text out (Ok true)
-    → (m : MapValue) × ReadsText text (Ok m) × KeepsPromise m
+    → (m : MapValue) × ReadsText text (Ok m) × IsSafe m × KeepsPromise m (IsSafe m)
 
 -- A file is compiled of a text and then dumped as another text: both spell the same keymap.
 abbrev pub AreDumped : (Moves → Moves → Result (Unit {0}) RunError → Type 0)

@@ -1,8 +1,7 @@
 use Rattle.console_core.proofs.Common.{◌≡◌, ◌+◌, ◌∷◌, ◌++◌, [], take, ap, subst, sym, ◌∙◌, arith, reverse}
 use Rattle.console_core.proofs.Common.{answers_to, HasKeys, is_locked_after}
 use Rattle.std.proofs.lemmas.List.{take_all}
-use Rattle.console_core.proofs.Headline.{on_only_while_pressed, on_exactly_while_pressed, off_once_quiet}
-use Rattle.console_core.proofs.Headline.{goes_on_as_after_reset, repeats-kept}
+use Rattle.console_core.proofs.Headline.{headline-shown, repeats-kept}
 use Rattle.console_core.proofs.FreshPresses.{locked_by_fresh_presses}
 use Rattle.console_core.proofs.PlainLooks.{shown-plain}
 use Rattle.console_core.proofs.Traps.{on_only_while_pressed_without_traps}
@@ -43,25 +42,18 @@ returns-clause-next g c =
     take_all _ _ c.loop-event-test.false in
     rw e at (c.loop-event.invariant.stands ms h s)
 
-pub returns-clause-on_only_while_pressed : goal.returns-clause-on_only_while_pressed
-returns-clause-on_only_while_pressed g c =
-    λ ms h s safe i on.
+pub returns-clause-headline : goal.returns-clause-headline
+returns-clause-headline g c =
+    λ ms h s.
     let e : take c.loop-event.event-index c.args.events.now ≡ c.args.events.now =
     take_all _ _ c.loop-event-test.false in
     let at : g.T.Translator.stands c.loop-event.console ms (reverse c.args.events.now ++ h) =
     rw e at (c.loop-event.invariant.stands ms h s) in
-    on_only_while_pressed ms _ safe (g.met.T.Translator.keys_where_it_stands _ _ _ at) i
-    (sym (g.met.T.Translator.on_where_it_stands _ _ _ at i) ∙ on)
-
-pub returns-clause-on_exactly_while_pressed : goal.returns-clause-on_exactly_while_pressed
-returns-clause-on_exactly_while_pressed g c =
-    λ ms h s i k bears.
-    let e : take c.loop-event.event-index c.args.events.now ≡ c.args.events.now =
-    take_all _ _ c.loop-event-test.false in
-    let at : g.T.Translator.stands c.loop-event.console ms (reverse c.args.events.now ++ h) =
-    rw e at (c.loop-event.invariant.stands ms h s) in
-    g.met.T.Translator.on_where_it_stands _ _ _ at i
-    ∙ on_exactly_while_pressed ms _ (g.met.T.Translator.keys_where_it_stands _ _ _ at) i k bears
+    headline-shown ms _ (g.met.T.Translator.keys_where_it_stands _ _ _ at)
+    (g.T.Translator.shows_on c.loop-event.console) (g.T.Translator.shows_locked c.loop-event.console)
+    (g.T.Translator.shows_pending c.loop-event.console) (λ i. g.met.T.Translator.on_where_it_stands _ _ _ at i)
+    (λ l. g.met.T.Translator.locked_where_it_stands _ _ _ at l)
+    (g.met.T.Translator.pending_where_it_stands _ _ _ at)
 
 pub returns-clause-repeats_turn_no_steady_lock : goal.returns-clause-repeats_turn_no_steady_lock
 returns-clause-repeats_turn_no_steady_lock g c =
@@ -75,26 +67,6 @@ returns-clause-repeats_turn_no_steady_lock g c =
     g.met.T.Translator.locked_where_it_stands _ _ _ at l ∙ ap (λ x. is_locked_after ms l x) joined
     ∙ repeats-kept ms l (reverse earlier ++ h) repeats steady
     (subst HasKeys joined (g.met.T.Translator.keys_where_it_stands _ _ _ at)) are
-
-pub returns-clause-off_once_quiet : goal.returns-clause-off_once_quiet
-returns-clause-off_once_quiet g c =
-    λ ms h s safe quiet i.
-    let e : take c.loop-event.event-index c.args.events.now ≡ c.args.events.now =
-    take_all _ _ c.loop-event-test.false in
-    let at : g.T.Translator.stands c.loop-event.console ms (reverse c.args.events.now ++ h) =
-    rw e at (c.loop-event.invariant.stands ms h s) in
-    g.met.T.Translator.on_where_it_stands _ _ _ at i
-    ∙ off_once_quiet ms _ safe (g.met.T.Translator.keys_where_it_stands _ _ _ at) quiet i
-
-pub returns-clause-goes_on_as_after_reset : goal.returns-clause-goes_on_as_after_reset
-returns-clause-goes_on_as_after_reset g c =
-    λ ms h s safe quiet p.
-    let e : take c.loop-event.event-index c.args.events.now ≡ c.args.events.now =
-    take_all _ _ c.loop-event-test.false in
-    let at : g.T.Translator.stands c.loop-event.console ms (reverse c.args.events.now ++ h) =
-    rw e at (c.loop-event.invariant.stands ms h s) in
-    goes_on_as_after_reset ms _ safe (g.met.T.Translator.keys_where_it_stands _ _ _ at) quiet
-    (sym (g.met.T.Translator.pending_where_it_stands _ _ _ at) ∙ p)
 
 pub returns-clause-locked_by_fresh_presses : goal.returns-clause-locked_by_fresh_presses
 returns-clause-locked_by_fresh_presses g c =

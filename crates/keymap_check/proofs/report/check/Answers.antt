@@ -14,19 +14,6 @@ returns-clause-findings c = c.check_shown.ensures.findings c.args.map.now refl
 pub returns-clause-promise : goal.returns-clause-promise
 returns-clause-promise c = c.check_shown.ensures.promise c.args.map.now refl
 
-pub returns-clause-exactly_while : goal.returns-clause-exactly_while
-returns-clause-exactly_while c i k e =
-    promise.exactly_while c.modifiers_follow_keys.ensures.exactly_while c.args.map.now i k
-    (throughout-bears c.args.map.now (holding.Mod i) k
-    (sym (reported-bearer c.args.map.now c.check_shown.result (holding.Mod i)
-    (c.check_shown.ensures.value c.args.map.now refl))
-    ∙ e))
-
-pub returns-clause-repeats : goal.returns-clause-repeats
-returns-clause-repeats c l e =
-    promise.repeats c.repeats_turn_no_steady_lock.ensures.one c.args.map.now l
-    ((c.check_shown.ensures.steady c.args.map.now refl l).0 e)
-
 pub returns-clause-fresh_presses : goal.returns-clause-fresh_presses
 returns-clause-fresh_presses c l k e =
     promise.fresh_presses c.locks_count_fresh_presses.ensures c.args.map.now l k

@@ -1,4 +1,6 @@
 use Rattle.keymap_check.proofs.Common.{ap, subst, sym, ◌∙◌, AreFindings, rules}
+use Rattle.keymap_check.specs.Report.{IsAccepted}
+use Rattle.keymap_check.proofs.Promises.{keeps_promise}
 use Rattle.keymap_check.proofs.Reported.{reported-bearer, reported-steady}
 use Rattle.keymap_check.proofs.report.check_shown.Goals as goal
 
@@ -25,6 +27,6 @@ returns-clause-steady g c m shows l =
     )
 
 pub returns-clause-promise : goal.returns-clause-promise
-returns-clause-promise g c m shows e =
-    c.safe_maps_keep_their_promise.ensures m
-    ((c.reports_are_computed.ensures.safe m).0 (ap (λ r. r.findings) (sym (c.make_report.ensures m shows)) ∙ e))
+returns-clause-promise g c m shows =
+    keeps_promise c.headline_holds.ensures m (IsAccepted c.make_report.result)
+    (λ e. (c.reports_are_computed.ensures.safe m).0 (ap (λ r. r.findings) (sym (c.make_report.ensures m shows)) ∙ e))

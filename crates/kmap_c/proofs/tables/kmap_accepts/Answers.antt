@@ -18,7 +18,7 @@ returns-in-None-clause-accepted c =
       read.1,
       read.2,
       (c.in-None.ensures.safe read.0 shows).0 refl,
-      c.in-None.ensures.promise read.0 shows refl,
+      c.safe_maps_keep_their_promise.ensures read.0,
     )
 
 pub returns-in-None-clause-status : goal.returns-in-None-clause-status

@@ -1,15 +1,14 @@
 -- Where comments stand, and which line ends of a text tell where a piece stands.
 use Rattle.keymap_fmt.proofs.Common.{◌≡◌, ℕ, zero, suc, ◌+◌, ◌<◌, ◌==◌, Bool, true, false, List, [], ◌∷◌, ◌++◌}
 use Rattle.keymap_fmt.proofs.Common.{refl, sym, ◌∙◌, ap, arith, append_assoc, is_blank, lower, lowered}
-use Rattle.keymap_fmt.proofs.Common.{Standing, AtTop, Beside, Below, Apart, Code, PieceValue, pieces_after, comment}
+use Rattle.keymap_fmt.proofs.Common.{Standing, AtTop, Beside, Below, Apart, Code, PieceValue, pieces_after, comment, TokenKind}
 use Rattle.keymap_fmt.proofs.Common.{if◌then◌else◌}
 use Rattle.keymap_fmt.proofs.Common.{State, before, after, ending, start, line_end, rendered_from, rendered}
 use Rattle.keymap_fmt.proofs.Reading.{read_blank}
 use Rattle.keymap_fmt.proofs.Separate.{rendered_both}
 use Rattle.keymap_fmt.proofs.Written.{after_at, closed}
-use Rattle.keymap_fmt.specs.Columns.{Written, piece_of}
 use Rattle.keymap_fmt.specs.Formatted.{state_behind}
-use Rattle.keymap_fmt.specs.Pieces.{line_ends}
+use Rattle.keymap_fmt.specs.Pieces.{code, line_ends}
 use Rattle.std.proofs.Common.{All, codes}
 use Rattle.std.specs.Prelude.{cond}
 use Rattle.std.proofs.lemmas.List.Elements.{All-head, All-tail}
@@ -105,36 +104,38 @@ laid_then s (p ∷ ps) qs =
     regroup a b c d e = sym (simp append_assoc)
 
 -- a token, with what stands before it, in the state behind other pieces
-abbrev token_laid : State → Written → List ℕ
-token_laid s t = before s (Code t.kind) t.bytes t.standing ++ t.bytes
+abbrev token_laid : State → TokenKind → List ℕ → Standing → List ℕ
+token_laid s kind word t = before s (Code kind) word t ++ word
 
-token_then : (s : State) (t : Written) (qs : List PieceValue)
-    → rendered_from s (piece_of t ∷ qs) ≡ token_laid s t ++ rendered_from (after s (Code t.kind) t.bytes) qs
+token_then : (s : State) (kind : TokenKind) (word : List ℕ) (t : Standing) (qs : List PieceValue)
+    → rendered_from s (code kind word t ∷ qs)
+    ≡ token_laid s kind word t ++ rendered_from (after s (Code kind) word) qs
 unfolding rendered_from
-token_then s t qs = sym (append_assoc (before s (Code t.kind) t.bytes t.standing) t.bytes _)
+token_then s kind word t qs = sym (append_assoc (before s (Code kind) word t) word _)
 
-line_closed : (s : State) (t : Written) → rendered_from (after s (Code t.kind) t.bytes) [] ≡ codes "\n"
+line_closed : (s : State) (kind : TokenKind) (word : List ℕ)
+    → rendered_from (after s (Code kind) word) [] ≡ codes "\n"
 unfolding rendered_from
-line_closed s t = rw (closed (after s (Code t.kind) t.bytes).column (after_at s (Code t.kind) t.bytes)) refl
+line_closed s kind word = rw (closed (after s (Code kind) word).column (after_at s (Code kind) word)) refl
 
 comment_beside : (s : State) (bytes : List ℕ)
     → rendered_from s (comment bytes Beside ∷ []) ≡ codes "  " ++ (bytes ++ codes "\n")
 unfolding rendered_from before after
 comment_beside s bytes = refl
 
-pub beside_token : (ps : List PieceValue) (token : Written) (bytes : List ℕ) → (line : List ℕ)
-    × (rendered (ps ++ piece_of token ∷ []) ≡ line ++ codes "\n")
-    × (rendered (ps ++ piece_of token ∷ (comment bytes Beside ∷ [])) ≡ line ++ (codes "  " ++ (bytes ++ codes "\n")))
-beside_token ps token bytes =
+pub beside_token : (ps : List PieceValue) (kind : TokenKind) (word : List ℕ) (t : Standing) (bytes : List ℕ)
+    → (line : List ℕ) × (rendered (ps ++ code kind word t ∷ []) ≡ line ++ codes "\n")
+    × (rendered (ps ++ code kind word t ∷ (comment bytes Beside ∷ []))
+    ≡ line ++ (codes "  " ++ (bytes ++ codes "\n")))
+beside_token ps kind word t bytes =
     let s = state_behind start ps in
-    let line = laid_from start ps ++ token_laid s token in
-    let all : (qs : List PieceValue) (text : List ℕ)
-    → rendered_from (after s (Code token.kind) token.bytes) qs ≡ text
-    → rendered (ps ++ piece_of token ∷ qs) ≡ line ++ text =
-    λ qs text e. laid_then start ps (piece_of token ∷ qs)
-    ∙ ap (λ l. laid_from start ps ++ l) (token_then s token qs ∙ ap (λ l. token_laid s token ++ l) e)
-    ∙ sym (append_assoc (laid_from start ps) (token_laid s token) text) in
-    (line, all [] _ (line_closed s token), all (comment bytes Beside ∷ []) _ (comment_beside _ bytes))
+    let line = laid_from start ps ++ token_laid s kind word t in
+    let all : (qs : List PieceValue) (text : List ℕ) → rendered_from (after s (Code kind) word) qs ≡ text
+    → rendered (ps ++ code kind word t ∷ qs) ≡ line ++ text =
+    λ qs text e. laid_then start ps (code kind word t ∷ qs)
+    ∙ ap (λ l. laid_from start ps ++ l) (token_then s kind word t qs ∙ ap (λ l. token_laid s kind word t ++ l) e)
+    ∙ sym (append_assoc (laid_from start ps) (token_laid s kind word t) text) in
+    (line, all [] _ (line_closed s kind word), all (comment bytes Beside ∷ []) _ (comment_beside _ bytes))
 
 -- any other comment, behind the end of the open line
 own_begun : (s : State) (bytes : List ℕ)

@@ -3,7 +3,6 @@ pub mod Leading
 pub mod Reading
 pub mod Texts
 pub mod Written
-pub mod Columns
 pub mod Again
 pub mod Tidy
 pub mod Spelling

@@ -4,6 +4,5 @@ pub mod Formatted
 pub mod Refused
 pub mod Same
 pub mod Lines
-pub mod Columns
 pub mod Inner
 pub mod Types

@@ -1,11 +1,8 @@
 //! Laws of the layout. No function here does anything.
-ghost use Rattle.std.specs.Prelude.{◌≡◌, ℕ, ◌<◌, ◌≤◌, List, [], ◌∷◌, ◌++◌, map, length, All, true, false, codes};
+ghost use Rattle.std.specs.Prelude.{◌≡◌, ℕ, ◌<◌, List, [], ◌∷◌, ◌++◌, map, All, true, false, codes};
 ghost use Rattle.keymap_fmt.specs.Pieces.{PieceValue, pieces, pieces_after, line_ends, code, comment};
 ghost use Rattle.keymap_fmt.specs.Formatted.{formatted, rendered, rendered_from, state_behind};
-ghost use Rattle.keymap_fmt.specs.Columns.{Written, PairWritten, piece_of, places, tokens_of, BeginsPair, empty_line};
-ghost use Rattle.keymap_fmt.specs.Columns.{key_line, aligned_line, accent_lines};
-ghost use Rattle.keymap_fmt.specs.Layout.{is_over, is_open, row_of, start};
-ghost use Rattle.keymap_fmt.specs.declared.layout.Row.TheVariants.{Slot, Accent};
+ghost use Rattle.keymap_fmt.specs.Layout.{is_over, is_open, start};
 ghost use Rattle.keymap_fmt.specs.Types.{Standing as StandingValue, TokenKind as TokenKindValue};
 ghost use Rattle.keymap_fmt.specs.Types.{AtTop, Beside, Below, Apart};
 ghost use Rattle.keymap_text.specs.Lexical.{is_blank};
@@ -50,12 +47,6 @@ pub fn formatting_again_changes_nothing()
     ensures { (text : List ℕ) → formatted (formatted text) ≡ formatted text }
 {}
 
-/// Two texts with the same pieces, each beside the one before it, in the next line or behind an empty line as in the
-/// other, have one layout.
-pub fn same_pieces_have_one_layout()
-    ensures { (text other : List ℕ) → pieces text ≡ pieces other → formatted text ≡ formatted other }
-{}
-
 /// Each line of what is formatted ends with LF and none with a blank. An empty line stands alone, and only between two
 /// others.
 #[tactic(auto, using(crate::proofs::Tidy::tidy_lines))]
@@ -70,32 +61,6 @@ pub fn definitions_are_laid_out_alone()
     ensures { (ps qs : List PieceValue) (kind : TokenKindValue) (bytes : List ℕ) (standing : StandingValue)
         → is_over (state_behind start ps) ≡ true → is_open kind ≡ false
         → rendered (ps ++ code kind bytes standing ∷ qs) ≡ rendered ps ++ rendered (code kind bytes standing ∷ qs) }
-{}
-
-/// The lines of slots have the same columns, counted from 1: where a number has at most three places and each cell at
-/// most six, the number ends in column 5, the cells begin in the columns 9, 16 and so on to 58, and the lock letter in
-/// column 66. In any case a token begins in its column, or one blank behind the token before it where that leaves none
-/// before its column: a wide cell moves those behind it, as far as there is no room, and no others.
-#[tactic(auto, using(crate::proofs::Columns::line_laid, crate::proofs::Columns::line_aligned))]
-pub fn key_lines_have_columns()
-    ensures line { (number : Written) (tokens : List Written) → row_of number.bytes ≡ Slot
-        → is_open number.kind ≡ false → length tokens ≤ 9
-        → rendered (piece_of number ∷ map piece_of tokens) ≡ empty_line number ++ key_line number tokens }
-    ensures aligned { (number : Written) (cells : List Written) (letter : Written) → places number ≤ 3
-        → length cells ≡ 8 → All (λ cell. places cell ≤ 6) cells
-        → key_line number (cells ++ letter ∷ []) ≡ aligned_line number cells letter }
-{}
-
-/// The lines of accents have the same columns too: counted from 1, the name begins in column 3, the character in column
-/// 9, and the pairs of each line in column 14, one blank between their tokens and four in a line. Where the name leaves
-/// no blank before the character's column, the character begins one blank behind it; where the character leaves none
-/// before column 14, the pairs of each line begin one blank behind the place where it ends.
-#[tactic(auto, using(crate::proofs::Columns::accent_laid))]
-pub fn accent_lines_have_columns()
-    ensures { (name own : Written) (pairs : List PairWritten) → row_of name.bytes ≡ Accent
-        → is_open name.kind ≡ false → All BeginsPair pairs
-        → rendered (piece_of name ∷ piece_of own ∷ flat_map tokens_of pairs)
-        ≡ empty_line name ++ accent_lines name own pairs }
 {}
 
 /// Line ends tell where a piece stands, and no other blanks do. Behind a token it stands in its line where no line ends
@@ -118,9 +83,9 @@ pub fn line_ends_tell_where_pieces_stand()
 /// line, in its first column, and an empty line stands before it exactly if one or more stood there. A line ends behind
 /// a comment, and what follows begins the next one.
 pub fn comments_keep_their_place()
-    ensures beside { (ps : List PieceValue) (token : Written) (bytes : List ℕ) → (line : List ℕ)
-        × (rendered (ps ++ piece_of token ∷ []) ≡ line ++ codes "\n")
-        × (rendered (ps ++ piece_of token ∷ (comment bytes Beside ∷ []))
+    ensures beside { (ps : List PieceValue) (kind : TokenKindValue) (word : List ℕ) (standing : StandingValue)
+        (bytes : List ℕ) → (line : List ℕ) × (rendered (ps ++ code kind word standing ∷ []) ≡ line ++ codes "\n")
+        × (rendered (ps ++ code kind word standing ∷ (comment bytes Beside ∷ []))
         ≡ line ++ (codes "  " ++ (bytes ++ codes "\n"))) }
     ensures next_line { (ps : List PieceValue) (bytes : List ℕ)
         → rendered (ps ++ comment bytes Below ∷ []) ≡ rendered ps ++ (bytes ++ codes "\n") }

@@ -7,7 +7,7 @@ pub use Rattle.keymap_lint.specs.Kinds.{is_missing, missing_accent, missing_slot
 pub use Rattle.keymap_lint.specs.Kinds.{zero_accent}
 pub use Rattle.keymap_lint.specs.Spelled.{Spelled, cell_in, cells_of}
 pub use Rattle.keymap_lint.specs.Types.{Diagnostic, Faulty, Placed, Slot}
-unfoldable pub use Rattle.keymap_text.specs.Placed.{last_of}
+unfoldable pub use Rattle.keymap_places.specs.Placed.{last_of}
 pub use Rattle.std.proofs.Common.{Bool, List, None, Option, Some, [], ap, arith, cond, false, get_or, length, map, not}
 pub use Rattle.std.proofs.Common.{refl, rules, subst, sym, take, tests, true, ℕ, ◌&&◌, ◌++◌, ◌+◌, ◌<◌, ◌∙◌, ◌∷◌, ◌≡◌}
 pub use Rattle.std.proofs.Common.{◌≤◌}

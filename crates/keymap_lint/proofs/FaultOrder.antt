@@ -10,7 +10,7 @@ use Rattle.keymap_lint.proofs.FaultPlaces.{begun_inside, next_line, line_behind}
 use Rattle.keymap_lint.specs.Faults.{AreFaults, IsFaultBehind}
 use Rattle.keymap_lint.specs.Promises.{AreInOrder, FaultsAreInOrder}
 use Rattle.keymap_lint.specs.Types.{PlacedFault, Spelled}
-use Rattle.keymap_text.specs.LineOf.{line_end}
+use Rattle.keymap_places.specs.LineOf.{line_end}
 use Rattle.keymap_text.specs.Meaning.{Fault, line}
 
 few_faults : (limit : ℕ) (text : List ℕ) (n : ℕ) (fs : List PlacedFault) → AreFaults limit text n fs

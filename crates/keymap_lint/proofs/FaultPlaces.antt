@@ -14,20 +14,20 @@ use Rattle.keymap_lint.specs.Faults.{AreFaults, IsFaultBehind, IsWanted, start_b
 use Rattle.keymap_lint.specs.Positions.{FaultLiesWithin}
 use Rattle.keymap_lint.specs.Types.{PlacedFault}
 use Rattle.keymap_text.proofs.Lines.{feeds, line_more}
-use Rattle.keymap_text.proofs.LineStarts.{next_start}
-use Rattle.keymap_text.proofs.TokenPlaces.{tokens_are_placed}
+use Rattle.keymap_places.proofs.LineStarts.{next_start}
+use Rattle.keymap_places.proofs.TokenPlaces.{tokens_are_placed}
 use Rattle.keymap_text.proofs.Verdicts.{fault_to, fault_within, not_both}
 use Rattle.keymap_text.specs.Lexical.{TokenValue, leading, stays_on_line, tokens_after}
-use Rattle.keymap_text.specs.LineOf.{IsLineStart, line_end}
+use Rattle.keymap_places.specs.LineOf.{IsLineStart, line_end}
 use Rattle.keymap_text.specs.Meaning.{Fault, Spells, ending_of_tokens, item_of, line, list_of, tokens}
 use Rattle.keymap_text.specs.Rows.{map_of, no_definition}
 use Rattle.keymap_text.specs.declared.fault.TextFault.{TextFault}
-use Rattle.keymap_text.specs.declared.wanted.FaultPlace.{FaultPlace}
-use Rattle.keymap_text.specs.Placed.{IsPlaced, span_of}
+use Rattle.keymap_places.specs.declared.wanted.FaultPlace.{FaultPlace}
+use Rattle.keymap_places.specs.Placed.{IsPlaced, span_of}
 use Rattle.keymap_text.specs.declared.fault.TextFaultKind.{TextFaultKind}
-use Rattle.keymap_text.specs.declared.wanted.DefinitionStart.{DefinitionStart}
+use Rattle.keymap_places.specs.declared.wanted.DefinitionStart.{DefinitionStart}
 use Rattle.keymap_text.specs.Places.{RowPlace, AtDefinition, AtLock, AfterPairs, next}
-use Rattle.keymap_text.specs.Wanted.{definition_by, definition_behind, first_refused}
+use Rattle.keymap_places.specs.Wanted.{definition_by, definition_behind, first_refused}
 
 -- the definition that is told begins within the text
 abbrev pub BeginsWithin : List ℕ → Option DefinitionStart → Type 0

@@ -20,15 +20,15 @@ use Rattle.keymap_text.specs.declared.token.TokenKind.TheVariants.{Word}
 use Rattle.keymap_text.specs.Items.{cell}
 use Rattle.keymap_text.specs.Lexical.{TokenValue}
 use Rattle.keymap_text.specs.Meaning.{item_of, tokens}
-use Rattle.keymap_text.specs.Placed.{Row, IsSpelledBy, IsPlaced, is_same, span_of, places_of}
+use Rattle.keymap_places.specs.Placed.{Row, IsSpelledBy, IsPlaced, is_same, span_of, places_of}
 use Rattle.keymap_text.specs.Rows.{Defines, KeyDefinition}
-use Rattle.keymap_text.proofs.InForce.{slot_in_force}
-use Rattle.keymap_text.proofs.Parts.{slot_tokens}
-use Rattle.keymap_text.proofs.TokenPlaces.{tokens_are_placed}
+use Rattle.keymap_places.proofs.InForce.{slot_in_force}
+use Rattle.keymap_places.proofs.Parts.{slot_tokens}
+use Rattle.keymap_places.proofs.TokenPlaces.{tokens_are_placed}
 use Rattle.keymap_lint.specs.Lists.{spelled_by}
 use Rattle.keymap_lint.specs.Positions.{HasToken, SpellsCell, CellsInForceAreSpelled}
 use Rattle.keymap_lint.specs.Spelled.{offset_at, cells_defined, cells_in_force, is_in_force, is_last, content}
-use Rattle.keymap_text.proofs.Parts as parts
+use Rattle.keymap_places.proofs.Parts as parts
 use Rattle.keymap_lint.proofs.Each.{all_flat}
 
 -- ---- tokens

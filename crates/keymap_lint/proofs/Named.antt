@@ -17,7 +17,7 @@ use Rattle.std.proofs.lemmas.List.Sorted.{list_any-IsPermutation}
 use Rattle.keymap_core.specs.Bearers.{IsCellOf, IsUpperLive}
 use Rattle.keymap_check.specs.Findings.{AreFindings, IsFinding, IsPlaceOf}
 use Rattle.console_core.specs.Headline.{IsSafe}
-use Rattle.keymap_text.proofs.InForce.{no_slot}
+use Rattle.keymap_places.proofs.InForce.{no_slot}
 use Rattle.keymap_text.proofs.Verdicts.{one_map, not_both}
 use Rattle.keymap_lint.specs.Types.{Diagnostics, Spelled as OfSpelled, Holding, Cell, Char, Act, Finding, Defined}
 use Rattle.keymap_lint.specs.Types.{Accent, CellInForce}
@@ -33,7 +33,7 @@ use Rattle.keymap_core.specs.Maps.{cell_at, entry_at, undefined}
 use Rattle.keymap_core.proofs.Below.{gathered-more, gathered-le}
 use Rattle.keymap_core.proofs.BorneTests.{upper-is_live}
 use Rattle.keymap_check.specs.declared.finding.Place.{Place}
-use Rattle.keymap_text.specs.Placed.{is_same}
+use Rattle.keymap_places.specs.Placed.{is_same}
 use Rattle.keymap_lint.specs.Spelled.{cells_in_force}
 use Rattle.keymap_core.specs.declared.action.Action.TheVariants as act
 use Rattle.keymap_core.specs.declared.action.Modifier.TheVariants as modifier

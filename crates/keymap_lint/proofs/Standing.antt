@@ -15,8 +15,8 @@ use Rattle.keymap_lint.specs.Types.{Holding, Cell, Char, Act, Finding, Accent, C
 use Rattle.keymap_core.specs.Actions.{holding_action}
 use Rattle.keymap_core.specs.Maps.{cell_at}
 use Rattle.keymap_check.specs.Findings.{IsFinding}
-use Rattle.keymap_text.specs.Placed.{Row, IsSpelledBy}
-use Rattle.keymap_text.proofs.TokenPlaces.{tokens_are_placed}
+use Rattle.keymap_places.specs.Placed.{Row, IsSpelledBy}
+use Rattle.keymap_places.proofs.TokenPlaces.{tokens_are_placed}
 use Rattle.keymap_lint.specs.Kinds.{character_of, selector_of, dead_key_of, live_accent, is_missing_of}
 use Rattle.keymap_lint.specs.Lists.{spelled_by, all_of, IsLint}
 use Rattle.keymap_lint.specs.Positions.{SpellsCell, StandsWithin, DiagnosticsStandInTheText, IsWithin, LiesWithin}

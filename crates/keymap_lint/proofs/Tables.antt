@@ -1,7 +1,7 @@
 -- The table of the last definitions.
 use Rattle.keymap_lint.proofs.Common.{◌≡◌, ◌<◌, ℕ, List, get_or, ap, ◌∙◌, None, arith, get_or-map-range_with_len, Slot}
 use Rattle.keymap_lint.proofs.Common.{Placed, last_of}
-use Rattle.keymap_text.specs.declared.last.LastDefinitions.{LastDefinitions}
+use Rattle.keymap_places.specs.declared.last.LastDefinitions.{LastDefinitions}
 use Rattle.keymap_lint.specs.Spelled.{HasLast}
 
 pub slot_in : (last : LastDefinitions) (ds : List Placed) → HasLast last ds → (s : ℕ) → s < 256

@@ -3,12 +3,12 @@ use Rattle.std.specs.Prelude.{◌≡◌, ℕ, zero, suc, ◌+◌, List, [], ◌�
 use Rattle.std.specs.Option.{option_map}
 use Rattle.keymap_core.specs.Maps.{MapValue}
 use Rattle.keymap_lint.specs.Types.{PlacedFault}
-use Rattle.keymap_text.specs.declared.wanted.DefinitionStart.{DefinitionStart}
-use Rattle.keymap_text.specs.declared.wanted.FaultPlace.{FaultPlace}
-use Rattle.keymap_text.specs.LineOf.{line_end}
+use Rattle.keymap_places.specs.declared.wanted.DefinitionStart.{DefinitionStart}
+use Rattle.keymap_places.specs.declared.wanted.FaultPlace.{FaultPlace}
+use Rattle.keymap_places.specs.LineOf.{line_end}
 use Rattle.keymap_text.specs.Meaning.{Spells, Fault, line, tokens}
 use Rattle.keymap_text.specs.Places.{AtDefinition}
-use Rattle.keymap_text.specs.Wanted.{fault_place_view, first_refused}
+use Rattle.keymap_places.specs.Wanted.{fault_place_view, first_refused}
 
 -- what is wanted where the text goes wrong, and the definition that has begun
 abbrev pub IsWanted : List ℕ → FaultPlace → Type 0

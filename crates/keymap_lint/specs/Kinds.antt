@@ -13,7 +13,7 @@ use Rattle.keymap_core.specs.declared.action.Lock.TheVariants as lock
 use Rattle.keymap_lint.specs.Types.{Holding, Cell, Char, Act, Defined, Slot, Accent, Placed, Finding, CellInForce}
 use Rattle.keymap_lint.specs.Types.{Diagnostic, Kind}
 use Rattle.keymap_core.specs.declared.action.Holding.TheVariants as holding
-use Rattle.keymap_text.specs.Placed.{last_of}
+use Rattle.keymap_places.specs.Placed.{last_of}
 use Rattle.keymap_core.specs.Below.{first_below, gathered}
 use Rattle.keymap_lint.specs.declared.diagnostic.Kind.TheVariants as kinds
 use Rattle.keymap_lint.specs.Spelled.{Spelled, offset_at, content, is_live, is_in_force}

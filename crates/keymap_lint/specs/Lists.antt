@@ -9,7 +9,7 @@ use Rattle.keymap_lint.specs.Types.{Spelled as IsSpelled}
 use Rattle.console_states.specs.Sticking.{IsAnswer}
 use Rattle.keymap_check.specs.Findings.{AreFindings}
 use Rattle.keymap_text.specs.Meaning.{Spells, tokens}
-use Rattle.keymap_text.specs.Placed.{Row, IsSpelledBy, places_of, span_of}
+use Rattle.keymap_places.specs.Placed.{Row, IsSpelledBy, places_of, span_of}
 use Rattle.keymap_lint.specs.Faults.{AreFaults, fault_limit}
 use Rattle.keymap_lint.specs.Spelled.{Spelled, cells_in_force}
 use Rattle.keymap_lint.specs.Kinds.{no_key, no_shift, mixed_keys, half_defined, defined_again, dead_key}

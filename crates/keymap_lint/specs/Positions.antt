@@ -11,7 +11,7 @@ use Rattle.keymap_core.specs.Numbers.{key_count}
 use Rattle.keymap_text.specs.Items.{cell, character}
 use Rattle.keymap_text.specs.Lexical.{TokenValue}
 use Rattle.keymap_text.specs.Meaning.{Spells, item_of, tokens}
-use Rattle.keymap_text.specs.Placed.{IsSpelledBy, Row, begins, last_of}
+use Rattle.keymap_places.specs.Placed.{IsSpelledBy, Row, begins, last_of}
 use Rattle.keymap_text.specs.Rows.{ArePairs}
 use Rattle.keymap_lint.specs.declared.diagnostic.Kind.TheVariants as kinds
 use Rattle.keymap_lint.specs.Lists.{IsLint, spelled_by}

@@ -6,8 +6,8 @@ use Rattle.keymap_core.specs.Maps.{MapValue, cell_at}
 use Rattle.keymap_lint.specs.Types.{Cell, Span, Defined, Slot, Accent, Placed, CellInForce}
 use Rattle.keymap_core.specs.Borne.{is_upper_live}
 use Rattle.keymap_core.specs.Numbers.{key_count, column_count, slot_limit, accent_limit}
-use Rattle.keymap_text.specs.declared.last.LastDefinitions.{LastDefinitions}
-use Rattle.keymap_text.specs.Placed.{last_of, HasIndex}
+use Rattle.keymap_places.specs.declared.last.LastDefinitions.{LastDefinitions}
+use Rattle.keymap_places.specs.Placed.{last_of, HasIndex}
 
 -- what a text spells: its definitions in order, where each token stands, and the map
 pub record Spelled : Type 0 where

@@ -2,12 +2,13 @@
 ghost use Rattle.std.specs.Prelude.{◌≡◌, ◌++◌, ◌<◌, OnOk, IfOk, map};
 ghost use Rattle.std.specs.List.{range_with_len};
 ghost use Rattle.keymap_core.specs.Numbers.{column_count};
-ghost use Rattle.keymap_text.specs.Placed.{HasIndex};
+ghost use Rattle.keymap_places.specs.Placed.{HasIndex};
 ghost use Rattle.keymap_lint.specs.Spelled.{AreDefined, cell_in, cells_of, cells_in_force as cells_of_text};
 
 use crate::spelled::SpelledText;
 use keymap_core::{COLUMN_COUNT, SLOT_LIMIT};
-use keymap_text::{Defined, Placed, Span};
+use keymap_places::{Defined, Placed};
+use keymap_text::Span;
 use std::alloc::{AllocError, Global};
 
 /// A cell of a definition in force: its slot and column, 0 to 7, and where its token stands.

@@ -1,13 +1,13 @@
 //! Definitions without effect.
 ghost use Rattle.std.specs.Prelude.{◌≡◌, ◌++◌, OnOk};
 ghost use Rattle.std.specs.Option.{option_to_list};
-ghost use Rattle.keymap_text.specs.Placed.{HasIndex};
+ghost use Rattle.keymap_places.specs.Placed.{HasIndex};
 ghost use Rattle.keymap_lint.specs.Spelled.{AreDefined};
 ghost use Rattle.keymap_lint.specs.Kinds.{again as again_of, defined_again};
 
 use crate::diagnostic::{Added, Diagnostic, Found, Kind, add};
 use crate::spelled::SpelledText;
-use keymap_text::Placed;
+use keymap_places::Placed;
 
 /// What is said of a definition that isn't the last one of what it defines.
 fn again(text: &SpelledText, definition: &Placed) -> Option<Diagnostic>

@@ -7,7 +7,8 @@ use arrayvec::ArrayVec;
 use console_states::Sticking;
 use keymap_check::Finding;
 use keymap_core::{ACCENT_LIMIT, Holding, KEY_COUNT, SLOT_LIMIT};
-use keymap_text::{Defined, FaultPlace, TextFault};
+use keymap_places::{Defined, FaultPlace};
+use keymap_text::TextFault;
 use std::alloc::AllocError;
 
 /// How serious a diagnostic is: `kmap lint` fails where a text has an error, and not for warnings.

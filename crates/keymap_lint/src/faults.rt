@@ -1,14 +1,13 @@
 //! The faults of a text: behind the line of a fault it is read on, as a text of its own.
 ghost use Rattle.std.specs.Prelude.{◌≡◌, ◌+◌, ◌≤◌, ◌==◌, count_by, drop, take, length, IfOk, MatchOption};
 ghost use Rattle.keymap_core.specs.Maps.{MapValue};
-ghost use Rattle.keymap_text.specs.LineOf.{line_end as end_of_line};
+ghost use Rattle.keymap_places.specs.LineOf.{line_end as end_of_line};
 ghost use Rattle.keymap_text.specs.Meaning.{Fault, Spells};
 ghost use Rattle.keymap_lint.specs.Faults.{AreFaults, IsFaultBehind, IsWanted, fault_limit, place_behind};
 
 use crate::diagnostic::PlacedFault;
-use keymap_text::{
-    DefinitionStart, FaultPlace, TextError, TextFault, line_end, read_map, wanted_at_fault,
-};
+use keymap_places::{DefinitionStart, FaultPlace, wanted_at_fault};
+use keymap_text::{TextError, TextFault, line_end, read_map};
 use std::alloc::{AllocError, Global};
 
 /// How many faults of a text are told.

@@ -4,7 +4,7 @@ ghost use Rattle.std.specs.Option.{option_to_list};
 ghost use Rattle.keymap_core.specs.Numbers.{key_count};
 ghost use Rattle.keymap_text.specs.Meaning.{Spells};
 ghost use Rattle.keymap_lint.specs.Spelled.{AreDefined};
-ghost use Rattle.keymap_text.specs.Placed.{StandsAmong};
+ghost use Rattle.keymap_places.specs.Placed.{StandsAmong};
 ghost use Rattle.keymap_lint.specs.Kinds.{half_defined as half_defined_of};
 ghost use Rattle.keymap_lint.specs.Lists.{IsSearched, AreOrdered, all_of, spelled_with, AreOf, AreOfSpelled};
 ghost use Rattle.keymap_lint.specs.Lists.{AreOfMap, IsLint};
@@ -23,7 +23,8 @@ use crate::unused_half::unused_slots;
 use console_states::{Sticking, sticking};
 use keymap_check::{Finding, check};
 use keymap_core::KeyMap;
-use keymap_text::{Placed, Span, TextError, definitions, last_definitions, read_map};
+use keymap_places::{Placed, definitions, last_definitions};
+use keymap_text::{Span, TextError, read_map};
 use std::alloc::{AllocError, Global};
 
 /// What the search for sticking modifiers answers, where the check has findings.

@@ -2,7 +2,7 @@
 ghost use Rattle.std.specs.Prelude.{◌≡◌, ◌+◌, ◌<◌};
 ghost use Rattle.keymap_core.specs.Numbers.{accent_limit};
 ghost use Rattle.keymap_core.specs.Borne.{is_upper_live as is_upper_live_of};
-ghost use Rattle.keymap_text.specs.Placed.{last_of, HasIndex};
+ghost use Rattle.keymap_places.specs.Placed.{last_of, HasIndex};
 ghost use Rattle.keymap_lint.specs.Types.{Slot, Accent};
 ghost use Rattle.keymap_lint.specs.Spelled.{HasLast, span_at, offset_at, is_in_force as is_in_force_in};
 ghost use Rattle.keymap_lint.specs.Kinds.{defines as defines_slot, is_defined};
@@ -10,7 +10,8 @@ ghost use Rattle.keymap_lint.specs.Spelled.{content as content_of, is_live as is
 
 use crate::cells::CellInForce;
 use keymap_core::{Cell, KEY_COUNT, KeyMap};
-use keymap_text::{Defined, LastDefinitions, Placed, Span};
+use keymap_places::{Defined, LastDefinitions, Placed};
+use keymap_text::Span;
 use std::marker::Model;
 
 /// A text that spells a map: its definitions, the last ones among them, where its tokens stand, and the map.

@@ -1,7 +1,7 @@
 //! The slots from 128 on that no key selects.
 ghost use Rattle.std.specs.Prelude.{◌≡◌, find, option_copied};
 ghost use Rattle.std.specs.Option.{option_to_list};
-ghost use Rattle.keymap_text.specs.Placed.{HasIndex};
+ghost use Rattle.keymap_places.specs.Placed.{HasIndex};
 ghost use Rattle.keymap_lint.specs.Spelled.{AreDefined};
 ghost use Rattle.keymap_lint.specs.Kinds.{is_above_in_force as is_above_in_force_in, unused_half as unused_half_of};
 ghost use Rattle.keymap_lint.specs.Kinds.{unused_slots as unused_slots_of, slots_above as slots_above_of};
@@ -10,7 +10,7 @@ use crate::diagnostic::{Diagnostic, Kind};
 use crate::spelled::SpelledText;
 use arrayvec::ArrayVec;
 use keymap_core::{KEY_COUNT, push_if};
-use keymap_text::{Defined, Placed};
+use keymap_places::{Defined, Placed};
 
 /// Whether this is a definition in force of a slot from 128 on.
 fn is_above_in_force(text: &SpelledText, definition: &Placed) -> bool

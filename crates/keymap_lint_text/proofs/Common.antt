@@ -16,7 +16,7 @@ pub use Rattle.keymap_lint_text.specs.Shown.{shown_char}
 unfoldable pub use Rattle.keymap_lint_text.specs.Shown.{shown_chars, shown_name}
 pub use Rattle.keymap_lint_text.specs.Whole.{answer, beginning, judged, of_diagnostic, of_fault}
 pub use Rattle.keymap_text.specs.FaultNames.{fault_name}
-pub use Rattle.keymap_text.specs.LineOf.{before_in_line}
+pub use Rattle.keymap_places.specs.LineOf.{before_in_line}
 pub use Rattle.keymap_text.specs.Meaning.{line}
 pub use Rattle.keymap_text.specs.declared.fault.TextFaultKind.{TextFaultKind}
 unfoldable pub use Rattle.messages.specs.Filled.{filled}

@@ -16,8 +16,8 @@ use Rattle.console_states.specs.declared.outcome.Sticking.TheVariants.{Sticks, N
 use Rattle.keymap_lint.specs.declared.diagnostic.Lint.{Lint}
 use Rattle.keymap_lint.specs.declared.diagnostic.PlacedFault.{PlacedFault}
 use Rattle.keymap_lint.specs.declared.diagnostic.Lint.TheVariants.{Faulty, Spelled}
-use Rattle.keymap_text.specs.LineOf.{rest_of_line}
-use Rattle.keymap_text.specs.declared.wanted.DefinitionStart.{DefinitionStart}
+use Rattle.keymap_places.specs.LineOf.{rest_of_line}
+use Rattle.keymap_places.specs.declared.wanted.DefinitionStart.{DefinitionStart}
 use Rattle.keymap_lint_text.specs.Heads.{below}
 use Rattle.keymap_lint_text.specs.Promises.{is_indented, is_flush, HasHeads, is_judged, diagnostics}
 use Rattle.keymap_lint_text.specs.Promises.{place_or_beginning}

@@ -14,14 +14,14 @@ use Rattle.keymap_core.specs.declared.action.Action.TheVariants as action
 use Rattle.keymap_core.specs.declared.action.Lock.{Lock}
 use Rattle.keymap_core.specs.declared.action.Lock.TheVariants as locks
 use Rattle.keymap_check.specs.declared.finding.Finding.{Finding}
-use Rattle.keymap_text.specs.declared.placed.Defined.{Defined}
-use Rattle.keymap_text.specs.declared.placed.Defined.TheVariants.{Slot, Accent}
+use Rattle.keymap_places.specs.declared.placed.Defined.{Defined}
+use Rattle.keymap_places.specs.declared.placed.Defined.TheVariants.{Slot, Accent}
 use Rattle.keymap_text.specs.declared.fault.TextFaultKind.{TextFaultKind}
 use Rattle.keymap_text.specs.declared.fault.TextFaultKind.TheVariants as faults
-use Rattle.keymap_text.specs.declared.wanted.Wanted.{Wanted}
-use Rattle.keymap_text.specs.declared.wanted.Wanted.TheVariants as wants
-use Rattle.keymap_text.specs.declared.wanted.DefinitionStart.{DefinitionStart}
-use Rattle.keymap_text.specs.declared.wanted.FaultPlace.{FaultPlace}
+use Rattle.keymap_places.specs.declared.wanted.Wanted.{Wanted}
+use Rattle.keymap_places.specs.declared.wanted.Wanted.TheVariants as wants
+use Rattle.keymap_places.specs.declared.wanted.DefinitionStart.{DefinitionStart}
+use Rattle.keymap_places.specs.declared.wanted.FaultPlace.{FaultPlace}
 use Rattle.keymap_lint.specs.declared.diagnostic.Diagnostics.{Diagnostics}
 use Rattle.keymap_lint.specs.declared.diagnostic.Kind.{Kind}
 use Rattle.keymap_lint.specs.declared.diagnostic.Kind.TheVariants as kinds

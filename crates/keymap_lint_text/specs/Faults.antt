@@ -8,10 +8,10 @@ use Rattle.bstr.specs.Utf8.{decoded}
 use Rattle.keymap_core.specs.CodePoints.{code_digits}
 use Rattle.keymap_text.specs.declared.fault.TextFaultKind.{TextFaultKind}
 use Rattle.keymap_text.specs.declared.fault.TextFaultKind.TheVariants as faults
-use Rattle.keymap_text.specs.declared.wanted.Wanted.{Wanted}
-use Rattle.keymap_text.specs.declared.wanted.Wanted.TheVariants as wants
-use Rattle.keymap_text.specs.declared.wanted.DefinitionStart.{DefinitionStart}
-use Rattle.keymap_text.specs.declared.wanted.FaultPlace.{FaultPlace}
+use Rattle.keymap_places.specs.declared.wanted.Wanted.{Wanted}
+use Rattle.keymap_places.specs.declared.wanted.Wanted.TheVariants as wants
+use Rattle.keymap_places.specs.declared.wanted.DefinitionStart.{DefinitionStart}
+use Rattle.keymap_places.specs.declared.wanted.FaultPlace.{FaultPlace}
 use Rattle.keymap_text.specs.declared.words.Meaning.{Meaning}
 use Rattle.keymap_text.specs.declared.words.Meaning.TheVariants.{Number, Char, Act, Combined, OutOfRange, Letter}
 use Rattle.keymap_text.specs.declared.words.Meaning.TheVariants.{Unknown}

@@ -3,7 +3,7 @@
 use Rattle.std.specs.Prelude.{ℕ, ◌+◌, List, [], ◌∷◌, ◌++◌, codes, decimal, length, Option, Some, None}
 use Rattle.std.specs.List.{flat_map}
 use Rattle.keymap_lint.specs.declared.diagnostic.Severity.{Severity}
-use Rattle.keymap_text.specs.LineOf.{before_in_line, rest_of_line}
+use Rattle.keymap_places.specs.LineOf.{before_in_line, rest_of_line}
 use Rattle.keymap_text.specs.Meaning.{line}
 use Rattle.keymap_lint_text.specs.Excerpt.{excerpt}
 use Rattle.keymap_lint_text.specs.Names.{severity_text}

@@ -6,7 +6,7 @@ use Rattle.keymap_core.specs.declared.action.Modifier.{Modifier}
 use Rattle.keymap_core.specs.declared.action.Holding.TheVariants as holding
 use Rattle.console_core.specs.declared.event.Event.{Event}
 use Rattle.console_core.specs.declared.event.Event.TheVariants.{Press, Release, Reset, Load}
-use Rattle.keymap_text.specs.declared.placed.Defined.{Defined}
+use Rattle.keymap_places.specs.declared.placed.Defined.{Defined}
 use Rattle.messages.specs.Filled.{filled}
 use Rattle.keymap_lint_text.specs.Told.{defined_text}
 

@@ -4,8 +4,8 @@ use Rattle.std.specs.List.{list_any}
 use Rattle.keymap_core.specs.Actions.{holding_action, name_of}
 use Rattle.keymap_core.specs.declared.action.Holding.{Holding}
 use Rattle.keymap_check.specs.declared.finding.Finding.{Finding}
-use Rattle.keymap_text.specs.declared.placed.Defined.{Defined}
-use Rattle.keymap_text.specs.declared.placed.Defined.TheVariants.{Slot, Accent}
+use Rattle.keymap_places.specs.declared.placed.Defined.{Defined}
+use Rattle.keymap_places.specs.declared.placed.Defined.TheVariants.{Slot, Accent}
 use Rattle.keymap_text.specs.Meaning.{line}
 use Rattle.keymap_lint.specs.declared.diagnostic.Kind.{Kind}
 use Rattle.keymap_lint.specs.declared.diagnostic.Kind.TheVariants as kinds

@@ -1,11 +1,11 @@
 -- What the diagnostics tell of: tokens, columns, definitions, and what is wanted.
 use Rattle.std.specs.Prelude.{ℕ, List, [], ◌∷◌, codes, decimal, take, slice_index_or, encode_utf8, Option, Some, None}
 use Rattle.std.specs.List.{flat_map}
-use Rattle.keymap_text.specs.declared.placed.Defined.{Defined}
-use Rattle.keymap_text.specs.declared.placed.Defined.TheVariants.{Slot, Accent}
-use Rattle.keymap_text.specs.declared.wanted.Wanted.{Wanted}
-use Rattle.keymap_text.specs.declared.wanted.Wanted.TheVariants as wants
-use Rattle.keymap_text.specs.declared.wanted.DefinitionStart.{DefinitionStart}
+use Rattle.keymap_places.specs.declared.placed.Defined.{Defined}
+use Rattle.keymap_places.specs.declared.placed.Defined.TheVariants.{Slot, Accent}
+use Rattle.keymap_places.specs.declared.wanted.Wanted.{Wanted}
+use Rattle.keymap_places.specs.declared.wanted.Wanted.TheVariants as wants
+use Rattle.keymap_places.specs.declared.wanted.DefinitionStart.{DefinitionStart}
 use Rattle.keymap_text.specs.Printed.{character_text}
 use Rattle.messages.specs.Filled.{filled}
 use Rattle.keymap_lint_text.specs.Lists.{accent_name}

@@ -13,7 +13,7 @@ use Rattle.keymap_lint.specs.declared.diagnostic.Severity.TheVariants.{Error}
 use Rattle.keymap_lint.specs.Severities.{severity_of, never_sticks}
 use Rattle.keymap_text.specs.declared.fault.TextFaultKind.{TextFaultKind}
 use Rattle.keymap_text.specs.declared.fault.TextFaultKind.TheVariants as faults
-use Rattle.keymap_text.specs.declared.wanted.DefinitionStart.{DefinitionStart}
+use Rattle.keymap_places.specs.declared.wanted.DefinitionStart.{DefinitionStart}
 use Rattle.keymap_text.specs.FaultNames.{fault_name}
 use Rattle.keymap_text.specs.Meaning.{line}
 use Rattle.keymap_lint_text.specs.Faults.{fault_text}

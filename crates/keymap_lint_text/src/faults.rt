@@ -15,9 +15,8 @@ use crate::words::{
     UNNAMED_BYTE, UTF16, ZERO_BASE,
 };
 use keymap_core::{code_digits, hex_digit};
-use keymap_text::{
-    DefinitionStart, FaultPlace, Meaning, TextFaultKind, Wanted, next_token, word_len, word_meaning,
-};
+use keymap_places::{DefinitionStart, FaultPlace, Wanted};
+use keymap_text::{Meaning, TextFaultKind, next_token, word_len, word_meaning};
 use messages::{either, filled, number};
 use std::alloc::{AllocError, Global};
 

@@ -8,7 +8,7 @@ use crate::told::defined;
 use crate::words::{BEGINS, ONE_STAYS, SOME_STAY, STICKS, UNDECIDED};
 use console_core::Event;
 use keymap_core::{Holding, Modifier};
-use keymap_text::Defined;
+use keymap_places::Defined;
 use messages::{either, filled, number};
 use std::alloc::{AllocError, Global};
 

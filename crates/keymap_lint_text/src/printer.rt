@@ -16,7 +16,8 @@ use crate::said::{is_noted, kind_message, kind_text, severity_text};
 use crate::words::{AT_NO_PLACE, AT_PLACE, DIAGNOSTIC, NOTE};
 use console_states::Sticking;
 use keymap_lint::{Diagnostic, Diagnostics, PlacedFault, Severity};
-use keymap_text::{DefinitionStart, TextFaultKind, TextLines};
+use keymap_places::{DefinitionStart, TextLines};
+use keymap_text::TextFaultKind;
 use messages::{fill, filled, number};
 use std::alloc::{AllocError, Global};
 

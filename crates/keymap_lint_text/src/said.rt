@@ -16,7 +16,7 @@ use crate::words::{
 use keymap_check::Finding;
 use keymap_core::Holding;
 use keymap_lint::{Diagnostic, Diagnostics, Kind, Severity};
-use keymap_text::{Defined, TextLines};
+use keymap_places::{Defined, TextLines};
 use messages::{either, filled, number};
 use std::alloc::{AllocError, Global};
 

@@ -10,7 +10,8 @@ use crate::words::{
     A_BASE, A_CELL, A_CHARACTER, A_DEFINITION, A_LOCK, A_PAIR, A_PAIR_END, A_RESULT, COLUMN,
     COLUMN_NAMES, SLOT,
 };
-use keymap_text::{Defined, DefinitionStart, Wanted, character_text};
+use keymap_places::{Defined, DefinitionStart, Wanted};
+use keymap_text::character_text;
 use messages::{filled, number};
 use std::alloc::{AllocError, Global};
 

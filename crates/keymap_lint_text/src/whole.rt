@@ -7,7 +7,7 @@ ghost use Rattle.keymap_lint_text.specs.Whole.{IsLintText, remarks};
 use crate::printer::Printer;
 use crate::shown::shown_name;
 use keymap_lint::Lint;
-use keymap_text::TextLines;
+use keymap_places::TextLines;
 use std::alloc::{AllocError, Global};
 
 /// What is printed of a text under these bytes in place of the file's name.

@@ -2,7 +2,7 @@
 use Rattle.keymap_text.proofs.Common.{◌≡◌, ℕ, zero, suc, ◌+◌, ◌≤◌, ◌<◌, List, [], ◌∷◌, ◌++◌, length, take, refl, sym}
 use Rattle.keymap_text.proofs.Common.{◌∙◌, arith, Option, Result, Ok, Err, length-append, append-nil, IfErr, MapValue}
 use Rattle.keymap_text.proofs.Common.{TextError, TextFault, verdict, judge, Spelled, tokens_after, empty_map, at_end}
-use Rattle.keymap_text.proofs.Common.{Concludes, StandsAfter, FedAfter, limit, HasNoEarlyFault, FailsInside}
+use Rattle.keymap_text.proofs.Common.{Reads, ◌≢◌, StandsAfter, FedAfter, limit, HasNoEarlyFault, FailsInside}
 use Rattle.keymap_text.proofs.Common.{TextGoesPast, ReadsMap, StopsAtOnce, length-take-le, none-some}
 use Rattle.std.specs.Io.KnownBytes.{Consumes, IsAtEnd, Keeps}
 use Rattle.std.proofs.KnownBytes.{Consumes-trans, Consumes-kept, Consumes-nil}
@@ -47,7 +47,8 @@ fed_early r' buffer fed h l few k = grind (arith, Consumes-trans, length-append,
 -- the device has no more bytes, so the text is whole
 pub fed_whole : {a b : Option (List ℕ)} {r : Progress} {taken n : ℕ} → (c : Option (List ℕ)) → (buffer : List ℕ)
     → (result : Result MapValue TextError) → (fed : IsFed a b r taken) → taken ≤ limit → n ≡ 0
-    → Consumes b c (take n buffer) → IsAtEnd c → Concludes result fed.text → ReadsMap a c result
+    → Consumes b c (take n buffer) → IsAtEnd c
+    → Reads result fed.text × (result ≢ Err errors.Memory) → ReadsMap a c result
 fed_whole c buffer result fed few z h e k = grind (arith, Consumes-trans, append-nil)
 
 -- the device fails after these bytes

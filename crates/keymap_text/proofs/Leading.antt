@@ -4,8 +4,7 @@ use Rattle.keymap_text.proofs.Common.{◌++◌, length, take, drop, get_or, sym,
 use Rattle.keymap_text.proofs.Common.{drop-cons, append-nil, length-take-le, get_or-take, drop_all, prefix_len_is}
 use Rattle.keymap_text.proofs.Common.{prefix_len-drop_yes, prefix_len-drop_no, prefix_len-drop_all}
 use Rattle.keymap_text.proofs.Common.{prefix_len-le-length, prefix_len_passes, prefix_len_stops, Some, None}
-use Rattle.keymap_text.proofs.Common.{IsFirstByte, is_byte, leading, stays_on_line, is_space, is_word}
-use Rattle.keymap_text.proofs.Common.{nat_tests}
+use Rattle.keymap_text.proofs.Common.{IsFirstByte, is_byte, leading, stays_on_line, is_space}
 use Rattle.std.proofs.lemmas.List.Folds.{prefix_len-append}
 
 -- the number, where the first byte passes and where it does not

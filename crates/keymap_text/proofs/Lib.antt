@@ -14,7 +14,6 @@ pub mod Row
 pub mod RowTaken
 pub mod Verdicts
 pub mod Lines
-pub mod LineStarts
 pub mod Standing
 pub mod Lexed
 pub mod PrintedLines
@@ -33,13 +32,6 @@ pub mod Fronts
 pub mod Tails
 pub mod Classes
 pub mod Vectors
-pub mod Placing
 pub mod Alone
-pub mod RowPlaces
-pub mod Parts
-pub mod LastOf
-pub mod InForce
-pub mod WantedPlace
 pub mod OneRow
-pub mod TokenPlaces
 pub mod Told

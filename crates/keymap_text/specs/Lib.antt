@@ -9,9 +9,6 @@ pub mod Rows
 pub mod Places
 pub mod Meaning
 pub mod ReadInto
-pub mod Placed
-pub mod LineOf
-pub mod Wanted
 pub mod Progress
 pub mod Standing
 pub mod Sources

@@ -99,14 +99,7 @@ abbrev pub Means : Result MapValue TextFault → List ℕ → Type 0
 Means (Ok m) text = Spells text m
 Means (Err f) text = Fault text f
 
--- with the fault as an error of reading
-abbrev pub Concludes : Result MapValue TextError → List ℕ → Type 0
-Concludes (Ok m) text = Spells text m
-Concludes (Err errors.Memory) text = ⊥
-Concludes (Err (errors.Read f)) text = ⊥
-Concludes (Err (errors.Fault f)) text = Fault text f
-
--- where the map may have been refused its memory
+-- with the fault as an error of reading, where the map may have been refused its memory
 abbrev pub Reads : Result MapValue TextError → List ℕ → Type 0
 Reads (Ok m) text = Spells text m
 Reads (Err errors.Memory) text = ⊤

@@ -8,9 +8,6 @@ pub use Rattle.keymap_text.specs.declared.fault.TextFault.{TextFault}
 pub use Rattle.keymap_text.specs.declared.fault.TextFaultKind.{TextFaultKind}
 pub use Rattle.keymap_text.specs.declared.fault.TextFaultKind.TheVariants.{BadByte, BadWord, EndInside, BadLiteral}
 pub use Rattle.keymap_text.specs.declared.names.Name.{Name}
-pub use Rattle.keymap_text.specs.declared.placed.Defined.{Defined}
-pub use Rattle.keymap_text.specs.declared.placed.Defined.TheVariants.{Slot, Accent}
-pub use Rattle.keymap_text.specs.declared.placed.Placed.{Placed}
 pub use Rattle.keymap_text.specs.declared.token.Span.{Span}
 pub use Rattle.keymap_text.specs.declared.token.Token.{Token}
 pub use Rattle.keymap_text.specs.declared.token.TokenKind.{TokenKind}

@@ -1,20 +1,15 @@
 -- What a word means.
-use Rattle.std.specs.Prelude.{ℕ, ◌+◌, ◌*◌, Bool, if◌then◌else◌, not, ◌==◌, ◌&&◌, nat_lt, nat_le, List, [], ◌∷◌, ◌++◌}
+use Rattle.std.specs.Prelude.{ℕ, ◌+◌, ◌*◌, Bool, if◌then◌else◌, ◌&&◌, nat_lt, nat_le, List, [], ◌∷◌, ◌++◌}
 use Rattle.std.specs.Prelude.{length, take, drop, map, fold, Option, Some, None, codes, bytes_eq}
 use Rattle.std.specs.List.{list_all}
 use Rattle.std.specs.Char.{to_ascii_lowercase, digit_value}
-use Rattle.keymap_text.specs.Lexical.{leading}
 use Rattle.keymap_core.specs.Names.{named_of}
-use Rattle.keymap_core.specs.Numbers.{accent_limit}
 use Rattle.keymap_core.specs.declared.named.Named.{Named}
 use Rattle.keymap_core.specs.declared.named.Named.TheVariants as n
-use Rattle.keymap_core.specs.declared.action.Action.TheVariants as actions
 use Rattle.keymap_core.specs.declared.entry.LockFlag.TheVariants as flags
-use Rattle.keymap_text.specs.Types.{TokenKind, Name, Meaning, Number, Char, Act, Combined, OutOfRange, Letter, Unknown}
+use Rattle.keymap_text.specs.Types.{TokenKind, Meaning, Number, Char, Act, Combined, OutOfRange, Letter, Unknown}
 use Rattle.keymap_text.specs.Types.{Item, Open, Close, Value}
 use Rattle.keymap_text.specs.declared.token.TokenKind.TheVariants as kinds
-use Rattle.keymap_text.specs.declared.names.Sense.{Sense}
-use Rattle.keymap_text.specs.declared.names.Sense.TheVariants as senses
 
 -- names are one without regard to ASCII case
 abbrev pub same_name : List ℕ → List ℕ → Bool
@@ -46,41 +41,6 @@ table = characters_from 0 control_names ++ more_names
 unfoldable pub named : List (List ℕ × Meaning) → List ℕ → Option Meaning
 named [] w = None
 named (entry ∷ entries) w = if same_name entry.0 w then Some entry.1 else named entries w
-
--- no blank
-abbrev pub is_letter : ℕ → Bool
-is_letter c = not (c == 32)
-
--- a name without the blanks that fill it
-abbrev pub letters : List ℕ → List ℕ
-letters name = take (leading is_letter name) name
-
--- what a sense of the table of names means
-abbrev pub sense_meaning : Sense → Meaning
-sense_meaning (senses.Char c) = Char c
-sense_meaning (senses.Letter f) = Letter f
-sense_meaning (senses.Mod m) = Act (actions.Mod m)
-sense_meaning (senses.Lock l) = Act (actions.Lock l)
-sense_meaning (senses.DeadKey n) = if nat_lt n accent_limit then Act (actions.DeadKey n) else Unknown
-sense_meaning senses.Nop = Act actions.Nop
-sense_meaning senses.BackTab = Act actions.BackTab
-sense_meaning senses.NextScreen = Act actions.NextScreen
-sense_meaning senses.PreviousScreen = Act actions.PreviousScreen
-sense_meaning senses.Boot = Act actions.Boot
-sense_meaning senses.Debug = Act actions.Debug
-sense_meaning senses.Suspend = Act actions.Suspend
-sense_meaning senses.Saver = Act actions.Saver
-sense_meaning senses.Standby = Act actions.Standby
-sense_meaning senses.Panic = Act actions.Panic
-sense_meaning senses.Halt = Act actions.Halt
-sense_meaning senses.PowerDown = Act actions.PowerDown
-sense_meaning senses.Paste = Act actions.Paste
-
--- as `named` tells, of the names as the code has them
-unfoldable pub meaning_by_names : List Name → List ℕ → Option Meaning
-meaning_by_names [] w = None
-meaning_by_names (name ∷ names) w =
-    if same_name (letters name.0) w then Some (sense_meaning name.1) else meaning_by_names names w
 
 abbrev pub is_digit : ℕ → ℕ → Bool
 is_digit base c = nat_lt (digit_value c) base

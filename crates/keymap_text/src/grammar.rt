@@ -35,7 +35,7 @@ pub(crate) struct Grammar {
 }
 
 /// The fault of a token where it is not wanted.
-pub(crate) fn refusal(item: &Item) -> TextFaultKind
+fn refusal(item: &Item) -> TextFaultKind
     ensures { result ≡ items.refusal item.now }
 {
     match item {
@@ -63,8 +63,9 @@ fn scalar_of(n: u128) -> Result<char, TextFaultKind>
     }
 }
 
+/// The character that a token stands for, where one is wanted.
 #[inline(always)]
-fn character_of(item: &Item) -> Result<char, TextFaultKind>
+pub fn character_of(item: &Item) -> Result<char, TextFaultKind>
     ensures { result ≡ items.character item.now }
 {
     match item {
@@ -98,7 +99,7 @@ fn lock_of(item: &Item) -> Result<LockFlag, TextFaultKind>
 }
 
 /// The index of the accent that an action names.
-pub(crate) fn accent_index(action: &Action) -> Option<u8>
+fn accent_index(action: &Action) -> Option<u8>
     ensures value { result ≡ items.accent_index action.now }
     ensures bound { IfSome result (λ index. index < accent_limit) }
 {
@@ -109,7 +110,7 @@ pub(crate) fn accent_index(action: &Action) -> Option<u8>
 }
 
 /// Where the first token of a definition leads.
-pub(crate) fn first_place(item: &Item) -> Result<Place, TextFaultKind>
+fn first_place(item: &Item) -> Result<Place, TextFaultKind>
     ensures { Leads result (spec.first_of item.now) }
 {
     match item {

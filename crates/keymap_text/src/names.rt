@@ -4,7 +4,8 @@ ghost use Rattle.std.specs.Prelude.{◌≡◌, ◌==◌, ◌⊎◌, ◌≤◌, �
 ghost use Rattle.std.specs.Prelude.{ℕ, ◌+◌, ◌*◌, ◌/◌, ◌%◌, None, IsSome, slice_index, slice_index_or};
 ghost use Rattle.std.specs.Char.{to_ascii_lowercase};
 ghost use Rattle.keymap_text.specs.Lexical.{leading, is_word};
-ghost use Rattle.keymap_text.specs.Words.{meaning, is_letter, letters, same_name, sense_meaning, meaning_by_names};
+ghost use Rattle.keymap_text.specs.Words.{meaning, same_name};
+ghost use Rattle.keymap_text.specs.Inner.Keys.{is_letter, letters, meaning_by_names, sense_meaning};
 ghost use Rattle.keymap_text.specs.Words.{named, table};
 ghost use Rattle.keymap_text.specs.Inner.Keys.{pack, KeyMeans, IsTrueName, ArePlaced, name_key};
 ghost use Rattle.keymap_text.specs.Printed as printed;

@@ -1,6 +1,6 @@
 //! Reading a text, whole or in pieces, as users see it. It answers the keymap or the fault of the whole text.
-ghost use Rattle.std.specs.Prelude.{◌≡◌, ℕ, ◌+◌, ◌<◌, ◌^◌, ◌++◌, [], List, IfOk, length, MatchResult, Some, Err};
-ghost use Rattle.keymap_text.specs.Meaning.{Means, Concludes, Reads};
+ghost use Rattle.std.specs.Prelude.{◌≡◌, ℕ, ◌+◌, ◌<◌, ◌^◌, ◌++◌, ◌≢◌, [], List, IfOk, length, MatchResult, Some, Err};
+ghost use Rattle.keymap_text.specs.Meaning.{Means, Reads};
 ghost use Rattle.keymap_text.specs.Standing.{StandsAfter, FedAfter};
 ghost use Rattle.keymap_text.specs.Types.{TextFault as TextFaultValue};
 
@@ -89,7 +89,7 @@ impl MapReader {
 
 /// The end of a text, its fault as an error.
 pub(crate) fn conclude(reader: MapReader) -> Result<KeyMap, TextError>
-    ensures { (b : List ℕ) → StandsAfter reader b → Concludes result b }
+    ensures { (b : List ℕ) → StandsAfter reader b → Reads result b × (result ≢ Err TextError.Memory) }
 {
     match reader.finish() {
         Ok(map) => Ok(map),

@@ -27,7 +27,7 @@ pub enum Meaning {
 
 /// What a token stands for in a definition.
 #[derive(Clone, Copy)]
-pub(crate) enum Item {
+pub enum Item {
     Open,
     Close,
     Value(Meaning),
@@ -174,8 +174,9 @@ pub(crate) fn three_digit_number(rest: &[u8]) -> Option<u64>
     Some((first as u64 * 10 + second as u64) * 10 + last as u64)
 }
 
+/// What a token stands for, by its kind and its bytes.
 #[inline(never)]
-pub(crate) fn item_of(kind: TokenKind, bytes: &[u8]) -> Item
+pub fn item_of(kind: TokenKind, bytes: &[u8]) -> Item
     requires { kind ≡ Word → length bytes.now ≤ 32 }
     ensures { result ≡ item kind bytes.now }
 {

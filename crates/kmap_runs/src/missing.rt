@@ -14,7 +14,7 @@ use crate::words::{AT_PLACE, SHOWN};
 use console_scripts::Typist;
 use keymap_core::{KeyMap, code_text, is_unseen};
 use keymap_lint_text::shown_name;
-use keymap_text::TextLines;
+use keymap_places::TextLines;
 use messages::{fill, filled, number};
 use play_core::TypeError;
 use std::alloc::{AllocError, Global};

@@ -1,12 +1,13 @@
-//! The calls of keymap_core, keymap_text and keymap_tables.
+//! The calls of keymap_core, keymap_text, keymap_places and keymap_tables.
 use crate::calls::devices::{mark, reader_of};
 use crate::calls::inputs::{Call, FAULTY, Lent, TEXT, script};
 use crate::calls::outcome::{Outcome, ended, ended_keeping, ended_untouched, is_text};
 use keymap_core::{KeyMap, Write, read_up_to};
+use keymap_places::{TextLines, definitions};
 use keymap_tables::{
     NARROW_FILE, WIDE_FILE, read_narrow, read_narrow_from, read_tables, read_tables_from,
 };
-use keymap_text::{MapReader, TextLines, definitions, read_from, read_map};
+use keymap_text::{MapReader, read_from, read_map};
 use std::alloc::Global;
 
 /// Makes a call on a keymap or a text. There is none where no such call has the name.

@@ -1,5 +1,5 @@
 use Rattle.keymap_lint.proofs.Common.{◌≡◌, ◌∙◌}
-use Rattle.keymap_text.specs.Placed.{places_of}
+use Rattle.keymap_places.specs.Placed.{places_of}
 use Rattle.keymap_lint.proofs.lint.lint_map.Goals as goal
 
 pub returns : goal.returns

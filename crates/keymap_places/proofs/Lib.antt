@@ -1,0 +1,10 @@
+pub mod Common
+pub mod Placing
+pub mod TokenPlaces
+pub mod LineStarts
+pub mod Parts
+pub mod RowPlaces
+pub mod OneRow
+pub mod InForce
+pub mod LastOf
+pub mod WantedPlace

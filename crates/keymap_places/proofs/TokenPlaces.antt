@@ -1,0 +1,57 @@
+-- The bytes of a token are those of the text at its place.
+use Rattle.keymap_places.proofs.Common.{◌≡◌, ℕ, zero, suc, ◌+◌, ◌≤◌, List, [], ◌∷◌, length, take, drop, refl, sym, ◌∙◌}
+use Rattle.keymap_places.proofs.Common.{ap, subst, arith, All, length-take-le, TokenKind, Front, Skipped, rules}
+use Rattle.keymap_places.proofs.Common.{Found, Refused, Unfinished, front_of, tokens_after, TokenValue, Tokens}
+use Rattle.keymap_places.proofs.Common.{token_before, list_of, tokens, IsPlaced}
+use Rattle.std.proofs.lemmas.List.Elements.{All-nil, All-cons, All-weaker}
+use Rattle.keymap_text.proofs.Splitting.{split_one, split_skipped, split_found, split_refused, split_nil}
+use Rattle.keymap_text.proofs.Splitting.{split_unfinished}
+use Rattle.keymap_text.proofs.Faults.{list_ends, list_stops, list_then}
+use Rattle.keymap_text.proofs.InFront.{front_fits}
+
+-- the token is one of these bytes, which stand at q
+record Among (q : ℕ) (bytes : List ℕ) (t : TokenValue) : Type 0 where
+  skipped : ℕ
+  start : t.start ≡ q + skipped
+  within : skipped + length t.bytes ≤ length bytes
+  there : take (length t.bytes) (drop skipped bytes) ≡ t.bytes
+
+one_more : (q c : ℕ) (bytes : List ℕ) (t : TokenValue) → Among (q + 1) bytes t → Among q (c ∷ bytes) t
+one_more q c bytes t h = record {
+  skipped = suc h.skipped;
+  start = omega (arith, h.start);
+  within = omega (arith, h.within);
+  there = h.there;
+}
+
+in_front : (q c n : ℕ) (kind : TokenKind) (bytes : List ℕ) → front_of c bytes ≡ Found kind n
+    → Among q (c ∷ bytes) (token_before kind (c ∷ take n bytes) q (drop n bytes))
+in_front q c n kind bytes h = grind (arith, front_fits, length-take-le)
+
+none_of : (P : TokenValue → Type 0) (ts : Tokens) → list_of ts ≡ [] → All P (list_of ts)
+none_of P ts e = subst (All P) (sym e) (All-nil P)
+
+all_among : (bytes : List ℕ) (k q : ℕ) → All (Among q bytes) (list_of (tokens_after k q bytes))
+all_among [] k q = none_of (Among q []) (tokens_after k q []) (ap list_of (split_nil k q) ∙ list_ends q)
+all_among (c ∷ bytes) (suc k) q =
+    search (rules, split_one, All-weaker, one_more, all_among bytes k (q + 1))
+all_among (c ∷ bytes) zero q = go (front_of c bytes) refl (λ n. all_among bytes n (q + 1))
+  where
+    later : (n : ℕ) → All (Among (q + 1) bytes) (list_of (tokens_after n (q + 1) bytes))
+        → All (Among q (c ∷ bytes)) (list_of (tokens_after n (q + 1) bytes))
+    later n h = search (rules, All-weaker, one_more)
+
+    go : (f : Front) → front_of c bytes ≡ f
+        → ((n : ℕ) → All (Among (q + 1) bytes) (list_of (tokens_after n (q + 1) bytes)))
+        → All (Among q (c ∷ bytes)) (list_of (tokens_after 0 q (c ∷ bytes)))
+    go (Skipped n) e ih =
+        subst (λ ts. All (Among q (c ∷ bytes)) (list_of ts)) (sym (split_skipped q c n bytes e)) (later n (ih n))
+    go (Found kind n) e ih = search (rules, split_found, list_then, All-cons, in_front, later)
+    go (Refused f) e ih = search (rules, none_of, split_refused, list_stops)
+    go Unfinished e ih = search (rules, none_of, split_unfinished, list_stops)
+
+pub tokens_are_placed : (text : List ℕ) → All (IsPlaced text) (tokens text)
+tokens_are_placed text = All-weaker (Among 0 text) (IsPlaced text) placed (tokens text) (all_among text 0 0)
+  where
+    placed : (t : TokenValue) → Among 0 text t → IsPlaced text t
+    placed t h = search rules

@@ -1,5 +1,0 @@
-use Rattle.keymap_text.proofs.InForce.{slot_in_force, no_slot, accent_in_force, no_accent}
-use Rattle.keymap_text.proofs.laws.definitions_in_force.Goals as goal
-
-pub returns : goal.returns
-returns c = record { slot = slot_in_force; no_slot = no_slot; accent = accent_in_force; no_accent = no_accent }

@@ -1,5 +1,0 @@
-use Rattle.keymap_text.proofs.OneRow.{one_row_list}
-use Rattle.keymap_text.proofs.laws.one_list_of_rows.Goals as goal
-
-pub returns : goal.returns
-returns c = one_row_list

@@ -1,6 +1,0 @@
-use Rattle.keymap_text.proofs.Common.{rules}
-use Rattle.keymap_text.proofs.Parts.{slot_tokens, cell_at, lock_at, accent_tokens, own_at, pair_at}
-use Rattle.keymap_text.proofs.laws.parts_of_definitions.Goals as goal
-
-pub returns : goal.returns
-returns c = search (rules, slot_tokens, cell_at, lock_at, accent_tokens, own_at, pair_at)

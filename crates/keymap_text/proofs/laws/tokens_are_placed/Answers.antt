@@ -1,5 +1,0 @@
-use Rattle.keymap_text.proofs.TokenPlaces.{tokens_are_placed}
-use Rattle.keymap_text.proofs.laws.tokens_are_placed.Goals as goal
-
-pub returns : goal.returns
-returns c = tokens_are_placed

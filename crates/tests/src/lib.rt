@@ -1,11 +1,11 @@
 //! The tests of the libraries, which say what no clause says: answers from outside, limits, devices that fail. They are
 //! in folders by what they test, `formats`, `consoles` and `runs`.
 //!
-//! The modules `surface_of_..` have nothing but what the libraries have for others: each item that a caller may name,
-//! by its name and its signature, in a short test that calls it as an outsider would. Whoever changes one of these
-//! items has to change its test too, and sees there that other programs may stand on it. Types are written out, so that
-//! another result doesn't compile; each enum is matched without a rest, so that another variant doesn't either. What
-//! the calls mean is told by their contracts and by the other tests.
+//! The modules `surface_of_..` have nothing but what the libraries have for others, a line for each item: a function is
+//! taken as a pointer of its whole type, or called with arguments and a result of their types where it has a type
+//! parameter or answers a reference, and each enum is matched without a rest, so that another signature or another
+//! variant doesn't compile. Whoever changes one of these items has to change its line too, and sees there that other
+//! programs may stand on it. What the calls mean is told by their contracts and by the other tests.
 //!
 //! `calls` makes single calls of all libraries, for the scripts that refuse memory and the measurements; `support` has
 //! the keymaps and devices that several tests take.

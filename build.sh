@@ -21,6 +21,11 @@ if [ -f "$crate/$result" ] &&
     exit 0
 fi
 
+command -v "$RT" > /dev/null || {
+    echo "there is no $RT: install Rattle's kit and put its folder bin on the path, or name its rt by RT=" >&2
+    exit 1
+}
+
 # below CRATE: adds to the order the crates of the repository that it uses, as the kit proves them, and then the crate
 order=
 below() {

@@ -48,7 +48,7 @@ complete -c kmap -n '__kmap_after play' -l next -r -F -d 'The keymap text that a
 complete -c kmap -n '__kmap_after play' -s h -l help -d 'Print help'
 
 complete -c kmap -n '__kmap_after type' -l text -x -d 'The sentence itself'
-complete -c kmap -n '__kmap_after type' -l missing -d 'Prints the characters that no keys type instead'
+complete -c kmap -n '__kmap_after type' -l missing -d 'Prints the characters that no keys were found for instead'
 complete -c kmap -n '__kmap_after type' -s h -l help -d 'Print help'
 
 complete -c kmap -n '__kmap_after cover' -s h -l help -d 'Print help'

@@ -25,6 +25,10 @@
 #include <stddef.h>
 #include <stdint.h>
 
+#if UINTPTR_MAX != 0xffffffffffffffff
+#error kmap: x86-64 only, with pointers of 64 bits
+#endif
+
 #ifdef __cplusplus
 extern "C" {
 #endif

@@ -66,20 +66,29 @@ if [ -e /dev/stdin ]; then
     same_text 'a text that comes by a pipe' wanted stdout
 fi
 if [ -e /dev/zero ]; then
-    ran 'a text without end' 1 '' 'kmap: /dev/zero: text: more than 1048576 bytes' "$program" lint /dev/zero
+    ran 'a text without end' 2 '' 'kmap: /dev/zero: text: more than 1048576 bytes' "$program" lint /dev/zero
 fi
+
+# trouble_of COMMAND: the status where it can't do its work
+trouble_of() {
+    case $1 in
+    lint | search | diff) echo 2 ;;
+    *) echo 1 ;;
+    esac
+}
 
 # fails_to_write NAME ARGS..: on a full device and on a closed standard output the fault is told
 fails_to_write() {
     label=$1
     shift
+    trouble=$(trouble_of "$1")
     if [ -e /dev/full ]; then
         "$program" "$@" > /dev/full 2> stderr
-        holds "$label to a full device: status" [ $? -eq 1 ]
+        holds "$label to a full device: status" [ $? -eq "$trouble" ]
         holds "$label to a full device: line" same_line stderr 'kmap: write fault after 0 bytes'
     fi
     "$program" "$@" >&- 2> stderr
-    holds "$label to a closed output: status" [ $? -eq 1 ]
+    holds "$label to a closed output: status" [ $? -eq "$trouble" ]
     holds "$label to a closed output: line" same_line stderr 'kmap: write fault after 0 bytes'
 }
 fails_to_write 'checks' check shift
@@ -109,7 +118,7 @@ if [ -e /dev/full ]; then
     "$program" lint shift > /dev/full 2> stderr
     holds 'nothing for a full device: status' [ $? -eq 0 ]
     "$program" lint none > stdout 2> /dev/full
-    holds 'a fault line for a full device: status' [ $? -eq 1 ]
+    holds 'a fault line for a full device: status' [ $? -eq 2 ]
     "$program" check none 2> /dev/full
     holds 'the status stays where the line cannot be written' [ $? -eq 1 ]
 fi
@@ -188,7 +197,7 @@ END
     }
     writes 'stdout letter$
 stdout odd$
-stderr kmap: cannot open none$
+stderr kmap: cannot open none: No such file or directory$
 stderr kmap: faulty: text line 1 offset 30: Unexpected$' fmt --check letter none faulty odd
     writes 'stderr kmap: /dev/null: not a regular file$' fmt /dev/null
     writes 'stderr kmap: cannot create none/made$' compile letter none/made
@@ -300,7 +309,7 @@ mine" ]
     # shellcheck disable=SC2086 # they are words
     ran 'no rights to format' 1 '' 'kmap: cannot replace odd.write
 kmap: cannot create closed/odd.kmap-fmt
-kmap: cannot open unread' $as_nobody "$program" fmt odd.write closed/odd unread
+kmap: cannot open unread: Permission denied' $as_nobody "$program" fmt odd.write closed/odd unread
     holds 'no rights to format: a text stays' cmp -s odd odd.write
     holds 'no rights to format: the other stays' cmp -s odd closed/odd
     holds 'no rights to format: no new file' [ ! -e odd.write.kmap-fmt ]

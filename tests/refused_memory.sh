@@ -80,9 +80,9 @@ says_so() {
     { IFS= read -r line && [ "$line" = "$said" ] && ! IFS= read -r line && [ -z "$line" ]; } < stderr
 }
 
-# is_told: the program ended as it must where it is out of memory
+# is_told: the program ended as it must where it is out of memory, with 1 where the command line was still read
 is_told() {
-    [ "$got" -eq 1 ] && [ ! -s stdout ] && [ ! -e made ] && says_so
+    { [ "$got" -eq 1 ] || [ "$got" -eq "$trouble" ]; } && [ ! -s stdout ] && [ ! -e made ] && says_so
 }
 
 # is_same: the program ended as it does with ample memory, where it may
@@ -95,6 +95,10 @@ is_same() {
 refuses() {
     status=$1
     shift
+    case $1 in
+    lint | search | diff) trouble=2 ;;
+    *) trouble=1 ;;
+    esac
     rm -f made good
     ALLOCATIONS=count LD_PRELOAD=./refuse.so "$program" "$@" > wanted 2> faults
     got=$?

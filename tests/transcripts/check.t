@@ -225,14 +225,18 @@ With --brief each text has one line, and faults are told as without it:
   shift: accepted
   trap.kbd: refused
   letter: accepted
-  ! kmap: cut: text line 1 offset 3: EndInside
-  ! kmap: cannot open none1
+  ! cut:1:4: error: the text ends in a quoted character [EndInside]
+  !   1 '
+  !      ^
+  ! kmap: cannot open none1: No such file or directory
   [1]
   $ kmap check --brief letter shift
   letter: accepted
   shift: accepted
   $ kmap check --brief cut
-  ! kmap: text line 1 offset 3: EndInside
+  ! cut:1:4: error: the text ends in a quoted character [EndInside]
+  !   1 '
+  !      ^
   [1]
   $ kmap check --brief "$(printf 'a\033[31mb')"
   a�[31mb: accepted

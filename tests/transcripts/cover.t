@@ -138,18 +138,23 @@ of events composes them. Where a key has the base there too, they can be compose
 
 No file, a folder, a text that ends too early, and one that is too long:
   $ kmap cover nothing
-  ! kmap: cannot open nothing
+  ! kmap: cannot open nothing: No such file or directory
   [1]
   $ kmap cover .
-  ! kmap: text: read fault at offset 0
+  ! kmap: .: text: read fault at offset 0
   [1]
   $ echo "30 'a'" > inside
   $ kmap cover inside
-  ! kmap: text line 2 offset 7: EndInside
+  ! inside:2:1: error: the text ends where the cell of slot 30 in column 1 (shift) is wanted [EndInside]
+  !   
+  !   ^
+  ! inside:1:1: note: slot 30 is defined from here on
+  !   30 'a'
+  !   ^
   [1]
   $ head -c 1048577 /dev/zero | tr '\000' ' ' > long
   $ kmap cover long
-  ! kmap: text: more than 1048576 bytes
+  ! kmap: long: text: more than 1048576 bytes
   [1]
 
 Eleven keys for each modifier: more states than the search goes over.

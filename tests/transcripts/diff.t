@@ -471,47 +471,55 @@ The verdict alone is asked for in a pipe:
 A fault of the old text, of the new one, and of both, with nothing printed:
   $ printf "1 '" > cut
   $ kmap diff cut one
-  ! kmap: text line 1 offset 3: EndInside
-  [1]
+  ! cut:1:4: error: the text ends in a quoted character [EndInside]
+  !   1 '
+  !      ^
+  [2]
   $ kmap diff one cut
-  ! kmap: next line 1 offset 3: EndInside
-  [1]
+  ! cut:1:4: error: the text ends in a quoted character [EndInside]
+  !   1 '
+  !      ^
+  [2]
   $ kmap diff cut cut
-  ! kmap: text line 1 offset 3: EndInside
-  [1]
+  ! cut:1:4: error: the text ends in a quoted character [EndInside]
+  !   1 '
+  !      ^
+  [2]
   $ kmap diff one - < cut
-  ! kmap: next line 1 offset 3: EndInside
-  [1]
+  ! -:1:4: error: the text ends in a quoted character [EndInside]
+  !   1 '
+  !      ^
+  [2]
   $ mkdir folder
   $ kmap diff folder one
-  ! kmap: text: read fault at offset 0
-  [1]
+  ! kmap: folder: text: read fault at offset 0
+  [2]
   $ kmap diff one folder
-  ! kmap: next: read fault at offset 0
-  [1]
+  ! kmap: folder: text: read fault at offset 0
+  [2]
   $ head -c 1048577 /dev/zero | tr '\000' ' ' > blanks
   $ kmap diff blanks one
-  ! kmap: text: more than 1048576 bytes
-  [1]
+  ! kmap: blanks: text: more than 1048576 bytes
+  [2]
   $ kmap diff one blanks
-  ! kmap: next: more than 1048576 bytes
-  [1]
+  ! kmap: blanks: text: more than 1048576 bytes
+  [2]
 
-Both are opened before one is read:
+Both are opened before one is judged:
   $ kmap diff none1 none2
-  ! kmap: cannot open none1
-  [1]
+  ! kmap: cannot open none1: No such file or directory
+  [2]
   $ kmap diff cut none2
-  ! kmap: cannot open none2
-  [1]
+  ! kmap: cannot open none2: No such file or directory
+  [2]
 
 A device that takes nothing:
   $ kmap diff one other > /dev/full
   ! kmap: write fault after 0 bytes
-  [1]
+  [2]
   $ kmap diff one one > /dev/full
   ! kmap: write fault after 0 bytes
-  [1]
+  [2]
 
 Wrong words:
   $ kmap diff one 2> said

@@ -251,8 +251,10 @@ What a terminal doesn't show or XML forbids is U+FFFD, and a name has 48 charact
 A text with a fault, and none:
   $ printf "1 '" > cut
   $ kmap draw cut
-  ! kmap: text line 1 offset 3: EndInside
+  ! cut:1:4: error: the text ends in a quoted character [EndInside]
+  !   1 '
+  !      ^
   [1]
   $ kmap draw none
-  ! kmap: cannot open none
+  ! kmap: cannot open none: No such file or directory
   [1]

@@ -29,11 +29,11 @@ A text with a fault is left as it is, and the next one follows:
 
 Files that are not there:
   $ kmap fmt none none/none
-  ! kmap: cannot open none
-  ! kmap: cannot open none/none
+  ! kmap: cannot open none: No such file or directory
+  ! kmap: cannot open none/none: No such file or directory
   [1]
   $ kmap fmt --check none even
-  ! kmap: cannot open none
+  ! kmap: cannot open none: No such file or directory
   [1]
 
 A text that is too long, one that would be, and one that is as long as it may be with its last line feed:
@@ -138,7 +138,7 @@ Links stay, and the file that they lead to is written, also where its new file i
   real.kmap-fmt
   $ ln -s nowhere loose
   $ kmap fmt loose
-  ! kmap: cannot open loose
+  ! kmap: cannot open loose: No such file or directory
   [1]
 
 A hard link keeps the old text:

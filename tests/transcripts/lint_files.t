@@ -60,36 +60,36 @@ A name of several words, one of other characters, and two that begin with a dash
 
 A file that is not there, alone and among others, and two:
   $ kmap lint none
-  ! kmap: cannot open none
-  [1]
+  ! kmap: cannot open none: No such file or directory
+  [2]
   $ kmap lint doubtful none bad clean
   doubtful:1:1: warning: no key is lshift or rshift [no-shift]
   bad:1:4: error: zz means nothing; a cell that gives nothing is nop [BadWord]
     30 zz
        ^
-  ! kmap: cannot open none
-  [1]
+  ! kmap: cannot open none: No such file or directory
+  [2]
   $ kmap lint none1 clean none2
-  ! kmap: cannot open none1
-  ! kmap: cannot open none2
-  [1]
+  ! kmap: cannot open none1: No such file or directory
+  ! kmap: cannot open none2: No such file or directory
+  [2]
 
 Both outputs in one are in the order of the files:
   $ kmap lint bad none bad 2>&1
   bad:1:4: error: zz means nothing; a cell that gives nothing is nop [BadWord]
     30 zz
        ^
-  kmap: cannot open none
+  kmap: cannot open none: No such file or directory
   bad:1:4: error: zz means nothing; a cell that gives nothing is nop [BadWord]
     30 zz
        ^
-  [1]
+  [2]
 
 A folder:
   $ kmap lint folder doubtful
   doubtful:1:1: warning: no key is lshift or rshift [no-shift]
   ! kmap: folder: text: read fault at offset 0
-  [1]
+  [2]
 
 The longest text, and one that is too long:
   $ { cat bad; head -c 1048570 /dev/zero | tr '\000' ' '; } > long
@@ -106,7 +106,7 @@ The longest text, and one that is too long:
     30 zz
        ^
   ! kmap: long: text: more than 1048576 bytes
-  [1]
+  [2]
 
 A thousand files, of which each tenth has an error, also where few may be open at once:
   $ mkdir many
@@ -151,8 +151,8 @@ With --strict warnings count as errors, and what is printed stays. The option st
                                                ^
   [1]
   $ kmap lint --strict good none
-  ! kmap: cannot open none
-  [1]
+  ! kmap: cannot open none: No such file or directory
+  [2]
 
 Twice it is the same, as behind an alias that has it:
   $ kmap lint --strict begun --strict > twice
@@ -227,10 +227,10 @@ A name that a terminal does not show:
 A folder as standard input:
   $ kmap lint - < folder
   ! kmap: -: text: read fault at offset 0
-  [1]
+  [2]
   $ kmap lint --name it - < folder
   ! kmap: it: text: read fault at offset 0
-  [1]
+  [2]
 
 A file whose name is that of standard input:
   $ mkdir dash

@@ -275,7 +275,7 @@ The name of a file is shown as its text is, in one line, also that of a folder.
   $ mkdir "$name"
   $ kmap lint "$name"
   ! kmap: a�[31m�b�c: text: read fault at offset 0
-  [1]
+  [2]
 
 A word, a number and a comment of almost 1 MiB: what is shown of them is cut.
   $ huge() {

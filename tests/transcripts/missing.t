@@ -61,14 +61,16 @@ A sentence that is no UTF-8 has the fault that it has without `--missing`, and n
 So has a keymap with a fault, and a sentence that can't be read:
   $ printf "1 '" > cut
   $ kmap type --missing cut sentence
-  ! kmap: text line 1 offset 3: EndInside
+  ! cut:1:4: error: the text ends in a quoted character [EndInside]
+  !   1 '
+  !      ^
   [1]
   $ head -c 1048577 /dev/zero | tr '\000' ' ' > blanks
   $ kmap type --missing shift blanks
   ! kmap: sentence: more than 1048576 bytes
   [1]
   $ kmap type --missing shift none
-  ! kmap: cannot open none
+  ! kmap: cannot open none: No such file or directory
   [1]
 
 Of more than 65,536 states it is told what keys type among those that were met, and else that there are too many:

@@ -58,11 +58,13 @@ As many states, of a keymap that `check` accepts:
 A text with a fault, and none:
   $ printf "1 '" > cut
   $ kmap search cut
-  ! kmap: text line 1 offset 3: EndInside
-  [1]
+  ! cut:1:4: error: the text ends in a quoted character [EndInside]
+  !   1 '
+  !      ^
+  [2]
   $ kmap search none1
-  ! kmap: cannot open none1
-  [1]
+  ! kmap: cannot open none1: No such file or directory
+  [2]
 
 Between two keymaps, which stick only together:
   $ echo '058 clock clock clock clock clock clock clock clock O' > lock
@@ -126,14 +128,18 @@ Too many states between two, of which `check` refuses one, and accepts both:
 A fault of the first, of the next, a folder as next, and none:
   $ mkdir folder
   $ kmap search cut --next cut
-  ! kmap: text line 1 offset 3: EndInside
-  [1]
+  ! cut:1:4: error: the text ends in a quoted character [EndInside]
+  !   1 '
+  !      ^
+  [2]
   $ kmap search lock --next cut
-  ! kmap: next line 1 offset 3: EndInside
-  [1]
+  ! cut:1:4: error: the text ends in a quoted character [EndInside]
+  !   1 '
+  !      ^
+  [2]
   $ kmap search lock --next folder
-  ! kmap: next: read fault at offset 0
-  [1]
+  ! kmap: folder: text: read fault at offset 0
+  [2]
   $ kmap search cut --next none2
-  ! kmap: cannot open none2
-  [1]
+  ! kmap: cannot open none2: No such file or directory
+  [2]

@@ -45,8 +45,10 @@ cover and draw print what they do of a file:
 A fault of standard input:
   $ printf "1 '" > cut
   $ kmap search - < cut
-  ! kmap: text line 1 offset 3: EndInside
-  [1]
+  ! -:1:4: error: the text ends in a quoted character [EndInside]
+  !   1 '
+  !      ^
+  [2]
 
 check, play, compile and dump do not read it:
   $ kmap check - < shift

@@ -137,7 +137,9 @@ A sentence that is no UTF-8, which is told before a character that no keys type:
 A keymap with a fault types nothing:
   $ printf "1 '" > cut
   $ kmap type cut sentence
-  ! kmap: text line 1 offset 3: EndInside
+  ! cut:1:4: error: the text ends in a quoted character [EndInside]
+  !   1 '
+  !      ^
   [1]
 
 A sentence that is too long, a folder, and no sentence:
@@ -150,7 +152,7 @@ A sentence that is too long, a folder, and no sentence:
   ! kmap: sentence: read fault at offset 0
   [1]
   $ kmap type cut none1
-  ! kmap: cannot open none1
+  ! kmap: cannot open none1: No such file or directory
   [1]
 
 Layouts behind a lock: the lock is turned where it must be, stays on for the next characters, and is off at the end.

@@ -54,7 +54,9 @@ static SUBCOMMANDS: [Described; 11] = [
     Described {
         name: "check",
         about: "Accepts a keymap only if no key can leave a modifier on",
-        example: "Example: kmap check --show de.kbd{n}{n}kmap(1) tells how to read the report.",
+        example: "Example: kmap check --show de.kbd{n}{n}\
+            Status: 0 accepted, 1 refused or a fault, 2 wrong words.{n}{n}\
+            kmap(1) tells how to read the report.",
         words: &[
             TEXTS,
             Flag(
@@ -71,19 +73,25 @@ static SUBCOMMANDS: [Described; 11] = [
     Described {
         name: "search",
         about: "Decides whether key presses can leave a modifier on",
-        example: "Example: kmap search de.kbd{n}{n}kmap(1) tells how to read the answer.",
+        example: "Example: kmap search de.kbd{n}{n}\
+            Status: 0 never sticks, 1 sticks or undecided, 2 a fault or wrong words.{n}{n}\
+            kmap(1) tells how to read the answer.",
         words: &[STREAM, NEXT],
     },
     Described {
         name: "diff",
         about: "Tells what differs between two keymaps, and whether anybody can notice",
-        example: "Example: kmap diff old.kbd new.kbd{n}{n}kmap(1) tells how to read the answer.",
+        example: "Example: kmap diff old.kbd new.kbd{n}{n}\
+            Status: 0 the same, 1 different, 2 a fault or wrong words.{n}{n}\
+            kmap(1) tells how to read the answer.",
         words: &[STREAM, File("TEXT2", "The new keymap text, or -")],
     },
     Described {
         name: "lint",
         about: "Tells what is wrong or doubtful in keymap texts, and where",
-        example: "Example: kmap lint de.kbd us.kbd{n}{n}kmap(1) tells what to do about each kind.",
+        example: "Example: kmap lint de.kbd us.kbd{n}{n}\
+            Status: 0 no error, 1 an error, 2 a text that can't be read or wrong words.{n}{n}\
+            kmap(1) tells what to do about each kind.",
         words: &[
             STREAMS,
             Flag("strict", "Counts warnings as errors"),
@@ -93,7 +101,9 @@ static SUBCOMMANDS: [Described; 11] = [
     Described {
         name: "fmt",
         about: "Writes keymap texts in one layout, and changes nothing else",
-        example: "Example: kmap fmt de.kbd us.kbd{n}{n}kmap(1) tells what the layout is.",
+        example: "Example: kmap fmt de.kbd us.kbd{n}{n}\
+            Status: 0 done, 1 a fault or with --check another layout, 2 wrong words.{n}{n}\
+            kmap(1) tells what the layout is.",
         words: &[
             STREAMS,
             FlagWithout(
@@ -107,7 +117,9 @@ static SUBCOMMANDS: [Described; 11] = [
     Described {
         name: "play",
         about: "Prints what the console answers to a script of key presses",
-        example: "Example: kmap play --typed de.kbd de.script{n}{n}kmap(1) tells what a script is.",
+        example: "Example: kmap play --typed de.kbd de.script{n}{n}\
+            Status: 0 done, 1 a fault, 2 wrong words.{n}{n}\
+            kmap(1) tells what a script is.",
         words: &[
             TEXT,
             File("SCRIPT", "The script of key presses"),
@@ -118,24 +130,37 @@ static SUBCOMMANDS: [Described; 11] = [
     Described {
         name: "type",
         about: "Prints a script of key presses that types a sentence",
-        example: "Example: kmap type de.kbd sentence > script{n}{n}kmap(1) tells which keys are taken.",
+        example: "Example: kmap type de.kbd sentence > script{n}{n}\
+            Status: 0 done, 1 a fault or a missing character, 2 wrong words.{n}{n}\
+            kmap(1) tells which keys are taken.",
         words: &[
             STREAM,
-            FileUnless("SENTENCE", "The sentence, in UTF-8, or -", "text"),
+            FileUnless(
+                "SENTENCE",
+                "A file with the sentence, in UTF-8, or -",
+                "text",
+            ),
             TextOption("text", "STRING", "The sentence itself", "SENTENCE"),
-            Flag("missing", "Prints the characters that no keys type instead"),
+            Flag(
+                "missing",
+                "Prints the characters that no keys were found for instead",
+            ),
         ],
     },
     Described {
         name: "cover",
         about: "Prints a script that tests a console with a keymap",
-        example: "Example: kmap cover us.kbd > us.script{n}{n}kmap(1) tells what the script tries.",
+        example: "Example: kmap cover us.kbd > us.script{n}{n}\
+            Status: 0 done, 1 a fault, 2 wrong words.{n}{n}\
+            kmap(1) tells what the script tries.",
         words: &[STREAM],
     },
     Described {
         name: "compile",
         about: "Writes the table file of a keymap text",
-        example: "Example: kmap compile de.kbd de.tables{n}{n}kmap(1) tells what OUT is good for.",
+        example: "Example: kmap compile de.kbd de.tables{n}{n}\
+            Status: 0 done, 1 a fault, 2 wrong words.{n}{n}\
+            kmap(1) tells what OUT is good for.",
         words: &[
             TEXT,
             File("OUT", "The table file to create or replace"),
@@ -145,7 +170,9 @@ static SUBCOMMANDS: [Described; 11] = [
     Described {
         name: "dump",
         about: "Prints a table file as keymap text",
-        example: "Example: kmap dump de.tables{n}{n}kmap(5) tells what the text means.",
+        example: "Example: kmap dump de.tables{n}{n}\
+            Status: 0 done, 1 a fault, 2 wrong words.{n}{n}\
+            kmap(5) tells what the text means.",
         words: &[
             File("TABLES", "The table file"),
             Flag("narrow", "Reads a narrow file"),
@@ -154,7 +181,9 @@ static SUBCOMMANDS: [Described; 11] = [
     Described {
         name: "draw",
         about: "Draws a keymap as one SVG picture",
-        example: "Example: kmap draw de.kbd > de.svg{n}{n}kmap(1) tells how to read the picture.",
+        example: "Example: kmap draw de.kbd > de.svg{n}{n}\
+            Status: 0 done, 1 a fault, 2 wrong words.{n}{n}\
+            kmap(1) tells how to read the picture.",
         words: &[
             STREAM,
             Flag("ansi", "Draws a board of 104 keys in place of 105"),

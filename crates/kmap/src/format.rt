@@ -1,6 +1,6 @@
 //! `kmap fmt`: texts are laid out, and written, compared or printed.
 use crate::command_line::FmtMode;
-use crate::inputs::{Source, buffered, given, is_standard_input, opened_file};
+use crate::inputs::{Source, buffered, given, is_standard_input, opened_or_why};
 use crate::output::{Faults, Output, tell};
 use crate::program::{Failure, FileFault, is_of_output, of_many, report, report_name, well};
 use crate::replace::{Old, ReplaceFault, replace};
@@ -116,13 +116,13 @@ fn regular<'a>(rt: &HostRuntime, text: &'a str) -> Result<(Metadata, File), Fail
     match fs::metadata(rt, text) {
         Ok(found) if found.is_file() => {}
         Ok(_) => return Err(Failure::File(text, FileFault::NotRegular)),
-        Err(_) => return Err(Failure::File(text, FileFault::CannotOpen)),
+        Err(error) => return Err(Failure::File(text, FileFault::CannotOpenFor(error.kind()))),
     }
-    let file = opened_file(rt, text)?;
+    let file = opened_or_why(rt, text)?;
     match file.metadata() {
         Ok(found) if found.is_file() => Ok((found, file)),
         Ok(_) => Err(Failure::File(text, FileFault::NotRegular)),
-        Err(_) => Err(Failure::File(text, FileFault::CannotOpen)),
+        Err(error) => Err(Failure::File(text, FileFault::CannotOpenFor(error.kind()))),
     }
 }
 

@@ -1,7 +1,8 @@
 //! The files that are read, and the standard input, for which `-` stands where a command takes it.
 use crate::program::{Failure, FileFault};
-use keymap_core::FromStd;
+use keymap_core::{FromStd, ReadError};
 use kmap_runs::RunError;
+use play_core::read_whole;
 use std::fs::File;
 use std::io::{BufReader, Read, StdinLock};
 use std::{fs, io};
@@ -57,26 +58,73 @@ pub(crate) fn given<'a>(rt: &HostRuntime, name: &'a str) -> Result<Source<Origin
         if is_standard_input(name) {
             Origin::StandardInput(rt.reader())
         } else {
-            Origin::File(opened_file(rt, name)?)
+            Origin::File(opened_or_why(rt, name)?)
         },
     )
-}
-
-/// What a second name stands for, where there is one.
-pub(crate) fn given_if_named<'a>(
-    rt: &HostRuntime,
-    name: Option<&'a str>,
-) -> Result<Option<Source<Origin>>, Failure<'a>> {
-    match name {
-        Some(name) => Ok(Some(given(rt, name)?)),
-        None => Ok(None),
-    }
 }
 
 pub(crate) fn opened_file<'a>(rt: &HostRuntime, name: &'a str) -> Result<File, Failure<'a>> {
     match fs::open(rt, name) {
         Ok(file) => Ok(file),
         Err(_) => Err(Failure::File(name, FileFault::CannotOpen)),
+    }
+}
+
+/// The file of a name, or why it can't be opened.
+pub(crate) fn opened_or_why<'a>(rt: &HostRuntime, name: &'a str) -> Result<File, Failure<'a>> {
+    match fs::open(rt, name) {
+        Ok(file) => Ok(file),
+        Err(error) => Err(Failure::File(name, FileFault::CannotOpenFor(error.kind()))),
+    }
+}
+
+/// A keymap text in memory, so that its faults can be told as `lint` tells them.
+#[derive(Drop)]
+pub(crate) struct Text<'a> {
+    pub(crate) name: &'a str,
+    bytes: Vec<u8>,
+}
+
+impl<'a> Text<'a> {
+    /// A reader of the text from its beginning.
+    pub(crate) fn reader(&self) -> FromStd<&[u8]> {
+        FromStd::new(self.bytes.as_slice())
+    }
+}
+
+/// The text of a name, which may stand for the standard input.
+pub(crate) fn text_given<'a>(rt: &HostRuntime, name: &'a str) -> Result<Text<'a>, Failure<'a>> {
+    text_of(rt, name, given(rt, name)?)
+}
+
+/// A second text, where one is named.
+pub(crate) fn text_if_named<'a>(
+    rt: &HostRuntime,
+    name: Option<&'a str>,
+) -> Result<Option<Text<'a>>, Failure<'a>> {
+    match name {
+        Some(name) => Ok(Some(text_given(rt, name)?)),
+        None => Ok(None),
+    }
+}
+
+/// The text in a file of a name that is taken as given.
+pub(crate) fn text_in_file<'a>(rt: &HostRuntime, name: &'a str) -> Result<Text<'a>, Failure<'a>> {
+    text_of(rt, name, buffered(rt, opened_or_why(rt, name)?)?)
+}
+
+fn text_of<'a, F: Read + Drop>(
+    rt: &HostRuntime,
+    name: &'a str,
+    mut source: Source<F>,
+) -> Result<Text<'a>, Failure<'a>> {
+    match read_whole(rt.alloc(), &mut source) {
+        Ok(bytes) => Ok(Text { name, bytes }),
+        Err(ReadError::Memory) => Err(Failure::of_run(RunError::Memory)),
+        Err(ReadError::Read(fault)) => {
+            let error = RunError::ReadText(fault);
+            Err(Failure::Command(Some(name), error.into()))
+        }
     }
 }
 

@@ -2,7 +2,7 @@
 use crate::command_line::{Request, Sentence, contradiction, matches_of, request_of};
 use crate::compile::compile;
 use crate::format::format_texts;
-use crate::inputs::{given, given_if_named, opened, opened_if_named};
+use crate::inputs::{Text, given, opened, opened_if_named, text_given, text_if_named};
 use crate::output::{Faults, Output};
 use crate::refusal::{contradicted, not_text, refused};
 use crate::texts::{check, lint};
@@ -12,7 +12,8 @@ use keymap_draw::Board;
 use keymap_lint_text::shown_name;
 use kmap_runs::{
     CommandError, RunError, cover_run, diff_run, draw_run, dump_narrow_run, dump_run,
-    file_error_line, missing_run, search_run, type_run, write_command_error, write_run_error,
+    file_error_line, lint_run, missing_run, search_run, type_run, write_command_error,
+    write_run_error,
 };
 use play_core::{Show, play_next};
 use std::alloc::{AllocError, Global};
@@ -20,7 +21,7 @@ use std::convert::AsStr;
 use std::process::ExitCode;
 use std::{env, io};
 
-/// Why the program ends with status 1, besides a refused map.
+/// Why the program couldn't do what it was asked for.
 #[derive(Drop)]
 pub(crate) enum Failure<'a> {
     /// The line of the error tells the file too, where there is one.
@@ -30,12 +31,16 @@ pub(crate) enum Failure<'a> {
     CannotCreateNew(String),
     /// Who read the output has gone away, which isn't told.
     NoReader,
+    /// It was told already.
+    Told,
 }
 
 /// Why nothing is done with a file.
 #[derive(Clone, Copy)]
 pub(crate) enum FileFault {
     CannotOpen,
+    /// The reason is told, too.
+    CannotOpenFor(io::ErrorKind),
     NotRegular,
     CannotCreate,
     CannotReplace,
@@ -55,7 +60,7 @@ impl<'a> Failure<'a> {
     }
 
     /// Whether nothing more can be written to the output.
-    fn is_of_output(&self) -> bool {
+    pub(crate) fn is_of_output(&self) -> bool {
         match self {
             Failure::NoReader => true,
             Failure::Command(None, error) => is_of_output(error),
@@ -146,8 +151,34 @@ fn matched_run(
     match contradiction(&request) {
         Some(message) => contradicted(rt, message),
         None => {
+            let trouble = status_of_trouble(&request);
             let outcome = answer(rt, request, faults);
-            Ok(status(is_well(rt.alloc(), outcome, faults)))
+            Ok(status_of(rt.alloc(), outcome, trouble, faults))
+        }
+    }
+}
+
+/// The status where a request couldn't be done: 2 of the commands that tell by 1 what they found.
+fn status_of_trouble(request: &Request<'_, '_>) -> ExitCode {
+    match request {
+        Request::Lint { .. } | Request::Search { .. } | Request::Diff { .. } => ExitCode::from(2),
+        _ => ExitCode::FAILURE,
+    }
+}
+
+/// The status of an outcome. A failure also gets its line.
+fn status_of(
+    alloc: Global,
+    outcome: Result<bool, Failure<'_>>,
+    trouble: ExitCode,
+    faults: &mut Faults,
+) -> ExitCode {
+    match outcome {
+        Ok(is_well) => status(is_well),
+        Err(Failure::NoReader) => ExitCode::FAILURE,
+        Err(failure) => {
+            report(alloc, &failure, faults);
+            trouble
         }
     }
 }
@@ -204,7 +235,7 @@ pub(crate) fn report(alloc: Global, failure: &Failure<'_>, faults: &mut Faults) 
             let (front, end) = words_of_fault(FileFault::CannotCreate);
             report_name(alloc, front, name.as_str(), end, faults);
         }
-        Failure::NoReader => {}
+        Failure::NoReader | Failure::Told => {}
     }
 }
 
@@ -212,10 +243,23 @@ pub(crate) fn report(alloc: Global, failure: &Failure<'_>, faults: &mut Faults) 
 fn words_of_fault(fault: FileFault) -> (&'static [u8], &'static [u8]) {
     match fault {
         FileFault::CannotOpen => (b"kmap: cannot open ", b"\n"),
+        FileFault::CannotOpenFor(kind) => (b"kmap: cannot open ", reason(kind)),
         FileFault::NotRegular => (b"kmap: ", b": not a regular file\n"),
         FileFault::CannotCreate => (b"kmap: cannot create ", b"\n"),
         FileFault::CannotReplace => (b"kmap: cannot replace ", b"\n"),
         FileFault::Changed => (b"kmap: ", b": changed meanwhile\n"),
+    }
+}
+
+/// Why a file can't be opened, as the end of a line, as far as people can do something about it.
+fn reason(kind: io::ErrorKind) -> &'static [u8] {
+    match kind {
+        io::ErrorKind::NotFound => b": No such file or directory\n",
+        io::ErrorKind::PermissionDenied => b": Permission denied\n",
+        io::ErrorKind::NotADirectory => b": Not a directory\n",
+        io::ErrorKind::FilesystemLoop => b": Too many levels of symbolic links\n",
+        io::ErrorKind::InvalidFilename => b": File name too long\n",
+        _ => b"\n",
     }
 }
 
@@ -263,8 +307,8 @@ fn answer<'a>(
             is_strict,
         } => lint(rt, texts, name, is_strict, faults),
         Request::Fmt { texts, mode } => format_texts(rt, mode, texts, faults),
-        Request::Search { text, next } => search(rt, text, next),
-        Request::Diff { text, next } => diff(rt, text, next),
+        Request::Search { text, next } => search(rt, text, next, faults),
+        Request::Diff { text, next } => diff(rt, text, next, faults),
         Request::Dump { tables, narrow } => well(dump(rt, tables, narrow)),
         Request::Compile { text, out, narrow } => well(compile(rt, text, out, narrow)),
         Request::Play {
@@ -280,9 +324,9 @@ fn answer<'a>(
             text,
             sentence,
             missing,
-        } => type_sentence(rt, text, sentence, missing),
-        Request::Cover { text } => well(cover(rt, text)),
-        Request::Draw { text, ansi, title } => well(draw(rt, text, ansi, title)),
+        } => type_sentence(rt, text, sentence, missing, faults),
+        Request::Cover { text } => well(cover(rt, text, faults)),
+        Request::Draw { text, ansi, title } => well(draw(rt, text, ansi, title, faults)),
     }
 }
 
@@ -294,28 +338,67 @@ pub(crate) fn well<'a>(outcome: Result<(), Failure<'a>>) -> Result<bool, Failure
     }
 }
 
-fn search<'a>(rt: &HostRuntime, text: &'a str, next: Option<&'a str>) -> Result<bool, Failure<'a>> {
-    let mut text = given(rt, text)?;
-    let mut next = given_if_named(rt, next)?;
-    search_in(rt, &mut text, &mut next)
+/// The outcome of a command on keymap texts. The faults of one that spells no keymap are told as `lint` tells them.
+pub(crate) fn explained<'a, T: Drop>(
+    rt: &HostRuntime,
+    outcome: Result<T, Failure<'a>>,
+    text: &Text<'_>,
+    next: Option<&Text<'_>>,
+    faults: &mut Faults,
+) -> Result<T, Failure<'a>> {
+    match (&outcome, next) {
+        (Err(Failure::Command(_, CommandError::Run(RunError::Text(_)))), _) => {
+            Err(tell_faults(rt, text, faults))
+        }
+        (Err(Failure::Command(_, CommandError::Run(RunError::Next(_)))), Some(next)) => {
+            Err(tell_faults(rt, next, faults))
+        }
+        _ => outcome,
+    }
 }
 
-fn search_in<'a, S: Read, N: Read>(
+/// Tells the faults of a text. Where that can't be done, the status stays.
+fn tell_faults<'a>(rt: &HostRuntime, text: &Text<'_>, faults: &mut Faults) -> Failure<'a> {
+    match lint_run(rt.alloc(), text.name.as_bytes(), &mut text.reader(), faults) {
+        Err(RunError::Memory) => Failure::of_run(RunError::Memory),
+        _ => Failure::Told,
+    }
+}
+
+fn search<'a>(
     rt: &HostRuntime,
-    text: &mut S,
-    next: &mut Option<N>,
+    text: &'a str,
+    next: Option<&'a str>,
+    faults: &mut Faults,
+) -> Result<bool, Failure<'a>> {
+    let text = text_given(rt, text)?;
+    let next = text_if_named(rt, next)?;
+    let outcome = search_in(rt, &text, next.as_ref());
+    explained(rt, outcome, &text, next.as_ref(), faults)
+}
+
+fn search_in<'a>(
+    rt: &HostRuntime,
+    text: &Text<'_>,
+    next: Option<&Text<'_>>,
 ) -> Result<bool, Failure<'a>> {
     let mut out = Output::new(rt);
-    let outcome = search_run(rt.alloc(), text, next, &mut out);
+    let mut next = next.map(|next| next.reader());
+    let outcome = search_run(rt.alloc(), &mut text.reader(), &mut next, &mut out);
     out.outcome(outcome)
 }
 
-fn diff<'a>(rt: &HostRuntime, text: &'a str, next: &'a str) -> Result<bool, Failure<'a>> {
-    let mut text = given(rt, text)?;
-    let mut next = given(rt, next)?;
+fn diff<'a>(
+    rt: &HostRuntime,
+    text: &'a str,
+    next: &'a str,
+    faults: &mut Faults,
+) -> Result<bool, Failure<'a>> {
+    let text = text_given(rt, text)?;
+    let next = text_given(rt, next)?;
     let mut out = Output::new(rt);
-    let outcome = diff_run(rt.alloc(), &mut text, &mut next, &mut out);
-    out.outcome(outcome)
+    let outcome = diff_run(rt.alloc(), &mut text.reader(), &mut next.reader(), &mut out);
+    explained(rt, out.outcome(outcome), &text, Some(&next), faults)
 }
 
 pub(crate) fn run_outcome<'a, T>(outcome: Result<T, RunError>) -> Result<T, Failure<'a>> {
@@ -372,20 +455,25 @@ fn type_sentence<'a>(
     text: &'a str,
     sentence: Sentence<'a>,
     missing: bool,
+    faults: &mut Faults,
 ) -> Result<bool, Failure<'a>> {
-    let mut text = given(rt, text)?;
+    let text = text_given(rt, text)?;
     let missing_of = if missing {
         Some(name_of(&sentence))
     } else {
         None
     };
-    match sentence {
-        Sentence::File(name) => type_in(rt, missing_of, &mut text, &mut given(rt, name)?),
+    let outcome = match sentence {
+        Sentence::File(name) => {
+            let mut sentence = given(rt, name)?;
+            type_in(rt, missing_of, &mut text.reader(), &mut sentence)
+        }
         Sentence::Text(words) => {
             let mut words = FromStd::new(words.as_bytes());
-            type_in(rt, missing_of, &mut text, &mut words)
+            type_in(rt, missing_of, &mut text.reader(), &mut words)
         }
-    }
+    };
+    explained(rt, outcome, &text, None, faults)
 }
 
 /// The name that a sentence is told under. One without a file has the word for it that faults have.
@@ -416,17 +504,29 @@ fn type_in<'a, S: Read, T: Read>(
     }
 }
 
-fn cover<'a>(rt: &HostRuntime, text: &'a str) -> Result<(), Failure<'a>> {
-    let mut source = given(rt, text)?;
+fn cover<'a>(rt: &HostRuntime, text: &'a str, faults: &mut Faults) -> Result<(), Failure<'a>> {
+    let text = text_given(rt, text)?;
     let mut out = Output::new(rt);
-    let outcome = cover_run(rt.alloc(), &mut source, &mut out);
-    out.outcome(outcome)
+    let outcome = cover_run(rt.alloc(), &mut text.reader(), &mut out);
+    explained(rt, out.outcome(outcome), &text, None, faults)
 }
 
-fn draw<'a>(rt: &HostRuntime, text: &'a str, ansi: bool, title: &str) -> Result<(), Failure<'a>> {
+fn draw<'a>(
+    rt: &HostRuntime,
+    text: &'a str,
+    ansi: bool,
+    title: &str,
+    faults: &mut Faults,
+) -> Result<(), Failure<'a>> {
     let board = if ansi { Board::Ansi } else { Board::Iso };
-    let mut source = given(rt, text)?;
+    let text = text_given(rt, text)?;
     let mut out = Output::new(rt);
-    let outcome = draw_run(rt.alloc(), &mut source, board, title.as_bytes(), &mut out);
-    out.outcome(outcome)
+    let outcome = draw_run(
+        rt.alloc(),
+        &mut text.reader(),
+        board,
+        title.as_bytes(),
+        &mut out,
+    );
+    explained(rt, out.outcome(outcome), &text, None, faults)
 }

@@ -1,8 +1,8 @@
 //! The commands that look at one text after the other and answer whether all is well: `kmap check` and `kmap lint`.
 use crate::command_line::CheckMode;
-use crate::inputs::{given, is_standard_input, opened};
+use crate::inputs::{given, is_standard_input, opened, text_in_file};
 use crate::output::{Faults, Output, tell};
-use crate::program::{Failure, of_many};
+use crate::program::{Failure, explained, of_many, report};
 use keymap_core::{Read, ToStd};
 use keymap_lint_text::shown_name;
 use kmap_runs::{RunError, check_brief_run, check_run, lint_run};
@@ -17,39 +17,54 @@ pub(crate) fn check<'a>(
     faults: &mut Faults,
 ) -> Result<bool, Failure<'a>> {
     if texts.len() == 1 {
-        return check_alone(rt, texts[0], mode);
+        return check_alone(rt, texts[0], mode, faults);
     }
     let mut well = true;
     for text in texts {
-        well = of_many(rt.alloc(), check_named(rt, text, mode), faults)? && well;
+        let outcome = check_named(rt, text, mode, faults);
+        well = of_many(rt.alloc(), outcome, faults)? && well;
     }
     Ok(well)
 }
 
-fn check_alone<'a>(rt: &HostRuntime, text: &'a str, mode: CheckMode) -> Result<bool, Failure<'a>> {
-    let mut source = opened(rt, text)?;
-    let mut out = Output::new(rt);
-    let outcome = match mode {
-        CheckMode::Report => check_run(rt.alloc(), &mut source, false, &mut out),
-        CheckMode::Show => check_run(rt.alloc(), &mut source, true, &mut out),
-        CheckMode::Brief => check_brief_run(rt.alloc(), text.as_bytes(), &mut source, &mut out),
-    };
-    out.outcome(outcome)
-}
-
-fn check_named<'a>(rt: &HostRuntime, text: &'a str, mode: CheckMode) -> Result<bool, Failure<'a>> {
+fn check_alone<'a>(
+    rt: &HostRuntime,
+    text: &'a str,
+    mode: CheckMode,
+    faults: &mut Faults,
+) -> Result<bool, Failure<'a>> {
     match mode {
-        CheckMode::Report => report_named(rt, text, false),
-        CheckMode::Show => report_named(rt, text, true),
-        CheckMode::Brief => verdict_named(rt, text),
+        CheckMode::Report => report_alone(rt, text, false),
+        CheckMode::Show => report_alone(rt, text, true),
+        CheckMode::Brief => verdict(rt, text, faults),
     }
 }
 
-fn verdict_named<'a>(rt: &HostRuntime, text: &'a str) -> Result<bool, Failure<'a>> {
+fn check_named<'a>(
+    rt: &HostRuntime,
+    text: &'a str,
+    mode: CheckMode,
+    faults: &mut Faults,
+) -> Result<bool, Failure<'a>> {
+    match mode {
+        CheckMode::Report => report_named(rt, text, false),
+        CheckMode::Show => report_named(rt, text, true),
+        CheckMode::Brief => verdict(rt, text, faults),
+    }
+}
+
+fn report_alone<'a>(rt: &HostRuntime, text: &'a str, show: bool) -> Result<bool, Failure<'a>> {
     let mut source = opened(rt, text)?;
     let mut out = Output::new(rt);
-    let outcome = check_brief_run(rt.alloc(), text.as_bytes(), &mut source, &mut out);
-    out.file_outcome(text, outcome)
+    let outcome = check_run(rt.alloc(), &mut source, show, &mut out);
+    out.outcome(outcome)
+}
+
+fn verdict<'a>(rt: &HostRuntime, name: &'a str, faults: &mut Faults) -> Result<bool, Failure<'a>> {
+    let text = text_in_file(rt, name)?;
+    let mut out = Output::new(rt);
+    let outcome = check_brief_run(rt.alloc(), name.as_bytes(), &mut text.reader(), &mut out);
+    explained(rt, out.outcome(outcome), &text, None, faults)
 }
 
 fn report_named<'a>(rt: &HostRuntime, text: &'a str, show: bool) -> Result<bool, Failure<'a>> {
@@ -88,7 +103,8 @@ fn behind_name(alloc: Global, name: &str, report: &[u8]) -> Result<Vec<u8>, Allo
     Ok(told)
 }
 
-/// Whether no text has an error, or where warnings count as errors, nothing is said of any.
+/// Whether no text has an error, or where warnings count as errors, nothing is said of any. It is a failure where one
+/// can't be read, whatever is said of the others.
 pub(crate) fn lint<'a>(
     rt: &HostRuntime,
     texts: &[&'a str],
@@ -96,11 +112,22 @@ pub(crate) fn lint<'a>(
     is_strict: bool,
     faults: &mut Faults,
 ) -> Result<bool, Failure<'a>> {
-    let mut well = true;
+    let (mut well, mut all_read) = (true, true);
     for text in texts {
-        well = of_many(rt.alloc(), lint_one(rt, text, name, is_strict), faults)? && well;
+        match lint_one(rt, text, name, is_strict) {
+            Ok(is_well) => well = is_well && well,
+            Err(failure) if failure.is_of_output() => return Err(failure),
+            Err(failure) => {
+                report(rt.alloc(), &failure, faults);
+                all_read = false;
+            }
+        }
     }
-    Ok(well)
+    if all_read {
+        Ok(well)
+    } else {
+        Err(Failure::Told)
+    }
 }
 
 fn lint_one<'a>(

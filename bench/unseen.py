@@ -7,8 +7,9 @@ usage: unseen.py [--check]
 Prints the ranges of each property from Python's `unicodedata`. With --check it compares them with those of
 crates/keymap_core/specs/Unseen.antt and src/unseen.rt (what a terminal doesn't show) and with the tables of
 crates/keymap_draw/src/characters.rt (what has a number for a legend, and which marks have a circle), which the
-definitions cite, and the short names of specs/Names.antt and src/tables.rt there with Unicode's aliases of names. It
-tells each difference, and ends with status 1 where there is one.
+definitions cite, and the short names of specs/Names.antt and src/tables.rt there with Unicode's aliases of names; and
+the capitals and the marks of accents of src/tables.rt with Unicode's. It tells each difference, and ends with status 1
+where there is one.
 
 Python has the categories and classes, but neither Bidi_Control nor Default_Ignorable_Code_Point. The first is the
 embeddings, overrides and isolates with their ends, which are the classes of that name, and three marks. The second is
@@ -189,6 +190,52 @@ def misnamed():
                 yield f"{path}: not the name of {number}: {name}"
 
 
+LETTERS = "keymap_draw/src/tables.rt"
+# In these ranges each small letter of Unicode that has a capital of its own is one of the table, but for palochka, which
+# looks like its capital.
+WHOLE = [(0x61, 0x7A), (0xE0, 0xFE), (0x100, 0x17F), (0x3AC, 0x3CE), (0x430, 0x52F), (0x561, 0x586), (0x1E00, 0x1EFF)]
+MARKS = {
+    "dgra": "GRAVE ACCENT", "dacu": "ACUTE ACCENT", "dcir": "CIRCUMFLEX ACCENT", "dtil": "TILDE", "dmac": "MACRON",
+    "dbre": "BREVE", "ddot": "DOT ABOVE", "duml": "DIAERESIS", "dsla": "LONG SOLIDUS OVERLAY", "drin": "RING ABOVE",
+    "dced": "CEDILLA", "dapo": "COMMA ABOVE", "ddac": "DOUBLE ACUTE ACCENT", "dogo": "OGONEK", "dcar": "CARON",
+}
+
+
+def text_of(path):
+    with open(os.path.join(CRATES, path), encoding="utf-8") as file:
+        return file.read()
+
+
+def capital(letter):
+    """The capital of a small letter, where each of both is the other's; else None."""
+    upper = letter.upper()
+    return upper if len(upper) == 1 and upper != letter and upper.lower() == letter else None
+
+
+def wrong_letters():
+    """The pairs of the table of letters that aren't Unicode's, and the letters that it lacks."""
+    rows = re.findall(r"CaseRow\((0x[0-9a-f]+), (0x[0-9a-f]+), (true|false), (\d+)\)", text_of(LETTERS))
+    if not rows:
+        sys.exit(f"unseen.py: {LETTERS} has no letters")
+    found = {}
+    for first, last, other, below in rows:
+        for n in range(int(first, 16), int(last, 16) + 1, 2 if other == "true" else 1):
+            found[chr(n)] = chr(n - int(below))
+    for letter, wanted in found.items():
+        if capital(letter) != wanted:
+            yield f"{LETTERS}: not the capital of {ord(letter):04X}: {ord(wanted):04X}"
+    for n in sorted(numbers(WHOLE) - {0x4CF}):
+        if capital(chr(n)) and chr(n) not in found:
+            yield f"{LETTERS}: lacks the letter {n:04X}"
+
+
+def wrong_marks():
+    marks = re.search(r"ACCENT_MARKS: \[char; 15\] = \[(.*?)\];", text_of(LETTERS), re.S)
+    found = re.findall(r"u\{([0-9a-f]+)\}", marks.group(1)) if marks else []
+    if [unicodedata.name(chr(int(mark, 16))) for mark in found] != [f"COMBINING {name}" for name in MARKS.values()]:
+        yield f"{LETTERS}: the marks of the accents"
+
+
 def table(name):
     """The characters of a table of spans."""
     with open(os.path.join(CRATES, TABLES), encoding="utf-8") as file:
@@ -250,11 +297,11 @@ def main():
         for name, members in {**unseen, **drawn}.items():
             print(f"{name}: {shown(members)}")
         return
-    found = [*differences(unseen), *undrawn(drawn, of_category["Cn"]), *misnamed()]
+    found = [*differences(unseen), *undrawn(drawn, of_category["Cn"]), *misnamed(), *wrong_letters(), *wrong_marks()]
     for line in found:
         print(line)
-    count = sum(len(parts) for _, _, parts in FILES) + len(PLANES) + 1 + len(NAMES)
-    print(f"unseen.py: {count} properties, tables and lists of names compared, {len(found)} differences")
+    count = sum(len(parts) for _, _, parts in FILES) + len(PLANES) + 1 + len(NAMES) + 2
+    print(f"unseen.py: {count} properties, tables and lists compared, {len(found)} differences")
     sys.exit(1 if found else 0)
 
 

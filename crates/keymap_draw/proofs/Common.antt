@@ -44,8 +44,8 @@ pub use Rattle.keymap_draw.specs.declared.board.Shape.{Shape}
 pub use Rattle.keymap_draw.specs.declared.board.TheConstants.{RUNS}
 pub use Rattle.keymap_draw.specs.declared.half.Half.{Half}
 pub use Rattle.keymap_draw.specs.declared.half.Half.TheVariants.{Lower, Upper}
-pub use Rattle.keymap_draw.specs.declared.sheet.Told.{Told}
-pub use Rattle.keymap_draw.specs.declared.sheet.Told.TheVariants.{Bytes, Number, Plain}
+pub use Rattle.keymap_draw.specs.declared.sheet.Content.{Content}
+pub use Rattle.keymap_draw.specs.declared.sheet.Content.TheVariants.{Bytes, Number, Plain}
 pub use Rattle.keymap_text.specs.Printed.{word}
 unfoldable pub use Rattle.keymap_text.specs.Printed.{accent_words, slot_words}
 pub use Rattle.keymap_text.specs.Rows.{AccentDefinition, Definition}

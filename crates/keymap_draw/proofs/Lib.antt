@@ -1,7 +1,6 @@
 mod Boards
 mod Columns
 mod Common
-mod Letters
 mod Loops
 mod Names
 mod Parts

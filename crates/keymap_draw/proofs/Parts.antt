@@ -2,7 +2,7 @@
 use Rattle.keymap_draw.proofs.Common.{◌≡◌, ℕ, ◌==◌, Bool, true, false, List, [], ◌∷◌, ◌++◌, Option, Some, rules}
 use Rattle.keymap_draw.proofs.Common.{Number, None, refl, sym, ap, ◌∙◌, map, arith, decimal}
 use Rattle.keymap_draw.proofs.Common.{if◌then◌else◌, list_all, flat_map, eqb-true, name_of, Finding, finding_words}
-use Rattle.keymap_draw.proofs.Common.{Told, Plain, Bytes, Fact, escaped, is_class, within, is_inner, is_seen, over}
+use Rattle.keymap_draw.proofs.Common.{Content, Plain, Bytes, Fact, escaped, is_class, within, is_inner, is_seen, over}
 use Rattle.keymap_draw.proofs.Common.{ReadAs, IsWithin, last_facts, reverse, State, Read, Place, Element, at, scan}
 use Rattle.keymap_draw.proofs.Common.{none-some, ◌||◌, or_cases, inl, inr}
 use Rattle.keymap_draw.proofs.Common.{saying, within_element, Text, Value, nat_tests}
@@ -11,7 +11,7 @@ use Rattle.std.specs.Option.{option_and_then}
 use Rattle.std.proofs.lemmas.Option.{option_and_then_some}
 use Rattle.keymap_core.specs.declared.action.Holding.{Holding}
 use Rattle.keymap_core.specs.Actions.{holding_action}
-use Rattle.keymap_draw.specs.declared.sheet.Told.TheVariants.{Characters}
+use Rattle.keymap_draw.specs.declared.sheet.Content.TheVariants.{Characters}
 use Rattle.keymap_draw.specs.Sheets.{ends_told, written, is_ready, taking}
 use Rattle.messages.specs.Filled.{filled, words_before, words_behind}
 use Rattle.keymap_draw.proofs.Scans.{both_true, first_true, second_true, failed, scan-append, inside_from, was_inside}
@@ -31,7 +31,7 @@ before_end c w h = elim (or_cases (c == 60) (c == 44) h) [
 ]
 
 -- bytes behind words that begin with a tag or a comma
-begins_end : (w : List ℕ) (ts : List Told) → ends_told (slice_index w 0) ≡ true
+begins_end : (w : List ℕ) (ts : List Content) → ends_told (slice_index w 0) ≡ true
     → (bs : List ℕ) × (filled w (map written ts) ≡ slice_index w 0 ∷ bs)
 unfolding filled
 begins_end [] ts h = cc
@@ -41,7 +41,7 @@ begins_end (c ∷ w) (t ∷ ts) h =
     ((words_before w ++ written t) ++ rest, ap (λ b. (b ++ written t) ++ rest) (before_end c w h))
 
 -- the reader behind characters that have references, before a tag or a comma
-escaped_taken : (r : Read) (cs next : List ℕ) (ts : List Told) (b : Bool) (q : State) → list_all is_seen cs ≡ true
+escaped_taken : (r : Read) (cs next : List ℕ) (ts : List Content) (b : Bool) (q : State) → list_all is_seen cs ≡ true
     → ends_told (slice_index next 0) ≡ b → (if b then within_element Text (saying cs r) else None) ≡ Some q
     → scan (scan (Some (at Text r)) (flat_map escaped cs)) (filled next (map written ts))
     ≡ scan (Some q) (filled next (map written ts))
@@ -55,7 +55,7 @@ escaped_taken r cs next ts true q h t e =
     ∙ sym (ap (scan (Some (at Text (saying cs r)))) g)
     ∙ ap (λ o. scan o (filled next (map written ts))) f
 
-taken : (p : Place) (r : Read) (t : Told) (next : List ℕ) (ts : List Told) (q : State) → is_ready t ≡ true
+taken : (p : Place) (r : Read) (t : Content) (next : List ℕ) (ts : List Content) (q : State) → is_ready t ≡ true
     → taking p r t next ≡ Some q
     → scan (scan (Some (at p r)) (written t)) (filled next (map written ts))
     ≡ scan (Some q) (filled next (map written ts))
@@ -72,17 +72,17 @@ taken _ r t next ts q h e = absurd (none-some q e)
 
 -- ---- words
 
-over_none : (ts : List Told) (w : List ℕ) → over None w ts ≡ None
+over_none : (ts : List Content) (w : List ℕ) → over None w ts ≡ None
 over_none [] w = failed w
 over_none (t ∷ ts) w = search (rules, failed, over_none ts (words_behind w))
 
 -- words are read past what is told at their first place, if they are read at all
-over_some : (o : Option State) (w : List ℕ) (ts : List Told) (u : State) → over o w ts ≡ Some u
+over_some : (o : Option State) (w : List ℕ) (ts : List Content) (u : State) → over o w ts ≡ Some u
     → (q : State) × (o ≡ Some q)
 over_some None w ts u e = absurd (none-some u (sym (over_none ts w) ∙ e))
 over_some (Some q) w ts u e = (q, refl)
 
-pub over_scan : (ts : List Told) (s : Option State) (w : List ℕ) (u : State) → list_all is_ready ts ≡ true
+pub over_scan : (ts : List Content) (s : Option State) (w : List ℕ) (u : State) → list_all is_ready ts ≡ true
     → over s w ts ≡ Some u → scan s (filled w (map written ts)) ≡ Some u
 unfolding filled
 over_scan [] s w u h e = e
@@ -98,14 +98,14 @@ over_scan (t ∷ ts) s w u h e =
     ∙ over_scan ts (Some q) next u (second_true _ h) (ap (λ o. over o next ts) (sym past_it) ∙ e))
 
 -- a text behind which words stand with what is told
-pub behind : {s t : State} {old new : List ℕ} (words : List ℕ) (told : List Told) → ReadAs s old
+pub behind : {s t : State} {old new : List ℕ} (words : List ℕ) (told : List Content) → ReadAs s old
     → new ≡ old ++ filled words (map written told) → list_all is_ready told ≡ true
     → over (Some s) words told ≡ Some t → ReadAs t new
 behind {s} {t} words told h e r o =
     further (filled words (map written told)) h e (over_scan told (Some s) words t r o)
 
 -- a text that ends in some elements, behind which words stand that tell new facts
-pub led : {begun next : List Element} {old new : List ℕ} (words : List ℕ) (told : List Told) (facts : List Fact)
+pub led : {begun next : List Element} {old new : List ℕ} (words : List ℕ) (told : List Content) (facts : List Fact)
     → IsWithin begun old → new ≡ old ++ filled words (map written told) → list_all is_ready told ≡ true
     → ((fs : List Fact) → over (Some (within begun fs)) words told ≡ Some (within next (reverse facts ++ fs)))
     → ReadAs (within next (reverse facts ++ last_facts old)) new

@@ -1,11 +1,11 @@
--- The tables and the shapes of the code are those that are told a second time.
-use Rattle.keymap_draw.proofs.Common.{arith, refl, digits}
+-- The tables and the shapes of the code are those of the definitions.
+use Rattle.keymap_draw.proofs.Common.{refl, digits}
 use Rattle.keymap_draw.proofs.Common.{unfilled, unseen_name, other_legend, character_legend}
 use Rattle.keymap_draw.specs.Names.{LegendsAreNames, NoOthersAreNamed}
-use Rattle.std.specs.Prelude.{take, drop}
+use Rattle.std.specs.Prelude.{take}
 use Rattle.keymap_draw.specs.declared.constants.TheConstants.{STYLE}
 use Rattle.keymap_draw.specs.Shapes.{CapsAreOfTheirKeys}
-use Rattle.keymap_draw.specs.Sizes.{SizesAreOfTheStyle, LargeSignsFit}
+use Rattle.keymap_draw.specs.Sizes.{SizesAreOfTheStyle}
 
 pub legends_are_names : LegendsAreNames
 unfolding unfilled unseen_name other_legend character_legend
@@ -21,7 +21,4 @@ caps_are_of_their_keys = refl
 
 pub sizes_are_of_the_style : SizesAreOfTheStyle
 unfolding digits
-sizes_are_of_the_style = (take 398 STYLE, drop 540 STYLE, refl)
-
-pub large_signs_fit : LargeSignsFit
-large_signs_fit _ c alone tight h = rw h (grind (arith))
+sizes_are_of_the_style = (take 1395 STYLE, refl)

@@ -1,6 +1,5 @@
 pub mod Boards
 pub mod Characters
-pub mod ColourKey
 pub mod Drawings
 pub mod Drawn
 pub mod Facts
@@ -14,7 +13,6 @@ pub mod Places
 pub mod Sheets
 pub mod WellFormed
 pub mod Keyboards
-pub mod Letters
 pub mod Names
 pub mod Shapes
 pub mod Sizes

@@ -7,15 +7,16 @@ use Rattle.keymap_check.specs.Computed.{findings_of}
 use Rattle.keymap_draw.specs.declared.board.Board.{Board}
 use Rattle.keymap_draw.specs.declared.constants.TheConstants.{STYLE, SHAPES}
 use Rattle.keymap_draw.specs.declared.half.Half.TheVariants.{Lower, Upper}
+use Rattle.keymap_draw.specs.declared.sheet.Content.TheVariants.{Number}
+use Rattle.keymap_draw.specs.declared.words.TheConstants.{END}
 use Rattle.keymap_draw.specs.declared.whole.Starts.{Starts}
-use Rattle.keymap_draw.specs.ColourKey.{colour_key}
 use Rattle.keymap_draw.specs.Drawings.{Drawing, name_of}
 use Rattle.keymap_draw.specs.Facts.{Fact}
 use Rattle.keymap_draw.specs.Facts.Fact.{Begin, Figure, Text}
 use Rattle.keymap_draw.specs.Halves.{other_keys, half_height, half_facts}
 use Rattle.keymap_draw.specs.Lists.{findings_height, findings_list, named_accents, accents_height, accents_list}
 use Rattle.keymap_draw.specs.Lists.{silent_accents, silent_height, silent_list}
-use Rattle.keymap_draw.specs.Sheets.{facts_from, opened}
+use Rattle.keymap_draw.specs.Sheets.{facts_from, facts_over, in_svg, opened}
 use Rattle.keymap_draw.specs.WellFormed.{Tells}
 
 -- the picture begins, with its height
@@ -48,6 +49,10 @@ unfoldable pub head : List ℕ → ℕ → ℕ → List Fact
 head name count high =
     begin high ∷ heading name count ∷ description ∷ [] ++ facts_from opened STYLE [] ++ facts_from opened SHAPES []
     ++ page high ∷ []
+
+-- what the colours and the places of legends mean, which is the same in each picture, and the end
+unfoldable pub colour_key : ℕ → List Fact
+colour_key y = facts_over in_svg END.now (Number y ∷ [])
 
 -- the upper half is drawn only if it is live
 abbrev pub upper : Drawing → List ℕ → ℕ → List Fact

@@ -11,7 +11,6 @@ use Rattle.keymap_draw.specs.declared.board.Shape.{Shape}
 use Rattle.keymap_draw.specs.declared.board.Shape.TheVariants as shape
 use Rattle.keymap_draw.specs.declared.place.Column.{Column}
 use Rattle.keymap_draw.specs.declared.place.Column.TheVariants.{Base, Shift, Alt, AltShift}
-use Rattle.keymap_draw.specs.declared.place.TheConstants.{ALONE_SIZES, TIGHT_SIZES, CORNER_SIZES}
 use Rattle.keymap_draw.specs.Boards.{width, height}
 use Rattle.keymap_draw.specs.Characters.{is_large}
 use Rattle.keymap_draw.specs.Legends.{is_word}
@@ -67,7 +66,18 @@ is_class letter = list_any (λ c. c == letter) (codes " botuvwxyzcraedmfpg")
 abbrev pub IsClass : ℕ → Type 0
 IsClass letter = is_class letter ≡ true
 
--- the letter for a word of so many characters: those for 2 to 8, of which the last is for longer ones too
+-- The classes for the size of words of 2 characters to 8, of which the last is for longer ones too: of a word alone,
+-- of one in a corner that another legend stands beside on a small cap, and of any other word in a corner.
+abbrev pub alone_sizes : List ℕ
+alone_sizes = codes "wwxxxuu"
+
+abbrev pub tight_sizes : List ℕ
+tight_sizes = codes "otyybbb"
+
+abbrev pub corner_sizes : List ℕ
+corner_sizes = codes "vvvoott"
+
+-- the class for a word of so many characters
 abbrev pub size_by : List ℕ → ℕ → ℕ
 size_by sizes n = slice_index sizes (min n 8 - 2)
 
@@ -76,9 +86,9 @@ size_by sizes n = slice_index sizes (min n 8 - 2)
 abbrev pub size_class : List ℕ → Bool → Bool → Option ℕ
 size_class legend alone tight =
     if is_word legend then Some (
-    if alone then size_by ALONE_SIZES (length legend)
-    else if tight then size_by TIGHT_SIZES (length legend)
-    else size_by CORNER_SIZES (length legend)
+    if alone then size_by alone_sizes (length legend)
+    else if tight then size_by tight_sizes (length legend)
+    else size_by corner_sizes (length legend)
     )
     else if list_any is_large legend then Some (if alone then 119 else 111)
     else if alone then Some 122

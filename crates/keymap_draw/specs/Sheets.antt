@@ -5,8 +5,8 @@ use Rattle.std.specs.Prelude.{None, true, if◌then◌else◌, slice_index}
 use Rattle.std.specs.List.{list_all, flat_map}
 use Rattle.std.specs.Option.{option_and_then}
 use Rattle.keymap_core.specs.Unseen.{is_unseen}
-use Rattle.keymap_draw.specs.declared.sheet.Told.{Told}
-use Rattle.keymap_draw.specs.declared.sheet.Told.TheVariants as told
+use Rattle.keymap_draw.specs.declared.sheet.Content.{Content}
+use Rattle.keymap_draw.specs.declared.sheet.Content.TheVariants as told
 use Rattle.keymap_draw.specs.Facts.{Fact}
 use Rattle.keymap_draw.specs.Markup.{escaped}
 use Rattle.keymap_draw.specs.WellFormed.{Element, element, Place, Read, State, at, within_element, saying, scan}
@@ -67,22 +67,22 @@ abbrev pub is_seen : ℕ → Bool
 is_seen c = is_shown c && not (is_unseen c)
 
 -- bytes that are told as they are
-abbrev pub plain : List ℕ → Told
+abbrev pub plain : List ℕ → Content
 plain bytes = told.Plain (record { ref_ptr = (0, 0); now = bytes })
 
 -- the characters that are told
-abbrev pub characters : Told → List ℕ
+abbrev pub characters : Content → List ℕ
 characters (told.Plain t) = t.now
 characters (told.Number n) = decimal n
 characters (told.Bytes t) = t.now
 characters (told.Characters t) = t.now
 
-abbrev pub written : Told → List ℕ
+abbrev pub written : Content → List ℕ
 written (told.Plain t) = t.now
 written (told.Number n) = decimal n
 written t = flat_map escaped (characters t)
 
-abbrev pub is_ready : Told → Bool
+abbrev pub is_ready : Content → Bool
 is_ready (told.Plain t) = list_all is_inner t.now
 is_ready (told.Number n) = true
 is_ready t = list_all is_seen (characters t)
@@ -92,7 +92,7 @@ abbrev pub ends_told : ℕ → Bool
 ends_told c = c == 60 || c == 44
 
 -- the reader behind what is told, in a value or between tags; behind what has references a tag or a comma stands
-abbrev pub taking : Place → Read → Told → List ℕ → Option State
+abbrev pub taking : Place → Read → Content → List ℕ → Option State
 taking (Value tag name value) r (told.Plain t) behind = Some (at (Value tag name (value ++ t.now)) r)
 taking (Value tag name value) r (told.Number n) behind = Some (at (Value tag name (value ++ decimal n)) r)
 taking Text r (told.Plain t) behind = within_element Text (saying t.now r)
@@ -102,17 +102,17 @@ taking Text r t behind =
 taking p r t behind = None
 
 -- the reader behind words with what is told at their places
-abbrev pub over : Option State → List ℕ → List Told → Option State
+abbrev pub over : Option State → List ℕ → List Content → Option State
 over s words [] = scan s words
 over s words (t ∷ ts) =
     over (option_and_then (λ u. taking u.place u.read t (words_behind words)) (scan s (words_before words)))
     (words_behind words) ts
 
 -- the facts that they tell
-abbrev pub facts_from : State → List ℕ → List Told → List Fact
+abbrev pub facts_from : State → List ℕ → List Content → List Fact
 facts_from s words ts = reverse (facts_of (over (Some s) words ts))
 
-abbrev pub facts_over : List Element → List ℕ → List Told → List Fact
+abbrev pub facts_over : List Element → List ℕ → List Content → List Fact
 facts_over begun words ts = facts_from (within begun []) words ts
 
 -- behind the begin of a picture, before its ids

@@ -12,9 +12,6 @@ use{fill:#fff;color:#b7c0cf}\n\
 .m use{fill:#dde8fb;color:#9db4dc}\n\
 .p use{fill:#e3e7ee;color:#d0d6e0}\n\
 .f use{fill:#ffd9d4;color:#cc463b}\n\
-.z{font-size:21px}.w{font-size:16px}.x{font-size:13px}.v{font-size:12px}.o{font-size:11px}.u{font-size:10px}\
-.t{font-size:9px}\n\
-.y{font-size:8px}.b{font-size:5px}\n\
 .c{text-anchor:middle}.r{text-anchor:end}\n\
 [role=img]:hover>use{color:#4a86e8}\n\
 text.a{fill:#00677d}text.d{fill:#981db0}text.e{fill:#a34000}.d,.e{font-size:20px}.z.d,.z.e{font-size:26px}\
@@ -37,6 +34,9 @@ use+text{fill:#a3adbd}.p use+text{fill:#7a8494}.f use+text{fill:#fff}\n\
 .i text{fill:#a3adbd}\n\
 text.ok{fill:#6fd694}text.no{fill:#ff8f84}\n\
 }\n\
+.z{font-size:21px}.w{font-size:16px}.x{font-size:13px}.v{font-size:12px}.o{font-size:11px}.u{font-size:10px}\
+.t{font-size:9px}\n\
+.y{font-size:8px}.b{font-size:5px}\n\
 </style>\n\
 ";
 

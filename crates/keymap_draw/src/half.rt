@@ -9,7 +9,7 @@ use crate::board::{RUNS, Run, Shape};
 use crate::drawing::Drawing;
 use crate::key::{Cap, is_blank_entry, push_key};
 use crate::markup::Added;
-use crate::sheet::Told::{Characters, Number, Plain};
+use crate::sheet::Content::{Characters, Number, Plain};
 use crate::sheet::{InPicture, Sheet, tell};
 use crate::words::{
     IS_ACCEPTED, KEY_CODE, KEYMAP, LOWER_HALF, MORE_FINDINGS, ONE_FINDING, OTHER_KEYS, PANEL,

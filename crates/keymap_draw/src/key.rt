@@ -15,7 +15,7 @@ use crate::drawn::{DrawnCells, drawn, is_blank, stands_alone};
 use crate::legend::{cell_legend, is_word};
 use crate::markup::Added;
 use crate::place::{Column, Spot, code_x, legend_classes, legend_x, legend_y, shrunk_length};
-use crate::sheet::Told::{Bytes, Characters, Number, Plain};
+use crate::sheet::Content::{Bytes, Characters, Number, Plain};
 use crate::sheet::{InKey, InPicture, Sheet, tell};
 use crate::words::{BOTH, CAPS, CODE, GROUP_END, KEY, KEY_OF, NUM, SHRUNK_TEXT, TEXT, TEXT_OF};
 use arrayvec::ArrayVec;

@@ -11,14 +11,12 @@ ghost use Rattle.keymap_draw.specs.Drawings.{Drawing};
 ghost use Rattle.keymap_draw.specs.Drawn.{EachCellIsTold};
 ghost use Rattle.keymap_draw.specs.Keys.{key_class, names_key, red};
 ghost use Rattle.keymap_draw.specs.Keyboards.{BoardsAreKeyboards, EachKeyOnce, NoTwoOverlap, AllLieOnThePanel};
-ghost use Rattle.keymap_draw.specs.Letters.{PairsAreLetters, CapitalsAreOfOneLetter, LettersHaveOneCapital};
-ghost use Rattle.keymap_draw.specs.Letters.{MarksAreOfTheirAccents};
 ghost use Rattle.keymap_draw.specs.Legends.{cell_legend};
 ghost use Rattle.keymap_draw.specs.Names.{LegendsAreNames, NoOthersAreNamed};
 ghost use Rattle.keymap_draw.specs.Pictures.{IsPicture};
 ghost use Rattle.keymap_draw.specs.Places.{IsClass};
 ghost use Rattle.keymap_draw.specs.Shapes.{CapsAreOfTheirKeys};
-ghost use Rattle.keymap_draw.specs.Sizes.{LargeSignsFit, SizesAreOfTheStyle};
+ghost use Rattle.keymap_draw.specs.Sizes.{SizesAreOfTheStyle};
 ghost use Rattle.keymap_draw.specs.WellFormed.{IsPlain, IsShown, IsSeen, IsWellFormed};
 
 /// A cap has the class of the red ones exactly if one of the findings is of its key.
@@ -90,32 +88,10 @@ pub fn sizes_are_of_the_style()
     ensures { SizesAreOfTheStyle }
 {}
 
-/// A sign of a script many of whose signs are large isn't wider than its place on any cap, where it is at most eighteen
-/// tenths as wide as its letters are high.
-#[tactic(auto, using(crate::proofs::ToldTwice::large_signs_fit))]
-pub fn large_signs_fit()
-    ensures { LargeSignsFit }
-{}
-
 /// A character that nobody sees has the name for a legend that Unicode abbreviates its name to, and no other character
 /// has such a name.
 #[tactic(auto, using(crate::proofs::ToldTwice::legends_are_names, crate::proofs::ToldTwice::no_others_are_named))]
 pub fn names_are_of_their_characters()
     ensures legends { LegendsAreNames }
     ensures no_others { NoOthersAreNamed }
-{}
-
-/// A capital stands for its small letter too exactly if the two are among the letters of five alphabets; each capital
-/// belongs to one small letter, and each small letter has one capital.
-#[tactic(auto, using(crate::proofs::Letters::letter_laws))]
-pub fn capitals_are_of_one_letter()
-    ensures letters { PairsAreLetters }
-    ensures capitals { CapitalsAreOfOneLetter }
-    ensures small { LettersHaveOneCapital }
-{}
-
-/// The mark on the cap of a dead key is that of the accent that the dead key's name says.
-#[tactic(auto, using(crate::proofs::Letters::marks_are_of_their_accents))]
-pub fn marks_are_of_their_accents()
-    ensures { MarksAreOfTheirAccents }
 {}

@@ -8,9 +8,9 @@
 //!
 //! Proved is that the bytes tell these facts and no other ones; and in [`laws`] that they are plain ASCII and well
 //! formed, that legends have characters of XML alone that can be seen and classes are out of a list, that titles are
-//! lines of the printed form and tell the keymap (`Told`), that a cap is red exactly if one of the findings is of its
-//! key, that the boards are those of `Keyboards` and no key stands over another one, and that the tables of capitals
-//! and marks are those of `Letters`.
+//! lines of the printed form, that a cap is red exactly if one of the findings is of its key, and that the boards are
+//! those of `Keyboards` and no key stands over another one. The tables of capitals and marks are data, which
+//! `bench/unseen.py` compares with Unicode's.
 #![tactic(auto)]
 
 mod board;

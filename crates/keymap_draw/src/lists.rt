@@ -16,7 +16,7 @@ use crate::key::said;
 use crate::legend::{Legend, character_legend, marked};
 use crate::markup::Added;
 use crate::place::{DEAD_KEY, NO_ACCENT, size_class};
-use crate::sheet::Told::{Bytes, Characters, Number, Plain};
+use crate::sheet::Content::{Bytes, Characters, Number, Plain};
 use crate::sheet::{InPicture, InRow, InTable, Sheet, tell};
 use crate::tables::ACCENT_MARKS;
 use crate::words::{

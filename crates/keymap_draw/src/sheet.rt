@@ -6,8 +6,7 @@ ghost use Rattle.messages.specs.Filled.{filled};
 ghost use Rattle.keymap_draw.specs.Facts.{Fact};
 ghost use Rattle.keymap_draw.specs.Sheets.{within, over, facts_over, written, is_ready, in_svg, in_key, in_row};
 ghost use Rattle.keymap_draw.specs.Sheets.{in_table, is_seen};
-ghost use Rattle.keymap_draw.specs.Pictures.{head};
-ghost use Rattle.keymap_draw.specs.ColourKey.{colour_key};
+ghost use Rattle.keymap_draw.specs.Pictures.{colour_key, head};
 ghost use Rattle.keymap_draw.specs.WellFormed.{Element, Tells};
 
 use crate::constants::{SHAPES, STYLE};
@@ -71,53 +70,53 @@ impl<P: Part> Model for Sheet<P> {
 
 /// What stands at a place of words: as it is, a number in decimal digits, or with references where markup needs them.
 #[derive(Clone, Copy)]
-pub(crate) enum Told<'a> {
+pub(crate) enum Content<'a> {
     Plain(&'a [u8]),
     Number(u32),
     Bytes(&'a [u8]),
     Characters(&'a [char]),
 }
 
-fn push_told(text: &mut Vec<u8>, told: &Told) -> Added
-    ensures { OnOk result (text.new.items ≡ text.old.items ++ written told.now) }
+fn push_content(text: &mut Vec<u8>, content: &Content) -> Added
+    ensures { OnOk result (text.new.items ≡ text.old.items ++ written content.now) }
 {
-    match told {
-        Told::Plain(bytes) => text.extend_from_slice(bytes),
-        Told::Number(n) => text.extend_from_slice(number(u64::from(*n)).as_slice()),
-        Told::Bytes(bytes) => push_escaped(text, bytes),
-        Told::Characters(characters) => push_characters(text, characters),
+    match content {
+        Content::Plain(bytes) => text.extend_from_slice(bytes),
+        Content::Number(n) => text.extend_from_slice(number(u64::from(*n)).as_slice()),
+        Content::Bytes(bytes) => push_escaped(text, bytes),
+        Content::Characters(characters) => push_characters(text, characters),
     }
 }
 
-/// Adds words with what is told at their places.
+/// Adds words with contents at their places.
 #[tactic(auto, unfolding(messages::specs::Filled::filled))]
-fn push_filled(text: &mut Vec<u8>, words: &[u8], told: &[Told]) -> Added
-    ensures { OnOk result (text.new.items ≡ text.old.items ++ filled words.now (map written told.now)) }
+fn push_filled(text: &mut Vec<u8>, words: &[u8], contents: &[Content]) -> Added
+    ensures { OnOk result (text.new.items ≡ text.old.items ++ filled words.now (map written content.now)) }
 {
-    match told {
+    match contents {
         [] => text.extend_from_slice(words),
         [first, rest @ ..] => {
             let (before, behind) = parted(words);
             text.extend_from_slice(before)?;
-            push_told(text, first)?;
+            push_content(text, first)?;
             push_filled(text, behind, rest)
         }
     }
 }
 
-/// Adds words with a text at each of their places. What they tell are facts.
+/// Adds words with contents at their places. What they tell are facts.
 pub(crate) fn tell<P: Part, Q: Part>(
     sheet: Sheet<P>,
     words: &[u8],
-    told: &[Told],
+    contents: &[Content],
 ) -> Added<Sheet<Q>>
-    requires ready { list_all is_ready told.now ≡ true }
-    requires read { (fs : List Fact) → over (Some (within P.begun fs)) words.now told.now
-        ≡ Some (within Q.begun (reverse (facts_over P.begun words.now told.now) ++ fs)) }
-    ensures { IfOk result (λ s. s ≡ sheet ++ facts_over P.begun words.now told.now) }
+    requires ready { list_all is_ready contents.now ≡ true }
+    requires read { (fs : List Fact) → over (Some (within P.begun fs)) words.now contents.now
+        ≡ Some (within Q.begun (reverse (facts_over P.begun words.now contents.now) ++ fs)) }
+    ensures { IfOk result (λ s. s ≡ sheet ++ facts_over P.begun words.now contents.now) }
 {
     let Sheet { mut text, part: _ } = sheet;
-    push_filled(&mut text, words, told)?;
+    push_filled(&mut text, words, contents)?;
     Ok(Sheet {
         text,
         part: PhantomData,
@@ -136,10 +135,10 @@ pub(crate) fn begin(
     ensures { IfOk result (λ s. s ≡ head name.now count height) }
 {
     let mut text = Vec::new(alloc);
-    let high = Told::Number(height);
-    let verdict = Told::Plain(either(count == 0, ACCEPTED, REFUSED));
+    let high = Content::Number(height);
+    let verdict = Content::Plain(either(count == 0, ACCEPTED, REFUSED));
     push_filled(&mut text, BEGIN, &[high, high])?;
-    push_filled(&mut text, TITLE, &[Told::Characters(name), verdict])?;
+    push_filled(&mut text, TITLE, &[Content::Characters(name), verdict])?;
     text.extend_from_slice(DESCRIPTION)?;
     text.extend_from_slice(&STYLE)?;
     text.extend_from_slice(&SHAPES)?;
@@ -155,6 +154,6 @@ pub(crate) fn finish(sheet: Sheet<InPicture>, y: u32) -> Added<Vec<u8>>
     ensures { IfOk result (λ text. Tells (sheet ++ colour_key y) text.items) }
 {
     let Sheet { mut text, part: _ } = sheet;
-    push_filled(&mut text, END, &[Told::Number(y)])?;
+    push_filled(&mut text, END, &[Content::Number(y)])?;
     Ok(text)
 }

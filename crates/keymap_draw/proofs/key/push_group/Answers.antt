@@ -1,6 +1,6 @@
 use Rattle.keymap_draw.proofs.Common.{◌≡◌, ℕ, List, [], ◌∷◌, ◌++◌, ◌∙◌, Some, ap, sym, append-nil, arith, refl, reverse}
 use Rattle.keymap_draw.proofs.Common.{subst, true, IfOk}
-use Rattle.keymap_draw.proofs.Common.{Number, Shape, Told, Plain, Bytes, Fact, within, in_svg, over, facts_of}
+use Rattle.keymap_draw.proofs.Common.{Number, Shape, Content, Plain, Bytes, Fact, within, in_svg, over, facts_of}
 use Rattle.std.proofs.Common.{Bor}
 use Rattle.std.proofs.lemmas.List.{nil_from_length, reverse-reverse}
 use Rattle.keymap_draw.specs.declared.board.Shape.TheVariants.{A}
@@ -14,12 +14,12 @@ use Rattle.keymap_draw.proofs.key.push_group.Goals as goal
 abbrev Words : Type 0
 Words = Bor (List ℕ)
 
-abbrev group : ℕ → ℕ → Words → Words → Words → Words → List Told
+abbrev group : ℕ → ℕ → Words → Words → Words → Words → List Content
 group x y finding feed title shape =
     Number x ∷ Number y ∷ Plain finding ∷ Plain feed ∷ Bytes title ∷ Plain shape ∷ []
 
 -- words behind which a title and a cap have been told
-record Reads (w : List ℕ) (ts : List Told) (new : List Fact) : Type 0 where
+record Reads (w : List ℕ) (ts : List Content) (new : List Fact) : Type 0 where
   all : (fs : List Fact) → over (Some (within in_svg fs)) w ts ≡ Some (within in_key (reverse new ++ fs))
 
 -- the letter of a shape is an id
@@ -38,11 +38,11 @@ both class finding feed title shape x y s said printed e f g =
     (record { all = λ fs. rw (e, f, known, g) refl }, record { all = λ fs. rw (e, f, known, g) refl })
 
 -- what words tell, by what they are read as
-told : {w : List ℕ} {ts : List Told} {new : List Fact} → Reads w ts new → facts_over in_svg w ts ≡ new
+told : {w : List ℕ} {ts : List Content} {new : List Fact} → Reads w ts new → facts_over in_svg w ts ≡ new
 told {new = new} h =
     ap (λ s. reverse (facts_of s)) (h.all []) ∙ ap reverse (append-nil (reverse new)) ∙ reverse-reverse new
 
-read : {w : List ℕ} {ts : List Told} {new : List Fact} → Reads w ts new → (fs : List Fact)
+read : {w : List ℕ} {ts : List Content} {new : List Fact} → Reads w ts new → (fs : List Fact)
     → over (Some (within in_svg fs)) w ts ≡ Some (within in_key (reverse (facts_over in_svg w ts) ++ fs))
 read h fs = h.all fs ∙ ap (λ gs. Some (within in_key (reverse gs ++ fs))) (sym (told h))
 

@@ -4,7 +4,7 @@ use Rattle.keymap_draw.proofs.Common.{◌∙◌, Fact, List, ℕ, head, if◌the
 use Rattle.keymap_draw.specs.Pictures.{begin as svg, description, heading}
 use Rattle.keymap_draw.specs.Facts.Fact.{Text as Said}
 use Rattle.keymap_draw.specs.Sheets.{facts_from, opened}
-use Rattle.keymap_draw.specs.declared.sheet.Told.TheVariants.{Characters}
+use Rattle.keymap_draw.specs.declared.sheet.Content.TheVariants.{Characters}
 use Rattle.keymap_draw.specs.declared.constants.TheConstants.{STYLE, SHAPES}
 use Rattle.std.proofs.lemmas.List.{reverse-reverse}
 use Rattle.keymap_draw.proofs.Names.{one_by_one, all_behind}

@@ -1,6 +1,6 @@
 use Rattle.keymap_draw.proofs.Common.{[], ◌∷◌, ◌++◌, ◌∙◌, ap, refl, reverse, List, Some, Fact, ReadAs, at, Text}
 use Rattle.keymap_draw.proofs.Common.{Number, last_facts}
-use Rattle.keymap_draw.specs.ColourKey.{colour_key}
+use Rattle.keymap_draw.specs.Pictures.{colour_key}
 use Rattle.keymap_draw.specs.Sheets.{ids}
 use Rattle.keymap_draw.proofs.Parts.{behind}
 use Rattle.keymap_draw.proofs.Scans.{turned_back}

@@ -1,7 +1,7 @@
 use Rattle.keymap_draw.proofs.Common.{◌+◌, ◌++◌, ◌∙◌, ap, subst, length, IfOk, Tells, Lower}
 use Rattle.keymap_draw.proofs.Common.{accents_list, findings_list, half_facts, head, silent_list}
 use Rattle.keymap_draw.specs.Pictures.{upper, parts}
-use Rattle.keymap_draw.specs.ColourKey.{colour_key}
+use Rattle.keymap_draw.specs.Pictures.{colour_key}
 use Rattle.keymap_draw.proofs.whole.draw.Goals as goal
 
 pub returns : goal.returns

@@ -22,6 +22,13 @@ pub record Gathers (start now : Option (List ℕ)) (stream : StreamValue) (text 
 abbrev pub StopsIn : Option (List ℕ) → Option (List ℕ) → List ℕ → ℕ → Type 0
 StopsIn start now text count = (count < length text) × Appends start now (take count text)
 
+-- Whatever text was gathered is gathered still, or the writer failed within it.
+abbrev pub Flushes : {X : Type 0} → Option (List ℕ) → Option (List ℕ) → StreamValue → StreamValue
+    → Result X WriteFault → Type 0
+Flushes old new before after r =
+    (start : Option (List ℕ)) (text : List ℕ) → Gathers start old before text
+    → MatchResult r (λ _. Gathers start new after text) (λ f. StopsIn start new text f.written)
+
 -- Whatever text was gathered, that text with the piece is gathered now, or the writer failed within it.
 abbrev pub Pushes : {X : Type 0} → Option (List ℕ) → Option (List ℕ) → StreamValue → StreamValue → List ℕ
     → Result X WriteFault → Type 0

@@ -52,7 +52,7 @@ pub use limits::{ACCENT_LIMIT, COLUMN_COUNT, KEY_COUNT, PAIR_LIMIT, SLOT_LIMIT};
 pub use map::{BadAccent, KeyMap};
 pub use named::Named;
 pub use passing::push_if;
-pub use stream::Stream;
+pub use stream::{SizedStream, Stream};
 pub use to_std::ToStd;
 pub use transfer::{ReadError, ReadFault, ReadFaultKind, WriteFault, put, read_up_to, write_text};
 pub use unseen::is_unseen;

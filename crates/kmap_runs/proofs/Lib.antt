@@ -12,5 +12,6 @@ mod Dumped
 mod PlainScripts
 mod Replayed
 mod Scripts
+mod Sentences
 mod Untyped
 mod Written

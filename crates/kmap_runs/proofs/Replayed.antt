@@ -25,7 +25,7 @@ use Rattle.keymap_check.specs.Report.{report_of}
 use Rattle.keymap_check.specs.Scripts.{demonstration_of}
 use Rattle.keymap_check.proofs.Demonstrated.{demonstrations_leave_modifiers_on}
 use Rattle.play_core.specs.Spelling.{IsWritable, sent_of}
-use Rattle.play_core.specs.Typing.{alone, IsTyped}
+use Rattle.kmap_runs.specs.Sentences.{alone, IsTyped}
 use Rattle.play_core.specs.Written.{typed_text, text_after}
 use Rattle.play_core.proofs.Spelling.{events-script, delivers}
 use Rattle.kmap_runs.specs.Report.{check_text, demonstration_text, report}

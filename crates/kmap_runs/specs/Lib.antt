@@ -10,4 +10,5 @@ pub mod Replayed
 pub mod Report
 pub mod Runs
 pub mod Search
+pub mod Sentences
 pub mod Typing

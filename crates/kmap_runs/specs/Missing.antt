@@ -13,9 +13,9 @@ use Rattle.console_scripts.specs.Typing.{CanType}
 use Rattle.console_states.specs.Moves.{alone}
 use Rattle.console_states.specs.Sticking.{ReachesMoreThan, state_limit}
 use Rattle.kmap_runs.specs.declared.missing.Missing.{Missing}
-use Rattle.play_core.specs.declared.type_error.TypeError.{TypeError}
-use Rattle.play_core.specs.declared.type_error.TypeError.TheVariants as type
-use Rattle.play_core.specs.Typing.{IsTypeError}
+use Rattle.kmap_runs.specs.declared.type_error.TypeError.{TypeError}
+use Rattle.kmap_runs.specs.declared.type_error.TypeError.TheVariants as type
+use Rattle.kmap_runs.specs.Sentences.{IsTypeError}
 
 -- ---- which are missing
 

@@ -25,7 +25,7 @@ use Rattle.play_core.specs.declared.show.Show.TheVariants as show
 use Rattle.play_core.specs.Delivery.{delivered}
 use Rattle.play_core.specs.Scripts.{IsScript}
 use Rattle.play_core.specs.Spelling.{sent_of}
-use Rattle.play_core.specs.Typing.{alone}
+use Rattle.kmap_runs.specs.Sentences.{alone}
 use Rattle.play_core.specs.Written.{played_text}
 use Rattle.kmap_runs.specs.Cover.{sent_of_event}
 use Rattle.kmap_runs.specs.Diff.{diff_text}

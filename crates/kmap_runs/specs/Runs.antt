@@ -25,9 +25,9 @@ use Rattle.keymap_diff.specs.Changes.{AreDifferences}
 use Rattle.keymap_diff.specs.Telling.{IsTelling}
 use Rattle.keymap_diff.specs.declared.change.Change.{Change}
 use Rattle.keymap_diff.specs.declared.telling.Telling.{Telling}
-use Rattle.play_core.specs.declared.type_error.TypeError.TheVariants as type
+use Rattle.kmap_runs.specs.declared.type_error.TypeError.TheVariants as type
 use Rattle.play_core.specs.Runs.{Moves, moves, ReadsBoth, Runs, Stays}
-use Rattle.play_core.specs.Typing.{IsTyped, IsTypeError}
+use Rattle.kmap_runs.specs.Sentences.{IsTyped, IsTypeError}
 use Rattle.keymap_lint_text.specs.Shown.{shown_name}
 use Rattle.keymap_text.specs.Meaning.{Spells}
 use Rattle.keymap_text.specs.Sources.{TakesWhole}

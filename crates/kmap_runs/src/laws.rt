@@ -14,7 +14,7 @@ ghost use Rattle.play_core.specs.Runs.{moves};
 ghost use Rattle.play_core.specs.Scripts.{IsScript};
 ghost use Rattle.play_core.specs.declared.show.Show.{Show as ShowValue};
 ghost use Rattle.play_core.specs.declared.show.Show.TheVariants as show;
-ghost use Rattle.play_core.specs.Typing.{IsTyped};
+ghost use Rattle.kmap_runs.specs.Sentences.{IsTyped};
 ghost use Rattle.kmap_runs.specs.Cover.{CountedAreTold, IsCoverText, LeftOutCannotBeVisited};
 ghost use Rattle.keymap_diff.specs.Telling.{IsTelling};
 ghost use Rattle.keymap_diff.specs.declared.change.Change.{Change as ChangeValue};

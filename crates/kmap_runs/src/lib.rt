@@ -4,7 +4,8 @@
 //! with the name of the file, `search_run` what the search for sticking modifiers found, under one map or between those
 //! of two texts; `lint_run` writes the diagnostics of a text, `fmt_print_run` the text in the layout, which `fmt_run`
 //! hands out where it differs, `draw_run` a picture of its map, `cover_run` a script that tests a console, and
-//! `type_run` one that types a sentence, of which `missing_run` tells the characters that keys can't type;
+//! `type_run` one that types a sentence, whose presses `type_sentence` finds, and of which `missing_run` tells the
+//! characters that keys can't type;
 //! `compile_run` and `compile_narrow_run` write the table file of a text, `dump_run` and `dump_narrow_run` print the
 //! map of one. Playing is `play` and `play_next` of `play_core`, whose errors `RunError` takes over. `write_run_error`
 //! writes the line of the `RunError` that a run answers, and `write_command_error` that of the `CommandError` of those
@@ -35,6 +36,8 @@ mod report;
 mod runs;
 mod search;
 mod search_runs;
+mod sentence;
+mod type_error;
 mod type_runs;
 mod typing;
 mod words;
@@ -50,4 +53,6 @@ pub use lint_runs::lint_run;
 pub use missing_runs::missing_run;
 pub use runs::{check_run, compile_narrow_run, compile_run, draw_run, dump_narrow_run, dump_run};
 pub use search_runs::search_run;
+pub use sentence::type_sentence;
+pub use type_error::TypeError;
 pub use type_runs::type_run;

@@ -10,13 +10,13 @@ ghost use Rattle.kmap_runs.specs.Missing as spec;
 ghost use Rattle.kmap_runs.specs.Missing.{AreMissing, AreMissingIn, IsMissingError, IsUndecided};
 ghost use Rattle.kmap_runs.specs.declared.missing.Missing.{Missing as MissingValue};
 
+use crate::type_error::TypeError;
 use crate::words::{AT_PLACE, SHOWN};
 use console_scripts::Typist;
 use keymap_core::{KeyMap, code_text, is_unseen};
 use keymap_lint_text::shown_name;
 use keymap_places::TextLines;
 use messages::{fill, filled, number};
-use play_core::TypeError;
 use std::alloc::{AllocError, Global};
 use std::collections::HashSet;
 use std::str::from_utf8;

@@ -8,8 +8,8 @@ use crate::fault_line::{CommandError, RunError};
 use crate::inputs::{read_sentence, read_text};
 use crate::missing::{missing_in, missing_text};
 use crate::runs::command_once_written;
+use crate::type_error::TypeError;
 use keymap_core::{KeyMap, Read, Write};
-use play_core::TypeError;
 use std::alloc::{AllocError, Global};
 
 /// Whether keys can type each character of the sentence, and the lines of those that they can't.

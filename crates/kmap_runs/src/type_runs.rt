@@ -7,9 +7,10 @@ ghost use Rattle.play_core.specs.Runs.{moves};
 use crate::fault_line::{CommandError, RunError};
 use crate::inputs::{read_sentence, read_text};
 use crate::runs::command_once_written;
+use crate::sentence::type_sentence;
+use crate::type_error::TypeError;
 use crate::typing::typing_script;
 use keymap_core::{KeyMap, Read, Write};
-use play_core::{TypeError, type_sentence};
 use std::alloc::{AllocError, Global};
 
 /// The script that types the sentence on the map.

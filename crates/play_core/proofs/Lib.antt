@@ -2,12 +2,9 @@ pub mod Common
 pub mod Chained
 pub mod Digits
 pub mod LineWords
-pub mod Pieces
 pub mod PlainLines
 pub mod ScriptLines
 pub mod Sending
-pub mod Sentences
-pub mod SmallNumbers
 pub mod Spelling
 pub mod Tails
 pub mod Texts

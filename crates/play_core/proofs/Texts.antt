@@ -8,7 +8,7 @@ use Rattle.std.proofs.lemmas.List.Elements.{filter_map-append}
 use Rattle.std.proofs.lemmas.Grind.{flat_map-append}
 use Rattle.console_core.specs.History.{answer_to}
 use Rattle.play_core.specs.declared.show.Show.{Show}
-use Rattle.play_core.specs.Written.{lines_after, line_after, event_output}
+use Rattle.play_core.specs.Written.{lines_after, line_after}
 use Rattle.console_core.proofs.Deliveries.{reverse-cons}
 use Rattle.play_core.specs.declared.show.Show.TheVariants as show
 
@@ -57,12 +57,15 @@ unfolding text_after lines_after
 text-nil show.Lines ms h = refl
 text-nil show.Typed ms h = typed-nil
 
--- a single event has its own output
-pub text-one : (shown : Show) (ms : Maps) (h : List Event) (e : Event)
-    → text_after shown ms h (e ∷ []) ≡ event_output shown ms h e
+-- a single event has its own line, or types what its answer types
+pub line_of_one : (ms : Maps) (h : List Event) (e : Event) → text_after show.Lines ms h (e ∷ []) ≡ line_after ms h e
 unfolding text_after lines_after
-text-one show.Lines ms h e = append-nil (line_after ms h e)
-text-one show.Typed ms h e = typed-one (answer_to ms h e)
+line_of_one ms h e = append-nil (line_after ms h e)
+
+pub bytes_of_one : (ms : Maps) (h : List Event) (e : Event)
+    → text_after show.Typed ms h (e ∷ []) ≡ typed_by (answer_to ms h e)
+unfolding text_after
+bytes_of_one ms h e = typed-one (answer_to ms h e)
 
 -- the events of a further line that is sent
 pub delivered-more : (sent : List Sent) (i : ℕ) (one : Sent) → i < length sent → one ≡ get_or sent i one

@@ -1,4 +1,3 @@
 -- What mirrors functions of the code, or tells of private fields. Private contracts cite it; no public clause does.
-pub mod Pieces
 pub mod Readings
 pub mod Tails

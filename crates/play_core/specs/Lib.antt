@@ -5,5 +5,4 @@ pub mod Runs
 pub mod Scripts
 pub mod Spelling
 pub mod Types
-pub mod Typing
 pub mod Written

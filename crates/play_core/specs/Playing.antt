@@ -77,11 +77,6 @@ LacksEvents bytes _ = ⊥
 abbrev pub ShowsEvents : Show → Maps → List ℕ → List ℕ → Type 0
 ShowsEvents show ms bytes told = (sent : List Sent) × IsScript bytes sent × (told ≡ played_text show ms sent)
 
--- A script is read and played on two maps.
-abbrev pub PlaysScript : Show → Maps → Moves → Moves → Result (Unit {0}) PlayError → Type 0
-PlaysScript show ms script out r =
-    Runs of_writer (ReadsScript script) LacksEvents (λ bytes _ told. ShowsEvents show ms bytes told) out r
-
 -- The text is read, and then the script, which is played on the keymap of the text alone.
 abbrev pub Plays : Show → Moves → Moves → Moves → Result (Unit {0}) PlayError → Type 0
 Plays show text script out r =

@@ -72,11 +72,6 @@ unfoldable pub text_after : Show → Maps → List Event → List Event → List
 text_after show.Lines ms h events = lines_after ms h events
 text_after show.Typed ms h events = typed_text (answers_to ms h events)
 
--- what is written of one event
-abbrev pub event_output : Show → Maps → List Event → Event → List ℕ
-event_output show.Lines ms h e = line_after ms h e
-event_output show.Typed ms h e = typed_by (answer_to ms h e)
-
 -- what is written of a script on two maps
 abbrev pub played_text : Show → Maps → List Sent → List ℕ
 played_text shown ms sent = text_after shown ms [] (delivered sent)

@@ -4,17 +4,18 @@ ghost use Rattle.keymap_core.specs.Devices.{WritesText};
 ghost use Rattle.play_core.specs.Types.{Event as EventValue};
 ghost use Rattle.console_core.specs.History.{Maps, between};
 ghost use Rattle.play_core.specs.Delivery.{delivered};
-ghost use Rattle.play_core.specs.Written.{text_after, event_output, played_text};
+ghost use Rattle.play_core.specs.Written.{text_after, played_text};
 
 use crate::answer_line::push_line;
-use crate::output::{make_room, write_rest};
-use crate::piece::Piece;
+use crate::output::Output;
 use crate::sent::Sent;
 use crate::show::Show;
-use crate::tail::{Tails, first_tails};
 use crate::typed_bytes::push_typed;
 use console_core::{Event, Translator, WordConsole};
 use keymap_core::{KeyMap, Write, WriteFault};
+
+/// What is shown of one event is never longer.
+const LONGEST: usize = 140;
 
 /// Plays what is sent on two maps, and writes what the show has of it. The first map is in force, and each load puts
 /// the other in force.
@@ -66,56 +67,44 @@ fn deliver_all<T: Translator, W: Write>(
         (text_after show ms h (delivered sent.now)) result }
     ensures failed { W.has_failed out.new ≡ (is_err result || W.has_failed out.old) }
 {
-    let mut text = Piece::new();
-    let mut tails = first_tails();
-    let mut written = 0;
+    let mut text = Output::new();
     for one in sent {
-        written = make_room(written, &mut text, out)?;
-        play_sent(show, console, *one, &mut text, &mut tails);
+        text.make_room(out, LONGEST)?;
+        play_sent(show, console, *one, &mut text);
     }
-    write_rest(written, &text, out)
+    text.finish(out)
 }
 
 /// Delivers what is sent, unless it is lost, and adds what the show has of it.
 #[inline(always)]
-fn play_sent<T: Translator>(
-    show: Show,
-    console: &mut T,
-    one: Sent,
-    text: &mut Piece,
-    tails: &mut Tails,
-)
-    requires { length text.old.items + 140 ≤ 4096 }
+fn play_sent<T: Translator>(show: Show, console: &mut T, one: Sent, text: &mut Output)
+    requires { length text.old.waiting + 140 ≤ 65536 }
+    ensures written { text.new.written ≡ text.old.written }
     ensures text { (ms : Maps) (h : List EventValue) → T.stands console.old ms h
-        → text.new.items ≡ text.old.items ++ text_after show ms h (delivered (one ∷ [])) }
+        → text.new.waiting ≡ text.old.waiting ++ text_after show ms h (delivered (one ∷ [])) }
     ensures next { (ms : Maps) (h : List EventValue) → T.stands console.old ms h
         → T.stands console.new ms (reverse (delivered (one ∷ [])) ++ h) }
-    ensures size { length text.new.items ≤ length text.old.items + 140 }
+    ensures size { length text.new.waiting ≤ length text.old.waiting + 140 }
 {
     let Some(event) = one.event() else {
         return;
     };
-    play_event(show, console, event, text, tails);
+    play_event(show, console, event, text);
 }
 
 /// Delivers an event, and adds what the show has of it.
 #[inline(always)]
-fn play_event<T: Translator>(
-    show: Show,
-    console: &mut T,
-    event: Event,
-    text: &mut Piece,
-    tails: &mut Tails,
-)
-    requires { length text.old.items + 140 ≤ 4096 }
+fn play_event<T: Translator>(show: Show, console: &mut T, event: Event, text: &mut Output)
+    requires { length text.old.waiting + 140 ≤ 65536 }
+    ensures written { text.new.written ≡ text.old.written }
     ensures text { (ms : Maps) (h : List EventValue) → T.stands console.old ms h
-        → text.new.items ≡ text.old.items ++ event_output show ms h event }
+        → text.new.waiting ≡ text.old.waiting ++ text_after show ms h (event ∷ []) }
     ensures next { (ms : Maps) (h : List EventValue) → T.stands console.old ms h → T.stands console.new ms (event ∷ h) }
-    ensures size { length text.new.items ≤ length text.old.items + 140 }
+    ensures size { length text.new.waiting ≤ length text.old.waiting + 140 }
 {
     let answer = console.step(event);
     match show {
-        Show::Lines => push_line(text, tails, &event, &answer, console),
+        Show::Lines => push_line(text, &event, &answer, console),
         Show::Typed => push_typed(text, &answer),
     }
 }

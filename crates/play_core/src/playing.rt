@@ -2,9 +2,9 @@
 ghost use Rattle.std.specs.Prelude.{◌≡◌, ◌||◌, ◌≤◌, ◌+◌, false, length, IfOk, IfErr, MatchResult, Ok, Err};
 ghost use Rattle.console_core.specs.History.{between};
 ghost use Rattle.play_core.specs.Playing as spec;
-ghost use Rattle.play_core.specs.Playing.{LacksEvents, Plays, PlaysNext, PlaysScript, ReadsNext, ReadsScript};
+ghost use Rattle.play_core.specs.Playing.{LacksEvents, Plays, PlaysNext, ReadsNext, ReadsScript, ShowsEvents};
 ghost use Rattle.play_core.specs.Playing.{ReadsText, blames, blames_writer};
-ghost use Rattle.play_core.specs.Runs.{moves};
+ghost use Rattle.play_core.specs.Runs.{Runs, moves};
 ghost use Rattle.play_core.specs.Scripts.{IsScript};
 
 use crate::player::play_events;
@@ -135,8 +135,9 @@ fn play_script<S: Read, W: Write>(
     script: &mut S,
     out: &mut W,
 ) -> Result<(), PlayError>
-    ensures run { PlaysScript show (between maps.now.first.now maps.now.second.now)
-        (moves (S.remaining script.old) (S.remaining script.new))
+    ensures run { Runs spec.of_writer (ReadsScript (moves (S.remaining script.old) (S.remaining script.new)))
+        LacksEvents
+        (λ bytes _ told. ShowsEvents show (between maps.now.first.now maps.now.second.now) bytes told)
         (moves (W.contents out.old) (W.contents out.new)) result }
     ensures script_failed { S.has_failed script.new ≡ (blames Source.Script result || S.has_failed script.old) }
     ensures text_kept { blames Source.Text result ≡ false }

@@ -3,8 +3,7 @@ ghost use Rattle.std.specs.Prelude.{◌≡◌, ◌+◌, ◌^◌, ◌≤◌, ◌|
 ghost use Rattle.keymap_core.specs.Devices.{WritesText};
 ghost use Rattle.play_core.specs.Written.{typed_text, typed_by};
 
-use crate::output::{make_room, write_rest};
-use crate::piece::Piece;
+use crate::output::Output;
 use console_core::Answer;
 use keymap_core::{Write, WriteFault};
 
@@ -16,45 +15,46 @@ pub fn typed<W: Write>(answers: &[Answer], out: &mut W) -> Result<(), WriteFault
         result }
     ensures failed { W.has_failed out.new ≡ (is_err result || W.has_failed out.old) }
 {
-    let mut text = Piece::new();
-    let mut written = 0;
+    let mut text = Output::new();
     for answer in answers {
-        written = make_room(written, &mut text, out)?;
+        text.make_room(out, 5)?;
         push_typed(&mut text, answer);
     }
-    write_rest(written, &text, out)
+    text.finish(out)
 }
 
 /// Adds the bytes that an answer types.
 #[tactic(auto, unfolding(crate::specs::Written::typed_by))]
-pub(crate) fn push_typed(text: &mut Piece, answer: &Answer)
-    requires { length text.old.items + 5 ≤ 4096 }
-    ensures text { text.new.items ≡ text.old.items ++ typed_by answer.now }
-    ensures size { length text.new.items ≤ length text.old.items + 5 }
+pub(crate) fn push_typed(text: &mut Output, answer: &Answer)
+    requires { length text.old.waiting + 5 ≤ 65536 }
+    ensures written { text.new.written ≡ text.old.written }
+    ensures text { text.new.waiting ≡ text.old.waiting ++ typed_by answer.now }
+    ensures size { length text.new.waiting ≤ length text.old.waiting + 5 }
 {
     match answer {
         Answer::Char { c, meta } => {
             if *meta {
-                text.add(b"\x1b");
+                text.append(b"\x1b");
             }
             push_character(text, *c);
         }
-        Answer::BackTab => text.add(b"\x1b[Z"),
+        Answer::BackTab => text.append(b"\x1b[Z"),
         _ => {}
     }
 }
 
 /// Adds a character in UTF-8.
-fn push_character(text: &mut Piece, c: char)
-    requires { length text.old.items + 4 ≤ 4096 }
-    ensures text { text.new.items ≡ text.old.items ++ encode_utf8 c }
-    ensures size { length text.new.items ≤ length text.old.items + 4 }
+fn push_character(text: &mut Output, c: char)
+    requires { length text.old.waiting + 4 ≤ 65536 }
+    ensures written { text.new.written ≡ text.old.written }
+    ensures text { text.new.waiting ≡ text.old.waiting ++ encode_utf8 c }
+    ensures size { length text.new.waiting ≤ length text.old.waiting + 4 }
 {
     let number = c as u32;
     if number < 0x80 {
-        text.push(number as u8);
+        text.append(&[number as u8]);
     } else {
         let mut bytes = [0; 4];
-        text.extend(c.encode_utf8(&mut bytes).as_bytes());
+        text.append(c.encode_utf8(&mut bytes).as_bytes());
     }
 }

@@ -4,8 +4,8 @@ use keymap_core::ReadError;
 use keymap_fmt::FormatError;
 use keymap_tables::TableError;
 use keymap_text::TextError;
-use kmap_runs::{CommandError, RunError};
-use play_core::{PlayError, ScriptError, TypeError};
+use kmap_runs::{CommandError, RunError, TypeError};
+use play_core::{PlayError, ScriptError};
 use std::alloc::AllocError;
 use std::fmt;
 

@@ -5,7 +5,8 @@ use crate::support::keymaps::{ACCENTS, LETTER_AND_SHIFT, TWO_DEAD_KEYS};
 use console_core::Event;
 use console_scripts::Keyed;
 use keymap_text::read_map;
-use play_core::{TypeError, read_script, type_sentence};
+use kmap_runs::{TypeError, type_sentence};
+use play_core::read_script;
 use std::alloc::Global;
 use std::process::Abort;
 

@@ -7,7 +7,7 @@ use Rattle.std.specs.Prelude.{nat_eq}
 use Rattle.kmap_runs.proofs.Untyped.{judged-more, seen-more}
 use Rattle.kmap_runs.specs.Missing.{AreMissing}
 use Rattle.kmap_runs.specs.declared.missing.Missing.{Missing}
-use Rattle.play_core.proofs.Sentences.{one-further, room-for}
+use Rattle.kmap_runs.proofs.Sentences.{one-further, room-for}
 use Rattle.kmap_runs.proofs.missing.missing_among.Goals as goal
 
 pub overflow_add-offset : goal.overflow_add-offset

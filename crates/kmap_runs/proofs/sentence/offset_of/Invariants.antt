@@ -1,5 +1,6 @@
-use Rattle.play_core.proofs.Common.{◌≡◌, length, take, encode_utf8_all}
-use Rattle.play_core.proofs.sentence.offset_of.Given as goal
+use Rattle.kmap_runs.proofs.Common.{◌≡◌, length, take}
+use Rattle.std.specs.Str.{encode_utf8_all}
+use Rattle.kmap_runs.proofs.sentence.offset_of.Given as goal
 
 -- the bytes of the characters so far
 abbrev pub invariant-loop-c : goal.invariant-loop-c

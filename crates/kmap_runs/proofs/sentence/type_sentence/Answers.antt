@@ -1,10 +1,11 @@
-use Rattle.play_core.proofs.Common.{◌≡◌, ◌∙◌, ◌<◌, ℕ, Ok, ap, encode_utf8_all, length, subst, sym, take, AreTyped}
-use Rattle.std.specs.Str.{chars}
+use Rattle.kmap_runs.proofs.Common.{◌≡◌, ◌∙◌, ◌<◌, ℕ, Ok, ap, length, subst, sym, take}
+use Rattle.std.specs.Str.{chars, encode_utf8_all}
+use Rattle.console_scripts.specs.Typing.{AreTyped}
 use Rattle.std.proofs.lemmas.Iterator.{YieldsList-from_chars, items_from_collect}
 use Rattle.std.proofs.lemmas.Str.{encodes-chars}
 use Rattle.console_scripts.specs.Typing.{IsTypingError}
-use Rattle.play_core.proofs.Sentences.{untyped, typed-sentence, way_within}
-use Rattle.play_core.proofs.sentence.type_sentence.Goals as goal
+use Rattle.kmap_runs.proofs.Sentences.{untyped, typed-sentence, way_within}
+use Rattle.kmap_runs.proofs.sentence.type_sentence.Goals as goal
 
 pub returns-in-Ok-type_characters-clause-ok : goal.returns-in-Ok-type_characters-clause-ok
 returns-in-Ok-type_characters-clause-ok c =

@@ -1,7 +1,7 @@
-use Rattle.play_core.proofs.Common.{length-take-le, rules}
-use Rattle.std.proofs.lemmas.List.{get_or-take}
-use Rattle.play_core.proofs.Sentences.{room-for, one-further}
-use Rattle.play_core.proofs.sentence.offset_of.Goals as goal
+use Rattle.kmap_runs.proofs.Common.{rules}
+use Rattle.std.proofs.lemmas.List.{get_or-take, length-take-le}
+use Rattle.kmap_runs.proofs.Sentences.{room-for, one-further}
+use Rattle.kmap_runs.proofs.sentence.offset_of.Goals as goal
 
 pub overflow_add-offset : goal.overflow_add-offset
 overflow_add-offset c = search (rules, length-take-le, get_or-take, room-for)

@@ -1,7 +1,7 @@
 //! The sentences that the keys of a keymap type.
 ghost use Rattle.std.specs.Prelude.{◌≡◌, ◌^◌, ◌<◌, take, length, IfOk, IfErr};
 ghost use Rattle.std.specs.Str.{encode_utf8_all};
-ghost use Rattle.play_core.specs.Typing.{IsTyped, IsTypeError};
+ghost use Rattle.kmap_runs.specs.Sentences.{IsTyped, IsTypeError};
 
 use crate::type_error::TypeError;
 use console_scripts::{Typing, TypingError, type_characters};

@@ -1,8 +1,13 @@
 -- What answers type, and the offset of a character in a text.
-use Rattle.play_core.proofs.Common.{◌≡◌, ℕ, ◌<◌, List, [], ◌∷◌, ◌++◌, refl, ap, sym, ◌∙◌, map, length, take, drop}
-use Rattle.play_core.proofs.Common.{get_or, ◌+◌, ◌≤◌, arith, length-append, suc, take_more, flat_map, encode_utf8_all}
-use Rattle.play_core.proofs.Common.{Answer, answers_to, AreTyped, typed_by, typed_text, drop-cons, take-append-drop}
-use Rattle.play_core.proofs.Common.{Some, subst, rules}
+use Rattle.kmap_runs.proofs.Common.{◌≡◌, ℕ, ◌<◌, List, [], ◌∷◌, ◌++◌, refl, ap, sym, ◌∙◌, map, length, take, drop}
+use Rattle.kmap_runs.proofs.Common.{get_or, ◌+◌, ◌≤◌, arith, suc, flat_map, Some, subst, rules}
+use Rattle.std.proofs.Common.{length-append, drop-cons, take-append-drop}
+use Rattle.std.proofs.lemmas.List.{take_more}
+use Rattle.std.specs.Str.{encode_utf8_all}
+use Rattle.console_core.specs.History.{answers_to}
+use Rattle.console_core.specs.declared.event.Answer.{Answer}
+use Rattle.console_scripts.specs.Typing.{AreTyped}
+use Rattle.play_core.specs.Written.{typed_by, typed_text}
 use Rattle.std.specs.Char.{len_utf8}
 use Rattle.std.specs.Str.{IsUtf8, all_scalars, chars}
 use Rattle.std.proofs.lemmas.Option.{slice_get-get_or, slice_get_within, same_Some}
@@ -13,7 +18,7 @@ use Rattle.console_scripts.specs.declared.typing.Typing.{Typing}
 use Rattle.console_scripts.specs.declared.typing.TypingError.{TypingError}
 use Rattle.console_scripts.specs.declared.typing.TypingError.TheVariants as error
 use Rattle.console_scripts.specs.Typing.{CanType, IsTypingError, plainly, types_something}
-use Rattle.play_core.specs.Typing.{alone, IsTyped, IsUntyped}
+use Rattle.kmap_runs.specs.Sentences.{alone, IsTyped, IsUntyped}
 use Rattle.console_core.specs.declared.event.Answer.TheVariants as answer
 
 -- ---- what is typed

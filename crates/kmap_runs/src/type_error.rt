@@ -21,7 +21,7 @@ pub enum TypeError {
 
 impl From<AllocError> for TypeError {
     ghost use Rattle.std.specs.Prelude.{◌≡◌};
-    ghost use Rattle.play_core.specs.declared.type_error.TypeError.TheVariants.{Memory};
+    ghost use Rattle.kmap_runs.specs.declared.type_error.TypeError.TheVariants.{Memory};
 
     ghost from_gives = { λ _ e. e ≡ Memory };
 

@@ -7,8 +7,8 @@ use Rattle.console_core.specs.History.{Maps, between, answers_to}
 use Rattle.console_states.specs.Moves.{alone as under_alone}
 use Rattle.console_states.specs.Sticking.{ReachesMoreThan, state_limit}
 use Rattle.console_scripts.specs.Typing.{AreTyped, CanType}
-use Rattle.play_core.specs.declared.type_error.TypeError.{TypeError}
-use Rattle.play_core.specs.declared.type_error.TypeError.TheVariants.{Memory, NotText, NoWay, TooManyStates}
+use Rattle.kmap_runs.specs.declared.type_error.TypeError.{TypeError}
+use Rattle.kmap_runs.specs.declared.type_error.TypeError.TheVariants.{Memory, NotText, NoWay, TooManyStates}
 use Rattle.play_core.specs.Written.{typed_text}
 
 -- a console of one map

@@ -1,5 +1,5 @@
 -- What is added of the states that a search met is what moves lead to.
-use Rattle.console_states.proofs.Common.{◌≡◌, ◌≢◌, ℕ, ◌+◌, ◌<◌, ◌⊎◌, true, false, inl, inr, List, [], ◌∷◌, length}
+use Rattle.console_states.proofs.Common.{◌≡◌, ◌≢◌, ◌++◌, ℕ, ◌+◌, ◌<◌, ◌⊎◌, true, false, inl, inr, List, [], ◌∷◌, length}
 use Rattle.console_states.proofs.Common.{ap, subst, sym, ◌∙◌, arith, slice_get, Some, Contains, true≢false}
 use Rattle.console_states.proofs.Common.{get_or_default, Contains-push, Contains-push_cases, Contains-append_left, Cell}
 use Rattle.console_states.proofs.Common.{Act, usable, Under, State, look_in, Offers, state_of, Entry}
@@ -8,8 +8,7 @@ use Rattle.console_states.specs.Inner.Adding.{AddsOffer}
 use Rattle.console_states.specs.Inner.KeyLists.{AreKeysOf, IsOther}
 use Rattle.console_states.proofs.KeyLists.{read-below}
 use Rattle.console_states.specs.declared.key_lists.CellKind.TheVariants.{DeadKey}
-use Rattle.std.proofs.lemmas.List.Quantifiers.{all_pairs_push}
-use Rattle.console_states.specs.Sights.{Enumerates, HasNoDoubles}
+use Rattle.console_states.specs.Sights.{Lists}
 use Rattle.console_states.proofs.Searching.{place_last, same_entry}
 use Rattle.keymap_core.specs.declared.action.Action.TheVariants as act
 
@@ -22,15 +21,11 @@ adds-none P old now e none = search rules
 -- an element, if it wasn't there
 pub adds-one : {X : Type 0} (x : X) (old now : List X) → IsWith x old now → Adds (λ y. x ≡ y) old now
 adds-one x old now (inl (e, has)) = search rules
-adds-one x old now (inr (e, none)) = record {
-  kept = λ y there. subst (λ z. Contains z y) (sym e) (Contains-append_left old (x ∷ []) y there);
-  all = λ y is. subst (λ z. Contains now z) is (subst (λ z. Contains z x) (sym e) (Contains-push old x));
-  only = λ y there. Contains-push_cases old x y (subst (λ z. Contains z y) e there);
-  once = λ once.
-      subst (λ z. HasNoDoubles z) (sym e)
-      (all_pairs_push (λ y z. y ≢ z) old x once (λ k d lt same.
-      none (k, lt, sym (get_or_default old k d x lt) ∙ same)));
-}
+adds-one x old now (inr e) = rw e (record {
+  kept = λ y there. Contains-append_left old (x ∷ []) y there;
+  all = λ y is. subst (λ z. Contains (old ++ x ∷ []) z) is (Contains-push old x);
+  only = λ y there. Contains-push_cases old x y there;
+})
 
 -- what P adds is what Q adds, where both say the same
 pub adds-as : {X : Type 0} (P Q : X → Type 0) (old now : List X) → ((x : X) → P x → Q x) → ((x : X) → Q x → P x)
@@ -46,7 +41,7 @@ pub empty-none : {X : Type 0} (xs : List X) (y : X) → xs ≡ [] → Contains x
 empty-none xs y e (k, lt, at) = let z : length xs ≡ 0 = ap (λ q. length q) e in omega (arith, lt, z)
 
 -- what is added to nothing is all
-pub enumerates : {X : Type 0} (P : X → Type 0) (xs : List X) → Adds P [] xs → Enumerates P xs
+pub enumerates : {X : Type 0} (P : X → Type 0) (xs : List X) → Adds P [] xs → Lists P xs
 enumerates P xs a = search (rules, empty-none)
 
 -- what is so in one more state

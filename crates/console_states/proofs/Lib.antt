@@ -23,7 +23,6 @@ pub mod Sparing
 pub mod Standing
 pub mod Staying
 pub mod Tapping
-pub mod Twice
 pub mod Unscrolled
 pub mod Visible
 pub mod Visits

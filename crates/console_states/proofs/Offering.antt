@@ -11,7 +11,7 @@ use Rattle.console_states.proofs.Common.{unscrolled, IsBehind, AreBehind, AreOff
 use Rattle.console_states.proofs.Common.{AreSelectionsOf, AreOffersOf, IsInSome, rules}
 use Rattle.indexmap.proofs.IndexTableLemmas.Probe.{pigeonhole}
 use Rattle.std.proofs.lemmas.Bool.{true_from_ne_false}
-use Rattle.console_states.specs.Sights.{AreComposed, CanCompose, CanOffer, CanSelect, Enumerates, accents_in}
+use Rattle.console_states.specs.Sights.{AreComposed, CanCompose, CanOffer, CanSelect, Lists, accents_in}
 use Rattle.console_states.specs.Sights.{IsOfferedAlong}
 use Rattle.console_states.specs.Inner.Adding.{AreAccentsOf, IsLedTo, OffersUnlocked}
 use Rattle.console_states.specs.Searching.{AreMetOnce}
@@ -181,7 +181,7 @@ behind-composes m accent s y (path, is, offered, leads) e =
 
 pub composing-behind : (m : MapValue) (accent : ℕ) (met es : Entries) (ys : List Selection)
     → Searched (alone m) (start ∷ []) met (length met) (length met) → AreBehind (alone m) accent met es
-    → AreSelectionsOf es ys → Enumerates (CanCompose m accent) ys
+    → AreSelectionsOf es ys → Lists (CanCompose m accent) ys
 composing-behind m accent met es ys searched behind are = record {
   all = λ y (path, is, offered, e).
       let (j, x, at, near) =
@@ -190,7 +190,6 @@ composing-behind m accent met es ys searched behind are = record {
   only = λ y has.
       let (j, x, at, lt, e) = are.only y has in
       behind-composes m accent (state_of x.0) y (met-behind (alone m) accent met es searched behind j x at) e;
-  once = are.once;
 }
 
 -- Where the accent is offered with no lock on, all let go leads to the start, so all states are behind.
@@ -228,7 +227,7 @@ led-met u met searched j x at = let r = reached-one searched j x at in (r.0, r.2
 
 pub composing-all : (m : MapValue) (accent : ℕ) (met : Entries) (ys : List Selection)
     → Searched (alone m) (start ∷ []) met (length met) (length met) → usable m accent ≡ true
-    → IsOfferedUnlocked (alone m) met accent → AreSelectionsOf met ys → Enumerates (CanCompose m accent) ys
+    → IsOfferedUnlocked (alone m) met accent → AreSelectionsOf met ys → Lists (CanCompose m accent) ys
 composing-all m accent met ys searched can (i, z, here, offers) are = record {
   all = λ y (path, is, along, e).
       let (j, x, at, near) = near-met (alone m) met searched path is in
@@ -238,7 +237,6 @@ composing-all m accent met ys searched can (i, z, here, offers) are = record {
       let (path, is, leads, off) = led-met (alone m) met searched j x at in
       composing-some m accent (state_of z.0) y (led-met (alone m) met searched i z here) can offers
       (path, is, ap (λ s. selection_of s) leads ∙ e);
-  once = are.once;
 }
 
 -- ---- all together
@@ -249,13 +247,13 @@ accents-push [] o = refl
 accents-push (x ∷ offers) o = ap (λ z. x.accent ∷ z) (accents-push offers o)
 
 pub offers-more : (m : MapValue) (accents : List ℕ) (offers now : List Offer) (o : Offer) → AreOffersOf m accents offers
-    → now ≡ offers ++ o ∷ [] → Enumerates (CanCompose m o.accent) o.selections.items
+    → now ≡ offers ++ o ∷ [] → Lists (CanCompose m o.accent) o.selections.items
     → AreOffersOf m (accents ++ o.accent ∷ []) now
 offers-more m accents offers now o before e is = rw e (record {
   all = accents-push offers o ∙ ap (λ z. z ++ o.accent ∷ []) before.all;
   each = λ p has. elim (Contains-push_cases offers o p has) [
     | inl was ↦ before.each p was
-    | inr same ↦ subst (λ q. Enumerates (CanCompose m q.accent) q.selections.items) same is
+    | inr same ↦ subst (λ q. Lists (CanCompose m q.accent) q.selections.items) same is
   ];
 })
 
@@ -294,7 +292,7 @@ pub sights-are : (m : MapValue) (met : Entries) (x : Sights) (accents : List ℕ
 sights-are m met x accents searched selections offers offered some none = record {
   selections = enumerates-met (λ y s. selection_of s ≡ y) x.selections.items selections
       (λ y s t near e. ap (λ z. selection_of z) near ∙ e);
-  accents = subst (λ z. Enumerates (CanOffer m) z) (sym offered.all)
+  accents = subst (λ z. Lists (CanOffer m) z) (sym offered.all)
       (enumerates-met (λ a s. IsOfferedIn u s a) accents offers (λ a s t near here. offered-near u s t a near here));
   composing = offered.each;
   forgets = (
@@ -315,13 +313,12 @@ sights-are m met x accents searched selections offers offered some none = record
 
     -- what is so in a state that was met is so where moves lead
     enumerates-met : {X : Type 0} (Q : X → State → Type 0) (xs : List X)
-        → Enumerates (λ y. IsInSome met (length met) (Q y)) xs
+        → Lists (λ y. IsInSome met (length met) (Q y)) xs
         → ((y : X) (s t : State) → unscrolled t ≡ unscrolled s → Q y s → Q y t)
-        → Enumerates (λ y. (path : List Move) × IsPath u path × Q y (state_after u path)) xs
+        → Lists (λ y. (path : List Move) × IsPath u path × Q y (state_after u path)) xs
     enumerates-met Q xs are near_so = record {
       all = λ y (path, is, here).
           let (j, z, at, near) = near-met u met searched path is in
           are.all y (j, z, at, slice_get_within met j z at, near_so y (state_after u path) (state_of z.0) near here);
       only = λ y has. let (j, z, at, lt, is) = are.only y has in reached j z at (Q y) is;
-      once = are.once;
     }

@@ -134,7 +134,12 @@ CanForget m = (path : List Move) × IsPath (alone m) path × IsForgetful (alone 
 abbrev pub HasNoDoubles : {X : Type 0} → List X → Type 0
 HasNoDoubles xs = AllPairs (λ x y. x ≢ y) xs
 
--- the list is all of which P holds, each once
+-- the list is all of which P holds
+pub record Lists {X : Type 0} (P : X → Type 0) (xs : List X) : Type 0 where
+  pub all : (x : X) → P x → Contains xs x
+  pub only : (x : X) → Contains xs x → P x
+
+-- and each once
 pub record Enumerates {X : Type 0} (P : X → Type 0) (xs : List X) : Type 0 where
   pub all : (x : X) → P x → Contains xs x
   pub only : (x : X) → Contains xs x → P x
@@ -145,9 +150,9 @@ accents_in offers = map (λ o. o.accent) offers
 
 -- What a search found is all that moves lead to.
 pub record AreSightsOf (m : MapValue) (x : Sights) : Type 0 where
-  pub selections : Enumerates (CanSelect m) x.selections.items
-  pub accents : Enumerates (CanOffer m) (accents_in x.offers.items)
-  pub composing : (o : Offer) → Contains x.offers.items o → Enumerates (CanCompose m o.accent) o.selections.items
+  pub selections : Lists (CanSelect m) x.selections.items
+  pub accents : Lists (CanOffer m) (accents_in x.offers.items)
+  pub composing : (o : Offer) → Contains x.offers.items o → Lists (CanCompose m o.accent) o.selections.items
   pub forgets : (x.forgets ≡ true → CanForget m) × (CanForget m → x.forgets ≡ true)
 
 -- Under each selection that is offered with an accent the accent can be pending.

@@ -9,7 +9,7 @@ use Rattle.console_core.specs.declared.event.Event.TheVariants.{Press, Release, 
 use Rattle.console_states.specs.declared.outcome.Sticking.{Sticking}
 use Rattle.console_states.specs.declared.outcome.Sticking.TheVariants.{Sticks, Never, Undecided}
 use Rattle.console_core.specs.Positions.{count_where}
-use Rattle.console_core.specs.History.{Maps, between, in_force, is_on_after, pressed, HasKeys, HasNoLoads, IsQuiet}
+use Rattle.console_core.specs.History.{Maps, in_force, is_on_after, pressed, HasKeys, HasNoLoads, IsQuiet}
 use Rattle.console_core.specs.Headline.{IsSafe, IsOnOnlyWhilePressed, IsOffOnceQuiet}
 use Rattle.console_states.specs.declared.held.Move.{Move}
 use Rattle.console_states.specs.Moves.{Under, alone, with_loads, State, start, IsPath, state_after, presses_along}
@@ -161,21 +161,3 @@ says_sticks _ = false
 abbrev pub SafeNeverAnswersSticks : Type 0
 SafeNeverAnswersSticks =
     (ms : Maps) (a : Sticking) → IsSafe ms.first → IsSafe ms.second → IsAnswerBetween ms a → says_sticks a ≡ false
-
--- Two answers agree: where both give a list, the lists have as many presses, and where one is undecided, each list of
--- the other has more presses than it tells.
-abbrev pub AreAlike : Sticking → Sticking → Type 0
-AreAlike (Sticks events on) (Sticks others others_on) = presses (reverse events.items) ≡ presses (reverse others.items)
-AreAlike (Sticks events on) Never = ⊥
-AreAlike (Sticks events on) (Undecided p) = p < presses (reverse events.items)
-AreAlike Never (Sticks events on) = ⊥
-AreAlike Never Never = Unit {0}
-AreAlike Never (Undecided p) = Unit {0}
-AreAlike (Undecided p) (Sticks events on) = p < presses (reverse events.items)
-AreAlike (Undecided p) Never = Unit {0}
-AreAlike (Undecided p) (Undecided q) = Unit {0}
-
--- Of a keymap twice the search answers as of the keymap alone.
-abbrev pub AnswersAlikeOfOneKeymap : Type 0
-AnswersAlikeOfOneKeymap =
-    (m : MapValue) (a b : Sticking) → IsAnswer m a → IsAnswerBetween (between m m) b → AreAlike a b

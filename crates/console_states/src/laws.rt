@@ -1,7 +1,6 @@
 //! Laws that tie states and moves to lists of events: which paths leave a modifier on, and what can be seen.
 ghost use Rattle.console_states.specs.Sticking.{NeverSticksUnlessReached, SticksIfReached};
 ghost use Rattle.console_states.specs.Sticking.{SafeNeverSticksBetween, SafeNeverForgets, SafeNeverAnswersSticks};
-ghost use Rattle.console_states.specs.Sticking.{AnswersAlikeOfOneKeymap};
 ghost use Rattle.console_states.specs.Sights.{LooksAreSelected, SightsAreReachable, ReachableIsSeen};
 
 /// A keymap, or two that loads exchange, can leave a modifier on while no key is pressed exactly if a path of moves
@@ -19,13 +18,6 @@ pub fn safe_maps_never_stick_between()
     ensures lists { SafeNeverSticksBetween }
     ensures states { SafeNeverForgets }
     ensures answers { SafeNeverAnswersSticks }
-{}
-
-/// Between a keymap and itself the search answers as for the keymap alone, where both are decided: that a modifier
-/// sticks, by as many presses, or that none does. Where one is undecided, a list of the other has more presses than
-/// that tells.
-pub fn one_keymap_twice_sticks_as_alone()
-    ensures { AnswersAlikeOfOneKeymap }
 {}
 
 /// A key looks up the cell at the slot and column that the selection picks. What a press after a list sees can be seen

@@ -5,7 +5,7 @@ ghost use Rattle.std.specs.List.{Contains};
 ghost use Rattle.keymap_core.specs.Numbers.{key_count};
 ghost use Rattle.console_core.specs.Answers.{usable};
 ghost use Rattle.console_states.specs.Moves.{alone};
-ghost use Rattle.console_states.specs.Sights.{AreComposed, CanCompose, Enumerates};
+ghost use Rattle.console_states.specs.Sights.{AreComposed, CanCompose, Lists};
 ghost use Rattle.console_states.specs.Searching.{state_of, under_of, HasMetAll};
 ghost use Rattle.console_states.specs.Inner.Adding.{IsWith, AddsOffer, AddsOffers, AreAccentsOf, AreSelectionsOf};
 ghost use Rattle.console_states.specs.Inner.Adding.{IsOfferedUnlocked, AreUnlocked, AreOffering};
@@ -67,7 +67,7 @@ fn add_offers(
     Ok(())
 }
 
-/// The accents that are offered in the states that were met, each once.
+/// The accents that are offered in the states that were met.
 fn accents_of(alloc: Global, met: &Met, maps: &Keymaps) -> Result<Vec<u8>, AllocError>
     ensures { IfOk result (λ accents. AreAccentsOf (under_of maps.now) met.now.entries accents.items) }
 {
@@ -147,7 +147,7 @@ fn selections_behind(
     requires met { HasMetAll maps.now met.now.entries }
     requires usable { usable maps.now.first.now accent ≡ true }
     requires all { AreSelectionsOf met.now.entries all.now }
-    ensures { IfOk result (λ v. Enumerates (CanCompose maps.now.first.now accent) v.items) }
+    ensures { IfOk result (λ v. Lists (CanCompose maps.now.first.now accent) v.items) }
 {
     if is_offered_unlocked(met, maps, accent) {
         copied(alloc, all)

@@ -20,9 +20,9 @@ use std::alloc::{AllocError, Global};
 /// What presses of keys can see under a keymap.
 #[derive(Debug, Drop)]
 pub struct Sights {
-    /// The selections of the states, each once, in the order in which they were met.
+    /// The selections of the states, in the order in which they were met.
     pub selections: Vec<Selection>,
-    /// The usable accents whose dead keys are looked up by keys that hold nothing, each once.
+    /// The usable accents whose dead keys are looked up by keys that hold nothing.
     pub offers: Vec<Offer>,
     /// Whether a key that holds a modifier looks up a character, so that the modifier can be forgotten. Where these are
     /// some sights alone, that isn't asked.
@@ -33,13 +33,12 @@ pub struct Sights {
 #[derive(Debug, Drop)]
 pub struct Offer {
     pub accent: u8,
-    /// The selections of the states that moves lead to from where its dead key is looked up, each once.
+    /// The selections of the states that moves lead to from where its dead key is looked up.
     pub selections: Vec<Selection>,
 }
 
 fn has_selection(selections: &[Selection], selection: Selection) -> bool
-    ensures among { result ≡ true → Contains selections.now selection }
-    ensures missing { result ≡ false → Contains selections.now selection → ⊥ }
+    ensures { result ≡ true → Contains selections.now selection }
 {
     for other in selections {
         if *other == selection {
@@ -59,7 +58,7 @@ fn add_selection(selections: &mut Vec<Selection>, selection: Selection) -> Resul
     Ok(())
 }
 
-/// The selections of the states that were met, each once.
+/// The selections of the states that were met.
 pub fn selections_of(alloc: Global, met: &Met) -> Result<Vec<Selection>, AllocError>
     ensures { IfOk result (λ v. AreSelectionsOf met.now.entries v.items) }
 {

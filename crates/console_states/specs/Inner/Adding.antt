@@ -9,21 +9,19 @@ use Rattle.console_states.specs.Types.{Move, Selection, Sight, Offer}
 use Rattle.console_states.specs.declared.held.Held.{Held}
 use Rattle.console_core.specs.Answers.{usable}
 use Rattle.console_states.specs.Moves.{Under, State, IsPath, state_after}
-use Rattle.console_states.specs.Sights.{CanCompose, CanSelect, Offers, IsOfferedIn, IsOfferedAlong, HasNoDoubles}
-use Rattle.console_states.specs.Sights.{Enumerates, accents_in}
-use Rattle.console_states.specs.Sights.{selection_of, SeesBy}
+use Rattle.console_states.specs.Sights.{CanCompose, CanSelect, Offers, IsOfferedIn, IsOfferedAlong, Lists}
+use Rattle.console_states.specs.Sights.{accents_in, selection_of, SeesBy}
 use Rattle.console_states.specs.Searching.{state_of, Entry, Entries, Searched}
 
--- the list has x, which was added if it wasn't there
+-- the list has x, which was added unless it was there
 abbrev pub IsWith : {X : Type 0} → X → List X → List X → Type 0
-IsWith x old now = ((now ≡ old) × Contains old x) ⊎ ((now ≡ old ++ x ∷ []) × (Contains old x → ⊥))
+IsWith x old now = ((now ≡ old) × Contains old x) ⊎ (now ≡ old ++ x ∷ [])
 
--- What was added is all of which P holds, and nothing else, and nothing twice.
+-- What was added is all of which P holds, and nothing else.
 pub record Adds {X : Type 0} (P : X → Type 0) (old now : List X) : Type 0 where
   pub kept : (x : X) → Contains old x → Contains now x
   pub all : (x : X) → P x → Contains now x
   pub only : (x : X) → Contains now x → Contains old x ⊎ P x
-  pub once : HasNoDoubles old → HasNoDoubles now
 
 -- Q holds in a state that was met, below the place
 abbrev pub IsInSome : Entries → ℕ → (State → Type 0) → Type 0
@@ -31,7 +29,7 @@ IsInSome es n Q = (j : ℕ) × (x : Entry) × (slice_get es j ≡ Some x) × (j 
 
 -- the selections are those of the states that were met
 abbrev pub AreSelectionsOf : Entries → List Selection → Type 0
-AreSelectionsOf es ys = Enumerates (λ y. IsInSome es (length es) (λ s. selection_of s ≡ y)) ys
+AreSelectionsOf es ys = Lists (λ y. IsInSome es (length es) (λ s. selection_of s ≡ y)) ys
 
 -- the usable accent of this key was added
 abbrev pub AddsOffer : Under → State → ℕ → List ℕ → List ℕ → Type 0
@@ -44,7 +42,7 @@ AddsOffers u s n old now =
 
 -- the accents are those that are offered in the states that were met
 abbrev pub AreAccentsOf : Under → Entries → List ℕ → Type 0
-AreAccentsOf u es accents = Enumerates (λ a. IsInSome es (length es) (λ s. IsOfferedIn u s a)) accents
+AreAccentsOf u es accents = Lists (λ a. IsInSome es (length es) (λ s. IsOfferedIn u s a)) accents
 
 -- no lock is on but the scroll lock
 abbrev pub IsUnlocked : State → Type 0
@@ -96,7 +94,7 @@ AreBehind u accent met es =
 -- the offers are those of the accents
 pub record AreOffersOf (m : MapValue) (accents : List ℕ) (offers : List Offer) : Type 0 where
   pub all : accents_in offers ≡ accents
-  pub each : (o : Offer) → Contains offers o → Enumerates (CanCompose m o.accent) o.selections.items
+  pub each : (o : Offer) → Contains offers o → Lists (CanCompose m o.accent) o.selections.items
 
 -- a press of some key sees the sight under one of the selections
 abbrev pub IsSelectedBy : MapValue → List Selection → Sight → Type 0

@@ -25,7 +25,7 @@
 #include <stddef.h>
 #include <stdint.h>
 
-#if UINTPTR_MAX != 0xffffffffffffffff
+#if defined __SIZEOF_POINTER__ && __SIZEOF_POINTER__ != 8
 #error kmap: x86-64 only, with pointers of 64 bits
 #endif
 

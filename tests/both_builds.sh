@@ -45,11 +45,13 @@ answers() {
     )
 }
 
-# ended WANTED: the first build ended in time and with that status, and with 0 told no fault; `any` wants 0 or 1
+# ended WANTED: the first build ended in time and with that status, and with 0 told no fault; `any` wants 0 or 1, and
+# `answered` also the 2 of a command that couldn't answer
 ended() {
     status=$(cat first/status)
     case $1 in
     any) [ "$status" -le 1 ] ;;
+    answered) [ "$status" -le 2 ] ;;
     *) [ "$status" -eq "$1" ] ;;
     esac && { [ "$status" -ne 0 ] || [ ! -s first/err ]; }
 }
@@ -97,14 +99,24 @@ within() {
     fi
 }
 
+# answer_of WANTED: the same for a command that tells by 1 what it found
+answer_of() {
+    case $1 in
+    1) echo 2 ;;
+    any) echo answered ;;
+    *) echo "$1" ;;
+    esac
+}
+
 # texts WANTED: what is done with an input that is a keymap text; in its layout it may be too long, or differ
 texts() {
+    answer=$(answer_of "$1")
     same "$1" check /dev/stdin
     same "$1" check --show /dev/stdin
-    same "$1" search /dev/stdin
-    same "$1" search /dev/stdin --next ../us.kbd
-    same "$1" diff /dev/stdin ../us.kbd
-    same "$1" lint /dev/stdin
+    same "$answer" search /dev/stdin
+    same "$answer" search /dev/stdin --next ../us.kbd
+    same "$answer" diff /dev/stdin ../us.kbd
+    same "$answer" lint /dev/stdin
     same any fmt --print /dev/stdin
     same any fmt --check /dev/stdin
     same "$1" draw /dev/stdin

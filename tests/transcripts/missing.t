@@ -1,4 +1,4 @@
-`kmap type --missing` tells each character of a sentence that no keys type, once, where it stands first.
+`kmap type --missing` tells each character of a sentence that no keys were found for, once, where it stands first.
 
   $ cat > shift << 'END'
   > 030 'a' 'A' soh soh 'a' 'A' soh soh C

@@ -15,4 +15,3 @@ mod surface_of_text;
 mod table_faults;
 mod tables;
 mod tokens;
-mod transfers;

@@ -1,6 +1,6 @@
 //! Keymaps whose report and demonstration were worked out by hand.
 
-use crate::asserts::{expect_at, expect_equal, expect_equal_at};
+use crate::asserts::{expect_at, expect_equal, expect_equal_at, map_of};
 use crate::consoles::console::Input::{Down, Up};
 use crate::consoles::console::{Input, event, key};
 use crate::support::keymaps::{
@@ -10,7 +10,6 @@ use crate::support::keymaps::{
 use console_core::Event;
 use keymap_check::{Bearer, Finding, Place, Report, check, demonstrate};
 use keymap_core::{Holding, LOCKS, Lock, MODIFIERS, Modifier};
-use keymap_text::read_map;
 use std::process::Abort;
 
 /// Which key bears something, by its code.
@@ -21,148 +20,88 @@ enum Borne {
     Several,
 }
 
+use Borne::{Several, Sole, Throughout};
+
 /// A finding: its key and modifier, which is in column 0 of the key's slot, and the slot and column of the character.
 type Trap = (u8, Modifier, u8, u8);
 
-/// The bearers of modifiers and locks; nobody bears the others.
-type Bearers = (&'static [(Modifier, Borne)], &'static [(Lock, Borne)]);
-
-/// A text, what its report finds and names, the locks that are steady, and the demonstration.
-struct Checked {
-    text: &'static [u8],
-    traps: &'static [Trap],
-    bearers: Bearers,
-    steady: &'static [Lock],
-    script: &'static [Input],
-}
+/// A text, what its report finds, and the demonstration.
+type Checked = (&'static [u8], &'static [Trap], &'static [Input]);
 
 static CHECKED: [Checked; 9] = [
-    Checked {
-        text: b"",
-        traps: &[],
-        bearers: (&[], &[]),
-        steady: &[],
-        script: &[],
-    },
-    Checked {
-        text: TWO_SCROLL_LOCKS,
-        traps: &[],
-        bearers: (&[], &[(Lock::Scroll, Borne::Several)]),
-        steady: &[],
-        script: &[],
-    },
-    Checked {
-        text: DUMPED_LINE,
-        traps: &[],
-        bearers: (&[], &[(Lock::Scroll, Borne::Sole(104))]),
-        steady: &[],
-        script: &[],
-    },
-    Checked {
-        text: CAPS_WITH_NOPS,
-        traps: &[],
-        bearers: (
-            &[(Modifier::LeftShift, Borne::Throughout(42))],
-            &[(Lock::Caps, Borne::Sole(58))],
-        ),
-        steady: &[],
-        script: &[],
-    },
-    Checked {
-        text: UPPER_HALF,
-        traps: &[],
-        bearers: (
-            &[(Modifier::AltShift, Borne::Throughout(93))],
-            &[(Lock::Alt, Borne::Throughout(58))],
-        ),
-        steady: &[Lock::Alt],
-        script: &[],
-    },
-    Checked {
-        text: SHIFT_ALONE,
-        traps: &[],
-        bearers: (&[(Modifier::LeftShift, Borne::Throughout(42))], &[]),
-        steady: &[],
-        script: &[],
-    },
-    Checked {
-        text: SHIFT_WITH_TRAP,
-        traps: &[(42, Modifier::LeftShift, 42, 2)],
-        bearers: (
-            &[
-                (Modifier::LeftShift, Borne::Sole(42)),
-                (Modifier::LeftControl, Borne::Throughout(29)),
-            ],
-            &[],
-        ),
-        steady: &[],
-        script: &[Down(42), Down(29), Down(42), Up(42), Up(29)],
-    },
-    Checked {
-        text: SHIFT_WITHOUT_TRAP,
-        traps: &[(42, Modifier::LeftShift, 42, 2)],
-        bearers: (
-            &[
-                (Modifier::LeftShift, Borne::Sole(42)),
-                (Modifier::LeftControl, Borne::Throughout(29)),
-            ],
-            &[],
-        ),
-        steady: &[],
-        script: &[],
-    },
-    Checked {
-        text: ALT_SHIFT_WITH_TRAP,
-        traps: &[
+    (b"", &[], &[]),
+    (TWO_SCROLL_LOCKS, &[], &[]),
+    (DUMPED_LINE, &[], &[]),
+    (CAPS_WITH_NOPS, &[], &[]),
+    (UPPER_HALF, &[], &[]),
+    (SHIFT_ALONE, &[], &[]),
+    (
+        SHIFT_WITH_TRAP,
+        &[(42, Modifier::LeftShift, 42, 2)],
+        &[Down(42), Down(29), Down(42), Up(42), Up(29)],
+    ),
+    (SHIFT_WITHOUT_TRAP, &[(42, Modifier::LeftShift, 42, 2)], &[]),
+    (
+        ALT_SHIFT_WITH_TRAP,
+        &[
             (42, Modifier::LeftShift, 170, 0),
             (93, Modifier::AltShift, 221, 0),
         ],
-        bearers: (
-            &[
-                (Modifier::LeftShift, Borne::Sole(42)),
-                (Modifier::AltShift, Borne::Sole(93)),
-            ],
-            &[],
-        ),
-        steady: &[],
-        script: &[Down(42), Down(93), Down(42), Up(42), Up(93)],
-    },
+        &[Down(42), Down(93), Down(42), Up(42), Up(93)],
+    ),
 ];
 
-fn bearer(rt: &impl Abort, borne: Borne) -> Bearer {
-    match borne {
-        Borne::Throughout(code) => Bearer::Throughout(key(rt, code)),
-        Borne::Sole(code) => Bearer::Sole(key(rt, code)),
-        Borne::Several => Bearer::Several,
-    }
-}
+/// Who bears the modifiers and locks of a text; nobody bears the others.
+static BORNE_MODIFIERS: [(&[u8], Modifier, Borne); 9] = [
+    (CAPS_WITH_NOPS, Modifier::LeftShift, Throughout(42)),
+    (UPPER_HALF, Modifier::AltShift, Throughout(93)),
+    (SHIFT_ALONE, Modifier::LeftShift, Throughout(42)),
+    (SHIFT_WITH_TRAP, Modifier::LeftShift, Sole(42)),
+    (SHIFT_WITH_TRAP, Modifier::LeftControl, Throughout(29)),
+    (SHIFT_WITHOUT_TRAP, Modifier::LeftShift, Sole(42)),
+    (SHIFT_WITHOUT_TRAP, Modifier::LeftControl, Throughout(29)),
+    (ALT_SHIFT_WITH_TRAP, Modifier::LeftShift, Sole(42)),
+    (ALT_SHIFT_WITH_TRAP, Modifier::AltShift, Sole(93)),
+];
 
-/// The bearer that the table names, or else nobody.
-fn bearer_in<T: Copy + PartialEq>(rt: &impl Abort, bearers: &[(T, Borne)], wanted: T) -> Bearer {
-    for &(borne, by) in bearers {
-        if borne == wanted {
-            return bearer(rt, by);
+static BORNE_LOCKS: [(&[u8], Lock, Borne); 4] = [
+    (TWO_SCROLL_LOCKS, Lock::Scroll, Several),
+    (DUMPED_LINE, Lock::Scroll, Sole(104)),
+    (CAPS_WITH_NOPS, Lock::Caps, Sole(58)),
+    (UPPER_HALF, Lock::Alt, Throughout(58)),
+];
+
+/// The bearer that a row names, or else nobody.
+fn bearer_in<T: Copy + PartialEq>(
+    rt: &impl Abort,
+    rows: &[(&[u8], T, Borne)],
+    text: &[u8],
+    wanted: T,
+) -> Bearer {
+    for &(own, borne, by) in rows {
+        if own == text && borne == wanted {
+            return match by {
+                Throughout(code) => Bearer::Throughout(key(rt, code)),
+                Sole(code) => Bearer::Sole(key(rt, code)),
+                Several => Bearer::Several,
+            };
         }
     }
     Bearer::Nobody
 }
 
-/// Asserts that the report names these bearers and no more, and these steady locks and no more.
-fn expect_bearers(rt: &impl Abort, report: &Report, checked: &Checked) {
+/// Asserts who bears each modifier and lock, and that the alt lock of the upper half is the only one that is steady.
+fn expect_bearers(rt: &impl Abort, report: &Report, text: &[u8]) {
     for modifier in MODIFIERS {
         let given = report.bearer(Holding::Mod(modifier));
-        expect_equal_at(
-            rt,
-            modifier,
-            given,
-            bearer_in(rt, checked.bearers.0, modifier),
-        );
+        let wanted = bearer_in(rt, &BORNE_MODIFIERS, text, modifier);
+        expect_equal_at(rt, modifier, given, wanted);
     }
     for lock in LOCKS {
         let given = report.bearer(Holding::Lock(lock));
-        expect_equal_at(rt, lock, given, bearer_in(rt, checked.bearers.1, lock));
-        let is_steady = report.steady(lock);
-        expect_equal_at(rt, lock, is_steady, checked.steady.contains(&lock));
+        expect_equal_at(rt, lock, given, bearer_in(rt, &BORNE_LOCKS, text, lock));
+        let is_steady = text == UPPER_HALF && lock == Lock::Alt;
+        expect_equal_at(rt, lock, report.steady(lock), is_steady);
     }
 }
 
@@ -189,20 +128,19 @@ fn expect_script(rt: &impl Abort, events: &[Event], script: &[Input]) {
 
 #[test]
 fn reports_are_as_worked_out(rt: HostRuntime) {
-    for checked in &CHECKED {
-        let map = read_map(rt.alloc(), checked.text).expect(&rt, "a map");
+    for &(text, traps, script) in &CHECKED {
+        let map = map_of(&rt, text);
         let report = check(&map);
-        let is_accepted = report.accepted() == checked.traps.is_empty();
-        expect_at(&rt, checked.text, is_accepted);
+        expect_at(&rt, text, report.accepted() == traps.is_empty());
         let findings = report.findings();
-        expect_equal_at(&rt, checked.text, findings.len(), checked.traps.len());
-        for (given, trap) in findings.iter().zip(checked.traps) {
-            expect_equal_at(&rt, checked.text, given, &finding(&rt, *trap));
+        expect_equal_at(&rt, text, findings.len(), traps.len());
+        for (given, trap) in findings.iter().zip(traps) {
+            expect_equal_at(&rt, text, given, &finding(&rt, *trap));
         }
-        expect_bearers(&rt, &report, checked);
+        expect_bearers(&rt, &report, text);
         match demonstrate(&map) {
-            Some(events) => expect_script(&rt, events.as_slice(), checked.script),
-            None => expect_script(&rt, &[], checked.script),
+            Some(events) => expect_script(&rt, events.as_slice(), script),
+            None => expect_script(&rt, &[], script),
         }
     }
 }

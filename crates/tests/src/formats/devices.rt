@@ -1,11 +1,12 @@
-//! Readers and writers that fail at each byte, and how much is read of a text that is too long.
+//! Reading and writing at devices: a reader and a writer that fail in mid-stream, how much is read of a text that is too
+//! long, and how pieces are gathered.
 
-use crate::asserts::{expect_at, expect_equal_at, map_of};
+use crate::asserts::{expect_at, expect_equal, expect_equal_at, map_of};
 use crate::formats::reading::is_map;
 use crate::formats::tables::{Form, LENGTH};
-use crate::support::devices::{Tape, comparing_with, sheet_of, tape_of};
+use crate::support::devices::{Sheet, Tape, reader_of, sheet_of, tape_of};
 use crate::support::keymaps::{ACCENTS, LETTER_AND_SHIFT};
-use keymap_core::{KeyMap, Read, ReadFault, ReadFaultKind, Write, WriteFault};
+use keymap_core::{KeyMap, Read, ReadFault, ReadFaultKind, Stream, Write, WriteFault, read_up_to};
 use keymap_tables::{NarrowError, TableError};
 use keymap_text::{TextError, TextFault, TextFaultKind, print_map, read_from, read_map};
 use std::alloc::Global;
@@ -35,25 +36,23 @@ fn read_fault(alloc: Global, format: Format, tape: &mut Tape<'_>) -> Option<Read
     }
 }
 
-/// What is read of a text and then blanks, how many bytes there are, and how many come at a time.
+/// What is read of a text and then blanks, how many bytes come at a time, and how many in all before the reader fails:
+/// the last one in place of the end.
 static READS: [(Format, &[u8], usize, usize); 3] = [
-    (Format::Text, LETTER_AND_SHIFT, 100, 13),
-    (WIDE, b"", 15_524, 4_000),
+    (Format::Text, LETTER_AND_SHIFT, 13, 30),
+    (WIDE, b"", 4_000, 9_000),
     (NARROW, b"", 4_139, 4_139),
 ];
 
-/// The last failure is in place of the end.
 #[test]
-fn a_reader_that_fails_after_each_number_of_bytes_is_a_fault(rt: HostRuntime) {
-    for &(format, text, size, pace) in &READS {
-        for most in 0..=size {
-            let mut tape = tape_of(text, size, pace, most);
-            let (offset, kind) = (most as u64, ReadFaultKind::Device);
-            let wanted = ReadFault { offset, kind };
-            let fault = read_fault(rt.alloc(), format, &mut tape);
-            expect_equal_at(&rt, (format, most), fault, Some(wanted));
-            assert!(rt; tape.failed());
-        }
+fn a_reader_that_fails_is_a_fault(rt: HostRuntime) {
+    for &(format, text, pace, most) in &READS {
+        let mut tape = tape_of(text, most, pace, most);
+        let (offset, kind) = (most as u64, ReadFaultKind::Device);
+        let wanted = ReadFault { offset, kind };
+        let fault = read_fault(rt.alloc(), format, &mut tape);
+        expect_equal_at(&rt, format, fault, Some(wanted));
+        assert!(rt; tape.failed());
     }
 }
 
@@ -64,30 +63,29 @@ fn write_as<W: Write>(format: Format, map: &KeyMap, writer: &mut W) -> Result<()
     }
 }
 
-/// The printed form has more bytes than are gathered before they are written.
-static WRITES: [(Format, &[u8]); 3] = [
-    (Format::Text, ACCENTS),
-    (WIDE, LETTER_AND_SHIFT),
-    (NARROW, LETTER_AND_SHIFT),
+/// What is written of the keymap of a text, and how many bytes before the writer fails. The printed form has more bytes
+/// than are gathered before they are written.
+static WRITES: [(Format, &[u8], usize); 3] = [
+    (Format::Text, ACCENTS, 4_200),
+    (WIDE, LETTER_AND_SHIFT, 9_000),
+    (NARROW, LETTER_AND_SHIFT, 10),
 ];
 
 /// A writer that fails has just the first bytes.
 #[test]
-fn a_writer_that_fails_after_each_number_of_bytes_is_a_fault(rt: HostRuntime) {
-    for &(format, text) in &WRITES {
+fn a_writer_that_fails_is_a_fault(rt: HostRuntime) {
+    for &(format, text, most) in &WRITES {
         let map = map_of(&rt, text);
         let mut whole = sheet_of(LENGTH);
         write_as(format, &map, &mut whole).expect(&rt, "a writer");
-        let wanted = whole.bytes.as_slice();
-        for most in 0..wanted.len() {
-            let mut writer = comparing_with(wanted, most);
-            let written = most as u64;
-            let fault = NarrowError::Write(WriteFault { written });
-            let answer = write_as(format, &map, &mut writer);
-            expect_equal_at(&rt, (format, most), answer, Err(fault));
-            let is_front = writer.is_same && writer.taken == most && writer.failed();
-            expect_at(&rt, (format, most), is_front);
-        }
+        let mut writer = sheet_of(most);
+        let written = most as u64;
+        let fault = NarrowError::Write(WriteFault { written });
+        let answer = write_as(format, &map, &mut writer);
+        expect_equal_at(&rt, format, answer, Err(fault));
+        let is_front = whole.bytes.starts_with(writer.bytes.as_slice());
+        let has_most = writer.bytes.len() == most && writer.failed();
+        expect_at(&rt, format, is_front && has_most);
     }
 }
 
@@ -113,23 +111,13 @@ const BAD_LITERAL: TextError = TextError::Fault(TextFault {
 /// how many are taken at most.
 type Limited = (&'static [u8], usize, usize, usize, Option<TextError>, usize);
 
-static LIMITED: [Limited; 9] = [
+static LIMITED: [Limited; 6] = [
     (LETTER_AND_SHIFT, 100, 1, usize::MAX, None, 100),
     (b"", LIMIT, 1, usize::MAX, None, LIMIT),
-    (b"", LIMIT + 1, 1, usize::MAX, Some(ENDLESS), LIMIT + 1),
+    (b"", LIMIT + 1, 512, usize::MAX, Some(ENDLESS), LIMIT + 1),
     (b"", usize::MAX, 1, usize::MAX, Some(ENDLESS), LIMIT + 1),
-    (b"", usize::MAX, 512, usize::MAX, Some(ENDLESS), LIMIT + 1),
-    (b"", usize::MAX, 1, LIMIT, Some(FAILED), LIMIT),
     (b"", usize::MAX, 512, LIMIT, Some(FAILED), LIMIT),
     (b"1 'ab'", usize::MAX, 1, usize::MAX, Some(BAD_LITERAL), 6),
-    (
-        b"1 'ab'",
-        usize::MAX,
-        512,
-        usize::MAX,
-        Some(BAD_LITERAL),
-        512,
-    ),
 ];
 
 /// A text is read to its limit or its first fault, and one byte is asked for behind the limit.
@@ -148,4 +136,31 @@ fn a_text_is_read_to_its_limit(rt: HostRuntime) {
         expect_at(&rt, (size, pace), is_left);
         expect_equal_at(&rt, (size, pace), tape.failed(), error == Some(FAILED));
     }
+}
+
+#[test]
+fn reads_end_at_the_limit(rt: HostRuntime) {
+    let mut reader = reader_of(b"12345", 1, 9);
+    let bytes = read_up_to(rt.alloc(), &mut reader, 3).expect(&rt, "bytes");
+    expect_equal(&rt, bytes.as_slice(), b"123".as_slice());
+    assert!(rt; reader.reads <= 4 && !reader.failed());
+}
+
+/// Five pieces of 1,000 bytes: four wait in the buffer when the fifth comes.
+fn stream_pieces(writer: &mut Sheet) -> Result<(), WriteFault> {
+    let piece = [b'x'; 1000];
+    let mut stream = Stream::new();
+    stream.push(writer, &piece)?;
+    stream.push(writer, &piece)?;
+    stream.push(writer, &piece)?;
+    stream.push(writer, &piece)?;
+    stream.push(writer, &piece)?;
+    stream.finish(writer)
+}
+
+#[test]
+fn pieces_are_gathered(rt: HostRuntime) {
+    let mut writer = sheet_of(9000);
+    expect_equal(&rt, stream_pieces(&mut writer), Ok(()));
+    expect_equal(&rt, (writer.bytes.len(), writer.writes), (5000, 2));
 }

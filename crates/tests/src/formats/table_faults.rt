@@ -13,7 +13,7 @@ use std::process::Abort;
 static ZEROS: [u8; 15_525] = [0; 15_525];
 
 /// Changes bytes, each with its place.
-pub(crate) fn change(bytes: &mut [u8], changes: &[(usize, u8)]) {
+fn change(bytes: &mut [u8], changes: &[(usize, u8)]) {
     for &(place, byte) in changes {
         if let Some(changed) = bytes.get_mut(place) {
             *changed = byte;

@@ -1,14 +1,11 @@
-//! The runs of the program over inputs that are faulty, that fail after each number of bytes, and that have no end:
-//! nothing is written then.
+//! The runs of the program over inputs that fail in mid-stream or have no end: nothing is written then.
 
 use crate::asserts::{expect_at, expect_equal_at};
-use crate::support::devices::{ROOM, Sheet, Tape, endless_tape_of, sheet_of, tape_of};
+use crate::support::devices::{Sheet, Tape, endless_tape_of, sheet_of, tape_of};
 use crate::support::keymaps::LETTER_AND_SHIFT;
-use arrayvec::ArrayVec;
-use keymap_core::{KeyMap, Read, ReadFault, ReadFaultKind, Write, WriteFault};
+use keymap_core::{Read, ReadFault, ReadFaultKind};
 use keymap_draw::Board;
-use keymap_tables::{NarrowError, TableFault, TableFaultKind, write_narrow, write_tables};
-use keymap_text::{TextFault, TextFaultKind};
+use keymap_tables::{TableFault, TableFaultKind};
 use kmap_runs::{
     CommandError, RunError, check_run, compile_narrow_run, compile_run, draw_run, dump_narrow_run,
     dump_run, fmt_print_run, lint_run, search_run, type_run,
@@ -75,27 +72,8 @@ fn search_between(
     answer
 }
 
-/// The table file of the keymap.
-pub(crate) fn tables_of(map: &KeyMap) -> Result<ArrayVec<u8, ROOM>, WriteFault> {
-    let mut sheet = sheet_of(usize::MAX);
-    write_tables(map, &mut sheet)?;
-    Ok(sheet.bytes)
-}
-
-/// The narrow file of the keymap.
-pub(crate) fn narrow_of(map: &KeyMap) -> Result<ArrayVec<u8, ROOM>, NarrowError> {
-    let mut sheet = sheet_of(usize::MAX);
-    write_narrow(map, &mut sheet)?;
-    Ok(sheet.bytes)
-}
-
-pub(crate) const DEVICE: ReadFault = ReadFault {
-    offset: 0,
-    kind: ReadFaultKind::Device,
-};
-
 /// The fault of a reader that gives more than the limit of a text or a sentence.
-pub(crate) const ENDLESS: ReadFault = ReadFault {
+const ENDLESS: ReadFault = ReadFault {
     offset: 1_048_576,
     kind: ReadFaultKind::Endless,
 };
@@ -118,50 +96,44 @@ fn read_error(input: Input, fault: ReadFault) -> CommandError {
     }
 }
 
-/// What a run reads of an input: whether that is its first one, bytes and then blanks, and how many there are.
+/// What a run reads of an input: whether that is its first one, bytes and then blanks, and how many come before it fails.
 type Reading = (Run, Input, bool, &'static [u8], usize);
 
 static READINGS: [Reading; 13] = [
-    (Run::Check, Input::Text, true, LETTER_AND_SHIFT, 100),
-    (Run::Search, Input::Text, true, LETTER_AND_SHIFT, 100),
-    (Run::SearchNext, Input::Text, true, LETTER_AND_SHIFT, 100),
-    (Run::SearchNext, Input::Next, false, LETTER_AND_SHIFT, 100),
-    (Run::Type, Input::Text, true, LETTER_AND_SHIFT, 100),
-    (Run::Type, Input::Sentence, false, b"aAa", 3),
-    (Run::Dump, Input::Tables, true, b"", 15_524),
+    (Run::Check, Input::Text, true, LETTER_AND_SHIFT, 50),
+    (Run::Search, Input::Text, true, LETTER_AND_SHIFT, 50),
+    (Run::SearchNext, Input::Text, true, LETTER_AND_SHIFT, 50),
+    (Run::SearchNext, Input::Next, false, LETTER_AND_SHIFT, 50),
+    (Run::Type, Input::Text, true, LETTER_AND_SHIFT, 50),
+    (Run::Type, Input::Sentence, false, b"aAa", 2),
+    (Run::Dump, Input::Tables, true, b"", 9_000),
     (Run::DumpNarrow, Input::Tables, true, b"", 4_139),
-    (Run::Compile, Input::Text, true, LETTER_AND_SHIFT, 100),
-    (Run::CompileNarrow, Input::Text, true, LETTER_AND_SHIFT, 100),
-    (Run::Draw, Input::Text, true, LETTER_AND_SHIFT, 100),
-    (Run::Lint, Input::Text, true, LETTER_AND_SHIFT, 100),
-    (Run::Layout, Input::Text, true, LETTER_AND_SHIFT, 100),
+    (Run::Compile, Input::Text, true, LETTER_AND_SHIFT, 50),
+    (Run::CompileNarrow, Input::Text, true, LETTER_AND_SHIFT, 50),
+    (Run::Draw, Input::Text, true, LETTER_AND_SHIFT, 50),
+    (Run::Lint, Input::Text, true, LETTER_AND_SHIFT, 50),
+    (Run::Layout, Input::Text, true, LETTER_AND_SHIFT, 50),
 ];
 
-/// After the last byte too, in place of the end. What is read after it is not asked.
+/// What is read after the input that fails is not asked.
 #[test]
-fn an_input_that_fails_after_each_number_of_bytes_is_named(rt: HostRuntime) {
-    for &(what, input, is_first, bytes, size) in &READINGS {
-        for most in 0..=size {
-            let mut failing = tape_of(bytes, size, 4096, most);
-            let mut other = tape_of(LETTER_AND_SHIFT, 100, 64, usize::MAX);
-            let mut writer = sheet_of(usize::MAX);
-            let answer = if is_first {
-                perform(what, rt.alloc(), &mut failing, &mut other, &mut writer)
-            } else {
-                perform(what, rt.alloc(), &mut other, &mut failing, &mut writer)
-            };
-            let fault = ReadFault {
-                offset: most as u64,
-                kind: ReadFaultKind::Device,
-            };
-            expect_equal_at(&rt, (input, most), answer, Err(read_error(input, fault)));
-            let is_left = failing.failed() && !other.failed() && writer.writes == 0;
-            expect_at(
-                &rt,
-                (input, most),
-                is_left && (!is_first || other.reads == 0),
-            );
-        }
+fn an_input_that_fails_is_named(rt: HostRuntime) {
+    for &(what, input, is_first, bytes, most) in &READINGS {
+        let mut failing = tape_of(bytes, most, 4096, most);
+        let mut other = tape_of(LETTER_AND_SHIFT, 100, 64, usize::MAX);
+        let mut writer = sheet_of(usize::MAX);
+        let answer = if is_first {
+            perform(what, rt.alloc(), &mut failing, &mut other, &mut writer)
+        } else {
+            perform(what, rt.alloc(), &mut other, &mut failing, &mut writer)
+        };
+        let fault = ReadFault {
+            offset: most as u64,
+            kind: ReadFaultKind::Device,
+        };
+        expect_equal_at(&rt, what, answer, Err(read_error(input, fault)));
+        let is_left = failing.failed() && !other.failed() && writer.writes == 0;
+        expect_at(&rt, what, is_left && (!is_first || other.reads == 0));
     }
 }
 
@@ -221,83 +193,4 @@ fn an_input_without_end_is_left(rt: HostRuntime) {
         let is_left = endless.reads <= most_reads && !endless.failed() && writer.writes == 0;
         expect_at(&rt, what, is_left);
     }
-}
-
-const END_INSIDE: TextFault = TextFault {
-    offset: 3,
-    line: 1,
-    kind: TextFaultKind::EndInside,
-};
-
-const BAD_LITERAL: TextFault = TextFault {
-    offset: 2,
-    line: 1,
-    kind: TextFaultKind::BadLiteral,
-};
-
-const BROKEN_TEXT: CommandError = CommandError::Run(RunError::Text(END_INSIDE));
-
-const BROKEN_NEXT: CommandError = CommandError::Run(RunError::Next(END_INSIDE));
-
-const BAD_TEXT: CommandError = CommandError::Run(RunError::Text(BAD_LITERAL));
-
-/// A run over two inputs, and its first fault.
-static FAULTY: [(Run, &[u8], &[u8], CommandError); 12] = [
-    (Run::Check, b"1 'ab'", b"", BAD_TEXT),
-    (Run::Search, b"1 '", b"", BROKEN_TEXT),
-    (Run::Compile, b"1 '", b"", BROKEN_TEXT),
-    (Run::Draw, b"1 'ab'", b"", BAD_TEXT),
-    (Run::Layout, b"1 'ab'", b"", BAD_TEXT),
-    (Run::SearchNext, b"1 '", b"1 '", BROKEN_TEXT),
-    (Run::SearchNext, LETTER_AND_SHIFT, b"1 '", BROKEN_NEXT),
-    (Run::Type, b"1 '", b"\xff", BROKEN_TEXT),
-    (
-        Run::Type,
-        LETTER_AND_SHIFT,
-        b"ab",
-        CommandError::NoWay { offset: 1, c: 'b' },
-    ),
-    (
-        Run::Type,
-        LETTER_AND_SHIFT,
-        b"A\xc3\xa9a",
-        CommandError::NoWay { offset: 1, c: 'é' },
-    ),
-    (
-        Run::Type,
-        LETTER_AND_SHIFT,
-        b"b\xe2\x82",
-        CommandError::NotText { offset: 1 },
-    ),
-    (
-        Run::Type,
-        LETTER_AND_SHIFT,
-        b"\xff",
-        CommandError::NotText { offset: 0 },
-    ),
-];
-
-const BAD_FLAG: TableFault = TableFault {
-    offset: 37,
-    kind: TableFaultKind::BadFlag,
-};
-
-#[test]
-fn a_faulty_input_is_named(rt: HostRuntime) {
-    for &(what, first, second, error) in &FAULTY {
-        let mut first = tape_of(first, first.len(), 64, usize::MAX);
-        let mut second = tape_of(second, second.len(), 64, usize::MAX);
-        let mut writer = sheet_of(usize::MAX);
-        let answer = perform(what, rt.alloc(), &mut first, &mut second, &mut writer);
-        expect_equal_at(&rt, what, answer, Err(error));
-        assert!(rt; writer.writes == 0);
-    }
-    let mut tables = [0; 15_524];
-    tables[0] = 1;
-    tables[37] = 4;
-    let mut file = tape_of(&tables, 15_524, 4096, usize::MAX);
-    let mut writer = sheet_of(usize::MAX);
-    let answer = dump_run(rt.alloc(), &mut file, &mut writer);
-    expect_equal_at(&rt, BAD_FLAG, answer, Err(RunError::Tables(BAD_FLAG)));
-    assert!(rt; writer.writes == 0);
 }

@@ -2,7 +2,7 @@
 //!
 //! The devices stand on those of keymap_core, whose laws they keep; they tell no reader which bytes are left and no
 //! writer's caller which were taken, so a test looks at their fields.
-ghost use Rattle.std.specs.Prelude.{[], None, false, length, true, ◌-◌, ◌^◌, ◌≡◌};
+ghost use Rattle.std.specs.Prelude.{[], None, false, length, ◌-◌, ◌^◌, ◌≡◌};
 
 use arrayvec::ArrayVec;
 use keymap_core::{Failed, Read, Write};
@@ -161,59 +161,6 @@ impl Write for Sheet {
             self.failed = true;
             return Err(Failed);
         }
-        Ok(count)
-    }
-
-    fn failed(&self) -> bool {
-        self.failed
-    }
-}
-
-/// A writer that fails after so many bytes, and compares those that it took with the ones that are wanted.
-#[derive(Drop)]
-pub struct Comparing<'a> {
-    pub wanted: &'a [u8],
-    pub taken: usize,
-    pub most: usize,
-    pub is_same: bool,
-    pub failed: bool,
-}
-
-pub fn comparing_with(wanted: &[u8], most: usize) -> Comparing<'_>
-    ensures wanted { result.wanted.now ≡ wanted.now }
-    ensures most { result.most ≡ most }
-    ensures taken { result.taken ≡ 0 }
-    ensures is_same { result.is_same ≡ true }
-    ensures failed { result.failed ≡ false }
-{
-    Comparing {
-        wanted,
-        taken: 0,
-        most,
-        is_same: true,
-        failed: false,
-    }
-}
-
-impl Write for Comparing<'_> {
-    ghost contents = { λ _. None };
-
-    ghost has_failed = { λ writer. writer.failed };
-
-    fn write(&mut self, bytes: &[u8]) -> Result<usize, Failed> {
-        if bytes.is_empty() {
-            return Ok(0);
-        }
-        let left = self.wanted.len().min(self.most).saturating_sub(self.taken);
-        let count = left.min(bytes.len());
-        if count == 0 {
-            self.failed = true;
-            return Err(Failed);
-        }
-        if bytes[..count] != self.wanted[self.taken..self.taken + count] {
-            self.is_same = false;
-        }
-        self.taken += count;
         Ok(count)
     }
 

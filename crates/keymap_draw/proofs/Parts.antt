@@ -4,7 +4,7 @@ use Rattle.keymap_draw.proofs.Common.{Number, None, refl, sym, ap, ◌∙◌, ma
 use Rattle.keymap_draw.proofs.Common.{if◌then◌else◌, list_all, flat_map, eqb-true, name_of, Finding, finding_words}
 use Rattle.keymap_draw.proofs.Common.{Content, Plain, Bytes, Fact, escaped, is_class, within, is_inner, is_seen, over}
 use Rattle.keymap_draw.proofs.Common.{ReadAs, IsWithin, last_facts, reverse, State, Read, Place, Element, at, scan}
-use Rattle.keymap_draw.proofs.Common.{none-some, ◌||◌, or_cases, inl, inr}
+use Rattle.keymap_draw.proofs.Common.{none-some, or_cases, inl, inr}
 use Rattle.keymap_draw.proofs.Common.{saying, within_element, Text, Value, nat_tests}
 use Rattle.std.specs.Prelude.{slice_index}
 use Rattle.std.specs.Option.{option_and_then}

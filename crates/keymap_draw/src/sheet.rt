@@ -91,7 +91,7 @@ fn push_content(text: &mut Vec<u8>, content: &Content) -> Added
 /// Adds words with contents at their places.
 #[tactic(auto, unfolding(messages::specs::Filled::filled))]
 fn push_filled(text: &mut Vec<u8>, words: &[u8], contents: &[Content]) -> Added
-    ensures { OnOk result (text.new.items ≡ text.old.items ++ filled words.now (map written content.now)) }
+    ensures { OnOk result (text.new.items ≡ text.old.items ++ filled words.now (map written contents.now)) }
 {
     match contents {
         [] => text.extend_from_slice(words),

@@ -6,14 +6,14 @@ use Rattle.keymap_draw.proofs.sheet.tell.Goals as goal
 use Rattle.keymap_draw.proofs.sheet.tell.Given
 
 new : (g : Given.Over) → goal.In_ok-push_filled g → List Fact
-new g c = facts_over g.P.Part.begun c.args.words.now c.args.told.now
+new g c = facts_over g.P.Part.begun c.args.words.now c.args.contents.now
 
 read : (g : Given.Over) (c : goal.In_ok-push_filled g)
     → ReadAs (within g.Q.Part.begun (reverse (new g c) ++ last_facts c.sheet.inside.text.items))
     c.push_filled.new.text.items
 unfolding new
 read g c =
-    led c.args.words.now c.args.told.now (new g c) c.sheet.invariant c.in_ok-push_filled.ensures c.requires.ready
+    led c.args.words.now c.args.contents.now (new g c) c.sheet.invariant c.in_ok-push_filled.ensures c.requires.ready
     c.requires.read
 
 pub invariant_of-result : goal.invariant_of-result

@@ -5,11 +5,10 @@
 //! of two texts; `lint_run` writes the diagnostics of a text, `fmt_print_run` the text in the layout, which `fmt_run`
 //! hands out where it differs, `draw_run` a picture of its map, `cover_run` a script that tests a console, and
 //! `type_run` one that types a sentence, whose presses `type_sentence` finds, and of which `missing_run` tells the
-//! characters that keys can't type;
-//! `compile_run` and `compile_narrow_run` write the table file of a text, `dump_run` and `dump_narrow_run` print the
-//! map of one. Playing is `play` and `play_next` of `play_core`, whose errors `RunError` takes over. `write_run_error`
-//! writes the line of the `RunError` that a run answers, and `write_command_error` that of the `CommandError` of those
-//! that lay out, type and test, which fail for reasons of their own too.
+//! characters that keys can't type; `compile_run` and `compile_narrow_run` write the table file of a text, `dump_run`
+//! and `dump_narrow_run` print the map of one. Playing is `play` and `play_next` of `play_core`, whose errors `RunError`
+//! takes over. `write_run_error` writes the line of the `RunError` that a run answers, and `write_command_error` that
+//! of the `CommandError` of those that lay out, type and test, which fail for reasons of their own too.
 //!
 //! Below the crate stand all other libraries of the workspace but that for C, and nothing that opens files or reads a
 //! command line. Each contract says with one definition, `Runs` of `play_core`, which inputs were read to which values

@@ -7,13 +7,12 @@ use Rattle.keymap_core.specs.Actions.{modifiers, locks}
 use Rattle.play_core.specs.Written.{event_text, answer_text, line_of, name_if, or_none}
 
 -- the parts of a tail, added in turn
-pub tail_spelled : (on : Modifier → Bool) (locked : Lock → Bool) (start a b c d e : List ℕ)
+pub tail_spelled : (on : Modifier → Bool) (locked : Lock → Bool) (start a b c d : List ℕ)
     → a ≡ start ++ codes "; mods"
     → b ≡ a ++ or_none (names_of_modifiers on modifiers) → c ≡ b ++ codes "; locks"
-    → d ≡ c ++ or_none (names_of_locks locked locks)
-    → e ≡ d ++ codes "\n" → e ≡ start ++ tail_of on locked
+    → d ≡ c ++ (or_none (names_of_locks locked locks) ++ codes "\n") → d ≡ start ++ tail_of on locked
 unfolding tail_of
-tail_spelled on locked start a b c d e pa pb pc pd pe = rw (pe, pd, pc, pb, pa) (simp append_assoc)
+tail_spelled on locked start a b c d pa pb pc pd = rw (pd, pc, pb, pa) (simp append_assoc)
 
 -- the parts of a line, added in turn
 pub line_spelled : (event : Event) (answer : Answer) (on : Modifier → Bool) (locked : Lock → Bool)

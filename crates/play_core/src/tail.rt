@@ -1,5 +1,5 @@
 //! The tail of a line, which tells of the modifiers and locks that are on.
-ghost use Rattle.std.specs.Prelude.{◌≡◌, ◌+◌, ◌≤◌, ◌++◌, [], length, if◌then◌else◌};
+ghost use Rattle.std.specs.Prelude.{◌≡◌, ◌+◌, ◌≤◌, ◌++◌, [], codes, length, if◌then◌else◌};
 ghost use Rattle.keymap_core.specs.Actions.{modifiers, locks};
 ghost use Rattle.play_core.specs.Written.{names_of_modifiers, names_of_locks, or_none};
 ghost use Rattle.play_core.specs.Inner.Tails.{tail_of};
@@ -20,7 +20,6 @@ pub(crate) fn push_tail<T: Translator>(text: &mut Output, console: &T)
     push_mods(text, console);
     text.append(b"; locks");
     push_locked(text, console);
-    text.append(b"\n");
 }
 
 /// Adds the names of the modifiers that are on, or none.
@@ -37,17 +36,20 @@ fn push_mods<T: Translator>(text: &mut Output, console: &T)
     }
 }
 
-/// Adds the names of the locks that are on, or none.
+/// Adds the names of the locks that are on, or none, and the line feed.
 fn push_locked<T: Translator>(text: &mut Output, console: &T)
-    requires { length text.old.waiting + 29 ≤ 65536 }
+    requires { length text.old.waiting + 30 ≤ 65536 }
     ensures written { text.new.written ≡ text.old.written }
-    ensures text { text.new.waiting ≡ text.old.waiting ++ or_none (names_of_locks (T.shows_locked console.now) locks) }
-    ensures size { length text.new.waiting ≤ length text.old.waiting + 24 }
+    ensures text { text.new.waiting
+        ≡ text.old.waiting ++ (or_none (names_of_locks (T.shows_locked console.now) locks) ++ codes "\n") }
+    ensures size { length text.new.waiting ≤ length text.old.waiting + 25 }
 {
     let before = text.room();
     push_locks(text, console);
     if text.room() == before {
-        text.append(b" none");
+        text.append(b" none\n");
+    } else {
+        text.append(b"\n");
     }
 }
 

@@ -1,20 +1,23 @@
 -- Two consoles of two keymaps stay alike as long as no press shows a difference, and answer alike.
+use Rattle.keymap_diff.proofs.Reached.{IsWithinReach, reach-before}
+use Rattle.keymap_diff.specs.Telling.{IsKeptAlike}
+use Rattle.keymap_diff.proofs.Common.{NeverForgetsBelow}
 use Rattle.std.proofs.Common.{rules}
-use Rattle.keymap_diff.proofs.Common.{◌≡◌, ℕ, ◌<◌, ◌≤◌, Bool, List, [], ◌∷◌, ◌++◌, Some, None, false, refl, ap, subst}
+use Rattle.keymap_diff.proofs.Common.{◌≡◌, ℕ, ◌<◌, Bool, List, [], ◌∷◌, ◌++◌, Some, None, false, refl, ap, subst}
 use Rattle.keymap_diff.proofs.Common.{sym, ◌∙◌, inl, inr, arith, true≢false, reverse, All-head, append-nil, Action}
 use Rattle.keymap_diff.proofs.Common.{Char, Act, Event, Press, Release, Reset, Load, MapValue, answer_release}
 use Rattle.keymap_diff.proofs.Common.{taken_over, on, remembered, pending, look, ResolvedEvent, between, resolved}
-use Rattle.keymap_diff.proofs.Common.{answer_to, answers_to, HasKey, IsNoLoad, alone, State, Follows, presses}
-use Rattle.keymap_diff.proofs.Common.{IsAdmitted, NeverForgets, looked_up, AreCellsClear, IsAccentClear, MakesSame}
-use Rattle.keymap_diff.proofs.Common.{ShowsNothing, IsAnsweredAlike, ArePlain, ArePlainClear, IsPlain, LooksUpPlain}
-use Rattle.keymap_diff.proofs.Common.{◌+◌}
+use Rattle.keymap_diff.proofs.Common.{answer_to, answers_to, HasKey, IsNoLoad, State, Follows, presses}
+use Rattle.keymap_diff.proofs.Common.{IsAdmitted, looked_up, AreCellsClear, IsAccentClear, MakesSame}
+use Rattle.keymap_diff.proofs.Common.{ShowsNothing, IsAnsweredAlike}
 use Rattle.keymap_diff.specs.Telling.{AnswersAreSame}
-use Rattle.keymap_diff.proofs.Reached.{ReachedBy, stands-by, pends-by}
+use Rattle.keymap_diff.proofs.Reached.{stands-by, pends-by}
 use Rattle.console_core.proofs.OneMore.{resolved-start, resolved-more}
 use Rattle.console_core.proofs.OneMap.{one_in_force}
 use Rattle.console_core.proofs.Deliveries.{reverse-cons}
 use Rattle.console_states.proofs.Seeing.{admitted-before, taken-dead}
 use Rattle.keymap_core.specs.declared.action.Action.TheVariants as act
+use Rattle.keymap_core.specs.declared.action.Holding.TheVariants as holding
 use Rattle.keymap_diff.proofs.OneEvent.{Alike, look-is, alike-look, alike-start, alike-release, alike-reset}
 use Rattle.keymap_diff.proofs.OneEvent.{press-answered, press-resolved, ShowNothingFor, ComposesCell, one-press}
 
@@ -54,94 +57,52 @@ composes-there m n r s k i f nothing =
           nothing 32 (inr ((λ j holds. free j (f.holds j k holds)), sym seen ∙ e ∙ ap (λ z. Act z) same, refl))),
     )
 
--- one more press, of a key that shows nothing in each state where the list leads
-more-press : (m n : MapValue) (forgets : Bool) (b : ℕ) (h : List Event) (k : ℕ) → (forgets ≡ false
-    → NeverForgets (alone m))
-    → ((i : ℕ) → IsAccentClear m n i b) → IsAdmitted m forgets (Press k ∷ h) → presses h < b → AlikeAfter m n h
-    → ((s : State) → ReachedBy m (presses h) s → Follows (resolved (between m m) h) s → ShowsNothing m n None s k)
-    → AlikeAfter m n (Press k ∷ h) × IsAnsweredAlike m n (Press k ∷ h)
-more-press m n forgets b h k never accents given lt alike shows =
+-- Where fewer than b presses show nothing, whatever list of at most b presses comes: the consoles stay alike, and
+-- answer alike.
+pub below : (m n : MapValue) (forgets : Bool) (b : ℕ) → (forgets ≡ false → NeverForgetsBelow m b)
+    → AreCellsClear m n b → ((i : ℕ) → IsAccentClear m n i b) → (h : List Event) → IsWithinReach m forgets b h
+    → AlikeAfter m n h × IsAnsweredAlike m n h
+below m n forgets b never cells accents [] given =
+    (rw (resolved-start (between m m), resolved-start (between n n)) (alike-start m n), tt)
+below m n forgets b never cells accents (Press k ∷ h) given =
     let r : List ResolvedEvent = resolved (between m m) h in
-    let key : k < 128 = All-head HasKey (Press k) h given.0 in
-    let before : IsAdmitted m forgets h = admitted-before m forgets (Press k) h given in
-    let (s, there, f) = stands-by m forgets h never before in
+    let lt : presses h < b = omega (arith, given.1) in
+    let key : k < 128 = All-head HasKey (Press k) h given.0.0 in
+    let before : IsWithinReach m forgets b h = reach-before m forgets b (Press k) h given in
+    let (alike, answered) = below m n forgets b never cells accents h before in
+    let (s, (path, is, few, leads), f) = stands-by m forgets b h never before in
+    let nothing : ShowsNothing m n None s k =
+    subst (λ t. ShowsNothing m n None t k) leads (cells path is (omega (arith, few, lt)) k key) in
     let composes : (i : ℕ) → pending m r ≡ Some i
     → ((c : ℕ) → look m r k ≡ Char c → MakesSame m n i c)
     × ((a : Action) → look m r k ≡ Act a → taken_over (remembered k r) a ≡ act.DeadKey i → MakesSame m n i 32) =
     λ i e.
-    let (t, (first, later, made, offered, on, count, to), g) = pends-by m forgets h i never before e in
+    let (t, (first, later, made, offered, on, count, to), g) = pends-by m forgets b h i never before e in
     composes-there m n r t k i g
     (subst (λ z. ShowsNothing m n (Some i) z k) to
     (accents i first later made offered on (omega (arith, count, lt)) k key)) in
-    press-event m n h s k alike f (shows s there f)
+    press-event m n h s k alike f nothing
     ((λ c seen i e. (composes i e).0 c seen), (λ a seen i taken e. (composes i e).1 a seen taken))
-
-more-release : (m n : MapValue) (h : List Event) (k : ℕ) → AlikeAfter m n h
-    → AlikeAfter m n (Release k ∷ h) × IsAnsweredAlike m n (Release k ∷ h)
-more-release m n h k alike = (
-  rw (resolved-more (between m m) h (Release k), resolved-more (between n n) h (Release k))
-      (alike-release m n (resolved (between m m) h) (resolved (between n n) h) k alike),
-  ap answer_release (alike.remembered k),
-)
-
-more-reset : (m n : MapValue) (h : List Event) → AlikeAfter m n h
-    → AlikeAfter m n (Reset ∷ h) × IsAnsweredAlike m n (Reset ∷ h)
-more-reset m n h alike = search (rules, resolved-more, alike-reset)
-
--- Where fewer than b presses show nothing, whatever list of at most b presses comes: the consoles stay alike, and
--- answer alike.
-pub below : (m n : MapValue) (forgets : Bool) (b : ℕ) → (forgets ≡ false → NeverForgets (alone m))
-    → AreCellsClear m n b → ((i : ℕ) → IsAccentClear m n i b) → (h : List Event) → IsAdmitted m forgets h
-    → presses h ≤ b → AlikeAfter m n h × IsAnsweredAlike m n h
-below m n forgets b never cells accents [] given le =
-    (rw (resolved-start (between m m), resolved-start (between n n)) (alike-start m n), tt)
-below m n forgets b never cells accents (Press k ∷ h) given le =
-    let lt : presses h < b = omega (arith, le) in
-    let key : k < 128 = All-head HasKey (Press k) h given.0 in
+below m n forgets b never cells accents (Release k ∷ h) given =
     let (alike, answered) =
-    below m n forgets b never cells accents h (admitted-before m forgets (Press k) h given) (omega (arith, lt)) in
-    more-press m n forgets b h k never accents given lt alike
-    (λ s (path, is, few, leads) f.
-    subst (λ t. ShowsNothing m n None t k) leads (cells path is (omega (arith, few, lt)) k key))
-below m n forgets b never cells accents (Release k ∷ h) given le =
-    more-release m n h k
-    (below m n forgets b never cells accents h (admitted-before m forgets (Release k) h given) le).0
-below m n forgets b never cells accents (Reset ∷ h) given le =
-    more-reset m n h (below m n forgets b never cells accents h (admitted-before m forgets Reset h given) le).0
-below m n forgets b never cells accents (Load ∷ h) given le = absurd (true≢false (All-head IsNoLoad Load h given.1))
+    below m n forgets b never cells accents h (reach-before m forgets b (Release k) h given) in (
+      rw (resolved-more (between m m) h (Release k), resolved-more (between n n) h (Release k))
+          (alike-release m n (resolved (between m m) h) (resolved (between n n) h) k alike),
+      ap answer_release (alike.remembered k),
+    )
+below m n forgets b never cells accents (Reset ∷ h) given =
+    let (alike, answered) = below m n forgets b never cells accents h (reach-before m forgets b Reset h given) in
+    search (rules, resolved-more, alike-reset)
+below m n forgets b never cells accents (Load ∷ h) given =
+    absurd (true≢false (All-head IsNoLoad Load h given.0.1))
 
--- And where b presses show nothing by plain cells, nor anything behind an accent, so are lists of one press more of
--- which the last looks up plain cells.
-pub plain-below : (m n : MapValue) (forgets : Bool) (b : ℕ) → (forgets ≡ false → NeverForgets (alone m))
-    → AreCellsClear m n b → ((i : ℕ) → IsAccentClear m n i (b + 1)) → ArePlainClear m n (b + 1) → (h : List Event)
-    → IsAdmitted m forgets h → presses h ≤ b + 1 → LooksUpPlain m n h → AlikeAfter m n h × IsAnsweredAlike m n h
-plain-below m n forgets b never cells accents clear [] given le looks = absurd looks
-plain-below m n forgets b never cells accents clear (Press k ∷ h) given le (plain, plain_too) =
-    let r : List ResolvedEvent = resolved (between m m) h in
-    let q : List ResolvedEvent = resolved (between n n) h in
-    let lt : presses h < b + 1 = omega (arith, le) in
-    let key : k < 128 = All-head HasKey (Press k) h given.0 in
-    let (alike, answered) =
-    below m n forgets b never cells
-    (λ i before later made offered is few. accents i before later made offered is (omega (arith, few)))
-    h (admitted-before m forgets (Press k) h given) (omega (arith, lt)) in
-    more-press m n forgets (b + 1) h k never accents given lt alike
-    (λ s (path, is, few, leads) f.
-    let shows : ArePlain m n s k → ShowsNothing m n None s k =
-    subst (λ t. ArePlain m n t k → ShowsNothing m n None t k) leads (clear path is (omega (arith, few, lt)) k key) in
-    shows (
-      subst IsPlain (ap (λ z. look z r k) (one_in_force m h) ∙ look-is m r s k f) plain,
-      subst IsPlain (ap (λ z. look z q k) (one_in_force n h) ∙ alike-look m n r q k alike ∙ look-is n r s k f)
-          plain_too,
-    ))
-plain-below m n forgets b never cells accents clear (Release k ∷ h) given le looks =
-    more-release m n h k
-    (plain-below m n forgets b never cells accents clear h (admitted-before m forgets (Release k) h given) le looks).0
-plain-below m n forgets b never cells accents clear (Reset ∷ h) given le looks =
-    more-reset m n h
-    (plain-below m n forgets b never cells accents clear h (admitted-before m forgets Reset h given) le looks).0
-plain-below m n forgets b never cells accents clear (Load ∷ h) given le looks =
-    absurd (true≢false (All-head IsNoLoad Load h given.1))
+-- what the consoles keep is the same
+pub kept-alike : (m n : MapValue) (h : List Event) → AlikeAfter m n h → IsKeptAlike m n h
+kept-alike m n h alike = record {
+  on = λ i. alike.held (holding.Mod i);
+  locked = alike.locked;
+  pending = rw (one_in_force m h, one_in_force n h) alike.pending;
+}
 
 -- where no list tells them apart, the answers to each are the same
 pub answers_are_same : AnswersAreSame
@@ -159,4 +120,4 @@ answers_are_same m n forgets es never admitted = go es [] (rw (append-nil (rever
     go (e ∷ later) h is =
         let there : IsAdmitted m forgets (reverse later ++ e ∷ h) =
         subst (λ z. IsAdmitted m forgets z) (reverse-cons e later h) is in
-        rw (never (e ∷ h) (newest later (e ∷ h) there), go later (e ∷ h) there) refl
+        rw ((never (e ∷ h) (newest later (e ∷ h) there)).0, go later (e ∷ h) there) refl

@@ -6,21 +6,12 @@ use Rattle.keymap_diff.proofs.Common.{All-cons, MatchOption, MapValue, Move, Eve
 use Rattle.keymap_diff.proofs.Common.{between, alone, Under, State, start, IsIdle, IsPathFrom, look_in, state_after}
 use Rattle.keymap_diff.proofs.Common.{state_from, presses_along, events_along, presses, state_of, Entries, IsReached}
 use Rattle.keymap_diff.proofs.Common.{IsTrail, TellsApart, answer_to, Answer, ◌≢◌, NoneShows, Shows, ShowsNothing}
-use Rattle.keymap_diff.proofs.Common.{AreCellsClear, ArePlain, ArePlainClear, LooksUpPlain}
-use Rattle.keymap_diff.proofs.Common.{Bool, false, cases_Bool, eqb-true, ◌==◌, ◌⊎◌, All, All-head, All-tail, Entry}
-use Rattle.keymap_diff.proofs.Common.{slice_get, slice_get_within}
-use Rattle.keymap_diff.proofs.Common.{accent_at, composed_by}
-use Rattle.keymap_core.specs.Accents.{AccentValue, first_result}
-use Rattle.keymap_core.specs.Bounds.{IsAccent, IsMap, IsPair}
-use Rattle.std.proofs.lemmas.Option.{get_or_from_slice_get}
-use Rattle.console_core.proofs.OneMap.{one_in_force}
-use Rattle.console_states.specs.Sticking.{ReachesMoreThan}
+use Rattle.keymap_diff.proofs.Common.{AreCellsClear}
 use Rattle.console_states.proofs.Looking.{push-reversed}
 use Rattle.keymap_diff.specs.Telling.{EndsByPress, IsAnsweredAlike}
 use Rattle.keymap_diff.specs.Inner.Searches.{IsFoundBy, IsMetFromStart, IsReach, IsReachAt, IsScript, IsSearched}
-use Rattle.keymap_diff.specs.Inner.Searches.{IsSearchedAt, IsSettled, IsTappedAt, IsWithin}
+use Rattle.keymap_diff.specs.Inner.Searches.{IsSearchedAt, IsTappedAt, IsWithin}
 use Rattle.keymap_diff.specs.Telling.{IsToldBy}
-use Rattle.keymap_diff.proofs.OneEvent.{look-is}
 use Rattle.keymap_diff.specs.Inner.Showing.{IsFirstShown, NoneShowsBelow}
 use Rattle.keymap_diff.specs.declared.searched.Searched.{Searched as SearchedValue}
 use Rattle.keymap_diff.specs.declared.showing.Shown.{Shown}
@@ -33,7 +24,7 @@ use Rattle.console_states.proofs.Tapping.{dead-tapped}
 use Rattle.console_states.proofs.Visits.{press-presses}
 use Rattle.keymap_diff.proofs.Clearing.{searched-cells}
 use Rattle.keymap_diff.proofs.Unlike.{Placed, IsPressAnsweredAlike, look-in, path-too, placed-along, placed-path}
-use Rattle.keymap_diff.proofs.Unlike.{gives-too, told-accent, told-cells}
+use Rattle.keymap_diff.proofs.Unlike.{told-accent, told-cells}
 use Rattle.keymap_core.specs.declared.action.Action.TheVariants as act
 
 -- as many presses stand in the events of a path and those before them
@@ -65,70 +56,42 @@ script-told m n h s p k q x key told count (Told es old new) (inr (e, a, b, same
 script-told m n h s p k q x key told count (Never f) is = absurd is
 script-told m n h s p k q x key told count (Undecided r) is = absurd is
 
--- where both consoles stand alike the key looks up what it does in the state
-looks-plain : (m n : MapValue) (h : List Event) (s : State) (p : Option ℕ) (k : ℕ) → Placed m n h s p → ArePlain m n s k
-    → LooksUpPlain m n (Press k ∷ h)
-looks-plain m n h s p k x (plain, plain_too) = search (rules, one_in_force, look-is)
-
--- the key looks up plain cells there, or why the script is taken nonetheless
-abbrev pub IsSettledAt : MapValue → MapValue → State → ℕ → ℕ → Bool → Type 0
-IsSettledAt m n s k q true = ArePlainClear m n (q + 1)
-IsSettledAt m n s k q false = ArePlain m n s k ⊎ ReachesMoreThan (alone m) 65536 q
-
-script-settled : (m n : MapValue) (h : List Event) (s : State) (p : Option ℕ) (k q : ℕ) (wants : Bool)
-    → Placed m n h s p → IsSettledAt m n s k q wants → (g : List Event)
-    → (g ≡ Press k ∷ h) ⊎ (g ≡ Release k ∷ Press k ∷ h) → IsSettled m n g q wants
-script-settled m n h s p k q true x settled g is = settled
-script-settled m n h s p k q false x (inr many) g is = inr many
-script-settled m n h s p k q false x (inl plain) g (inl e) =
-    inl (subst (λ z. LooksUpPlain m n z) (sym e) (looks-plain m n h s p k x plain))
-script-settled m n h s p k q false x (inl plain) g (inr e) =
-    inl (subst (λ z. LooksUpPlain m n z) (sym e) (looks-plain m n h s p k x plain))
-
-script-found : (m n : MapValue) (h : List Event) (s : State) (p : Option ℕ) (k q : ℕ) (wants : Bool)
-    → Placed m n h s p → AreCellsClear m n q → IsSettledAt m n s k q wants → (t : Telling) → IsScript m n h k t
-    → IsToldIn m n t q → IsFoundBy m n t (Some q) wants
-script-found m n h s p k q wants x clear settled (Told es old new) script (told, count) =
-    (told, (q, refl, count, clear, script-settled m n h s p k q wants x settled (reverse es.items) (which script)))
-  where
-    which : IsScript m n h k (Told es old new)
-        → (reverse es.items ≡ Press k ∷ h) ⊎ (reverse es.items ≡ Release k ∷ Press k ∷ h)
-    which (inl is) = inl is.0
-    which (inr is) = inr is.0
-script-found m n h s p k q wants x clear settled (Never f) script told = absurd told
-script-found m n h s p k q wants x clear settled (Undecided r) script told = absurd told
+script-found : (m n : MapValue) (q : ℕ) (t : Telling) → IsToldIn m n t q → IsFoundBy m n t (Some q)
+script-found m n q (Told es old new) (told, count) = (told, (q, refl, count))
+script-found m n q (Never f) told = absurd told
+script-found m n q (Undecided r) told = absurd told
 
 -- where something shows without an accent
-pub cells-told : (m n : MapValue) (x : SearchedValue) (at : Shown) (q : ℕ) (wants : Bool)
-    → IsSearched m n (start ∷ []) None x → x.reach ≡ Some q → (z : Entry) → slice_get x.met.entries at.place ≡ Some z
-    → q ≡ z.1.presses → at.key < 128 → Shows m n None (state_of z.0) at.key
-    → IsSettledAt m n (state_of z.0) at.key q wants → (h : List Event)
+pub cells-told : (m n : MapValue) (x : SearchedValue) → IsSearched m n (start ∷ []) None x → (at : Shown)
+    → x.shown ≡ Some at → (h : List Event)
     → ((path : List Move) → IsTrail x.met.entries at.place path → h ≡ events_along path ++ []) → (t : Telling)
-    → IsScript m n h at.key t → IsFoundBy m n t (Some q) wants
-cells-told m n x at q wants s same z here count key shows settled h events t script =
+    → IsScript m n h at.key t → IsFoundBy m n t x.reach
+cells-told m n x s at e h events t script =
     let es : Entries = x.met.entries in
-    let r : IsReached (alone m) start es at.place z = reached-one s.ended.searched at.place z here in
-    let few : presses_along r.0 ≡ q = r.4 ∙ sym count in
+    let (q, same, (z, here, count)) = subst (λ o. IsReach es x.end o x.reach) e s.reach in
+    let (y, there, key, shows, none) =
+    subst (λ o. MatchOption o (NoneShowsBelow m n None es (length es)) (λ at. IsFirstShown m n None es at.place at.key)) e
+    s.shown in
+    let r : IsReached (alone m) start es at.place y = reached-one s.ended.searched at.place y there in
+    let few : presses_along r.0 ≡ q = r.4 ∙ ap (λ v. v.1.presses) (same_Some y z (sym there ∙ here)) ∙ sym count in
     let clear : AreCellsClear m n q = searched-cells m n x s q (subst (λ o. IsWithin q o) (sym same) (omega arith)) in
     let placed : Placed m n (events_along r.0 ++ []) (state_after (alone m) r.0) None =
     placed-path m n q r.0 clear r.2 (omega (arith, few)) in
     let shown : Shows m n None (state_after (alone m) r.0) at.key =
     subst (λ v. Shows m n None v at.key) (sym r.3) shows in
-    let there : IsScript m n (events_along r.0 ++ []) at.key t =
-    subst (λ g. IsScript m n g at.key t) (events r.0 r.1) script in
-    script-found m n (events_along r.0 ++ []) (state_after (alone m) r.0) None at.key q wants placed clear
-    (subst (λ v. IsSettledAt m n v at.key q wants) (sym r.3) settled) t there
+    subst (λ o. IsFoundBy m n t o) (sym same)
+    (script-found m n q t
     (script-told m n (events_along r.0 ++ []) (state_after (alone m) r.0) None at.key q placed key
     (told-cells m n (events_along r.0 ++ []) (state_after (alone m) r.0) at.key placed shown)
-    (presses-on r.0 [] ∙ omega (arith, few)) t there)
+    (presses-on r.0 [] ∙ omega (arith, few)) t (subst (λ g. IsScript m n g at.key t) (events r.0 r.1) script)))
 
--- and where something shows by plain cells at the start
-pub start-told : (m n : MapValue) (k : ℕ) → k < 128 → Shows m n None start k → ArePlain m n start k → (t : Telling)
-    → IsScript m n [] k t → IsFoundBy m n t (Some 0) false
-start-told m n k key shows plain t script =
-    let clear : AreCellsClear m n 0 = λ path is lt. absurd (omega (arith, lt)) in
-    let placed : Placed m n [] start None = placed-path m n 0 [] clear tt (omega arith) in
-    script-found m n [] start None k 0 false placed clear (inl plain) t script
+-- and where something shows at the start
+pub start-told : (m n : MapValue) (k : ℕ) → k < 128 → Shows m n None start k → (t : Telling)
+    → IsScript m n [] k t → IsFoundBy m n t (Some 0)
+start-told m n k key shows t script =
+    let placed : Placed m n [] start None = placed-path m n 0 [] (λ path is lt. absurd (omega (arith, lt))) tt (omega arith)
+    in
+    script-found m n 0 t
     (script-told m n [] start None k 0 placed key (told-cells m n [] start k placed shows) refl t script)
 
 -- paths in two parts
@@ -163,38 +126,13 @@ dead-too : (m n : MapValue) (s : State) (d i : ℕ) → ShowsNothing m n None s 
 dead-too m n s d i (inl (same, usably)) idle seen can = search (rules, look-in)
 dead-too m n s d i (inr (j, holds, u, v)) idle seen can = absurd (idle j holds)
 
--- no accent makes anything of the character 0
-none-of-zero : (pairs : List (ℕ × ℕ)) → All IsPair pairs → first_result pairs 0 ≡ None
-none-of-zero [] all = refl
-none-of-zero (pair ∷ pairs) all =
-    elim (cases_Bool (pair.0 == 0)) [
-      | inl is ↦ absurd ((All-head IsPair pair pairs all).1 (eqb-true pair.0 0 is))
-      | inr other ↦ rw other (none-of-zero pairs (All-tail IsPair pair pairs all))
-    ]
-
-zero-made : (m : MapValue) (i : ℕ) → IsMap m → composed_by (accent_at m i) 0 ≡ None
-zero-made m i bounds = by (accent_at m i) refl
-  where
-    by : (o : Option AccentValue) → accent_at m i ≡ o → composed_by o 0 ≡ None
-    by None e = refl
-    by (Some a) e =
-        let lt : i < length m.accents = slice_get_within m.accents i a e in
-        none-of-zero a.pairs
-        (subst IsAccent (get_or_from_slice_get m.accents i a a e) (bounds.accents i a lt)).pairs
-
--- so a key that shows something while the accent is pending looks up plain cells
-accent-plain : (m n : MapValue) (s : State) (k i : ℕ) → IsMap m → IsMap n → ShowsNothing m n None s k
-    → Shows m n (Some i) s k → ArePlain m n s k
-accent-plain m n s k i bounds also nothing (c, gives, unlike) = search (rules, gives-too, zero-made)
-
 -- where something shows behind a tap of the accent's dead key
-pub accent-told : (m n : MapValue) (i : ℕ) (es : Entries) (place presses : ℕ) (x : SearchedValue) → IsMap m → IsMap n
-    → IsMetFromStart m es
-    → IsSearchedAt m n i es place x → IsReachAt es place x.reach presses → AreCellsClear m n presses
+pub accent-told : (m n : MapValue) (i : ℕ) (es : Entries) (place presses : ℕ) (x : SearchedValue)
+    → IsMetFromStart m es → IsSearchedAt m n i es place x → IsReachAt es place x.reach presses → AreCellsClear m n presses
     → usable m i ≡ true → (at : Shown) → x.shown ≡ Some at → (h g : List Event) → IsTappedAt m i es place h
     → ((path : List Move) → IsTrail x.met.entries at.place path → g ≡ events_along path ++ h) → (t : Telling)
-    → IsScript m n g at.key t → IsFoundBy m n t (Some presses) false
-accent-told m n i es place total x bounds also met (y, os, there, alone_there, s)
+    → IsScript m n g at.key t → IsFoundBy m n t (Some presses)
+accent-told m n i es place total x met (y, os, there, alone_there, s)
     (before, more, (b, b_at, b_is), reach, sum) clear can at e h g
     (w, d, w_at, key, (idle, seen), taps) events t script =
     let fs : Entries = x.met.entries in
@@ -240,8 +178,7 @@ accent-told m n i es place total x bounds also met (y, os, there, alone_there, s
     ∙ ap (λ v. presses_along later + suc v) (presses-on first []) ∙ omega (arith, few, few_later, sum) in
     let there : IsScript m n end1 at.key t =
     subst (λ v. IsScript m n v at.key t) (events l.0 l.1 ∙ ap (λ v. events_along later ++ v) (taps r.0 r.1)) script in
-    script-found m n end1 s2 (Some i) at.key total false placed clear
-    (inl (accent-plain m n s2 at.key i bounds also nothing shown)) t there
+    script-found m n total t
     (script-told m n end1 s2 (Some i) at.key total placed last
     (λ alike released. told-accent m n end1 s2 at.key i placed can can_too nothing shown alike) counted t there)
 

@@ -2,7 +2,7 @@
 use Rattle.std.proofs.Common.{rules}
 use Rattle.keymap_diff.proofs.Common.{◌≡◌, ℕ, ◌+◌, ◌<◌, Bool, true, false, inl, inr, List, Option, Some, None}
 use Rattle.keymap_diff.proofs.Common.{subst, ◌∙◌, length, Cell, MapValue, State, NoneShows, ShowsNothing, look_selected}
-use Rattle.keymap_diff.proofs.Common.{looked_up}
+use Rattle.keymap_diff.proofs.Common.{looked_up, MatchOption, option_or, sym}
 use Rattle.std.proofs.Common.{get_or}
 use Rattle.console_core.proofs.Borne.{column_of-lt}
 use Rattle.console_core.specs.Columns.{slot_of}
@@ -42,3 +42,15 @@ none-of m n p keys s (has, below) none k lt = elim (has k lt) [
   | inl (j, there, e) ↦ subst (λ q. ShowsNothing m n p s q) (get_or_default keys j 0 k there ∙ e) (none j there)
   | inr nothing ↦ nothing s
 ]
+
+-- what was found so far, where none was by more
+pub more-none : {X : Type 0} (P : X → Type 0) (Q R : Type 0) (found : Option X) → (Q → R) → MatchOption found Q P
+    → MatchOption found R P
+more-none P Q R None f none = f none
+more-none P Q R (Some x) f there = there
+
+-- or else this
+pub found-or : {X : Type 0} (P : X → Type 0) (Q R : Type 0) (found now : Option X) (x : X) → now ≡ option_or found (Some x)
+    → P x → MatchOption found Q P → MatchOption now R P
+found-or P Q R None now x e here none = subst (λ o. MatchOption o R P) (sym e) here
+found-or P Q R (Some y) now x e here there = subst (λ o. MatchOption o R P) (sym e) there

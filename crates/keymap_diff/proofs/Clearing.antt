@@ -6,13 +6,8 @@ use Rattle.keymap_diff.proofs.Common.{None, refl, ap, subst, sym, ◌∙◌, ari
 use Rattle.keymap_diff.proofs.Common.{MatchOption, MapValue, Move, End, TooMany, Complete, alone, State, start, IsPath}
 use Rattle.keymap_diff.proofs.Common.{IsPathFrom, state_from, state_after, presses_along, presses_of, state_of, Entry}
 use Rattle.keymap_diff.proofs.Common.{Entries, IsMetBy, IsTrail, AreDone, HasEnded, unscrolled, NoneShows, ShowsNothing}
-use Rattle.keymap_diff.proofs.Common.{AreCellsClear, IsAccentClear, IsOfferedIn, Under, ArePlain, ArePlainClear, inl}
-use Rattle.keymap_diff.proofs.Common.{inr}
-use Rattle.keymap_diff.specs.Inner.Searches.{AreNear, GoesBeyond, IsClearBehind, IsReach, IsSearched, IsWithin}
-use Rattle.keymap_diff.specs.Inner.Searches.{IsFoundBy, IsMetAt, NonePlainFrom, bound_by}
-use Rattle.keymap_diff.specs.declared.telling.Telling.{Telling}
-use Rattle.keymap_diff.specs.declared.telling.Telling.TheVariants.{Told, Never, Undecided}
-use Rattle.keymap_diff.proofs.Common.{Bool, false, true, none-some, same_Some}
+use Rattle.keymap_diff.proofs.Common.{AreCellsClear, IsAccentClear, IsOfferedIn, Under}
+use Rattle.keymap_diff.specs.Inner.Searches.{AreNear, IsClearBehind, IsReach, IsSearched, IsWithin}
 use Rattle.keymap_diff.specs.Inner.Showing.{NoneShowsBelow, IsFirstShown}
 use Rattle.keymap_diff.specs.declared.searched.Searched.{Searched}
 use Rattle.keymap_diff.specs.declared.showing.Shown.{Shown}
@@ -44,7 +39,7 @@ among-along m os es b done begun o has (move ∷ path) is lt =
     (among-along m os es b done begun o has path is.1 (omega (arith, lt))) is.0
 
 -- within the reach all is done
-reach-done : (m : MapValue) (os : List State) (es : Entries) (end : End) (shown : Option Shown) (reach : Option ℕ)
+pub reach-done : (m : MapValue) (os : List State) (es : Entries) (end : End) (shown : Option Shown) (reach : Option ℕ)
     → HasEnded (alone m) os es end → IsReach es end shown reach → (b : ℕ) → IsWithin b reach
     → AreDone (alone m) es b
 reach-done m os es Complete shown reach ended is b within = all-done (alone m) es ended.is.0 b
@@ -94,58 +89,6 @@ pub searched-cells : (m n : MapValue) (x : Searched) → IsSearched m n (start �
     → IsWithin b x.reach → AreCellsClear m n b
 searched-cells m n x s b within path is lt =
     searched-clear m n (start ∷ []) None x s b within start (0, omega arith, refl) path is lt
-
--- something shows by as many presses as the place was met by
-pub reach-is : (m n : MapValue) (os : List State) (p : Option ℕ) (x : Searched) (at : Shown) (q : ℕ)
-    → IsSearched m n os p x → x.shown ≡ Some at → IsMetAt x.met.entries at.place q → x.reach ≡ Some q
-reach-is m n os p x at q s shown (y, here, e) = search (rules, same_Some)
-
--- Where q presses lead from the start and the search went on beyond, no key that looks up plain cells shows anything,
--- if none did from the first place on where something showed.
-pub searched-plain : (m n : MapValue) (x : Searched) (at : Shown) (q : ℕ) → IsSearched m n (start ∷ []) None x
-    → x.shown ≡ Some at → GoesBeyond q x.end → NonePlainFrom m n x.met.entries at.place q → ArePlainClear m n (q + 1)
-searched-plain m n x at q s shown beyond none path is lt k key =
-    let es : Entries = x.met.entries in
-    let (t, (j, y, there, same, le), near) =
-    among-along m (start ∷ []) es (q + 1) (done x.end s.ended beyond) s.ended.searched.start start
-    (0, omega arith, refl) path is lt in
-    let shows : ArePlain m n (state_of y.0) k → ShowsNothing m n None (state_of y.0) k =
-    elim (cases_lt j at.place) [
-      | inl before ↦ λ plain. earlier j y there before
-      | inr from ↦ none j y there from (omega (arith, le, lt)) k key
-    ] in
-    subst (λ z. ArePlain m n z k → ShowsNothing m n None z k) (ap (λ z. unscrolled z) same ∙ near) shows
-  where
-    done : (end : End) → HasEnded (alone m) (start ∷ []) x.met.entries end → GoesBeyond q end
-        → AreDone (alone m) x.met.entries (q + 1)
-    done Complete ended more = all-done (alone m) x.met.entries ended.is.0 (q + 1)
-    done (TooMany p) ended more = λ j y there move can leaves few.
-        ended.is.2 j y there move can leaves (omega (arith, few, more))
-
-    earlier : (j : ℕ) (y : Entry) → slice_get x.met.entries j ≡ Some y → j < at.place
-        → ShowsNothing m n None (state_of y.0) k
-    earlier j y there before =
-        let (z, here, low, shows, none) : IsFirstShown m n None x.met.entries at.place at.key =
-        subst (λ o. MatchOption o (NoneShowsBelow m n None x.met.entries (length x.met.entries))
-        (λ a. IsFirstShown m n None x.met.entries a.place a.key)) shown s.shown in
-        none j y there before k key
-
--- what is within the bound is no more than the limit
-below : {b : ℕ} (wants : Bool) (limit : Option ℕ) (p : ℕ) → limit ≡ Some p → IsWithin (b + 1) (bound_by wants limit)
-    → b ≤ p
-below false (Some q) p e is = let same = same_Some q p e in omega (arith, same, is)
-below true (Some q) p e is = let same = same_Some q p e in omega (arith, same, is)
-below wants None p e is = absurd (none-some p e)
-
--- where fewer presses lead than what would be taken instead has, no key shows anything
-pub cells-within : (m n : MapValue) (t : Telling) (limit : Option ℕ) (wants : Bool) (b : ℕ)
-    → IsFoundBy m n t limit wants
-    → IsWithin (b + 1) (bound_by wants limit) → AreCellsClear m n b
-cells-within m n (Told events old new) limit wants b (told, (p, e, count, cells, settled)) is =
-    let le = below wants limit p e is in λ path of lt. cells path of (omega (arith, lt, le))
-cells-within m n (Never forgets) limit wants b (e, off, never, cells) is = cells b
-cells-within m n (Undecided p) limit wants b (e, off, many, cells) is =
-    let le = below wants limit p e is in λ path of lt. cells path of (omega (arith, lt, le))
 
 -- ---- from the places that offer an accent
 

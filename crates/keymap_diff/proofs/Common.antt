@@ -40,9 +40,9 @@ pub use Rattle.keymap_core.proofs.SameActions.{same_action-refl, same_action-tru
 pub use Rattle.keymap_core.specs.Maps.{MapValue, accent_at}
 pub use Rattle.keymap_core.specs.Numbers.{key_count}
 pub use Rattle.keymap_diff.specs.Inner.Showing.{AreCellsAlike, AreCellsClear, Gives, IsAccentClear, IsUnnoticed}
-pub use Rattle.keymap_diff.specs.Inner.Showing.{ArePlain, ArePlainClear, MakesSame, NoneShows, NoneShowsPlain, Shows}
-pub use Rattle.keymap_diff.specs.Inner.Showing.{ShowsNothing, looked_up}
-pub use Rattle.keymap_diff.specs.Telling.{IsAnsweredAlike, IsPlain, LooksUpPlain, TellsApart}
+pub use Rattle.keymap_diff.specs.Inner.Searches.{NeverForgetsBelow}
+pub use Rattle.keymap_diff.specs.Inner.Showing.{MakesSame, NoneShows, Shows, ShowsNothing, looked_up}
+pub use Rattle.keymap_diff.specs.Telling.{IsAnsweredAlike, TellsApart}
 pub use Rattle.std.proofs.Common.{All, Bool, IfOk, IfSome, List, MatchOption, None, Ok, Option, Some, [], ap}
 pub use Rattle.std.proofs.Common.{append_assoc, arith, below_more, false, if◌then◌else◌, inl, inr, length, map, refl}
 pub use Rattle.std.proofs.Common.{reverse, rules, slice_get, subst, sym, true, ℕ, ◌++◌, ◌+◌, ◌<◌, ◌==◌, ◌∙◌, ◌∷◌}

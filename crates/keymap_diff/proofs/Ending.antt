@@ -1,4 +1,17 @@
 -- How a search ends where nothing shows: all states were met, or more than it goes over.
+use Rattle.std.proofs.Common.{min}
+use Rattle.keymap_diff.proofs.Clearing.{reach-done}
+use Rattle.keymap_diff.proofs.Apart.{start-told}
+use Rattle.keymap_diff.proofs.Offers.{within-less}
+use Rattle.keymap_diff.proofs.Alike.{below, kept-alike}
+use Rattle.console_states.specs.Moves.{IsForgetful}
+use Rattle.console_states.specs.Sights.{CanForget}
+use Rattle.keymap_diff.specs.declared.telling.Telling.TheVariants.{Never, Told, Undecided}
+use Rattle.keymap_diff.specs.declared.telling.Telling.{Telling}
+use Rattle.keymap_diff.specs.Telling.{CanForgetBy, IsTelling}
+use Rattle.keymap_diff.specs.Inner.Searches.{IsFoundBy, IsScript, IsWithin}
+use Rattle.keymap_diff.proofs.Common.{Shows, TellsApart, presses, true, ◌⊎◌}
+use Rattle.keymap_diff.proofs.Common.{AreCellsClear, Event, IsAccentClear, IsAdmitted, IsReached, NeverForgetsBelow}
 use Rattle.std.proofs.Common.{rules, get_or}
 use Rattle.keymap_diff.proofs.Common.{suc, ◌≡◌, ℕ, ◌+◌, ◌<◌, ◌≤◌, false, Bool, inl, inr, List, [], ◌∷◌, ◌++◌, length}
 use Rattle.keymap_diff.proofs.Common.{slice_get, Option, Some, None, refl, ap, subst, sym, ◌∙◌, arith, cases_lt}
@@ -6,19 +19,18 @@ use Rattle.keymap_diff.proofs.Common.{none-some, same_Some, slice_get_within, Co
 use Rattle.keymap_diff.proofs.Common.{alone, State, start, IsPath, IsPathFrom, state_after, state_from, presses_along}
 use Rattle.keymap_diff.proofs.Common.{state_of, Entry, Entries, Searched, NeverForgets, End, TooMany, Complete, is_some}
 use Rattle.keymap_diff.proofs.Common.{true≢false}
-use Rattle.std.proofs.lemmas.Option.{slice_get-get_or, slice_get_cases}
-use Rattle.keymap_diff.specs.Inner.Searches.{GoesBeyond, IsMetAt, IsMetFromStart, IsReach, IsSearched}
+use Rattle.std.proofs.lemmas.Option.{slice_get-get_or}
+use Rattle.keymap_diff.specs.Inner.Searches.{IsMetAt, IsMetFromStart, IsReach, IsSearched}
 use Rattle.keymap_diff.specs.declared.searched.Searched.{Searched as SearchedValue}
 use Rattle.keymap_diff.specs.declared.showing.Shown.{Shown}
 use Rattle.console_states.specs.Sticking.{ReachesMoreThan}
-use Rattle.console_states.specs.Searching.{AreMetOnce, AreOrdered, AreSafe, GoBack, HasEnded, IsStuck}
+use Rattle.console_states.specs.Searching.{AreMetOnce, AreOrdered, AreSafe, GoBack, IsStuck}
 use Rattle.console_states.specs.declared.search.Stuck.{Stuck}
 use Rattle.console_states.proofs.Beginning.{reached-one, start-one}
 use Rattle.console_states.proofs.Concluding.{safe-below}
-use Rattle.console_states.proofs.Searching.{all-done}
 use Rattle.console_states.proofs.GoingBack.{searched-back}
 use Rattle.keymap_diff.proofs.Apart.{path-join}
-use Rattle.keymap_diff.proofs.Clearing.{among-along, start-reached}
+use Rattle.keymap_diff.proofs.Clearing.{among-along}
 
 -- the place where something shows, and the way back from there
 pub shown-place : (m n : MapValue) (os : List State) (p : Option ℕ) (x : SearchedValue) → IsSearched m n os p x
@@ -64,16 +76,6 @@ reaches-many m os es c q s ordered once (d, last, count) from =
       ]),
     )
 
--- where all states were met and no holder looks up a character, none is forgotten
-pub safe-never : (m : MapValue) (es : Entries) → Searched (alone m) (start ∷ []) es (length es) (length es)
-    → AreSafe (alone m) es (length es) → NeverForgets (alone m)
-safe-never m es s safe path is forgetful =
-    let b : ℕ = suc (presses_along path) in
-    let done = all-done (alone m) es s b in
-    (safe-below (alone m) es b (start-one s) done (λ j x at lt. safe j x at (slice_get_within es j x at))).safe
-    (presses_along path) (omega arith) (state_after (alone m) path)
-    (among-along m (start ∷ []) es b done s.start start (0, omega arith, refl) path is (omega arith)) forgetful
-
 -- where nothing shows and the search gave up
 pub searched-many : (m n : MapValue) (os : List State) (p : Option ℕ) (x : SearchedValue) (c q t : ℕ)
     → c + q ≡ t → IsSearched m n os p x → x.shown ≡ None → x.reach ≡ Some q
@@ -90,41 +92,46 @@ searched-many m n os p x c q t sum s none e from =
         reaches-many m os x.met.entries c q s.ended.searched s.ended.ordered s.ended.once
         (subst (λ z. IsMetAt x.met.entries 65536 z) (same_Some l q (sym is ∙ e)) at) from
 
-reaches-up : (m : MapValue) (q p : ℕ) → p ≤ q → ReachesMoreThan (alone m) 65536 p → ReachesMoreThan (alone m) 65536 q
-reaches-up m q p le (states, off, led, apart) =
-    (states, off, (λ j few. let (path, is, count, to) = led j few in (path, is, omega (arith, count, le), to)), apart)
+-- ---- where a key can forget that it holds a modifier
 
--- where the search went on no further than q presses lead
-pub not-beyond : (m n : MapValue) (x : SearchedValue) (q : ℕ) → IsSearched m n (start ∷ []) None x
-    → (GoesBeyond q x.end → ⊥) → ReachesMoreThan (alone m) 65536 q
-not-beyond m n x q s ended = by x.end s.ended ended
-  where
-    by : (end : End) → HasEnded (alone m) (start ∷ []) x.met.entries end → (GoesBeyond q end → ⊥)
-        → ReachesMoreThan (alone m) 65536 q
-    by Complete is over = absurd (over tt)
-    by (TooMany p) is over =
-        let (long, within, done) = is.is in
-        let few : p ≤ q = elim (cases_lt q p) [
-          | inl lt ↦ absurd (over lt)
-          | inr le ↦ le
-        ] in
-        elim (slice_get_cases x.met.entries 65536).1 [
-          | inl (d, lt, at, same) ↦
-              let most = within 65536 d at in
-              reaches-up m q (0 + d.1.presses) (omega (arith, most, few))
-              (reaches-many m (start ∷ []) x.met.entries 0 d.1.presses is.searched is.ordered is.once (d, at, refl)
-              start-reached)
-          | inr (past, none) ↦ absurd (omega (arith, long, past))
-        ]
+-- where none can in what was met by fewer presses, none can where fewer lead
+pub forgets-none : (m n : MapValue) (x : SearchedValue) → IsSearched m n (start ∷ []) None x → (b : ℕ)
+    → IsWithin b x.reach
+    → ((j : ℕ) (y : Entry) → slice_get x.met.entries j ≡ Some y → y.1.presses < b → IsForgetful (alone m) (state_of y.0)
+    → ⊥)
+    → NeverForgetsBelow m b
+forgets-none m n x s b within safe path is lt forgetful =
+    let es : Entries = x.met.entries in
+    let done = reach-done m (start ∷ []) es x.end x.shown x.reach s.ended s.reach b within in
+    (safe-below (alone m) es b (start-one s.ended.searched) done safe).safe (presses_along path) lt
+    (state_after (alone m) path)
+    (among-along m (start ∷ []) es b done s.ended.searched.start start (0, omega arith, refl) path is lt) forgetful
 
--- where nothing shows and all was met
-pub searched-never : (m n : MapValue) (x : SearchedValue) (stuck : Option Stuck) (forgets : Bool)
-    → IsSearched m n (start ∷ []) None x → x.shown ≡ None → x.reach ≡ None
-    → MatchOption stuck (AreSafe (alone m) x.met.entries (length x.met.entries))
-    (λ y. IsStuck (alone m) x.met.entries y.place y.key × AreSafe (alone m) x.met.entries y.place)
-    → forgets ≡ is_some stuck → forgets ≡ false → NeverForgets (alone m)
-searched-never m n x (Some y) forgets s none e stuck is f = absurd (true≢false (sym is ∙ f))
-searched-never m n x None forgets s none e safe is f = search (rules, safe-never, none-some)
+-- so where all was met and none can, none ever does
+pub searched-never : (m n : MapValue) (x : SearchedValue) → IsSearched m n (start ∷ []) None x → x.reach ≡ None
+    → AreSafe (alone m) x.met.entries (length x.met.entries) → NeverForgets (alone m)
+searched-never m n x s e safe path is =
+    forgets-none m n x s (suc (presses_along path)) (subst (λ o. IsWithin (suc (presses_along path)) o) (sym e) tt)
+    (λ j y at lt. safe j y at (slice_get_within x.met.entries j y at)) path is (omega arith)
+
+-- as many presses lead to the first place where one can as it was met by
+pub forgets-there : (m n : MapValue) (x : SearchedValue) (place k p : ℕ) → IsSearched m n (start ∷ []) None x
+    → IsStuck (alone m) x.met.entries place k → IsMetAt x.met.entries place p → CanForgetBy m p
+forgets-there m n x place k p s (y, at, (i, forgets)) (z, there, count) =
+    let r : IsReached (alone m) start x.met.entries place y = reached-one s.ended.searched place y at in
+    let same = ap (λ v. v.1.presses) (same_Some y z (sym at ∙ there)) in
+    (r.0, r.2, omega (arith, r.4, same, count), subst (λ v. IsForgetful (alone m) v) (sym r.3) (i, k, forgets))
+
+-- and none where fewer lead
+pub forgets-later : (m n : MapValue) (x : SearchedValue) (place p b : ℕ) → IsSearched m n (start ∷ []) None x
+    → AreSafe (alone m) x.met.entries place → IsMetAt x.met.entries place p → b ≤ p → IsWithin b x.reach
+    → NeverForgetsBelow m b
+forgets-later m n x place p b s safe (z, there, count) le within =
+    forgets-none m n x s b within
+    (λ j y at lt. safe j y at (elim (cases_lt j place) [
+      | inl before ↦ before
+      | inr past ↦ let up = s.ended.ordered place j z y past there at in absurd (omega (arith, up, lt, le, count))
+    ]))
 
 -- as many presses lead to a place as it was met by
 pub tapped-reached : (m : MapValue) (es : Entries) (place before : ℕ) (y : Entry) → IsMetFromStart m es
@@ -132,3 +139,89 @@ pub tapped-reached : (m : MapValue) (es : Entries) (place before : ℕ) (y : Ent
     → (path : List Move) × IsPath (alone m) path × (presses_along path ≤ before + 1) × (state_after (alone m) path ≡ o)
 tapped-reached m es place before y met at (z, there, count) o is =
     search (rules, reached-one, same_Some)
+
+-- so many presses, or as many as lead to where one can, if these are fewer
+pub forgetting-limit : (m n : MapValue) (x : SearchedValue) (place k p b r : ℕ) → IsSearched m n (start ∷ []) None x
+    → IsStuck (alone m) x.met.entries place k × AreSafe (alone m) x.met.entries place → IsMetAt x.met.entries place p
+    → IsWithin b x.reach → r ≡ min b p → NeverForgetsBelow m r × ((r ≡ b) ⊎ CanForgetBy m r)
+forgetting-limit m n x place k p b r s (stuck, safe) at within is = (
+  forgets-later m n x place p r s safe at (omega (arith, is)) (within-less r b x.reach (omega (arith, is)) within),
+  elim (cases_lt p b) [
+    | inl lt ↦
+        let same : p ≡ r = omega (arith, is, lt) in
+        inr (subst (λ q. CanForgetBy m q) same (forgets-there m n x place k p s stuck at))
+    | inr le ↦ inl (omega (arith, is, le))
+  ],
+)
+
+-- what is told of forgetting where all was met
+pub never-found : (m n : MapValue) (x : SearchedValue) (stuck : Option Stuck) (forgets : Bool)
+    → IsSearched m n (start ∷ []) None x → x.reach ≡ None
+    → MatchOption stuck (AreSafe (alone m) x.met.entries (length x.met.entries))
+    (λ y. IsStuck (alone m) x.met.entries y.place y.key × AreSafe (alone m) x.met.entries y.place)
+    → forgets ≡ is_some stuck → (forgets ≡ false → NeverForgets (alone m)) × (forgets ≡ true → CanForget m)
+never-found m n x (Some y) forgets s e ((z, at, holder), safe) is =
+    let (path, made, le, forgetful) =
+    forgets-there m n x y.place y.key z.1.presses s (z, at, holder) (z, at, refl) in
+    ((λ f. absurd (true≢false (sym is ∙ f))), (λ t. (path, made, forgetful)))
+never-found m n x None forgets s e safe is =
+    ((λ f. searched-never m n x s e safe), (λ t. absurd (true≢false (sym t ∙ is))))
+
+-- ---- what is answered
+
+-- where fewer than p presses show nothing, each list that tells the keymaps apart has more
+beyond : (m n : MapValue) (forgets : Bool) (p : ℕ) → (forgets ≡ false → NeverForgetsBelow m p) → AreCellsClear m n p
+    → ((i : ℕ) → IsAccentClear m n i p) → (g : List Event) → IsAdmitted m forgets g → TellsApart m n g → p < presses g
+beyond m n forgets p never cells accents g given tells = elim (cases_lt p (presses g)) [
+  | inl lt ↦ lt
+  | inr le ↦ absurd (tells (below m n forgets p never cells accents g (given, le)).1)
+]
+
+-- All is clear within the limit: so no list within it tells the keymaps apart, clean or not where the search gave up.
+abbrev pub AreClearWithin : MapValue → MapValue → Option ℕ → Type 0
+AreClearWithin m n limit =
+    ((b : ℕ) → IsWithin b limit → AreCellsClear m n b)
+    × ((b : ℕ) → IsWithin b limit → (i : ℕ) → IsAccentClear m n i b)
+
+pub decided-tells : (m n : MapValue) (limit : Option ℕ) (x : Telling) → IsFoundBy m n x limit
+    → AreClearWithin m n limit → ((p : ℕ) → x ≡ Undecided p → ⊥) → IsTelling m n x
+decided-tells m n limit (Told es old new) (told, (p, e, count)) (cells, accents) decided =
+    let within : IsWithin p limit = subst (λ o. IsWithin p o) (sym e) (omega arith) in (
+      told,
+      λ g given tells.
+          let lt = beyond m n true p (λ f. absurd (true≢false f)) (cells p within) (accents p within) g given tells in
+          omega (arith, lt, count),
+    )
+decided-tells m n limit (Never forgets) (e, never, can) (cells, accents) decided = (
+  λ h given.
+      let b : ℕ = presses h in
+      let within : IsWithin b limit = subst (λ o. IsWithin b o) (sym e) tt in
+      let (alike, answered) =
+      below m n forgets b (λ f path is lt. never f path is) (cells b within) (accents b within) h
+      (given, omega arith) in
+      (answered, kept-alike m n h alike),
+  can,
+)
+decided-tells m n limit (Undecided p) found clear decided = absurd (decided p refl)
+
+pub undecided-tells : (m n : MapValue) (limit : Option ℕ) (x : Telling) (p r : ℕ) → x ≡ Undecided p
+    → IsFoundBy m n x limit → AreClearWithin m n limit → r ≤ p → NeverForgetsBelow m r → (r ≡ p) ⊎ CanForgetBy m r
+    → IsTelling m n (Undecided r)
+undecided-tells m n limit x p r e found clear le never most =
+    let (at, many) = subst (λ z. IsFoundBy m n z limit) e found in
+    let (cells, accents) = subst (λ o. AreClearWithin m n o) at clear in (
+      (p, many, le, most),
+      λ g keys none tells.
+          beyond m n false r (λ f. never) (cells r le) (accents r le) g
+          (keys, none, λ f. absurd (true≢false (sym f))) tells,
+    )
+
+-- where a press at the start shows something
+pub start-tells : (m n : MapValue) (k : ℕ) → k < 128 → Shows m n None start k → (t : Telling) → IsScript m n [] k t
+    → IsTelling m n t
+start-tells m n k key shows t script =
+    decided-tells m n (Some 0) t (start-told m n k key shows t script) (
+      (λ b le path is lt. absurd (omega (arith, le, lt))),
+      (λ b le i before later made offered to lt. absurd (omega (arith, le, lt))),
+    )
+    (λ p e. subst (λ x. IsScript m n [] k x) e script)

@@ -1,6 +1,6 @@
 -- A list that tells two keymaps apart by the fewest presses is answered alike up to its last event.
-use Rattle.keymap_diff.proofs.Common.{◌≡◌, ◌<◌, ◌≤◌, true, inl, inr, List, [], ◌∷◌, ◌++◌, refl, ap, subst, sym, ◌∙◌}
-use Rattle.keymap_diff.proofs.Common.{arith, reverse, append-nil, MapValue, Event, Press, Release, Reset, Load, Answer}
+use Rattle.keymap_diff.proofs.Common.{◌≡◌, ◌<◌, true, inl, inr, List, [], ◌∷◌, ◌++◌, refl, ap, subst, sym, ◌∙◌}
+use Rattle.keymap_diff.proofs.Common.{arith, reverse, append-nil, MapValue, Event, Press, Release, Answer}
 use Rattle.keymap_diff.proofs.Common.{between, answer_to, answers_to, presses, IsAdmitted, true≢false}
 use Rattle.std.proofs.lemmas.List.{reverse-append, reverse-reverse}
 use Rattle.std.specs.Bool.{Decides}
@@ -11,6 +11,7 @@ use Rattle.console_core.specs.History.{Maps}
 use Rattle.console_core.specs.contracts.event.AnswerPartialEq.TheImpl as answer
 use Rattle.console_core.specs.declared.event.Answer.TheVariants as variant
 use Rattle.console_states.proofs.Seeing.{admitted-before}
+use Rattle.keymap_diff.proofs.Reached.{presses-before}
 use Rattle.keymap_diff.proofs.Same.{action-same, stable}
 use Rattle.keymap_diff.specs.Telling.{DifferAtLast, HasFewestTelling, IsAnsweredBy, ToldListsDifferAtLast}
 
@@ -34,12 +35,6 @@ answers-more ms e h =
     let before : reverse (reverse h) ++ [] ≡ h = append-nil (reverse (reverse h)) ∙ reverse-reverse h in
     ap (λ es. answers_to ms [] es) (reverse-append (e ∷ []) h) ∙ answers_to-push ms [] (reverse h) e
     ∙ ap (λ g. answers_to ms [] (reverse h) ++ answer_to ms g e ∷ []) before
-
-presses-before : (e : Event) (h : List Event) → presses h ≤ presses (e ∷ h)
-presses-before (Press k) h = omega arith
-presses-before (Release k) h = omega arith
-presses-before Reset h = omega arith
-presses-before Load h = omega arith
 
 -- clean lists of fewer presses are answered alike, each event of them
 alike-below : (m n : MapValue) (h : List Event) → HasFewestTelling m n h → (g : List Event) → IsAdmitted m true g

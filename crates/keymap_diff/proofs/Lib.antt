@@ -1,8 +1,8 @@
 pub mod Alike
 pub mod Apart
 pub mod Bases
-pub mod BothWays
 pub mod CanShow
+pub mod Clean
 pub mod Clearing
 pub mod Common
 pub mod Ending

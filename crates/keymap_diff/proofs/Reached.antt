@@ -1,11 +1,14 @@
 -- The states in which a console stands, by the presses that lead there, and where an accent is pending.
+use Rattle.console_states.proofs.Staying.{KeepsHeld}
+use Rattle.console_states.specs.Moves.{IsForgetful}
+use Rattle.keymap_diff.proofs.Common.{NeverForgetsBelow}
 use Rattle.keymap_diff.proofs.Common.{suc, ◌≡◌, ℕ, ◌+◌, ◌<◌, ◌≤◌, Bool, true, false, List, [], ◌∷◌, Some, refl, ap}
 use Rattle.keymap_diff.proofs.Common.{subst, sym, ◌∙◌, inl, inr, arith, rules, All-head, true≢false, None, Action, Cell}
 use Rattle.keymap_diff.proofs.Common.{Char, Act, Event, Press, Release, Reset, Load, Move, LetGo, MapValue}
 use Rattle.keymap_diff.proofs.Common.{ResolvedEvent, PressedAction, ReleasedKey, remembered, taken_over, pending, look}
 use Rattle.keymap_diff.proofs.Common.{resolve_press, between, resolved, is_second_in_force, same_action, HasKey}
 use Rattle.keymap_diff.proofs.Common.{IsNoLoad, alone, State, IsMove, moved, look_in, IsPath, IsPathFrom, state_after}
-use Rattle.keymap_diff.proofs.Common.{state_from, presses_along, presses_of, presses, NeverForgets, IsAdmitted}
+use Rattle.keymap_diff.proofs.Common.{state_from, presses_along, presses_of, presses, IsAdmitted}
 use Rattle.keymap_diff.proofs.Common.{IsOfferedIn, Follows, usable, holding_action, Hold, Turn}
 use Rattle.console_core.proofs.OneMore.{one_map, resolved-start, resolved-more, pending-start, pending-character}
 use Rattle.console_core.proofs.OneMore.{pending-action, pending-release, pending-reset}
@@ -14,6 +17,12 @@ use Rattle.console_states.proofs.Seeing.{admitted-before, keeps-held, taken-dead
 use Rattle.console_states.proofs.Sparing.{IsKeptBelow, AreSpared, stays}
 use Rattle.console_states.proofs.Staying.{LeadsOn, stays-press, stays-release}
 use Rattle.keymap_core.specs.declared.action.Action.TheVariants as act
+
+pub presses-before : (e : Event) (h : List Event) → presses h ≤ presses (e ∷ h)
+presses-before (Press k) h = omega arith
+presses-before (Release k) h = omega arith
+presses-before Reset h = omega arith
+presses-before Load h = omega arith
 
 -- a path of at most p presses leads to the state
 abbrev pub ReachedBy : MapValue → ℕ → State → Type 0
@@ -34,25 +43,42 @@ reached-kept m n = record {
   start = ([], tt, omega arith, refl);
 }
 
-reached-spared : (m : MapValue) (forgets : Bool) (n : ℕ) → (forgets ≡ false → NeverForgets (alone m))
-    → AreSpared (alone m) n (ReachedBy m) (IsAdmitted m forgets)
-reached-spared m forgets n never = record {
-  fewer = λ e h given. admitted-before m forgets e h given;
-  keeps = λ h k given lt s (path, is, le, leads) f second.
-      keeps-held m forgets k h never given s (path, is, leads) f second;
+-- lists that are spoken of, of at most b presses
+abbrev pub IsWithinReach : MapValue → Bool → ℕ → List Event → Type 0
+IsWithinReach m forgets b h = IsAdmitted m forgets h × (presses h ≤ b)
+
+pub reach-before : (m : MapValue) (forgets : Bool) (b : ℕ) (e : Event) (h : List Event)
+    → IsWithinReach m forgets b (e ∷ h) → IsWithinReach m forgets b h
+reach-before m forgets b e h (given, le) =
+    let up = presses-before e h in (admitted-before m forgets e h given, omega (arith, le, up))
+
+reached-spared : (m : MapValue) (forgets : Bool) (b n : ℕ) → (forgets ≡ false → NeverForgetsBelow m b)
+    → AreSpared (alone m) n (ReachedBy m) (IsWithinReach m forgets b)
+reached-spared m forgets b n never = record {
+  fewer = reach-before m forgets b;
+  keeps = keeps forgets never;
 }
+  where
+    keeps : (forgets : Bool) → (forgets ≡ false → NeverForgetsBelow m b) → (h : List Event) (k : ℕ)
+        → IsWithinReach m forgets b (Press k ∷ h) → presses h < n → (s : State) → ReachedBy m (presses h) s
+        → Follows (resolved (between m m) h) s → s.is_second ≡ is_second_in_force h → KeepsHeld (alone m) s k
+    keeps false never h k (given, few) lt s (path, is, le, leads) f second i forgetful =
+        never refl path is (omega (arith, le, few))
+        (subst (λ x. IsForgetful (alone m) x) (sym leads) (i, k, forgetful))
+    keeps true never h k (given, few) lt s (path, is, le, leads) f second i forgetful =
+        keeps-held m true k h (λ e. absurd (true≢false e)) given s (path, is, leads) f second i forgetful
 
 -- after a list that is spoken of the console stands in such a state
 abbrev pub StandsBy : MapValue → ℕ → List ResolvedEvent → Type 0
 StandsBy m p r = (s : State) × ReachedBy m p s × Follows r s
 
-pub stands-by : (m : MapValue) (forgets : Bool) (h : List Event) → (forgets ≡ false → NeverForgets (alone m))
-    → IsAdmitted m forgets h → StandsBy m (presses h) (resolved (between m m) h)
-stands-by m forgets h never given =
+pub stands-by : (m : MapValue) (forgets : Bool) (b : ℕ) (h : List Event) → (forgets ≡ false → NeverForgetsBelow m b)
+    → IsWithinReach m forgets b h → StandsBy m (presses h) (resolved (between m m) h)
+stands-by m forgets b h never given =
     let n : ℕ = suc (presses h) in
     let (s, there, f, is) =
-    stays (alone m) n (ReachedBy m) (IsAdmitted m forgets) (reached-kept m n) (reached-spared m forgets n never) h
-    (given, given.0, (λ e. given.1), omega arith) in
+    stays (alone m) n (ReachedBy m) (IsWithinReach m forgets b) (reached-kept m n) (reached-spared m forgets b n never) h
+    (given, given.0.0, (λ e. given.0.1), omega arith) in
     (s, there (omega arith), f)
 
 -- ---- behind where an accent is offered
@@ -135,28 +161,28 @@ pends-release m r p k i (s, behind, f) =
     (t, there, g)
 
 -- an accent is pending only behind where it is offered
-pub pends-by : (m : MapValue) (forgets : Bool) (h : List Event) (i : ℕ) → (forgets ≡ false → NeverForgets (alone m))
-    → IsAdmitted m forgets h → pending m (resolved (between m m) h) ≡ Some i
+pub pends-by : (m : MapValue) (forgets : Bool) (b : ℕ) (h : List Event) (i : ℕ)
+    → (forgets ≡ false → NeverForgetsBelow m b) → IsWithinReach m forgets b h → pending m (resolved (between m m) h) ≡ Some i
     → PendsBy m i (presses h) (resolved (between m m) h)
-pends-by m forgets [] i never given e = search (rules, pending-start, resolved-start)
-pends-by m forgets (Release k ∷ h) i never given e =
+pends-by m forgets b [] i never given e = search (rules, pending-start, resolved-start)
+pends-by m forgets b (Release k ∷ h) i never given e =
     let r : List ResolvedEvent = resolved (between m m) h in
     rw (resolved-more (between m m) h (Release k)) (pends-release m r (presses h) k i
-    (pends-by m forgets h i never (admitted-before m forgets (Release k) h given)
+    (pends-by m forgets b h i never (reach-before m forgets b (Release k) h given)
     (sym (pending-release m k r) ∙ ap (λ r. pending m r) (sym (resolved-more (between m m) h (Release k))) ∙ e)))
-pends-by m forgets (Reset ∷ h) i never given e = search (rules, pending-reset, resolved-more)
-pends-by m forgets (Load ∷ h) i never given e = absurd (true≢false (All-head IsNoLoad Load h given.1))
-pends-by m forgets (Press k ∷ h) i never given e =
+pends-by m forgets b (Reset ∷ h) i never given e = search (rules, pending-reset, resolved-more)
+pends-by m forgets b (Load ∷ h) i never given e = absurd (true≢false (All-head IsNoLoad Load h given.0.1))
+pends-by m forgets b (Press k ∷ h) i never given e =
     let r : List ResolvedEvent = resolved (between m m) h in
-    let before : IsAdmitted m forgets h = admitted-before m forgets (Press k) h given in
+    let before : IsWithinReach m forgets b h = reach-before m forgets b (Press k) h given in
     let at : resolved (between m m) (Press k ∷ h) ≡ resolve_press k (look m r k) ∷ r =
     cc (resolved-more (between m m) h (Press k), one_map m (is_second_in_force h)) in
     subst (λ z. PendsBy m i (suc (presses h)) z) (sym at)
-    (by (look m r k) refl (ap (λ z. pending m z) (sym at) ∙ e) (λ was. pends-by m forgets h i never before was)
-    (stands-by m forgets h never before))
+    (by (look m r k) refl (ap (λ z. pending m z) (sym at) ∙ e) (λ was. pends-by m forgets b h i never before was)
+    (stands-by m forgets b h never before))
   where
     lt : k < 128
-    lt = All-head HasKey (Press k) h given.0
+    lt = All-head HasKey (Press k) h given.0.0
 
     by : (x : Cell) → look m (resolved (between m m) h) k ≡ x
         → pending m (resolve_press k x ∷ resolved (between m m) h) ≡ Some i

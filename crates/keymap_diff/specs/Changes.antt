@@ -15,6 +15,9 @@ use Rattle.keymap_diff.specs.Types.{ListedOtherwise}
 
 -- ---- whether a press meets what differs
 
+-- A press meets what moves lead to: of any list of events where no key can forget that it holds a modifier, and else of
+-- one along which none does.
+
 abbrev pub MeetsCell : ℕ → ℕ → MapValue → Type 0
 MeetsCell slot column m = IsReachable m (sight.Cell slot column)
 
@@ -38,6 +41,14 @@ MeetsDeadKey i m =
 -- A press can look up the base while the accent is pending.
 abbrev pub MeetsPair : ℕ → ℕ → MapValue → Type 0
 MeetsPair i base m = IsReachable m (sight.Pair i base)
+
+-- a press meets what the change tells, if it is of what presses can meet
+abbrev pub MeetsChange : Change → MapValue → Type 0
+MeetsChange (Cell s c a b u) m = MeetsCell s c m
+MeetsChange (Letter s a b u) m = MeetsLetters s a b m
+MeetsChange (Accent i a b u) m = MeetsDeadKey i m
+MeetsChange (Pair i base a b u) m = MeetsPair i base m
+MeetsChange _ m = ⊤
 
 -- What differs is unseen exactly if no press meets it, under neither keymap; where a search gave up, nothing is.
 abbrev pub IsMark : Bool → MapValue → MapValue → (MapValue → Type 0) → Bool → Type 0

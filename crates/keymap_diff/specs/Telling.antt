@@ -2,18 +2,18 @@
 -- of them differently.
 use Rattle.std.specs.Prelude.{◌≡◌, ◌≢◌, ◌⊎◌, ℕ, ◌<◌, ◌≤◌, Bool, true, List, [], ◌∷◌, ◌++◌, All}
 use Rattle.std.specs.Prelude.{reverse}
-use Rattle.keymap_core.specs.declared.action.Action.TheVariants as act
-use Rattle.keymap_core.specs.declared.entry.Cell.{Cell}
-use Rattle.keymap_core.specs.declared.entry.Cell.TheVariants.{Char, Act}
+use Rattle.keymap_core.specs.declared.action.Lock.{Lock}
+use Rattle.keymap_core.specs.declared.action.Modifier.{Modifier}
 use Rattle.keymap_core.specs.Maps.{MapValue}
 use Rattle.console_core.specs.declared.event.Answer.{Answer}
 use Rattle.console_core.specs.declared.event.Event.{Event}
 use Rattle.console_core.specs.declared.event.Event.TheVariants.{Press, Release}
 use Rattle.console_core.specs.Headline.{IsSafe}
-use Rattle.console_core.specs.History.{between, answer_to, answers_to, HasKeys}
-use Rattle.console_core.specs.Reading.{look_after}
-use Rattle.console_states.specs.Moves.{alone}
-use Rattle.console_states.specs.Sights.{IsAdmitted, IsClean}
+use Rattle.console_core.specs.History.{between, answer_to, answers_to, is_on_after, is_locked_after}
+use Rattle.console_core.specs.History.{accent_pending_after, HasKeys, HasNoLoads}
+use Rattle.console_states.specs.declared.held.Move.{Move}
+use Rattle.console_states.specs.Moves.{alone, IsForgetful, IsPath, presses_along, state_after}
+use Rattle.console_states.specs.Sights.{CanForget, IsAdmitted, IsClean}
 use Rattle.console_states.specs.Sticking.{presses, IsPressOrRelease, ReleasesPressedKeys, ReachesMoreThan, state_limit}
 use Rattle.keymap_diff.specs.declared.telling.Telling.{Telling}
 use Rattle.keymap_diff.specs.declared.telling.Telling.TheVariants.{Told, Never, Undecided}
@@ -23,40 +23,35 @@ abbrev pub IsAnsweredAlike : MapValue → MapValue → List Event → Type 0
 IsAnsweredAlike m n [] = Unit {0}
 IsAnsweredAlike m n (e ∷ h) = answer_to (between m m) h e ≡ answer_to (between n n) h e
 
+-- After the list the same modifiers and locks are on, and the same accent is pending.
+pub record IsKeptAlike (m n : MapValue) (h : List Event) : Type 0 where
+  pub on : (i : Modifier) → is_on_after (between m m) i h ≡ is_on_after (between n n) i h
+  pub locked : (l : Lock) → is_locked_after (between m m) l h ≡ is_locked_after (between n n) l h
+  pub pending : accent_pending_after (between m m) h ≡ accent_pending_after (between n n) h
+
 -- The list tells them apart: its newest event is answered differently.
 abbrev pub TellsApart : MapValue → MapValue → List Event → Type 0
 TellsApart m n h = IsAnsweredAlike m n h → ⊥
 
--- No list that is spoken of does. Since such a list is one without its newest event too, all answers to it are the
--- same.
+-- No list that is spoken of does, and after each the consoles keep the same. Since such a list is one without its newest
+-- event too, all answers to it are the same.
 abbrev pub IsNeverTold : MapValue → MapValue → Bool → Type 0
-IsNeverTold m n forgets = (h : List Event) → IsAdmitted m forgets h → IsAnsweredAlike m n h
+IsNeverTold m n forgets =
+    (h : List Event) → IsAdmitted m forgets h → IsAnsweredAlike m n h × IsKeptAlike m n h
 
 -- no clean list that tells them apart has fewer presses
 abbrev pub HasFewestTelling : MapValue → MapValue → List Event → Type 0
 HasFewestTelling m n h = (g : List Event) → IsAdmitted m true g → TellsApart m n g → presses h ≤ presses g
 
--- each clean list that tells them apart has more than p
+-- each list that tells them apart, clean or not, has more than p
 abbrev pub IsNotToldBy : MapValue → MapValue → ℕ → Type 0
-IsNotToldBy m n p = (g : List Event) → IsAdmitted m true g → TellsApart m n g → p < presses g
+IsNotToldBy m n p = (g : List Event) → HasKeys g → HasNoLoads g → TellsApart m n g → p < presses g
 
--- the cell is neither `nop` nor the character 0
-abbrev pub IsPlain : Cell → Type 0
-IsPlain (Char c) = c ≢ 0
-IsPlain (Act a) = a ≢ act.Nop
-
--- The newest press of the list looks up a plain cell under each keymap.
-abbrev pub LooksUpPlain : MapValue → MapValue → List Event → Type 0
-LooksUpPlain m n [] = ⊥
-LooksUpPlain m n (Press k ∷ h) = IsPlain (look_after (between m m) k h) × IsPlain (look_after (between n n) k h)
-LooksUpPlain m n (e ∷ h) = LooksUpPlain m n h
-
--- If a clean list of no more presses tells them apart with such a look-up, this one has such a look-up too, or before
--- its last press more states are reached than a search goes over.
-abbrev pub IsPlainIfAny : MapValue → MapValue → List Event → Type 0
-IsPlainIfAny m n h =
-    (g : List Event) → IsAdmitted m true g → TellsApart m n g → presses g ≤ presses h → LooksUpPlain m n g
-    → LooksUpPlain m n h ⊎ ((p : ℕ) × (p < presses h) × ReachesMoreThan (alone m) state_limit p)
+-- at most p presses lead to where a key can forget that it holds a modifier
+abbrev pub CanForgetBy : MapValue → ℕ → Type 0
+CanForgetBy m p =
+    (path : List Move) × IsPath (alone m) path × (presses_along path ≤ p)
+    × IsForgetful (alone m) (state_after (alone m) path)
 
 -- the newest event of the list is answered so
 abbrev pub IsAnsweredBy : MapValue → List Event → Answer → Type 0
@@ -80,13 +75,14 @@ pub record IsToldBy (m n : MapValue) (h : List Event) (old new : Answer) : Type 
   pub releases : ReleasesPressedKeys h
   pub ends : EndsByPress m n h
 
--- what each answer of the search says
+-- What each answer of the search says. It is undecided where more states are reached than a search goes over, and what
+-- it says of all lists goes as far, or to where a key can forget that it holds a modifier.
 abbrev pub IsTelling : MapValue → MapValue → Telling → Type 0
 IsTelling m n (Told events old new) =
     IsToldBy m n (reverse events.items) old new × HasFewestTelling m n (reverse events.items)
-    × IsPlainIfAny m n (reverse events.items)
-IsTelling m n (Never forgets) = IsNeverTold m n forgets
-IsTelling m n (Undecided p) = ReachesMoreThan (alone m) state_limit p × IsNotToldBy m n p
+IsTelling m n (Never forgets) = IsNeverTold m n forgets × (forgets ≡ true → CanForget m)
+IsTelling m n (Undecided p) =
+    ((q : ℕ) × ReachesMoreThan (alone m) state_limit q × (p ≤ q) × ((p ≡ q) ⊎ CanForgetBy m p)) × IsNotToldBy m n p
 
 -- The answers to these events, in their order, are the same but for the last, which are these.
 abbrev pub DifferAtLast : MapValue → MapValue → List Event → Answer → Answer → Type 0
@@ -113,17 +109,3 @@ SafeListsAreClean = (m : MapValue) (h : List Event) → IsSafe m → HasKeys h �
 -- a keymap is told apart from itself by no list
 abbrev pub SameIsNeverTold : Type 0
 SameIsNeverTold = (m : MapValue) (h : List Event) → TellsApart m m h → ⊥
-
--- Two answers of which both tell by as many presses, or none does; one that is undecided has fewer.
-abbrev pub AgreeOnPresses : Telling → Telling → Type 0
-AgreeOnPresses (Told events old new) (Told others a b) = presses (reverse events.items) ≡ presses (reverse others.items)
-AgreeOnPresses (Told events old new) (Never forgets) = ⊥
-AgreeOnPresses (Never forgets) (Told events old new) = ⊥
-AgreeOnPresses (Told events old new) (Undecided p) = p < presses (reverse events.items)
-AgreeOnPresses (Undecided p) (Told events old new) = p < presses (reverse events.items)
-AgreeOnPresses _ _ = Unit {0}
-
--- Of two safe keymaps the answers agree, whichever is the old one.
-abbrev pub AgreesBothWays : Type 0
-AgreesBothWays =
-    (m n : MapValue) (a b : Telling) → IsSafe m → IsSafe n → IsTelling m n a → IsTelling n m b → AgreeOnPresses a b

@@ -2,7 +2,7 @@
 use keymap_core::{Cell, LockFlag};
 
 /// One thing that differs between an old keymap and a new one: what it is in each. Where it is unseen, no press meets
-/// it under either of them.
+/// it under either of them, at least not before a key forgets that it holds a modifier.
 #[derive(Clone, Copy, Debug, PartialEq, Eq)]
 pub enum Change {
     /// How many slots the keymap has: one more than the last that is defined.

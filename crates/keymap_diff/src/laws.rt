@@ -1,6 +1,6 @@
 //! Laws of the definitions. No function here does anything.
 ghost use Rattle.keymap_diff.specs.Changes.{NothingIfSame};
-ghost use Rattle.keymap_diff.specs.Telling.{AgreesBothWays, AnswersAreSame, SafeListsAreClean, SameIsNeverTold};
+ghost use Rattle.keymap_diff.specs.Telling.{AnswersAreSame, SafeListsAreClean, SameIsNeverTold};
 ghost use Rattle.keymap_diff.specs.Telling.{ToldListsDifferAtLast};
 
 /// Nothing differs exactly if the keymaps are the same.
@@ -27,9 +27,4 @@ pub fn safe_keymaps_have_clean_lists()
 /// No list of events tells a keymap apart from itself.
 pub fn the_same_keymaps_are_never_told()
     ensures { SameIsNeverTold }
-{}
-
-/// Whether safe keymaps can be told apart, and by how few presses, is the same whichever is the old one.
-pub fn safe_keymaps_are_told_both_ways()
-    ensures { AgreesBothWays }
 {}

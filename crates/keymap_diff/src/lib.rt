@@ -1,5 +1,5 @@
-//! What differs between two keymaps, whether any press of a key meets it, and whether anybody at a console can tell the
-//! keymaps apart.
+//! What differs between two keymaps, whether any press of a key meets it before a modifier sticks, and whether anybody
+//! at a console can tell the keymaps apart.
 //!
 //! The crate stands on `keymap_core`, whose keymaps it compares, on `console_core`, whose consoles the two are told
 //! apart by, and on `console_states`, whose searches tell what presses meet. `specs/Changes.antt` says what differs:

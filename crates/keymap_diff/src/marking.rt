@@ -3,8 +3,8 @@
 //! Mostly presses meet all of it in the states that a few of them lead to, so these are looked at first.
 ghost use Rattle.std.specs.Prelude.{◌≡◌, false, true, IfOk};
 ghost use Rattle.console_states.specs.Sights.{AreSomeSights};
-ghost use Rattle.keymap_diff.specs.Changes.{AreChanges, AreDifferences};
-ghost use Rattle.keymap_diff.specs.Inner.Versions.{AreVersions, HasAccent, IsMet, IsSeenOfBoth, MeetsChange};
+ghost use Rattle.keymap_diff.specs.Changes.{AreChanges, AreDifferences, MeetsChange};
+ghost use Rattle.keymap_diff.specs.Inner.Versions.{AreVersions, HasAccent, IsMet, IsSeenOfBoth};
 
 use crate::change::Change;
 use crate::compared::changes;

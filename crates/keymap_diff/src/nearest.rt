@@ -1,18 +1,14 @@
 //! The nearest that was found of what tells two keymaps apart.
-ghost use Rattle.std.specs.Prelude.{◌≡◌, ◌≢◌, ◌≤◌, ◌<◌, ◌+◌, ◌∷◌, ◌++◌, [], ℕ, List, Some, None, true, false, length};
-ghost use Rattle.std.specs.Prelude.{reverse, IfOk};
-ghost use Rattle.keymap_core.specs.Maps.{MapValue};
-ghost use Rattle.console_core.specs.declared.event.Event.{Event as EventValue};
+ghost use Rattle.std.specs.Prelude.{◌≡◌, ◌≢◌, ◌⊎◌, ◌≤◌, ◌+◌, ◌∷◌, [], ℕ, None, true, false, reverse, IfOk};
 ghost use Rattle.console_core.specs.History.{between, answer_to};
-ghost use Rattle.console_states.specs.declared.held.Move.{Move as MoveValue};
-ghost use Rattle.console_states.specs.Moves.{alone, events_along, start};
-ghost use Rattle.console_states.specs.Searching.{GoBack, IsTrail};
-ghost use Rattle.console_states.specs.Sticking.{ReachesMoreThan, state_limit};
-ghost use Rattle.keymap_diff.specs.Inner.Searches.{IsNearest, IsOneFurther, IsScript, IsSearched, IsWithin, bound_of};
-ghost use Rattle.keymap_diff.specs.Inner.Showing.{AreCellsClear};
+ghost use Rattle.console_states.specs.Moves.{start};
+ghost use Rattle.keymap_diff.specs.Telling.{CanForgetBy, IsTelling};
+ghost use Rattle.keymap_diff.specs.Inner.Searches.{IsNearest, IsNoFurther, IsScript, IsSearched, IsWithin};
+ghost use Rattle.keymap_diff.specs.Inner.Searches.{NeverForgetsBelow};
+ghost use Rattle.keymap_diff.specs.Inner.Showing.{IsAccentClear};
 
 use crate::searched::{Searched, presses_to};
-use crate::showing::{Both, Shown};
+use crate::showing::Both;
 use crate::telling::Telling;
 use console_core::{Answer, Event, Translator, WordConsole};
 use console_states::{first_stuck, go_out};
@@ -25,56 +21,50 @@ use std::alloc::{AllocError, Global};
 pub(crate) struct Nearest {
     pub(crate) telling: Telling,
     pub(crate) limit: Option<usize>,
-    /// Whether the last look-up of what was found isn't plain, so that a list with as many presses by whose last
-    /// look-up it is would be taken instead.
-    pub(crate) wants_plain: bool,
 }
 
 impl Nearest {
-    /// Whether a list with one press more than these would be taken instead.
+    /// Whether the limit is beyond so many presses.
     pub(crate) fn is_beyond(&self, presses: usize) -> bool
-        ensures beyond { result ≡ true → IsWithin (presses + 1) (bound_of self.now) }
-        ensures within { result ≡ false → (b : ℕ) → IsWithin b (bound_of self.now) → b ≤ presses }
+        ensures beyond { result ≡ true → IsWithin (presses + 1) self.now.limit }
+        ensures within { result ≡ false → (b : ℕ) → IsWithin b self.now.limit → b ≤ presses }
     {
         match self.limit {
-            Some(limit) => {
-                if self.wants_plain {
-                    presses <= limit
-                } else {
-                    presses < limit
-                }
-            }
+            Some(limit) => presses < limit,
             None => true,
         }
     }
 
-    /// Whether the limit is so many presses.
-    fn is_at(&self, presses: usize) -> bool
-        ensures here { result ≡ true → self.now.limit ≡ Some presses }
-        ensures elsewhere { result ≡ false → self.now.limit ≢ Some presses }
+    /// What is answered. Where the search gave up, that tells of all lists, also of those along which a key forgets that
+    /// it holds a modifier.
+    pub(crate) fn answered(self, both: &Both, searched: &Searched) -> Telling
+        requires searched { IsSearched both.now.old.now both.now.new.now (start ∷ []) None searched.now }
+        requires nearest { IsNearest both.now.old.now both.now.new.now self }
+        requires reach { IsNoFurther self.limit searched.now.reach }
+        requires accents { (b : ℕ) → IsWithin b self.limit
+            → (i : ℕ) → IsAccentClear both.now.old.now both.now.new.now i b }
+        ensures { IsTelling both.now.old.now both.now.new.now result }
     {
-        match self.limit {
-            Some(limit) => limit == presses,
-            None => false,
+        match self.telling {
+            Telling::Undecided(presses) => {
+                Telling::Undecided(before_forgetting(both, searched, presses))
+            }
+            telling => telling,
         }
     }
+}
 
-    /// What is known where a search gave up after so many presses: what was found, if that has no more.
-    pub(crate) fn given_up(self, presses: usize) -> Nearest
-        ensures nearest { (m n : MapValue) → IsNearest m n self → IsWithin (presses + 1) (bound_of self)
-            → AreCellsClear m n presses → ReachesMoreThan (alone m) state_limit presses → IsNearest m n result }
-        ensures bound { bound_of result ≡ Some presses }
-    {
-        let telling = if self.is_at(presses) {
-            self.telling
-        } else {
-            Telling::Undecided(presses)
-        };
-        Nearest {
-            telling,
-            limit: Some(presses),
-            wants_plain: false,
-        }
+/// So many presses, or as many as lead to where a key can forget that it holds a modifier, if these are fewer.
+fn before_forgetting(both: &Both, searched: &Searched, presses: usize) -> usize
+    requires searched { IsSearched both.now.old.now both.now.new.now (start ∷ []) None searched.now }
+    requires within { IsWithin presses searched.now.reach }
+    ensures few { result ≤ presses }
+    ensures clean { NeverForgetsBelow both.now.old.now result }
+    ensures most { (result ≡ presses) ⊎ CanForgetBy both.now.old.now result }
+{
+    match first_stuck(&searched.met, &both.maps()) {
+        Some(stuck) => presses.min(presses_to(&searched.met, stuck.place)),
+        None => presses,
     }
 }
 
@@ -110,78 +100,6 @@ pub(crate) fn tell(both: &Both, events: Vec<Event>, key: KeyCode) -> Result<Tell
     Ok(Telling::Told { events, old, new })
 }
 
-/// The events to the place, and what is told by the key there.
-fn tell_at(
-    alloc: Global,
-    both: &Both,
-    searched: &Searched,
-    at: Shown,
-) -> Result<Telling, AllocError>
-    requires place { at.place < length searched.now.met.entries }
-    requires back { GoBack searched.now.met.entries }
-    ensures { IfOk result (λ telling. (h : List EventValue)
-        × ((path : List MoveValue) → IsTrail searched.now.met.entries at.place path → h ≡ events_along path ++ [])
-        × IsScript both.now.old.now both.now.new.now h at.key telling) }
-{
-    let mut events = Vec::new(alloc);
-    go_out(&mut events, alloc, &searched.met, at.place)?;
-    tell(both, events, at.key)
-}
-
-/// What the search from the start found, which met no place where a key shows the difference.
-fn untold(both: &Both, searched: &Searched) -> Nearest
-    requires searched { IsSearched both.now.old.now both.now.new.now (start ∷ []) None searched.now }
-    requires none { searched.now.shown ≡ None }
-    ensures nearest { IsNearest both.now.old.now both.now.new.now result }
-    ensures bound { bound_of result ≡ searched.now.reach }
-{
-    let telling = match searched.reach {
-        Some(presses) => Telling::Undecided(presses),
-        None => Telling::Never {
-            forgets: first_stuck(&searched.met, &both.maps()).is_some(),
-        },
-    };
-    Nearest {
-        telling,
-        limit: searched.reach,
-        wants_plain: false,
-    }
-}
-
-/// What the search from the start found, which met this place as the first where a key shows the difference: the first
-/// place as near where one does by plain cells, or else this one.
-fn told_near(
-    alloc: Global,
-    both: &Both,
-    searched: &Searched,
-    first: Shown,
-) -> Result<Nearest, AllocError>
-    requires searched { IsSearched both.now.old.now both.now.new.now (start ∷ []) None searched.now }
-    requires shown { searched.now.shown ≡ Some first }
-    ensures nearest { IfOk result (λ x. IsNearest both.now.old.now both.now.new.now x) }
-    ensures bound { IfOk result (λ x. IsOneFurther (bound_of x) searched.now.reach) }
-{
-    let presses = presses_to(&searched.met, first.place);
-    match searched.plain_as_near(both, first.place) {
-        Some(at) => {
-            let telling = tell_at(alloc, both, searched, at)?;
-            Ok(Nearest {
-                telling,
-                limit: Some(presses),
-                wants_plain: false,
-            })
-        }
-        None => {
-            let telling = tell_at(alloc, both, searched, first)?;
-            Ok(Nearest {
-                telling,
-                limit: Some(presses),
-                wants_plain: searched.goes_beyond(presses),
-            })
-        }
-    }
-}
-
 /// What the search from the start found, where no accent is pending.
 pub(crate) fn by_cells(
     alloc: Global,
@@ -190,10 +108,23 @@ pub(crate) fn by_cells(
 ) -> Result<Nearest, AllocError>
     requires { IsSearched both.now.old.now both.now.new.now (start ∷ []) None searched.now }
     ensures nearest { IfOk result (λ x. IsNearest both.now.old.now both.now.new.now x) }
-    ensures bound { IfOk result (λ x. IsOneFurther (bound_of x) searched.now.reach) }
+    ensures limit { IfOk result (λ x. x.limit ≡ searched.now.reach) }
 {
-    match searched.shown {
-        Some(first) => told_near(alloc, both, searched, first),
-        None => Ok(untold(both, searched)),
-    }
+    let telling = match searched.shown {
+        Some(at) => {
+            let mut events = Vec::new(alloc);
+            go_out(&mut events, alloc, &searched.met, at.place)?;
+            tell(both, events, at.key)?
+        }
+        None => match searched.reach {
+            Some(presses) => Telling::Undecided(presses),
+            None => Telling::Never {
+                forgets: first_stuck(&searched.met, &both.maps()).is_some(),
+            },
+        },
+    };
+    Ok(Nearest {
+        telling,
+        limit: searched.reach,
+    })
 }

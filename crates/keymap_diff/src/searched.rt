@@ -1,11 +1,10 @@
 //! Searches for a state where a press shows the difference of two keymaps.
-ghost use Rattle.std.specs.Prelude.{◌≡◌, ◌<◌, ◌≤◌, ◌^◌, ℕ, List, false, true, length, map, IfOk, IfSome, MatchOption};
+ghost use Rattle.std.specs.Prelude.{◌≡◌, ◌<◌, ◌≤◌, ◌^◌, ℕ, List, false, length, map, IfOk, IfSome};
 ghost use Rattle.std.specs.List.{Contains};
 ghost use Rattle.keymap_core.specs.declared.action.Lock.TheVariants.{Scroll};
 ghost use Rattle.console_states.specs.Moves.{Under, State};
-ghost use Rattle.console_states.specs.Searching.{state_of, AreOrdered, Searched as SearchedStates};
-ghost use Rattle.keymap_diff.specs.Inner.Searches.{GoesBeyond, IsEndAt, IsMetAt, IsPlainAt, IsReach, IsSearched};
-ghost use Rattle.keymap_diff.specs.Inner.Searches.{NonePlainFrom};
+ghost use Rattle.console_states.specs.Searching.{state_of, Searched as SearchedStates};
+ghost use Rattle.keymap_diff.specs.Inner.Searches.{IsEndAt, IsMetAt, IsReach, IsSearched};
 
 use crate::showing::{Both, Shown};
 use console_states::{End, Held, Met, entry, meet_all};
@@ -71,38 +70,5 @@ impl Searched {
             shown,
             reach,
         })
-    }
-
-    /// Whether the search met all states that so many presses lead to.
-    pub(crate) fn goes_beyond(&self, presses: usize) -> bool
-        ensures beyond { result ≡ true → GoesBeyond presses self.now.end }
-        ensures ended { result ≡ false → GoesBeyond presses self.now.end → ⊥ }
-    {
-        match self.end {
-            End::Complete => true,
-            End::TooMany(limit) => presses < limit,
-        }
-    }
-
-    /// The first place from this one on where a key shows the difference by plain cells and no accent is pending, of
-    /// those that no more presses lead to.
-    pub(crate) fn plain_as_near(&self, both: &Both, first: usize) -> Option<Shown>
-        requires first { first < length self.now.met.entries }
-        requires ordered { AreOrdered self.now.met.entries }
-        ensures { (q : ℕ) → IsMetAt self.now.met.entries first q → MatchOption result
-            (NonePlainFrom both.now.old.now both.now.new.now self.now.met.entries first q)
-            (λ at. IsPlainAt both.now.old.now both.now.new.now self.now.met.entries at q) }
-    {
-        let presses = presses_to(&self.met, first);
-        for place in first..self.met.len() {
-            let (held, origin) = entry(&self.met, place);
-            if origin.presses != presses {
-                return None;
-            }
-            if let Some(key) = both.plain_key(&held) {
-                return Some(Shown { place, key });
-            }
-        }
-        None
     }
 }

@@ -6,9 +6,8 @@ ghost use Rattle.console_core.specs.Answers.{composed_by};
 ghost use Rattle.console_states.specs.Moves.{Holds, IsIdle, State, alone};
 ghost use Rattle.console_states.specs.Searching.{state_of, under_of};
 ghost use Rattle.keymap_diff.specs.Inner.Showing.{AreCellsAlike, IsFirstShown, IsUnnoticed, MakesSame, NoneShows};
-ghost use Rattle.keymap_diff.specs.Inner.Showing.{ArePlain, NoneShowsBelow, NoneShowsPlain, Shows, ShowsNothing};
-ghost use Rattle.keymap_diff.specs.Inner.Showing.{AreShowing, IsClear, IsSlotClear};
-ghost use Rattle.keymap_diff.specs.Telling.{IsPlain};
+ghost use Rattle.keymap_diff.specs.Inner.Showing.{AreShowing, IsClear, IsSlotClear, NoneShowsBelow, Shows};
+ghost use Rattle.keymap_diff.specs.Inner.Showing.{ShowsNothing};
 
 use crate::compared::have_same_results;
 use console_core::is_usable;
@@ -44,10 +43,7 @@ fn is_unnoticed(cell: &Cell, modifier: Modifier) -> bool
 }
 
 /// Whether the cell is neither `nop` nor the character 0.
-fn is_plain(cell: &Cell) -> bool
-    ensures plain { result ≡ true → IsPlain cell.now }
-    ensures other { result ≡ false → IsPlain cell.now → ⊥ }
-{
+fn is_plain(cell: &Cell) -> bool {
     match cell {
         Cell::Char(c) => *c != '\0',
         Cell::Act(action) => *action != Action::Nop,
@@ -227,46 +223,33 @@ impl<'a> Both<'a> {
         Ok(keys)
     }
 
-    /// The first of these keys that does.
-    fn key_showing(&self, held: &Held, pending: Option<u8>, keys: &[KeyCode]) -> Option<KeyCode>
+    /// Whether the key looks up plain cells, which somebody at the keyboard notices best.
+    fn looks_plain(&self, held: &Held, key: KeyCode) -> bool {
+        let selection = held.selection();
+        is_plain(&selection.look(self.old, key)) && is_plain(&selection.look(self.new, key))
+    }
+
+    /// One of these keys that does, the first that looks up plain cells if there is one.
+    pub(crate) fn key_showing(
+        &self,
+        held: &Held,
+        pending: Option<u8>,
+        keys: &[KeyCode],
+    ) -> Option<KeyCode>
         requires { AreShowing self.now.old.now self.now.new.now pending keys.now key_count }
         ensures { MatchOption result (NoneShows self.now.old.now self.now.new.now pending (state_of held.now))
             (λ k. (k < key_count) × Shows self.now.old.now self.now.new.now pending (state_of held.now) k) }
     {
+        let mut found = None;
         for key in keys {
             if self.shows(held, pending, *key) {
-                return Some(*key);
+                if self.looks_plain(held, *key) {
+                    return Some(*key);
+                }
+                found = found.or(Some(*key));
             }
         }
-        None
-    }
-
-    /// Whether the cells that the key looks up show the difference where no accent is pending, and both are plain.
-    fn shows_plain(&self, held: &Held, key: KeyCode) -> bool
-        ensures shown { result ≡ true → Shows self.now.old.now self.now.new.now None (state_of held.now) key
-            × ArePlain self.now.old.now self.now.new.now (state_of held.now) key }
-        ensures nothing { result ≡ false → ArePlain self.now.old.now self.now.new.now (state_of held.now) key
-            → ShowsNothing self.now.old.now self.now.new.now None (state_of held.now) key }
-    {
-        let selection = held.selection();
-        let old = selection.look(self.old, key);
-        let new = selection.look(self.new, key);
-        is_plain(&old) && is_plain(&new) && self.shows_cells(held, key)
-    }
-
-    /// The first key that shows the difference by plain cells, where no accent is pending.
-    pub(crate) fn plain_key(&self, held: &Held) -> Option<KeyCode>
-        ensures { MatchOption result (NoneShowsPlain self.now.old.now self.now.new.now (state_of held.now))
-            (λ k. (k < key_count) × Shows self.now.old.now self.now.new.now None (state_of held.now) k
-            × ArePlain self.now.old.now self.now.new.now (state_of held.now) k) }
-    {
-        for code in 0..KEY_COUNT as u8 {
-            let key = key_with(code);
-            if self.shows_plain(held, key) {
-                return Some(key);
-            }
-        }
-        None
+        found
     }
 
     /// The first place where one of these keys does.

@@ -6,7 +6,7 @@ ghost use Rattle.keymap_diff.specs.Telling.{IsTelling};
 ghost use Rattle.keymap_diff.specs.Inner.Showing.{AreCellsClear, IsAccentClear};
 ghost use Rattle.keymap_diff.specs.Inner.Searches.{AreOffering, IsClearBehind, IsNearest, IsNoFurther};
 ghost use Rattle.keymap_diff.specs.Inner.Searches.{AreNear, IsMetFromStart, IsOfferedAt, IsReachAt};
-ghost use Rattle.keymap_diff.specs.Inner.Searches.{IsSearchedAt, IsTappedAt, IsWithin, bound_of};
+ghost use Rattle.keymap_diff.specs.Inner.Searches.{IsSearchedAt, IsTappedAt, IsWithin};
 
 use crate::nearest::{Nearest, by_cells, tell};
 use crate::searched::{Searched, presses_to};
@@ -14,7 +14,6 @@ use crate::showing::Both;
 use console_core::{Answer, Event, is_usable};
 use console_states::{Held, Met, entry, go_out};
 use keymap_core::KeyMap;
-use keymap_core::laws::every_keymap_is_within_the_bounds;
 use std::alloc::{AllocError, Global};
 
 /// Whether two keymaps can be told apart at a console.
@@ -26,12 +25,14 @@ pub enum Telling {
         old: Answer,
         new: Answer,
     },
-    /// No event is ever answered differently; where `forgets` is set, none before a key forgets that it holds a
-    /// modifier.
+    /// No event is ever answered differently, and after each the same modifiers and locks are on. Where `forgets` is
+    /// set, that is so before a key forgets that it holds a modifier, and some key can.
     Never {
         forgets: bool,
     },
-    /// More than 65,536 states can be reached by as many presses as are told here, so the search gave up.
+    /// More than 65,536 states can be reached, so the search gave up: no list of as many presses as are told here, or
+    /// fewer, is answered differently. So many lead to these states, or to where a key can forget that it holds a
+    /// modifier.
     Undecided(usize),
 }
 
@@ -91,8 +92,8 @@ impl<'a> Offering<'a> {
         Ok(events)
     }
 
-    /// What the search behind a tap found, which is nearer than what was found before, or as near and plain.
-    fn found(&self, alloc: Global, behind: &Behind, nearest: Nearest) -> Result<Nearest, AllocError>
+    /// What the search behind a tap found, which is nearer than what was found before.
+    fn found(&self, alloc: Global, behind: &Behind) -> Result<Nearest, AllocError>
         requires met { IsMetFromStart self.now.both.old.now self.now.met.now.entries }
         requires at { IsOfferedAt self.now.both.old.now self.now.accent self.now.met.now.entries behind.now.place }
         requires searched { IsSearchedAt self.now.both.old.now self.now.both.new.now self.now.accent
@@ -100,26 +101,21 @@ impl<'a> Offering<'a> {
         requires presses { IsReachAt self.now.met.now.entries behind.now.place behind.now.searched.now.reach
             behind.now.presses }
         requires cells { AreCellsClear self.now.both.old.now self.now.both.new.now behind.now.presses }
-        requires nearest { IsNearest self.now.both.old.now self.now.both.new.now nearest }
-        requires beyond { IsWithin (behind.now.presses + 1) (bound_of nearest) }
         ensures nearest { IfOk result (λ x. IsNearest self.now.both.old.now self.now.both.new.now x) }
-        ensures bound { IfOk result (λ x. bound_of x ≡ Some behind.now.presses) }
+        ensures limit { IfOk result (λ x. x.limit ≡ Some behind.now.presses) }
     {
-        every_keymap_is_within_the_bounds(self.both.old);
-        every_keymap_is_within_the_bounds(self.both.new);
-        match behind.searched.shown {
+        let telling = match behind.searched.shown {
             Some(at) => {
                 let mut events = self.events(alloc, behind.place)?;
                 go_out(&mut events, alloc, &behind.searched.met, at.place)?;
-                let telling = tell(&self.both, events, at.key)?;
-                Ok(Nearest {
-                    telling,
-                    limit: Some(behind.presses),
-                    wants_plain: false,
-                })
+                tell(&self.both, events, at.key)?
             }
-            None => Ok(nearest.given_up(behind.presses)),
-        }
+            None => Telling::Undecided(behind.presses),
+        };
+        Ok(Nearest {
+            telling,
+            limit: Some(behind.presses),
+        })
     }
 
     /// The nearest, with the places from `low` to before `high` counted in. One search from all of them tells whether
@@ -137,8 +133,8 @@ impl<'a> Offering<'a> {
         requires small { high < 2 ^ 63 }
         requires nearest { IsNearest self.now.both.old.now self.now.both.new.now nearest }
         ensures nearest { IfOk result (λ x. IsNearest self.now.both.old.now self.now.both.new.now x) }
-        ensures bound { IfOk result (λ x. IsNoFurther (bound_of x) (bound_of nearest)) }
-        ensures clear { IfOk result (λ x. (b : ℕ) → IsWithin b (bound_of x)
+        ensures limit { IfOk result (λ x. IsNoFurther x.limit nearest.limit) }
+        ensures clear { IfOk result (λ x. (b : ℕ) → IsWithin b x.limit
             → IsClearBehind self.now.both.old.now self.now.both.new.now self.now.accent self.now.met.now.entries low
             high b) }
     {
@@ -160,7 +156,7 @@ impl<'a> Offering<'a> {
                 searched: &searched,
                 presses: before + more,
             };
-            return self.found(alloc, &behind, nearest);
+            return self.found(alloc, &behind);
         }
         let middle = low + (high - low) / 2;
         let nearer = self.nearest(alloc, low, middle, nearest)?;
@@ -177,11 +173,11 @@ fn with_accent(
     nearest: Nearest,
 ) -> Result<Nearest, AllocError>
     requires met { IsMetFromStart both.now.old.now met.now.entries }
-    requires near { (b : ℕ) → IsWithin (b + 1) (bound_of nearest) → AreNear both.now.old.now met.now.entries b }
+    requires near { (b : ℕ) → IsWithin b nearest.limit → AreNear both.now.old.now met.now.entries b }
     requires nearest { IsNearest both.now.old.now both.now.new.now nearest }
     ensures nearest { IfOk result (λ x. IsNearest both.now.old.now both.now.new.now x) }
-    ensures bound { IfOk result (λ x. IsNoFurther (bound_of x) (bound_of nearest)) }
-    ensures clear { IfOk result (λ x. (b : ℕ) → IsWithin b (bound_of x)
+    ensures limit { IfOk result (λ x. IsNoFurther x.limit nearest.limit) }
+    ensures clear { IfOk result (λ x. (b : ℕ) → IsWithin b x.limit
         → IsAccentClear both.now.old.now both.now.new.now accent b) }
 {
     if is_usable(both.old, accent) && !both.makes_all_alike(accent) {
@@ -197,13 +193,14 @@ fn with_accent(
 }
 
 /// Decides whether any list of presses, releases and resets tells two keymaps apart, and by how few presses. Where one
-/// press at the start does by plain cells, nothing is nearer, and no search is made.
+/// press at the start does, nothing is nearer, and no search is made.
 pub fn telling_apart(alloc: Global, old: &KeyMap, new: &KeyMap) -> Result<Telling, AllocError>
     ensures { IfOk result (λ answer. IsTelling old.now new.now answer) }
 {
     let both = Both { old, new };
     let start = Held::start();
-    if let Some(key) = both.plain_key(&start) {
+    let keys = both.keys_showing(alloc, None)?;
+    if let Some(key) = both.key_showing(&start, None, keys.as_slice()) {
         return tell(&both, Vec::new(alloc), key);
     }
     let searched = Searched::from(alloc, &both, &[start], None)?;
@@ -211,5 +208,5 @@ pub fn telling_apart(alloc: Global, old: &KeyMap, new: &KeyMap) -> Result<Tellin
     for accent in 0..old.n_accs() {
         nearest = with_accent(alloc, &both, &searched.met, accent, nearest)?;
     }
-    Ok(nearest.telling)
+    Ok(nearest.answered(&both, &searched))
 }

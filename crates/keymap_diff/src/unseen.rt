@@ -1,4 +1,4 @@
-//! Whether any press meets what differs, under either keymap.
+//! Whether any press meets what differs, under either keymap, before a key forgets that it holds a modifier.
 ghost use Rattle.std.specs.Prelude.{◌≡◌, ◌<◌, true, false, is_some};
 ghost use Rattle.keymap_core.specs.Numbers.{accent_limit, column_count};
 ghost use Rattle.console_states.specs.Sights.{AreSightsOf, AreSomeSights, IsReachable};

@@ -7,10 +7,10 @@ use Rattle.keymap_core.specs.Numbers.{key_count}
 use Rattle.console_core.specs.declared.event.Event.{Event}
 use Rattle.console_core.specs.declared.event.Event.TheVariants.{Press, Release}
 use Rattle.console_core.specs.History.{between, answer_to}
-use Rattle.console_states.specs.Moves.{State, alone, start, IsPath, IsPathFrom, state_after, state_from, events_along}
+use Rattle.console_states.specs.Moves.{State, alone, start, IsForgetful, IsPath, IsPathFrom, state_after, state_from, events_along}
 use Rattle.console_states.specs.Moves.{presses_along}
 use Rattle.console_states.specs.Returning.{unscrolled}
-use Rattle.console_states.specs.Sights.{IsOfferedIn, Offers}
+use Rattle.console_states.specs.Sights.{CanForget, IsOfferedIn, Offers}
 use Rattle.console_states.specs.Sticking.{NeverForgets, ReachesMoreThan, state_limit, presses}
 use Rattle.console_states.specs.Searching.{state_of, Entry, Entries, HasEnded, IsTrail, AreOrdered}
 use Rattle.console_states.specs.Searching.{Searched as SearchedStates}
@@ -22,9 +22,8 @@ use Rattle.keymap_diff.specs.declared.searched.Searched.{Searched}
 use Rattle.keymap_diff.specs.declared.showing.Shown.{Shown}
 use Rattle.keymap_diff.specs.declared.telling.Telling.{Telling}
 use Rattle.keymap_diff.specs.declared.telling.Telling.TheVariants.{Told, Never, Undecided}
-use Rattle.keymap_diff.specs.Telling.{TellsApart, IsToldBy, LooksUpPlain}
-use Rattle.keymap_diff.specs.Inner.Showing.{NoneShowsBelow, IsFirstShown, NoneShows, Shows, AreCellsClear, ArePlain}
-use Rattle.keymap_diff.specs.Inner.Showing.{ArePlainClear, NoneShowsPlain}
+use Rattle.keymap_diff.specs.Telling.{TellsApart, IsToldBy}
+use Rattle.keymap_diff.specs.Inner.Showing.{NoneShowsBelow, IsFirstShown, NoneShows, AreCellsClear}
 
 -- the bound is within the limit
 abbrev pub IsWithin : ℕ → Option ℕ → Type 0
@@ -55,22 +54,6 @@ pub record IsSearched (m n : MapValue) (origins : List State) (p : Option ℕ) (
   pub shown : MatchOption x.shown (NoneShowsBelow m n p x.met.entries (length x.met.entries))
       (λ at. IsFirstShown m n p x.met.entries at.place at.key)
 
--- the search met all states that q presses lead to
-abbrev pub GoesBeyond : ℕ → End → Type 0
-GoesBeyond q Complete = Unit {0}
-GoesBeyond q (TooMany p) = q < p
-
--- at the place, which q presses lead to, the key shows something by plain cells where no accent is pending
-abbrev pub IsPlainAt : MapValue → MapValue → Entries → Shown → ℕ → Type 0
-IsPlainAt m n es at q =
-    (x : Entry) × (slice_get es at.place ≡ Some x) × (q ≡ x.1.presses) × (at.key < key_count)
-    × Shows m n None (state_of x.0) at.key × ArePlain m n (state_of x.0) at.key
-
--- from the place on, where no more than q presses lead, no key that looks up plain cells shows anything
-abbrev pub NonePlainFrom : MapValue → MapValue → Entries → ℕ → ℕ → Type 0
-NonePlainFrom m n es place q =
-    (j : ℕ) (x : Entry) → slice_get es j ≡ Some x → place ≤ j → x.1.presses ≤ q → NoneShowsPlain m n (state_of x.0)
-
 -- Behind the events a press of the key, or its release too where that is answered alike, and the answers to the last.
 abbrev pub IsScript : MapValue → MapValue → List Event → ℕ → Telling → Type 0
 IsScript m n h k (Told events old new) =
@@ -82,44 +65,29 @@ IsScript m n h k (Told events old new) =
     × (answer_to (between m m) h (Press k) ≡ answer_to (between n n) h (Press k)))
 IsScript m n h k _ = ⊥
 
--- Whether plain cells are wanted in place of those of a list with one press more than p. They are where its own aren't
--- plain, and then no key that looks up plain cells shows anything where p presses lead and no accent is pending.
-abbrev pub IsSettled : MapValue → MapValue → List Event → ℕ → Bool → Type 0
-IsSettled m n h p true = ArePlainClear m n (p + 1)
-IsSettled m n h p false = LooksUpPlain m n h ⊎ ReachesMoreThan (alone m) state_limit p
-
--- What was found, with as many presses as the limit and one more, or where the search gave up. Where fewer lead, no key
--- shows anything while no accent is pending.
-abbrev pub IsFoundBy : MapValue → MapValue → Telling → Option ℕ → Bool → Type 0
-IsFoundBy m n (Told events old new) limit wants_plain =
+-- what was found, with as many presses as the limit and one more, or where the search gave up
+abbrev pub IsFoundBy : MapValue → MapValue → Telling → Option ℕ → Type 0
+IsFoundBy m n (Told events old new) limit =
     IsToldBy m n (reverse events.items) old new
-    × ((p : ℕ) × (limit ≡ Some p) × (presses (reverse events.items) ≡ p + 1) × AreCellsClear m n p
-    × IsSettled m n (reverse events.items) p wants_plain)
-IsFoundBy m n (Never forgets) limit wants_plain =
-    (limit ≡ None) × (wants_plain ≡ false) × (forgets ≡ false → NeverForgets (alone m))
-    × ((b : ℕ) → AreCellsClear m n b)
-IsFoundBy m n (Undecided p) limit wants_plain =
-    (limit ≡ Some p) × (wants_plain ≡ false) × ReachesMoreThan (alone m) state_limit p × AreCellsClear m n p
+    × ((p : ℕ) × (limit ≡ Some p) × (presses (reverse events.items) ≡ p + 1))
+IsFoundBy m n (Never forgets) limit =
+    (limit ≡ None) × (forgets ≡ false → NeverForgets (alone m)) × (forgets ≡ true → CanForget m)
+IsFoundBy m n (Undecided p) limit = (limit ≡ Some p) × ReachesMoreThan (alone m) state_limit p
 
+-- Where fewer presses than the limit lead, no key shows anything while no accent is pending.
 abbrev pub IsNearest : MapValue → MapValue → Nearest → Type 0
-IsNearest m n x = IsFoundBy m n x.telling x.limit x.wants_plain
+IsNearest m n x =
+    IsFoundBy m n x.telling x.limit × ((b : ℕ) → IsWithin b x.limit → AreCellsClear m n b)
 
--- A list of one press more than a number below the bound would be taken instead.
-abbrev pub bound_by : Bool → Option ℕ → Option ℕ
-bound_by false limit = limit
-bound_by true None = None
-bound_by true (Some limit) = Some (limit + 1)
-
-abbrev pub bound_of : Nearest → Option ℕ
-bound_of x = bound_by x.wants_plain x.limit
+-- where fewer than b presses lead no key can forget that it holds a modifier
+abbrev pub NeverForgetsBelow : MapValue → ℕ → Type 0
+NeverForgetsBelow m b =
+    (path : List Move) → IsPath (alone m) path → presses_along path < b
+    → IsForgetful (alone m) (state_after (alone m) path) → ⊥
 
 -- what is within the one limit is within the other
 abbrev pub IsNoFurther : Option ℕ → Option ℕ → Type 0
 IsNoFurther limit other = (b : ℕ) → IsWithin b limit → IsWithin b other
-
--- what is within the one limit is within the other and one more
-abbrev pub IsOneFurther : Option ℕ → Option ℕ → Type 0
-IsOneFurther limit other = (b : ℕ) → IsWithin (b + 1) limit → IsWithin b other
 
 -- the states that were met at these places and offer the accent
 pub record AreOffering (m : MapValue) (i : ℕ) (es : Entries) (low high : ℕ) (states : List State) : Type 0 where

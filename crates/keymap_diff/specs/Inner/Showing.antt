@@ -13,7 +13,6 @@ use Rattle.console_states.specs.Moves.{presses_along}
 use Rattle.console_states.specs.Sights.{look_selected, selection_of, IsOfferedIn}
 use Rattle.console_states.specs.Searching.{state_of, Entry, Entries}
 use Rattle.console_states.specs.declared.held.Move.{Move}
-use Rattle.keymap_diff.specs.Telling.{IsPlain}
 
 -- what the key looks up in the state
 abbrev pub looked_up : MapValue → State → ℕ → Cell
@@ -93,20 +92,6 @@ abbrev pub IsFirstShown : MapValue → MapValue → Option ℕ → Entries → �
 IsFirstShown m n p es j k =
     (x : Entry) × (slice_get es j ≡ Some x) × (k < key_count) × Shows m n p (state_of x.0) k
     × NoneShowsBelow m n p es j
-
--- the key looks up plain cells under both keymaps
-abbrev pub ArePlain : MapValue → MapValue → State → ℕ → Type 0
-ArePlain m n s k = IsPlain (looked_up m s k) × IsPlain (looked_up n s k)
-
--- no key that does shows anything in the state, where no accent is pending
-abbrev pub NoneShowsPlain : MapValue → MapValue → State → Type 0
-NoneShowsPlain m n s = (k : ℕ) → k < key_count → ArePlain m n s k → ShowsNothing m n None s k
-
--- nor where fewer than b presses lead
-abbrev pub ArePlainClear : MapValue → MapValue → ℕ → Type 0
-ArePlainClear m n b =
-    (path : List Move) → IsPath (alone m) path → presses_along path < b
-    → NoneShowsPlain m n (state_after (alone m) path)
 
 -- no key shows anything where fewer than b presses lead, and no accent is pending
 abbrev pub AreCellsClear : MapValue → MapValue → ℕ → Type 0

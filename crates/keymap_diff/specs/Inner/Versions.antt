@@ -6,8 +6,8 @@ use Rattle.keymap_core.specs.Maps.{MapValue}
 use Rattle.keymap_core.specs.Numbers.{accent_limit}
 use Rattle.console_states.specs.Sights.{AreSightsOf}
 use Rattle.console_states.specs.declared.sights.Sights.{Sights}
-use Rattle.keymap_diff.specs.Changes.{GivesUp, IsChange, MeetsCell, MeetsDeadKey, MeetsLetters, MeetsPair}
-use Rattle.keymap_diff.specs.Types.{Change, Cell, Letter, Accent, Pair, Seen, Versions}
+use Rattle.keymap_diff.specs.Changes.{GivesUp, IsChange, MeetsChange}
+use Rattle.keymap_diff.specs.Types.{Change, Accent, Seen, Versions}
 
 -- what presses can see is that under each of the keymaps
 abbrev pub AreSights : MapValue → MapValue → Option Seen → Type 0
@@ -28,14 +28,6 @@ AreVersions m n v =
 
 abbrev pub IsChangeOf : Versions → Change → Type 0
 IsChangeOf v x = IsChange (is_some v.seen) v.old.now v.new.now x
-
--- a press meets what the change tells, if it is of what presses can meet
-abbrev pub MeetsChange : Change → MapValue → Type 0
-MeetsChange (Cell s c a b u) m = MeetsCell s c m
-MeetsChange (Letter s a b u) m = MeetsLetters s a b m
-MeetsChange (Accent i a b u) m = MeetsDeadKey i m
-MeetsChange (Pair i base a b u) m = MeetsPair i base m
-MeetsChange _ m = ⊤
 
 -- a change of an accent's character is of one that a keymap has room for
 abbrev pub HasAccent : Change → Type 0

@@ -1,5 +1,5 @@
 use Rattle.std.proofs.Common.{subst, sym}
-use Rattle.keymap_diff.specs.Inner.Versions.{MeetsChange}
+use Rattle.keymap_diff.specs.Changes.{MeetsChange}
 use Rattle.keymap_diff.proofs.marking.meets.Goals as goal
 
 pub returns-in-Cell : goal.returns-in-Cell

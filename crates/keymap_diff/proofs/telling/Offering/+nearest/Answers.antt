@@ -1,10 +1,9 @@
 use Rattle.keymap_diff.proofs.Common.{◌≡◌, ◌+◌, arith, subst, sym, ◌∙◌, map, state_of, Some, same_Some, ◌≤◌, ℕ, rules}
 use Rattle.keymap_diff.proofs.Common.{alone, IsOfferedIn}
 use Rattle.std.proofs.Common.{◌-◌, ◌/◌}
-use Rattle.keymap_diff.specs.Inner.Searches.{IsClearBehind, IsNoFurther, IsSearched, IsWithin, bound_of}
+use Rattle.keymap_diff.specs.Inner.Searches.{IsClearBehind, IsNoFurther, IsSearched, IsWithin}
 use Rattle.keymap_diff.specs.declared.nearest.Nearest.{Nearest}
 use Rattle.keymap_diff.proofs.Offers.{clear-before, clear-both, clear-searched, if-both, if-ok, offering-off}
-use Rattle.keymap_diff.proofs.Clearing.{cells-within}
 use Rattle.keymap_diff.proofs.Offers.{one-origin, some-origin, within-less}
 use Rattle.keymap_diff.proofs.telling.Offering.+nearest.Goals as goal
 
@@ -69,33 +68,30 @@ found-requires-clause-searched t c =
 
 pub found-requires-clause-cells : goal.found-requires-clause-cells
 found-requires-clause-cells t c =
-    let at = c.args.self.now in
-    let x = c.args.nearest in
-    cells-within at.both.old.now at.both.new.now x.telling x.limit x.wants_plain
-    (c.presses_to-before.result + 1 + c.in-Some.more) c.requires.nearest
-    (c.is_beyond-2.ensures.beyond c.if-not-is_beyond-2.false)
+    c.requires.nearest.1 (c.presses_to-before.result + 1 + c.in-Some.more)
+    (within-less _ _ c.args.nearest.limit (omega arith) (c.is_beyond-2.ensures.beyond c.if-not-is_beyond-2.false))
 
-pub returns-then-high-low-eq1-clause-bound : goal.returns-then-high-low-eq1-clause-bound
-returns-then-high-low-eq1-clause-bound t c =
+pub returns-then-high-low-eq1-clause-limit : goal.returns-then-high-low-eq1-clause-limit
+returns-then-high-low-eq1-clause-limit t c =
     let p = c.presses_to-before.result + 1 + c.in-Some.more in
-    if-ok (λ (x : Nearest). bound_of x ≡ Some p) (λ (x : Nearest). IsNoFurther (bound_of x) (bound_of c.args.nearest))
-    (λ x e b is. within-less b (p + 1) (bound_of c.args.nearest)
+    if-ok (λ (x : Nearest). x.limit ≡ Some p) (λ (x : Nearest). IsNoFurther x.limit c.args.nearest.limit)
+    (λ x e b is. within-less b (p + 1) c.args.nearest.limit
     (let le : b ≤ p = subst (λ o. IsWithin b o) e is in omega (arith, le))
     (c.is_beyond-2.ensures.beyond c.if-not-is_beyond-2.false))
-    c.found.result c.found.ensures.bound
+    c.found.result c.found.ensures.limit
 
 pub returns-then-high-low-eq1-clause-clear : goal.returns-then-high-low-eq1-clause-clear
 returns-then-high-low-eq1-clause-clear t c =
     let at = c.args.self.now in
     let p = c.presses_to-before.result + 1 + c.in-Some.more in
-    if-ok (λ (x : Nearest). bound_of x ≡ Some p)
-    (λ (x : Nearest). (b : ℕ) → IsWithin b (bound_of x)
+    if-ok (λ (x : Nearest). x.limit ≡ Some p)
+    (λ (x : Nearest). (b : ℕ) → IsWithin b x.limit
     → IsClearBehind at.both.old.now at.both.new.now at.accent at.met.now.entries c.args.low c.args.high b)
     (λ x e b is. clear-searched _ _ _ _ _ _ b _ _ _ _ c.deref.ensures.value c.requires.met c.in_ok-origins.ensures
     c.in_ok-searched.ensures c.presses_to-before.ensures.value
     (λ more f. subst (λ r. b ≤ c.presses_to-before.result + 1 + r)
     (same_Some c.in-Some.more more (sym c.in-Some.is ∙ f)) (subst (λ o. IsWithin b o) e is)))
-    c.found.result c.found.ensures.bound
+    c.found.result c.found.ensures.limit
 
 pub nearest-requires-2 : goal.nearest-requires-2
 nearest-requires-2 t c = (
@@ -115,11 +111,11 @@ nearest-requires-2 t c = (
   ),
 )
 
-pub returns-clause-bound : goal.returns-clause-bound
-returns-clause-bound t c =
-    if-ok (λ (x : Nearest). IsNoFurther (bound_of x) (bound_of c.in_ok-nearer.nearer))
-    (λ (x : Nearest). IsNoFurther (bound_of x) (bound_of c.args.nearest))
-    (λ x less b is. c.in_ok-nearer.ensures.bound b (less b is)) c.nearest-2.result c.nearest-2.ensures.bound
+pub returns-clause-limit : goal.returns-clause-limit
+returns-clause-limit t c =
+    if-ok (λ (x : Nearest). IsNoFurther x.limit c.in_ok-nearer.nearer.limit)
+    (λ (x : Nearest). IsNoFurther x.limit c.args.nearest.limit)
+    (λ x less b is. c.in_ok-nearer.ensures.limit b (less b is)) c.nearest-2.result c.nearest-2.ensures.limit
 
 pub returns-clause-clear : goal.returns-clause-clear
 returns-clause-clear t c =
@@ -128,9 +124,9 @@ returns-clause-clear t c =
     let i = c.args.self.now.accent in
     let es = c.args.self.now.met.now.entries in
     let middle = c.args.low + (c.args.high - c.args.low) / 2 in
-    if-both (λ (x : Nearest). IsNoFurther (bound_of x) (bound_of c.in_ok-nearer.nearer))
-    (λ (x : Nearest). (b : ℕ) → IsWithin b (bound_of x) → IsClearBehind m n i es middle c.args.high b)
-    (λ (x : Nearest). (b : ℕ) → IsWithin b (bound_of x) → IsClearBehind m n i es c.args.low c.args.high b)
+    if-both (λ (x : Nearest). IsNoFurther x.limit c.in_ok-nearer.nearer.limit)
+    (λ (x : Nearest). (b : ℕ) → IsWithin b x.limit → IsClearBehind m n i es middle c.args.high b)
+    (λ (x : Nearest). (b : ℕ) → IsWithin b x.limit → IsClearBehind m n i es c.args.low c.args.high b)
     (λ x less right b is. clear-both m n i es c.args.low middle c.args.high b
     (c.in_ok-nearer.ensures.clear b (less b is)) (right b is))
-    c.nearest-2.result c.nearest-2.ensures.bound c.nearest-2.ensures.clear
+    c.nearest-2.result c.nearest-2.ensures.limit c.nearest-2.ensures.clear

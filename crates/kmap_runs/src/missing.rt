@@ -5,7 +5,7 @@ ghost use Rattle.std.specs.Prelude.{if◌then◌else◌, Ok, IfOk, IfErr, OnOk};
 ghost use Rattle.std.specs.Str.{IsUtf8, encode_utf8_all};
 ghost use Rattle.keymap_core.specs.Maps.{MapValue};
 ghost use Rattle.console_scripts.specs.Typing.{CanType};
-ghost use Rattle.keymap_lint_text.specs.Shown.{shown_name as shown_name_of};
+ghost use Rattle.keymap_names.specs.Shown.{shown_name as shown_name_of};
 ghost use Rattle.kmap_runs.specs.Missing as spec;
 ghost use Rattle.kmap_runs.specs.Missing.{AreMissing, AreMissingIn, IsMissingError, IsUndecided};
 ghost use Rattle.kmap_runs.specs.declared.missing.Missing.{Missing as MissingValue};
@@ -13,7 +13,7 @@ ghost use Rattle.kmap_runs.specs.declared.missing.Missing.{Missing as MissingVal
 use crate::words::{AT_PLACE, SHOWN};
 use console_scripts::Typist;
 use keymap_core::{KeyMap, code_text, is_unseen};
-use keymap_lint_text::shown_name;
+use keymap_names::shown_name;
 use keymap_text::TextLines;
 use messages::{fill, filled, number};
 use play_core::TypeError;

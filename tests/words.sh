@@ -1,6 +1,6 @@
 #!/bin/sh
 # Checks that docs/FORMATS.md has each message word for word: of `kmap lint`, the constants of keymap_lint_text's
-# words.rt, in the section "Diagnostics"; of the report and of scripts, those of kmap_runs' words.rt, in "The report of
+# words.rt and the names of columns in keymap_names' lists.rt, in the section "Diagnostics"; of the report and of scripts, those of kmap_runs' words.rt, in "The report of
 # check", "What the search found", "What differs between two keymaps", "The script that types a sentence" and "The script
 # that tests a console". And that it has the line of `kmap check` on a key, which stands in pictures and in the C library
 # too: the constant FINDING of keymap_check's words.rt; the fault lines of kmap_runs' fault_line.rt, in "Fault lines"; and
@@ -15,10 +15,14 @@
 
 top=$(cd "$(dirname "$0")/.." && pwd)
 . "$top/tests/shared.sh"
-lint=$top/crates/keymap_lint_text/src/words.rt
 runs=$top/crates/kmap_runs/src/words.rt
 folder=$(mktemp -d) || exit 1
 trap 'rm -rf "$folder"' EXIT
+lint=$folder/lint.rt
+{
+    cat "$top/crates/keymap_lint_text/src/words.rt"
+    sed -n 's/^const COLUMN_NAMES/pub(crate) &/; /COLUMN_NAMES/,/^];/p' "$top/crates/keymap_names/src/lists.rt"
+} > "$lint"
 
 cat > "$folder/words.py" << 'PYTHON'
 import re

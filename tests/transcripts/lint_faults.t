@@ -12,7 +12,7 @@ and the note of the last one shows where its definition begins:
   >     eot eof 'd' 'D' eot eot C
   > END
   $ kmap lint t
-  t:1:37: error: X means nothing [BadWord]
+  t:1:37: error: X means nothing; a lock letter is O, C, N or B [BadWord]
     030 'a' 'A' soh soh 'a' 'A' soh soh X
                                         ^
   t:3:1: error: 300 is no slot: slots are 0 to 255 [KeyTooLarge]

@@ -132,6 +132,25 @@ end; in capitals; also where no cell is wanted:
   t:8:4: error: delt means nothing; did you mean del [BadWord]
   t:9:4: error: backtap means nothing; did you mean backtab [BadWord]
 
+Two letters that stand the other way round; what others call a key, an accent and a function key; and only names that
+may stand where the word does, which are those of characters in an accent, those of accents at the beginning, and none
+as a lock letter:
+  $ printf '30 lshfit\n30 shift\n30 Caps\n30 acute\n30 F2\n30 f12\n30 f97\ndacu acute\nacute 180\nlshif 1\n' > t
+  $ kmap lint t | grep error
+  t:1:4: error: lshfit means nothing; did you mean lshift [BadWord]
+  t:2:4: error: shift means nothing; did you mean lshift [BadWord]
+  t:3:4: error: Caps means nothing; did you mean clock [BadWord]
+  t:4:4: error: acute means nothing; did you mean dacu [BadWord]
+  t:5:4: error: F2 means nothing; did you mean fkey02 [BadWord]
+  t:6:4: error: f12 means nothing; did you mean fkey12 [BadWord]
+  t:7:4: error: f97 means nothing; a cell that gives nothing is nop [BadWord]
+  t:8:6: error: acute means nothing [BadWord]
+  t:9:1: error: acute means nothing; did you mean dacu [BadWord]
+  t:10:1: error: lshif means nothing [BadWord]
+  $ echo "30 'a' 'a' 'a' 'a' 'a' 'a' 'a' 'a' P" > t
+  $ kmap lint t | grep error
+  t:1:36: error: P means nothing; a lock letter is O, C, N or B [BadWord]
+
 Each name of keymap(5) with one letter more; so and em have others near then, so their letter comes in front:
   $ names='nul soh stx etx eot enq ack bel bs ht nl vt ff cr si dle dc1 dc2 dc3 dc4 nak syn etb can sub esc fs gs rs ns del
   > lf np us nop lshift rshift clock nlock slock lalt btab lctrl nscr rctrl ralt alock ashift meta boot debug susp saver
@@ -183,7 +202,7 @@ A letter where no character can be meant: as a definition and as a lock letter:
   [1]
   $ echo "30 'a' 'a' 'a' 'a' 'a' 'a' 'a' 'a' x" > t
   $ kmap lint t
-  t:1:36: error: x means nothing [BadWord]
+  t:1:36: error: x means nothing; a lock letter is O, C, N or B [BadWord]
     30 'a' 'a' 'a' 'a' 'a' 'a' 'a' 'a' x
                                        ^
   [1]
@@ -201,6 +220,9 @@ A character as others write it, of which so much is told as of a word, and U+ wi
     30 U+1111111111222222222233333333334
        ^
   [1]
+  $ echo '30 u+00e4' > t
+  $ kmap lint t | grep error
+  t:1:4: error: u means nothing; for U+00e4 write 0x00e4 [BadWord]
   $ echo 'dacu U+b4, or so' > t
   $ kmap lint t
   t:1:6: error: U means nothing; for U+b4 write 0xb4 [BadWord]

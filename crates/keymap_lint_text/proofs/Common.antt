@@ -11,9 +11,9 @@ unfoldable pub use Rattle.keymap_lint_text.specs.Excerpt.{excerpt}
 pub use Rattle.keymap_lint_text.specs.Heads.{Remark, Said, head, place_text, printed, printed_of, remark, said_text}
 pub use Rattle.keymap_lint_text.specs.Names.{is_noted}
 unfoldable pub use Rattle.keymap_lint_text.specs.Names.{kind_text}
-pub use Rattle.keymap_lint_text.specs.Shown.{IsLine, IsPlainText, IsSeen, ended, is_shown_byte, lines_text}
-pub use Rattle.keymap_lint_text.specs.Shown.{shown_char}
-unfoldable pub use Rattle.keymap_lint_text.specs.Shown.{shown_chars, shown_name}
+pub use Rattle.keymap_names.specs.Shown.{IsLine, IsPlainText, IsSeen, ended, is_shown_byte, lines_text}
+pub use Rattle.keymap_names.specs.Shown.{shown_char}
+unfoldable pub use Rattle.keymap_names.specs.Shown.{shown_chars, shown_name}
 pub use Rattle.keymap_lint_text.specs.Whole.{answer, beginning, judged, of_diagnostic, of_fault}
 pub use Rattle.keymap_text.specs.FaultNames.{fault_name}
 pub use Rattle.keymap_places.specs.LineOf.{before_in_line}

@@ -2,5 +2,4 @@ mod Common
 mod Headed
 mod Messages
 mod NoteWords
-pub mod Lines
-pub mod Plain
+mod Lines

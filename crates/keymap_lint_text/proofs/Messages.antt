@@ -1,12 +1,9 @@
 -- Each message stays in its line, and a terminal shows it.
 use Rattle.keymap_lint_text.proofs.Common.{◌≡◌, ℕ, ◌<◌, ◌/◌, ◌%◌, Bool, true, List, [], ◌∷◌, refl, arith, Option}
-use Rattle.keymap_lint_text.proofs.Common.{Some, None, drop, length, ◌==◌, codes, nat_lt}
-use Rattle.keymap_lint_text.proofs.Common.{list_all, and_parts, nat_tests, All-take, slice_index, slice_index_or}
-use Rattle.keymap_lint_text.proofs.Common.{range_with_len, IsSeen, IsLine, is_shown_byte}
-use Prim.Native.Nat.{zero, suc}
+use Rattle.keymap_lint_text.proofs.Common.{Some, None, drop, length, ◌==◌}
+use Rattle.keymap_lint_text.proofs.Common.{list_all, nat_tests, All-take, slice_index}
+use Rattle.keymap_lint_text.proofs.Common.{IsSeen, IsLine, is_shown_byte}
 use Rattle.std.proofs.lemmas.Bool.{and_from, cond_both}
-use Rattle.keymap_core.specs.Actions.{accent_names, name_of}
-use Rattle.keymap_core.specs.CodePoints.{digit_at, upper_digits}
 unfoldable use Rattle.keymap_core.specs.CodePoints.{code_digits}
 use Rattle.keymap_core.specs.declared.action.Holding.{Holding}
 use Rattle.keymap_core.specs.declared.action.Holding.TheVariants as holding
@@ -27,40 +24,22 @@ use Rattle.keymap_lint.specs.declared.diagnostic.Kind.{Kind}
 use Rattle.keymap_lint.specs.declared.diagnostic.Kind.TheVariants as kinds
 use Rattle.keymap_lint_text.specs.declared.words.TheConstants as words
 use Rattle.keymap_lint_text.specs.Faults as fault
-use Rattle.keymap_lint_text.specs.Lists.{accent_name, accents_text, listed_text, ranges, run_text}
 use Rattle.keymap_lint_text.specs.Notes.{begins_text}
 use Rattle.keymap_lint_text.specs.Said as said
-use Rattle.keymap_lint_text.specs.Told.{column_names, column_text, defined_text, started_text, told_character}
-use Rattle.keymap_lint_text.specs.Told.{wanted_text, word_text}
-use Rattle.keymap_lint_text.proofs.Lines.{all_seen, ascii, decimal_line, digit_printed, either, fills, line_chars}
-use Rattle.keymap_lint_text.proofs.Lines.{line_flat, line_if, line_none, modifier_line, ◌⊳◌}
+use Rattle.keymap_lint_text.specs.Wanted.{character_name, column_text, defined_text, started_text, wanted_text}
+use Rattle.keymap_names.specs.Lists.{column_names}
+use Rattle.keymap_names.proofs.Lines.{accent_line, accents_line, all_seen, ascii, code_line, decimal_line}
+use Rattle.keymap_names.proofs.Lines.{digit_printed, either, fills, line_chars, line_if, line_none, lock_line}
+use Rattle.keymap_names.proofs.Lines.{modifier_line, named, ranges_line, word_line}
 
 -- ---- what is told
-
--- a name of a list of names
-named : (names : List (List ℕ)) → list_all (list_all is_shown_byte) names ≡ true → (i : ℕ)
-    → IsLine (slice_index_or names i [])
-named [] h i = line_none
-named (name ∷ names) h zero = ascii name (and_parts _ _ h).0
-named (name ∷ names) h (suc i) = named names (and_parts (list_all is_shown_byte name) _ h).1 i
-
-accent_line : (i : ℕ) → IsLine (accent_name i)
-accent_line i = named accent_names refl i
-
-lock_line : (lock : Lock) → IsLine (name_of (action.Lock lock))
-lock_line locks.Caps = ascii _ refl
-lock_line _ = ascii _ refl
 
 holding_line : (h : Holding) → IsLine (said.holding_name h)
 holding_line (holding.Mod modifier) = modifier_line modifier
 holding_line (holding.Lock lock) = lock_line lock
 
-word_line : (token : List ℕ) → IsLine (word_text token)
-unfolding word_text
-word_line token = line_chars _ (All-take IsSeen 24 _ (all_seen token))
-
-character_line : (c : ℕ) → IsLine (told_character c)
-unfolding told_character
+character_line : (c : ℕ) → IsLine (character_name c)
+unfolding character_name
 character_line c = word_line _
 
 column_line : (column : ℕ) → IsLine (column_text column)
@@ -87,22 +66,6 @@ wanted_line (wants.Pair n) d = fills _ _ refl (started_line d, tt)
 wanted_line (wants.Base n) d = fills _ _ refl (started_line d, tt)
 wanted_line (wants.Composed n) d = fills _ _ refl (started_line d, tt)
 wanted_line (wants.PairEnd n) d = fills _ _ refl (started_line d, tt)
-
-run_line : (ns : List ℕ) (i : ℕ) → IsLine (run_text ns i)
-run_line ns i =
-    either _ _ _ (either (i == 0) [] (codes ", ") line_none (ascii _ refl) ⊳ decimal_line _)
-    (line_if _ _ (ascii (codes " to ") refl ⊳ decimal_line _))
-
-ranges_line : (ns : List ℕ) → IsLine (ranges ns)
-ranges_line ns = line_flat (run_text ns) (run_line ns) (range_with_len 0 (length ns))
-
-listed_line : (accents : List ℕ) (i : ℕ) → IsLine (listed_text accents i)
-listed_line accents i =
-    either (i == 0) [] _ line_none (either _ _ _ (ascii (codes " or ") refl) (ascii (codes ", ") refl))
-    ⊳ accent_line (slice_index accents i)
-
-accents_line : (accents : List ℕ) → IsLine (accents_text accents)
-accents_line accents = line_flat (listed_text accents) (listed_line accents) (range_with_len 0 (length accents))
 
 -- ---- of a text that spells a keymap
 
@@ -224,22 +187,6 @@ byte_line : (text bytes : List ℕ) → IsLine (fault.bad_byte_text text bytes)
 unfolding fault.bad_byte_text
 byte_line text bytes = either _ _ _ (fills _ [] refl tt) (lone_line bytes)
 
-hex_digit_line : (c unit : ℕ) (ds : List ℕ) → IsLine ds → IsLine (digit_at c unit ∷ ds)
-hex_digit_line c unit ds p =
-    ascii (digit_at c unit ∷ []) (and_from _ _ (digit_printed ((c / unit) % 16) (omega arith)) refl) ⊳ p
-
-upper_line : (c : ℕ) → IsLine (upper_digits c)
-upper_line c =
-    either (nat_lt c 0x10000) [] _ line_none
-    (either (nat_lt c 0x100000) _ _ (hex_digit_line c 0x10000 [] line_none)
-    (hex_digit_line c 0x100000 _ (hex_digit_line c 0x10000 [] line_none)))
-
-code_line : (c : ℕ) → IsLine (code_digits c)
-unfolding code_digits
-code_line c =
-    upper_line c
-    ⊳ hex_digit_line c 0x1000 _ (hex_digit_line c 0x100 _ (hex_digit_line c 0x10 _ (hex_digit_line c 1 [] line_none)))
-
 between_line : (both : Option (ℕ × ℕ)) → IsLine (fault.between_text both)
 between_line None = fills words.BAD_LITERAL.now [] refl tt
 between_line (Some both) = fills _ _ refl (code_line both.0, (code_line both.1, tt))
@@ -248,12 +195,12 @@ literal_line : (bytes : List ℕ) → IsLine (fault.bad_literal_text bytes)
 unfolding fault.bad_literal_text
 literal_line bytes = between_line (fault.two_characters (drop 1 bytes))
 
-nop_line : (w : Wanted) → IsLine (fault.nop_text w)
-nop_line w = line_if (fault.wants_cell w) _ (ascii _ refl)
+help_line : (w : Wanted) → IsLine (fault.help_text w)
+help_line w = either (fault.wants_cell w) _ _ (ascii _ refl) (line_if (fault.wants_lock w) _ (ascii _ refl))
 
 near_line : (word : List ℕ) (w : Wanted) → IsLine (fault.near_text word w)
 unfolding fault.near_text
-near_line word w = either _ _ _ (fills _ _ refl (word_line _, tt)) (nop_line w)
+near_line word w = either _ _ _ (help_line w) (fills _ _ refl (word_line _, tt))
 
 meant_line : (bytes : List ℕ) (w : Wanted) → IsLine (fault.meant_text bytes w)
 unfolding fault.meant_text
@@ -264,7 +211,7 @@ meant_line bytes w =
 bad_word_line : (bytes : List ℕ) (w : Wanted) → IsLine (fault.bad_word_text bytes w)
 unfolding fault.bad_word_text
 bad_word_line bytes w =
-    either _ _ _ (fills _ _ refl (decimal_line _, (nop_line w, tt)))
+    either _ _ _ (fills _ _ refl (decimal_line _, (help_line w, tt)))
     (fills _ _ refl (word_line _, (meant_line bytes w, tt)))
 
 cells_line : (token : List ℕ) (w : Wanted) (d : Option DefinitionStart) → IsLine (fault.cells_text token w d)

@@ -2,7 +2,7 @@
 use Rattle.std.specs.Prelude.{ℕ, ◌-◌, ◌==◌, nat_lt, if◌then◌else◌, List, [], ◌∷◌, ◌++◌}
 use Rattle.std.specs.Prelude.{codes, length, map, take, drop, slice_index, encode_utf8}
 use Rattle.std.specs.List.{flat_map}
-use Rattle.keymap_lint_text.specs.Shown.{shown_chars, shown_name}
+use Rattle.keymap_names.specs.Shown.{shown_chars, shown_name}
 
 -- bytes without the CR that they may end with
 abbrev pub without_cr : List ℕ → List ℕ

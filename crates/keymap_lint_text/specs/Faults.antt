@@ -19,9 +19,9 @@ use Rattle.keymap_text.specs.Lexical.{TokenValue, tokens_after, first, is_word}
 use Rattle.keymap_text.specs.Words.{meaning}
 use Rattle.keymap_lint_text.specs.declared.words.TheConstants as words
 use Rattle.messages.specs.Filled.{filled}
-use Rattle.keymap_lint_text.specs.Near.{known_name, near_names}
-use Rattle.keymap_lint_text.specs.Shown.{shown_chars}
-use Rattle.keymap_lint_text.specs.Told.{word_text, started_text, wanted_text}
+use Rattle.keymap_lint_text.specs.Near.{meant_name}
+use Rattle.keymap_names.specs.Shown.{shown_chars, word_text}
+use Rattle.keymap_lint_text.specs.Wanted.{started_text, wanted_text}
 
 -- what stands first at a place: a token, nothing, or a fault
 abbrev pub first_at : List ℕ → ℕ → Result (Option TokenValue) (TextFaultKind × ℕ)
@@ -46,10 +46,12 @@ front_word bytes = before_first ends_word bytes
 abbrev pub is_no_hex : ℕ → Bool
 is_no_hex c = not (is_ascii_hexdigit c)
 
--- the hexadecimal digits behind `U+` in front of bytes
+-- the hexadecimal digits behind `U+` or `u+` in front of bytes
 abbrev pub unicode_digits : List ℕ → List ℕ
 unicode_digits bytes =
-    if slice_index bytes 0 == 85 && slice_index bytes 1 == 43 then before_first is_no_hex (drop 2 bytes) else []
+    if to_ascii_lowercase (slice_index bytes 0) == 117 && slice_index bytes 1 == 43
+    then before_first is_no_hex (drop 2 bytes)
+    else []
 
 -- the character in front of bytes, as it is shown; it has four bytes at most
 unfoldable pub front_text : List ℕ → List ℕ
@@ -123,15 +125,22 @@ abbrev pub wants_cell : Wanted → Bool
 wants_cell (wants.Cell n) = true
 wants_cell _ = false
 
-abbrev pub nop_text : Wanted → List ℕ
-nop_text wanted = if wants_cell wanted then codes "; a cell that gives nothing is nop" else []
+abbrev pub wants_lock : Wanted → Bool
+wants_lock wants.Lock = true
+wants_lock _ = false
 
--- the one name that differs in one letter from a word, or the one that a cell may want
+-- what may stand in a cell that gives nothing, and as a lock letter
+abbrev pub help_text : Wanted → List ℕ
+help_text wanted =
+    if wants_cell wanted then codes "; a cell that gives nothing is nop"
+    else if wants_lock wanted then codes "; a lock letter is O, C, N or B"
+    else []
+
+-- the name that is meant by a word, or what may stand here
 unfoldable pub near_text : List ℕ → Wanted → List ℕ
 near_text word wanted =
-    if length (near_names word) == 1
-    then filled (codes "; did you mean {}") (word_text (known_name (slice_index (near_names word) 0)) ∷ [])
-    else nop_text wanted
+    if length (meant_name word wanted) == 0 then help_text wanted
+    else filled (codes "; did you mean {}") (word_text (meant_name word wanted) ∷ [])
 
 -- what may have been meant by the word in front of these bytes
 unfoldable pub meant_text : List ℕ → Wanted → List ℕ
@@ -147,7 +156,7 @@ unfoldable pub bad_word_text : List ℕ → Wanted → List ℕ
 bad_word_text bytes wanted =
     if nat_lt 32 (length (front_word bytes))
     then filled (codes "a word has at most 32 bytes; this one has {}{}")
-    (decimal (length (front_word bytes)) ∷ nop_text wanted ∷ [])
+    (decimal (length (front_word bytes)) ∷ help_text wanted ∷ [])
     else filled (codes "{} means nothing{}") (word_text (front_word bytes) ∷ meant_text bytes wanted ∷ [])
 
 abbrev pub is_letter : Meaning → Bool

@@ -7,7 +7,7 @@ use Rattle.keymap_places.specs.LineOf.{before_in_line, rest_of_line}
 use Rattle.keymap_text.specs.Meaning.{line}
 use Rattle.keymap_lint_text.specs.Excerpt.{excerpt}
 use Rattle.keymap_lint_text.specs.Names.{severity_text}
-use Rattle.keymap_lint_text.specs.Shown.{lines_text}
+use Rattle.keymap_names.specs.Shown.{lines_text}
 
 -- What is said: a diagnostic, by its severity, the name of its kind and its message; or a note.
 pub data Said : Type 0 where

@@ -4,9 +4,7 @@ pub mod Names
 pub mod Said
 pub mod Faults
 pub mod Near
-pub mod Told
-pub mod Lists
+pub mod Wanted
 pub mod Notes
 pub mod Excerpt
-pub mod Shown
 pub mod Promises

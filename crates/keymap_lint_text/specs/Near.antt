@@ -1,11 +1,16 @@
--- The names that differ in one letter from a word without a meaning.
-use Rattle.std.specs.Prelude.{ℕ, ◌+◌, ◌-◌, ◌&&◌, ◌||◌, nat_lt, Bool, if◌then◌else◌, List, [], ◌∷◌, codes, length}
-use Rattle.std.specs.Prelude.{take, drop, slice_index_or}
+-- The name that is meant by a word without a meaning.
+use Rattle.std.specs.Prelude.{ℕ, ◌+◌, ◌-◌, ◌==◌, ◌&&◌, ◌||◌, nat_lt, Bool, true, false, if◌then◌else◌}
+use Rattle.std.specs.Prelude.{List, [], ◌∷◌, ◌++◌, codes, length, take, drop, slice_index, slice_index_or}
 use Rattle.std.specs.List.{filter, list_any, range_with_len}
 use Rattle.std.specs.Option.{option_map_or}
 use Rattle.keymap_core.specs.Actions.{action_of, name_of}
 use Rattle.keymap_text.specs.Printed.{control_name}
-use Rattle.keymap_text.specs.Words.{same_name}
+use Rattle.keymap_core.specs.declared.action.Action.TheVariants.{DeadKey}
+use Rattle.keymap_text.specs.Words.{meaning, same_name}
+use Rattle.keymap_places.specs.declared.wanted.Wanted.{Wanted}
+use Rattle.keymap_places.specs.declared.wanted.Wanted.TheVariants as wants
+use Rattle.keymap_text.specs.declared.words.Meaning.{Meaning}
+use Rattle.keymap_text.specs.declared.words.Meaning.TheVariants.{Char, Act}
 
 -- the names that no control character up to 31 has, and those that actions have besides
 abbrev pub more_names : List (List ℕ)
@@ -21,21 +26,87 @@ known_name n =
     else if nat_lt n 288 then control_name (n - 256)
     else slice_index_or more_names (n - 288) []
 
+-- the letter at a place, if one stands there
+abbrev pub letter_at : ℕ → List ℕ → List ℕ
+letter_at i word = take 1 (drop i word)
+
+-- the letter at this place and the next one stand in the name the other way round, and the same stands behind them
+abbrev pub is_exchanged_at : List ℕ → List ℕ → ℕ → Bool
+is_exchanged_at word name i =
+    same_name (letter_at i word) (letter_at (i + 1) name) && same_name (letter_at (i + 1) word) (letter_at i name)
+    && same_name (drop (i + 2) word) (drop (i + 2) name)
+
 -- Up to this place the word is the name, and so it is behind the place, where one letter there is taken out of the
--- word, of the name, or of both.
+-- word, of the name, or of both, or where two are exchanged.
 abbrev pub is_near_at : List ℕ → List ℕ → ℕ → Bool
 is_near_at word name i =
     same_name (take i word) (take i name)
     && (same_name (drop (i + 1) word) (drop i name) || same_name (drop i word) (drop (i + 1) name)
-    || same_name (drop (i + 1) word) (drop (i + 1) name))
+    || same_name (drop (i + 1) word) (drop (i + 1) name) || is_exchanged_at word name i)
 
--- one letter is added, left out or another one
-abbrev pub is_one_letter_from : List ℕ → List ℕ → Bool
-is_one_letter_from word name = list_any (is_near_at word name) (range_with_len 0 (length word + 1))
+-- one letter is added, left out or another one, or two are exchanged
+abbrev pub is_one_slip_from : List ℕ → List ℕ → Bool
+is_one_slip_from word name = list_any (is_near_at word name) (range_with_len 0 (length word + 1))
 
-abbrev pub is_near : List ℕ → ℕ → Bool
-is_near word n = nat_lt 0 (length (known_name n)) && is_one_letter_from word (known_name n)
+-- ---- where a name may stand
 
--- the names that differ in one letter from the word, by their numbers
-unfoldable pub near_names : List ℕ → List ℕ
-near_names word = filter (is_near word) (range_with_len 0 296)
+abbrev pub is_character : Meaning → Bool
+is_character (Char c) = true
+is_character _ = false
+
+abbrev pub is_action : Meaning → Bool
+is_action (Act a) = true
+is_action _ = false
+
+abbrev pub is_accent : Meaning → Bool
+is_accent (Act (DeadKey i)) = true
+is_accent _ = false
+
+-- A word that means this may stand where this is wanted. Lock letters are no names.
+abbrev pub may_stand : Wanted → Meaning → Bool
+may_stand wants.Definition m = is_accent m
+may_stand (wants.Cell n) m = is_character m || is_action m
+may_stand wants.Lock m = false
+may_stand wants.AccentCharacter m = is_character m
+may_stand (wants.Pair n) m = is_accent m
+may_stand (wants.Base n) m = is_character m
+may_stand (wants.Composed n) m = is_character m
+may_stand (wants.PairEnd n) m = false
+
+-- ---- which name is meant
+
+abbrev pub is_near : List ℕ → Wanted → ℕ → Bool
+is_near word wanted n = is_one_slip_from word (known_name n) && may_stand wanted (meaning (known_name n))
+
+-- the names that may stand here and are one slip from the word, by their numbers
+unfoldable pub near_names : List ℕ → Wanted → List ℕ
+near_names word wanted = filter (is_near word wanted) (range_with_len 0 296)
+
+-- what keyboards and other keymaps call a key or an accent, by the name that it has here
+abbrev pub other_name : List ℕ → List ℕ
+other_name word =
+    if same_name word (codes "shift") then codes "lshift"
+    else if same_name word (codes "caps") then codes "clock"
+    else if same_name word (codes "grave") then codes "dgra"
+    else if same_name word (codes "acute") then codes "dacu"
+    else if same_name word (codes "circumflex") then codes "dcir"
+    else if same_name word (codes "tilde") then codes "dtil"
+    else []
+
+-- the name of a function key with one or two digits that is called F and these
+abbrev pub function_name : List ℕ → List ℕ
+function_name word =
+    if (length word == 2 || length word == 3) && same_name (take 1 word) (codes "f")
+    then (if length word == 2 then codes "fkey0" else codes "fkey") ++ drop 1 word
+    else []
+
+abbrev pub usual_name : List ℕ → List ℕ
+usual_name word = if nat_lt 0 (length (other_name word)) then other_name word else function_name word
+
+-- The name that is meant by a word: the one of what it usually stands for, or else the only one that is one slip from
+-- it, of those that may stand here. It is empty where there is none.
+unfoldable pub meant_name : List ℕ → Wanted → List ℕ
+meant_name word wanted =
+    if may_stand wanted (meaning (usual_name word)) then usual_name word
+    else if length (near_names word wanted) == 1 then known_name (slice_index (near_names word wanted) 0)
+    else []

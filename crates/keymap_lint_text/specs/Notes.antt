@@ -8,7 +8,7 @@ use Rattle.console_core.specs.declared.event.Event.{Event}
 use Rattle.console_core.specs.declared.event.Event.TheVariants.{Press, Release, Reset, Load}
 use Rattle.keymap_places.specs.declared.placed.Defined.{Defined}
 use Rattle.messages.specs.Filled.{filled}
-use Rattle.keymap_lint_text.specs.Told.{defined_text}
+use Rattle.keymap_lint_text.specs.Wanted.{defined_text}
 
 abbrev pub modifier_name : Modifier → List ℕ
 modifier_name m = name_of (holding_action (holding.Mod m))

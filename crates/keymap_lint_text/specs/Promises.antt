@@ -1,16 +1,15 @@
 -- What who reads the diagnostics of a text may rely on.
 use Rattle.std.specs.Prelude.{◌≡◌, ℕ, ◌+◌, ◌-◌, ◌^◌, ◌<◌, ◌≤◌, ◌==◌, ◌&&◌, not, Bool, true, false, List, [], ◌∷◌}
-use Rattle.std.specs.Prelude.{◌++◌, codes, map, take, drop, encode_utf8, length, min, slice_index, IfSome}
+use Rattle.std.specs.Prelude.{◌++◌, codes, map, slice_index}
 use Rattle.std.specs.Prelude.{Option, Some, None}
-use Rattle.std.specs.List.{All, filter, flat_map, list_all}
+use Rattle.std.specs.List.{All, filter, list_all}
 use Rattle.console_core.specs.declared.event.Event.{Event}
 use Rattle.keymap_core.specs.declared.action.Modifier.{Modifier}
 use Rattle.keymap_lint.specs.declared.diagnostic.Lint.{Lint}
 use Rattle.keymap_lint.specs.declared.diagnostic.Lint.TheVariants.{Faulty, Spelled}
 use Rattle.keymap_lint_text.specs.Heads.{Said, Remark, head}
 use Rattle.keymap_lint_text.specs.Notes.{events_text, modifiers_text, sticks_text}
-use Rattle.keymap_lint_text.specs.Names.{severity_text}
-use Rattle.keymap_lint_text.specs.Shown.{IsLine, IsPlainText, lines_text, shown_chars, shown_name}
+use Rattle.keymap_names.specs.Shown.{IsLine, IsPlainText, lines_text, shown_name}
 use Rattle.keymap_lint_text.specs.Whole.{IsLintText, fault_remark, remarks, judged}
 
 abbrev pub PrintedIsPlain : Type 0

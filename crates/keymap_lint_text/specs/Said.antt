@@ -13,8 +13,8 @@ use Rattle.keymap_lint.specs.declared.diagnostic.Diagnostics.{Diagnostics}
 use Rattle.keymap_lint.specs.Severities.{never_sticks}
 use Rattle.keymap_lint_text.specs.declared.words.TheConstants as words
 use Rattle.messages.specs.Filled.{filled}
-use Rattle.keymap_lint_text.specs.Lists.{accent_name, accents_text, ranges}
-use Rattle.keymap_lint_text.specs.Told.{column_text, defined_text, told_character}
+use Rattle.keymap_names.specs.Lists.{accent_name, accents_text, ranges}
+use Rattle.keymap_lint_text.specs.Wanted.{column_text, defined_text, character_name}
 
 abbrev pub holding_name : Holding → List ℕ
 holding_name a = name_of (holding_action a)
@@ -36,7 +36,7 @@ other_slot f =
 -- a key that is a modifier or lock and has a character
 unfoldable pub mixed_key_text : Finding → ℕ → Bool → List ℕ
 mixed_key_text f character never =
-    filled words.MIXED_KEY.now (decimal f.key ∷ holding_name f.holding ∷ told_character character
+    filled words.MIXED_KEY.now (decimal f.key ∷ holding_name f.holding ∷ character_name character
     ∷ column_text f.character_at.column ∷ other_slot f ∷ holding_name f.holding ∷ never_text never ∷ [])
 
 -- the slots that aren't defined, and the keys that have a character there
@@ -68,7 +68,7 @@ dead_key_text missing defines_some =
 unfoldable pub bare_digit_text : ℕ → List ℕ
 bare_digit_text c =
     filled (codes "{} is the character number {}, which is {}; the digit is '{}'")
-    (decimal c ∷ decimal c ∷ told_character c ∷ decimal c ∷ [])
+    (decimal c ∷ decimal c ∷ character_name c ∷ decimal c ∷ [])
 
 -- an accent with the character 0
 abbrev pub zero_accent_text : ℕ → List ℕ
@@ -81,7 +81,7 @@ zero_accent_text accent =
 abbrev pub pair_again_text : ℕ → ℕ → ℕ → List ℕ
 pair_again_text accent base first =
     filled (codes "this pair has no effect: {} has one with the base {} before it, in line {}")
-    (accent_name accent ∷ told_character base ∷ decimal first ∷ [])
+    (accent_name accent ∷ character_name base ∷ decimal first ∷ [])
 
 -- slots that no key selects
 abbrev pub unused_text : List ℕ → List ℕ

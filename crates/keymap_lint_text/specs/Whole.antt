@@ -21,7 +21,7 @@ use Rattle.keymap_lint_text.specs.Heads.{Said, Remark, remark, printed}
 use Rattle.keymap_lint_text.specs.Names.{kind_text, is_noted}
 use Rattle.keymap_lint_text.specs.Notes.{sticks_text, undecided_text, begins_text}
 use Rattle.keymap_lint_text.specs.Said.{message_text}
-use Rattle.keymap_lint_text.specs.Shown.{shown_name}
+use Rattle.keymap_names.specs.Shown.{shown_name}
 
 -- what the search answered, if some modifier stays on or may stay on
 abbrev pub answer : Option Sticking → List Remark

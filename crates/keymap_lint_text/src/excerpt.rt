@@ -1,10 +1,10 @@
 //! The line of a place in a text, and the caret below it, as a diagnostic shows them.
 ghost use Rattle.std.specs.Prelude.{◌≡◌, ◌++◌, ◌-◌, [], drop, length, map, nat_lt, take, if◌then◌else◌, IfOk, OnOk};
 ghost use Rattle.keymap_lint_text.specs.Excerpt as spec;
-ghost use Rattle.keymap_lint_text.specs.Shown.{ended, lines_text, shown_chars, shown_name as shown_name_of};
+ghost use Rattle.keymap_names.specs.Shown.{ended, lines_text, shown_chars, shown_name as shown_name_of};
 
 use crate::near::behind;
-use crate::shown::{all_chars, push_characters, shown_name};
+use keymap_names::{all_chars, push_characters, shown_name};
 use std::alloc::{AllocError, Global};
 
 /// How many bytes of a line are shown at most before the place, and as many from it on.

@@ -3,18 +3,20 @@ ghost use Rattle.std.specs.Prelude.{◌≡◌, ◌<◌, ◌≤◌, ◌-◌, ◌�
 ghost use Rattle.std.specs.List.{before_first};
 ghost use Rattle.messages.specs.Filled.{filled as filled_with};
 ghost use Rattle.keymap_lint_text.specs.Faults as spec;
-ghost use Rattle.keymap_lint_text.specs.Told.{wanted_text, word_text};
+ghost use Rattle.keymap_lint_text.specs.Wanted.{wanted_text};
+ghost use Rattle.keymap_names.specs.Shown.{word_text};
 ghost use Rattle.keymap_lint_text.specs.declared.words.TheConstants as words;
 
-use crate::near::{behind, known_name, near_names};
-use crate::told::{first_shown, started, wanted, word};
+use crate::near::{behind, meant_name};
+use crate::wanted::{started, wanted};
 use crate::words::{
     ALL_CELLS, BAD_BYTE, BAD_CHAR, BAD_FUNCTION, BAD_LITERAL, BAD_WORD, COMBINED, ENDS,
-    ENDS_QUOTED, FEW_CELLS, FUNCTION_KEYS, KEY_TOO_LARGE, LONG_WORD, MARK, MEANT_CHARACTER,
-    MEANT_NAME, MEANT_NOP, MEANT_NUMBER, SCREENS, TOO_MANY_PAIRS, TWO_CHARACTERS, UNEXPECTED,
-    UNNAMED_BYTE, UTF16, ZERO_BASE,
+    ENDS_QUOTED, FEW_CELLS, FUNCTION_KEYS, KEY_TOO_LARGE, LOCK_LETTERS, LONG_WORD, MARK,
+    MEANT_CHARACTER, MEANT_NAME, MEANT_NUMBER, NOP, SCREENS, TOO_MANY_PAIRS, TWO_CHARACTERS,
+    UNEXPECTED, UNNAMED_BYTE, UTF16, ZERO_BASE,
 };
 use keymap_core::{code_digits, hex_digit};
+use keymap_names::{first_shown, word};
 use keymap_places::{DefinitionStart, FaultPlace, Wanted};
 use keymap_text::{Meaning, TextFaultKind, next_token, word_len, word_meaning};
 use messages::{either, filled, number};
@@ -64,11 +66,11 @@ fn hex_front(bytes: &[u8]) -> &[u8]
     &bytes[..end]
 }
 
-/// The hexadecimal digits behind `U+` in front of bytes.
+/// The hexadecimal digits behind `U+` or `u+` in front of bytes.
 fn unicode_digits(bytes: &[u8]) -> &[u8]
     ensures { result.now ≡ spec.unicode_digits bytes.now }
 {
-    if bytes.len() >= 2 && bytes[0] == b'U' && bytes[1] == b'+' {
+    if bytes.len() >= 2 && bytes[0].to_ascii_lowercase() == b'u' && bytes[1] == b'+' {
         hex_front(&bytes[2..])
     } else {
         &[]
@@ -203,25 +205,28 @@ fn wants_character(wanted: Wanted) -> bool
     )
 }
 
-fn wants_cell(wanted: Wanted) -> bool
-    ensures { result ≡ spec.wants_cell wanted }
+/// What may stand in a cell that gives nothing, and as a lock letter.
+fn help_text(wanted: Wanted) -> &'static [u8]
+    ensures { result.now ≡ spec.help_text wanted }
 {
-    matches!(wanted, Wanted::Cell { .. })
+    match wanted {
+        Wanted::Cell { .. } => NOP,
+        Wanted::Lock => LOCK_LETTERS,
+        _ => b"",
+    }
 }
 
-/// The one name that differs in one letter from a word, or the one that a cell may want.
+/// The name that is meant by a word, or what may stand here.
 #[tactic(auto, unfolding(crate::specs::Faults::near_text))]
 fn near_message(alloc: Global, token: &[u8], wanted: Wanted) -> Result<Vec<u8>, AllocError>
     ensures { IfOk result (λ text. text.items ≡ spec.near_text token.now wanted) }
 {
-    let near = near_names(alloc, token)?;
-    let near = near.as_slice();
-    if near.len() == 1 {
-        let name = known_name(near[0]);
+    let name = meant_name(alloc, token, wanted)?;
+    if name.is_empty() {
+        Vec::from_slice(alloc, help_text(wanted))
+    } else {
         let told = word(alloc, name.as_slice())?;
         filled(alloc, MEANT_NAME, &[told.as_slice()])
-    } else {
-        Vec::from_slice(alloc, either(wants_cell(wanted), MEANT_NOP, b""))
     }
 }
 
@@ -249,11 +254,11 @@ fn bad_word(alloc: Global, bytes: &[u8], wanted: Wanted) -> Result<Vec<u8>, Allo
 {
     let token = front_word(bytes);
     if token.len() > 32 {
-        let nop = either(wants_cell(wanted), MEANT_NOP, b"");
+        let help = help_text(wanted);
         filled(
             alloc,
             LONG_WORD,
-            &[number(token.len() as u64).as_slice(), nop],
+            &[number(token.len() as u64).as_slice(), help],
         )
     } else {
         filled(

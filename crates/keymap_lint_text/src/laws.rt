@@ -2,7 +2,7 @@
 ghost use Rattle.std.specs.Prelude.{List, ℕ};
 ghost use Rattle.keymap_lint_text.specs.Promises.{EachDiagnosticIsOneRemark, EachRemarkHasOneHead};
 ghost use Rattle.keymap_lint_text.specs.Promises.{NotesTellEvents, PrintedIsPlain};
-ghost use Rattle.keymap_lint_text.specs.Shown.{shown_name, IsLine};
+ghost use Rattle.keymap_names.specs.Shown.{shown_name, IsLine};
 
 /// All that is printed of a text, whatever the text, the name of its file and the diagnostics are, is lines of UTF-8
 /// that a terminal shows: no control but a tab and the line feed at their ends, no mark that can't be seen and none

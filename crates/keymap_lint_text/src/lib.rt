@@ -9,17 +9,12 @@
 mod excerpt;
 mod faults;
 pub mod laws;
-mod lists;
 mod near;
 mod notes;
 mod printer;
 mod said;
-mod shown;
-mod told;
+mod wanted;
 mod whole;
 mod words;
 
-pub use lists::{accent_name, ranges};
-pub use shown::shown_name;
-pub use told::column_name;
 pub use whole::lint_text;

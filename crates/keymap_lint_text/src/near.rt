@@ -1,4 +1,4 @@
-//! The names that differ in one letter from a word without a meaning.
+//! The name that is meant by a word without a meaning.
 ghost use Rattle.std.specs.Prelude.{◌≡◌, ◌<◌, ◌≤◌, length, take, drop, slice_index_or, [], IfOk};
 ghost use Rattle.std.specs.Option.{option_map_or};
 ghost use Rattle.keymap_core.specs.Actions.{action_of, name_of};
@@ -7,7 +7,8 @@ ghost use Rattle.keymap_lint_text.specs.Near as spec;
 
 use arrayvec::ArrayVec;
 use keymap_core::Action;
-use keymap_text::control_name;
+use keymap_places::Wanted;
+use keymap_text::{Meaning, control_name, word_meaning};
 use std::alloc::{AllocError, Global};
 
 /// A name; each has at most seven bytes.
@@ -39,7 +40,7 @@ fn more_name(place: usize) -> &'static [u8]
 
 /// The name with a number, in lower case: of an action by its code, of a control character behind 256, or one more.
 #[tactic(auto, unfolding(crate::specs::Near::known_name))]
-pub(crate) fn known_name(number: u16) -> Name
+fn known_name(number: u16) -> Name
     ensures { result.items ≡ spec.known_name number }
 {
     if number < 256 {
@@ -84,8 +85,25 @@ pub(crate) fn behind(bytes: &[u8], place: usize) -> &[u8]
     }
 }
 
+/// The letter at a place, if one stands there.
+fn letter_at(word: &[u8], place: usize) -> &[u8]
+    ensures { result.now ≡ spec.letter_at place word.now }
+{
+    before(behind(word, place), 1)
+}
+
+/// Whether the letter at a place and the next one stand in the name the other way round, and the same behind them.
+fn is_exchanged_at(word: &[u8], name: &[u8], place: usize) -> bool
+    requires { place ≤ length word.now }
+    ensures { result ≡ spec.is_exchanged_at word.now name.now place }
+{
+    is_same(letter_at(word, place), letter_at(name, place + 1))
+        && is_same(letter_at(word, place + 1), letter_at(name, place))
+        && is_same(behind(word, place + 2), behind(name, place + 2))
+}
+
 /// Whether the word is the name up to a place, and behind it where one letter there is taken out of one of them or of
-/// both.
+/// both, or where two are exchanged.
 fn is_near_at(word: &[u8], name: &[u8], place: usize) -> bool
     requires { place ≤ length word.now }
     ensures { result ≡ spec.is_near_at word.now name.now place }
@@ -95,29 +113,109 @@ fn is_near_at(word: &[u8], name: &[u8], place: usize) -> bool
     is_same(before(word, place), before(name, place))
         && (is_same(more, behind(name, place))
             || is_same(behind(word, place), others)
-            || is_same(more, others))
+            || is_same(more, others)
+            || is_exchanged_at(word, name, place))
 }
 
-/// Whether one letter is added to the name, left out of it or exchanged in it.
-fn is_one_letter_from(word: &[u8], name: &[u8]) -> bool
-    ensures { result ≡ spec.is_one_letter_from word.now name.now }
+/// Whether one letter is added to the name, left out of it or another one, or two are exchanged.
+fn is_one_slip_from(word: &[u8], name: &[u8]) -> bool
+    ensures { result ≡ spec.is_one_slip_from word.now name.now }
 {
     (0..word.len() + 1).any(|place| is_near_at(word, name, place))
 }
 
-fn is_near(word: &[u8], number: u16) -> bool
-    ensures { result ≡ spec.is_near word.now number }
+/// Whether a word that means this may stand where this is wanted.
+fn may_stand(wanted: Wanted, meaning: &Meaning) -> bool
+    ensures { result ≡ spec.may_stand wanted meaning.now }
 {
-    let name = known_name(number);
-    !name.is_empty() && is_one_letter_from(word, name.as_slice())
+    match wanted {
+        Wanted::Cell { .. } => matches!(meaning, Meaning::Char(_) | Meaning::Act(_)),
+        Wanted::AccentCharacter | Wanted::Base { .. } | Wanted::Composed { .. } => {
+            matches!(meaning, Meaning::Char(_))
+        }
+        Wanted::Definition | Wanted::Pair { .. } => {
+            matches!(meaning, Meaning::Act(Action::DeadKey(_)))
+        }
+        Wanted::Lock | Wanted::PairEnd { .. } => false,
+    }
 }
 
-/// The numbers of the names that differ in one letter from the word.
+fn is_near(word: &[u8], wanted: Wanted, number: u16) -> bool
+    ensures { result ≡ spec.is_near word.now wanted number }
+{
+    let name = known_name(number);
+    is_one_slip_from(word, name.as_slice()) && may_stand(wanted, &word_meaning(name.as_slice()))
+}
+
+/// The numbers of the names that may stand here and are one slip from the word.
 #[tactic(auto, unfolding(crate::specs::Near::near_names))]
-pub(crate) fn near_names(alloc: Global, word: &[u8]) -> Result<Vec<u16>, AllocError>
-    ensures { IfOk result (λ near. near.items ≡ spec.near_names word.now) }
+fn near_names(alloc: Global, word: &[u8], wanted: Wanted) -> Result<Vec<u16>, AllocError>
+    ensures { IfOk result (λ near. near.items ≡ spec.near_names word.now wanted) }
 {
     (0..296)
-        .filter(|number| is_near(word, *number))
+        .filter(|number| is_near(word, wanted, *number))
         .collect(alloc)
+}
+
+/// What keyboards and other keymaps call a key or an accent, by the name that it has here.
+fn other_name(word: &[u8]) -> &'static [u8]
+    ensures name { result.now ≡ spec.other_name word.now }
+    ensures short { length result.now ≤ 8 }
+{
+    if is_same(word, b"shift") {
+        b"lshift"
+    } else if is_same(word, b"caps") {
+        b"clock"
+    } else if is_same(word, b"grave") {
+        b"dgra"
+    } else if is_same(word, b"acute") {
+        b"dacu"
+    } else if is_same(word, b"circumflex") {
+        b"dcir"
+    } else if is_same(word, b"tilde") {
+        b"dtil"
+    } else {
+        b""
+    }
+}
+
+/// The name of a function key with one or two digits that is called F and these.
+fn function_name(word: &[u8]) -> Name
+    ensures { result.items ≡ spec.function_name word.now }
+{
+    let mut name = ArrayVec::new();
+    if (word.len() == 2 || word.len() == 3) && is_same(before(word, 1), b"f") {
+        let front: &[u8] = if word.len() == 2 { b"fkey0" } else { b"fkey" };
+        name.try_extend_from_slice(front).unwrap();
+        name.try_extend_from_slice(behind(word, 1)).unwrap();
+    }
+    name
+}
+
+fn usual_name(word: &[u8]) -> Name
+    ensures { result.items ≡ spec.usual_name word.now }
+{
+    let other = other_name(word);
+    if other.is_empty() {
+        return function_name(word);
+    }
+    let mut name = ArrayVec::new();
+    name.try_extend_from_slice(other).unwrap();
+    name
+}
+
+/// The name that is meant by a word where this is wanted; it is empty where there is none.
+#[tactic(auto, unfolding(crate::specs::Near::meant_name))]
+pub(crate) fn meant_name(alloc: Global, word: &[u8], wanted: Wanted) -> Result<Name, AllocError>
+    ensures { IfOk result (λ name. name.items ≡ spec.meant_name word.now wanted) }
+{
+    let usual = usual_name(word);
+    if may_stand(wanted, &word_meaning(usual.as_slice())) {
+        return Ok(usual);
+    }
+    let near = near_names(alloc, word, wanted)?;
+    match near.as_slice() {
+        [number] => Ok(known_name(*number)),
+        _ => Ok(ArrayVec::new()),
+    }
 }

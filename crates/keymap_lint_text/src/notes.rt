@@ -4,7 +4,7 @@ ghost use Rattle.std.specs.List.{flat_map};
 ghost use Rattle.keymap_lint_text.specs.Notes as spec;
 ghost use Rattle.keymap_core.specs.Actions.{holding_action, name_of};
 
-use crate::told::defined;
+use crate::wanted::defined;
 use crate::words::{BEGINS, ONE_STAYS, SOME_STAY, STICKS, UNDECIDED};
 use console_core::Event;
 use keymap_core::{Holding, Modifier};

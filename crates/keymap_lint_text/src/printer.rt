@@ -3,7 +3,7 @@
 ghost use Rattle.std.specs.Prelude.{◌≡◌, ◌≤◌, ◌∷◌, ◌++◌, [], All, length, IfOk, OnOk, IfSome, None};
 ghost use Rattle.keymap_lint_text.specs.Heads as spec;
 ghost use Rattle.keymap_lint_text.specs.Heads.{Said};
-ghost use Rattle.keymap_lint_text.specs.Shown.{lines_text};
+ghost use Rattle.keymap_names.specs.Shown.{lines_text};
 ghost use Rattle.keymap_lint_text.specs.Whole.{answer, beginning, of_diagnostic, of_fault};
 ghost use Rattle.keymap_lint_text.specs.Whole.{tells_beginning as tells_beginning_of};
 ghost use Rattle.keymap_lint.specs.Positions.{FaultLiesWithin, IsWithin};

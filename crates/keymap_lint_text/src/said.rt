@@ -2,12 +2,11 @@
 ghost use Rattle.std.specs.Prelude.{◌≡◌, ◌∷◌, [], IsTrue, IfOk};
 ghost use Rattle.keymap_lint.specs.Positions.{TellsWithin};
 ghost use Rattle.messages.specs.Filled.{has_places};
-ghost use Rattle.keymap_lint_text.specs.Lists.{ranges as ranges_of};
+ghost use Rattle.keymap_names.specs.Lists.{ranges as ranges_of};
 ghost use Rattle.keymap_lint_text.specs.Names as names;
 ghost use Rattle.keymap_lint_text.specs.Said as spec;
 
-use crate::lists::{accent_name, accents, ranges};
-use crate::told::{column as column_text, defined, told_character};
+use crate::wanted::{character_name, column as column_text, defined};
 use crate::words::{
     ACCENTS, BARE_DIGIT, CR_ALONE, DEAD_KEY, DEFINED_AGAIN, HALF_DEFINED, MISSING_SLOT,
     MISSING_SLOTS, MIXED_KEY, NEVER_STICKS, NO_ACCENT, NO_KEY, NO_SHIFT, NOT_JOINED, NUL_KEY,
@@ -16,6 +15,7 @@ use crate::words::{
 use keymap_check::Finding;
 use keymap_core::Holding;
 use keymap_lint::{Diagnostic, Diagnostics, Kind, Severity};
+use keymap_names::{accent_name, accents, ranges};
 use keymap_places::{Defined, TextLines};
 use messages::{either, filled, number};
 use std::alloc::{AllocError, Global};
@@ -108,7 +108,7 @@ fn mixed_key(
         &[
             number(u64::from(finding.key.get())).as_slice(),
             name.as_slice(),
-            told_character(alloc, character)?.as_slice(),
+            character_name(alloc, character)?.as_slice(),
             column_text(alloc, usize::from(finding.character_at.column))?.as_slice(),
             other_slot(alloc, finding)?.as_slice(),
             name.as_slice(),
@@ -174,7 +174,7 @@ fn bare_digit(alloc: Global, character: char) -> Result<Vec<u8>, AllocError>
 {
     let digits = number(u64::from(character as u32));
     let digit = digits.as_slice();
-    let text = told_character(alloc, character)?;
+    let text = character_name(alloc, character)?;
     filled(alloc, BARE_DIGIT, &[digit, digit, text.as_slice(), digit])
 }
 
@@ -235,7 +235,7 @@ pub(crate) fn kind_message(
             first,
         } => {
             let name = accent_name(*accent);
-            let base = told_character(alloc, *base)?;
+            let base = character_name(alloc, *base)?;
             let line = number(source.number_at(*first));
             filled(
                 alloc,

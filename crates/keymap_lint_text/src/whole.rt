@@ -5,8 +5,8 @@ ghost use Rattle.keymap_lint_text.specs.Heads.{printed};
 ghost use Rattle.keymap_lint_text.specs.Whole.{IsLintText, remarks};
 
 use crate::printer::Printer;
-use crate::shown::shown_name;
 use keymap_lint::Lint;
+use keymap_names::shown_name;
 use keymap_places::TextLines;
 use std::alloc::{AllocError, Global};
 

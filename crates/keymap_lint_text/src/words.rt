@@ -1,5 +1,5 @@
 //! The words of the diagnostics. What is told stands at the places `{}`. The forms are those of docs/FORMATS.md,
-//! "Diagnostics". The definitions have most of them in bytes of their own (specs/Heads.antt, Said.antt, Told.antt,
+//! "Diagnostics". The definitions have most of them in bytes of their own (specs/Heads.antt, Said.antt, Wanted.antt,
 //! Notes.antt and Faults.antt), which are proved to be the same. The words of a mixed key, of a text that is half
 //! defined and of most faults they take from here.
 
@@ -104,7 +104,9 @@ pub(crate) const MEANT_CHARACTER: &[u8] = b"; the character is '{}'";
 
 pub(crate) const MEANT_NAME: &[u8] = b"; did you mean {}";
 
-pub(crate) const MEANT_NOP: &[u8] = b"; a cell that gives nothing is nop";
+pub(crate) const NOP: &[u8] = b"; a cell that gives nothing is nop";
+
+pub(crate) const LOCK_LETTERS: &[u8] = b"; a lock letter is O, C, N or B";
 
 pub(crate) const UNEXPECTED: &[u8] = b"{} stands where {} is wanted{}";
 
@@ -151,18 +153,7 @@ pub(crate) const A_RESULT: &[u8] = b"the result of a pair of {}";
 
 pub(crate) const A_PAIR_END: &[u8] = b"the ')' of a pair of {}";
 
-// A slot, and a column with its name.
+// A slot, and a column with what selects it.
 pub(crate) const SLOT: &[u8] = b"slot {}";
 
 pub(crate) const COLUMN: &[u8] = b"column {} ({})";
-
-pub(crate) const COLUMN_NAMES: [&[u8]; 8] = [
-    b"base",
-    b"shift",
-    b"ctrl",
-    b"ctrl shift",
-    b"alt",
-    b"alt shift",
-    b"alt ctrl",
-    b"alt ctrl shift",
-];

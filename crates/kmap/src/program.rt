@@ -9,7 +9,7 @@ use crate::texts::{check, lint};
 use clap::ArgMatches;
 use keymap_core::{FromStd, Read, write_text};
 use keymap_draw::Board;
-use keymap_lint_text::shown_name;
+use keymap_names::shown_name;
 use kmap_runs::{
     CommandError, RunError, cover_run, diff_run, draw_run, dump_narrow_run, dump_run,
     file_error_line, lint_run, missing_run, search_run, type_run, write_command_error,

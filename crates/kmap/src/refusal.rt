@@ -3,7 +3,7 @@ use crate::command_line::{matches_of, refusal};
 use crate::output::{Faults, tell};
 use crate::program::{is_well, status, well};
 use clap::error::{Error, ErrorKind};
-use keymap_lint_text::shown_name;
+use keymap_names::shown_name;
 use std::alloc::{AllocError, Global};
 use std::convert::AsStr;
 use std::env::FillError;

@@ -4,7 +4,7 @@ use crate::inputs::{given, is_standard_input, opened, text_in_file};
 use crate::output::{Faults, Output, tell};
 use crate::program::{Failure, explained, of_many, report};
 use keymap_core::{Read, ToStd};
-use keymap_lint_text::shown_name;
+use keymap_names::shown_name;
 use kmap_runs::{RunError, check_brief_run, check_run, lint_run};
 use std::alloc::{AllocError, Global};
 

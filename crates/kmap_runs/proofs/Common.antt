@@ -17,7 +17,7 @@ pub use Rattle.keymap_core.specs.Unseen.{is_unseen}
 pub use Rattle.keymap_cover.specs.declared.parts.Verdict.TheVariants.{LeftOut, Never}
 pub use Rattle.keymap_cover.specs.declared.script_event.ScriptEvent.TheVariants.{Reset}
 pub use Rattle.keymap_draw.specs.Pictures.{drawing}
-pub use Rattle.keymap_lint_text.proofs.Lines.{EachPasses, filled_all}
+pub use Rattle.messages.proofs.Passed.{EachPasses, filled_all}
 pub use Rattle.keymap_text.specs.Meaning.{Spells}
 pub use Rattle.kmap_runs.specs.Comments.{comment}
 pub use Rattle.kmap_runs.specs.Cover.{AddsLists, AreAlike, ListsSlots, accent_line, accent_lines, bases_at}

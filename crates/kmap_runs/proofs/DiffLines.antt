@@ -20,8 +20,7 @@ use Rattle.keymap_core.specs.declared.entry.LockFlag.{LockFlag}
 use Rattle.keymap_core.specs.declared.entry.LockFlag.TheVariants as flags
 use Rattle.keymap_text.specs.Printed.{cell_text, character_text, control_name, flag_letter}
 use Rattle.keymap_text.specs.Words.{control_names}
-use Rattle.keymap_lint_text.specs.Lists.{accent_name}
-use Rattle.keymap_lint_text.specs.Told.{column_names}
+use Rattle.keymap_names.specs.Lists.{accent_name, column_names}
 use Rattle.console_core.specs.declared.event.Answer.{Answer}
 use Rattle.console_core.specs.declared.event.Answer.TheVariants as answer
 use Rattle.keymap_diff.specs.declared.change.Change.{Change}

@@ -11,8 +11,7 @@ use Rattle.keymap_diff.specs.declared.change.Change.TheVariants.{Slots, Cell, Le
 use Rattle.keymap_diff.specs.declared.change.Change.TheVariants.{ListedOtherwise}
 use Rattle.keymap_diff.specs.declared.telling.Telling.{Telling}
 use Rattle.keymap_diff.specs.declared.telling.Telling.TheVariants.{Told, Never, Undecided}
-use Rattle.keymap_lint_text.specs.Lists.{accent_name}
-use Rattle.keymap_lint_text.specs.Told.{column_names}
+use Rattle.keymap_names.specs.Lists.{accent_name, column_names}
 use Rattle.console_core.specs.declared.event.Event.{Event}
 use Rattle.console_core.specs.declared.event.Event.TheVariants.{Press, Release}
 use Rattle.console_core.specs.History.{pressed}

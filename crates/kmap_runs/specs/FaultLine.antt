@@ -17,7 +17,7 @@ use Rattle.kmap_runs.specs.declared.fault_line.RunError.{RunError}
 use Rattle.kmap_runs.specs.declared.fault_line.RunError.TheVariants as error
 use Rattle.kmap_runs.specs.declared.fault_line.CommandError.{CommandError}
 use Rattle.kmap_runs.specs.declared.fault_line.CommandError.TheVariants as command
-use Rattle.keymap_lint_text.specs.Shown.{shown_name}
+use Rattle.keymap_names.specs.Shown.{shown_name}
 use Rattle.messages.specs.Filled.{filled}
 
 -- the name of a fault's kind

@@ -13,7 +13,7 @@ use Rattle.keymap_check.specs.declared.finding.Finding.{Finding}
 use Rattle.keymap_check.specs.Report.{ReportValue, report_of, bearer_in, is_steady_in}
 use Rattle.keymap_check.specs.Said.{finding_words}
 use Rattle.keymap_check.specs.Scripts.{demonstration_of}
-use Rattle.keymap_lint_text.specs.Shown.{shown_name}
+use Rattle.keymap_names.specs.Shown.{shown_name}
 use Rattle.play_core.specs.Spelling.{event_line}
 use Rattle.messages.specs.Filled.{filled}
 

@@ -28,7 +28,7 @@ use Rattle.keymap_diff.specs.declared.telling.Telling.{Telling}
 use Rattle.kmap_runs.specs.declared.type_error.TypeError.TheVariants as type
 use Rattle.play_core.specs.Runs.{Moves, moves, ReadsBoth, Runs, Stays}
 use Rattle.kmap_runs.specs.Sentences.{IsTyped, IsTypeError}
-use Rattle.keymap_lint_text.specs.Shown.{shown_name}
+use Rattle.keymap_names.specs.Shown.{shown_name}
 use Rattle.keymap_text.specs.Meaning.{Spells}
 use Rattle.keymap_text.specs.Sources.{TakesWhole}
 use Rattle.kmap_runs.specs.declared.fault_line.RunError.{RunError}

@@ -12,7 +12,7 @@ use crate::runs::answer_once_written;
 use crate::words::{ACCEPTED, BRIEF, REFUSED};
 use keymap_check::check;
 use keymap_core::{KeyMap, Read, Write};
-use keymap_lint_text::shown_name;
+use keymap_names::shown_name;
 use messages::filled;
 use std::alloc::{AllocError, Global};
 

@@ -17,7 +17,7 @@ use arrayvec::ArrayVec;
 use console_core::{Answer, Event};
 use keymap_core::{Cell, KeyCode};
 use keymap_diff::{Change, Telling};
-use keymap_lint_text::{accent_name, column_name};
+use keymap_names::{accent_name, column_name};
 use keymap_text::{character_text, flag_letter};
 use messages::{either, fill, filled, number, small};
 use std::alloc::{AllocError, Global};

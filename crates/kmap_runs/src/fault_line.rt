@@ -5,7 +5,7 @@ ghost use Rattle.kmap_runs.specs.FaultLine as spec;
 ghost use Rattle.kmap_runs.specs.FaultLine.{command_fault_line, fault_line, file_fault_line, table_kind};
 
 use keymap_core::{ReadFault, ReadFaultKind, Write, WriteFault, code_text, write_text};
-use keymap_lint_text::shown_name;
+use keymap_names::shown_name;
 use keymap_tables::{TableFault, TableFaultKind, Wide};
 use keymap_text::TextFault;
 use messages::{Line, filled, line, number, small};

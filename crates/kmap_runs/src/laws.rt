@@ -29,7 +29,7 @@ ghost use Rattle.kmap_runs.specs.Runs.{AcceptedKeepTheirPromise, AreDumped, Comp
 ghost use Rattle.kmap_runs.specs.Runs.{CoversText, DrawnAreWellFormed};
 ghost use Rattle.kmap_runs.specs.Runs.{PrintedCoversAreScripts, TypesSentence, WellLintedNeverStick};
 ghost use Rattle.kmap_runs.specs.Typing.{typing_script};
-ghost use Rattle.keymap_lint_text.specs.Shown.{IsPlainText};
+ghost use Rattle.keymap_names.specs.Shown.{IsPlainText};
 ghost use Rattle.std.specs.Char.{IsScalar};
 
 use keymap_check::laws::safe_maps_keep_their_promise;

@@ -1,4 +1,5 @@
-//! The calls of keymap_lint, keymap_lint_text, keymap_fmt, keymap_draw and messages, those of play_core, and `type_sentence`.
+//! The calls of keymap_lint, keymap_lint_text, keymap_names, keymap_fmt, keymap_draw and messages, those of play_core, and
+//! `type_sentence`.
 use crate::calls::devices::{mark, reader_of, writer};
 use crate::calls::inputs::{Call, FAULTY, Lent, SENTENCE, TEXT, TRAP, script};
 use crate::calls::outcome::{Outcome, ended, ended_keeping, ended_untouched, is_text};
@@ -7,7 +8,8 @@ use keymap_core::Write;
 use keymap_draw::{Board, picture};
 use keymap_fmt::format;
 use keymap_lint::{Lint, diagnostics};
-use keymap_lint_text::{lint_text, ranges, shown_name};
+use keymap_lint_text::lint_text;
+use keymap_names::{ranges, shown_name};
 use kmap_runs::type_sentence;
 use messages::filled;
 use play_core::{Show, play, play_next, read_script, read_whole};

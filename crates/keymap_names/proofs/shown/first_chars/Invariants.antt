@@ -1,5 +1,6 @@
-use Rattle.keymap_lint_text.proofs.Common.{◌≡◌, ◌-◌, ◌≤◌, ◌++◌, length, map, shown_char, shown_chars}
-use Rattle.keymap_lint_text.proofs.shown.first_chars.Given as goal
+use Rattle.std.specs.Prelude.{◌≡◌, ◌-◌, ◌≤◌, ◌++◌, length, map}
+use Rattle.keymap_names.specs.Shown.{shown_char, shown_chars}
+use Rattle.keymap_names.proofs.shown.first_chars.Given as goal
 
 -- the characters so far, and those of the bytes that are left
 abbrev pub invariant-loop-rest : goal.invariant-loop-rest

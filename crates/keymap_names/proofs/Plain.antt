@@ -1,6 +1,9 @@
 -- Lines that a terminal shows, one behind the other.
-use Rattle.keymap_lint_text.proofs.Common.{ℕ, List, [], ◌∷◌, ◌++◌, refl, sym, append-nil, flat_map, flat_map-append}
-use Rattle.keymap_lint_text.proofs.Common.{All-nil, All-cons, All-append, ended, IsLine, IsPlainText}
+use Rattle.std.proofs.Common.{ℕ, List, [], ◌∷◌, ◌++◌, refl, sym, append-nil}
+use Rattle.std.specs.List.{flat_map}
+use Rattle.std.proofs.lemmas.Grind.{flat_map-append}
+use Rattle.std.proofs.lemmas.List.Elements.{All-nil, All-cons, All-append}
+use Rattle.keymap_names.specs.Shown.{ended, IsLine, IsPlainText}
 
 pub plain_none : IsPlainText []
 plain_none = record { lines = []; spelled = refl; plain = All-nil IsLine }

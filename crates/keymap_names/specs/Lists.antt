@@ -1,5 +1,5 @@
--- Lists in words, and ascending numbers as ranges.
-use Rattle.std.specs.Prelude.{ℕ, ◌+◌, ◌-◌, ◌==◌, Bool, ◌||◌, not, if◌then◌else◌, List, [], ◌++◌, codes, decimal, length}
+-- The names of accents and columns, lists of accents, and ascending numbers as ranges.
+use Rattle.std.specs.Prelude.{ℕ, ◌+◌, ◌-◌, ◌==◌, Bool, ◌||◌, not, if◌then◌else◌, List, [], ◌∷◌, ◌++◌, codes, decimal, length}
 use Rattle.std.specs.Prelude.{slice_index, slice_index_or}
 use Rattle.std.specs.List.{flat_map, range_with_len}
 use Rattle.keymap_core.specs.Actions.{accent_names}
@@ -40,3 +40,9 @@ listed_text accents i = or_comma i (length accents) ++ accent_name (slice_index 
 -- the names of accents, as `dgra, dacu or dcir`
 abbrev pub accents_text : List ℕ → List ℕ
 accents_text accents = flat_map (listed_text accents) (range_with_len 0 (length accents))
+
+-- the columns, by what selects each
+abbrev pub column_names : List (List ℕ)
+column_names =
+    codes "base" ∷ codes "shift" ∷ codes "ctrl" ∷ codes "ctrl shift" ∷ codes "alt" ∷ codes "alt shift"
+    ∷ codes "alt ctrl" ∷ codes "alt ctrl shift" ∷ []

@@ -1,6 +1,6 @@
-use Rattle.keymap_lint_text.specs.Lists.{listed_text}
-use Rattle.keymap_lint_text.proofs.Lines.{piece_more}
-use Rattle.keymap_lint_text.proofs.lists.accents.Goals as goal
+use Rattle.keymap_names.specs.Lists.{listed_text}
+use Rattle.keymap_names.proofs.Pieces.{piece_more}
+use Rattle.keymap_names.proofs.lists.accents.Goals as goal
 
 pub loop-i-preserved : goal.loop-i-preserved
 loop-i-preserved c =

@@ -1,6 +1,6 @@
 -- What is shown of the bytes of a text.
 use Rattle.std.specs.Prelude.{◌≡◌, ℕ, ◌==◌, Bool, IsTrue, not, ◌||◌, nat_lt, if◌then◌else◌, List, []}
-use Rattle.std.specs.Prelude.{◌∷◌, ◌++◌, ⊤, codes, map, encode_utf8}
+use Rattle.std.specs.Prelude.{◌∷◌, ◌++◌, ⊤, codes, map, take, encode_utf8}
 use Rattle.std.specs.Char.{IsScalar}
 use Rattle.std.specs.List.{All, flat_map}
 use Rattle.bstr.specs.Utf8.{lossy_chars}
@@ -17,6 +17,14 @@ shown_chars bytes = map shown_char (lossy_chars bytes)
 -- the name of a file as it is shown, in one line
 unfoldable pub shown_name : List ℕ → List ℕ
 shown_name name = flat_map encode_utf8 (shown_chars name)
+
+-- how many characters of a word are told
+abbrev pub word_limit : ℕ
+word_limit = 24
+
+-- a word of a text as it is told: its first characters as they are shown
+unfoldable pub word_text : List ℕ → List ℕ
+word_text word = flat_map encode_utf8 (take word_limit (shown_chars word))
 
 -- a tab, or a character of ASCII that a terminal shows: these are shown as they are
 abbrev pub is_shown_byte : ℕ → Bool

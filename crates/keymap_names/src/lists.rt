@@ -1,6 +1,6 @@
-//! Lists in words, and ascending numbers as ranges.
-ghost use Rattle.std.specs.Prelude.{◌≡◌, ◌<◌, ◌++◌, length, OnOk, IfOk};
-ghost use Rattle.keymap_lint_text.specs.Lists as spec;
+//! The names of accents and columns, lists of accents, and ascending numbers as ranges.
+ghost use Rattle.std.specs.Prelude.{◌≡◌, ◌<◌, ◌++◌, [], length, slice_index_or, OnOk, IfOk};
+ghost use Rattle.keymap_names.specs.Lists as spec;
 
 use keymap_core::{ACCENT_LIMIT, AccentIndex, Action, Name};
 use messages::number;
@@ -92,7 +92,7 @@ fn push_listed(text: &mut Vec<u8>, accents: &[u8], place: usize) -> Result<(), A
 }
 
 /// The names of accents, as `dgra, dacu or dcir`.
-pub(crate) fn accents(alloc: Global, accents: &[u8]) -> Result<Vec<u8>, AllocError>
+pub fn accents(alloc: Global, accents: &[u8]) -> Result<Vec<u8>, AllocError>
     ensures { IfOk result (λ text. text.items ≡ spec.accents_text accents.now) }
 {
     let mut text = Vec::new(alloc);
@@ -100,4 +100,26 @@ pub(crate) fn accents(alloc: Global, accents: &[u8]) -> Result<Vec<u8>, AllocErr
         push_listed(&mut text, accents, i)?;
     }
     Ok(text)
+}
+
+const COLUMN_NAMES: [&[u8]; 8] = [
+    b"base",
+    b"shift",
+    b"ctrl",
+    b"ctrl shift",
+    b"alt",
+    b"alt shift",
+    b"alt ctrl",
+    b"alt ctrl shift",
+];
+
+/// What selects a column of a slot.
+pub fn column_name(column: usize) -> &'static [u8]
+    ensures { result.now ≡ slice_index_or spec.column_names column [] }
+{
+    if column < 8 {
+        COLUMN_NAMES[column]
+    } else {
+        b""
+    }
 }

@@ -1,6 +1,5 @@
--- What the diagnostics tell of: tokens, columns, definitions, and what is wanted.
-use Rattle.std.specs.Prelude.{ℕ, List, [], ◌∷◌, codes, decimal, take, slice_index_or, encode_utf8, Option, Some, None}
-use Rattle.std.specs.List.{flat_map}
+-- What a definition wants, and what is told of it: its name, its columns and characters.
+use Rattle.std.specs.Prelude.{ℕ, List, [], ◌∷◌, codes, decimal, slice_index_or, Option, Some, None}
 use Rattle.keymap_places.specs.declared.placed.Defined.{Defined}
 use Rattle.keymap_places.specs.declared.placed.Defined.TheVariants.{Slot, Accent}
 use Rattle.keymap_places.specs.declared.wanted.Wanted.{Wanted}
@@ -8,26 +7,12 @@ use Rattle.keymap_places.specs.declared.wanted.Wanted.TheVariants as wants
 use Rattle.keymap_places.specs.declared.wanted.DefinitionStart.{DefinitionStart}
 use Rattle.keymap_text.specs.Printed.{character_text}
 use Rattle.messages.specs.Filled.{filled}
-use Rattle.keymap_lint_text.specs.Lists.{accent_name}
-use Rattle.keymap_lint_text.specs.Shown.{shown_chars}
-
--- how many characters of a token are told
-abbrev pub word_limit : ℕ
-word_limit = 24
-
--- a token as it is told: its first characters as they are shown
-unfoldable pub word_text : List ℕ → List ℕ
-word_text token = flat_map encode_utf8 (take word_limit (shown_chars token))
+use Rattle.keymap_names.specs.Lists.{accent_name, column_names}
+use Rattle.keymap_names.specs.Shown.{word_text}
 
 -- a character as it is printed in a keymap
-unfoldable pub told_character : ℕ → List ℕ
-told_character c = word_text (character_text c)
-
--- the columns, by what selects each
-abbrev pub column_names : List (List ℕ)
-column_names =
-    codes "base" ∷ codes "shift" ∷ codes "ctrl" ∷ codes "ctrl shift" ∷ codes "alt" ∷ codes "alt shift"
-    ∷ codes "alt ctrl" ∷ codes "alt ctrl shift" ∷ []
+unfoldable pub character_name : ℕ → List ℕ
+character_name c = word_text (character_text c)
 
 -- a column, and what selects it
 unfoldable pub column_text : ℕ → List ℕ

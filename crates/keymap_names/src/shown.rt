@@ -1,7 +1,7 @@
 //! What is shown of the bytes of a text.
 ghost use Rattle.std.specs.Prelude.{◌≡◌, ◌++◌, take, encode_utf8, OnOk, IfOk};
 ghost use Rattle.std.specs.List.{flat_map};
-ghost use Rattle.keymap_lint_text.specs.Shown as spec;
+ghost use Rattle.keymap_names.specs.Shown as spec;
 
 use bstr::ByteSlice;
 use keymap_core::is_unseen;
@@ -23,11 +23,7 @@ fn shown_char(c: char) -> char
 /// The first characters that are shown of bytes, so many at most, with one U+FFFD for each maximal piece that isn't
 /// UTF-8. Nothing behind them is decoded.
 #[tactic(auto, unfolding(crate::specs::Shown::shown_chars))]
-pub(crate) fn first_chars(
-    alloc: Global,
-    bytes: &[u8],
-    limit: usize,
-) -> Result<Vec<char>, AllocError>
+fn first_chars(alloc: Global, bytes: &[u8], limit: usize) -> Result<Vec<char>, AllocError>
     ensures { IfOk result (λ cs. cs.items ≡ take limit (spec.shown_chars bytes.now)) }
 {
     let mut characters = Vec::with_capacity(alloc, limit.min(bytes.len()))?;
@@ -43,7 +39,7 @@ pub(crate) fn first_chars(
 
 /// All characters that are shown of bytes.
 #[tactic(auto, unfolding(crate::specs::Shown::shown_chars))]
-pub(crate) fn all_chars(alloc: Global, bytes: &[u8]) -> Result<Vec<char>, AllocError>
+pub fn all_chars(alloc: Global, bytes: &[u8]) -> Result<Vec<char>, AllocError>
     ensures { IfOk result (λ cs. cs.items ≡ spec.shown_chars bytes.now) }
 {
     bytes.chars().map(|c| shown_char(c)).collect(alloc)
@@ -63,7 +59,7 @@ fn push_character(text: &mut Vec<u8>, c: char) -> Result<(), AllocError>
 }
 
 /// Adds characters as UTF-8.
-pub(crate) fn push_characters(text: &mut Vec<u8>, characters: &[char]) -> Result<(), AllocError>
+pub fn push_characters(text: &mut Vec<u8>, characters: &[char]) -> Result<(), AllocError>
     ensures { OnOk result (text.new.items ≡ text.old.items ++ flat_map encode_utf8 characters.now) }
 {
     for c in characters {
@@ -82,4 +78,25 @@ pub fn shown_name(alloc: Global, name: &[u8]) -> Result<Vec<u8>, AllocError>
     let mut text = Vec::new(alloc);
     push_characters(&mut text, characters.as_slice())?;
     Ok(text)
+}
+
+/// The first characters of bytes as they are shown, so many at most.
+pub fn first_shown(alloc: Global, bytes: &[u8], limit: usize) -> Result<Vec<u8>, AllocError>
+    ensures { IfOk result (λ text. text.items ≡ flat_map encode_utf8 (take limit (spec.shown_chars bytes.now))) }
+{
+    let characters = first_chars(alloc, bytes, limit)?;
+    let mut text = Vec::new(alloc);
+    push_characters(&mut text, characters.as_slice())?;
+    Ok(text)
+}
+
+/// How many characters of a word are told.
+const WORD_LIMIT: usize = 24;
+
+/// A word of a text as it is told: its first characters as they are shown.
+#[tactic(auto, unfolding(crate::specs::Shown::word_text))]
+pub fn word(alloc: Global, word: &[u8]) -> Result<Vec<u8>, AllocError>
+    ensures { IfOk result (λ text. text.items ≡ spec.word_text word.now) }
+{
+    first_shown(alloc, word, WORD_LIMIT)
 }

@@ -1,62 +1,26 @@
-//! What the diagnostics tell of: tokens, characters, columns, definitions, and what is wanted.
-ghost use Rattle.std.specs.Prelude.{◌≡◌, slice_index_or, take, encode_utf8, [], IfOk};
-ghost use Rattle.std.specs.List.{flat_map};
-ghost use Rattle.keymap_lint_text.specs.Shown.{shown_chars as shown_of};
-ghost use Rattle.keymap_lint_text.specs.Told as spec;
+//! What a definition wants, and what is told of it: its name, its columns and characters.
+ghost use Rattle.std.specs.Prelude.{◌≡◌, IfOk};
+ghost use Rattle.keymap_lint_text.specs.Wanted as spec;
 
-use crate::lists::accent_name;
-use crate::shown::{first_chars, push_characters};
 use crate::words::{
-    A_BASE, A_CELL, A_CHARACTER, A_DEFINITION, A_LOCK, A_PAIR, A_PAIR_END, A_RESULT, COLUMN,
-    COLUMN_NAMES, SLOT,
+    A_BASE, A_CELL, A_CHARACTER, A_DEFINITION, A_LOCK, A_PAIR, A_PAIR_END, A_RESULT, COLUMN, SLOT,
 };
+use keymap_names::{accent_name, column_name, word};
 use keymap_places::{Defined, DefinitionStart, Wanted};
 use keymap_text::character_text;
 use messages::{filled, number};
 use std::alloc::{AllocError, Global};
 
-/// How many characters of a token are told.
-const WORD_LIMIT: usize = 24;
-
-/// The first characters of bytes as they are shown, so many at most.
-pub(crate) fn first_shown(alloc: Global, bytes: &[u8], limit: usize) -> Result<Vec<u8>, AllocError>
-    ensures { IfOk result (λ text. text.items ≡ flat_map encode_utf8 (take limit (shown_of bytes.now))) }
-{
-    let characters = first_chars(alloc, bytes, limit)?;
-    let mut text = Vec::new(alloc);
-    push_characters(&mut text, characters.as_slice())?;
-    Ok(text)
-}
-
-/// A token as it is told: its first characters as they are shown.
-#[tactic(auto, unfolding(crate::specs::Told::word_text))]
-pub(crate) fn word(alloc: Global, token: &[u8]) -> Result<Vec<u8>, AllocError>
-    ensures { IfOk result (λ text. text.items ≡ spec.word_text token.now) }
-{
-    first_shown(alloc, token, WORD_LIMIT)
-}
-
 /// A character as it is printed in a keymap.
-#[tactic(auto, unfolding(crate::specs::Told::told_character))]
-pub(crate) fn told_character(alloc: Global, c: char) -> Result<Vec<u8>, AllocError>
-    ensures { IfOk result (λ text. text.items ≡ spec.told_character c) }
+#[tactic(auto, unfolding(crate::specs::Wanted::character_name))]
+pub(crate) fn character_name(alloc: Global, c: char) -> Result<Vec<u8>, AllocError>
+    ensures { IfOk result (λ text. text.items ≡ spec.character_name c) }
 {
     word(alloc, character_text(c).as_slice())
 }
 
-/// What selects a column of a slot.
-pub fn column_name(column: usize) -> &'static [u8]
-    ensures { result.now ≡ slice_index_or spec.column_names column [] }
-{
-    if column < 8 {
-        COLUMN_NAMES[column]
-    } else {
-        b""
-    }
-}
-
 /// A column, and what selects it.
-#[tactic(auto, unfolding(crate::specs::Told::column_text))]
+#[tactic(auto, unfolding(crate::specs::Wanted::column_text))]
 pub(crate) fn column(alloc: Global, column: usize) -> Result<Vec<u8>, AllocError>
     ensures { IfOk result (λ text. text.items ≡ spec.column_text column) }
 {
@@ -91,7 +55,7 @@ pub(crate) fn started(
 }
 
 /// What is wanted in the definition that has begun.
-#[tactic(auto, unfolding(crate::specs::Told::wanted_text))]
+#[tactic(auto, unfolding(crate::specs::Wanted::wanted_text))]
 pub(crate) fn wanted(
     alloc: Global,
     wanted: Wanted,

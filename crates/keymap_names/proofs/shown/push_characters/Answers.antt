@@ -1,6 +1,6 @@
-use Rattle.keymap_lint_text.proofs.Common.{encode_utf8}
-use Rattle.keymap_lint_text.proofs.Lines.{next_given}
-use Rattle.keymap_lint_text.proofs.shown.push_characters.Goals as goal
+use Rattle.std.specs.Prelude.{encode_utf8}
+use Rattle.keymap_names.proofs.Lines.{next_given}
+use Rattle.keymap_names.proofs.shown.push_characters.Goals as goal
 
 pub loop-c-preserved : goal.loop-c-preserved
 loop-c-preserved c =

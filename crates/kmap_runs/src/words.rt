@@ -136,10 +136,4 @@ pub(crate) const PAIR: &[u8] = b"pair: {}; {}";
 
 pub(crate) const ORDER: &[u8] = b"pairs: {}";
 
-pub(crate) const ONE: &[u8] = b"slot {}";
-
-pub(crate) const SEVERAL_SLOTS: &[u8] = b"slots {}";
-
-pub(crate) const ALL_COLUMNS: &[u8] = b"all columns";
-
 pub(crate) const NO_RESULT: &[u8] = b"none";

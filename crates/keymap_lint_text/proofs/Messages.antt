@@ -1,5 +1,5 @@
 -- Each message stays in its line, and a terminal shows it.
-use Rattle.keymap_lint_text.proofs.Common.{◌≡◌, ℕ, ◌<◌, ◌/◌, ◌%◌, Bool, true, List, [], ◌∷◌, refl, arith, Option}
+use Rattle.keymap_lint_text.proofs.Common.{◌≡◌, ℕ, ◌<◌, ◌/◌, ◌%◌, Bool, true, List, [], refl, arith, Option}
 use Rattle.keymap_lint_text.proofs.Common.{Some, None, drop, length, ◌==◌}
 use Rattle.keymap_lint_text.proofs.Common.{list_all, nat_tests, All-take, slice_index}
 use Rattle.keymap_lint_text.proofs.Common.{IsSeen, IsLine, is_shown_byte}
@@ -7,9 +7,6 @@ use Rattle.std.proofs.lemmas.Bool.{and_from, cond_both}
 unfoldable use Rattle.keymap_core.specs.CodePoints.{code_digits}
 use Rattle.keymap_core.specs.declared.action.Holding.{Holding}
 use Rattle.keymap_core.specs.declared.action.Holding.TheVariants as holding
-use Rattle.keymap_core.specs.declared.action.Action.TheVariants as action
-use Rattle.keymap_core.specs.declared.action.Lock.{Lock}
-use Rattle.keymap_core.specs.declared.action.Lock.TheVariants as locks
 use Rattle.keymap_check.specs.declared.finding.Finding.{Finding}
 use Rattle.keymap_places.specs.declared.placed.Defined.{Defined}
 use Rattle.keymap_places.specs.declared.placed.Defined.TheVariants.{Slot, Accent}

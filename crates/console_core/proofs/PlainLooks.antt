@@ -1,13 +1,16 @@
 -- Looks in plain maps.
-use Rattle.console_core.proofs.Common.{◌≡◌, ℕ, ◌<◌, Bool, true, false, List, refl, subst, sym, ◌∙◌, inl}
-use Rattle.console_core.proofs.Common.{inr, lit<, false_from_ne_true, Lock, Modifier}
+use Rattle.console_core.proofs.Common.{◌≡◌, ℕ, ◌<◌, Bool, true, false, ◌&&◌, List, refl, subst, sym, ◌∙◌, inl, rules}
+use Rattle.console_core.proofs.Common.{inr, lit<, or_cases, and_parts, false_from_ne_true, or_right, Lock, Modifier}
 use Rattle.console_core.proofs.Common.{Holding, Act, Event, holding_action, MapValue, cell_at, Bears, IsCellOf}
 use Rattle.console_core.proofs.Common.{BearsThroughout, count_where, is_odd, look_with, ResolvedEvent, held, locked}
 use Rattle.console_core.proofs.Common.{look, Maps, in_force, resolved, pressed, is_on_after, is_locked_after, HasKeys}
 use Rattle.console_core.proofs.Common.{HasNoLoads, is_fresh_press, fun_ext}
+use Rattle.std.proofs.lemmas.Bool.{or_left}
 use Rattle.keymap_core.specs.Bearers.{NobodyBears}
-use Rattle.console_core.specs.Plain.{IsPlainFor, IsPlain, IsPlainLook, LooksPlainly, SomeBearerHas, AreByKeys}
-use Rattle.std.proofs.Common.{◌↔◌}
+use Rattle.keymap_core.specs.Borne.{any_below}
+use Rattle.console_core.specs.Plain.{IsPlainFor, IsPlain, bears_holding, plain_on, plain_locked, plain_look}
+use Rattle.console_core.specs.Plain.{LooksPlainly, PlainOnByKeys, PlainLockedByKeys}
+use Rattle.keymap_core.proofs.BorneTests.{any-some, some-any, slot-stands, stands-slot, live-upper, upper-is_live}
 use Rattle.keymap_core.proofs.BorneTests.{borne-bears}
 use Rattle.console_core.proofs.Borne.{AllLooked, locked-borne, resolved-looked}
 use Rattle.console_core.proofs.Bearing.{RememberedBySome, held-remembered, remembered-cell}
@@ -18,22 +21,67 @@ use Rattle.keymap_core.specs.declared.action.Lock.TheVariants as lock
 use Rattle.keymap_core.specs.declared.action.Modifier.TheVariants as modifier
 use Rattle.keymap_core.specs.declared.action.Holding.TheVariants as holding
 
+-- the test whether a key bears a holding action
+pub bears-is : (m : MapValue) (a : Holding) (k : ℕ) → bears_holding m a k ≡ true → Bears m k a
+bears-is m a k e = search (rules, or_cases, slot-stands, and_parts, live-upper)
+
+-- a key that bears a holding action passes the test
+pub is-bears : (m : MapValue) (a : Holding) (k : ℕ) → Bears m k a → bears_holding m a k ≡ true
+is-bears m a k (inl s) = or_left _ _ (stands-slot m (holding_action a) k s)
+is-bears m a k (inr s) = search (rules, or_right, upper-is_live, stands-slot)
+
 -- a key that bears the action throughout bears it
 pub throughout-bears : (m : MapValue) (k : ℕ) (a : Holding) → BearsThroughout m k a → Bears m k a
 throughout-bears m k a s =
     subst (λ x. IsCellOf m k x) (s.2 (cell_at m k 0) (inl (0, lit< tt, refl))) (inl (0, lit< tt, refl))
 
--- what is so exactly if some bearer has a fact, is so as the one bearer has it
-by_bearer : (m : MapValue) (a : Holding) (k : ℕ) (fact : ℕ → Bool) (x : Bool) → BearsThroughout m k a
-    → (x ≡ true) ↔ SomeBearerHas m a fact → x ≡ fact k
-by_bearer m a k fact x s by =
-    same_by x (fact k) (λ e. let t = by.0 e in subst (λ j. fact j ≡ true) (s.1 t.0 t.1 t.2) t.3)
-    (λ e. by.1 (k, s.0, throughout-bears m k a s, e))
+-- a fact about the one key that bears the action
+one_bearer : (m : MapValue) (a : Holding) (k : ℕ) (fact : ℕ → Bool) → BearsThroughout m k a
+    → any_below (λ j. bears_holding m a j && fact j) 128 ≡ fact k
+one_bearer m a k fact s =
+    same_by _ (fact k)
+    (λ e.
+    let t : (j : ℕ) × (j < 128) × ((bears_holding m a j && fact j) ≡ true) = some-any
+    (λ j. bears_holding m a j && fact j) 128 e in
+    let p : (bears_holding m a t.0 ≡ true) × (fact t.0 ≡ true) = and_parts _ _ t.2 in
+    subst (λ j. fact j ≡ true) (s.1 t.0 t.1 (bears-is m a t.0 p.0)) p.1)
+    (λ e. any-some (λ j. bears_holding m a j && fact j) k 128 s.0
+    (rw (is-bears m a k (throughout-bears m k a s), e) refl))
 
--- where nobody bears it, it isn't so
-by_nobody : (m : MapValue) (a : Holding) (fact : ℕ → Bool) (x : Bool) → NobodyBears m a
-    → (x ≡ true) ↔ SomeBearerHas m a fact → x ≡ false
-by_nobody m a fact x nobody by = false_from_ne_true x (λ e. let t = by.0 e in nobody t.0 t.1 t.2)
+-- some key that bears the action has a fact
+bearer-some : (m : MapValue) (a : Holding) (fact : ℕ → Bool) → any_below (λ j. bears_holding m a j && fact j) 128 ≡ true
+    → (k : ℕ) × (k < 128) × Bears m k a × (fact k ≡ true)
+bearer-some m a fact e = search (rules, some-any, and_parts, bears-is)
+
+-- a bearer for which a fact holds is found
+some-bearer : (m : MapValue) (a : Holding) (fact : ℕ → Bool) (k : ℕ) → k < 128 → Bears m k a → fact k ≡ true
+    → any_below (λ j. bears_holding m a j && fact j) 128 ≡ true
+some-bearer m a fact k lt b e = any-some (λ j. bears_holding m a j && fact j) k 128 lt (rw (is-bears m a k b, e) refl)
+
+-- a modifier is on by the test exactly if a key that bears it is pressed
+pub plain_on_by_keys : PlainOnByKeys
+unfolding plain_on
+plain_on_by_keys m h i = (
+  bearer-some m (holding.Mod i) (λ k. pressed k h),
+  λ s. some-bearer m (holding.Mod i) (λ k. pressed k h) s.0 s.1 s.2 s.3,
+)
+
+-- a lock is on by the test exactly if a key that bears it had an odd number of fresh presses
+pub plain_locked_by_keys : PlainLockedByKeys
+unfolding plain_locked
+plain_locked_by_keys m h l = (
+  bearer-some m (holding.Lock l) (λ k. is_odd (count_where (is_fresh_press k) h)),
+  λ s. some-bearer m (holding.Lock l) (λ k. is_odd (count_where (is_fresh_press k) h)) s.0 s.1 s.2 s.3,
+)
+
+-- where nobody bears a holding action, no bearer is found
+no_bearer : (m : MapValue) (a : Holding) (fact : ℕ → Bool) → NobodyBears m a
+    → any_below (λ j. bears_holding m a j && fact j) 128 ≡ false
+no_bearer m a fact nobody =
+    false_from_ne_true _ (λ e.
+    let t : (j : ℕ) × (j < 128) × ((bears_holding m a j && fact j) ≡ true) = some-any
+    (λ j. bears_holding m a j && fact j) 128 e in
+    nobody t.0 t.1 (bears-is m a t.0 (and_parts _ _ t.2).0))
 
 -- what nobody bears is never held
 pub never-held : (m : MapValue) (a : Holding) → NobodyBears m a → (r : List ResolvedEvent) → AllLooked m r
@@ -60,6 +108,27 @@ module _ (ms : Maps) (h : List Event) (none : HasNoLoads h) (keys : HasKeys h) w
   looked : AllLooked ms.first (resolved ms h)
   looked = subst (λ m. AllLooked m (resolved ms h)) (first_in_force ms h none) (resolved-looked ms h keys)
 
+  -- a modifier that is plain is on by the test
+  on-plain : (i : Modifier) → IsPlainFor ms.first (holding.Mod i) → is_on_after ms i h ≡ plain_on ms.first h i
+  unfolding plain_on
+  on-plain i (inl nobody) =
+      never-held ms.first (holding.Mod i) nobody (resolved ms h) looked
+      ∙ sym (no_bearer ms.first (holding.Mod i) (λ k. pressed k h) nobody)
+  on-plain i (inr s) =
+      throughout_held ms h keys (holding.Mod i) s.0
+      (subst (λ m. BearsThroughout m s.0 (holding.Mod i)) (sym (first_in_force ms h none)) s.1)
+      ∙ sym (one_bearer ms.first (holding.Mod i) s.0 (λ k. pressed k h) s.1)
+
+  -- a lock that is plain is on by the test
+  locked-plain : (l : Lock) → IsPlainFor ms.first (holding.Lock l) → is_locked_after ms l h ≡ plain_locked ms.first h l
+  unfolding plain_locked
+  locked-plain l (inl nobody) =
+      never-locked ms.first l nobody (resolved ms h) looked
+      ∙ sym (no_bearer ms.first (holding.Lock l) (λ k. is_odd (count_where (is_fresh_press k) h)) nobody)
+  locked-plain l (inr s) =
+      locked_by_fresh_presses ms h keys l s.0 s.1 (inl none)
+      ∙ sym (one_bearer ms.first (holding.Lock l) s.0 (λ k. is_odd (count_where (is_fresh_press k) h)) s.1)
+
   -- a look in the map in force is one in the first map
   pub looks-first : (k : ℕ)
       → look (in_force ms h) (resolved ms h) k
@@ -67,57 +136,33 @@ module _ (ms : Maps) (h : List Event) (none : HasNoLoads h) (keys : HasKeys h) w
   unfolding look
   looks-first k = cc (first_in_force ms h none)
 
-  module _ (is_on : Modifier → Bool) (is_locked : Lock → Bool) (by : AreByKeys ms.first h is_on is_locked) where
-    -- a modifier that is plain is on by its key
-    on-plain : (i : Modifier) → IsPlainFor ms.first (holding.Mod i) → is_on_after ms i h ≡ is_on i
-    on-plain i (inl nobody) =
-        never-held ms.first (holding.Mod i) nobody (resolved ms h) looked
-        ∙ sym (by_nobody ms.first (holding.Mod i) (λ k. pressed k h) (is_on i) nobody (by.on i))
-    on-plain i (inr s) =
-        throughout_held ms h keys (holding.Mod i) s.0
-        (subst (λ m. BearsThroughout m s.0 (holding.Mod i)) (sym (first_in_force ms h none)) s.1)
-        ∙ sym (by_bearer ms.first (holding.Mod i) s.0 (λ k. pressed k h) (is_on i) s.1 (by.on i))
-
-    -- a lock that is plain is on by its key
-    locked-plain : (l : Lock) → IsPlainFor ms.first (holding.Lock l) → is_locked_after ms l h ≡ is_locked l
-    locked-plain l (inl nobody) =
-        never-locked ms.first l nobody (resolved ms h) looked
-        ∙ sym (by_nobody ms.first (holding.Lock l) (λ k. is_odd (count_where (is_fresh_press k) h)) (is_locked l)
-        nobody (by.locked l))
-    locked-plain l (inr s) =
-        locked_by_fresh_presses ms h keys l s.0 s.1 (inl none)
-        ∙ sym (by_bearer ms.first (holding.Lock l) s.0 (λ k. is_odd (count_where (is_fresh_press k) h)) (is_locked l)
-        s.1 (by.locked l))
-
-    -- in a plain map a look follows from the keys
-    pub look-plain : IsPlain ms.first → (k : ℕ)
-        → look_with ms.first (λ i. is_on_after ms i h) (λ l. is_locked_after ms l h) k
-        ≡ look_with ms.first is_on is_locked k
-    look-plain plain k =
-        rw (
-          on-plain modifier.LeftShift plain.left_shift,
-          on-plain modifier.RightShift plain.right_shift,
-          on-plain modifier.LeftControl plain.left_control,
-          on-plain modifier.RightControl plain.right_control,
-          on-plain modifier.LeftAlt plain.left_alt,
-          on-plain modifier.RightAlt plain.right_alt,
-          on-plain modifier.AltShift plain.alt_shift,
-          locked-plain lock.Caps plain.caps,
-          locked-plain lock.Num plain.num,
-          locked-plain lock.Alt plain.alt_lock,
-        ) refl
+  -- in a plain map a look follows from the keys
+  pub look-plain : IsPlain ms.first → (k : ℕ)
+      → look_with ms.first (λ i. is_on_after ms i h) (λ l. is_locked_after ms l h) k ≡ plain_look ms.first k h
+  look-plain plain k =
+      rw (
+        on-plain modifier.LeftShift plain.left_shift,
+        on-plain modifier.RightShift plain.right_shift,
+        on-plain modifier.LeftControl plain.left_control,
+        on-plain modifier.RightControl plain.right_control,
+        on-plain modifier.LeftAlt plain.left_alt,
+        on-plain modifier.RightAlt plain.right_alt,
+        on-plain modifier.AltShift plain.alt_shift,
+        locked-plain lock.Caps plain.caps,
+        locked-plain lock.Num plain.num,
+        locked-plain lock.Alt plain.alt_lock,
+      ) refl
 
 -- in a plain map each look follows from which keys are pressed and the fresh presses of the locks' keys
 pub looks_plainly : LooksPlainly
-looks_plainly ms h plain none keys k is_on is_locked by =
-    looks-first ms h none keys k ∙ look-plain ms h none keys is_on is_locked by plain k
+looks_plainly ms h plain none keys k = looks-first ms h none keys k ∙ look-plain ms h none keys plain k
 
 -- in a plain map each look by modifiers and locks that are shown is the plain one
 pub shown-plain : (ms : Maps) (h : List Event) → HasNoLoads h → HasKeys h → IsPlain ms.first
-    → (k : ℕ) (shows_on : Modifier → Bool) (shows_locked : Lock → Bool)
-    → ((i : Modifier) → shows_on i ≡ is_on_after ms i h) → ((l : Lock) → shows_locked l ≡ is_locked_after ms l h)
-    → IsPlainLook ms.first k h (look_with ms.first shows_on shows_locked k)
-shown-plain ms h none keys plain k shows_on shows_locked on_is locked_is is_on is_locked by =
-    let e : shows_on ≡ (λ i. is_on_after ms i h) = fun_ext on_is in
-    let f : shows_locked ≡ (λ l. is_locked_after ms l h) = fun_ext locked_is in
-    cc (e, f, look-plain ms h none keys is_on is_locked by plain k)
+    → (k : ℕ) (is_on : Modifier → Bool) (is_locked : Lock → Bool) → ((i : Modifier) → is_on i ≡ is_on_after ms i h)
+    → ((l : Lock) → is_locked l ≡ is_locked_after ms l h)
+    → look_with ms.first is_on is_locked k ≡ plain_look ms.first k h
+shown-plain ms h none keys plain k is_on is_locked on_is locked_is =
+    let e : is_on ≡ (λ i. is_on_after ms i h) = fun_ext on_is in
+    let f : is_locked ≡ (λ l. is_locked_after ms l h) = fun_ext locked_is in
+    cc (e, f, look-plain ms h none keys plain k)

@@ -4,7 +4,7 @@ ghost use Rattle.console_core.specs.Headline.{HeadlineHolds, LockedByFreshPresse
 ghost use Rattle.console_core.specs.Facts.{LooksAreCells, DeadUpperHalfIsNotLookedAt, HoldingIsRemembered};
 ghost use Rattle.console_core.specs.Facts.{OnByPressedKey};
 ghost use Rattle.console_core.specs.Loads.{WithoutLoads, LoadsOfOneMapAreResets};
-ghost use Rattle.console_core.specs.Plain.{LooksPlainly};
+ghost use Rattle.console_core.specs.Plain.{LooksPlainly, PlainOnByKeys, PlainLockedByKeys};
 ghost use Rattle.console_core.specs.Reading.{HeldByPositions, LockedByCount, RememberedByPositions};
 ghost use Rattle.console_core.specs.Reading.{NothingRememberedByPositions, PendingByRun, PressedByPositions};
 ghost use Rattle.console_core.specs.Reading.{ResolvedAtPrefix, AnswersByCases};
@@ -27,7 +27,9 @@ pub fn locks_count_fresh_presses()
 /// locks' keys: a modifier is on as a key that bears it is pressed, and a lock as such a key was freshly pressed an odd
 /// number of times.
 pub fn looks_plainly()
-    ensures { LooksPlainly }
+    ensures look { LooksPlainly }
+    ensures on { PlainOnByKeys }
+    ensures locked { PlainLockedByKeys }
 {}
 
 /// A modifier for which no key has a trap is on only while a key that bears it is pressed, also in a map that isn't

@@ -1,11 +1,10 @@
 -- The promises, from the laws over the two maps of a console.
-use Rattle.keymap_check.proofs.Common.{◌≡◌, ℕ, inl, inr, subst, sym, Lock, MapValue, BearsThroughout, Maps}
+use Rattle.keymap_check.proofs.Common.{◌≡◌, ℕ, inl, inr, ap, subst, sym, ◌∙◌, Lock, MapValue, BearsThroughout, Maps}
 use Rattle.keymap_check.proofs.Common.{IsPlain}
 use Rattle.std.proofs.Common.{◌⊎◌}
 use Rattle.console_core.specs.Headline.{IsSafe, HeadlineHolds, LockedByFreshPresses}
 use Rattle.console_core.specs.History.{in_force}
-use Rattle.console_core.specs.Reading.{look_after}
-use Rattle.console_core.specs.Plain.{IsPlainLook, LooksPlainly}
+use Rattle.console_core.specs.Plain.{plain_look, LooksPlainly}
 use Rattle.keymap_check.specs.Promises.{IsOnAfterOddFreshPresses, LooksPlainlyIn, KeepsPromise}
 use Rattle.keymap_core.specs.declared.action.Holding.TheVariants as holding
 
@@ -37,4 +36,4 @@ fresh_presses law m l k throughout ms h e loads keys =
 -- in a plain map each look follows from the keys
 pub looks_plainly : LooksPlainly → (m : MapValue) → IsPlain m → LooksPlainlyIn m
 looks_plainly law m plain ms h e none keys k =
-    subst (λ n. IsPlainLook n k h (look_after ms k h)) e (law ms h (subst IsPlain (sym e) plain) none keys k)
+    law ms h (subst IsPlain (sym e) plain) none keys k ∙ ap (λ n. plain_look n k h) e

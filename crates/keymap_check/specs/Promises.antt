@@ -5,7 +5,7 @@ use Rattle.keymap_check.specs.Types.{Lock, Event}
 use Rattle.keymap_core.specs.Maps.{MapValue}
 use Rattle.console_core.specs.History.{Maps, in_force, HasKeys, HasNoLoads, is_locked_after}
 use Rattle.console_core.specs.Positions.{count_where, is_odd}
-use Rattle.console_core.specs.Plain.{IsPlainLook}
+use Rattle.console_core.specs.Plain.{plain_look}
 use Rattle.console_core.specs.Reading.{look_after}
 use Rattle.console_core.specs.Headline.{IsSafe, HeadlineAfter, is_fresh_press}
 
@@ -30,4 +30,4 @@ IsOnAfterOddFreshPresses m l k =
 abbrev pub LooksPlainlyIn : MapValue → Type 0
 LooksPlainlyIn m =
     (ms : Maps) (h : List Event) → ms.first ≡ m → HasNoLoads h → HasKeys h → (k : ℕ)
-    → IsPlainLook m k h (look_after ms k h)
+    → look_after ms k h ≡ plain_look m k h

@@ -5,14 +5,14 @@
 //! [`check`] says what that gives, for every list of events, delivered to a console of `console_core`, that leaves the
 //! keymap in force:
 //!
-//! - In an accepted keymap all of the promise, as one record, `Headline` of `console_core` (`promise`): a modifier is on
-//!   only while a key that bears it is pressed; once no key is pressed, no modifier is on, and with no accent pending
-//!   the console goes on as after a reset; and what holds in every keymap.
-//! - In every keymap, by the same record, a modifier that one key alone bears throughout is on exactly while that key is
-//!   pressed, and no repeat turns a steady lock.
-//! - While no other keymap is loaded, a lock that one key alone bears throughout is on exactly after an odd number of
-//!   fresh presses of its key (`fresh_presses`). Without loads, where all that picks a cell is borne so or by nobody,
+//! - In an accepted keymap all of the promise, as one record, `KeepsPromise` (`promise`): a modifier is on only while a
+//!   key that bears it is pressed; once no key is pressed, no modifier is on, and with no accent pending the console
+//!   goes on as after a reset; and what holds in every keymap.
+//! - In every keymap a modifier that one key alone bears throughout is on exactly while that key is pressed
+//!   (`exactly_while`). While no other keymap is loaded, such a lock is on exactly after an odd number of fresh
+//!   presses of its key (`fresh_presses`), and without loads, where all that picks a cell is borne so or by nobody,
 //!   what a key looks up follows from the pressed keys and those presses (`looks_plainly`).
+//! - In every keymap no repeat turns a steady lock (`repeats`).
 //!
 //! [`demonstrate`] tries a fixed list of scripts. That it gives none for a refused keymap does not mean that the
 //! keymap cannot stick: only some traps are sure to be shown (`shown`). In a keymap without traps where nobody bears

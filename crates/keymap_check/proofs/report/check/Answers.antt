@@ -24,5 +24,5 @@ returns-clause-fresh_presses c l k e =
 
 pub returns-clause-looks_plainly : goal.returns-clause-looks_plainly
 returns-clause-looks_plainly c plain =
-    promise.looks_plainly c.looks_plainly.ensures c.args.map.now
+    promise.looks_plainly c.looks_plainly.ensures.look c.args.map.now
     (plain_bearers c.args.map.now c.check_shown.result (c.check_shown.ensures.bearers c.args.map.now refl) plain)

@@ -1,4 +1,4 @@
--- How a search ends where nothing shows: all states were met, or more than it goes over.
+-- How a search ends where nothing shows: all states were met, or too many; and what is answered in the end.
 use Rattle.std.proofs.Common.{min}
 use Rattle.keymap_diff.proofs.Clearing.{reach-done}
 use Rattle.keymap_diff.proofs.Apart.{start-told}

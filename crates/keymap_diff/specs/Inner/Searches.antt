@@ -1,5 +1,5 @@
 -- What searches found of what tells two keymaps apart. Mirrors src/searched.rt, src/nearest.rt and src/telling.rt.
-use Rattle.std.specs.Prelude.{◌≡◌, ◌⊎◌, ℕ, ◌+◌, ◌<◌, ◌≤◌, ◌^◌, Bool, false, true, List, [], ◌∷◌, ◌++◌, reverse, length}
+use Rattle.std.specs.Prelude.{◌≡◌, ◌⊎◌, ℕ, ◌+◌, ◌<◌, ◌≤◌, ◌^◌, false, true, List, [], ◌∷◌, ◌++◌, reverse, length}
 use Rattle.std.specs.Prelude.{Option, Some, None, slice_get, IfSome, MatchOption}
 use Rattle.std.specs.List.{Contains}
 use Rattle.keymap_core.specs.Maps.{MapValue}

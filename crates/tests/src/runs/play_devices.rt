@@ -98,7 +98,7 @@ fn typed_answers_that_stop_have_the_first_bytes(rt: HostRuntime) {
 #[test]
 fn long_outputs_take_few_writes(rt: HostRuntime) {
     let mut lines = Vec::new(rt.alloc());
-    for _ in 0..2000 {
+    for _ in 0..200 {
         lines.extend_from_slice(b"reset\n").expect(&rt, "memory");
     }
     let mut text = reader_of(ACCENTS, 512, usize::MAX);
@@ -108,7 +108,7 @@ fn long_outputs_take_few_writes(rt: HostRuntime) {
     let (alloc, show) = (rt.alloc(), Show::Lines);
     let answer = play_next(alloc, show, &mut text, &mut next, &mut script, &mut out);
     expect_equal(&rt, answer, Ok(()));
-    expect_equal(&rt, (out.bytes.len(), out.writes), (70_000, 2));
+    expect_equal(&rt, (out.bytes.len(), out.writes), (7_000, 1));
     let mut out = sheet_of(usize::MAX);
     let answers = [Answer::Char { c: 'é', meta: true }; 1400];
     expect_equal(&rt, typed(&answers, &mut out), Ok(()));

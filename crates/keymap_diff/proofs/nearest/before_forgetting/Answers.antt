@@ -1,4 +1,4 @@
-use Rattle.keymap_diff.proofs.Common.{length, subst, slice_get_within, alone}
+use Rattle.keymap_diff.proofs.Common.{length, subst, slice_get_within}
 use Rattle.console_states.specs.Searching.{AreSafe, IsStuck}
 use Rattle.keymap_diff.proofs.Ending.{forgetting-limit, forgets-none}
 use Rattle.keymap_diff.proofs.nearest.before_forgetting.Goals as goal

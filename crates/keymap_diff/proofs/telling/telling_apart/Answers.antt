@@ -1,5 +1,5 @@
 use Rattle.std.proofs.Common.{rules}
-use Rattle.keymap_diff.proofs.Common.{◌≡◌, ℕ, ◌<◌, ◌≤◌, true, inl, inr, [], ◌∷◌, Some, None, length}
+use Rattle.keymap_diff.proofs.Common.{◌≡◌, ℕ, ◌≤◌, true, inl, inr, [], ◌∷◌, None, length}
 use Rattle.keymap_diff.proofs.Common.{sym, subst, arith, cases_lt, slice_get_within, MapValue, reverse, Shows, usable}
 use Rattle.keymap_diff.proofs.Common.{IsAccentClear}
 use Rattle.console_states.proofs.Searching.{place_last}

@@ -1,4 +1,4 @@
-use Rattle.std.proofs.Common.{ℕ, ◌+◌, arith, refl, subst}
+use Rattle.std.proofs.Common.{ℕ, arith, refl, subst}
 use Rattle.keymap_diff.proofs.Common.{start, slice_get_within}
 use Rattle.keymap_diff.proofs.Clearing.{behind-clear}
 use Rattle.keymap_diff.proofs.Offers.{if-both, within-less}

@@ -9,12 +9,10 @@ pub use Rattle.console_states.specs.Sights.{AreSightsOf, IsReachable, SeesAlong}
 pub use Rattle.console_core.specs.declared.event.Event.{Event}
 pub use Rattle.console_states.specs.declared.selection.Sight.{Sight}
 pub use Rattle.keymap_core.specs.Maps.{MapValue}
-pub use Rattle.keymap_cover.specs.Covering.{SeesKeysBy, SeesToldBy}
-pub use Rattle.keymap_cover.specs.Inner.Adding.{ArePartsBelow, StandBehind}
+pub use Rattle.keymap_cover.specs.Covering.{HoldParts, IsSeenBy, SeesKeysBy, SeesToldBy}
 pub use Rattle.keymap_cover.specs.Inner.Pairs.{base_pair, pairs_at, pairs_in}
 pub use Rattle.keymap_cover.specs.Inner.Scripts.{AddsPair, AreUp, ComesAfter, GoesAlong, GoesAlongToRest}
 pub use Rattle.keymap_cover.specs.Inner.Scripts.{GoesOn, GoesResting, GoesUnderWay, IsScript, Standing}
-pub use Rattle.keymap_cover.specs.Parts.{AreParts, part_place}
 pub use Rattle.keymap_cover.specs.SeenSights.{has_seen, is_pair}
 pub use Rattle.keymap_cover.specs.SightLists.{cell_at_place, cell_place, lock_setting_at_place, lock_setting_place}
 unfoldable pub use Rattle.keymap_cover.specs.SightLists.{all_cells, all_lock_settings}

@@ -2,12 +2,11 @@
 use Rattle.keymap_cover.proofs.Common.{◌≡◌, ◌⊎◌, inl, inr, Bool, true, List, subst, sym, ◌∙◌, arith, length, reverse}
 use Rattle.keymap_cover.proofs.Common.{IsPair, IsReachable, IsTold, Sight}
 use Rattle.keymap_cover.proofs.Common.{MapValue, Event, SeesAlong, AreSightsOf, events_of, has_seen, IsScript}
-use Rattle.keymap_cover.proofs.Common.{AreUp, AreParts, ScriptEvent}
+use Rattle.keymap_cover.proofs.Common.{AreUp, HoldParts, ScriptEvent, ℕ}
 use Rattle.std.proofs.lemmas.List.{take_all}
 use Rattle.console_core.specs.History.{HasKeys}
 use Rattle.keymap_cover.specs.declared.parts.Cover.{Cover}
 use Rattle.keymap_cover.specs.Covering.{CannotSee, IsAtRest, IsScrollOff, Covers}
-use Rattle.keymap_cover.specs.Inner.Scripts.{ShowsInParts}
 use Rattle.keymap_cover.proofs.Showing.{sees-more}
 
 pub script-covers : (m : MapValue) (h : List Event) (c : Cover) (down : List Bool)
@@ -15,8 +14,8 @@ pub script-covers : (m : MapValue) (h : List Event) (c : Cover) (down : List Boo
     → ((x : Sight) → IsTold m x → (IsPair x → ⊥) → IsReachable m x → (has_seen c.seen x ≡ true) ⊎ CannotSee m h x)
     → AreUp down
     → AreSightsOf m c.sights
-    → AreParts c.starts.items (length c.events.items) → ShowsInParts m c.events.items c.starts.items → Covers m c
-script-covers m h c down t (rest, off) ahead up are parts (first, second, keys, told, le, behind) = record {
+    → ((first second third : ℕ) × HoldParts m c.events.items c.starts.items first second third) → Covers m c
+script-covers m h c down t (rest, off) ahead up are (first, second, third, parts) = record {
   seen = λ x has. subst (λ g. SeesAlong m g x) (sym t.history) (t.seen x has);
   all_seen = λ x along. t.all_seen x (subst (λ g. SeesAlong m g x) t.history along);
   sights = are;
@@ -25,17 +24,14 @@ script-covers m h c down t (rest, off) ahead up are parts (first, second, keys, 
   rest = subst (λ g. IsAtRest m g) (sym t.history) rest;
   up = λ k lt. sym (t.pressed k lt) ∙ up k lt;
   scroll = subst (λ g. IsScrollOff m g) (sym t.history) off;
-  parts = parts;
+  parts = (first, second, third, parts);
   complete = λ x has can.
       subst (λ z. SeesAlong m (events_of (reverse z)) x) (take_all (length events) events (omega arith))
-      (sees-more m events second (length events) x le (told x has can));
+      (sees-more m events second (length events) x (omega (arith, parts.in_order)) (parts.pairs x has can));
   onward = λ x told key can unseen. elim (ahead x told key can) [
     | inl was ↦ absurd (unseen (subst (λ g. SeesAlong m g x) (sym t.history) (t.seen x was)))
     | inr none ↦ subst (λ g. CannotSee m g x) (sym t.history) none
   ];
-  cells = λ s among later x has key can.
-      sees-more m events first s.at x ((behind s among).0 later) (keys x has key can);
-  pairs = λ s among later x has can. sees-more m events second s.at x ((behind s among).1 later) (told x has can);
 }
   where
     events : List ScriptEvent

@@ -9,5 +9,4 @@ pub mod Showing
 pub mod Telling
 pub mod Scripts
 pub mod Walking
-mod Ordered
 mod Verdicts

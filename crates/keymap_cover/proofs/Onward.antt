@@ -5,7 +5,7 @@ use Rattle.keymap_cover.proofs.Common.{◌∷◌, ◌++◌, Option, None, Some, 
 use Rattle.keymap_cover.proofs.Common.{filter, length, not, reverse, reverse-append, true≢false}
 use Rattle.keymap_cover.proofs.Common.{Contains, MapValue, Event, Sight, Script, Standing, alone, between, has_seen}
 use Rattle.keymap_cover.proofs.Common.{all_cells, all_lock_settings, AreTaken, SeesAlong}
-use Rattle.keymap_cover.proofs.Common.{ComesAfter}
+use Rattle.keymap_cover.proofs.Common.{◌<◌, ComesAfter, Contains-append_left, pairs_in}
 use Rattle.keymap_cover.proofs.Common.{AreSightsOf, IsPair, IsReachable, IsTold, AreUp, GoesAlongToRest, GoesResting}
 use Rattle.keymap_core.specs.declared.action.Lock.{Lock}
 use Rattle.console_core.specs.History.{is_locked_after, HasKeys, HasNoLoads}
@@ -21,7 +21,9 @@ use Rattle.console_states.specs.Sights.{SeesBy, SeesNext, IsPendingFor, selectio
 use Rattle.console_states.proofs.Going.{going-sees}
 use Rattle.console_states.proofs.Scripts.{holder-pressed}
 use Rattle.console_states.proofs.Standing.{stands-from}
-use Rattle.console_states.proofs.Visible.{all-seen}
+use Rattle.std.proofs.lemmas.Bool.{and_parts, false_from_ne_true}
+use Rattle.console_states.proofs.Visible.{all-seen, sees-all}
+use Rattle.console_states.specs.Sights.{can_see}
 use Rattle.console_states.proofs.Visits.{near-path, press-presses}
 use Rattle.console_scripts.specs.declared.onward.Onward.{Onward}
 use Rattle.console_scripts.specs.Inner.Showing.{IsAt}
@@ -32,8 +34,8 @@ use Rattle.keymap_cover.specs.Covering.{IsScrollOff}
 use Rattle.keymap_cover.specs.Inner.OneWay.{is_left, AreKeys, AreLeft, GoesLeaving, GoesToNext, SeesRest}
 use Rattle.keymap_cover.specs.Inner.Scripts.{GoesScrollOff, GoesToEnd, IsResting, TurnsNone}
 use Rattle.keymap_cover.proofs.Showing.{script-loads, seen-still, sees-longer}
-use Rattle.keymap_cover.proofs.Left.{filter-fewer, filter-has, filter-of, no-pairs}
-use Rattle.keymap_cover.proofs.Telling.{key-told}
+use Rattle.keymap_cover.proofs.Left.{filter-fewer, filter-has, filter-of, filter-passes, no-pairs}
+use Rattle.keymap_cover.proofs.Telling.{all-told, key-told}
 use Rattle.keymap_cover.proofs.Walking.{after-more}
 
 -- ---- a press onward
@@ -259,27 +261,73 @@ rounds-all s m xs ys a b n first all h at off =
       ]),
     )
 
+-- what can be seen of the cells and lock settings was seen, or is left
+left-or : {T : Type 0} (m : MapValue) (sights : Sights) (left : List Sight) (a : Script T) → AreSightsOf m sights
+    → left ≡ filter (is_left m a.seen sights) (all_cells ++ all_lock_settings) → (x : Sight) → IsTold m x
+    → (IsPair x → ⊥) → IsReachable m x
+    → (has_seen a.seen x ≡ true) ⊎ Contains left x
+left-or m sights left a are is x told key can = by (has_seen a.seen x) refl
+  where
+    by : (t : Bool) → has_seen a.seen x ≡ t → (has_seen a.seen x ≡ true) ⊎ Contains left x
+    by true e = inl e
+    by false e =
+        inr (subst (λ z. Contains z x) (sym is)
+        (filter-has (is_left m a.seen sights) (all_cells ++ all_lock_settings) x (key-told m x told key)
+        (rw e (all-seen m sights are x can))))
+
+-- nothing is left
+pub ends-there : {T : Type 0} (s : Standing T) (m : MapValue) (sights : Sights) (left : List Sight) (a : Script T)
+    → AreSightsOf m sights → left ≡ filter (is_left m a.seen sights) (all_cells ++ all_lock_settings)
+    → length left ≡ 0 → GoesToEnd m s a a
+ends-there s m sights left a are is none h at off = (
+  h,
+  at,
+  ([], refl),
+  off,
+  (λ x told key can. elim (left-or m sights left a are is x told key can) [
+    | inl was ↦ inl was
+    | inr (n, lt, here) ↦ absurd (omega (arith, lt, none))
+  ]),
+  inl refl,
+)
+
+some-left : (xs : List Sight) → 0 < length xs → (x : Sight) × Contains xs x
+some-left [] lt = absurd (omega (arith, lt))
+some-left (x ∷ xs) lt = (x, (0, omega arith, refl))
+
 -- Of what can be seen nothing is left, or no moves lead to it.
 pub goes-to_end : {T : Type 0} (s : Standing T) (m : MapValue) (sights : Sights) (left rest : List Sight)
     (a b d e : Script T) → AreSightsOf m sights
-    → left ≡ filter (is_left m a.seen sights) (all_cells ++ all_lock_settings) → GoesLeaving m s left a b rest
-    → GoesScrollOff m s b d → (AreKeys rest → SeesRest m s rest d e) → GoesToEnd m s a e
-goes-to_end s m sights left rest a b d e are is first scrolled further h at =
+    → left ≡ filter (is_left m a.seen sights) (all_cells ++ all_lock_settings) → 0 < length left
+    → GoesLeaving m s left a b rest → GoesScrollOff m s b d → (AreKeys rest → SeesRest m s rest d e)
+    → GoesToEnd m s a e
+goes-to_end s m sights left rest a b d e are is some first scrolled further h at was_off =
     let (g, v, after, (each, of)) = first h at in
     let (f, u, more, off) = scrolled g v in
     let (k, w, last, there, all) = further (λ x has pair. no-pairs x (listed x (of x has)) pair) f u off in
-    let on : ComesAfter g k = after-more g f k more last in (
+    let on : ComesAfter g k = after-more g f k more last in
+    let (x, has) = some-left left some in
+    let p =
+    and_parts (not (has_seen a.seen x)) (can_see m sights x)
+    (filter-passes (is_left m a.seen sights) keys x (subst (λ z. Contains z x) is has)) in (
       k,
       w,
       after-more h g k after on,
       there,
-      (λ x told key can. elim (among x told key can) [
+      (λ x told key can. elim (left-or m sights left a are is x told key can) [
         | inl was ↦ inl (seen-still m h k a e x at.0.1 w.0.1 (after-more h g k after on) was)
         | inr has ↦ elim (each x has) [
           | inl was ↦ inl (seen-still m g k b e x v.0.1 w.0.1 on was)
           | inr still ↦ all x still
         ]
       ]),
+      inr (
+        x,
+        (all-told m (keys ++ pairs_in m) refl x).1 (Contains-append_left keys (pairs_in m) x (listed x has)),
+        no-pairs x (listed x has),
+        sees-all m sights are x p.1,
+        false_from_ne_true (has_seen a.seen x) (λ was. true≢false (sym p.0 ∙ ap not was)),
+      ),
     )
   where
     keys : List Sight
@@ -287,12 +335,3 @@ goes-to_end s m sights left rest a b d e are is first scrolled further h at =
 
     listed : (x : Sight) → Contains left x → Contains keys x
     listed x has = filter-of (is_left m a.seen sights) keys x (subst (λ z. Contains z x) is has)
-
-    among : (x : Sight) → IsTold m x → (IsPair x → ⊥) → IsReachable m x → (has_seen a.seen x ≡ true) ⊎ Contains left x
-    among x told key can = by (has_seen a.seen x) refl
-      where
-        by : (t : Bool) → has_seen a.seen x ≡ t → (has_seen a.seen x ≡ true) ⊎ Contains left x
-        by true e = inl e
-        by false e =
-            inr (subst (λ z. Contains z x) (sym is) (filter-has (is_left m a.seen sights) keys x (key-told m x told key)
-            (rw e (all-seen m sights are x can))))

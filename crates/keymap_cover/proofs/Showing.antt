@@ -2,7 +2,11 @@
 use Rattle.std.proofs.Common.{rules}
 use Rattle.keymap_cover.proofs.Common.{suc, ◌≡◌, ℕ, ◌+◌, ◌<◌, ◌≤◌, true, false, List, [], ◌∷◌, ◌++◌, Some, refl}
 use Rattle.keymap_cover.proofs.Common.{ap, subst, sym, inl, inr, ◌∙◌, arith, append_assoc, length, get_or, reverse}
-use Rattle.keymap_cover.proofs.Common.{Contains, eqb-true, eq-eqb}
+use Rattle.keymap_cover.proofs.Common.{Contains, eqb-true, eq-eqb, true≢false, IsSeenBy, HoldParts}
+use Rattle.std.proofs.lemmas.Bool.{false_from_ne_true}
+use Rattle.std.proofs.lemmas.List.Elements.{Contains-append_right}
+use Rattle.keymap_cover.specs.declared.parts.Start.{Start}
+use Rattle.keymap_cover.specs.Parts.{starts_at}
 use Rattle.keymap_cover.proofs.Common.{get_or_default, All-nil, All-cons, Contains-append_cases, MapValue, Event, Sight}
 use Rattle.keymap_cover.proofs.Common.{Standing, SeesAlong, IsReachable, CanVisit, ScriptEvent, Script}
 use Rattle.keymap_cover.proofs.Common.{has_seen, take}
@@ -17,9 +21,9 @@ use Rattle.keymap_core.specs.declared.action.Lock.TheVariants.{Caps, Num, Alt}
 use Rattle.console_core.specs.History.{HasNoLoads, IsNoLoad}
 use Rattle.console_scripts.specs.Visiting.{EndsSeeing, HasLocks, ExplorerValue, TurnsScrollOff, Visits}
 use Rattle.keymap_cover.specs.Covering.{IsScrollOff}
-use Rattle.keymap_cover.specs.Inner.Scripts.{RunsAlong, IsScriptOf, IsUnderWay, SeesAll, ShowsTold}
+use Rattle.keymap_cover.specs.Inner.Scripts.{RunsAlong, IsScriptOf, IsUnderWay, SeesAll, ShowsNew, ShowsTold}
 use Rattle.keymap_cover.specs.Inner.Scripts.{EndsAtRest, GoesScrollOff, GoesToEnd, IsResting}
-use Rattle.keymap_cover.proofs.Telling.{all-told, key-told}
+use Rattle.keymap_cover.proofs.Telling.{all-told, are-pairs, key-told}
 use Rattle.keymap_cover.proofs.Scripts.{at-rest_new}
 use Rattle.keymap_cover.proofs.Walking.{after-more}
 use Rattle.keymap_cover.specs.declared.script_event.ScriptEvent.TheVariants as script_event
@@ -93,22 +97,43 @@ pub holds-more : (xs : List Sight) (i : ℕ) (d : Sight) (P : Sight → Type 0) 
     → P x
 holds-more xs i d P within here before n x lt at = grind (arith, eqb-true, get_or_default, eq-eqb)
 
+-- something new is seen, and then more
+shows-more : {T : Type 0} (xs : List Sight) (y : Sight) (a b c : Script T) → Contains xs y
+    → ((x : Sight) → has_seen a.seen x ≡ true → has_seen b.seen x ≡ true)
+    → ((x : Sight) → has_seen b.seen x ≡ true → has_seen c.seen x ≡ true) → ShowsNew (Contains xs) a b
+    → ShowsNew (λ x. y ≡ x) b c
+    → ShowsNew (Contains xs) a c
+shows-more xs y a b c has first next (inr (x, among, unseen, saw)) later = inr (x, among, unseen, next x saw)
+shows-more xs y a b c has first next (inl e) (inl f) = inl (f ∙ e)
+shows-more xs y a b c has first next (inl e) (inr (x, is, unseen, saw)) = inr (
+  x,
+  subst (λ z. Contains xs z) is has,
+  false_from_ne_true (has_seen a.seen x) (λ was. true≢false (sym (first x was) ∙ unseen)),
+  saw,
+)
+
 -- what holds of the sights before a place, and of that at the place, as the script goes on
 pub all-more : {T : Type 0} (s : Standing T) (m : MapValue) (p : ExplorerValue) (a : Script T) (q : ExplorerValue)
     (b : Script T) (r : ExplorerValue) (c : Script T) (xs : List Sight) (i : ℕ) (d : Sight) → i < length xs
-    → GoesUnderWay m s p a q b ((n : ℕ) (x : Sight) → n < i → get_or xs n x ≡ x → CanVisit m x
-    → has_seen b.seen x ≡ true)
-    → GoesUnderWay m s q b r c (CanVisit m (get_or xs i d) → has_seen c.seen (get_or xs i d) ≡ true)
-    → GoesUnderWay m s p a r c ((n : ℕ) (x : Sight) → n < i + 1 → get_or xs n x ≡ x → CanVisit m x
-    → has_seen c.seen x ≡ true)
+    → GoesUnderWay m s p a q b (((n : ℕ) (x : Sight) → n < i → get_or xs n x ≡ x → CanVisit m x
+    → has_seen b.seen x ≡ true) × ShowsNew (Contains xs) a b)
+    → GoesUnderWay m s q b r c ((CanVisit m (get_or xs i d) → has_seen c.seen (get_or xs i d) ≡ true)
+    × ShowsNew (λ x. get_or xs i d ≡ x) b c)
+    → GoesUnderWay m s p a r c (((n : ℕ) (x : Sight) → n < i + 1 → get_or xs n x ≡ x → CanVisit m x
+    → has_seen c.seen x ≡ true) × ShowsNew (Contains xs) a c)
 all-more s m p a q b r c xs i d lt first next h w =
-    let (g, v, after, before) = first h w in
-    let (f, u, more, here) = next g v in (
+    let (g, v, after, (before, new)) = first h w in
+    let (f, u, more, (here, newer)) = next g v in (
       f,
       u,
       after-more h g f after more,
-      holds-more xs i d (λ x. CanVisit m x → has_seen c.seen x ≡ true) lt here
-          (λ n x below at can. seen-still m g f b c x v.0.0.1 u.0.0.1 more (before n x below at can)),
+      (
+        holds-more xs i d (λ x. CanVisit m x → has_seen c.seen x ≡ true) lt here
+            (λ n x below at can. seen-still m g f b c x v.0.0.1 u.0.0.1 more (before n x below at can)),
+        shows-more xs (get_or xs i d) a b c (i, lt, get_or_default xs i (get_or xs i d) d lt)
+            (λ x. seen-still m h g a b x w.0.0.1 v.0.0.1 after) (λ x. seen-still m g f b c x v.0.0.1 u.0.0.1 more) new
+            newer,
+      ),
     )
 
 -- ---- the whole script
@@ -201,6 +226,24 @@ seen-by : {T : Type 0} (m : MapValue) (h : List Event) (t : Script T) (x : Sight
     → has_seen t.seen x ≡ true → SeesAlong m (events_of (reverse (take (length t.events.items) t.events.items))) x
 seen-by m h t x script has = search (rules, take_all)
 
+-- and that alone
+by-seen : {T : Type 0} (m : MapValue) (h : List Event) (t : Script T) (x : Sight) → IsScriptOf m h t
+    → IsSeenBy m t.events.items (length t.events.items) x → has_seen t.seen x ≡ true
+by-seen m h t x script sees =
+    script.all_seen x (subst (λ z. SeesAlong m z x)
+    (ap (λ z. events_of (reverse z)) (take_all (length t.events.items) t.events.items (omega arith)) ∙ script.history)
+    sees)
+
+-- what a script that goes on sees by as many events is what was seen
+seen-first : {T : Type 0} (m : MapValue) (h g : List Event) (a b : Script T) (x : Sight) → IsScriptOf m h a
+    → IsScriptOf m g b → ComesAfter h g → has_seen a.seen x ≡ false
+    → IsSeenBy m b.events.items (length a.events.items) x → ⊥
+seen-first m h g a b x before now after unseen sees =
+    true≢false
+    (sym (by-seen m h a x before (subst (λ z. SeesAlong m z x)
+    (sym (first-still m h g a b (length a.events.items) before now after (omega arith))) sees))
+    ∙ unseen)
+
 -- ---- what is told of
 
 -- what can be visited can be seen
@@ -211,11 +254,12 @@ can-see m x (path, is, can, (k, lt, sees, back)) = (path, is, can, (k, lt, sees)
 pub told-shown : {T : Type 0} (s : Standing T) (m : MapValue) (p : ExplorerValue) (a : Script T) (q : ExplorerValue)
     (b : Script T) (r : ExplorerValue) (d : Script T) (xs ys : List Sight) (n : ℕ)
     → xs ≡ all_cells ++ all_lock_settings → ys ≡ pairs_in m → n ≡ length b.events.items
-    → GoesUnderWay m s p a q b (SeesAll m xs b) → GoesUnderWay m s q b r d (SeesAll m ys d)
+    → GoesUnderWay m s p a q b (SeesAll m xs b × ShowsNew (Contains xs) a b)
+    → GoesUnderWay m s q b r d (SeesAll m ys d × ShowsNew (Contains ys) b d)
     → GoesUnderWay m s p a r d (ShowsTold m n d)
 told-shown s m p a q b r d xs ys n keys pairs is first second h w =
-    let (g, v, after, seen) = first h w in
-    let (f, u, more, all) = second g v in
+    let (g, v, after, (seen, old)) = first h w in
+    let (f, u, more, (all, new)) = second g v in
     let longer = script-longer m g f b d v.0.0.1 u.0.0.1 more in
     let same =
     first-still m g f b d (length b.events.items) v.0.0.1 u.0.0.1 more (omega arith) in
@@ -223,7 +267,9 @@ told-shown s m p a q b r d xs ys n keys pairs is first second h w =
     λ x told key can.
     subst (λ z. SeesAlong m z x) same
     (seen-by m g b x v.0.0.1
-    (seen x (subst (λ z. Contains z x) (sym keys) (key-told m x told key)) can)) in (
+    (seen x (subst (λ z. Contains z x) (sym keys) (key-told m x told key)) can)) in
+    let told_all = all-told m (xs ++ ys) (ap (λ z. z ++ ys) keys
+    ∙ ap (λ z. (all_cells ++ all_lock_settings) ++ z) pairs) in (
       f,
       u,
       after-more h g f after more,
@@ -232,12 +278,21 @@ told-shown s m p a q b r d xs ys n keys pairs is first second h w =
         subst (λ k. SeesKeysBy m d.events.items k) (sym is) by_keys,
         (λ x told can.
             seen-by m f d x u.0.0.1
-            (elim (Contains-append_cases xs ys x
-            ((all-told m (xs ++ ys) (ap (λ z. z ++ ys) keys
-            ∙ ap (λ z. (all_cells ++ all_lock_settings) ++ z) pairs) x).0 told)) [
+            (elim (Contains-append_cases xs ys x ((told_all x).0 told)) [
               | inl key ↦ seen-still m g f b d x v.0.0.1 u.0.0.1 more (seen x key can)
               | inr pair ↦ all x pair can
             ])),
+        (λ some. elim new [
+          | inl e ↦ let none = ap (λ z. length z) e in absurd (omega (arith, some, is, none))
+          | inr (x, has, unseen, saw) ↦ (
+            x,
+            (told_all x).1 (Contains-append_right xs ys x has),
+            are-pairs m x (subst (λ z. Contains z x) pairs has),
+            subst (λ k. IsSeenBy m d.events.items k x → ⊥) (sym is)
+                (seen-first m g f b d x v.0.0.1 u.0.0.1 more unseen),
+            seen-by m f d x u.0.0.1 saw,
+          )
+        ]),
       ),
     )
 
@@ -259,22 +314,50 @@ walks-off s m later h a b at walk up (taken, off) = search rules
 
 -- what is told of is seen, and then the script goes further, and onward
 pub script-whole : {T : Type 0} (s : Standing T) (m : MapValue) (p : ExplorerValue) (a : Script T) (q : ExplorerValue)
-    (b d e : Script T) (n : ℕ) → IsUnderWay m s [] p a → GoesUnderWay m s p a q b (ShowsTold m n b)
-    → GoesScrollOff m s b d → GoesToEnd m s d e
-    → EndsAtRest m e × SeesKeysBy m e.events.items n × SeesToldBy m e.events.items (length b.events.items)
-    × (n ≤ length b.events.items) × (length b.events.items ≤ length d.events.items)
-    × (length d.events.items ≤ length e.events.items)
-script-whole s m p a q b d e n new shown further onward =
-    let (g, w, after, (le, keys, told)) = shown [] new in
+    (b d e : Script T) (starts : List Start) (first second third last : ℕ) → IsUnderWay m s [] p a
+    → GoesUnderWay m s p a q b (ShowsTold m first b) → GoesScrollOff m s b d → GoesToEnd m s d e
+    → second ≡ length b.events.items → third ≡ length d.events.items → last ≡ length e.events.items
+    → starts ≡ starts_at first second third last
+    → EndsAtRest m e × HoldParts m e.events.items starts first second third
+script-whole s m p a q b d e starts first second third last new shown further onward at_second at_third at_last is =
+    let (g, w, after, (le, keys, told, new_pair)) = shown [] new in
     let (f, resting, more, scrolled) = further g w.0 in
-    let (k, (end, ups, still), last, off, ahead) = onward f resting in
-    let all = after-more g f k more last in
-    let same = first-still m g k b e n w.0.0.1 end.1 all le in
-    let same_all = first-still m g k b e (length b.events.items) w.0.0.1 end.1 all (omega arith) in (
+    let (k, (end, ups, still), behind, off, ahead, left) = onward f resting scrolled in
+    let all = after-more g f k more behind in
+    let same = first-still m g k b e first w.0.0.1 end.1 all le in
+    let same_all = first-still m g k b e (length b.events.items) w.0.0.1 end.1 all (omega arith) in
+    let to_third = script-longer m g f b d w.0.0.1 resting.0.1 more in
+    let to_last = script-longer m f k d e resting.0.1 end.1 behind in (
       (ups, (k, end.1, still, off, ahead)),
-      (λ x has key can. subst (λ z. SeesAlong m z x) same (keys x has key can)),
-      (λ x has can. subst (λ z. SeesAlong m z x) same_all (told x has can)),
-      le,
-      script-longer m g f b d w.0.0.1 resting.0.1 more,
-      script-longer m f k d e resting.0.1 end.1 last,
+      record {
+        begins = is ∙ ap (λ n. starts_at first second third n) at_last;
+        in_order = (
+          omega (arith, le, at_second),
+          omega (arith, at_second, at_third, to_third),
+          omega (arith, at_third, to_last),
+        );
+        cells = λ x has key can. subst (λ z. SeesAlong m z x) same (keys x has key can);
+        pairs = subst (λ n. SeesToldBy m e.events.items n) (sym at_second)
+            (λ x has can. subst (λ z. SeesAlong m z x) same_all (told x has can));
+        pair = λ some.
+            let (x, has, pair, unseen, sees) = new_pair (omega (arith, some, at_second)) in (
+              x,
+              has,
+              pair,
+              (λ by. unseen (subst (λ z. SeesAlong m z x) (sym same) by)),
+              subst (λ n. IsSeenBy m e.events.items n x) (sym at_second) (subst (λ z. SeesAlong m z x) same_all sees),
+            );
+        left = λ some. elim left [
+          | inl none ↦
+              let as_many = ap (λ z. length z) none in absurd (omega (arith, some, at_third, as_many))
+          | inr (x, has, key, can, unseen) ↦ (
+            x,
+            has,
+            key,
+            can,
+            subst (λ n. IsSeenBy m e.events.items n x → ⊥) (sym at_third)
+                (seen-first m f k d e x resting.0.1 end.1 behind unseen),
+          )
+        ];
+      },
     )

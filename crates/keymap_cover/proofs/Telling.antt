@@ -163,6 +163,13 @@ pair-of i (Some a) x has = by-own (a.own == 0) refl has
         let (p, among, is) = map-of (base_pair i) a.pairs x (k, omega (arith, lt), at) in
         (p.0, is, ap not e, inr (p, among, refl))
 
+-- the pairs are pairs
+pub are-pairs : (m : MapValue) (x : Sight) → Contains (pairs_in m) x → IsPair x
+are-pairs m x has =
+    let (i, among, there) = flat-of (pairs_at m) (range_with_len 0 (length m.accents)) x has in
+    let (c, is, own, base) = pair-of i (accent_at m i) x there in
+    subst IsPair is tt
+
 pub usable-some : (o : Option AccentValue) → has_own o ≡ true → (a : AccentValue) × (o ≡ Some a)
 usable-some None e = absurd (true≢false (sym e))
 usable-some (Some a) e = (a, refl)

@@ -1,8 +1,8 @@
 -- What a script covers.
-use Rattle.std.specs.Prelude.{◌≡◌, ◌⊎◌, ℕ, ◌<◌, Bool, true, false, List, All, length, Option, None, Some, reverse}
+use Rattle.std.specs.Prelude.{◌≡◌, ◌⊎◌, ℕ, ◌<◌, ◌≤◌, Bool, true, false, List, All, length, Option, None, Some, reverse}
 use Rattle.std.specs.Prelude.{take}
 use Rattle.std.specs.Prelude.{if◌then◌else◌}
-use Rattle.std.specs.List.{Contains, count_by}
+use Rattle.std.specs.List.{count_by}
 use Rattle.keymap_core.specs.declared.action.Lock.TheVariants.{Scroll}
 use Rattle.keymap_core.specs.declared.action.Modifier.{Modifier}
 use Rattle.keymap_core.specs.Maps.{MapValue}
@@ -16,7 +16,6 @@ use Rattle.console_scripts.specs.Visiting.{CanVisit, CannotScroll, IsPair, SeesF
 use Rattle.console_states.specs.Sticking.{ReachesMoreThan, ReachesMoreThanFrom, state_limit}
 use Rattle.console_states.specs.Sights.{SeesNext, SeesAlong, IsAdmitted, IsClean, IsReachable, AreSightsOf, can_see}
 use Rattle.keymap_cover.specs.declared.parts.Cover.{Cover}
-use Rattle.keymap_cover.specs.declared.parts.Part.TheVariants.{Cells, Pairs}
 use Rattle.keymap_cover.specs.declared.parts.Start.{Start}
 use Rattle.keymap_cover.specs.declared.script_event.ScriptEvent.{ScriptEvent}
 use Rattle.keymap_cover.specs.declared.parts.Counts.{Counts}
@@ -25,7 +24,7 @@ use Rattle.keymap_cover.specs.declared.parts.Verdict.TheVariants.{Seen, LeftOut,
 use Rattle.keymap_cover.specs.SeenSights.{has_seen}
 use Rattle.keymap_cover.specs.ScriptEvents.{events_of, is_down, ArePossible}
 use Rattle.keymap_cover.specs.Told.{IsTold}
-use Rattle.keymap_cover.specs.Parts.{AreParts, part_place}
+use Rattle.keymap_cover.specs.Parts.{starts_at}
 
 -- the events of the script, with the newest first
 abbrev pub history : Cover → List Event
@@ -45,15 +44,37 @@ abbrev pub CannotSee : MapValue → List Event → Sight → Type 0
 CannotSee m h x =
     SeesFrom m (resting_after m h) x → (p : ℕ) × ReachesMoreThanFrom (alone m) (resting_after m h) state_limit p
 
+-- some press of the first n events sees it
+abbrev pub IsSeenBy : MapValue → List ScriptEvent → ℕ → Sight → Type 0
+IsSeenBy m events n x = SeesAlong m (events_of (reverse (take n events))) x
+
 -- what the first n events see of the cells and lock settings that can be visited: all of it
 abbrev pub SeesKeysBy : MapValue → List ScriptEvent → ℕ → Type 0
-SeesKeysBy m events n =
-    (x : Sight) → IsTold m x → (IsPair x → ⊥) → CanVisit m x → SeesAlong m (events_of (reverse (take n events))) x
+SeesKeysBy m events n = (x : Sight) → IsTold m x → (IsPair x → ⊥) → CanVisit m x → IsSeenBy m events n x
 
 -- what the first n events see of all that is told of and can be visited: all of it
 abbrev pub SeesToldBy : MapValue → List ScriptEvent → ℕ → Type 0
-SeesToldBy m events n =
-    (x : Sight) → IsTold m x → CanVisit m x → SeesAlong m (events_of (reverse (take n events))) x
+SeesToldBy m events n = (x : Sight) → IsTold m x → CanVisit m x → IsSeenBy m events n x
+
+-- a pair that is told of is seen by the second events, and not by the first of them
+abbrev pub ShowsPair : MapValue → List ScriptEvent → ℕ → ℕ → Type 0
+ShowsPair m events first second =
+    (x : Sight) × IsTold m x × IsPair x × (IsSeenBy m events first x → ⊥) × IsSeenBy m events second x
+
+-- What the parts of a script hold: that of cells ends behind the first events, that of pairs behind the second, and
+-- that of trials behind the third.
+pub record HoldParts (m : MapValue) (events : List ScriptEvent) (starts : List Start) (first second third : ℕ)
+    : Type 0 where
+  pub begins : starts ≡ starts_at first second third (length events)
+  pub in_order : (first ≤ second) × (second ≤ third) × (third ≤ length events)
+  -- behind the cells each cell and lock setting that can be visited was seen, and behind the pairs each pair too
+  pub cells : SeesKeysBy m events first
+  pub pairs : SeesToldBy m events second
+  -- the pairs are there only where they show one that wasn't seen
+  pub pair : first < second → ShowsPair m events first second
+  -- and what one-way turns lead to only where a cell or a lock setting can be seen that wasn't
+  pub left : third < length events
+      → (x : Sight) × IsTold m x × (IsPair x → ⊥) × IsReachable m x × (IsSeenBy m events third x → ⊥)
 
 -- What a script and its lists say.
 pub record Covers (m : MapValue) (c : Cover) : Type 0 where
@@ -69,19 +90,13 @@ pub record Covers (m : MapValue) (c : Cover) : Type 0 where
   pub rest : IsAtRest m (history c)
   pub up : (k : ℕ) → k < key_count → is_down k (reverse c.events.items) ≡ false
   pub scroll : IsScrollOff m (history c)
-  -- the parts of the script begin in their order, the first before all events, and each has an event
-  pub parts : AreParts c.starts.items (length c.events.items)
+  -- the parts begin in their order, each with its events
+  pub parts : (first second third : ℕ) × HoldParts m c.events.items c.starts.items first second third
   -- nothing that is told of and can be visited is left out
   pub complete : (x : Sight) → IsTold m x → CanVisit m x → SeesAlong m (history c) x
   -- at the end no moves lead to a press that sees one of the cells and lock settings that can be seen and were not
   pub onward : (x : Sight) → IsTold m x → (IsPair x → ⊥) → IsReachable m x → (SeesAlong m (history c) x → ⊥)
       → CannotSee m (history c) x
-  -- before a part behind that of cells begins, each cell and lock setting that can be visited was seen; and before one
-  -- behind that of pairs, each pair too
-  pub cells : (s : Start) → Contains c.starts.items s → part_place Cells < part_place s.part
-      → SeesKeysBy m c.events.items s.at
-  pub pairs : (s : Start) → Contains c.starts.items s → part_place Pairs < part_place s.part
-      → SeesToldBy m c.events.items s.at
 
 -- No press after a list that is spoken of sees it: after any list of presses, releases and resets, or, where a holder
 -- looks up a character in a state that a path leads to, after any clean one.

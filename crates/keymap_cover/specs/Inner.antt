@@ -1,5 +1,4 @@
 -- What mirrors functions of the code. Private contracts cite it; no public clause does.
 pub mod Scripts
 pub mod Pairs
-pub mod Adding
 pub mod OneWay

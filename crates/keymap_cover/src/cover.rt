@@ -1,18 +1,16 @@
 //! A script that looks up what can be visited, and what it sees.
-ghost use Rattle.std.specs.Prelude.{◌≡◌, ◌⊎◌, ◌+◌, ◌≤◌, [], true, false, Some, length, OnOk, IfOk};
+ghost use Rattle.std.specs.Prelude.{◌≡◌, ◌++◌, ℕ, [], true, false, Some, OnOk, IfOk};
 ghost use Rattle.console_states.specs.declared.selection.Sight.{Sight as SightValue};
 ghost use Rattle.console_core.specs.History.{between};
 ghost use Rattle.console_states.specs.Sights.{AreSightsOf, IsReachable};
 ghost use Rattle.console_scripts.specs.Visiting.{CanVisit};
-ghost use Rattle.keymap_cover.specs.Covering.{IsCover};
+ghost use Rattle.keymap_cover.specs.Covering.{HoldParts, IsCover};
 ghost use Rattle.keymap_cover.specs.Inner.OneWay.{is_left};
 ghost use Rattle.keymap_cover.specs.Inner.Scripts.{EndsAtRest, GoesScrollOff, GoesUnderWay, IsExplorerFor};
-ghost use Rattle.keymap_cover.specs.Inner.Scripts.{SeesAll, ShowsInParts, ShowsTold};
+ghost use Rattle.keymap_cover.specs.Inner.Scripts.{SeesAll, ShowsNew, ShowsTold};
 ghost use Rattle.keymap_cover.specs.SeenSights.{has_seen};
 ghost use Rattle.std.specs.List.{Contains};
-ghost use Rattle.keymap_cover.specs.declared.parts.Start.{Start as StartValue};
-ghost use Rattle.keymap_cover.specs.Parts.{AreParts, part_place};
-ghost use Rattle.keymap_cover.specs.Inner.Adding.{ArePartsBelow, StandBehind};
+ghost use Rattle.keymap_cover.specs.Parts.{part_between, starts_at};
 
 use crate::one_way::go_onward;
 use crate::parts::{Cover, Part, Start};
@@ -90,7 +88,8 @@ fn show_left_out<T: Translator + Drop>(
 ) -> Result<(), AllocError>
     requires { AreSightsOf map.now sights.now }
     ensures { OnOk result (GoesUnderWay map.now T.stands explorer.old script.old explorer.new script.new
-        (CanVisit map.now sight → has_seen script.new.seen sight ≡ true)) }
+        ((CanVisit map.now sight → has_seen script.new.seen sight ≡ true)
+        × ShowsNew (λ x. sight ≡ x) script.old script.new)) }
 {
     if !is_left_out(&script.seen, sights, map, sight) {
         return Ok(());
@@ -112,7 +111,7 @@ fn show_all<T: Translator + Drop>(
 ) -> Result<(), AllocError>
     requires { AreSightsOf map.now sights.now }
     ensures { OnOk result (GoesUnderWay map.now T.stands explorer.old script.old explorer.new script.new
-        (SeesAll map.now told.now script.new)) }
+        (SeesAll map.now told.now script.new × ShowsNew (Contains told.now) script.old script.new)) }
 {
     for sight in told {
         show_left_out(explorer, script, map, sights, *sight)?;
@@ -122,10 +121,7 @@ fn show_all<T: Translator + Drop>(
 
 /// Adds that the part begins there, unless it ends there.
 fn begin(starts: &mut Vec<Start>, part: Part, at: usize, end: usize) -> Result<(), AllocError>
-    ensures below { OnOk result (ArePartsBelow (part_place part) starts.old.items at → at ≤ end
-        → ArePartsBelow (part_place part + 1) starts.new.items end) }
-    ensures added { OnOk result ((s : StartValue) → Contains starts.new.items s
-        → Contains starts.old.items s ⊎ ((s.part ≡ part) × (s.at ≡ at))) }
+    ensures { OnOk result (starts.new.items ≡ starts.old.items ++ part_between part at end) }
 {
     if at < end {
         starts.push(Start { part, at })?;
@@ -141,10 +137,7 @@ fn starts_of(
     third: usize,
     last: usize,
 ) -> Result<Vec<Start>, AllocError>
-    ensures parts { IfOk result (λ starts. first ≤ second → second ≤ third → third ≤ last
-        → AreParts starts.items last) }
-    ensures behind { IfOk result (λ starts. first ≤ second → second ≤ third
-        → StandBehind starts.items first second) }
+    ensures { IfOk result (λ starts. starts.items ≡ starts_at first second third last) }
 {
     let mut starts = Vec::new(alloc);
     begin(&mut starts, Part::Cells, 0, first)?;
@@ -199,8 +192,8 @@ fn script_of<T: Translator + Drop>(
     requires new { T.stands console (between map.now map.now) [] }
     requires explorer { IsExplorerFor map.now explorer.old }
     requires sights { AreSightsOf map.now sights.now }
-    ensures { IfOk result (λ t. EndsAtRest map.now t.0 × ShowsInParts map.now t.0.events.items t.1.items
-        × AreParts t.1.items (length t.0.events.items)) }
+    ensures { IfOk result (λ t. EndsAtRest map.now t.0
+        × ((first second third : ℕ) × HoldParts map.now t.0.events.items t.1.items first second third)) }
 {
     let mut script = Script::new(alloc, console)?;
     let first = show_told(explorer, &mut script, map, sights)?;

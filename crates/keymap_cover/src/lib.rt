@@ -12,9 +12,9 @@
 //! from which, once all keys are let go, more of them lead home. Only released keys are pressed, only pressed ones
 //! repeated and released; at the end no key is down, no modifier on and no accent pending, and the scroll lock is off
 //! unless no presses can turn it off from there; no moves lead from there to a press that sees a cell or a lock setting
-//! that is left out. The parts of the script begin in their order, the first before all events, and each has events;
-//! before a part behind that of cells begins, all cells and lock settings were seen that can be visited, and before one
-//! behind that of pairs all pairs.
+//! that is left out. The parts of the script begin in their order, and each has events. Where that of cells ends, all
+//! cells and lock settings were seen that can be visited, and where that of pairs ends all pairs. That of pairs shows
+//! one that wasn't seen before, and that of one-way turns is there only where something can be seen that wasn't.
 #![tactic(auto)]
 
 mod cover;

@@ -163,8 +163,8 @@ fn show_rest<T: Translator + Drop>(
     Ok(())
 }
 
-/// Goes onward, until nothing that is left out of the cells and lock settings can be seen from where the console
-/// stands, and turns the scroll lock off.
+/// Goes onward if cells or lock settings are left out, until none of them can be seen from where the console stands,
+/// and turns the scroll lock off.
 pub(crate) fn go_onward<T: Translator + Drop>(
     script: &mut Script<T>,
     map: &KeyMap,
@@ -173,6 +173,9 @@ pub(crate) fn go_onward<T: Translator + Drop>(
     ensures { OnOk result (AreSightsOf map.now sights.now → GoesToEnd map.now T.stands script.old script.new) }
 {
     let left = left_out(script.alloc, &script.seen, sights, map)?;
+    if left.is_empty() {
+        return Ok(());
+    }
     let rest = show_all_onward(script, map, left)?;
     turn_scroll_off(script, map)?;
     show_rest(script, map, rest)

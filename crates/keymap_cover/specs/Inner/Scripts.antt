@@ -20,9 +20,7 @@ use Rattle.keymap_cover.specs.declared.script.Script.{Script}
 use Rattle.keymap_cover.specs.ScriptEvents.{events_of, is_down, ArePossible}
 use Rattle.keymap_cover.specs.SeenSights.{has_seen}
 use Rattle.keymap_cover.specs.Told.{IsTold}
-use Rattle.keymap_cover.specs.declared.parts.Start.{Start}
-use Rattle.keymap_cover.specs.Covering.{CannotSee, IsAtRest, IsScrollOff, SeesKeysBy, SeesToldBy}
-use Rattle.keymap_cover.specs.Inner.Adding.{StandBehind}
+use Rattle.keymap_cover.specs.Covering.{CannotSee, IsAtRest, IsScrollOff, SeesKeysBy, SeesToldBy, ShowsPair}
 
 -- x is there, and what was there before, and nothing else
 abbrev pub IsWith : Sight → (Sight → Bool) → (Sight → Bool) → Type 0
@@ -133,11 +131,18 @@ abbrev pub LeavesNoneAhead : {T : Type 0} → MapValue → List Event → Script
 LeavesNoneAhead m h t =
     (x : Sight) → IsTold m x → (IsPair x → ⊥) → IsReachable m x → (has_seen t.seen x ≡ true) ⊎ CannotSee m h x
 
--- the same, and so it is of the cells and lock settings
+-- nothing was done, or a cell or a lock setting can be seen that wasn't
+abbrev pub IsForLeft : {T : Type 0} → MapValue → Script T → Script T → Type 0
+IsForLeft m a b =
+    (b.events.items ≡ a.events.items)
+    ⊎ ((x : Sight) × IsTold m x × (IsPair x → ⊥) × IsReachable m x × (has_seen a.seen x ≡ false))
+
+-- from where that is so the console goes on so, for what is left of the cells and lock settings, and leaves none ahead
 abbrev pub GoesToEnd : {T : Type 0} → MapValue → Standing T → Script T → Script T → Type 0
 GoesToEnd m stands a b =
-    (h : List Event) → IsResting m stands h a
+    (h : List Event) → IsResting m stands h a → IsScrollOff m h
     → (g : List Event) × IsResting m stands g b × ComesAfter h g × IsScrollOff m g × LeavesNoneAhead m g b
+    × IsForLeft m a b
 
 -- The console runs along a script that is at rest with no key down, and the explorer's locks are on.
 abbrev pub IsUnderWay : {T : Type 0} → MapValue → Standing T → List Event → ExplorerValue → Script T → Type 0
@@ -161,17 +166,19 @@ EndsAtRest m t =
 abbrev pub SeesAll : {T : Type 0} → MapValue → List Sight → Script T → Type 0
 SeesAll m xs t = (x : Sight) → Contains xs x → CanVisit m x → has_seen t.seen x ≡ true
 
--- a script saw in its first n events what of the keys can be visited, and in all of them what of all that is told of
+-- nothing was done, or a sight of this kind is seen that wasn't
+abbrev pub ShowsNew : {T : Type 0} → (Sight → Type 0) → Script T → Script T → Type 0
+ShowsNew P a b =
+    (b.events.items ≡ a.events.items)
+    ⊎ ((x : Sight) × P x × (has_seen a.seen x ≡ false) × (has_seen b.seen x ≡ true))
+
+-- a script saw in its first n events what of the keys can be visited, and in all of them what of all that is told of;
+-- behind the first n it saw a pair that it hadn't seen, if there are any events
 abbrev pub ShowsTold : {T : Type 0} → MapValue → ℕ → Script T → Type 0
 ShowsTold m n t =
     (n ≤ length t.events.items) × SeesKeysBy m t.events.items n
     × SeesToldBy m t.events.items (length t.events.items)
-
--- A script shows as much before the parts begin that stand behind those of cells and of pairs.
-abbrev pub ShowsInParts : MapValue → List ScriptEvent → List Start → Type 0
-ShowsInParts m events starts =
-    (first second : ℕ) × SeesKeysBy m events first × SeesToldBy m events second × (second ≤ length events)
-    × StandBehind starts first second
+    × (n < length t.events.items → ShowsPair m t.events.items n (length t.events.items))
 
 -- the explorer is of the map, and no locks are on
 abbrev pub IsExplorerFor : MapValue → ExplorerValue → Type 0

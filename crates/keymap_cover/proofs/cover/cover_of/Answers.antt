@@ -19,5 +19,5 @@ returns c =
     c.in_ok-explorer.ensures.explorer in
     let are : AreSightsOf m c.in_ok-sights.sights =
     subst (λ n. AreSightsOf n c.in_ok-sights.sights) is.0 c.in_ok-sights.ensures in
-    let ((up, (h, t, rest, off, ahead)), shown, parts) = c.in_ok-script.ensures in
-    script-covers m h _ c.in_ok-script.script.pressed t (rest, off) ahead up are parts shown
+    let ((up, (h, t, rest, off, ahead)), parts) = c.in_ok-script.ensures in
+    script-covers m h _ c.in_ok-script.script.pressed t (rest, off) ahead up are parts

@@ -1,7 +1,8 @@
 #!/bin/sh
 # Checks that docs/ARCHITECTURE.md has the crates of crates.txt and no others, that its lists of modules name the files
 # of each crate that it lists, and no others, that its lists and pictures of lemmas are what the files of proofs/ use of
-# each other, and that each path that a page names is there.
+# each other, that no crate cites the proofs of another but for its `Shared`, and that each path that a page names is
+# there.
 #
 # usage: modules.sh
 # The last line is 'N passed, M failed'; the status is 0 where none failed.
@@ -44,7 +45,7 @@ proofs = page.split("\n## How to read the proofs\n")[1].split("\n## ")[0]
 for crate, picture, text in re.findall(r"^\*\*Lemmas of (\w+)\*\*\n\n```\n(.*?)```\n(.*?)(?=\n\*\*|\Z)", proofs, re.M | re.S):
     files = {os.path.splitext(os.path.basename(it))[0]: it for it in glob.glob(f"crates/{crate}/proofs/*.antt")}
     uses = {}
-    for name in files.keys() - {"Lib", "Common"}:
+    for name in files.keys() - {"Lib", "Common", "Shared"}:
         used = re.findall(rf"^use Rattle\.{crate}\.proofs\.(\w+)", open(files[name], encoding="utf-8").read(), re.M)
         uses[name] = (files.keys() & set(used)) - {"Common"}
     told = re.findall(r"`([A-Z]\w*)`", text)
@@ -57,6 +58,12 @@ for crate, picture, text in re.findall(r"^\*\*Lemmas of (\w+)\*\*\n\n```\n(.*?)`
             for one in before:
                 for other in after:
                     tell(one in uses.get(other, ()), f"docs/ARCHITECTURE.md has an arrow from {one} to {other}, which uses it")
+for crate in sorted(listed):
+    here = {*glob.glob(f"crates/{crate}/*/**/*.antt", recursive=True), *glob.glob(f"crates/{crate}/src/**/*.rt", recursive=True)}
+    texts = [open(it, encoding="utf-8").read() for it in here if "/out/" not in it]
+    cited = {it for text in texts for it in re.findall(r"\bRattle\.(\w+)\.proofs\.(\w+)", text)}
+    inner = sorted(".".join(it) for it in cited if it[0] in listed - {crate} and it[1] != "Shared")
+    tell(not inner, f"{crate} cites no proofs of other crates but Shared: {inner}")
 paths = {"/".join(it.split("/")[2:]) for it in glob.glob("crates/**", recursive=True)}
 for page in ["README.md", "CONTRIBUTING.md", *sorted(glob.glob("docs/*.md"))]:
     for path in re.findall(r"`((?:src|specs|proofs|tests|bench|examples)/[\w/.]+)`", open(page, encoding="utf-8").read()):

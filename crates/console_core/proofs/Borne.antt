@@ -13,7 +13,7 @@ use Rattle.keymap_core.specs.Bearers.{StandsIn, IsUpperLive}
 use Rattle.console_core.proofs.OneMore.{resolved-start, resolved-more, held-start, held-character, held-action}
 use Rattle.console_core.proofs.OneMore.{held-release, held-reset, locked-start, locked-character, locked-action}
 use Rattle.console_core.proofs.OneMore.{locked-release, locked-reset, held-load, locked-load}
-use Rattle.keymap_core.proofs.BorneTests.{borne-upper}
+use Rattle.keymap_core.proofs.Shared.{borne-upper}
 use Rattle.keymap_core.specs.declared.action.Action.TheVariants as act
 use Rattle.keymap_core.specs.declared.action.Modifier.TheVariants as modifier
 use Rattle.keymap_core.specs.declared.action.Lock.TheVariants as lock

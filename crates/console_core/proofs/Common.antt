@@ -22,9 +22,8 @@ pub use Rattle.console_core.specs.Resolved.ResolvedEvent.{WasReset}
 pub use Rattle.console_core.specs.Types.{Act, Action, Alt, AltShift, Caps, Cell, Char, Event, Holding, LeftAlt}
 pub use Rattle.console_core.specs.Types.{LeftControl, LeftShift, Load, Lock, Meta, Modifier, Num, Press, Release, Reset}
 pub use Rattle.console_core.specs.Types.{RightAlt, RightControl, RightShift, Scroll}
-pub use Rattle.keymap_core.proofs.BorneTests.{bears-borne}
-pub use Rattle.keymap_core.proofs.Lists.{get_or-replicate_default, option_or-none}
-pub use Rattle.keymap_core.proofs.SameActions.{same_action-refl, same_action-true}
+pub use Rattle.keymap_core.proofs.Shared.{bears-borne, get_or-replicate_default, option_or-none}
+pub use Rattle.keymap_core.proofs.Shared.{same_action-refl, same_action-true}
 pub use Rattle.keymap_core.specs.Actions.{holding_action, holding_index, holding_of, lock_index, modifier_index}
 pub use Rattle.keymap_core.specs.Actions.{same_action}
 pub use Rattle.keymap_core.specs.Bearers.{Bears, BearsThroughout, IsCellOf}

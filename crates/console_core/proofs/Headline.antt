@@ -7,7 +7,7 @@ use Rattle.console_core.proofs.Common.{holding_action, MapValue, ResolvedEvent, 
 use Rattle.console_core.proofs.Common.{taken_over, unless_nop, look, resolve_press, turns, Maps, in_force, resolved}
 use Rattle.console_core.proofs.Common.{pressed, HasKey, HasKeys, IsCellOf, BearsThroughout, IsSafe, same_action-true}
 use Rattle.console_core.proofs.Common.{option_or, none-some, rules}
-use Rattle.keymap_core.proofs.Lists.{none_unless}
+use Rattle.keymap_core.proofs.Shared.{none_unless}
 use Rattle.console_core.specs.History.{accent_pending_after, IsQuiet}
 use Rattle.std.proofs.lemmas.Bool.{false≢true}
 use Rattle.console_core.specs.Headline.{IsSteady, IsActing, AreRepeats, IsOnOnlyWhilePressed}

@@ -17,6 +17,7 @@ pub mod PlainLooks
 pub mod Prefixes
 pub mod Readings
 pub mod Runs
+pub mod Shared
 pub mod Since
 pub mod Traps
 pub mod WordBits

@@ -10,8 +10,8 @@ use Rattle.keymap_core.specs.Bearers.{NobodyBears}
 use Rattle.keymap_core.specs.Borne.{any_below}
 use Rattle.console_core.specs.Plain.{IsPlainFor, IsPlain, bears_holding, plain_on, plain_locked, plain_look}
 use Rattle.console_core.specs.Plain.{LooksPlainly, PlainOnByKeys, PlainLockedByKeys}
-use Rattle.keymap_core.proofs.BorneTests.{any-some, some-any, slot-stands, stands-slot, live-upper, upper-is_live}
-use Rattle.keymap_core.proofs.BorneTests.{borne-bears}
+use Rattle.keymap_core.proofs.Shared.{any-some, borne-bears, live-upper, slot-stands, some-any, stands-slot}
+use Rattle.keymap_core.proofs.Shared.{upper-is_live}
 use Rattle.console_core.proofs.Borne.{AllLooked, locked-borne, resolved-looked}
 use Rattle.console_core.proofs.Bearing.{RememberedBySome, held-remembered, remembered-cell}
 use Rattle.console_core.proofs.Headline.{throughout_held, same_by}

@@ -20,15 +20,11 @@ use Rattle.console_states.specs.Returning.{IsTurned}
 use Rattle.console_scripts.specs.Visiting.{CanVisit}
 use Rattle.console_states.specs.Searching.{HasMetAll}
 use Rattle.console_scripts.specs.Inner.Showing.{IsPressAt, IsRest}
-use Rattle.console_states.proofs.Behind.{path-split}
+use Rattle.console_states.proofs.Shared.{Reached, emptied, emptied-kept, emptied-none, near-is_home, near-met}
+use Rattle.console_states.proofs.Shared.{near-path, path-split, reached-more, reached-one, same-scrolled}
+use Rattle.console_states.proofs.Shared.{same_states, start-one}
 use Rattle.console_scripts.proofs.Exploring.{comes-route, path-append}
-use Rattle.console_core.proofs.OneMore.{one_map}
-use Rattle.console_states.proofs.Returning.{near-met, near-is_home}
-use Rattle.console_states.proofs.Scripts.{Reached, reached-more}
-use Rattle.console_states.proofs.Staying.{emptied, emptied-kept, emptied-none}
-use Rattle.console_states.proofs.Beginning.{reached-one, start-one}
-use Rattle.console_states.proofs.Unscrolled.{same_states, same-scrolled}
-use Rattle.console_states.proofs.Visits.{near-path}
+use Rattle.console_core.proofs.Shared.{one_map}
 use Rattle.console_scripts.proofs.Leading.{met-first}
 use Rattle.console_scripts.proofs.Approaching.{turned-near}
 use Rattle.keymap_core.specs.declared.action.Action.TheVariants as act

@@ -18,12 +18,9 @@ use Rattle.console_states.specs.Returning.{IsTurned}
 use Rattle.console_scripts.specs.Visiting.{EndsSeeing, HasLocks, Visits}
 use Rattle.console_scripts.specs.Inner.Showing.{LeadsToSee, IsPressAt, IsRest, LeadsOn}
 use Rattle.console_states.specs.Inner.Standing.{free_after}
-use Rattle.console_states.proofs.Going.{going-sees, pending-is}
-use Rattle.console_core.proofs.OneMore.{resolved-more, pending-reset}
-use Rattle.console_states.proofs.Standing.{stands-reset}
-use Rattle.console_states.proofs.Unscrolled.{locks-near, same_moved, same_states}
-use Rattle.console_states.proofs.Unscrolled.{scroll-moved}
-use Rattle.console_states.proofs.Visits.{press-turns, press-turns_none}
+use Rattle.console_states.proofs.Shared.{going-sees, locks-near, pending-is, press-turns, press-turns_none}
+use Rattle.console_states.proofs.Shared.{same_moved, same_states, scroll-moved, stands-reset}
+use Rattle.console_core.proofs.Shared.{pending-reset, resolved-more}
 use Rattle.console_scripts.proofs.Leading.{pends}
 
 -- ---- the press at the end

@@ -14,7 +14,7 @@ use Rattle.console_states.specs.Sticking.{ReachesMoreThan, state_limit}
 use Rattle.console_scripts.specs.Inner.Exploring.{IsAccented, Leads, plain_tap}
 use Rattle.console_scripts.proofs.Exploring.{comes-route, path-append, can-tap-met, tap-can, types-direct}
 use Rattle.console_scripts.proofs.Exploring.{types-composed, returns-next}
-use Rattle.console_states.proofs.Beginning.{start-one}
+use Rattle.console_states.proofs.Shared.{start-one}
 use Rattle.console_scripts.specs.declared.explored.Symbol.TheVariants as symbol
 use Rattle.console_scripts.specs.declared.typing.Typed.TheVariants as typed
 

@@ -40,8 +40,7 @@ pub use Rattle.console_scripts.specs.Types.{RightShift, Scroll, Sight, Turn}
 pub use Rattle.console_states.specs.declared.held.Held.{Held}
 pub use Rattle.console_states.specs.declared.held.Step.{Step}
 pub use Rattle.indexmap.specs.IndexMap.{insert_entry}
-pub use Rattle.keymap_core.proofs.Lists.{none_unless}
-pub use Rattle.keymap_core.proofs.SameActions.{same_action-true}
+pub use Rattle.keymap_core.proofs.Shared.{none_unless, same_action-true}
 pub use Rattle.keymap_core.specs.Accents.{own_of}
 pub use Rattle.keymap_core.specs.Actions.{holding_action, modifier_index, same_action, same_modifier}
 pub use Rattle.keymap_core.specs.Maps.{MapValue, accent_at}

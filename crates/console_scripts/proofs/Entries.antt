@@ -3,7 +3,7 @@ use Rattle.console_scripts.proofs.Common.{◌≡◌, Bool, true, List, [], ◌�
 use Rattle.console_scripts.proofs.Common.{inl, inr, is_some, lookup, true≢false, same_Some}
 use Rattle.console_scripts.proofs.Common.{cases_Bool, none-some, insert_entry, Held, state_of, State, rules}
 use Rattle.console_scripts.specs.Inner.Routes.{AllEntries, HasEntry}
-use Rattle.console_states.proofs.SameStates.{are_same, tells-same, same-tells}
+use Rattle.console_states.proofs.Shared.{are_same, same-tells, tells-same}
 
 -- what holds of each entry holds of the one that a look-up finds, under the key that is looked up
 pub found-entry : {K V : Type 0} (E : K → K → Bool) (P : K → V → Type 0)

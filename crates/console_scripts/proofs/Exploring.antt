@@ -11,14 +11,12 @@ use Rattle.console_scripts.proofs.Common.{HasTyped, TypesOne, LeadsHome, Routes,
 use Rattle.console_scripts.proofs.Common.{freed, state_of, Entry, Entries, IsTrail, IsReached, Searched, unscrolled}
 use Rattle.console_scripts.proofs.Common.{Scroll}
 use Rattle.console_scripts.proofs.Entries.{none-found, found-has}
-use Rattle.console_core.proofs.OneMore.{is-nothing}
-use Rattle.console_states.proofs.SameStates.{are_same}
+use Rattle.console_core.proofs.Shared.{is-nothing}
+use Rattle.console_states.proofs.Shared.{are_same, home-near, home-start, near-is_home, near-met, near-path}
+use Rattle.console_states.proofs.Shared.{path-first, reached-one}
 use Rattle.console_scripts.specs.Inner.Exploring.{IsOrigin}
-use Rattle.console_states.proofs.Returning.{home-start, near-met, near-is_home}
 use Rattle.console_scripts.proofs.Astray.{strays-on, StraysTo, is-astray}
-use Rattle.console_states.proofs.Beginning.{reached-one}
 use Rattle.console_scripts.proofs.Taps.{added-by, adds, tap-types, tap-direct, tap-dead, tap-composed}
-use Rattle.console_states.proofs.Visits.{near-path, path-first, home-near}
 use Rattle.console_scripts.specs.declared.explored.Symbol.TheVariants as symbol
 
 -- a route that begins at a state leads home

@@ -5,7 +5,7 @@ use Rattle.console_scripts.specs.declared.typing.Found.{Found}
 use Rattle.console_scripts.specs.declared.typing.Sought.{Sought}
 use Rattle.console_scripts.specs.Inner.Exploring.{IsKnown}
 use Rattle.console_scripts.proofs.Entries.{found-entry, one-entry}
-use Rattle.console_states.proofs.SameStates.{are_same, tells-same}
+use Rattle.console_states.proofs.Shared.{are_same, tells-same}
 
 -- what is known of a character and a state is known of the same character and state
 same-known : (m : MapValue) (a b : Sought) (v : Found) → state_of a.from ≡ state_of b.from → a.character ≡ b.character

@@ -4,7 +4,7 @@ use Rattle.console_scripts.proofs.Common.{arith, below_more, true≢false, MapVa
 use Rattle.std.specs.Prelude.{set}
 use Rattle.std.proofs.lemmas.List.{get_or-set_same, get_or-set_other}
 use Rattle.keymap_core.specs.Maps.{cell_at}
-use Rattle.console_core.proofs.Borne.{column_of-lt}
+use Rattle.console_core.proofs.Shared.{column_of-lt}
 use Rattle.console_scripts.specs.Inner.Symbols.{LacksSymbol}
 
 -- no cell of the slot is the symbol

@@ -24,19 +24,14 @@ use Rattle.console_scripts.specs.Visiting.{AreTaken}
 use Rattle.console_scripts.specs.Inner.Exploring.{IsMetAt}
 use Rattle.console_scripts.specs.Inner.Showing.{LeadsToSee, LeadsOn, LeadsComposing}
 use Rattle.console_states.specs.Moves.{IsSteady}
-use Rattle.console_states.proofs.Going.{pending-is, pending-move, tap-pending}
-use Rattle.console_core.proofs.OneMore.{held-action, pressed-press}
-use Rattle.console_states.proofs.Scripts.{holder-pressed}
-use Rattle.console_states.proofs.Standing.{hold-self, stands-from, stands-move}
-use Rattle.console_states.proofs.Standing.{pressed-look, other-remembered}
-use Rattle.console_states.proofs.Following.{follows-again, follows-nothing, kind_of}
-use Rattle.console_states.proofs.Beginning.{reached-one}
-use Rattle.console_states.proofs.Following.{not_holding, same_mods}
+use Rattle.console_states.proofs.Shared.{exact-action, exact-character, follows-again, follows-nothing}
+use Rattle.console_states.proofs.Shared.{hold-self, holder-pressed, home-near, kind_of, moves-unscrolled}
+use Rattle.console_states.proofs.Shared.{not_holding, other-remembered, path-first, pending-is, pending-move}
+use Rattle.console_states.proofs.Shared.{press-presses, pressed-look, reached-one, same_mods, same_moved}
+use Rattle.console_states.proofs.Shared.{same_states, scroll-moved, stands-from, stands-move, stands-tapped}
+use Rattle.console_states.proofs.Shared.{tap-pending}
+use Rattle.console_core.proofs.Shared.{held-action, pressed-press}
 use Rattle.console_scripts.proofs.Taps.{stands-tap}
-use Rattle.console_states.proofs.Tapping.{exact-action, exact-character, stands-tapped}
-use Rattle.console_states.proofs.Unscrolled.{moves-unscrolled, same_moved, same_states}
-use Rattle.console_states.proofs.Unscrolled.{scroll-moved}
-use Rattle.console_states.proofs.Visits.{home-near, path-first, press-presses}
 use Rattle.keymap_core.specs.declared.action.Action.TheVariants as act
 use Rattle.keymap_core.specs.declared.action.Holding.TheVariants as holding
 use Rattle.console_scripts.specs.declared.explored.Symbol.TheVariants as symbol

@@ -12,6 +12,7 @@ pub mod Leading
 pub mod Refused
 pub mod RoutesHome
 pub mod Scrolling
+pub mod Shared
 pub mod Taps
 pub mod Typings
 pub mod Typists

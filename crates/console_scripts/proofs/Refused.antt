@@ -14,16 +14,12 @@ use Rattle.console_scripts.proofs.Common.{presses, ComesHome, IsTapOf, CanTap, C
 use Rattle.console_core.specs.Answers.{is_pending, char_or_error}
 use Rattle.console_scripts.specs.Typing.{TypedCanBeTyped}
 use Rattle.console_scripts.proofs.Exploring.{path-append}
-use Rattle.console_states.proofs.Going.{pending-is}
-use Rattle.console_core.proofs.OneMore.{is-nothing, one_map, resolved-start, resolved-more, pending-start}
-use Rattle.console_core.proofs.OneMore.{pending-character, pending-action, pending-release, pending-reset}
-use Rattle.console_core.proofs.Prefixes.{answers_by_cases}
-use Rattle.console_states.proofs.Scripts.{Reached}
-use Rattle.console_states.proofs.Seeing.{admitted-before, admitted-spared, keeps-held, stands-in, taken-dead}
-use Rattle.console_states.proofs.Seeing.{takes-pending}
-use Rattle.console_states.proofs.Following.{follows-look}
-use Rattle.console_states.proofs.Sparing.{stays-on}
-use Rattle.console_states.proofs.Staying.{Stays, KeepsHeld}
+use Rattle.console_states.proofs.Shared.{KeepsHeld, Reached, Stays, admitted-before, admitted-spared}
+use Rattle.console_states.proofs.Shared.{follows-look, keeps-held, pending-is, stands-in, stays-on}
+use Rattle.console_states.proofs.Shared.{taken-dead, takes-pending}
+use Rattle.console_core.proofs.Shared.{answers_by_cases, is-nothing, one_map, pending-action}
+use Rattle.console_core.proofs.Shared.{pending-character, pending-release, pending-reset, pending-start}
+use Rattle.console_core.proofs.Shared.{resolved-more, resolved-start}
 use Rattle.console_scripts.proofs.Taps.{answer_at, look-answer}
 use Rattle.keymap_core.specs.declared.action.Action.TheVariants as act
 use Rattle.console_core.specs.declared.event.Answer.TheVariants as answer

@@ -12,8 +12,7 @@ use Rattle.console_scripts.proofs.Common.{rules}
 use Rattle.std.proofs.lemmas.List.{length_push}
 use Rattle.console_scripts.specs.declared.routes.Route.{Route}
 use Rattle.console_scripts.specs.Inner.Routes.{NoLetGoLeads}
-use Rattle.console_states.proofs.Growing.{scroll-left}
-use Rattle.console_states.proofs.Searching.{steps-to, presses-map}
+use Rattle.console_states.proofs.Shared.{presses-map, scroll-left, steps-to}
 
 -- a path behind a move
 pub path-begin : (u : Under) (s : State) (by : Move) (path : List Move) → IsMove u s by

@@ -14,11 +14,8 @@ use Rattle.console_scripts.specs.Inner.Showing.{IsTurnAt, IsUnturned}
 use Rattle.console_states.specs.Inner.Standing.{free_after}
 use Rattle.console_scripts.proofs.Approaching.{at-reset}
 use Rattle.console_scripts.proofs.Leading.{out-leads}
-use Rattle.console_states.proofs.Returning.{near-met}
-use Rattle.console_states.proofs.Standing.{stands-from, stands-reset}
-use Rattle.console_states.proofs.Beginning.{reached-one}
-use Rattle.console_states.proofs.Unscrolled.{moves-unscrolled, same_states}
-use Rattle.console_states.proofs.Visits.{near-path, press-turns}
+use Rattle.console_states.proofs.Shared.{moves-unscrolled, near-met, near-path, press-turns, reached-one}
+use Rattle.console_states.proofs.Shared.{same_states, stands-from, stands-reset}
 
 -- two states that differ in the scroll lock differ in it wherever a path leads
 differs-along : (m : MapValue) (s t : State) (path : List Move) → t.is_locked Scroll ≡ not (s.is_locked Scroll)

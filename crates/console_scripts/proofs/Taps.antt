@@ -17,21 +17,14 @@ use Rattle.console_core.specs.Reading.{answer_to_look}
 use Rattle.console_core.specs.History.{answer_to}
 use Rattle.console_scripts.specs.Typing.{ChangeKeys}
 use Rattle.console_core.specs.Answers.{answer_dead_key, answer_char, answer_release}
-use Rattle.console_states.proofs.Going.{pending-along, pending-is}
-use Rattle.console_core.proofs.OneMore.{one_map, resolved-more}
-use Rattle.console_core.proofs.OneMore.{pending-character, pending-action, pending-release}
-use Rattle.console_core.proofs.OneMore.{pressed-press}
-use Rattle.console_core.proofs.Prefixes.{answers_by_cases}
-use Rattle.console_states.proofs.Standing.{idle-none, pressed-look, stands-from}
-use Rattle.console_states.proofs.Scripts.{holder-pressed}
-use Rattle.console_states.proofs.Searching.{place_last}
-use Rattle.console_states.proofs.Unscrolled.{same_states}
-use Rattle.console_states.proofs.Following.{follows-look}
-use Rattle.console_states.proofs.Following.{not_holding}
+use Rattle.console_states.proofs.Shared.{exact-action, exact-character, follows-look, holder-pressed}
+use Rattle.console_states.proofs.Shared.{idle-none, not_holding, pending-along, pending-is, place_last}
+use Rattle.console_states.proofs.Shared.{pressed-look, same_states, stands-from, stands-tapped}
+use Rattle.console_core.proofs.Shared.{answers_by_cases, one_map, pending-action, pending-character}
+use Rattle.console_core.proofs.Shared.{pending-release, pressed-press, resolved-more}
 use Rattle.keymap_core.specs.declared.action.Action.TheVariants as act
 use Rattle.console_core.specs.declared.event.Answer.TheVariants as answer
 use Rattle.console_scripts.specs.declared.explored.Symbol.TheVariants as symbol
-use Rattle.console_states.proofs.Tapping.{exact-character, exact-action, stands-tapped}
 
 -- ---- letting go of all holders
 

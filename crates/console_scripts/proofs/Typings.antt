@@ -17,16 +17,12 @@ use Rattle.std.proofs.lemmas.List.{map_push, length-append, length-map, length-t
 use Rattle.std.proofs.lemmas.List.Elements.{All-push}
 use Rattle.console_scripts.specs.declared.typing.Keyed.{Keyed}
 use Rattle.console_scripts.specs.declared.typing.Typing.{Typing}
-use Rattle.keymap_core.proofs.Lists.{All-reversed}
+use Rattle.keymap_core.proofs.Shared.{All-reversed}
 use Rattle.console_scripts.specs.Typing.{AreEnds, AreParts, AreTyped, Types, characters_of}
-use Rattle.console_core.proofs.Deliveries.{reverse-cons}
+use Rattle.console_core.proofs.Shared.{pending-start, resolved-start, reverse-cons}
 use Rattle.console_scripts.proofs.Exploring.{start-returns}
-use Rattle.console_states.proofs.Returning.{home-start}
-use Rattle.console_states.proofs.Standing.{idle-none, stands-start}
-use Rattle.console_core.proofs.OneMore.{pending-start, resolved-start}
-use Rattle.console_states.proofs.Going.{pending-is}
+use Rattle.console_states.proofs.Shared.{home-start, idle-none, path-first, pending-is, stands-start}
 use Rattle.console_scripts.proofs.Taps.{quiet-free, walked}
-use Rattle.console_states.proofs.Visits.{path-first}
 
 -- a console that stands at the start, with nothing pending, is as a new one
 pub as-new : (m : MapValue) (h : List Event) → Stands (alone m) h start → accent_pending_after (between m m) h ≡ None

@@ -16,9 +16,7 @@ use Rattle.console_scripts.specs.Visiting.{AreStatesOf, CanReach, IsOnward, IsWa
 use Rattle.console_scripts.specs.Visiting.{SeenCanBeVisited}
 use Rattle.console_scripts.specs.Inner.Showing.{IsUnseen}
 use Rattle.console_scripts.proofs.Aiming.{after-reached, met-near, met-reached, route-near, route-reached}
-use Rattle.console_states.proofs.Behind.{path-split}
-use Rattle.console_states.proofs.Returning.{near-met}
-use Rattle.console_states.proofs.Beginning.{reached-one}
+use Rattle.console_states.proofs.Shared.{near-met, path-split, reached-one}
 use Rattle.std.proofs.lemmas.Option.{get_or_from_slice_get, slice_get-get_or, slice_get-map}
 use Rattle.std.specs.Option.{option_map}
 use Rattle.console_scripts.proofs.Exploring.{has-home}

@@ -41,8 +41,7 @@ pub use Rattle.console_states.specs.declared.search.End.{End}
 pub use Rattle.console_states.specs.declared.search.End.TheVariants.{TooMany}
 pub use Rattle.console_states.specs.declared.search.Origin.{Origin}
 pub use Rattle.indexmap.proofs.CallerLemmas.{insert_entry-new}
-pub use Rattle.keymap_core.proofs.Lists.{none_unless}
-pub use Rattle.keymap_core.proofs.SameActions.{same_action-refl, same_action-true}
+pub use Rattle.keymap_core.proofs.Shared.{none_unless, same_action-refl, same_action-true}
 pub use Rattle.keymap_core.specs.Actions.{holding_action, modifier_index, modifiers, same_action, same_lock}
 pub use Rattle.keymap_core.specs.Actions.{same_modifier}
 pub use Rattle.keymap_core.specs.Borne.{is_borne}

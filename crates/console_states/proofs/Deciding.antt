@@ -8,8 +8,7 @@ use Rattle.console_core.specs.Headline.{IsSafe}
 use Rattle.std.proofs.lemmas.List.Elements.{All-weaker}
 use Rattle.console_states.specs.Sticking.{SafeNeverForgets, SafeNeverSticksBetween, SafeNeverAnswersSticks, AreOnAfter}
 use Rattle.console_states.specs.Sticking.{NeverSticksUnlessReached, SticksIfReached}
-use Rattle.console_core.proofs.Headline.{on_only_while_pressed, off_once_quiet}
-use Rattle.console_core.proofs.OneMap.{first_in_force, without_loads}
+use Rattle.console_core.proofs.Shared.{first_in_force, off_once_quiet, on_only_while_pressed, without_loads}
 use Rattle.console_states.proofs.Scripts.{script-sticks, never-unless_reached}
 use Rattle.console_states.proofs.Sparing.{NeverIn}
 

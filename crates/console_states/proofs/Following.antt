@@ -15,12 +15,9 @@ use Rattle.console_states.proofs.Common.{Holding}
 use Rattle.console_states.proofs.Common.{rules}
 use Rattle.std.proofs.Math.Bool.{and-true, and-false}
 use Rattle.keymap_core.specs.Actions.{holding_of}
-use Rattle.console_core.proofs.OneMore.{held-character, held-action}
-use Rattle.console_core.proofs.OneMore.{held-release, locked-character}
-use Rattle.console_core.proofs.OneMore.{locked-action, locked-release, remembered-character}
-use Rattle.console_core.proofs.OneMore.{remembered-action, remembered-release}
-use Rattle.console_core.proofs.Borne.{taken-holding}
-use Rattle.console_core.proofs.Bearing.{first_kept}
+use Rattle.console_core.proofs.Shared.{first_kept, held-action, held-character, held-release, locked-action}
+use Rattle.console_core.proofs.Shared.{locked-character, locked-release, remembered-action}
+use Rattle.console_core.proofs.Shared.{remembered-character, remembered-release, taken-holding}
 use Rattle.keymap_core.specs.declared.action.Action.TheVariants as act
 use Rattle.keymap_core.specs.declared.action.Holding.TheVariants as holding
 

@@ -5,7 +5,7 @@ use Rattle.console_states.proofs.Common.{resolved, is_second_in_force, accent_pe
 use Rattle.console_states.proofs.Common.{look_in, IsMove, events_of_move, events_along, state_from, IsPathFrom, SeesBy}
 use Rattle.console_states.proofs.Common.{SeesNext, IsPendingFor, selection_of, Stands, Act, Event, Press, Release, Move}
 use Rattle.console_states.proofs.Common.{Hold, Turn, LetGo, Exchange, Sight, rules}
-use Rattle.console_core.proofs.OneMore.{one_map, resolved-more, pending-action, pending-release}
+use Rattle.console_core.proofs.Shared.{one_map, pending-action, pending-release, resolved-more}
 use Rattle.console_states.proofs.Standing.{stands-from, idle-none, pressed-look}
 use Rattle.console_states.proofs.Seeing.{follows-selection}
 use Rattle.keymap_core.specs.declared.action.Action.TheVariants as act

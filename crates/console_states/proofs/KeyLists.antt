@@ -4,7 +4,7 @@ use Rattle.console_states.proofs.Common.{below_more, get_or, length, ◌∙◌, 
 use Rattle.console_states.proofs.Common.{Contains-append_left, Contains-push_cases, MapValue, cell_at, slot_of}
 use Rattle.console_states.proofs.Common.{arith, look_with, Under, State, look_in, map_of, is_held}
 use Rattle.console_states.proofs.Common.{PressesLead, IsUnmoving, HasMovingKeys}
-use Rattle.console_core.proofs.Borne.{column_of-lt}
+use Rattle.console_core.proofs.Shared.{column_of-lt}
 use Rattle.console_states.specs.Inner.KeyLists.{IsOther}
 use Rattle.console_states.specs.declared.key_lists.CellKind.{CellKind}
 

@@ -18,6 +18,7 @@ pub mod SameStates
 pub mod Scripts
 pub mod Searching
 pub mod Seeing
+pub mod Shared
 pub mod Shown
 pub mod Sparing
 pub mod Standing

@@ -17,12 +17,9 @@ use Rattle.console_states.proofs.Common.{Stands, Action, Modifier, LeftShift, Ri
 use Rattle.console_states.proofs.Common.{RightControl, LeftAlt, RightAlt, AltShift, Meta, Char, Event, Press}
 use Rattle.console_states.proofs.Common.{Release, Load, Move, Hold, Turn, LetGo, Exchange, rules}
 use Rattle.std.proofs.lemmas.Bool.{or_parts}
-use Rattle.console_core.proofs.Bearing.{pressed_if, remembered-pressed}
-use Rattle.console_core.proofs.OneMore.{resolved-more, held-character}
-use Rattle.console_core.proofs.OneMore.{held-release}
-use Rattle.console_core.proofs.OneMore.{remembered-character}
-use Rattle.console_core.proofs.OneMore.{remembered-release, pressed-press}
-use Rattle.console_core.proofs.OneMore.{pressed-release}
+use Rattle.console_core.proofs.Shared.{held-character, held-release, pressed-press, pressed-release}
+use Rattle.console_core.proofs.Shared.{pressed_if, remembered-character, remembered-pressed}
+use Rattle.console_core.proofs.Shared.{remembered-release, resolved-more}
 use Rattle.console_states.proofs.Following.{some_mods}
 use Rattle.console_states.proofs.Sparing.{IsKeptBelow, IsSafeBelow, NeverIn, never-sticks}
 use Rattle.console_states.proofs.Standing.{pressed-look, stands}

@@ -14,8 +14,8 @@ use Rattle.console_states.proofs.Common.{IsOfferedIn, Follows, IsBehind, fun_ext
 use Rattle.console_core.specs.Inner.Kept.{pending_after_dead_key}
 use Rattle.console_core.specs.Resolved.{usable_dead_key}
 use Rattle.console_states.specs.Sights.{selection_with, selection_after, LooksAreSelected, SightsAreReachable}
-use Rattle.console_core.proofs.OneMore.{one_map, resolved-start, resolved-more, pending-start, pending-character}
-use Rattle.console_core.proofs.OneMore.{pending-action, pending-release, pending-reset}
+use Rattle.console_core.proofs.Shared.{one_map, pending-action, pending-character, pending-release}
+use Rattle.console_core.proofs.Shared.{pending-reset, pending-start, resolved-more, resolved-start}
 use Rattle.console_states.proofs.Behind.{behind-offered, behind-more}
 use Rattle.console_states.proofs.Following.{follows-look, follows-nothing, not_holding}
 use Rattle.console_states.proofs.Sparing.{stays, AreSpared}

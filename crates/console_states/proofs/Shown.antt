@@ -11,7 +11,7 @@ use Rattle.console_states.specs.Sights.{ReachableIsSeen}
 use Rattle.console_states.specs.Sticking.{IsPressOrRelease}
 use Rattle.console_states.proofs.Behind.{path-split}
 use Rattle.console_states.proofs.Going.{going-sees, pending-along, tap-pending}
-use Rattle.console_core.proofs.OneMore.{resolved-start, pending-start}
+use Rattle.console_core.proofs.Shared.{pending-start, resolved-start}
 use Rattle.console_states.proofs.Scripts.{holder-pressed}
 use Rattle.console_states.proofs.Standing.{idle-none, stands-from, stands-start}
 use Rattle.console_states.proofs.Tapping.{dead-tapped}

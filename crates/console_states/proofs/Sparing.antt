@@ -19,8 +19,7 @@ use Rattle.console_states.proofs.Common.{Event, Press, Release, Reset, Load, Mov
 use Rattle.console_states.proofs.Common.{rules}
 use Rattle.console_core.specs.Headline.{IsOnOnlyWhilePressed}
 use Rattle.console_core.specs.Resolved.{resolve}
-use Rattle.console_core.proofs.OneMore.{resolved-start, resolved-more}
-use Rattle.console_core.proofs.Bearing.{borne-pressed}
+use Rattle.console_core.proofs.Shared.{borne-pressed, resolved-more, resolved-start}
 use Rattle.console_states.proofs.Following.{follows-look, some_of}
 use Rattle.console_states.proofs.Staying.{Stays, KeepsLetGo, LeadsOn, KeepsHeld, stays-press}
 use Rattle.console_states.proofs.Staying.{stays-release, stays-reset, KeepsExchange, stays-load, follows-start}

@@ -18,14 +18,13 @@ use Rattle.console_states.proofs.Common.{Follows, HoldsSome, Exact}
 use Rattle.console_states.proofs.Common.{Stands, Action, Lock, Modifier}
 use Rattle.console_states.proofs.Common.{Cell, Act, Event, Press}
 use Rattle.console_states.proofs.Common.{Release, Reset, Load, Move, Hold, Turn, LetGo, Exchange, rules}
-use Rattle.keymap_core.proofs.Lists.{option_or-none}
+use Rattle.keymap_core.proofs.Shared.{option_or-none}
 use Rattle.console_states.specs.Moves.{free_with}
-use Rattle.console_core.proofs.FreshPresses.{no_loads-first}
-use Rattle.console_core.proofs.OneMore.{resolved-start, resolved-more, held-start, held-action}
-use Rattle.console_core.proofs.OneMore.{held-reset, locked-reset, remembered-reset, pressed-reset, held-release}
-use Rattle.console_core.proofs.OneMore.{held-load, remembered-start, remembered-action}
-use Rattle.console_core.proofs.OneMore.{remembered-release, remembered-load, pressed-start, pressed-press}
-use Rattle.console_core.proofs.OneMore.{pressed-release, pressed-load}
+use Rattle.console_core.proofs.Shared.{held-action, held-load, held-release, held-reset, held-start}
+use Rattle.console_core.proofs.Shared.{locked-reset, no_loads-first, pressed-load, pressed-press}
+use Rattle.console_core.proofs.Shared.{pressed-release, pressed-reset, pressed-start, remembered-action}
+use Rattle.console_core.proofs.Shared.{remembered-load, remembered-release, remembered-reset}
+use Rattle.console_core.proofs.Shared.{remembered-start, resolved-more, resolved-start}
 use Rattle.console_states.proofs.Following.{follows-look, follows-hold, follows-turn, follows-let_go}
 use Rattle.console_states.proofs.Staying.{follows-start}
 use Rattle.console_states.proofs.Following.{follows-release, takes, same_mods}

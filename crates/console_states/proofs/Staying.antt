@@ -14,10 +14,8 @@ use Rattle.console_states.proofs.Common.{is_some, Action, Lock, Modifier, LeftSh
 use Rattle.console_states.proofs.Common.{RightControl, LeftAlt, RightAlt, AltShift, Meta, Holding, Cell, Char, Act}
 use Rattle.console_states.proofs.Common.{Hold, Turn, Exchange, rules}
 use Rattle.console_core.specs.Resolved.ResolvedEvent.{WasReset}
-use Rattle.console_core.proofs.OneMore.{held-start}
-use Rattle.console_core.proofs.OneMore.{held-reset, held-load, locked-start}
-use Rattle.console_core.proofs.OneMore.{locked-reset, locked-load}
-use Rattle.console_core.proofs.Borne.{taken-holding}
+use Rattle.console_core.proofs.Shared.{held-load, held-reset, held-start, locked-load, locked-reset}
+use Rattle.console_core.proofs.Shared.{locked-start, taken-holding}
 use Rattle.console_states.proofs.Unscrolled.{same_states}
 use Rattle.console_states.proofs.Following.{same_mods, some_mod_lock, kind_of, follows-character, follows-nothing}
 use Rattle.console_states.proofs.Following.{holder-takes, follows-hold, follows-again, follows-turn}

@@ -6,8 +6,8 @@ use Rattle.console_states.proofs.Common.{ResolvedEvent, remembered, taken_over, 
 use Rattle.console_states.proofs.Common.{PressedCharacter, PressedAction, ReleasedKey, resolved, Under, State, IsIdle}
 use Rattle.console_states.proofs.Common.{look_in, Exact, Stands}
 use Rattle.console_core.specs.Resolved.{unless_nop}
-use Rattle.console_core.proofs.OneMore.{resolved-more, held-character, held-action, held-release}
-use Rattle.console_core.proofs.OneMore.{remembered-character, remembered-action}
+use Rattle.console_core.proofs.Shared.{held-action, held-character, held-release, remembered-action}
+use Rattle.console_core.proofs.Shared.{remembered-character, resolved-more}
 use Rattle.console_states.proofs.Standing.{tap-only, idle-none, other-remembered, pressed-look, tapped-pressed}
 use Rattle.console_states.proofs.Following.{follows-character, follows-nothing, follows-release, not_holding}
 use Rattle.keymap_core.specs.declared.action.Action.TheVariants as act

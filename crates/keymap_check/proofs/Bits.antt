@@ -4,7 +4,7 @@ use Rattle.keymap_check.proofs.Common.{RightShift, LeftControl, RightControl, Le
 use Rattle.keymap_check.proofs.Common.{remembered, PressedAction, bits_of, group_of, with_bit, or_right}
 use Rattle.keymap_core.specs.Actions.{same_modifier}
 use Rattle.console_core.specs.Resolved.{ResolvedEvent}
-use Rattle.console_core.proofs.OneMore.{held-action, held-start}
+use Rattle.console_core.proofs.Shared.{held-action, held-start}
 use Rattle.keymap_check.specs.Shown.{no_bits}
 use Rattle.keymap_core.specs.declared.action.Action.TheVariants as act
 use Rattle.keymap_core.specs.declared.action.Holding.TheVariants as holding

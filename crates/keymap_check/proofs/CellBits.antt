@@ -18,8 +18,7 @@ use Rattle.std.proofs.lemmas.Nat.Bits.{bit_at-zero, bit_at_ones, and_pow}
 use Rattle.keymap_core.specs.Actions.{lock_index, holding_index, same_modifier}
 use Rattle.keymap_check.proofs.Common.{Modifier}
 use Rattle.keymap_check.specs.Inner.CellBits.{cell_bit, is_set, bits_of, mask_of}
-use Rattle.console_core.proofs.Places.{modifier_index-lt}
-use Rattle.console_core.proofs.WordBits.{lock_index-lt, two_cases}
+use Rattle.console_core.proofs.Shared.{lock_index-lt, modifier_index-lt, two_cases}
 use Rattle.keymap_core.specs.declared.action.Action.TheVariants as act
 use Rattle.keymap_core.specs.declared.action.Holding.TheVariants as holding
 use Rattle.keymap_check.specs.declared.kind.Group.TheVariants as group

@@ -1,8 +1,7 @@
 -- The names of definitions and of std that more than one file of these proofs uses, passed on from one place.
 pub use Prim.Native.Nat.{suc, zero}
 pub use Rattle.arrayvec.specs.ArrayVec.{array_vec_len}
-pub use Rattle.console_core.proofs.Deliveries.{reverse-cons}
-pub use Rattle.console_core.proofs.Traps.{bits_of}
+pub use Rattle.console_core.proofs.Shared.{bits_of, reverse-cons}
 pub use Rattle.console_core.specs.Headline.{IsActing, IsSteady}
 pub use Rattle.console_core.specs.History.{HasKey, IsQuiet, Maps, between, is_any_on_after, is_on_after, pressed}
 unfoldable pub use Rattle.console_core.specs.History.{resolved}
@@ -29,11 +28,9 @@ pub use Rattle.keymap_check.specs.Shown.{HasShownTrap, bit_of_group, group_of, w
 pub use Rattle.keymap_check.specs.Types.{Act, AltShift, Bearer, Cell, Char, Event, Finding, Group, Holding, Kind}
 pub use Rattle.keymap_check.specs.Types.{LeftAlt, LeftControl, LeftShift, Load, Lock, Modifier, Nobody, Press, Release}
 pub use Rattle.keymap_check.specs.Types.{Reset, RightAlt, RightControl, RightShift}
-pub use Rattle.keymap_core.proofs.Below.{IsFirstBelow, below-suc, first_below-no, first_below-some, gathered-more}
-pub use Rattle.keymap_core.proofs.Below.{gathered-none}
-pub use Rattle.keymap_core.proofs.BorneTests.{live-upper, upper-is_live}
-pub use Rattle.keymap_core.proofs.HoldingTests.{no-modifiers}
-pub use Rattle.keymap_core.proofs.SameActions.{same_action-true}
+pub use Rattle.keymap_core.proofs.Shared.{IsFirstBelow, below-suc, first_below-no, first_below-some}
+pub use Rattle.keymap_core.proofs.Shared.{gathered-more, gathered-none, live-upper, no-modifiers}
+pub use Rattle.keymap_core.proofs.Shared.{same_action-true, upper-is_live}
 pub use Rattle.keymap_core.specs.Actions.{holding_action, modifier_index}
 pub use Rattle.keymap_core.specs.Bearers.{Bears, BearsThroughout, IsCellOf, IsUpperLive}
 unfoldable pub use Rattle.keymap_core.specs.Below.{first_below, gathered}

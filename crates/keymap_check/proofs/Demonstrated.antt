@@ -5,7 +5,7 @@ use Rattle.std.proofs.lemmas.List.Elements.{All-weaker}
 use Rattle.keymap_check.specs.Shown.{IsPressOrRelease, LeavesModifierOn}
 use Rattle.keymap_check.proofs.Quiet.{script-quiet}
 use Rattle.keymap_check.proofs.TriedScripts.{IsKeyEvent, by_keys-script, given-holds}
-use Rattle.keymap_core.proofs.Lists.{All-reversed, find-true}
+use Rattle.keymap_core.proofs.Shared.{All-reversed, find-true}
 
 pub demonstrations_leave_modifiers_on : (m : MapValue) (events : List Event) → demonstration_of m ≡ Some events
     → LeavesModifierOn m (reverse events)

@@ -16,6 +16,7 @@ pub mod Promises
 pub mod Quiet
 pub mod Reported
 pub mod Same
+pub mod Shared
 pub mod Shown
 pub mod Trapless
 pub mod Tried

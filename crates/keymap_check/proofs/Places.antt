@@ -5,7 +5,7 @@ use Rattle.keymap_check.proofs.Common.{cell_at, IsCellOf, is_upper_live, live-up
 use Rattle.keymap_check.proofs.Common.{first_below-some, IsFirstBelow, is_of_kind, place_count, cell_of, first_place}
 use Rattle.keymap_check.proofs.Common.{cases_lt, Option, true≢false, is_some, ◌↔◌}
 use Rattle.keymap_core.specs.Bearers.{StandsIn}
-use Rattle.keymap_core.proofs.Below.{NoneBelow}
+use Rattle.keymap_core.proofs.Shared.{NoneBelow}
 
 -- a key has 16 places where the upper half is live, and else 8
 pub count_if : (m : MapValue) (t : Bool) → is_upper_live m ≡ t → place_count m ≡ (if t then 16 else 8)

@@ -5,9 +5,8 @@ use Rattle.keymap_check.proofs.Common.{Press, Release, gathered, gathered-more, 
 use Rattle.keymap_check.proofs.Common.{is_any_on_after, event_if, event_at, is_chosen, events_of, script}
 use Rattle.std.proofs.lemmas.Bool.{and_left}
 use Rattle.std.proofs.lemmas.List.{reverse-append}
-use Rattle.keymap_core.proofs.HoldingTests.{no-modifier}
-use Rattle.console_core.proofs.OneMore.{resolved-more, held-release}
-use Rattle.console_core.proofs.Deliveries.{reverse-push}
+use Rattle.keymap_core.proofs.Shared.{no-modifier}
+use Rattle.console_core.proofs.Shared.{held-release, resolved-more, reverse-push}
 use Rattle.keymap_check.specs.Scripts.{start_of}
 
 -- the events of a script, the newest first

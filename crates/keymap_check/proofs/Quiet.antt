@@ -6,8 +6,7 @@ use Rattle.keymap_check.proofs.Common.{pressed, IsQuiet, is_chosen, event_if, ev
 use Rattle.keymap_check.proofs.Common.{eqb-true, not}
 use Rattle.std.proofs.Common.{◌⊎◌}
 use Rattle.std.proofs.lemmas.Bool.{cases_Bool}
-use Rattle.console_core.proofs.Deliveries.{reverse-joined}
-use Rattle.console_core.proofs.OneMore.{pressed-start, pressed-press, pressed-release}
+use Rattle.console_core.proofs.Shared.{pressed-press, pressed-release, pressed-start, reverse-joined}
 use Rattle.keymap_check.proofs.Lengths.{no_bit}
 use Rattle.keymap_check.proofs.Played.{played, start_played}
 

@@ -4,7 +4,7 @@ use Rattle.keymap_check.proofs.Common.{Char, Act, holding_action, IsActing, same
 use Rattle.keymap_check.proofs.Common.{is_any_holding, held_by}
 use Rattle.std.proofs.lemmas.Bool.{not-false}
 use Rattle.keymap_check.specs.Cells.{is_character_or_nop}
-use Rattle.keymap_core.proofs.SameActions.{same_action-refl}
+use Rattle.keymap_core.proofs.Shared.{same_action-refl}
 use Rattle.keymap_core.specs.declared.action.Action.TheVariants as act
 use Rattle.keymap_core.specs.declared.action.Holding.TheVariants as holding
 

@@ -4,7 +4,7 @@ use Rattle.keymap_check.proofs.Common.{refl, ap, subst, sym, ◌∙◌, inl, inr
 use Rattle.keymap_check.proofs.Common.{eqb-true, and_parts, not-true, false_from_ne_true, is_some, is_other, lacks_key}
 use Rattle.keymap_check.proofs.Common.{Lock, Modifier, LeftShift, Cell, Char, Act, Event, Press, Release, Group, rules}
 use Rattle.keymap_core.specs.Actions.{same_modifier}
-use Rattle.keymap_core.proofs.SameActions.{same_action-refl}
+use Rattle.keymap_core.proofs.Shared.{same_action-refl, some-modifier}
 use Rattle.keymap_check.proofs.Common.{MapValue, cell_at, IsCellOf, IsUpperLive, gathered}
 use Rattle.keymap_check.proofs.Common.{first_below-some, on, remembered, Maps, between, is_on_after, resolved}
 use Rattle.keymap_check.proofs.Common.{is_any_on_after, PressedAction, same_action-true, first_place, is_of_group}
@@ -14,12 +14,10 @@ use Rattle.keymap_check.specs.Cells.{is_group_cell}
 use Rattle.console_core.specs.Resolved.{held, locked, look}
 use Rattle.console_core.specs.Columns.{slot_of, column_of}
 use Rattle.console_core.specs.Resolved.ResolvedEvent.{PressedCharacter, ReleasedKey}
-use Rattle.console_core.proofs.Borne.{AllLooked, look-cell, column_of-lt}
-use Rattle.keymap_core.proofs.HoldingTests.{some-modifier}
+use Rattle.console_core.proofs.Shared.{AllLooked, column_of-lt, locked-start, look-bits, look-cell}
+use Rattle.console_core.proofs.Shared.{remembered-start}
 use Rattle.console_core.specs.Traps.{Bits, cell_with}
 use Rattle.keymap_check.specs.Shown.{bits_with, HasCharacterWith, IsOneAction, HasFurtherKey}
-use Rattle.console_core.proofs.Traps.{look-bits}
-use Rattle.console_core.proofs.OneMore.{locked-start, remembered-start}
 use Rattle.keymap_check.proofs.Bits.{bits-more, bits-start}
 use Rattle.keymap_check.proofs.Places.{HasCellOf, has-cell}
 use Rattle.keymap_check.proofs.Findings.{unsafe-key}

@@ -3,10 +3,9 @@ use Rattle.keymap_check.proofs.Common.{◌≡◌, ℕ, ◌<◌, true, false, Lis
 use Rattle.keymap_check.proofs.Common.{false_from_ne_true, no-modifiers, Modifier, Event, MapValue, Bears, between}
 use Rattle.keymap_check.proofs.Common.{is_on_after, pressed, IsQuiet, NobodyBearsCellPickingLocks, HasNoTrap, bit_keys}
 use Rattle.keymap_check.proofs.Common.{script, tried, leaves_modifier_on, demonstration_of}
-use Rattle.keymap_core.proofs.Lists.{find-true, none_unless}
+use Rattle.keymap_core.proofs.Shared.{find-true, none_unless}
 use Rattle.console_core.specs.History.{in_force, HasKeys}
-use Rattle.console_core.proofs.Traps.{on_only_while_pressed_without_traps}
-use Rattle.console_core.proofs.OneMap.{one_in_force}
+use Rattle.console_core.proofs.Shared.{on_only_while_pressed_without_traps, one_in_force}
 use Rattle.keymap_check.proofs.Quiet.{script-quiet}
 use Rattle.keymap_check.proofs.TriedScripts.{given-holds, script-keys}
 use Rattle.keymap_core.specs.declared.action.Holding.TheVariants as holding

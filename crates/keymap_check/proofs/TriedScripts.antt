@@ -6,7 +6,7 @@ use Rattle.keymap_check.proofs.Common.{is_other, bears_group, bit_key, bit_keys,
 use Rattle.keymap_check.proofs.Common.{is_chosen, lacks_key, script, scripts_of, scripts_with, has_some, tried_at}
 use Rattle.keymap_check.proofs.Common.{tried, leaves_modifier_on, demonstration_of}
 use Rattle.std.proofs.lemmas.List.Elements.{All-from_recursion, All-weaker}
-use Rattle.keymap_core.proofs.Lists.{All-reversed}
+use Rattle.keymap_core.proofs.Shared.{All-reversed}
 use Rattle.console_core.specs.History.{HasKeys}
 use Rattle.keymap_check.specs.Shown.{IsPressOrRelease}
 use Rattle.keymap_check.proofs.Firsts.{found-in, none-each}

@@ -12,4 +12,5 @@ mod NameLaws
 mod Numbers
 mod Placing
 pub mod SameActions
+pub mod Shared
 mod Taking

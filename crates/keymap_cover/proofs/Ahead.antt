@@ -12,11 +12,9 @@ use Rattle.console_states.specs.Moves.{IsPathFrom, State, start, state_from}
 use Rattle.console_states.specs.Returning.{unscrolled}
 use Rattle.console_states.specs.Sights.{CanPend, IsAdmitted, SeesBy, selection_of}
 use Rattle.console_states.specs.Sticking.{NeverForgets}
-use Rattle.console_states.proofs.Seeing.{stands-in}
-use Rattle.console_states.proofs.Unscrolled.{same_states}
-use Rattle.console_states.proofs.Visits.{near-path, path-first}
+use Rattle.console_states.proofs.Shared.{near-path, path-first, same_states, stands-in}
 use Rattle.console_scripts.specs.Visiting.{SeesFrom, resting_after}
-use Rattle.console_scripts.proofs.Exploring.{path-append}
+use Rattle.console_scripts.proofs.Shared.{path-append}
 use Rattle.keymap_cover.specs.Covering.{IsAtRest, NothingIsAhead, history}
 use Rattle.keymap_cover.proofs.Scripts.{never-forgets, not-some}
 use Rattle.keymap_cover.proofs.Showing.{events-loads}

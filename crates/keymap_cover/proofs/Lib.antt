@@ -5,6 +5,7 @@ pub mod Left
 pub mod Listed
 pub mod Marking
 pub mod Onward
+pub mod Shared
 pub mod Showing
 pub mod Telling
 pub mod Scripts

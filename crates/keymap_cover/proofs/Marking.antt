@@ -9,7 +9,7 @@ use Rattle.std.proofs.Common.{◌&&◌}
 use Rattle.std.specs.Prelude.{nat_lt}
 use Rattle.std.proofs.lemmas.Bool.{and_from, and_parts, false_from_ne_true}
 use Rattle.std.proofs.lemmas.List.{get_or-set_same, get_or-set_other}
-use Rattle.console_states.proofs.Visible.{same-truth, any-member, some-member}
+use Rattle.console_states.proofs.Shared.{any-member, same-truth, some-member}
 use Rattle.keymap_cover.specs.SeenSights.{seen_in}
 use Rattle.console_states.specs.declared.selection.Sight.TheVariants as sight
 

@@ -18,18 +18,14 @@ use Rattle.console_states.specs.Inner.Standing.{Stands}
 use Rattle.console_states.specs.Moves.{free_with, IsMove, IsPathFrom, State, events_along, events_of_move, state_from}
 use Rattle.console_states.specs.Returning.{but_scroll}
 use Rattle.console_states.specs.Sights.{SeesBy, SeesNext, IsPendingFor, selection_of}
-use Rattle.console_states.proofs.Going.{going-sees}
-use Rattle.console_states.proofs.Scripts.{holder-pressed}
-use Rattle.console_states.proofs.Standing.{stands-from}
+use Rattle.console_states.proofs.Shared.{all-seen, going-sees, holder-pressed, near-path, press-presses}
+use Rattle.console_states.proofs.Shared.{sees-all, stands-from}
 use Rattle.std.proofs.lemmas.Bool.{and_parts, false_from_ne_true}
-use Rattle.console_states.proofs.Visible.{all-seen, sees-all}
 use Rattle.console_states.specs.Sights.{can_see}
-use Rattle.console_states.proofs.Visits.{near-path, press-presses}
 use Rattle.console_scripts.specs.declared.onward.Onward.{Onward}
 use Rattle.console_scripts.specs.Inner.Showing.{IsAt}
 use Rattle.console_scripts.specs.Visiting.{IsOnward, resting_after}
-use Rattle.console_scripts.proofs.Approaching.{at-reset}
-use Rattle.console_scripts.proofs.Scrolling.{shown-resting}
+use Rattle.console_scripts.proofs.Shared.{at-reset, shown-resting}
 use Rattle.keymap_cover.specs.Covering.{IsScrollOff}
 use Rattle.keymap_cover.specs.Inner.OneWay.{is_left, AreKeys, AreLeft, GoesLeaving, GoesToNext, SeesRest}
 use Rattle.keymap_cover.specs.Inner.Scripts.{GoesScrollOff, GoesToEnd, IsResting, TurnsNone}

@@ -17,8 +17,8 @@ use Rattle.console_states.specs.declared.selection.Selection.{Selection}
 use Rattle.console_core.specs.Resolved.{held, dead_keys_taken, pending_by_dead_keys}
 use Rattle.console_core.specs.History.{pressed, is_on_after, HasKey, is_locked_after, accent_pending_after}
 use Rattle.console_core.specs.History.{is_any_on_after}
-use Rattle.console_core.proofs.OneMore.{pressed-start, pressed-press, pressed-release, pressed-reset}
-use Rattle.keymap_core.proofs.HoldingTests.{no-modifier}
+use Rattle.console_core.proofs.Shared.{pressed-press, pressed-release, pressed-reset, pressed-start}
+use Rattle.keymap_core.proofs.Shared.{no-modifier}
 use Rattle.console_states.specs.Sights.{selection_with, slot_in, column_in, look_selected, selection_after, SeesNext}
 use Rattle.keymap_cover.specs.ScriptEvents.{CanFollow, ArePossible}
 use Rattle.console_states.specs.declared.sights.Sights.{Sights}

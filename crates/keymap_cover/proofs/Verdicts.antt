@@ -4,9 +4,8 @@ use Rattle.keymap_cover.proofs.Common.{if◌then◌else◌, MapValue, Sight, See
 use Rattle.std.proofs.lemmas.List.Elements.{All-head, All-tail}
 use Rattle.console_states.specs.Returning.{NoTurnIsOneWay}
 use Rattle.console_states.specs.Sights.{can_see}
-use Rattle.console_states.proofs.Seeing.{sights_are_reachable}
-use Rattle.console_states.proofs.Visible.{all-seen, sees-all}
-use Rattle.console_scripts.proofs.Visitable.{seen_can_be_visited}
+use Rattle.console_states.proofs.Shared.{all-seen, sees-all, sights_are_reachable}
+use Rattle.console_scripts.proofs.Shared.{seen_can_be_visited}
 use Rattle.keymap_cover.specs.declared.parts.Cover.{Cover}
 use Rattle.keymap_cover.specs.declared.parts.Verdict.{Verdict}
 use Rattle.keymap_cover.specs.declared.parts.Verdict.TheVariants.{Seen, LeftOut, Never}

@@ -10,7 +10,7 @@ use Rattle.std.proofs.lemmas.List.{take_more}
 use Rattle.console_core.specs.Resolved.{locked}
 use Rattle.console_states.specs.Sticking.{IsOfPressedKey}
 use Rattle.keymap_cover.specs.Inner.Scripts.{TurnsNone, GoesBy, GoesUp, GoesToRest}
-use Rattle.console_core.proofs.OneMore.{resolved-more, locked-release, locked-reset}
+use Rattle.console_core.proofs.Shared.{locked-release, locked-reset, resolved-more}
 use Rattle.keymap_cover.proofs.Scripts.{at-rest}
 use Rattle.console_core.specs.declared.event.Event.TheVariants as event
 

@@ -12,10 +12,8 @@ use Rattle.keymap_diff.proofs.Common.{IsAdmitted, looked_up, AreCellsClear, IsAc
 use Rattle.keymap_diff.proofs.Common.{ShowsNothing, IsAnsweredAlike}
 use Rattle.keymap_diff.specs.Telling.{AnswersAreSame}
 use Rattle.keymap_diff.proofs.Reached.{stands-by, pends-by}
-use Rattle.console_core.proofs.OneMore.{resolved-start, resolved-more}
-use Rattle.console_core.proofs.OneMap.{one_in_force}
-use Rattle.console_core.proofs.Deliveries.{reverse-cons}
-use Rattle.console_states.proofs.Seeing.{admitted-before, taken-dead}
+use Rattle.console_core.proofs.Shared.{one_in_force, resolved-more, resolved-start, reverse-cons}
+use Rattle.console_states.proofs.Shared.{admitted-before, taken-dead}
 use Rattle.keymap_core.specs.declared.action.Action.TheVariants as act
 use Rattle.keymap_core.specs.declared.action.Holding.TheVariants as holding
 use Rattle.keymap_diff.proofs.OneEvent.{Alike, look-is, alike-look, alike-start, alike-release, alike-reset}

@@ -7,7 +7,8 @@ use Rattle.keymap_diff.proofs.Common.{between, alone, Under, State, start, IsIdl
 use Rattle.keymap_diff.proofs.Common.{state_from, presses_along, events_along, presses, state_of, Entries, IsReached}
 use Rattle.keymap_diff.proofs.Common.{IsTrail, TellsApart, answer_to, Answer, ◌≢◌, NoneShows, Shows, ShowsNothing}
 use Rattle.keymap_diff.proofs.Common.{AreCellsClear}
-use Rattle.console_states.proofs.Looking.{push-reversed}
+use Rattle.console_states.proofs.Shared.{dead-tapped, pending-is, press-presses, push-reversed, reached-one}
+use Rattle.console_states.proofs.Shared.{short-admitted, short-tap, tap-pending}
 use Rattle.keymap_diff.specs.Telling.{EndsByPress, IsAnsweredAlike}
 use Rattle.keymap_diff.specs.Inner.Searches.{IsFoundBy, IsMetFromStart, IsReach, IsReachAt, IsScript, IsSearched}
 use Rattle.keymap_diff.specs.Inner.Searches.{IsSearchedAt, IsTappedAt, IsWithin}
@@ -17,11 +18,6 @@ use Rattle.keymap_diff.specs.declared.searched.Searched.{Searched as SearchedVal
 use Rattle.keymap_diff.specs.declared.showing.Shown.{Shown}
 use Rattle.keymap_diff.specs.declared.telling.Telling.{Telling}
 use Rattle.keymap_diff.specs.declared.telling.Telling.TheVariants.{Told, Never, Undecided}
-use Rattle.console_states.proofs.Beginning.{reached-one}
-use Rattle.console_states.proofs.Going.{pending-is, tap-pending}
-use Rattle.console_states.proofs.Shown.{short-admitted, short-tap}
-use Rattle.console_states.proofs.Tapping.{dead-tapped}
-use Rattle.console_states.proofs.Visits.{press-presses}
 use Rattle.keymap_diff.proofs.Clearing.{searched-cells}
 use Rattle.keymap_diff.proofs.Unlike.{Placed, IsPressAnsweredAlike, look-in, path-too, placed-along, placed-path}
 use Rattle.keymap_diff.proofs.Unlike.{told-accent, told-cells}

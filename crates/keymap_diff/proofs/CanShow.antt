@@ -4,7 +4,7 @@ use Rattle.keymap_diff.proofs.Common.{◌≡◌, ℕ, ◌+◌, ◌<◌, Bool, tr
 use Rattle.keymap_diff.proofs.Common.{subst, ◌∙◌, length, Cell, MapValue, State, NoneShows, ShowsNothing, look_selected}
 use Rattle.keymap_diff.proofs.Common.{looked_up, MatchOption, option_or, sym}
 use Rattle.std.proofs.Common.{get_or}
-use Rattle.console_core.proofs.Borne.{column_of-lt}
+use Rattle.console_core.proofs.Shared.{column_of-lt}
 use Rattle.console_core.specs.Columns.{slot_of}
 use Rattle.std.proofs.lemmas.List.{get_or_default}
 use Rattle.console_states.specs.Sights.{selection_of, slot_in}

@@ -2,10 +2,7 @@
 use Rattle.keymap_diff.proofs.Common.{◌≡◌, List, [], ◌∷◌, ◌++◌, subst, refl, All-head, All-tail}
 use Rattle.keymap_diff.proofs.Common.{Event, Press, Act, Char, HasKey, HasKeys, between, resolved, in_force}
 use Rattle.keymap_core.specs.Bearers.{IsCellOf}
-use Rattle.console_core.proofs.Bearing.{remembered-cell}
-use Rattle.console_core.proofs.Borne.{resolved-looked}
-use Rattle.console_core.proofs.Facts.{looks_are_cells}
-use Rattle.console_core.proofs.OneMap.{one_in_force}
+use Rattle.console_core.proofs.Shared.{looks_are_cells, one_in_force, remembered-cell, resolved-looked}
 use Rattle.keymap_core.specs.declared.action.Action.TheVariants as act
 use Rattle.keymap_core.specs.declared.action.Holding.TheVariants as holding
 use Rattle.keymap_diff.specs.Telling.{SafeListsAreClean, SameIsNeverTold}

@@ -12,9 +12,7 @@ use Rattle.keymap_diff.specs.Inner.Showing.{NoneShowsBelow, IsFirstShown}
 use Rattle.keymap_diff.specs.declared.searched.Searched.{Searched}
 use Rattle.keymap_diff.specs.declared.showing.Shown.{Shown}
 use Rattle.console_states.specs.Searching.{Searched as SearchedStates, AreOrdered}
-use Rattle.console_states.proofs.Concluding.{IsAmong, among-moved}
-use Rattle.console_states.proofs.Searching.{all-done}
-use Rattle.console_states.proofs.Unscrolled.{moves-unscrolled, same_moved}
+use Rattle.console_states.proofs.Shared.{IsAmong, all-done, among-moved, moves-unscrolled, same_moved}
 
 -- no more presses lead to a place than stand before it
 trail-few : (es : Entries) (j : ℕ) (path : List Move) → IsTrail es j path → presses_along path ≤ j

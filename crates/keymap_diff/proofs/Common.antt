@@ -36,7 +36,7 @@ pub use Rattle.keymap_core.specs.declared.entry.Cell.{Cell}
 pub use Rattle.keymap_core.specs.declared.entry.Cell.TheVariants.{Act, Char}
 pub use Rattle.keymap_core.specs.Accents.{own_of}
 pub use Rattle.keymap_core.specs.Actions.{holding_action, same_action}
-pub use Rattle.keymap_core.proofs.SameActions.{same_action-refl, same_action-true}
+pub use Rattle.keymap_core.proofs.Shared.{same_action-refl, same_action-true}
 pub use Rattle.keymap_core.specs.Maps.{MapValue, accent_at}
 pub use Rattle.keymap_core.specs.Numbers.{key_count}
 pub use Rattle.keymap_diff.specs.Inner.Showing.{AreCellsAlike, AreCellsClear, Gives, IsAccentClear, IsUnnoticed}

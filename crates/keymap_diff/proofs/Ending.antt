@@ -26,9 +26,7 @@ use Rattle.keymap_diff.specs.declared.showing.Shown.{Shown}
 use Rattle.console_states.specs.Sticking.{ReachesMoreThan}
 use Rattle.console_states.specs.Searching.{AreMetOnce, AreOrdered, AreSafe, GoBack, IsStuck}
 use Rattle.console_states.specs.declared.search.Stuck.{Stuck}
-use Rattle.console_states.proofs.Beginning.{reached-one, start-one}
-use Rattle.console_states.proofs.Concluding.{safe-below}
-use Rattle.console_states.proofs.GoingBack.{searched-back}
+use Rattle.console_states.proofs.Shared.{reached-one, safe-below, searched-back, start-one}
 use Rattle.keymap_diff.proofs.Apart.{path-join}
 use Rattle.keymap_diff.proofs.Clearing.{among-along}
 

@@ -6,11 +6,11 @@ use Rattle.std.proofs.lemmas.List.{reverse-append, reverse-reverse}
 use Rattle.std.specs.Bool.{Decides}
 use Rattle.std.specs.Cmp.{booleans_Decides}
 use Rattle.std.proofs.lemmas.Bool.Decides.{Decides-and, Decides-eqb}
-use Rattle.console_core.proofs.Deliveries.{answers_to-push}
+use Rattle.console_core.proofs.Shared.{answers_to-push}
 use Rattle.console_core.specs.History.{Maps}
 use Rattle.console_core.specs.contracts.event.AnswerPartialEq.TheImpl as answer
 use Rattle.console_core.specs.declared.event.Answer.TheVariants as variant
-use Rattle.console_states.proofs.Seeing.{admitted-before}
+use Rattle.console_states.proofs.Shared.{admitted-before}
 use Rattle.keymap_diff.proofs.Reached.{presses-before}
 use Rattle.keymap_diff.proofs.Same.{action-same, stable}
 use Rattle.keymap_diff.specs.Telling.{DifferAtLast, HasFewestTelling, IsAnsweredBy, ToldListsDifferAtLast}

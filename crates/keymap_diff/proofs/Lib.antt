@@ -14,4 +14,5 @@ pub mod OneEvent
 pub mod Pushing
 pub mod Reached
 pub mod Same
+pub mod Shared
 pub mod Unlike

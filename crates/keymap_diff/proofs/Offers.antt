@@ -8,9 +8,7 @@ use Rattle.console_states.specs.declared.held.Held.{Held}
 use Rattle.std.proofs.lemmas.List.Elements.{Contains-append_left, Contains-push, Contains-push_cases}
 use Rattle.keymap_diff.specs.Inner.Searches.{AreOffering, IsClearBehind, IsMetAt, IsMetFromStart, IsSearched, IsWithin}
 use Rattle.keymap_diff.specs.declared.searched.Searched.{Searched as SearchedValue}
-use Rattle.console_states.proofs.Adding.{empty-none}
-use Rattle.console_states.proofs.Beginning.{reached-one}
-use Rattle.console_states.proofs.Searching.{place_last, same_entry}
+use Rattle.console_states.proofs.Shared.{empty-none, place_last, reached-one, same_entry}
 use Rattle.keymap_diff.proofs.Clearing.{searched-clear}
 
 pub offering-none : (m : MapValue) (i : ℕ) (es : Entries) (low : ℕ) (states : List State) → states ≡ []

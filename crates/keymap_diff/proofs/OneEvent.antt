@@ -11,12 +11,11 @@ use Rattle.keymap_diff.proofs.Common.{resolve_press, answer_resolved, ResolvedEv
 use Rattle.keymap_diff.proofs.Common.{ReleasedKey, WasReset, between, resolved, answer_to, State, is_held, Follows}
 use Rattle.keymap_diff.proofs.Common.{looked_up, AreCellsAlike, IsUnnoticed, MakesSame}
 use Rattle.console_core.specs.Columns.{look_with}
-use Rattle.console_core.proofs.OneMore.{resolved-more, held-character, held-action, held-release, held-reset}
-use Rattle.console_core.proofs.OneMore.{locked-character, locked-action, locked-release, locked-reset}
-use Rattle.console_core.proofs.OneMore.{remembered-character, remembered-action, remembered-release, remembered-reset}
-use Rattle.console_core.proofs.OneMore.{pending-start, pending-character, pending-action, pending-release}
-use Rattle.console_core.proofs.OneMore.{pending-reset}
-use Rattle.console_core.proofs.OneMap.{one_in_force}
+use Rattle.console_core.proofs.Shared.{held-action, held-character, held-release, held-reset, locked-action}
+use Rattle.console_core.proofs.Shared.{locked-character, locked-release, locked-reset, one_in_force}
+use Rattle.console_core.proofs.Shared.{pending-action, pending-character, pending-release, pending-reset}
+use Rattle.console_core.proofs.Shared.{pending-start, remembered-action, remembered-character}
+use Rattle.console_core.proofs.Shared.{remembered-release, remembered-reset, resolved-more}
 use Rattle.keymap_core.specs.declared.action.Action.TheVariants as act
 use Rattle.keymap_core.specs.declared.action.Holding.TheVariants as holding
 

@@ -1,5 +1,7 @@
 -- The states in which a console stands, by the presses that lead there, and where an accent is pending.
-use Rattle.console_states.proofs.Staying.{KeepsHeld}
+use Rattle.console_states.proofs.Shared.{AreSpared, IsKeptBelow, KeepsHeld, LeadsOn, admitted-before}
+use Rattle.console_states.proofs.Shared.{follows-look, follows-nothing, keeps-held, not_holding, stays}
+use Rattle.console_states.proofs.Shared.{stays-press, stays-release, taken-dead, takes-pending}
 use Rattle.console_states.specs.Moves.{IsForgetful}
 use Rattle.keymap_diff.proofs.Common.{NeverForgetsBelow}
 use Rattle.keymap_diff.proofs.Common.{suc, ◌≡◌, ℕ, ◌+◌, ◌<◌, ◌≤◌, Bool, true, false, List, [], ◌∷◌, Some, refl, ap}
@@ -10,12 +12,8 @@ use Rattle.keymap_diff.proofs.Common.{resolve_press, between, resolved, is_secon
 use Rattle.keymap_diff.proofs.Common.{IsNoLoad, alone, State, IsMove, moved, look_in, IsPath, IsPathFrom, state_after}
 use Rattle.keymap_diff.proofs.Common.{state_from, presses_along, presses_of, presses, IsAdmitted}
 use Rattle.keymap_diff.proofs.Common.{IsOfferedIn, Follows, usable, holding_action, Hold, Turn}
-use Rattle.console_core.proofs.OneMore.{one_map, resolved-start, resolved-more, pending-start, pending-character}
-use Rattle.console_core.proofs.OneMore.{pending-action, pending-release, pending-reset}
-use Rattle.console_states.proofs.Following.{follows-look, follows-nothing, not_holding}
-use Rattle.console_states.proofs.Seeing.{admitted-before, keeps-held, taken-dead, takes-pending}
-use Rattle.console_states.proofs.Sparing.{IsKeptBelow, AreSpared, stays}
-use Rattle.console_states.proofs.Staying.{LeadsOn, stays-press, stays-release}
+use Rattle.console_core.proofs.Shared.{one_map, pending-action, pending-character, pending-release}
+use Rattle.console_core.proofs.Shared.{pending-reset, pending-start, resolved-more, resolved-start}
 use Rattle.keymap_core.specs.declared.action.Action.TheVariants as act
 
 pub presses-before : (e : Event) (h : List Event) → presses h ≤ presses (e ∷ h)

@@ -15,10 +15,10 @@ use Rattle.keymap_diff.proofs.Common.{◌<◌, NoneShows, AreCellsAlike, AreCell
 use Rattle.keymap_diff.proofs.Common.{ShowsNothing}
 use Rattle.console_core.specs.declared.event.Answer.TheVariants as answer
 use Rattle.keymap_diff.proofs.OneEvent.{look-is, own-composed, press-answered, press-resolved}
-use Rattle.console_core.proofs.OneMore.{one_map, resolved-start, pending-start, remembered-character, remembered-action}
-use Rattle.console_states.proofs.Going.{pending-along}
-use Rattle.console_states.proofs.Shown.{IsShort, short-start, short-along}
-use Rattle.console_states.proofs.Standing.{idle-none, stands-from, stands-start}
+use Rattle.console_core.proofs.Shared.{one_map, pending-start, remembered-action, remembered-character}
+use Rattle.console_core.proofs.Shared.{resolved-start}
+use Rattle.console_states.proofs.Shared.{IsShort, idle-none, pending-along, short-along, short-start}
+use Rattle.console_states.proofs.Shared.{stands-from, stands-start}
 use Rattle.keymap_core.specs.declared.action.Action.TheVariants as act
 
 -- ---- by the cells that the key looks up

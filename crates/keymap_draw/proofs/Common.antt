@@ -2,7 +2,7 @@
 pub use Prim.Native.Nat.{suc, zero}
 pub use Rattle.keymap_check.specs.Said.{finding_words}
 pub use Rattle.keymap_check.specs.declared.finding.Finding.{Finding}
-pub use Rattle.keymap_core.proofs.Lists.{along}
+pub use Rattle.keymap_core.proofs.Shared.{along}
 pub use Rattle.keymap_core.specs.Accents.{AccentValue, blank}
 pub use Rattle.keymap_core.specs.Actions.{accent_names, name_of}
 pub use Rattle.keymap_core.specs.Below.{passed}
@@ -49,7 +49,7 @@ pub use Rattle.keymap_draw.specs.declared.sheet.Content.TheVariants.{Bytes, Numb
 pub use Rattle.keymap_text.specs.Printed.{word}
 unfoldable pub use Rattle.keymap_text.specs.Printed.{accent_words, slot_words}
 pub use Rattle.keymap_text.specs.Rows.{AccentDefinition, Definition}
-pub use Rattle.messages.proofs.Passed.{decimal_passes}
+pub use Rattle.messages.proofs.Shared.{decimal_passes}
 pub use Rattle.std.proofs.Common.{All, Bool, List, None, Option, Some, [], ap, append-nil, append_assoc, arith, drop}
 pub use Rattle.std.proofs.Common.{false, get_or, inl, inr, length, map, not, refl, reverse, rules, subst, sym, take}
 pub use Rattle.std.proofs.Common.{true, ℕ}

@@ -7,7 +7,7 @@ use Rattle.std.proofs.Common.{add-one, drop-cons}
 use Rattle.std.proofs.Math.ListN.{drop_of_length-le}
 use Rattle.std.specs.Option.{unwrap_or}
 use Rattle.std.proofs.lemmas.Option.{unwrap_or-slice_get}
-use Rattle.keymap_core.proofs.Below.{gathered-more, gathered-none}
+use Rattle.keymap_core.proofs.Shared.{gathered-more, gathered-none}
 
 -- nothing is left to add
 pub numbered_end : {A : Type 0} (f : ℕ → A → List Fact) (xs : List A) (i : ℕ) (old all : List Fact) → length xs ≤ i

@@ -3,7 +3,7 @@ use Rattle.keymap_draw.proofs.Common.{zero, suc, ◌≡◌, ℕ, Bool, true, fal
 use Rattle.keymap_draw.proofs.Common.{nat_lt, ◌∙◌, sym, append-nil, append_assoc, length, cond_both, list_all, is_seen}
 use Rattle.keymap_draw.proofs.Common.{if◌then◌else◌}
 use Rattle.bstr.specs.Utf8.{lossy_chars}
-use Rattle.messages.proofs.Passed.{append_all}
+use Rattle.messages.proofs.Shared.{append_all}
 use Rattle.keymap_draw.specs.Drawings.{shown_character, shortened, shown_name}
 use Rattle.keymap_draw.proofs.Scans.{both_true, first_true, second_true}
 

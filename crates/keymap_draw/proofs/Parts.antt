@@ -17,7 +17,7 @@ use Rattle.messages.specs.Filled.{filled, words_before, words_behind}
 use Rattle.keymap_draw.proofs.Scans.{both_true, first_true, second_true, failed, scan-append, inside_from, was_inside}
 use Rattle.keymap_draw.proofs.Scans.{value_scan, text_scan, further, decimal_inner, place, ends as ends_in}
 use Rattle.keymap_draw.proofs.Scans.{escaped_scan, end_scan}
-use Rattle.messages.proofs.Passed.{filled_all}
+use Rattle.messages.proofs.Shared.{filled_all}
 use Rattle.keymap_core.specs.declared.action.Holding.TheVariants as h
 use Rattle.keymap_core.specs.declared.action.Modifier.TheVariants as m
 use Rattle.keymap_core.specs.declared.action.Lock.TheVariants as l

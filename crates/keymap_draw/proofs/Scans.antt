@@ -14,7 +14,7 @@ use Rattle.keymap_draw.specs.WellFormed.{Tag, Role, element, with_characters, lo
 use Rattle.keymap_draw.specs.WellFormed.Role.{Holder, Lettered}
 use Rattle.std.proofs.Common.{◌*◌}
 use Rattle.std.specs.Char.{digit_char}
-use Rattle.messages.proofs.Passed.{append_all}
+use Rattle.messages.proofs.Shared.{append_all}
 use Rattle.keymap_draw.specs.Markup.{is_referred, reference}
 use Rattle.keymap_draw.specs.Sheets.{ends_told}
 use Rattle.keymap_draw.specs.WellFormed.Place.{Bracket, Number}

@@ -11,9 +11,7 @@ pub use Rattle.keymap_fmt.specs.Types.{Apart, AtTop, Below, Beside, Code, Commen
 pub use Rattle.keymap_fmt.specs.Types.{TextFaultKind, TokenKind}
 pub use Rattle.keymap_fmt.specs.declared.layout.Row.{Row}
 pub use Rattle.keymap_fmt.specs.declared.layout.Row.TheVariants.{Accent, Slot}
-pub use Rattle.keymap_text.proofs.Alone.{stands_alone}
-pub use Rattle.keymap_text.proofs.InFront.{skipped_by}
-pub use Rattle.keymap_text.proofs.Leading.{leading_fail, leading_pass}
+pub use Rattle.keymap_text.proofs.Shared.{leading_fail, leading_pass, skipped_by, stands_alone}
 pub use Rattle.keymap_text.specs.Lexical.{Found, Front, Refused, Skipped, TokenValue, Unfinished, front_of, is_blank}
 pub use Rattle.keymap_text.specs.Lexical.{is_space, leading, stays_on_line}
 unfoldable pub use Rattle.keymap_text.specs.Lexical.{tokens_after}

@@ -14,9 +14,8 @@ use Rattle.keymap_text.specs.declared.token.TokenKind.TheVariants.{ParenL, Paren
 use Rattle.keymap_text.specs.declared.token.Token.{Token}
 use Rattle.keymap_text.specs.Lexical.{separates, Tokens, Stops, Then, token_before, first}
 use Rattle.keymap_text.specs.Tokens.{token_view}
-use Rattle.keymap_text.proofs.Alone.{skipped_separates}
-use Rattle.keymap_text.proofs.InFront.{front_fits}
-use Rattle.keymap_text.proofs.Splitting.{split_found, split_refused, split_unfinished}
+use Rattle.keymap_text.proofs.Shared.{front_fits, skipped_separates, split_found, split_refused}
+use Rattle.keymap_text.proofs.Shared.{split_unfinished}
 use Rattle.keymap_fmt.specs.Inner.Reading.{ComesNext}
 use Rattle.keymap_fmt.proofs.Reading.{read_after, read_nil, read_blank, read_hash, read_token, read_refused}
 use Rattle.keymap_fmt.proofs.Reading.{read_unfinished}

@@ -6,7 +6,7 @@ use Rattle.std.proofs.Common.{eq-or-lt_of_le}
 use Rattle.std.proofs.lemmas.List.{get_or-reverse, length-reverse}
 use Rattle.std.proofs.lemmas.List.Sums.{prefix_len_passes, prefix_len_stops, suffix_len-le-length}
 use Rattle.std.specs.Prelude.{reverse}
-use Rattle.keymap_text.proofs.Leading.{leading_append}
+use Rattle.keymap_text.proofs.Shared.{leading_append}
 
 -- bytes that all pass, before one that fails
 pub leading_ended : (p : ℕ → Bool) (w : List ℕ) (c : ℕ) (y : List ℕ) → leading p w ≡ length w → p c ≡ false

@@ -6,7 +6,7 @@ use Rattle.keymap_fmt.proofs.Common.{TextFaultKind, TokenKind, Standing, Beside,
 use Rattle.keymap_fmt.proofs.Common.{pieces_after, lowered, comment, trimmed}
 use Rattle.std.proofs.Common.{eq-eqb}
 use Rattle.std.proofs.Math.Seq.{take-append_seam, drop-append_seam}
-use Rattle.keymap_text.proofs.InFront.{front_blank, front_comment}
+use Rattle.keymap_text.proofs.Shared.{front_blank, front_comment}
 use Rattle.keymap_fmt.proofs.Leading.{leading_ended, trim_kept}
 
 -- no bytes have no pieces

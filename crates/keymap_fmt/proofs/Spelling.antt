@@ -12,7 +12,7 @@ use Rattle.keymap_text.specs.Words.{item}
 use Rattle.keymap_core.specs.Maps.{MapValue}
 use Rattle.keymap_fmt.specs.Layout.{ending as ending_of_part}
 use Rattle.keymap_fmt.specs.Same.{kind_and_bytes, token_in, token_of}
-use Rattle.keymap_text.proofs.Splitting.{split_one, split_nil, split_comment, split_blank}
+use Rattle.keymap_text.proofs.Shared.{split_blank, split_comment, split_nil, split_one}
 use Rattle.keymap_fmt.proofs.Leading.{leading_ended}
 use Rattle.keymap_fmt.proofs.Reading.{BeginsBlank, ReadsToken, ReadsComment, read_nil, read_one, read_blank, read_hash}
 use Rattle.keymap_fmt.proofs.Reading.{read_token, read_refused, read_unfinished}

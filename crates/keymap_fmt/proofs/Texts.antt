@@ -6,7 +6,7 @@ use Rattle.keymap_fmt.proofs.Common.{Front, Skipped, Found, Refused, Unfinished,
 use Rattle.keymap_fmt.proofs.Common.{Standing, AtTop, Beside, Below, Apart, Part, Comment, Code, PieceValue}
 use Rattle.keymap_fmt.proofs.Common.{pieces_after, lower, lowered, behind, trimmed}
 use Rattle.std.proofs.lemmas.List.{get_or-take}
-use Rattle.keymap_text.proofs.Leading.{leading_front, leading_part}
+use Rattle.keymap_text.proofs.Shared.{leading_front, leading_part}
 use Rattle.keymap_fmt.proofs.Leading.{trim_first}
 use Rattle.keymap_fmt.proofs.Reading.{ReadsToken, ReadsComment, read_nil, read_one, read_blank, read_hash, read_token}
 use Rattle.keymap_fmt.proofs.Reading.{read_refused, read_unfinished}

@@ -7,7 +7,7 @@ use Rattle.keymap_fmt.proofs.Common.{stays_on_line, leading, PieceValue, pieces,
 use Rattle.keymap_fmt.proofs.Common.{lead, width, before, after, ending, line_end, start, line_begun, lines_before}
 use Rattle.keymap_fmt.proofs.Common.{comment_lead, rendered_from, formatted}
 use Rattle.keymap_fmt.specs.Lines.{Edge, Blank, Ink, LineEnd, EmptyLine, behind_byte, are_lines, HasTidyLines}
-use Rattle.keymap_text.proofs.Leading.{leading_tail}
+use Rattle.keymap_text.proofs.Shared.{leading_tail}
 use Rattle.keymap_fmt.proofs.Texts.{ArePieces, no_piece, one_piece, Reads, reaches, text_pieces}
 use Rattle.keymap_fmt.proofs.Written.{IsAt, closed, after_at}
 use Rattle.std.proofs.lemmas.Bool.{and_parts}

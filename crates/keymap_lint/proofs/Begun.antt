@@ -16,15 +16,14 @@ use Rattle.std.proofs.lemmas.Option.{get_or_from_slice_get}
 use Rattle.std.specs.Prelude.{Contains, Ok, slice_get}
 use Rattle.keymap_core.specs.Accents.{AccentValue, blank, own_of}
 use Rattle.keymap_core.specs.Maps.{accent_at}
-use Rattle.keymap_core.proofs.Lists.{find-true}
+use Rattle.keymap_core.proofs.Shared.{find-true}
 use Rattle.keymap_text.specs.Items.{character}
 use Rattle.keymap_text.specs.Lexical.{TokenValue}
 use Rattle.keymap_text.specs.Meaning.{item_of, tokens}
 use Rattle.keymap_places.specs.Placed.{AreRows, IsSpelledBy, Row, begins, defined, is_same, no_row, one_row, places_after}
 use Rattle.keymap_places.specs.Placed.{places_of}
 use Rattle.keymap_text.specs.Rows.{ArePairs, Definition, Defines, of_accent, of_key}
-use Rattle.keymap_places.proofs.InForce.{accent_in_force}
-use Rattle.keymap_places.proofs.Parts.{accent_tokens, own_at, pair_at}
+use Rattle.keymap_places.proofs.Shared.{accent_in_force, accent_tokens, own_at, pair_at}
 use Rattle.keymap_lint.specs.Kinds.{base_at, is_above, is_zero, paren}
 use Rattle.keymap_lint.specs.Lists.{spelled_by}
 use Rattle.keymap_lint.specs.Positions.{BeginsAt, BeginsInForceAt, HasCharacter, HasPair, HasToken, IsPairAgain}

@@ -12,7 +12,7 @@ use Rattle.std.specs.Prelude.{Contains}
 use Rattle.keymap_lint.specs.Types.{Holding, Cell, Char, Act, Finding, Accent, CellInForce}
 use Rattle.keymap_core.specs.Accents.{AccentValue, own_of}
 use Rattle.keymap_core.specs.Below.{first_below}
-use Rattle.keymap_core.proofs.Below.{first_below-some}
+use Rattle.keymap_core.proofs.Shared.{first_below-some}
 use Rattle.keymap_core.specs.Borne.{is_upper_live, any_below}
 use Rattle.keymap_core.specs.Maps.{accent_at, cell_at}
 use Rattle.keymap_lint.specs.Kinds.{at, nowhere, no_key, no_shift, has_keys, has_shift, mixed_keys, character_of}

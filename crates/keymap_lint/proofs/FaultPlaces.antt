@@ -13,10 +13,8 @@ use Rattle.keymap_core.specs.Maps.{MapValue}
 use Rattle.keymap_lint.specs.Faults.{AreFaults, IsFaultBehind, IsWanted, start_behind}
 use Rattle.keymap_lint.specs.Positions.{FaultLiesWithin}
 use Rattle.keymap_lint.specs.Types.{PlacedFault}
-use Rattle.keymap_text.proofs.Lines.{feeds, line_more}
-use Rattle.keymap_places.proofs.LineStarts.{next_start}
-use Rattle.keymap_places.proofs.TokenPlaces.{tokens_are_placed}
-use Rattle.keymap_text.proofs.Verdicts.{fault_to, fault_within, not_both}
+use Rattle.keymap_text.proofs.Shared.{fault_to, fault_within, feeds, line_more, not_both}
+use Rattle.keymap_places.proofs.Shared.{next_start, tokens_are_placed}
 use Rattle.keymap_text.specs.Lexical.{TokenValue, leading, stays_on_line, tokens_after}
 use Rattle.keymap_places.specs.LineOf.{IsLineStart, line_end}
 use Rattle.keymap_text.specs.Meaning.{Fault, Spells, ending_of_tokens, item_of, line, list_of, tokens}

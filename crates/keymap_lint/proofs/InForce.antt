@@ -22,13 +22,11 @@ use Rattle.keymap_text.specs.Lexical.{TokenValue}
 use Rattle.keymap_text.specs.Meaning.{item_of, tokens}
 use Rattle.keymap_places.specs.Placed.{Row, IsSpelledBy, IsPlaced, is_same, span_of, places_of}
 use Rattle.keymap_text.specs.Rows.{Defines, KeyDefinition}
-use Rattle.keymap_places.proofs.InForce.{slot_in_force}
-use Rattle.keymap_places.proofs.Parts.{slot_tokens}
-use Rattle.keymap_places.proofs.TokenPlaces.{tokens_are_placed}
+use Rattle.keymap_places.proofs.Shared.{cell_at as cell_of_part, slot_in_force, slot_tokens}
+use Rattle.keymap_places.proofs.Shared.{tokens_are_placed}
 use Rattle.keymap_lint.specs.Lists.{spelled_by}
 use Rattle.keymap_lint.specs.Positions.{HasToken, SpellsCell, CellsInForceAreSpelled}
 use Rattle.keymap_lint.specs.Spelled.{offset_at, cells_defined, cells_in_force, is_in_force, is_last, content}
-use Rattle.keymap_places.proofs.Parts as parts
 use Rattle.keymap_lint.proofs.Each.{all_flat}
 
 -- ---- tokens
@@ -92,7 +90,7 @@ spelled_at text m rows by slot p e column few =
     let its = get_or-map item_of row (column + 1) nothing (item_of nothing) short ∙ ap item_of same in
     token_at text m rows (p.first + (1 + column)) (λ token. cell (item_of token) ≡ Ok (cell_at m slot column))
     there
-    (ap cell (sym its) ∙ parts.cell_at (map item_of row) slot entry d column few (item_of nothing) (Char 0))
+    (ap cell (sym its) ∙ cell_of_part (map item_of row) slot entry d column few (item_of nothing) (Char 0))
 
 -- ---- the cells in force
 

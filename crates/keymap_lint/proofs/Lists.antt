@@ -4,8 +4,7 @@ use Rattle.keymap_lint.proofs.Common.{arith, range_with_len, flat_map, gathered}
 use Rattle.std.proofs.Common.{append_assoc}
 use Rattle.std.proofs.lemmas.List.{append-nil, flat_map_more, take_more}
 use Rattle.std.proofs.lemmas.List.FromFn.{map-range_with_len_more}
-use Rattle.keymap_core.proofs.Below.{gathered-none, gathered-more}
-use Rattle.keymap_core.proofs.BorneTests.{any-start, any-none}
+use Rattle.keymap_core.proofs.Shared.{any-none, any-start, gathered-more, gathered-none}
 
 -- an element behind those of the numbers below n
 pub map_step : {X : Type 0} (f : ℕ → X) (old xs ys : List X) (n : ℕ) (x : X)

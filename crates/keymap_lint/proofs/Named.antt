@@ -17,8 +17,8 @@ use Rattle.std.proofs.lemmas.List.Sorted.{list_any-IsPermutation}
 use Rattle.keymap_core.specs.Bearers.{IsCellOf, IsUpperLive}
 use Rattle.keymap_check.specs.Findings.{AreFindings, IsFinding, IsPlaceOf}
 use Rattle.console_core.specs.Headline.{IsSafe}
-use Rattle.keymap_places.proofs.InForce.{no_slot}
-use Rattle.keymap_text.proofs.Verdicts.{one_map, not_both}
+use Rattle.keymap_places.proofs.Shared.{no_slot}
+use Rattle.keymap_text.proofs.Shared.{not_both, one_map}
 use Rattle.keymap_lint.specs.Types.{Diagnostics, Spelled as OfSpelled, Holding, Cell, Char, Act, Finding, Defined}
 use Rattle.keymap_lint.specs.Types.{Accent, CellInForce}
 use Rattle.keymap_lint.specs.Kinds.{defines, is_mixed, nul_keys, other_slot, missing_slots}
@@ -30,8 +30,7 @@ use Rattle.keymap_core.specs.declared.action.Action.{Action}
 use Rattle.keymap_core.specs.Actions.{holding_action}
 use Rattle.keymap_core.specs.Borne.{is_upper_live}
 use Rattle.keymap_core.specs.Maps.{cell_at, entry_at, undefined}
-use Rattle.keymap_core.proofs.Below.{gathered-more, gathered-le}
-use Rattle.keymap_core.proofs.BorneTests.{upper-is_live}
+use Rattle.keymap_core.proofs.Shared.{gathered-le, gathered-more, upper-is_live}
 use Rattle.keymap_check.specs.declared.finding.Place.{Place}
 use Rattle.keymap_places.specs.Placed.{is_same}
 use Rattle.keymap_lint.specs.Spelled.{cells_in_force}

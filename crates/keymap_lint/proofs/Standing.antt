@@ -9,14 +9,14 @@ use Rattle.std.specs.Option.{is_some}
 use Rattle.std.proofs.lemmas.Bool.Decides.{nat_tests}
 use Rattle.std.proofs.lemmas.List.Folds.{find_at}
 use Rattle.std.proofs.lemmas.Option.{get_or_from_slice_get, slice_get_within}
-use Rattle.keymap_core.proofs.Lists.{find-true}
+use Rattle.keymap_core.proofs.Shared.{find-true}
 use Rattle.std.proofs.lemmas.List.Sorted.{All-permutation}
 use Rattle.keymap_lint.specs.Types.{Holding, Cell, Char, Act, Finding, Accent, CellInForce, Lint, Spelled as OfSpelled}
 use Rattle.keymap_core.specs.Actions.{holding_action}
 use Rattle.keymap_core.specs.Maps.{cell_at}
 use Rattle.keymap_check.specs.Findings.{IsFinding}
 use Rattle.keymap_places.specs.Placed.{Row, IsSpelledBy}
-use Rattle.keymap_places.proofs.TokenPlaces.{tokens_are_placed}
+use Rattle.keymap_places.proofs.Shared.{tokens_are_placed}
 use Rattle.keymap_lint.specs.Kinds.{character_of, selector_of, dead_key_of, live_accent, is_missing_of}
 use Rattle.keymap_lint.specs.Lists.{spelled_by, all_of, IsLint}
 use Rattle.keymap_lint.specs.Positions.{SpellsCell, StandsWithin, DiagnosticsStandInTheText, IsWithin, LiesWithin}

@@ -8,8 +8,7 @@ use Rattle.console_states.specs.declared.outcome.Sticking.TheVariants.{Sticks, N
 use Rattle.console_core.specs.History.{in_force}
 use Rattle.console_core.specs.Headline.{IsSafe}
 use Rattle.console_states.specs.Sticking.{NeverSticks}
-use Rattle.console_core.proofs.Headline.{on_only_while_pressed, off_once_quiet}
-use Rattle.console_core.proofs.OneMap.{first_in_force}
+use Rattle.console_core.proofs.Shared.{first_in_force, off_once_quiet, on_only_while_pressed}
 use Rattle.keymap_lint.specs.Lists.{IsSearched}
 use Rattle.keymap_lint.specs.Promises.{names_a_key, names_keys, WellTextsNeverStick}
 use Rattle.keymap_lint.specs.Severities.{never_sticks, severity_of, is_error, has_error}

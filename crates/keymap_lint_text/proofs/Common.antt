@@ -1,7 +1,7 @@
 -- The names of definitions and of std that more than one file of these proofs uses, passed on from one place.
 pub use Rattle.bstr.specs.Utf8.{lossy_chars, or_replacement, pieces}
 pub use Rattle.console_core.specs.declared.event.Event.{Event}
-pub use Rattle.keymap_core.proofs.Lists.{along}
+pub use Rattle.keymap_core.proofs.Shared.{along}
 pub use Rattle.keymap_core.specs.declared.action.Modifier.{Modifier}
 pub use Rattle.keymap_lint.specs.declared.diagnostic.Diagnostic.{Diagnostic}
 pub use Rattle.keymap_lint.specs.declared.diagnostic.Diagnostics.{Diagnostics}

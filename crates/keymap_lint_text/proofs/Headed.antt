@@ -23,7 +23,7 @@ use Rattle.keymap_lint_text.specs.Promises.{is_indented, is_flush, HasHeads, is_
 use Rattle.keymap_lint_text.specs.Promises.{place_or_beginning}
 use Rattle.keymap_lint_text.specs.Notes.{begins_text}
 use Rattle.keymap_lint_text.specs.Whole.{IsLintText, fault_remark, remarks, tells_beginning}
-use Rattle.keymap_names.proofs.Lines.{ascii, name_line}
+use Rattle.keymap_names.proofs.Shared.{ascii, name_line}
 use Rattle.keymap_lint_text.proofs.Lines.{IsSaid, excerpt_lines, fault_name_line, head_line, kind_line, sticks_line}
 use Rattle.keymap_lint_text.proofs.Messages.{begins_line, fault_line, message_line}
 

@@ -11,8 +11,9 @@ use Rattle.console_core.specs.declared.event.Event.TheVariants.{Press, Release, 
 use Rattle.keymap_lint.specs.declared.diagnostic.Kind.{Kind}
 use Rattle.keymap_lint_text.specs.Excerpt.{shown_line, caret_line, side}
 use Rattle.keymap_lint_text.specs.Names.{severity_text}
-use Rattle.keymap_names.proofs.Lines.{all_seen, ascii, decimal_line, either, line_chars, line_cons, line_flat, line_if}
-use Rattle.keymap_names.proofs.Lines.{line_none, modifier_line, name_line, next_given, ◌⊳◌}
+use Rattle.keymap_names.proofs.Shared.{all_seen, ascii, decimal_line, either, line_chars, line_cons}
+use Rattle.keymap_names.proofs.Shared.{line_flat, line_if, line_none, modifier_line, name_line, next_given}
+use Rattle.keymap_names.proofs.Shared.{◌⊳◌}
 use Rattle.keymap_lint.specs.declared.diagnostic.Kind.TheVariants as kinds
 use Rattle.keymap_lint.specs.declared.diagnostic.Severity.TheVariants as severities
 use Rattle.keymap_text.specs.declared.fault.TextFaultKind.TheVariants as faults

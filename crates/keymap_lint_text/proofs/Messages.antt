@@ -25,9 +25,9 @@ use Rattle.keymap_lint_text.specs.Notes.{begins_text}
 use Rattle.keymap_lint_text.specs.Said as said
 use Rattle.keymap_lint_text.specs.Wanted.{character_name, column_text, defined_text, started_text, wanted_text}
 use Rattle.keymap_names.specs.Lists.{column_names}
-use Rattle.keymap_names.proofs.Lines.{accent_line, accents_line, all_seen, ascii, code_line, decimal_line}
-use Rattle.keymap_names.proofs.Lines.{digit_printed, either, fills, line_chars, line_if, line_none, lock_line}
-use Rattle.keymap_names.proofs.Lines.{modifier_line, named, ranges_line, word_line}
+use Rattle.keymap_names.proofs.Shared.{accent_line, accents_line, all_seen, ascii, code_line, decimal_line}
+use Rattle.keymap_names.proofs.Shared.{digit_printed, either, fills, line_chars, line_if, line_none}
+use Rattle.keymap_names.proofs.Shared.{lock_line, modifier_line, named, ranges_line, word_line}
 
 -- ---- what is told
 

@@ -15,10 +15,10 @@ use Rattle.std.proofs.lemmas.List.Elements.{All-weaker}
 use Rattle.std.proofs.lemmas.Str.{encode_ascii}
 use Rattle.bstr.specs.Utf8.{Decoded, decoded, lossy_chars, or_replacement, pieces, pieces_from}
 use Rattle.bstr.proofs.lemmas.SoundLemmas.{SpellsChar-decoded}
-use Rattle.messages.proofs.Passed.{decimal_passes, parts_all}
+use Rattle.messages.proofs.Shared.{decimal_passes, parts_all}
 use Rattle.messages.specs.Filled.{words_before, words_behind, is_hole}
 unfoldable use Rattle.messages.specs.Filled.{filled}
-use Rattle.keymap_core.proofs.Lists.{along}
+use Rattle.keymap_core.proofs.Shared.{along}
 use Rattle.keymap_core.specs.Actions.{accent_names, name_of}
 use Rattle.keymap_core.specs.CodePoints.{digit_at, upper_digits}
 unfoldable use Rattle.keymap_core.specs.CodePoints.{code_digits, code_text}

@@ -7,7 +7,7 @@ use Rattle.keymap_places.proofs.Common.{TokenValue, item_of, tokens, Definition,
 use Rattle.keymap_places.proofs.Common.{last, of_slot, of_index, or_default, Row, AreRows, no_row, one_row, IsSpelledBy}
 use Rattle.keymap_places.proofs.Common.{defined, places_after, places_of, is_same, last_of, empty_map, ap₂, ⊎_elim, ◌⊎◌}
 use Rattle.keymap_places.proofs.Common.{Item}
-use Rattle.keymap_text.proofs.Folded.{last_none, last_more, entries_of, accents_of, puts_are}
+use Rattle.keymap_text.proofs.Shared.{accents_of, entries_of, last_more, last_none, puts_are}
 use Rattle.keymap_places.proofs.Parts.{slot_tokens, accent_tokens}
 
 -- the definitions of rows

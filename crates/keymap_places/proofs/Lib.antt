@@ -1,5 +1,6 @@
 pub mod Common
 pub mod Placing
+pub mod Shared
 pub mod TokenPlaces
 pub mod LineStarts
 pub mod Parts

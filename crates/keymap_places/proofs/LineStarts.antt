@@ -6,8 +6,7 @@ use Rattle.keymap_places.proofs.Common.{length-take, length-take-le, drop-drop, 
 use Rattle.keymap_places.proofs.Common.{get_or-drop, get_or-take, suffix_len_is, prefix_len_passes, prefix_len_stops}
 use Rattle.keymap_places.proofs.Common.{get_or-append_seam, leading, stays_on_line, before_in_line, line_end, IsLineStart}
 use Rattle.keymap_places.proofs.Common.{AreStarts, AreLines, line, cases_eq, inl, inr, ◌≢◌}
-use Rattle.keymap_text.proofs.Leading.{leading_pass, leading_fail, leading_le}
-use Rattle.keymap_text.proofs.Lines.{line_more, feeds_run}
+use Rattle.keymap_text.proofs.Shared.{feeds_run, leading_fail, leading_le, leading_pass, line_more}
 
 -- bytes that stay on the line of those in front of them
 leading_drop : (p : ℕ → Bool) (k : ℕ) (xs : List ℕ) → k ≤ leading p xs → k + leading p (drop k xs) ≡ leading p xs

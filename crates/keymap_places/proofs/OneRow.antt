@@ -4,8 +4,7 @@ use Rattle.keymap_places.proofs.Common.{append-nil, TokenValue, item_of}
 use Rattle.keymap_places.proofs.Common.{Row, AreRows, no_row, one_row}
 use Rattle.keymap_places.proofs.Common.{places_after, rules}
 use Rattle.keymap_places.proofs.RowPlaces.{places_are}
-use Rattle.keymap_text.proofs.Leading.{same_head, same_tail}
-use Rattle.keymap_text.proofs.OneRow.{defined_is}
+use Rattle.keymap_text.proofs.Shared.{defined_is, same_head, same_tail}
 
 empty_more : {A : Type 0} (x : A) (xs : List A) → [] ≡ x ∷ xs → ⊥
 empty_more x xs h = cc

@@ -6,10 +6,8 @@ use Rattle.keymap_places.proofs.Common.{TokenKind, Word, TextFault, Token, Span,
 use Rattle.keymap_places.proofs.Common.{Unfinished, front_of, tokens_after, TokenValue, Tokens, Ends, Stops, Then, first}
 use Rattle.keymap_places.proofs.Common.{token_before, token_view, result_view, span_of, begun, tokens_from, ComesNext}
 use Rattle.keymap_places.proofs.Common.{list_of}
-use Rattle.keymap_text.proofs.InFront.{Fits, front_fits}
-use Rattle.keymap_text.proofs.Splitting.{split_one, split_after, split_skipped, split_found, split_refused, split_nil}
-use Rattle.keymap_text.proofs.Splitting.{split_unfinished}
-use Rattle.keymap_text.proofs.Faults.{list_then}
+use Rattle.keymap_text.proofs.Shared.{Fits, front_fits, list_then, split_after, split_found, split_nil}
+use Rattle.keymap_text.proofs.Shared.{split_one, split_refused, split_skipped, split_unfinished}
 
 -- The first token t of bytes at q stands after j of them, and the others stand behind it.
 pub record IsNext (q : ℕ) (bytes : List ℕ) (ts : Tokens) (t : TokenValue) (j : ℕ) : Type 0 where

@@ -4,10 +4,8 @@ use Rattle.keymap_places.proofs.Common.{ap, subst, arith, All, length-take-le, T
 use Rattle.keymap_places.proofs.Common.{Found, Refused, Unfinished, front_of, tokens_after, TokenValue, Tokens}
 use Rattle.keymap_places.proofs.Common.{token_before, list_of, tokens, IsPlaced}
 use Rattle.std.proofs.lemmas.List.Elements.{All-nil, All-cons, All-weaker}
-use Rattle.keymap_text.proofs.Splitting.{split_one, split_skipped, split_found, split_refused, split_nil}
-use Rattle.keymap_text.proofs.Splitting.{split_unfinished}
-use Rattle.keymap_text.proofs.Faults.{list_ends, list_stops, list_then}
-use Rattle.keymap_text.proofs.InFront.{front_fits}
+use Rattle.keymap_text.proofs.Shared.{front_fits, list_ends, list_stops, list_then, split_found, split_nil}
+use Rattle.keymap_text.proofs.Shared.{split_one, split_refused, split_skipped, split_unfinished}
 
 -- the token is one of these bytes, which stand at q
 record Among (q : ℕ) (bytes : List ℕ) (t : TokenValue) : Type 0 where

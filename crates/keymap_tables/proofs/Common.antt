@@ -1,6 +1,6 @@
 -- The names of definitions and of std that more than one file of these proofs uses, passed on from one place.
 pub use Rattle.arrayvec.specs.ArrayVec.{array_vec_len}
-pub use Rattle.keymap_core.proofs.Gathering.{StopsIn-more, passed_on}
+pub use Rattle.keymap_core.proofs.Shared.{StopsIn-more, passed_on}
 pub use Rattle.keymap_core.specs.Accents.{AccentValue, blank, first_result}
 pub use Rattle.keymap_core.specs.Bounds.{IsAccent, IsCell, IsEntry, IsMap, IsPair}
 pub use Rattle.keymap_core.specs.Maps.{MapValue, accent_or_blank, entry_at, placed, undefined}

@@ -10,6 +10,7 @@ pub mod Outcomes
 pub mod ReadingLaws
 pub mod Rows
 pub mod RowsFilled
+pub mod Shared
 pub mod Sizes
 pub mod SlotImages
 pub mod Wideness

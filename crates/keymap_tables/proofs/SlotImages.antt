@@ -19,7 +19,7 @@ use Rattle.keymap_tables.proofs.Marks.{mark-bit}
 use Rattle.keymap_tables.proofs.Numbers.{AreBytes, number-back, number-read, zeros-behind, drop-zeros}
 use Rattle.keymap_tables.proofs.Rows.{length-rows, row-in, rows-clean, rows-read}
 use Rattle.keymap_tables.proofs.Sizes.{some-number, slot-some, slot-blank, length-number}
-use Rattle.keymap_core.proofs.CodeLaws.{code-read}
+use Rattle.keymap_core.proofs.Shared.{code-read}
 use Rattle.keymap_core.specs.declared.action.Action.TheVariants as a
 use Rattle.keymap_core.specs.declared.action.Modifier.TheVariants as m
 use Rattle.keymap_core.specs.declared.action.Lock.TheVariants as lock

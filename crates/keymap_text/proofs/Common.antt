@@ -1,8 +1,8 @@
 -- The names of definitions and of std that more than one file of these proofs uses, passed on from one place.
 pub use Rattle.bstr.specs.Find.{IsFirstByte, is_byte}
 pub use Rattle.bstr.specs.Utf8.{Decoded, bad, code_of_3, code_of_4, continues, decoded, decoded_by, good, second}
-pub use Rattle.keymap_core.proofs.Gathering.{Gathers-same, Gathers-start, StopsIn-more, passed_on}
-pub use Rattle.keymap_core.proofs.Lists.{along, get_or-replicate_default}
+pub use Rattle.keymap_core.proofs.Shared.{Gathers-same, Gathers-start, StopsIn-more, along}
+pub use Rattle.keymap_core.proofs.Shared.{get_or-replicate_default, passed_on}
 pub use Rattle.keymap_core.specs.Accents.{AccentValue, blank}
 pub use Rattle.keymap_core.specs.Actions.{IsAction, name_of}
 pub use Rattle.keymap_core.specs.Maps.{MapValue, entry_at, placed, undefined, with_accent, with_entry}

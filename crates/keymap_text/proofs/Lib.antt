@@ -1,5 +1,6 @@
 pub mod Common
 pub mod Leading
+pub mod Shared
 pub mod Splitting
 pub mod Literals
 pub mod InFront

@@ -11,7 +11,8 @@ use Rattle.std.proofs.lemmas.List.Elements.{All-cons, All-map, All-weaker}
 use Rattle.keymap_core.specs.Bearers.{Bears, BearsThroughout}
 use Rattle.console_core.specs.declared.event.Event.TheVariants.{Press, Release, Reset, Load}
 use Rattle.console_core.specs.Headline.{IsSafe, HeadlineHolds, LockedByFreshPresses, is_fresh_press}
-use Rattle.console_core.proofs.OneMore.{pressed-start, pressed-press, pressed-release, pressed-reset, pressed-load}
+use Rattle.console_core.proofs.Shared.{pressed-load, pressed-press, pressed-release, pressed-reset}
+use Rattle.console_core.proofs.Shared.{pressed-start}
 use Rattle.console_core.specs.History.{IsNoLoad, HasNoLoads, is_load, is_second_in_force, HasKey, HasKeys, pressed}
 use Rattle.console_core.specs.History.{is_on_after, is_locked_after}
 use Rattle.console_core.specs.Positions.{count_where, is_odd}

@@ -9,7 +9,7 @@ pub use Rattle.keymap_core.specs.Maps.{MapValue, accent_or_blank, entry_at}
 pub use Rattle.keymap_core.specs.declared.action.Holding.{Holding}
 pub use Rattle.keymap_core.specs.declared.action.Modifier.{Modifier}
 pub use Rattle.keymap_tables.specs.Image.{image}
-pub use Rattle.keymap_text.proofs.Pieces.{lines-next}
+pub use Rattle.keymap_text.proofs.Shared.{lines-next}
 pub use Rattle.keymap_text.specs.Printed.{accent_line, key_line}
 pub use Rattle.kmap_c.specs.Buffers.{HasPut}
 pub use Rattle.kmap_c.specs.Numbers.{event_of}

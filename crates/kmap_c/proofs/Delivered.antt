@@ -4,7 +4,7 @@ use Rattle.kmap_c.proofs.Common.{map-append, Event, Maps, answers_to, raw_of, ev
 use Rattle.std.proofs.Common.{get_or}
 use Rattle.std.proofs.lemmas.List.{take_more}
 use Rattle.console_core.specs.History.{answer_to}
-use Rattle.console_core.proofs.Deliveries.{answers_to-push}
+use Rattle.console_core.proofs.Shared.{answers_to-push}
 
 -- the events delivered so far, with one more
 pub events-push : (numbers : List ℕ) (i : ℕ) (e : Event) → e ≡ event_of (get_or numbers i 0) → i < length numbers

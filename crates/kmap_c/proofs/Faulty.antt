@@ -2,7 +2,7 @@
 use Rattle.kmap_c.proofs.Common.{◌≡◌, ◌≢◌, ℕ, List, rules}
 use Rattle.std.proofs.Common.{◌↔◌}
 use Rattle.std.specs.Prelude.{ℤ}
-use Rattle.keymap_tables.proofs.ReadingLaws.{map-wide, no-fault}
+use Rattle.keymap_tables.proofs.Shared.{map-wide, no-fault}
 use Rattle.kmap_c.specs.Calls.{AreTables}
 use Rattle.kmap_c.specs.Statuses as status
 use Rattle.kmap_c.specs.Told.{AreFaulty}

@@ -4,7 +4,7 @@ use Rattle.std.proofs.Common.{get_or, inl, inr}
 use Rattle.std.specs.Prelude.{if◌then◌else◌}
 use Rattle.std.proofs.lemmas.Bool.{cases_lt}
 use Rattle.std.proofs.lemmas.List.{get_or_past}
-use Rattle.keymap_core.proofs.Lists.{along}
+use Rattle.keymap_core.proofs.Shared.{along}
 use Rattle.kmap_c.specs.Keys.{evdev_numbers, IsEvdevOf}
 use Rattle.kmap_c.specs.declared.keys.TheConstants.{KEYS}
 

@@ -1,10 +1,9 @@
 -- Keymaps that the check accepts never stick.
 use Rattle.kmap_runs.proofs.Common.{Option, Some, None, MapValue, refl, subst, sym, ◌∙◌}
-use Rattle.console_core.proofs.Headline.{off_once_quiet, on_only_while_pressed}
-use Rattle.console_core.proofs.OneMap.{first_in_force}
+use Rattle.console_core.proofs.Shared.{first_in_force, off_once_quiet, on_only_while_pressed}
 use Rattle.console_core.specs.Headline.{IsSafe}
 use Rattle.console_core.specs.History.{between, in_force}
-use Rattle.console_states.proofs.Deciding.{safe_never_sticks_between}
+use Rattle.console_states.proofs.Shared.{safe_never_sticks_between}
 use Rattle.console_states.specs.Sticking.{NeverSticks}
 use Rattle.console_states.specs.declared.outcome.Sticking.TheVariants.{Never}
 use Rattle.kmap_runs.specs.Runs.{AreSafe, IsFound}

@@ -10,7 +10,7 @@ use Rattle.std.specs.List.{list_all}
 use Rattle.std.proofs.lemmas.Bool.{and_parts, or_from}
 use Rattle.keymap_core.specs.Actions.{accent_names}
 use Rattle.keymap_core.specs.CodePoints.{digit_at, upper_digits, code_digits}
-use Rattle.messages.proofs.Passed.{append_all, decimal_all}
+use Rattle.messages.proofs.Shared.{append_all, decimal_all}
 use Rattle.play_core.specs.Spelling.{says, has_line_feed}
 use Rattle.messages.specs.Filled.{filled}
 use Rattle.keymap_core.specs.declared.action.Action.TheVariants as act

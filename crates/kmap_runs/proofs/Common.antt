@@ -8,7 +8,7 @@ pub use Rattle.console_states.specs.declared.selection.Sight.{Sight}
 pub use Rattle.console_states.specs.declared.selection.Sight.TheVariants.{Pair}
 pub use Rattle.console_scripts.specs.declared.typing.Keyed.{Keyed}
 pub use Rattle.console_scripts.specs.declared.typing.Typing.{Typing}
-pub use Rattle.keymap_core.proofs.Lists.{All-reversed}
+pub use Rattle.keymap_core.proofs.Shared.{All-reversed}
 pub use Rattle.keymap_core.specs.Actions.{name_of}
 unfoldable pub use Rattle.keymap_core.specs.CodePoints.{code_text}
 pub use Rattle.keymap_core.specs.Maps.{MapValue}
@@ -17,7 +17,7 @@ pub use Rattle.keymap_core.specs.Unseen.{is_unseen}
 pub use Rattle.keymap_cover.specs.declared.parts.Verdict.TheVariants.{LeftOut, Never}
 pub use Rattle.keymap_cover.specs.declared.script_event.ScriptEvent.TheVariants.{Reset}
 pub use Rattle.keymap_draw.specs.Pictures.{drawing}
-pub use Rattle.messages.proofs.Passed.{EachPasses, filled_all}
+pub use Rattle.messages.proofs.Shared.{EachPasses, filled_all}
 pub use Rattle.keymap_text.specs.Meaning.{Spells}
 pub use Rattle.kmap_runs.specs.Comments.{comment}
 pub use Rattle.kmap_runs.specs.Cover.{AddsLists, AreAlike, ListsSlots, accent_line, accent_lines, bases_at}
@@ -26,8 +26,7 @@ pub use Rattle.kmap_runs.specs.Cover.{script_lines, start_line, script_event_lin
 pub use Rattle.kmap_runs.specs.Search.{modifier_name}
 pub use Rattle.kmap_runs.specs.Typing.{comment_if, is_line_feed, line_shown, typing_script}
 unfoldable pub use Rattle.kmap_runs.specs.Typing.{lines_from, shown}
-pub use Rattle.play_core.proofs.Spelling.{line-script, script-nil}
-pub use Rattle.play_core.proofs.Verdicts.{one_list}
+pub use Rattle.play_core.proofs.Shared.{line-script, one_list, script-nil}
 pub use Rattle.play_core.specs.Playing.{Plays}
 pub use Rattle.play_core.specs.Runs.{moves}
 pub use Rattle.play_core.specs.Scripts.{IsScript}

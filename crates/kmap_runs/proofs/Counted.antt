@@ -22,10 +22,9 @@ use Rattle.console_core.specs.Answers.{has_own}
 use Rattle.console_states.specs.Sights.{Enumerates, HasNoDoubles, IsReachable}
 use Rattle.console_scripts.specs.Visiting.{CanVisit, IsPair}
 use Rattle.console_states.specs.Inner.Adding.{Adds, IsWith}
-use Rattle.console_states.proofs.Adding.{adds-both, adds-none, adds-one}
-use Rattle.console_states.proofs.Visible.{any-member, some-member}
-use Rattle.keymap_cover.proofs.Telling.{all-told, key-told, map-has, map-of, range-has, range-of, flat-has, flat-of}
-use Rattle.keymap_cover.proofs.Telling.{usable-some}
+use Rattle.console_states.proofs.Shared.{adds-both, adds-none, adds-one, any-member, some-member}
+use Rattle.keymap_cover.proofs.Shared.{all-told, flat-has, flat-of, key-told, map-has, map-of, range-has}
+use Rattle.keymap_cover.proofs.Shared.{range-of, usable-some}
 use Rattle.keymap_cover.specs.declared.parts.Verdict.{Verdict}
 use Rattle.keymap_cover.specs.declared.parts.Verdict.TheVariants.{Seen, Never}
 use Rattle.keymap_cover.specs.Covering.{CountsAreOfVerdicts, IsVerdict, is_verdict, verdict_of}

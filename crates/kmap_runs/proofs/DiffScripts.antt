@@ -8,12 +8,12 @@ use Rattle.std.specs.Prelude.{◌≢◌}
 use Rattle.std.proofs.lemmas.Bool.{cond_both, true≢false}
 use Rattle.std.proofs.lemmas.List.Elements.{All-nil}
 use Rattle.keymap_core.specs.Numbers.{key_count}
-use Rattle.console_core.proofs.Deliveries.{reverse-cons}
+use Rattle.console_core.proofs.Shared.{reverse-cons}
 use Rattle.console_core.specs.History.{pressed}
 use Rattle.console_core.specs.declared.event.Answer.{Answer}
 use Rattle.console_core.specs.declared.event.Event.TheVariants as event
 use Rattle.console_states.specs.Sticking.{IsOfPressedKey, IsPressOrRelease, ReleasesPressedKeys}
-use Rattle.keymap_diff.proofs.LastEvents.{told_lists_differ_at_last}
+use Rattle.keymap_diff.proofs.Shared.{told_lists_differ_at_last}
 use Rattle.keymap_diff.specs.Telling.{DifferAtLast, IsTelling, IsToldBy}
 use Rattle.keymap_diff.specs.declared.change.Change.{Change}
 use Rattle.keymap_diff.specs.declared.change.Change.TheVariants.{Slots, Cell, Letter, Accents, Accent, Pair}

@@ -7,8 +7,8 @@ use Rattle.std.proofs.Common.{eqb-true}
 use Rattle.std.specs.Prelude.{◌||◌, ◌&&◌, not, ◌==◌, IfOk, Result, Err}
 use Rattle.std.proofs.lemmas.Grind.{flat_map-append}
 use Rattle.std.proofs.lemmas.List.{reverse-append, take_more, nil_from_length}
-use Rattle.console_core.proofs.Deliveries.{reverse-cons}
-use Rattle.console_core.proofs.OneMore.{pressed-press, pressed-release, pressed-reset, pressed-load}
+use Rattle.console_core.proofs.Shared.{pressed-load, pressed-press, pressed-release, pressed-reset}
+use Rattle.console_core.proofs.Shared.{reverse-cons}
 use Rattle.console_core.specs.History.{pressed}
 use Rattle.console_core.specs.declared.event.Event.TheVariants as event
 use Rattle.play_core.specs.Spelling.{sent_line}

@@ -5,8 +5,8 @@ use Rattle.kmap_runs.proofs.Common.{characters_of, code_text, is_unseen, event_l
 use Rattle.kmap_runs.proofs.Common.{lines_from, typing_script}
 use Rattle.std.specs.Char.{IsScalar}
 use Rattle.std.specs.List.{position_or_len}
-use Rattle.keymap_names.proofs.Lines.{ascii, decimal_line, digit_printed, fills, itself, line_each, ◌⊳◌}
-use Rattle.keymap_names.proofs.Plain.{plain_append, plain_flat, plain_line, plain_none}
+use Rattle.keymap_names.proofs.Shared.{ascii, decimal_line, digit_printed, fills, itself, line_each}
+use Rattle.keymap_names.proofs.Shared.{plain_append, plain_flat, plain_line, plain_none, ◌⊳◌}
 use Rattle.keymap_names.specs.Shown.{IsLine, IsPlainText, is_shown_byte}
 use Rattle.kmap_runs.proofs.Comments.{code_all}
 use Rattle.kmap_runs.specs.Typing.{sentence_line}

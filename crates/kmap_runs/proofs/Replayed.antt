@@ -15,7 +15,7 @@ use Rattle.std.proofs.lemmas.Str.{inside_one}
 use Rattle.keymap_core.specs.declared.action.Modifier.{Modifier}
 use Rattle.keymap_core.specs.declared.action.Modifier.TheVariants.{LeftShift}
 use Rattle.keymap_text.specs.Sources.{TakesWhole, ReadsMap}
-use Rattle.keymap_text.proofs.Verdicts.{one_map}
+use Rattle.keymap_text.proofs.Shared.{one_map}
 use Rattle.console_core.specs.History.{Maps, answers_to}
 use Rattle.console_states.specs.declared.outcome.Sticking.{Sticking}
 use Rattle.console_scripts.specs.Typing.{AreTyped}
@@ -23,11 +23,11 @@ use Rattle.console_states.specs.declared.outcome.Sticking.TheVariants.{Sticks, N
 use Rattle.console_states.specs.Sticking.{IsAnswer, IsAnswerBetween}
 use Rattle.keymap_check.specs.Report.{report_of}
 use Rattle.keymap_check.specs.Scripts.{demonstration_of}
-use Rattle.keymap_check.proofs.Demonstrated.{demonstrations_leave_modifiers_on}
+use Rattle.keymap_check.proofs.Shared.{demonstrations_leave_modifiers_on}
 use Rattle.play_core.specs.Spelling.{IsWritable, sent_of}
 use Rattle.kmap_runs.specs.Sentences.{alone, IsTyped}
 use Rattle.play_core.specs.Written.{typed_text, text_after}
-use Rattle.play_core.proofs.Spelling.{events-script, delivers}
+use Rattle.play_core.proofs.Shared.{delivers, events-script}
 use Rattle.kmap_runs.specs.Report.{check_text, demonstration_text, report}
 use Rattle.kmap_runs.specs.Search.{script_text, found_text}
 use Rattle.kmap_runs.specs.Runs.{TypesSentence}

@@ -1,7 +1,7 @@
 -- The names of definitions and of std that more than one file of these proofs uses, passed on from one place.
 pub use Prim.Native.Nat.{suc, zero}
 pub use Rattle.console_core.specs.History.{Maps, answers_to, between}
-pub use Rattle.keymap_core.proofs.Gathering.{Gathers-more, Gathers-same, Gathers-start, StopsIn-more, passed_on}
+pub use Rattle.keymap_core.proofs.Shared.{Gathers-more, Gathers-same, Gathers-start, StopsIn-more, passed_on}
 pub use Rattle.keymap_core.specs.Streams.{Gathers}
 pub use Rattle.play_core.specs.Delivery.{delivered, event_of}
 pub use Rattle.play_core.specs.Inner.Readings.{BeginsWithEvent, IsReadTo}

@@ -5,6 +5,7 @@ pub mod LineWords
 pub mod PlainLines
 pub mod ScriptLines
 pub mod Sending
+pub mod Shared
 pub mod Spelling
 pub mod Tails
 pub mod Texts

@@ -12,7 +12,7 @@ use Rattle.play_core.specs.Spelling.{has_line_feed}
 use Rattle.play_core.specs.Inner.Readings.{BeginsWithKey}
 use Rattle.play_core.proofs.LineWords.{one_more}
 use Rattle.play_core.proofs.ScriptLines.{parts_there}
-use Rattle.keymap_text.proofs.Splitting.{to_end}
+use Rattle.keymap_text.proofs.Shared.{to_end}
 
 -- ---- the parts of a text
 

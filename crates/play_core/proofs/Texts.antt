@@ -9,7 +9,7 @@ use Rattle.std.proofs.lemmas.Grind.{flat_map-append}
 use Rattle.console_core.specs.History.{answer_to}
 use Rattle.play_core.specs.declared.show.Show.{Show}
 use Rattle.play_core.specs.Written.{lines_after, line_after}
-use Rattle.console_core.proofs.Deliveries.{reverse-cons}
+use Rattle.console_core.proofs.Shared.{reverse-cons}
 use Rattle.play_core.specs.declared.show.Show.TheVariants as show
 
 -- the lines of events, and then of the events behind them

@@ -1,6 +1,5 @@
 use Rattle.console_scripts.proofs.Common.{[], ◌∷◌, refl, subst, sym, ◌∙◌, true≢false, alone, state_of, HasEnded}
-use Rattle.console_states.proofs.Reaching.{reaches-more}
-use Rattle.console_states.proofs.Beginning.{one-off}
+use Rattle.console_states.proofs.Shared.{one-off, reaches-more}
 use Rattle.console_scripts.proofs.explored.explore.Goals.{in-Complete, in-TooMany}
 use Rattle.console_states.specs.declared.search.End.TheVariants as end
 use Rattle.console_scripts.proofs.explored.explore.Goals as goal

@@ -1,5 +1,5 @@
 use Rattle.console_scripts.proofs.Common.{◌≡◌, length, get_or, ap, subst, ◌∙◌, refl, below_more, arith, cell_of}
-use Rattle.console_states.proofs.Common.{get_or_read_under, Char}
+use Rattle.console_states.proofs.Shared.{Char, get_or_read_under}
 use Rattle.keymap_core.specs.Maps.{entry_at}
 use Rattle.console_scripts.proofs.symbols.is_in_slot.Goals as goal
 

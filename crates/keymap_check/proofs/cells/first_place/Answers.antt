@@ -1,7 +1,7 @@
 use Rattle.keymap_check.proofs.Common.{◌≡◌, ℕ, true, false, subst, first_below, is_of_kind, cell_of, first_place}
 use Rattle.std.proofs.Common.{rules, tests}
 use Rattle.std.proofs.lemmas.Iterator.{first_from_Range}
-use Rattle.keymap_core.proofs.Below.{first_below-is}
+use Rattle.keymap_core.proofs.Shared.{first_below-is}
 use Rattle.keymap_check.proofs.cells.first_place.Goals as goal
 
 pub returns-clause-value : goal.returns-clause-value

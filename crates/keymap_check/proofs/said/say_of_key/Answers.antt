@@ -3,7 +3,7 @@ use Rattle.std.proofs.Common.{append-nil}
 use Rattle.std.specs.Prelude.{decimal}
 use Rattle.keymap_core.specs.Actions.{name_of}
 use Rattle.messages.specs.Filled.{filled, words_behind}
-use Rattle.messages.proofs.Filling.{filled-more}
+use Rattle.messages.proofs.Shared.{filled-more}
 use Rattle.keymap_check.specs.Said.{said_of_key}
 use Rattle.keymap_check.specs.declared.words.TheConstants as words
 use Rattle.keymap_check.proofs.said.say_of_key.Goals as goal

@@ -1,6 +1,6 @@
 use Rattle.keymap_check.proofs.Common.{◌≡◌, ◌<◌, sym, ◌∙◌, arith, subst, None, first_below, bears_group, bit_key, rules}
 use Rattle.keymap_check.proofs.Common.{is_other}
-use Rattle.keymap_core.proofs.Below.{first_below-none, first_below-more, first_below-found}
+use Rattle.keymap_core.proofs.Shared.{first_below-found, first_below-more, first_below-none}
 use Rattle.keymap_check.proofs.script.bit_key.Goals as goal
 
 pub loop-key-init : goal.loop-key-init

@@ -2,7 +2,7 @@ use Rattle.keymap_check.proofs.Common.{◌≡◌, ◌≤◌, ◌<◌, ◌+◌, a
 use Rattle.keymap_check.proofs.Common.{append-nil, array_vec_len, gathered, gathered-none, gathered-more, event_at, ℕ}
 use Rattle.keymap_check.proofs.Common.{List, Event}
 use Rattle.std.proofs.Common.{append_assoc}
-use Rattle.keymap_core.proofs.Below.{gathered-le}
+use Rattle.keymap_core.proofs.Shared.{gathered-le}
 use Rattle.keymap_check.proofs.script.push_events.Goals.{in-Some, in-None}
 use Rattle.keymap_check.proofs.script.push_events.Goals as goal
 

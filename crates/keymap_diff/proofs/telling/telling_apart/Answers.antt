@@ -2,7 +2,7 @@ use Rattle.std.proofs.Common.{rules}
 use Rattle.keymap_diff.proofs.Common.{◌≡◌, ℕ, ◌≤◌, true, inl, inr, [], ◌∷◌, None, length}
 use Rattle.keymap_diff.proofs.Common.{sym, subst, arith, cases_lt, slice_get_within, MapValue, reverse, Shows, usable}
 use Rattle.keymap_diff.proofs.Common.{IsAccentClear}
-use Rattle.console_states.proofs.Searching.{place_last}
+use Rattle.console_states.proofs.Shared.{place_last}
 use Rattle.keymap_diff.proofs.Ending.{start-tells}
 use Rattle.keymap_diff.proofs.Clearing.{searched-near}
 use Rattle.keymap_diff.proofs.Offers.{if-ok}

@@ -1,5 +1,5 @@
 use Rattle.std.proofs.Common.{subst}
-use Rattle.console_states.proofs.Visible.{sights-some}
+use Rattle.console_states.proofs.Shared.{sights-some}
 use Rattle.keymap_diff.specs.Inner.Versions.{AreSights}
 use Rattle.keymap_diff.proofs.unseen.is_dead_key_unseen.Goals as goal
 

@@ -1,5 +1,5 @@
 use Rattle.keymap_draw.proofs.Common.{sym, ◌∙◌, arith, bears_dead_key}
-use Rattle.keymap_core.proofs.BorneTests.{any-start, any-none, any-some}
+use Rattle.keymap_core.proofs.Shared.{any-none, any-some, any-start}
 use Rattle.keymap_draw.proofs.lists.bears_dead_key.Goals as goal
 
 pub loop-key-init : goal.loop-key-init

@@ -1,6 +1,5 @@
 use Rattle.keymap_fmt.proofs.Common.{drop, sym, ◌∙◌, ap, arith, drop-drop, is_space, leading, pieces_after}
-use Rattle.keymap_text.proofs.Leading.{leading_rest}
-use Rattle.keymap_text.proofs.Splitting.{to_end}
+use Rattle.keymap_text.proofs.Shared.{leading_rest, to_end}
 use Rattle.keymap_fmt.proofs.Finding.{spaces_passed}
 use Rattle.keymap_fmt.proofs.piece.spaces_end.Goals as goal
 

@@ -1,5 +1,5 @@
 use Rattle.keymap_lint.proofs.Common.{arith, sym, ◌∙◌, is_defined}
-use Rattle.keymap_core.proofs.BorneTests.{any-some}
+use Rattle.keymap_core.proofs.Shared.{any-some}
 use Rattle.keymap_lint.proofs.dead_key.defines_some.Goals as goal
 
 pub returns-then-defines_accent : goal.returns-then-defines_accent

@@ -1,6 +1,6 @@
 use Rattle.keymap_lint.proofs.Common.{◌≡◌, true, false, rules, tests, has_base}
 use Rattle.std.proofs.lemmas.Iterator.{first_from_Range}
-use Rattle.keymap_core.proofs.Below.{first_below-is}
+use Rattle.keymap_core.proofs.Shared.{first_below-is}
 use Rattle.keymap_lint.proofs.pair_again.before.Goals as goal
 
 pub returns-clause-value : goal.returns-clause-value

@@ -1,5 +1,5 @@
 use Rattle.keymap_lint_text.proofs.Headed.{lint_plain}
-use Rattle.keymap_names.proofs.Lines.{name_line}
+use Rattle.keymap_names.proofs.Shared.{name_line}
 use Rattle.keymap_lint_text.proofs.laws.printed_lines_are_plain.Goals as goal
 
 pub returns : goal.returns

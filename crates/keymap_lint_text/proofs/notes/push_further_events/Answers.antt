@@ -1,6 +1,6 @@
 use Rattle.keymap_lint_text.proofs.Common.{◌∙◌, ◌++◌, ap, append_assoc, codes}
 use Rattle.keymap_lint_text.specs.Notes.{event_text, further_event}
-use Rattle.keymap_names.proofs.Lines.{next_given}
+use Rattle.keymap_names.proofs.Shared.{next_given}
 use Rattle.keymap_lint_text.proofs.notes.push_further_events.Goals as goal
 
 pub loop-event-preserved : goal.loop-event-preserved

@@ -1,6 +1,6 @@
 use Rattle.keymap_tables.proofs.Common.{rules, arith, ap, ◌∙◌, ◌++◌, length, List, ℕ, sym, append_assoc, append-nil}
 use Rattle.keymap_tables.proofs.Common.{mul-zero, StopsIn-more, passed_on, count_bytes, rows_bytes}
-use Rattle.keymap_core.proofs.Gathering.{Gathers-same}
+use Rattle.keymap_core.proofs.Shared.{Gathers-same}
 use Rattle.keymap_tables.proofs.Rows.{rows-next, rows-all, rows-cut}
 use Rattle.keymap_tables.proofs.Sizes.{row-next, row-inside}
 use Rattle.keymap_tables.proofs.write.push_table.Goals as goal

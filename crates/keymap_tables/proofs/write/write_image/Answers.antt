@@ -1,5 +1,5 @@
 use Rattle.keymap_tables.proofs.Common.{◌∙◌, [], sym, append-nil, StopsIn-more, passed_on}
-use Rattle.keymap_core.proofs.Gathering.{Gathers-start}
+use Rattle.keymap_core.proofs.Shared.{Gathers-start}
 use Rattle.keymap_tables.proofs.Images.{image-parts}
 use Rattle.keymap_tables.proofs.Sizes.{slot-blank, accent-blank}
 use Rattle.keymap_tables.proofs.write.write_image.Goals as goal

@@ -1,6 +1,6 @@
 use Rattle.kmap_c.proofs.Common.{◌∙◌, ◌++◌, ◌∷◌, [], List, ℕ, ap, length, take, arith, map, raw_of, event_of}
 use Rattle.std.proofs.lemmas.List.{take_more_set, length-set, drop-set-lt}
-use Rattle.console_core.proofs.Deliveries.{reverse-push}
+use Rattle.console_core.proofs.Shared.{reverse-push}
 use Rattle.kmap_c.proofs.Delivered.{events-push, answers-push}
 use Rattle.kmap_c.proofs.console.deliver_all.Goals as goal
 

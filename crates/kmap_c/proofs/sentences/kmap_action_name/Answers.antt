@@ -1,6 +1,6 @@
 use Rattle.kmap_c.proofs.Common.{rules}
 use Rattle.std.proofs.lemmas.Option.{same_Some}
-use Rattle.keymap_core.proofs.CodeLaws.{code-read, action-has_code}
+use Rattle.keymap_core.proofs.Shared.{action-has_code, code-read}
 use Rattle.kmap_c.proofs.sentences.kmap_action_name.Goals as goal
 
 pub returns-in-Some-clause-said : goal.returns-in-Some-clause-said

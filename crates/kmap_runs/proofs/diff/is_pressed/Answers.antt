@@ -1,5 +1,5 @@
 use Rattle.kmap_runs.proofs.Common.{get_or_default, rules, sym}
-use Rattle.console_core.proofs.OneMore.{pressed-start}
+use Rattle.console_core.proofs.Shared.{pressed-start}
 use Rattle.kmap_runs.proofs.Differing.{pressed_more}
 use Rattle.kmap_runs.proofs.diff.is_pressed.Goals as goal
 

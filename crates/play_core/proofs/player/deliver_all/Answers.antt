@@ -1,7 +1,7 @@
 use Rattle.play_core.proofs.Common.{List, [], ◌∷◌, ◌++◌, take, sym, ap, subst, ◌∙◌, arith, reverse, Event, rules}
 use Rattle.play_core.proofs.Common.{Gathers-start, Gathers-same, Gathers-more, StopsIn-more, passed_on, delivered}
 use Rattle.play_core.proofs.Texts.{text-nil, text-more, text-rest, delivered-more}
-use Rattle.console_core.proofs.Deliveries.{reverse-joined}
+use Rattle.console_core.proofs.Shared.{reverse-joined}
 use Rattle.play_core.proofs.player.deliver_all.Goals as goal
 
 pub loop-one-init : goal.loop-one-init

@@ -1,8 +1,7 @@
 use Rattle.console_scripts.proofs.Common.{◌≡◌, inl, inr, slice_get, Some, subst, sym, ◌∙◌, arith, true≢false}
 use Rattle.console_scripts.proofs.Common.{slice_get_within, alone, map_of_explored, HasRoute, state_of}
-use Rattle.console_states.proofs.Looking.{entry-at}
-use Rattle.console_states.proofs.Searching.{place_last}
-use Rattle.console_core.proofs.OneMore.{one_map}
+use Rattle.console_states.proofs.Shared.{entry-at, place_last}
+use Rattle.console_core.proofs.Shared.{one_map}
 use Rattle.console_scripts.proofs.explored.Explored.first_place.Goals.{then-not-is_near+in-Some+else-has_route}
 use Rattle.console_scripts.proofs.explored.Explored.first_place.Goals.{then-not-is_near+in_default}
 use Rattle.console_scripts.proofs.explored.Explored.first_place.Goals.{else-not-is_near+else-has_locks_of}

@@ -1,7 +1,6 @@
 use Rattle.console_scripts.proofs.Common.{◌≡◌, inl, inr, slice_get, Some, subst, sym, ap, arith, ◌∙◌, slice_get_within}
 use Rattle.console_scripts.proofs.Common.{map_of_explored, state_of, SeesBy, selection_of}
-use Rattle.console_states.proofs.Looking.{entry-at}
-use Rattle.console_states.proofs.Searching.{place_last}
+use Rattle.console_states.proofs.Shared.{entry-at, place_last}
 use Rattle.console_scripts.proofs.explored.Explored.first_seeing.Goals as goal
 
 pub returns-in-Some : goal.returns-in-Some

@@ -1,7 +1,6 @@
 use Rattle.console_scripts.proofs.Common.{◌≡◌, inl, inr, slice_get, Some, IsMove, Scroll, Turn, subst, sym, arith}
 use Rattle.console_scripts.proofs.Common.{slice_get_within, state_of, under_of}
-use Rattle.console_states.proofs.Looking.{entry-at}
-use Rattle.console_states.proofs.Searching.{place_last}
+use Rattle.console_states.proofs.Shared.{entry-at, place_last}
 use Rattle.console_scripts.proofs.explored.Explored.first_turning.Goals as goal
 
 pub returns-in-Some : goal.returns-in-Some

@@ -1,7 +1,6 @@
 use Rattle.console_scripts.proofs.Common.{◌≡◌, inl, inr, slice_get, Some, subst, sym, ap, arith, ◌∙◌, slice_get_within}
 use Rattle.console_scripts.proofs.Common.{map_of_explored, state_of, IsAfter, alone, SeesBy, selection_of, rules}
-use Rattle.console_states.proofs.Looking.{entry-at}
-use Rattle.console_states.proofs.Searching.{place_last}
+use Rattle.console_states.proofs.Shared.{entry-at, place_last}
 use Rattle.console_scripts.proofs.explored.Explored.press_seeing.Goals.{in-Some+else-has_route, in_default}
 use Rattle.console_scripts.proofs.explored.Explored.press_seeing.Goals as goal
 

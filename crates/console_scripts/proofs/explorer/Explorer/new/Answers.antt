@@ -4,7 +4,7 @@ use Rattle.console_scripts.specs.Visiting.{AreStatesOf}
 use Rattle.console_scripts.specs.Inner.Showing.{states_in}
 use Rattle.console_scripts.proofs.Aiming.{start-rest}
 use Rattle.console_scripts.proofs.Visitable.{states-of}
-use Rattle.console_core.proofs.OneMore.{resolved-start, locked-start}
+use Rattle.console_core.proofs.Shared.{locked-start, resolved-start}
 use Rattle.console_scripts.proofs.explorer.Explorer.new.Goals as goal
 
 pub explore-requires : goal.explore-requires

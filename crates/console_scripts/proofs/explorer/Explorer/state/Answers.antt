@@ -1,6 +1,6 @@
 use Rattle.console_scripts.proofs.Common.{◌≡◌, ap, subst, sym, ◌∙◌, arith, slice_get, Some, Held, alone, ComesHome}
 use Rattle.console_scripts.proofs.Common.{state_of}
-use Rattle.console_states.proofs.Looking.{entry-at}
+use Rattle.console_states.proofs.Shared.{entry-at}
 use Rattle.console_scripts.proofs.Visitable.{at-key, comes-at, home-at, key-within}
 use Rattle.console_scripts.proofs.explorer.Explorer.state.Goals as goal
 

@@ -1,6 +1,6 @@
 use Rattle.keymap_cover.proofs.Common.{subst, Contains, inl, is_pair}
 use Rattle.console_states.specs.declared.selection.Sight.TheVariants.{Pair}
-use Rattle.console_states.proofs.Visible.{any-member}
+use Rattle.console_states.proofs.Shared.{any-member}
 use Rattle.keymap_cover.proofs.Marking.{is-this, pair-marked}
 use Rattle.keymap_cover.proofs.seen.Seen.add_pair.Goals as goal
 

@@ -2,7 +2,7 @@ use Rattle.std.proofs.Common.{below_more, subst, sym, refl, arith, length, ◌<�
 use Rattle.std.proofs.lemmas.List.{get_or_read_under}
 use Rattle.console_states.specs.Searching.{state_of}
 use Rattle.keymap_diff.specs.Inner.Showing.{ShowsNothing}
-use Rattle.console_states.proofs.KeyLists.{read-below}
+use Rattle.console_states.proofs.Shared.{read-below}
 use Rattle.console_states.specs.Moves.{State}
 use Rattle.std.proofs.Common.{ℕ, get_or, ◌+◌, ◌∙◌, ◌≡◌, List, Option}
 use Rattle.keymap_diff.proofs.Common.{MapValue}

@@ -1,7 +1,6 @@
 use Rattle.std.proofs.Common.{rules}
 use Rattle.keymap_diff.proofs.Common.{[], ◌∷◌, ◌++◌, ap, ◌∙◌, refl, subst, arith, ShowsNothing, State, ℕ}
-use Rattle.console_states.proofs.Adding.{empty-none}
-use Rattle.console_states.proofs.KeyLists.{keys-with, keys-without}
+use Rattle.console_states.proofs.Shared.{empty-none, keys-with, keys-without}
 use Rattle.keymap_diff.proofs.showing.Both.keys_showing.Goals.{then-can_key_show+in_ok-push, else-can_key_show}
 use Rattle.keymap_diff.proofs.showing.Both.keys_showing.Goals as goal
 

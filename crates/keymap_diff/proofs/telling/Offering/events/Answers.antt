@@ -1,7 +1,7 @@
 use Rattle.std.proofs.Common.{rules}
 use Rattle.keymap_diff.proofs.Common.{◌∷◌, ◌++◌, ap, subst, ◌∙◌, state_of, alone, slice_get_within, same_Some}
 use Rattle.keymap_diff.proofs.Common.{Offers, Under, reverse, events_along, Press, Release}
-use Rattle.console_states.proofs.GoingBack.{searched-back}
+use Rattle.console_states.proofs.Shared.{searched-back}
 use Rattle.keymap_diff.proofs.Apart.{tap-reversed}
 use Rattle.keymap_diff.proofs.telling.Offering.events.Goals as goal
 

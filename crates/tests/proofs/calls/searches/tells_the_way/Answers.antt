@@ -1,4 +1,4 @@
-use Rattle.console_states.proofs.GoingBack.{searched-back}
+use Rattle.console_states.proofs.Shared.{searched-back}
 use Rattle.tests.proofs.calls.searches.tells_the_way.Goals as goal
 
 pub go_out-given-requires-clause-back : goal.go_out-given-requires-clause-back

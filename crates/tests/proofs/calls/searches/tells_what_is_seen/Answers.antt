@@ -1,6 +1,6 @@
 use Rattle.console_states.specs.Moves.{start}
 use Rattle.console_states.specs.declared.search.End.TheVariants.{Complete}
-use Rattle.console_states.proofs.Reaching.{ended-alone, met-alone}
+use Rattle.console_states.proofs.Shared.{ended-alone, met-alone}
 use Rattle.tests.proofs.calls.searches.tells_what_is_seen.Goals as goal
 
 pub sights_in-given-requires : goal.sights_in-given-requires

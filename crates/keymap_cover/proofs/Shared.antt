@@ -1,0 +1,3 @@
+-- What the crates above may cite of these proofs. All else stands for this crate alone.
+pub use Rattle.keymap_cover.proofs.Telling.{all-told, flat-has, flat-of, key-told, map-has, map-of, range-has}
+pub use Rattle.keymap_cover.proofs.Telling.{range-of, usable-some}

@@ -121,6 +121,13 @@ holds 'the edit is counted' grep -qx '1 edits refused where they say, 0 not' sai
 echo "note: src/bearer.rt:$((at - 8)):5: it is not proved (\`returns\`)" > told
 refuses "$file: the file says is_acting returns, the kit tells bearer_of returns" \
     env RT="$folder/rt" python3 copy/tests/refused
+# Beside a proof it is refused only where values are told.
+mkdir -p copy/crates/keymap_check/proofs/bearer/is_acting
+: > copy/crates/keymap_check/proofs/bearer/is_acting/Answers.antt
+echo "note: src/bearer.rt:$((at + 4)):5: it is not proved (\`returns\`)" > told
+refuses "$file: is_acting returns may only not fit its old proof" env RT="$folder/rt" python3 copy/tests/refused
+sed -i '1s/$/; the facts known there allow values at which this goal is false/' told
+holds 'values that the prover tells count' env RT="$folder/rt" python3 copy/tests/refused > said
 unset TOLD
 
 # Functions that stand alone: the one that is named stays as it is, and so do a law and a `const fn`; the others lose their

@@ -4,7 +4,6 @@ pub mod Reading
 pub mod Texts
 pub mod Written
 pub mod Again
-pub mod Tidy
 pub mod Spelling
 pub mod Finding
 pub mod Writing

@@ -3,6 +3,5 @@ pub mod Layout
 pub mod Formatted
 pub mod Refused
 pub mod Same
-pub mod Lines
 pub mod Inner
 pub mod Types

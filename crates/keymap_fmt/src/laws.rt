@@ -6,7 +6,6 @@ ghost use Rattle.keymap_fmt.specs.Layout.{is_over, is_open, start};
 ghost use Rattle.keymap_fmt.specs.Types.{Standing as StandingValue, TokenKind as TokenKindValue};
 ghost use Rattle.keymap_fmt.specs.Types.{AtTop, Beside, Below, Apart};
 ghost use Rattle.keymap_text.specs.Lexical.{is_blank};
-ghost use Rattle.keymap_fmt.specs.Lines.{HasTidyLines};
 ghost use Rattle.keymap_fmt.specs.Same.{part_and_bytes, kind_and_bytes, token_of};
 ghost use Rattle.keymap_text.specs.Meaning.{tokens, Spells};
 ghost use Rattle.keymap_core.specs.Maps.{MapValue};
@@ -45,13 +44,6 @@ pub fn keymap_stays()
 #[tactic(auto, using(crate::proofs::Again::formatted_again))]
 pub fn formatting_again_changes_nothing()
     ensures { (text : List ℕ) → formatted (formatted text) ≡ formatted text }
-{}
-
-/// Each line of what is formatted ends with LF and none with a blank. An empty line stands alone, and only between two
-/// others.
-#[tactic(auto, using(crate::proofs::Tidy::tidy_lines))]
-pub fn lines_are_tidy()
-    ensures { (text : List ℕ) → HasTidyLines (formatted text) }
 {}
 
 /// A definition is laid out as it would be alone, whatever stands before it and behind it: pieces that end a

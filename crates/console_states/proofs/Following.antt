@@ -15,6 +15,8 @@ use Rattle.console_states.proofs.Common.{Holding}
 use Rattle.console_states.proofs.Common.{rules}
 use Rattle.std.proofs.Math.Bool.{and-true, and-false}
 use Rattle.keymap_core.specs.Actions.{holding_of}
+use Rattle.console_core.specs.Resolved.{unless_nop}
+use Rattle.std.specs.Option.{option_or}
 use Rattle.console_core.proofs.Shared.{first_kept, held-action, held-character, held-release, locked-action}
 use Rattle.console_core.proofs.Shared.{locked-character, locked-release, remembered-action}
 use Rattle.console_core.proofs.Shared.{remembered-character, remembered-release, taken-holding}
@@ -45,8 +47,8 @@ some_mod_lock i l e = cc
 
 -- an action that is no holding one is none of them
 pub not_holding : (a : Action) (h : Holding) → holding_of a ≡ None → same_action a (holding_action h) ≡ false
-not_holding (act.Mod i) h e = absurd (none-some (sym e))
-not_holding (act.Lock l) h e = absurd (none-some (sym e))
+not_holding (act.Mod i) h e = absurd (none-some (holding.Mod i) (sym e))
+not_holding (act.Lock l) h e = absurd (none-some (holding.Lock l) (sym e))
 not_holding a (holding.Mod i) e = refl
 not_holding a (holding.Lock l) e = refl
 
@@ -84,10 +86,19 @@ follows-nothing r s k b f none = record {
   holds = λ i j h. remembered-action j k b r ∙ first_kept (remembered j r) _ (act.Mod i) (f.holds i j h);
 }
 
+-- a holding action that is taken was looked up, and is then remembered
+pub taken-over : (o : Option Action) (b : Action) (a : Holding) → taken_over o b ≡ holding_action a
+    → (b ≡ holding_action a) × (option_or o (unless_nop b) ≡ Some (holding_action a))
+taken-over o b a e =
+    taken-holding o b a (ap (λ x. same_action x (holding_action a)) e ∙ same_action-refl (holding_action a))
+
 -- a press that takes a holding action remembers it
 pub takes : (r : List ResolvedEvent) (k : ℕ) (b : Action) (a : Holding)
     → taken_over (remembered k r) b ≡ holding_action a → remembered k (PressedAction k b ∷ r) ≡ Some (holding_action a)
-takes r k b a e = search (rules, same_action-refl, remembered-action, eq-eqb, taken-holding)
+takes r k b a e =
+    remembered-action k k b r
+    ∙ ap (λ t. option_or (remembered k r) (if t then unless_nop b else None)) (eq-eqb k k refl)
+    ∙ (taken-over (remembered k r) b a e).1
 
 -- a holder that takes a holding action takes its own modifier
 pub holder-takes : (r : List ResolvedEvent) (s : State) (k : ℕ) (b : Action) (a : Holding) (i : Modifier) → Follows r s

@@ -96,7 +96,9 @@ some_mod_dead held i j e f = let g : Some (act.DeadKey i) ≡ Some (act.Mod j) =
 pub taken-dead : (o : Option Action) (b : Action) (i : ℕ) → taken_over o b ≡ act.DeadKey i
     → (b ≡ act.DeadKey i) × IsFreeFor o i
 taken-dead None b i e = (e, (λ j f. let g : None ≡ Some (act.Mod j) = f in cc))
-taken-dead (Some held) b i e = search (rules, taken-same, some_mod_dead)
+taken-dead (Some held) b i e =
+    let (looked, was) = taken-same held b (same_action held b) i refl e in
+    (looked, (λ j f. some_mod_dead held i j was f))
 
 -- what becomes pending was pending, or its dead key is taken
 abbrev pub Takes : MapValue → Option ℕ → Action → ℕ → Type 0

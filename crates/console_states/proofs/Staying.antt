@@ -18,6 +18,7 @@ use Rattle.console_core.proofs.Shared.{held-load, held-reset, held-start, locked
 use Rattle.console_core.proofs.Shared.{locked-start, taken-holding}
 use Rattle.console_states.proofs.Unscrolled.{same_states}
 use Rattle.console_states.proofs.Following.{same_mods, some_mod_lock, kind_of, follows-character, follows-nothing}
+use Rattle.console_states.proofs.Following.{taken-over}
 use Rattle.console_states.proofs.Following.{holder-takes, follows-hold, follows-again, follows-turn}
 use Rattle.console_states.proofs.Following.{follows-down, follows-let_go, follows-release}
 use Rattle.keymap_core.specs.declared.action.Action.TheVariants as act
@@ -82,7 +83,7 @@ stays-lock u S T leads r s there f k lt b seen l e is false d = (
 -- a press that takes a holding action looked it up
 looked_up : (r : List ResolvedEvent) (k : ℕ) (b : Action) (a : Holding)
     → taken_over (remembered k r) b ≡ holding_action a → b ≡ holding_action a
-looked_up r k b a e = search (rules, taken-holding, same_action-refl)
+looked_up r k b a e = (taken-over (remembered k r) b a e).0
 
 -- a press leads from a set to the next
 pub stays-press : (u : Under) (S T : State → Type 0) → LeadsOn u S T → (r : List ResolvedEvent) (s : State) → S s

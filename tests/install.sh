@@ -227,8 +227,9 @@ not_installed() {
         file=${link%%:*}
         [ -e "$(dirname "$file")/${link#*](}" ] || echo "$link"
     done
-    grep -noE '`?(tests|crates|bench|include|completions|man)/[a-z_./]*' README.md docs/GUIDE.md docs/FORMATS.md \
-        docs/TRANSLATION.md
+    # (what stands below $PWD is said of a clone)
+    grep -noE '(\$PWD/)?`?(tests|crates|bench|include|completions|man)/[a-z_./]*' README.md docs/GUIDE.md \
+        docs/FORMATS.md docs/TRANSLATION.md | grep -vF ':$PWD/'
     grep -noE 'CONTRIBUTING|ARCHITECTURE|DECISIONS' README.md docs/*.md)
 }
 

@@ -22,6 +22,7 @@ use Rattle.console_states.proofs.Shared.{idle-none, not_holding, pending-along, 
 use Rattle.console_states.proofs.Shared.{pressed-look, same_states, stands-from, stands-tapped}
 use Rattle.console_core.proofs.Shared.{answers_by_cases, one_map, pending-action, pending-character}
 use Rattle.console_core.proofs.Shared.{pending-release, pressed-press, resolved-more}
+use Rattle.keymap_core.proofs.Shared.{same_action-refl}
 use Rattle.keymap_core.specs.declared.action.Action.TheVariants as act
 use Rattle.console_core.specs.declared.event.Answer.TheVariants as answer
 use Rattle.console_scripts.specs.declared.explored.Symbol.TheVariants as symbol
@@ -58,7 +59,7 @@ lets-go-some s h now t n i k x at holds = record {
   leads = λ u. ap (λ z. with_holder z i None) (x.leads u);
   gone = λ j lt. elim (place_last (modifier_index j) n lt) [
     | inl below ↦ elim (cases_Bool (same_modifier i j)) [ inl e ↦ rw e refl | inr e ↦ rw e (x.gone j below) ]
-    | inr e ↦ rw (eq-eqb (modifier_index i) (modifier_index j) (ap modifier_index (at j e))) refl
+    | inr e ↦ rw (subst (λ z. same_modifier i z ≡ true) (at j e) (same_action-refl (act.Mod i))) refl
   ];
   locks = x.locks;
   second = x.second;

@@ -9,7 +9,7 @@ use Rattle.keymap_diff.proofs.Common.{char_or_error, answer_char, answer_action,
 use Rattle.keymap_diff.proofs.Common.{unless_nop, taken_over, held, locked, on, remembered, pending, look}
 use Rattle.keymap_diff.proofs.Common.{resolve_press, answer_resolved, ResolvedEvent, PressedCharacter, PressedAction}
 use Rattle.keymap_diff.proofs.Common.{ReleasedKey, WasReset, between, resolved, answer_to, State, is_held, Follows}
-use Rattle.keymap_diff.proofs.Common.{looked_up, AreCellsAlike, IsUnnoticed, MakesSame}
+use Rattle.keymap_diff.proofs.Common.{looked_up, AreCellsAlike, IsUnnoticed, MakesSame, same_action, if◌then◌else◌}
 use Rattle.console_core.specs.Columns.{look_with}
 use Rattle.console_core.proofs.Shared.{held-action, held-character, held-release, held-reset, locked-action}
 use Rattle.console_core.proofs.Shared.{locked-character, locked-release, locked-reset, one_in_force}
@@ -143,10 +143,15 @@ abbrev pub ShowNothingFor : MapValue → MapValue → Option Action → Cell →
 ShowNothingFor m n o x y =
     AreCellsAlike m n x y ⊎ ((i : Modifier) × (o ≡ Some (act.Mod i)) × IsUnnoticed i x × IsUnnoticed i y)
 
+usable-if : (m n : MapValue) (t : Bool) (a : Action) → AreUsableAlike m n a
+    → AreUsableAlike m n (if t then a else act.Nop)
+usable-if m n true a same = same
+usable-if m n false a same = λ i e. let g : act.Nop ≡ act.DeadKey i = e in cc
+
 taken-usable : (m n : MapValue) (o : Option Action) (a : Action) → AreUsableAlike m n a
     → AreUsableAlike m n (taken_over o a)
 taken-usable m n None a same = same
-taken-usable m n (Some b) a same = search (rules, cases_Bool)
+taken-usable m n (Some b) a same = usable-if m n (same_action b a) a same
 
 unnoticed-nop : (i : Modifier) (a : Action) → a ≢ act.Mod i → taken_over (Some (act.Mod i)) a ≡ act.Nop
 unnoticed-nop i a other = search (rules, cases_Bool, same_action-true)

@@ -9,7 +9,8 @@ use Rattle.keymap_diff.proofs.Common.{char_or_error, answer_char, answer_action,
 use Rattle.keymap_diff.proofs.Common.{unless_nop, taken_over, held, locked, on, remembered, pending, look}
 use Rattle.keymap_diff.proofs.Common.{resolve_press, answer_resolved, ResolvedEvent, PressedCharacter, PressedAction}
 use Rattle.keymap_diff.proofs.Common.{ReleasedKey, WasReset, between, resolved, answer_to, State, is_held, Follows}
-use Rattle.keymap_diff.proofs.Common.{looked_up, AreCellsAlike, IsUnnoticed, MakesSame, same_action, if◌then◌else◌}
+use Rattle.keymap_diff.proofs.Common.{looked_up, AreCellsAlike, IsUnnoticed, MakesSame, same_action, false}
+use Rattle.keymap_diff.proofs.Common.{if◌then◌else◌}
 use Rattle.console_core.specs.Columns.{look_with}
 use Rattle.console_core.proofs.Shared.{held-action, held-character, held-release, held-reset, locked-action}
 use Rattle.console_core.proofs.Shared.{locked-character, locked-release, locked-reset, one_in_force}

@@ -51,8 +51,7 @@ with-number ns n = by (list_any (λ m. m == n) ns) refl
   where
     by : (t : Bool) → list_any (λ m. m == n) ns ≡ t → IsWith n ns (if t then ns else ns ++ n ∷ [])
     by true e = search (rules, some-member, eqb-true)
-    by false e =
-        inr (refl, (λ has. true≢false (sym (any-member (λ m. m == n) ns n has (eq-eqb n n refl)) ∙ e)))
+    by false e = inr refl
 
 -- the base of one of the pairs
 abbrev IsBaseIn : List (ℕ × ℕ) → ℕ → Type 0
@@ -87,6 +86,27 @@ append-once (x ∷ xs) ys first second apart =
     (append-once xs ys (tail-once x xs first) second
     (λ z (k, lt, at) there. apart z (suc k, omega (arith, lt), at) there))
 
+-- what stands in a list of one
+one-only : (n c : ℕ) → Contains (n ∷ []) c → c ≡ n
+one-only n c (zero, lt, at) = sym at
+one-only n c (suc k, lt, at) = absurd (omega (arith, lt))
+
+one-once : (n : ℕ) → HasNoDoubles (n ∷ [])
+one-once n = AllPairs-cons (λ x y. x ≢ y) n [] (λ k d lt. absurd (omega (arith, lt))) no-doubles
+
+number-once : (ns : List ℕ) (n : ℕ) → HasNoDoubles ns → HasNoDoubles (with_number ns n)
+number-once ns n once = by (list_any (λ m. m == n) ns) refl
+  where
+    by : (t : Bool) → list_any (λ m. m == n) ns ≡ t → HasNoDoubles (if t then ns else ns ++ n ∷ [])
+    by true e = once
+    by false e =
+        append-once ns (n ∷ []) once (one-once n)
+        (λ c has last. true≢false (sym (any-member (λ m. m == n) ns c has (eq-eqb c n (one-only n c last))) ∙ e))
+
+bases-once : (ns : List ℕ) (pairs : List (ℕ × ℕ)) → HasNoDoubles ns → HasNoDoubles (with_bases ns pairs)
+bases-once ns [] once = once
+bases-once ns (p ∷ pairs) once = bases-once (with_number ns p.0) pairs (number-once ns p.0 once)
+
 -- the blank and the bases of an accent, if it has a character
 bases-of : (o : Option AccentValue) (a : AccentValue) → has_own o ≡ not (a.own == 0)
     → ((c : ℕ) → IsBaseOf o c → IsBaseIn a.pairs c)
@@ -107,15 +127,11 @@ bases-of o a own out back = by (a.own == 0) refl
             | inr base ↦ more.all c (out c base)
           ];
           only = λ c there. elim (more.only c there) [
-            | inl first ↦ (has, inl (blank-only c first))
+            | inl first ↦ (has, inl (one-only 32 c first))
             | inr base ↦ (has, inr (back c has base))
           ];
-          once = more.once (AllPairs-cons (λ x y. x ≢ y) 32 [] (λ k d lt. absurd (omega (arith, lt))) no-doubles);
+          once = bases-once (32 ∷ []) a.pairs (one-once 32);
         }
-      where
-        blank-only : (c : ℕ) → Contains (32 ∷ []) c → c ≡ 32
-        blank-only c (zero, lt, at) = sym at
-        blank-only c (suc k, lt, at) = absurd (omega (arith, lt))
 
 bases-told : (m : MapValue) (i : ℕ) → Enumerates (λ c. IsTold m (sight.Pair i c)) (bases_at m i)
 bases-told m i = by (accent_at m i) refl

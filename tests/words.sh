@@ -1,10 +1,11 @@
 #!/bin/sh
 # Checks that docs/FORMATS.md has each message word for word: of `kmap lint`, the constants of keymap_lint_text's
-# words.rt and the names of columns in keymap_names' lists.rt, in the section "Diagnostics"; of the report and of scripts, those of kmap_runs' words.rt, in "The report of
-# check", "What the search found", "What differs between two keymaps", "The script that types a sentence" and "The script
-# that tests a console". And that it has the line of `kmap check` on a key, which stands in pictures and in the C library
-# too: the constant FINDING of keymap_check's words.rt; the fault lines of kmap_runs' fault_line.rt, in "Fault lines"; and
-# the sentences of the C library, those of kmap_c's words.rt, in their order.
+# words.rt and the names of columns in keymap_names' lists.rt, in the section "Diagnostics"; of the report and of scripts,
+# those of kmap_runs' and script_text's words.rt, in "The report of check", "What the search found", "What differs
+# between two keymaps", "The script that types a sentence" and "The script that tests a console". And that it has the
+# line of `kmap check` on a key, which stands in pictures and in the C library too: the constant FINDING of
+# keymap_check's words.rt; the fault lines of kmap_runs' fault_line.rt, in "Fault lines"; and the sentences of the C
+# library, those of kmap_c's words.rt, in their order.
 #
 # A message has `{}` where something is told. The page has it in backquotes, with a letter, a word in capitals or `..`
 # at such a place, or another message, or nothing; or it has it at such a place alone. Names of columns stand in one
@@ -15,7 +16,6 @@
 
 top=$(cd "$(dirname "$0")/.." && pwd)
 . "$top/tests/shared.sh"
-runs=$top/crates/kmap_runs/src/words.rt
 folder=$(mktemp -d) || exit 1
 trap 'rm -rf "$folder"' EXIT
 lint=$folder/lint.rt
@@ -23,6 +23,8 @@ lint=$folder/lint.rt
     cat "$top/crates/keymap_lint_text/src/words.rt"
     sed -n 's/^const COLUMN_NAMES/pub(crate) &/; /COLUMN_NAMES/,/^];/p' "$top/crates/keymap_names/src/lists.rt"
 } > "$lint"
+runs=$folder/runs.rt
+cat "$top/crates/kmap_runs/src/words.rt" "$top/crates/script_text/src/words.rt" > "$runs"
 
 cat > "$folder/words.py" << 'PYTHON'
 import re

@@ -1,13 +1,8 @@
 mod Accepted
 mod Chained
-mod Comments
 mod Common
-mod Counted
+mod Compared
 mod CoverScripts
-mod Covered
-mod DiffLines
-mod DiffScripts
-mod Differing
 mod Dumped
 mod PlainScripts
 mod Replayed

@@ -8,7 +8,7 @@ use Rattle.std.specs.List.{position_or_len}
 use Rattle.keymap_names.proofs.Shared.{ascii, decimal_line, digit_printed, fills, itself, line_each}
 use Rattle.keymap_names.proofs.Shared.{plain_append, plain_flat, plain_line, plain_none, ◌⊳◌}
 use Rattle.keymap_names.specs.Shown.{IsLine, IsPlainText, is_shown_byte}
-use Rattle.kmap_runs.proofs.Comments.{code_all}
+use Rattle.script_text.proofs.Shared.{code_all}
 use Rattle.kmap_runs.specs.Typing.{sentence_line}
 use Rattle.console_core.specs.declared.event.Event.TheVariants as event
 

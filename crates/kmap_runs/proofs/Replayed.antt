@@ -33,7 +33,8 @@ use Rattle.kmap_runs.specs.Search.{script_text, found_text}
 use Rattle.kmap_runs.specs.Runs.{TypesSentence}
 use Rattle.kmap_runs.specs.Replayed.{ScriptTypes, Delivers, AnswerReplays, AnswerReplaysBetween, ShowsDemonstration}
 use Rattle.kmap_runs.specs.Replayed.{ShowsScript}
-use Rattle.kmap_runs.proofs.Comments.{IsInLine, flat-line, decimal-line, code-line, comment-before, comment-alone}
+use Rattle.script_text.proofs.Shared.{IsInLine, code-line, comment-alone, comment-before, decimal-line}
+use Rattle.script_text.proofs.Shared.{flat-line}
 use Rattle.console_core.specs.declared.event.Event.TheVariants as event
 use Rattle.play_core.specs.declared.show.Show.TheVariants as show
 

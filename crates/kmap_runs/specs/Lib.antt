@@ -1,6 +1,3 @@
-pub mod Comments
-pub mod Cover
-pub mod Diff
 pub mod FaultLine
 pub mod FmtRuns
 pub mod Inputs

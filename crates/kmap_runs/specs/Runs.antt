@@ -35,14 +35,14 @@ use Rattle.kmap_runs.specs.declared.fault_line.RunError.{RunError}
 use Rattle.kmap_runs.specs.declared.fault_line.RunError.TheVariants as error
 use Rattle.kmap_runs.specs.declared.fault_line.CommandError.{CommandError}
 use Rattle.kmap_runs.specs.declared.fault_line.CommandError.TheVariants as command
-use Rattle.kmap_runs.specs.Cover.{IsCoverText}
-use Rattle.kmap_runs.specs.Diff.{diff_text, same_text}
+use Rattle.script_text.specs.Cover.{IsCoverText}
+use Rattle.script_text.specs.Diff.{diff_text, same_text}
 use Rattle.kmap_runs.specs.Inputs.{of_command_writer, of_writer, ReadsBytes, ReadsFile, ReadsForCommand, ReadsKeymaps}
 use Rattle.kmap_runs.specs.Inputs.{ReadsOther, ReadsSentence, ReadsText}
 use Rattle.kmap_runs.specs.LintRuns.{IsLinted}
 use Rattle.kmap_runs.specs.Missing.{AreMissingIn, missing_text}
 use Rattle.kmap_runs.specs.declared.missing.Missing.{Missing}
-use Rattle.kmap_runs.specs.Replayed.{ShowsCover}
+use Rattle.script_text.specs.Replayed.{ShowsCover}
 use Rattle.kmap_runs.specs.Report.{brief_line, report}
 use Rattle.kmap_runs.specs.Search.{found_text, is_never}
 use Rattle.kmap_runs.specs.Typing.{typing_script}

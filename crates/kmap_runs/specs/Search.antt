@@ -8,7 +8,7 @@ use Rattle.console_states.specs.declared.outcome.Sticking.{Sticking}
 use Rattle.console_states.specs.declared.outcome.Sticking.TheVariants.{Sticks, Never, Undecided}
 use Rattle.play_core.specs.Spelling.{event_line}
 use Rattle.kmap_runs.specs.Report.{holding_name}
-use Rattle.kmap_runs.specs.Comments.{comment}
+use Rattle.script_text.specs.Comments.{comment}
 
 -- the name of a modifier, after a blank
 abbrev pub modifier_name : Modifier → List ℕ

@@ -9,7 +9,7 @@ use Rattle.console_scripts.specs.declared.typing.Typing.{Typing}
 use Rattle.console_scripts.specs.Typing.{characters_of}
 use Rattle.keymap_core.specs.CodePoints.{code_text}
 use Rattle.play_core.specs.Spelling.{event_line}
-use Rattle.kmap_runs.specs.Comments.{comment}
+use Rattle.script_text.specs.Comments.{comment}
 
 -- a character, or its number where a terminal doesn't show it as it is
 unfoldable pub shown : ℕ → List ℕ

@@ -4,12 +4,12 @@ ghost use Rattle.kmap_runs.specs.Inputs.{blames_text, run_of};
 ghost use Rattle.kmap_runs.specs.Runs.{CoversText, IsCovered, LacksCover, blames_writer};
 ghost use Rattle.play_core.specs.Runs.{moves};
 
-use crate::cover::cover_text;
 use crate::fault_line::{CommandError, RunError};
 use crate::inputs::read_text;
 use crate::runs::command_once_written;
 use keymap_core::{KeyMap, Read, Write};
 use keymap_cover::cover_of;
+use script_text::cover_text;
 use std::alloc::{AllocError, Global};
 
 /// What is printed of the script of a keymap.

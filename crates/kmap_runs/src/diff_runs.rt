@@ -5,7 +5,6 @@ ghost use Rattle.kmap_runs.specs.Inputs.{blames_next, blames_text};
 ghost use Rattle.kmap_runs.specs.Runs.{Compares, DiffsTexts, TellsDifferences, blames_writer};
 ghost use Rattle.play_core.specs.Runs.{moves};
 
-use crate::diff::{diff_text, same_text};
 use crate::fault_line::RunError;
 use crate::inputs::{read_other, read_text};
 use crate::runs::answer_once_written;
@@ -13,6 +12,7 @@ use keymap_core::laws::every_keymap_is_within_the_bounds;
 use keymap_core::{KeyMap, Read, Write};
 use keymap_diff::laws::the_same_keymaps_have_no_changes;
 use keymap_diff::{Change, differences, telling_apart};
+use script_text::{diff_text, same_text};
 use std::alloc::{AllocError, Global};
 
 /// Whether the keymaps are the same, by what differs between them.

@@ -2,27 +2,19 @@
 //! keymap. No function here does anything.
 ghost use Rattle.std.specs.Prelude.{◌≡◌, List, [], ℕ, reverse, All, Option, Some, Ok, true};
 ghost use Rattle.keymap_core.specs.Maps.{MapValue};
-ghost use Rattle.keymap_cover.specs.Covering.{history};
-ghost use Rattle.keymap_cover.specs.declared.parts.Cover.{Cover as CoverValue};
 ghost use Rattle.console_states.specs.declared.outcome.Sticking.{Sticking as StickingValue};
 ghost use Rattle.console_scripts.specs.declared.typing.Typing.{Typing as TypingValue};
-ghost use Rattle.console_core.specs.History.{HasKeys, Maps};
+ghost use Rattle.console_core.specs.History.{Maps};
 ghost use Rattle.console_states.specs.Sticking.{IsAnswer, IsAnswerBetween};
 ghost use Rattle.console_scripts.specs.Typing.{AreTyped, characters_of};
 ghost use Rattle.play_core.specs.Playing.{Plays};
 ghost use Rattle.play_core.specs.Runs.{moves};
-ghost use Rattle.play_core.specs.Scripts.{IsScript};
 ghost use Rattle.play_core.specs.declared.show.Show.{Show as ShowValue};
 ghost use Rattle.play_core.specs.declared.show.Show.TheVariants as show;
 ghost use Rattle.kmap_runs.specs.Sentences.{IsTyped};
-ghost use Rattle.kmap_runs.specs.Cover.{CountedAreTold, IsCoverText, LeftOutCannotBeVisited};
-ghost use Rattle.keymap_diff.specs.Telling.{IsTelling};
-ghost use Rattle.keymap_diff.specs.declared.change.Change.{Change as ChangeValue};
-ghost use Rattle.keymap_diff.specs.declared.telling.Telling.{Telling as TellingValue};
-ghost use Rattle.kmap_runs.specs.Diff.{same_text};
 ghost use Rattle.kmap_runs.specs.Report.{report};
 ghost use Rattle.kmap_runs.specs.Replayed.{Delivers, ScriptTypes, AnswerReplays, AnswerReplaysBetween, ShowsScript};
-ghost use Rattle.kmap_runs.specs.Replayed.{PlaysCover, TellingReplays, events_sent};
+ghost use Rattle.kmap_runs.specs.Replayed.{PlaysCover};
 ghost use Rattle.kmap_runs.specs.FmtRuns.{ChangedTextsSpellTheSame, PrintedLayoutsSpellTheSame};
 ghost use Rattle.keymap_tables.specs.Sources.{ReadsNarrow, ReadsTables};
 ghost use Rattle.kmap_runs.specs.Runs.{AcceptedKeepTheirPromise, AreDumped, CompilesNarrowly, CompilesText};
@@ -33,7 +25,6 @@ ghost use Rattle.keymap_names.specs.Shown.{IsPlainText};
 ghost use Rattle.std.specs.Char.{IsScalar};
 
 use keymap_check::laws::safe_maps_keep_their_promise;
-use keymap_cover::laws::counts_are_of_verdicts;
 use keymap_draw::laws::{pictures_are_plain, pictures_are_well_formed};
 use keymap_fmt::laws::keymap_stays;
 use keymap_lint::laws::well_texts_never_stick;
@@ -68,16 +59,6 @@ pub fn found_scripts_deliver_the_answer()
     ensures between { (ms : Maps) (found : StickingValue) → IsAnswerBetween ms found → AnswerReplaysBetween ms found }
 {}
 
-/// What is printed of keymaps that differ is a script. Where they are told apart, it sends exactly the events that do
-/// so, none of them lost: `down` for a press of a key that isn't pressed, `repeat` for one of a key that is, and `up`
-/// of a pressed key. Two consoles that play it, one of each keymap alone, answer all events alike but the last, and
-/// that by the two answers of the verdict. Else it sends nothing, as what is printed of keymaps that are the same.
-pub fn told_scripts_tell_keymaps_apart()
-    ensures differ { (m n : MapValue) (found : List ChangeValue) (telling : TellingValue) → IsTelling m n telling
-        → TellingReplays m n found telling }
-    ensures same { IsScript same_text [] }
-{}
-
 /// What `play` types of the script that `type_run` printed for a sentence, over the same text, is that sentence.
 pub fn typed_sentences_come_back()
     ensures { (text sentence script typed : List ℕ) (t s u v : Option (List ℕ))
@@ -90,23 +71,6 @@ pub fn typed_sentences_come_back()
 /// events of the demonstration, none of them lost, which leave a modifier on while no key is pressed.
 pub fn printed_demonstrations_leave_a_modifier_on()
     ensures { (m : MapValue) → ShowsScript m (report m true) }
-{}
-
-/// The numbers of cells, lock settings and pairs that are printed of a cover count what is told of, each pair once.
-/// What is counted as left out can be seen by presses, but not visited: no moves lead to a press that sees it from
-/// which, once all keys are let go, more of them lead home.
-pub fn counted_sights_are_told()
-    ensures told { CountedAreTold }
-    ensures left_out { LeftOutCannotBeVisited }
-{
-    counts_are_of_verdicts();
-}
-
-/// What is printed of a cover, its comments with counts and lists, the comment that begins each part and a line for
-/// each event, is a script of exactly these events.
-pub fn cover_scripts_send_the_events()
-    ensures { (m : MapValue) (c : CoverValue) (text : List ℕ) → IsCoverText m c text → HasKeys (history c)
-        → IsScript text (events_sent c) }
 {}
 
 /// What the run that prints it wrote for a text is a script of the events of a cover of the keymap that the text

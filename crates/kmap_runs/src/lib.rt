@@ -19,11 +19,8 @@
 #![tactic(auto)]
 
 mod brief_runs;
-mod cover;
 mod cover_runs;
-mod diff;
 mod diff_runs;
-mod event_lines;
 mod fault_line;
 mod fmt_runs;
 mod inputs;

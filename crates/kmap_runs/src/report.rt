@@ -7,7 +7,6 @@ ghost use Rattle.keymap_check.specs.Scripts.{demonstration_of};
 ghost use Rattle.play_core.specs.Spelling.{event_line};
 ghost use Rattle.kmap_runs.specs.Report as spec;
 
-use crate::event_lines::{append, append_event};
 use crate::words::{
     ACCEPTED, DEMONSTRATION, NO_DEMONSTRATION, NOBODY, REFUSED, SEVERAL, SOLE, STEADY, THROUGHOUT,
 };
@@ -16,6 +15,7 @@ use console_core::Event;
 use keymap_check::{Bearer, Finding, Report, demonstrate, finding_words};
 use keymap_core::{HOLDINGS, Holding, KeyMap};
 use messages::{Line, either, line, small};
+use script_text::{append, append_event};
 
 /// How many bytes a report has at most: the verdict, a line for each of 128 findings and of 12 holding actions, and the
 /// demonstration, fit with room to spare.

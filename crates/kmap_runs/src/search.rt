@@ -3,12 +3,12 @@ ghost use Rattle.std.specs.Prelude.{◌≡◌, ◌++◌, IfOk, OnOk};
 ghost use Rattle.std.specs.List.{flat_map};
 ghost use Rattle.kmap_runs.specs.Search as spec;
 
-use crate::event_lines::{push_comment, push_events};
 use crate::words::{NEVER_STICKS, STICKS, UNDECIDED};
 use console_core::Event;
 use console_states::Sticking;
 use keymap_core::{Holding, Modifier};
 use messages::{number, parted};
+use script_text::{push_comment, push_events};
 use std::alloc::{AllocError, Global};
 
 /// The names of the modifiers, each after a blank.

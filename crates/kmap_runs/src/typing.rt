@@ -3,12 +3,12 @@ ghost use Rattle.std.specs.Prelude.{◌≡◌, ◌++◌, true, length, OnOk, IfO
 ghost use Rattle.console_scripts.specs.Typing.{AreEnds, characters_of};
 ghost use Rattle.kmap_runs.specs.Typing as spec;
 
-use crate::event_lines::push_events;
 use crate::words::SENTENCE;
 use console_core::Event;
 use console_scripts::{Keyed, Typing};
 use keymap_core::{code_text, is_unseen};
 use messages::parted;
+use script_text::push_events;
 use std::alloc::{AllocError, Global};
 
 /// Adds a character as it is, or its number where a terminal wouldn't show it.

@@ -1,8 +1,9 @@
-//! The words of the report of the check and of the scripts that runs print, line by line. What is told stands at the
-//! places `{}`, in the order in which the contracts list it. The forms are those of docs/FORMATS.md, "The report of
-//! check", "What the search found", "The script that types a sentence" and "The script that tests a console". A comment
-//! stands here without the number sign before it and the line feed behind it. The definitions have these bytes of their
-//! own (specs/Report.antt, Search.antt, Typing.antt and Cover.antt), which are proved to be the same.
+//! The words of the report of the check and of the scripts of `search` and `type`, line by line. What is told stands
+//! at the places `{}`, in the order in which the contracts list it. The forms are those of docs/FORMATS.md, "The
+//! report of check", "What the search found" and "The script that types a sentence". The words of `cover` and `diff`
+//! are those of script_text. A comment stands here without the number sign before it and the line feed behind it. The
+//! definitions have these bytes of their own (specs/Report.antt, Search.antt and Typing.antt), which are proved to be
+//! the same.
 
 // The report: the verdict, and who bears a holding action. The line on a key that makes the keymap refused is
 // keymap_check's, which pictures and the C library show too.
@@ -42,98 +43,3 @@ pub(crate) const SENTENCE: &[u8] = b" {}";
 pub(crate) const AT_PLACE: &[u8] = b"{}:{}:{}: {}\n";
 
 pub(crate) const SHOWN: &[u8] = b"{} '{}'";
-
-// How many sights of a kind the script that tests a console sees, leaves out and never sees, and these kinds.
-pub(crate) const COUNTS: &[u8] = b" {}: {}, left out {}, {} {}";
-
-pub(crate) const CELLS: &[u8] = b"cells";
-
-pub(crate) const LOCK_SETTINGS: &[u8] = b"lock settings";
-
-pub(crate) const ALL_PAIRS: &[u8] = b"pairs";
-
-// What the script doesn't see: of slots, and of an accent with characters.
-pub(crate) const ONE_SLOT: &[u8] = b" {}: slot {}{}";
-
-pub(crate) const SLOTS: &[u8] = b" {}: slots {} to {}{}";
-
-pub(crate) const PAIRS: &[u8] = b" {}: {} with{}";
-
-pub(crate) const LEFT_OUT: &[u8] = b"left out";
-
-pub(crate) const NEVER: &[u8] = b"never";
-
-pub(crate) const UNSTUCK: &[u8] = b"not before a modifier sticks";
-
-// What is listed of a slot: columns, and settings of clock and nlock. A number in a list.
-pub(crate) const COLUMNS: &[u8] = b"; columns";
-
-pub(crate) const LOCKS: &[u8] = b"; locks";
-
-pub(crate) const NO_LOCK: &[u8] = b" none";
-
-pub(crate) const NLOCK: &[u8] = b" nlock";
-
-pub(crate) const CLOCK: &[u8] = b" clock";
-
-pub(crate) const BOTH_LOCKS: &[u8] = b" clock+nlock";
-
-pub(crate) const LISTED: &[u8] = b" {}";
-
-// Where the parts of the script begin.
-pub(crate) const CELLS_PART: &[u8] = b" cells";
-
-pub(crate) const PAIRS_PART: &[u8] = b" pairs";
-
-pub(crate) const TRIALS_PART: &[u8] = b" trials";
-
-pub(crate) const ONE_WAY_PART: &[u8] = b" one-way";
-
-// A repeat, which no other printed script has.
-pub(crate) const REPEAT: &[u8] = b"repeat {}\n";
-
-// What tells two keymaps apart: nothing, since they are the same; the last of the events, with the answer under each;
-// no list of events, or none before a modifier sticks; or up to how many presses none does.
-pub(crate) const SAME: &[u8] = b" same";
-
-pub(crate) const TOLD: &[u8] = b" told apart: {} -> {}";
-
-pub(crate) const NEVER_TOLD: &[u8] = b" never told apart";
-
-pub(crate) const NOT_TOLD: &[u8] = b" not told apart before a modifier sticks";
-
-pub(crate) const UNTOLD: &[u8] = b" undecided: no list of up to {} presses tells them apart";
-
-// An answer, in the words of `play`.
-pub(crate) const ERROR: &[u8] = b"error";
-
-pub(crate) const CHARACTER: &[u8] = b"char {}";
-
-pub(crate) const META_CHARACTER: &[u8] = b"meta char {}";
-
-pub(crate) const BACK_TAB: &[u8] = b"btab";
-
-pub(crate) const RELEASED: &[u8] = b"released {}";
-
-// What changes, from what to what, and whether no press meets it. What changes is one of those below.
-pub(crate) const CHANGE: &[u8] = b" {}{}: {} -> {}";
-
-pub(crate) const LISTED_OTHERWISE: &[u8] = b" {}: listed otherwise, with the same results";
-
-pub(crate) const UNSEEN: &[u8] = b"unseen ";
-
-pub(crate) const SLOT_COUNT: &[u8] = b"slots";
-
-pub(crate) const CELL: &[u8] = b"cell: slot {}; {}";
-
-pub(crate) const LOCK: &[u8] = b"lock: slot {}";
-
-pub(crate) const ACCENT_COUNT: &[u8] = b"accents";
-
-pub(crate) const ACCENT: &[u8] = b"accent: {}";
-
-pub(crate) const PAIR: &[u8] = b"pair: {}; {}";
-
-pub(crate) const ORDER: &[u8] = b"pairs: {}";
-
-pub(crate) const NO_RESULT: &[u8] = b"none";

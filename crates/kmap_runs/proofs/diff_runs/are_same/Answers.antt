@@ -1,4 +1,4 @@
-use Rattle.kmap_runs.proofs.Differing.{none_found}
+use Rattle.kmap_runs.proofs.Compared.{none_found}
 use Rattle.kmap_runs.proofs.diff_runs.are_same.Goals as goal
 
 pub returns : goal.returns

@@ -1,5 +1,0 @@
-use Rattle.kmap_runs.proofs.Common.{rules}
-use Rattle.kmap_runs.proofs.cover.cover_text.Goals as goal
-
-pub returns : goal.returns
-returns c = search (rules)

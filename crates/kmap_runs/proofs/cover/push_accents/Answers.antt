@@ -1,6 +1,0 @@
-use Rattle.kmap_runs.proofs.Common.{rules}
-use Rattle.kmap_runs.proofs.Covered.{piece_behind}
-use Rattle.kmap_runs.proofs.cover.push_accents.Goals as goal
-
-pub loop-accent-preserved : goal.loop-accent-preserved
-loop-accent-preserved c = search (rules, piece_behind)

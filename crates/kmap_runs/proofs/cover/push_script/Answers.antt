@@ -1,6 +1,0 @@
-use Rattle.kmap_runs.proofs.Common.{append_assoc, get_or_default, rules}
-use Rattle.kmap_runs.proofs.Covered.{piece_behind}
-use Rattle.kmap_runs.proofs.cover.push_script.Goals as goal
-
-pub loop-place-preserved : goal.loop-place-preserved
-loop-place-preserved c = search (rules, get_or_default, piece_behind, append_assoc)

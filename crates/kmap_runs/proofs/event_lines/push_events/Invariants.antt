@@ -1,5 +1,0 @@
-use Rattle.kmap_runs.proofs.Common.{◌≡◌, ◌++◌, take, flat_map, event_line}
-use Rattle.kmap_runs.proofs.event_lines.push_events.Given as goal
-
-abbrev pub invariant-loop-event : goal.invariant-loop-event
-invariant-loop-event l = l.text.items ≡ l.fn.text.items ++ flat_map event_line (take l.event-index l.events)

@@ -1,0 +1,176 @@
+-- What is printed of two keymaps is a script of the events that tell them apart.
+use Rattle.std.proofs.Common.{rules}
+use Rattle.script_text.proofs.Common.{◌≡◌, ℕ, ◌<◌, true, false, List, [], ◌∷◌, ◌++◌, refl, sym, ap, subst, ◌∙◌}
+use Rattle.script_text.proofs.Common.{append-nil, lit<, reverse, codes, flat_map, reverse-reverse, All}
+use Rattle.script_text.proofs.Common.{All-head, All-tail, All-reversed, MapValue, HasKey, HasKeys, Event, Sent}
+use Rattle.script_text.proofs.Common.{IsScript, comment, sends, line-script, one_list}
+use Rattle.std.specs.Prelude.{◌≢◌}
+use Rattle.std.proofs.lemmas.Bool.{cond_both, true≢false}
+use Rattle.std.proofs.lemmas.List.Elements.{All-nil}
+use Rattle.keymap_core.specs.Numbers.{key_count}
+use Rattle.console_core.proofs.Shared.{reverse-cons}
+use Rattle.console_core.specs.History.{pressed}
+use Rattle.console_core.specs.declared.event.Answer.{Answer}
+use Rattle.console_core.specs.declared.event.Event.TheVariants as event
+use Rattle.console_states.specs.Sticking.{IsOfPressedKey, IsPressOrRelease, ReleasesPressedKeys}
+use Rattle.keymap_diff.proofs.Shared.{told_lists_differ_at_last}
+use Rattle.keymap_diff.specs.Telling.{DifferAtLast, IsTelling, IsToldBy}
+use Rattle.keymap_diff.specs.declared.change.Change.{Change}
+use Rattle.keymap_diff.specs.declared.change.Change.TheVariants.{Slots, Cell, Letter, Accents, Accent, Pair}
+use Rattle.keymap_diff.specs.declared.change.Change.TheVariants.{ListedOtherwise}
+use Rattle.keymap_diff.specs.declared.telling.Telling.{Telling}
+use Rattle.keymap_diff.specs.declared.telling.Telling.TheVariants.{Told, Never, Undecided}
+use Rattle.play_core.specs.Delivery.{delivered}
+use Rattle.play_core.specs.Scripts.{key_of}
+use Rattle.play_core.specs.Spelling.{sent_line, sent_of}
+use Rattle.play_core.specs.declared.sent.What.TheVariants as what
+use Rattle.script_text.proofs.Comments.{Adds, adds-nil, adds-script, decimal-line, quiet-comment, quiet-flat}
+use Rattle.script_text.proofs.Comments.{◌⊳◌}
+use Rattle.script_text.specs.Diff.{diff_text, is_unseen, line_text, lines_text, same_text, sent_along, sent_behind}
+use Rattle.script_text.specs.Diff.{subject_of, unseen_text, values_of, verdict_line}
+use Rattle.script_text.specs.Replayed.{FitsKeys, TellingReplays}
+use Rattle.script_text.proofs.DiffLines.{answer-line, subject-line, unseen-line, values-line}
+
+-- ---- the comments before the events
+
+quiet-change : (x : Change)
+    → Adds (comment (codes " {}{}: {} -> {}")
+    (unseen_text (is_unseen x) ∷ subject_of x ∷ (values_of x).0 ∷ (values_of x).1 ∷ [])) []
+quiet-change x = search (rules, subject-line, values-line, quiet-comment, unseen-line)
+
+quiet-line : (x : Change) → Adds (line_text x) []
+quiet-line (ListedOtherwise i) =
+    quiet-comment (codes " {}: listed otherwise, with the same results") (subject_of (ListedOtherwise i) ∷ []) refl
+    (subject-line (ListedOtherwise i), tt)
+quiet-line (Slots a b) = quiet-change (Slots a b)
+quiet-line (Cell s c a b u) = quiet-change (Cell s c a b u)
+quiet-line (Letter s a b u) = quiet-change (Letter s a b u)
+quiet-line (Accents a b) = quiet-change (Accents a b)
+quiet-line (Accent i a b u) = quiet-change (Accent i a b u)
+quiet-line (Pair i base a b u) = quiet-change (Pair i base a b u)
+
+quiet-lines : (found : List Change) → Adds (lines_text found) []
+quiet-lines found = quiet-flat line_text quiet-line found
+
+quiet-verdict : (t : Telling) → Adds (verdict_line t) []
+quiet-verdict (Told events a b) = search (rules, quiet-comment, answer-line)
+quiet-verdict (Never false) = quiet-comment (codes " never told apart") [] refl tt
+quiet-verdict (Never true) = quiet-comment (codes " not told apart before a modifier sticks") [] refl tt
+quiet-verdict (Undecided p) = search (rules, quiet-comment, decimal-line)
+
+-- ---- the events
+
+-- what is sent for a press, as a repeat and not
+abbrev repeated : ℕ → Sent
+repeated k = record { lost = false; what = what.Repeat k }
+
+abbrev pressed_down : ℕ → Sent
+pressed_down k = sent_of (event.Press k)
+
+-- a press or a release is of a key, whether the press is a repeat
+writable : (h : List Event) (e : Event) → HasKey e → key_of (sent_behind h e).what < key_count
+writable h (event.Press k) lt =
+    cond_both (pressed k h) (repeated k) (pressed_down k) (λ (s : Sent). key_of s.what < key_count) (λ _. lt) (λ _. lt)
+writable h (event.Release k) lt = lt
+writable h event.Reset _ = lit< tt
+writable h event.Load _ = lit< tt
+
+-- the lines of events behind others send these
+events-add : (h events : List Event) → HasKeys events
+    → Adds (flat_map sent_line (sent_along h events)) (sent_along h events)
+events-add h [] keys = adds-nil
+events-add h (e ∷ events) keys =
+    let s : Sent = sent_behind h e in
+    let lt = writable h e (All-head HasKey e events keys) in
+    let line : Adds (sent_line s) (s ∷ []) =
+    record { before = λ rest sent is. line-script (sends s) rest sent lt is } in
+    line ⊳ events-add (e ∷ h) events (All-tail HasKey e events keys)
+
+-- what is sent for an event delivers it
+delivers-one : (h : List Event) (e : Event) (rest : List Sent)
+    → delivered (sent_behind h e ∷ rest) ≡ e ∷ delivered rest
+delivers-one h (event.Press k) rest = search (rules, cond_both)
+delivers-one h (event.Release k) rest = refl
+delivers-one h event.Reset rest = refl
+delivers-one h event.Load rest = refl
+
+delivers-all : (h events : List Event) → delivered (sent_along h events) ≡ events
+delivers-all h [] = refl
+delivers-all h (e ∷ events) =
+    delivers-one h e (sent_along (e ∷ h) events) ∙ ap (λ l. e ∷ l) (delivers-all (e ∷ h) events)
+
+-- ---- what is sent fits the keys
+
+fits-one : (h : List Event) (e : Event) → IsPressOrRelease e → IsOfPressedKey e h
+    → ((sent_behind h e).lost ≡ false) × FitsKeys h (sent_behind h e).what
+fits-one h (event.Press k) is down = search (rules, cond_both)
+fits-one h (event.Release k) is down = (refl, down)
+fits-one h event.Reset is down = absurd is
+fits-one h event.Load is down = absurd (true≢false (sym is))
+
+-- a release behind others is of a key that is pressed after them
+releases-at : (later h : List Event) (e : Event) → ReleasesPressedKeys (later ++ e ∷ h) → IsOfPressedKey e h
+releases-at [] h e is = is.0
+releases-at (x ∷ later) h e is = releases-at later h e is.1
+
+fits : (h events : List Event) → All IsPressOrRelease events → ReleasesPressedKeys (reverse events ++ h)
+    → (before after : List Sent) (s : Sent) → sent_along h events ≡ before ++ s ∷ after
+    → (s.lost ≡ false) × FitsKeys (reverse (delivered before) ++ h) s.what
+fits h [] sent releases [] after s e = let f : [] ≡ s ∷ after = e in cc
+fits h [] sent releases (b ∷ before) after s e = let f : [] ≡ b ∷ (before ++ s ∷ after) = e in cc
+fits h (x ∷ events) sent releases [] after s e =
+    search (rules, fits-one, All-head, releases-at, reverse-cons)
+fits h (x ∷ events) sent releases (b ∷ before) after s e =
+    search (
+      rules,
+      All-tail,
+      reverse-cons,
+      delivers-one,
+      fits (x ∷ h) events (All-tail IsPressOrRelease x events sent),
+    )
+
+-- ---- the whole text
+
+-- the two answers to the newest event differ
+differ : (m n : MapValue) (h : List Event) (a b : Answer) → IsToldBy m n h a b → a ≢ b
+differ m n [] a b told same = told.old_answer
+differ m n (e ∷ h) a b told same = told.apart (told.old_answer ∙ same ∙ sym told.new_answer)
+
+-- the comments and then the events
+text-adds : (t : Telling) (found : List Change) (events : List Event) → HasKeys events
+    → Adds (verdict_line t ++ lines_text found ++ flat_map sent_line (sent_along [] events)) (sent_along [] events)
+text-adds t found events keys = quiet-verdict t ⊳ quiet-lines found ⊳ events-add [] events keys
+
+in-order : (P : Event → Type 0) (events : List Event) → All P (reverse events) → All P events
+in-order P events all = subst (All P) (reverse-reverse events) (All-reversed P (reverse events) all)
+
+pub telling-replays : (m n : MapValue) (found : List Change) (t : Telling) → IsTelling m n t
+    → TellingReplays m n found t
+telling-replays m n found (Told events a b) is =
+    let told = is.0 in
+    let es : List Event = events.items in
+    let sent : List Sent = sent_along [] es in
+    let text : List ℕ = diff_text (Told events a b) found in
+    let script : IsScript text sent =
+    adds-script text sent (text-adds (Told events a b) found es (in-order HasKey es told.keys)) in
+    let delivers : delivered sent ≡ es = delivers-all [] es in
+    record {
+      sent = sent;
+      is = script;
+      nothing_else = λ others is. one_list text others sent is script;
+      delivers = delivers;
+      fit = λ before after s e.
+          let so = fits [] es (in-order IsPressOrRelease es told.sent)
+          (subst ReleasesPressedKeys (sym (append-nil (reverse es))) told.releases) before after s e in
+          (so.0, subst (λ z. FitsKeys z s.what) (append-nil (reverse (delivered before))) so.1);
+      answers = subst (λ z. DifferAtLast m n z a b) (reverse-reverse es ∙ sym delivers)
+          (told_lists_differ_at_last m n (reverse es) a b told is.1);
+      differ = differ m n (reverse es) a b told;
+    }
+telling-replays m n found (Never forgets) is =
+    adds-script (diff_text (Never forgets) found) [] (text-adds (Never forgets) found [] (All-nil HasKey))
+telling-replays m n found (Undecided p) is =
+    adds-script (diff_text (Undecided p) found) [] (text-adds (Undecided p) found [] (All-nil HasKey))
+
+pub same-script : IsScript same_text []
+same-script = adds-script same_text [] (quiet-comment (codes " same") [] refl tt)

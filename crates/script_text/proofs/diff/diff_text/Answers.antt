@@ -1,0 +1,6 @@
+use Rattle.std.proofs.Common.{rules}
+use Rattle.script_text.proofs.Common.{append_assoc}
+use Rattle.script_text.proofs.diff.diff_text.Goals as goal
+
+pub returns : goal.returns
+returns c = search (rules, append_assoc)

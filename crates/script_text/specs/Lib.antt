@@ -1,0 +1,4 @@
+pub mod Comments
+pub mod Cover
+pub mod Diff
+pub mod Replayed

@@ -1,0 +1,23 @@
+//! The scripts that `cover` and `diff` print, and what all printed scripts are made of: the lines of events, and
+//! comments.
+//!
+//! `cover_text` prints a cover of keymap_cover: in comments how much its script sees, what it leaves out and what it
+//! never sees, and its events, a line each. `diff_text` prints what keymap_diff found between two keymaps: the verdict
+//! and each change in comments, and the events that tell them apart; `same_text` what is told of keymaps that are the
+//! same. The lines are those that `play_core` reads; `kmap_runs` above writes these texts, and makes others of the
+//! same lines.
+//!
+//! Contracts say that each text is the one that is defined for its value (`specs/Cover.antt`, `specs/Diff.antt`). The
+//! module `laws` says that it is a script, of exactly these events and of nothing else, whatever its comments tell,
+//! and of that of `diff` what two consoles answer that play it.
+#![tactic(auto)]
+
+mod cover;
+mod diff;
+mod event_lines;
+pub mod laws;
+mod words;
+
+pub use cover::cover_text;
+pub use diff::{diff_text, same_text};
+pub use event_lines::{append, append_event, event_line, push_comment, push_events};

@@ -139,7 +139,14 @@ refuses diagnostics
 refuses diagnostics-faulty fault
 yields lint_text
 yields ranges
+yields accents
 yields shown_name
+yields word
+yields first_shown
+yields all_chars
+yields same_text
+yields cover_text
+yields diff_text
 refuses format
 yields picture
 refuses filled

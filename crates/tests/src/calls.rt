@@ -13,6 +13,7 @@ mod consoles;
 mod devices;
 mod formats;
 mod inputs;
+mod names;
 mod outcome;
 mod runs;
 mod searches;
@@ -34,6 +35,9 @@ fn of_keymaps<W: Write>(call: &Call<'_>, marks: &mut W) -> Option<Outcome> {
         return Some(outcome);
     }
     if let Some(outcome) = texts::of_scripts(call, marks) {
+        return Some(outcome);
+    }
+    if let Some(outcome) = names::of_names(call, marks) {
         return Some(outcome);
     }
     runs::of_texts(call, marks)
@@ -62,6 +66,9 @@ fn outcome_of<W: Write>(call: &Call<'_>, marks: &mut W) -> Result<Option<Outcome
         return Ok(Some(outcome));
     }
     if let Some(outcome) = searches::of_searches(call, marks)? {
+        return Ok(Some(outcome));
+    }
+    if let Some(outcome) = names::of_printing(call, marks)? {
         return Ok(Some(outcome));
     }
     consoles::of_explorer(call, marks)

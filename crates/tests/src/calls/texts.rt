@@ -1,5 +1,4 @@
-//! The calls of keymap_lint, keymap_lint_text, keymap_names, keymap_fmt, keymap_draw and messages, those of play_core, and
-//! `type_sentence`.
+//! The calls of keymap_lint, keymap_lint_text, keymap_fmt, keymap_draw and messages, those of play_core, and `type_sentence`.
 use crate::calls::devices::{mark, reader_of, writer};
 use crate::calls::inputs::{Call, FAULTY, Lent, SENTENCE, TEXT, TRAP, script};
 use crate::calls::outcome::{Outcome, ended, ended_keeping, ended_untouched, is_text};
@@ -9,7 +8,6 @@ use keymap_draw::{Board, picture};
 use keymap_fmt::format;
 use keymap_lint::{Lint, diagnostics};
 use keymap_lint_text::lint_text;
-use keymap_names::{ranges, shown_name};
 use kmap_runs::type_sentence;
 use messages::filled;
 use play_core::{Show, play, play_next, read_script, read_whole};
@@ -43,8 +41,6 @@ pub(crate) fn of_trap<W: Write>(
         "diagnostics" => Some(diagnoses(alloc, TRAP, marks)),
         "diagnostics-faulty" => Some(diagnoses(alloc, FAULTY, marks)),
         "lint_text" => Some(tells_diagnostics(alloc, marks)?),
-        "ranges" => Some(tells_ranges(alloc, marks)),
-        "shown_name" => Some(shows_name(alloc, marks)),
         "picture" => Some(draws(alloc, call.trap, marks)),
         _ => None,
     })
@@ -64,20 +60,6 @@ fn tells_diagnostics<W: Write>(alloc: Global, marks: &mut W) -> Result<Outcome, 
     mark(marks);
     let is_right = matches!(&given, Ok(text) if text.as_slice().starts_with(b"trap:"));
     Ok(ended(&given, is_right))
-}
-
-fn tells_ranges<W: Write>(alloc: Global, marks: &mut W) -> Outcome {
-    mark(marks);
-    let given = ranges(alloc, &[2, 3, 4, 30]);
-    mark(marks);
-    ended(&given, is_text(&given, b"2 to 4, 30"))
-}
-
-fn shows_name<W: Write>(alloc: Global, marks: &mut W) -> Outcome {
-    mark(marks);
-    let given = shown_name(alloc, b"a\x1b");
-    mark(marks);
-    ended(&given, is_text(&given, b"a\xef\xbf\xbd"))
 }
 
 fn formats<W: Write>(alloc: Global, marks: &mut W) -> Outcome {

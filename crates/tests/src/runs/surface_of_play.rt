@@ -19,7 +19,7 @@ fn scripts() {
     let _: fn(KeyCode) -> What = What::Down;
     let _: fn(KeyCode) -> What = What::Repeat;
     let _: fn(KeyCode) -> What = What::Up;
-    let (What::Down(_) | What::Repeat(_) | What::Up(_) | What::Reset | What::Load) = what;
+    let (What::Down(_) | What::Repeat(_) | What::Up(_) | What::Reset | What::Load) = What::Load;
     let _: fn(u64) -> ScriptFault = ScriptFault::BadLine;
     let _: fn(u64) -> ScriptFault = ScriptFault::BadKey;
     let (ScriptFault::BadLine(_) | ScriptFault::BadKey(_)) = ScriptFault::BadKey(2);

@@ -1,30 +1,19 @@
 -- Where nothing is aimed at no visit can be made.
-use Rattle.console_scripts.proofs.Common.{◌≡◌, ◌<◌, ℕ, Bool, true, false, List, [], ◌∷◌, ◌++◌, slice_get}
-use Rattle.console_scripts.proofs.Common.{Option, MatchOption, Some, None, refl, ap, subst, sym, ◌∙◌, inl, inr}
-use Rattle.console_scripts.proofs.Common.{arith, false≢true}
-use Rattle.console_scripts.proofs.Common.{MapValue}
-use Rattle.console_scripts.proofs.Common.{Lock, Caps, Num, Scroll, Alt, Char, Act}
-use Rattle.console_scripts.proofs.Common.{Move, Turn, LetGo, Sight, Explored}
-use Rattle.console_scripts.proofs.Common.{Under}
-use Rattle.console_scripts.proofs.Common.{alone, State, start, IsFree, IsIdle, look_in, IsMove, IsPath}
-use Rattle.console_scripts.proofs.Common.{state_after, IsPathFrom, state_from, with_holder}
-use Rattle.console_scripts.proofs.Common.{with_lock_turned, IsHome, SeesBy, look_selected}
-use Rattle.console_scripts.proofs.Common.{selection_of, slot_of, ComesHome, map_of_explored, origin_in}
-use Rattle.console_scripts.proofs.Common.{HasTap, dead_tap, HasRoute, freed, state_of, Entry}
-use Rattle.console_scripts.proofs.Common.{IsReached, IsWhole, IsAfter, IsDeadFor}
-use Rattle.console_scripts.proofs.Common.{IsAim, ShowsNot, unscrolled}
-use Rattle.console_scripts.proofs.Common.{Searched, length, rules}
-use Rattle.console_scripts.specs.declared.explored.KeyAt.{KeyAt}
+use Rattle.console_scripts.proofs.Common.{◌≡◌, ◌<◌, ℕ, Bool, true, false, List, [], ◌∷◌, ◌++◌, slice_get, Option}
+use Rattle.console_scripts.proofs.Common.{MatchOption, Some, None, refl, ap, subst, sym, ◌∙◌, inl, inr, arith}
+use Rattle.console_scripts.proofs.Common.{false≢true, MapValue, Lock, Caps, Num, Scroll, Alt, Char, Act, Move, Turn}
+use Rattle.console_scripts.proofs.Common.{LetGo, Sight, Explored, Under, alone, State, start, IsFree, IsIdle, look_in}
+use Rattle.console_scripts.proofs.Common.{IsMove, IsPath, state_after, IsPathFrom, state_from, with_holder}
+use Rattle.console_scripts.proofs.Common.{with_lock_turned, IsHome, SeesBy, look_selected, selection_of, slot_of}
+use Rattle.console_scripts.proofs.Common.{ComesHome, map_of_explored, origin_in, HasTap, dead_tap, HasRoute, freed}
+use Rattle.console_scripts.proofs.Common.{state_of, Entry, IsReached, IsWhole, IsAfter, IsDeadFor, IsAim, ShowsNot}
+use Rattle.console_scripts.proofs.Common.{unscrolled, Searched, length, rules, KeyAt, IsTurned, CanVisit, IsPressAt}
+use Rattle.console_scripts.proofs.Common.{IsRest, near-is_home, near-met, near-path, path-split, reached-one}
+use Rattle.console_scripts.proofs.Common.{same_states, start-one, one_map}
 use Rattle.console_scripts.specs.declared.explorer.Aim.{Aim}
-use Rattle.console_states.specs.Returning.{IsTurned}
-use Rattle.console_scripts.specs.Visiting.{CanVisit}
 use Rattle.console_states.specs.Searching.{HasMetAll}
-use Rattle.console_scripts.specs.Inner.Showing.{IsPressAt, IsRest}
-use Rattle.console_states.proofs.Shared.{Reached, emptied, emptied-kept, emptied-none, near-is_home, near-met}
-use Rattle.console_states.proofs.Shared.{near-path, path-split, reached-more, reached-one, same-scrolled}
-use Rattle.console_states.proofs.Shared.{same_states, start-one}
+use Rattle.console_states.proofs.Shared.{Reached, emptied, emptied-kept, emptied-none, reached-more, same-scrolled}
 use Rattle.console_scripts.proofs.Exploring.{comes-route, path-append}
-use Rattle.console_core.proofs.Shared.{one_map}
 use Rattle.console_scripts.proofs.Leading.{met-first}
 use Rattle.console_scripts.proofs.Approaching.{turned-near}
 use Rattle.keymap_core.specs.declared.action.Action.TheVariants as act

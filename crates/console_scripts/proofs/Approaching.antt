@@ -1,26 +1,14 @@
 -- The events of a visit, up to the press that sees what is aimed at.
-use Rattle.console_scripts.proofs.Common.{◌≡◌, ◌≢◌, ℕ, false, List, [], ◌∷◌, ◌++◌, slice_get}
-use Rattle.console_scripts.proofs.Common.{Option, Some, None, refl, ap, subst, sym, ◌∙◌, inl, inr, same_Some, none-some}
-use Rattle.console_scripts.proofs.Common.{MapValue}
-use Rattle.console_scripts.proofs.Common.{Lock, Caps, Num, Scroll, Alt, Event, Press, Reset}
-use Rattle.console_scripts.proofs.Common.{Turn, Sight, Explored, between}
-use Rattle.console_scripts.proofs.Common.{is_locked_after, HasKeys, HasNoLoads}
-use Rattle.console_scripts.proofs.Common.{alone, State, start, IsFree, IsIdle, look_in}
-use Rattle.console_scripts.proofs.Common.{with_lock_turned, IsPendingFor, IsReachable, SeesBy}
-use Rattle.console_scripts.proofs.Common.{selection_of, map_of_explored, resolved}
-use Rattle.console_scripts.proofs.Common.{freed, state_of, Entry}
-use Rattle.console_scripts.proofs.Common.{IsWhole, IsAfter, IsAt}
-use Rattle.console_scripts.proofs.Common.{locks_in, but_scroll, unscrolled}
-use Rattle.console_scripts.proofs.Common.{rules}
-use Rattle.console_scripts.specs.declared.explored.KeyAt.{KeyAt}
-use Rattle.console_scripts.specs.Types.{Selection}
-use Rattle.console_states.specs.Returning.{IsTurned}
+use Rattle.console_scripts.proofs.Common.{◌≡◌, ◌≢◌, ℕ, false, List, [], ◌∷◌, ◌++◌, slice_get, Some, None, refl, ap}
+use Rattle.console_scripts.proofs.Common.{subst, sym, ◌∙◌, inl, inr, MapValue, Lock, Caps, Num, Scroll, Alt, Event}
+use Rattle.console_scripts.proofs.Common.{Press, Reset, Turn, Sight, Explored, between, is_locked_after, HasKeys}
+use Rattle.console_scripts.proofs.Common.{HasNoLoads, alone, State, start, IsFree, IsIdle, look_in, with_lock_turned}
+use Rattle.console_scripts.proofs.Common.{IsPendingFor, IsReachable, SeesBy, selection_of, map_of_explored, freed}
+use Rattle.console_scripts.proofs.Common.{state_of, Entry, IsWhole, IsAfter, IsAt, locks_in, but_scroll, unscrolled}
+use Rattle.console_scripts.proofs.Common.{rules, KeyAt, IsTurned, LeadsToSee, IsPressAt, IsRest, LeadsOn, free_after}
+use Rattle.console_scripts.proofs.Common.{press-turns, same_states, stands-reset, pending-reset, resolved-more}
 use Rattle.console_scripts.specs.Visiting.{EndsSeeing, HasLocks, Visits}
-use Rattle.console_scripts.specs.Inner.Showing.{LeadsToSee, IsPressAt, IsRest, LeadsOn}
-use Rattle.console_states.specs.Inner.Standing.{free_after}
-use Rattle.console_states.proofs.Shared.{going-sees, locks-near, pending-is, press-turns, press-turns_none}
-use Rattle.console_states.proofs.Shared.{same_moved, same_states, scroll-moved, stands-reset}
-use Rattle.console_core.proofs.Shared.{pending-reset, resolved-more}
+use Rattle.console_states.proofs.Shared.{going-sees, locks-near, pending-is, press-turns_none, same_moved, scroll-moved}
 use Rattle.console_scripts.proofs.Leading.{pends}
 
 -- ---- the press at the end

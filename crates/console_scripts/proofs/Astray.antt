@@ -2,8 +2,8 @@
 use Rattle.console_scripts.proofs.Common.{◌≡◌, ℕ, List, length, slice_get, Some, ap, subst, sym, ◌∙◌, inl, inr}
 use Rattle.console_scripts.proofs.Common.{MapValue, Under, alone, State, IsMove, moved, Routes, HasRoute, IsAstray}
 use Rattle.console_scripts.proofs.Common.{AreSettled, state_of, Entry, Entries, Searched, unscrolled, Move}
-use Rattle.console_states.proofs.Shared.{leaves-scroll_or_turns, move-met, moves-unscrolled, same_moved}
-use Rattle.console_states.proofs.Shared.{scroll-moved}
+use Rattle.console_scripts.proofs.Common.{moves-unscrolled}
+use Rattle.console_states.proofs.Shared.{leaves-scroll_or_turns, move-met, same_moved, scroll-moved}
 
 -- a met state without a route, near the state where a path has led
 abbrev pub StraysTo : Entries → Routes → State → Type 0

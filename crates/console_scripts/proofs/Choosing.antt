@@ -1,20 +1,16 @@
 -- Which keys a character is typed with, by what was explored.
 use Rattle.console_scripts.proofs.Common.{◌≡◌, ◌+◌, ℕ, true, false, List, [], ◌∷◌, ◌++◌, slice_get, Some, ap, subst}
-use Rattle.console_scripts.proofs.Common.{sym}
-use Rattle.console_scripts.proofs.Common.{◌∙◌, inl, inr, arith, cases_Bool, MapValue, Event, Move, Explored, Symbol}
-use Rattle.console_scripts.proofs.Common.{Tap}
-use Rattle.console_scripts.proofs.Common.{Held, Under, alone, State, start, IsPath, state_after, IsPathFrom, state_from}
-use Rattle.console_scripts.proofs.Common.{presses_along, ReachesMoreThanFrom, CanTap, CanType, ComesHome}
-use Rattle.console_scripts.proofs.Common.{IsTapOf, HasRoute, map_of_explored, origin_in, CanReturn, HasTap, GoesAndTaps}
-use Rattle.console_scripts.proofs.Common.{IsExploredFrom, CanAccent, LeadsByTap, TypesOne, dead_tap, state_of, Entry}
-use Rattle.console_scripts.proofs.Common.{rules}
+use Rattle.console_scripts.proofs.Common.{sym, ◌∙◌, inl, inr, arith, cases_Bool, MapValue, Event, Move, Explored}
+use Rattle.console_scripts.proofs.Common.{Symbol, Tap, Held, Under, alone, State, start, IsPath, state_after}
+use Rattle.console_scripts.proofs.Common.{IsPathFrom, state_from, presses_along, ReachesMoreThanFrom, CanTap, CanType}
+use Rattle.console_scripts.proofs.Common.{ComesHome, IsTapOf, HasRoute, map_of_explored, origin_in, CanReturn, HasTap}
+use Rattle.console_scripts.proofs.Common.{GoesAndTaps, IsExploredFrom, CanAccent, LeadsByTap, TypesOne, dead_tap}
+use Rattle.console_scripts.proofs.Common.{state_of, Entry, rules, ReachesMoreThan, state_limit, start-one}
 use Rattle.console_scripts.specs.declared.ways.Accented.{Accented}
 use Rattle.console_scripts.specs.declared.typing.Typed.{Typed}
-use Rattle.console_states.specs.Sticking.{ReachesMoreThan, state_limit}
 use Rattle.console_scripts.specs.Inner.Exploring.{IsAccented, Leads, plain_tap}
 use Rattle.console_scripts.proofs.Exploring.{comes-route, path-append, can-tap-met, tap-can, types-direct}
 use Rattle.console_scripts.proofs.Exploring.{types-composed, returns-next}
-use Rattle.console_states.proofs.Shared.{start-one}
 use Rattle.console_scripts.specs.declared.explored.Symbol.TheVariants as symbol
 use Rattle.console_scripts.specs.declared.typing.Typed.TheVariants as typed
 

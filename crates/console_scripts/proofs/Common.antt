@@ -1,5 +1,8 @@
 -- The names of definitions and of std that more than one file of these proofs uses, passed on from one place.
 pub use Prim.Native.Nat.{suc, zero}
+pub use Rattle.console_core.proofs.Shared.{answers_by_cases, is-nothing, modifier-at, one_map, pending-action}
+pub use Rattle.console_core.proofs.Shared.{pending-character, pending-release, pending-reset, pending-start}
+pub use Rattle.console_core.proofs.Shared.{pressed-press, resolved-more, resolved-start}
 pub use Rattle.console_core.specs.Answers.{answer_action, composed_by, usable}
 pub use Rattle.console_core.specs.Columns.{slot_of}
 pub use Rattle.console_core.specs.History.{HasKey, HasKeys, HasNoLoads, IsNoLoad, IsQuiet, accent_pending_after}
@@ -12,48 +15,55 @@ unfoldable pub use Rattle.console_core.specs.Resolved.{held, locked, look, remem
 pub use Rattle.console_core.specs.Resolved.ResolvedEvent.{PressedAction, PressedCharacter, ReleasedKey}
 pub use Rattle.console_scripts.specs.Inner.Exploring.{AreExplorations, AreKnown, CanAccent, CanReturn, GoesAndTaps}
 pub use Rattle.console_scripts.specs.Inner.Exploring.{HasTap, HasTyped, IsBase, IsExplored, IsExploredFrom, IsTapAt}
-pub use Rattle.console_scripts.specs.Inner.Exploring.{LeadsByTap, LetsGo, TypesOne, dead_tap, kept_if}
-pub use Rattle.console_scripts.specs.Inner.Exploring.{map_of_explored, origin_in, typed_along}
-pub use Rattle.console_scripts.specs.Inner.Routes.{AllLeadHome, AreSettled, HasRoute, IsAstray, LeadsHome}
-pub use Rattle.console_scripts.specs.Inner.Routes.{NoPressLeads, Routes}
-pub use Rattle.console_scripts.specs.Inner.Showing.{IsAim, IsAt, IsDeadFor, IsWhole, Leads, ShowsNot, locks_in}
+pub use Rattle.console_scripts.specs.Inner.Exploring.{LeadsByTap, LetsGo, TypesOne, dead_tap, kept_if, map_of_explored}
+pub use Rattle.console_scripts.specs.Inner.Exploring.{origin_in, typed_along}
+pub use Rattle.console_scripts.specs.Inner.Routes.{AllLeadHome, AreSettled, HasRoute, IsAstray, LeadsHome, NoPressLeads}
+pub use Rattle.console_scripts.specs.Inner.Routes.{Routes}
+pub use Rattle.console_scripts.specs.Inner.Showing.{IsAim, IsAt, IsDeadFor, IsPressAt, IsRest, IsUnseen, IsWhole, Leads}
+pub use Rattle.console_scripts.specs.Inner.Showing.{LeadsOn, LeadsToSee, ShowsNot, locks_in}
+pub use Rattle.console_scripts.specs.Inner.Symbols.{LacksSymbol}
 pub use Rattle.console_scripts.specs.Typing.{CanTap, CanType, ComesHome, IsAsNew, IsTapOf, cell_of, composed_of}
 pub use Rattle.console_scripts.specs.Typing.{plainly, types_something}
+pub use Rattle.console_scripts.specs.Visiting.{AreStatesOf, CanReach, CanVisit, CannotScroll, IsOnward, IsWayHome}
+pub use Rattle.console_scripts.specs.Visiting.{LeadsBy, TurnsScrollOff, resting_after}
 pub use Rattle.console_scripts.specs.declared.explored.Explored.{Explored}
+pub use Rattle.console_scripts.specs.declared.explored.KeyAt.{KeyAt}
 pub use Rattle.console_scripts.specs.declared.explored.Symbol.{Symbol}
 pub use Rattle.console_scripts.specs.declared.explored.Tap.{Tap}
-pub use Rattle.console_states.specs.Inner.Standing.{Exact, Follows, HoldsSome, Stands}
-pub use Rattle.console_states.specs.Moves.{Holds, IsFree, IsIdle, IsMove, IsPath, IsPathFrom, IsRepeated, State}
-pub use Rattle.console_states.specs.Moves.{Under, alone, events_along, events_of_move, is_held, look_in, map_in}
+pub use Rattle.console_states.proofs.Shared.{are_same, home-near, home-start, moves-unscrolled, near-is_home, near-met}
+pub use Rattle.console_states.proofs.Shared.{near-path, on_ok-then, path-first, path-split, place_last, press-turns}
+pub use Rattle.console_states.proofs.Shared.{push-reversed, reached-one, same_entry, same_states, searched-back}
+pub use Rattle.console_states.proofs.Shared.{stands-from, stands-reset, start-one, tells-same}
+pub use Rattle.console_states.specs.Inner.Standing.{Exact, Follows, HoldsSome, Stands, free_after}
+pub use Rattle.console_states.specs.Moves.{Holds, IsFree, IsIdle, IsMove, IsPath, IsPathFrom, IsRepeated, State, Under}
+pub use Rattle.console_states.specs.Moves.{alone, events_along, events_of_move, free_with, is_held, look_in, map_in}
 pub use Rattle.console_states.specs.Moves.{moved, presses_along, start, state_after, state_from, with_holder}
 pub use Rattle.console_states.specs.Moves.{with_lock_turned}
-pub use Rattle.console_states.specs.Returning.{IsAfter, IsHome, but_scroll, freed, unscrolled}
+pub use Rattle.console_states.specs.Returning.{IsAfter, IsHome, IsTurned, but_scroll, freed, unscrolled}
 pub use Rattle.console_states.specs.Searching.{Entries, Entry, HasEnded, IsReached, IsStep, IsTrail, PressesLead}
 pub use Rattle.console_states.specs.Searching.{Searched, StepsTo, state_of, under_of}
-pub use Rattle.console_states.specs.Sights.{AreSightsOf, IsAdmitted, IsPendingFor, IsReachable, SeesBy}
-pub use Rattle.console_states.specs.Sights.{look_selected, selection_of}
-pub use Rattle.console_states.specs.Sticking.{NeverForgets, ReachesMoreThanFrom, presses}
-pub use Rattle.console_scripts.specs.Types.{Act, Action, Alt, AltShift, Answer, Caps, Cell, Char, Event, Exchange}
-pub use Rattle.console_scripts.specs.Types.{Hold, Holding, LeftAlt, LeftControl, LeftShift, LetGo, Load, Lock, Meta}
-pub use Rattle.console_scripts.specs.Types.{Modifier, Move, Num, Press, Release, Reset, RightAlt, RightControl}
-pub use Rattle.console_scripts.specs.Types.{RightShift, Scroll, Sight, Turn}
+pub use Rattle.console_states.specs.Sights.{AreSightsOf, IsAdmitted, IsPendingFor, IsReachable, SeesBy, look_selected}
+pub use Rattle.console_states.specs.Sights.{selection_of}
+pub use Rattle.console_states.specs.Sticking.{NeverForgets, ReachesMoreThan, ReachesMoreThanFrom, presses, state_limit}
+pub use Rattle.console_scripts.specs.Types.{Act, Action, Alt, AltShift, Answer, Caps, Cell, Char, Event, Exchange, Hold}
+pub use Rattle.console_scripts.specs.Types.{Holding, LeftAlt, LeftControl, LeftShift, LetGo, Load, Lock, Meta, Modifier}
+pub use Rattle.console_scripts.specs.Types.{Move, Num, Press, Release, Reset, RightAlt, RightControl, RightShift}
+pub use Rattle.console_scripts.specs.Types.{Scroll, Sight, Turn}
 pub use Rattle.console_states.specs.declared.held.Held.{Held}
 pub use Rattle.console_states.specs.declared.held.Step.{Step}
 pub use Rattle.indexmap.specs.IndexMap.{insert_entry}
 pub use Rattle.keymap_core.proofs.Shared.{none_unless, same_action-true}
 pub use Rattle.keymap_core.specs.Accents.{own_of}
 pub use Rattle.keymap_core.specs.Actions.{holding_action, modifier_index, same_action, same_modifier}
-pub use Rattle.keymap_core.specs.Maps.{MapValue, accent_at}
+pub use Rattle.keymap_core.specs.Maps.{MapValue, accent_at, cell_at}
 pub use Rattle.keymap_core.specs.Numbers.{key_count}
-pub use Rattle.std.proofs.Common.{All, Bool, Err, IfOk, IfSome, List, MatchOption, None, Ok, Option, Result, Some}
-pub use Rattle.std.proofs.Common.{[], ap, append_assoc, arith, below_more, eqb, false, filter, get_or}
-pub use Rattle.std.proofs.Common.{if◌then◌else◌, inl, inr, length, map, not, option_copied, refl, reverse, rules}
-pub use Rattle.std.proofs.Common.{slice_get, subst, sym, take, true, ℕ, ◌&&◌, ◌++◌, ◌+◌, ◌-◌, ◌<◌, ◌==◌, ◌∙◌, ◌∷◌}
-pub use Rattle.std.proofs.Common.{◌≡◌, ◌≢◌, ◌≤◌, ◌⊎◌}
+pub use Rattle.std.proofs.Common.{All, Bool, Err, IfOk, IfSome, List, MatchOption, None, Ok, Option, Result, Some, []}
+pub use Rattle.std.proofs.Common.{ap, append_assoc, arith, below_more, drop, eqb, false, filter, get_or, if◌then◌else◌}
+pub use Rattle.std.proofs.Common.{inl, inr, length, map, not, option_copied, refl, reverse, rules, slice_get, subst}
+pub use Rattle.std.proofs.Common.{sym, take, true, ℕ, ◌&&◌, ◌++◌, ◌+◌, ◌-◌, ◌<◌, ◌==◌, ◌∙◌, ◌∷◌, ◌≡◌, ◌≢◌, ◌≤◌, ◌⊎◌}
 pub use Rattle.std.proofs.lemmas.Bool.{and_parts, cases_Bool, cases_lt, eq-eqb, eqb-true, false_from_ne_true}
 pub use Rattle.std.proofs.lemmas.Bool.{false≢true, true≢false}
-pub use Rattle.std.proofs.lemmas.List.{append-nil, get_or_default, reverse-append, reverse-reverse, take_all}
-pub use Rattle.std.proofs.lemmas.List.{take_more}
+pub use Rattle.std.proofs.lemmas.List.{append-nil, get_or_default, reverse-append, reverse-reverse, take_all, take_more}
 pub use Rattle.std.proofs.lemmas.List.Elements.{All-cons, All-head, All-nil, Contains-append_left, Contains-push}
 pub use Rattle.std.proofs.lemmas.List.Elements.{Contains-push_cases}
 pub use Rattle.std.proofs.lemmas.Option.{none-some, same_Some, slice_get-get_or, slice_get_within}

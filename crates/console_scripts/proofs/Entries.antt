@@ -1,9 +1,9 @@
 -- What holds of the entries of a map, and look-ups by a state.
-use Rattle.console_scripts.proofs.Common.{◌≡◌, Bool, true, List, [], ◌∷◌, Some, None, refl, subst, sym}
-use Rattle.console_scripts.proofs.Common.{inl, inr, is_some, lookup, true≢false, same_Some}
-use Rattle.console_scripts.proofs.Common.{cases_Bool, none-some, insert_entry, Held, state_of, State, rules}
+use Rattle.console_scripts.proofs.Common.{◌≡◌, Bool, true, List, [], ◌∷◌, Some, None, refl, subst, sym, inl, inr}
+use Rattle.console_scripts.proofs.Common.{is_some, lookup, true≢false, same_Some, cases_Bool, none-some, insert_entry}
+use Rattle.console_scripts.proofs.Common.{Held, state_of, State, rules, are_same, tells-same}
 use Rattle.console_scripts.specs.Inner.Routes.{AllEntries, HasEntry}
-use Rattle.console_states.proofs.Shared.{are_same, same-tells, tells-same}
+use Rattle.console_states.proofs.Shared.{same-tells}
 
 -- what holds of each entry holds of the one that a look-up finds, under the key that is looked up
 pub found-entry : {K V : Type 0} (E : K → K → Bool) (P : K → V → Type 0)

@@ -2,18 +2,14 @@
 use Rattle.console_scripts.proofs.Common.{◌≡◌, ◌⊎◌, ℕ, Bool, true, false, List, [], ◌∷◌, ◌++◌, length, slice_get, Some}
 use Rattle.console_scripts.proofs.Common.{None, refl, ap, subst, sym, ◌∙◌, inl, inr, reverse, append_assoc, rules}
 use Rattle.console_scripts.proofs.Common.{cases_Bool, Held, MapValue, Event, Press, Release, Move, Explored, Symbol}
-use Rattle.console_scripts.proofs.Common.{Tap}
-use Rattle.console_scripts.proofs.Common.{usable, Under, alone, State, start, state_after, IsPathFrom, state_from}
+use Rattle.console_scripts.proofs.Common.{Tap, usable, Under, alone, State, start, state_after, IsPathFrom, state_from}
 use Rattle.console_scripts.proofs.Common.{events_along, ComesHome, IsTapOf, CanTap, CanType, composed_of}
 use Rattle.console_scripts.proofs.Common.{map_of_explored, origin_in, IsExplored, CanReturn, HasTap, LetsGo}
-use Rattle.console_scripts.proofs.Common.{GoesAndTaps}
-use Rattle.console_scripts.proofs.Common.{HasTyped, TypesOne, LeadsHome, Routes, AllLeadHome, HasRoute, AreSettled}
-use Rattle.console_scripts.proofs.Common.{freed, state_of, Entry, Entries, IsTrail, IsReached, Searched, unscrolled}
-use Rattle.console_scripts.proofs.Common.{Scroll}
+use Rattle.console_scripts.proofs.Common.{GoesAndTaps, HasTyped, TypesOne, LeadsHome, Routes, AllLeadHome, HasRoute}
+use Rattle.console_scripts.proofs.Common.{AreSettled, freed, state_of, Entry, Entries, IsTrail, IsReached, Searched}
+use Rattle.console_scripts.proofs.Common.{unscrolled, Scroll, is-nothing, are_same, home-near, home-start, near-is_home}
+use Rattle.console_scripts.proofs.Common.{near-met, near-path, path-first, reached-one}
 use Rattle.console_scripts.proofs.Entries.{none-found, found-has}
-use Rattle.console_core.proofs.Shared.{is-nothing}
-use Rattle.console_states.proofs.Shared.{are_same, home-near, home-start, near-is_home, near-met, near-path}
-use Rattle.console_states.proofs.Shared.{path-first, reached-one}
 use Rattle.console_scripts.specs.Inner.Exploring.{IsOrigin}
 use Rattle.console_scripts.proofs.Astray.{strays-on, StraysTo, is-astray}
 use Rattle.console_scripts.proofs.Taps.{added-by, adds, tap-types, tap-direct, tap-dead, tap-composed}

@@ -1,11 +1,10 @@
 -- What was typed before, by the character and the state where it began.
-use Rattle.console_scripts.proofs.Common.{◌≡◌, Bool, true, List, Some, sym, ◌&&◌, eqb, lookup}
-use Rattle.console_scripts.proofs.Common.{and_parts, eqb-true, insert_entry, MapValue, AreKnown, state_of, rules}
+use Rattle.console_scripts.proofs.Common.{◌≡◌, Bool, true, List, Some, sym, ◌&&◌, eqb, lookup, and_parts, eqb-true}
+use Rattle.console_scripts.proofs.Common.{insert_entry, MapValue, AreKnown, state_of, rules, are_same, tells-same}
 use Rattle.console_scripts.specs.declared.typing.Found.{Found}
 use Rattle.console_scripts.specs.declared.typing.Sought.{Sought}
 use Rattle.console_scripts.specs.Inner.Exploring.{IsKnown}
 use Rattle.console_scripts.proofs.Entries.{found-entry, one-entry}
-use Rattle.console_states.proofs.Shared.{are_same, tells-same}
 
 -- what is known of a character and a state is known of the same character and state
 same-known : (m : MapValue) (a b : Sought) (v : Found) → state_of a.from ≡ state_of b.from → a.character ≡ b.character

@@ -1,11 +1,10 @@
 -- The keys that have a symbol in some cell: where neither of its slots has it, a key looks it up by no selection.
 use Rattle.console_scripts.proofs.Common.{◌≡◌, ℕ, ◌+◌, ◌<◌, Bool, true, false, List, length, get_or, subst, sym, ◌∙◌}
-use Rattle.console_scripts.proofs.Common.{arith, below_more, true≢false, MapValue, slot_of, cell_of, Symbol}
+use Rattle.console_scripts.proofs.Common.{arith, below_more, true≢false, MapValue, slot_of, cell_of, Symbol, cell_at}
+use Rattle.console_scripts.proofs.Common.{LacksSymbol}
 use Rattle.std.specs.Prelude.{set}
 use Rattle.std.proofs.lemmas.List.{get_or-set_same, get_or-set_other}
-use Rattle.keymap_core.specs.Maps.{cell_at}
 use Rattle.console_core.proofs.Shared.{column_of-lt}
-use Rattle.console_scripts.specs.Inner.Symbols.{LacksSymbol}
 
 -- no cell of the slot is the symbol
 abbrev pub IsNotIn : MapValue → Symbol → ℕ → Type 0

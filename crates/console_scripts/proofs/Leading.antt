@@ -1,36 +1,27 @@
 -- Events lead a console from state to state: along moves, by taps and by one more press of a holder.
-use Rattle.console_scripts.proofs.Common.{◌≡◌, ◌<◌, ℕ, Bool, true, false, List, [], ◌∷◌, ◌++◌, reverse}
-use Rattle.console_scripts.proofs.Common.{slice_get}
-use Rattle.console_scripts.proofs.Common.{Option, Some, None, refl, ap, subst, sym, ◌∙◌, inl, inr}
-use Rattle.console_scripts.proofs.Common.{append_assoc, if◌then◌else◌, ◌==◌, cases_Bool, eqb-true, false≢true}
-use Rattle.console_scripts.proofs.Common.{All-cons, none-some, same_action, same_action-true, MapValue, Action}
-use Rattle.console_scripts.proofs.Common.{Modifier}
-use Rattle.console_scripts.proofs.Common.{Lock, Cell, Char, Act, Event, Press, Release}
-use Rattle.console_scripts.proofs.Common.{Move, Hold, Turn, LetGo, Exchange, Sight, Explored, between, resolved}
-use Rattle.console_scripts.proofs.Common.{HasKey}
-use Rattle.console_scripts.proofs.Common.{accent_pending_after, ResolvedEvent}
+use Rattle.console_scripts.proofs.Common.{◌≡◌, ◌<◌, ℕ, Bool, true, false, List, [], ◌∷◌, ◌++◌, reverse, slice_get}
+use Rattle.console_scripts.proofs.Common.{Option, Some, None, refl, ap, subst, sym, ◌∙◌, inl, inr, append_assoc}
+use Rattle.console_scripts.proofs.Common.{if◌then◌else◌, ◌==◌, cases_Bool, eqb-true, false≢true, All-cons, none-some}
+use Rattle.console_scripts.proofs.Common.{same_action, same_action-true, MapValue, Action, Modifier, Lock, Cell, Char}
+use Rattle.console_scripts.proofs.Common.{Act, Event, Press, Release, Move, Hold, Turn, LetGo, Exchange, Sight}
+use Rattle.console_scripts.proofs.Common.{Explored, between, resolved, HasKey, accent_pending_after, ResolvedEvent}
 use Rattle.console_scripts.proofs.Common.{held, remembered, resolve_press, taken_over, PressedAction, ReleasedKey}
-use Rattle.console_scripts.proofs.Common.{Under}
-use Rattle.console_scripts.proofs.Common.{alone, State, start, Holds, IsIdle, look_in, IsMove, moved}
-use Rattle.console_scripts.proofs.Common.{IsPathFrom, state_from, events_of_move, events_along, with_holder}
-use Rattle.console_scripts.proofs.Common.{with_lock_turned}
-use Rattle.console_scripts.proofs.Common.{map_of_explored, origin_in, IsExplored}
-use Rattle.console_scripts.proofs.Common.{IsTapAt, dead_tap, LeadsHome, state_of, Entry}
-use Rattle.console_scripts.proofs.Common.{IsTrail, IsReached, IsRepeated, IsAt, Leads, IsDeadFor}
-use Rattle.console_scripts.proofs.Common.{Exact, HoldsSome, Stands, unscrolled}
-use Rattle.console_scripts.proofs.Common.{rules}
-use Rattle.console_scripts.specs.declared.explored.KeyAt.{KeyAt}
+use Rattle.console_scripts.proofs.Common.{Under, alone, State, start, Holds, IsIdle, look_in, IsMove, moved, IsPathFrom}
+use Rattle.console_scripts.proofs.Common.{state_from, events_of_move, events_along, with_holder, with_lock_turned}
+use Rattle.console_scripts.proofs.Common.{map_of_explored, origin_in, IsExplored, IsTapAt, dead_tap, LeadsHome}
+use Rattle.console_scripts.proofs.Common.{state_of, Entry, IsTrail, IsReached, IsRepeated, IsAt, Leads, IsDeadFor}
+use Rattle.console_scripts.proofs.Common.{Exact, HoldsSome, Stands, unscrolled, rules, KeyAt, LeadsToSee, LeadsOn}
+use Rattle.console_scripts.proofs.Common.{home-near, moves-unscrolled, path-first, reached-one, same_states}
+use Rattle.console_scripts.proofs.Common.{stands-from, pressed-press}
 use Rattle.console_scripts.specs.Visiting.{AreTaken}
 use Rattle.console_scripts.specs.Inner.Exploring.{IsMetAt}
-use Rattle.console_scripts.specs.Inner.Showing.{LeadsToSee, LeadsOn, LeadsComposing}
+use Rattle.console_scripts.specs.Inner.Showing.{LeadsComposing}
 use Rattle.console_states.specs.Moves.{IsSteady}
-use Rattle.console_states.proofs.Shared.{exact-action, exact-character, follows-again, follows-nothing}
-use Rattle.console_states.proofs.Shared.{hold-self, holder-pressed, home-near, kind_of, moves-unscrolled}
-use Rattle.console_states.proofs.Shared.{not_holding, other-remembered, path-first, pending-is, pending-move}
-use Rattle.console_states.proofs.Shared.{press-presses, pressed-look, reached-one, same_mods, same_moved}
-use Rattle.console_states.proofs.Shared.{same_states, scroll-moved, stands-from, stands-move, stands-tapped}
-use Rattle.console_states.proofs.Shared.{tap-pending}
-use Rattle.console_core.proofs.Shared.{held-action, pressed-press}
+use Rattle.console_states.proofs.Shared.{exact-action, exact-character, follows-again, follows-nothing, hold-self}
+use Rattle.console_states.proofs.Shared.{holder-pressed, kind_of, not_holding, other-remembered, pending-is}
+use Rattle.console_states.proofs.Shared.{pending-move, press-presses, pressed-look, same_mods, same_moved, scroll-moved}
+use Rattle.console_states.proofs.Shared.{stands-move, stands-tapped, tap-pending}
+use Rattle.console_core.proofs.Shared.{held-action}
 use Rattle.console_scripts.proofs.Taps.{stands-tap}
 use Rattle.keymap_core.specs.declared.action.Action.TheVariants as act
 use Rattle.keymap_core.specs.declared.action.Holding.TheVariants as holding

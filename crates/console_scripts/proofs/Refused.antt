@@ -1,25 +1,22 @@
 -- What a list of presses, releases and resets types on its way home, moves and taps can type.
 use Rattle.console_scripts.proofs.Common.{◌≡◌, ℕ, Bool, true, false, List, [], ◌∷◌, ◌++◌, Option, Some, None, refl, ap}
 use Rattle.console_scripts.proofs.Common.{subst, sym, ◌∙◌, inl, inr, arith, append_assoc, if◌then◌else◌, suc}
-use Rattle.console_scripts.proofs.Common.{true≢false}
-use Rattle.console_scripts.proofs.Common.{eqb-true, eq-eqb, All-head, none-some, own_of, MapValue, accent_at, Action}
-use Rattle.console_scripts.proofs.Common.{Answer, Meta, Cell, Char, Act, Event, Press, Release, Reset, Load, Move}
-use Rattle.console_scripts.proofs.Common.{Symbol, usable, answer_action, composed_by, ResolvedEvent, look, remembered}
-use Rattle.console_scripts.proofs.Common.{taken_over, pending, resolve_press, Follows, between, in_force, resolved}
-use Rattle.console_scripts.proofs.Common.{is_second_in_force, is_on_after, HasKey, IsNoLoad, rules}
-use Rattle.console_scripts.proofs.Common.{accent_pending_after}
-use Rattle.console_scripts.proofs.Common.{look_after, remembered_after, Under, alone, State, start, look_in, IsIdle}
-use Rattle.console_scripts.proofs.Common.{IsMove, moved, IsPathFrom, state_from, IsHome, IsAdmitted, NeverForgets}
-use Rattle.console_scripts.proofs.Common.{presses, ComesHome, IsTapOf, CanTap, CanType, IsAsNew, cell_of, plainly}
+use Rattle.console_scripts.proofs.Common.{true≢false, eqb-true, eq-eqb, All-head, none-some, own_of, MapValue}
+use Rattle.console_scripts.proofs.Common.{accent_at, Action, Answer, Meta, Cell, Char, Act, Event, Press, Release}
+use Rattle.console_scripts.proofs.Common.{Reset, Load, Move, Symbol, usable, answer_action, composed_by, ResolvedEvent}
+use Rattle.console_scripts.proofs.Common.{look, remembered, taken_over, pending, resolve_press, Follows, between}
+use Rattle.console_scripts.proofs.Common.{in_force, resolved, is_second_in_force, is_on_after, HasKey, IsNoLoad, rules}
+use Rattle.console_scripts.proofs.Common.{accent_pending_after, look_after, remembered_after, Under, alone, State}
+use Rattle.console_scripts.proofs.Common.{start, look_in, IsIdle, IsMove, moved, IsPathFrom, state_from, IsHome}
+use Rattle.console_scripts.proofs.Common.{IsAdmitted, NeverForgets, presses, ComesHome, IsTapOf, CanTap, CanType}
+use Rattle.console_scripts.proofs.Common.{IsAsNew, cell_of, plainly, answers_by_cases, is-nothing, one_map}
+use Rattle.console_scripts.proofs.Common.{pending-action, pending-character, pending-release, pending-reset}
+use Rattle.console_scripts.proofs.Common.{pending-start, resolved-more, resolved-start}
 use Rattle.console_core.specs.Answers.{is_pending, char_or_error}
 use Rattle.console_scripts.specs.Typing.{TypedCanBeTyped}
 use Rattle.console_scripts.proofs.Exploring.{path-append}
-use Rattle.console_states.proofs.Shared.{KeepsHeld, Reached, Stays, admitted-before, admitted-spared}
-use Rattle.console_states.proofs.Shared.{follows-look, keeps-held, pending-is, stands-in, stays-on}
-use Rattle.console_states.proofs.Shared.{taken-dead, takes-pending}
-use Rattle.console_core.proofs.Shared.{answers_by_cases, is-nothing, one_map, pending-action}
-use Rattle.console_core.proofs.Shared.{pending-character, pending-release, pending-reset, pending-start}
-use Rattle.console_core.proofs.Shared.{resolved-more, resolved-start}
+use Rattle.console_states.proofs.Shared.{KeepsHeld, Reached, Stays, admitted-before, admitted-spared, follows-look}
+use Rattle.console_states.proofs.Shared.{keeps-held, pending-is, stands-in, stays-on, taken-dead, takes-pending}
 use Rattle.console_scripts.proofs.Taps.{answer_at, look-answer}
 use Rattle.keymap_core.specs.declared.action.Action.TheVariants as act
 use Rattle.console_core.specs.declared.event.Answer.TheVariants as answer

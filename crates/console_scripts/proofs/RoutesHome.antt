@@ -1,14 +1,11 @@
 -- Routes home, one move longer, and looked up by the state where they begin.
-use Rattle.console_scripts.proofs.Common.{◌≡◌, ◌⊎◌, ℕ, ◌<◌, false, List, [], ◌∷◌, Option, None, refl}
-use Rattle.console_scripts.proofs.Common.{ap, Result, Ok, Err, IfOk, subst, sym, ◌∙◌, inl, inr, arith, IfSome, ◌+◌, ◌≤◌}
-use Rattle.console_scripts.proofs.Common.{◌++◌, length, take, get_or, reverse, Contains, take_more, take_all}
-use Rattle.console_scripts.proofs.Common.{reverse-append, Contains-push, Contains-push_cases, Contains-append_left}
-use Rattle.console_scripts.proofs.Common.{Held}
-use Rattle.console_scripts.proofs.Common.{Step, Under, State, IsMove, moved, Holds, with_holder, state_from, IsPathFrom}
-use Rattle.console_scripts.proofs.Common.{IsHome, state_of, StepsTo, PressesLead, IsStep, LeadsHome, Routes}
-use Rattle.console_scripts.proofs.Common.{AllLeadHome}
-use Rattle.console_scripts.proofs.Common.{HasRoute, NoPressLeads, IsAstray, Scroll, Modifier, Move}
-use Rattle.console_scripts.proofs.Common.{rules}
+use Rattle.console_scripts.proofs.Common.{◌≡◌, ◌⊎◌, ℕ, ◌<◌, false, List, [], ◌∷◌, Option, None, refl, ap, Result, Ok}
+use Rattle.console_scripts.proofs.Common.{Err, IfOk, subst, sym, ◌∙◌, inl, inr, arith, IfSome, ◌+◌, ◌≤◌, ◌++◌, length}
+use Rattle.console_scripts.proofs.Common.{take, get_or, reverse, Contains, take_more, take_all, reverse-append}
+use Rattle.console_scripts.proofs.Common.{Contains-push, Contains-push_cases, Contains-append_left, Held, Step, Under}
+use Rattle.console_scripts.proofs.Common.{State, IsMove, moved, Holds, with_holder, state_from, IsPathFrom, IsHome}
+use Rattle.console_scripts.proofs.Common.{state_of, StepsTo, PressesLead, IsStep, LeadsHome, Routes, AllLeadHome}
+use Rattle.console_scripts.proofs.Common.{HasRoute, NoPressLeads, IsAstray, Scroll, Modifier, Move, rules}
 use Rattle.std.proofs.lemmas.List.{length_push}
 use Rattle.console_scripts.specs.declared.routes.Route.{Route}
 use Rattle.console_scripts.specs.Inner.Routes.{NoLetGoLeads}

@@ -1,21 +1,16 @@
 -- Moves and a press turn the scroll lock off.
-use Rattle.console_scripts.proofs.Common.{◌≡◌, ℕ, Bool, true, not, List, [], ◌∷◌, ◌++◌, refl, ap, subst, sym, ◌∙◌}
-use Rattle.console_scripts.proofs.Common.{inl, inr, append_assoc, cases_Bool, true≢false, fun_ext}
-use Rattle.console_scripts.proofs.Common.{MapValue, Lock, Caps, Num, Scroll, Alt, Event, Press, Reset, Move, Hold, Turn}
-use Rattle.console_scripts.proofs.Common.{LetGo, Exchange, between, is_locked_after, HasKeys, HasNoLoads, Under, alone}
-use Rattle.console_scripts.proofs.Common.{State, IsMove, IsPathFrom, state_from, events_along, but_scroll, unscrolled}
-use Rattle.console_scripts.proofs.Common.{Explored, IsExplored, IsTrail, map_of_explored, origin_in, state_of}
-use Rattle.console_scripts.proofs.Common.{ReachesMoreThanFrom}
-use Rattle.console_states.specs.Sticking.{state_limit}
-use Rattle.console_scripts.specs.declared.explored.KeyAt.{KeyAt}
-use Rattle.console_states.specs.Moves.{free_with}
-use Rattle.console_scripts.specs.Visiting.{CannotScroll, TurnsScrollOff, resting_after}
+use Rattle.console_scripts.proofs.Common.{◌≡◌, ℕ, Bool, true, not, List, [], ◌∷◌, ◌++◌, refl, ap, subst, sym, ◌∙◌, inl}
+use Rattle.console_scripts.proofs.Common.{inr, append_assoc, cases_Bool, true≢false, fun_ext, MapValue, Lock, Caps, Num}
+use Rattle.console_scripts.proofs.Common.{Scroll, Alt, Event, Press, Reset, Move, Hold, Turn, LetGo, Exchange, between}
+use Rattle.console_scripts.proofs.Common.{is_locked_after, HasKeys, HasNoLoads, Under, alone, State, IsMove, IsPathFrom}
+use Rattle.console_scripts.proofs.Common.{state_from, events_along, but_scroll, unscrolled, Explored, IsExplored}
+use Rattle.console_scripts.proofs.Common.{IsTrail, map_of_explored, origin_in, state_of, ReachesMoreThanFrom}
+use Rattle.console_scripts.proofs.Common.{state_limit, KeyAt, free_with, CannotScroll, TurnsScrollOff, resting_after}
+use Rattle.console_scripts.proofs.Common.{free_after, moves-unscrolled, near-met, near-path, press-turns, reached-one}
+use Rattle.console_scripts.proofs.Common.{same_states, stands-from, stands-reset}
 use Rattle.console_scripts.specs.Inner.Showing.{IsTurnAt, IsUnturned}
-use Rattle.console_states.specs.Inner.Standing.{free_after}
 use Rattle.console_scripts.proofs.Approaching.{at-reset}
 use Rattle.console_scripts.proofs.Leading.{out-leads}
-use Rattle.console_states.proofs.Shared.{moves-unscrolled, near-met, near-path, press-turns, reached-one}
-use Rattle.console_states.proofs.Shared.{same_states, stands-from, stands-reset}
 
 -- two states that differ in the scroll lock differ in it wherever a path leads
 differs-along : (m : MapValue) (s t : State) (path : List Move) → t.is_locked Scroll ≡ not (s.is_locked Scroll)

@@ -2,26 +2,24 @@
 use Rattle.console_scripts.proofs.Common.{cases_Bool, ◌≡◌, ◌+◌, ◌<◌, ℕ, Bool, true, false, List, [], ◌∷◌, ◌++◌, Option}
 use Rattle.console_scripts.proofs.Common.{Some, None, refl, ap, subst, sym, ◌∙◌, inl, inr, arith, append_assoc, map}
 use Rattle.console_scripts.proofs.Common.{false_from_ne_true, pressed, IsFree, IsQuiet, reverse, if◌then◌else◌, ◌==◌}
-use Rattle.console_scripts.proofs.Common.{true≢false, eqb-true, eq-eqb, reverse-append, none-some}
-use Rattle.console_scripts.proofs.Common.{same_modifier, modifier_index, own_of, MapValue}
-use Rattle.console_scripts.proofs.Common.{accent_at, Action, Modifier, Meta, Cell, Char, Act, Event}
-use Rattle.console_scripts.proofs.Common.{Press, Release, Answer, Move, Hold, Turn, LetGo, Exchange, Symbol, usable}
-use Rattle.console_scripts.proofs.Common.{answer_action, ResolvedEvent, remembered, taken_over, pending}
-use Rattle.console_scripts.proofs.Common.{resolve_press, next_pending}
-use Rattle.console_scripts.proofs.Common.{between, resolved, is_second_in_force, accent_pending_after, is_on_after}
-use Rattle.console_scripts.proofs.Common.{remembered_after, look_after, Under, alone, State, Holds, IsIdle, IsMove}
-use Rattle.console_scripts.proofs.Common.{look_in, is_held, with_holder, IsPathFrom, state_from, events_along}
-use Rattle.console_scripts.proofs.Common.{events_of_move, IsTapOf, composed_of, types_something, plainly, LetsGo}
-use Rattle.console_scripts.proofs.Common.{GoesAndTaps, HasTyped, typed_along, kept_if, HoldsSome, Stands, rules}
+use Rattle.console_scripts.proofs.Common.{true≢false, eqb-true, eq-eqb, reverse-append, none-some, same_modifier}
+use Rattle.console_scripts.proofs.Common.{modifier_index, own_of, MapValue, accent_at, Action, Modifier, Meta, Cell}
+use Rattle.console_scripts.proofs.Common.{Char, Act, Event, Press, Release, Answer, Move, Hold, Turn, LetGo, Exchange}
+use Rattle.console_scripts.proofs.Common.{Symbol, usable, answer_action, ResolvedEvent, remembered, taken_over, pending}
+use Rattle.console_scripts.proofs.Common.{resolve_press, next_pending, between, resolved, is_second_in_force}
+use Rattle.console_scripts.proofs.Common.{accent_pending_after, is_on_after, remembered_after, look_after, Under, alone}
+use Rattle.console_scripts.proofs.Common.{State, Holds, IsIdle, IsMove, look_in, is_held, with_holder, IsPathFrom}
+use Rattle.console_scripts.proofs.Common.{state_from, events_along, events_of_move, IsTapOf, composed_of}
+use Rattle.console_scripts.proofs.Common.{types_something, plainly, LetsGo, GoesAndTaps, HasTyped, typed_along, kept_if}
+use Rattle.console_scripts.proofs.Common.{HoldsSome, Stands, rules, place_last, same_states, stands-from}
+use Rattle.console_scripts.proofs.Common.{answers_by_cases, one_map, pending-action, pending-character, pending-release}
+use Rattle.console_scripts.proofs.Common.{pressed-press, resolved-more}
 use Rattle.console_core.specs.Reading.{answer_to_look}
 use Rattle.console_core.specs.History.{answer_to}
 use Rattle.console_scripts.specs.Typing.{ChangeKeys}
 use Rattle.console_core.specs.Answers.{answer_dead_key, answer_char, answer_release}
-use Rattle.console_states.proofs.Shared.{exact-action, exact-character, follows-look, holder-pressed}
-use Rattle.console_states.proofs.Shared.{idle-none, not_holding, pending-along, pending-is, place_last}
-use Rattle.console_states.proofs.Shared.{pressed-look, same_states, stands-from, stands-tapped}
-use Rattle.console_core.proofs.Shared.{answers_by_cases, one_map, pending-action, pending-character}
-use Rattle.console_core.proofs.Shared.{pending-release, pressed-press, resolved-more}
+use Rattle.console_states.proofs.Shared.{exact-action, exact-character, follows-look, holder-pressed, idle-none}
+use Rattle.console_states.proofs.Shared.{not_holding, pending-along, pending-is, pressed-look, stands-tapped}
 use Rattle.keymap_core.proofs.Shared.{same_action-refl}
 use Rattle.keymap_core.specs.declared.action.Action.TheVariants as act
 use Rattle.console_core.specs.declared.event.Answer.TheVariants as answer

@@ -1,17 +1,15 @@
 -- Characters typed one after another, and that a console is as new behind them.
-use Rattle.console_scripts.proofs.Common.{zero, suc, ◌≡◌, ◌+◌, ◌<◌, ◌≤◌, ◌⊎◌, ℕ, Bool, inl, inr, true, false, List}
-use Rattle.console_scripts.proofs.Common.{[], ◌∷◌, ◌++◌, All, Some, None, refl, ap, subst, sym, ◌∙◌, arith}
-use Rattle.console_scripts.proofs.Common.{append_assoc}
+use Rattle.console_scripts.proofs.Common.{zero, suc, ◌≡◌, ◌+◌, ◌<◌, ◌≤◌, ◌⊎◌, ℕ, Bool, inl, inr, true, false, List, []}
+use Rattle.console_scripts.proofs.Common.{◌∷◌, ◌++◌, All, Some, None, refl, ap, subst, sym, ◌∙◌, arith, append_assoc}
 use Rattle.console_scripts.proofs.Common.{map, reverse, take, length, get_or, slice_get, if◌then◌else◌, filter, rules}
 use Rattle.console_scripts.proofs.Common.{false_from_ne_true, reverse-append, reverse-reverse, take_more, take_all}
 use Rattle.console_scripts.proofs.Common.{All-nil, none-some, same_Some, MapValue, Event, Answer, between}
-use Rattle.console_scripts.proofs.Common.{accent_pending_after, HasKey, HasKeys, alone}
-use Rattle.console_scripts.proofs.Common.{State, start, state_from, events_along, CanType, IsAsNew, plainly}
-use Rattle.console_scripts.proofs.Common.{types_something, HasTyped, CanReturn, TypesOne, kept_if, typed_along}
-use Rattle.console_scripts.proofs.Common.{IsQuiet, Stands, append-nil}
+use Rattle.console_scripts.proofs.Common.{accent_pending_after, HasKey, HasKeys, alone, State, start, state_from}
+use Rattle.console_scripts.proofs.Common.{events_along, CanType, IsAsNew, plainly, types_something, HasTyped, CanReturn}
+use Rattle.console_scripts.proofs.Common.{TypesOne, kept_if, typed_along, IsQuiet, Stands, append-nil, drop}
+use Rattle.console_scripts.proofs.Common.{pending-start, resolved-start, home-start, path-first}
 use Rattle.console_scripts.specs.Inner.Exploring.{GoesHome}
 use Rattle.console_core.specs.History.{answers_to}
-use Rattle.std.proofs.Common.{drop}
 use Rattle.std.proofs.Math.Seq.{drop-append_seam}
 use Rattle.std.proofs.lemmas.List.{map_push, length-append, length-map, length-take-le, take-append-le}
 use Rattle.std.proofs.lemmas.List.Elements.{All-push}
@@ -19,9 +17,9 @@ use Rattle.console_scripts.specs.declared.typing.Keyed.{Keyed}
 use Rattle.console_scripts.specs.declared.typing.Typing.{Typing}
 use Rattle.keymap_core.proofs.Shared.{All-reversed}
 use Rattle.console_scripts.specs.Typing.{AreEnds, AreParts, AreTyped, Types, characters_of}
-use Rattle.console_core.proofs.Shared.{pending-start, resolved-start, reverse-cons}
+use Rattle.console_core.proofs.Shared.{reverse-cons}
 use Rattle.console_scripts.proofs.Exploring.{start-returns}
-use Rattle.console_states.proofs.Shared.{home-start, idle-none, path-first, pending-is, stands-start}
+use Rattle.console_states.proofs.Shared.{idle-none, pending-is, stands-start}
 use Rattle.console_scripts.proofs.Taps.{quiet-free, walked}
 
 -- a console that stands at the start, with nothing pending, is as a new one

@@ -1,8 +1,7 @@
 -- What was explored from the start tells which characters keys can type.
 use Rattle.console_scripts.proofs.Common.{◌≡◌, ℕ, true, false, inl, inr, MapValue, Explored, alone, start, CanType}
-use Rattle.console_scripts.proofs.Common.{IsExploredFrom, dead_tap}
+use Rattle.console_scripts.proofs.Common.{IsExploredFrom, dead_tap, ReachesMoreThan, state_limit}
 use Rattle.console_scripts.specs.declared.ways.Way.{Way}
-use Rattle.console_states.specs.Sticking.{ReachesMoreThan, state_limit}
 use Rattle.console_scripts.specs.Inner.Exploring.{HasNoWay, IsWay, plain_tap}
 use Rattle.console_scripts.proofs.Choosing.{explored-can, no-way, too-many}
 use Rattle.console_scripts.proofs.Exploring.{start-returns}

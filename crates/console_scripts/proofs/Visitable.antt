@@ -8,15 +8,11 @@ use Rattle.console_scripts.proofs.Common.{Caps, Num, Scroll, Alt, Cell, Char, Ac
 use Rattle.console_scripts.proofs.Common.{alone, State, start, Holds, IsIdle, look_in, with_lock_turned, state_from}
 use Rattle.console_scripts.proofs.Common.{state_after, events_along, IsHome, IsAfter, freed, unscrolled, ComesHome}
 use Rattle.console_scripts.proofs.Common.{SeesBy, selection_of, keys_of, map_of_explored, origin_in, IsExplored}
-use Rattle.console_scripts.proofs.Common.{IsWhole}
-use Rattle.console_scripts.proofs.Common.{HasRoute, LeadsHome, state_of, Entry, Entries, IsDeadFor, IsTrail}
-use Rattle.console_scripts.specs.declared.explored.KeyAt.{KeyAt}
-use Rattle.console_states.specs.Returning.{IsTurned}
-use Rattle.console_scripts.specs.Visiting.{AreStatesOf, CanReach, IsOnward, IsWayHome, LeadsBy, IsPair}
+use Rattle.console_scripts.proofs.Common.{IsWhole, HasRoute, LeadsHome, state_of, Entry, Entries, IsTrail}
+use Rattle.console_scripts.proofs.Common.{IsTurned, AreStatesOf, CanReach, IsOnward, IsWayHome, LeadsBy, IsUnseen}
+use Rattle.console_scripts.proofs.Common.{near-met, path-split, reached-one}
 use Rattle.console_scripts.specs.Visiting.{SeenCanBeVisited}
-use Rattle.console_scripts.specs.Inner.Showing.{IsUnseen}
 use Rattle.console_scripts.proofs.Aiming.{after-reached, met-near, met-reached, route-near, route-reached}
-use Rattle.console_states.proofs.Shared.{near-met, path-split, reached-one}
 use Rattle.std.proofs.lemmas.Option.{get_or_from_slice_get, slice_get-get_or, slice_get-map}
 use Rattle.std.specs.Option.{option_map}
 use Rattle.console_scripts.proofs.Exploring.{has-home}
@@ -184,12 +180,12 @@ unseen-from e x xs none = elim (cases_Bool e.is_complete) [
 ]
 
 -- a route begins where moves lead home from what is told
-pub comes-at : (e : Explored) → IsWhole e → (n : ℕ) (x h : Held)
-    → ((y : Entry) → slice_get e.met.entries n ≡ Some y → h ≡ y.0) → slice_get (keys_of e.met.entries) n ≡ Some x
-    → ComesHome (alone (map_of_explored e)) (state_of x) → HasRoute e.routes.entries (state_of h)
-comes-at e whole n x h is at comes =
+pub comes-at : (e : Explored) → IsWhole e → (n : ℕ) (x : Held) (z : Entry) → slice_get e.met.entries n ≡ Some z
+    → slice_get (keys_of e.met.entries) n ≡ Some x → ComesHome (alone (map_of_explored e)) (state_of x)
+    → HasRoute e.routes.entries (state_of z.0)
+comes-at e whole n x z here at comes =
     let (y, there, same) = key-at e.met.entries n x at in
-    subst (λ z. HasRoute e.routes.entries (state_of z)) (sym (is y there))
+    subst (λ z. HasRoute e.routes.entries (state_of z.0)) (same_Some y z (sym there ∙ here))
     (route-near e whole n y there (state_of x) (ap (λ z. unscrolled (state_of z)) same) comes)
 
 -- moves lead home from where a route begins

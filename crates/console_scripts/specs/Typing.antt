@@ -1,7 +1,6 @@
 -- What keys can type, and the events that type characters.
 use Rattle.std.specs.Prelude.{◌≡◌, ◌==◌, ℕ, ◌+◌, ◌<◌, ◌≤◌, Bool, true, false, ◌⊎◌, List, [], ◌∷◌, ◌++◌, All, Option}
-use Rattle.std.specs.Prelude.{None, Some, ⊤}
-use Rattle.std.specs.Prelude.{if◌then◌else◌, filter, map, reverse, slice_get, take, length}
+use Rattle.std.specs.Prelude.{None, Some, ⊤, if◌then◌else◌, filter, map, reverse, slice_get, take, length}
 use Rattle.console_scripts.specs.Types.{Modifier, Lock, Meta, Cell, Char, Act, Event, Press, Release, Answer, Move}
 use Rattle.keymap_core.specs.declared.action.Action.TheVariants as act
 use Rattle.keymap_core.specs.Accents.{own_of}

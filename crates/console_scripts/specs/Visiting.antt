@@ -4,7 +4,7 @@ use Rattle.std.specs.Prelude.{◌≡◌, ◌⊎◌, ℕ, ◌<◌, Bool, false, L
 use Rattle.std.specs.List.{Contains}
 use Rattle.keymap_core.specs.Maps.{MapValue}
 use Rattle.keymap_core.specs.Numbers.{key_count}
-use Rattle.console_scripts.specs.Types.{Lock, Caps, Num, Scroll, Alt, Event, Press, Move, Turn, Selection, Sight}
+use Rattle.console_scripts.specs.Types.{Lock, Caps, Num, Scroll, Alt, Event, Press, Move, Turn, Sight}
 use Rattle.console_states.specs.declared.held.Held.{Held}
 use Rattle.console_scripts.specs.declared.onward.Onward.{Onward}
 use Rattle.console_states.specs.declared.selection.Sight.TheVariants as sight
@@ -12,7 +12,7 @@ use Rattle.console_core.specs.History.{between, is_locked_after, HasKeys, HasNoL
 use Rattle.console_states.specs.Moves.{Under, alone, State, state_of, IsPath, state_after, IsPathFrom, state_from}
 use Rattle.console_states.specs.Moves.{events_along, free_with}
 use Rattle.console_states.specs.Returning.{IsHome, NoTurnIsOneWay, IsAfter, but_scroll, unscrolled}
-use Rattle.console_states.specs.Sights.{SeesBy, SeesNext, CanPend, IsReachable, selection_of, selection_after}
+use Rattle.console_states.specs.Sights.{SeesBy, SeesNext, CanPend, IsReachable, selection_of}
 use Rattle.console_states.specs.Sticking.{IsOfPressedKey, ReachesMoreThanFrom, state_limit}
 use Rattle.console_scripts.specs.Typing.{ComesHome}
 

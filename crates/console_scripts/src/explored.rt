@@ -1,7 +1,6 @@
 //! The states that presses lead to from one where no key holds a modifier, the taps that can be made in them, and the
 //! events of those.
-ghost use Rattle.std.specs.Prelude.{◌≡◌, true, false, reverse, slice_get, Some, IfOk};
-ghost use Rattle.std.specs.Prelude.{MatchOption, ℕ};
+ghost use Rattle.std.specs.Prelude.{◌≡◌, true, false, reverse, slice_get, Some, IfOk, MatchOption, ℕ};
 ghost use Rattle.console_states.specs.Moves.{Under, alone, map_in};
 ghost use Rattle.console_scripts.specs.Typing.{IsTapOf, cell_of};
 ghost use Rattle.console_scripts.specs.Inner.Exploring.{map_of_explored, origin_in, IsExplored, IsTapAt, HasTap};
@@ -15,7 +14,7 @@ use crate::routes::{Routes, has_route, routes_home};
 use crate::showing::{come_home, tap};
 use crate::symbols::keys_with;
 use console_core::Event;
-use console_states::{End, Held, Keymaps, Met, go_out, meet_all, state_at};
+use console_states::{End, Held, Keymaps, Met, entry, go_out, meet_all, state_at};
 use keymap_core::{Action, Cell, KEY_COUNT, KeyCode, KeyMap, MODIFIERS, key_with};
 use std::alloc::{AllocError, Global};
 
@@ -146,7 +145,7 @@ impl<'m> Explored<'m> {
     {
         let have = keys_with(self.maps.first, tap.symbol);
         for place in 0..self.met.len() {
-            let held = state_at(&self.met, place);
+            let (held, _) = entry(&self.met, place);
             if !is_near || held.has_locks_of(&self.origin) {
                 if let Some(key) = key_tapping(&held, self.maps.first, tap, &have) {
                     if has_route(&self.routes, &held) {

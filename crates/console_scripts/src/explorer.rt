@@ -1,7 +1,7 @@
 //! Makes visits that show what presses can see: each leads from home to a state in which a press sees
 //! something, and to where a route leads home again.
-ghost use Rattle.std.specs.Prelude.{◌≡◌, ◌≢◌, ◌<◌, [], ℕ, false, true, None, Some, length, reverse, slice_get};
-ghost use Rattle.std.specs.Prelude.{OnOk, OnErr, IfOk, IfSome, MatchOption};
+ghost use Rattle.std.specs.Prelude.{◌≡◌, ◌≢◌, ◌<◌, [], ℕ, false, true, None, Some, length, reverse, slice_get, OnOk};
+ghost use Rattle.std.specs.Prelude.{OnErr, IfOk, IfSome, MatchOption};
 ghost use Rattle.keymap_core.specs.Maps.{MapValue};
 ghost use Rattle.keymap_core.specs.Numbers.{key_count};
 ghost use Rattle.console_states.specs.declared.held.Held.{Held as HeldValue};
@@ -10,8 +10,7 @@ ghost use Rattle.console_states.specs.Returning.{IsAfter, but_scroll};
 ghost use Rattle.console_states.specs.Sights.{AreSightsOf};
 ghost use Rattle.console_scripts.specs.Types.{Scroll};
 ghost use Rattle.console_scripts.specs.Typing.{ComesHome};
-ghost use Rattle.console_scripts.specs.Visiting.{AreStatesOf, CanReach, CanVisit, HasLocks, IsWayHome};
-ghost use Rattle.console_scripts.specs.Visiting.{LeadsBy, Visits};
+ghost use Rattle.console_scripts.specs.Visiting.{AreStatesOf, CanReach, CanVisit, HasLocks, IsWayHome, LeadsBy, Visits};
 ghost use Rattle.console_states.specs.Sticking.{ReachesMoreThan, state_limit};
 ghost use Rattle.console_scripts.specs.Inner.Exploring.{map_of_explored, origin_in, IsExplored, IsMetAt, IsTapAt};
 ghost use Rattle.console_scripts.specs.Inner.Exploring.{dead_tap};
@@ -24,7 +23,7 @@ use crate::onward::Reached;
 use crate::routes::has_route;
 use crate::showing::{come_home, tap};
 use console_core::{Event, Translator};
-use console_states::{Held, Keymaps, Selection, Sight, Sights, go_out, sights_in, state_at};
+use console_states::{Held, Keymaps, Selection, Sight, Sights, entry, go_out, sights_in, state_at};
 use keymap_core::{KeyCode, KeyMap, Lock};
 use std::alloc::{AllocError, Global};
 use std::marker::Model;
@@ -144,7 +143,7 @@ impl<'m> Explored<'m> {
             (λ p. IsPressAt self.now sight p.at (state_of p.next)) }
     {
         for place in 0..self.met.len() {
-            let held = state_at(&self.met, place);
+            let (held, _) = entry(&self.met, place);
             if let Some(key) = held.selection().key_seeing(self.maps.first, sight) {
                 let next = after(&held, &self.maps, key);
                 if has_route(&self.routes, &next) {
@@ -388,7 +387,7 @@ impl<'m> Explorer<'m> {
         if place >= self.explored.met.len() {
             return None;
         }
-        let held = state_at(&self.explored.met, place);
+        let (held, _) = entry(&self.explored.met, place);
         if has_route(&self.explored.routes, &held) {
             Some(Reached { held })
         } else {

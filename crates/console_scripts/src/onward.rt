@@ -14,7 +14,7 @@ ghost use Rattle.console_scripts.specs.Inner.Showing.{IsSeenAt, IsTurnAt, IsUnse
 
 use crate::explored::{Explored, KeyAt, explore};
 use console_core::{Event, Translator};
-use console_states::{Held, Keymaps, Selection, Sight, go_out, state_at};
+use console_states::{Held, Keymaps, Selection, Sight, entry, go_out, state_at};
 use keymap_core::{KEY_COUNT, KeyCode, KeyMap, Lock, key_with};
 use std::alloc::{AllocError, Global};
 
@@ -64,7 +64,7 @@ impl<'m> Explored<'m> {
         ensures { MatchOption result (IsUnseen self.now sight) (λ at. IsSeenAt self.now sight at) }
     {
         for place in 0..self.met.len() {
-            let held = state_at(&self.met, place);
+            let (held, _) = entry(&self.met, place);
             if let Some(key) = held.selection().key_seeing(self.maps.first, sight) {
                 return Some(KeyAt { place, key });
             }
@@ -147,7 +147,7 @@ impl<'m> Explored<'m> {
         ensures { MatchOption result (IsUnturned self.now) (λ at. IsTurnAt self.now at) }
     {
         for place in 0..self.met.len() {
-            let held = state_at(&self.met, place);
+            let (held, _) = entry(&self.met, place);
             if let Some(key) = key_turning(&held, &self.maps) {
                 return Some(KeyAt { place, key });
             }

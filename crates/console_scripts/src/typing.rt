@@ -4,8 +4,7 @@ ghost use Rattle.std.specs.Prelude.{◌≡◌, ◌++◌, ◌∷◌, [], None, So
 ghost use Rattle.keymap_core.specs.Maps.{MapValue};
 ghost use Rattle.console_scripts.specs.Typing.{AreTyped, IsTypingError};
 ghost use Rattle.console_scripts.specs.Inner.Exploring.{AreKnown, AreExplorations, IsExplored, IsOrigin, CanReturn};
-ghost use Rattle.console_scripts.specs.Inner.Exploring.{IsExploredFrom};
-ghost use Rattle.console_scripts.specs.Inner.Exploring.{Leads, LeadsByTap, TypesOne};
+ghost use Rattle.console_scripts.specs.Inner.Exploring.{IsExploredFrom, Leads, LeadsByTap, TypesOne};
 ghost use Rattle.console_scripts.specs.Inner.Routes.{HasEntry};
 ghost use Rattle.console_states.specs.Searching.{state_of};
 

@@ -2,13 +2,10 @@
 use Rattle.console_states.proofs.Common.{◌≡◌, ◌≢◌, ◌++◌, ℕ, ◌+◌, ◌<◌, ◌⊎◌, true, false, inl, inr, List, [], ◌∷◌, length}
 use Rattle.console_states.proofs.Common.{ap, subst, sym, ◌∙◌, arith, slice_get, Some, Contains, true≢false}
 use Rattle.console_states.proofs.Common.{get_or_default, Contains-push, Contains-push_cases, Contains-append_left, Cell}
-use Rattle.console_states.proofs.Common.{Act, usable, Under, State, look_in, Offers, state_of, Entry}
-use Rattle.console_states.proofs.Common.{Entries, IsWith, Adds, IsInSome, AddsOffers, get_or, rules}
-use Rattle.console_states.specs.Inner.Adding.{AddsOffer}
-use Rattle.console_states.specs.Inner.KeyLists.{AreKeysOf, IsOther}
+use Rattle.console_states.proofs.Common.{Act, usable, Under, State, look_in, Offers, state_of, Entry, Entries, IsWith}
+use Rattle.console_states.proofs.Common.{Adds, IsInSome, AddsOffers, get_or, rules, AddsOffer, AreKeysOf, IsOther}
+use Rattle.console_states.proofs.Common.{DeadKey, Lists}
 use Rattle.console_states.proofs.KeyLists.{read-below}
-use Rattle.console_states.specs.declared.key_lists.CellKind.TheVariants.{DeadKey}
-use Rattle.console_states.specs.Sights.{Lists}
 use Rattle.console_states.proofs.Searching.{place_last, same_entry}
 use Rattle.keymap_core.specs.declared.action.Action.TheVariants as act
 

@@ -1,11 +1,9 @@
 -- Where a search begins: with its origins, or with one.
-use Rattle.console_states.proofs.Common.{zero, suc, ◌≡◌, ℕ, true, false, inl, inr, List, [], ◌∷◌, ◌++◌}
-use Rattle.console_states.proofs.Common.{length, slice_get, Some, None, refl, ap, subst, sym, arith, cases_lt, Contains}
+use Rattle.console_states.proofs.Common.{zero, suc, ◌≡◌, ℕ, true, false, inl, inr, List, [], ◌∷◌, ◌++◌, length}
+use Rattle.console_states.proofs.Common.{slice_get, Some, None, refl, ap, subst, sym, arith, cases_lt, Contains}
 use Rattle.console_states.proofs.Common.{Contains-append_left, Contains-push, Contains-push_cases, is_some, lookup}
-use Rattle.console_states.proofs.Common.{none-some}
-use Rattle.console_states.proofs.Common.{Scroll, Held, Under, State, state_of, Entry, Entries, IsMetBy, IsReached}
-use Rattle.console_states.proofs.Common.{Searched, AreInOrder}
-use Rattle.console_states.specs.Searching.{IsBegun}
+use Rattle.console_states.proofs.Common.{none-some, Scroll, Held, Under, State, state_of, Entry, Entries, IsMetBy}
+use Rattle.console_states.proofs.Common.{IsReached, Searched, AreInOrder, IsBegun}
 use Rattle.console_states.proofs.Growing.{at_old, at_new, met-grows, met-last, one_entry}
 use Rattle.console_states.proofs.SameStates.{are_same}
 use Rattle.console_states.proofs.Searching.{meet-old}

@@ -1,12 +1,10 @@
 -- What the search concludes of all paths from what it met.
 use Rattle.console_states.proofs.Common.{suc, ◌≡◌, ℕ, ◌+◌, ◌<◌, inl, inr, List, [], ◌∷◌, length, slice_get, Some, refl}
-use Rattle.console_states.proofs.Common.{ap}
-use Rattle.console_states.proofs.Common.{rules, subst, sym, ◌∙◌, arith, cases_lt, slice_get_within, Modifier, Event}
+use Rattle.console_states.proofs.Common.{ap, rules, subst, sym, ◌∙◌, arith, cases_lt, slice_get_within, Modifier, Event}
 use Rattle.console_states.proofs.Common.{Move, End, TooMany, Under, State, start, IsMove, moved, presses_of}
 use Rattle.console_states.proofs.Common.{IsForgetful, HolderForgets, script_of_path, state_of, Entry, Entries, IsMetBy}
 use Rattle.console_states.proofs.Common.{IsReached, AreDone, AreSafe, IsStuck, HasEnded, unscrolled, presses}
-use Rattle.console_states.proofs.Common.{NeverSticksUnder, ReleasesPressedKeys}
-use Rattle.console_states.specs.declared.search.End.TheVariants.{Complete}
+use Rattle.console_states.proofs.Common.{NeverSticksUnder, ReleasesPressedKeys, Complete}
 use Rattle.console_states.specs.Searching.{IsScriptTo, IsEnd}
 use Rattle.console_states.specs.Sticking.{NoneSticksUnderBy, LeavesOnUnder, HasFewestUnder}
 use Rattle.console_states.proofs.Deciding.{under-self, never-under, sticks_if_reached}

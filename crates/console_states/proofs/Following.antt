@@ -1,25 +1,18 @@
 -- A console stands in the states that its presses, releases, resets and loads lead to.
-use Rattle.console_states.proofs.Common.{◌≡◌, ℕ, ◌⊎◌, Bool, true, false, ◌&&◌, ◌||◌, not, eqb, List}
-use Rattle.console_states.proofs.Common.{none-some, ◌∷◌, Option, Some, None, refl, ap, subst, sym, ◌∙◌, inl, inr}
-use Rattle.console_states.proofs.Common.{if◌then◌else◌, ◌==◌, eqb-true, eq-eqb, cases_Bool, true≢false}
-use Rattle.console_states.proofs.Common.{same_action, same_modifier}
-use Rattle.console_states.proofs.Common.{same_lock, holding_action, same_action-true, same_action-refl}
-use Rattle.console_states.proofs.Common.{look_with, ResolvedEvent, held, locked, on, remembered, taken_over}
-use Rattle.console_states.proofs.Common.{is_this_action, look, PressedCharacter, PressedAction}
-use Rattle.console_states.proofs.Common.{ReleasedKey}
-use Rattle.console_states.proofs.Common.{Under, State}
-use Rattle.console_states.proofs.Common.{is_held, map_in, look_in, Holds, IsIdle, with_holder, with_lock_turned}
-use Rattle.console_states.proofs.Common.{Follows, fun_ext}
-use Rattle.console_states.proofs.Common.{is_some, same_Some, Action, Lock, Modifier}
-use Rattle.console_states.proofs.Common.{Holding}
-use Rattle.console_states.proofs.Common.{rules}
+use Rattle.console_states.proofs.Common.{◌≡◌, ℕ, ◌⊎◌, Bool, true, false, ◌&&◌, ◌||◌, not, List, none-some, ◌∷◌, Option}
+use Rattle.console_states.proofs.Common.{Some, None, refl, ap, subst, sym, ◌∙◌, inl, inr, if◌then◌else◌, ◌==◌, eqb-true}
+use Rattle.console_states.proofs.Common.{eq-eqb, cases_Bool, true≢false, same_action, same_modifier, same_lock}
+use Rattle.console_states.proofs.Common.{holding_action, same_action-true, same_action-refl, look_with, ResolvedEvent}
+use Rattle.console_states.proofs.Common.{held, locked, on, remembered, taken_over, is_this_action, look}
+use Rattle.console_states.proofs.Common.{PressedCharacter, PressedAction, ReleasedKey, Under, State, is_held, map_in}
+use Rattle.console_states.proofs.Common.{look_in, Holds, IsIdle, with_holder, with_lock_turned, Follows, fun_ext}
+use Rattle.console_states.proofs.Common.{is_some, same_Some, Action, Lock, Modifier, Holding, unless_nop, held-action}
+use Rattle.console_states.proofs.Common.{held-character, held-release, locked-action, locked-character}
+use Rattle.console_states.proofs.Common.{remembered-action, remembered-character}
 use Rattle.std.proofs.Math.Bool.{and-true, and-false}
 use Rattle.keymap_core.specs.Actions.{holding_of}
-use Rattle.console_core.specs.Resolved.{unless_nop}
 use Rattle.std.specs.Option.{option_or}
-use Rattle.console_core.proofs.Shared.{first_kept, held-action, held-character, held-release, locked-action}
-use Rattle.console_core.proofs.Shared.{locked-character, locked-release, remembered-action}
-use Rattle.console_core.proofs.Shared.{remembered-character, remembered-release, taken-holding}
+use Rattle.console_core.proofs.Shared.{first_kept, locked-release, remembered-release, taken-holding}
 use Rattle.keymap_core.specs.declared.action.Action.TheVariants as act
 use Rattle.keymap_core.specs.declared.action.Holding.TheVariants as holding
 

@@ -4,8 +4,8 @@ use Rattle.console_states.proofs.Common.{append_assoc, false≢true, MapValue, R
 use Rattle.console_states.proofs.Common.{resolved, is_second_in_force, accent_pending_after, alone, State, IsIdle}
 use Rattle.console_states.proofs.Common.{look_in, IsMove, events_of_move, events_along, state_from, IsPathFrom, SeesBy}
 use Rattle.console_states.proofs.Common.{SeesNext, IsPendingFor, selection_of, Stands, Act, Event, Press, Release, Move}
-use Rattle.console_states.proofs.Common.{Hold, Turn, LetGo, Exchange, Sight, rules}
-use Rattle.console_core.proofs.Shared.{one_map, pending-action, pending-release, resolved-more}
+use Rattle.console_states.proofs.Common.{Hold, Turn, LetGo, Exchange, Sight, rules, one_map, pending-action}
+use Rattle.console_states.proofs.Common.{pending-release, resolved-more}
 use Rattle.console_states.proofs.Standing.{stands-from, idle-none, pressed-look}
 use Rattle.console_states.proofs.Seeing.{follows-selection}
 use Rattle.keymap_core.specs.declared.action.Action.TheVariants as act

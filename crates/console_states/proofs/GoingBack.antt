@@ -1,12 +1,15 @@
--- The way back from an entry to the start, and the script that is written on it.
+-- The way back from an entry to the start, the events that are pushed on it, and the script that is written on it.
 use Rattle.console_states.proofs.Common.{◌≡◌, ℕ, ◌+◌, ◌<◌, IfSome, List, [], ◌∷◌, ◌++◌, length, get_or, take, slice_get}
-use Rattle.console_states.proofs.Common.{Option, Some, None, refl, ap, sym, ◌∙◌, arith, append_assoc, slice_get_within}
+use Rattle.console_states.proofs.Common.{Option, Some, None, refl, ap, ◌∙◌, arith, append_assoc, slice_get_within}
 use Rattle.console_states.proofs.Common.{same_Some, append-nil, take_more, Modifier, Event, Press, Move, modifiers}
-use Rattle.console_states.proofs.Common.{Under, State, state_after, script_of_path, rules, events_along}
-use Rattle.console_states.proofs.Common.{release_of, releases, Entry, Entries, IsTrail, Searched}
-use Rattle.console_states.proofs.Common.{reverse, reverse-append, reverse-reverse}
+use Rattle.console_states.proofs.Common.{Under, State, state_after, script_of_path, rules, events_along, release_of}
+use Rattle.console_states.proofs.Common.{releases, Entry, Entries, IsTrail, Searched, reverse, reverse-append}
+use Rattle.console_states.proofs.Common.{reverse-reverse}
 use Rattle.console_states.specs.Searching.{GoBack}
-use Rattle.console_states.proofs.Looking.{push-reversed}
+
+-- a further event, with the newest first
+pub push-reversed : (old : List Event) (e : Event) → reverse (old ++ e ∷ []) ≡ e ∷ reverse old
+push-reversed old e = reverse-append old (e ∷ [])
 
 -- the way back from a place
 pub searched-back : {os : List State} (u : Under) (es : Entries) (a b : ℕ) → Searched u os es a b → GoBack es
@@ -44,11 +47,7 @@ pub script-is : (u : Under) (path : List Move) (k : ℕ) (s : State) (out events
     → reverse out ≡ events_along path ++ [] → events ≡ (out ++ Press k ∷ []) ++ reverse (releases s modifiers)
     → state_after u path ≡ s → reverse events ≡ script_of_path u path k
 script-is u path k s out events is e at =
-    ap reverse e ∙ reverse-append (out ++ Press k ∷ []) (reverse (releases s modifiers))
-    ∙ ap (λ z. z ++ reverse (out ++ Press k ∷ [])) (reverse-reverse (releases s modifiers))
-    ∙ ap (λ z. releases s modifiers ++ z)
-    (push-reversed out (Press k) ∙ ap (λ z. Press k ∷ z) (is ∙ append-nil (events_along path)))
-    ∙ ap (λ t. releases t modifiers ++ Press k ∷ events_along path) (sym at)
+    search (rules, reverse-append, reverse-reverse, push-reversed, append-nil)
 
 -- the releases of further holders
 releases-append : (s : State) (xs ys : List Modifier) → releases s (xs ++ ys) ≡ releases s xs ++ releases s ys

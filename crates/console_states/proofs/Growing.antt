@@ -1,10 +1,10 @@
 -- What was met stays met when the entries grow.
-use Rattle.console_states.proofs.Common.{zero, suc, ◌≡◌, ℕ, ◌+◌, ◌<◌, ◌≤◌, false, ◌⊎◌, inl, inr, All}
-use Rattle.console_states.proofs.Common.{List, [], ◌∷◌, ◌++◌, length, slice_get, Some, refl, ap, subst, sym, ◌∙◌, arith}
-use Rattle.console_states.proofs.Common.{append_assoc, cases_lt, slice_get_within, none-some, same_Some}
-use Rattle.console_states.proofs.Common.{Scroll, Move, Turn, Exchange, is_borne, Under, State, next_map, IsMove, moved}
-use Rattle.console_states.proofs.Common.{presses_of, state_of, Entry, Entries, Grows, IsMetBy, AreMet, IsFrom, AreAdded}
-use Rattle.console_states.proofs.Common.{IsTrail, IsReached, LeavesScroll, rules}
+use Rattle.console_states.proofs.Common.{zero, suc, ◌≡◌, ℕ, ◌+◌, ◌<◌, ◌≤◌, false, ◌⊎◌, inl, inr, All, List, [], ◌∷◌}
+use Rattle.console_states.proofs.Common.{◌++◌, length, slice_get, Some, refl, ap, subst, sym, ◌∙◌, arith, append_assoc}
+use Rattle.console_states.proofs.Common.{cases_lt, slice_get_within, none-some, same_Some, Scroll, Move, Turn, Exchange}
+use Rattle.console_states.proofs.Common.{is_borne, Under, State, next_map, IsMove, moved, presses_of, state_of, Entry}
+use Rattle.console_states.proofs.Common.{Entries, Grows, IsMetBy, AreMet, IsFrom, AreAdded, IsTrail, IsReached}
+use Rattle.console_states.proofs.Common.{LeavesScroll, rules}
 use Rattle.std.proofs.lemmas.Bool.{and_right}
 use Rattle.std.proofs.lemmas.Option.{get_or_from_slice_get}
 use Rattle.std.proofs.lemmas.List.Elements.{All-append}

@@ -1,11 +1,10 @@
 -- The keys that have a cell of a kind. A search that presses those with cells that can be moves presses all.
 use Rattle.console_states.proofs.Common.{◌≡◌, ℕ, ◌+◌, ◌<◌, Bool, true, false, inl, inr, List, [], ◌∷◌, ◌++◌, subst, sym}
 use Rattle.console_states.proofs.Common.{below_more, get_or, length, ◌∙◌, ◌⊎◌, get_or_default, Contains, Contains-push}
-use Rattle.console_states.proofs.Common.{Contains-append_left, Contains-push_cases, MapValue, cell_at, slot_of}
-use Rattle.console_states.proofs.Common.{arith, look_with, Under, State, look_in, map_of, is_held}
-use Rattle.console_states.proofs.Common.{PressesLead, IsUnmoving, HasMovingKeys}
+use Rattle.console_states.proofs.Common.{Contains-append_left, Contains-push_cases, MapValue, cell_at, slot_of, arith}
+use Rattle.console_states.proofs.Common.{look_with, Under, State, look_in, map_of, is_held, PressesLead, IsUnmoving}
+use Rattle.console_states.proofs.Common.{HasMovingKeys, IsOther}
 use Rattle.console_core.proofs.Shared.{column_of-lt}
-use Rattle.console_states.specs.Inner.KeyLists.{IsOther}
 use Rattle.console_states.specs.declared.key_lists.CellKind.{CellKind}
 
 -- the cells of a key in its two slots are those that it may look up

@@ -9,7 +9,6 @@ pub mod Going
 pub mod GoingBack
 pub mod Growing
 pub mod KeyLists
-pub mod Looking
 pub mod Offering
 pub mod Reaching
 pub mod Results

@@ -1,20 +1,17 @@
 -- The states behind where an accent is offered, as a search collects them, and the selections there.
-use Rattle.console_states.proofs.Common.{zero, suc, ◌≡◌, ℕ, ◌+◌, ◌<◌, ◌≤◌, true, false, inl, inr, List, []}
-use Rattle.console_states.proofs.Common.{◌∷◌, ◌++◌, length, refl, slice_get, Option, Some, None, ap, subst, sym, ◌∙◌}
-use Rattle.console_states.proofs.Common.{arith, Contains, Contains-append_left, Contains-push, cases_lt, Scroll}
-use Rattle.console_states.proofs.Common.{Contains-push_cases, slice_get_within, MapValue, Move, LetGo}
-use Rattle.console_states.proofs.Common.{Selection, Offer, Sights, usable, Under, alone, State, start}
-use Rattle.console_states.proofs.Common.{IsMove, IsPath, IsStep, Step, moved, state_after, IsForgetful, IsOfferedIn}
-use Rattle.console_states.proofs.Common.{AreSightsOf, selection_of, state_of, Entry, Entries}
-use Rattle.console_states.proofs.Common.{Searched, AreSafe, IsStuck}
-use Rattle.console_states.proofs.Common.{unscrolled, IsBehind, AreBehind, AreOffering, IsOfferedUnlocked}
-use Rattle.console_states.proofs.Common.{AreSelectionsOf, AreOffersOf, IsInSome, rules}
+use Rattle.console_states.proofs.Common.{zero, suc, ◌≡◌, ℕ, ◌+◌, ◌<◌, ◌≤◌, true, false, inl, inr, List, [], ◌∷◌, ◌++◌}
+use Rattle.console_states.proofs.Common.{length, refl, slice_get, Option, Some, None, ap, subst, sym, ◌∙◌, arith}
+use Rattle.console_states.proofs.Common.{Contains, Contains-append_left, Contains-push, cases_lt, Scroll}
+use Rattle.console_states.proofs.Common.{Contains-push_cases, slice_get_within, MapValue, Move, LetGo, Selection, Offer}
+use Rattle.console_states.proofs.Common.{Sights, usable, Under, alone, State, start, IsMove, IsPath, IsStep, Step}
+use Rattle.console_states.proofs.Common.{moved, state_after, IsForgetful, IsOfferedIn, AreSightsOf, selection_of}
+use Rattle.console_states.proofs.Common.{state_of, Entry, Entries, Searched, AreSafe, IsStuck, unscrolled, IsBehind}
+use Rattle.console_states.proofs.Common.{AreBehind, AreOffering, IsOfferedUnlocked, AreSelectionsOf, AreOffersOf}
+use Rattle.console_states.proofs.Common.{IsInSome, rules, AreComposed, Lists, IsLedTo, OffersUnlocked, AreMetOnce}
 use Rattle.indexmap.proofs.IndexTableLemmas.Probe.{pigeonhole}
 use Rattle.std.proofs.lemmas.Bool.{true_from_ne_false}
-use Rattle.console_states.specs.Sights.{AreComposed, CanCompose, CanOffer, CanSelect, Lists, accents_in}
-use Rattle.console_states.specs.Sights.{IsOfferedAlong}
-use Rattle.console_states.specs.Inner.Adding.{AreAccentsOf, IsLedTo, OffersUnlocked}
-use Rattle.console_states.specs.Searching.{AreMetOnce}
+use Rattle.console_states.specs.Sights.{CanCompose, CanOffer, CanSelect, accents_in, IsOfferedAlong}
+use Rattle.console_states.specs.Inner.Adding.{AreAccentsOf}
 use Rattle.console_states.proofs.Adding.{empty-none}
 use Rattle.console_states.proofs.Unscrolled.{same-scrolled}
 use Rattle.console_states.proofs.Behind.{behind-offered, behind-more, behind-path, path-split}

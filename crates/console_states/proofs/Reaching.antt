@@ -2,12 +2,12 @@
 use Rattle.console_states.proofs.Common.{zero, suc, ◌≡◌, ℕ, ◌<◌, ◌≤◌, false, inl, inr, [], ◌∷◌, length, get_or}
 use Rattle.console_states.proofs.Common.{slice_get, Some, subst, sym, ◌∙◌, arith, IsDistinct, keys_of, cases_lt}
 use Rattle.console_states.proofs.Common.{true≢false, slice_get-get_or, none-some, same_Some, Held, state_of, Entry}
-use Rattle.console_states.proofs.Common.{Entries, HasEnded, IsReached, TooMany, Under, State, ReachesMoreThanFrom}
-use Rattle.console_states.proofs.Common.{End, MapValue, Searched, alone, ap, start, under_of}
+use Rattle.console_states.proofs.Common.{Entries, HasEnded, IsReached, TooMany, Under, State, ReachesMoreThanFrom, End}
+use Rattle.console_states.proofs.Common.{MapValue, Searched, alone, start, under_of, AreMetOnce, rules}
 use Rattle.console_states.specs.declared.held.Keymaps.{Keymaps}
 use Rattle.std.specs.List.{AllByRecursion}
 use Rattle.std.proofs.lemmas.Map.Keys.{IsDistinct-head, IsDistinct-tail}
-use Rattle.console_states.specs.Searching.{AreMetOnce, HasMetAll}
+use Rattle.console_states.specs.Searching.{HasMetAll}
 use Rattle.console_states.proofs.SameStates.{are_same, same-tells}
 use Rattle.console_states.proofs.Beginning.{reached-one, start-one}
 
@@ -71,8 +71,4 @@ ended-alone m u es s t end other is from how ended = rw (← is, ← from, ← h
 -- what was met under a keymap is all
 pub met-alone : (x : Keymaps) (m : MapValue) (es : Entries) → under_of x ≡ alone m → x.first.now ≡ m
     → Searched (alone m) (start ∷ []) es (length es) (length es) → length es ≤ 65536 → HasMetAll x es
-met-alone x m es is first searched few = (
-  is ∙ ap (λ n. alone n) (sym first),
-  subst (λ n. Searched (alone n) (start ∷ []) es (length es) (length es)) (sym first) searched,
-  few,
-)
+met-alone x m es is first searched few = search rules

@@ -1,10 +1,9 @@
 -- Where no lock is on but the scroll lock; and what a finished search met.
 use Rattle.console_states.proofs.Common.{suc, ◌≡◌, ℕ, ◌+◌, List, [], ◌∷◌, length, slice_get, Some, ap, arith, subst}
-use Rattle.console_states.proofs.Common.{sym, ◌∙◌, inl, inr, Under, State, IsMove, moved}
-use Rattle.console_states.proofs.Common.{IsPathFrom, state_from, presses_of, IsHome}
-use Rattle.console_states.proofs.Common.{state_of, Entry, Entries, IsMetBy, LeavesScroll, Searched}
-use Rattle.console_states.proofs.Common.{unscrolled, Move, ◌≢◌, Bool, false, refl, Lock, Caps, Num, Scroll, Alt}
-use Rattle.console_states.proofs.Common.{start, rules}
+use Rattle.console_states.proofs.Common.{sym, ◌∙◌, inl, inr, Under, State, IsMove, moved, IsPathFrom, state_from}
+use Rattle.console_states.proofs.Common.{presses_of, IsHome, state_of, Entry, Entries, IsMetBy, LeavesScroll, Searched}
+use Rattle.console_states.proofs.Common.{unscrolled, Move, ◌≢◌, Bool, false, refl, Lock, Caps, Num, Scroll, Alt, start}
+use Rattle.console_states.proofs.Common.{rules}
 use Rattle.console_states.specs.Searching.{IsMet}
 use Rattle.console_states.proofs.Beginning.{start-one}
 use Rattle.console_states.proofs.Searching.{all-done}

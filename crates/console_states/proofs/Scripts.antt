@@ -1,25 +1,20 @@
 -- A holder that looks up a character where a path leads leaves its modifier on; and what the events of a path are.
-use Rattle.console_states.proofs.Common.{suc, ◌≡◌, ℕ, ◌<◌, ◌+◌, All, arith, Bool, true, false, ◌&&◌, not, List}
-use Rattle.console_states.proofs.Common.{[], ◌∷◌, ◌++◌, Option, Some, None, refl, ap, subst, sym, ◌∙◌, inl, inr}
-use Rattle.console_states.proofs.Common.{◌==◌, eqb-true, eq-eqb, cases_Bool, true≢false}
-use Rattle.console_states.proofs.Common.{false_from_ne_true, and_parts, not-true, list_any, All-nil}
-use Rattle.console_states.proofs.Common.{All-cons, none-some, same_Some, same_action, same_modifier}
-use Rattle.console_states.proofs.Common.{modifiers, same_action-true, same_action-refl}
-use Rattle.console_states.proofs.Common.{held, remembered, is_this_action}
-use Rattle.console_states.proofs.Common.{PressedCharacter, ReleasedKey, Maps, resolved}
-use Rattle.console_states.proofs.Common.{is_on_after, pressed, HasKey, HasKeys, IsQuiet}
-use Rattle.console_states.proofs.Common.{Under, State, Holds}
-use Rattle.console_states.proofs.Common.{IsMove, moved, HolderForgets}
-use Rattle.console_states.proofs.Common.{state_after, IsPath, events_of_move, events_along, release_of, releases}
-use Rattle.console_states.proofs.Common.{script_of_path, presses_of, presses_along}
-use Rattle.console_states.proofs.Common.{presses, IsSent, NeverForgets, ReleasesPressedKeys, HoldsSome}
-use Rattle.console_states.proofs.Common.{Stands, Action, Modifier, LeftShift, RightShift, LeftControl}
-use Rattle.console_states.proofs.Common.{RightControl, LeftAlt, RightAlt, AltShift, Meta, Char, Event, Press}
-use Rattle.console_states.proofs.Common.{Release, Load, Move, Hold, Turn, LetGo, Exchange, rules}
+use Rattle.console_states.proofs.Common.{suc, ◌≡◌, ℕ, ◌<◌, ◌+◌, All, arith, Bool, true, false, ◌&&◌, not, List, [], ◌∷◌}
+use Rattle.console_states.proofs.Common.{◌++◌, Option, Some, None, refl, ap, subst, sym, ◌∙◌, inl, inr, ◌==◌, eqb-true}
+use Rattle.console_states.proofs.Common.{eq-eqb, cases_Bool, true≢false, false_from_ne_true, and_parts, not-true}
+use Rattle.console_states.proofs.Common.{list_any, All-nil, All-cons, none-some, same_Some, same_action, same_modifier}
+use Rattle.console_states.proofs.Common.{modifiers, same_action-true, same_action-refl, held, remembered}
+use Rattle.console_states.proofs.Common.{is_this_action, PressedCharacter, ReleasedKey, Maps, resolved, is_on_after}
+use Rattle.console_states.proofs.Common.{pressed, HasKey, HasKeys, IsQuiet, Under, State, Holds, IsMove, moved}
+use Rattle.console_states.proofs.Common.{HolderForgets, state_after, IsPath, events_of_move, events_along, release_of}
+use Rattle.console_states.proofs.Common.{releases, script_of_path, presses_of, presses_along, presses, IsSent}
+use Rattle.console_states.proofs.Common.{NeverForgets, ReleasesPressedKeys, HoldsSome, Stands, Action, Modifier}
+use Rattle.console_states.proofs.Common.{LeftShift, RightShift, LeftControl, RightControl, LeftAlt, RightAlt, AltShift}
+use Rattle.console_states.proofs.Common.{Meta, Char, Event, Press, Release, Load, Move, Hold, Turn, LetGo, Exchange}
+use Rattle.console_states.proofs.Common.{rules, held-character, held-release, pressed-press, remembered-character}
+use Rattle.console_states.proofs.Common.{resolved-more}
 use Rattle.std.proofs.lemmas.Bool.{or_parts}
-use Rattle.console_core.proofs.Shared.{held-character, held-release, pressed-press, pressed-release}
-use Rattle.console_core.proofs.Shared.{pressed_if, remembered-character, remembered-pressed}
-use Rattle.console_core.proofs.Shared.{remembered-release, resolved-more}
+use Rattle.console_core.proofs.Shared.{pressed-release, pressed_if, remembered-pressed, remembered-release}
 use Rattle.console_states.proofs.Following.{some_mods}
 use Rattle.console_states.proofs.Sparing.{IsKeptBelow, IsSafeBelow, NeverIn, never-sticks}
 use Rattle.console_states.proofs.Standing.{pressed-look, stands}

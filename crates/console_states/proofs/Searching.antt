@@ -1,12 +1,12 @@
 -- The search level by level: it meets what a release, a load or a press leads to, and closes and presses each place.
-use Rattle.console_states.proofs.Common.{cases_Bool, suc, List, ◌≡◌, ℕ, ◌+◌, ◌<◌, ◌≤◌, true, ◌⊎◌, inl, inr, []}
-use Rattle.console_states.proofs.Common.{◌∷◌, ◌++◌, IfSome, length, slice_get, Option, Some, None, refl, ap, subst, sym}
-use Rattle.console_states.proofs.Common.{◌∙◌, arith, cases_lt, true≢false, slice_get_within, same_Some, All-nil}
-use Rattle.console_states.proofs.Common.{All-cons, Modifier, Lock, Act, Move, Hold, Turn, LetGo, Exchange, Held}
-use Rattle.console_states.proofs.Common.{Step, is_some, lookup, Under, State, look_in, with_holder}
-use Rattle.console_states.proofs.Common.{with_lock_turned, Holds, IsMove, moved, presses_of, state_of, Entry, Entries}
-use Rattle.console_states.proofs.Common.{Grows, IsStep, StepsTo, PressesLead, IsMetBy, AreMet, AreWithin, IsFrom}
-use Rattle.console_states.proofs.Common.{AreAdded, AreDone, Searched, AreInOrder}
+use Rattle.console_states.proofs.Common.{cases_Bool, suc, List, ◌≡◌, ℕ, ◌+◌, ◌<◌, ◌≤◌, true, ◌⊎◌, inl, inr, [], ◌∷◌}
+use Rattle.console_states.proofs.Common.{◌++◌, IfSome, length, slice_get, Option, Some, None, refl, ap, subst, sym, ◌∙◌}
+use Rattle.console_states.proofs.Common.{arith, cases_lt, true≢false, slice_get_within, same_Some, All-nil, All-cons}
+use Rattle.console_states.proofs.Common.{Modifier, Lock, Act, Move, Hold, Turn, LetGo, Exchange, Held, Step, is_some}
+use Rattle.console_states.proofs.Common.{lookup, Under, State, look_in, with_holder, with_lock_turned, Holds, IsMove}
+use Rattle.console_states.proofs.Common.{moved, presses_of, state_of, Entry, Entries, Grows, IsStep, StepsTo}
+use Rattle.console_states.proofs.Common.{PressesLead, IsMetBy, AreMet, AreWithin, IsFrom, AreAdded, AreDone, Searched}
+use Rattle.console_states.proofs.Common.{AreInOrder, rules}
 use Rattle.console_states.specs.Searching.{IsClosed, IsPressed}
 use Rattle.console_states.proofs.SameStates.{are_same, tells-same}
 use Rattle.console_states.proofs.Growing.{at-now, at_old, at_new, all-at, from-cases, added-longer}
@@ -174,10 +174,7 @@ steps-to P step s (x, e, is) all = subst P is (subst (λ o. IfSome o (λ x. P (s
 -- what holds where presses lead
 pub presses-map : (P Q : State → Type 0) → ((t : State) → P t → Q t) → (u : Under) (s : State) (k : ℕ)
     → PressesLead u s k P → PressesLead u s k Q
-presses-map P Q f u s k lead idle = (
-  (λ i seen free. f (with_holder s i (Some k)) ((lead idle).0 i seen free)),
-  (λ l other seen. f (with_lock_turned s l) ((lead idle).1 l other seen)),
-)
+presses-map P Q f u s k lead idle = search rules
 
 -- the moves without a press, and those with one
 pub frees-met : (u : Under) (es : Entries) (p : ℕ) (s : State)

@@ -2,26 +2,23 @@
 -- where it is offered.
 use Rattle.console_states.proofs.Common.{cases_Bool, none-some, suc, ◌≡◌, ℕ, ◌<◌, Bool, true, false, List, [], ◌∷◌}
 use Rattle.console_states.proofs.Common.{Option, Some, None, refl, ap, subst, sym, ◌∙◌, ◌⊎◌, inl, inr, arith}
-use Rattle.console_states.proofs.Common.{if◌then◌else◌, true≢false, All-head, All-tail, Action, Modifier, Cell}
-use Rattle.console_states.proofs.Common.{Char, Act, Event, Press, Release, Reset, Load, Sight, Move, Hold, Turn, LetGo}
+use Rattle.console_states.proofs.Common.{if◌then◌else◌, true≢false, All-head, All-tail, Action, Modifier, Cell, Char}
+use Rattle.console_states.proofs.Common.{Act, Event, Press, Release, Reset, Load, Sight, Move, Hold, Turn, LetGo}
 use Rattle.console_states.proofs.Common.{PressedAction, ReleasedKey, same_Some, same_action, holding_action, MapValue}
-use Rattle.console_states.proofs.Common.{same_action-true, usable, ResolvedEvent, on, locked, look}
-use Rattle.console_states.proofs.Common.{remembered, taken_over, pending, resolve_press}
-use Rattle.console_states.proofs.Common.{next_pending, between, resolved, is_second_in_force}
-use Rattle.console_states.proofs.Common.{HasKey, IsNoLoad, Under, alone, State, IsIdle, look_in, state_after}
-use Rattle.console_states.proofs.Common.{NeverForgets, presses, selection_of, IsForgetful, IsAdmitted, SeesBy}
-use Rattle.console_states.proofs.Common.{IsOfferedIn, Follows, IsBehind, fun_ext, rules}
+use Rattle.console_states.proofs.Common.{same_action-true, usable, ResolvedEvent, on, locked, look, remembered}
+use Rattle.console_states.proofs.Common.{taken_over, pending, resolve_press, next_pending, between, resolved}
+use Rattle.console_states.proofs.Common.{is_second_in_force, HasKey, IsNoLoad, Under, alone, State, IsIdle, look_in}
+use Rattle.console_states.proofs.Common.{state_after, NeverForgets, presses, selection_of, IsForgetful, IsAdmitted}
+use Rattle.console_states.proofs.Common.{SeesBy, IsOfferedIn, Follows, IsBehind, fun_ext, rules, one_map}
+use Rattle.console_states.proofs.Common.{pending-action, pending-release, pending-start, resolved-more, resolved-start}
 use Rattle.console_core.specs.Inner.Kept.{pending_after_dead_key}
 use Rattle.console_core.specs.Resolved.{usable_dead_key}
 use Rattle.console_states.specs.Sights.{selection_with, selection_after, LooksAreSelected, SightsAreReachable}
-use Rattle.console_core.proofs.Shared.{one_map, pending-action, pending-character, pending-release}
-use Rattle.console_core.proofs.Shared.{pending-reset, pending-start, resolved-more, resolved-start}
+use Rattle.console_core.proofs.Shared.{pending-character, pending-reset}
 use Rattle.console_states.proofs.Behind.{behind-offered, behind-more}
 use Rattle.console_states.proofs.Following.{follows-look, follows-nothing, not_holding}
-use Rattle.console_states.proofs.Sparing.{stays, AreSpared}
-use Rattle.console_states.proofs.Staying.{Stays}
-use Rattle.console_states.proofs.Sparing.{clean-spared}
-use Rattle.console_states.proofs.Staying.{KeepsHeld, LeadsOn, stays-press, stays-release}
+use Rattle.console_states.proofs.Sparing.{stays, AreSpared, clean-spared}
+use Rattle.console_states.proofs.Staying.{Stays, KeepsHeld, LeadsOn, stays-press, stays-release}
 use Rattle.console_states.proofs.Scripts.{Reached, reached-kept}
 use Rattle.keymap_core.specs.declared.action.Action.TheVariants as act
 use Rattle.console_states.specs.declared.selection.Sight.TheVariants as sight

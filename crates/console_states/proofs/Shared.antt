@@ -5,31 +5,29 @@ pub use Rattle.console_states.proofs.Behind.{path-split}
 pub use Rattle.console_states.proofs.Common.{Char, get_or_read_under}
 pub use Rattle.console_states.proofs.Concluding.{IsAmong, among-moved, safe-below}
 pub use Rattle.console_states.proofs.Deciding.{safe_never_sticks_between}
-pub use Rattle.console_states.proofs.Following.{follows-again, follows-look, follows-nothing, kind_of}
-pub use Rattle.console_states.proofs.Following.{not_holding, same_mods}
+pub use Rattle.console_states.proofs.Following.{follows-again, follows-look, follows-nothing, kind_of, not_holding}
+pub use Rattle.console_states.proofs.Following.{same_mods}
 pub use Rattle.console_states.proofs.Going.{going-sees, pending-along, pending-is, pending-move, tap-pending}
-pub use Rattle.console_states.proofs.GoingBack.{searched-back}
+pub use Rattle.console_states.proofs.GoingBack.{push-reversed, searched-back}
 pub use Rattle.console_states.proofs.Growing.{scroll-left}
 pub use Rattle.console_states.proofs.KeyLists.{keys-with, keys-without, read-below}
-pub use Rattle.console_states.proofs.Looking.{entry-at, push-reversed}
 pub use Rattle.console_states.proofs.Reaching.{ended-alone, met-alone, reaches-more}
 pub use Rattle.console_states.proofs.Results.{ok-then, on_ok-then}
 pub use Rattle.console_states.proofs.Returning.{home-start, move-met, near-is_home, near-met}
 pub use Rattle.console_states.proofs.SameStates.{are_same, same-tells, tells-same}
 pub use Rattle.console_states.proofs.Scripts.{Reached, holder-pressed, reached-more}
 pub use Rattle.console_states.proofs.Searching.{all-done, place_last, presses-map, same_entry, steps-to}
-pub use Rattle.console_states.proofs.Seeing.{admitted-before, admitted-spared, keeps-held}
-pub use Rattle.console_states.proofs.Seeing.{sights_are_reachable, stands-in, taken-dead, takes-pending}
+pub use Rattle.console_states.proofs.Seeing.{admitted-before, admitted-spared, keeps-held, sights_are_reachable}
+pub use Rattle.console_states.proofs.Seeing.{stands-in, taken-dead, takes-pending}
 pub use Rattle.console_states.proofs.Shown.{IsShort, short-admitted, short-along, short-start, short-tap}
 pub use Rattle.console_states.proofs.Sparing.{AreSpared, IsKeptBelow, stays, stays-on}
-pub use Rattle.console_states.proofs.Standing.{hold-self, idle-none, other-remembered, pressed-look}
-pub use Rattle.console_states.proofs.Standing.{stands-from, stands-move, stands-reset, stands-start}
+pub use Rattle.console_states.proofs.Standing.{hold-self, idle-none, other-remembered, pressed-look, stands-from}
+pub use Rattle.console_states.proofs.Standing.{stands-move, stands-reset, stands-start}
 pub use Rattle.console_states.proofs.Staying.{KeepsHeld, LeadsOn, Stays, emptied, emptied-kept, emptied-none}
 pub use Rattle.console_states.proofs.Staying.{stays-press, stays-release}
 pub use Rattle.console_states.proofs.Tapping.{dead-tapped, exact-action, exact-character, stands-tapped}
-pub use Rattle.console_states.proofs.Unscrolled.{leaves-scroll_or_turns, locks-near, moves-unscrolled}
-pub use Rattle.console_states.proofs.Unscrolled.{same-scrolled, same_moved, same_states, scroll-moved}
-pub use Rattle.console_states.proofs.Visible.{all-seen, any-member, same-truth, sees-all, sights-some}
-pub use Rattle.console_states.proofs.Visible.{some-member}
+pub use Rattle.console_states.proofs.Unscrolled.{leaves-scroll_or_turns, locks-near, moves-unscrolled, same-scrolled}
+pub use Rattle.console_states.proofs.Unscrolled.{same_moved, same_states, scroll-moved}
+pub use Rattle.console_states.proofs.Visible.{all-seen, any-member, same-truth, sees-all, sights-some, some-member}
 pub use Rattle.console_states.proofs.Visits.{home-near, near-path, path-first, press-presses, press-turns}
 pub use Rattle.console_states.proofs.Visits.{press-turns_none}

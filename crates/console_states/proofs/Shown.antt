@@ -1,17 +1,16 @@
 -- What can be seen is seen by a press after a clean list of presses and releases.
-use Rattle.console_states.proofs.Common.{◌≡◌, ◌<◌, ℕ, true, List, [], ◌∷◌, ◌++◌, All, Some, None, refl, ap}
-use Rattle.console_states.proofs.Common.{subst, ◌∙◌, append_assoc, false≢true, All-nil, All-cons, none-some, MapValue}
-use Rattle.console_states.proofs.Common.{Modifier, Act, Char, Event, Press, Release, Move, Hold, Turn, LetGo, Exchange}
-use Rattle.console_states.proofs.Common.{Sight, between, resolved, pressed, HasNoLoads, IsNoLoad, Under, alone, State}
-use Rattle.console_states.proofs.Common.{start, IsIdle, IsMove, IsPath, IsPathFrom, look_in, state_after, state_from}
+use Rattle.console_states.proofs.Common.{◌≡◌, ◌<◌, ℕ, true, List, [], ◌∷◌, ◌++◌, All, Some, None, refl, ap, subst, ◌∙◌}
+use Rattle.console_states.proofs.Common.{append_assoc, false≢true, All-nil, All-cons, none-some, MapValue, Modifier}
+use Rattle.console_states.proofs.Common.{Act, Char, Event, Press, Release, Move, Hold, Turn, LetGo, Exchange, Sight}
+use Rattle.console_states.proofs.Common.{between, resolved, pressed, HasNoLoads, IsNoLoad, Under, alone, State, start}
+use Rattle.console_states.proofs.Common.{IsIdle, IsMove, IsPath, IsPathFrom, look_in, state_after, state_from}
 use Rattle.console_states.proofs.Common.{events_along, events_of_move, pending, remembered, look_after, IsAdmitted}
 use Rattle.console_states.proofs.Common.{IsClean, IsPendingFor, SeesBy, SeesNext, selection_of, ReleasesPressedKeys}
-use Rattle.console_states.proofs.Common.{Stands, rules}
+use Rattle.console_states.proofs.Common.{Stands, rules, pending-start, resolved-start}
 use Rattle.console_states.specs.Sights.{ReachableIsSeen}
 use Rattle.console_states.specs.Sticking.{IsPressOrRelease}
 use Rattle.console_states.proofs.Behind.{path-split}
 use Rattle.console_states.proofs.Going.{going-sees, pending-along, tap-pending}
-use Rattle.console_core.proofs.Shared.{pending-start, resolved-start}
 use Rattle.console_states.proofs.Scripts.{holder-pressed}
 use Rattle.console_states.proofs.Standing.{idle-none, stands-from, stands-start}
 use Rattle.console_states.proofs.Tapping.{dead-tapped}

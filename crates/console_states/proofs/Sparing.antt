@@ -1,25 +1,17 @@
 -- Whatever presses, releases, resets and loads come, a console goes on from states that moves lead to by as many
 -- presses.
-use Rattle.console_states.proofs.Common.{suc, ◌≡◌, ℕ, ◌+◌, ◌<◌, ◌≤◌, true, false, not, List}
-use Rattle.console_states.proofs.Common.{[], ◌∷◌, refl, ap, subst, sym, ◌∙◌, inl, inr}
-use Rattle.console_states.proofs.Common.{arith, cases_Bool, cases_lt, true≢false}
-use Rattle.console_states.proofs.Common.{false_from_ne_true, All-head, All-tail, append-nil}
-use Rattle.console_states.proofs.Common.{◌++◌, MapValue}
-use Rattle.console_states.proofs.Common.{ResolvedEvent, on, remembered}
-use Rattle.console_states.proofs.Common.{look}
-use Rattle.console_states.proofs.Common.{ReleasedKey, Maps, in_force, resolved, is_on_after}
-use Rattle.console_states.proofs.Common.{is_second_in_force, HasKey, HasKeys, IsNoLoad, IsQuiet, Under, State}
-use Rattle.console_states.proofs.Common.{start}
-use Rattle.console_states.proofs.Common.{map_of, map_in, Holds}
-use Rattle.console_states.proofs.Common.{next_map, IsMove, IsForgetful, moved}
-use Rattle.console_states.proofs.Common.{presses_of, IsClean, Admits, presses, Follows, IsOffOnceQuiet}
-use Rattle.console_states.proofs.Common.{Modifier}
-use Rattle.console_states.proofs.Common.{Char}
-use Rattle.console_states.proofs.Common.{Event, Press, Release, Reset, Load, Move, Hold, Turn, LetGo, Exchange}
-use Rattle.console_states.proofs.Common.{rules}
+use Rattle.console_states.proofs.Common.{suc, ◌≡◌, ℕ, ◌+◌, ◌<◌, ◌≤◌, true, false, not, List, [], ◌∷◌, refl, ap, subst}
+use Rattle.console_states.proofs.Common.{sym, ◌∙◌, inl, inr, arith, cases_Bool, cases_lt, true≢false}
+use Rattle.console_states.proofs.Common.{false_from_ne_true, All-head, All-tail, append-nil, ◌++◌, MapValue}
+use Rattle.console_states.proofs.Common.{ResolvedEvent, on, remembered, look, ReleasedKey, Maps, in_force, resolved}
+use Rattle.console_states.proofs.Common.{is_on_after, is_second_in_force, HasKey, HasKeys, IsNoLoad, IsQuiet, Under}
+use Rattle.console_states.proofs.Common.{State, start, map_of, map_in, Holds, next_map, IsMove, IsForgetful, moved}
+use Rattle.console_states.proofs.Common.{presses_of, IsClean, Admits, presses, Follows, IsOffOnceQuiet, Modifier, Char}
+use Rattle.console_states.proofs.Common.{Event, Press, Release, Reset, Load, Move, Hold, Turn, LetGo, Exchange, rules}
+use Rattle.console_states.proofs.Common.{resolved-more, resolved-start}
 use Rattle.console_core.specs.Headline.{IsOnOnlyWhilePressed}
 use Rattle.console_core.specs.Resolved.{resolve}
-use Rattle.console_core.proofs.Shared.{borne-pressed, resolved-more, resolved-start}
+use Rattle.console_core.proofs.Shared.{borne-pressed}
 use Rattle.console_states.proofs.Following.{follows-look, some_of}
 use Rattle.console_states.proofs.Staying.{Stays, KeepsLetGo, LeadsOn, KeepsHeld, stays-press}
 use Rattle.console_states.proofs.Staying.{stays-release, stays-reset, KeepsExchange, stays-load, follows-start}

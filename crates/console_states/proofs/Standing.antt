@@ -1,34 +1,25 @@
 -- The events along a path lead a console to the state of the path.
-use Rattle.console_states.proofs.Common.{◌≡◌, ℕ, ◌<◌, Bool, true, false, ◌&&◌, ◌||◌, not, List}
-use Rattle.console_states.proofs.Common.{[], ◌∷◌, ◌++◌, Some, None, refl, ap, subst, sym, ◌∙◌, inl, inr}
-use Rattle.console_states.proofs.Common.{if◌then◌else◌, append_assoc, ◌==◌, eqb-true, eq-eqb, cases_Bool}
-use Rattle.console_states.proofs.Common.{true≢false}
-use Rattle.console_states.proofs.Common.{false≢true, All-nil}
-use Rattle.console_states.proofs.Common.{All-cons, none-some, same_Some, same_modifier, same_lock}
-use Rattle.console_states.proofs.Common.{MapValue, same_action-refl, none_unless}
-use Rattle.console_states.proofs.Common.{ResolvedEvent, remembered, taken_over, is_this_action, resolve_press}
-use Rattle.console_states.proofs.Common.{PressedAction, ReleasedKey, WasLoaded, resolved}
-use Rattle.console_states.proofs.Common.{is_second_in_force, pressed, HasKey, HasKeys, HasNoLoads}
-use Rattle.console_states.proofs.Common.{between, is_locked_after, Under, State, start, map_of, look_in, Holds}
-use Rattle.console_states.proofs.Common.{IsIdle}
-use Rattle.console_states.proofs.Common.{with_holder, with_lock_turned, exchanged, IsFree, IsMove, moved}
-use Rattle.console_states.proofs.Common.{state_after, IsPath, events_of_move, events_along}
-use Rattle.console_states.proofs.Common.{state_from, IsPathFrom, alone}
-use Rattle.console_states.proofs.Common.{Follows, HoldsSome, Exact}
-use Rattle.console_states.proofs.Common.{Stands, Action, Lock, Modifier}
-use Rattle.console_states.proofs.Common.{Cell, Act, Event, Press}
-use Rattle.console_states.proofs.Common.{Release, Reset, Load, Move, Hold, Turn, LetGo, Exchange, rules}
+use Rattle.console_states.proofs.Common.{◌≡◌, ℕ, ◌<◌, Bool, true, false, ◌&&◌, ◌||◌, not, List, [], ◌∷◌, ◌++◌, Some}
+use Rattle.console_states.proofs.Common.{None, refl, ap, subst, sym, ◌∙◌, inl, inr, if◌then◌else◌, append_assoc, ◌==◌}
+use Rattle.console_states.proofs.Common.{eqb-true, eq-eqb, cases_Bool, true≢false, false≢true, All-nil, All-cons}
+use Rattle.console_states.proofs.Common.{none-some, same_Some, same_modifier, same_lock, MapValue, same_action-refl}
+use Rattle.console_states.proofs.Common.{none_unless, ResolvedEvent, remembered, taken_over, is_this_action}
+use Rattle.console_states.proofs.Common.{resolve_press, PressedAction, ReleasedKey, WasLoaded, resolved}
+use Rattle.console_states.proofs.Common.{is_second_in_force, pressed, HasKey, HasKeys, HasNoLoads, between}
+use Rattle.console_states.proofs.Common.{is_locked_after, Under, State, start, map_of, look_in, Holds, IsIdle}
+use Rattle.console_states.proofs.Common.{with_holder, with_lock_turned, exchanged, IsFree, IsMove, moved, state_after}
+use Rattle.console_states.proofs.Common.{IsPath, events_of_move, events_along, state_from, IsPathFrom, alone, Follows}
+use Rattle.console_states.proofs.Common.{HoldsSome, Exact, Stands, Action, Lock, Modifier, Cell, Act, Event, Press}
+use Rattle.console_states.proofs.Common.{Release, Reset, Load, Move, Hold, Turn, LetGo, Exchange, rules, held-action}
+use Rattle.console_states.proofs.Common.{held-release, pressed-press, remembered-action, resolved-more, resolved-start}
 use Rattle.keymap_core.proofs.Shared.{option_or-none}
 use Rattle.console_states.specs.Moves.{free_with}
-use Rattle.console_core.proofs.Shared.{held-action, held-load, held-release, held-reset, held-start}
-use Rattle.console_core.proofs.Shared.{locked-reset, no_loads-first, pressed-load, pressed-press}
-use Rattle.console_core.proofs.Shared.{pressed-release, pressed-reset, pressed-start, remembered-action}
-use Rattle.console_core.proofs.Shared.{remembered-load, remembered-release, remembered-reset}
-use Rattle.console_core.proofs.Shared.{remembered-start, resolved-more, resolved-start}
-use Rattle.console_states.proofs.Following.{follows-look, follows-hold, follows-turn, follows-let_go}
-use Rattle.console_states.proofs.Staying.{follows-start}
-use Rattle.console_states.proofs.Following.{follows-release, takes, same_mods}
-use Rattle.console_states.proofs.Staying.{follows-load}
+use Rattle.console_core.proofs.Shared.{held-load, held-reset, held-start, locked-reset, no_loads-first, pressed-load}
+use Rattle.console_core.proofs.Shared.{pressed-release, pressed-reset, pressed-start, remembered-load}
+use Rattle.console_core.proofs.Shared.{remembered-release, remembered-reset, remembered-start}
+use Rattle.console_states.proofs.Following.{follows-look, follows-hold, follows-turn, follows-let_go, follows-release}
+use Rattle.console_states.proofs.Following.{takes, same_mods}
+use Rattle.console_states.proofs.Staying.{follows-start, follows-load}
 use Rattle.keymap_core.specs.declared.action.Action.TheVariants as act
 use Rattle.keymap_core.specs.declared.action.Holding.TheVariants as holding
 

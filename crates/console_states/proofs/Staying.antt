@@ -1,25 +1,17 @@
 -- In sets of states that the moves keep a console stays whatever one event comes.
-use Rattle.console_states.proofs.Common.{◌≡◌, ℕ, ◌<◌, Bool, true, false, not, List}
-use Rattle.console_states.proofs.Common.{none-some, [], ◌∷◌, Option, Some, None, refl, ap, sym, ◌∙◌, inl, inr}
-use Rattle.console_states.proofs.Common.{cases_Bool}
-use Rattle.console_states.proofs.Common.{holding_action, MapValue, same_action-refl}
-use Rattle.console_states.proofs.Common.{ResolvedEvent, held, locked, remembered, taken_over}
-use Rattle.console_states.proofs.Common.{is_this_action, resolve_press, PressedAction}
-use Rattle.console_states.proofs.Common.{ReleasedKey, WasLoaded}
-use Rattle.console_states.proofs.Common.{Under, State, start}
-use Rattle.console_states.proofs.Common.{look_in, Holds, with_holder, with_lock_turned}
-use Rattle.console_states.proofs.Common.{exchanged, next_map, IsFree, IsMove, HolderForgets}
-use Rattle.console_states.proofs.Common.{Follows}
-use Rattle.console_states.proofs.Common.{is_some, Action, Lock, Modifier, LeftShift, RightShift, LeftControl}
-use Rattle.console_states.proofs.Common.{RightControl, LeftAlt, RightAlt, AltShift, Meta, Holding, Cell, Char, Act}
-use Rattle.console_states.proofs.Common.{Hold, Turn, Exchange, rules}
+use Rattle.console_states.proofs.Common.{◌≡◌, ℕ, ◌<◌, Bool, true, false, not, List, none-some, [], ◌∷◌, Option, Some}
+use Rattle.console_states.proofs.Common.{None, refl, ap, sym, ◌∙◌, inl, inr, cases_Bool, holding_action, MapValue}
+use Rattle.console_states.proofs.Common.{ResolvedEvent, held, locked, remembered, taken_over, is_this_action}
+use Rattle.console_states.proofs.Common.{resolve_press, PressedAction, ReleasedKey, WasLoaded, Under, State, start}
+use Rattle.console_states.proofs.Common.{look_in, Holds, with_holder, with_lock_turned, exchanged, next_map, IsFree}
+use Rattle.console_states.proofs.Common.{IsMove, HolderForgets, Follows, is_some, Action, Lock, Modifier, LeftShift}
+use Rattle.console_states.proofs.Common.{RightShift, LeftControl, RightControl, LeftAlt, RightAlt, AltShift, Meta}
+use Rattle.console_states.proofs.Common.{Holding, Cell, Char, Act, Hold, Turn, Exchange, rules}
 use Rattle.console_core.specs.Resolved.ResolvedEvent.{WasReset}
-use Rattle.console_core.proofs.Shared.{held-load, held-reset, held-start, locked-load, locked-reset}
-use Rattle.console_core.proofs.Shared.{locked-start, taken-holding}
+use Rattle.console_core.proofs.Shared.{held-load, held-reset, held-start, locked-load, locked-reset, locked-start}
 use Rattle.console_states.proofs.Unscrolled.{same_states}
 use Rattle.console_states.proofs.Following.{same_mods, some_mod_lock, kind_of, follows-character, follows-nothing}
-use Rattle.console_states.proofs.Following.{taken-over}
-use Rattle.console_states.proofs.Following.{holder-takes, follows-hold, follows-again, follows-turn}
+use Rattle.console_states.proofs.Following.{taken-over, holder-takes, follows-hold, follows-again, follows-turn}
 use Rattle.console_states.proofs.Following.{follows-down, follows-let_go, follows-release}
 use Rattle.keymap_core.specs.declared.action.Action.TheVariants as act
 use Rattle.keymap_core.specs.declared.action.Holding.TheVariants as holding

@@ -1,13 +1,11 @@
 -- A tap of a key that looks up a character, or an action that nothing holds, leaves the console in its state.
-use Rattle.console_states.proofs.Common.{◌≡◌, ◌<◌, ◌∙◌, ℕ, false, List, ◌∷◌, None, refl, ap}
-use Rattle.console_states.proofs.Common.{inl, inr, cases_Bool, eq-eqb, All-cons, same_action, holding_action, rules}
-use Rattle.console_states.proofs.Common.{key_count, Action, Holding, Modifier, Cell, Act, Event, Press, Release}
-use Rattle.console_states.proofs.Common.{ResolvedEvent, remembered, taken_over, is_this_action, resolve_press}
-use Rattle.console_states.proofs.Common.{PressedCharacter, PressedAction, ReleasedKey, resolved, Under, State, IsIdle}
-use Rattle.console_states.proofs.Common.{look_in, Exact, Stands}
-use Rattle.console_core.specs.Resolved.{unless_nop}
-use Rattle.console_core.proofs.Shared.{held-action, held-character, held-release, remembered-action}
-use Rattle.console_core.proofs.Shared.{remembered-character, resolved-more}
+use Rattle.console_states.proofs.Common.{◌≡◌, ◌<◌, ◌∙◌, ℕ, false, List, ◌∷◌, None, refl, ap, inl, inr, cases_Bool}
+use Rattle.console_states.proofs.Common.{eq-eqb, All-cons, same_action, holding_action, rules, key_count, Action}
+use Rattle.console_states.proofs.Common.{Holding, Modifier, Cell, Act, Event, Press, Release, ResolvedEvent, remembered}
+use Rattle.console_states.proofs.Common.{taken_over, is_this_action, resolve_press, PressedCharacter, PressedAction}
+use Rattle.console_states.proofs.Common.{ReleasedKey, resolved, Under, State, IsIdle, look_in, Exact, Stands}
+use Rattle.console_states.proofs.Common.{unless_nop, held-action, held-character, held-release, remembered-action}
+use Rattle.console_states.proofs.Common.{remembered-character, resolved-more}
 use Rattle.console_states.proofs.Standing.{tap-only, idle-none, other-remembered, pressed-look, tapped-pressed}
 use Rattle.console_states.proofs.Following.{follows-character, follows-nothing, follows-release, not_holding}
 use Rattle.keymap_core.specs.declared.action.Action.TheVariants as act

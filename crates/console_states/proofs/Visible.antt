@@ -2,8 +2,8 @@
 use Rattle.console_states.proofs.Common.{suc, ◌≡◌, inl, inr, ℕ, ◌<◌, Bool, true, false, ◌&&◌, List, [], ◌∷◌, refl, ap}
 use Rattle.console_states.proofs.Common.{subst, sym, ◌∙◌, arith, ◌==◌, Contains, list_any, and_parts, eqb-true, eq-eqb}
 use Rattle.console_states.proofs.Common.{true≢false, Cell, Char, Act, Selection, Sight, Offer, Sights, MapValue}
-use Rattle.console_states.proofs.Common.{key_count, alone, state_after, look_selected, SeesBy, is_selected}
-use Rattle.console_states.proofs.Common.{can_see, AreSightsOf, IsReachable, selection_of, rules}
+use Rattle.console_states.proofs.Common.{key_count, alone, state_after, look_selected, SeesBy, is_selected, can_see}
+use Rattle.console_states.proofs.Common.{AreSightsOf, IsReachable, selection_of, rules}
 use Rattle.console_states.specs.Sights.{AreSomeSights}
 use Rattle.std.proofs.lemmas.Bool.{or_cases}
 use Rattle.std.proofs.Common.{◌%◌}

@@ -4,9 +4,9 @@ use Rattle.console_states.proofs.Common.{refl, ap, sym, ◌∙◌, true≢false,
 use Rattle.console_states.proofs.Common.{same_action, MapValue, same_action-true, ResolvedEvent, locked, remembered}
 use Rattle.console_states.proofs.Common.{taken_over, PressedAction, between, resolved, is_locked_after, pressed, Under}
 use Rattle.console_states.proofs.Common.{alone, State, start, look_in, IsIdle, state_from, IsPathFrom, with_lock_turned}
-use Rattle.console_states.proofs.Common.{IsHome, HoldsSome, Stands, unscrolled, Action, Lock}
-use Rattle.console_states.proofs.Common.{Cell, Char, Act, Event, Press, Move, Hold, Turn, LetGo, Exchange}
-use Rattle.console_core.proofs.Shared.{locked-action, locked-character, pressed-press}
+use Rattle.console_states.proofs.Common.{IsHome, HoldsSome, Stands, unscrolled, Action, Lock, Cell, Char, Act, Event}
+use Rattle.console_states.proofs.Common.{Press, Move, Hold, Turn, LetGo, Exchange, locked-action, locked-character}
+use Rattle.console_states.proofs.Common.{pressed-press}
 use Rattle.console_states.proofs.Standing.{idle-none, pressed-look}
 use Rattle.console_states.proofs.Following.{follows-turn}
 use Rattle.console_states.proofs.Unscrolled.{moves-unscrolled, same_moved, same_states}

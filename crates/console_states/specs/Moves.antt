@@ -3,6 +3,7 @@
 use Rattle.std.specs.Prelude.{◌≡◌, ℕ, ◌+◌, ◌<◌, Bool, false, true, ◌&&◌, not, List, [], ◌∷◌, ◌++◌, Option, None, Some}
 use Rattle.std.specs.Prelude.{if◌then◌else◌, slice_index_or}
 use Rattle.std.specs.Option.{is_some}
+use Prim.Native.Nat.{suc, zero}
 use Rattle.console_states.specs.Types.{Modifier, Lock, Cell, Char, Act, Event, Press, Release, Load, Move, Hold, Turn}
 use Rattle.console_states.specs.Types.{LetGo, Exchange, Action, Caps, Num, Scroll, Alt}
 use Rattle.keymap_core.specs.declared.action.Action.TheVariants as act
@@ -35,10 +36,19 @@ pub record State : Type 0 where
   pub is_locked : Lock → Bool
   pub is_second : Bool
 
+-- the byte that tells who holds a modifier: 0 for no key, and else one more than the key
+abbrev pub number_of : Option ℕ → ℕ
+number_of None = 0
+number_of (Some k) = suc k
+
+abbrev pub key_of : ℕ → Option ℕ
+key_of zero = None
+key_of (suc k) = Some k
+
 -- the state that the tables are
 abbrev pub state_of : Held → State
 state_of x = record {
-  holder = λ i. slice_index_or x.holders (modifier_index i) None;
+  holder = λ i. key_of (slice_index_or x.holders (modifier_index i) 0);
   is_locked = λ l. slice_index_or x.locks (lock_index l) false;
   is_second = x.is_second;
 }

@@ -1,5 +1,6 @@
 //! The states that the search for sticking modifiers goes over, and the moves between them.
-ghost use Rattle.std.specs.Prelude.{◌≡◌, length};
+ghost use Rattle.std.specs.Prelude.{◌≡◌, ◌≤◌, length, All};
+ghost use Rattle.keymap_core.specs.Numbers.{key_count};
 
 mod moves;
 
@@ -14,14 +15,16 @@ pub struct Keymaps<'m> {
 }
 
 /// Which key holds each modifier on, which locks are on, and whether the second keymap is in force. Turns of the scroll
-/// lock, which picks no cell, are left out.
+/// lock, which picks no cell, are left out. A modifier's holder is a byte, so that states are quickly told apart: 0 for
+/// none, and else one more than the key's code.
 #[derive(Clone, Copy, Debug, PartialEq, Eq)]
 pub struct Held {
-    holders: [Option<KeyCode>; 8],
+    holders: [u8; 8],
     locks: [bool; 4],
     is_second: bool,
     ghost holders_len: { length holders ≡ 8 },
     ghost locks_len: { length locks ≡ 4 },
+    ghost are_numbers: { All (λ n. n ≤ key_count) holders },
 }
 
 /// Presses, releases and loads that lead from one state to another.

@@ -1,8 +1,7 @@
 -- What an exploration keeps, and the events of one tap of a key. Mirrors `Explored` of src/explored.rt, src/ways.rt and
 -- src/typing.rt.
 use Rattle.std.specs.Prelude.{◌≡◌, ◌≤◌, ℕ, Bool, true, false, List, [], ◌∷◌, ◌++◌, length, reverse, None, Some}
-use Rattle.std.specs.Prelude.{slice_get}
-use Rattle.std.specs.Prelude.{Option, map}
+use Rattle.std.specs.Prelude.{slice_get, Option, map}
 use Rattle.keymap_core.specs.declared.action.Lock.TheVariants.{Scroll}
 use Rattle.keymap_core.specs.Maps.{MapValue}
 use Rattle.console_scripts.specs.Types.{Event, Press, Release, Move, Answer}

@@ -1,10 +1,9 @@
 -- How the events of a visit lead a console, step by step. Mirrors src/showing.rt and src/explorer.rt.
 use Rattle.std.specs.Prelude.{◌≡◌, ◌⊎◌, ℕ, ◌<◌, true, false, List, ◌++◌, Option, None, Some, slice_get, IfSome}
 use Rattle.std.specs.Map.{keys_of}
-use Rattle.std.specs.Option.{option_map}
 use Rattle.keymap_core.specs.Maps.{MapValue}
 use Rattle.keymap_core.specs.Numbers.{key_count}
-use Rattle.console_scripts.specs.Types.{Caps, Num, Scroll, Alt, Event, Selection, Sight, Turn}
+use Rattle.console_scripts.specs.Types.{Caps, Num, Scroll, Alt, Event, Sight, Turn}
 use Rattle.console_scripts.specs.declared.explored.Explored.{Explored}
 use Rattle.console_scripts.specs.declared.explored.KeyAt.{KeyAt}
 use Rattle.console_scripts.specs.declared.explorer.Aim.{Aim}

@@ -1,5 +1,5 @@
 //! Where presses, releases and loads lead from a state of the search, and what they are as events.
-ghost use Rattle.std.specs.Prelude.{◌≡◌, ◌<◌, ℕ, false, true, None, ◌||◌, ◌&&◌, ◌++◌, reverse, OnOk};
+ghost use Rattle.std.specs.Prelude.{◌≡◌, ◌<◌, ◌≤◌, ℕ, false, true, None, ◌||◌, ◌&&◌, ◌++◌, reverse, OnOk};
 ghost use Rattle.std.specs.Prelude.{MatchOption, IfSome};
 ghost use Rattle.keymap_core.specs.Borne.{is_borne};
 ghost use Rattle.keymap_core.specs.Actions.{modifiers};
@@ -11,7 +11,7 @@ ghost use Rattle.keymap_core.specs.declared.action.Lock.{Lock as LockValue};
 ghost use Rattle.keymap_core.specs.declared.action.Action.TheVariants.{DeadKey, Lock as LockAction};
 ghost use Rattle.keymap_core.specs.declared.entry.Cell.TheVariants.{Act};
 ghost use Rattle.console_states.specs.Moves.{Under, alone, start as start_state, is_held as is_held_in};
-ghost use Rattle.console_states.specs.Moves.{look_in, IsIdle};
+ghost use Rattle.console_states.specs.Moves.{look_in, IsIdle, key_of as key_of_number, number_of as number_of_key};
 ghost use Rattle.console_states.specs.Moves.{map_in, next_map, exchanged as exchanged_in, IsFree, free_with};
 ghost use Rattle.console_states.specs.Moves.{with_holder as with_holder_in, with_lock_turned, HolderForgets};
 ghost use Rattle.console_states.specs.Moves.{HaveSameLocks, IsForgetful, IsRepeated, IsSteady};
@@ -20,7 +20,7 @@ ghost use Rattle.console_states.specs.declared.held.Move.TheVariants.{Exchange a
 ghost use Rattle.console_states.specs.Sights.{selection_of, Offers};
 ghost use Rattle.console_states.specs.Returning.{IsHome, but_scroll, freed};
 ghost use Rattle.console_states.specs.Searching.{state_of, under_of, StepsTo, PressesLead, IsStep};
-ghost use Rattle.console_states.specs.Inner.HeldBytes.{holder_number, bytes_of, held-equal, bool_equal, same-bytes};
+ghost use Rattle.console_states.specs.Inner.HeldBytes.{bytes_of, same-bytes};
 
 use super::{Held, Keymaps, Move, Step};
 use crate::selection::Selection;
@@ -69,7 +69,7 @@ impl Held {
         ensures { state_of result ≡ start_state }
     {
         Held {
-            holders: [None; 8],
+            holders: [0; 8],
             locks: [false; 4],
             is_second: false,
         }
@@ -82,7 +82,7 @@ impl Held {
         ensures value { state_of result ≡ free_with (but_scroll (T.shows_locked console.now)) }
     {
         Held {
-            holders: [None; 8],
+            holders: [0; 8],
             locks: [
                 console.locked(Lock::Caps),
                 console.locked(Lock::Num),
@@ -118,7 +118,7 @@ impl Held {
     pub fn holder(&self, modifier: Modifier) -> Option<KeyCode>
         ensures { result ≡ (state_of self.now).holder modifier }
     {
-        self.holders[modifier.index()]
+        key_of(self.holders[modifier.index()])
     }
 
     fn is_held(&self, modifier: Modifier) -> bool
@@ -137,7 +137,7 @@ impl Held {
         ensures { state_of result ≡ with_holder_in (state_of self.now) modifier holder }
     {
         let mut next = *self;
-        next.holders[modifier.index()] = holder;
+        next.holders[modifier.index()] = number_of(holder);
         next
     }
 
@@ -385,7 +385,7 @@ impl Held {
         ensures { state_of result ≡ freed (state_of self.now) }
     {
         Held {
-            holders: [None; 8],
+            holders: [0; 8],
             locks: self.locks,
             is_second: self.is_second,
         }
@@ -473,52 +473,53 @@ impl Held {
     }
 }
 
-/// The number of the key, or the count of keys for none.
-fn number(holder: Option<KeyCode>) -> u8
-    ensures { result ≡ holder_number holder }
+/// The number of the key, 0 for none.
+fn number_of(holder: Option<KeyCode>) -> u8
+    ensures value { result ≡ number_of_key holder }
+    ensures in_range { result ≤ key_count }
 {
     match holder {
-        Some(key) => key.get(),
-        None => KEY_COUNT as u8,
+        Some(key) => key.get() + 1,
+        None => 0,
     }
 }
 
-#[tactic(auto, using(console_core::proofs::Places::places))]
-impl Held {
-    /// What a hasher is fed: the numbers of the holders, then 1 for each lock that is on and for the second keymap in
-    /// force.
-    fn bytes(&self) -> [u8; 13]
-        ensures { result ≡ bytes_of self.now }
-    {
-        [
-            number(self.holder(Modifier::LeftShift)),
-            number(self.holder(Modifier::RightShift)),
-            number(self.holder(Modifier::LeftControl)),
-            number(self.holder(Modifier::RightControl)),
-            number(self.holder(Modifier::LeftAlt)),
-            number(self.holder(Modifier::RightAlt)),
-            number(self.holder(Modifier::AltShift)),
-            number(self.holder(Modifier::Meta)),
-            u8::from(self.is_locked(Lock::Caps)),
-            u8::from(self.is_locked(Lock::Num)),
-            u8::from(self.is_locked(Lock::Scroll)),
-            u8::from(self.is_locked(Lock::Alt)),
-            u8::from(self.is_second),
-        ]
+/// The key with the number, none for 0.
+fn key_of(number: u8) -> Option<KeyCode>
+    requires { number ≤ key_count }
+    ensures { result ≡ key_of_number number }
+{
+    if number == 0 {
+        None
+    } else {
+        Some(key_with(number - 1))
     }
 }
 
 impl Hash for Held {
     ghost use Rattle.std.specs.Prelude.{◌∷◌, []};
-    ghost use Rattle.std.proofs.Common.{ap};
-    ghost use Rattle.std.proofs.lemmas.Bool.{eqb-true};
 
     ghost hash_input = { λ h. bytes_of h ∷ [] };
 
-    ghost respects_eq = { λ x y e. ap (λ bytes. bytes ∷ [])
-        (same-bytes x y (held-equal _ _ (λ a b f. eqb-true a b f) (λ a b f. bool_equal a b f) x y e)) };
+    ghost respects_eq = { same-bytes };
 
     fn hash<H: Hasher>(&self, state: &mut H) {
-        state.write(&self.bytes());
+        let holders = &self.holders;
+        let locks = &self.locks;
+        state.write(&[
+            holders[0],
+            holders[1],
+            holders[2],
+            holders[3],
+            holders[4],
+            holders[5],
+            holders[6],
+            holders[7],
+            u8::from(locks[0]),
+            u8::from(locks[1]),
+            u8::from(locks[2]),
+            u8::from(locks[3]),
+            u8::from(self.is_second),
+        ]);
     }
 }

@@ -1,6 +1,5 @@
-use Rattle.console_scripts.proofs.Common.{reverse, subst, sym, ap, ◌∙◌, ◌+◌, Release, state_of, rules}
-use Rattle.console_states.proofs.Shared.{push-reversed}
-use Rattle.console_core.proofs.Shared.{modifier-at}
+use Rattle.console_scripts.proofs.Common.{reverse, subst, sym, ap, ◌∙◌, ◌+◌, Release, state_of, rules, push-reversed}
+use Rattle.console_scripts.proofs.Common.{modifier-at}
 use Rattle.console_scripts.proofs.Taps.{LetsGoTo, lets-go-first, lets-go-some, lets-go-none, lets-go-all}
 use Rattle.console_scripts.proofs.explored.let_all_go.Goals.{in-Some+in_ok-push, in_default}
 use Rattle.console_scripts.proofs.explored.let_all_go.Goals as goal

@@ -1,6 +1,5 @@
-use Rattle.console_scripts.proofs.Common.{reverse, ap, subst, ◌∙◌, Press, state_of, IsRepeated}
+use Rattle.console_scripts.proofs.Common.{reverse, ap, subst, ◌∙◌, Press, state_of, IsRepeated, push-reversed}
 use Rattle.console_scripts.proofs.Leading.{repeat-leads}
-use Rattle.console_states.proofs.Shared.{push-reversed}
 use Rattle.console_scripts.proofs.explorer.press_steady.Goals as goal
 
 pub returns-then-is_repeated : goal.returns-then-is_repeated

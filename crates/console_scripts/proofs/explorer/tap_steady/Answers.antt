@@ -1,6 +1,5 @@
-use Rattle.console_scripts.proofs.Common.{rules}
+use Rattle.console_scripts.proofs.Common.{rules, on_ok-then}
 use Rattle.console_scripts.proofs.Leading.{steady-leads}
-use Rattle.console_states.proofs.Shared.{on_ok-then}
 use Rattle.console_scripts.proofs.explorer.tap_steady.Goals as goal
 
 pub returns-in-Some : goal.returns-in-Some

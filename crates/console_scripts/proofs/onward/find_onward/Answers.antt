@@ -1,6 +1,4 @@
-use Rattle.console_scripts.proofs.Common.{◌∙◌, IfOk, but_scroll, map_of_explored, subst}
-use Rattle.console_states.specs.Moves.{free_with}
-use Rattle.console_scripts.specs.Visiting.{IsOnward}
+use Rattle.console_scripts.proofs.Common.{◌∙◌, IfOk, but_scroll, map_of_explored, subst, free_with, IsOnward}
 use Rattle.console_scripts.proofs.onward.find_onward.Goals as goal
 
 pub go_onward-requires : goal.go_onward-requires

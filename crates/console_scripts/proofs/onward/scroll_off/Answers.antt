@@ -1,6 +1,5 @@
 use Rattle.console_scripts.proofs.Common.{◌≡◌, ◌∙◌, true, reverse, subst, sym, Scroll, between, is_locked_after}
-use Rattle.console_scripts.proofs.Common.{origin_in, MatchOption}
-use Rattle.console_scripts.specs.Visiting.{CannotScroll, TurnsScrollOff, resting_after}
+use Rattle.console_scripts.proofs.Common.{origin_in, MatchOption, CannotScroll, TurnsScrollOff, resting_after}
 use Rattle.std.proofs.lemmas.Result.{IfOk-weaker}
 use Rattle.console_scripts.proofs.Scrolling.{shown-resting}
 use Rattle.console_scripts.proofs.onward.scroll_off.Goals as goal

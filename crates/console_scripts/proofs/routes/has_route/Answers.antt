@@ -1,6 +1,5 @@
-use Rattle.console_scripts.proofs.Common.{rules}
+use Rattle.console_scripts.proofs.Common.{rules, is-nothing}
 use Rattle.console_scripts.proofs.Entries.{none-found, found-has}
-use Rattle.console_core.proofs.Shared.{is-nothing}
 use Rattle.console_scripts.proofs.routes.has_route.Goals as goal
 
 pub returns-clause-has : goal.returns-clause-has

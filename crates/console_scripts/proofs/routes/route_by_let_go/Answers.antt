@@ -1,6 +1,6 @@
-use Rattle.console_scripts.proofs.Common.{none_unless, IfSome, below_more, subst}
-use Rattle.console_scripts.proofs.Common.{LeadsHome, state_of, rules}
-use Rattle.console_core.proofs.Shared.{modifier-at, modifier_index-lt}
+use Rattle.console_scripts.proofs.Common.{none_unless, IfSome, below_more, subst, LeadsHome, state_of, rules}
+use Rattle.console_scripts.proofs.Common.{modifier-at}
+use Rattle.console_core.proofs.Shared.{modifier_index-lt}
 use Rattle.console_scripts.proofs.RoutesHome.{let_go-astray}
 use Rattle.console_scripts.proofs.routes.route_by_let_go.Goals as goal
 

@@ -1,5 +1,5 @@
-use Rattle.console_scripts.proofs.Common.{◌≡◌, length, inl, inr, ap, sym, subst, arith, AllLeadHome, Contains}
-use Rattle.console_scripts.proofs.Common.{state_of, under_of}
+use Rattle.console_scripts.proofs.Common.{◌≡◌, length, inl, inr, ap, sym, subst, arith, AllLeadHome, Contains, state_of}
+use Rattle.console_scripts.proofs.Common.{under_of}
 use Rattle.console_scripts.proofs.routes.routes_home.Goals as goal
 
 pub returns-then-len-clause-all : goal.returns-then-len-clause-all

@@ -1,6 +1,6 @@
 use Rattle.console_scripts.proofs.Common.{◌≡◌, ◌∷◌, ◌++◌, ◌∙◌, [], Some, Contains, Contains-append_left, Contains-push}
 use Rattle.console_scripts.proofs.Common.{Entry, ap, arith, inl, inr, same_Some, slice_get, slice_get_within, subst}
-use Rattle.console_states.proofs.Shared.{place_last}
+use Rattle.console_scripts.proofs.Common.{place_last}
 use Rattle.console_scripts.proofs.routes.states_of.Goals as goal
 
 pub loop-place-preserved : goal.loop-place-preserved

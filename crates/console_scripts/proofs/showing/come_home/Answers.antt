@@ -1,6 +1,5 @@
-use Rattle.console_scripts.proofs.Common.{ap, subst, sym, ◌∙◌, option_copied, LeadsHome, state_of, rules}
+use Rattle.console_scripts.proofs.Common.{ap, subst, sym, ◌∙◌, option_copied, LeadsHome, state_of, rules, on_ok-then}
 use Rattle.console_scripts.proofs.Entries.{found-by_state, none-found}
-use Rattle.console_states.proofs.Shared.{on_ok-then}
 use Rattle.console_scripts.proofs.showing.come_home.Goals as goal
 
 pub unreachable-requires : goal.unreachable-requires

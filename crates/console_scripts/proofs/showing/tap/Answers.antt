@@ -1,5 +1,4 @@
-use Rattle.console_scripts.proofs.Common.{rules}
-use Rattle.console_states.proofs.Shared.{push-reversed}
+use Rattle.console_scripts.proofs.Common.{rules, push-reversed}
 use Rattle.console_scripts.proofs.showing.tap.Goals as goal
 
 pub returns : goal.returns

@@ -1,7 +1,6 @@
-use Rattle.console_scripts.proofs.Common.{true, subst, ap, ◌∙◌, length, arith, below_more}
+use Rattle.console_scripts.proofs.Common.{true, subst, ap, ◌∙◌, length, arith, below_more, LacksSymbol}
 use Rattle.console_scripts.proofs.Lacking.{marked}
 use Rattle.std.proofs.lemmas.List.{length-set}
-use Rattle.console_scripts.specs.Inner.Symbols.{LacksSymbol}
 use Rattle.console_scripts.proofs.symbols.keys_with.Goals.{then-has_symbol, else-has_symbol}
 use Rattle.console_scripts.proofs.symbols.keys_with.Goals as goal
 

@@ -1,7 +1,6 @@
 -- each key below the code of which the list says that it has not lacks the symbol
-use Rattle.console_scripts.proofs.Common.{◌≡◌, ℕ, ◌<◌, false}
+use Rattle.console_scripts.proofs.Common.{◌≡◌, ℕ, ◌<◌, false, LacksSymbol}
 use Rattle.std.specs.Prelude.{length, slice_index_or}
-use Rattle.console_scripts.specs.Inner.Symbols.{LacksSymbol}
 use Rattle.console_scripts.proofs.symbols.keys_with.Given as goal
 
 abbrev pub invariant-loop-code : goal.invariant-loop-code

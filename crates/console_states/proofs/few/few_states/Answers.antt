@@ -1,5 +1,4 @@
-use Rattle.console_states.proofs.Common.{[], All-cons, All-nil, refl, subst, sym, state_of, under_of}
-use Rattle.console_states.specs.Inner.Adding.{IsLedTo}
+use Rattle.console_states.proofs.Common.{[], All-cons, All-nil, refl, subst, sym, state_of, under_of, IsLedTo}
 use Rattle.console_states.proofs.few.few_states.Goals as goal
 use Rattle.console_states.proofs.few.few_states.Goals.{in-Some+then-not-has_selection_of+in_ok-push_pressed}
 use Rattle.console_states.proofs.few.few_states.Goals.{in-Some+else-not-has_selection_of, in_default}

@@ -1,6 +1,5 @@
 -- moves lead to each of the states
-use Rattle.console_states.proofs.Common.{under_of}
-use Rattle.console_states.specs.Inner.Adding.{AreLedTo}
+use Rattle.console_states.proofs.Common.{under_of, AreLedTo}
 use Rattle.console_states.proofs.few.few_states.Given as goal
 
 abbrev pub invariant-loop-code : goal.invariant-loop-code

@@ -1,8 +1,7 @@
-use Rattle.console_states.proofs.Common.{◌<◌, length, arith, sym, subst, state_of, under_of}
+use Rattle.console_states.proofs.Common.{◌<◌, length, arith, sym, subst, state_of, under_of, IsLedTo}
 use Rattle.std.proofs.lemmas.List.{length_push}
 use Rattle.std.proofs.lemmas.List.Elements.{All-push}
 use Rattle.console_states.proofs.Offering.{led-on}
-use Rattle.console_states.specs.Inner.Adding.{IsLedTo}
 use Rattle.console_states.proofs.few.push_pressed.Goals as goal
 use Rattle.console_states.proofs.few.push_pressed.Goals.{in-Some+in_ok-push, in_default}
 

@@ -1,6 +1,5 @@
 -- moves lead to each of the states, of which there are more and more
-use Rattle.console_states.proofs.Common.{◌≤◌, length, under_of}
-use Rattle.console_states.specs.Inner.Adding.{AreLedTo}
+use Rattle.console_states.proofs.Common.{◌≤◌, length, under_of, AreLedTo}
 use Rattle.console_states.proofs.few.push_pressed.Given as goal
 
 abbrev pub invariant-loop-place : goal.invariant-loop-place

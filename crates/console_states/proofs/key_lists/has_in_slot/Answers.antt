@@ -1,6 +1,5 @@
 use Rattle.console_states.proofs.Common.{◌≡◌, length, get_or, ap, subst, ◌∙◌, refl, below_more, arith}
-use Rattle.console_states.proofs.Common.{get_or_read_under, Char}
-use Rattle.console_states.specs.Inner.KeyLists.{IsOther}
+use Rattle.console_states.proofs.Common.{get_or_read_under, Char, IsOther}
 use Rattle.keymap_core.specs.Maps.{entry_at}
 use Rattle.console_states.proofs.key_lists.has_in_slot.Goals as goal
 

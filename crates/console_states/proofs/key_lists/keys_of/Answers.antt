@@ -1,7 +1,7 @@
 use Rattle.console_states.proofs.Common.{[], ◌∷◌, ◌++◌, ap, ◌∙◌, refl, subst, arith, look_in, under_of, rules, State, ℕ}
+use Rattle.console_states.proofs.Common.{IsOther}
 use Rattle.console_states.proofs.Adding.{empty-none}
 use Rattle.console_states.proofs.KeyLists.{keys-with, keys-without}
-use Rattle.console_states.specs.Inner.KeyLists.{IsOther}
 use Rattle.console_states.proofs.key_lists.keys_of.Goals.{then-has_in_some+in_ok-push, else-has_in_some}
 use Rattle.console_states.proofs.key_lists.keys_of.Goals as goal
 

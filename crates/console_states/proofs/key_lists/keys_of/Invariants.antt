@@ -1,6 +1,5 @@
 -- the keys below the code that have a cell of the kind
-use Rattle.console_states.proofs.Common.{under_of}
-use Rattle.console_states.specs.Inner.KeyLists.{AreKeysOf}
+use Rattle.console_states.proofs.Common.{under_of, AreKeysOf}
 use Rattle.console_states.proofs.key_lists.keys_of.Given as goal
 
 abbrev pub invariant-loop-code : goal.invariant-loop-code

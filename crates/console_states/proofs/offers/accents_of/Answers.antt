@@ -1,7 +1,6 @@
-use Rattle.console_states.proofs.Common.{◌≡◌, length, arith, subst, sym, under_of, IsOfferedIn, rules}
+use Rattle.console_states.proofs.Common.{◌≡◌, length, arith, subst, sym, under_of, IsOfferedIn, rules, AreKeysOf}
+use Rattle.console_states.proofs.Common.{DeadKey}
 use Rattle.console_states.proofs.Adding.{adds-none, adds-place, enumerates}
-use Rattle.console_states.specs.Inner.KeyLists.{AreKeysOf}
-use Rattle.console_states.specs.declared.key_lists.CellKind.TheVariants.{DeadKey}
 use Rattle.console_states.proofs.offers.accents_of.Goals as goal
 
 pub loop-place-init : goal.loop-place-init
@@ -10,7 +9,7 @@ loop-place-init c = search (rules, adds-none)
 pub loop-place-preserved : goal.loop-place-preserved
 loop-place-preserved c =
     adds-place (λ a s. IsOfferedIn (under_of c.args.maps.now) s a) c.args.met.now.entries c.loop-place.place
-    c.entry-held.result c.loop-place.accents.items c.add_offers.new.accents.items c.entry-held.ensures
+    c.entry.result c.loop-place.accents.items c.add_offers.new.accents.items c.entry.ensures
     c.loop-place.invariant c.in_ok-add_offers.ensures
 
 pub add_offers-requires : goal.add_offers-requires

@@ -1,6 +1,6 @@
 use Rattle.console_states.proofs.Common.{length, arith, ◌≡◌, refl, subst, state_of, under_of, get_or_read_under, rules}
+use Rattle.console_states.proofs.Common.{AddsOffer}
 use Rattle.console_states.proofs.Adding.{AddsOffersOf, adds-none, offers-all, offers-more}
-use Rattle.console_states.specs.Inner.Adding.{AddsOffer}
 use Rattle.console_states.proofs.offers.add_offers.Goals as goal
 
 pub loop-key-init : goal.loop-key-init

@@ -1,6 +1,5 @@
 use Rattle.console_states.proofs.Common.{◌≡◌, ◌≤◌, ◌<◌, arith, length, map, subst, sym, false, Scroll, State, Contains}
-use Rattle.console_states.proofs.Common.{state_of, under_of, alone, AreOffering, HasEnded, TooMany}
-use Rattle.console_states.specs.declared.search.End.TheVariants.{Complete}
+use Rattle.console_states.proofs.Common.{state_of, under_of, alone, AreOffering, HasEnded, TooMany, Complete}
 use Rattle.console_states.proofs.Offering.{offering-off, behind-few}
 use Rattle.console_states.proofs.offers.behind.Goals as goal
 

@@ -6,10 +6,10 @@ pub returns-in-Some : goal.returns-in-Some
 returns-in-Some c =
     λ e. (
       c.loop-place.place,
-      c.entry-held.result,
-      c.entry-held.ensures,
+      c.entry.result,
+      c.entry.ensures,
       (
-        all-off (state_of c.entry-held.result.0).is_locked (c.if-not-is_any_locked.ensures.unlocked refl),
+        all-off (state_of c.entry.result.0).is_locked (c.if-not-is_any_locked.ensures.unlocked refl),
         (c.in-Some.field-0, c.in-Some.ensures.0, c.in-Some.ensures.1),
       ),
     )

@@ -1,6 +1,6 @@
-use Rattle.console_states.proofs.Common.{get_or, get_or_default, subst, Contains, state_of, under_of}
+use Rattle.console_states.proofs.Common.{get_or, get_or_default, subst, Contains, state_of, under_of, IsLedTo}
+use Rattle.console_states.proofs.Common.{OffersUnlocked}
 use Rattle.std.proofs.lemmas.List.Elements.{All-contains}
-use Rattle.console_states.specs.Inner.Adding.{IsLedTo, OffersUnlocked}
 use Rattle.console_states.proofs.Offering.{composed-push, composing-some}
 use Rattle.console_states.proofs.offers.some_offers.Goals as goal
 

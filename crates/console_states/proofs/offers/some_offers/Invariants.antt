@@ -1,5 +1,5 @@
 -- the offers of the accents below the place are composed
-use Rattle.console_states.specs.Sights.{AreComposed}
+use Rattle.console_states.proofs.Common.{AreComposed}
 use Rattle.console_states.proofs.offers.some_offers.Given as goal
 
 abbrev pub invariant-loop-accent : goal.invariant-loop-accent

@@ -1,8 +1,7 @@
 use Rattle.console_states.proofs.Common.{subst, sym, inl, inr, state_of, under_of, get_or_read_under, length, refl}
+use Rattle.console_states.proofs.Common.{AreKeysOf, DeadKey}
 use Rattle.console_states.proofs.Adding.{empty-none}
 use Rattle.console_states.proofs.Returning.{all-off}
-use Rattle.console_states.specs.Inner.KeyLists.{AreKeysOf}
-use Rattle.console_states.specs.declared.key_lists.CellKind.TheVariants.{DeadKey}
 use Rattle.console_states.proofs.offers.unlocked_accents.Goals as goal
 
 pub loop-held-init : goal.loop-held-init

@@ -1,6 +1,5 @@
-use Rattle.console_states.proofs.Common.{None, sym, ◌∙◌, insert_entry-new}
+use Rattle.console_states.proofs.Common.{None, sym, ◌∙◌, insert_entry-new, is-nothing}
 use Rattle.console_states.proofs.Beginning.{begun-new, begun-old}
-use Rattle.console_core.proofs.Shared.{is-nothing}
 use Rattle.console_states.proofs.search.add_origin.Goals as goal
 
 pub returns-in_ok-insert : goal.returns-in_ok-insert

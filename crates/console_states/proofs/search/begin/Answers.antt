@@ -1,7 +1,5 @@
 use Rattle.console_states.proofs.Common.{◌≡◌, ◌+◌, [], ◌∷◌, ◌++◌, length, map, ap, refl, subst, sym, ◌∙◌, get_or, take}
-use Rattle.console_states.proofs.Common.{take_all, take_more, get_or_read_under, state_of}
-use Rattle.console_states.specs.Searching.{IsBegun}
-use Rattle.std.proofs.lemmas.List.{map-append}
+use Rattle.console_states.proofs.Common.{take_all, take_more, get_or_read_under, state_of, IsBegun, map-append}
 use Rattle.console_states.proofs.Beginning.{begun-none}
 use Rattle.console_states.proofs.search.begin.Goals as goal
 

@@ -1,6 +1,5 @@
 -- the origins below the place were added
-use Rattle.console_states.proofs.Common.{map, take, state_of}
-use Rattle.console_states.specs.Searching.{IsBegun}
+use Rattle.console_states.proofs.Common.{map, take, state_of, IsBegun}
 use Rattle.console_states.proofs.search.begin.Given as goal
 
 abbrev pub invariant-loop-origin : goal.invariant-loop-origin

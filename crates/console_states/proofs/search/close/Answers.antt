@@ -9,13 +9,13 @@ loop-place-preserved c =
     let es = c.loop-place.met.entries in
     let now = c.meet_frees.new.met.entries in
     let n = c.loop-place.place in
-    let y = c.entry-held.result in
+    let y = c.entry.result in
     let before = c.loop-place.invariant in
     let added : AreAdded u (state_of y.0) n 0 c.args.presses es now = c.in_ok-meet_frees.ensures.added in
     let longer : length es ≤ length now = added-longer es now (added.0, added.1) in
     record {
       searched = λ origins s.
-          close-step u es now c.args.level c.args.presses n y before.order before.after c.entry-held.ensures added
+          close-step u es now c.args.level c.args.presses n y before.order before.after c.entry.ensures added
           c.in_ok-meet_frees.ensures.met (before.searched origins s);
       order = order-grows u (state_of y.0) n 0 c.args.presses c.args.level es now added before.below before.order;
       grown = grows-again c.args.met.now.entries es now before.grown (added.0, added.1);

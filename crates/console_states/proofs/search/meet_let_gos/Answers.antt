@@ -1,7 +1,7 @@
 use Rattle.console_states.proofs.Common.{ℕ, ◌<◌, None, subst, refl, arith, below_more, modifier_index, Holds}
-use Rattle.console_states.proofs.Common.{with_holder, state_of, IsMetBy}
+use Rattle.console_states.proofs.Common.{with_holder, state_of, IsMetBy, modifier-at}
 use Rattle.console_states.proofs.Growing.{added-again, met-grows}
-use Rattle.console_core.proofs.Shared.{modifier-at, modifier_index-lt}
+use Rattle.console_core.proofs.Shared.{modifier_index-lt}
 use Rattle.console_states.proofs.Searching.{steps-to}
 use Rattle.console_states.proofs.search.meet_let_gos.Goals as goal
 

@@ -1,6 +1,5 @@
-use Rattle.console_states.proofs.Common.{◌≡◌, [], ◌∷◌, ◌++◌, Some, sym, insert_entry-new, rules}
+use Rattle.console_states.proofs.Common.{◌≡◌, [], ◌∷◌, ◌++◌, Some, sym, insert_entry-new, rules, is-nothing}
 use Rattle.console_states.proofs.Searching.{meet-new, meet-old}
-use Rattle.console_core.proofs.Shared.{is-nothing}
 use Rattle.console_states.proofs.search.meet_step.Goals as goal
 
 new_entries : (c : goal.In_ok-insert)

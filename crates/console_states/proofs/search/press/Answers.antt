@@ -1,6 +1,5 @@
 use Rattle.console_states.proofs.Common.{◌≤◌, ◌<◌, ◌+◌, [], length, sym, arith, append-nil, state_of, under_of}
-use Rattle.console_states.proofs.Common.{AreAdded}
-use Rattle.console_states.proofs.Common.{rules}
+use Rattle.console_states.proofs.Common.{AreAdded, rules}
 use Rattle.console_states.proofs.Growing.{added-longer, grows-again}
 use Rattle.console_states.proofs.Searching.{press-step, order-grows, order-next, searched-both}
 use Rattle.console_states.proofs.search.press.Goals as goal
@@ -20,14 +19,14 @@ loop-place-preserved c =
     let now = c.meet_presses.new.met.entries in
     let n = c.loop-place.place in
     let p = c.args.presses in
-    let y = c.entry-held.result in
+    let y = c.entry.result in
     let before = c.loop-place.invariant in
     let added : AreAdded u (state_of y.0) n 1 (p + 1) es now = c.in_ok-meet_presses.ensures.added in
     let le : c.args.level ≤ n = omega (arith, c.loop-place.auto.place) in
     let lt : n < length old = omega (arith, c.loop-place-test.true, c.len-end.ensures.len) in
     record {
       searched = λ origins s.
-          press-step u old es now c.args.level p n y c.requires.order before.grown le lt c.entry-held.ensures added
+          press-step u old es now c.args.level p n y c.requires.order before.grown le lt c.entry.ensures added
           c.in_ok-meet_presses.ensures.met (before.searched origins s);
       order =
           order-grows u (state_of y.0) n 1 (p + 1) (length old) es now added (added-longer old es before.grown)

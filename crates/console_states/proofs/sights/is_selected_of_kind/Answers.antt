@@ -1,5 +1,5 @@
-use Rattle.console_states.proofs.Common.{false_from_ne_true, ◌<◌, length, refl, subst, sym, arith, below_more}
-use Rattle.console_states.proofs.Common.{◌∙◌, get_or_default, SeesBy, is_selected, rules}
+use Rattle.console_states.proofs.Common.{false_from_ne_true, ◌<◌, length, refl, subst, sym, arith, below_more, ◌∙◌}
+use Rattle.console_states.proofs.Common.{get_or_default, SeesBy, is_selected, rules}
 use Rattle.console_states.proofs.Visible.{selected-true, true-selected}
 use Rattle.console_states.proofs.sights.is_selected_of_kind.Goals as goal
 

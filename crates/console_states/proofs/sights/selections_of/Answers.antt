@@ -9,8 +9,8 @@ pub loop-place-preserved : goal.loop-place-preserved
 loop-place-preserved c =
     let old = c.loop-place.selections.items in
     let now = c.add_selection.new.selections.items in
-    adds-place (λ y s. selection_of s ≡ y) c.args.met.now.entries c.loop-place.place c.entry-held.result old now
-    c.entry-held.ensures c.loop-place.invariant
+    adds-place (λ y s. selection_of s ≡ y) c.args.met.now.entries c.loop-place.place c.entry.result old now
+    c.entry.ensures c.loop-place.invariant
     (adds-one _ old now (subst (λ y. IsWith y old now) c.selection.ensures c.in_ok-add_selection.ensures))
 
 pub returns : goal.returns

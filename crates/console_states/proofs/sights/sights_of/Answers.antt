@@ -1,5 +1,4 @@
-use Rattle.console_states.proofs.Common.{ap, Scroll, alone, start, TooMany}
-use Rattle.console_states.specs.declared.search.End.TheVariants.{Complete}
+use Rattle.console_states.proofs.Common.{ap, Scroll, alone, start, TooMany, Complete}
 use Rattle.console_states.proofs.Reaching.{ended-alone, met-alone, reaches-more}
 use Rattle.console_states.proofs.Beginning.{one-off}
 use Rattle.console_states.proofs.sights.sights_of.Goals as goal

@@ -1,6 +1,4 @@
-use Rattle.console_states.proofs.Common.{alone, false≢true, subst, sym, under_of}
-use Rattle.console_states.specs.Sights.{AreComposed}
-use Rattle.console_states.specs.Inner.Adding.{AreLedTo, CanSelectEach}
+use Rattle.console_states.proofs.Common.{alone, false≢true, subst, sym, under_of, AreComposed, AreLedTo, CanSelectEach}
 use Rattle.console_states.proofs.sights.some_sights.Goals as goal
 
 pub some_offers-requires-clause-led : goal.some_offers-requires-clause-led

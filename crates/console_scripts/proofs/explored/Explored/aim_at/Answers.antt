@@ -1,5 +1,5 @@
 use Rattle.console_scripts.proofs.Common.{◌≡◌, MatchOption, Some, refl, subst, sym, map_of_explored, IsAim, rules}
-use Rattle.console_scripts.specs.Visiting.{CanVisit}
+use Rattle.console_scripts.proofs.Common.{CanVisit}
 use Rattle.console_scripts.proofs.Aiming.{aims-at, dead-not, found-aim}
 use Rattle.console_states.specs.declared.selection.Sight.TheVariants as sight
 use Rattle.console_scripts.proofs.explored.Explored.aim_at.Goals as goal

@@ -1,7 +1,6 @@
-use Rattle.console_scripts.proofs.Common.{reverse, subst, slice_get_within, map_of_explored, state_of}
-use Rattle.console_scripts.proofs.Common.{IsDeadFor, start, rules}
+use Rattle.console_scripts.proofs.Common.{reverse, subst, slice_get_within, map_of_explored, state_of, IsDeadFor, start}
+use Rattle.console_scripts.proofs.Common.{rules, on_ok-then}
 use Rattle.console_scripts.proofs.Leading.{dead-met, sees-at, sees-behind}
-use Rattle.console_states.proofs.Shared.{on_ok-then}
 use Rattle.console_scripts.proofs.explored.Explored.approach.Goals as goal
 
 pub go_composing-requires-clause-dead : goal.go_composing-requires-clause-dead

@@ -1,8 +1,7 @@
 use Rattle.console_scripts.proofs.Common.{◌∷◌, ◌++◌, [], reverse, ap, ◌∙◌, Press, Reset, map_of_explored, state_of}
-use Rattle.console_scripts.proofs.Common.{alone}
+use Rattle.console_scripts.proofs.Common.{alone, push-reversed}
 use Rattle.console_scripts.proofs.Approaching.{visits}
 use Rattle.console_scripts.proofs.Leading.{home-leads}
-use Rattle.console_states.proofs.Shared.{push-reversed}
 use Rattle.console_scripts.proofs.explored.Explored.events_of.Goals as goal
 
 pub come_home-requires : goal.come_home-requires

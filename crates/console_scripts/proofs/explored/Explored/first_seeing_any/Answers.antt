@@ -1,6 +1,5 @@
-use Rattle.console_scripts.proofs.Common.{inl, inr, subst, sym, ap, arith, ◌∙◌, get_or, get_or_default}
-use Rattle.console_scripts.specs.Inner.Showing.{IsUnseen}
-use Rattle.console_states.proofs.Shared.{place_last}
+use Rattle.console_scripts.proofs.Common.{inl, inr, subst, sym, ap, arith, ◌∙◌, get_or, get_or_default, IsUnseen}
+use Rattle.console_scripts.proofs.Common.{place_last}
 use Rattle.console_scripts.proofs.explored.Explored.first_seeing_any.Goals as goal
 
 pub loop-sight-preserved : goal.loop-sight-preserved

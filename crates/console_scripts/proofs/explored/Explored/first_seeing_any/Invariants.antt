@@ -1,6 +1,5 @@
 -- no press sees one of the sights before the place
-use Rattle.console_scripts.proofs.Common.{◌≡◌, ◌<◌, ℕ, get_or, Sight}
-use Rattle.console_scripts.specs.Inner.Showing.{IsUnseen}
+use Rattle.console_scripts.proofs.Common.{◌≡◌, ◌<◌, ℕ, get_or, Sight, IsUnseen}
 use Rattle.console_scripts.proofs.explored.Explored.first_seeing_any.Given as goal
 
 abbrev pub invariant-loop-sight : goal.invariant-loop-sight

@@ -1,7 +1,6 @@
 use Rattle.console_scripts.proofs.Common.{subst, reverse, slice_get_within, alone, map_of_explored, origin_in}
-use Rattle.console_scripts.proofs.Common.{LeadsHome, state_of, rules}
+use Rattle.console_scripts.proofs.Common.{LeadsHome, state_of, rules, reached-one, searched-back}
 use Rattle.console_scripts.proofs.Exploring.{tap-freed, tap-home}
-use Rattle.console_states.proofs.Shared.{reached-one, searched-back}
 use Rattle.console_scripts.proofs.explored.Explored.go_and_tap.Goals as goal
 
 pub go_out-requires-clause-back : goal.go_out-requires-clause-back

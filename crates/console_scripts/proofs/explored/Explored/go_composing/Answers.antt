@@ -1,7 +1,6 @@
-use Rattle.console_scripts.proofs.Common.{reverse, subst, slice_get_within, map_of_explored, LeadsHome}
-use Rattle.console_scripts.proofs.Common.{state_of, alone, rules}
+use Rattle.console_scripts.proofs.Common.{reverse, subst, slice_get_within, map_of_explored, LeadsHome, state_of, alone}
+use Rattle.console_scripts.proofs.Common.{rules, on_ok-then, searched-back}
 use Rattle.console_scripts.proofs.Leading.{out-leads, home-leads, dead-leads, met-first, composing-leads}
-use Rattle.console_states.proofs.Shared.{on_ok-then, searched-back}
 use Rattle.console_scripts.proofs.explored.Explored.go_composing.Goals as goal
 
 pub go_out-requires-clause-place : goal.go_out-requires-clause-place

@@ -1,6 +1,6 @@
-use Rattle.console_scripts.proofs.Common.{reverse, subst, sym, map_of_explored, state_of, IsAt, rules}
+use Rattle.console_scripts.proofs.Common.{reverse, subst, sym, map_of_explored, state_of, IsAt, rules, on_ok-then}
+use Rattle.console_scripts.proofs.Common.{searched-back}
 use Rattle.console_scripts.proofs.Leading.{out-leads}
-use Rattle.console_states.proofs.Shared.{on_ok-then, searched-back}
 use Rattle.console_scripts.proofs.explored.Explored.go_looking.Goals as goal
 
 pub go_out-requires-clause-back : goal.go_out-requires-clause-back

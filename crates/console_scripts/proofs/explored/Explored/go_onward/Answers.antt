@@ -1,5 +1,4 @@
-use Rattle.console_scripts.proofs.Common.{reverse, slice_get_within}
-use Rattle.console_states.proofs.Shared.{searched-back}
+use Rattle.console_scripts.proofs.Common.{reverse, slice_get_within, searched-back}
 use Rattle.console_scripts.proofs.Visitable.{leads-by, unseen-from}
 use Rattle.console_scripts.proofs.explored.Explored.go_onward.Goals as goal
 

@@ -1,5 +1,5 @@
 use Rattle.console_scripts.proofs.Common.{◌∷◌, ◌++◌, ◌∙◌, [], ap, reverse, slice_get_within, Press, Reset}
-use Rattle.console_states.proofs.Shared.{push-reversed, searched-back}
+use Rattle.console_scripts.proofs.Common.{push-reversed, searched-back}
 use Rattle.console_scripts.proofs.Scrolling.{turns-off, unturned}
 use Rattle.console_scripts.proofs.explored.Explored.go_turning.Goals as goal
 

@@ -1,5 +1,4 @@
-use Rattle.console_scripts.proofs.Common.{subst, sym}
-use Rattle.console_scripts.specs.Visiting.{CanVisit}
+use Rattle.console_scripts.proofs.Common.{subst, sym, CanVisit}
 use Rattle.console_scripts.proofs.explorer.Explorer.aim_at.Goals as goal
 
 pub returns-in-None-clause-never : goal.returns-in-None-clause-never

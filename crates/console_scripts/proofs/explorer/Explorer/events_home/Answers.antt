@@ -1,6 +1,5 @@
 use Rattle.console_scripts.proofs.Common.{ap, refl, reverse, subst, sym, alone, LeadsHome, HasRoute, but_scroll}
-use Rattle.console_states.specs.Moves.{free_with}
-use Rattle.console_scripts.specs.Visiting.{IsWayHome}
+use Rattle.console_scripts.proofs.Common.{free_with, IsWayHome}
 use Rattle.console_scripts.proofs.Visitable.{no-way, way-home}
 use Rattle.console_scripts.proofs.explorer.Explorer.events_home.Goals as goal
 

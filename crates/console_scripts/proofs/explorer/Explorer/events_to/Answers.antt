@@ -1,7 +1,5 @@
 use Rattle.console_scripts.proofs.Common.{◌≡◌, [], subst, arith, reverse, slice_get, Some, None, Held, start, state_of}
-use Rattle.console_scripts.proofs.Common.{rules}
-use Rattle.console_scripts.specs.Visiting.{LeadsBy}
-use Rattle.console_states.proofs.Shared.{searched-back}
+use Rattle.console_scripts.proofs.Common.{rules, LeadsBy, searched-back}
 use Rattle.console_scripts.proofs.Visitable.{key-at, key-within, leads-by, place-some}
 use Rattle.console_scripts.proofs.explorer.Explorer.events_to.Goals as goal
 

@@ -1,10 +1,9 @@
 use Rattle.console_scripts.proofs.Common.{ap, subst, sym, ◌∙◌, Caps, Num, Scroll, Alt, between, locked, state_of}
-use Rattle.console_scripts.proofs.Common.{IsWhole}
-use Rattle.console_scripts.specs.Visiting.{AreStatesOf}
+use Rattle.console_scripts.proofs.Common.{IsWhole, AreStatesOf, resolved-start}
 use Rattle.console_scripts.specs.Inner.Showing.{states_in}
 use Rattle.console_scripts.proofs.Aiming.{start-rest}
 use Rattle.console_scripts.proofs.Visitable.{states-of}
-use Rattle.console_core.proofs.Shared.{locked-start, resolved-start}
+use Rattle.console_core.proofs.Shared.{locked-start}
 use Rattle.console_scripts.proofs.explorer.Explorer.new.Goals as goal
 
 pub explore-requires : goal.explore-requires

@@ -1,6 +1,4 @@
-use Rattle.console_scripts.proofs.Common.{◌≡◌, ap, subst, sym, ◌∙◌, arith, slice_get, Some, Held, alone, ComesHome}
-use Rattle.console_scripts.proofs.Common.{state_of}
-use Rattle.console_states.proofs.Shared.{entry-at}
+use Rattle.console_scripts.proofs.Common.{◌≡◌, subst, arith, slice_get, Some, Held, alone, ComesHome, state_of}
 use Rattle.console_scripts.proofs.Visitable.{at-key, comes-at, home-at, key-within}
 use Rattle.console_scripts.proofs.explorer.Explorer.state.Goals as goal
 
@@ -15,12 +13,9 @@ returns-then-place-len c =
 pub returns-then-has_route : goal.returns-then-has_route
 returns-then-has_route c =
     let e = c.self.inside.explored in
-    let h = c.state_at-held.result in
-    let (y, at, is) =
-    entry-at e.met.entries c.args.place h (omega (arith, c.if-place-len.false, c.len.ensures.len))
-    c.state_at-held.ensures in
+    let h = c.entry.result.0 in
     subst (λ p. (slice_get p.states c.args.place ≡ Some h) × ComesHome (alone p.map) (state_of h)) c.self.view_is (
-      at-key e.met.entries c.args.place y at ∙ ap Some (sym is),
+      at-key e.met.entries c.args.place c.entry.result c.entry.ensures,
       home-at e c.self.invariant.0 (state_of h) (c.has_route.ensures.has c.if-has_route.true),
     )
 
@@ -30,5 +25,4 @@ returns-else-has_route c =
     c.self.view_is
     (λ x at comes.
     c.has_route.ensures.none c.if-has_route.false
-    (comes-at c.self.inside.explored c.self.invariant.0 c.args.place x c.state_at-held.result c.state_at-held.ensures at
-    comes))
+    (comes-at c.self.inside.explored c.self.invariant.0 c.args.place x c.entry.result c.entry.ensures at comes))

@@ -1,5 +1,5 @@
 use Rattle.console_scripts.proofs.Common.{ap, subst, sym, ◌∙◌, alone, start, with_lock_turned, ComesHome, HasRoute}
-use Rattle.console_scripts.specs.Visiting.{CanReach}
+use Rattle.console_scripts.proofs.Common.{CanReach}
 use Rattle.console_scripts.proofs.Aiming.{route-reached}
 use Rattle.console_scripts.proofs.Visitable.{home-at, off-turned}
 use Rattle.console_scripts.proofs.explorer.Explorer.takes_back.Goals as goal

@@ -1,33 +1,26 @@
-use Rattle.console_scripts.proofs.Common.{◌≡◌, ◌-◌, ◌∙◌, [], arith, length, reverse, subst, sym, take}
-use Rattle.console_scripts.proofs.Common.{take_all, AreKnown, TypesOne, state_of}
-use Rattle.std.proofs.Common.{drop}
+use Rattle.console_scripts.proofs.Common.{◌≡◌, ◌-◌, ◌∙◌, [], arith, length, reverse, subst, sym, take, take_all}
+use Rattle.console_scripts.proofs.Common.{AreKnown, TypesOne, state_of, drop}
 use Rattle.std.proofs.lemmas.List.{length-drop}
 use Rattle.console_scripts.proofs.Typings.{types-alone}
-use Rattle.console_scripts.proofs.typing.Scribe.type_next.Goals.{in-To+in_ok-keep, in_default-typed}
 use Rattle.console_scripts.proofs.typing.Scribe.type_next.Goals as goal
 
 pub returns-in-Some-clause-leads : goal.returns-in-Some-clause-leads
 returns-in-Some-clause-leads c =
     let types = rw c.in-Some.is at c.in_ok-next.ensures in types c.args.map.now c.requires.known
 
-pub returns-clause-known : goal.returns-clause-known
-returns-clause-known c =
+pub returns-in_ok-keep-clause-known : goal.returns-in_ok-keep-clause-known
+returns-in_ok-keep-clause-known c =
     let known : AreKnown c.args.map.now c.type_from.new.self.known.entries =
     rw c.in_ok-typed.ensures.known c.requires.known in
     let old = c.recall.new.events.items in
     let now = c.type_from.new.self.events.items in
     let behind : take (length now - length old) (drop (length old) now) ≡ drop (length old) now =
     take_all _ _ (omega (arith, length-drop (length old) now)) in
-    elim c.match-typed.branch [
-      | in-To+in_ok-keep w ↦
-          let s = state_of c.args.sought.now.from in
-          let next = state_of w.in-To.next in
-          let types = rw w.in-To.is at c.in_ok-typed.ensures.leads in
-          let start = c.len-start.ensures ∙ c.recall.new.events.ok.0 in
-          rw w.self-is
-          (w.in_ok-keep.ensures c.args.map.now known
-          (rw (start, w.deref.ensures.value)
-          (subst (λ es. TypesOne c.args.map.now c.args.sought.now.character s [] (reverse es) next) (sym behind)
-          (types-alone c.args.map.now c.args.sought.now.character s next old now types))))
-      | in_default-typed w ↦ rw w.self-is known
-    ]
+    let s = state_of c.args.sought.now.from in
+    let next = state_of c.in-To.next in
+    let types = rw c.in-To.is at c.in_ok-typed.ensures.leads in
+    let start = c.len-start.ensures ∙ c.recall.new.events.ok.0 in
+    c.in_ok-keep.ensures c.args.map.now known
+    (rw (start, c.deref.ensures.value)
+    (subst (λ es. TypesOne c.args.map.now c.args.sought.now.character s [] (reverse es) next) (sym behind)
+    (types-alone c.args.map.now c.args.sought.now.character s next old now types)))

@@ -1,5 +1,4 @@
-use Rattle.console_scripts.proofs.Common.{ℕ, alone, subst, CanType}
-use Rattle.console_states.specs.Sticking.{ReachesMoreThan, state_limit}
+use Rattle.console_scripts.proofs.Common.{ℕ, alone, subst, CanType, ReachesMoreThan, state_limit}
 use Rattle.console_scripts.proofs.Typists.{way-can, none-cannot, met-many}
 use Rattle.console_scripts.proofs.typist.Typist.can_type.Goals as goal
 

@@ -1,6 +1,5 @@
-use Rattle.console_scripts.proofs.Common.{inl, inr, subst, arith, CanAccent, rules}
+use Rattle.console_scripts.proofs.Common.{inl, inr, subst, arith, CanAccent, rules, place_last}
 use Rattle.console_scripts.proofs.Bases.{usable-below}
-use Rattle.console_states.proofs.Shared.{place_last}
 use Rattle.console_scripts.proofs.ways.Wanted.dead_key.Goals as goal
 
 pub loop-accent-preserved : goal.loop-accent-preserved

@@ -13,8 +13,8 @@ pub go_out-requires-clause-back : goal.go_out-requires-clause-back
 go_out-requires-clause-back c =
     searched-back (alone c.args.self.now.both.old.now) c.args.self.now.met.now.entries 0 0 c.requires.met.0
 
-pub entry-held-requires : goal.entry-held-requires
-entry-held-requires c =
+pub entry-requires : goal.entry-requires
+entry-requires c =
     let (x, at, is) = c.requires.at in slice_get_within c.args.self.now.met.now.entries c.args.place x at
 
 pub unreachable-requires : goal.unreachable-requires
@@ -23,11 +23,11 @@ unreachable-requires c = search (rules, same_Some)
 pub returns : goal.returns
 returns c =
     let i = c.args.self.now.accent in
-    let x = c.entry-held.result in
+    let x = c.entry.result in
     let d = c.in-Some.key in (
       x,
       d,
-      c.entry-held.ensures,
+      c.entry.ensures,
       c.in-Some.ensures.0,
       subst (λ (u : Under). Offers u (state_of x.0) d i) c.maps.ensures.alone c.in-Some.ensures.1,
       (λ path trail.

@@ -14,7 +14,7 @@ loop-place-preserved c =
     let i = c.args.self.now.accent in
     let met = c.args.self.now.met.now.entries in
     let n = c.loop-place.place in
-    let x = c.entry-held.result in
+    let x = c.entry.result in
     let old = map state_of c.loop-place.states.items in
     elim c.match-key_offering.branch [
       | in-Some+in_ok-push-in-Some w ↦
@@ -22,7 +22,7 @@ loop-place-preserved c =
           (rw (ap (λ z. map state_of z) w.in_ok-push-in-Some.ensures.items
           ∙ map-append state_of c.loop-place.states.items (x.0 ∷ []))
           (offering-more m i met c.args.low n old x c.loop-place.auto.place c.loop-place.invariant
-          c.entry-held.ensures (
+          c.entry.ensures (
             c.requires.usable,
             (
               w.in-Some.field-0,
@@ -33,7 +33,7 @@ loop-place-preserved c =
           )))
       | in-None w ↦
           rw w.states-is
-          (offering-skip m i met c.args.low n old x c.loop-place.invariant c.entry-held.ensures
+          (offering-skip m i met c.args.low n old x c.loop-place.invariant c.entry.ensures
           (λ is. subst (λ (u : Under). Offers u (state_of x.0) is.1.0 i → ⊥) c.maps.ensures.alone
           (w.in-None.ensures is.1.0 is.1.1) is.1.2))
     ]

@@ -1,7 +1,6 @@
 pub mod Bearers
 pub mod Bearing
 pub mod Bits
-pub mod CellBits
 pub mod Common
 pub mod Demonstrated
 pub mod Findings

@@ -6,6 +6,11 @@ use Rattle.keymap_check.proofs.Common.{first_below-some, IsFirstBelow, is_of_kin
 use Rattle.keymap_check.proofs.Common.{cases_lt, Option, true≢false, is_some, ◌↔◌}
 use Rattle.keymap_core.specs.Bearers.{StandsIn}
 use Rattle.keymap_core.proofs.Shared.{NoneBelow}
+use Rattle.keymap_check.specs.Inner.Surveyed.{is_holding_kind}
+use Rattle.keymap_check.proofs.Common.{Act, false, is_any_holding}
+use Rattle.keymap_check.proofs.Same.{is_holding-true, holding-any}
+use Rattle.keymap_core.specs.declared.action.Action.TheVariants as act
+use Rattle.keymap_check.specs.declared.kind.Kind.TheVariants as kind
 
 -- a key has 16 places where the upper half is live, and else 8
 pub count_if : (m : MapValue) (t : Bool) → is_upper_live m ≡ t → place_count m ≡ (if t then 16 else 8)
@@ -99,3 +104,24 @@ cell_by m x k (Some p) e =
 
 pub has-cell : (m : MapValue) (x : Kind) (k : ℕ) → (is_some (first_place m x k) ≡ true) ↔ HasCellOf m k x
 has-cell m x k = cell_by m x k (first_place m x k) refl
+
+-- a cell of a kind of modifiers and locks is one of these
+kind-holding : (x : Kind) (y : Cell) → is_holding_kind x ≡ true → is_of_kind x y ≡ true → is_any_holding y ≡ true
+kind-holding kind.AnyHolding y of e = e
+kind-holding (kind.Holding a) y of e = rw (is_holding-true a y e) (holding-any a)
+kind-holding (kind.Of g) (Act (act.Mod i)) of e = refl
+kind-holding (kind.Of g) y of e = absurd (true≢false (sym e))
+kind-holding x y of e = absurd (true≢false (sym of))
+
+-- a key without modifiers and locks has no place of a kind of these
+none_by : (m : MapValue) (k : ℕ) (x : Kind) (o : Option ℕ) → first_place m x k ≡ o → is_holding_kind x ≡ true
+    → is_some (first_place m kind.AnyHolding k) ≡ false → o ≡ None
+none_by m k x None e of none = refl
+none_by m k x (Some p) e of none =
+    let s = first_place-cell m x k p e in
+    let y = cell_of m k p in
+    absurd (true≢false (sym ((has-cell m kind.AnyHolding k).1 (y, s.0, kind-holding x y of s.1)) ∙ none))
+
+pub none-holding : (m : MapValue) (k : ℕ) (x : Kind) → is_holding_kind x ≡ true
+    → is_some (first_place m kind.AnyHolding k) ≡ false → first_place m x k ≡ None
+none-holding m k x of none = none_by m k x (first_place m x k) refl of none

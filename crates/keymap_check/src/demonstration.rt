@@ -87,6 +87,7 @@ fn try_sets<'m>(
 }
 
 /// A console that was delivered what the scripts of the key and the first set begin with.
+#[tactic(auto, using(crate::proofs::Played::start_played))]
 fn start<'m>(map: &'m KeyMap, keys: &BitKeys, key: KeyCode, a: GroupSet) -> WordConsole<'m>
     ensures { ⟦<WordConsole<'m> as Translator>⟧.stands result (between map.now map.now)
         (reverse (start_of keys.now key a.bits)) }
@@ -145,8 +146,8 @@ fn try_if_found(map: &KeyMap, survey: &Survey, key: u8) -> Option<Script>
     requires is_survey { IsSurvey map.now survey.now }
     ensures { option_map (λ s. s.items) result ≡ find (leaves_modifier_on_in map.now) (tried_at map.now key) }
 {
-    if is_found(survey, key) {
-        try_key(map, &bit_keys(survey, key), key_with(key))
+    if is_found(map, survey, key) {
+        try_key(map, &bit_keys(map, survey, key), key_with(key))
     } else {
         None
     }

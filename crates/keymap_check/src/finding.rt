@@ -59,11 +59,12 @@ fn place_at(key: u8, place: u8) -> Place
 }
 
 /// Whether the key has a finding.
-pub(crate) fn is_found(survey: &Survey, key: u8) -> bool
+#[tactic(auto, using(crate::proofs::Findings::found))]
+pub(crate) fn is_found<K: Keymap>(map: &K, survey: &Survey, key: u8) -> bool
     requires { key < key_count }
-    ensures { (m : MapValue) → IsSurvey m survey.now → result ≡ has_some (findings_at m key) }
+    ensures { (m : MapValue) → K.shows map.now m → IsSurvey m survey.now → result ≡ has_some (findings_at m key) }
 {
-    survey.has(key, Kind::AnyHolding) && survey.has(key, Kind::Character)
+    survey.has(map, key, Kind::AnyHolding) && survey.has(map, key, Kind::Character)
 }
 
 /// The finding of the key, if it has one.
@@ -72,9 +73,6 @@ fn find_at<K: Keymap>(map: &K, survey: &Survey, key: u8) -> Option<Finding>
     ensures { (m : MapValue) → K.shows map.now m → IsSurvey m survey.now
         → MatchOption result (findings_at m key ≡ []) (λ f. findings_at m key ≡ f ∷ []) }
 {
-    if !is_found(survey, key) {
-        return None;
-    }
     let holding_place = survey.first_place(map, key, Kind::AnyHolding)?;
     let character_place = survey.first_place(map, key, Kind::Character)?;
     let action = match cell_of(map, key, holding_place) {

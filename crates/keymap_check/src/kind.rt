@@ -1,7 +1,7 @@
 //! What is looked for among the cells of a key.
 ghost use Rattle.std.specs.Prelude.{◌≡◌};
 ghost use Rattle.keymap_check.specs.Cells.{is_of_kind, is_of_group};
-ghost use Rattle.keymap_check.specs.Inner.CellBits.{mask_of};
+ghost use Rattle.keymap_check.specs.Inner.Surveyed.{is_holding_kind};
 
 use keymap_core::{Action, Cell, Holding, Modifier};
 
@@ -47,21 +47,11 @@ fn is_in_group(modifier: Modifier, group: Group) -> bool
 }
 
 impl Kind {
-    /// The bits of the cells that are of the kind, as a survey numbers them.
-    pub(crate) fn mask(self) -> u16
-        ensures { result ≡ mask_of self }
+    /// Whether only modifiers and locks are of the kind.
+    pub(crate) fn is_holding(self) -> bool
+        ensures { result ≡ is_holding_kind self }
     {
-        match self {
-            Kind::Character => 0x1000,
-            Kind::AnyHolding => 0x0fff,
-            Kind::Holding(holding) => 1 << holding.index(),
-            Kind::OtherThan(holding) => 0x7fff ^ (1 << holding.index()),
-            Kind::CharacterOrNop => 0x3000,
-            Kind::Of(Group::Shift) => 0x0003,
-            Kind::Of(Group::Control) => 0x000c,
-            Kind::Of(Group::Alt) => 0x0030,
-            Kind::Of(Group::AltShift) => 0x0040,
-        }
+        matches!(&self, Kind::AnyHolding | Kind::Holding(_) | Kind::Of(_))
     }
 
     /// Whether the cell is of the kind.

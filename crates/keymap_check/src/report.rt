@@ -81,31 +81,31 @@ impl Report {
 fn report_on<K: Keymap>(map: &K, survey: &Survey) -> Report
     ensures { (m : MapValue) → K.shows map.now m → IsSurvey m survey.now → result ≡ report_of m }
 {
-    let caps = bearer_of(survey, Holding::Lock(Lock::Caps));
-    let num = bearer_of(survey, Holding::Lock(Lock::Num));
-    let scroll = bearer_of(survey, Holding::Lock(Lock::Scroll));
-    let alt = bearer_of(survey, Holding::Lock(Lock::Alt));
+    let caps = bearer_of(map, survey, Holding::Lock(Lock::Caps));
+    let num = bearer_of(map, survey, Holding::Lock(Lock::Num));
+    let scroll = bearer_of(map, survey, Holding::Lock(Lock::Scroll));
+    let alt = bearer_of(map, survey, Holding::Lock(Lock::Alt));
     Report {
         findings: findings(map, survey),
         bearers: [
-            bearer_of(survey, Holding::Mod(Modifier::LeftShift)),
-            bearer_of(survey, Holding::Mod(Modifier::RightShift)),
-            bearer_of(survey, Holding::Mod(Modifier::LeftControl)),
-            bearer_of(survey, Holding::Mod(Modifier::RightControl)),
-            bearer_of(survey, Holding::Mod(Modifier::LeftAlt)),
-            bearer_of(survey, Holding::Mod(Modifier::RightAlt)),
-            bearer_of(survey, Holding::Mod(Modifier::AltShift)),
-            bearer_of(survey, Holding::Mod(Modifier::Meta)),
+            bearer_of(map, survey, Holding::Mod(Modifier::LeftShift)),
+            bearer_of(map, survey, Holding::Mod(Modifier::RightShift)),
+            bearer_of(map, survey, Holding::Mod(Modifier::LeftControl)),
+            bearer_of(map, survey, Holding::Mod(Modifier::RightControl)),
+            bearer_of(map, survey, Holding::Mod(Modifier::LeftAlt)),
+            bearer_of(map, survey, Holding::Mod(Modifier::RightAlt)),
+            bearer_of(map, survey, Holding::Mod(Modifier::AltShift)),
+            bearer_of(map, survey, Holding::Mod(Modifier::Meta)),
             caps,
             num,
             scroll,
             alt,
         ],
         steady: [
-            is_steady(survey, &caps),
-            is_steady(survey, &num),
-            is_steady(survey, &scroll),
-            is_steady(survey, &alt),
+            is_steady(map, survey, &caps),
+            is_steady(map, survey, &num),
+            is_steady(map, survey, &scroll),
+            is_steady(map, survey, &alt),
         ],
     }
 }

@@ -10,7 +10,7 @@ use crate::kind::{Group, Kind};
 use crate::survey::Survey;
 use arrayvec::ArrayVec;
 use console_core::Event;
-use keymap_core::{KEY_COUNT, KeyCode, key_with};
+use keymap_core::{KEY_COUNT, KeyCode, Keymap, key_with};
 
 /// The events that a demonstration delivers, in their order.
 pub type Script = ArrayVec<Event, 11>;
@@ -56,19 +56,20 @@ fn group_at(bit: u8) -> Group
 }
 
 /// Whether the key bears a modifier of the bit, and isn't the tried one.
-fn is_other(survey: &Survey, tried: u8, bit: u8, key: u8) -> bool
+fn is_other<K: Keymap>(map: &K, survey: &Survey, tried: u8, bit: u8, key: u8) -> bool
     requires { key < key_count }
-    ensures { (m : MapValue) → IsSurvey m survey.now → result ≡ spec.is_other (spec.bears_group m bit) tried key }
+    ensures { (m : MapValue) → K.shows map.now m → IsSurvey m survey.now
+        → result ≡ spec.is_other (spec.bears_group m bit) tried key }
 {
-    key != tried && survey.has(key, Kind::Of(group_at(bit)))
+    key != tried && survey.has(map, key, Kind::Of(group_at(bit)))
 }
 
 /// The least key, other than the tried one, that bears a modifier of the bit.
-fn bit_key(survey: &Survey, tried: u8, bit: u8) -> Option<KeyCode>
-    ensures { (m : MapValue) → IsSurvey m survey.now → result ≡ spec.bit_key m tried bit }
+fn bit_key<K: Keymap>(map: &K, survey: &Survey, tried: u8, bit: u8) -> Option<KeyCode>
+    ensures { (m : MapValue) → K.shows map.now m → IsSurvey m survey.now → result ≡ spec.bit_key m tried bit }
 {
     for key in 0..KEY_COUNT as u8 {
-        if is_other(survey, tried, bit, key) {
+        if is_other(map, survey, tried, bit, key) {
             return Some(key_with(key));
         }
     }
@@ -76,14 +77,14 @@ fn bit_key(survey: &Survey, tried: u8, bit: u8) -> Option<KeyCode>
 }
 
 /// The keys of the bits, while the key is tried.
-pub(crate) fn bit_keys(survey: &Survey, tried: u8) -> BitKeys
-    ensures { (m : MapValue) → IsSurvey m survey.now → result ≡ spec.bit_keys m tried }
+pub(crate) fn bit_keys<K: Keymap>(map: &K, survey: &Survey, tried: u8) -> BitKeys
+    ensures { (m : MapValue) → K.shows map.now m → IsSurvey m survey.now → result ≡ spec.bit_keys m tried }
 {
     [
-        bit_key(survey, tried, 0),
-        bit_key(survey, tried, 1),
-        bit_key(survey, tried, 2),
-        bit_key(survey, tried, 3),
+        bit_key(map, survey, tried, 0),
+        bit_key(map, survey, tried, 1),
+        bit_key(map, survey, tried, 2),
+        bit_key(map, survey, tried, 3),
     ]
 }
 

@@ -4,10 +4,10 @@ use Rattle.keymap_check.proofs.bearer.bearer_of.Goals.{then-has, else-has}
 use Rattle.keymap_check.proofs.bearer.bearer_of.Goals as goal
 
 pub loop-key-init : goal.loop-key-init
-loop-key-init c = λ m is. sym (bearer_below-start m c.args.holding)
+loop-key-init g c = λ m shows is. sym (bearer_below-start m c.args.holding)
 
 pub loop-key-preserved : goal.loop-key-preserved
-loop-key-preserved c = search (rules, then-has, bearer-added, else-has, bearer-kept)
+loop-key-preserved g c = search (rules, then-has, bearer-added, else-has, bearer-kept)
 
 pub returns : goal.returns
-returns c = search rules
+returns g c = search rules

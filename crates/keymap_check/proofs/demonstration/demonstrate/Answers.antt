@@ -1,6 +1,9 @@
-use Rattle.keymap_check.proofs.Common.{rules}
+use Rattle.keymap_check.proofs.Common.{refl, rules}
 use Rattle.keymap_check.proofs.Given.{leaves_on, is_shown, is_none}
 use Rattle.keymap_check.proofs.demonstration.demonstrate.Goals as goal
+
+pub first_script-requires : goal.first_script-requires
+first_script-requires c = c.of.ensures c.args.map.now refl
 
 pub returns-clause-first : goal.returns-clause-first
 returns-clause-first c = c.first_script.ensures

@@ -2,5 +2,6 @@ use Rattle.keymap_check.proofs.Common.{◌≡◌, None, MapValue, first_below, I
 use Rattle.keymap_check.proofs.script.bit_key.Given as goal
 
 abbrev pub invariant-loop-key : goal.invariant-loop-key
-invariant-loop-key l =
-    (m : MapValue) → IsSurvey m l.survey → first_below (is_other (bears_group m l.bit) l.tried) l.key ≡ None
+invariant-loop-key g l =
+    (m : MapValue) → g.K.Keymap.shows l.map m → IsSurvey m l.survey
+    → first_below (is_other (bears_group m l.bit) l.tried) l.key ≡ None

@@ -4,7 +4,6 @@ pub use Rattle.keymap_core.proofs.Shared.{StopsIn-more, passed_on}
 pub use Rattle.keymap_core.specs.Accents.{AccentValue, blank, first_result}
 pub use Rattle.keymap_core.specs.Bounds.{IsAccent, IsCell, IsEntry, IsMap, IsPair}
 pub use Rattle.keymap_core.specs.Maps.{MapValue, accent_or_blank, entry_at, placed, undefined}
-pub use Rattle.keymap_core.specs.Streams.{Pushes}
 pub use Rattle.keymap_tables.specs.Faults.{FaultOf, IsFirstFault, accent_fault, base_at, cell_fault, char_fault}
 pub use Rattle.keymap_tables.specs.Faults.{count_at, count_fault, is_marked_at, number_at, number_fault, rows_fault}
 pub use Rattle.keymap_tables.specs.Faults.{slot_end_fault, slot_fault, table_fault, used_fault, zero_fault}
@@ -24,9 +23,9 @@ pub use Rattle.std.proofs.Common.{All, List, None, Some, [], add-one, add-zero, 
 pub use Rattle.std.proofs.Common.{cond, drop, false, get_or, inl, inr, length, length-append, length-drop, mul-suc}
 pub use Rattle.std.proofs.Common.{mul-zero, mul_comm, refl, replicate, rules, set, subst, suc, sym, take, true, zero, ℕ}
 pub use Rattle.std.proofs.Common.{◌%◌, ◌*◌, ◌++◌, ◌+◌, ◌-◌, ◌/◌, ◌<◌, ◌==◌, ◌^◌, ◌∙◌, ◌∷◌, ◌≡◌, ◌≢◌, ◌≤◌}
-pub use Rattle.std.proofs.Math.Nat.{eq-or-lt_of_le, mul-le-mul_left, mul-sub}
+pub use Rattle.std.proofs.Math.Nat.{mul-le-mul_left, mul-sub}
 pub use Rattle.std.proofs.Math.Seq.{drop-cons}
-pub use Rattle.std.proofs.lemmas.Bool.{cases_lt, eq-eqb, le-ltb, lt-ltb, ne_eqb}
+pub use Rattle.std.proofs.lemmas.Bool.{cases_lt, eq-eqb, le-ltb, lt-ltb}
 pub use Rattle.std.proofs.lemmas.Bool.Decides.{nat_tests}
 pub use Rattle.std.proofs.lemmas.Grind.{common_steps, flat_map-append}
 pub use Rattle.std.proofs.lemmas.List.{drop-drop, drop_at, get_or-append_right, get_or-drop, get_or-replicate}

@@ -118,10 +118,8 @@ impl<'a> Tables<'a> {
         ensures bytes { (m : MapValue) → IsMap m → self.now.bytes.now ≡ image m
             → IfSome result (λ bytes. bytes.now ≡ accent_bytes wide (accent_or_blank m index)) }
     {
-        let n_accs = read_half(&self.bytes[WIDE_N_ACCS_AT..WIDE_ACCENTS_AT]);
-        let index = index as usize;
-        if index < ACCENT_LIMIT && index < n_accs as usize {
-            let at = WIDE_ACCENTS_AT + ACCENT * index;
+        if index < self.n_accs() {
+            let at = WIDE_ACCENTS_AT + ACCENT * index as usize;
             Some(&self.bytes[at..at + ACCENT])
         } else {
             None

@@ -27,6 +27,7 @@ Real keymaps: all that presses can reach is seen, and the upper half, which noth
 most 4,000 events.
   $ covers "$examples/us.kbd"
   $ begins
+  # for a console in a program: on a machine it restarts, stops or sleeps
   # cells: 1024, left out 0, never 1024
   # lock settings: 512, left out 0, never 512
   # pairs: 54, left out 0, never 0
@@ -39,6 +40,7 @@ most 4,000 events.
   $ [ "$(grep -vc '^#' script)" -le 4000 ]
   $ covers "$examples/de.kbd"
   $ begins
+  # for a console in a program: on a machine it restarts, stops or sleeps
   # cells: 1024, left out 0, never 1024
   # lock settings: 512, left out 0, never 512
   # pairs: 52, left out 0, never 0
@@ -53,6 +55,7 @@ most 4,000 events.
 A keymap in which shift can stick: what only comes after that is not called never.
   $ covers "$examples/trap.kbd"
   $ begins
+  # for a console in a program: on a machine it restarts, stops or sleeps
   # cells: 512, left out 0, not before a modifier sticks 1536
   # lock settings: 128, left out 0, not before a modifier sticks 896
   # pairs: 0, left out 0, not before a modifier sticks 0
@@ -63,6 +66,7 @@ One key and no modifier: each of its slots is seen in one column, with no lock o
   $ echo "30 'a' 'A' nop nop 'a' 'A' nop nop C" > letter
   $ covers letter
   $ begins
+  # for a console in a program: on a machine it restarts, stops or sleeps
   # cells: 128, left out 0, never 1920
   # lock settings: 128, left out 0, never 896
   # pairs: 0, left out 0, never 0
@@ -124,6 +128,7 @@ of events composes them. Where a key has the base there too, they can be compose
   > END
   $ covers apart
   $ begins
+  # for a console in a program: on a machine it restarts, stops or sleeps
   # cells: 256, left out 0, never 1792
   # lock settings: 256, left out 0, never 768
   # pairs: 0, left out 0, never 2

@@ -5,19 +5,15 @@ use Rattle.kmap_runs.proofs.Common.{characters_of, code_text, is_unseen, event_l
 use Rattle.kmap_runs.proofs.Common.{lines_from, typing_script}
 use Rattle.std.specs.Char.{IsScalar}
 use Rattle.std.specs.List.{position_or_len}
-use Rattle.keymap_names.proofs.Shared.{ascii, decimal_line, digit_printed, fills, itself, line_each}
+use Rattle.keymap_names.proofs.Shared.{ascii, code_text_line, decimal_line, fills, itself, line_each}
 use Rattle.keymap_names.proofs.Shared.{plain_append, plain_flat, plain_line, plain_none, ◌⊳◌}
-use Rattle.keymap_names.specs.Shown.{IsLine, IsPlainText, is_shown_byte}
-use Rattle.script_text.proofs.Shared.{code_all}
+use Rattle.keymap_names.specs.Shown.{IsLine, IsPlainText}
 use Rattle.kmap_runs.specs.Typing.{sentence_line}
 use Rattle.console_core.specs.declared.event.Event.TheVariants as event
 
-code_line : (c : ℕ) → IsLine (code_text c)
-code_line c = ascii _ (code_all is_shown_byte refl digit_printed c)
-
 shown_by : (c : ℕ) (hidden : Bool) → is_unseen c ≡ hidden → IsScalar c
     → IsLine (if hidden then code_text c else encode_utf8 c)
-shown_by c true h s = code_line c
+shown_by c true h s = code_text_line c
 shown_by c false h s = itself c s h
 
 shown_line : (c : ℕ) → IsScalar c → IsLine (shown c)

@@ -1,7 +1,7 @@
 -- The printed scripts are scripts, and what they do when they are played.
-use Rattle.kmap_runs.proofs.Common.{suc, take, drop, ◌-◌, ◌≡◌, ℕ, ◌<◌, Bool, true, false, List, [], ◌∷◌, ◌++◌, length}
-use Rattle.kmap_runs.proofs.Common.{map, get_or, Option, Some, None, refl, sym, ap, subst, ◌∙◌, arith, append_assoc}
-use Rattle.kmap_runs.proofs.Common.{append-nil, lit<, if◌then◌else◌, ne_eqb, decimal, Ok, reverse, encode_utf8, rules}
+use Rattle.kmap_runs.proofs.Common.{take, drop, ◌-◌, ◌≡◌, ℕ, Bool, true, false, List, [], ◌∷◌, ◌++◌}
+use Rattle.kmap_runs.proofs.Common.{map, Option, Some, None, refl, sym, ap, subst, ◌∙◌, append_assoc}
+use Rattle.kmap_runs.proofs.Common.{append-nil, lit<, if◌then◌else◌, decimal, Ok, reverse, encode_utf8, rules}
 use Rattle.kmap_runs.proofs.Common.{flat_map, reverse-reverse, All-head, All-tail, All-take, MapValue}
 use Rattle.kmap_runs.proofs.Common.{Spells, Event, HasKey, HasKeys, Keyed, Typing, Sent, Plays, moves}
 use Rattle.kmap_runs.proofs.Common.{IsScript, sends, event_line, played_text, line-script, one_list, code_text}
@@ -11,7 +11,6 @@ use Rattle.std.specs.Prelude.{◌≢◌}
 use Rattle.std.proofs.lemmas.Bool.{true≢false}
 use Rattle.std.proofs.lemmas.List.{map-append, take-append-drop}
 use Rattle.std.proofs.lemmas.List.Elements.{All-drop}
-use Rattle.std.proofs.lemmas.Str.{inside_one}
 use Rattle.keymap_core.specs.declared.action.Modifier.{Modifier}
 use Rattle.keymap_core.specs.declared.action.Modifier.TheVariants.{LeftShift}
 use Rattle.keymap_text.specs.Sources.{TakesWhole, ReadsMap}
@@ -33,18 +32,13 @@ use Rattle.kmap_runs.specs.Search.{script_text, found_text}
 use Rattle.kmap_runs.specs.Runs.{TypesSentence}
 use Rattle.kmap_runs.specs.Replayed.{ScriptTypes, Delivers, AnswerReplays, AnswerReplaysBetween, ShowsDemonstration}
 use Rattle.kmap_runs.specs.Replayed.{ShowsScript}
-use Rattle.script_text.proofs.Shared.{IsInLine, code-line, comment-alone, comment-before, decimal-line}
-use Rattle.script_text.proofs.Shared.{flat-line}
+use Rattle.keymap_names.proofs.Shared.{code_text_line}
+use Rattle.script_text.proofs.Shared.{IsInLine, comment-alone, comment-before, decimal-line, encoded-line, flat-line}
+use Rattle.script_text.proofs.Shared.{in-line}
 use Rattle.console_core.specs.declared.event.Event.TheVariants as event
 use Rattle.play_core.specs.declared.show.Show.TheVariants as show
 
 -- ---- what comments show
-
--- a text of which no byte is a line feed
-each-line : (xs : List ℕ) → ((k : ℕ) → k < length xs → get_or xs k 0 ≢ 10) → IsInLine xs
-each-line [] each = refl
-each-line (x ∷ xs) each =
-    rw (ne_eqb x 10 (each 0 (omega arith))) (each-line xs (λ k lt. each (suc k) (omega arith)))
 
 -- a line feed is hidden
 not_feed : (c : ℕ) → is_unseen c ≡ false → c ≢ 10
@@ -52,10 +46,8 @@ not_feed c h e = true≢false (subst (λ x. is_unseen x ≡ false) e h)
 
 -- what is shown of a character, whether it is hidden
 shown_by : (t : Bool) (c : ℕ) → is_unseen c ≡ t → IsInLine (if t then code_text c else encode_utf8 c)
-shown_by true c h = code-line c
-shown_by false c h =
-    each-line (encode_utf8 c)
-    (λ k lt e. not_feed c h (inside_one c [] (encode_utf8 c) k (sym (append-nil _)) lt (omega (arith, e)) ∙ e))
+shown_by true c h = in-line (code_text c) (code_text_line c)
+shown_by false c h = encoded-line c (not_feed c h)
 
 shown-line : (c : ℕ) → IsInLine (shown c)
 unfolding shown

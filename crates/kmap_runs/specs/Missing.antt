@@ -1,13 +1,14 @@
 -- The characters of a sentence that keys can't type, and what is printed of them.
-use Rattle.std.specs.Prelude.{◌≡◌, ◌<◌, ℕ, List, [], ◌∷◌, ◌++◌, ◌⊎◌, All, Some, ⊤, true, codes, encode_utf8, length}
-use Rattle.std.specs.Prelude.{map}
+use Rattle.std.specs.Prelude.{◌≡◌, ◌<◌, ℕ, ◌+◌, List, [], ◌∷◌, ◌++◌, ◌⊎◌, All, ⊤, true, codes, decimal, encode_utf8}
+use Rattle.std.specs.Prelude.{length, map}
 use Rattle.std.specs.Prelude.{if◌then◌else◌, slice_index}
 use Rattle.std.specs.List.{Contains, flat_map}
 use Rattle.std.specs.Str.{all_scalars, encode_utf8_all}
 use Rattle.keymap_core.specs.CodePoints.{code_text}
 use Rattle.keymap_core.specs.Maps.{MapValue}
 use Rattle.keymap_core.specs.Unseen.{is_unseen}
-use Rattle.keymap_lint_text.specs.Heads.{place_text}
+use Rattle.keymap_places.specs.LineOf.{before_in_line}
+use Rattle.keymap_text.specs.Meaning.{line}
 use Rattle.messages.specs.Filled.{filled}
 use Rattle.console_scripts.specs.Typing.{CanType}
 use Rattle.console_states.specs.Moves.{alone}
@@ -74,9 +75,11 @@ unfoldable pub character_told : ℕ → List ℕ
 character_told c =
     if is_unseen c then code_text c else filled (codes "{} '{}'") (code_text c ∷ encode_utf8 c ∷ [])
 
--- a line: the place of the character in the text under this name, and the character
+-- a line: this name of the text, the line and the column of the character, both counted from 1, and the character
 abbrev pub missing_line : List ℕ → List ℕ → Missing → List ℕ
-missing_line name text x = place_text name text (Some x.offset) ++ character_told x.character ++ codes "\n"
+missing_line name text x =
+    filled (codes "{}:{}:{}: {}\n") (name ∷ decimal (line text x.offset)
+    ∷ decimal (length (before_in_line text x.offset) + 1) ∷ character_told x.character ∷ [])
 
 abbrev pub missing_text : List ℕ → List ℕ → List Missing → List ℕ
 missing_text name text found = flat_map (missing_line name text) found

@@ -130,7 +130,6 @@ fn character_told(alloc: Global, c: char) -> Result<Vec<u8>, AllocError>
 }
 
 /// Adds the line of a character.
-#[tactic(auto, unfolding(messages::specs::Filled::filled))]
 fn push_line(
     text: &mut Vec<u8>,
     alloc: Global,

@@ -1,18 +1,20 @@
 -- Texts that stay in their line, and comments of such texts, which send nothing.
-use Rattle.script_text.proofs.Common.{suc, ◌≡◌, ℕ, zero, ◌<◌, ◌==◌, Bool, true, false, not, List, [], ◌∷◌, ◌++◌, get_or}
-use Rattle.script_text.proofs.Common.{refl, subst, arith, append-nil, decimal, if◌then◌else◌, codes, flat_map, not-true}
-use Rattle.script_text.proofs.Common.{append_assoc}
-use Rattle.script_text.proofs.Common.{name_of, code_text, filled_all, EachPasses, Sent, IsScript, script-nil, line-script}
-use Rattle.script_text.proofs.Common.{comment, rules}
-use Rattle.std.specs.Prelude.{◌/◌, ◌%◌, nat_lt}
-use Rattle.std.specs.Char.{digit_char}
+use Rattle.script_text.proofs.Common.{◌≡◌, ℕ, ◌==◌, Bool, true, false, not, List, [], ◌∷◌, ◌++◌, refl, ap, sym, ◌∙◌}
+use Rattle.script_text.proofs.Common.{subst, arith, append-nil, append_assoc, decimal, if◌then◌else◌, flat_map, rules}
+use Rattle.script_text.proofs.Common.{ne_eqb, not-true, get_or, get_or_default, All, All-head, All-tail}
+use Rattle.script_text.proofs.Common.{EachPasses, filled_all, Sent, IsScript, script-nil, line-script, comment, name_of}
+use Rattle.std.specs.Prelude.{◌≢◌, encode_utf8}
 use Rattle.std.specs.List.{list_all}
-use Rattle.std.proofs.lemmas.Bool.{and_parts, or_from}
-use Rattle.keymap_core.specs.Actions.{accent_names}
-use Rattle.keymap_core.specs.CodePoints.{digit_at, upper_digits, code_digits}
-use Rattle.messages.proofs.Shared.{append_all, decimal_all}
-use Rattle.play_core.specs.Spelling.{says, has_line_feed}
+use Rattle.std.proofs.lemmas.Bool.{false≢true}
+use Rattle.std.proofs.lemmas.List.Folds.{list_any_none}
+use Rattle.std.proofs.lemmas.List.Sums.{AllPass-from_list_all, list_all-from_AllPass}
+use Rattle.std.proofs.lemmas.Str.{inside_one}
+use Rattle.messages.proofs.Shared.{append_all}
 use Rattle.messages.specs.Filled.{filled}
+use Rattle.keymap_names.proofs.Shared.{accent_line, decimal_line}
+use Rattle.keymap_names.specs.Lists.{accent_name}
+use Rattle.keymap_names.specs.Shown.{IsLine, IsSeen, is_seen}
+use Rattle.play_core.specs.Spelling.{says, has_line_feed}
 use Rattle.keymap_core.specs.declared.action.Action.TheVariants as act
 
 abbrev pub is_in_line : ℕ → Bool
@@ -22,10 +24,9 @@ abbrev pub IsInLine : List ℕ → Type 0
 IsInLine text = list_all is_in_line text ≡ true
 
 pub stays : (text : List ℕ) → IsInLine text → has_line_feed text ≡ false
-stays [] h = refl
-stays (b ∷ bs) h =
-    let both = and_parts (is_in_line b) (list_all is_in_line bs) h in
-    or_from (b == 10) (has_line_feed bs) (not-true (b == 10) both.0) (stays bs both.1)
+stays text h =
+    list_any_none (λ b. b == 10) text
+    (λ k d lt. not-true (get_or text k d == 10) (AllPass-from_list_all is_in_line text h k d lt))
 
 pub append-line : (a b : List ℕ) → IsInLine a → IsInLine b → IsInLine (a ++ b)
 append-line a b h k = append_all is_in_line a b h k
@@ -38,52 +39,35 @@ pub if-line : (t : Bool) (text : List ℕ) → IsInLine text → IsInLine (if t 
 if-line true text h = h
 if-line false text h = refl
 
-pub decimal-line : (n : ℕ) → IsInLine (decimal n)
-decimal-line n = search (rules, decimal_all)
+-- ---- what a terminal shows in one line
 
--- ---- names and numbers of characters
+-- the bytes of a character that is no line feed
+pub encoded-line : (c : ℕ) → c ≢ 10 → IsInLine (encode_utf8 c)
+encoded-line c other =
+    list_all-from_AllPass is_in_line (encode_utf8 c)
+    (λ k d lt. ap not (ne_eqb _ 10 (λ e.
+    let at = get_or_default (encode_utf8 c) k 0 d lt ∙ e in
+    other (inside_one c [] (encode_utf8 c) k (sym (append-nil _)) lt (omega (arith, at)) ∙ at))))
 
-pub text-at : (texts : List (List ℕ)) → EachPasses is_in_line texts → (i : ℕ) → IsInLine (get_or texts i [])
-text-at [] each i = refl
-text-at (t ∷ ts) each zero = each.0
-text-at (t ∷ ts) each (suc i) = text-at ts each.1 i
+-- a line feed isn't shown
+no_feed : (c : ℕ) → is_seen c ≡ true → c ≢ 10
+no_feed c seen e = false≢true (subst (λ x. is_seen x ≡ true) e seen)
 
-pub names : (texts : List (List ℕ)) → list_all (list_all is_in_line) texts ≡ true → EachPasses is_in_line texts
-names [] h = tt
-names (t ∷ ts) h =
-    let both = and_parts (list_all is_in_line t) (list_all (list_all is_in_line) ts) h in (both.0, names ts both.1)
+characters-line : (cs : List ℕ) → All IsSeen cs → IsInLine (flat_map encode_utf8 cs)
+characters-line [] h = refl
+characters-line (c ∷ cs) h =
+    append-line (encode_utf8 c) (flat_map encode_utf8 cs) (encoded-line c (no_feed c (All-head IsSeen c cs h).1))
+    (characters-line cs (All-tail IsSeen c cs h))
+
+pub in-line : (text : List ℕ) → IsLine text → IsInLine text
+in-line text is = subst IsInLine (sym is.spelled) (characters-line is.characters is.seen)
 
 -- the name of an accent
 pub name-line : (i : ℕ) → IsInLine (name_of (act.DeadKey i))
-name-line i = text-at accent_names (names accent_names refl) i
+name-line i = in-line (accent_name i) (accent_line i)
 
-upper_all : (p : ℕ → Bool) (s t : Bool) (a b : ℕ) → p a ≡ true → p b ≡ true
-    → list_all p (if s then [] else if t then b ∷ [] else a ∷ b ∷ []) ≡ true
-upper_all p true t a b h k = refl
-upper_all p false true a b h k = rw k refl
-upper_all p false false a b h k = rw (h, k) refl
-
--- what each hexadecimal digit passes, the digits of a character's number pass
-digits-all : (p : ℕ → Bool) → ((d : ℕ) → d < 16 → p (digit_char d) ≡ true) → (c : ℕ)
-    → list_all p (code_digits c) ≡ true
-unfolding code_digits
-digits-all p each c =
-    let at : (unit : ℕ) → p (digit_at c unit) ≡ true = λ unit. each ((c / unit) % 16) (omega arith) in
-    append_all p (upper_digits c) _
-    (upper_all p (nat_lt c 0x10000) (nat_lt c 0x100000) _ _ (at 0x100000) (at 0x10000))
-    (rw (at 0x1000, at 0x100, at 0x10, at 1) refl)
-
--- and the number does where U and a plus sign do
-pub code_all : (p : ℕ → Bool) → list_all p (codes "U+") ≡ true → ((d : ℕ) → d < 16 → p (digit_char d) ≡ true)
-    → (c : ℕ) → list_all p (code_text c) ≡ true
-unfolding code_text
-code_all p h each c = append_all p (codes "U+") (code_digits c) h (digits-all p each c)
-
-pub digits-line : (c : ℕ) → IsInLine (code_digits c)
-digits-line c = search (rules, digits-all)
-
-pub code-line : (c : ℕ) → IsInLine (code_text c)
-code-line c = search (rules, code_all)
+pub decimal-line : (n : ℕ) → IsInLine (decimal n)
+decimal-line n = in-line (decimal n) (decimal_line n)
 
 -- ---- comments
 

@@ -6,7 +6,6 @@ pub use Rattle.console_states.specs.declared.selection.Sight.{Sight}
 pub use Rattle.console_states.specs.declared.selection.Sight.TheVariants.{Pair}
 pub use Rattle.keymap_core.proofs.Shared.{All-reversed}
 pub use Rattle.keymap_core.specs.Actions.{name_of}
-unfoldable pub use Rattle.keymap_core.specs.CodePoints.{code_text}
 pub use Rattle.keymap_core.specs.Maps.{MapValue}
 pub use Rattle.keymap_core.specs.Numbers.{slot_limit}
 pub use Rattle.keymap_cover.specs.declared.parts.Verdict.TheVariants.{LeftOut, Never}
@@ -14,8 +13,9 @@ pub use Rattle.keymap_cover.specs.declared.script_event.ScriptEvent.TheVariants.
 pub use Rattle.messages.proofs.Shared.{EachPasses, filled_all}
 pub use Rattle.script_text.specs.Comments.{comment}
 pub use Rattle.script_text.specs.Cover.{AddsLists, AreAlike, ListsSlots, accent_line, accent_lines, bases_at}
-pub use Rattle.script_text.specs.Cover.{character_text, column_text, has_verdict, is_in, rest_word, row_line, row_text}
+pub use Rattle.script_text.specs.Cover.{character_text, column_text, has_verdict, rest_word, row_line, row_text}
 pub use Rattle.script_text.specs.Cover.{start_line, script_event_line, event_lines}
+pub use Rattle.script_text.specs.Inner.Listed.{is_in}
 pub use Rattle.play_core.proofs.Shared.{line-script, one_list, script-nil}
 pub use Rattle.play_core.specs.Scripts.{IsScript}
 pub use Rattle.play_core.specs.Spelling.{event_line, sends}

@@ -2,10 +2,10 @@
 use Rattle.std.proofs.Common.{rules}
 use Rattle.script_text.proofs.Common.{◌≡◌, ℕ, ◌<◌, ◌==◌, Bool, true, false, List, [], ◌∷◌, ◌++◌, Option, Some, None}
 use Rattle.script_text.proofs.Common.{refl, ap, subst, sym, ◌∙◌, arith, inl, inr, length, map, not, suc, zero, get_or}
-use Rattle.script_text.proofs.Common.{flat_map, range_with_len, if◌then◌else◌, MapValue, Sight, Pair, bases_at, LeftOut}
+use Rattle.script_text.proofs.Common.{flat_map, range_with_len, if◌then◌else◌, MapValue, Sight, Pair, bases_at}
 use Rattle.script_text.proofs.Common.{add-one, get_or_default}
 use Rattle.std.proofs.Common.{◌⊎◌, ◌≢◌}
-use Rattle.std.proofs.lemmas.Bool.{true≢false, false≢true, eqb-true, eq-eqb}
+use Rattle.std.proofs.lemmas.Bool.{true≢false, eqb-true, eq-eqb}
 use Rattle.std.proofs.lemmas.List.{get_or-map, length-map}
 use Rattle.std.proofs.lemmas.List.Elements.{All-append, Contains-append_cases, Contains-append_left}
 use Rattle.std.proofs.lemmas.List.Elements.{Contains-append_right}
@@ -15,19 +15,16 @@ use Rattle.std.specs.Option.{unwrap_or}
 use Rattle.std.specs.List.{Contains, list_any}
 use Rattle.keymap_core.specs.Accents.{AccentValue, blank}
 use Rattle.keymap_core.specs.Numbers.{accent_limit}
-use Rattle.script_text.proofs.Covered.{pieces_on}
+use Rattle.keymap_names.proofs.Shared.{pieces_on}
 use Rattle.keymap_core.specs.Bounds.{IsMap}
 use Rattle.keymap_core.specs.Maps.{accent_at, accent_or_blank}
 use Rattle.console_core.specs.Answers.{has_own}
-use Rattle.console_states.specs.Sights.{Enumerates, HasNoDoubles, IsReachable}
-use Rattle.console_scripts.specs.Visiting.{CanVisit, IsPair}
+use Rattle.console_states.specs.Sights.{Enumerates, HasNoDoubles}
+use Rattle.console_scripts.specs.Visiting.{IsPair}
 use Rattle.console_states.specs.Inner.Adding.{Adds, IsWith}
 use Rattle.console_states.proofs.Shared.{adds-both, adds-none, adds-one, any-member, some-member}
 use Rattle.keymap_cover.proofs.Shared.{all-told, flat-has, flat-of, key-told, map-has, map-of, range-has}
 use Rattle.keymap_cover.proofs.Shared.{range-of, usable-some}
-use Rattle.keymap_cover.specs.declared.parts.Verdict.{Verdict}
-use Rattle.keymap_cover.specs.declared.parts.Verdict.TheVariants.{Seen, Never}
-use Rattle.keymap_cover.specs.Covering.{CountsAreOfVerdicts, IsVerdict, is_verdict, verdict_of}
 use Rattle.keymap_cover.specs.Inner.Pairs.{pairs_in}
 use Rattle.keymap_cover.specs.SightLists.{all_cells, all_lock_settings}
 use Rattle.keymap_cover.specs.Told.{IsBaseOf, IsTold}
@@ -226,11 +223,5 @@ counted_are_told m is = ((λ x. ((λ told. has x told), (λ there. only x there)
       | inr pair ↦ (pairs.only x pair).1
     ]
 
-pub left_out_cannot_be_visited : CountsAreOfVerdicts → LeftOutCannotBeVisited
-left_out_cannot_be_visited verdicts m c x is covers has left =
-    by (verdict_of m c x) left (verdicts m c covers x)
-  where
-    by : (v : Verdict) → is_verdict LeftOut v ≡ true → IsVerdict m c x v → IsReachable m x × (CanVisit m x → ⊥)
-    by Seen e is_so = absurd (false≢true e)
-    by LeftOut e (unseen, can, none) = (can, none (((counted_are_told m is).0 x).1 has))
-    by Never e is_so = absurd (false≢true e)
+pub left_out_cannot_be_visited : LeftOutCannotBeVisited
+left_out_cannot_be_visited m c x is has (unseen, can, none) = (can, none (((counted_are_told m is).0 x).1 has))

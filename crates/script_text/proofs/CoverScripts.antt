@@ -17,7 +17,7 @@ use Rattle.keymap_cover.specs.declared.parts.Cover.{Cover}
 use Rattle.keymap_cover.specs.declared.parts.Verdict.{Verdict}
 use Rattle.keymap_cover.specs.declared.script_event.ScriptEvent.{ScriptEvent}
 use Rattle.keymap_cover.specs.declared.script_event.ScriptEvent.TheVariants.{Down, Repeat, Up}
-use Rattle.keymap_cover.specs.Covering.{Covers, history, verdict_of, counts_of}
+use Rattle.keymap_cover.specs.Covering.{Covers, history, counts_of}
 use Rattle.keymap_cover.specs.SightLists.{all_cells, all_lock_settings}
 use Rattle.keymap_cover.specs.ScriptEvents.{event_of, events_of}
 use Rattle.keymap_cover.specs.declared.parts.Part.{Part}
@@ -121,21 +121,22 @@ rest-line : (t : Bool) → IsInLine (if t then unstuck_word else never_word)
 rest-line true = refl
 rest-line false = refl
 
-quiet-all_counts : (m : MapValue) (c : Cover) → Adds (counts_text m c) []
-quiet-all_counts m c =
-    let told : Sight → Verdict = verdict_of m c in
+quiet-all_counts : (told : Sight → Verdict) (m : MapValue) (c : Cover) → Adds (counts_text told m c) []
+quiet-all_counts told m c =
     let line : IsInLine (rest_word c) = rest-line c.sights.forgets in
-    quiet-counts (rest_word c) (codes "cells") (counts_of told all_cells) line refl
+    quiet-comment (codes " for a console in a program: on a machine it restarts, stops or sleeps") [] refl tt
+    ⊳ quiet-counts (rest_word c) (codes "cells") (counts_of told all_cells) line refl
     ⊳ quiet-counts (rest_word c) (codes "lock settings") (counts_of told all_lock_settings) line refl
     ⊳ quiet-counts (rest_word c) (codes "pairs") (counts_of told (all_pairs m)) line refl
 
-quiet-lists : (m : MapValue) (c : Cover) (old new : List ℕ) → Adds old [] → AddsLists m c old new → Adds new []
-quiet-lists m c old new quiet l =
+quiet-lists : (told : Sight → Verdict) (m : MapValue) (c : Cover) (old new : List ℕ) → Adds old []
+    → AddsLists told m c old new → Adds new []
+quiet-lists told m c old new quiet l =
     let line : IsInLine (rest_word c) = rest-line c.sights.forgets in
     subst (λ t. Adds t []) (sym l.spelled)
     (quiet ⊳ quiet-listed refl l.lists_left_out ⊳ quiet-listed line l.lists_rest
-    ⊳ quiet-accents (has_verdict m c LeftOut) left_out_word m refl
-    ⊳ quiet-accents (has_verdict m c Never) (rest_word c) m line)
+    ⊳ quiet-accents (has_verdict told LeftOut) left_out_word m refl
+    ⊳ quiet-accents (has_verdict told Never) (rest_word c) m line)
 
 -- ---- events
 
@@ -198,7 +199,7 @@ pub cover-sends : (m : MapValue) (c : Cover) (text : List ℕ) → IsCoverText m
     → IsScript text (events_sent c)
 cover-sends m c text is keys =
     adds-script text (events_sent c) (subst (λ t. Adds t (events_sent c)) (sym is.spelled)
-    (quiet-lists m c (counts_text m c) is.comments (quiet-all_counts m c) is.adds_lists
+    (quiet-lists is.told m c (counts_text is.told m c) is.comments (quiet-all_counts is.told m c) is.adds_lists
     ⊳ events-add c.starts.items c.events.items c.events.items 0 refl (keys-of c keys)))
 
 -- ---- what it delivers

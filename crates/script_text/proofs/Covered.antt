@@ -1,23 +1,11 @@
 -- Texts of pieces, one for each number, and slots of which the same is listed.
-use Rattle.script_text.proofs.Common.{◌≡◌, ℕ, zero, ◌+◌, ◌<◌, Bool, List, [], ◌∷◌, ◌++◌, sym, ◌∙◌, ap, rules}
-use Rattle.script_text.proofs.Common.{append_assoc, append-nil, add-one, arith, length, take, get_or, flat_map}
+use Rattle.script_text.proofs.Common.{◌≡◌, ℕ, ◌+◌, ◌<◌, Bool, List, [], ◌∷◌, ◌++◌, ap, rules}
+use Rattle.script_text.proofs.Common.{append_assoc, append-nil, arith, length, take, get_or, flat_map}
 use Rattle.script_text.proofs.Common.{range_with_len, Sight, AreAlike, row_text}
-use Rattle.std.proofs.Common.{suc}
 use Rattle.std.proofs.lemmas.Bool.{cases_lt}
 use Rattle.std.proofs.lemmas.Grind.{flat_map-append}
 use Rattle.std.proofs.lemmas.List.{take_more}
-
--- the pieces of the numbers from a on
-pieces_more : {X : Type 0} (f : ℕ → List X) (a n : ℕ)
-    → flat_map f (range_with_len a (suc n)) ≡ flat_map f (range_with_len a n) ++ f (a + n)
-pieces_more f a zero = append-nil (f a) ∙ ap f (omega arith)
-pieces_more f a (suc n) = search (rules, append_assoc, pieces_more f (a + 1) n)
-
--- the pieces of the numbers up to one end with its piece
-pub pieces_on : {X : Type 0} (f : ℕ → List X) (n : ℕ)
-    → flat_map f (range_with_len 0 (n + 1)) ≡ flat_map f (range_with_len 0 n) ++ f n
-pieces_on f n =
-    let same : 0 + n ≡ n = omega arith in cc (add-one n, pieces_more f 0 n)
+use Rattle.keymap_names.proofs.Shared.{pieces_on}
 
 -- what stands before, the pieces below a number, and the piece of that number behind these
 pub piece_behind : {X : Type 0} (f : ℕ → List X) (i : ℕ) (old all more : List X)
@@ -25,11 +13,6 @@ pub piece_behind : {X : Type 0} (f : ℕ → List X) (i : ℕ) (old all more : L
     → more ≡ old ++ flat_map f (range_with_len 0 (i + 1))
 piece_behind f i old all more e piece =
     cc (append_assoc old (flat_map f (range_with_len 0 i)) (f i), pieces_on f i)
-
--- the pieces below a number, and the piece of that number behind these
-pub piece_more : {X : Type 0} (f : ℕ → List X) (i : ℕ) (all more : List X)
-    → all ≡ flat_map f (range_with_len 0 i) → more ≡ all ++ f i → more ≡ flat_map f (range_with_len 0 (i + 1))
-piece_more f i all more e piece = piece ∙ ap (λ t. t ++ f i) e ∙ sym (pieces_on f i)
 
 -- what stands before, the pieces of the first elements, and that of the next one behind these
 pub taken_behind : {X A : Type 0} (f : X → List A) (xs : List X) (i : ℕ) (x : X) (old all more : List A)

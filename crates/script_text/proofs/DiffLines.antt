@@ -3,22 +3,18 @@ use Rattle.script_text.proofs.Common.{◌≡◌, ℕ, ◌+◌, ◌==◌, Bool, t
 use Rattle.script_text.proofs.Common.{refl, subst, arith, decimal, if◌then◌else◌, ne_eqb, codes}
 use Rattle.script_text.proofs.Common.{name_of, filled_all}
 use Rattle.std.specs.Prelude.{◌≢◌, ◌/◌, ◌%◌, ◌||◌, nat_lt, slice_index_or}
-use Rattle.std.specs.List.{list_all}
 use Rattle.std.proofs.lemmas.Bool.{cond_both, true≢false}
-use Rattle.keymap_core.specs.Actions.{accent_names, two_digits}
+use Rattle.keymap_core.specs.Actions.{two_digits}
 use Rattle.keymap_core.specs.CodePoints.{code_digits}
 use Rattle.keymap_core.specs.declared.action.Action.{Action}
 use Rattle.keymap_core.specs.declared.action.Action.TheVariants as act
-use Rattle.keymap_core.specs.declared.action.Lock.{Lock}
-use Rattle.keymap_core.specs.declared.action.Lock.TheVariants as locks
-use Rattle.keymap_core.specs.declared.action.Modifier.{Modifier}
-use Rattle.keymap_core.specs.declared.action.Modifier.TheVariants as mods
 use Rattle.keymap_core.specs.declared.entry.Cell.{Cell as CellValue}
 use Rattle.keymap_core.specs.declared.entry.Cell.TheVariants as cells
 use Rattle.keymap_core.specs.declared.entry.LockFlag.{LockFlag}
 use Rattle.keymap_core.specs.declared.entry.LockFlag.TheVariants as flags
 use Rattle.keymap_text.specs.Printed.{cell_text, character_text, control_name, flag_letter}
 use Rattle.keymap_text.specs.Words.{control_names}
+use Rattle.keymap_names.proofs.Shared.{code_line, lock_line, modifier_line, named}
 use Rattle.keymap_names.specs.Lists.{accent_name, column_names}
 use Rattle.console_core.specs.declared.event.Answer.{Answer}
 use Rattle.console_core.specs.declared.event.Answer.TheVariants as answer
@@ -26,32 +22,18 @@ use Rattle.keymap_diff.specs.declared.change.Change.{Change}
 use Rattle.keymap_diff.specs.declared.change.Change.TheVariants.{Slots, Cell, Letter, Accents, Accent, Pair}
 use Rattle.keymap_diff.specs.declared.change.Change.TheVariants.{ListedOtherwise}
 use Rattle.play_core.specs.Written.{answer_text}
-use Rattle.script_text.proofs.Comments.{IsInLine, append-line, decimal-line, digits-line, if-line}
-use Rattle.script_text.proofs.Comments.{is_in_line, name-line, names, text-at}
+use Rattle.script_text.proofs.Comments.{IsInLine, append-line, decimal-line, if-line, in-line, is_in_line, name-line}
 use Rattle.script_text.specs.Diff.{made_text, subject_of, unseen_text, values_of}
 
 either-line : (t : Bool) (a b : List ℕ) → IsInLine a → IsInLine b → IsInLine (if t then a else b)
 either-line t a b h k = cond_both t a b IsInLine (λ _. h) (λ _. k)
 
--- a name of a list of names
-named : (texts : List (List ℕ)) → list_all (list_all is_in_line) texts ≡ true → (i : ℕ)
-    → IsInLine (slice_index_or texts i [])
-named texts h i = text-at texts (names texts h) i
-
 digits-of : (n : ℕ) → IsInLine (two_digits n)
 digits-of n = rw (ne_eqb (48 + n / 10) 10 (omega arith), ne_eqb (48 + n % 10) 10 (omega arith)) refl
 
-modifier-name : (i : Modifier) → IsInLine (name_of (act.Mod i))
-modifier-name mods.LeftShift = refl
-modifier-name _ = refl
-
-lock-name : (l : Lock) → IsInLine (name_of (act.Lock l))
-lock-name locks.Caps = refl
-lock-name _ = refl
-
 action-line : (a : Action) → IsInLine (name_of a)
-action-line (act.Mod i) = modifier-name i
-action-line (act.Lock l) = lock-name l
+action-line (act.Mod i) = in-line (name_of (act.Mod i)) (modifier_line i)
+action-line (act.Lock l) = in-line (name_of (act.Lock l)) (lock_line l)
 action-line (act.Screen n) = append-line (codes "scr") (two_digits n) refl (digits-of n)
 action-line (act.Function n) = append-line (codes "fkey") (two_digits n) refl (digits-of n)
 action-line (act.DeadKey i) = name-line i
@@ -59,7 +41,7 @@ action-line _ = refl
 
 control-line : (c : ℕ) → IsInLine (control_name c)
 control-line c =
-    either-line (c == 127) (codes "del") (slice_index_or control_names c []) refl (named control_names refl c)
+    either-line (c == 127) (codes "del") _ refl (in-line (slice_index_or control_names c []) (named control_names refl c))
 
 -- a line feed is a control character
 no_feed : (c : ℕ) → (nat_lt c 32 || c == 127) ≡ false → c ≢ 10
@@ -76,7 +58,7 @@ character-line c =
     cond_both (nat_lt c 32 || c == 127) (control_name c) (if nat_lt c 127 then quoted else number) IsInLine
     (λ _. control-line c)
     (λ h. either-line (nat_lt c 127) quoted number (quoted-line c (no_feed c h))
-    (append-line (codes "0x") (code_digits c) refl (digits-line c)))
+    (append-line (codes "0x") (code_digits c) refl (in-line (code_digits c) (code_line c))))
 
 made-line : (made : Option ℕ) → IsInLine (made_text made)
 made-line None = refl
@@ -89,9 +71,6 @@ cell-line (cells.Act a) = action-line a
 flag-line : (f : LockFlag) → IsInLine (flag_letter f ∷ [])
 flag-line flags.O = refl
 flag-line _ = refl
-
-accent-line : (i : ℕ) → IsInLine (accent_name i)
-accent-line i = named accent_names refl i
 
 pub answer-line : (a : Answer) → IsInLine (answer_text a)
 unfolding answer_text
@@ -107,17 +86,17 @@ pub subject-line : (x : Change) → IsInLine (subject_of x)
 subject-line (Slots a b) = refl
 subject-line (Cell s c a b u) =
     filled_all is_in_line (codes "cell: slot {}; {}") (decimal s ∷ slice_index_or column_names c [] ∷ []) refl
-    (decimal-line s, (named column_names refl c, tt))
+    (decimal-line s, (in-line (slice_index_or column_names c []) (named column_names refl c), tt))
 subject-line (Letter s a b u) =
     filled_all is_in_line (codes "lock: slot {}") (decimal s ∷ []) refl (decimal-line s, tt)
 subject-line (Accents a b) = refl
 subject-line (Accent i a b u) =
-    filled_all is_in_line (codes "accent: {}") (accent_name i ∷ []) refl (accent-line i, tt)
+    filled_all is_in_line (codes "accent: {}") (accent_name i ∷ []) refl (name-line i, tt)
 subject-line (Pair i base a b u) =
     filled_all is_in_line (codes "pair: {}; {}") (accent_name i ∷ character_text base ∷ []) refl
-    (accent-line i, (character-line base, tt))
+    (name-line i, (character-line base, tt))
 subject-line (ListedOtherwise i) =
-    filled_all is_in_line (codes "pairs: {}") (accent_name i ∷ []) refl (accent-line i, tt)
+    filled_all is_in_line (codes "pairs: {}") (accent_name i ∷ []) refl (name-line i, tt)
 
 pub values-line : (way : Change) → IsInLine (values_of way).0 × IsInLine (values_of way).1
 values-line (Slots a b) = (decimal-line a, decimal-line b)

@@ -13,7 +13,7 @@ use Rattle.console_states.specs.declared.selection.Sight.{Sight}
 use Rattle.console_states.specs.declared.selection.Sight.TheVariants.{Cell, Locks, Pair}
 use Rattle.console_states.specs.Sights.{Enumerates, IsReachable}
 use Rattle.console_scripts.specs.Visiting.{CanVisit, IsPair}
-use Rattle.keymap_cover.specs.Covering.{Covers, verdict_of, is_verdict, counts_of}
+use Rattle.keymap_cover.specs.Covering.{Covers, IsVerdict, is_verdict, counts_of}
 use Rattle.keymap_cover.specs.SightLists.{all_cells, all_lock_settings}
 use Rattle.keymap_cover.specs.Told.{AreTold, IsTold}
 use Rattle.keymap_cover.specs.declared.parts.Cover.{Cover}
@@ -29,7 +29,6 @@ use Rattle.play_core.specs.Spelling.{sent_line}
 use Rattle.play_core.specs.declared.sent.Sent.{Sent}
 use Rattle.play_core.specs.declared.sent.What.{What}
 use Rattle.play_core.specs.declared.sent.What.TheVariants as what
-use Rattle.script_text.specs.declared.cover.Listing.{Listing}
 use Rattle.script_text.specs.Comments.{comment}
 use Rattle.messages.specs.Filled.{filled}
 
@@ -44,13 +43,9 @@ never_word = codes "never"
 abbrev pub unstuck_word : List ℕ
 unstuck_word = codes "not before a modifier sticks"
 
--- whether the cover has this verdict on a sight
-abbrev pub has_verdict : MapValue → Cover → Verdict → Sight → Bool
-has_verdict m c v x = is_verdict v (verdict_of m c x)
-
--- the sights of a listing
-abbrev pub is_in : Listing → Sight → Bool
-is_in l = has_verdict l.map.now l.cover.now l.listed
+-- whether the verdict on a sight is this one
+abbrev pub has_verdict : (Sight → Verdict) → Verdict → Sight → Bool
+has_verdict told v x = is_verdict v (told x)
 
 abbrev pub number_text : ℕ → List ℕ
 number_text n = filled (codes " {}") (decimal n ∷ [])
@@ -142,8 +137,8 @@ CountedAreTold =
 -- What is counted or listed as left out presses can see, and it can't be visited.
 abbrev pub LeftOutCannotBeVisited : Type 0
 LeftOutCannotBeVisited =
-    (m : MapValue) (c : Cover) (x : Sight) → IsMap m → Covers m c → Contains (counted m) x
-    → has_verdict m c LeftOut x ≡ true → IsReachable m x × (CanVisit m x → ⊥)
+    (m : MapValue) (c : Cover) (x : Sight) → IsMap m → Contains (counted m) x → IsVerdict m c x LeftOut
+    → IsReachable m x × (CanVisit m x → ⊥)
 
 -- a character, if its pair with an accent is listed
 abbrev pub character_text : (Sight → Bool) → ℕ → ℕ → List ℕ
@@ -174,21 +169,25 @@ counts_line rest name n =
     comment (codes " {}: {}, left out {}, {} {}")
     (name ∷ decimal n.seen ∷ decimal n.left_out ∷ rest ∷ decimal n.rest ∷ [])
 
-abbrev pub counts_text : MapValue → Cover → List ℕ
-counts_text m c =
-    let told = verdict_of m c in
-    counts_line (rest_word c) (codes "cells") (counts_of told all_cells)
+-- what the script is for
+abbrev pub purpose_line : List ℕ
+purpose_line = comment (codes " for a console in a program: on a machine it restarts, stops or sleeps") []
+
+-- this, and how many of the cells, lock settings and pairs have each verdict
+abbrev pub counts_text : (Sight → Verdict) → MapValue → Cover → List ℕ
+counts_text told m c =
+    purpose_line ++ counts_line (rest_word c) (codes "cells") (counts_of told all_cells)
     ++ counts_line (rest_word c) (codes "lock settings") (counts_of told all_lock_settings)
     ++ counts_line (rest_word c) (codes "pairs") (counts_of told (all_pairs m))
 
 -- Behind a text stand the slots with what is left out of them and then with the rest, and the pairs in the same way.
-pub record AddsLists (m : MapValue) (c : Cover) (old new : List ℕ) : Type 0 where
+pub record AddsLists (told : Sight → Verdict) (m : MapValue) (c : Cover) (old new : List ℕ) : Type 0 where
   pub left_out : List ℕ
   pub rest : List ℕ
-  pub lists_left_out : ListsSlots (has_verdict m c LeftOut) left_out_word slot_limit left_out
-  pub lists_rest : ListsSlots (has_verdict m c Never) (rest_word c) slot_limit rest
-  pub spelled : new ≡ old ++ left_out ++ rest ++ accent_lines (has_verdict m c LeftOut) left_out_word m
-      ++ accent_lines (has_verdict m c Never) (rest_word c) m
+  pub lists_left_out : ListsSlots (has_verdict told LeftOut) left_out_word slot_limit left_out
+  pub lists_rest : ListsSlots (has_verdict told Never) (rest_word c) slot_limit rest
+  pub spelled : new ≡ old ++ left_out ++ rest ++ accent_lines (has_verdict told LeftOut) left_out_word m
+      ++ accent_lines (has_verdict told Never) (rest_word c) m
 
 -- ---- the events
 
@@ -224,8 +223,11 @@ event_lines starts events place =
 abbrev pub script_lines : List Start → List ScriptEvent → List ℕ
 script_lines starts events = flat_map (event_lines starts events) (range_with_len 0 (length events))
 
--- The text tells how much the script of the cover sees, lists what it doesn't see, and is this script.
+-- The text tells what the script of the cover is for, how much it sees and, in lists, what it doesn't see, by the
+-- verdict on each sight, and is this script.
 pub record IsCoverText (m : MapValue) (c : Cover) (text : List ℕ) : Type 0 where
+  pub told : Sight → Verdict
+  pub verdicts : Covers m c → (x : Sight) → IsVerdict m c x (told x)
   pub comments : List ℕ
-  pub adds_lists : AddsLists m c (counts_text m c) comments
+  pub adds_lists : AddsLists told m c (counts_text told m c) comments
   pub spelled : text ≡ comments ++ script_lines c.starts.items c.events.items

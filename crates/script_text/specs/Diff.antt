@@ -1,10 +1,12 @@
 -- What differs between two keymaps, and what tells them apart, as a script. What is told stands at the places `{}` of
 -- its words.
-use Rattle.std.specs.Prelude.{ℕ, ◌==◌, Bool, true, false, List, [], ◌∷◌, ◌++◌, ◌||◌, ◌&&◌, not}
+use Rattle.std.specs.Prelude.{◌≡◌, ℕ, ◌==◌, Bool, true, false, List, [], ◌∷◌, ◌++◌, ◌||◌, ◌&&◌, not}
 use Rattle.std.specs.Prelude.{codes, decimal}
 use Rattle.std.specs.Prelude.{slice_index_or, Option, Some, None, if◌then◌else◌}
 use Rattle.std.specs.List.{flat_map}
+use Rattle.keymap_core.specs.Maps.{MapValue, n_keys_of, n_accs_of, entry_at, cell_at, accent_or_blank}
 use Rattle.keymap_text.specs.Printed.{cell_text, character_text, flag_letter}
+use Rattle.keymap_diff.specs.Changes.{IsChange, IsMark, MeetsChange, result_at}
 use Rattle.keymap_diff.specs.declared.change.Change.{Change}
 use Rattle.keymap_diff.specs.declared.change.Change.TheVariants.{Slots, Cell, Letter, Accents, Accent, Pair}
 use Rattle.keymap_diff.specs.declared.change.Change.TheVariants.{ListedOtherwise}
@@ -67,6 +69,25 @@ line_text (ListedOtherwise i) =
 line_text x =
     comment (codes " {}{}: {} -> {}")
     (unseen_text (is_unseen x) ∷ subject_of x ∷ (values_of x).0 ∷ (values_of x).1 ∷ [])
+
+-- what changes, as it is in a keymap
+abbrev pub value_in : MapValue → Change → List ℕ
+value_in m (Slots a b) = decimal (n_keys_of m)
+value_in m (Cell s c a b u) = cell_text (cell_at m s c)
+value_in m (Letter s a b u) = flag_letter (entry_at m s).flag ∷ []
+value_in m (Accents a b) = decimal (n_accs_of m)
+value_in m (Accent i a b u) = character_text (accent_or_blank m i).own
+value_in m (Pair i base a b u) = made_text (result_at m i base)
+value_in m (ListedOtherwise i) = []
+
+-- The line of a change tells what is so in the old keymap and then what is so in the new one, and `unseen` exactly where
+-- no press meets it, unless a search gave up.
+abbrev pub LinesTellChanges : Type 0
+LinesTellChanges =
+    (known : Bool) (m n : MapValue) (x : Change) → IsChange known m n x → ((i : ℕ) → x ≡ ListedOtherwise i → ⊥)
+    → IsMark known m n (MeetsChange x) (is_unseen x)
+    × (line_text x ≡ comment (codes " {}{}: {} -> {}")
+    (unseen_text (is_unseen x) ∷ subject_of x ∷ value_in m x ∷ value_in n x ∷ []))
 
 -- the lines of all that differs: one for each change
 abbrev pub lines_text : List Change → List ℕ

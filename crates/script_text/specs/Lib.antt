@@ -1,4 +1,5 @@
 pub mod Comments
 pub mod Cover
 pub mod Diff
+pub mod Inner
 pub mod Replayed

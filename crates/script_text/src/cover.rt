@@ -7,16 +7,18 @@ ghost use Rattle.console_states.specs.declared.selection.Sight.TheVariants as Si
 ghost use Rattle.keymap_cover.specs.Covering.{verdict_of, counts_of};
 ghost use Rattle.messages.specs.Filled.{has_places};
 ghost use Rattle.script_text.specs.Cover as spec;
+ghost use Rattle.script_text.specs.Inner.Listed.{is_in};
 
 use crate::event_lines::{event_line, push_comment};
 use crate::words::{
     ALL_PAIRS, BOTH_LOCKS, CELLS, CELLS_PART, CLOCK, COLUMNS, COUNTS, LEFT_OUT, LISTED,
-    LOCK_SETTINGS, LOCKS, NEVER, NLOCK, NO_LOCK, ONE_SLOT, ONE_WAY_PART, PAIRS, PAIRS_PART, REPEAT,
-    SLOTS, TRIALS_PART, UNSTUCK,
+    LOCK_SETTINGS, LOCKS, NEVER, NLOCK, NO_LOCK, ONE_SLOT, ONE_WAY_PART, PAIRS, PAIRS_PART,
+    PURPOSE, REPEAT, SLOTS, TRIALS_PART, UNSTUCK,
 };
 use console_core::Event;
 use console_states::Sight;
 use keymap_core::{ACCENT_LIMIT, Accent, AccentIndex, Action, COLUMN_COUNT, KeyMap, SLOT_LIMIT};
+use keymap_cover::laws::counts_are_of_verdicts;
 use keymap_cover::{Cover, Part, ScriptEvent, Start, Verdict, cells, lock_settings};
 use messages::{either, fill, number, small};
 use std::alloc::{AllocError, Global};
@@ -33,7 +35,7 @@ struct Listing<'a> {
 impl<'a> Listing<'a> {
     /// Whether the sight is listed.
     fn has(&self, sight: Sight) -> bool
-        ensures { result ≡ spec.is_in self.now sight }
+        ensures { result ≡ is_in self.now sight }
     {
         self.cover.verdict(self.map, sight) == self.listed
     }
@@ -53,7 +55,7 @@ fn push_column(
     column: usize,
 ) -> Result<(), AllocError>
     ensures { OnOk result (text.new.items
-        ≡ text.old.items ++ spec.column_text (spec.is_in listing.now) slot column) }
+        ≡ text.old.items ++ spec.column_text (is_in listing.now) slot column) }
 {
     if listing.has(Sight::Cell { slot, column }) {
         push_number(text, column as u64)
@@ -65,7 +67,7 @@ fn push_column(
 /// Adds the columns of the slot whose cells are listed.
 fn push_columns(text: &mut Vec<u8>, listing: &Listing, slot: u8) -> Result<(), AllocError>
     ensures { OnOk result (text.new.items
-        ≡ text.old.items ++ spec.columns_text (spec.is_in listing.now) slot) }
+        ≡ text.old.items ++ spec.columns_text (is_in listing.now) slot) }
 {
     for column in 0..COLUMN_COUNT {
         push_column(text, listing, slot, column)?;
@@ -75,14 +77,14 @@ fn push_columns(text: &mut Vec<u8>, listing: &Listing, slot: u8) -> Result<(), A
 
 /// The name of a setting of clock and nlock, if the slot is listed under it.
 fn setting<'a>(listing: &Listing, slot: u8, caps: bool, num: bool, name: &'a [u8]) -> &'a [u8]
-    ensures { result.now ≡ spec.setting_text (spec.is_in listing.now) slot caps num name.now }
+    ensures { result.now ≡ spec.setting_text (is_in listing.now) slot caps num name.now }
 {
     either(listing.has(Sight::Locks { slot, caps, num }), name, b"")
 }
 
 /// The settings of clock and nlock under which the slot is listed.
 fn settings(alloc: Global, listing: &Listing, slot: u8) -> Result<Vec<u8>, AllocError>
-    ensures { IfOk result (λ text. text.items ≡ spec.settings_text (spec.is_in listing.now) slot) }
+    ensures { IfOk result (λ text. text.items ≡ spec.settings_text (is_in listing.now) slot) }
 {
     let mut text = Vec::new(alloc);
     text.extend_from_slice(setting(listing, slot, false, false, NO_LOCK))?;
@@ -107,7 +109,7 @@ fn push_headed(text: &mut Vec<u8>, head: &[u8], list: &[u8]) -> Result<(), Alloc
 
 /// What is listed of the slot.
 fn row_of(alloc: Global, listing: &Listing, slot: u8) -> Result<Vec<u8>, AllocError>
-    ensures { IfOk result (λ text. text.items ≡ spec.row_text (spec.is_in listing.now) slot) }
+    ensures { IfOk result (λ text. text.items ≡ spec.row_text (is_in listing.now) slot) }
 {
     let mut columns = Vec::new(alloc);
     push_columns(&mut columns, listing, slot)?;
@@ -120,8 +122,8 @@ fn row_of(alloc: Global, listing: &Listing, slot: u8) -> Result<Vec<u8>, AllocEr
 
 /// Whether the row is what is listed of the slot.
 fn has_row(alloc: Global, listing: &Listing, slot: u8, row: &[u8]) -> Result<bool, AllocError>
-    ensures same { IfOk result (λ same. IsTrue same → spec.row_text (spec.is_in listing.now) slot ≡ row.now) }
-    ensures other { IfOk result (λ same. same ≡ false → spec.row_text (spec.is_in listing.now) slot ≡ row.now → ⊥) }
+    ensures same { IfOk result (λ same. IsTrue same → spec.row_text (is_in listing.now) slot ≡ row.now) }
+    ensures other { IfOk result (λ same. same ≡ false → spec.row_text (is_in listing.now) slot ≡ row.now → ⊥) }
 {
     let other = row_of(alloc, listing, slot)?;
     Ok(other.as_slice() == row)
@@ -130,10 +132,10 @@ fn has_row(alloc: Global, listing: &Listing, slot: u8, row: &[u8]) -> Result<boo
 /// Before which slot those end of which the same is listed as of this one.
 fn run_end(alloc: Global, listing: &Listing, first: usize, row: &[u8]) -> Result<usize, AllocError>
     requires place { first < slot_limit }
-    requires row { row.now ≡ spec.row_text (spec.is_in listing.now) first }
+    requires row { row.now ≡ spec.row_text (is_in listing.now) first }
     ensures within { IfOk result (λ end. (first < end) × (end ≤ slot_limit)) }
-    ensures alike { IfOk result (λ end. spec.AreAlike (spec.is_in listing.now) first end) }
-    ensures ends { IfOk result (λ end. spec.EndsAlike (spec.is_in listing.now) first end) }
+    ensures alike { IfOk result (λ end. spec.AreAlike (is_in listing.now) first end) }
+    ensures ends { IfOk result (λ end. spec.EndsAlike (is_in listing.now) first end) }
 {
     for slot in first + 1..SLOT_LIMIT {
         if !has_row(alloc, listing, slot as u8, row)? {
@@ -172,10 +174,10 @@ fn push_run(
     first: usize,
 ) -> Result<usize, AllocError>
     requires place { first < slot_limit }
-    requires before { spec.ListsSlots (spec.is_in listing.now) listing.now.word.now first text.old.items }
+    requires before { spec.ListsSlots (is_in listing.now) listing.now.word.now first text.old.items }
     ensures within { IfOk result (λ end. (first < end) × (end ≤ slot_limit)) }
     ensures lists { IfOk result (λ end.
-        spec.ListsSlots (spec.is_in listing.now) listing.now.word.now end text.new.items) }
+        spec.ListsSlots (is_in listing.now) listing.now.word.now end text.new.items) }
 {
     let row = row_of(alloc, listing, first as u8)?;
     let end = run_end(alloc, listing, first, row.as_slice())?;
@@ -186,7 +188,7 @@ fn push_run(
 /// The lines of the slots of which something is listed.
 fn slots(alloc: Global, listing: &Listing) -> Result<Vec<u8>, AllocError>
     ensures { IfOk result (λ text.
-        spec.ListsSlots (spec.is_in listing.now) listing.now.word.now slot_limit text.items) }
+        spec.ListsSlots (is_in listing.now) listing.now.word.now slot_limit text.items) }
 {
     let mut text = Vec::new(alloc);
     let mut first = 0;
@@ -247,7 +249,7 @@ fn push_character(
     character: char,
 ) -> Result<(), AllocError>
     ensures { OnOk result (text.new.items
-        ≡ text.old.items ++ spec.character_text (spec.is_in listing.now) accent character) }
+        ≡ text.old.items ++ spec.character_text (is_in listing.now) accent character) }
 {
     if listing.has(Sight::Pair { accent, character }) {
         push_number(text, u64::from(character as u32))
@@ -264,7 +266,7 @@ fn push_characters(
     bases: &[char],
 ) -> Result<(), AllocError>
     ensures { OnOk result (text.new.items
-        ≡ text.old.items ++ flat_map (spec.character_text (spec.is_in listing.now) accent) bases.now) }
+        ≡ text.old.items ++ flat_map (spec.character_text (is_in listing.now) accent) bases.now) }
 {
     for base in bases {
         push_character(text, listing, accent, *base)?;
@@ -281,7 +283,7 @@ fn push_accent(
 ) -> Result<(), AllocError>
     requires { accent < accent_limit }
     ensures { OnOk result (text.new.items ≡ text.old.items
-        ++ spec.accent_line (spec.is_in listing.now) listing.now.word.now listing.now.map.now accent) }
+        ++ spec.accent_line (is_in listing.now) listing.now.word.now listing.now.map.now accent) }
 {
     let bases = bases(alloc, listing.map, accent)?;
     let mut characters = Vec::new(alloc);
@@ -298,7 +300,7 @@ fn push_accent(
 /// Adds a line for each accent with pairs that are listed.
 fn push_accents(text: &mut Vec<u8>, alloc: Global, listing: &Listing) -> Result<(), AllocError>
     ensures { OnOk result (text.new.items ≡ text.old.items
-        ++ spec.accent_lines (spec.is_in listing.now) listing.now.word.now listing.now.map.now) }
+        ++ spec.accent_lines (is_in listing.now) listing.now.word.now listing.now.map.now) }
 {
     for accent in 0..ACCENT_LIMIT as u8 {
         push_accent(text, alloc, listing, accent)?;
@@ -356,11 +358,12 @@ fn push_counts(
     )
 }
 
-/// How much the script sees.
+/// What the script is for, and how much it sees.
 fn counts(alloc: Global, map: &KeyMap, cover: &Cover) -> Result<Vec<u8>, AllocError>
-    ensures { IfOk result (λ text. text.items ≡ spec.counts_text map.now cover.now) }
+    ensures { IfOk result (λ text. text.items ≡ spec.counts_text (verdict_of map.now cover.now) map.now cover.now) }
 {
     let mut text = Vec::new(alloc);
+    push_comment(&mut text, PURPOSE, &[])?;
     push_counts(&mut text, map, cover, CELLS, cells(alloc)?.as_slice())?;
     push_counts(
         &mut text,
@@ -393,7 +396,8 @@ fn push_lists(
     map: &KeyMap,
     cover: &Cover,
 ) -> Result<(), AllocError>
-    ensures { OnOk result (spec.AddsLists map.now cover.now text.old.items text.new.items) }
+    ensures { OnOk result
+        (spec.AddsLists (verdict_of map.now cover.now) map.now cover.now text.old.items text.new.items) }
 {
     let left_out = Listing {
         cover,
@@ -483,6 +487,7 @@ fn push_script(
 pub fn cover_text(alloc: Global, map: &KeyMap, cover: &Cover) -> Result<Vec<u8>, AllocError>
     ensures { IfOk result (λ text. spec.IsCoverText map.now cover.now text.items) }
 {
+    counts_are_of_verdicts();
     let mut text = counts(alloc, map, cover)?;
     push_lists(&mut text, alloc, map, cover)?;
     push_script(&mut text, cover.starts.as_slice(), cover.events.as_slice())?;

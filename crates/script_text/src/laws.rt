@@ -10,10 +10,8 @@ ghost use Rattle.keymap_diff.specs.declared.change.Change.{Change as ChangeValue
 ghost use Rattle.keymap_diff.specs.declared.telling.Telling.{Telling as TellingValue};
 ghost use Rattle.play_core.specs.Scripts.{IsScript};
 ghost use Rattle.script_text.specs.Cover.{CountedAreTold, IsCoverText, LeftOutCannotBeVisited};
-ghost use Rattle.script_text.specs.Diff.{same_text};
+ghost use Rattle.script_text.specs.Diff.{LinesTellChanges, same_text};
 ghost use Rattle.script_text.specs.Replayed.{TellingReplays, events_sent};
-
-use keymap_cover::laws::counts_are_of_verdicts;
 
 /// The numbers of cells, lock settings and pairs that are printed of a cover count what is told of, each pair once.
 /// What is counted as left out can be seen by presses, but not visited: no moves lead to a press that sees it from
@@ -21,15 +19,19 @@ use keymap_cover::laws::counts_are_of_verdicts;
 pub fn counted_sights_are_told()
     ensures told { CountedAreTold }
     ensures left_out { LeftOutCannotBeVisited }
-{
-    counts_are_of_verdicts();
-}
+{}
 
 /// What is printed of a cover, its comments with counts and lists, the comment that begins each part and a line for
 /// each event, is a script of exactly these events.
 pub fn cover_scripts_send_the_events()
     ensures { (m : MapValue) (c : CoverValue) (text : List ℕ) → IsCoverText m c text → HasKeys (history c)
         → IsScript text (events_sent c) }
+{}
+
+/// The line of a change tells what is so in the old keymap before what is so in the new one, and `unseen` exactly where
+/// no press meets it, unless a search gave up.
+pub fn lines_tell_changes()
+    ensures { LinesTellChanges }
 {}
 
 /// What is printed of keymaps that differ is a script. Where they are told apart, it sends exactly the events that do

@@ -3,6 +3,10 @@
 //! "What differs between two keymaps". A comment stands here without the number sign before it and the line feed behind
 //! it. The definitions have these bytes of their own (specs/Cover.antt and Diff.antt), which are proved to be the same.
 
+// What the script that tests a console is for.
+pub(crate) const PURPOSE: &[u8] =
+    b" for a console in a program: on a machine it restarts, stops or sleeps";
+
 // How many sights of a kind the script that tests a console sees, leaves out and never sees, and these kinds.
 pub(crate) const COUNTS: &[u8] = b" {}: {}, left out {}, {} {}";
 

@@ -5,4 +5,4 @@ pub returns-clause-told : goal.returns-clause-told
 returns-clause-told c = counted_are_told
 
 pub returns-clause-left_out : goal.returns-clause-left_out
-returns-clause-left_out c = left_out_cannot_be_visited c.counts_are_of_verdicts.ensures.verdicts
+returns-clause-left_out c = left_out_cannot_be_visited

@@ -153,6 +153,15 @@ What people hand in by mistake: a text that was cut off in a word, in a quoted c
       007   '6'    '^'    rs     rs     '6'    dcir   rs     rs      O
                                                ^
 
+A table file in place of a text, in either width:
+  $ printf '030 nop nop nop nop nop nop nop nop O\n' > t
+  $ kmap compile t tables
+  $ kmap lint tables | grep -m 1 error
+  tables:1:1: error: the byte 0x1f begins no word; this is a table file: kmap dump prints its text [BadByte]
+  $ kmap compile --narrow t tables
+  $ kmap lint tables | grep -m 1 error
+  tables:1:1: error: the byte 0x1f begins no word; this is a table file: kmap dump prints its text [BadByte]
+
 UTF-16 with and without its mark, and UTF-8 with one.
   $ printf '\377\376' > t
   $ printf '30 nop\n' | sed 's/./&@/g' | tr '@' '\000' >> t

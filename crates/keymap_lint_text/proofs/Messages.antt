@@ -4,7 +4,6 @@ use Rattle.keymap_lint_text.proofs.Common.{Some, None, drop, length, ◌==◌}
 use Rattle.keymap_lint_text.proofs.Common.{list_all, nat_tests, All-take, slice_index}
 use Rattle.keymap_lint_text.proofs.Common.{IsSeen, IsLine, is_shown_byte}
 use Rattle.std.proofs.lemmas.Bool.{and_from, cond_both}
-unfoldable use Rattle.keymap_core.specs.CodePoints.{code_digits}
 use Rattle.keymap_core.specs.declared.action.Holding.{Holding}
 use Rattle.keymap_core.specs.declared.action.Holding.TheVariants as holding
 use Rattle.keymap_check.specs.declared.finding.Finding.{Finding}
@@ -182,7 +181,9 @@ lone_line bytes =
 
 byte_line : (text bytes : List ℕ) → IsLine (fault.bad_byte_text text bytes)
 unfolding fault.bad_byte_text
-byte_line text bytes = either _ _ _ (fills _ [] refl tt) (lone_line bytes)
+byte_line text bytes =
+    either _ _ _ (fills _ [] refl tt)
+    (either _ _ _ (fills words.TABLES.now _ refl (lone_line bytes, tt)) (lone_line bytes))
 
 between_line : (both : Option (ℕ × ℕ)) → IsLine (fault.between_text both)
 between_line None = fills words.BAD_LITERAL.now [] refl tt

@@ -73,6 +73,13 @@ abbrev pub is_utf16 : List ℕ → Bool
 is_utf16 text =
     slice_index text 0 == 0xff && slice_index text 1 == 0xfe || slice_index text 0 == 0xfe && slice_index text 1 == 0xff
 
+-- the text has as many bytes as a table file, in either width, and begins with a count of keys up to 256, its lower byte
+-- first
+abbrev pub is_table_file : List ℕ → Bool
+is_table_file text =
+    (length text == 15524 || length text == 4139)
+    && (slice_index text 1 == 0 || slice_index text 0 == 0 && slice_index text 1 == 1)
+
 unfoldable pub lone_byte_text : List ℕ → List ℕ
 lone_byte_text bytes =
     if is_unnamed (slice_index bytes 0)
@@ -84,7 +91,10 @@ lone_byte_text bytes =
 -- what is said of the bytes of a text from a place on that begin no token
 unfoldable pub bad_byte_text : List ℕ → List ℕ → List ℕ
 bad_byte_text text bytes =
-    if is_utf16 text then filled (codes "the text is UTF-16; save it as UTF-8") [] else lone_byte_text bytes
+    if is_utf16 text then filled (codes "the text is UTF-16; save it as UTF-8") []
+    else if is_table_file text
+    then filled (codes "{}; this is a table file: kmap dump prints its text") (lone_byte_text bytes ∷ [])
+    else lone_byte_text bytes
 
 -- the character in front of bytes, if one other than a line feed stands there, and how many bytes it has
 unfoldable pub front_character : List ℕ → Option (ℕ × ℕ)

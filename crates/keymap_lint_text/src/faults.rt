@@ -12,8 +12,8 @@ use crate::wanted::{started, wanted};
 use crate::words::{
     ALL_CELLS, BAD_BYTE, BAD_CHAR, BAD_FUNCTION, BAD_LITERAL, BAD_WORD, COMBINED, ENDS,
     ENDS_QUOTED, FEW_CELLS, FUNCTION_KEYS, KEY_TOO_LARGE, LOCK_LETTERS, LONG_WORD, MARK,
-    MEANT_CHARACTER, MEANT_NAME, MEANT_NUMBER, NOP, SCREENS, TOO_MANY_PAIRS, TWO_CHARACTERS,
-    UNEXPECTED, UNNAMED_BYTE, UTF16, ZERO_BASE,
+    MEANT_CHARACTER, MEANT_NAME, MEANT_NUMBER, NOP, SCREENS, TABLES, TOO_MANY_PAIRS,
+    TWO_CHARACTERS, UNEXPECTED, UNNAMED_BYTE, UTF16, ZERO_BASE,
 };
 use keymap_core::{code_digits, hex_digit};
 use keymap_names::{first_shown, word};
@@ -112,6 +112,13 @@ fn is_utf16(text: &[u8]) -> bool
     text.len() > 1 && (text[0] == 0xff && text[1] == 0xfe || text[0] == 0xfe && text[1] == 0xff)
 }
 
+/// Whether the bytes are as many as those of a table file, in either width, and begin with a count of keys.
+fn is_table_file(text: &[u8]) -> bool
+    ensures { result ≡ spec.is_table_file text.now }
+{
+    (text.len() == 15_524 || text.len() == 4_139) && (text[1] == 0 || text[0] == 0 && text[1] == 1)
+}
+
 /// What is said of bytes that begin no token.
 #[tactic(auto, unfolding(crate::specs::Faults::lone_byte_text))]
 fn lone_byte(alloc: Global, bytes: &[u8]) -> Result<Vec<u8>, AllocError>
@@ -140,9 +147,13 @@ fn bad_byte(alloc: Global, source: &[u8], bytes: &[u8]) -> Result<Vec<u8>, Alloc
     ensures { IfOk result (λ text. text.items ≡ spec.bad_byte_text source.now bytes.now) }
 {
     if is_utf16(source) {
-        filled(alloc, UTF16, &[])
+        return filled(alloc, UTF16, &[]);
+    }
+    let said = lone_byte(alloc, bytes)?;
+    if is_table_file(source) {
+        filled(alloc, TABLES, &[said.as_slice()])
     } else {
-        lone_byte(alloc, bytes)
+        Ok(said)
     }
 }
 

@@ -88,6 +88,8 @@ pub(crate) const MARK: &[u8] = b"a byte order mark begins no word; remove it";
 
 pub(crate) const UTF16: &[u8] = b"the text is UTF-16; save it as UTF-8";
 
+pub(crate) const TABLES: &[u8] = b"{}; this is a table file: kmap dump prints its text";
+
 pub(crate) const BAD_LITERAL: &[u8] =
     b"no quoted character stands here: an apostrophe, one character other than a line feed, an apostrophe";
 

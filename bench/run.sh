@@ -3,21 +3,27 @@
 # tenth of the largest size to the whole, how many reads and writes a run makes, what lint and fmt cost, what the check of
 # one keymap with the start of the program costs, what the longest search for a demonstration costs, what the search of a
 # keymap and that between two cost, what the differences of two keymaps cost, what the script of a sentence costs, what
-# the script that tests a console costs, what a picture costs, and what an event costs over a keymap in memory and over
-# its tables. Where instructions are counted it compares what is measured with bench/limits, tells each limit that is
-# passed, and fails then.
+# the script that tests a console costs, what a picture costs, and what an event costs over a keymap in memory, over its
+# tables and in a program in C. Where instructions are counted it compares what is measured with bench/limits, tells each
+# limit that is passed, and fails then.
 #
-# usage: run.sh PROGRAM TESTS
-# TESTS has the tests of crates/tests, of which one steps consoles, LIMITS is another file of limits, and README
+# usage: run.sh PROGRAM TESTS LIBRARY
+# TESTS has the tests of crates/tests, of which one steps consoles, LIBRARY is that for C, LIMITS is another file of
+# limits, and GUIDE
 # another text whose table is written. Costs are instructions, counted by perf(1) or else by callgrind of valgrind(1), or
 # else microseconds of processor time. Reads and writes are the system calls of these names, among them a few of the
 # loader, counted by strace(1), or else by `valgrind --trace-syscalls=yes`.
 
 program=${1:-crates/kmap/out/kmap}
 tests=${2:-crates/tests/out/tests_tests}
+library=${3:-crates/kmap_c/out/libkmap_c.a}
 case $program in
 /*) ;;
 *) program=$PWD/$program ;;
+esac
+case $library in
+/*) ;;
+*) library=$PWD/$library ;;
 esac
 case $tests in
 /*) ;;
@@ -29,9 +35,9 @@ case ${LIMITS:=$here/limits} in
 /*) ;;
 *) LIMITS=$PWD/$LIMITS ;;
 esac
-case ${README:=$here/../README.md} in
+case ${GUIDE:=$here/../docs/GUIDE.md} in
 /*) ;;
-*) README=$PWD/$README ;;
+*) GUIDE=$PWD/$GUIDE ;;
 esac
 keymap=$examples/us.kbd
 folder=$(mktemp -d) || exit 1
@@ -337,11 +343,18 @@ measured keymap-an-event "$over_map"
 measured tables-an-event "$over_tables"
 measured tables-to-keymap "$(ratio "$over_tables" "$over_map")"
 
+# The same rounds in C.
+${CC:-cc} -O2 -I "$here/../include" "$here/steps.c" "$library" -o steps || exit 1
+program=$folder/steps
+in_c=$(per "$(cost 10000)" "$(cost 1)" 79992)
+echo "an event by kmap_step in a program in C: $in_c $unit"
+measured c-an-event "$in_c"
+
 if [ $unit != instructions ]; then
     echo 'limits are not looked at: nothing here counts instructions'
     exit 0
 fi
-# The table of README has what was measured of each limit that has words.
+# The table of the guide has what was measured of each limit that has words.
 awk -v limits="$LIMITS" '
     function grouped(n,    behind) {
         if (n ~ /[^0-9]/) return n
@@ -361,7 +374,7 @@ awk -v limits="$LIMITS" '
         next
     }
     inside && /^\|/ { next }
-    { inside = 0; print }' "$LIMITS" measured "$README" > readme && cp readme "$README" || exit 1
+    { inside = 0; print }' "$LIMITS" measured "$GUIDE" > guide && cp guide "$GUIDE" || exit 1
 # Each limit is of something that was measured, and each measure has a limit.
 awk '
     FNR == NR && /^[a-z]/ { limit[$1] = $2; next }

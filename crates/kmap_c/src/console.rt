@@ -127,7 +127,14 @@ pub extern "C" fn kmap_step(
     ensures delivers { (numbers : List ℕ) → WasDelivered tables.now tables.now numbers console.old.store
         → result ≡ status.done → WasDelivered tables.now tables.now (event ∷ numbers) console.new.store }
 {
-    kmap_step_between(tables, tables, console, event, answer)
+    let Some(shown) = Tables::new(tables) else {
+        return BAD_LENGTH;
+    };
+    if event > LAST_EVENT {
+        return BAD_EVENT;
+    }
+    *answer = step_kept(&mut console.store, &shown, &shown, event_of(event)).raw();
+    DONE
 }
 
 /// Delivers the events of these numbers, and puts the answer to each in its place.

@@ -1,12 +1,16 @@
 # make               proves and builds the program and the C library, and leaves them at crates/kmap/out/kmap and
 #                    crates/kmap_c/out/libkmap_c.a, libkmap.so beside it, with the header include/kmap.h; at once
 #                    where nothing changed
+# make lib           builds the C library for the TARGET that is named, aarch64-linux-gnu, riscv64-linux-gnu or
+#                    x86_64-kernel, from the LLVM text of what was proved, and leaves it at
+#                    crates/kmap_c/out/TARGET/libkmap.a
 # make quick         types a line with a program that is built without a proof, once: QUICK='check de.kbd' for other words,
 #                    in examples/
-# make test          runs all tests on what it builds without a proof, in 5 to 9 minutes of processor time
+# make test          runs all tests on what it builds without a proof, in 5 to 12 minutes of processor time
 # make check         the gate: `make test`, then proves every crate that this machine has not proved as it stands, tries
-#                    its edits that must be refused, and runs the scripts on what is proved, in one to two and a half
+#                    its edits that must be refused, and runs the scripts on what is proved, in one to three
 #                    hours of processor time from nothing, as fast as the machine is
+# make promises      prints each public call and law with its first sentence and its clauses, from the sources
 # make bench         measures the program on large inputs, and fails where a limit of bench/limits is passed
 # make install       installs the program, the C library with its header, manual pages, completions, examples and
 #                    documents below $(DESTDIR)$(PREFIX), and writes nothing here where all is built
@@ -27,13 +31,16 @@ RT = rt
 CC = cc
 INSTALL = install
 # What commands of README leave in examples/ is not installed.
-EXAMPLE_FILES = accents.kbd de.kbd de.script kmap.py line.numbers line.script live.c load.c test_keymap.py trap.kbd \
-    type.c type.py us.kbd
+EXAMPLE_FILES = accents.kbd de.kbd de.script line.numbers line.script live.c load.c test_keymap.py trap.kbd type.c type.py \
+    us.kbd
+PYTHON_FILES = pyproject.toml kmap/__init__.py kmap/py.typed
 # The documents for users; ARCHITECTURE and DECISIONS are for those who work on the repository.
 DOCUMENTS = docs/FORMATS.md docs/GUIDE.md docs/PROOFS.md docs/TRANSLATION.md docs/de.svg
 QUICK = play us.kbd line.script --typed
 PROGRAM = crates/kmap/out/kmap
 LIBRARY = crates/kmap_c/out/libkmap_c.a
+TEXT = crates/kmap_c/out/libkmap_c.ll
+TARGET = x86_64-kernel
 SHARED = crates/kmap_c/out/libkmap.so
 SONAME = libkmap.so.0
 TESTS = crates/tests/out/tests_tests
@@ -49,6 +56,7 @@ BASH_COMPLETIONS = $(SHARE)/bash-completion/completions
 FISH_COMPLETIONS = $(SHARE)/fish/vendor_completions.d
 ZSH_COMPLETIONS = $(SHARE)/zsh/site-functions
 EXAMPLES = $(SHARE)/examples/kmap
+PYTHON = $(SHARE)/kmap/python
 DOC = $(SHARE)/doc/kmap
 
 # The shared library names the processors that it is for, so the loader refuses it on others.
@@ -61,6 +69,15 @@ all:
 	@RT="$(RT)" sh build.sh kmap out/kmap run -- --version
 	@RT="$(RT)" sh build.sh kmap_c out/libkmap_c.a lib
 	@$(LINK_SHARED)
+
+# The text is left by a build over kept work, as the gate leaves it.
+lib:
+	@RT="$(RT)" sh build.sh kmap_c out/libkmap_c.a lib
+	@if [ ! -f $(TEXT) ] || [ -n "$$(find $(LIBRARY) -newer $(TEXT))" ]; then \
+	    RT="$(RT)" python3 tests/kit.py crates/kmap_c; \
+	fi
+	@RT="$(RT)" sh library.sh "$(TARGET)" $(TEXT) "crates/kmap_c/out/$(TARGET)/libkmap.a"
+	@echo "crates/kmap_c/out/$(TARGET)/libkmap.a"
 
 # The program that it runs, crates/kmap/out/unproved/kmap, is taken by nothing else.
 quick:
@@ -85,6 +102,10 @@ other-build:
 	sh tests/swapped_names.sh $(PROGRAM).by-rattle
 	sh tests/stopped.sh $(PROGRAM).by-rattle
 	sh tests/both_builds.sh $(PROGRAM) $(PROGRAM).by-rattle
+
+.PHONY: promises
+promises:
+	@python3 -B tests/promises
 
 # the tests of what stands in the repository, of the scripts themselves, and of how costs grow, which is the same
 # however the program is built: `make test` alone runs these
@@ -118,11 +139,11 @@ scripts:
 
 bench: all
 	@RT="$(RT)" sh build.sh tests out/tests_tests test
-	sh bench/run.sh $(PROGRAM) $(TESTS)
+	sh bench/run.sh $(PROGRAM) $(TESTS) $(LIBRARY)
 
 install: all
 	$(INSTALL) -d "$(DESTDIR)$(PREFIX)/bin" "$(LIB)/pkgconfig" "$(INCLUDE)" "$(MAN)/man1" "$(MAN)/man3" \
-	    "$(MAN)/man5" "$(EXAMPLES)" "$(DOC)/docs" "$(BASH_COMPLETIONS)" \
+	    "$(MAN)/man5" "$(EXAMPLES)" "$(PYTHON)/kmap" "$(DOC)/docs" "$(BASH_COMPLETIONS)" \
 	    "$(FISH_COMPLETIONS)" "$(ZSH_COMPLETIONS)"
 	$(INSTALL) -m 755 $(PROGRAM) "$(DESTDIR)$(PREFIX)/bin/kmap"
 	$(INSTALL) -m 644 $(LIBRARY) "$(LIB)/libkmap.a"
@@ -142,6 +163,7 @@ install: all
 	$(INSTALL) -m 644 completions/kmap.fish "$(FISH_COMPLETIONS)/kmap.fish"
 	$(INSTALL) -m 644 completions/_kmap "$(ZSH_COMPLETIONS)/_kmap"
 	for file in $(EXAMPLE_FILES); do $(INSTALL) -m 644 examples/$$file "$(EXAMPLES)" || exit 1; done
+	for file in $(PYTHON_FILES); do $(INSTALL) -m 644 python/$$file "$(PYTHON)/$$file" || exit 1; done
 	$(INSTALL) -m 644 CHANGELOG.md LICENSE "$(DOC)"
 	sed -e '/^- \[docs\/ARCHITECTURE/d' -e '/^- \[docs\/DECISIONS/d' -e '/^- \[CONTRIBUTING/d' README.md \
 	    > "$(DOC)/README.md" && chmod 644 "$(DOC)/README.md"
@@ -155,8 +177,12 @@ uninstall:
 	for name in $$($(NAMES)); do rm -f "$(MAN)/man3/$$name.3"; done
 	rm -f "$(BASH_COMPLETIONS)/kmap" "$(FISH_COMPLETIONS)/kmap.fish" "$(ZSH_COMPLETIONS)/_kmap"
 	for file in $(EXAMPLE_FILES); do rm -f "$(EXAMPLES)/$$file"; done
+	for file in $(PYTHON_FILES); do rm -f "$(PYTHON)/$$file"; done
+	rm -rf "$(PYTHON)/kmap/__pycache__"
 	for file in README.md CHANGELOG.md LICENSE $(DOCUMENTS); do rm -f "$(DOC)/$$file"; done
-	for folder in "$(EXAMPLES)" "$(DOC)/docs" "$(DOC)"; do rmdir "$$folder" 2> /dev/null || true; done
+	for folder in "$(EXAMPLES)" "$(PYTHON)/kmap" "$(PYTHON)" "$(SHARE)/kmap" "$(DOC)/docs" "$(DOC)"; do \
+	    rmdir "$$folder" 2> /dev/null || true; \
+	done
 
 # The same bytes for the same files: names in order, and no time, owner or name of this machine. Its kmap.pc finds the
 # place where it is unpacked.
@@ -171,4 +197,4 @@ dist: all
 clean:
 	rm -rf crates/*/out kmap-*.tar.gz
 
-.PHONY: all quick test check other-build texts scripts bench install uninstall dist clean
+.PHONY: all lib quick test check other-build texts scripts bench install uninstall dist clean

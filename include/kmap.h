@@ -25,10 +25,6 @@
 #include <stddef.h>
 #include <stdint.h>
 
-#if defined __SIZEOF_POINTER__ && __SIZEOF_POINTER__ != 8
-#error kmap: x86-64 only, with pointers of 64 bits
-#endif
-
 #ifdef __cplusplus
 extern "C" {
 #endif
@@ -193,8 +189,11 @@ struct kmap_text_fault {
 	uint32_t kind;
 };
 
-/* The sizes that the library takes these to have. */
-#if defined(__cplusplus) && __cplusplus >= 201103L
+/* The processors that the library can be made for, and the sizes that it takes these to have. */
+#if (defined __SIZEOF_POINTER__ && __SIZEOF_POINTER__ != 8) \
+    || (defined __BYTE_ORDER__ && __BYTE_ORDER__ != __ORDER_LITTLE_ENDIAN__)
+#error kmap: only for processors of 64 bits that are little endian
+#elif defined(__cplusplus) && __cplusplus >= 201103L
 static_assert(sizeof(struct kmap_console) == 132, "a console is 132 bytes");
 static_assert(sizeof(struct kmap_fault) == 16, "a fault is 16 bytes");
 static_assert(sizeof(struct kmap_tables) == 15524, "tables are 15,524 bytes");
@@ -218,6 +217,34 @@ _Static_assert(sizeof(struct kmap_text_fault) == 24, "a fault of a text is 24 by
  * At once: calls may share the tables. Stack: 1,100 bytes.
  */
 int32_t kmap_check(const uint8_t *tables, size_t length, struct kmap_fault *fault);
+
+/*
+ * Makes tables of FreeBSD's own, a `struct keymap` and a `struct accentmap` of sys/kbio.h, as GIO_KEYMAP and
+ * GIO_DEADKEYMAP give them: these two have the bytes of a table file, but anything may stand in their pads and in what
+ * isn't in use. kmap_check then tells whether they are the tables of a keymap. Back it goes by copies: the first 9220
+ * bytes are a `struct keymap`, the 6304 behind them a `struct accentmap`. It is C, so it is tested and not proved.
+ *
+ * Needs: 9220 bytes of `keymap` and 6304 of `accentmap`; the three apart. At once: calls may share the first two.
+ */
+static inline void kmap_from_kbio(const void *keymap, const void *accentmap, struct kmap_tables *tables)
+{
+	const uint8_t *keys = (const uint8_t *)keymap, *accents = (const uint8_t *)accentmap;
+	size_t i, n_keys = keys[0] + 256u * keys[1], n_accs = accents[0] + 256u * accents[1];
+	int in_use = 0;
+
+	for (i = 0; i < 9220; i++) {
+		in_use = i < 2 || (i >= 4 && (i - 4) / 36 < n_keys && (i - 4) % 36 < 34);
+		tables->bytes[i] = in_use ? keys[i] : 0;
+	}
+	for (i = 0; i < 6304; i++) {
+		/* a slot ends in two pads, and an accent at the first pair whose base is 0 */
+		if (i < 4 || (i - 4) % 420 == 0)
+			in_use = i < 2 || (i >= 4 && (i - 4) / 420 < n_accs);
+		else if ((i - 4) % 420 % 8 == 4 && (accents[i] | accents[i + 1] | accents[i + 2] | accents[i + 3]) == 0)
+			in_use = 0;
+		tables->bytes[9220 + i] = in_use ? accents[i] : 0;
+	}
+}
 
 /*
  * Reads a keymap text, which kmap(5) describes, of any length. KMAP_OK if it spells a keymap, and then `tables` are its

@@ -12,7 +12,7 @@ import sys
 import tempfile
 
 TOP = pathlib.Path(__file__).resolve().parent.parent
-sys.path.insert(0, str(TOP / "examples"))
+sys.path.insert(0, str(TOP / "python"))
 sys.dont_write_bytecode = True
 
 from kmap import ACCENTS, LOAD, LOCKS, MODIFIERS, RESET, Action, Console, Keymap, TablesError, TextError  # noqa: E402

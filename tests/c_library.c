@@ -1,14 +1,21 @@
 /*
- * Calls each function of the C library, with the tables of examples/us.kbd, and compares what it answers. What is
- * wanted was put together by hand from keymap(5), sys/kbio.h and sys/dev/kbd/kbdreg.h.
+ * Calls each function of the C library, and compares what it answers: events over the tables of examples/us.kbd, each
+ * status, each kind of a fault, a finding in each place, who bears what, null pointers to nothing, and noise. What is
+ * wanted was put together by hand from keymap(5), docs/FORMATS.md, sys/kbio.h and sys/dev/kbd/kbdreg.h.
  *
- * usage: c_library TABLES
+ * usage: c_library US.KBD
  */
 #include <kmap.h>
 #include <stdio.h>
 #include <string.h>
 
-static uint8_t tables[KMAP_TABLES_SIZE + 1];
+#define NOPS7 "nop nop nop nop nop nop nop"
+
+/* Those of the keymap, and those that other texts spell; each with its length. */
+static struct kmap_tables us, made, before;
+#define US us.bytes, sizeof us.bytes
+#define MADE made.bytes, sizeof made.bytes
+
 static unsigned passed, failed;
 
 static void holds(const char *name, int is)
@@ -19,6 +26,11 @@ static void holds(const char *name, int is)
 		failed++;
 		printf("failed: %s\n", name);
 	}
+}
+
+static int32_t read_text(const char *text, struct kmap_text_fault *fault)
+{
+	return kmap_read_text((const uint8_t *)text, strlen(text), &made, fault);
 }
 
 /* An event with its answer and what is on after it. */
@@ -65,17 +77,16 @@ static void check_steps(void)
 	kmap_start(&between);
 	kmap_start(&all);
 	for (i = 0; i < STEPS; i++) {
-		snprintf(name, sizeof name, "step %lu", (unsigned long)i);
-		holds(name, kmap_step(tables, KMAP_TABLES_SIZE, &console, steps[i].event, &answer) == KMAP_OK
-		    && answer == steps[i].answer && kmap_modifiers(&console) == steps[i].modifiers
-		    && kmap_locks(&console) == steps[i].locks && kmap_pending(&console) == steps[i].pending);
-		holds(name, kmap_step_between(tables, KMAP_TABLES_SIZE, tables, KMAP_TABLES_SIZE, &between,
-		    steps[i].event, &answer) == KMAP_OK && answer == steps[i].answer);
+		sprintf(name, "step %lu", (unsigned long)i);
+		holds(name, kmap_step(US, &console, steps[i].event, &answer) == KMAP_OK && answer == steps[i].answer
+		    && kmap_modifiers(&console) == steps[i].modifiers && kmap_locks(&console) == steps[i].locks
+		    && kmap_pending(&console) == steps[i].pending);
+		holds(name, kmap_step_between(US, US, &between, steps[i].event, &answer) == KMAP_OK
+		    && answer == steps[i].answer);
 		events[i] = steps[i].event;
 	}
 	answers[STEPS] = 77;
-	holds("all at once", kmap_deliver(tables, KMAP_TABLES_SIZE, tables, KMAP_TABLES_SIZE, &all, events, STEPS,
-	    answers, STEPS + 1) == KMAP_OK);
+	holds("all at once", kmap_deliver(US, US, &all, events, STEPS, answers, STEPS + 1) == KMAP_OK);
 	for (i = 0; i < STEPS; i++)
 		holds("an answer of all at once", answers[i] == steps[i].answer);
 	holds("the place past them stays", answers[STEPS] == 77);
@@ -86,41 +97,36 @@ static void check_steps(void)
 
 static void check_refusals(void)
 {
-	struct kmap_console console, before;
+	struct kmap_console console, untouched;
 	uint16_t events[2] = { KMAP_PRESS(30), 258 };
 	uint32_t answer = 77, answers[2] = { 77, 77 };
 
 	memset(&console, 0x5a, sizeof console);
-	before = console;
+	untouched = console;
 	holds("a key above 127 gives no event", KMAP_PRESS(128) == KMAP_NO_EVENT && KMAP_RELEASE(128) == KMAP_NO_EVENT
 	    && KMAP_PRESS(-1) == KMAP_NO_EVENT && KMAP_RELEASE(4294967296 + 1) == KMAP_NO_EVENT
 	    && kmap_press(256) == KMAP_NO_EVENT && kmap_release((uintmax_t)-1) == KMAP_NO_EVENT);
 	holds("a key up to 127 gives its event", KMAP_PRESS(127u) == 127 && KMAP_RELEASE(0) == 128
 	    && KMAP_RELEASE(127) == 255 && kmap_press(0) == 0 && kmap_release(127) == 255);
-	holds("no event is refused", kmap_step(tables, KMAP_TABLES_SIZE, &console, KMAP_NO_EVENT, &answer)
-	    == KMAP_BAD_EVENT);
-	holds("258 is no event", kmap_step(tables, KMAP_TABLES_SIZE, &console, 258, &answer) == KMAP_BAD_EVENT);
-	holds("one byte too few", kmap_step(tables, KMAP_TABLES_SIZE - 1, &console, 30, &answer) == KMAP_BAD_LENGTH);
-	holds("one byte too many", kmap_step_between(tables, KMAP_TABLES_SIZE, tables, KMAP_TABLES_SIZE + 1, &console,
-	    30, &answer) == KMAP_BAD_LENGTH);
-	holds("258 is no event between two", kmap_step_between(tables, KMAP_TABLES_SIZE, tables, KMAP_TABLES_SIZE,
-	    &console, 258, &answer) == KMAP_BAD_EVENT);
-	holds("a length is told before an event", kmap_step_between(tables, KMAP_TABLES_SIZE - 1, tables,
-	    KMAP_TABLES_SIZE, &console, 258, &answer) == KMAP_BAD_LENGTH);
-	holds("an event of two is none", kmap_deliver(tables, KMAP_TABLES_SIZE, tables, KMAP_TABLES_SIZE, &console,
-	    events, 2, answers, 2) == KMAP_BAD_EVENT);
-	holds("an event is told before the places", kmap_deliver(tables, KMAP_TABLES_SIZE, tables, KMAP_TABLES_SIZE,
-	    &console, events, 2, answers, 1) == KMAP_BAD_EVENT);
-	holds("the first tables are short", kmap_deliver(tables, KMAP_TABLES_SIZE - 1, tables, KMAP_TABLES_SIZE,
-	    &console, events, 2, answers, 1) == KMAP_BAD_LENGTH);
-	holds("the second ones are empty", kmap_deliver(tables, KMAP_TABLES_SIZE, tables, 0, &console, events, 2,
-	    answers, 2) == KMAP_BAD_LENGTH);
-	holds("the second ones are long, and there is no event", kmap_deliver(tables, KMAP_TABLES_SIZE, tables,
-	    KMAP_TABLES_SIZE + 1, &console, events, 0, answers, 0) == KMAP_BAD_LENGTH);
+	holds("no event is refused", kmap_step(US, &console, KMAP_NO_EVENT, &answer) == KMAP_BAD_EVENT);
+	holds("258 is no event", kmap_step(US, &console, 258, &answer) == KMAP_BAD_EVENT
+	    && kmap_step_between(US, US, &console, 258, &answer) == KMAP_BAD_EVENT);
+	holds("one byte too few", kmap_step(us.bytes, sizeof us - 1, &console, 30, &answer) == KMAP_BAD_LENGTH);
+	holds("one byte too many", kmap_step_between(US, us.bytes, sizeof us + 1, &console, 30, &answer)
+	    == KMAP_BAD_LENGTH);
+	holds("a length is told before an event", kmap_step_between(us.bytes, sizeof us - 1, US, &console, 258, &answer)
+	    == KMAP_BAD_LENGTH);
+	holds("an event of two is none, and that is told before the places", kmap_deliver(US, US, &console, events, 2,
+	    answers, 2) == KMAP_BAD_EVENT && kmap_deliver(US, US, &console, events, 2, answers, 1) == KMAP_BAD_EVENT);
+	holds("the first tables are short", kmap_deliver(us.bytes, sizeof us - 1, US, &console, events, 2, answers, 1)
+	    == KMAP_BAD_LENGTH);
+	holds("the second ones are empty", kmap_deliver(US, us.bytes, 0, &console, events, 2, answers, 2)
+	    == KMAP_BAD_LENGTH);
+	holds("the second ones are long, and there is no event", kmap_deliver(US, us.bytes, sizeof us + 1, &console, events,
+	    0, answers, 0) == KMAP_BAD_LENGTH);
 	events[1] = KMAP_LOAD;
-	holds("a place for one of two", kmap_deliver(tables, KMAP_TABLES_SIZE, tables, KMAP_TABLES_SIZE, &console,
-	    events, 2, answers, 1) == KMAP_NO_ROOM);
-	holds("nothing was changed", memcmp(&console, &before, sizeof console) == 0 && answer == 77
+	holds("a place for one of two", kmap_deliver(US, US, &console, events, 2, answers, 1) == KMAP_NO_ROOM);
+	holds("nothing was changed", memcmp(&console, &untouched, sizeof console) == 0 && answer == 77
 	    && answers[0] == 77 && answers[1] == 77);
 }
 
@@ -128,26 +134,26 @@ static void check_refusals(void)
 static int faulty_at(size_t place, uint8_t byte, uint32_t kind, size_t offset)
 {
 	struct kmap_fault fault = { 0, 0 };
-	uint8_t there = tables[place];
+	uint8_t there = us.bytes[place];
 	int32_t status;
 
-	tables[place] = byte;
-	status = kmap_check(tables, KMAP_TABLES_SIZE, &fault);
-	tables[place] = there;
+	us.bytes[place] = byte;
+	status = kmap_check(US, &fault);
+	us.bytes[place] = there;
 	return status == KMAP_FAULTY && fault.kind == kind && fault.offset == offset;
 }
 
-static void check_faults(void)
+static void check_table_faults(void)
 {
+	static const uint8_t longer[sizeof us + 1];
 	struct kmap_fault fault = { 7, 7 };
 
-	holds("the tables are good", kmap_check(tables, KMAP_TABLES_SIZE, &fault) == KMAP_OK && fault.offset == 7
-	    && fault.kind == 7);
-	holds("short", kmap_check(tables, 100, &fault) == KMAP_FAULTY && fault.offset == 100
+	holds("the tables are good", kmap_check(US, &fault) == KMAP_OK && fault.offset == 7 && fault.kind == 7);
+	holds("short", kmap_check(us.bytes, 100, &fault) == KMAP_FAULTY && fault.offset == 100
 	    && fault.kind == KMAP_SHORT);
-	holds("empty", kmap_check(tables, 0, &fault) == KMAP_FAULTY && fault.offset == 0 && fault.kind == KMAP_SHORT);
-	holds("long", kmap_check(tables, KMAP_TABLES_SIZE + 1, &fault) == KMAP_FAULTY
-	    && fault.offset == KMAP_TABLES_SIZE && fault.kind == KMAP_LONG);
+	holds("empty", kmap_check(us.bytes, 0, &fault) == KMAP_FAULTY && fault.offset == 0 && fault.kind == KMAP_SHORT);
+	holds("long", kmap_check(longer, sizeof longer, &fault) == KMAP_FAULTY && fault.offset == KMAP_TABLES_SIZE
+	    && fault.kind == KMAP_LONG);
 	holds("a count", faulty_at(1, 2, KMAP_BAD_COUNT, 0));
 	holds("a pad", faulty_at(3, 1, KMAP_BAD_PAD, 3));
 	/* Slot 30 stands at 4 + 36 * 30, its marks 32 bytes on, its flag 33; slot 42 is left shift throughout. */
@@ -158,22 +164,16 @@ static void check_faults(void)
 	holds("the last byte", faulty_at(KMAP_TABLES_SIZE - 1, 1, KMAP_NOT_EMPTY, KMAP_TABLES_SIZE - 1));
 }
 
-/* A cell with its number: left shift is code 2, back tab 8, f1 27, screen 11 21, dgra 137 and f25 51. */
+/*
+ * A cell with its number: left shift is code 2, back tab 8, f1 27, screen 11 21, dgra 137 and f25 51. That each cell is
+ * what is printed of it, and each action has its name, is tested in Python.
+ */
 static const struct {
 	uint32_t slot, column, cell;
 } cells[] = {
-	{ 30, 0, 'a' },
-	{ 30, 1, 'A' },
-	{ 30, 2, 1 },
-	{ 0, 0, KMAP_SPCLKEY },
-	{ 42, 7, KMAP_SPCLKEY + 2 },
-	{ 15, 1, KMAP_SPCLKEY + KMAP_BKEY + 8 },
-	{ 59, 0, KMAP_SPCLKEY + KMAP_FKEY + 27 },
-	{ 59, 2, KMAP_SPCLKEY + KMAP_FKEY + 51 },
-	{ 59, 5, KMAP_SPCLKEY + 21 },
-	{ 41, 4, KMAP_SPCLKEY + 137 },
-	{ 158, 0, 0 },
-	{ 255, 7, 0 },
+	{ 30, 1, 'A' }, { 0, 0, KMAP_SPCLKEY }, { 42, 7, KMAP_SPCLKEY + 2 }, { 15, 1, KMAP_SPCLKEY + KMAP_BKEY + 8 },
+	{ 59, 0, KMAP_SPCLKEY + KMAP_FKEY + 27 }, { 59, 2, KMAP_SPCLKEY + KMAP_FKEY + 51 }, { 59, 5, KMAP_SPCLKEY + 21 },
+	{ 41, 4, KMAP_SPCLKEY + 137 }, { 255, 7, 0 },
 };
 
 static void check_cells(void)
@@ -183,54 +183,34 @@ static void check_cells(void)
 	size_t i;
 
 	for (i = 0; i < sizeof cells / sizeof cells[0]; i++) {
-		snprintf(name, sizeof name, "the cell of slot %lu", (unsigned long)cells[i].slot);
+		sprintf(name, "the cell of slot %lu", (unsigned long)cells[i].slot);
 		cell = 77;
-		holds(name, kmap_cell(tables, KMAP_TABLES_SIZE, cells[i].slot, cells[i].column, &cell) == KMAP_OK
-		    && cell == cells[i].cell);
+		holds(name, kmap_cell(US, cells[i].slot, cells[i].column, &cell) == KMAP_OK && cell == cells[i].cell);
 	}
 	holds("a cell is a character or an action", KMAP_IS_CHAR('a') && !KMAP_IS_ACTION('a') && KMAP_IS_ACTION(KMAP_SPCLKEY)
 	    && KMAP_IS_ACTION(KMAP_SPCLKEY + KMAP_RELKEY + 2) && !KMAP_IS_ACTION(KMAP_NOKEY) && !KMAP_IS_ACTION(KMAP_ERRKEY)
 	    && KMAP_CODE(KMAP_SPCLKEY + KMAP_FKEY + 27) == 27);
 	cell = 77;
-	holds("slot 256", kmap_cell(tables, KMAP_TABLES_SIZE, 256, 0, &cell) == KMAP_BAD_PLACE);
-	holds("column 8", kmap_cell(tables, KMAP_TABLES_SIZE, 30, 8, &cell) == KMAP_BAD_PLACE);
-	holds("the greatest numbers", kmap_cell(tables, KMAP_TABLES_SIZE, UINT32_MAX, UINT32_MAX, &cell) == KMAP_BAD_PLACE);
-	holds("a length is told before a place", kmap_cell(tables, KMAP_TABLES_SIZE - 1, 256, 0, &cell) == KMAP_BAD_LENGTH);
+	holds("slot 256", kmap_cell(US, 256, 0, &cell) == KMAP_BAD_PLACE);
+	holds("column 8", kmap_cell(US, 30, 8, &cell) == KMAP_BAD_PLACE);
+	holds("the greatest numbers", kmap_cell(US, UINT32_MAX, UINT32_MAX, &cell) == KMAP_BAD_PLACE);
+	holds("a length is told before a place", kmap_cell(us.bytes, sizeof us - 1, 256, 0, &cell) == KMAP_BAD_LENGTH);
 	holds("no cell is told", cell == 77);
 }
-
-/* The codes of actions with a name, and the nearest ones that have none. */
-static const struct {
-	uint32_t code;
-	const char *name;
-} names[] = {
-	{ 0, "nop" }, { 1, NULL }, { 2, "lshift" }, { 8, "btab" }, { 10, "nscr" }, { 11, "scr01" }, { 26, "scr16" },
-	{ 27, "fkey01" }, { 122, "fkey96" }, { 123, NULL }, { 127, NULL }, { 128, "rctrl" }, { 136, "saver" },
-	{ 137, "dgra" }, { 151, "dcar" }, { 152, "stby" }, { 154, "panic" }, { 155, NULL }, { 160, NULL }, { 161, "halt" },
-	{ 163, "paste" }, { 164, NULL }, { 255, NULL }, { 256, NULL }, { KMAP_SPCLKEY + 2, NULL }, { UINT32_MAX, NULL },
-};
 
 static void check_names(void)
 {
 	char name[KMAP_NAME_SIZE + 1];
-	char which[64];
-	int32_t status;
-	size_t i;
 
-	for (i = 0; i < sizeof names / sizeof names[0]; i++) {
-		snprintf(which, sizeof which, "the name of code %lu", (unsigned long)names[i].code);
-		memset(name, 0x5a, sizeof name);
-		status = kmap_action_name(names[i].code, name, KMAP_NAME_SIZE);
-		if (names[i].name == NULL)
-			holds(which, status == KMAP_BAD_CODE && name[0] == 0x5a);
-		else
-			holds(which, status == KMAP_OK && strcmp(name, names[i].name) == 0
-			    && name[KMAP_NAME_SIZE] == 0x5a);
-	}
 	memset(name, 0x5a, sizeof name);
+	holds("a code of no action", kmap_action_name(1, name, KMAP_NAME_SIZE) == KMAP_BAD_CODE
+	    && kmap_action_name(KMAP_SPCLKEY + 2, name, KMAP_NAME_SIZE) == KMAP_BAD_CODE
+	    && kmap_action_name(UINT32_MAX, name, KMAP_NAME_SIZE) == KMAP_BAD_CODE && name[0] == 0x5a);
 	holds("no room for the 0 of a name", kmap_action_name(2, name, 6) == KMAP_NO_ROOM && name[0] == 0x5a);
-	holds("room for a short name", kmap_action_name(0, name, 4) == KMAP_OK && name[3] == 0 && name[4] == 0x5a);
 	holds("no room at all", kmap_action_name(0, name, 0) == KMAP_NO_ROOM);
+	holds("room for a short name", kmap_action_name(0, name, 4) == KMAP_OK && name[3] == 0 && name[4] == 0x5a);
+	holds("room for a long name", kmap_action_name(27, name, KMAP_NAME_SIZE) == KMAP_OK
+	    && strcmp(name, "fkey01") == 0 && name[KMAP_NAME_SIZE] == 0x5a);
 }
 
 /*
@@ -256,7 +236,7 @@ static void check_keys(void)
 	size_t i;
 
 	for (i = 0; i < sizeof keys / sizeof keys[0]; i++) {
-		snprintf(which, sizeof which, "the key of number %lu", (unsigned long)keys[i].evdev);
+		sprintf(which, "the key of number %lu", (unsigned long)keys[i].evdev);
 		holds(which, kmap_key_of_evdev(keys[i].evdev) == keys[i].key);
 	}
 	for (number = 0; number < 1024; number++)
@@ -266,43 +246,364 @@ static void check_keys(void)
 	    && KMAP_RELEASE(kmap_key_of_evdev(97)) == KMAP_RELEASE(90));
 }
 
-/* Any bytes are safe: this only has to come back. */
-static void check_noise(void)
-{
-	static uint8_t noise[KMAP_TABLES_SIZE];
-	struct kmap_console console;
-	uint32_t answer, number = 1;
-	size_t i, round;
+/* A text, and the fault that it has. */
+struct faulty {
+	const char *text;
+	uint32_t kind;
+	uint64_t line, offset;
+};
 
-	for (round = 0; round < 20; round++) {
-		for (i = 0; i < sizeof noise; i++) {
-			number = number * 1664525 + 1013904223;
-			noise[i] = (uint8_t)(number >> 24);
-		}
-		memcpy(&console, noise, sizeof console);
-		for (i = 0; i < 1000; i++) {
-			number = number * 1664525 + 1013904223;
-			kmap_step(noise, sizeof noise, &console, (uint16_t)(number >> 16) % 258, &answer);
-			kmap_cell(noise, sizeof noise, number >> 24, i % 8, &answer);
+static const struct faulty faulty[] = {
+	{ "030 \xff", KMAP_TEXT_BAD_BYTE, 1, 4 },
+	{ "\n030 'ab", KMAP_TEXT_BAD_LITERAL, 2, 5 },
+	{ "030 foo", KMAP_TEXT_BAD_WORD, 1, 4 },
+	{ "nop", KMAP_TEXT_UNEXPECTED, 1, 0 },
+	{ "# a comment\n\n256", KMAP_TEXT_KEY_TOO_LARGE, 3, 13 },
+	{ "030 0xd800", KMAP_TEXT_BAD_CHAR, 1, 4 },
+	{ "030 fkey97", KMAP_TEXT_BAD_FUNCTION, 1, 4 },
+	{ "dgra '`' ( nul 'a' )", KMAP_TEXT_ZERO_BASE, 1, 11 },
+	{ "030 lalta", KMAP_TEXT_COMBINED, 1, 4 },
+	{ "030 'a'", KMAP_TEXT_END_INSIDE, 1, 7 },
+};
+
+#define FAULTY (sizeof faulty / sizeof faulty[0])
+
+static void check_text_faults(void)
+{
+	struct kmap_text_fault fault;
+	char text[64 + 16 * 53];
+	size_t i;
+
+	memset(&made, 0x5a, sizeof made);
+	before = made;
+	for (i = 0; i < FAULTY; i++) {
+		memset(&fault, 0x5a, sizeof fault);
+		holds(faulty[i].text, read_text(faulty[i].text, &fault) == KMAP_TEXT_FAULT
+		    && fault.kind == faulty[i].kind && fault.line == faulty[i].line
+		    && fault.offset == faulty[i].offset);
+	}
+	strcpy(text, "dgra '`'");
+	for (i = 0; i < 53; i++)
+		strcat(text, " ( 'a' 'b' )");
+	holds("53 pairs", read_text(text, &fault) == KMAP_TEXT_FAULT && fault.kind == KMAP_TEXT_TOO_MANY_PAIRS
+	    && fault.line == 1 && fault.offset == 8 + 12 * 52 + 1);
+	holds("a fault leaves the tables", memcmp(&made, &before, sizeof made) == 0);
+}
+
+static void check_reading(void)
+{
+	struct kmap_text_fault fault = { 7, 7, 7 };
+	struct kmap_fault table_fault;
+	static const uint8_t row[36] = { 'a', 0, 0, 0, 'A', 0, 0, 0, 1, 0, 0, 0, 2, 0, 0, 0, 'a', 0, 0, 0, 0x61, 0x1f, 0, 0,
+		3, 0, 0, 0, 0, 0, 0, 0, 0x12, 1, 0, 0 };
+
+	memset(&made, 0x5a, sizeof made);
+	holds("no text", kmap_read_text((const uint8_t *)"", 0, &made, &fault) == KMAP_OK);
+	memset(&before, 0, sizeof before);
+	holds("no text gives no keys", memcmp(&made, &before, sizeof made) == 0);
+	holds("a key of eight cells", read_text("1 'a' 'A' soh lshift 'a' 0x1f61 rshift nul C", &fault) == KMAP_OK);
+	before.bytes[0] = 2;
+	memcpy(before.bytes + 4 + 36, row, sizeof row);
+	holds("its tables", memcmp(&made, &before, sizeof made) == 0);
+	holds("they have no fault", kmap_check(MADE, &table_fault) == KMAP_OK);
+	holds("no fault is told", fault.offset == 7 && fault.line == 7 && fault.kind == 7);
+}
+
+/* A keymap whose key has a modifier at one place and a character at another is refused with these. */
+static void check_finding(unsigned holding, unsigned character)
+{
+	char text[512] = "42", name[64];
+	struct kmap_text_fault fault;
+	struct kmap_finding finding;
+	unsigned place;
+
+	for (place = 0; place < 16; place++) {
+		if (place == 8)
+			strcat(text, " O\n43 ashift ashift ashift ashift ashift ashift ashift ashift O\n170");
+		strcat(text, place == holding ? " lctrl" : place == character ? " 'x'" : " nop");
+	}
+	strcat(text, " O\n");
+	sprintf(name, "a finding at %u and %u", holding, character);
+	memset(&finding, 0x5a, sizeof finding);
+	holds(name, read_text(text, &fault) == KMAP_OK && kmap_accepts(MADE, &finding) == KMAP_UNSAFE
+	    && finding.key == 42 && finding.holding == 2 && finding.character == 'x'
+	    && finding.holding_slot == 42 + holding / 8 * 128 && finding.holding_column == holding % 8
+	    && finding.character_slot == 42 + character / 8 * 128 && finding.character_column == character % 8);
+}
+
+static void check_acceptance(void)
+{
+	struct kmap_text_fault fault;
+	struct kmap_finding finding, untold;
+	unsigned holding, character;
+
+	for (holding = 0; holding < 16; holding++) {
+		for (character = 0; character < 16; character++) {
+			if (character != holding)
+				check_finding(holding, character);
 		}
 	}
-	holds("noise comes back", kmap_pending(&console) >= -1 && kmap_pending(&console) < 15);
+	memset(&finding, 0x5a, sizeof finding);
+	untold = finding;
+	holds("the upper half is dead without ashift and alock", read_text("42 lctrl " NOPS7 " O 170 'x' " NOPS7 " O", &fault)
+	    == KMAP_OK && kmap_accepts(MADE, &finding) == KMAP_OK);
+	holds("a length", kmap_accepts(MADE - 1, &finding) == KMAP_BAD_LENGTH);
+	made.bytes[2] = 1;
+	holds("a length is told before a fault", kmap_accepts(MADE - 1, &finding) == KMAP_BAD_LENGTH
+	    && kmap_accepts(made.bytes, 0, &finding) == KMAP_BAD_LENGTH);
+	holds("a fault", kmap_accepts(MADE, &finding) == KMAP_FAULTY);
+	holds("no finding is told", memcmp(&finding, &untold, sizeof finding) == 0);
+}
+
+static void check_bearers(void)
+{
+	struct kmap_text_fault fault;
+	struct kmap_borne bearer = { 7, 7 };
+	int32_t status;
+
+	read_text("42 lshift lshift lshift lshift lshift lshift lshift lshift O 54 rshift " NOPS7 " O\n"
+	    "29 lctrl " NOPS7 " O 97 lctrl " NOPS7 " O", &fault);
+	kmap_bearer(MADE, 0, &bearer);
+	holds("throughout", bearer.kind == KMAP_BORNE_THROUGHOUT && bearer.key == 42);
+	kmap_bearer(MADE, 1, &bearer);
+	holds("alone", bearer.kind == KMAP_BORNE_ALONE && bearer.key == 54);
+	kmap_bearer(MADE, 2, &bearer);
+	holds("several", bearer.kind == KMAP_BORNE_BY_SEVERAL && bearer.key == 0);
+	bearer.key = 7;
+	status = kmap_bearer(MADE, 11, &bearer);
+	holds("nobody", status == KMAP_OK && bearer.kind == KMAP_BORNE_BY_NONE && bearer.key == 0);
+	bearer.kind = bearer.key = 7;
+	holds("12 names none", kmap_bearer(MADE, 12, &bearer) == KMAP_BAD_HOLDING);
+	holds("a length", kmap_bearer(made.bytes, 0, 12, &bearer) == KMAP_BAD_LENGTH);
+	holds("no bearer is told", bearer.kind == 7 && bearer.key == 7);
+}
+
+static void check_printing(void)
+{
+	static const char printed[] = "000 'a'    nop    nop    nop    nop    nop    nop    nop    O\n"
+	    "dgra '`' ( 'a' 0x00e0 )\n";
+	struct kmap_text_fault fault;
+	uint8_t text[256];
+	size_t size = 7;
+
+	read_text("0 'a' " NOPS7 " O dgra '`' ('a' 0xe0)", &fault);
+	memset(text, 0x5a, sizeof text);
+	holds("no room", kmap_print_text(MADE, text, strlen(printed) - 1, &size) == KMAP_NO_ROOM && size == strlen(printed)
+	    && text[0] == 0x5a);
+	size = 7;
+	holds("a text", kmap_print_text(MADE, text, sizeof text, &size) == KMAP_OK && size == strlen(printed)
+	    && memcmp(text, printed, size) == 0 && text[size] == 0x5a);
+	size = 7;
+	holds("a length", kmap_print_text(made.bytes, 1, text, sizeof text, &size) == KMAP_BAD_LENGTH);
+	made.bytes[2] = 1;
+	holds("a length is told before a fault", kmap_print_text(MADE - 1, text, sizeof text, &size) == KMAP_BAD_LENGTH
+	    && size == 7);
+	holds("a fault is told before the room", kmap_print_text(MADE, text, 0, &size) == KMAP_FAULTY);
+	holds("a fault", kmap_print_text(MADE, text, sizeof text, &size) == KMAP_FAULTY && size == 7);
+	read_text("", &fault);
+	holds("no keys", kmap_print_text(MADE, text, 0, &size) == KMAP_OK && size == 0);
+}
+
+static void check_words(void)
+{
+	static const char said[] = "key 42: lctrl at slot 170 column 3, character at slot 42 column 7";
+	struct kmap_finding finding = { 'x', 42, 2, 170, 3, 42, 7 };
+	char words[KMAP_WORDS_SIZE], untold[KMAP_WORDS_SIZE];
+	uint32_t kind;
+
+	for (kind = 1; kind <= KMAP_TEXT_END_INSIDE; kind++) {
+		memset(words, 0x5a, sizeof words);
+		holds("a sentence for each kind of a fault of a text", kmap_text_fault_words(kind, words, sizeof words) == KMAP_OK
+		    && strlen(words) > 10);
+	}
+	for (kind = 1; kind <= KMAP_NOT_EMPTY; kind++) {
+		memset(words, 0x5a, sizeof words);
+		holds("a sentence for each kind of a fault of tables", kmap_fault_words(kind, words, sizeof words) == KMAP_OK
+		    && strlen(words) > 10);
+	}
+	memset(words, 0x5a, sizeof words);
+	holds("a finding", kmap_finding_words(&finding, words, sizeof said) == KMAP_OK
+	    && memcmp(words, said, sizeof said) == 0 && words[sizeof said] == 0x5a);
+	memset(words, 0x5a, sizeof words);
+	memset(untold, 0x5a, sizeof untold);
+	holds("no room for the 0", kmap_finding_words(&finding, words, sizeof said - 1) == KMAP_NO_ROOM);
+	holds("no room at all", kmap_fault_words(1, words, 0) == KMAP_NO_ROOM);
+	finding.holding = 12;
+	holds("12 names none", kmap_finding_words(&finding, words, sizeof words) == KMAP_BAD_HOLDING);
+	holds("no kind", kmap_text_fault_words(0, words, sizeof words) == KMAP_BAD_KIND
+	    && kmap_text_fault_words(12, words, sizeof words) == KMAP_BAD_KIND
+	    && kmap_fault_words(10, words, sizeof words) == KMAP_BAD_KIND
+	    && kmap_fault_words(UINT32_MAX, words, sizeof words) == KMAP_BAD_KIND);
+	holds("nothing is said", memcmp(words, untold, sizeof words) == 0);
+}
+
+/* A null pointer to nothing is as good as any other one. */
+static void check_nothing(void)
+{
+	struct kmap_text_fault text_fault;
+	struct kmap_fault fault;
+	struct kmap_finding finding = { 'x', 42, 2, 170, 3, 42, 7 };
+	struct kmap_borne borne;
+	struct kmap_console console;
+	uint16_t event = KMAP_PRESS(30);
+	uint32_t answer;
+	size_t size = 7;
+
+	kmap_start(&console);
+	holds("no text", kmap_read_text(NULL, 0, &made, &text_fault) == KMAP_OK && made.bytes[0] == 0);
+	holds("no tables", kmap_check(NULL, 0, &fault) == KMAP_FAULTY && fault.kind == KMAP_SHORT && fault.offset == 0);
+	holds("no tables to accept", kmap_accepts(NULL, 0, &finding) == KMAP_BAD_LENGTH);
+	holds("no tables to print", kmap_print_text(NULL, 0, NULL, 0, &size) == KMAP_BAD_LENGTH && size == 7);
+	holds("no tables with bearers", kmap_bearer(NULL, 0, 0, &borne) == KMAP_BAD_LENGTH);
+	holds("no tables with cells", kmap_cell(NULL, 0, 0, 0, &answer) == KMAP_BAD_LENGTH);
+	holds("no tables to step over", kmap_step(NULL, 0, &console, event, &answer) == KMAP_BAD_LENGTH
+	    && kmap_step_between(NULL, 0, MADE, &console, event, &answer) == KMAP_BAD_LENGTH
+	    && kmap_step_between(MADE, NULL, 0, &console, event, &answer) == KMAP_BAD_LENGTH);
+	holds("no text of no keys", kmap_print_text(MADE, NULL, 0, &size) == KMAP_OK && size == 0);
+	holds("no events", kmap_deliver(MADE, MADE, &console, NULL, 0, NULL, 0) == KMAP_OK);
+	holds("no room for answers", kmap_deliver(MADE, MADE, &console, &event, 1, NULL, 0) == KMAP_NO_ROOM);
+	holds("no tables to deliver to", kmap_deliver(NULL, 0, NULL, 0, &console, NULL, 0, NULL, 0) == KMAP_BAD_LENGTH);
+	read_text("030 'a' 'A' nop nop nop nop nop nop O", &text_fault);
+	holds("no room for a text", kmap_print_text(MADE, NULL, 0, &size) == KMAP_NO_ROOM && size > 7);
+	holds("no room for a name", kmap_action_name(2, NULL, 0) == KMAP_NO_ROOM);
+	holds("no room for words", kmap_fault_words(KMAP_SHORT, NULL, 0) == KMAP_NO_ROOM
+	    && kmap_text_fault_words(KMAP_TEXT_BAD_BYTE, NULL, 0) == KMAP_NO_ROOM
+	    && kmap_finding_words(&finding, NULL, 0) == KMAP_NO_ROOM);
+}
+
+/* The structs of sys/kbio.h, in this order in a table file. */
+struct keyent_t {
+	unsigned map[8];
+	unsigned char spcl, flgs;
+};
+
+struct keymap {
+	unsigned short n_keys;
+	struct keyent_t key[256];
+};
+
+struct acc_t {
+	unsigned accchar, map[52][2];
+};
+
+struct accentmap {
+	unsigned short n_accs;
+	struct acc_t acc[15];
+};
+
+/* Tables of FreeBSD's own, with anything in their pads and in what isn't in use, are those of the keymap. */
+static void check_kbio(void)
+{
+	static struct keymap keys;
+	static struct accentmap accents;
+	struct kmap_text_fault text_fault;
+	struct kmap_fault fault;
+	unsigned accent, pair;
+
+	holds("the structs have the bytes of a table file", sizeof keys == 9220 && sizeof accents == 6304);
+	holds("a keymap with accents", read_text("30 'a' 'A' lshift nop nop nop nop nop C\n"
+	    "dgra '`' ( 'a' 0xe0 ) ( 'e' 0xe8 ) dcar 'v'", &text_fault) == KMAP_OK);
+	memset(&keys, 0x5a, sizeof keys);
+	memset(&accents, 0x5a, sizeof accents);
+	keys.n_keys = 31;
+	accents.n_accs = 15;
+	memset(keys.key, 0, 31 * sizeof keys.key[0]);
+	memset((uint8_t *)&keys.key[30] + 34, 0x5a, 2);
+	keys.key[30].map[0] = 'a';
+	keys.key[30].map[1] = 'A';
+	keys.key[30].map[2] = 2;
+	keys.key[30].spcl = 0x3f;
+	keys.key[30].flgs = 1;
+	for (accent = 0; accent < 15; accent++) {
+		accents.acc[accent].accchar = accent == 0 ? '`' : accent == 14 ? 'v' : 0;
+		accents.acc[accent].map[accent == 0 ? 2 : 0][0] = 0;
+	}
+	for (pair = 0; pair < 2; pair++) {
+		accents.acc[0].map[pair][0] = pair ? 'e' : 'a';
+		accents.acc[0].map[pair][1] = pair ? 0xe8 : 0xe0;
+	}
+	kmap_from_kbio(&keys, &accents, &before);
+	holds("they give the tables of the text", memcmp(&before, &made, sizeof made) == 0
+	    && kmap_check(before.bytes, sizeof before.bytes, &fault) == KMAP_OK);
+	memcpy(&keys, us.bytes, sizeof keys);
+	memcpy(&accents, us.bytes + sizeof keys, sizeof accents);
+	kmap_from_kbio(&keys, &accents, &before);
+	holds("there and back", memcmp(&before, &us, sizeof us) == 0);
+	keys.n_keys = accents.n_accs = 0xffff;
+	kmap_from_kbio(&keys, &accents, &before);
+	holds("a count that is too large is told", kmap_check(before.bytes, sizeof before.bytes, &fault) == KMAP_FAULTY
+	    && fault.kind == KMAP_BAD_COUNT && fault.offset == 0);
+}
+
+/* The next of a row of numbers that look random. */
+static uint32_t next(uint32_t *number)
+{
+	*number = *number * 1664525 + 1013904223;
+	return *number;
+}
+
+/* Any bytes are safe as a text, as tables, as a finding and as a console: this only has to come back. */
+static void check_noise(void)
+{
+	static const char words[] = "030 'a' nop lshift ( ) dgra fkey 0x O C # \n\t\xc3\xa4 '";
+	static uint8_t text[4096], printed[65536];
+	static char said[KMAP_WORDS_SIZE];
+	struct kmap_console console;
+	struct kmap_text_fault fault;
+	struct kmap_finding finding;
+	struct kmap_borne bearer;
+	uint32_t answer, number = 1;
+	size_t i, round, size, read = 0;
+
+	for (round = 0; round < 200; round++) {
+		for (i = 0; i < sizeof text; i++) {
+			next(&number);
+			text[i] = round % 2 ? (uint8_t)(number >> 24) : (uint8_t)words[(number >> 16) % (sizeof words - 1)];
+		}
+		read += kmap_read_text(text, (number >> 8) % sizeof text, &made, &fault) == KMAP_OK;
+		for (i = 0; i < 4096; i++)
+			made.bytes[(next(&number) >> 8) % sizeof made] = (uint8_t)(number >> 24);
+		kmap_accepts(MADE, &finding);
+		kmap_bearer(MADE, (uint8_t)(round % 12), &bearer);
+		kmap_print_text(MADE, printed, sizeof printed, &size);
+		memcpy(&finding, text, sizeof finding);
+		kmap_finding_words(&finding, said, sizeof said);
+		memcpy(&console, text, sizeof console);
+		for (i = 0; i < 100; i++) {
+			kmap_step(MADE, &console, (uint16_t)(next(&number) >> 16) % 258, &answer);
+			kmap_cell(MADE, number >> 24, i % 8, &answer);
+		}
+		holds("noise leaves a console", kmap_pending(&console) >= -1 && kmap_pending(&console) < 15);
+	}
+	holds("noise comes back", read < round);
 }
 
 int main(int argc, char **argv)
 {
+	static uint8_t text[1 << 16];
+	struct kmap_text_fault fault;
+	size_t length;
 	FILE *file;
 
 	if (argc != 2 || (file = fopen(argv[1], "rb")) == NULL)
 		return 2;
-	holds("the tables are whole", fread(tables, 1, sizeof tables, file) == KMAP_TABLES_SIZE);
+	length = fread(text, 1, sizeof text, file);
 	fclose(file);
+	holds("the text is read", kmap_read_text(text, length, &us, &fault) == KMAP_OK);
 	check_steps();
 	check_refusals();
-	check_faults();
+	check_table_faults();
 	check_cells();
 	check_names();
 	check_keys();
+	check_text_faults();
+	check_reading();
+	check_acceptance();
+	check_bearers();
+	check_printing();
+	check_words();
+	check_nothing();
+	check_kbio();
 	check_noise();
 	printf("%u passed, %u failed\n", passed, failed);
 	return failed != 0;

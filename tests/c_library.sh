@@ -43,6 +43,20 @@ compiled() {
     $cc -std=c99 -Wall -Wextra -Werror -pedantic -I "$top/include" "$@" "$library"
 }
 
+# made_for TARGET EMULATOR COMPILER..: the library for another target answers as this one, where there are a compiler and
+# an emulator
+made_for() {
+    target=$1 emulator=$2
+    shift 2
+    holds "the library is made for $target" sh "$top/library.sh" "$target" "${library%.a}.ll" "$target.a"
+    if is_there "$emulator" && is_there "$1"; then
+        holds "the calls compile for $target" "$@" -std=c99 -static -I "$top/include" "$top/tests/c_library.c" "$target.a" \
+            -o "c_library.$target"
+        said=$("$emulator" "./c_library.$target" "$examples/us.kbd")
+        holds "the calls on $target: $said" [ "${said##*, }" = '0 failed' ]
+    fi
+}
+
 # silent COMMAND..: the command, whose output isn't shown
 silent() {
     "$@" > /dev/null
@@ -74,6 +88,16 @@ names_of() {
     same_text "${file##*/} exports what the header declares" declared exported
 }
 
+# no_red_zone NAME FILE: no function of it keeps anything below the stack pointer. An index may lead up again from there,
+# where the function has reserved what it leads to.
+no_red_zone() {
+    objdump -d "$2" > disassembled
+    holds "$1 has code" grep -q '(%rsp)' disassembled
+    red=$(awk '/^[0-9a-f]+ <.*>:$/ { name = $2; reserved = 0 } /sub +\$0x[0-9a-f]+,%rsp/ { reserved = 1 }
+        /-0x[0-9a-f]+\(%rsp\)/ || /-0x[0-9a-f]+\(%rsp,/ && !reserved { print name, $0 }' disassembled)
+    holds "nothing of $1 is kept below the stack pointer: $red" [ -z "$red" ]
+}
+
 if is_there nm; then
     sed -n 's/^[a-z0-9_]* \(kmap_[a-z_]*\)(.*/\1/p' "$top/include/kmap.h" | sort > declared
     names_of "$library"
@@ -81,12 +105,7 @@ if is_there nm; then
 fi
 
 if is_there objdump; then
-    objdump -d "$library" > disassembled
-    holds 'the library has code' grep -q '(%rsp)' disassembled
-    # An index may lead up again from below the stack pointer, where the function has reserved what it leads to.
-    red=$(awk '/^[0-9a-f]+ <.*>:$/ { name = $2; reserved = 0 } /sub +\$0x[0-9a-f]+,%rsp/ { reserved = 1 }
-        /-0x[0-9a-f]+\(%rsp\)/ || /-0x[0-9a-f]+\(%rsp,/ && !reserved { print name, $0 }' disassembled)
-    holds "nothing is kept below the stack pointer: $red" [ -z "$red" ]
+    no_red_zone 'the library' "$library"
     kept=$(objdump -h "$library" | awk '$2 ~ /^\.(data|bss|tdata|tbss)/ && $2 !~ /^\.data\.rel\.ro/ && $3 !~ /^0+$/')
     holds "the library has no memory of its own: $kept" [ -z "$kept" ]
 fi
@@ -165,6 +184,7 @@ for line in sys.stdin:
 
     holds 'the library can be shared' "$cc" -shared -Wl,--whole-archive "$library" -Wl,--no-whole-archive -o libkmap.so
     if is_there python3; then
+        export PYTHONPATH="$top/python"
         for name in us:line de:de; do
             keymap=$examples/${name%:*}.kbd
             script=$examples/${name#*:}.script
@@ -192,7 +212,7 @@ for line in sys.stdin:
         KMAP_LIBRARY=./none.so python3 -B "$examples/type.py" tables < empty > got 2> said
         holds 'it tells in one line that there is no library' [ "$?, $(sed 's/: .*;/: ..;/' said)" = \
             '1, type: ..; name the library by KMAP_LIBRARY or its folder by LD_LIBRARY_PATH' ]
-        holds 'the library for Python tells cells and actions' env KMAP_LIBRARY=./libkmap.so PYTHONPATH="$examples" \
+        holds 'the library for Python tells cells and actions' env KMAP_LIBRARY=./libkmap.so \
             python3 -B -c 'import sys
 from kmap import Action, Console, Keymap, key_of_evdev
 keymap = Keymap.from_file(sys.argv[1])
@@ -210,36 +230,37 @@ assert key_of_evdev(30) == 30 and key_of_evdev(97) == 90 and key_of_evdev(84) is
             '! KMAP_LIBRARY=./libkmap.so KEYMAP="$1" python3 -B "$2" > got 2>&1 &&
                 grep -q "^AssertionError: key " got' \
             - "$examples/trap.kbd" "$examples/test_keymap.py"
+        # by pip, from a copy of the tree, where what it takes is there
+        if python3 -c 'import setuptools, pip, wheel' 2> /dev/null; then
+            cp -R "$top/python" python
+            holds 'pip installs the package' silent env PIP_ROOT_USER_ACTION=ignore python3 -m pip install -q --no-index \
+                --no-deps --no-build-isolation --target site ./python
+            holds 'it is typed' [ -f site/kmap/py.typed ]
+            KMAP_LIBRARY=./libkmap.so PYTHONPATH=site python3 -B "$examples/test_keymap.py" > got
+            same_text 'the tests of a keymap in Python pass with it' wanted got
+        else
+            skip 'there is no pip, setuptools or wheel'
+        fi
         said=$(KMAP_LIBRARY=./libkmap.so python3 -B "$top/tests/c_fuzz.py" "$program" "$count" 2>&1)
         holds "the library and the program: $said" [ "${said##* }" = agree ]
     fi
 
-    "$program" compile "$examples/us.kbd" tables
-    for calls in 'c_library tables' c_texts; do
-        holds "$calls compiles" compiled "$top/tests/${calls%% *}.c" -o "${calls%% *}"
-        # shellcheck disable=SC2086 # the name and its argument
-        said=$(./$calls)
-        holds "$calls: $said" [ "${said##*, }" = '0 failed' ]
-    done
+    holds 'the calls compile' compiled "$top/tests/c_library.c" -o c_library
+    said=$(./c_library "$examples/us.kbd")
+    holds "the calls: $said" [ "${said##*, }" = '0 failed' ]
     # All calls at once over one table, in threads and in a handler that interrupts them.
     holds 'the calls in threads compile' compiled "$top/tests/c_threads.c" -pthread -o c_threads
     said=$(./c_threads "$examples/us.kbd" 40 20)
     holds "calls at once: $said" [ "$said" = '0 wrong in threads, 0 wrong in interrupts' ]
     if is_there valgrind; then
-        for calls in 'c_library tables' c_texts; do
-            # shellcheck disable=SC2086
-            holds "valgrind finds nothing in $calls" silent valgrind -q --error-exitcode=3 ./$calls
-        done
+        holds 'valgrind finds nothing' silent valgrind -q --error-exitcode=3 ./c_library "$examples/us.kbd"
     fi
     # The library isn't made for the sanitizers, but its caller's memory is: what it copies past that is found there.
     echo 'int main(void) { return 0; }' > none.c
     if $cc -fsanitize=address,undefined none.c -o none 2> /dev/null; then
-        for calls in 'c_library tables' c_texts; do
-            holds "$calls compiles for the sanitizers" compiled -fsanitize=address,undefined \
-                -fno-sanitize-recover=undefined "$top/tests/${calls%% *}.c" -o "${calls%% *}"
-            # shellcheck disable=SC2086
-            holds "the sanitizers find nothing in $calls" silent ./$calls
-        done
+        holds 'the calls compile for the sanitizers' compiled -fsanitize=address,undefined \
+            -fno-sanitize-recover=undefined "$top/tests/c_library.c" -o c_library
+        holds 'the sanitizers find nothing' silent ./c_library "$examples/us.kbd"
     else
         skip 'there are no sanitizers'
     fi
@@ -271,6 +292,31 @@ assert key_of_evdev(30) == 30 and key_of_evdev(97) == 90 and key_of_evdev(84) is
         done
     fi
 
+    # For other targets, as `make lib TARGET=..` makes it from the same text.
+    if [ -f "${library%.a}.ll" ]; then
+        made_for aarch64-linux-gnu qemu-aarch64 aarch64-linux-gnu-gcc
+        made_for riscv64-linux-gnu qemu-riscv64 riscv64-linux-gnu-gcc
+        made_for x86_64-kernel env "$cc" -no-pie
+        if is_there objdump; then
+            no_red_zone 'that for a kernel' x86_64-kernel.a
+            holds 'that for a kernel has no vectors' sh -c '! grep -E "%([xyz]?mm|st\()" disassembled'
+        fi
+        if is_there clang && is_there ld.lld; then
+            holds 'it links at the addresses of a kernel of FreeBSD, with the flags of one' clang \
+                --target=x86_64-unknown-freebsd14 -std=c99 -ffreestanding -nostdlib -fuse-ld=lld -static \
+                -mcmodel=kernel -mno-red-zone -mno-mmx -mno-sse -msoft-float -Wl,-Ttext=0xffffffff80200000 \
+                -I "$top/include" "$top/tests/c_alone.c" x86_64-kernel.a -o for_kernel
+            holds 'it links into one object, as a module' ld.lld -r -m elf_x86_64_fbsd --whole-archive x86_64-kernel.a \
+                -o module.o
+            ! is_there nm || names_of module.o
+        fi
+    else
+        skip 'there is no LLVM text of the library'
+    fi
+    holds 'a target that there is not is refused' \
+        says 2 'no target: vax: there are aarch64-linux-gnu, riscv64-linux-gnu and x86_64-kernel' empty \
+        sh "$top/library.sh" vax text archive
+
     # The stack that each call takes, by its comment in the header, and by a run.
     holds 'the calls on a painted stack compile' compiled "$top/tests/c_stack.c" -o c_stack
     ./c_stack "$examples/us.kbd" "$examples/de.kbd" "$examples/trap.kbd" faulty.kbd empty > took
@@ -295,6 +341,15 @@ assert key_of_evdev(30) == 30 and key_of_evdev(97) == 90 and key_of_evdev(84) is
         took=$(($(size step | awk 'NR == 2 { print $1 + $2 }') - $(size none | awk 'NR == 2 { print $1 + $2 }')))
         holds "a program that only steps pays $took bytes" within "$took" 5712
     fi
+fi
+
+# A processor that the library can't be made for is told so, once.
+if is_there clang; then
+    for other in i386-linux-gnu armv7-linux-gnueabi powerpc64-linux-gnu aarch64_be-linux-gnu; do
+        clang --target="$other" -std=c11 -ffreestanding -fsyntax-only "$top/include/kmap.h" 2> said
+        holds "$other is refused in one line" [ "$(sed -n 's/.* error: //p' said)" = \
+            'kmap: only for processors of 64 bits that are little endian' ]
+    done
 fi
 
 # In C++ the header is clean, and each call and struct of it is used.

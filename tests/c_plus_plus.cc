@@ -1,6 +1,7 @@
 // Makes each call of the C library from C++, where bytes stand in vectors and what is said in strings, too. The status is
 // 0 where each answers what it should, and else the number of the first that doesn't.
 #include "calls.h"
+#include <algorithm>
 #include <string>
 #include <vector>
 
@@ -21,10 +22,13 @@ bool are_held()
 	std::vector<uint8_t> printed(works.size);
 	const std::vector<uint16_t> events = { KMAP_PRESS(30), kmap_release(30) };
 	std::vector<uint32_t> answers(events.size());
+	kmap_tables same = {};
 	kmap_fault fault = {};
 	size_t size = 0;
 
-	return kmap_check(none.data(), none.size(), &fault) == KMAP_FAULTY && fault.kind == KMAP_SHORT
+	kmap_from_kbio(tables.data(), tables.data() + 9220, &same);
+	return std::equal(tables.begin(), tables.end(), same.bytes)
+	    && kmap_check(none.data(), none.size(), &fault) == KMAP_FAULTY && fault.kind == KMAP_SHORT
 	    && kmap_print_text(tables.data(), tables.size(), printed.data(), printed.size(), &size) == KMAP_OK
 	    && size == printed.size()
 	    && kmap_deliver(tables.data(), tables.size(), tables.data(), tables.size(), &works.console, events.data(),

@@ -41,7 +41,6 @@ share/doc/kmap/docs/de.svg
 share/examples/kmap/accents.kbd
 share/examples/kmap/de.kbd
 share/examples/kmap/de.script
-share/examples/kmap/kmap.py
 share/examples/kmap/line.numbers
 share/examples/kmap/line.script
 share/examples/kmap/live.c
@@ -52,6 +51,9 @@ share/examples/kmap/type.c
 share/examples/kmap/type.py
 share/examples/kmap/us.kbd
 share/fish/vendor_completions.d/kmap.fish
+share/kmap/python/kmap/__init__.py
+share/kmap/python/kmap/py.typed
+share/kmap/python/pyproject.toml
 share/man/man1/kmap.1
 share/man/man3/kmap.3
 share/man/man3/kmap_accepts.3
@@ -62,6 +64,7 @@ share/man/man3/kmap_check.3
 share/man/man3/kmap_deliver.3
 share/man/man3/kmap_fault_words.3
 share/man/man3/kmap_finding_words.3
+share/man/man3/kmap_from_kbio.3
 share/man/man3/kmap_key_of_evdev.3
 share/man/man3/kmap_locks.3
 share/man/man3/kmap_modifiers.3

@@ -7,8 +7,9 @@
     assert str(console.press(30)) == "A"
     assert keymap[30][0] == "a" and str(keymap[42][0]) == "lshift"
 
-It is one file, over ctypes alone. The library is that of the environment's KMAP_LIBRARY; without one, libkmap.so.0 or
-libkmap.so beside this file; else the one that the system finds as libkmap.so.0. kmap(3) says what each call promises.
+It stands on ctypes alone. The library is that of the environment's KMAP_LIBRARY; without one, libkmap.so.0 or
+libkmap.so beside this file, or in lib of the installation that this file is part of; else the one that the system finds
+as libkmap.so.0. kmap(3) says what each call promises.
 """
 
 import ctypes
@@ -61,10 +62,10 @@ class _Bearer(ctypes.Structure):
 
 
 def _opened() -> ctypes.CDLL:
-    """Opens the library, which may lie beside this file."""
+    """Opens the library, which may lie beside this file, or be installed with it."""
     here = os.path.dirname(os.path.abspath(__file__))
-    beside = [os.path.join(here, name) for name in ("libkmap.so.0", "libkmap.so")]
-    found = [path for path in beside if os.path.exists(path)]
+    near = [os.path.join(here, name) for name in ("libkmap.so.0", "libkmap.so", "../../../../lib/libkmap.so.0")]
+    found = [path for path in near if os.path.exists(path)]
     name = os.environ.get("KMAP_LIBRARY") or (found + ["libkmap.so.0"])[0]
     try:
         return ctypes.CDLL(name)

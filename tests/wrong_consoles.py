@@ -678,6 +678,22 @@ def is_found(keymap, mistake, events, lines):
     return any(console.line(*event) != line for event, line in zip(events, lines))
 
 
+def typed(console, events):
+    """The characters that the console's answers to the events type: all that a real one shows."""
+    signs = {"btab": "\x1b[Z"}
+    answers = [console.line(*event).split(": ", 1)[1].split(";", 1)[0].split() for event in events]
+    return "".join(
+        "\x1b" * (answer[0] == "meta") + chr(int(answer[-1])) if "char" in answer else signs.get(answer[0], "")
+        for answer in answers
+    )
+
+
+def found_by_typing(keymap, events):
+    """How many mistakes are found by what the events type alone."""
+    wanted = typed(Console(keymap), events)
+    return sum(typed(Console(keymap, mistake), events) != wanted for mistake in MISTAKES)
+
+
 def drawn(keymap):
     """Events drawn at random, always the same, half of them on keys that bear a modifier, a lock or a dead key."""
     draw = random.Random(63)
@@ -713,6 +729,7 @@ class Measured:
             lines = run(program, "play", text, str(script)).decode().splitlines()
             keymap = Keymap(tables.read_bytes())
             self.events = events_of(script.read_text())
+        self.keymap = keymap
         right = Console(keymap)
         self.is_right = [right.line(*event) for event in self.events] == lines
         self.found = {mistake for mistake in MISTAKES if is_found(keymap, mistake, self.events, lines)}
@@ -736,12 +753,16 @@ class Measured:
             yield f"missed without a reason: {mistake}"
 
 
-def guided(found, apart, events):
+def guided(measured, found, apart, events):
     """The words of the guide on the script of GUIDED and what it finds."""
+    typing = found_by_typing(measured.keymap, measured.events)
+    without_resets = found_by_typing(measured.keymap, [event for event in measured.events if event[0] != "reset"])
     return (
         f"So the script has {events:,} events",
         f"Such scripts were tried on {len(MISTAKES)} wrong consoles",
         f"Of the {apart} that some events tell from a right one under {Path(GUIDED).name} this script finds {found}.",
+        f"by the bytes that it types, which is all that a real console shows, it finds {typing}, and without its resets "
+        f"{without_resets}.",
     )
 
 
@@ -757,7 +778,7 @@ def main():
         print("{}: {} of {} wrong consoles found by {} events".format(name, *counts))
         for mistake in sorted(measured.missed):
             print(f"    missed: {mistake}: {MISSED.get(mistake, 'no reason is known')}")
-        lacking = [words for words in guided(*counts) if name == GUIDED and words not in guide]
+        lacking = [words for words in guided(measured, *counts) if words not in guide] if name == GUIDED else []
         for complaint in (*measured.complaints(name), *(f"docs/GUIDE.md lacks: {words}" for words in lacking)):
             failed = True
             print(f"failed: {name}: {complaint}")

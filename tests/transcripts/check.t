@@ -313,3 +313,19 @@ Each key has a finding and each modifier a key, but no press ever turns one on: 
   128
   $ tail -n 1 report
   demonstration: none
+
+A lock on two keys has no bearer of its own, and one of which both halves of a key have nothing else is steady:
+  $ awk 'BEGIN {
+  >     for (key = 70; key <= 104; key += 34) {
+  >         print key, "slock slock slock slock slock slock slock slock O"
+  >     }
+  > }' > two
+  $ kmap check two | grep slock
+  slock several
+  $ awk 'BEGIN {
+  >     for (key = 58; key <= 186; key += 128) {
+  >         print key, "alock alock alock alock alock alock alock alock O"
+  >     }
+  > }' > halves
+  $ kmap check halves | grep alock
+  alock throughout 58 steady

@@ -9,6 +9,8 @@ use crate::support::keymaps::{
     SHIFT_WITH_TRAP, TWO_CONTROLS, TWO_SCROLL_LOCKS, TWO_SHIFTS, UPPER_HALF,
 };
 use console_core::{Answer, Event, PlainConsole, Translator, WordConsole, replay};
+use keymap_core::Lock::{Alt, Caps, Num, Scroll};
+use keymap_core::Modifier::{AltShift, LeftControl, LeftShift, Meta};
 use keymap_core::{Action, KeyMap, Lock, Modifier};
 use keymap_text::read_map;
 use std::alloc::Global;
@@ -64,33 +66,27 @@ type Step = (
 );
 
 const SHIFTED_LETTER: &[Step] = &[
-    (Down(42), Special(LSHIFT), &[Modifier::LeftShift], &[], None),
-    (Down(30), Char('A'), &[Modifier::LeftShift], &[], None),
+    (Down(42), Special(LSHIFT), &[LeftShift], &[], None),
+    (Down(30), Char('A'), &[LeftShift], &[], None),
     (Up(42), Released(LSHIFT), &[], &[], None),
     (Down(30), Char('a'), &[], &[], None),
 ];
 
 const SCROLL_LOCK_ON_TWO_KEYS: &[Step] = &[
-    (Down(70), Special(SLOCK), &[], &[Lock::Scroll], None),
-    (Down(104), Special(SLOCK), &[], &[Lock::Scroll], None),
-    (Up(70), Released(SLOCK), &[], &[Lock::Scroll], None),
+    (Down(70), Special(SLOCK), &[], &[Scroll], None),
+    (Down(104), Special(SLOCK), &[], &[Scroll], None),
+    (Up(70), Released(SLOCK), &[], &[Scroll], None),
     (Down(104), Special(SLOCK), &[], &[], None),
 ];
 
 const CAPS_AND_NUM_FLIP_ONCE: &[Step] = &[
-    (Down(58), Special(CLOCK), &[], &[Lock::Caps], None),
-    (Up(58), Released(CLOCK), &[], &[Lock::Caps], None),
-    (Down(30), Char('A'), &[], &[Lock::Caps], None),
-    (Up(30), Nothing, &[], &[Lock::Caps], None),
-    (
-        Down(69),
-        Special(NLOCK),
-        &[],
-        &[Lock::Caps, Lock::Num],
-        None,
-    ),
-    (Up(69), Released(NLOCK), &[], &[Lock::Caps, Lock::Num], None),
-    (Down(30), Char('A'), &[], &[Lock::Caps, Lock::Num], None),
+    (Down(58), Special(CLOCK), &[], &[Caps], None),
+    (Up(58), Released(CLOCK), &[], &[Caps], None),
+    (Down(30), Char('A'), &[], &[Caps], None),
+    (Up(30), Nothing, &[], &[Caps], None),
+    (Down(69), Special(NLOCK), &[], &[Caps, Num], None),
+    (Up(69), Released(NLOCK), &[], &[Caps, Num], None),
+    (Down(30), Char('A'), &[], &[Caps, Num], None),
 ];
 
 const ACCENT_AND_OTHER_KEYS: &[Step] = &[
@@ -104,73 +100,37 @@ const ACCENT_AND_OTHER_KEYS: &[Step] = &[
     (Up(92), Released(NSCR), &[], &[], None),
     (Down(26), Nothing, &[], &[], Some(1)),
     (Up(26), Released(DACU), &[], &[], Some(1)),
-    (
-        Down(42),
-        Special(LSHIFT),
-        &[Modifier::LeftShift],
-        &[],
-        Some(1),
-    ),
-    (Down(18), Char('\u{c9}'), &[Modifier::LeftShift], &[], None),
+    (Down(42), Special(LSHIFT), &[LeftShift], &[], Some(1)),
+    (Down(18), Char('\u{c9}'), &[LeftShift], &[], None),
 ];
 
 const RESET_KEEPS_LOCKS: &[Step] = &[
-    (Down(58), Special(CLOCK), &[], &[Lock::Caps], None),
-    (Up(58), Released(CLOCK), &[], &[Lock::Caps], None),
-    (
-        Down(42),
-        Special(LSHIFT),
-        &[Modifier::LeftShift],
-        &[Lock::Caps],
-        None,
-    ),
-    (Reset, Nothing, &[], &[Lock::Caps], None),
+    (Down(58), Special(CLOCK), &[], &[Caps], None),
+    (Up(58), Released(CLOCK), &[], &[Caps], None),
+    (Down(42), Special(LSHIFT), &[LeftShift], &[Caps], None),
+    (Reset, Nothing, &[], &[Caps], None),
 ];
 
 const RELEASE_BY_REMEMBERED_ACTION: &[Step] = &[
-    (
-        Down(29),
-        Special(LCTRL),
-        &[Modifier::LeftControl],
-        &[],
-        None,
-    ),
+    (Down(29), Special(LCTRL), &[LeftControl], &[], None),
     (
         Down(42),
         Special(LSHIFT),
-        &[Modifier::LeftShift, Modifier::LeftControl],
+        &[LeftShift, LeftControl],
         &[],
         None,
     ),
-    (
-        Down(29),
-        Nothing,
-        &[Modifier::LeftShift, Modifier::LeftControl],
-        &[],
-        None,
-    ),
-    (Up(29), Released(LCTRL), &[Modifier::LeftShift], &[], None),
+    (Down(29), Nothing, &[LeftShift, LeftControl], &[], None),
+    (Up(29), Released(LCTRL), &[LeftShift], &[], None),
 ];
 
 const UPPER_HALF_BY_ONE: &[Step] = &[
-    (Down(93), Special(ASHIFT), &[Modifier::AltShift], &[], None),
-    (Down(30), Char('b'), &[Modifier::AltShift], &[], None),
-    (
-        Down(58),
-        Special(ALOCK),
-        &[Modifier::AltShift],
-        &[Lock::Alt],
-        None,
-    ),
-    (
-        Down(30),
-        Char('a'),
-        &[Modifier::AltShift],
-        &[Lock::Alt],
-        None,
-    ),
-    (Up(93), Released(ASHIFT), &[], &[Lock::Alt], None),
-    (Down(30), Char('b'), &[], &[Lock::Alt], None),
+    (Down(93), Special(ASHIFT), &[AltShift], &[], None),
+    (Down(30), Char('b'), &[AltShift], &[], None),
+    (Down(58), Special(ALOCK), &[AltShift], &[Alt], None),
+    (Down(30), Char('a'), &[AltShift], &[Alt], None),
+    (Up(93), Released(ASHIFT), &[], &[Alt], None),
+    (Down(30), Char('b'), &[], &[Alt], None),
 ];
 
 const COMPOSITION: &[Step] = &[
@@ -185,26 +145,20 @@ const COMPOSITION: &[Step] = &[
     (Down(30), Error, &[], &[], None),
     (Down(41), Error, &[], &[], None),
     (Up(41), Released(DGRA), &[], &[], None),
-    (Down(56), Special(META), &[Modifier::Meta], &[], None),
-    (Down(26), Nothing, &[Modifier::Meta], &[], Some(1)),
-    (Down(26), MetaChar('\u{b4}'), &[Modifier::Meta], &[], None),
+    (Down(56), Special(META), &[Meta], &[], None),
+    (Down(26), Nothing, &[Meta], &[], Some(1)),
+    (Down(26), MetaChar('\u{b4}'), &[Meta], &[], None),
 ];
 
 const LOCK_BEHIND_NOP: &[Step] = &[
     (Down(58), Nothing, &[], &[], None),
-    (Down(42), Special(LSHIFT), &[Modifier::LeftShift], &[], None),
-    (
-        Down(58),
-        Special(CLOCK),
-        &[Modifier::LeftShift],
-        &[Lock::Caps],
-        None,
-    ),
+    (Down(42), Special(LSHIFT), &[LeftShift], &[], None),
+    (Down(58), Special(CLOCK), &[LeftShift], &[Caps], None),
 ];
 
 const SHIFT_ON_TWO_KEYS: &[Step] = &[
-    (Down(42), Special(LSHIFT), &[Modifier::LeftShift], &[], None),
-    (Down(54), Special(LSHIFT), &[Modifier::LeftShift], &[], None),
+    (Down(42), Special(LSHIFT), &[LeftShift], &[], None),
+    (Down(54), Special(LSHIFT), &[LeftShift], &[], None),
     (Up(42), Released(LSHIFT), &[], &[], None),
 ];
 
@@ -215,63 +169,45 @@ const UNUSABLE_DEAD_KEY: &[Step] = &[
 ];
 
 const LOAD_DROPS_A_LOCK: &[Step] = &[
-    (Down(58), Special(CLOCK), &[], &[Lock::Caps], None),
-    (Up(58), Released(CLOCK), &[], &[Lock::Caps], None),
-    (
-        Down(42),
-        Special(LSHIFT),
-        &[Modifier::LeftShift],
-        &[Lock::Caps],
-        None,
-    ),
+    (Down(58), Special(CLOCK), &[], &[Caps], None),
+    (Up(58), Released(CLOCK), &[], &[Caps], None),
+    (Down(42), Special(LSHIFT), &[LeftShift], &[Caps], None),
     (Load, Nothing, &[], &[], None),
     (Down(30), Char('a'), &[], &[], None),
 ];
 
 const LOAD_KEEPS_A_LOCK: &[Step] = &[
-    (Down(58), Special(CLOCK), &[], &[Lock::Caps], None),
-    (Up(58), Released(CLOCK), &[], &[Lock::Caps], None),
-    (Load, Nothing, &[], &[Lock::Caps], None),
-    (Down(30), Char('A'), &[], &[Lock::Caps], None),
+    (Down(58), Special(CLOCK), &[], &[Caps], None),
+    (Up(58), Released(CLOCK), &[], &[Caps], None),
+    (Load, Nothing, &[], &[Caps], None),
+    (Down(30), Char('A'), &[], &[Caps], None),
 ];
 
 const LOAD_FORGETS_A_MODIFIER: &[Step] = &[
-    (Down(42), Special(LSHIFT), &[Modifier::LeftShift], &[], None),
+    (Down(42), Special(LSHIFT), &[LeftShift], &[], None),
     (Load, Nothing, &[], &[], None),
     (Up(42), Nothing, &[], &[], None),
 ];
 
 const TWO_LOADS: &[Step] = &[
-    (Down(58), Special(CLOCK), &[], &[Lock::Caps], None),
+    (Down(58), Special(CLOCK), &[], &[Caps], None),
     (Load, Nothing, &[], &[], None),
     (Load, Nothing, &[], &[], None),
     (Up(58), Nothing, &[], &[], None),
 ];
 
 const CHARACTER_UNDER_CONTROL: &[Step] = &[
-    (Down(42), Special(LSHIFT), &[Modifier::LeftShift], &[], None),
+    (Down(42), Special(LSHIFT), &[LeftShift], &[], None),
     (
         Down(29),
         Special(LCTRL),
-        &[Modifier::LeftShift, Modifier::LeftControl],
+        &[LeftShift, LeftControl],
         &[],
         None,
     ),
-    (
-        Down(42),
-        Char('x'),
-        &[Modifier::LeftShift, Modifier::LeftControl],
-        &[],
-        None,
-    ),
-    (
-        Up(42),
-        Nothing,
-        &[Modifier::LeftShift, Modifier::LeftControl],
-        &[],
-        None,
-    ),
-    (Up(29), Released(LCTRL), &[Modifier::LeftShift], &[], None),
+    (Down(42), Char('x'), &[LeftShift, LeftControl], &[], None),
+    (Up(42), Nothing, &[LeftShift, LeftControl], &[], None),
+    (Up(29), Released(LCTRL), &[LeftShift], &[], None),
 ];
 
 fn action(rt: &impl Abort, code: u8) -> Action {
@@ -405,7 +341,7 @@ static QUIET: [Input; 4] = [Down(42), Down(58), Up(42), Up(58)];
 static PRESSED_ONCE_MORE: Replayed = Replayed {
     inputs: &[Down(42), Down(58)],
     outputs: &[Special(LSHIFT), Special(CLOCK)],
-    on: &[Modifier::LeftShift],
+    on: &[LeftShift],
     pending: None,
 };
 
@@ -443,12 +379,12 @@ fn a_quiet_console_goes_on_as_after_a_reset(rt: HostRuntime) {
 
 /// Events, their answers as numbers, and the modifiers that are on after them.
 static RAW: [(Input, u32, &[Modifier]); 7] = [
-    (Down(42), 0x8000_0002, &[Modifier::LeftShift]),
-    (Down(15), 0x8800_0008, &[Modifier::LeftShift]),
-    (Up(15), 0xc000_0008, &[Modifier::LeftShift]),
+    (Down(42), 0x8000_0002, &[LeftShift]),
+    (Down(15), 0x8800_0008, &[LeftShift]),
+    (Up(15), 0xc000_0008, &[LeftShift]),
     (Up(42), 0xc000_0002, &[]),
-    (Down(56), 0x8000_0084, &[Modifier::Meta]),
-    (Down(18), 0x0400_0065, &[Modifier::Meta]),
+    (Down(56), 0x8000_0084, &[Meta]),
+    (Down(18), 0x0400_0065, &[Meta]),
     (Up(56), 0xc000_0084, &[]),
 ];
 

@@ -5,7 +5,6 @@ use crate::runs::run_devices::{Run, perform};
 use crate::support::devices::{reader_of, sheet_of, slow_sheet_of};
 use crate::support::keymaps::{
     CAPS_ALONE, LETTER_AND_SHIFT, SHIFT_AND_LINE_FEED, SHIFT_WITH_TRAP, STICKS_UNDER_CAPS,
-    TWO_SCROLL_LOCKS, UPPER_HALF,
 };
 use keymap_check::check;
 use keymap_core::{Write, WriteFault};
@@ -31,40 +30,11 @@ alock nobody
 demonstration: none
 ";
 
-const SHOWN_SHIFT_WITH_TRAP: &[u8] = b"refused
-key 42: lshift at slot 42 column 0, character at slot 42 column 2
-lshift sole 42
-rshift nobody
-lctrl throughout 29
-rctrl nobody
-lalt nobody
-ralt nobody
-ashift nobody
-meta nobody
-clock nobody
-nlock nobody
-slock nobody
-alock nobody
-demonstration:
-down 42
-down 29
-down 42
-up 42
-up 29
-";
-
 /// A run over a text and a second input, what it answers, and what it writes.
 type Output = (Run, &'static [u8], &'static [u8], bool, &'static [u8]);
 
-static OUTPUTS: [Output; 10] = [
+static OUTPUTS: [Output; 9] = [
     (Run::Show, LETTER_AND_SHIFT, b"", true, ACCEPTED),
-    (
-        Run::Show,
-        SHIFT_WITH_TRAP,
-        b"",
-        false,
-        SHOWN_SHIFT_WITH_TRAP,
-    ),
     (
         Run::Search,
         LETTER_AND_SHIFT,
@@ -190,26 +160,4 @@ fn narrow_tables_print_as_their_map(rt: HostRuntime) {
     let wanted: (bool, &[u8]) = (true, PRINTED_NARROW);
     expect_written(&rt, alloc, Run::DumpNarrow, inputs, usize::MAX, wanted);
     expect_written(&rt, alloc, Run::DumpNarrow, inputs, 10, wanted);
-}
-
-fn has_line(report: &[u8], line: &[u8]) -> bool {
-    report.split(|byte| *byte == b'\n').any(|own| own == line)
-}
-
-/// A text, and a line of its report that no transcript has.
-static LOCK_LINES: [(&[u8], &[u8]); 2] = [
-    (TWO_SCROLL_LOCKS, b"slock several"),
-    (UPPER_HALF, b"alock throughout 58 steady"),
-];
-
-#[test]
-fn bearers_have_their_lines(rt: HostRuntime) {
-    for &(text, line) in &LOCK_LINES {
-        let mut text = reader_of(text, 1, usize::MAX);
-        let mut second = reader_of(b"", 1, usize::MAX);
-        let mut writer = slow_sheet_of(1, usize::MAX);
-        let told = perform(Run::Check, rt.alloc(), &mut text, &mut second, &mut writer);
-        let has_line = has_line(writer.bytes.as_slice(), line);
-        expect_at(&rt, line, told.is_ok() && has_line);
-    }
 }

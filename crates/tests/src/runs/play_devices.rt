@@ -1,13 +1,13 @@
 //! Devices of plays: a reader or a writer that fails in mid-stream is named, and nothing more is done. How many writes a
 //! long output takes.
+ghost use Rattle.std.specs.Prelude.{None, false};
 
 use crate::asserts::{expect_at, expect_equal, expect_equal_at};
 use crate::runs::plays::{Played, play_texts};
 use crate::support::devices::{reader_of, sheet_of};
 use crate::support::keymaps::{ACCENTS, LETTER_AND_SHIFT, SHIFT_AND_CAPS};
-use console_core::Answer;
-use keymap_core::{Read, ReadFault, ReadFaultKind, Write, WriteFault};
-use play_core::{PlayError, Show, Source, play_next, typed};
+use keymap_core::{Failed, Read, ReadFault, ReadFaultKind, Write, WriteFault};
+use play_core::{PlayError, Show, Source, play_next};
 
 const SCRIPT: &[u8] = b"down 42\nlost up 42\nrepeat 30\n# shift stays on\nload\nreset\n";
 
@@ -81,36 +81,42 @@ fn a_writer_that_fails_has_the_first_bytes(rt: HostRuntime) {
     }
 }
 
-#[test]
-fn typed_answers_that_stop_have_the_first_bytes(rt: HostRuntime) {
-    let answers = [
-        Answer::Char { c: 'é', meta: true },
-        Answer::Error,
-        Answer::BackTab,
-    ];
-    let mut out = sheet_of(4);
-    let answer = typed(&answers, &mut out);
-    expect_equal_at(&rt, 4, answer, Err(WriteFault { written: 4 }));
-    let is_front = out.bytes.as_slice() == b"\x1b\xc3\xa9\x1b".as_slice();
-    expect_at(&rt, 4, is_front && out.failed());
+/// A writer that counts what it takes.
+#[derive(Drop)]
+struct Counter {
+    bytes: usize,
+    writes: u32,
+}
+
+impl Write for Counter {
+    ghost contents = { λ _. None };
+
+    ghost has_failed = { λ _. false };
+
+    fn write(&mut self, bytes: &[u8]) -> Result<usize, Failed> {
+        self.bytes = self.bytes.saturating_add(bytes.len());
+        self.writes = self.writes.saturating_add(1);
+        Ok(bytes.len())
+    }
+
+    fn failed(&self) -> bool {
+        false
+    }
 }
 
 #[test]
 fn long_outputs_take_few_writes(rt: HostRuntime) {
     let mut lines = Vec::new(rt.alloc());
-    for _ in 0..200 {
+    for _ in 0..2_000 {
         lines.extend_from_slice(b"reset\n").expect(&rt, "memory");
     }
     let mut text = reader_of(ACCENTS, 512, usize::MAX);
     let mut next = reader_of(b"", 1, usize::MAX);
     let mut script = reader_of(lines.as_slice(), 4096, usize::MAX);
-    let mut out = sheet_of(usize::MAX);
+    let (bytes, writes) = (0, 0);
+    let mut out = Counter { bytes, writes };
     let (alloc, show) = (rt.alloc(), Show::Lines);
     let answer = play_next(alloc, show, &mut text, &mut next, &mut script, &mut out);
     expect_equal(&rt, answer, Ok(()));
-    expect_equal(&rt, (out.bytes.len(), out.writes), (7_000, 1));
-    let mut out = sheet_of(usize::MAX);
-    let answers = [Answer::Char { c: 'é', meta: true }; 1400];
-    expect_equal(&rt, typed(&answers, &mut out), Ok(()));
-    expect_equal(&rt, (out.bytes.len(), out.writes), (4_200, 1));
+    expect_equal(&rt, (out.bytes, out.writes), (70_000, 2));
 }

@@ -1,9 +1,10 @@
 #!/bin/sh
-# Runs the commands of README.md and of docs/GUIDE.md and compares what they print: in a block `console` each line
+# Runs the commands of README.md, docs/GUIDE.md and docs/TOUR.md and compares what they print: in a block `console` each line
 # behind `$ ` is a command, and what follows is its output, where a line `..` stands for any lines. Of the blocks `sh`
 # those of the guide are run, and must succeed; those of README build and install, which other scripts do. The program
 # is installed as README says, below HOME/.local, and the shell knows no more of it than the lines of README tell. The
-# guide begins by copying the examples into a folder, where its other commands are run.
+# guide begins by copying the examples into a folder, where its other commands are run; those of the tour are run in a
+# copy of the repository, and those of them that prove or build something only where PROVER is set.
 #
 # usage: guide.sh, with the program and the C library already built
 # The last line is 'N passed, M failed'; the status is 0 where none failed.
@@ -66,6 +67,11 @@ missing() {
     done
 }
 
+# is_left DOCUMENT FILE: the command of the tour proves or builds something, and isn't asked for
+is_left() {
+    [ "$1" = docs/TOUR.md ] && [ -z "${PROVER:-}" ] && grep -qE 'rt check|make quick' "$2"
+}
+
 # follows DOCUMENT: its commands do what it says
 follows() {
     unmade=
@@ -73,15 +79,21 @@ follows() {
     mkdir "$folder/work" "$folder/work/blocks"
     (cd "$folder/work/blocks" && blocks "$top/$1")
     cd "$folder/work" || exit 1
-    if [ "$1" = README.md ]; then
-        mkdir keymaps && cp "$HOME"/.local/share/examples/kmap/* keymaps && cd keymaps || exit 1
-    fi
+    case $1 in
+    README.md) mkdir keymaps && cp "$HOME"/.local/share/examples/kmap/* keymaps && cd keymaps || exit 1 ;;
+    docs/TOUR.md)
+        mkdir keymaps && (cd "$top" && tar -cf - --exclude=out --exclude=.git .) | tar -xf - -C keymaps &&
+            cd keymaps || exit 1
+        ;;
+    esac
     for number in $(find "$folder/work/blocks" -name 'run.*' -o -name 'script.*' | sed 's/.*\.//' | sort -n); do
         run=$folder/work/blocks/run.$number
         [ -f "$run" ] || run=$folder/work/blocks/script.$number
         want=$folder/work/blocks/want.$number
         lacks=$(missing "$run")
-        if [ -n "$lacks" ]; then
+        if is_left "$1" "$run"; then
+            skip 'PROVER is not set'
+        elif [ -n "$lacks" ]; then
             skip "there is no $(echo $lacks)"
             unmade="$unmade $(grep -oE '> *[a-z][a-z0-9.-]*' "$run" | tr -d '> ' | tr '\n' ' ')"
         elif [ "${run##*/}" = "run.$number" ]; then
@@ -98,4 +110,5 @@ follows() {
 
 follows README.md
 follows docs/GUIDE.md
+follows docs/TOUR.md
 counted

@@ -1,7 +1,7 @@
 #!/bin/sh
-# Compares the manual pages with the built program and the sources: the pages name every command and option of the help,
-# every kind of fault and of diagnostic, and every function of the header, of which the sources have the same ones, with
-# the stack that its comment tells, and mandoc has nothing to say about them.
+# Compares the manual pages and the table of README with the built program and the sources: both name every command and
+# option of the help, and the SYNOPSIS its words; the pages every kind of fault and of diagnostic, and every function of the header, of which the
+# sources have the same ones, with the stack that its comment tells; and mandoc has nothing to say about them.
 #
 # usage: manual.sh PROGRAM
 # The last line is 'N passed, M failed'; the status is 0 where none failed.
@@ -16,6 +16,28 @@ top=$(cd "$(dirname "$0")/.." && pwd)
 folder=$(mktemp -d) || exit 1
 trap 'rm -rf "$folder"' EXIT
 cd "$top" || exit 1
+
+# words_in_help FILE: the arguments and long options that a help explains, one a line
+words_in_help() {
+    sed -n -e 's/^  [[<]\([A-Z0-9]*\)[]>]\(\.*\) .*/\1\2/p' -e 's/^  [[<]\([A-Z0-9]*\)[]>]\(\.*\)$/\1\2/p' \
+        -e 's/^  .*\(--[a-z]*\) <\([A-Z0-9]*\)>.*/\1 \2/p' -e 's/^  .*\(--[a-z]*\)  .*/\1/p' "$1" | grep -vx -e --help
+}
+
+# words_in_synopsis COMMAND PAGE: those of the command in the SYNOPSIS of the page, likewise
+words_in_synopsis() {
+    sed -n '/^\.Sh SYNOPSIS/,/^\.Sh DESCRIPTION/p' "$2" |
+        awk -v command="$1" '
+            /^\.Nm/ { inside = 0 }
+            /^\.Cm / { inside = $2 == command; next }
+            inside {
+                for (i = 1; i <= NF; i++) {
+                    if ($i == "Fl" && $(i + 1) == "Fl")
+                        print "--" $(i += 2) ($(i + 1) == "Ar" ? " " toupper($(i += 2)) : "")
+                    else if ($i ~ /^[a-z0-9]+$/)
+                        print toupper($i) ($(i + 1) == "..." ? "..." : "")
+                }
+            }'
+}
 
 # Options are written in a page as `Fl h` and `Fl Fl show`.
 "$program" --help > "$folder/help"
@@ -34,6 +56,16 @@ for command in '' $commands; do
     for option in $(options_in "$folder/help"); do
         macros=$(echo "$option" | sed 's/^--/Fl Fl /; s/^-/Fl /')
         holds "kmap(1) has the option $option of: $command" grep -qE "^\.(It )?$macros( |\$)" man/kmap.1
+    done
+    [ -n "$command" ] || continue
+    # The words that follow the command in the SYNOPSIS are those that the help explains, as `TEXT...` or `--next TEXT2`.
+    holds "kmap(1) has the words of $command in its SYNOPSIS" \
+        [ "$(words_in_synopsis "$command" man/kmap.1 | sort)" = "$(words_in_help "$folder/help" | sort)" ]
+    # In the table of README the words of a command stand in one pair of backquotes, with its options.
+    grep -o "\`kmap $command [^\`]*\`" README.md > "$folder/words"
+    holds "README has the command $command" [ -s "$folder/words" ]
+    for option in $(options_in "$folder/help" | grep '^--' | grep -vxE -e '--help|--version'); do
+        holds "README has the option $option of: $command" grep -q -e "[[ (]${option}[] )]" "$folder/words"
     done
 done
 

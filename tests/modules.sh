@@ -1,8 +1,8 @@
 #!/bin/sh
-# Checks that docs/ARCHITECTURE.md has the crates of crates.txt and no others, that its lists of modules name the files
-# of each crate that it lists, and no others, that its lists and pictures of lemmas are what the files of proofs/ use of
-# each other, that no crate cites the proofs of another but for its `Shared`, and that each path that a page names is
-# there.
+# Checks that docs/ARCHITECTURE.md has the crates of crates.txt and no others, that each file of src/ and specs/ begins
+# with a comment on what it has, as that page says, that its lists and pictures of lemmas are what the files of proofs/
+# use of each other, that no crate cites the proofs of another but for its `Shared`, and that each path that a page names
+# is there.
 #
 # usage: modules.sh
 # The last line is 'N passed, M failed'; the status is 0 where none failed.
@@ -19,9 +19,6 @@ import re
 import sys
 
 os.chdir(sys.argv[1])
-# These stand in many crates, and the page says so below its table.
-COMMON = {"lib", "main", "Lib", "Inner", "Types", "laws", "limits", "fault", "type_error"}
-PARTS = (("src/", "*.rt", r"`([a-z_]+)`"), ("specs/", "*.antt", r"`([A-Z]\w*)`"), ("specs/Inner/", "*.antt", r"`([A-Z]\w*)`"))
 
 
 def tell(is_so, what):
@@ -34,13 +31,10 @@ named = {it for row in re.findall(r"^\| ([\w, ]+) \|", crates, re.M) for it in r
 lines = open("crates.txt", encoding="utf-8").read().splitlines()
 listed = {it.split(":")[0].split()[0] for it in lines if it and not it.startswith("#")}
 tell(named == listed, f"docs/ARCHITECTURE.md has the crates of crates.txt: {sorted(named ^ listed)}")
-table = page.split("\n## The modules of each crate\n")[1].split("\n## ")[0]
-for crate, text in re.findall(r"^\*\*(\w+)\*\*\n(.*?)\n(?=\n(?!- )|\Z)", table, re.M | re.S):
-    lists = dict(re.findall(r"^- `([\w/]+/)`: (.*?)(?=\n- |\Z)", text.strip(), re.M | re.S))
-    for part, files, name in PARTS:
-        there = {os.path.splitext(os.path.basename(it))[0] for it in glob.glob(f"crates/{crate}/{part}{files}")}
-        told = set(re.findall(name, lists.get(part, "")))
-        tell(there - COMMON == told - COMMON, f"docs/ARCHITECTURE.md names each file of {part} of {crate}, and no other")
+for path in sorted(glob.glob("crates/*/src/**/*.rt", recursive=True) + glob.glob("crates/*/specs/**/*.antt", recursive=True)):
+    if not re.search(r"/specs/(Lib|\w*Inner)\.antt$", path) and not path.startswith("crates/tests/"):
+        first = open(path, encoding="utf-8").readline()
+        tell(first.startswith("//! " if path.endswith(".rt") else "-- "), f"{path} begins with a comment on what it has")
 proofs = page.split("\n## How to read the proofs\n")[1].split("\n## ")[0]
 for crate, picture, text in re.findall(r"^\*\*Lemmas of (\w+)\*\*\n\n```\n(.*?)```\n(.*?)(?=\n\*\*|\Z)", proofs, re.M | re.S):
     files = {os.path.splitext(os.path.basename(it))[0]: it for it in glob.glob(f"crates/{crate}/proofs/*.antt")}

@@ -6,6 +6,9 @@
 # The view, the invariant and the inverse of a `Model` and what a `Hash` feeds tell of private fields, and may name
 # anything. So may two files of keymap_text: what a `MapReader` keeps is a place in the machine that reads a text.
 #
+# And that `make promises` prints each law with the first sentence of its comment, and that each name by which a row of
+# docs/PROOFS.md tells what carries it is printed there or defined in `specs`.
+#
 # usage: statements.sh [FOLDER]
 # The last line is 'N passed, M failed'; the status is 0 where none failed.
 
@@ -259,5 +262,18 @@ for lib in crates/*/src/lib.rt; do
         holds "$item" [ "$judgement" = good ]
     done < "$folder/items"
 done
+
+if [ -f tests/promises ]; then
+    python3 -B tests/promises > "$folder/promises"
+    for law in $(sed -n 's/^pub fn \([a-z_0-9]*\).*/\1/p' crates/*/src/laws.rt); do
+        holds "make promises prints the law $law with a comment" grep -q "^law $law: " "$folder/promises"
+    done
+    find crates/*/specs -name '*.antt' -exec sed -n 's/^[a-z ]*pub \(record \)*\([^ ]*\).*/\2/p' {} + >> "$folder/promises"
+    carriers=$(sed -n 's/^| .* | \(.*\) |$/\1/p' docs/PROOFS.md | grep -o '`[A-Za-z_:]*`' | tr -d '`' | sort -u)
+    holds 'docs/PROOFS.md has rows' [ -n "$carriers" ]
+    for name in $carriers; do
+        holds "docs/PROOFS.md names $name, which is promised or defined" grep -qw "$name" "$folder/promises"
+    done
+fi
 
 counted

@@ -30,6 +30,7 @@ says() {
 
 says crates/kmap/src/command_line.rt "const VERSION: &str = \"$version\";"
 says include/kmap.pc "Version: $version"
+says python/pyproject.toml "version = \"$version\""
 for page in man/kmap.1 man/kmap.3 man/kmap.5; do
     says "$page" "This page is that of version $version."
 done

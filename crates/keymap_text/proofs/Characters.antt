@@ -99,7 +99,7 @@ lexes_hex : (c : ℕ) (ds : List ℕ) → 0 < length ds → length ds ≤ 30 →
     → Lexes NoWord (48 ∷ 120 ∷ map digit_char ds) (Value (Number c) ∷ [])
 lexes_hex c ds z l h e =
     subst (λ (m : Meaning). Lexes NoWord (48 ∷ 120 ∷ map digit_char ds) (Value m ∷ []))
-    (sym (hexadecimal c (map digit_char ds) (sym (hex_digits ds z h ∙ ap Some e))))
+    (sym (hexadecimal 120 c (map digit_char ds) refl refl (sym (hex_digits ds z h ∙ ap Some e))))
     (lexes_word (48 ∷ 120 ∷ map digit_char ds) (omega arith) (omega (arith, hex_length ds, l))
     (omega (arith, hex_leads ds h, hex_length ds)))
 

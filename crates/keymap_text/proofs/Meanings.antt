@@ -1,20 +1,20 @@
 -- Each row of the table of names says what its name means.
-use Rattle.keymap_text.proofs.Common.{rules, ◌≡◌, ℕ, ◌+◌, ◌*◌, ◌<◌, true, ◌&&◌, List, [], ◌∷◌, length, take}
+use Rattle.keymap_text.proofs.Common.{rules, ◌≡◌, ℕ, ◌+◌, ◌*◌, ◌<◌, true, false, ◌&&◌, List, [], ◌∷◌, length, take}
 use Rattle.keymap_text.proofs.Common.{drop, get_or, map, fold, All, refl, sym, ◌∙◌, ap, ap₂, arith, nat_lt, Option}
 use Rattle.keymap_text.proofs.Common.{Some, None, IfSome, codes, ◌≤◌, take_all, get_or-map, take-map}
-use Rattle.keymap_text.proofs.Common.{drop-map, length-map, nat_tests, list_all, to_ascii_lowercase}
+use Rattle.keymap_text.proofs.Common.{drop-map, length-map, lt-ltb, nat_tests, list_all, to_ascii_lowercase}
 use Rattle.keymap_text.proofs.Common.{digit_value, named_of, Number, Act, Name, Meaning, NAMES, pack, unpacked}
 use Rattle.keymap_text.proofs.Common.{KeyMeans, IsTrueName, function_name, screen_name, name_key, ArePlaced, along}
 use Rattle.keymap_text.proofs.Common.{leading, is_word, meaning, sense_meaning, letters}
-use Rattle.keymap_text.proofs.Common.{meaning_by_names, named, table, digits_of, number_after, is_digit}
+use Rattle.keymap_text.proofs.Common.{meaning_by_names, named, table, digits_of, number, number_after, is_digit}
 use Rattle.keymap_text.proofs.Common.{of_action, ltb-true, subst, length-take-le}
 use Rattle.std.proofs.lemmas.Str.Ascii.{lowercase-lowercase}
 use Rattle.keymap_core.specs.declared.named.Named.{Named}
 use Rattle.keymap_text.specs.Inner.Keys.{place_of}
 use Rattle.keymap_text.specs.declared.names.TheConstants.{PLACES}
 use Rattle.keymap_text.proofs.Keys.{unpack_packed}
-use Rattle.keymap_text.proofs.Leading.{leading_le, leading_part}
-use Rattle.keymap_text.proofs.Numbers.{none_of}
+use Rattle.keymap_text.proofs.Leading.{leading_pass, leading_fail, leading_le, leading_part}
+use Rattle.keymap_text.proofs.Numbers.{digits_good, none_of}
 use Rattle.keymap_core.specs.declared.action.Action.TheVariants as a
 
 -- case has no effect
@@ -68,31 +68,89 @@ meaning_picks : (w : List ℕ) → meaning w ≡ pick (digits_of 10 w) (number_a
 unfolding meaning pick
 meaning_picks w = refl
 
+-- by equal parts
+same_pick : (a a' b b' : Option ℕ) (c c' : Option Meaning) (d d' : Named) → a ≡ a' → b ≡ b' → c ≡ c' → d ≡ d'
+    → pick a b c d ≡ pick a' b' c' d'
+same_pick a a' b b' c c' d d' e f g h = cc
+
 -- the meaning of a word has no case
 pub meaning_lower : (w : List ℕ) → meaning (map to_ascii_lowercase w) ≡ meaning w
-meaning_lower w = search (rules, after_lower, digits_lower, idem, meaning_picks, named_lower)
+meaning_lower w = search (rules, after_lower, digits_lower, idem, meaning_picks, named_lower, same_pick)
 
--- decimal digits mean their number
-pub decimal_means : (o : Option ℕ) (w : List ℕ) → o ≡ digits_of 10 w → IfSome o (λ n. Number n ≡ meaning w)
+-- numbers
+pub decimal_meaning : (w : List ℕ) (n : ℕ) → Some n ≡ digits_of 10 w → Number n ≡ meaning w
 unfolding pick
-decimal_means None w h = tt
-decimal_means (Some n) w h = grind (arith, meaning_picks)
+decimal_meaning w n h = grind (arith, meaning_picks)
 
 -- a word with 0x is no decimal number
-not_decimal : (w : List ℕ) → digits_of 10 (48 ∷ 120 ∷ w) ≡ None
+not_decimal : (b : ℕ) (w : List ℕ) → nat_lt (digit_value b) 10 ≡ false → digits_of 10 (48 ∷ b ∷ w) ≡ None
 unfolding digits_of
-not_decimal w = none_of _ _
+not_decimal b w h = rw (h, digits_of) (none_of _ _)
+
+-- the digits behind 0x
+behind_prefix : (b : ℕ) (w : List ℕ) → to_ascii_lowercase b ≡ 120
+    → number_after (codes "0x") 16 (48 ∷ b ∷ w) ≡ digits_of 16 w
+behind_prefix b w l = grind arith
 
 -- the word of 0x and digits means their number
-pub hexadecimal : (n : ℕ) (w : List ℕ) → Some n ≡ digits_of 16 w → Number n ≡ meaning (48 ∷ 120 ∷ w)
+pub hexadecimal : (b n : ℕ) (w : List ℕ) → nat_lt (digit_value b) 10 ≡ false → to_ascii_lowercase b ≡ 120
+    → Some n ≡ digits_of 16 w → Number n ≡ meaning (48 ∷ b ∷ w)
 unfolding pick
-hexadecimal n w h = grind (arith, meaning_picks, not_decimal)
+hexadecimal b n w d l h = grind (arith, behind_prefix, meaning_picks, not_decimal)
 
 -- digits after 0x mean their number
-pub hexadecimal_means : (o : Option ℕ) (w : List ℕ) → 2 < length w → get_or w 0 0 ≡ 48 → get_or w 1 0 ≡ 120
-    → o ≡ digits_of 16 (drop 2 w) → IfSome o (λ n. Number n ≡ meaning w)
-hexadecimal_means None w l x y h = tt
-hexadecimal_means (Some n) w l x y h = grind (arith, hexadecimal)
+pub hexadecimal_meaning : (w : List ℕ) (b n : ℕ) → nat_lt (digit_value b) 10 ≡ false → to_ascii_lowercase b ≡ 120
+    → 2 < length w → get_or w 0 0 ≡ 48 → get_or w 1 0 ≡ b → Some n ≡ digits_of 16 (drop 2 w) → Number n ≡ meaning w
+hexadecimal_meaning w b n d l s x y h = grind (arith, hexadecimal)
+
+-- a digit is a byte of a word
+digit_in_word : (c : ℕ) → digit_value c < 16 → is_word c ≡ true
+digit_in_word c h = grind (arith, nat_tests)
+
+-- a word of 0x and four digits in front, and what it means
+pub four_digits : (rest : List ℕ) → 6 < length rest → get_or rest 0 0 ≡ 48 → get_or rest 1 0 ≡ 120
+    → digit_value (get_or rest 2 0) < 16 → digit_value (get_or rest 3 0) < 16 → digit_value (get_or rest 4 0) < 16
+    → digit_value (get_or rest 5 0) < 16 → is_word (get_or rest 6 0) ≡ false → (leading is_word rest ≡ 6)
+    × (Number (((digit_value (get_or rest 2 0) * 16 + digit_value (get_or rest 3 0)) * 16
+    + digit_value (get_or rest 4 0)) * 16 + digit_value (get_or rest 5 0)) ≡ meaning (take 6 rest))
+four_digits (n ∷ x ∷ a ∷ b ∷ c ∷ d ∷ e ∷ z) l o t p q r s h =
+    let ends = leading_fail is_word e z h in
+    let fourth = leading_pass is_word d (e ∷ z) (digit_in_word d s) in
+    let third = leading_pass is_word c (d ∷ e ∷ z) (digit_in_word c r) in
+    let second = leading_pass is_word b (c ∷ d ∷ e ∷ z) (digit_in_word b q) in
+    let first = leading_pass is_word a (b ∷ c ∷ d ∷ e ∷ z) (digit_in_word a p) in
+    let letter = leading_pass is_word x (a ∷ b ∷ c ∷ d ∷ e ∷ z) (ap is_word t) in
+    let zero_digit = leading_pass is_word n (x ∷ a ∷ b ∷ c ∷ d ∷ e ∷ z) (ap is_word o) in
+    let sum : ((digit_value a * 16 + digit_value b) * 16 + digit_value c) * 16 + digit_value d
+    ≡ number 16 (a ∷ b ∷ c ∷ d ∷ []) = omega arith in (
+      omega (arith, ends, fourth, third, second, first, letter, zero_digit),
+      ap Number sum ∙ hexadecimal_meaning (n ∷ x ∷ a ∷ b ∷ c ∷ d ∷ []) 120 _ refl refl (omega arith) o t
+          (sym (digits_good 16 (a ∷ b ∷ c ∷ d ∷ []) (omega arith)
+          (rw (lt-ltb _ _ p, lt-ltb _ _ q, lt-ltb _ _ r, lt-ltb _ _ s) refl))),
+    )
+four_digits _ l o t p q r s h = absurd (omega (arith, l))
+
+-- a decimal digit is one of sixteen
+ten_of_sixteen : (c : ℕ) → digit_value c < 10 → digit_value c < 16
+ten_of_sixteen c h = omega (arith, h)
+
+-- a word of three digits in front, and what it means
+pub three_digits : (rest : List ℕ) → 3 < length rest → digit_value (get_or rest 0 0) < 10
+    → digit_value (get_or rest 1 0) < 10 → digit_value (get_or rest 2 0) < 10 → is_word (get_or rest 3 0) ≡ false
+    → (leading is_word rest ≡ 3) × (Number ((digit_value (get_or rest 0 0) * 10 + digit_value (get_or rest 1 0)) * 10
+    + digit_value (get_or rest 2 0)) ≡ meaning (take 3 rest))
+three_digits (a ∷ b ∷ c ∷ e ∷ z) l p q r h =
+    let ends = leading_fail is_word e z h in
+    let third = leading_pass is_word c (e ∷ z) (digit_in_word c (ten_of_sixteen c r)) in
+    let second = leading_pass is_word b (c ∷ e ∷ z) (digit_in_word b (ten_of_sixteen b q)) in
+    let first = leading_pass is_word a (b ∷ c ∷ e ∷ z) (digit_in_word a (ten_of_sixteen a p)) in
+    let sum : (digit_value a * 10 + digit_value b) * 10 + digit_value c ≡ number 10 (a ∷ b ∷ c ∷ []) = omega arith in (
+      omega (arith, ends, third, second, first),
+      ap Number sum ∙ decimal_meaning (a ∷ b ∷ c ∷ []) _
+          (sym (digits_good 10 (a ∷ b ∷ c ∷ []) (omega arith)
+          (rw (lt-ltb _ _ p, lt-ltb _ _ q, lt-ltb _ _ r) refl))),
+    )
+three_digits _ l p q r h = absurd (omega (arith, l))
 
 -- a name is true if what its key spells means so
 means_of : (key : ℕ) (m : Meaning) → m ≡ meaning (unpacked 8 key) → KeyMeans key m

@@ -4,7 +4,7 @@ pub use Rattle.keymap_text.proofs.Faults.{list_ends, list_stops, list_then}
 pub use Rattle.keymap_text.proofs.Folded.{accents_of, entries_of, last_more, last_none, puts_are}
 pub use Rattle.keymap_text.proofs.InFront.{Fits, front_blank, front_comment, front_fits, skipped_by}
 pub use Rattle.keymap_text.proofs.Leading.{leading_append, leading_fail, leading_front, leading_le}
-pub use Rattle.keymap_text.proofs.Leading.{leading_part, leading_pass, leading_rest, same_head}
+pub use Rattle.keymap_text.proofs.Leading.{leading_part, leading_pass, leading_rest, leading_tail, same_head}
 pub use Rattle.keymap_text.proofs.Leading.{same_tail}
 pub use Rattle.keymap_text.proofs.Lines.{feeds, feeds_run, line_more}
 pub use Rattle.keymap_text.proofs.OneRow.{defined_is}

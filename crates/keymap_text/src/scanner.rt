@@ -16,7 +16,7 @@ use crate::names::name_meaning;
 use crate::token::{
     Front, TokenKind, first_spaces, is_blank_byte, line_len, short_word_len, space_run, token_front,
 };
-use crate::words::{Item, Meaning, item_of, plain_number};
+use crate::words::{Item, Meaning, four_digit_number, item_of, three_digit_number};
 use keymap_core::Definitions;
 
 /// Why bytes are refused, and how many stand before the fault.
@@ -44,7 +44,6 @@ pub(crate) fn behind(n: usize, stop: Stop) -> Stop
 
 /// The word in front, and how many bytes it has, if it is a short name.
 #[inline(always)]
-#[tactic(auto, using(crate::proofs::Fronts::word_fronts))]
 fn front_name(rest: &[u8]) -> Option<(Item, usize)>
     ensures { IfSome result (λ found. Fronts rest.now found.0 found.1) }
 {
@@ -58,18 +57,18 @@ fn front_name(rest: &[u8]) -> Option<(Item, usize)>
     }
 }
 
-/// The number in front, and how many bytes it has, if these are at most 15.
+/// The number in front, and how many bytes it has, if it is `0x` and four digits, or three digits, as most are.
 #[inline(always)]
-#[tactic(auto, using(crate::proofs::Fronts::word_fronts))]
 fn front_number(rest: &[u8]) -> Option<(Item, usize)>
     ensures { IfSome result (λ found. Fronts rest.now found.0 found.1) }
 {
-    let n = short_word_len(rest);
-    if n < 1 || n > 15 {
-        return None;
+    if rest.len() > 6 {
+        if let Some(number) = four_digit_number(rest) {
+            return Some((Item::Value(Meaning::Number(number as u128)), 6));
+        }
     }
-    match plain_number(&rest[..n]) {
-        Some(number) => Some((Item::Value(Meaning::Number(number)), n)),
+    match three_digit_number(rest) {
+        Some(number) => Some((Item::Value(Meaning::Number(number as u128)), 3)),
         None => None,
     }
 }

@@ -1,13 +1,14 @@
 //! What words mean: numbers, characters, lock letters and actions. It sees the bytes of one token, and knows neither
 //! its place nor the tokens beside it.
-ghost use Rattle.std.specs.Prelude.{◌≡◌, ◌+◌, ◌≤◌, length, Some, None, IfSome};
+ghost use Rattle.std.specs.Prelude.{◌≡◌, ◌+◌, ◌≤◌, ◌<◌, length, take, Some, None, IfSome};
 ghost use Rattle.std.specs.Char as char_spec;
 ghost use Rattle.keymap_text.specs.declared.token.TokenKind.TheVariants.{Word};
 ghost use Rattle.keymap_text.specs.declared.words.Meaning.TheVariants.{Number};
+ghost use Rattle.keymap_text.specs.Lexical.{is_word, leading};
 ghost use Rattle.keymap_text.specs.Words.{meaning, item, digits_of, number_after, of_action};
 
 use crate::names::{character_or_letter, is_same_name, name_meaning};
-use crate::token::{TokenKind, word_len};
+use crate::token::{TokenKind, is_word_byte, word_len};
 use keymap_core::{Action, LockFlag, Named};
 
 /// The meaning of a word.
@@ -56,7 +57,7 @@ fn digit_value(c: u8) -> u8
 }
 
 /// The number that the digits spell; none where there are no bytes or one of them is no digit.
-#[inline(always)]
+#[inline(never)]
 fn number_of(base: u8, digits: &[u8]) -> Option<u128>
     requires base { base ≤ 16 }
     requires length { length digits.now ≤ 32 }
@@ -135,17 +136,42 @@ pub fn word_meaning(word: &[u8]) -> Meaning
     }
 }
 
-/// The number that a word spells as most are written, in decimal digits or behind `0x`.
+/// The number in front that is `0x` and four digits, with a byte behind it that is none of a word.
 #[inline(always)]
-pub(crate) fn plain_number(word: &[u8]) -> Option<u128>
-    requires { length word.now ≤ 32 }
-    ensures { IfSome result (λ n. Number n ≡ meaning word.now) }
+pub(crate) fn four_digit_number(rest: &[u8]) -> Option<u64>
+    requires { 7 ≤ length rest.now }
+    ensures { IfSome result (λ n. (6 < length rest.now) × (leading is_word rest.now ≡ 6)
+        × (Number n ≡ meaning (take 6 rest.now))) }
 {
-    if word.len() > 2 && word[0] == b'0' && word[1] == b'x' {
-        number_of(16, &word[2..])
-    } else {
-        number_of(10, word)
+    if rest[0] != b'0' || rest[1] != b'x' || is_word_byte(rest[6]) {
+        return None;
     }
+    let first = digit_value(rest[2]);
+    let second = digit_value(rest[3]);
+    let third = digit_value(rest[4]);
+    let last = digit_value(rest[5]);
+    if first >= 16 || second >= 16 || third >= 16 || last >= 16 {
+        return None;
+    }
+    Some(((first as u64 * 16 + second as u64) * 16 + third as u64) * 16 + last as u64)
+}
+
+/// The number in front that is three digits, with a byte behind it that is none of a word.
+#[inline(always)]
+pub(crate) fn three_digit_number(rest: &[u8]) -> Option<u64>
+    ensures { IfSome result (λ n. (3 < length rest.now) × (leading is_word rest.now ≡ 3)
+        × (Number n ≡ meaning (take 3 rest.now))) }
+{
+    if rest.len() < 4 || is_word_byte(rest[3]) {
+        return None;
+    }
+    let first = digit_value(rest[0]);
+    let second = digit_value(rest[1]);
+    let last = digit_value(rest[2]);
+    if first >= 10 || second >= 10 || last >= 10 {
+        return None;
+    }
+    Some((first as u64 * 10 + second as u64) * 10 + last as u64)
 }
 
 /// What a token stands for, by its kind and its bytes.

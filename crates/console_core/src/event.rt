@@ -57,6 +57,7 @@ const SPCLKEY: u32 = 0x8000_0000;
 
 impl Answer {
     /// The answer as the number that genkbd_keyaction returns for it.
+    #[inline(always)]
     pub fn raw(self) -> u32
         ensures { result ≡ raw_of self }
     {

@@ -43,6 +43,7 @@ fn slot<S: Store>(store: &S, key: KeyCode) -> u8
 }
 
 /// What a press of the key looks up. `Held::look` of console_states says the same of a state, which is no store.
+#[inline(always)]
 fn look<K: Keymap, S: Store>(store: &S, map: &K, key: KeyCode) -> Cell
     ensures { (m : MapValue) → K.shows map.now m
         → result ≡ look_with m (λ i. (S.kept store.now).mark (Holding.Mod i)) (S.kept store.now).lock key }
@@ -60,6 +61,7 @@ fn look<K: Keymap, S: Store>(store: &S, map: &K, key: KeyCode) -> Cell
 }
 
 /// The action that a press takes, and what it leaves remembered.
+#[inline(always)]
 fn take_over<S: Store>(store: &mut S, key: KeyCode, action: Action) -> Action
     ensures in_range { key < key_count }
     ensures taken { result ≡ taken_over ((S.kept store.old).memory key) action }
@@ -69,7 +71,8 @@ fn take_over<S: Store>(store: &mut S, key: KeyCode, action: Action) -> Action
         Some(true) => action,
         Some(false) => Action::Nop,
         None => {
-            if action != Action::Nop {
+            let is_nop = matches!(&action, Action::Nop);
+            if !is_nop {
                 store.remember(key, Some(action));
             }
             action
@@ -107,16 +110,18 @@ fn let_go<S: Store>(store: &mut S, released: &Action)
     }
 }
 
+#[inline(always)]
 #[tactic(auto, using(crate::proofs::Keeping::keeping))]
 fn press_character<K: Keymap, S: Store>(store: &mut S, map: &K, key: KeyCode, c: char) -> Answer
     ensures answer { let old = S.kept store.old in (m : MapValue) → K.shows map.now m
         → result ≡ answer_char m old.pending (old.mark (Holding.Mod Modifier.Meta)) c }
     ensures kept { S.kept store.new ≡ after_character key (S.kept store.old) }
 {
-    let answer = compose(map, store.pending(), c, is_on(store, Modifier::Meta));
+    let pending = store.pending();
+    let meta = is_on(store, Modifier::Meta);
     store.remember(key, None);
     store.set_pending(None);
-    answer
+    compose(map, pending, c, meta)
 }
 
 #[inline(always)]
@@ -137,6 +142,7 @@ fn press_action<K: Keymap, S: Store>(store: &mut S, map: &K, key: KeyCode, actio
     answer_action(map, pending, meta, taken)
 }
 
+#[inline(always)]
 #[tactic(auto, using(crate::proofs::Keeping::keeping))]
 fn release<S: Store>(store: &mut S, key: KeyCode) -> Answer
     ensures answer { result ≡ answer_release ((S.kept store.old).memory key) }

@@ -34,12 +34,15 @@ pub fn compose<K: Keymap>(map: &K, pending: Option<u8>, c: char, meta: bool) -> 
 pub fn flips(flag: LockFlag, caps: bool, num: bool) -> bool
     ensures { result ≡ flips_shift flag caps num }
 {
-    match flag {
-        LockFlag::O => false,
-        LockFlag::C => caps,
-        LockFlag::N => num,
-        LockFlag::B => caps || num,
-    }
+    // caps in bit 0, num in bit 1
+    let locks = u8::from(caps) + 2 * u8::from(num);
+    let flipping = match flag {
+        LockFlag::O => 0,
+        LockFlag::C => 1,
+        LockFlag::N => 2,
+        LockFlag::B => 3,
+    };
+    locks & flipping != 0
 }
 
 /// The column for the modifiers and the flipped shift.
@@ -86,7 +89,7 @@ fn toggled<K: Keymap>(map: &K, pending: Option<u8>, index: u8) -> Option<u8>
 }
 
 /// The answer to a dead key.
-#[inline(never)]
+#[inline(always)]
 fn answer_dead_key<K: Keymap>(map: &K, pending: Option<u8>, meta: bool, index: u8) -> Answer
     ensures { (m : MapValue) → K.shows map.now m → result ≡ answer_dead_key_of m pending meta index }
 {

@@ -49,6 +49,7 @@ fn pending_code(index: Option<u8>) -> u32
 }
 
 /// The byte by which a remembered action is kept: its code, 0 for nothing.
+#[inline(always)]
 fn memory_code(action: &Option<Action>) -> u8
     requires { IfSome action.now (λ a. same_action a Action.Nop ≡ false) }
     ensures { action_of_byte result ≡ action.now }
@@ -63,6 +64,7 @@ fn memory_code(action: &Option<Action>) -> u8
 }
 
 /// Whether the byte keeps this action, if it keeps one. Only the code of another action is decoded.
+#[inline(never)]
 fn is_code_of(code: u8, expected: Action) -> Option<bool>
     requires { code ≢ 0 }
     ensures { result ≡ option_map (λ held. same_action held expected) (action_of_byte code) }
@@ -125,6 +127,7 @@ impl Store for WordStore {
         self.word & (1 << lock_bit(which)) != 0
     }
 
+    #[inline(always)]
     fn remembered(&self, key: KeyCode) -> Option<Action> {
         let code = self.codes[key.get() as usize];
         if code == 0 {
@@ -134,6 +137,7 @@ impl Store for WordStore {
         }
     }
 
+    #[inline(always)]
     fn remembers(&self, key: KeyCode, action: Action) -> Option<bool> {
         match self.codes[key.get() as usize] {
             0 => None,
@@ -169,6 +173,7 @@ impl Store for WordStore {
         self.word = word ^ bit;
     }
 
+    #[inline(always)]
     fn remember(&mut self, key: KeyCode, action: Option<Action>) {
         self.codes[key.get() as usize] = memory_code(&action);
     }

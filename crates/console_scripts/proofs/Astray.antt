@@ -2,8 +2,9 @@
 use Rattle.console_scripts.proofs.Common.{◌≡◌, ℕ, List, length, slice_get, Some, ap, subst, sym, ◌∙◌, inl, inr}
 use Rattle.console_scripts.proofs.Common.{MapValue, Under, alone, State, IsMove, moved, Routes, HasRoute, IsAstray}
 use Rattle.console_scripts.proofs.Common.{AreSettled, state_of, Entry, Entries, Searched, unscrolled, Move}
-use Rattle.console_scripts.proofs.Common.{moves-unscrolled}
-use Rattle.console_states.proofs.Shared.{leaves-scroll_or_turns, move-met, same_moved, scroll-moved}
+use Rattle.console_scripts.proofs.Common.{moves-unscrolled, ◌+◌, suc, arith}
+use Rattle.console_states.specs.Moves.{presses_of}
+use Rattle.console_states.proofs.Shared.{all-done, leaves-scroll_or_turns, same_moved, scroll-moved}
 
 -- a met state without a route, near the state where a path has led
 abbrev pub StraysTo : Entries → Routes → State → Type 0
@@ -25,7 +26,8 @@ strays-on m es routes searched settled s move is (j, x, at, near, none) =
     elim (leaves-scroll_or_turns move) [
       | inl leaves ↦
           let here : IsMove u (state_of x.0) move = moves-unscrolled u s (state_of x.0) move near is in
-          let (i, y, there, e) = move-met u es searched j x at move here leaves in (
+          let n : ℕ = suc (x.1.presses + presses_of move) in
+          let (i, y, there, e, le) = all-done u es searched n j x at move here leaves (omega arith) in (
             i,
             y,
             there,

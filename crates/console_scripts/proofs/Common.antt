@@ -19,7 +19,7 @@ pub use Rattle.console_scripts.specs.Inner.Exploring.{LeadsByTap, LetsGo, TypesO
 pub use Rattle.console_scripts.specs.Inner.Exploring.{origin_in, typed_along}
 pub use Rattle.console_scripts.specs.Inner.Routes.{AllLeadHome, AreSettled, HasRoute, IsAstray, LeadsHome, NoPressLeads}
 pub use Rattle.console_scripts.specs.Inner.Routes.{Routes}
-pub use Rattle.console_scripts.specs.Inner.Showing.{IsAim, IsAt, IsDeadFor, IsPressAt, IsRest, IsUnseen, IsWhole, Leads}
+pub use Rattle.console_scripts.specs.Inner.Showing.{IsAim, IsAt, IsDeadFor, IsPressAt, IsRest, IsWhole, Leads, Sees, TurnsScroll}
 pub use Rattle.console_scripts.specs.Inner.Showing.{LeadsOn, LeadsToSee, ShowsNot, locks_in}
 pub use Rattle.console_scripts.specs.Inner.Symbols.{LacksSymbol}
 pub use Rattle.console_scripts.specs.Typing.{CanTap, CanType, ComesHome, IsAsNew, IsTapOf, cell_of, composed_of}
@@ -27,7 +27,7 @@ pub use Rattle.console_scripts.specs.Typing.{plainly, types_something}
 pub use Rattle.console_scripts.specs.Visiting.{AreStatesOf, CanReach, CanVisit, CannotScroll, IsOnward, IsWayHome}
 pub use Rattle.console_scripts.specs.Visiting.{LeadsBy, TurnsScrollOff, resting_after}
 pub use Rattle.console_scripts.specs.declared.explored.Explored.{Explored}
-pub use Rattle.console_scripts.specs.declared.explored.KeyAt.{KeyAt}
+pub use Rattle.console_states.specs.declared.look.KeyAt.{KeyAt}
 pub use Rattle.console_scripts.specs.declared.explored.Symbol.{Symbol}
 pub use Rattle.console_scripts.specs.declared.explored.Tap.{Tap}
 pub use Rattle.console_states.proofs.Shared.{are_same, home-near, home-start, moves-unscrolled, near-is_home, near-met}

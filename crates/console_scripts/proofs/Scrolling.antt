@@ -6,9 +6,11 @@ use Rattle.console_scripts.proofs.Common.{is_locked_after, HasKeys, HasNoLoads, 
 use Rattle.console_scripts.proofs.Common.{state_from, events_along, but_scroll, unscrolled, Explored, IsExplored}
 use Rattle.console_scripts.proofs.Common.{IsTrail, map_of_explored, origin_in, state_of, ReachesMoreThanFrom}
 use Rattle.console_scripts.proofs.Common.{state_limit, KeyAt, free_with, CannotScroll, TurnsScrollOff, resting_after}
-use Rattle.console_scripts.proofs.Common.{free_after, moves-unscrolled, near-met, near-path, press-turns, reached-one}
+use Rattle.console_scripts.proofs.Common.{free_after, moves-unscrolled, near-path, press-turns, reached-one}
 use Rattle.console_scripts.proofs.Common.{same_states, stands-from, stands-reset}
-use Rattle.console_scripts.specs.Inner.Showing.{IsTurnAt, IsUnturned}
+use Rattle.console_scripts.proofs.Common.{TurnsScroll, arith, length}
+use Rattle.console_states.specs.Looks.{HoldsAt, HoldsBelow, IsNowhere}
+use Rattle.console_states.proofs.Shared.{is-nowhere}
 use Rattle.console_scripts.proofs.Approaching.{at-reset}
 use Rattle.console_scripts.proofs.Leading.{out-leads}
 
@@ -39,15 +41,15 @@ near-resting m h = same_states _ _ (λ i. refl) lock refl
     lock _ = refl
 
 -- no moves lead to a turn where no press turns it in what was met
-pub unturned : (e : Explored) → IsExplored e → IsUnturned e → (h : List Event)
+pub unturned : (e : Explored) → IsExplored e → IsNowhere (TurnsScroll e) e.met.entries → (h : List Event)
     → origin_in e ≡ resting_after (map_of_explored e) h → CannotScroll (map_of_explored e) h
 unturned e x none h same (path, k, is) = subst (λ s. (p : ℕ) × ReachesMoreThanFrom u s state_limit p) same
     (elim (cases_Bool e.is_complete) [
       | inl complete ↦
           let from = subst (λ s. IsPathFrom u s (Turn k Scroll ∷ path)) (sym same) is in
-          let (j, z, at, near) = near-met u e.met.entries (x.whole complete).0 path from.1 in
-          absurd (none j k z at (subst (λ v. IsMove v (state_of z.0) (Turn k Scroll)) (sym x.under)
-          (moves-unscrolled u (state_from u (origin_in e) path) (state_of z.0) (Turn k Scroll) near from.0)))
+          absurd (is-nowhere u e.met.entries (x.whole complete).0 (λ s. (n : ℕ) → IsMove u s (Turn n Scroll) → ⊥)
+          (subst (λ v. HoldsBelow (λ y. (n : ℕ) → IsMove v (state_of y) (Turn n Scroll) → ⊥) e.met.entries
+          (length e.met.entries)) x.under none) (origin_in e) (0, omega arith, refl) path from.1 k from.0)
       | inr more ↦ x.more more
     ])
   where
@@ -55,7 +57,7 @@ unturned e x none h same (path, k, is) = subst (λ s. (p : ℕ) × ReachesMoreTh
     u = alone (map_of_explored e)
 
 -- a reset, the events to a place, and a press there that turns it
-pub turns-off : (e : Explored) → IsExplored e → (at : KeyAt) → IsTurnAt e at → (h : List Event)
+pub turns-off : (e : Explored) → IsExplored e → (at : KeyAt) → HoldsAt (TurnsScroll e) e.met.entries at → (h : List Event)
     → origin_in e ≡ resting_after (map_of_explored e) h → HasKeys h → HasNoLoads h
     → is_locked_after (between (map_of_explored e) (map_of_explored e)) Scroll h ≡ true
     → (old there now : List Event) → old ≡ Reset ∷ []

@@ -9,8 +9,11 @@ use Rattle.console_scripts.proofs.Common.{alone, State, start, Holds, IsIdle, lo
 use Rattle.console_scripts.proofs.Common.{state_after, events_along, IsHome, IsAfter, freed, unscrolled, ComesHome}
 use Rattle.console_scripts.proofs.Common.{SeesBy, selection_of, keys_of, map_of_explored, origin_in, IsExplored}
 use Rattle.console_scripts.proofs.Common.{IsWhole, HasRoute, LeadsHome, state_of, Entry, Entries, IsTrail}
-use Rattle.console_scripts.proofs.Common.{IsTurned, AreStatesOf, CanReach, IsOnward, IsWayHome, LeadsBy, IsUnseen}
-use Rattle.console_scripts.proofs.Common.{near-met, path-split, reached-one}
+use Rattle.console_scripts.proofs.Common.{IsTurned, AreStatesOf, CanReach, IsOnward, IsWayHome, LeadsBy, Sees}
+use Rattle.console_scripts.proofs.Common.{path-split, reached-one}
+use Rattle.console_scripts.proofs.Common.{key_count}
+use Rattle.console_states.specs.Looks.{IsNowhere}
+use Rattle.console_states.proofs.Shared.{is-nowhere}
 use Rattle.console_scripts.specs.Visiting.{SeenCanBeVisited}
 use Rattle.console_scripts.proofs.Aiming.{after-reached, met-near, met-reached, route-near, route-reached}
 use Rattle.std.proofs.lemmas.Option.{get_or_from_slice_get, slice_get-get_or, slice_get-map}
@@ -168,14 +171,15 @@ no-way e whole s off none now is = inr ((λ can home. none (route-reached e whol
 
 -- no press sees one of the sights
 pub unseen-from : (e : Explored) → IsExplored e → (xs : List Sight)
-    → ((x : Sight) → Contains xs x → IsUnseen e x) → IsOnward (map_of_explored e) (origin_in e) xs None
+    → ((x : Sight) → Contains xs x → IsNowhere (Sees e x) e.met.entries) → IsOnward (map_of_explored e) (origin_in e) xs None
 unseen-from e x xs none = elim (cases_Bool e.is_complete) [
   | inl complete ↦
       inl
       (λ y has (path, is, (k, lt, sees)).
       let m : MapValue = map_of_explored e in
-      let (j, z, at, near) = near-met (alone m) e.met.entries (x.whole complete).0 path is in
-      none y has j k z at lt (subst (λ w. SeesBy m w k y) (sym (ap (λ t. selection_of t) near)) sees))
+      is-nowhere (alone m) e.met.entries (x.whole complete).0
+      (λ s. (n : ℕ) → (n < key_count) × SeesBy m (selection_of s) n y → ⊥) (none y has) (origin_in e)
+      (0, omega arith, refl) path is k (lt, sees))
   | inr more ↦ inr (x.more more)
 ]
 

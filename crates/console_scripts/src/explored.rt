@@ -5,7 +5,7 @@ ghost use Rattle.console_states.specs.Moves.{Under, alone, map_in};
 ghost use Rattle.console_scripts.specs.Typing.{IsTapOf, cell_of};
 ghost use Rattle.console_scripts.specs.Inner.Exploring.{map_of_explored, origin_in, IsExplored, IsTapAt, HasTap};
 ghost use Rattle.console_scripts.specs.Inner.Exploring.{GoesAndTaps, IsOrigin, LetsGo, IsExploredFrom, GoesHome};
-ghost use Rattle.console_scripts.specs.Inner.Exploring.{IsMetAt};
+ghost use Rattle.console_scripts.specs.Inner.Exploring.{CanTapIn, IsMetAt};
 ghost use Rattle.console_scripts.specs.Inner.Routes.{HasRoute};
 ghost use Rattle.console_scripts.specs.Inner.Symbols.{AreKeysWith};
 ghost use Rattle.console_states.specs.Searching.{state_of, Entry};
@@ -14,16 +14,9 @@ use crate::routes::{Routes, has_route, routes_home};
 use crate::showing::{come_home, tap};
 use crate::symbols::keys_with;
 use console_core::Event;
-use console_states::{End, Held, Keymaps, Met, entry, go_out, meet_all, state_at};
+use console_states::{End, Held, KeyAt, Keymaps, Met, first_where, go_out, meet_all, state_at};
 use keymap_core::{Action, Cell, KEY_COUNT, KeyCode, KeyMap, MODIFIERS, key_with};
 use std::alloc::{AllocError, Global};
-
-/// A place where a state was met, and a key to press there.
-#[derive(Clone, Copy, Debug)]
-pub struct KeyAt {
-    pub place: usize,
-    pub key: KeyCode,
-}
 
 /// What a key that is tapped looks up.
 #[derive(Clone, Copy, Debug, PartialEq, Eq)]
@@ -136,6 +129,35 @@ fn let_all_go(from: &Held, events: &mut Vec<Event>) -> Result<Held, AllocError>
 }
 
 impl<'m> Explored<'m> {
+    /// A key that can be tapped so in the state, if a route leads home from there. Near states have the locks of the
+    /// origin.
+    #[inline(always)]
+    fn key_in(
+        &self,
+        held: &Held,
+        tap: &Tap,
+        have: &[bool; KEY_COUNT],
+        is_near: bool,
+    ) -> Option<KeyCode>
+        requires { AreKeysWith (map_of_explored self.now) tap.now.symbol have.now }
+        ensures { MatchOption result (is_near ≡ false → (k : ℕ) → CanTapIn self.now tap.now held.now k → ⊥)
+            (λ k. CanTapIn self.now tap.now held.now k) }
+    {
+        if is_near && !held.has_locks_of(&self.origin) {
+            return None;
+        }
+        match key_tapping(held, self.maps.first, tap, have) {
+            Some(key) => {
+                if has_route(&self.routes, held) {
+                    Some(key)
+                } else {
+                    None
+                }
+            }
+            None => None,
+        }
+    }
+
     /// The first place from which a route leads home and where a key can be tapped so, and that key. Near places have
     /// the locks of the origin.
     pub fn first_place(&self, tap: &Tap, is_near: bool) -> Option<KeyAt>
@@ -144,17 +166,7 @@ impl<'m> Explored<'m> {
             (λ at. IsTapAt self.now tap.now at.place at.key) }
     {
         let have = keys_with(self.maps.first, tap.symbol);
-        for place in 0..self.met.len() {
-            let (held, _) = entry(&self.met, place);
-            if !is_near || held.has_locks_of(&self.origin) {
-                if let Some(key) = key_tapping(&held, self.maps.first, tap, &have) {
-                    if has_route(&self.routes, &held) {
-                        return Some(KeyAt { place, key });
-                    }
-                }
-            }
-        }
-        None
+        first_where(&self.met, |held| self.key_in(&held, tap, &have, is_near))
     }
 
     /// A place from which a route leads home and where a key can be tapped so, and that key: with the locks of the

@@ -18,12 +18,14 @@ ghost use Rattle.console_states.specs.Searching.{under_of, Entry};
 ghost use Rattle.console_scripts.specs.Inner.Showing.{IsAim, IsPressAt, IsRest, IsWhole, Leads, LeadsComposing};
 ghost use Rattle.console_scripts.specs.Inner.Showing.{LeadsToSee, ShowsNot, locks_in};
 
-use crate::explored::{Explored, KeyAt, Symbol, Tap, explore};
+use crate::explored::{Explored, Symbol, Tap, explore};
 use crate::onward::Reached;
 use crate::routes::has_route;
 use crate::showing::{come_home, tap};
 use console_core::{Event, Translator};
-use console_states::{Held, Keymaps, Selection, Sight, Sights, entry, go_out, sights_in, state_at};
+use console_states::{
+    Held, KeyAt, Keymaps, Selection, Sight, Sights, entry, go_out, sights_in, state_at,
+};
 use keymap_core::{KeyCode, KeyMap, Lock};
 use std::alloc::{AllocError, Global};
 use std::marker::Model;

@@ -24,7 +24,6 @@ mod typing;
 mod typist;
 mod ways;
 
-pub use explored::KeyAt;
 pub use explorer::Explorer;
 pub use onward::{Onward, Reached, find_onward, scroll_off};
 pub use typing::{Keyed, Typing, TypingError, type_characters};

@@ -10,11 +10,12 @@ ghost use Rattle.console_states.specs.Sights.{selection_of};
 ghost use Rattle.console_scripts.specs.Visiting.{CannotScroll, IsOnward, TurnsScrollOff, resting_after};
 ghost use Rattle.console_scripts.specs.Inner.Exploring.{map_of_explored, origin_in, IsExplored};
 ghost use Rattle.console_states.specs.Searching.{under_of};
-ghost use Rattle.console_scripts.specs.Inner.Showing.{IsSeenAt, IsTurnAt, IsUnseen, IsUnturned};
+ghost use Rattle.console_states.specs.Looks.{HoldsAt, IsFirst, IsNowhere};
+ghost use Rattle.console_scripts.specs.Inner.Showing.{Sees, TurnsScroll};
 
-use crate::explored::{Explored, KeyAt, explore};
+use crate::explored::{Explored, explore};
 use console_core::{Event, Translator};
-use console_states::{Held, Keymaps, Selection, Sight, entry, go_out, state_at};
+use console_states::{Held, KeyAt, Keymaps, Selection, Sight, first_where, go_out, state_at};
 use keymap_core::{KEY_COUNT, KeyCode, KeyMap, Lock, key_with};
 use std::alloc::{AllocError, Global};
 
@@ -59,23 +60,27 @@ pub struct Onward {
 }
 
 impl<'m> Explored<'m> {
-    /// The first place where a press sees it, whether moves lead back or not, and its key.
-    fn first_seeing(&self, sight: Sight) -> Option<KeyAt>
-        ensures { MatchOption result (IsUnseen self.now sight) (λ at. IsSeenAt self.now sight at) }
+    /// A key whose press sees it in the state, where a pair's accent is pending.
+    #[inline(always)]
+    fn key_seeing(&self, held: &Held, sight: Sight) -> Option<KeyCode>
+        ensures { MatchOption result ((k : ℕ) → Sees self.now sight held.now k → ⊥)
+            (λ k. Sees self.now sight held.now k) }
     {
-        for place in 0..self.met.len() {
-            let (held, _) = entry(&self.met, place);
-            if let Some(key) = held.selection().key_seeing(self.maps.first, sight) {
-                return Some(KeyAt { place, key });
-            }
-        }
-        None
+        held.selection().key_seeing(self.maps.first, sight)
+    }
+
+    /// The first place where a press sees it, whether moves lead back or not, and its key.
+    #[tactic(auto, using(console_states::proofs::Shared::look_tells))]
+    fn first_seeing(&self, sight: Sight) -> Option<KeyAt>
+        ensures { IsFirst (Sees self.now sight) self.now.met.entries result }
+    {
+        first_where(&self.met, |held| self.key_seeing(&held, sight))
     }
 
     /// The first place where a press sees the first of these that some press sees, and its key.
     fn first_seeing_any(&self, sights: &[Sight]) -> Option<KeyAt>
-        ensures { MatchOption result ((x : SightValue) → Contains sights.now x → IsUnseen self.now x)
-            (λ at. (x : SightValue) × Contains sights.now x × IsSeenAt self.now x at) }
+        ensures { MatchOption result ((x : SightValue) → Contains sights.now x → IsNowhere (Sees self.now x) self.now.met.entries)
+            (λ at. (x : SightValue) × Contains sights.now x × HoldsAt (Sees self.now x) self.now.met.entries at) }
     {
         for sight in sights {
             if let Some(at) = self.first_seeing(*sight) {
@@ -143,16 +148,11 @@ fn key_turning(held: &Held, maps: &Keymaps) -> Option<KeyCode>
 
 impl<'m> Explored<'m> {
     /// The first place where a press turns the scroll lock, and its key.
+    #[tactic(auto, using(console_states::proofs::Shared::look_tells))]
     fn first_turning(&self) -> Option<KeyAt>
-        ensures { MatchOption result (IsUnturned self.now) (λ at. IsTurnAt self.now at) }
+        ensures { IsFirst (TurnsScroll self.now) self.now.met.entries result }
     {
-        for place in 0..self.met.len() {
-            let (held, _) = entry(&self.met, place);
-            if let Some(key) = key_turning(&held, &self.maps) {
-                return Some(KeyAt { place, key });
-            }
-        }
-        None
+        first_where(&self.met, |held| key_turning(&held, &self.maps))
     }
 
     /// The events that turn the scroll lock off where it is on, if the origin is where the console stands but for that

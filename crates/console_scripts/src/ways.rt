@@ -8,7 +8,8 @@ ghost use Rattle.console_scripts.specs.Typing.{composed_of};
 ghost use Rattle.console_scripts.specs.Inner.Exploring.{IsExplored, HasTap, IsBase, CanAccent, IsAccented, plain_tap};
 ghost use Rattle.console_scripts.specs.Inner.Exploring.{HasNoWay, IsWay};
 
-use crate::explored::{Explored, KeyAt, Symbol, Tap};
+use crate::explored::{Explored, Symbol, Tap};
+use console_states::KeyAt;
 use keymap_core::{Accent, KeyMap, Keymap};
 
 /// A dead key, and what is tapped behind it.

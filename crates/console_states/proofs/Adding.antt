@@ -1,5 +1,5 @@
 -- What is added of the states that a search met is what moves lead to.
-use Rattle.console_states.proofs.Common.{◌≡◌, ◌≢◌, ◌++◌, ℕ, ◌+◌, ◌<◌, ◌⊎◌, true, false, inl, inr, List, [], ◌∷◌, length}
+use Rattle.console_states.proofs.Common.{◌≡◌, ◌++◌, ℕ, ◌+◌, ◌<◌, ◌⊎◌, true, false, inl, inr, List, [], ◌∷◌, length}
 use Rattle.console_states.proofs.Common.{ap, subst, sym, ◌∙◌, arith, slice_get, Some, Contains, true≢false}
 use Rattle.console_states.proofs.Common.{get_or_default, Contains-push, Contains-push_cases, Contains-append_left, Cell}
 use Rattle.console_states.proofs.Common.{Act, usable, Under, State, look_in, Offers, state_of, Entry, Entries, IsWith}

@@ -1,38 +1,18 @@
 -- What the search concludes of all paths from what it met.
-use Rattle.console_states.proofs.Common.{suc, ◌≡◌, ℕ, ◌+◌, ◌<◌, inl, inr, List, [], ◌∷◌, length, slice_get, Some, refl}
-use Rattle.console_states.proofs.Common.{ap, rules, subst, sym, ◌∙◌, arith, cases_lt, slice_get_within, Modifier, Event}
-use Rattle.console_states.proofs.Common.{Move, End, TooMany, Under, State, start, IsMove, moved, presses_of}
+use Rattle.console_states.proofs.Common.{suc, ◌≡◌, ℕ, ◌<◌, List, [], ◌∷◌, length, slice_get, Some, refl}
+use Rattle.console_states.proofs.Common.{ap, subst, sym, ◌∙◌, arith, slice_get_within, Modifier, Event}
+use Rattle.console_states.proofs.Common.{End, TooMany, Under, start}
 use Rattle.console_states.proofs.Common.{IsForgetful, HolderForgets, script_of_path, state_of, Entry, Entries, IsMetBy}
-use Rattle.console_states.proofs.Common.{IsReached, AreDone, AreSafe, IsStuck, HasEnded, unscrolled, presses}
+use Rattle.console_states.proofs.Common.{IsReached, AreDone, AreSafe, IsStuck, HasEnded, presses}
 use Rattle.console_states.proofs.Common.{NeverSticksUnder, ReleasesPressedKeys, Complete}
-use Rattle.console_states.specs.Searching.{IsScriptTo, IsEnd}
+use Rattle.console_states.specs.Searching.{IsScriptTo}
 use Rattle.console_states.specs.Sticking.{NoneSticksUnderBy, LeavesOnUnder, HasFewestUnder}
 use Rattle.console_states.proofs.Deciding.{under-self, never-under, sticks_if_reached}
 use Rattle.console_states.proofs.Scripts.{presses-script, releases-script}
 use Rattle.console_states.proofs.Beginning.{reached-one, start-one}
 use Rattle.console_states.proofs.Searching.{met-up, all-done}
 use Rattle.console_states.proofs.Sparing.{IsKeptBelow, IsSafeBelow, never-sticks, sticks-late}
-use Rattle.console_states.proofs.Unscrolled.{leaves-scroll_or_turns, moves-unscrolled, same_moved, scroll-moved}
-
--- The states met by at most p presses, but for the scroll lock.
-abbrev pub IsAmong : Entries → ℕ → State → Type 0
-IsAmong es p s = (t : State) × IsMetBy es p t × (unscrolled t ≡ unscrolled s)
-
--- where a move leads from one of them, by fewer than n presses
-pub among-moved : (u : Under) (es : Entries) (n : ℕ) → AreDone u es n → (p q : ℕ) (s : State) (move : Move)
-    → p + presses_of move ≡ q → q < n → IsAmong es p s → IsMove u s move → IsAmong es q (moved u s move)
-among-moved u es n done p q s move e lt (t, (j, x, at, is, le), near) can =
-    elim (leaves-scroll_or_turns move) [
-      | inl leaves ↦
-          let here : IsMove u (state_of x.0) move =
-          subst (λ z. IsMove u z move) (sym is) (moves-unscrolled u s t move near can) in (
-            moved u t move,
-            met-up es (x.1.presses + presses_of move) q (moved u t move) (omega (arith, le, e))
-                (rw (← is) (done j x at move here leaves (omega (arith, le, e, lt)))),
-            same_moved u s t move near,
-          )
-      | inr (k, turns) ↦ rw turns (t, (j, x, at, is, omega (arith, le, e)), near ∙ scroll-moved s)
-    ]
+use Rattle.console_states.proofs.Nearest.{IsAmong, among-moved, below-fewer, done-before}
 
 -- the moves keep the states that were met
 pub kept-below : (u : Under) (es : Entries) (n : ℕ) → IsMetBy es 0 start → AreDone u es n → IsKeptBelow u n (IsAmong es)
@@ -74,12 +54,6 @@ none-late u es p ended safe g keys admitted i (quiet, on) =
     safe j x at (slice_get_within es j x at))) g keys admitted i
     quiet (on u.maps (under-self u))
 
--- where fewer presses lead than to a place is done
-pub done-before : (u : Under) (es : Entries) (end : End) → IsEnd u (start ∷ []) es end → (j : ℕ) (x : Entry)
-    → slice_get es j ≡ Some x → AreDone u es x.1.presses
-done-before u es Complete all j x at = all-done u es all.0 x.1.presses
-done-before u es (TooMany p) (more, within, done) j x at = search rules
-
 -- At the first place where a holder looks up a character, the script of a path to it leaves its modifier on, by the
 -- fewest presses.
 pub stuck-sticks : (u : Under) (es : Entries) (end : End) (j k : ℕ) → HasEnded u (start ∷ []) es end → IsStuck u es j k
@@ -95,13 +69,9 @@ stuck-sticks u es end j k ended (x, at, stuck) safe h is =
       (λ g keys admitted l (quiet, on).
           let late : x.1.presses < presses g =
           sticks-late u x.1.presses (IsAmong es)
-          (safe-below u es x.1.presses (start-one ended.searched) (done-before u es end ended.is j x at) before) g keys
-          admitted l quiet
+          (safe-below u es x.1.presses (start-one ended.searched) (done-before u es end ended j x at)
+          (below-fewer es (λ y. IsForgetful u (state_of y) → ⊥) ended.ordered j x at safe)) g keys admitted l quiet
           (on u.maps (under-self u)) in
           omega (arith, count, late)),
       subst ReleasesPressedKeys (sym script) (releases-script u r.0 r.2 k),
     )
-  where
-    before : (n : ℕ) (y : Entry) → slice_get es n ≡ Some y → y.1.presses < x.1.presses → IsForgetful u (state_of y.0)
-        → ⊥
-    before n y there lt = search (rules, cases_lt)

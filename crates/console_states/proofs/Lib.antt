@@ -9,6 +9,8 @@ pub mod Going
 pub mod GoingBack
 pub mod Growing
 pub mod KeyLists
+pub mod Looks
+pub mod Nearest
 pub mod Offering
 pub mod Reaching
 pub mod Results

@@ -15,7 +15,8 @@ use Rattle.console_states.specs.Inner.Adding.{AreAccentsOf}
 use Rattle.console_states.proofs.Adding.{empty-none}
 use Rattle.console_states.proofs.Unscrolled.{same-scrolled}
 use Rattle.console_states.proofs.Behind.{behind-offered, behind-more, behind-path, path-split}
-use Rattle.console_states.proofs.Returning.{home-start, IsNear, move-met, near-along, near-met}
+use Rattle.console_states.proofs.Nearest.{IsNear, is-nowhere, near-along, near-met}
+use Rattle.console_states.proofs.Returning.{home-start}
 use Rattle.console_states.proofs.Beginning.{reached-one}
 use Rattle.console_states.proofs.Growing.{scroll-left}
 use Rattle.console_states.proofs.Searching.{place_last, same_entry}
@@ -80,7 +81,7 @@ met-place u accent met es os searched offering found j x at =
     let (o, has, (path, trail, is, leads, count, off)) = found.reached j x at in
     let (n, y, here, lt, (same, offered)) = offering.only o has in
     let (i, z, there, near) =
-    near-along u met (move-met u met searched) o path (n, y, here, ap (λ s. unscrolled s) same) is in (
+    near-along u met searched o path (n, y, here, ap (λ s. unscrolled s) same) is in (
       i,
       z,
       there,
@@ -156,7 +157,7 @@ near-behind u accent met es searched (os, offering, found) path is (later, befor
     (offered-near u (state_after u before) (state_of z.0) accent near offered) in
     let (i, w, seed, same, le) = found.start (state_of z.0) has in
     rw (at, leads)
-    (near-along u es (move-met u es found) (state_after u before) later
+    (near-along u es found (state_after u before) later
     (i, w, seed, ap (λ q. unscrolled q) same ∙ near) goes)
 
 -- what was met is behind
@@ -294,10 +295,8 @@ sights-are m met x accents searched selections offers offered some none = record
   composing = offered.each;
   forgets = (
     (λ e. let (j, k, (z, at, (i, is))) = some e in reached j z at (λ s. IsForgetful u s) (i, k, is)),
-    (λ (path, is, forgetful).
-        let (j, z, at, near) = near-met u met searched path is in
-        true_from_ne_false x.forgets
-        (λ e. none e j z at (slice_get_within met j z at) (subst (λ s. IsForgetful u s) (sym near) forgetful))),
+    (λ (path, is, forgetful). true_from_ne_false x.forgets (λ e.
+        is-nowhere u met searched (λ s. IsForgetful u s → ⊥) (none e) start (0, omega arith, refl) path is forgetful)),
   );
 }
   where

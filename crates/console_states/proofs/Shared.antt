@@ -3,7 +3,6 @@ pub use Rattle.console_states.proofs.Adding.{adds-both, adds-none, adds-one, emp
 pub use Rattle.console_states.proofs.Beginning.{one-off, reached-one, start-one}
 pub use Rattle.console_states.proofs.Behind.{path-split}
 pub use Rattle.console_states.proofs.Common.{Char, get_or_read_under}
-pub use Rattle.console_states.proofs.Concluding.{IsAmong, among-moved, safe-below}
 pub use Rattle.console_states.proofs.Deciding.{safe_never_sticks_between}
 pub use Rattle.console_states.proofs.Following.{follows-again, follows-look, follows-nothing, kind_of, not_holding}
 pub use Rattle.console_states.proofs.Following.{same_mods}
@@ -11,9 +10,11 @@ pub use Rattle.console_states.proofs.Going.{going-sees, pending-along, pending-i
 pub use Rattle.console_states.proofs.GoingBack.{push-reversed, searched-back}
 pub use Rattle.console_states.proofs.Growing.{scroll-left}
 pub use Rattle.console_states.proofs.KeyLists.{keys-with, keys-without, read-below}
+pub use Rattle.console_states.proofs.Looks.{look_tells}
+pub use Rattle.console_states.proofs.Nearest.{among-along, below-fewer, holds-nearer, is-nearest, is-nowhere, near-met}
 pub use Rattle.console_states.proofs.Reaching.{ended-alone, met-alone, reaches-more}
 pub use Rattle.console_states.proofs.Results.{ok-then, on_ok-then}
-pub use Rattle.console_states.proofs.Returning.{home-start, move-met, near-is_home, near-met}
+pub use Rattle.console_states.proofs.Returning.{home-start, near-is_home}
 pub use Rattle.console_states.proofs.SameStates.{are_same, same-tells, tells-same}
 pub use Rattle.console_states.proofs.Scripts.{Reached, holder-pressed, reached-more}
 pub use Rattle.console_states.proofs.Searching.{all-done, place_last, presses-map, same_entry, steps-to}

@@ -1,4 +1,5 @@
 pub mod Inner
+pub mod Looks
 pub mod Moves
 pub mod Returning
 pub mod Searching

@@ -51,10 +51,6 @@ IsStep u s n x = IsMove u s x.by × (state_of x.to ≡ moved u s x.by) × (press
 abbrev pub IsMetBy : Entries → ℕ → State → Type 0
 IsMetBy es p s = (j : ℕ) × (x : Entry) × (slice_get es j ≡ Some x) × (state_of x.0 ≡ s) × (x.1.presses ≤ p)
 
--- the state was met
-abbrev pub IsMet : Entries → State → Type 0
-IsMet es s = (j : ℕ) × (x : Entry) × (slice_get es j ≡ Some x) × (state_of x.0 ≡ s)
-
 -- the step leads to the state
 abbrev pub StepsTo : Option Step → State → Type 0
 StepsTo step s = (x : Step) × (step ≡ Some x) × (state_of x.to ≡ s)

@@ -19,6 +19,7 @@ mod held;
 mod key_lists;
 pub mod laws;
 mod left_on;
+mod look;
 mod offers;
 mod outcome;
 mod search;
@@ -27,9 +28,10 @@ mod showing;
 mod sights;
 
 pub use held::{Held, Keymaps, Move, Step};
+pub use look::{KeyAt, first_where};
 pub use outcome::Sticking;
 pub use search::{
-    End, Met, Origin, Stuck, entry, first_stuck, meet_all, state_at, sticking, sticking_between,
+    End, Met, Origin, entry, first_stuck, meet_all, state_at, sticking, sticking_between,
 };
 pub use selection::{Selection, Sight};
 pub use showing::{go_out, push_moves};

@@ -9,7 +9,8 @@ ghost use Rattle.keymap_core.specs.declared.action.Lock.TheVariants.{Scroll};
 ghost use Rattle.console_states.specs.declared.held.Held.{Held as HeldValue};
 ghost use Rattle.console_states.specs.Searching.{state_of, under_of, Entry, IsMetBy, AreWithin, Grows, IsBegun};
 ghost use Rattle.console_states.specs.Searching.{IsStep, AreMet, AreAdded, Searched, AreInOrder, HasMovingKeys};
-ghost use Rattle.console_states.specs.Searching.{HasEnded, IsStuck, AreSafe, GoBack, IsScriptTo};
+ghost use Rattle.console_states.specs.Searching.{HasEnded, GoBack, IsScriptTo};
+ghost use Rattle.console_states.specs.Looks.{IsFirstStuck};
 ghost use Rattle.console_core.specs.History.{between};
 ghost use Rattle.console_states.specs.Moves.{Under, State, Holds, start, with_holder};
 ghost use Rattle.console_states.specs.Sticking.{IsAnswer, IsAnswerBetween, IsAnswerUnder, state_limit};
@@ -17,6 +18,7 @@ ghost use Rattle.console_states.specs.Sticking.{IsAnswer, IsAnswerBetween, IsAns
 use crate::held::{Held, Keymaps, Move, Step};
 use crate::key_lists::moving_keys;
 use crate::left_on::left_on;
+use crate::look::{KeyAt, first_where};
 use crate::outcome::Sticking;
 use crate::showing::go_out;
 use console_core::Event;
@@ -33,13 +35,6 @@ const BOUND: usize = 65_536;
 pub struct Origin {
     pub presses: usize,
     pub last: Option<(usize, Move)>,
-}
-
-/// A place where the key holds a modifier and looks up a character.
-#[derive(Clone, Copy, Debug, PartialEq, Eq)]
-pub struct Stuck {
-    pub place: usize,
-    pub key: KeyCode,
 }
 
 /// How a search ended.
@@ -221,7 +216,7 @@ fn press(
 }
 
 /// The events to the state at the place, a repeat of the key, and the releases of all keys that hold a modifier.
-fn script(alloc: Global, met: &Met, stuck: Stuck) -> Result<Vec<Event>, AllocError>
+fn script(alloc: Global, met: &Met, stuck: KeyAt) -> Result<Vec<Event>, AllocError>
     requires place { stuck.place < length met.now.entries }
     requires back { GoBack met.now.entries }
     ensures { IfOk result (λ events. (u : Under)
@@ -301,18 +296,11 @@ pub fn meet_all(alloc: Global, maps: &Keymaps, origins: &[Held]) -> Result<(Met,
 }
 
 /// The first place where a key that holds a modifier looks up a character.
-pub fn first_stuck(met: &Met, maps: &Keymaps) -> Option<Stuck>
-    ensures { MatchOption result (AreSafe (under_of maps.now) met.now.entries (length met.now.entries))
-        (λ x. IsStuck (under_of maps.now) met.now.entries x.place x.key
-        × AreSafe (under_of maps.now) met.now.entries x.place) }
+#[tactic(auto, using(crate::proofs::Looks::look_tells))]
+pub fn first_stuck(met: &Met, maps: &Keymaps) -> Option<KeyAt>
+    ensures { IsFirstStuck (under_of maps.now) met.now.entries result }
 {
-    for place in 0..met.len() {
-        let (held, _) = entry(met, place);
-        if let Some(key) = held.forgetful(maps) {
-            return Some(Stuck { place, key });
-        }
-    }
-    None
+    first_where(met, |held| held.forgetful(maps))
 }
 
 /// What the states that a search met tell of whether a modifier can be left on while no key is pressed.

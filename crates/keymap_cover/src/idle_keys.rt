@@ -1,6 +1,6 @@
 //! What keys that hold nothing look up in the states that were explored.
-use console_scripts::{Explorer, KeyAt, Reached};
-use console_states::Selection;
+use console_scripts::{Explorer, Reached};
+use console_states::{KeyAt, Selection};
 use keymap_core::{Cell, KEY_COUNT, KeyMap, key_with};
 use std::alloc::{AllocError, Global};
 

@@ -4,7 +4,8 @@ use crate::kind::Kind;
 use crate::probes::probes;
 use crate::tried::{are_tried, cell_with, is_between, rest_cell};
 use console_core::{Event, PlainConsole, Translator, is_any_on, is_usable};
-use console_scripts::{Explorer, KeyAt};
+use console_scripts::Explorer;
+use console_states::KeyAt;
 use keymap_core::{
     ACCENT_LIMIT, AccentIndex, Action, Cell, HOLDINGS, Holding, KEY_COUNT, KeyCode, KeyMap, Lock,
     MODIFIERS, Modifier, key_with,

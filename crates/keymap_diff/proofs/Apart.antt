@@ -1,8 +1,8 @@
 -- What was found tells the two keymaps apart, or else that too many states are reached.
 use Rattle.std.proofs.Common.{rules}
-use Rattle.keymap_diff.proofs.Common.{suc, ◌≡◌, ℕ, ◌+◌, ◌<◌, true, inl, inr, List, [], ◌∷◌, ◌++◌, length, Option, Some}
+use Rattle.keymap_diff.proofs.Common.{suc, ◌≡◌, ℕ, ◌+◌, ◌<◌, true, inl, inr, List, [], ◌∷◌, ◌++◌, Option, Some}
 use Rattle.keymap_diff.proofs.Common.{None, refl, ap, subst, sym, ◌∙◌, arith, reverse, append_assoc, same_Some}
-use Rattle.keymap_diff.proofs.Common.{All-cons, MatchOption, MapValue, Move, Event, Press, Release, Act, usable}
+use Rattle.keymap_diff.proofs.Common.{All-cons, MapValue, Move, Event, Press, Release, Act, usable}
 use Rattle.keymap_diff.proofs.Common.{between, alone, Under, State, start, IsIdle, IsPathFrom, look_in, state_after}
 use Rattle.keymap_diff.proofs.Common.{state_from, presses_along, events_along, presses, state_of, Entries, IsReached}
 use Rattle.keymap_diff.proofs.Common.{IsTrail, TellsApart, answer_to, Answer, ◌≢◌, NoneShows, Shows, ShowsNothing}
@@ -13,9 +13,9 @@ use Rattle.keymap_diff.specs.Telling.{EndsByPress, IsAnsweredAlike}
 use Rattle.keymap_diff.specs.Inner.Searches.{IsFoundBy, IsMetFromStart, IsReach, IsReachAt, IsScript, IsSearched}
 use Rattle.keymap_diff.specs.Inner.Searches.{IsSearchedAt, IsTappedAt, IsWithin}
 use Rattle.keymap_diff.specs.Telling.{IsToldBy}
-use Rattle.keymap_diff.specs.Inner.Showing.{IsFirstShown, NoneShowsBelow}
+use Rattle.keymap_diff.specs.Inner.Showing.{IsFirstShown}
 use Rattle.keymap_diff.specs.declared.searched.Searched.{Searched as SearchedValue}
-use Rattle.keymap_diff.specs.declared.showing.Shown.{Shown}
+use Rattle.console_states.specs.declared.look.KeyAt.{KeyAt}
 use Rattle.keymap_diff.specs.declared.telling.Telling.{Telling}
 use Rattle.keymap_diff.specs.declared.telling.Telling.TheVariants.{Told, Never, Undecided}
 use Rattle.keymap_diff.proofs.Clearing.{searched-cells}
@@ -58,16 +58,14 @@ script-found m n q (Never f) told = absurd told
 script-found m n q (Undecided r) told = absurd told
 
 -- where something shows without an accent
-pub cells-told : (m n : MapValue) (x : SearchedValue) → IsSearched m n (start ∷ []) None x → (at : Shown)
+pub cells-told : (m n : MapValue) (x : SearchedValue) → IsSearched m n (start ∷ []) None x → (at : KeyAt)
     → x.shown ≡ Some at → (h : List Event)
     → ((path : List Move) → IsTrail x.met.entries at.place path → h ≡ events_along path ++ []) → (t : Telling)
     → IsScript m n h at.key t → IsFoundBy m n t x.reach
 cells-told m n x s at e h events t script =
     let es : Entries = x.met.entries in
     let (q, same, (z, here, count)) = subst (λ o. IsReach es x.end o x.reach) e s.reach in
-    let (y, there, key, shows, none) =
-    subst (λ o. MatchOption o (NoneShowsBelow m n None es (length es)) (λ at. IsFirstShown m n None es at.place at.key)) e
-    s.shown in
+    let ((y, there, (key, shows)), none) = (subst (λ o. IsFirstShown m n None es o) e s.shown).is in
     let r : IsReached (alone m) start es at.place y = reached-one s.ended.searched at.place y there in
     let few : presses_along r.0 ≡ q = r.4 ∙ ap (λ v. v.1.presses) (same_Some y z (sym there ∙ here)) ∙ sym count in
     let clear : AreCellsClear m n q = searched-cells m n x s q (subst (λ o. IsWithin q o) (sym same) (omega arith)) in
@@ -125,7 +123,7 @@ dead-too m n s d i (inr (j, holds, u, v)) idle seen can = absurd (idle j holds)
 -- where something shows behind a tap of the accent's dead key
 pub accent-told : (m n : MapValue) (i : ℕ) (es : Entries) (place presses : ℕ) (x : SearchedValue)
     → IsMetFromStart m es → IsSearchedAt m n i es place x → IsReachAt es place x.reach presses → AreCellsClear m n presses
-    → usable m i ≡ true → (at : Shown) → x.shown ≡ Some at → (h g : List Event) → IsTappedAt m i es place h
+    → usable m i ≡ true → (at : KeyAt) → x.shown ≡ Some at → (h g : List Event) → IsTappedAt m i es place h
     → ((path : List Move) → IsTrail x.met.entries at.place path → g ≡ events_along path ++ h) → (t : Telling)
     → IsScript m n g at.key t → IsFoundBy m n t (Some presses)
 accent-told m n i es place total x met (y, os, there, alone_there, s)
@@ -133,9 +131,7 @@ accent-told m n i es place total x met (y, os, there, alone_there, s)
     (w, d, w_at, key, (idle, seen), taps) events t script =
     let fs : Entries = x.met.entries in
     let (q, same, (a, a_at, count)) = subst (λ o. IsReach fs x.end o x.reach) e s.reach in
-    let (z, here, last, shows, none) =
-    subst (λ o. MatchOption o (NoneShowsBelow m n (Some i) fs (length fs))
-    (λ at. IsFirstShown m n (Some i) fs at.place at.key)) e s.shown in
+    let ((z, here, (last, shows)), none) = (subst (λ o. IsFirstShown m n (Some i) fs o) e s.shown).is in
     let r : IsReached (alone m) start es place y = reached-one met.0 place y there in
     let (o, has, from) = s.ended.searched.reached at.place z here in
     let l : IsReached (alone m) (state_of y.0) fs at.place z =

@@ -2,17 +2,18 @@
 -- than to where something shows or the search gave up.
 use Rattle.std.proofs.Common.{rules}
 use Rattle.keymap_diff.proofs.Common.{zero, suc, ◌≡◌, ℕ, ◌+◌, ◌<◌, ◌≤◌, List, [], ◌∷◌, length, slice_get, Option, Some}
-use Rattle.keymap_diff.proofs.Common.{None, refl, ap, subst, sym, ◌∙◌, arith, cases_lt, slice_get_within, Contains}
-use Rattle.keymap_diff.proofs.Common.{MatchOption, MapValue, Move, End, TooMany, Complete, alone, State, start, IsPath}
-use Rattle.keymap_diff.proofs.Common.{IsPathFrom, state_from, state_after, presses_along, presses_of, state_of, Entry}
-use Rattle.keymap_diff.proofs.Common.{Entries, IsMetBy, IsTrail, AreDone, HasEnded, unscrolled, NoneShows, ShowsNothing}
+use Rattle.keymap_diff.proofs.Common.{None, refl, ap, subst, sym, ◌∙◌, arith, slice_get_within, Contains}
+use Rattle.keymap_diff.proofs.Common.{MapValue, Move, End, TooMany, Complete, alone, State, start, IsPath}
+use Rattle.keymap_diff.proofs.Common.{IsPathFrom, state_from, state_after, presses_along, state_of, Entry}
+use Rattle.keymap_diff.proofs.Common.{Entries, IsTrail, AreDone, HasEnded, unscrolled, NoneShows, ShowsNothing}
 use Rattle.keymap_diff.proofs.Common.{AreCellsClear, IsAccentClear, IsOfferedIn, Under}
 use Rattle.keymap_diff.specs.Inner.Searches.{AreNear, IsClearBehind, IsReach, IsSearched, IsWithin}
-use Rattle.keymap_diff.specs.Inner.Showing.{NoneShowsBelow, IsFirstShown}
+use Rattle.keymap_diff.specs.Inner.Showing.{IsFirstShown}
 use Rattle.keymap_diff.specs.declared.searched.Searched.{Searched}
-use Rattle.keymap_diff.specs.declared.showing.Shown.{Shown}
+use Rattle.console_states.specs.Looks.{HoldsNearer}
+use Rattle.console_states.specs.declared.look.KeyAt.{KeyAt}
 use Rattle.console_states.specs.Searching.{Searched as SearchedStates, AreOrdered}
-use Rattle.console_states.proofs.Shared.{IsAmong, all-done, among-moved, moves-unscrolled, same_moved}
+use Rattle.console_states.proofs.Shared.{all-done, among-along, below-fewer, holds-nearer, moves-unscrolled, same_moved}
 
 -- no more presses lead to a place than stand before it
 trail-few : (es : Entries) (j : ℕ) (path : List Move) → IsTrail es j path → presses_along path ≤ j
@@ -25,19 +26,8 @@ pub presses-few : {os : List State} (u : Under) (es : Entries) (a b j : ℕ) (x 
 presses-few u es a b j x s at =
     let (o, has, r) = s.reached j x at in let le = trail-few es j r.0 r.1 in omega (arith, le, r.4)
 
--- a path of fewer presses from an origin leads to what was met
-pub among-along : (m : MapValue) (os : List State) (es : Entries) (b : ℕ) → AreDone (alone m) es b
-    → ((o : State) → Contains os o → IsMetBy es 0 o) → (o : State) → Contains os o → (path : List Move)
-    → IsPathFrom (alone m) o path → presses_along path < b
-    → IsAmong es (presses_along path) (state_from (alone m) o path)
-among-along m os es b done begun o has [] is lt = (o, begun o has, refl)
-among-along m os es b done begun o has (move ∷ path) is lt =
-    among-moved (alone m) es b done (presses_along path) (presses_along path + presses_of move)
-    (state_from (alone m) o path) move refl lt
-    (among-along m os es b done begun o has path is.1 (omega (arith, lt))) is.0
-
 -- within the reach all is done
-pub reach-done : (m : MapValue) (os : List State) (es : Entries) (end : End) (shown : Option Shown) (reach : Option ℕ)
+pub reach-done : (m : MapValue) (os : List State) (es : Entries) (end : End) (shown : Option KeyAt) (reach : Option ℕ)
     → HasEnded (alone m) os es end → IsReach es end shown reach → (b : ℕ) → IsWithin b reach
     → AreDone (alone m) es b
 reach-done m os es Complete shown reach ended is b within = all-done (alone m) es ended.is.0 b
@@ -46,32 +36,28 @@ reach-done m os es (TooMany p) (Some shown) reach ended (q, same, (x, at, e)) b 
     search rules
 
 -- and in what was met by fewer presses no key shows anything
-reach-none : (m n : MapValue) (p : Option ℕ) (es : Entries) (end : End) (shown : Option Shown) (reach : Option ℕ)
-    → AreOrdered es → IsReach es end shown reach
-    → MatchOption shown (NoneShowsBelow m n p es (length es)) (λ at. IsFirstShown m n p es at.place at.key) → (b : ℕ)
-    → IsWithin b reach → (j : ℕ) (x : Entry) → slice_get es j ≡ Some x → x.1.presses < b
-    → NoneShows m n p (state_of x.0)
-reach-none m n p es end None reach ordered is none b within j x at lt = none j x at (slice_get_within es j x at)
-reach-none m n p es end (Some shown) reach ordered (q, same, (y, there, e)) (z, here, key, shows, none) b within j x at
-    lt =
-    search (rules, cases_lt)
+reach-none : (m n : MapValue) (p : Option ℕ) (es : Entries) (end : End) (shown : Option KeyAt) (reach : Option ℕ)
+    → AreOrdered es → IsReach es end shown reach → IsFirstShown m n p es shown → (b : ℕ) → IsWithin b reach → (j : ℕ)
+    (x : Entry) → slice_get es j ≡ Some x → x.1.presses < b → NoneShows m n p (state_of x.0)
+reach-none m n p es end None reach ordered is look b within j x at lt = look.is j x at (slice_get_within es j x at)
+reach-none m n p es end (Some shown) reach ordered (q, same, (y, there, e)) look b within j x at lt =
+    let le : b ≤ q = subst (λ o. IsWithin b o) same within in
+    below-fewer es (λ h. NoneShows m n p (state_of h)) ordered shown.place y there look.is.1 j x at
+    (omega (arith, lt, le, e))
 
 -- so none does where fewer presses lead
 pub searched-clear : (m n : MapValue) (os : List State) (p : Option ℕ) (x : Searched) → IsSearched m n os p x → (b : ℕ)
-    → IsWithin b x.reach → (o : State) → Contains os o → (path : List Move) → IsPathFrom (alone m) o path
-    → presses_along path < b → NoneShows m n p (state_from (alone m) o path)
-searched-clear m n os p x s b within o has path is lt k key =
-    let es : Entries = x.met.entries in
-    let done = reach-done m os es x.end x.shown x.reach s.ended s.reach b within in
-    let (t, (j, y, at, same, le), near) = among-along m os es b done s.ended.searched.start o has path is lt in
-    near-shows p _ _ (subst (λ z. ShowsNothing m n p z k) same
-    (reach-none m n p es x.end x.shown x.reach s.ended.ordered s.reach s.shown b within j y at (omega (arith, le, lt)) k
-    key)) near
-  where
-    near-shows : (q : Option ℕ) (s t : State) → ShowsNothing m n q s k → unscrolled s ≡ unscrolled t
-        → ShowsNothing m n q t k
-    near-shows None s t shows e = subst (λ z. ShowsNothing m n None z k) e shows
-    near-shows (Some i) s t shows e = subst (λ z. ShowsNothing m n (Some i) z k) e shows
+    → IsWithin b x.reach → (o : State) → Contains os o → HoldsNearer (alone m) o (NoneShows m n p) b
+searched-clear m n os None x s b within o has =
+    holds-nearer (alone m) x.met.entries b
+    (reach-done m os x.met.entries x.end x.shown x.reach s.ended s.reach b within) (NoneShows m n None)
+    (reach-none m n None x.met.entries x.end x.shown x.reach s.ended.ordered s.reach s.shown b within) o
+    (s.ended.searched.start o has)
+searched-clear m n os (Some i) x s b within o has =
+    holds-nearer (alone m) x.met.entries b
+    (reach-done m os x.met.entries x.end x.shown x.reach s.ended s.reach b within) (NoneShows m n (Some i))
+    (reach-none m n (Some i) x.met.entries x.end x.shown x.reach s.ended.ordered s.reach s.shown b within) o
+    (s.ended.searched.start o has)
 
 -- where fewer presses lead from the start was met
 pub searched-near : (m n : MapValue) (x : Searched) → IsSearched m n (start ∷ []) None x → (b : ℕ)
@@ -80,13 +66,13 @@ searched-near m n x s b within path is lt =
     let es : Entries = x.met.entries in
     let done = reach-done m (start ∷ []) es x.end x.shown x.reach s.ended s.reach b within in
     let (t, (j, y, at, same, le), near) =
-    among-along m (start ∷ []) es b done s.ended.searched.start start (0, omega arith, refl) path is lt in
+    among-along (alone m) es b done 0 (presses_along path) start
+    (start, s.ended.searched.start start (0, omega arith, refl), refl) path is (omega arith) lt in
     (j, y, at, le, ap (λ z. unscrolled z) same ∙ near)
 
 pub searched-cells : (m n : MapValue) (x : Searched) → IsSearched m n (start ∷ []) None x → (b : ℕ)
     → IsWithin b x.reach → AreCellsClear m n b
-searched-cells m n x s b within path is lt =
-    searched-clear m n (start ∷ []) None x s b within start (0, omega arith, refl) path is lt
+searched-cells m n x s b within = searched-clear m n (start ∷ []) None x s b within start (0, omega arith, refl)
 
 -- ---- from the places that offer an accent
 

@@ -2,7 +2,6 @@
 use Rattle.std.proofs.Common.{min}
 use Rattle.keymap_diff.proofs.Clearing.{reach-done}
 use Rattle.keymap_diff.proofs.Apart.{start-told}
-use Rattle.keymap_diff.proofs.Offers.{within-less}
 use Rattle.keymap_diff.proofs.Alike.{below, kept-alike}
 use Rattle.console_states.specs.Moves.{IsForgetful}
 use Rattle.console_states.specs.Sights.{CanForget}
@@ -15,25 +14,27 @@ use Rattle.keymap_diff.proofs.Common.{AreCellsClear, Event, IsAccentClear, IsAdm
 use Rattle.std.proofs.Common.{rules, get_or}
 use Rattle.keymap_diff.proofs.Common.{suc, ◌≡◌, ℕ, ◌+◌, ◌<◌, ◌≤◌, false, Bool, inl, inr, List, [], ◌∷◌, ◌++◌, length}
 use Rattle.keymap_diff.proofs.Common.{slice_get, Option, Some, None, refl, ap, subst, sym, ◌∙◌, arith, cases_lt}
-use Rattle.keymap_diff.proofs.Common.{none-some, same_Some, slice_get_within, Contains, MatchOption, MapValue, Move}
+use Rattle.keymap_diff.proofs.Common.{none-some, same_Some, slice_get_within, Contains, MapValue, Move}
 use Rattle.keymap_diff.proofs.Common.{alone, State, start, IsPath, IsPathFrom, state_after, state_from, presses_along}
 use Rattle.keymap_diff.proofs.Common.{state_of, Entry, Entries, Searched, NeverForgets, End, TooMany, Complete, is_some}
 use Rattle.keymap_diff.proofs.Common.{true≢false}
 use Rattle.std.proofs.lemmas.Option.{slice_get-get_or}
 use Rattle.keymap_diff.specs.Inner.Searches.{IsMetAt, IsMetFromStart, IsReach, IsSearched}
 use Rattle.keymap_diff.specs.declared.searched.Searched.{Searched as SearchedValue}
-use Rattle.keymap_diff.specs.declared.showing.Shown.{Shown}
+use Rattle.console_states.specs.declared.look.KeyAt.{KeyAt}
 use Rattle.console_states.specs.Sticking.{ReachesMoreThan}
 use Rattle.console_states.specs.Searching.{AreMetOnce, AreOrdered, AreSafe, GoBack, IsStuck}
-use Rattle.console_states.specs.declared.search.Stuck.{Stuck}
-use Rattle.console_states.proofs.Shared.{reached-one, safe-below, searched-back, start-one}
+use Rattle.console_states.specs.Looks.{IsFirstStuck}
+use Rattle.keymap_diff.specs.Inner.Showing.{IsFirstShown}
+use Rattle.console_states.proofs.Shared.{holds-nearer, is-nearest, reached-one, searched-back, start-one}
 use Rattle.keymap_diff.proofs.Apart.{path-join}
-use Rattle.keymap_diff.proofs.Clearing.{among-along}
 
 -- the place where something shows, and the way back from there
 pub shown-place : (m n : MapValue) (os : List State) (p : Option ℕ) (x : SearchedValue) → IsSearched m n os p x
-    → (at : Shown) → x.shown ≡ Some at → at.place < length x.met.entries
-shown-place m n os p x s at e = search (rules, slice_get_within)
+    → (at : KeyAt) → x.shown ≡ Some at → at.place < length x.met.entries
+shown-place m n os p x s at e =
+    let look = subst (λ o. IsFirstShown m n p x.met.entries o) e s.shown in
+    let (y, there, k) = look.is.0 in slice_get_within x.met.entries at.place y there
 
 pub goes-back : (m n : MapValue) (os : List State) (p : Option ℕ) (x : SearchedValue) → IsSearched m n os p x
     → GoBack x.met.entries
@@ -98,12 +99,10 @@ pub forgets-none : (m n : MapValue) (x : SearchedValue) → IsSearched m n (star
     → ((j : ℕ) (y : Entry) → slice_get x.met.entries j ≡ Some y → y.1.presses < b → IsForgetful (alone m) (state_of y.0)
     → ⊥)
     → NeverForgetsBelow m b
-forgets-none m n x s b within safe path is lt forgetful =
-    let es : Entries = x.met.entries in
-    let done = reach-done m (start ∷ []) es x.end x.shown x.reach s.ended s.reach b within in
-    (safe-below (alone m) es b (start-one s.ended.searched) done safe).safe (presses_along path) lt
-    (state_after (alone m) path)
-    (among-along m (start ∷ []) es b done s.ended.searched.start start (0, omega arith, refl) path is lt) forgetful
+forgets-none m n x s b within safe =
+    holds-nearer (alone m) x.met.entries b
+    (reach-done m (start ∷ []) x.met.entries x.end x.shown x.reach s.ended s.reach b within)
+    (λ t. IsForgetful (alone m) t → ⊥) safe start (start-one s.ended.searched)
 
 -- so where all was met and none can, none ever does
 pub searched-never : (m n : MapValue) (x : SearchedValue) → IsSearched m n (start ∷ []) None x → x.reach ≡ None
@@ -122,14 +121,10 @@ forgets-there m n x place k p s (y, at, (i, forgets)) (z, there, count) =
 
 -- and none where fewer lead
 pub forgets-later : (m n : MapValue) (x : SearchedValue) (place p b : ℕ) → IsSearched m n (start ∷ []) None x
-    → AreSafe (alone m) x.met.entries place → IsMetAt x.met.entries place p → b ≤ p → IsWithin b x.reach
-    → NeverForgetsBelow m b
-forgets-later m n x place p b s safe (z, there, count) le within =
-    forgets-none m n x s b within
-    (λ j y at lt. safe j y at (elim (cases_lt j place) [
-      | inl before ↦ before
-      | inr past ↦ let up = s.ended.ordered place j z y past there at in absurd (omega (arith, up, lt, le, count))
-    ]))
+    → AreSafe (alone m) x.met.entries place → IsMetAt x.met.entries place p → b ≤ p → NeverForgetsBelow m b
+forgets-later m n x place p b s safe (z, there, count) le path is lt =
+    is-nearest (alone m) x.met.entries x.end s.ended (λ t. IsForgetful (alone m) t → ⊥) place z there safe start
+    (0, omega arith, refl) path is (omega (arith, lt, le, count))
 
 -- as many presses lead to a place as it was met by
 pub tapped-reached : (m : MapValue) (es : Entries) (place before : ℕ) (y : Entry) → IsMetFromStart m es
@@ -139,31 +134,30 @@ tapped-reached m es place before y met at (z, there, count) o is =
     search (rules, reached-one, same_Some)
 
 -- so many presses, or as many as lead to where one can, if these are fewer
-pub forgetting-limit : (m n : MapValue) (x : SearchedValue) (place k p b r : ℕ) → IsSearched m n (start ∷ []) None x
-    → IsStuck (alone m) x.met.entries place k × AreSafe (alone m) x.met.entries place → IsMetAt x.met.entries place p
-    → IsWithin b x.reach → r ≡ min b p → NeverForgetsBelow m r × ((r ≡ b) ⊎ CanForgetBy m r)
-forgetting-limit m n x place k p b r s (stuck, safe) at within is = (
-  forgets-later m n x place p r s safe at (omega (arith, is)) (within-less r b x.reach (omega (arith, is)) within),
+pub forgetting-limit : (m n : MapValue) (x : SearchedValue) (there : KeyAt) (p b r : ℕ)
+    → IsSearched m n (start ∷ []) None x → IsFirstStuck (alone m) x.met.entries (Some there)
+    → IsMetAt x.met.entries there.place p → r ≡ min b p → NeverForgetsBelow m r × ((r ≡ b) ⊎ CanForgetBy m r)
+forgetting-limit m n x there p b r s look at is = (
+  forgets-later m n x there.place p r s look.is.1 at (omega (arith, is)),
   elim (cases_lt p b) [
     | inl lt ↦
         let same : p ≡ r = omega (arith, is, lt) in
-        inr (subst (λ q. CanForgetBy m q) same (forgets-there m n x place k p s stuck at))
+        inr (subst (λ q. CanForgetBy m q) same (forgets-there m n x there.place there.key p s look.is.0 at))
     | inr le ↦ inl (omega (arith, is, le))
   ],
 )
 
 -- what is told of forgetting where all was met
-pub never-found : (m n : MapValue) (x : SearchedValue) (stuck : Option Stuck) (forgets : Bool)
+pub never-found : (m n : MapValue) (x : SearchedValue) (stuck : Option KeyAt) (forgets : Bool)
     → IsSearched m n (start ∷ []) None x → x.reach ≡ None
-    → MatchOption stuck (AreSafe (alone m) x.met.entries (length x.met.entries))
-    (λ y. IsStuck (alone m) x.met.entries y.place y.key × AreSafe (alone m) x.met.entries y.place)
-    → forgets ≡ is_some stuck → (forgets ≡ false → NeverForgets (alone m)) × (forgets ≡ true → CanForget m)
-never-found m n x (Some y) forgets s e ((z, at, holder), safe) is =
+    → IsFirstStuck (alone m) x.met.entries stuck → forgets ≡ is_some stuck → (forgets ≡ false → NeverForgets (alone m)) × (forgets ≡ true → CanForget m)
+never-found m n x (Some y) forgets s e look is =
+    let (z, at, holder) = look.is.0 in
     let (path, made, le, forgetful) =
     forgets-there m n x y.place y.key z.1.presses s (z, at, holder) (z, at, refl) in
     ((λ f. absurd (true≢false (sym is ∙ f))), (λ t. (path, made, forgetful)))
-never-found m n x None forgets s e safe is =
-    ((λ f. searched-never m n x s e safe), (λ t. absurd (true≢false (sym t ∙ is))))
+never-found m n x None forgets s e look is =
+    ((λ f. searched-never m n x s e look.is), (λ t. absurd (true≢false (sym t ∙ is))))
 
 -- ---- what is answered
 

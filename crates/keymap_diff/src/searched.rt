@@ -6,8 +6,8 @@ ghost use Rattle.console_states.specs.Moves.{Under, State};
 ghost use Rattle.console_states.specs.Searching.{state_of, Searched as SearchedStates};
 ghost use Rattle.keymap_diff.specs.Inner.Searches.{IsEndAt, IsMetAt, IsReach, IsSearched};
 
-use crate::showing::{Both, Shown};
-use console_states::{End, Held, Met, entry, meet_all};
+use crate::showing::Both;
+use console_states::{End, Held, KeyAt, Met, entry, meet_all};
 use std::alloc::{AllocError, Global};
 
 /// How many states a search goes over before it gives up.
@@ -18,7 +18,7 @@ const STATE_LIMIT: usize = 65_536;
 pub(crate) struct Searched {
     pub(crate) met: Met,
     pub(crate) end: End,
-    pub(crate) shown: Option<Shown>,
+    pub(crate) shown: Option<KeyAt>,
     /// By how many presses something shows, or else the search gave up, if it did.
     pub(crate) reach: Option<usize>,
 }
@@ -34,7 +34,7 @@ pub(crate) fn presses_to(met: &Met, place: usize) -> usize
 }
 
 /// By how many presses something shows or the search gave up.
-fn reach(met: &Met, end: End, shown: &Option<Shown>) -> Option<usize>
+fn reach(met: &Met, end: End, shown: &Option<KeyAt>) -> Option<usize>
     requires { IsEndAt met.now.entries end shown.now }
     ensures reach { IsReach met.now.entries end shown.now result }
     ensures small { (u : Under) (origins : List State) (a b : ℕ) → SearchedStates u origins met.now.entries a b

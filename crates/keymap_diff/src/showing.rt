@@ -1,17 +1,17 @@
 //! What a press of a key shows of the difference of two keymaps.
-ghost use Rattle.std.specs.Prelude.{◌≡◌, ◌<◌, ◌^◌, ℕ, None, Some, true, false, length, IfOk, IfSome, MatchOption};
+ghost use Rattle.std.specs.Prelude.{◌≡◌, ◌<◌, ◌^◌, ℕ, None, Some, true, false, IfOk, IfSome, MatchOption};
 ghost use Rattle.keymap_core.specs.Maps.{accent_at};
 ghost use Rattle.keymap_core.specs.Numbers.{key_count};
 ghost use Rattle.console_core.specs.Answers.{composed_by};
 ghost use Rattle.console_states.specs.Moves.{Holds, IsIdle, State, alone};
 ghost use Rattle.console_states.specs.Searching.{state_of, under_of};
 ghost use Rattle.keymap_diff.specs.Inner.Showing.{AreCellsAlike, IsFirstShown, IsUnnoticed, MakesSame, NoneShows};
-ghost use Rattle.keymap_diff.specs.Inner.Showing.{AreShowing, IsClear, IsSlotClear, NoneShowsBelow, Shows};
+ghost use Rattle.keymap_diff.specs.Inner.Showing.{AreShowing, IsClear, IsSlotClear, Shows};
 ghost use Rattle.keymap_diff.specs.Inner.Showing.{ShowsNothing};
 
 use crate::compared::have_same_results;
 use console_core::is_usable;
-use console_states::{Held, Keymaps, Met, entry};
+use console_states::{Held, KeyAt, Keymaps, Met, first_where};
 use keymap_core::{
     Action, COLUMN_COUNT, Cell, KEY_COUNT, KeyCode, KeyMap, Keymap, MODIFIERS, Modifier, key_with,
 };
@@ -22,13 +22,6 @@ use std::alloc::{AllocError, Global};
 pub(crate) struct Both<'a> {
     pub(crate) old: &'a KeyMap,
     pub(crate) new: &'a KeyMap,
-}
-
-/// A place where a press of the key, or its release, shows the difference.
-#[derive(Clone, Copy)]
-pub(crate) struct Shown {
-    pub(crate) place: usize,
-    pub(crate) key: KeyCode,
 }
 
 /// Whether a key that holds the modifier takes nothing by the cell.
@@ -253,24 +246,17 @@ impl<'a> Both<'a> {
     }
 
     /// The first place where one of these keys does.
+    #[tactic(auto, using(console_states::proofs::Shared::look_tells))]
     pub(crate) fn first_showing(
         &self,
         met: &Met,
         pending: Option<u8>,
         keys: &[KeyCode],
-    ) -> Option<Shown>
+    ) -> Option<KeyAt>
         requires { AreShowing self.now.old.now self.now.new.now pending keys.now key_count }
         ensures small { IfSome result (λ at. at.place < 2 ^ 63) }
-        ensures first { MatchOption result
-            (NoneShowsBelow self.now.old.now self.now.new.now pending met.now.entries (length met.now.entries))
-            (λ at. IsFirstShown self.now.old.now self.now.new.now pending met.now.entries at.place at.key) }
+        ensures first { IsFirstShown self.now.old.now self.now.new.now pending met.now.entries result }
     {
-        for place in 0..met.len() {
-            let (held, _) = entry(met, place);
-            if let Some(key) = self.key_showing(&held, pending, keys) {
-                return Some(Shown { place, key });
-            }
-        }
-        None
+        first_where(met, |held| self.key_showing(&held, pending, keys))
     }
 }

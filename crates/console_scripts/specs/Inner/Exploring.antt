@@ -62,7 +62,13 @@ pub record CanReturn (m : MapValue) (s : State) : Type 0 where
   pub leads : state_after (alone m) path ≡ s
   pub home : ComesHome (alone m) s
 
--- at the place, from which a route leads home, a tap of the key is so
+-- a route leads home from the state, and there a tap of the key is so
+abbrev pub CanTapIn : Explored → Tap → Held → ℕ → Type 0
+CanTapIn e t h k =
+    HasRoute e.routes.entries (state_of h)
+    × IsTapOf (alone (map_of_explored e)) (state_of h) t.is_plain t.symbol k
+
+-- that is so at the place
 abbrev pub IsTapAt : Explored → Tap → ℕ → ℕ → Type 0
 IsTapAt e t j k =
     (x : Entry) × (slice_get e.met.entries j ≡ Some x) × HasRoute e.routes.entries (state_of x.0)

@@ -5,7 +5,7 @@ use Rattle.keymap_core.specs.Maps.{MapValue}
 use Rattle.keymap_core.specs.Numbers.{key_count}
 use Rattle.console_scripts.specs.Types.{Caps, Num, Scroll, Alt, Event, Sight, Turn}
 use Rattle.console_scripts.specs.declared.explored.Explored.{Explored}
-use Rattle.console_scripts.specs.declared.explored.KeyAt.{KeyAt}
+use Rattle.console_states.specs.declared.look.KeyAt.{KeyAt}
 use Rattle.console_scripts.specs.declared.explorer.Aim.{Aim}
 use Rattle.console_states.specs.declared.held.Held.{Held}
 use Rattle.console_states.specs.declared.selection.Sight.TheVariants as sight
@@ -71,29 +71,13 @@ ShowsNot e x y =
     ⊎ ((k : ℕ) × (t : State) × (k < key_count) × SeesBy (map_of_explored e) (selection_of (state_of y.0)) k x
     × IsAfter (alone (map_of_explored e)) (state_of y.0) k t × (HasRoute e.routes.entries t → ⊥))
 
--- in the state of the place a press of the key sees it, where a pair's accent is pending
-abbrev pub IsSeenAt : Explored → Sight → KeyAt → Type 0
-IsSeenAt e x at =
-    (y : Entry) × (slice_get e.met.entries at.place ≡ Some y) × (at.key < key_count)
-    × SeesBy (map_of_explored e) (selection_of (state_of y.0)) at.key x
+-- in the state a press of the key sees it, where a pair's accent is pending
+abbrev pub Sees : Explored → Sight → Held → ℕ → Type 0
+Sees e x h k = (k < key_count) × SeesBy (map_of_explored e) (selection_of (state_of h)) k x
 
--- no press at any place sees the sight
-abbrev pub IsUnseen : Explored → Sight → Type 0
-IsUnseen e x =
-    (j k : ℕ) (y : Entry) → slice_get e.met.entries j ≡ Some y → k < key_count
-    → SeesBy (map_of_explored e) (selection_of (state_of y.0)) k x → ⊥
-
--- in the state of the place a press of the key turns the scroll lock
-abbrev pub IsTurnAt : Explored → KeyAt → Type 0
-IsTurnAt e at =
-    (y : Entry) × (slice_get e.met.entries at.place ≡ Some y)
-    × IsMove (under_of e.maps) (state_of y.0) (Turn at.key Scroll)
-
--- and no press does at any place
-abbrev pub IsUnturned : Explored → Type 0
-IsUnturned e =
-    (j k : ℕ) (y : Entry) → slice_get e.met.entries j ≡ Some y → IsMove (under_of e.maps) (state_of y.0) (Turn k Scroll)
-    → ⊥
+-- in the state a press of the key turns the scroll lock
+abbrev pub TurnsScroll : Explored → Held → ℕ → Type 0
+TurnsScroll e h k = IsMove (under_of e.maps) (state_of h) (Turn k Scroll)
 
 -- before a pair the dead key of its accent is tapped, and before nothing else
 abbrev pub IsDeadFor : Explored → Sight → Option KeyAt → Type 0

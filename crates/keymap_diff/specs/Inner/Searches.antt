@@ -1,6 +1,6 @@
 -- What searches found of what tells two keymaps apart. Mirrors src/searched.rt, src/nearest.rt and src/telling.rt.
 use Rattle.std.specs.Prelude.{◌≡◌, ◌⊎◌, ℕ, ◌+◌, ◌<◌, ◌≤◌, ◌^◌, false, true, List, [], ◌∷◌, ◌++◌, reverse, length}
-use Rattle.std.specs.Prelude.{Option, Some, None, slice_get, IfSome, MatchOption}
+use Rattle.std.specs.Prelude.{Option, Some, None, slice_get, IfSome}
 use Rattle.std.specs.List.{Contains}
 use Rattle.keymap_core.specs.Maps.{MapValue}
 use Rattle.keymap_core.specs.Numbers.{key_count}
@@ -19,11 +19,12 @@ use Rattle.console_states.specs.declared.search.End.TheVariants.{Complete, TooMa
 use Rattle.console_states.specs.declared.held.Move.{Move}
 use Rattle.keymap_diff.specs.declared.nearest.Nearest.{Nearest}
 use Rattle.keymap_diff.specs.declared.searched.Searched.{Searched}
-use Rattle.keymap_diff.specs.declared.showing.Shown.{Shown}
+use Rattle.console_states.specs.declared.look.KeyAt.{KeyAt}
+use Rattle.console_states.specs.Looks.{HoldsNearer}
 use Rattle.keymap_diff.specs.declared.telling.Telling.{Telling}
 use Rattle.keymap_diff.specs.declared.telling.Telling.TheVariants.{Told, Never, Undecided}
 use Rattle.keymap_diff.specs.Telling.{TellsApart, IsToldBy}
-use Rattle.keymap_diff.specs.Inner.Showing.{NoneShowsBelow, IsFirstShown, NoneShows, AreCellsClear}
+use Rattle.keymap_diff.specs.Inner.Showing.{IsFirstShown, NoneShows, AreCellsClear}
 
 -- the bound is within the limit
 abbrev pub IsWithin : ℕ → Option ℕ → Type 0
@@ -35,13 +36,13 @@ abbrev pub IsMetAt : Entries → ℕ → ℕ → Type 0
 IsMetAt es place presses = (x : Entry) × (slice_get es place ≡ Some x) × (presses ≡ x.1.presses)
 
 -- by how many presses something shows, or else the search gave up
-abbrev pub IsReach : Entries → End → Option Shown → Option ℕ → Type 0
+abbrev pub IsReach : Entries → End → Option KeyAt → Option ℕ → Type 0
 IsReach es end (Some at) reach = (q : ℕ) × (reach ≡ Some q) × IsMetAt es at.place q
 IsReach es Complete None reach = reach ≡ None
 IsReach es (TooMany p) None reach = (q : ℕ) × (reach ≡ Some q) × IsMetAt es state_limit q
 
 -- there is such a place
-abbrev pub IsEndAt : Entries → End → Option Shown → Type 0
+abbrev pub IsEndAt : Entries → End → Option KeyAt → Type 0
 IsEndAt es end (Some at) = (at.place < length es) × (at.place < 2 ^ 63)
 IsEndAt es Complete None = Unit {0}
 IsEndAt es (TooMany p) None = state_limit < length es
@@ -51,8 +52,7 @@ pub record IsSearched (m n : MapValue) (origins : List State) (p : Option ℕ) (
   pub ended : HasEnded (alone m) origins x.met.entries x.end
   pub reach : IsReach x.met.entries x.end x.shown x.reach
   pub small : IfSome x.reach (λ q. q < 2 ^ 63)
-  pub shown : MatchOption x.shown (NoneShowsBelow m n p x.met.entries (length x.met.entries))
-      (λ at. IsFirstShown m n p x.met.entries at.place at.key)
+  pub shown : IsFirstShown m n p x.met.entries x.shown
 
 -- Behind the events a press of the key, or its release too where that is answered alike, and the answers to the last.
 abbrev pub IsScript : MapValue → MapValue → List Event → ℕ → Telling → Type 0
@@ -81,9 +81,7 @@ IsNearest m n x =
 
 -- where fewer than b presses lead no key can forget that it holds a modifier
 abbrev pub NeverForgetsBelow : MapValue → ℕ → Type 0
-NeverForgetsBelow m b =
-    (path : List Move) → IsPath (alone m) path → presses_along path < b
-    → IsForgetful (alone m) (state_after (alone m) path) → ⊥
+NeverForgetsBelow m b = HoldsNearer (alone m) start (λ s. IsForgetful (alone m) s → ⊥) b
 
 -- what is within the one limit is within the other
 abbrev pub IsNoFurther : Option ℕ → Option ℕ → Type 0

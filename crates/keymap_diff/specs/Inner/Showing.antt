@@ -1,5 +1,5 @@
 -- What a press of a key and its release show of the difference of two keymaps. Mirrors src/showing.rt.
-use Rattle.std.specs.Prelude.{◌≡◌, ◌≢◌, ◌⊎◌, ℕ, ◌+◌, ◌<◌, List, Option, Some, None, slice_get}
+use Rattle.std.specs.Prelude.{◌≡◌, ◌≢◌, ◌⊎◌, ℕ, ◌+◌, ◌<◌, List, Option, Some, None}
 use Rattle.std.specs.List.{Contains}
 use Rattle.keymap_core.specs.declared.action.Action.TheVariants as act
 use Rattle.keymap_core.specs.declared.action.Modifier.{Modifier}
@@ -8,11 +8,13 @@ use Rattle.keymap_core.specs.declared.entry.Cell.TheVariants.{Char, Act}
 use Rattle.keymap_core.specs.Maps.{MapValue, accent_at, cell_at, entry_at}
 use Rattle.keymap_core.specs.Numbers.{key_count, column_count}
 use Rattle.console_core.specs.Answers.{composed_by, usable}
-use Rattle.console_states.specs.Moves.{State, alone, Holds, IsIdle, IsPath, IsPathFrom, state_after, state_from}
+use Rattle.console_states.specs.Moves.{State, alone, start, Holds, IsIdle, IsPath, IsPathFrom, state_after, state_from}
 use Rattle.console_states.specs.Moves.{presses_along}
 use Rattle.console_states.specs.Sights.{look_selected, selection_of, IsOfferedIn}
-use Rattle.console_states.specs.Searching.{state_of, Entry, Entries}
+use Rattle.console_states.specs.Searching.{state_of, Entries}
+use Rattle.console_states.specs.Looks.{IsLook, HoldsNearer}
 use Rattle.console_states.specs.declared.held.Move.{Move}
+use Rattle.console_states.specs.declared.look.KeyAt.{KeyAt}
 
 -- what the key looks up in the state
 abbrev pub looked_up : MapValue → State → ℕ → Cell
@@ -82,22 +84,14 @@ AreShowing m n p keys b =
 abbrev pub NoneShows : MapValue → MapValue → Option ℕ → State → Type 0
 NoneShows m n p s = (k : ℕ) → k < key_count → ShowsNothing m n p s k
 
--- in the states below the place no key shows anything
-abbrev pub NoneShowsBelow : MapValue → MapValue → Option ℕ → Entries → ℕ → Type 0
-NoneShowsBelow m n p es place =
-    (j : ℕ) (x : Entry) → slice_get es j ≡ Some x → j < place → NoneShows m n p (state_of x.0)
-
--- at the place the key does, and no key below it
-abbrev pub IsFirstShown : MapValue → MapValue → Option ℕ → Entries → ℕ → ℕ → Type 0
-IsFirstShown m n p es j k =
-    (x : Entry) × (slice_get es j ≡ Some x) × (k < key_count) × Shows m n p (state_of x.0) k
-    × NoneShowsBelow m n p es j
+-- the first place where a key shows something
+abbrev pub IsFirstShown : MapValue → MapValue → Option ℕ → Entries → Option KeyAt → Type 0
+IsFirstShown m n p es o =
+    IsLook (λ h. NoneShows m n p (state_of h)) (λ h k. (k < key_count) × Shows m n p (state_of h) k) es o
 
 -- no key shows anything where fewer than b presses lead, and no accent is pending
 abbrev pub AreCellsClear : MapValue → MapValue → ℕ → Type 0
-AreCellsClear m n b =
-    (path : List Move) → IsPath (alone m) path → presses_along path < b
-    → NoneShows m n None (state_after (alone m) path)
+AreCellsClear m n b = HoldsNearer (alone m) start (NoneShows m n None) b
 
 -- nor where they lead by a tap of the accent's dead key
 abbrev pub IsAccentClear : MapValue → MapValue → ℕ → ℕ → Type 0

@@ -7,7 +7,7 @@ use Rattle.console_states.proofs.search.conclude.Goals as goal
 
 pub script-requires-clause-place : goal.script-requires-clause-place
 script-requires-clause-place c =
-    let (x, at, stuck) = c.in-Some.ensures.0 in slice_get_within _ _ _ at
+    let (x, at, stuck) = c.in-Some.ensures.is.0 in slice_get_within _ _ _ at
 
 pub script-requires-clause-back : goal.script-requires-clause-back
 script-requires-clause-back c =
@@ -16,7 +16,7 @@ script-requires-clause-back c =
 pub returns-in-Some : goal.returns-in-Some
 returns-in-Some c =
     let u = under_of c.args.maps.now in
-    let stuck = c.in-Some.ensures in
+    let stuck = c.in-Some.ensures.is in
     let h = reverse c.in_ok-events.events.items in
     let left =
     stuck-sticks u c.args.met.now.entries _ c.in-Some.stuck.place c.in-Some.stuck.key c.requires stuck.0 stuck.1 h
@@ -32,7 +32,7 @@ pub returns-in-Complete : goal.returns-in-Complete
 returns-in-Complete c =
     let u = under_of c.args.maps.now in
     let es = c.args.met.now.entries in
-    complete-never u es (subst (λ o. HasEnded u (start ∷ []) es o) c.in-Complete.is c.requires) c.in_default.ensures
+    complete-never u es (subst (λ o. HasEnded u (start ∷ []) es o) c.in-Complete.is c.requires) c.in_default.ensures.is
 
 pub returns-in-TooMany : goal.returns-in-TooMany
 returns-in-TooMany c =
@@ -40,4 +40,4 @@ returns-in-TooMany c =
     let es = c.args.met.now.entries in
     let told : HasEnded u (start ∷ []) es (TooMany c.in-TooMany.presses) =
     subst (λ o. HasEnded u (start ∷ []) es o) c.in-TooMany.is c.requires in
-    (reaches-more u es c.in-TooMany.presses told, none-late u es c.in-TooMany.presses told c.in_default.ensures)
+    (reaches-more u es c.in-TooMany.presses told, none-late u es c.in-TooMany.presses told c.in_default.ensures.is)

@@ -1,8 +1,7 @@
 use Rattle.keymap_diff.proofs.Apart.{cells-told}
 use Rattle.keymap_diff.proofs.Ending.{goes-back, never-found, searched-many, shown-place}
 use Rattle.keymap_diff.proofs.Common.{[], ◌∷◌, ◌++◌, None, ap, arith, reverse, subst, ◌∙◌, start, events_along}
-use Rattle.keymap_diff.proofs.Common.{MatchOption, length}
-use Rattle.console_states.specs.Searching.{AreSafe, IsStuck}
+use Rattle.console_states.specs.Looks.{IsFirstStuck}
 use Rattle.keymap_diff.proofs.Clearing.{searched-cells, start-reached}
 use Rattle.keymap_diff.proofs.nearest.by_cells.Goals.{in-Some+in_ok-go_out-in-Some+in_ok-telling-in-Some}
 use Rattle.keymap_diff.proofs.nearest.by_cells.Goals.{in-None+in-Some-reach, in-None+in-None-reach}
@@ -37,10 +36,7 @@ returns-clause-nearest c =
         | in-None+in-None-reach w ↦
             let (never, can) =
             never-found m n x w.first_stuck.result w.is_some.result c.requires w.in-None-reach.is
-            (subst
-            (λ u. MatchOption w.first_stuck.result (AreSafe u x.met.entries (length x.met.entries))
-            (λ y. IsStuck u x.met.entries y.place y.key × AreSafe u x.met.entries y.place))
-            w.maps.ensures.alone w.first_stuck.ensures)
+            (subst (λ u. IsFirstStuck u x.met.entries w.first_stuck.result) w.maps.ensures.alone w.first_stuck.ensures)
             w.is_some.ensures in
             rw w.telling-is (w.in-None-reach.is, never, can)
       ],

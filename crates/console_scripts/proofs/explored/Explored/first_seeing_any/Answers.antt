@@ -1,5 +1,6 @@
-use Rattle.console_scripts.proofs.Common.{inl, inr, subst, sym, ap, arith, ◌∙◌, get_or, get_or_default, IsUnseen}
+use Rattle.console_scripts.proofs.Common.{inl, inr, subst, sym, ap, arith, ◌∙◌, get_or, get_or_default, Sees}
 use Rattle.console_scripts.proofs.Common.{place_last}
+use Rattle.console_states.specs.Looks.{IsNowhere}
 use Rattle.console_scripts.proofs.explored.Explored.first_seeing_any.Goals as goal
 
 pub loop-sight-preserved : goal.loop-sight-preserved
@@ -8,10 +9,10 @@ loop-sight-preserved c =
     elim (place_last n c.loop-sight.sight-index lt) [
       | inl below ↦ c.loop-sight.invariant n x below at
       | inr f ↦
-          subst (λ s. IsUnseen c.args.self.now s)
+          subst (λ s. IsNowhere (Sees c.args.self.now s) c.args.self.now.met.entries)
           (get_or_default c.args.sights.now c.loop-sight.sight-index _ x c.loop-sight-test.true
           ∙ ap (λ i. get_or c.args.sights.now i x) (sym f) ∙ at)
-          c.in_default.ensures
+          c.in_default.ensures.is
     ]
 
 pub returns-in-Some : goal.returns-in-Some
@@ -22,7 +23,7 @@ returns-in-Some c = (
     c.loop-sight-test.true,
     get_or_default c.args.sights.now c.loop-sight.sight-index _ _ c.loop-sight-test.true,
   ),
-  c.in-Some.ensures,
+  c.in-Some.ensures.is.0,
 )
 
 pub returns : goal.returns

@@ -13,6 +13,7 @@ pub mod Refused
 pub mod RoutesHome
 pub mod Scrolling
 pub mod Shared
+pub mod Tapping
 pub mod Taps
 pub mod Typings
 pub mod Typists

@@ -3,3 +3,4 @@ pub mod Exploring
 pub mod Routes
 pub mod Showing
 pub mod Symbols
+pub mod Tapped

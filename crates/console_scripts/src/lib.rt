@@ -6,11 +6,12 @@
 //! An `Explorer` makes the events of visits to what presses can see, where moves lead back; `find_onward` those to what
 //! lies behind a turn of a lock that none takes back, and `scroll_off` those that turn the scroll lock off.
 //! `type_characters` makes the events that type characters, in whatever layout a lock selects them, or names the first
-//! character that no keys can type. A `Typist` tells of each character whether keys can type it.
+//! character that no keys can type. A `Typist` tells of each character whether keys can type it, and `typed_of` makes
+//! the set of all that they can.
 //!
-//! No call takes memory but `find_onward`, `scroll_off`, `Reached::releases`, those of an `Explorer`, `Typist::new` and
-//! `type_characters`. These fail for want of memory, `type_characters` besides where a character can't be typed or more
-//! than 65,536 states can be reached, and no other call fails.
+//! No call takes memory but `find_onward`, `scroll_off`, `Reached::releases`, those of an `Explorer`, `Typist::new`,
+//! `typed_of` and `type_characters`. These fail for want of memory, `type_characters` besides where a character can't be
+//! typed or more than 65,536 states can be reached, and no other call fails.
 #![tactic(auto)]
 
 mod explored;
@@ -20,11 +21,13 @@ mod onward;
 mod routes;
 mod showing;
 mod symbols;
+mod typed;
 mod typing;
 mod typist;
 mod ways;
 
 pub use explorer::Explorer;
 pub use onward::{Onward, Reached, find_onward, scroll_off};
+pub use typed::typed_of;
 pub use typing::{Keyed, Typing, TypingError, type_characters};
 pub use typist::Typist;

@@ -20,7 +20,7 @@ pub struct Accented {
 }
 
 /// What a tap of the symbol types while the accent is pending.
-fn composed(map: &KeyMap, index: u8, then: Symbol) -> Option<char>
+pub fn composed(map: &KeyMap, index: u8, then: Symbol) -> Option<char>
     ensures { result ≡ composed_of map.now index then }
 {
     match then {
@@ -46,7 +46,7 @@ pub fn plain(symbol: Symbol) -> Tap
 }
 
 /// The base of the pair.
-fn base_of(pair: &(char, char)) -> Symbol
+pub fn base_of(pair: &(char, char)) -> Symbol
     ensures { result ≡ symbol.Character pair.now.0 }
 {
     Symbol::Character(pair.0)

@@ -129,6 +129,7 @@ refuses find_onward
 refuses scroll_off
 yields type_characters
 refuses Typist::new
+yields typed_of
 yields cover_of
 refuses Seen::new
 refuses cells

@@ -4,7 +4,7 @@ use crate::calls::devices::mark;
 use crate::calls::inputs::{Call, Lent};
 use crate::calls::outcome::{Outcome, ended, ended_keeping};
 use console_core::{Event, PlainConsole, Translator, WordConsole, replay};
-use console_scripts::{Explorer, Typist, find_onward, scroll_off, type_characters};
+use console_scripts::{Explorer, Typist, find_onward, scroll_off, type_characters, typed_of};
 use console_states::{Sight, Sticking, sights_of, some_sights, sticking, sticking_between};
 use keymap_core::{KeyCode, Lock, Modifier, Write};
 use keymap_cover::{Seen, cells, cover_of, lock_settings};
@@ -31,6 +31,7 @@ pub(crate) fn of_keymaps<W: Write>(call: &Call<'_>, marks: &mut W) -> Option<Out
         "scroll_off" => turns_scroll_off(alloc, sample, marks),
         "type_characters" => types_characters(alloc, sample, marks),
         "Typist::new" => tells_typing(alloc, sample, marks),
+        "typed_of" => lists_typed(alloc, sample, marks),
         "cover_of" => covers(alloc, sample, marks),
         "Seen::new" => sees_nothing(alloc, marks),
         "cells" => lists_cells(alloc, marks),
@@ -172,6 +173,15 @@ fn tells_typing<W: Write>(alloc: Global, lent: &Lent, marks: &mut W) -> Outcome 
         Ok(typist) => { typist.can_type('é') == Some(true) && typist.can_type('ß') == Some(false) }
         Err(_) => false,
     };
+    ended_keeping(&given, is_right, lent.is_kept())
+}
+
+fn lists_typed<W: Write>(alloc: Global, lent: &Lent, marks: &mut W) -> Outcome {
+    mark(marks);
+    let given = typed_of(alloc, &lent.map);
+    mark(marks);
+    let is_right =
+        matches!(&given, Ok(Some(typed)) if typed.contains(&'é') && !typed.contains(&'ß'));
     ended_keeping(&given, is_right, lent.is_kept())
 }
 

@@ -3,16 +3,18 @@ use Rattle.keymap_tables.proofs.Common.{common_steps, rules, ◌≡◌, ℕ, ◌
 use Rattle.keymap_tables.proofs.Common.{replicate, set, refl, sym, ap, ◌∙◌, arith, append_assoc, length-append, All}
 use Rattle.keymap_tables.proofs.Common.{replicate-append-replicate, length-replicate, All-append, All-replicate}
 use Rattle.keymap_tables.proofs.Common.{flat_map, AccentValue, blank, IsEntry, IsAccent, MapValue, placed, undefined}
-use Rattle.keymap_tables.proofs.Common.{Entry, image, slot_bytes, accent_bytes, count_bytes, wide}
+use Rattle.keymap_tables.proofs.Common.{Entry, Layout, image_in, slot_bytes, accent_bytes, count_at, count_bytes}
+use Rattle.keymap_tables.proofs.Common.{rows_bytes, slot_size, accent_size}
 use Rattle.std.proofs.Common.{max, map, ap₂}
 use Rattle.std.proofs.lemmas.List.{map-set, set-append_left}
 use Rattle.std.proofs.lemmas.List.Elements.{All-set}
 use Rattle.keymap_core.specs.Maps.{with_entry, with_accent}
 use Rattle.keymap_tables.specs.Files.{joined}
-use Rattle.keymap_tables.specs.declared.filling.Filling.{Filling}
-use Rattle.keymap_tables.specs.Filled.{Shows, rows}
+use Rattle.keymap_tables.specs.Filled.{Filled, rows}
 use Rattle.keymap_tables.proofs.AtPlaces.{undefined-known, blank-known}
-use Rattle.keymap_tables.proofs.Rows.{flat_map-filled}
+use Rattle.keymap_tables.proofs.AccentImages.{accents-are}
+use Rattle.keymap_tables.proofs.Rows.{filled, flat_map-filled}
+use Rattle.keymap_tables.proofs.SlotImages.{slots-are}
 use Rattle.keymap_tables.proofs.Images.{image-parts}
 
 -- a list reaches at least to what was placed
@@ -46,40 +48,52 @@ placed-known : {X : Type 0} (P : X → Type 0) (x : X) (n : ℕ) (xs : List X) (
 placed-known P x n xs i y is_blank few all inside is =
     search (rules, placed-length, All-set, All-append, All-replicate)
 
--- a slot is defined
-pub shows-entry : (t : Filling) (m : MapValue) (slot n : ℕ) (e : Entry) (row : List ℕ) → Shows t m → slot < 256
-    → IsEntry e → row ≡ slot_bytes wide e → n ≡ max t.n_keys (slot + 1)
-    → Shows (record { n_keys = n; slots = set t.slots slot row; n_accs = t.n_accs; accents = t.accents })
-    (with_entry m slot e)
-shows-entry t m slot n e row s inside known is count =
-    let long = placed-length undefined m.entries slot e in
-    let was = s.known in
-    let now =
-    placed-known IsEntry undefined 256 m.entries slot e undefined-known was.few_entries was.entries inside known in
-    record {
-      known = search rules;
-      n_keys = omega (arith, count, s.n_keys, long);
-      slots = search (rules, rows-placed);
-      n_accs = s.n_accs;
-      accents = s.accents;
-    }
+-- a count, read from its bytes
+pub count-back : (l : Layout) (n : ℕ) → n < 257 → count_at (count_bytes l n) 0 ≡ n
+count-back l n few = grind arith
 
--- an accent is
-pub shows-accent : (t : Filling) (m : MapValue) (i n : ℕ) (a : AccentValue) (row : List ℕ) → Shows t m → i < 15
-    → IsAccent a → row ≡ accent_bytes wide a → n ≡ max t.n_accs (i + 1)
-    → Shows (record { n_keys = t.n_keys; slots = t.slots; n_accs = n; accents = set t.accents i row })
-    (with_accent m i a)
-shows-accent t m i n a row s inside known is count =
-    let long = placed-length blank m.accents i a in
-    let was = s.known in
-    let now = placed-known IsAccent blank 15 m.accents i a blank-known was.few_accents was.accents inside known in
-    record {
-      known = search rules;
-      n_keys = s.n_keys;
-      slots = s.slots;
-      n_accs = omega (arith, count, s.n_accs, long);
-      accents = search (rules, rows-placed);
-    }
+-- a count reaches to what was placed
+count-placed : {X : Type 0} (l : Layout) (x : X) (xs : List X) (i : ℕ) (y : X) (most : ℕ) (old new : List ℕ)
+    → length xs ≤ most → most < 257 → old ≡ count_bytes l (length xs)
+    → ((n : ℕ) → n < 257 → old ≡ count_bytes l n → new ≡ count_bytes l (max n (i + 1)))
+    → new ≡ count_bytes l (length (placed x xs i y))
+count-placed l x xs i y most old new few small was raised =
+    raised (length xs) (omega (arith, few, small)) was ∙ ap (count_bytes l) (sym (placed-length x xs i y))
+
+module _ (l : Layout) (n_keys n_accs : List ℕ) (slots accents : List (List ℕ)) (m : MapValue)
+    (s : Filled l n_keys slots n_accs accents m) where
+  -- a slot is defined
+  pub shows-entry : (slot : ℕ) (e : Entry) (row n : List ℕ) → slot < 256 → IsEntry e → row ≡ slot_bytes l e
+      → ((k : ℕ) → k < 257 → n_keys ≡ count_bytes l k → n ≡ count_bytes l (max k (slot + 1)))
+      → Filled l n (set slots slot row) n_accs accents (with_entry m slot e)
+  shows-entry slot e row n inside known is raised =
+      let was = s.known in
+      let now =
+      placed-known IsEntry undefined 256 m.entries slot e undefined-known was.few_entries was.entries inside known in
+      record {
+        known = search rules;
+        n_keys_are =
+            count-placed l undefined m.entries slot e 256 n_keys n was.few_entries (omega arith) s.n_keys_are raised;
+        slots_are = search (rules, rows-placed);
+        n_accs_are = s.n_accs_are;
+        accents_are = s.accents_are;
+      }
+
+  -- an accent is
+  pub shows-accent : (i : ℕ) (a : AccentValue) (row n : List ℕ) → i < 15 → IsAccent a → row ≡ accent_bytes l a
+      → ((k : ℕ) → k < 257 → n_accs ≡ count_bytes l k → n ≡ count_bytes l (max k (i + 1)))
+      → Filled l n_keys slots n (set accents i row) (with_accent m i a)
+  shows-accent i a row n inside known is raised =
+      let was = s.known in
+      let now = placed-known IsAccent blank 15 m.accents i a blank-known was.few_accents was.accents inside known in
+      record {
+        known = search rules;
+        n_keys_are = s.n_keys_are;
+        slots_are = s.slots_are;
+        n_accs_are =
+            count-placed l blank m.accents i a 15 n_accs n was.few_accents (omega arith) s.n_accs_are raised;
+        accents_are = search (rules, rows-placed);
+      }
 
 -- rows, joined
 joined-map : {X : Type 0} (f : X → List ℕ) (xs : List X) → joined (map f xs) ≡ flat_map f xs
@@ -87,6 +101,14 @@ joined-map f [] = refl
 joined-map f (x ∷ xs) = ap (λ (v : List ℕ). f x ++ v) (joined-map f xs)
 
 -- the file of what is shown
-pub file-of : (t : Filling) (m : MapValue) (n k : List ℕ) → Shows t m → n ≡ count_bytes wide t.n_keys
-    → k ≡ count_bytes wide t.n_accs → n ++ joined t.slots ++ k ++ joined t.accents ≡ image m
-file-of t m n k s keys accs = search (rules, joined-map, flat_map-filled, append_assoc, image-parts)
+pub file-of : (l : Layout) (n_keys n_accs : List ℕ) (slots accents : List (List ℕ)) (m : MapValue)
+    → Filled l n_keys slots n_accs accents m → n_keys ++ joined slots ++ n_accs ++ joined accents ≡ image_in l m
+file-of l n_keys n_accs slots accents m s =
+    let keys : joined slots ≡ rows_bytes (slot_bytes l) (slot_size l) 256 m.entries =
+    ap joined s.slots_are ∙ joined-map (slot_bytes l) (filled undefined 256 m.entries)
+    ∙ flat_map-filled (slot_bytes l) (slot_size l) undefined 256 m.entries (slots-are l).empty in
+    let accs : joined accents ≡ rows_bytes (accent_bytes l) (accent_size l) 15 m.accents =
+    ap joined s.accents_are ∙ joined-map (accent_bytes l) (filled blank 15 m.accents)
+    ∙ flat_map-filled (accent_bytes l) (accent_size l) blank 15 m.accents (accents-are l).empty in
+    append_assoc (n_keys ++ joined slots) n_accs (joined accents)
+    ∙ rw (s.n_keys_are, keys, s.n_accs_are, accs) (sym (image-parts l m))

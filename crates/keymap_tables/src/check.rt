@@ -13,7 +13,7 @@ use keymap_core::{Accent, Definitions, Entry};
 
 /// Takes definitions and keeps none.
 #[derive(Drop)]
-struct Unkept;
+pub struct Unkept;
 
 impl Definitions for Unkept {
     ghost use Rattle.std.specs.Prelude.{⊤};

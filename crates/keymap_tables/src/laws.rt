@@ -4,6 +4,8 @@ ghost use Rattle.keymap_core.specs.Maps.{MapValue, n_keys_of, n_accs_of, entry_a
 ghost use Rattle.keymap_core.specs.Bounds.{IsMap};
 ghost use Rattle.keymap_core.specs.Numbers.{slot_limit, column_count, accent_limit};
 ghost use Rattle.keymap_tables.specs.Faults.{IsFirstFault, fault_at, number_at, is_marked_at};
+ghost use Rattle.keymap_tables.specs.Files.{IsFileOf};
+ghost use Rattle.keymap_tables.specs.Filled.{Filled};
 ghost use Rattle.keymap_tables.specs.Fits.{Fits, FitsIn, IsWide};
 ghost use Rattle.keymap_tables.specs.Image.{image_in, narrow_image, count_bytes, slot_bytes, accent_bytes, number_of};
 ghost use Rattle.keymap_tables.specs.Image.{is_act, flag_number};
@@ -11,6 +13,7 @@ ghost use Rattle.keymap_tables.specs.Layouts.{wide, narrow, part, number_size, c
 ghost use Rattle.keymap_tables.specs.Layouts.{accent_size, slot_place, n_accs_place, accent_place, file_size};
 ghost use Rattle.keymap_tables.specs.Readings.{IsReadingIn, AnswersMap, AnswersFault};
 ghost use Rattle.keymap_tables.specs.Types.{Layout, TableError, TableFault};
+ghost use Rattle.keymap_tables.specs.declared.file.TableFile.{TableFile as TableFileValue};
 ghost use Rattle.keymap_tables.specs.declared.narrow.Wide.{Wide};
 
 /// Each map fits in the table file. So the other laws hold there of each map.
@@ -77,6 +80,11 @@ pub fn an_image_is_by_position()
         → part (image_in l m) (n_accs_place l) (count_size l) ≡ count_bytes l (n_accs_of m) }
     ensures accents { (l : Layout) (m : MapValue) → IsMap m → FitsIn l m → (i : ℕ) → i < accent_limit
         → part (image_in l m) (accent_place l i) (accent_size l) ≡ accent_bytes l (accent_or_blank m i) }
+{}
+
+/// The parts of a table file that show a map are the map's table file.
+pub fn filled_files_are_whole()
+    ensures { (t : TableFileValue) (m : MapValue) → Filled wide t.n_keys t.slots t.n_accs t.accents m → IsFileOf m t }
 {}
 
 /// In a narrow image each cell is one byte.

@@ -5,7 +5,7 @@ ghost use Rattle.keymap_core.specs.Maps.{MapValue};
 ghost use Rattle.keymap_tables.specs.Image.{image};
 ghost use Rattle.keymap_tables.specs.Layouts.{wide, file_size};
 ghost use Rattle.keymap_text.specs.Printed.{printed};
-ghost use Rattle.keymap_tables.specs.Files.{bytes_of};
+ghost use Rattle.keymap_tables.specs.Files.{IsFileOf, bytes_of};
 ghost use Rattle.keymap_text.specs.Meaning.{Spells, Fault};
 ghost use Rattle.keymap_text.specs.declared.fault.TextFault.{TextFault as TextFaultValue};
 ghost use Rattle.kmap_c.specs.TextFaults.{IsToldFault, text_kind_number};
@@ -14,7 +14,8 @@ ghost use Rattle.kmap_c.specs.Statuses as status;
 
 use crate::print::print_tables;
 use crate::status::{BAD_LENGTH, DONE, FAULTY, NO_ROOM, TEXT_FAULT};
-use keymap_tables::{Filling, TableFile, Tables, check_tables};
+use keymap_tables::laws::filled_files_are_whole;
+use keymap_tables::{TableFile, Tables, Unkept, check_tables};
 use keymap_text::{TextFaultKind, read_into};
 
 /// A fault of a text: at so many bytes from its start, in this line, counted from 1, and what stands there.
@@ -45,7 +46,20 @@ fn text_number_of(kind: TextFaultKind) -> u32
     }
 }
 
-/// Reads a keymap text into tables: `DONE` where it spells a keymap, else `TEXT_FAULT` and the fault.
+/// Puts the tables of a text without a fault in place.
+fn put_tables(text: &[u8], tables: &mut TableFile)
+    requires { (m : MapValue) × Spells text.now m }
+    ensures { (m : MapValue) × Spells text.now m × IsFileOf m tables.new }
+{
+    filled_files_are_whole();
+    tables.clear();
+    match read_into(text, tables) {
+        Ok(()) => {}
+        Err(_) => {}
+    }
+}
+
+/// Reads a keymap text into tables, which are made in place once a first reading found no fault: `DONE` where it spells a keymap, else `TEXT_FAULT` and the fault.
 #[unsafe(no_mangle)]
 pub extern "C" fn kmap_read_text(
     text: &[u8],
@@ -59,10 +73,10 @@ pub extern "C" fn kmap_read_text(
     ensures unread { result ≢ status.done → tables.new ≡ tables.old }
     ensures unchanged { result ≡ status.done → fault.new ≡ fault.old }
 {
-    let mut filling = Filling::new();
-    match read_into(text, &mut filling) {
+    let mut unkept = Unkept;
+    match read_into(text, &mut unkept) {
         Ok(()) => {
-            *tables = filling.file();
+            put_tables(text, tables);
             DONE
         }
         Err(found) => {

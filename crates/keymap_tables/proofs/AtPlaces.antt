@@ -1,30 +1,33 @@
 -- What is read at the places of a map's image.
-use Rattle.keymap_tables.proofs.Common.{common_steps, ◌≡◌, ℕ, ◌+◌, ◌*◌, ◌<◌, ◌≤◌, List, length, drop, refl, sym, ap}
+use Rattle.keymap_tables.proofs.Common.{common_steps, ◌≡◌, ℕ, ◌+◌, ◌-◌, ◌*◌, ◌<◌, ◌≤◌, List, [], length, drop, take}
+use Rattle.keymap_tables.proofs.Common.{refl, sym, ap, All-cons, All-nil, AccentFits, IsEntryIn, IsAccentIn, number_limit}
+use Rattle.keymap_tables.proofs.Common.{count_size, n_accs_place}
 use Rattle.keymap_tables.proofs.Common.{◌∙◌, arith, rules, subst, slice_index, get_or-take, get_or-drop}
 use Rattle.keymap_tables.proofs.Common.{get_or-replicate, blank, MapValue, undefined, entry_at, accent_or_blank, IsCell}
 use Rattle.keymap_tables.proofs.Common.{IsEntry, IsAccent, IsMap, Char, Layout, TableFault, FaultOf, IsFirstFault}
-use Rattle.keymap_tables.proofs.Common.{number_at, is_marked_at, count_at, CellFits, EntryFits, FitsIn, image, image_in}
-use Rattle.keymap_tables.proofs.Common.{number_of, is_act, flag_number, AreRows, wide, narrow, part, number_size}
+use Rattle.keymap_tables.proofs.Common.{number_at, is_marked_at, count_at, CellFits, EntryFits, FitsIn, image_in}
+use Rattle.keymap_tables.proofs.Common.{number_of, is_act, flag_number, AreRows, narrow, part, number_size}
 use Rattle.keymap_tables.proofs.Common.{slot_size, slots_place}
 use Rattle.keymap_core.specs.Maps.{cell_at}
 use Rattle.keymap_tables.proofs.Images.{count-part, n_keys-of, n_accs-of, part-part, slot-part}
-use Rattle.keymap_tables.proofs.ReadingLaws.{map-wide}
+use Rattle.keymap_tables.proofs.Rows.{cut-rest}
 use Rattle.keymap_tables.proofs.Sizes.{zero-fits, All-at}
 use Rattle.keymap_tables.proofs.SlotImages.{number-in, mark-in, flag-in}
 
 -- the count of slots
-pub keys-counted : (bytes : List ℕ) (n : ℕ) → n ≡ count_at (part bytes 0 4) 0 → (m : MapValue) → IsMap m
-    → bytes ≡ image m → n ≡ length m.entries
-keys-counted bytes n read m is same =
-    read ∙ count-part bytes 0 4 (omega arith) ∙ ap (λ (v : List ℕ). count_at v 0) same
-    ∙ n_keys-of wide m is (map-wide m is)
+pub keys-counted : (l : Layout) (bytes : List ℕ) (size n : ℕ) → size ≡ count_size l → n ≡ count_at (take size bytes) 0
+    → (m : MapValue) → IsMap m → FitsIn l m → bytes ≡ image_in l m → n ≡ length m.entries
+keys-counted l bytes size n whole read m is fits same =
+    read ∙ count-part bytes 0 size (omega (arith, whole)) ∙ ap (λ (v : List ℕ). count_at v 0) same
+    ∙ n_keys-of l m is fits
 
 -- the count of accents
-pub accents-counted : (bytes : List ℕ) (n : ℕ) → n ≡ count_at (part bytes 9220 4) 0 → (m : MapValue) → IsMap m
-    → bytes ≡ image m → n ≡ length m.accents
-accents-counted bytes n read m is same =
-    read ∙ count-part bytes 9220 4 (omega arith) ∙ ap (λ (v : List ℕ). count_at v 9220) same
-    ∙ n_accs-of wide m is (map-wide m is)
+pub accents-counted : (l : Layout) (bytes : List ℕ) (at n : ℕ) → at ≡ n_accs_place l
+    → n ≡ count_at (take (length bytes - at) (drop at bytes)) 0
+    → (m : MapValue) → IsMap m → FitsIn l m → bytes ≡ image_in l m → n ≡ length m.accents
+accents-counted l bytes at n place read m is fits same =
+    read ∙ ap (λ (v : List ℕ). count_at v 0) (cut-rest bytes (n_accs_place l) at place)
+    ∙ ap (λ (v : List ℕ). count_at v (n_accs_place l)) same ∙ n_accs-of l m is fits
 
 -- the image of a row has no fault
 pub faultless : {X : Type 0} {f : X → List ℕ} {size : ℕ} {fault_in : List ℕ → FaultOf} {Is : X → Type 0} {d : X}
@@ -62,6 +65,18 @@ entry-known m is s = All-at IsEntry m.entries undefined s undefined-known is.ent
 -- each entry of a map that fits, fits
 pub entry-fits : (l : Layout) (m : MapValue) → FitsIn l m → (s : ℕ) → EntryFits l (entry_at m s)
 entry-fits l m fits s = All-at (EntryFits l) m.entries undefined s (undefined-fits l) fits.entries
+
+-- a blank accent fits
+blank-fits : (l : Layout) → AccentFits l blank
+blank-fits l = All-cons (λ n. n < number_limit l) 0 [] (zero-fits l) (All-nil (λ n. n < number_limit l))
+
+-- each entry and each accent of a map that fits can stand in a file
+pub entry-in : (l : Layout) (m : MapValue) → IsMap m → FitsIn l m → (s : ℕ) → IsEntryIn l (entry_at m s)
+entry-in l m is fits s = (entry-known m is s, entry-fits l m fits s)
+
+pub accent-in : (l : Layout) (m : MapValue) → IsMap m → FitsIn l m → (i : ℕ) → IsAccentIn l (accent_or_blank m i)
+accent-in l m is fits i =
+    (accent-known m is i, All-at (AccentFits l) m.accents blank i (blank-fits l) fits.accents)
 
 -- the number and the mark of a cell, and the flag
 pub cell-number : (l : Layout) (m : MapValue) → IsMap m → FitsIn l m → (s column : ℕ) → s < 256 → column < 8

@@ -3,7 +3,8 @@ use Rattle.keymap_tables.proofs.Common.{◌≡◌, ℕ, ◌<◌, List, None, Som
 use Rattle.keymap_tables.proofs.Common.{All-weaker, AccentValue, MapValue, IsCell, IsEntry, IsAccent, IsMap, IsScalar}
 use Rattle.keymap_tables.proofs.Common.{Cell, Char, Act, Entry, Layout, TableFault, TableFaultKind, IsFirstFault, rules}
 use Rattle.keymap_tables.proofs.Common.{fault_at, CellFits, EntryFits, AccentFits, FitsIn, image_in, numbers_of, wide}
-use Rattle.keymap_tables.proofs.Common.{number_limit}
+use Rattle.keymap_tables.proofs.Common.{number_limit, Wide, Narrow}
+use Rattle.keymap_tables.specs.Fits.{AreTablesOf}
 use Rattle.keymap_tables.specs.Types.{TableError, Memory, Read, Fault}
 use Rattle.keymap_tables.specs.Readings.{IsReadingIn, AnswersMap, AnswersFault}
 use Rattle.keymap_tables.proofs.AccentImages.{numbers-known}
@@ -27,6 +28,18 @@ accent-wide accent known =
 -- each map fits a wide table
 pub map-wide : (m : MapValue) → IsMap m → FitsIn wide m
 map-wide m is = search (rules, All-weaker, entry-wide, accent-wide)
+
+-- tables of a map are its image in a layout that it fits in
+pub tables-in : (l : Layout) (bytes : List ℕ) (m : MapValue) → IsMap m → AreTablesOf l bytes m
+    → FitsIn l m × (bytes ≡ image_in l m)
+tables-in Wide bytes m is are = (map-wide m is, are)
+tables-in Narrow bytes m is are = are
+
+-- the same of a layout that is this one
+pub tables-at : (l k : Layout) (bytes : List ℕ) (m : MapValue) → k ≡ l → IsMap m → AreTablesOf l bytes m
+    → FitsIn k m × (bytes ≡ image_in k m)
+tables-at l k bytes m e is are =
+    subst (λ (v : Layout). FitsIn v m × (bytes ≡ image_in v m)) (sym e) (tables-in l bytes m is are)
 
 -- no kind is both there and missing
 pub some_none : (kind : TableFaultKind) (o : Option TableFaultKind) → o ≡ Some kind → o ≡ None → ⊥

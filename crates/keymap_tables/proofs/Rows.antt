@@ -37,6 +37,10 @@ placed-end blank xs i x end = search (rules, set_at)
 pub cut : (bytes : List ℕ) (at n : ℕ) → take (at + n - at) (drop at bytes) ≡ part bytes at n
 cut bytes at n = grind arith
 
+-- the same where its place and its size are given otherwise
+pub cut-at : (bytes : List ℕ) (at size a n : ℕ) → a ≡ at → n ≡ size → take (a + n - a) (drop a bytes) ≡ part bytes at size
+cut-at bytes at size a n place whole = rw (place, whole) (cut bytes at size)
+
 pub cut-row : (bytes : List ℕ) (size i n : ℕ) → n ≡ size
     → take (n * i + n - n * i) (drop (n * i) bytes) ≡ part bytes (size * i) size
 cut-row bytes size i n is =

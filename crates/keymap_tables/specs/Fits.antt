@@ -1,12 +1,13 @@
 -- Which maps fit in a table file: those of which each character fits in the bytes of a number. In the wide file every
 -- map does.
-use Rattle.std.specs.Prelude.{ℕ, ◌+◌, ◌*◌, ◌<◌, ◌≤◌, All, slice_index_or}
+use Rattle.std.specs.Prelude.{◌≡◌, ℕ, ◌+◌, ◌*◌, ◌<◌, ◌≤◌, List, All, slice_index_or}
 use Rattle.keymap_core.specs.Accents.{AccentValue}
 use Rattle.keymap_core.specs.Maps.{MapValue, entry_at, accent_or_blank}
 use Rattle.keymap_tables.specs.Types.{Cell, Char, Act, Entry, Layout}
+use Rattle.keymap_tables.specs.declared.layout.Layout.TheVariants as layout
 use Rattle.keymap_tables.specs.declared.narrow.Wide.{Wide}
 use Rattle.keymap_tables.specs.declared.narrow.Wide.TheVariants as at
-use Rattle.keymap_tables.specs.Image.{numbers_of}
+use Rattle.keymap_tables.specs.Image.{image, narrow_image, numbers_of}
 use Rattle.keymap_tables.specs.Layouts.{narrow, number_limit, number_size, slot_place, accent_place}
 
 -- the number of a character, 0 for an action
@@ -31,6 +32,11 @@ pub record FitsIn (l : Layout) (m : MapValue) : Type 0 where
 -- no character is above 255
 abbrev pub Fits : MapValue → Type 0
 Fits m = FitsIn narrow m
+
+-- the bytes are the tables of the map, narrow ones of a map that fits
+abbrev pub AreTablesOf : Layout → List ℕ → MapValue → Type 0
+AreTablesOf layout.Wide bytes m = bytes ≡ image m
+AreTablesOf layout.Narrow bytes m = Fits m × (bytes ≡ narrow_image m)
 
 -- the character in a column of an entry, 0 for an action
 abbrev pub character_in : Entry → ℕ → ℕ

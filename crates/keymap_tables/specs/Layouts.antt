@@ -1,5 +1,5 @@
 -- Where the parts of a table file stand: one format at two widths.
-use Rattle.std.specs.Prelude.{ℕ, ◌+◌, ◌*◌, ◌^◌, List, take, drop}
+use Rattle.std.specs.Prelude.{ℕ, ◌+◌, ◌*◌, ◌^◌, ◌==◌, List, take, drop, if◌then◌else◌}
 use Rattle.std.specs.Int.{Width, w8, w32}
 use Rattle.keymap_core.specs.Numbers.{slot_limit, column_count, accent_limit, pair_limit}
 use Rattle.keymap_tables.specs.Types.{Layout, Wide, Narrow}
@@ -11,6 +11,10 @@ wide = Wide
 -- the layout of a byte a number, without pads
 abbrev pub narrow : Layout
 narrow = Narrow
+
+-- the layout of numbers of so many bytes
+abbrev pub layout_of : ℕ → Layout
+layout_of size = if size == 1 then narrow else wide
 
 -- the width of a cell, and of an accent's character
 abbrev pub number_width : Layout → Width

@@ -1,12 +1,11 @@
-//! The parts of a table file, which take definitions: so the tables of a text are made where its caller wants them.
-ghost use Rattle.std.specs.Prelude.{◌≡◌, ℕ, ◌+◌, ◌<◌, [], max};
-ghost use Rattle.keymap_core.specs.Bounds.{IsAccent, IsEntry};
-ghost use Rattle.keymap_tables.specs.Image.{accent_bytes, count_bytes, slot_bytes};
-ghost use Rattle.keymap_tables.specs.Layouts.{accent_size, count_size, slot_size};
+//! The parts of a table file and of a narrow file, which take definitions: so the tables of a text are made where its caller wants them.
+ghost use Rattle.std.specs.Prelude.{◌≡◌, ℕ, ◌+◌, ◌<◌, [], length, max};
+ghost use Rattle.keymap_tables.specs.Image.{count_bytes};
+ghost use Rattle.keymap_tables.specs.Layouts.{count_size};
 
 use crate::accent::accent_image;
 use crate::count::count_image;
-use crate::layout::{ACCENT, COUNT, Layout, SLOT};
+use crate::layout::{ACCENT, COUNT, Layout, NARROW_ACCENT, NARROW_COUNT, NARROW_SLOT, SLOT};
 use crate::number::read_half;
 use crate::slot::slot_image;
 use keymap_core::laws::{every_accent_is_within_the_bounds, every_entry_is_within_the_bounds};
@@ -22,28 +21,22 @@ pub struct TableFile {
     pub accents: [[u8; ACCENT]; ACCENT_LIMIT],
 }
 
-/// The bytes of a slot.
-fn slot_row<const N: usize>(layout: Layout, entry: &Entry) -> [u8; N]
-    requires { N ≡ slot_size layout }
-    ensures bytes { result ≡ slot_bytes layout entry.now }
-    ensures known { IsEntry entry.now }
-{
-    every_entry_is_within_the_bounds(entry);
-    let mut row = [0; N];
-    row.copy_from_slice(slot_image(layout, entry).as_slice());
-    row
+/// The four parts of a narrow file, in their order: 4,139 bytes without a pad between them.
+#[repr(C)]
+#[derive(Clone, Copy, Drop)]
+pub struct NarrowFile {
+    pub n_keys: [u8; NARROW_COUNT],
+    pub slots: [[u8; NARROW_SLOT]; SLOT_LIMIT],
+    pub n_accs: [u8; NARROW_COUNT],
+    pub accents: [[u8; NARROW_ACCENT]; ACCENT_LIMIT],
 }
 
-/// The bytes of an accent.
-fn accent_row<const N: usize>(layout: Layout, accent: &Accent) -> [u8; N]
-    requires { N ≡ accent_size layout }
-    ensures bytes { result ≡ accent_bytes layout accent.now }
-    ensures known { IsAccent accent.now }
+/// Puts bytes in place of those of a part.
+fn put<const N: usize>(part: &mut [u8; N], bytes: &[u8])
+    requires { length bytes.now ≡ N }
+    ensures { part.new ≡ bytes.now }
 {
-    every_accent_is_within_the_bounds(accent);
-    let mut row = [0; N];
-    row.copy_from_slice(accent_image(layout, accent).as_slice());
-    row
+    part.copy_from_slice(bytes);
 }
 
 /// The bytes of a count that reaches past the index.
@@ -53,7 +46,7 @@ fn raised<const N: usize>(layout: Layout, count: &[u8; N], index: u8) -> [u8; N]
 {
     let most = read_half(count).max(u16::from(index) + 1);
     let mut row = [0; N];
-    row.copy_from_slice(count_image(layout, most).as_slice());
+    put(&mut row, count_image(layout, most).as_slice());
     row
 }
 
@@ -69,6 +62,18 @@ impl TableFile {
     }
 }
 
+impl NarrowFile {
+    /// Puts the narrow file of no keys in place.
+    pub fn clear(&mut self)
+        ensures { ⟦<NarrowFile as Definitions>⟧.shows self.new (record { entries = []; accents = [] }) }
+    {
+        self.n_keys = [0; NARROW_COUNT];
+        self.slots = [[0; NARROW_SLOT]; SLOT_LIMIT];
+        self.n_accs = [0; NARROW_COUNT];
+        self.accents = [[0; NARROW_ACCENT]; ACCENT_LIMIT];
+    }
+}
+
 impl Definitions for TableFile {
     ghost use Rattle.keymap_tables.specs.Filled.{Filled};
     ghost use Rattle.keymap_tables.specs.Layouts.{wide};
@@ -76,12 +81,45 @@ impl Definitions for TableFile {
     ghost shows = { λ t m. Filled wide t.n_keys t.slots t.n_accs t.accents m };
 
     fn define(&mut self, slot: u8, entry: Entry) {
-        self.slots[slot as usize] = slot_row(Layout::Wide, &entry);
+        every_entry_is_within_the_bounds(&entry);
+        put(
+            &mut self.slots[slot as usize],
+            slot_image(Layout::Wide, &entry).as_slice(),
+        );
         self.n_keys = raised(Layout::Wide, &self.n_keys, slot);
     }
 
     fn define_accent(&mut self, index: u8, accent: Accent) {
-        self.accents[index as usize] = accent_row(Layout::Wide, &accent);
+        every_accent_is_within_the_bounds(&accent);
+        put(
+            &mut self.accents[index as usize],
+            accent_image(Layout::Wide, &accent).as_slice(),
+        );
         self.n_accs = raised(Layout::Wide, &self.n_accs, index);
+    }
+}
+
+impl Definitions for NarrowFile {
+    ghost use Rattle.keymap_tables.specs.Filled.{Filled};
+    ghost use Rattle.keymap_tables.specs.Layouts.{narrow};
+
+    ghost shows = { λ t m. Filled narrow t.n_keys t.slots t.n_accs t.accents m };
+
+    fn define(&mut self, slot: u8, entry: Entry) {
+        every_entry_is_within_the_bounds(&entry);
+        put(
+            &mut self.slots[slot as usize],
+            slot_image(Layout::Narrow, &entry).as_slice(),
+        );
+        self.n_keys = raised(Layout::Narrow, &self.n_keys, slot);
+    }
+
+    fn define_accent(&mut self, index: u8, accent: Accent) {
+        every_accent_is_within_the_bounds(&accent);
+        put(
+            &mut self.accents[index as usize],
+            accent_image(Layout::Narrow, &accent).as_slice(),
+        );
+        self.n_accs = raised(Layout::Narrow, &self.n_accs, index);
     }
 }

@@ -4,7 +4,7 @@ ghost use Rattle.keymap_core.specs.Maps.{MapValue, n_keys_of, n_accs_of, entry_a
 ghost use Rattle.keymap_core.specs.Bounds.{IsMap};
 ghost use Rattle.keymap_core.specs.Numbers.{slot_limit, column_count, accent_limit};
 ghost use Rattle.keymap_tables.specs.Faults.{IsFirstFault, fault_at, number_at, is_marked_at};
-ghost use Rattle.keymap_tables.specs.Files.{IsFileOf};
+ghost use Rattle.keymap_tables.specs.Files.{IsFileOf, IsNarrowFileOf};
 ghost use Rattle.keymap_tables.specs.Filled.{Filled};
 ghost use Rattle.keymap_tables.specs.Fits.{Fits, FitsIn, IsWide};
 ghost use Rattle.keymap_tables.specs.Image.{image_in, narrow_image, count_bytes, slot_bytes, accent_bytes, number_of};
@@ -13,6 +13,7 @@ ghost use Rattle.keymap_tables.specs.Layouts.{wide, narrow, part, number_size, c
 ghost use Rattle.keymap_tables.specs.Layouts.{accent_size, slot_place, n_accs_place, accent_place, file_size};
 ghost use Rattle.keymap_tables.specs.Readings.{IsReadingIn, AnswersMap, AnswersFault};
 ghost use Rattle.keymap_tables.specs.Types.{Layout, TableError, TableFault};
+ghost use Rattle.keymap_tables.specs.declared.file.NarrowFile.{NarrowFile as NarrowFileValue};
 ghost use Rattle.keymap_tables.specs.declared.file.TableFile.{TableFile as TableFileValue};
 ghost use Rattle.keymap_tables.specs.declared.narrow.Wide.{Wide};
 
@@ -82,9 +83,12 @@ pub fn an_image_is_by_position()
         → part (image_in l m) (accent_place l i) (accent_size l) ≡ accent_bytes l (accent_or_blank m i) }
 {}
 
-/// The parts of a table file that show a map are the map's table file.
+/// The parts of a file that show a map are the map's file.
 pub fn filled_files_are_whole()
-    ensures { (t : TableFileValue) (m : MapValue) → Filled wide t.n_keys t.slots t.n_accs t.accents m → IsFileOf m t }
+    ensures wide { (t : TableFileValue) (m : MapValue) → Filled wide t.n_keys t.slots t.n_accs t.accents m
+        → IsFileOf m t }
+    ensures narrow { (t : NarrowFileValue) (m : MapValue) → Filled narrow t.n_keys t.slots t.n_accs t.accents m
+        → IsNarrowFileOf m t }
 {}
 
 /// In a narrow image each cell is one byte.

@@ -35,12 +35,12 @@ mod source;
 mod tables;
 mod write;
 
-pub use check::{Unkept, check_tables};
+pub use check::{Unkept, check_narrow, check_tables};
 pub use fault::{TableError, TableFault, TableFaultKind};
-pub use file::TableFile;
+pub use file::{NarrowFile, TableFile};
 pub use layout::{NARROW_FILE, WIDE_FILE};
-pub use narrow::{NarrowError, Wide, write_narrow};
+pub use narrow::{NarrowError, Wide, wide_in, write_narrow};
 pub use read::{read_narrow, read_tables};
 pub use source::{read_narrow_from, read_tables_from};
-pub use tables::Tables;
+pub use tables::{NarrowTables, Tables, TablesIn};
 pub use write::write_tables;

@@ -1,16 +1,21 @@
 //! The narrow file: which maps fit in it, and the writing of one.
 ghost use Rattle.std.specs.Prelude.{◌≡◌, ◌<◌, ◌||◌, All, MatchOption};
+ghost use Rattle.keymap_core.specs.Accents.{blank};
 ghost use Rattle.keymap_core.specs.Bounds.{IsMap};
-ghost use Rattle.keymap_tables.specs.Fits.{Fits, IsFirstWide};
+ghost use Rattle.keymap_core.specs.Maps.{MapValue, undefined};
+ghost use Rattle.keymap_tables.specs.Fits.{AccentFits, EntryFits, Fits, IsFirstWide, character_in, number_in};
 ghost use Rattle.keymap_tables.specs.Inner.Firsts.{IsFirstWideRow};
-ghost use Rattle.keymap_tables.specs.Layouts.{narrow};
+ghost use Rattle.keymap_tables.specs.Layouts.{accent_size, narrow, slot_size};
 ghost use Rattle.keymap_tables.specs.Writing.{WritesNarrow, blames_writer};
 
+use crate::accent::wide_number;
 use crate::layout::Layout;
 use crate::row::Row;
+use crate::slot::wide_column;
+use crate::tables::Tables;
 use crate::write::write_image;
 use keymap_core::laws::every_keymap_is_within_the_bounds;
-use keymap_core::{Accent, Entry, KeyMap, Write, WriteFault};
+use keymap_core::{Accent, Entry, KeyMap, Keymap, Write, WriteFault};
 use thiserror::Error;
 
 /// The place of a character that doesn't fit in one byte.
@@ -59,6 +64,48 @@ fn too_wide(map: &KeyMap) -> Option<Wide>
             accent: accent as u8,
             number,
         });
+    }
+    None
+}
+
+/// The first slot of tables that doesn't fit, and the column of its first character above 255.
+fn wide_slot<'a>(tables: &Tables<'a>) -> Option<(u8, u8)>
+    ensures { (m : MapValue) → ⟦<Tables<'a> as Keymap>⟧.shows tables.now m
+        → MatchOption result (All (EntryFits narrow) m.entries) (λ found. IsFirstWideRow (EntryFits narrow) character_in
+        (slot_size narrow) m.entries undefined found.0 found.1) }
+{
+    for slot in 0..tables.n_keys() {
+        if let Some(column) = wide_column(&tables.entry_at(slot as u8)) {
+            return Some((slot as u8, column));
+        }
+    }
+    None
+}
+
+/// The first accent of tables that doesn't fit, and its first number above 255.
+fn wide_accent<'a>(tables: &Tables<'a>) -> Option<(u8, u8)>
+    ensures { (m : MapValue) → ⟦<Tables<'a> as Keymap>⟧.shows tables.now m
+        → MatchOption result (All (AccentFits narrow) m.accents) (λ found. IsFirstWideRow (AccentFits narrow) number_in
+        (accent_size narrow) m.accents blank found.0 found.1) }
+{
+    for index in 0..tables.n_accs() {
+        if let Some(number) = wide_number(&tables.accent_at(index)) {
+            return Some((index, number));
+        }
+    }
+    None
+}
+
+/// The first character of tables, in the order of the file, that doesn't fit in a narrow file.
+pub fn wide_in<'a>(tables: &Tables<'a>) -> Option<Wide>
+    ensures { (m : MapValue) → ⟦<Tables<'a> as Keymap>⟧.shows tables.now m
+        → MatchOption result (Fits m) (IsFirstWide m) }
+{
+    if let Some((slot, column)) = wide_slot(tables) {
+        return Some(Wide::Cell { slot, column });
+    }
+    if let Some((accent, number)) = wide_accent(tables) {
+        return Some(Wide::Accent { accent, number });
     }
     None
 }

@@ -1,0 +1,10 @@
+use Rattle.keymap_tables.proofs.Common.{◌≡◌, arith, rules, accent_bytes, narrow}
+use Rattle.keymap_tables.proofs.RowsFilled.{shows-accent}
+use Rattle.keymap_tables.proofs.file.NarrowFileDefinitions.define_accent.Goals as goal
+
+pub returns : goal.returns
+returns c =
+    λ m shown. let t = c.args.self.now in
+    let row : c.put.new.part ≡ accent_bytes narrow c.args.accent = search rules in
+    shows-accent narrow t.n_keys t.n_accs t.slots t.accents m shown c.args.index c.args.accent c.put.new.part
+    c.raised-self.result (omega (arith, c.requires)) c.every_accent_is_within_the_bounds.ensures row c.raised-self.ensures

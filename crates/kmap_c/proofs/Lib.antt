@@ -4,4 +4,5 @@ pub mod Delivered
 pub mod Numbers
 pub mod Said
 pub mod Faulty
+pub mod Narrowed
 pub mod Numbered

@@ -34,3 +34,6 @@ bad_code = negsuc 8
 
 abbrev pub bad_place : ℤ
 bad_place = negsuc 9
+
+abbrev pub too_wide : ℤ
+too_wide = negsuc 10

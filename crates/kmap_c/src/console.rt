@@ -36,10 +36,10 @@ pub struct KmapConsole {
 }
 
 /// The greatest number of an event.
-const LAST_EVENT: u16 = 257;
+pub(crate) const LAST_EVENT: u16 = 257;
 
 /// The event of a number that names one.
-fn event_of(number: u16) -> Event
+pub(crate) fn event_of(number: u16) -> Event
     ensures { result ≡ event_of_number number }
 {
     let key = KeyCode::new((number % 128) as u8).unwrap();

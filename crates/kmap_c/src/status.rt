@@ -20,3 +20,5 @@ pub(crate) const BAD_KIND: i32 = -8;
 pub(crate) const BAD_CODE: i32 = -9;
 
 pub(crate) const BAD_PLACE: i32 = -10;
+
+pub(crate) const TOO_WIDE: i32 = -11;

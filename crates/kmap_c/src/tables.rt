@@ -36,7 +36,7 @@ pub struct KmapFault {
 }
 
 /// The number of a kind of fault.
-fn number_of(kind: TableFaultKind) -> u32
+pub(crate) fn number_of(kind: TableFaultKind) -> u32
     ensures { result ≡ kind_number kind }
 {
     match kind {

@@ -15,6 +15,7 @@
 static struct kmap_tables us, made, before;
 #define US us.bytes, sizeof us.bytes
 #define MADE made.bytes, sizeof made.bytes
+#define NARROW narrow.bytes, sizeof narrow.bytes
 
 static unsigned passed, failed;
 
@@ -307,6 +308,119 @@ static void check_reading(void)
 	holds("its tables", memcmp(&made, &before, sizeof made) == 0);
 	holds("they have no fault", kmap_check(MADE, &table_fault) == KMAP_OK);
 	holds("no fault is told", fault.offset == 7 && fault.line == 7 && fault.kind == 7);
+}
+
+/* A keymap with one character above 255, and its place as narrowing tells it. */
+static const struct {
+	const char *text;
+	uint8_t is_accent, row, number;
+} too_wide[] = {
+	{ "030 0x100 'A' 1 1 'a' 'A' 1 1 C", 0, 30, 0 },
+	{ "030 'a' 'A' 1 1 'a' 'A' 1 0x10ffff C\n255 0x100 1 1 1 1 1 1 1 O", 0, 30, 7 },
+	{ "255 0xff 1 1 1 0x2190 1 1 1 O\ndgra 0x2190", 0, 255, 4 },
+	{ "dgra 0xff ( 'a' 0xff )\ndacu 0x100", 1, 1, 0 },
+	{ "dacu 0xff ( 'a' 'b' ) ( 0x1d00 'c' )", 1, 1, 3 },
+	{ "dgra 0xff ( 'a' 0x1d00 )", 1, 0, 2 },
+};
+
+#define TOO_WIDE (sizeof too_wide / sizeof too_wide[0])
+
+/* Whether each byte of narrow tables is the first byte of what stands in the tables. */
+static int are_narrow(const uint8_t *narrow, const uint8_t *wide)
+{
+	size_t i, j;
+	int same = memcmp(narrow, wide, 2) == 0 && memcmp(narrow + 2562, wide + 9220, 2) == 0;
+
+	for (i = 0; i < 256; i++) {
+		for (j = 0; j < 8; j++)
+			same &= narrow[2 + 10 * i + j] == wide[4 + 36 * i + 4 * j];
+		same &= memcmp(narrow + 10 + 10 * i, wide + 36 + 36 * i, 2) == 0;
+	}
+	for (i = 0; i < 15 * 105; i++)
+		same &= narrow[2564 + i] == wide[9224 + 4 * i];
+	return same;
+}
+
+static void check_narrow(void)
+{
+	static struct kmap_narrow_tables narrow, empty;
+	struct kmap_console console, between, wide_console;
+	struct kmap_text_fault text_fault;
+	struct kmap_fault fault = { 7, 7 };
+	struct kmap_wide wide = { 7, 7, 7 };
+	uint32_t answer;
+	char name[64];
+	size_t i;
+
+	memset(&narrow, 0x5a, sizeof narrow);
+	memset(&made, 0x5a, sizeof made);
+	holds("narrow tables", kmap_narrow(US, &narrow, &wide) == KMAP_OK && are_narrow(narrow.bytes, us.bytes)
+	    && wide.is_accent == 7 && wide.row == 7 && wide.number == 7);
+	holds("they have no fault", kmap_check_narrow(NARROW, &fault) == KMAP_OK && fault.offset == 7 && fault.kind == 7);
+	holds("they give the tables again", kmap_widen(NARROW, &made) == KMAP_OK
+	    && memcmp(&made, &us, sizeof made) == 0);
+	kmap_start(&console);
+	kmap_start(&between);
+	kmap_start(&wide_console);
+	for (i = 0; i < STEPS; i++) {
+		sprintf(name, "narrow step %lu", (unsigned long)i);
+		holds(name, kmap_step_narrow(NARROW, &console, steps[i].event, &answer) == KMAP_OK
+		    && answer == steps[i].answer && kmap_modifiers(&console) == steps[i].modifiers
+		    && kmap_locks(&console) == steps[i].locks && kmap_pending(&console) == steps[i].pending);
+		holds(name, kmap_step_between_narrow(NARROW, NARROW, &between, steps[i].event, &answer) == KMAP_OK
+		    && answer == steps[i].answer);
+		kmap_step_between(US, US, &wide_console, steps[i].event, &answer);
+	}
+	holds("the consoles are those of tables", memcmp(&between, &wide_console, sizeof between) == 0);
+	kmap_start(&console);
+	holds("a load between narrow tables", kmap_step_between_narrow(empty.bytes, sizeof empty, NARROW, &console, 30,
+	    &answer) == KMAP_OK && answer == 0 && kmap_step_between_narrow(empty.bytes, sizeof empty, NARROW, &console,
+	    KMAP_LOAD, &answer) == KMAP_OK && kmap_step_between_narrow(empty.bytes, sizeof empty, NARROW, &console, 30,
+	    &answer) == KMAP_OK && answer == 'a');
+
+	memset(&empty, 0x5a, sizeof empty);
+	narrow = empty;
+	for (i = 0; i < TOO_WIDE; i++) {
+		memset(&wide, 0x5a, sizeof wide);
+		holds(too_wide[i].text, read_text(too_wide[i].text, &text_fault) == KMAP_OK
+		    && kmap_narrow(MADE, &narrow, &wide) == KMAP_TOO_WIDE && wide.is_accent == too_wide[i].is_accent
+		    && wide.row == too_wide[i].row && wide.number == too_wide[i].number);
+	}
+	before = made;
+	wide.row = 77;
+	holds("a length is told", kmap_narrow(us.bytes, sizeof us - 1, &narrow, &wide) == KMAP_BAD_LENGTH
+	    && kmap_narrow(NARROW, &narrow, &wide) == KMAP_BAD_LENGTH && kmap_widen(US, &made) == KMAP_BAD_LENGTH
+	    && kmap_widen(narrow.bytes, sizeof narrow - 1, &made) == KMAP_BAD_LENGTH);
+	made.bytes[sizeof made - 1] = 1;
+	holds("a fault is told before a character", kmap_narrow(MADE, &narrow, &wide) == KMAP_FAULTY && wide.row == 77);
+	made.bytes[sizeof made - 1] = 0;
+	holds("faulty narrow tables", kmap_widen(NARROW, &made) == KMAP_FAULTY);
+	holds("what isn't made stays", memcmp(&made, &before, sizeof made) == 0
+	    && memcmp(&narrow, &empty, sizeof narrow) == 0);
+
+	kmap_narrow(US, &narrow, &wide);
+	narrow.bytes[2 + 10 * 30 + 9] = 4;
+	holds("a flag of narrow tables", kmap_check_narrow(NARROW, &fault) == KMAP_FAULTY && fault.kind == KMAP_BAD_FLAG
+	    && fault.offset == 311);
+	holds("short narrow tables", kmap_check_narrow(narrow.bytes, 100, &fault) == KMAP_FAULTY
+	    && fault.kind == KMAP_SHORT && fault.offset == 100);
+	holds("long narrow tables", kmap_check_narrow(US, &fault) == KMAP_FAULTY && fault.kind == KMAP_LONG
+	    && fault.offset == KMAP_NARROW_SIZE);
+	kmap_start(&console);
+	between = console;
+	answer = 77;
+	holds("a step over others is refused", kmap_step_narrow(US, &console, 30, &answer) == KMAP_BAD_LENGTH
+	    && kmap_step(NARROW, &console, 30, &answer) == KMAP_BAD_LENGTH
+	    && kmap_step_between_narrow(NARROW, US, &console, 30, &answer) == KMAP_BAD_LENGTH
+	    && kmap_step_between_narrow(US, NARROW, &console, 30, &answer) == KMAP_BAD_LENGTH);
+	holds("258 is no event for narrow tables", kmap_step_narrow(NARROW, &console, 258, &answer) == KMAP_BAD_EVENT
+	    && kmap_step_between_narrow(NARROW, NARROW, &console, 258, &answer) == KMAP_BAD_EVENT);
+	holds("no narrow tables", kmap_narrow(NULL, 0, &narrow, &wide) == KMAP_BAD_LENGTH
+	    && kmap_widen(NULL, 0, &made) == KMAP_BAD_LENGTH && kmap_check_narrow(NULL, 0, &fault) == KMAP_FAULTY
+	    && fault.kind == KMAP_SHORT && fault.offset == 0
+	    && kmap_step_narrow(NULL, 0, &console, 30, &answer) == KMAP_BAD_LENGTH
+	    && kmap_step_between_narrow(NULL, 0, NARROW, &console, 30, &answer) == KMAP_BAD_LENGTH);
+	holds("the console and the answer stay", memcmp(&console, &between, sizeof console) == 0 && answer == 77);
 }
 
 /* A keymap whose key has a modifier at one place and a character at another is refused with these. */
@@ -603,6 +717,7 @@ int main(int argc, char **argv)
 	check_printing();
 	check_words();
 	check_nothing();
+	check_narrow();
 	check_kbio();
 	check_noise();
 	printf("%u passed, %u failed\n", passed, failed);

@@ -76,6 +76,9 @@ static void measure_keymap(void)
 
 	measure(AT_check);
 	measure(AT_accepts);
+	measure(AT_narrow);
+	measure(AT_widen);
+	measure(AT_check_narrow);
 	for (w->room = 0; w->room <= PRINTED; w->room += PRINTED)
 		measure(AT_print_text);
 	for (w->number = 0; w->number < 258; w->number++) {
@@ -117,6 +120,11 @@ int main(int argc, char **argv)
 			measure(AT_read_text);
 		}
 		w->made.bytes[KMAP_TABLES_SIZE - 1] = 1;
+		w->narrow.bytes[KMAP_NARROW_SIZE - 1] = 1;
+		measure(AT_narrow);
+		measure(AT_widen);
+		measure(AT_check_narrow);
+		w->narrow.bytes[KMAP_NARROW_SIZE - 1] = 0;
 		measure(AT_check);
 		measure(AT_accepts);
 	}

@@ -14,7 +14,9 @@ struct work {
 	size_t length, room, size;
 	uint16_t events[258];
 	uint32_t number, cell, answer, answers[258];
-	struct kmap_tables made;
+	struct kmap_tables made, widened;
+	struct kmap_narrow_tables narrow;
+	struct kmap_wide wide;
 	struct kmap_console console;
 	struct kmap_fault fault;
 	struct kmap_text_fault text_fault;
@@ -25,6 +27,7 @@ struct work {
 };
 
 #define TABLES w->tables, KMAP_TABLES_SIZE
+#define NARROW w->narrow.bytes, KMAP_NARROW_SIZE
 
 /* CALL(NAME, CALLED) for each call, in the work to which `w` points: those over a keymap, and those of a number. */
 #define KEYMAP_CALLS(CALL) \
@@ -32,6 +35,9 @@ struct work {
 	CALL(check, kmap_check(TABLES, &w->fault)) \
 	CALL(accepts, kmap_accepts(TABLES, &w->finding)) \
 	CALL(print_text, kmap_print_text(TABLES, w->printed, w->room, &w->size)) \
+	CALL(narrow, kmap_narrow(TABLES, &w->narrow, &w->wide)) \
+	CALL(widen, kmap_widen(NARROW, &w->widened)) \
+	CALL(check_narrow, kmap_check_narrow(NARROW, &w->fault)) \
 	CALL(finding_words, kmap_finding_words(&w->finding, w->words, sizeof w->words)) \
 	CALL(start, (kmap_start(&w->console), 0)) \
 	CALL(deliver, kmap_deliver(TABLES, TABLES, &w->console, w->events, 258, w->answers, 258)) \
@@ -47,6 +53,8 @@ struct work {
 	CALL(text_fault_words, kmap_text_fault_words(w->number, w->words, sizeof w->words)) \
 	CALL(step, kmap_step(TABLES, &w->console, (uint16_t)w->number, &w->answer)) \
 	CALL(step_between, kmap_step_between(TABLES, TABLES, &w->console, (uint16_t)w->number, &w->answer)) \
+	CALL(step_narrow, kmap_step_narrow(NARROW, &w->console, (uint16_t)w->number, &w->answer)) \
+	CALL(step_between_narrow, kmap_step_between_narrow(NARROW, NARROW, &w->console, (uint16_t)w->number, &w->answer)) \
 	CALL(key_of_evdev, kmap_key_of_evdev(w->number))
 
 /* Whether the bytes of a sentence or a name are these, with the 0 behind them. */
@@ -94,6 +102,11 @@ static inline int wrong_call(struct work *w)
 	    && KMAP_IS_CHAR(w->answers[0]) && KMAP_CHAR(w->answers[0]) == 'A');
 	ANSWERS(kmap_modifiers(&w->console) == 0 && kmap_locks(&w->console) == 0 && kmap_pending(&w->console) == -1);
 	ANSWERS(kmap_step_between(TABLES, TABLES, &w->console, KMAP_LOAD, &w->answer) == KMAP_OK
+	    && w->answer == KMAP_NOKEY);
+	ANSWERS(kmap_narrow(TABLES, &w->narrow, &w->wide) == KMAP_OK && kmap_check_narrow(NARROW, &w->fault) == KMAP_OK);
+	ANSWERS(kmap_widen(NARROW, &w->widened) == KMAP_OK && w->widened.bytes[0] == w->made.bytes[0]);
+	ANSWERS(kmap_step_narrow(NARROW, &w->console, kmap_press(30), &w->answer) == KMAP_OK && w->answer == 'a');
+	ANSWERS(kmap_step_between_narrow(NARROW, NARROW, &w->console, KMAP_LOAD, &w->answer) == KMAP_OK
 	    && w->answer == KMAP_NOKEY);
 	ANSWERS(KMAP_PRESS(kmap_key_of_evdev(97)) == kmap_press(90) && kmap_release(90) == KMAP_RELEASE(90)
 	    && kmap_key_of_evdev(90) == -1);

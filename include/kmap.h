@@ -29,15 +29,16 @@
 extern "C" {
 #endif
 
-/* The length of a table file in bytes. A narrow file is shorter and has no place here. */
+/* The lengths of a table file and of a narrow file in bytes. A narrow file has room for characters up to 255 alone. */
 #define KMAP_TABLES_SIZE 15524
+#define KMAP_NARROW_SIZE 4139
 
 /*
  * What the calls answer. Where it isn't KMAP_OK, nothing was changed but the fault, the finding or the size that a call
  * tells.
  */
 #define KMAP_OK 0
-#define KMAP_BAD_LENGTH (-1) /* tables that aren't KMAP_TABLES_SIZE bytes */
+#define KMAP_BAD_LENGTH (-1) /* tables that aren't KMAP_TABLES_SIZE bytes, or narrow ones not KMAP_NARROW_SIZE */
 #define KMAP_BAD_EVENT (-2) /* a number that names no event */
 #define KMAP_NO_ROOM (-3) /* fewer places for answers than events, or too little room for what is put there */
 #define KMAP_FAULTY (-4) /* tables with a fault */
@@ -47,6 +48,7 @@ extern "C" {
 #define KMAP_BAD_KIND (-8) /* a number that names no kind of fault */
 #define KMAP_BAD_CODE (-9) /* a number that is the code of no action */
 #define KMAP_BAD_PLACE (-10) /* no slot or no column */
+#define KMAP_TOO_WIDE (-11) /* a character above 255, for which narrow tables have no room */
 
 /*
  * The events. Key codes are 0 to 127; any other number gives KMAP_NO_EVENT, which each call refuses. A press of a key
@@ -138,6 +140,18 @@ struct kmap_tables {
 	uint8_t bytes[KMAP_TABLES_SIZE];
 };
 
+/* The narrow tables of a keymap, as the bytes of a narrow file. */
+struct kmap_narrow_tables {
+	uint8_t bytes[KMAP_NARROW_SIZE];
+};
+
+/* The place of a character: a slot and a column, or an accent and the number of one of its characters. */
+struct kmap_wide {
+	uint8_t is_accent;
+	uint8_t row; /* the slot, or the index of the accent */
+	uint8_t number; /* the column; or 0 for the accent's own character, 1 + 2j the base of pair j, 2 + 2j its result */
+};
+
 /* A console between two events. Its members are the library's own. It may be copied as a whole. */
 struct kmap_console {
 	uint32_t word;
@@ -197,6 +211,8 @@ struct kmap_text_fault {
 static_assert(sizeof(struct kmap_console) == 132, "a console is 132 bytes");
 static_assert(sizeof(struct kmap_fault) == 16, "a fault is 16 bytes");
 static_assert(sizeof(struct kmap_tables) == 15524, "tables are 15,524 bytes");
+static_assert(sizeof(struct kmap_narrow_tables) == 4139, "narrow tables are 4,139 bytes");
+static_assert(sizeof(struct kmap_wide) == 3, "the place of a character is 3 bytes");
 static_assert(sizeof(struct kmap_finding) == 12, "a finding is 12 bytes");
 static_assert(sizeof(struct kmap_borne) == 2, "a bearer is 2 bytes");
 static_assert(sizeof(struct kmap_text_fault) == 24, "a fault of a text is 24 bytes");
@@ -204,6 +220,8 @@ static_assert(sizeof(struct kmap_text_fault) == 24, "a fault of a text is 24 byt
 _Static_assert(sizeof(struct kmap_console) == 132, "a console is 132 bytes");
 _Static_assert(sizeof(struct kmap_fault) == 16, "a fault is 16 bytes");
 _Static_assert(sizeof(struct kmap_tables) == 15524, "tables are 15,524 bytes");
+_Static_assert(sizeof(struct kmap_narrow_tables) == 4139, "narrow tables are 4,139 bytes");
+_Static_assert(sizeof(struct kmap_wide) == 3, "the place of a character is 3 bytes");
 _Static_assert(sizeof(struct kmap_finding) == 12, "a finding is 12 bytes");
 _Static_assert(sizeof(struct kmap_borne) == 2, "a bearer is 2 bytes");
 _Static_assert(sizeof(struct kmap_text_fault) == 24, "a fault of a text is 24 bytes");
@@ -251,7 +269,7 @@ static inline void kmap_from_kbio(const void *keymap, const void *accentmap, str
  * tables; else KMAP_TEXT_FAULT, and `fault` is the first fault.
  *
  * Needs: `length` bytes of `text`; `fault` aligned; the three apart.
- * At once: calls may share the text. Stack: 18,000 bytes.
+ * At once: calls may share the text. Stack: 3,000 bytes.
  */
 int32_t kmap_read_text(const uint8_t *text, size_t length, struct kmap_tables *tables, struct kmap_text_fault *fault);
 
@@ -264,6 +282,35 @@ int32_t kmap_read_text(const uint8_t *text, size_t length, struct kmap_tables *t
  * At once: calls may share the tables. Stack: 6,400 bytes.
  */
 int32_t kmap_print_text(const uint8_t *tables, size_t length, uint8_t *text, size_t room, size_t *size);
+
+/*
+ * Makes narrow tables of tables. KMAP_OK if no character is above 255; else KMAP_TOO_WIDE, and `wide` is the first one
+ * that is, the slots before the accents; KMAP_BAD_LENGTH, or else KMAP_FAULTY if these are no tables of a keymap.
+ *
+ * Narrow tables are checked and stepped over by the calls with `narrow` in their names. What else is asked of a keymap
+ * is asked of its tables, which kmap_widen makes again.
+ *
+ * Needs: `length` bytes of `tables`; the three apart. At once: calls may share the tables.
+ * Stack: 2,700 bytes.
+ */
+int32_t kmap_narrow(const uint8_t *tables, size_t length, struct kmap_narrow_tables *narrow, struct kmap_wide *wide);
+
+/*
+ * Makes the tables of a keymap of its narrow ones. KMAP_OK, KMAP_BAD_LENGTH, or else KMAP_FAULTY if these are no narrow
+ * tables of a keymap.
+ *
+ * Needs: `length` bytes of `narrow`; `tables` apart from them. At once: calls may share the narrow tables.
+ * Stack: 3,000 bytes.
+ */
+int32_t kmap_widen(const uint8_t *narrow, size_t length, struct kmap_tables *tables);
+
+/*
+ * Checks narrow tables as kmap_check checks tables.
+ *
+ * Needs: `length` bytes of `narrow`; `fault` aligned and apart from them.
+ * At once: calls may share the narrow tables. Stack: 1,100 bytes.
+ */
+int32_t kmap_check_narrow(const uint8_t *narrow, size_t length, struct kmap_fault *fault);
 
 /*
  * Checks whether a keymap is safe: no key has both a modifier or lock and a character among its cells. KMAP_OK if the
@@ -372,6 +419,25 @@ int32_t kmap_step_between(const uint8_t *first, size_t first_length, const uint8
  */
 int32_t kmap_deliver(const uint8_t *first, size_t first_length, const uint8_t *second, size_t second_length,
     struct kmap_console *console, const uint16_t *events, size_t n_events, uint32_t *answers, size_t n_answers);
+
+/*
+ * Delivers an event as kmap_step does, over narrow tables: the console is left and the answer is told as it does over
+ * the tables of which they were made. So these calls and those over the tables may follow each other.
+ *
+ * Needs: `length` bytes of `narrow`; `console` and `answer` aligned; the three apart.
+ * At once: calls with other consoles and answers, also over the same tables. Stack: 400 bytes.
+ */
+int32_t kmap_step_narrow(const uint8_t *narrow, size_t length, struct kmap_console *console, uint16_t event,
+    uint32_t *answer);
+
+/*
+ * The same as kmap_step_between does, between two keymaps whose tables are narrow.
+ *
+ * Needs: as many bytes of the tables as their lengths say; `console` and `answer` aligned; all apart, but tables may
+ * overlap each other. At once: calls with other consoles and answers, also over the same tables. Stack: 400 bytes.
+ */
+int32_t kmap_step_between_narrow(const uint8_t *first, size_t first_length, const uint8_t *second,
+    size_t second_length, struct kmap_console *console, uint16_t event, uint32_t *answer);
 
 /*
  * Which modifiers are on, as KMAP_LSHIFT to KMAP_META.

@@ -1,2 +1,3 @@
 pub mod Lists
+pub mod Quoted
 pub mod Shown

@@ -6,7 +6,9 @@
 #![tactic(auto)]
 
 mod lists;
+mod quoted;
 mod shown;
 
 pub use lists::{accent_name, accents, column_name, ranges};
+pub use quoted::is_quoted;
 pub use shown::{all_chars, first_shown, push_characters, shown_name, word};

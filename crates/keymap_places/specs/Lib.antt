@@ -1,5 +1,6 @@
 pub mod Placed
 pub mod LineOf
 pub mod Wanted
+pub mod Unicode
 pub mod Inner
 pub mod Types

@@ -10,9 +10,11 @@ mod last;
 pub mod laws;
 mod placed;
 mod text_line;
+mod unicode;
 mod wanted;
 
 pub use last::{LastDefinitions, last_definitions};
 pub use placed::{Defined, Placed, PlacedText, definitions};
 pub use text_line::{TextLine, TextLines};
+pub use unicode::{is_lone, is_unicode};
 pub use wanted::{DefinitionStart, FaultPlace, Wanted, wanted_at_fault};

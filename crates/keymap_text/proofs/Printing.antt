@@ -8,7 +8,6 @@ use Rattle.keymap_text.proofs.Common.{KeyDefinition, AccentDefinition, Defines, 
 use Rattle.keymap_text.proofs.Common.{last, of_slot, of_index, greatest, slots_needed, accents_needed, or_default}
 use Rattle.keymap_text.proofs.Common.{map_of, key_line, accent_line, printed, key_lines, accent_lines, Spells}
 use Rattle.keymap_text.proofs.Common.{ending_of_tokens, list_of}
-use lib.Utf8.{scalar, scalar_cases}
 use Rattle.keymap_core.specs.declared.action.Action.TheVariants.{DeadKey}
 use Rattle.keymap_core.specs.Bounds.{IsMap, IsCell, IsPair}
 use Rattle.keymap_text.proofs.Splitting.{split_none}
@@ -17,13 +16,9 @@ use Rattle.keymap_text.proofs.Folded.{last_none, last_more, greatest_none, great
 use Rattle.keymap_text.proofs.Lexed.{Lexes, Any, lexes_none, lexes_both}
 use Rattle.keymap_text.proofs.PrintedLines.{EachCell, EachPair, PrintsCell, PrintsName, PrintsCharacter, key_printed}
 use Rattle.keymap_text.proofs.PrintedLines.{accent_printed}
-use Rattle.keymap_text.proofs.Characters.{lexes_as, prints_rules}
+use Rattle.keymap_text.proofs.Characters.{lexes_as, prints_character}
 use Rattle.keymap_text.proofs.PrintedNames.{action_word, action_meaning}
 use Rattle.keymap_core.specs.declared.entry.Cell.TheVariants as cells
-
--- each character prints
-pub prints_character : (c : ℕ) → scalar c ≡ true → PrintsCharacter c
-prints_character c s = grind (arith, prints_rules, scalar_cases)
 
 -- a character is a cell
 cell_of_character : (t : Item) (c : ℕ) → character t ≡ Ok c → cell t ≡ Ok (cells.Char c)

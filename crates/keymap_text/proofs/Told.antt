@@ -6,7 +6,8 @@ use Rattle.keymap_text.specs.Definitions.{IsDefinition, definition_words}
 use Rattle.keymap_text.proofs.Lexed.{Lexes, NoWord}
 use Rattle.keymap_text.proofs.OneRow.{defined_is}
 use Rattle.keymap_text.proofs.PrintedLines.{slot_printed, accent_words_printed}
-use Rattle.keymap_text.proofs.Printing.{no_items, prints_character, prints_cells, prints_pairs, prints_name}
+use Rattle.keymap_text.proofs.Characters.{prints_character}
+use Rattle.keymap_text.proofs.Printing.{no_items, prints_cells, prints_pairs, prints_name}
 use Rattle.keymap_text.proofs.Verdicts.{items_of}
 
 -- the words are tokens, which define it

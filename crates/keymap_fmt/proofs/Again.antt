@@ -34,7 +34,7 @@ unfolding rendered_from
 none s u = line_end_read s.column u
 
 -- the parts stay
-parts_from : (s : State) (u : Standing) (ps : List PieceValue) → ArePieces u ps
+pub parts_from : (s : State) (u : Standing) (ps : List PieceValue) → ArePieces u ps
     → map part_and_bytes (pieces_after 0 u (rendered_from s ps)) ≡ map part_and_bytes ps
 parts_from s u ps no_piece = ap (map part_and_bytes) (none s u)
 parts_from s u qs (one_piece {ps = ps} p r h more) =
@@ -49,7 +49,7 @@ unfolding rendered_from
 written_again s p t qs ps e f = grind (arith, common_steps)
 
 -- the bytes of pieces that are read again are the same
-again_from : (s : State) (u : Standing) (ps : List PieceValue) → IsAt u s.column → ArePieces u ps
+pub again_from : (s : State) (u : Standing) (ps : List PieceValue) → IsAt u s.column → ArePieces u ps
     → rendered_from s (pieces_after 0 u (rendered_from s ps)) ≡ rendered_from s ps
 again_from s u ps a no_piece = ap (rendered_from s) (none s u)
 again_from s u qs a (one_piece {ps = ps} p r h more) =

@@ -91,6 +91,7 @@ pub record TokenAt (text : List ℕ) (at : ℕ) (s : Standing) (t : TokenValue) 
   pub some : 0 < length t.bytes
   pub start : t.start ≡ at
   pub wide : width t.kind t.bytes ≤ length t.bytes
+  pub short : t.kind ≡ Word → length t.bytes ≤ 32
   pub pieces : pieces_after 0 s (drop at text)
       ≡ record { part = Code t.kind; bytes = t.bytes; standing = s }
       ∷ pieces_after 0 Beside (drop (at + length t.bytes) text)
@@ -123,7 +124,8 @@ module _ (text : List ℕ) (at : ℕ) (s : Standing) (l : at < length text)
   token_there : (kind : TokenKind) (n : ℕ) → front_of c rest ≡ Found kind n
       → TokenAt text at s (token_before kind (c ∷ take n rest) at (drop n rest))
   token_there kind n f =
-      let m : n ≤ length rest = (front_fits c rest kind n f).within in
+      let fits = front_fits c rest kind n f in
+      let m : n ≤ length rest = fits.within in
       let size : length (take n rest) ≡ n = length-take-le n rest m in
       let far : drop n rest ≡ drop (at + suc (length (take n rest))) text =
       drop-drop n (suc at) text ∙ ap (λ i. drop i text) (omega (arith, size)) in
@@ -132,6 +134,7 @@ module _ (text : List ℕ) (at : ℕ) (s : Standing) (l : at < length text)
         some = omega arith;
         start = refl;
         wide = token_width kind c n rest f;
+        short = λ w. let few : n < 32 = fits.short w in omega (arith, size, few);
         pieces = ap (pieces_after 0 s) front ∙ read_token s c rest kind n f
             ∙ ap (λ (ps : List PieceValue). record { part = Code kind; bytes = c ∷ take n rest; standing = s } ∷ ps)
             (read_after n Beside rest ∙ ap (pieces_after 0 Beside) far);
@@ -186,6 +189,7 @@ module _ (text : List ℕ) (at : ℕ) (s : Standing) (l : at < length text)
         ends = omega (arith, k.some, k.start, f);
         within = omega (arith, k.within, k.start, f);
         bytes = k.wide;
+        short = k.short;
         others = k.pieces ∙ ap (λ n. record { part = Code t.kind; bytes = t.slice.now; standing = s }
             ∷ pieces_after 0 Beside (drop n text)) (omega (arith, k.start, f));
       }

@@ -7,5 +7,8 @@ pub mod Again
 pub mod Spelling
 pub mod Finding
 pub mod Writing
+pub mod Changed
+pub mod SameRow
+pub mod Quoting
 pub mod Separate
 pub mod Comments

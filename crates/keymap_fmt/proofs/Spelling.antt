@@ -5,7 +5,7 @@ use Rattle.keymap_fmt.proofs.Common.{Ok, nat_tests, flat_map, TextFaultKind, Tok
 use Rattle.keymap_fmt.proofs.Common.{AtTop, Part, Comment, Code, is_blank, stays_on_line, leading, front_of, Front}
 use Rattle.keymap_fmt.proofs.Common.{Skipped, Found, Refused, Unfinished, TokenValue, tokens_after, PieceValue}
 use Rattle.keymap_fmt.proofs.Common.{pieces_after, pieces, behind, before, after, line_end, start, rendered_from}
-use Rattle.keymap_fmt.proofs.Common.{formatted, part_and_bytes, leading_pass, leading_fail, skipped_by}
+use Rattle.keymap_fmt.proofs.Common.{formatted, rendered, part_and_bytes, leading_pass, leading_fail, skipped_by}
 use Rattle.keymap_text.specs.Meaning.{list_of, ending_of_tokens, tokens, items, item_of, ending, Spells}
 use Rattle.keymap_text.specs.Rows.{IsRow}
 use Rattle.keymap_text.specs.Words.{item}
@@ -97,7 +97,7 @@ pub tokens_of_pieces : (text : List ℕ)
 tokens_of_pieces text = piece_tokens text 0 0 AtTop
 
 -- tokens are told by the parts
-in_parts : (ps : List PieceValue)
+pub in_parts : (ps : List PieceValue)
     → flat_map (λ (p : Part × List ℕ). token_in p.0 p.1) (map part_and_bytes ps) ≡ flat_map token_of ps
 in_parts [] = refl
 in_parts (p ∷ ps) = ap (λ (ts : List (TokenKind × List ℕ)). token_in p.part p.bytes ++ ts) (in_parts ps)
@@ -114,7 +114,7 @@ one_more : {A : Type 0} (x : A) (xs ys : List A) → xs ≡ ys → x ∷ xs ≡ 
 one_more {A = A} x xs ys h = ap (λ (zs : List A). x ∷ zs) h
 
 -- equal kinds and bytes are equal items
-item_of_both : (ts : List TokenValue)
+pub item_of_both : (ts : List TokenValue)
     → map (λ (p : TokenKind × List ℕ). item p.0 p.1) (map kind_and_bytes ts) ≡ map item_of ts
 item_of_both [] = refl
 item_of_both (t ∷ ts) = one_more (item t.kind t.bytes) _ _ (item_of_both ts)
@@ -194,14 +194,14 @@ whole_from s u qs (one_piece {ps = ps} p r h more) =
     whole_blanks (before s p.part p.bytes p.standing) _ (before_blanks s p.part p.bytes p.standing)
     (whole_piece s p.part p.bytes ps r (whole_from (after s p.part p.bytes) (behind p.part) ps more))
 
-formatted_whole : (text : List ℕ) → (end : ℕ) × (ending (formatted text) ≡ Ok end)
+pub rendered_whole : (ps : List PieceValue) → ArePieces AtTop ps → (end : ℕ) × (ending (rendered ps) ≡ Ok end)
 unfolding IsWhole
-formatted_whole text = whole_from start AtTop (pieces text) (text_pieces text 0 AtTop) 0
+rendered_whole ps h = whole_from start AtTop ps h 0
 
 -- the formatted text spells what the text spells
 pub keymap_stays : (text : List ℕ) (m : MapValue) → Spells text m → Spells (formatted text) m
 keymap_stays text m h =
-    let end = formatted_whole text in
+    let end = rendered_whole (pieces text) (text_pieces text 0 AtTop) in
     record {
       definitions = h.definitions;
       row = subst (λ is. IsRow is h.definitions) (sym (items_stay text)) h.row;

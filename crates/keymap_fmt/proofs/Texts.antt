@@ -73,7 +73,7 @@ no_space : (c : ℕ) → is_blank c ≡ false → is_space c ≡ false
 no_space c h = grind (arith, nat_tests)
 
 -- a token of a text reads as that token
-token_reads : (c n : ℕ) (kind : TokenKind) (bytes : List ℕ) → front_of c bytes ≡ Found kind n
+pub token_reads : (c n : ℕ) (kind : TokenKind) (bytes : List ℕ) → front_of c bytes ≡ Found kind n
     → ReadsToken kind (c ∷ take n bytes)
 token_reads c n kind bytes h =
     let t = stands_alone c n kind bytes h in

@@ -3,5 +3,6 @@ pub mod Layout
 pub mod Formatted
 pub mod Refused
 pub mod Same
+pub mod Quoted
 pub mod Inner
 pub mod Types

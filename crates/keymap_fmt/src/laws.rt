@@ -7,7 +7,9 @@ ghost use Rattle.keymap_fmt.specs.Types.{Standing as StandingValue, TokenKind as
 ghost use Rattle.keymap_fmt.specs.Types.{AtTop, Beside, Below, Apart};
 ghost use Rattle.keymap_text.specs.Lexical.{is_blank};
 ghost use Rattle.keymap_fmt.specs.Same.{part_and_bytes, kind_and_bytes, token_of};
-ghost use Rattle.keymap_text.specs.Meaning.{tokens, Spells};
+ghost use Rattle.keymap_text.specs.Meaning.{items, tokens, Spells};
+ghost use Rattle.keymap_fmt.specs.Quoted.{AreSameItems, comment_of, laid_by, quoted};
+ghost use Rattle.keymap_fmt.specs.declared.quoted.Characters.{Characters as CharactersValue};
 ghost use Rattle.keymap_core.specs.Maps.{MapValue};
 ghost use Rattle.std.specs.List.{flat_map};
 
@@ -32,13 +34,29 @@ pub fn tokens_stay()
     ensures { (text : List ℕ) → map kind_and_bytes (tokens (formatted text)) ≡ map kind_and_bytes (tokens text) }
 {}
 
-/// What is formatted spells the keymap that the text spells, and no other.
+/// Either layout of a text spells the keymap that the text spells, and no other.
 pub fn keymap_stays()
-    ensures spells { (text : List ℕ) (m : MapValue) → Spells text m → Spells (formatted text) m }
-    ensures no_other { (text : List ℕ) (m n : MapValue) → Spells text m → Spells (formatted text) n → n ≡ m }
+    ensures spells { (how : CharactersValue) (text : List ℕ) (m : MapValue) → Spells text m
+        → Spells (laid_by how text) m }
+    ensures no_other { (how : CharactersValue) (text : List ℕ) (m n : MapValue) → Spells text m
+        → Spells (laid_by how text) n → n ≡ m }
 {
     one_meaning();
 }
+
+/// What is laid out with its characters between apostrophes means the same, token by token, and has the same comments
+/// in the same places between them. It is in the layout.
+pub fn quoting_says_the_same()
+    ensures tokens { (text : List ℕ) → AreSameItems (items text) (items (quoted text)) }
+    ensures comments { (text : List ℕ) → map comment_of (pieces (quoted text)) ≡ map comment_of (pieces text) }
+    ensures layout { (text : List ℕ) → formatted (quoted text) ≡ quoted text }
+{}
+
+/// What has its characters between apostrophes is left alone when it is laid out so again.
+#[tactic(auto, using(crate::proofs::Quoting::quoted_again))]
+pub fn quoting_again_changes_nothing()
+    ensures { (text : List ℕ) → quoted (quoted text) ≡ quoted text }
+{}
 
 /// What is formatted is left alone when it is formatted again.
 #[tactic(auto, using(crate::proofs::Again::formatted_again))]

@@ -9,6 +9,8 @@
 pub mod laws;
 mod layout;
 mod piece;
+mod quoted;
 mod whole;
 
+pub use quoted::Characters;
 pub use whole::{FormatError, format};

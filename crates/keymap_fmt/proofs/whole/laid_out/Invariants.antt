@@ -1,4 +1,5 @@
-use Rattle.keymap_fmt.proofs.Common.{length, ◌-◌, ◌≡◌, ◌≤◌, ◌++◌, drop, pieces_after, rendered_from, formatted}
+use Rattle.keymap_fmt.proofs.Common.{length, ◌-◌, ◌≡◌, ◌≤◌, ◌++◌, drop, pieces, pieces_after, rendered, rendered_from}
+use Rattle.keymap_fmt.specs.Quoted.{written_from}
 use Rattle.std.proofs.Common.{vec_len}
 use Rattle.keymap_fmt.proofs.whole.laid_out.Given as goal
 
@@ -7,7 +8,9 @@ abbrev pub invariant-loop-piece : goal.invariant-loop-piece
 invariant-loop-piece l = record {
   within : l.at ≤ length l.text;
   column : l.state.column ≤ vec_len l.laid;
-  same : l.laid.items ++ rendered_from l.state (pieces_after 0 l.standing (drop l.at l.text)) ≡ formatted l.text;
+  same : l.laid.items
+      ++ rendered_from l.state (written_from l.quoting l.left (pieces_after 0 l.standing (drop l.at l.text)))
+      ≡ rendered (written_from l.quoting 0 (pieces l.text));
 }
 
 abbrev pub decreases-loop-piece : goal.decreases-loop-piece

@@ -8,7 +8,7 @@ _kmap_words() {
     search) echo '--next -h --help' ;;
     diff) echo '-h --help' ;;
     lint) echo '--strict --name -h --help' ;;
-    fmt) echo '--check --print -h --help' ;;
+    fmt) echo '--check --print --quote -h --help' ;;
     play) echo '--typed --next -h --help' ;;
     type) echo '--text --missing -h --help' ;;
     cover) echo '-h --help' ;;

@@ -41,6 +41,7 @@ complete -c kmap -n '__kmap_after lint' -s h -l help -d 'Print help'
 
 complete -c kmap -n '__kmap_after fmt' -l check -d 'Writes nothing, and fails where a text is not in the layout'
 complete -c kmap -n '__kmap_after fmt' -l print -d 'Prints the texts in the layout instead'
+complete -c kmap -n '__kmap_after fmt' -l quote -d 'Writes characters between apostrophes, where they are seen there'
 complete -c kmap -n '__kmap_after fmt' -s h -l help -d 'Print help'
 
 complete -c kmap -n '__kmap_after play' -l typed -d 'Prints the typed bytes instead'

@@ -104,6 +104,7 @@ if is_there bash; then
     in_bash '' kmap lint letter le
     in_bash 'fmt' kmap f
     in_bash '--check' kmap fmt --c
+    in_bash '--quote' kmap fmt --check --q
     in_bash '--text --missing --help -h' kmap type letter -
     in_bash 'compile check cover' kmap help c
     in_bash '--help --version' kmap --
@@ -128,6 +129,7 @@ if is_there fish; then
     in_fish 'letter line' 'kmap lint letter l'
     in_fish 'fmt' 'kmap f'
     in_fish '--check' 'kmap fmt --c'
+    in_fish '--quote' 'kmap fmt --check --q'
     in_fish '--text --missing --help -h' 'kmap type letter -'
     in_fish '' 'kmap type letter --text le'
     in_fish 'compile check cover' 'kmap help c'

@@ -2,6 +2,7 @@
 use crate::inputs::is_standard_input;
 use clap::error::{Error, ErrorKind};
 use clap::{Arg, ArgAction, ArgMatches, Command};
+use keymap_fmt::Characters;
 use std::alloc::{AllocError, Global};
 use std::convert::AsStr;
 
@@ -112,6 +113,10 @@ static SUBCOMMANDS: [Described; 11] = [
                 "print",
             ),
             Flag("print", "Prints the texts in the layout instead"),
+            Flag(
+                "quote",
+                "Writes characters between apostrophes, where they are seen there",
+            ),
         ],
     },
     Described {
@@ -351,6 +356,7 @@ pub(crate) enum Request<'m, 'a> {
     Fmt {
         texts: &'m [&'a str],
         mode: FmtMode,
+        characters: Characters,
     },
     Search {
         text: &'a str,
@@ -427,9 +433,15 @@ fn fmt_request<'m, 'a>(words: &'m ArgMatches<'a>) -> Option<Request<'m, 'a>> {
     } else {
         FmtMode::Write
     };
+    let characters = if words.get_flag("quote") {
+        Characters::Quoted
+    } else {
+        Characters::Kept
+    };
     Some(Request::Fmt {
         texts: words.get_strs("TEXT")?,
         mode,
+        characters,
     })
 }
 

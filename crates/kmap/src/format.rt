@@ -5,6 +5,7 @@ use crate::output::{Faults, Output, tell};
 use crate::program::{Failure, FileFault, is_of_output, of_many, report, report_name, well};
 use crate::replace::{Old, ReplaceFault, replace};
 use keymap_core::{FromStd, read_up_to};
+use keymap_fmt::Characters;
 use kmap_runs::{RunError, fmt_print_run, fmt_run};
 use std::alloc::{AllocError, Global};
 use std::fs;
@@ -19,15 +20,16 @@ const SUFFIX: &str = ".kmap-fmt";
 pub(crate) fn format_texts<'a>(
     rt: &HostRuntime,
     mode: FmtMode,
+    characters: Characters,
     texts: &[&'a str],
     faults: &mut Faults,
 ) -> Result<bool, Failure<'a>> {
     let mut well = true;
     for text in texts {
         let outcome = match mode {
-            FmtMode::Write => return write_texts(rt, texts, faults),
-            FmtMode::Check => check_one(rt, text),
-            FmtMode::Print => print_one(rt, text),
+            FmtMode::Write => return write_texts(rt, characters, texts, faults),
+            FmtMode::Check => check_one(rt, characters, text),
+            FmtMode::Print => print_one(rt, characters, text),
         };
         well = of_many(rt.alloc(), outcome, faults)? && well;
     }
@@ -38,13 +40,14 @@ pub(crate) fn format_texts<'a>(
 /// told which texts were replaced before.
 fn write_texts<'a>(
     rt: &HostRuntime,
+    characters: Characters,
     texts: &[&'a str],
     faults: &mut Faults,
 ) -> Result<bool, Failure<'a>> {
     let mut replaced = Vec::new(rt.alloc());
     let mut well = true;
     for text in texts {
-        match write_one(rt, text, &mut replaced) {
+        match write_one(rt, characters, text, &mut replaced) {
             Err(Failure::NoReader) => well = false,
             Err(Failure::Command(None, error)) if is_of_output(&error) => {
                 report(rt.alloc(), &Failure::Command(Some(text), error), faults);
@@ -67,14 +70,15 @@ fn report_replaced(rt: &HostRuntime, replaced: &[&str], faults: &mut Faults) {
 /// Writes a text anew if it isn't in the layout, and keeps its name.
 fn write_one<'a>(
     rt: &HostRuntime,
+    characters: Characters,
     text: &'a str,
     replaced: &mut Vec<&'a str>,
 ) -> Result<bool, Failure<'a>> {
     if is_standard_input(text) {
-        return print_one(rt, text);
+        return print_one(rt, characters, text);
     }
     let (old, file) = regular(rt, text)?;
-    match laid_out(rt, text, buffered(rt, file)?)? {
+    match laid_out(rt, characters, text, buffered(rt, file)?)? {
         Some(laid) => well(rewrite(rt, text, &Old::Read(old), laid.as_slice(), replaced)),
         None => Ok(true),
     }
@@ -127,8 +131,12 @@ fn regular<'a>(rt: &HostRuntime, text: &'a str) -> Result<(Metadata, File), Fail
 }
 
 /// Whether a text is in the layout. If not, its name is told.
-fn check_one<'a>(rt: &HostRuntime, text: &'a str) -> Result<bool, Failure<'a>> {
-    let is_laid = laid_out(rt, text, given(rt, text)?)?.is_none();
+fn check_one<'a>(
+    rt: &HostRuntime,
+    characters: Characters,
+    text: &'a str,
+) -> Result<bool, Failure<'a>> {
+    let is_laid = laid_out(rt, characters, text, given(rt, text)?)?.is_none();
     if !is_laid {
         tell_name(rt, text)?;
     }
@@ -140,20 +148,25 @@ fn tell_name<'a>(rt: &HostRuntime, name: &str) -> Result<(), Failure<'a>> {
     tell(rt, line.as_bytes())
 }
 
-fn print_one<'a>(rt: &HostRuntime, text: &'a str) -> Result<bool, Failure<'a>> {
+fn print_one<'a>(
+    rt: &HostRuntime,
+    characters: Characters,
+    text: &'a str,
+) -> Result<bool, Failure<'a>> {
     let mut source = given(rt, text)?;
     let mut out = Output::new(rt);
-    let outcome = fmt_print_run(rt.alloc(), &mut source, &mut out);
+    let outcome = fmt_print_run(rt.alloc(), &mut source, characters, &mut out);
     well(out.file_outcome(text, outcome))
 }
 
 /// The layout of a text where that differs from it.
 fn laid_out<'a, F: Read + Drop>(
     rt: &HostRuntime,
+    characters: Characters,
     text: &'a str,
     mut source: Source<F>,
 ) -> Result<Option<Vec<u8>>, Failure<'a>> {
-    match fmt_run(rt.alloc(), &mut source) {
+    match fmt_run(rt.alloc(), &mut source, characters) {
         Ok(laid) => Ok(laid),
         Err(error) => Err(Failure::Command(Some(text), error)),
     }

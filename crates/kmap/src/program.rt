@@ -306,7 +306,11 @@ fn answer<'a>(
             name,
             is_strict,
         } => lint(rt, texts, name, is_strict, faults),
-        Request::Fmt { texts, mode } => format_texts(rt, mode, texts, faults),
+        Request::Fmt {
+            texts,
+            mode,
+            characters,
+        } => format_texts(rt, mode, characters, texts, faults),
         Request::Search { text, next } => search(rt, text, next, faults),
         Request::Diff { text, next } => diff(rt, text, next, faults),
         Request::Dump { tables, narrow } => well(dump(rt, tables, narrow)),

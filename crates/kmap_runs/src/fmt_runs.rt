@@ -7,7 +7,7 @@ ghost use Rattle.kmap_runs.specs.Runs.{blames_writer};
 use crate::fault_line::{CommandError, RunError};
 use crate::inputs::read_text_bytes;
 use keymap_core::{Read, Write, write_text};
-use keymap_fmt::{FormatError, format};
+use keymap_fmt::{Characters, FormatError, format};
 use std::alloc::Global;
 
 fn format_failure(error: FormatError) -> CommandError
@@ -24,28 +24,33 @@ fn format_failure(error: FormatError) -> CommandError
 fn read_and_laid_out<R: Read>(
     alloc: Global,
     reader: &mut R,
+    characters: Characters,
 ) -> Result<(Vec<u8>, Vec<u8>), CommandError>
     ensures reads { MatchResult result
-        (λ r. spec.LaysOut (R.remaining reader.old) (R.remaining reader.new) r.0.items r.1.items)
-        (spec.RefusesLayout (R.remaining reader.old) (R.remaining reader.new)) }
+        (λ r. spec.LaysOut characters (R.remaining reader.old) (R.remaining reader.new) r.0.items r.1.items)
+        (spec.RefusesLayout characters (R.remaining reader.old) (R.remaining reader.new)) }
     ensures failed { R.has_failed reader.new ≡ (blames_text (run_of result) || R.has_failed reader.old) }
 {
     let text = read_text_bytes(alloc, reader)?;
-    match format(alloc, text.as_slice()) {
+    match format(alloc, text.as_slice(), characters) {
         Ok(laid) => Ok((text, laid)),
         Err(error) => Err(format_failure(error)),
     }
 }
 
 /// Reads a text, and answers its layout where that differs from it.
-pub fn fmt_run<R: Read>(alloc: Global, reader: &mut R) -> Result<Option<Vec<u8>>, CommandError>
+pub fn fmt_run<R: Read>(
+    alloc: Global,
+    reader: &mut R,
+    characters: Characters,
+) -> Result<Option<Vec<u8>>, CommandError>
     ensures run { MatchResult result
-        (λ told. MatchOption told (spec.IsInLayout (R.remaining reader.old) (R.remaining reader.new))
-        (λ laid. spec.ChangesText (R.remaining reader.old) (R.remaining reader.new) laid.items))
-        (spec.RefusesLayout (R.remaining reader.old) (R.remaining reader.new)) }
+        (λ told. MatchOption told (spec.IsInLayout characters (R.remaining reader.old) (R.remaining reader.new))
+        (λ laid. spec.ChangesText characters (R.remaining reader.old) (R.remaining reader.new) laid.items))
+        (spec.RefusesLayout characters (R.remaining reader.old) (R.remaining reader.new)) }
     ensures reader_failed { R.has_failed reader.new ≡ (blames_text (run_of result) || R.has_failed reader.old) }
 {
-    let (text, laid) = read_and_laid_out(alloc, reader)?;
+    let (text, laid) = read_and_laid_out(alloc, reader, characters)?;
     if text.as_slice() == laid.as_slice() {
         Ok(None)
     } else {
@@ -57,14 +62,15 @@ pub fn fmt_run<R: Read>(alloc: Global, reader: &mut R) -> Result<Option<Vec<u8>>
 pub fn fmt_print_run<R: Read, W: Write>(
     alloc: Global,
     reader: &mut R,
+    characters: Characters,
     writer: &mut W,
 ) -> Result<(), CommandError>
-    ensures run { spec.PrintsLayout (R.remaining reader.old) (R.remaining reader.new) (W.contents writer.old)
+    ensures run { spec.PrintsLayout characters (R.remaining reader.old) (R.remaining reader.new) (W.contents writer.old)
         (W.contents writer.new) result }
     ensures reader_failed { R.has_failed reader.new ≡ (blames_text (run_of result) || R.has_failed reader.old) }
     ensures writer_failed { W.has_failed writer.new ≡ (blames_writer (run_of result) || W.has_failed writer.old) }
 {
-    let (_, laid) = read_and_laid_out(alloc, reader)?;
+    let (_, laid) = read_and_laid_out(alloc, reader, characters)?;
     match write_text(writer, laid.as_slice()) {
         Ok(()) => Ok(()),
         Err(fault) => Err(CommandError::Run(RunError::Write(fault))),

@@ -5,7 +5,7 @@ use crate::calls::outcome::{Outcome, ended, ended_keeping, ended_untouched, is_t
 use keymap_check::check;
 use keymap_core::Write;
 use keymap_draw::{Board, picture};
-use keymap_fmt::format;
+use keymap_fmt::{Characters, format};
 use keymap_lint::{Lint, diagnostics};
 use keymap_lint_text::lint_text;
 use kmap_runs::type_sentence;
@@ -64,7 +64,7 @@ fn tells_diagnostics<W: Write>(alloc: Global, marks: &mut W) -> Result<Outcome, 
 
 fn formats<W: Write>(alloc: Global, marks: &mut W) -> Outcome {
     mark(marks);
-    let given = format(alloc, TEXT);
+    let given = format(alloc, TEXT, Characters::Kept);
     mark(marks);
     ended(&given, matches!(&given, Ok(laid) if !laid.is_empty()))
 }

@@ -83,7 +83,7 @@ A warning where it never sticks:
 A search for what sticks that gives up:
   $ awk 'BEGIN {
   >     split("lshift rshift lctrl rctrl lalt ralt", name, " ")
-  >     for (key = 0; key < 48; key++) {
+  >     for (key = 46; key < 94; key++) {
   >         cell = name[key % 6 + 1]
   >         print key, cell, cell, cell, cell, cell, cell, cell, cell, "O"
   >     }

@@ -15,7 +15,7 @@ use Rattle.std.proofs.lemmas.List.Elements.{All-cons, All-contains, All-nil, All
 use Rattle.std.proofs.lemmas.Option.{get_or_from_slice_get}
 use Rattle.std.specs.Prelude.{Contains, Ok, slice_get}
 use Rattle.keymap_core.specs.Accents.{AccentValue, blank, own_of}
-use Rattle.keymap_core.specs.Maps.{accent_at}
+use Rattle.keymap_core.specs.Maps.{accent_at, entry_at}
 use Rattle.keymap_core.proofs.Shared.{find-true}
 use Rattle.keymap_text.specs.Items.{character}
 use Rattle.keymap_text.specs.Lexical.{TokenValue}
@@ -25,12 +25,14 @@ use Rattle.keymap_places.specs.Placed.{places_of}
 use Rattle.keymap_text.specs.Rows.{ArePairs, Definition, Defines, of_accent, of_key}
 use Rattle.keymap_places.proofs.Shared.{accent_in_force, accent_tokens, own_at, pair_at}
 use Rattle.keymap_lint.specs.Kinds.{base_at, is_above, is_zero, paren}
+use Rattle.keymap_lint.specs.Letters.{is_behind, is_slot_behind}
 use Rattle.keymap_lint.specs.Lists.{spelled_by}
 use Rattle.keymap_lint.specs.Positions.{BeginsAt, BeginsInForceAt, HasCharacter, HasPair, HasToken, IsPairAgain}
-use Rattle.keymap_lint.specs.Positions.{IsReplaced}
-use Rattle.keymap_lint.specs.Spelled.{is_last, offset_at}
+use Rattle.keymap_lint.specs.Positions.{IsLockLetter, IsReplaced}
+use Rattle.keymap_lint.specs.Shifted.{is_small, is_small_in_force, is_small_slot}
+use Rattle.keymap_lint.specs.Spelled.{is_in_force, is_last, offset_at}
 use Rattle.keymap_lint.specs.Types.{Accent, Defined}
-use Rattle.keymap_lint.proofs.InForce.{last_there, nothing, token_at}
+use Rattle.keymap_lint.proofs.InForce.{last_there, lock_there, nothing, token_at}
 
 -- ---- where a definition begins
 
@@ -161,6 +163,45 @@ unused_there text m rows by p e =
     )
     go (Slot slot) above None f same = absurd (true≢false (sym same))
     go (Accent i) above o f same = absurd (true≢false (sym above))
+
+-- a definition of a slot below 128
+pub behind_there : (text : List ℕ) (m : MapValue) (rows : List Row) → IsSpelledBy text m rows → (first : ℕ) (p : Placed)
+    → Contains (places_of rows) p → is_behind (spelled_by text m rows) first p ≡ true
+    → (slot : ℕ) × BeginsAt text (spelled_by text m rows) (Slot slot) (offset_at (spelled_by text m rows) p.first)
+behind_there text m rows by first p among passes = go p.what refl passes
+  where
+    t : Spelled
+    t = spelled_by text m rows
+
+    go : (w : Defined) → p.what ≡ w → is_slot_behind t first w ≡ true
+        → (slot : ℕ) × BeginsAt text t (Slot slot) (offset_at t p.first)
+    go (Slot slot) same h = (slot, begins_at text m rows by (Slot slot) p among same)
+    go (Accent i) same h = absurd (true≢false (sym h))
+
+-- the lock letter of the definition in force of a slot with a letter that caps lock leaves small
+pub small_there : (text : List ℕ) (m : MapValue) (rows : List Row) → IsSpelledBy text m rows → (p : Placed)
+    → is_small_in_force (spelled_by text m rows) p ≡ true
+    → (slot : ℕ) × (is_small (spelled_by text m rows) slot ≡ true)
+    × HasToken text (offset_at (spelled_by text m rows) (p.first + 9)) (IsLockLetter (entry_at m slot).flag)
+small_there text m rows by p passes =
+    let both = and_parts (is_in_force t p) (is_small_slot t p.what) passes in
+    go p.what both.1 (last_of p.what (places_of rows)) refl both.0
+  where
+    t : Spelled
+    t = spelled_by text m rows
+
+    go : (w : Defined) → is_small_slot t w ≡ true → (o : Option Placed) → last_of w (places_of rows) ≡ o
+        → is_last p o ≡ true
+        → (slot : ℕ) × (is_small t slot ≡ true)
+        × HasToken text (offset_at t (p.first + 9)) (IsLockLetter (entry_at m slot).flag)
+    go (Slot slot) small (Some q) f same = (
+      slot,
+      small,
+      subst (λ (n : ℕ). HasToken text (offset_at t (n + 9)) (IsLockLetter (entry_at m slot).flag))
+          (eqb-true q.first p.first same) (lock_there text m rows by slot q f),
+    )
+    go (Slot slot) small None f same = absurd (true≢false (sym same))
+    go (Accent i) small o f same = absurd (true≢false (sym small))
 
 -- ---- parts of an accent's definition
 

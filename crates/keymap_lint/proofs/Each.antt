@@ -19,7 +19,10 @@ use Rattle.keymap_lint.specs.Kinds.{at, nowhere, no_key, no_shift, has_keys, has
 use Rattle.keymap_lint.specs.Kinds.{half_at, half_defined, selector, is_some_in, missing_slots, nul_keys, defined_again}
 use Rattle.keymap_lint.specs.Kinds.{dead_key, dead_key_by, zero_accents, pair_by, pairs_by, pairs_again, base_at, paren}
 use Rattle.keymap_lint.specs.Kinds.{again_by, bare_digits, digit_by, is_given, is_zero, unused_by, unused_half, zero_by}
-use Rattle.keymap_lint.specs.Lists.{all_of, of_keys, of_definitions, of_rest}
+use Rattle.keymap_lint.specs.Letters.{gap, gap_before, gap_by, gaps, is_behind}
+use Rattle.keymap_lint.specs.Lists.{all_of, of_keys, of_letters, of_definitions, of_rest}
+use Rattle.keymap_lint.specs.Shifted.{all_exchanged, exchanged, exchanged_by, is_exchanged, is_small_in_force, no_caps}
+use Rattle.keymap_lint.specs.Shifted.{no_caps_by, small_slots}
 use Rattle.keymap_lint.specs.Spelled.{offset_at, content}
 use Rattle.keymap_lint.specs.declared.diagnostic.Kind.TheVariants as kinds
 
@@ -73,6 +76,13 @@ pub record OfEach (P : Diagnostic → Type 0) (t : Spelled) (cells : List CellIn
       → P (at c.span.start (kinds.HalfDefined s (is_some_in (nul_keys t fs))))
   pub again : (p q : Placed) → Contains t.definitions p → last_of p.what t.definitions ≡ Some q
       → (q.first == p.first) ≡ false → P (at (offset_at t p.first) (kinds.DefinedAgain p.what (offset_at t q.first)))
+  pub gap : (first : ℕ) (p : Placed) → find (is_behind t first) t.definitions ≡ Some p
+      → P (at (offset_at t p.first) kinds.Gap)
+  pub exchanged : (slot : ℕ) (p : Placed) → last_of (Slot slot) t.definitions ≡ Some p → is_exchanged t slot ≡ true
+      → P (at (offset_at t (p.first + 1)) (kinds.Exchanged slot (character_of (cell_at t.map slot 0))
+      (character_of (cell_at t.map slot 1))))
+  pub caps : (p : Placed) → find (is_small_in_force t) t.definitions ≡ Some p
+      → P (at (offset_at t (p.first + 9)) kinds.NoCaps)
   pub dead : (c : CellInForce) → find (is_missing t) cells ≡ Some c
       → P (at c.span.start (kinds.DeadKey (any_below (is_defined t) 15)))
   pub zero : (i : ℕ) (p : Placed) → last_of (Accent i) t.definitions ≡ Some p
@@ -107,9 +117,11 @@ of_all P t cells fs h =
     (all_flat P _ (mixed_key t) mixed fs h.mixed))
     (all_either (λ o. All P (option_to_list o)) (is_some_in (missing_slots t)) (half_at t _ (find (selects t) cells))
     None halves none))
-    (join (defined_again t ++ dead_key t cells) (zero_accents t cells)
-    (join (defined_again t) (dead_key t cells)
+    (join ((defined_again t ++ of_letters t) ++ dead_key t cells) (zero_accents t cells)
+    (join (defined_again t ++ of_letters t) (dead_key t cells)
+    (join (defined_again t) (of_letters t)
     (all_flat P (Contains t.definitions) (again t) againby t.definitions (λ k d l. Contains-get_or t.definitions k d l))
+    letters)
     (all_some P (dead_key_by t) (find (is_missing t) cells) none (λ c e. all_one P _ (h.dead c e))))
     (all_gathered P (zero_accent t cells) 15 zero)))
     (join (pairs_again t ++ unused_half t) (bare_digits t cells)
@@ -137,6 +149,23 @@ of_all P t cells fs h =
     againby p among =
         all_some P (λ o. option_to_list (again_by t p o)) (last_of p.what t.definitions) none
         (λ q e. all_unless P (q.first == p.first) _ (λ ne. h.again p q among e ne))
+
+    gapped : (slots : List ℕ) → All P (gap_before t slots)
+    gapped [] = none
+    gapped (first ∷ rest) =
+        all_some P (gap_by t) (find (is_behind t first) t.definitions) none (λ p e. all_one P _ (h.gap first p e))
+
+    exchange : (slot : ℕ) → All P (exchanged t slot)
+    exchange slot =
+        all_some P (λ o. option_to_list (exchanged_by t slot o)) (last_of (Slot slot) t.definitions) none
+        (λ p e. all_if_so P (is_exchanged t slot) _ (h.exchanged slot p e))
+
+    letters : All P (of_letters t)
+    letters =
+        join (gap t ++ all_exchanged t) (no_caps t)
+        (join (gap t) (all_exchanged t) (gapped (gaps t)) (all_gathered P (exchanged t) 256 (λ slot low. exchange slot)))
+        (all_either (All P) (is_some_in (small_slots t)) (no_caps_by t (find (is_small_in_force t) t.definitions)) []
+        (all_some P (no_caps_by t) (find (is_small_in_force t) t.definitions) none (λ p e. all_one P _ (h.caps p e))) none)
 
     zero : (i : ℕ) → i < 15 → All P (zero_accent t cells i)
     zero i low =

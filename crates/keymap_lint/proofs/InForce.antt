@@ -15,17 +15,20 @@ use Rattle.std.proofs.lemmas.Bool.Decides.{nat_tests}
 use Rattle.std.proofs.lemmas.List.FromFn.{length-map-range_with_len}
 use Rattle.keymap_lint.specs.Types.{Char, Defined, Accent, Span, CellInForce}
 use Rattle.keymap_core.specs.declared.entry.Entry.{Entry}
-use Rattle.keymap_core.specs.Maps.{cell_at, undefined}
+use Rattle.keymap_core.specs.Maps.{cell_at, entry_at}
 use Rattle.keymap_text.specs.declared.token.TokenKind.TheVariants.{Word}
 use Rattle.keymap_text.specs.Items.{cell}
 use Rattle.keymap_text.specs.Lexical.{TokenValue}
 use Rattle.keymap_text.specs.Meaning.{item_of, tokens}
 use Rattle.keymap_places.specs.Placed.{Row, IsSpelledBy, IsPlaced, is_same, span_of, places_of}
 use Rattle.keymap_text.specs.Rows.{Defines, KeyDefinition}
-use Rattle.keymap_places.proofs.Shared.{cell_at as cell_of_part, slot_in_force, slot_tokens}
+use Rattle.keymap_text.specs.declared.words.Item.{Item}
+use Rattle.keymap_text.specs.declared.words.Item.TheVariants.{Value}
+use Rattle.keymap_text.specs.declared.words.Meaning.TheVariants.{Letter}
+use Rattle.keymap_places.proofs.Shared.{cell_at as cell_of_part, lock_at, slot_in_force, slot_tokens}
 use Rattle.keymap_places.proofs.Shared.{tokens_are_placed}
 use Rattle.keymap_lint.specs.Lists.{spelled_by}
-use Rattle.keymap_lint.specs.Positions.{HasToken, SpellsCell, CellsInForceAreSpelled}
+use Rattle.keymap_lint.specs.Positions.{HasToken, IsLockLetter, SpellsCell, CellsInForceAreSpelled}
 use Rattle.keymap_lint.specs.Spelled.{offset_at, cells_defined, cells_in_force, is_in_force, is_last, content}
 use Rattle.keymap_lint.proofs.Each.{all_flat}
 
@@ -69,28 +72,42 @@ token_at text m rows n IsSuch there such = record {
   such = such;
 }
 
--- a cell of the definition in force
-pub spelled_at : (text : List ℕ) (m : MapValue) (rows : List Row) → IsSpelledBy text m rows → (slot : ℕ) (p : Placed)
-    → last_of (Slot slot) (places_of rows) ≡ Some p → (column : ℕ) → column < 8
-    → SpellsCell text (offset_at (spelled_by text m rows) (p.first + (1 + column))) (cell_at m slot column)
-spelled_at text m rows by slot p e column few =
-    let entry : Entry = get_or m.entries slot undefined in
+-- a token of the definition in force of a slot
+slot_part : (text : List ℕ) (m : MapValue) (rows : List Row) → IsSpelledBy text m rows → (slot : ℕ) (p : Placed)
+    → last_of (Slot slot) (places_of rows) ≡ Some p → (n : ℕ) → n < 10 → (IsSuch : Item → Type 0)
+    → ((items : List Item) → Defines items (KeyDefinition slot (entry_at m slot))
+    → IsSuch (get_or items n (item_of nothing)))
+    → HasToken text (offset_at (spelled_by text m rows) (p.first + n)) (λ token. IsSuch (item_of token))
+slot_part text m rows by slot p e n few IsSuch such =
+    let entry : Entry = entry_at m slot in
     let row : List TokenValue = take 10 (drop p.first (tokens text)) in
     let d : Defines (map item_of row) (KeyDefinition slot entry) = slot_in_force text m rows by slot p e in
     let ten : length row ≡ 10 = sym (length-map row item_of) ∙ slot_tokens (map item_of row) slot entry d in
     let some : length row ≤ length (drop p.first (tokens text)) = rw length-take (omega arith) in
     let less = length-drop p.first (tokens text) in
-    let there : p.first + (1 + column) < length (tokens text) = omega (arith, ten, some, less) in
-    let token : TokenValue = get_or (tokens text) (p.first + (1 + column)) nothing in
-    let same : get_or row (column + 1) nothing ≡ token =
-    get_or-take 10 (drop p.first (tokens text)) (column + 1) nothing (omega arith)
-    ∙ get_or-drop p.first (tokens text) (column + 1) nothing
-    ∙ ap (λ n. get_or (tokens text) n nothing) (omega arith) in
-    let short : column + 1 < length row = omega (arith, ten) in
-    let its = get_or-map item_of row (column + 1) nothing (item_of nothing) short ∙ ap item_of same in
-    token_at text m rows (p.first + (1 + column)) (λ token. cell (item_of token) ≡ Ok (cell_at m slot column))
-    there
-    (ap cell (sym its) ∙ cell_of_part (map item_of row) slot entry d column few (item_of nothing) (Char 0))
+    let there : p.first + n < length (tokens text) = omega (arith, ten, some, less, few) in
+    let same : get_or row n nothing ≡ get_or (tokens text) (p.first + n) nothing =
+    get_or-take 10 (drop p.first (tokens text)) n nothing few ∙ get_or-drop p.first (tokens text) n nothing in
+    let short : n < length row = omega (arith, ten, few) in
+    let its = get_or-map item_of row n nothing (item_of nothing) short ∙ ap item_of same in
+    token_at text m rows (p.first + n) (λ token. IsSuch (item_of token)) there (subst IsSuch its (such (map item_of row) d))
+
+-- a cell of the definition in force
+pub spelled_at : (text : List ℕ) (m : MapValue) (rows : List Row) → IsSpelledBy text m rows → (slot : ℕ) (p : Placed)
+    → last_of (Slot slot) (places_of rows) ≡ Some p → (column : ℕ) → column < 8
+    → SpellsCell text (offset_at (spelled_by text m rows) (p.first + (1 + column))) (cell_at m slot column)
+spelled_at text m rows by slot p e column few =
+    slot_part text m rows by slot p e (1 + column) (omega (arith, few)) (λ item. cell item ≡ Ok (cell_at m slot column))
+    (λ items d. ap (λ n. cell (get_or items n (item_of nothing))) (omega arith)
+    ∙ cell_of_part items slot (entry_at m slot) d column few (item_of nothing) (Char 0))
+
+-- its lock letter
+pub lock_there : (text : List ℕ) (m : MapValue) (rows : List Row) → IsSpelledBy text m rows → (slot : ℕ) (p : Placed)
+    → last_of (Slot slot) (places_of rows) ≡ Some p
+    → HasToken text (offset_at (spelled_by text m rows) (p.first + 9)) (IsLockLetter (entry_at m slot).flag)
+lock_there text m rows by slot p e =
+    slot_part text m rows by slot p e 9 (omega arith) (λ item. item ≡ Value (Letter (entry_at m slot).flag))
+    (λ items d. lock_at items slot (entry_at m slot) d (item_of nothing))
 
 -- ---- the cells in force
 

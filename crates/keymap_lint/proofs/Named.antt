@@ -193,6 +193,9 @@ none_names t cells =
       mixed = All-nil _;
       half = λ c s e g. refl;
       again = λ p q among e ne. refl;
+      gap = λ first p e. refl;
+      exchanged = λ slot p e x. refl;
+      caps = λ p e. refl;
       dead = λ c e. refl;
       zero = λ i p e z. refl;
       pair = λ i p a e f j k low less same. refl;
@@ -230,7 +233,10 @@ named_exactly t h fs are l is =
         → names_keys (OfSpelled l) ≡ list_any names (all_of t (cells_in_force t) fs)
         → (names_keys (OfSpelled l) ≡ false) ↔ IsSafe t.map
     go [] are same = ((λ e. safe_if_none t.map [] are refl), (λ safe. same ∙ none_names t (cells_in_force t)))
-    go (f ∷ fs) are same = search (rules, All-head, finding_names, unsafe_by)
+    go (f ∷ fs) are same =
+        let is : IsFinding t.map f = All-head (IsFinding t.map) f fs are.each in
+        let named = finding_names t h f fs is in
+        ((λ e. absurd (true≢false (sym named ∙ sym same ∙ e))), (λ safe. absurd (unsafe_by t.map f is safe)))
 
 pub keys_are_named_exactly_if_refused : KeysAreNamedExactlyIfRefused
 keys_are_named_exactly_if_refused text m (OfSpelled l) spells (n, spelled, (rows, by, (fs, are, is))) =

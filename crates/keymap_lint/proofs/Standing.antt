@@ -6,6 +6,7 @@ use Rattle.std.proofs.Common.{◌*◌, All, nat_lt}
 use Rattle.std.proofs.lemmas.List.Elements.{All-weaker, All-contains, Contains-get_or}
 use Rattle.std.specs.Prelude.{Contains}
 use Rattle.std.specs.Option.{is_some}
+use Rattle.std.proofs.lemmas.Bool.{and_parts}
 use Rattle.std.proofs.lemmas.Bool.Decides.{nat_tests}
 use Rattle.std.proofs.lemmas.List.Folds.{find_at}
 use Rattle.std.proofs.lemmas.Option.{get_or_from_slice_get, slice_get_within}
@@ -18,15 +19,17 @@ use Rattle.keymap_check.specs.Findings.{IsFinding}
 use Rattle.keymap_places.specs.Placed.{Row, IsSpelledBy}
 use Rattle.keymap_places.proofs.Shared.{tokens_are_placed}
 use Rattle.keymap_lint.specs.Kinds.{character_of, selector_of, dead_key_of, live_accent, is_missing_of}
+use Rattle.keymap_lint.specs.Letters.{is_behind}
 use Rattle.keymap_lint.specs.Lists.{spelled_by, all_of, IsLint}
 use Rattle.keymap_lint.specs.Positions.{SpellsCell, StandsWithin, DiagnosticsStandInTheText, IsWithin, LiesWithin}
-use Rattle.keymap_lint.specs.Positions.{StandsAt, StandsInText, IsHoldingOf, IsMissingDeadKey}
+use Rattle.keymap_lint.specs.Positions.{StandsAt, StandsInText, IsHoldingOf, IsExchangedIn, IsMissingDeadKey}
+use Rattle.keymap_lint.specs.Shifted.{is_pair, is_small_in_force}
 use Rattle.keymap_lint.specs.Spelled.{offset_at, cells_in_force, content, is_live}
 use Rattle.keymap_core.specs.declared.action.Action.TheVariants as act
 use Rattle.keymap_core.specs.declared.action.Modifier.TheVariants as modifier
 use Rattle.keymap_core.specs.declared.action.Lock.TheVariants as lock
 use Rattle.keymap_core.specs.declared.action.Holding.TheVariants as holding
-use Rattle.keymap_lint.proofs.Begun.{again_there, replaced, unused_there, zero_there}
+use Rattle.keymap_lint.proofs.Begun.{again_there, behind_there, replaced, small_there, unused_there, zero_there}
 use Rattle.keymap_lint.proofs.Each.{of_all}
 use Rattle.keymap_lint.proofs.FaultPlaces.{all_lie_within}
 use Rattle.keymap_lint.proofs.InForce.{cells_in_force_are_spelled, in_force_there, spelled_at, within}
@@ -44,6 +47,12 @@ holds_selector _ _ s e = absurd (cc)
 holds_dead_key : (b : Bool) (x : Cell) (i : ℕ) → cond b (dead_key_of x) None ≡ Some i → x ≡ Act (act.DeadKey i)
 holds_dead_key true (Act (act.DeadKey j)) i e = let same : j ≡ i = cc in ap (λ n. Act (act.DeadKey n)) same
 holds_dead_key _ _ i e = absurd (cc)
+
+-- a letter and its capital are characters
+pair_characters : (t : Spelled) (x y : Cell) → is_pair t x y ≡ true
+    → (x ≡ Char (character_of x)) × (y ≡ Char (character_of y))
+pair_characters t (Char small) (Char capital) e = (refl, refl)
+pair_characters t _ _ e = absurd (true≢false (sym e))
 
 -- what holds of all elements holds of the one that is found
 found_has : {X : Type 0} (P : X → Type 0) (p : X → Bool) (xs : List X) → All P xs → (x : X) → find p xs ≡ Some x → P x
@@ -86,6 +95,16 @@ all_of_text text m rows by fs are =
             },
           );
       again = λ p q among e ne. ((w p.first, w q.first), replaced text m rows by p q among e ne);
+      gap = λ first p e. (
+        (w p.first, tt),
+        behind_there text m rows by first p (found_in (is_behind t first) t.definitions p e)
+            (find-true (is_behind t first) t.definitions p e),
+      );
+      exchanged = λ slot p e x. ((w (p.first + 1), tt), exchanged slot p e (and_parts (is_live t slot) _ x).1);
+      caps = λ p e. (
+        (w (p.first + 9), tt),
+        small_there text m rows by p (find-true (is_small_in_force t) t.definitions p e),
+      );
       dead = λ c e.
           let its : SpellsCell text c.span.start (content t c) = found_has IsThere (is_missing t) cells there c e in (
             (low c.span.start (content t c) its, tt),
@@ -137,6 +156,19 @@ all_of_text text m rows by fs are =
 
     lower : (slot : ℕ) → nat_lt slot 128 ≡ true → slot < 128
     lower slot e = grind (arith, nat_tests, e)
+
+    exchanged : (slot : ℕ) (p : Placed) → last_of (Slot slot) t.definitions ≡ Some p
+        → is_pair t (cell_at m slot 1) (cell_at m slot 0) ≡ true
+        → StandsAt text t (offset_at t (p.first + 1))
+        (IsExchangedIn t slot (character_of (cell_at m slot 0)) (character_of (cell_at m slot 1)))
+    exchanged slot p e both =
+        let are = pair_characters t (cell_at m slot 1) (cell_at m slot 0) both in record {
+          cell = cell_in t slot p.first 0;
+          in_force = in_force_there t slot p e 0 (omega arith);
+          start = refl;
+          spelled = spelled_at text m rows by slot p e 0 (omega arith);
+          one = (refl, refl, are.1, are.0);
+        }
 
     mixed : (f : Finding) → IsFinding m f → (p : Placed) → last_of (Slot f.holding_at.slot) t.definitions ≡ Some p
         → StandsAt text t (offset_at t (p.first + (1 + f.holding_at.column)))

@@ -1,6 +1,9 @@
 pub mod Severities
 pub mod Spelled
+pub mod Capitals
+pub mod Shifted
 pub mod Kinds
+pub mod Letters
 pub mod Faults
 pub mod Lists
 pub mod Promises

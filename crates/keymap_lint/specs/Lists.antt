@@ -15,14 +15,19 @@ use Rattle.keymap_lint.specs.Spelled.{Spelled, cells_in_force}
 use Rattle.keymap_lint.specs.Kinds.{no_key, no_shift, mixed_keys, half_defined, defined_again, dead_key}
 use Rattle.keymap_lint.specs.Kinds.{zero_accents, pairs_again, unused_half, bare_digits, missing_slots, nul_keys}
 use Rattle.keymap_lint.specs.Kinds.{missing_accents, unused_slots}
+use Rattle.keymap_lint.specs.Letters.{gap, gaps}
+use Rattle.keymap_lint.specs.Shifted.{all_exchanged, no_caps, small_slots}
 
 -- what is said of a text that spells a map, kind by kind: of its keys, its definitions and dead keys, and the rest
 abbrev pub of_keys : Spelled → List CellInForce → List Finding → List Diagnostic
 of_keys t cells findings =
     ((no_key t.map ++ no_shift t.map) ++ mixed_keys t findings) ++ half_defined t cells findings
 
+abbrev pub of_letters : Spelled → List Diagnostic
+of_letters t = (gap t ++ all_exchanged t) ++ no_caps t
+
 abbrev pub of_definitions : Spelled → List CellInForce → List Diagnostic
-of_definitions t cells = (defined_again t ++ dead_key t cells) ++ zero_accents t cells
+of_definitions t cells = ((defined_again t ++ of_letters t) ++ dead_key t cells) ++ zero_accents t cells
 
 abbrev pub of_rest : Spelled → List CellInForce → List Diagnostic
 of_rest t cells = (pairs_again t ++ unused_half t) ++ bare_digits t cells
@@ -47,6 +52,8 @@ pub record AreOf (t : Spelled) (cells : List CellInForce) (findings : List Findi
   pub list : AreOrdered (all_of t cells findings) l.list.items
   pub slots : l.missing_slots.items ≡ missing_slots t
   pub keys : l.nul_keys.items ≡ nul_keys t findings
+  pub gaps : l.gaps.items ≡ gaps t
+  pub small : l.small_slots.items ≡ small_slots t
   pub accents : l.missing_accents.items ≡ missing_accents t cells
   pub unused : l.unused_slots.items ≡ unused_slots t
   pub sticking : IsSearched t.map findings l.sticking
@@ -57,11 +64,11 @@ AreOfSpelled t l =
     (findings : List Finding) × AreFindings t.map findings × AreOf t (cells_in_force t) findings l
 
 -- what is spelled: the definitions of rows, the places of tokens, and the map
-abbrev pub spelled_with : List Placed → List Span → MapValue → Spelled
-spelled_with definitions spans m = record { definitions = definitions; spans = spans; map = m }
+abbrev pub spelled_with : List ℕ → List Placed → List Span → MapValue → Spelled
+spelled_with text definitions spans m = record { text = text; definitions = definitions; spans = spans; map = m }
 
 abbrev pub spelled_by : List ℕ → MapValue → List Row → Spelled
-spelled_by text m rows = spelled_with (places_of rows) (map span_of (tokens text)) m
+spelled_by text m rows = spelled_with text (places_of rows) (map span_of (tokens text)) m
 
 abbrev pub AreOfMap : List ℕ → MapValue → Diagnostics → Type 0
 AreOfMap text m l = (rows : List Row) × IsSpelledBy text m rows × AreOfSpelled (spelled_by text m rows) l

@@ -6,15 +6,19 @@ use Rattle.keymap_lint.specs.Types.{Holding, Cell, Char, Act, Slot, Accent, Cell
 use Rattle.keymap_lint.specs.Types.{Defined, Diagnostics, Placed}
 use Rattle.keymap_lint.specs.Types.{Kind, Lint, Faulty, PlacedFault, Spelled as OfSpelled}
 use Rattle.keymap_core.specs.Actions.{holding_action}
-use Rattle.keymap_core.specs.Maps.{MapValue, cell_at}
+use Rattle.keymap_core.specs.Maps.{MapValue, cell_at, entry_at}
 use Rattle.keymap_core.specs.Numbers.{key_count}
+use Rattle.keymap_core.specs.declared.entry.LockFlag.{LockFlag}
 use Rattle.keymap_text.specs.Items.{cell, character}
 use Rattle.keymap_text.specs.Lexical.{TokenValue}
 use Rattle.keymap_text.specs.Meaning.{Spells, item_of, tokens}
 use Rattle.keymap_places.specs.Placed.{IsSpelledBy, Row, begins, last_of}
 use Rattle.keymap_text.specs.Rows.{ArePairs}
+use Rattle.keymap_text.specs.declared.words.Item.TheVariants.{Value}
+use Rattle.keymap_text.specs.declared.words.Meaning.TheVariants.{Letter}
 use Rattle.keymap_lint.specs.declared.diagnostic.Kind.TheVariants as kinds
 use Rattle.keymap_lint.specs.Lists.{IsLint, spelled_by}
+use Rattle.keymap_lint.specs.Shifted.{is_small}
 use Rattle.keymap_lint.specs.Spelled.{Spelled, cells_in_force, content, is_live, offset_at}
 
 -- A token of the text has this place, and is such a one.
@@ -62,6 +66,14 @@ IsMissingDeadKey t c =
 -- the character, in one byte
 abbrev pub IsOneByte : Spelled → ℕ → CellInForce → Type 0
 IsOneByte t character c = (content t c ≡ Char character) × (c.span.end - c.span.start ≡ 1)
+
+-- the cell of column 0, and what is told of it and of that of column 1
+abbrev pub IsExchangedIn : Spelled → ℕ → ℕ → ℕ → CellInForce → Type 0
+IsExchangedIn t slot base shifted c =
+    (c.slot ≡ slot) × (c.column ≡ 0) × (content t c ≡ Char base) × (cell_at t.map slot 1 ≡ Char shifted)
+
+abbrev pub IsLockLetter : LockFlag → TokenValue → Type 0
+IsLockLetter flag token = item_of token ≡ Value (Letter flag)
 
 -- A definition of this begins at the place, with its number or its name.
 pub record BeginsAt (text : List ℕ) (t : Spelled) (what : Defined) (place : ℕ) : Type 0 where
@@ -113,6 +125,11 @@ StandsThere text t place (kinds.HalfDefined s keys) = StandsAt text t place (IsS
 StandsThere text t place (kinds.DeadKey some) = StandsAt text t place (IsMissingDeadKey t)
 StandsThere text t place (kinds.BareDigit character) = StandsAt text t place (IsOneByte t character)
 StandsThere text t place (kinds.DefinedAgain what last) = IsReplaced text t what place last
+StandsThere text t place kinds.Gap = (slot : ℕ) × BeginsAt text t (Slot slot) place
+StandsThere text t place (kinds.Exchanged slot base shifted) =
+    StandsAt text t place (IsExchangedIn t slot base shifted)
+StandsThere text t place kinds.NoCaps =
+    (slot : ℕ) × (is_small t slot ≡ true) × HasToken text place (IsLockLetter (entry_at t.map slot).flag)
 StandsThere text t place (kinds.ZeroAccent i) = HasCharacter text t i 0 place
 StandsThere text t place (kinds.PairAgain i base first) = IsPairAgain text t i base first place
 StandsThere text t place kinds.UnusedHalf =

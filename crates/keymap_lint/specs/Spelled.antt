@@ -9,8 +9,9 @@ use Rattle.keymap_core.specs.Numbers.{key_count, column_count, slot_limit, accen
 use Rattle.keymap_places.specs.declared.last.LastDefinitions.{LastDefinitions}
 use Rattle.keymap_places.specs.Placed.{last_of, HasIndex}
 
--- what a text spells: its definitions in order, where each token stands, and the map
+-- a text and what it spells: its definitions in order, where each token stands, and the map
 pub record Spelled : Type 0 where
+  pub text : List ℕ
   pub definitions : List Placed
   pub spans : List Span
   pub map : MapValue

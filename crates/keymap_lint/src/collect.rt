@@ -1,16 +1,19 @@
 //! All that is said of a text, kind by kind.
-ghost use Rattle.std.specs.Prelude.{◌≡◌, IfOk};
+ghost use Rattle.std.specs.Prelude.{◌≡◌, ◌++◌, IfOk, OnOk};
 ghost use Rattle.std.specs.Option.{option_to_list};
 ghost use Rattle.keymap_lint.specs.Spelled.{AreDefined};
 ghost use Rattle.keymap_lint.specs.Kinds.{half_defined};
-ghost use Rattle.keymap_lint.specs.Lists.{of_keys, all_of};
+ghost use Rattle.keymap_lint.specs.Lists.{of_keys, of_letters, all_of};
 
 use crate::bare_digit::add_bare_digits;
 use crate::cells::CellInForce;
 use crate::dead_key::dead_key;
 use crate::defined_again::add_defined_again;
-use crate::diagnostic::{Diagnostic, Found, add};
+use crate::diagnostic::{Added, Diagnostic, Found, add};
+use crate::exchanged::add_exchanged;
+use crate::gap::{gap, gaps};
 use crate::mixed_key::mixed_keys;
+use crate::no_caps::no_caps;
 use crate::no_key::no_key;
 use crate::no_shift::no_shift;
 use crate::pair_again::add_pairs_again;
@@ -40,6 +43,16 @@ fn said_of_keys(
     Ok(found)
 }
 
+/// Adds what is said of the keys of letters, digits and punctuation.
+fn add_of_letters(found: &mut Found, text: &SpelledText) -> Added
+    requires { AreDefined text.now }
+    ensures { OnOk result (found.new.items ≡ found.old.items ++ of_letters text.now) }
+{
+    add(found, gap(text, gaps(text).as_slice()))?;
+    add_exchanged(found, text)?;
+    add(found, no_caps(text))
+}
+
 /// All that is said of a text, kind by kind in the order of the kinds: of its keys, of definitions without effect and
 /// dead keys, of pairs, of slots that are never looked at, and of digits.
 pub(crate) fn collect(
@@ -55,6 +68,7 @@ pub(crate) fn collect(
 {
     let mut found = said_of_keys(alloc, text, cells, findings, half)?;
     add_defined_again(&mut found, text)?;
+    add_of_letters(&mut found, text)?;
     add(&mut found, dead_key(text, cells))?;
     add_zero_accents(&mut found, text, cells)?;
     add_pairs_again(&mut found, text)?;

@@ -47,6 +47,20 @@ pub enum Kind {
         /// The offset of the last definition of the same.
         last: usize,
     },
+    /// The text defines at least 40 of the 48 slots of the main block, and not all: those that it doesn't define are
+    /// `Diagnostics::gaps`. It stands at the first definition of a slot below 128 that is greater than the first of them,
+    /// or else at that of the greatest one.
+    Gap,
+    /// A live slot gives the capital of a letter without shift, and the letter with it. It stands at the cell of column
+    /// 0.
+    Exchanged {
+        slot: u8,
+        base: char,
+        shifted: char,
+    },
+    /// Some key is caps lock, and of the letters of live slots it makes no capitals: these are
+    /// `Diagnostics::small_slots`. It stands at the first lock letter of such a slot.
+    NoCaps,
     /// Live cells are dead keys of accents that the text doesn't define: these are `Diagnostics::missing_accents`. It
     /// stands at the first such cell.
     DeadKey {
@@ -89,6 +103,10 @@ pub struct Diagnostics {
     pub missing_slots: ArrayVec<u8, SLOT_LIMIT>,
     /// The keys that have a modifier or lock and, in a slot that the text doesn't define, a character.
     pub nul_keys: ArrayVec<u8, KEY_COUNT>,
+    /// The slots of the main block that the text doesn't define: those of letters, digits, punctuation and space bar.
+    pub gaps: ArrayVec<u8, KEY_COUNT>,
+    /// The live slots with a letter and its capital, whose lock letter is O or N.
+    pub small_slots: ArrayVec<u8, SLOT_LIMIT>,
     /// The accents that the text doesn't define though a live cell is their dead key.
     pub missing_accents: ArrayVec<u8, ACCENT_LIMIT>,
     /// The slots from 128 on that the text defines.

@@ -8,16 +8,20 @@
 #![tactic(auto)]
 
 mod bare_digit;
+mod capitals;
 mod cells;
 mod collect;
 mod dead_key;
 mod defined_again;
 mod diagnostic;
+mod exchanged;
 mod faults;
+mod gap;
 mod half_defined;
 pub mod laws;
 mod lint;
 mod mixed_key;
+mod no_caps;
 mod no_key;
 mod no_shift;
 mod order;

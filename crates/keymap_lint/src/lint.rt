@@ -15,8 +15,10 @@ use crate::collect::collect;
 use crate::dead_key::missing_accents;
 use crate::diagnostic::{Diagnostic, Diagnostics, Lint};
 use crate::faults::faults;
+use crate::gap::gaps;
 use crate::half_defined::{half_defined, missing_slots};
 use crate::mixed_key::nul_keys;
+use crate::no_caps::small_slots;
 use crate::order::put_in_order;
 use crate::spelled::SpelledText;
 use crate::unused_half::unused_slots;
@@ -74,6 +76,8 @@ fn lint_with(
         list,
         missing_slots,
         nul_keys,
+        gaps: gaps(text),
+        small_slots: small_slots(text),
         missing_accents: missing_accents(text, cells),
         unused_slots: unused_slots(text),
         sticking,
@@ -95,15 +99,16 @@ fn lint_spelled(alloc: Global, text: &SpelledText) -> Result<Diagnostics, AllocE
 /// The diagnostics of a text that spells a map with these definitions and tokens.
 fn lint_rows(
     alloc: Global,
+    text: &[u8],
     definitions: &[Placed],
     spans: &[Span],
     map: &KeyMap,
 ) -> Result<Diagnostics, AllocError>
     requires { All (StandsAmong (length spans.now)) definitions.now }
-    ensures { IfOk result (λ l. AreOfSpelled (spelled_with definitions.now spans.now map.now) l) }
+    ensures { IfOk result (λ l. AreOfSpelled (spelled_with text.now definitions.now spans.now map.now) l) }
 {
     let last = last_definitions(definitions);
-    let text = SpelledText::new(definitions, &last, spans, map);
+    let text = SpelledText::new(text, definitions, &last, spans, map);
     lint_spelled(alloc, &text)
 }
 
@@ -113,7 +118,7 @@ fn lint_map(alloc: Global, text: &[u8], map: &KeyMap) -> Result<Diagnostics, All
     ensures { IfOk result (λ l. AreOfMap text.now map.now l) }
 {
     let placed = definitions(alloc, text)?;
-    let lint = lint_rows(alloc, &placed.definitions, &placed.spans, map)?;
+    let lint = lint_rows(alloc, text, &placed.definitions, &placed.spans, map)?;
     Ok(lint)
 }
 

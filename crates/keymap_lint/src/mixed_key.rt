@@ -8,10 +8,11 @@ ghost use Rattle.keymap_lint.specs.Kinds.{is_mixed as is_mixed_in, character_of,
 ghost use Rattle.keymap_lint.specs.Kinds.{mixed_keys as mixed_keys_of, nul_key, nul_keys as nul_keys_of};
 
 use crate::diagnostic::{Diagnostic, Found, Kind, add};
+use crate::exchanged::character_in;
 use crate::spelled::SpelledText;
 use arrayvec::ArrayVec;
 use keymap_check::{Finding, Place};
-use keymap_core::{Cell, KEY_COUNT, push_if};
+use keymap_core::{KEY_COUNT, push_if};
 use std::alloc::{AllocError, Global};
 
 /// Whether the text defines both slots of the finding.
@@ -25,10 +26,7 @@ fn is_mixed(text: &SpelledText, finding: &Finding) -> bool
 fn character(text: &SpelledText, at: Place) -> char
     ensures { result ≡ character_of (cell_at text.now.map at.slot at.column) }
 {
-    match text.map().entry(at.slot).cells().get(at.column as usize) {
-        Some(Cell::Char(character)) => *character,
-        _ => '\0',
-    }
+    character_in(text.cell(at.slot, at.column))
 }
 
 /// What is said of a finding whose slots the text defines.

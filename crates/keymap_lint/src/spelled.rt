@@ -2,12 +2,15 @@
 ghost use Rattle.std.specs.Prelude.{◌≡◌, ◌+◌, ◌<◌};
 ghost use Rattle.keymap_core.specs.Numbers.{accent_limit};
 ghost use Rattle.keymap_core.specs.Borne.{is_upper_live as is_upper_live_of};
+ghost use Rattle.keymap_core.specs.Maps.{cell_at};
+ghost use Rattle.keymap_lint.specs.Capitals.{is_sure as is_sure_of};
 ghost use Rattle.keymap_places.specs.Placed.{last_of, HasIndex};
 ghost use Rattle.keymap_lint.specs.Types.{Slot, Accent};
 ghost use Rattle.keymap_lint.specs.Spelled.{HasLast, span_at, offset_at, is_in_force as is_in_force_in};
 ghost use Rattle.keymap_lint.specs.Kinds.{defines as defines_slot, is_defined};
 ghost use Rattle.keymap_lint.specs.Spelled.{content as content_of, is_live as is_live_in};
 
+use crate::capitals::is_sure;
 use crate::cells::CellInForce;
 use keymap_core::{Cell, KEY_COUNT, KeyMap};
 use keymap_places::{Defined, LastDefinitions, Placed};
@@ -17,45 +20,57 @@ use std::marker::Model;
 /// A text that spells a map: its definitions, the last ones among them, where its tokens stand, and the map.
 #[derive(Drop)]
 pub(crate) struct SpelledText<'t> {
+    text: &'t [u8],
     definitions: &'t [Placed],
     last: &'t LastDefinitions,
     spans: &'t [Span],
     map: &'t KeyMap,
     is_upper_live: bool,
+    is_sure: bool,
 }
 
 impl<'t> Model for SpelledText<'t> {
     ghost use Rattle.std.specs.Prelude.{◌≡◌};
     ghost use Rattle.keymap_core.specs.Borne.{is_upper_live as is_upper_live_of};
+    ghost use Rattle.keymap_lint.specs.Capitals.{is_sure as is_sure_of};
     ghost use Rattle.keymap_lint.specs.Spelled.{Spelled, HasLast};
 
     ghost Value = { Spelled };
 
-    ghost view = { λ t. record { definitions = t.definitions.now; spans = t.spans.now; map = t.map.now } };
+    ghost view = { λ t. record {
+      text = t.text.now;
+      definitions = t.definitions.now;
+      spans = t.spans.now;
+      map = t.map.now;
+    } };
 
     ghost invariant = { λ t. HasLast t.last.now t.definitions.now
-        × (t.is_upper_live ≡ is_upper_live_of t.map.now) };
+        × (t.is_upper_live ≡ is_upper_live_of t.map.now) × (t.is_sure ≡ is_sure_of t.map.now t.text.now) };
 }
 
 impl<'t> SpelledText<'t> {
     /// The text with these definitions and tokens, and with this map.
     pub(crate) fn new(
+        text: &'t [u8],
         definitions: &'t [Placed],
         last: &'t LastDefinitions,
         spans: &'t [Span],
         map: &'t KeyMap,
     ) -> SpelledText<'t>
         requires { HasLast last.now definitions.now }
+        ensures text { result.text ≡ text.now }
         ensures definitions { result.definitions ≡ definitions.now }
         ensures spans { result.spans ≡ spans.now }
         ensures map { result.map ≡ map.now }
     {
         SpelledText {
+            text,
             definitions,
             last,
             spans,
             map,
             is_upper_live: map.is_upper_live(),
+            is_sure: is_sure(map, text),
         }
     }
 
@@ -73,6 +88,13 @@ impl<'t> SpelledText<'t> {
         self.map
     }
 
+    /// Whether its characters above ASCII are letters for sure, where some slot has one.
+    pub(crate) fn is_sure(&self) -> bool
+        ensures { result ≡ is_sure_of self.now.map self.now.text }
+    {
+        self.is_sure
+    }
+
     /// Whether the cells of the slot are live.
     pub(crate) fn is_live(&self, slot: u8) -> bool
         ensures { result ≡ is_live_in self.now slot }
@@ -87,14 +109,21 @@ impl<'t> SpelledText<'t> {
         self.is_upper_live
     }
 
+    /// What stands in a slot and column.
+    pub(crate) fn cell(&self, slot: u8, column: u8) -> Cell
+        ensures { result ≡ cell_at self.now.map slot column }
+    {
+        match self.map.entry(slot).cells().get(column as usize) {
+            Some(content) => *content,
+            None => Cell::Char('\0'),
+        }
+    }
+
     /// What stands in the cell.
     pub(crate) fn content(&self, cell: &CellInForce) -> Cell
         ensures { result ≡ content_of self.now cell.now }
     {
-        match self.map.entry(cell.slot).cells().get(cell.column as usize) {
-            Some(content) => *content,
-            None => Cell::Char('\0'),
-        }
+        self.cell(cell.slot, cell.column)
     }
 
     /// Where a token stands: the one that is so many behind another one.

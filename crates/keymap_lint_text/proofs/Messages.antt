@@ -114,6 +114,17 @@ unfolding said.defined_again_text
 again_line what last =
     fills _ _ refl (defined_line what, (decimal_line last, (not_joined_line what, tt)))
 
+gap_line : (slots : List ℕ) → IsLine (said.gap_text slots)
+gap_line slots = fills _ _ refl (counted_line _ _ slots refl refl, tt)
+
+exchanged_line : (slot base shifted : ℕ) → IsLine (said.exchanged_text slot base shifted)
+unfolding said.exchanged_text
+exchanged_line slot base shifted =
+    fills _ _ refl (decimal_line slot, (character_line base, (character_line shifted, tt)))
+
+small_line : (slots : List ℕ) → IsLine (said.no_caps_text slots)
+small_line slots = counted_line _ _ slots refl refl
+
 dead_line : (missing : List ℕ) (some : Bool) → IsLine (said.dead_key_text missing some)
 unfolding said.dead_key_text
 dead_line missing some =
@@ -147,6 +158,9 @@ message_line text l kinds.NoShift = fills _ [] refl tt
 message_line text l (kinds.MixedKey f c) = mixed_line f c _
 message_line text l (kinds.HalfDefined selector has_keys) = half_line l selector has_keys
 message_line text l (kinds.DefinedAgain what last) = again_line what _
+message_line text l kinds.Gap = gap_line l.gaps.items
+message_line text l (kinds.Exchanged slot base shifted) = exchanged_line slot base shifted
+message_line text l kinds.NoCaps = small_line l.small_slots.items
 message_line text l (kinds.DeadKey some) = dead_line l.missing_accents.items some
 message_line text l (kinds.ZeroAccent accent) = zero_line accent
 message_line text l (kinds.PairAgain accent base first) = pair_line accent base _

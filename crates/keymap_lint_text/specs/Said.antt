@@ -56,6 +56,25 @@ defined_again_text what last =
     filled (codes "this definition of {} has no effect: line {} defines it again{}")
     (defined_text what ∷ decimal last ∷ not_joined what ∷ [])
 
+-- slots of the main block that aren't defined
+abbrev pub gap_text : List ℕ → List ℕ
+gap_text slots =
+    filled (codes "the text does not define {}") (counted words.MISSING_SLOT.now words.MISSING_SLOTS.now slots ∷ [])
+
+-- a capital where its letter is wanted
+unfoldable pub exchanged_text : ℕ → ℕ → ℕ → List ℕ
+exchanged_text slot base shifted =
+    filled (codes "slot {} gives {} without shift and {} with it")
+    (decimal slot ∷ character_name base ∷ character_name shifted ∷ [])
+
+-- the slots with letters of which caps lock makes no capitals
+abbrev pub no_caps_text : List ℕ → List ℕ
+no_caps_text slots =
+    counted
+    (codes "caps lock makes no capital of the letter of slot {}, whose lock letter is O or N; with C or B it does")
+    (codes "caps lock makes no capitals of the letters of slots {}, whose lock letter is O or N; with C or B it does")
+    slots
+
 -- dead keys of accents that aren't defined, where some other accent is defined or none
 unfoldable pub dead_key_text : List ℕ → Bool → List ℕ
 dead_key_text missing defines_some =
@@ -111,6 +130,9 @@ message_text text l (kinds.MixedKey finding character) =
     mixed_key_text finding character (never_sticks l.sticking)
 message_text text l (kinds.HalfDefined selector has_keys) = half_defined_text l selector has_keys
 message_text text l (kinds.DefinedAgain what last) = defined_again_text what (line text last)
+message_text text l kinds.Gap = gap_text l.gaps.items
+message_text text l (kinds.Exchanged slot base shifted) = exchanged_text slot base shifted
+message_text text l kinds.NoCaps = no_caps_text l.small_slots.items
 message_text text l (kinds.DeadKey defines_some) = dead_key_text l.missing_accents.items defines_some
 message_text text l (kinds.ZeroAccent accent) = zero_accent_text accent
 message_text text l (kinds.PairAgain accent base first) = pair_again_text accent base (line text first)

@@ -8,9 +8,10 @@ ghost use Rattle.keymap_lint_text.specs.Said as spec;
 
 use crate::wanted::{character_name, column as column_text, defined};
 use crate::words::{
-    ACCENTS, BARE_DIGIT, CR_ALONE, DEAD_KEY, DEFINED_AGAIN, HALF_DEFINED, MISSING_SLOT,
-    MISSING_SLOTS, MIXED_KEY, NEVER_STICKS, NO_ACCENT, NO_KEY, NO_SHIFT, NOT_JOINED, NUL_KEY,
-    NUL_KEYS, ONE_ACCENT, OTHER_SLOT, PAIR_AGAIN, UNUSED_SLOT, UNUSED_SLOTS, ZERO_ACCENT,
+    ACCENTS, BARE_DIGIT, CR_ALONE, DEAD_KEY, DEFINED_AGAIN, EXCHANGED, GAP, HALF_DEFINED,
+    MISSING_SLOT, MISSING_SLOTS, MIXED_KEY, NEVER_STICKS, NO_ACCENT, NO_KEY, NO_SHIFT, NOT_JOINED,
+    NUL_KEY, NUL_KEYS, ONE_ACCENT, OTHER_SLOT, PAIR_AGAIN, SMALL_SLOT, SMALL_SLOTS, UNUSED_SLOT,
+    UNUSED_SLOTS, ZERO_ACCENT,
 };
 use keymap_check::Finding;
 use keymap_core::Holding;
@@ -40,6 +41,9 @@ pub(crate) fn kind_text(kind: &Kind) -> &'static [u8]
         Kind::MixedKey { .. } => b"mixed-key",
         Kind::HalfDefined { .. } => b"half-defined",
         Kind::DefinedAgain { .. } => b"defined-again",
+        Kind::Gap => b"gap",
+        Kind::Exchanged { .. } => b"exchanged",
+        Kind::NoCaps => b"no-caps",
         Kind::DeadKey { .. } => b"dead-key",
         Kind::ZeroAccent { .. } => b"zero-accent",
         Kind::PairAgain { .. } => b"pair-again",
@@ -153,6 +157,30 @@ fn defined_again(alloc: Global, what: Defined, last: u64) -> Result<Vec<u8>, All
     )
 }
 
+/// What is said of slots of the main block that the text doesn't define.
+fn gap(alloc: Global, slots: &[u8]) -> Result<Vec<u8>, AllocError>
+    ensures { IfOk result (λ text. text.items ≡ spec.gap_text slots.now) }
+{
+    let told = counted(alloc, MISSING_SLOT, MISSING_SLOTS, slots)?;
+    filled(alloc, GAP, &[told.as_slice()])
+}
+
+/// What is said of a capital where its letter is wanted.
+#[tactic(auto, unfolding(crate::specs::Said::exchanged_text))]
+fn exchanged(alloc: Global, slot: u8, base: char, shifted: char) -> Result<Vec<u8>, AllocError>
+    ensures { IfOk result (λ text. text.items ≡ spec.exchanged_text slot base shifted) }
+{
+    filled(
+        alloc,
+        EXCHANGED,
+        &[
+            number(u64::from(slot)).as_slice(),
+            character_name(alloc, base)?.as_slice(),
+            character_name(alloc, shifted)?.as_slice(),
+        ],
+    )
+}
+
 /// What is said of dead keys of accents that the text doesn't define, where it defines some other accent or none.
 #[tactic(auto, unfolding(crate::specs::Said::dead_key_text))]
 fn dead_key(alloc: Global, missing: &[u8], defines_some: bool) -> Result<Vec<u8>, AllocError>
@@ -223,6 +251,13 @@ pub(crate) fn kind_message(
         Kind::DefinedAgain { what, last } => {
             defined_again(alloc, *what, source.number_at(*last))
         }
+        Kind::Gap => gap(alloc, lint.gaps.as_slice()),
+        Kind::Exchanged {
+            slot,
+            base,
+            shifted,
+        } => exchanged(alloc, *slot, *base, *shifted),
+        Kind::NoCaps => { counted(alloc, SMALL_SLOT, SMALL_SLOTS, lint.small_slots.as_slice()) }
         Kind::DeadKey { defines_some } => {
             dead_key(alloc, lint.missing_accents.as_slice(), *defines_some)
         }

@@ -45,6 +45,16 @@ pub(crate) const DEFINED_AGAIN: &[u8] =
 
 pub(crate) const NOT_JOINED: &[u8] = b", and pairs are not joined";
 
+pub(crate) const GAP: &[u8] = b"the text does not define {}";
+
+pub(crate) const EXCHANGED: &[u8] = b"slot {} gives {} without shift and {} with it";
+
+pub(crate) const SMALL_SLOT: &[u8] =
+    b"caps lock makes no capital of the letter of slot {}, whose lock letter is O or N; with C or B it does";
+
+pub(crate) const SMALL_SLOTS: &[u8] =
+    b"caps lock makes no capitals of the letters of slots {}, whose lock letter is O or N; with C or B it does";
+
 pub(crate) const DEAD_KEY: &[u8] = b"the text does not define {}, so pressing {} is an error";
 
 pub(crate) const ONE_ACCENT: &[u8] = b"it";

@@ -76,7 +76,7 @@ One that is a character in the other slot of its key:
 A warning where it never sticks:
   $ echo "42 0x20ac lshift nop nop nop nop nop nop O" > t
   $ kmap lint t
-  t:1:11: warning: key 42 is lshift here and the character 0x20ac in column 0 (base); put lshift or nop for its characters, though no modifier ever stays on [mixed-key]
+  t:1:11: warning: key 42 is lshift here and the character '€' in column 0 (base); put lshift or nop for its characters, though no modifier ever stays on [mixed-key]
     42 0x20ac lshift nop nop nop nop nop nop O
               ^
 

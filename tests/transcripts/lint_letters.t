@@ -52,7 +52,7 @@ for sure:
   $ kmap lint t
   $ echo '40 0x451 0x401 nop nop nop nop nop nop C' >> t
   $ kmap lint t
-  t:2:4: warning: slot 39 gives 0x00d6 without shift and 0x00f6 with it [exchanged]
+  t:2:4: warning: slot 39 gives 'Ö' without shift and 'ö' with it [exchanged]
     39 0xd6 0xf6 nop nop nop nop nop nop C
        ^
 

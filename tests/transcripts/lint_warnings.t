@@ -120,13 +120,13 @@ The first one has an effect:
   > ( 0x3b1 0x3ae )
   > END
   $ kmap lint t
-  t:5:1: warning: this pair has no effect: dacu has one with the base 0x03b1 before it, in line 3 [pair-again]
+  t:5:1: warning: this pair has no effect: dacu has one with the base 'α' before it, in line 3 [pair-again]
     ( 0x3b1 0x3ad )
     ^
   t:6:1: warning: this pair has no effect: dacu has one with the base bel before it, in line 4 [pair-again]
     ( 0x7 0x3ac )
     ^
-  t:7:1: warning: this pair has no effect: dacu has one with the base 0x03b1 before it, in line 3 [pair-again]
+  t:7:1: warning: this pair has no effect: dacu has one with the base 'α' before it, in line 3 [pair-again]
     ( 0x3b1 0x3ae )
     ^
 

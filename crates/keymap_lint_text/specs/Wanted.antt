@@ -1,5 +1,6 @@
 -- What a definition wants, and what is told of it: its name, its columns and characters.
-use Rattle.std.specs.Prelude.{ℕ, List, [], ◌∷◌, codes, decimal, slice_index_or, Option, Some, None}
+use Rattle.std.specs.Prelude.{ℕ, List, [], ◌∷◌, codes, decimal, encode_utf8, if◌then◌else◌, slice_index_or}
+use Rattle.std.specs.Prelude.{Option, Some, None}
 use Rattle.keymap_places.specs.declared.placed.Defined.{Defined}
 use Rattle.keymap_places.specs.declared.placed.Defined.TheVariants.{Slot, Accent}
 use Rattle.keymap_places.specs.declared.wanted.Wanted.{Wanted}
@@ -8,11 +9,13 @@ use Rattle.keymap_places.specs.declared.wanted.DefinitionStart.{DefinitionStart}
 use Rattle.keymap_text.specs.Printed.{character_text}
 use Rattle.messages.specs.Filled.{filled}
 use Rattle.keymap_names.specs.Lists.{accent_name, column_names}
+use Rattle.keymap_names.specs.Quoted.{is_quoted}
 use Rattle.keymap_names.specs.Shown.{word_text}
 
--- a character as it is printed in a keymap
+-- a character as a text that is Unicode has it: quoted where it is a sign, or else by its name or number
 unfoldable pub character_name : ℕ → List ℕ
-character_name c = word_text (character_text c)
+character_name c =
+    word_text (if is_quoted c then filled (codes "'{}'") (encode_utf8 c ∷ []) else character_text c)
 
 -- a column, and what selects it
 unfoldable pub column_text : ℕ → List ℕ

@@ -227,7 +227,7 @@ fn no_key(alloc: Global, source: &[u8]) -> Result<Vec<u8>, AllocError>
     filled(alloc, NO_KEY, &[either(ends_in_cr(source), CR_ALONE, b"")])
 }
 
-/// What is said of a text that spells a keymap. A character is given as it is printed in a keymap.
+/// What is said of a text that spells a keymap. A character is given as a text that is Unicode has it.
 #[tactic(auto, unfolding(crate::specs::Said::message_text))]
 pub(crate) fn kind_message(
     alloc: Global,

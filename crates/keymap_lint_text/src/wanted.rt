@@ -3,20 +3,27 @@ ghost use Rattle.std.specs.Prelude.{◌≡◌, IfOk};
 ghost use Rattle.keymap_lint_text.specs.Wanted as spec;
 
 use crate::words::{
-    A_BASE, A_CELL, A_CHARACTER, A_DEFINITION, A_LOCK, A_PAIR, A_PAIR_END, A_RESULT, COLUMN, SLOT,
+    A_BASE, A_CELL, A_CHARACTER, A_DEFINITION, A_LOCK, A_PAIR, A_PAIR_END, A_RESULT, COLUMN,
+    QUOTED, SLOT,
 };
-use keymap_names::{accent_name, column_name, word};
+use keymap_names::{accent_name, column_name, is_quoted, word};
 use keymap_places::{Defined, DefinitionStart, Wanted};
 use keymap_text::character_text;
 use messages::{filled, number};
 use std::alloc::{AllocError, Global};
 
-/// A character as it is printed in a keymap.
+/// A character as a text that is Unicode has it: quoted where it is a sign, or else by its name or number.
 #[tactic(auto, unfolding(crate::specs::Wanted::character_name))]
 pub(crate) fn character_name(alloc: Global, c: char) -> Result<Vec<u8>, AllocError>
     ensures { IfOk result (λ text. text.items ≡ spec.character_name c) }
 {
-    word(alloc, character_text(c).as_slice())
+    if is_quoted(c) {
+        let mut bytes = [0; 4];
+        let quoted = filled(alloc, QUOTED, &[c.encode_utf8(&mut bytes).as_bytes()])?;
+        word(alloc, quoted.as_slice())
+    } else {
+        word(alloc, character_text(c).as_slice())
+    }
 }
 
 /// A column, and what selects it.

@@ -165,6 +165,9 @@ pub(crate) const A_RESULT: &[u8] = b"the result of a pair of {}";
 
 pub(crate) const A_PAIR_END: &[u8] = b"the ')' of a pair of {}";
 
+// A character.
+pub(crate) const QUOTED: &[u8] = b"'{}'";
+
 // A slot, and a column with what selects it.
 pub(crate) const SLOT: &[u8] = b"slot {}";
 

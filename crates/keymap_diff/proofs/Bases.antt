@@ -1,5 +1,5 @@
 -- The bases of pairs, and what is pushed for each.
-use Rattle.std.proofs.Common.{◌≡◌, ℕ, ◌+◌, ◌<◌, ◌⊎◌, inl, inr, Bool, false, List, [], ◌∷◌, ◌++◌, Option, Some, get_or}
+use Rattle.std.proofs.Common.{◌≡◌, ℕ, ◌+◌, ◌*◌, ◌<◌, ◌⊎◌, inl, inr, Bool, false, List, [], ◌∷◌, ◌++◌, Option, Some, get_or}
 use Rattle.std.proofs.Common.{length, refl, ap, subst, sym, ◌∙◌, arith, eqb, not, take, None, rules, ◌==◌}
 use Rattle.std.proofs.lemmas.Bool.{eqb-true, eq-eqb, true≢false}
 use Rattle.std.specs.Prelude.{if◌then◌else◌, is_some}
@@ -39,8 +39,8 @@ base-as : (i : ℕ) (P Q : ℕ → Type 0) → ((c : ℕ) → P c → Q c) → (
 base-as i P Q f (Pair j c a b u) (e, p) = (e, f c p)
 base-as i P Q f x none = absurd none
 
-base-place : (i : ℕ) (P : ℕ → Type 0) (x : Change) → IsOfBase i P x → place_of x ≡ 2321 + i
-base-place i P (Pair j c a b u) (e, p) = ap (λ z. 2321 + z) e
+base-place : (i : ℕ) (P : ℕ → Type 0) (x : Change) → IsOfBase i P x → place_of x ≡ 2306 + (i * 3 + 1)
+base-place i P (Pair j c a b u) (e, p) = ap (λ z. 2306 + (z * 3 + 1)) e
 base-place i P x none = absurd none
 
 -- two bases, of which a change has one alone
@@ -91,7 +91,7 @@ bases-same v i before ps p old now among a =
 pub bases-all : (v : Versions) (i : ℕ) (old mid now : List Change) → i < accent_limit
     → PushesBases v i [] (pairs_of v.old.now i) old mid
     → PushesBases v i (pairs_of v.old.now i) (pairs_of v.new.now i) mid now
-    → PushesAt v (2321 + i) old now
+    → PushesAt v (2306 + (i * 3 + 1)) old now
 bases-all v i old mid now few a b = search (rules, pushes-both, base-place, base-apart, pairs-only)
 
 -- ---- what two make of bases

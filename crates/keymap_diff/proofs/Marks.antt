@@ -29,8 +29,8 @@ mark-one true m n Meets false true (inr is) (old, new) = absurd (new is)
 -- ---- the one change at a place
 
 pub cell-only : (v : Versions) (slot column place : ℕ) (w : Bool) → column < column_count → slot < slot_limit
-    → place ≡ slot * 8 + column → IsMark (is_some v.seen) v.old.now v.new.now (MeetsCell slot column) w → (x : Change)
-    → IsAt v (1 + place) x
+    → place ≡ slot * 9 + column → IsMark (is_some v.seen) v.old.now v.new.now (MeetsCell slot column) w → (x : Change)
+    → IsAt v (2 + place) x
     → Cell slot column (cell_at v.old.now slot column) (cell_at v.new.now slot column) w ≡ x
 cell-only v slot column place w eight few split mark (Cell s c a b u) (is, at) =
     search (rules, mark-one)
@@ -39,19 +39,19 @@ cell-only v slot column place w eight few split mark x (is, at) = absurd (omega 
 pub letter-only : (v : Versions) (slot : ℕ) (w : Bool) → slot < slot_limit
     → IsMark (is_some v.seen) v.old.now v.new.now
     (MeetsLetters slot (entry_at v.old.now slot).flag (entry_at v.new.now slot).flag) w
-    → (x : Change) → IsAt v (2049 + slot) x
+    → (x : Change) → IsAt v (2 + (slot * 9 + 8)) x
     → Letter slot (entry_at v.old.now slot).flag (entry_at v.new.now slot).flag w ≡ x
 letter-only v slot w few mark (Letter s a b u) (is, at) = search (rules, mark-one)
 letter-only v slot w few mark x (is, at) = search rules
 
 pub order-only : (v : Versions) (accent : ℕ) → accent < accent_limit → (x : Change)
-    → IsAt v (2336 + accent) x → ListedOtherwise accent ≡ x
+    → IsAt v (2306 + (accent * 3 + 2)) x → ListedOtherwise accent ≡ x
 order-only v accent few (ListedOtherwise i) (is, at) = let e : i ≡ accent = omega (arith, at) in cc
 order-only v accent few x (is, at) = search rules
 
 -- what stands at the place of an accent's pairs is one of these
 pub pairs-only : (v : Versions) (accent : ℕ) → accent < accent_limit → (x : Change)
-    → IsAt v (2321 + accent) x
+    → IsAt v (2306 + (accent * 3 + 1)) x
     → (base : ℕ) × (a b : Option ℕ) × (u : Bool) × (Pair accent base a b u ≡ x)
 pairs-only v accent few (Pair i c a b u) (is, at) =
     let e : i ≡ accent = omega (arith, at) in (c, a, b, u, ap (λ z. Pair z c a b u) (sym e))
@@ -81,7 +81,7 @@ no_dead_key i m n all none (slot, column, few, eight, meets) =
 pub letter_one : (v : Versions) (slot : ℕ) (f g : LockFlag) (w : Bool) → slot < slot_limit
     → (entry_at v.old.now slot).flag ≡ f → (entry_at v.new.now slot).flag ≡ g → (f ≡ g → ⊥)
     → IsMark (is_some v.seen) v.old.now v.new.now (MeetsLetters slot f g) w
-    → IsOne (IsAt v (2049 + slot)) (Some (Letter slot f g w))
+    → IsOne (IsAt v (2 + (slot * 9 + 8))) (Some (Letter slot f g w))
 letter_one v slot f g w few old new ne mark = search (rules, letter-only)
 
 -- what is read of an entry's cells is the cell
@@ -92,16 +92,16 @@ reads_cell m e slot column x same lt is =
     ∙ sym (get_or_read_under e.cells column (length e.cells) x (Char 0) is lt refl)
 
 pub cell_one : (v : Versions) (slot column place : ℕ) (a b : CellValue) (w : Bool) → column < column_count
-    → slot < slot_limit → place ≡ slot * 8 + column → cell_at v.old.now slot column ≡ a
+    → slot < slot_limit → place ≡ slot * 9 + column → cell_at v.old.now slot column ≡ a
     → cell_at v.new.now slot column ≡ b → (a ≡ b → ⊥)
     → IsMark (is_some v.seen) v.old.now v.new.now (MeetsCell slot column) w
-    → IsOne (IsAt v (1 + place)) (Some (Cell slot column a b w))
+    → IsOne (IsAt v (2 + place)) (Some (Cell slot column a b w))
 cell_one v slot column place a b w eight few split old new ne mark = search (rules, cell-only)
 
 -- none, where the cells are the same
 pub cell_none : (v : Versions) (slot column place : ℕ) (a b : CellValue) → column < column_count
-    → slot < slot_limit → place ≡ slot * 8 + column → cell_at v.old.now slot column ≡ a
-    → cell_at v.new.now slot column ≡ b → a ≡ b → IsOne (IsAt v (1 + place)) None
+    → slot < slot_limit → place ≡ slot * 9 + column → cell_at v.old.now slot column ≡ a
+    → cell_at v.new.now slot column ≡ b → a ≡ b → IsOne (IsAt v (2 + place)) None
 cell_none v slot column place a b eight few split was is same (Cell s d x y w) ((low, below, old, new, ne, mark), at) =
     let e : s ≡ slot = omega (arith, at, eight, below, split) in
     let f : d ≡ column = omega (arith, at, eight, below, split) in
@@ -111,11 +111,11 @@ cell_none v slot column place a b eight few split was is same x (of, at) = absur
 
 pub order_one : (v : Versions) (i : ℕ) → i < accent_limit
     → HaveSameResults (pairs_of v.old.now i) (pairs_of v.new.now i)
-    → (pairs_of v.old.now i ≡ pairs_of v.new.now i → ⊥) → IsOne (IsAt v (2336 + i)) (Some (ListedOtherwise i))
+    → (pairs_of v.old.now i ≡ pairs_of v.new.now i → ⊥) → IsOne (IsAt v (2306 + (i * 3 + 2))) (Some (ListedOtherwise i))
 order_one v i few same ne = (((few, same, ne), refl), order-only v i few)
 
 pub order_none : (v : Versions) (i : ℕ) → i < accent_limit → pairs_of v.old.now i ≡ pairs_of v.new.now i
-    → IsOne (IsAt v (2336 + i)) None
+    → IsOne (IsAt v (2306 + (i * 3 + 2))) None
 order_none v i few same x is = search (rules, order-only)
 
 pub place_below : (v : Versions) (x : Change) → IsChangeOf v x → place_of x < 2351

@@ -89,16 +89,16 @@ IsChange known m n (Pair i base a b u) =
 IsChange known m n (ListedOtherwise i) =
     (i < accent_limit) × HaveSameResults (pairs_of m i) (pairs_of n i) × (pairs_of m i ≢ pairs_of n i)
 
--- The place of a change: first how many slots, then cells by slot and column, letters by slot, how many accents, their
--- characters, their pairs, and those that are listed otherwise.
+-- The place of a change: first how many slots and how many accents, then slot by slot its cells by column and its
+-- letter, then accent by accent its character, its pairs, and that they are listed otherwise.
 abbrev pub place_of : Change → ℕ
 place_of (Slots a b) = 0
-place_of (Cell s c a b u) = 1 + (s * 8 + c)
-place_of (Letter s a b u) = 2049 + s
-place_of (Accents a b) = 2305
-place_of (Accent i a b u) = 2306 + i
-place_of (Pair i base a b u) = 2321 + i
-place_of (ListedOtherwise i) = 2336 + i
+place_of (Accents a b) = 1
+place_of (Cell s c a b u) = 2 + (s * 9 + c)
+place_of (Letter s a b u) = 2 + (s * 9 + 8)
+place_of (Accent i a b u) = 2306 + i * 3
+place_of (Pair i base a b u) = 2306 + (i * 3 + 1)
+place_of (ListedOtherwise i) = 2306 + (i * 3 + 2)
 
 -- The changes are all that differs, each once, by their places.
 pub record AreChanges (known : Bool) (m n : MapValue) (found : List Change) : Type 0 where

@@ -1,7 +1,7 @@
 //! Finding what differs between two keymaps.
-ghost use Rattle.std.specs.Prelude.{◌≡◌, ◌<◌, ◌+◌, ◌++◌, ℕ, OnOk, IfOk, None, false, true, is_some};
+ghost use Rattle.std.specs.Prelude.{◌≡◌, ◌<◌, ◌+◌, ◌*◌, ◌%◌, ◌++◌, ℕ, OnOk, IfOk, None, false, true, is_some};
 ghost use Rattle.std.specs.Option.{option_to_list};
-ghost use Rattle.keymap_core.specs.Numbers.{accent_limit};
+ghost use Rattle.keymap_core.specs.Numbers.{accent_limit, column_count};
 ghost use Rattle.keymap_core.specs.Accents.{first_result};
 ghost use Rattle.keymap_diff.specs.Changes.{HaveSameResults, AreChanges};
 ghost use Rattle.keymap_diff.specs.Inner.Pushing.{HasBase, IsOne, IsAt, IsOfBaseIn, PushesAt, PushesPlaces};
@@ -16,6 +16,9 @@ use keymap_core::{ACCENT_LIMIT, COLUMN_COUNT, SLOT_LIMIT};
 use std::alloc::{AllocError, Global};
 
 type Added = Result<(), AllocError>;
+
+/// How many places a slot has: those of its cells and of its lock letter.
+const PLACES: usize = COLUMN_COUNT + 1;
 
 /// Adds what is told, if something is.
 fn add<T: Copy>(found: &mut Vec<T>, told: Option<T>) -> Added
@@ -39,14 +42,15 @@ fn slot_counts(versions: &Versions) -> Option<Change>
     }
 }
 
-/// What differs of the cell at the place, of which each slot has eight.
+/// What differs of the cell at the place of its slot, of which each slot has nine.
 fn cell(versions: &Versions, place: usize) -> Option<Change>
     requires sights { HaveSights versions.now }
-    requires place { place < 2_048 }
-    ensures { IsOne (IsAt versions.now (1 + place)) result }
+    requires place { place < 2_304 }
+    requires column { place % 9 < column_count }
+    ensures { IsOne (IsAt versions.now (2 + place)) result }
 {
-    let slot = (place / COLUMN_COUNT) as u8;
-    let column = place % COLUMN_COUNT;
+    let slot = (place / PLACES) as u8;
+    let column = place % PLACES;
     let old = versions.old.entry(slot).cells[column];
     let new = versions.new.entry(slot).cells[column];
     if old != new {
@@ -64,7 +68,7 @@ fn cell(versions: &Versions, place: usize) -> Option<Change>
 
 fn letter(versions: &Versions, slot: u8) -> Option<Change>
     requires { HaveSights versions.now }
-    ensures { IsOne (IsAt versions.now (2_049 + slot)) result }
+    ensures { IsOne (IsAt versions.now (2 + (slot * 9 + 8))) result }
 {
     let old = versions.old.entry(slot).flag;
     let new = versions.new.entry(slot).flag;
@@ -81,7 +85,7 @@ fn letter(versions: &Versions, slot: u8) -> Option<Change>
 }
 
 fn accent_counts(versions: &Versions) -> Option<Change>
-    ensures { IsOne (IsAt versions.now 2_305) result }
+    ensures { IsOne (IsAt versions.now 1) result }
 {
     let old = versions.old.n_accs();
     let new = versions.new.n_accs();
@@ -95,7 +99,7 @@ fn accent_counts(versions: &Versions) -> Option<Change>
 fn accent_character(versions: &Versions, accent: u8) -> Option<Change>
     requires sights { HaveSights versions.now }
     requires accent { accent < accent_limit }
-    ensures { IsOne (IsAt versions.now (2_306 + accent)) result }
+    ensures { IsOne (IsAt versions.now (2_306 + accent * 3)) result }
 {
     let old = versions.old.accent_or_blank(accent).own();
     let new = versions.new.accent_or_blank(accent).own();
@@ -173,7 +177,7 @@ pub(crate) fn have_same_results(old: &[(char, char)], new: &[(char, char)]) -> b
 /// Whether the pairs of the accent are others, though they make the same of each base.
 fn listed_otherwise(versions: &Versions, accent: u8) -> Option<Change>
     requires { accent < accent_limit }
-    ensures { IsOne (IsAt versions.now (2_336 + accent)) result }
+    ensures { IsOne (IsAt versions.now (2_306 + (accent * 3 + 2))) result }
 {
     let old = versions.old.accent_or_blank(accent).pairs();
     let new = versions.new.accent_or_blank(accent).pairs();
@@ -187,32 +191,25 @@ fn listed_otherwise(versions: &Versions, accent: u8) -> Option<Change>
     }
 }
 
-fn push_cells(found: &mut Vec<Change>, versions: &Versions) -> Added
-    requires { HaveSights versions.now }
-    ensures { OnOk result (PushesPlaces versions.now 1 2_049 found.old.items found.new.items) }
+/// What differs at the place of a slot: of a cell, or behind them of the lock letter.
+fn part(versions: &Versions, place: usize) -> Option<Change>
+    requires sights { HaveSights versions.now }
+    requires place { place < 2_304 }
+    ensures { IsOne (IsAt versions.now (2 + place)) result }
 {
-    for place in 0..SLOT_LIMIT * COLUMN_COUNT {
-        add(found, cell(versions, place))?;
+    if place % PLACES < COLUMN_COUNT {
+        cell(versions, place)
+    } else {
+        letter(versions, (place / PLACES) as u8)
     }
-    Ok(())
 }
 
-fn push_letters(found: &mut Vec<Change>, versions: &Versions) -> Added
+fn push_slots(found: &mut Vec<Change>, versions: &Versions) -> Added
     requires { HaveSights versions.now }
-    ensures { OnOk result (PushesPlaces versions.now 2_049 2_305 found.old.items found.new.items) }
+    ensures { OnOk result (PushesPlaces versions.now 2 2_306 found.old.items found.new.items) }
 {
-    for slot in 0..SLOT_LIMIT {
-        add(found, letter(versions, slot as u8))?;
-    }
-    Ok(())
-}
-
-fn push_accents(found: &mut Vec<Change>, versions: &Versions) -> Added
-    requires { HaveSights versions.now }
-    ensures { OnOk result (PushesPlaces versions.now 2_306 2_321 found.old.items found.new.items) }
-{
-    for accent in 0..ACCENT_LIMIT as u8 {
-        add(found, accent_character(versions, accent))?;
+    for place in 0..SLOT_LIMIT * PLACES {
+        add(found, part(versions, place))?;
     }
     Ok(())
 }
@@ -253,7 +250,7 @@ fn push_bases(
 fn push_pairs_of(found: &mut Vec<Change>, versions: &Versions, accent: u8) -> Added
     requires sights { HaveSights versions.now }
     requires accent { accent < accent_limit }
-    ensures { OnOk result (PushesAt versions.now (2_321 + accent) found.old.items found.new.items) }
+    ensures { OnOk result (PushesAt versions.now (2_306 + (accent * 3 + 1)) found.old.items found.new.items) }
 {
     let old = versions.old.accent_or_blank(accent).pairs();
     let new = versions.new.accent_or_blank(accent).pairs();
@@ -262,21 +259,24 @@ fn push_pairs_of(found: &mut Vec<Change>, versions: &Versions, accent: u8) -> Ad
     Ok(())
 }
 
-fn push_pairs(found: &mut Vec<Change>, versions: &Versions) -> Added
-    requires { HaveSights versions.now }
-    ensures { OnOk result (PushesPlaces versions.now 2_321 2_336 found.old.items found.new.items) }
+fn push_accent(found: &mut Vec<Change>, versions: &Versions, accent: u8) -> Added
+    requires sights { HaveSights versions.now }
+    requires accent { accent < accent_limit }
+    ensures { OnOk result (PushesPlaces versions.now (2_306 + accent * 3) (2_306 + (accent + 1) * 3) found.old.items
+        found.new.items) }
 {
-    for accent in 0..ACCENT_LIMIT as u8 {
-        push_pairs_of(found, versions, accent)?;
-    }
+    add(found, accent_character(versions, accent))?;
+    push_pairs_of(found, versions, accent)?;
+    add(found, listed_otherwise(versions, accent))?;
     Ok(())
 }
 
-fn push_listed_otherwise(found: &mut Vec<Change>, versions: &Versions) -> Added
-    ensures { OnOk result (PushesPlaces versions.now 2_336 2_351 found.old.items found.new.items) }
+fn push_accents(found: &mut Vec<Change>, versions: &Versions) -> Added
+    requires { HaveSights versions.now }
+    ensures { OnOk result (PushesPlaces versions.now 2_306 2_351 found.old.items found.new.items) }
 {
     for accent in 0..ACCENT_LIMIT as u8 {
-        add(found, listed_otherwise(versions, accent))?;
+        push_accent(found, versions, accent)?;
     }
     Ok(())
 }
@@ -289,11 +289,8 @@ pub(crate) fn changes(alloc: Global, versions: &Versions) -> Result<Vec<Change>,
 {
     let mut found = Vec::new(alloc);
     add(&mut found, slot_counts(versions))?;
-    push_cells(&mut found, versions)?;
-    push_letters(&mut found, versions)?;
     add(&mut found, accent_counts(versions))?;
+    push_slots(&mut found, versions)?;
     push_accents(&mut found, versions)?;
-    push_pairs(&mut found, versions)?;
-    push_listed_otherwise(&mut found, versions)?;
     Ok(found)
 }

@@ -1,6 +1,0 @@
-use Rattle.std.proofs.Common.{rules}
-use Rattle.keymap_diff.proofs.Pushing.{places-more}
-use Rattle.keymap_diff.proofs.compared.push_pairs.Goals as goal
-
-pub loop-accent-preserved : goal.loop-accent-preserved
-loop-accent-preserved c = search (rules, places-more)

@@ -1,6 +1,0 @@
-use Rattle.keymap_diff.specs.Inner.Pushing.{PushesPlaces}
-use Rattle.std.proofs.Common.{◌+◌}
-use Rattle.keymap_diff.proofs.compared.push_pairs.Given as goal
-
-abbrev pub invariant-loop-accent : goal.invariant-loop-accent
-invariant-loop-accent l = PushesPlaces l.versions 2321 (2321 + l.accent) l.fn.found.items l.found.items

@@ -1,14 +1,14 @@
 #!/usr/bin/env python3
-"""The characters that aren't shown or drawn as they are, by Unicode's properties, as keymap_core and keymap_draw have
-them.
+"""The characters that aren't shown or drawn as they are, by Unicode's properties, as keymap_core, keymap_names and
+keymap_draw have them.
 
 usage: unseen.py [--check]
 
 Prints the ranges of each property from Python's `unicodedata`. With --check it compares them with those of
 crates/keymap_core/specs/Unseen.antt and src/unseen.rt (what a terminal doesn't show) and with the tables of
-crates/keymap_draw/src/characters.rt (what has a number for a legend, and which marks have a circle), which the
-definitions cite, and the short names of specs/Names.antt and src/tables.rt there with Unicode's aliases of names; and
-the capitals and the marks of accents of src/tables.rt with Unicode's. It tells each difference, and ends with status 1
+crates/keymap_names/src/characters.rt (what has a number, and which marks have a circle), which the definitions cite, and
+the short names of specs/Names.antt and src/tables.rt of keymap_draw with Unicode's aliases of names; and the capitals
+and the marks of accents of that src/tables.rt with Unicode's. It tells each difference, and ends with status 1
 where there is one.
 
 Python has the categories and classes, but neither Bidi_Control nor Default_Ignorable_Code_Point. The first is the
@@ -157,9 +157,9 @@ FILES = [
 
 # The tables of what isn't drawn as it is, and what the definition and the code add to the first of them: the last
 # characters of each plane.
-TABLES = "keymap_draw/src/characters.rt"
+TABLES = "keymap_names/src/characters.rt"
 PLANES = [
-    ("keymap_draw/specs/Characters.antt", rf"nat_le {NUMBER} \(c % {NUMBER}\)"),
+    ("keymap_names/specs/Characters.antt", rf"nat_le {NUMBER} \(c % {NUMBER}\)"),
     (TABLES, rf"{NUMBER} <= number % {NUMBER}"),
 ]
 

@@ -17,8 +17,8 @@ use Rattle.keymap_text.specs.Words.{control_names}
 use Rattle.keymap_draw.specs.declared.tables.UnseenName.{UnseenName}
 use Rattle.keymap_draw.specs.declared.tables.TheConstants.{UNSEEN_NAMES, ACCENT_MARKS}
 use Rattle.keymap_core.specs.Unseen.{is_control}
-use Rattle.keymap_draw.specs.Characters.{is_numbered, is_mark}
-use Rattle.keymap_draw.specs.Legends.{name_in, marked, is_coded, shown_legend, named_or, accent_mark, action_legend}
+use Rattle.keymap_names.specs.Characters.{is_coded, is_numbered, is_mark}
+use Rattle.keymap_draw.specs.Legends.{name_in, marked, shown_legend, named_or, accent_mark, action_legend}
 use Rattle.messages.proofs.Shared.{append_all}
 use Rattle.keymap_draw.proofs.Scans.{both_true, first_true, second_true, flat_all, name_all, item_all, hex_shown}
 use Rattle.std.specs.Prelude.{nat_le}

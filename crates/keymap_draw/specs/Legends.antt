@@ -9,11 +9,10 @@ use Rattle.keymap_core.specs.declared.entry.Cell.{Cell}
 use Rattle.keymap_core.specs.declared.entry.Cell.TheVariants.{Char, Act}
 use Rattle.keymap_core.specs.Actions.{name_of}
 use Rattle.keymap_core.specs.CodePoints.{code_text}
-use Rattle.keymap_core.specs.Unseen.{is_unseen}
 use Rattle.keymap_text.specs.Printed.{control_name}
 use Rattle.keymap_draw.specs.declared.tables.UnseenName.{UnseenName}
 use Rattle.keymap_draw.specs.declared.tables.TheConstants.{UNSEEN_NAMES, ACCENT_MARKS}
-use Rattle.keymap_draw.specs.Characters.{is_numbered, is_mark}
+use Rattle.keymap_names.specs.Characters.{is_coded, is_mark}
 
 -- the name in the first row for the character, filled with blanks
 abbrev pub name_in : List UnseenName → ℕ → Option (List ℕ)
@@ -26,10 +25,6 @@ unfilled name = filter (λ letter. not (letter == 32)) name
 -- a mark on a dotted circle
 abbrev pub marked : ℕ → List ℕ
 marked mark = 0x25cc ∷ mark ∷ []
-
--- what a terminal doesn't show, the blanks, the private characters, and what is no character
-unfoldable pub is_coded : ℕ → Bool
-is_coded c = is_unseen c || is_numbered c
 
 unfoldable pub unseen_name : ℕ → Option (List ℕ)
 unseen_name c = name_in UNSEEN_NAMES c

@@ -7,10 +7,11 @@ ghost use Rattle.keymap_draw.specs.Characters.{is_large as is_large_sign};
 ghost use Rattle.keymap_draw.specs.Legends as spec;
 ghost use Rattle.keymap_draw.specs.Sheets.{is_seen};
 
-use crate::characters::{is_large, is_mark, is_numbered};
+use crate::characters::is_large;
 use crate::tables::{ACCENT_MARKS, UNSEEN_NAMES, UnseenName};
 use arrayvec::ArrayVec;
-use keymap_core::{Action, Cell, code_text, is_unseen};
+use keymap_core::{Action, Cell, code_text};
+use keymap_names::{is_coded, is_mark};
 use keymap_text::control_name;
 use messages::small;
 
@@ -91,11 +92,11 @@ fn unfilled(name: &[u8; 5]) -> Legend
 }
 
 /// The legend of a character that has no name.
-#[tactic(auto, unfolding(crate::specs::Legends::is_coded, crate::specs::Legends::shown_legend))]
+#[tactic(auto, unfolding(crate::specs::Legends::shown_legend))]
 fn shown_legend(c: char) -> Legend
     ensures { result.items ≡ spec.shown_legend c }
 {
-    if is_unseen(c) || is_numbered(c) {
+    if is_coded(c) {
         word(code_text(c).as_slice())
     } else if is_mark(c) {
         marked(c)

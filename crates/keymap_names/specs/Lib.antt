@@ -1,3 +1,4 @@
+pub mod Characters
 pub mod Lists
 pub mod Quoted
 pub mod Shown

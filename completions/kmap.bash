@@ -6,7 +6,7 @@ _kmap_words() {
     '') echo 'check search diff lint fmt play type cover compile dump draw help -h --help -V --version' ;;
     check) echo '--show --brief -h --help' ;;
     search) echo '--next -h --help' ;;
-    diff) echo '-h --help' ;;
+    diff) echo '--brief -h --help' ;;
     lint) echo '--strict --name -h --help' ;;
     fmt) echo '--check --print --quote -h --help' ;;
     play) echo '--typed --next -h --help' ;;

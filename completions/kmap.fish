@@ -33,6 +33,7 @@ complete -c kmap -n '__kmap_after check' -s h -l help -d 'Print help'
 complete -c kmap -n '__kmap_after search' -l next -r -F -d 'The keymap text that a load puts in force'
 complete -c kmap -n '__kmap_after search' -s h -l help -d 'Print help'
 
+complete -c kmap -n '__kmap_after diff' -l brief -d 'Counts the slots and accents that differ, and prints no events'
 complete -c kmap -n '__kmap_after diff' -s h -l help -d 'Print help'
 
 complete -c kmap -n '__kmap_after lint' -l strict -d 'Counts warnings as errors'

@@ -148,6 +148,7 @@ yields all_chars
 yields same_text
 yields cover_text
 yields diff_text
+yields brief_text
 refuses format
 yields picture
 refuses filled

@@ -203,7 +203,7 @@ if [ "$passed" -gt 0 ] && [ "$failed" -eq 0 ]; then
     holds 'another name of a column is seen' misses "$lint" COLUMN_NAMES 'b"alt ctrl"' 'b"ctrl alt"'
     holds 'another word of a comment is seen' misses "$runs" UNDECIDED 'presses sticks' 'presses stick'
     holds 'another word of a verdict is seen' misses "$runs" NOT_TOLD 'not told apart' 'never told apart'
-    holds 'another word of what differs is seen' misses "$runs" PAIR 'pair: {}; {}' 'pair: {}, {}'
+    holds 'another word of what differs is seen' misses "$runs" LISTED_OTHERWISE '; listed' ', listed'
     holds 'another word at a place is seen' misses "$runs" LOCK_SETTINGS '"lock settings"' '"settings"'
     holds 'another word of a list is seen' misses "$runs" BOTH_LOCKS 'clock+nlock' 'clock nlock'
     holds 'another word of a run of slots is seen' misses "$runs" SLOTS 'slots {} to {}' 'slots {} - {}'

@@ -21,14 +21,9 @@ A key with plus on control too, and a tilde that waits for a letter:
   >     echo "dtil '~' ( 'a' 'ã' ) ( 'n' 'ñ' ) ( 'o' 'õ' )"
   > } > de-new.kbd
   $ kmap diff "$examples/de.kbd" de-new.kbd
-  # told apart: char 29 -> char 43
-  # cell: slot 27; ctrl: gs -> '+'
-  # cell: slot 27; alt: '~' -> dtil
-  # cell: slot 27; alt ctrl: gs -> dtil
-  # accent: dtil: nul -> '~'
-  # pair: dtil; 'a': none -> 0x00e3
-  # pair: dtil; 'n': none -> 0x00f1
-  # pair: dtil; 'o': none -> 0x00f5
+  # told apart: gs -> '+'
+  # slot 27; ctrl: gs -> '+'; alt: '~' -> dtil; alt ctrl: gs -> dtil
+  # dtil; own: none -> '~'; 'a': none -> 'ã'; 'n': none -> 'ñ'; 'o': none -> 'õ'
   down 29
   down 27
   [1]
@@ -41,11 +36,9 @@ A key with plus on control too, and a tilde that waits for a letter:
   [1]
 
 The other way round:
-  $ kmap diff de-new.kbd "$examples/de.kbd" | sed -n '1p;/^# pair/p;/^[a-z]/p'
-  # told apart: char 43 -> char 29
-  # pair: dtil; 'a': 0x00e3 -> none
-  # pair: dtil; 'n': 0x00f1 -> none
-  # pair: dtil; 'o': 0x00f5 -> none
+  $ kmap diff de-new.kbd "$examples/de.kbd" | sed -n '1p;/^# dtil/p;/^[a-z]/p'
+  # told apart: '+' -> gs
+  # dtil; own: '~' -> none; 'a': 'ã' -> none; 'n': 'ñ' -> none; 'o': 'õ' -> none
   down 29
   down 27
 
@@ -58,17 +51,9 @@ A slot that no key selects, and pairs in another order:
   > } > us-more.kbd
   $ kmap diff "$examples/us.kbd" us-more.kbd
   # never told apart
-  # slots: 109 -> 131
-  # unseen cell: slot 130; base: nul -> nop
-  # unseen cell: slot 130; shift: nul -> nop
-  # unseen cell: slot 130; ctrl: nul -> nop
-  # unseen cell: slot 130; ctrl shift: nul -> nop
-  # unseen cell: slot 130; alt: nul -> nop
-  # unseen cell: slot 130; alt shift: nul -> nop
-  # unseen cell: slot 130; alt ctrl: nul -> nop
-  # unseen cell: slot 130; alt ctrl shift: nul -> nop
-  # unseen lock: slot 130: O -> C
-  # pairs: dgra: listed otherwise, with the same results
+  # last slot: 108 -> 130
+  # slot 130 (unseen); all columns: nul -> nop; lock: O -> C
+  # dgra; listed otherwise
   [1]
 
 What can't show, since the key holds shift where it looks the cell up:
@@ -76,7 +61,7 @@ What can't show, since the key holds shift where it looks the cell up:
   $ echo '042 lshift clock lshift lshift lshift lshift lshift lshift O' > new
   $ kmap diff old new
   # never told apart
-  # cell: slot 42; shift: nop -> clock
+  # slot 42; shift: nop -> clock
   [1]
 
 Keymaps that are the same: one text twice, and another spelling, order and layout, with a definition that the last one
@@ -105,7 +90,7 @@ Where only the number of slots differs, nobody can notice:
   $ { cat one; all 060 nul; } > other
   $ kmap diff one other
   # never told apart
-  # slots: 31 -> 61
+  # last slot: 30 -> 60
   [1]
 
 An answer to a release tells them apart where those to the press are the same:
@@ -113,13 +98,13 @@ An answer to a release tells them apart where those to the press are the same:
   $ { base 040 dacu; echo 'dacu 180'; } > other
   $ kmap diff one other
   # told apart: none -> released dacu
-  # cell: slot 40; base: nop -> dacu
+  # slot 40; base: nop -> dacu
   down 40
   up 40
   [1]
   $ kmap diff other one
   # told apart: released dacu -> none
-  # cell: slot 40; base: dacu -> nop
+  # slot 40; base: dacu -> nop
   down 40
   up 40
   [1]
@@ -128,28 +113,28 @@ Each answer is told in the words of `play`:
   $ base 040 dacu > one
   $ kmap diff one other
   # told apart: error -> none
-  # accents: 0 -> 2
-  # accent: dacu: nul -> 0x00b4
+  # last accent: none -> dacu
+  # dacu; own: none -> '´'
   down 40
   [1]
   $ base 015 btab > one
   $ base 015 fkey07 > other
   $ kmap diff one other
   # told apart: btab -> fkey07
-  # cell: slot 15; base: btab -> fkey07
+  # slot 15; base: btab -> fkey07
   down 15
   [1]
   $ base 015 "'''" > one
   $ kmap diff one other
-  # told apart: char 39 -> fkey07
-  # cell: slot 15; base: ''' -> fkey07
+  # told apart: ''' -> fkey07
+  # slot 15; base: ''' -> fkey07
   down 15
   [1]
   $ base 015 lshift > one
   $ base 015 slock > other
   $ kmap diff one other
   # told apart: lshift -> slock
-  # cell: slot 15; base: lshift -> slock
+  # slot 15; base: lshift -> slock
   down 15
   [1]
 
@@ -157,8 +142,8 @@ A look-up of `nop` or `nul` tells too:
   $ { base 000 nop; base 001 "'b'"; } > other
   $ { base 000 nul; base 001 "'b'"; } > one
   $ kmap diff one other
-  # told apart: char 0 -> none
-  # cell: slot 0; base: nul -> nop
+  # told apart: nul -> none
+  # slot 0; base: nul -> nop
   down 0
   [1]
 
@@ -167,18 +152,18 @@ does so in another state.
   $ { base 000 nul; base 001 "'b'"; } > one
   $ { base 000 nop; base 001 "'c'"; } > other
   $ kmap diff one other
-  # told apart: char 98 -> char 99
-  # cell: slot 0; base: nul -> nop
-  # cell: slot 1; base: 'b' -> 'c'
+  # told apart: 'b' -> 'c'
+  # slot 0; base: nul -> nop
+  # slot 1; base: 'b' -> 'c'
   down 1
   [1]
   $ { echo "0 nop nop nop nop nop nop nop nop O"; echo "30 'a' 'A' nop nop nop nop nop nop O"; } > one
   $ { echo "0 nop nop nul nop nop nop nop nop O"; echo "30 'a' 'B' nop nop nop nop nop nop O"; } > other
   $ { all 29 lctrl; all 42 lshift; } | tee -a one >> other
   $ kmap diff one other
-  # told apart: none -> char 0
-  # cell: slot 0; ctrl: nop -> nul
-  # cell: slot 30; shift: 'A' -> 'B'
+  # told apart: none -> nul
+  # slot 0; ctrl: nop -> nul
+  # slot 30; shift: 'A' -> 'B'
   down 29
   down 0
   [1]
@@ -187,9 +172,9 @@ A key that looks up one of them is told where fewer presses lead there:
   $ { base 000 nul; echo "30 'a' 'A' nop nop nop nop nop nop O"; all 42 lshift; } > one
   $ { base 000 nop; echo "30 'a' 'B' nop nop nop nop nop nop O"; all 42 lshift; } > other
   $ kmap diff one other
-  # told apart: char 0 -> none
-  # cell: slot 0; base: nul -> nop
-  # cell: slot 30; shift: 'A' -> 'B'
+  # told apart: nul -> none
+  # slot 0; base: nul -> nop
+  # slot 30; shift: 'A' -> 'B'
   down 0
   [1]
 
@@ -205,40 +190,19 @@ Each change has a line of its own, by slots and then by columns:
   >     all 42 lshift; all 29 lctrl
   > } > other
   $ kmap diff one other
-  # told apart: char 97 -> char 98
-  # cell: slot 2; base: 'a' -> 'b'
-  # cell: slot 2; shift: 'A' -> 'B'
-  # cell: slot 2; ctrl: 'a' -> 'b'
-  # cell: slot 2; ctrl shift: 'A' -> 'B'
-  # cell: slot 3; base: 'a' -> 'b'
-  # cell: slot 3; shift: 'A' -> 'B'
-  # cell: slot 3; ctrl: 'a' -> 'b'
-  # cell: slot 3; ctrl shift: 'A' -> 'B'
-  # cell: slot 4; base: 'a' -> 'b'
-  # cell: slot 4; shift: 'A' -> 'B'
-  # cell: slot 4; ctrl: 'a' -> 'b'
-  # cell: slot 4; ctrl shift: 'A' -> 'B'
-  # cell: slot 30; base: 'a' -> 'b'
-  # cell: slot 30; shift: 'A' -> 'B'
-  # cell: slot 30; ctrl: 'a' -> 'b'
-  # cell: slot 30; ctrl shift: 'A' -> 'B'
-  # cell: slot 31; base: 'a' -> 'b'
-  # cell: slot 31; shift: 'a' -> 'b'
-  # unseen cell: slot 31; alt ctrl shift: nop -> nul
+  # told apart: 'a' -> 'b'
+  # slot 2; base, ctrl: 'a' -> 'b'; shift, ctrl shift: 'A' -> 'B'
+  # slot 3; base, ctrl: 'a' -> 'b'; shift, ctrl shift: 'A' -> 'B'
+  # slot 4; base, ctrl: 'a' -> 'b'; shift, ctrl shift: 'A' -> 'B'
+  # slot 30; base, ctrl: 'a' -> 'b'; shift, ctrl shift: 'A' -> 'B'
+  # slot 31; base, shift: 'a' -> 'b'; alt ctrl shift: nop -> nul (unseen)
   down 2
   [1]
   $ { all 30 "'a'"; all 42 lshift; } > one
   $ { all 30 "'b'"; all 42 lshift; } > other
   $ kmap diff one other
-  # told apart: char 97 -> char 98
-  # cell: slot 30; base: 'a' -> 'b'
-  # cell: slot 30; shift: 'a' -> 'b'
-  # unseen cell: slot 30; ctrl: 'a' -> 'b'
-  # unseen cell: slot 30; ctrl shift: 'a' -> 'b'
-  # unseen cell: slot 30; alt: 'a' -> 'b'
-  # unseen cell: slot 30; alt shift: 'a' -> 'b'
-  # unseen cell: slot 30; alt ctrl: 'a' -> 'b'
-  # unseen cell: slot 30; alt ctrl shift: 'a' -> 'b'
+  # told apart: 'a' -> 'b'
+  # slot 30; base, shift: 'a' -> 'b'; ctrl, ctrl shift, alt, alt shift, alt ctrl, alt ctrl shift: 'a' -> 'b' (unseen)
   down 30
   [1]
 
@@ -249,10 +213,10 @@ Lock letters, where the lock is there, and where it isn't:
   $ { letters O; all 58 clock; } > one
   $ { letters C; all 58 clock; } > other
   $ kmap diff one other
-  # told apart: char 97 -> char 65
-  # lock: slot 16: O -> C
-  # lock: slot 17: O -> C
-  # lock: slot 30: O -> C
+  # told apart: 'a' -> 'A'
+  # slot 16; lock: O -> C
+  # slot 17; lock: O -> C
+  # slot 30; lock: O -> C
   down 58
   up 58
   down 16
@@ -262,32 +226,25 @@ Lock letters, where the lock is there, and where it isn't:
   $ letters C > other
   $ kmap diff one other
   # never told apart
-  # unseen lock: slot 16: O -> C
-  # unseen lock: slot 17: O -> C
-  # unseen lock: slot 30: O -> C
+  # slot 16 (unseen); lock: O -> C
+  # slot 17 (unseen); lock: O -> C
+  # slot 30 (unseen); lock: O -> C
   [1]
   $ { letters C; all 58 clock; } > one
   $ { letters B; all 58 clock; } > other
   $ kmap diff one other
   # never told apart
-  # unseen lock: slot 16: C -> B
-  # unseen lock: slot 17: C -> B
-  # unseen lock: slot 30: C -> B
+  # slot 16 (unseen); lock: C -> B
+  # slot 17 (unseen); lock: C -> B
+  # slot 30 (unseen); lock: C -> B
   [1]
 
 The upper half, which a lock selects:
   $ { all 30 "'a'"; all 58 alock; all 158 "'b'"; all 186 alock; } > one
   $ { all 30 "'a'"; all 58 alock; all 158 "'c'"; all 186 alock; } > other
   $ kmap diff one other
-  # told apart: char 98 -> char 99
-  # cell: slot 158; base: 'b' -> 'c'
-  # unseen cell: slot 158; shift: 'b' -> 'c'
-  # unseen cell: slot 158; ctrl: 'b' -> 'c'
-  # unseen cell: slot 158; ctrl shift: 'b' -> 'c'
-  # unseen cell: slot 158; alt: 'b' -> 'c'
-  # unseen cell: slot 158; alt shift: 'b' -> 'c'
-  # unseen cell: slot 158; alt ctrl: 'b' -> 'c'
-  # unseen cell: slot 158; alt ctrl shift: 'b' -> 'c'
+  # told apart: 'b' -> 'c'
+  # slot 158; base: 'b' -> 'c'; shift, ctrl, ctrl shift, alt, alt shift, alt ctrl, alt ctrl shift: 'b' -> 'c' (unseen)
   down 58
   up 58
   down 30
@@ -298,12 +255,8 @@ What an accent makes of letters, on which keys give them and no key gives them:
   $ { cat keys; echo "dacu 180 ( 'a' 225 ) ( 'e' 233 ) ( 'o' 243 )"; } > one
   $ { cat keys; echo "dacu 180 ( 'u' 250 ) ( 'o' 242 ) ( 'a' 226 ) ( 'i' 250 )"; } > other
   $ kmap diff one other
-  # told apart: char 225 -> char 226
-  # pair: dacu; 'a': 0x00e1 -> 0x00e2
-  # pair: dacu; 'e': 0x00e9 -> none
-  # unseen pair: dacu; 'o': 0x00f3 -> 0x00f2
-  # unseen pair: dacu; 'u': none -> 0x00fa
-  # unseen pair: dacu; 'i': none -> 0x00fa
+  # told apart: 'á' -> 'â'
+  # dacu; 'a': 'á' -> 'â'; 'e': 'é' -> none; 'o': 'ó' -> 'ò' (unseen); 'u': none -> 'ú' (unseen); 'i': none -> 'ú' (unseen)
   down 40
   up 40
   down 30
@@ -311,8 +264,8 @@ What an accent makes of letters, on which keys give them and no key gives them:
   $ apart one other
   $ { cat keys; echo "dacu 180 ( 'a' 225 ) ( 'o' 243 )"; } > other
   $ kmap diff one other
-  # told apart: char 233 -> error
-  # pair: dacu; 'e': 0x00e9 -> none
+  # told apart: 'é' -> error
+  # dacu; 'e': 'é' -> none
   down 40
   up 40
   down 31
@@ -322,8 +275,8 @@ Its own character, by a repeat or a blank:
   $ { all 40 dacu; echo "dacu 180"; } > one
   $ { all 40 dacu; echo "dacu '~'"; } > other
   $ kmap diff one other | grep '^#'
-  # told apart: char 180 -> char 126
-  # accent: dacu: 0x00b4 -> '~'
+  # told apart: '´' -> '~'
+  # dacu; own: '´' -> '~'
   $ apart one other
 
 Accents that no key has:
@@ -331,11 +284,9 @@ Accents that no key has:
   $ echo "dgra nul ( 'a' 'c' ) ( 'b' 'c' ) dacu 180 ( 'a' 'b' ) dcir '^'" > other
   $ kmap diff one other
   # never told apart
-  # accents: 2 -> 3
-  # unseen accent: dgra: '`' -> nul
-  # unseen accent: dcir: nul -> '^'
-  # unseen pair: dgra; 'a': 'b' -> 'c'
-  # unseen pair: dgra; 'b': none -> 'c'
+  # last accent: dacu -> dcir
+  # dgra (unseen); own: '`' -> none; 'a': 'b' -> 'c'; 'b': none -> 'c'
+  # dcir (unseen); own: none -> '^'
   [1]
 
 A pair behind another one with the same base:
@@ -343,33 +294,26 @@ A pair behind another one with the same base:
   $ { cat keys; echo "dacu 180 ( 'a' 225 ) ( 'e' 233 ) ( 'a' 226 )"; } > other
   $ kmap diff one other
   # never told apart
-  # pairs: dacu: listed otherwise, with the same results
+  # dacu; listed otherwise
   [1]
 
 An old keymap in which shift can stick:
   $ { cat "$examples/trap.kbd"; all 130 nop; } > trap-more
-  $ kmap diff "$examples/trap.kbd" trap-more | grep -v '^# slots'
+  $ kmap diff "$examples/trap.kbd" trap-more | grep -v '^# last slot'
   # not told apart before a modifier sticks
-  # unseen cell: slot 130; base: nul -> nop
-  # unseen cell: slot 130; shift: nul -> nop
-  # unseen cell: slot 130; ctrl: nul -> nop
-  # unseen cell: slot 130; ctrl shift: nul -> nop
-  # unseen cell: slot 130; alt: nul -> nop
-  # unseen cell: slot 130; alt shift: nul -> nop
-  # unseen cell: slot 130; alt ctrl: nul -> nop
-  # unseen cell: slot 130; alt ctrl shift: nul -> nop
+  # slot 130 (unseen); all columns: nul -> nop
   $ kmap diff trap-more "$examples/trap.kbd" | head -n 1
   # not told apart before a modifier sticks
   $ { cat "$examples/trap.kbd"; all 100 "'y'"; } > trap-key
   $ kmap diff "$examples/trap.kbd" trap-key | sed -n '1p;/^[a-z]/p'
-  # told apart: char 0 -> char 121
+  # told apart: nul -> 'y'
   down 100
 
 A key that is pressed again, where shift is a character under control; and a key that forgets in the new keymap alone:
   $ sed "s/'x'    'x'/'x' 'y'/" "$examples/trap.kbd" > trap-again
   $ kmap diff "$examples/trap.kbd" trap-again
-  # told apart: char 120 -> char 121
-  # cell: slot 42; ctrl shift: 'x' -> 'y'
+  # told apart: 'x' -> 'y'
+  # slot 42; ctrl shift: 'x' -> 'y'
   down 42
   down 29
   repeat 42
@@ -377,9 +321,8 @@ A key that is pressed again, where shift is a character under control; and a key
   $ apart "$examples/trap.kbd" trap-again
   $ sed "s/'x'    'x'/lshift lshift/" "$examples/trap.kbd" > safe
   $ kmap diff safe "$examples/trap.kbd"
-  # told apart: lshift -> char 120
-  # cell: slot 42; ctrl: lshift -> 'x'
-  # cell: slot 42; ctrl shift: lshift -> 'x'
+  # told apart: lshift -> 'x'
+  # slot 42; ctrl, ctrl shift: lshift -> 'x'
   down 29
   down 42
   [1]
@@ -399,9 +342,8 @@ A key that is pressed again, where shift is a character under control; and a key
   $ { cat one; echo "dacu 180 ( 'a' 'b' )"; } > other
   $ kmap diff one other
   # never told apart
-  # accents: 0 -> 2
-  # unseen accent: dacu: nul -> 0x00b4
-  # unseen pair: dacu; 'a': none -> 'b'
+  # last accent: none -> dacu
+  # dacu (unseen); own: none -> '´'; 'a': none -> 'b'
   [1]
   $ states 10 > one
   $ { cat one; echo "dacu 180 ( 'a' 'b' )"; } > other
@@ -409,9 +351,8 @@ A key that is pressed again, where shift is a character under control; and a key
   [1]
   $ sed 's/ [0-9][0-9]* presses/ P presses/' found
   # undecided: no list of up to P presses tells them apart
-  # accents: 0 -> 2
-  # accent: dacu: nul -> 0x00b4
-  # pair: dacu; 'a': none -> 'b'
+  # last accent: none -> dacu
+  # dacu; own: none -> '´'; 'a': none -> 'b'
 
 As many, where five presses tell them apart of which one makes key 42 forget that it holds shift. What is told is said
 of all lists, so it goes no further than the two presses that lead there.
@@ -432,7 +373,7 @@ of all lists, so it goes no further than the two presses that lead there.
   $ sticking "'D'" > other
   $ kmap diff one other
   # undecided: no list of up to 2 presses tells them apart
-  # cell: slot 30; ctrl shift: 'd' -> 'D'
+  # slot 30; ctrl shift: 'd' -> 'D'
   [1]
   $ printf 'down 42\ndown 50\nrepeat 42\nup 42\nup 50\ndown 42\ndown 30\n' > script
   $ kmap play one script | tail -n 1
@@ -442,32 +383,18 @@ of all lists, so it goes no further than the two presses that lead there.
 
 As many, where a press tells them apart at once:
   $ { cat one; all 90 "'a'"; all 218 "'a'"; } > other
-  $ kmap diff one other | grep -v '^# slots'
-  # told apart: char 0 -> char 97
-  # cell: slot 90; base: nul -> 'a'
-  # cell: slot 90; shift: nul -> 'a'
-  # cell: slot 90; ctrl: nul -> 'a'
-  # cell: slot 90; ctrl shift: nul -> 'a'
-  # cell: slot 90; alt: nul -> 'a'
-  # cell: slot 90; alt shift: nul -> 'a'
-  # cell: slot 90; alt ctrl: nul -> 'a'
-  # cell: slot 90; alt ctrl shift: nul -> 'a'
-  # cell: slot 218; base: nul -> 'a'
-  # cell: slot 218; shift: nul -> 'a'
-  # cell: slot 218; ctrl: nul -> 'a'
-  # cell: slot 218; ctrl shift: nul -> 'a'
-  # cell: slot 218; alt: nul -> 'a'
-  # cell: slot 218; alt shift: nul -> 'a'
-  # cell: slot 218; alt ctrl: nul -> 'a'
-  # cell: slot 218; alt ctrl shift: nul -> 'a'
+  $ kmap diff one other | grep -v '^# last slot'
+  # told apart: nul -> 'a'
+  # slot 90; all columns: nul -> 'a'
+  # slot 218; all columns: nul -> 'a'
   down 90
 
 `-` is standard input, for one of both:
   $ base 30 "'a'" > one
   $ base 30 "'b'" > other
   $ kmap diff - other < one
-  # told apart: char 97 -> char 98
-  # cell: slot 30; base: 'a' -> 'b'
+  # told apart: 'a' -> 'b'
+  # slot 30; base: 'a' -> 'b'
   down 30
   [1]
   $ kmap diff one - < one
@@ -477,6 +404,61 @@ As many, where a press tells them apart at once:
   $ cp one ./-
   $ kmap diff ./- one
   # same
+
+In brief the slots and accents that differ are counted, and there are no events:
+  $ kmap diff --brief "$examples/de.kbd" de-new.kbd
+  # told apart: gs -> '+'
+  # differ: 1 slot, 1 accent
+  [1]
+  $ kmap diff --brief "$examples/us.kbd" us-more.kbd
+  # never told apart
+  # last slot: 108 -> 130
+  # differ: 1 slot, 1 accent
+  [1]
+  $ kmap diff --brief "$examples/us.kbd" "$examples/de.kbd"
+  # told apart: '-' -> 'ß'
+  # last accent: duml -> drin
+  # differ: 51 slots, 2 accents
+  [1]
+  $ kmap diff --brief one one
+  # same
+  $ sed "s/( 'u' 'ů' )/& ( 'w' 'ẘ' )/" "$examples/de.kbd" > more.kbd
+  $ kmap diff --brief "$examples/de.kbd" more.kbd
+  # told apart: error -> 'ẘ'
+  # differ: 1 accent
+  [1]
+  $ all 60 nul > longer
+  $ kmap diff --brief empty longer
+  # never told apart
+  # last slot: none -> 60
+  [1]
+
+A character stands as a reader knows it: in quotes, a mark on a dotted circle; by its name or number where nobody sees
+it, but for the blank.
+  $ shown() {
+  >     base 2 "$1" > one; base 2 nop > other; kmap diff one other | sed -n 's/^# told apart: \(.*\) -> none$/\1/p'
+  > }
+  $ for c in "'a'" "'''" "' '" 127 27 0xa0 0xe4 0xad 0x301 0x5d0 0x200e 0x2003 0xe000 0xffff 0x1f600 0x40000; do
+  >     shown "$c"
+  > done
+  'a'
+  '''
+  ' '
+  del
+  esc
+  0x00a0
+  'ä'
+  0x00ad
+  '◌́'
+  'א'
+  0x200e
+  0x2003
+  0xe000
+  0xffff
+  '😀'
+  0x40000
+  $ base 30 "'a'" > one
+  $ base 30 "'b'" > other
 
 The verdict alone is asked for in a pipe:
   $ kmap diff "$examples/us.kbd" us-more.kbd | head -n 1 | grep -Eq '^# (same|never told apart)$'

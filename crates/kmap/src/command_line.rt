@@ -85,7 +85,14 @@ static SUBCOMMANDS: [Described; 11] = [
         example: "Example: kmap diff old.kbd new.kbd{n}{n}\
             Status: 0 the same, 1 different, 2 a fault or wrong words.{n}{n}\
             kmap(1) tells how to read the answer.",
-        words: &[STREAM, File("TEXT2", "The new keymap text, or -")],
+        words: &[
+            STREAM,
+            File("TEXT2", "The new keymap text, or -"),
+            Flag(
+                "brief",
+                "Counts the slots and accents that differ, and prints no events",
+            ),
+        ],
     },
     Described {
         name: "lint",
@@ -365,6 +372,7 @@ pub(crate) enum Request<'m, 'a> {
     Diff {
         text: &'a str,
         next: &'a str,
+        is_brief: bool,
     },
     Play {
         text: &'a str,
@@ -456,6 +464,7 @@ fn diff_request<'m, 'a>(words: &'m ArgMatches<'a>) -> Option<Request<'m, 'a>> {
     Some(Request::Diff {
         text: words.get_str("TEXT")?,
         next: words.get_str("TEXT2")?,
+        is_brief: words.get_flag("brief"),
     })
 }
 
@@ -526,7 +535,11 @@ fn reads_twice(request: &Request<'_, '_>) -> bool {
             text,
             next: Some(other),
         }
-        | Request::Diff { text, next: other }
+        | Request::Diff {
+            text,
+            next: other,
+            ..
+        }
         | Request::Type {
             text,
             sentence: Sentence::File(other),

@@ -312,7 +312,11 @@ fn answer<'a>(
             characters,
         } => format_texts(rt, mode, characters, texts, faults),
         Request::Search { text, next } => search(rt, text, next, faults),
-        Request::Diff { text, next } => diff(rt, text, next, faults),
+        Request::Diff {
+            text,
+            next,
+            is_brief,
+        } => diff(rt, text, next, is_brief, faults),
         Request::Dump { tables, narrow } => well(dump(rt, tables, narrow)),
         Request::Compile { text, out, narrow } => well(compile(rt, text, out, narrow)),
         Request::Play {
@@ -396,12 +400,19 @@ fn diff<'a>(
     rt: &HostRuntime,
     text: &'a str,
     next: &'a str,
+    is_brief: bool,
     faults: &mut Faults,
 ) -> Result<bool, Failure<'a>> {
     let text = text_given(rt, text)?;
     let next = text_given(rt, next)?;
     let mut out = Output::new(rt);
-    let outcome = diff_run(rt.alloc(), &mut text.reader(), &mut next.reader(), &mut out);
+    let outcome = diff_run(
+        rt.alloc(),
+        &mut text.reader(),
+        &mut next.reader(),
+        &mut out,
+        is_brief,
+    );
     explained(rt, out.outcome(outcome), &text, Some(&next), faults)
 }
 

@@ -1,6 +1,6 @@
 -- What the runs of the program do to the devices that they are lent.
 use Rattle.std.specs.Prelude.{◌≡◌, ◌≢◌, ◌↔◌, ◌==◌, IsTrue, ℕ, Bool, true, false, List, [], All, Option, Some, None}
-use Rattle.std.specs.Prelude.{Result, Ok, Err, ⊤, length}
+use Rattle.std.specs.Prelude.{Result, Ok, Err, ⊤, length, if◌then◌else◌}
 use Rattle.std.specs.Io.KnownBytes.{Appends}
 use Rattle.keymap_core.specs.Bounds.{IsMap}
 use Rattle.keymap_core.specs.Maps.{MapValue}
@@ -36,7 +36,7 @@ use Rattle.kmap_runs.specs.declared.fault_line.RunError.TheVariants as error
 use Rattle.kmap_runs.specs.declared.fault_line.CommandError.{CommandError}
 use Rattle.kmap_runs.specs.declared.fault_line.CommandError.TheVariants as command
 use Rattle.script_text.specs.Cover.{IsCoverText}
-use Rattle.script_text.specs.Diff.{diff_text, same_text}
+use Rattle.script_text.specs.Diff.{brief_text, diff_text, same_text}
 use Rattle.kmap_runs.specs.Inputs.{of_command_writer, of_writer, ReadsBytes, ReadsFile, ReadsForCommand, ReadsKeymaps}
 use Rattle.kmap_runs.specs.Inputs.{ReadsOther, ReadsSentence, ReadsText}
 use Rattle.kmap_runs.specs.LintRuns.{IsLinted}
@@ -128,20 +128,22 @@ Finds v never told =
 abbrev pub SearchesTexts : Moves → Option Moves → Moves → Result Bool RunError → Type 0
 SearchesTexts text next out r = Runs of_writer (ReadsKeymaps text next) LacksMemory Finds out r
 
--- what is told of maps that differ: whether anybody can tell them apart, each change, and how
-abbrev pub TellsDifferences : MapValue → MapValue → List ℕ → Type 0
-TellsDifferences m n text =
+-- What is told of maps that differ: whether anybody can tell them apart, each change, and how; in brief how many slots
+-- and accents change.
+abbrev pub TellsDifferences : Bool → MapValue → MapValue → List ℕ → Type 0
+TellsDifferences brief m n text =
     (found : List Change) × (telling : Telling)
-    × AreDifferences m n found × IsTelling m n telling × (text ≡ diff_text telling found)
+    × AreDifferences m n found × IsTelling m n telling
+    × (text ≡ (if brief then brief_text telling found else diff_text telling found))
 
 -- Whether the maps are the same, and what is told of them.
-abbrev pub Compares : MapValue × MapValue → Bool → List ℕ → Type 0
-Compares (m, n) true text = (m ≡ n) × (text ≡ same_text)
-Compares (m, n) false text = (m ≢ n) × TellsDifferences m n text
+abbrev pub Compares : Bool → MapValue × MapValue → Bool → List ℕ → Type 0
+Compares brief (m, n) true text = (m ≡ n) × (text ≡ same_text)
+Compares brief (m, n) false text = (m ≢ n) × TellsDifferences brief m n text
 
-abbrev pub DiffsTexts : Moves → Moves → Moves → Result Bool RunError → Type 0
-DiffsTexts text next out r =
-    Runs of_writer (ReadsBoth (ReadsText text) (ReadsOther next) (Stays next)) LacksMemory Compares out r
+abbrev pub DiffsTexts : Bool → Moves → Moves → Moves → Result Bool RunError → Type 0
+DiffsTexts brief text next out r =
+    Runs of_writer (ReadsBoth (ReadsText text) (ReadsOther next) (Stays next)) LacksMemory (Compares brief) out r
 
 -- why no script is printed for a map
 abbrev pub LacksCover : MapValue → CommandError → Type 0

@@ -12,7 +12,7 @@ use keymap_core::laws::every_keymap_is_within_the_bounds;
 use keymap_core::{KeyMap, Read, Write};
 use keymap_diff::laws::the_same_keymaps_have_no_changes;
 use keymap_diff::{Change, differences, telling_apart};
-use script_text::{diff_text, same_text};
+use script_text::{brief_text, diff_text, same_text};
 use std::alloc::{AllocError, Global};
 
 /// Whether the keymaps are the same, by what differs between them.
@@ -32,36 +32,47 @@ fn differing(
     old: &KeyMap,
     new: &KeyMap,
     found: &[Change],
+    is_brief: bool,
 ) -> Result<Vec<u8>, AllocError>
     requires { AreDifferences old.now new.now found.now }
-    ensures { IfOk result (λ text. TellsDifferences old.now new.now text.items) }
+    ensures { IfOk result (λ text. TellsDifferences is_brief old.now new.now text.items) }
 {
     let telling = telling_apart(alloc, old, new)?;
-    diff_text(alloc, &telling, found)
+    if is_brief {
+        brief_text(alloc, &telling, found)
+    } else {
+        diff_text(alloc, &telling, found)
+    }
 }
 
 /// Whether the keymaps are the same, and what is told of them.
-fn compared(alloc: Global, old: &KeyMap, new: &KeyMap) -> Result<(bool, Vec<u8>), AllocError>
-    ensures { IfOk result (λ r. Compares (old.now, new.now) r.0 r.1.items) }
+fn compared(
+    alloc: Global,
+    old: &KeyMap,
+    new: &KeyMap,
+    is_brief: bool,
+) -> Result<(bool, Vec<u8>), AllocError>
+    ensures { IfOk result (λ r. Compares is_brief (old.now, new.now) r.0 r.1.items) }
 {
     let found = differences(alloc, old, new)?;
     let found = found.as_slice();
     if are_same(old, new, found) {
         Ok((true, same_text(alloc)?))
     } else {
-        Ok((false, differing(alloc, old, new, found)?))
+        Ok((false, differing(alloc, old, new, found, is_brief)?))
     }
 }
 
 /// Reads two texts and tells what differs between their keymaps: whether any list of events is answered differently,
-/// each difference, and the events. Answers whether the keymaps are the same.
+/// each difference, and the events; in brief, how many slots and accents differ. Answers whether the keymaps are the same.
 pub fn diff_run<R: Read, N: Read, W: Write>(
     alloc: Global,
     text: &mut R,
     next: &mut N,
     writer: &mut W,
+    is_brief: bool,
 ) -> Result<bool, RunError>
-    ensures run { DiffsTexts (moves (R.remaining text.old) (R.remaining text.new))
+    ensures run { DiffsTexts is_brief (moves (R.remaining text.old) (R.remaining text.new))
         (moves (N.remaining next.old) (N.remaining next.new))
         (moves (W.contents writer.old) (W.contents writer.new)) result }
     ensures text_failed { R.has_failed text.new ≡ (blames_text result || R.has_failed text.old) }
@@ -70,7 +81,7 @@ pub fn diff_run<R: Read, N: Read, W: Write>(
 {
     let old = read_text(alloc, text)?;
     let new = read_other(alloc, next)?;
-    let Ok((same, told)) = compared(alloc, &old, &new) else {
+    let Ok((same, told)) = compared(alloc, &old, &new, is_brief) else {
         return Err(RunError::Memory);
     };
     answer_once_written(writer, told.as_slice(), same)

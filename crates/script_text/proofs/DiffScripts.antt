@@ -1,10 +1,11 @@
 -- What is printed of two keymaps is a script of the events that tell them apart.
 use Rattle.std.proofs.Common.{rules}
 use Rattle.script_text.proofs.Common.{◌≡◌, ℕ, ◌<◌, true, false, List, [], ◌∷◌, ◌++◌, refl, sym, ap, subst, ◌∙◌}
-use Rattle.script_text.proofs.Common.{append-nil, lit<, reverse, codes, flat_map, reverse-reverse, All}
+use Rattle.script_text.proofs.Common.{append-nil, length, lit<, range_with_len, reverse, codes, flat_map, reverse-reverse, All}
 use Rattle.script_text.proofs.Common.{All-head, All-tail, All-reversed, MapValue, HasKey, HasKeys, Event, Sent}
 use Rattle.script_text.proofs.Common.{IsScript, comment, sends, line-script, one_list}
 use Rattle.std.specs.Prelude.{◌≢◌}
+use Rattle.std.specs.List.{list_all}
 use Rattle.std.proofs.lemmas.Bool.{cond_both, true≢false}
 use Rattle.std.proofs.lemmas.List.Elements.{All-nil}
 use Rattle.keymap_core.specs.Numbers.{key_count}
@@ -16,41 +17,32 @@ use Rattle.console_states.specs.Sticking.{IsOfPressedKey, IsPressOrRelease, Rele
 use Rattle.keymap_diff.proofs.Shared.{told_lists_differ_at_last}
 use Rattle.keymap_diff.specs.Telling.{DifferAtLast, IsTelling, IsToldBy}
 use Rattle.keymap_diff.specs.declared.change.Change.{Change}
-use Rattle.keymap_diff.specs.declared.change.Change.TheVariants.{Slots, Cell, Letter, Accents, Accent, Pair}
-use Rattle.keymap_diff.specs.declared.change.Change.TheVariants.{ListedOtherwise}
 use Rattle.keymap_diff.specs.declared.telling.Telling.{Telling}
 use Rattle.keymap_diff.specs.declared.telling.Telling.TheVariants.{Told, Never, Undecided}
 use Rattle.play_core.specs.Delivery.{delivered}
 use Rattle.play_core.specs.Scripts.{key_of}
 use Rattle.play_core.specs.Spelling.{sent_line, sent_of}
 use Rattle.play_core.specs.declared.sent.What.TheVariants as what
-use Rattle.script_text.proofs.Comments.{Adds, adds-nil, adds-script, decimal-line, quiet-comment, quiet-flat}
+use Rattle.script_text.proofs.Comments.{Adds, adds-nil, adds-script, decimal-line, quiet-comment, quiet-flat, quiet-if}
 use Rattle.script_text.proofs.Comments.{◌⊳◌}
-use Rattle.script_text.specs.Diff.{diff_text, is_unseen, line_text, lines_text, same_text, sent_along, sent_behind}
-use Rattle.script_text.specs.Diff.{subject_of, unseen_text, values_of, verdict_line}
+use Rattle.script_text.specs.Diff.{begins_line, change_at, diff_text, is_unseen, items_text, line_at, line_from, line_text}
+use Rattle.script_text.specs.Diff.{lines_text, same_text, sent_along, sent_behind, title_of, unseen_text, verdict_line}
 use Rattle.script_text.specs.Replayed.{FitsKeys, TellingReplays}
-use Rattle.script_text.proofs.DiffLines.{answer-line, subject-line, unseen-line, values-line}
+use Rattle.script_text.proofs.DiffLines.{answer-line, items-line, title-line, unseen-line}
 
 -- ---- the comments before the events
 
-quiet-change : (x : Change)
-    → Adds (comment (codes " {}{}: {} -> {}")
-    (unseen_text (is_unseen x) ∷ subject_of x ∷ (values_of x).0 ∷ (values_of x).1 ∷ [])) []
-quiet-change x = search (rules, subject-line, values-line, quiet-comment, unseen-line)
-
-quiet-line : (x : Change) → Adds (line_text x) []
-quiet-line (ListedOtherwise i) =
-    quiet-comment (codes " {}: listed otherwise, with the same results") (subject_of (ListedOtherwise i) ∷ []) refl
-    (subject-line (ListedOtherwise i), tt)
-quiet-line (Slots a b) = quiet-change (Slots a b)
-quiet-line (Cell s c a b u) = quiet-change (Cell s c a b u)
-quiet-line (Letter s a b u) = quiet-change (Letter s a b u)
-quiet-line (Accents a b) = quiet-change (Accents a b)
-quiet-line (Accent i a b u) = quiet-change (Accent i a b u)
-quiet-line (Pair i base a b u) = quiet-change (Pair i base a b u)
+quiet-line : (x : Change) (line : List Change) → Adds (line_text x line) []
+quiet-line x line =
+    let all = list_all is_unseen line in
+    quiet-comment (codes " {}{}{}") (title_of x ∷ unseen_text all ∷ items_text all line ∷ []) refl
+    (title-line x, (unseen-line all, (items-line all line, tt)))
 
 quiet-lines : (found : List Change) → Adds (lines_text found) []
-quiet-lines found = quiet-flat line_text quiet-line found
+quiet-lines found =
+    quiet-flat (line_at found)
+    (λ i. quiet-if (begins_line found i) _ (quiet-line (change_at found i) (line_from found i)))
+    (range_with_len 0 (length found))
 
 quiet-verdict : (t : Telling) → Adds (verdict_line t) []
 quiet-verdict (Told events a b) = search (rules, quiet-comment, answer-line)

@@ -2,7 +2,7 @@
 use Rattle.std.proofs.Common.{rules}
 use Rattle.script_text.proofs.Common.{◌≡◌, ℕ, ◌+◌, ◌<◌, Bool, true, false, List, [], ◌∷◌, ◌++◌, length, take, get_or}
 use Rattle.script_text.proofs.Common.{reverse, if◌then◌else◌, refl, ◌∙◌, append_assoc, append-nil, flat_map}
-use Rattle.script_text.proofs.Common.{codes, comment, Event, MapValue, inl}
+use Rattle.script_text.proofs.Common.{Event, MapValue, inl}
 use Rattle.std.specs.Prelude.{◌||◌, ◌&&◌, not, ◌==◌, ⊤}
 use Rattle.std.proofs.lemmas.Grind.{flat_map-append}
 use Rattle.std.proofs.lemmas.List.{reverse-append, take_more}
@@ -12,10 +12,8 @@ use Rattle.console_core.specs.History.{pressed}
 use Rattle.console_core.specs.declared.event.Event.TheVariants as event
 use Rattle.play_core.specs.Spelling.{sent_line}
 use Rattle.keymap_diff.specs.Changes.{IsMark}
-use Rattle.keymap_diff.specs.declared.change.Change.{Change}
 use Rattle.keymap_diff.specs.declared.change.Change.TheVariants as change
-use Rattle.script_text.specs.Diff.{is_pressed_by, is_unseen, line_text, sent_along, sent_behind, subject_of, unseen_text}
-use Rattle.script_text.specs.Diff.{LinesTellChanges, values_of}
+use Rattle.script_text.specs.Diff.{is_pressed_by, sent_along, sent_behind, LinesTellChanges}
 
 by_press : (a b : Bool) → (if b then true else a) ≡ (a || b)
 by_press true true = refl
@@ -71,29 +69,16 @@ pub script_more : (es before : List Event) (i : ℕ) (e : Event) (old all more :
 script_more es before i e old all more line so front low at =
     search (rules, lines_more, append_assoc)
 
--- the line of what changes otherwise than by how pairs are listed
-pub other_line : (x : Change) → ((i : ℕ) → x ≡ change.ListedOtherwise i → ⊥)
-    → line_text x
-    ≡ comment (codes " {}{}: {} -> {}")
-    (unseen_text (is_unseen x) ∷ subject_of x ∷ (values_of x).0 ∷ (values_of x).1 ∷ [])
-other_line (change.ListedOtherwise i) other = absurd (other i refl)
-other_line (change.Slots a b) other = refl
-other_line (change.Cell s c a b u) other = refl
-other_line (change.Letter s a b u) other = refl
-other_line (change.Accents a b) other = refl
-other_line (change.Accent i a b u) other = refl
-other_line (change.Pair i base a b u) other = refl
-
 -- what a press meets in any case isn't unseen
 met : (known : Bool) (m n : MapValue) → IsMark known m n (λ _. ⊤) false
 met true m n = inl tt
 met false m n = refl
 
 pub lines_tell_changes : LinesTellChanges
-lines_tell_changes known m n (change.Slots a b) (x, y, _) other = (met known m n, rw (x, y) refl)
-lines_tell_changes known m n (change.Cell s c a b u) (_, _, x, y, _, mark) other = (mark, rw (x, y) refl)
-lines_tell_changes known m n (change.Letter s a b u) (_, x, y, _, mark) other = (mark, rw (x, y) refl)
-lines_tell_changes known m n (change.Accents a b) (x, y, _) other = (met known m n, rw (x, y) refl)
-lines_tell_changes known m n (change.Accent i a b u) (_, x, y, _, mark) other = (mark, rw (x, y) refl)
-lines_tell_changes known m n (change.Pair i base a b u) (_, x, y, _, mark) other = (mark, rw (x, y) refl)
-lines_tell_changes known m n (change.ListedOtherwise i) is other = absurd (other i refl)
+lines_tell_changes known m n (change.Slots a b) (x, y, _) = (met known m n, rw (x, y) refl)
+lines_tell_changes known m n (change.Cell s c a b u) (_, _, x, y, _, mark) = (mark, rw (x, y) refl)
+lines_tell_changes known m n (change.Letter s a b u) (_, x, y, _, mark) = (mark, rw (x, y) refl)
+lines_tell_changes known m n (change.Accents a b) (x, y, _) = (met known m n, rw (x, y) refl)
+lines_tell_changes known m n (change.Accent i a b u) (_, x, y, _, mark) = (mark, rw (x, y) refl)
+lines_tell_changes known m n (change.Pair i base a b u) (_, x, y, _, mark) = (mark, rw (x, y) refl)
+lines_tell_changes known m n (change.ListedOtherwise i) is = (met known m n, refl)

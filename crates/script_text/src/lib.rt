@@ -19,5 +19,5 @@ pub mod laws;
 mod words;
 
 pub use cover::cover_text;
-pub use diff::{diff_text, same_text};
+pub use diff::{brief_text, diff_text, same_text};
 pub use event_lines::{append, append_event, event_line, push_comment, push_events};

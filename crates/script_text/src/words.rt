@@ -68,36 +68,52 @@ pub(crate) const NOT_TOLD: &[u8] = b" not told apart before a modifier sticks";
 
 pub(crate) const UNTOLD: &[u8] = b" undecided: no list of up to {} presses tells them apart";
 
-// An answer, in the words of `play`.
+// An answer, its character as a reader knows it.
 pub(crate) const ERROR: &[u8] = b"error";
 
-pub(crate) const CHARACTER: &[u8] = b"char {}";
-
-pub(crate) const META_CHARACTER: &[u8] = b"meta char {}";
+pub(crate) const META_CHARACTER: &[u8] = b"meta {}";
 
 pub(crate) const BACK_TAB: &[u8] = b"btab";
 
 pub(crate) const RELEASED: &[u8] = b"released {}";
 
-// What changes, from what to what, and whether no press meets it. What changes is one of those below.
-pub(crate) const CHANGE: &[u8] = b" {}{}: {} -> {}";
+// What stands for no character, no result, no slot or no accent.
+pub(crate) const NONE: &[u8] = b"none";
 
-pub(crate) const LISTED_OTHERWISE: &[u8] = b" {}: listed otherwise, with the same results";
+// What differs: from what to what, and that no press meets it.
+pub(crate) const CHANGED: &[u8] = b"{} -> {}";
 
-pub(crate) const UNSEEN: &[u8] = b"unseen ";
+pub(crate) const UNSEEN: &[u8] = b" (unseen)";
 
-pub(crate) const SLOT_COUNT: &[u8] = b"slots";
+// A line: what begins it, and its items.
+pub(crate) const LINE: &[u8] = b" {}{}{}";
 
-pub(crate) const CELL: &[u8] = b"cell: slot {}; {}";
+pub(crate) const LAST_SLOT: &[u8] = b"last slot: {}";
 
-pub(crate) const LOCK: &[u8] = b"lock: slot {}";
+pub(crate) const LAST_ACCENT: &[u8] = b"last accent: {}";
 
-pub(crate) const ACCENT_COUNT: &[u8] = b"accents";
+pub(crate) const SLOT: &[u8] = b"slot {}";
 
-pub(crate) const ACCENT: &[u8] = b"accent: {}";
+pub(crate) const ITEM: &[u8] = b"; {}: {}{}";
 
-pub(crate) const PAIR: &[u8] = b"pair: {}; {}";
+pub(crate) const LISTED_OTHERWISE: &[u8] = b"; listed otherwise";
 
-pub(crate) const ORDER: &[u8] = b"pairs: {}";
+// What of its slot or accent an item tells: columns, the lock letter, or the accent's own character.
+pub(crate) const COMMA: &[u8] = b", ";
 
-pub(crate) const NO_RESULT: &[u8] = b"none";
+pub(crate) const ALL_COLUMNS: &[u8] = b"all columns";
+
+pub(crate) const LOCK: &[u8] = b"lock";
+
+pub(crate) const OWN: &[u8] = b"own";
+
+// How many slots and accents differ.
+pub(crate) const DIFFER: &[u8] = b" differ: {}{}{}";
+
+pub(crate) const SLOT_DIFFERS: &[u8] = b"1 slot";
+
+pub(crate) const SLOTS_DIFFER: &[u8] = b"{} slots";
+
+pub(crate) const ACCENT_DIFFERS: &[u8] = b"1 accent";
+
+pub(crate) const ACCENTS_DIFFER: &[u8] = b"{} accents";

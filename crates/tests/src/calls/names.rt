@@ -6,7 +6,7 @@ use keymap_core::Write;
 use keymap_cover::cover_of;
 use keymap_diff::{differences, telling_apart};
 use keymap_names::{accents, all_chars, first_shown, ranges, shown_name, word};
-use script_text::{cover_text, diff_text, same_text};
+use script_text::{brief_text, cover_text, diff_text, same_text};
 use std::alloc::{AllocError, Global};
 
 /// Makes a call that names something. There is none where no such call has the name.
@@ -33,6 +33,7 @@ pub(crate) fn of_printing<W: Write>(
     match call.name {
         "cover_text" => prints_cover(call.alloc, call.sample, marks),
         "diff_text" => prints_differences(call.alloc, call.trap, call.sample, marks),
+        "brief_text" => prints_in_brief(call.alloc, call.trap, call.sample, marks),
         _ => Ok(None),
     }
 }
@@ -98,6 +99,21 @@ fn prints_cover<W: Write>(
     let given = cover_text(alloc, &lent.map, &cover);
     mark(marks);
     let is_right = matches!(&given, Ok(text) if text.as_slice().starts_with(b"# "));
+    Ok(Some(ended_keeping(&given, is_right, lent.is_kept())))
+}
+
+fn prints_in_brief<W: Write>(
+    alloc: Global,
+    lent: &Lent,
+    next: &Lent,
+    marks: &mut W,
+) -> Result<Option<Outcome>, AllocError> {
+    let telling = telling_apart(alloc, &lent.map, &next.map)?;
+    let found = differences(alloc, &lent.map, &next.map)?;
+    mark(marks);
+    let given = brief_text(alloc, &telling, found.as_slice());
+    mark(marks);
+    let is_right = matches!(&given, Ok(text) if text.as_slice().starts_with(b"# told apart: "));
     Ok(Some(ended_keeping(&given, is_right, lent.is_kept())))
 }
 

@@ -4,6 +4,7 @@ use crate::calls::inputs::{CHANGED, Call, LACKING, SENTENCE, TEXT, TRAP};
 use crate::calls::outcome::{Outcome, ended, ended_untouched, is_text};
 use keymap_core::Write;
 use keymap_draw::Board;
+use keymap_fmt::Characters;
 use kmap_runs::{
     RunError, check_brief_run, check_run, compile_narrow_run, compile_run, cover_run, diff_run,
     draw_run, dump_narrow_run, dump_run, file_error_line, fmt_print_run, fmt_run, lint_run,
@@ -89,7 +90,7 @@ fn searches_next<W: Write>(alloc: Global, marks: &mut W) -> Outcome {
 fn compares<W: Write>(alloc: Global, marks: &mut W) -> Outcome {
     let (mut reader, mut next, mut out) = (reader_of(TEXT), reader_of(CHANGED), writer());
     mark(marks);
-    let given = diff_run(alloc, &mut reader, &mut next, &mut out);
+    let given = diff_run(alloc, &mut reader, &mut next, &mut out, false);
     mark(marks);
     ended_untouched(&given, given == Ok(false), out.writes)
 }
@@ -146,7 +147,7 @@ fn lints<W: Write>(alloc: Global, marks: &mut W) -> Outcome {
 fn formats<W: Write>(alloc: Global, marks: &mut W) -> Outcome {
     let mut reader = reader_of(TEXT);
     mark(marks);
-    let given = fmt_run(alloc, &mut reader);
+    let given = fmt_run(alloc, &mut reader, Characters::Kept);
     mark(marks);
     ended(&given, matches!(&given, Ok(Some(_))))
 }
@@ -154,7 +155,7 @@ fn formats<W: Write>(alloc: Global, marks: &mut W) -> Outcome {
 fn prints_formatted<W: Write>(alloc: Global, marks: &mut W) -> Outcome {
     let (mut reader, mut out) = (reader_of(TEXT), writer());
     mark(marks);
-    let given = fmt_print_run(alloc, &mut reader, &mut out);
+    let given = fmt_print_run(alloc, &mut reader, Characters::Kept, &mut out);
     mark(marks);
     ended_untouched(&given, true, out.writes)
 }

@@ -5,6 +5,7 @@ use crate::support::devices::{Sheet, Tape, endless_tape_of, sheet_of, tape_of};
 use crate::support::keymaps::LETTER_AND_SHIFT;
 use keymap_core::{Read, ReadFault, ReadFaultKind};
 use keymap_draw::Board;
+use keymap_fmt::Characters;
 use keymap_tables::{TableFault, TableFaultKind};
 use kmap_runs::{
     CommandError, RunError, check_run, compile_narrow_run, compile_run, draw_run, dump_narrow_run,
@@ -50,7 +51,7 @@ pub(crate) fn perform(
         Run::CompileNarrow => of_run(compile_narrow_run(alloc, first, writer).and(Ok(true))),
         Run::Draw => of_run(draw_run(alloc, first, Board::Iso, b"", writer).and(Ok(true))),
         Run::Lint => of_run(lint_run(alloc, b"t", first, writer)),
-        Run::Layout => fmt_print_run(alloc, first, writer).and(Ok(true)),
+        Run::Layout => fmt_print_run(alloc, first, Characters::Kept, writer).and(Ok(true)),
     }
 }
 

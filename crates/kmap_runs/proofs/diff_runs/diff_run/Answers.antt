@@ -21,6 +21,6 @@ returns-in_default-clause-run g c =
 pub returns-clause-run : goal.returns-clause-run
 returns-clause-run g c =
     once_written of_writer (ReadsBoth (ReadsText (moves _ _)) (ReadsOther (moves _ _)) (Stays (moves _ _))) LacksMemory
-    Compares (moves _ _) (c.in_ok-old.old, c.in_ok-new.new) c.in-Ok.same c.in-Ok.told.items _
+    (Compares c.args.is_brief) (moves _ _) (c.in_ok-old.old, c.in_ok-new.new) c.in-Ok.same c.in-Ok.told.items _
     (c.in_ok-old.ensures.reads, c.in_ok-new.ensures.reads) c.in-Ok.ensures
     (rw c.as_slice.ensures.value at c.answer_once_written.ensures.bytes)

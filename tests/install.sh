@@ -61,6 +61,7 @@ share/man/man3/kmap_action_name.3
 share/man/man3/kmap_bearer.3
 share/man/man3/kmap_cell.3
 share/man/man3/kmap_check.3
+share/man/man3/kmap_check_narrow.3
 share/man/man3/kmap_deliver.3
 share/man/man3/kmap_fault_words.3
 share/man/man3/kmap_finding_words.3
@@ -68,6 +69,7 @@ share/man/man3/kmap_from_kbio.3
 share/man/man3/kmap_key_of_evdev.3
 share/man/man3/kmap_locks.3
 share/man/man3/kmap_modifiers.3
+share/man/man3/kmap_narrow.3
 share/man/man3/kmap_pending.3
 share/man/man3/kmap_press.3
 share/man/man3/kmap_print_text.3
@@ -76,7 +78,10 @@ share/man/man3/kmap_release.3
 share/man/man3/kmap_start.3
 share/man/man3/kmap_step.3
 share/man/man3/kmap_step_between.3
+share/man/man3/kmap_step_between_narrow.3
+share/man/man3/kmap_step_narrow.3
 share/man/man3/kmap_text_fault_words.3
+share/man/man3/kmap_widen.3
 share/man/man5/kmap.5
 share/zsh/site-functions/_kmap
 END

@@ -80,10 +80,10 @@ for kind in $kinds $(variants crates/play_core/src/script.rt ScriptFault); do
     holds "kmap(1) tells of $kind" grep -qw "$kind" man/kmap.1
 done
 
-# Kinds of diagnostics stand there likewise, and are words with a dash.
+# Kinds of diagnostics stand there likewise, each with its severity.
 kinds=$(variants crates/keymap_lint/src/diagnostic.rt Kind | grep -vx Fault | sed 's/\([a-z]\)\([A-Z]\)/\1-\2/g' |
     tr 'A-Z' 'a-z')
-told=$(sed -n 's/^| \([a-z][a-z]*-[a-z]*\) |.*/\1/p' docs/FORMATS.md)
+told=$(sed -n 's/^| \([a-z-]*\) | error |.*/\1/p; s/^| \([a-z-]*\) | warning |.*/\1/p' docs/FORMATS.md)
 holds 'the formats have the kinds of diagnostics of the sources' \
     [ "$(echo "$kinds" | sort)" = "$(echo "$told" | sort)" ]
 for kind in $kinds; do

@@ -232,7 +232,7 @@ _Static_assert(sizeof(struct kmap_text_fault) == 24, "a fault of a text is 24 by
  * `fault` is the first fault.
  *
  * Needs: `length` bytes of `tables`; `fault` aligned and apart from them.
- * At once: calls may share the tables. Stack: 1,100 bytes.
+ * At once: calls may share the tables. Stack: 1,200 bytes.
  */
 int32_t kmap_check(const uint8_t *tables, size_t length, struct kmap_fault *fault);
 
@@ -269,7 +269,7 @@ static inline void kmap_from_kbio(const void *keymap, const void *accentmap, str
  * tables; else KMAP_TEXT_FAULT, and `fault` is the first fault.
  *
  * Needs: `length` bytes of `text`; `fault` aligned; the three apart.
- * At once: calls may share the text. Stack: 3,000 bytes.
+ * At once: calls may share the text. Stack: 3,072 bytes.
  */
 int32_t kmap_read_text(const uint8_t *text, size_t length, struct kmap_tables *tables, struct kmap_text_fault *fault);
 
@@ -308,7 +308,7 @@ int32_t kmap_widen(const uint8_t *narrow, size_t length, struct kmap_tables *tab
  * Checks narrow tables as kmap_check checks tables.
  *
  * Needs: `length` bytes of `narrow`; `fault` aligned and apart from them.
- * At once: calls may share the narrow tables. Stack: 1,100 bytes.
+ * At once: calls may share the narrow tables. Stack: 1,200 bytes.
  */
 int32_t kmap_check_narrow(const uint8_t *narrow, size_t length, struct kmap_fault *fault);
 

@@ -3,7 +3,8 @@
 use Rattle.console_states.proofs.Common.{suc, ◌≡◌, ℕ, ◌+◌, ◌<◌, inl, inr, List, [], ◌∷◌, length, slice_get, Some, refl}
 use Rattle.console_states.proofs.Common.{ap, rules, subst, sym, ◌∙◌, arith, cases_lt, slice_get_within, Move, End}
 use Rattle.console_states.proofs.Common.{TooMany, Complete, Under, State, IsMove, moved, presses_of, presses_along}
-use Rattle.console_states.proofs.Common.{IsPathFrom, state_from, state_of, Held, Entry, Entries, IsMetBy, AreDone, Searched}
+use Rattle.console_states.proofs.Common.{IsPathFrom, state_from, state_of, Held, Entry, Entries, IsMetBy, AreDone}
+use Rattle.console_states.proofs.Common.{Searched}
 use Rattle.console_states.proofs.Common.{HasEnded, unscrolled, Contains}
 use Rattle.console_states.specs.Looks.{HoldsBelow, HoldsNearer}
 use Rattle.console_states.specs.Searching.{AreOrdered}

@@ -1,5 +1,6 @@
 -- Where no lock is on but the scroll lock.
-use Rattle.console_states.proofs.Common.{◌≡◌, ap, ◌∙◌, State, IsHome, unscrolled, ◌≢◌, Bool, false, refl, Lock, Caps, Num}
+use Rattle.console_states.proofs.Common.{◌≡◌, ap, ◌∙◌, State, IsHome, unscrolled, ◌≢◌, Bool, false, refl, Lock, Caps}
+use Rattle.console_states.proofs.Common.{Num}
 use Rattle.console_states.proofs.Common.{Scroll, Alt, start, rules}
 use Rattle.console_states.proofs.Unscrolled.{locks-near, same_states}
 

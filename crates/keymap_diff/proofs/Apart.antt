@@ -122,7 +122,8 @@ dead-too m n s d i (inr (j, holds, u, v)) idle seen can = absurd (idle j holds)
 
 -- where something shows behind a tap of the accent's dead key
 pub accent-told : (m n : MapValue) (i : ℕ) (es : Entries) (place presses : ℕ) (x : SearchedValue)
-    → IsMetFromStart m es → IsSearchedAt m n i es place x → IsReachAt es place x.reach presses → AreCellsClear m n presses
+    → IsMetFromStart m es → IsSearchedAt m n i es place x → IsReachAt es place x.reach presses
+    → AreCellsClear m n presses
     → usable m i ≡ true → (at : KeyAt) → x.shown ≡ Some at → (h g : List Event) → IsTappedAt m i es place h
     → ((path : List Move) → IsTrail x.met.entries at.place path → g ≡ events_along path ++ h) → (t : Telling)
     → IsScript m n g at.key t → IsFoundBy m n t (Some presses)

@@ -50,7 +50,8 @@ more-none P Q R None f none = f none
 more-none P Q R (Some x) f there = there
 
 -- or else this
-pub found-or : {X : Type 0} (P : X → Type 0) (Q R : Type 0) (found now : Option X) (x : X) → now ≡ option_or found (Some x)
+pub found-or : {X : Type 0} (P : X → Type 0) (Q R : Type 0) (found now : Option X) (x : X)
+    → now ≡ option_or found (Some x)
     → P x → MatchOption found Q P → MatchOption now R P
 found-or P Q R None now x e here none = subst (λ o. MatchOption o R P) (sym e) here
 found-or P Q R (Some y) now x e here there = subst (λ o. MatchOption o R P) (sym e) there

@@ -150,7 +150,8 @@ forgetting-limit m n x there p b r s look at is = (
 -- what is told of forgetting where all was met
 pub never-found : (m n : MapValue) (x : SearchedValue) (stuck : Option KeyAt) (forgets : Bool)
     → IsSearched m n (start ∷ []) None x → x.reach ≡ None
-    → IsFirstStuck (alone m) x.met.entries stuck → forgets ≡ is_some stuck → (forgets ≡ false → NeverForgets (alone m)) × (forgets ≡ true → CanForget m)
+    → IsFirstStuck (alone m) x.met.entries stuck → forgets ≡ is_some stuck
+    → (forgets ≡ false → NeverForgets (alone m)) × (forgets ≡ true → CanForget m)
 never-found m n x (Some y) forgets s e look is =
     let (z, at, holder) = look.is.0 in
     let (path, made, le, forgetful) =

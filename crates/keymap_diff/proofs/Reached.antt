@@ -160,7 +160,8 @@ pends-release m r p k i (s, behind, f) =
 
 -- an accent is pending only behind where it is offered
 pub pends-by : (m : MapValue) (forgets : Bool) (b : ℕ) (h : List Event) (i : ℕ)
-    → (forgets ≡ false → NeverForgetsBelow m b) → IsWithinReach m forgets b h → pending m (resolved (between m m) h) ≡ Some i
+    → (forgets ≡ false → NeverForgetsBelow m b) → IsWithinReach m forgets b h
+    → pending m (resolved (between m m) h) ≡ Some i
     → PendsBy m i (presses h) (resolved (between m m) h)
 pends-by m forgets b [] i never given e = search (rules, pending-start, resolved-start)
 pends-by m forgets b (Release k ∷ h) i never given e =

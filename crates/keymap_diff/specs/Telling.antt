@@ -33,8 +33,8 @@ pub record IsKeptAlike (m n : MapValue) (h : List Event) : Type 0 where
 abbrev pub TellsApart : MapValue → MapValue → List Event → Type 0
 TellsApart m n h = IsAnsweredAlike m n h → ⊥
 
--- No list that is spoken of does, and after each the consoles keep the same. Since such a list is one without its newest
--- event too, all answers to it are the same.
+-- No list that is spoken of does, and after each the consoles keep the same. Since such a list is one without its
+-- newest event too, all answers to it are the same.
 abbrev pub IsNeverTold : MapValue → MapValue → Bool → Type 0
 IsNeverTold m n forgets =
     (h : List Event) → IsAdmitted m forgets h → IsAnsweredAlike m n h × IsKeptAlike m n h

@@ -35,8 +35,8 @@ impl Nearest {
         }
     }
 
-    /// What is answered. Where the search gave up, that tells of all lists, also of those along which a key forgets that
-    /// it holds a modifier.
+    /// What is answered. Where the search gave up, that tells of all lists, also of those along which a key forgets
+    /// that it holds a modifier.
     pub(crate) fn answered(self, both: &Both, searched: &Searched) -> Telling
         requires searched { IsSearched both.now.old.now both.now.new.now (start ∷ []) None searched.now }
         requires nearest { IsNearest both.now.old.now both.now.new.now self }

@@ -24,7 +24,8 @@ use Rattle.keymap_text.specs.declared.words.Meaning.{Meaning}
 use Rattle.keymap_text.specs.declared.words.Meaning.TheVariants.{Number}
 use Rattle.keymap_text.proofs.Shared.{IsNamed, found_word, front_quote, is_one_word, literal_spelled, named_character}
 use Rattle.keymap_fmt.proofs.Common.{TextFaultKind}
-use Rattle.keymap_fmt.specs.Quoted.{of_item, of_number, of_literal, change_by, left_by, quote, part_by, bytes_by, comment_in}
+use Rattle.keymap_fmt.specs.Quoted.{of_item, of_number, of_literal, change_by, left_by, quote, part_by, bytes_by}
+use Rattle.keymap_fmt.specs.Quoted.{comment_in}
 use Rattle.keymap_fmt.specs.Quoted.{IsSameItem}
 use Rattle.keymap_fmt.specs.declared.quoted.Quoting.TheVariants.{On}
 use Rattle.keymap_fmt.specs.declared.quoted.Change.{Change}

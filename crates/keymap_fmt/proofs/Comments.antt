@@ -1,7 +1,8 @@
 -- Where comments stand, and which line ends of a text tell where a piece stands.
 use Rattle.keymap_fmt.proofs.Common.{◌≡◌, ℕ, zero, suc, ◌+◌, ◌<◌, ◌==◌, Bool, true, false, List, [], ◌∷◌, ◌++◌}
 use Rattle.keymap_fmt.proofs.Common.{refl, sym, ◌∙◌, ap, arith, append_assoc, is_blank, lower, lowered}
-use Rattle.keymap_fmt.proofs.Common.{Standing, AtTop, Beside, Below, Apart, Code, PieceValue, pieces_after, comment, TokenKind}
+use Rattle.keymap_fmt.proofs.Common.{Standing, AtTop, Beside, Below, Apart, Code, PieceValue, pieces_after, comment}
+use Rattle.keymap_fmt.proofs.Common.{TokenKind}
 use Rattle.keymap_fmt.proofs.Common.{if◌then◌else◌}
 use Rattle.keymap_fmt.proofs.Common.{State, before, after, ending, start, line_end, rendered_from, rendered}
 use Rattle.keymap_fmt.proofs.Reading.{read_blank}

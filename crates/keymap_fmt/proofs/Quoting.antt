@@ -1,7 +1,8 @@
 -- A text with its characters between apostrophes: its tokens, its keymap, its comments, and the same once more.
 use Rattle.keymap_fmt.proofs.Common.{◌≡◌, ◌⊎◌, inl, inr, ℕ, zero, suc, Bool, true, false, true≢false, List, []}
 use Rattle.keymap_fmt.proofs.Common.{◌∷◌, ◌++◌, ◌&&◌, map, refl, sym, ◌∙◌, ap, subst, flat_map, list_all, TokenKind}
-use Rattle.keymap_fmt.proofs.Common.{Standing, AtTop, Part, Comment, Code, TokenValue, PieceValue, pieces, behind, start}
+use Rattle.keymap_fmt.proofs.Common.{Standing, AtTop, Part, Comment, Code, TokenValue, PieceValue, pieces, behind}
+use Rattle.keymap_fmt.proofs.Common.{start}
 use Rattle.keymap_fmt.proofs.Common.{formatted, rendered, part_and_bytes}
 use Rattle.std.proofs.Common.{not, ◌||◌}
 use Rattle.std.specs.List.{list_any}

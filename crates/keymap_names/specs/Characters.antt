@@ -1,5 +1,5 @@
--- How a character is read in what is told: which have their number, beside those that a terminal doesn't show, and which
--- are marks, by Unicode's properties.
+-- How a character is read in what is told: which have their number, beside those that a terminal doesn't show, and
+-- which are marks, by Unicode's properties.
 use Rattle.std.specs.Prelude.{ℕ, ◌%◌, ◌==◌, nat_le, Bool, not, ◌||◌, ◌&&◌, if◌then◌else◌, List, [], ◌∷◌, ◌++◌, codes}
 use Rattle.std.specs.Prelude.{encode_utf8}
 use Rattle.std.specs.List.{list_any}

@@ -10,8 +10,8 @@ use Rattle.ucd_category.specs.GeneralCategoryGroup.{in_group}
 use Rattle.ucd_category.specs.declared.GeneralCategory.{GeneralCategory}
 use Rattle.ucd_category.specs.declared.GeneralCategoryGroup.TheVariants.{Letter, Number, Punctuation, Symbol}
 
--- a letter, a digit, a punctuation mark or a symbol; a mark sits on what stands before it, and blanks, controls, private
--- and unassigned characters show nothing
+-- a letter, a digit, a punctuation mark or a symbol; a mark sits on what stands before it, and blanks, controls,
+-- private and unassigned characters show nothing
 abbrev pub is_sign : GeneralCategory → Bool
 is_sign g = in_group Letter g || in_group Number g || in_group Punctuation g || in_group Symbol g
 

@@ -1,5 +1,5 @@
-//! How a character is read in what is told: which have their number, beside those that a terminal doesn't show, and which
-//! are marks, by Unicode's properties.
+//! How a character is read in what is told: which have their number, beside those that a terminal doesn't show, and
+//! which are marks, by Unicode's properties.
 ghost use Rattle.std.specs.Prelude.{◌≡◌, ◌+◌, ◌≤◌, ◌++◌, encode_utf8, length};
 ghost use Rattle.keymap_names.specs.Characters as spec;
 
@@ -146,8 +146,8 @@ fn quoted(c: char) -> Readable
     text
 }
 
-/// A character as a reader knows it: in quotes, a mark on a dotted circle; or, where nobody sees it, as a text spells it,
-/// by the name of a control character or by its number.
+/// A character as a reader knows it: in quotes, a mark on a dotted circle; or, where nobody sees it, as a text spells
+/// it, by the name of a control character or by its number.
 #[tactic(auto, unfolding(crate::specs::Characters::readable))]
 pub fn readable(c: char) -> Readable
     ensures { result.items ≡ spec.readable c }

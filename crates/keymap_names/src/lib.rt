@@ -1,8 +1,8 @@
-//! What printed lines tell by name: characters, accents, columns and ranges of slots, and bytes of a text or the name of a
-//! file as a terminal shows them.
+//! What printed lines tell by name: characters, accents, columns and ranges of slots, and bytes of a text or the name
+//! of a file as a terminal shows them.
 //!
-//! What stands in one line and a terminal shows is `IsLine` (`specs/Shown.antt`); proofs/Lines.antt proves it of each of
-//! these, of numbers and of words with such texts at their places, for all crates that print.
+//! What stands in one line and a terminal shows is `IsLine` (`specs/Shown.antt`); proofs/Lines.antt proves it of each
+//! of these, of numbers and of words with such texts at their places, for all crates that print.
 #![tactic(auto)]
 
 mod characters;

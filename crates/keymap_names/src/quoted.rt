@@ -26,9 +26,9 @@ fn is_from_right(class: BidiClass) -> bool
     }
 }
 
-/// Whether a text has the character as it is, between apostrophes, rather than as a number or a name: it is one of ASCII
-/// and no control, or a letter, digit, punctuation mark or symbol above the controls that is not written from right to
-/// left and that a terminal shows.
+/// Whether a text has the character as it is, between apostrophes, rather than as a number or a name: it is one of
+/// ASCII and no control, or a letter, digit, punctuation mark or symbol above the controls that is not written from
+/// right to left and that a terminal shows.
 pub fn is_quoted(c: char) -> bool
     ensures { result ≡ spec.is_quoted c }
 {

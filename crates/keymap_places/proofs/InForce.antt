@@ -1,9 +1,11 @@
 -- The last definition of what a map has is the one in force.
-use Rattle.keymap_places.proofs.Common.{◌≡◌, ℕ, ◌+◌, ◌*◌, Bool, true, false, cond, List, [], ◌∷◌, length, take, drop, map}
+use Rattle.keymap_places.proofs.Common.{◌≡◌, ℕ, ◌+◌, ◌*◌, Bool, true, false, cond, List, [], ◌∷◌, length, take, drop}
+use Rattle.keymap_places.proofs.Common.{map}
 use Rattle.keymap_places.proofs.Common.{get_or, refl, sym, ◌∙◌, ap, subst, arith, Option, Some, None, length-map}
 use Rattle.keymap_places.proofs.Common.{none-some, same_Some, drop-append-add, take-append_seam, option_or, Entry}
 use Rattle.keymap_places.proofs.Common.{Defined, Slot, Accent, Placed, AccentValue, blank, MapValue, undefined}
-use Rattle.keymap_places.proofs.Common.{TokenValue, item_of, tokens, Definition, KeyDefinition, AccentDefinition, Defines}
+use Rattle.keymap_places.proofs.Common.{TokenValue, item_of, tokens, Definition, KeyDefinition, AccentDefinition}
+use Rattle.keymap_places.proofs.Common.{Defines}
 use Rattle.keymap_places.proofs.Common.{last, of_slot, of_index, or_default, Row, AreRows, no_row, one_row, IsSpelledBy}
 use Rattle.keymap_places.proofs.Common.{defined, places_after, places_of, is_same, last_of, empty_map, ap₂, ⊎_elim, ◌⊎◌}
 use Rattle.keymap_places.proofs.Common.{Item}

@@ -1,5 +1,6 @@
 -- The tables of the last definitions.
-use Rattle.keymap_places.proofs.Common.{◌≡◌, ◌≢◌, ℕ, ◌<◌, ◌≤◌, ◌==◌, true, false, cond, List, [], ◌∷◌, ◌++◌, length, set}
+use Rattle.keymap_places.proofs.Common.{◌≡◌, ◌≢◌, ℕ, ◌<◌, ◌≤◌, ◌==◌, true, false, cond, List, [], ◌∷◌, ◌++◌, length}
+use Rattle.keymap_places.proofs.Common.{set}
 use Rattle.keymap_places.proofs.Common.{get_or, map, refl, sym, ◌∙◌, ap, arith, Option, Some, None, length-set, ne_eqb}
 use Rattle.keymap_places.proofs.Common.{replicate, get_or-set_same, get_or-set_other, ext_get_or, get_or-replicate}
 use Rattle.keymap_places.proofs.Common.{length-map-range_with_len, get_or-map-range_with_len, range_with_len, option_or}

@@ -1,10 +1,12 @@
 -- Where lines begin, and the line of a place by them.
 use Rattle.keymap_places.proofs.Common.{◌≡◌, ℕ, zero, suc, ◌+◌, ◌-◌, ◌≤◌, ◌<◌, ◌==◌, Bool, false, not, List, [], rules}
-use Rattle.keymap_places.proofs.Common.{◌∷◌, ◌++◌, length, take, drop, get_or, refl, ◌∙◌, sym, ap, subst, arith, count_by}
+use Rattle.keymap_places.proofs.Common.{◌∷◌, ◌++◌, length, take, drop, get_or, refl, ◌∙◌, sym, ap, subst, arith}
+use Rattle.keymap_places.proofs.Common.{count_by}
 use Rattle.keymap_places.proofs.Common.{drop-cons, eqb-true, length-append, length-drop, suffix_len}
 use Rattle.keymap_places.proofs.Common.{length-take, length-take-le, drop-drop, drop-take, get_or_append_left}
 use Rattle.keymap_places.proofs.Common.{get_or-drop, get_or-take, suffix_len_is, prefix_len_passes, prefix_len_stops}
-use Rattle.keymap_places.proofs.Common.{get_or-append_seam, leading, stays_on_line, before_in_line, line_end, IsLineStart}
+use Rattle.keymap_places.proofs.Common.{get_or-append_seam, leading, stays_on_line, before_in_line, line_end}
+use Rattle.keymap_places.proofs.Common.{IsLineStart}
 use Rattle.keymap_places.proofs.Common.{AreStarts, AreLines, line, cases_eq, inl, inr, ◌≢◌}
 use Rattle.keymap_text.proofs.Shared.{feeds_run, leading_fail, leading_le, leading_pass, line_more}
 

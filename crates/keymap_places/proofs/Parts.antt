@@ -1,5 +1,6 @@
 -- Which tokens of a definition are its parts.
-use Rattle.keymap_places.proofs.Common.{rules, ◌≡◌, ℕ, zero, suc, ◌+◌, ◌*◌, ◌<◌, List, [], ◌∷◌, ◌++◌, length, take, drop}
+use Rattle.keymap_places.proofs.Common.{rules, ◌≡◌, ℕ, zero, suc, ◌+◌, ◌*◌, ◌<◌, List, [], ◌∷◌, ◌++◌, length, take}
+use Rattle.keymap_places.proofs.Common.{drop}
 use Rattle.keymap_places.proofs.Common.{get_or, refl, ap, subst, arith, Ok, add-one, length-append, Cell, Entry, Letter}
 use Rattle.keymap_places.proofs.Common.{Item, Open, Close, Value, AccentValue, character, cell, KeyDefinition}
 use Rattle.keymap_places.proofs.Common.{AccentDefinition, AreCells, no_cells, one_cell, ArePairs, no_pairs, one_pair}

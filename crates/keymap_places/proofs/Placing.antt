@@ -3,7 +3,8 @@ use Rattle.keymap_places.proofs.Common.{◌≡◌, ℕ, zero, suc, ◌+◌, ◌<
 use Rattle.keymap_places.proofs.Common.{refl, sym, ◌∙◌, ap, subst, arith, Option, Some, None, Ok, Err, IfSome, rules}
 use Rattle.keymap_places.proofs.Common.{length-drop, append_assoc, drop-drop, length-take-le, TextFaultKind, EndInside}
 use Rattle.keymap_places.proofs.Common.{TokenKind, Word, TextFault, Token, Span, Placed, Front, Skipped, Found, Refused}
-use Rattle.keymap_places.proofs.Common.{Unfinished, front_of, tokens_after, TokenValue, Tokens, Ends, Stops, Then, first}
+use Rattle.keymap_places.proofs.Common.{Unfinished, front_of, tokens_after, TokenValue, Tokens, Ends, Stops, Then}
+use Rattle.keymap_places.proofs.Common.{first}
 use Rattle.keymap_places.proofs.Common.{token_before, token_view, result_view, span_of, begun, tokens_from, ComesNext}
 use Rattle.keymap_places.proofs.Common.{list_of}
 use Rattle.keymap_text.proofs.Shared.{Fits, front_fits, list_then, split_after, split_found, split_nil}

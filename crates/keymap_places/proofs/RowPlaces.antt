@@ -1,10 +1,13 @@
 -- Where definitions begin is where their rows begin.
 use Rattle.keymap_places.proofs.Common.{◌≡◌, ℕ, suc, ◌+◌, ◌<◌, true, false, List, [], ◌∷◌, ◌++◌, length, map, refl, sym}
-use Rattle.keymap_places.proofs.Common.{◌∙◌, ap, ap₂, subst, arith, Some, length-append, append_assoc, length-map, Action}
-use Rattle.keymap_places.proofs.Common.{Defined, Slot, Accent, TokenKind, Meaning, Number, Act, Letter, Item, Open, Close}
+use Rattle.keymap_places.proofs.Common.{◌∙◌, ap, ap₂, subst, arith, Some, length-append, append_assoc, length-map}
+use Rattle.keymap_places.proofs.Common.{Action}
+use Rattle.keymap_places.proofs.Common.{Defined, Slot, Accent, TokenKind, Meaning, Number, Act, Letter, Item, Open}
+use Rattle.keymap_places.proofs.Common.{Close}
 use Rattle.keymap_places.proofs.Common.{Value, MapValue, accent_index, item, TokenValue, item_of, tokens, Spells}
 use Rattle.keymap_places.proofs.Common.{Definition, ArePairs, no_pairs, one_pair, Defines, of_key, of_accent, IsRow}
-use Rattle.keymap_places.proofs.Common.{no_definition, one_definition, map_of, Row, AreRows, no_row, one_row, IsSpelledBy}
+use Rattle.keymap_places.proofs.Common.{no_definition, one_definition, map_of, Row, AreRows, no_row, one_row}
+use Rattle.keymap_places.proofs.Common.{IsSpelledBy}
 use Rattle.keymap_places.proofs.Common.{defined, places_after, places_of, begins, behind, is_open, begun}
 use Rattle.keymap_places.proofs.Parts.{count_cells}
 

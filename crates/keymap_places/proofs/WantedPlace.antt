@@ -1,5 +1,6 @@
 -- What a token leads to, and where tokens lead, one by one.
-use Rattle.keymap_places.proofs.Common.{arith, ◌≡◌, ℕ, List, [], ◌∷◌, Ok, Err, Option, Some, None, refl, IsErr, TextFaultKind, Span}
+use Rattle.keymap_places.proofs.Common.{arith, ◌≡◌, ℕ, List, [], ◌∷◌, Ok, Err, Option, Some, None, refl, IsErr}
+use Rattle.keymap_places.proofs.Common.{TextFaultKind, Span}
 use Rattle.keymap_places.proofs.Common.{Item, TokenValue, item_of, span_of, RowPlace, next, definition_behind}
 use Rattle.keymap_places.proofs.Common.{first_refused, begins, Slot, Accent}
 use Rattle.keymap_places.specs.declared.wanted.DefinitionStart.{DefinitionStart}

@@ -1,5 +1,6 @@
 -- The printed text of a character, and of an action, is one token, which is that character or action.
-use Rattle.keymap_text.proofs.Common.{lt-ltb, le-ltb, ◌≡◌, ◌⊎◌, inl, inr, cases_lt, character, ℕ, suc, ◌+◌, ◌*◌, ◌/◌, ◌%◌, ◌<◌, ◌≤◌, ◌==◌, ◌&&◌, Bool, true}
+use Rattle.keymap_text.proofs.Common.{lt-ltb, le-ltb, ◌≡◌, ◌⊎◌, inl, inr, cases_lt, character, ℕ, suc, ◌+◌, ◌*◌, ◌/◌}
+use Rattle.keymap_text.proofs.Common.{◌%◌, ◌<◌, ◌≤◌, ◌==◌, ◌&&◌, Bool, true}
 use Rattle.keymap_text.proofs.Common.{cond, List, [], ◌∷◌, length, map, fold, refl, sym, ◌∙◌, ap, subst, arith, Ok, Err}
 use Rattle.keymap_text.proofs.Common.{Some, ne_eqb, nat_lt, nat_le, codes, slice_index_or, list_all, digit_char, rules}
 use Rattle.keymap_text.proofs.Common.{digit_value, nat_tests, Value, Meaning, Number, Char, leading, is_word, meaning}

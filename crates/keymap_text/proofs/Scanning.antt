@@ -91,7 +91,8 @@ after_blanks s s' rest t b n h l f a =
 
 -- what takes definitions was not touched, and the place was moved
 pub takes_moved : {D : Type 0} {shows : D → MapValue → Type 0} {d : D} {g g' : Grammar} {rest : List ℕ} {n : ℕ}
-    → ((m : MapValue) → Advances (at m (grammar_view g)) (at m (grammar_view g')) rest n) → Takes shows d d (Ok n) g g' rest
+    → ((m : MapValue) → Advances (at m (grammar_view g)) (at m (grammar_view g')) rest n)
+    → Takes shows d d (Ok n) g g' rest
 takes_moved a = record { took = λ m h. (m, h, a m) }
 
 -- What takes definitions was not touched.

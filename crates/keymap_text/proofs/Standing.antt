@@ -2,7 +2,8 @@
 use Rattle.keymap_text.proofs.Common.{◌≡◌, ℕ, ◌+◌, ◌<◌, ◌≤◌, ◌==◌, Bool, true, false, List, ◌∷◌, ◌++◌, length, take}
 use Rattle.keymap_text.proofs.Common.{[], drop, get_or, refl, sym, ◌∙◌, ap, ap₂, subst, arith, Result, Ok, rules}
 use Rattle.keymap_text.proofs.Common.{append_assoc, append-nil, length-append, take_all, eqb-true, inl, inr}
-use Rattle.keymap_text.proofs.Common.{⊎_elim, ◌-◌, count_by-le-length, length-drop, length-take-le, take-append-le, take-add, take-append-drop}
+use Rattle.keymap_text.proofs.Common.{⊎_elim, ◌-◌, count_by-le-length, length-drop, length-take-le, take-append-le}
+use Rattle.keymap_text.proofs.Common.{take-add, take-append-drop}
 use Rattle.keymap_text.proofs.Common.{drop-append-add, IfErr, MapValue, TextFault, Reading, leading}
 use Rattle.keymap_text.proofs.Common.{stays_on_line, tokens_after, literal, Unfinished, line, Early, Means}
 use Rattle.keymap_text.proofs.Common.{GrammarState, GrammarPlace, at, judge, verdict, Faulty, resume, Says, IsReader}
@@ -115,7 +116,8 @@ open_feeds (c ∷ p) (inr (inr h)) =
     no_feed c p (ap (λ c. c == 10) quote) ∙ quoted_feeds [] p (sym (front_quote c p quote) ∙ h)
 
 -- a comment is kept as its first byte
-pub comment_kept : (s : GrammarState) (q q' : ℕ) (tail x : List ℕ) → 0 < length tail → get_or tail 0 0 ≡ 35 → IsOpen tail
+pub comment_kept : (s : GrammarState) (q q' : ℕ) (tail x : List ℕ) → 0 < length tail → get_or tail 0 0 ≡ 35
+    → IsOpen tail
     → q' ≡ q + (length tail - 1) → judge s (tokens_after 0 q (tail ++ x)) ≡ judge s (tokens_after 0 q' (35 ∷ x))
 comment_kept s q q' [] x some hash o p = absurd (omega (arith, some))
 comment_kept s q q' (a ∷ t) x some hash o p =

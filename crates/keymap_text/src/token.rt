@@ -97,8 +97,8 @@ pub(crate) fn space_run(bytes: &[u8]) -> usize
     first_set(others.to_bitmask())
 }
 
-/// How many blanks that end no line stand in front, up to a tab or carriage return behind spaces: at most sixteen spaces
-/// are seen at once.
+/// How many blanks that end no line stand in front, up to a tab or carriage return behind spaces: at most sixteen
+/// spaces are seen at once.
 #[inline(always)]
 #[tactic(auto, using(crate::proofs::Leading::front_rules))]
 pub(crate) fn first_spaces(bytes: &[u8]) -> usize

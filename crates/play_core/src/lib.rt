@@ -8,7 +8,8 @@
 //! The crate stands on `keymap_text` for the keymap of a text, on `console_core` for the answers, and on `keymap_core`
 //! for readers and writers. It promises that what is written is the text that `specs/Written.antt` defines for the
 //! keymaps and the script that were read, that nothing is written before the whole script was read, and that a fault is
-//! that of the bytes that were read (`specs/Playing.antt`, `specs/Scripts.antt`). Each script has one list of events or one fault, and never both (`laws::one_reading`).
+//! that of the bytes that were read (`specs/Playing.antt`, `specs/Scripts.antt`). Each script has one list of events or
+//! one fault, and never both (`laws::one_reading`).
 #![tactic(auto)]
 
 mod answer_line;

@@ -7,7 +7,8 @@ use Rattle.keymap_core.specs.Numbers.{key_count}
 use Rattle.console_core.specs.declared.event.Event.{Event}
 use Rattle.console_core.specs.declared.event.Event.TheVariants.{Press, Release}
 use Rattle.console_core.specs.History.{between, answer_to}
-use Rattle.console_states.specs.Moves.{State, alone, start, IsForgetful, IsPath, IsPathFrom, state_after, state_from, events_along}
+use Rattle.console_states.specs.Moves.{State, alone, start, IsForgetful, IsPath, IsPathFrom, state_after, state_from}
+use Rattle.console_states.specs.Moves.{events_along}
 use Rattle.console_states.specs.Moves.{presses_along}
 use Rattle.console_states.specs.Returning.{unscrolled}
 use Rattle.console_states.specs.Sights.{CanForget, IsOfferedIn, Offers}

@@ -1,4 +1,5 @@
-use Rattle.keymap_text.proofs.Common.{◌≡◌, ◌++◌, ◌+◌, ◌-◌, ℕ, List, [], ◌∷◌, length, refl, sym, ◌∙◌, ap, arith, inl, eqb-true, judge}
+use Rattle.keymap_text.proofs.Common.{◌≡◌, ◌++◌, ◌+◌, ◌-◌, ℕ, List, [], ◌∷◌, length, refl, sym, ◌∙◌, ap, arith, inl}
+use Rattle.keymap_text.proofs.Common.{eqb-true, judge}
 use Rattle.keymap_text.proofs.Common.{tokens_after}
 use Rattle.keymap_text.proofs.Scanning.{not_none}
 use Rattle.keymap_text.proofs.Standing.{comment_kept, keeps, kept, is_nil}

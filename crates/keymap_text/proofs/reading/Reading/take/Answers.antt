@@ -12,7 +12,8 @@ returns-in-Ok c =
     let n = c.in-Ok.n in
     let passed = c.pass.ensures in
     taken r c.pass.new.self c.keep.new.self bytes window n c.requires.reader
-    (c.as_slice-window.ensures.value ∙ c.window-window.ensures ∙ ap (λ (p : List ℕ). p ++ bytes) c.as_slice.ensures.value)
+    (c.as_slice-window.ensures.value ∙ c.window-window.ensures
+    ∙ ap (λ (p : List ℕ). p ++ bytes) c.as_slice.ensures.value)
     (subst (λ (s : GrammarState). Advances (state_view r) s window n) (sym (ap (λ (s : Reading). state_view s) passed))
     (of_map (state_view r) (grammar_view c.scan.new.grammar) c.scan.new.into window n
     (c.in-Ok.ensures.takes.took r.map refl)))
@@ -29,6 +30,7 @@ returns-in-Err c =
     let window = c.as_slice-window.result.now in
     let at = c.in-Err.stop.at in
     broken r bytes window at c.fault.result c.requires.reader
-    (c.as_slice-window.ensures.value ∙ c.window-window.ensures ∙ ap (λ (p : List ℕ). p ++ bytes) c.as_slice.ensures.value)
+    (c.as_slice-window.ensures.value ∙ c.window-window.ensures
+    ∙ ap (λ (p : List ℕ). p ++ bytes) c.as_slice.ensures.value)
     (subst (λ f. Refuses (state_view r) window f at) (sym c.fault.ensures.kind) (c.in-Err.ensures.takes.took r.map refl))
     (omega (arith, c.fault.ensures.offset, length-take-le at window c.in-Err.ensures.leaves)) c.fault.ensures.line

@@ -269,7 +269,7 @@ static inline void kmap_from_kbio(const void *keymap, const void *accentmap, str
  * tables; else KMAP_TEXT_FAULT, and `fault` is the first fault.
  *
  * Needs: `length` bytes of `text`; `fault` aligned; the three apart.
- * At once: calls may share the text. Stack: 3,072 bytes.
+ * At once: calls may share the text. Stack: 2,200 bytes.
  */
 int32_t kmap_read_text(const uint8_t *text, size_t length, struct kmap_tables *tables, struct kmap_text_fault *fault);
 
@@ -300,7 +300,7 @@ int32_t kmap_narrow(const uint8_t *tables, size_t length, struct kmap_narrow_tab
  * tables of a keymap.
  *
  * Needs: `length` bytes of `narrow`; `tables` apart from them. At once: calls may share the narrow tables.
- * Stack: 3,000 bytes.
+ * Stack: 2,500 bytes.
  */
 int32_t kmap_widen(const uint8_t *narrow, size_t length, struct kmap_tables *tables);
 

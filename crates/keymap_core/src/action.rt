@@ -324,6 +324,7 @@ impl Action {
     }
 
     /// The action that has the code. The codes of the actions that join a modifier with the alt lock have none.
+    #[inline(always)]
     pub fn from_code(code: u8) -> Option<Action>
         ensures { result ≡ action_of code }
     {

@@ -1,6 +1,7 @@
 -- What is read at the places of a map's image.
 use Rattle.keymap_tables.proofs.Common.{common_steps, ◌≡◌, ℕ, ◌+◌, ◌-◌, ◌*◌, ◌<◌, ◌≤◌, List, [], length, drop, take}
-use Rattle.keymap_tables.proofs.Common.{refl, sym, ap, All-cons, All-nil, AccentFits, IsEntryIn, IsAccentIn, number_limit}
+use Rattle.keymap_tables.proofs.Common.{refl, sym, ap, All-cons, All-nil, AccentFits, IsEntryIn, IsAccentIn}
+use Rattle.keymap_tables.proofs.Common.{number_limit}
 use Rattle.keymap_tables.proofs.Common.{count_size, n_accs_place}
 use Rattle.keymap_tables.proofs.Common.{◌∙◌, arith, rules, subst, slice_index, get_or-take, get_or-drop}
 use Rattle.keymap_tables.proofs.Common.{get_or-replicate, blank, MapValue, undefined, entry_at, accent_or_blank, IsCell}

@@ -38,7 +38,8 @@ pub cut : (bytes : List ℕ) (at n : ℕ) → take (at + n - at) (drop at bytes)
 cut bytes at n = grind arith
 
 -- the same where its place and its size are given otherwise
-pub cut-at : (bytes : List ℕ) (at size a n : ℕ) → a ≡ at → n ≡ size → take (a + n - a) (drop a bytes) ≡ part bytes at size
+pub cut-at : (bytes : List ℕ) (at size a n : ℕ) → a ≡ at → n ≡ size
+    → take (a + n - a) (drop a bytes) ≡ part bytes at size
 cut-at bytes at size a n place whole = rw (place, whole) (cut bytes at size)
 
 pub cut-row : (bytes : List ℕ) (size i n : ℕ) → n ≡ size

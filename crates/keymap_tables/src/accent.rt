@@ -1,6 +1,7 @@
 //! An accent as its numbers: number 0 is its own character, 1 + 2j the base of pair j, and 2 + 2j its result. Its image
 //! is these, and zeros.
 ghost use Rattle.std.specs.Prelude.{◌≡◌, ◌+◌, ◌*◌, ◌<◌, ◌≤◌, length, MatchOption};
+ghost use Rattle.arrayvec.specs.ArrayVec.{array_vec_len};
 ghost use Rattle.keymap_core.specs.Numbers.{pair_limit};
 ghost use Rattle.keymap_tables.specs.Fits.{AccentFits, number_in};
 ghost use Rattle.keymap_tables.specs.Image.{accent_bytes};
@@ -32,17 +33,16 @@ fn number_at(accent: &Accent, index: usize) -> char
     if index % 2 == 1 { base } else { composed }
 }
 
-/// The bytes of an accent.
-pub(crate) fn accent_image(layout: Layout, accent: &Accent) -> ArrayVec<u8, ACCENT>
-    ensures bytes { result.items ≡ accent_bytes layout accent.now }
-    ensures whole { length result.items ≡ accent_size layout }
+/// Puts the bytes of an accent where none are: its caller has the one copy of them on the stack.
+pub(crate) fn push_accent(image: &mut ArrayVec<u8, ACCENT>, layout: Layout, accent: &Accent)
+    requires { array_vec_len image.old ≡ 0 }
+    ensures bytes { image.new.items ≡ accent_bytes layout accent.now }
+    ensures whole { length image.new.items ≡ accent_size layout }
 {
-    let mut image = ArrayVec::new();
     for index in 0..number_count(accent) {
-        push_number(&mut image, layout, number_at(accent, index) as u32);
+        push_number(image, layout, number_at(accent, index) as u32);
     }
-    push_zeros(&mut image, layout.accent());
-    image
+    push_zeros(image, layout.accent());
 }
 
 /// The first number of an accent that is above 255.

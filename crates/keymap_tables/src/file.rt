@@ -1,13 +1,15 @@
-//! The parts of a table file and of a narrow file, which take definitions: so the tables of a text are made where its caller wants them.
+//! The parts of a table file and of a narrow file, which take definitions: so the tables of a text are made where its
+//! caller wants them.
 ghost use Rattle.std.specs.Prelude.{◌≡◌, ℕ, ◌+◌, ◌<◌, [], length, max};
 ghost use Rattle.keymap_tables.specs.Image.{count_bytes};
 ghost use Rattle.keymap_tables.specs.Layouts.{count_size};
 
-use crate::accent::accent_image;
+use crate::accent::push_accent;
 use crate::count::count_image;
 use crate::layout::{ACCENT, COUNT, Layout, NARROW_ACCENT, NARROW_COUNT, NARROW_SLOT, SLOT};
 use crate::number::read_half;
 use crate::slot::slot_image;
+use arrayvec::ArrayVec;
 use keymap_core::laws::{every_accent_is_within_the_bounds, every_entry_is_within_the_bounds};
 use keymap_core::{ACCENT_LIMIT, Accent, Definitions, Entry, SLOT_LIMIT};
 
@@ -91,10 +93,9 @@ impl Definitions for TableFile {
 
     fn define_accent(&mut self, index: u8, accent: Accent) {
         every_accent_is_within_the_bounds(&accent);
-        put(
-            &mut self.accents[index as usize],
-            accent_image(Layout::Wide, &accent).as_slice(),
-        );
+        let mut image = ArrayVec::new();
+        push_accent(&mut image, Layout::Wide, &accent);
+        put(&mut self.accents[index as usize], image.as_slice());
         self.n_accs = raised(Layout::Wide, &self.n_accs, index);
     }
 }
@@ -116,10 +117,9 @@ impl Definitions for NarrowFile {
 
     fn define_accent(&mut self, index: u8, accent: Accent) {
         every_accent_is_within_the_bounds(&accent);
-        put(
-            &mut self.accents[index as usize],
-            accent_image(Layout::Narrow, &accent).as_slice(),
-        );
+        let mut image = ArrayVec::new();
+        push_accent(&mut image, Layout::Narrow, &accent);
+        put(&mut self.accents[index as usize], image.as_slice());
         self.n_accs = raised(Layout::Narrow, &self.n_accs, index);
     }
 }

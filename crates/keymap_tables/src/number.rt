@@ -47,6 +47,7 @@ pub(crate) fn read_char(layout: Layout, bytes: &[u8], index: usize) -> Result<ch
 }
 
 /// The action of a number.
+#[inline(always)]
 fn action_of_number(number: u32) -> Result<Action, TableFaultKind>
     ensures number { IfOk result (λ a. number_of (Cell.Act a) ≡ number) }
     ensures known { IfOk result (λ a. IsCell (Cell.Act a)) }
@@ -60,6 +61,7 @@ fn action_of_number(number: u32) -> Result<Action, TableFaultKind>
 }
 
 /// The cell of a number, an action where it is marked.
+#[inline(always)]
 pub(crate) fn cell_of(number: u32, is_marked: bool) -> Result<Cell, TableFaultKind>
     ensures number { IfOk result (λ c. number_of c ≡ number) }
     ensures mark { IfOk result (λ c. is_act c ≡ is_marked) }

@@ -8,12 +8,13 @@ ghost use Rattle.keymap_tables.specs.Inner.Firsts.{IsFirstWideNumber};
 ghost use Rattle.keymap_tables.specs.Layouts.{narrow};
 ghost use Rattle.keymap_tables.specs.Types.{Layout as LayoutValue};
 
-use crate::accent::{accent_image, wide_number};
+use crate::accent::{push_accent, wide_number};
 use crate::fault::TableFault;
 use crate::layout::Layout;
 use crate::read_accent::read_accent;
 use crate::read_slot::read_slot;
 use crate::slot::{slot_image, wide_column};
+use arrayvec::ArrayVec;
 use keymap_core::{
     ACCENT_LIMIT, Accent, Definitions, Entry, KeyMap, SLOT_LIMIT, Stream, Write, WriteFault,
 };
@@ -219,6 +220,8 @@ impl Row for Accent {
         writer: &mut W,
         layout: Layout,
     ) -> Result<(), WriteFault> {
-        stream.push(writer, accent_image(layout, self).as_slice())
+        let mut image = ArrayVec::new();
+        push_accent(&mut image, layout, self);
+        stream.push(writer, image.as_slice())
     }
 }

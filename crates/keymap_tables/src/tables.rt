@@ -20,6 +20,7 @@ use keymap_core::{
 };
 
 /// The cell of a slot's bytes in the column, the character 0 where none stands there.
+#[inline(always)]
 fn cell_in(layout: Layout, bytes: &[u8], column: usize) -> Cell
     requires whole { length bytes.now ≡ slot_size layout }
     requires inside { column < column_count }
@@ -76,8 +77,8 @@ fn composed_in(layout: Layout, bytes: &[u8], base: char) -> Option<char>
     None
 }
 
-/// The bytes of a table file or a narrow file, with so many bytes a number. They show the map whose image they are. Of other bytes each answer is
-/// some cell, flag or character.
+/// The bytes of a table file or a narrow file, with so many bytes a number. They show the map whose image they are. Of
+/// other bytes each answer is some cell, flag or character.
 #[derive(Clone, Copy, Drop)]
 pub struct TablesIn<'a, const NUMBER: usize> {
     bytes: &'a [u8],
@@ -195,6 +196,7 @@ impl<'a, const NUMBER: usize> Keymap for TablesIn<'a, NUMBER> {
 
     ghost shows = { λ t m. IsMap m × AreTablesOf (layout_of NUMBER) t.bytes.now m };
 
+    #[inline(always)]
     fn cell(&self, slot: u8, column: usize) -> Cell {
         cell_in(Layout::of(NUMBER), self.slot(slot), column)
     }

@@ -7,6 +7,7 @@ ghost use Rattle.keymap_core.specs.declared.action.Modifier.{Modifier as Modifie
 ghost use Rattle.keymap_core.specs.declared.action.Lock.{Lock as LockValue};
 ghost use Rattle.keymap_core.specs.declared.action.Holding.TheVariants as holding;
 ghost use Rattle.keymap_tables.specs.Image.{image};
+ghost use Rattle.keymap_tables.specs.Layouts.{wide, file_size};
 ghost use Rattle.console_core.specs.History.{Maps, between, answer_to, answers_to, is_on_after, is_locked_after};
 ghost use Rattle.console_core.specs.History.{accent_pending_after};
 ghost use Rattle.console_core.specs.Packed.{KeptAt};
@@ -34,6 +35,9 @@ use keymap_tables::Tables;
 pub struct KmapConsole {
     pub store: WordStore,
 }
+
+/// The number behind those of presses and releases.
+const KEYS_END: u16 = 256;
 
 /// The greatest number of an event.
 pub(crate) const LAST_EVENT: u16 = 257;
@@ -108,6 +112,22 @@ pub extern "C" fn kmap_step_between(
     DONE
 }
 
+/// Delivers an event to what a console of one keymap keeps, and answers its number. Resets and loads are delivered so: a
+/// call for a load in the step of a key would want the tables of each event in memory.
+#[inline(never)]
+fn step_apart(store: &mut WordStore, tables: &[u8], event: Event) -> u32
+    requires { length tables.now ≡ file_size wide }
+    ensures next { (m n : MapValue) (h : List EventValue) → IsMap m → IsMap n → tables.now ≡ image m
+        → tables.now ≡ image n → KeptAt (between m n) h store.old → KeptAt (between m n) (event ∷ h) store.new }
+    ensures answer { (m : MapValue) (h : List EventValue) → IsMap m → tables.now ≡ image m
+        → KeptAt (between m m) h store.old → result ≡ raw_of (answer_to (between m m) h event) }
+{
+    match Tables::new(tables) {
+        Some(shown) => step_kept(store, &shown, &shown, event).raw(),
+        None => unreachable!(),
+    }
+}
+
 /// Delivers an event to a console of one keymap, where a load acts as a reset.
 #[unsafe(no_mangle)]
 pub extern "C" fn kmap_step(
@@ -130,10 +150,13 @@ pub extern "C" fn kmap_step(
     let Some(shown) = Tables::new(tables) else {
         return BAD_LENGTH;
     };
-    if event > LAST_EVENT {
+    *answer = if event < KEYS_END {
+        step_kept(&mut console.store, &shown, &shown, event_of(event)).raw()
+    } else if event <= LAST_EVENT {
+        step_apart(&mut console.store, tables, event_of(event))
+    } else {
         return BAD_EVENT;
-    }
-    *answer = step_kept(&mut console.store, &shown, &shown, event_of(event)).raw();
+    };
     DONE
 }
 

@@ -59,7 +59,8 @@ fn put_tables(text: &[u8], tables: &mut TableFile)
     }
 }
 
-/// Reads a keymap text into tables, which are made in place once a first reading found no fault: `DONE` where it spells a keymap, else `TEXT_FAULT` and the fault.
+/// Reads a keymap text into tables, which are made in place once a first reading found no fault: `DONE` where it spells
+/// a keymap, else `TEXT_FAULT` and the fault.
 #[unsafe(no_mangle)]
 pub extern "C" fn kmap_read_text(
     text: &[u8],

@@ -10,6 +10,7 @@ returns-clause-count g c =
     let bytes = c.args.self.now.bytes.now in
     let shown = tables-in l bytes m shows.0 shows.1 in
     let n =
-    accents-counted l bytes _ _ (c.n_accs_at-at.ensures ∙ ap n_accs_place c.of.ensures) c.read_half-n_accs.ensures m shows.0
+    accents-counted l bytes _ _ (c.n_accs_at-at.ensures
+    ∙ ap n_accs_place c.of.ensures) c.read_half-n_accs.ensures m shows.0
     shown.0 shown.1 in
     omega (arith, n, c.min.ensures, shows.0.few_accents)

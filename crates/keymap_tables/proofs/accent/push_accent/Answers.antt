@@ -2,7 +2,7 @@ use Rattle.keymap_tables.proofs.Common.{arith, number_bytes, numbers_of, number_
 use Rattle.keymap_tables.proofs.AccentImages.{length-numbers}
 use Rattle.keymap_tables.proofs.Rows.{rows-written, rows-ended}
 use Rattle.keymap_tables.proofs.Sizes.{row-next, row-inside, rows-size, accent-small}
-use Rattle.keymap_tables.proofs.accent.accent_image.Goals as goal
+use Rattle.keymap_tables.proofs.accent.push_accent.Goals as goal
 
 pub push_number-requires : goal.push_number-requires
 push_number-requires c = search (rules, row-inside, accent-small)

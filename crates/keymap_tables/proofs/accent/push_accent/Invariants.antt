@@ -1,5 +1,5 @@
 use Rattle.keymap_tables.proofs.Common.{◌≡◌, ◌*◌, length, take, flat_map, number_bytes, numbers_of, number_size}
-use Rattle.keymap_tables.proofs.accent.accent_image.Given as goal
+use Rattle.keymap_tables.proofs.accent.push_accent.Given as goal
 
 -- The numbers so far were appended.
 abbrev pub invariant-loop-index : goal.invariant-loop-index

@@ -174,7 +174,7 @@ sees-alike m x s t k n after near sees seen is before was = by x sees seen
 abbrev LetsAllGo : Under → State → State → Type 0
 LetsAllGo u s t = (path : List Move) × IsPathFrom u s path × (state_from u s path ≡ t)
 
-lets-go : (m : MapValue) (s : State) → LetsAllGo (alone m) s (freed s)
+pub lets-go : (m : MapValue) (s : State) → LetsAllGo (alone m) s (freed s)
 lets-go m s =
     rw (freed-emptied s) (emptied-kept (λ t. LetsAllGo (alone m) s t)
     (λ t k i (path, is, leads) holds. (

@@ -19,7 +19,8 @@ pub use Rattle.console_scripts.specs.Inner.Exploring.{LeadsByTap, LetsGo, TypesO
 pub use Rattle.console_scripts.specs.Inner.Exploring.{origin_in, typed_along}
 pub use Rattle.console_scripts.specs.Inner.Routes.{AllLeadHome, AreSettled, HasRoute, IsAstray, LeadsHome, NoPressLeads}
 pub use Rattle.console_scripts.specs.Inner.Routes.{Routes}
-pub use Rattle.console_scripts.specs.Inner.Showing.{IsAim, IsAt, IsDeadFor, IsPressAt, IsRest, IsWhole, Leads, Sees, TurnsScroll}
+pub use Rattle.console_scripts.specs.Inner.Showing.{IsAim, IsAt, IsDeadFor, IsPressAt, IsRest, IsWhole, Leads, Sees}
+pub use Rattle.console_scripts.specs.Inner.Showing.{TurnsScroll}
 pub use Rattle.console_scripts.specs.Inner.Showing.{LeadsOn, LeadsToSee, ShowsNot, locks_in}
 pub use Rattle.console_scripts.specs.Inner.Symbols.{LacksSymbol}
 pub use Rattle.console_scripts.specs.Typing.{CanTap, CanType, ComesHome, IsAsNew, IsTapOf, cell_of, composed_of}

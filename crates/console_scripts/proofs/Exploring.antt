@@ -110,11 +110,16 @@ comes-route m es routes searched settled j x at (later, is, home) = elim (route-
       (near-is_home (state_from (alone m) (state_of x.0) later) (state_of y.0) near home))
 ]
 
--- what can be tapped at all can be tapped in a complete exploration
-pub can-tap-met : (e : Explored) → IsExplored e → e.is_complete ≡ true → CanReturn (map_of_explored e) (origin_in e)
-    → (t : Tap) → CanTap (map_of_explored e) t.is_plain t.symbol
-    → HasTap e t
-can-tap-met e x complete st t (path, is, (later, goes, home), (k, tap)) =
+-- What is so in a state that moves lead to and from which more lead home, scroll lock aside, is so in a complete
+-- exploration at a place from which a route leads home.
+pub so-met : (e : Explored) → IsExplored e → e.is_complete ≡ true → CanReturn (map_of_explored e) (origin_in e)
+    → (P : State → Type 0) → ((s t : State) → unscrolled t ≡ unscrolled s → P s → P t) → (path : List Move)
+    → IsPathFrom (alone (map_of_explored e)) start path
+    → ComesHome (alone (map_of_explored e)) (state_after (alone (map_of_explored e)) path)
+    → P (state_after (alone (map_of_explored e)) path)
+    → (j : ℕ) × (y : Entry) × (slice_get e.met.entries j ≡ Some y) × HasRoute e.routes.entries (state_of y.0)
+    × P (state_of y.0)
+so-met e x complete st P near-so path is (later, goes, home) so =
     let m : MapValue = map_of_explored e in
     let u : Under = alone m in
     let o : State = origin_in e in
@@ -137,12 +142,27 @@ can-tap-met e x complete st t (path, is, (later, goes, home), (k, tap)) =
       ends.0,
       near-is_home (state_from u (state_after u path) later) (state_from u s later) ends.1 home,
     ) in
-    (j, k, (y, at, route, tap-near u (state_after u path) s t.is_plain t.symbol k same tap))
+    (j, y, at, route, near-so (state_after u path) s same so)
 
--- what an exploration finds can be tapped
-pub tap-can : (e : Explored) → IsExplored e → CanReturn (map_of_explored e) (origin_in e) → (t : Tap) → HasTap e t
-    → CanTap (map_of_explored e) t.is_plain t.symbol
-tap-can e x st t (j, k, (y, at, has, tap)) =
+-- what can be tapped at all can be tapped in a complete exploration
+pub can-tap-met : (e : Explored) → IsExplored e → e.is_complete ≡ true → CanReturn (map_of_explored e) (origin_in e)
+    → (t : Tap) → CanTap (map_of_explored e) t.is_plain t.symbol
+    → HasTap e t
+can-tap-met e x complete st t (path, is, comes, (k, tap)) =
+    let u : Under = alone (map_of_explored e) in
+    let (j, y, at, route, there) =
+    so-met e x complete st (λ s. IsTapOf u s t.is_plain t.symbol k)
+    (λ s z near so. tap-near u s z t.is_plain t.symbol k near so) path is comes tap in
+    (j, k, (y, at, route, there))
+
+-- What is so at a place from which a route leads home is so where moves lead to and from which more lead home.
+pub so-can : (e : Explored) → IsExplored e → CanReturn (map_of_explored e) (origin_in e) → (P : State → Type 0)
+    → (j : ℕ) (y : Entry) → slice_get e.met.entries j ≡ Some y → HasRoute e.routes.entries (state_of y.0)
+    → P (state_of y.0)
+    → (path : List Move) × IsPathFrom (alone (map_of_explored e)) start path
+    × ComesHome (alone (map_of_explored e)) (state_after (alone (map_of_explored e)) path)
+    × P (state_after (alone (map_of_explored e)) path)
+so-can e x st P j y at has so =
     let m : MapValue = map_of_explored e in
     let u : Under = alone m in
     let r : IsReached u (origin_in e) e.met.entries j y = reached-one x.searched j y at in
@@ -152,8 +172,16 @@ tap-can e x st t (j, k, (y, at, has, tap)) =
       r.0 ++ st.path,
       all.0,
       subst (λ s. ComesHome u s) (sym there) (has-home u e.routes.entries (state_of y.0) x.home has),
-      (k, subst (λ s. IsTapOf u s t.is_plain t.symbol k) (sym there) tap),
+      subst P (sym there) so,
     )
+
+-- what an exploration finds can be tapped
+pub tap-can : (e : Explored) → IsExplored e → CanReturn (map_of_explored e) (origin_in e) → (t : Tap) → HasTap e t
+    → CanTap (map_of_explored e) t.is_plain t.symbol
+tap-can e x st t (j, k, (y, at, has, tap)) =
+    let (path, is, comes, there) =
+    so-can e x st (λ s. IsTapOf (alone (map_of_explored e)) s t.is_plain t.symbol k) j y at has tap in
+    (path, is, comes, (k, there))
 
 -- ---- one character
 

@@ -6,9 +6,11 @@ pub mod Choosing
 pub mod Common
 pub mod Entries
 pub mod Exploring
+pub mod FewPlaces
 pub mod Known
 pub mod Lacking
 pub mod Leading
+pub mod Marking
 pub mod Refused
 pub mod RoutesHome
 pub mod Scrolling

@@ -57,7 +57,8 @@ unturned e x none h same (path, k, is) = subst (λ s. (p : ℕ) × ReachesMoreTh
     u = alone (map_of_explored e)
 
 -- a reset, the events to a place, and a press there that turns it
-pub turns-off : (e : Explored) → IsExplored e → (at : KeyAt) → HoldsAt (TurnsScroll e) e.met.entries at → (h : List Event)
+pub turns-off : (e : Explored) → IsExplored e → (at : KeyAt) → HoldsAt (TurnsScroll e) e.met.entries at
+    → (h : List Event)
     → origin_in e ≡ resting_after (map_of_explored e) h → HasKeys h → HasNoLoads h
     → is_locked_after (between (map_of_explored e) (map_of_explored e)) Scroll h ≡ true
     → (old there now : List Event) → old ≡ Reset ∷ []

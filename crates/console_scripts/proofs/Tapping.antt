@@ -1,14 +1,17 @@
--- Sets of symbols and characters to which more are added, and what they are in the end: all that can be tapped or typed.
+-- Sets of symbols, characters and codes to which more are added, and what they are in the end: all that can be tapped
+-- or typed, or that a tap gives.
 use Rattle.console_scripts.proofs.Common.{◌≡◌, ◌⊎◌, ◌<◌, ◌+◌, ◌++◌, ◌∷◌, [], ℕ, Bool, true, false, List, Some, inl, inr}
 use Rattle.console_scripts.proofs.Common.{slice_get, subst, sym, ◌∙◌, ap, cases_Bool, true≢false, Contains, place_last}
-use Rattle.console_scripts.proofs.Common.{same_Some, none-some, refl, length, ◌≤◌, take, take_more, get_or, Cell, Char, Act, None, MapValue, Explored, Symbol, State, Meta, alone, start, is_held, Entry}
-use Rattle.console_scripts.proofs.Common.{map_of_explored, state_of, look_in, look_selected, selection_of, key_count}
-use Rattle.console_scripts.proofs.Common.{CanType, IsTapOf, IsTapAt, IsExploredFrom, HasRoute}
-use Rattle.console_scripts.proofs.Common.{dead_tap, accent_at, one_map, Contains-push_cases, arith}
-use Rattle.console_scripts.proofs.Common.{Contains-append_left, Contains-push, slice_get_within, IsIdle, cell_of}
+use Rattle.console_scripts.proofs.Common.{same_Some, none-some, refl, length, ◌≤◌, take, take_more, get_or, Cell, Char}
+use Rattle.console_scripts.proofs.Common.{Act, Action, None, MapValue, Symbol, State, alone, Move, IsPath, state_after}
+use Rattle.console_scripts.proofs.Common.{look_in, look_selected, selection_of, key_count, ComesHome, CanTap, is_held}
+use Rattle.console_scripts.proofs.Common.{CanType, IsTapOf, Meta, cell_at, slot_of}
+use Rattle.console_scripts.proofs.Common.{accent_at, one_map, Contains-push_cases, arith}
+use Rattle.console_scripts.proofs.Common.{Contains-append_left, Contains-push, IsIdle, cell_of}
 use Rattle.console_scripts.proofs.Common.{composed_of, usable}
+use Rattle.keymap_core.specs.Actions.{code_of}
 use Rattle.keymap_core.specs.declared.action.Action.TheVariants as act
-use Rattle.std.specs.Prelude.{◌↔◌}
+use Rattle.std.specs.Prelude.{◌↔◌, ◌/◌, ◌%◌, ◌*◌}
 use Rattle.console_states.specs.declared.selection.Selection.{Selection}
 use Rattle.console_scripts.specs.declared.typed.Tapped.{Tapped}
 use Rattle.std.specs.BTreeSet.{BTreeSet, contains, Updates}
@@ -19,73 +22,18 @@ use Rattle.std.specs.Ordering.{nat_cmp}
 use Rattle.std.proofs.lemmas.Map.Lookups.{exact_unsigned}
 use Rattle.std.proofs.lemmas.Map.Views.{tells_apart, btree_set_contains_iff}
 use Rattle.keymap_core.specs.Accents.{AccentValue}
-use Rattle.console_states.specs.Sights.{Lists}
+use Rattle.console_core.proofs.Shared.{column_of-lt}
+use Rattle.console_states.specs.Sights.{Lists, slot_in, column_in}
 use Rattle.console_scripts.proofs.Bases.{no-base, usable-below}
-use Rattle.console_scripts.proofs.Choosing.{explored-can, explored-met}
-use Rattle.console_scripts.proofs.Exploring.{start-returns}
-use Rattle.console_scripts.specs.Inner.Exploring.{plain_tap}
-use Rattle.console_scripts.specs.Inner.Tapped.{Gains, HasCharacter, HasSymbol, IsGathered, IsLookedUp, IsSelected}
-use Rattle.console_scripts.specs.Inner.Tapped.{tap_of, AreTapped, Composes, IsComposed, IsWithKey, IsWithKeys, symbol_in}
+use Rattle.console_scripts.proofs.Marking.{gains-none, gains-same, gains-next, gains-more, looked-place}
+use Rattle.console_scripts.specs.Inner.Places.{ArePlaces, CanLookUp, Gains, IsMarked, IsTapOn, Shows, gives_cell}
+use Rattle.console_scripts.specs.Inner.Places.{cell_of_place, place_count, place_in}
+use Rattle.console_scripts.specs.Inner.Tapped.{AreMarkedSymbols, AreTapped, Composes, GivesAt, HasCharacter, HasCode}
+use Rattle.console_scripts.specs.Inner.Tapped.{HasSymbol, IsComposed, IsSymbolAt, symbol_in}
+use Rattle.console_scripts.specs.Typing.{AreGiven, Gives, is_giving}
 use Rattle.console_scripts.specs.declared.explored.Symbol.TheVariants as symbol
 
--- ---- more in a set
-
-pub gains-none : {K : Type 0} (A P : K → Type 0) → ((x : K) → P x → ⊥) → Gains A A P
-gains-none A P none x = (
-  (λ a. inl a),
-  λ s. elim s [
-    | inl a ↦ a
-    | inr p ↦ absurd (none x p)
-  ],
-)
-
-pub gains-same : {K : Type 0} (A B P Q : K → Type 0) → ((x : K) → P x ↔ Q x) → Gains A B P → Gains A B Q
-gains-same A B P Q same more x = (
-  (λ b. elim ((more x).0 b) [
-    | inl a ↦ inl a
-    | inr p ↦ inr ((same x).0 p)
-  ]),
-  λ s. elim s [
-    | inl a ↦ (more x).1 (inl a)
-    | inr q ↦ (more x).1 (inr ((same x).1 q))
-  ],
-)
-
-pub gains-next : {K : Type 0} (A B C P Q : K → Type 0) → Gains A B P → Gains B C Q → Gains A C (λ x. P x ⊎ Q x)
-gains-next A B C P Q first next x = (
-  (λ c. elim ((next x).0 c) [
-    | inl b ↦ elim ((first x).0 b) [
-      | inl a ↦ inl a
-      | inr p ↦ inr (inl p)
-    ]
-    | inr q ↦ inr (inr q)
-  ]),
-  λ s. elim s [
-    | inl a ↦ (next x).1 (inl ((first x).1 (inl a)))
-    | inr t ↦ elim t [
-      | inl p ↦ (next x).1 (inl ((first x).1 (inr p)))
-      | inr q ↦ (next x).1 (inr q)
-    ]
-  ],
-)
-
--- one more step of a loop, whose number is below
-pub gains-more : {K : Type 0} (A B C : K → Type 0) (P : ℕ → K → Type 0) (n : ℕ)
-    → Gains A B (λ x. (k : ℕ) × (k < n) × P k x) → Gains B C (P n)
-    → Gains A C (λ x. (k : ℕ) × (k < n + 1) × P k x)
-gains-more A B C P n first next =
-    gains-same A C (λ x. ((k : ℕ) × (k < n) × P k x) ⊎ P n x) (λ x. (k : ℕ) × (k < n + 1) × P k x)
-    (λ x. (
-      (λ s. elim s [
-        | inl t ↦ let (k, lt, p) = t in (k, omega (arith, lt), p)
-        | inr p ↦ (n, omega arith, p)
-      ]),
-      λ t. let (k, lt, p) = t in elim (place_last k n lt) [
-        | inl below ↦ inl (k, below, p)
-        | inr f ↦ inr (subst (λ i. P i x) f p)
-      ],
-    ))
-    (gains-next A B C (λ x. (k : ℕ) × (k < n) × P k x) (P n) first next)
+-- ---- characters
 
 pub gains-insert : (s n : BTreeSet ℕ) (k : ℕ) → Updates nat_cmp s n k true
     → Gains (HasCharacter s) (HasCharacter n) (λ x. x ≡ k)
@@ -165,173 +113,123 @@ gains-dead s n d i up (symbol.DeadKey j) =
     gains-same (HasCharacter s) (HasCharacter n) (λ x. x ≡ i) (λ x. symbol.DeadKey x ≡ symbol.DeadKey i)
     (λ x. ((λ e. ap (λ z. symbol.DeadKey z) e), λ e. ap number_in e)) (gains-insert s n i up) j
 
--- ---- what a key looks up
+-- ---- what stands at marked places
 
-pub key-none : (m : MapValue) (s : State) (k : ℕ) (were : Bool) (t : Tapped)
-    → symbol_in (look_selected m (selection_of s) k) ≡ None
-    → IsWithKey m s k were t t were
-key-none m s k were t none = record {
-  gains = gains-none (HasSymbol t) (IsLookedUp m s k) (λ x looks. lacks x looks.1);
-  all = λ is. (is, λ x looks. absurd (lacks x looks));
-}
-  where
-    lacks : (x : Symbol) → look_selected m (selection_of s) k ≡ cell_of x → ⊥
-    lacks x looks = none-some x (sym none ∙ ap symbol_in looks ∙ symbol-in x)
+-- no symbol at the place, or one
+pub symbol-none : (m : MapValue) (marks : List Bool) (p : ℕ) (t : Tapped) → ((x : Symbol) → IsSymbolAt m marks p x → ⊥)
+    → Gains (HasSymbol t) (HasSymbol t) (λ x. IsSymbolAt m marks p x)
+symbol-none m marks p t none = gains-none (HasSymbol t) (λ x. IsSymbolAt m marks p x) none
 
-pub key-busy : (m : MapValue) (s : State) (k : ℕ) (were : Bool) (t : Tapped) → (IsIdle s k → ⊥)
-    → IsWithKey m s k were t t false
-key-busy m s k were t busy = record {
-  gains = gains-none (HasSymbol t) (IsLookedUp m s k) (λ x looks. busy looks.0);
-  all = λ is. absurd (true≢false (sym is));
-}
+pub symbol-other : (y : Cell) (x : Symbol) → symbol_in y ≡ None → y ≡ cell_of x → ⊥
+symbol-other y x none is = none-some x (sym none ∙ ap symbol_in is ∙ symbol-in x)
 
-pub key-idle : (m : MapValue) (s : State) (k : ℕ) (were : Bool) (t u : Tapped) (y : Symbol)
-    → symbol_in (look_selected m (selection_of s) k) ≡ Some y → IsIdle s k
-    → Gains (HasSymbol t) (HasSymbol u) (λ x. x ≡ y)
-    → IsWithKey m s k were t u were
-key-idle m s k were t u y some idle more = record {
-  gains =
-      gains-same (HasSymbol t) (HasSymbol u) (λ x. x ≡ y) (IsLookedUp m s k)
-      (λ x. (
-        (λ e. (idle, in-symbol (look_selected m (selection_of s) k) x (some ∙ ap (λ z. Some z) (sym e)))),
-        λ looks. same x looks.1,
-      ))
-      more;
-  all = λ is. (is, λ x looks. (more x).1 (inr (same x looks)));
-}
-  where
-    same : (x : Symbol) → look_selected m (selection_of s) k ≡ cell_of x → x ≡ y
-    same x looks = same_Some x y (sym (symbol-in x) ∙ ap symbol_in (sym looks) ∙ some)
+pub symbol-one : (m : MapValue) (marks : List Bool) (p : ℕ) (t u : Tapped) (x : Symbol) → IsMarked marks p
+    → symbol_in (cell_of_place m p) ≡ Some x → Gains (HasSymbol t) (HasSymbol u) (λ z. z ≡ x)
+    → Gains (HasSymbol t) (HasSymbol u) (λ z. IsSymbolAt m marks p z)
+symbol-one m marks p t u x marked some more =
+    gains-same (HasSymbol t) (HasSymbol u) (λ z. z ≡ x) (λ z. IsSymbolAt m marks p z)
+    (λ z. (
+      (λ e. (marked, in-symbol (cell_of_place m p) z (some ∙ ap (λ w. Some w) (sym e)))),
+      λ at. same_Some z x (sym (symbol-in z) ∙ ap symbol_in (sym at.1) ∙ some),
+    ))
+    more
 
-pub keys-more : (m : MapValue) (s : State) (n : ℕ) (t u v : Tapped) (were are : Bool) → IsWithKeys m s n t u were
-    → IsWithKey m s n were u v are
-    → IsWithKeys m s (n + 1) t v are
-keys-more m s n t u v were are before now = record {
-  gains =
-      gains-more (HasSymbol t) (HasSymbol u) (HasSymbol v) (λ k x. IsLookedUp m s k x) n before.gains now.gains;
-  all = λ is x k lt looks.
-      let (was, there) = now.all is in
-      elim (place_last k n lt) [
-        | inl below ↦ (now.gains x).1 (inl (before.all was x k below looks))
-        | inr f ↦ there x (subst (λ i. look_selected m (selection_of s) i ≡ cell_of x) f looks)
-      ];
-}
-
-pub keys-none : (m : MapValue) (s : State) (t : Tapped) (are : Bool) → IsWithKeys m s 0 t t are
-keys-none m s t are = record {
-  gains =
-      gains-none (HasSymbol t) (λ x. (k : ℕ) × (k < 0) × IsLookedUp m s k x)
-      (λ x looks. let lt = looks.1 in omega (arith, lt));
-  all = λ is x k lt. absurd (omega (arith, lt));
-}
-
--- ---- what is gathered place by place
-
--- a tap at the place is of its state
-pub taps-there : (e : Explored) (plain : Bool) (x : Symbol) (j k : ℕ) (y : Entry) → slice_get e.met.entries j ≡ Some y
-    → IsTapAt e (tap_of plain x) j k
-    → HasRoute e.routes.entries (state_of y.0)
-    × IsTapOf (alone (map_of_explored e)) (state_of y.0) plain x k
-taps-there e plain x j k y at (z, there, has, tap) =
-    subst (λ (w : Entry). HasRoute e.routes.entries (state_of w.0)
-    × IsTapOf (alone (map_of_explored e)) (state_of w.0) plain x k) (sym (same_Some y z (sym at ∙ there))) (has, tap)
-
--- what it looks up is what is selected
-pub looks-selected : (m : MapValue) (s : State) (k : ℕ) → look_in (alone m) s k ≡ look_selected m (selection_of s) k
+-- what a key looks up in a state is what is selected
+looks-selected : (m : MapValue) (s : State) (k : ℕ) → look_in (alone m) s k ≡ look_selected m (selection_of s) k
 looks-selected m s k = ap (λ n. look_selected n (selection_of s) k) (one_map m s.is_second)
 
--- nothing more at the place
-pub gathered-next : (e : Explored) (plain : Bool) (n : ℕ) (t : Tapped) (selections : List Selection)
-    → IsGathered e plain n t selections → ((x : Symbol) (k : ℕ) → IsTapAt e (tap_of plain x) n k → HasSymbol t x)
-    → IsGathered e plain (n + 1) t selections
-gathered-next e plain n t selections g here = record {
-  only = g.only;
-  all = λ x j k lt tap. elim (place_last j n lt) [
-    | inl below ↦ g.all x j k below tap
-    | inr f ↦ here x k (subst (λ i. IsTapAt e (tap_of plain x) i k) f tap)
-  ];
-  known = g.known;
-}
+gives-symbol : (x : Symbol) → gives_cell (cell_of x) ≡ true
+gives-symbol (symbol.Character c) = refl
+gives-symbol (symbol.DeadKey i) = refl
 
--- no place has a tap that isn't there where all of its selection are
-pub gathered-known : (e : Explored) (plain : Bool) (n : ℕ) (t : Tapped) (selections : List Selection) (y : Entry)
-    → slice_get e.met.entries n ≡ Some y → Contains selections (selection_of (state_of y.0)) → IsGathered e plain n t selections
-    → IsGathered e plain (n + 1) t selections
-gathered-known e plain n t selections y at has g =
-    gathered-next e plain n t selections g
-    (λ x k tap.
-    let (route, (lt, idle, looks, off)) = taps-there e plain x n k y at tap in
-    g.known _ has x (k, lt, sym (looks-selected (map_of_explored e) (state_of y.0) k) ∙ looks))
+-- the symbols at the places that taps look up are those that can be tapped
+pub marked-tapped : (m : MapValue) (plain : Bool) (marks : List Bool) (t : Tapped) → ArePlaces m plain marks
+    → AreMarkedSymbols m marks t
+    → AreTapped m plain t
+marked-tapped m plain marks t are symbols x = (
+  (λ has.
+      let (p, lt, (marked, at)) = (symbols x).0 has in
+      let (path, is, comes, (k, (below, idle, (place, gives), off))) = (are p).0 marked in
+      let s : State = state_after (alone m) path in (
+        path,
+        is,
+        comes,
+        (
+          k,
+          (
+            below,
+            idle,
+            looks-selected m s k ∙ sym (looked-place m (selection_of s) k below).1
+                ∙ ap (λ z. cell_of_place m z) place ∙ at,
+            off,
+          ),
+        ),
+      )),
+  λ can.
+      let (path, is, comes, (k, (below, idle, looks, off))) = can in
+      let s : State = state_after (alone m) path in
+      let seen : look_selected m (selection_of s) k ≡ cell_of x = sym (looks-selected m s k) ∙ looks in
+      let p = place_in m (selection_of s) k in
+      let (lt, at) = looked-place m (selection_of s) k below in
+      (symbols x).1 (
+        p,
+        lt,
+        (
+          (are p).1 (path, is, comes, (k, (below, idle, (refl, ap gives_cell seen ∙ gives-symbol x), off))),
+          at ∙ seen,
+        ),
+      ),
+)
 
--- nor where no route begins, or where meta is on and the taps are to be plain
-pub gathered-none : (e : Explored) (plain : Bool) (n : ℕ) (t : Tapped) (selections : List Selection) (y : Entry)
-    → slice_get e.met.entries n ≡ Some y
-    → (HasRoute e.routes.entries (state_of y.0) → (plain ≡ true → is_held (state_of y.0) Meta ≡ false) → ⊥)
-    → IsGathered e plain n t selections
-    → IsGathered e plain (n + 1) t selections
-gathered-none e plain n t selections y at none g =
-    gathered-next e plain n t selections g
-    (λ x k tap.
-    let (route, (lt, idle, looks, off)) = taps-there e plain x n k y at tap in absurd (none route off))
+gives-action : (m : MapValue) (a : Action) → is_giving m a ≡ true → gives_cell (Act a) ≡ true
+gives-action m act.Nop is = absurd (true≢false (sym is))
+gives-action m (act.Mod i) is = absurd (true≢false (sym is))
+gives-action m (act.Lock l) is = absurd (true≢false (sym is))
+gives-action m _ is = refl
 
--- what keys look up in the state of the place
-pub gathered-there : (e : Explored) (plain : Bool) (n : ℕ) (t u : Tapped) (selections : List Selection) (y : Entry)
-    → slice_get e.met.entries n ≡ Some y → HasRoute e.routes.entries (state_of y.0)
-    → (plain ≡ true → is_held (state_of y.0) Meta ≡ false)
-    → Gains (HasSymbol t) (HasSymbol u)
-    (λ x. (k : ℕ) × (k < key_count) × IsLookedUp (map_of_explored e) (state_of y.0) k x)
-    → IsGathered e plain n t selections
-    → IsGathered e plain (n + 1) u selections
-gathered-there e plain n t u selections y at route off more g = record {
-  only = λ x has. elim ((more x).0 has) [
-    | inl old ↦ g.only x old
-    | inr there ↦
-        let (k, lt, (idle, looks)) = there in
-        (n, k, (y, at, route, (lt, idle, looks-selected (map_of_explored e) (state_of y.0) k ∙ looks, off)))
-  ];
-  all = λ x j k lt tap. elim (place_last j n lt) [
-    | inl below ↦ (more x).1 (inl (g.all x j k below tap))
-    | inr f ↦
-        let (has, (near, idle, looks, none)) =
-        taps-there e plain x n k y at (subst (λ i. IsTapAt e (tap_of plain x) i k) f tap) in
-        (more x).1 (inr (k, near, (idle, sym (looks-selected (map_of_explored e) (state_of y.0) k) ∙ looks)))
-  ];
-  known = λ z has x sel. (more x).1 (inl (g.known z has x sel));
-}
-
--- and all of its selection
-pub gathered-selected : (e : Explored) (plain : Bool) (n : ℕ) (t : Tapped) (selections now : List Selection)
-    (y : Selection)
-    → now ≡ selections ++ y ∷ [] → ((x : Symbol) → IsSelected (map_of_explored e) y x → HasSymbol t x)
-    → IsGathered e plain n t selections
-    → IsGathered e plain n t now
-gathered-selected e plain n t selections now y is all g = record {
-  only = g.only;
-  all = g.all;
-  known = λ z has x sel. elim (Contains-push_cases selections y z (subst (λ zs. Contains zs z) is has)) [
-    | inl old ↦ g.known z old x sel
-    | inr f ↦ all x (subst (λ w. IsSelected (map_of_explored e) w x) (sym f) sel)
-  ];
-}
-
-pub gathered-first : (e : Explored) (plain : Bool) (t : Tapped) (selections : List Selection)
-    → ((x : Symbol) → HasSymbol t x → ⊥) → selections ≡ []
-    → IsGathered e plain 0 t selections
-gathered-first e plain t selections none empty = record {
-  only = λ x has. absurd (none x has);
-  all = λ x j k lt. absurd (omega (arith, lt));
-  known = λ y has.
-      let (i, lt, at) = subst (λ ys. Contains ys y) empty has in absurd (omega (arith, lt));
-}
-
-pub gathered-all : (e : Explored) (plain : Bool) (n : ℕ) (t : Tapped) (selections : List Selection)
-    → length e.met.entries ≤ n → IsGathered e plain n t selections
-    → AreTapped e plain t
-gathered-all e plain n t selections le g x = (
-  g.only x,
-  λ has.
-      let (j, k, tap) = has in
-      let within = slice_get_within e.met.entries j tap.0 tap.1 in g.all x j k (omega (arith, within, le)) tap,
+-- the codes at the places that taps look up are those of the actions that a tap gives
+pub marked-given : (m : MapValue) (marks given : List Bool) → ArePlaces m false marks
+    → ((c : ℕ) → HasCode given c ↔ ((p : ℕ) × (p < place_count) × GivesAt m marks p c))
+    → AreGiven m given
+marked-given m marks given are codes c = (
+  (λ has.
+      let (p, lt, (marked, (a, at, known, giving, code))) = (codes c).0 has in
+      let (path, is, comes, (k, (below, idle, (place, gives), off))) = (are p).0 marked in
+      let s : State = state_after (alone m) path in (
+        a,
+        known,
+        code,
+        (
+          giving,
+          (
+            path,
+            is,
+            comes,
+            (
+              k,
+              below,
+              idle,
+              looks-selected m s k ∙ sym (looked-place m (selection_of s) k below).1
+                  ∙ ap (λ z. cell_of_place m z) place ∙ at,
+            ),
+          ),
+        ),
+      )),
+  λ x.
+      let (a, known, code, (giving, (path, is, comes, (k, below, idle, looks)))) = x in
+      let s : State = state_after (alone m) path in
+      let seen : look_selected m (selection_of s) k ≡ Act a = sym (looks-selected m s k) ∙ looks in
+      let p = place_in m (selection_of s) k in
+      let (lt, at) = looked-place m (selection_of s) k below in
+      (codes c).1 (
+        p,
+        lt,
+        (
+          (are p).1
+              (path, is, comes, (k, (below, idle, (refl, ap gives_cell seen ∙ gives-action m a giving), (λ no. absurd (true≢false (sym no)))))),
+          (a, at ∙ seen, known, giving, code),
+        ),
+      ),
 )
 
 -- ---- what an accent makes
@@ -461,41 +359,23 @@ pairs-none m t i pairs old =
 -- ---- all that are typed
 
 -- those that can be tapped plainly, and those behind a dead key, are all that keys can type
-pub all-typed : (m : MapValue) (e : Explored) (t plain : Tapped) (set : BTreeSet ℕ) → IsExploredFrom m start e
-    → e.is_complete ≡ true → AreTapped e false t → AreTapped e true plain
+pub all-typed : (m : MapValue) (t plain : Tapped) (set : BTreeSet ℕ) → AreTapped m false t → AreTapped m true plain
     → Gains (HasCharacter plain.characters) (HasCharacter set)
     (λ c. (i : ℕ) × (x : Symbol) × IsComposed m t plain i c x)
     → Lists (CanType m) set.keys
-all-typed m e t plain set v complete are are_plain more = record {
+all-typed m t plain set are are_plain more = record {
   all = λ c can. (btree_set_contains_iff nat_cmp_total exact_unsigned set c).0 ((more c).1 (found c can));
   only = λ c has. types c ((more c).0 ((btree_set_contains_iff nat_cmp_total exact_unsigned set c).1 has));
 }
   where
     found : (c : ℕ) → CanType m c
         → HasCharacter plain.characters c ⊎ ((i : ℕ) × (x : Symbol) × IsComposed m t plain i c x)
-    found c (inl can) =
-        inl ((are_plain (symbol.Character c)).1 (explored-met m start e v (start-returns m) complete
-        (plain_tap (symbol.Character c)) can))
-    found c (inr (i, x, can_use, made, dead, tap)) = inr (
-      i,
-      x,
-      (
-        can_use,
-        (are (symbol.DeadKey i)).1 (explored-met m start e v (start-returns m) complete (dead_tap i) dead),
-        (made, (are_plain x).1 (explored-met m start e v (start-returns m) complete (plain_tap x) tap)),
-      ),
-    )
+    found c (inl can) = inl ((are_plain (symbol.Character c)).1 can)
+    found c (inr (i, x, can_use, made, dead, tap)) =
+        inr (i, x, (can_use, (are (symbol.DeadKey i)).1 dead, (made, (are_plain x).1 tap)))
 
     types : (c : ℕ) → HasCharacter plain.characters c ⊎ ((i : ℕ) × (x : Symbol) × IsComposed m t plain i c x)
         → CanType m c
-    types c (inl has) =
-        inl (explored-can m start e v (start-returns m) (plain_tap (symbol.Character c))
-        ((are_plain (symbol.Character c)).0 has))
-    types c (inr (i, x, (can_use, dead, (made, tap)))) = inr (
-      i,
-      x,
-      can_use,
-      made,
-      explored-can m start e v (start-returns m) (dead_tap i) ((are (symbol.DeadKey i)).0 dead),
-      explored-can m start e v (start-returns m) (plain_tap x) ((are_plain x).0 tap),
-    )
+    types c (inl has) = inl ((are_plain (symbol.Character c)).0 has)
+    types c (inr (i, x, (can_use, dead, (made, tap)))) =
+        inr (i, x, can_use, made, (are (symbol.DeadKey i)).0 dead, (are_plain x).0 tap)

@@ -171,7 +171,8 @@ no-way e whole s off none now is = inr ((λ can home. none (route-reached e whol
 
 -- no press sees one of the sights
 pub unseen-from : (e : Explored) → IsExplored e → (xs : List Sight)
-    → ((x : Sight) → Contains xs x → IsNowhere (Sees e x) e.met.entries) → IsOnward (map_of_explored e) (origin_in e) xs None
+    → ((x : Sight) → Contains xs x → IsNowhere (Sees e x) e.met.entries)
+    → IsOnward (map_of_explored e) (origin_in e) xs None
 unseen-from e x xs none = elim (cases_Bool e.is_complete) [
   | inl complete ↦
       inl

@@ -1,5 +1,6 @@
 -- What mirrors functions of the code, or tells of private fields. Private contracts cite it; no public clause does.
 pub mod Exploring
+pub mod Places
 pub mod Routes
 pub mod Showing
 pub mod Symbols

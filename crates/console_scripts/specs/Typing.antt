@@ -1,7 +1,11 @@
 -- What keys can type, and the events that type characters.
 use Rattle.std.specs.Prelude.{◌≡◌, ◌==◌, ℕ, ◌+◌, ◌<◌, ◌≤◌, Bool, true, false, ◌⊎◌, List, [], ◌∷◌, ◌++◌, All, Option}
-use Rattle.std.specs.Prelude.{None, Some, ⊤, if◌then◌else◌, filter, map, reverse, slice_get, take, length}
-use Rattle.console_scripts.specs.Types.{Modifier, Lock, Meta, Cell, Char, Act, Event, Press, Release, Answer, Move}
+use Rattle.std.specs.Prelude.{◌↔◌, slice_index_or, None, Some, ⊤, if◌then◌else◌, filter, map, reverse, slice_get, take, length}
+use Rattle.console_scripts.specs.Types.{Action, Modifier, Lock, Meta, Cell, Char, Act, Event, Press, Release, Answer}
+use Rattle.console_scripts.specs.Types.{Move}
+use Rattle.keymap_core.specs.Actions.{IsAction, code_of}
+use Rattle.console_states.specs.Sights.{Lists}
+use Rattle.console_scripts.specs.declared.typed.Yield.{Yield}
 use Rattle.keymap_core.specs.declared.action.Action.TheVariants as act
 use Rattle.keymap_core.specs.Accents.{own_of}
 use Rattle.keymap_core.specs.Maps.{MapValue, accent_at}
@@ -54,6 +58,32 @@ CanType m c =
     CanTap m true (symbol.Character c)
     ⊎ ((i : ℕ) × (x : Symbol) × (usable m i ≡ true) × (composed_of m i x ≡ Some c)
     × CanTap m false (symbol.DeadKey i) × CanTap m true x)
+
+-- A tap may give the action: it is more than nop, a modifier or a lock, and if a dead key, its accent has a character.
+abbrev pub is_giving : MapValue → Action → Bool
+is_giving m act.Nop = false
+is_giving m (act.Mod i) = false
+is_giving m (act.Lock l) = false
+is_giving m (act.DeadKey i) = usable m i
+is_giving m a = true
+
+-- A tap gives the action: moves from the start lead to where a key that holds nothing looks it up, and more of them
+-- lead home.
+abbrev pub Gives : MapValue → Action → Type 0
+Gives m a =
+    (is_giving m a ≡ true)
+    × ((path : List Move) × IsPath (alone m) path × ComesHome (alone m) (state_after (alone m) path)
+    × ((k : ℕ) × (k < key_count) × IsIdle (state_after (alone m) path) k
+    × (look_in (alone m) (state_after (alone m) path) k ≡ Act a)))
+
+-- these are the codes of the actions that a tap gives
+abbrev pub AreGiven : MapValue → List Bool → Type 0
+AreGiven m given =
+    (c : ℕ) → (slice_index_or given c false ≡ true) ↔ ((a : Action) × IsAction a × (code_of a ≡ c) × Gives m a)
+
+-- the characters that keys can type, and the actions that a tap gives
+abbrev pub IsYield : MapValue → Yield → Type 0
+IsYield m x = Lists (CanType m) x.typed.keys × AreGiven m x.given
 
 -- the answers that type something
 abbrev pub types_something : Answer → Bool

@@ -6,18 +6,20 @@
 //! An `Explorer` makes the events of visits to what presses can see, where moves lead back; `find_onward` those to what
 //! lies behind a turn of a lock that none takes back, and `scroll_off` those that turn the scroll lock off.
 //! `type_characters` makes the events that type characters, in whatever layout a lock selects them, or names the first
-//! character that no keys can type. A `Typist` tells of each character whether keys can type it, and `typed_of` makes
-//! the set of all that they can.
+//! character that no keys can type. A `Typist` tells of each character whether keys can type it, and `yield_of` makes
+//! the set of all that they can, with the actions that taps give.
 //!
 //! No call takes memory but `find_onward`, `scroll_off`, `Reached::releases`, those of an `Explorer`, `Typist::new`,
-//! `typed_of` and `type_characters`. These fail for want of memory, `type_characters` besides where a character can't be
-//! typed or more than 65,536 states can be reached, and no other call fails.
+//! `yield_of` and `type_characters`. These fail for want of memory, `type_characters` besides where a
+//! character can't be typed or more than 65,536 states can be reached, and no other call fails.
 #![tactic(auto)]
 
 mod explored;
 mod explorer;
+mod few;
 pub mod laws;
 mod onward;
+mod places;
 mod routes;
 mod showing;
 mod symbols;
@@ -28,6 +30,6 @@ mod ways;
 
 pub use explorer::Explorer;
 pub use onward::{Onward, Reached, find_onward, scroll_off};
-pub use typed::typed_of;
+pub use typed::{Yield, yield_of};
 pub use typing::{Keyed, Typing, TypingError, type_characters};
 pub use typist::Typist;

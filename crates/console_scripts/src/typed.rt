@@ -1,33 +1,39 @@
-//! The set of the characters that keys can type, made by one exploration of a keymap.
-//!
-//! What a key looks up depends on the selection of a state alone. So keys are asked in each selection once, where those
-//! that hold a modifier there look up no symbol, and each symbol is added to a set.
-ghost use Rattle.std.specs.Prelude.{◌≡◌, ◌+◌, ◌<◌, ◌↔◌, length, ℕ, true, false, Some, Ok, IfOk, OnOk, MatchOption};
+//! What comes of taps: the characters that keys can type, and the actions, by the places that taps look up.
+ghost use Rattle.std.specs.Prelude.{◌≡◌, ◌+◌, ◌<◌, ◌↔◌, ℕ, true, false, Some, Ok, IfOk, OnOk, MatchOption};
 ghost use Rattle.std.specs.List.{Contains};
 ghost use Rattle.console_core.specs.Answers.{usable};
 ghost use Rattle.keymap_core.specs.Maps.{MapValue, accent_at};
-ghost use Rattle.keymap_core.specs.Numbers.{key_count};
-ghost use Rattle.console_states.specs.Moves.{alone, is_held, start};
-ghost use Rattle.console_scripts.specs.Types.{Meta};
-ghost use Rattle.console_scripts.specs.Inner.Routes.{HasRoute};
-ghost use Rattle.console_states.specs.Searching.{state_of};
-ghost use Rattle.console_states.specs.Sights.{Lists, selection_of};
+ghost use Rattle.console_states.specs.Moves.{alone};
+ghost use Rattle.console_states.specs.Sights.{Lists};
 ghost use Rattle.console_states.specs.Sticking.{ReachesMoreThan, state_limit};
+ghost use Rattle.keymap_core.specs.Actions.{IsAction, code_of};
+ghost use Rattle.console_scripts.specs.Types.{Act, Action as ActionValue};
 ghost use Rattle.console_scripts.specs.declared.explored.Symbol.{Symbol as SymbolValue};
 ghost use Rattle.console_scripts.specs.declared.explored.Symbol.TheVariants as symbol;
-ghost use Rattle.console_scripts.specs.Typing.{CanType};
-ghost use Rattle.console_scripts.specs.Inner.Exploring.{IsExploredFrom};
-ghost use Rattle.console_scripts.specs.Inner.Tapped.{AreTapped, Gains, HasSymbol, HasCharacter, IsWithKey, IsWithKeys};
-ghost use Rattle.console_scripts.specs.Inner.Tapped.{has_symbol, symbol_in};
-ghost use Rattle.console_scripts.specs.Inner.Tapped.{Composes, IsComposed, IsGathered};
+ghost use Rattle.console_scripts.specs.Typing.{AreGiven, IsYield, CanType, is_giving as is_giving_in};
+ghost use Rattle.console_scripts.specs.Inner.Places.{ArePlaces, Gains, place_count};
+ghost use Rattle.console_scripts.specs.Inner.Tapped.{ArePlacesOf, AreMarkedSymbols, GivesAt, HasCode, HasSymbol};
+ghost use Rattle.console_scripts.specs.Inner.Tapped.{HasCharacter, IsSymbolAt, has_symbol, symbol_in};
+ghost use Rattle.console_scripts.specs.Inner.Tapped.{Composes, IsComposed};
 
-use crate::explored::{Explored, Symbol, explore};
-use crate::routes::has_route;
+use crate::explored::{Symbol, explore};
+use crate::few::{are_all_marked, cell_at, few_places};
+use crate::places::Marks;
 use crate::ways::{base_of, composed};
-use console_states::{Held, Selection, entry};
-use keymap_core::{Accent, Action, Cell, KEY_COUNT, KeyCode, KeyMap, Keymap, key_with};
+use console_core::is_usable;
+use console_states::Held;
+use keymap_core::{Accent, Action, COLUMN_COUNT, Cell, KeyMap, SLOT_LIMIT};
 use std::alloc::{AllocError, Global};
 use std::collections::BTreeSet;
+
+/// What comes of taps of keys.
+#[derive(Drop)]
+pub struct Yield {
+    /// The characters that keys can type.
+    pub typed: BTreeSet<char>,
+    /// Which actions a tap gives, by their codes.
+    pub given: [bool; 256],
+}
 
 /// Symbols that can be tapped.
 #[derive(Drop)]
@@ -35,6 +41,14 @@ struct Tapped {
     characters: BTreeSet<char>,
     /// The accents whose dead keys can be.
     dead_keys: BTreeSet<u8>,
+}
+
+/// The places that taps look up, those that they do while meta is off, and whether it is known that these are the same.
+#[derive(Drop)]
+struct Places {
+    all: Marks,
+    plain: Marks,
+    are_alike: bool,
 }
 
 /// The symbol that the cell is.
@@ -46,18 +60,6 @@ fn symbol_of(cell: &Cell) -> Option<Symbol>
         Cell::Act(Action::DeadKey(accent)) => Some(Symbol::DeadKey(accent.get())),
         Cell::Act(_) => None,
     }
-}
-
-/// Whether the selection is among these.
-fn is_among(selections: &[Selection], selection: Selection) -> bool
-    ensures { result ≡ true → Contains selections.now selection }
-{
-    for other in selections {
-        if *other == selection {
-            return true;
-        }
-    }
-    false
 }
 
 impl Tapped {
@@ -94,93 +96,28 @@ impl Tapped {
         }
     }
 
-    /// Adds the symbol that the key looks up, unless it holds a modifier. Answers whether all are there that were
-    /// looked up, if all were before.
-    fn add_of_key(
-        &mut self,
-        map: &KeyMap,
-        held: &Held,
-        selection: Selection,
-        key: KeyCode,
-        are_all: bool,
-    ) -> Result<bool, AllocError>
-        requires { selection ≡ selection_of (state_of held.now) }
-        ensures { IfOk result (λ all. IsWithKey map.now (state_of held.now) key are_all self.old self.new all) }
+    /// Adds the symbol at the place, if one is there and the place is marked.
+    fn add_at(&mut self, map: &KeyMap, marks: &Marks, place: usize) -> Result<(), AllocError>
+        requires { place < place_count }
+        ensures { OnOk result (Gains (HasSymbol self.old) (HasSymbol self.new)
+            (λ x. IsSymbolAt map.now marks.now place x)) }
     {
-        let Some(symbol) = symbol_of(&selection.look(map, key)) else {
-            return Ok(are_all);
+        if !marks[place] {
+            return Ok(());
+        }
+        let Some(symbol) = symbol_of(&cell_at(map, place)) else {
+            return Ok(());
         };
-        if held.holds(key) {
-            return Ok(false);
-        }
-        self.add(symbol)?;
-        Ok(are_all)
+        self.add(symbol)
     }
 
-    /// Adds the symbols that keys look up which hold no modifier in the state. Answers whether these are all that are
-    /// looked up where the same is selected.
-    fn add_in(&mut self, map: &KeyMap, held: &Held) -> Result<bool, AllocError>
-        ensures { IfOk result (λ all. IsWithKeys map.now (state_of held.now) key_count self.old self.new all) }
-    {
-        let selection = held.selection();
-        let mut are_all = true;
-        for code in 0..KEY_COUNT as u8 {
-            are_all = self.add_of_key(map, held, selection, key_with(code), are_all)?;
-        }
-        Ok(are_all)
-    }
-}
-
-impl<'m> Explored<'m> {
-    /// Whether taps in the state count: a route leads home, and meta is off where they are to be plain.
-    fn has_taps(&self, held: &Held, is_plain: bool) -> bool
-        ensures route { result ≡ true → HasRoute self.now.routes.entries (state_of held.now) }
-        ensures plain { result ≡ true → is_plain ≡ true → is_held (state_of held.now) Meta ≡ false }
-        ensures none { result ≡ false → HasRoute self.now.routes.entries (state_of held.now)
-            → (is_plain ≡ true → is_held (state_of held.now) Meta ≡ false) → ⊥ }
-    {
-        if is_plain && held.is_meta_held() {
-            return false;
-        }
-        has_route(&self.routes, held)
-    }
-
-    /// Adds the symbols that can be tapped at the place, unless its selection is one of which all are there.
-    fn add_at(
-        &self,
-        tapped: &mut Tapped,
-        known: &mut Vec<Selection>,
-        place: usize,
-        is_plain: bool,
-    ) -> Result<(), AllocError>
-        requires place { place < length self.now.met.entries }
-        requires gathered { IsGathered self.now is_plain place tapped.old known.old.items }
-        ensures { OnOk result (IsGathered self.now is_plain (place + 1) tapped.new known.new.items) }
-    {
-        let (held, _) = entry(&self.met, place);
-        let selection = held.selection();
-        if is_among(known.as_slice(), selection) {
-            return Ok(());
-        }
-        if !self.has_taps(&held, is_plain) {
-            return Ok(());
-        }
-        let are_all = tapped.add_in(self.maps.first, &held)?;
-        if are_all {
-            known.push(selection)?;
-            return Ok(());
-        }
-        Ok(())
-    }
-
-    /// The symbols that can be tapped; where the taps are to be plain, those that can be while meta is off.
-    fn tapped(&self, alloc: Global, is_plain: bool) -> Result<Tapped, AllocError>
-        ensures { IfOk result (λ x. AreTapped self.now is_plain x) }
+    /// The symbols at marked places.
+    fn of(alloc: Global, map: &KeyMap, marks: &Marks) -> Result<Tapped, AllocError>
+        ensures { IfOk result (λ tapped. AreMarkedSymbols map.now marks.now tapped) }
     {
         let mut tapped = Tapped::new(alloc);
-        let mut known = Vec::new(alloc);
-        for place in 0..self.met.len() {
-            self.add_at(&mut tapped, &mut known, place, is_plain)?;
+        for place in 0..SLOT_LIMIT * COLUMN_COUNT {
+            tapped.add_at(map, marks, place)?;
         }
         Ok(tapped)
     }
@@ -277,29 +214,118 @@ fn add_composed(
     Ok(())
 }
 
-/// The characters that keys can type, by what was explored from the start.
-fn typed_in(alloc: Global, map: &KeyMap, explored: &Explored) -> Result<BTreeSet<char>, AllocError>
-    requires explored { IsExploredFrom map.now start explored.now }
-    requires complete { explored.now.is_complete ≡ true }
+/// The characters that keys can type.
+fn typed_by(alloc: Global, map: &KeyMap, places: &Places) -> Result<BTreeSet<char>, AllocError>
+    requires { ArePlacesOf map.now places.now }
     ensures { IfOk result (λ set. Lists (λ c. CanType map.now c) set.keys) }
 {
-    let tapped = explored.tapped(alloc, false)?;
-    let plain = explored.tapped(alloc, true)?;
+    let plain = Tapped::of(alloc, map, &places.plain)?;
     let mut typed = plain.characters.clone()?;
+    if places.are_alike {
+        add_composed(&mut typed, map, &plain, &plain)?;
+        return Ok(typed);
+    }
+    let tapped = Tapped::of(alloc, map, &places.all)?;
     add_composed(&mut typed, map, &tapped, &plain)?;
     Ok(typed)
 }
 
-/// The characters that keys can type, or nothing where there are more than 65,536 states.
-pub fn typed_of(alloc: Global, map: &KeyMap) -> Result<Option<BTreeSet<char>>, AllocError>
-    ensures { IfOk result (λ typed. MatchOption typed ((p : ℕ) × ReachesMoreThan (alone map.now) state_limit p)
-        (λ set. Lists (λ c. CanType map.now c) set.keys)) }
+/// Whether a tap that looks up the action gives it.
+fn is_giving(map: &KeyMap, action: &Action) -> bool
+    ensures { result ≡ is_giving_in map.now action.now }
 {
-    let explored = explore(alloc, map, &Held::start())?;
-    if explored.is_complete {
-        let typed = typed_in(alloc, map, &explored)?;
-        Ok(Some(typed))
-    } else {
-        Ok(None)
+    match action {
+        Action::Nop | Action::Mod(_) | Action::Lock(_) => false,
+        Action::DeadKey(accent) => is_usable(map, accent.get()),
+        _ => true,
     }
+}
+
+/// The code of the action that the cell is, if a tap that looks it up gives one.
+fn given_code(map: &KeyMap, cell: &Cell) -> Option<u8>
+    ensures { MatchOption result ((a : ActionValue) → cell.now ≡ Act a → is_giving_in map.now a ≡ true → ⊥)
+        (λ c. (a : ActionValue) × (cell.now ≡ Act a) × IsAction a × (is_giving_in map.now a ≡ true)
+        × (code_of a ≡ c)) }
+{
+    match cell {
+        Cell::Act(action) => {
+            if is_giving(map, action) {
+                Some(action.code())
+            } else {
+                None
+            }
+        }
+        Cell::Char(_) => None,
+    }
+}
+
+/// Marks the code of the action at the place, if a tap gives it.
+fn give_at(given: &mut [bool; 256], map: &KeyMap, marks: &Marks, place: usize)
+    requires { place < place_count }
+    ensures { Gains (HasCode given.old) (HasCode given.new) (λ c. GivesAt map.now marks.now place c) }
+{
+    if !marks[place] {
+        return;
+    }
+    if let Some(code) = given_code(map, &cell_at(map, place)) {
+        given[usize::from(code)] = true;
+    }
+}
+
+/// No codes.
+fn no_codes() -> [bool; 256]
+    ensures { (c : ℕ) → HasCode result c → ⊥ }
+{
+    [false; 256]
+}
+
+/// Which actions a tap gives.
+fn given_by(map: &KeyMap, marks: &Marks) -> [bool; 256]
+    requires { ArePlaces map.now false marks.now }
+    ensures { AreGiven map.now result }
+{
+    let mut given = no_codes();
+    for place in 0..SLOT_LIMIT * COLUMN_COUNT {
+        give_at(&mut given, map, marks, place);
+    }
+    given
+}
+
+/// The places that taps look up, or nothing where there are more than 65,536 states.
+fn places_of(alloc: Global, map: &KeyMap) -> Result<Option<Places>, AllocError>
+    ensures { IfOk result (λ r. MatchOption r ((p : ℕ) × ReachesMoreThan (alone map.now) state_limit p)
+        (ArePlacesOf map.now)) }
+{
+    let few = few_places(alloc, map)?;
+    if are_all_marked(map, &few) {
+        return Ok(Some(Places {
+            all: few,
+            plain: few,
+            are_alike: true,
+        }));
+    }
+    let explored = explore(alloc, map, &Held::start())?;
+    if !explored.is_complete {
+        return Ok(None);
+    }
+    let all = explored.places(alloc, false)?;
+    let plain = explored.places(alloc, true)?;
+    Ok(Some(Places {
+        all,
+        plain,
+        are_alike: false,
+    }))
+}
+
+/// What comes of taps, or nothing where there are more than 65,536 states.
+pub fn yield_of(alloc: Global, map: &KeyMap) -> Result<Option<Yield>, AllocError>
+    ensures { IfOk result (λ r. MatchOption r ((p : ℕ) × ReachesMoreThan (alone map.now) state_limit p)
+        (IsYield map.now)) }
+{
+    let Some(places) = places_of(alloc, map)? else {
+        return Ok(None);
+    };
+    let typed = typed_by(alloc, map, &places)?;
+    let given = given_by(map, &places.all);
+    Ok(Some(Yield { typed, given }))
 }

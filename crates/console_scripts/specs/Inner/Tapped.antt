@@ -1,27 +1,18 @@
--- Sets of symbols that can be tapped, and of characters. Mirrors src/typed.rt.
-use Rattle.std.specs.Prelude.{◌≡◌, ◌⊎◌, ◌↔◌, ◌<◌, ℕ, Bool, true, List, Option, None, Some}
+-- Sets of symbols that can be tapped, of characters, and of codes of actions. Mirrors src/typed.rt.
+use Rattle.std.specs.Prelude.{◌≡◌, ◌↔◌, ◌<◌, ℕ, Bool, true, false, List, Option, None, Some, slice_index_or}
 use Rattle.std.specs.BTreeSet.{BTreeSet, contains}
-use Rattle.std.specs.List.{Contains}
 use Rattle.std.specs.Ordering.{nat_cmp}
+use Rattle.keymap_core.specs.Actions.{IsAction, code_of}
 use Rattle.keymap_core.specs.Maps.{MapValue}
-use Rattle.keymap_core.specs.Numbers.{key_count}
-use Rattle.console_core.specs.Answers.{usable}
-use Rattle.console_states.specs.Moves.{State, IsIdle}
-use Rattle.console_states.specs.Sights.{look_selected, selection_of}
-use Rattle.console_states.specs.declared.selection.Selection.{Selection}
-use Rattle.console_scripts.specs.Types.{Cell, Char, Act}
 use Rattle.keymap_core.specs.declared.action.Action.TheVariants as act
-use Rattle.console_scripts.specs.Typing.{cell_of, composed_of}
-use Rattle.console_scripts.specs.Inner.Exploring.{HasTap, IsTapAt}
-use Rattle.console_scripts.specs.declared.explored.Explored.{Explored}
+use Rattle.console_core.specs.Answers.{usable}
+use Rattle.console_scripts.specs.Types.{Action, Cell, Char, Act}
+use Rattle.console_scripts.specs.Typing.{CanTap, cell_of, composed_of, is_giving}
+use Rattle.console_scripts.specs.Inner.Places.{ArePlaces, IsMarked, cell_of_place, place_count}
 use Rattle.console_scripts.specs.declared.explored.Symbol.{Symbol}
 use Rattle.console_scripts.specs.declared.explored.Symbol.TheVariants as symbol
-use Rattle.console_scripts.specs.declared.explored.Tap.{Tap}
+use Rattle.console_scripts.specs.declared.typed.Places.{Places}
 use Rattle.console_scripts.specs.declared.typed.Tapped.{Tapped}
-
--- the one holds exactly where the old one or the new one does
-abbrev pub Gains : {K : Type 0} → (K → Type 0) → (K → Type 0) → (K → Type 0) → Type 0
-Gains {K} old now new = (x : K) → now x ↔ (old x ⊎ new x)
 
 abbrev pub HasCharacter : BTreeSet ℕ → ℕ → Type 0
 HasCharacter set c = contains nat_cmp set c ≡ true
@@ -39,34 +30,27 @@ symbol_in (Char c) = Some (symbol.Character c)
 symbol_in (Act (act.DeadKey i)) = Some (symbol.DeadKey i)
 symbol_in (Act a) = None
 
--- the key holds nothing in the state and looks up the symbol
-abbrev pub IsLookedUp : MapValue → State → ℕ → Symbol → Type 0
-IsLookedUp m s k x = IsIdle s k × (look_selected m (selection_of s) k ≡ cell_of x)
+-- the place is marked, and the symbol stands there
+abbrev pub IsSymbolAt : MapValue → List Bool → ℕ → Symbol → Type 0
+IsSymbolAt m marks p x = IsMarked marks p × (cell_of_place m p ≡ cell_of x)
 
--- What the key looks up is added, unless it holds something. If the answer is true it was before, and nothing is left
--- out.
-pub record IsWithKey (m : MapValue) (s : State) (k : ℕ) (were : Bool) (t u : Tapped) (are : Bool) : Type 0 where
-  pub gains : Gains (HasSymbol t) (HasSymbol u) (IsLookedUp m s k)
-  pub all : are ≡ true
-      → (were ≡ true) × ((x : Symbol) → look_selected m (selection_of s) k ≡ cell_of x → HasSymbol u x)
+-- these are the symbols at marked places
+abbrev pub AreMarkedSymbols : MapValue → List Bool → Tapped → Type 0
+AreMarkedSymbols m marks t = (x : Symbol) → HasSymbol t x ↔ ((p : ℕ) × (p < place_count) × IsSymbolAt m marks p x)
 
--- what the keys below this one look up is added, and all of it if the answer is true
-pub record IsWithKeys (m : MapValue) (s : State) (n : ℕ) (t u : Tapped) (are : Bool) : Type 0 where
-  pub gains : Gains (HasSymbol t) (HasSymbol u) (λ x. (k : ℕ) × (k < n) × IsLookedUp m s k x)
-  pub all : are ≡ true → (x : Symbol) (k : ℕ) → k < n → look_selected m (selection_of s) k ≡ cell_of x → HasSymbol u x
+abbrev pub HasCode : List Bool → ℕ → Type 0
+HasCode given c = slice_index_or given c false ≡ true
 
--- some key looks up the symbol where this is selected
-abbrev pub IsSelected : MapValue → Selection → Symbol → Type 0
-IsSelected m y x = (k : ℕ) × (k < key_count) × (look_selected m y k ≡ cell_of x)
+-- the place is marked, and an action with the code stands there that a tap may give
+abbrev pub GivesAt : MapValue → List Bool → ℕ → ℕ → Type 0
+GivesAt m marks p c =
+    IsMarked marks p
+    × ((a : Action) × (cell_of_place m p ≡ Act a) × IsAction a × (is_giving m a ≡ true) × (code_of a ≡ c))
 
-abbrev pub tap_of : Bool → Symbol → Tap
-tap_of plain x = record { symbol = x; is_plain = plain }
-
--- They can be tapped: all that can be at places before this one, and all that are selected so.
-pub record IsGathered (e : Explored) (plain : Bool) (n : ℕ) (t : Tapped) (selections : List Selection) : Type 0 where
-  pub only : (x : Symbol) → HasSymbol t x → HasTap e (tap_of plain x)
-  pub all : (x : Symbol) (j k : ℕ) → j < n → IsTapAt e (tap_of plain x) j k → HasSymbol t x
-  pub known : (y : Selection) → Contains selections y → (x : Symbol) → IsSelected e.maps.first.now y x → HasSymbol t x
+-- these are the places that taps look up, and those that plain ones do
+abbrev pub ArePlacesOf : MapValue → Places → Type 0
+ArePlacesOf m x =
+    ArePlaces m false x.all × ArePlaces m true x.plain × (x.are_alike ≡ true → ArePlaces m false x.plain)
 
 -- the symbol is among these, and types the character while the accent is pending
 abbrev pub Composes : MapValue → Tapped → ℕ → ℕ → Symbol → Type 0
@@ -77,5 +61,5 @@ abbrev pub IsComposed : MapValue → Tapped → Tapped → ℕ → ℕ → Symbo
 IsComposed m t plain i c x = (usable m i ≡ true) × HasSymbol t (symbol.DeadKey i) × Composes m plain i c x
 
 -- these are the symbols that can be tapped
-abbrev pub AreTapped : Explored → Bool → Tapped → Type 0
-AreTapped e plain t = (x : Symbol) → HasSymbol t x ↔ HasTap e (tap_of plain x)
+abbrev pub AreTapped : MapValue → Bool → Tapped → Type 0
+AreTapped m plain t = (x : Symbol) → HasSymbol t x ↔ CanTap m plain x

@@ -1,4 +1,5 @@
-use Rattle.console_scripts.proofs.Tapping.{gains-none, gains-next, all-bases}
+use Rattle.console_scripts.proofs.Marking.{gains-none, gains-next}
+use Rattle.console_scripts.proofs.Tapping.{all-bases}
 use Rattle.console_scripts.specs.Inner.Tapped.{HasCharacter}
 use Rattle.console_scripts.proofs.typed.add_accent.Goals as goal
 

@@ -1,5 +1,6 @@
 use Rattle.console_scripts.proofs.Common.{ap, arith, option_copied, sym, ◌∙◌}
-use Rattle.console_scripts.proofs.Tapping.{gains-more, accents-none, accents-all}
+use Rattle.console_scripts.proofs.Marking.{gains-more}
+use Rattle.console_scripts.proofs.Tapping.{accents-none, accents-all}
 use Rattle.console_scripts.specs.Inner.Tapped.{HasCharacter}
 use Rattle.console_scripts.proofs.typed.add_composed.Goals as goal
 

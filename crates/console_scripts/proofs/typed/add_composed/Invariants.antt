@@ -1,7 +1,8 @@
 -- what is typed while an accent before this one is pending was added
 use Rattle.console_scripts.proofs.Common.{◌≤◌, ◌-◌}
 use Rattle.console_scripts.proofs.Tapping.{MadeBelow}
-use Rattle.console_scripts.specs.Inner.Tapped.{Gains, HasCharacter}
+use Rattle.console_scripts.specs.Inner.Places.{Gains}
+use Rattle.console_scripts.specs.Inner.Tapped.{HasCharacter}
 use Rattle.console_scripts.proofs.typed.add_composed.Given as goal
 
 abbrev pub invariant-loop-accent : goal.invariant-loop-accent

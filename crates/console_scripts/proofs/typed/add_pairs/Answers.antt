@@ -1,6 +1,7 @@
 use Rattle.console_scripts.proofs.Common.{◌<◌, ◌≤◌, ℕ, List, subst, ap, ◌∙◌, length, get_or, take_all}
 use Rattle.console_scripts.proofs.Tapping.{MadeByPairs, pairs-none, pairs-more}
-use Rattle.console_scripts.specs.Inner.Tapped.{Composes, Gains, HasCharacter}
+use Rattle.console_scripts.specs.Inner.Places.{Gains}
+use Rattle.console_scripts.specs.Inner.Tapped.{Composes, HasCharacter}
 use Rattle.console_scripts.specs.declared.explored.Symbol.TheVariants as symbol
 use Rattle.console_scripts.proofs.typed.add_pairs.Goals as goal
 
@@ -11,7 +12,8 @@ pub loop-pair-preserved : goal.loop-pair-preserved
 loop-pair-preserved c =
     let n = c.loop-pair.pair-index in
     let e = c.pairs-pair-items.ensures.value in
-    let lt : n < length c.args.accent.now.pairs = subst (λ (ps : List (ℕ × ℕ)). n < length ps) e c.loop-pair-test.true in
+    let lt : n < length c.args.accent.now.pairs =
+    subst (λ (ps : List (ℕ × ℕ)). n < length ps) e c.loop-pair-test.true in
     pairs-more c.args.map.now c.args.plain.now c.args.index n c.args.accent.now.pairs c.args.typed.now c.loop-pair.typed
     c.add_made.new.typed
     lt c.loop-pair.invariant

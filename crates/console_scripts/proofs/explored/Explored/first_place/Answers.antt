@@ -1,4 +1,5 @@
-use Rattle.console_scripts.proofs.Common.{◌≡◌, ℕ, Bool, false, Option, Some, None, MatchOption, Explored, HasTap, IsTapAt}
+use Rattle.console_scripts.proofs.Common.{◌≡◌, ℕ, Bool, false, Option, Some, None, MatchOption, Explored, HasTap}
+use Rattle.console_scripts.proofs.Common.{IsTapAt}
 use Rattle.console_scripts.proofs.Common.{KeyAt, Tap, rules, slice_get_within}
 use Rattle.console_scripts.specs.Inner.Exploring.{CanTapIn}
 use Rattle.console_states.specs.Looks.{IsLook}

@@ -1,0 +1,127 @@
+-- The states that few presses lead to, and that the upper half is looked at only where it is live.
+use Rattle.console_scripts.proofs.Common.{◌≡◌, ◌≢◌, ◌<◌, ◌+◌, ◌∷◌, [], ◌∙◌, ℕ, Bool, true, false, List, None, refl, ap, sym}
+use Rattle.console_scripts.proofs.Common.{subst, inl, inr, cases_Bool, true≢false, arith, ◌⊎◌, MapValue, State, Move, Cell}
+use Rattle.console_scripts.proofs.Common.{Hold, Turn, LetGo, Exchange, alone, IsPath, state_after, IsMove}
+use Rattle.console_scripts.proofs.Common.{look_in, look_selected, selection_of, key_count, is_held, IsHome, Meta}
+use Rattle.console_scripts.proofs.Common.{AltShift, Alt, Caps, Num, Scroll, Lock, ComesHome, moved, one_map}
+use Rattle.console_scripts.proofs.Common.{cell_at, slot_of, Step, IsStep, state_of, freed}
+use Rattle.std.specs.Prelude.{◌*◌}
+use Rattle.keymap_core.specs.Bearers.{IsUpperLive, StandsIn}
+use Rattle.keymap_core.specs.Borne.{is_upper_live}
+use Rattle.keymap_core.proofs.Shared.{upper-is_live}
+use Rattle.console_core.proofs.Shared.{column_of-lt}
+use Rattle.console_states.specs.Sights.{column_in}
+use Rattle.console_states.specs.declared.selection.Selection.{Selection}
+use Rattle.console_scripts.proofs.Aiming.{lets-go}
+use Rattle.console_scripts.proofs.Marking.{looked-place}
+use Rattle.console_scripts.specs.Inner.Places.{ArePlaces, CanLookUp, Gains, IsLedTo, IsLookedUp, IsMarked, IsTapOn}
+use Rattle.console_scripts.specs.Inner.Places.{cell_of_place, gives_cell, live_count}
+
+-- one step more
+pub led-on : (m : MapValue) (s : State) (n : ℕ) (x : Step) → IsLedTo m s → IsStep (alone m) s n x → IsLedTo m (state_of x.to)
+led-on m s n x (path, is, leads) (move, next, count, leaves) = (
+  x.by ∷ path,
+  (subst (λ t. IsMove (alone m) t x.by) (sym leads) move, is),
+  ap (λ t. moved (alone m) t x.by) leads ∙ sym next,
+)
+
+-- where no lock is on, letting go of all leads home
+pub comes-free : (m : MapValue) (s : State) → s.is_locked Caps ≡ false → s.is_locked Num ≡ false
+    → s.is_locked Alt ≡ false
+    → ComesHome (alone m) s
+comes-free m s caps num alt =
+    let (path, is, leads) = lets-go m s in
+    (path, is, subst IsHome (sym leads) ((λ i. refl), off))
+  where
+    off : (l : Lock) → l ≢ Scroll → (freed s).is_locked l ≡ false
+    off Caps other = caps
+    off Num other = num
+    off Scroll other = absurd (other refl)
+    off Alt other = alt
+
+-- ---- the upper half
+
+upper-off : (s : State) → s.holder AltShift ≡ None → s.is_locked Alt ≡ false → (selection_of s).upper ≡ false
+upper-off s held locked = rw (held, locked) refl
+
+-- a key looks up a cell of its own slot then
+own-slot : (m : MapValue) (y : Selection) (k : ℕ) (x : Cell) → y.upper ≡ false → look_selected m y k ≡ x
+    → StandsIn m k x
+own-slot m y k x off e =
+    (column_in m y k, column_of-lt _ _ _, ap (λ u. cell_at m (slot_of k u) (column_in m y k)) (sym off) ∙ e)
+
+looks-own : (m : MapValue) (s : State) (k : ℕ) (x : Cell) → s.holder AltShift ≡ None → s.is_locked Alt ≡ false
+    → look_in (alone m) s k ≡ x
+    → StandsIn m k x
+looks-own m s k x held locked e =
+    own-slot m (selection_of s) k x (upper-off s held locked)
+    (sym (ap (λ n. look_selected n (selection_of s) k) (one_map m s.is_second)) ∙ e)
+
+-- While it isn't live, no path turns it on.
+never-upper : (m : MapValue) → (IsUpperLive m → ⊥) → (path : List Move) → IsPath (alone m) path
+    → ((state_after (alone m) path).holder AltShift ≡ None) × ((state_after (alone m) path).is_locked Alt ≡ false)
+never-upper m dead [] is = (refl, refl)
+never-upper m dead (Hold k AltShift ∷ path) ((lt, idle, looks, free), is) =
+    let (held, locked) = never-upper m dead path is in
+    absurd (dead (k, lt, inl (looks-own m (state_after (alone m) path) k _ held locked looks)))
+never-upper m dead (Hold k i ∷ path) (move, is) = never-upper m dead path is
+never-upper m dead (Turn k Alt ∷ path) ((lt, idle, looks), is) =
+    let (held, locked) = never-upper m dead path is in
+    absurd (dead (k, lt, inr (looks-own m (state_after (alone m) path) k _ held locked looks)))
+never-upper m dead (Turn k l ∷ path) (move, is) = never-upper m dead path is
+never-upper m dead (LetGo k AltShift ∷ path) (move, is) = (refl, (never-upper m dead path is).1)
+never-upper m dead (LetGo k i ∷ path) (move, is) = never-upper m dead path is
+never-upper m dead (Exchange ∷ path) (move, is) = absurd (true≢false (sym move.1))
+
+low-place : (k c : ℕ) (u : Bool) → u ≡ false → k < 128 → c < 8 → slot_of k u * 8 + c < 1024
+low-place k c false off lt small = omega (arith, lt, small)
+low-place k c true off lt small = absurd (true≢false off)
+
+-- what taps look up is live
+pub looked-live : (m : MapValue) (plain : Bool) (p : ℕ) → CanLookUp m plain p → p < live_count m
+looked-live m plain p (path, is, comes, (k, (below, idle, (place, gives), off))) =
+    let s : State = state_after (alone m) path in
+    let y = selection_of s in
+    elim (cases_Bool (is_upper_live m)) [
+      | inl live ↦ rw live (subst (λ z. z < 2048) place (looked-place m y k below).0)
+      | inr dead ↦
+          let (held, locked) =
+          never-upper m (λ live. true≢false (sym (upper-is_live m live) ∙ dead)) path is in
+          rw dead
+          (subst (λ z. z < 1024) place
+          (low-place k (column_in m y k) y.upper (upper-off s held locked) below (column_of-lt _ _ _)))
+    ]
+
+-- ---- a few places that are all
+
+-- plain taps look them up, and nothing live is left of which something comes: so these are all that taps look up
+pub few-all : (m : MapValue) (plain : Bool) (marks : List Bool) → ((p : ℕ) → IsMarked marks p → CanLookUp m true p)
+    → ((p : ℕ) → p < live_count m → gives_cell (cell_of_place m p) ≡ true → IsMarked marks p)
+    → ArePlaces m plain marks
+few-all m plain marks only all p = (
+  (λ has.
+      let (path, is, comes, (k, (below, idle, shows, off))) = only p has in
+      (path, is, comes, (k, (below, idle, shows, (λ e. off refl))))),
+  λ can.
+      let (path, is, comes, (k, (below, idle, (place, gives), off))) = can in
+      let y = selection_of (state_after (alone m) path) in
+      all p (looked-live m plain p can)
+      (ap (λ z. gives_cell (cell_of_place m z)) (sym place) ∙ ap gives_cell (looked-place m y k below).1 ∙ gives),
+)
+
+-- what is looked up in a state that moves lead to, where no lock is on and meta isn't held
+pub marked-plainly : (m : MapValue) (s : State) (old now : List Bool) → IsLedTo m s → s.is_locked Caps ≡ false
+    → s.is_locked Num ≡ false → s.is_locked Alt ≡ false → is_held s Meta ≡ false
+    → Gains (IsMarked old) (IsMarked now) (λ p. (k : ℕ) × (k < key_count) × IsLookedUp m s k p)
+    → (p : ℕ) → IsMarked now p → IsMarked old p ⊎ CanLookUp m true p
+marked-plainly m s old now (path, is, leads) caps num alt meta more p has = elim ((more p).0 has) [
+  | inl before ↦ inl before
+  | inr there ↦
+      let (k, lt, (idle, shows)) = there in
+      inr (
+        path,
+        is,
+        subst (λ t. ComesHome (alone m) t) (sym leads) (comes-free m s caps num alt),
+        (k, subst (λ t. IsTapOn m t true p k) (sym leads) (lt, idle, shows, (λ e. meta))),
+      )
+]

@@ -1,0 +1,9 @@
+pub mod Calm
+pub mod Codes
+pub mod Common
+pub mod Holders
+pub mod Kept
+pub mod Listing
+pub mod Refusals
+pub mod Seconds
+pub mod Shared

@@ -1,0 +1,1 @@
+-- What the crates above may cite of these proofs. All else stands for this crate alone.

@@ -1,0 +1,3 @@
+pub mod Consequences
+pub mod Inner
+pub mod Lists

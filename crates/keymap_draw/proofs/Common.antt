@@ -22,7 +22,7 @@ pub use Rattle.keymap_draw.specs.Drawings.{Drawing}
 pub use Rattle.keymap_draw.specs.Facts.{Fact}
 unfoldable pub use Rattle.keymap_draw.specs.Facts.{numbered}
 pub use Rattle.keymap_draw.specs.Halves.{is_other, other_key, run_keys, slot_of}
-unfoldable pub use Rattle.keymap_draw.specs.Halves.{half_facts, other_keys}
+unfoldable pub use Rattle.keymap_draw.specs.Halves.{board_facts, other_keys}
 pub use Rattle.keymap_draw.specs.Keys.{finding_of}
 pub use Rattle.keymap_draw.specs.Legends.{cell_legend}
 unfoldable pub use Rattle.keymap_draw.specs.Legends.{character_legend, other_legend, unfilled, unseen_name}

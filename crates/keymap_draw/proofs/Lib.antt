@@ -1,7 +1,9 @@
 mod Boards
+mod Caps
 mod Columns
 mod Common
 mod Loops
+mod Marked
 mod Names
 mod Parts
 mod Plain

@@ -55,9 +55,12 @@ passing-below test (suc n) k h =
 pub none_is : {A : Type 0} (xs : List A) (i : ℕ) (d : A) → slice_get xs i ≡ None → slice_index_or xs i d ≡ d
 none_is xs i d e = sym (unwrap_or-slice_get xs i d) ∙ ap (λ o. unwrap_or o d) e
 
--- three parts behind others, and five
+-- three parts behind others, four and five
 pub three : {A : Type 0} (s a b c : List A) → s ++ a ++ b ++ c ≡ s ++ (a ++ b ++ c)
 three s a b c = sym (simp append_assoc)
+
+pub four : {A : Type 0} (s a b c d : List A) → s ++ a ++ b ++ c ++ d ≡ s ++ (a ++ b ++ c ++ d)
+four s a b c d = sym (simp append_assoc)
 
 pub five : {A : Type 0} (s a b c d e : List A)
     → s ++ a ++ b ++ c ++ d ++ e ≡ s ++ (a ++ b ++ c ++ d ++ e)

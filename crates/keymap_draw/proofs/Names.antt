@@ -23,7 +23,7 @@ shown_seen c = by (is_seen c) refl
     by true e = e
     by false e = refl
 
-all_seen : (cs : List ℕ) → list_all is_seen (map shown_character cs) ≡ true
+pub all_seen : (cs : List ℕ) → list_all is_seen (map shown_character cs) ≡ true
 all_seen [] = refl
 all_seen (c ∷ cs) = both_true (shown_seen c) (all_seen cs)
 

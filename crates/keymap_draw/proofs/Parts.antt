@@ -1,7 +1,7 @@
 -- How words are read with what is told at their places.
 use Rattle.keymap_draw.proofs.Common.{◌≡◌, ℕ, ◌==◌, Bool, true, false, List, [], ◌∷◌, ◌++◌, Option, Some, rules}
 use Rattle.keymap_draw.proofs.Common.{Number, None, refl, sym, ap, ◌∙◌, map, arith, decimal}
-use Rattle.keymap_draw.proofs.Common.{if◌then◌else◌, list_all, flat_map, eqb-true, name_of, Finding, finding_words}
+use Rattle.keymap_draw.proofs.Common.{◌||◌, if◌then◌else◌, list_all, flat_map, eqb-true, name_of, Finding, finding_words}
 use Rattle.keymap_draw.proofs.Common.{Content, Plain, Bytes, Fact, escaped, is_class, within, is_inner, is_seen, over}
 use Rattle.keymap_draw.proofs.Common.{ReadAs, IsWithin, last_facts, reverse, State, Read, Place, Element, at, scan}
 use Rattle.keymap_draw.proofs.Common.{none-some, or_cases, inl, inr}
@@ -24,13 +24,25 @@ use Rattle.keymap_core.specs.declared.action.Lock.TheVariants as l
 
 -- ---- what is told at a place
 
-before_end : (c : ℕ) (w : List ℕ) → ends_told c ≡ true → words_before (c ∷ w) ≡ c ∷ words_before w
-before_end c w h = elim (or_cases (c == 60) (c == 44) h) [
+tag_end : (c : ℕ) (w : List ℕ) → (c == 60 || c == 44) ≡ true → words_before (c ∷ w) ≡ c ∷ words_before w
+tag_end c w h = elim (or_cases (c == 60) (c == 44) h) [
   | inl tag ↦ rw (eqb-true c 60 tag) (search rules)
   | inr comma ↦ rw (eqb-true c 44 comma) (search rules)
 ]
 
--- bytes behind words that begin with a tag or a comma
+feed_end : (c : ℕ) (w : List ℕ) → (c == 58 || c == 10) ≡ true → words_before (c ∷ w) ≡ c ∷ words_before w
+feed_end c w h = elim (or_cases (c == 58) (c == 10) h) [
+  | inl colon ↦ rw (eqb-true c 58 colon) (search rules)
+  | inr feed ↦ rw (eqb-true c 10 feed) (search rules)
+]
+
+before_end : (c : ℕ) (w : List ℕ) → ends_told c ≡ true → words_before (c ∷ w) ≡ c ∷ words_before w
+before_end c w h = elim (or_cases (c == 60 || c == 44) (c == 58 || c == 10) h) [
+  | inl first ↦ tag_end c w first
+  | inr second ↦ feed_end c w second
+]
+
+-- bytes behind words that begin so
 begins_end : (w : List ℕ) (ts : List Content) → ends_told (slice_index w 0) ≡ true
     → (bs : List ℕ) × (filled w (map written ts) ≡ slice_index w 0 ∷ bs)
 unfolding filled
@@ -40,7 +52,7 @@ begins_end (c ∷ w) (t ∷ ts) h =
     let rest : List ℕ = filled (words_behind (c ∷ w)) (map written ts) in
     ((words_before w ++ written t) ++ rest, ap (λ b. (b ++ written t) ++ rest) (before_end c w h))
 
--- the reader behind characters that have references, before a tag or a comma
+-- the reader behind characters that have references
 escaped_taken : (r : Read) (cs next : List ℕ) (ts : List Content) (b : Bool) (q : State) → list_all is_seen cs ≡ true
     → ends_told (slice_index next 0) ≡ b → (if b then within_element Text (saying cs r) else None) ≡ Some q
     → scan (scan (Some (at Text r)) (flat_map escaped cs)) (filled next (map written ts))

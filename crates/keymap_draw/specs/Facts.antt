@@ -54,9 +54,9 @@ cap_by letter = Figure (codes "use") [] ((codes "href", codes "#" ++ letter) ∷
 abbrev pub headline_at : ℕ → List ℕ → List ℕ → Fact
 headline_at y class said = text (codes "28") (decimal y) class said
 
--- the field behind a row below the keys
-abbrev pub row_field : Fact
-row_field = Figure (codes "rect") (codes "row")
+-- the field of a class behind a row below the keys
+abbrev pub row_field : List ℕ → Fact
+row_field class = Figure (codes "rect") class
     ((codes "width", codes "1460") ∷ (codes "height", codes "48") ∷ (codes "rx", codes "8") ∷ [])
 
 -- a group that a screen reader passes over

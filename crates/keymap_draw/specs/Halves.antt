@@ -1,8 +1,9 @@
 -- What the drawing of one half of the slots tells: its headline, the keys of its board, and those that the board
 -- doesn't have. It begins at y.
-use Rattle.std.specs.Prelude.{ℕ, ◌+◌, ◌*◌, ◌/◌, ◌%◌, ◌==◌, Bool, ◌&&◌, not, List, [], ◌∷◌, ◌++◌, length}
+use Rattle.std.specs.Prelude.{ℕ, ◌+◌, ◌*◌, ◌/◌, ◌%◌, ◌==◌, Bool, ◌&&◌, ◌||◌, not, List, [], ◌∷◌, ◌++◌, length}
 use Rattle.std.specs.Prelude.{codes, decimal, if◌then◌else◌}
 use Rattle.std.specs.List.{flat_map}
+use Rattle.std.specs.Option.{is_some}
 use Rattle.keymap_core.specs.Borne.{is_upper_live}
 use Rattle.keymap_core.specs.Maps.{entry_at}
 use Rattle.keymap_core.specs.Numbers.{key_count}
@@ -17,6 +18,7 @@ use Rattle.keymap_draw.specs.Drawings.{Drawing}
 use Rattle.keymap_draw.specs.Facts.{Fact, cap_by, headline_at, hidden, numbered, text}
 use Rattle.keymap_draw.specs.Facts.Fact.{End, Figure}
 use Rattle.keymap_draw.specs.Keys.{key, is_blank_entry}
+use Rattle.keymap_draw.specs.Marks.{mark_of}
 
 -- the slot of a key
 abbrev pub slot_of : Half → ℕ → ℕ
@@ -31,9 +33,13 @@ board_key d half y row = key d (slot_of half row.code) (28 + row.x) (y + 12 + ro
 abbrev pub run_keys : Drawing → Half → ℕ → Run → List Fact
 run_keys d half y run = flat_map (board_key d half y) (keys_in d.board run)
 
--- the key isn't on the board, and its slot isn't blank
+-- the slot isn't blank, or it differs
+abbrev pub is_worth_a_key : Drawing → ℕ → Bool
+is_worth_a_key d slot = not (is_blank_entry (entry_at d.map slot)) || is_some (mark_of d slot)
+
+-- the key isn't on the board, and its slot is worth one
 unfoldable pub is_other : Drawing → Half → ℕ → Bool
-is_other d half k = not (is_on d.board k) && not (is_blank_entry (entry_at d.map (slot_of half k)))
+is_other d half k = not (is_on d.board k) && is_worth_a_key d (slot_of half k)
 
 unfoldable pub other_keys : Drawing → Half → List ℕ
 other_keys d half = passing (is_other d half) key_count
@@ -42,9 +48,13 @@ other_keys d half = passing (is_other d half) key_count
 abbrev pub other_key : Drawing → Half → ℕ → ℕ → ℕ → List Fact
 other_key d half y i k = key d (slot_of half k) (28 + i % 22 * 64) (y + 26 + i / 22 * 64) shape.A
 
--- how high a half is: 472, and with keys that the board doesn't have 34 more, and 64 for each begun row of them
-abbrev pub half_height : ℕ → ℕ
-half_height others = if others == 0 then 472 else 506 + (others + 21) / 22 * 64
+-- how high a board with its headline is
+abbrev pub board_height : ℕ
+board_height = 472
+
+-- how high the keys are that a board doesn't have: 34 for the line, and 64 for each begun row of them
+abbrev pub others_height : ℕ → ℕ
+others_height others = if others == 0 then 0 else 34 + (others + 21) / 22 * 64
 
 -- whether the keymap is accepted, and how many keys the check names
 abbrev pub verdict : ℕ → ℕ → Fact
@@ -94,8 +104,8 @@ panel y =
     ((codes "x", codes "16") ∷ (codes "y", decimal y) ∷ (codes "width", codes "1460") ∷ (codes "height", codes "420")
     ∷ (codes "rx", codes "16") ∷ [])
 
-unfoldable pub half_facts : Drawing → Half → List ℕ → ℕ → List Fact
-half_facts d half keys y =
+-- the headline of a half and its board
+unfoldable pub board_facts : Drawing → Half → ℕ → List Fact
+board_facts d half y =
     headline d half (y + 26) ++ panel (y + 40) ∷ [] ++ flat_map (run_keys d half (y + 40)) RUNS
     ++ sample half (y + 52)
-    ++ others d half (y + 472) keys

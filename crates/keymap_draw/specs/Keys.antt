@@ -1,5 +1,5 @@
--- What one key of the picture tells: its title, which is its line of the printed form, its cap, its code and its
--- legends.
+-- What one key of the picture tells: its title, which is its line of the printed form, its cap, its code, its legends,
+-- and what it was before a change.
 use Rattle.std.specs.Prelude.{ℕ, ◌-◌, ◌%◌, ◌==◌, nat_lt, Bool, true, false, ◌||◌, ◌&&◌, List, [], ◌∷◌, ◌++◌}
 use Rattle.std.specs.Prelude.{codes, decimal, Option, Some, None, option_to_list, if◌then◌else◌}
 use Rattle.std.specs.List.{find, list_all, list_any}
@@ -23,10 +23,12 @@ use Rattle.keymap_draw.specs.declared.place.Column.TheVariants.{Base, Shift, Alt
 use Rattle.keymap_draw.specs.Boards.{letter, width, height}
 use Rattle.keymap_draw.specs.Drawn.{is_blank, column, cell_in, drawn, stands_alone}
 use Rattle.keymap_draw.specs.Legends.{cell_legend, is_word}
-use Rattle.keymap_draw.specs.Drawings.{Drawing}
+use Rattle.keymap_draw.specs.declared.change.About.TheVariants.{Slot}
+use Rattle.keymap_draw.specs.Drawings.{Drawing, line_about}
 use Rattle.keymap_draw.specs.Facts.{Fact, cap_by, image, titled, text, text_within}
 use Rattle.keymap_draw.specs.Facts.Fact.{End}
-use Rattle.keymap_draw.specs.Places.{beside_of, code_x, legend_x, legend_y, legend_classes, shrunk_length}
+use Rattle.keymap_draw.specs.Marks.{mark_of, was_of}
+use Rattle.keymap_draw.specs.Places.{and_class, beside_of, code_x, legend_x, legend_y, legend_classes, shrunk_length}
 
 -- the finding of a key, if the check names it
 abbrev pub finding_of : List Finding → ℕ → Option Finding
@@ -117,15 +119,36 @@ abbrev pub titled_cap : List ℕ → List ℕ → ℕ → ℕ → Shape → List
 titled_cap said class x y shape =
     image class (decimal x) (decimal y) ∷ titled said ∷ cap_by (letter shape ∷ []) ∷ []
 
--- the title and the cap of a key
-abbrev pub cap : List Finding → ℕ → ℕ → ℕ → Shape → Entry → List Fact
-cap fs slot x y shape e =
-    titled_cap (title fs slot e) (option_to_list (key_class fs slot e)) x y shape
+-- behind a line feed, in the title of a key that differs
+abbrev pub title_with : Option ℕ → List ℕ → List ℕ → List ℕ
+title_with None said line = said
+title_with (Some mark) said line = (said ++ codes "\n") ++ line
+
+-- the title and the cap of a key: in the class for its colour, and behind it in that of a key that differs
+abbrev pub cap : Drawing → ℕ → ℕ → ℕ → Shape → Entry → List Fact
+cap d slot x y shape e =
+    titled_cap (title_with (mark_of d slot) (title d.findings slot e) (line_about d.lines (Slot slot)))
+    (and_class (option_to_list (key_class d.findings slot e)) (mark_of d slot)) x y shape
+
+-- what is written for what a cell was, the empty set for nothing
+abbrev pub legend_or_empty : List ℕ → List ℕ
+legend_or_empty [] = 0x2205 ∷ []
+legend_or_empty legend = legend
+
+abbrev pub was_legend : Cell → List ℕ
+was_legend cell = legend_or_empty (cell_legend cell)
+
+-- what the key was stands below right, on its edge
+abbrev pub was_text : Shape → Option Cell → List Fact
+was_text shape None = []
+was_text shape (Some cell) =
+    text (decimal (width shape - 12)) (decimal (height shape - 7)) (codes "s") (was_legend cell) ∷ []
 
 -- the key of a slot at a place
 unfoldable pub key : Drawing → ℕ → ℕ → ℕ → Shape → List Fact
 key d slot x y shape =
-    cap d.findings slot x y shape (entry_at d.map slot)
+    cap d slot x y shape (entry_at d.map slot)
     ++ code slot (entry_at d.map slot).flag shape ∷ []
     ++ legends d.map shape (entry_at d.map slot)
+    ++ was_text shape (was_of d slot)
     ++ End ∷ []

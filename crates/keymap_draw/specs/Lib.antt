@@ -1,4 +1,5 @@
 pub mod Boards
+pub mod Changes
 pub mod Characters
 pub mod Drawings
 pub mod Drawn
@@ -8,6 +9,7 @@ pub mod Keys
 pub mod Legends
 pub mod Lists
 pub mod Markup
+pub mod Marks
 pub mod Pictures
 pub mod Places
 pub mod Sheets

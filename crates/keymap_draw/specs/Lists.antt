@@ -16,12 +16,15 @@ use Rattle.keymap_core.specs.Numbers.{key_count, accent_limit}
 use Rattle.keymap_check.specs.declared.finding.Finding.{Finding}
 use Rattle.keymap_check.specs.Said.{finding_words}
 use Rattle.keymap_text.specs.Printed.{accent_words}
+use Rattle.keymap_draw.specs.declared.change.About.TheVariants.{Accent}
 use Rattle.keymap_draw.specs.declared.half.Half.{Half}
 use Rattle.keymap_draw.specs.declared.half.Half.TheVariants.{Lower, Upper}
+use Rattle.keymap_draw.specs.Drawings.{Drawing, line_about}
 use Rattle.keymap_draw.specs.Facts.{Fact, headline_at, numbered, group, image, row_field, text, titled}
 use Rattle.keymap_draw.specs.Facts.Fact.{End, Text}
 use Rattle.keymap_draw.specs.Halves.{slot_of}
 use Rattle.keymap_draw.specs.Legends.{accent_mark, character_legend, marked}
+use Rattle.keymap_draw.specs.Marks.{has_other_accent}
 use Rattle.keymap_draw.specs.Places.{size_class}
 
 -- the i-th finding, two in a row
@@ -82,27 +85,34 @@ heading i x class =
 
 -- a row begins with what its title says
 abbrev pub row_of : List ℕ → ℕ → List Fact
-row_of said y = image [] (codes "16") (decimal y) ∷ titled said ∷ row_field ∷ []
+row_of said y = image [] (codes "16") (decimal y) ∷ titled said ∷ row_field (codes "row") ∷ []
+
+-- the row of an accent that differs, of which the last line of the title tells how
+abbrev pub changed_row_of : List ℕ → List ℕ → ℕ → List Fact
+changed_row_of said line y =
+    image [] (codes "16") (decimal y) ∷ titled ((said ++ codes "\n") ++ line) ∷ row_field (codes "row n") ∷ []
 
 -- the row of an accent, of which the title is the line of the printed form
-abbrev pub titled_row : ℕ → AccentValue → ℕ → List Fact
-titled_row i accent y = row_of (accent_words i accent) y
+abbrev pub titled_row : Drawing → ℕ → AccentValue → ℕ → List Fact
+titled_row d i accent y =
+    if has_other_accent d i then changed_row_of (accent_words i accent) (line_about d.lines (Accent i)) y
+    else row_of (accent_words i accent) y
 
-abbrev pub accent_row : ℕ → AccentValue → ℕ → List Fact
-accent_row i accent y = titled_row i accent y ++ heading i 36 100 ++ table accent.own accent.pairs
+abbrev pub accent_row : Drawing → ℕ → AccentValue → ℕ → List Fact
+accent_row d i accent y = titled_row d i accent y ++ heading i 36 100 ++ table accent.own accent.pairs
 
-abbrev pub some_accent_row : ℕ → Option AccentValue → ℕ → List Fact
-some_accent_row i None y = []
-some_accent_row i (Some accent) y = accent_row i accent y
+abbrev pub some_accent_row : Drawing → ℕ → Option AccentValue → ℕ → List Fact
+some_accent_row d i None y = []
+some_accent_row d i (Some accent) y = accent_row d i accent y
 
 -- the row of an accent, at its place of the list
-abbrev pub listed_accent : MapValue → ℕ → ℕ → ℕ → List Fact
-listed_accent m y place i = some_accent_row i (accent_at m i) (y + 52 * place)
+abbrev pub listed_accent : Drawing → ℕ → ℕ → ℕ → List Fact
+listed_accent d y place i = some_accent_row d i (accent_at d.map i) (y + 52 * place)
 
-unfoldable pub accents_list : MapValue → List ℕ → ℕ → List Fact
-accents_list m accents y =
+unfoldable pub accents_list : Drawing → List ℕ → ℕ → List Fact
+accents_list d accents y =
     if length accents == 0 then []
-    else headline_at (y + 26) (codes "h") (codes "Accents") ∷ [] ++ numbered (listed_accent m (y + 40)) 0 accents
+    else headline_at (y + 26) (codes "h") (codes "Accents") ∷ [] ++ numbered (listed_accent d (y + 40)) 0 accents
 
 abbrev pub accents_height : ℕ → ℕ
 accents_height count = if count == 0 then 0 else 40 + count * 52
@@ -136,7 +146,7 @@ silent_name place i = heading i (36 + 94 * place) 101
 abbrev pub silent_line : ℕ → List Fact
 silent_line y =
     headline_at (y + 16) (codes "l") (codes "Dead keys without an accent: the console answers them with an error")
-    ∷ group [] (codes "16") (decimal (y + 26)) ∷ row_field ∷ []
+    ∷ group [] (codes "16") (decimal (y + 26)) ∷ row_field (codes "row") ∷ []
 
 -- the marks and the names of dead keys without an accent, side by side below a line, if there are any
 unfoldable pub silent_list : List ℕ → ℕ → List Fact

@@ -61,7 +61,7 @@ legend_y s column alone word =
 
 -- the letters that are classes of keys and of legends, and the blank between them
 abbrev pub is_class : ℕ → Bool
-is_class letter = list_any (λ c. c == letter) (codes " botuvwxyzcraedmfpg")
+is_class letter = list_any (λ c. c == letter) (codes " botuvwxyzcraedmfpgnq")
 
 abbrev pub IsClass : ℕ → Type 0
 IsClass letter = is_class letter ≡ true

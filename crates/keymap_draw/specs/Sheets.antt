@@ -87,11 +87,11 @@ is_ready (told.Plain t) = list_all is_inner t.now
 is_ready (told.Number n) = true
 is_ready t = list_all is_seen (characters t)
 
--- a tag or a comma begins
+-- a tag, a comma, a colon or a line feed begins
 abbrev pub ends_told : ℕ → Bool
-ends_told c = c == 60 || c == 44
+ends_told c = (c == 60 || c == 44) || (c == 58 || c == 10)
 
--- the reader behind what is told, in a value or between tags; behind what has references a tag or a comma stands
+-- the reader behind what is told, in a value or between tags; what has references ends before one of these
 abbrev pub taking : Place → Read → Content → List ℕ → Option State
 taking (Value tag name value) r (told.Plain t) behind = Some (at (Value tag name (value ++ t.now)) r)
 taking (Value tag name value) r (told.Number n) behind = Some (at (Value tag name (value ++ decimal n)) r)

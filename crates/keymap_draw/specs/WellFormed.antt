@@ -46,7 +46,8 @@ attributes =
     codes "xmlns" ∷ codes "width" ∷ codes "height" ∷ codes "viewBox" ∷ codes "role" ∷ codes "aria-labelledby"
     ∷ codes "aria-hidden"
     ∷ codes "lang" ∷ codes "id" ∷ codes "class" ∷ codes "transform" ∷ codes "href" ∷ codes "fill" ∷ codes "x"
-    ∷ codes "y" ∷ codes "rx" ∷ codes "d" ∷ codes "textLength" ∷ codes "lengthAdjust" ∷ []
+    ∷ codes "y" ∷ codes "rx" ∷ codes "d" ∷ codes "textLength" ∷ codes "lengthAdjust"
+    ∷ codes "xml:space" ∷ []
 
 abbrev pub is_among : List (List ℕ) → List ℕ → Bool
 is_among names name = list_any (bytes_eq name) names
@@ -157,7 +158,7 @@ in_text r c =
     else within_element Text (saying (c ∷ []) r)
 
 abbrev pub is_name_byte : ℕ → Bool
-is_name_byte c = within 97 122 c || within 65 90 c || c == 45
+is_name_byte c = within 97 122 c || within 65 90 c || c == 45 || c == 58
 
 abbrev pub with_facts : List Fact → Read → Read
 with_facts facts r = record { begun = r.begun; ids = r.ids; facts = facts }

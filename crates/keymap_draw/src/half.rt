@@ -8,6 +8,7 @@ ghost use Rattle.keymap_draw.specs.Halves as spec;
 use crate::board::{RUNS, Run, Shape};
 use crate::drawing::Drawing;
 use crate::key::{Cap, is_blank_entry, push_key};
+use crate::marks::mark_of;
 use crate::markup::Added;
 use crate::sheet::Content::{Characters, Number, Plain};
 use crate::sheet::{InPicture, Sheet, tell};
@@ -47,7 +48,7 @@ fn push_keys(
     y: u32,
     run: &Run,
 ) -> Added<Sheet<InPicture>>
-    requires { y < 2 ^ 16 }
+    requires { y < 2 ^ 27 }
     ensures { IfOk result (λ s. s ≡ sheet ++ flat_map (spec.board_key drawing.now half y)
         (laid run.now.x run.now.y run.now.shape run.now.codes)) }
 {
@@ -76,7 +77,7 @@ fn push_run(
     y: u32,
     run: &Run,
 ) -> Added<Sheet<InPicture>>
-    requires { y < 2 ^ 16 }
+    requires { y < 2 ^ 27 }
     ensures { IfOk result (λ s. s ≡ sheet ++ spec.run_keys drawing.now half y run.now) }
 {
     if drawing.board().has_run(run) {
@@ -93,7 +94,7 @@ fn push_runs(
     y: u32,
     runs: &[Run],
 ) -> Added<Sheet<InPicture>>
-    requires { y < 2 ^ 16 }
+    requires { y < 2 ^ 27 }
     ensures { IfOk result (λ s. s ≡ sheet ++ flat_map (spec.run_keys drawing.now half y) runs.now) }
 {
     let mut sheet = sheet;
@@ -103,15 +104,22 @@ fn push_runs(
     Ok(sheet)
 }
 
-/// Whether the key isn't on the board and its slot isn't blank.
+/// Whether a slot is worth a key below the board: it isn't blank, or it differs.
+fn is_worth_a_key(drawing: &Drawing, slot: u8) -> bool
+    ensures { result ≡ spec.is_worth_a_key drawing.now slot }
+{
+    !is_blank_entry(drawing.map().entry(slot)) || mark_of(drawing, slot).is_some()
+}
+
+/// Whether the key isn't on the board and its slot isn't blank, or differs.
 #[tactic(auto, unfolding(crate::specs::Halves::is_other))]
 fn is_other(drawing: &Drawing, half: Half, key: u8) -> bool
     ensures { result ≡ spec.is_other drawing.now half key }
 {
-    !drawing.board().has(key) && !is_blank_entry(drawing.map().entry(half.slot(key)))
+    !drawing.board().has(key) && is_worth_a_key(drawing, half.slot(key))
 }
 
-/// The keys that aren't on the board and whose slots aren't blank.
+/// The keys that aren't on the board and whose slots aren't blank, or differ.
 #[tactic(auto, using(crate::proofs::Loops::passing_rules), unfolding(crate::specs::Halves::other_keys))]
 pub(crate) fn other_keys(drawing: &Drawing, half: Half) -> ArrayVec<u8, KEY_COUNT>
     ensures keys { result.items ≡ spec.other_keys drawing.now half }
@@ -126,7 +134,7 @@ pub(crate) fn other_keys(drawing: &Drawing, half: Half) -> ArrayVec<u8, KEY_COUN
 
 /// Adds the line above so many keys that the board doesn't have, if there are any.
 fn push_other_line(sheet: Sheet<InPicture>, y: u32, count: usize) -> Added<Sheet<InPicture>>
-    requires low { y < 2 ^ 16 }
+    requires low { y < 2 ^ 27 }
     ensures { IfOk result (λ s. s ≡ sheet ++ spec.others_line y count) }
 {
     if count == 0 {
@@ -144,7 +152,7 @@ fn push_each_other(
     y: u32,
     keys: &[u8],
 ) -> Added<Sheet<InPicture>>
-    requires low { y < 2 ^ 16 }
+    requires low { y < 2 ^ 27 }
     requires few { length keys.now ≤ 128 }
     ensures { IfOk result (λ s. s ≡ sheet ++ numbered (spec.other_key drawing.now half y) 0 keys.now) }
 {
@@ -162,14 +170,14 @@ fn push_each_other(
 }
 
 /// Adds the keys that the board doesn't have, below a line, if there are any.
-fn push_other_keys(
+pub(crate) fn push_other_keys(
     sheet: Sheet<InPicture>,
     drawing: &Drawing,
     half: Half,
     y: u32,
     keys: &[u8],
 ) -> Added<Sheet<InPicture>>
-    requires low { y < 2 ^ 16 }
+    requires low { y < 2 ^ 27 }
     requires few { length keys.now ≤ 128 }
     ensures { IfOk result (λ s. s ≡ sheet ++ spec.others drawing.now half y keys.now) }
 {
@@ -177,16 +185,19 @@ fn push_other_keys(
     push_each_other(sheet, drawing, half, y, keys)
 }
 
-/// How high the drawing of a half is, with so many keys that the board doesn't have.
-pub(crate) fn half_height(others: usize) -> u32
+/// How high a board with its headline is.
+pub(crate) const BOARD_HEIGHT: u32 = 472;
+
+/// How high so many keys are that a board doesn't have.
+pub(crate) fn others_height(others: usize) -> u32
     requires { others ≤ 128 }
-    ensures value { result ≡ spec.half_height others }
-    ensures low { result ≤ 890 }
+    ensures value { result ≡ spec.others_height others }
+    ensures low { result ≤ 418 }
 {
     if others == 0 {
-        472
+        0
     } else {
-        506 + (others as u32 + 21) / 22 * 64
+        34 + (others as u32 + 21) / 22 * 64
     }
 }
 
@@ -242,22 +253,19 @@ fn push_sample(sheet: Sheet<InPicture>, half: Half, y: u32) -> Added<Sheet<InPic
     }
 }
 
-/// Adds the drawing of a half, from y on, with the keys that the board doesn't have.
-#[tactic(auto, unfolding(crate::specs::Halves::half_facts))]
-pub(crate) fn push_half(
+/// Adds the board of a half below its headline, from y on.
+#[tactic(auto, unfolding(crate::specs::Halves::board_facts))]
+pub(crate) fn push_board(
     sheet: Sheet<InPicture>,
     drawing: &Drawing,
     half: Half,
-    keys: &[u8],
     y: u32,
 ) -> Added<Sheet<InPicture>>
-    requires low { y < 2 ^ 15 }
-    requires few { length keys.now ≤ 128 }
-    ensures { IfOk result (λ s. s ≡ sheet ++ spec.half_facts drawing.now half keys.now y) }
+    requires { y < 2 ^ 26 }
+    ensures { IfOk result (λ s. s ≡ sheet ++ spec.board_facts drawing.now half y) }
 {
     let sheet = push_headline(sheet, drawing, half, y + 26)?;
     let sheet = tell(sheet, PANEL, &[Number(y + 40)])?;
     let sheet = push_runs(sheet, drawing, half, y + 40, &RUNS)?;
-    let sheet = push_sample(sheet, half, y + 52)?;
-    push_other_keys(sheet, drawing, half, y + 472, keys)
+    push_sample(sheet, half, y + 52)
 }

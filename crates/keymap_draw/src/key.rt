@@ -1,5 +1,5 @@
 //! A key of the picture: its cap, its code and its legends. Its title is its line of the printed form.
-ghost use Rattle.std.specs.Prelude.{◌≡◌, ◌++◌, ◌∷◌, [], true, IfOk, Some, decimal, option_copied, option_to_list};
+ghost use Rattle.std.specs.Prelude.{◌≡◌, ◌≤◌, ◌++◌, ◌∷◌, [], true, length, IfOk, Some, codes, decimal, option_copied, option_to_list};
 ghost use Rattle.std.specs.List.{list_all};
 ghost use Rattle.keymap_core.specs.Maps.{entry_at};
 ghost use Rattle.keymap_check.specs.Said.{finding_words as finding_words_of};
@@ -10,14 +10,20 @@ ghost use Rattle.keymap_draw.specs.Places.{is_class};
 ghost use Rattle.keymap_draw.specs.Sheets.{is_inner, is_seen};
 
 use crate::board::Shape;
+use crate::change::About;
 use crate::drawing::Drawing;
 use crate::drawn::{DrawnCells, drawn, is_blank, stands_alone};
-use crate::legend::{cell_legend, is_word};
+use crate::legend::{Legend, cell_legend, is_word, sign};
+use crate::marks::{mark_of, was_of};
 use crate::markup::Added;
-use crate::place::{Column, Spot, code_x, legend_classes, legend_x, legend_y, shrunk_length};
+use crate::place::{
+    Column, Spot, code_x, legend_classes, legend_x, legend_y, marked_class, shrunk_length,
+};
 use crate::sheet::Content::{Bytes, Characters, Number, Plain};
 use crate::sheet::{InKey, InPicture, Sheet, tell};
-use crate::words::{BOTH, CAPS, CODE, GROUP_END, KEY, KEY_OF, NUM, SHRUNK_TEXT, TEXT, TEXT_OF};
+use crate::words::{
+    BOTH, CAPS, CHANGED_KEY, CODE, GROUP_END, KEY, KEY_OF, NUM, SHRUNK_TEXT, TEXT, TEXT_OF, WAS,
+};
 use arrayvec::ArrayVec;
 use keymap_check::{Finding, finding_words};
 use keymap_core::{Action, Cell, Entry, KEY_COUNT, KeyMap, LockFlag};
@@ -73,6 +79,7 @@ pub(crate) fn is_blank_entry(entry: &Entry) -> bool
 #[tactic(auto, unfolding(crate::specs::Keys::key_class))]
 fn key_class(findings: &[Finding], slot: u8, entry: &Entry) -> &'static [u8]
     ensures value { result.now ≡ option_to_list (spec.key_class findings.now slot entry.now) }
+    ensures few { length result.now ≤ 1 }
     ensures class { list_all is_class result.now ≡ true }
     ensures inner { list_all is_inner result.now ≡ true }
 {
@@ -188,14 +195,50 @@ fn push_group(
     }
 }
 
+/// Adds the group of a key that differs, with its title and below that a line, and its cap.
+fn push_changed_group<'a>(
+    sheet: Sheet<InPicture>,
+    classes: &'a [u8],
+    title: &'a KeyTitle,
+    line: &'a [char],
+    cap: Cap,
+) -> Added<Sheet<InKey>>
+    requires classes { list_all is_inner classes.now ≡ true }
+    requires finding { list_all is_inner title.now.finding.items ≡ true }
+    requires feed { list_all is_inner title.now.feed.now ≡ true }
+    requires seen { list_all is_seen title.now.words.items ≡ true }
+    requires line { list_all is_seen line.now ≡ true }
+    ensures { IfOk result (λ s. s
+        ≡ sheet ++ spec.titled_cap
+        ((((title.now.finding.items ++ title.now.feed.now) ++ title.now.words.items) ++ codes "\n") ++ line.now)
+        classes.now cap.x cap.y cap.shape) }
+{
+    let (x, y) = (Number(cap.x), Number(cap.y));
+    let (finding, feed) = (Plain(title.finding.as_slice()), Plain(title.feed));
+    let (words, shape) = (Bytes(title.words.as_slice()), Plain(cap.shape.letter()));
+    let (classes, line) = (Plain(classes), Characters(line));
+    tell(
+        sheet,
+        CHANGED_KEY,
+        &[classes, x, y, finding, feed, words, line, shape],
+    )
+}
+
 /// Adds the group of a key of a slot, its title and its cap.
 fn begin_key(sheet: Sheet<InPicture>, drawing: &Drawing, slot: u8, cap: Cap) -> Added<Sheet<InKey>>
     ensures { IfOk result (λ s. s ≡ sheet
-        ++ spec.cap drawing.now.findings slot cap.x cap.y cap.shape (entry_at drawing.now.map slot)) }
+        ++ spec.cap drawing.now slot cap.x cap.y cap.shape (entry_at drawing.now.map slot)) }
 {
     let title = title(drawing, slot);
     let class = key_class(drawing.findings(), slot, drawing.map().entry(slot));
-    push_group(sheet, class, &title, cap)
+    match mark_of(drawing, slot) {
+        Some(mark) => {
+            let classes = marked_class(class, mark);
+            let line = drawing.line(About::Slot(slot));
+            push_changed_group(sheet, classes.as_slice(), &title, line, cap)
+        }
+        None => push_group(sheet, class, &title, cap),
+    }
 }
 
 /// Adds the code of the key on its cap.
@@ -309,6 +352,33 @@ fn push_legends(
     push_drawn(sheet, map, &face, Column::AltShift)
 }
 
+/// What is written for what a cell was.
+fn was_legend(cell: &Cell) -> Legend
+    ensures words { result.items ≡ spec.was_legend cell.now }
+    ensures seen { list_all is_seen result.items ≡ true }
+{
+    let legend = cell_legend(cell);
+    if legend.is_empty() {
+        sign('\u{2205}')
+    } else {
+        legend
+    }
+}
+
+/// Adds what a cell was below right on the edge of the cap, if there is one.
+fn push_was(sheet: Sheet<InKey>, shape: Shape, cell: Option<Cell>) -> Added<Sheet<InKey>>
+    ensures { IfOk result (λ s. s ≡ sheet ++ spec.was_text shape cell) }
+{
+    match cell {
+        Some(cell) => {
+            let legend = was_legend(&cell);
+            let (x, y) = (Number(shape.width() - 12), Number(shape.height() - 7));
+            tell(sheet, WAS, &[x, y, Characters(legend.as_slice())])
+        }
+        None => Ok(sheet),
+    }
+}
+
 /// Adds the key of a slot at a place.
 #[tactic(auto, unfolding(crate::specs::Keys::key))]
 pub(crate) fn push_key(
@@ -324,5 +394,6 @@ pub(crate) fn push_key(
     let sheet = begin_key(sheet, drawing, slot, cap)?;
     let sheet = push_code(sheet, slot, entry.flag, cap.shape)?;
     let sheet = push_legends(sheet, map, cap.shape, entry)?;
+    let sheet = push_was(sheet, cap.shape, was_of(drawing, slot))?;
     tell(sheet, GROUP_END, &[])
 }

@@ -2,6 +2,7 @@
 ghost use Rattle.std.specs.Prelude.{◌≡◌, ℕ, ◌%◌, ◌<◌, List, Some, true, All, option_to_list};
 ghost use Rattle.keymap_core.specs.Accents.{AccentValue};
 ghost use Rattle.keymap_core.specs.Bounds.{IsCell};
+ghost use Rattle.keymap_core.specs.Maps.{MapValue};
 ghost use Rattle.keymap_core.specs.Numbers.{key_count};
 ghost use Rattle.keymap_core.specs.declared.entry.Cell.{Cell as CellValue};
 ghost use Rattle.keymap_core.specs.declared.entry.Entry.{Entry as EntryValue};
@@ -12,6 +13,7 @@ ghost use Rattle.keymap_draw.specs.Drawn.{EachCellIsTold};
 ghost use Rattle.keymap_draw.specs.Keys.{key_class, names_key, red};
 ghost use Rattle.keymap_draw.specs.Keyboards.{BoardsAreKeyboards, EachKeyOnce, NoTwoOverlap, AllLieOnThePanel};
 ghost use Rattle.keymap_draw.specs.Legends.{cell_legend};
+ghost use Rattle.keymap_draw.specs.Marks.{MarkedAreChanged};
 ghost use Rattle.keymap_draw.specs.Names.{LegendsAreNames, NoOthersAreNamed};
 ghost use Rattle.keymap_draw.specs.Pictures.{IsPicture};
 ghost use Rattle.keymap_draw.specs.Places.{IsClass};
@@ -26,6 +28,13 @@ pub fn red_caps_are_findings()
         → names_key fs (slot % key_count) ≡ true }
     ensures named { (fs : List FindingValue) (slot : ℕ) (e : EntryValue) → names_key fs (slot % key_count) ≡ true
         → key_class fs slot e ≡ Some red }
+{}
+
+/// In a picture of a change a key is marked exactly if its slot differs, in a cell or in the lock letter, and an accent
+/// exactly if it does.
+#[tactic(auto, using(crate::proofs::Marked::marked_are_changed))]
+pub fn marked_are_changed()
+    ensures { (m n : MapValue) → MarkedAreChanged m n }
 {}
 
 /// A cap tells each cell of the columns base, shift, alt and alt shift: by its own legend, by that of a cell that is

@@ -49,7 +49,7 @@ fn numbered_word(letters: &[u8], number: u8) -> Legend
     legend
 }
 
-fn sign(c: char) -> Legend
+pub(crate) fn sign(c: char) -> Legend
     ensures { result.items ≡ c ∷ [] }
 {
     let mut legend = Legend::new();

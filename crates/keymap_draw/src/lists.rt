@@ -10,18 +10,20 @@ ghost use Rattle.keymap_draw.specs.Lists as spec;
 ghost use Rattle.keymap_draw.specs.Lists.{accent_sign as accent_sign_of};
 ghost use Rattle.keymap_draw.specs.Sheets.{is_inner, is_seen};
 
+use crate::change::About;
 use crate::drawing::Drawing;
 use crate::half::Half;
 use crate::key::said;
 use crate::legend::{Legend, character_legend, marked};
+use crate::marks::has_other_accent;
 use crate::markup::Added;
 use crate::place::{DEAD_KEY, NO_ACCENT, size_class};
 use crate::sheet::Content::{Bytes, Characters, Number, Plain};
 use crate::sheet::{InPicture, InRow, InTable, Sheet, tell};
 use crate::tables::ACCENT_MARKS;
 use crate::words::{
-    ACCENT, ACCENTS, BASES, COMPOSED, COMPOSED_OF, FINDINGS, GROUP_END, LISTED_FINDING, RESULTS,
-    SIGN, SILENT, TABLE_END,
+    ACCENT, ACCENTS, BASES, CHANGED_ACCENT, COMPOSED, COMPOSED_OF, FINDINGS, GROUP_END,
+    LISTED_FINDING, RESULTS, SIGN, SILENT, TABLE_END,
 };
 use arrayvec::ArrayVec;
 use keymap_check::Finding;
@@ -41,7 +43,7 @@ fn push_finding(
     finding: &Finding,
 ) -> Added<Sheet<InPicture>>
     requires few { place ≤ 128 }
-    requires low { y < 2 ^ 15 }
+    requires low { y < 2 ^ 26 }
     ensures { IfOk result (λ s. s ≡ sheet ++ spec.listed_finding y place finding.now) }
 {
     let x = Number(28 + place % 2 * 720);
@@ -57,7 +59,7 @@ fn push_each_finding(
     y: u32,
 ) -> Added<Sheet<InPicture>>
     requires few { length findings.now ≤ 128 }
-    requires low { y < 2 ^ 15 }
+    requires low { y < 2 ^ 26 }
     ensures { IfOk result (λ s. s ≡ sheet ++ numbered (spec.listed_finding y) 0 findings.now) }
 {
     let mut sheet = sheet;
@@ -76,7 +78,7 @@ pub(crate) fn push_findings(
     y: u32,
 ) -> Added<Sheet<InPicture>>
     requires few { length findings.now ≤ 128 }
-    requires low { y < 2 ^ 15 }
+    requires low { y < 2 ^ 26 }
     ensures { IfOk result (λ s. s ≡ sheet ++ spec.findings_list findings.now y) }
 {
     if findings.len() == 0 {
@@ -99,7 +101,7 @@ pub(crate) fn findings_height(count: usize) -> u32
     }
 }
 
-fn has_character(map: &KeyMap, index: u8) -> bool
+pub(crate) fn has_character(map: &KeyMap, index: u8) -> bool
     ensures { result ≡ spec.has_character map.now index }
 {
     map.accent_or_blank(index).own() != '\0'
@@ -224,31 +226,44 @@ fn push_heading(sheet: Sheet<InRow>, index: u8, x: u32, class: u8) -> Added<Shee
     tell(sheet, SIGN, &[x, Plain(&[class]), sign, behind, name])
 }
 
-/// Begins the row of an accent with its title, which is its line of the printed form.
-fn begin_accent(sheet: Sheet<InPicture>, index: u8, accent: &Accent, y: u32) -> Added<Sheet<InRow>>
+/// Begins the row of an accent with its title, which is its line of the printed form, and with a line below that where
+/// the accent differs.
+fn begin_accent(
+    sheet: Sheet<InPicture>,
+    drawing: &Drawing,
+    index: u8,
+    accent: &Accent,
+    y: u32,
+) -> Added<Sheet<InRow>>
     requires { index < accent_limit }
-    ensures { IfOk result (λ s. s ≡ sheet ++ spec.titled_row index accent.now y) }
+    ensures { IfOk result (λ s. s ≡ sheet ++ spec.titled_row drawing.now index accent.now y) }
 {
     let title = title(index, accent);
-    tell(sheet, ACCENT, &[Number(y), Bytes(title.as_slice())])
+    let (y, title) = (Number(y), Bytes(title.as_slice()));
+    if has_other_accent(drawing, index) {
+        let line = Characters(drawing.line(About::Accent(index)));
+        tell(sheet, CHANGED_ACCENT, &[y, title, line])
+    } else {
+        tell(sheet, ACCENT, &[y, title])
+    }
 }
 
 /// Adds the row of an accent of the map, at its place of the list.
 fn push_accent(
     sheet: Sheet<InPicture>,
-    map: &KeyMap,
+    drawing: &Drawing,
     y: u32,
     place: u32,
     index: u8,
 ) -> Added<Sheet<InPicture>>
     requires known { index < accent_limit }
-    requires low { y < 2 ^ 16 }
+    requires low { y < 2 ^ 27 }
     requires few { place ≤ 15 }
-    ensures { IfOk result (λ s. s ≡ sheet ++ spec.listed_accent map.now y place index) }
+    ensures { IfOk result (λ s. s ≡ sheet ++ spec.listed_accent drawing.now y place index) }
 {
-    match map.accent(index) {
+    match drawing.map().accent(index) {
         Some(accent) => {
-            let sheet = begin_accent(sheet, index, accent, y + 52 * place)?;
+            let sheet = begin_accent(sheet, drawing, index, accent, y + 52 * place)?;
             let sheet = push_heading(sheet, index, 36, DEAD_KEY)?;
             push_table(sheet, accent.own(), accent.pairs())
         }
@@ -259,19 +274,19 @@ fn push_accent(
 /// Adds the row of each accent, one below the other.
 fn push_each_accent(
     sheet: Sheet<InPicture>,
-    map: &KeyMap,
+    drawing: &Drawing,
     accents: &[u8],
     y: u32,
 ) -> Added<Sheet<InPicture>>
-    requires low { y < 2 ^ 16 }
+    requires low { y < 2 ^ 27 }
     requires few { length accents.now ≤ 15 }
     requires known { All (λ i. i < accent_limit) accents.now }
-    ensures { IfOk result (λ s. s ≡ sheet ++ numbered (spec.listed_accent map.now y) 0 accents.now) }
+    ensures { IfOk result (λ s. s ≡ sheet ++ numbered (spec.listed_accent drawing.now y) 0 accents.now) }
 {
     let mut sheet = sheet;
     for i in 0..accents.len() {
         let index = accents[i];
-        sheet = push_accent(sheet, map, y, i as u32, index)?;
+        sheet = push_accent(sheet, drawing, y, i as u32, index)?;
     }
     Ok(sheet)
 }
@@ -280,20 +295,20 @@ fn push_each_accent(
 #[tactic(auto, unfolding(crate::specs::Lists::accents_list))]
 pub(crate) fn push_accents(
     sheet: Sheet<InPicture>,
-    map: &KeyMap,
+    drawing: &Drawing,
     accents: &[u8],
     y: u32,
 ) -> Added<Sheet<InPicture>>
-    requires low { y < 2 ^ 15 }
+    requires low { y < 2 ^ 26 }
     requires few { length accents.now ≤ 15 }
     requires known { All (λ i. i < accent_limit) accents.now }
-    ensures { IfOk result (λ s. s ≡ sheet ++ spec.accents_list map.now accents.now y) }
+    ensures { IfOk result (λ s. s ≡ sheet ++ spec.accents_list drawing.now accents.now y) }
 {
     if accents.len() == 0 {
         Ok(sheet)
     } else {
         let sheet = tell(sheet, ACCENTS, &[Number(y + 26)])?;
-        push_each_accent(sheet, map, accents, y + 40)
+        push_each_accent(sheet, drawing, accents, y + 40)
     }
 }
 
@@ -370,7 +385,7 @@ pub(crate) fn silent_accents(drawing: &Drawing) -> Accents
 
 /// Begins the row of the dead keys without an accent, below a line.
 fn begin_silent(sheet: Sheet<InPicture>, y: u32) -> Added<Sheet<InRow>>
-    requires { y < 2 ^ 15 }
+    requires { y < 2 ^ 26 }
     ensures { IfOk result (λ s. s ≡ sheet ++ spec.silent_line y) }
 {
     tell(sheet, SILENT, &[Number(y + 16), Number(y + 26)])
@@ -397,7 +412,7 @@ pub(crate) fn push_silent(
     accents: &[u8],
     y: u32,
 ) -> Added<Sheet<InPicture>>
-    requires low { y < 2 ^ 15 }
+    requires low { y < 2 ^ 26 }
     requires few { length accents.now ≤ 15 }
     requires known { All (λ i. i < accent_limit) accents.now }
     ensures { IfOk result (λ s. s ≡ sheet ++ spec.silent_list accents.now y) }

@@ -37,12 +37,19 @@ fn shorten(name: &mut Vec<char>) -> Added
     Ok(())
 }
 
+/// The words that are given, in UTF-8.
+pub(crate) fn shown_words(alloc: Global, given: &[u8]) -> Added<Vec<char>>
+    ensures { IfOk result (λ words. words.items ≡ spec.shown_words given.now) }
+{
+    given.chars().map(|c| shown_character(c)).collect(alloc)
+}
+
 /// The name that is given, in UTF-8.
 #[tactic(auto, unfolding(crate::specs::Drawings::shown_name))]
 fn shown_name(alloc: Global, given: &[u8]) -> Added<Vec<char>>
     ensures { IfOk result (λ name. name.items ≡ spec.shown_name given.now) }
 {
-    let mut name: Vec<char> = given.chars().map(|c| shown_character(c)).collect(alloc)?;
+    let mut name = shown_words(alloc, given)?;
     shorten(&mut name)?;
     Ok(name)
 }

@@ -1,5 +1,5 @@
 //! Where texts stand on a cap, and the classes by which the style gives them size, side and colour.
-ghost use Rattle.std.specs.Prelude.{◌≡◌, ◌≤◌, ◌+◌, true, length, option_to_list};
+ghost use Rattle.std.specs.Prelude.{◌≡◌, ◌≤◌, ◌+◌, true, length, option_to_list, Some};
 ghost use Rattle.std.specs.List.{list_all};
 ghost use Rattle.arrayvec.specs.ArrayVec.{array_vec_len};
 ghost use Rattle.keymap_draw.specs.Places as spec;
@@ -336,5 +336,20 @@ pub(crate) fn legend_classes(
     push_class(&mut classes, size_class(legend, spot.alone, spot.tight));
     push_class(&mut classes, side_class(spot.column, spot.alone));
     push_class(&mut classes, kind_class(map, spot.column, cell));
+    classes
+}
+
+/// The class for the colour of a key, if it has one, and behind it that of a key that differs.
+#[tactic(auto, using(crate::proofs::Parts::classes_inner))]
+pub(crate) fn marked_class(class: &[u8], mark: u8) -> ArrayVec<u8, 6>
+    requires few { length class.now ≤ 1 }
+    requires class { list_all is_class class.now ≡ true }
+    requires mark { is_class mark ≡ true }
+    ensures value { result.items ≡ spec.and_class class.now (Some mark) }
+    ensures inner { list_all is_inner result.items ≡ true }
+{
+    let mut classes = ArrayVec::new();
+    let _ = classes.try_extend_from_slice(class);
+    push_class(&mut classes, Some(mark));
     classes
 }

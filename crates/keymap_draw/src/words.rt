@@ -63,6 +63,13 @@ pub(crate) const KEY: &[u8] =
 pub(crate) const KEY_OF: &[u8] =
     b"<g role=\"img\" class=\"{}\" transform=\"translate({} {})\"><title>{}{}{}</title><use href=\"#{}\"/>";
 
+/// The begin of a key that differs, of whose title the last line tells how.
+pub(crate) const CHANGED_KEY: &[u8] =
+    b"<g role=\"img\" class=\"{}\" transform=\"translate({} {})\"><title>{}{}{}\n{}</title><use href=\"#{}\"/>";
+
+/// What a key was before a change, with where it stands.
+pub(crate) const WAS: &[u8] = b"<text class=\"s\" x=\"{}\" y=\"{}\">{}</text>";
+
 /// The code of a key, with where it stands, the code and the letter of its locks.
 pub(crate) const CODE: &[u8] = b"<text x=\"{}\" y=\"{}\">{}{}</text>";
 
@@ -84,6 +91,39 @@ pub(crate) const TEXT_OF: &[u8] = b"<text x=\"{}\" y=\"{}\" class=\"{}\">{}</tex
 pub(crate) const SHRUNK_TEXT: &[u8] =
     b"<text x=\"{}\" y=\"{}\" class=\"{}\" textLength=\"{}\" lengthAdjust=\"spacingAndGlyphs\">{}</text>";
 
+/// The style of a picture of a change.
+pub(crate) const CHANGE_STYLE: &[u8] = b"<style>\n\
+.n use{color:#e08700}.q use{color:#f1c27d}.n use+text,.q use+text,.n>.s,.q>.s{fill:#2b1a00}\
+.n>.s,.q>.s{font-size:10px;text-anchor:end}\n\
+rect.n{fill:#ffe7c2}\n\
+@media (prefers-color-scheme:dark){\n\
+.n use{color:#e09a35}.q use{color:#80591f}.n use+text,.n>.s{fill:#1c1000}.q use+text,.q>.s{fill:#ffe2b0}\
+rect.n{fill:#4a3413}\n\
+}\n\
+</style>\n";
+
+// The headline of what changed: where it stands, the name of the keymap before, and that nothing has changed; so many of
+// something; or so many of two things.
+pub(crate) const CHANGED: &[u8] =
+    b"<text x=\"28\" y=\"{}\" class=\"h\">Changed from {}: {}</text>\n";
+
+pub(crate) const CHANGED_IN: &[u8] =
+    b"<text x=\"28\" y=\"{}\" class=\"h\">Changed from {}: {} {}</text>\n";
+
+pub(crate) const CHANGED_IN_BOTH: &[u8] =
+    b"<text x=\"28\" y=\"{}\" class=\"h\">Changed from {}: {} {}, {} {}</text>\n";
+
+pub(crate) const NOTHING: &[u8] = b"nothing";
+
+/// A row of the list of what changed: where it stands, and what it says.
+pub(crate) const LISTED_CHANGE: &[u8] =
+    b"<text x=\"28\" y=\"{}\" class=\"l\" xml:space=\"preserve\">{}</text>\n";
+
+/// What the marks mean, below that list, with where it stands.
+pub(crate) const MARKS: &[u8] = b"<text x=\"28\" y=\"{}\" class=\"l\" xml:space=\"preserve\">\
+Amber: base or shift differs; pale amber: only other columns, or the lock letter. \
+Below right on a changed key stands what it was, in the first of its four cells that differs.</text>\n";
+
 /// The headline of the findings, with where it stands.
 pub(crate) const FINDINGS: &[u8] = b"<text x=\"28\" y=\"{}\" class=\"h no\">Findings</text>\n";
 
@@ -96,6 +136,11 @@ pub(crate) const ACCENTS: &[u8] = b"<text x=\"28\" y=\"{}\" class=\"h\">Accents<
 /// The begin of an accent, with where it stands and its title.
 pub(crate) const ACCENT: &[u8] =
     b"<g role=\"img\" transform=\"translate(16 {})\"><title>{}</title><rect class=\"row\" width=\"1460\" \
+height=\"48\" rx=\"8\"/>";
+
+/// The begin of an accent that differs, of whose title the last line tells how.
+pub(crate) const CHANGED_ACCENT: &[u8] =
+    b"<g role=\"img\" transform=\"translate(16 {})\"><title>{}\n{}</title><rect class=\"row n\" width=\"1460\" \
 height=\"48\" rx=\"8\"/>";
 
 // The table of an accent: before the bases of its pairs, before their results, and behind these.

@@ -1,31 +1,17 @@
-use Rattle.keymap_draw.proofs.Common.{◌≡◌, ℕ, List, [], ◌∷◌, ◌++◌, ◌∙◌, Some, ap, sym, append-nil, arith, refl, reverse}
-use Rattle.keymap_draw.proofs.Common.{subst, true, IfOk}
-use Rattle.keymap_draw.proofs.Common.{Number, Shape, Content, Plain, Bytes, Fact, within, in_svg, over, facts_of}
-use Rattle.std.proofs.Common.{Bor}
-use Rattle.std.proofs.lemmas.List.{nil_from_length, reverse-reverse}
-use Rattle.keymap_draw.specs.declared.board.Shape.TheVariants.{A}
+use Rattle.keymap_draw.proofs.Common.{◌≡◌, ℕ, List, [], ◌∷◌, ◌++◌, arith, refl, subst, true, IfOk}
+use Rattle.keymap_draw.proofs.Common.{Number, Shape, Content, Plain, Bytes}
+use Rattle.keymap_draw.proofs.Caps.{Words, Reads, letter_known, told, read}
+use Rattle.std.proofs.lemmas.List.{nil_from_length}
 use Rattle.keymap_draw.specs.Boards.{letter}
 use Rattle.keymap_draw.specs.Keys.{titled_cap}
-use Rattle.keymap_draw.specs.Sheets.{in_key, facts_over, ids}
+use Rattle.keymap_draw.specs.Sheets.{ids}
 use Rattle.keymap_draw.specs.WellFormed.{is_among}
 use Rattle.keymap_draw.specs.declared.words.TheConstants as words
 use Rattle.keymap_draw.proofs.key.push_group.Goals as goal
 
-abbrev Words : Type 0
-Words = Bor (List ℕ)
-
 abbrev group : ℕ → ℕ → Words → Words → Words → Words → List Content
 group x y finding feed title shape =
     Number x ∷ Number y ∷ Plain finding ∷ Plain feed ∷ Bytes title ∷ Plain shape ∷ []
-
--- words behind which a title and a cap have been told
-record Reads (w : List ℕ) (ts : List Content) (new : List Fact) : Type 0 where
-  all : (fs : List Fact) → over (Some (within in_svg fs)) w ts ≡ Some (within in_key (reverse new ++ fs))
-
--- the letter of a shape is an id
-letter_known : (s : Shape) → is_among ids (letter s ∷ []) ≡ true
-letter_known A = refl
-letter_known _ = refl
 
 -- the words without a class and those with one
 both : (class finding feed title shape : Words) (x y : ℕ) (s : Shape) (said printed : List ℕ) → finding.now ≡ said
@@ -36,15 +22,6 @@ both : (class finding feed title shape : Words) (x y : ℕ) (s : Shape) (said pr
 both class finding feed title shape x y s said printed e f g =
     let known : is_among ids shape.now ≡ true = rw g (letter_known s) in
     (record { all = λ fs. rw (e, f, known, g) refl }, record { all = λ fs. rw (e, f, known, g) refl })
-
--- what words tell, by what they are read as
-told : {w : List ℕ} {ts : List Content} {new : List Fact} → Reads w ts new → facts_over in_svg w ts ≡ new
-told {new = new} h =
-    ap (λ s. reverse (facts_of s)) (h.all []) ∙ ap reverse (append-nil (reverse new)) ∙ reverse-reverse new
-
-read : {w : List ℕ} {ts : List Content} {new : List Fact} → Reads w ts new → (fs : List Fact)
-    → over (Some (within in_svg fs)) w ts ≡ Some (within in_key (reverse (facts_over in_svg w ts) ++ fs))
-read h fs = h.all fs ∙ ap (λ gs. Some (within in_key (reverse gs ++ fs))) (sym (told h))
 
 pub tell-requires-clause-read : goal.tell-requires-clause-read
 tell-requires-clause-read c =

@@ -20,7 +20,8 @@ use Rattle.keymap_core.proofs.Shared.{find-true}
 use Rattle.keymap_text.specs.Items.{character}
 use Rattle.keymap_text.specs.Lexical.{TokenValue}
 use Rattle.keymap_text.specs.Meaning.{item_of, tokens}
-use Rattle.keymap_places.specs.Placed.{AreRows, IsSpelledBy, Row, begins, defined, is_same, no_row, one_row, places_after}
+use Rattle.keymap_places.specs.Placed.{AreRows, IsSpelledBy, Row, begins, defined, is_same, no_row, one_row}
+use Rattle.keymap_places.specs.Placed.{places_after}
 use Rattle.keymap_places.specs.Placed.{places_of}
 use Rattle.keymap_text.specs.Rows.{ArePairs, Definition, Defines, of_accent, of_key}
 use Rattle.keymap_places.proofs.Shared.{accent_in_force, accent_tokens, own_at, pair_at}

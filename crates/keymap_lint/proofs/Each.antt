@@ -4,26 +4,35 @@ use Rattle.keymap_lint.proofs.Common.{refl, Option, Some, None, find, flat_map, 
 use Rattle.keymap_lint.proofs.Common.{last_of, mixed_key, selects, again, is_missing, rules, is_defined, zero_accent}
 use Rattle.keymap_lint.proofs.Common.{pair_again, accent_pairs, has_base, is_above_in_force, digit, Spelled}
 use Prim.Native.Nat.{zero, suc}
-use Rattle.std.proofs.Common.{◌-◌, ◌<◌, All, ◌==◌, arith}
+use Rattle.std.proofs.Common.{◌-◌, ◌*◌, ◌<◌, All, ◌==◌, arith}
 use Rattle.std.specs.Option.{option_to_list}
 use Rattle.std.proofs.lemmas.Bool.{and_parts, eqb-true}
 use Rattle.std.proofs.lemmas.List.Elements.{All-nil, All-cons, All-head, All-tail, All-append, Contains-get_or}
 use Rattle.std.specs.Prelude.{Contains}
-use Rattle.keymap_lint.specs.Types.{Holding, Cell, Char, Act, Finding, Accent, CellInForce}
+use Rattle.keymap_lint.specs.Types.{Holding, Cell, Char, Act, Finding, Accent, CellInForce, Span}
 use Rattle.keymap_core.specs.Accents.{AccentValue, own_of}
 use Rattle.keymap_core.specs.Below.{first_below}
 use Rattle.keymap_core.proofs.Shared.{first_below-some}
 use Rattle.keymap_core.specs.Borne.{is_upper_live, any_below}
 use Rattle.keymap_core.specs.Maps.{accent_at, cell_at}
+use Rattle.keymap_lint.proofs.Lists.{all_gathered}
 use Rattle.keymap_lint.specs.Kinds.{at, nowhere, no_key, no_shift, has_keys, has_shift, mixed_keys, character_of}
 use Rattle.keymap_lint.specs.Kinds.{half_at, half_defined, selector, is_some_in, missing_slots, nul_keys, defined_again}
 use Rattle.keymap_lint.specs.Kinds.{dead_key, dead_key_by, zero_accents, pair_by, pairs_by, pairs_again, base_at, paren}
 use Rattle.keymap_lint.specs.Kinds.{again_by, bare_digits, digit_by, is_given, is_zero, unused_by, unused_half, zero_by}
-use Rattle.keymap_lint.specs.Letters.{gap, gap_before, gap_by, gaps, is_behind}
+use Rattle.keymap_lint.specs.Alphabets.{all_twice, column_of, first_of, holders, is_above, is_concerned, later, letters}
+use Rattle.keymap_lint.specs.Alphabets.{lost_letters, no_control, no_control_by, standing, twice, twice_at, twice_by}
+use Rattle.keymap_lint.specs.Alphabets.{twice_in, twice_of}
+use Rattle.keymap_lint.specs.declared.alphabet.Alphabet.{Alphabet}
+use Rattle.keymap_lint.specs.declared.alphabet.Alphabet.TheVariants.{Small, Capital}
+use Rattle.keymap_lint.specs.Typed.{cannot_type}
+use Rattle.keymap_lint.specs.Octal.{all_octal, looks_octal, octal_accent, octal_at, octal_by, octal_cell}
+use Rattle.keymap_lint.specs.Octal.{octal_in, octal_of, octal_own, octal_pair, result_at}
+use Rattle.keymap_lint.specs.Letters.{is_whole, gap, gap_before, gap_by, gaps, is_behind}
 use Rattle.keymap_lint.specs.Lists.{all_of, of_keys, of_letters, of_definitions, of_rest}
 use Rattle.keymap_lint.specs.Shifted.{all_exchanged, exchanged, exchanged_by, is_exchanged, is_small_in_force, no_caps}
 use Rattle.keymap_lint.specs.Shifted.{no_caps_by, small_slots}
-use Rattle.keymap_lint.specs.Spelled.{offset_at, content}
+use Rattle.keymap_lint.specs.Spelled.{bytes_at, offset_at, content, span_at}
 use Rattle.keymap_lint.specs.declared.diagnostic.Kind.TheVariants as kinds
 
 -- ---- lists
@@ -34,17 +43,10 @@ all_flat P Q f h [] all = All-nil P
 all_flat P Q f h (x ∷ xs) all =
     All-append P (f x) (flat_map f xs) (h x (All-head Q x xs all)) (all_flat P Q f h xs (All-tail Q x xs all))
 
-all_gathered : {Y : Type 0} (P : Y → Type 0) (f : ℕ → List Y) (n : ℕ) → ((k : ℕ) → k < n → All P (f k))
-    → All P (gathered f n)
-unfolding gathered
-all_gathered P f zero h = All-nil P
-all_gathered P f (suc n) h =
-    All-append P (gathered f n) (f n) (all_gathered P f n (λ k low. h k (omega (arith, low)))) (h n (omega arith))
-
-all_one : {Y : Type 0} (P : Y → Type 0) (y : Y) → P y → All P (y ∷ [])
+pub all_one : {Y : Type 0} (P : Y → Type 0) (y : Y) → P y → All P (y ∷ [])
 all_one P y h = All-cons P y [] h (All-nil P)
 
-all_either : {X : Type 0} (P : X → Type 0) (b : Bool) (x y : X) → P x → P y → P (cond b x y)
+pub all_either : {X : Type 0} (P : X → Type 0) (b : Bool) (x y : X) → P x → P y → P (cond b x y)
 all_either P true x y h k = h
 all_either P false x y h k = k
 
@@ -68,6 +70,7 @@ all_unless P false y h = all_one P y (h refl)
 -- The property holds of each diagnostic that a text with these cells and findings may have.
 pub record OfEach (P : Diagnostic → Type 0) (t : Spelled) (cells : List CellInForce) (fs : List Finding) : Type 0 where
   pub no_key : P (nowhere kinds.NoKey)
+  pub cannot_type : P (nowhere kinds.CannotType)
   pub no_shift : P (nowhere kinds.NoShift)
   pub mixed : All (λ f. (p : Placed) → last_of (Slot f.holding_at.slot) t.definitions ≡ Some p
       → P (at (offset_at t (p.first + (1 + f.holding_at.column))) (kinds.MixedKey f
@@ -81,8 +84,16 @@ pub record OfEach (P : Diagnostic → Type 0) (t : Spelled) (cells : List CellIn
   pub exchanged : (slot : ℕ) (p : Placed) → last_of (Slot slot) t.definitions ≡ Some p → is_exchanged t slot ≡ true
       → P (at (offset_at t (p.first + 1)) (kinds.Exchanged slot (character_of (cell_at t.map slot 0))
       (character_of (cell_at t.map slot 1))))
+  pub twice : (a : Alphabet) (i missing one other : ℕ) (p q : Placed) → holders t a i ≡ one ∷ other ∷ []
+      → last_of (Slot one) t.definitions ≡ Some p → last_of (Slot other) t.definitions ≡ Some q
+      → P (at (offset_at t (later p q + (1 + column_of a)))
+      (kinds.Twice one other (column_of a) (i + first_of a) (missing + first_of a)))
+  pub control : (c : CellInForce) → find (is_concerned t (lost_letters t) (is_above t)) cells ≡ Some c
+      → P (at c.span.start (kinds.NoControl (is_above t)))
   pub caps : (p : Placed) → find (is_small_in_force t) t.definitions ≡ Some p
       → P (at (offset_at t (p.first + 9)) kinds.NoCaps)
+  pub octal : (s : Span) (c : ℕ) → looks_octal (bytes_at t.text s) ≡ true
+      → P (at s.start (kinds.OctalLike c s.start (octal_of c)))
   pub dead : (c : CellInForce) → find (is_missing t) cells ≡ Some c
       → P (at c.span.start (kinds.DeadKey (any_below (is_defined t) 15)))
   pub zero : (i : ℕ) (p : Placed) → last_of (Accent i) t.definitions ≡ Some p
@@ -103,25 +114,27 @@ all_some P f None h k = h
 all_some P f (Some x) h k = k x refl
 
 -- What holds of each kind of diagnostic holds of all that a text has.
-pub of_all : (P : Diagnostic → Type 0) (t : Spelled) (cells : List CellInForce) (fs : List Finding)
-    → OfEach P t cells fs → All P (all_of t cells fs)
-of_all P t cells fs h =
-    join (of_keys t cells fs ++ of_definitions t cells) (of_rest t cells)
-    (join (of_keys t cells fs) (of_definitions t cells)
-    (join ((no_key t.map ++ no_shift t.map) ++ mixed_keys t fs) (half_defined t cells fs)
-    (join (no_key t.map ++ no_shift t.map) (mixed_keys t fs)
-    (join (no_key t.map) (no_shift t.map)
+pub of_all : (P : Diagnostic → Type 0) (t : Spelled) (cells : List CellInForce) (fs : List Finding) (untyped : List ℕ)
+    → OfEach P t cells fs → All P (all_of t cells fs untyped)
+of_all P t cells fs untyped h =
+    join (of_keys t cells fs untyped ++ of_definitions t cells) (of_rest t cells)
+    (join (of_keys t cells fs untyped) (of_definitions t cells)
+    (join (((no_key t.map ++ cannot_type untyped) ++ no_shift t.map) ++ mixed_keys t fs) (half_defined t cells fs)
+    (join ((no_key t.map ++ cannot_type untyped) ++ no_shift t.map) (mixed_keys t fs)
+    (join (no_key t.map ++ cannot_type untyped) (no_shift t.map)
+    (join (no_key t.map) (cannot_type untyped)
     (all_either (All P) (has_keys t.map) [] (nowhere kinds.NoKey ∷ []) none (all_one P _ h.no_key))
+    (all_either (All P) (is_some_in untyped) (nowhere kinds.CannotType ∷ []) [] (all_one P _ h.cannot_type) none))
     (all_either (All P) (has_keys t.map && not (has_shift t.map)) (nowhere kinds.NoShift ∷ []) []
     (all_one P _ h.no_shift) none))
     (all_flat P _ (mixed_key t) mixed fs h.mixed))
     (all_either (λ o. All P (option_to_list o)) (is_some_in (missing_slots t)) (half_at t _ (find (selects t) cells))
     None halves none))
-    (join ((defined_again t ++ of_letters t) ++ dead_key t cells) (zero_accents t cells)
-    (join (defined_again t ++ of_letters t) (dead_key t cells)
-    (join (defined_again t) (of_letters t)
+    (join ((defined_again t ++ of_letters t cells) ++ dead_key t cells) (zero_accents t cells)
+    (join (defined_again t ++ of_letters t cells) (dead_key t cells)
+    (join (defined_again t) (of_letters t cells)
     (all_flat P (Contains t.definitions) (again t) againby t.definitions (λ k d l. Contains-get_or t.definitions k d l))
-    letters)
+    lettered)
     (all_some P (dead_key_by t) (find (is_missing t) cells) none (λ c e. all_one P _ (h.dead c e))))
     (all_gathered P (zero_accent t cells) 15 zero)))
     (join (pairs_again t ++ unused_half t) (bare_digits t cells)
@@ -160,12 +173,67 @@ of_all P t cells fs h =
         all_some P (λ o. option_to_list (exchanged_by t slot o)) (last_of (Slot slot) t.definitions) none
         (λ p e. all_if_so P (is_exchanged t slot) _ (h.exchanged slot p e))
 
-    letters : All P (of_letters t)
-    letters =
-        join (gap t ++ all_exchanged t) (no_caps t)
-        (join (gap t) (all_exchanged t) (gapped (gaps t)) (all_gathered P (exchanged t) 256 (λ slot low. exchange slot)))
+    by_two : (a : Alphabet) (i missing one other : ℕ) (o q : Option Placed) → last_of (Slot one) t.definitions ≡ o
+        → last_of (Slot other) t.definitions ≡ q → holders t a i ≡ one ∷ other ∷ []
+        → All P (option_to_list (twice_at t a i missing one other o q))
+    by_two a i missing one other (Some p) (Some q) f g e = all_one P _ (h.twice a i missing one other p q e f g)
+    by_two a i missing one other _ _ f g e = none
+
+    in_two : (a : Alphabet) (i missing : ℕ) (slots : List ℕ) → holders t a i ≡ slots
+        → All P (option_to_list (twice_in t a i missing slots))
+    in_two a i missing (one ∷ other ∷ []) e =
+        by_two a i missing one other (last_of (Slot one) t.definitions) (last_of (Slot other) t.definitions) refl refl e
+    in_two a i missing _ e = none
+
+    of_two : (a : Alphabet) (two lacking : List ℕ) → All P (option_to_list (twice_of t a two lacking))
+    of_two a (i ∷ []) (missing ∷ []) = in_two a i missing (holders t a i) refl
+    of_two a _ _ = none
+
+    twices : (a : Alphabet) → All P (twice t a)
+    twices a =
+        all_either (All P) (is_whole t) (option_to_list (twice_by t a (letters t a))) []
+        (all_either (λ o. All P (option_to_list o)) (length (standing (letters t a) 1) == 24)
+        (twice_of t a (standing (letters t a) 2) (standing (letters t a) 0)) None (of_two a _ _) none) none
+
+    octal : (s : Span) (c : ℕ) → All P (octal_at t s c)
+    octal s c = all_if_so P (looks_octal (bytes_at t.text s)) _ (h.octal s c)
+
+    octal_cells : (c : CellInForce) (x : Cell) → All P (octal_by t c x)
+    octal_cells c (Char n) = octal c.span n
+    octal_cells c (Act a) = none
+
+    pair : (first : ℕ) (xs : List (ℕ × ℕ)) (j : ℕ) → j < length xs → All P (octal_pair t first xs j)
+    pair first xs j low =
+        let base = span_at t.spans (first + (4 * j + 3)) in
+        let result = span_at t.spans (first + (4 * j + 4)) in
+        join (octal_at t base (base_at xs j)) (octal_at t result (result_at xs j)) (octal base (base_at xs j))
+        (octal result (result_at xs j))
+
+    octals : (o : Option Placed) (a : Option AccentValue) → All P (octal_in t o a)
+    octals (Some p) (Some a) =
+        join (octal_own t p.first a) (gathered (octal_pair t p.first a.pairs) (length a.pairs))
+        (octal (span_at t.spans (p.first + 1)) a.own)
+        (all_gathered P (octal_pair t p.first a.pairs) (length a.pairs) (pair p.first a.pairs))
+    octals _ _ = none
+
+    lettered : All P (of_letters t cells)
+    lettered =
+        join ((((gap t ++ all_exchanged t) ++ all_twice t) ++ no_control t cells) ++ no_caps t) (all_octal t cells)
+        (join (((gap t ++ all_exchanged t) ++ all_twice t) ++ no_control t cells) (no_caps t)
+        (join ((gap t ++ all_exchanged t) ++ all_twice t) (no_control t cells)
+        (join (gap t ++ all_exchanged t) (all_twice t)
+        (join (gap t) (all_exchanged t) (gapped (gaps t))
+        (all_gathered P (exchanged t) 256 (λ slot low. exchange slot)))
+        (join (twice t Small) (twice t Capital) (twices Small) (twices Capital)))
+        (all_some P (no_control_by (is_above t)) (find (is_concerned t (lost_letters t) (is_above t)) cells) none
+        (λ c e. all_one P _ (h.control c e))))
         (all_either (All P) (is_some_in (small_slots t)) (no_caps_by t (find (is_small_in_force t) t.definitions)) []
-        (all_some P (no_caps_by t) (find (is_small_in_force t) t.definitions) none (λ p e. all_one P _ (h.caps p e))) none)
+        (all_some P (no_caps_by t) (find (is_small_in_force t) t.definitions) none
+        (λ p e. all_one P _ (h.caps p e))) none))
+        (join (flat_map (octal_cell t) cells) (gathered (octal_accent t) 15)
+        (all_flat P (Contains cells) (octal_cell t) (λ c among. octal_cells c (content t c)) cells
+        (λ k d l. Contains-get_or cells k d l))
+        (all_gathered P (octal_accent t) 15 (λ i low. octals (last_of (Accent i) t.definitions) (accent_at t.map i))))
 
     zero : (i : ℕ) → i < 15 → All P (zero_accent t cells i)
     zero i low =

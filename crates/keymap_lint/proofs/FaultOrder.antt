@@ -29,10 +29,10 @@ own_lines (suc limit) text n (f ∷ fs) is =
     search (rules, All-cons, own_lines limit text (line_end text f.fault.offset + 1) fs is.1)
 
 -- numbers that rise, with a lesser one in front
-suc_more : (k : ℕ) → suc (k + 1) ≡ suc k + 1
+pub suc_more : (k : ℕ) → suc (k + 1) ≡ suc k + 1
 suc_more k = omega arith
 
-rises : (x : ℕ) (xs : List ℕ) → (0 < length xs → x < get_or xs 0 0) → IsStrictlyIncreasing xs
+pub rises : (x : ℕ) (xs : List ℕ) → (0 < length xs → x < get_or xs 0 0) → IsStrictlyIncreasing xs
     → IsStrictlyIncreasing (x ∷ xs)
 rises x xs front more zero h = front (omega (arith, h))
 rises x xs front more (suc k) h =
@@ -89,14 +89,14 @@ first_is limit text [] is f e = absurd (cc)
 first_is zero text (g ∷ gs) is f e = absurd (cc)
 first_is (suc limit) text (g ∷ gs) is f e = search rules
 
-pub faults_in_order : (text : List ℕ) (fs : List PlacedFault) → 0 < length fs → AreFaults 20 text 0 fs
+pub faults_in_order : (text : List ℕ) (fs : List PlacedFault) → 0 < length fs → AreFaults 21 text 0 fs
     → AreInOrder text fs
 faults_in_order text fs some is =
-    let rising = in_order 20 text 0 fs is in record {
-      few = few_faults 20 text 0 fs is;
+    let rising = in_order 21 text 0 fs is in record {
+      few = few_faults 21 text 0 fs is;
       some = some;
-      first = first_is 20 text fs is;
-      lines = own_lines 20 text 0 fs is;
+      first = first_is 21 text fs is;
+      lines = own_lines 21 text 0 fs is;
       later = rising.0;
       behind = rising.1;
     }

@@ -169,27 +169,27 @@ has_fault zero text (g ∷ gs) some is = absurd (cc)
 has_fault (suc limit) text (g ∷ gs) some is = (is.0.own.fault, is.0.is_fault)
 
 -- one fault more
-pub faults_more : (text : List ℕ) (n : ℕ) (old fs more : List PlacedFault) (f : PlacedFault) → length old < 20
+pub faults_more : (text : List ℕ) (n : ℕ) (old fs more : List PlacedFault) (f : PlacedFault) → length old < 21
     → fs ≡ old ++ f ∷ []
-    → ((more : List PlacedFault) → AreFaults (20 - length old) text n more → AreFaults 20 text 0 (old ++ more))
-    → IsFaultBehind text n f → AreFaults (20 - length fs) text (line_end text f.fault.offset + 1) more
-    → AreFaults 20 text 0 (fs ++ more)
+    → ((more : List PlacedFault) → AreFaults (21 - length old) text n more → AreFaults 21 text 0 (old ++ more))
+    → IsFaultBehind text n f → AreFaults (21 - length fs) text (line_end text f.fault.offset + 1) more
+    → AreFaults 21 text 0 (fs ++ more)
 faults_more text n old fs more f few e goes is later =
-    let left : 20 - length old ≡ suc (20 - length fs) =
+    let left : 21 - length old ≡ suc (21 - length fs) =
     omega (arith, few, ap length e, length-append old (f ∷ [])) in
-    let there : AreFaults 20 text 0 (old ++ f ∷ more) =
+    let there : AreFaults 21 text 0 (old ++ f ∷ more) =
     goes (f ∷ more) (subst (λ limit. AreFaults limit text n (f ∷ more)) (sym left) (is, later)) in
     let same : old ++ f ∷ more ≡ fs ++ more =
     sym (append_assoc old (f ∷ []) more) ∙ ap (λ t. t ++ more) (sym e) in
-    subst (AreFaults 20 text 0) same there
+    subst (AreFaults 21 text 0) same there
 
 -- no more faults
 pub faults_end : (text : List ℕ) (n : ℕ) (fs : List PlacedFault)
-    → ((more : List PlacedFault) → AreFaults (20 - length fs) text n more → AreFaults 20 text 0 (fs ++ more))
-    → ((m : MapValue) × Spells (drop n text) m) ⊎ (20 ≤ length fs) → AreFaults 20 text 0 fs
-faults_end text n fs goes end = subst (AreFaults 20 text 0) (append-nil fs) (goes [] (go (20 - length fs) refl end))
+    → ((more : List PlacedFault) → AreFaults (21 - length fs) text n more → AreFaults 21 text 0 (fs ++ more))
+    → ((m : MapValue) × Spells (drop n text) m) ⊎ (21 ≤ length fs) → AreFaults 21 text 0 fs
+faults_end text n fs goes end = subst (AreFaults 21 text 0) (append-nil fs) (goes [] (go (21 - length fs) refl end))
   where
-    go : (k : ℕ) → 20 - length fs ≡ k → ((m : MapValue) × Spells (drop n text) m) ⊎ (20 ≤ length fs)
+    go : (k : ℕ) → 21 - length fs ≡ k → ((m : MapValue) × Spells (drop n text) m) ⊎ (21 ≤ length fs)
         → AreFaults k text n []
     go zero e end = refl
     go (suc k) e (inl spelled) = spelled

@@ -1,11 +1,14 @@
 pub mod Common
 pub mod Lists
+pub mod Ways
+pub mod Untyped
 pub mod Missing
 pub mod Tables
 pub mod Named
 pub mod Well
 pub mod Standing
 pub mod Each
+pub mod Told
 pub mod InForce
 pub mod Begun
 pub mod FaultPlaces

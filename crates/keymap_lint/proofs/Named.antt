@@ -4,7 +4,8 @@ use Rattle.keymap_lint.proofs.Common.{get_or, refl, sym, ◌∙◌, ap, subst, a
 use Rattle.keymap_lint.proofs.Common.{range_with_len, true≢false, gathered, Faulty, Slot, Placed, Diagnostic, mixed_key}
 use Rattle.keymap_lint.proofs.Common.{missing_slot, selects, get_or-map-range_with_len, MapValue, last_of, rules}
 use Rattle.keymap_lint.proofs.Common.{Spelled, cell_in, cells_of}
-use Rattle.std.proofs.Common.{◌↔◌, inl, inr}
+use Rattle.std.proofs.Common.{All, inl, inr, ◌⊎◌}
+use Rattle.std.specs.List.{filter}
 use Rattle.std.specs.List.{list_any, Any}
 use Rattle.std.specs.Option.{is_some, option_or, option_to_list}
 use Rattle.std.specs.Prelude.{nat_lt}
@@ -24,7 +25,16 @@ use Rattle.keymap_lint.specs.Types.{Accent, CellInForce}
 use Rattle.keymap_lint.specs.Kinds.{defines, is_mixed, nul_keys, other_slot, missing_slots}
 use Rattle.keymap_lint.specs.Kinds.{selector, selector_of, half_by, half_defined, is_some_in}
 use Rattle.keymap_lint.specs.Lists.{AreOf, spelled_by, all_of}
-use Rattle.keymap_lint.specs.Promises.{names_keys, KeysAreNamedExactlyIfRefused, names_a_key}
+use Rattle.std.proofs.lemmas.List.Quantifiers.{position-Some}
+use Rattle.std.specs.List.{position}
+use Rattle.std.specs.Option.{is_none}
+use Rattle.keymap_lint.specs.Directives.{definition_of, is_told, keeps, told, words, words_of}
+use Rattle.keymap_lint.specs.Promises.{names_keys, KeysAreNamedExactlyIfRefused, NamesEachKey, names_a_key}
+use Rattle.keymap_lint.specs.Severities.{is_error, never_sticks, severity_of}
+use Rattle.keymap_lint.specs.declared.directives.Ignored.{Ignored}
+use Rattle.keymap_lint.specs.declared.diagnostic.Kind.{Kind}
+use Rattle.keymap_lint.specs.declared.diagnostic.Kind.TheVariants as kinds
+use Rattle.keymap_lint.proofs.Told.{no_directives, of_told}
 use Rattle.std.proofs.lemmas.List.Folds.{list_any-append, list_any_at, list_any_none}
 use Rattle.keymap_core.specs.declared.action.Action.{Action}
 use Rattle.keymap_core.specs.Actions.{holding_action}
@@ -179,29 +189,98 @@ half_names t h f fs is mixed =
 
 -- where the check has findings, a diagnostic names a key
 pub finding_names : (t : Spelled) → HasUndefined t → (f : Finding) (fs : List Finding) → IsFinding t.map f
-    → list_any names (all_of t (cells_in_force t) (f ∷ fs)) ≡ true
-finding_names t h f fs is =
-    search (rules, cases_Bool, list_any-append, mixed_names, or-true, half_names)
+    → (untyped : List ℕ) → list_any names (all_of t (cells_in_force t) (f ∷ fs) untyped) ≡ true
+finding_names t h f fs is untyped = elim (cases_Bool (is_mixed t f)) [
+  | inl e ↦ let m = mixed_names t f e in simp (list_any-append, m, or-true)
+  | inr e ↦ let m = half_names t h f fs is e in simp (list_any-append, m, or-true)
+]
 
 -- ---- without findings none does
 
-none_names : (t : Spelled) (cells : List CellInForce) → list_any names (all_of t cells []) ≡ false
-none_names t cells =
-    list_any_none names (all_of t cells []) (of_all (λ d. names d ≡ false) t cells [] (record {
+none_names : (t : Spelled) (cells : List CellInForce) (untyped : List ℕ)
+    → All (λ d. names d ≡ false) (all_of t cells [] untyped)
+none_names t cells untyped =
+    of_all (λ d. names d ≡ false) t cells [] untyped (record {
       no_key = refl;
+      cannot_type = refl;
       no_shift = refl;
       mixed = All-nil _;
       half = λ c s e g. refl;
       again = λ p q among e ne. refl;
       gap = λ first p e. refl;
       exchanged = λ slot p e x. refl;
+      twice = λ a i missing one other p q e f g. refl;
+      control = λ c e. refl;
       caps = λ p e. refl;
+      octal = λ s c e. refl;
       dead = λ c e. refl;
       zero = λ i p e z. refl;
       pair = λ i p a e f j k low less same. refl;
       unused = λ p e. refl;
       digit = λ k c l n e f. refl;
-    }))
+    })
+
+-- ---- behind directives
+
+-- no name comes with what is said of directives
+none_told : (text : List ℕ) (t : Spelled) (never : Bool) (said : List Diagnostic) → All (λ d. names d ≡ false) said
+    → list_any names (told text t never said) ≡ false
+none_told text t never said all =
+    list_any_none names (told text t never said) (of_told (λ d. names d ≡ false) text t never said (record {
+      no_word = λ p l e. refl;
+      no_kinds = λ p l e. refl;
+      unused = λ w l r e. refl;
+      not_ignored = λ w l r e. refl;
+      no_kind = λ w l r e. refl;
+    }) all)
+
+-- what names a key is an error, unless the search answers that no modifier sticks
+pub named_is_error : (k : Kind) → names_a_key k ≡ true → is_error (severity_of false k) ≡ true
+named_is_error kinds.NoKey h = refl
+named_is_error (kinds.MixedKey f c) h = refl
+named_is_error (kinds.HalfDefined s true) h = refl
+named_is_error _ h = absurd (true≢false (sym h))
+
+-- so no word keeps it back
+none_keeps : {X : Type 0} (p : X → Bool) (xs : List X) → ((x : X) → p x ≡ false) → position p xs ≡ None
+none_keeps p [] h = refl
+none_keeps p (x ∷ xs) h = go (position p (x ∷ xs)) refl
+  where
+    go : (o : Option ℕ) → position p (x ∷ xs) ≡ o → position p (x ∷ xs) ≡ None
+    go None e = e
+    go (Some i) e = absurd (true≢false (sym (position-Some p (x ∷ xs) i x e).1 ∙ h (get_or (x ∷ xs) i x)))
+
+named_is_told : (text : List ℕ) (t : Spelled) (never : Bool) (ws : List Ignored) → (never ≡ false) ⊎ (ws ≡ [])
+    → (d : Diagnostic) → names d ≡ true → is_told text t never ws d ≡ true
+unfolding keeps
+named_is_told text t never ws (inr e) d h = ap (λ ws. is_told text t never ws d) e
+named_is_told text t never ws (inl e) d h =
+    ap is_none (none_keeps (keeps text never (definition_of t d) d.kind) ws no)
+  where
+    no : (w : Ignored) → keeps text never (definition_of t d) d.kind w ≡ false
+    no w = rw (e, named_is_error d.kind h) refl
+
+any_filter : {X : Type 0} (p q : X → Bool) → ((x : X) → p x ≡ true → q x ≡ true) → (xs : List X)
+    → list_any p xs ≡ true → list_any p (filter q xs) ≡ true
+any_filter p q h [] e = e
+any_filter {X} p q h (x ∷ xs) e =
+    go (q x) refl (or_cases (p x) (list_any p xs) e) (any_filter p q h xs)
+  where
+    go : (b : Bool) → q x ≡ b → (p x ≡ true) ⊎ (list_any p xs ≡ true)
+        → (list_any p xs ≡ true → list_any p (filter q xs) ≡ true)
+        → list_any p (cond b (x ∷ filter q xs) (filter q xs)) ≡ true
+    go true g (inl s) later = or_left (p x) (list_any p (filter q xs)) s
+    go true g (inr s) later = or_right (p x) (list_any p (filter q xs)) (later s)
+    go false g (inl s) later = absurd (true≢false (sym (h x s) ∙ g))
+    go false g (inr s) later = later s
+
+some_told : (text : List ℕ) (t : Spelled) (never : Bool) (said : List Diagnostic)
+    → (never ≡ false) ⊎ (words text t ≡ []) → list_any names said ≡ true
+    → list_any names (told text t never said) ≡ true
+some_told text t never said keeps_none some =
+    let kept = any_filter names (is_told text t never (words text t))
+    (named_is_told text t never (words text t) keeps_none) said some in
+    simp (list_any-append, kept)
 
 -- ---- a text
 
@@ -225,22 +304,45 @@ unsafe_by m f is safe =
 
 -- of a text's map with these findings
 pub named_exactly : (t : Spelled) → HasUndefined t → (fs : List Finding) → AreFindings t.map fs → (l : Diagnostics)
-    → AreOf t (cells_in_force t) fs l → (names_keys (OfSpelled l) ≡ false) ↔ IsSafe t.map
+    → AreOf t (cells_in_force t) fs l
+    → (IsSafe t.map → names_keys (OfSpelled l) ≡ false)
+    × ((never_sticks l.sticking ≡ false) ⊎ (words t.text t ≡ []) → names_keys (OfSpelled l) ≡ false → IsSafe t.map)
 named_exactly t h fs are l is =
-    go fs are (sym (list_any-IsPermutation names (all_of t (cells_in_force t) fs) l.list.items is.list.same))
+    go fs are (sym (list_any-IsPermutation names (all fs) l.list.items is.list.same))
   where
-    go : (fs : List Finding) → AreFindings t.map fs
-        → names_keys (OfSpelled l) ≡ list_any names (all_of t (cells_in_force t) fs)
-        → (names_keys (OfSpelled l) ≡ false) ↔ IsSafe t.map
-    go [] are same = ((λ e. safe_if_none t.map [] are refl), (λ safe. same ∙ none_names t (cells_in_force t)))
+    said : List Finding → List Diagnostic
+    said fs = all_of t (cells_in_force t) fs l.untyped.items
+
+    all : List Finding → List Diagnostic
+    all fs = told t.text t (never_sticks l.sticking) (said fs)
+
+    go : (fs : List Finding) → AreFindings t.map fs → names_keys (OfSpelled l) ≡ list_any names (all fs)
+        → (IsSafe t.map → names_keys (OfSpelled l) ≡ false)
+        × ((never_sticks l.sticking ≡ false) ⊎ (words t.text t ≡ []) → names_keys (OfSpelled l) ≡ false → IsSafe t.map)
+    go [] are same = (
+      λ safe. same ∙ none_told t.text t (never_sticks l.sticking) (said [])
+          (none_names t (cells_in_force t) l.untyped.items),
+      λ each e. safe_if_none t.map [] are refl,
+    )
     go (f ∷ fs) are same =
-        let is : IsFinding t.map f = All-head (IsFinding t.map) f fs are.each in
-        let named = finding_names t h f fs is in
-        ((λ e. absurd (true≢false (sym named ∙ sym same ∙ e))), (λ safe. absurd (unsafe_by t.map f is safe)))
+        let is : IsFinding t.map f = All-head (IsFinding t.map) f fs are.each in (
+          λ safe. absurd (unsafe_by t.map f is safe),
+          λ each e. absurd (true≢false (sym (some_told t.text t (never_sticks l.sticking) (said (f ∷ fs)) each
+              (finding_names t h f fs is l.untyped.items)) ∙ sym same ∙ e)),
+        )
+
+-- where the text has no directive, no word keeps anything back
+no_words : (text : List ℕ) (t : Spelled) (l : Diagnostics) → NamesEachKey text (OfSpelled l)
+    → (never_sticks l.sticking ≡ false) ⊎ (words text t ≡ [])
+no_words text t l (inl e) = inl e
+no_words text t l (inr h) = inr (ap (flat_map (words_of text)) (no_directives text t h))
 
 pub keys_are_named_exactly_if_refused : KeysAreNamedExactlyIfRefused
 keys_are_named_exactly_if_refused text m (OfSpelled l) spells (n, spelled, (rows, by, (fs, are, is))) =
-    subst (λ m. (names_keys (OfSpelled l) ≡ false) ↔ IsSafe m) (one_map text n m spelled spells)
-    (named_exactly (spelled_by text n rows) (no_slot text n rows by) fs are l is)
+    let t : Spelled = spelled_by text n rows in
+    let both = named_exactly t (no_slot text n rows by) fs are l is in
+    subst (λ m. (IsSafe m → names_keys (OfSpelled l) ≡ false)
+    × (NamesEachKey text (OfSpelled l) → names_keys (OfSpelled l) ≡ false → IsSafe m))
+    (one_map text n m spelled spells) (both.0, (λ each. both.1 (no_words text t l each)))
 keys_are_named_exactly_if_refused text m (Faulty faults) spells (some, are) =
-    let faulty = has_fault 20 text faults.items some are in absurd (not_both text m faulty.0 spells faulty.1)
+    let faulty = has_fault 21 text faults.items some are in absurd (not_both text m faulty.0 spells faulty.1)

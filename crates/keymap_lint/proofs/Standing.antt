@@ -2,11 +2,22 @@
 use Rattle.keymap_lint.proofs.Common.{◌≡◌, ℕ, ◌+◌, ◌<◌, ◌≤◌, Bool, true, false, not, cond, List, length, get_or, refl}
 use Rattle.keymap_lint.proofs.Common.{sym, ◌∙◌, ap, arith, Option, Some, None, find, true≢false, Slot, Placed}
 use Rattle.keymap_lint.proofs.Common.{Faulty, MapValue, last_of, selects, is_missing, rules, Spelled, cell_in}
-use Rattle.std.proofs.Common.{◌*◌, All, nat_lt}
-use Rattle.std.proofs.lemmas.List.Elements.{All-weaker, All-contains, Contains-get_or}
+use Rattle.std.proofs.Common.{◌*◌, All, nat_le, nat_lt}
+use Rattle.std.proofs.Common.{◌-◌, drop, length-drop}
+use Rattle.std.proofs.lemmas.List.{length-take}
+use Rattle.keymap_lint.proofs.Common.{[], ◌∷◌, subst, take}
+use Rattle.keymap_lint.proofs.Lists.{all_passing}
+use Rattle.keymap_core.specs.Actions.{within as is_within}
+use Rattle.keymap_lint.specs.Kinds.{is_the}
+use Rattle.keymap_lint.specs.Alphabets.{column_of, first_of, has_slot, holders, is_above, is_concerned, later}
+use Rattle.keymap_lint.specs.Alphabets.{letter_at, letter_of, lost_letters}
+use Rattle.keymap_lint.specs.declared.alphabet.Alphabet.{Alphabet}
+use Rattle.keymap_lint.specs.declared.alphabet.Alphabet.TheVariants.{Small, Capital, Control, UpperControl}
+use Rattle.keymap_lint.specs.Octal.{looks_octal}
+use Rattle.std.proofs.lemmas.List.Elements.{All-head, All-tail, All-weaker, All-contains, Contains-get_or}
 use Rattle.std.specs.Prelude.{Contains}
 use Rattle.std.specs.Option.{is_some}
-use Rattle.std.proofs.lemmas.Bool.{and_parts}
+use Rattle.std.proofs.lemmas.Bool.{and_parts, cond_both, eqb-true}
 use Rattle.std.proofs.lemmas.Bool.Decides.{nat_tests}
 use Rattle.std.proofs.lemmas.List.Folds.{find_at}
 use Rattle.std.proofs.lemmas.Option.{get_or_from_slice_get, slice_get_within}
@@ -22,6 +33,7 @@ use Rattle.keymap_lint.specs.Kinds.{character_of, selector_of, dead_key_of, live
 use Rattle.keymap_lint.specs.Letters.{is_behind}
 use Rattle.keymap_lint.specs.Lists.{spelled_by, all_of, IsLint}
 use Rattle.keymap_lint.specs.Positions.{SpellsCell, StandsWithin, DiagnosticsStandInTheText, IsWithin, LiesWithin}
+use Rattle.keymap_lint.specs.Positions.{IsCharacterIn, IsControlIn}
 use Rattle.keymap_lint.specs.Positions.{StandsAt, StandsInText, IsHoldingOf, IsExchangedIn, IsMissingDeadKey}
 use Rattle.keymap_lint.specs.Shifted.{is_pair, is_small_in_force}
 use Rattle.keymap_lint.specs.Spelled.{offset_at, cells_in_force, content, is_live}
@@ -31,6 +43,10 @@ use Rattle.keymap_core.specs.declared.action.Lock.TheVariants as lock
 use Rattle.keymap_core.specs.declared.action.Holding.TheVariants as holding
 use Rattle.keymap_lint.proofs.Begun.{again_there, behind_there, replaced, small_there, unused_there, zero_there}
 use Rattle.keymap_lint.proofs.Each.{of_all}
+use Rattle.keymap_lint.proofs.Told.{OfDirectives, of_told}
+use Rattle.keymap_lint.specs.Directives.{told}
+use Rattle.keymap_lint.specs.Severities.{never_sticks}
+use Rattle.keymap_lint.specs.Types.{Diagnostic}
 use Rattle.keymap_lint.proofs.FaultPlaces.{all_lie_within}
 use Rattle.keymap_lint.proofs.InForce.{cells_in_force_are_spelled, in_force_there, spelled_at, within}
 
@@ -54,6 +70,55 @@ pair_characters : (t : Spelled) (x y : Cell) → is_pair t x y ≡ true
 pair_characters t (Char small) (Char capital) e = (refl, refl)
 pair_characters t _ _ e = absurd (true≢false (sym e))
 
+-- a letter's cell is its character
+letter_is : (first i : ℕ) (x : Cell) → is_the i (letter_of first x) ≡ true → x ≡ Char (i + first)
+letter_is first i (Char c) e = go (is_within first (first + 25) c) refl e
+  where
+    go : (b : Bool) → is_within first (first + 25) c ≡ b → is_the i (cond b (Some (c - first)) None) ≡ true
+        → Char c ≡ Char (i + first)
+    go true f e = ap Char (grind (arith, nat_tests, f, e))
+    go false f e = absurd (true≢false (sym e))
+letter_is first i (Act a) e = absurd (true≢false (sym e))
+
+letter_there : (t : Spelled) (a : Alphabet) (i slot : ℕ) → is_the i (letter_at t a slot) ≡ true
+    → cell_at t.map slot (column_of a) ≡ Char (i + first_of a)
+letter_there t a i slot e = go (has_slot a slot) e
+  where
+    go : (b : Bool) → is_the i (cond b (letter_of (first_of a) (cell_at t.map slot (column_of a))) None) ≡ true
+        → cell_at t.map slot (column_of a) ≡ Char (i + first_of a)
+    go true e = letter_is (first_of a) i (cell_at t.map slot (column_of a)) e
+    go false e = absurd (true≢false (sym e))
+
+both_there : (t : Spelled) (a : Alphabet) (i one other : ℕ) → holders t a i ≡ one ∷ other ∷ []
+    → (cell_at t.map one (column_of a) ≡ Char (i + first_of a))
+    × (cell_at t.map other (column_of a) ≡ Char (i + first_of a))
+both_there t a i one other e =
+    let P : ℕ → Type 0 = λ slot. is_the i (letter_at t a slot) ≡ true in
+    let all : All P (one ∷ other ∷ []) =
+    subst (All P) e (all_passing P (λ slot. is_the i (letter_at t a slot)) 256 (λ k low e. e)) in (
+      letter_there t a i one (All-head P one (other ∷ []) all),
+      letter_there t a i other (All-head P other [] (All-tail P one (other ∷ []) all)),
+    )
+
+few_columns : (a : Alphabet) → column_of a < 8
+few_columns Small = omega arith
+few_columns Capital = omega arith
+few_columns Control = omega arith
+few_columns UpperControl = omega arith
+
+control_in : (t : Spelled) (ls : List ℕ) (above : Bool) (c : CellInForce) → is_concerned t ls above c ≡ true
+    → IsControlIn above c
+control_in t ls above c e =
+    let both = and_parts _ _ e in (eqb-true c.column 2 both.0, (and_parts _ _ both.1).0)
+
+-- where digits stand, there is a text
+digits_within : (text : List ℕ) (n place : ℕ) → looks_octal (take n (drop place text)) ≡ true → place ≤ length text
+digits_within text n place e =
+    let bytes = take n (drop place text) in
+    let some : nat_le 2 (length bytes) ≡ true = (and_parts (nat_le 2 (length bytes)) _ e).0 in
+    let few : length bytes ≤ length (drop place text) = rw length-take (omega arith) in
+    grind (arith, nat_tests, some, few, length-drop place text)
+
 -- what holds of all elements holds of the one that is found
 found_has : {X : Type 0} (P : X → Type 0) (p : X → Bool) (xs : List X) → All P xs → (x : X) → find p xs ≡ Some x → P x
 found_has P p xs all x e = search (rules, find_at, get_or_from_slice_get, slice_get_within)
@@ -71,12 +136,13 @@ not_some None e = refl
 not_some (Some x) e = absurd (true≢false (sym e))
 
 all_of_text : (text : List ℕ) (m : MapValue) (rows : List Row) → IsSpelledBy text m rows → (fs : List Finding)
-    → All (IsFinding m) fs
+    → All (IsFinding m) fs → (untyped : List ℕ)
     → All (StandsWithin text (spelled_by text m rows))
-    (all_of (spelled_by text m rows) (cells_in_force (spelled_by text m rows)) fs)
-all_of_text text m rows by fs are =
-    of_all (StandsWithin text t) t cells fs (record {
+    (all_of (spelled_by text m rows) (cells_in_force (spelled_by text m rows)) fs untyped)
+all_of_text text m rows by fs are untyped =
+    of_all (StandsWithin text t) t cells fs untyped (record {
       no_key = ((tt, tt), tt);
+      cannot_type = ((tt, tt), tt);
       no_shift = ((tt, tt), tt);
       mixed = λ k d l p e.
           ((w (p.first + (1 + (get_or fs k d).holding_at.column)), tt), mixed (get_or fs k d) (are k d l) p e);
@@ -101,10 +167,27 @@ all_of_text text m rows by fs are =
             (find-true (is_behind t first) t.definitions p e),
       );
       exchanged = λ slot p e x. ((w (p.first + 1), tt), exchanged slot p e (and_parts (is_live t slot) _ x).1);
+      twice = λ a i missing one other p q e f g. twice a i one other p q (both_there t a i one other e) f g;
+      control = λ c e.
+          let its : SpellsCell text c.span.start (content t c) =
+          found_has IsThere (is_concerned t (lost_letters t) (is_above t)) cells there c e in (
+            (low c.span.start (content t c) its, tt),
+            record {
+              cell = c;
+              in_force = found_in (is_concerned t (lost_letters t) (is_above t)) cells c e;
+              start = refl;
+              spelled = its;
+              one =
+                  control_in t (lost_letters t) (is_above t) c
+                  (find-true (is_concerned t (lost_letters t) (is_above t)) cells c e);
+            },
+          );
       caps = λ p e. (
         (w (p.first + 9), tt),
         small_there text m rows by p (find-true (is_small_in_force t) t.definitions p e),
       );
+      octal = λ s c e.
+          let low = digits_within text (s.end - s.start) s.start e in ((low, low), (refl, (s.end - s.start, e)));
       dead = λ c e.
           let its : SpellsCell text c.span.start (content t c) = found_has IsThere (is_missing t) cells there c e in (
             (low c.span.start (content t c) its, tt),
@@ -157,6 +240,32 @@ all_of_text text m rows by fs are =
     lower : (slot : ℕ) → nat_lt slot 128 ≡ true → slot < 128
     lower slot e = grind (arith, nat_tests, e)
 
+    twice : (a : Alphabet) (i one other : ℕ) (p q : Placed)
+        → (cell_at m one (column_of a) ≡ Char (i + first_of a))
+        × (cell_at m other (column_of a) ≡ Char (i + first_of a))
+        → last_of (Slot one) t.definitions ≡ Some p → last_of (Slot other) t.definitions ≡ Some q
+        → (offset_at t (later p q + (1 + column_of a)) ≤ length text × Unit {0})
+        × StandsAt text t (offset_at t (later p q + (1 + column_of a)))
+        (IsCharacterIn t (column_of a) (i + first_of a))
+    twice a i one other p q are f g =
+        cond_both (nat_lt p.first q.first) q.first p.first
+        (λ n. (offset_at t (n + (1 + column_of a)) ≤ length text × Unit {0})
+        × StandsAt text t (offset_at t (n + (1 + column_of a))) (IsCharacterIn t (column_of a) (i + first_of a)))
+        (λ h. ((w (q.first + (1 + column_of a)), tt), at_slot other q g are.1))
+        (λ h. ((w (p.first + (1 + column_of a)), tt), at_slot one p f are.0))
+      where
+        at_slot : (slot : ℕ) (p : Placed) → last_of (Slot slot) t.definitions ≡ Some p
+            → cell_at m slot (column_of a) ≡ Char (i + first_of a)
+            → StandsAt text t (offset_at t (p.first + (1 + column_of a)))
+            (IsCharacterIn t (column_of a) (i + first_of a))
+        at_slot slot p e is = record {
+          cell = cell_in t slot p.first (column_of a);
+          in_force = in_force_there t slot p e (column_of a) (few_columns a);
+          start = refl;
+          spelled = spelled_at text m rows by slot p e (column_of a) (few_columns a);
+          one = (refl, is);
+        }
+
     exchanged : (slot : ℕ) (p : Placed) → last_of (Slot slot) t.definitions ≡ Some p
         → is_pair t (cell_at m slot 1) (cell_at m slot 0) ≡ true
         → StandsAt text t (offset_at t (p.first + 1))
@@ -199,13 +308,32 @@ all_of_text text m rows by fs are =
     )
     dead_key_there c None g h = absurd (true≢false (sym h))
 
+-- what is said of directives stands at a `#` or at a word of the text
+of_directives_there : (text : List ℕ) (t : Spelled) → OfDirectives (StandsWithin text t) text
+of_directives_there text t = record {
+  no_word = λ p l e. ((omega (arith, l), tt), e);
+  no_kinds = λ p l e. ((omega (arith, l), tt), e);
+  unused = λ w l r e. ((omega (arith, l, r), tt), (refl, l, r, e));
+  not_ignored = λ w l r e. ((omega (arith, l, r), tt), (refl, l, r, e));
+  no_kind = λ w l r e. ((omega (arith, l, r), tt), (refl, l, r, e));
+}
+
 pub diagnostics_stand_in_the_text : DiagnosticsStandInTheText
-diagnostics_stand_in_the_text text (OfSpelled l) (m, spells, (rows, by, (fs, are, is))) = (
-  m,
-  rows,
-  (spells, by, search (rules, All-permutation, all_of_text)),
-)
-diagnostics_stand_in_the_text text (Faulty faults) (some, are) = all_lie_within 20 text 0 faults.items are
+diagnostics_stand_in_the_text text (OfSpelled l) (m, spells, (rows, by, (fs, are, is))) =
+    (m, rows, (spells, by, go))
+  where
+    t : Spelled
+    t = spelled_by text m rows
+
+    said : List Diagnostic
+    said = all_of t (cells_in_force t) fs l.untyped.items
+
+    go : All (StandsWithin text t) l.list.items
+    go =
+        All-permutation (StandsWithin text t) (told text t (never_sticks l.sticking) said) l.list.items is.list.same
+        (of_told (StandsWithin text t) text t (never_sticks l.sticking) said (of_directives_there text t)
+        (all_of_text text m rows by fs are.each l.untyped.items))
+diagnostics_stand_in_the_text text (Faulty faults) (some, are) = all_lie_within 21 text 0 faults.items are
 
 -- what lies within a text
 pub lies_within : (text : List ℕ) (l : Lint) → IsLint text l → LiesWithin text l

@@ -12,7 +12,8 @@ use Rattle.console_core.proofs.Shared.{first_in_force, off_once_quiet, on_only_w
 use Rattle.keymap_lint.specs.Lists.{IsSearched}
 use Rattle.keymap_lint.specs.Promises.{names_a_key, names_keys, WellTextsNeverStick}
 use Rattle.keymap_lint.specs.Severities.{never_sticks, severity_of, is_error, has_error}
-use Rattle.keymap_lint.proofs.Named.{keys_are_named_exactly_if_refused}
+use Rattle.std.proofs.Common.{inl}
+use Rattle.keymap_lint.proofs.Named.{keys_are_named_exactly_if_refused, named_is_error}
 use Rattle.keymap_lint.specs.declared.diagnostic.Kind.TheVariants as kinds
 
 -- under a safe keymap no modifier sticks
@@ -20,13 +21,6 @@ safe_never_sticks : (m : MapValue) → IsSafe m → NeverSticks m
 safe_never_sticks m safe ms h (first, loads) keys none =
     let held : IsSafe (in_force ms h) = subst IsSafe (sym (first_in_force ms h (none refl) ∙ first)) safe in
     (on_only_while_pressed ms h held keys, off_once_quiet ms h held keys)
-
--- what names a key is an error, unless the search answers that no modifier sticks
-named_is_error : (k : Kind) → names_a_key k ≡ true → is_error (severity_of false k) ≡ true
-named_is_error kinds.NoKey h = refl
-named_is_error (kinds.MixedKey f c) h = refl
-named_is_error (kinds.HalfDefined s true) h = refl
-named_is_error _ h = absurd (true≢false (sym h))
 
 none_by : {X : Type 0} (p q : X → Bool) → ((x : X) → q x ≡ true → p x ≡ true) → (xs : List X) → list_any p xs ≡ false
     → list_any q xs ≡ false
@@ -51,7 +45,7 @@ well_texts_never_stick text (Spelled l) (m, spells, (rows, by, (fs, are, is))) w
     quietly never =
         let named = keys_are_named_exactly_if_refused text m (Spelled l) spells
         (m, spells, (rows, by, (fs, are, is))) in
-        safe_never_sticks m (named.0 (none_named l never well))
+        safe_never_sticks m (named.1 (inl never) (none_named l never well))
 
     go : (o : Option Sticking) → l.sticking ≡ o → IsSearched m fs o → NeverSticks m
     go None e s = quietly (ap never_sticks e)

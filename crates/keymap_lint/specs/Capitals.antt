@@ -23,7 +23,7 @@ abbrev pub is_capital_of : ℕ → ℕ → Bool
 is_capital_of small capital = nat_le 97 small && list_any (is_pair_of small capital) LETTERS
 
 abbrev pub is_ascii : ℕ → Bool
-is_ascii c = nat_le c 0x7e
+is_ascii c = nat_le c 0x7f
 
 -- some slot has a character above ASCII without shift or with it
 abbrev pub is_wide_cell : Cell → Bool

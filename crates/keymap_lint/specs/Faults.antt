@@ -40,6 +40,6 @@ AreFaults (suc limit) text n [] = (m : MapValue) × Spells (drop n text) m
 AreFaults (suc limit) text n (f ∷ fs) =
     IsFaultBehind text n f × AreFaults limit text (line_end text f.fault.offset + 1) fs
 
--- how many faults are told of a text
+-- how many faults are found in a text: one more than are told
 abbrev pub fault_limit : ℕ
-fault_limit = 20
+fault_limit = 21

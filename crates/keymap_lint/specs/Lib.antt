@@ -4,6 +4,12 @@ pub mod Capitals
 pub mod Shifted
 pub mod Kinds
 pub mod Letters
+pub mod Alphabets
+pub mod Octal
+pub mod Typed
+pub mod Ways
+pub mod KindNames
+pub mod Directives
 pub mod Faults
 pub mod Lists
 pub mod Promises

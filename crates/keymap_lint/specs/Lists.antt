@@ -16,24 +16,31 @@ use Rattle.keymap_lint.specs.Kinds.{no_key, no_shift, mixed_keys, half_defined, 
 use Rattle.keymap_lint.specs.Kinds.{zero_accents, pairs_again, unused_half, bare_digits, missing_slots, nul_keys}
 use Rattle.keymap_lint.specs.Kinds.{missing_accents, unused_slots}
 use Rattle.keymap_lint.specs.Letters.{gap, gaps}
+use Rattle.keymap_lint.specs.Alphabets.{all_twice, lost_letters, no_control}
+use Rattle.keymap_lint.specs.Directives.{told}
+use Rattle.keymap_lint.specs.Severities.{never_sticks}
+use Rattle.keymap_lint.specs.Octal.{all_octal}
+use Rattle.keymap_lint.specs.Typed.{AreTold, cannot_type}
 use Rattle.keymap_lint.specs.Shifted.{all_exchanged, no_caps, small_slots}
 
 -- what is said of a text that spells a map, kind by kind: of its keys, its definitions and dead keys, and the rest
-abbrev pub of_keys : Spelled → List CellInForce → List Finding → List Diagnostic
-of_keys t cells findings =
-    ((no_key t.map ++ no_shift t.map) ++ mixed_keys t findings) ++ half_defined t cells findings
+abbrev pub of_keys : Spelled → List CellInForce → List Finding → List ℕ → List Diagnostic
+of_keys t cells findings untyped =
+    (((no_key t.map ++ cannot_type untyped) ++ no_shift t.map) ++ mixed_keys t findings)
+    ++ half_defined t cells findings
 
-abbrev pub of_letters : Spelled → List Diagnostic
-of_letters t = (gap t ++ all_exchanged t) ++ no_caps t
+abbrev pub of_letters : Spelled → List CellInForce → List Diagnostic
+of_letters t cells =
+    ((((gap t ++ all_exchanged t) ++ all_twice t) ++ no_control t cells) ++ no_caps t) ++ all_octal t cells
 
 abbrev pub of_definitions : Spelled → List CellInForce → List Diagnostic
-of_definitions t cells = ((defined_again t ++ of_letters t) ++ dead_key t cells) ++ zero_accents t cells
+of_definitions t cells = ((defined_again t ++ of_letters t cells) ++ dead_key t cells) ++ zero_accents t cells
 
 abbrev pub of_rest : Spelled → List CellInForce → List Diagnostic
 of_rest t cells = (pairs_again t ++ unused_half t) ++ bare_digits t cells
 
-abbrev pub all_of : Spelled → List CellInForce → List Finding → List Diagnostic
-all_of t cells findings = (of_keys t cells findings ++ of_definitions t cells) ++ of_rest t cells
+abbrev pub all_of : Spelled → List CellInForce → List Finding → List ℕ → List Diagnostic
+all_of t cells findings untyped = (of_keys t cells findings untyped ++ of_definitions t cells) ++ of_rest t cells
 
 -- The diagnostics in another order: first those without a place, then by their place; those of one place in the order
 -- in which they were.
@@ -47,12 +54,15 @@ abbrev pub IsSearched : MapValue → List Finding → Option Sticking → Type 0
 IsSearched m findings None = length findings ≡ 0
 IsSearched m findings (Some a) = (0 < length findings) × IsAnswer m a
 
--- The diagnostics of a text with these cells in force and these findings, and what they tell of.
+-- The diagnostics of a text with these cells in force and these findings, as its directives leave them, and what they
+-- tell of.
 pub record AreOf (t : Spelled) (cells : List CellInForce) (findings : List Finding) (l : Diagnostics) : Type 0 where
-  pub list : AreOrdered (all_of t cells findings) l.list.items
+  pub list : AreOrdered (told t.text t (never_sticks l.sticking) (all_of t cells findings l.untyped.items)) l.list.items
+  pub untyped : AreTold t.map l.untyped.items
   pub slots : l.missing_slots.items ≡ missing_slots t
   pub keys : l.nul_keys.items ≡ nul_keys t findings
   pub gaps : l.gaps.items ≡ gaps t
+  pub lost : l.lost_letters.items ≡ lost_letters t
   pub small : l.small_slots.items ≡ small_slots t
   pub accents : l.missing_accents.items ≡ missing_accents t cells
   pub unused : l.unused_slots.items ≡ unused_slots t

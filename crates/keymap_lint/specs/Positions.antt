@@ -1,9 +1,10 @@
 -- Where the diagnostics of a text stand, and what stands there.
-use Rattle.std.specs.Prelude.{◌≡◌, ◌≢◌, ℕ, ◌+◌, ◌*◌, ◌-◌, ◌<◌, ◌≤◌, true, List, [], ◌∷◌, All, Contains, length, map}
-use Rattle.std.specs.Prelude.{take, drop, Some, None, IfSome, Ok, ⊤}
+use Rattle.std.specs.Prelude.{◌≡◌, ◌≢◌, ℕ, ◌+◌, ◌*◌, ◌-◌, ◌<◌, ◌≤◌, Bool, true, List, [], ◌∷◌, All, Contains, length}
+use Rattle.std.specs.Prelude.{map}
+use Rattle.std.specs.Prelude.{take, drop, Some, None, IfSome, Ok, ⊤, not, ◌||◌, slice_index}
 use Rattle.keymap_core.specs.declared.action.Action.TheVariants as action
 use Rattle.keymap_lint.specs.Types.{Holding, Cell, Char, Act, Slot, Accent, CellInForce, Finding, Diagnostic}
-use Rattle.keymap_lint.specs.Types.{Defined, Diagnostics, Placed}
+use Rattle.keymap_lint.specs.Types.{Defined, Diagnostics, Placed, Span}
 use Rattle.keymap_lint.specs.Types.{Kind, Lint, Faulty, PlacedFault, Spelled as OfSpelled}
 use Rattle.keymap_core.specs.Actions.{holding_action}
 use Rattle.keymap_core.specs.Maps.{MapValue, cell_at, entry_at}
@@ -16,10 +17,14 @@ use Rattle.keymap_places.specs.Placed.{IsSpelledBy, Row, begins, last_of}
 use Rattle.keymap_text.specs.Rows.{ArePairs}
 use Rattle.keymap_text.specs.declared.words.Item.TheVariants.{Value}
 use Rattle.keymap_text.specs.declared.words.Meaning.TheVariants.{Letter}
+use Rattle.keymap_lint.specs.declared.diagnostic.BadIgnore.TheVariants as bad
 use Rattle.keymap_lint.specs.declared.diagnostic.Kind.TheVariants as kinds
+use Rattle.keymap_lint.specs.KindNames.{may_be_ignored, is_never_ignored}
 use Rattle.keymap_lint.specs.Lists.{IsLint, spelled_by}
+use Rattle.keymap_lint.specs.Alphabets.{in_half}
+use Rattle.keymap_lint.specs.Octal.{looks_octal}
 use Rattle.keymap_lint.specs.Shifted.{is_small}
-use Rattle.keymap_lint.specs.Spelled.{Spelled, cells_in_force, content, is_live, offset_at}
+use Rattle.keymap_lint.specs.Spelled.{Spelled, bytes_at, cells_in_force, content, is_live, offset_at}
 
 -- A token of the text has this place, and is such a one.
 pub record HasToken (text : List ℕ) (place : ℕ) (IsSuch : TokenValue → Type 0) : Type 0 where
@@ -72,6 +77,14 @@ abbrev pub IsExchangedIn : Spelled → ℕ → ℕ → ℕ → CellInForce → T
 IsExchangedIn t slot base shifted c =
     (c.slot ≡ slot) × (c.column ≡ 0) × (content t c ≡ Char base) × (cell_at t.map slot 1 ≡ Char shifted)
 
+-- the character, in this column
+abbrev pub IsCharacterIn : Spelled → ℕ → ℕ → CellInForce → Type 0
+IsCharacterIn t column character c = (c.column ≡ column) × (content t c ≡ Char character)
+
+-- the cell of column 2 of a slot of that half
+abbrev pub IsControlIn : Bool → CellInForce → Type 0
+IsControlIn above c = (c.column ≡ 2) × (in_half above c.slot ≡ true)
+
 abbrev pub IsLockLetter : LockFlag → TokenValue → Type 0
 IsLockLetter flag token = item_of token ≡ Value (Letter flag)
 
@@ -118,6 +131,14 @@ abbrev pub IsPairAgain : List ℕ → Spelled → ℕ → ℕ → ℕ → ℕ �
 IsPairAgain text t i base first place =
     (k : ℕ) × (j : ℕ) × (k < j) × HasPair text t i base k first × HasPair text t i base j place
 
+-- such a word begins at the place
+abbrev pub IsWordOf : List ℕ → (List ℕ → Bool) → Span → ℕ → Type 0
+IsWordOf text is_such word place =
+    (word.start ≡ place) × (word.start ≤ word.end) × (word.end ≤ length text) × (is_such (bytes_at text word) ≡ true)
+
+abbrev pub is_no_kind : List ℕ → Bool
+is_no_kind word = not (may_be_ignored word || is_never_ignored word)
+
 -- what stands at the place of a diagnostic, if it has one: the token or the definition of which it tells
 abbrev pub StandsThere : List ℕ → Spelled → ℕ → Kind → Type 0
 StandsThere text t place (kinds.MixedKey f character) = StandsAt text t place (IsHoldingOf t f character)
@@ -128,18 +149,30 @@ StandsThere text t place (kinds.DefinedAgain what last) = IsReplaced text t what
 StandsThere text t place kinds.Gap = (slot : ℕ) × BeginsAt text t (Slot slot) place
 StandsThere text t place (kinds.Exchanged slot base shifted) =
     StandsAt text t place (IsExchangedIn t slot base shifted)
+StandsThere text t place (kinds.Twice one other column character missing) =
+    StandsAt text t place (IsCharacterIn t column character)
+StandsThere text t place (kinds.NoControl above) = StandsAt text t place (IsControlIn above)
 StandsThere text t place kinds.NoCaps =
     (slot : ℕ) × (is_small t slot ≡ true) × HasToken text place (IsLockLetter (entry_at t.map slot).flag)
+StandsThere text t place (kinds.OctalLike character start octal) =
+    (start ≡ place) × ((n : ℕ) × (looks_octal (take n (drop place text)) ≡ true))
 StandsThere text t place (kinds.ZeroAccent i) = HasCharacter text t i 0 place
 StandsThere text t place (kinds.PairAgain i base first) = IsPairAgain text t i base first place
 StandsThere text t place kinds.UnusedHalf =
     (slot : ℕ) × (key_count ≤ slot) × BeginsInForceAt text t (Slot slot) place
 StandsThere text t place kinds.NoKey = ⊥
+StandsThere text t place kinds.CannotType = ⊥
 StandsThere text t place kinds.NoShift = ⊥
+StandsThere text t place (kinds.UnusedIgnore word) = IsWordOf text may_be_ignored word place
+StandsThere text t place (kinds.BadIgnore (bad.NotIgnored word)) = IsWordOf text is_never_ignored word place
+StandsThere text t place (kinds.BadIgnore (bad.NoKind word)) = IsWordOf text is_no_kind word place
+StandsThere text t place (kinds.BadIgnore bad.NoKinds) = slice_index text place ≡ 35
+StandsThere text t place (kinds.BadIgnore bad.NoWord) = slice_index text place ≡ 35
 
 -- the further places that a diagnostic tells
 abbrev pub TellsWithin : List ℕ → Kind → Type 0
 TellsWithin text (kinds.DefinedAgain what last) = last ≤ length text
+TellsWithin text (kinds.OctalLike character start octal) = start ≤ length text
 TellsWithin text (kinds.PairAgain a base first) = first ≤ length text
 TellsWithin text k = ⊤
 

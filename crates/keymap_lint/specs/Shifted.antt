@@ -1,5 +1,6 @@
 -- Which diagnostics a text has on the letters that shift and caps lock give.
-use Rattle.std.specs.Prelude.{ℕ, ◌+◌, Bool, true, false, ◌&&◌, ◌||◌, not, if◌then◌else◌, List, [], ◌∷◌, Option, Some, None}
+use Rattle.std.specs.Prelude.{ℕ, ◌+◌, Bool, true, false, ◌&&◌, ◌||◌, not, if◌then◌else◌, List, [], ◌∷◌, Option, Some}
+use Rattle.std.specs.Prelude.{None}
 use Rattle.std.specs.Prelude.{find}
 use Rattle.std.specs.Option.{option_to_list}
 use Rattle.keymap_core.specs.Below.{gathered, passed}

@@ -1,6 +1,6 @@
 -- A text that spells a map: its definitions, the cells that count, and where they stand.
-use Rattle.std.specs.Prelude.{◌≡◌, ℕ, ◌+◌, ◌==◌, Bool, false, ◌||◌, nat_lt, if◌then◌else◌, List, [], map}
-use Rattle.std.specs.Prelude.{slice_index_or, Option, Some, None, All}
+use Rattle.std.specs.Prelude.{◌≡◌, ℕ, ◌+◌, ◌-◌, ◌==◌, Bool, false, ◌||◌, nat_lt, if◌then◌else◌, List, [], map}
+use Rattle.std.specs.Prelude.{slice_index_or, take, drop, Option, Some, None, All}
 use Rattle.std.specs.List.{flat_map, range_with_len}
 use Rattle.keymap_core.specs.Maps.{MapValue, cell_at}
 use Rattle.keymap_lint.specs.Types.{Cell, Span, Defined, Slot, Accent, Placed, CellInForce}
@@ -22,6 +22,10 @@ span_at spans n = slice_index_or spans n (record { start = 0; end = 0 })
 
 abbrev pub offset_at : Spelled → ℕ → ℕ
 offset_at t n = (span_at t.spans n).start
+
+-- the bytes of a span
+abbrev pub bytes_at : List ℕ → Span → List ℕ
+bytes_at text s = take (s.end - s.start) (drop s.start text)
 
 -- the definition is the last one of what it defines
 abbrev pub is_last : Placed → Option Placed → Bool

@@ -113,7 +113,7 @@ pub(crate) fn is_capital_of(small: char, capital: char) -> bool
 pub(crate) fn is_ascii(c: char) -> bool
     ensures { result ≡ spec.is_ascii c }
 {
-    c <= '\u{7e}'
+    c <= '\u{7f}'
 }
 
 fn is_wide_cell(content: &Cell) -> bool

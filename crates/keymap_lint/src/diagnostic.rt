@@ -1,6 +1,7 @@
 //! What is said of a text, as values.
 ghost use Rattle.std.specs.Prelude.{◌≡◌, ◌++◌, OnOk};
 ghost use Rattle.std.specs.Option.{option_to_list};
+ghost use Rattle.keymap_lint.specs.KindNames.{kind_name};
 ghost use Rattle.keymap_lint.specs.Severities as spec;
 
 use arrayvec::ArrayVec;
@@ -8,7 +9,7 @@ use console_states::Sticking;
 use keymap_check::Finding;
 use keymap_core::{ACCENT_LIMIT, Holding, KEY_COUNT, SLOT_LIMIT};
 use keymap_places::{Defined, FaultPlace};
-use keymap_text::TextFault;
+use keymap_text::{Span, TextFault};
 use std::alloc::AllocError;
 
 /// How serious a diagnostic is: `kmap lint` fails where a text has an error, and not for warnings.
@@ -24,6 +25,9 @@ pub enum Severity {
 pub enum Kind {
     /// The text defines no slot. It has no place.
     NoKey,
+    /// Keys type 40 of the 52 letters A to Z and a to z at least, and not all characters from 0x20 to 0x7e: those that
+    /// they don't are `Diagnostics::untyped`. It has no place.
+    CannotType,
     /// The text defines a slot, and no live cell is lshift or rshift. It has no place.
     NoShift,
     /// A key has a modifier or lock and a character, both in slots that the text defines. It stands at the cell of the
@@ -48,8 +52,8 @@ pub enum Kind {
         last: usize,
     },
     /// The text defines at least 40 of the 48 slots of the main block, and not all: those that it doesn't define are
-    /// `Diagnostics::gaps`. It stands at the first definition of a slot below 128 that is greater than the first of them,
-    /// or else at that of the greatest one.
+    /// `Diagnostics::gaps`. It stands at the first definition of a slot below 128 that is greater than the first of
+    /// them, or else at that of the greatest one.
     Gap,
     /// A live slot gives the capital of a letter without shift, and the letter with it. It stands at the cell of column
     /// 0.
@@ -58,9 +62,34 @@ pub enum Kind {
         base: char,
         shifted: char,
     },
+    /// In a column of the main block one letter stands in two slots, another one in none, and each other one in one: of
+    /// a to z in column 0, of A to Z in column 1. It stands at the cell of the later definition.
+    Twice {
+        /// The two slots, the lesser one first.
+        one: u8,
+        other: u8,
+        column: u8,
+        character: char,
+        missing: char,
+    },
+    /// Control types no control character of letters: these are `Diagnostics::lost_letters`. It stands at the first
+    /// cell of column 2 of a slot of one of them.
+    NoControl {
+        /// It doesn't while ashift or alock is on, and does else.
+        is_above: bool,
+    },
     /// Some key is caps lock, and of the letters of live slots it makes no capitals: these are
     /// `Diagnostics::small_slots`. It stands at the first lock letter of such a slot.
     NoCaps,
+    /// A character that is spelled by two or more decimal digits, the first of which is 0: in a cell, or as the
+    /// character, a base or a result of an accent.
+    OctalLike {
+        character: char,
+        /// The offset of its digits.
+        start: usize,
+        /// The number that they are as octal digits, where they may be and it is another one.
+        octal: Option<u32>,
+    },
     /// Live cells are dead keys of accents that the text doesn't define: these are `Diagnostics::missing_accents`. It
     /// stands at the first such cell.
     DeadKey {
@@ -85,6 +114,27 @@ pub enum Kind {
     BareDigit {
         character: char,
     },
+    /// A kind of a directive that keeps nothing back. It stands at this word.
+    UnusedIgnore {
+        word: Span,
+    },
+    /// A directive, or a word of one, that is wrong.
+    BadIgnore {
+        wrong: BadIgnore,
+    },
+}
+
+/// What is wrong with a directive.
+#[derive(Clone, Copy, Debug, PartialEq, Eq)]
+pub enum BadIgnore {
+    /// The word is no kind. It stands at this word.
+    NoKind(Span),
+    /// The word is a kind that can't be ignored. It stands at this word.
+    NotIgnored(Span),
+    /// No kind stands behind `ignore` or `ignore-text`. It stands at the `#`.
+    NoKinds,
+    /// Neither of these words stands behind `kmap:`. It stands at the `#`.
+    NoWord,
 }
 
 /// A diagnostic: what is said, and the offset of its place in the text, if it has one.
@@ -99,12 +149,17 @@ pub struct Diagnostic {
 #[derive(Debug, Drop)]
 pub struct Diagnostics {
     pub list: Vec<Diagnostic>,
+    /// The characters from 0x20 to 0x7e that no keys type, where there is a `CannotType`.
+    pub untyped: ArrayVec<u8, KEY_COUNT>,
     /// The slots that the text doesn't define though it defines the other slot of their key, 128 apart.
     pub missing_slots: ArrayVec<u8, SLOT_LIMIT>,
     /// The keys that have a modifier or lock and, in a slot that the text doesn't define, a character.
     pub nul_keys: ArrayVec<u8, KEY_COUNT>,
     /// The slots of the main block that the text doesn't define: those of letters, digits, punctuation and space bar.
     pub gaps: ArrayVec<u8, KEY_COUNT>,
+    /// The letters a to z whose control character control doesn't type; those of the slots from 128 on also where the
+    /// text defines none of their slots, of which there is no diagnostic.
+    pub lost_letters: ArrayVec<u8, KEY_COUNT>,
     /// The live slots with a letter and its capital, whose lock letter is O or N.
     pub small_slots: ArrayVec<u8, SLOT_LIMIT>,
     /// The accents that the text doesn't define though a live cell is their dead key.
@@ -132,6 +187,12 @@ pub enum Lint {
     Spelled(Diagnostics),
 }
 
+pub(crate) fn never_sticks(sticking: &Option<Sticking>) -> bool
+    ensures { result ≡ spec.never_sticks sticking.now }
+{
+    matches!(sticking, Some(Sticking::Never))
+}
+
 fn error_unless(is_mild: bool) -> Severity
     ensures { result ≡ spec.error_unless is_mild }
 {
@@ -154,6 +215,34 @@ impl Kind {
             _ => Severity::Warning,
         }
     }
+
+    /// The name of the kind.
+    #[tactic(auto, unfolding(crate::specs::KindNames::kind_name))]
+    pub fn name(&self) -> &'static [u8]
+        ensures { result.now ≡ kind_name self.now }
+    {
+        match self {
+            Kind::NoKey => b"no-key",
+            Kind::CannotType => b"cannot-type",
+            Kind::NoShift => b"no-shift",
+            Kind::MixedKey { .. } => b"mixed-key",
+            Kind::HalfDefined { .. } => b"half-defined",
+            Kind::DefinedAgain { .. } => b"defined-again",
+            Kind::Gap => b"gap",
+            Kind::Exchanged { .. } => b"exchanged",
+            Kind::Twice { .. } => b"twice",
+            Kind::NoControl { .. } => b"no-control",
+            Kind::NoCaps => b"no-caps",
+            Kind::OctalLike { .. } => b"octal-like",
+            Kind::DeadKey { .. } => b"dead-key",
+            Kind::ZeroAccent { .. } => b"zero-accent",
+            Kind::PairAgain { .. } => b"pair-again",
+            Kind::UnusedHalf => b"unused-half",
+            Kind::BareDigit { .. } => b"bare-digit",
+            Kind::UnusedIgnore { .. } => b"unused-ignore",
+            Kind::BadIgnore { .. } => b"bad-ignore",
+        }
+    }
 }
 
 impl Severity {
@@ -169,7 +258,7 @@ impl Diagnostics {
     pub fn never_sticks(&self) -> bool
         ensures { result ≡ spec.never_sticks self.now.sticking }
     {
-        matches!(&self.sticking, Some(Sticking::Never))
+        never_sticks(&self.sticking)
     }
 
     fn has_error(&self) -> bool

@@ -10,8 +10,8 @@ use keymap_places::{DefinitionStart, FaultPlace, wanted_at_fault};
 use keymap_text::{TextError, TextFault, line_end, read_map};
 use std::alloc::{AllocError, Global};
 
-/// How many faults of a text are told.
-const FAULT_LIMIT: usize = 20;
+/// How many faults of a text are found: one more than are told, so that it can be said that more follow.
+const FAULT_LIMIT: usize = 21;
 
 /// What is wanted at the fault of what stands behind so many bytes of a text.
 fn wanted_behind(text: &[u8], start: usize) -> FaultPlace

@@ -14,7 +14,7 @@ use keymap_core::{KEY_COUNT, push_if};
 use keymap_places::{Defined, Placed};
 
 /// The number behind the slots of the main block.
-pub(crate) const MAIN_END: u8 = 58;
+const MAIN_END: u8 = 58;
 
 /// Whether the slot is one of the main block: the keys of letters, digits and punctuation that each board has, and the
 /// space bar.
@@ -47,7 +47,15 @@ fn left_out(text: &SpelledText) -> ArrayVec<u8, KEY_COUNT>
     slots
 }
 
-/// The slots of the main block that the text doesn't define, where it defines 40 of the 48 at least; in ascending order.
+/// Whether the text defines 40 slots of the main block at least, and so isn't a part of a keymap.
+pub(crate) fn is_whole(text: &SpelledText) -> bool
+    ensures { result ≡ spec.is_whole text.now }
+{
+    left_out(text).len() <= 8
+}
+
+/// The slots of the main block that the text doesn't define, where it defines 40 of the 48 at least; in ascending
+/// order.
 pub(crate) fn gaps(text: &SpelledText) -> ArrayVec<u8, KEY_COUNT>
     ensures { result.items ≡ spec.gaps text.now }
 {

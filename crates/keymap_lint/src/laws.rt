@@ -11,7 +11,7 @@ pub fn well_texts_never_stick()
 {}
 
 /// A text that spells an accepted keymap has no `MixedKey`, and no `HalfDefined` that names keys; one that spells a
-/// refused keymap has one of them.
+/// refused keymap has one of them, unless no modifier ever stays on and directives keep them back.
 pub fn keys_are_named_exactly_if_refused()
     ensures { KeysAreNamedExactlyIfRefused }
 {}
@@ -24,14 +24,15 @@ pub fn cells_in_force_are_spelled()
 
 /// Each diagnostic that has a place stands within the text, and so do the further places that it tells. A `MixedKey`
 /// stands at a token that is its modifier or lock, a `HalfDefined` at its selector, a `DeadKey` at a dead key, and a
-/// `BareDigit` at its character; a `DefinedAgain` and an `UnusedHalf` where a definition begins, a `ZeroAccent` at the
-/// character, and a `PairAgain` at its parenthesis.
+/// `BareDigit` at its character; a `Twice` at the letter, a `NoControl` at a cell of column 2, and an `OctalLike` at its
+/// digits; a `DefinedAgain` and an `UnusedHalf` where a definition begins, a `ZeroAccent` at the
+/// character, and a `PairAgain` at its parenthesis. What is said of directives stands at a word or at a `#`.
 #[tactic(auto, using(crate::proofs::Standing::diagnostics_stand_in_the_text))]
 pub fn diagnostics_stand_in_the_text()
     ensures { DiagnosticsStandInTheText }
 {}
 
-/// Of a text with a fault there are 20 faults at most. The first one is the fault of the text, and each other one
+/// Of a text with a fault there are 21 faults at most. The first one is the fault of the text, and each other one
 /// stands in a later line than the one before it.
 #[tactic(auto, using(crate::proofs::FaultOrder::faults_are_in_order))]
 pub fn faults_are_in_order()

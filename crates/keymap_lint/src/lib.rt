@@ -7,6 +7,7 @@
 //! the diagnostics that the definitions say, each at its place, those without a place first and then by place.
 #![tactic(auto)]
 
+mod alphabet;
 mod bare_digit;
 mod capitals;
 mod cells;
@@ -14,21 +15,28 @@ mod collect;
 mod dead_key;
 mod defined_again;
 mod diagnostic;
+mod directives;
 mod exchanged;
 mod faults;
 mod gap;
 mod half_defined;
+mod ignored;
 pub mod laws;
 mod lint;
 mod mixed_key;
 mod no_caps;
+mod no_control;
 mod no_key;
 mod no_shift;
+mod octal_like;
 mod order;
 mod pair_again;
 mod spelled;
+mod twice;
+mod typed;
 mod unused_half;
 mod zero_accent;
 
-pub use diagnostic::{Diagnostic, Diagnostics, Kind, Lint, PlacedFault, Severity};
+pub use diagnostic::{BadIgnore, Diagnostic, Diagnostics, Kind, Lint, PlacedFault, Severity};
 pub use lint::diagnostics;
+pub use spelled::bytes_at;

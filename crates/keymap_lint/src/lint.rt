@@ -6,6 +6,8 @@ ghost use Rattle.keymap_text.specs.Meaning.{Spells};
 ghost use Rattle.keymap_lint.specs.Spelled.{AreDefined};
 ghost use Rattle.keymap_places.specs.Placed.{StandsAmong};
 ghost use Rattle.keymap_lint.specs.Kinds.{half_defined as half_defined_of};
+ghost use Rattle.keymap_lint.specs.Directives.{told};
+ghost use Rattle.keymap_lint.specs.Severities.{never_sticks as never_sticks_of};
 ghost use Rattle.keymap_lint.specs.Lists.{IsSearched, AreOrdered, all_of, spelled_with, AreOf, AreOfSpelled};
 ghost use Rattle.keymap_lint.specs.Lists.{AreOfMap, IsLint};
 ghost use Rattle.keymap_lint.specs.Positions.{LiesWithin};
@@ -13,14 +15,17 @@ ghost use Rattle.keymap_lint.specs.Positions.{LiesWithin};
 use crate::cells::{CellInForce, cells_in_force};
 use crate::collect::collect;
 use crate::dead_key::missing_accents;
-use crate::diagnostic::{Diagnostic, Diagnostics, Lint};
+use crate::diagnostic::{Diagnostic, Diagnostics, Lint, never_sticks};
 use crate::faults::faults;
 use crate::gap::gaps;
 use crate::half_defined::{half_defined, missing_slots};
+use crate::ignored::directed;
 use crate::mixed_key::nul_keys;
 use crate::no_caps::small_slots;
+use crate::no_control::lost_letters;
 use crate::order::put_in_order;
 use crate::spelled::SpelledText;
+use crate::typed::untyped_of;
 use crate::unused_half::unused_slots;
 use console_states::{Sticking, sticking};
 use keymap_check::{Finding, check};
@@ -39,21 +44,25 @@ fn search(alloc: Global, map: &KeyMap, findings: &[Finding]) -> Result<Option<St
     Ok(Some(sticking(alloc, map)?))
 }
 
-/// All that is said of the text, in its order.
+/// All that is told of the text, in its order.
 fn ordered(
     alloc: Global,
     text: &SpelledText,
     cells: &[CellInForce],
     findings: &[Finding],
     half: Option<Diagnostic>,
+    untyped: &[u8],
+    sticking: &Option<Sticking>,
 ) -> Result<Vec<Diagnostic>, AllocError>
     requires half { option_to_list half ≡ half_defined_of text.now cells.now findings.now }
     requires defined { AreDefined text.now }
-    ensures { IfOk result (λ found. AreOrdered (all_of text.now cells.now findings.now) found.items) }
+    ensures { IfOk result (λ list. AreOrdered (told text.now.text text.now (never_sticks_of sticking.now)
+        (all_of text.now cells.now findings.now untyped.now)) list.items) }
 {
-    let mut found = collect(alloc, text, cells, findings, half)?;
-    put_in_order(&mut found)?;
-    Ok(found)
+    let found = collect(alloc, text, cells, findings, half, untyped)?;
+    let mut told = directed(alloc, text, never_sticks(sticking), &found)?;
+    put_in_order(&mut told)?;
+    Ok(told)
 }
 
 /// The diagnostics of a text with these cells in force and these findings.
@@ -70,13 +79,24 @@ fn lint_with(
     let missing_slots = missing_slots(text);
     let nul_keys = nul_keys(text, findings);
     let half = half_defined(text, cells, missing_slots.len() > 0, nul_keys.len() > 0);
-    let list = ordered(alloc, text, cells, findings, half)?;
+    let untyped = untyped_of(alloc, text.map())?;
     let sticking = search(alloc, text.map(), findings)?;
+    let list = ordered(
+        alloc,
+        text,
+        cells,
+        findings,
+        half,
+        untyped.as_slice(),
+        &sticking,
+    )?;
     Ok(Diagnostics {
         list,
+        untyped,
         missing_slots,
         nul_keys,
         gaps: gaps(text),
+        lost_letters: lost_letters(text),
         small_slots: small_slots(text),
         missing_accents: missing_accents(text, cells),
         unused_slots: unused_slots(text),

@@ -6,7 +6,8 @@ ghost use Rattle.keymap_core.specs.Maps.{cell_at};
 ghost use Rattle.keymap_lint.specs.Capitals.{is_sure as is_sure_of};
 ghost use Rattle.keymap_places.specs.Placed.{last_of, HasIndex};
 ghost use Rattle.keymap_lint.specs.Types.{Slot, Accent};
-ghost use Rattle.keymap_lint.specs.Spelled.{HasLast, span_at, offset_at, is_in_force as is_in_force_in};
+ghost use Rattle.keymap_lint.specs.Spelled.{bytes_at as bytes_at_span, HasLast, span_at, offset_at};
+ghost use Rattle.keymap_lint.specs.Spelled.{is_in_force as is_in_force_in};
 ghost use Rattle.keymap_lint.specs.Kinds.{defines as defines_slot, is_defined};
 ghost use Rattle.keymap_lint.specs.Spelled.{content as content_of, is_live as is_live_in};
 
@@ -46,6 +47,25 @@ impl<'t> Model for SpelledText<'t> {
 
     ghost invariant = { λ t. HasLast t.last.now t.definitions.now
         × (t.is_upper_live ≡ is_upper_live_of t.map.now) × (t.is_sure ≡ is_sure_of t.map.now t.text.now) };
+}
+
+/// The bytes of a span; those of it that the text has.
+pub fn bytes_at(text: &[u8], span: Span) -> &[u8]
+    ensures { result.now ≡ bytes_at_span text.now span }
+{
+    let behind = &text[span.start.min(text.len())..];
+    let len = span.end.saturating_sub(span.start);
+    &behind[..len.min(behind.len())]
+}
+
+/// What stands in a slot and column of a map.
+pub(crate) fn cell_in(map: &KeyMap, slot: u8, column: u8) -> Cell
+    ensures { result ≡ cell_at map.now slot column }
+{
+    match map.entry(slot).cells().get(column as usize) {
+        Some(content) => *content,
+        None => Cell::Char('\0'),
+    }
 }
 
 impl<'t> SpelledText<'t> {
@@ -113,10 +133,7 @@ impl<'t> SpelledText<'t> {
     pub(crate) fn cell(&self, slot: u8, column: u8) -> Cell
         ensures { result ≡ cell_at self.now.map slot column }
     {
-        match self.map.entry(slot).cells().get(column as usize) {
-            Some(content) => *content,
-            None => Cell::Char('\0'),
-        }
+        cell_in(self.map, slot, column)
     }
 
     /// What stands in the cell.
@@ -135,6 +152,20 @@ impl<'t> SpelledText<'t> {
         } else {
             Span { start: 0, end: 0 }
         }
+    }
+
+    /// The text itself.
+    pub(crate) fn text(&self) -> &[u8]
+        ensures { result.now ≡ self.now.text }
+    {
+        self.text
+    }
+
+    /// Where the tokens stand.
+    pub(crate) fn spans(&self) -> &[Span]
+        ensures { result.now ≡ self.now.spans }
+    {
+        self.spans
     }
 
     /// The offset at which that token begins.

@@ -6,11 +6,11 @@ pub use Rattle.keymap_core.specs.declared.action.Modifier.{Modifier}
 pub use Rattle.keymap_lint.specs.declared.diagnostic.Diagnostic.{Diagnostic}
 pub use Rattle.keymap_lint.specs.declared.diagnostic.Diagnostics.{Diagnostics}
 pub use Rattle.keymap_lint.specs.declared.diagnostic.Severity.{Severity}
+unfoldable pub use Rattle.keymap_lint.specs.KindNames.{kind_name}
 pub use Rattle.keymap_lint_text.specs.Excerpt.{below, lines_of}
 unfoldable pub use Rattle.keymap_lint_text.specs.Excerpt.{excerpt}
 pub use Rattle.keymap_lint_text.specs.Heads.{Remark, Said, head, place_text, printed, printed_of, remark, said_text}
 pub use Rattle.keymap_lint_text.specs.Names.{is_noted}
-unfoldable pub use Rattle.keymap_lint_text.specs.Names.{kind_text}
 pub use Rattle.keymap_names.specs.Shown.{IsLine, IsPlainText, IsSeen, ended, is_shown_byte, lines_text}
 pub use Rattle.keymap_names.specs.Shown.{shown_char}
 unfoldable pub use Rattle.keymap_names.specs.Shown.{shown_chars, shown_name}

@@ -1,12 +1,13 @@
 -- Each remark has one head, and no other line begins without blanks.
 use Rattle.keymap_lint_text.proofs.Common.{◌≡◌, ℕ, Bool, false, List, [], ◌∷◌, ◌++◌, codes, refl, ap, sym, subst, ◌∙◌}
-use Rattle.keymap_lint_text.proofs.Common.{append_assoc, Option, Some, None, decimal, length, map, ◌+◌, if◌then◌else◌}
+use Rattle.keymap_lint_text.proofs.Common.{append-nil, append_assoc, Option, Some, None, decimal, length, map, ◌+◌}
+use Rattle.keymap_lint_text.proofs.Common.{if◌then◌else◌}
 use Rattle.keymap_lint_text.proofs.Common.{flat_map, flat_map-append, All-nil, All-cons, All-append, Diagnostic}
 use Rattle.keymap_lint_text.proofs.Common.{Diagnostics, before_in_line, line, TextFaultKind, excerpt}
 use Rattle.keymap_lint_text.proofs.Common.{Said, Remark, remark, head, place_text, said_text, printed, is_noted}
 use Rattle.keymap_lint_text.proofs.Common.{ended, shown_name, IsLine, IsPlainText, answer, judged, of_diagnostic}
 use Rattle.keymap_lint_text.proofs.Common.{arith, beginning, of_fault}
-use Rattle.std.specs.Prelude.{◌&&◌, nat_lt}
+use Rattle.std.specs.Prelude.{◌&&◌, nat_lt, take, IfSome}
 use Rattle.std.specs.List.{All, filter}
 use Rattle.std.proofs.lemmas.List.Elements.{All-head, All-tail, filter-append}
 use Rattle.std.proofs.lemmas.Bool.{cond_both}
@@ -20,12 +21,14 @@ use Rattle.keymap_places.specs.LineOf.{rest_of_line}
 use Rattle.keymap_places.specs.declared.wanted.DefinitionStart.{DefinitionStart}
 use Rattle.keymap_lint_text.specs.Heads.{below}
 use Rattle.keymap_lint_text.specs.Promises.{is_indented, is_flush, HasHeads, is_judged, diagnostics}
-use Rattle.keymap_lint_text.specs.Promises.{place_or_beginning}
+use Rattle.keymap_lint_text.specs.Promises.{judged_faults}
+use Rattle.keymap_lint_text.specs.Told.{place_or_beginning}
 use Rattle.keymap_lint_text.specs.Notes.{begins_text}
-use Rattle.keymap_lint_text.specs.Whole.{IsLintText, fault_remark, remarks, tells_beginning}
-use Rattle.keymap_names.proofs.Shared.{ascii, name_line}
+use Rattle.keymap_lint_text.specs.Whole.{IsLintText, fault_remark, first_hint, hinted, hinted_remark, more_faults}
+use Rattle.keymap_lint_text.specs.Whole.{of_first, remarks, tells_beginning, told_faults}
+use Rattle.keymap_names.proofs.Shared.{ascii, line_none, name_line, ◌⊳◌}
 use Rattle.keymap_lint_text.proofs.Lines.{IsSaid, excerpt_lines, fault_name_line, head_line, kind_line, sticks_line}
-use Rattle.keymap_lint_text.proofs.Messages.{begins_line, fault_line, message_line}
+use Rattle.keymap_lint_text.proofs.Messages.{begins_line, fault_line, hint_line, message_line}
 
 -- what stands behind the file and a colon
 abbrev pub behind : List ℕ → ℕ → List ℕ
@@ -120,16 +123,34 @@ beginning_said text place kind (Some d) =
     said_if (tells_beginning kind && nat_lt (line text d.offset) (line text place)) (note ∷ [])
     (said_cons note [] (begins_line d.what) said_none)
 
+hinted_said : (text told : List ℕ) (f : PlacedFault) → IsLine told → AreSaid (hinted text told f)
+hinted_said text told f p =
+    said_cons (hinted_remark text told f) _
+    (fault_name_line f.fault.kind, fault_line text f.fault.offset f.fault.kind f.place ⊳ p)
+    (beginning_said text f.fault.offset f.fault.kind f.place.definition)
+
 faults_said : (text : List ℕ) (fs : List PlacedFault) → AreSaid (flat_map (of_fault text) fs)
 faults_said text [] = said_none
 faults_said text (f ∷ fs) =
     All-append (λ (e : Remark). IsSaid e.said) (of_fault text f) (flat_map (of_fault text) fs)
-    (said_cons (fault_remark text f) _
-    (fault_name_line f.fault.kind, fault_line text f.fault.offset f.fault.kind f.place)
-    (beginning_said text f.fault.offset f.fault.kind f.place.definition)) (faults_said text fs)
+    (hinted_said text [] f line_none) (faults_said text fs)
+
+first_said : (text : List ℕ) (fs : List PlacedFault) (told : Option (List ℕ)) → IfSome told IsLine
+    → AreSaid (of_first text fs told)
+first_said text [] told p = said_none
+first_said text (f ∷ fs) None p =
+    All-append (λ (e : Remark). IsSaid e.said) (flat_map (of_fault text) (take told_faults (f ∷ fs)))
+    (more_faults (f ∷ fs)) (faults_said text (take told_faults (f ∷ fs)))
+    (said_if (nat_lt told_faults (length (f ∷ fs))) _ (said_cons _ [] (ascii _ refl) said_none))
+first_said text (f ∷ fs) (Some told) p = hinted_said text told f p
+
+hint_said : (text : List ℕ) (fs : List PlacedFault) → IfSome (first_hint text fs) IsLine
+hint_said text [] = tt
+hint_said text (f ∷ fs) = hint_line text f
 
 all_said : (text : List ℕ) (l : Lint) → AreSaid (remarks text l)
-all_said text (Faulty faults) = faults_said text faults.items
+all_said text (Faulty faults) =
+    first_said text faults.items (first_hint text faults.items) (hint_said text faults.items)
 all_said text (Spelled l) = each_said text l l.list.items
 
 pub lint_headed : (file text : List ℕ) (l : Lint) (bytes : List ℕ) → IsLintText file text l bytes
@@ -174,6 +195,22 @@ faults_judged text (f ∷ fs) =
     let noted = beginning_noted text f.fault.offset f.fault.kind f.place.definition in
     cc (filter-append is_judged (of_fault text f) (flat_map (of_fault text) fs), noted, faults_judged text fs)
 
+first_judged : (text : List ℕ) (fs : List PlacedFault) (told : Option (List ℕ))
+    → filter is_judged (of_first text fs told) ≡ judged_faults text fs told
+first_judged text [] told = refl
+first_judged text (f ∷ fs) None =
+    let some = take told_faults (f ∷ fs) in
+    let note = remark None (Said.Noted (codes "more faults follow")) in
+    let more = noted_if (nat_lt told_faults (length (f ∷ fs))) (note ∷ []) refl in
+    cc (
+      filter-append is_judged (flat_map (of_fault text) some) (more_faults (f ∷ fs)),
+      faults_judged text some,
+      more,
+      append-nil (map (fault_remark text) some),
+    )
+first_judged text (f ∷ fs) (Some told) =
+    ap (λ t. hinted_remark text told f ∷ t) (beginning_noted text f.fault.offset f.fault.kind f.place.definition)
+
 pub all_judged : (text : List ℕ) (l : Lint) → filter is_judged (remarks text l) ≡ diagnostics text l
-all_judged text (Faulty faults) = faults_judged text faults.items
+all_judged text (Faulty faults) = first_judged text faults.items (first_hint text faults.items)
 all_judged text (Spelled l) = each_judged text l l.list.items

@@ -3,3 +3,4 @@ mod Headed
 mod Messages
 mod NoteWords
 mod Lines
+mod Listed

@@ -1,34 +1,23 @@
 -- The heads of remarks, notes and excerpts stay in their lines, and a terminal shows them.
-use Rattle.keymap_lint_text.proofs.Common.{◌≡◌, ℕ, ◌<◌, List, [], ◌∷◌, ◌++◌, refl, arith, Option, Some, None}
-use Rattle.keymap_lint_text.proofs.Common.{length, ◌==◌, ◌+◌, ◌-◌, nat_lt, codes, map, flat_map}
-use Rattle.keymap_lint_text.proofs.Common.{flat_map-append, All-nil, All-cons, Event, Modifier, Severity}
+use Rattle.keymap_lint_text.proofs.Common.{ℕ, List, [], ◌∷◌, refl, arith, Option, Some, None}
+use Rattle.keymap_lint_text.proofs.Common.{length, ◌==◌, ◌+◌, ◌-◌, nat_lt, codes, map}
+use Rattle.keymap_lint_text.proofs.Common.{All-nil, All-cons, Event, Modifier, Severity}
 use Rattle.keymap_lint_text.proofs.Common.{TextFaultKind, fault_name, before_in_line, line, excerpt, lines_of, below}
-use Rattle.keymap_lint_text.proofs.Common.{Said, Remark, head, place_text, said_text, kind_text}
-use Rattle.keymap_lint_text.proofs.Common.{IsSeen, IsLine, take, append_assoc, printed, printed_of}
+use Rattle.keymap_lint_text.proofs.Common.{Said, Remark, head, place_text, said_text, kind_name}
+use Rattle.keymap_lint_text.proofs.Common.{IsSeen, IsLine, take}
 use Rattle.std.proofs.lemmas.Bool.{cond_both}
-use Rattle.std.proofs.Common.{All, get_or}
+use Rattle.std.proofs.Common.{All}
 use Rattle.console_core.specs.declared.event.Event.TheVariants.{Press, Release, Reset, Load}
 use Rattle.keymap_lint.specs.declared.diagnostic.Kind.{Kind}
 use Rattle.keymap_lint_text.specs.Excerpt.{shown_line, caret_line, side}
 use Rattle.keymap_lint_text.specs.Names.{severity_text}
 use Rattle.keymap_names.proofs.Shared.{all_seen, ascii, decimal_line, either, line_chars, line_cons}
-use Rattle.keymap_names.proofs.Shared.{line_flat, line_if, line_none, modifier_line, name_line, next_given}
+use Rattle.keymap_names.proofs.Shared.{line_flat, line_if, line_none, modifier_line, name_line}
 use Rattle.keymap_names.proofs.Shared.{◌⊳◌}
 use Rattle.keymap_lint.specs.declared.diagnostic.Kind.TheVariants as kinds
 use Rattle.keymap_lint.specs.declared.diagnostic.Severity.TheVariants as severities
 use Rattle.keymap_text.specs.declared.fault.TextFaultKind.TheVariants as faults
 use Rattle.keymap_lint_text.specs.Notes as notes
-
--- behind what some elements give stands what is printed of the remarks that the next one gives
-pub next_printed : {X : Type 0} (file source : List ℕ) (f : X → List Remark) (xs : List X) (i : ℕ) (x d : X)
-    (front text more : List ℕ) → i < length xs → x ≡ get_or xs i d
-    → text ≡ front ++ printed file source (flat_map f (take i xs)) → more ≡ text ++ printed file source (f x)
-    → more ≡ front ++ printed file source (flat_map f (take (i + 1) xs))
-next_printed file source f xs i x d front text more l is e given =
-    let before = flat_map f (take i xs) in
-    let next = next_given f xs i x d [] before (before ++ f x) l is refl refl in
-    let parted = flat_map-append (printed_of file source) before (f x) in
-    cc (append_assoc front (printed file source before) (printed file source (f x)))
 
 -- ---- modifiers and events
 
@@ -62,8 +51,8 @@ sticks_line stuck events =
 
 -- ---- names of kinds, and a whole line
 
-pub kind_line : (kind : Kind) → IsLine (kind_text kind)
-unfolding kind_text
+pub kind_line : (kind : Kind) → IsLine (kind_name kind)
+unfolding kind_name
 kind_line kinds.NoKey = ascii _ refl
 kind_line _ = ascii _ refl
 

@@ -19,6 +19,8 @@ use Rattle.keymap_text.specs.Lexical.{TokenValue, tokens_after, first, is_word}
 use Rattle.keymap_text.specs.Words.{meaning}
 use Rattle.keymap_lint_text.specs.declared.words.TheConstants as words
 use Rattle.messages.specs.Filled.{filled}
+use Rattle.keymap_lint_text.specs.Hints.{is_utf16}
+use Rattle.keymap_lint_text.specs.Joined.{joined_word}
 use Rattle.keymap_lint_text.specs.Near.{meant_name}
 use Rattle.keymap_names.specs.Shown.{shown_chars, word_text}
 use Rattle.keymap_lint_text.specs.Wanted.{started_text, wanted_text}
@@ -68,18 +70,6 @@ hex_byte c = digit_char (c / 16) ∷ digit_char (c % 16) ∷ []
 abbrev pub is_mark : List ℕ → Bool
 is_mark bytes = slice_index bytes 0 == 0xef && slice_index bytes 1 == 0xbb && slice_index bytes 2 == 0xbf
 
--- the two bytes of a byte order mark in UTF-16, in either order, begin the text
-abbrev pub is_utf16 : List ℕ → Bool
-is_utf16 text =
-    slice_index text 0 == 0xff && slice_index text 1 == 0xfe || slice_index text 0 == 0xfe && slice_index text 1 == 0xff
-
--- the text has as many bytes as a table file, in either width, and begins with a count of keys up to 256, its lower byte
--- first
-abbrev pub is_table_file : List ℕ → Bool
-is_table_file text =
-    (length text == 15524 || length text == 4139)
-    && (slice_index text 1 == 0 || slice_index text 0 == 0 && slice_index text 1 == 1)
-
 unfoldable pub lone_byte_text : List ℕ → List ℕ
 lone_byte_text bytes =
     if is_unnamed (slice_index bytes 0)
@@ -91,10 +81,7 @@ lone_byte_text bytes =
 -- what is said of the bytes of a text from a place on that begin no token
 unfoldable pub bad_byte_text : List ℕ → List ℕ → List ℕ
 bad_byte_text text bytes =
-    if is_utf16 text then filled (codes "the text is UTF-16; save it as UTF-8") []
-    else if is_table_file text
-    then filled (codes "{}; this is a table file: kmap dump prints its text") (lone_byte_text bytes ∷ [])
-    else lone_byte_text bytes
+    if is_utf16 text then filled (codes "the text is UTF-16; save it as UTF-8") [] else lone_byte_text bytes
 
 -- the character in front of bytes, if one other than a line feed stands there, and how many bytes it has
 unfoldable pub front_character : List ℕ → Option (ℕ × ℕ)
@@ -142,15 +129,19 @@ wants_lock _ = false
 -- what may stand in a cell that gives nothing, and as a lock letter
 abbrev pub help_text : Wanted → List ℕ
 help_text wanted =
-    if wants_cell wanted then codes "; a cell that gives nothing is nop"
+    if wants_cell wanted then codes "; a character is written as 'x' or 0xh, a cell that gives nothing as nop"
     else if wants_lock wanted then codes "; a lock letter is O, C, N or B"
     else []
 
--- the name that is meant by a word, or what may stand here
+-- the name that is meant by the word in front of bytes
+abbrev pub front_meant : List ℕ → Wanted → List ℕ
+front_meant bytes wanted = meant_name (front_word bytes) (joined_word bytes) wanted
+
+-- that name, or what may stand here
 unfoldable pub near_text : List ℕ → Wanted → List ℕ
-near_text word wanted =
-    if length (meant_name word wanted) == 0 then help_text wanted
-    else filled (codes "; did you mean {}") (word_text (meant_name word wanted) ∷ [])
+near_text bytes wanted =
+    if length (front_meant bytes wanted) == 0 then help_text wanted
+    else filled (codes "; did you mean {}") (word_text (front_meant bytes wanted) ∷ [])
 
 -- what may have been meant by the word in front of these bytes
 unfoldable pub meant_text : List ℕ → Wanted → List ℕ
@@ -160,7 +151,7 @@ meant_text bytes wanted =
     (word_text (unicode_digits bytes) ∷ word_text (unicode_digits bytes) ∷ [])
     else if length (front_word bytes) == 1 && wants_character wanted
     then filled (codes "; the character is '{}'") (word_text (front_word bytes) ∷ [])
-    else near_text (front_word bytes) wanted
+    else near_text bytes wanted
 
 unfoldable pub bad_word_text : List ℕ → Wanted → List ℕ
 bad_word_text bytes wanted =

@@ -1,9 +1,14 @@
 pub mod Whole
 pub mod Heads
+pub mod Told
 pub mod Names
 pub mod Said
+pub mod Letters
 pub mod Faults
+pub mod Hints
+pub mod Joined
 pub mod Near
+pub mod OtherNames
 pub mod Wanted
 pub mod Notes
 pub mod Excerpt

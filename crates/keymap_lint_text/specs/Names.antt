@@ -1,4 +1,4 @@
--- The names of severities and kinds, and behind which kinds the answer of the search is told.
+-- The names of severities, and behind which kinds the answer of the search is told.
 use Rattle.std.specs.Prelude.{ℕ, ◌+◌, ◌&&◌, not, nat_le, Bool, false, List, codes}
 use Rattle.std.specs.List.{list_any}
 use Rattle.keymap_lint.specs.declared.diagnostic.Diagnostic.{Diagnostic}
@@ -10,22 +10,6 @@ use Rattle.keymap_lint.specs.declared.diagnostic.Severity.TheVariants as severit
 abbrev pub severity_text : Severity → List ℕ
 severity_text severities.Error = codes "error"
 severity_text severities.Warning = codes "warning"
-
--- the kind of what is said of a text that spells a keymap
-unfoldable pub kind_text : Kind → List ℕ
-kind_text kinds.NoKey = codes "no-key"
-kind_text kinds.NoShift = codes "no-shift"
-kind_text (kinds.MixedKey finding character) = codes "mixed-key"
-kind_text (kinds.HalfDefined selector has_keys) = codes "half-defined"
-kind_text (kinds.DefinedAgain what last) = codes "defined-again"
-kind_text kinds.Gap = codes "gap"
-kind_text (kinds.Exchanged slot base shifted) = codes "exchanged"
-kind_text kinds.NoCaps = codes "no-caps"
-kind_text (kinds.DeadKey defines_some) = codes "dead-key"
-kind_text (kinds.ZeroAccent accent) = codes "zero-accent"
-kind_text (kinds.PairAgain accent base first) = codes "pair-again"
-kind_text kinds.UnusedHalf = codes "unused-half"
-kind_text (kinds.BareDigit character) = codes "bare-digit"
 
 -- a mixed key, of this number or a greater one
 abbrev pub is_mixed_from : ℕ → Kind → Bool

@@ -7,6 +7,7 @@ use Rattle.keymap_core.specs.Actions.{action_of, name_of}
 use Rattle.keymap_text.specs.Printed.{control_name}
 use Rattle.keymap_core.specs.declared.action.Action.TheVariants.{DeadKey}
 use Rattle.keymap_text.specs.Words.{meaning, same_name}
+use Rattle.keymap_lint_text.specs.OtherNames.{other_name, other_word}
 use Rattle.keymap_places.specs.declared.wanted.Wanted.{Wanted}
 use Rattle.keymap_places.specs.declared.wanted.Wanted.TheVariants as wants
 use Rattle.keymap_text.specs.declared.words.Meaning.{Meaning}
@@ -82,31 +83,39 @@ is_near word wanted n = is_one_slip_from word (known_name n) && may_stand wanted
 unfoldable pub near_names : List ℕ → Wanted → List ℕ
 near_names word wanted = filter (is_near word wanted) (range_with_len 0 296)
 
--- what keyboards and other keymaps call a key or an accent, by the name that it has here
-abbrev pub other_name : List ℕ → List ℕ
-other_name word =
-    if same_name word (codes "shift") then codes "lshift"
-    else if same_name word (codes "caps") then codes "clock"
-    else if same_name word (codes "grave") then codes "dgra"
-    else if same_name word (codes "acute") then codes "dacu"
-    else if same_name word (codes "circumflex") then codes "dcir"
-    else if same_name word (codes "tilde") then codes "dtil"
+-- the word without `dead_` in front of it, as X has it in front of the name of an accent
+abbrev pub without_dead : List ℕ → List ℕ
+without_dead word = if same_name (take 5 word) (codes "dead_") then drop 5 word else word
+
+-- the numbers of the words of others that are this one
+unfoldable pub other_places : List ℕ → List ℕ
+other_places word = filter (λ i. same_name word (other_word i)) (range_with_len 0 66)
+
+-- the name of what is numbered by one or two digits behind these words: here that of a front and two digits
+abbrev pub numbered : List ℕ → List ℕ → List ℕ → List ℕ
+numbered word words front =
+    if same_name (take (length words) word) words
+    && (length (drop (length words) word) == 1 || length (drop (length words) word) == 2)
+    then (if length (drop (length words) word) == 1 then front ++ codes "0" else front) ++ drop (length words) word
     else []
 
--- the name of a function key with one or two digits that is called F and these
-abbrev pub function_name : List ℕ → List ℕ
-function_name word =
-    if (length word == 2 || length word == 3) && same_name (take 1 word) (codes "f")
-    then (if length word == 2 then codes "fkey0" else codes "fkey") ++ drop 1 word
-    else []
+-- what others mean by a word: a key or an accent, a function key or a screen
+unfoldable pub usual_name : List ℕ → List ℕ
+usual_name word =
+    if length (other_places (without_dead word)) == 1
+    then other_name (slice_index (other_places (without_dead word)) 0)
+    else if length (numbered word (codes "f") (codes "fkey")) == 0
+    then numbered word (codes "console_") (codes "scr")
+    else numbered word (codes "f") (codes "fkey")
 
-abbrev pub usual_name : List ℕ → List ℕ
-usual_name word = if nat_lt 0 (length (other_name word)) then other_name word else function_name word
+-- what a name means, or a quoted blank
+abbrev pub name_meaning : List ℕ → Meaning
+name_meaning name = if slice_index name 0 == 39 then Char 32 else meaning name
 
--- The name that is meant by a word: the one of what it usually stands for, or else the only one that is one slip from
--- it, of those that may stand here. It is empty where there is none.
-unfoldable pub meant_name : List ℕ → Wanted → List ℕ
-meant_name word wanted =
-    if may_stand wanted (meaning (usual_name word)) then usual_name word
+-- The name that is meant by a word: what others mean by it and what is joined to it by low lines, or else the only name
+-- that is one slip from it, of those that may stand here. It is empty where there is none.
+unfoldable pub meant_name : List ℕ → List ℕ → Wanted → List ℕ
+meant_name word joined wanted =
+    if may_stand wanted (name_meaning (usual_name joined)) then usual_name joined
     else if length (near_names word wanted) == 1 then known_name (slice_index (near_names word wanted) 0)
     else []

@@ -1,7 +1,6 @@
 -- What who reads the diagnostics of a text may rely on.
 use Rattle.std.specs.Prelude.{◌≡◌, ℕ, ◌==◌, ◌&&◌, not, Bool, true, false, List}
-use Rattle.std.specs.Prelude.{◌++◌, codes, map, slice_index}
-use Rattle.std.specs.Prelude.{Option, Some, None}
+use Rattle.std.specs.Prelude.{[], ◌∷◌, ◌++◌, codes, map, slice_index, take, Option, Some, None}
 use Rattle.std.specs.List.{All, filter, list_all}
 use Rattle.console_core.specs.declared.event.Event.{Event}
 use Rattle.keymap_core.specs.declared.action.Modifier.{Modifier}
@@ -10,7 +9,9 @@ use Rattle.keymap_lint.specs.declared.diagnostic.Lint.TheVariants.{Faulty, Spell
 use Rattle.keymap_lint_text.specs.Heads.{Said, Remark, head}
 use Rattle.keymap_lint_text.specs.Notes.{events_text, modifiers_text, sticks_text}
 use Rattle.keymap_names.specs.Shown.{IsLine, IsPlainText, lines_text, shown_name}
-use Rattle.keymap_lint_text.specs.Whole.{IsLintText, fault_remark, remarks, judged}
+use Rattle.keymap_lint_text.specs.Whole.{IsLintText, fault_remark, first_hint, hinted_remark, remarks, judged}
+use Rattle.keymap_lint_text.specs.Whole.{told_faults}
+use Rattle.keymap_lint.specs.declared.diagnostic.PlacedFault.{PlacedFault}
 
 abbrev pub PrintedIsPlain : Type 0
 PrintedIsPlain = (file text : List ℕ) (l : Lint) (printed : List ℕ) → IsLintText file text l printed
@@ -43,18 +44,19 @@ is_judged e = is_judged_of e.said
     is_judged_of (Said.Judged severity kind message) = true
     is_judged_of _ = false
 
+-- the faults that are told, by what is told behind the first one if the text is taken for another one
+abbrev pub judged_faults : List ℕ → List PlacedFault → Option (List ℕ) → List Remark
+judged_faults text [] told = []
+judged_faults text (f ∷ fs) None = map (fault_remark text) (take told_faults (f ∷ fs))
+judged_faults text (f ∷ fs) (Some told) = hinted_remark text told f ∷ []
+
 -- the remarks that are no notes: the faults, or the diagnostics, in their order
 abbrev pub diagnostics : List ℕ → Lint → List Remark
-diagnostics text (Faulty faults) = map (fault_remark text) faults.items
+diagnostics text (Faulty faults) = judged_faults text faults.items (first_hint text faults.items)
 diagnostics text (Spelled l) = map (judged text l) l.list.items
 
 abbrev pub EachDiagnosticIsOneRemark : Type 0
 EachDiagnosticIsOneRemark = (text : List ℕ) (l : Lint) → filter is_judged (remarks text l) ≡ diagnostics text l
-
--- what is said of the whole text is told at its beginning
-abbrev pub place_or_beginning : Option ℕ → ℕ
-place_or_beginning None = 0
-place_or_beginning (Some place) = place
 
 abbrev pub is_no_colon : ℕ → Bool
 is_no_colon c = not (c == 58)

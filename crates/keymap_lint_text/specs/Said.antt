@@ -7,6 +7,10 @@ use Rattle.keymap_check.specs.declared.finding.Finding.{Finding}
 use Rattle.keymap_places.specs.declared.placed.Defined.{Defined}
 use Rattle.keymap_places.specs.declared.placed.Defined.TheVariants.{Slot, Accent}
 use Rattle.keymap_text.specs.Meaning.{line}
+use Rattle.keymap_text.specs.declared.token.Span.{Span}
+use Rattle.keymap_lint.specs.Spelled.{bytes_at}
+use Rattle.keymap_lint.specs.declared.diagnostic.BadIgnore.{BadIgnore}
+use Rattle.keymap_lint.specs.declared.diagnostic.BadIgnore.TheVariants as bad
 use Rattle.keymap_lint.specs.declared.diagnostic.Kind.{Kind}
 use Rattle.keymap_lint.specs.declared.diagnostic.Kind.TheVariants as kinds
 use Rattle.keymap_lint.specs.declared.diagnostic.Diagnostics.{Diagnostics}
@@ -14,6 +18,8 @@ use Rattle.keymap_lint.specs.Severities.{never_sticks}
 use Rattle.keymap_lint_text.specs.declared.words.TheConstants as words
 use Rattle.messages.specs.Filled.{filled}
 use Rattle.keymap_names.specs.Lists.{accent_name, accents_text, ranges}
+use Rattle.keymap_names.specs.Shown.{word_text}
+use Rattle.keymap_lint_text.specs.Letters.{cannot_type_text, no_control_text, octal_like_text}
 use Rattle.keymap_lint_text.specs.Wanted.{column_text, defined_text, character_name}
 
 abbrev pub holding_name : Holding → List ℕ
@@ -66,6 +72,12 @@ unfoldable pub exchanged_text : ℕ → ℕ → ℕ → List ℕ
 exchanged_text slot base shifted =
     filled (codes "slot {} gives {} without shift and {} with it")
     (decimal slot ∷ character_name base ∷ character_name shifted ∷ [])
+
+-- a letter in two slots, and one in none
+unfoldable pub twice_text : ℕ → ℕ → ℕ → ℕ → ℕ → List ℕ
+twice_text one other column character missing =
+    filled (codes "slots {} and {} both give {} in {}, and none gives {}")
+    (decimal one ∷ decimal other ∷ character_name character ∷ column_text column ∷ character_name missing ∷ [])
 
 -- the slots with letters of which caps lock makes no capitals
 abbrev pub no_caps_text : List ℕ → List ℕ
@@ -122,9 +134,20 @@ no_key_text text =
     then codes ": its lines end in CR alone, so a comment reaches to its end; end them in LF" else [])
     ∷ [])
 
+-- what is said of a word of the text, and of a directive that is wrong
+abbrev pub of_word : List ℕ → List ℕ → Span → List ℕ
+of_word words text at = filled words (word_text (bytes_at text at) ∷ [])
+
+abbrev pub bad_ignore_text : List ℕ → BadIgnore → List ℕ
+bad_ignore_text text (bad.NoKind at) = of_word (codes "{} is no kind") text at
+bad_ignore_text text (bad.NotIgnored at) = of_word (codes "{} can not be ignored") text at
+bad_ignore_text text bad.NoKinds = filled (codes "no kind stands behind ignore") []
+bad_ignore_text text bad.NoWord = filled (codes "behind kmap: stands ignore or ignore-text, and kinds") []
+
 -- what is said of a text by a diagnostic of this kind
 unfoldable pub message_text : List ℕ → Diagnostics → Kind → List ℕ
 message_text text l kinds.NoKey = no_key_text text
+message_text text l kinds.CannotType = cannot_type_text l.untyped.items
 message_text text l kinds.NoShift = filled (codes "no key is lshift or rshift") []
 message_text text l (kinds.MixedKey finding character) =
     mixed_key_text finding character (never_sticks l.sticking)
@@ -132,9 +155,14 @@ message_text text l (kinds.HalfDefined selector has_keys) = half_defined_text l 
 message_text text l (kinds.DefinedAgain what last) = defined_again_text what (line text last)
 message_text text l kinds.Gap = gap_text l.gaps.items
 message_text text l (kinds.Exchanged slot base shifted) = exchanged_text slot base shifted
+message_text text l (kinds.Twice one other column character missing) = twice_text one other column character missing
+message_text text l (kinds.NoControl above) = no_control_text l.lost_letters.items above
 message_text text l kinds.NoCaps = no_caps_text l.small_slots.items
+message_text text l (kinds.OctalLike character start octal) = octal_like_text text character start octal
 message_text text l (kinds.DeadKey defines_some) = dead_key_text l.missing_accents.items defines_some
 message_text text l (kinds.ZeroAccent accent) = zero_accent_text accent
 message_text text l (kinds.PairAgain accent base first) = pair_again_text accent base (line text first)
 message_text text l kinds.UnusedHalf = unused_text l.unused_slots.items
 message_text text l (kinds.BareDigit character) = bare_digit_text character
+message_text text l (kinds.UnusedIgnore word) = of_word (codes "no {} is kept back here") text word
+message_text text l (kinds.BadIgnore wrong) = bad_ignore_text text wrong

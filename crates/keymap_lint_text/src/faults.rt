@@ -7,13 +7,14 @@ ghost use Rattle.keymap_lint_text.specs.Wanted.{wanted_text};
 ghost use Rattle.keymap_names.specs.Shown.{word_text};
 ghost use Rattle.keymap_lint_text.specs.declared.words.TheConstants as words;
 
+use crate::hints::{is_utf16, joined_word};
 use crate::near::{behind, meant_name};
 use crate::wanted::{started, wanted};
 use crate::words::{
     ALL_CELLS, BAD_BYTE, BAD_CHAR, BAD_FUNCTION, BAD_LITERAL, BAD_WORD, COMBINED, ENDS,
     ENDS_QUOTED, FEW_CELLS, FUNCTION_KEYS, KEY_TOO_LARGE, LOCK_LETTERS, LONG_WORD, MARK,
-    MEANT_CHARACTER, MEANT_NAME, MEANT_NUMBER, NOP, SCREENS, TABLES, TOO_MANY_PAIRS,
-    TWO_CHARACTERS, UNEXPECTED, UNNAMED_BYTE, UTF16, ZERO_BASE,
+    MEANT_CHARACTER, MEANT_NAME, MEANT_NUMBER, NOP, SCREENS, TOO_MANY_PAIRS, TWO_CHARACTERS,
+    UNEXPECTED, UNNAMED_BYTE, UTF16, ZERO_BASE,
 };
 use keymap_core::{code_digits, hex_digit};
 use keymap_names::{first_shown, word};
@@ -23,7 +24,7 @@ use messages::{either, filled, number};
 use std::alloc::{AllocError, Global};
 
 /// The bytes of the token at a place; none where no token stands.
-fn token_at(text: &[u8], place: usize) -> &[u8]
+pub(crate) fn token_at(text: &[u8], place: usize) -> &[u8]
     requires { place ≤ length text.now }
     ensures { result.now ≡ spec.token_bytes (spec.first_at text.now place) }
 {
@@ -105,20 +106,6 @@ fn begins_with_mark(bytes: &[u8]) -> bool
     bytes.len() > 2 && bytes[0] == 0xef && bytes[1] == 0xbb && bytes[2] == 0xbf
 }
 
-/// Whether the byte order mark of UTF-16 begins a text, in either order of bytes.
-fn is_utf16(text: &[u8]) -> bool
-    ensures { result ≡ spec.is_utf16 text.now }
-{
-    text.len() > 1 && (text[0] == 0xff && text[1] == 0xfe || text[0] == 0xfe && text[1] == 0xff)
-}
-
-/// Whether the bytes are as many as those of a table file, in either width, and begin with a count of keys.
-fn is_table_file(text: &[u8]) -> bool
-    ensures { result ≡ spec.is_table_file text.now }
-{
-    (text.len() == 15_524 || text.len() == 4_139) && (text[1] == 0 || text[0] == 0 && text[1] == 1)
-}
-
 /// What is said of bytes that begin no token.
 #[tactic(auto, unfolding(crate::specs::Faults::lone_byte_text))]
 fn lone_byte(alloc: Global, bytes: &[u8]) -> Result<Vec<u8>, AllocError>
@@ -147,13 +134,9 @@ fn bad_byte(alloc: Global, source: &[u8], bytes: &[u8]) -> Result<Vec<u8>, Alloc
     ensures { IfOk result (λ text. text.items ≡ spec.bad_byte_text source.now bytes.now) }
 {
     if is_utf16(source) {
-        return filled(alloc, UTF16, &[]);
-    }
-    let said = lone_byte(alloc, bytes)?;
-    if is_table_file(source) {
-        filled(alloc, TABLES, &[said.as_slice()])
+        filled(alloc, UTF16, &[])
     } else {
-        Ok(said)
+        lone_byte(alloc, bytes)
     }
 }
 
@@ -227,12 +210,12 @@ fn help_text(wanted: Wanted) -> &'static [u8]
     }
 }
 
-/// The name that is meant by a word, or what may stand here.
+/// The name that is meant by the word in front of bytes, or what may stand here.
 #[tactic(auto, unfolding(crate::specs::Faults::near_text))]
-fn near_message(alloc: Global, token: &[u8], wanted: Wanted) -> Result<Vec<u8>, AllocError>
-    ensures { IfOk result (λ text. text.items ≡ spec.near_text token.now wanted) }
+fn near_message(alloc: Global, bytes: &[u8], wanted: Wanted) -> Result<Vec<u8>, AllocError>
+    ensures { IfOk result (λ text. text.items ≡ spec.near_text bytes.now wanted) }
 {
-    let name = meant_name(alloc, token, wanted)?;
+    let name = meant_name(alloc, front_word(bytes), joined_word(bytes), wanted)?;
     if name.is_empty() {
         Vec::from_slice(alloc, help_text(wanted))
     } else {
@@ -254,7 +237,7 @@ fn meant(alloc: Global, bytes: &[u8], wanted: Wanted) -> Result<Vec<u8>, AllocEr
     } else if token.len() == 1 && wants_character(wanted) {
         filled(alloc, MEANT_CHARACTER, &[word(alloc, token)?.as_slice()])
     } else {
-        near_message(alloc, token, wanted)
+        near_message(alloc, bytes, wanted)
     }
 }
 

@@ -5,6 +5,7 @@ ghost use Rattle.keymap_core.specs.Actions.{action_of, name_of};
 ghost use Rattle.keymap_text.specs.Words.{same_name};
 ghost use Rattle.keymap_lint_text.specs.Near as spec;
 
+use crate::other_names::{OTHER_COUNT, other_name, other_word};
 use arrayvec::ArrayVec;
 use keymap_core::Action;
 use keymap_places::Wanted;
@@ -57,14 +58,14 @@ fn known_name(number: u16) -> Name
     name
 }
 
-fn is_same(a: &[u8], b: &[u8]) -> bool
+pub(crate) fn is_same(a: &[u8], b: &[u8]) -> bool
     ensures { result ≡ same_name a.now b.now }
 {
     a.eq_ignore_ascii_case(b)
 }
 
 /// The bytes before a place.
-fn before(bytes: &[u8], place: usize) -> &[u8]
+pub(crate) fn before(bytes: &[u8], place: usize) -> &[u8]
     ensures { result.now ≡ take place bytes.now }
 {
     if place < bytes.len() {
@@ -157,60 +158,88 @@ fn near_names(alloc: Global, word: &[u8], wanted: Wanted) -> Result<Vec<u16>, Al
         .collect(alloc)
 }
 
-/// What keyboards and other keymaps call a key or an accent, by the name that it has here.
-fn other_name(word: &[u8]) -> &'static [u8]
-    ensures name { result.now ≡ spec.other_name word.now }
-    ensures short { length result.now ≤ 8 }
+/// The word without `dead_` in front of it, as X has it in front of the name of an accent.
+fn without_dead(word: &[u8]) -> &[u8]
+    ensures { result.now ≡ spec.without_dead word.now }
 {
-    if is_same(word, b"shift") {
-        b"lshift"
-    } else if is_same(word, b"caps") {
-        b"clock"
-    } else if is_same(word, b"grave") {
-        b"dgra"
-    } else if is_same(word, b"acute") {
-        b"dacu"
-    } else if is_same(word, b"circumflex") {
-        b"dcir"
-    } else if is_same(word, b"tilde") {
-        b"dtil"
+    if is_same(before(word, 5), b"dead_") {
+        behind(word, 5)
     } else {
-        b""
+        word
     }
 }
 
-/// The name of a function key with one or two digits that is called F and these.
-fn function_name(word: &[u8]) -> Name
-    ensures { result.items ≡ spec.function_name word.now }
+/// The numbers of the words of others that are this one.
+#[tactic(auto, unfolding(crate::specs::Near::other_places))]
+fn other_places(alloc: Global, word: &[u8]) -> Result<Vec<u16>, AllocError>
+    ensures { IfOk result (λ places. places.items ≡ spec.other_places word.now) }
+{
+    (0..OTHER_COUNT)
+        .filter(|place| is_same(word, other_word(*place)))
+        .collect(alloc)
+}
+
+/// The name of what is numbered by one or two digits behind these words: here that of a front and two digits.
+fn numbered(word: &[u8], words: &[u8], front: &[u8]) -> Name
+    requires { length front.now ≤ 5 }
+    ensures { result.items ≡ spec.numbered word.now words.now front.now }
 {
     let mut name = ArrayVec::new();
-    if (word.len() == 2 || word.len() == 3) && is_same(before(word, 1), b"f") {
-        let front: &[u8] = if word.len() == 2 { b"fkey0" } else { b"fkey" };
+    let digits = behind(word, words.len());
+    if is_same(before(word, words.len()), words) && (digits.len() == 1 || digits.len() == 2) {
         name.try_extend_from_slice(front).unwrap();
-        name.try_extend_from_slice(behind(word, 1)).unwrap();
+        if digits.len() == 1 {
+            name.try_extend_from_slice(b"0").unwrap();
+        }
+        name.try_extend_from_slice(digits).unwrap();
     }
     name
 }
 
-fn usual_name(word: &[u8]) -> Name
-    ensures { result.items ≡ spec.usual_name word.now }
+/// What others mean by a word: a key or an accent, a function key or a screen.
+#[tactic(auto, unfolding(crate::specs::Near::usual_name))]
+fn usual_name(alloc: Global, word: &[u8]) -> Result<Name, AllocError>
+    ensures { IfOk result (λ name. name.items ≡ spec.usual_name word.now) }
 {
-    let other = other_name(word);
-    if other.is_empty() {
-        return function_name(word);
+    let places = other_places(alloc, without_dead(word))?;
+    if let [place] = places.as_slice() {
+        let mut name = ArrayVec::new();
+        name.try_extend_from_slice(other_name(*place)).unwrap();
+        return Ok(name);
     }
-    let mut name = ArrayVec::new();
-    name.try_extend_from_slice(other).unwrap();
-    name
+    let function = numbered(word, b"f", b"fkey");
+    if function.is_empty() {
+        Ok(numbered(word, b"console_", b"scr"))
+    } else {
+        Ok(function)
+    }
 }
 
-/// The name that is meant by a word where this is wanted; it is empty where there is none.
+/// What a name means, or a quoted blank.
+fn name_meaning(name: &[u8]) -> Meaning
+    requires { length name.now ≤ 32 }
+    ensures { result ≡ spec.name_meaning name.now }
+{
+    if !name.is_empty() && name[0] == b'\'' {
+        Meaning::Char(' ')
+    } else {
+        word_meaning(name)
+    }
+}
+
+/// The name that is meant by a word where this is wanted, or by it and what is joined to it by low lines; it is empty
+/// where there is none.
 #[tactic(auto, unfolding(crate::specs::Near::meant_name))]
-pub(crate) fn meant_name(alloc: Global, word: &[u8], wanted: Wanted) -> Result<Name, AllocError>
-    ensures { IfOk result (λ name. name.items ≡ spec.meant_name word.now wanted) }
+pub(crate) fn meant_name(
+    alloc: Global,
+    word: &[u8],
+    joined: &[u8],
+    wanted: Wanted,
+) -> Result<Name, AllocError>
+    ensures { IfOk result (λ name. name.items ≡ spec.meant_name word.now joined.now wanted) }
 {
-    let usual = usual_name(word);
-    if may_stand(wanted, &word_meaning(usual.as_slice())) {
+    let usual = usual_name(alloc, joined)?;
+    if may_stand(wanted, &name_meaning(usual.as_slice())) {
         return Ok(usual);
     }
     let near = near_names(alloc, word, wanted)?;

@@ -1,23 +1,28 @@
 //! What is said of a text by a diagnostic: its severity, its message and its kind, in words.
-ghost use Rattle.std.specs.Prelude.{◌≡◌, ◌∷◌, [], IsTrue, IfOk};
+ghost use Rattle.std.specs.Prelude.{◌≡◌, ◌∷◌, [], IsTrue, IfOk, slice_index};
 ghost use Rattle.keymap_lint.specs.Positions.{TellsWithin};
 ghost use Rattle.messages.specs.Filled.{has_places};
+ghost use Rattle.keymap_lint.specs.Spelled.{bytes_at as bytes_in};
 ghost use Rattle.keymap_names.specs.Lists.{ranges as ranges_of};
+ghost use Rattle.keymap_names.specs.Shown.{word_text};
 ghost use Rattle.keymap_lint_text.specs.Names as names;
 ghost use Rattle.keymap_lint_text.specs.Said as spec;
 
+use crate::letters::{cannot_type, no_control, octal_like};
 use crate::wanted::{character_name, column as column_text, defined};
 use crate::words::{
     ACCENTS, BARE_DIGIT, CR_ALONE, DEAD_KEY, DEFINED_AGAIN, EXCHANGED, GAP, HALF_DEFINED,
-    MISSING_SLOT, MISSING_SLOTS, MIXED_KEY, NEVER_STICKS, NO_ACCENT, NO_KEY, NO_SHIFT, NOT_JOINED,
-    NUL_KEY, NUL_KEYS, ONE_ACCENT, OTHER_SLOT, PAIR_AGAIN, SMALL_SLOT, SMALL_SLOTS, UNUSED_SLOT,
-    UNUSED_SLOTS, ZERO_ACCENT,
+    MISSING_SLOT, MISSING_SLOTS, MIXED_KEY, NEVER_STICKS, NO_ACCENT, NO_KEY, NO_KIND, NO_KINDS,
+    NO_SHIFT, NO_WORD, NOT_IGNORED, NOT_JOINED, NUL_KEY, NUL_KEYS, ONE_ACCENT, OTHER_SLOT,
+    PAIR_AGAIN, SMALL_SLOT, SMALL_SLOTS, TWICE, UNUSED_IGNORE, UNUSED_SLOT, UNUSED_SLOTS,
+    ZERO_ACCENT,
 };
 use keymap_check::Finding;
 use keymap_core::Holding;
-use keymap_lint::{Diagnostic, Diagnostics, Kind, Severity};
-use keymap_names::{accent_name, accents, ranges};
+use keymap_lint::{BadIgnore, Diagnostic, Diagnostics, Kind, Severity, bytes_at};
+use keymap_names::{accent_name, accents, ranges, word};
 use keymap_places::{Defined, TextLines};
+use keymap_text::Span;
 use messages::{either, filled, number};
 use std::alloc::{AllocError, Global};
 
@@ -27,28 +32,6 @@ pub(crate) fn severity_text(severity: Severity) -> &'static [u8]
     match severity {
         Severity::Error => b"error",
         Severity::Warning => b"warning",
-    }
-}
-
-/// The name of a kind.
-#[tactic(auto, unfolding(crate::specs::Names::kind_text))]
-pub(crate) fn kind_text(kind: &Kind) -> &'static [u8]
-    ensures { result.now ≡ names.kind_text kind.now }
-{
-    match kind {
-        Kind::NoKey => b"no-key",
-        Kind::NoShift => b"no-shift",
-        Kind::MixedKey { .. } => b"mixed-key",
-        Kind::HalfDefined { .. } => b"half-defined",
-        Kind::DefinedAgain { .. } => b"defined-again",
-        Kind::Gap => b"gap",
-        Kind::Exchanged { .. } => b"exchanged",
-        Kind::NoCaps => b"no-caps",
-        Kind::DeadKey { .. } => b"dead-key",
-        Kind::ZeroAccent { .. } => b"zero-accent",
-        Kind::PairAgain { .. } => b"pair-again",
-        Kind::UnusedHalf => b"unused-half",
-        Kind::BareDigit { .. } => b"bare-digit",
     }
 }
 
@@ -181,6 +164,32 @@ fn exchanged(alloc: Global, slot: u8, base: char, shifted: char) -> Result<Vec<u
     )
 }
 
+/// What is said of a letter in two slots, and of one in none.
+#[tactic(auto, unfolding(crate::specs::Said::twice_text))]
+fn twice(
+    alloc: Global,
+    slots: [u8; 2],
+    place: u8,
+    character: char,
+    missing: char,
+) -> Result<Vec<u8>, AllocError>
+    ensures { IfOk result (λ text. text.items
+        ≡ spec.twice_text (slice_index slots 0) (slice_index slots 1) place character missing) }
+{
+    let [one, other] = slots;
+    filled(
+        alloc,
+        TWICE,
+        &[
+            number(u64::from(one)).as_slice(),
+            number(u64::from(other)).as_slice(),
+            character_name(alloc, character)?.as_slice(),
+            column_text(alloc, usize::from(place))?.as_slice(),
+            character_name(alloc, missing)?.as_slice(),
+        ],
+    )
+}
+
 /// What is said of dead keys of accents that the text doesn't define, where it defines some other accent or none.
 #[tactic(auto, unfolding(crate::specs::Said::dead_key_text))]
 fn dead_key(alloc: Global, missing: &[u8], defines_some: bool) -> Result<Vec<u8>, AllocError>
@@ -219,6 +228,30 @@ fn ends_in_cr(text: &[u8]) -> bool
     has_byte(b'\r', text) && !has_byte(b'\n', text)
 }
 
+/// What is said of a word of the text.
+fn of_word(alloc: Global, words: &[u8], source: &[u8], at: Span) -> Result<Vec<u8>, AllocError>
+    requires { IsTrue (has_places words.now (word_text (bytes_in source.now at) ∷ [])) }
+    ensures { IfOk result (λ text. text.items ≡ spec.of_word words.now source.now at) }
+{
+    filled(
+        alloc,
+        words,
+        &[word(alloc, bytes_at(source, at))?.as_slice()],
+    )
+}
+
+/// What is said of a directive that is wrong.
+fn bad_ignore(alloc: Global, source: &[u8], wrong: BadIgnore) -> Result<Vec<u8>, AllocError>
+    ensures { IfOk result (λ text. text.items ≡ spec.bad_ignore_text source.now wrong) }
+{
+    match wrong {
+        BadIgnore::NoKind(at) => of_word(alloc, NO_KIND, source, at),
+        BadIgnore::NotIgnored(at) => of_word(alloc, NOT_IGNORED, source, at),
+        BadIgnore::NoKinds => filled(alloc, NO_KINDS, &[]),
+        BadIgnore::NoWord => filled(alloc, NO_WORD, &[]),
+    }
+}
+
 /// What is said of a text without a key, which a comment that reaches to the end of the text may hide.
 #[tactic(auto, unfolding(crate::specs::Said::no_key_text))]
 fn no_key(alloc: Global, source: &[u8]) -> Result<Vec<u8>, AllocError>
@@ -240,6 +273,7 @@ pub(crate) fn kind_message(
 {
     match kind {
         Kind::NoKey => no_key(alloc, source.text()),
+        Kind::CannotType => cannot_type(alloc, lint.untyped.as_slice()),
         Kind::NoShift => filled(alloc, NO_SHIFT, &[]),
         Kind::MixedKey { finding, character } => mixed_key(
             alloc,
@@ -257,7 +291,20 @@ pub(crate) fn kind_message(
             base,
             shifted,
         } => exchanged(alloc, *slot, *base, *shifted),
+        Kind::Twice {
+            one,
+            other,
+            column,
+            character,
+            missing,
+        } => twice(alloc, [*one, *other], *column, *character, *missing),
+        Kind::NoControl { is_above } => no_control(alloc, lint.lost_letters.as_slice(), *is_above),
         Kind::NoCaps => { counted(alloc, SMALL_SLOT, SMALL_SLOTS, lint.small_slots.as_slice()) }
+        Kind::OctalLike {
+            character,
+            start,
+            octal,
+        } => octal_like(alloc, source.text(), *character, *start, *octal),
         Kind::DeadKey { defines_some } => {
             dead_key(alloc, lint.missing_accents.as_slice(), *defines_some)
         }
@@ -287,6 +334,8 @@ pub(crate) fn kind_message(
             )
         }
         Kind::BareDigit { character } => bare_digit(alloc, *character),
+        Kind::UnusedIgnore { word } => of_word(alloc, UNUSED_IGNORE, source.text(), *word),
+        Kind::BadIgnore { wrong } => bad_ignore(alloc, source.text(), *wrong),
     }
 }
 

@@ -20,6 +20,8 @@ pub(crate) const NO_KEY: &[u8] = b"the text defines no key{}";
 pub(crate) const CR_ALONE: &[u8] =
     b": its lines end in CR alone, so a comment reaches to its end; end them in LF";
 
+pub(crate) const CANNOT_TYPE: &[u8] = b"no keys type {}";
+
 pub(crate) const NO_SHIFT: &[u8] = b"no key is lshift or rshift";
 
 pub(crate) const MIXED_KEY: &[u8] =
@@ -49,11 +51,25 @@ pub(crate) const GAP: &[u8] = b"the text does not define {}";
 
 pub(crate) const EXCHANGED: &[u8] = b"slot {} gives {} without shift and {} with it";
 
+pub(crate) const TWICE: &[u8] = b"slots {} and {} both give {} in {}, and none gives {}";
+
+pub(crate) const LOST_CONTROLS: &[u8] = b"control types no {}{}";
+
+pub(crate) const CONTROL: &[u8] = b"{} (ctrl-{})";
+
+pub(crate) const LOST_LETTERS: &[u8] = b"control types no control character of the letters {}{}";
+
+pub(crate) const ABOVE: &[u8] = b" while ashift or alock is on";
+
 pub(crate) const SMALL_SLOT: &[u8] =
     b"caps lock makes no capital of the letter of slot {}, whose lock letter is O or N; with C or B it does";
 
 pub(crate) const SMALL_SLOTS: &[u8] =
     b"caps lock makes no capitals of the letters of slots {}, whose lock letter is O or N; with C or B it does";
+
+pub(crate) const OCTAL_LIKE: &[u8] = b"{} is the decimal number {}, which is {}{}";
+
+pub(crate) const OCTAL: &[u8] = b"; the octal one is 0x{}";
 
 pub(crate) const DEAD_KEY: &[u8] = b"the text does not define {}, so pressing {} is an error";
 
@@ -77,6 +93,17 @@ pub(crate) const UNUSED_SLOTS: &[u8] =
 pub(crate) const BARE_DIGIT: &[u8] =
     b"{} is the character number {}, which is {}; the digit is '{}'";
 
+// Of directives.
+pub(crate) const UNUSED_IGNORE: &[u8] = b"no {} is kept back here";
+
+pub(crate) const NO_KIND: &[u8] = b"{} is no kind";
+
+pub(crate) const NOT_IGNORED: &[u8] = b"{} can not be ignored";
+
+pub(crate) const NO_KINDS: &[u8] = b"no kind stands behind ignore";
+
+pub(crate) const NO_WORD: &[u8] = b"behind kmap: stands ignore or ignore-text, and kinds";
+
 // Of what the search found, and where a definition begins.
 pub(crate) const STICKS: &[u8] = b"{} {} on with no key pressed, after: {}";
 
@@ -98,7 +125,22 @@ pub(crate) const MARK: &[u8] = b"a byte order mark begins no word; remove it";
 
 pub(crate) const UTF16: &[u8] = b"the text is UTF-16; save it as UTF-8";
 
-pub(crate) const TABLES: &[u8] = b"{}; this is a table file: kmap dump prints its text";
+// Behind the first fault, where the text is another one.
+pub(crate) const TABLES: &[u8] = b"; this is a table file: kmap dump prints its text";
+
+pub(crate) const COMPRESSED: &[u8] = b"; the text is compressed";
+
+pub(crate) const NO_TEXT: &[u8] = b"; this is no text";
+
+pub(crate) const LOADKEYS: &[u8] = b"; this looks like a keymap for loadkeys";
+
+pub(crate) const XKB: &[u8] = b"; this looks like a text for xkb: ckbcomp -freebsd makes keymaps";
+
+pub(crate) const XMODMAP: &[u8] = b"; this looks like a text for xmodmap";
+
+pub(crate) const OTHER_COMMENT: &[u8] = b"; a comment begins with #";
+
+pub(crate) const MORE_FAULTS: &[u8] = b"more faults follow";
 
 pub(crate) const BAD_LITERAL: &[u8] =
     b"no quoted character stands here: an apostrophe, one character other than a line feed, an apostrophe";
@@ -116,7 +158,8 @@ pub(crate) const MEANT_CHARACTER: &[u8] = b"; the character is '{}'";
 
 pub(crate) const MEANT_NAME: &[u8] = b"; did you mean {}";
 
-pub(crate) const NOP: &[u8] = b"; a cell that gives nothing is nop";
+pub(crate) const NOP: &[u8] =
+    b"; a character is written as 'x' or 0xh, a cell that gives nothing as nop";
 
 pub(crate) const LOCK_LETTERS: &[u8] = b"; a lock letter is O, C, N or B";
 

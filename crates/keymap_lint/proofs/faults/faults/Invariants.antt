@@ -7,12 +7,12 @@ use Rattle.keymap_lint.proofs.faults.faults.Given as goal
 -- with the faults behind the last line the list is that of the text
 abbrev pub invariant-loop-alloc : goal.invariant-loop-alloc
 invariant-loop-alloc l = record {
-  few : length l.faults.items ≤ 20;
+  few : length l.faults.items ≤ 21;
   lines : l.start ≤ length l.text → l.lines ≡ count_by (λ c. c == 10) (take l.start l.text);
   goes_on :
-      (more : List PlacedFault) → AreFaults (20 - length l.faults.items) l.text l.start more
-      → AreFaults 20 l.text 0 (l.faults.items ++ more);
+      (more : List PlacedFault) → AreFaults (21 - length l.faults.items) l.text l.start more
+      → AreFaults 21 l.text 0 (l.faults.items ++ more);
 }
 
 abbrev pub decreases-loop-alloc : goal.decreases-loop-alloc
-decreases-loop-alloc l = 20 - length l.faults.items
+decreases-loop-alloc l = 21 - length l.faults.items

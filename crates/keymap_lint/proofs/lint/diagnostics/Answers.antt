@@ -12,11 +12,11 @@ returns-in_ok-lint_map-in-Ok-clause-places c =
 pub returns-in_ok-faults-in-Err-Fault-clause-said : goal.returns-in_ok-faults-in-Err-Fault-clause-said
 returns-in_ok-faults-in-Err-Fault-clause-said c =
     let are = c.in_ok-faults-in-Err-Fault.ensures in (
-      some_faults 20 c.args.text.now c.in_ok-faults-in-Err-Fault.field-0.items c.in-Err-Fault.field-0-0 (omega arith)
+      some_faults 21 c.args.text.now c.in_ok-faults-in-Err-Fault.field-0.items c.in-Err-Fault.field-0-0 (omega arith)
           (rw c.in-Err-Fault.field-0-is at c.in-Err-Fault.ensures) are,
       are,
     )
 
 pub returns-in_ok-faults-in-Err-Fault-clause-places : goal.returns-in_ok-faults-in-Err-Fault-clause-places
 returns-in_ok-faults-in-Err-Fault-clause-places c =
-    all_lie_within 20 c.args.text.now 0 c.in_ok-faults-in-Err-Fault.field-0.items c.in_ok-faults-in-Err-Fault.ensures
+    all_lie_within 21 c.args.text.now 0 c.in_ok-faults-in-Err-Fault.field-0.items c.in_ok-faults-in-Err-Fault.ensures

@@ -134,6 +134,7 @@ scripts:
 	sh tests/manual.sh $(PROGRAM)
 	sh tests/install.sh
 	sh tests/guide.sh
+	sh tests/recipes.sh $(PROGRAM)
 	sh tests/refused_memory.sh $(PROGRAM)
 	sh tests/refused_calls.sh $(TESTS)
 

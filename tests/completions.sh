@@ -100,7 +100,7 @@ if is_there bash; then
     in_bash '--next' kmap play letter --n
     in_bash '' kmap play le
     in_bash 'lint' kmap l
-    in_bash '--strict --name --help -h' kmap lint letter -
+    in_bash '--strict --name --format --quiet --color --help -h' kmap lint letter -
     in_bash '' kmap lint letter le
     in_bash 'fmt' kmap f
     in_bash '--check' kmap fmt --c
@@ -124,7 +124,7 @@ if is_there fish; then
     in_fish 'letter' 'kmap play le'
     in_fish 'letter' 'kmap play --next le'
     in_fish 'lint' 'kmap l'
-    in_fish '--strict --name --help -h' 'kmap lint letter -'
+    in_fish '--strict --name --format --quiet --color --help -h' 'kmap lint letter -'
     in_fish 'letter' 'kmap lint --name le'
     in_fish 'letter line' 'kmap lint letter l'
     in_fish 'fmt' 'kmap f'

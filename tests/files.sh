@@ -50,9 +50,9 @@ echo '    4   nop    nop    nop    nop    nop    nop    nop    nop     O' > even
 echo '5 nop nop nop nop nop nop nop O' > faulty
 printf a > sentence
 "$program" compile letter tables
-bad_word=': error: zz means nothing; a cell that gives nothing is nop [BadWord]
+bad_word=": error: zz means nothing; a character is written as 'x' or 0xh, a cell that gives nothing as nop [BadWord]
   30 zz
-     ^'
+     ^"
 
 # What comes by a pipe is answered once its fault has come: the pipe stays open, so there is no end to wait for.
 mkfifo pipe
@@ -61,7 +61,7 @@ printf "030 'a' zz " >&3
 ran 'a fault in an open pipe' 1 '' 'kmap: text line 1 offset 8: BadWord' timeout 10 "$program" check pipe
 exec 3>&-
 if [ -e /dev/stdin ]; then
-    cat bad | "$program" lint /dev/stdin > stdout
+    cat bad | "$program" lint --quiet /dev/stdin > stdout
     printf '/dev/stdin:1:4%s\n' "$bad_word" > wanted
     same_text 'a text that comes by a pipe' wanted stdout
 fi
@@ -203,6 +203,34 @@ stderr kmap: faulty: text line 1 offset 30: Unexpected$' fmt --check letter none
     writes 'stderr kmap: cannot create none/made$' compile letter none/made
     cp odd one
     writes 'stdout one$' fmt one
+fi
+
+# A log of SARIF has what the standard and code scanning need, and a test of it sees what is missing.
+if is_there python3; then
+    "$program" lint --quiet --format sarif "$examples/us.kbd" > log
+    holds 'a log without results' python3 -B "$top/tests/sarif.py" 0 < log
+    "$program" lint --quiet --format sarif none "$examples/trap.kbd" faulty bad > log 2> stderr
+    holds 'a log of three texts' python3 -B "$top/tests/sarif.py" 3 < log
+    for word in ruleId text startLine uri; do
+        sed "s/\"$word\"/\"other\"/" log > other
+        holds "a log without $word" [ "$(python3 -B "$top/tests/sarif.py" 3 < other 2>&1 | wc -l)" -gt 0 ]
+    done
+fi
+
+# A terminal gets colours, unless it is a dumb one or NO_COLOR has a value.
+if is_there script; then
+    # coloured [NAME=VALUE..]: how many lines of the error the program colours there
+    coloured() {
+        script -qec "env TERM=vt100 NO_COLOR= $* '$program' lint --quiet bad" /dev/null < /dev/null | grep -c '\[1;31m'
+    }
+    holds 'a terminal gets colours' [ "$(coloured)" -eq 1 ]
+    holds 'NO_COLOR has a value' [ "$(coloured NO_COLOR=1)" -eq 0 ]
+    holds 'a dumb terminal' [ "$(coloured TERM=dumb)" -eq 0 ]
+fi
+
+# The hooks of pre-commit, where it is installed: they are what it takes, and find what is wrong.
+if is_there pre-commit && is_there git; then
+    holds 'the hooks are valid' pre-commit validate-manifest "$top/.pre-commit-hooks.yaml"
 fi
 
 # A disk is full after some bytes, as far as the program sees it: the old file stays, and nothing lies beside it.
@@ -372,7 +400,7 @@ start=$(date +%s)
 timeout 60 "$program" lint t > got 2> stderr
 holds 'a warning in each line: status' [ $? -eq 0 ]
 holds 'a warning in each line: within ten seconds' [ $(($(date +%s) - start)) -le 10 ]
-holds 'a warning in each line: nothing on standard error' [ ! -s stderr ]
+holds 'a warning in each line: their count' same_line stderr '52436 warnings'
 holds 'a warning in each line: lines' [ "$(wc -l < got)" -eq $((1 + 3 * (52427 + 8))) ]
 echo 't:52427:1: warning: this definition of slot 1 has no effect: line 52428 defines it again [defined-again]' > want
 sed -n "$((1 + 3 * 52426 + 1))p" got > last

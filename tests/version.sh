@@ -28,7 +28,7 @@ says() {
     holds "$1: $2" grep -qxF -e "$2" "$1"
 }
 
-says crates/kmap/src/command_line.rt "const VERSION: &str = \"$version\";"
+says crates/kmap/src/command_line.rt "pub(crate) const VERSION: &str = \"$version\";"
 says include/kmap.pc "Version: $version"
 says python/pyproject.toml "version = \"$version\""
 for page in man/kmap.1 man/kmap.3 man/kmap.5; do

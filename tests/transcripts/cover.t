@@ -84,7 +84,7 @@ A dead key whose accent is composed with a blank and a base that is there, and o
   $ covers accent
   $ grep -x -e '# pairs: .*' -e '# never: dacu .*' script
   # pairs: 2, left out 0, never 1
-  # never: dacu with 101
+  # never: dacu with 'e'
 
 alock turns on by a key of the lower half that is a letter in the upper one: its turn is one-way, and comes last.
   $ cat > oneway << 'END'
@@ -133,13 +133,13 @@ of events composes them. Where a key has the base there too, they can be compose
   # lock settings: 256, left out 0, never 768
   # pairs: 0, left out 0, never 2
   # never: slots 0 to 255; columns 1 2 3 4 5 6 7; locks nlock clock clock+nlock
-  # never: dacu with 32 97
+  # never: dacu with ' ' 'a'
   $ sed "s/^158 .*/158 'a' 'a' 'a' 'a' 'a' 'a' 'a' 'a' O/" apart > together
   $ covers together
   $ grep ' dacu \|^# pairs' script
   # pairs: 0, left out 1, never 1
-  # left out: dacu with 97
-  # never: dacu with 32
+  # left out: dacu with 'a'
+  # never: dacu with ' '
 
 No file, a folder, a text that ends too early, and one that is too long:
   $ kmap cover nothing

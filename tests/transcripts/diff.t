@@ -22,6 +22,9 @@ A key with plus on control too, and a tilde that waits for a letter:
   > } > de-new.kbd
   $ kmap diff "$examples/de.kbd" de-new.kbd
   # told apart: gs -> '+'
+  # types now: ã ñ õ
+  # more presses: gs ~
+  # gives now: dtil
   # slot 27; ctrl: gs -> '+'; alt: '~' -> dtil; alt ctrl: gs -> dtil
   # dtil; own: none -> '~'; 'a': none -> 'ã'; 'n': none -> 'ñ'; 'o': none -> 'õ'
   down 29
@@ -61,6 +64,7 @@ What can't show, since the key holds shift where it looks the cell up:
   $ echo '042 lshift clock lshift lshift lshift lshift lshift lshift O' > new
   $ kmap diff old new
   # never told apart
+  # clock: nobody -> 42
   # slot 42; shift: nop -> clock
   [1]
 
@@ -98,12 +102,16 @@ An answer to a release tells them apart where those to the press are the same:
   $ { base 040 dacu; echo 'dacu 180'; } > other
   $ kmap diff one other
   # told apart: none -> released dacu
+  # types now: ´
+  # gives now: dacu
   # slot 40; base: nop -> dacu
   down 40
   up 40
   [1]
   $ kmap diff other one
   # told apart: released dacu -> none
+  # types no longer: ´
+  # gives no longer: dacu
   # slot 40; base: dacu -> nop
   down 40
   up 40
@@ -113,6 +121,8 @@ Each answer is told in the words of `play`:
   $ base 040 dacu > one
   $ kmap diff one other
   # told apart: error -> none
+  # types now: ´
+  # gives now: dacu
   # last accent: none -> dacu
   # dacu; own: none -> '´'
   down 40
@@ -121,12 +131,16 @@ Each answer is told in the words of `play`:
   $ base 015 fkey07 > other
   $ kmap diff one other
   # told apart: btab -> fkey07
+  # gives no longer: btab
+  # gives now: fkey07
   # slot 15; base: btab -> fkey07
   down 15
   [1]
   $ base 015 "'''" > one
   $ kmap diff one other
   # told apart: ''' -> fkey07
+  # types no longer: '
+  # gives now: fkey07
   # slot 15; base: ''' -> fkey07
   down 15
   [1]
@@ -134,6 +148,8 @@ Each answer is told in the words of `play`:
   $ base 015 slock > other
   $ kmap diff one other
   # told apart: lshift -> slock
+  # lshift: 15 -> nobody
+  # slock: nobody -> 15
   # slot 15; base: lshift -> slock
   down 15
   [1]
@@ -153,6 +169,8 @@ does so in another state.
   $ { base 000 nop; base 001 "'c'"; } > other
   $ kmap diff one other
   # told apart: 'b' -> 'c'
+  # types no longer: b
+  # types now: c
   # slot 0; base: nul -> nop
   # slot 1; base: 'b' -> 'c'
   down 1
@@ -162,6 +180,8 @@ does so in another state.
   $ { all 29 lctrl; all 42 lshift; } | tee -a one >> other
   $ kmap diff one other
   # told apart: none -> nul
+  # types no longer: A
+  # types now: B
   # slot 0; ctrl: nop -> nul
   # slot 30; shift: 'A' -> 'B'
   down 29
@@ -173,6 +193,8 @@ A key that looks up one of them is told where fewer presses lead there:
   $ { base 000 nop; echo "30 'a' 'B' nop nop nop nop nop nop O"; all 42 lshift; } > other
   $ kmap diff one other
   # told apart: nul -> none
+  # types no longer: A
+  # types now: B
   # slot 0; base: nul -> nop
   # slot 30; shift: 'A' -> 'B'
   down 0
@@ -191,6 +213,8 @@ Each change has a line of its own, by slots and then by columns:
   > } > other
   $ kmap diff one other
   # told apart: 'a' -> 'b'
+  # types now: B b
+  # more presses: A a
   # slot 2; base, ctrl: 'a' -> 'b'; shift, ctrl shift: 'A' -> 'B'
   # slot 3; base, ctrl: 'a' -> 'b'; shift, ctrl shift: 'A' -> 'B'
   # slot 4; base, ctrl: 'a' -> 'b'; shift, ctrl shift: 'A' -> 'B'
@@ -202,6 +226,8 @@ Each change has a line of its own, by slots and then by columns:
   $ { all 30 "'b'"; all 42 lshift; } > other
   $ kmap diff one other
   # told apart: 'a' -> 'b'
+  # types no longer: a
+  # types now: b
   # slot 30; base, shift: 'a' -> 'b'; ctrl, ctrl shift, alt, alt shift, alt ctrl, alt ctrl shift: 'a' -> 'b' (unseen)
   down 30
   [1]
@@ -214,6 +240,7 @@ Lock letters, where the lock is there, and where it isn't:
   $ { letters C; all 58 clock; } > other
   $ kmap diff one other
   # told apart: 'a' -> 'A'
+  # types now: A
   # slot 16; lock: O -> C
   # slot 17; lock: O -> C
   # slot 30; lock: O -> C
@@ -244,6 +271,8 @@ The upper half, which a lock selects:
   $ { all 30 "'a'"; all 58 alock; all 158 "'c'"; all 186 alock; } > other
   $ kmap diff one other
   # told apart: 'b' -> 'c'
+  # types no longer: b
+  # types now: c
   # slot 158; base: 'b' -> 'c'; shift, ctrl, ctrl shift, alt, alt shift, alt ctrl, alt ctrl shift: 'b' -> 'c' (unseen)
   down 58
   up 58
@@ -256,6 +285,8 @@ What an accent makes of letters, on which keys give them and no key gives them:
   $ { cat keys; echo "dacu 180 ( 'u' 250 ) ( 'o' 242 ) ( 'a' 226 ) ( 'i' 250 )"; } > other
   $ kmap diff one other
   # told apart: 'á' -> 'â'
+  # types no longer: á é
+  # types now: â
   # dacu; 'a': 'á' -> 'â'; 'e': 'é' -> none; 'o': 'ó' -> 'ò' (unseen); 'u': none -> 'ú' (unseen); 'i': none -> 'ú' (unseen)
   down 40
   up 40
@@ -265,6 +296,7 @@ What an accent makes of letters, on which keys give them and no key gives them:
   $ { cat keys; echo "dacu 180 ( 'a' 225 ) ( 'o' 243 )"; } > other
   $ kmap diff one other
   # told apart: 'é' -> error
+  # types no longer: é
   # dacu; 'e': 'é' -> none
   down 40
   up 40
@@ -276,6 +308,8 @@ Its own character, by a repeat or a blank:
   $ { all 40 dacu; echo "dacu '~'"; } > other
   $ kmap diff one other | grep '^#'
   # told apart: '´' -> '~'
+  # types no longer: ´
+  # types now: ~
   # dacu; own: '´' -> '~'
   $ apart one other
 
@@ -322,6 +356,9 @@ A key that is pressed again, where shift is a character under control; and a key
   $ sed "s/'x'    'x'/lshift lshift/" "$examples/trap.kbd" > safe
   $ kmap diff safe "$examples/trap.kbd"
   # told apart: lshift -> 'x'
+  # check: accepted -> refused
+  # refused now: 42 (lshift, 'x')
+  # types now: x
   # slot 42; ctrl, ctrl shift: lshift -> 'x'
   down 29
   down 42
@@ -373,6 +410,7 @@ of all lists, so it goes no further than the two presses that lead there.
   $ sticking "'D'" > other
   $ kmap diff one other
   # undecided: no list of up to 2 presses tells them apart
+  # types: undecided
   # slot 30; ctrl shift: 'd' -> 'D'
   [1]
   $ printf 'down 42\ndown 50\nrepeat 42\nup 42\nup 50\ndown 42\ndown 30\n' > script
@@ -385,6 +423,7 @@ As many, where a press tells them apart at once:
   $ { cat one; all 90 "'a'"; all 218 "'a'"; } > other
   $ kmap diff one other | grep -v '^# last slot'
   # told apart: nul -> 'a'
+  # types: undecided
   # slot 90; all columns: nul -> 'a'
   # slot 218; all columns: nul -> 'a'
   down 90
@@ -394,6 +433,8 @@ As many, where a press tells them apart at once:
   $ base 30 "'b'" > other
   $ kmap diff - other < one
   # told apart: 'a' -> 'b'
+  # types no longer: a
+  # types now: b
   # slot 30; base: 'a' -> 'b'
   down 30
   [1]
@@ -408,6 +449,9 @@ As many, where a press tells them apart at once:
 In brief the slots and accents that differ are counted, and there are no events:
   $ kmap diff --brief "$examples/de.kbd" de-new.kbd
   # told apart: gs -> '+'
+  # types now: ã ñ õ
+  # more presses: gs ~
+  # gives now: dtil
   # differ: 1 slot, 1 accent
   [1]
   $ kmap diff --brief "$examples/us.kbd" us-more.kbd
@@ -417,6 +461,12 @@ In brief the slots and accents that differ are counted, and there are no events:
   [1]
   $ kmap diff --brief "$examples/us.kbd" "$examples/de.kbd"
   # told apart: '-' -> 'ß'
+  # types no longer: Ã Ñ Õ ã ñ õ
+  # types now: § ° ² ³ µ Å ß å Ů ů ˚ ẞ €
+  # more presses: ' ; = [ \ ] `
+  # fewer presses: # + ´ Ä Ö Ü á â ä é ê í î ó ô ö ú û ü ý
+  # gives no longer: dtil
+  # gives now: drin
   # last accent: duml -> drin
   # differ: 51 slots, 2 accents
   [1]
@@ -425,6 +475,7 @@ In brief the slots and accents that differ are counted, and there are no events:
   $ sed "s/( 'u' 'ů' )/& ( 'w' 'ẘ' )/" "$examples/de.kbd" > more.kbd
   $ kmap diff --brief "$examples/de.kbd" more.kbd
   # told apart: error -> 'ẘ'
+  # types now: ẘ
   # differ: 1 accent
   [1]
   $ all 60 nul > longer

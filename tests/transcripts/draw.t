@@ -258,3 +258,145 @@ A text with a fault, and none:
   $ kmap draw none
   ! kmap: cannot open none: No such file or directory
   [1]
+
+Several texts, one picture behind the other, each with the name of its text unless another one is given:
+  $ kmap draw empty "$examples/us.kbd" > pictures
+  $ grep -c '^<svg' pictures
+  2
+  $ kmap draw --title empty empty > picture && kmap draw --title "$examples/us.kbd" "$examples/us.kbd" >> picture
+  $ cmp picture pictures
+  $ kmap draw --title one empty none cut empty > pictures
+  ! kmap: cannot open none: No such file or directory
+  ! cut:1:4: error: the text ends in a quoted character [EndInside]
+  !   1 '
+  !      ^
+  [1]
+  $ kmap draw --title one empty > picture
+  $ cat picture picture | cmp - pictures
+
+A change: `list` prints the headlines and lines below the board that tell it, with where they stand; `marked` the key or
+slot of each line in a title, with the classes of its key.
+  $ list() {
+  >     sed -n 's/^<text x="28" y="\([0-9]*\)" class="\(h\|l\|h no\)"[^>]*>\(.*\)<\/text>$/\1 \3/p' picture |
+  >         sed 's/&#x003c;/</g; s/&#x003e;/>/g; s/&#x0026;/\&/g' | sed '/^42 /d; / Accents$/d'
+  > }
+  $ marked() {
+  >     awk '/^<g role="img"/ { class = ""; if (match($0, /class="[^"]*"/)) class = substr($0, RSTART + 7, RLENGTH - 8) }
+  >         /^slot / { sub(";.*", ""); print $0, class }' picture
+  > }
+  $ sed '/^  058/s/clock/lctrl/g' "$examples/us.kbd" > caps.kbd
+  $ cp "$examples/us.kbd" "$examples/de.kbd" .
+  $ draws --old us.kbd --title caps.kbd caps.kbd
+  $ list
+  514 Changed from us.kbd: 1 key
+  540 told apart: clock -> lctrl
+  560 lctrl: 29 -> 29, 58
+  580 clock: 58 -> nobody
+  600 Amber: base or shift differs; pale amber: only other columns, or the lock letter. Below right on a changed key stands what it was, in the first of its four cells that differs.
+  $ marked
+  slot 58 m n
+  $ has '<svg xmlns="http://www.w3.org/2000/svg" width="1492" height="1018" viewBox="0 0 1492 1018" ' \
+  >     '<g role="img" class="m n" transform="translate(28 276)"><title>058 lctrl lctrl lctrl lctrl lctrl lctrl lctrl lctrl O' \
+  >     'slot 58; all columns: clock -&#x003e; lctrl</title><use href="#d"/><text x="8" y="57">58</text><text x="54" y="30" class="x c m">lctrl</text><text class="s" x="100" y="57">clock</text></g>' \
+  >     '.n use{color:#e08700}.q use{color:#f1c27d}.n use+text,.q use+text,.n>.s,.q>.s{fill:#2b1a00}.n>.s,.q>.s{font-size:10px;text-anchor:end}' \
+  >     '.n use{color:#e09a35}.q use{color:#80591f}.n use+text,.n>.s{fill:#1c1000}.q use+text,.q>.s{fill:#ffe2b0}rect.n{fill:#4a3413}'
+
+A slip that `check` finds: the line of the change stands below that of the slot.
+  $ sed "/^  042/s/.*/042 lshift lshift 'x' 'x' lshift lshift lshift lshift O/" us.kbd > slip.kbd
+  $ draws --old us.kbd slip.kbd
+  $ list
+  514 Changed from us.kbd: 1 key
+  540 told apart: lshift -> 'x'
+  560 check: accepted -> refused
+  580 refused now: 42 (lshift, 'x')
+  600 Amber: base or shift differs; pale amber: only other columns, or the lock letter. Below right on a changed key stands what it was, in the first of its four cells that differs.
+  652 Findings
+  $ has '<g role="img" class="f q" transform="translate(28 340)"><title>key 42: lshift at slot 42 column 0, character at slot 42 column 2' \
+  >     "042 lshift lshift 'x' 'x' lshift lshift lshift lshift O" \
+  >     "slot 42; ctrl, ctrl shift: lshift -&#x003e; 'x'</title><use href=\"#b\"/><text x=\"8\" y=\"57\">42</text><text x=\"38\" y=\"30\" class=\"x c m\">lshift</text></g>"
+
+Another keymap: each slot that `diff` names has its line in a title, and no other one; so have accents, but for those that
+are no more. The line of an accent that differs ends its title.
+  $ draws --old us.kbd de.kbd
+  $ list
+  514 Changed from us.kbd: 51 keys, 2 accents
+  540 told apart: '-' -> '&#x00df;'
+  560 types no longer: &#x00c3; &#x00d1; &#x00d5; &#x00e3; &#x00f1; &#x00f5;
+  580 types now: &#x00a7; &#x00b0; &#x00b2; &#x00b3; &#x00b5; &#x00c5; &#x00df; &#x00e5; &#x016e; &#x016f; &#x02da; &#x1e9e; &#x20ac;
+  600 more presses: ' ; = [ \ ] `
+  620 fewer presses: # + &#x00b4; &#x00c4; &#x00d6; &#x00dc; &#x00e1; &#x00e2; &#x00e4; &#x00e9; &#x00ea; &#x00ed; &#x00ee; &#x00f3; &#x00f4; &#x00f6; &#x00fa; &#x00fb; &#x00fc; &#x00fd;
+  640 gives no longer: dtil
+  660 gives now: drin
+  680 last accent: duml -> drin
+  700 dtil; own: '~' -> none; 'a': '&#x00e3;' -> none; 'A': '&#x00c3;' -> none; 'n': '&#x00f1;' -> none; 'N': '&#x00d1;' -> none; 'o': '&#x00f5;' -> none; 'O': '&#x00d5;' -> none
+  720 Amber: base or shift differs; pale amber: only other columns, or the lock letter. Below right on a changed key stands what it was, in the first of its four cells that differs.
+  $ kmap diff us.kbd de.kbd | sed -n 's/^# \(slot [0-9]*\);.*/\1/p' | sort > slots
+  $ marked | sed 's/^\(slot [0-9]*\) .*/\1/' | sort | cmp - slots
+  $ marked | grep -c ' n$'
+  21
+  $ has '<g role="img" class="q" transform="translate(1276 148)">' "slot 91; lock: N -&#x003e; O</title><use href=\"#a\"/><text x=\"8\" y=\"57\">91</text><text x=\"30\" y=\"33\" class=\"z c\">/</text></g>" \
+  >     '<text x="10" y="20">"</text><text x="50" y="41" class="r a">&#x00b2;</text><text class="s" x="52" y="57">@</text></g>' \
+  >     "'U': none -&#x003e; '&#x016e;'</title><rect class=\"row n\" width=\"1460\" height=\"48\" rx=\"8\"/>"
+
+What was nothing, and of the four cells the first one that differs:
+  $ printf '%s\n' "2 nop '!' nop nop nop nop nop nop O" "3 'a' 'A' 'x' nop '+' 'a' nop nop O" > old
+  $ printf '%s\n' "2 'a' '!' nop nop nop nop nop nop O" "3 'a' 'A' nop nop '+' nul nop nop C" > new
+  $ draws --old old new
+  $ grep -o '<text class="s"[^<]*' picture
+  <text class="s" x="52" y="57">&#x2205;
+  <text class="s" x="52" y="57">a
+  $ marked
+  slot 2 n
+  slot 3 (unseen) q
+
+A key that the board doesn't have stands below what changed, also one that was removed:
+  $ sed '/^  086/d' de.kbd > no-86.kbd
+  $ draws --ansi --old de.kbd no-86.kbd
+  $ grep -o '<text x="28" y="[0-9]*" class="l">Keys that' picture
+  <text x="28" y="622" class="l">Keys that
+  $ has '<g role="img" class="p n" transform="translate(28 632)"><title>086 nul nul nul nul nul nul nul nul O'
+
+A slot of an upper half that no key selects stands in the list. A long line is broken at blanks:
+  $ { cat us.kbd; echo "144 'a' 'b' 'c' 'd' 'e' 'f' 'g' 'h' C"; echo "145 'q' 'Q' nop nop 'q' 'Q' nop nop C"; } > longer.kbd
+  $ draws --old us.kbd longer.kbd
+  $ list
+  514 Changed from us.kbd: 2 slots
+  540 never told apart
+  560 last slot: 108 -> 145
+  580 slot 144 (unseen); base: nul -> 'a'; shift: nul -> 'b'; ctrl: nul -> 'c'; ctrl shift: nul -> 'd'; alt: nul -> 'e'; alt shift: nul -> 'f'; alt ctrl: nul -> 'g'; alt ctrl shift: nul ->
+  600     'h'; lock: O -> C
+  620 slot 145 (unseen); base, alt: nul -> 'q'; shift, alt shift: nul -> 'Q'; ctrl, ctrl shift, alt ctrl, alt ctrl shift: nul -> nop; lock: O -> C
+  640 Amber: base or shift differs; pale amber: only other columns, or the lock letter. Below right on a changed key stands what it was, in the first of its four cells that differs.
+
+The same keymap, and several texts; each is compared with the old one:
+  $ draws --old us.kbd --title us us.kbd
+  $ list
+  514 Changed from us.kbd: nothing
+  $ marked
+  $ kmap draw --old us.kbd us.kbd caps.kbd | grep -o 'Changed from us.kbd: [^<]*'
+  Changed from us.kbd: nothing
+  Changed from us.kbd: 1 key
+  $ kmap draw --old - caps.kbd < us.kbd | grep -o 'Changed from [^<]*'
+  Changed from -: 1 key
+  $ kmap draw --old - - < us.kbd
+  ! error: '-' is standard input, which can be given only once
+  ! 
+  ! Usage: kmap <COMMAND>
+  ! 
+  ! For more information, try '--help'.
+  [2]
+
+The fault of the old text is told, and else that of the new one:
+  $ kmap draw --old cut us.kbd
+  ! cut:1:4: error: the text ends in a quoted character [EndInside]
+  !   1 '
+  !      ^
+  [1]
+  $ kmap draw --old us.kbd cut
+  ! cut:1:4: error: the text ends in a quoted character [EndInside]
+  !   1 '
+  !      ^
+  [1]
+  $ kmap draw --old none us.kbd
+  ! kmap: cannot open none: No such file or directory
+  [1]

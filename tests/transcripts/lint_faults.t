@@ -11,7 +11,7 @@ and the note of the last one shows where its definition begins:
   > 032 'd' 'D'
   >     eot eof 'd' 'D' eot eot C
   > END
-  $ kmap lint t
+  $ kmap lint --quiet t
   t:1:37: error: X means nothing; a lock letter is O, C, N or B [BadWord]
     030 'a' 'A' soh soh 'a' 'A' soh soh X
                                         ^
@@ -37,8 +37,8 @@ and the note of the last one shows where its definition begins:
 
 A line has one fault at most, and what a text without faults is told of isn't told:
   $ printf "30 zz yy\n30 lshift 'A' nop nop 'a' 'A' nop nop O\n300 300\n" > t
-  $ kmap lint t
-  t:1:4: error: zz means nothing; a cell that gives nothing is nop [BadWord]
+  $ kmap lint --quiet t
+  t:1:4: error: zz means nothing; a character is written as 'x' or 0xh, a cell that gives nothing as nop [BadWord]
     30 zz yy
        ^
   t:3:1: error: 300 is no slot: slots are 0 to 255 [KeyTooLarge]
@@ -49,16 +49,16 @@ A line has one fault at most, and what a text without faults is told of isn't to
 A fault in the last line, which no line feed ends; a definition that the text breaks off there, a quoted character, and
 an empty line:
   $ printf '300\n30 zz' > t
-  $ kmap lint t
+  $ kmap lint --quiet t
   t:1:1: error: 300 is no slot: slots are 0 to 255 [KeyTooLarge]
     300
     ^
-  t:2:4: error: zz means nothing; a cell that gives nothing is nop [BadWord]
+  t:2:4: error: zz means nothing; a character is written as 'x' or 0xh, a cell that gives nothing as nop [BadWord]
     30 zz
        ^
   [1]
   $ printf "300\n30 'a'" > t
-  $ kmap lint t
+  $ kmap lint --quiet t
   t:1:1: error: 300 is no slot: slots are 0 to 255 [KeyTooLarge]
     300
     ^
@@ -67,7 +67,7 @@ an empty line:
           ^
   [1]
   $ printf "300\n30 '" > t
-  $ kmap lint t
+  $ kmap lint --quiet t
   t:1:1: error: 300 is no slot: slots are 0 to 255 [KeyTooLarge]
     300
     ^
@@ -76,7 +76,7 @@ an empty line:
         ^
   [1]
   $ printf '300\n\n' > t
-  $ kmap lint t
+  $ kmap lint --quiet t
   t:1:1: error: 300 is no slot: slots are 0 to 255 [KeyTooLarge]
     300
     ^
@@ -85,22 +85,22 @@ an empty line:
 Of 20 faults all are told, and of more the first 20:
   $ many() {
   >     yes '30 zz' | head -n "$1" > t
-  >     kmap lint t > printed
+  >     kmap lint --quiet t > printed
   >     grep -c ': error: ' printed
   >     tail -n 3 printed
   > }
   $ many 20
   20
-  t:20:4: error: zz means nothing; a cell that gives nothing is nop [BadWord]
+  t:20:4: error: zz means nothing; a character is written as 'x' or 0xh, a cell that gives nothing as nop [BadWord]
     30 zz
        ^
   $ many 21
   20
-  t:20:4: error: zz means nothing; a cell that gives nothing is nop [BadWord]
     30 zz
        ^
+  t:1:1: note: more faults follow
   $ many 100000
   20
-  t:20:4: error: zz means nothing; a cell that gives nothing is nop [BadWord]
     30 zz
        ^
+  t:1:1: note: more faults follow

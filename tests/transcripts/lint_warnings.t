@@ -7,7 +7,7 @@ defined-again. A slot, whose last definition counts:
   >   30 'b' 'B' nop nop 'b' 'B' nop nop C # this too
   > 30 'a' 'A' nop nop 'a' 'A' nop nop C
   > END
-  $ kmap lint t
+  $ kmap lint --quiet t
   t:2:1: warning: this definition of slot 30 has no effect: line 4 defines it again [defined-again]
     30 'a' 'A' nop nop 'a' 'A' nop nop C
     ^
@@ -21,7 +21,7 @@ An accent, in capitals too:
   > dacu 180 ( 'a' 0xe1 )
   > DACU 180 ( 'e' 0xe9 )
   > END
-  $ kmap lint t
+  $ kmap lint --quiet t
   t:2:1: warning: this definition of dacu has no effect: line 3 defines it again, and pairs are not joined [defined-again]
     dacu 180 ( 'a' 0xe1 )
     ^
@@ -34,7 +34,7 @@ Nothing else is told of definitions without effect: not the letter under shift, 
   > dacu 180
   > 40 dacu nop nop nop nop nop nop nop O
   > END
-  $ kmap lint t
+  $ kmap lint --quiet t
   t:1:1: warning: this definition of slot 42 has no effect: line 2 defines it again [defined-again]
     42 lshift 'x' 1 nop nop nop nop nop O
     ^
@@ -47,7 +47,7 @@ dead-key. Not of one that is never looked at:
   > 42 lshift lshift lshift lshift lshift lshift lshift lshift O
   > 169 dgra dgra dgra dgra dgra dgra dgra dgra O
   > END
-  $ kmap lint t
+  $ kmap lint --quiet t
   t:2:1: warning: no key is ashift or alock, so slot 169 is never looked at [unused-half]
     169 dgra dgra dgra dgra dgra dgra dgra dgra O
     ^
@@ -57,7 +57,7 @@ One dead key and no accent, and then several:
   > 42 lshift lshift lshift lshift lshift lshift lshift lshift O
   > 40 dacu nop nop nop nop nop nop nop O
   > END
-  $ kmap lint t
+  $ kmap lint --quiet t
   t:2:4: warning: the text defines no accent, so pressing dacu is an error [dead-key]
     40 dacu nop nop nop nop nop nop nop O
        ^
@@ -65,19 +65,19 @@ One dead key and no accent, and then several:
   > 42 lshift lshift lshift lshift lshift lshift lshift lshift O
   > 40 nop dcar dacu nop nop nop nop dgra O
   > END
-  $ kmap lint t
+  $ kmap lint --quiet t
   t:2:8: warning: the text defines no accent, so pressing dgra, dacu or dcar is an error [dead-key]
     40 nop dcar dacu nop nop nop nop dgra O
            ^
 
 Several dead keys with another accent, and then one with others:
   $ echo 'dacu 180' >> t
-  $ kmap lint t
+  $ kmap lint --quiet t
   t:2:8: warning: the text does not define dgra or dcar, so pressing one is an error [dead-key]
     40 nop dcar dacu nop nop nop nop dgra O
            ^
   $ echo 'dcar 711' >> t
-  $ kmap lint t
+  $ kmap lint --quiet t
   t:2:34: warning: the text does not define dgra, so pressing it is an error [dead-key]
     40 nop dcar dacu nop nop nop nop dgra O
                                      ^
@@ -89,7 +89,7 @@ zero-accent. Of an accent with a dead key, not of one without:
   > dacu 0 ( 'a' 0xe1 )
   > dgra nul
   > END
-  $ kmap lint t
+  $ kmap lint --quiet t
   t:3:6: warning: with the character 0 dacu counts as not defined, so pressing it is an error and its pairs have no effect [zero-accent]
     dacu 0 ( 'a' 0xe1 )
          ^
@@ -101,7 +101,7 @@ pair-again. Pairs of one base, however it is written:
   > ( 97 0xe0 )
   > dgra '`' ( 'a' 0xe0 )( 'a' 0xe0 )
   > END
-  $ kmap lint t
+  $ kmap lint --quiet t
   t:3:1: warning: this pair has no effect: dacu has one with the base 'a' before it, in line 2 [pair-again]
     ( 97 0xe0 )
     ^
@@ -119,7 +119,7 @@ The first one has an effect:
   > ( 0x7 0x3ac )
   > ( 0x3b1 0x3ae )
   > END
-  $ kmap lint t
+  $ kmap lint --quiet t
   t:5:1: warning: this pair has no effect: dacu has one with the base 'α' before it, in line 3 [pair-again]
     ( 0x3b1 0x3ad )
     ^
@@ -138,7 +138,7 @@ unused-half. An upper half that no key selects, or only it would:
   > 129 nop nop nop nop nop nop nop nop O 128 nop nop nop nop nop nop nop nop O
   > 130 nop nop nop nop nop nop nop nop O
   > END
-  $ kmap lint t
+  $ kmap lint --quiet t
   t:2:3: warning: no key is ashift or alock, so slots 128 to 130, 170, 255 are never looked at [unused-half]
       255 nop nop nop nop nop nop nop nop O
       ^
@@ -146,7 +146,7 @@ unused-half. An upper half that no key selects, or only it would:
   > 42 lshift lshift lshift lshift lshift lshift lshift lshift O
   > 170 ashift alock nop nop nop nop nop nop O
   > END
-  $ kmap lint t
+  $ kmap lint --quiet t
   t:2:1: warning: no key is ashift or alock, so slot 170 is never looked at [unused-half]
     170 ashift alock nop nop nop nop nop nop O
     ^
@@ -157,10 +157,13 @@ bare-digit. Of cells alone, and of one decimal digit:
   > 2 1 '2' 03 0x4 10 5 9 0 O
   > dacu 1 ( 2 3 )
   > END
-  $ kmap lint t
+  $ kmap lint --quiet t
   t:2:3: warning: 1 is the character number 1, which is soh; the digit is '1' [bare-digit]
     2 1 '2' 03 0x4 10 5 9 0 O
       ^
+  t:2:9: warning: 03 is the decimal number 3, which is etx [octal-like]
+    2 1 '2' 03 0x4 10 5 9 0 O
+            ^
   t:2:19: warning: 5 is the character number 5, which is enq; the digit is '5' [bare-digit]
     2 1 '2' 03 0x4 10 5 9 0 O
                       ^
@@ -179,7 +182,7 @@ The order: first what is of the whole text, then by place.
   > dgra 96 ( 'a' 0xe0 ) ( 'a' 0xe1 )
   > 2 nop dacu nop nop nop nop nop 7 O
   > END
-  $ kmap lint t
+  $ kmap lint --quiet t
   t:1:1: warning: no key is lshift or rshift [no-shift]
   t:1:1: warning: this definition of slot 2 has no effect: line 5 defines it again [defined-again]
     2 1 dacu nop nop nop nop nop nop O
@@ -199,8 +202,8 @@ The order: first what is of the whole text, then by place.
 
 A fault is told alone:
   $ echo '31 zz' >> t
-  $ kmap lint t
-  t:6:4: error: zz means nothing; a cell that gives nothing is nop [BadWord]
+  $ kmap lint --quiet t
+  t:6:4: error: zz means nothing; a character is written as 'x' or 0xh, a cell that gives nothing as nop [BadWord]
     31 zz
        ^
   [1]

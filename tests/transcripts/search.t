@@ -143,3 +143,38 @@ A fault of the first, of the next, a folder as next, and none:
   $ kmap search cut --next none2
   ! kmap: cannot open none2: No such file or directory
   [2]
+
+Several texts, of which each answer stands behind the name; one that can't be read or has a fault gets its lines, and
+the next one follows. The status is that of all:
+  $ kmap search lock "$examples/us.kbd" | sed "s:$examples/::"
+  lock
+  # never sticks
+  us.kbd
+  # never sticks
+  $ kmap search lock half cut none2 lock
+  lock
+  # never sticks
+  half
+  # sticks: lshift
+  down 42
+  down 58
+  up 58
+  down 42
+  up 42
+  lock
+  # never sticks
+  ! cut:1:4: error: the text ends in a quoted character [EndInside]
+  !   1 '
+  !      ^
+  ! kmap: cannot open none2: No such file or directory
+  [2]
+  $ kmap search half lock > found
+  [1]
+  $ kmap search locked lock --next locked | sed -n '1,4p'
+  locked
+  # never sticks
+  lock
+  # sticks: lshift
+  $ kmap search lock --next none2 lock
+  ! kmap: cannot open none2: No such file or directory
+  [2]

@@ -123,3 +123,17 @@ each is that file.
   $ kmap play - tap --next -
   press 30: char 97; mods none; locks none
   release 30: none; mods none; locks none
+  $ twice search - shift -
+  error: '-' is standard input, which can be given only once
+  [2]
+  $ twice search shift - --next -
+  error: '-' is standard input, which can be given only once
+  [2]
+  $ twice draw - -
+  error: '-' is standard input, which can be given only once
+  [2]
+  $ kmap search shift - --next shift < shift
+  shift
+  # never sticks
+  -
+  # never sticks

@@ -51,7 +51,7 @@ Wrong words end with status 2, and something is told of them:
   [2]
   $ wrong play letter
   [2]
-  $ wrong search letter tap
+  $ wrong cover letter tap
   [2]
   $ wrong diff letter
   [2]
@@ -142,13 +142,13 @@ What is repeated of wrong words is shown, with no control but line feeds:
   >     tr -d '\012\040-\176\200-\377' < told
   >     return $1
   > }
-  $ shown "'e�[31m.kbd'" search letter "$(printf 'e\033[31m.kbd')"
+  $ shown "'e�[31m.kbd'" cover letter "$(printf 'e\033[31m.kbd')"
   [2]
   $ shown "'e�[31m'" "$(printf 'e\033[31m')"
   [2]
   $ shown "'--e�[31m'" check "$(printf -- '--e\033[31m')" letter
   [2]
-  $ shown "'a�b'" search letter "$(printf 'a\nb')"
+  $ shown "'a�b'" cover letter "$(printf 'a\nb')"
   [2]
 
 A name that begins with a dash is told with a tip, which has the whole word, and which helps:

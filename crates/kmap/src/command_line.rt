@@ -3,11 +3,12 @@ use crate::inputs::is_standard_input;
 use clap::error::{Error, ErrorKind};
 use clap::{Arg, ArgAction, ArgMatches, Command};
 use keymap_fmt::Characters;
+use lint_formats::Format;
 use std::alloc::{AllocError, Global};
 use std::convert::AsStr;
 
 /// The version of the program, which CHANGELOG.md and the manual pages repeat.
-const VERSION: &str = "0.3.0";
+pub(crate) const VERSION: &str = "0.3.0";
 
 /// A word that a subcommand takes. Each has a name, and what the help says of it.
 #[derive(Clone, Copy)]
@@ -25,9 +26,11 @@ enum Word {
     /// An option that takes a text, with the name of the text in between, and that of the file in whose place it stands
     /// last.
     TextOption(&'static str, &'static str, &'static str, &'static str),
+    /// An option that takes one of the words that stand last, with what it takes in between.
+    Choice(&'static str, &'static str, &'static str, &'static [&'static str]),
 }
 
-use Word::{File, FileOption, FileUnless, Files, Flag, FlagWithout, TextOption};
+use Word::{Choice, File, FileOption, FileUnless, Files, Flag, FlagWithout, TextOption};
 
 /// What the help says of a subcommand, and the words that it takes.
 struct Described {
@@ -48,6 +51,12 @@ const TEXTS: Word = Files("TEXT", "The keymap texts");
 
 /// The keymap texts, where one may be the standard input.
 const STREAMS: Word = Files("TEXT", "The keymap texts, or - for standard input");
+
+/// What `lint` may print in, the first one where nothing is said.
+const FORMATS: [&str; 4] = ["text", "github", "json", "sarif"];
+
+/// When `lint` may print in colours, the first one where nothing is said.
+const COLOURS: [&str; 3] = ["auto", "always", "never"];
 
 const NEXT: Word = FileOption("next", "TEXT2", "The keymap text that a load puts in force");
 
@@ -77,7 +86,7 @@ static SUBCOMMANDS: [Described; 11] = [
         example: "Example: kmap search de.kbd{n}{n}\
             Status: 0 never sticks, 1 sticks or undecided, 2 a fault or wrong words.{n}{n}\
             kmap(1) tells how to read the answer.",
-        words: &[STREAM, NEXT],
+        words: &[STREAMS, NEXT],
     },
     Described {
         name: "diff",
@@ -104,6 +113,9 @@ static SUBCOMMANDS: [Described; 11] = [
             STREAMS,
             Flag("strict", "Counts warnings as errors"),
             FileOption("name", "FILE", "The name that standard input is told under"),
+            Choice("format", "FORMAT", "How to print what is found", &FORMATS),
+            Flag("quiet", "Leaves the count of errors and warnings out"),
+            Choice("color", "WHEN", "When to print in colours", &COLOURS),
         ],
     },
     Described {
@@ -192,14 +204,19 @@ static SUBCOMMANDS: [Described; 11] = [
     },
     Described {
         name: "draw",
-        about: "Draws a keymap as one SVG picture",
+        about: "Draws keymaps as SVG pictures",
         example: "Example: kmap draw de.kbd > de.svg{n}{n}\
             Status: 0 done, 1 a fault, 2 wrong words.{n}{n}\
             kmap(1) tells how to read the picture.",
         words: &[
-            STREAM,
+            STREAMS,
             Flag("ansi", "Draws a board of 104 keys in place of 105"),
             FileOption("title", "NAME", "The name in the headline"),
+            FileOption(
+                "old",
+                "OLD",
+                "The keymap text, or -, since which changes are marked",
+            ),
         ],
     },
 ];
@@ -234,6 +251,10 @@ fn argument<'a>(alloc: Global, word: Word) -> Result<Arg<'a>, AllocError> {
         TextOption(name, value, help, file) => {
             let option = named(alloc, name, help, ArgAction::Set).long(name);
             option.value_name(value).conflicts_with(file)
+        }
+        Choice(name, value, help, choices) => {
+            let option = named(alloc, name, help, ArgAction::Set).long(name);
+            Ok(option.value_name(value).value_parser(choices))
         }
     }
 }
@@ -326,6 +347,28 @@ pub(crate) enum Sentence<'a> {
     Text(&'a str),
 }
 
+/// When `lint` prints in colours.
+#[derive(Clone, Copy)]
+pub(crate) enum Colour {
+    /// On a terminal.
+    Auto,
+    Always,
+    Never,
+}
+
+/// How texts are linted.
+#[derive(Clone, Copy, Drop)]
+pub(crate) struct LintMode<'a> {
+    /// What stands for the name of the standard input.
+    pub(crate) name: Option<&'a str>,
+    /// Warnings count as errors.
+    pub(crate) is_strict: bool,
+    /// It isn't told how many errors and warnings there are.
+    pub(crate) is_quiet: bool,
+    pub(crate) format: Format,
+    pub(crate) colour: Colour,
+}
+
 /// What is done with the layout of a text.
 #[derive(Clone, Copy)]
 pub(crate) enum FmtMode {
@@ -355,10 +398,7 @@ pub(crate) enum Request<'m, 'a> {
     },
     Lint {
         texts: &'m [&'a str],
-        /// What stands for the name of the standard input.
-        name: Option<&'a str>,
-        /// Warnings count as errors.
-        is_strict: bool,
+        mode: LintMode<'a>,
     },
     Fmt {
         texts: &'m [&'a str],
@@ -366,7 +406,7 @@ pub(crate) enum Request<'m, 'a> {
         characters: Characters,
     },
     Search {
-        text: &'a str,
+        texts: &'m [&'a str],
         next: Option<&'a str>,
     },
     Diff {
@@ -389,10 +429,12 @@ pub(crate) enum Request<'m, 'a> {
         text: &'a str,
     },
     Draw {
-        text: &'a str,
+        texts: &'m [&'a str],
         ansi: bool,
         /// The name in the headline, where one is given.
-        title: &'a str,
+        title: Option<&'a str>,
+        /// The text of the keymap since which changes are marked.
+        old: Option<&'a str>,
     },
 }
 
@@ -425,11 +467,35 @@ fn check_request<'m, 'a>(words: &'m ArgMatches<'a>) -> Option<Request<'m, 'a>> {
     })
 }
 
+/// The format of one of `FORMATS`.
+fn format_of(word: Option<&str>) -> Format {
+    match word {
+        Some("github") => Format::Github,
+        Some("json") => Format::Json,
+        Some("sarif") => Format::Sarif,
+        _ => Format::Text,
+    }
+}
+
+/// The choice of one of `COLOURS`.
+fn colour_of(word: Option<&str>) -> Colour {
+    match word {
+        Some("always") => Colour::Always,
+        Some("never") => Colour::Never,
+        _ => Colour::Auto,
+    }
+}
+
 fn lint_request<'m, 'a>(words: &'m ArgMatches<'a>) -> Option<Request<'m, 'a>> {
     Some(Request::Lint {
         texts: words.get_strs("TEXT")?,
-        name: words.get_str("name"),
-        is_strict: words.get_flag("strict"),
+        mode: LintMode {
+            name: words.get_str("name"),
+            is_strict: words.get_flag("strict"),
+            is_quiet: words.get_flag("quiet"),
+            format: format_of(words.get_str("format")),
+            colour: colour_of(words.get_str("color")),
+        },
     })
 }
 
@@ -455,7 +521,7 @@ fn fmt_request<'m, 'a>(words: &'m ArgMatches<'a>) -> Option<Request<'m, 'a>> {
 
 fn search_request<'m, 'a>(words: &'m ArgMatches<'a>) -> Option<Request<'m, 'a>> {
     Some(Request::Search {
-        text: words.get_str("TEXT")?,
+        texts: words.get_strs("TEXT")?,
         next: words.get_str("next"),
     })
 }
@@ -497,9 +563,10 @@ fn cover_request<'m, 'a>(words: &'m ArgMatches<'a>) -> Option<Request<'m, 'a>> {
 
 fn draw_request<'m, 'a>(words: &'m ArgMatches<'a>) -> Option<Request<'m, 'a>> {
     Some(Request::Draw {
-        text: words.get_str("TEXT")?,
+        texts: words.get_strs("TEXT")?,
         ansi: words.get_flag("ansi"),
-        title: words.get_str("title").unwrap_or(""),
+        title: words.get_str("title"),
+        old: words.get_str("old"),
     })
 }
 
@@ -530,12 +597,24 @@ fn inputs_among(names: &[&str]) -> usize {
 /// Whether a request reads the standard input more than once.
 fn reads_twice(request: &Request<'_, '_>) -> bool {
     match request {
-        Request::Lint { texts, .. } | Request::Fmt { texts, .. } => inputs_among(texts) > 1,
+        Request::Lint { texts, .. }
+        | Request::Fmt { texts, .. }
+        | Request::Draw {
+            texts,
+            old: None,
+            ..
+        }
+        | Request::Search { texts, next: None } => inputs_among(texts) > 1,
         Request::Search {
-            text,
+            texts,
             next: Some(other),
         }
-        | Request::Diff {
+        | Request::Draw {
+            texts,
+            old: Some(other),
+            ..
+        } => inputs_among(texts) > usize::from(!is_standard_input(other)),
+        Request::Diff {
             text,
             next: other,
             ..
@@ -555,14 +634,16 @@ pub(crate) fn contradiction(request: &Request<'_, '_>) -> Option<&'static str> {
         return Some("'-' is standard input, which can be given only once");
     }
     match request {
-        Request::Lint { name: Some(""), .. } => {
-            Some("a value is required for '--name <FILE>' but none was supplied")
-        }
-        Request::Lint {
-            name: Some(_),
-            texts,
-            ..
-        } if inputs_among(texts) == 0 => {
+        Request::Lint { texts, mode } => contradiction_of_name(texts, mode.name),
+        _ => None,
+    }
+}
+
+/// Why a name can't stand for that of the standard input, if it can't.
+fn contradiction_of_name(texts: &[&str], name: Option<&str>) -> Option<&'static str> {
+    match name {
+        Some("") => Some("a value is required for '--name <FILE>' but none was supplied"),
+        Some(_) if inputs_among(texts) == 0 => {
             Some("'--name <FILE>' is a name for standard input, and no TEXT is '-'")
         }
         _ => None,

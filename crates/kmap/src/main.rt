@@ -8,6 +8,7 @@ mod command_line;
 mod compile;
 mod format;
 mod inputs;
+mod lint;
 mod output;
 mod program;
 mod refusal;

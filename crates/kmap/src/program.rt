@@ -2,19 +2,19 @@
 use crate::command_line::{Request, Sentence, contradiction, matches_of, request_of};
 use crate::compile::compile;
 use crate::format::format_texts;
-use crate::inputs::{Text, given, opened, opened_if_named, text_given, text_if_named};
+use crate::inputs::{Text, given, opened, opened_if_named, text_given};
+use crate::lint::lint;
 use crate::output::{Faults, Output};
 use crate::refusal::{contradicted, not_text, refused};
-use crate::texts::{check, lint};
+use crate::texts::{check, draw, search};
 use clap::ArgMatches;
 use keymap_core::{FromStd, Read, write_text};
-use keymap_draw::Board;
 use keymap_names::shown_name;
 use kmap_runs::{
-    CommandError, RunError, cover_run, diff_run, draw_run, dump_narrow_run, dump_run,
-    file_error_line, lint_run, missing_run, search_run, type_run, write_command_error,
-    write_run_error,
+    CommandError, RunError, cover_run, diff_run, dump_narrow_run, dump_run, file_error_line,
+    lint_run, missing_run, type_run, write_command_error, write_run_error,
 };
+use lint_formats::Format;
 use play_core::{Show, play_next};
 use std::alloc::{AllocError, Global};
 use std::convert::AsStr;
@@ -219,6 +219,50 @@ pub(crate) fn of_many<'a>(
     }
 }
 
+/// What became of texts, one after the other, of a command that tells by its status where one can't be read.
+#[derive(Drop)]
+pub(crate) struct Outcomes {
+    is_well: bool,
+    has_failed: bool,
+}
+
+impl Outcomes {
+    pub(crate) fn new() -> Outcomes {
+        Outcomes {
+            is_well: true,
+            has_failed: false,
+        }
+    }
+
+    /// Takes what became of the next text. A failure gets its line, so that another text can follow; where the output
+    /// fails, none does.
+    pub(crate) fn add<'a>(
+        &mut self,
+        alloc: Global,
+        outcome: Result<bool, Failure<'a>>,
+        faults: &mut Faults,
+    ) -> Result<(), Failure<'a>> {
+        match outcome {
+            Ok(is_well) => self.is_well = is_well && self.is_well,
+            Err(failure) if failure.is_of_output() => return Err(failure),
+            Err(failure) => {
+                report(alloc, &failure, faults);
+                self.has_failed = true;
+            }
+        }
+        Ok(())
+    }
+
+    /// Whether all is well with all texts; it is a failure where one of them failed.
+    pub(crate) fn outcome<'a>(&self) -> Result<bool, Failure<'a>> {
+        if self.has_failed {
+            Err(Failure::Told)
+        } else {
+            Ok(self.is_well)
+        }
+    }
+}
+
 /// Writes the line of a failure. Where that can't be done, the status stays.
 pub(crate) fn report(alloc: Global, failure: &Failure<'_>, faults: &mut Faults) {
     match failure {
@@ -301,17 +345,13 @@ fn answer<'a>(
 ) -> Result<bool, Failure<'a>> {
     match request {
         Request::Check { texts, mode } => check(rt, texts, mode, faults),
-        Request::Lint {
-            texts,
-            name,
-            is_strict,
-        } => lint(rt, texts, name, is_strict, faults),
+        Request::Lint { texts, mode } => lint(rt, texts, mode, faults),
         Request::Fmt {
             texts,
             mode,
             characters,
         } => format_texts(rt, mode, characters, texts, faults),
-        Request::Search { text, next } => search(rt, text, next, faults),
+        Request::Search { texts, next } => search(rt, texts, next, faults),
         Request::Diff {
             text,
             next,
@@ -334,7 +374,12 @@ fn answer<'a>(
             missing,
         } => type_sentence(rt, text, sentence, missing, faults),
         Request::Cover { text } => well(cover(rt, text, faults)),
-        Request::Draw { text, ansi, title } => well(draw(rt, text, ansi, title, faults)),
+        Request::Draw {
+            texts,
+            ansi,
+            title,
+            old,
+        } => draw(rt, texts, ansi, title, old, faults),
     }
 }
 
@@ -367,33 +412,12 @@ pub(crate) fn explained<'a, T: Drop>(
 
 /// Tells the faults of a text. Where that can't be done, the status stays.
 fn tell_faults<'a>(rt: &HostRuntime, text: &Text<'_>, faults: &mut Faults) -> Failure<'a> {
-    match lint_run(rt.alloc(), text.name.as_bytes(), &mut text.reader(), faults) {
+    let name = text.name.as_bytes();
+    let mut reader = text.reader();
+    match lint_run(rt.alloc(), Format::Text, false, name, &mut reader, faults) {
         Err(RunError::Memory) => Failure::of_run(RunError::Memory),
         _ => Failure::Told,
     }
-}
-
-fn search<'a>(
-    rt: &HostRuntime,
-    text: &'a str,
-    next: Option<&'a str>,
-    faults: &mut Faults,
-) -> Result<bool, Failure<'a>> {
-    let text = text_given(rt, text)?;
-    let next = text_if_named(rt, next)?;
-    let outcome = search_in(rt, &text, next.as_ref());
-    explained(rt, outcome, &text, next.as_ref(), faults)
-}
-
-fn search_in<'a>(
-    rt: &HostRuntime,
-    text: &Text<'_>,
-    next: Option<&Text<'_>>,
-) -> Result<bool, Failure<'a>> {
-    let mut out = Output::new(rt);
-    let mut next = next.map(|next| next.reader());
-    let outcome = search_run(rt.alloc(), &mut text.reader(), &mut next, &mut out);
-    out.outcome(outcome)
 }
 
 fn diff<'a>(
@@ -523,25 +547,5 @@ fn cover<'a>(rt: &HostRuntime, text: &'a str, faults: &mut Faults) -> Result<(),
     let text = text_given(rt, text)?;
     let mut out = Output::new(rt);
     let outcome = cover_run(rt.alloc(), &mut text.reader(), &mut out);
-    explained(rt, out.outcome(outcome), &text, None, faults)
-}
-
-fn draw<'a>(
-    rt: &HostRuntime,
-    text: &'a str,
-    ansi: bool,
-    title: &str,
-    faults: &mut Faults,
-) -> Result<(), Failure<'a>> {
-    let board = if ansi { Board::Ansi } else { Board::Iso };
-    let text = text_given(rt, text)?;
-    let mut out = Output::new(rt);
-    let outcome = draw_run(
-        rt.alloc(),
-        &mut text.reader(),
-        board,
-        title.as_bytes(),
-        &mut out,
-    );
     explained(rt, out.outcome(outcome), &text, None, faults)
 }

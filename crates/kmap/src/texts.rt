@@ -1,11 +1,12 @@
-//! The commands that look at one text after the other and answer whether all is well: `kmap check` and `kmap lint`.
+//! The commands on one keymap after the other but for `kmap lint`: `kmap check`, `kmap search` and `kmap draw`.
 use crate::command_line::CheckMode;
-use crate::inputs::{given, is_standard_input, opened, text_in_file};
+use crate::inputs::{Text, opened, text_given, text_if_named, text_in_file};
 use crate::output::{Faults, Output, tell};
-use crate::program::{Failure, explained, of_many, report};
-use keymap_core::{Read, ToStd};
+use crate::program::{Failure, Outcomes, explained, of_many, well};
+use keymap_core::ToStd;
+use keymap_draw::Board;
 use keymap_names::shown_name;
-use kmap_runs::{RunError, check_brief_run, check_run, lint_run};
+use kmap_runs::{RunError, check_brief_run, check_run, draw_change_run, draw_run, search_run};
 use std::alloc::{AllocError, Global};
 
 /// Whether each text is accepted. Where there are many, each report stands behind the name of its text, and a line on a
@@ -103,55 +104,125 @@ fn behind_name(alloc: Global, name: &str, report: &[u8]) -> Result<Vec<u8>, Allo
     Ok(told)
 }
 
-/// Whether no text has an error, or where warnings count as errors, nothing is said of any. It is a failure where one
-/// can't be read, whatever is said of the others.
-pub(crate) fn lint<'a>(
+/// Whether no modifier ever sticks under any of the keymaps. Where there are many, what is found of each stands behind
+/// the name of its text.
+pub(crate) fn search<'a>(
     rt: &HostRuntime,
     texts: &[&'a str],
-    name: Option<&'a str>,
-    is_strict: bool,
+    next: Option<&'a str>,
     faults: &mut Faults,
 ) -> Result<bool, Failure<'a>> {
-    let (mut well, mut all_read) = (true, true);
-    for text in texts {
-        match lint_one(rt, text, name, is_strict) {
-            Ok(is_well) => well = is_well && well,
-            Err(failure) if failure.is_of_output() => return Err(failure),
-            Err(failure) => {
-                report(rt.alloc(), &failure, faults);
-                all_read = false;
-            }
-        }
+    if texts.len() == 1 {
+        let text = text_given(rt, texts[0])?;
+        let next = text_if_named(rt, next)?;
+        return search_given(rt, &text, next.as_ref(), false, faults);
     }
-    if all_read {
-        Ok(well)
+    let next = text_if_named(rt, next)?;
+    let mut outcomes = Outcomes::new();
+    for name in texts {
+        let outcome = match text_given(rt, name) {
+            Ok(text) => search_given(rt, &text, next.as_ref(), true, faults),
+            Err(failure) => Err(failure),
+        };
+        outcomes.add(rt.alloc(), outcome, faults)?;
+    }
+    outcomes.outcome()
+}
+
+fn search_given<'a>(
+    rt: &HostRuntime,
+    text: &Text<'a>,
+    next: Option<&Text<'_>>,
+    is_named: bool,
+    faults: &mut Faults,
+) -> Result<bool, Failure<'a>> {
+    let outcome = search_in(rt, text, next, is_named);
+    explained(rt, outcome, text, next, faults)
+}
+
+fn search_in<'a>(
+    rt: &HostRuntime,
+    text: &Text<'a>,
+    next: Option<&Text<'_>>,
+    is_named: bool,
+) -> Result<bool, Failure<'a>> {
+    let mut next = next.map(|next| next.reader());
+    let mut reader = text.reader();
+    if is_named {
+        let mut found = Vec::new(rt.alloc());
+        let mut sheet = ToStd::new(&mut found);
+        let outcome = search_run(rt.alloc(), &mut reader, &mut next, &mut sheet);
+        let never = outcome.map_err(|error| failure_in_memory(text.name, error))?;
+        let told = behind_name(rt.alloc(), text.name, found.as_slice())?;
+        tell(rt, told.as_slice())?;
+        Ok(never)
     } else {
-        Err(Failure::Told)
+        let mut out = Output::new(rt);
+        let outcome = search_run(rt.alloc(), &mut reader, &mut next, &mut out);
+        out.outcome(outcome)
     }
 }
 
-fn lint_one<'a>(
+/// Draws the keymaps, one picture behind the other, with what changed of an old one where it is named. Where there are
+/// many, each has the name of its text in the headline unless another one is given.
+pub(crate) fn draw<'a>(
+    rt: &HostRuntime,
+    texts: &[&'a str],
+    ansi: bool,
+    title: Option<&'a str>,
+    old: Option<&'a str>,
+    faults: &mut Faults,
+) -> Result<bool, Failure<'a>> {
+    let board = if ansi { Board::Ansi } else { Board::Iso };
+    let old = text_if_named(rt, old)?;
+    if texts.len() == 1 {
+        return draw_one(
+            rt,
+            texts[0],
+            board,
+            title.unwrap_or(""),
+            old.as_ref(),
+            faults,
+        );
+    }
+    let mut outcomes = Outcomes::new();
+    for text in texts {
+        let outcome = draw_one(rt, text, board, title.unwrap_or(text), old.as_ref(), faults);
+        outcomes.add(rt.alloc(), outcome, faults)?;
+    }
+    outcomes.outcome()
+}
+
+fn draw_one<'a>(
     rt: &HostRuntime,
     text: &'a str,
-    name: Option<&'a str>,
-    is_strict: bool,
+    board: Board,
+    title: &str,
+    old: Option<&Text<'a>>,
+    faults: &mut Faults,
 ) -> Result<bool, Failure<'a>> {
-    let place = match name {
-        Some(name) if is_standard_input(text) => name,
-        _ => text,
-    };
-    let mut source = given(rt, text)?;
-    lint_in(rt, place, &mut source, is_strict)
-}
-
-fn lint_in<'a, S: Read>(
-    rt: &HostRuntime,
-    place: &'a str,
-    source: &mut S,
-    is_strict: bool,
-) -> Result<bool, Failure<'a>> {
+    let text = text_given(rt, text)?;
+    let mut reader = text.reader();
     let mut out = Output::new(rt);
-    let outcome = lint_run(rt.alloc(), place.as_bytes(), source, &mut out);
-    let well = out.file_outcome(place, outcome)?;
-    Ok(well && (!is_strict || out.is_empty()))
+    let title = title.as_bytes();
+    match old {
+        Some(old) => {
+            let mut before = old.reader();
+            let name = old.name.as_bytes();
+            let outcome = draw_change_run(
+                rt.alloc(),
+                &mut before,
+                &mut reader,
+                board,
+                title,
+                name,
+                &mut out,
+            );
+            explained(rt, well(out.outcome(outcome)), old, Some(&text), faults)
+        }
+        None => {
+            let outcome = draw_run(rt.alloc(), &mut reader, board, title, &mut out);
+            explained(rt, well(out.outcome(outcome)), &text, None, faults)
+        }
+    }
 }

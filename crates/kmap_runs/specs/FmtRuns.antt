@@ -29,7 +29,8 @@ pub record LaysOut (how : Characters) (before after : Option (List ℕ)) (text l
 -- Or the text was not read whole.
 abbrev pub RefusesLayout : Characters → Option (List ℕ) → Option (List ℕ) → CommandError → Type 0
 RefusesLayout how before after (command.Run error.Memory) = ⊤
-RefusesLayout how before after (command.Run (error.Text f)) = (text : List ℕ) × TakesWhole before after text × Fault text f
+RefusesLayout how before after (command.Run (error.Text f)) = (text : List ℕ) × TakesWhole before after text
+    × Fault text f
 RefusesLayout how before after command.TooLong = (text : List ℕ) × TakesWhole before after text
     × ((m : MapValue) × Spells text m) × (limit < length (laid_by how text))
 RefusesLayout how before after (command.Run (error.ReadText f)) = StopsReading (moves before after) f f.kind

@@ -1,4 +1,5 @@
 -- What the runs of the program do to the devices that they are lent.
+use Rattle.std.specs.Global.{Vec}
 use Rattle.std.specs.Prelude.{◌≡◌, ◌≢◌, ◌↔◌, ◌==◌, IsTrue, ℕ, Bool, true, false, List, [], All, Option, Some, None}
 use Rattle.std.specs.Prelude.{Result, Ok, Err, ⊤, length, if◌then◌else◌}
 use Rattle.std.specs.Io.KnownBytes.{Appends}
@@ -9,7 +10,8 @@ use Rattle.keymap_tables.specs.declared.fault.TableError.{TableError}
 use Rattle.keymap_tables.specs.Fits.{Fits, IsFirstWide}
 use Rattle.keymap_tables.specs.Image.{image, narrow_image}
 use Rattle.keymap_draw.specs.declared.board.Board.{Board}
-use Rattle.keymap_draw.specs.Pictures.{IsPicture, drawing}
+use Rattle.keymap_draw.specs.declared.change.ChangeLine.{ChangeLine}
+use Rattle.keymap_draw.specs.Pictures.{IsPicture, drawing, since}
 use Rattle.keymap_draw.specs.WellFormed.{IsPlain, IsWellFormed}
 use Rattle.console_states.specs.declared.outcome.Sticking.{Sticking}
 use Rattle.console_states.specs.declared.outcome.Sticking.TheVariants.{Never}
@@ -26,6 +28,7 @@ use Rattle.keymap_diff.specs.Telling.{IsTelling}
 use Rattle.keymap_diff.specs.declared.change.Change.{Change}
 use Rattle.keymap_diff.specs.declared.telling.Telling.{Telling}
 use Rattle.kmap_runs.specs.declared.type_error.TypeError.TheVariants as type
+use Rattle.lint_formats.specs.declared.format.Format.{Format}
 use Rattle.play_core.specs.Runs.{Moves, moves, ReadsBoth, Runs, Stays}
 use Rattle.kmap_runs.specs.Sentences.{IsTyped, IsTypeError}
 use Rattle.keymap_names.specs.Shown.{shown_name}
@@ -40,6 +43,7 @@ use Rattle.script_text.specs.Diff.{brief_text, diff_text, same_text}
 use Rattle.kmap_runs.specs.Inputs.{of_command_writer, of_writer, ReadsBytes, ReadsFile, ReadsForCommand, ReadsKeymaps}
 use Rattle.kmap_runs.specs.Inputs.{ReadsOther, ReadsSentence, ReadsText}
 use Rattle.kmap_runs.specs.LintRuns.{IsLinted}
+use Rattle.kmap_runs.specs.declared.lint_runs.Linted.{Linted}
 use Rattle.kmap_runs.specs.Missing.{AreMissingIn, missing_text}
 use Rattle.kmap_runs.specs.declared.missing.Missing.{Missing}
 use Rattle.script_text.specs.Replayed.{ShowsCover}
@@ -102,12 +106,23 @@ CompilesNarrowly text out r =
 abbrev pub Draws : Board → List ℕ → MapValue → Unit {0} → List ℕ → Type 0
 Draws board name m _ told = IsMap m × IsPicture (drawing m board name) told
 
+-- the picture of a map with what changed of another one, told by lines: by none exactly if nothing changed
+abbrev pub IsChangeDrawn : Board → List ℕ → List ℕ → MapValue × MapValue → List ℕ → Type 0
+IsChangeDrawn board name old_name (m, n) told =
+    IsMap n × ((lines : List ChangeLine) × ((lines ≡ []) ↔ (m ≡ n))
+    × IsPicture (since m old_name lines (drawing n board name)) told)
+
 abbrev pub DrawsText : Board → List ℕ → Moves → Moves → Result (Unit {0}) RunError → Type 0
 DrawsText board name text out r = Runs of_writer (ReadsText text) LacksMemory (Draws board name) out r
 
--- whether no diagnostic is an error, and the diagnostics under the name of the file
-abbrev pub LintsText : List ℕ → Moves → Moves → Result Bool RunError → Type 0
-LintsText file text out r = Runs of_writer (ReadsBytes text) LacksMemory (IsLinted file) out r
+abbrev pub DrawsChange : Board → List ℕ → List ℕ → Moves → Moves → Moves → Result (Unit {0}) RunError → Type 0
+DrawsChange board name old_name text next out r =
+    Runs of_writer (ReadsBoth (ReadsText text) (ReadsOther next) (Stays next)) LacksMemory
+    (λ v _ told. IsChangeDrawn board name old_name v told) out r
+
+-- what is found in the text, and the diagnostics in a format under the name of the file
+abbrev pub LintsText : Format → List ℕ → Moves → Moves → Result Linted RunError → Type 0
+LintsText format file text out r = Runs of_writer (ReadsBytes text) LacksMemory (IsLinted format file) out r
 
 -- the answer of the search to the maps of one text, or of two
 abbrev pub IsFound : MapValue × Option MapValue → Sticking → Type 0
@@ -128,13 +143,13 @@ Finds v never told =
 abbrev pub SearchesTexts : Moves → Option Moves → Moves → Result Bool RunError → Type 0
 SearchesTexts text next out r = Runs of_writer (ReadsKeymaps text next) LacksMemory Finds out r
 
--- What is told of maps that differ: whether anybody can tell them apart, each change, and how; in brief how many slots
--- and accents change.
+-- What is told of maps that differ: whether anybody can tell them apart, what follows in lines of which the words aren't
+-- spoken of, each change, and how; in brief how many slots and accents change.
 abbrev pub TellsDifferences : Bool → MapValue → MapValue → List ℕ → Type 0
 TellsDifferences brief m n text =
-    (found : List Change) × (telling : Telling)
+    (found : List Change) × (telling : Telling) × (told : List (Vec ℕ))
     × AreDifferences m n found × IsTelling m n telling
-    × (text ≡ (if brief then brief_text telling found else diff_text telling found))
+    × (text ≡ (if brief then brief_text telling told found else diff_text telling told found))
 
 -- Whether the maps are the same, and what is told of them.
 abbrev pub Compares : Bool → MapValue × MapValue → Bool → List ℕ → Type 0
@@ -221,7 +236,8 @@ DrawnAreWellFormed =
 -- A text that is called well spells a keymap under which no list of presses and releases leaves a modifier on.
 abbrev pub WellLintedNeverStick : Type 0
 WellLintedNeverStick =
-    (file : List ℕ) (source out : Moves) → LintsText file source out (Ok true)
+    (format : Format) (file : List ℕ) (source out : Moves) (found : Linted)
+    → LintsText format file source out (Ok found) → found.is_well ≡ true
     → (text : List ℕ) × (m : MapValue) × TakesWhole source.old source.new text × Spells text m × NeverSticks m
 
 -- What is printed to test a console is a script of a cover of the keymap that the text spells.

@@ -8,6 +8,7 @@ ghost use Rattle.play_core.specs.Runs.{moves};
 use crate::fault_line::RunError;
 use crate::inputs::{read_other, read_text};
 use crate::runs::answer_once_written;
+use keymap_consequences::consequences_of;
 use keymap_core::laws::every_keymap_is_within_the_bounds;
 use keymap_core::{KeyMap, Read, Write};
 use keymap_diff::laws::the_same_keymaps_have_no_changes;
@@ -16,7 +17,7 @@ use script_text::{brief_text, diff_text, same_text};
 use std::alloc::{AllocError, Global};
 
 /// Whether the keymaps are the same, by what differs between them.
-fn are_same(old: &KeyMap, new: &KeyMap, found: &[Change]) -> bool
+pub(crate) fn are_same(old: &KeyMap, new: &KeyMap, found: &[Change]) -> bool
     requires { AreDifferences old.now new.now found.now }
     ensures { IsTrue result ↔ (old.now ≡ new.now) }
 {
@@ -38,10 +39,11 @@ fn differing(
     ensures { IfOk result (λ text. TellsDifferences is_brief old.now new.now text.items) }
 {
     let telling = telling_apart(alloc, old, new)?;
+    let consequences = consequences_of(alloc, old, new)?;
     if is_brief {
-        brief_text(alloc, &telling, found)
+        brief_text(alloc, &telling, &consequences, found)
     } else {
-        diff_text(alloc, &telling, found)
+        diff_text(alloc, &telling, &consequences, found)
     }
 }
 
@@ -64,7 +66,8 @@ fn compared(
 }
 
 /// Reads two texts and tells what differs between their keymaps: whether any list of events is answered differently,
-/// each difference, and the events; in brief, how many slots and accents differ. Answers whether the keymaps are the same.
+/// the consequences for who types, each difference, and the events; in brief, how many slots and accents differ. Answers
+/// whether the keymaps are the same.
 pub fn diff_run<R: Read, N: Read, W: Write>(
     alloc: Global,
     text: &mut R,

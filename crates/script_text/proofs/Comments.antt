@@ -9,6 +9,7 @@ use Rattle.std.proofs.lemmas.Bool.{false≢true}
 use Rattle.std.proofs.lemmas.List.Folds.{list_any_none}
 use Rattle.std.proofs.lemmas.List.Sums.{AllPass-from_list_all, list_all-from_AllPass}
 use Rattle.std.proofs.lemmas.Str.{inside_one}
+pub use Rattle.script_text.specs.Comments.{IsInLine, is_in_line}
 use Rattle.messages.proofs.Shared.{append_all}
 use Rattle.messages.specs.Filled.{filled}
 use Rattle.keymap_names.proofs.Shared.{accent_line, decimal_line}
@@ -16,12 +17,6 @@ use Rattle.keymap_names.specs.Lists.{accent_name}
 use Rattle.keymap_names.specs.Shown.{IsLine, IsSeen, is_seen}
 use Rattle.play_core.specs.Spelling.{says, has_line_feed}
 use Rattle.keymap_core.specs.declared.action.Action.TheVariants as act
-
-abbrev pub is_in_line : ℕ → Bool
-is_in_line b = not (b == 10)
-
-abbrev pub IsInLine : List ℕ → Type 0
-IsInLine text = list_all is_in_line text ≡ true
 
 pub stays : (text : List ℕ) → IsInLine text → has_line_feed text ≡ false
 stays text h =

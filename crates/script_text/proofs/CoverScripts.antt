@@ -25,10 +25,13 @@ use Rattle.keymap_cover.specs.declared.parts.Part.TheVariants.{Cells, Pairs, Tri
 use Rattle.keymap_cover.specs.declared.parts.Start.{Start}
 use Rattle.play_core.specs.Delivery.{delivered}
 use Rattle.play_core.specs.Scripts.{key_of}
+use Rattle.keymap_names.specs.Characters.{readable}
 use Rattle.script_text.specs.Cover.{number_text, headed, columns_text, setting_text, settings_text, IsCoverText}
+use Rattle.script_text.specs.Cover.{readable_text}
 use Rattle.script_text.specs.Cover.{line_of_characters, counts_line, counts_text, all_pairs, part_words, what_of_event}
 use Rattle.script_text.specs.Cover.{left_out_word, never_word, unstuck_word, sent_of_event}
 use Rattle.script_text.specs.Replayed.{ShowsCover, events_sent}
+use Rattle.script_text.proofs.DiffLines.{readable-line}
 use Rattle.script_text.proofs.Comments.{is_in_line, IsInLine, append-line, flat-line, if-line, decimal-line, name-line}
 use Rattle.script_text.proofs.Comments.{Adds, adds-nil, adds-script, quiet-comment, quiet-flat, quiet-if, ◌⊳◌}
 
@@ -41,6 +44,10 @@ quiet-counts rest name n f g = search (rules, quiet-comment, decimal-line)
 -- a number in a list
 number-line : (n : ℕ) → IsInLine (number_text n)
 number-line n = filled_all is_in_line (codes " {}") (decimal n ∷ []) refl (decimal-line n, tt)
+
+-- a character in a list
+character-line : (c : ℕ) → IsInLine (readable_text c)
+character-line c = filled_all is_in_line (codes " {}") (readable c ∷ []) refl (readable-line c, tt)
 
 headed-line : (head text : List ℕ) → IsInLine head → IsInLine text → IsInLine (headed head text)
 headed-line head [] h t = refl
@@ -80,7 +87,7 @@ module _ (is_listed : Sight → Bool) where
 
   characters-line : (i : ℕ) (bases : List ℕ) → IsInLine (flat_map (character_text is_listed i) bases)
   characters-line i bases =
-      flat-line (character_text is_listed i) (λ n. if-line (is_listed (Pair i n)) (number_text n) (number-line n)) bases
+      flat-line (character_text is_listed i) (λ n. if-line (is_listed (Pair i n)) (readable_text n) (character-line n)) bases
 
 -- the slots from one on to before another that have a row
 quiet-slots : (one : Bool) (word : List ℕ) (first end : ℕ) (row : List ℕ) → IsInLine word → IsInLine row

@@ -3,7 +3,7 @@ use Rattle.script_text.proofs.Common.{◌≡◌, ℕ, ◌+◌, ◌-◌, ◌==◌
 use Rattle.script_text.proofs.Common.{None, refl, subst, arith, decimal, if◌then◌else◌, ne_eqb, codes, length, take}
 use Rattle.script_text.proofs.Common.{flat_map, range_with_len, name_of, filled_all}
 use Rattle.std.specs.Prelude.{◌≢◌, ◌/◌, ◌%◌, ◌||◌, ◌&&◌, nat_lt, slice_index, slice_index_or, encode_utf8}
-use Rattle.std.specs.List.{list_any}
+use Rattle.std.specs.List.{list_all, list_any}
 use Rattle.std.proofs.lemmas.Bool.{cond_both, true≢false}
 use Rattle.keymap_core.specs.Actions.{two_digits}
 use Rattle.keymap_core.specs.CodePoints.{code_digits}
@@ -23,11 +23,15 @@ use Rattle.console_core.specs.declared.event.Answer.TheVariants as answer
 use Rattle.keymap_diff.specs.declared.change.Change.{Change}
 use Rattle.keymap_diff.specs.declared.change.Change.TheVariants.{Slots, Cell, Letter, Accents, Accent, Pair}
 use Rattle.keymap_diff.specs.declared.change.Change.TheVariants.{ListedOtherwise}
+use Rattle.keymap_diff.specs.declared.telling.Telling.{Telling}
+use Rattle.keymap_diff.specs.declared.telling.Telling.TheVariants.{Told, Never, Undecided}
 use Rattle.messages.specs.Filled.{filled}
 use Rattle.script_text.proofs.Comments.{IsInLine, append-line, decimal-line, encoded-line, flat-line, if-line, in-line}
 use Rattle.script_text.proofs.Comments.{is_in_line, name-line}
-use Rattle.script_text.specs.Diff.{answer_told, are_alike, cell_told, change_at, changed_text, columns_like, columns_text}
+use Rattle.script_text.specs.Diff.{answer_told, are_alike, cell_told, change_at, changed_text, columns_like}
+use Rattle.script_text.specs.Diff.{columns_text}
 use Rattle.script_text.specs.Diff.{is_unseen, item_at, item_text, items_text, last_accent, last_slot, listed_column}
+use Rattle.script_text.specs.Diff.{line_words, verdict_words}
 use Rattle.script_text.specs.Diff.{made_text, own_text, part_of, title_of, told_text, unseen_text, values_of}
 
 either-line : (t : Bool) (a b : List ℕ) → IsInLine a → IsInLine b → IsInLine (if t then a else b)
@@ -192,3 +196,21 @@ items-line all line =
     (λ i. either-line (list_any (are_alike (change_at line i)) (take i line)) [] (item_text all line (change_at line i)) refl
     (item-line all line (change_at line i)))
     (range_with_len 0 (length line))
+
+-- the words of a line, and those of the verdict
+pub words-line : (x : Change) (line : List Change) → IsInLine (line_words x line)
+words-line x line =
+    let all = list_all is_unseen line in
+    filled_all is_in_line (codes "{}{}{}") (title_of x ∷ unseen_text all ∷ items_text all line ∷ []) refl
+    (title-line x, (unseen-line all, (items-line all line, tt)))
+
+pub verdict-line : (t : Telling) → IsInLine (verdict_words t)
+unfolding verdict_words
+verdict-line (Told events a b) =
+    filled_all is_in_line (codes "told apart: {} -> {}") (answer_told a ∷ answer_told b ∷ []) refl
+    (answer-line a, (answer-line b, tt))
+verdict-line (Never false) = refl
+verdict-line (Never true) = refl
+verdict-line (Undecided p) =
+    filled_all is_in_line (codes "undecided: no list of up to {} presses tells them apart") (decimal p ∷ []) refl
+    (decimal-line p, tt)

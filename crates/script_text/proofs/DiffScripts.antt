@@ -1,11 +1,14 @@
 -- What is printed of two keymaps is a script of the events that tell them apart.
-use Rattle.std.proofs.Common.{rules}
+use Rattle.std.proofs.Common.{rules, ◌==◌}
 use Rattle.script_text.proofs.Common.{◌≡◌, ℕ, ◌<◌, true, false, List, [], ◌∷◌, ◌++◌, refl, sym, ap, subst, ◌∙◌}
-use Rattle.script_text.proofs.Common.{append-nil, length, lit<, range_with_len, reverse, codes, flat_map, reverse-reverse, All}
+use Rattle.script_text.proofs.Common.{append-nil, length, lit<, range_with_len, reverse, codes, flat_map}
+use Rattle.script_text.proofs.Common.{reverse-reverse, All}
 use Rattle.script_text.proofs.Common.{All-head, All-tail, All-reversed, MapValue, HasKey, HasKeys, Event, Sent}
 use Rattle.script_text.proofs.Common.{IsScript, comment, sends, line-script, one_list}
 use Rattle.std.specs.Prelude.{◌≢◌}
-use Rattle.std.specs.List.{list_all}
+use Rattle.std.proofs.Common.{arith}
+use Rattle.std.specs.Prelude.{Bool, cond, not, suc, take, ◌+◌}
+use Rattle.std.specs.List.{prefix_len}
 use Rattle.std.proofs.lemmas.Bool.{cond_both, true≢false}
 use Rattle.std.proofs.lemmas.List.Elements.{All-nil}
 use Rattle.keymap_core.specs.Numbers.{key_count}
@@ -23,20 +26,45 @@ use Rattle.play_core.specs.Delivery.{delivered}
 use Rattle.play_core.specs.Scripts.{key_of}
 use Rattle.play_core.specs.Spelling.{sent_line, sent_of}
 use Rattle.play_core.specs.declared.sent.What.TheVariants as what
-use Rattle.script_text.proofs.Comments.{Adds, adds-nil, adds-script, decimal-line, quiet-comment, quiet-flat, quiet-if}
+use Rattle.script_text.proofs.Comments.{Adds, IsInLine, adds-nil, adds-script, quiet-comment, quiet-flat, quiet-if}
 use Rattle.script_text.proofs.Comments.{◌⊳◌}
-use Rattle.script_text.specs.Diff.{begins_line, change_at, diff_text, is_unseen, items_text, line_at, line_from, line_text}
-use Rattle.script_text.specs.Diff.{lines_text, same_text, sent_along, sent_behind, title_of, unseen_text, verdict_line}
+use Rattle.script_text.specs.Comments.{first_line, is_in_line, said_line, said_lines}
+use Rattle.script_text.specs.Diff.{IsDiffText, begins_line, change_at, diff_text, line_at, line_from, line_words}
+use Rattle.script_text.specs.Diff.{line_text}
+use Rattle.script_text.specs.Diff.{lines_text, same_text, sent_along, sent_behind, verdict_line, verdict_words}
 use Rattle.script_text.specs.Replayed.{FitsKeys, TellingReplays}
-use Rattle.script_text.proofs.DiffLines.{answer-line, items-line, title-line, unseen-line}
+use Rattle.script_text.proofs.DiffLines.{verdict-line, words-line}
+use Rattle.std.specs.Global.{Vec}
 
 -- ---- the comments before the events
 
+quiet-said : (words : List ℕ) → IsInLine words → Adds (said_line words) []
+quiet-said words h = quiet-comment (codes " {}") (words ∷ []) refl (h, tt)
+
+one-more-in-line : (n b : ℕ) (text : List ℕ) → is_in_line b ≡ true → IsInLine (take n text)
+    → IsInLine (take (1 + n) (b ∷ text))
+one-more-in-line n b text is rest =
+    let e : suc n ≡ 1 + n = omega arith in
+    let first : IsInLine (b ∷ take n text) = rw is rest in
+    subst (λ k. IsInLine (take k (b ∷ text))) e first
+
+first-in-line : (text : List ℕ) → IsInLine (first_line text)
+first-in-line [] = refl
+first-in-line (b ∷ text) = go (b == 10) refl (first-in-line text)
+  where
+    go : (t : Bool) → (b == 10) ≡ t → IsInLine (first_line text)
+        → IsInLine (take (cond (not t) (1 + prefix_len (λ x. not (x == 10)) text) 0) (b ∷ text))
+    go true is rest = refl
+    go false none rest =
+        one-more-in-line (prefix_len (λ x. not (x == 10)) text) b text (rw none refl) rest
+
+quiet-told : (told : List (Vec ℕ)) → Adds (said_lines told) []
+quiet-told told =
+    quiet-flat (λ (l : Vec ℕ). said_line (first_line l.items))
+    (λ l. quiet-said (first_line l.items) (first-in-line l.items)) told
+
 quiet-line : (x : Change) (line : List Change) → Adds (line_text x line) []
-quiet-line x line =
-    let all = list_all is_unseen line in
-    quiet-comment (codes " {}{}{}") (title_of x ∷ unseen_text all ∷ items_text all line ∷ []) refl
-    (title-line x, (unseen-line all, (items-line all line, tt)))
+quiet-line x line = quiet-said (line_words x line) (words-line x line)
 
 quiet-lines : (found : List Change) → Adds (lines_text found) []
 quiet-lines found =
@@ -45,10 +73,7 @@ quiet-lines found =
     (range_with_len 0 (length found))
 
 quiet-verdict : (t : Telling) → Adds (verdict_line t) []
-quiet-verdict (Told events a b) = search (rules, quiet-comment, answer-line)
-quiet-verdict (Never false) = quiet-comment (codes " never told apart") [] refl tt
-quiet-verdict (Never true) = quiet-comment (codes " not told apart before a modifier sticks") [] refl tt
-quiet-verdict (Undecided p) = search (rules, quiet-comment, decimal-line)
+quiet-verdict t = quiet-said (verdict_words t) (verdict-line t)
 
 -- ---- the events
 
@@ -129,22 +154,25 @@ differ m n [] a b told same = told.old_answer
 differ m n (e ∷ h) a b told same = told.apart (told.old_answer ∙ same ∙ sym told.new_answer)
 
 -- the comments and then the events
-text-adds : (t : Telling) (found : List Change) (events : List Event) → HasKeys events
-    → Adds (verdict_line t ++ lines_text found ++ flat_map sent_line (sent_along [] events)) (sent_along [] events)
-text-adds t found events keys = quiet-verdict t ⊳ quiet-lines found ⊳ events-add [] events keys
+text-adds : (t : Telling) (told : List (Vec ℕ)) (found : List Change) (events : List Event) → HasKeys events
+    → Adds (verdict_line t ++ said_lines told ++ lines_text found ++ flat_map sent_line (sent_along [] events))
+    (sent_along [] events)
+text-adds t told found events keys =
+    quiet-verdict t ⊳ quiet-told told ⊳ quiet-lines found ⊳ events-add [] events keys
 
 in-order : (P : Event → Type 0) (events : List Event) → All P (reverse events) → All P events
 in-order P events all = subst (All P) (reverse-reverse events) (All-reversed P (reverse events) all)
 
-pub telling-replays : (m n : MapValue) (found : List Change) (t : Telling) → IsTelling m n t
-    → TellingReplays m n found t
-telling-replays m n found (Told events a b) is =
+pub telling-replays : (m n : MapValue) (found : List Change) (t : Telling) (text : List ℕ) → IsTelling m n t
+    → IsDiffText t found text → TellingReplays m n text t
+telling-replays m n found (Told events a b) text is (lines, e) =
     let told = is.0 in
     let es : List Event = events.items in
     let sent : List Sent = sent_along [] es in
-    let text : List ℕ = diff_text (Told events a b) found in
+    let all : List ℕ = diff_text (Told events a b) lines found in
     let script : IsScript text sent =
-    adds-script text sent (text-adds (Told events a b) found es (in-order HasKey es told.keys)) in
+    subst (λ z. IsScript z sent) (sym e)
+    (adds-script all sent (text-adds (Told events a b) lines found es (in-order HasKey es told.keys))) in
     let delivers : delivered sent ≡ es = delivers-all [] es in
     record {
       sent = sent;
@@ -159,10 +187,14 @@ telling-replays m n found (Told events a b) is =
           (told_lists_differ_at_last m n (reverse es) a b told is.1);
       differ = differ m n (reverse es) a b told;
     }
-telling-replays m n found (Never forgets) is =
-    adds-script (diff_text (Never forgets) found) [] (text-adds (Never forgets) found [] (All-nil HasKey))
-telling-replays m n found (Undecided p) is =
-    adds-script (diff_text (Undecided p) found) [] (text-adds (Undecided p) found [] (All-nil HasKey))
+telling-replays m n found (Never forgets) text is (lines, e) =
+    subst (λ z. IsScript z []) (sym e)
+    (adds-script (diff_text (Never forgets) lines found) []
+    (text-adds (Never forgets) lines found [] (All-nil HasKey)))
+telling-replays m n found (Undecided p) text is (lines, e) =
+    subst (λ z. IsScript z []) (sym e)
+    (adds-script (diff_text (Undecided p) lines found) []
+    (text-adds (Undecided p) lines found [] (All-nil HasKey)))
 
 pub same-script : IsScript same_text []
 same-script = adds-script same_text [] (quiet-comment (codes " same") [] refl tt)

@@ -1,4 +1,5 @@
--- Events behind others: what is sent for them, and whether a key is pressed after them. What the line of a change tells.
+-- Events behind others: what is sent for them, and whether a key is pressed after them. What the line of a change
+-- tells.
 use Rattle.std.proofs.Common.{rules}
 use Rattle.script_text.proofs.Common.{◌≡◌, ℕ, ◌+◌, ◌<◌, Bool, true, false, List, [], ◌∷◌, ◌++◌, length, take, get_or}
 use Rattle.script_text.proofs.Common.{reverse, if◌then◌else◌, refl, ◌∙◌, append_assoc, append-nil, flat_map}

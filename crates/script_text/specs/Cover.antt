@@ -25,6 +25,7 @@ use Rattle.keymap_cover.specs.declared.script_event.ScriptEvent.TheVariants.{Dow
 use Rattle.keymap_cover.specs.declared.parts.Part.{Part}
 use Rattle.keymap_cover.specs.declared.parts.Part.TheVariants.{Cells, Pairs, Trials, OneWay}
 use Rattle.keymap_cover.specs.declared.parts.Start.{Start}
+use Rattle.keymap_names.specs.Characters.{readable}
 use Rattle.play_core.specs.Spelling.{sent_line}
 use Rattle.play_core.specs.declared.sent.Sent.{Sent}
 use Rattle.play_core.specs.declared.sent.What.{What}
@@ -140,9 +141,13 @@ LeftOutCannotBeVisited =
     (m : MapValue) (c : Cover) (x : Sight) → IsMap m → Contains (counted m) x → IsVerdict m c x LeftOut
     → IsReachable m x × (CanVisit m x → ⊥)
 
+-- a character as a reader knows it, after a blank
+abbrev pub readable_text : ℕ → List ℕ
+readable_text c = filled (codes " {}") (readable c ∷ [])
+
 -- a character, if its pair with an accent is listed
 abbrev pub character_text : (Sight → Bool) → ℕ → ℕ → List ℕ
-character_text is_listed i c = if is_listed (Pair i c) then number_text c else []
+character_text is_listed i c = if is_listed (Pair i c) then readable_text c else []
 
 abbrev pub line_of_characters : List ℕ → ℕ → List ℕ → List ℕ
 line_of_characters word i [] = []

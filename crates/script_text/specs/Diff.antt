@@ -3,6 +3,7 @@
 use Rattle.std.specs.Prelude.{◌≡◌, ℕ, ◌+◌, ◌-◌, ◌==◌, Bool, true, false, List, [], ◌∷◌, ◌++◌, ◌||◌, ◌&&◌, not}
 use Rattle.std.specs.Prelude.{codes, decimal, drop, length, nat_le, nat_lt, take}
 use Rattle.std.specs.Prelude.{slice_index, slice_index_or, Option, Some, None, if◌then◌else◌}
+use Rattle.std.specs.Global.{Vec}
 use Rattle.std.specs.Bool.{beq}
 use Rattle.std.specs.List.{before_first, flat_map, list_all, list_any, range_with_len}
 use Rattle.keymap_core.specs.Actions.{name_of}
@@ -28,7 +29,7 @@ use Rattle.messages.specs.Filled.{filled}
 use Rattle.play_core.specs.Spelling.{sent_line, sent_of}
 use Rattle.play_core.specs.declared.sent.Sent.{Sent}
 use Rattle.play_core.specs.declared.sent.What.TheVariants as what
-use Rattle.script_text.specs.Comments.{comment}
+use Rattle.script_text.specs.Comments.{comment, said_line, said_lines}
 
 -- whether two cells are the same, as `==` tells
 abbrev pub same_cell : CellValue → CellValue → Bool
@@ -178,10 +179,13 @@ abbrev pub items_text : Bool → List Change → List ℕ
 items_text all line = flat_map (item_at all line) (range_with_len 0 (length line))
 
 -- the line of such changes, the first of which is this one
-abbrev pub line_text : Change → List Change → List ℕ
-line_text x line =
-    comment (codes " {}{}{}")
+abbrev pub line_words : Change → List Change → List ℕ
+line_words x line =
+    filled (codes "{}{}{}")
     (title_of x ∷ unseen_text (list_all is_unseen line) ∷ items_text (list_all is_unseen line) line ∷ [])
+
+abbrev pub line_text : Change → List Change → List ℕ
+line_text x line = said_line (line_words x line)
 
 -- a change that isn't of the line of the one before it
 abbrev pub begins_line : List Change → ℕ → Bool
@@ -218,13 +222,15 @@ answer_told answer.BackTab = codes "btab"
 answer_told (answer.Released a) = filled (codes "released {}") (name_of a ∷ [])
 
 -- Whether no list of events tells the keymaps apart, or what the last one is answered under each.
+unfoldable pub verdict_words : Telling → List ℕ
+verdict_words (Told events a b) = filled (codes "told apart: {} -> {}") (answer_told a ∷ answer_told b ∷ [])
+verdict_words (Never false) = codes "never told apart"
+verdict_words (Never true) = codes "not told apart before a modifier sticks"
+verdict_words (Undecided p) =
+    filled (codes "undecided: no list of up to {} presses tells them apart") (decimal p ∷ [])
+
 abbrev pub verdict_line : Telling → List ℕ
-verdict_line (Told events a b) =
-    comment (codes " told apart: {} -> {}") (answer_told a ∷ answer_told b ∷ [])
-verdict_line (Never false) = comment (codes " never told apart") []
-verdict_line (Never true) = comment (codes " not told apart before a modifier sticks") []
-verdict_line (Undecided p) =
-    comment (codes " undecided: no list of up to {} presses tells them apart") (decimal p ∷ [])
+verdict_line telling = said_line (verdict_words telling)
 
 -- whether the key is pressed once an event came
 abbrev pub is_pressed_by : Event → ℕ → Bool → Bool
@@ -248,10 +254,15 @@ abbrev pub events_of : Telling → List Event
 events_of (Told events a b) = events.items
 events_of x = []
 
--- The verdict, what differs, and the events.
-abbrev pub diff_text : Telling → List Change → List ℕ
-diff_text telling found =
-    verdict_line telling ++ lines_text found ++ flat_map sent_line (sent_along [] (events_of telling))
+-- The verdict, lines of consequences, what differs, and the events.
+abbrev pub diff_text : Telling → List (Vec ℕ) → List Change → List ℕ
+diff_text telling told found =
+    verdict_line telling ++ said_lines told ++ lines_text found
+    ++ flat_map sent_line (sent_along [] (events_of telling))
+
+-- so it is with lines of consequences of which the words aren't spoken of
+abbrev pub IsDiffText : Telling → List Change → List ℕ → Type 0
+IsDiffText telling found text = (told : List (Vec ℕ)) × (text ≡ diff_text telling told found)
 
 -- ---- the answer in brief
 
@@ -288,8 +299,12 @@ differ_line slots accents =
 abbrev pub last_line : Change → List ℕ
 last_line x = if nat_lt (line_of x) 2 then line_text x (x ∷ []) else []
 
--- The verdict, the last slot and the last accent where they differ, and how many lines there are else.
-abbrev pub brief_text : Telling → List Change → List ℕ
-brief_text telling found =
-    verdict_line telling ++ flat_map last_line found
+-- The verdict, lines of consequences, the last slot and the last accent where they differ, and how many lines there are
+-- else.
+abbrev pub brief_text : Telling → List (Vec ℕ) → List Change → List ℕ
+brief_text telling told found =
+    verdict_line telling ++ said_lines told ++ flat_map last_line found
     ++ differ_line (length (line_places 2 258 found)) (length (line_places 258 273 found))
+
+abbrev pub IsBriefText : Telling → List Change → List ℕ → Type 0
+IsBriefText telling found text = (told : List (Vec ℕ)) × (text ≡ brief_text telling told found)

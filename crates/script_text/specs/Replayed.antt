@@ -7,7 +7,6 @@ use Rattle.console_core.specs.History.{pressed}
 use Rattle.keymap_cover.specs.declared.parts.Cover.{Cover}
 use Rattle.keymap_cover.specs.Covering.{Covers, history}
 use Rattle.keymap_diff.specs.Telling.{DifferAtLast}
-use Rattle.keymap_diff.specs.declared.change.Change.{Change}
 use Rattle.keymap_diff.specs.declared.telling.Telling.{Telling}
 use Rattle.keymap_diff.specs.declared.telling.Telling.TheVariants as telling
 use Rattle.play_core.specs.declared.sent.Sent.{Sent}
@@ -16,7 +15,6 @@ use Rattle.play_core.specs.declared.sent.What.TheVariants as what
 use Rattle.play_core.specs.Delivery.{delivered}
 use Rattle.play_core.specs.Scripts.{IsScript}
 use Rattle.script_text.specs.Cover.{sent_of_event}
-use Rattle.script_text.specs.Diff.{diff_text}
 
 -- ---- a script that tests a console
 
@@ -63,8 +61,7 @@ pub record TellsApartBy (m n : MapValue) (script : List ℕ) (events : List Even
 
 -- What is printed of keymaps that differ is a script: where they are told apart, of the events that do so, and else of
 -- no events.
-abbrev pub TellingReplays : MapValue → MapValue → List Change → Telling → Type 0
-TellingReplays m n found (telling.Told events old new) =
-    TellsApartBy m n (diff_text (telling.Told events old new) found) events.items old new
-TellingReplays m n found (telling.Never forgets) = IsScript (diff_text (telling.Never forgets) found) []
-TellingReplays m n found (telling.Undecided p) = IsScript (diff_text (telling.Undecided p) found) []
+abbrev pub TellingReplays : MapValue → MapValue → List ℕ → Telling → Type 0
+TellingReplays m n text (telling.Told events old new) = TellsApartBy m n text events.items old new
+TellingReplays m n text (telling.Never forgets) = IsScript text []
+TellingReplays m n text (telling.Undecided p) = IsScript text []

@@ -20,6 +20,7 @@ use console_states::Sight;
 use keymap_core::{ACCENT_LIMIT, Accent, AccentIndex, Action, COLUMN_COUNT, KeyMap, SLOT_LIMIT};
 use keymap_cover::laws::counts_are_of_verdicts;
 use keymap_cover::{Cover, Part, ScriptEvent, Start, Verdict, cells, lock_settings};
+use keymap_names::readable;
 use messages::{either, fill, number, small};
 use std::alloc::{AllocError, Global};
 
@@ -252,7 +253,7 @@ fn push_character(
         ≡ text.old.items ++ spec.character_text (is_in listing.now) accent character) }
 {
     if listing.has(Sight::Pair { accent, character }) {
-        push_number(text, u64::from(character as u32))
+        fill(text, LISTED, &[readable(character).as_slice()])
     } else {
         Ok(())
     }

@@ -5,16 +5,20 @@ ghost use Rattle.std.specs.List.{before_first, flat_map, list_all, list_any};
 ghost use Rattle.console_core.specs.History.{pressed};
 ghost use Rattle.messages.specs.Filled.{has_places};
 ghost use Rattle.play_core.specs.Spelling.{sent_line};
+ghost use Rattle.script_text.specs.Comments.{first_line as first_line_of, said_lines};
 ghost use Rattle.script_text.specs.Diff as spec;
 
+use crate::consequences::consequence_lines;
 use crate::event_lines::{event_line, push_comment};
 use crate::words::{
     ACCENT_DIFFERS, ACCENTS_DIFFER, ALL_COLUMNS, BACK_TAB, CHANGED, COMMA, DIFFER, ERROR, ITEM,
     LAST_ACCENT, LAST_SLOT, LINE, LISTED_OTHERWISE, LOCK, META_CHARACTER, NEVER_TOLD, NONE,
-    NOT_TOLD, OWN, RELEASED, REPEAT, SAME, SLOT, SLOT_DIFFERS, SLOTS_DIFFER, TOLD, UNSEEN, UNTOLD,
+    NOT_TOLD, OWN, RELEASED, REPEAT, SAID, SAME, SLOT, SLOT_DIFFERS, SLOTS_DIFFER, TOLD, UNSEEN,
+    UNTOLD,
 };
 use arrayvec::ArrayVec;
 use console_core::{Answer, Event};
+use keymap_consequences::Consequences;
 use keymap_core::{COLUMN_COUNT, Cell, KeyCode};
 use keymap_diff::{Change, Telling};
 use keymap_names::{accent_name, column_name, readable};
@@ -124,7 +128,7 @@ fn is_unseen(change: &Change) -> bool
 }
 
 /// The number of a change's line: of those of the last slot and the last accent, and of the 256 slots and 15 accents.
-fn line_of(change: &Change) -> u16
+pub(crate) fn line_of(change: &Change) -> u16
     ensures { result ≡ spec.line_of change.now }
 {
     match *change {
@@ -308,19 +312,31 @@ fn are_unseen(line: &[Change]) -> bool
     line.iter().all(|change| is_unseen(change))
 }
 
-/// Adds the line of such changes, the first of which is this one.
-fn push_line(text: &mut Vec<u8>, alloc: Global, first: &Change, line: &[Change]) -> Added
-    ensures { OnOk result (text.new.items ≡ text.old.items ++ spec.line_text first.now line.now) }
+/// The line of such changes, the first of which is this one.
+pub(crate) fn line_words(
+    alloc: Global,
+    first: &Change,
+    line: &[Change],
+) -> Result<Vec<u8>, AllocError>
+    ensures { IfOk result (λ text. text.items ≡ spec.line_words first.now line.now) }
 {
     let are_unseen = are_unseen(line);
     let title = title(alloc, first)?;
     let items = items(alloc, line, are_unseen)?;
     let unseen = either(are_unseen, UNSEEN, b"");
-    push_comment(text, LINE, &[title.as_slice(), unseen, items.as_slice()])
+    filled(alloc, LINE, &[title.as_slice(), unseen, items.as_slice()])
+}
+
+/// Adds it as a comment.
+fn push_line(text: &mut Vec<u8>, alloc: Global, first: &Change, line: &[Change]) -> Added
+    ensures { OnOk result (text.new.items ≡ text.old.items ++ spec.line_text first.now line.now) }
+{
+    let words = line_words(alloc, first, line)?;
+    push_comment(text, SAID, &[words.as_slice()])
 }
 
 /// Whether the change at the place isn't of the line of the one before it.
-fn begins_line(changes: &[Change], place: usize) -> bool
+pub(crate) fn begins_line(changes: &[Change], place: usize) -> bool
     requires { place < length changes.now }
     ensures { result ≡ spec.begins_line changes.now place }
 {
@@ -336,7 +352,7 @@ fn line_end(changes: &[Change], line: u16) -> Option<usize>
 }
 
 /// The changes in front that are of the line.
-fn line_in(changes: &[Change], line: u16) -> &[Change]
+pub(crate) fn line_in(changes: &[Change], line: u16) -> &[Change]
     ensures { result.now ≡ before_first (spec.is_elsewhere line) changes.now }
 {
     match line_end(changes, line) {
@@ -387,22 +403,57 @@ fn answer_text(alloc: Global, answer: Answer) -> Result<Vec<u8>, AllocError>
     }
 }
 
-/// Adds the verdict.
-fn push_verdict(text: &mut Vec<u8>, alloc: Global, telling: &Telling) -> Added
-    ensures { OnOk result (text.new.items ≡ text.old.items ++ spec.verdict_line telling.now) }
+/// The verdict, without a line feed.
+#[tactic(auto, unfolding(crate::specs::Diff::verdict_words))]
+pub fn verdict_words(alloc: Global, telling: &Telling) -> Result<Vec<u8>, AllocError>
+    ensures { IfOk result (λ text. text.items ≡ spec.verdict_words telling.now) }
 {
     match telling {
         Telling::Told { old, new, .. } => {
             let old = answer_text(alloc, *old)?;
             let new = answer_text(alloc, *new)?;
-            push_comment(text, TOLD, &[old.as_slice(), new.as_slice()])
+            filled(alloc, TOLD, &[old.as_slice(), new.as_slice()])
         }
-        Telling::Never { forgets: false } => push_comment(text, NEVER_TOLD, &[]),
-        Telling::Never { forgets: true } => push_comment(text, NOT_TOLD, &[]),
+        Telling::Never { forgets: false } => Vec::from_slice(alloc, NEVER_TOLD),
+        Telling::Never { forgets: true } => Vec::from_slice(alloc, NOT_TOLD),
         Telling::Undecided(presses) => {
-            push_comment(text, UNTOLD, &[number(*presses as u64).as_slice()])
+            filled(alloc, UNTOLD, &[number(*presses as u64).as_slice()])
         }
     }
+}
+
+/// Adds it as a comment.
+fn push_verdict(text: &mut Vec<u8>, alloc: Global, telling: &Telling) -> Added
+    ensures { OnOk result (text.new.items ≡ text.old.items ++ spec.verdict_line telling.now) }
+{
+    let words = verdict_words(alloc, telling)?;
+    push_comment(text, SAID, &[words.as_slice()])
+}
+
+/// Where a text has its first line feed.
+fn line_feed(text: &[u8]) -> Option<usize>
+    ensures place { result ≡ position (λ b. b == 10) text.now }
+    ensures bound { IfSome result (λ i. i < length text.now) }
+{
+    text.iter().position(|b| *b == b'\n')
+}
+
+/// What of a text stands in its first line.
+fn first_line(text: &[u8]) -> &[u8]
+    ensures { result.now ≡ first_line_of text.now }
+{
+    let end = line_feed(text).unwrap_or(text.len());
+    &text[..end]
+}
+
+/// Adds lines as comments.
+fn push_said(text: &mut Vec<u8>, lines: &[Vec<u8>]) -> Added
+    ensures { OnOk result (text.new.items ≡ text.old.items ++ said_lines lines.now) }
+{
+    for line in lines {
+        push_comment(text, SAID, &[first_line(line.as_slice())])?;
+    }
+    Ok(())
 }
 
 /// Whether the key is pressed once the event came, where this says whether it was before.
@@ -470,16 +521,19 @@ pub fn same_text(alloc: Global) -> Result<Vec<u8>, AllocError>
     Ok(text)
 }
 
-/// What is told of keymaps that differ: the verdict, what differs, and the events that tell them apart.
+/// What is told of keymaps that differ: the verdict, the consequences, what differs, and the events that tell them apart.
 pub fn diff_text(
     alloc: Global,
     telling: &Telling,
+    consequences: &Consequences,
     changes: &[Change],
 ) -> Result<Vec<u8>, AllocError>
-    ensures { IfOk result (λ text. text.items ≡ spec.diff_text telling.now changes.now) }
+    ensures { IfOk result (λ text. spec.IsDiffText telling.now changes.now text.items) }
 {
+    let lines = consequence_lines(alloc, consequences)?;
     let mut text = Vec::new(alloc);
     push_verdict(&mut text, alloc, telling)?;
+    push_said(&mut text, lines.as_slice())?;
     push_lines(&mut text, alloc, changes)?;
     push_events(&mut text, telling)?;
     Ok(text)
@@ -578,17 +632,20 @@ fn push_last_lines(text: &mut Vec<u8>, alloc: Global, changes: &[Change]) -> Add
     Ok(())
 }
 
-/// What is told in brief of keymaps that differ: the verdict, the last slot and the last accent, and how many slots and
-/// accents differ.
+/// What is told in brief of keymaps that differ: the verdict, the consequences, the last slot and the last accent, and how
+/// many slots and accents differ.
 pub fn brief_text(
     alloc: Global,
     telling: &Telling,
+    consequences: &Consequences,
     changes: &[Change],
 ) -> Result<Vec<u8>, AllocError>
-    ensures { IfOk result (λ text. text.items ≡ spec.brief_text telling.now changes.now) }
+    ensures { IfOk result (λ text. spec.IsBriefText telling.now changes.now text.items) }
 {
+    let lines = consequence_lines(alloc, consequences)?;
     let mut text = Vec::new(alloc);
     push_verdict(&mut text, alloc, telling)?;
+    push_said(&mut text, lines.as_slice())?;
     push_last_lines(&mut text, alloc, changes)?;
     let slots = line_places(alloc, changes, 2, 258)?;
     let accents = line_places(alloc, changes, 258, 273)?;

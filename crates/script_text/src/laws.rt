@@ -10,7 +10,7 @@ ghost use Rattle.keymap_diff.specs.declared.change.Change.{Change as ChangeValue
 ghost use Rattle.keymap_diff.specs.declared.telling.Telling.{Telling as TellingValue};
 ghost use Rattle.play_core.specs.Scripts.{IsScript};
 ghost use Rattle.script_text.specs.Cover.{CountedAreTold, IsCoverText, LeftOutCannotBeVisited};
-ghost use Rattle.script_text.specs.Diff.{LinesTellChanges, same_text};
+ghost use Rattle.script_text.specs.Diff.{IsDiffText, LinesTellChanges, same_text};
 ghost use Rattle.script_text.specs.Replayed.{TellingReplays, events_sent};
 
 /// The numbers of cells, lock settings and pairs that are printed of a cover count what is told of, each pair once.
@@ -39,7 +39,7 @@ pub fn lines_tell_changes()
 /// of a pressed key. Two consoles that play it, one of each keymap alone, answer all events alike but the last, and
 /// that by the two answers of the verdict. Else it sends nothing, as what is printed of keymaps that are the same.
 pub fn told_scripts_tell_keymaps_apart()
-    ensures differ { (m n : MapValue) (found : List ChangeValue) (telling : TellingValue) → IsTelling m n telling
-        → TellingReplays m n found telling }
+    ensures differ { (m n : MapValue) (found : List ChangeValue) (telling : TellingValue) (text : List ℕ)
+        → IsTelling m n telling → IsDiffText telling found text → TellingReplays m n text telling }
     ensures same { IsScript same_text [] }
 {}

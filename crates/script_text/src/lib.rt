@@ -2,9 +2,10 @@
 //! comments.
 //!
 //! `cover_text` prints a cover of keymap_cover: in comments how much its script sees, what it leaves out and what it
-//! never sees, and its events, a line each. `diff_text` prints what keymap_diff found between two keymaps: the verdict
-//! and each change in comments, and the events that tell them apart; `same_text` what is told of keymaps that are the
-//! same. The lines are those that `play_core` reads; `kmap_runs` above writes these texts, and makes others of the
+//! never sees, and its events, a line each. `diff_text` prints what keymap_diff and keymap_consequences found between two
+//! keymaps: the verdict, the consequences and each change in comments, and the events that tell them apart; `same_text`
+//! what is told of keymaps that are the same, and `verdict_words`, `consequence_lines` and `change_lines` the same lines
+//! for who shows them elsewhere. The lines are those that `play_core` reads; `kmap_runs` above writes these texts, and makes others of the
 //! same lines.
 //!
 //! Contracts say that each text is the one that is defined for its value (`specs/Cover.antt`, `specs/Diff.antt`). The
@@ -12,12 +13,16 @@
 //! and of that of `diff` what two consoles answer that play it.
 #![tactic(auto)]
 
+mod changes;
+mod consequences;
 mod cover;
 mod diff;
 mod event_lines;
 pub mod laws;
 mod words;
 
+pub use changes::{ChangeLine, Subject, change_lines};
+pub use consequences::consequence_lines;
 pub use cover::cover_text;
-pub use diff::{brief_text, diff_text, same_text};
+pub use diff::{brief_text, diff_text, same_text, verdict_words};
 pub use event_lines::{append, append_event, event_line, push_comment, push_events};

@@ -60,13 +60,16 @@ pub(crate) const REPEAT: &[u8] = b"repeat {}\n";
 // no list of events, or none before a modifier sticks; or up to how many presses none does.
 pub(crate) const SAME: &[u8] = b" same";
 
-pub(crate) const TOLD: &[u8] = b" told apart: {} -> {}";
+// One of these lines as a comment.
+pub(crate) const SAID: &[u8] = b" {}";
 
-pub(crate) const NEVER_TOLD: &[u8] = b" never told apart";
+pub(crate) const TOLD: &[u8] = b"told apart: {} -> {}";
 
-pub(crate) const NOT_TOLD: &[u8] = b" not told apart before a modifier sticks";
+pub(crate) const NEVER_TOLD: &[u8] = b"never told apart";
 
-pub(crate) const UNTOLD: &[u8] = b" undecided: no list of up to {} presses tells them apart";
+pub(crate) const NOT_TOLD: &[u8] = b"not told apart before a modifier sticks";
+
+pub(crate) const UNTOLD: &[u8] = b"undecided: no list of up to {} presses tells them apart";
 
 // An answer, its character as a reader knows it.
 pub(crate) const ERROR: &[u8] = b"error";
@@ -86,7 +89,7 @@ pub(crate) const CHANGED: &[u8] = b"{} -> {}";
 pub(crate) const UNSEEN: &[u8] = b" (unseen)";
 
 // A line: what begins it, and its items.
-pub(crate) const LINE: &[u8] = b" {}{}{}";
+pub(crate) const LINE: &[u8] = b"{}{}{}";
 
 pub(crate) const LAST_SLOT: &[u8] = b"last slot: {}";
 
@@ -117,3 +120,38 @@ pub(crate) const SLOTS_DIFFER: &[u8] = b"{} slots";
 pub(crate) const ACCENT_DIFFERS: &[u8] = b"1 accent";
 
 pub(crate) const ACCENTS_DIFFER: &[u8] = b"{} accents";
+
+// The consequences of a change: of the check, with a key that it names; who bears a modifier or lock; and what comes of
+// taps.
+pub(crate) const CHECK: &[u8] = b"check: {} -> {}";
+
+pub(crate) const CHECK_ACCEPTS: &[u8] = b"accepted";
+
+pub(crate) const CHECK_REFUSES: &[u8] = b"refused";
+
+pub(crate) const REFUSED_NO_LONGER: &[u8] = b"refused no longer: {}";
+
+pub(crate) const REFUSED_NOW: &[u8] = b"refused now: {}";
+
+pub(crate) const REFUSED_KEY: &[u8] = b"{} ({}, {})";
+
+pub(crate) const BORNE_OTHERWISE: &[u8] = b"{}: {} -> {}";
+
+pub(crate) const BORNE_BY_NOBODY: &[u8] = b"nobody";
+
+pub(crate) const TYPES_NO_LONGER: &[u8] = b"types no longer: {}";
+
+pub(crate) const TYPES_NOW: &[u8] = b"types now: {}";
+
+pub(crate) const MORE_PRESSES: &[u8] = b"more presses: {}";
+
+pub(crate) const FEWER_PRESSES: &[u8] = b"fewer presses: {}";
+
+pub(crate) const GIVES_NO_LONGER: &[u8] = b"gives no longer: {}";
+
+pub(crate) const GIVES_NOW: &[u8] = b"gives now: {}";
+
+pub(crate) const TYPES_UNDECIDED: &[u8] = b"types: undecided";
+
+// What stands between characters and between actions in a list.
+pub(crate) const BLANK: &[u8] = b" ";

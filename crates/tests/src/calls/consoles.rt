@@ -1,11 +1,12 @@
-//! The calls of console_core, console_states and console_scripts, and of keymap_cover and keymap_diff, which stand on
-//! them.
+//! The calls of console_core, console_states and console_scripts, and of keymap_cover, keymap_diff and
+//! keymap_consequences, which stand on them.
 use crate::calls::devices::mark;
 use crate::calls::inputs::{Call, Lent};
 use crate::calls::outcome::{Outcome, ended, ended_keeping};
 use console_core::{Event, PlainConsole, Translator, WordConsole, replay};
-use console_scripts::{Explorer, Typist, find_onward, scroll_off, type_characters, typed_of};
+use console_scripts::{Explorer, Typist, find_onward, scroll_off, type_characters, yield_of};
 use console_states::{Sight, Sticking, sights_of, some_sights, sticking, sticking_between};
+use keymap_consequences::consequences_of;
 use keymap_core::{KeyCode, Lock, Modifier, Write};
 use keymap_cover::{Seen, cells, cover_of, lock_settings};
 use keymap_diff::{Telling, differences, telling_apart};
@@ -31,12 +32,13 @@ pub(crate) fn of_keymaps<W: Write>(call: &Call<'_>, marks: &mut W) -> Option<Out
         "scroll_off" => turns_scroll_off(alloc, sample, marks),
         "type_characters" => types_characters(alloc, sample, marks),
         "Typist::new" => tells_typing(alloc, sample, marks),
-        "typed_of" => lists_typed(alloc, sample, marks),
+        "yield_of" => tells_yield(alloc, sample, marks),
         "cover_of" => covers(alloc, sample, marks),
         "Seen::new" => sees_nothing(alloc, marks),
         "cells" => lists_cells(alloc, marks),
         "lock_settings" => lists_lock_settings(alloc, marks),
         "differences" => compares(alloc, trap, sample, marks),
+        "consequences_of" => tells_consequences(alloc, trap, sample, marks),
         "telling_apart" => tells_apart(alloc, trap, sample, marks),
         _ => return None,
     };
@@ -176,12 +178,12 @@ fn tells_typing<W: Write>(alloc: Global, lent: &Lent, marks: &mut W) -> Outcome 
     ended_keeping(&given, is_right, lent.is_kept())
 }
 
-fn lists_typed<W: Write>(alloc: Global, lent: &Lent, marks: &mut W) -> Outcome {
+fn tells_yield<W: Write>(alloc: Global, lent: &Lent, marks: &mut W) -> Outcome {
     mark(marks);
-    let given = typed_of(alloc, &lent.map);
+    let given = yield_of(alloc, &lent.map);
     mark(marks);
     let is_right =
-        matches!(&given, Ok(Some(typed)) if typed.contains(&'é') && !typed.contains(&'ß'));
+        matches!(&given, Ok(Some(of)) if of.typed.contains(&'é') && !of.typed.contains(&'ß'));
     ended_keeping(&given, is_right, lent.is_kept())
 }
 
@@ -309,6 +311,14 @@ fn compares<W: Write>(alloc: Global, lent: &Lent, next: &Lent, marks: &mut W) ->
         matches!(&given, Ok(found) if !found.is_empty()),
         lent.is_kept(),
     )
+}
+
+fn tells_consequences<W: Write>(alloc: Global, lent: &Lent, next: &Lent, marks: &mut W) -> Outcome {
+    mark(marks);
+    let given = consequences_of(alloc, &lent.map, &next.map);
+    mark(marks);
+    let is_right = matches!(&given, Ok(of) if of.refused_no_longer.len() == 1 && of.taps.is_some());
+    ended_keeping(&given, is_right, lent.is_kept())
 }
 
 fn tells_apart<W: Write>(alloc: Global, lent: &Lent, next: &Lent, marks: &mut W) -> Outcome {

@@ -2,11 +2,14 @@
 use crate::calls::devices::mark;
 use crate::calls::inputs::{Call, Lent};
 use crate::calls::outcome::{Outcome, ended, ended_keeping, is_text};
+use keymap_consequences::consequences_of;
 use keymap_core::Write;
 use keymap_cover::cover_of;
 use keymap_diff::{differences, telling_apart};
 use keymap_names::{accents, all_chars, first_shown, ranges, shown_name, word};
-use script_text::{brief_text, cover_text, diff_text, same_text};
+use script_text::{
+    brief_text, change_lines, consequence_lines, cover_text, diff_text, same_text, verdict_words,
+};
 use std::alloc::{AllocError, Global};
 
 /// Makes a call that names something. There is none where no such call has the name.
@@ -34,6 +37,9 @@ pub(crate) fn of_printing<W: Write>(
         "cover_text" => prints_cover(call.alloc, call.sample, marks),
         "diff_text" => prints_differences(call.alloc, call.trap, call.sample, marks),
         "brief_text" => prints_in_brief(call.alloc, call.trap, call.sample, marks),
+        "verdict_words" => tells_verdict(call.alloc, call.trap, call.sample, marks),
+        "consequence_lines" => tells_lines(call.alloc, call.trap, call.sample, marks),
+        "change_lines" => tells_changes(call.alloc, call.trap, call.sample, marks),
         _ => Ok(None),
     }
 }
@@ -109,9 +115,10 @@ fn prints_in_brief<W: Write>(
     marks: &mut W,
 ) -> Result<Option<Outcome>, AllocError> {
     let telling = telling_apart(alloc, &lent.map, &next.map)?;
+    let of = consequences_of(alloc, &lent.map, &next.map)?;
     let found = differences(alloc, &lent.map, &next.map)?;
     mark(marks);
-    let given = brief_text(alloc, &telling, found.as_slice());
+    let given = brief_text(alloc, &telling, &of, found.as_slice());
     mark(marks);
     let is_right = matches!(&given, Ok(text) if text.as_slice().starts_with(b"# told apart: "));
     Ok(Some(ended_keeping(&given, is_right, lent.is_kept())))
@@ -124,10 +131,53 @@ fn prints_differences<W: Write>(
     marks: &mut W,
 ) -> Result<Option<Outcome>, AllocError> {
     let telling = telling_apart(alloc, &lent.map, &next.map)?;
+    let of = consequences_of(alloc, &lent.map, &next.map)?;
     let found = differences(alloc, &lent.map, &next.map)?;
     mark(marks);
-    let given = diff_text(alloc, &telling, found.as_slice());
+    let given = diff_text(alloc, &telling, &of, found.as_slice());
     mark(marks);
     let is_right = matches!(&given, Ok(text) if text.as_slice().starts_with(b"# told apart: "));
+    Ok(Some(ended_keeping(&given, is_right, lent.is_kept())))
+}
+
+fn tells_verdict<W: Write>(
+    alloc: Global,
+    lent: &Lent,
+    next: &Lent,
+    marks: &mut W,
+) -> Result<Option<Outcome>, AllocError> {
+    let telling = telling_apart(alloc, &lent.map, &next.map)?;
+    mark(marks);
+    let given = verdict_words(alloc, &telling);
+    mark(marks);
+    let is_right = matches!(&given, Ok(text) if text.as_slice().starts_with(b"told apart: "));
+    Ok(Some(ended_keeping(&given, is_right, lent.is_kept())))
+}
+
+fn tells_lines<W: Write>(
+    alloc: Global,
+    lent: &Lent,
+    next: &Lent,
+    marks: &mut W,
+) -> Result<Option<Outcome>, AllocError> {
+    let of = consequences_of(alloc, &lent.map, &next.map)?;
+    mark(marks);
+    let given = consequence_lines(alloc, &of);
+    mark(marks);
+    let is_right = matches!(&given, Ok(lines) if !lines.is_empty());
+    Ok(Some(ended_keeping(&given, is_right, lent.is_kept())))
+}
+
+fn tells_changes<W: Write>(
+    alloc: Global,
+    lent: &Lent,
+    next: &Lent,
+    marks: &mut W,
+) -> Result<Option<Outcome>, AllocError> {
+    let found = differences(alloc, &lent.map, &next.map)?;
+    mark(marks);
+    let given = change_lines(alloc, found.as_slice());
+    mark(marks);
+    let is_right = matches!(&given, Ok(lines) if !lines.is_empty());
     Ok(Some(ended_keeping(&given, is_right, lent.is_kept())))
 }

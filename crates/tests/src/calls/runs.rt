@@ -7,9 +7,10 @@ use keymap_draw::Board;
 use keymap_fmt::Characters;
 use kmap_runs::{
     RunError, check_brief_run, check_run, compile_narrow_run, compile_run, cover_run, diff_run,
-    draw_run, dump_narrow_run, dump_run, file_error_line, fmt_print_run, fmt_run, lint_run,
-    missing_run, search_run, type_run,
+    draw_change_run, draw_run, dump_narrow_run, dump_run, file_error_line, fmt_print_run, fmt_run,
+    lint_run, missing_run, search_run, type_run,
 };
+use lint_formats::Format;
 use std::alloc::Global;
 
 /// Makes a call that reads texts. There is none where no such call has the name.
@@ -23,6 +24,7 @@ pub(crate) fn of_texts<W: Write>(call: &Call<'_>, marks: &mut W) -> Option<Outco
         "search_run-next" => searches_next(alloc, marks),
         "diff_run" => compares(alloc, marks),
         "draw_run" => draws(alloc, marks),
+        "draw_change_run" => draws_change(alloc, marks),
         "lint_run" => lints(alloc, marks),
         "fmt_run" => formats(alloc, marks),
         "fmt_print_run" => prints_formatted(alloc, marks),
@@ -135,13 +137,31 @@ fn draws<W: Write>(alloc: Global, marks: &mut W) -> Outcome {
     ended_untouched(&given, true, out.writes)
 }
 
+fn draws_change<W: Write>(alloc: Global, marks: &mut W) -> Outcome {
+    let (mut reader, mut next, mut out) = (reader_of(TEXT), reader_of(CHANGED), writer());
+    let (old, new): (&[u8], &[u8]) = (b"old", b"new");
+    mark(marks);
+    let given = draw_change_run(
+        alloc,
+        &mut reader,
+        &mut next,
+        Board::Iso,
+        new,
+        old,
+        &mut out,
+    );
+    mark(marks);
+    ended_untouched(&given, true, out.writes)
+}
+
 /// The trap has an error.
 fn lints<W: Write>(alloc: Global, marks: &mut W) -> Outcome {
     let (mut reader, mut out) = (reader_of(TRAP), writer());
     mark(marks);
-    let given = lint_run(alloc, b"trap", &mut reader, &mut out);
+    let given = lint_run(alloc, Format::Text, false, b"trap", &mut reader, &mut out);
     mark(marks);
-    ended_untouched(&given, given == Ok(false), out.writes)
+    let is_right = matches!(&given, Ok(found) if !found.is_well);
+    ended_untouched(&given, is_right, out.writes)
 }
 
 fn formats<W: Write>(alloc: Global, marks: &mut W) -> Outcome {

@@ -1,14 +1,17 @@
-//! The calls of keymap_lint, keymap_lint_text, keymap_fmt, keymap_draw and messages, those of play_core, and `type_sentence`.
+//! The calls of keymap_lint, keymap_lint_text, lint_formats, keymap_fmt, keymap_draw and messages, those of play_core,
+//! and `type_sentence`.
 use crate::calls::devices::{mark, reader_of, writer};
 use crate::calls::inputs::{Call, FAULTY, Lent, SENTENCE, TEXT, TRAP, script};
 use crate::calls::outcome::{Outcome, ended, ended_keeping, ended_untouched, is_text};
 use keymap_check::check;
 use keymap_core::Write;
-use keymap_draw::{Board, picture};
+use keymap_draw::{About, Before, Board, ChangeLine, picture, picture_of_change};
 use keymap_fmt::{Characters, format};
 use keymap_lint::{Lint, diagnostics};
-use keymap_lint_text::lint_text;
+use keymap_lint_text::{push_remark, remarks, remarks_text};
+use keymap_places::TextLines;
 use kmap_runs::type_sentence;
+use lint_formats::{Format, end, rows};
 use messages::filled;
 use play_core::{Show, play, play_next, read_script, read_whole};
 use std::alloc::{AllocError, Global};
@@ -40,8 +43,18 @@ pub(crate) fn of_trap<W: Write>(
     Ok(match call.name {
         "diagnostics" => Some(diagnoses(alloc, TRAP, marks)),
         "diagnostics-faulty" => Some(diagnoses(alloc, FAULTY, marks)),
-        "lint_text" => Some(tells_diagnostics(alloc, marks)?),
+        "remarks" => Some(tells_diagnostics(alloc, marks)?),
+        "remarks_text" => Some(prints_remarks(alloc, marks)?),
+        "push_remark" => Some(prints_one(alloc, marks)?),
+        "rows-text" => Some(prints_rows(alloc, Format::Text, b"trap:", marks)?),
+        "rows-coloured" => Some(prints_rows(alloc, Format::Coloured, b"\x1b", marks)?),
+        "rows-github" => Some(prints_rows(alloc, Format::Github, b"::", marks)?),
+        "rows-json" => Some(prints_rows(alloc, Format::Json, b"\n{", marks)?),
+        "rows-sarif" => Some(prints_rows(alloc, Format::Sarif, b"\n{", marks)?),
+        "end-sarif" => Some(ends_log(alloc, marks)),
         "picture" => Some(draws(alloc, call.trap, marks)),
+        "picture_of_change" => Some(draws_change(alloc, call.trap, marks)),
+        "ChangeLine::new" => Some(makes_line(alloc, marks)),
         _ => None,
     })
 }
@@ -56,10 +69,57 @@ fn diagnoses<W: Write>(alloc: Global, text: &[u8], marks: &mut W) -> Outcome {
 fn tells_diagnostics<W: Write>(alloc: Global, marks: &mut W) -> Result<Outcome, AllocError> {
     let lint = diagnostics(alloc, TRAP)?;
     mark(marks);
-    let given = lint_text(alloc, b"trap", TRAP, &lint);
+    let given = remarks(alloc, TRAP, &lint);
+    mark(marks);
+    let is_right = matches!(&given, Ok(told) if !told.is_empty());
+    Ok(ended(&given, is_right))
+}
+
+fn prints_remarks<W: Write>(alloc: Global, marks: &mut W) -> Result<Outcome, AllocError> {
+    let lint = diagnostics(alloc, TRAP)?;
+    let told = remarks(alloc, TRAP, &lint)?;
+    mark(marks);
+    let given = remarks_text(alloc, b"trap", TRAP, told.as_slice());
     mark(marks);
     let is_right = matches!(&given, Ok(text) if text.as_slice().starts_with(b"trap:"));
     Ok(ended(&given, is_right))
+}
+
+fn prints_one<W: Write>(alloc: Global, marks: &mut W) -> Result<Outcome, AllocError> {
+    let lint = diagnostics(alloc, TRAP)?;
+    let told = remarks(alloc, TRAP, &lint)?;
+    let lines = TextLines::new(alloc, TRAP)?;
+    let mut text = Vec::new(alloc);
+    let Some(first) = told.as_slice().first() else {
+        return Err(AllocError);
+    };
+    mark(marks);
+    let given = push_remark(alloc, &mut text, b"trap", &lines, first);
+    mark(marks);
+    Ok(ended(&given, text.as_slice().starts_with(b"trap:")))
+}
+
+fn prints_rows<W: Write>(
+    alloc: Global,
+    format: Format,
+    front: &[u8],
+    marks: &mut W,
+) -> Result<Outcome, AllocError> {
+    let lint = diagnostics(alloc, TRAP)?;
+    let told = remarks(alloc, TRAP, &lint)?;
+    mark(marks);
+    let given = rows(alloc, format, false, b"trap", TRAP, told.as_slice());
+    mark(marks);
+    let is_right = matches!(&given, Ok(text) if text.as_slice().starts_with(front));
+    Ok(ended(&given, is_right))
+}
+
+fn ends_log<W: Write>(alloc: Global, marks: &mut W) -> Outcome {
+    mark(marks);
+    let given = end(alloc, Format::Sarif, "1");
+    mark(marks);
+    let is_right = matches!(&given, Ok(text) if text.as_slice().starts_with(b"\n]"));
+    ended(&given, is_right)
 }
 
 fn formats<W: Write>(alloc: Global, marks: &mut W) -> Outcome {
@@ -76,6 +136,27 @@ fn draws<W: Write>(alloc: Global, lent: &Lent, marks: &mut W) -> Outcome {
     mark(marks);
     let is_right = matches!(&given, Ok(drawn) if !drawn.is_empty());
     ended_keeping(&given, is_right, lent.is_kept())
+}
+
+fn draws_change<W: Write>(alloc: Global, lent: &Lent, marks: &mut W) -> Outcome {
+    let report = check(&lent.map);
+    let before = Before {
+        map: &lent.map,
+        name: b"old",
+        lines: &[],
+    };
+    mark(marks);
+    let given = picture_of_change(alloc, &lent.map, &report, Board::Iso, b"name", &before);
+    mark(marks);
+    let is_right = matches!(&given, Ok(drawn) if !drawn.is_empty());
+    ended_keeping(&given, is_right, lent.is_kept())
+}
+
+fn makes_line<W: Write>(alloc: Global, marks: &mut W) -> Outcome {
+    mark(marks);
+    let given = ChangeLine::new(alloc, About::Whole, b"words");
+    mark(marks);
+    ended(&given, given.is_ok())
 }
 
 fn fills<W: Write>(alloc: Global, marks: &mut W) -> Outcome {

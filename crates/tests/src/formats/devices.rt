@@ -1,5 +1,5 @@
-//! Reading and writing at devices: a reader and a writer that fail in mid-stream, how much is read of a text that is too
-//! long, and how pieces are gathered.
+//! Reading and writing at devices: a reader and a writer that fail in mid-stream, how much is read of a text that is
+//! too long, and how pieces are gathered.
 
 use crate::asserts::{expect_at, expect_equal, expect_equal_at, map_of};
 use crate::formats::reading::is_map;

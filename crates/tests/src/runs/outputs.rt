@@ -1,4 +1,5 @@
-//! What the runs of the program write: reports, scripts and printed keymaps, also into a writer that fails in mid-stream.
+//! What the runs of the program write: reports, scripts and printed keymaps, also into a writer that fails in
+//! mid-stream.
 
 use crate::asserts::{expect_at, expect_equal_at, map_of};
 use crate::runs::run_devices::{Run, perform};

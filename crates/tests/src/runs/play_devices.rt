@@ -1,5 +1,5 @@
-//! Devices of plays: a reader or a writer that fails in mid-stream is named, and nothing more is done. How many writes a
-//! long output takes.
+//! Devices of plays: a reader or a writer that fails in mid-stream is named, and nothing more is done. How many writes
+//! a long output takes.
 ghost use Rattle.std.specs.Prelude.{None, false};
 
 use crate::asserts::{expect_at, expect_equal, expect_equal_at};

@@ -11,6 +11,7 @@ use kmap_runs::{
     CommandError, RunError, check_run, compile_narrow_run, compile_run, draw_run, dump_narrow_run,
     dump_run, fmt_print_run, lint_run, search_run, type_run,
 };
+use lint_formats::Format;
 use std::alloc::Global;
 use std::mem::replace;
 
@@ -50,7 +51,10 @@ pub(crate) fn perform(
         Run::Compile => of_run(compile_run(alloc, first, writer).and(Ok(true))),
         Run::CompileNarrow => of_run(compile_narrow_run(alloc, first, writer).and(Ok(true))),
         Run::Draw => of_run(draw_run(alloc, first, Board::Iso, b"", writer).and(Ok(true))),
-        Run::Lint => of_run(lint_run(alloc, b"t", first, writer)),
+        Run::Lint => {
+            let found = lint_run(alloc, Format::Text, false, b"t", first, writer)?;
+            Ok(found.is_well)
+        }
         Run::Layout => fmt_print_run(alloc, first, Characters::Kept, writer).and(Ok(true)),
     }
 }
@@ -97,7 +101,8 @@ fn read_error(input: Input, fault: ReadFault) -> CommandError {
     }
 }
 
-/// What a run reads of an input: whether that is its first one, bytes and then blanks, and how many come before it fails.
+/// What a run reads of an input: whether that is its first one, bytes and then blanks, and how many come before it
+/// fails.
 type Reading = (Run, Input, bool, &'static [u8], usize);
 
 static READINGS: [Reading; 13] = [

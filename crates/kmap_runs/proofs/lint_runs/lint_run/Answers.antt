@@ -14,8 +14,8 @@ returns-in_default-clause-run g c =
 
 pub returns-clause-run : goal.returns-clause-run
 returns-clause-run g c =
-    once_written of_writer (ReadsBytes (moves _ _)) LacksMemory (IsLinted c.args.file.now) (moves _ _)
-    c.in_ok-source.source.items c.in-Ok.is_well c.in-Ok.told.items _ c.in_ok-source.ensures.reads
-    (subst (λ source. IsLinted c.args.file.now source c.in-Ok.is_well c.in-Ok.told.items) c.as_slice.ensures.value
-    c.in-Ok.ensures)
+    once_written of_writer (ReadsBytes (moves _ _)) LacksMemory (IsLinted c.args.format c.args.file.now) (moves _ _)
+    c.in_ok-source.source.items c.in-Ok.found c.in-Ok.told.items _ c.in_ok-source.ensures.reads
+    (subst (λ source. IsLinted c.args.format c.args.file.now source c.in-Ok.found c.in-Ok.told.items)
+    c.as_slice.ensures.value c.in-Ok.ensures)
     (rw c.as_slice-2.ensures.value at c.answer_once_written.ensures.bytes)

@@ -3,4 +3,4 @@ use Rattle.script_text.proofs.Common.{append_assoc}
 use Rattle.script_text.proofs.diff.diff_text.Goals as goal
 
 pub returns : goal.returns
-returns c = search (rules, append_assoc)
+returns c = (c.in_ok-lines.lines.items, search (rules, append_assoc))

@@ -7,14 +7,14 @@ _kmap_words() {
     check) echo '--show --brief -h --help' ;;
     search) echo '--next -h --help' ;;
     diff) echo '--brief -h --help' ;;
-    lint) echo '--strict --name -h --help' ;;
+    lint) echo '--strict --name --format --quiet --color -h --help' ;;
     fmt) echo '--check --print --quote -h --help' ;;
     play) echo '--typed --next -h --help' ;;
     type) echo '--text --missing -h --help' ;;
     cover) echo '-h --help' ;;
     compile) echo '--narrow -h --help' ;;
     dump) echo '--narrow -h --help' ;;
-    draw) echo '--ansi --title -h --help' ;;
+    draw) echo '--ansi --title --old -h --help' ;;
     help) echo 'check search diff lint fmt play type cover compile dump draw help' ;;
     esac
 }

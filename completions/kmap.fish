@@ -21,7 +21,7 @@ complete -c kmap -n '__kmap_after' -a type -d 'Prints a script of key presses th
 complete -c kmap -n '__kmap_after' -a cover -d 'Prints a script that tests a console with a keymap'
 complete -c kmap -n '__kmap_after' -a compile -d 'Writes the table file of a keymap text'
 complete -c kmap -n '__kmap_after' -a dump -d 'Prints a table file as keymap text'
-complete -c kmap -n '__kmap_after' -a draw -d 'Draws a keymap as one SVG picture'
+complete -c kmap -n '__kmap_after' -a draw -d 'Draws keymaps as SVG pictures'
 complete -c kmap -n '__kmap_after' -a help -d 'Print this message or the help of the given subcommand(s)'
 complete -c kmap -n '__kmap_after' -s h -l help -d 'Print help'
 complete -c kmap -n '__kmap_after' -s V -l version -d 'Print version'
@@ -38,6 +38,9 @@ complete -c kmap -n '__kmap_after diff' -s h -l help -d 'Print help'
 
 complete -c kmap -n '__kmap_after lint' -l strict -d 'Counts warnings as errors'
 complete -c kmap -n '__kmap_after lint' -l name -r -F -d 'The name that standard input is told under'
+complete -c kmap -n '__kmap_after lint' -l format -x -a 'text github json sarif' -d 'How to print what is found'
+complete -c kmap -n '__kmap_after lint' -l quiet -d 'Leaves the count of errors and warnings out'
+complete -c kmap -n '__kmap_after lint' -l color -x -a 'auto always never' -d 'When to print in colours'
 complete -c kmap -n '__kmap_after lint' -s h -l help -d 'Print help'
 
 complete -c kmap -n '__kmap_after fmt' -l check -d 'Writes nothing, and fails where a text is not in the layout'
@@ -63,6 +66,7 @@ complete -c kmap -n '__kmap_after dump' -s h -l help -d 'Print help'
 
 complete -c kmap -n '__kmap_after draw' -l ansi -d 'Draws a board of 104 keys in place of 105'
 complete -c kmap -n '__kmap_after draw' -l title -x -d 'The name in the headline'
+complete -c kmap -n '__kmap_after draw' -l old -r -F -d 'The keymap text, or -, since which changes are marked'
 complete -c kmap -n '__kmap_after draw' -s h -l help -d 'Print help'
 
 complete -c kmap -n '__kmap_after help' -f

@@ -255,6 +255,12 @@ linted=$(cost lint "$keymap")
 echo "us.kbd, checked: $checked $unit; told by lint: $linted $unit, times $(per "$linted" 0 "$checked")"
 measured check "$checked"
 
+# the keymap without its key for f: what keys type is looked for
+grep -v '^  033' "$keymap" > lacking
+lacking=$(cost lint lacking)
+echo "us.kbd without a key for f, told by lint: $lacking $unit"
+measured lint-cannot-type "$lacking"
+
 for show in '' --typed; do
     # The flag is left out where it is empty.
     fixed=$(cost play $show "$keymap" empty)

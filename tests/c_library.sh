@@ -331,7 +331,7 @@ assert key_of_evdev(30) == 30 and key_of_evdev(97) == 90 and key_of_evdev(84) is
         [ -n "${UNPROVED:-}" ] || holds "$name takes $bytes bytes of stack, and at most $most" within "$bytes" "$most"
     done < took
 
-    # No more than before the library read texts.
+    # Resets and loads are stepped by a copy of the step, which keys so need not wait for.
     if is_there size; then
         printf '%s\n' '#include <kmap.h>' 'int main(int argc, char **argv)' '{' 'struct kmap_console console;' \
             'uint32_t answer;' 'kmap_start(&console);' \
@@ -339,7 +339,7 @@ assert key_of_evdev(30) == 30 and key_of_evdev(97) == 90 and key_of_evdev(84) is
         holds 'a program that only steps compiles' compiled -O2 -Wl,--gc-sections step.c -o step
         $cc -O2 none.c -o none
         took=$(($(size step | awk 'NR == 2 { print $1 + $2 }') - $(size none | awk 'NR == 2 { print $1 + $2 }')))
-        holds "a program that only steps pays $took bytes" within "$took" 5712
+        holds "a program that only steps pays $took bytes" within "$took" 7300
     fi
 fi
 

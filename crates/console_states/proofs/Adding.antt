@@ -67,7 +67,7 @@ pub offer-added : (u : Under) (s : State) (k a : ℕ) (old now : List ℕ) → u
 offer-added u s k a old now can is w =
     adds-as (λ b. a ≡ b) (λ b. (usable u.maps.first b ≡ true) × Offers u s k b) old now
     (λ b e. subst (λ z. (usable u.maps.first z ≡ true) × Offers u s k z) e (can, is))
-    (λ b (other, offers). one_accent a b (look_in u s k) is.1 offers.1) (adds-one a old now w)
+    (λ b (other, offers). one_accent a b (look_in u s k) is.1.0 offers.1.0) (adds-one a old now w)
 
 -- the accent that the key offers isn't usable
 pub unusable-none : (u : Under) (s : State) (k a : ℕ) → Offers u s k a → usable u.maps.first a ≡ false
@@ -106,6 +106,6 @@ offers-all u s keys n old now (has, below) added =
     (λ a (can, (k, lt, is)). elim (has k lt) [
       | inl (j, there, e) ↦
           (can, (j, there, subst (λ q. Offers u s q a) (sym (get_or_default keys j 0 k there ∙ e)) is))
-      | inr other ↦ absurd (other s a is.1)
+      | inr other ↦ absurd (other s a is.1.0)
     ])
     added

@@ -1,8 +1,8 @@
 -- Where a search begins: with its origins, or with one.
-use Rattle.console_states.proofs.Common.{zero, suc, ◌≡◌, ℕ, true, false, inl, inr, List, [], ◌∷◌, ◌++◌, length}
+use Rattle.console_states.proofs.Common.{zero, suc, ◌≡◌, ℕ, true, inl, inr, List, [], ◌∷◌, ◌++◌, length}
 use Rattle.console_states.proofs.Common.{slice_get, Some, None, refl, ap, subst, sym, arith, cases_lt, Contains}
 use Rattle.console_states.proofs.Common.{Contains-append_left, Contains-push, Contains-push_cases, is_some, lookup}
-use Rattle.console_states.proofs.Common.{none-some, Scroll, Held, Under, State, state_of, Entry, Entries, IsMetBy}
+use Rattle.console_states.proofs.Common.{none-some, Held, Under, State, state_of, Entry, Entries, IsMetBy}
 use Rattle.console_states.proofs.Common.{IsReached, Searched, AreInOrder, IsBegun}
 use Rattle.console_states.proofs.Growing.{at_old, at_new, met-grows, met-last, one_entry}
 use Rattle.console_states.proofs.SameStates.{are_same}
@@ -57,17 +57,16 @@ begun-old os es h e b = record {
 }
 
 -- what was begun is searched
-pub searched-begun : (u : Under) (os : List State) (es : Entries)
-    → ((o : State) → Contains os o → o.is_locked Scroll ≡ false) → IsBegun os es
+pub searched-begun : (u : Under) (os : List State) (es : Entries) → IsBegun os es
     → Searched u os es 0 0 × AreInOrder es 0 0
-searched-begun u os es off b = (
+searched-begun u os es b = (
   record {
     start = b.all;
     reached = λ j x at.
         let (has, is) = b.only j x at in (
           state_of x.0,
           has,
-          ([], (x, at, ap (λ z. z.last) is), tt, refl, sym (ap (λ z. z.presses) is), off (state_of x.0) has),
+          ([], (x, at, ap (λ z. z.last) is), tt, refl, sym (ap (λ z. z.presses) is)),
         );
     pressed = λ j x at lt. absurd (omega (arith, lt));
     closed = λ j x at lt. absurd (omega (arith, lt));
@@ -85,9 +84,6 @@ searched-begun u os es off b = (
 only-one : (o s : State) → Contains (o ∷ []) s → o ≡ s
 only-one o s (zero, lt, at) = at
 only-one o s (suc k, lt, at) = absurd (omega (arith, lt))
-
-pub one-off : (o : State) → o.is_locked Scroll ≡ false → (s : State) → Contains (o ∷ []) s → s.is_locked Scroll ≡ false
-one-off o off s has = subst (λ t. t.is_locked Scroll ≡ false) (only-one o s has) off
 
 pub reached-one : {u : Under} {o : State} {es : Entries} {a b : ℕ} → Searched u (o ∷ []) es a b → (j : ℕ) (x : Entry)
     → slice_get es j ≡ Some x → IsReached u o es j x

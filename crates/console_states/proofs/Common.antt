@@ -21,20 +21,21 @@ pub use Rattle.console_states.specs.Inner.Adding.{AreOffersOf, AreSelectionsOf, 
 pub use Rattle.console_states.specs.Inner.Adding.{IsLedTo, IsOfferedUnlocked, IsWith, OffersUnlocked}
 pub use Rattle.console_states.specs.Inner.KeyLists.{AreKeysOf, IsOther}
 pub use Rattle.console_states.specs.Inner.Standing.{Exact, Follows, HoldsSome, Stands}
-pub use Rattle.console_states.specs.Moves.{HolderForgets, Holds, IsForgetful, IsFree, IsIdle, IsMove, IsPath}
+pub use Rattle.console_states.specs.Moves.{HolderForgets, Holds, IsForgetful, IsFree, IsIdle, IsMade, IsMove, IsPath}
 pub use Rattle.console_states.specs.Moves.{IsPathFrom, State, Under, alone, events_along, events_of_move, exchanged}
 pub use Rattle.console_states.specs.Moves.{is_held, look_in, map_in, map_of, moved, next_map, presses_along, presses_of}
 pub use Rattle.console_states.specs.Moves.{release_of, releases, script_of_path, start, state_after, state_from}
 pub use Rattle.console_states.specs.Moves.{with_holder, with_loads, with_lock_turned}
-pub use Rattle.console_states.specs.Returning.{IsHome, but_scroll, unscrolled}
+pub use Rattle.console_states.specs.Returning.{IsHome, but_scroll}
 pub use Rattle.console_states.specs.Searching.{AreAdded, AreDone, AreInOrder, AreMet, AreMetOnce, AreSafe, AreWithin}
 pub use Rattle.console_states.specs.Searching.{Entries, Entry, Grows, HasEnded, HasMovingKeys, IsBegun, IsFrom, IsMetBy}
-pub use Rattle.console_states.specs.Searching.{IsReached, IsStep, IsStuck, IsTrail, IsUnmoving, LeavesScroll}
+pub use Rattle.console_states.specs.Searching.{IsReached, IsStep, IsStuck, IsTrail, IsUnmoving}
 pub use Rattle.console_states.specs.Searching.{PressesLead, Searched, StepsTo, state_of, under_of}
 pub use Rattle.console_states.specs.Sights.{AreComposed, AreSightsOf, IsAdmitted, IsClean, IsOfferedIn, IsPendingFor}
 pub use Rattle.console_states.specs.Sights.{IsReachable, Lists, Offers, SeesBy, SeesNext, can_see, is_selected}
 pub use Rattle.console_states.specs.Sights.{look_selected, selection_of}
-pub use Rattle.console_states.specs.Sticking.{Admits, AreUnder, IsSent, NeverForgets, NeverSticksUnder}
+pub use Rattle.console_states.specs.Sticking.{Admits, AreAllowed, AreUnder, LoadsWhereAny, selection_behind, IsSent}
+pub use Rattle.console_states.specs.Sticking.{NeverForgets, NeverSticksUnder}
 pub use Rattle.console_states.specs.Sticking.{ReachesMoreThanFrom, ReleasesPressedKeys, SticksUnder, presses}
 pub use Rattle.console_states.specs.Types.{Act, Action, Alt, AltShift, Caps, Cell, Char, Event, Exchange, Hold, Holding}
 pub use Rattle.console_states.specs.Types.{LeftAlt, LeftControl, LeftShift, LetGo, Load, Lock, Meta, Modifier, Move}

@@ -1,5 +1,5 @@
 -- What the search concludes of all paths from what it met.
-use Rattle.console_states.proofs.Common.{suc, ◌≡◌, ℕ, ◌<◌, List, [], ◌∷◌, length, slice_get, Some, refl}
+use Rattle.console_states.proofs.Common.{suc, ◌≡◌, ℕ, ◌<◌, List, [], ◌∷◌, length, slice_get, Some}
 use Rattle.console_states.proofs.Common.{ap, subst, sym, ◌∙◌, arith, slice_get_within, Modifier, Event}
 use Rattle.console_states.proofs.Common.{End, TooMany, Under, start}
 use Rattle.console_states.proofs.Common.{IsForgetful, HolderForgets, script_of_path, state_of, Entry, Entries, IsMetBy}
@@ -12,27 +12,26 @@ use Rattle.console_states.proofs.Scripts.{presses-script, releases-script}
 use Rattle.console_states.proofs.Beginning.{reached-one, start-one}
 use Rattle.console_states.proofs.Searching.{met-up, all-done}
 use Rattle.console_states.proofs.Sparing.{IsKeptBelow, IsSafeBelow, never-sticks, sticks-late}
-use Rattle.console_states.proofs.Nearest.{IsAmong, among-moved, below-fewer, done-before}
+use Rattle.console_states.proofs.Nearest.{met-moved, below-fewer, done-before}
 
 -- the moves keep the states that were met
-pub kept-below : (u : Under) (es : Entries) (n : ℕ) → IsMetBy es 0 start → AreDone u es n → IsKeptBelow u n (IsAmong es)
+pub kept-below : (u : Under) (es : Entries) (n : ℕ) → IsMetBy es 0 start → AreDone u es n → IsKeptBelow u n (IsMetBy es)
 kept-below u es n met done = record {
   led = record {
-    more = λ p s (t, there, near). (t, met-up es p (suc p) t (omega arith) there, near);
-    moved = among-moved u es n done;
+    more = λ p s there. met-up es p (suc p) s (omega arith) there;
+    moved = met-moved u es n done;
   };
-  start = (start, met, refl);
+  start = met;
 }
 
 -- the states that were met are safe where no holder looks up a character in those met by fewer than n presses
 pub safe-below : (u : Under) (es : Entries) (n : ℕ) → IsMetBy es 0 start → AreDone u es n
     → ((j : ℕ) (x : Entry) → slice_get es j ≡ Some x → x.1.presses < n → IsForgetful u (state_of x.0) → ⊥)
-    → IsSafeBelow u n (IsAmong es)
+    → IsSafeBelow u n (IsMetBy es)
 safe-below u es n met done safe = record {
   kept = kept-below u es n met done;
-  safe = λ p lt s (t, (j, x, at, is, le), near) forgetful.
-      safe j x at (omega (arith, le, lt))
-      (subst (λ z. IsForgetful u z) (sym is) (subst (λ z. IsForgetful u z) (sym near) forgetful));
+  safe = λ p lt s (j, x, at, is, le) forgetful.
+      safe j x at (omega (arith, le, lt)) (subst (λ z. IsForgetful u z) (sym is) forgetful);
 }
 
 -- where all states were met and no holder looks up a character, no modifier sticks
@@ -40,7 +39,7 @@ pub complete-never : (u : Under) (es : Entries) → HasEnded u (start ∷ []) es
     → NeverSticksUnder u
 complete-never u es ended safe =
     never-under u
-    (never-sticks u (IsAmong es)
+    (never-sticks u (IsMetBy es)
     (λ n.
     safe-below u es n (start-one ended.searched) (all-done u es ended.is.0 n)
     (λ j x at lt. safe j x at (slice_get_within es j x at))))
@@ -49,7 +48,7 @@ complete-never u es ended safe =
 pub none-late : (u : Under) (es : Entries) (p : ℕ) → HasEnded u (start ∷ []) es (TooMany p) → AreSafe u es (length es)
     → NoneSticksUnderBy u p
 none-late u es p ended safe g keys admitted i (quiet, on) =
-    sticks-late u p (IsAmong es)
+    sticks-late u p (IsMetBy es)
     (safe-below u es p (start-one ended.searched) ended.is.2 (λ j x at lt.
     safe j x at (slice_get_within es j x at))) g keys admitted i
     quiet (on u.maps (under-self u))
@@ -68,7 +67,7 @@ stuck-sticks u es end j k ended (x, at, stuck) safe h is =
       subst (λ y. LeavesOnUnder u y) (sym script) (left.0, left.1, (i, left.2)),
       (λ g keys admitted l (quiet, on).
           let late : x.1.presses < presses g =
-          sticks-late u x.1.presses (IsAmong es)
+          sticks-late u x.1.presses (IsMetBy es)
           (safe-below u es x.1.presses (start-one ended.searched) (done-before u es end ended j x at)
           (below-fewer es (λ y. IsForgetful u (state_of y) → ⊥) ended.ordered j x at safe)) g keys admitted l quiet
           (on u.maps (under-self u)) in

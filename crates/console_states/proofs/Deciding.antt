@@ -3,7 +3,8 @@ use Rattle.console_states.proofs.Common.{cases_Bool, inl, inr, ◌≡◌, Bool, 
 use Rattle.console_states.proofs.Common.{◌∙◌, if◌then◌else◌, true≢false, Modifier, Event, Press, Release, Reset, rules}
 use Rattle.console_states.proofs.Common.{Load, Sticks, Never, Undecided, on, Maps, between, in_force, resolved}
 use Rattle.console_states.proofs.Common.{is_on_after, IsNoLoad, HasNoLoads, HasKeys, IsOffOnceQuiet, Under, with_loads}
-use Rattle.console_states.proofs.Common.{script_of_path, AreUnder, Admits, SticksUnder, IsSent, NeverSticksUnder}
+use Rattle.console_states.proofs.Common.{script_of_path, AreUnder, Admits, LoadsWhereAny, SticksUnder, IsSent}
+use Rattle.console_states.proofs.Common.{NeverSticksUnder}
 use Rattle.console_core.specs.Headline.{IsSafe}
 use Rattle.std.proofs.lemmas.List.Elements.{All-weaker}
 use Rattle.console_states.specs.Sticking.{SafeNeverForgets, SafeNeverSticksBetween, SafeNeverAnswersSticks, AreOnAfter}
@@ -18,20 +19,20 @@ under-self u = (refl, (λ loads. refl))
 
 -- with loads all lists are admitted
 pub all-admitted : (ms : Maps) (h : List Event) → Admits (with_loads ms) h
-all-admitted ms h e = absurd (true≢false e)
+all-admitted ms h = ((λ e. absurd (true≢false e)), (λ later before k e. refl))
 
--- what is sent is admitted
+-- what is sent has loads only where there are any
 no_load : (has_loads : Bool) → has_loads ≡ false → (e : Event) → IsSent has_loads e → IsNoLoad e
 no_load has_loads none (Press k) x = refl
 no_load has_loads none (Release k) x = refl
 no_load has_loads none Reset x = refl
 no_load has_loads none Load x = absurd (true≢false (sym x ∙ none))
 
-pub sent-admitted : (u : Under) (h : List Event) → All (IsSent u.has_loads) h → Admits u h
-sent-admitted u h sent none = All-weaker (IsSent u.has_loads) IsNoLoad (no_load u.has_loads none) h sent
+pub sent-loads : (u : Under) (h : List Event) → All (IsSent u.has_loads) h → LoadsWhereAny u h
+sent-loads u h sent none = All-weaker (IsSent u.has_loads) IsNoLoad (no_load u.has_loads none) h sent
 
--- Of the maps that it speaks of lists that are admitted tell the same: without loads, what the first map tells.
-pub same-under : (u : Under) (ms : Maps) (h : List Event) → AreUnder u ms → Admits u h
+-- Of the maps that it speaks of these lists tell the same: without loads, what the first map tells.
+pub same-under : (u : Under) (ms : Maps) (h : List Event) → AreUnder u ms → LoadsWhereAny u h
     → (resolved ms h ≡ resolved u.maps h) × (in_force ms h ≡ in_force u.maps h)
 same-under u ms h (first, loads) admits = elim (cases_Bool u.has_loads) [
   | inl e ↦ (ap (λ n. resolved n h) (loads e), ap (λ n. in_force n h) (loads e))
@@ -42,18 +43,18 @@ same-under u ms h (first, loads) admits = elim (cases_Bool u.has_loads) [
       )
 ]
 
-pub on-under : (u : Under) (ms : Maps) (h : List Event) → AreUnder u ms → Admits u h → (i : Modifier)
+pub on-under : (u : Under) (ms : Maps) (h : List Event) → AreUnder u ms → LoadsWhereAny u h → (i : Modifier)
     → is_on_after ms i h ≡ is_on_after u.maps i h
 on-under u ms h under admits i = ap (λ r. on i r) (same-under u ms h under admits).0
 
 -- the modifiers that are on are the same under all maps that a search speaks of
-pub are-on-under : (u : Under) (h : List Event) (left : List Modifier) → Admits u h → AreOnAfter u.maps h left
+pub are-on-under : (u : Under) (h : List Event) (left : List Modifier) → LoadsWhereAny u h → AreOnAfter u.maps h left
     → (ms : Maps) → AreUnder u ms → AreOnAfter ms h left
 are-on-under u h left admits are_on ms under = cc (are_on, (same-under u ms h under admits).0)
 
 pub never-under : (u : Under) → NeverIn u → NeverSticksUnder u
 never-under u never ms h under keys admits =
-    let (same, in_same) = same-under u ms h under admits in
+    let (same, in_same) = same-under u ms h under admits.0 in
     let (only, off) = never h keys admits in (
       rw (in_same, same) only,
       subst (λ r. IsOffOnceQuiet h (λ i. on i r)) (sym same) off,
@@ -68,7 +69,7 @@ pub sticks_if_reached : SticksIfReached
 sticks_if_reached u path is i k forgets =
     let h : List Event = script_of_path u path k in
     let (keys, sent, (quiet, on)) = script-sticks u path is i k forgets in
-    (keys, sent, (quiet, (λ ms under. on-under u ms h under (sent-admitted u h sent) i ∙ on)))
+    (keys, sent, (quiet, (λ ms under. on-under u ms h under (sent-loads u h sent) i ∙ on)))
 
 -- of two safe maps the one in force is safe
 safe_in_force : (ms : Maps) (b : Bool) → IsSafe ms.first → IsSafe ms.second

@@ -2,11 +2,13 @@
 use Rattle.console_states.proofs.Common.{◌≡◌, ℕ, ◌⊎◌, Bool, true, false, ◌&&◌, ◌||◌, not, List, none-some, ◌∷◌, Option}
 use Rattle.console_states.proofs.Common.{Some, None, refl, ap, subst, sym, ◌∙◌, inl, inr, if◌then◌else◌, ◌==◌, eqb-true}
 use Rattle.console_states.proofs.Common.{eq-eqb, cases_Bool, true≢false, same_action, same_modifier, same_lock}
-use Rattle.console_states.proofs.Common.{holding_action, same_action-true, same_action-refl, look_with, ResolvedEvent}
+use Rattle.console_states.proofs.Common.{holding_action, same_action-true, same_action-refl, ResolvedEvent}
 use Rattle.console_states.proofs.Common.{held, locked, on, remembered, taken_over, is_this_action, look}
 use Rattle.console_states.proofs.Common.{PressedCharacter, PressedAction, ReleasedKey, Under, State, is_held, map_in}
 use Rattle.console_states.proofs.Common.{look_in, Holds, IsIdle, with_holder, with_lock_turned, Follows, fun_ext}
 use Rattle.console_states.proofs.Common.{is_some, same_Some, Action, Lock, Modifier, Holding, unless_nop, held-action}
+use Rattle.console_states.proofs.Common.{◌≢◌, Caps, Num, Alt, Scroll, look_selected, selection_of}
+use Rattle.console_states.specs.Sights.{selection_with}
 use Rattle.console_states.proofs.Common.{held-character, held-release, locked-action, locked-character}
 use Rattle.console_states.proofs.Common.{remembered-action, remembered-character}
 use Rattle.std.proofs.Math.Bool.{and-true, and-false}
@@ -16,14 +18,25 @@ use Rattle.console_core.proofs.Shared.{first_kept, locked-release, remembered-re
 use Rattle.keymap_core.specs.declared.action.Action.TheVariants as act
 use Rattle.keymap_core.specs.declared.action.Holding.TheVariants as holding
 
+-- no selection depends on the scroll lock
+selected-alike : (is_on : Modifier → Bool) (a b : Lock → Bool) → ((l : Lock) → l ≢ Scroll → a l ≡ b l)
+    → selection_with is_on a ≡ selection_with is_on b
+selected-alike is_on a b same = cc (same Caps (λ e. cc), same Num (λ e. cc), same Alt (λ e. cc))
+
+-- the selection after events is that of the state that they follow
+pub follows-selection : (r : List ResolvedEvent) (s : State) → Follows r s
+    → selection_with (λ i. on i r) (λ l. locked l r) ≡ selection_of s
+follows-selection r s f =
+    let e : (λ (i : Modifier). on i r) ≡ (λ i. is_held s i) = fun_ext (λ i. f.on i) in
+    ap (λ x. selection_with x (λ l. locked l r)) e
+    ∙ selected-alike (λ i. is_held s i) (λ l. locked l r) s.is_locked f.locked
+
 -- a look of the events is one in the state that they follow
 pub follows-look : (u : Under) (r : List ResolvedEvent) (s : State) (k : ℕ) → Follows r s
     → look (map_in u s) r k ≡ look_in u s k
 unfolding look
 follows-look u r s k f =
-    let e : (λ (i : Modifier). on i r) ≡ (λ i. is_held s i) = fun_ext (λ i. f.on i) in
-    let g : (λ (l : Lock). locked l r) ≡ (λ l. s.is_locked l) = fun_ext (λ l. f.locked l) in
-    ap (λ x. look_with (map_in u s) x (λ l. locked l r) k) e ∙ ap (λ y. look_with (map_in u s) (λ i. is_held s i) y k) g
+    ap (λ y. look_selected (map_in u s) y k) (follows-selection r s f)
 
 -- equal actions
 pub same_mods : (i j : Modifier) → same_modifier i j ≡ true → i ≡ j
@@ -62,7 +75,7 @@ pub follows-character : (r : List ResolvedEvent) (s : State) (k c : ℕ) → Fol
     → Follows (PressedCharacter k c ∷ r) s
 follows-character r s k c f idle = record {
   on = λ i. held-character (holding.Mod i) k c r ∙ f.on i;
-  locked = λ l. locked-character l k c r ∙ f.locked l;
+  locked = λ l other. locked-character l k c r ∙ f.locked l other;
   holds = λ i j h. elim (cases_Bool (k == j)) [
     | inl e ↦ absurd (idle i (subst (λ x. Holds s x i) (sym (eqb-true k j e)) h))
     | inr e ↦ rw (remembered-character j k c r, e) (f.holds i j h)
@@ -75,7 +88,7 @@ pub follows-nothing : (r : List ResolvedEvent) (s : State) (k : ℕ) (b : Action
     → Follows (PressedAction k b ∷ r) s
 follows-nothing r s k b f none = record {
   on = λ i. rw (held-action (holding.Mod i) k b r, none (holding.Mod i)) (f.on i);
-  locked = λ l. cc (locked-action l k b r, none (holding.Lock l), f.locked l);
+  locked = λ l other. cc (locked-action l k b r, none (holding.Lock l), f.locked l other);
   holds = λ i j h. remembered-action j k b r ∙ first_kept (remembered j r) _ (act.Mod i) (f.holds i j h);
 }
 
@@ -109,7 +122,7 @@ pub follows-hold : (r : List ResolvedEvent) (s : State) (k : ℕ) (b : Action) (
     → taken_over (remembered k r) b ≡ act.Mod i → Follows (PressedAction k b ∷ r) (with_holder s i (Some k))
 follows-hold r s k b i f e = record {
   on = λ j. rw (held-action (holding.Mod j) k b r, e) (on_held (same_modifier i j) _ k (s.holder j) (f.on j));
-  locked = λ l. rw (locked-action l k b r, e) (f.locked l);
+  locked = λ l other. rw (locked-action l k b r, e) (f.locked l other);
   holds = λ j n h. elim (cases_Bool (same_modifier i j)) [
     | inl t ↦
         let p : k ≡ n = same_Some k n (rw t at h) in
@@ -130,7 +143,7 @@ pub follows-again : (r : List ResolvedEvent) (s : State) (k : ℕ) (b : Action) 
     → taken_over (remembered k r) b ≡ act.Mod i → Holds s n i → Follows (PressedAction k b ∷ r) s
 follows-again r s k b i n f e h = record {
   on = λ j. rw (held-action (holding.Mod j) k b r, e) (still_on i j (same_modifier i j) _ s n refl h (f.on j));
-  locked = λ l. rw (locked-action l k b r, e) (f.locked l);
+  locked = λ l other. rw (locked-action l k b r, e) (f.locked l other);
   holds = λ j p q. remembered-action p k b r ∙ first_kept (remembered p r) _ (act.Mod j) (f.holds j p q);
 }
 
@@ -140,8 +153,8 @@ turned_never true true x y f e = e
 turned_never true false x y f e = absurd (true≢false (sym (f refl)))
 turned_never false d x y f e = e
 
--- a press that takes a lock, which is up
-is_down : (l j : Lock) (r : List ResolvedEvent) (d : Bool) → held (holding.Lock l) r ≡ d → same_lock l j ≡ true
+-- whether a lock is down is so of the same one
+pub is_down : (l j : Lock) (r : List ResolvedEvent) (d : Bool) → held (holding.Lock l) r ≡ d → same_lock l j ≡ true
     → held (holding.Lock j) r ≡ d
 is_down l j r d e t = rw (← same_locks l j t) e
 
@@ -158,17 +171,20 @@ pub follows-turn : (r : List ResolvedEvent) (s : State) (k : ℕ) (b : Action) (
     → Follows (PressedAction k b ∷ r) (with_lock_turned s l)
 follows-turn r s k b l f e d = record {
   on = λ i. rw (held-action (holding.Mod i) k b r, e) (f.on i);
-  locked = λ j. rw (locked-action j k b r, e) (turned_by l j r (s.is_locked j) (same_lock l j) refl d (f.locked j));
+  locked = λ j other. rw (locked-action j k b r, e)
+      (turned_by l j r (s.is_locked j) (same_lock l j) refl d (f.locked j other));
   holds = λ i j h. remembered-action j k b r ∙ first_kept (remembered j r) _ (act.Mod i) (f.holds i j h);
 }
 
--- a press that takes a lock, which is down
+-- a press that takes a lock, which is down, or the scroll lock
 pub follows-down : (r : List ResolvedEvent) (s : State) (k : ℕ) (b : Action) (l : Lock) → Follows r s
-    → taken_over (remembered k r) b ≡ act.Lock l → held (holding.Lock l) r ≡ true → Follows (PressedAction k b ∷ r) s
-follows-down r s k b l f e d = record {
+    → taken_over (remembered k r) b ≡ act.Lock l
+    → ((j : Lock) → j ≢ Scroll → same_lock l j ≡ true → held (holding.Lock j) r ≡ true)
+    → Follows (PressedAction k b ∷ r) s
+follows-down r s k b l f e down = record {
   on = λ i. rw (held-action (holding.Mod i) k b r, e) (f.on i);
-  locked = λ j. rw (locked-action j k b r, e)
-      (turned_never (same_lock l j) _ (locked j r) _ (λ t. is_down l j r true d t) (f.locked j));
+  locked = λ j other. rw (locked-action j k b r, e)
+      (turned_never (same_lock l j) _ (locked j r) _ (down j other) (f.locked j other));
   holds = λ i j h. remembered-action j k b r ∙ first_kept (remembered j r) _ (act.Mod i) (f.holds i j h);
 }
 
@@ -182,7 +198,7 @@ pub follows-let_go : (r : List ResolvedEvent) (s : State) (k : ℕ) (i : Modifie
     → remembered k r ≡ Some (act.Mod i) → Follows (ReleasedKey k ∷ r) (with_holder s i None)
 follows-let_go r s k i f e = record {
   on = λ j. rw (held-release (holding.Mod j) k r, e) (off_held (same_modifier i j) _ (s.holder j) (f.on j));
-  locked = λ l. locked-release l k r ∙ f.locked l;
+  locked = λ l other. locked-release l k r ∙ f.locked l other;
   holds = λ j n h. elim (cases_Bool (same_modifier i j)) [
     | inl t ↦ absurd (none-some n (rw t at h))
     | inr t ↦
@@ -201,7 +217,7 @@ pub follows-release : (r : List ResolvedEvent) (s : State) (k : ℕ) → Follows
     → ((i : Modifier) → is_this_action (remembered k r) (act.Mod i) ≡ false) → Follows (ReleasedKey k ∷ r) s
 follows-release r s k f none = record {
   on = λ j. cc (held-release (holding.Mod j) k r, none j, and-true (held (holding.Mod j) r), f.on j);
-  locked = λ l. locked-release l k r ∙ f.locked l;
+  locked = λ l other. locked-release l k r ∙ f.locked l other;
   holds = λ j n h. elim (cases_Bool (k == n)) [
     | inl u ↦
         let q : remembered k r ≡ Some (act.Mod j) = ap (λ x. remembered x r) (eqb-true k n u) ∙ f.holds j n h in

@@ -7,7 +7,7 @@ use Rattle.console_states.proofs.Common.{SeesNext, IsPendingFor, selection_of, S
 use Rattle.console_states.proofs.Common.{Hold, Turn, LetGo, Exchange, Sight, rules, one_map, pending-action}
 use Rattle.console_states.proofs.Common.{pending-release, resolved-more}
 use Rattle.console_states.proofs.Standing.{stands-from, idle-none, pressed-look}
-use Rattle.console_states.proofs.Seeing.{follows-selection}
+use Rattle.console_states.proofs.Following.{follows-selection}
 use Rattle.keymap_core.specs.declared.action.Action.TheVariants as act
 use Rattle.console_states.specs.declared.selection.Sight.TheVariants as sight
 
@@ -15,11 +15,11 @@ use Rattle.console_states.specs.declared.selection.Sight.TheVariants as sight
 pub pending-move : (m : MapValue) (h : List Event) (s : State) (move : Move) → IsMove (alone m) s move
     → Stands (alone m) h s
     → pending m (resolved (between m m) (events_of_move move ++ h)) ≡ pending m (resolved (between m m) h)
-pending-move m h s (Hold k i) (lt, idle, seen, free) x =
+pending-move m h s (Hold k i) ((lt, idle, (seen, may)), free) x =
     let r : List ResolvedEvent = resolved (between m m) h in
     rw (pressed-look (alone m) h s k (Act (act.Mod i)) x.exact.follows x.second seen)
     (rw (pending-action m k (act.Mod i) r, idle-none r s k x.exact idle) refl)
-pending-move m h s (Turn k l) (lt, idle, seen) x =
+pending-move m h s (Turn k l) ((lt, idle, (seen, may)), other) x =
     let r : List ResolvedEvent = resolved (between m m) h in
     rw (resolved-more (between m m) (Press k ∷ h) (Release k))
     (pending-release m k (resolved (between m m) (Press k ∷ h))

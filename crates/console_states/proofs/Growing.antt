@@ -1,14 +1,12 @@
 -- What was met stays met when the entries grow.
-use Rattle.console_states.proofs.Common.{zero, suc, ◌≡◌, ℕ, ◌+◌, ◌<◌, ◌≤◌, false, ◌⊎◌, inl, inr, All, List, [], ◌∷◌}
+use Rattle.console_states.proofs.Common.{zero, suc, ◌≡◌, ℕ, ◌+◌, ◌<◌, ◌≤◌, ◌⊎◌, inl, inr, All, List, [], ◌∷◌}
 use Rattle.console_states.proofs.Common.{◌++◌, length, slice_get, Some, refl, ap, subst, sym, ◌∙◌, arith, append_assoc}
-use Rattle.console_states.proofs.Common.{cases_lt, slice_get_within, none-some, same_Some, Scroll, Move, Turn, Exchange}
-use Rattle.console_states.proofs.Common.{is_borne, Under, State, next_map, IsMove, moved, presses_of, state_of, Entry}
+use Rattle.console_states.proofs.Common.{cases_lt, slice_get_within, none-some, same_Some, Move}
+use Rattle.console_states.proofs.Common.{Under, State, IsMove, moved, presses_of, state_of, Entry}
 use Rattle.console_states.proofs.Common.{Entries, Grows, IsMetBy, AreMet, IsFrom, AreAdded, IsTrail, IsReached}
-use Rattle.console_states.proofs.Common.{LeavesScroll, rules}
-use Rattle.std.proofs.lemmas.Bool.{and_right}
+use Rattle.console_states.proofs.Common.{rules}
 use Rattle.std.proofs.lemmas.Option.{get_or_from_slice_get}
 use Rattle.std.proofs.lemmas.List.Elements.{All-append}
-use Rattle.keymap_core.specs.declared.action.Holding.TheVariants as holding
 
 -- entries by their places
 -- an entry stays at its place when more are added
@@ -94,7 +92,7 @@ met-last es p x le = (length es, x, at_last es x, refl, le)
 -- where moves lead stays met when the entries grow
 pub moves-grow : (u : Under) (es now : Entries) (n p : ℕ) (s : State) → Grows es now → AreMet u es n p s
     → AreMet u now n p s
-moves-grow u es now n p s g met move is leaves takes = search (rules, met-grows, takes)
+moves-grow u es now n p s g met move is takes = search (rules, met-grows, takes)
 
 -- a trail stays one when the entries grow
 trail-grows : (es now : Entries) (j : ℕ) (path : List Move) → Grows es now → IsTrail es j path → IsTrail now j path
@@ -105,15 +103,7 @@ trail-grows es now j (move ∷ path) g (x, parent, at, last, lt, rest) =
 -- a trail still leads to an entry when the entries grow
 pub reached-grows : {o : State} (u : Under) (es now : Entries) (j : ℕ) (x : Entry) → Grows es now → IsReached u o es j x
     → IsReached u o now j x
-reached-grows u es now j x g (path, trail, is, leads, count, off) = search (rules, trail-grows)
-
--- a move that leaves the scroll lock as it is keeps it off
-pub scroll-left : (u : Under) (s : State) (move : Move) → LeavesScroll move → s.is_locked Scroll ≡ false
-    → (moved u s move).is_locked Scroll ≡ false
-scroll-left u s (Turn k Scroll) leaves off = absurd (leaves refl)
-scroll-left u s Exchange leaves off =
-    and_right (is_borne (next_map u s) (holding.Lock Scroll)) (s.is_locked Scroll) off
-scroll-left u s _ leaves off = off
+reached-grows u es now j x g (path, trail, is, leads, count) = search (rules, trail-grows)
 
 -- a move from where a path leads goes on with the path
 pub reached-next : {o : State} (u : Under) (es now : Entries) (place n p : ℕ) (y : Entry) → Grows es now
@@ -121,12 +111,11 @@ pub reached-next : {o : State} (u : Under) (es now : Entries) (place n p : ℕ) 
     → p ≡ y.1.presses + n
     → (j : ℕ) (x : Entry) → slice_get now j ≡ Some x → place < j → IsFrom u (state_of y.0) place n p x
     → IsReached u o now j x
-reached-next u es now place n p y g (path, trail, is, leads, count, off) e j x at lt
-    (by, by_p, last, move, next, by_n, leaves) = (
+reached-next u es now place n p y g (path, trail, is, leads, count) e j x at lt
+    (by, by_p, last, move, next, by_n) = (
       by ∷ path,
       (x, place, at, last, lt, trail-grows es now place path g trail),
       (subst (λ s. IsMove u s by) (sym leads) move, is),
       ap (λ s. moved u s by) leads ∙ sym next,
       ap (λ q. q + presses_of by) count ∙ ap (λ q. y.1.presses + q) by_n ∙ sym e ∙ sym by_p,
-      subst (λ s. s.is_locked Scroll ≡ false) (sym next) (scroll-left u (state_of y.0) by leaves off),
     )

@@ -69,7 +69,7 @@ read-below P keys n j (has, below) lt =
 pressed-unmoving : (P : State → Type 0) (u : Under) (s : State) (k : ℕ) → IsUnmoving (look_in u s k)
     → PressesLead u s k P
 pressed-unmoving P u s k (no_mod, no_lock) idle =
-    ((λ i seen free. absurd (no_mod i seen)), (λ l other seen. absurd (no_lock l other seen)))
+    ((λ i made free. absurd (no_mod i made.0)), (λ l other made. absurd (no_lock l other made.0)))
 
 -- where the presses of these keys lead it is so, so where those of all keys lead it is
 pub all-pressed : (P : State → Type 0) (u : Under) (s : State) (keys : List ℕ) (n : ℕ) → HasMovingKeys u keys n

@@ -14,7 +14,6 @@ pub mod Nearest
 pub mod Offering
 pub mod Reaching
 pub mod Results
-pub mod Returning
 pub mod SameStates
 pub mod Scripts
 pub mod Searching
@@ -25,6 +24,5 @@ pub mod Sparing
 pub mod Standing
 pub mod Staying
 pub mod Tapping
-pub mod Unscrolled
 pub mod Visible
 pub mod Visits

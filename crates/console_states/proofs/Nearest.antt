@@ -1,64 +1,49 @@
--- What a search tells of all that moves lead to: by as few presses it met each state, but for the scroll lock. So what
--- holds below a place, and says nothing of that lock, holds wherever fewer presses lead.
-use Rattle.console_states.proofs.Common.{suc, ◌≡◌, ℕ, ◌+◌, ◌<◌, inl, inr, List, [], ◌∷◌, length, slice_get, Some, refl}
-use Rattle.console_states.proofs.Common.{ap, rules, subst, sym, ◌∙◌, arith, cases_lt, slice_get_within, Move, End}
+-- What a search tells of all that moves lead to: by as few presses it met each state. So what holds below a place holds
+-- wherever fewer presses lead.
+use Rattle.console_states.proofs.Common.{suc, ◌≡◌, ℕ, ◌+◌, ◌<◌, List, [], ◌∷◌, length, slice_get, Some, refl}
+use Rattle.console_states.proofs.Common.{rules, subst, sym, arith, cases_lt, slice_get_within, Move, End}
 use Rattle.console_states.proofs.Common.{TooMany, Complete, Under, State, IsMove, moved, presses_of, presses_along}
 use Rattle.console_states.proofs.Common.{IsPathFrom, state_from, state_of, Held, Entry, Entries, IsMetBy, AreDone}
 use Rattle.console_states.proofs.Common.{Searched}
-use Rattle.console_states.proofs.Common.{HasEnded, unscrolled, Contains}
+use Rattle.console_states.proofs.Common.{HasEnded, Contains}
 use Rattle.console_states.specs.Looks.{HoldsBelow, HoldsNearer}
 use Rattle.console_states.specs.Searching.{AreOrdered}
 use Rattle.console_states.proofs.Beginning.{start-one}
 use Rattle.console_states.proofs.Searching.{met-up, all-done}
-use Rattle.console_states.proofs.Unscrolled.{leaves-scroll_or_turns, moves-unscrolled, same_moved, scroll-moved}
 
--- The states met by at most p presses, but for the scroll lock.
-abbrev pub IsAmong : Entries → ℕ → State → Type 0
-IsAmong es p s = (t : State) × IsMetBy es p t × (unscrolled t ≡ unscrolled s)
+-- where a move leads from a state that was met, by fewer than n presses
+pub met-moved : (u : Under) (es : Entries) (n : ℕ) → AreDone u es n → (p q : ℕ) (s : State) (move : Move)
+    → p + presses_of move ≡ q → q < n → IsMetBy es p s → IsMove u s move → IsMetBy es q (moved u s move)
+met-moved u es n done p q s move e lt (j, x, at, is, le) can =
+    met-up es (x.1.presses + presses_of move) q (moved u s move) (omega (arith, le, e))
+    (rw (← is) (done j x at move (subst (λ z. IsMove u z move) (sym is) can) (omega (arith, le, e, lt))))
 
--- where a move leads from one of them, by fewer than n presses
-pub among-moved : (u : Under) (es : Entries) (n : ℕ) → AreDone u es n → (p q : ℕ) (s : State) (move : Move)
-    → p + presses_of move ≡ q → q < n → IsAmong es p s → IsMove u s move → IsAmong es q (moved u s move)
-among-moved u es n done p q s move e lt (t, (j, x, at, is, le), near) can =
-    elim (leaves-scroll_or_turns move) [
-      | inl leaves ↦
-          let here : IsMove u (state_of x.0) move =
-          subst (λ z. IsMove u z move) (sym is) (moves-unscrolled u s t move near can) in (
-            moved u t move,
-            met-up es (x.1.presses + presses_of move) q (moved u t move) (omega (arith, le, e))
-                (rw (← is) (done j x at move here leaves (omega (arith, le, e, lt)))),
-            same_moved u s t move near,
-          )
-      | inr (k, turns) ↦ rw turns (t, (j, x, at, is, omega (arith, le, e)), near ∙ scroll-moved s)
-    ]
-
--- where a path leads from one of them
-pub among-along : (u : Under) (es : Entries) (n : ℕ) → AreDone u es n → (p q : ℕ) (s : State) → IsAmong es p s
+-- where a path leads from it
+pub met-along : (u : Under) (es : Entries) (n : ℕ) → AreDone u es n → (p q : ℕ) (s : State) → IsMetBy es p s
     → (path : List Move) → IsPathFrom u s path → p + presses_along path ≡ q → q < n
-    → IsAmong es q (state_from u s path)
-among-along u es n done p q s (t, there, near) [] is e lt = (t, met-up es p q t (omega (arith, e)) there, near)
-among-along u es n done p q s among (move ∷ path) is e lt =
-    among-moved u es n done (p + presses_along path) q (state_from u s path) move (omega (arith, e)) lt
-    (among-along u es n done p (p + presses_along path) s among path is.1 refl (omega (arith, e, lt))) is.0
+    → IsMetBy es q (state_from u s path)
+met-along u es n done p q s met [] is e lt = met-up es p q s (omega (arith, e)) met
+met-along u es n done p q s met (move ∷ path) is e lt =
+    met-moved u es n done (p + presses_along path) q (state_from u s path) move (omega (arith, e)) lt
+    (met-along u es n done p (p + presses_along path) s met path is.1 refl (omega (arith, e, lt))) is.0
 
--- a state near this one was met
-abbrev pub IsNear : Entries → State → Type 0
-IsNear es s = (j : ℕ) × (x : Entry) × (slice_get es j ≡ Some x) × (unscrolled (state_of x.0) ≡ unscrolled s)
+-- the state was met
+abbrev pub IsMet : Entries → State → Type 0
+IsMet es s = (j : ℕ) × (x : Entry) × (slice_get es j ≡ Some x) × (state_of x.0 ≡ s)
 
--- where all states were met, a path from a state near one leads near one
-pub near-along : {os : List State} (u : Under) (es : Entries) → Searched u os es (length es) (length es) → (s : State)
-    (path : List Move) → IsNear es s → IsPathFrom u s path → IsNear es (state_from u s path)
-near-along u es searched s path (j, x, at, near) is =
+-- where all states were met, a path from one leads to one
+pub all-along : {os : List State} (u : Under) (es : Entries) → Searched u os es (length es) (length es) → (s : State)
+    (path : List Move) → IsMet es s → IsPathFrom u s path → IsMet es (state_from u s path)
+all-along u es searched s path (j, x, at, same) is =
     let q : ℕ = x.1.presses + presses_along path in
-    let (t, (i, y, there, same, few), close) =
-    among-along u es (suc q) (all-done u es searched (suc q)) x.1.presses q s
-    (state_of x.0, (j, x, at, refl, omega arith), near) path is refl (omega arith) in
-    (i, y, there, ap (λ z. unscrolled z) same ∙ close)
+    let (i, y, there, leads, few) =
+    met-along u es (suc q) (all-done u es searched (suc q)) x.1.presses q s (j, x, at, same, omega arith) path is refl
+    (omega arith) in
+    (i, y, there, leads)
 
-pub near-met : {o : State} (u : Under) (es : Entries) → Searched u (o ∷ []) es (length es) (length es)
-    → (path : List Move) → IsPathFrom u o path → IsNear es (state_from u o path)
-near-met {o} u es s path is =
-    let (j, x, at, e, le) = start-one s in near-along u es s o path (j, x, at, ap (λ z. unscrolled z) e) is
+pub all-met : {o : State} (u : Under) (es : Entries) → Searched u (o ∷ []) es (length es) (length es)
+    → (path : List Move) → IsPathFrom u o path → IsMet es (state_from u o path)
+all-met {o} u es s path is = let (j, x, at, e, le) = start-one s in all-along u es s o path (j, x, at, e) is
 
 -- what holds below a place holds of what was met by fewer presses
 pub below-fewer : (es : Entries) (P : Held → Type 0) → AreOrdered es → (j : ℕ) (x : Entry) → slice_get es j ≡ Some x
@@ -71,29 +56,28 @@ pub done-before : {os : List State} (u : Under) (es : Entries) (end : End) → H
 done-before u es Complete ended j x at = all-done u es ended.is.0 x.1.presses
 done-before u es (TooMany p) ended j x at =
     let (more, within, done) = ended.is in
-    λ i y there move is leaves lt. done i y there move is leaves (omega (arith, lt, within j x at))
+    λ i y there move is lt. done i y there move is (omega (arith, lt, within j x at))
 
 -- what holds of what was met by fewer than n presses holds wherever fewer lead, where that is done
 pub holds-nearer : (u : Under) (es : Entries) (n : ℕ) → AreDone u es n → (P : State → Type 0)
-    → ((j : ℕ) (x : Entry) → slice_get es j ≡ Some x → x.1.presses < n → P (unscrolled (state_of x.0)))
-    → (o : State) → IsMetBy es 0 o → HoldsNearer u o (λ s. P (unscrolled s)) n
+    → ((j : ℕ) (x : Entry) → slice_get es j ≡ Some x → x.1.presses < n → P (state_of x.0))
+    → (o : State) → IsMetBy es 0 o → HoldsNearer u o P n
 holds-nearer u es n done P holds o met path is lt =
-    let (t, (j, x, at, same, few), near) =
-    among-along u es n done 0 (presses_along path) o (o, met, refl) path is (omega arith) lt in
-    subst P near (subst (λ s. P (unscrolled s)) same (holds j x at (omega (arith, few, lt))))
+    let (j, x, at, same, few) = met-along u es n done 0 (presses_along path) o met path is (omega arith) lt in
+    subst P same (holds j x at (omega (arith, few, lt)))
 
 -- so the place where something first shows is the nearest
 pub is-nearest : {os : List State} (u : Under) (es : Entries) (end : End) → HasEnded u os es end → (P : State → Type 0)
-    → (j : ℕ) (x : Entry) → slice_get es j ≡ Some x → HoldsBelow (λ h. P (unscrolled (state_of h))) es j → (o : State)
-    → Contains os o → HoldsNearer u o (λ s. P (unscrolled s)) x.1.presses
+    → (j : ℕ) (x : Entry) → slice_get es j ≡ Some x → HoldsBelow (λ h. P (state_of h)) es j → (o : State)
+    → Contains os o → HoldsNearer u o P x.1.presses
 is-nearest u es end ended P j x at below o has =
     holds-nearer u es x.1.presses (done-before u es end ended j x at) P
-    (below-fewer es (λ h. P (unscrolled (state_of h))) ended.ordered j x at below) o (ended.searched.start o has)
+    (below-fewer es (λ h. P (state_of h)) ended.ordered j x at below) o (ended.searched.start o has)
 
 -- and what shows nowhere among all states is where no path leads
 pub is-nowhere : {os : List State} (u : Under) (es : Entries) → Searched u os es (length es) (length es)
-    → (P : State → Type 0) → HoldsBelow (λ h. P (unscrolled (state_of h))) es (length es) → (o : State) → Contains os o
-    → (path : List Move) → IsPathFrom u o path → P (unscrolled (state_from u o path))
+    → (P : State → Type 0) → HoldsBelow (λ h. P (state_of h)) es (length es) → (o : State) → Contains os o
+    → (path : List Move) → IsPathFrom u o path → P (state_from u o path)
 is-nowhere u es searched P all o has path is =
     let n : ℕ = suc (presses_along path) in
     holds-nearer u es n (all-done u es searched n) P (λ j x at lt. all j x at (slice_get_within es j x at)) o

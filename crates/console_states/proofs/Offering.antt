@@ -1,11 +1,11 @@
 -- The states behind where an accent is offered, as a search collects them, and the selections there.
 use Rattle.console_states.proofs.Common.{zero, suc, ◌≡◌, ℕ, ◌+◌, ◌<◌, ◌≤◌, true, false, inl, inr, List, [], ◌∷◌, ◌++◌}
 use Rattle.console_states.proofs.Common.{length, refl, slice_get, Option, Some, None, ap, subst, sym, ◌∙◌, arith}
-use Rattle.console_states.proofs.Common.{Contains, Contains-append_left, Contains-push, cases_lt, Scroll}
+use Rattle.console_states.proofs.Common.{Contains, Contains-append_left, Contains-push, cases_lt}
 use Rattle.console_states.proofs.Common.{Contains-push_cases, slice_get_within, MapValue, Move, LetGo, Selection, Offer}
 use Rattle.console_states.proofs.Common.{Sights, usable, Under, alone, State, start, IsMove, IsPath, IsStep, Step}
 use Rattle.console_states.proofs.Common.{moved, state_after, IsForgetful, IsOfferedIn, AreSightsOf, selection_of}
-use Rattle.console_states.proofs.Common.{state_of, Entry, Entries, Searched, AreSafe, IsStuck, unscrolled, IsBehind}
+use Rattle.console_states.proofs.Common.{state_of, Entry, Entries, Searched, AreSafe, IsStuck, IsBehind}
 use Rattle.console_states.proofs.Common.{AreBehind, AreOffering, IsOfferedUnlocked, AreSelectionsOf, AreOffersOf}
 use Rattle.console_states.proofs.Common.{IsInSome, rules, AreComposed, Lists, IsLedTo, OffersUnlocked, AreMetOnce}
 use Rattle.indexmap.proofs.IndexTableLemmas.Probe.{pigeonhole}
@@ -13,12 +13,10 @@ use Rattle.std.proofs.lemmas.Bool.{true_from_ne_false}
 use Rattle.console_states.specs.Sights.{CanCompose, CanOffer, CanSelect, accents_in, IsOfferedAlong}
 use Rattle.console_states.specs.Inner.Adding.{AreAccentsOf}
 use Rattle.console_states.proofs.Adding.{empty-none}
-use Rattle.console_states.proofs.Unscrolled.{same-scrolled}
 use Rattle.console_states.proofs.Behind.{behind-offered, behind-more, behind-path, path-split}
-use Rattle.console_states.proofs.Nearest.{IsNear, is-nowhere, near-along, near-met}
-use Rattle.console_states.proofs.Returning.{home-start}
+use Rattle.console_states.proofs.Nearest.{IsMet, is-nowhere, all-along, all-met}
+use Rattle.console_states.proofs.SameStates.{home-start}
 use Rattle.console_states.proofs.Beginning.{reached-one}
-use Rattle.console_states.proofs.Growing.{scroll-left}
 use Rattle.console_states.proofs.Searching.{place_last, same_entry}
 use Rattle.console_states.proofs.Staying.{emptied, emptied-kept, emptied-none}
 use Rattle.console_states.proofs.Visits.{path-first}
@@ -62,14 +60,6 @@ offering-skip u accent met states n x before at none = record {
   only = λ s has. let (j, y, there, lt, is) = before.only s has in (j, y, there, omega (arith, lt), is);
 }
 
--- the scroll lock is off there
-pub offering-off : (u : Under) (accent : ℕ) (met : Entries) (states : List State) {a b : ℕ}
-    → Searched u (start ∷ []) met a b → AreOffering u accent met (length met) states → (o : State) → Contains states o
-    → o.is_locked Scroll ≡ false
-offering-off u accent met states searched offering o has =
-    let (n, x, at, lt, (same, offered)) = offering.only o has in
-    subst (λ s. s.is_locked Scroll ≡ false) same (reached-one searched n x at).5
-
 -- ---- there are no more than were met
 
 -- the place where a state behind was met
@@ -78,16 +68,10 @@ met-place : (u : Under) (accent : ℕ) (met es : Entries) (os : List State)
     → Searched u os es 0 0 → (j : ℕ) (x : Entry) → slice_get es j ≡ Some x
     → (i : ℕ) × (z : Entry) × (slice_get met i ≡ Some z) × (state_of z.0 ≡ state_of x.0)
 met-place u accent met es os searched offering found j x at =
-    let (o, has, (path, trail, is, leads, count, off)) = found.reached j x at in
+    let (o, has, (path, trail, is, leads, count)) = found.reached j x at in
     let (n, y, here, lt, (same, offered)) = offering.only o has in
-    let (i, z, there, near) =
-    near-along u met searched o path (n, y, here, ap (λ s. unscrolled s) same) is in (
-      i,
-      z,
-      there,
-      same-scrolled (state_of z.0) (state_of x.0) (near ∙ ap (λ s. unscrolled s) leads)
-          ((reached-one searched i z there).5 ∙ sym off),
-    )
+    let (i, z, there, met_there) = all-along u met searched o path (n, y, here, same) is in
+    (i, z, there, met_there ∙ leads)
 
 -- an entry stands at each place
 entry-below : (es : Entries) (j : ℕ) → j < length es → (x : Entry) × (slice_get es j ≡ Some x)
@@ -140,33 +124,26 @@ behind-few u accent met es os searched offering found once = pigeonhole (length 
 
 -- ---- the selections there
 
--- offers don't depend on the scroll lock
-offered-near : (u : Under) (s t : State) (accent : ℕ) → unscrolled t ≡ unscrolled s → IsOfferedIn u s accent
-    → IsOfferedIn u t accent
-offered-near u s t accent e is = subst (λ x. IsOfferedIn u x accent) (sym e) is
-
--- some state is near each state behind an offer
-near-behind : (u : Under) (accent : ℕ) (met es : Entries) → Searched u (start ∷ []) met (length met) (length met)
+-- each state behind an offer was met
+behind-met : (u : Under) (accent : ℕ) (met es : Entries) → Searched u (start ∷ []) met (length met) (length met)
     → AreBehind u accent met es → (path : List Move) → IsPath u path → IsOfferedAlong u path accent
-    → IsNear es (state_after u path)
-near-behind u accent met es searched (os, offering, found) path is (later, before, at, offered) =
+    → IsMet es (state_after u path)
+behind-met u accent met es searched (os, offering, found) path is (later, before, at, offered) =
     let (first, goes, leads) = path-split u start later before (subst (λ p. IsPath u p) at is) in
-    let (j, z, there, near) = near-met u met searched before first in
+    let (j, z, there, same) = all-met u met searched before first in
     let has =
     offering.all j z there (slice_get_within met j z there)
-    (offered-near u (state_after u before) (state_of z.0) accent near offered) in
-    let (i, w, seed, same, le) = found.start (state_of z.0) has in
-    rw (at, leads)
-    (near-along u es found (state_after u before) later
-    (i, w, seed, ap (λ q. unscrolled q) same ∙ near) goes)
+    (subst (λ s. IsOfferedIn u s accent) (sym same) offered) in
+    let (i, w, seed, is_seed, le) = found.start (state_of z.0) has in
+    rw (at, leads) (all-along u es found (state_after u before) later (i, w, seed, is_seed ∙ same) goes)
 
 -- what was met is behind
 met-behind : (u : Under) (accent : ℕ) (met es : Entries) → Searched u (start ∷ []) met (length met) (length met)
     → AreBehind u accent met es → (j : ℕ) (x : Entry) → slice_get es j ≡ Some x → IsBehind u accent (state_of x.0)
 met-behind u accent met es searched (os, offering, found) j x at =
-    let (o, has, (path, trail, is, leads, count, off)) = found.reached j x at in
+    let (o, has, (path, trail, is, leads, count)) = found.reached j x at in
     let (n, y, here, lt, (same, offered)) = offering.only o has in
-    let (first, along, from, there, few, off_there) = reached-one searched n y here in
+    let (first, along, from, there, few) = reached-one searched n y here in
     subst (λ s. IsBehind u accent s) leads
     (behind-path u accent o path
     (behind-offered u first accent from (subst (λ s. IsOfferedIn u s accent) (sym there) offered) (there ∙ same)) is)
@@ -182,9 +159,8 @@ pub composing-behind : (m : MapValue) (accent : ℕ) (met es : Entries) (ys : Li
     → AreSelectionsOf es ys → Lists (CanCompose m accent) ys
 composing-behind m accent met es ys searched behind are = record {
   all = λ y (path, is, offered, e).
-      let (j, x, at, near) =
-      near-behind (alone m) accent met es searched behind path is offered in
-      are.all y (j, x, at, slice_get_within es j x at, ap (λ s. selection_of s) near ∙ e);
+      let (j, x, at, same) = behind-met (alone m) accent met es searched behind path is offered in
+      are.all y (j, x, at, slice_get_within es j x at, ap (λ s. selection_of s) same ∙ e);
   only = λ y has.
       let (j, x, at, lt, e) = are.only y has in
       behind-composes m accent (state_of x.0) y (met-behind (alone m) accent met es searched behind j x at) e;
@@ -193,13 +169,13 @@ composing-behind m accent met es ys searched behind are = record {
 -- Where the accent is offered with no lock on, all let go leads to the start, so all states are behind.
 start-behind : (m : MapValue) (accent : ℕ) (s : State) → IsLedTo (alone m) s → usable m accent ≡ true
     → OffersUnlocked (alone m) s accent → IsBehind (alone m) accent start
-start-behind m accent s (path, is, leads, off) can (unlocked, offers) =
+start-behind m accent s (path, is, leads) can (unlocked, offers) =
     let u : Under = alone m in
     let here : IsBehind u accent s =
     behind-offered u path accent is (subst (λ t. IsOfferedIn u t accent) (sym leads) (can, offers)) leads in
     let first : s.is_second ≡ false = ap (λ t. t.is_second) (sym leads) ∙ path-first m start path is in
     subst (λ t. IsBehind u accent t)
-    (home-start (emptied s) ((λ i. emptied-none s i), unlocked) first off)
+    (home-start (emptied s) ((λ i. emptied-none s i), unlocked) first)
     (emptied-kept (λ t. IsBehind u accent t) (λ t k i there holds. behind-more u accent t (LetGo k i) there holds) s
     here)
 
@@ -211,28 +187,27 @@ composing-some m accent s y led can offers (path, is, e) =
 
 -- where a step leads from there
 pub led-on : (u : Under) (s : State) (n : ℕ) (x : Step) → IsLedTo u s → IsStep u s n x → IsLedTo u (state_of x.to)
-led-on u s n x (path, is, leads, off) (move, next, count, leaves) = (
+led-on u s n x (path, is, leads) (move, next, count) = (
   x.by ∷ path,
   (subst (λ t. IsMove u t x.by) (sym leads) move, is),
   ap (λ t. moved u t x.by) leads ∙ sym next,
-  subst (λ t. t.is_locked Scroll ≡ false) (sym next) (scroll-left u s x.by leaves off),
 )
 
 -- what was met
 led-met : (u : Under) (met : Entries) {a b : ℕ} → Searched u (start ∷ []) met a b → (j : ℕ) (x : Entry)
     → slice_get met j ≡ Some x → IsLedTo u (state_of x.0)
-led-met u met searched j x at = let r = reached-one searched j x at in (r.0, r.2, r.3, r.5)
+led-met u met searched j x at = let r = reached-one searched j x at in (r.0, r.2, r.3)
 
 pub composing-all : (m : MapValue) (accent : ℕ) (met : Entries) (ys : List Selection)
     → Searched (alone m) (start ∷ []) met (length met) (length met) → usable m accent ≡ true
     → IsOfferedUnlocked (alone m) met accent → AreSelectionsOf met ys → Lists (CanCompose m accent) ys
 composing-all m accent met ys searched can (i, z, here, offers) are = record {
   all = λ y (path, is, along, e).
-      let (j, x, at, near) = near-met (alone m) met searched path is in
-      are.all y (j, x, at, slice_get_within met j x at, ap (λ s. selection_of s) near ∙ e);
+      let (j, x, at, same) = all-met (alone m) met searched path is in
+      are.all y (j, x, at, slice_get_within met j x at, ap (λ s. selection_of s) same ∙ e);
   only = λ y has.
       let (j, x, at, lt, e) = are.only y has in
-      let (path, is, leads, off) = led-met (alone m) met searched j x at in
+      let (path, is, leads) = led-met (alone m) met searched j x at in
       composing-some m accent (state_of z.0) y (led-met (alone m) met searched i z here) can offers
       (path, is, ap (λ s. selection_of s) leads ∙ e);
 }
@@ -288,10 +263,9 @@ pub sights-are : (m : MapValue) (met : Entries) (x : Sights) (accents : List ℕ
     → (x.forgets ≡ false → AreSafe (alone m) met (length met))
     → AreSightsOf m x
 sights-are m met x accents searched selections offers offered some none = record {
-  selections = enumerates-met (λ y s. selection_of s ≡ y) x.selections.items selections
-      (λ y s t near e. ap (λ z. selection_of z) near ∙ e);
+  selections = enumerates-met (λ y s. selection_of s ≡ y) x.selections.items selections;
   accents = subst (λ z. Lists (CanOffer m) z) (sym offered.all)
-      (enumerates-met (λ a s. IsOfferedIn u s a) accents offers (λ a s t near here. offered-near u s t a near here));
+      (enumerates-met (λ a s. IsOfferedIn u s a) accents offers);
   composing = offered.each;
   forgets = (
     (λ e. let (j, k, (z, at, (i, is))) = some e in reached j z at (λ s. IsForgetful u s) (i, k, is)),
@@ -310,11 +284,10 @@ sights-are m met x accents searched selections offers offered some none = record
     -- what is so in a state that was met is so where moves lead
     enumerates-met : {X : Type 0} (Q : X → State → Type 0) (xs : List X)
         → Lists (λ y. IsInSome met (length met) (Q y)) xs
-        → ((y : X) (s t : State) → unscrolled t ≡ unscrolled s → Q y s → Q y t)
         → Lists (λ y. (path : List Move) × IsPath u path × Q y (state_after u path)) xs
-    enumerates-met Q xs are near_so = record {
+    enumerates-met Q xs are = record {
       all = λ y (path, is, here).
-          let (j, z, at, near) = near-met u met searched path is in
-          are.all y (j, z, at, slice_get_within met j z at, near_so y (state_after u path) (state_of z.0) near here);
+          let (j, z, at, same) = all-met u met searched path is in
+          are.all y (j, z, at, slice_get_within met j z at, subst (Q y) (sym same) here);
       only = λ y has. let (j, z, at, lt, is) = are.only y has in reached j z at (Q y) is;
     }

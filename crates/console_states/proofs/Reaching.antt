@@ -49,7 +49,6 @@ reaches-more {o} u es p ended =
     → ⊥ =
     λ j k le_j le_k lt e. ended.once j k (get_or es j d) (get_or es k d) lt (at j le_j) (at k le_k) e in (
       (λ j. state_of (get_or es j d).0),
-      (λ j le. (reached j le).5),
       (λ j le.
           let r : IsReached u o es j (get_or es j d) = reached j le in
           let few : (get_or es j d).1.presses ≤ p = ended.is.1 j (get_or es j d) (at j le) in

@@ -1,7 +1,9 @@
--- States of a search are the same exactly if their tables test equal.
+-- When states are the same: exactly if their tables test equal.
 use Rattle.console_states.proofs.Common.{suc, zero, ◌≡◌, ℕ, ◌<◌, true, false, List, length, get_or}
 use Rattle.console_states.proofs.Common.{none-some, same_Some, refl, ap, sym, ◌∙◌, arith, rules}
 use Rattle.console_states.proofs.Common.{get_or_default, modifiers, modifier_index, LeftShift, Caps, Held, state_of}
+use Rattle.console_states.proofs.Common.{◌≢◌, ◌⊎◌, inl, inr, Lock, Modifier, Num, Scroll, Alt, State, IsHome, start}
+use Rattle.console_states.proofs.Common.{fun_ext}
 use Rattle.std.specs.Cmp.{booleans_Decides, unsigned_Decides}
 use Rattle.std.specs.Cmp.Derive.{both_true}
 use Rattle.std.specs.Cmp.Lexicographic.{pointwise_decides}
@@ -10,6 +12,27 @@ use Rattle.keymap_core.specs.Actions.{locks, lock_index}
 pub use Rattle.console_states.specs.Inner.HeldBytes.{are_same}
 use Rattle.console_states.specs.Inner.HeldBytes.{AreSame, held-equal}
 use Rattle.console_states.specs.Moves.{key_of}
+
+-- what holds of each lock
+pub each-lock : (P : Lock → Type 0) → P Caps → P Num → P Scroll → P Alt → (l : Lock) → P l
+each-lock P caps num scroll alt Caps = caps
+each-lock P caps num scroll alt Num = num
+each-lock P caps num scroll alt Scroll = scroll
+each-lock P caps num scroll alt Alt = alt
+
+-- a lock is the scroll lock, or another
+pub scroll_or_other : (l : Lock) → (l ≡ Scroll) ⊎ (l ≢ Scroll)
+scroll_or_other =
+    each-lock (λ j. (j ≡ Scroll) ⊎ (j ≢ Scroll)) (inr (λ e. cc)) (inr (λ e. cc)) (inl refl) (inr (λ e. cc))
+
+-- states with the same holders and locks, and the same map in force, are the same
+pub same_states : (s t : State) → ((i : Modifier) → s.holder i ≡ t.holder i)
+    → ((l : Lock) → s.is_locked l ≡ t.is_locked l) → s.is_second ≡ t.is_second → s ≡ t
+same_states s t holders locks second = search (rules, fun_ext)
+
+-- home is the start
+pub home-start : (s : State) → IsHome s → s.is_second ≡ false → s ≡ start
+home-start s (free, off) first = same_states s start free off first
 
 same-state : (x y : Held) → AreSame x y → state_of x ≡ state_of y
 same-state x y e = search rules

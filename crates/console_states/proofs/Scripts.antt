@@ -35,7 +35,7 @@ is_not (Some b) a f = false_from_ne_true (same_action b a) (λ e. f (ap (λ x. S
 -- a holder that looks up a character leaves its modifier on
 left-character : (u : Under) (h : List Event) (s : State) (i : Modifier) (k : ℕ) → Stands u h s
     → HolderForgets u s i k → IsLeft u.maps (Press k ∷ h) i
-left-character u h s i k x (holds, (c, seen)) =
+left-character u h s i k x (holds, (c, (seen, may))) =
     let now : resolved u.maps (Press k ∷ h) ≡ PressedCharacter k c ∷ resolved u.maps h =
     pressed-look u h s k (Char c) x.exact.follows x.second seen in
     record {

@@ -155,15 +155,15 @@ below_level es level p order j x at lt =
 pub pressed-mod : (u : Under) (s : State) (k : ℕ) (i : Modifier) (step : Option Step)
     → look_in u s k ≡ Act (act.Mod i) → StepsTo step (with_holder s i (Some k)) → PressesLead u s k (StepsTo step)
 pressed-mod u s k i step seen to idle = (
-  (λ j f free. let e : i ≡ j = cc in subst (λ n. StepsTo step (with_holder s n (Some k))) e to),
-  (λ l other f. absurd (cc (seen, f))),
+  (λ j (f, may) free. let e : i ≡ j = cc in subst (λ n. StepsTo step (with_holder s n (Some k))) e to),
+  (λ l other (f, may). absurd (cc (seen, f))),
 )
 
 pub pressed-lock : (u : Under) (s : State) (k : ℕ) (l : Lock) (step : Option Step)
     → look_in u s k ≡ Act (act.Lock l) → StepsTo step (with_lock_turned s l) → PressesLead u s k (StepsTo step)
 pressed-lock u s k l step seen to idle = (
-  (λ j f free. absurd (cc (seen, f))),
-  (λ n other f. let e : l ≡ n = cc in subst (λ q. StepsTo step (with_lock_turned s q)) e to),
+  (λ j (f, may) free. absurd (cc (seen, f))),
+  (λ n other (f, may). let e : l ≡ n = cc in subst (λ q. StepsTo step (with_lock_turned s q)) e to),
 )
 
 -- where a step leads is as what it leads to
@@ -180,17 +180,17 @@ presses-map P Q f u s k lead idle = search rules
 pub frees-met : (u : Under) (es : Entries) (p : ℕ) (s : State)
     → ((k : ℕ) (i : Modifier) → Holds s k i → IsMetBy es p (with_holder s i None))
     → (IsMove u s Exchange → IsMetBy es p (moved u s Exchange)) → AreMet u es 0 p s
-frees-met u es p s let_go load (Hold k i) is leaves none = absurd (omega (arith, none))
-frees-met u es p s let_go load (Turn k l) is leaves none = absurd (omega (arith, none))
-frees-met u es p s let_go load (LetGo k i) is leaves none = let_go k i is
-frees-met u es p s let_go load Exchange is leaves none = load is
+frees-met u es p s let_go load (Hold k i) is none = absurd (omega (arith, none))
+frees-met u es p s let_go load (Turn k l) is none = absurd (omega (arith, none))
+frees-met u es p s let_go load (LetGo k i) is none = let_go k i is
+frees-met u es p s let_go load Exchange is none = load is
 
 pub presses-met : (u : Under) (es : Entries) (p : ℕ) (s : State)
     → ((k : ℕ) → k < 128 → PressesLead u s k (IsMetBy es p)) → AreMet u es 1 p s
-presses-met u es p s press (Hold k i) (lt, idle, seen, free) leaves one = (press k lt idle).0 i seen free
-presses-met u es p s press (Turn k l) (lt, idle, seen) leaves one = (press k lt idle).1 l leaves seen
-presses-met u es p s press (LetGo k i) is leaves one = absurd (omega (arith, one))
-presses-met u es p s press Exchange is leaves one = absurd (omega (arith, one))
+presses-met u es p s press (Hold k i) ((lt, idle, made), free) one = (press k lt idle).0 i made free
+presses-met u es p s press (Turn k l) ((lt, idle, made), other) one = (press k lt idle).1 l other made
+presses-met u es p s press (LetGo k i) is one = absurd (omega (arith, one))
+presses-met u es p s press Exchange is one = absurd (omega (arith, one))
 
 -- a move takes no press or one
 pub no-press_or_one : (move : Move) → (presses_of move ≡ 0) ⊎ (presses_of move ≡ 1)
@@ -219,10 +219,10 @@ meet-new es now place p x e within =
             (All-cons (λ z. z.1.presses ≤ p) entry [] (omega arith) (All-nil (λ z. z.1.presses ≤ p))) k.1
       ]),
       (entry ∷ [], e),
-      (λ u h n (is, to, by, leaves). (
+      (λ u h n (is, to, by). (
         entry ∷ [],
         e,
-        All-cons (IsFrom u (state_of h) place n p) entry [] (x.by, refl, refl, is, to, by, leaves)
+        All-cons (IsFrom u (state_of h) place n p) entry [] (x.by, refl, refl, is, to, by)
             (All-nil (IsFrom u (state_of h) place n p)),
       )),
     )
@@ -275,13 +275,13 @@ press-step u old es now level p n y before g le lt here added met s =
 done-by : (u : Under) (es : Entries) (n : ℕ)
     → ((j : ℕ) (x : Entry) → slice_get es j ≡ Some x → x.1.presses < n → IsClosed u es x)
     → ((j : ℕ) (x : Entry) → slice_get es j ≡ Some x → x.1.presses + 1 < n → IsPressed u es x) → AreDone u es n
-done-by u es n closed pressed j x at move is leaves lt = elim (no-press_or_one move) [
+done-by u es n closed pressed j x at move is lt = elim (no-press_or_one move) [
   | inl none ↦
       met-up es x.1.presses (x.1.presses + presses_of move) (moved u (state_of x.0) move) (omega (arith, none))
-      (closed j x at (omega (arith, lt, none)) move is leaves none)
+      (closed j x at (omega (arith, lt, none)) move is none)
   | inr one ↦
       met-up es (x.1.presses + 1) (x.1.presses + presses_of move) (moved u (state_of x.0) move) (omega (arith, one))
-      (pressed j x at (omega (arith, lt, one)) move is leaves one)
+      (pressed j x at (omega (arith, lt, one)) move is one)
 ]
 
 -- all that was met is

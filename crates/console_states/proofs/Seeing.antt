@@ -5,19 +5,23 @@ use Rattle.console_states.proofs.Common.{Option, Some, None, refl, ap, subst, sy
 use Rattle.console_states.proofs.Common.{if◌then◌else◌, true≢false, All-head, All-tail, Action, Modifier, Cell, Char}
 use Rattle.console_states.proofs.Common.{Act, Event, Press, Release, Reset, Load, Sight, Move, Hold, Turn, LetGo}
 use Rattle.console_states.proofs.Common.{PressedAction, ReleasedKey, same_Some, same_action, holding_action, MapValue}
-use Rattle.console_states.proofs.Common.{same_action-true, usable, ResolvedEvent, on, locked, look, remembered}
+use Rattle.console_states.proofs.Common.{same_action-true, usable, ResolvedEvent, look, remembered}
 use Rattle.console_states.proofs.Common.{taken_over, pending, resolve_press, next_pending, between, resolved}
-use Rattle.console_states.proofs.Common.{is_second_in_force, HasKey, IsNoLoad, Under, alone, State, IsIdle, look_in}
+use Rattle.console_states.proofs.Common.{is_second_in_force, HasKey, IsNoLoad, Under, alone, State, IsIdle}
 use Rattle.console_states.proofs.Common.{state_after, NeverForgets, presses, selection_of, IsForgetful, IsAdmitted}
-use Rattle.console_states.proofs.Common.{SeesBy, IsOfferedIn, Follows, IsBehind, fun_ext, rules, one_map}
+use Rattle.console_states.proofs.Common.{SeesBy, IsOfferedIn, Follows, IsBehind, rules, one_map}
 use Rattle.console_states.proofs.Common.{pending-action, pending-release, pending-start, resolved-more, resolved-start}
 use Rattle.console_core.specs.Inner.Kept.{pending_after_dead_key}
 use Rattle.console_core.specs.Resolved.{usable_dead_key}
-use Rattle.console_states.specs.Sights.{selection_with, selection_after, LooksAreSelected, SightsAreReachable}
+use Rattle.console_states.specs.Sights.{selection_after, LooksAreSelected, SightsAreReachable}
 use Rattle.console_core.proofs.Shared.{pending-character, pending-reset}
 use Rattle.console_states.proofs.Behind.{behind-offered, behind-more}
-use Rattle.console_states.proofs.Following.{follows-look, follows-nothing, not_holding}
-use Rattle.console_states.proofs.Sparing.{stays, AreSpared, clean-spared}
+use Rattle.console_states.proofs.Following.{follows-look, follows-nothing, follows-selection, not_holding}
+use Rattle.console_states.proofs.Common.{AreAllowed, IsMade, IsReachable, look_selected, selection_behind}
+use Rattle.console_states.specs.Allowed.{Allows, all_allowed}
+use Rattle.console_states.specs.AllowedSights.{AllowedSightsAreReachable, IsReachableUnder, SeesAllowed}
+use Rattle.console_states.specs.Moves.{alone_by}
+use Rattle.console_states.proofs.Sparing.{stays, AreSpared, allowed-before, clean-spared}
 use Rattle.console_states.proofs.Staying.{Stays, KeepsHeld, LeadsOn, stays-press, stays-release}
 use Rattle.console_states.proofs.Scripts.{Reached, reached-kept}
 use Rattle.keymap_core.specs.declared.action.Action.TheVariants as act
@@ -38,45 +42,60 @@ admitted-before m forgets e h (keys, none, clean) = (
 )
 
 -- no press of a list that is spoken of forgets that a key holds a modifier
-pub keeps-held : (m : MapValue) (forgets : Bool) (k : ℕ) (h : List Event) → (forgets ≡ false → NeverForgets (alone m))
-    → IsAdmitted m forgets (Press k ∷ h) → (t : State) → Reached (alone m) t → Follows (resolved (between m m) h) t
+pub keeps-allowed : (a : Allows) (m : MapValue) (forgets : Bool) (k : ℕ) (h : List Event)
+    → (forgets ≡ false → NeverForgets (alone_by a m))
+    → IsAdmitted m forgets (Press k ∷ h) → (t : State) → Reached (alone_by a m) t → Follows (resolved (between m m) h) t
     → t.is_second ≡ is_second_in_force h
-    → KeepsHeld (alone m) t k
-keeps-held m false k h never admitted t there f is =
-    λ i forgets. never refl there.0 there.1 (subst (λ x. IsForgetful (alone m) x) (sym there.2) (i, k, forgets))
-keeps-held m true k h never (keys, none, clean) t there f is =
-    (clean-spared (alone m) (suc (presses h)) (λ p x. Unit {0})).keeps h k (clean refl) (omega arith) t tt f is
+    → KeepsHeld (alone_by a m) t k
+keeps-allowed a m false k h never admitted t there f is =
+    λ i forgets. never refl there.0 there.1 (subst (λ x. IsForgetful (alone_by a m) x) (sym there.2) (i, k, forgets))
+keeps-allowed a m true k h never (keys, none, clean) t there f is =
+    (clean-spared (alone_by a m) (suc (presses h)) (λ p x. Unit {0})).keeps h k (clean refl) (omega arith) t tt f is
 
 -- lists that are spoken of are spared, where the sets are of states that paths lead to
-pub admitted-spared : (m : MapValue) (forgets : Bool) (n : ℕ) (S : State → Type 0)
-    → (forgets ≡ false → NeverForgets (alone m)) → ((t : State) → S t → Reached (alone m) t)
-    → AreSpared (alone m) n (λ p t. S t) (IsAdmitted m forgets)
-admitted-spared m forgets n S never reached = search (rules, admitted-before, keeps-held)
+pub allowed-spared : (a : Allows) (m : MapValue) (forgets : Bool) (n : ℕ) (S : State → Type 0)
+    → (forgets ≡ false → NeverForgets (alone_by a m)) → ((t : State) → S t → Reached (alone_by a m) t)
+    → AreSpared (alone_by a m) n (λ p t. S t) (IsAdmitted m forgets)
+allowed-spared a m forgets n S never reached = search (rules, admitted-before, keeps-allowed)
 
 -- the console stands in a state that a path leads to
-abbrev pub Stands : MapValue → List Event → Type 0
-Stands m h = Stays (Reached (alone m)) (is_second_in_force h) (resolved (between m m) h)
+abbrev pub StandsBy : Allows → MapValue → List Event → Type 0
+StandsBy a m h = Stays (Reached (alone_by a m)) (is_second_in_force h) (resolved (between m m) h)
 
-pub stands-in : (m : MapValue) (forgets : Bool) (h : List Event) → (forgets ≡ false → NeverForgets (alone m))
-    → IsAdmitted m forgets h → Stands m h
-stands-in m forgets h never admitted =
+pub stands-allowed : (a : Allows) (m : MapValue) (forgets : Bool) (h : List Event)
+    → (forgets ≡ false → NeverForgets (alone_by a m)) → IsAdmitted m forgets h → AreAllowed (alone_by a m) h
+    → StandsBy a m h
+stands-allowed a m forgets h never admitted may =
     let n : ℕ = suc (presses h) in
     let (s, there, f, is) =
-    stays (alone m) n (λ p t. Reached (alone m) t) (IsAdmitted m forgets) (reached-kept (alone m) n)
-    (admitted-spared m forgets n (Reached (alone m)) never (λ t here. here)) h
-    (admitted, admitted.0, (λ e. admitted.1), omega arith) in
+    stays (alone_by a m) n (λ p t. Reached (alone_by a m) t) (IsAdmitted m forgets) (reached-kept (alone_by a m) n)
+    (allowed-spared a m forgets n (Reached (alone_by a m)) never (λ t here. here)) h
+    (admitted, admitted.0, ((λ e. admitted.1), may), omega arith) in
     (s, there (omega arith), f, is)
 
--- the selection after the list is that of the state
-pub follows-selection : (r : List ResolvedEvent) (s : State) → Follows r s
-    → selection_with (λ i. on i r) (λ l. locked l r) ≡ selection_of s
-follows-selection r s f = search (rules, fun_ext)
+-- what an allowed press looks up is so in the state
+made-alone : (a : Allows) (m : MapValue) (h : List Event) (s : State) (k : ℕ) (x : Cell)
+    → AreAllowed (alone_by a m) (Press k ∷ h) → Follows (resolved (between m m) h) s
+    → look m (resolved (between m m) h) k ≡ x → IsMade (alone_by a m) s k x
+made-alone a m h s k x may f seen =
+    let r : List ResolvedEvent = resolved (between m m) h in (
+      sym (follows-look (alone_by a m) r s k f) ∙ subst (λ n. look n r k ≡ x) (sym (one_map m s.is_second)) seen,
+      subst (λ y. a y k x ≡ true) (follows-selection r s f)
+          (subst (λ c. a (selection_behind (between m m) h) k c ≡ true)
+          (ap (λ n. look n r k) (one_map m (is_second_in_force h)) ∙ seen) (may [] h k refl)),
+    )
 
 -- a press sees in the state what it sees after the list
-stands-sees : (m : MapValue) (h : List Event) (s : State) (path : List Move) (k : ℕ) (x : Sight)
-    → state_after (alone m) path ≡ s → Follows (resolved (between m m) h) s → SeesBy m (selection_after m h) k x
-    → SeesBy m (selection_of (state_after (alone m) path)) k x
-stands-sees m h s path k x leads f sees = search (rules, follows-selection)
+stands-sees : (a : Allows) (m : MapValue) (h : List Event) (s : State) (path : List Move) (k : ℕ) (x : Sight)
+    → state_after (alone_by a m) path ≡ s → Follows (resolved (between m m) h) s → SeesBy m (selection_after m h) k x
+    → AreAllowed (alone_by a m) (Press k ∷ h) → SeesAllowed (alone_by a m) (state_after (alone_by a m) path) k x
+stands-sees a m h s path k x leads f sees may =
+    let same : selection_after m h ≡ selection_of (state_after (alone_by a m) path) =
+    follows-selection (resolved (between m m) h) s f ∙ ap (λ t. selection_of t) (sym leads) in (
+      subst (λ y. SeesBy m y k x) same sees,
+      subst (λ y. a y k (look_selected m y k) ≡ true) same
+          (subst (λ c. a (selection_after m h) k c ≡ true) (looks_are_selected m h k) (may [] h k refl)),
+    )
 
 -- a dead key that is taken was looked up, and nothing else is remembered
 taken-same : (held b : Action) (t : Bool) (i : ℕ) → same_action held b ≡ t → (if t then b else act.Nop) ≡ act.DeadKey i
@@ -116,24 +135,23 @@ takes-pending m p a i e = search (rules, cases_Bool, usable-dead, pends)
 -- ---- where an accent is pending
 
 -- the console stands in a state behind where the accent is offered
-abbrev StandsBehind : MapValue → ℕ → List ResolvedEvent → Type 0
-StandsBehind m i r = (s : State) × IsBehind (alone m) i s × Follows r s
+abbrev StandsBehind : Allows → MapValue → ℕ → List ResolvedEvent → Type 0
+StandsBehind a m i r = (s : State) × IsBehind (alone_by a m) i s × Follows r s
 
 -- a press that takes the dead key of a usable accent leads there: the key holds nothing, and looks it up
-behind-here : (m : MapValue) (h : List Event) (k i : ℕ) (b : Action) → Stands m h → k < 128
-    → look m (resolved (between m m) h) k ≡ Act b → taken_over (remembered k (resolved (between m m) h)) b
+behind-here : (a : Allows) (m : MapValue) (h : List Event) (k i : ℕ) (b : Action) → StandsBy a m h → k < 128
+    → AreAllowed (alone_by a m) (Press k ∷ h) → look m (resolved (between m m) h) k ≡ Act b
+    → taken_over (remembered k (resolved (between m m) h)) b
     ≡ act.DeadKey i
-    → usable m i ≡ true → StandsBehind m i (PressedAction k b ∷ resolved (between m m) h)
-behind-here m h k i b (s, (path, made, leads), f, is) lt seen taken can =
+    → usable m i ≡ true → StandsBehind a m i (PressedAction k b ∷ resolved (between m m) h)
+behind-here a m h k i b (s, (path, made, leads), f, is) lt may seen taken can =
     let r : List ResolvedEvent = resolved (between m m) h in
     let p : (b ≡ act.DeadKey i) × IsFreeFor (remembered k r) i = taken-dead (remembered k r) b i taken in
     let idle : IsIdle s k = λ j holds. p.1 j (f.holds j k holds) in
-    let looked : look_in (alone m) s k ≡ Act (act.DeadKey i) =
-    sym (follows-look (alone m) r s k f)
-    ∙ subst (λ n. look n r k ≡ Act (act.DeadKey i)) (sym (one_map m s.is_second)) (seen ∙ ap (λ x. Act x) p.0) in (
+    let looked = made-alone a m h s k (Act (act.DeadKey i)) may f (seen ∙ ap (λ x. Act x) p.0) in (
       s,
-      behind-offered (alone m) path i made
-          (subst (λ t. IsOfferedIn (alone m) t i) (sym leads) (can, (k, lt, (idle, looked)))) leads,
+      behind-offered (alone_by a m) path i made
+          (subst (λ t. IsOfferedIn (alone_by a m) t i) (sym leads) (can, (k, lt, (idle, looked)))) leads,
       follows-nothing r s k b f
           (λ held. ap (λ a. same_action a (holding_action held)) taken ∙ not_holding (act.DeadKey i) held refl),
     )
@@ -146,76 +164,113 @@ behind-leads u i = record {
   turn = λ s k l there is. behind-more u i s (Turn k l) there is;
 }
 
-behind-press : (m : MapValue) (h : List Event) (k i : ℕ) (b : Action)
-    → StandsBehind m i (resolved (between m m) h) → k < 128 → look m (resolved (between m m) h) k ≡ Act b
-    → StandsBehind m i (PressedAction k b ∷ resolved (between m m) h)
-behind-press m h k i b (s, behind, f) lt seen =
-    let u : Under = alone m in
+behind-press : (a : Allows) (m : MapValue) (h : List Event) (k i : ℕ) (b : Action)
+    → StandsBehind a m i (resolved (between m m) h) → k < 128 → AreAllowed (alone_by a m) (Press k ∷ h)
+    → look m (resolved (between m m) h) k ≡ Act b
+    → StandsBehind a m i (PressedAction k b ∷ resolved (between m m) h)
+behind-press a m h k i b (s, behind, f) lt may seen =
+    let u : Under = alone_by a m in
     let r : List ResolvedEvent = resolved (between m m) h in
-    let looked : look_in u s k ≡ Act b =
-    sym (follows-look u r s k f) ∙ subst (λ n. look n r k ≡ Act b) (sym (one_map m s.is_second)) seen in
+    let looked = made-alone a m h s k (Act b) may f seen in
     let (t, there, g, is) =
     stays-press u (IsBehind u i) (IsBehind u i) (behind-leads u i) r s behind f k lt
-    (λ j (holds, (c, e)). let g : Act b ≡ Char c = sym looked ∙ e in cc) (Act b) looked in
+    (λ j (holds, (c, (e, can))). let g : Act b ≡ Char c = sym looked.0 ∙ e in cc) (Act b) looked in
     (t, there, g)
 
-behind-release : (m : MapValue) (r : List ResolvedEvent) (k i : ℕ) → StandsBehind m i r
-    → StandsBehind m i (ReleasedKey k ∷ r)
-behind-release m r k i (s, behind, f) =
+behind-release : (a : Allows) (m : MapValue) (r : List ResolvedEvent) (k i : ℕ) → StandsBehind a m i r
+    → StandsBehind a m i (ReleasedKey k ∷ r)
+behind-release a m r k i (s, behind, f) =
     let (t, there, g, is) =
-    stays-release (IsBehind (alone m) i) (λ s n j there holds. behind-more (alone m) i s (LetGo n j) there holds) r s
+    stays-release (IsBehind (alone_by a m) i)
+    (λ s n j there holds. behind-more (alone_by a m) i s (LetGo n j) there holds) r s
     behind f k (remembered k r) refl in
     (t, there, g)
 
 -- an accent is pending only behind where it is offered
-pub pends-behind : (m : MapValue) (forgets : Bool) (h : List Event) (i : ℕ) → (forgets ≡ false → NeverForgets (alone m))
-    → IsAdmitted m forgets h → pending m (resolved (between m m) h) ≡ Some i
-    → StandsBehind m i (resolved (between m m) h)
-pends-behind m forgets [] i never admitted e = search (rules, pending-start, resolved-start)
-pends-behind m forgets (Release k ∷ h) i never admitted e =
+pub pends-behind : (a : Allows) (m : MapValue) (forgets : Bool) (h : List Event) (i : ℕ)
+    → (forgets ≡ false → NeverForgets (alone_by a m)) → IsAdmitted m forgets h → AreAllowed (alone_by a m) h
+    → pending m (resolved (between m m) h) ≡ Some i
+    → StandsBehind a m i (resolved (between m m) h)
+pends-behind a m forgets [] i never admitted may e = search (rules, pending-start, resolved-start)
+pends-behind a m forgets (Release k ∷ h) i never admitted may e =
     let r : List ResolvedEvent = resolved (between m m) h in
-    rw (resolved-more (between m m) h (Release k)) (behind-release m r k i
-    (pends-behind m forgets h i never (admitted-before m forgets (Release k) h admitted)
+    rw (resolved-more (between m m) h (Release k)) (behind-release a m r k i
+    (pends-behind a m forgets h i never (admitted-before m forgets (Release k) h admitted)
+    (allowed-before (alone_by a m) (Release k) h may)
     (sym (pending-release m k r) ∙ ap (λ r. pending m r) (sym (resolved-more (between m m) h (Release k))) ∙ e)))
-pends-behind m forgets (Reset ∷ h) i never admitted e = search (rules, pending-reset, resolved-more)
-pends-behind m forgets (Load ∷ h) i never admitted e =
+pends-behind a m forgets (Reset ∷ h) i never admitted may e = search (rules, pending-reset, resolved-more)
+pends-behind a m forgets (Load ∷ h) i never admitted may e =
     absurd (true≢false (All-head IsNoLoad Load h admitted.1))
-pends-behind m forgets (Press k ∷ h) i never admitted e =
+pends-behind a m forgets (Press k ∷ h) i never admitted may e =
     let r : List ResolvedEvent = resolved (between m m) h in
     let before : IsAdmitted m forgets h = admitted-before m forgets (Press k) h admitted in
+    let can : AreAllowed (alone_by a m) h = allowed-before (alone_by a m) (Press k) h may in
     let at : resolved (between m m) (Press k ∷ h) ≡ resolve_press k (look m r k) ∷ r =
     cc (resolved-more (between m m) h (Press k), one_map m (is_second_in_force h)) in
-    subst (λ z. StandsBehind m i z) (sym at)
-    (by (look m r k) refl (ap (λ z. pending m z) (sym at) ∙ e) (λ was. pends-behind m forgets h i never before was)
-    (stands-in m forgets h never before))
+    subst (λ z. StandsBehind a m i z) (sym at)
+    (by (look m r k) refl (ap (λ z. pending m z) (sym at) ∙ e)
+    (λ was. pends-behind a m forgets h i never before can was)
+    (stands-allowed a m forgets h never before can))
   where
     lt : k < 128
     lt = All-head HasKey (Press k) h admitted.0
 
     by : (x : Cell) → look m (resolved (between m m) h) k ≡ x
         → pending m (resolve_press k x ∷ resolved (between m m) h) ≡ Some i
-        → (pending m (resolved (between m m) h) ≡ Some i → StandsBehind m i (resolved (between m m) h)) → Stands m h
-        → StandsBehind m i (resolve_press k x ∷ resolved (between m m) h)
+        → (pending m (resolved (between m m) h) ≡ Some i → StandsBehind a m i (resolved (between m m) h))
+        → StandsBy a m h
+        → StandsBehind a m i (resolve_press k x ∷ resolved (between m m) h)
     by (Char c) seen f earlier stands =
         let g : None ≡ Some i = sym (pending-character m k c (resolved (between m m) h)) ∙ f in cc
     by (Act b) seen f earlier stands =
         elim (takes-pending m (pending m (resolved (between m m) h))
         (taken_over (remembered k (resolved (between m m) h)) b) i
         (sym (pending-action m k b (resolved (between m m) h)) ∙ f)) [
-          | inl was ↦ behind-press m h k i b (earlier was) lt seen
-          | inr (is, can) ↦ behind-here m h k i b stands lt seen is can
+          | inl was ↦ behind-press a m h k i b (earlier was) lt may seen
+          | inr (is, can) ↦ behind-here a m h k i b stands lt may seen is can
         ]
+
+-- what an allowed press after a list of such sees can be seen by such
+pub allowed_sights_are_reachable : AllowedSightsAreReachable
+allowed_sights_are_reachable a m forgets h k (sight.Cell slot column) never admitted may lt (sees, x) =
+    let can = allowed-before (alone_by a m) (Press k) h may in
+    let (s, (path, is, leads), f, second) = stands-allowed a m forgets h never admitted can in
+    (path, is, tt, (k, lt, stands-sees a m h s path k (sight.Cell slot column) leads f sees may))
+allowed_sights_are_reachable a m forgets h k (sight.Locks slot caps num) never admitted may lt (sees, x) =
+    let can = allowed-before (alone_by a m) (Press k) h may in
+    let (s, (path, is, leads), f, second) = stands-allowed a m forgets h never admitted can in
+    (path, is, tt, (k, lt, stands-sees a m h s path k (sight.Locks slot caps num) leads f sees may))
+allowed_sights_are_reachable a m forgets h k (sight.Pair accent c) never admitted may lt (sees, x) =
+    let can = allowed-before (alone_by a m) (Press k) h may in
+    let (s, (path, is, offered, leads), f) =
+    pends-behind a m forgets h accent never admitted can
+    (subst (λ n. pending n (resolved (between m m) h) ≡ Some accent) (one_map m (is_second_in_force h)) x) in
+    (path, is, offered, (k, lt, stands-sees a m h s path k (sight.Pair accent c) leads f sees may))
+
+-- ---- where all presses are allowed
+
+pub keeps-held : (m : MapValue) (forgets : Bool) (k : ℕ) (h : List Event) → (forgets ≡ false → NeverForgets (alone m))
+    → IsAdmitted m forgets (Press k ∷ h) → (t : State) → Reached (alone m) t → Follows (resolved (between m m) h) t
+    → t.is_second ≡ is_second_in_force h
+    → KeepsHeld (alone m) t k
+keeps-held m = keeps-allowed all_allowed m
+
+pub admitted-spared : (m : MapValue) (forgets : Bool) (n : ℕ) (S : State → Type 0)
+    → (forgets ≡ false → NeverForgets (alone m)) → ((t : State) → S t → Reached (alone m) t)
+    → AreSpared (alone m) n (λ p t. S t) (IsAdmitted m forgets)
+admitted-spared m = allowed-spared all_allowed m
+
+pub stands-in : (m : MapValue) (forgets : Bool) (h : List Event) → (forgets ≡ false → NeverForgets (alone m))
+    → IsAdmitted m forgets h → StandsBy all_allowed m h
+stands-in m forgets h never admitted =
+    stands-allowed all_allowed m forgets h never admitted (λ later before k at. refl)
 
 -- what a press after a list sees can be seen
 pub sights_are_reachable : SightsAreReachable
-sights_are_reachable m forgets h k (sight.Cell slot column) never admitted lt (sees, x) =
-    let (s, (path, is, leads), f, second) = stands-in m forgets h never admitted in
-    (path, is, tt, (k, lt, stands-sees m h s path k (sight.Cell slot column) leads f sees))
-sights_are_reachable m forgets h k (sight.Locks slot caps num) never admitted lt (sees, x) =
-    let (s, (path, is, leads), f, second) = stands-in m forgets h never admitted in
-    (path, is, tt, (k, lt, stands-sees m h s path k (sight.Locks slot caps num) leads f sees))
-sights_are_reachable m forgets h k (sight.Pair accent c) never admitted lt (sees, x) =
-    let (s, (path, is, offered, leads), f) =
-    pends-behind m forgets h accent never admitted
-    (subst (λ n. pending n (resolved (between m m) h) ≡ Some accent) (one_map m (is_second_in_force h)) x) in
-    (path, is, offered, (k, lt, stands-sees m h s path k (sight.Pair accent c) leads f sees))
+sights_are_reachable m forgets h k x never admitted lt sees =
+    seen x (allowed_sights_are_reachable all_allowed m forgets h k x never admitted (λ later before j at. refl) lt sees)
+  where
+    seen : (x : Sight) → IsReachableUnder (alone m) x → IsReachable m x
+    seen (sight.Cell slot column) (path, is, can, (j, below, (there, may))) = (path, is, can, (j, below, there))
+    seen (sight.Locks slot caps num) (path, is, can, (j, below, (there, may))) = (path, is, can, (j, below, there))
+    seen (sight.Pair accent c) (path, is, can, (j, below, (there, may))) = (path, is, can, (j, below, there))

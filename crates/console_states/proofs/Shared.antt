@@ -1,21 +1,21 @@
 -- What the crates above may cite of these proofs. All else stands for this crate alone.
 pub use Rattle.console_states.proofs.Adding.{adds-both, adds-none, adds-one, empty-none}
-pub use Rattle.console_states.proofs.Beginning.{one-off, reached-one, start-one}
+pub use Rattle.console_states.proofs.Beginning.{reached-one, start-one}
 pub use Rattle.console_states.proofs.Behind.{path-split}
 pub use Rattle.console_states.proofs.Common.{Char, get_or_read_under}
 pub use Rattle.console_states.proofs.Deciding.{safe_never_sticks_between}
-pub use Rattle.console_states.proofs.Following.{follows-again, follows-look, follows-nothing, kind_of, not_holding}
+pub use Rattle.console_states.proofs.Following.{follows-again, follows-look, follows-nothing, follows-selection}
+pub use Rattle.console_states.proofs.Following.{kind_of, not_holding}
 pub use Rattle.console_states.proofs.Following.{same_mods}
 pub use Rattle.console_states.proofs.Going.{going-sees, pending-along, pending-is, pending-move, tap-pending}
 pub use Rattle.console_states.proofs.GoingBack.{push-reversed, searched-back}
-pub use Rattle.console_states.proofs.Growing.{scroll-left}
 pub use Rattle.console_states.proofs.KeyLists.{keys-with, keys-without, read-below}
 pub use Rattle.console_states.proofs.Looks.{look_tells}
-pub use Rattle.console_states.proofs.Nearest.{among-along, below-fewer, holds-nearer, is-nearest, is-nowhere, near-met}
+pub use Rattle.console_states.proofs.Nearest.{met-along, below-fewer, holds-nearer, is-nearest, is-nowhere, all-met}
 pub use Rattle.console_states.proofs.Reaching.{ended-alone, met-alone, reaches-more}
 pub use Rattle.console_states.proofs.Results.{ok-then, on_ok-then}
-pub use Rattle.console_states.proofs.Returning.{home-start, near-is_home}
-pub use Rattle.console_states.proofs.SameStates.{are_same, same-tells, tells-same}
+pub use Rattle.console_states.proofs.SameStates.{are_same, each-lock, home-start, same-tells, same_states}
+pub use Rattle.console_states.proofs.SameStates.{scroll_or_other, tells-same}
 pub use Rattle.console_states.proofs.Scripts.{Reached, holder-pressed, reached-more}
 pub use Rattle.console_states.proofs.Searching.{all-done, place_last, presses-map, same_entry, steps-to}
 pub use Rattle.console_states.proofs.Seeing.{admitted-before, admitted-spared, keeps-held, sights_are_reachable}
@@ -26,9 +26,7 @@ pub use Rattle.console_states.proofs.Standing.{hold-self, idle-none, other-remem
 pub use Rattle.console_states.proofs.Standing.{stands-move, stands-reset, stands-start}
 pub use Rattle.console_states.proofs.Staying.{KeepsHeld, LeadsOn, Stays, emptied, emptied-kept, emptied-none}
 pub use Rattle.console_states.proofs.Staying.{stays-press, stays-release}
-pub use Rattle.console_states.proofs.Tapping.{dead-tapped, exact-action, exact-character, stands-tapped}
-pub use Rattle.console_states.proofs.Unscrolled.{leaves-scroll_or_turns, locks-near, moves-unscrolled, same-scrolled}
-pub use Rattle.console_states.proofs.Unscrolled.{same_moved, same_states, scroll-moved}
+pub use Rattle.console_states.proofs.Tapping.{dead-tapped, exact-action, exact-character, scroll-tapped, stands-tapped}
 pub use Rattle.console_states.proofs.Visible.{all-seen, any-member, same-truth, sees-all, sights-some, some-member}
-pub use Rattle.console_states.proofs.Visits.{home-near, near-path, path-first, press-presses, press-turns}
-pub use Rattle.console_states.proofs.Visits.{press-turns_none}
+pub use Rattle.console_states.proofs.Visits.{path-first, path-off, press-flips, press-presses, press-turns}
+pub use Rattle.console_states.proofs.Visits.{press-turns_none, scroll-along, scroll-tap}

@@ -77,7 +77,7 @@ plain-idle m h s k x idle plain = plain-press m h k (idle-none (resolved (betwee
 
 plain-move : (m : MapValue) (h : List Event) (s : State) (move : Move) → Stands (alone m) h s → IsMove (alone m) s move
     → IsPlain m h → IsPlain m (events_of_move move ++ h)
-plain-move m h s (Hold k i) x is plain = plain-idle m h s k x is.1 plain
+plain-move m h s (Hold k i) x is plain = plain-idle m h s k x is.0.1 plain
 plain-move m h s (Turn k l) x is plain = search (rules, plain-release, press-presses, plain-idle)
 plain-move m h s (LetGo k i) x is plain = plain-release m h k (holder-pressed (alone m) h s i k x is) plain
 plain-move m h s Exchange x is plain = absurd (false≢true is.1)
@@ -136,7 +136,7 @@ reachable_is_seen m (sight.Cell slot column) (path, is, x, (k, lt, sees)) =
 reachable_is_seen m (sight.Locks slot caps num) (path, is, x, (k, lt, sees)) =
     short-sees m path is k (sight.Locks slot caps num) lt sees tt
 reachable_is_seen m (sight.Pair accent c)
-    (path, is, (later, before, at, (can, (d, key, (idle, seen)))), (k, lt, sees)) =
+    (path, is, (later, before, at, (can, (d, key, (idle, (seen, may))))), (k, lt, sees)) =
     let u : Under = alone m in
     let s : State = state_after u before in
     let parts = path-split u start later before (subst (λ p. IsPath u p) at is) in

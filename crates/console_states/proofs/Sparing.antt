@@ -12,7 +12,8 @@ use Rattle.console_states.proofs.Common.{resolved-more, resolved-start}
 use Rattle.console_core.specs.Headline.{IsOnOnlyWhilePressed}
 use Rattle.console_core.specs.Resolved.{resolve}
 use Rattle.console_core.proofs.Shared.{borne-pressed}
-use Rattle.console_states.proofs.Following.{follows-look, some_of}
+use Rattle.console_states.proofs.Common.{AreAllowed, IsMade, look_in, selection_behind}
+use Rattle.console_states.proofs.Following.{follows-look, follows-selection, some_of}
 use Rattle.console_states.proofs.Staying.{Stays, KeepsLetGo, LeadsOn, KeepsHeld, stays-press}
 use Rattle.console_states.proofs.Staying.{stays-release, stays-reset, KeepsExchange, stays-load, follows-start}
 use Rattle.keymap_core.specs.declared.action.Action.TheVariants as act
@@ -53,7 +54,7 @@ clean-spared u n S = record {
   fewer = λ e h clean later before k i c at. clean (e ∷ later) before k i c (ap (λ z. e ∷ z) at);
   keeps = λ h k clean lt s there f is i forgets.
       let seen : look (map_in u s) (resolved u.maps h) k ≡ Char forgets.1.0 =
-      follows-look u (resolved u.maps h) s k f ∙ forgets.1.1 in
+      follows-look u (resolved u.maps h) s k f ∙ forgets.1.1.0 in
       clean [] h k i forgets.1.0 refl (f.holds i k forgets.0)
       (subst (λ b. look (map_of u b) (resolved u.maps h) k ≡ Char forgets.1.0) is seen);
 }
@@ -80,31 +81,48 @@ below-leads_on u n S led p = record {
   turn = λ s k l there is next. led.moved p (suc p) s (Turn k l) (omega arith) next there is;
 }
 
+-- each press of a list without its newest event is allowed
+pub allowed-before : (u : Under) (e : Event) (h : List Event) → AreAllowed u (e ∷ h) → AreAllowed u h
+allowed-before u e h may later before k at = may (e ∷ later) before k (ap (λ z. e ∷ z) at)
+
+-- what an allowed press looks up is so in the state
+made-next : (u : Under) (h : List Event) (s : State) (k : ℕ) → AreAllowed u (Press k ∷ h)
+    → Follows (resolved u.maps h) s → s.is_second ≡ is_second_in_force h
+    → IsMade u s k (look (map_in u s) (resolved u.maps h) k)
+made-next u h s k may f is =
+    let r : List ResolvedEvent = resolved u.maps h in
+    let seen : look (map_in u s) r k ≡ look_in u s k = follows-look u r s k f in (
+      sym seen,
+      subst (λ y. u.allows y k (look (map_in u s) r k) ≡ true) (follows-selection r s f)
+          (subst (λ b. u.allows (selection_behind u.maps h) k (look (map_of u b) r k) ≡ true) (sym is)
+          (may [] h k refl)),
+    )
+
 -- an event stays in the set of the presses so far
 stays-event : (u : Under) (n : ℕ) (S : ℕ → State → Type 0) (P : List Event → Type 0) → AreLed u n S
     → AreSpared u n S P → (e : Event) (h : List Event) → P (e ∷ h)
-    → HasKey e → (u.has_loads ≡ false → IsNoLoad e) → presses (e ∷ h) ≤ n
+    → HasKey e → (u.has_loads ≡ false → IsNoLoad e) → AreAllowed u (e ∷ h) → presses (e ∷ h) ≤ n
     → (s : State) → Below n S (presses h) s → Follows (resolved u.maps h) s → s.is_second ≡ is_second_in_force h
     → Stays (Below n S (presses (e ∷ h))) (is_second_in_force (e ∷ h))
     (resolve (map_in u s) (next_map u s) (resolved u.maps h) e ∷ resolved u.maps h)
-stays-event u n S P led spared (Press k) h keeps key admitted le s there f is =
+stays-event u n S P led spared (Press k) h keeps key loads may le s there f is =
     let r : List ResolvedEvent = resolved u.maps h in
     let lt : presses h < n = omega (arith, le) in
     rw (← is) (stays-press u (S (presses h)) (Below n S (suc (presses h))) (below-leads_on u n S led (presses h)) r s
     (there lt) f k key (spared.keeps h k keeps lt s (there lt) f is) (look (map_in u s) r k)
-    (sym (follows-look u r s k f)))
-stays-event u n S P led spared (Release k) h keeps key admitted le s there f is =
+    (made-next u h s k may f is))
+stays-event u n S P led spared (Release k) h keeps key loads may le s there f is =
     let r : List ResolvedEvent = resolved u.maps h in
     subst (λ b. Stays (Below n S (presses h)) b (ReleasedKey k ∷ r)) is
     (stays-release (Below n S (presses h)) (below-lets_go u n S led (presses h)) r s there f k (remembered k r) refl)
-stays-event u n S P led spared Reset h keeps key admitted le s there f is =
+stays-event u n S P led spared Reset h keeps key loads may le s there f is =
     rw (← is) (stays-reset (Below n S (presses h)) (below-lets_go u n S led (presses h)) (resolved u.maps h) s there f)
-stays-event u n S P led spared Load h keeps key admitted le s there f is =
+stays-event u n S P led spared Load h keeps key none_only may le s there f is =
     elim (cases_Bool u.has_loads) [
       | inl loads ↦
           rw (← (ap not is)) (stays-load u (Below n S (presses h)) (below-lets_go u n S led (presses h))
           (below-exchanges u n S led (presses h)) loads (resolved u.maps h) s there f)
-      | inr none ↦ absurd (true≢false (admitted none))
+      | inr none ↦ absurd (true≢false (none_only none))
     ]
 
 -- a list without its newest event has no more presses
@@ -123,18 +141,18 @@ pub stays-on : (u : Under) (n : ℕ) (S : ℕ → State → Type 0) (P : List Ev
     → Stays (Below n S (presses (later ++ before))) (is_second_in_force (later ++ before))
     (resolved u.maps (later ++ before))
 stays-on u n S P led spared before s there f is [] given = (s, there, f, is)
-stays-on u n S P led spared before s there f is (e ∷ later) (keeps, keys, admitted, le) =
+stays-on u n S P led spared before s there f is (e ∷ later) (keeps, keys, (loads, may), le) =
     let h : List Event = later ++ before in
     let (t, here, g, second) =
     stays-on u n S P led spared before s there f is later (
       spared.fewer e h keeps,
       All-tail HasKey e h keys,
-      (λ none. All-tail IsNoLoad e h (admitted none)),
+      ((λ none. All-tail IsNoLoad e h (loads none)), allowed-before u e h may),
       fewer e h n le,
     ) in
     rw (resolved-more u.maps h e)
     (rw (← second) (stays-event u n S P led spared e h keeps (All-head HasKey e h keys)
-    (λ none. All-head IsNoLoad e h (admitted none)) le t here g second))
+    (λ none. All-head IsNoLoad e h (loads none)) may le t here g second))
 
 -- from the start a console stays in the sets
 pub stays : (u : Under) (n : ℕ) (S : ℕ → State → Type 0) (P : List Event → Type 0) → IsKeptBelow u n S

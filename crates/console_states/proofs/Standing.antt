@@ -13,7 +13,7 @@ use Rattle.console_states.proofs.Common.{HoldsSome, Exact, Stands, Action, Lock,
 use Rattle.console_states.proofs.Common.{Release, Reset, Load, Move, Hold, Turn, LetGo, Exchange, rules, held-action}
 use Rattle.console_states.proofs.Common.{held-release, pressed-press, remembered-action, resolved-more, resolved-start}
 use Rattle.keymap_core.proofs.Shared.{option_or-none}
-use Rattle.console_states.specs.Moves.{free_with}
+use Rattle.console_states.proofs.Common.{◌≢◌, Scroll, IsNoLoad, is_some}
 use Rattle.console_core.proofs.Shared.{held-load, held-reset, held-start, locked-reset, no_loads-first, pressed-load}
 use Rattle.console_core.proofs.Shared.{pressed-release, pressed-reset, pressed-start, remembered-load}
 use Rattle.console_core.proofs.Shared.{remembered-release, remembered-reset, remembered-start}
@@ -73,7 +73,7 @@ pub tap-only : (r now : List ResolvedEvent) (s : State) (k : ℕ) → Exact r s
 tap-only r now s k x same n a q = search (rules, cases_Bool, none-some, remembered-release)
 
 -- a press and release of an idle key that turns a lock
-exact-turn : (r : List ResolvedEvent) (s : State) (k : ℕ) (l : Lock) → Exact r s → IsIdle s k
+pub exact-turn : (r : List ResolvedEvent) (s : State) (k : ℕ) (l : Lock) → Exact r s → IsIdle s k
     → Exact (ReleasedKey k ∷ (PressedAction k (act.Lock l) ∷ r)) (with_lock_turned s l)
 exact-turn r s k l x idle =
     let e : taken_over (remembered k r) (act.Lock l) ≡ act.Lock l =
@@ -119,7 +119,7 @@ tapped-pressed h k n p = search (rules, cases_Bool, pressed-release, pressed-pre
 -- the events of a move lead from a state to the next
 pub stands-move : (u : Under) (h : List Event) (s : State) (move : Move) → IsMove u s move → Stands u h s
     → Stands u (events_of_move move ++ h) (moved u s move)
-stands-move u h s (Hold k i) (lt, idle, seen, free) x = record {
+stands-move u h s (Hold k i) ((lt, idle, (seen, may)), free) x = record {
   exact =
       rw (pressed-look u h s k (Act (act.Mod i)) x.exact.follows x.second seen)
       (exact-hold (resolved u.maps h) s k i x.exact idle free);
@@ -134,7 +134,7 @@ stands-move u h s (Hold k i) (lt, idle, seen, free) x = record {
   ];
   keys = All-cons HasKey (Press k) h lt x.keys;
 }
-stands-move u h s (Turn k l) (lt, idle, seen) x = record {
+stands-move u h s (Turn k l) ((lt, idle, (seen, may)), other) x = record {
   exact =
       rw (
         resolved-more u.maps (Press k ∷ h) (Release k),
@@ -195,18 +195,25 @@ stands-from u h s [] x is = x
 stands-from u h s (move ∷ path) x is =
     search (rules, append_assoc, stands-move, stands-from u h s path x is.1)
 
--- After a reset a console of one map stands in the free state with the locks that are on.
-pub stands-reset : (m : MapValue) (h : List Event) → HasKeys h → HasNoLoads h
-    → Stands (alone m) (Reset ∷ h) (free_with (λ l. is_locked_after (between m m) l h))
-stands-reset m h keys none =
-    search (
-      rules,
-      resolved-more,
-      held-reset,
-      locked-reset,
-      none-some,
-      remembered-reset,
-      no_loads-first,
-      pressed-reset,
-      All-cons,
-    )
+-- After a reset a console of one map stands in the free state with the locks that are on but for the scroll lock.
+pub stands-reset : (m : MapValue) (h : List Event) (s : State) → IsFree s → s.is_second ≡ false
+    → ((l : Lock) → l ≢ Scroll → is_locked_after (between m m) l h ≡ s.is_locked l) → HasKeys h → HasNoLoads h
+    → Stands (alone m) (Reset ∷ h) s
+stands-reset m h s free first locks keys none = record {
+  exact = rw (resolved-more (between m m) h Reset) (record {
+    follows = record {
+      on = λ i. held-reset (holding.Mod i) r ∙ ap (λ o. is_some o) (sym (free i));
+      locked = λ l other. locked-reset l r ∙ locks l other;
+      holds = λ i k e. absurd (none-some k (sym (free i) ∙ e));
+    };
+    only = λ k a e. absurd (none-some a (sym (remembered-reset k r) ∙ e));
+    up = λ l. held-reset (holding.Lock l) r;
+  });
+  second = first ∙ sym (no_loads-first (Reset ∷ h) (All-cons IsNoLoad Reset h refl none));
+  key = λ i k e. absurd (none-some k (sym (free i) ∙ e));
+  pressed = λ k e. absurd (true≢false (sym e ∙ pressed-reset k h));
+  keys = All-cons HasKey Reset h tt keys;
+}
+  where
+    r : List ResolvedEvent
+    r = resolved (between m m) h

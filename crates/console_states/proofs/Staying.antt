@@ -1,16 +1,19 @@
 -- In sets of states that the moves keep a console stays whatever one event comes.
-use Rattle.console_states.proofs.Common.{◌≡◌, ℕ, ◌<◌, Bool, true, false, not, List, none-some, [], ◌∷◌, Option, Some}
-use Rattle.console_states.proofs.Common.{None, refl, ap, sym, ◌∙◌, inl, inr, cases_Bool, holding_action, MapValue}
+use Rattle.console_states.proofs.Common.{◌≡◌, ◌≢◌, Scroll, ℕ, ◌<◌, Bool, true, false, not, List, none-some, [], ◌∷◌}
+use Rattle.console_states.proofs.Common.{Option, Some}
+use Rattle.console_states.proofs.Common.{None, refl, ap, subst, sym, ◌∙◌, inl, inr, cases_Bool, holding_action}
+use Rattle.console_states.proofs.Common.{MapValue}
 use Rattle.console_states.proofs.Common.{ResolvedEvent, held, locked, remembered, taken_over, is_this_action}
 use Rattle.console_states.proofs.Common.{resolve_press, PressedAction, ReleasedKey, WasLoaded, Under, State, start}
-use Rattle.console_states.proofs.Common.{look_in, Holds, with_holder, with_lock_turned, exchanged, next_map, IsFree}
+use Rattle.console_states.proofs.Common.{IsMade, Holds, with_holder, with_lock_turned, exchanged, next_map, IsFree}
 use Rattle.console_states.proofs.Common.{IsMove, HolderForgets, Follows, is_some, Action, Lock, Modifier, LeftShift}
 use Rattle.console_states.proofs.Common.{RightShift, LeftControl, RightControl, LeftAlt, RightAlt, AltShift, Meta}
 use Rattle.console_states.proofs.Common.{Holding, Cell, Char, Act, Hold, Turn, Exchange, rules}
 use Rattle.console_core.specs.Resolved.ResolvedEvent.{WasReset}
 use Rattle.console_core.proofs.Shared.{held-load, held-reset, held-start, locked-load, locked-reset, locked-start}
-use Rattle.console_states.proofs.Unscrolled.{same_states}
-use Rattle.console_states.proofs.Following.{same_mods, some_mod_lock, kind_of, follows-character, follows-nothing}
+use Rattle.console_states.proofs.SameStates.{same_states, scroll_or_other}
+use Rattle.console_states.proofs.Following.{is_down, same_locks, same_mods, some_mod_lock, kind_of, follows-character}
+use Rattle.console_states.proofs.Following.{follows-nothing}
 use Rattle.console_states.proofs.Following.{taken-over, holder-takes, follows-hold, follows-again, follows-turn}
 use Rattle.console_states.proofs.Following.{follows-down, follows-let_go, follows-release}
 use Rattle.keymap_core.specs.declared.action.Action.TheVariants as act
@@ -42,54 +45,72 @@ without S keeps s i (Some k) e there = keeps s k i there e
 
 -- a press that takes a modifier leads from a set to the next
 stays-mod : (u : Under) (S T : State → Type 0) → LeadsOn u S T → (r : List ResolvedEvent) (s : State) → S s
-    → Follows r s → (k : ℕ) → k < 128 → (b : Action) → look_in u s k ≡ Act b → (i : Modifier)
+    → Follows r s → (k : ℕ) → k < 128 → (b : Action) → IsMade u s k (Act b) → (i : Modifier)
     → taken_over (remembered k r) b ≡ act.Mod i → b ≡ act.Mod i → (o : Option ℕ) → s.holder i ≡ o
     → Stays T s.is_second (PressedAction k b ∷ r)
-stays-mod u S T leads r s there f k lt b seen i e is None free = (
+stays-mod u S T leads r s there f k lt b made i e is None free = (
   with_holder s i (Some k),
   leads.hold s k i there (
-    lt,
-    (λ j h. none-some k (cc (free, h, holder-takes r s k b (holding.Mod i) j f h e))),
-    seen ∙ ap (λ x. Act x) is,
+    (
+      lt,
+      (λ j h. none-some k (cc (free, h, holder-takes r s k b (holding.Mod i) j f h e))),
+      subst (λ x. IsMade u s k (Act x)) is made,
+    ),
     free,
   ),
   follows-hold r s k b i f e,
   refl,
 )
-stays-mod u S T leads r s there f k lt b seen i e is (Some n) free = search (rules, follows-again)
+stays-mod u S T leads r s there f k lt b made i e is (Some n) free = search (rules, follows-again)
 
 -- a press that takes a lock leads from a set to the next
 stays-lock : (u : Under) (S T : State → Type 0) → LeadsOn u S T → (r : List ResolvedEvent) (s : State) → S s
-    → Follows r s → (k : ℕ) → k < 128 → (b : Action) → look_in u s k ≡ Act b → (l : Lock)
+    → Follows r s → (k : ℕ) → k < 128 → (b : Action) → IsMade u s k (Act b) → (l : Lock)
     → taken_over (remembered k r) b ≡ act.Lock l → b ≡ act.Lock l → (d : Bool) → held (holding.Lock l) r ≡ d
     → Stays T s.is_second (PressedAction k b ∷ r)
-stays-lock u S T leads r s there f k lt b seen l e is true d = search (rules, follows-down)
-stays-lock u S T leads r s there f k lt b seen l e is false d = (
-  with_lock_turned s l,
-  leads.turn s k l there
-      (lt, (λ j h. some_mod_lock j l (holder-takes r s k b (holding.Lock l) j f h e)), seen ∙ ap (λ x. Act x) is),
-  follows-turn r s k b l f e d,
-  refl,
-)
+stays-lock u S T leads r s there f k lt b made l e is true d =
+    (s, leads.stay s there, follows-down r s k b l f e (λ j other t. is_down l j r true d t), refl)
+stays-lock u S T leads r s there f k lt b made l e is false d =
+    elim (scroll_or_other l) [
+      | inl scroll ↦ (
+        s,
+        leads.stay s there,
+        follows-down r s k b l f e (λ j other t. absurd (other (sym (same_locks l j t) ∙ scroll))),
+        refl,
+      )
+      | inr other ↦ (
+        with_lock_turned s l,
+        leads.turn s k l there (
+          (
+            lt,
+            (λ j h. some_mod_lock j l (holder-takes r s k b (holding.Lock l) j f h e)),
+            subst (λ x. IsMade u s k (Act x)) is made,
+          ),
+          other,
+        ),
+        follows-turn r s k b l f e d,
+        refl,
+      )
+    ]
 
 -- a press that takes a holding action looked it up
 looked_up : (r : List ResolvedEvent) (k : ℕ) (b : Action) (a : Holding)
     → taken_over (remembered k r) b ≡ holding_action a → b ≡ holding_action a
 looked_up r k b a e = (taken-over (remembered k r) b a e).0
 
--- a press leads from a set to the next
+-- a press that is allowed leads from a set to the next
 pub stays-press : (u : Under) (S T : State → Type 0) → LeadsOn u S T → (r : List ResolvedEvent) (s : State) → S s
-    → Follows r s → (k : ℕ) → k < 128 → KeepsHeld u s k → (x : Cell) → look_in u s k ≡ x
+    → Follows r s → (k : ℕ) → k < 128 → KeepsHeld u s k → (x : Cell) → IsMade u s k x
     → Stays T s.is_second (resolve_press k x ∷ r)
-stays-press u S T leads r s there f k lt keeps (Char c) seen =
-    (s, leads.stay s there, follows-character r s k c f (λ i h. keeps i (h, (c, seen))), refl)
-stays-press u S T leads r s there f k lt keeps (Act b) seen =
+stays-press u S T leads r s there f k lt keeps (Char c) made =
+    (s, leads.stay s there, follows-character r s k c f (λ i h. keeps i (h, (c, made))), refl)
+stays-press u S T leads r s there f k lt keeps (Act b) made =
     elim (kind_of (taken_over (remembered k r) b)) [
       | inl p ↦
-          stays-mod u S T leads r s there f k lt b seen p.0 p.1 (looked_up r k b (holding.Mod p.0) p.1) (s.holder p.0)
+          stays-mod u S T leads r s there f k lt b made p.0 p.1 (looked_up r k b (holding.Mod p.0) p.1) (s.holder p.0)
           refl
       | inr (inl p) ↦
-          stays-lock u S T leads r s there f k lt b seen p.0 p.1 (looked_up r k b (holding.Lock p.0) p.1)
+          stays-lock u S T leads r s there f k lt b made p.0 p.1 (looked_up r k b (holding.Lock p.0) p.1)
           (held (holding.Lock p.0) r) refl
       | inr (inr none) ↦ (s, leads.stay s there, follows-nothing r s k b f none, refl)
     ]
@@ -156,15 +177,15 @@ stays-reset S keeps r s there f = (
   emptied-kept S keeps s there,
   record {
     on = λ i. held-reset (holding.Mod i) r ∙ ap (λ o. is_some o) (sym (emptied-none s i));
-    locked = λ l. locked-reset l r ∙ f.locked l;
+    locked = λ l other. locked-reset l r ∙ f.locked l other;
     holds = λ i k h. absurd (none-some k (sym (emptied-none s i) ∙ h));
   },
   refl,
 )
 
 -- a load, where nothing is held
-pub follows-load : (m : MapValue) (r : List ResolvedEvent) (s : State) → ((l : Lock) → locked l r ≡ s.is_locked l)
-    → IsFree s → Follows (WasLoaded m ∷ r) (exchanged m s)
+pub follows-load : (m : MapValue) (r : List ResolvedEvent) (s : State)
+    → ((l : Lock) → l ≢ Scroll → locked l r ≡ s.is_locked l) → IsFree s → Follows (WasLoaded m ∷ r) (exchanged m s)
 follows-load m r s locks free = search (rules, held-load, locked-load, none-some)
 
 -- exchanging the maps, where nothing is held, doesn't leave the set

@@ -6,7 +6,10 @@ use Rattle.console_states.proofs.Common.{taken_over, is_this_action, resolve_pre
 use Rattle.console_states.proofs.Common.{ReleasedKey, resolved, Under, State, IsIdle, look_in, Exact, Stands}
 use Rattle.console_states.proofs.Common.{unless_nop, held-action, held-character, held-release, remembered-action}
 use Rattle.console_states.proofs.Common.{remembered-character, resolved-more}
-use Rattle.console_states.proofs.Standing.{tap-only, idle-none, other-remembered, pressed-look, tapped-pressed}
+use Rattle.console_states.proofs.Common.{◌≢◌, Lock, Scroll, with_lock_turned}
+use Rattle.console_states.proofs.SameStates.{each-lock}
+use Rattle.console_states.proofs.Standing.{exact-turn, tap-only, idle-none, other-remembered, pressed-look}
+use Rattle.console_states.proofs.Standing.{tapped-pressed}
 use Rattle.console_states.proofs.Following.{follows-character, follows-nothing, follows-release, not_holding}
 use Rattle.keymap_core.specs.declared.action.Action.TheVariants as act
 use Rattle.keymap_core.specs.declared.action.Holding.TheVariants as holding
@@ -54,6 +57,31 @@ pub stands-tapped : (u : Under) (h : List Event) (s : State) (k : ℕ) (c : Cell
     → Stands u (Release k ∷ Press k ∷ h) s
 stands-tapped u h s k c lt st seen exact =
     search (rules, resolved-more, pressed-look, tapped-pressed, All-cons)
+
+-- so does a tap of a key that looks up the scroll lock, of which no state tells
+exact-scroll : (r : List ResolvedEvent) (s : State) (k : ℕ) → Exact r s → IsIdle s k
+    → Exact (ReleasedKey k ∷ (PressedAction k (act.Lock Scroll) ∷ r)) s
+exact-scroll r s k x idle =
+    let y = exact-turn r s k Scroll x idle in
+    record {
+      follows = record {
+        on = y.follows.on;
+        locked = λ l other. y.follows.locked l other ∙ still l other;
+        holds = y.follows.holds;
+      };
+      only = y.only;
+      up = y.up;
+    }
+  where
+    still : (l : Lock) → l ≢ Scroll → (with_lock_turned s Scroll).is_locked l ≡ s.is_locked l
+    still l =
+        each-lock (λ j. j ≢ Scroll → (with_lock_turned s Scroll).is_locked j ≡ s.is_locked j) (λ e. refl) (λ e. refl)
+        (λ e. absurd (e refl)) (λ e. refl) l
+
+pub scroll-tapped : (u : Under) (h : List Event) (s : State) (k : ℕ) → k < key_count → Stands u h s → IsIdle s k
+    → look_in u s k ≡ Act (act.Lock Scroll) → Stands u (Release k ∷ Press k ∷ h) s
+scroll-tapped u h s k lt st idle seen =
+    stands-tapped u h s k (Act (act.Lock Scroll)) lt st seen (exact-scroll (resolved u.maps h) s k st.exact idle)
 
 -- after a tap of a dead key the console stands as before
 pub dead-tapped : (u : Under) (h : List Event) (s : State) (j k : ℕ) → k < key_count → Stands u h s → IsIdle s k

@@ -1,3 +1,5 @@
+pub mod Allowed
+pub mod AllowedSights
 pub mod Inner
 pub mod Looks
 pub mod Moves

@@ -1,11 +1,14 @@
 -- What the search for sticking modifiers goes over: the states, and the moves between them. It mirrors
 -- src/held/moves.rt, and stands outside of Inner since the answer `Undecided` is said by states and paths.
-use Rattle.std.specs.Prelude.{◌≡◌, ℕ, ◌+◌, ◌<◌, Bool, false, true, ◌&&◌, not, List, [], ◌∷◌, ◌++◌, Option, None, Some}
+use Rattle.std.specs.Prelude.{◌≡◌, ◌≢◌, ℕ, ◌+◌, ◌<◌, Bool, false, true, ◌||◌, ◌&&◌, not, List, [], ◌∷◌, ◌++◌, Option}
+use Rattle.std.specs.Prelude.{None, Some}
 use Rattle.std.specs.Prelude.{if◌then◌else◌, slice_index_or}
 use Rattle.std.specs.Option.{is_some}
 use Prim.Native.Nat.{suc, zero}
 use Rattle.console_states.specs.Types.{Modifier, Lock, Cell, Char, Act, Event, Press, Release, Load, Move, Hold, Turn}
-use Rattle.console_states.specs.Types.{LetGo, Exchange, Action, Caps, Num, Scroll, Alt}
+use Rattle.console_states.specs.Types.{LetGo, Exchange, Action, Caps, Num, Scroll, Selection, LeftShift, RightShift}
+use Rattle.console_states.specs.Types.{LeftControl, RightControl, LeftAlt, RightAlt}
+use Rattle.console_states.specs.Allowed.{Allows, all_allowed}
 use Rattle.keymap_core.specs.declared.action.Action.TheVariants as act
 use Rattle.keymap_core.specs.declared.action.Holding.TheVariants as holding
 use Rattle.keymap_core.specs.Actions.{same_modifier, same_lock, modifiers, modifier_index, lock_index}
@@ -13,21 +16,26 @@ use Rattle.keymap_core.specs.Borne.{is_borne}
 use Rattle.keymap_core.specs.Maps.{MapValue}
 use Rattle.keymap_core.specs.Numbers.{key_count}
 use Rattle.console_states.specs.declared.held.Held.{Held}
-use Rattle.console_core.specs.Columns.{look_with}
+use Rattle.console_core.specs.Columns.{look_with, is_upper}
 use Rattle.console_core.specs.History.{Maps, between}
 
--- What a search goes under: two maps, and whether loads exchange them.
+-- What a search goes under: two maps, whether loads exchange them, and which presses are allowed.
 pub record Under : Type 0 where
   pub maps : Maps
   pub has_loads : Bool
+  pub allows : Allows
 
--- a map alone, without loads
+-- a map alone, without loads, by presses that are allowed
+abbrev pub alone_by : Allows → MapValue → Under
+alone_by allows m = record { maps = between m m; has_loads = false; allows = allows }
+
+-- a map alone, without loads, by all presses
 abbrev pub alone : MapValue → Under
-alone m = record { maps = between m m; has_loads = false }
+alone m = alone_by all_allowed m
 
--- two maps that loads exchange
+-- two maps that loads exchange, by all presses
 abbrev pub with_loads : Maps → Under
-with_loads ms = record { maps = ms; has_loads = true }
+with_loads ms = record { maps = ms; has_loads = true; allows = all_allowed }
 
 -- A state: for each modifier the key that holds it on, if one does, which locks are on, and whether the second map is
 -- in force.
@@ -99,11 +107,34 @@ exchanged m s = record s {
 abbrev pub IsFree : State → Type 0
 IsFree s = (i : Modifier) → s.holder i ≡ None
 
+-- what picks the cell, by which modifiers and locks are on
+abbrev pub selection_with : (Modifier → Bool) → (Lock → Bool) → Selection
+selection_with is_on is_locked = record {
+  upper = is_upper is_on is_locked;
+  shift = is_on LeftShift || is_on RightShift;
+  control = is_on LeftControl || is_on RightControl;
+  alt = is_on LeftAlt || is_on RightAlt;
+  caps = is_locked Caps;
+  num = is_locked Num;
+}
+
+abbrev pub selection_of : State → Selection
+selection_of s = selection_with (λ i. is_held s i) (λ l. s.is_locked l)
+
+-- a press of the key looks up the cell, and is allowed
+abbrev pub IsMade : Under → State → ℕ → Cell → Type 0
+IsMade u s k x = (look_in u s k ≡ x) × (u.allows (selection_of s) k x ≡ true)
+
+-- the key holds nothing, and a press of it looks up the cell and is allowed
+abbrev pub Takes : Under → State → ℕ → Cell → Type 0
+Takes u s k x = (k < key_count) × IsIdle s k × IsMade u s k x
+
 -- The moves from a state. A key that holds nothing becomes the holder of the modifier that it looks up, if that has
--- none, or turns the lock that it looks up. A holder lets go. Where nothing is held, the maps are exchanged.
+-- none, or turns the lock that it looks up. A holder lets go. Where nothing is held, the maps are exchanged. The scroll
+-- lock picks no cell, and no move turns it: so it is off wherever moves lead from where it is.
 abbrev pub IsMove : Under → State → Move → Type 0
-IsMove u s (Hold k i) = (k < key_count) × IsIdle s k × (look_in u s k ≡ Act (act.Mod i)) × (s.holder i ≡ None)
-IsMove u s (Turn k l) = (k < key_count) × IsIdle s k × (look_in u s k ≡ Act (act.Lock l))
+IsMove u s (Hold k i) = Takes u s k (Act (act.Mod i)) × (s.holder i ≡ None)
+IsMove u s (Turn k l) = Takes u s k (Act (act.Lock l)) × (l ≢ Scroll)
 IsMove u s (LetGo k i) = Holds s k i
 IsMove u s Exchange = IsFree s × (u.has_loads ≡ true)
 
@@ -113,24 +144,19 @@ moved u s (Turn k l) = with_lock_turned s l
 moved u s (LetGo k i) = with_holder s i None
 moved u s Exchange = exchanged (next_map u s) s
 
--- the key holds the modifier and looks up a character, so a press of it forgets that it holds
+-- the key holds the modifier and looks up a character, so a press of it, which is allowed, forgets that it holds
 abbrev pub HolderForgets : Under → State → Modifier → ℕ → Type 0
-HolderForgets u s i k = Holds s k i × ((c : ℕ) × (look_in u s k ≡ Char c))
+HolderForgets u s i k = Holds s k i × ((c : ℕ) × IsMade u s k (Char c))
 
 abbrev pub IsForgetful : Under → State → Type 0
 IsForgetful u s = (i : Modifier) × (k : ℕ) × HolderForgets u s i k
 
--- A press of the key and its release keep the state, but for the scroll lock: the key holds nothing, and looks up no
--- modifier that is held and no lock but that one.
+-- A press of the key and its release keep the state: the key holds nothing, and looks up no modifier that is held and
+-- no lock but the scroll lock.
 abbrev pub IsSteady : Under → State → ℕ → Type 0
 IsSteady u s k =
     (k < key_count) × IsIdle s k × ((i : Modifier) → look_in u s k ≡ Act (act.Mod i) → s.holder i ≡ None)
     × ((l : Lock) → look_in u s k ≡ Act (act.Lock l) → l ≡ Scroll)
-
--- the same locks are on but for the scroll lock, which picks no cell
-abbrev pub HaveSameLocks : State → State → Type 0
-HaveSameLocks s t =
-    (s.is_locked Caps ≡ t.is_locked Caps) × (s.is_locked Num ≡ t.is_locked Num) × (s.is_locked Alt ≡ t.is_locked Alt)
 
 -- the key holds a modifier, and looks up an action: a press of it keeps the state
 abbrev pub IsRepeated : Under → State → ℕ → Type 0

@@ -1,6 +1,6 @@
 -- What the search keeps: the states that it has met, in their order, each with how it was come to, and which of them
 -- are done. Mirrors `Held` and `Keymaps` of src/held.rt and the functions of src/search.rt.
-use Rattle.std.specs.Prelude.{◌≡◌, ◌≢◌, ℕ, ◌+◌, ◌<◌, ◌≤◌, ◌⊎◌, false, length, List, [], ◌∷◌, ◌++◌, All, Option, None}
+use Rattle.std.specs.Prelude.{◌≡◌, ◌≢◌, ℕ, ◌+◌, ◌<◌, ◌≤◌, ◌⊎◌, length, List, [], ◌∷◌, ◌++◌, All, Option, None}
 use Rattle.std.specs.Prelude.{Some, slice_get}
 use Rattle.std.specs.List.{Contains}
 use Rattle.keymap_core.specs.declared.action.Modifier.{Modifier}
@@ -13,21 +13,26 @@ use Rattle.console_core.specs.declared.event.Event.{Event}
 use Rattle.console_states.specs.declared.held.Held.{Held}
 use Rattle.console_states.specs.declared.held.Keymaps.{Keymaps}
 use Rattle.console_states.specs.declared.held.Move.{Move}
-use Rattle.console_states.specs.declared.held.Move.TheVariants.{Hold, Turn, LetGo, Exchange}
 use Rattle.console_states.specs.declared.held.Step.{Step}
 use Rattle.console_states.specs.declared.search.Origin.{Origin}
 use Rattle.console_states.specs.declared.search.End.{End}
 use Rattle.console_states.specs.declared.search.End.TheVariants as end
 use Rattle.console_core.specs.History.{between}
-use Rattle.console_states.specs.Moves.{Under, alone, State, start, look_in, IsIdle, HolderForgets, IsForgetful, IsMove}
+use Rattle.console_states.specs.Moves.{Under, alone, State, start, look_in, IsMade, IsIdle, HolderForgets}
+use Rattle.console_states.specs.Moves.{IsForgetful, IsMove}
 use Rattle.console_states.specs.Moves.{moved, presses_of, presses_along, state_from, IsPathFrom}
 use Rattle.console_states.specs.Moves.{state_after, script_of_path, with_holder, with_lock_turned}
 pub use Rattle.console_states.specs.Moves.{state_of}
 use Rattle.console_states.specs.Sticking.{state_limit}
+use Rattle.console_states.specs.Allowed.{allowed_by}
 
 -- what a search of the keymaps goes under
 abbrev pub under_of : Keymaps → Under
-under_of x = record { maps = between x.first.now x.second.now; has_loads = x.has_loads }
+under_of x = record {
+  maps = between x.first.now x.second.now;
+  has_loads = x.has_loads;
+  allows = allowed_by x.presses;
+}
 
 -- a state that was met, and how it was come to
 abbrev pub Entry : Type 0
@@ -36,16 +41,9 @@ Entry = Held × Origin
 abbrev pub Entries : Type 0
 Entries = List Entry
 
--- the move leaves the scroll lock, which picks no cell, as it is
-abbrev pub LeavesScroll : Move → Type 0
-LeavesScroll (Hold k i) = Unit {0}
-LeavesScroll (Turn k l) = l ≢ Scroll
-LeavesScroll (LetGo k i) = Unit {0}
-LeavesScroll Exchange = Unit {0}
-
 -- the step is a move from the state, by so many presses
 abbrev pub IsStep : Under → State → ℕ → Step → Type 0
-IsStep u s n x = IsMove u s x.by × (state_of x.to ≡ moved u s x.by) × (presses_of x.by ≡ n) × LeavesScroll x.by
+IsStep u s n x = IsMove u s x.by × (state_of x.to ≡ moved u s x.by) × (presses_of x.by ≡ n)
 
 -- the state was met by at most p presses
 abbrev pub IsMetBy : Entries → ℕ → State → Type 0
@@ -55,17 +53,17 @@ IsMetBy es p s = (j : ℕ) × (x : Entry) × (slice_get es j ≡ Some x) × (sta
 abbrev pub StepsTo : Option Step → State → Type 0
 StepsTo step s = (x : Step) × (step ≡ Some x) × (state_of x.to ≡ s)
 
--- where the moves of one press of the key lead, but for turns of the scroll lock, has the property
+-- where the moves of one press of the key lead has the property
 abbrev pub PressesLead : Under → State → ℕ → (State → Type 0) → Type 0
 PressesLead u s k P =
     IsIdle s k
-    → ((i : Modifier) → look_in u s k ≡ Act (act.Mod i) → s.holder i ≡ None → P (with_holder s i (Some k)))
-    × ((l : Lock) → l ≢ Scroll → look_in u s k ≡ Act (act.Lock l) → P (with_lock_turned s l))
+    → ((i : Modifier) → IsMade u s k (Act (act.Mod i)) → s.holder i ≡ None → P (with_holder s i (Some k)))
+    × ((l : Lock) → l ≢ Scroll → IsMade u s k (Act (act.Lock l)) → P (with_lock_turned s l))
 
--- Where moves of n presses lead was met, by at most p presses. Turns of the scroll lock are left out.
+-- where moves of n presses lead was met, by at most p presses
 abbrev pub AreMet : Under → Entries → ℕ → ℕ → State → Type 0
 AreMet u es n p s =
-    (move : Move) → IsMove u s move → LeavesScroll move → presses_of move ≡ n → IsMetBy es p (moved u s move)
+    (move : Move) → IsMove u s move → presses_of move ≡ n → IsMetBy es p (moved u s move)
 
 -- A press that looks up the cell is no move: it is no modifier, and no lock but the scroll lock.
 abbrev pub IsUnmoving : Cell → Type 0
@@ -87,7 +85,7 @@ AreWithin es p = (j : ℕ) (x : Entry) → slice_get es j ≡ Some x → x.1.pre
 abbrev pub IsFrom : Under → State → ℕ → ℕ → ℕ → Entry → Type 0
 IsFrom u s place n p x =
     (by : Move) × (x.1.presses ≡ p) × (x.1.last ≡ Some (place, by))
-    × IsMove u s by × (state_of x.0 ≡ moved u s by) × (presses_of by ≡ n) × LeavesScroll by
+    × IsMove u s by × (state_of x.0 ≡ moved u s by) × (presses_of by ≡ n)
 
 -- what was added are entries of moves from the state at the place
 abbrev pub AreAdded : Under → State → ℕ → ℕ → ℕ → Entries → Entries → Type 0
@@ -100,11 +98,11 @@ IsTrail es j (move ∷ path) =
     (x : Entry) × (parent : ℕ) × (slice_get es j ≡ Some x) × (x.1.last ≡ Some (parent, move)) × (parent < j)
     × IsTrail es parent path
 
--- a path from the origin leads to the entry, by as many presses as are told, and the scroll lock is off there
+-- a path from the origin leads to the entry, by as many presses as are told
 abbrev pub IsReached : Under → State → Entries → ℕ → Entry → Type 0
 IsReached u o es j x =
     (path : List Move) × IsTrail es j path × IsPathFrom u o path × (state_from u o path ≡ state_of x.0)
-    × (presses_along path ≡ x.1.presses) × ((state_of x.0).is_locked Scroll ≡ false)
+    × (presses_along path ≡ x.1.presses)
 
 -- where moves without a press lead was met by as many presses
 abbrev pub IsClosed : Under → Entries → Entry → Type 0
@@ -117,7 +115,7 @@ IsPressed u es x = AreMet u es 1 (x.1.presses + 1) (state_of x.0)
 -- where moves lead from what was met, by fewer than n presses in all, was met by as many
 abbrev pub AreDone : Under → Entries → ℕ → Type 0
 AreDone u es n =
-    (j : ℕ) (x : Entry) → slice_get es j ≡ Some x → (move : Move) → IsMove u (state_of x.0) move → LeavesScroll move
+    (j : ℕ) (x : Entry) → slice_get es j ≡ Some x → (move : Move) → IsMove u (state_of x.0) move
     → x.1.presses + presses_of move < n
     → IsMetBy es (x.1.presses + presses_of move) (moved u (state_of x.0) move)
 

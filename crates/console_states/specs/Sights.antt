@@ -1,34 +1,24 @@
 -- What presses of keys see: which cells they look up, under which locks, and with which accents pending; and what can
 -- be seen at all.
-use Rattle.std.specs.Prelude.{◌≡◌, ◌≢◌, ◌==◌, ℕ, ◌<◌, Bool, true, false, ◌||◌, ◌&&◌, not, List, ◌∷◌, ◌++◌, All, map}
+use Rattle.std.specs.Prelude.{◌≡◌, ◌≢◌, ◌==◌, ℕ, ◌<◌, Bool, true, false, ◌&&◌, not, List, ◌∷◌, ◌++◌, All, map}
 use Rattle.std.specs.Prelude.{Some}
 use Rattle.std.specs.List.{AllPairs, Contains, list_any, range_with_len}
-use Rattle.console_states.specs.Types.{Modifier, LeftShift, RightShift, LeftControl, RightControl, LeftAlt, RightAlt}
-use Rattle.console_states.specs.Types.{Lock, Caps, Num, Cell, Char, Act, Event, Press, Move, Selection, Sight, Offer}
+use Rattle.console_states.specs.Types.{Modifier}
+use Rattle.console_states.specs.Types.{Cell, Char, Act, Event, Press, Move, Selection, Sight, Offer}
 use Rattle.console_states.specs.Types.{Sights}
 use Rattle.keymap_core.specs.declared.action.Action.TheVariants as act
 use Rattle.keymap_core.specs.Maps.{MapValue, entry_at, cell_at}
 use Rattle.keymap_core.specs.Numbers.{key_count}
 use Rattle.console_states.specs.declared.selection.Sight.TheVariants as sight
 use Rattle.console_core.specs.Answers.{usable}
-use Rattle.console_core.specs.Columns.{exactly_one, flips_shift, slot_of, column_of, is_upper}
+use Rattle.console_core.specs.Columns.{exactly_one, flips_shift, slot_of, column_of}
 use Rattle.console_core.specs.Resolved.{remembered}
-use Rattle.console_core.specs.History.{Maps, between, resolved, is_on_after, is_locked_after, accent_pending_after}
+use Rattle.console_core.specs.History.{Maps, between, resolved, accent_pending_after}
 use Rattle.console_core.specs.History.{HasKeys, HasNoLoads}
 use Rattle.console_core.specs.Reading.{look_after}
-use Rattle.console_states.specs.Moves.{Under, alone, State, is_held, IsIdle, look_in, IsForgetful, IsPath, state_after}
-use Rattle.console_states.specs.Sticking.{NeverForgets, IsPressOrRelease, ReleasesPressedKeys}
-
--- what picks the cell, by which modifiers and locks are on
-abbrev pub selection_with : (Modifier → Bool) → (Lock → Bool) → Selection
-selection_with is_on is_locked = record {
-  upper = is_upper is_on is_locked;
-  shift = is_on LeftShift || is_on RightShift;
-  control = is_on LeftControl || is_on RightControl;
-  alt = is_on LeftAlt || is_on RightAlt;
-  caps = is_locked Caps;
-  num = is_locked Num;
-}
+use Rattle.console_states.specs.Moves.{Under, alone, State, IsIdle, IsMade, IsForgetful, IsPath, state_after}
+use Rattle.console_states.specs.Sticking.{NeverForgets, IsPressOrRelease, ReleasesPressedKeys, selection_behind}
+pub use Rattle.console_states.specs.Moves.{selection_with, selection_of}
 
 -- the slot, the column and the cell that a key looks up
 abbrev pub slot_in : Selection → ℕ → ℕ
@@ -49,8 +39,7 @@ SeesBy m y k (sight.Pair accent c) = look_selected m y k ≡ Char c
 
 -- the selection after a list of events
 abbrev pub selection_after : MapValue → List Event → Selection
-selection_after m h =
-    selection_with (λ i. is_on_after (between m m) i h) (λ l. is_locked_after (between m m) l h)
+selection_after m h = selection_behind (between m m) h
 
 -- the accent of a pair is pending
 abbrev pub IsPendingFor : MapValue → List Event → Sight → Type 0
@@ -83,12 +72,9 @@ IsClean ms h =
 abbrev pub IsAdmitted : MapValue → Bool → List Event → Type 0
 IsAdmitted m forgets h = HasKeys h × HasNoLoads h × (forgets ≡ true → IsClean (between m m) h)
 
-abbrev pub selection_of : State → Selection
-selection_of s = selection_with (λ i. is_held s i) (λ l. s.is_locked l)
-
--- the key holds nothing and looks up the dead key of the accent
+-- the key holds nothing, and a press of it, which is allowed, looks up the dead key of the accent
 abbrev pub Offers : Under → State → ℕ → ℕ → Type 0
-Offers u s k accent = IsIdle s k × (look_in u s k ≡ Act (act.DeadKey accent))
+Offers u s k accent = IsIdle s k × IsMade u s k (Act (act.DeadKey accent))
 
 -- The accent is offered in the state: it is usable, and some key offers it, so that a tap of the key leaves it pending.
 -- A dead key of an accent whose own character is 0 is an error, and drops what is pending.

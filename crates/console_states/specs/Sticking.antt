@@ -1,7 +1,6 @@
 -- Whether a keymap, or two that loads exchange, can leave a modifier on while no key is pressed.
-use Rattle.std.specs.Prelude.{◌≡◌, ℕ, ◌<◌, ◌≤◌, Bool, false, true, List, [], ◌∷◌, All, reverse, filter}
+use Rattle.std.specs.Prelude.{◌≡◌, ℕ, ◌<◌, ◌≤◌, Bool, false, true, List, [], ◌∷◌, ◌++◌, All, reverse, filter}
 use Rattle.keymap_core.specs.declared.action.Modifier.{Modifier}
-use Rattle.keymap_core.specs.declared.action.Lock.TheVariants.{Scroll}
 use Rattle.keymap_core.specs.Actions.{modifiers}
 use Rattle.keymap_core.specs.Maps.{MapValue}
 use Rattle.console_core.specs.declared.event.Event.{Event}
@@ -9,19 +8,38 @@ use Rattle.console_core.specs.declared.event.Event.TheVariants.{Press, Release, 
 use Rattle.console_states.specs.declared.outcome.Sticking.{Sticking}
 use Rattle.console_states.specs.declared.outcome.Sticking.TheVariants.{Sticks, Never, Undecided}
 use Rattle.console_core.specs.Positions.{count_where}
-use Rattle.console_core.specs.History.{Maps, in_force, is_on_after, pressed, HasKeys, HasNoLoads, IsQuiet}
+use Rattle.console_core.specs.Reading.{look_after}
+use Rattle.console_core.specs.History.{Maps, in_force, is_locked_after, is_on_after, pressed, HasKeys, HasNoLoads}
+use Rattle.console_core.specs.History.{IsQuiet}
 use Rattle.console_core.specs.Headline.{IsSafe, IsOnOnlyWhilePressed, IsOffOnceQuiet}
 use Rattle.console_states.specs.declared.held.Move.{Move}
+use Rattle.console_states.specs.declared.selection.Selection.{Selection}
 use Rattle.console_states.specs.Moves.{Under, alone, with_loads, State, start, IsPath, state_after, presses_along}
-use Rattle.console_states.specs.Moves.{IsForgetful, HolderForgets, script_of_path, IsPathFrom, state_from}
+use Rattle.console_states.specs.Moves.{IsForgetful, HolderForgets, script_of_path, IsPathFrom, selection_with}
+use Rattle.console_states.specs.Moves.{state_from}
 
 -- The pairs of maps that a search under u speaks of. Where no loads come, the second map may be any.
 abbrev pub AreUnder : Under → Maps → Type 0
 AreUnder u ms = (ms.first ≡ u.maps.first) × (u.has_loads ≡ true → ms ≡ u.maps)
 
+-- what picks the cells that keys look up after a list of events
+abbrev pub selection_behind : Maps → List Event → Selection
+selection_behind ms h = selection_with (λ i. is_on_after ms i h) (λ l. is_locked_after ms l h)
+
 -- the list has loads only where there are any
+abbrev pub LoadsWhereAny : Under → List Event → Type 0
+LoadsWhereAny u h = u.has_loads ≡ false → HasNoLoads h
+
+-- each press of the list is allowed, by what it looks up
+abbrev pub AreAllowed : Under → List Event → Type 0
+AreAllowed u h =
+    (later before : List Event) (k : ℕ) → h ≡ later ++ Press k ∷ before
+    → u.allows (selection_behind u.maps before) k (look_after u.maps k before) ≡ true
+
+-- The lists that are spoken of: with loads only where there are any, and with presses that are allowed, which are all
+-- unless some are told.
 abbrev pub Admits : Under → List Event → Type 0
-Admits u h = u.has_loads ≡ false → HasNoLoads h
+Admits u h = LoadsWhereAny u h × AreAllowed u h
 
 -- Sticks: no key is pressed after the list, and the modifier is on.
 abbrev pub SticksUnder : Under → List Event → Modifier → Type 0
@@ -70,12 +88,10 @@ NeverSticksUnder u =
     (ms : Maps) (h : List Event) → AreUnder u ms → HasKeys h → Admits u h
     → IsOnOnlyWhilePressed (in_force ms h) h (λ i. is_on_after ms i h) × IsOffOnceQuiet h (λ i. is_on_after ms i h)
 
--- Paths of at most p presses lead from the state to more than n distinct states in which the scroll lock, which picks
--- no cell, is off.
+-- paths of at most p presses lead from the state to more than n distinct states
 abbrev pub ReachesMoreThanFrom : Under → State → ℕ → ℕ → Type 0
 ReachesMoreThanFrom u s n p =
     (states : ℕ → State)
-    × ((j : ℕ) → j ≤ n → (states j).is_locked Scroll ≡ false)
     × ((j : ℕ) → j ≤ n
     → (path : List Move) × IsPathFrom u s path × (presses_along path ≤ p) × (state_from u s path ≡ states j))
     × ((j k : ℕ) → j ≤ n → k ≤ n → states j ≡ states k → j ≡ k)

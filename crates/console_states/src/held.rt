@@ -4,18 +4,20 @@ ghost use Rattle.keymap_core.specs.Numbers.{key_count};
 
 mod moves;
 
+use crate::allowed::Presses;
 use keymap_core::{KeyCode, KeyMap, Lock, Modifier};
 
-/// The keymaps of a search, and whether loads exchange them.
+/// The keymaps of a search, whether loads exchange them, and which presses are allowed: all, where none are told.
 #[derive(Clone, Copy)]
 pub struct Keymaps<'m> {
     pub first: &'m KeyMap,
     pub second: &'m KeyMap,
     pub has_loads: bool,
+    pub presses: Option<&'m Presses>,
 }
 
-/// Which key holds each modifier on, which locks are on, and whether the second keymap is in force. Turns of the scroll
-/// lock, which picks no cell, are left out. A modifier's holder is a byte, so that states are quickly told apart: 0 for
+/// Which key holds each modifier on, which locks are on, and whether the second keymap is in force. The scroll lock,
+/// which picks no cell, is turned by no move, and so it is off. A modifier's holder is a byte, so that states are quickly told apart: 0 for
 /// none, and else one more than the key's code.
 #[derive(Clone, Copy, Debug, PartialEq, Eq)]
 pub struct Held {

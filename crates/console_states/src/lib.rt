@@ -14,6 +14,7 @@
 //! No call takes memory but these, `sights_in`, and those that push events, and none fails but for want of memory.
 #![tactic(auto)]
 
+mod allowed;
 mod few;
 mod held;
 mod key_lists;
@@ -27,11 +28,13 @@ mod selection;
 mod showing;
 mod sights;
 
+pub use allowed::{KeyPresses, Presses};
 pub use held::{Held, Keymaps, Move, Step};
 pub use look::{KeyAt, first_where};
 pub use outcome::Sticking;
 pub use search::{
-    End, Met, Origin, entry, first_stuck, meet_all, state_at, sticking, sticking_between,
+    End, Met, Origin, entry, first_allowed, first_stuck, meet_all, state_at, sticking,
+    sticking_between,
 };
 pub use selection::{Selection, Sight};
 pub use showing::{go_out, push_moves};

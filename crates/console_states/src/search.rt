@@ -1,16 +1,15 @@
 //! The search for sticking modifiers over the states that presses, releases and loads lead to, by the number of
 //! presses.
 ghost use Rattle.std.specs.Prelude.{◌≡◌, ◌+◌, ◌<◌, ◌≤◌, ◌∷◌, ◌++◌, ℕ, List, [], None, Some, length, map, reverse};
-ghost use Rattle.std.specs.Prelude.{slice_get, OnOk, IfOk, IfSome, MatchOption, false};
-ghost use Rattle.std.specs.List.{Contains};
+ghost use Rattle.std.specs.Prelude.{slice_get, OnOk, IfOk, IfSome, MatchOption};
 ghost use Rattle.keymap_core.specs.Numbers.{key_count};
 ghost use Rattle.keymap_core.specs.declared.action.Modifier.{Modifier as ModifierValue};
-ghost use Rattle.keymap_core.specs.declared.action.Lock.TheVariants.{Scroll};
 ghost use Rattle.console_states.specs.declared.held.Held.{Held as HeldValue};
 ghost use Rattle.console_states.specs.Searching.{state_of, under_of, Entry, IsMetBy, AreWithin, Grows, IsBegun};
 ghost use Rattle.console_states.specs.Searching.{IsStep, AreMet, AreAdded, Searched, AreInOrder, HasMovingKeys};
 ghost use Rattle.console_states.specs.Searching.{HasEnded, GoBack, IsScriptTo};
 ghost use Rattle.console_states.specs.Looks.{IsFirstStuck};
+ghost use Rattle.console_states.specs.AllowedSights.{IsFirstAllowed};
 ghost use Rattle.console_core.specs.History.{between};
 ghost use Rattle.console_states.specs.Moves.{Under, State, Holds, start, with_holder};
 ghost use Rattle.console_states.specs.Sticking.{IsAnswer, IsAnswerBetween, IsAnswerUnder, state_limit};
@@ -20,6 +19,7 @@ use crate::key_lists::moving_keys;
 use crate::left_on::left_on;
 use crate::look::{KeyAt, first_where};
 use crate::outcome::Sticking;
+use crate::selection::Sight;
 use crate::showing::go_out;
 use console_core::Event;
 use indexmap::IndexMap;
@@ -286,7 +286,6 @@ fn meet_levels(met: &mut Met, maps: &Keymaps, keys: &[KeyCode]) -> Result<End, A
 
 /// Meets the states that moves lead to from these, level by level, in the order of the fewest presses.
 pub fn meet_all(alloc: Global, maps: &Keymaps, origins: &[Held]) -> Result<(Met, End), AllocError>
-    requires { (o : State) → Contains (map state_of origins.now) o → o.is_locked Scroll ≡ false }
     ensures { IfOk result (λ x. HasEnded (under_of maps.now) (map state_of origins.now) x.0.entries x.1) }
 {
     let keys = moving_keys(alloc, maps)?;
@@ -301,6 +300,15 @@ pub fn first_stuck(met: &Met, maps: &Keymaps) -> Option<KeyAt>
     ensures { IsFirstStuck (under_of maps.now) met.now.entries result }
 {
     first_where(met, |held| held.forgetful(maps))
+}
+
+/// The first place whose state an allowed press sees it in, where a pair's accent is pending. Where none is told of all
+/// states that moves lead to, no list of allowed presses sees it, as `laws` says.
+#[tactic(auto, using(crate::proofs::Looks::look_tells))]
+pub fn first_allowed(met: &Met, maps: &Keymaps, sight: Sight) -> Option<KeyAt>
+    ensures { IsFirstAllowed (under_of maps.now) sight met.now.entries result }
+{
+    first_where(met, |held| held.key_seeing(maps, sight))
 }
 
 /// What the states that a search met tell of whether a modifier can be left on while no key is pressed.
@@ -337,10 +345,10 @@ pub fn sticking(alloc: Global, map: &KeyMap) -> Result<Sticking, AllocError>
 /// Decides whether two keymaps, the first one in force to begin with, can leave a modifier on while no key is pressed,
 /// where each load exchanges the one in force. The bound counts the states of both, so this can be undecided where
 /// `sticking` decides of each of them.
-pub fn sticking_between(
+pub fn sticking_between<'m>(
     alloc: Global,
-    first: &KeyMap,
-    second: &KeyMap,
+    first: &'m KeyMap,
+    second: &'m KeyMap,
 ) -> Result<Sticking, AllocError>
     ensures { IfOk result (λ answer. IsAnswerBetween (between first.now second.now) answer) }
 {
@@ -348,6 +356,7 @@ pub fn sticking_between(
         first,
         second,
         has_loads: true,
+        presses: None,
     };
     decide(alloc, &maps)
 }

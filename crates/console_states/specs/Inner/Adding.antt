@@ -1,14 +1,13 @@
 -- What is added of the states that a search met, or of a few. Mirrors src/sights.rt, src/offers.rt and src/few.rt.
-use Rattle.std.specs.Prelude.{◌≡◌, ◌≢◌, ◌<◌, ◌⊎◌, ℕ, false, true, List, length, [], ◌∷◌, ◌++◌, Some, slice_get, All}
+use Rattle.std.specs.Prelude.{◌≡◌, ◌<◌, ◌⊎◌, ℕ, true, List, length, [], ◌∷◌, ◌++◌, Some, slice_get, All}
 use Rattle.std.specs.List.{Contains}
-use Rattle.keymap_core.specs.declared.action.Lock.{Lock}
-use Rattle.keymap_core.specs.declared.action.Lock.TheVariants.{Scroll}
 use Rattle.keymap_core.specs.Maps.{MapValue}
 use Rattle.keymap_core.specs.Numbers.{key_count}
 use Rattle.console_states.specs.Types.{Move, Selection, Sight, Offer}
 use Rattle.console_states.specs.declared.held.Held.{Held}
 use Rattle.console_core.specs.Answers.{usable}
 use Rattle.console_states.specs.Moves.{Under, State, IsPath, state_after}
+use Rattle.console_states.specs.Returning.{IsUnlocked}
 use Rattle.console_states.specs.Sights.{CanCompose, CanSelect, Offers, IsOfferedIn, IsOfferedAlong, Lists}
 use Rattle.console_states.specs.Sights.{accents_in, selection_of, SeesBy}
 use Rattle.console_states.specs.Searching.{state_of, Entry, Entries, Searched}
@@ -44,10 +43,6 @@ AddsOffers u s n old now =
 abbrev pub AreAccentsOf : Under → Entries → List ℕ → Type 0
 AreAccentsOf u es accents = Lists (λ a. IsInSome es (length es) (λ s. IsOfferedIn u s a)) accents
 
--- no lock is on but the scroll lock
-abbrev pub IsUnlocked : State → Type 0
-IsUnlocked s = (l : Lock) → l ≢ Scroll → s.is_locked l ≡ false
-
 -- no lock is on in the state, and some key offers the accent
 abbrev pub OffersUnlocked : Under → State → ℕ → Type 0
 OffersUnlocked u s accent = IsUnlocked s × ((k : ℕ) × (k < key_count) × Offers u s k accent)
@@ -57,9 +52,9 @@ abbrev pub IsOfferedUnlocked : Under → Entries → ℕ → Type 0
 IsOfferedUnlocked u es accent =
     (j : ℕ) × (x : Entry) × (slice_get es j ≡ Some x) × OffersUnlocked u (state_of x.0) accent
 
--- a path of moves leads to the state, and the scroll lock is off there
+-- a path of moves leads to the state
 abbrev pub IsLedTo : Under → State → Type 0
-IsLedTo u s = (path : List Move) × IsPath u path × (state_after u path ≡ s) × (s.is_locked Scroll ≡ false)
+IsLedTo u s = (path : List Move) × IsPath u path × (state_after u path ≡ s)
 
 abbrev pub AreLedTo : Under → List Held → Type 0
 AreLedTo u states = All (λ h. IsLedTo u (state_of h)) states

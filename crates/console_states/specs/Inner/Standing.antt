@@ -1,20 +1,21 @@
 -- How a console stands in a state of the search.
-use Rattle.std.specs.Prelude.{◌≡◌, ℕ, ◌<◌, true, false, List, Some}
+use Rattle.std.specs.Prelude.{◌≡◌, ◌≢◌, ℕ, ◌<◌, true, false, List, Some}
 use Rattle.keymap_core.specs.declared.action.Action.{Action}
 use Rattle.keymap_core.specs.declared.action.Action.TheVariants as act
 use Rattle.keymap_core.specs.declared.action.Lock.{Lock}
+use Rattle.keymap_core.specs.declared.action.Lock.TheVariants.{Scroll}
 use Rattle.keymap_core.specs.declared.action.Modifier.{Modifier}
 use Rattle.keymap_core.specs.declared.action.Holding.TheVariants as holding
-use Rattle.keymap_core.specs.Maps.{MapValue}
 use Rattle.console_core.specs.declared.event.Event.{Event}
 use Rattle.console_core.specs.Resolved.{ResolvedEvent, held, locked, on, remembered}
-use Rattle.console_core.specs.History.{between, resolved, is_second_in_force, is_locked_after, pressed, HasKeys}
-use Rattle.console_states.specs.Moves.{Under, State, free_with, is_held, Holds}
+use Rattle.console_core.specs.History.{resolved, is_second_in_force, pressed, HasKeys}
+use Rattle.console_states.specs.Moves.{Under, State, is_held, Holds}
 
--- The state is that of the console: the same modifiers and locks are on, and each holder remembers its modifier.
+-- The state is that of the console: the same modifiers are on and the same locks, but for the scroll lock, and each
+-- holder remembers its modifier.
 pub record Follows (r : List ResolvedEvent) (s : State) : Type 0 where
   pub on : (i : Modifier) → on i r ≡ is_held s i
-  pub locked : (l : Lock) → locked l r ≡ s.is_locked l
+  pub locked : (l : Lock) → l ≢ Scroll → locked l r ≡ s.is_locked l
   pub holds : (i : Modifier) (k : ℕ) → Holds s k i → remembered k r ≡ Some (act.Mod i)
 
 -- the key holds some modifier
@@ -34,7 +35,3 @@ pub record Stands (u : Under) (h : List Event) (s : State) : Type 0 where
   pub key : (i : Modifier) (k : ℕ) → Holds s k i → k < 128
   pub pressed : (k : ℕ) → pressed k h ≡ true → HoldsSome s k
   pub keys : HasKeys h
-
--- the free state with the locks that are on after a list
-abbrev pub free_after : MapValue → List Event → State
-free_after m h = free_with (λ l. is_locked_after (between m m) l h)

@@ -11,19 +11,20 @@ ghost use Rattle.keymap_core.specs.declared.action.Lock.{Lock as LockValue};
 ghost use Rattle.keymap_core.specs.declared.action.Action.TheVariants.{DeadKey, Lock as LockAction};
 ghost use Rattle.keymap_core.specs.declared.entry.Cell.TheVariants.{Act};
 ghost use Rattle.console_states.specs.Moves.{Under, alone, start as start_state, is_held as is_held_in};
-ghost use Rattle.console_states.specs.Moves.{look_in, IsIdle, key_of as key_of_number, number_of as number_of_key};
+ghost use Rattle.console_states.specs.Moves.{look_in, IsIdle, Takes, key_of as key_of_number, number_of as number_of_key};
 ghost use Rattle.console_states.specs.Moves.{map_in, next_map, exchanged as exchanged_in, IsFree, free_with};
 ghost use Rattle.console_states.specs.Moves.{with_holder as with_holder_in, with_lock_turned, HolderForgets};
-ghost use Rattle.console_states.specs.Moves.{HaveSameLocks, IsForgetful, IsRepeated, IsSteady};
+ghost use Rattle.console_states.specs.Moves.{IsForgetful, IsRepeated, IsSteady};
 ghost use Rattle.console_states.specs.Moves.{events_of_move, releases, Holds, IsMove, IsPressOf, moved};
 ghost use Rattle.console_states.specs.declared.held.Move.TheVariants.{Exchange as ExchangeMove};
 ghost use Rattle.console_states.specs.Sights.{selection_of, Offers};
-ghost use Rattle.console_states.specs.Returning.{IsHome, but_scroll, freed};
+ghost use Rattle.console_states.specs.AllowedSights.{SeesAllowed};
+ghost use Rattle.console_states.specs.Returning.{IsHome, IsUnlocked, but_scroll, freed};
 ghost use Rattle.console_states.specs.Searching.{state_of, under_of, StepsTo, PressesLead, IsStep};
 ghost use Rattle.console_states.specs.Inner.HeldBytes.{bytes_of, same-bytes};
 
 use super::{Held, Keymaps, Move, Step};
-use crate::selection::Selection;
+use crate::selection::{Selection, Sight};
 use console_core::{Event, Translator};
 use keymap_core::{
     Action, Cell, Holding, KEY_COUNT, KeyCode, KeyMap, Lock, MODIFIERS, Modifier, key_with,
@@ -41,6 +42,7 @@ impl<'m> Keymaps<'m> {
             first: map,
             second: map,
             has_loads: false,
+            presses: None,
         }
     }
 }
@@ -75,9 +77,8 @@ impl Held {
         }
     }
 
-    /// The state in which no key holds a modifier and the locks of the console are on.
+    /// The state in which no key holds a modifier and the locks of the console are on, but for the scroll lock.
     pub fn free<T: Translator>(console: &T) -> Held
-        ensures off { (state_of result).is_locked Scroll ≡ false }
         ensures first { (state_of result).is_second ≡ false }
         ensures value { state_of result ≡ free_with (but_scroll (T.shows_locked console.now)) }
     {
@@ -186,13 +187,18 @@ impl Held {
         self.is_held(Modifier::Meta)
     }
 
-    /// Whether the same locks are on but for the scroll lock.
+    /// Whether the same locks are on.
     pub fn has_locks_of(&self, other: &Held) -> bool
-        ensures same { result ≡ true → HaveSameLocks (state_of self.now) (state_of other.now) }
-        ensures other { result ≡ false → HaveSameLocks (state_of self.now) (state_of other.now) → ⊥ }
+        ensures same { result ≡ true → (l : LockValue)
+            → (state_of self.now).is_locked l ≡ (state_of other.now).is_locked l }
+        ensures other { result ≡ false → (state_of self.now).is_locked Caps ≡ (state_of other.now).is_locked Caps
+            → (state_of self.now).is_locked Num ≡ (state_of other.now).is_locked Num
+            → (state_of self.now).is_locked Scroll ≡ (state_of other.now).is_locked Scroll
+            → (state_of self.now).is_locked Alt ≡ (state_of other.now).is_locked Alt → ⊥ }
     {
         self.is_locked(Lock::Caps) == other.is_locked(Lock::Caps)
             && self.is_locked(Lock::Num) == other.is_locked(Lock::Num)
+            && self.is_locked(Lock::Scroll) == other.is_locked(Lock::Scroll)
             && self.is_locked(Lock::Alt) == other.is_locked(Lock::Alt)
     }
 
@@ -217,6 +223,17 @@ impl Held {
         ensures value { result ≡ look_in (under_of maps.now) (state_of self.now) key }
     {
         self.selection().look(self.in_force(maps), key)
+    }
+
+    /// Whether a press of the key is allowed that looks up the cell.
+    #[inline(always)]
+    fn allows(&self, maps: &Keymaps, key: KeyCode, cell: Cell) -> bool
+        ensures { result ≡ (under_of maps.now).allows (selection_of (state_of self.now)) key cell }
+    {
+        match maps.presses {
+            Some(presses) => presses.has(self.selection(), key, cell),
+            None => true,
+        }
     }
 
     /// Whether the key holds a modifier.
@@ -257,17 +274,20 @@ impl Held {
         true
     }
 
-    /// Whether any lock is on but the scroll lock.
+    /// Whether any lock is on.
     pub fn is_any_locked(&self) -> bool
-        ensures unlocked { result ≡ false → ((state_of self.now).is_locked Caps ≡ false)
-            × ((state_of self.now).is_locked Num ≡ false) × ((state_of self.now).is_locked Alt ≡ false) }
+        ensures unlocked { result ≡ false → IsUnlocked (state_of self.now) }
         ensures locked { result ≡ true → (state_of self.now).is_locked Caps ≡ false
-            → (state_of self.now).is_locked Num ≡ false → (state_of self.now).is_locked Alt ≡ false → ⊥ }
+            → (state_of self.now).is_locked Num ≡ false → (state_of self.now).is_locked Scroll ≡ false
+            → (state_of self.now).is_locked Alt ≡ false → ⊥ }
     {
-        self.is_locked(Lock::Caps) || self.is_locked(Lock::Num) || self.is_locked(Lock::Alt)
+        self.is_locked(Lock::Caps)
+            || self.is_locked(Lock::Num)
+            || self.is_locked(Lock::Scroll)
+            || self.is_locked(Lock::Alt)
     }
 
-    /// Whether no key holds a modifier and no lock is on but the scroll lock.
+    /// Whether no key holds a modifier and no lock is on.
     pub fn is_home(&self) -> bool
         ensures home { result ≡ true → IsHome (state_of self.now) }
         ensures away { result ≡ false → IsHome (state_of self.now) → ⊥ }
@@ -275,21 +295,25 @@ impl Held {
         self.is_free() && !self.is_any_locked()
     }
 
-    /// The holder of the modifier, if it looks up a character.
+    /// The holder of the modifier, if it looks up a character and a press of it is allowed.
     fn forgets(&self, maps: &Keymaps, modifier: Modifier) -> Option<KeyCode>
         ensures { MatchOption result ((k : ℕ) → HolderForgets (under_of maps.now) (state_of self.now) modifier k
             → ⊥) (λ k. HolderForgets (under_of maps.now) (state_of self.now) modifier k) }
     {
         match self.holder(modifier) {
             Some(key) => match self.look(maps, key) {
-                Cell::Char(_) => Some(key),
+                Cell::Char(c) => if self.allows(maps, key, Cell::Char(c)) {
+                    Some(key)
+                } else {
+                    None
+                },
                 Cell::Act(_) => None,
             },
             None => None,
         }
     }
 
-    /// A key that holds a modifier and looks up a character.
+    /// A key that holds a modifier and looks up a character, so that a press of it, which is allowed, forgets that.
     pub fn forgetful(&self, maps: &Keymaps) -> Option<KeyCode>
         ensures { MatchOption result (IsForgetful (under_of maps.now) (state_of self.now) → ⊥) (λ k. (i : ModifierValue)
             × HolderForgets (under_of maps.now) (state_of self.now) i k) }
@@ -303,21 +327,22 @@ impl Held {
         None
     }
 
-    /// The accent whose dead key a press of the key looks up, where the key holds nothing. Inlined, so that the
-    /// selection is made once for all keys that are asked for in one state.
+    /// The accent whose dead key a press of the key looks up, where the key holds nothing and the press is allowed.
+    /// Inlined, so that the selection is made once for all keys that are asked for in one state.
     #[inline(always)]
     pub fn offered(&self, maps: &Keymaps, key: KeyCode) -> Option<u8>
-        ensures { MatchOption result ((accent : ℕ) → IsIdle (state_of self.now) key
-            → look_in (under_of maps.now) (state_of self.now) key ≡ Act (DeadKey accent) → ⊥)
-            (λ accent. IsIdle (state_of self.now) key
-            × (look_in (under_of maps.now) (state_of self.now) key ≡ Act (DeadKey accent))) }
+        ensures { MatchOption result
+            ((accent : ℕ) → Offers (under_of maps.now) (state_of self.now) key accent → ⊥)
+            (λ accent. Offers (under_of maps.now) (state_of self.now) key accent) }
     {
         match &self.look(maps, key) {
             Cell::Act(Action::DeadKey(accent)) => {
                 if self.is_busy(key) {
                     None
-                } else {
+                } else if self.allows(maps, key, Cell::Act(Action::DeadKey(*accent))) {
                     Some(accent.get())
+                } else {
+                    None
                 }
             }
             _ => None,
@@ -341,15 +366,47 @@ impl Held {
         None
     }
 
-    /// The lock that a press of the key turns, if it turns one.
+    /// Whether a press of the key is allowed and sees it, where a pair's accent is pending. The first keymap is asked.
+    fn is_seen_by(&self, maps: &Keymaps, key: KeyCode, sight: Sight) -> bool
+        ensures seen { result ≡ true → SeesAllowed (under_of maps.now) (state_of self.now) key sight }
+        ensures unseen { result ≡ false → SeesAllowed (under_of maps.now) (state_of self.now) key sight → ⊥ }
+    {
+        let selection = self.selection();
+        selection.sees(maps.first, key, sight)
+            && self.allows(maps, key, selection.look(maps.first, key))
+    }
+
+    /// A key whose press is allowed and sees it, where a pair's accent is pending. The first keymap is asked.
+    pub fn key_seeing(&self, maps: &Keymaps, sight: Sight) -> Option<KeyCode>
+        ensures { MatchOption result
+            ((k : ℕ) → (k < key_count) × SeesAllowed (under_of maps.now) (state_of self.now) k sight → ⊥)
+            (λ k. (k < key_count) × SeesAllowed (under_of maps.now) (state_of self.now) k sight) }
+    {
+        for code in 0..KEY_COUNT as u8 {
+            let key = key_with(code);
+            if self.is_seen_by(maps, key, sight) {
+                return Some(key);
+            }
+        }
+        None
+    }
+
+    /// The lock that a press of the key turns, if it turns one and is allowed.
     pub fn turned_by(&self, maps: &Keymaps, key: KeyCode) -> Option<Lock>
-        ensures { MatchOption result ((l : LockValue) → IsIdle (state_of self.now) key
-            → look_in (under_of maps.now) (state_of self.now) key ≡ Act (LockAction l) → ⊥)
-            (λ l. IsIdle (state_of self.now) key
-            × (look_in (under_of maps.now) (state_of self.now) key ≡ Act (LockAction l))) }
+        ensures { MatchOption result
+            ((l : LockValue) → Takes (under_of maps.now) (state_of self.now) key (Act (LockAction l)) → ⊥)
+            (λ l. Takes (under_of maps.now) (state_of self.now) key (Act (LockAction l))) }
     {
         match &self.look(maps, key) {
-            Cell::Act(Action::Lock(lock)) => { if self.holds(key) { None } else { Some(*lock) } }
+            Cell::Act(Action::Lock(lock)) => {
+                if self.holds(key) {
+                    None
+                } else if self.allows(maps, key, Cell::Act(Action::Lock(*lock))) {
+                    Some(*lock)
+                } else {
+                    None
+                }
+            }
             _ => None,
         }
     }
@@ -365,7 +422,7 @@ impl Held {
         }
     }
 
-    /// Whether a press of the key and its release keep the state, but for the scroll lock.
+    /// Whether a press of the key and its release keep the state.
     pub fn is_steady(&self, maps: &Keymaps, key: KeyCode) -> bool
         ensures steady { result ≡ true → IsSteady (under_of maps.now) (state_of self.now) key }
         ensures other { result ≡ false → IsSteady (under_of maps.now) (state_of self.now) key → ⊥ }
@@ -425,7 +482,7 @@ impl Held {
         }
     }
 
-    /// Where a press of the key leads, with its release if it turns a lock.
+    /// Where a press of the key leads, with its release if it turns a lock, where the press is allowed.
     pub fn pressed(&self, maps: &Keymaps, key: KeyCode) -> Option<Step>
         ensures leads { PressesLead (under_of maps.now) (state_of self.now) key (StepsTo result) }
         ensures step { IfSome result (IsStep (under_of maps.now) (state_of self.now) 1) }
@@ -437,11 +494,13 @@ impl Held {
                     None
                 } else if self.holds(key) {
                     None
-                } else {
+                } else if self.allows(maps, key, Cell::Act(Action::Mod(modifier))) {
                     Some(Step {
                         by: Move::Hold(key, modifier),
                         to: self.with_holder(modifier, Some(key)),
                     })
+                } else {
+                    None
                 }
             }
             Cell::Act(Action::Lock(lock)) => {
@@ -449,11 +508,13 @@ impl Held {
                     None
                 } else if self.holds(key) {
                     None
-                } else {
+                } else if self.allows(maps, key, Cell::Act(Action::Lock(lock))) {
                     Some(Step {
                         by: Move::Turn(key, lock),
                         to: self.with_turned(lock),
                     })
+                } else {
+                    None
                 }
             }
             _ => None,

@@ -8,7 +8,7 @@ loop-code-init c =
     let u = under_of c.args.maps.now in
     rw (c.in_ok-push.ensures.items, c.new-states.ensures.items)
     (All-cons (λ h. IsLedTo u (state_of h)) c.start.result []
-    (subst (λ s. IsLedTo u s) (sym c.start.ensures) ([], tt, refl, refl)) (All-nil (λ h. IsLedTo u (state_of h))))
+    (subst (λ s. IsLedTo u s) (sym c.start.ensures) ([], tt, refl)) (All-nil (λ h. IsLedTo u (state_of h))))
 
 pub loop-code-preserved : goal.loop-code-preserved
 loop-code-preserved c = elim c.match-pressed.branch [

@@ -1,15 +1,7 @@
-use Rattle.console_states.proofs.Common.{◌≡◌, ◌≤◌, ◌<◌, arith, length, map, subst, sym, false, Scroll, State, Contains}
+use Rattle.console_states.proofs.Common.{◌≤◌, ◌<◌, arith, length, map, subst}
 use Rattle.console_states.proofs.Common.{state_of, under_of, alone, AreOffering, HasEnded, TooMany, Complete}
-use Rattle.console_states.proofs.Offering.{offering-off, behind-few}
+use Rattle.console_states.proofs.Offering.{behind-few}
 use Rattle.console_states.proofs.offers.behind.Goals as goal
-
-pub meet_all-requires : goal.meet_all-requires
-meet_all-requires c =
-    let met = c.args.met.now.entries in
-    let os = map state_of c.in_ok-origins.origins.items in
-    subst (λ z. (o : State) → Contains (map state_of z) o → o.is_locked Scroll ≡ false) (sym c.deref.ensures.value)
-    (offering-off (alone c.args.maps.now.first.now) c.args.accent met os c.requires.met.1
-    (subst (λ u. AreOffering u c.args.accent met (length met) os) c.requires.met.0 c.in_ok-origins.ensures))
 
 pub returns : goal.returns
 returns c =

@@ -1,5 +1,4 @@
-use Rattle.console_states.proofs.Common.{refl, state_of}
-use Rattle.console_states.proofs.Returning.{all-off}
+use Rattle.console_states.proofs.Common.{refl}
 use Rattle.console_states.proofs.offers.is_offered_unlocked.Goals as goal
 
 pub returns-in-Some : goal.returns-in-Some
@@ -9,7 +8,7 @@ returns-in-Some c =
       c.entry.result,
       c.entry.ensures,
       (
-        all-off (state_of c.entry.result.0).is_locked (c.if-not-is_any_locked.ensures.unlocked refl),
+        c.if-not-is_any_locked.ensures.unlocked refl,
         (c.in-Some.field-0, c.in-Some.ensures.0, c.in-Some.ensures.1),
       ),
     )

@@ -1,7 +1,6 @@
-use Rattle.console_states.proofs.Common.{subst, sym, inl, inr, state_of, under_of, get_or_read_under, length, refl}
+use Rattle.console_states.proofs.Common.{subst, sym, inl, inr, under_of, get_or_read_under, length, refl}
 use Rattle.console_states.proofs.Common.{AreKeysOf, DeadKey}
 use Rattle.console_states.proofs.Adding.{empty-none}
-use Rattle.console_states.proofs.Returning.{all-off}
 use Rattle.console_states.proofs.offers.unlocked_accents.Goals as goal
 
 pub loop-held-init : goal.loop-held-init
@@ -19,6 +18,6 @@ loop-held-preserved c = λ a has. elim (c.in_ok-add_offers.ensures.only a has) [
       let n = c.loop-held.held-index in
       let states = c.args.states.now in
       let at = sym (get_or_read_under states n (length states) held held c.held-item.is c.loop-held-test.true refl) in
-      let unlocked = all-off (state_of held).is_locked (c.is_any_locked.ensures.unlocked c.if-is_any_locked.false) in
+      let unlocked = c.is_any_locked.ensures.unlocked c.if-is_any_locked.false in
       (can, (held, (n, c.loop-held-test.true, at), (unlocked, offers)))
 ]

@@ -1,6 +1,6 @@
 use Rattle.console_states.proofs.Common.{[], ◌∷◌, reverse, subst, slice_get_within, TooMany, start, under_of, HasEnded}
 use Rattle.console_states.proofs.Concluding.{complete-never, none-late, stuck-sticks}
-use Rattle.console_states.proofs.Deciding.{sent-admitted, are-on-under}
+use Rattle.console_states.proofs.Deciding.{sent-loads, are-on-under}
 use Rattle.console_states.proofs.GoingBack.{searched-back}
 use Rattle.console_states.proofs.Reaching.{reaches-more}
 use Rattle.console_states.proofs.search.conclude.Goals as goal
@@ -24,7 +24,7 @@ returns-in-Some c =
       left.0,
       left.1,
       left.2,
-      are-on-under u h c.in_ok-modifiers.modifiers.items (sent-admitted u h left.0.1)
+      are-on-under u h c.in_ok-modifiers.modifiers.items (sent-loads u h left.0.1)
           (rw (← c.as_slice.ensures.value) c.in_ok-modifiers.ensures),
     )
 

@@ -1,9 +1,5 @@
-use Rattle.console_states.proofs.Common.{[], ◌∷◌, ap, subst, Scroll, under_of, HasEnded}
-use Rattle.console_states.proofs.Beginning.{one-off}
+use Rattle.console_states.proofs.Common.{[], ◌∷◌, subst, under_of, HasEnded}
 use Rattle.console_states.proofs.search.decide.Goals as goal
-
-pub meet_all-requires : goal.meet_all-requires
-meet_all-requires c = one-off _ (ap (λ s. s.is_locked Scroll) c.start.ensures)
 
 -- the search begins at the start
 pub conclude-requires : goal.conclude-requires

@@ -1,10 +1,6 @@
-use Rattle.console_states.proofs.Common.{ap, Scroll, alone, start, TooMany, Complete}
+use Rattle.console_states.proofs.Common.{alone, start, TooMany, Complete}
 use Rattle.console_states.proofs.Reaching.{ended-alone, met-alone, reaches-more}
-use Rattle.console_states.proofs.Beginning.{one-off}
 use Rattle.console_states.proofs.sights.sights_of.Goals as goal
-
-pub meet_all-requires : goal.meet_all-requires
-meet_all-requires c = one-off _ (ap (λ s. s.is_locked Scroll) c.start.ensures)
 
 pub sights_in-requires : goal.sights_in-requires
 sights_in-requires c =

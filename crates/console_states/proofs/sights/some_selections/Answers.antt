@@ -11,7 +11,7 @@ loop-held-preserved c = λ m led y has.
     elim (Contains-push_cases old c.selection.result y (subst (λ z. Contains z y) c.in_ok-push.ensures.items has)) [
       | inl was ↦ c.loop-held.invariant m led y was
       | inr same ↦
-          let (path, is, leads, off) = led n held c.loop-held-test.true in
+          let (path, is, leads) = led n held c.loop-held-test.true in
           let at = get_or_read_under states n (length states) held held c.held-item.is c.loop-held-test.true refl in
           let here = ap (λ h. selection_of (state_of h)) (sym at) ∙ sym c.selection.ensures ∙ same in
           (path, is, ap (λ s. selection_of s) leads ∙ here)

@@ -11,6 +11,6 @@ loop-code-preserved c =
     rw c.key_with-key.ensures offers in
     elim c.match-offered.branch [
       | in-Some+else-offered-accent w ↦
-          w.if-offered-accent.false (one_accent _ _ _ w.in-Some.ensures.1 here.1)
-      | in_default w ↦ w.in_default.ensures c.args.accent here.0 here.1
+          w.if-offered-accent.false (one_accent _ _ _ w.in-Some.ensures.1.0 here.1.0)
+      | in_default w ↦ w.in_default.ensures c.args.accent here
     ])

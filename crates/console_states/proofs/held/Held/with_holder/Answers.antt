@@ -6,7 +6,7 @@ use Rattle.std.proofs.lemmas.List.{get_or-set_same, get_or-set_other}
 use Rattle.console_core.proofs.Shared.{modifier_index-lt}
 use Rattle.console_states.specs.Moves.{key_of, number_of}
 use Rattle.console_states.proofs.Following.{same_mods}
-use Rattle.console_states.proofs.Unscrolled.{same_states}
+use Rattle.console_states.proofs.SameStates.{same_states}
 use Rattle.keymap_core.specs.declared.action.Action.TheVariants as act
 use Rattle.console_states.proofs.held.Held.with_holder.Goals as goal
 

@@ -110,8 +110,8 @@ off there.
   $ echo '198 slock slock slock slock slock slock slock slock O' | cat oneway - > behind
   $ covers behind
   $ sed '1,/^# one-way$/d' script | tail -n 5
-  down 70
-  up 70
+  down 0
+  up 0
   reset
   down 70
   up 70

@@ -1,15 +1,15 @@
 -- From a state that was met without a route home no moves lead there.
 use Rattle.console_scripts.proofs.Common.{◌≡◌, ℕ, List, length, slice_get, Some, ap, subst, sym, ◌∙◌, inl, inr}
 use Rattle.console_scripts.proofs.Common.{MapValue, Under, alone, State, IsMove, moved, Routes, HasRoute, IsAstray}
-use Rattle.console_scripts.proofs.Common.{AreSettled, state_of, Entry, Entries, Searched, unscrolled, Move}
-use Rattle.console_scripts.proofs.Common.{moves-unscrolled, ◌+◌, suc, arith}
+use Rattle.console_scripts.proofs.Common.{AreSettled, state_of, Entry, Entries, Searched, Move}
+use Rattle.console_scripts.proofs.Common.{◌+◌, suc, arith}
 use Rattle.console_states.specs.Moves.{presses_of}
-use Rattle.console_states.proofs.Shared.{all-done, leaves-scroll_or_turns, same_moved, scroll-moved}
+use Rattle.console_states.proofs.Shared.{all-done}
 
--- a met state without a route, near the state where a path has led
+-- a met state without a route
 abbrev pub StraysTo : Entries → Routes → State → Type 0
 StraysTo es routes s =
-    (j : ℕ) × (x : Entry) × (slice_get es j ≡ Some x) × (unscrolled (state_of x.0) ≡ unscrolled s)
+    (j : ℕ) × (x : Entry) × (slice_get es j ≡ Some x) × (state_of x.0 ≡ s)
     × (HasRoute routes (state_of x.0) → ⊥)
 
 pub is-astray : (u : Under) (es : Entries) (routes : Routes) → AreSettled u es routes → (j : ℕ) (x : Entry)
@@ -21,21 +21,14 @@ pub strays-on : {os : List State} (m : MapValue) (es : Entries) (routes : Routes
     → Searched (alone m) os es (length es) (length es)
     → AreSettled (alone m) es routes → (s : State) (move : Move) → IsMove (alone m) s move → StraysTo es routes s
     → StraysTo es routes (moved (alone m) s move)
-strays-on m es routes searched settled s move is (j, x, at, near, none) =
+strays-on m es routes searched settled s move is (j, x, at, same, none) =
     let u : Under = alone m in
-    elim (leaves-scroll_or_turns move) [
-      | inl leaves ↦
-          let here : IsMove u (state_of x.0) move = moves-unscrolled u s (state_of x.0) move near is in
-          let n : ℕ = suc (x.1.presses + presses_of move) in
-          let (i, y, there, e, le) = all-done u es searched n j x at move here leaves (omega arith) in (
-            i,
-            y,
-            there,
-            ap (λ z. unscrolled z) e ∙ same_moved u s (state_of x.0) move near,
-            (λ has.
-                (is-astray u es routes settled j x at none).1 move here leaves
-                (subst (λ z. HasRoute routes z) e has)),
-          )
-      | inr (k, turns) ↦
-          subst (λ z. StraysTo es routes (moved u s z)) (sym turns) (j, x, at, near ∙ scroll-moved s, none)
-    ]
+    let here : IsMove u (state_of x.0) move = subst (λ z. IsMove u z move) (sym same) is in
+    let n : ℕ = suc (x.1.presses + presses_of move) in
+    let (i, y, there, e, le) = all-done u es searched n j x at move here (omega arith) in (
+      i,
+      y,
+      there,
+      e ∙ ap (λ z. moved u z move) same,
+      (λ has. (is-astray u es routes settled j x at none).1 move here (subst (λ z. HasRoute routes z) e has)),
+    )

@@ -56,9 +56,8 @@ presses-append path (move ∷ later) =
 reaches-on : (u : Under) (s : State) (n p : ℕ) (path : List Move) → IsPath u path → state_after u path ≡ s
     → ReachesMoreThanFrom u s n p
     → ReachesMoreThan u n (p + presses_along path)
-reaches-on u s n p path is leads (states, off, paths, apart) = (
+reaches-on u s n p path is leads (states, paths, apart) = (
   states,
-  off,
   (λ j le.
       let (later, goes, few, to) = paths j le in
       let all = path-append u start path later is (subst (λ t. IsPathFrom u t later) (sym leads) goes) in

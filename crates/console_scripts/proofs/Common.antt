@@ -19,28 +19,28 @@ pub use Rattle.console_scripts.specs.Inner.Exploring.{LeadsByTap, LetsGo, TypesO
 pub use Rattle.console_scripts.specs.Inner.Exploring.{origin_in, typed_along}
 pub use Rattle.console_scripts.specs.Inner.Routes.{AllLeadHome, AreSettled, HasRoute, IsAstray, LeadsHome, NoPressLeads}
 pub use Rattle.console_scripts.specs.Inner.Routes.{Routes}
-pub use Rattle.console_scripts.specs.Inner.Showing.{IsAim, IsAt, IsDeadFor, IsPressAt, IsRest, IsWhole, Leads, Sees}
+pub use Rattle.console_scripts.specs.Inner.Showing.{IsAim, IsAt, IsDeadFor, IsWhole, Leads, Sees}
 pub use Rattle.console_scripts.specs.Inner.Showing.{TurnsScroll}
-pub use Rattle.console_scripts.specs.Inner.Showing.{LeadsOn, LeadsToSee, ShowsNot, locks_in}
+pub use Rattle.console_scripts.specs.Inner.Showing.{LeadsOn, LeadsToSee, ShowsNot}
 pub use Rattle.console_scripts.specs.Inner.Symbols.{LacksSymbol}
 pub use Rattle.console_scripts.specs.Typing.{CanTap, CanType, ComesHome, IsAsNew, IsTapOf, cell_of, composed_of}
 pub use Rattle.console_scripts.specs.Typing.{plainly, types_something}
-pub use Rattle.console_scripts.specs.Visiting.{AreStatesOf, CanReach, CanVisit, CannotScroll, IsOnward, IsWayHome}
+pub use Rattle.console_scripts.specs.Visiting.{AreStatesOf, CanReach, CanVisit, CannotScroll, IsWayHome}
 pub use Rattle.console_scripts.specs.Visiting.{LeadsBy, TurnsScrollOff, resting_after}
 pub use Rattle.console_scripts.specs.declared.explored.Explored.{Explored}
 pub use Rattle.console_states.specs.declared.look.KeyAt.{KeyAt}
 pub use Rattle.console_scripts.specs.declared.explored.Symbol.{Symbol}
 pub use Rattle.console_scripts.specs.declared.explored.Tap.{Tap}
-pub use Rattle.console_states.proofs.Shared.{are_same, home-near, home-start, moves-unscrolled, near-is_home, near-met}
-pub use Rattle.console_states.proofs.Shared.{near-path, on_ok-then, path-first, path-split, place_last, press-turns}
+pub use Rattle.console_states.proofs.Shared.{are_same, home-start, all-met}
+pub use Rattle.console_states.proofs.Shared.{on_ok-then, path-first, path-split, place_last, press-turns}
 pub use Rattle.console_states.proofs.Shared.{push-reversed, reached-one, same_entry, same_states, searched-back}
 pub use Rattle.console_states.proofs.Shared.{stands-from, stands-reset, start-one, tells-same}
-pub use Rattle.console_states.specs.Inner.Standing.{Exact, Follows, HoldsSome, Stands, free_after}
-pub use Rattle.console_states.specs.Moves.{Holds, IsFree, IsIdle, IsMove, IsPath, IsPathFrom, IsRepeated, State, Under}
+pub use Rattle.console_states.specs.Inner.Standing.{Exact, Follows, HoldsSome, Stands}
+pub use Rattle.console_states.specs.Moves.{Holds, IsFree, IsIdle, IsMove, IsPath, IsPathFrom, State, Takes, Under}
 pub use Rattle.console_states.specs.Moves.{alone, events_along, events_of_move, free_with, is_held, look_in, map_in}
 pub use Rattle.console_states.specs.Moves.{moved, presses_along, start, state_after, state_from, with_holder}
 pub use Rattle.console_states.specs.Moves.{with_lock_turned}
-pub use Rattle.console_states.specs.Returning.{IsAfter, IsHome, IsTurned, but_scroll, freed, unscrolled}
+pub use Rattle.console_states.specs.Returning.{IsAfter, IsHome, but_scroll, freed}
 pub use Rattle.console_states.specs.Searching.{Entries, Entry, HasEnded, IsReached, IsStep, IsTrail, PressesLead}
 pub use Rattle.console_states.specs.Searching.{Searched, StepsTo, state_of, under_of}
 pub use Rattle.console_states.specs.Sights.{AreSightsOf, IsAdmitted, IsPendingFor, IsReachable, SeesBy, look_selected}

@@ -1,5 +1,5 @@
 -- What an exploration met, and which taps can be made.
-use Rattle.console_scripts.proofs.Common.{◌≡◌, ◌⊎◌, ℕ, Bool, true, false, List, [], ◌∷◌, ◌++◌, length, slice_get, Some}
+use Rattle.console_scripts.proofs.Common.{◌≡◌, ◌⊎◌, ℕ, true, false, List, [], ◌∷◌, ◌++◌, length, slice_get, Some}
 use Rattle.console_scripts.proofs.Common.{None, refl, ap, subst, sym, ◌∙◌, inl, inr, reverse, append_assoc, rules}
 use Rattle.console_scripts.proofs.Common.{cases_Bool, Held, MapValue, Event, Press, Release, Move, Explored, Symbol}
 use Rattle.console_scripts.proofs.Common.{Tap, usable, Under, alone, State, start, state_after, IsPathFrom, state_from}
@@ -7,8 +7,7 @@ use Rattle.console_scripts.proofs.Common.{events_along, ComesHome, IsTapOf, CanT
 use Rattle.console_scripts.proofs.Common.{map_of_explored, origin_in, IsExplored, CanReturn, HasTap, LetsGo}
 use Rattle.console_scripts.proofs.Common.{GoesAndTaps, HasTyped, TypesOne, LeadsHome, Routes, AllLeadHome, HasRoute}
 use Rattle.console_scripts.proofs.Common.{AreSettled, freed, state_of, Entry, Entries, IsTrail, IsReached, Searched}
-use Rattle.console_scripts.proofs.Common.{unscrolled, Scroll, is-nothing, are_same, home-near, home-start, near-is_home}
-use Rattle.console_scripts.proofs.Common.{near-met, near-path, path-first, reached-one}
+use Rattle.console_scripts.proofs.Common.{is-nothing, are_same, home-start, all-met, path-first, reached-one, IsHome}
 use Rattle.console_scripts.proofs.Entries.{none-found, found-has}
 use Rattle.console_scripts.specs.Inner.Exploring.{IsOrigin}
 use Rattle.console_scripts.proofs.Astray.{strays-on, StraysTo, is-astray}
@@ -49,7 +48,6 @@ tap-freed u o es routes j x k h h1 h2 now next r all e1 e2 go has = record {
   leads = go.leads u;
   events = go.events ∙ ap (λ z. events_along go.path ++ z) (e2 ∙ ap (λ z. Release k ∷ Press k ∷ z) (e1 r.0 r.1));
   free = λ i. ap (λ t. t.holder i) go.freed;
-  off = ap (λ t. t.is_locked Scroll) go.freed ∙ r.5;
   home = subst (λ t. ComesHome u t) (sym go.freed) (has-home u routes (freed (state_of x.0)) all has);
 }
 
@@ -70,18 +68,12 @@ returns-next m o s k h now next st x = search (rules, path-append)
 
 -- a state that can return is an origin
 pub returns-origin : (m : MapValue) (s : State) → CanReturn m s → IsOrigin s
-returns-origin m s st = (st.off, ap (λ t. t.is_second) (sym st.leads) ∙ path-first m start st.path st.is)
+returns-origin m s st = ap (λ t. t.is_second) (sym st.leads) ∙ path-first m start st.path st.is
 
 pub start-returns : (m : MapValue) → CanReturn m start
 start-returns m = search rules
 
 -- ---- which taps can be made
-
--- a tap doesn't depend on the scroll lock
-tap-near : (u : Under) (s t : State) (plain : Bool) (x : Symbol) (k : ℕ) → unscrolled t ≡ unscrolled s
-    → IsTapOf u s plain x k
-    → IsTapOf u t plain x k
-tap-near u s t plain x k e is = subst (λ z. IsTapOf u z plain x k) (sym e) is
 
 -- moves from a state without a route stay astray
 strays-from : {os : List State} (m : MapValue) (es : Entries) (routes : Routes)
@@ -104,45 +96,35 @@ pub comes-route : {os : List State} (m : MapValue) (es : Entries) (routes : Rout
 comes-route m es routes searched settled j x at (later, is, home) = elim (route-or-none routes x.0) [
   | inl has ↦ has
   | inr none ↦
-      let (i, y, there, near, no_route) =
+      let (i, y, there, same, no_route) =
       strays-from m es routes searched settled (state_of x.0) later is (j, x, at, refl, none) in
-      absurd ((is-astray (alone m) es routes settled i y there no_route).0
-      (near-is_home (state_from (alone m) (state_of x.0) later) (state_of y.0) near home))
+      absurd ((is-astray (alone m) es routes settled i y there no_route).0 (subst IsHome (sym same) home))
 ]
 
--- What is so in a state that moves lead to and from which more lead home, scroll lock aside, is so in a complete
--- exploration at a place from which a route leads home.
+-- What is so in a state that moves lead to and from which more lead home is so in a complete exploration at a place
+-- from which a route leads home.
 pub so-met : (e : Explored) → IsExplored e → e.is_complete ≡ true → CanReturn (map_of_explored e) (origin_in e)
-    → (P : State → Type 0) → ((s t : State) → unscrolled t ≡ unscrolled s → P s → P t) → (path : List Move)
+    → (P : State → Type 0) → (path : List Move)
     → IsPathFrom (alone (map_of_explored e)) start path
     → ComesHome (alone (map_of_explored e)) (state_after (alone (map_of_explored e)) path)
     → P (state_after (alone (map_of_explored e)) path)
     → (j : ℕ) × (y : Entry) × (slice_get e.met.entries j ≡ Some y) × HasRoute e.routes.entries (state_of y.0)
     × P (state_of y.0)
-so-met e x complete st P near-so path is (later, goes, home) so =
+so-met e x complete st P path is comes so =
     let m : MapValue = map_of_explored e in
     let u : Under = alone m in
     let o : State = origin_in e in
     let es : Entries = e.met.entries in
     let (searched, settled) = x.whole complete in
     let (back, returns, at_home) = st.home in
-    let base : State = state_from u o back in
-    let first : base.is_second ≡ false =
-    path-first m o back returns ∙ (returns-origin m o st).1 in
-    let near : unscrolled base ≡ unscrolled start = home-near base at_home first in
-    let q = near-path u start base path near is in
-    let all = path-append u o back path returns q.0 in
-    let (j, y, at, met) = near-met u es searched (path ++ back) all.0 in
-    let s : State = state_of y.0 in
-    let same : unscrolled s ≡ unscrolled (state_after u path) = met ∙ ap (λ z. unscrolled z) all.1 ∙ q.1 in
-    let ends = near-path u (state_after u path) s later same goes in
-    let route : HasRoute e.routes.entries s =
-    comes-route m es e.routes.entries searched settled j y at (
-      later,
-      ends.0,
-      near-is_home (state_from u (state_after u path) later) (state_from u s later) ends.1 home,
-    ) in
-    (j, y, at, route, near-so (state_after u path) s same so)
+    let begins : state_from u o back ≡ start =
+    home-start (state_from u o back) at_home (path-first m o back returns ∙ returns-origin m o st) in
+    let all = path-append u o back path returns (subst (λ z. IsPathFrom u z path) (sym begins) is) in
+    let (j, y, at, met) = all-met u es searched (path ++ back) all.0 in
+    let same : state_of y.0 ≡ state_after u path = met ∙ all.1 ∙ ap (λ z. state_from u z path) begins in
+    let route : HasRoute e.routes.entries (state_of y.0) =
+    comes-route m es e.routes.entries searched settled j y at (subst (λ z. ComesHome u z) (sym same) comes) in
+    (j, y, at, route, subst P (sym same) so)
 
 -- what can be tapped at all can be tapped in a complete exploration
 pub can-tap-met : (e : Explored) → IsExplored e → e.is_complete ≡ true → CanReturn (map_of_explored e) (origin_in e)
@@ -151,8 +133,7 @@ pub can-tap-met : (e : Explored) → IsExplored e → e.is_complete ≡ true →
 can-tap-met e x complete st t (path, is, comes, (k, tap)) =
     let u : Under = alone (map_of_explored e) in
     let (j, y, at, route, there) =
-    so-met e x complete st (λ s. IsTapOf u s t.is_plain t.symbol k)
-    (λ s z near so. tap-near u s z t.is_plain t.symbol k near so) path is comes tap in
+    so-met e x complete st (λ s. IsTapOf u s t.is_plain t.symbol k) path is comes tap in
     (j, k, (y, at, route, there))
 
 -- What is so at a place from which a route leads home is so where moves lead to and from which more lead home.

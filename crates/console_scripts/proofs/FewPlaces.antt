@@ -1,10 +1,11 @@
 -- The states that few presses lead to, and that the upper half is looked at only where it is live.
-use Rattle.console_scripts.proofs.Common.{◌≡◌, ◌≢◌, ◌<◌, ◌+◌, ◌∷◌, [], ◌∙◌, ℕ, Bool, true, false, List, None, refl, ap, sym}
+use Rattle.console_scripts.proofs.Common.{◌≡◌, ◌<◌, ◌+◌, ◌∷◌, [], ◌∙◌, ℕ, Bool, true, false, List, None, refl, ap, sym}
 use Rattle.console_scripts.proofs.Common.{subst, inl, inr, cases_Bool, true≢false, arith, ◌⊎◌, MapValue, State, Move, Cell}
 use Rattle.console_scripts.proofs.Common.{Hold, Turn, LetGo, Exchange, alone, IsPath, state_after, IsMove}
 use Rattle.console_scripts.proofs.Common.{look_in, look_selected, selection_of, key_count, is_held, IsHome, Meta}
-use Rattle.console_scripts.proofs.Common.{AltShift, Alt, Caps, Num, Scroll, Lock, ComesHome, moved, one_map}
-use Rattle.console_scripts.proofs.Common.{cell_at, slot_of, Step, IsStep, state_of, freed}
+use Rattle.console_scripts.proofs.Common.{AltShift, Alt, ComesHome, moved, one_map}
+use Rattle.console_scripts.proofs.Common.{cell_at, slot_of, Step, IsStep, state_of}
+use Rattle.console_states.specs.Returning.{IsUnlocked}
 use Rattle.std.specs.Prelude.{◌*◌}
 use Rattle.keymap_core.specs.Bearers.{IsUpperLive, StandsIn}
 use Rattle.keymap_core.specs.Borne.{is_upper_live}
@@ -19,25 +20,16 @@ use Rattle.console_scripts.specs.Inner.Places.{cell_of_place, gives_cell, live_c
 
 -- one step more
 pub led-on : (m : MapValue) (s : State) (n : ℕ) (x : Step) → IsLedTo m s → IsStep (alone m) s n x → IsLedTo m (state_of x.to)
-led-on m s n x (path, is, leads) (move, next, count, leaves) = (
+led-on m s n x (path, is, leads) (move, next, count) = (
   x.by ∷ path,
   (subst (λ t. IsMove (alone m) t x.by) (sym leads) move, is),
   ap (λ t. moved (alone m) t x.by) leads ∙ sym next,
 )
 
 -- where no lock is on, letting go of all leads home
-pub comes-free : (m : MapValue) (s : State) → s.is_locked Caps ≡ false → s.is_locked Num ≡ false
-    → s.is_locked Alt ≡ false
-    → ComesHome (alone m) s
-comes-free m s caps num alt =
-    let (path, is, leads) = lets-go m s in
-    (path, is, subst IsHome (sym leads) ((λ i. refl), off))
-  where
-    off : (l : Lock) → l ≢ Scroll → (freed s).is_locked l ≡ false
-    off Caps other = caps
-    off Num other = num
-    off Scroll other = absurd (other refl)
-    off Alt other = alt
+pub comes-free : (m : MapValue) (s : State) → IsUnlocked s → ComesHome (alone m) s
+comes-free m s off =
+    let (path, is, leads) = lets-go m s in (path, is, subst IsHome (sym leads) ((λ i. refl), off))
 
 -- ---- the upper half
 
@@ -61,11 +53,11 @@ looks-own m s k x held locked e =
 never-upper : (m : MapValue) → (IsUpperLive m → ⊥) → (path : List Move) → IsPath (alone m) path
     → ((state_after (alone m) path).holder AltShift ≡ None) × ((state_after (alone m) path).is_locked Alt ≡ false)
 never-upper m dead [] is = (refl, refl)
-never-upper m dead (Hold k AltShift ∷ path) ((lt, idle, looks, free), is) =
+never-upper m dead (Hold k AltShift ∷ path) (((lt, idle, (looks, may)), free), is) =
     let (held, locked) = never-upper m dead path is in
     absurd (dead (k, lt, inl (looks-own m (state_after (alone m) path) k _ held locked looks)))
 never-upper m dead (Hold k i ∷ path) (move, is) = never-upper m dead path is
-never-upper m dead (Turn k Alt ∷ path) ((lt, idle, looks), is) =
+never-upper m dead (Turn k Alt ∷ path) (((lt, idle, (looks, may)), other), is) =
     let (held, locked) = never-upper m dead path is in
     absurd (dead (k, lt, inr (looks-own m (state_after (alone m) path) k _ held locked looks)))
 never-upper m dead (Turn k l ∷ path) (move, is) = never-upper m dead path is
@@ -110,18 +102,18 @@ few-all m plain marks only all p = (
 )
 
 -- what is looked up in a state that moves lead to, where no lock is on and meta isn't held
-pub marked-plainly : (m : MapValue) (s : State) (old now : List Bool) → IsLedTo m s → s.is_locked Caps ≡ false
-    → s.is_locked Num ≡ false → s.is_locked Alt ≡ false → is_held s Meta ≡ false
+pub marked-plainly : (m : MapValue) (s : State) (old now : List Bool) → IsLedTo m s → IsUnlocked s
+    → is_held s Meta ≡ false
     → Gains (IsMarked old) (IsMarked now) (λ p. (k : ℕ) × (k < key_count) × IsLookedUp m s k p)
     → (p : ℕ) → IsMarked now p → IsMarked old p ⊎ CanLookUp m true p
-marked-plainly m s old now (path, is, leads) caps num alt meta more p has = elim ((more p).0 has) [
+marked-plainly m s old now (path, is, leads) off meta more p has = elim ((more p).0 has) [
   | inl before ↦ inl before
   | inr there ↦
       let (k, lt, (idle, shows)) = there in
       inr (
         path,
         is,
-        subst (λ t. ComesHome (alone m) t) (sym leads) (comes-free m s caps num alt),
+        subst (λ t. ComesHome (alone m) t) (sym leads) (comes-free m s off),
         (k, subst (λ t. IsTapOn m t true p k) (sym leads) (lt, idle, shows, (λ e. meta))),
       )
 ]

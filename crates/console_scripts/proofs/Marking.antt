@@ -1,19 +1,19 @@
 -- The places that are marked since taps look them up, key by key and state by state.
 use Rattle.console_scripts.proofs.Common.{◌≡◌, ◌⊎◌, ◌<◌, ◌+◌, ◌++◌, ◌∷◌, [], ℕ, Bool, true, false, List, Some, inl, inr}
-use Rattle.console_scripts.proofs.Common.{slice_get, subst, sym, ◌∙◌, ap, cases_Bool, true≢false, Contains, place_last}
-use Rattle.console_scripts.proofs.Common.{same_Some, refl, length, ◌≤◌, get_or, MapValue, Explored, State, Meta, alone}
+use Rattle.console_scripts.proofs.Common.{slice_get, subst, sym, ◌∙◌, ap, true≢false, Contains, place_last}
+use Rattle.console_scripts.proofs.Common.{same_Some, length, ◌≤◌, MapValue, Explored, State, Meta}
 use Rattle.console_scripts.proofs.Common.{start, is_held, Entry, map_of_explored, state_of, key_count, HasRoute, arith}
 use Rattle.console_scripts.proofs.Common.{IsExploredFrom, Contains-push_cases, slice_get_within, IsIdle, selection_of}
-use Rattle.console_scripts.proofs.Common.{look_selected, unscrolled, slot_of, cell_at}
+use Rattle.console_scripts.proofs.Common.{look_selected, slot_of, cell_at}
 use Rattle.std.specs.Prelude.{◌↔◌, ◌/◌, ◌%◌, ◌*◌, set}
 use Rattle.console_core.proofs.Shared.{column_of-lt}
 use Rattle.console_states.specs.Sights.{slot_in, column_in}
 use Rattle.std.proofs.lemmas.Bool.{cases_eq}
-use Rattle.std.proofs.lemmas.List.{get_or-set_same, get_or-set_other, length-set}
+use Rattle.std.proofs.lemmas.List.{get_or-set_same, get_or-set_other}
 use Rattle.console_states.specs.declared.selection.Selection.{Selection}
 use Rattle.console_scripts.proofs.Choosing.{explored-returns}
 use Rattle.console_scripts.proofs.Exploring.{so-can, so-met, start-returns}
-use Rattle.console_scripts.specs.Inner.Places.{ArePlaces, CanLookUp, Gains, IsGathered, IsLookedUp, IsMarked, IsSelected}
+use Rattle.console_scripts.specs.Inner.Places.{ArePlaces, Gains, IsGathered, IsLookedUp, IsMarked, IsSelected}
 use Rattle.console_scripts.specs.Inner.Places.{IsTapOn, IsTapOnAt, IsWithKey, IsWithKeys, Shows, cell_of_place, gives_cell, place_count}
 use Rattle.console_scripts.specs.Inner.Places.{place_in}
 
@@ -308,7 +308,6 @@ gathered-all e plain n t selections v complete le g p =
       λ can.
           let (path, is, comes, (k, tap)) = can in
           let (j, y, at, route, there) =
-          so-met e v.0 complete st (λ s. IsTapOn m s plain p k)
-          (λ s z near so. subst (λ w. IsTapOn m w plain p k) (sym near) so) path is comes tap in
+          so-met e v.0 complete st (λ s. IsTapOn m s plain p k) path is comes tap in
           g.all p j k (let lt = slice_get_within e.met.entries j y at in omega (arith, lt, le)) (y, at, route, there),
     )

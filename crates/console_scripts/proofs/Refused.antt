@@ -15,6 +15,8 @@ use Rattle.console_scripts.proofs.Common.{pending-start, resolved-more, resolved
 use Rattle.console_core.specs.Answers.{is_pending, char_or_error}
 use Rattle.console_scripts.specs.Typing.{TypedCanBeTyped}
 use Rattle.console_scripts.proofs.Exploring.{path-append}
+use Rattle.console_scripts.proofs.Common.{◌≢◌, Alt, Caps, Lock, Num, Scroll}
+use Rattle.console_states.proofs.Shared.{each-lock, path-off}
 use Rattle.console_states.proofs.Shared.{KeepsHeld, Reached, Stays, admitted-before, admitted-spared, follows-look}
 use Rattle.console_states.proofs.Shared.{keeps-held, pending-is, stands-in, stays-on, taken-dead, takes-pending}
 use Rattle.console_scripts.proofs.Taps.{answer_at, look-answer}
@@ -50,14 +52,22 @@ onward m forgets s before never there f is later admitted =
     stays-on u n (λ p t. LeadsTo u s t) (IsAdmitted m forgets)
     (record { more = λ p t to. to; moved = λ p q t move e lt to can. leads-more u s t move to can })
     (admitted-spared m forgets n (LeadsTo u s) never (λ t leads. reached-on u s t there leads)) before s
-    (λ lt. ([], tt, refl)) f is later (admitted, admitted.0, (λ e. admitted.1), omega arith) in
+    (λ lt. ([], tt, refl)) f is later
+    (admitted, admitted.0, ((λ e. admitted.1), (λ l b k at. refl)), omega arith) in
     (t, leads (omega arith), g, second)
 
 -- ---- on the way home
 
 -- a console that is as a new one stands at home
-new-home : (m : MapValue) (h : List Event) (t : State) → Follows (resolved (between m m) h) t → IsAsNew m h → IsHome t
-new-home m h t f new = search (rules, is-nothing)
+new-home : (m : MapValue) (h : List Event) (t : State) → Follows (resolved (between m m) h) t → IsAsNew m h
+    → t.is_locked Scroll ≡ false → IsHome t
+new-home m h t f new off = (
+  (λ i. is-nothing (t.holder i) (sym (f.on i) ∙ new.on i)),
+  each-lock (λ l. t.is_locked l ≡ false) (locked Caps (λ e. cc)) (locked Num (λ e. cc)) off (locked Alt (λ e. cc)),
+)
+  where
+    locked : (l : Lock) → l ≢ Scroll → t.is_locked l ≡ false
+    locked l other = sym (f.locked l other) ∙ new.locked l
 
 -- the first events of a list that is spoken of are one
 admitted-from : (m : MapValue) (forgets : Bool) (later h : List Event) → IsAdmitted m forgets (later ++ h)
@@ -85,7 +95,11 @@ can-tap m forgets h later before k never admitted new at plain x seen idle off =
     let (t, (path, made, leads), g, last) =
     onward m forgets s before never there f second (later ++ Press k ∷ [])
     (subst (λ g. IsAdmitted m forgets g) split admitted) in
-    let home : IsHome t = new-home m ((later ++ Press k ∷ []) ++ before) t g (subst (λ g. IsAsNew m g) split new) in
+    let way = reached-on u s t there (path, made, leads) in
+    let scroll : t.is_locked Scroll ≡ false =
+    subst (λ z. z.is_locked Scroll ≡ false) way.2 (path-off m start way.0 way.1 refl) in
+    let home : IsHome t =
+    new-home m ((later ++ Press k ∷ []) ++ before) t g (subst (λ g. IsAsNew m g) split new) scroll in
     let looked : look_in u s k ≡ cell_of x =
     sym (follows-look u r s k f) ∙ subst (λ n. look n r k ≡ cell_of x) (sym (one_map m s.is_second)) seen in
     let tap : IsTapOf u s plain x k = (
@@ -107,7 +121,7 @@ can-tap-character : (m : MapValue) (forgets : Bool) (h later before : List Event
     → CanTap m true (symbol.Character c)
 can-tap-character m forgets h later before k c never admitted new at seen off =
     can-tap m forgets h later before k never admitted new at true (symbol.Character c) seen
-    (λ s f keeps looked i holds. keeps i (holds, (c, looked))) (λ p. off)
+    (λ s f keeps looked i holds. keeps i (holds, (c, (looked, refl)))) (λ p. off)
 
 -- a dead key that is taken is looked up by a key that holds nothing
 can-tap-dead : (m : MapValue) (forgets : Bool) (h later before : List Event) (k : ℕ) (a : Action) (i : ℕ) (plain : Bool)

@@ -5,11 +5,11 @@ use Rattle.console_scripts.proofs.Common.{take, get_or, reverse, Contains, take_
 use Rattle.console_scripts.proofs.Common.{Contains-push, Contains-push_cases, Contains-append_left, Held, Step, Under}
 use Rattle.console_scripts.proofs.Common.{State, IsMove, moved, Holds, with_holder, state_from, IsPathFrom, IsHome}
 use Rattle.console_scripts.proofs.Common.{state_of, StepsTo, PressesLead, IsStep, LeadsHome, Routes, AllLeadHome}
-use Rattle.console_scripts.proofs.Common.{HasRoute, NoPressLeads, IsAstray, Scroll, Modifier, Move, rules}
+use Rattle.console_scripts.proofs.Common.{HasRoute, NoPressLeads, IsAstray, Modifier, Move, rules}
 use Rattle.std.proofs.lemmas.List.{length_push}
 use Rattle.console_scripts.specs.declared.routes.Route.{Route}
 use Rattle.console_scripts.specs.Inner.Routes.{NoLetGoLeads}
-use Rattle.console_states.proofs.Shared.{presses-map, scroll-left, steps-to}
+use Rattle.console_states.proofs.Shared.{presses-map, steps-to}
 
 -- a path behind a move
 pub path-begin : (u : Under) (s : State) (by : Move) (path : List Move) → IsMove u s by
@@ -21,15 +21,12 @@ path-begin u s by (move ∷ path) is p = search (rules, path-begin u s by path i
 -- a step leads to where a route begins
 pub step-home : (u : Under) (s : State) (n : ℕ) (x : Step) (moves : List Move) → IsStep u s n x
     → LeadsHome u (state_of x.to) moves → LeadsHome u s (x.by ∷ moves)
-step-home u s n x moves (is, to, presses, leaves) home =
+step-home u s n x moves (is, to, presses) home =
     let from : LeadsHome u (moved u s x.by) moves = subst (λ t. LeadsHome u t moves) to home in
     let longer : reverse (x.by ∷ moves) ≡ reverse moves ++ x.by ∷ [] = reverse-append (x.by ∷ []) moves in
     let path = path-begin u s x.by (reverse moves) is from.0 in (
       subst (λ p. IsPathFrom u s p) (sym longer) path.0,
       subst (λ p. IsHome (state_from u s p)) (sym longer) (subst IsHome (sym path.1) from.1),
-      (λ off.
-          subst (λ p. (state_from u s p).is_locked Scroll ≡ false) (sym longer)
-          (subst (λ t. t.is_locked Scroll ≡ false) (sym path.1) (from.2 (scroll-left u s x.by leaves off)))),
     )
 
 -- where a step leads no route begins, so none does where letting go leads, or a press

@@ -1,18 +1,16 @@
 -- Sets of symbols, characters and codes to which more are added, and what they are in the end: all that can be tapped
 -- or typed, or that a tap gives.
 use Rattle.console_scripts.proofs.Common.{◌≡◌, ◌⊎◌, ◌<◌, ◌+◌, ◌++◌, ◌∷◌, [], ℕ, Bool, true, false, List, Some, inl, inr}
-use Rattle.console_scripts.proofs.Common.{slice_get, subst, sym, ◌∙◌, ap, cases_Bool, true≢false, Contains, place_last}
-use Rattle.console_scripts.proofs.Common.{same_Some, none-some, refl, length, ◌≤◌, take, take_more, get_or, Cell, Char}
-use Rattle.console_scripts.proofs.Common.{Act, Action, None, MapValue, Symbol, State, alone, Move, IsPath, state_after}
-use Rattle.console_scripts.proofs.Common.{look_in, look_selected, selection_of, key_count, ComesHome, CanTap, is_held}
-use Rattle.console_scripts.proofs.Common.{CanType, IsTapOf, Meta, cell_at, slot_of}
+use Rattle.console_scripts.proofs.Common.{slice_get, subst, sym, ◌∙◌, ap, cases_Bool, true≢false, Contains}
+use Rattle.console_scripts.proofs.Common.{same_Some, none-some, refl, length, take, take_more, get_or, Cell, Char}
+use Rattle.console_scripts.proofs.Common.{Act, Action, None, MapValue, Symbol, State, alone, state_after}
+use Rattle.console_scripts.proofs.Common.{look_in, look_selected, selection_of}
+use Rattle.console_scripts.proofs.Common.{CanType}
 use Rattle.console_scripts.proofs.Common.{accent_at, one_map, Contains-push_cases, arith}
-use Rattle.console_scripts.proofs.Common.{Contains-append_left, Contains-push, IsIdle, cell_of}
+use Rattle.console_scripts.proofs.Common.{Contains-append_left, Contains-push, cell_of}
 use Rattle.console_scripts.proofs.Common.{composed_of, usable}
-use Rattle.keymap_core.specs.Actions.{code_of}
 use Rattle.keymap_core.specs.declared.action.Action.TheVariants as act
-use Rattle.std.specs.Prelude.{◌↔◌, ◌/◌, ◌%◌, ◌*◌}
-use Rattle.console_states.specs.declared.selection.Selection.{Selection}
+use Rattle.std.specs.Prelude.{◌↔◌}
 use Rattle.console_scripts.specs.declared.typed.Tapped.{Tapped}
 use Rattle.std.specs.BTreeSet.{BTreeSet, contains, Updates}
 use Rattle.std.specs.BTreeMap.{is_at}
@@ -22,15 +20,14 @@ use Rattle.std.specs.Ordering.{nat_cmp}
 use Rattle.std.proofs.lemmas.Map.Lookups.{exact_unsigned}
 use Rattle.std.proofs.lemmas.Map.Views.{tells_apart, btree_set_contains_iff}
 use Rattle.keymap_core.specs.Accents.{AccentValue}
-use Rattle.console_core.proofs.Shared.{column_of-lt}
-use Rattle.console_states.specs.Sights.{Lists, slot_in, column_in}
+use Rattle.console_states.specs.Sights.{Lists}
 use Rattle.console_scripts.proofs.Bases.{no-base, usable-below}
-use Rattle.console_scripts.proofs.Marking.{gains-none, gains-same, gains-next, gains-more, looked-place}
-use Rattle.console_scripts.specs.Inner.Places.{ArePlaces, CanLookUp, Gains, IsMarked, IsTapOn, Shows, gives_cell}
+use Rattle.console_scripts.proofs.Marking.{gains-none, gains-same, gains-next, looked-place}
+use Rattle.console_scripts.specs.Inner.Places.{ArePlaces, Gains, IsMarked, gives_cell}
 use Rattle.console_scripts.specs.Inner.Places.{cell_of_place, place_count, place_in}
 use Rattle.console_scripts.specs.Inner.Tapped.{AreMarkedSymbols, AreTapped, Composes, GivesAt, HasCharacter, HasCode}
 use Rattle.console_scripts.specs.Inner.Tapped.{HasSymbol, IsComposed, IsSymbolAt, symbol_in}
-use Rattle.console_scripts.specs.Typing.{AreGiven, Gives, is_giving}
+use Rattle.console_scripts.specs.Typing.{AreGiven, is_giving}
 use Rattle.console_scripts.specs.declared.explored.Symbol.TheVariants as symbol
 
 -- ---- characters

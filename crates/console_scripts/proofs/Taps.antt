@@ -19,7 +19,8 @@ use Rattle.console_core.specs.History.{answer_to}
 use Rattle.console_scripts.specs.Typing.{ChangeKeys}
 use Rattle.console_core.specs.Answers.{answer_dead_key, answer_char, answer_release}
 use Rattle.console_states.proofs.Shared.{exact-action, exact-character, follows-look, holder-pressed, idle-none}
-use Rattle.console_states.proofs.Shared.{not_holding, pending-along, pending-is, pressed-look, stands-tapped}
+use Rattle.console_states.proofs.Shared.{not_holding, pending-along, pending-is, pressed-look, scroll-along, scroll-tap}
+use Rattle.console_states.proofs.Shared.{stands-tapped}
 use Rattle.keymap_core.proofs.Shared.{same_action-refl}
 use Rattle.keymap_core.specs.declared.action.Action.TheVariants as act
 use Rattle.console_core.specs.declared.event.Answer.TheVariants as answer
@@ -126,10 +127,10 @@ typed-release m h k = search (rules, typed-more, release-silent)
 -- a move types nothing
 typed-move : (m : MapValue) (h : List Event) (s : State) (move : Move) → IsMove (alone m) s move → Stands (alone m) h s
     → typed_along m (events_of_move move ++ h) ≡ typed_along m h
-typed-move m h s (Hold k i) (lt, idle, seen, free) st =
+typed-move m h s (Hold k i) ((lt, idle, (seen, may)), free) st =
     typed-more m h (Press k) (answer.Special (act.Mod i))
     (rw (press-answer m h s k (Act (act.Mod i)) st seen, idle-none (resolved (between m m) h) s k st.exact idle) refl)
-typed-move m h s (Turn k l) (lt, idle, seen) st =
+typed-move m h s (Turn k l) ((lt, idle, (seen, may)), other) st =
     typed-release m (Press k ∷ h) k
     ∙ typed-more m h (Press k) (answer.Special (act.Lock l))
     (rw (press-answer m h s k (Act (act.Lock l)) st seen, idle-none (resolved (between m m) h) s k st.exact idle) refl)
@@ -164,8 +165,8 @@ changes-tap u h s k x idle changes =
 changes-move : (m : MapValue) (h : List Event) (s : State) (move : Move) → IsMove (alone m) s move
     → Stands (alone m) h s → ChangeKeys h
     → ChangeKeys (events_of_move move ++ h)
-changes-move m h s (Hold k i) (lt, idle, seen, free) st changes = (idle-up (alone m) h s k st idle, changes)
-changes-move m h s (Turn k l) (lt, idle, seen) st changes = changes-tap (alone m) h s k st idle changes
+changes-move m h s (Hold k i) ((lt, idle, made), free) st changes = (idle-up (alone m) h s k st idle, changes)
+changes-move m h s (Turn k l) ((lt, idle, made), other) st changes = changes-tap (alone m) h s k st idle changes
 changes-move m h s (LetGo k i) holds st changes = (holder-pressed (alone m) h s i k st holds, changes)
 changes-move m h s Exchange (free, loads) st changes = absurd (true≢false (sym loads))
 
@@ -188,6 +189,7 @@ walked m h s p cs path x is = record {
   stands = stands-from (alone m) h s path x.stands is;
   changes = changes-path m h s path x.stands is x.changes;
   pending = cc (pending-is m (events_along path ++ h), pending-along m h s path x.stands is, pending-is m h, x.pending);
+  scroll = scroll-along m h s path x.stands is ∙ x.scroll;
   typed = typed-path m h s path x.stands is ∙ x.typed;
 }
 
@@ -217,6 +219,7 @@ tap-direct m h s cs c k x is = record {
   stands = stands-tap (alone m) h s true (symbol.Character c) k x.stands is;
   changes = changes-tap (alone m) h s k x.stands is.1 x.changes;
   pending = cc (pending-tap m h s k (Char c) None x.stands is.2 (pending-character m k c (resolved (between m m) h)));
+  scroll = scroll-tap m h s k (Char c) x.stands is.2 (λ e. cc) ∙ x.scroll;
   typed =
       typed-release m (Press k ∷ h) k
       ∙ typed-more m h (Press k) (plainly c)
@@ -245,6 +248,7 @@ tap-dead m h s cs i k x is can =
       pending =
           pending-tap m h s k (Act (act.DeadKey i)) (Some i) x.stands is.2
           (rw (pending-action m k (act.DeadKey i) r, free, still) (dead-makes m i can));
+      scroll = scroll-tap m h s k (Act (act.DeadKey i)) x.stands is.2 (λ e. cc) ∙ x.scroll;
       typed =
           typed-release m (Press k ∷ h) k
           ∙ typed-more m h (Press k) answer.None
@@ -274,6 +278,7 @@ tap-composed m h s cs i (symbol.Character b) c k x is can made = record {
   stands = stands-tap (alone m) h s true (symbol.Character b) k x.stands is;
   changes = changes-tap (alone m) h s k x.stands is.1 x.changes;
   pending = cc (pending-tap m h s k (Char b) None x.stands is.2 (pending-character m k b (resolved (between m m) h)));
+  scroll = scroll-tap m h s k (Char b) x.stands is.2 (λ e. cc) ∙ x.scroll;
   typed =
       typed-release m (Press k ∷ h) k
       ∙ typed-more m h (Press k) (plainly c)
@@ -298,6 +303,7 @@ tap-composed m h s cs i (symbol.DeadKey j) c k x is can made =
           pending =
               pending-tap m h s k (Act (act.DeadKey i)) None x.stands is.2
               (rw (pending-action m k (act.DeadKey i) r, free, still) (own-ends m i can));
+          scroll = scroll-tap m h s k (Act (act.DeadKey i)) x.stands is.2 (λ e. cc) ∙ x.scroll;
           typed =
               typed-release m (Press k ∷ h) k
               ∙ typed-more m h (Press k) (plainly c)

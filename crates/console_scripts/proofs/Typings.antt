@@ -2,7 +2,7 @@
 use Rattle.console_scripts.proofs.Common.{zero, suc, ◌≡◌, ◌+◌, ◌<◌, ◌≤◌, ◌⊎◌, ℕ, Bool, inl, inr, true, false, List, []}
 use Rattle.console_scripts.proofs.Common.{◌∷◌, ◌++◌, All, Some, None, refl, ap, subst, sym, ◌∙◌, arith, append_assoc}
 use Rattle.console_scripts.proofs.Common.{map, reverse, take, length, get_or, slice_get, if◌then◌else◌, filter, rules}
-use Rattle.console_scripts.proofs.Common.{false_from_ne_true, reverse-append, reverse-reverse, take_more, take_all}
+use Rattle.console_scripts.proofs.Common.{reverse-append, reverse-reverse, take_more, take_all}
 use Rattle.console_scripts.proofs.Common.{All-nil, none-some, same_Some, MapValue, Event, Answer, between}
 use Rattle.console_scripts.proofs.Common.{accent_pending_after, HasKey, HasKeys, alone, State, start, state_from}
 use Rattle.console_scripts.proofs.Common.{events_along, CanType, IsAsNew, plainly, types_something, HasTyped, CanReturn}
@@ -19,13 +19,23 @@ use Rattle.keymap_core.proofs.Shared.{All-reversed}
 use Rattle.console_scripts.specs.Typing.{AreEnds, AreParts, AreTyped, Types, characters_of}
 use Rattle.console_core.proofs.Shared.{reverse-cons}
 use Rattle.console_scripts.proofs.Exploring.{start-returns}
-use Rattle.console_states.proofs.Shared.{idle-none, pending-is, stands-start}
+use Rattle.console_scripts.proofs.Common.{Alt, Caps, Num, Scroll, is_locked_after, resolved}
+use Rattle.console_core.proofs.Shared.{locked-start}
+use Rattle.console_states.proofs.Shared.{each-lock, idle-none, pending-is, stands-start}
 use Rattle.console_scripts.proofs.Taps.{quiet-free, walked}
 
 -- a console that stands at the start, with nothing pending, is as a new one
 pub as-new : (m : MapValue) (h : List Event) → Stands (alone m) h start → accent_pending_after (between m m) h ≡ None
-    → IsAsNew m h
-as-new m h st none = search (rules, false_from_ne_true, none-some, idle-none)
+    → is_locked_after (between m m) Scroll h ≡ false → IsAsNew m h
+as-new m h st none scroll = record {
+  quiet = quiet-free (alone m) h start st (λ i. refl);
+  remembered = λ k. idle-none (resolved (between m m) h) start k st.exact (λ i holds. none-some k holds);
+  on = st.exact.follows.on;
+  down = st.exact.up;
+  locked = each-lock (λ l. is_locked_after (between m m) l h ≡ false) (st.exact.follows.locked Caps (λ e. cc))
+      (st.exact.follows.locked Num (λ e. cc)) scroll (st.exact.follows.locked Alt (λ e. cc));
+  pending = none;
+}
 
 -- the answers that type something, in their order
 kept-filter : (t : Bool) (a : Answer) (xs ys : List Answer)
@@ -79,6 +89,7 @@ typed-none m cs keyed es s none nothing is = record {
     stands = rw (nothing, is) (stands-start (alone m));
     changes = rw nothing tt;
     pending = cc (nothing, pending-is m [], resolved-start (between m m), pending-start m);
+    scroll = rw (nothing, resolved-start (between m m)) (locked-start Scroll);
     typed = ap (λ z. typed_along m (reverse z)) nothing;
   };
   below = omega arith;
@@ -184,12 +195,12 @@ pub typed-all : (m : MapValue) (cs : List ℕ) (place : ℕ) (x : Typing) (es : 
     → HaveBeenTyped m cs place x.keyed.items es s → take place cs ≡ cs
     → GoesHome (alone m) s (reverse es) (reverse x.events.items) → (cs ≡ [] → x.events.items ≡ [])
     → AreTyped m cs x
-typed-all m cs place x es s typed all (back, is, home, off, e) none =
+typed-all m cs place x es s typed all (back, is, home, e) none =
     let now : List Event = x.events.items in
     let there : State = state_from (alone m) s back in
     let first : there.is_second ≡ false =
     cc (path-first m s back is, typed.can_return.leads, path-first m start typed.can_return.path typed.can_return.is) in
-    let ends : there ≡ start = home-start there home first off in
+    let ends : there ≡ start = home-start there home first in
     let end : HasTyped m (reverse now) start None cs =
     rw (e, ← ends, ← all) (walked m (reverse es) s None (take place cs) back typed.typed is) in
     let behind : now ≡ es ++ reverse (events_along back) =
@@ -203,7 +214,7 @@ typed-all m cs place x es s typed all (back, is, home, off, e) none =
       none = none;
       types = typed-answers m now cs end.typed;
       parts = rw behind (parts-later m cs x.keyed.items es (reverse (events_along back)) typed.parts);
-      new = as-new m (reverse now) end.stands end.pending;
+      new = as-new m (reverse now) end.stands end.pending end.scroll;
     }
 
 -- nothing is typed where there was nothing to type
@@ -211,4 +222,4 @@ pub typed-nothing : (m : MapValue) (cs : List ℕ) (x : Typing) → cs ≡ [] �
     → AreTyped m cs x
 typed-nothing m cs x empty keyed events =
     typed-all m cs 0 x [] start (typed-none m cs x.keyed.items [] start keyed refl refl) (sym empty)
-    ([], tt, ((λ i. refl), (λ l other. refl)), refl, ap (λ z. reverse z) events) (λ e. events)
+    ([], tt, ((λ i. refl), (λ l. refl)), ap (λ z. reverse z) events) (λ e. events)

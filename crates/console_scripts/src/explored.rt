@@ -58,6 +58,7 @@ pub fn explore<'m>(
         first: map,
         second: map,
         has_loads: false,
+        presses: None,
     };
     let (met, end) = meet_all(alloc, &maps, &[*origin])?;
     let is_complete = match end {

@@ -1,75 +1,64 @@
-//! Makes visits that show what presses can see: each leads from home to a state in which a press sees
+//! Makes visits that show what presses can see: each leads from where a console rests to a state in which a press sees
 //! something, and to where a route leads home again.
-ghost use Rattle.std.specs.Prelude.{◌≡◌, ◌≢◌, ◌<◌, [], ℕ, false, true, None, Some, length, reverse, slice_get, OnOk};
-ghost use Rattle.std.specs.Prelude.{OnErr, IfOk, IfSome, MatchOption};
+ghost use Rattle.std.specs.Prelude.{◌≡◌, ◌<◌, ◌++◌, [], ℕ, List, false, true, None, Some, length, reverse};
+ghost use Rattle.std.specs.Prelude.{slice_get, OnOk, IfOk, IfSome, MatchOption};
 ghost use Rattle.keymap_core.specs.Maps.{MapValue};
 ghost use Rattle.keymap_core.specs.Numbers.{key_count};
+ghost use Rattle.console_core.specs.History.{between, HasKeys, HasNoLoads};
 ghost use Rattle.console_states.specs.declared.held.Held.{Held as HeldValue};
-ghost use Rattle.console_states.specs.Moves.{alone, start, free_with, state_of, with_lock_turned};
+ghost use Rattle.console_states.specs.Looks.{HoldsAt, IsLook};
+ghost use Rattle.console_states.specs.Moves.{alone, start, free_with, state_of};
 ghost use Rattle.console_states.specs.Returning.{IsAfter, but_scroll};
 ghost use Rattle.console_states.specs.Sights.{AreSightsOf};
-ghost use Rattle.console_scripts.specs.Types.{Scroll};
+ghost use Rattle.console_scripts.specs.Types.{Event as EventValue, Scroll};
 ghost use Rattle.console_scripts.specs.Typing.{ComesHome};
-ghost use Rattle.console_scripts.specs.Visiting.{AreStatesOf, CanReach, CanVisit, HasLocks, IsWayHome, LeadsBy, Visits};
+ghost use Rattle.console_scripts.specs.Visiting.{AreStatesOf, CanReach, CanVisit, IsNearHome, IsVisit, IsWayHome, LeadsBy};
+ghost use Rattle.console_scripts.specs.Visiting.{resting_after};
 ghost use Rattle.console_states.specs.Sticking.{ReachesMoreThan, state_limit};
 ghost use Rattle.console_scripts.specs.Inner.Exploring.{map_of_explored, origin_in, IsExplored, IsMetAt, IsTapAt};
 ghost use Rattle.console_scripts.specs.Inner.Exploring.{dead_tap};
+ghost use Rattle.console_scripts.specs.Inner.Routes.{HasRoute};
 ghost use Rattle.console_states.specs.Searching.{under_of, Entry};
-ghost use Rattle.console_scripts.specs.Inner.Showing.{IsAim, IsPressAt, IsRest, IsWhole, Leads, LeadsComposing};
-ghost use Rattle.console_scripts.specs.Inner.Showing.{LeadsToSee, ShowsNot, locks_in};
+ghost use Rattle.console_scripts.specs.Inner.Showing.{IsAim, IsWhole, Leads, LeadsComposing, LeadsToSee, Sees, Shows};
+ghost use Rattle.console_scripts.specs.Inner.Showing.{ShowsNot};
 
 use crate::explored::{Explored, Symbol, Tap, explore};
-use crate::onward::Reached;
 use crate::routes::has_route;
 use crate::showing::{come_home, tap};
 use console_core::{Event, Translator};
 use console_states::{
-    Held, KeyAt, Keymaps, Selection, Sight, Sights, entry, go_out, sights_in, state_at,
+    Held, KeyAt, Keymaps, Selection, Sight, Sights, entry, first_where, go_out, sights_in, state_at,
 };
-use keymap_core::{KeyCode, KeyMap, Lock};
+use keymap_core::{KEY_COUNT, KeyCode, KeyMap, Lock, key_with};
 use std::alloc::{AllocError, Global};
 use std::marker::Model;
 
-/// What a visit is to see, the press that sees it, behind which dead key, and the state behind it once all let go.
+/// What a visit is to see, the press that sees it, and behind which dead key.
 #[derive(Clone, Copy, Debug)]
 struct Aim {
     sight: Sight,
     at: KeyAt,
     dead: Option<KeyAt>,
-    next: Held,
 }
 
-/// A press of a key at a place, and the state behind it once all let go.
-#[derive(Clone, Copy, Debug)]
-struct PressAt {
-    at: KeyAt,
-    next: Held,
-}
-
-/// The states that presses lead to, that in which a console stands behind the events so far and a reset, and what the
-/// next visit is to see.
+/// The states that presses lead to, and routes home.
 #[derive(Drop)]
 pub struct Explorer<'m> {
     explored: Explored<'m>,
-    from: Held,
-    aim: Option<Aim>,
 }
 
 impl<'m> Model for Explorer<'m> {
     ghost use Rattle.console_scripts.specs.Visiting.{ExplorerValue};
-    ghost use Rattle.console_states.specs.Moves.{state_of};
-    ghost use Rattle.console_scripts.specs.Inner.Showing.{IsExplorer, locks_in, sight_aimed, states_in};
+    ghost use Rattle.console_scripts.specs.Inner.Showing.{IsWhole, states_in};
 
     ghost Value = { ExplorerValue };
 
     ghost view = { λ p. record {
       map = p.explored.maps.first.now;
       states = states_in p.explored.met.entries;
-      locks = locks_in (state_of p.from);
-      aim = sight_aimed p.aim;
     } };
 
-    ghost invariant = { λ p. IsExplorer p.explored (state_of p.from) p.aim };
+    ghost invariant = { λ p. IsWhole p.explored };
 }
 
 /// The state after a press of the key once all keys are let go.
@@ -83,16 +72,21 @@ fn after(held: &Held, maps: &Keymaps, key: KeyCode) -> Held
     }
 }
 
-/// Adds a tap of the key, if that keeps the state, and one more of a dead key, so that no accent of it stays pending.
-fn tap_steady(
+/// Adds a tap of the key, if it is wanted and keeps the state, and one more of a dead key, so that no accent of it stays
+/// pending.
+fn tap_if(
     events: &mut Vec<Event>,
     maps: &Keymaps,
     held: &Held,
     key: KeyCode,
+    is_wanted: bool,
 ) -> Result<(), AllocError>
     ensures { OnOk result ((m : MapValue) → under_of maps.now ≡ alone m
         → Leads m (state_of held.now) (state_of held.now) (reverse events.old.items) (reverse events.new.items)) }
 {
+    if !is_wanted {
+        return Ok(());
+    }
     if !held.is_steady(maps, key) {
         return Ok(());
     }
@@ -103,74 +97,73 @@ fn tap_steady(
     }
 }
 
-/// Adds one more press of the key, if it holds a modifier and that keeps the state, and else taps.
-fn press_steady(
+/// Adds taps of the keys that are wanted in the state and keep it, but for the one that is pressed there last.
+fn tap_wanted<F: Fn(Selection, KeyCode) -> bool>(
     events: &mut Vec<Event>,
     maps: &Keymaps,
     held: &Held,
-    key: KeyCode,
+    last: KeyCode,
+    wants: F,
 ) -> Result<(), AllocError>
+    requires { F.IsAlwaysCallable wants }
     ensures { OnOk result ((m : MapValue) → under_of maps.now ≡ alone m
         → Leads m (state_of held.now) (state_of held.now) (reverse events.old.items) (reverse events.new.items)) }
 {
-    if held.is_repeated(maps, key) {
-        events.push(Event::Press(key))?;
-        return Ok(());
-    }
-    tap_steady(events, maps, held, key)
-}
-
-/// Adds presses of those of the keys that keep the state, each with its release unless the key holds a modifier.
-fn tap_all(
-    events: &mut Vec<Event>,
-    maps: &Keymaps,
-    held: &Held,
-    keys: &[KeyCode],
-) -> Result<(), AllocError>
-    ensures { OnOk result ((m : MapValue) → under_of maps.now ≡ alone m
-        → Leads m (state_of held.now) (state_of held.now) (reverse events.old.items) (reverse events.new.items)) }
-{
-    for key in keys {
-        press_steady(events, maps, held, *key)?;
+    let selection = held.selection();
+    for code in 0..KEY_COUNT as u8 {
+        let key = key_with(code);
+        let is_wanted = key != last && wants(selection, key);
+        tap_if(events, maps, held, key, is_wanted)?;
     }
     Ok(())
 }
 
 impl<'m> Explored<'m> {
-    /// The first place where a press sees it and leads to where a route home begins, and that press.
-    fn press_seeing(&self, sight: Sight) -> Option<PressAt>
-        requires { IsWhole self.now }
-        ensures { MatchOption result
-            ((j : ℕ) (y : Entry) → slice_get self.now.met.entries j ≡ Some y → ShowsNot self.now sight y)
-            (λ p. IsPressAt self.now sight p.at (state_of p.next)) }
+    /// A key whose press sees it in the state, where a pair's accent is pending.
+    #[inline(always)]
+    fn key_seeing(&self, held: &Held, sight: Sight) -> Option<KeyCode>
+        ensures { MatchOption result ((k : ℕ) → Sees self.now sight held.now k → ⊥)
+            (λ k. Sees self.now sight held.now k) }
     {
-        for place in 0..self.met.len() {
-            let (held, _) = entry(&self.met, place);
-            if let Some(key) = held.selection().key_seeing(self.maps.first, sight) {
-                let next = after(&held, &self.maps, key);
-                if has_route(&self.routes, &next) {
-                    let at = KeyAt { place, key };
-                    return Some(PressAt { at, next });
-                }
-            }
+        held.selection().key_seeing(self.maps.first, sight)
+    }
+
+    /// A key whose press sees it in the state, and leads to where a route home begins, if it is to lead back.
+    #[inline(always)]
+    fn key_showing(&self, held: &Held, sight: Sight, leads_back: bool) -> Option<KeyCode>
+        ensures { MatchOption result (ShowsNot self.now sight leads_back held.now)
+            (λ k. Shows self.now sight leads_back held.now k) }
+    {
+        let Some(key) = self.key_seeing(held, sight) else {
+            return None;
+        };
+        if !leads_back {
+            return Some(key);
         }
-        None
+        if has_route(&self.routes, &after(held, &self.maps, key)) {
+            Some(key)
+        } else {
+            None
+        }
+    }
+
+    /// The first place where a press sees it, and leads to where a route home begins, if it is to lead back.
+    #[tactic(auto, using(console_states::proofs::Shared::look_tells))]
+    pub(crate) fn first_showing(&self, sight: Sight, leads_back: bool) -> Option<KeyAt>
+        ensures { IsLook (ShowsNot self.now sight leads_back) (Shows self.now sight leads_back)
+            self.now.met.entries result }
+    {
+        first_where(&self.met, |held| self.key_showing(&held, sight, leads_back))
     }
 
     /// How to see it, behind the dead key if there is one.
     fn aim_behind(&self, dead: Option<KeyAt>, sight: Sight) -> Option<Aim>
-        requires { IsWhole self.now }
-        ensures { MatchOption result
-            ((j : ℕ) (y : Entry) → slice_get self.now.met.entries j ≡ Some y → ShowsNot self.now sight y)
-            (λ a. IsPressAt self.now sight a.at (state_of a.next) × (a.sight ≡ sight) × (a.dead ≡ dead)) }
+        ensures { MatchOption result (IsLook (ShowsNot self.now sight true) (Shows self.now sight true)
+            self.now.met.entries None)
+            (λ a. HoldsAt (Shows self.now sight true) self.now.met.entries a.at × (a.sight ≡ sight) × (a.dead ≡ dead)) }
     {
-        match self.press_seeing(sight) {
-            Some(PressAt { at, next }) => Some(Aim {
-                sight,
-                at,
-                dead,
-                next,
-            }),
+        match self.first_showing(sight, true) {
+            Some(at) => Some(Aim { sight, at, dead }),
             None => None,
         }
     }
@@ -196,22 +189,24 @@ impl<'m> Explored<'m> {
         }
     }
 
-    /// Adds the events to the place, and taps of those of the keys that keep its state.
-    fn go_looking(
+    /// Adds the events to the place, and taps of keys that are wanted there and keep its state, but not of its own.
+    pub(crate) fn go_looking<F: Fn(Selection, KeyCode) -> bool>(
         &self,
         alloc: Global,
         events: &mut Vec<Event>,
-        place: usize,
-        keys: &[KeyCode],
+        at: KeyAt,
+        wants: F,
     ) -> Result<(), AllocError>
         requires explored { IsExplored self.now }
-        requires place { place < length self.now.met.entries }
-        ensures { OnOk result ((y : Entry) → slice_get self.now.met.entries place ≡ Some y
+        requires place { at.place < length self.now.met.entries }
+        requires wants { F.IsAlwaysCallable wants }
+        ensures { OnOk result ((y : Entry) → slice_get self.now.met.entries at.place ≡ Some y
             → Leads (map_of_explored self.now) (origin_in self.now) (state_of y.0)
             (reverse events.old.items) (reverse events.new.items)) }
     {
-        go_out(events, alloc, &self.met, place)?;
-        tap_all(events, &self.maps, &state_at(&self.met, place), keys)
+        go_out(events, alloc, &self.met, at.place)?;
+        let held = state_at(&self.met, at.place);
+        tap_wanted(events, &self.maps, &held, at.key, wants)
     }
 
     /// Adds the events to a dead key, a tap of it, and the events home and on to the place.
@@ -237,74 +232,61 @@ impl<'m> Explored<'m> {
     }
 
     /// Adds the events from home to where the press sees what is aimed at.
-    fn approach(
+    fn approach<F: Fn(Selection, KeyCode) -> bool>(
         &self,
         alloc: Global,
         events: &mut Vec<Event>,
         aim: &Aim,
-        keys: &[KeyCode],
+        wants: F,
     ) -> Result<(), AllocError>
         requires explored { IsWhole self.now }
         requires aim { IsAim self.now aim.now }
+        requires wants { F.IsAlwaysCallable wants }
         ensures { OnOk result ((y : Entry) → slice_get self.now.met.entries aim.now.at.place ≡ Some y
             → LeadsToSee (map_of_explored self.now) aim.now.sight start (state_of y.0)
             (reverse events.old.items) (reverse events.new.items)) }
     {
         match aim.dead {
             Some(dead) => self.go_composing(alloc, events, dead, aim.at.place),
-            None => self.go_looking(alloc, events, aim.at.place, keys),
-        }
-    }
-
-    /// What picks the cells where the press is made that sees what is aimed at, and its key, if no dead key comes
-    /// before.
-    fn press_told(&self, aim: &Aim) -> Option<(Selection, KeyCode)>
-        requires { IsAim self.now aim.now }
-    {
-        match aim.dead {
-            Some(_) => None,
-            None => Some((state_at(&self.met, aim.at.place).selection(), aim.at.key)),
+            None => self.go_looking(alloc, events, aim.at, wants),
         }
     }
 
     /// A reset, and the events home from the state and on to the press that sees what is aimed at.
-    fn events_of(
+    fn events_of<F: Fn(Selection, KeyCode) -> bool>(
         &self,
         alloc: Global,
         from: &Held,
         aim: &Aim,
-        keys: &[KeyCode],
+        wants: F,
     ) -> Result<Vec<Event>, AllocError>
         requires explored { IsWhole self.now }
-        requires from { IsRest self.now (state_of from.now) }
+        requires from { HasRoute self.now.routes.entries (state_of from.now) }
         requires aim { IsAim self.now aim.now }
-        ensures { IfOk result (λ events. Visits (map_of_explored self.now) (locks_in (state_of from.now))
-            (locks_in (state_of aim.now.next)) (Some aim.now.sight) (reverse events.items)) }
+        requires wants { F.IsAlwaysCallable wants }
+        ensures { let m = map_of_explored self.now in IfOk result (λ events. (h : List EventValue)
+            → state_of from.now ≡ resting_after m h → HasKeys h → HasNoLoads h
+            → IsVisit m h aim.now.sight (reverse events.items) × IsNearHome m (reverse events.items ++ h)) }
     {
         let mut events = Vec::new(alloc);
         events.push(Event::Reset)?;
         come_home(&mut events, &self.routes, from)?;
-        self.approach(alloc, &mut events, aim, keys)?;
+        self.approach(alloc, &mut events, aim, wants)?;
         events.push(Event::Press(aim.at.key))?;
         Ok(events)
     }
 }
 
 impl<'m> Explorer<'m> {
-    /// An explorer for a console that is new, or nothing where there are more than 65,536 states.
+    /// An explorer of the keymap, or nothing where there are more than 65,536 states.
     pub fn new(alloc: Global, map: &'m KeyMap) -> Result<Option<Explorer<'m>>, AllocError>
         ensures explorer { IfOk result (λ x. MatchOption x ((p : ℕ) × ReachesMoreThan (alone map.now) state_limit p)
-            (λ p. (p.map ≡ map.now) × HasLocks map.now p.locks [])) }
+            (λ p. p.map ≡ map.now)) }
         ensures states { IfOk result (λ x. IfSome x (λ p. AreStatesOf map.now p.states)) }
-        ensures aim { IfOk result (λ x. IfSome x (λ p. p.aim ≡ None)) }
     {
         let explored = explore(alloc, map, &Held::start())?;
         if explored.is_complete {
-            Ok(Some(Explorer {
-                explored,
-                from: Held::start(),
-                aim: None,
-            }))
+            Ok(Some(Explorer { explored }))
         } else {
             Ok(None)
         }
@@ -317,57 +299,32 @@ impl<'m> Explorer<'m> {
         sights_in(alloc, &self.explored.met, &self.explored.maps)
     }
 
-    /// Aims at it, unless it can't be visited.
-    pub fn aim_at(&mut self, sight: Sight) -> bool
-        ensures kept { (self.new.map ≡ self.old.map) × (self.new.locks ≡ self.old.locks) }
-        ensures states { self.new.states ≡ self.old.states }
-        ensures found { result ≡ true → self.new.aim ≡ Some sight }
-        ensures never { result ≡ false → CanVisit self.old.map sight → ⊥ }
-        ensures none { result ≡ false → self.new.aim ≡ None }
+    /// The events of a visit from where the console stands while no key holds a modifier, if that is near home: a
+    /// reset, moves, and a press that sees it; nothing where it can't be visited. Keys that are wanted are tapped
+    /// before that press, if they keep the state; not where it is behind a dead key. Which keys are tapped on the way is
+    /// in no clause: a visit without them sees what it is to see, too.
+    pub fn visit<T: Translator, F: Fn(Selection, KeyCode) -> bool>(
+        &self,
+        alloc: Global,
+        console: &T,
+        sight: Sight,
+        wants: F,
+    ) -> Result<Option<Vec<Event>>, AllocError>
+        requires { F.IsAlwaysCallable wants }
+        ensures { let m = self.now.map in IfOk result (λ x. (h : List EventValue)
+            → T.stands console.now (between m m) h → HasNoLoads h → IsNearHome m h
+            → MatchOption x (CanVisit m sight → ⊥)
+            (λ events. IsVisit m h sight (reverse events.items) × IsNearHome m (reverse events.items ++ h))) }
     {
-        let _map: &KeyMap = self.explored.maps.first;
-        match self.explored.aim_at(sight) {
-            Some(aim) => {
-                self.aim = Some(aim);
-                true
-            }
-            None => {
-                self.aim = None;
-                false
-            }
+        let Some(aim) = self.explored.aim_at(sight) else {
+            return Ok(None);
+        };
+        let from = Held::free(console);
+        if !has_route(&self.explored.routes, &from) {
+            return Ok(None);
         }
-    }
-
-    /// What picks the cells where the next visit leads, and the key that is pressed there, if others may be tapped
-    /// before.
-    pub fn next_press(&self) -> Option<(Selection, KeyCode)> {
-        match self.aim {
-            Some(aim) => self.explored.press_told(&aim),
-            None => None,
-        }
-    }
-
-    /// The events of a visit. The keys are tapped there that keep the state; not where it is behind a dead key. Which
-    /// keys are tapped on the way is in no clause: a visit without them sees what it is to see, too.
-    pub fn visit(&mut self, alloc: Global, keys: &[KeyCode]) -> Result<Vec<Event>, AllocError>
-        ensures kept { self.new.map ≡ self.old.map }
-        ensures states { self.new.states ≡ self.old.states }
-        ensures done { OnOk result (self.new.aim ≡ None) }
-        ensures none { IfOk result (λ events. self.old.aim ≡ None → (events.items ≡ []) × (self.new ≡ self.old)) }
-        ensures refused { OnErr result (self.new ≡ self.old) }
-        ensures visits { IfOk result (λ events. Visits self.old.map self.old.locks self.new.locks self.old.aim
-            (reverse events.items)) }
-    {
-        let _map: &KeyMap = self.explored.maps.first;
-        match self.aim {
-            Some(aim) => {
-                let events = self.explored.events_of(alloc, &self.from, &aim, keys)?;
-                self.from = aim.next;
-                self.aim = None;
-                Ok(events)
-            }
-            None => Ok(Vec::new(alloc)),
-        }
+        let events = self.explored.events_of(alloc, &from, &aim, wants)?;
+        Ok(Some(events))
     }
 }
 
@@ -380,33 +337,24 @@ impl<'m> Explorer<'m> {
         self.explored.met.len()
     }
 
-    /// The state at the place, if moves lead home from there.
-    pub fn state(&self, place: usize) -> Option<Reached>
-        ensures { MatchOption result ((x : HeldValue) → slice_get self.now.states place ≡ Some x
-            → ComesHome (alone self.now.map) (state_of x) → ⊥) (λ r. (slice_get self.now.states place ≡ Some r.held)
-            × ComesHome (alone self.now.map) (state_of r.held)) }
+    /// The state at the place, if there is one.
+    pub fn state(&self, place: usize) -> Option<Held>
+        ensures { result ≡ slice_get self.now.states place }
     {
         if place >= self.explored.met.len() {
             return None;
         }
         let (held, _) = entry(&self.explored.met, place);
-        if has_route(&self.explored.routes, &held) {
-            Some(Reached { held })
-        } else {
-            None
-        }
+        Some(held)
     }
 
-    /// Whether moves lead home from where that lock alone is on. The scroll lock may stay on.
-    pub fn takes_back(&self, lock: Lock) -> bool
-        ensures back { result ≡ true → lock ≢ Scroll → ComesHome (alone self.now.map) (with_lock_turned start lock) }
-        ensures one_way { result ≡ false → (lock ≢ Scroll) × (CanReach self.now.map (with_lock_turned start lock)
-            → ComesHome (alone self.now.map) (with_lock_turned start lock) → ⊥) }
+    /// Whether moves lead home from the state, if moves lead to it.
+    pub fn leads_home(&self, held: &Held) -> bool
+        ensures home { result ≡ true → ComesHome (alone self.now.map) (state_of held.now) }
+        ensures astray { result ≡ false → CanReach self.now.map (state_of held.now)
+            → ComesHome (alone self.now.map) (state_of held.now) → ⊥ }
     {
-        match lock {
-            Lock::Scroll => true,
-            _ => has_route(&self.explored.routes, &Held::start().with_turned(lock)),
-        }
+        has_route(&self.explored.routes, held)
     }
 
     /// The events from home to the place, if there is a state.

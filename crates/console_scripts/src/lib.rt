@@ -9,9 +9,9 @@
 //! character that no keys can type. A `Typist` tells of each character whether keys can type it, and `yield_of` makes
 //! the set of all that they can, with the actions that taps give.
 //!
-//! No call takes memory but `find_onward`, `scroll_off`, `Reached::releases`, those of an `Explorer`, `Typist::new`,
-//! `yield_of` and `type_characters`. These fail for want of memory, `type_characters` besides where a
-//! character can't be typed or more than 65,536 states can be reached, and no other call fails.
+//! No call takes memory but `find_onward`, `scroll_off`, those of an `Explorer`, `Typist::new`, `yield_of` and
+//! `type_characters`. These fail for want of memory, `type_characters` besides where a character can't be typed or more
+//! than 65,536 states can be reached, and no other call fails.
 #![tactic(auto)]
 
 mod explored;
@@ -29,7 +29,7 @@ mod typist;
 mod ways;
 
 pub use explorer::Explorer;
-pub use onward::{Onward, Reached, find_onward, scroll_off};
+pub use onward::{find_onward, scroll_off};
 pub use typed::{Yield, yield_of};
 pub use typing::{Keyed, Typing, TypingError, type_characters};
 pub use typist::Typist;

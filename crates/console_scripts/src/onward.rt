@@ -1,13 +1,11 @@
 //! Presses that no moves lead back from, and such as turn the scroll lock.
-ghost use Rattle.std.specs.Prelude.{◌≡◌, ◌<◌, ℕ, List, false, true, reverse, Some, IfOk, MatchOption};
+ghost use Rattle.std.specs.Prelude.{◌≡◌, ℕ, List, false, true, reverse, IfOk, MatchOption};
 ghost use Rattle.std.specs.List.{Contains};
-ghost use Rattle.keymap_core.specs.Actions.{modifiers};
-ghost use Rattle.console_scripts.specs.Types.{Event as EventValue, Scroll, Sight as SightValue, Turn};
+ghost use Rattle.console_scripts.specs.Types.{Act, Event as EventValue, Scroll, Sight as SightValue};
 ghost use Rattle.console_core.specs.History.{between, is_locked_after, HasKeys, HasNoLoads};
-ghost use Rattle.console_states.specs.Moves.{IsIdle, IsMove, free_with, releases, state_of};
-ghost use Rattle.console_states.specs.Returning.{but_scroll};
-ghost use Rattle.console_states.specs.Sights.{selection_of};
-ghost use Rattle.console_scripts.specs.Visiting.{CannotScroll, IsOnward, TurnsScrollOff, resting_after};
+ghost use Rattle.console_states.specs.Moves.{Takes, state_of};
+ghost use Rattle.keymap_core.specs.declared.action.Action.TheVariants.{Lock as LockAction};
+ghost use Rattle.console_scripts.specs.Visiting.{CannotScroll, CannotSee, IsOnward, TurnsScrollOff, resting_after};
 ghost use Rattle.console_scripts.specs.Inner.Exploring.{map_of_explored, origin_in, IsExplored};
 ghost use Rattle.console_states.specs.Searching.{under_of};
 ghost use Rattle.console_states.specs.Looks.{HoldsAt, IsFirst, IsNowhere};
@@ -15,118 +13,74 @@ ghost use Rattle.console_scripts.specs.Inner.Showing.{Sees, TurnsScroll};
 
 use crate::explored::{Explored, explore};
 use console_core::{Event, Translator};
-use console_states::{Held, KeyAt, Keymaps, Selection, Sight, first_where, go_out, state_at};
+use console_states::{Held, KeyAt, Keymaps, Selection, Sight, first_where, go_out};
 use keymap_core::{KEY_COUNT, KeyCode, KeyMap, Lock, key_with};
 use std::alloc::{AllocError, Global};
 
-/// A state that moves lead to.
-#[derive(Clone, Copy, Debug)]
-pub struct Reached {
-    pub(crate) held: Held,
-}
-
-impl Reached {
-    /// What picks the cells that keys look up.
-    pub fn selection(&self) -> Selection
-        ensures { result ≡ selection_of (state_of self.now.held) }
-    {
-        self.held.selection()
-    }
-
-    /// Whether the key holds a modifier.
-    pub fn holds(&self, key: KeyCode) -> bool
-        ensures idle { result ≡ false → IsIdle (state_of self.now.held) key }
-        ensures busy { result ≡ true → IsIdle (state_of self.now.held) key → ⊥ }
-    {
-        self.held.holds(key)
-    }
-
-    /// The releases of the keys that hold modifiers, in the order of the modifiers.
-    pub fn releases(&self, alloc: Global) -> Result<Vec<Event>, AllocError>
-        ensures { IfOk result (λ events. events.items ≡ releases (state_of self.now.held) modifiers) }
-    {
-        let mut events = Vec::new(alloc);
-        self.held.push_releases(&mut events)?;
-        Ok(events)
-    }
-}
-
-/// A press of a key, the state in which it sees something, and the events that lead to that state.
-#[derive(Drop)]
-pub struct Onward {
-    pub events: Vec<Event>,
-    pub state: Reached,
-    pub key: KeyCode,
-}
-
 impl<'m> Explored<'m> {
-    /// A key whose press sees it in the state, where a pair's accent is pending.
-    #[inline(always)]
-    fn key_seeing(&self, held: &Held, sight: Sight) -> Option<KeyCode>
-        ensures { MatchOption result ((k : ℕ) → Sees self.now sight held.now k → ⊥)
-            (λ k. Sees self.now sight held.now k) }
-    {
-        held.selection().key_seeing(self.maps.first, sight)
-    }
-
-    /// The first place where a press sees it, whether moves lead back or not, and its key.
-    #[tactic(auto, using(console_states::proofs::Shared::look_tells))]
-    fn first_seeing(&self, sight: Sight) -> Option<KeyAt>
-        ensures { IsFirst (Sees self.now sight) self.now.met.entries result }
-    {
-        first_where(&self.met, |held| self.key_seeing(&held, sight))
-    }
-
     /// The first place where a press sees the first of these that some press sees, and its key.
     fn first_seeing_any(&self, sights: &[Sight]) -> Option<KeyAt>
-        ensures { MatchOption result ((x : SightValue) → Contains sights.now x → IsNowhere (Sees self.now x) self.now.met.entries)
+        ensures { MatchOption result ((x : SightValue) → Contains sights.now x
+            → IsNowhere (Sees self.now x) self.now.met.entries)
             (λ at. (x : SightValue) × Contains sights.now x × HoldsAt (Sees self.now x) self.now.met.entries at) }
     {
         for sight in sights {
-            if let Some(at) = self.first_seeing(*sight) {
+            if let Some(at) = self.first_showing(*sight, false) {
                 return Some(at);
             }
         }
         None
     }
 
-    /// A press that sees one of these, from the origin, whether moves lead back or not.
-    fn go_onward(&self, alloc: Global, sights: &[Sight]) -> Result<Option<Onward>, AllocError>
-        requires { IsExplored self.now }
-        ensures { IfOk result (λ x. IsOnward (map_of_explored self.now) (origin_in self.now) sights.now x) }
+    /// The events that see one of these from the origin, if that is where the console stands.
+    fn go_onward<F: Fn(Selection, KeyCode) -> bool>(
+        &self,
+        alloc: Global,
+        sights: &[Sight],
+        wants: F,
+    ) -> Result<Option<Vec<Event>>, AllocError>
+        requires explored { IsExplored self.now }
+        requires wants { F.IsAlwaysCallable wants }
+        ensures { let m = map_of_explored self.now in IfOk result (λ x. (h : List EventValue)
+            → origin_in self.now ≡ resting_after m h → HasKeys h → HasNoLoads h
+            → MatchOption x ((y : SightValue) → Contains sights.now y → CannotSee m h y)
+            (λ events. IsOnward m h sights.now (reverse events.items))) }
     {
         let Some(at) = self.first_seeing_any(sights) else {
             return Ok(None);
         };
+        let key = at.key;
         let mut events = Vec::new(alloc);
-        go_out(&mut events, alloc, &self.met, at.place)?;
-        let held = state_at(&self.met, at.place);
-        Ok(Some(Onward {
-            events,
-            state: Reached { held },
-            key: at.key,
-        }))
+        events.push(Event::Reset)?;
+        self.go_looking(alloc, &mut events, at, wants)?;
+        events.push(Event::Press(key))?;
+        Ok(Some(events))
     }
 }
 
-/// A press that sees one of these, from where the console stands while no key holds a modifier, whether moves lead back
-/// or not.
-pub fn find_onward<T: Translator>(
+/// The events that see one of these from where the console stands while no key holds a modifier, whether moves lead back
+/// or not: a reset, moves, taps of keys that are wanted, and a press.
+pub fn find_onward<T: Translator, F: Fn(Selection, KeyCode) -> bool>(
     alloc: Global,
     map: &KeyMap,
     console: &T,
     sights: &[Sight],
-) -> Result<Option<Onward>, AllocError>
-    ensures { IfOk result (λ x. IsOnward map.now (free_with (but_scroll (T.shows_locked console.now))) sights.now x) }
+    wants: F,
+) -> Result<Option<Vec<Event>>, AllocError>
+    requires { F.IsAlwaysCallable wants }
+    ensures { IfOk result (λ x. (h : List EventValue) → T.stands console.now (between map.now map.now) h → HasNoLoads h
+        → MatchOption x ((y : SightValue) → Contains sights.now y → CannotSee map.now h y)
+        (λ events. IsOnward map.now h sights.now (reverse events.items))) }
 {
     let explored = explore(alloc, map, &Held::free(console))?;
-    explored.go_onward(alloc, sights)
+    explored.go_onward(alloc, sights, wants)
 }
 
 /// Whether a press of the key turns the scroll lock.
 fn is_turned_by(held: &Held, maps: &Keymaps, key: KeyCode) -> bool
-    ensures turns { result ≡ true → IsMove (under_of maps.now) (state_of held.now) (Turn key Scroll) }
-    ensures never { result ≡ false → IsMove (under_of maps.now) (state_of held.now) (Turn key Scroll) → ⊥ }
+    ensures turns { result ≡ true → Takes (under_of maps.now) (state_of held.now) key (Act (LockAction Scroll)) }
+    ensures never { result ≡ false
+        → Takes (under_of maps.now) (state_of held.now) key (Act (LockAction Scroll)) → ⊥ }
 {
     matches!(held.turned_by(maps, key), Some(Lock::Scroll))
 }
@@ -134,8 +88,8 @@ fn is_turned_by(held: &Held, maps: &Keymaps, key: KeyCode) -> bool
 /// A key whose press turns the scroll lock.
 fn key_turning(held: &Held, maps: &Keymaps) -> Option<KeyCode>
     ensures { MatchOption result
-        ((k : ℕ) → IsMove (under_of maps.now) (state_of held.now) (Turn k Scroll) → ⊥)
-        (λ k. IsMove (under_of maps.now) (state_of held.now) (Turn k Scroll)) }
+        ((k : ℕ) → Takes (under_of maps.now) (state_of held.now) k (Act (LockAction Scroll)) → ⊥)
+        (λ k. Takes (under_of maps.now) (state_of held.now) k (Act (LockAction Scroll))) }
 {
     for code in 0..KEY_COUNT as u8 {
         let key = key_with(code);

@@ -1,7 +1,6 @@
 -- Behind a list that is spoken of a console stands where moves lead from the start, so moves from there lead to nothing
 -- that can't be seen.
-use Rattle.std.proofs.Common.{rules}
-use Rattle.keymap_cover.proofs.Common.{◌≡◌, Bool, false, List, ◌++◌, ap, subst, sym, ◌∙◌, reverse}
+use Rattle.keymap_cover.proofs.Common.{◌≡◌, Bool, false, List, ◌++◌, ap, refl, subst, sym, ◌∙◌, reverse}
 use Rattle.keymap_cover.proofs.Common.{MapValue, Event, Sight, IsPair, IsReachable, alone, between, resolved}
 use Rattle.keymap_core.specs.declared.action.Modifier.{Modifier}
 use Rattle.console_core.specs.History.{is_on_after}
@@ -9,10 +8,10 @@ use Rattle.console_states.specs.declared.held.Move.{Move}
 use Rattle.console_states.specs.declared.selection.Sight.TheVariants as sight
 use Rattle.console_states.specs.Inner.Standing.{Follows}
 use Rattle.console_states.specs.Moves.{IsPathFrom, State, start, state_from}
-use Rattle.console_states.specs.Returning.{unscrolled}
 use Rattle.console_states.specs.Sights.{CanPend, IsAdmitted, SeesBy, selection_of}
 use Rattle.console_states.specs.Sticking.{NeverForgets}
-use Rattle.console_states.proofs.Shared.{near-path, path-first, same_states, stands-in}
+use Rattle.console_states.proofs.Shared.{each-lock, path-first, path-off, same_states, stands-in}
+use Rattle.keymap_core.specs.declared.action.Lock.TheVariants.{Alt, Caps, Num, Scroll}
 use Rattle.console_scripts.specs.Visiting.{SeesFrom, resting_after}
 use Rattle.console_scripts.proofs.Shared.{path-append}
 use Rattle.keymap_cover.specs.Covering.{IsAtRest, NothingIsAhead, history}
@@ -20,10 +19,13 @@ use Rattle.keymap_cover.proofs.Scripts.{never-forgets, not-some}
 use Rattle.keymap_cover.proofs.Showing.{events-loads}
 
 -- at rest a console stands in the free state with the locks that are on, but for the scroll lock
-near-resting : (m : MapValue) (h : List Event) (s : State) → Follows (resolved (between m m) h) s
-    → ((i : Modifier) → is_on_after (between m m) i h ≡ false) → s.is_second ≡ false
-    → unscrolled s ≡ unscrolled (resting_after m h)
-near-resting m h s f off first = search (rules, same_states, not-some)
+at-resting : (m : MapValue) (h : List Event) (s : State) → Follows (resolved (between m m) h) s
+    → ((i : Modifier) → is_on_after (between m m) i h ≡ false) → s.is_second ≡ false → s.is_locked Scroll ≡ false
+    → resting_after m h ≡ s
+at-resting m h s f off first scroll =
+    same_states (resting_after m h) s (λ i. sym (not-some (s.holder i) (sym (f.on i) ∙ off i)))
+    (each-lock (λ l. (resting_after m h).is_locked l ≡ s.is_locked l) (f.locked Caps (λ e. cc))
+    (f.locked Num (λ e. cc)) (sym scroll) (f.locked Alt (λ e. cc))) (sym first)
 
 -- a cell or a lock setting needs no accent
 needs-none : (m : MapValue) (path : List Move) (x : Sight) → (IsPair x → ⊥) → CanPend m path x
@@ -37,19 +39,16 @@ seen-from : (m : MapValue) (forgets : Bool) (h : List Event) (x : Sight) → (fo
 seen-from m forgets h x never admitted rest key (path, is, (k, lt, sees)) =
     let u = alone m in
     let (s, (way, made, there), f, second) = stands-in m forgets h never admitted in
-    let near =
-    near-resting m h s f rest.1 (ap (λ (z : State). z.is_second) (sym there) ∙ path-first m start way made) in
-    let (goes, alike) = near-path u (resting_after m h) s path near is in
-    let (whole, leads) = path-append u start way path made (subst (λ z. IsPathFrom u z path) (sym there) goes) in
-    let same = leads ∙ ap (λ z. state_from u z path) there in (
+    let rests : resting_after m h ≡ s =
+    at-resting m h s f rest.1 (ap (λ (z : State). z.is_second) (sym there) ∙ path-first m start way made)
+    (ap (λ (z : State). z.is_locked Scroll) (sym there) ∙ path-off m start way made refl) in
+    let begins = rests ∙ sym there in
+    let (whole, leads) = path-append u start way path made (subst (λ z. IsPathFrom u z path) begins is) in
+    let same = leads ∙ ap (λ z. state_from u z path) (sym begins) in (
       path ++ way,
       whole,
       needs-none m (path ++ way) x key,
-      (
-        k,
-        lt,
-        subst (λ z. SeesBy m z k x) (sym (ap (λ z. selection_of z) same ∙ ap (λ z. selection_of z) alike)) sees,
-      ),
+      (k, lt, subst (λ z. SeesBy m z k x) (sym (ap (λ z. selection_of z) same)) sees),
     )
 
 pub nothing_is_ahead : NothingIsAhead

@@ -12,7 +12,7 @@ pub use Rattle.keymap_core.specs.Maps.{MapValue}
 pub use Rattle.keymap_cover.specs.Covering.{HoldParts, IsSeenBy, SeesKeysBy, SeesToldBy}
 pub use Rattle.keymap_cover.specs.Inner.Pairs.{base_pair, pairs_at, pairs_in}
 pub use Rattle.keymap_cover.specs.Inner.Scripts.{AddsPair, AreUp, ComesAfter, GoesAlong, GoesAlongToRest}
-pub use Rattle.keymap_cover.specs.Inner.Scripts.{GoesOn, GoesResting, GoesUnderWay, IsScript, Standing}
+pub use Rattle.keymap_cover.specs.Inner.Scripts.{GoesOn, GoesUnderWay, IsScript, Standing}
 pub use Rattle.keymap_cover.specs.SeenSights.{has_seen, is_pair}
 pub use Rattle.keymap_cover.specs.SightLists.{cell_at_place, cell_place, lock_setting_at_place, lock_setting_place}
 unfoldable pub use Rattle.keymap_cover.specs.SightLists.{all_cells, all_lock_settings}

@@ -6,7 +6,8 @@ use Rattle.keymap_cover.proofs.Common.{AreUp, HoldParts, ScriptEvent, ℕ}
 use Rattle.std.proofs.lemmas.List.{take_all}
 use Rattle.console_core.specs.History.{HasKeys}
 use Rattle.keymap_cover.specs.declared.parts.Cover.{Cover}
-use Rattle.keymap_cover.specs.Covering.{CannotSee, IsAtRest, IsScrollOff, Covers}
+use Rattle.console_scripts.specs.Visiting.{CannotSee}
+use Rattle.keymap_cover.specs.Covering.{IsAtRest, IsScrollOff, Covers}
 use Rattle.keymap_cover.proofs.Showing.{sees-more}
 
 pub script-covers : (m : MapValue) (h : List Event) (c : Cover) (down : List Bool)

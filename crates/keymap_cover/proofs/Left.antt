@@ -1,7 +1,7 @@
 -- What is left of a list of sights: those that pass a test. None of the cells and lock settings is a pair.
 use Rattle.std.proofs.Common.{rules}
 use Rattle.keymap_cover.proofs.Common.{zero, suc, ◌≡◌, ℕ, ◌+◌, ◌≤◌, Bool, true, false, List, [], ◌∷◌, ◌++◌, refl}
-use Rattle.keymap_cover.proofs.Common.{ap, ◌∙◌, ◌<◌, subst, sym, arith, filter, inl, inr, length, map, Contains}
+use Rattle.keymap_cover.proofs.Common.{ap, ◌∙◌, subst, sym, arith, filter, inl, inr, length, map, Contains}
 use Rattle.keymap_cover.proofs.Common.{range_with_len}
 use Rattle.keymap_cover.proofs.Common.{Contains-append_cases, Sight, all_cells, all_lock_settings, cell_at_place}
 use Rattle.keymap_cover.proofs.Common.{lock_setting_at_place, IsPair}

@@ -1,113 +1,36 @@
 -- A script goes onward while it sees more of what is left, and then no moves lead to a press that sees any of it.
-use Rattle.std.proofs.Common.{rules}
 use Rattle.keymap_cover.proofs.Common.{◌≡◌, ℕ, ◌+◌, ◌≤◌, ◌⊎◌, inl, inr, Bool, true, false, List, []}
-use Rattle.keymap_cover.proofs.Common.{◌∷◌, ◌++◌, Option, None, Some, refl, ap, subst, sym, ◌∙◌, arith, append_assoc}
-use Rattle.keymap_cover.proofs.Common.{filter, length, not, reverse, reverse-append, true≢false}
-use Rattle.keymap_cover.proofs.Common.{Contains, MapValue, Event, Sight, Script, Standing, alone, between, has_seen}
-use Rattle.keymap_cover.proofs.Common.{all_cells, all_lock_settings, AreTaken, SeesAlong}
+use Rattle.keymap_cover.proofs.Common.{◌∷◌, ◌++◌, refl, ap, subst, sym, ◌∙◌, arith}
+use Rattle.keymap_cover.proofs.Common.{filter, length, not, true≢false}
+use Rattle.keymap_cover.proofs.Common.{Contains, MapValue, Event, Sight, Script, Standing, between, has_seen}
+use Rattle.keymap_cover.proofs.Common.{all_cells, all_lock_settings}
 use Rattle.keymap_cover.proofs.Common.{◌<◌, ComesAfter, Contains-append_left, pairs_in}
-use Rattle.keymap_cover.proofs.Common.{AreSightsOf, IsPair, IsReachable, IsTold, AreUp, GoesAlongToRest, GoesResting}
-use Rattle.keymap_core.specs.declared.action.Lock.{Lock}
-use Rattle.console_core.specs.History.{is_locked_after, HasKeys, HasNoLoads}
-use Rattle.console_core.specs.declared.event.Event.TheVariants.{Press, Reset}
-use Rattle.console_states.specs.declared.held.Move.{Move}
-use Rattle.console_states.specs.declared.held.Move.TheVariants.{Hold, Turn, LetGo, Exchange}
-use Rattle.console_states.specs.declared.selection.Sight.TheVariants as sight
+use Rattle.keymap_cover.proofs.Common.{AreSightsOf, IsPair, IsReachable, IsTold, AreUp, GoesAlongToRest}
+use Rattle.console_core.specs.History.{HasNoLoads}
 use Rattle.console_states.specs.declared.sights.Sights.{Sights}
-use Rattle.console_states.specs.Inner.Standing.{Stands}
-use Rattle.console_states.specs.Moves.{free_with, IsMove, IsPathFrom, State, events_along, events_of_move, state_from}
-use Rattle.console_states.specs.Returning.{but_scroll}
-use Rattle.console_states.specs.Sights.{SeesBy, SeesNext, IsPendingFor, selection_of}
-use Rattle.console_states.proofs.Shared.{all-seen, going-sees, holder-pressed, near-path, press-presses}
-use Rattle.console_states.proofs.Shared.{sees-all, stands-from}
+use Rattle.console_states.proofs.Shared.{all-seen, sees-all}
 use Rattle.std.proofs.lemmas.Bool.{and_parts, false_from_ne_true}
 use Rattle.console_states.specs.Sights.{can_see}
-use Rattle.console_scripts.specs.declared.onward.Onward.{Onward}
-use Rattle.console_scripts.specs.Inner.Showing.{IsAt}
-use Rattle.console_scripts.specs.Visiting.{IsOnward, resting_after}
-use Rattle.console_scripts.proofs.Shared.{at-reset, shown-resting}
+use Rattle.console_scripts.specs.Visiting.{CannotSee, IsOnward}
 use Rattle.keymap_cover.specs.Covering.{IsScrollOff}
-use Rattle.keymap_cover.specs.Inner.OneWay.{is_left, AreKeys, AreLeft, GoesLeaving, GoesToNext, SeesRest}
+use Rattle.keymap_cover.specs.Inner.OneWay.{is_left, AreKeys, AreLeft, GoesToNext, SeesRest}
 use Rattle.keymap_cover.specs.Inner.Scripts.{GoesScrollOff, GoesToEnd, IsResting, TurnsNone}
-use Rattle.keymap_cover.proofs.Showing.{script-loads, seen-still, sees-longer}
+use Rattle.keymap_cover.proofs.Showing.{script-loads, seen-still, sees-ending, sees-longer}
 use Rattle.keymap_cover.proofs.Left.{filter-fewer, filter-has, filter-of, filter-passes, no-pairs}
 use Rattle.keymap_cover.proofs.Telling.{all-told, key-told}
 use Rattle.keymap_cover.proofs.Walking.{after-more}
 
 -- ---- a press onward
 
--- moves behind a reset are taken
-move-taken : (m : MapValue) (h before : List Event) (s : State) (move : Move) → Stands (alone m) (before ++ h) s
-    → IsMove (alone m) s move → AreTaken h before → AreTaken h (events_of_move move ++ before)
-move-taken m h before s (Hold k i) x can taken = (refl, tt, taken)
-move-taken m h before s (Turn k l) x can taken = (refl, press-presses k (before ++ h), (refl, tt, taken))
-move-taken m h before s (LetGo k i) x can taken = (refl, holder-pressed (alone m) (before ++ h) s i k x can, taken)
-move-taken m h before s Exchange x (free, loads) taken = absurd (true≢false (sym loads))
-
-moves-taken : (m : MapValue) (h : List Event) (s : State) (path : List Move) → Stands (alone m) (Reset ∷ h) s
-    → IsPathFrom (alone m) s path → AreTaken h (events_along path ++ Reset ∷ [])
-moves-taken m h s [] x is = (refl, tt, tt)
-moves-taken m h s (move ∷ path) x is =
-    rw (append_assoc (events_of_move move) (events_along path) (Reset ∷ []))
-    (move-taken m h (events_along path ++ Reset ∷ []) (state_from (alone m) s path) move
-    (rw (append_assoc (events_along path) (Reset ∷ []) h) (stands-from (alone m) (Reset ∷ h) s path x is.1)) is.0
-    (moves-taken m h s path x is.1))
-
--- a cell or a lock setting needs no accent
-waits : (m : MapValue) (h : List Event) (x : Sight) → (IsPair x → ⊥) → IsPendingFor m h x
-waits m h (sight.Cell slot column) key = tt
-waits m h (sight.Locks slot caps num) key = tt
-waits m h (sight.Pair accent c) key = absurd (key tt)
-
--- the events, newest first
-last-first : (e : List Event) (k : ℕ) (l : List Event) → reverse e ≡ l
-    → reverse (Reset ∷ (e ++ Press k ∷ [])) ≡ Press k ∷ (l ++ Reset ∷ [])
-last-first e k l is =
-    reverse-append (Reset ∷ e) (Press k ∷ [])
-    ∙ ap (λ z. Press k ∷ z) (reverse-append (Reset ∷ []) e ∙ ap (λ z. z ++ Reset ∷ []) is)
-
--- a reset, the events onward and the press are taken, and see one of the sights
-onward-sees : (m : MapValue) (h : List Event) (xs : List Sight) (o : Onward) (events : List Event)
-    → IsOnward m (resting_after m h) xs (Some o) → AreKeys xs → HasKeys h → HasNoLoads h
-    → events ≡ Reset ∷ (o.events.items ++ Press o.key ∷ [])
-    → AreTaken h (reverse events) × ((x : Sight) × Contains xs x × SeesAlong m (reverse events ++ h) x)
-onward-sees m h xs o events ((path, is, ends, led), lt, (x, has, sees)) single keys none made =
-    let u = alone m in
-    let s : State = resting_after m h in
-    let a : IsAt m s h (Reset ∷ []) = at-reset m s h (λ i. refl) refl keys none (refl, refl, refl) in
-    let (goes, alike) = near-path u s a.at path a.near is in
-    let last : reverse events ≡ Press o.key ∷ (events_along path ++ Reset ∷ []) =
-    ap reverse made ∙ last-first o.events.items o.key (events_along path) led in
-    let next : SeesNext m (events_along path ++ Reset ∷ h) o.key x =
-    going-sees m (Reset ∷ h) a.at path o.key x a.stands goes
-    (subst (λ z. SeesBy m z o.key x) (sym (ap (λ z. selection_of z) alike ∙ ap (λ z. selection_of z) ends)) sees)
-    (waits m (Reset ∷ h) x (single x has)) in (
-      rw last (refl, tt, moves-taken m h a.at path a.stands goes),
-      (
-        x,
-        has,
-        rw (last, append_assoc (events_along path) (Reset ∷ []) h)
-            ([], events_along path ++ Reset ∷ h, o.key, refl, next),
-      ),
-    )
-
--- what a console finds that shows these locks
-pub found-at : (m : MapValue) (h : List Event) (xs : List Sight) (shows : Lock → Bool) (found o : Option Onward)
-    → ((l : Lock) → shows l ≡ is_locked_after (between m m) l h)
-    → IsOnward m (free_with (but_scroll shows)) xs found → found ≡ o → IsOnward m (resting_after m h) xs o
-found-at m h xs shows found o same is e = search (rules, shown-resting)
-
 -- where there is such a press
-pub goes-next : {T : Type 0} (s : Standing T) (m : MapValue) (xs : List Sight) (o : Onward) (events : List Event)
-    (a b d : Script T)
-    → ((h : List Event) → s a.console (between m m) h → IsOnward m (resting_after m h) xs (Some o)) → AreKeys xs
-    → events ≡ Reset ∷ (o.events.items ++ Press o.key ∷ []) → GoesAlongToRest m (reverse events) s a b
-    → AreUp b.pressed → GoesScrollOff m s b d → GoesToNext m s xs a d true
-goes-next s m xs o events a b d finds single made walk up last h at off =
+pub goes-next : {T : Type 0} (s : Standing T) (m : MapValue) (xs : List Sight) (later : List Event) (a b d : Script T)
+    → ((h : List Event) → s a.console (between m m) h → HasNoLoads h → IsOnward m h xs later) → AreKeys xs
+    → GoesAlongToRest m later s a b → AreUp b.pressed → GoesScrollOff m s b d → GoesToNext m s xs a d true
+goes-next s m xs later a b d finds single walk up last h at off =
     let (g, run, rest, after, exact) = walk h at.0 in
-    let (taken, (x, has, sees)) =
-    onward-sees m h xs o events (finds h at.0.0) single at.0.1.keys (script-loads m h a at.0.1) made in
-    let turns : TurnsNone m (reverse events ++ h) g = exact taken in
+    let (x, has, sees) = finds h at.0.0 (script-loads m h a at.0.1) in
+    let (taken, ends) = sees (single x has) in
+    let turns : TurnsNone m (later ++ h) g = exact taken in
     let (f, resting, behind, scrolled) = last g (run, up, rest) in (
       f,
       resting,
@@ -117,24 +40,16 @@ goes-next s m xs o events a b d finds single made walk up last h at off =
         x,
         has,
         resting.0.1.all_seen x
-            (sees-longer m (reverse events ++ h) f x (after-more (reverse events ++ h) g f turns.0 behind) sees),
+            (sees-longer m (later ++ h) f x (after-more (later ++ h) g f turns.0 behind)
+            (sees-ending m h later x ends)),
       ),
     )
 
 -- where no moves lead to such a press
 pub goes-none : {T : Type 0} (s : Standing T) (m : MapValue) (xs : List Sight) (a : Script T)
-    → ((h : List Event) → s a.console (between m m) h → IsOnward m (resting_after m h) xs None)
+    → ((h : List Event) → s a.console (between m m) h → HasNoLoads h → (x : Sight) → Contains xs x → CannotSee m h x)
     → GoesToNext m s xs a a false
-goes-none s m xs a none h at off = (
-  h,
-  at,
-  ([], refl),
-  off,
-  (λ x has from. elim (none h at.0.0) [
-    | inl never ↦ absurd (never x has from)
-    | inr more ↦ more
-  ]),
-)
+goes-none s m xs a none h at off = (h, at, ([], refl), off, none h at.0.0 (script-loads m h a at.0.1))
 
 -- ---- what is left, round by round
 
@@ -157,36 +72,6 @@ left-fewer xs ys zs b d still is (each, of) = (
         → (has_seen d.seen x ≡ true) ⊎ Contains zs x
     by x among true e = inl e
     by x among false e = inr (subst (λ z. Contains z x) (sym is) (filter-has fails ys x among (ap not e)))
-
--- nothing is done
-pub leaves-all : {T : Type 0} (s : Standing T) (m : MapValue) (xs : List Sight) (a : Script T)
-    → GoesLeaving m s xs a a xs
-leaves-all s m xs a h at = (h, at, ([], refl), ((λ x has. inr has), (λ x has. has)))
-
-pub leaves-still : {T : Type 0} (s : Standing T) (m : MapValue) (xs ys : List Sight) (a b d : Script T)
-    → GoesLeaving m s xs a b ys → GoesResting m s b d → GoesLeaving m s xs a d ys
-leaves-still s m xs ys a b d first next h at =
-    let (g, v, after, (each, of)) = first h at in
-    let (f, u, more) = next g v in (
-      f,
-      u,
-      after-more h g f after more,
-      (
-        (λ x has. elim (each x has) [
-          | inl was ↦ inl (seen-still m g f b d x v.0.1 u.0.1 more was)
-          | inr among ↦ inr among
-        ]),
-        of,
-      ),
-    )
-
-pub leaves-fewer : {T : Type 0} (s : Standing T) (m : MapValue) (xs ys zs : List Sight) (a b d : Script T)
-    → GoesLeaving m s xs a b ys → GoesResting m s b d → zs ≡ filter (λ x. not (has_seen d.seen x)) ys
-    → GoesLeaving m s xs a d zs
-leaves-fewer s m xs ys zs a b d first next is h at =
-    let (g, v, after, left) = first h at in
-    let (f, u, more) = next g v in
-    (f, u, after-more h g f after more, left-fewer xs ys zs b d (λ x. seen-still m g f b d x v.0.1 u.0.1 more) is left)
 
 -- The console went on with the scroll lock off, and saw one more of the sights in each of n rounds at least.
 abbrev pub GoesRounds : {T : Type 0} → MapValue → Standing T → List Sight → Script T → Script T → List Sight → ℕ
@@ -292,30 +177,22 @@ some-left [] lt = absurd (omega (arith, lt))
 some-left (x ∷ xs) lt = (x, (0, omega arith, refl))
 
 -- Of what can be seen nothing is left, or no moves lead to it.
-pub goes-to_end : {T : Type 0} (s : Standing T) (m : MapValue) (sights : Sights) (left rest : List Sight)
-    (a b d e : Script T) → AreSightsOf m sights
-    → left ≡ filter (is_left m a.seen sights) (all_cells ++ all_lock_settings) → 0 < length left
-    → GoesLeaving m s left a b rest → GoesScrollOff m s b d → (AreKeys rest → SeesRest m s rest d e)
-    → GoesToEnd m s a e
-goes-to_end s m sights left rest a b d e are is some first scrolled further h at was_off =
-    let (g, v, after, (each, of)) = first h at in
-    let (f, u, more, off) = scrolled g v in
-    let (k, w, last, there, all) = further (λ x has pair. no-pairs x (listed x (of x has)) pair) f u off in
-    let on : ComesAfter g k = after-more g f k more last in
+pub goes-to_end : {T : Type 0} (s : Standing T) (m : MapValue) (sights : Sights) (left : List Sight) (a e : Script T)
+    → AreSightsOf m sights → left ≡ filter (is_left m a.seen sights) (all_cells ++ all_lock_settings)
+    → 0 < length left → (AreKeys left → SeesRest m s left a e) → GoesToEnd m s a e
+goes-to_end s m sights left a e are is some further h at off =
+    let (k, w, after, there, all) = further (λ x has pair. no-pairs x (listed x has) pair) h at off in
     let (x, has) = some-left left some in
     let p =
     and_parts (not (has_seen a.seen x)) (can_see m sights x)
     (filter-passes (is_left m a.seen sights) keys x (subst (λ z. Contains z x) is has)) in (
       k,
       w,
-      after-more h g k after on,
+      after,
       there,
       (λ x told key can. elim (left-or m sights left a are is x told key can) [
-        | inl was ↦ inl (seen-still m h k a e x at.0.1 w.0.1 (after-more h g k after on) was)
-        | inr has ↦ elim (each x has) [
-          | inl was ↦ inl (seen-still m g k b e x v.0.1 w.0.1 on was)
-          | inr still ↦ all x still
-        ]
+        | inl was ↦ inl (seen-still m h k a e x at.0.1 w.0.1 after was)
+        | inr has ↦ all x has
       ]),
       inr (
         x,

@@ -1,6 +1,6 @@
 -- A console goes from visit to visit, and sees what can be seen.
 use Rattle.std.proofs.Common.{rules}
-use Rattle.keymap_cover.proofs.Common.{suc, ◌≡◌, ℕ, ◌+◌, ◌<◌, ◌≤◌, true, false, List, [], ◌∷◌, ◌++◌, Some, refl}
+use Rattle.keymap_cover.proofs.Common.{suc, ◌≡◌, ℕ, ◌+◌, ◌<◌, ◌≤◌, true, false, List, [], ◌∷◌, ◌++◌, refl}
 use Rattle.keymap_cover.proofs.Common.{ap, subst, sym, inl, inr, ◌∙◌, arith, append_assoc, length, get_or, reverse}
 use Rattle.keymap_cover.proofs.Common.{Contains, eqb-true, eq-eqb, true≢false, IsSeenBy, HoldParts}
 use Rattle.std.proofs.lemmas.Bool.{false_from_ne_true}
@@ -9,7 +9,7 @@ use Rattle.keymap_cover.specs.declared.parts.Start.{Start}
 use Rattle.keymap_cover.specs.Parts.{starts_at}
 use Rattle.keymap_cover.proofs.Common.{get_or_default, All-nil, All-cons, Contains-append_cases, MapValue, Event, Sight}
 use Rattle.keymap_cover.proofs.Common.{Standing, SeesAlong, IsReachable, CanVisit, ScriptEvent, Script}
-use Rattle.keymap_cover.proofs.Common.{has_seen, take}
+use Rattle.keymap_cover.proofs.Common.{alone, between, has_seen, take}
 use Rattle.keymap_cover.proofs.Common.{SeesKeysBy, SeesToldBy, reverse-append}
 use Rattle.keymap_cover.proofs.Common.{all_cells, all_lock_settings, event_of, events_of, is_down, pairs_in}
 use Rattle.keymap_cover.proofs.Common.{GoesAlongToRest, ComesAfter, AreUp, GoesUnderWay}
@@ -17,12 +17,13 @@ use Rattle.std.proofs.Common.{length-append}
 use Rattle.std.proofs.Common.{◌-◌, drop}
 use Rattle.std.proofs.Math.Seq.{drop-append_seam, take-add}
 use Rattle.std.proofs.lemmas.List.{length-reverse, length-take-le, take_all}
-use Rattle.keymap_core.specs.declared.action.Lock.TheVariants.{Caps, Num, Alt}
-use Rattle.console_core.specs.History.{HasNoLoads, IsNoLoad}
-use Rattle.console_scripts.specs.Visiting.{EndsSeeing, HasLocks, ExplorerValue, TurnsScrollOff, Visits}
+use Rattle.console_core.specs.History.{HasNoLoads, IsNoLoad, is_locked_after}
+use Rattle.console_scripts.specs.Typing.{ComesHome}
+use Rattle.console_scripts.specs.Visiting.{CanReach, EndsSeeing, IsNearHome, IsVisit, TurnsScrollOff, resting_after}
+use Rattle.console_scripts.proofs.Shared.{shown-resting, start-near}
 use Rattle.keymap_cover.specs.Covering.{IsScrollOff}
 use Rattle.keymap_cover.specs.Inner.Scripts.{RunsAlong, IsScriptOf, IsUnderWay, SeesAll, ShowsNew, ShowsTold}
-use Rattle.keymap_cover.specs.Inner.Scripts.{EndsAtRest, GoesScrollOff, GoesToEnd, IsResting}
+use Rattle.keymap_cover.specs.Inner.Scripts.{EndsAtRest, GoesResting, GoesScrollOff, GoesToEnd, IsResting}
 use Rattle.keymap_cover.proofs.Telling.{all-told, are-pairs, key-told}
 use Rattle.keymap_cover.proofs.Scripts.{at-rest_new}
 use Rattle.keymap_cover.proofs.Walking.{after-more}
@@ -50,7 +51,7 @@ sees-longer m h g x (more, is) (later, before, k, at, sees) =
     (more ++ later, before, k, ap (λ z. more ++ z) at ∙ sym (append_assoc more later _), sees)
 
 -- what the press sees that ends the events of a visit is seen along
-sees-ending : (m : MapValue) (h later : List Event) (x : Sight) → EndsSeeing m h later x → SeesAlong m (later ++ h) x
+pub sees-ending : (m : MapValue) (h later : List Event) (x : Sight) → EndsSeeing m h later x → SeesAlong m (later ++ h) x
 sees-ending m h later x (before, k, is, sees) =
     subst (λ z. SeesAlong m (z ++ h) x) (sym is) ([], before ++ h, k, refl, sees)
 
@@ -59,37 +60,28 @@ pub seen-still : {T : Type 0} (m : MapValue) (h g : List Event) (a b : Script T)
     → IsScriptOf m g b → ComesAfter h g → has_seen a.seen x ≡ true → has_seen b.seen x ≡ true
 seen-still m h g a b x before now after has = now.all_seen x (sees-longer m h g x after (before.seen x has))
 
--- a visit goes on, and sees what was aimed at
-pub visit-goes : {T : Type 0} (s : Standing T) (m : MapValue) (p : ExplorerValue) (a : Script T) (q : ExplorerValue)
-    (b : Script T) (later : List Event) → q.map ≡ p.map → Visits p.map p.locks q.locks p.aim later
-    → GoesAlongToRest m later s a b → AreUp b.pressed
-    → GoesUnderWay m s p a q b ((x : Sight) → p.aim ≡ Some x → IsReachable m x → has_seen b.seen x ≡ true)
-visit-goes s m p a q b later same visits walk up h ((at, ups, still), map, on) =
-    let (g, run, rest, after, exact) = walk h at in
-    let v = subst (λ z. Visits z p.locks q.locks p.aim later) map visits in
-    let (taken, locks, sees) = v h at.1.keys (script-loads m h a at.1) on in
-    let turns = exact taken in (
+-- a visit goes on near home, and sees the sight
+pub visit-goes : {T : Type 0} (s : Standing T) (m : MapValue) (a b : Script T) (x : Sight) (later : List Event)
+    → ((h : List Event) → s a.console (between m m) h → HasNoLoads h → IsNearHome m h
+    → IsVisit m h x later × IsNearHome m (later ++ h))
+    → GoesAlongToRest m later s a b → AreUp b.pressed → IsReachable m x
+    → GoesUnderWay m s a b (has_seen b.seen x ≡ true)
+visit-goes s m a b x later visits walk up can h (at, near) =
+    let (g, run, rest, after, exact) = walk h at.0 in
+    let ((taken, sees), ends) = visits h at.0.0 (script-loads m h a at.0.1) near in
+    let turns = exact taken in
+    let same : resting_after m (later ++ h) ≡ resting_after m g =
+    shown-resting m g (λ l. is_locked_after (between m m) l (later ++ h)) (λ l. sym (turns.1 l)) in (
       g,
-      (
-        (run, up, rest),
-        same ∙ map,
-        (turns.1 Caps ∙ locks.0, turns.1 Num ∙ locks.1, turns.1 Alt ∙ locks.2),
-      ),
+      ((run, up, rest), subst (λ z. CanReach m z × ComesHome (alone m) z) same ends),
       after,
-      (λ x aim can.
-          run.1.all_seen x (sees-longer m (later ++ h) g x turns.0 (sees-ending m h later x (sees x aim can)))),
+      run.1.all_seen x (sees-longer m (later ++ h) g x turns.0 (sees-ending m h later x (sees can))),
     )
 
--- the explorer aims at something else
-pub aims-else : {T : Type 0} (s : Standing T) (m : MapValue) (p q : ExplorerValue) (t : Script T) (h : List Event)
-    → (q.map ≡ p.map) × (q.locks ≡ p.locks) → IsUnderWay m s h p t → IsUnderWay m s h q t
-aims-else s m p q t h (map, locks) w = grind (arith)
-
 -- nothing is done
-pub stays-so : {T : Type 0} (s : Standing T) (m : MapValue) (p q : ExplorerValue) (t : Script T) (P : Type 0)
-    → (q.map ≡ p.map) × (q.locks ≡ p.locks) → ((h : List Event) → IsUnderWay m s h p t → P)
-    → GoesUnderWay m s p t q t P
-stays-so s m p q t P same holds h w = (h, aims-else s m p q t h same w, ([], refl), holds h w)
+pub stays-so : {T : Type 0} (s : Standing T) (m : MapValue) (t : Script T) (P : Type 0)
+    → ((h : List Event) → IsUnderWay m s h t → P) → GoesUnderWay m s t t P
+stays-so s m t P holds h w = (h, w, ([], refl), holds h w)
 
 -- what holds of the elements before a place, and of that at the place
 pub holds-more : (xs : List Sight) (i : ℕ) (d : Sight) (P : Sight → Type 0) → i < length xs → P (get_or xs i d)
@@ -113,15 +105,15 @@ shows-more xs y a b c has first next (inl e) (inr (x, is, unseen, saw)) = inr (
 )
 
 -- what holds of the sights before a place, and of that at the place, as the script goes on
-pub all-more : {T : Type 0} (s : Standing T) (m : MapValue) (p : ExplorerValue) (a : Script T) (q : ExplorerValue)
-    (b : Script T) (r : ExplorerValue) (c : Script T) (xs : List Sight) (i : ℕ) (d : Sight) → i < length xs
-    → GoesUnderWay m s p a q b (((n : ℕ) (x : Sight) → n < i → get_or xs n x ≡ x → CanVisit m x
+pub all-more : {T : Type 0} (s : Standing T) (m : MapValue) (a b c : Script T) (xs : List Sight) (i : ℕ) (d : Sight)
+    → i < length xs
+    → GoesUnderWay m s a b (((n : ℕ) (x : Sight) → n < i → get_or xs n x ≡ x → CanVisit m x
     → has_seen b.seen x ≡ true) × ShowsNew (Contains xs) a b)
-    → GoesUnderWay m s q b r c ((CanVisit m (get_or xs i d) → has_seen c.seen (get_or xs i d) ≡ true)
+    → GoesUnderWay m s b c ((CanVisit m (get_or xs i d) → has_seen c.seen (get_or xs i d) ≡ true)
     × ShowsNew (λ x. get_or xs i d ≡ x) b c)
-    → GoesUnderWay m s p a r c (((n : ℕ) (x : Sight) → n < i + 1 → get_or xs n x ≡ x → CanVisit m x
+    → GoesUnderWay m s a c (((n : ℕ) (x : Sight) → n < i + 1 → get_or xs n x ≡ x → CanVisit m x
     → has_seen c.seen x ≡ true) × ShowsNew (Contains xs) a c)
-all-more s m p a q b r c xs i d lt first next h w =
+all-more s m a b c xs i d lt first next h w =
     let (g, v, after, (before, new)) = first h w in
     let (f, u, more, (here, newer)) = next g v in (
       f,
@@ -161,12 +153,12 @@ nothing-down : (xs : List ScriptEvent) (k : ℕ) → events_of xs ≡ [] → is_
 nothing-down [] k e = refl
 nothing-down (x ∷ xs) k e = let none : event_of x ∷ events_of xs ≡ [] = e in cc
 
-pub under-way-new : {T : Type 0} (s : Standing T) (m : MapValue) (p : ExplorerValue) (t : Script T)
-    → (p.map ≡ m) × HasLocks m p.locks [] → RunsAlong m s [] t → IsUnderWay m s [] p t
-under-way-new s m p t (map, locks) run =
+pub under-way-new : {T : Type 0} (s : Standing T) (m : MapValue) (t : Script T) → RunsAlong m s [] t
+    → IsUnderWay m s [] t
+under-way-new s m t run =
     let up : AreUp t.pressed =
     λ k lt. run.1.pressed k lt ∙ nothing-down (reverse t.events.items) k run.1.history in
-    ((run, up, at-rest_new m), map, locks)
+    ((run, up, at-rest_new m), start-near m)
 
 -- ---- the first events of a script
 
@@ -251,13 +243,11 @@ pub can-see : (m : MapValue) (x : Sight) → CanVisit m x → IsReachable m x
 can-see m x (path, is, can, (k, lt, sees, back)) = (path, is, can, (k, lt, sees))
 
 -- the keys first, and then the pairs
-pub told-shown : {T : Type 0} (s : Standing T) (m : MapValue) (p : ExplorerValue) (a : Script T) (q : ExplorerValue)
-    (b : Script T) (r : ExplorerValue) (d : Script T) (xs ys : List Sight) (n : ℕ)
+pub told-shown : {T : Type 0} (s : Standing T) (m : MapValue) (a b d : Script T) (xs ys : List Sight) (n : ℕ)
     → xs ≡ all_cells ++ all_lock_settings → ys ≡ pairs_in m → n ≡ length b.events.items
-    → GoesUnderWay m s p a q b (SeesAll m xs b × ShowsNew (Contains xs) a b)
-    → GoesUnderWay m s q b r d (SeesAll m ys d × ShowsNew (Contains ys) b d)
-    → GoesUnderWay m s p a r d (ShowsTold m n d)
-told-shown s m p a q b r d xs ys n keys pairs is first second h w =
+    → GoesUnderWay m s a b (SeesAll m xs b × ShowsNew (Contains xs) a b)
+    → GoesUnderWay m s b d (SeesAll m ys d × ShowsNew (Contains ys) b d) → GoesUnderWay m s a d (ShowsTold m n d)
+told-shown s m a b d xs ys n keys pairs is first second h w =
     let (g, v, after, (seen, old)) = first h w in
     let (f, u, more, (all, new)) = second g v in
     let longer = script-longer m g f b d v.0.0.1 u.0.0.1 more in
@@ -296,15 +286,25 @@ told-shown s m p a q b r d xs ys n keys pairs is first second h w =
       ),
     )
 
--- a walk behind another, and the events that turn the scroll lock off
-pub walks-further : {T : Type 0} (s : Standing T) (m : MapValue) (x y : List Event) (a b d e : Script T)
-    → GoesAlongToRest m x s a b → GoesAlongToRest m y s b d → AreUp d.pressed → GoesScrollOff m s d e
-    → GoesScrollOff m s a e
-walks-further s m x y a b d e first second up last h at =
-    let (g, run, rest, after, exact) = first h at.0 in
-    let (f, end, there, more, same) = second g run in
-    let (k, resting, behind, off) = last f (end, up, there) in
-    (k, resting, after-more h f k (after-more h g f after more) behind, off)
+-- walks one behind another
+pub rests-behind : {T : Type 0} (s : Standing T) (m : MapValue) (later : List Event) (a b : Script T)
+    → GoesAlongToRest m later s a b → AreUp b.pressed → GoesResting m s a b
+rests-behind s m later a b walk up h at = let (g, run, rest, after, exact) = walk h at.0 in (g, (run, up, rest), after)
+
+pub rests-more : {T : Type 0} (s : Standing T) (m : MapValue) (a b c : Script T) → GoesResting m s a b
+    → GoesResting m s b c → GoesResting m s a c
+rests-more s m a b c first next h at =
+    let (g, v, after) = first h at in
+    let (f, u, more) = next g v in
+    (f, u, after-more h g f after more)
+
+-- and then the events that turn the scroll lock off
+pub rests-off : {T : Type 0} (s : Standing T) (m : MapValue) (a b c : Script T) → GoesResting m s a b
+    → GoesScrollOff m s b c → GoesScrollOff m s a c
+rests-off s m a b c first last h at =
+    let (g, v, after) = first h at in
+    let (f, u, more, off) = last g v in
+    (f, u, after-more h g f after more, off)
 
 -- a walk by events that turn the scroll lock off
 pub walks-off : {T : Type 0} (s : Standing T) (m : MapValue) (later h : List Event) (a b : Script T)
@@ -313,13 +313,12 @@ pub walks-off : {T : Type 0} (s : Standing T) (m : MapValue) (later h : List Eve
 walks-off s m later h a b at walk up (taken, off) = search rules
 
 -- what is told of is seen, and then the script goes further, and onward
-pub script-whole : {T : Type 0} (s : Standing T) (m : MapValue) (p : ExplorerValue) (a : Script T) (q : ExplorerValue)
-    (b d e : Script T) (starts : List Start) (first second third last : ℕ) → IsUnderWay m s [] p a
-    → GoesUnderWay m s p a q b (ShowsTold m first b) → GoesScrollOff m s b d → GoesToEnd m s d e
+pub script-whole : {T : Type 0} (s : Standing T) (m : MapValue) (a b d e : Script T) (starts : List Start)
+    (first second third last : ℕ) → IsUnderWay m s [] a → GoesUnderWay m s a b (ShowsTold m first b) → GoesScrollOff m s b d → GoesToEnd m s d e
     → second ≡ length b.events.items → third ≡ length d.events.items → last ≡ length e.events.items
     → starts ≡ starts_at first second third last
     → EndsAtRest m e × HoldParts m e.events.items starts first second third
-script-whole s m p a q b d e starts first second third last new shown further onward at_second at_third at_last is =
+script-whole s m a b d e starts first second third last new shown further onward at_second at_third at_last is =
     let (g, w, after, (le, keys, told, new_pair)) = shown [] new in
     let (f, resting, more, scrolled) = further g w.0 in
     let (k, (end, ups, still), behind, off, ahead, left) = onward f resting scrolled in

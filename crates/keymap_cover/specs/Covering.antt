@@ -12,8 +12,8 @@ use Rattle.console_states.specs.declared.selection.Sight.{Sight}
 use Rattle.console_core.specs.History.{between, is_on_after, is_locked_after, accent_pending_after, HasKeys, IsQuiet}
 use Rattle.console_states.specs.Moves.{alone}
 use Rattle.console_states.specs.Returning.{NoTurnIsOneWay}
-use Rattle.console_scripts.specs.Visiting.{CanVisit, CannotScroll, IsPair, SeesFrom, resting_after}
-use Rattle.console_states.specs.Sticking.{ReachesMoreThan, ReachesMoreThanFrom, state_limit}
+use Rattle.console_scripts.specs.Visiting.{CanVisit, CannotScroll, CannotSee, IsPair}
+use Rattle.console_states.specs.Sticking.{ReachesMoreThan, state_limit}
 use Rattle.console_states.specs.Sights.{SeesNext, SeesAlong, IsAdmitted, IsClean, IsReachable, AreSightsOf, can_see}
 use Rattle.keymap_cover.specs.declared.parts.Cover.{Cover}
 use Rattle.keymap_cover.specs.declared.parts.Start.{Start}
@@ -38,11 +38,6 @@ IsAtRest m h =
 -- The scroll lock is off, or presses can't turn it off: no moves lead from there to a press that turns it.
 abbrev pub IsScrollOff : MapValue → List Event → Type 0
 IsScrollOff m h = (is_locked_after (between m m) Scroll h ≡ false) ⊎ CannotScroll m h
-
--- No moves lead from where the list ends to a press that sees it, or more states can be reached than are gone over.
-abbrev pub CannotSee : MapValue → List Event → Sight → Type 0
-CannotSee m h x =
-    SeesFrom m (resting_after m h) x → (p : ℕ) × ReachesMoreThanFrom (alone m) (resting_after m h) state_limit p
 
 -- some press of the first n events sees it
 abbrev pub IsSeenBy : MapValue → List ScriptEvent → ℕ → Sight → Type 0

@@ -6,7 +6,7 @@ ghost use Rattle.console_states.specs.Sights.{AreSightsOf, IsReachable};
 ghost use Rattle.console_scripts.specs.Visiting.{CanVisit};
 ghost use Rattle.keymap_cover.specs.Covering.{HoldParts, IsCover};
 ghost use Rattle.keymap_cover.specs.Inner.OneWay.{is_left};
-ghost use Rattle.keymap_cover.specs.Inner.Scripts.{EndsAtRest, GoesScrollOff, GoesUnderWay, IsExplorerFor};
+ghost use Rattle.keymap_cover.specs.Inner.Scripts.{EndsAtRest, GoesResting, GoesScrollOff, GoesUnderWay};
 ghost use Rattle.keymap_cover.specs.Inner.Scripts.{SeesAll, ShowsNew, ShowsTold};
 ghost use Rattle.keymap_cover.specs.SeenSights.{has_seen};
 ghost use Rattle.std.specs.List.{Contains};
@@ -18,11 +18,11 @@ use crate::script::Script;
 use crate::scroll::turn_scroll_off;
 use crate::seen::Seen;
 use crate::told::{told_of_keys, told_pairs};
-use crate::trials::trial_events;
+use crate::trials::trials_of;
 use console_core::{PlainConsole, Translator};
 use console_scripts::Explorer;
 use console_states::{Selection, Sight, Sights};
-use keymap_core::{KEY_COUNT, KeyCode, KeyMap, key_with};
+use keymap_core::{KeyCode, KeyMap};
 use std::alloc::{AllocError, Global};
 
 /// Whether the sight is left out: it can be seen, and wasn't.
@@ -44,73 +44,43 @@ pub(crate) fn sees_new(seen: &Seen, map: &KeyMap, selection: Selection, key: Key
     !seen.has(Sight::Cell { slot, column }) || !seen.has(Sight::Locks { slot, caps, num })
 }
 
-/// The keys whose press sees something new where the next visit leads, but for the one that is pressed there last.
-fn new_keys(
-    alloc: Global,
-    explorer: &Explorer,
-    seen: &Seen,
-    map: &KeyMap,
-) -> Result<Vec<KeyCode>, AllocError> {
-    let mut keys = Vec::new(alloc);
-    if let Some((selection, pressed)) = explorer.next_press() {
-        for code in 0..KEY_COUNT as u8 {
-            let key = key_with(code);
-            if key != pressed && sees_new(seen, map, selection, key) {
-                keys.push(key)?;
-            }
-        }
-    }
-    Ok(keys)
-}
-
-/// Goes where a press sees what the explorer aims at.
-fn show<T: Translator + Drop>(
-    explorer: &mut Explorer,
-    script: &mut Script<T>,
-    map: &KeyMap,
-) -> Result<(), AllocError>
-    ensures { OnOk result (GoesUnderWay map.now T.stands explorer.old script.old explorer.new script.new
-        ((x : SightValue) → explorer.old.aim ≡ Some x → IsReachable map.now x → has_seen script.new.seen x ≡ true)) }
-{
-    let keys = new_keys(script.alloc, explorer, &script.seen, map)?;
-    let events = explorer.visit(script.alloc, &keys)?;
-    script.walk(map, &events)?;
-    Ok(())
-}
-
-/// Goes where a press sees it, if it is left out and the explorer finds such a press.
+/// Goes where a press sees it, if it is left out and can be visited.
 fn show_left_out<T: Translator + Drop>(
-    explorer: &mut Explorer,
+    explorer: &Explorer,
     script: &mut Script<T>,
     map: &KeyMap,
     sights: &Sights,
     sight: Sight,
 ) -> Result<(), AllocError>
-    requires { AreSightsOf map.now sights.now }
-    ensures { OnOk result (GoesUnderWay map.now T.stands explorer.old script.old explorer.new script.new
+    requires explorer { explorer.now.map ≡ map.now }
+    requires sights { AreSightsOf map.now sights.now }
+    ensures { OnOk result (GoesUnderWay map.now T.stands script.old script.new
         ((CanVisit map.now sight → has_seen script.new.seen sight ≡ true)
         × ShowsNew (λ x. sight ≡ x) script.old script.new)) }
 {
     if !is_left_out(&script.seen, sights, map, sight) {
         return Ok(());
     }
-    if !explorer.aim_at(sight) {
+    let seen = &script.seen;
+    let wants = |selection, key| sees_new(seen, map, selection, key);
+    let Some(events) = explorer.visit(script.alloc, &script.console, sight, wants)? else {
         return Ok(());
-    }
-    show(explorer, script, map)?;
+    };
+    script.walk(map, &events)?;
     Ok(())
 }
 
 /// Goes where presses see what is left out of these.
 fn show_all<T: Translator + Drop>(
-    explorer: &mut Explorer,
+    explorer: &Explorer,
     script: &mut Script<T>,
     map: &KeyMap,
     sights: &Sights,
     told: &[Sight],
 ) -> Result<(), AllocError>
-    requires { AreSightsOf map.now sights.now }
-    ensures { OnOk result (GoesUnderWay map.now T.stands explorer.old script.old explorer.new script.new
+    requires explorer { explorer.now.map ≡ map.now }
+    requires sights { AreSightsOf map.now sights.now }
+    ensures { OnOk result (GoesUnderWay map.now T.stands script.old script.new
         (SeesAll map.now told.now script.new × ShowsNew (Contains told.now) script.old script.new)) }
 {
     for sight in told {
@@ -149,13 +119,14 @@ fn starts_of(
 
 /// Goes where presses see cells and lock settings, and then pairs. Answers how many events there were between.
 fn show_told<T: Translator + Drop>(
-    explorer: &mut Explorer,
+    explorer: &Explorer,
     script: &mut Script<T>,
     map: &KeyMap,
     sights: &Sights,
 ) -> Result<usize, AllocError>
-    requires { AreSightsOf map.now sights.now }
-    ensures { IfOk result (λ first. GoesUnderWay map.now T.stands explorer.old script.old explorer.new script.new
+    requires explorer { explorer.now.map ≡ map.now }
+    requires sights { AreSightsOf map.now sights.now }
+    ensures { IfOk result (λ first. GoesUnderWay map.now T.stands script.old script.new
         (ShowsTold map.now first script.new)) }
 {
     let keys = told_of_keys(script.alloc)?;
@@ -166,7 +137,23 @@ fn show_told<T: Translator + Drop>(
     Ok(first)
 }
 
-/// Goes home, makes the trials, and turns the scroll lock off.
+/// Goes home, as far as moves lead there.
+fn go_home<T: Translator + Drop>(
+    explorer: &Explorer,
+    script: &mut Script<T>,
+    map: &KeyMap,
+) -> Result<(), AllocError>
+    ensures { OnOk result (GoesResting map.now T.stands script.old script.new) }
+{
+    let home = explorer.events_home(script.alloc, &script.console)?;
+    if home.is_empty() {
+        return Ok(());
+    }
+    script.walk(map, &home)?;
+    Ok(())
+}
+
+/// Makes the trials, each from home, and turns the scroll lock off.
 fn try_keys<T: Translator + Drop>(
     explorer: &Explorer,
     script: &mut Script<T>,
@@ -174,23 +161,24 @@ fn try_keys<T: Translator + Drop>(
 ) -> Result<(), AllocError>
     ensures { OnOk result (GoesScrollOff map.now T.stands script.old script.new) }
 {
-    let home = explorer.events_home(script.alloc, &script.console)?;
-    script.walk(map, &home)?;
-    let trials = trial_events(script.alloc, map, explorer)?;
-    script.walk(map, &trials)?;
+    go_home(explorer, script, map)?;
+    for trial in &trials_of(script.alloc, map, explorer)? {
+        script.walk(map, trial)?;
+        go_home(explorer, script, map)?;
+    }
     turn_scroll_off(script, map)
 }
 
 /// The script, and where its parts begin.
 fn script_of<T: Translator + Drop>(
     alloc: Global,
-    explorer: &mut Explorer,
+    explorer: &Explorer,
     console: T,
     map: &KeyMap,
     sights: &Sights,
 ) -> Result<(Script<T>, Vec<Start>), AllocError>
     requires new { T.stands console (between map.now map.now) [] }
-    requires explorer { IsExplorerFor map.now explorer.old }
+    requires explorer { explorer.now.map ≡ map.now }
     requires sights { AreSightsOf map.now sights.now }
     ensures { IfOk result (λ t. EndsAtRest map.now t.0
         × ((first second third : ℕ) × HoldParts map.now t.0.events.items t.1.items first second third)) }
@@ -209,12 +197,12 @@ fn script_of<T: Translator + Drop>(
 pub fn cover_of(alloc: Global, map: &KeyMap) -> Result<Option<Cover>, AllocError>
     ensures { IfOk result (λ x. IsCover map.now x) }
 {
-    let Some(mut explorer) = Explorer::new(alloc, map)? else {
+    let Some(explorer) = Explorer::new(alloc, map)? else {
         return Ok(None);
     };
     let sights = explorer.sights(alloc)?;
     let console = PlainConsole::new(map);
-    let (script, starts) = script_of(alloc, &mut explorer, console, map, &sights)?;
+    let (script, starts) = script_of(alloc, &explorer, console, map, &sights)?;
     Ok(Some(Cover {
         events: script.events,
         starts,

@@ -1,6 +1,6 @@
 //! What keys that hold nothing look up in the states that were explored.
-use console_scripts::{Explorer, Reached};
-use console_states::{KeyAt, Selection};
+use console_scripts::Explorer;
+use console_states::{Held, KeyAt, Selection};
 use keymap_core::{Cell, KEY_COUNT, KeyMap, key_with};
 use std::alloc::{AllocError, Global};
 
@@ -19,7 +19,7 @@ pub(crate) struct IdleKeys {
 }
 
 impl IdleKeys {
-    fn add(&mut self, map: &KeyMap, state: &Reached, place: usize) -> Result<(), AllocError> {
+    fn add(&mut self, map: &KeyMap, state: &Held, place: usize) -> Result<(), AllocError> {
         let selection = state.selection();
         self.selections.push(selection)?;
         for code in 0..KEY_COUNT as u8 {
@@ -45,7 +45,8 @@ impl IdleKeys {
         };
         for place in 0..explorer.len() {
             if let Some(state) = explorer.state(place) {
-                if !idle.selections.contains(&state.selection()) {
+                let is_new = !idle.selections.contains(&state.selection());
+                if is_new && explorer.leads_home(&state) {
                     idle.add(map, &state, place)?;
                 }
             }

@@ -51,7 +51,7 @@ fn classes(alloc: Global, answers: &[Answer]) -> Result<Vec<usize>, AllocError> 
 }
 
 /// Whether a tap of the key leaves a modifier, a lock or an accent alone, where it looks up the cell.
-pub(crate) fn changes_nothing(cell: &Cell) -> bool {
+fn changes_nothing(cell: &Cell) -> bool {
     !matches!(
         cell,
         Cell::Act(Action::Mod(_)) | Cell::Act(Action::Lock(_)) | Cell::Act(Action::DeadKey(_))

@@ -3,9 +3,10 @@ use crate::idle_keys::IdleKeys;
 use crate::kind::Kind;
 use crate::probes::probes;
 use crate::tried::{are_tried, cell_with, is_between, rest_cell};
-use console_core::{Event, PlainConsole, Translator, is_any_on, is_usable};
+use Step::{Ask, DownFirst, DownSecond, Reset, UpFirst, UpSecond};
+use console_core::{Event, is_usable};
 use console_scripts::Explorer;
-use console_states::KeyAt;
+use console_states::{Held, KeyAt};
 use keymap_core::{
     ACCENT_LIMIT, AccentIndex, Action, Cell, HOLDINGS, Holding, KEY_COUNT, KeyCode, KeyMap, Lock,
     MODIFIERS, Modifier, key_with,
@@ -18,85 +19,51 @@ const MANY: usize = 16;
 /// A step of a trial with two keys.
 #[derive(Clone, Copy)]
 enum Step {
-    PressFirst,
-    ReleaseFirst,
-    PressSecond,
-    ReleaseSecond,
+    DownFirst,
+    UpFirst,
+    DownSecond,
+    UpSecond,
     Reset,
     /// Taps the probes.
     Ask,
 }
 
 /// A tap of the first key.
-const TAPPED: [Step; 2] = [Step::PressFirst, Step::ReleaseFirst];
+const TAPPED: [Step; 2] = [DownFirst, UpFirst];
 
 /// A tap of the first key, and a reset.
-const TAPPED_AND_RESET: [Step; 3] = [Step::PressFirst, Step::ReleaseFirst, Step::Reset];
+const TAPPED_AND_RESET: [Step; 3] = [DownFirst, UpFirst, Reset];
 
 /// The first key is pressed, repeated, and reset while it is pressed.
-const REPEATED_AND_RESET: [Step; 5] = [
-    Step::PressFirst,
-    Step::PressFirst,
-    Step::Ask,
-    Step::Reset,
-    Step::ReleaseFirst,
-];
+const REPEATED_AND_RESET: [Step; 5] = [DownFirst, DownFirst, Ask, Reset, UpFirst];
 
 /// The first key is released while the second one is pressed, and the second one is pressed once more.
-const OVERLAPPING: [Step; 6] = [
-    Step::PressFirst,
-    Step::PressSecond,
-    Step::Ask,
-    Step::ReleaseFirst,
-    Step::PressSecond,
-    Step::ReleaseSecond,
-];
+const OVERLAPPING: [Step; 6] = [DownFirst, DownSecond, Ask, UpFirst, DownSecond, UpSecond];
 
 /// The first key is pressed before the second one, repeated and released while that is pressed, and then pressed while
 /// it is pressed, and repeated and released behind it.
 const ACROSS: [Step; 10] = [
-    Step::PressFirst,
-    Step::PressSecond,
-    Step::PressFirst,
-    Step::ReleaseFirst,
-    Step::ReleaseSecond,
-    Step::PressSecond,
-    Step::PressFirst,
-    Step::ReleaseSecond,
-    Step::PressFirst,
-    Step::ReleaseFirst,
+    DownFirst, DownSecond, DownFirst, UpFirst, UpSecond, DownSecond, DownFirst, UpSecond,
+    DownFirst, UpFirst,
 ];
 
-/// The events so far, of which each trial begins with no key pressed, no modifier on and no accent pending, and with no
-/// lock on that picks cells, where moves turn them off again.
+/// The events of the trials so far. Each is made at home, as far as moves lead back there.
 #[derive(Drop)]
-struct Trials<'t, 'm, T: Translator> {
+struct Trials<'t, 'm> {
     alloc: Global,
     map: &'m KeyMap,
     explorer: &'t Explorer<'m>,
     idle: &'t IdleKeys,
     probes: &'t [KeyCode],
-    console: &'t mut T,
-    events: Vec<Event>,
+    trials: Vec<Vec<Event>>,
 }
 
-/// The events of all trials, for a console that is as a new one but for the scroll lock.
-pub(crate) fn trial_events<'m>(
+/// The events of each trial, for a console that is as a new one but for the scroll lock.
+pub(crate) fn trials_of<'m>(
     alloc: Global,
     map: &'m KeyMap,
     explorer: &Explorer<'m>,
-) -> Result<Vec<Event>, AllocError> {
-    let mut console = PlainConsole::new(map);
-    trials_along(alloc, map, explorer, &mut console)
-}
-
-/// The events of all trials, while the console runs along.
-fn trials_along<'t, 'm, T: Translator>(
-    alloc: Global,
-    map: &'m KeyMap,
-    explorer: &'t Explorer<'m>,
-    console: &'t mut T,
-) -> Result<Vec<Event>, AllocError> {
+) -> Result<Vec<Vec<Event>>, AllocError> {
     let idle = IdleKeys::of(alloc, map, explorer)?;
     let probes = probes(alloc, map, &idle.selections)?;
     let mut trials = Trials {
@@ -105,83 +72,74 @@ fn trials_along<'t, 'm, T: Translator>(
         explorer,
         idle: &idle,
         probes: &probes,
-        console,
-        events: Vec::new(alloc),
+        trials: Vec::new(alloc),
     };
     trials.together()?;
     trials.alone()?;
     trials.across()?;
     trials.between()?;
     trials.many()?;
-    Ok(trials.events)
+    Ok(trials.trials)
 }
 
-impl<'t, 'm, T: Translator> Trials<'t, 'm, T> {
-    fn deliver(&mut self, event: &Event) -> Result<(), AllocError> {
-        self.events.push(*event)?;
-        let _ = self.console.step(*event);
-        Ok(())
-    }
-
-    fn deliver_all(&mut self, events: &[Event]) -> Result<(), AllocError> {
-        for event in events {
-            self.deliver(event)?;
-        }
-        Ok(())
-    }
-
-    fn tap(&mut self, key: KeyCode) -> Result<(), AllocError> {
-        self.deliver(&Event::Press(key))?;
-        self.deliver(&Event::Release(key))
-    }
-
-    /// Taps each probe.
-    fn ask(&mut self) -> Result<(), AllocError> {
+impl<'t, 'm> Trials<'t, 'm> {
+    /// Adds taps of the probes.
+    fn ask(&self, events: &mut Vec<Event>) -> Result<(), AllocError> {
         for key in self.probes {
-            self.tap(*key)?;
+            events.push(Event::Press(*key))?;
+            events.push(Event::Release(*key))?;
         }
         Ok(())
     }
 
-    /// Makes the steps with two keys.
-    fn play(&mut self, steps: &[Step], first: KeyCode, second: KeyCode) -> Result<(), AllocError> {
+    /// Adds the steps with two keys.
+    fn play(
+        &self,
+        events: &mut Vec<Event>,
+        steps: &[Step],
+        first: KeyCode,
+        second: KeyCode,
+    ) -> Result<(), AllocError> {
         for step in steps {
             match *step {
-                Step::PressFirst => self.deliver(&Event::Press(first))?,
-                Step::ReleaseFirst => self.deliver(&Event::Release(first))?,
-                Step::PressSecond => self.deliver(&Event::Press(second))?,
-                Step::ReleaseSecond => self.deliver(&Event::Release(second))?,
-                Step::Reset => self.deliver(&Event::Reset)?,
-                Step::Ask => self.ask()?,
+                DownFirst => events.push(Event::Press(first))?,
+                UpFirst => events.push(Event::Release(first))?,
+                DownSecond => events.push(Event::Press(second))?,
+                UpSecond => events.push(Event::Release(second))?,
+                Reset => events.push(Event::Reset)?,
+                Ask => self.ask(events)?,
             }
         }
         Ok(())
     }
 
-    /// Turns the locks off that pick cells, where moves do.
-    fn turn_locks_off(&mut self) -> Result<(), AllocError> {
-        let route = self.explorer.events_home(self.alloc, &*self.console)?;
-        self.deliver_all(&route)
-    }
-
-    /// Goes to the place of the key, makes the steps with it, and comes back.
-    fn play_at(&mut self, steps: &[Step], at: KeyAt) -> Result<(), AllocError> {
+    /// Adds the moves to the place of the key, the steps with it, and the releases of what is held there.
+    fn play_at(
+        &self,
+        events: &mut Vec<Event>,
+        steps: &[Step],
+        at: KeyAt,
+    ) -> Result<(), AllocError> {
         let path = self.explorer.events_to(self.alloc, at.place)?;
-        self.deliver_all(&path)?;
-        self.play(steps, at.key, at.key)?;
+        events.extend_from_slice(&path)?;
+        self.play(events, steps, at.key, at.key)?;
         if let Some(state) = self.explorer.state(at.place) {
-            let releases = state.releases(self.alloc)?;
-            self.deliver_all(&releases)?;
+            state.push_releases(events)?;
         }
-        self.turn_locks_off()
+        Ok(())
     }
 
-    /// Ends a trial, behind which no key is pressed.
-    fn end(&mut self) -> Result<(), AllocError> {
-        if is_any_on(&*self.console) || self.console.pending().is_some() {
-            self.deliver(&Event::Reset)?;
-        }
-        self.turn_locks_off()
+    /// A trial of steps with two keys.
+    fn try_steps(
+        &mut self,
+        steps: &[Step],
+        first: KeyCode,
+        second: KeyCode,
+    ) -> Result<(), AllocError> {
+        let mut events = Vec::new(self.alloc);
+        self.play(&mut events, steps, first, second)?;
+        self.trials.push(events)?;
+        Ok(())
     }
 
     /// The least key that is the action where nothing is on, but for this key.
@@ -198,7 +156,10 @@ impl<'t, 'm, T: Translator> Trials<'t, 'm, T> {
     /// Whether the cell can be taken back: it is no lock that picks cells, or moves turn it off again.
     fn is_taken_back(&self, cell: &Cell) -> bool {
         match cell {
-            Cell::Act(Action::Lock(lock)) => self.explorer.takes_back(*lock),
+            Cell::Act(Action::Lock(Lock::Scroll)) => true,
+            Cell::Act(Action::Lock(lock)) => {
+                self.explorer.leads_home(&Held::start().with_turned(*lock))
+            }
             _ => true,
         }
     }
@@ -208,8 +169,7 @@ impl<'t, 'm, T: Translator> Trials<'t, 'm, T> {
     fn try_two(&mut self, one: Holding, other: Holding) -> Result<(), AllocError> {
         if let Some(first) = self.bearer(one, None) {
             if let Some(second) = self.bearer(other, Some(first)) {
-                self.play(&OVERLAPPING, first, second)?;
-                self.end()?;
+                self.try_steps(&OVERLAPPING, first, second)?;
             }
         }
         Ok(())
@@ -242,8 +202,9 @@ impl<'t, 'm, T: Translator> Trials<'t, 'm, T> {
             let cell = Cell::Act(holding.action());
             if let Some(at) = self.idle.first(&cell) {
                 if self.is_taken_back(&cell) {
-                    self.play_at(&REPEATED_AND_RESET, at)?;
-                    self.end()?;
+                    let mut events = Vec::new(self.alloc);
+                    self.play_at(&mut events, &REPEATED_AND_RESET, at)?;
+                    self.trials.push(events)?;
                 }
             }
         }
@@ -261,13 +222,12 @@ impl<'t, 'm, T: Translator> Trials<'t, 'm, T> {
         for code in 0..KEY_COUNT as u8 {
             let key = key_with(code);
             let one = rest_cell(self.map, key);
-            let other = cell_with(self.map, key, modifier);
+            let other = cell_with(self.map, key, modifier, holder);
             let kinds = (Kind::roughly(&one), Kind::roughly(&other));
             let is_holding = kinds.0 == Kind::Modifier || kinds.1 == Kind::Modifier;
             if one != other && !is_holding && key != holder && !done.contains(&kinds) {
                 done.push(kinds)?;
-                self.play(&ACROSS, key, holder)?;
-                self.end()?;
+                self.try_steps(&ACROSS, key, holder)?;
             }
         }
         Ok(())
@@ -321,14 +281,17 @@ impl<'t, 'm, T: Translator> Trials<'t, 'm, T> {
             return Ok(());
         };
         for key in &self.keys_between(accent)? {
-            self.play_at(&TAPPED, dead)?;
-            self.play_at(&TAPPED, *key)?;
-            self.play_at(&TAPPED, blank)?;
-            self.end()?;
+            let mut events = Vec::new(self.alloc);
+            self.play_at(&mut events, &TAPPED, dead)?;
+            self.play_at(&mut events, &TAPPED, *key)?;
+            self.play_at(&mut events, &TAPPED, blank)?;
+            self.trials.push(events)?;
         }
-        self.play_at(&TAPPED_AND_RESET, dead)?;
-        self.play_at(&TAPPED, blank)?;
-        self.end()
+        let mut events = Vec::new(self.alloc);
+        self.play_at(&mut events, &TAPPED_AND_RESET, dead)?;
+        self.play_at(&mut events, &TAPPED, blank)?;
+        self.trials.push(events)?;
+        Ok(())
     }
 
     /// The first keys that are another action than a modifier, a lock or a dead key where nothing is on.
@@ -345,13 +308,11 @@ impl<'t, 'm, T: Translator> Trials<'t, 'm, T> {
 
     /// Many keys at once.
     fn many(&mut self) -> Result<(), AllocError> {
-        let keys = self.other_keys()?;
-        for key in &keys {
-            self.deliver(&Event::Press(*key))?;
+        let mut events = Vec::new(self.alloc);
+        for key in &self.other_keys()? {
+            events.push(Event::Press(*key))?;
         }
-        for key in &keys {
-            self.deliver(&Event::Release(*key))?;
-        }
-        self.end()
+        self.trials.push(events)?;
+        Ok(())
     }
 }

@@ -1,5 +1,5 @@
 //! Which actions and cells are tried in trials, and what keys look up there.
-use console_states::Selection;
+use console_states::Held;
 use keymap_core::{AccentIndex, Action, Cell, Holding, KeyCode, KeyMap, Keymap, Lock, Modifier};
 
 /// Whether an action is tried with locks: not the scroll lock, and of left and right, which pick cells alike, the
@@ -30,17 +30,10 @@ pub(crate) fn rest_cell(map: &KeyMap, key: KeyCode) -> Cell {
     map.entry(key.get()).cells[0]
 }
 
-/// What the key looks up where the modifier alone is on.
-pub(crate) fn cell_with(map: &KeyMap, key: KeyCode, modifier: Modifier) -> Cell {
-    let selection = Selection {
-        upper: modifier == Modifier::AltShift,
-        shift: modifier == Modifier::LeftShift || modifier == Modifier::RightShift,
-        control: modifier == Modifier::LeftControl || modifier == Modifier::RightControl,
-        alt: modifier == Modifier::LeftAlt || modifier == Modifier::RightAlt,
-        caps: false,
-        num: false,
-    };
-    selection.look(map, key)
+/// What the key looks up where the holder holds the modifier, and nothing else is on.
+pub(crate) fn cell_with(map: &KeyMap, key: KeyCode, modifier: Modifier, holder: KeyCode) -> Cell {
+    let held = Held::start().with_holder(modifier, Some(holder));
+    held.selection().look(map, key)
 }
 
 /// Whether a cell can stand between a dead key of the accent and a blank: neither that dead key, the blank, a base

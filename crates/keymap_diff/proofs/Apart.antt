@@ -129,7 +129,7 @@ pub accent-told : (m n : MapValue) (i : ℕ) (es : Entries) (place presses : ℕ
     → IsScript m n g at.key t → IsFoundBy m n t (Some presses)
 accent-told m n i es place total x met (y, os, there, alone_there, s)
     (before, more, (b, b_at, b_is), reach, sum) clear can at e h g
-    (w, d, w_at, key, (idle, seen), taps) events t script =
+    (w, d, w_at, key, (idle, (seen, may)), taps) events t script =
     let fs : Entries = x.met.entries in
     let (q, same, (a, a_at, count)) = subst (λ o. IsReach fs x.end o x.reach) e s.reach in
     let ((z, here, (last, shows)), none) = (subst (λ o. IsFirstShown m n (Some i) fs o) e s.shown).is in

@@ -2,10 +2,10 @@
 -- than to where something shows or the search gave up.
 use Rattle.std.proofs.Common.{rules}
 use Rattle.keymap_diff.proofs.Common.{zero, suc, ◌≡◌, ℕ, ◌+◌, ◌<◌, ◌≤◌, List, [], ◌∷◌, length, slice_get, Option, Some}
-use Rattle.keymap_diff.proofs.Common.{None, refl, ap, subst, sym, ◌∙◌, arith, slice_get_within, Contains}
+use Rattle.keymap_diff.proofs.Common.{None, refl, subst, sym, arith, slice_get_within, Contains}
 use Rattle.keymap_diff.proofs.Common.{MapValue, Move, End, TooMany, Complete, alone, State, start, IsPath}
 use Rattle.keymap_diff.proofs.Common.{IsPathFrom, state_from, state_after, presses_along, state_of, Entry}
-use Rattle.keymap_diff.proofs.Common.{Entries, IsTrail, AreDone, HasEnded, unscrolled, NoneShows, ShowsNothing}
+use Rattle.keymap_diff.proofs.Common.{Entries, IsTrail, AreDone, HasEnded, NoneShows, ShowsNothing}
 use Rattle.keymap_diff.proofs.Common.{AreCellsClear, IsAccentClear, IsOfferedIn, Under}
 use Rattle.keymap_diff.specs.Inner.Searches.{AreNear, IsClearBehind, IsReach, IsSearched, IsWithin}
 use Rattle.keymap_diff.specs.Inner.Showing.{IsFirstShown}
@@ -13,7 +13,7 @@ use Rattle.keymap_diff.specs.declared.searched.Searched.{Searched}
 use Rattle.console_states.specs.Looks.{HoldsNearer}
 use Rattle.console_states.specs.declared.look.KeyAt.{KeyAt}
 use Rattle.console_states.specs.Searching.{Searched as SearchedStates, AreOrdered}
-use Rattle.console_states.proofs.Shared.{all-done, among-along, below-fewer, holds-nearer, moves-unscrolled, same_moved}
+use Rattle.console_states.proofs.Shared.{all-done, below-fewer, holds-nearer, met-along}
 
 -- no more presses lead to a place than stand before it
 trail-few : (es : Entries) (j : ℕ) (path : List Move) → IsTrail es j path → presses_along path ≤ j
@@ -65,10 +65,10 @@ pub searched-near : (m n : MapValue) (x : Searched) → IsSearched m n (start �
 searched-near m n x s b within path is lt =
     let es : Entries = x.met.entries in
     let done = reach-done m (start ∷ []) es x.end x.shown x.reach s.ended s.reach b within in
-    let (t, (j, y, at, same, le), near) =
-    among-along (alone m) es b done 0 (presses_along path) start
-    (start, s.ended.searched.start start (0, omega arith, refl), refl) path is (omega arith) lt in
-    (j, y, at, le, ap (λ z. unscrolled z) same ∙ near)
+    let (j, y, at, same, le) =
+    met-along (alone m) es b done 0 (presses_along path) start (s.ended.searched.start start (0, omega arith, refl))
+    path is (omega arith) lt in
+    (j, y, at, le, same)
 
 pub searched-cells : (m n : MapValue) (x : Searched) → IsSearched m n (start ∷ []) None x → (b : ℕ)
     → IsWithin b x.reach → AreCellsClear m n b
@@ -76,23 +76,15 @@ searched-cells m n x s b within = searched-clear m n (start ∷ []) None x s b w
 
 -- ---- from the places that offer an accent
 
--- a path from a state near another is one from that, and leads near
-path-near : (m : MapValue) (s t : State) (path : List Move) → unscrolled t ≡ unscrolled s → IsPathFrom (alone m) s path
-    → IsPathFrom (alone m) t path
-    × (unscrolled (state_from (alone m) t path) ≡ unscrolled (state_from (alone m) s path))
-path-near m s t [] e is = (tt, e)
-path-near m s t (move ∷ path) e is =
-    search (rules, moves-unscrolled, same_moved, path-near m s t path e is.1)
-
 -- where all places that offer the accent are clear, so are all paths by a tap of its dead key
 pub behind-clear : (m n : MapValue) (i : ℕ) (es : Entries) (b : ℕ) → ((c : ℕ) → c + 1 ≤ b → AreNear m es c)
     → IsClearBehind m n i es 0 (length es) b → IsAccentClear m n i b
 behind-clear m n i es b near clear before later made offered is lt k key =
     let (j, x, at, le, e) = near (presses_along before + 1) (omega (arith, lt)) before made (omega arith) in
-    let (path, to) = path-near m (state_after (alone m) before) (state_of x.0) later e is in
-    subst (λ z. ShowsNothing m n (Some i) z k) to
+    subst (λ z. ShowsNothing m n (Some i) (state_from (alone m) z later) k) e
     (clear j x at (omega arith) (slice_get_within es j x at)
-    (subst (λ z. IsOfferedIn (alone m) z i) (sym e) offered) later path (omega (arith, lt, le)) k key)
+    (subst (λ z. IsOfferedIn (alone m) z i) (sym e) offered) later
+    (subst (λ z. IsPathFrom (alone m) z later) (sym e) is) (omega (arith, lt, le)) k key)
 
 -- a path of no press leads to the start
 pub start-reached : {m : MapValue} (o : State) → Contains (start ∷ []) o

@@ -14,7 +14,6 @@ pub use Rattle.console_states.specs.Inner.Standing.{Exact, Follows, Stands}
 pub use Rattle.console_states.specs.Moves.{Holds, IsIdle, IsMove, IsPath, IsPathFrom, State, Under, alone, events_along}
 pub use Rattle.console_states.specs.Moves.{events_of_move, is_held, look_in, moved, presses_along, presses_of, start}
 pub use Rattle.console_states.specs.Moves.{state_after, state_from, with_holder, with_lock_turned}
-pub use Rattle.console_states.specs.Returning.{unscrolled}
 pub use Rattle.console_states.specs.Searching.{AreDone, Entries, Entry, HasEnded, IsMetBy, IsReached, IsTrail, Searched}
 pub use Rattle.console_states.specs.Searching.{state_of, under_of}
 pub use Rattle.console_states.specs.Sights.{IsAdmitted, IsClean, IsOfferedIn, Offers, look_selected, selection_of}
@@ -29,7 +28,6 @@ pub use Rattle.console_states.specs.declared.search.End.TheVariants.{TooMany, Co
 pub use Rattle.keymap_core.specs.declared.action.Action.{Action}
 pub use Rattle.keymap_core.specs.declared.action.Holding.{Holding}
 pub use Rattle.keymap_core.specs.declared.action.Lock.{Lock}
-pub use Rattle.keymap_core.specs.declared.action.Lock.TheVariants.{Scroll}
 pub use Rattle.keymap_core.specs.declared.action.Modifier.{Modifier}
 pub use Rattle.keymap_core.specs.declared.action.Modifier.TheVariants.{Meta}
 pub use Rattle.keymap_core.specs.declared.entry.Cell.{Cell}

@@ -54,7 +54,6 @@ reaches-many m os es c q s ordered once (d, last, count) from =
     → ⊥ =
     λ j k le_j le_k lt e. once j k (get_or es j d) (get_or es k d) lt (at j le_j) (at k le_k) e in (
       (λ j. state_of (get_or es j d).0),
-      (λ j le. let (o, has, r) = s.reached j (get_or es j d) (at j le) in r.5),
       (λ j le.
           let (o, has, r) = s.reached j (get_or es j d) (at j le) in
           let (path, is, few, leads) = from o has in

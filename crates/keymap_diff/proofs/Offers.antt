@@ -2,13 +2,13 @@
 use Rattle.std.proofs.Common.{rules, Result, Err}
 use Rattle.keymap_diff.proofs.Common.{suc, ◌≡◌, ℕ, ◌+◌, ◌≤◌, inl, inr, List, [], ◌∷◌, ◌++◌, slice_get, Option, Some}
 use Rattle.keymap_diff.proofs.Common.{None, refl, ap, subst, sym, ◌∙◌, arith, cases_lt, none-some, Contains, MapValue}
-use Rattle.keymap_diff.proofs.Common.{alone, State, state_of, Entry, Entries, IsOfferedIn, presses_along, Scroll, false}
+use Rattle.keymap_diff.proofs.Common.{alone, State, state_of, Entry, Entries, IsOfferedIn, presses_along}
 use Rattle.keymap_diff.proofs.Common.{map, IfOk, Ok}
 use Rattle.console_states.specs.declared.held.Held.{Held}
 use Rattle.std.proofs.lemmas.List.Elements.{Contains-append_left, Contains-push, Contains-push_cases}
 use Rattle.keymap_diff.specs.Inner.Searches.{AreOffering, IsClearBehind, IsMetAt, IsMetFromStart, IsSearched, IsWithin}
 use Rattle.keymap_diff.specs.declared.searched.Searched.{Searched as SearchedValue}
-use Rattle.console_states.proofs.Shared.{empty-none, place_last, reached-one, same_entry}
+use Rattle.console_states.proofs.Shared.{empty-none, place_last, same_entry}
 use Rattle.keymap_diff.proofs.Clearing.{searched-clear}
 
 pub offering-none : (m : MapValue) (i : ℕ) (es : Entries) (low : ℕ) (states : List State) → states ≡ []
@@ -44,13 +44,6 @@ offering-skip m i es low n states x before at none = record {
   only = λ s has.
       let (j, y, there, le, lt, same, is) = before.only s has in (j, y, there, le, omega (arith, lt), same, is);
 }
-
--- the scroll lock is off there
-pub offering-off : (m : MapValue) (i : ℕ) (es : Entries) (low high : ℕ) (states : List State) → IsMetFromStart m es
-    → AreOffering m i es low high states → (o : State) → Contains states o → o.is_locked Scroll ≡ false
-offering-off m i es low high states met offering o has =
-    let (j, x, at, le, lt, same, is) = offering.only o has in
-    subst (λ s. s.is_locked Scroll ≡ false) same (reached-one met.0 j x at).5
 
 -- nothing nearer than the limit: neither before the place, nor by the search from the places
 pub clear-before : (m n : MapValue) (i : ℕ) (es : Entries) (low high b : ℕ) (q : ℕ) → IsMetFromStart m es

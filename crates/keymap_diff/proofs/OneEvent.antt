@@ -8,10 +8,12 @@ use Rattle.keymap_diff.proofs.Common.{Act, Event, Press, MapValue, accent_at, ow
 use Rattle.keymap_diff.proofs.Common.{char_or_error, answer_char, answer_action, answer_dead_key, next_pending}
 use Rattle.keymap_diff.proofs.Common.{unless_nop, taken_over, held, locked, on, remembered, pending, look}
 use Rattle.keymap_diff.proofs.Common.{resolve_press, answer_resolved, ResolvedEvent, PressedCharacter, PressedAction}
-use Rattle.keymap_diff.proofs.Common.{ReleasedKey, WasReset, between, resolved, answer_to, State, is_held, Follows}
+use Rattle.keymap_diff.proofs.Common.{ReleasedKey, WasReset, between, resolved, answer_to, State, Follows}
 use Rattle.keymap_diff.proofs.Common.{looked_up, AreCellsAlike, IsUnnoticed, MakesSame, same_action, false}
 use Rattle.keymap_diff.proofs.Common.{if◌then◌else◌}
 use Rattle.console_core.specs.Columns.{look_with}
+use Rattle.console_states.specs.Sights.{look_selected}
+use Rattle.console_states.proofs.Shared.{follows-selection}
 use Rattle.console_core.proofs.Shared.{held-action, held-character, held-release, held-reset, locked-action}
 use Rattle.console_core.proofs.Shared.{locked-character, locked-release, locked-reset, one_in_force}
 use Rattle.console_core.proofs.Shared.{pending-action, pending-character, pending-release, pending-reset}
@@ -31,9 +33,7 @@ pub record Alike (m n : MapValue) (r q : List ResolvedEvent) : Type 0 where
 pub look-is : (m : MapValue) (r : List ResolvedEvent) (s : State) (k : ℕ) → Follows r s → look m r k ≡ looked_up m s k
 unfolding look
 look-is m r s k f =
-    let e : (λ (i : Modifier). on i r) ≡ (λ i. is_held s i) = fun_ext (λ i. f.on i) in
-    let g : (λ (l : Lock). locked l r) ≡ (λ l. s.is_locked l) = fun_ext (λ l. f.locked l) in
-    ap (λ x. look_with m x (λ l. locked l r) k) e ∙ ap (λ y. look_with m (λ i. is_held s i) y k) g
+    ap (λ y. look_selected m y k) (follows-selection r s f)
 
 -- consoles that are alike look up the same place
 pub alike-look : (m n : MapValue) (r q : List ResolvedEvent) (k : ℕ) → Alike m n r q → look n q k ≡ look n r k

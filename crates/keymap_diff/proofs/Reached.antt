@@ -76,7 +76,7 @@ stands-by m forgets b h never given =
     let n : ℕ = suc (presses h) in
     let (s, there, f, is) =
     stays (alone m) n (ReachedBy m) (IsWithinReach m forgets b) (reached-kept m n) (reached-spared m forgets b n never) h
-    (given, given.0.0, (λ e. given.0.1), omega arith) in
+    (given, given.0.0, ((λ e. given.0.1), (λ l p j at. refl)), omega arith) in
     (s, there (omega arith), f)
 
 -- ---- behind where an accent is offered
@@ -132,7 +132,7 @@ pends-here m r p k i b (s, (path, made, le, leads), f) lt seen taken can =
         [],
         made,
         subst (λ t. IsOfferedIn (alone m) t i) (sym leads)
-            (can, (k, lt, ((λ j holds. free j (f.holds j k holds)), looked))),
+            (can, (k, lt, ((λ j holds. free j (f.holds j k holds)), (looked, refl)))),
         tt,
         omega (arith, le),
         leads,
@@ -147,7 +147,7 @@ pends-press m r p k i b (s, behind, f) lt seen =
     let looked : look_in (alone m) s k ≡ Act b = follows-seen m r s k (Act b) f seen in
     let (t, there, g, is) =
     stays-press (alone m) (BehindBy m i p) (BehindBy m i (suc p)) (behind-leads m i p) r s behind f k lt
-    (λ j (holds, (c, e)). let g : Act b ≡ Char c = sym looked ∙ e in cc) (Act b) looked in
+    (λ j (holds, (c, (e, may))). let g : Act b ≡ Char c = sym looked ∙ e in cc) (Act b) (looked, refl) in
     (t, there, g)
 
 pends-release : (m : MapValue) (r : List ResolvedEvent) (p k i : ℕ) → PendsBy m i p r

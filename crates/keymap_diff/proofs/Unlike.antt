@@ -184,16 +184,18 @@ pub path-too : (m n : MapValue) (s : State) (b : ℕ)
 path-too m n s b clear [] is le = (tt, refl)
 path-too m n s b clear (Hold k i ∷ path) is le =
     let (too, same) = path-too m n s b clear path is.1 (omega (arith, le)) in
-    let still = clear path is.1 (omega (arith, le)) k is.0.0 in
-    let looks = idle-look m n (state_from (alone m) s path) k _ is.0.1 still is.0.2 in (
-      (subst (λ t. IsMove (alone n) t (Hold k i)) (sym same) (is.0.0, is.0.1, looks, is.0.3), too),
+    let ((lt, idle, (seen, may)), free) = is.0 in
+    let still = clear path is.1 (omega (arith, le)) k lt in
+    let looks = idle-look m n (state_from (alone m) s path) k _ idle still seen in (
+      (subst (λ t. IsMove (alone n) t (Hold k i)) (sym same) ((lt, idle, (looks, refl)), free), too),
       ap (λ t. with_holder t i (Some k)) same,
     )
 path-too m n s b clear (Turn k l ∷ path) is le =
     let (too, same) = path-too m n s b clear path is.1 (omega (arith, le)) in
-    let still = clear path is.1 (omega (arith, le)) k is.0.0 in
-    let looks = idle-look m n (state_from (alone m) s path) k _ is.0.1 still is.0.2 in (
-      (subst (λ t. IsMove (alone n) t (Turn k l)) (sym same) (is.0.0, is.0.1, looks), too),
+    let ((lt, idle, (seen, may)), other) = is.0 in
+    let still = clear path is.1 (omega (arith, le)) k lt in
+    let looks = idle-look m n (state_from (alone m) s path) k _ idle still seen in (
+      (subst (λ t. IsMove (alone n) t (Turn k l)) (sym same) ((lt, idle, (looks, refl)), other), too),
       ap (λ t. with_lock_turned t l) same,
     )
 path-too m n s b clear (LetGo k i ∷ path) is le =

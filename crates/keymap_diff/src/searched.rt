@@ -1,7 +1,5 @@
 //! Searches for a state where a press shows the difference of two keymaps.
-ghost use Rattle.std.specs.Prelude.{◌≡◌, ◌<◌, ◌≤◌, ◌^◌, ℕ, List, false, length, map, IfOk, IfSome};
-ghost use Rattle.std.specs.List.{Contains};
-ghost use Rattle.keymap_core.specs.declared.action.Lock.TheVariants.{Scroll};
+ghost use Rattle.std.specs.Prelude.{◌≡◌, ◌<◌, ◌≤◌, ◌^◌, ℕ, List, length, map, IfOk, IfSome};
 ghost use Rattle.console_states.specs.Moves.{Under, State};
 ghost use Rattle.console_states.specs.Searching.{state_of, Searched as SearchedStates};
 ghost use Rattle.keymap_diff.specs.Inner.Searches.{IsEndAt, IsMetAt, IsReach, IsSearched};
@@ -57,7 +55,6 @@ impl Searched {
         origins: &[Held],
         pending: Option<u8>,
     ) -> Result<Searched, AllocError>
-        requires { (o : State) → Contains (map state_of origins.now) o → o.is_locked Scroll ≡ false }
         ensures { IfOk result (λ x. IsSearched both.now.old.now both.now.new.now (map state_of origins.now) pending x) }
     {
         let (met, end) = meet_all(alloc, &both.maps(), origins)?;

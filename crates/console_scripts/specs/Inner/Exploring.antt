@@ -2,9 +2,8 @@
 -- src/typing.rt.
 use Rattle.std.specs.Prelude.{◌≡◌, ◌≤◌, ℕ, Bool, true, false, List, [], ◌∷◌, ◌++◌, length, reverse, None, Some}
 use Rattle.std.specs.Prelude.{slice_get, Option, map}
-use Rattle.keymap_core.specs.declared.action.Lock.TheVariants.{Scroll}
 use Rattle.keymap_core.specs.Maps.{MapValue}
-use Rattle.console_scripts.specs.Types.{Event, Press, Release, Move, Answer}
+use Rattle.console_scripts.specs.Types.{Event, Press, Release, Move, Answer, Scroll}
 use Rattle.console_scripts.specs.declared.explored.Explored.{Explored}
 use Rattle.console_scripts.specs.declared.explored.Tap.{Tap}
 use Rattle.console_states.specs.declared.held.Held.{Held}
@@ -12,7 +11,7 @@ use Rattle.console_states.specs.Moves.{Under, alone, State, IsFree, IsPath, stat
 use Rattle.console_states.specs.Moves.{events_along}
 use Rattle.console_states.specs.Returning.{IsHome, freed}
 use Rattle.console_states.specs.Sticking.{ReachesMoreThanFrom, ReachesMoreThan, state_limit}
-use Rattle.console_core.specs.History.{answer_to, between, accent_pending_after}
+use Rattle.console_core.specs.History.{answer_to, between, accent_pending_after, is_locked_after}
 use Rattle.console_scripts.specs.Typing.{ComesHome, IsTapOf, types_something, plainly, composed_of, CanType, ChangeKeys}
 use Rattle.console_core.specs.Answers.{usable}
 use Rattle.console_scripts.specs.declared.explored.Symbol.{Symbol}
@@ -34,9 +33,9 @@ map_of_explored e = e.maps.first.now
 abbrev pub origin_in : Explored → State
 origin_in e = state_of e.origin
 
--- the scroll lock is off, and the first map is in force
+-- the first map is in force
 abbrev pub IsOrigin : State → Type 0
-IsOrigin s = (s.is_locked Scroll ≡ false) × (s.is_second ≡ false)
+IsOrigin s = s.is_second ≡ false
 
 -- The states of a map without loads that moves lead to from the origin, with routes home. If they are all, a route
 -- begins at each from which moves lead home.
@@ -53,10 +52,9 @@ pub record IsExplored (e : Explored) : Type 0 where
   pub more : e.is_complete ≡ false
       → (p : ℕ) × ReachesMoreThanFrom (alone (map_of_explored e)) (origin_in e) state_limit p
 
--- A state where nothing is held and the scroll lock is off, that moves lead to and from which moves lead home.
+-- A state where nothing is held, that moves lead to and from which moves lead home.
 pub record CanReturn (m : MapValue) (s : State) : Type 0 where
   pub free : IsFree s
-  pub off : s.is_locked Scroll ≡ false
   pub path : List Move
   pub is : IsPath (alone m) path
   pub leads : state_after (alone m) path ≡ s
@@ -100,14 +98,12 @@ pub record GoesAndTaps (u : Under) (o s : State) (k : ℕ) (h now : List Event) 
   pub leads : state_from u s back ≡ next
   pub events : now ≡ events_along back ++ (Release k ∷ Press k ∷ (events_along out ++ h))
   pub free : IsFree next
-  pub off : next.is_locked Scroll ≡ false
   pub home : ComesHome u next
 
--- moves lead home from the state, and the scroll lock is off then: their events, newest first, came after h
+-- moves lead home from the state: their events, newest first, came after h
 abbrev pub GoesHome : Under → State → List Event → List Event → Type 0
 GoesHome u s h now =
-    (back : List Move) × IsPathFrom u s back × IsHome (state_from u s back)
-    × ((state_from u s back).is_locked Scroll ≡ false) × (now ≡ events_along back ++ h)
+    (back : List Move) × IsPathFrom u s back × IsHome (state_from u s back) × (now ≡ events_along back ++ h)
 
 -- the answers that type something along a list, the newest first
 abbrev pub kept_if : Bool → Answer → List Answer
@@ -120,11 +116,12 @@ typed_along m (e ∷ h) =
     kept_if (types_something (answer_to (between m m) h e)) (answer_to (between m m) h e) ++ typed_along m h
 
 -- After the events, which press released keys and release pressed ones, the console stands in the state, with this
--- accent pending, and these characters were typed.
+-- accent pending and the scroll lock off, and these characters were typed.
 pub record HasTyped (m : MapValue) (h : List Event) (s : State) (p : Option ℕ) (cs : List ℕ) : Type 0 where
   pub stands : Stands (alone m) h s
   pub changes : ChangeKeys h
   pub pending : accent_pending_after (between m m) h ≡ p
+  pub scroll : is_locked_after (between m m) Scroll h ≡ false
   pub typed : typed_along m h ≡ map plainly (reverse cs)
 
 -- explorations by the state where they begin

@@ -1,24 +1,19 @@
 -- The moves that lead home from the states that a search met, and the events of a script that goes along them. Mirrors
 -- src/routes.rt and src/showing.rt.
-use Rattle.std.specs.Prelude.{◌≡◌, ◌≢◌, false, ◌⊎◌, ℕ, List, [], ◌∷◌, reverse, None, Some, slice_get}
+use Rattle.std.specs.Prelude.{◌≡◌, ◌⊎◌, ℕ, List, [], ◌∷◌, reverse, None, Some, slice_get}
 use Rattle.keymap_core.specs.declared.action.Modifier.{Modifier}
-use Rattle.keymap_core.specs.declared.action.Lock.{Lock}
-use Rattle.keymap_core.specs.declared.action.Lock.TheVariants.{Scroll}
 use Rattle.console_states.specs.declared.held.Held.{Held}
 use Rattle.console_states.specs.declared.held.Move.{Move}
 use Rattle.console_scripts.specs.declared.routes.Route.{Route}
-use Rattle.keymap_core.specs.declared.action.Action.TheVariants as act
-use Rattle.keymap_core.specs.declared.entry.Cell.TheVariants.{Act}
-use Rattle.console_states.specs.Moves.{Under, State, IsMove, moved, Holds, IsIdle, look_in, state_from, IsPathFrom}
-use Rattle.console_states.specs.Moves.{with_holder, with_lock_turned}
+use Rattle.console_states.specs.Moves.{Under, State, IsMove, moved, Holds, state_from, IsPathFrom}
+use Rattle.console_states.specs.Moves.{with_holder}
 use Rattle.console_states.specs.Returning.{IsHome}
-use Rattle.console_states.specs.Searching.{state_of, Entry, Entries, LeavesScroll}
+use Rattle.console_states.specs.Searching.{state_of, Entry, Entries, PressesLead}
 
--- the moves, the oldest first, lead home, and leave the scroll lock off
+-- the moves, the oldest first, lead home
 abbrev pub LeadsHome : Under → State → List Move → Type 0
 LeadsHome u s moves =
     IsPathFrom u s (reverse moves) × IsHome (state_from u s (reverse moves))
-    × (s.is_locked Scroll ≡ false → (state_from u s (reverse moves)).is_locked Scroll ≡ false)
 
 -- routes by the state where they begin
 abbrev pub Routes : Type 0
@@ -45,18 +40,14 @@ HasRoute routes s = HasEntry routes s
 abbrev pub NoLetGoLeads : Routes → State → Type 0
 NoLetGoLeads routes s = (k : ℕ) (i : Modifier) → Holds s k i → HasRoute routes (with_holder s i None) → ⊥
 
--- a press of the key, but one that turns the scroll lock, leads to no state where a route begins
+-- a press of the key leads to no state where a route begins
 abbrev pub NoPressLeads : Under → Routes → State → ℕ → Type 0
-NoPressLeads u routes s k =
-    IsIdle s k
-    → ((i : Modifier) → look_in u s k ≡ Act (act.Mod i) → s.holder i ≡ None
-    → HasRoute routes (with_holder s i (Some k)) → ⊥)
-    × ((l : Lock) → l ≢ Scroll → look_in u s k ≡ Act (act.Lock l) → HasRoute routes (with_lock_turned s l) → ⊥)
+NoPressLeads u routes s k = PressesLead u s k (λ t. HasRoute routes t → ⊥)
 
--- The state isn't home, and no move but of the scroll lock leads from it to where a route begins.
+-- The state isn't home, and no move leads from it to where a route begins.
 abbrev pub IsAstray : Under → Routes → State → Type 0
 IsAstray u routes s =
-    (IsHome s → ⊥) × ((move : Move) → IsMove u s move → LeavesScroll move → HasRoute routes (moved u s move) → ⊥)
+    (IsHome s → ⊥) × ((move : Move) → IsMove u s move → HasRoute routes (moved u s move) → ⊥)
 
 -- a route begins at each state that was met, or the state is astray
 abbrev pub AreSettled : Under → Entries → Routes → Type 0

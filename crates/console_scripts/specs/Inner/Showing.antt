@@ -1,34 +1,36 @@
 -- How the events of a visit lead a console, step by step. Mirrors src/showing.rt and src/explorer.rt.
-use Rattle.std.specs.Prelude.{◌≡◌, ◌⊎◌, ℕ, ◌<◌, true, false, List, ◌++◌, Option, None, Some, slice_get, IfSome}
+use Rattle.std.specs.Prelude.{◌≡◌, ◌⊎◌, ℕ, ◌<◌, Bool, true, List, ◌++◌, Option, None, Some}
 use Rattle.std.specs.Map.{keys_of}
 use Rattle.keymap_core.specs.Maps.{MapValue}
 use Rattle.keymap_core.specs.Numbers.{key_count}
-use Rattle.console_scripts.specs.Types.{Caps, Num, Scroll, Alt, Event, Sight, Turn}
+use Rattle.console_scripts.specs.Types.{Scroll, Act, Event, Sight}
 use Rattle.console_scripts.specs.declared.explored.Explored.{Explored}
 use Rattle.console_states.specs.declared.look.KeyAt.{KeyAt}
 use Rattle.console_scripts.specs.declared.explorer.Aim.{Aim}
+use Rattle.console_states.specs.Looks.{HoldsAt}
 use Rattle.console_states.specs.declared.held.Held.{Held}
 use Rattle.console_states.specs.declared.selection.Sight.TheVariants as sight
 use Rattle.console_core.specs.Answers.{usable}
 use Rattle.console_core.specs.History.{between, accent_pending_after}
-use Rattle.console_states.specs.Moves.{alone, State, start, IsFree, IsMove}
-use Rattle.console_states.specs.Returning.{IsAfter, unscrolled}
-use Rattle.console_scripts.specs.Visiting.{AreTaken, Locks}
+use Rattle.keymap_core.specs.declared.action.Action.TheVariants as act
+use Rattle.console_states.specs.Moves.{alone, State, start, Takes}
+use Rattle.console_states.specs.Returning.{IsAfter}
+use Rattle.console_scripts.specs.Visiting.{AreTaken}
 use Rattle.console_states.specs.Sights.{IsPendingFor, IsReachable, SeesBy, selection_of}
 use Rattle.console_scripts.specs.Inner.Exploring.{map_of_explored, origin_in, IsExplored, IsTapAt, dead_tap}
 use Rattle.console_scripts.specs.Inner.Routes.{HasRoute}
-use Rattle.console_states.specs.Searching.{state_of, under_of, Entry, Entries}
+use Rattle.console_states.specs.Searching.{state_of, under_of, Entries}
 use Rattle.console_states.specs.Inner.Standing.{Stands}
 
 -- The states were explored from the start, and these are all.
 abbrev pub IsWhole : Explored → Type 0
 IsWhole e = IsExplored e × (origin_in e ≡ start) × (e.is_complete ≡ true)
 
--- Behind h the events, which are taken, led a console to a state that is this one but for the scroll lock.
+-- Behind h the events, which are taken, led a console to the state.
 pub record IsAt (m : MapValue) (s : State) (h later : List Event) : Type 0 where
   pub at : State
   pub stands : Stands (alone m) (later ++ h) at
-  pub near : unscrolled at ≡ unscrolled s
+  pub near : at ≡ s
   pub taken : AreTaken h later
 
 -- wherever the first events lead a console to the one state, the second lead it to the other
@@ -57,27 +59,26 @@ LeadsToSee m x s t old now =
     → IsAt m t h now
     × (accent_pending_after (between m m) (old ++ h) ≡ None → IsReachable m x → IsPendingFor m (now ++ h) x)
 
--- In the state of the place a press of the key sees it, and leads to a state from which a route leads home.
-abbrev pub IsPressAt : Explored → Sight → KeyAt → State → Type 0
-IsPressAt e x at t =
-    (y : Entry) × (slice_get e.met.entries at.place ≡ Some y) × (at.key < key_count)
-    × SeesBy (map_of_explored e) (selection_of (state_of y.0)) at.key x
-    × IsAfter (alone (map_of_explored e)) (state_of y.0) at.key t × HasRoute e.routes.entries t
-
--- at the place no press sees it, or one does that leads to where no route begins
-abbrev pub ShowsNot : Explored → Sight → Entry → Type 0
-ShowsNot e x y =
-    ((k : ℕ) → k < key_count → SeesBy (map_of_explored e) (selection_of (state_of y.0)) k x → ⊥)
-    ⊎ ((k : ℕ) × (t : State) × (k < key_count) × SeesBy (map_of_explored e) (selection_of (state_of y.0)) k x
-    × IsAfter (alone (map_of_explored e)) (state_of y.0) k t × (HasRoute e.routes.entries t → ⊥))
-
 -- in the state a press of the key sees it, where a pair's accent is pending
 abbrev pub Sees : Explored → Sight → Held → ℕ → Type 0
 Sees e x h k = (k < key_count) × SeesBy (map_of_explored e) (selection_of (state_of h)) k x
 
+-- and, if it is to lead back, leads to a state from which a route leads home
+abbrev pub Shows : Explored → Sight → Bool → Held → ℕ → Type 0
+Shows e x back h k =
+    Sees e x h k
+    × (back ≡ true → (t : State) × IsAfter (under_of e.maps) (state_of h) k t × HasRoute e.routes.entries t)
+
+-- in the state no press sees it, or, if it is to lead back, one does that leads to where no route begins
+abbrev pub ShowsNot : Explored → Sight → Bool → Held → Type 0
+ShowsNot e x back h =
+    ((k : ℕ) → Sees e x h k → ⊥)
+    ⊎ ((back ≡ true) × (k : ℕ) × (t : State) × Sees e x h k × IsAfter (under_of e.maps) (state_of h) k t
+    × (HasRoute e.routes.entries t → ⊥))
+
 -- in the state a press of the key turns the scroll lock
 abbrev pub TurnsScroll : Explored → Held → ℕ → Type 0
-TurnsScroll e h k = IsMove (under_of e.maps) (state_of h) (Turn k Scroll)
+TurnsScroll e h k = Takes (under_of e.maps) (state_of h) k (Act (act.Lock Scroll))
 
 -- before a pair the dead key of its accent is tapped, and before nothing else
 abbrev pub IsDeadFor : Explored → Sight → Option KeyAt → Type 0
@@ -89,22 +90,8 @@ IsDeadFor e (sight.Locks slot caps num) (Some at) = ⊥
 IsDeadFor e (sight.Locks slot caps num) None = Unit {0}
 
 abbrev pub IsAim : Explored → Aim → Type 0
-IsAim e a = IsPressAt e a.sight a.at (state_of a.next) × IsDeadFor e a.sight a.dead
+IsAim e a = HoldsAt (Shows e a.sight true) e.met.entries a.at × IsDeadFor e a.sight a.dead
 
 -- the states that were met, in their order
 abbrev pub states_in : Entries → List Held
 states_in es = keys_of es
-
-abbrev pub locks_in : State → Locks
-locks_in s = record { caps = s.is_locked Caps; num = s.is_locked Num; alt = s.is_locked Alt }
-
-abbrev pub sight_aimed : Option Aim → Option Sight
-sight_aimed None = None
-sight_aimed (Some a) = Some a.sight
-
--- nothing is held and the first map is in force, and a route home begins
-abbrev pub IsRest : Explored → State → Type 0
-IsRest e s = IsFree s × (s.is_second ≡ false) × HasRoute e.routes.entries s
-
-abbrev pub IsExplorer : Explored → State → Option Aim → Type 0
-IsExplorer e s aim = IsWhole e × IsRest e s × IfSome aim (λ a. IsAim e a)

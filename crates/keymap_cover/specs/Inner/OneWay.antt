@@ -6,8 +6,8 @@ use Rattle.console_core.specs.declared.event.Event.{Event}
 use Rattle.console_states.specs.declared.selection.Sight.{Sight}
 use Rattle.console_states.specs.declared.sights.Sights.{Sights}
 use Rattle.console_states.specs.Sights.{can_see}
-use Rattle.console_scripts.specs.Visiting.{IsPair}
-use Rattle.keymap_cover.specs.Covering.{CannotSee, IsScrollOff}
+use Rattle.console_scripts.specs.Visiting.{CannotSee, IsPair}
+use Rattle.keymap_cover.specs.Covering.{IsScrollOff}
 use Rattle.keymap_cover.specs.Inner.Scripts.{ComesAfter, IsResting, Standing}
 use Rattle.keymap_cover.specs.SeenSights.{has_seen}
 use Rattle.keymap_cover.specs.declared.script.Script.{Script}
@@ -26,12 +26,6 @@ abbrev pub AreLeft : {T : Type 0} → List Sight → Script T → List Sight →
 AreLeft xs t ys =
     ((x : Sight) → Contains xs x → (has_seen t.seen x ≡ true) ⊎ Contains ys x)
     × ((x : Sight) → Contains ys x → Contains xs x)
-
--- the console goes on at rest by some events more, and those of the first sights that it didn't see are the second
-abbrev pub GoesLeaving : {T : Type 0} → MapValue → Standing T → List Sight → Script T → Script T → List Sight → Type 0
-GoesLeaving m stands xs a b ys =
-    (h : List Event) → IsResting m stands h a
-    → (g : List Event) × IsResting m stands g b × ComesAfter h g × AreLeft xs b ys
 
 -- one of the sights was seen, or none is seen by a press to which moves lead
 abbrev pub IsNext : {T : Type 0} → MapValue → List Event → List Sight → Script T → Bool → Type 0

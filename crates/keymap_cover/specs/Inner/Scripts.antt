@@ -1,5 +1,5 @@
 -- A script while it is made. Mirrors src/seen.rt, src/script.rt and src/cover.rt.
-use Rattle.std.specs.Prelude.{◌≡◌, ◌⊎◌, ℕ, ◌<◌, ◌≤◌, Bool, true, false, List, [], ◌∷◌, ◌++◌, Option, Some, reverse}
+use Rattle.std.specs.Prelude.{◌≡◌, ◌⊎◌, ℕ, ◌<◌, ◌≤◌, Bool, true, false, List, ◌∷◌, ◌++◌, Option, Some, reverse}
 use Rattle.std.specs.Prelude.{length}
 use Rattle.std.specs.Prelude.{slice_index_or}
 use Rattle.std.specs.List.{Contains}
@@ -13,14 +13,14 @@ use Rattle.keymap_core.specs.declared.entry.Cell.TheVariants.{Char}
 use Rattle.console_states.specs.declared.selection.Selection.{Selection}
 use Rattle.console_states.specs.declared.selection.Sight.TheVariants as sight
 use Rattle.console_core.specs.History.{Maps, between, is_locked_after, pressed, HasKeys}
-use Rattle.console_scripts.specs.Visiting.{AreTaken, CanVisit, HasLocks, ExplorerValue, IsPair}
+use Rattle.console_scripts.specs.Visiting.{AreTaken, CanVisit, CannotSee, IsNearHome, IsPair}
 use Rattle.console_states.specs.Sights.{look_selected, IsReachable, SeesNext, SeesAlong}
 use Rattle.keymap_cover.specs.declared.script_event.ScriptEvent.{ScriptEvent}
 use Rattle.keymap_cover.specs.declared.script.Script.{Script}
 use Rattle.keymap_cover.specs.ScriptEvents.{events_of, is_down, ArePossible}
 use Rattle.keymap_cover.specs.SeenSights.{has_seen}
 use Rattle.keymap_cover.specs.Told.{IsTold}
-use Rattle.keymap_cover.specs.Covering.{CannotSee, IsAtRest, IsScrollOff, SeesKeysBy, SeesToldBy, ShowsPair}
+use Rattle.keymap_cover.specs.Covering.{IsAtRest, IsScrollOff, SeesKeysBy, SeesToldBy, ShowsPair}
 
 -- x is there, and what was there before, and nothing else
 abbrev pub IsWith : Sight → (Sight → Bool) → (Sight → Bool) → Type 0
@@ -144,16 +144,14 @@ GoesToEnd m stands a b =
     → (g : List Event) × IsResting m stands g b × ComesAfter h g × IsScrollOff m g × LeavesNoneAhead m g b
     × IsForLeft m a b
 
--- The console runs along a script that is at rest with no key down, and the explorer's locks are on.
-abbrev pub IsUnderWay : {T : Type 0} → MapValue → Standing T → List Event → ExplorerValue → Script T → Type 0
-IsUnderWay m stands h p t = IsResting m stands h t × (p.map ≡ m) × HasLocks m p.locks h
+-- The console runs along a script that is at rest with no key down, near home.
+abbrev pub IsUnderWay : {T : Type 0} → MapValue → Standing T → List Event → Script T → Type 0
+IsUnderWay m stands h t = IsResting m stands h t × IsNearHome m h
 
 -- the console goes on under way by some events more, and then this holds
-abbrev pub GoesUnderWay : {T : Type 0} → MapValue → Standing T → ExplorerValue → Script T → ExplorerValue → Script T
-    → Type 0 → Type 0
-GoesUnderWay m stands p a q b P =
-    (h : List Event) → IsUnderWay m stands h p a
-    → (g : List Event) × IsUnderWay m stands g q b × ComesAfter h g × P
+abbrev pub GoesUnderWay : {T : Type 0} → MapValue → Standing T → Script T → Script T → Type 0 → Type 0
+GoesUnderWay m stands a b P =
+    (h : List Event) → IsUnderWay m stands h a → (g : List Event) × IsUnderWay m stands g b × ComesAfter h g × P
 
 -- a script of which no key is down at the end, which is at rest, and which leaves the scroll lock off if presses can
 -- turn it off, and no cell or lock setting ahead
@@ -179,7 +177,3 @@ ShowsTold m n t =
     (n ≤ length t.events.items) × SeesKeysBy m t.events.items n
     × SeesToldBy m t.events.items (length t.events.items)
     × (n < length t.events.items → ShowsPair m t.events.items n (length t.events.items))
-
--- the explorer is of the map, and no locks are on
-abbrev pub IsExplorerFor : MapValue → ExplorerValue → Type 0
-IsExplorerFor m p = (p.map ≡ m) × HasLocks m p.locks []

@@ -10,7 +10,6 @@ use Rattle.console_core.specs.History.{between, answer_to}
 use Rattle.console_states.specs.Moves.{State, alone, start, IsForgetful, IsPath, IsPathFrom, state_after, state_from}
 use Rattle.console_states.specs.Moves.{events_along}
 use Rattle.console_states.specs.Moves.{presses_along}
-use Rattle.console_states.specs.Returning.{unscrolled}
 use Rattle.console_states.specs.Sights.{CanForget, IsOfferedIn, Offers}
 use Rattle.console_states.specs.Sticking.{NeverForgets, ReachesMoreThan, state_limit, presses}
 use Rattle.console_states.specs.Searching.{state_of, Entry, Entries, HasEnded, IsTrail, AreOrdered}
@@ -129,9 +128,9 @@ IsReachAt es place reach presses =
 abbrev pub IsMetFromStart : MapValue → Entries → Type 0
 IsMetFromStart m es = SearchedStates (alone m) (start ∷ []) es 0 0 × AreOrdered es
 
--- where fewer than b presses lead was met by as many, but for the scroll lock
+-- where fewer than b presses lead was met by as many
 abbrev pub AreNear : MapValue → Entries → ℕ → Type 0
 AreNear m es b =
     (path : List Move) → IsPath (alone m) path → presses_along path < b
     → (j : ℕ) × (x : Entry) × (slice_get es j ≡ Some x) × (x.1.presses ≤ presses_along path)
-    × (unscrolled (state_of x.0) ≡ unscrolled (state_after (alone m) path))
+    × (state_of x.0 ≡ state_after (alone m) path)

@@ -1,11 +1,8 @@
 use Rattle.console_scripts.proofs.Common.{[], ◌∷◌, refl, subst, sym, ◌∙◌, true≢false, alone, state_of, HasEnded}
-use Rattle.console_states.proofs.Shared.{one-off, reaches-more}
+use Rattle.console_states.proofs.Shared.{reaches-more}
 use Rattle.console_scripts.proofs.explored.explore.Goals.{in-Complete, in-TooMany}
 use Rattle.console_states.specs.declared.search.End.TheVariants as end
 use Rattle.console_scripts.proofs.explored.explore.Goals as goal
-
-pub meet_all-requires : goal.meet_all-requires
-meet_all-requires c = one-off (state_of c.args.origin.now) c.requires.0
 
 pub returns : goal.returns
 returns c =

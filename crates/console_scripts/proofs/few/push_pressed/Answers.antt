@@ -1,4 +1,4 @@
-use Rattle.console_scripts.proofs.Common.{◌<◌, length, arith, sym, subst, state_of, alone}
+use Rattle.console_scripts.proofs.Common.{◌<◌, length, arith, sym, subst, state_of}
 use Rattle.std.proofs.lemmas.List.{length_push}
 use Rattle.std.proofs.lemmas.List.Elements.{All-push}
 use Rattle.console_states.specs.Searching.{IsStep}

@@ -1,4 +1,4 @@
-use Rattle.console_scripts.proofs.Common.{◌≡◌, ◌<◌, ℕ, arith, inl, inr, subst}
+use Rattle.console_scripts.proofs.Common.{◌≡◌, ◌<◌, ℕ, arith, subst}
 use Rattle.console_scripts.proofs.Marking.{gains-more, gains-first, gains-whole}
 use Rattle.console_scripts.proofs.Tapping.{marked-given}
 use Rattle.console_scripts.specs.Inner.Places.{Gains}

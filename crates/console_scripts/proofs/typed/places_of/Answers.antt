@@ -1,11 +1,11 @@
-use Rattle.console_scripts.proofs.Common.{ap, refl, subst, sym, false, true, true≢false, Scroll, IsExploredFrom}
+use Rattle.console_scripts.proofs.Common.{ap, subst, sym, false, true, true≢false, IsExploredFrom}
 use Rattle.console_scripts.proofs.FewPlaces.{few-all}
 use Rattle.console_scripts.proofs.Typists.{met-many}
 use Rattle.console_scripts.specs.Inner.Places.{ArePlaces}
 use Rattle.console_scripts.proofs.typed.places_of.Goals as goal
 
 pub explore-requires : goal.explore-requires
-explore-requires c = (ap (λ s. s.is_locked Scroll) c.start.ensures, ap (λ s. s.is_second) c.start.ensures)
+explore-requires c = ap (λ s. s.is_second) c.start.ensures
 
 pub returns-then-are_all_marked : goal.returns-then-are_all_marked
 returns-then-are_all_marked c =

@@ -1,7 +1,6 @@
-use Rattle.keymap_cover.proofs.Common.{ℕ, subst, alone, AreSightsOf, rules}
+use Rattle.keymap_cover.proofs.Common.{◌≡◌, ℕ, subst, alone, AreSightsOf, rules}
 use Rattle.std.proofs.Common.{MatchOption}
 use Rattle.console_states.specs.Sticking.{ReachesMoreThan, state_limit}
-use Rattle.keymap_cover.specs.Inner.Scripts.{IsExplorerFor}
 use Rattle.keymap_cover.proofs.Covered.{script-covers}
 use Rattle.keymap_cover.proofs.cover.cover_of.Goals as goal
 
@@ -14,10 +13,10 @@ script_of-requires-clause-sights c = search rules
 pub returns : goal.returns
 returns c =
     let m = c.args.map.now in
-    let is : IsExplorerFor m c.in-Some.explorer =
-    subst (λ o. MatchOption o ((p : ℕ) × ReachesMoreThan (alone m) state_limit p) (λ p. IsExplorerFor m p)) c.in-Some.is
+    let is : c.in-Some.explorer.map ≡ m =
+    subst (λ o. MatchOption o ((p : ℕ) × ReachesMoreThan (alone m) state_limit p) (λ p. p.map ≡ m)) c.in-Some.is
     c.in_ok-explorer.ensures.explorer in
     let are : AreSightsOf m c.in_ok-sights.sights =
-    subst (λ n. AreSightsOf n c.in_ok-sights.sights) is.0 c.in_ok-sights.ensures in
+    subst (λ n. AreSightsOf n c.in_ok-sights.sights) is c.in_ok-sights.ensures in
     let ((up, (h, t, rest, off, ahead)), parts) = c.in_ok-script.ensures in
     script-covers m h _ c.in_ok-script.script.pressed t (rest, off) ahead up are parts

@@ -11,9 +11,9 @@ returns g c =
     let d = c.try_keys.new.script in
     let e = c.go_onward.new.script in
     let (rest, parts) =
-    script-whole s m c.args.explorer.now a c.show_told.new.explorer b d e c.in_ok-starts.starts.items
+    script-whole s m a b d e c.in_ok-starts.starts.items
     c.in_ok-first.first c.len-second.result c.len-third.result c.len.result
-    (under-way-new s m c.args.explorer.now a c.requires.explorer (c.in_ok-script.ensures m c.requires.new))
+    (under-way-new s m a (c.in_ok-script.ensures m c.requires.new))
     c.in_ok-first.ensures c.in_ok-try_keys.ensures (c.in_ok-go_onward.ensures c.requires.sights)
     (c.len-second.ensures ∙ b.events.ok.0) (c.len-third.ensures ∙ d.events.ok.0) (c.len.ensures ∙ e.events.ok.0)
     c.in_ok-starts.ensures in

@@ -6,6 +6,6 @@ use Rattle.keymap_cover.proofs.cover.show_all.Given as goal
 
 abbrev pub invariant-loop-sight : goal.invariant-loop-sight
 invariant-loop-sight g l =
-    GoesUnderWay l.map g.T.Translator.stands l.fn.explorer l.fn.script l.explorer l.script (((n : ℕ) (x : Sight)
+    GoesUnderWay l.map g.T.Translator.stands l.fn.script l.script (((n : ℕ) (x : Sight)
     → n < l.sight-index → get_or l.told n x ≡ x → CanVisit l.map x → has_seen l.script.seen x ≡ true)
     × ShowsNew (Contains l.told) l.fn.script l.script)

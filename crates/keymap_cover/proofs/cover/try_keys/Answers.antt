@@ -1,12 +1,25 @@
 use Rattle.keymap_cover.proofs.Common.{reverse}
-use Rattle.keymap_cover.proofs.Showing.{walks-further}
+use Rattle.keymap_cover.proofs.Showing.{rests-behind, rests-more, rests-off}
 use Rattle.keymap_cover.proofs.Walking.{on-ok}
 use Rattle.keymap_cover.proofs.cover.try_keys.Goals as goal
+
+pub loop-trial-init : goal.loop-trial-init
+loop-trial-init g c = c.in_ok-go_home.ensures
+
+pub loop-trial-preserved : goal.loop-trial-preserved
+loop-trial-preserved g c =
+    let s = g.T.Translator.stands in
+    let m = c.args.map.now in
+    let b = c.walk.new.self in
+    rests-more s m c.args.script.now b c.go_home-in-loop-trial.new.script
+    (rests-more s m c.args.script.now c.loop-trial.script b c.loop-trial.invariant
+    (rests-behind s m (reverse c.deref.result.now) c.loop-trial.script b c.in_ok-walk.ensures.along
+    c.in_ok-walk.ensures.up))
+    c.in_ok-go_home-2.ensures
 
 pub returns : goal.returns
 returns g c =
     on-ok c.turn_scroll_off.result
-    (walks-further g.T.Translator.stands c.args.map.now (reverse c.deref.result.now) (reverse c.deref-2.result.now)
-    c.args.script.now c.walk.new.self c.walk-2.new.self c.turn_scroll_off.new.script c.in_ok-walk.ensures.along
-    c.in_ok-walk-2.ensures.along c.in_ok-walk-2.ensures.up)
+    (rests-off g.T.Translator.stands c.args.map.now c.args.script.now c.loop-trial.script
+    c.turn_scroll_off.new.script c.loop-trial.invariant)
     c.turn_scroll_off.ensures

@@ -19,9 +19,7 @@ pub returns : goal.returns
 returns g c =
     on-ok c.show_rest.result
     (λ rest are.
-    goes-to_end g.T.Translator.stands c.args.map.now c.args.sights.now c.in_ok-left.left.items c.in_ok-rest.rest.items
-    c.args.script.now c.show_all_onward.new.script c.turn_scroll_off.new.script c.show_rest.new.script are
-    c.in_ok-left.ensures
-    (subst (λ n. 0 < n) c.in_ok-left.left.ok.0 (some-of _ (sym c.is_empty.ensures ∙ c.if-is_empty.false)))
-    c.in_ok-rest.ensures c.in_ok-turn_scroll_off.ensures rest)
+    goes-to_end g.T.Translator.stands c.args.map.now c.args.sights.now c.in_ok-left.left.items c.args.script.now
+    c.show_rest.new.script are c.in_ok-left.ensures
+    (subst (λ n. 0 < n) c.in_ok-left.left.ok.0 (some-of _ (sym c.is_empty.ensures ∙ c.if-is_empty.false))) rest)
     c.show_rest.ensures

@@ -4,18 +4,18 @@ use Rattle.console_scripts.proofs.Leading.{dead-met, sees-at, sees-behind}
 use Rattle.console_scripts.proofs.explored.Explored.approach.Goals as goal
 
 pub go_composing-requires-clause-dead : goal.go_composing-requires-clause-dead
-go_composing-requires-clause-dead c =
+go_composing-requires-clause-dead g c =
     dead-met c.args.self.now c.args.aim.now.sight c.in-Some.dead
     (subst (λ o. IsDeadFor c.args.self.now c.args.aim.now.sight o) c.in-Some.is c.requires.aim.1)
 
 pub go_composing-requires-clause-place : goal.go_composing-requires-clause-place
-go_composing-requires-clause-place c = search (rules, slice_get_within)
+go_composing-requires-clause-place g c = search (rules, slice_get_within)
 
 pub go_looking-requires-clause-place : goal.go_looking-requires-clause-place
-go_looking-requires-clause-place c = search (rules, slice_get_within)
+go_looking-requires-clause-place g c = search (rules, slice_get_within)
 
 pub returns-in-Some : goal.returns-in-Some
-returns-in-Some c =
+returns-in-Some g c =
     let e = c.args.self.now in
     let x = c.args.aim.now.sight in
     on_ok-then c.go_composing.result
@@ -26,4 +26,4 @@ returns-in-Some c =
     c.go_composing.ensures
 
 pub returns-in-None : goal.returns-in-None
-returns-in-None c = search (rules, on_ok-then, sees-at)
+returns-in-None g c = search (rules, on_ok-then, sees-at)

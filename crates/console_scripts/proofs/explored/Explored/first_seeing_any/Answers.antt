@@ -1,6 +1,7 @@
 use Rattle.console_scripts.proofs.Common.{inl, inr, subst, sym, ap, arith, ◌∙◌, get_or, get_or_default, Sees}
 use Rattle.console_scripts.proofs.Common.{place_last}
 use Rattle.console_states.specs.Looks.{IsNowhere}
+use Rattle.console_scripts.proofs.Visitable.{shows-none, shows-some}
 use Rattle.console_scripts.proofs.explored.Explored.first_seeing_any.Goals as goal
 
 pub loop-sight-preserved : goal.loop-sight-preserved
@@ -12,7 +13,7 @@ loop-sight-preserved c =
           subst (λ s. IsNowhere (Sees c.args.self.now s) c.args.self.now.met.entries)
           (get_or_default c.args.sights.now c.loop-sight.sight-index _ x c.loop-sight-test.true
           ∙ ap (λ i. get_or c.args.sights.now i x) (sym f) ∙ at)
-          c.in_default.ensures.is
+          (shows-none c.args.self.now _ c.in_default.ensures)
     ]
 
 pub returns-in-Some : goal.returns-in-Some
@@ -23,7 +24,7 @@ returns-in-Some c = (
     c.loop-sight-test.true,
     get_or_default c.args.sights.now c.loop-sight.sight-index _ _ c.loop-sight-test.true,
   ),
-  c.in-Some.ensures.is.0,
+  shows-some c.args.self.now _ c.in-Some.at c.in-Some.ensures,
 )
 
 pub returns : goal.returns

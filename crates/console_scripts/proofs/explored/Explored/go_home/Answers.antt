@@ -8,7 +8,7 @@ pub returns-in_ok-come_home : goal.returns-in_ok-come_home
 returns-in_ok-come_home c =
     let (moves, home, added) =
     c.in_ok-come_home.ensures (alone (map_of_explored c.args.self.now)) c.requires.home in (
-      (λ e. (reverse moves, home.0, home.1, home.2 c.requires.origin.0, added)),
+      (λ e. (reverse moves, home.0, home.1, added)),
       (λ e. absurd (true≢false e)),
     )
 

@@ -1,4 +1,4 @@
-use Rattle.console_scripts.proofs.Common.{arith, rules}
+use Rattle.console_scripts.proofs.Common.{arith}
 use Rattle.console_scripts.proofs.Marking.{gathered-first, gathered-all}
 use Rattle.console_scripts.proofs.explored.Explored.places.Goals as goal
 

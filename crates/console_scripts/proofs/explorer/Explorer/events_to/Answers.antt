@@ -23,8 +23,8 @@ returns-clause-leads c =
     (λ x at.
     let (y, there, is) = key-at e.met.entries c.args.place x at in
     subst (λ z. LeadsBy e.maps.first.now start (state_of z) now) is
-    (subst (λ o. LeadsBy e.maps.first.now o (state_of y.0) now) c.self.invariant.0.1
-    (leads-by e c.self.invariant.0.0 c.args.place y there c.new-events.result.items now c.new-events.ensures.items
+    (subst (λ o. LeadsBy e.maps.first.now o (state_of y.0) now) c.self.invariant.1
+    (leads-by e c.self.invariant.0 c.args.place y there c.new-events.result.items now c.new-events.ensures.items
     c.in_ok-go_out.ensures)))
 
 pub returns-clause-none : goal.returns-clause-none

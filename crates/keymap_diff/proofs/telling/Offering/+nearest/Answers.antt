@@ -3,7 +3,7 @@ use Rattle.keymap_diff.proofs.Common.{alone, IsOfferedIn}
 use Rattle.std.proofs.Common.{◌-◌, ◌/◌}
 use Rattle.keymap_diff.specs.Inner.Searches.{IsClearBehind, IsNoFurther, IsSearched, IsWithin}
 use Rattle.keymap_diff.specs.declared.nearest.Nearest.{Nearest}
-use Rattle.keymap_diff.proofs.Offers.{clear-before, clear-both, clear-searched, if-both, if-ok, offering-off}
+use Rattle.keymap_diff.proofs.Offers.{clear-before, clear-both, clear-searched, if-both, if-ok}
 use Rattle.keymap_diff.proofs.Offers.{one-origin, some-origin, within-less}
 use Rattle.keymap_diff.proofs.telling.Offering.+nearest.Goals as goal
 
@@ -12,9 +12,6 @@ returns-then-not-is_beyond-clause-clear t c = λ b within.
     let at = c.args.self.now in
     clear-before at.both.old.now at.both.new.now at.accent _ _ c.args.high b _ c.requires.met
     c.presses_to-before.ensures.value (c.is_beyond.ensures.within c.if-not-is_beyond.true b within)
-
-pub from-requires : goal.from-requires
-from-requires t c = search (rules, offering-off)
 
 pub returns-in_default-clause-clear : goal.returns-in_default-clause-clear
 returns-in_default-clause-clear t c = λ b within.

@@ -1,6 +1,6 @@
 use Rattle.console_scripts.proofs.Common.{rules, on_ok-then}
 use Rattle.console_scripts.proofs.Leading.{steady-leads}
-use Rattle.console_scripts.proofs.explorer.tap_steady.Goals as goal
+use Rattle.console_scripts.proofs.explorer.tap_if.Goals as goal
 
 pub returns-in-Some : goal.returns-in-Some
 returns-in-Some c = search (rules, on_ok-then, steady-leads)

@@ -1,6 +1,6 @@
 -- What stands for a token: it reads as a token, means the same, and stays when it is quoted again.
 use Rattle.keymap_fmt.proofs.Common.{◌≡◌, ◌⊎◌, inl, inr, ℕ, zero, suc, ◌+◌, ◌<◌, ◌&&◌, Bool}
-use Rattle.keymap_fmt.proofs.Common.{true, false, true≢false, List, [], ◌∷◌, ◌++◌, length, take, refl, sym, ◌∙◌, ap}
+use Rattle.keymap_fmt.proofs.Common.{true, false, true≢false, List, [], ◌∷◌, ◌++◌, length, refl, sym, ◌∙◌, ap}
 use Rattle.keymap_fmt.proofs.Common.{subst, arith, nat_tests, if◌then◌else◌, front_of, Found, TokenKind, Part, Comment}
 use Rattle.keymap_fmt.proofs.Common.{Code, behind}
 use Rattle.std.proofs.Common.{length-append, ◌≢◌, not, ◌||◌, nat_lt, Ok, Err}
@@ -15,7 +15,7 @@ use lib.Utf8.{scalar}
 use Rattle.keymap_core.specs.Actions.{within}
 use Rattle.keymap_places.specs.Unicode.{is_lone, is_wide, is_above}
 use Rattle.keymap_text.specs.Items.{character}
-use Rattle.keymap_text.specs.Words.{item, meaning}
+use Rattle.keymap_text.specs.Words.{item}
 use Rattle.keymap_text.specs.Printed.{character_text}
 use Rattle.keymap_text.specs.declared.token.TokenKind.TheVariants.{Literal, Word}
 use Rattle.keymap_text.specs.declared.words.Item.{Item}

@@ -12,3 +12,4 @@ pub mod SameRow
 pub mod Quoting
 pub mod Separate
 pub mod Comments
+pub mod Words

@@ -26,7 +26,7 @@ blanks_replicate : (n : ℕ) → AreBlanks (replicate n 32)
 blanks_replicate zero = tt
 blanks_replicate (suc n) = (refl, blanks_replicate n)
 
-lowered_append : (g h : List ℕ) (s : Standing) → lowered_by (g ++ h) s ≡ lowered_by h (lowered_by g s)
+pub lowered_append : (g h : List ℕ) (s : Standing) → lowered_by (g ++ h) s ≡ lowered_by h (lowered_by g s)
 lowered_append [] h s = refl
 lowered_append (c ∷ g) h s = lowered_append g h (lowered c s)
 

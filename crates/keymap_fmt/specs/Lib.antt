@@ -4,5 +4,6 @@ pub mod Formatted
 pub mod Refused
 pub mod Same
 pub mod Quoted
+pub mod Words
 pub mod Inner
 pub mod Types

@@ -6,11 +6,12 @@ ghost use Rattle.keymap_fmt.specs.Layout.{is_over, is_open, start};
 ghost use Rattle.keymap_fmt.specs.Types.{Standing as StandingValue, TokenKind as TokenKindValue};
 ghost use Rattle.keymap_fmt.specs.Types.{AtTop, Beside, Below, Apart};
 ghost use Rattle.keymap_text.specs.Lexical.{is_blank};
-ghost use Rattle.keymap_fmt.specs.Same.{part_and_bytes, kind_and_bytes, token_of};
+ghost use Rattle.keymap_fmt.specs.Same.{part_and_bytes, part_and_line, kind_and_bytes, token_of};
 ghost use Rattle.keymap_text.specs.Meaning.{items, tokens, Spells};
 ghost use Rattle.keymap_fmt.specs.Quoted.{AreSameItems, comment_of, laid_by, quoted};
 ghost use Rattle.keymap_fmt.specs.declared.quoted.Characters.{Characters as CharactersValue};
 ghost use Rattle.keymap_core.specs.Maps.{MapValue};
+ghost use Rattle.keymap_fmt.specs.Words.{LayoutsHaveNoNewWords};
 ghost use Rattle.std.specs.List.{flat_map};
 
 use keymap_text::laws::one_meaning;
@@ -20,6 +21,13 @@ use keymap_text::laws::one_meaning;
 #[tactic(auto, using(crate::proofs::Again::parts_stay))]
 pub fn parts_stay()
     ensures { (text : List ℕ) → map part_and_bytes (pieces (formatted text)) ≡ map part_and_bytes (pieces text) }
+{}
+
+/// What is formatted has the same pieces in the same order, and of the comments the same ones stand behind a token in its
+/// line.
+#[tactic(auto, using(crate::proofs::Again::lines_stay))]
+pub fn comments_stay_beside()
+    ensures { (text : List ℕ) → map part_and_line (pieces (formatted text)) ≡ map part_and_line (pieces text) }
 {}
 
 /// The tokens among the pieces of a text are its tokens.
@@ -32,6 +40,11 @@ pub fn pieces_hold_the_tokens()
 #[tactic(auto, using(crate::proofs::Spelling::tokens_stay))]
 pub fn tokens_stay()
     ensures { (text : List ℕ) → map kind_and_bytes (tokens (formatted text)) ≡ map kind_and_bytes (tokens text) }
+{}
+
+/// A word without blanks that stands nowhere in a text stands nowhere in what is formatted.
+pub fn layouts_have_no_new_words()
+    ensures { LayoutsHaveNoNewWords }
 {}
 
 /// Either layout of a text spells the keymap that the text spells, and no other.

@@ -92,6 +92,13 @@ begins_there text m rows by =
     (token_at text m rows b.skipped (λ token. begins (item_of token) ≡ Some p.what) b.there b.name))
     (places_of rows) (rows_begin by.are_rows 0)
 
+-- each definition begins at a token of the text
+pub definitions_there : (text : List ℕ) (m : MapValue) (rows : List Row) → IsSpelledBy text m rows
+    → All (λ (p : Placed). p.first < length (tokens text)) (places_of rows)
+definitions_there text m rows by =
+    All-weaker (Begun (tokens text) 0) (λ p. p.first < length (tokens text)) (λ p b. omega (arith, b.first, b.there))
+    (places_of rows) (rows_begin by.are_rows 0)
+
 same_defined : (a b : Defined) → is_same a b ≡ true → a ≡ b
 same_defined (Slot s) (Slot t) e = ap Slot (eqb-true s t e)
 same_defined (Accent i) (Accent j) e = ap Accent (eqb-true i j e)
@@ -229,6 +236,12 @@ row_there text m rows by i p e =
     sym (length-map row item_of) ∙ accent_tokens (map item_of row) i a d in
     let some : length row ≤ length (drop p.first (tokens text)) = rw length-take (omega arith) in
     (many, omega (arith, many, some, length-drop p.first (tokens text)))
+
+pub accent_there : (text : List ℕ) (m : MapValue) (rows : List Row) → IsSpelledBy text m rows → (i : ℕ) (p : Placed)
+    → last_of (Accent i) (places_of rows) ≡ Some p → (n : ℕ) → n < 4 * length (get_or m.accents i blank).pairs + 2
+    → p.first + n < length (tokens text)
+accent_there text m rows by i p e n few =
+    let (many, within) = row_there text m rows by i p e in omega (arith, many, within, few)
 
 pub zero_there : (text : List ℕ) (m : MapValue) (rows : List Row) → IsSpelledBy text m rows → (i : ℕ) (p : Placed)
     → last_of (Accent i) (places_of rows) ≡ Some p → is_zero (own_of (accent_at m i)) ≡ true

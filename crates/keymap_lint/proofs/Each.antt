@@ -3,8 +3,7 @@ use Rattle.keymap_lint.proofs.Common.{◌≡◌, ℕ, ◌+◌, Bool, true, false
 use Rattle.keymap_lint.proofs.Common.{refl, Option, Some, None, find, flat_map, Slot, Placed, Diagnostic, gathered}
 use Rattle.keymap_lint.proofs.Common.{last_of, mixed_key, selects, again, is_missing, rules, is_defined, zero_accent}
 use Rattle.keymap_lint.proofs.Common.{pair_again, accent_pairs, has_base, is_above_in_force, digit, Spelled}
-use Prim.Native.Nat.{zero, suc}
-use Rattle.std.proofs.Common.{◌-◌, ◌*◌, ◌<◌, All, ◌==◌, arith}
+use Rattle.std.proofs.Common.{◌-◌, ◌*◌, ◌<◌, All, ◌==◌}
 use Rattle.std.specs.Option.{option_to_list}
 use Rattle.std.proofs.lemmas.Bool.{and_parts, eqb-true}
 use Rattle.std.proofs.lemmas.List.Elements.{All-nil, All-cons, All-head, All-tail, All-append, Contains-get_or}

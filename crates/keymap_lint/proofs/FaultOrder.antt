@@ -2,7 +2,7 @@
 use Rattle.keymap_lint.proofs.Common.{◌≡◌, ℕ, ◌+◌, ◌<◌, ◌≤◌, List, [], ◌∷◌, length, map, Some}
 use Rattle.keymap_lint.proofs.Common.{Faulty, arith, sym, ap, subst, rules}
 use Prim.Native.Nat.{zero, suc}
-use Rattle.std.proofs.Common.{◌-◌, All, get_or}
+use Rattle.std.proofs.Common.{All, get_or}
 use Rattle.std.proofs.lemmas.List.Elements.{All-nil, All-cons}
 use Rattle.std.specs.List.Sorted.{IsStrictlyIncreasing}
 use Rattle.std.specs.Prelude.{slice_get}

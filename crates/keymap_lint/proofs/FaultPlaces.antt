@@ -1,5 +1,5 @@
 -- The faults of a text: the places that are told of them lie within it.
-use Rattle.keymap_lint.proofs.Common.{◌≡◌, ℕ, ◌+◌, ◌++◌, ◌<◌, ◌≤◌, ◌∙◌, List, [], ◌∷◌, length, map, take}
+use Rattle.keymap_lint.proofs.Common.{◌≡◌, ℕ, ◌+◌, ◌++◌, ◌<◌, ◌≤◌, ◌∙◌, List, [], ◌∷◌, length, take}
 use Rattle.keymap_lint.proofs.Common.{Option, None, Some, arith, refl, sym, ap, subst, rules}
 use Prim.Native.Nat.{zero, suc}
 use Rattle.std.proofs.Common.{◌-◌, ◌⊎◌, All, Result, Ok, Err, IfSome, drop, inl, inr, zero-add}

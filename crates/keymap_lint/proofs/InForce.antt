@@ -14,7 +14,6 @@ use Rattle.std.specs.List.{range_with_len}
 use Rattle.std.proofs.lemmas.Bool.Decides.{nat_tests}
 use Rattle.std.proofs.lemmas.List.FromFn.{length-map-range_with_len}
 use Rattle.keymap_lint.specs.Types.{Char, Defined, Accent, Span, CellInForce}
-use Rattle.keymap_core.specs.declared.entry.Entry.{Entry}
 use Rattle.keymap_core.specs.Maps.{cell_at, entry_at}
 use Rattle.keymap_text.specs.declared.token.TokenKind.TheVariants.{Word}
 use Rattle.keymap_text.specs.Items.{cell}
@@ -42,7 +41,7 @@ nothing_placed : (text : List ℕ) → IsPlaced text nothing
 unfolding nothing
 nothing_placed text = record { within = omega arith; bytes = refl }
 
-span_is : (ts : List TokenValue) (n : ℕ)
+pub span_is : (ts : List TokenValue) (n : ℕ)
     → get_or (map span_of ts) n (record { start = 0; end = 0 }) ≡ span_of (get_or ts n nothing)
 unfolding nothing
 span_is ts n = elim (cases_lt n (length ts)) [
@@ -53,7 +52,7 @@ span_is ts n = elim (cases_lt n (length ts)) [
       ∙ ap span_of (sym (get_or_past ts n nothing l))
 ]
 
-placed_at : (text : List ℕ) (n : ℕ) → IsPlaced text (get_or (tokens text) n nothing)
+pub placed_at : (text : List ℕ) (n : ℕ) → IsPlaced text (get_or (tokens text) n nothing)
 placed_at text n = search (rules, cases_lt, tokens_are_placed, nothing, get_or_past, nothing_placed)
 
 -- each token begins within the text
@@ -72,6 +71,27 @@ token_at text m rows n IsSuch there such = record {
   such = such;
 }
 
+-- the tokens of the definition in force of a slot
+abbrev row_of_slot : List ℕ → Placed → List TokenValue
+row_of_slot text p = take 10 (drop p.first (tokens text))
+
+-- the text has them all
+row_there : (text : List ℕ) (m : MapValue) (rows : List Row) → IsSpelledBy text m rows → (slot : ℕ) (p : Placed)
+    → last_of (Slot slot) (places_of rows) ≡ Some p
+    → (length (row_of_slot text p) ≡ 10) × (p.first + length (row_of_slot text p) ≤ length (tokens text))
+row_there text m rows by slot p e =
+    let row = row_of_slot text p in
+    let ten : length row ≡ 10 =
+    sym (length-map row item_of)
+    ∙ slot_tokens (map item_of row) slot (entry_at m slot) (slot_in_force text m rows by slot p e) in
+    let some : length row ≤ length (drop p.first (tokens text)) = rw length-take (omega arith) in
+    (ten, omega (arith, ten, some, length-drop p.first (tokens text)))
+
+pub slot_there : (text : List ℕ) (m : MapValue) (rows : List Row) → IsSpelledBy text m rows → (slot : ℕ) (p : Placed)
+    → last_of (Slot slot) (places_of rows) ≡ Some p → (n : ℕ) → n < 10 → p.first + n < length (tokens text)
+slot_there text m rows by slot p e n few =
+    let (ten, all) = row_there text m rows by slot p e in omega (arith, ten, all, few)
+
 -- a token of the definition in force of a slot
 slot_part : (text : List ℕ) (m : MapValue) (rows : List Row) → IsSpelledBy text m rows → (slot : ℕ) (p : Placed)
     → last_of (Slot slot) (places_of rows) ≡ Some p → (n : ℕ) → n < 10 → (IsSuch : Item → Type 0)
@@ -79,18 +99,15 @@ slot_part : (text : List ℕ) (m : MapValue) (rows : List Row) → IsSpelledBy t
     → IsSuch (get_or items n (item_of nothing)))
     → HasToken text (offset_at (spelled_by text m rows) (p.first + n)) (λ token. IsSuch (item_of token))
 slot_part text m rows by slot p e n few IsSuch such =
-    let entry : Entry = entry_at m slot in
-    let row : List TokenValue = take 10 (drop p.first (tokens text)) in
-    let d : Defines (map item_of row) (KeyDefinition slot entry) = slot_in_force text m rows by slot p e in
-    let ten : length row ≡ 10 = sym (length-map row item_of) ∙ slot_tokens (map item_of row) slot entry d in
-    let some : length row ≤ length (drop p.first (tokens text)) = rw length-take (omega arith) in
-    let less = length-drop p.first (tokens text) in
-    let there : p.first + n < length (tokens text) = omega (arith, ten, some, less, few) in
+    let row = row_of_slot text p in
+    let (ten, all) = row_there text m rows by slot p e in
+    let there : p.first + n < length (tokens text) = omega (arith, ten, all, few) in
     let same : get_or row n nothing ≡ get_or (tokens text) (p.first + n) nothing =
     get_or-take 10 (drop p.first (tokens text)) n nothing few ∙ get_or-drop p.first (tokens text) n nothing in
     let short : n < length row = omega (arith, ten, few) in
     let its = get_or-map item_of row n nothing (item_of nothing) short ∙ ap item_of same in
-    token_at text m rows (p.first + n) (λ token. IsSuch (item_of token)) there (subst IsSuch its (such (map item_of row) d))
+    token_at text m rows (p.first + n) (λ token. IsSuch (item_of token)) there
+    (subst IsSuch its (such (map item_of row) (slot_in_force text m rows by slot p e)))
 
 -- a cell of the definition in force
 pub spelled_at : (text : List ℕ) (m : MapValue) (rows : List Row) → IsSpelledBy text m rows → (slot : ℕ) (p : Placed)

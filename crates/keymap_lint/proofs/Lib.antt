@@ -13,3 +13,9 @@ pub mod InForce
 pub mod Begun
 pub mod FaultPlaces
 pub mod FaultOrder
+pub mod Pairs
+pub mod SameTokens
+pub mod SameOrder
+pub mod OneFindings
+pub mod SameTexts
+pub mod SameKept

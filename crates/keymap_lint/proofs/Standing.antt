@@ -123,7 +123,7 @@ digits_within text n place e =
 found_has : {X : Type 0} (P : X → Type 0) (p : X → Bool) (xs : List X) → All P xs → (x : X) → find p xs ≡ Some x → P x
 found_has P p xs all x e = search (rules, find_at, get_or_from_slice_get, slice_get_within)
 
-found_in : {X : Type 0} (p : X → Bool) (xs : List X) (x : X) → find p xs ≡ Some x → Contains xs x
+pub found_in : {X : Type 0} (p : X → Bool) (xs : List X) (x : X) → find p xs ≡ Some x → Contains xs x
 found_in p xs x e = found_has (Contains xs) p xs (λ k d l. Contains-get_or xs k d l) x e
 
 -- what is chosen only if a test passes, where something is chosen

@@ -1,7 +1,7 @@
 -- What holds of all that would be said, and of what may be said of directives, holds of all that is told.
-use Rattle.keymap_lint.proofs.Common.{◌≡◌, ℕ, ◌+◌, ◌<◌, ◌≤◌, Bool, true, false, ◌&&◌, not, cond, List, [], ◌∷◌, ◌++◌}
-use Rattle.keymap_lint.proofs.Common.{length, map, get_or, take, refl, sym, ◌∙◌, ap, arith, Option, Some, None, rules}
-use Rattle.keymap_lint.proofs.Common.{true≢false, Diagnostic, Spelled, gathered, flat_map}
+use Rattle.keymap_lint.proofs.Common.{◌≡◌, ℕ, ◌+◌, ◌<◌, ◌≤◌, Bool, true, false, not, cond, List, [], ◌∷◌, ◌++◌}
+use Rattle.keymap_lint.proofs.Common.{length, map, get_or, take, refl, sym, ◌∙◌, ap, arith, Option, Some, None}
+use Rattle.keymap_lint.proofs.Common.{Diagnostic, Spelled, gathered, flat_map}
 use Prim.Native.Nat.{zero, suc}
 use Rattle.std.proofs.Common.{◌-◌, ◌==◌, All, drop, nat_eq, codes}
 use Rattle.std.specs.Prelude.{slice_index_or}
@@ -10,7 +10,7 @@ use Rattle.std.proofs.lemmas.List.Sums.{prefix_len-le-length}
 use Rattle.std.proofs.lemmas.Slice.Eq.{bytes_eq-Decides}
 use Rattle.bstr.specs.Find.{OccursAt}
 use Rattle.std.specs.Option.{option_to_list, unwrap_or}
-use Rattle.std.proofs.lemmas.Bool.{and_parts, eqb-true, or_from}
+use Rattle.std.proofs.lemmas.Bool.{and_parts, eqb-true}
 use Rattle.std.proofs.lemmas.List.{length-drop, length-take, get_or-take, get_or-drop}
 use Rattle.std.proofs.lemmas.List.Elements.{All-nil, All-append, All-filter}
 use Rattle.keymap_lint.specs.Types.{Span}
@@ -20,7 +20,7 @@ use Rattle.keymap_lint.specs.Directives.{HasNoMark, before_dashes, begins_word, 
 use Rattle.keymap_lint.specs.Directives.{directive_at, directive_behind, directive_by, directive_saying, directives}
 use Rattle.keymap_lint.specs.Directives.{is_between, word_in}
 use Rattle.keymap_lint.specs.Directives.{is_marked, is_told, keeper, of_number, of_word, of_words, said_from, told}
-use Rattle.keymap_lint.specs.Directives.{told_with, word_at, word_length, word_span, words, words_by, words_in}
+use Rattle.keymap_lint.specs.Directives.{word_at, word_length, word_span, words, words_by, words_in}
 use Rattle.keymap_lint.specs.Directives.{words_of}
 use Rattle.keymap_lint.specs.Directives.{wrong, wrong_by, stands_at}
 use Rattle.keymap_lint.specs.KindNames.{is_never_ignored, may_be_ignored}

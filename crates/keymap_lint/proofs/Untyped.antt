@@ -1,9 +1,9 @@
 -- What no keys type, by what a search finds, and by what is typed for sure.
-use Rattle.keymap_lint.proofs.Common.{◌≡◌, ◌∙◌, ℕ, ◌+◌, ◌<◌, ◌≤◌, Bool, true, false, not, ◌&&◌, cond, List, [], ◌∷◌}
+use Rattle.keymap_lint.proofs.Common.{◌≡◌, ◌∙◌, ℕ, ◌<◌, ◌≤◌, Bool, true, false, not, ◌&&◌, cond, List, [], ◌∷◌}
 use Rattle.keymap_lint.proofs.Common.{◌++◌}
-use Rattle.keymap_lint.proofs.Common.{MapValue, length, get_or, refl, sym, ap, subst, arith, gathered, true≢false}
+use Rattle.keymap_lint.proofs.Common.{MapValue, get_or, refl, sym, subst, arith, gathered, true≢false}
 use Prim.Native.Nat.{zero, suc}
-use Rattle.std.proofs.Common.{inl, inr, ◌⊎◌, All, nat_le, append_assoc}
+use Rattle.std.proofs.Common.{inl, inr, All}
 use Rattle.std.proofs.Math.ListN.{set}
 use Rattle.std.proofs.lemmas.Bool.{and_from, and_parts, cases_eq, cases_lt}
 use Rattle.std.proofs.lemmas.Bool.Decides.{nat_tests}
@@ -19,11 +19,11 @@ use Rattle.std.specs.BTreeSet.{BTreeSet, contains}
 use Rattle.std.specs.List.{filter}
 use Rattle.std.specs.List.Sorted.{IsStrictlyIncreasing}
 use Rattle.std.specs.Ordering.{nat_cmp}
-use Rattle.std.specs.Prelude.{Contains, count_by}
+use Rattle.std.specs.Prelude.{Contains}
 use Rattle.keymap_core.specs.Below.{passed}
 use Rattle.console_scripts.specs.Typing.{CanType}
 use Rattle.console_states.specs.Sights.{Lists}
-use Rattle.keymap_lint.specs.Typed.{AreTold, AreUntyped, IsSilent, LacksLetters, has_most_letters, is_letter, is_seen}
+use Rattle.keymap_lint.specs.Typed.{AreTold, AreUntyped, LacksLetters, has_most_letters, is_letter, is_seen}
 use Rattle.keymap_lint.specs.Ways.{AreSure, untyped_character}
 use Rattle.keymap_lint.proofs.FaultOrder.{rises, suc_more}
 use Rattle.keymap_lint.proofs.Lists.{all_passing}

@@ -1,24 +1,22 @@
 -- What stands where one key looks while another one is held can be typed.
-use Rattle.keymap_lint.proofs.Common.{◌≡◌, ◌∙◌, ℕ, ◌<◌, Bool, true, false, cond, [], ◌∷◌, Option, Some, None, ap, sym}
+use Rattle.keymap_lint.proofs.Common.{◌≡◌, ◌∙◌, ℕ, ◌<◌, Bool, true, false, cond, [], ◌∷◌, Option, Some, None, ap}
 use Rattle.keymap_lint.proofs.Common.{MapValue, refl, subst}
 use Rattle.std.specs.Prelude.{IfSome}
 use Rattle.std.proofs.Common.{inl, inr, ◌==◌, eq-eqb}
 use Rattle.keymap_core.specs.declared.action.Action.TheVariants as act
 use Rattle.keymap_core.specs.declared.action.Modifier.{Modifier}
-use Rattle.keymap_core.specs.declared.action.Modifier.TheVariants.{Meta, LeftShift, RightShift, LeftAlt, RightAlt}
+use Rattle.keymap_core.specs.declared.action.Modifier.TheVariants.{LeftShift, RightShift, LeftAlt, RightAlt}
 use Rattle.keymap_core.specs.declared.entry.LockFlag.{LockFlag}
 use Rattle.keymap_core.specs.declared.entry.LockFlag.TheVariants as flag
 use Rattle.keymap_core.specs.Actions.{same_modifier}
 use Rattle.keymap_core.specs.Accents.{own_of}
 use Rattle.keymap_core.specs.Maps.{accent_at, cell_at, entry_at}
-use Rattle.console_core.specs.Answers.{usable}
 use Rattle.console_core.specs.Columns.{column_of, exactly_one, flips_shift}
-use Rattle.console_states.specs.Moves.{IsIdle, alone, look_in, start}
+use Rattle.console_states.specs.Moves.{IsIdle, start}
 use Rattle.console_states.specs.declared.held.Move.TheVariants.{Hold, LetGo}
-use Rattle.console_scripts.specs.declared.explored.Symbol.{Symbol}
 use Rattle.console_scripts.specs.declared.explored.Symbol.TheVariants as symbol
-use Rattle.console_scripts.specs.Typing.{CanTap, CanType, cell_of}
-use Rattle.keymap_lint.specs.Types.{Cell, Char, Act}
+use Rattle.console_scripts.specs.Typing.{CanType}
+use Rattle.keymap_lint.specs.Types.{Cell, Act}
 use Rattle.keymap_lint.specs.Ways.{IsTypedBy, IsWay, Selects, held_by}
 
 -- no lock is on, so no lock letter flips shift
@@ -54,7 +52,7 @@ pub base_way : (m : MapValue) → IsWay m (record { holder = None; column = 0 })
 base_way m k x plain low ne is = (
   [],
   tt,
-  ([], tt, ((λ i. refl), λ l ne. refl)),
+  ([], tt, ((λ i. refl), λ l. refl)),
   (k, (low, nothing_held k, looks_flipped m k false false ∙ is, λ e. refl)),
 )
 
@@ -63,8 +61,8 @@ pub held_way : (m : MapValue) (i : Modifier) (column h : ℕ) → Selects i colu
     → cell_at m h 0 ≡ Act (act.Mod i) → IsWay m (record { holder = Some h; column = column })
 held_way m i column h s few lies k x plain low ne is = (
   Hold h i ∷ [],
-  ((few, nothing_held h, looks_flipped m h false false ∙ lies, refl), tt),
-  (LetGo h i ∷ [], (s.holds h, tt), (free, λ l ne. refl)),
+  (((few, nothing_held h, (looks_flipped m h false false ∙ lies, refl)), refl), tt),
+  (LetGo h i ∷ [], (s.holds h, tt), (free, λ l. refl)),
   (k, (low, idle, s.looks m h k ∙ is, λ e. s.plain h)),
 )
   where

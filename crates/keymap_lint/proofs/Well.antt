@@ -3,23 +3,22 @@ use Rattle.keymap_lint.proofs.Common.{◌≡◌, Bool, true, false, List, [], �
 use Rattle.keymap_lint.proofs.Common.{refl, true≢false, MapValue, Faulty, rules}
 use Rattle.std.specs.List.{list_any}
 use Rattle.std.proofs.lemmas.Bool.{or_parts, or_from}
-use Rattle.keymap_lint.specs.Types.{Sticking, Kind, Diagnostics, Spelled}
+use Rattle.keymap_lint.specs.Types.{Sticking, Diagnostics, Spelled}
 use Rattle.console_states.specs.declared.outcome.Sticking.TheVariants.{Sticks, Never, Undecided}
 use Rattle.console_core.specs.History.{in_force}
 use Rattle.console_core.specs.Headline.{IsSafe}
 use Rattle.console_states.specs.Sticking.{NeverSticks}
 use Rattle.console_core.proofs.Shared.{first_in_force, off_once_quiet, on_only_while_pressed}
 use Rattle.keymap_lint.specs.Lists.{IsSearched}
-use Rattle.keymap_lint.specs.Promises.{names_a_key, names_keys, WellTextsNeverStick}
-use Rattle.keymap_lint.specs.Severities.{never_sticks, severity_of, is_error, has_error}
+use Rattle.keymap_lint.specs.Promises.{names_keys, WellTextsNeverStick}
+use Rattle.keymap_lint.specs.Severities.{never_sticks, has_error}
 use Rattle.std.proofs.Common.{inl}
 use Rattle.keymap_lint.proofs.Named.{keys_are_named_exactly_if_refused, named_is_error}
-use Rattle.keymap_lint.specs.declared.diagnostic.Kind.TheVariants as kinds
 
 -- under a safe keymap no modifier sticks
 safe_never_sticks : (m : MapValue) → IsSafe m → NeverSticks m
 safe_never_sticks m safe ms h (first, loads) keys none =
-    let held : IsSafe (in_force ms h) = subst IsSafe (sym (first_in_force ms h (none refl) ∙ first)) safe in
+    let held : IsSafe (in_force ms h) = subst IsSafe (sym (first_in_force ms h (none.0 refl) ∙ first)) safe in
     (on_only_while_pressed ms h held keys, off_once_quiet ms h held keys)
 
 none_by : {X : Type 0} (p q : X → Bool) → ((x : X) → q x ≡ true → p x ≡ true) → (xs : List X) → list_any p xs ≡ false

@@ -11,7 +11,6 @@ use Rattle.keymap_core.specs.Below.{first_below, gathered}
 use Rattle.keymap_places.specs.LineOf.{rest_of_line}
 use Rattle.keymap_text.specs.Lexical.{is_space, leading}
 use Rattle.keymap_lint.specs.Types.{Span, Diagnostic, Kind, Placed}
-use Rattle.keymap_lint.specs.declared.diagnostic.BadIgnore.{BadIgnore}
 use Rattle.keymap_lint.specs.declared.diagnostic.BadIgnore.TheVariants as bad
 use Rattle.keymap_lint.specs.declared.diagnostic.Kind.TheVariants as kinds
 use Rattle.keymap_lint.specs.declared.directives.Directive.{Directive}

@@ -14,4 +14,5 @@ pub mod Faults
 pub mod Lists
 pub mod Promises
 pub mod Positions
+pub mod Same
 pub mod Types

@@ -1,5 +1,5 @@
 -- Which diagnostics a text has on the letters that shift and caps lock give.
-use Rattle.std.specs.Prelude.{ℕ, ◌+◌, Bool, true, false, ◌&&◌, ◌||◌, not, if◌then◌else◌, List, [], ◌∷◌, Option, Some}
+use Rattle.std.specs.Prelude.{ℕ, ◌+◌, Bool, true, false, ◌&&◌, ◌||◌, if◌then◌else◌, List, [], ◌∷◌, Option, Some}
 use Rattle.std.specs.Prelude.{None}
 use Rattle.std.specs.Prelude.{find}
 use Rattle.std.specs.Option.{option_to_list}
@@ -13,7 +13,7 @@ use Rattle.keymap_core.specs.declared.entry.LockFlag.{LockFlag}
 use Rattle.keymap_core.specs.declared.entry.LockFlag.TheVariants as flag
 use Rattle.keymap_places.specs.Placed.{last_of}
 use Rattle.keymap_lint.specs.Capitals.{is_ascii, is_capital_of, is_sure}
-use Rattle.keymap_lint.specs.Types.{Cell, Char, Act, Defined, Slot, Accent, Placed, Diagnostic}
+use Rattle.keymap_lint.specs.Types.{Cell, Char, Defined, Slot, Accent, Placed, Diagnostic}
 use Rattle.keymap_lint.specs.declared.diagnostic.Kind.TheVariants as kinds
 use Rattle.keymap_lint.specs.Kinds.{at, character_of, is_some_in}
 use Rattle.keymap_lint.specs.Spelled.{Spelled, is_in_force, is_live, offset_at}
@@ -51,7 +51,8 @@ is_left_small flag.B = false
 
 abbrev pub is_small : Spelled → ℕ → Bool
 is_small t slot =
-    is_live t slot && is_left_small (entry_at t.map slot).flag && is_pair t (cell_at t.map slot 0) (cell_at t.map slot 1)
+    is_live t slot && is_left_small (entry_at t.map slot).flag
+    && is_pair t (cell_at t.map slot 0) (cell_at t.map slot 1)
 
 abbrev pub small_slot : Spelled → ℕ → List ℕ
 small_slot t slot = passed (is_small t slot) slot

@@ -1,6 +1,8 @@
 //! Laws of the diagnostics: what they promise of the keymap that a text spells, and of its faults. No function here
 //! does anything.
 ghost use Rattle.keymap_lint.specs.Positions.{CellsInForceAreSpelled, DiagnosticsStandInTheText};
+ghost use Rattle.keymap_lint.specs.Same.{SameDirectivesKeepTheSame, SameTokensSameDiagnostics};
+ghost use Rattle.keymap_lint.specs.Same.{SameTokensTellOfTheSame};
 ghost use Rattle.keymap_lint.specs.Promises.{FaultsAreInOrder, KeysAreNamedExactlyIfRefused, WellTextsNeverStick};
 
 /// Where no diagnostic of a text is an error, the text spells a keymap, and after each list of presses and releases a
@@ -24,12 +26,31 @@ pub fn cells_in_force_are_spelled()
 
 /// Each diagnostic that has a place stands within the text, and so do the further places that it tells. A `MixedKey`
 /// stands at a token that is its modifier or lock, a `HalfDefined` at its selector, a `DeadKey` at a dead key, and a
-/// `BareDigit` at its character; a `Twice` at the letter, a `NoControl` at a cell of column 2, and an `OctalLike` at its
-/// digits; a `DefinedAgain` and an `UnusedHalf` where a definition begins, a `ZeroAccent` at the
+/// `BareDigit` at its character; a `Twice` at the letter, a `NoControl` at a cell of column 2, and an `OctalLike` at
+/// its digits; a `DefinedAgain` and an `UnusedHalf` where a definition begins, a `ZeroAccent` at the
 /// character, and a `PairAgain` at its parenthesis. What is said of directives stands at a word or at a `#`.
 #[tactic(auto, using(crate::proofs::Standing::diagnostics_stand_in_the_text))]
 pub fn diagnostics_stand_in_the_text()
     ensures { DiagnosticsStandInTheText }
+{}
+
+/// The diagnostics of two texts with the same tokens tell of the same slots, keys, letters and accents.
+pub fn same_tokens_tell_of_the_same()
+    ensures { SameTokensTellOfTheSame }
+{}
+
+/// Of two texts with the same tokens, and without directives, the diagnostics are the same but for places, in the same
+/// order: each stands at the same token, and tells of the same tokens.
+#[tactic(auto, using(crate::proofs::SameTexts::same_tokens_same_diagnostics))]
+pub fn same_tokens_same_diagnostics()
+    ensures { SameTokensSameDiagnostics }
+{}
+
+/// Of two texts with the same tokens, whose directives name the same kinds for the same definitions, what is told of
+/// the keymap is the same but for places, in the same order: each stands at the same token, and tells of the same ones.
+#[tactic(auto, using(crate::proofs::SameTexts::same_directives_keep_the_same))]
+pub fn same_directives_keep_the_same()
+    ensures { SameDirectivesKeepTheSame }
 {}
 
 /// Of a text with a fault there are 21 faults at most. The first one is the fault of the text, and each other one

@@ -9,3 +9,4 @@ pub mod OneRow
 pub mod InForce
 pub mod LastOf
 pub mod WantedPlace
+pub mod SamePlaces

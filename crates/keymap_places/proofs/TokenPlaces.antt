@@ -4,8 +4,15 @@ use Rattle.keymap_places.proofs.Common.{ap, subst, arith, All, length-take-le, T
 use Rattle.keymap_places.proofs.Common.{Found, Refused, Unfinished, front_of, tokens_after, TokenValue, Tokens}
 use Rattle.keymap_places.proofs.Common.{token_before, list_of, tokens, IsPlaced}
 use Rattle.std.proofs.lemmas.List.Elements.{All-nil, All-cons, All-weaker}
+use Rattle.std.proofs.lemmas.List.Kept.{AllPairs-cons}
+use Rattle.std.specs.Prelude.{AllPairs}
+use Rattle.keymap_places.specs.Same.{TokensAreInOrder}
+use Rattle.keymap_places.proofs.Common.{◌<◌}
 use Rattle.keymap_text.proofs.Shared.{front_fits, list_ends, list_stops, list_then, split_found, split_nil}
 use Rattle.keymap_text.proofs.Shared.{split_one, split_refused, split_skipped, split_unfinished}
+
+abbrev IsBefore : TokenValue → TokenValue → Type 0
+IsBefore s t = s.start < t.start
 
 -- the token is one of these bytes, which stand at q
 record Among (q : ℕ) (bytes : List ℕ) (t : TokenValue) : Type 0 where
@@ -53,3 +60,32 @@ tokens_are_placed text = All-weaker (Among 0 text) (IsPlaced text) placed (token
   where
     placed : (t : TokenValue) → Among 0 text t → IsPlaced text t
     placed t h = search rules
+
+-- ---- tokens in order
+
+none_in_order : (ts : Tokens) → list_of ts ≡ [] → AllPairs IsBefore (list_of ts)
+none_in_order ts e = subst (AllPairs IsBefore) (sym e) (λ i j d low few. absurd (omega (arith, few)))
+
+in_order : (bytes : List ℕ) (k q : ℕ) → AllPairs IsBefore (list_of (tokens_after k q bytes))
+in_order [] k q = none_in_order (tokens_after k q []) (ap list_of (split_nil k q) ∙ list_ends q)
+in_order (c ∷ bytes) (suc k) q = search (rules, split_one, in_order bytes k (q + 1))
+in_order (c ∷ bytes) zero q = go (front_of c bytes) refl (λ n. in_order bytes n (q + 1))
+  where
+    go : (f : Front) → front_of c bytes ≡ f
+        → ((n : ℕ) → AllPairs IsBefore (list_of (tokens_after n (q + 1) bytes)))
+        → AllPairs IsBefore (list_of (tokens_after 0 q (c ∷ bytes)))
+    go (Skipped n) e ih =
+        subst (λ ts. AllPairs IsBefore (list_of ts)) (sym (split_skipped q c n bytes e)) (ih n)
+    go (Found kind n) e ih =
+        let t : TokenValue = token_before kind (c ∷ take n bytes) q (drop n bytes) in
+        let rest : List TokenValue = list_of (tokens_after n (q + 1) bytes) in
+        subst (AllPairs IsBefore)
+        (sym (ap list_of (split_found q c n kind bytes e) ∙ list_then t (tokens_after n (q + 1) bytes)))
+        (AllPairs-cons IsBefore t rest
+        (All-weaker (Among (q + 1) bytes) (IsBefore t) (λ s h. omega (arith, h.start)) rest
+        (all_among bytes n (q + 1))) (ih n))
+    go (Refused f) e ih = search (rules, none_in_order, split_refused, list_stops)
+    go Unfinished e ih = search (rules, none_in_order, split_unfinished, list_stops)
+
+pub tokens_are_in_order : TokensAreInOrder
+tokens_are_in_order text = in_order text 0 0

@@ -12,6 +12,7 @@ ghost use Rattle.keymap_text.specs.Items.{character, cell};
 ghost use Rattle.keymap_core.specs.Accents.{AccentValue, blank};
 ghost use Rattle.keymap_places.specs.Placed.{Row, AreRows, IsSpelledBy, IsPlaced, last_of, places_of};
 ghost use Rattle.keymap_core.specs.Numbers.{column_count};
+ghost use Rattle.keymap_places.specs.Same.{SameTokensSameDefinitions, TokensAreInOrder};
 
 /// The tokens of a slot's definition are its number, its eight cells in order, and its lock letter; those of an
 /// accent's are its name, its character, and four for each pair in order.
@@ -35,6 +36,19 @@ pub fn parts_of_definitions()
 /// The bytes of each token are those of the text at its place.
 pub fn tokens_are_placed()
     ensures { (text : List ℕ) → All (IsPlaced text) (tokens text) }
+{}
+
+/// Each token of a text begins before those that follow it.
+#[tactic(auto, using(crate::proofs::TokenPlaces::tokens_are_in_order))]
+pub fn tokens_are_in_order()
+    ensures { TokensAreInOrder }
+{}
+
+/// Of two texts with the same tokens, as many tokens stand before each definition of the one as before that of the
+/// other.
+#[tactic(auto, using(crate::proofs::SamePlaces::same_places))]
+pub fn same_tokens_same_definitions()
+    ensures { SameTokensSameDefinitions }
 {}
 
 /// Tokens are the rows of one list of rows at most.

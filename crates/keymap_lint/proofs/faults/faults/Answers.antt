@@ -1,5 +1,5 @@
 use Rattle.keymap_lint.proofs.Common.{arith, rules}
-use Rattle.std.proofs.Common.{◌-◌, inl, inr, length-append}
+use Rattle.std.proofs.Common.{inl, inr, length-append}
 use Rattle.keymap_lint.proofs.FaultPlaces.{faults_end, faults_more, lies_behind, lines_behind, none_found}
 use Rattle.keymap_lint.proofs.faults.faults.Goals as goal
 

@@ -1,0 +1,4 @@
+//! What a text and its layout have in common: their diagnostics.
+#![tactic(auto)]
+
+pub mod laws;

@@ -3,6 +3,7 @@ use Rattle.keymap_draw.proofs.Common.{zero, suc, ◌≡◌, Bool, true, ◌&&◌
 use Rattle.keymap_draw.proofs.Common.{and_parts, not-true, Board, Iso, Ansi, Row, keys_of, each}
 use Rattle.std.proofs.Common.{AllPairs}
 use Rattle.std.proofs.lemmas.Bool.{eqb-false}
+unfoldable use Rattle.keyboard.specs.Boards.{is_on}
 use Rattle.keymap_draw.specs.Keyboards.{BoardsAreKeyboards, EachKeyOnce, NoTwoOverlap, AllLieOnThePanel, are_apart}
 use Rattle.keymap_draw.specs.Keyboards.{is_on_panel}
 
@@ -22,8 +23,9 @@ pairs test (x ∷ xs) h (suc i) (suc j) d below l =
     (omega (arith, l))
 
 pub boards_are_keyboards : BoardsAreKeyboards
-boards_are_keyboards Iso = record { keys = refl; as_many = refl }
-boards_are_keyboards Ansi = record { keys = refl; as_many = refl }
+unfolding is_on
+boards_are_keyboards Iso = record { on = refl; keys = refl; as_many = refl }
+boards_are_keyboards Ansi = record { on = refl; keys = refl; as_many = refl }
 
 differ : Row → Row → Bool
 differ a b = not (a.code == b.code)

@@ -38,8 +38,8 @@ unfoldable pub use Rattle.keymap_draw.specs.Sheets.{last_facts}
 pub use Rattle.keymap_draw.specs.WellFormed.{Element, Place, Read, State, Tells, at, is_plain, is_shown, saying, scan}
 pub use Rattle.keymap_draw.specs.WellFormed.{start, step, within_element}
 pub use Rattle.keymap_draw.specs.WellFormed.Place.{Text, Value}
-pub use Rattle.keymap_draw.specs.declared.board.Board.{Board}
-pub use Rattle.keymap_draw.specs.declared.board.Board.TheVariants.{Ansi, Iso}
+pub use Rattle.keyboard.specs.declared.board.Board.{Board}
+pub use Rattle.keyboard.specs.declared.board.Board.TheVariants.{Ansi, Iso}
 pub use Rattle.keymap_draw.specs.declared.board.Shape.{Shape}
 pub use Rattle.keymap_draw.specs.declared.board.TheConstants.{RUNS}
 pub use Rattle.keymap_draw.specs.declared.half.Half.{Half}

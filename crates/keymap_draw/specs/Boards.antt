@@ -1,8 +1,8 @@
--- The boards, and the shapes of their keys, in units of which 64 are one key.
-use Rattle.std.specs.Prelude.{ℕ, ◌+◌, ◌==◌, ◌&&◌, not, Bool, true, false, List, [], ◌∷◌, if◌then◌else◌}
-use Rattle.std.specs.List.{list_any, flat_map}
-use Rattle.keymap_draw.specs.declared.board.Board.{Board}
-use Rattle.keymap_draw.specs.declared.board.Board.TheVariants.{Iso, Ansi}
+-- Where the keys of the boards stand, and their shapes, in units of which 64 are one key.
+use Rattle.std.specs.Prelude.{ℕ, ◌+◌, ◌==◌, Bool, true, false, List, [], ◌∷◌, if◌then◌else◌}
+use Rattle.std.specs.List.{flat_map}
+use Rattle.keyboard.specs.declared.board.Board.{Board}
+use Rattle.keyboard.specs.declared.board.Board.TheVariants.{Iso, Ansi}
 use Rattle.keymap_draw.specs.declared.board.On.{On}
 use Rattle.keymap_draw.specs.declared.board.On.TheVariants as on
 use Rattle.keymap_draw.specs.declared.board.Run.{Run}
@@ -68,10 +68,3 @@ keys_in board run = if has_run board run then laid run.x run.y run.shape run.cod
 -- the keys that a board draws, in their order
 abbrev pub keys_of : Board → List Row
 keys_of board = flat_map (keys_in board) RUNS
-
-abbrev pub has_code : List ℕ → ℕ → Bool
-has_code codes code = list_any (λ c. c == code && not (code == 0)) codes
-
--- the key stands on the board
-unfoldable pub is_on : Board → ℕ → Bool
-is_on board code = list_any (λ run. has_run board run && has_code run.codes code) RUNS

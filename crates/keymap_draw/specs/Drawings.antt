@@ -5,7 +5,7 @@ use Rattle.std.specs.Prelude.{◌==◌, Bool, true, false}
 use Rattle.bstr.specs.Utf8.{lossy_chars}
 use Rattle.keymap_core.specs.Maps.{MapValue}
 use Rattle.keymap_check.specs.declared.finding.Finding.{Finding}
-use Rattle.keymap_draw.specs.declared.board.Board.{Board}
+use Rattle.keyboard.specs.declared.board.Board.{Board}
 use Rattle.keymap_draw.specs.declared.change.About.{About}
 use Rattle.keymap_draw.specs.declared.change.About.TheVariants.{Whole, Slot, Accent}
 use Rattle.keymap_draw.specs.declared.change.ChangeLine.{ChangeLine}

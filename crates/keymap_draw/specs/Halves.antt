@@ -13,7 +13,8 @@ use Rattle.keymap_draw.specs.declared.board.Shape.TheVariants as shape
 use Rattle.keymap_draw.specs.declared.board.TheConstants.{RUNS}
 use Rattle.keymap_draw.specs.declared.half.Half.{Half}
 use Rattle.keymap_draw.specs.declared.half.Half.TheVariants.{Lower, Upper}
-use Rattle.keymap_draw.specs.Boards.{Row, keys_in, is_on}
+use Rattle.keyboard.specs.Boards.{is_on}
+use Rattle.keymap_draw.specs.Boards.{Row, keys_in}
 use Rattle.keymap_draw.specs.Drawings.{Drawing}
 use Rattle.keymap_draw.specs.Facts.{Fact, cap_by, headline_at, hidden, numbered, text}
 use Rattle.keymap_draw.specs.Facts.Fact.{End, Figure}

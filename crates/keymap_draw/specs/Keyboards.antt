@@ -2,10 +2,11 @@
 -- one: no key twice, no key over another one, none beside the panel.
 use Rattle.std.specs.Prelude.{◌≡◌, ◌≢◌, ℕ, ◌+◌, ◌==◌, nat_le, Bool, true, ◌||◌, ◌&&◌, List, [], ◌∷◌, ◌++◌, length, map}
 use Rattle.std.specs.Prelude.{All, AllPairs}
-use Rattle.std.specs.List.{filter_map, find, list_all, range_with_len}
+use Rattle.std.specs.List.{filter_map, find, list_all, list_any, range_with_len}
+use Rattle.keyboard.specs.Boards.{is_on}
 use Rattle.keymap_core.specs.Numbers.{key_count}
-use Rattle.keymap_draw.specs.declared.board.Board.{Board}
-use Rattle.keymap_draw.specs.declared.board.Board.TheVariants.{Iso, Ansi}
+use Rattle.keyboard.specs.declared.board.Board.{Board}
+use Rattle.keyboard.specs.declared.board.Board.TheVariants.{Iso, Ansi}
 use Rattle.keymap_draw.specs.declared.board.Shape.{Shape}
 use Rattle.keymap_draw.specs.declared.board.Shape.TheVariants.{A, B, C, D, E, F, G, H, Tall, Enter}
 use Rattle.keymap_draw.specs.Boards.{Row, keys_of, width, height}
@@ -83,8 +84,12 @@ keyboard Ansi =
 abbrev pub by_code : List Row → List Row
 by_code keys = filter_map (λ code. find (λ key. key.code == code) keys) (range_with_len 0 key_count)
 
--- What a board draws are the keys of the keyboard, each at its place and of its shape, and no others.
+-- What a board draws are the keys of the keyboard, each at its place and of its shape, and no others: those that stand
+-- on the board.
 pub record IsKeyboard (board : Board) : Type 0 where
+  pub on :
+      map (λ code. list_any (λ key. key.code == code) (keys_of board)) (range_with_len 0 key_count)
+      ≡ map (is_on board) (range_with_len 0 key_count)
   pub keys : by_code (keys_of board) ≡ by_code (keyboard board)
   pub as_many : length (keys_of board) ≡ length (by_code (keys_of board))
 

@@ -5,7 +5,7 @@ use Rattle.keymap_core.specs.Borne.{is_upper_live}
 use Rattle.keymap_core.specs.Maps.{MapValue}
 use Rattle.keymap_check.specs.declared.finding.Finding.{Finding}
 use Rattle.keymap_check.specs.Computed.{findings_of}
-use Rattle.keymap_draw.specs.declared.board.Board.{Board}
+use Rattle.keyboard.specs.declared.board.Board.{Board}
 use Rattle.keymap_draw.specs.declared.change.ChangeLine.{ChangeLine}
 use Rattle.keymap_draw.specs.declared.constants.TheConstants.{STYLE, SHAPES}
 use Rattle.keymap_draw.specs.declared.half.Half.TheVariants.{Lower, Upper}

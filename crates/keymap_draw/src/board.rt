@@ -1,4 +1,4 @@
-//! The boards, and the shapes of their keys. All lengths are naturals, of which 64 are one key.
+//! Where the keys of the boards stand, and their shapes. All lengths are naturals, of which 64 are one key.
 
 ghost use Rattle.std.specs.Prelude.{◌≡◌, ◌≤◌, ◌∷◌, [], true};
 ghost use Rattle.std.specs.List.{list_all};
@@ -7,15 +7,7 @@ ghost use Rattle.keymap_draw.specs.Sheets.{is_inner};
 
 use crate::board::On::{Ansi, Both, Iso};
 use crate::board::Shape::{A, B, C, D, E, Enter, F, G, H, Tall};
-
-/// A keyboard.
-#[derive(Clone, Copy, Debug, PartialEq, Eq)]
-pub enum Board {
-    /// 105 keys, with a high Enter.
-    Iso,
-    /// 104 keys, with a flat Enter.
-    Ansi,
-}
+use keyboard::Board;
 
 /// The shape of a key, named by its letter.
 #[derive(Clone, Copy)]
@@ -105,34 +97,15 @@ impl Shape {
     }
 }
 
-impl Board {
-    ghost use Rattle.keymap_draw.specs.Boards.{has_run, is_on};
-
-    /// Whether keys stand on the board.
-    pub(crate) fn has_run(self, run: &Run) -> bool
-        ensures { result ≡ has_run self run.now }
-    {
-        match (run.on, self) {
-            (Iso, Board::Ansi) => false,
-            (Ansi, Board::Iso) => false,
-            _ => true,
-        }
-    }
-
-    /// Whether the key stands on the board.
-    #[tactic(auto, unfolding(crate::specs::Boards::is_on))]
-    pub(crate) fn has(self, code: u8) -> bool
-        ensures { result ≡ is_on self code }
-    {
-        RUNS.iter()
-            .any(|run| self.has_run(run) && has_code(&run.codes, code))
-    }
-}
-
-fn has_code(codes: &[u8], code: u8) -> bool
-    ensures { result ≡ spec.has_code codes.now code }
+/// Whether keys stand on the board.
+pub(crate) fn has_run(board: Board, run: &Run) -> bool
+    ensures { result ≡ spec.has_run board run.now }
 {
-    codes.iter().any(|one| *one == code && code != 0)
+    match (run.on, board) {
+        (Iso, Board::Ansi) => false,
+        (Ansi, Board::Iso) => false,
+        _ => true,
+    }
 }
 
 /// A row of the table below.
@@ -149,8 +122,7 @@ macro_rules! run {
 }
 
 /// The keys of the boards, in the order in which they are drawn. The ANSI board has no 102nd key, a flat Enter below a
-/// long key, and a longer left Shift. The codes up to 88 are the scan codes of set 1; those from 89 on are what
-/// FreeBSD's atkbd gives to scan codes behind e0 and e1 (sys/dev/atkbdc/atkbd.c).
+/// long key, and a longer left Shift.
 pub(crate) static RUNS: [Run; 39] = [
     // Esc; F1 to F4, F5 to F8, F9 to F12; Print Screen, Scroll Lock, Pause.
     run!(Both, 0, 0, A, [1, 0, 0, 0, 0, 0, 0]),

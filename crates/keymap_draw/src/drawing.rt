@@ -6,9 +6,9 @@ ghost use Rattle.keymap_core.specs.Bounds.{IsMap};
 ghost use Rattle.keymap_draw.specs.Drawings.{line_about};
 ghost use Rattle.keymap_draw.specs.Sheets.{is_seen};
 
-use crate::board::Board;
 use crate::change::{About, ChangeLine};
 use crate::marks::first_about;
+use keyboard::Board;
 use keymap_check::{Finding, Report};
 use keymap_core::KeyMap;
 use keymap_core::laws::every_keymap_is_within_the_bounds;

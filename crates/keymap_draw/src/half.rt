@@ -1,11 +1,12 @@
 //! The drawing of one half of the slots: its headline, its board, and the keys that the board doesn't have.
 ghost use Rattle.std.specs.Prelude.{◌≡◌, ◌++◌, ◌∷◌, [], ◌≤◌, ◌<◌, ◌^◌, IfOk, length};
 ghost use Rattle.std.specs.List.{flat_map};
+ghost use Rattle.keymap_core.specs.Numbers.{key_count};
 ghost use Rattle.keymap_draw.specs.Boards.{laid};
 ghost use Rattle.keymap_draw.specs.Facts.{numbered};
 ghost use Rattle.keymap_draw.specs.Halves as spec;
 
-use crate::board::{RUNS, Run, Shape};
+use crate::board::{RUNS, Run, Shape, has_run};
 use crate::drawing::Drawing;
 use crate::key::{Cap, is_blank_entry, push_key};
 use crate::marks::mark_of;
@@ -17,7 +18,8 @@ use crate::words::{
     SAMPLE, SLOT, UPPER_HALF,
 };
 use arrayvec::ArrayVec;
-use keymap_core::{KEY_COUNT, push_if};
+use keyboard::is_on;
+use keymap_core::{KEY_COUNT, key_with, push_if};
 
 /// A half of the slots: 0 to 127, or 128 to 255.
 #[derive(Clone, Copy)]
@@ -80,7 +82,7 @@ fn push_run(
     requires { y < 2 ^ 27 }
     ensures { IfOk result (λ s. s ≡ sheet ++ spec.run_keys drawing.now half y run.now) }
 {
-    if drawing.board().has_run(run) {
+    if has_run(drawing.board(), run) {
         push_keys(sheet, drawing, half, y, run)
     } else {
         Ok(sheet)
@@ -114,9 +116,10 @@ fn is_worth_a_key(drawing: &Drawing, slot: u8) -> bool
 /// Whether the key isn't on the board and its slot isn't blank, or differs.
 #[tactic(auto, unfolding(crate::specs::Halves::is_other))]
 fn is_other(drawing: &Drawing, half: Half, key: u8) -> bool
+    requires { key < key_count }
     ensures { result ≡ spec.is_other drawing.now half key }
 {
-    !drawing.board().has(key) && is_worth_a_key(drawing, half.slot(key))
+    !is_on(drawing.board(), key_with(key)) && is_worth_a_key(drawing, half.slot(key))
 }
 
 /// The keys that aren't on the board and whose slots aren't blank, or differ.

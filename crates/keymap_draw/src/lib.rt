@@ -35,6 +35,6 @@ mod tables;
 mod whole;
 mod words;
 
-pub use board::Board;
 pub use change::{About, Before, ChangeLine};
+pub use keyboard::Board;
 pub use whole::{picture, picture_of_change};

@@ -4,7 +4,6 @@ ghost use Rattle.keymap_core.specs.Numbers.{accent_limit};
 ghost use Rattle.keymap_draw.specs.WellFormed.{Tells};
 ghost use Rattle.keymap_draw.specs.Pictures as spec;
 
-use crate::board::Board;
 use crate::change::Before;
 use crate::changes::{changed_rows, changes_height, push_changes, push_style};
 use crate::drawing::Drawing;
@@ -18,6 +17,7 @@ use crate::name::name_of;
 use crate::sheet::{InPicture, Sheet, begin, finish};
 use crate::shown::Shown;
 use arrayvec::ArrayVec;
+use keyboard::Board;
 use keymap_check::Report;
 use keymap_core::{KEY_COUNT, KeyMap};
 use std::alloc::{AllocError, Global};

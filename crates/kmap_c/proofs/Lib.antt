@@ -5,4 +5,3 @@ pub mod Numbers
 pub mod Said
 pub mod Faulty
 pub mod Narrowed
-pub mod Numbered

@@ -7,7 +7,6 @@ use Rattle.keymap_tables.specs.Faults.{IsNarrowFault}
 use Rattle.keymap_tables.specs.Fits.{Fits}
 use Rattle.keymap_tables.specs.Image.{narrow_image}
 use Rattle.keymap_tables.specs.Layouts.{narrow, wide}
-use Rattle.keymap_tables.specs.declared.fault.TableFault.{TableFault}
 use Rattle.kmap_c.specs.Narrow.{AreNarrowOf, AreFaultyNarrow}
 use Rattle.kmap_c.specs.Statuses as status
 

@@ -1,0 +1,4 @@
+pub mod Boards
+pub mod Codes
+pub mod Filled
+pub mod Rows

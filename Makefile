@@ -127,6 +127,7 @@ scripts:
 	sh tests/transcripts.sh $(PROGRAM)
 	sh tests/files.sh $(PROGRAM)
 	sh tests/cover.sh $(PROGRAM)
+	sh tests/forms.sh $(PROGRAM)
 	sh tests/swapped_names.sh $(PROGRAM)
 	sh tests/stopped.sh $(PROGRAM)
 	sh tests/c_library.sh $(PROGRAM) $(LIBRARY)

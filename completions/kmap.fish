@@ -54,8 +54,10 @@ complete -c kmap -n '__kmap_after play' -s h -l help -d 'Print help'
 
 complete -c kmap -n '__kmap_after type' -l text -x -d 'The sentence itself'
 complete -c kmap -n '__kmap_after type' -l missing -d 'Prints the characters that no keys were found for instead'
+complete -c kmap -n '__kmap_after type' -l as -x -a 'script evdev set1 qmp x11' -d 'The form of the script: script, evdev, set1, qmp or x11'
 complete -c kmap -n '__kmap_after type' -s h -l help -d 'Print help'
 
+complete -c kmap -n '__kmap_after cover' -l as -x -a 'script evdev set1 qmp x11' -d 'The form of the script: script, evdev, set1, qmp or x11'
 complete -c kmap -n '__kmap_after cover' -s h -l help -d 'Print help'
 
 complete -c kmap -n '__kmap_after compile' -l narrow -d 'Writes a narrow file, one byte a character'

@@ -124,7 +124,6 @@ refuses Explorer::sights
 refuses Explorer::visit
 refuses Explorer::events_to
 refuses Explorer::events_home
-refuses Reached::releases
 refuses find_onward
 refuses scroll_off
 yields type_characters
@@ -168,6 +167,7 @@ yields ChangeLine::new
 refuses filled
 refuses read_script
 refuses read_whole
+yields in_form
 refuses play-lines
 refuses play-typed
 refuses play_next-lines

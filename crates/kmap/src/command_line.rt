@@ -60,6 +60,13 @@ const COLOURS: [&str; 3] = ["auto", "always", "never"];
 
 const NEXT: Word = FileOption("next", "TEXT2", "The keymap text that a load puts in force");
 
+/// The form of a printed script, which is looked at where the words are taken, since it has a line of its own.
+const AS: Word = FileOption(
+    "as",
+    "FORM",
+    "The form of the script: script, evdev, set1, qmp or x11",
+);
+
 static SUBCOMMANDS: [Described; 11] = [
     Described {
         name: "check",
@@ -165,10 +172,12 @@ static SUBCOMMANDS: [Described; 11] = [
                 "text",
             ),
             TextOption("text", "STRING", "The sentence itself", "SENTENCE"),
-            Flag(
+            FlagWithout(
                 "missing",
                 "Prints the characters that no keys were found for instead",
+                "as",
             ),
+            AS,
         ],
     },
     Described {
@@ -177,7 +186,7 @@ static SUBCOMMANDS: [Described; 11] = [
         example: "Example: kmap cover us.kbd > us.script{n}{n}\
             Status: 0 done, 1 a fault, 2 wrong words.{n}{n}\
             kmap(1) tells what the script tries.",
-        words: &[STREAM],
+        words: &[STREAM, AS],
     },
     Described {
         name: "compile",
@@ -424,9 +433,12 @@ pub(crate) enum Request<'m, 'a> {
         text: &'a str,
         sentence: Sentence<'a>,
         missing: bool,
+        /// The form of the script, where one is named.
+        form: Option<&'a str>,
     },
     Cover {
         text: &'a str,
+        form: Option<&'a str>,
     },
     Draw {
         texts: &'m [&'a str],
@@ -552,12 +564,14 @@ fn type_request<'m, 'a>(words: &'m ArgMatches<'a>) -> Option<Request<'m, 'a>> {
         text: words.get_str("TEXT")?,
         sentence,
         missing: words.get_flag("missing"),
+        form: words.get_str("as"),
     })
 }
 
 fn cover_request<'m, 'a>(words: &'m ArgMatches<'a>) -> Option<Request<'m, 'a>> {
     Some(Request::Cover {
         text: words.get_str("TEXT")?,
+        form: words.get_str("as"),
     })
 }
 

@@ -7,6 +7,7 @@
 mod command_line;
 mod compile;
 mod format;
+mod forms;
 mod inputs;
 mod lint;
 mod output;

@@ -2,13 +2,14 @@
 use crate::command_line::{Request, Sentence, contradiction, matches_of, request_of};
 use crate::compile::compile;
 use crate::format::format_texts;
+use crate::forms::{form_of, tell_script, unknown_form};
 use crate::inputs::{Text, given, opened, opened_if_named, text_given};
 use crate::lint::lint;
 use crate::output::{Faults, Output};
-use crate::refusal::{contradicted, not_text, refused};
+use crate::refusal::{WRONG_WORDS, contradicted, not_text, refused};
 use crate::texts::{check, draw, search};
 use clap::ArgMatches;
-use keymap_core::{FromStd, Read, write_text};
+use keymap_core::{FromStd, Read, ToStd, write_text};
 use keymap_names::shown_name;
 use kmap_runs::{
     CommandError, RunError, cover_run, diff_run, dump_narrow_run, dump_run, file_error_line,
@@ -16,6 +17,7 @@ use kmap_runs::{
 };
 use lint_formats::Format;
 use play_core::{Show, play_next};
+use script_forms::Form;
 use std::alloc::{AllocError, Global};
 use std::convert::AsStr;
 use std::process::ExitCode;
@@ -29,6 +31,8 @@ pub(crate) enum Failure<'a> {
     File(&'a str, FileFault),
     /// The new file that is to take the place of another can't be made.
     CannotCreateNew(String),
+    /// What a form doesn't have of a script, as the line that tells it.
+    Unsent(Vec<u8>),
     /// Who read the output has gone away, which isn't told.
     NoReader,
     /// It was told already.
@@ -140,6 +144,11 @@ where
     }
 }
 
+/// The line on a form that there isn't, round its name.
+const NO_FORM: &[u8] = b"kmap: no form ";
+
+const FORMS: &[u8] = b": script evdev set1 qmp x11\n";
+
 fn matched_run(
     rt: &HostRuntime,
     matches: &ArgMatches<'_>,
@@ -148,6 +157,10 @@ fn matched_run(
     let Some(request) = request_of(matches) else {
         return not_text(rt);
     };
+    if let Some(word) = unknown_form(&request) {
+        report_name(rt.alloc(), NO_FORM, word, FORMS, faults);
+        return Ok(ExitCode::from(WRONG_WORDS));
+    }
     match contradiction(&request) {
         Some(message) => contradicted(rt, message),
         None => {
@@ -279,6 +292,9 @@ pub(crate) fn report(alloc: Global, failure: &Failure<'_>, faults: &mut Faults) 
             let (front, end) = words_of_fault(FileFault::CannotCreate);
             report_name(alloc, front, name.as_str(), end, faults);
         }
+        Failure::Unsent(line) => {
+            let _ = write_text(faults, line.as_slice());
+        }
         Failure::NoReader | Failure::Told => {}
     }
 }
@@ -372,8 +388,9 @@ fn answer<'a>(
             text,
             sentence,
             missing,
-        } => type_sentence(rt, text, sentence, missing, faults),
-        Request::Cover { text } => well(cover(rt, text, faults)),
+            form,
+        } => type_sentence(rt, text, sentence, missing, form_of(form), faults),
+        Request::Cover { text, form } => well(cover(rt, text, form_of(form), faults)),
         Request::Draw {
             texts,
             ansi,
@@ -494,6 +511,7 @@ fn type_sentence<'a>(
     text: &'a str,
     sentence: Sentence<'a>,
     missing: bool,
+    form: Option<Form>,
     faults: &mut Faults,
 ) -> Result<bool, Failure<'a>> {
     let text = text_given(rt, text)?;
@@ -505,11 +523,11 @@ fn type_sentence<'a>(
     let outcome = match sentence {
         Sentence::File(name) => {
             let mut sentence = given(rt, name)?;
-            type_in(rt, missing_of, &mut text.reader(), &mut sentence)
+            type_in(rt, missing_of, form, &mut text.reader(), &mut sentence)
         }
         Sentence::Text(words) => {
             let mut words = FromStd::new(words.as_bytes());
-            type_in(rt, missing_of, &mut text.reader(), &mut words)
+            type_in(rt, missing_of, form, &mut text.reader(), &mut words)
         }
     };
     explained(rt, outcome, &text, None, faults)
@@ -527,25 +545,51 @@ fn name_of<'a>(sentence: &Sentence<'a>) -> &'a str {
 fn type_in<'a, S: Read, T: Read>(
     rt: &HostRuntime,
     missing_of: Option<&str>,
+    form: Option<Form>,
     text: &mut S,
     sentence: &mut T,
 ) -> Result<bool, Failure<'a>> {
     let mut out = Output::new(rt);
-    match missing_of {
-        Some(name) => {
+    match (missing_of, form) {
+        (Some(name), _) => {
             let outcome = missing_run(rt.alloc(), name.as_bytes(), text, sentence, &mut out);
             out.outcome(outcome)
         }
-        None => {
+        (None, None) => {
             let outcome = type_run(rt.alloc(), text, sentence, &mut out);
             well(out.outcome(outcome))
+        }
+        (None, Some(form)) => {
+            let mut script = Vec::new(rt.alloc());
+            let mut device = ToStd::new(&mut script);
+            let outcome = type_run(rt.alloc(), text, sentence, &mut device);
+            well(tell_script(rt, form, script.as_slice(), outcome))
         }
     }
 }
 
-fn cover<'a>(rt: &HostRuntime, text: &'a str, faults: &mut Faults) -> Result<(), Failure<'a>> {
+fn cover<'a>(
+    rt: &HostRuntime,
+    text: &'a str,
+    form: Option<Form>,
+    faults: &mut Faults,
+) -> Result<(), Failure<'a>> {
     let text = text_given(rt, text)?;
-    let mut out = Output::new(rt);
-    let outcome = cover_run(rt.alloc(), &mut text.reader(), &mut out);
-    explained(rt, out.outcome(outcome), &text, None, faults)
+    let outcome = cover_in(rt, form, &mut text.reader());
+    explained(rt, outcome, &text, None, faults)
+}
+
+fn cover_in<'a, S: Read>(
+    rt: &HostRuntime,
+    form: Option<Form>,
+    text: &mut S,
+) -> Result<(), Failure<'a>> {
+    let Some(form) = form else {
+        let mut out = Output::new(rt);
+        let outcome = cover_run(rt.alloc(), text, &mut out);
+        return out.outcome(outcome);
+    };
+    let mut script = Vec::new(rt.alloc());
+    let outcome = cover_run(rt.alloc(), text, &mut ToStd::new(&mut script));
+    tell_script(rt, form, script.as_slice(), outcome)
 }

@@ -11,7 +11,7 @@ use std::process::ExitCode;
 use std::rt::Env;
 
 /// The status where the words are wrong.
-const WRONG_WORDS: u8 = 2;
+pub(crate) const WRONG_WORDS: u8 = 2;
 
 /// Tells what `clap` says of the words. What it repeats of them is shown as the name of a file is.
 pub(crate) fn refused<S>(

@@ -11,7 +11,7 @@ use Rattle.kmap_runs.specs.Runs.{AreSafe, IsFound}
 -- under a safe keymap no modifier sticks
 safe_never_sticks : (m : MapValue) → IsSafe m → NeverSticks m
 safe_never_sticks m safe ms h (first, loads) keys none =
-    let held : IsSafe (in_force ms h) = subst IsSafe (sym (first_in_force ms h (none refl) ∙ first)) safe in
+    let held : IsSafe (in_force ms h) = subst IsSafe (sym (first_in_force ms h (none.0 refl) ∙ first)) safe in
     (on_only_while_pressed ms h held keys, off_once_quiet ms h held keys)
 
 -- that no modifier sticks is the answer to a safe keymap, and to two between them

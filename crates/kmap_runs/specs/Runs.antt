@@ -9,7 +9,7 @@ use Rattle.keymap_text.specs.Printed.{printed}
 use Rattle.keymap_tables.specs.declared.fault.TableError.{TableError}
 use Rattle.keymap_tables.specs.Fits.{Fits, IsFirstWide}
 use Rattle.keymap_tables.specs.Image.{image, narrow_image}
-use Rattle.keymap_draw.specs.declared.board.Board.{Board}
+use Rattle.keyboard.specs.declared.board.Board.{Board}
 use Rattle.keymap_draw.specs.declared.change.ChangeLine.{ChangeLine}
 use Rattle.keymap_draw.specs.Pictures.{IsPicture, drawing, since}
 use Rattle.keymap_draw.specs.WellFormed.{IsPlain, IsWellFormed}

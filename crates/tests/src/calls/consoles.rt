@@ -51,23 +51,18 @@ pub(crate) fn of_explorer<W: Write>(
     marks: &mut W,
 ) -> Result<Option<Outcome>, AllocError> {
     match Explorer::new(call.alloc, &call.sample.map)? {
-        Some(mut explorer) => Ok(explored(call, &mut explorer, marks)),
+        Some(explorer) => Ok(explored(call, &explorer, marks)),
         None => Ok(None),
     }
 }
 
-fn explored<W: Write>(
-    call: &Call<'_>,
-    explorer: &mut Explorer<'_>,
-    marks: &mut W,
-) -> Option<Outcome> {
+fn explored<W: Write>(call: &Call<'_>, explorer: &Explorer<'_>, marks: &mut W) -> Option<Outcome> {
     let alloc = call.alloc;
     match call.name {
         "Explorer::sights" => Some(tells_sights(alloc, explorer, marks)),
-        "Explorer::visit" => Some(visits(alloc, explorer, marks)),
+        "Explorer::visit" => Some(visits(alloc, call.sample, explorer, marks)),
         "Explorer::events_to" => Some(goes_out(alloc, explorer, marks)),
         "Explorer::events_home" => Some(comes_home(alloc, call.sample, explorer, marks)),
-        "Reached::releases" => lets_go(alloc, explorer, marks),
         _ => None,
     }
 }
@@ -210,16 +205,19 @@ fn has_events(given: &Result<Vec<Event>, AllocError>) -> bool {
 }
 
 /// A visit that composes an accent with a letter.
-fn visits<W: Write>(alloc: Global, explorer: &mut Explorer<'_>, marks: &mut W) -> Outcome {
+fn visits<W: Write>(alloc: Global, lent: &Lent, explorer: &Explorer<'_>, marks: &mut W) -> Outcome {
     let pair = Sight::Pair {
         accent: 1,
         character: 'e',
     };
-    let is_found = explorer.aim_at(pair);
+    let console = PlainConsole::new(&lent.map);
     mark(marks);
-    let given = explorer.visit(alloc, &[]);
+    let given = explorer.visit(alloc, &console, pair, |_, _| true);
     mark(marks);
-    ended(&given, is_found && has_events(&given))
+    ended(
+        &given,
+        matches!(&given, Ok(Some(events)) if !events.is_empty()),
+    )
 }
 
 fn goes_out<W: Write>(alloc: Global, explorer: &Explorer<'_>, marks: &mut W) -> Outcome {
@@ -245,15 +243,6 @@ fn comes_home<W: Write>(
     ended(&given, has_events(&given))
 }
 
-/// The releases in the second state, in which a key holds a modifier.
-fn lets_go<W: Write>(alloc: Global, explorer: &Explorer<'_>, marks: &mut W) -> Option<Outcome> {
-    let state = explorer.state(1)?;
-    mark(marks);
-    let given = state.releases(alloc);
-    mark(marks);
-    Some(ended(&given, has_events(&given)))
-}
-
 fn goes_onward<W: Write>(alloc: Global, lent: &Lent, marks: &mut W) -> Outcome {
     let cell = Sight::Cell {
         slot: 18,
@@ -261,7 +250,7 @@ fn goes_onward<W: Write>(alloc: Global, lent: &Lent, marks: &mut W) -> Outcome {
     };
     let console = PlainConsole::new(&lent.map);
     mark(marks);
-    let given = find_onward(alloc, &lent.map, &console, &[cell]);
+    let given = find_onward(alloc, &lent.map, &console, &[cell], |_, _| true);
     mark(marks);
     ended(&given, matches!(&given, Ok(Some(_))))
 }

@@ -6,6 +6,7 @@ use keymap_tables::TableError;
 use keymap_text::TextError;
 use kmap_runs::{CommandError, RunError, TypeError};
 use play_core::{PlayError, ScriptError};
+use script_forms::FormError;
 use std::alloc::AllocError;
 use std::fmt;
 
@@ -71,6 +72,12 @@ impl Refusal for ScriptError {
 impl Refusal for PlayError {
     fn is_memory(&self) -> bool {
         matches!(self, PlayError::Memory)
+    }
+}
+
+impl Refusal for FormError {
+    fn is_memory(&self) -> bool {
+        matches!(self, FormError::Memory)
     }
 }
 

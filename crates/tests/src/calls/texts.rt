@@ -1,5 +1,5 @@
 //! The calls of keymap_lint, keymap_lint_text, lint_formats, keymap_fmt, keymap_draw and messages, those of play_core,
-//! and `type_sentence`.
+//! `in_form` and `type_sentence`.
 use crate::calls::devices::{mark, reader_of, writer};
 use crate::calls::inputs::{Call, FAULTY, Lent, SENTENCE, TEXT, TRAP, script};
 use crate::calls::outcome::{Outcome, ended, ended_keeping, ended_untouched, is_text};
@@ -14,6 +14,7 @@ use kmap_runs::type_sentence;
 use lint_formats::{Format, end, rows};
 use messages::filled;
 use play_core::{Show, play, play_next, read_script, read_whole};
+use script_forms::{Form, in_form};
 use std::alloc::{AllocError, Global};
 
 /// Makes a call on a text or a script. There is none where no such call has the name.
@@ -24,6 +25,7 @@ pub(crate) fn of_scripts<W: Write>(call: &Call<'_>, marks: &mut W) -> Option<Out
         "filled" => fills(alloc, marks),
         "read_script" => reads_script(alloc, marks),
         "read_whole" => reads_whole(alloc, marks),
+        "in_form" => puts_in_form(alloc, marks),
         "play-lines" => plays(alloc, Show::Lines, marks),
         "play-typed" => plays(alloc, Show::Typed, marks),
         "play_next-lines" => plays_next(alloc, Show::Lines, marks),
@@ -181,6 +183,13 @@ fn reads_whole<W: Write>(alloc: Global, marks: &mut W) -> Outcome {
     let given = read_whole(alloc, &mut reader);
     mark(marks);
     ended(&given, is_text(&given, &script))
+}
+
+fn puts_in_form<W: Write>(alloc: Global, marks: &mut W) -> Outcome {
+    mark(marks);
+    let given = in_form(alloc, Form::X11, b"# a\ndown 30\nup 30\n");
+    mark(marks);
+    ended(&given, is_text(&given, b"# a\nkeydown 38\nkeyup 38\n"))
 }
 
 /// Where memory is refused, nothing was written.

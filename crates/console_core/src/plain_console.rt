@@ -1,13 +1,16 @@
 //! The console with a truth value for each modifier, lock and down mark.
-ghost use Rattle.std.specs.Prelude.{[]};
+ghost use Rattle.std.specs.Prelude.{◌≡◌, [], List};
 ghost use Rattle.keymap_core.specs.Maps.{MapValue};
-ghost use Rattle.console_core.specs.History.{between};
+ghost use Rattle.console_core.specs.History.{Maps, between, resolved};
+ghost use Rattle.console_core.specs.Resolved.{down};
+ghost use Rattle.console_core.specs.Types.{Event as EventValue};
 
 use crate::event::{Answer, Event};
 use crate::machine::Console;
 use crate::plain_store::PlainStore;
+use crate::store::Store;
 use crate::translator::Translator;
-use keymap_core::{KeyMap, Keymap, Lock, Modifier};
+use keymap_core::{Holding, KeyMap, Keymap, Lock, Modifier};
 
 /// A console that keeps a truth value for each modifier, lock and down mark, an optional action for each key, an
 /// optional pending accent, and a truth value for the map in force.
@@ -42,6 +45,24 @@ impl<'m, K: Keymap> PlainConsole<'m, K> {
         PlainConsole {
             console: Console::over(first, second, PlainStore::new()),
         }
+    }
+
+    /// The console once more, as it stands.
+    pub fn copied(&self) -> PlainConsole<'m, K>
+        ensures { result ≡ self.now }
+    {
+        PlainConsole {
+            console: self.console.with_store(*self.console.store()),
+        }
+    }
+
+    /// Whether the lock is down: a press raised it that no release, reset or load has lowered since, so that a further
+    /// press turns it no more.
+    pub fn is_down(&self, lock: Lock) -> bool
+        ensures { (ms : Maps) (h : List EventValue) → ⟦<PlainConsole<'m, K> as Translator>⟧.stands self.now ms h
+            → result ≡ down lock (resolved ms h) }
+    {
+        self.console.store().is_marked(Holding::Lock(lock))
     }
 }
 

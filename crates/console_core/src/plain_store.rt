@@ -9,7 +9,7 @@ use crate::store::Store;
 use keymap_core::{Action, Holding, KEY_COUNT, KeyCode, Lock};
 
 /// The marks are those of the modifiers and the down marks of the locks, in the order of the holding actions.
-#[derive(Drop)]
+#[derive(Clone, Copy, Drop)]
 pub struct PlainStore {
     marks: [bool; 12],
     locks: [bool; 4],

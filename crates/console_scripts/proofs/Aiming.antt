@@ -12,6 +12,7 @@ use Rattle.console_scripts.proofs.Common.{all-met, path-split, reached-one}
 use Rattle.console_scripts.proofs.Common.{same_states, one_map}
 use Rattle.console_scripts.specs.declared.explorer.Aim.{Aim}
 use Rattle.console_scripts.specs.Inner.Showing.{Shows}
+use Rattle.console_scripts.specs.Inner.Exploring.{IsOrigin}
 use Rattle.console_states.specs.Looks.{HoldsAt, HoldsBelow, IsLook}
 use Rattle.console_states.specs.Searching.{HasMetAll}
 use Rattle.console_states.proofs.Shared.{Reached, emptied, emptied-kept, emptied-none, reached-more}
@@ -23,7 +24,7 @@ use Rattle.console_states.specs.declared.selection.Sight.TheVariants as sight
 
 -- all let go, one after another
 freed-emptied : (s : State) → freed s ≡ emptied s
-freed-emptied s = same_states _ _ (λ i. sym (emptied-none s i)) (λ l. refl) refl
+freed-emptied s = same_states _ _ (λ i. sym (emptied-none s i)) (λ l. refl) refl refl
 
 freed-reached : (m : MapValue) (s : State) → Reached (alone m) s → Reached (alone m) (freed s)
 freed-reached m s there =
@@ -39,8 +40,8 @@ after-reached m s k t lt there (inr (none, is)) =
     subst (λ z. Reached (alone m) z) (sym is) (freed-reached m s there)
 
 -- nothing is held then, the first map is in force, and the scroll lock is off
-pub after-rest : (u : Under) (s : State) (k : ℕ) (t : State) → s.is_second ≡ false → s.is_locked Scroll ≡ false
-    → IsAfter u s k t → IsFree t × (t.is_second ≡ false) × (t.is_locked Scroll ≡ false)
+pub after-rest : (u : Under) (s : State) (k : ℕ) (t : State) → IsOrigin s → s.is_locked Scroll ≡ false
+    → IsAfter u s k t → IsFree t × IsOrigin t × (t.is_locked Scroll ≡ false)
 after-rest u s k t first off (inl (Caps, move, is)) = rw is ((λ i. refl), first, off)
 after-rest u s k t first off (inl (Num, move, is)) = rw is ((λ i. refl), first, off)
 after-rest u s k t first off (inl (Scroll, move, is)) = absurd (move.1 refl)

@@ -6,6 +6,7 @@ use Rattle.console_scripts.proofs.Common.{HasNoLoads, alone, State, IsFree, IsId
 use Rattle.console_scripts.proofs.Common.{IsPendingFor, SeesBy, selection_of, resting_after}
 use Rattle.console_scripts.proofs.Common.{IsAfter, IsAt, but_scroll, rules}
 use Rattle.console_scripts.proofs.Common.{press-turns, same_states, stands-reset, pending-reset, resolved-more}
+use Rattle.console_scripts.specs.Inner.Exploring.{IsOrigin}
 use Rattle.console_scripts.specs.Visiting.{EndsSeeing}
 use Rattle.console_states.proofs.Shared.{each-lock, going-sees, pending-is, press-turns_none}
 use Rattle.console_scripts.proofs.Leading.{pends}
@@ -14,9 +15,10 @@ use Rattle.console_scripts.proofs.Leading.{pends}
 
 -- behind a press a console rests in the state after it
 pub press-rests : (m : MapValue) (s : State) (h l : List Event) (k : ℕ) (after : State) → k < key_count → IsAt m s h l
-    → IsAfter (alone m) s k after → IsFree after × (after.is_second ≡ false) × (after.is_locked Scroll ≡ false)
+    → IsAfter (alone m) s k after → IsFree after × IsOrigin after × (after.is_locked Scroll ≡ false)
     → resting_after m (Press k ∷ (l ++ h)) ≡ after
-press-rests m s h l k after lt a is (free, first, off) = same_states _ _ (λ i. sym (free i)) each (sym first)
+press-rests m s h l k after lt a is (free, first, off) =
+    same_states _ _ (λ i. sym (free i)) each (sym first.0) (sym first.1)
   where
     lock : IsAfter (alone m) s k after → (n : Lock) → n ≢ Scroll
         → is_locked_after (between m m) n (Press k ∷ (l ++ h)) ≡ after.is_locked n

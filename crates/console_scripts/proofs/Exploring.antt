@@ -1,4 +1,5 @@
 -- What an exploration met, and which taps can be made.
+use Rattle.console_states.proofs.Shared.{none-along}
 use Rattle.console_scripts.proofs.Common.{◌≡◌, ◌⊎◌, ℕ, true, false, List, [], ◌∷◌, ◌++◌, length, slice_get, Some}
 use Rattle.console_scripts.proofs.Common.{None, refl, ap, subst, sym, ◌∙◌, inl, inr, reverse, append_assoc, rules}
 use Rattle.console_scripts.proofs.Common.{cases_Bool, Held, MapValue, Event, Press, Release, Move, Explored, Symbol}
@@ -58,7 +59,24 @@ pub tap-home : (m : MapValue) (o : State) (es : Entries) (j : ℕ) (x : Entry) (
     → LeadsHome (alone m) (state_of x.0) moves → now ≡ events_along (reverse moves) ++ h2 → next ≡ start
     → GoesAndTaps (alone m) o (state_of x.0) k h now next
 tap-home m o es j x k h h1 h2 now moves next origin r e1 e2 home e is =
-    search (rules, path-first, home-start)
+    let s : State = state_of x.0 in
+    let first : s.is_second ≡ false = ap (λ t. t.is_second) (sym r.3) ∙ path-first m o r.0 r.2 ∙ origin.0 in
+    let none : s.is_pending ≡ false =
+    ap (λ t. t.is_pending) (sym r.3) ∙ none-along (alone m) refl o r.0 r.2 origin.1 in
+    record {
+      out = r.0;
+      back = reverse moves;
+      goes = r.2;
+      there = r.3;
+      returns = home.0;
+      leads =
+          home-start (state_from (alone m) s (reverse moves)) home.1
+          (path-first m s (reverse moves) home.0 ∙ first)
+          (none-along (alone m) refl s (reverse moves) home.0 none) ∙ sym is;
+      events = e ∙ ap (λ z. events_along (reverse moves) ++ z) (e2 ∙ ap (λ z. Release k ∷ Press k ∷ z) (e1 r.0 r.1));
+      free = λ i. ap (λ t. t.holder i) is;
+      home = subst (λ t. ComesHome (alone m) t) (sym is) ([], tt, ((λ i. refl), (λ l. refl)));
+    }
 
 -- from a state that can return, moves and a tap lead to another one that can
 pub returns-next : (m : MapValue) (o s : State) (k : ℕ) (h now : List Event) (next : State) → CanReturn m o
@@ -68,7 +86,10 @@ returns-next m o s k h now next st x = search (rules, path-append)
 
 -- a state that can return is an origin
 pub returns-origin : (m : MapValue) (s : State) → CanReturn m s → IsOrigin s
-returns-origin m s st = ap (λ t. t.is_second) (sym st.leads) ∙ path-first m start st.path st.is
+returns-origin m s st = (
+  ap (λ t. t.is_second) (sym st.leads) ∙ path-first m start st.path st.is,
+  ap (λ t. t.is_pending) (sym st.leads) ∙ none-along (alone m) refl start st.path st.is refl,
+)
 
 pub start-returns : (m : MapValue) → CanReturn m start
 start-returns m = search rules
@@ -118,7 +139,8 @@ so-met e x complete st P path is comes so =
     let (searched, settled) = x.whole complete in
     let (back, returns, at_home) = st.home in
     let begins : state_from u o back ≡ start =
-    home-start (state_from u o back) at_home (path-first m o back returns ∙ returns-origin m o st) in
+    home-start (state_from u o back) at_home (path-first m o back returns ∙ (returns-origin m o st).0)
+    (none-along u refl o back returns (returns-origin m o st).1) in
     let all = path-append u o back path returns (subst (λ z. IsPathFrom u z path) (sym begins) is) in
     let (j, y, at, met) = all-met u es searched (path ++ back) all.0 in
     let same : state_of y.0 ≡ state_after u path = met ∙ all.1 ∙ ap (λ z. state_from u z path) begins in

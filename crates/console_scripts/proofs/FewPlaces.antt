@@ -1,4 +1,6 @@
 -- The states that few presses lead to, and that the upper half is looked at only where it is live.
+use Rattle.console_scripts.proofs.Common.{none-some}
+use Rattle.console_states.specs.declared.held.Move.TheVariants as variants
 use Rattle.console_scripts.proofs.Common.{◌≡◌, ◌<◌, ◌+◌, ◌∷◌, [], ◌∙◌, ℕ, Bool, true, false, List, None, refl, ap, sym}
 use Rattle.console_scripts.proofs.Common.{subst, inl, inr, cases_Bool, true≢false, arith, ◌⊎◌, MapValue, State, Move, Cell}
 use Rattle.console_scripts.proofs.Common.{Hold, Turn, LetGo, Exchange, alone, IsPath, state_after, IsMove}
@@ -61,6 +63,7 @@ never-upper m dead (Turn k Alt ∷ path) (((lt, idle, (looks, may)), other), is)
     let (held, locked) = never-upper m dead path is in
     absurd (dead (k, lt, inr (looks-own m (state_after (alone m) path) k _ held locked looks)))
 never-upper m dead (Turn k l ∷ path) (move, is) = never-upper m dead path is
+never-upper m dead (variants.Tap k ∷ path) (move, is) = absurd (none-some move.0 move.1)
 never-upper m dead (LetGo k AltShift ∷ path) (move, is) = (refl, (never-upper m dead path is).1)
 never-upper m dead (LetGo k i ∷ path) (move, is) = never-upper m dead path is
 never-upper m dead (Exchange ∷ path) (move, is) = absurd (true≢false (sym move.1))

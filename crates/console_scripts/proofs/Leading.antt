@@ -1,4 +1,8 @@
 -- Events lead a console from state to state: along moves and by taps.
+use Rattle.console_scripts.proofs.Common.{none-some}
+use Rattle.console_states.specs.declared.held.Move.TheVariants as variants
+use Rattle.console_states.proofs.Shared.{none-along}
+use Rattle.console_scripts.specs.Inner.Exploring.{IsOrigin}
 use Rattle.console_scripts.proofs.Common.{◌≡◌, ◌<◌, ℕ, false, List, [], ◌∷◌, ◌++◌, reverse, slice_get}
 use Rattle.console_scripts.proofs.Common.{Option, Some, None, refl, ap, subst, sym, ◌∙◌, inl, inr, append_assoc}
 use Rattle.console_scripts.proofs.Common.{cases_Bool, false≢true}
@@ -56,6 +60,7 @@ at-move m s h l move is a = (
     taken : (by : Move) → IsMove (alone m) a.at by → AreTaken h (events_of_move by ++ l)
     taken (Hold k i) can = (refl, tt, a.taken)
     taken (Turn k j) can = (refl, press-presses k (l ++ h), (refl, tt, a.taken))
+    taken (variants.Tap k) can = absurd (none-some can.0 can.1)
     taken (LetGo k i) can = (refl, holder-pressed (alone m) (l ++ h) a.at i k a.stands can, a.taken)
     taken Exchange (free, loads) = absurd (false≢true loads)
 
@@ -79,22 +84,28 @@ out-leads e x place y at old now is h a =
     rw (is r.0 r.1, ← r.3) (at-path m (origin_in e) h old r.0 r.2 a)
 
 -- the events of a route lead home
-pub home-leads : (m : MapValue) (s : State) (moves : List Move) → s.is_second ≡ false → LeadsHome (alone m) s moves
+pub home-leads : (m : MapValue) (s : State) (moves : List Move) → IsOrigin s → LeadsHome (alone m) s moves
     → (old now : List Event) → now ≡ events_along (reverse moves) ++ old
     → LeadsOn m s start old now
-home-leads m s moves first home old now is h a =
+home-leads m s moves origin home old now is h a =
     let (b, p) = at-path m s h old (reverse moves) home.0 a in
     let ends : State = state_from (alone m) s (reverse moves) in
     subst (λ z. IsAt m start h z × (pends m (z ++ h) ≡ pends m (old ++ h))) (sym is) (
       subst (λ t. IsAt m t h (events_along (reverse moves) ++ old))
-          (home-start ends home.1 (path-first m s (reverse moves) home.0 ∙ first)) b,
+          (home-start ends home.1 (path-first m s (reverse moves) home.0 ∙ origin.0)
+          (none-along (alone m) refl s (reverse moves) home.0 origin.1)) b,
       p,
     )
 
--- the first map is in force in each state that was met
+-- the first map is in force in each state that was met, and no accent is pending
 pub met-first : (e : Explored) → IsExplored e → (place : ℕ) (y : Entry) → slice_get e.met.entries place ≡ Some y
-    → (state_of y.0).is_second ≡ false
-met-first e x place y at = search (rules, path-first)
+    → IsOrigin (state_of y.0)
+met-first e x place y at =
+    let m : MapValue = map_of_explored e in
+    let r : IsReached (alone m) (origin_in e) e.met.entries place y = reached-one x.searched place y at in (
+      ap (λ z. z.is_second) (sym r.3) ∙ path-first m (origin_in e) r.0 r.2 ∙ x.origin.0,
+      ap (λ z. z.is_pending) (sym r.3) ∙ none-along (alone m) refl (origin_in e) r.0 r.2 x.origin.1,
+    )
 
 -- ---- taps
 

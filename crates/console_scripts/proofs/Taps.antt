@@ -1,4 +1,5 @@
 -- Taps of keys in states that moves lead to: where they lead, and what they type.
+use Rattle.console_states.specs.declared.held.Move.TheVariants as variants
 use Rattle.console_scripts.proofs.Common.{cases_Bool, ◌≡◌, ◌+◌, ◌<◌, ℕ, Bool, true, false, List, [], ◌∷◌, ◌++◌, Option}
 use Rattle.console_scripts.proofs.Common.{Some, None, refl, ap, subst, sym, ◌∙◌, inl, inr, arith, append_assoc, map}
 use Rattle.console_scripts.proofs.Common.{false_from_ne_true, pressed, IsFree, IsQuiet, reverse, if◌then◌else◌, ◌==◌}
@@ -36,6 +37,7 @@ pub record LetsGoTo (s : State) (h now : List Event) (next : State) (n : ℕ) : 
   pub gone : (i : Modifier) → modifier_index i < n → next.holder i ≡ None
   pub locks : next.is_locked ≡ s.is_locked
   pub second : next.is_second ≡ s.is_second
+  pub pending : next.is_pending ≡ s.is_pending
   pub events : now ≡ events_along path ++ h
 
 pub lets-go-first : (s : State) (h : List Event) → LetsGoTo s h h s 0
@@ -46,6 +48,7 @@ lets-go-first s h = record {
   gone = λ i lt. absurd (omega (arith, lt));
   locks = refl;
   second = refl;
+  pending = refl;
   events = refl;
 }
 
@@ -62,6 +65,7 @@ lets-go-some s h now t n i k x at holds = record {
   ];
   locks = x.locks;
   second = x.second;
+  pending = x.pending;
   events = ap (λ z. Release k ∷ z) x.events;
 }
 
@@ -134,6 +138,7 @@ typed-move m h s (Turn k l) ((lt, idle, (seen, may)), other) st =
     typed-release m (Press k ∷ h) k
     ∙ typed-more m h (Press k) (answer.Special (act.Lock l))
     (rw (press-answer m h s k (Act (act.Lock l)) st seen, idle-none (resolved (between m m) h) s k st.exact idle) refl)
+typed-move m h s (variants.Tap k) is st = absurd (none-some is.0 is.1)
 typed-move m h s (LetGo k i) holds st = typed-release m h k
 typed-move m h s Exchange (free, loads) st = absurd (true≢false (sym loads))
 
@@ -167,6 +172,7 @@ changes-move : (m : MapValue) (h : List Event) (s : State) (move : Move) → IsM
     → ChangeKeys (events_of_move move ++ h)
 changes-move m h s (Hold k i) ((lt, idle, made), free) st changes = (idle-up (alone m) h s k st idle, changes)
 changes-move m h s (Turn k l) ((lt, idle, made), other) st changes = changes-tap (alone m) h s k st idle changes
+changes-move m h s (variants.Tap k) is st changes = absurd (none-some is.0 is.1)
 changes-move m h s (LetGo k i) holds st changes = (holder-pressed (alone m) h s i k st holds, changes)
 changes-move m h s Exchange (free, loads) st changes = absurd (true≢false (sym loads))
 

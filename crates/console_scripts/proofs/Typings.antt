@@ -1,4 +1,5 @@
 -- Characters typed one after another, and that a console is as new behind them.
+use Rattle.console_states.proofs.Shared.{none-along}
 use Rattle.console_scripts.proofs.Common.{zero, suc, ◌≡◌, ◌+◌, ◌<◌, ◌≤◌, ◌⊎◌, ℕ, Bool, inl, inr, true, false, List, []}
 use Rattle.console_scripts.proofs.Common.{◌∷◌, ◌++◌, All, Some, None, refl, ap, subst, sym, ◌∙◌, arith, append_assoc}
 use Rattle.console_scripts.proofs.Common.{map, reverse, take, length, get_or, slice_get, if◌then◌else◌, filter, rules}
@@ -18,7 +19,7 @@ use Rattle.console_scripts.specs.declared.typing.Typing.{Typing}
 use Rattle.keymap_core.proofs.Shared.{All-reversed}
 use Rattle.console_scripts.specs.Typing.{AreEnds, AreParts, AreTyped, Types, characters_of}
 use Rattle.console_core.proofs.Shared.{reverse-cons}
-use Rattle.console_scripts.proofs.Exploring.{start-returns}
+use Rattle.console_scripts.proofs.Exploring.{returns-origin, start-returns}
 use Rattle.console_scripts.proofs.Common.{Alt, Caps, Num, Scroll, is_locked_after, resolved}
 use Rattle.console_core.proofs.Shared.{locked-start}
 use Rattle.console_states.proofs.Shared.{each-lock, idle-none, pending-is, stands-start}
@@ -200,7 +201,8 @@ typed-all m cs place x es s typed all (back, is, home, e) none =
     let there : State = state_from (alone m) s back in
     let first : there.is_second ≡ false =
     cc (path-first m s back is, typed.can_return.leads, path-first m start typed.can_return.path typed.can_return.is) in
-    let ends : there ≡ start = home-start there home first in
+    let ends : there ≡ start = home-start there home first
+    (none-along (alone m) refl s back is (returns-origin m s typed.can_return).1) in
     let end : HasTyped m (reverse now) start None cs =
     rw (e, ← ends, ← all) (walked m (reverse es) s None (take place cs) back typed.typed is) in
     let behind : now ≡ es ++ reverse (events_along back) =

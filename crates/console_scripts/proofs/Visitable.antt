@@ -227,7 +227,7 @@ place-some (x ∷ es) (suc n) lt e = place-some es n (omega (arith, lt)) e
 -- moves lead to the start, and from there home
 pub start-near : (m : MapValue) → IsNearHome m []
 start-near m =
-    subst (λ s. CanReach m s × ComesHome (alone m) s) (same_states start (resting_after m []) (λ i. refl) lock refl)
+    subst (λ s. CanReach m s × ComesHome (alone m) s) (same_states start (resting_after m []) (λ i. refl) lock refl refl)
     (([], tt, refl), ([], tt, ((λ i. refl), (λ l. refl))))
   where
     off : (l : Lock) → is_locked_after (between m m) l [] ≡ false

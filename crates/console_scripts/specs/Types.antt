@@ -12,6 +12,6 @@ pub use Rattle.console_core.specs.declared.event.Answer.{Answer}
 pub use Rattle.console_core.specs.declared.event.Event.{Event}
 pub use Rattle.console_core.specs.declared.event.Event.TheVariants.{Press, Load, Release, Reset}
 pub use Rattle.console_states.specs.declared.held.Move.{Move}
-pub use Rattle.console_states.specs.declared.held.Move.TheVariants.{Hold, Turn, LetGo, Exchange}
+pub use Rattle.console_states.specs.declared.held.Move.TheVariants.{Hold, Turn, Tap, LetGo, Exchange}
 pub use Rattle.console_states.specs.declared.selection.Selection.{Selection}
 pub use Rattle.console_states.specs.declared.selection.Sight.{Sight}

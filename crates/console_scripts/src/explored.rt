@@ -59,8 +59,9 @@ pub fn explore<'m>(
         second: map,
         has_loads: false,
         presses: None,
+        minded: None,
     };
-    let (met, end) = meet_all(alloc, &maps, &[*origin])?;
+    let (met, end) = meet_all(alloc, &maps, origin)?;
     let is_complete = match end {
         End::Complete => true,
         End::TooMany(_) => false,

@@ -16,8 +16,8 @@ pub use Rattle.console_core.specs.Resolved.{ResolvedEvent, is_this_action, on, p
 pub use Rattle.console_core.specs.Resolved.{unless_nop}
 unfoldable pub use Rattle.console_core.specs.Resolved.{held, locked, look, remembered}
 pub use Rattle.console_core.specs.Resolved.ResolvedEvent.{PressedAction, PressedCharacter, ReleasedKey, WasLoaded}
-pub use Rattle.console_states.specs.Inner.Adding.{Adds, AddsOffer, AddsOffers, AreBehind, AreLedTo, AreOffering}
-pub use Rattle.console_states.specs.Inner.Adding.{AreOffersOf, AreSelectionsOf, CanSelectEach, IsBehind, IsInSome}
+pub use Rattle.console_states.specs.Inner.Adding.{Adds, AddsOffer, AddsOffers, AreLedTo, AreMinded, HasSelection}
+pub use Rattle.console_states.specs.Inner.Adding.{AreOffersOf, AreSelectionsOf, CanSelectEach, IsInSome}
 pub use Rattle.console_states.specs.Inner.Adding.{IsLedTo, IsOfferedUnlocked, IsWith, OffersUnlocked}
 pub use Rattle.console_states.specs.Inner.KeyLists.{AreKeysOf, IsOther}
 pub use Rattle.console_states.specs.Inner.Standing.{Exact, Follows, HoldsSome, Stands}
@@ -25,12 +25,12 @@ pub use Rattle.console_states.specs.Moves.{HolderForgets, Holds, IsForgetful, Is
 pub use Rattle.console_states.specs.Moves.{IsPathFrom, State, Under, alone, events_along, events_of_move, exchanged}
 pub use Rattle.console_states.specs.Moves.{is_held, look_in, map_in, map_of, moved, next_map, presses_along, presses_of}
 pub use Rattle.console_states.specs.Moves.{release_of, releases, script_of_path, start, state_after, state_from}
-pub use Rattle.console_states.specs.Moves.{with_holder, with_loads, with_lock_turned}
+pub use Rattle.console_states.specs.Moves.{minding, with_accent, with_holder, with_loads, with_lock_turned}
 pub use Rattle.console_states.specs.Returning.{IsHome, but_scroll}
 pub use Rattle.console_states.specs.Searching.{AreAdded, AreDone, AreInOrder, AreMet, AreMetOnce, AreSafe, AreWithin}
 pub use Rattle.console_states.specs.Searching.{Entries, Entry, Grows, HasEnded, HasMovingKeys, IsBegun, IsFrom, IsMetBy}
 pub use Rattle.console_states.specs.Searching.{IsReached, IsStep, IsStuck, IsTrail, IsUnmoving}
-pub use Rattle.console_states.specs.Searching.{PressesLead, Searched, StepsTo, state_of, under_of}
+pub use Rattle.console_states.specs.Searching.{limit_of, PressesLead, Searched, StepsTo, state_of, under_of}
 pub use Rattle.console_states.specs.Sights.{AreComposed, AreSightsOf, IsAdmitted, IsClean, IsOfferedIn, IsPendingFor}
 pub use Rattle.console_states.specs.Sights.{IsReachable, Lists, Offers, SeesBy, SeesNext, can_see, is_selected}
 pub use Rattle.console_states.specs.Sights.{look_selected, selection_of}
@@ -40,7 +40,7 @@ pub use Rattle.console_states.specs.Sticking.{ReachesMoreThanFrom, ReleasesPress
 pub use Rattle.console_states.specs.Types.{Act, Action, Alt, AltShift, Caps, Cell, Char, Event, Exchange, Hold, Holding}
 pub use Rattle.console_states.specs.Types.{LeftAlt, LeftControl, LeftShift, LetGo, Load, Lock, Meta, Modifier, Move}
 pub use Rattle.console_states.specs.Types.{Never, Num, Offer, Press, Release, Reset, RightAlt, RightControl, RightShift}
-pub use Rattle.console_states.specs.Types.{Scroll, Selection, Sight, Sights, Sticks, Turn, Undecided}
+pub use Rattle.console_states.specs.Types.{Scroll, Selection, Sight, Sights, Sticks, Tap, Turn, Undecided}
 pub use Rattle.console_states.specs.declared.held.Held.{Held}
 pub use Rattle.console_states.specs.declared.held.Step.{Step}
 pub use Rattle.console_states.specs.declared.key_lists.CellKind.TheVariants.{DeadKey}

@@ -4,7 +4,8 @@ use Rattle.console_states.proofs.Common.{append_assoc, false≢true, MapValue, R
 use Rattle.console_states.proofs.Common.{resolved, is_second_in_force, accent_pending_after, alone, State, IsIdle}
 use Rattle.console_states.proofs.Common.{look_in, IsMove, events_of_move, events_along, state_from, IsPathFrom, SeesBy}
 use Rattle.console_states.proofs.Common.{SeesNext, IsPendingFor, selection_of, Stands, Act, Event, Press, Release, Move}
-use Rattle.console_states.proofs.Common.{Hold, Turn, LetGo, Exchange, Sight, rules, one_map, pending-action}
+use Rattle.console_states.proofs.Common.{Hold, Turn, Tap, LetGo, Exchange, none-some, Sight, rules, one_map}
+use Rattle.console_states.proofs.Common.{pending-action}
 use Rattle.console_states.proofs.Common.{pending-release, resolved-more}
 use Rattle.console_states.proofs.Standing.{stands-from, idle-none, pressed-look}
 use Rattle.console_states.proofs.Following.{follows-selection}
@@ -25,6 +26,7 @@ pending-move m h s (Turn k l) ((lt, idle, (seen, may)), other) x =
     (pending-release m k (resolved (between m m) (Press k ∷ h))
     ∙ rw (pressed-look (alone m) h s k (Act (act.Lock l)) x.exact.follows x.second seen)
     (rw (pending-action m k (act.Lock l) r, idle-none r s k x.exact idle) refl))
+pending-move m h s (Tap k) is x = absurd (none-some is.0 is.1)
 pending-move m h s (LetGo k i) holds x =
     ap (λ z. pending m z) (resolved-more (between m m) h (Release k)) ∙ pending-release m k (resolved (between m m) h)
 pending-move m h s Exchange (free, loads) x = absurd (false≢true loads)

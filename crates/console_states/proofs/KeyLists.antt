@@ -65,11 +65,14 @@ pub read-below : (P : ℕ → Type 0) (keys : List ℕ) (n j : ℕ) → HasAllBu
 read-below P keys n j (has, below) lt =
     below (get_or keys j 0) (j, lt, sym (get_or_default keys j 0 (get_or keys j 0) lt))
 
--- a press of a key that looks up no modifier, and no lock but the scroll lock, leads nowhere
-pressed-unmoving : (P : State → Type 0) (u : Under) (s : State) (k : ℕ) → IsUnmoving (look_in u s k)
+-- a press of a key that looks up what is no move leads nowhere
+pressed-unmoving : (P : State → Type 0) (u : Under) (s : State) (k : ℕ) → IsUnmoving u.minded (look_in u s k)
     → PressesLead u s k P
-pressed-unmoving P u s k (no_mod, no_lock) idle =
-    ((λ i made free. absurd (no_mod i made.0)), (λ l other made. absurd (no_lock l other made.0)))
+pressed-unmoving P u s k (no_mod, no_lock, no_accent) idle = (
+  (λ i made free. absurd (no_mod i made.0)),
+  (λ l other made. absurd (no_lock l other made.0)),
+  (λ accent minded can made none. absurd (no_accent accent minded made.0)),
+)
 
 -- where the presses of these keys lead it is so, so where those of all keys lead it is
 pub all-pressed : (P : State → Type 0) (u : Under) (s : State) (keys : List ℕ) (n : ℕ) → HasMovingKeys u keys n

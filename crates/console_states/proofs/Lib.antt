@@ -1,6 +1,5 @@
 pub mod Adding
 pub mod Beginning
-pub mod Behind
 pub mod Common
 pub mod Concluding
 pub mod Deciding
@@ -10,7 +9,9 @@ pub mod GoingBack
 pub mod Growing
 pub mod KeyLists
 pub mod Looks
+pub mod Minding
 pub mod Nearest
+pub mod Paths
 pub mod Offering
 pub mod Reaching
 pub mod Results

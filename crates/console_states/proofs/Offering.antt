@@ -1,207 +1,140 @@
--- The states behind where an accent is offered, as a search collects them, and the selections there.
-use Rattle.console_states.proofs.Common.{zero, suc, ◌≡◌, ℕ, ◌+◌, ◌<◌, ◌≤◌, true, false, inl, inr, List, [], ◌∷◌, ◌++◌}
-use Rattle.console_states.proofs.Common.{length, refl, slice_get, Option, Some, None, ap, subst, sym, ◌∙◌, arith}
-use Rattle.console_states.proofs.Common.{Contains, Contains-append_left, Contains-push, cases_lt}
+-- The selections of the states where an accent is pending, as searches find them.
+use Rattle.console_states.proofs.Common.{zero, suc, ◌≡◌, ℕ, ◌<◌, ◌≤◌, true, false, inl, inr, List, [], ◌∷◌, ◌++◌}
+use Rattle.console_states.proofs.Common.{length, refl, slice_get, Some, ap, subst, sym, ◌∙◌, arith}
+use Rattle.console_states.proofs.Common.{Contains, cases_lt}
 use Rattle.console_states.proofs.Common.{Contains-push_cases, slice_get_within, MapValue, Move, LetGo, Selection, Offer}
-use Rattle.console_states.proofs.Common.{Sights, usable, Under, alone, State, start, IsMove, IsPath, IsStep, Step}
-use Rattle.console_states.proofs.Common.{moved, state_after, IsForgetful, IsOfferedIn, AreSightsOf, selection_of}
-use Rattle.console_states.proofs.Common.{state_of, Entry, Entries, Searched, AreSafe, IsStuck, IsBehind}
-use Rattle.console_states.proofs.Common.{AreBehind, AreOffering, IsOfferedUnlocked, AreSelectionsOf, AreOffersOf}
-use Rattle.console_states.proofs.Common.{IsInSome, rules, AreComposed, Lists, IsLedTo, OffersUnlocked, AreMetOnce}
+use Rattle.console_states.proofs.Common.{Sights, usable, Under, alone, State, start, IsPath, IsStep, Step}
+use Rattle.console_states.proofs.Common.{state_after, IsForgetful, IsOfferedIn, AreSightsOf, selection_of}
+use Rattle.console_states.proofs.Common.{state_of, Entry, Entries, Searched, AreSafe, IsStuck}
+use Rattle.console_states.proofs.Common.{AreMinded, Tap, with_accent, minding, presses_along, ReachesMoreThanFrom, ◌⊎◌}
+use Rattle.console_states.proofs.Common.{IsOfferedUnlocked, AreSelectionsOf, AreOffersOf}
+use Rattle.console_states.proofs.Common.{IsInSome, AreComposed, Lists, IsLedTo, OffersUnlocked}
 use Rattle.indexmap.proofs.IndexTableLemmas.Probe.{pigeonhole}
 use Rattle.std.proofs.lemmas.Bool.{true_from_ne_false}
-use Rattle.console_states.specs.Sights.{CanCompose, CanOffer, CanSelect, accents_in, IsOfferedAlong}
+use Rattle.console_states.specs.Sights.{CanCompose, CanOffer, CanSelect, accents_in}
 use Rattle.console_states.specs.Inner.Adding.{AreAccentsOf}
-use Rattle.console_states.proofs.Adding.{empty-none}
-use Rattle.console_states.proofs.Behind.{behind-offered, behind-more, behind-path, path-split}
-use Rattle.console_states.proofs.Nearest.{IsMet, is-nowhere, all-along, all-met}
+use Rattle.console_states.proofs.Paths.{path-split}
+use Rattle.console_states.proofs.Nearest.{IsMet, is-nowhere, all-met}
 use Rattle.console_states.proofs.SameStates.{home-start}
 use Rattle.console_states.proofs.Beginning.{reached-one}
-use Rattle.console_states.proofs.Searching.{place_last, same_entry}
+use Rattle.console_states.proofs.Minding.{minded_are_offers, offers_are_minded, pending-leads, tap-moves}
+use Rattle.console_states.proofs.Scripts.{reached-more}
+use Rattle.console_states.proofs.Standing.{minded-path}
+use Rattle.console_states.proofs.Searching.{same_entry}
 use Rattle.console_states.proofs.Staying.{emptied, emptied-kept, emptied-none}
-use Rattle.console_states.proofs.Visits.{path-first}
+use Rattle.console_states.proofs.Visits.{path-first, path-none}
 
--- ---- where the accent is offered
+-- ---- the states of a search that minds the accent
 
--- at first no state is
-pub offering-none : (u : Under) (accent : ℕ) (met : Entries) (states : List State) → states ≡ []
-    → AreOffering u accent met 0 states
-offering-none u accent met states e = record {
-  all = λ j x at lt. absurd (omega (arith, lt));
-  only = λ s has. absurd (empty-none states s e has);
-}
-
--- the next state offers the accent, or it doesn't
-pub offering-more : (u : Under) (accent : ℕ) (met : Entries) (states : List State) (n : ℕ) (x : Entry)
-    → AreOffering u accent met n states → slice_get met n ≡ Some x → IsOfferedIn u (state_of x.0) accent
-    → AreOffering u accent met (n + 1) (states ++ state_of x.0 ∷ [])
-offering-more u accent met states n x before at offered = record {
-  all = λ j y there lt is. elim (place_last j n lt) [
-    | inl below ↦ Contains-append_left states (state_of x.0 ∷ []) (state_of y.0) (before.all j y there below is)
-    | inr e ↦
-        subst (λ z. Contains (states ++ state_of x.0 ∷ []) (state_of z.0)) (same_entry met j n y x e there at)
-        (Contains-push states (state_of x.0))
-  ];
-  only = λ s has. elim (Contains-push_cases states (state_of x.0) s has) [
-    | inl was ↦ let (j, y, there, lt, is) = before.only s was in (j, y, there, omega (arith, lt), is)
-    | inr same ↦ (n, x, at, omega arith, (same, offered))
-  ];
-}
-
-pub offering-skip : (u : Under) (accent : ℕ) (met : Entries) (states : List State) (n : ℕ) (x : Entry)
-    → AreOffering u accent met n states → slice_get met n ≡ Some x → (IsOfferedIn u (state_of x.0) accent → ⊥)
-    → AreOffering u accent met (n + 1) states
-offering-skip u accent met states n x before at none = record {
-  all = λ j y there lt is. elim (place_last j n lt) [
-    | inl below ↦ before.all j y there below is
-    | inr e ↦
-        absurd (none (subst (λ z. IsOfferedIn u (state_of z.0) accent) (sym (same_entry met j n y x e there at)) is))
-  ];
-  only = λ s has. let (j, y, there, lt, is) = before.only s has in (j, y, there, omega (arith, lt), is);
-}
-
--- ---- there are no more than were met
-
--- the place where a state behind was met
-met-place : (u : Under) (accent : ℕ) (met es : Entries) (os : List State)
-    → Searched u (start ∷ []) met (length met) (length met) → AreOffering u accent met (length met) os
-    → Searched u os es 0 0 → (j : ℕ) (x : Entry) → slice_get es j ≡ Some x
-    → (i : ℕ) × (z : Entry) × (slice_get met i ≡ Some z) × (state_of z.0 ≡ state_of x.0)
-met-place u accent met es os searched offering found j x at =
-    let (o, has, (path, trail, is, leads, count)) = found.reached j x at in
-    let (n, y, here, lt, (same, offered)) = offering.only o has in
-    let (i, z, there, met_there) = all-along u met searched o path (n, y, here, same) is in
-    (i, z, there, met_there ∙ leads)
-
--- an entry stands at each place
-entry-below : (es : Entries) (j : ℕ) → j < length es → (x : Entry) × (slice_get es j ≡ Some x)
-entry-below [] j lt = absurd (omega (arith, lt))
-entry-below (x ∷ es) zero lt = (x, refl)
-entry-below (x ∷ es) (suc j) lt = entry-below es j (omega (arith, lt))
-
--- states that were met at one place are the same
-same-met : (met : Entries) (i j : ℕ) (x y z w : Entry) → i ≡ j → slice_get met i ≡ Some z → slice_get met j ≡ Some w
-    → state_of z.0 ≡ state_of x.0 → state_of w.0 ≡ state_of y.0 → state_of x.0 ≡ state_of y.0
-same-met met i j x y z w e there there_j is is_j = cc (is, same_entry met i j z w e there there_j, is_j)
-
-pub behind-few : (u : Under) (accent : ℕ) (met es : Entries) (os : List State)
-    → Searched u (start ∷ []) met (length met) (length met) → AreOffering u accent met (length met) os
-    → Searched u os es 0 0 → AreMetOnce es → length es ≤ length met
-behind-few u accent met es os searched offering found once = pigeonhole (length es) (length met) place into one
+-- where all states were met, and they are no more than the limit, paths lead to no more
+pub all-few : (u : Under) (met : Entries) (p : ℕ) → Searched u (start ∷ []) met (length met) (length met)
+    → length met ≤ 65536 → ReachesMoreThanFrom u start 65536 p → ⊥
+all-few u met p searched few (states, leads, apart) =
+    let less = pigeonhole 65537 (length met) place into one in omega (arith, less, few)
   where
-    here : (j : ℕ) (o : Option Entry) → slice_get es j ≡ o → ℕ
-    here j None e = 0
-    here j (Some x) e = (met-place u accent met es os searched offering found j x e).0
+    found : (j : ℕ) → j < 65537 → IsMet met (states j)
+    found j lt =
+        let (path, is, short, to) = leads j (omega (arith, lt)) in
+        subst (λ s. IsMet met s) to (all-met u met searched path is)
+
+    place-by : (j : ℕ) → (j < 65537) ⊎ (65537 ≤ j) → ℕ
+    place-by j (inl lt) = (found j lt).0
+    place-by j (inr le) = 0
 
     place : ℕ → ℕ
-    place j = here j (slice_get es j) refl
+    place j = place-by j (cases_lt j 65537)
 
-    -- the entry of a place
-    Meets : ℕ → ℕ → Type 0
-    Meets j i =
-        (x z : Entry) × (slice_get es j ≡ Some x) × (slice_get met i ≡ Some z) × (state_of z.0 ≡ state_of x.0)
+    at-by : (j : ℕ) (o : (j < 65537) ⊎ (65537 ≤ j)) → j < 65537
+        → (x : Entry) × (slice_get met (place-by j o) ≡ Some x) × (state_of x.0 ≡ states j)
+    at-by j (inl lt) below = let (i, x, at, same) = found j lt in (x, at, same)
+    at-by j (inr le) below = absurd (omega (arith, le, below))
 
-    meets-by : (j : ℕ) → j < length es → (o : Option Entry) (e : slice_get es j ≡ o) → Meets j (here j o e)
-    meets-by j lt None e =
-        let (x, at) = entry-below es j lt in let f : Some x ≡ None = sym at ∙ e in absurd (let g = f in cc)
-    meets-by j lt (Some x) e =
-        let (i, z, there, is) = met-place u accent met es os searched offering found j x e in (x, z, e, there, is)
+    into : (j : ℕ) → j < 65537 → place j < length met
+    into j lt =
+        let (x, at, same) = at-by j (cases_lt j 65537) lt in slice_get_within met (place j) x at
 
-    meets : (j : ℕ) → j < length es → Meets j (place j)
-    meets j lt = meets-by j lt (slice_get es j) refl
-
-    into : (j : ℕ) → j < length es → place j < length met
-    into j lt = let (x, z, at, there, is) = meets j lt in slice_get_within met (place j) z there
-
-    apart : (i j : ℕ) → i < j → i < length es → j < length es → place i ≡ place j → ⊥
-    apart i j lt lt_i lt_j e =
-        let (x, z, at, there, is) = meets i lt_i in
-        let (y, w, at_j, there_j, is_j) = meets j lt_j in
-        once i j x y lt at at_j (same-met met (place i) (place j) x y z w e there there_j is is_j)
-
-    one : (i j : ℕ) → i < length es → j < length es → place i ≡ place j → i ≡ j
-    one i j lt_i lt_j e = search (rules, cases_lt, apart)
-
--- ---- the selections there
-
--- each state behind an offer was met
-behind-met : (u : Under) (accent : ℕ) (met es : Entries) → Searched u (start ∷ []) met (length met) (length met)
-    → AreBehind u accent met es → (path : List Move) → IsPath u path → IsOfferedAlong u path accent
-    → IsMet es (state_after u path)
-behind-met u accent met es searched (os, offering, found) path is (later, before, at, offered) =
-    let (first, goes, leads) = path-split u start later before (subst (λ p. IsPath u p) at is) in
-    let (j, z, there, same) = all-met u met searched before first in
-    let has =
-    offering.all j z there (slice_get_within met j z there)
-    (subst (λ s. IsOfferedIn u s accent) (sym same) offered) in
-    let (i, w, seed, is_seed, le) = found.start (state_of z.0) has in
-    rw (at, leads) (all-along u es found (state_after u before) later (i, w, seed, is_seed ∙ same) goes)
-
--- what was met is behind
-met-behind : (u : Under) (accent : ℕ) (met es : Entries) → Searched u (start ∷ []) met (length met) (length met)
-    → AreBehind u accent met es → (j : ℕ) (x : Entry) → slice_get es j ≡ Some x → IsBehind u accent (state_of x.0)
-met-behind u accent met es searched (os, offering, found) j x at =
-    let (o, has, (path, trail, is, leads, count)) = found.reached j x at in
-    let (n, y, here, lt, (same, offered)) = offering.only o has in
-    let (first, along, from, there, few) = reached-one searched n y here in
-    subst (λ s. IsBehind u accent s) leads
-    (behind-path u accent o path
-    (behind-offered u first accent from (subst (λ s. IsOfferedIn u s accent) (sym there) offered) (there ∙ same)) is)
-
--- the selection of a state behind
-behind-composes : (m : MapValue) (accent : ℕ) (s : State) (y : Selection) → IsBehind (alone m) accent s
-    → selection_of s ≡ y → CanCompose m accent y
-behind-composes m accent s y (path, is, offered, leads) e =
-    (path, is, offered, ap (λ t. selection_of t) leads ∙ e)
-
-pub composing-behind : (m : MapValue) (accent : ℕ) (met es : Entries) (ys : List Selection)
-    → Searched (alone m) (start ∷ []) met (length met) (length met) → AreBehind (alone m) accent met es
-    → AreSelectionsOf es ys → Lists (CanCompose m accent) ys
-composing-behind m accent met es ys searched behind are = record {
-  all = λ y (path, is, offered, e).
-      let (j, x, at, same) = behind-met (alone m) accent met es searched behind path is offered in
-      are.all y (j, x, at, slice_get_within es j x at, ap (λ s. selection_of s) same ∙ e);
-  only = λ y has.
-      let (j, x, at, lt, e) = are.only y has in
-      behind-composes m accent (state_of x.0) y (met-behind (alone m) accent met es searched behind j x at) e;
-}
-
--- Where the accent is offered with no lock on, all let go leads to the start, so all states are behind.
-start-behind : (m : MapValue) (accent : ℕ) (s : State) → IsLedTo (alone m) s → usable m accent ≡ true
-    → OffersUnlocked (alone m) s accent → IsBehind (alone m) accent start
-start-behind m accent s (path, is, leads) can (unlocked, offers) =
-    let u : Under = alone m in
-    let here : IsBehind u accent s =
-    behind-offered u path accent is (subst (λ t. IsOfferedIn u t accent) (sym leads) (can, offers)) leads in
-    let first : s.is_second ≡ false = ap (λ t. t.is_second) (sym leads) ∙ path-first m start path is in
-    subst (λ t. IsBehind u accent t)
-    (home-start (emptied s) ((λ i. emptied-none s i), unlocked) first)
-    (emptied-kept (λ t. IsBehind u accent t) (λ t k i there holds. behind-more u accent t (LetGo k i) there holds) s
-    here)
-
-pub composing-some : (m : MapValue) (accent : ℕ) (s : State) (y : Selection) → IsLedTo (alone m) s
-    → usable m accent ≡ true → OffersUnlocked (alone m) s accent → CanSelect m y → CanCompose m accent y
-composing-some m accent s y led can offers (path, is, e) =
-    behind-composes m accent (state_after (alone m) path) y
-    (behind-path (alone m) accent start path (start-behind m accent s led can offers) is) e
-
--- where a step leads from there
-pub led-on : (u : Under) (s : State) (n : ℕ) (x : Step) → IsLedTo u s → IsStep u s n x → IsLedTo u (state_of x.to)
-led-on u s n x (path, is, leads) (move, next, count) = (
-  x.by ∷ path,
-  (subst (λ t. IsMove u t x.by) (sym leads) move, is),
-  ap (λ t. moved u t x.by) leads ∙ sym next,
-)
+    one : (i j : ℕ) → i < 65537 → j < 65537 → place i ≡ place j → i ≡ j
+    one i j lt_i lt_j e =
+        let (x, at, same) = at-by i (cases_lt i 65537) lt_i in
+        let (y, there, is) = at-by j (cases_lt j 65537) lt_j in
+        apart i j (omega (arith, lt_i)) (omega (arith, lt_j))
+        (sym same ∙ ap (λ z. state_of z.0) (same_entry met (place j) (place i) y x (sym e) there at) ∙ is)
 
 -- what was met
 led-met : (u : Under) (met : Entries) {a b : ℕ} → Searched u (start ∷ []) met a b → (j : ℕ) (x : Entry)
     → slice_get met j ≡ Some x → IsLedTo u (state_of x.0)
 led-met u met searched j x at = let r = reached-one searched j x at in (r.0, r.2, r.3)
 
+-- what is selected where it is pending
+pending-composes : (m : MapValue) (accent : ℕ) (s : State) (y : Selection) → IsLedTo (minding (alone m) accent) s
+    → s.is_pending ≡ true → selection_of s ≡ y → CanCompose m accent y
+pending-composes m accent s y (path, is, leads) on e =
+    let (b, few, (later, before, made, offered, to, presses)) =
+    (minded_are_offers (alone m) start accent (presses_along path) s (refl, refl, refl) (path, is, leads, refl)).1 on in
+    (later ++ before, made, (later, before, refl, offered), ap (λ t. selection_of t) to ∙ e)
+
+pub composing-pending : (m : MapValue) (accent : ℕ) (es : Entries) (ys : List Selection) → AreMinded m accent es
+    → AreSelectionsOf true es ys → Lists (CanCompose m accent) ys
+composing-pending m accent es ys searched are = record {
+  all = λ y (path, is, (later, before, at, offered), e).
+      let u : Under = alone m in
+      let (taken, made, to, count) =
+      (offers_are_minded u start accent (presses_along (later ++ before)) (state_after u path) (refl, refl, refl)).1
+      (later, before, subst (λ p. IsPath u p) at is, offered, ap (λ p. state_after u p) (sym at), refl) in
+      let (j, x, there, same) = all-met (minding u accent) es searched taken made in
+      are.all y (
+        j,
+        x,
+        there,
+        slice_get_within es j x there,
+        (ap (λ s. s.is_pending) (same ∙ to), ap (λ s. selection_of s) (same ∙ to) ∙ e),
+      );
+  only = λ y has.
+      let (j, x, at, lt, (on, e)) = are.only y has in
+      pending-composes m accent (state_of x.0) y (led-met (minding (alone m) accent) es searched j x at) on e;
+}
+
+-- where no accent is minded, none is pending
+pub plain-selections : (m : MapValue) (met : Entries) (ys : List Selection) {a b : ℕ}
+    → Searched (alone m) (start ∷ []) met a b → AreSelectionsOf false met ys
+    → Lists (λ y. IsInSome met (length met) (λ s. selection_of s ≡ y)) ys
+plain-selections m met ys searched are = record {
+  all = λ y (j, x, at, lt, e).
+      let (path, trail, is, leads, count) = reached-one searched j x at in
+      are.all y (j, x, at, lt, (ap (λ s. s.is_pending) (sym leads) ∙ path-none m start path is refl, e));
+  only = λ y has. let (j, x, at, lt, (off, e)) = are.only y has in (j, x, at, lt, e);
+}
+
+-- Where the accent is offered with no lock on, all let go leads to the start, so it is pending everywhere.
+start-pending : (m : MapValue) (accent : ℕ) (s : State) → IsLedTo (alone m) s → usable m accent ≡ true
+    → OffersUnlocked (alone m) s accent → IsLedTo (minding (alone m) accent) (with_accent start)
+start-pending m accent s (path, is, leads) can (unlocked, offers) =
+    let u : Under = minding (alone m) accent in
+    let first : s.is_second ≡ false = ap (λ t. t.is_second) (sym leads) ∙ path-first m start path is in
+    let off : s.is_pending ≡ false = ap (λ t. t.is_pending) (sym leads) ∙ path-none m start path is refl in
+    let (made, same) = minded-path (alone m) accent start path refl is in
+    let (k, tap) = tap-moves (alone m) accent s (can, offers) off in
+    subst (λ t. IsLedTo u (with_accent t)) (home-start (emptied s) ((λ i. emptied-none s i), unlocked) first off)
+    (emptied-kept (λ t. IsLedTo u (with_accent t))
+    (λ t k i there holds. reached-more u (with_accent t) (LetGo k i) there holds) s
+    (reached-more u s (Tap k) (path, made, same ∙ leads) tap))
+
+pub composing-some : (m : MapValue) (accent : ℕ) (s : State) (y : Selection) → IsLedTo (alone m) s
+    → usable m accent ≡ true → OffersUnlocked (alone m) s accent → CanSelect m y → CanCompose m accent y
+composing-some m accent s y led can offers (path, is, e) =
+    let (before, made, leads) = start-pending m accent s led can offers in
+    let (taps, tapped, to, count) =
+    pending-leads (alone m) accent start start (presses_along before) path refl refl (before, made, leads, refl) is in
+    pending-composes m accent (with_accent (state_after (alone m) path)) y (taps, tapped, to) refl e
+
+-- where a step leads from there
+pub led-on : (u : Under) (s : State) (n : ℕ) (x : Step) → IsLedTo u s → IsStep u s n x → IsLedTo u (state_of x.to)
+led-on u s n x there (move, next, count) = subst (λ t. IsLedTo u t) (sym next) (reached-more u s x.by there move)
+
 pub composing-all : (m : MapValue) (accent : ℕ) (met : Entries) (ys : List Selection)
     → Searched (alone m) (start ∷ []) met (length met) (length met) → usable m accent ≡ true
-    → IsOfferedUnlocked (alone m) met accent → AreSelectionsOf met ys → Lists (CanCompose m accent) ys
-composing-all m accent met ys searched can (i, z, here, offers) are = record {
+    → IsOfferedUnlocked (alone m) met accent → AreSelectionsOf false met ys → Lists (CanCompose m accent) ys
+composing-all m accent met ys searched can (i, z, here, offers) given = record {
   all = λ y (path, is, along, e).
       let (j, x, at, same) = all-met (alone m) met searched path is in
       are.all y (j, x, at, slice_get_within met j x at, ap (λ s. selection_of s) same ∙ e);
@@ -211,6 +144,9 @@ composing-all m accent met ys searched can (i, z, here, offers) are = record {
       composing-some m accent (state_of z.0) y (led-met (alone m) met searched i z here) can offers
       (path, is, ap (λ s. selection_of s) leads ∙ e);
 }
+  where
+    are : Lists (λ y. IsInSome met (length met) (λ s. selection_of s ≡ y)) ys
+    are = plain-selections m met ys searched given
 
 -- ---- all together
 
@@ -257,13 +193,14 @@ composing-has m x accent y are (path, is, (later, before, at, here), e) =
     (o, has, same, (are.composing o has).all y (subst (λ a. CanCompose m a y) (sym same) can))
 
 pub sights-are : (m : MapValue) (met : Entries) (x : Sights) (accents : List ℕ)
-    → Searched (alone m) (start ∷ []) met (length met) (length met) → AreSelectionsOf met x.selections.items
+    → Searched (alone m) (start ∷ []) met (length met) (length met) → AreSelectionsOf false met x.selections.items
     → AreAccentsOf (alone m) met accents → AreOffersOf m accents x.offers.items
     → (x.forgets ≡ true → (j k : ℕ) × IsStuck (alone m) met j k)
     → (x.forgets ≡ false → AreSafe (alone m) met (length met))
     → AreSightsOf m x
 sights-are m met x accents searched selections offers offered some none = record {
-  selections = enumerates-met (λ y s. selection_of s ≡ y) x.selections.items selections;
+  selections = enumerates-met (λ y s. selection_of s ≡ y) x.selections.items
+      (plain-selections m met x.selections.items searched selections);
   accents = subst (λ z. Lists (CanOffer m) z) (sym offered.all)
       (enumerates-met (λ a s. IsOfferedIn u s a) accents offers);
   composing = offered.each;

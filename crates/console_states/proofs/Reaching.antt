@@ -1,11 +1,13 @@
 -- What was met is distinct, so many entries are many states that paths lead to.
 use Rattle.console_states.proofs.Common.{zero, suc, ◌≡◌, ℕ, ◌<◌, ◌≤◌, false, inl, inr, [], ◌∷◌, length, get_or}
-use Rattle.console_states.proofs.Common.{slice_get, Some, subst, sym, ◌∙◌, arith, IsDistinct, keys_of, cases_lt}
+use Rattle.console_states.proofs.Common.{slice_get, Option, Some, None, if◌then◌else◌, is_some, limit_of, subst, sym}
+use Rattle.console_states.proofs.Common.{◌∙◌, arith, IsDistinct, keys_of, cases_lt}
 use Rattle.console_states.proofs.Common.{true≢false, slice_get-get_or, none-some, same_Some, Held, state_of, Entry}
-use Rattle.console_states.proofs.Common.{Entries, HasEnded, IsReached, TooMany, Under, State, ReachesMoreThanFrom, End}
+use Rattle.console_states.proofs.Common.{Entries, HasEnded, TooMany, Under, State, ReachesMoreThanFrom, End}
 use Rattle.console_states.proofs.Common.{MapValue, Searched, alone, start, under_of, AreMetOnce, rules}
 use Rattle.console_states.specs.declared.held.Keymaps.{Keymaps}
-use Rattle.std.specs.List.{AllByRecursion}
+use Rattle.std.specs.List.{AllByRecursion, AllPairs}
+use Rattle.console_states.proofs.Common.{All, List, Move, IsPathFrom, presses_along, state_from}
 use Rattle.std.proofs.lemmas.Map.Keys.{IsDistinct-head, IsDistinct-tail}
 use Rattle.console_states.specs.Searching.{HasMetAll}
 use Rattle.console_states.proofs.SameStates.{are_same, same-tells}
@@ -35,37 +37,57 @@ pub met-once : (es : Entries) → IsDistinct are_same (keys_of es) → AreMetOnc
 met-once es distinct i j x y lt at_i at_j e =
     true≢false (sym (same-tells x.0 y.0 e) ∙ distinct-at es distinct i j x y lt at_i at_j)
 
+-- more than the limit is more than where no accent is minded
+pub over-limit : (u : Under) (n : ℕ) → limit_of u < n → 65536 < n
+over-limit u n lt = by u.minded lt
+  where
+    by : (o : Option ℕ) → (if is_some o then 131072 else 65536) < n → 65536 < n
+    by None lt = lt
+    by (Some accent) lt = omega (arith, lt)
+
+abbrev pub AreApart : Entry → Entry → Type 0
+AreApart x y = state_of x.0 ≡ state_of y.0 → ⊥
+
+pub all-apart : (es : Entries) → AreMetOnce es → AllPairs AreApart es
+all-apart es once i j d lt below =
+    once i j (get_or es i d) (get_or es j d) lt (slice_get-get_or es i d (omega (arith, lt, below)))
+    (slice_get-get_or es j d below)
+
+-- many entries that paths of at most p presses lead to, to distinct states that are made of them
+pub reaches-apart : (u : Under) (s : State) (p : ℕ) (ys : Entries) (to : Entry → State) → Entry → 65536 < length ys
+    → All (λ x. (path : List Move) × IsPathFrom u s path × (presses_along path ≤ p) × (state_from u s path ≡ to x)) ys
+    → AllPairs (λ x y. to x ≡ to y → ⊥) ys → ReachesMoreThanFrom u s 65536 p
+reaches-apart u s p ys to d many leads apart = (
+  (λ j. to (get_or ys j d)),
+  (λ j le. leads j d (omega (arith, le, many))),
+  (λ j k le_j le_k e. elim (cases_lt j k) [
+    | inl lt ↦ absurd (apart j k d lt (omega (arith, le_k, many)) e)
+    | inr up ↦ elim (cases_lt k j) [
+      | inl lt ↦ absurd (apart k j d lt (omega (arith, le_j, many)) (sym e))
+      | inr down ↦ omega (arith, up, down)
+    ]
+  ]),
+)
+
 -- a search that met more states than it goes over shows that paths of its presses lead to so many
 pub reaches-more : {o : State} (u : Under) (es : Entries) (p : ℕ) → HasEnded u (o ∷ []) es (TooMany p)
     → ReachesMoreThanFrom u o 65536 p
 reaches-more {o} u es p ended =
-    let more : 65536 < length es = ended.is.0 in
-    let d : Entry = (start-one ended.searched).1 in
-    let at : (j : ℕ) → j ≤ 65536 → slice_get es j ≡ Some (get_or es j d) =
-    λ j le. slice_get-get_or es j d (omega (arith, le, more)) in
-    let reached : (j : ℕ) → j ≤ 65536 → IsReached u o es j (get_or es j d) =
-    λ j le. reached-one ended.searched j (get_or es j d) (at j le) in
-    let apart : (j k : ℕ) → j ≤ 65536 → k ≤ 65536 → j < k → state_of (get_or es j d).0 ≡ state_of (get_or es k d).0
-    → ⊥ =
-    λ j k le_j le_k lt e. ended.once j k (get_or es j d) (get_or es k d) lt (at j le_j) (at k le_k) e in (
-      (λ j. state_of (get_or es j d).0),
-      (λ j le.
-          let r : IsReached u o es j (get_or es j d) = reached j le in
-          let few : (get_or es j d).1.presses ≤ p = ended.is.1 j (get_or es j d) (at j le) in
-          (r.0, r.2, omega (arith, few, r.4), r.3)),
-      (λ j k le_j le_k e. elim (cases_lt j k) [
-        | inl lt ↦ absurd (apart j k le_j le_k lt e)
-        | inr up ↦ elim (cases_lt k j) [
-          | inl lt ↦ absurd (apart k j le_k le_j lt (sym e))
-          | inr down ↦ omega (arith, up, down)
-        ]
-      ]),
-    )
+    reaches-apart u o p es (λ x. state_of x.0) (start-one ended.searched).1 (over-limit u (length es) ended.is.0)
+    (λ j d lt.
+    let at = slice_get-get_or es j d lt in
+    let (path, trail, is, to, count) = reached-one ended.searched j (get_or es j d) at in
+    let few : (get_or es j d).1.presses ≤ p = ended.is.1 j (get_or es j d) at in
+    (path, is, omega (arith, few, count), to)) (all-apart es ended.once)
 
--- a search of a keymap alone ended so
+-- a search under this, from there, ended so
+pub ended-under : (u v : Under) (es : Entries) (s t : State) (end other : End) → u ≡ v → s ≡ t → end ≡ other
+    → HasEnded u (s ∷ []) es end → HasEnded v (t ∷ []) es other
+ended-under u v es s t end other is from how ended = rw (← is, ← from, ← how) ended
+
 pub ended-alone : (m : MapValue) (u : Under) (es : Entries) (s t : State) (end other : End) → u ≡ alone m → s ≡ t
     → end ≡ other → HasEnded u (s ∷ []) es end → HasEnded (alone m) (t ∷ []) es other
-ended-alone m u es s t end other is from how ended = rw (← is, ← from, ← how) ended
+ended-alone m u es s t end other is from how ended = ended-under u (alone m) es s t end other is from how ended
 
 -- what was met under a keymap is all
 pub met-alone : (x : Keymaps) (m : MapValue) (es : Entries) → under_of x ≡ alone m → x.first.now ≡ m

@@ -25,14 +25,14 @@ pub scroll_or_other : (l : Lock) → (l ≡ Scroll) ⊎ (l ≢ Scroll)
 scroll_or_other =
     each-lock (λ j. (j ≡ Scroll) ⊎ (j ≢ Scroll)) (inr (λ e. cc)) (inr (λ e. cc)) (inl refl) (inr (λ e. cc))
 
--- states with the same holders and locks, and the same map in force, are the same
+-- states with the same holders and locks, the same map in force, and the same pending, are the same
 pub same_states : (s t : State) → ((i : Modifier) → s.holder i ≡ t.holder i)
-    → ((l : Lock) → s.is_locked l ≡ t.is_locked l) → s.is_second ≡ t.is_second → s ≡ t
-same_states s t holders locks second = search (rules, fun_ext)
+    → ((l : Lock) → s.is_locked l ≡ t.is_locked l) → s.is_second ≡ t.is_second → s.is_pending ≡ t.is_pending → s ≡ t
+same_states s t holders locks second pending = search (rules, fun_ext)
 
 -- home is the start
-pub home-start : (s : State) → IsHome s → s.is_second ≡ false → s ≡ start
-home-start s (free, off) first = same_states s start free off first
+pub home-start : (s : State) → IsHome s → s.is_second ≡ false → s.is_pending ≡ false → s ≡ start
+home-start s (free, off) first none = same_states s start free off first none
 
 same-state : (x y : Held) → AreSame x y → state_of x ≡ state_of y
 same-state x y e = search rules
@@ -74,4 +74,5 @@ same-tells x y e =
     (λ k lt. rw (← (lock_place k lt)) (ap (λ s. s.is_locked (get_or locks k Caps)) e)) in
     both_true ((pointwise_decides unsigned_Decides x.holders y.holders).1 holders)
     (both_true ((pointwise_decides booleans_Decides x.locks y.locks).1 locks)
-    ((booleans_Decides x.is_second y.is_second).1 (ap (λ s. s.is_second) e)))
+    (both_true ((booleans_Decides x.is_second y.is_second).1 (ap (λ s. s.is_second) e))
+    ((booleans_Decides x.is_pending y.is_pending).1 (ap (λ s. s.is_pending) e))))

@@ -10,7 +10,8 @@ use Rattle.console_states.proofs.Common.{HolderForgets, state_after, IsPath, eve
 use Rattle.console_states.proofs.Common.{releases, script_of_path, presses_of, presses_along, presses, IsSent}
 use Rattle.console_states.proofs.Common.{NeverForgets, ReleasesPressedKeys, HoldsSome, Stands, Action, Modifier}
 use Rattle.console_states.proofs.Common.{LeftShift, RightShift, LeftControl, RightControl, LeftAlt, RightAlt, AltShift}
-use Rattle.console_states.proofs.Common.{Meta, Char, Event, Press, Release, Load, Move, Hold, Turn, LetGo, Exchange}
+use Rattle.console_states.proofs.Common.{Meta, Char, Event, Press, Release, Load, Move, Hold, Turn, Tap, LetGo}
+use Rattle.console_states.proofs.Common.{Exchange}
 use Rattle.console_states.proofs.Common.{rules, held-character, held-release, pressed-press, remembered-character}
 use Rattle.console_states.proofs.Common.{resolved-more}
 use Rattle.std.proofs.lemmas.Bool.{or_parts}
@@ -152,6 +153,7 @@ sent-move : (u : Under) (s : State) (move : Move) (h : List Event) → IsMove u 
     → All (IsSent u.has_loads) (events_of_move move ++ h)
 sent-move u s (Hold k i) h is x = All-cons (IsSent u.has_loads) (Press k) h tt x
 sent-move u s (Turn k l) h is x = search (rules, All-cons)
+sent-move u s (Tap k) h is x = search (rules, All-cons)
 sent-move u s (LetGo k i) h is x = All-cons (IsSent u.has_loads) (Release k) h tt x
 sent-move u s Exchange h is x = All-cons (IsSent u.has_loads) Load h is.1 x
 
@@ -202,6 +204,8 @@ releases-along : (u : Under) (path : List Move) → IsPath u path → ReleasesPr
 releases-along u [] is = tt
 releases-along u (Hold k i ∷ path) is = (tt, releases-along u path is.1)
 releases-along u (Turn k l ∷ path) is =
+    (rw (pressed-press k k (events_along path), eq-eqb k k refl) refl, (tt, releases-along u path is.1))
+releases-along u (Tap k ∷ path) is =
     (rw (pressed-press k k (events_along path), eq-eqb k k refl) refl, (tt, releases-along u path is.1))
 releases-along u (LetGo k i ∷ path) is = (
   holder-pressed u (events_along path) (state_after u path) i k (stands u path is.1) is.0,

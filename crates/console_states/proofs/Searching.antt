@@ -1,8 +1,10 @@
 -- The search level by level: it meets what a release, a load or a press leads to, and closes and presses each place.
-use Rattle.console_states.proofs.Common.{cases_Bool, suc, List, ◌≡◌, ℕ, ◌+◌, ◌<◌, ◌≤◌, true, ◌⊎◌, inl, inr, [], ◌∷◌}
+use Rattle.console_states.proofs.Common.{cases_Bool, false, suc, List, ◌≡◌, ℕ, ◌+◌, ◌<◌, ◌≤◌, true, ◌⊎◌, inl, inr, []}
+use Rattle.console_states.proofs.Common.{◌∷◌}
 use Rattle.console_states.proofs.Common.{◌++◌, IfSome, length, slice_get, Option, Some, None, refl, ap, subst, sym, ◌∙◌}
 use Rattle.console_states.proofs.Common.{arith, cases_lt, true≢false, slice_get_within, same_Some, All-nil, All-cons}
-use Rattle.console_states.proofs.Common.{Modifier, Lock, Act, Move, Hold, Turn, LetGo, Exchange, Held, Step, is_some}
+use Rattle.console_states.proofs.Common.{limit_of, usable, Offers, with_accent, Modifier, Lock, Act, Move, Hold, Turn}
+use Rattle.console_states.proofs.Common.{Tap, LetGo, Exchange, Held, Step, is_some}
 use Rattle.console_states.proofs.Common.{lookup, Under, State, look_in, with_holder, with_lock_turned, Holds, IsMove}
 use Rattle.console_states.proofs.Common.{moved, presses_of, state_of, Entry, Entries, Grows, IsStep, StepsTo}
 use Rattle.console_states.proofs.Common.{PressesLead, IsMetBy, AreMet, AreWithin, IsFrom, AreAdded, AreDone, Searched}
@@ -55,8 +57,8 @@ searched-fewer u es a b c d le_c le_d s = record {
 
 -- fewer of them, and what is asked for unless too many were met
 pub searched-both : {os : List State} (u : Under) (es : Entries) (a b c d e f : ℕ) → c ≤ a → d ≤ b
-    → (length es ≤ 65536 → (e ≤ a) × (f ≤ b)) → Searched u os es a b
-    → Searched u os es c d × (length es ≤ 65536 → Searched u os es e f)
+    → (length es ≤ limit_of u → (e ≤ a) × (f ≤ b)) → Searched u os es a b
+    → Searched u os es c d × (length es ≤ limit_of u → Searched u os es e f)
 searched-both u es a b c d e f le_c le_d end s =
     (searched-fewer u es a b c d le_c le_d s, (λ few. searched-fewer u es a b e f (end few).0 (end few).1 s))
 
@@ -157,6 +159,7 @@ pub pressed-mod : (u : Under) (s : State) (k : ℕ) (i : Modifier) (step : Optio
 pressed-mod u s k i step seen to idle = (
   (λ j (f, may) free. let e : i ≡ j = cc in subst (λ n. StepsTo step (with_holder s n (Some k))) e to),
   (λ l other (f, may). absurd (cc (seen, f))),
+  (λ accent minded can (f, may) none. absurd (cc (seen, f))),
 )
 
 pub pressed-lock : (u : Under) (s : State) (k : ℕ) (l : Lock) (step : Option Step)
@@ -164,6 +167,19 @@ pub pressed-lock : (u : Under) (s : State) (k : ℕ) (l : Lock) (step : Option S
 pressed-lock u s k l step seen to idle = (
   (λ j (f, may) free. absurd (cc (seen, f))),
   (λ n other (f, may). let e : l ≡ n = cc in subst (λ q. StepsTo step (with_lock_turned s q)) e to),
+  (λ accent minded can (f, may) none. absurd (cc (seen, f))),
+)
+
+-- what a press of a key that looks up a dead key leads to
+pub pressed-dead : (u : Under) (s : State) (k accent : ℕ) (step : Option Step)
+    → look_in u s k ≡ Act (act.DeadKey accent)
+    → ((i : ℕ) → u.minded ≡ Some i → usable u.maps.first i ≡ true → s.is_pending ≡ false → Offers u s k i
+    → StepsTo step (with_accent s))
+    → PressesLead u s k (StepsTo step)
+pressed-dead u s k accent step seen to idle = (
+  (λ i (f, may) free. absurd (cc (seen, f))),
+  (λ l other (f, may). absurd (cc (seen, f))),
+  (λ i minded can made none. to i minded can none (idle, made)),
 )
 
 -- where a step leads is as what it leads to
@@ -182,6 +198,7 @@ pub frees-met : (u : Under) (es : Entries) (p : ℕ) (s : State)
     → (IsMove u s Exchange → IsMetBy es p (moved u s Exchange)) → AreMet u es 0 p s
 frees-met u es p s let_go load (Hold k i) is none = absurd (omega (arith, none))
 frees-met u es p s let_go load (Turn k l) is none = absurd (omega (arith, none))
+frees-met u es p s let_go load (Tap k) is none = absurd (omega (arith, none))
 frees-met u es p s let_go load (LetGo k i) is none = let_go k i is
 frees-met u es p s let_go load Exchange is none = load is
 
@@ -189,6 +206,8 @@ pub presses-met : (u : Under) (es : Entries) (p : ℕ) (s : State)
     → ((k : ℕ) → k < 128 → PressesLead u s k (IsMetBy es p)) → AreMet u es 1 p s
 presses-met u es p s press (Hold k i) ((lt, idle, made), free) one = (press k lt idle).0 i made free
 presses-met u es p s press (Turn k l) ((lt, idle, made), other) one = (press k lt idle).1 l other made
+presses-met u es p s press (Tap k) (accent, minded, can, (lt, idle, made), none) one =
+    (press k lt idle).2 accent minded can made none
 presses-met u es p s press (LetGo k i) is one = absurd (omega (arith, one))
 presses-met u es p s press Exchange is one = absurd (omega (arith, one))
 
@@ -196,7 +215,9 @@ presses-met u es p s press Exchange is one = absurd (omega (arith, one))
 pub no-press_or_one : (move : Move) → (presses_of move ≡ 0) ⊎ (presses_of move ≡ 1)
 no-press_or_one (Hold k i) = inr refl
 no-press_or_one (Turn k l) = inr refl
-no-press_or_one _ = inl refl
+no-press_or_one (Tap k) = inr refl
+no-press_or_one (LetGo k i) = inl refl
+no-press_or_one Exchange = inl refl
 
 -- what is met by a number of presses is by each larger one
 pub met-up : (es : Entries) (p q : ℕ) (s : State) → p ≤ q → IsMetBy es p s → IsMetBy es q s

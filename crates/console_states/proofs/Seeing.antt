@@ -9,19 +9,23 @@ use Rattle.console_states.proofs.Common.{same_action-true, usable, ResolvedEvent
 use Rattle.console_states.proofs.Common.{taken_over, pending, resolve_press, next_pending, between, resolved}
 use Rattle.console_states.proofs.Common.{is_second_in_force, HasKey, IsNoLoad, Under, alone, State, IsIdle}
 use Rattle.console_states.proofs.Common.{state_after, NeverForgets, presses, selection_of, IsForgetful, IsAdmitted}
-use Rattle.console_states.proofs.Common.{SeesBy, IsOfferedIn, Follows, IsBehind, rules, one_map}
+use Rattle.console_states.proofs.Common.{SeesBy, Follows, rules, one_map}
 use Rattle.console_states.proofs.Common.{pending-action, pending-release, pending-start, resolved-more, resolved-start}
 use Rattle.console_core.specs.Inner.Kept.{pending_after_dead_key}
 use Rattle.console_core.specs.Resolved.{usable_dead_key}
 use Rattle.console_states.specs.Sights.{selection_after, LooksAreSelected, SightsAreReachable}
 use Rattle.console_core.proofs.Shared.{pending-character, pending-reset}
-use Rattle.console_states.proofs.Behind.{behind-offered, behind-more}
+use Rattle.console_states.proofs.Minding.{minded_are_offers}
+use Rattle.console_states.proofs.Standing.{plain-minded}
+use Rattle.console_states.proofs.Visits.{none-along}
+use Rattle.console_states.proofs.Common.{Admits, HasKeys, IsMove, Tap, minding, with_accent, start, presses_along, ◌++◌}
+use Rattle.console_states.specs.Minding.{without_accent}
 use Rattle.console_states.proofs.Following.{follows-look, follows-nothing, follows-selection, not_holding}
 use Rattle.console_states.proofs.Common.{AreAllowed, IsMade, IsReachable, look_selected, selection_behind}
 use Rattle.console_states.specs.Allowed.{Allows, all_allowed}
 use Rattle.console_states.specs.AllowedSights.{AllowedSightsAreReachable, IsReachableUnder, SeesAllowed}
 use Rattle.console_states.specs.Moves.{alone_by}
-use Rattle.console_states.proofs.Sparing.{stays, AreSpared, allowed-before, clean-spared}
+use Rattle.console_states.proofs.Sparing.{stays, AreLed, AreSpared, IsKeptBelow, allowed-before, clean-spared, fewer}
 use Rattle.console_states.proofs.Staying.{Stays, KeepsHeld, LeadsOn, stays-press, stays-release}
 use Rattle.console_states.proofs.Scripts.{Reached, reached-kept}
 use Rattle.keymap_core.specs.declared.action.Action.TheVariants as act
@@ -134,101 +138,162 @@ takes-pending m p a i e = search (rules, cases_Bool, usable-dead, pends)
 
 -- ---- where an accent is pending
 
--- the console stands in a state behind where the accent is offered
-abbrev StandsBehind : Allows → MapValue → ℕ → List ResolvedEvent → Type 0
-StandsBehind a m i r = (s : State) × IsBehind (alone_by a m) i s × Follows r s
+-- a console stands in a state of the set where the accent is pending
+abbrev pub PendsIn : (State → Type 0) → List ResolvedEvent → Type 0
+PendsIn S r = (s : State) × S s × (s.is_pending ≡ true) × Follows r s
+
+pub follows-pending : (r : List ResolvedEvent) (s : State) (b : Bool) → Follows r s
+    → Follows r (record s { is_pending = b })
+follows-pending r s b f = record { on = f.on; locked = f.locked; holds = f.holds }
 
 -- a press that takes the dead key of a usable accent leads there: the key holds nothing, and looks it up
-behind-here : (a : Allows) (m : MapValue) (h : List Event) (k i : ℕ) (b : Action) → StandsBy a m h → k < 128
-    → AreAllowed (alone_by a m) (Press k ∷ h) → look m (resolved (between m m) h) k ≡ Act b
-    → taken_over (remembered k (resolved (between m m) h)) b
-    ≡ act.DeadKey i
-    → usable m i ≡ true → StandsBehind a m i (PressedAction k b ∷ resolved (between m m) h)
-behind-here a m h k i b (s, (path, made, leads), f, is) lt may seen taken can =
+pends-here : (a : Allows) (m : MapValue) (h : List Event) (k i : ℕ) (b : Action) (T : State → Type 0) (s : State)
+    → s.is_pending ≡ false → (IsMove (minding (alone_by a m) i) s (Tap k) → T (with_accent s))
+    → Follows (resolved (between m m) h) s → k < 128 → AreAllowed (alone_by a m) (Press k ∷ h)
+    → look m (resolved (between m m) h) k ≡ Act b
+    → taken_over (remembered k (resolved (between m m) h)) b ≡ act.DeadKey i
+    → usable m i ≡ true → PendsIn T (PressedAction k b ∷ resolved (between m m) h)
+pends-here a m h k i b T s off leads f lt may seen taken can =
     let r : List ResolvedEvent = resolved (between m m) h in
     let p : (b ≡ act.DeadKey i) × IsFreeFor (remembered k r) i = taken-dead (remembered k r) b i taken in
     let idle : IsIdle s k = λ j holds. p.1 j (f.holds j k holds) in
     let looked = made-alone a m h s k (Act (act.DeadKey i)) may f (seen ∙ ap (λ x. Act x) p.0) in (
-      s,
-      behind-offered (alone_by a m) path i made
-          (subst (λ t. IsOfferedIn (alone_by a m) t i) (sym leads) (can, (k, lt, (idle, looked)))) leads,
-      follows-nothing r s k b f
-          (λ held. ap (λ a. same_action a (holding_action held)) taken ∙ not_holding (act.DeadKey i) held refl),
+      with_accent s,
+      leads (i, refl, can, (lt, idle, looked), off),
+      refl,
+      follows-pending (PressedAction k b ∷ r) s true
+          (follows-nothing r s k b f
+          (λ held. ap (λ a. same_action a (holding_action held)) taken ∙ not_holding (act.DeadKey i) held refl)),
     )
 
--- moves keep a console behind it
-behind-leads : (u : Under) (i : ℕ) → LeadsOn u (IsBehind u i) (IsBehind u i)
-behind-leads u i = record {
-  stay = λ s there. there;
-  hold = λ s k j there is. behind-more u i s (Hold k j) there is;
-  turn = λ s k l there is. behind-more u i s (Turn k l) there is;
-}
-
-behind-press : (a : Allows) (m : MapValue) (h : List Event) (k i : ℕ) (b : Action)
-    → StandsBehind a m i (resolved (between m m) h) → k < 128 → AreAllowed (alone_by a m) (Press k ∷ h)
-    → look m (resolved (between m m) h) k ≡ Act b
-    → StandsBehind a m i (PressedAction k b ∷ resolved (between m m) h)
-behind-press a m h k i b (s, behind, f) lt may seen =
-    let u : Under = alone_by a m in
+-- presses that make no accent pending keep a console there, and releases
+pends-press : (a : Allows) (m : MapValue) (h : List Event) (k i n p : ℕ) (b : Action) (S : ℕ → State → Type 0)
+    → AreLed (minding (alone_by a m) i) n S → suc p < n → PendsIn (S p) (resolved (between m m) h) → k < 128
+    → AreAllowed (alone_by a m) (Press k ∷ h) → look m (resolved (between m m) h) k ≡ Act b
+    → PendsIn (S (suc p)) (PressedAction k b ∷ resolved (between m m) h)
+pends-press a m h k i n p b S led le (s, there, on, f) lt may seen =
+    let u : Under = minding (alone_by a m) i in
     let r : List ResolvedEvent = resolved (between m m) h in
     let looked = made-alone a m h s k (Act b) may f seen in
-    let (t, there, g, is) =
-    stays-press u (IsBehind u i) (IsBehind u i) (behind-leads u i) r s behind f k lt
-    (λ j (holds, (c, (e, can))). let g : Act b ≡ Char c = sym looked.0 ∙ e in cc) (Act b) looked in
-    (t, there, g)
+    let leads : LeadsOn u (λ t. S p t × (t.is_pending ≡ true)) (λ t. S (suc p) t × (t.is_pending ≡ true)) = record {
+      stay = λ t (here, still). (led.more p t here, still);
+      hold = λ t j l (here, still) is. (led.moved p (suc p) t (Hold j l) (omega arith) le here is, still);
+      turn = λ t j l (here, still) is. (led.moved p (suc p) t (Turn j l) (omega arith) le here is, still);
+    } in
+    let (t, (to, still), g, is) =
+    stays-press u (λ t. S p t × (t.is_pending ≡ true)) (λ t. S (suc p) t × (t.is_pending ≡ true)) leads r s (there, on)
+    f k lt (λ j (holds, (c, (e, can))). let g : Act b ≡ Char c = sym looked.0 ∙ e in cc) (Act b) looked in
+    (t, to, still, g)
 
-behind-release : (a : Allows) (m : MapValue) (r : List ResolvedEvent) (k i : ℕ) → StandsBehind a m i r
-    → StandsBehind a m i (ReleasedKey k ∷ r)
-behind-release a m r k i (s, behind, f) =
-    let (t, there, g, is) =
-    stays-release (IsBehind (alone_by a m) i)
-    (λ s n j there holds. behind-more (alone_by a m) i s (LetGo n j) there holds) r s
-    behind f k (remembered k r) refl in
-    (t, there, g)
+pends-release : (u : Under) (r : List ResolvedEvent) (k n p : ℕ) (S : ℕ → State → Type 0) → AreLed u n S → p < n
+    → PendsIn (S p) r → PendsIn (S p) (ReleasedKey k ∷ r)
+pends-release u r k n p S led lt (s, there, on, f) =
+    let (t, (to, still), g, is) =
+    stays-release (λ t. S p t × (t.is_pending ≡ true))
+    (λ t j l (here, still) holds. (led.moved p p t (LetGo j l) (omega arith) lt here holds, still)) r s (there, on) f k
+    (remembered k r) refl in
+    (t, to, still, g)
 
--- an accent is pending only behind where it is offered
-pub pends-behind : (a : Allows) (m : MapValue) (forgets : Bool) (h : List Event) (i : ℕ)
-    → (forgets ≡ false → NeverForgets (alone_by a m)) → IsAdmitted m forgets h → AreAllowed (alone_by a m) h
-    → pending m (resolved (between m m) h) ≡ Some i
-    → StandsBehind a m i (resolved (between m m) h)
-pends-behind a m forgets [] i never admitted may e = search (rules, pending-start, resolved-start)
-pends-behind a m forgets (Release k ∷ h) i never admitted may e =
+-- where none is pending moves are those of a search that minds none
+plain-kept : (a : Allows) (m : MapValue) (i n : ℕ) (S : ℕ → State → Type 0)
+    → IsKeptBelow (minding (alone_by a m) i) n S → IsKeptBelow (alone_by a m) n (λ p s. S p s × (s.is_pending ≡ false))
+plain-kept a m i n S kept = record {
+  led = record {
+    more = λ p s (there, off). (kept.led.more p s there, off);
+    moved = λ p q s move e lt (there, off) is.
+        let (can, to) = plain-minded (alone_by a m) i s move refl is in (
+          subst (S q) to (kept.led.moved p q s move e lt there can),
+          none-along (alone_by a m) refl s (move ∷ []) (is, tt) off,
+        );
+  };
+  start = (kept.start, refl);
+}
+
+-- lists that are spoken of, of fewer than n presses
+abbrev pub AreShort : Under → ℕ → (List Event → Type 0) → List Event → Type 0
+AreShort u n P h = P h × HasKeys h × Admits u h × (presses h < n)
+
+short-before : (u : Under) (n : ℕ) (S : ℕ → State → Type 0) (P : List Event → Type 0) → AreSpared u n S P → (e : Event)
+    (h : List Event) → AreShort u n P (e ∷ h) → AreShort u n P h
+short-before u n S P spared e h (keeps, keys, (loads, may), lt) =
+    let le = fewer e h (presses (e ∷ h)) (omega arith) in (
+      spared.fewer e h keeps,
+      All-tail HasKey e h keys,
+      ((λ none. All-tail IsNoLoad e h (loads none)), allowed-before u e h may),
+      omega (arith, le, lt),
+    )
+
+-- An accent is pending only where moves lead that mind it: the console stands in a state of the sets where it is.
+pub pends-in : (a : Allows) (m : MapValue) (i n : ℕ) (S : ℕ → State → Type 0) (P : List Event → Type 0)
+    → IsKeptBelow (minding (alone_by a m) i) n S
+    → AreSpared (alone_by a m) n (λ p s. S p s × (s.is_pending ≡ false)) P → (h : List Event)
+    → AreShort (alone_by a m) n P h → pending m (resolved (between m m) h) ≡ Some i
+    → PendsIn (S (presses h)) (resolved (between m m) h)
+pends-in a m i n S P kept spared [] given e = search (rules, pending-start, resolved-start)
+pends-in a m i n S P kept spared (Release k ∷ h) given e =
     let r : List ResolvedEvent = resolved (between m m) h in
-    rw (resolved-more (between m m) h (Release k)) (behind-release a m r k i
-    (pends-behind a m forgets h i never (admitted-before m forgets (Release k) h admitted)
-    (allowed-before (alone_by a m) (Release k) h may)
+    rw (resolved-more (between m m) h (Release k))
+    (pends-release (minding (alone_by a m) i) r k n (presses h) S kept.led given.3
+    (pends-in a m i n S P kept spared h (short-before (alone_by a m) n _ P spared (Release k) h given)
     (sym (pending-release m k r) ∙ ap (λ r. pending m r) (sym (resolved-more (between m m) h (Release k))) ∙ e)))
-pends-behind a m forgets (Reset ∷ h) i never admitted may e = search (rules, pending-reset, resolved-more)
-pends-behind a m forgets (Load ∷ h) i never admitted may e =
-    absurd (true≢false (All-head IsNoLoad Load h admitted.1))
-pends-behind a m forgets (Press k ∷ h) i never admitted may e =
+pends-in a m i n S P kept spared (Reset ∷ h) given e = search (rules, pending-reset, resolved-more)
+pends-in a m i n S P kept spared (Load ∷ h) given e =
+    absurd (true≢false (All-head IsNoLoad Load h (given.2.0 refl)))
+pends-in a m i n S P kept spared (Press k ∷ h) given e =
     let r : List ResolvedEvent = resolved (between m m) h in
-    let before : IsAdmitted m forgets h = admitted-before m forgets (Press k) h admitted in
-    let can : AreAllowed (alone_by a m) h = allowed-before (alone_by a m) (Press k) h may in
     let at : resolved (between m m) (Press k ∷ h) ≡ resolve_press k (look m r k) ∷ r =
     cc (resolved-more (between m m) h (Press k), one_map m (is_second_in_force h)) in
-    subst (λ z. StandsBehind a m i z) (sym at)
+    subst (λ z. PendsIn (S (suc (presses h))) z) (sym at)
     (by (look m r k) refl (ap (λ z. pending m z) (sym at) ∙ e)
-    (λ was. pends-behind a m forgets h i never before can was)
-    (stands-allowed a m forgets h never before can))
+    (λ was. pends-in a m i n S P kept spared h before was))
   where
+    before : AreShort (alone_by a m) n P h
+    before = short-before (alone_by a m) n _ P spared (Press k) h given
+
     lt : k < 128
-    lt = All-head HasKey (Press k) h admitted.0
+    lt = All-head HasKey (Press k) h given.1
 
     by : (x : Cell) → look m (resolved (between m m) h) k ≡ x
         → pending m (resolve_press k x ∷ resolved (between m m) h) ≡ Some i
-        → (pending m (resolved (between m m) h) ≡ Some i → StandsBehind a m i (resolved (between m m) h))
-        → StandsBy a m h
-        → StandsBehind a m i (resolve_press k x ∷ resolved (between m m) h)
-    by (Char c) seen f earlier stands =
+        → (pending m (resolved (between m m) h) ≡ Some i → PendsIn (S (presses h)) (resolved (between m m) h))
+        → PendsIn (S (suc (presses h))) (resolve_press k x ∷ resolved (between m m) h)
+    by (Char c) seen f earlier =
         let g : None ≡ Some i = sym (pending-character m k c (resolved (between m m) h)) ∙ f in cc
-    by (Act b) seen f earlier stands =
+    by (Act b) seen f earlier =
         elim (takes-pending m (pending m (resolved (between m m) h))
         (taken_over (remembered k (resolved (between m m) h)) b) i
         (sym (pending-action m k b (resolved (between m m) h)) ∙ f)) [
-          | inl was ↦ behind-press a m h k i b (earlier was) lt may seen
-          | inr (is, can) ↦ behind-here a m h k i b stands lt may seen is can
+          | inl was ↦
+              pends-press a m h k i n (presses h) b S kept.led given.3 (earlier was) lt given.2.1 seen
+          | inr (is, can) ↦
+              let (s, there, g, second) =
+              stays (alone_by a m) n _ P (plain-kept a m i n S kept) spared h
+              (before.0, before.1, before.2, omega (arith, before.3)) in
+              let (here, off) = there before.3 in
+              pends-here a m h k i b (S (suc (presses h))) s off
+              (λ move. kept.led.moved (presses h) (suc (presses h)) s (Tap k) (omega arith) given.3 here move) g lt
+              given.2.1 seen is can
         ]
+
+-- where all lists are spoken of, or clean ones: the state is one that a path leads to
+pends-behind : (a : Allows) (m : MapValue) (forgets : Bool) (h : List Event) (i : ℕ)
+    → (forgets ≡ false → NeverForgets (alone_by a m)) → IsAdmitted m forgets h → AreAllowed (alone_by a m) h
+    → pending m (resolved (between m m) h) ≡ Some i
+    → PendsIn (Reached (minding (alone_by a m) i)) (resolved (between m m) h)
+pends-behind a m forgets h i never admitted may e =
+    let u : Under = minding (alone_by a m) i in
+    let n : ℕ = suc (presses h) in
+    pends-in a m i n (λ p s. Reached u s) (IsAdmitted m forgets) (reached-kept u n)
+    (allowed-spared a m forgets n (λ s. Reached u s × (s.is_pending ≡ false)) never
+    (λ s (there, off). plain s there off))
+    h (admitted, admitted.0, ((λ none. admitted.1), may), omega arith) e
+  where
+    plain : (s : State) → Reached (minding (alone_by a m) i) s → s.is_pending ≡ false → Reached (alone_by a m) s
+    plain s (path, is, leads) off =
+        let (before, made, to, count) =
+        (minded_are_offers (alone_by a m) start i (presses_along path) s (refl, refl, refl) (path, is, leads, refl)).0
+        off in
+        (before, made, to)
 
 -- what an allowed press after a list of such sees can be seen by such
 pub allowed_sights_are_reachable : AllowedSightsAreReachable
@@ -242,10 +307,22 @@ allowed_sights_are_reachable a m forgets h k (sight.Locks slot caps num) never a
     (path, is, tt, (k, lt, stands-sees a m h s path k (sight.Locks slot caps num) leads f sees may))
 allowed_sights_are_reachable a m forgets h k (sight.Pair accent c) never admitted may lt (sees, x) =
     let can = allowed-before (alone_by a m) (Press k) h may in
-    let (s, (path, is, offered, leads), f) =
+    let (s, (taps, made, to), on, f) =
     pends-behind a m forgets h accent never admitted can
     (subst (λ n. pending n (resolved (between m m) h) ≡ Some accent) (one_map m (is_second_in_force h)) x) in
-    (path, is, offered, (k, lt, stands-sees a m h s path k (sight.Pair accent c) leads f sees may))
+    let (b, count, (later, before, is, offered, leads, few)) =
+    (minded_are_offers (alone_by a m) start accent (presses_along taps) s (refl, refl, refl) (taps, made, to, refl)).1
+    on in (
+      later ++ before,
+      is,
+      (later, before, refl, offered),
+      (
+        k,
+        lt,
+        stands-sees a m h (without_accent s) (later ++ before) k (sight.Pair accent c) leads
+            (follows-pending (resolved (between m m) h) s false f) sees may,
+      ),
+    )
 
 -- ---- where all presses are allowed
 

@@ -1,5 +1,6 @@
 -- What can be seen is seen by a press after a clean list of presses and releases.
-use Rattle.console_states.proofs.Common.{◌≡◌, ◌<◌, ℕ, true, List, [], ◌∷◌, ◌++◌, All, Some, None, refl, ap, subst, ◌∙◌}
+use Rattle.console_states.proofs.Common.{Tap, ◌≡◌, ◌<◌, ℕ, true, List, [], ◌∷◌, ◌++◌, All, Some, None, refl, ap, subst}
+use Rattle.console_states.proofs.Common.{◌∙◌}
 use Rattle.console_states.proofs.Common.{append_assoc, false≢true, All-nil, All-cons, none-some, MapValue, Modifier}
 use Rattle.console_states.proofs.Common.{Act, Char, Event, Press, Release, Move, Hold, Turn, LetGo, Exchange, Sight}
 use Rattle.console_states.proofs.Common.{between, resolved, pressed, HasNoLoads, IsNoLoad, Under, alone, State, start}
@@ -9,11 +10,11 @@ use Rattle.console_states.proofs.Common.{IsClean, IsPendingFor, SeesBy, SeesNext
 use Rattle.console_states.proofs.Common.{Stands, rules, pending-start, resolved-start}
 use Rattle.console_states.specs.Sights.{ReachableIsSeen}
 use Rattle.console_states.specs.Sticking.{IsPressOrRelease}
-use Rattle.console_states.proofs.Behind.{path-split}
+use Rattle.console_states.proofs.Paths.{path-split}
 use Rattle.console_states.proofs.Going.{going-sees, pending-along, tap-pending}
 use Rattle.console_states.proofs.Scripts.{holder-pressed}
 use Rattle.console_states.proofs.Standing.{idle-none, stands-from, stands-start}
-use Rattle.console_states.proofs.Tapping.{dead-tapped}
+use Rattle.console_states.proofs.Standing.{dead-tapped}
 use Rattle.console_states.proofs.Visits.{press-presses}
 use Rattle.keymap_core.specs.declared.action.Action.TheVariants as act
 use Rattle.console_states.specs.declared.selection.Sight.TheVariants as sight
@@ -79,6 +80,7 @@ plain-move : (m : MapValue) (h : List Event) (s : State) (move : Move) → Stand
     → IsPlain m h → IsPlain m (events_of_move move ++ h)
 plain-move m h s (Hold k i) x is plain = plain-idle m h s k x is.0.1 plain
 plain-move m h s (Turn k l) x is plain = search (rules, plain-release, press-presses, plain-idle)
+plain-move m h s (Tap k) x is plain = absurd (none-some is.0 is.1)
 plain-move m h s (LetGo k i) x is plain = plain-release m h k (holder-pressed (alone m) h s i k x is) plain
 plain-move m h s Exchange x is plain = absurd (false≢true is.1)
 

@@ -126,7 +126,7 @@ stays-event u n S P led spared Load h keeps key none_only may le s there f is =
     ]
 
 -- a list without its newest event has no more presses
-fewer : (e : Event) (h : List Event) (n : ℕ) → presses (e ∷ h) ≤ n → presses h ≤ n
+pub fewer : (e : Event) (h : List Event) (n : ℕ) → presses (e ∷ h) ≤ n → presses h ≤ n
 fewer (Press k) h n le = omega (arith, le)
 fewer (Release k) h n le = le
 fewer Reset h n le = le

@@ -9,7 +9,9 @@ use Rattle.console_states.proofs.Common.{is_second_in_force, pressed, HasKey, Ha
 use Rattle.console_states.proofs.Common.{is_locked_after, Under, State, start, map_of, look_in, Holds, IsIdle}
 use Rattle.console_states.proofs.Common.{with_holder, with_lock_turned, exchanged, IsFree, IsMove, moved, state_after}
 use Rattle.console_states.proofs.Common.{IsPath, events_of_move, events_along, state_from, IsPathFrom, alone, Follows}
-use Rattle.console_states.proofs.Common.{HoldsSome, Exact, Stands, Action, Lock, Modifier, Cell, Act, Event, Press}
+use Rattle.console_states.proofs.Common.{minding, Holding, key_count, with_accent, Tap, same_action, holding_action}
+use Rattle.console_states.proofs.Common.{unless_nop, HoldsSome, Exact, Stands, Action, Lock, Modifier, Cell, Act, Event}
+use Rattle.console_states.proofs.Common.{Press}
 use Rattle.console_states.proofs.Common.{Release, Reset, Load, Move, Hold, Turn, LetGo, Exchange, rules, held-action}
 use Rattle.console_states.proofs.Common.{held-release, pressed-press, remembered-action, resolved-more, resolved-start}
 use Rattle.keymap_core.proofs.Shared.{option_or-none}
@@ -18,7 +20,7 @@ use Rattle.console_core.proofs.Shared.{held-load, held-reset, held-start, locked
 use Rattle.console_core.proofs.Shared.{pressed-release, pressed-reset, pressed-start, remembered-load}
 use Rattle.console_core.proofs.Shared.{remembered-release, remembered-reset, remembered-start}
 use Rattle.console_states.proofs.Following.{follows-look, follows-hold, follows-turn, follows-let_go, follows-release}
-use Rattle.console_states.proofs.Following.{takes, same_mods}
+use Rattle.console_states.proofs.Following.{takes, same_mods, follows-nothing, not_holding}
 use Rattle.console_states.proofs.Staying.{follows-start, follows-load}
 use Rattle.keymap_core.specs.declared.action.Action.TheVariants as act
 use Rattle.keymap_core.specs.declared.action.Holding.TheVariants as holding
@@ -116,6 +118,57 @@ pressed-look u h s k x f second seen = search (rules, resolved-more, follows-loo
 pub tapped-pressed : (h : List Event) (k n : ℕ) → pressed n (Release k ∷ Press k ∷ h) ≡ true → pressed n h ≡ true
 tapped-pressed h k n p = search (rules, cases_Bool, pressed-release, pressed-press)
 
+-- A tap of a key that looks up an action that nothing holds keeps the state.
+-- what is remembered of an action that nothing holds is no modifier
+plain-mod : (a : Action) (i : Modifier) → ((h : Holding) → same_action a (holding_action h) ≡ false)
+    → is_this_action (unless_nop a) (act.Mod i) ≡ false
+plain-mod a i plain = elim (cases_Bool (same_action a act.Nop)) [
+  | inl t ↦ rw t refl
+  | inr t ↦ rw t (plain (holding.Mod i))
+]
+
+pub exact-action : (r : List ResolvedEvent) (s : State) (k : ℕ) (a : Action) → Exact r s → IsIdle s k
+    → ((h : Holding) → same_action a (holding_action h) ≡ false)
+    → Exact (ReleasedKey k ∷ (PressedAction k a ∷ r)) s
+exact-action r s k a x idle plain =
+    let now : List ResolvedEvent = PressedAction k a ∷ r in
+    let none : remembered k r ≡ None = idle-none r s k x idle in
+    let takes : taken_over (remembered k r) a ≡ a = ap (λ o. taken_over o a) none in
+    let holds : remembered k now ≡ unless_nop a = rw (remembered-action k k a r, none, eq-eqb k k refl) refl in
+    record {
+      follows = follows-release now s k
+          (follows-nothing r s k a x.follows (λ h. ap (λ b. same_action b (holding_action h)) takes ∙ plain h))
+          (λ i. ap (λ o. is_this_action o (act.Mod i)) holds ∙ plain-mod a i plain);
+      only = tap-only r now s k x (λ n t. other-remembered r k n a t);
+      up = λ l. rw (held-release (holding.Lock l) k now, held-action (holding.Lock l) k a r, takes)
+          (rw (plain (holding.Lock l), x.up l) refl);
+    }
+
+pub stands-tapped : (u : Under) (h : List Event) (s : State) (k : ℕ) (c : Cell) → k < key_count → Stands u h s
+    → look_in u s k ≡ c → Exact (ReleasedKey k ∷ (resolve_press k c ∷ resolved u.maps h)) s
+    → Stands u (Release k ∷ Press k ∷ h) s
+stands-tapped u h s k c lt st seen exact =
+    search (rules, resolved-more, pressed-look, tapped-pressed, All-cons)
+
+-- after a tap of a dead key the console stands as before
+pub dead-tapped : (u : Under) (h : List Event) (s : State) (j k : ℕ) → k < key_count → Stands u h s → IsIdle s k
+    → look_in u s k ≡ Act (act.DeadKey j) → Stands u (Release k ∷ Press k ∷ h) s
+dead-tapped u h s j k lt st idle seen = search (rules, stands-tapped, exact-action, not_holding)
+
+-- the state says nothing of what is remembered of an accent
+stands-accent : (u : Under) (h : List Event) (s : State) → Stands u h s → Stands u h (with_accent s)
+stands-accent u h s x = record {
+  exact = record {
+    follows = record { on = x.exact.follows.on; locked = x.exact.follows.locked; holds = x.exact.follows.holds };
+    only = x.exact.only;
+    up = x.exact.up;
+  };
+  second = x.second;
+  key = x.key;
+  pressed = x.pressed;
+  keys = x.keys;
+}
+
 -- the events of a move lead from a state to the next
 pub stands-move : (u : Under) (h : List Event) (s : State) (move : Move) → IsMove u s move → Stands u h s
     → Stands u (events_of_move move ++ h) (moved u s move)
@@ -146,6 +199,8 @@ stands-move u h s (Turn k l) ((lt, idle, (seen, may)), other) x = record {
   pressed = λ n p. x.pressed n (tapped-pressed h k n p);
   keys = All-cons HasKey (Release k) (Press k ∷ h) lt (All-cons HasKey (Press k) h lt x.keys);
 }
+stands-move u h s (Tap k) (accent, minded, can, (lt, idle, (seen, may)), none) x =
+    stands-accent u (Release k ∷ Press k ∷ h) s (dead-tapped u h s accent k lt x idle seen)
 stands-move u h s (LetGo k i) holds x = record {
   exact = rw (resolved-more u.maps h (Release k)) (exact-let_go (resolved u.maps h) s k i x.exact holds);
   second = x.second;
@@ -194,6 +249,44 @@ pub stands-from : (u : Under) (h : List Event) (s : State) (path : List Move) �
 stands-from u h s [] x is = x
 stands-from u h s (move ∷ path) x is =
     search (rules, append_assoc, stands-move, stands-from u h s path x is.1)
+
+-- ---- where an accent is minded
+
+-- a move where none is minded is one where one is
+pub plain-minded : (u : Under) (accent : ℕ) (s : State) (move : Move) → u.minded ≡ None → IsMove u s move
+    → IsMove (minding u accent) s move × (moved (minding u accent) s move ≡ moved u s move)
+plain-minded u accent s (Tap k) none is = absurd (none-some is.0 (sym none ∙ is.1))
+plain-minded u accent s (Hold k i) none is = (is, refl)
+plain-minded u accent s (Turn k l) none is = (is, refl)
+plain-minded u accent s (LetGo k i) none is = (is, refl)
+plain-minded u accent s Exchange none is = (is, refl)
+
+pub minded-path : (u : Under) (accent : ℕ) (s : State) (path : List Move) → u.minded ≡ None → IsPathFrom u s path
+    → IsPathFrom (minding u accent) s path × (state_from (minding u accent) s path ≡ state_from u s path)
+minded-path u accent s [] none is = (tt, refl)
+minded-path u accent s (move ∷ path) none is =
+    let (made, same) = minded-path u accent s path none is.1 in
+    let (can, to) = plain-minded u accent (state_from u s path) move none is.0 in (
+      (subst (λ t. IsMove (minding u accent) t move) (sym same) can, made),
+      ap (λ t. moved (minding u accent) t move) same ∙ to,
+    )
+
+-- how a console stands says nothing of accents
+pub stands-minded : (u : Under) (accent : ℕ) (h : List Event) (s : State) → Stands u h s → Stands (minding u accent) h s
+stands-minded u accent h s x =
+    record { exact = x.exact; second = x.second; key = x.key; pressed = x.pressed; keys = x.keys }
+
+pub stands-plain : (u : Under) (accent : ℕ) (h : List Event) (s : State) → Stands (minding u accent) h s → Stands u h s
+stands-plain u accent h s x =
+    record { exact = x.exact; second = x.second; key = x.key; pressed = x.pressed; keys = x.keys }
+
+-- a console stands in the state of a path along which the accent is tapped
+pub minded-stands : (m : MapValue) (accent : ℕ) (h : List Event) (s : State) (path : List Move) → Stands (alone m) h s
+    → IsPathFrom (minding (alone m) accent) s path
+    → Stands (alone m) (events_along path ++ h) (state_from (minding (alone m) accent) s path)
+minded-stands m accent h s path x is =
+    stands-plain (alone m) accent _ _
+    (stands-from (minding (alone m) accent) h s path (stands-minded (alone m) accent h s x) is)
 
 -- After a reset a console of one map stands in the free state with the locks that are on but for the scroll lock.
 pub stands-reset : (m : MapValue) (h : List Event) (s : State) → IsFree s → s.is_second ≡ false

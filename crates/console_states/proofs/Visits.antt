@@ -5,23 +5,43 @@ use Rattle.console_states.proofs.Common.{same_action, MapValue, same_action-true
 use Rattle.console_states.proofs.Common.{taken_over, PressedAction, between, resolved, is_locked_after, pressed}
 use Rattle.console_states.proofs.Common.{alone, State, look_in, IsIdle, state_from, IsPathFrom, with_lock_turned}
 use Rattle.console_states.proofs.Common.{HoldsSome, Stands, Action, Lock, Cell, Char, Act, Event}
-use Rattle.console_states.proofs.Common.{Press, Move, Hold, Turn, LetGo, Exchange, locked-action, locked-character}
+use Rattle.console_states.proofs.Common.{Press, Move, Hold, Turn, Tap, LetGo, Exchange, Under, locked-action}
+use Rattle.console_states.proofs.Common.{locked-character}
 use Rattle.console_states.proofs.Common.{pressed-press, ◌≢◌, ◌++◌, not, Scroll, Exact, IsMove, append_assoc, Release}
 use Rattle.console_states.proofs.Common.{events_along, events_of_move, resolved-more, same_action-refl}
-use Rattle.console_states.proofs.Common.{Caps, Num, Alt}
+use Rattle.console_states.proofs.Common.{Caps, Num, Alt, minding}
 use Rattle.console_core.proofs.Shared.{locked-release}
-use Rattle.console_states.proofs.Standing.{idle-none, pressed-look, stands-from}
+use Rattle.console_states.proofs.Standing.{idle-none, minded-path, minded-stands, pressed-look}
 use Rattle.console_states.proofs.Following.{follows-turn}
 use Rattle.keymap_core.specs.declared.action.Action.TheVariants as act
 
 -- without loads one map stays in force
+pub first-along : (u : Under) → u.has_loads ≡ false → (s : State) (path : List Move) → IsPathFrom u s path
+    → (state_from u s path).is_second ≡ s.is_second
+first-along u none s [] is = refl
+first-along u none s (Hold k i ∷ path) is = first-along u none s path is.1
+first-along u none s (Turn k l ∷ path) is = first-along u none s path is.1
+first-along u none s (Tap k ∷ path) is = first-along u none s path is.1
+first-along u none s (LetGo k i ∷ path) is = first-along u none s path is.1
+first-along u none s (Exchange ∷ path) is = absurd (true≢false (sym is.0.1 ∙ none))
+
 pub path-first : (m : MapValue) (s : State) (path : List Move) → IsPathFrom (alone m) s path
     → (state_from (alone m) s path).is_second ≡ s.is_second
-path-first m s [] is = refl
-path-first m s (Hold k i ∷ path) is = path-first m s path is.1
-path-first m s (Turn k l ∷ path) is = path-first m s path is.1
-path-first m s (LetGo k i ∷ path) is = path-first m s path is.1
-path-first m s (Exchange ∷ path) is = absurd (true≢false (sym is.0.1))
+path-first m s path is = first-along (alone m) refl s path is
+
+-- where no accent is minded, none gets pending
+pub none-along : (u : Under) → u.minded ≡ None → (s : State) (path : List Move) → IsPathFrom u s path
+    → s.is_pending ≡ false → (state_from u s path).is_pending ≡ false
+none-along u none s [] is off = off
+none-along u none s (Hold k i ∷ path) is off = none-along u none s path is.1 off
+none-along u none s (Turn k l ∷ path) is off = none-along u none s path is.1 off
+none-along u none s (Tap k ∷ path) is off = absurd (none-some is.0.0 (sym none ∙ is.0.1))
+none-along u none s (LetGo k i ∷ path) is off = none-along u none s path is.1 off
+none-along u none s (Exchange ∷ path) is off = refl
+
+pub path-none : (m : MapValue) (s : State) (path : List Move) → IsPathFrom (alone m) s path
+    → s.is_pending ≡ false → (state_from (alone m) s path).is_pending ≡ false
+path-none m s path is off = none-along (alone m) refl s path is off
 
 -- a release turns no lock
 scroll-release : (m : MapValue) (h : List Event) (k : ℕ)
@@ -96,29 +116,7 @@ press-turns_none m h s k x j none = by (look_in (alone m) s k) refl
         ap (λ z. locked j z) (pressed-look (alone m) h s k (Act b) x.exact.follows x.second seen)
         ∙ turns-none r k b j (action b seen (remembered k r) refl)
 
--- moves leave the scroll lock as it is
-scroll-move : (m : MapValue) (h : List Event) (s : State) (move : Move) → IsMove (alone m) s move
-    → Stands (alone m) h s
-    → is_locked_after (between m m) Scroll (events_of_move move ++ h) ≡ is_locked_after (between m m) Scroll h
-scroll-move m h s (Hold k i) ((lt, idle, (seen, may)), free) x =
-    press-turns_none m h s k x Scroll (λ still looked. cc (seen, looked))
-scroll-move m h s (Turn k l) ((lt, idle, (seen, may)), other) x =
-    scroll-release m (Press k ∷ h) k
-    ∙ press-turns_none m h s k x Scroll (λ still looked. other (let e : l ≡ Scroll = cc in e))
-scroll-move m h s (LetGo k i) holds x = scroll-release m h k
-scroll-move m h s Exchange (free, loads) x = absurd (true≢false (sym loads))
-
-pub scroll-along : (m : MapValue) (h : List Event) (s : State) (path : List Move) → Stands (alone m) h s
-    → IsPathFrom (alone m) s path
-    → is_locked_after (between m m) Scroll (events_along path ++ h) ≡ is_locked_after (between m m) Scroll h
-scroll-along m h s [] x is = refl
-scroll-along m h s (move ∷ path) x is =
-    ap (λ g. is_locked_after (between m m) Scroll g) (append_assoc (events_of_move move) (events_along path) h)
-    ∙ scroll-move m (events_along path ++ h) (state_from (alone m) s path) move is.0
-    (stands-from (alone m) h s path x is.1)
-    ∙ scroll-along m h s path x is.1
-
--- so does a tap of a key that looks up something else
+-- a tap of a key that looks up something else leaves the scroll lock as it is
 pub scroll-tap : (m : MapValue) (h : List Event) (s : State) (k : ℕ) (c : Cell) → Stands (alone m) h s
     → look_in (alone m) s k ≡ c → (c ≡ Act (act.Lock Scroll) → ⊥)
     → is_locked_after (between m m) Scroll (Release k ∷ Press k ∷ h) ≡ is_locked_after (between m m) Scroll h
@@ -126,17 +124,51 @@ scroll-tap m h s k c x seen other =
     scroll-release m (Press k ∷ h) k
     ∙ press-turns_none m h s k x Scroll (λ idle looked. other (sym seen ∙ looked))
 
+-- so do moves, and taps of an accent that is minded
+scroll-move : (m : MapValue) (accent : ℕ) (h : List Event) (s : State) (move : Move)
+    → IsMove (minding (alone m) accent) s move → Stands (alone m) h s
+    → is_locked_after (between m m) Scroll (events_of_move move ++ h) ≡ is_locked_after (between m m) Scroll h
+scroll-move m accent h s (Hold k i) ((lt, idle, (seen, may)), free) x =
+    press-turns_none m h s k x Scroll (λ still looked. cc (seen, looked))
+scroll-move m accent h s (Turn k l) ((lt, idle, (seen, may)), other) x =
+    scroll-release m (Press k ∷ h) k
+    ∙ press-turns_none m h s k x Scroll (λ still looked. other (let e : l ≡ Scroll = cc in e))
+scroll-move m accent h s (Tap k) (i, minded, can, (lt, idle, (seen, may)), off) x =
+    scroll-tap m h s k (Act (act.DeadKey i)) x seen (λ e. cc)
+scroll-move m accent h s (LetGo k i) holds x = scroll-release m h k
+scroll-move m accent h s Exchange (free, loads) x = absurd (true≢false (sym loads))
+
+pub minded-scroll : (m : MapValue) (accent : ℕ) (h : List Event) (s : State) (path : List Move) → Stands (alone m) h s
+    → IsPathFrom (minding (alone m) accent) s path
+    → is_locked_after (between m m) Scroll (events_along path ++ h) ≡ is_locked_after (between m m) Scroll h
+minded-scroll m accent h s [] x is = refl
+minded-scroll m accent h s (move ∷ path) x is =
+    ap (λ g. is_locked_after (between m m) Scroll g) (append_assoc (events_of_move move) (events_along path) h)
+    ∙ scroll-move m accent (events_along path ++ h) (state_from (minding (alone m) accent) s path) move is.0
+    (minded-stands m accent h s path x is.1)
+    ∙ minded-scroll m accent h s path x is.1
+
+pub scroll-along : (m : MapValue) (h : List Event) (s : State) (path : List Move) → Stands (alone m) h s
+    → IsPathFrom (alone m) s path
+    → is_locked_after (between m m) Scroll (events_along path ++ h) ≡ is_locked_after (between m m) Scroll h
+scroll-along m h s path x is = minded-scroll m 0 h s path x (minded-path (alone m) 0 s path refl is).0
+
 -- no path turns it in a state
+pub off-along : (u : Under) → u.has_loads ≡ false → (s : State) (path : List Move) → IsPathFrom u s path
+    → s.is_locked Scroll ≡ false → (state_from u s path).is_locked Scroll ≡ false
+off-along u none s [] is off = off
+off-along u none s (Hold k i ∷ path) is off = off-along u none s path is.1 off
+off-along u none s (Turn k Scroll ∷ path) ((takes, other), is) off = absurd (other refl)
+off-along u none s (Turn k Caps ∷ path) is off = off-along u none s path is.1 off
+off-along u none s (Turn k Num ∷ path) is off = off-along u none s path is.1 off
+off-along u none s (Turn k Alt ∷ path) is off = off-along u none s path is.1 off
+off-along u none s (Tap k ∷ path) is off = off-along u none s path is.1 off
+off-along u none s (LetGo k i ∷ path) is off = off-along u none s path is.1 off
+off-along u none s (Exchange ∷ path) is off = absurd (true≢false (sym is.0.1 ∙ none))
+
 pub path-off : (m : MapValue) (s : State) (path : List Move) → IsPathFrom (alone m) s path
     → s.is_locked Scroll ≡ false → (state_from (alone m) s path).is_locked Scroll ≡ false
-path-off m s [] is off = off
-path-off m s (Hold k i ∷ path) is off = path-off m s path is.1 off
-path-off m s (Turn k Scroll ∷ path) ((takes, other), is) off = absurd (other refl)
-path-off m s (Turn k Caps ∷ path) is off = path-off m s path is.1 off
-path-off m s (Turn k Num ∷ path) is off = path-off m s path is.1 off
-path-off m s (Turn k Alt ∷ path) is off = path-off m s path is.1 off
-path-off m s (LetGo k i ∷ path) is off = path-off m s path is.1 off
-path-off m s (Exchange ∷ path) is off = absurd (true≢false (sym is.0.1))
+path-off m s path is off = off-along (alone m) refl s path is off
 
 -- a key is pressed after a press of it
 pub press-presses : (k : ℕ) (h : List Event) → pressed k (Press k ∷ h) ≡ true

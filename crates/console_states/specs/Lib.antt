@@ -2,6 +2,7 @@ pub mod Allowed
 pub mod AllowedSights
 pub mod Inner
 pub mod Looks
+pub mod Minding
 pub mod Moves
 pub mod Returning
 pub mod Searching

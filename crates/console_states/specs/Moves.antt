@@ -6,7 +6,8 @@ use Rattle.std.specs.Prelude.{if◌then◌else◌, slice_index_or}
 use Rattle.std.specs.Option.{is_some}
 use Prim.Native.Nat.{suc, zero}
 use Rattle.console_states.specs.Types.{Modifier, Lock, Cell, Char, Act, Event, Press, Release, Load, Move, Hold, Turn}
-use Rattle.console_states.specs.Types.{LetGo, Exchange, Action, Caps, Num, Scroll, Selection, LeftShift, RightShift}
+use Rattle.console_states.specs.Types.{LetGo, Exchange, Tap, Action, Caps, Num, Scroll, Selection, LeftShift}
+use Rattle.console_states.specs.Types.{RightShift}
 use Rattle.console_states.specs.Types.{LeftControl, RightControl, LeftAlt, RightAlt}
 use Rattle.console_states.specs.Allowed.{Allows, all_allowed}
 use Rattle.keymap_core.specs.declared.action.Action.TheVariants as act
@@ -16,18 +17,21 @@ use Rattle.keymap_core.specs.Borne.{is_borne}
 use Rattle.keymap_core.specs.Maps.{MapValue}
 use Rattle.keymap_core.specs.Numbers.{key_count}
 use Rattle.console_states.specs.declared.held.Held.{Held}
+use Rattle.console_core.specs.Answers.{usable}
 use Rattle.console_core.specs.Columns.{look_with, is_upper}
 use Rattle.console_core.specs.History.{Maps, between}
 
--- What a search goes under: two maps, whether loads exchange them, and which presses are allowed.
+-- What a search goes under: two maps, whether loads exchange them, which presses are allowed, and the accent of the
+-- first map that it minds, if it minds one: whether that is pending is a part of its states.
 pub record Under : Type 0 where
   pub maps : Maps
   pub has_loads : Bool
   pub allows : Allows
+  pub minded : Option ℕ
 
 -- a map alone, without loads, by presses that are allowed
 abbrev pub alone_by : Allows → MapValue → Under
-alone_by allows m = record { maps = between m m; has_loads = false; allows = allows }
+alone_by allows m = record { maps = between m m; has_loads = false; allows = allows; minded = None }
 
 -- a map alone, without loads, by all presses
 abbrev pub alone : MapValue → Under
@@ -35,14 +39,19 @@ alone m = alone_by all_allowed m
 
 -- two maps that loads exchange, by all presses
 abbrev pub with_loads : Maps → Under
-with_loads ms = record { maps = ms; has_loads = true; allows = all_allowed }
+with_loads ms = record { maps = ms; has_loads = true; allows = all_allowed; minded = None }
 
--- A state: for each modifier the key that holds it on, if one does, which locks are on, and whether the second map is
--- in force.
+-- the same, but that the accent is minded
+abbrev pub minding : Under → ℕ → Under
+minding u accent = record u { minded = Some accent }
+
+-- A state: for each modifier the key that holds it on, if one does, which locks are on, whether the second map is in
+-- force, and whether the accent is pending that is minded.
 pub record State : Type 0 where
   pub holder : Modifier → Option ℕ
   pub is_locked : Lock → Bool
   pub is_second : Bool
+  pub is_pending : Bool
 
 -- the byte that tells who holds a modifier: 0 for no key, and else one more than the key
 abbrev pub number_of : Option ℕ → ℕ
@@ -59,11 +68,12 @@ state_of x = record {
   holder = λ i. key_of (slice_index_or x.holders (modifier_index i) 0);
   is_locked = λ l. slice_index_or x.locks (lock_index l) false;
   is_second = x.is_second;
+  is_pending = x.is_pending;
 }
 
--- nothing is held, no lock is on, and the first map is in force
+-- nothing is held, no lock is on, the first map is in force, and the accent isn't pending
 abbrev pub start : State
-start = record { holder = λ i. None; is_locked = λ l. false; is_second = false }
+start = record { holder = λ i. None; is_locked = λ l. false; is_second = false; is_pending = false }
 
 -- the map in force, and the one that a load puts in force
 abbrev pub map_of : Under → Bool → MapValue
@@ -96,11 +106,16 @@ with_holder s i holder = record s { holder = λ j. if same_modifier i j then hol
 abbrev pub with_lock_turned : State → Lock → State
 with_lock_turned s l = record s { is_locked = λ j. if same_lock l j then not (s.is_locked j) else s.is_locked j }
 
--- the map is in force, and each lock that it doesn't bear is off
+-- the accent is pending
+abbrev pub with_accent : State → State
+with_accent s = record s { is_pending = true }
+
+-- the map is in force, each lock that it doesn't bear is off, and the accent isn't pending
 abbrev pub exchanged : MapValue → State → State
 exchanged m s = record s {
   is_locked = λ l. is_borne m (holding.Lock l) && s.is_locked l;
   is_second = not s.is_second;
+  is_pending = false;
 }
 
 -- nothing is held
@@ -130,17 +145,22 @@ abbrev pub Takes : Under → State → ℕ → Cell → Type 0
 Takes u s k x = (k < key_count) × IsIdle s k × IsMade u s k x
 
 -- The moves from a state. A key that holds nothing becomes the holder of the modifier that it looks up, if that has
--- none, or turns the lock that it looks up. A holder lets go. Where nothing is held, the maps are exchanged. The scroll
+-- none, or turns the lock that it looks up, or is tapped, where it looks up the dead key of the accent that is minded:
+-- that is usable, and isn't pending yet. A holder lets go. Where nothing is held, the maps are exchanged. The scroll
 -- lock picks no cell, and no move turns it: so it is off wherever moves lead from where it is.
 abbrev pub IsMove : Under → State → Move → Type 0
 IsMove u s (Hold k i) = Takes u s k (Act (act.Mod i)) × (s.holder i ≡ None)
 IsMove u s (Turn k l) = Takes u s k (Act (act.Lock l)) × (l ≢ Scroll)
+IsMove u s (Tap k) =
+    (accent : ℕ) × (u.minded ≡ Some accent) × (usable u.maps.first accent ≡ true)
+    × Takes u s k (Act (act.DeadKey accent)) × (s.is_pending ≡ false)
 IsMove u s (LetGo k i) = Holds s k i
 IsMove u s Exchange = IsFree s × (u.has_loads ≡ true)
 
 abbrev pub moved : Under → State → Move → State
 moved u s (Hold k i) = with_holder s i (Some k)
 moved u s (Turn k l) = with_lock_turned s l
+moved u s (Tap k) = with_accent s
 moved u s (LetGo k i) = with_holder s i None
 moved u s Exchange = exchanged (next_map u s) s
 
@@ -186,6 +206,7 @@ free_with is_locked = record start { is_locked = is_locked }
 abbrev pub presses_of : Move → ℕ
 presses_of (Hold k i) = 1
 presses_of (Turn k l) = 1
+presses_of (Tap k) = 1
 presses_of (LetGo k i) = 0
 presses_of Exchange = 0
 
@@ -193,6 +214,7 @@ presses_of Exchange = 0
 abbrev pub IsPressOf : ℕ → Move → Type 0
 IsPressOf k (Hold j i) = j ≡ k
 IsPressOf k (Turn j l) = j ≡ k
+IsPressOf k (Tap j) = j ≡ k
 IsPressOf k (LetGo j i) = ⊥
 IsPressOf k Exchange = ⊥
 
@@ -204,6 +226,7 @@ presses_along (move ∷ path) = presses_along path + presses_of move
 abbrev pub events_of_move : Move → List Event
 events_of_move (Hold k i) = Press k ∷ []
 events_of_move (Turn k l) = Release k ∷ Press k ∷ []
+events_of_move (Tap k) = Release k ∷ Press k ∷ []
 events_of_move (LetGo k i) = Release k ∷ []
 events_of_move Exchange = Load ∷ []
 

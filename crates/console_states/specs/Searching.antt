@@ -1,7 +1,8 @@
 -- What the search keeps: the states that it has met, in their order, each with how it was come to, and which of them
 -- are done. Mirrors `Held` and `Keymaps` of src/held.rt and the functions of src/search.rt.
 use Rattle.std.specs.Prelude.{◌≡◌, ◌≢◌, ℕ, ◌+◌, ◌<◌, ◌≤◌, ◌⊎◌, length, List, [], ◌∷◌, ◌++◌, All, Option, None}
-use Rattle.std.specs.Prelude.{Some, slice_get}
+use Rattle.std.specs.Prelude.{Some, slice_get, true, false, if◌then◌else◌}
+use Rattle.std.specs.Option.{is_some}
 use Rattle.std.specs.List.{Contains}
 use Rattle.keymap_core.specs.declared.action.Modifier.{Modifier}
 use Rattle.keymap_core.specs.declared.action.Lock.{Lock}
@@ -21,7 +22,8 @@ use Rattle.console_core.specs.History.{between}
 use Rattle.console_states.specs.Moves.{Under, alone, State, start, look_in, IsMade, IsIdle, HolderForgets}
 use Rattle.console_states.specs.Moves.{IsForgetful, IsMove}
 use Rattle.console_states.specs.Moves.{moved, presses_of, presses_along, state_from, IsPathFrom}
-use Rattle.console_states.specs.Moves.{state_after, script_of_path, with_holder, with_lock_turned}
+use Rattle.console_states.specs.Moves.{state_after, script_of_path, with_holder, with_lock_turned, with_accent}
+use Rattle.console_core.specs.Answers.{usable}
 pub use Rattle.console_states.specs.Moves.{state_of}
 use Rattle.console_states.specs.Sticking.{state_limit}
 use Rattle.console_states.specs.Allowed.{allowed_by}
@@ -32,7 +34,12 @@ under_of x = record {
   maps = between x.first.now x.second.now;
   has_loads = x.has_loads;
   allows = allowed_by x.presses;
+  minded = x.minded;
 }
+
+-- so many states the search goes over: twice as many where an accent is minded, which is pending or not
+abbrev pub limit_of : Under → ℕ
+limit_of u = if is_some u.minded then state_limit + state_limit else state_limit
 
 -- a state that was met, and how it was come to
 abbrev pub Entry : Type 0
@@ -59,19 +66,24 @@ PressesLead u s k P =
     IsIdle s k
     → ((i : Modifier) → IsMade u s k (Act (act.Mod i)) → s.holder i ≡ None → P (with_holder s i (Some k)))
     × ((l : Lock) → l ≢ Scroll → IsMade u s k (Act (act.Lock l)) → P (with_lock_turned s l))
+    × ((accent : ℕ) → u.minded ≡ Some accent → usable u.maps.first accent ≡ true
+    → IsMade u s k (Act (act.DeadKey accent)) → s.is_pending ≡ false → P (with_accent s))
 
 -- where moves of n presses lead was met, by at most p presses
 abbrev pub AreMet : Under → Entries → ℕ → ℕ → State → Type 0
 AreMet u es n p s =
     (move : Move) → IsMove u s move → presses_of move ≡ n → IsMetBy es p (moved u s move)
 
--- A press that looks up the cell is no move: it is no modifier, and no lock but the scroll lock.
-abbrev pub IsUnmoving : Cell → Type 0
-IsUnmoving x = ((i : Modifier) → x ≡ Act (act.Mod i) → ⊥) × ((l : Lock) → l ≢ Scroll → x ≡ Act (act.Lock l) → ⊥)
+-- A press that looks up the cell is no move: it is no modifier, no lock but the scroll lock, and not the dead key of
+-- the accent that is minded.
+abbrev pub IsUnmoving : Option ℕ → Cell → Type 0
+IsUnmoving minded x =
+    ((i : Modifier) → x ≡ Act (act.Mod i) → ⊥) × ((l : Lock) → l ≢ Scroll → x ≡ Act (act.Lock l) → ⊥)
+    × ((accent : ℕ) → minded ≡ Some accent → x ≡ Act (act.DeadKey accent) → ⊥)
 
 -- each key below the number whose press is a move in some state is among these
 abbrev pub HasMovingKeys : Under → List ℕ → ℕ → Type 0
-HasMovingKeys u keys n = (k : ℕ) → k < n → Contains keys k ⊎ ((s : State) → IsUnmoving (look_in u s k))
+HasMovingKeys u keys n = (k : ℕ) → k < n → Contains keys k ⊎ ((s : State) → IsUnmoving u.minded (look_in u s k))
 
 -- more were met
 abbrev pub Grows : Entries → Entries → Type 0
@@ -119,11 +131,9 @@ AreDone u es n =
     → x.1.presses + presses_of move < n
     → IsMetBy es (x.1.presses + presses_of move) (moved u (state_of x.0) move)
 
--- The origins, where the search begins, were met by no press, and no other states.
-pub record IsBegun (origins : List State) (es : Entries) : Type 0 where
-  pub all : (o : State) → Contains origins o → IsMetBy es 0 o
-  pub only : (j : ℕ) (x : Entry) → slice_get es j ≡ Some x
-      → Contains origins (state_of x.0) × (x.1 ≡ record { presses = 0; last = None })
+-- the state alone was met, by no press
+abbrev pub IsBegun : Held → Entries → Type 0
+IsBegun from es = es ≡ (from, record { presses = 0; last = None }) ∷ []
 
 -- The origins were met, and what was met is reached from one of them; those below `pressed_to` are pressed, and those
 -- below `closed_to` are closed.
@@ -178,8 +188,8 @@ AreMetOnce es =
 
 -- a search that ends so met all states that moves lead to, or more than it goes over
 abbrev pub IsEnd : Under → List State → Entries → End → Type 0
-IsEnd u origins es end.Complete = Searched u origins es (length es) (length es) × (length es ≤ state_limit)
-IsEnd u origins es (end.TooMany p) = (state_limit < length es) × AreWithin es p × AreDone u es p
+IsEnd u origins es end.Complete = Searched u origins es (length es) (length es) × (length es ≤ limit_of u)
+IsEnd u origins es (end.TooMany p) = (limit_of u < length es) × AreWithin es p × AreDone u es p
 
 -- The search met the states in the order of the fewest presses from any of the origins, each once.
 pub record HasEnded (u : Under) (origins : List State) (es : Entries) (end : End) : Type 0 where

@@ -1,6 +1,6 @@
 //! The keys that are looked at in each state of a search: those whose presses are moves in some state, and those that
 //! have a dead key.
-ghost use Rattle.std.specs.Prelude.{◌≡◌, ◌<◌, ℕ, Bool, false, IfOk};
+ghost use Rattle.std.specs.Prelude.{◌≡◌, ◌<◌, ℕ, Bool, false, IfOk, Some};
 ghost use Rattle.keymap_core.specs.Maps.{cell_at};
 ghost use Rattle.keymap_core.specs.Numbers.{key_count, column_count};
 ghost use Rattle.console_core.specs.Columns.{slot_of};
@@ -16,18 +16,19 @@ use std::alloc::{AllocError, Global};
 /// What the cells of keys are looked through for.
 #[derive(Clone, Copy)]
 pub enum CellKind {
-    /// Modifiers, and locks other than the scroll lock.
-    Moving,
+    /// Modifiers, locks other than the scroll lock, and dead keys of the accent that is minded, if one is.
+    Moving(Option<u8>),
     DeadKey,
 }
 
-/// Whether the cell is a modifier, or a lock other than the scroll lock.
-fn is_moving(cell: Cell) -> bool
-    ensures { result ≡ false → IsUnmoving cell }
+/// Whether the cell is a modifier, a lock other than the scroll lock, or the dead key of the accent that is minded.
+fn is_moving(cell: Cell, minded: Option<u8>) -> bool
+    ensures { result ≡ false → IsUnmoving minded cell }
 {
-    match cell {
+    match &cell {
         Cell::Act(Action::Mod(_)) => true,
-        Cell::Act(Action::Lock(lock)) => lock != Lock::Scroll,
+        Cell::Act(Action::Lock(lock)) => *lock != Lock::Scroll,
+        Cell::Act(Action::DeadKey(accent)) => minded == Some(accent.get()),
         _ => false,
     }
 }
@@ -37,7 +38,7 @@ fn is_of_kind(cell: Cell, kind: CellKind) -> bool
     ensures { result ≡ false → IsOther kind cell }
 {
     match kind {
-        CellKind::Moving => is_moving(cell),
+        CellKind::Moving(minded) => is_moving(cell, minded),
         CellKind::DeadKey => match cell {
             Cell::Act(Action::DeadKey(_)) => true,
             _ => false,
@@ -86,12 +87,12 @@ fn keys_of(alloc: Global, maps: &Keymaps, kind: CellKind) -> Result<Vec<KeyCode>
     Ok(keys)
 }
 
-/// The keys that have a modifier or a lock other than the scroll lock in one of the keymaps. A press of another key is
-/// a move in no state, so a search that presses these alone meets all states.
+/// The keys that have a modifier, a lock other than the scroll lock or the dead key of the accent that is minded in one
+/// of the keymaps. A press of another key is a move in no state, so a search that presses these alone meets all states.
 pub fn moving_keys(alloc: Global, maps: &Keymaps) -> Result<Vec<KeyCode>, AllocError>
     ensures { IfOk result (λ keys. HasMovingKeys (under_of maps.now) keys.items key_count) }
 {
-    keys_of(alloc, maps, CellKind::Moving)
+    keys_of(alloc, maps, CellKind::Moving(maps.minded))
 }
 
 /// The keys that have a dead key in one of the keymaps. Another key offers an accent in no state, so these alone are

@@ -23,8 +23,9 @@ pub fn safe_maps_never_stick_between()
 
 /// A key looks up the cell at the slot and column that the selection picks. What a press after a list sees can be seen
 /// where a path leads, and a pair where one path leads through a state that offers its accent: after all lists where no
-/// path leads to where a modifier is forgotten, and else after clean ones. So it is where some presses alone are allowed,
-/// for lists and paths of these. And what can be seen so is seen by a press after a clean list of presses and releases.
+/// path leads to where a modifier is forgotten, and else after clean ones. So it is where some presses alone are
+/// allowed, for lists and paths of these. And what can be seen so is seen by a press after a clean list of presses and
+/// releases.
 pub fn sights_are_reachable()
     ensures selected { LooksAreSelected }
     ensures reachable { SightsAreReachable }

@@ -1,6 +1,5 @@
-//! Which accents can be pending, and in which states: those that moves lead to from where a key that holds nothing
-//! looks up the accent's dead key.
-ghost use Rattle.std.specs.Prelude.{◌≡◌, ◌++◌, ◌∷◌, [], ℕ, List, true, length, map, OnOk, IfOk};
+//! Which accents can be pending, and in which states: those of a search that minds the accent.
+ghost use Rattle.std.specs.Prelude.{◌≡◌, ◌++◌, ◌∷◌, [], ℕ, List, true, false, OnOk, IfOk};
 ghost use Rattle.std.specs.List.{Contains};
 ghost use Rattle.keymap_core.specs.Numbers.{key_count};
 ghost use Rattle.console_core.specs.Answers.{usable};
@@ -8,8 +7,8 @@ ghost use Rattle.console_states.specs.Moves.{alone};
 ghost use Rattle.console_states.specs.Sights.{AreComposed, CanCompose, Lists};
 ghost use Rattle.console_states.specs.Searching.{state_of, under_of, HasMetAll};
 ghost use Rattle.console_states.specs.Inner.Adding.{IsWith, AddsOffer, AddsOffers, AreAccentsOf, AreSelectionsOf};
-ghost use Rattle.console_states.specs.Inner.Adding.{IsOfferedUnlocked, AreUnlocked, AreOffering};
-ghost use Rattle.console_states.specs.Inner.Adding.{AreBehind, AreLedTo, AreOffersOf, CanSelectEach};
+ghost use Rattle.console_states.specs.Inner.Adding.{IsOfferedUnlocked, AreUnlocked, AreMinded};
+ghost use Rattle.console_states.specs.Inner.Adding.{AreLedTo, AreOffersOf, CanSelectEach};
 ghost use Rattle.console_states.specs.Inner.KeyLists.{AreKeysOf};
 ghost use Rattle.console_states.specs.declared.key_lists.CellKind.TheVariants.{DeadKey};
 
@@ -96,31 +95,13 @@ fn is_offered_unlocked(met: &Met, maps: &Keymaps, accent: u8) -> bool
     false
 }
 
-/// The states that were met and where the accent is offered.
-fn offering(alloc: Global, met: &Met, maps: &Keymaps, accent: u8) -> Result<Vec<Held>, AllocError>
-    requires { usable maps.now.first.now accent ≡ true }
-    ensures { IfOk result (λ states. AreOffering (under_of maps.now) accent met.now.entries (length met.now.entries)
-        (map state_of states.items)) }
+/// The states that moves lead to where the accent is minded. They are at most twice as many as were met, which are all
+/// where it isn't: so the search doesn't give up.
+fn minded(alloc: Global, met: &Met, maps: &Keymaps, accent: u8) -> Result<Met, AllocError>
+    requires { HasMetAll maps.now met.now.entries }
+    ensures { IfOk result (λ states. AreMinded maps.now.first.now accent states.entries) }
 {
-    let mut states = Vec::new(alloc);
-    for place in 0..met.len() {
-        let (held, _) = entry(met, place);
-        match held.key_offering(maps, accent) {
-            Some(_) => states.push(held)?,
-            None => {}
-        }
-    }
-    Ok(states)
-}
-
-/// The states that moves lead to from where the accent is offered, which are no more than were met.
-fn behind(alloc: Global, met: &Met, maps: &Keymaps, accent: u8) -> Result<Met, AllocError>
-    requires usable { usable maps.now.first.now accent ≡ true }
-    requires met { HasMetAll maps.now met.now.entries }
-    ensures { IfOk result (λ states. AreBehind (under_of maps.now) accent met.now.entries states.entries) }
-{
-    let origins = offering(alloc, met, maps, accent)?;
-    let (states, end) = meet_all(alloc, maps, &origins)?;
+    let (states, end) = meet_all(alloc, &Keymaps::minding(maps.first, accent), &Held::start())?;
     match end {
         End::Complete => Ok(states),
         End::TooMany(_) => unreachable!(),
@@ -146,14 +127,14 @@ fn selections_behind(
 ) -> Result<Vec<Selection>, AllocError>
     requires met { HasMetAll maps.now met.now.entries }
     requires usable { usable maps.now.first.now accent ≡ true }
-    requires all { AreSelectionsOf met.now.entries all.now }
+    requires all { AreSelectionsOf false met.now.entries all.now }
     ensures { IfOk result (λ v. Lists (CanCompose maps.now.first.now accent) v.items) }
 {
     if is_offered_unlocked(met, maps, accent) {
         copied(alloc, all)
     } else {
-        let states = behind(alloc, met, maps, accent)?;
-        selections_of(alloc, &states)
+        let states = minded(alloc, met, maps, accent)?;
+        selections_of(alloc, &states, true)
     }
 }
 
@@ -174,7 +155,7 @@ fn offers_by(
     accents: &[u8],
 ) -> Result<Vec<Offer>, AllocError>
     requires met { HasMetAll maps.now met.now.entries }
-    requires all { AreSelectionsOf met.now.entries all.now }
+    requires all { AreSelectionsOf false met.now.entries all.now }
     requires usable { (a : ℕ) → Contains accents.now a → usable maps.now.first.now a ≡ true }
     ensures { IfOk result (λ offers. AreOffersOf maps.now.first.now accents.now offers.items) }
 {
@@ -244,7 +225,7 @@ pub fn offers_of(
     all: &[Selection],
 ) -> Result<Vec<Offer>, AllocError>
     requires met { HasMetAll maps.now met.now.entries }
-    requires all { AreSelectionsOf met.now.entries all.now }
+    requires all { AreSelectionsOf false met.now.entries all.now }
     ensures { IfOk result (λ offers. (accents : List ℕ)
         × AreAccentsOf (alone maps.now.first.now) met.now.entries accents
         × AreOffersOf maps.now.first.now accents offers.items) }

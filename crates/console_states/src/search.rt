@@ -1,18 +1,19 @@
 //! The search for sticking modifiers over the states that presses, releases and loads lead to, by the number of
 //! presses.
-ghost use Rattle.std.specs.Prelude.{◌≡◌, ◌+◌, ◌<◌, ◌≤◌, ◌∷◌, ◌++◌, ℕ, List, [], None, Some, length, map, reverse};
-ghost use Rattle.std.specs.Prelude.{slice_get, OnOk, IfOk, IfSome, MatchOption};
+ghost use Rattle.std.specs.Prelude.{◌≡◌, ◌+◌, ◌<◌, ◌≤◌, ◌∷◌, ◌++◌, ℕ, List, [], None, Some, length, reverse};
+ghost use Rattle.std.specs.Prelude.{slice_get, OnOk, IfOk, IfSome};
 ghost use Rattle.keymap_core.specs.Numbers.{key_count};
 ghost use Rattle.keymap_core.specs.declared.action.Modifier.{Modifier as ModifierValue};
 ghost use Rattle.console_states.specs.declared.held.Held.{Held as HeldValue};
 ghost use Rattle.console_states.specs.Searching.{state_of, under_of, Entry, IsMetBy, AreWithin, Grows, IsBegun};
 ghost use Rattle.console_states.specs.Searching.{IsStep, AreMet, AreAdded, Searched, AreInOrder, HasMovingKeys};
+ghost use Rattle.console_states.specs.Searching.{limit_of};
 ghost use Rattle.console_states.specs.Searching.{HasEnded, GoBack, IsScriptTo};
 ghost use Rattle.console_states.specs.Looks.{IsFirstStuck};
 ghost use Rattle.console_states.specs.AllowedSights.{IsFirstAllowed};
 ghost use Rattle.console_core.specs.History.{between};
 ghost use Rattle.console_states.specs.Moves.{Under, State, Holds, start, with_holder};
-ghost use Rattle.console_states.specs.Sticking.{IsAnswer, IsAnswerBetween, IsAnswerUnder, state_limit};
+ghost use Rattle.console_states.specs.Sticking.{IsAnswer, IsAnswerBetween, IsAnswerUnder};
 
 use crate::held::{Held, Keymaps, Move, Step};
 use crate::key_lists::moving_keys;
@@ -26,8 +27,10 @@ use indexmap::IndexMap;
 use keymap_core::{KeyCode, KeyMap, MODIFIERS};
 use std::alloc::{AllocError, Global};
 
-/// How many states the search goes over.
+/// How many states a search goes over that minds no accent, and one that does.
 const BOUND: usize = 65_536;
+
+const BOUND_MINDING: usize = 131_072;
 
 /// How a state was come to: by so many presses, and at last, unless it is the start, by a move from the state at a
 /// place.
@@ -163,6 +166,17 @@ fn meet_presses(
     Ok(())
 }
 
+/// How many states the search goes over.
+fn limit(maps: &Keymaps) -> usize
+    ensures value { result ≡ limit_of (under_of maps.now) }
+    ensures small { result ≤ 131072 }
+{
+    match maps.minded {
+        Some(_) => BOUND_MINDING,
+        None => BOUND,
+    }
+}
+
 /// Adds where letting go and loads lead from the states of a level, which as many presses lead to. Stops once too many
 /// were met.
 fn close(met: &mut Met, maps: &Keymaps, level: usize, presses: usize) -> Result<(), AllocError>
@@ -171,13 +185,14 @@ fn close(met: &mut Met, maps: &Keymaps, level: usize, presses: usize) -> Result<
     ensures searched { OnOk result ((origins : List State)
         → Searched (under_of maps.now) origins met.old.entries level level
         → Searched (under_of maps.now) origins met.new.entries level level
-        × (length met.new.entries ≤ state_limit
+        × (length met.new.entries ≤ limit_of (under_of maps.now)
         → Searched (under_of maps.now) origins met.new.entries level (length met.new.entries))) }
     ensures order { OnOk result (AreInOrder met.new.entries level presses) }
     ensures grown { OnOk result (Grows met.old.entries met.new.entries) }
 {
+    let bound = limit(maps);
     let mut place = level;
-    while place < met.len() && met.len() <= BOUND {
+    while place < met.len() && met.len() <= bound {
         let (held, _) = entry(met, place);
         meet_frees(met, maps, place, &held, presses)?;
         place += 1;
@@ -194,19 +209,20 @@ fn press(
     presses: usize,
 ) -> Result<(), AllocError>
     requires keys { HasMovingKeys (under_of maps.now) keys.now key_count }
-    requires small { presses < state_limit }
+    requires small { presses < limit_of (under_of maps.now) }
     requires order { AreInOrder met.old.entries level presses }
     ensures searched { OnOk result ((origins : List State)
         → Searched (under_of maps.now) origins met.old.entries level (length met.old.entries)
         → Searched (under_of maps.now) origins met.new.entries level (length met.old.entries)
-        × (length met.new.entries ≤ state_limit
+        × (length met.new.entries ≤ limit_of (under_of maps.now)
         → Searched (under_of maps.now) origins met.new.entries (length met.old.entries) (length met.old.entries))) }
     ensures order { OnOk result (AreInOrder met.new.entries (length met.old.entries) (presses + 1)) }
     ensures grown { OnOk result (Grows met.old.entries met.new.entries) }
 {
+    let bound = limit(maps);
     let end = met.len();
     for place in level..end {
-        if met.len() > BOUND {
+        if met.len() > bound {
             return Ok(());
         }
         let (held, _) = entry(met, place);
@@ -232,29 +248,16 @@ fn script(alloc: Global, met: &Met, stuck: KeyAt) -> Result<Vec<Event>, AllocErr
     Ok(events)
 }
 
-/// Adds the state as one where the search begins, unless that was done.
-fn add_origin(met: &mut Met, held: Held) -> Result<(), AllocError>
-    ensures { OnOk result ((origins : List State) → IsBegun origins met.old.entries
-        → IsBegun (origins ++ state_of held ∷ []) met.new.entries) }
-{
-    if !met.contains_key(&held) {
-        let origin = Origin {
-            presses: 0,
-            last: None,
-        };
-        met.insert(held, origin)?;
-    }
-    Ok(())
-}
-
-/// The states where a search begins, each once.
-fn begin(alloc: Global, origins: &[Held]) -> Result<Met, AllocError>
-    ensures { IfOk result (λ met. IsBegun (map state_of origins.now) met.entries) }
+/// The state where a search begins.
+fn begin(alloc: Global, from: Held) -> Result<Met, AllocError>
+    ensures { IfOk result (λ met. IsBegun from met.entries) }
 {
     let mut met = IndexMap::new(alloc);
-    for origin in origins {
-        add_origin(&mut met, *origin)?;
-    }
+    let origin = Origin {
+        presses: 0,
+        last: None,
+    };
+    met.insert(from, origin)?;
     Ok(met)
 }
 
@@ -266,16 +269,17 @@ fn meet_levels(met: &mut Met, maps: &Keymaps, keys: &[KeyCode]) -> Result<End, A
     ensures { IfOk result (λ end. (origins : List State) → Searched (under_of maps.now) origins met.old.entries 0 0
         → HasEnded (under_of maps.now) origins met.new.entries end) }
 {
+    let bound = limit(maps);
     let mut level = 0;
     let mut presses = 0;
     while level < met.len() {
         close(met, maps, level, presses)?;
-        if met.len() > BOUND {
+        if met.len() > bound {
             return Ok(End::TooMany(presses));
         }
         let end = met.len();
         press(met, maps, keys, level, presses)?;
-        if met.len() > BOUND {
+        if met.len() > bound {
             return Ok(End::TooMany(presses + 1));
         }
         level = end;
@@ -284,12 +288,12 @@ fn meet_levels(met: &mut Met, maps: &Keymaps, keys: &[KeyCode]) -> Result<End, A
     Ok(End::Complete)
 }
 
-/// Meets the states that moves lead to from these, level by level, in the order of the fewest presses.
-pub fn meet_all(alloc: Global, maps: &Keymaps, origins: &[Held]) -> Result<(Met, End), AllocError>
-    ensures { IfOk result (λ x. HasEnded (under_of maps.now) (map state_of origins.now) x.0.entries x.1) }
+/// Meets the states that moves lead to from this one, level by level, in the order of the fewest presses.
+pub fn meet_all(alloc: Global, maps: &Keymaps, from: &Held) -> Result<(Met, End), AllocError>
+    ensures { IfOk result (λ x. HasEnded (under_of maps.now) (state_of from.now ∷ []) x.0.entries x.1) }
 {
     let keys = moving_keys(alloc, maps)?;
-    let mut met = begin(alloc, origins)?;
+    let mut met = begin(alloc, *from)?;
     let end = meet_levels(&mut met, maps, keys.as_slice())?;
     Ok((met, end))
 }
@@ -331,7 +335,7 @@ fn conclude(alloc: Global, maps: &Keymaps, met: &Met, end: End) -> Result<Sticki
 fn decide(alloc: Global, maps: &Keymaps) -> Result<Sticking, AllocError>
     ensures { IfOk result (λ answer. IsAnswerUnder (under_of maps.now) answer) }
 {
-    let (met, end) = meet_all(alloc, maps, &[Held::start()])?;
+    let (met, end) = meet_all(alloc, maps, &Held::start())?;
     conclude(alloc, maps, &met, end)
 }
 
@@ -357,6 +361,7 @@ pub fn sticking_between<'m>(
         second,
         has_loads: true,
         presses: None,
+        minded: None,
     };
     decide(alloc, &maps)
 }

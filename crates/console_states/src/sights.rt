@@ -58,14 +58,20 @@ fn add_selection(selections: &mut Vec<Selection>, selection: Selection) -> Resul
     Ok(())
 }
 
-/// The selections of the states that were met.
-pub fn selections_of(alloc: Global, met: &Met) -> Result<Vec<Selection>, AllocError>
-    ensures { IfOk result (λ v. AreSelectionsOf met.now.entries v.items) }
+/// The selections of the states that were met where the minded accent is pending, or where it isn't.
+pub fn selections_of(
+    alloc: Global,
+    met: &Met,
+    is_pending: bool,
+) -> Result<Vec<Selection>, AllocError>
+    ensures { IfOk result (λ v. AreSelectionsOf is_pending met.now.entries v.items) }
 {
     let mut selections = Vec::new(alloc);
     for place in 0..met.len() {
         let (held, _) = entry(met, place);
-        add_selection(&mut selections, held.selection())?;
+        if held.is_accent_pending() == is_pending {
+            add_selection(&mut selections, held.selection())?;
+        }
     }
     Ok(selections)
 }
@@ -132,7 +138,7 @@ pub fn sights_in(alloc: Global, met: &Met, maps: &Keymaps) -> Result<Sights, All
     requires { HasMetAll maps.now met.now.entries }
     ensures { IfOk result (λ x. AreSightsOf maps.now.first.now x) }
 {
-    let selections = selections_of(alloc, met)?;
+    let selections = selections_of(alloc, met, false)?;
     let offers = offers_of(alloc, met, maps, &selections)?;
     Ok(Sights {
         selections,
@@ -147,7 +153,7 @@ pub fn sights_of(alloc: Global, map: &KeyMap) -> Result<Option<Sights>, AllocErr
         (λ s. AreSightsOf map.now s)) }
 {
     let maps = Keymaps::alone(map);
-    let (met, end) = meet_all(alloc, &maps, &[Held::start()])?;
+    let (met, end) = meet_all(alloc, &maps, &Held::start())?;
     match end {
         End::Complete => Ok(Some(sights_in(alloc, &met, &maps)?)),
         End::TooMany(_) => Ok(None),

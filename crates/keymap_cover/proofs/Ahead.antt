@@ -10,7 +10,7 @@ use Rattle.console_states.specs.Inner.Standing.{Follows}
 use Rattle.console_states.specs.Moves.{IsPathFrom, State, start, state_from}
 use Rattle.console_states.specs.Sights.{CanPend, IsAdmitted, SeesBy, selection_of}
 use Rattle.console_states.specs.Sticking.{NeverForgets}
-use Rattle.console_states.proofs.Shared.{each-lock, path-first, path-off, same_states, stands-in}
+use Rattle.console_states.proofs.Shared.{each-lock, path-first, path-none, path-off, same_states, stands-in}
 use Rattle.keymap_core.specs.declared.action.Lock.TheVariants.{Alt, Caps, Num, Scroll}
 use Rattle.console_scripts.specs.Visiting.{SeesFrom, resting_after}
 use Rattle.console_scripts.proofs.Shared.{path-append}
@@ -21,11 +21,11 @@ use Rattle.keymap_cover.proofs.Showing.{events-loads}
 -- at rest a console stands in the free state with the locks that are on, but for the scroll lock
 at-resting : (m : MapValue) (h : List Event) (s : State) → Follows (resolved (between m m) h) s
     → ((i : Modifier) → is_on_after (between m m) i h ≡ false) → s.is_second ≡ false → s.is_locked Scroll ≡ false
-    → resting_after m h ≡ s
-at-resting m h s f off first scroll =
+    → s.is_pending ≡ false → resting_after m h ≡ s
+at-resting m h s f off first scroll none =
     same_states (resting_after m h) s (λ i. sym (not-some (s.holder i) (sym (f.on i) ∙ off i)))
     (each-lock (λ l. (resting_after m h).is_locked l ≡ s.is_locked l) (f.locked Caps (λ e. cc))
-    (f.locked Num (λ e. cc)) (sym scroll) (f.locked Alt (λ e. cc))) (sym first)
+    (f.locked Num (λ e. cc)) (sym scroll) (f.locked Alt (λ e. cc))) (sym first) (sym none)
 
 -- a cell or a lock setting needs no accent
 needs-none : (m : MapValue) (path : List Move) (x : Sight) → (IsPair x → ⊥) → CanPend m path x
@@ -41,7 +41,8 @@ seen-from m forgets h x never admitted rest key (path, is, (k, lt, sees)) =
     let (s, (way, made, there), f, second) = stands-in m forgets h never admitted in
     let rests : resting_after m h ≡ s =
     at-resting m h s f rest.1 (ap (λ (z : State). z.is_second) (sym there) ∙ path-first m start way made)
-    (ap (λ (z : State). z.is_locked Scroll) (sym there) ∙ path-off m start way made refl) in
+    (ap (λ (z : State). z.is_locked Scroll) (sym there) ∙ path-off m start way made refl)
+    (ap (λ (z : State). z.is_pending) (sym there) ∙ path-none m start way made refl) in
     let begins = rests ∙ sym there in
     let (whole, leads) = path-append u start way path made (subst (λ z. IsPathFrom u z path) begins is) in
     let same = leads ∙ ap (λ z. state_from u z path) (sym begins) in (

@@ -33,9 +33,9 @@ map_of_explored e = e.maps.first.now
 abbrev pub origin_in : Explored → State
 origin_in e = state_of e.origin
 
--- the first map is in force
+-- the first map is in force, and no accent is pending
 abbrev pub IsOrigin : State → Type 0
-IsOrigin s = s.is_second ≡ false
+IsOrigin s = (s.is_second ≡ false) × (s.is_pending ≡ false)
 
 -- The states of a map without loads that moves lead to from the origin, with routes home. If they are all, a route
 -- begins at each from which moves lead home.

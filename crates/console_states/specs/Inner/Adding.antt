@@ -1,14 +1,14 @@
 -- What is added of the states that a search met, or of a few. Mirrors src/sights.rt, src/offers.rt and src/few.rt.
-use Rattle.std.specs.Prelude.{◌≡◌, ◌<◌, ◌⊎◌, ℕ, true, List, length, [], ◌∷◌, ◌++◌, Some, slice_get, All}
+use Rattle.std.specs.Prelude.{◌≡◌, ◌<◌, ◌⊎◌, ℕ, Bool, true, List, length, [], ◌∷◌, ◌++◌, Some, slice_get, All}
 use Rattle.std.specs.List.{Contains}
 use Rattle.keymap_core.specs.Maps.{MapValue}
 use Rattle.keymap_core.specs.Numbers.{key_count}
 use Rattle.console_states.specs.Types.{Move, Selection, Sight, Offer}
 use Rattle.console_states.specs.declared.held.Held.{Held}
 use Rattle.console_core.specs.Answers.{usable}
-use Rattle.console_states.specs.Moves.{Under, State, IsPath, state_after}
+use Rattle.console_states.specs.Moves.{Under, State, IsPath, state_after, alone, minding, start}
 use Rattle.console_states.specs.Returning.{IsUnlocked}
-use Rattle.console_states.specs.Sights.{CanCompose, CanSelect, Offers, IsOfferedIn, IsOfferedAlong, Lists}
+use Rattle.console_states.specs.Sights.{CanCompose, CanSelect, Offers, IsOfferedIn, Lists}
 use Rattle.console_states.specs.Sights.{accents_in, selection_of, SeesBy}
 use Rattle.console_states.specs.Searching.{state_of, Entry, Entries, Searched}
 
@@ -26,9 +26,13 @@ pub record Adds {X : Type 0} (P : X → Type 0) (old now : List X) : Type 0 wher
 abbrev pub IsInSome : Entries → ℕ → (State → Type 0) → Type 0
 IsInSome es n Q = (j : ℕ) × (x : Entry) × (slice_get es j ≡ Some x) × (j < n) × Q (state_of x.0)
 
--- the selections are those of the states that were met
-abbrev pub AreSelectionsOf : Entries → List Selection → Type 0
-AreSelectionsOf es ys = Lists (λ y. IsInSome es (length es) (λ s. selection_of s ≡ y)) ys
+-- the state has the selection, and the minded accent is pending there or not
+abbrev pub HasSelection : Bool → Selection → State → Type 0
+HasSelection is_pending y s = (s.is_pending ≡ is_pending) × (selection_of s ≡ y)
+
+-- the selections are those of the states that were met where it is pending, or where it isn't
+abbrev pub AreSelectionsOf : Bool → Entries → List Selection → Type 0
+AreSelectionsOf is_pending es ys = Lists (λ y. IsInSome es (length es) (HasSelection is_pending y)) ys
 
 -- the usable accent of this key was added
 abbrev pub AddsOffer : Under → State → ℕ → List ℕ → List ℕ → Type 0
@@ -69,22 +73,9 @@ AreUnlocked u states accents =
     (a : ℕ) → Contains accents a
     → (usable u.maps.first a ≡ true) × ((h : Held) × Contains states h × OffersUnlocked u (state_of h) a)
 
--- a path leads to the state along which the accent is offered
-abbrev pub IsBehind : Under → ℕ → State → Type 0
-IsBehind u accent s =
-    (path : List Move) × IsPath u path × IsOfferedAlong u path accent × (state_after u path ≡ s)
-
--- the states are those that were met, below the place, and where the accent is offered
-pub record AreOffering (u : Under) (accent : ℕ) (met : Entries) (place : ℕ) (states : List State) : Type 0 where
-  pub all : (j : ℕ) (x : Entry) → slice_get met j ≡ Some x → j < place → IsOfferedIn u (state_of x.0) accent
-      → Contains states (state_of x.0)
-  pub only : (s : State) → Contains states s → IsInSome met place (λ t. (t ≡ s) × IsOfferedIn u t accent)
-
--- the states are those that moves lead to from where the accent is offered
-abbrev pub AreBehind : Under → ℕ → Entries → Entries → Type 0
-AreBehind u accent met es =
-    (origins : List State) × AreOffering u accent met (length met) origins
-    × Searched u origins es (length es) (length es)
+-- a search that minds the accent met all states that moves lead to
+abbrev pub AreMinded : MapValue → ℕ → Entries → Type 0
+AreMinded m accent es = Searched (minding (alone m) accent) (start ∷ []) es (length es) (length es)
 
 -- the offers are those of the accents
 pub record AreOffersOf (m : MapValue) (accents : List ℕ) (offers : List Offer) : Type 0 where

@@ -10,7 +10,7 @@ use Rattle.console_states.specs.declared.key_lists.CellKind.TheVariants.{Moving,
 
 -- the cell is not of the kind
 abbrev pub IsOther : CellKind → Cell → Type 0
-IsOther Moving x = IsUnmoving x
+IsOther (Moving minded) x = IsUnmoving minded x
 IsOther DeadKey x = (i : ℕ) → x ≢ Act (act.DeadKey i)
 
 -- each key below the number that looks up a cell of the kind in some state is among these

@@ -10,10 +10,13 @@ ghost use Rattle.keymap_core.specs.declared.action.Lock.TheVariants.{Caps, Num, 
 ghost use Rattle.keymap_core.specs.declared.action.Lock.{Lock as LockValue};
 ghost use Rattle.keymap_core.specs.declared.action.Action.TheVariants.{DeadKey, Lock as LockAction};
 ghost use Rattle.keymap_core.specs.declared.entry.Cell.TheVariants.{Act};
-ghost use Rattle.console_states.specs.Moves.{Under, alone, start as start_state, is_held as is_held_in};
-ghost use Rattle.console_states.specs.Moves.{look_in, IsIdle, Takes, key_of as key_of_number, number_of as number_of_key};
+ghost use Rattle.console_states.specs.Moves.{Under, alone, minding, start as start_state, is_held as is_held_in};
+ghost use Rattle.console_states.specs.Moves.{look_in, IsIdle, Takes, key_of as key_of_number};
+ghost use Rattle.console_states.specs.Moves.{number_of as number_of_key};
 ghost use Rattle.console_states.specs.Moves.{map_in, next_map, exchanged as exchanged_in, IsFree, free_with};
 ghost use Rattle.console_states.specs.Moves.{with_holder as with_holder_in, with_lock_turned, HolderForgets};
+ghost use Rattle.console_states.specs.Moves.{with_accent as with_accent_in};
+ghost use Rattle.console_core.specs.Answers.{usable};
 ghost use Rattle.console_states.specs.Moves.{IsForgetful, IsRepeated, IsSteady};
 ghost use Rattle.console_states.specs.Moves.{events_of_move, releases, Holds, IsMove, IsPressOf, moved};
 ghost use Rattle.console_states.specs.declared.held.Move.TheVariants.{Exchange as ExchangeMove};
@@ -21,11 +24,13 @@ ghost use Rattle.console_states.specs.Sights.{selection_of, Offers};
 ghost use Rattle.console_states.specs.AllowedSights.{SeesAllowed};
 ghost use Rattle.console_states.specs.Returning.{IsHome, IsUnlocked, but_scroll, freed};
 ghost use Rattle.console_states.specs.Searching.{state_of, under_of, StepsTo, PressesLead, IsStep};
+ghost use Rattle.console_states.specs.Allowed.{is_pressed};
 ghost use Rattle.console_states.specs.Inner.HeldBytes.{bytes_of, same-bytes};
 
 use super::{Held, Keymaps, Move, Step};
+use crate::allowed::Presses;
 use crate::selection::{Selection, Sight};
-use console_core::{Event, Translator};
+use console_core::{Event, Translator, is_usable};
 use keymap_core::{
     Action, Cell, Holding, KEY_COUNT, KeyCode, KeyMap, Lock, MODIFIERS, Modifier, key_with,
 };
@@ -43,6 +48,21 @@ impl<'m> Keymaps<'m> {
             second: map,
             has_loads: false,
             presses: None,
+            minded: None,
+        }
+    }
+
+    /// A keymap alone, without loads, of which the accent is minded.
+    pub fn minding(map: &'m KeyMap, accent: u8) -> Keymaps<'m>
+        ensures minding { under_of result ≡ minding (alone map.now) accent }
+        ensures first { result.first.now ≡ map.now }
+    {
+        Keymaps {
+            first: map,
+            second: map,
+            has_loads: false,
+            presses: None,
+            minded: Some(accent),
         }
     }
 }
@@ -55,6 +75,10 @@ impl Move {
         match self {
             Move::Hold(key, _) => events.push(Event::Press(key))?,
             Move::Turn(key, _) => {
+                events.push(Event::Press(key))?;
+                events.push(Event::Release(key))?;
+            }
+            Move::Tap(key) => {
                 events.push(Event::Press(key))?;
                 events.push(Event::Release(key))?;
             }
@@ -74,6 +98,7 @@ impl Held {
             holders: [0; 8],
             locks: [false; 4],
             is_second: false,
+            is_pending: false,
         }
     }
 
@@ -91,6 +116,7 @@ impl Held {
                 console.locked(Lock::Alt),
             ],
             is_second: false,
+            is_pending: false,
         }
     }
 
@@ -158,7 +184,23 @@ impl Held {
         next.is_borne(Holding::Lock(lock)) && self.is_locked(lock)
     }
 
-    /// The keymap is in force, and each lock that it doesn't bear is off.
+    /// The accent that is minded is pending.
+    fn with_accent(&self) -> Held
+        ensures { state_of result ≡ with_accent_in (state_of self.now) }
+    {
+        let mut next = *self;
+        next.is_pending = true;
+        next
+    }
+
+    /// Whether the accent that is minded is pending.
+    pub fn is_accent_pending(&self) -> bool
+        ensures { result ≡ (state_of self.now).is_pending }
+    {
+        self.is_pending
+    }
+
+    /// The keymap is in force, each lock that it doesn't bear is off, and no accent is pending.
     fn exchanged(&self, next: &KeyMap) -> Held
         ensures { state_of result ≡ exchanged_in next.now (state_of self.now) }
     {
@@ -171,6 +213,7 @@ impl Held {
         let mut held = *self;
         held.locks = locks;
         held.is_second = !self.is_second;
+        held.is_pending = false;
         held
     }
 
@@ -231,9 +274,17 @@ impl Held {
         ensures { result ≡ (under_of maps.now).allows (selection_of (state_of self.now)) key cell }
     {
         match maps.presses {
-            Some(presses) => presses.has(self.selection(), key, cell),
+            Some(presses) => self.is_among(presses, key, cell),
             None => true,
         }
+    }
+
+    /// Whether the press is one of these. Out of line, so that where none are told it costs nothing.
+    #[inline(never)]
+    fn is_among(&self, presses: &Presses, key: KeyCode, cell: Cell) -> bool
+        ensures { result ≡ is_pressed presses.now (selection_of (state_of self.now)) key cell }
+    {
+        presses.has(self.selection(), key, cell)
     }
 
     /// Whether the key holds a modifier.
@@ -445,6 +496,7 @@ impl Held {
             holders: [0; 8],
             locks: self.locks,
             is_second: self.is_second,
+            is_pending: self.is_pending,
         }
     }
 
@@ -482,7 +534,31 @@ impl Held {
         }
     }
 
-    /// Where a press of the key leads, with its release if it turns a lock, where the press is allowed.
+    /// Where a tap of a dead key leads, if it is a move. Out of line, since few of the keys that are asked have one.
+    #[inline(never)]
+    fn tapped(&self, maps: &Keymaps, key: KeyCode) -> Option<Step>
+        ensures leads { (accent : ℕ) → (under_of maps.now).minded ≡ Some accent
+            → usable maps.now.first.now accent ≡ true → (state_of self.now).is_pending ≡ false
+            → Offers (under_of maps.now) (state_of self.now) key accent
+            → StepsTo result (with_accent_in (state_of self.now)) }
+        ensures step { IfSome result (IsStep (under_of maps.now) (state_of self.now) 1) }
+        ensures key { IfSome result (λ x. IsPressOf key x.by) }
+    {
+        let Some(accent) = self.offered(maps, key) else {
+            return None;
+        };
+        if maps.minded == Some(accent) && !self.is_pending && is_usable(maps.first, accent) {
+            Some(Step {
+                by: Move::Tap(key),
+                to: self.with_accent(),
+            })
+        } else {
+            None
+        }
+    }
+
+    /// Where a press of the key leads, with its release if it turns a lock or is a dead key's, where the press is
+    /// allowed.
     pub fn pressed(&self, maps: &Keymaps, key: KeyCode) -> Option<Step>
         ensures leads { PressesLead (under_of maps.now) (state_of self.now) key (StepsTo result) }
         ensures step { IfSome result (IsStep (under_of maps.now) (state_of self.now) 1) }
@@ -517,6 +593,7 @@ impl Held {
                     None
                 }
             }
+            Cell::Act(Action::DeadKey(_)) => self.tapped(maps, key),
             _ => None,
         }
     }
@@ -581,6 +658,7 @@ impl Hash for Held {
             u8::from(locks[2]),
             u8::from(locks[3]),
             u8::from(self.is_second),
+            u8::from(self.is_pending),
         ]);
     }
 }

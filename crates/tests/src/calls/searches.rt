@@ -10,7 +10,7 @@ use std::alloc::{AllocError, Global};
 fn meets_all<W: Write>(alloc: Global, lent: &Lent, marks: &mut W) -> Outcome {
     let maps = Keymaps::alone(&lent.map);
     mark(marks);
-    let given = meet_all(alloc, &maps, &[Held::start()]);
+    let given = meet_all(alloc, &maps, &Held::start());
     mark(marks);
     ended_keeping(
         &given,
@@ -26,7 +26,7 @@ fn tells_what_is_seen<W: Write>(
     marks: &mut W,
 ) -> Result<Option<Outcome>, AllocError> {
     let maps = Keymaps::alone(&lent.map);
-    let (met, end) = meet_all(alloc, &maps, &[Held::start()])?;
+    let (met, end) = meet_all(alloc, &maps, &Held::start())?;
     let End::Complete = end else {
         return Ok(None);
     };
@@ -46,7 +46,7 @@ fn tells_the_way<W: Write>(
     marks: &mut W,
 ) -> Result<Option<Outcome>, AllocError> {
     let maps = Keymaps::alone(&lent.map);
-    let (met, _) = meet_all(alloc, &maps, &[Held::start()])?;
+    let (met, _) = meet_all(alloc, &maps, &Held::start())?;
     if met.len() < 2 {
         return Ok(None);
     }

@@ -1,13 +1,13 @@
 //! Keymaps that can leave a modifier on while no key is pressed, and keymaps that can't, alone and between loads.
 
-use crate::asserts::{expect_at, expect_equal_at};
+use crate::asserts::{expect_at, expect_equal, expect_equal_at};
 use crate::consoles::console::expect_shown;
 use crate::support::keymaps::{
-    ALT_LOCK_TO_NOTHING, ALT_SHIFT_WITH_TRAP, CAPS_ALONE, CAPS_LOCK_TO_NOTHING,
+    ACCENTS, ALT_LOCK_TO_NOTHING, ALT_SHIFT_WITH_TRAP, CAPS_ALONE, CAPS_LOCK_TO_NOTHING,
     REMEMBERED_BUT_HELD_BY_ANOTHER, SHIFT_WITH_TRAP, STICKS_UNDER_CAPS, WOULD_STICK_UNDER_CAPS,
 };
 use console_core::{Event, PlainConsole, replay};
-use console_states::{Sticking, sticking, sticking_between};
+use console_states::{Held, Keymaps, Sticking, entry, meet_all, sticking, sticking_between};
 use keymap_core::{KeyMap, Lock, Modifier};
 use keymap_text::read_map;
 use std::alloc::Global;
@@ -104,4 +104,20 @@ fn a_lock_of_another_map_lets_a_modifier_stick(rt: HostRuntime) {
         let found = sticking_between(rt.alloc(), &first, &second).expect(&rt, "memory");
         expect_found(&rt, rt.alloc(), (&first, &second), found, wanted);
     }
+}
+
+/// Two keys hold a modifier each, so there are four states, and four more while the acute accent is pending.
+#[test]
+fn an_accent_that_is_minded_is_pending_behind_its_dead_key(rt: HostRuntime) {
+    let map = read_map(rt.alloc(), ACCENTS).expect(&rt, "a map");
+    let maps = Keymaps::minding(&map, 1);
+    let (met, _) = meet_all(rt.alloc(), &maps, &Held::start()).expect(&rt, "memory");
+    let mut pending = 0usize;
+    for place in 0..met.len() {
+        let (held, _) = entry(&met, place);
+        if held.is_accent_pending() {
+            pending = pending.saturating_add(1);
+        }
+    }
+    expect_equal(&rt, (met.len(), pending), (8, 4));
 }

@@ -5,7 +5,7 @@ use Rattle.console_scripts.specs.Inner.Places.{ArePlaces}
 use Rattle.console_scripts.proofs.typed.places_of.Goals as goal
 
 pub explore-requires : goal.explore-requires
-explore-requires c = ap (λ s. s.is_second) c.start.ensures
+explore-requires c = (ap (λ s. s.is_second) c.start.ensures, ap (λ s. s.is_pending) c.start.ensures)
 
 pub returns-then-are_all_marked : goal.returns-then-are_all_marked
 returns-then-are_all_marked c =

@@ -1,5 +1,5 @@
-use Rattle.console_states.proofs.Common.{refl, subst, sym, IsOfferedUnlocked, AreBehind, AreSelectionsOf}
-use Rattle.console_states.proofs.Offering.{composing-all, composing-behind}
+use Rattle.console_states.proofs.Common.{refl, subst, sym, IsOfferedUnlocked, false, AreSelectionsOf}
+use Rattle.console_states.proofs.Offering.{composing-all, composing-pending}
 use Rattle.console_states.proofs.Results.{ok-then}
 use Rattle.console_states.proofs.offers.selections_behind.Goals as goal
 
@@ -11,14 +11,10 @@ returns-then-is_offered_unlocked c =
     (λ v same.
     composing-all m c.args.accent met v.items c.requires.met.1 c.requires.usable
     (subst (λ u. IsOfferedUnlocked u met c.args.accent) c.requires.met.0 (c.if-is_offered_unlocked.ensures refl))
-    (subst (λ z. AreSelectionsOf met z) (sym same) c.requires.all)) c.copied.ensures
+    (subst (λ z. AreSelectionsOf false met z) (sym same) c.requires.all)) c.copied.ensures
 
 pub returns-in_ok-states : goal.returns-in_ok-states
 returns-in_ok-states c =
-    let m = c.args.maps.now.first.now in
-    let met = c.args.met.now.entries in
-    let es = c.in_ok-states.states.entries in
     ok-then c.selections_of.result
-    (λ v are.
-    composing-behind m c.args.accent met es v.items c.requires.met.1
-    (subst (λ u. AreBehind u c.args.accent met es) c.requires.met.0 c.in_ok-states.ensures) are) c.selections_of.ensures
+    (λ v are. composing-pending c.args.maps.now.first.now c.args.accent c.in_ok-states.states.entries v.items
+    c.in_ok-states.ensures are) c.selections_of.ensures

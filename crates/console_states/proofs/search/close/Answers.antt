@@ -31,8 +31,8 @@ returns-after-loop-place-clause-searched c =
     searched-both (under_of c.args.maps.now) es level c.loop-place.place level level level (length es) (omega arith)
     c.loop-place.invariant.after (λ few. (omega arith, search rules)) (c.loop-place.invariant.searched origins s)
 
-pub returns-else-len-le-BOUND-clause-searched : goal.returns-else-len-le-BOUND-clause-searched
-returns-else-len-le-BOUND-clause-searched c =
+pub returns-else-len-bound-clause-searched : goal.returns-else-len-bound-clause-searched
+returns-else-len-bound-clause-searched c =
     λ origins s.
     let es = c.loop-place.met.entries in
     let level = c.args.level in

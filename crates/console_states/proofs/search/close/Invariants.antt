@@ -13,4 +13,4 @@ invariant-loop-place l = record {
 }
 
 abbrev pub decreases-loop-place : goal.decreases-loop-place
-decreases-loop-place l = 65537 - l.place
+decreases-loop-place l = 131073 - l.place

@@ -7,8 +7,8 @@ meet_levels-requires-clause-keys c = rw c.as_slice.ensures.value c.in_ok-keys.en
 
 pub meet_levels-requires-clause-order : goal.meet_levels-requires-clause-order
 meet_levels-requires-clause-order c =
-    (searched-begun (under_of c.args.maps.now) _ _ c.in_ok-met.ensures).1
+    (searched-begun (under_of c.args.maps.now) c.args.from.now _ c.in_ok-met.ensures).1
 
 pub returns : goal.returns
 returns c =
-    c.in_ok-end.ensures _ (searched-begun (under_of c.args.maps.now) _ _ c.in_ok-met.ensures).0
+    c.in_ok-end.ensures _ (searched-begun (under_of c.args.maps.now) c.args.from.now _ c.in_ok-met.ensures).0

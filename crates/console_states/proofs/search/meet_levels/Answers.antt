@@ -1,4 +1,4 @@
-use Rattle.console_states.proofs.Common.{◌≡◌, ◌≤◌, ◌+◌, length, arith, under_of}
+use Rattle.console_states.proofs.Common.{◌≡◌, ◌≤◌, ◌+◌, length, arith, under_of, limit_of}
 use Rattle.console_states.proofs.Growing.{added-longer}
 use Rattle.console_states.proofs.Searching.{order-within, searched-fewer, level-done, closed-done}
 use Rattle.console_states.proofs.Reaching.{met-once}
@@ -29,8 +29,8 @@ returns c =
       is = rw (← e) (s, c.loop-level.invariant.few);
     }
 
-pub returns-then-len-gt-BOUND : goal.returns-then-len-gt-BOUND
-returns-then-len-gt-BOUND c =
+pub returns-then-len-bound : goal.returns-then-len-bound
+returns-then-len-bound c =
     λ origins begun.
     let es = c.close.new.met.entries in
     let u = under_of c.args.maps.now in
@@ -43,21 +43,22 @@ returns-then-len-gt-BOUND c =
       ordered = order.1;
       once = met-once es c.len-in-loop-level.ensures.unique;
       is = (
-        omega (arith, c.if-len-gt-BOUND.true, c.len-in-loop-level.ensures.len),
+        omega (arith, c.if-len-bound.true, c.len-in-loop-level.ensures.len, c.limit-bound.ensures.value),
         order-within es level p order,
         level-done u es level p order s,
       );
     }
 
-pub returns-then-len-gt-BOUND-2 : goal.returns-then-len-gt-BOUND-2
-returns-then-len-gt-BOUND-2 c =
+pub returns-then-len-bound-2 : goal.returns-then-len-bound-2
+returns-then-len-bound-2 c =
     λ origins begun.
     let mid = c.close.new.met.entries in
     let es = c.press.new.met.entries in
     let u = under_of c.args.maps.now in
     let level = c.loop-level.level in
     let p = c.loop-level.presses in
-    let le : length mid ≤ 65536 = omega (arith, c.if-len-gt-BOUND.false, c.len-in-loop-level.ensures.len) in
+    let le : length mid ≤ limit_of u =
+    omega (arith, c.if-len-bound.false, c.len-in-loop-level.ensures.len, c.limit-bound.ensures.value) in
     let closed = (c.in_ok-close.ensures.searched origins (c.loop-level.invariant.searched origins begun)).1 le in
     let s = (c.in_ok-press.ensures.searched origins closed).0 in
     let order = c.in_ok-press.ensures.order in
@@ -66,7 +67,7 @@ returns-then-len-gt-BOUND-2 c =
       ordered = order.1;
       once = met-once es c.len-in-loop-level-2.ensures.unique;
       is = (
-        omega (arith, c.if-len-gt-BOUND-2.true, c.len-in-loop-level-2.ensures.len),
+        omega (arith, c.if-len-bound-2.true, c.len-in-loop-level-2.ensures.len, c.limit-bound.ensures.value),
         order-within es (length mid) (p + 1) order,
         closed-done u mid es level p c.in_ok-close.ensures.order c.in_ok-press.ensures.grown order s,
       );
@@ -76,7 +77,8 @@ pub loop-level-preserved : goal.loop-level-preserved
 loop-level-preserved c =
     let mid = c.close.new.met.entries in
     let es = c.press.new.met.entries in
-    let few : length mid ≤ 65536 = omega (arith, c.if-len-gt-BOUND.false, c.len-in-loop-level.ensures.len) in
+    let few : length mid ≤ limit_of (under_of c.args.maps.now) =
+    omega (arith, c.if-len-bound.false, c.len-in-loop-level.ensures.len, c.limit-bound.ensures.value) in
     let longer : length mid ≤ length es = added-longer mid es c.in_ok-press.ensures.grown in
     let is : c.len-end.result ≡ length mid = c.len-end.ensures.len in
     let before = c.loop-level.invariant in
@@ -85,7 +87,7 @@ loop-level-preserved c =
       searched = λ origins begun.
           rw is ((c.in_ok-press.ensures.searched origins
           ((c.in_ok-close.ensures.searched origins (before.searched origins begun)).1 few)).1
-          (omega (arith, c.if-len-gt-BOUND-2.false, c.len-in-loop-level-2.ensures.len)));
+          (omega (arith, c.if-len-bound-2.false, c.len-in-loop-level-2.ensures.len, c.limit-bound.ensures.value)));
       order = rw is c.in_ok-press.ensures.order;
       below = omega (arith, is, longer);
       levels = omega (arith, is, grown, before.levels, c.loop-level-test.true, c.len.ensures.len);

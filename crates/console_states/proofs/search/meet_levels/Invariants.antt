@@ -1,5 +1,5 @@
 -- the states below the level are pressed and closed, and as many presses lead to the others
-use Rattle.console_states.proofs.Common.{◌≤◌, ◌-◌, List, length, State, under_of, Searched, AreInOrder}
+use Rattle.console_states.proofs.Common.{◌≤◌, ◌-◌, List, length, State, under_of, Searched, AreInOrder, limit_of}
 use Rattle.console_states.proofs.search.meet_levels.Given as goal
 
 abbrev pub invariant-loop-level : goal.invariant-loop-level
@@ -9,8 +9,8 @@ invariant-loop-level l = record {
   order : AreInOrder l.met.entries l.level l.presses;
   below : l.level ≤ length l.met.entries;
   levels : l.presses ≤ l.level;
-  few : l.level ≤ 65536;
+  few : l.level ≤ limit_of (under_of l.maps);
 }
 
 abbrev pub decreases-loop-level : goal.decreases-loop-level
-decreases-loop-level l = 65537 - l.level
+decreases-loop-level l = 131073 - l.level

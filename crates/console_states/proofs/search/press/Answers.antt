@@ -34,8 +34,8 @@ loop-place-preserved c =
       grown = grows-again old es now before.grown (added.0, added.1);
     }
 
-pub returns-then-len-gt-BOUND-clause-searched : goal.returns-then-len-gt-BOUND-clause-searched
-returns-then-len-gt-BOUND-clause-searched c =
+pub returns-then-len-bound-clause-searched : goal.returns-then-len-bound-clause-searched
+returns-then-len-bound-clause-searched c =
     λ origins s.
     let old = length c.args.met.now.entries in
     searched-both (under_of c.args.maps.now) c.loop-place.met.entries c.loop-place.place old c.args.level old old old

@@ -8,7 +8,7 @@ use Rattle.console_states.proofs.sights.sights_in.Goals as goal
 
 pub offers_of-requires-clause-all : goal.offers_of-requires-clause-all
 offers_of-requires-clause-all c =
-    subst (λ z. AreSelectionsOf c.args.met.now.entries z) (sym c.deref.ensures.value) c.in_ok-selections.ensures
+    subst (λ z. AreSelectionsOf false c.args.met.now.entries z) (sym c.deref.ensures.value) c.in_ok-selections.ensures
 
 some-place : (u : Under) (es : Entries) (o : Option KeyAt) → IsFirstStuck u es o → is_some o ≡ true
     → (j k : ℕ) × IsStuck u es j k

@@ -4,7 +4,7 @@ use Rattle.console_scripts.proofs.Visitable.{states-of}
 use Rattle.console_scripts.proofs.explorer.Explorer.new.Goals as goal
 
 pub explore-requires : goal.explore-requires
-explore-requires c = ap (λ s. s.is_second) c.start.ensures
+explore-requires c = (ap (λ s. s.is_second) c.start.ensures, ap (λ s. s.is_pending) c.start.ensures)
 
 pub invariant_of-result : goal.invariant_of-result
 invariant_of-result c =

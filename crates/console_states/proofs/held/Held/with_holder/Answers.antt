@@ -38,4 +38,5 @@ returns c =
     same_states _ _
     (λ j.
     rw (c.index.ensures.value, c.number_of.ensures.value)
-    (holder-at c.args.self.now.holders c.args.modifier j c.args.holder c.args.self.now.holders_len)) (λ l. refl) refl
+    (holder-at c.args.self.now.holders c.args.modifier j c.args.holder c.args.self.now.holders_len)) (λ l. refl)
+    refl refl

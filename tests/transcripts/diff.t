@@ -331,6 +331,31 @@ A pair behind another one with the same base:
   # dacu; listed otherwise
   [1]
 
+What shows by the fewest presses is told, of a cell or of any accent; and of as many presses a cell:
+  $ { all 42 lshift; all 29 lctrl; all 40 dacu; echo "41 nop dgra nop nop nop nop nop nop O"; } > keys
+  $ {
+  >     cat keys
+  >     echo "30 'a' 'a' 'a' 'a' nop nop nop nop O dgra '\`' ( 'a' 224 ) dacu 180 ( 'a' 225 )"
+  > } > one
+  $ {
+  >     cat keys
+  >     echo "30 'a' 'a' 'a' 'b' nop nop nop nop O dgra '\`' ( 'a' 226 ) dacu 180 ( 'a' 226 )"
+  > } > other
+  $ kmap diff one other | grep -v '^# [ts][yl]'
+  # told apart: 'á' -> 'â'
+  # dgra; 'a': 'à' -> 'â'
+  # dacu; 'a': 'á' -> 'â'
+  down 40
+  up 40
+  down 30
+  $ sed "s/ 226 )$/ 225 )/" other > third
+  $ kmap diff one third | grep -v '^# [ts][yl]'
+  # told apart: 'a' -> 'b'
+  # dgra; 'a': 'à' -> 'â'
+  down 29
+  down 42
+  down 30
+
 An old keymap in which shift can stick:
   $ { cat "$examples/trap.kbd"; all 130 nop; } > trap-more
   $ kmap diff "$examples/trap.kbd" trap-more | grep -v '^# last slot'

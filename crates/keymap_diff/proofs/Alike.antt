@@ -8,7 +8,7 @@ use Rattle.keymap_diff.proofs.Common.{sym, ◌∙◌, inl, inr, arith, true≢fa
 use Rattle.keymap_diff.proofs.Common.{Char, Act, Event, Press, Release, Reset, Load, MapValue, answer_release}
 use Rattle.keymap_diff.proofs.Common.{taken_over, on, remembered, pending, look, ResolvedEvent, between, resolved}
 use Rattle.keymap_diff.proofs.Common.{answer_to, answers_to, HasKey, IsNoLoad, State, Follows, presses}
-use Rattle.keymap_diff.proofs.Common.{IsAdmitted, looked_up, AreCellsClear, IsAccentClear, MakesSame}
+use Rattle.keymap_diff.proofs.Common.{IsAdmitted, looked_up, AreClear, MakesSame, Option, true}
 use Rattle.keymap_diff.proofs.Common.{ShowsNothing, IsAnsweredAlike}
 use Rattle.keymap_diff.specs.Telling.{AnswersAreSame}
 use Rattle.keymap_diff.proofs.Reached.{stands-by, pends-by}
@@ -44,54 +44,53 @@ press-event m n h s k alike f nothing compose =
 -- where an accent is pending and the console stands in a state, a press of a key that shows nothing there composes
 -- alike
 composes-there : (m n : MapValue) (r : List ResolvedEvent) (s : State) (k i : ℕ) → Follows r s
-    → ShowsNothing m n (Some i) s k
+    → ShowsNothing m n (Some i) s k → s.is_pending ≡ true
     → ((c : ℕ) → look m r k ≡ Char c → MakesSame m n i c)
     × ((a : Action) → look m r k ≡ Act a → taken_over (remembered k r) a ≡ act.DeadKey i → MakesSame m n i 32)
-composes-there m n r s k i f nothing =
+composes-there m n r s k i f nothing on =
     let seen : look m r k ≡ looked_up m s k = look-is m r s k f in (
-      (λ c e. nothing c (inl (sym seen ∙ e))),
+      (λ c e. nothing on c (inl (sym seen ∙ e))),
       (λ a e taken.
           let (same, free) = taken-dead (remembered k r) a i taken in
-          nothing 32 (inr ((λ j holds. free j (f.holds j k holds)), sym seen ∙ e ∙ ap (λ z. Act z) same, refl))),
+          nothing on 32 (inr ((λ j holds. free j (f.holds j k holds)), sym seen ∙ e ∙ ap (λ z. Act z) same, refl))),
     )
 
 -- Where fewer than b presses show nothing, whatever list of at most b presses comes: the consoles stay alike, and
 -- answer alike.
 pub below : (m n : MapValue) (forgets : Bool) (b : ℕ) → (forgets ≡ false → NeverForgetsBelow m b)
-    → AreCellsClear m n b → ((i : ℕ) → IsAccentClear m n i b) → (h : List Event) → IsWithinReach m forgets b h
+    → ((p : Option ℕ) → AreClear m n p b) → (h : List Event) → IsWithinReach m forgets b h
     → AlikeAfter m n h × IsAnsweredAlike m n h
-below m n forgets b never cells accents [] given =
+below m n forgets b never clear [] given =
     (rw (resolved-start (between m m), resolved-start (between n n)) (alike-start m n), tt)
-below m n forgets b never cells accents (Press k ∷ h) given =
+below m n forgets b never clear (Press k ∷ h) given =
     let r : List ResolvedEvent = resolved (between m m) h in
     let lt : presses h < b = omega (arith, given.1) in
     let key : k < 128 = All-head HasKey (Press k) h given.0.0 in
     let before : IsWithinReach m forgets b h = reach-before m forgets b (Press k) h given in
-    let (alike, answered) = below m n forgets b never cells accents h before in
+    let (alike, answered) = below m n forgets b never clear h before in
     let (s, (path, is, few, leads), f) = stands-by m forgets b h never before in
     let nothing : ShowsNothing m n None s k =
-    subst (λ t. ShowsNothing m n None t k) leads (cells path is (omega (arith, few, lt)) k key) in
+    subst (λ t. ShowsNothing m n None t k) leads (clear None path is (omega (arith, few, lt)) k key) in
     let composes : (i : ℕ) → pending m r ≡ Some i
     → ((c : ℕ) → look m r k ≡ Char c → MakesSame m n i c)
     × ((a : Action) → look m r k ≡ Act a → taken_over (remembered k r) a ≡ act.DeadKey i → MakesSame m n i 32) =
     λ i e.
-    let (t, (first, later, made, offered, on, count, to), g) = pends-by m forgets b h i never before e in
+    let (t, (path, made, count, to), on, g) = pends-by m forgets b h i never before e in
     composes-there m n r t k i g
-    (subst (λ z. ShowsNothing m n (Some i) z k) to
-    (accents i first later made offered on (omega (arith, count, lt)) k key)) in
+    (subst (λ z. ShowsNothing m n (Some i) z k) to (clear (Some i) path made (omega (arith, count, lt)) k key)) on in
     press-event m n h s k alike f nothing
     ((λ c seen i e. (composes i e).0 c seen), (λ a seen i taken e. (composes i e).1 a seen taken))
-below m n forgets b never cells accents (Release k ∷ h) given =
+below m n forgets b never clear (Release k ∷ h) given =
     let (alike, answered) =
-    below m n forgets b never cells accents h (reach-before m forgets b (Release k) h given) in (
+    below m n forgets b never clear h (reach-before m forgets b (Release k) h given) in (
       rw (resolved-more (between m m) h (Release k), resolved-more (between n n) h (Release k))
           (alike-release m n (resolved (between m m) h) (resolved (between n n) h) k alike),
       ap answer_release (alike.remembered k),
     )
-below m n forgets b never cells accents (Reset ∷ h) given =
-    let (alike, answered) = below m n forgets b never cells accents h (reach-before m forgets b Reset h given) in
+below m n forgets b never clear (Reset ∷ h) given =
+    let (alike, answered) = below m n forgets b never clear h (reach-before m forgets b Reset h given) in
     search (rules, resolved-more, alike-reset)
-below m n forgets b never cells accents (Load ∷ h) given =
+below m n forgets b never clear (Load ∷ h) given =
     absurd (true≢false (All-head IsNoLoad Load h given.0.1))
 
 -- what the consoles keep is the same

@@ -1,39 +1,43 @@
 -- What a search met tells of all paths: where a press shows nothing in what it met, none does where fewer presses lead
 -- than to where something shows or the search gave up.
 use Rattle.std.proofs.Common.{rules}
-use Rattle.keymap_diff.proofs.Common.{zero, suc, ◌≡◌, ℕ, ◌+◌, ◌<◌, ◌≤◌, List, [], ◌∷◌, length, slice_get, Option, Some}
-use Rattle.keymap_diff.proofs.Common.{None, refl, subst, sym, arith, slice_get_within, Contains}
-use Rattle.keymap_diff.proofs.Common.{MapValue, Move, End, TooMany, Complete, alone, State, start, IsPath}
-use Rattle.keymap_diff.proofs.Common.{IsPathFrom, state_from, state_after, presses_along, state_of, Entry}
-use Rattle.keymap_diff.proofs.Common.{Entries, IsTrail, AreDone, HasEnded, NoneShows, ShowsNothing}
-use Rattle.keymap_diff.proofs.Common.{AreCellsClear, IsAccentClear, IsOfferedIn, Under}
-use Rattle.keymap_diff.specs.Inner.Searches.{AreNear, IsClearBehind, IsReach, IsSearched, IsWithin}
+use Rattle.keymap_diff.proofs.Common.{◌≡◌, ℕ, ◌+◌, ◌<◌, ◌≤◌, true, inl, inr, [], ◌∷◌, length, slice_get, Option, Some}
+use Rattle.keymap_diff.proofs.Common.{None, subst, sym, arith, cases_lt, slice_get_within, MapValue, usable, End}
+use Rattle.keymap_diff.proofs.Common.{TooMany, Complete, start, state_of, Entry, Entries, AreDone, HasEnded, NoneShows}
+use Rattle.keymap_diff.proofs.Common.{AreClear, IfSome, State, Under, alone_minding}
+use Rattle.keymap_diff.proofs.Minding.{unusable-clear}
+use Rattle.keymap_diff.specs.Inner.Searches.{IsNearest, IsNearestBelow, IsReach, IsSearched, IsWithin}
 use Rattle.keymap_diff.specs.Inner.Showing.{IsFirstShown}
 use Rattle.keymap_diff.specs.declared.searched.Searched.{Searched}
-use Rattle.console_states.specs.Looks.{HoldsNearer}
 use Rattle.console_states.specs.declared.look.KeyAt.{KeyAt}
-use Rattle.console_states.specs.Searching.{Searched as SearchedStates, AreOrdered}
-use Rattle.console_states.proofs.Shared.{all-done, below-fewer, holds-nearer, met-along}
+use Rattle.console_states.specs.Searching.{AreOrdered}
+use Rattle.console_states.proofs.Shared.{all-done, below-fewer, holds-nearer, place_last, start-one}
 
--- no more presses lead to a place than stand before it
-trail-few : (es : Entries) (j : ℕ) (path : List Move) → IsTrail es j path → presses_along path ≤ j
-trail-few es j [] is = omega arith
-trail-few es j (move ∷ path) (x, parent, at, last, lt, is) =
-    search (rules, trail-few es parent path is)
+-- the place where something shows
+pub shown-place : (m n : MapValue) (p : Option ℕ) (es : Entries) (shown : Option KeyAt) → IsFirstShown m n p es shown
+    → (at : KeyAt) → shown ≡ Some at → at.place < length es
+shown-place m n p es shown s at e =
+    let look = subst (λ o. IsFirstShown m n p es o) e s in
+    let (y, there, k) = look.is.0 in slice_get_within es at.place y there
 
-pub presses-few : {os : List State} (u : Under) (es : Entries) (a b j : ℕ) (x : Entry) → SearchedStates u os es a b
-    → slice_get es j ≡ Some x → x.1.presses ≤ j
-presses-few u es a b j x s at =
-    let (o, has, r) = s.reached j x at in let le = trail-few es j r.0 r.1 in omega (arith, le, r.4)
+-- what a search from the start found
+pub searched-from : (m n : MapValue) (u : Under) (s : State) (x : Searched) → u ≡ alone_minding m x.minded → s ≡ start
+    → (end : End) → HasEnded u (s ∷ []) x.met.entries end → IsReach x.met.entries end x.shown x.reach
+    → IsFirstShown m n x.minded x.met.entries x.shown → IsSearched m n x
+searched-from m n u s x is from end ended reach shown = record {
+  end = end;
+  ended = rw (← is, ← from) ended;
+  reach = reach;
+  shown = shown;
+}
 
 -- within the reach all is done
-pub reach-done : (m : MapValue) (os : List State) (es : Entries) (end : End) (shown : Option KeyAt) (reach : Option ℕ)
-    → HasEnded (alone m) os es end → IsReach es end shown reach → (b : ℕ) → IsWithin b reach
-    → AreDone (alone m) es b
-reach-done m os es Complete shown reach ended is b within = all-done (alone m) es ended.is.0 b
-reach-done m os es (TooMany p) None reach ended (q, same, (x, at, e)) b within = search rules
-reach-done m os es (TooMany p) (Some shown) reach ended (q, same, (x, at, e)) b within =
-    search rules
+pub reach-done : (m : MapValue) (p : Option ℕ) (es : Entries) (end : End) (shown : Option KeyAt) (reach : Option ℕ)
+    → HasEnded (alone_minding m p) (start ∷ []) es end → IsReach es end shown reach → (b : ℕ) → IsWithin b reach
+    → AreDone (alone_minding m p) es b
+reach-done m p es Complete shown reach ended is b within = all-done (alone_minding m p) es ended.is.0 b
+reach-done m p es (TooMany q) None reach ended same b within = search rules
+reach-done m p es (TooMany q) (Some shown) reach ended (r, same, (x, at, e)) b within = search rules
 
 -- and in what was met by fewer presses no key shows anything
 reach-none : (m n : MapValue) (p : Option ℕ) (es : Entries) (end : End) (shown : Option KeyAt) (reach : Option ℕ)
@@ -46,48 +50,48 @@ reach-none m n p es end (Some shown) reach ordered (q, same, (y, there, e)) look
     (omega (arith, lt, le, e))
 
 -- so none does where fewer presses lead
-pub searched-clear : (m n : MapValue) (os : List State) (p : Option ℕ) (x : Searched) → IsSearched m n os p x → (b : ℕ)
-    → IsWithin b x.reach → (o : State) → Contains os o → HoldsNearer (alone m) o (NoneShows m n p) b
-searched-clear m n os None x s b within o has =
-    holds-nearer (alone m) x.met.entries b
-    (reach-done m os x.met.entries x.end x.shown x.reach s.ended s.reach b within) (NoneShows m n None)
-    (reach-none m n None x.met.entries x.end x.shown x.reach s.ended.ordered s.reach s.shown b within) o
-    (s.ended.searched.start o has)
-searched-clear m n os (Some i) x s b within o has =
-    holds-nearer (alone m) x.met.entries b
-    (reach-done m os x.met.entries x.end x.shown x.reach s.ended s.reach b within) (NoneShows m n (Some i))
-    (reach-none m n (Some i) x.met.entries x.end x.shown x.reach s.ended.ordered s.reach s.shown b within) o
-    (s.ended.searched.start o has)
+pub searched-clear : (m n : MapValue) (x : Searched) → IsSearched m n x → (b : ℕ) → IsWithin b x.reach
+    → AreClear m n x.minded b
+searched-clear m n x s b within =
+    holds-nearer (alone_minding m x.minded) x.met.entries b
+    (reach-done m x.minded x.met.entries s.end x.shown x.reach s.ended s.reach b within) (NoneShows m n x.minded)
+    (reach-none m n x.minded x.met.entries s.end x.shown x.reach s.ended.ordered s.reach s.shown b within) start
+    (start-one s.ended.searched)
 
--- where fewer presses lead from the start was met
-pub searched-near : (m n : MapValue) (x : Searched) → IsSearched m n (start ∷ []) None x → (b : ℕ)
-    → IsWithin b x.reach → AreNear m x.met.entries b
-searched-near m n x s b within path is lt =
-    let es : Entries = x.met.entries in
-    let done = reach-done m (start ∷ []) es x.end x.shown x.reach s.ended s.reach b within in
-    let (j, y, at, same, le) =
-    met-along (alone m) es b done 0 (presses_along path) start (s.ended.searched.start start (0, omega arith, refl))
-    path is (omega arith) lt in
-    (j, y, at, le, same)
+-- ---- the nearest
 
-pub searched-cells : (m n : MapValue) (x : Searched) → IsSearched m n (start ∷ []) None x → (b : ℕ)
-    → IsWithin b x.reach → AreCellsClear m n b
-searched-cells m n x s b within = searched-clear m n (start ∷ []) None x s b within start (0, omega arith, refl)
+-- the search that minds no accent, before others are counted in
+pub nearest-first : (m n : MapValue) (x : Searched) → IsSearched m n x → x.minded ≡ None → IsNearestBelow m n 0 x
+nearest-first m n x s none = (s, by)
+  where
+    by : (p : Option ℕ) → IfSome p (λ i. i < 0) → (b : ℕ) → IsWithin b x.reach → AreClear m n p b
+    by None below b within = subst (λ o. AreClear m n o b) none (searched-clear m n x s b within)
+    by (Some i) below b within = absurd (omega (arith, below))
 
--- ---- from the places that offer an accent
+-- one accent more
+pub nearest-more : (m n : MapValue) (i : ℕ) (x y : Searched) → IsNearestBelow m n i x → IsSearched m n y
+    → ((b : ℕ) → IsWithin b y.reach → IsWithin b x.reach × AreClear m n (Some i) b) → IsNearestBelow m n (i + 1) y
+nearest-more m n i x y before s more = (s, by)
+  where
+    by : (p : Option ℕ) → IfSome p (λ j. j < i + 1) → (b : ℕ) → IsWithin b y.reach → AreClear m n p b
+    by None below b within = before.1 None tt b (more b within).0
+    by (Some j) below b within = elim (place_last j i below) [
+      | inl lt ↦ before.1 (Some j) lt b (more b within).0
+      | inr e ↦ subst (λ z. AreClear m n (Some z) b) (sym e) (more b within).1
+    ]
 
--- where all places that offer the accent are clear, so are all paths by a tap of its dead key
-pub behind-clear : (m n : MapValue) (i : ℕ) (es : Entries) (b : ℕ) → ((c : ℕ) → c + 1 ≤ b → AreNear m es c)
-    → IsClearBehind m n i es 0 (length es) b → IsAccentClear m n i b
-behind-clear m n i es b near clear before later made offered is lt k key =
-    let (j, x, at, le, e) = near (presses_along before + 1) (omega (arith, lt)) before made (omega arith) in
-    subst (λ z. ShowsNothing m n (Some i) (state_from (alone m) z later) k) e
-    (clear j x at (omega arith) (slice_get_within es j x at)
-    (subst (λ z. IsOfferedIn (alone m) z i) (sym e) offered) later
-    (subst (λ z. IsPathFrom (alone m) z later) (sym e) is) (omega (arith, lt, le)) k key)
+-- an accent past the last one can't be used
+past-unusable : (m : MapValue) (i : ℕ) → length m.accents ≤ i → usable m i ≡ true → ⊥
+past-unusable m i past is = search (rules, slice_get_within)
 
--- a path of no press leads to the start
-pub start-reached : {m : MapValue} (o : State) → Contains (start ∷ []) o
-    → (path : List Move) × IsPath (alone m) path × (presses_along path ≤ 0) × (state_after (alone m) path ≡ o)
-start-reached o (zero, lt, is) = ([], tt, omega arith, is)
-start-reached o (suc k, lt, is) = absurd (omega (arith, lt))
+-- all accents that the map has
+pub nearest-all : (m n : MapValue) (k : ℕ) (x : Searched) → length m.accents ≤ k → IsNearestBelow m n k x
+    → IsNearest m n x
+nearest-all m n k x all before = (before.0, by)
+  where
+    by : (p : Option ℕ) (b : ℕ) → IsWithin b x.reach → AreClear m n p b
+    by None b within = before.1 None tt b within
+    by (Some i) b within = elim (cases_lt i k) [
+      | inl lt ↦ before.1 (Some i) lt b within
+      | inr past ↦ unusable-clear m n i b (past-unusable m i (omega (arith, past, all)))
+    ]

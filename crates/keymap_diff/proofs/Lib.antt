@@ -9,7 +9,7 @@ pub mod Ending
 pub mod Known
 pub mod LastEvents
 pub mod Marks
-pub mod Offers
+pub mod Minding
 pub mod OneEvent
 pub mod Pushing
 pub mod Reached

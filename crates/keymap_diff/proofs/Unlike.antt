@@ -8,17 +8,16 @@ use Rattle.keymap_diff.proofs.Common.{LetGo, Exchange, MapValue, accent_at, comp
 use Rattle.keymap_diff.proofs.Common.{answer_action, answer_release, answer_dead_key, char_or_error, unless_nop}
 use Rattle.keymap_diff.proofs.Common.{taken_over, on, remembered, pending, resolve_press, answer_resolved}
 use Rattle.keymap_diff.proofs.Common.{ResolvedEvent, between, resolved, answer_to, alone, State, IsIdle, IsPath}
-use Rattle.keymap_diff.proofs.Common.{Holds, IsMove, with_holder, with_lock_turned}
-use Rattle.keymap_diff.proofs.Common.{IsPathFrom, look_in, start, state_after, state_from}
+use Rattle.keymap_diff.proofs.Common.{IsMove, moved, presses_of, events_of_move, look_in, start, state_after, Tap}
 use Rattle.keymap_diff.proofs.Common.{presses_along, events_along, Stands, false≢true, TellsApart, looked_up}
-use Rattle.keymap_diff.proofs.Common.{◌<◌, NoneShows, AreCellsAlike, AreCellsClear, Gives, IsUnnoticed, Shows}
-use Rattle.keymap_diff.proofs.Common.{ShowsNothing}
+use Rattle.keymap_diff.proofs.Common.{NoneShows, AreCellsAlike, Gives, IsUnnoticed, Shows, ShowsNothing, IfSome}
+use Rattle.keymap_diff.proofs.Common.{append-nil, append_assoc, if◌then◌else◌, alone_minding, with_accent, HoldsNearer, same_Some}
 use Rattle.console_core.specs.declared.event.Answer.TheVariants as answer
 use Rattle.keymap_diff.proofs.OneEvent.{look-is, own-composed, press-answered, press-resolved}
 use Rattle.console_core.proofs.Shared.{one_map, pending-start, remembered-action, remembered-character}
 use Rattle.console_core.proofs.Shared.{resolved-start}
-use Rattle.console_states.proofs.Shared.{IsShort, idle-none, pending-along, short-along, short-start}
-use Rattle.console_states.proofs.Shared.{stands-from, stands-start}
+use Rattle.console_states.proofs.Shared.{IsShort, idle-none, minded-along, minded-stands, pending-move, short-along}
+use Rattle.console_states.proofs.Shared.{short-start, short-tap, stands-move, stands-start}
 use Rattle.keymap_core.specs.declared.action.Action.TheVariants as act
 
 -- ---- by the cells that the key looks up
@@ -93,12 +92,20 @@ made-same b d (Some c) (Some e) p =
 
 -- ---- behind a list of events
 
--- both consoles stand in the state after the list, and the same is pending
-pub record Placed (m n : MapValue) (h : List Event) (s : State) (p : Option ℕ) : Type 0 where
+-- what is pending in a state, of the accent that is minded
+abbrev pub pending_in : Option ℕ → State → Option ℕ
+pending_in p s = if s.is_pending then p else None
+
+pub none-pending : (s : State) → pending_in None s ≡ None
+none-pending s = search (rules, cases_Bool)
+
+-- Both consoles stand in the state after the list, and the same is pending: an accent that can be used under both.
+pub record Placed (m n : MapValue) (p : Option ℕ) (h : List Event) (s : State) : Type 0 where
   pub first : IsShort m h s
   pub second : Stands (alone n) h s
-  pub first_pending : pending m (resolved (between m m) h) ≡ p
-  pub second_pending : pending n (resolved (between n n) h) ≡ p
+  pub first_pending : pending m (resolved (between m m) h) ≡ pending_in p s
+  pub second_pending : pending n (resolved (between n n) h) ≡ pending_in p s
+  pub usable_in : s.is_pending ≡ true → IfSome p (λ i. (usable m i ≡ true) × (usable n i ≡ true))
 
 -- the answers to a press and to the release behind it
 press-cell : (m : MapValue) (h : List Event) (s : State) (k : ℕ) (p : Option ℕ) (o : Option Action)
@@ -117,7 +124,7 @@ abbrev pub IsPressAnsweredAlike : MapValue → MapValue → List Event → ℕ �
 IsPressAnsweredAlike m n h k = answer_to (between m m) h (Press k) ≡ answer_to (between n n) h (Press k)
 
 -- a key that shows something where no accent is pending: if its press is answered alike, its release isn't
-pub told-cells : (m n : MapValue) (h : List Event) (s : State) (k : ℕ) → Placed m n h s None → Shows m n None s k
+pub told-cells : (m n : MapValue) (h : List Event) (s : State) (k : ℕ) → Placed m n None h s → Shows m n None s k
     → IsPressAnsweredAlike m n h k → TellsApart m n (Release k ∷ Press k ∷ h)
 told-cells m n h s k x (unlike, inl idle) same released =
     let rem : remembered k (resolved (between m m) h) ≡ None =
@@ -125,14 +132,15 @@ told-cells m n h s k x (unlike, inl idle) same released =
     let rem_too : remembered k (resolved (between n n) h) ≡ None =
     idle-none (resolved (between n n) h) s k x.second.exact idle in
     unlike (idle-cells m n _ _ (looked_up m s k) (looked_up n s k)
-    (sym (press-cell m h s k None None x.first.stands x.first_pending rem) ∙ same
-    ∙ press-cell n h s k None None x.second x.second_pending rem_too)
+    (sym (press-cell m h s k None None x.first.stands (x.first_pending ∙ none-pending s) rem) ∙ same
+    ∙ press-cell n h s k None None x.second (x.second_pending ∙ none-pending s) rem_too)
     (sym (release-cell m h s k None x.first.stands rem) ∙ released ∙ release-cell n h s k None x.second rem_too))
 told-cells m n h s k x (unlike, inr (i, holds, noticed)) same released =
     elim (held-cells m n _ _ i (looked_up m s k) (looked_up n s k)
-    (sym (press-cell m h s k None (Some (act.Mod i)) x.first.stands x.first_pending
+    (sym (press-cell m h s k None (Some (act.Mod i)) x.first.stands (x.first_pending ∙ none-pending s)
     (x.first.stands.exact.follows.holds i k holds)) ∙ same
-    ∙ press-cell n h s k None (Some (act.Mod i)) x.second x.second_pending (x.second.exact.follows.holds i k holds))) [
+    ∙ press-cell n h s k None (Some (act.Mod i)) x.second (x.second_pending ∙ none-pending s)
+    (x.second.exact.follows.holds i k holds))) [
       | inl alike ↦ unlike alike
       | inr (u, v) ↦ noticed u v
     ]
@@ -156,12 +164,13 @@ gives-too m n s k i c (inr (j, holds, u, v)) (inl seen) = absurd (subst (λ z. I
 gives-too m n s k i c (inr (j, holds, u, v)) (inr (idle, seen, blank)) = absurd (idle j holds)
 
 -- a key that shows something while an accent is pending: its press isn't answered alike
-pub told-accent : (m n : MapValue) (h : List Event) (s : State) (k i : ℕ) → Placed m n h s (Some i) → usable m i ≡ true
-    → usable n i ≡ true → ShowsNothing m n None s k → Shows m n (Some i) s k → IsPressAnsweredAlike m n h k → ⊥
-told-accent m n h s k i x can can_too nothing (c, gives, unlike) same =
+pub told-accent : (m n : MapValue) (h : List Event) (s : State) (k i : ℕ) → Placed m n (Some i) h s
+    → ShowsNothing m n None s k → Shows m n (Some i) s k → IsPressAnsweredAlike m n h k → ⊥
+told-accent m n h s k i x nothing (on, (c, gives, unlike)) same =
+    let (can, can_too) = x.usable_in on in
     unlike (made-same _ _ (composed_by (accent_at m i) c) (composed_by (accent_at n i) c)
-    (sym (press-made m h s k i c x.first.stands can x.first_pending gives) ∙ same
-    ∙ press-made n h s k i c x.second can_too x.second_pending (gives-too m n s k i c nothing gives)))
+    (sym (press-made m h s k i c x.first.stands can (x.first_pending ∙ rw on refl) gives) ∙ same
+    ∙ press-made n h s k i c x.second can_too (x.second_pending ∙ rw on refl) (gives-too m n s k i c nothing gives)))
 
 -- ---- along a path
 
@@ -175,53 +184,85 @@ idle-look : (m n : MapValue) (s : State) (k : ℕ) (x : Cell) → IsIdle s k →
 idle-look m n s k x idle (inl (same, usably)) seen = look-in n s k ∙ sym same ∙ sym (look-in m s k) ∙ seen
 idle-look m n s k x idle (inr (i, holds, u, v)) seen = absurd (idle i holds)
 
--- where fewer presses show nothing, a path is one under both keymaps
-pub path-too : (m n : MapValue) (s : State) (b : ℕ)
-    → ((path : List Move) → IsPathFrom (alone m) s path → presses_along path < b
-    → NoneShows m n None (state_from (alone m) s path))
-    → (path : List Move) → IsPathFrom (alone m) s path → presses_along path ≤ b
-    → IsPathFrom (alone n) s path × (state_from (alone n) s path ≡ state_from (alone m) s path)
-path-too m n s b clear [] is le = (tt, refl)
-path-too m n s b clear (Hold k i ∷ path) is le =
-    let (too, same) = path-too m n s b clear path is.1 (omega (arith, le)) in
-    let ((lt, idle, (seen, may)), free) = is.0 in
-    let still = clear path is.1 (omega (arith, le)) k lt in
-    let looks = idle-look m n (state_from (alone m) s path) k _ idle still seen in (
-      (subst (λ t. IsMove (alone n) t (Hold k i)) (sym same) ((lt, idle, (looks, refl)), free), too),
-      ap (λ t. with_holder t i (Some k)) same,
-    )
-path-too m n s b clear (Turn k l ∷ path) is le =
-    let (too, same) = path-too m n s b clear path is.1 (omega (arith, le)) in
-    let ((lt, idle, (seen, may)), other) = is.0 in
-    let still = clear path is.1 (omega (arith, le)) k lt in
-    let looks = idle-look m n (state_from (alone m) s path) k _ idle still seen in (
-      (subst (λ t. IsMove (alone n) t (Turn k l)) (sym same) ((lt, idle, (looks, refl)), other), too),
-      ap (λ t. with_lock_turned t l) same,
-    )
-path-too m n s b clear (LetGo k i ∷ path) is le =
-    let (too, same) = path-too m n s b clear path is.1 (omega (arith, le)) in
-    ((subst (λ t. Holds t k i) (sym same) is.0, too), ap (λ t. with_holder t i None) same)
-path-too m n s b clear (Exchange ∷ path) is le = absurd (false≢true is.0.1)
-
-placed-start : (m n : MapValue) → Placed m n [] start None
-placed-start m n = search (rules, short-start, stands-start, resolved-start, pending-start)
-
--- a path under both keeps what is pending
-pub placed-along : (m n : MapValue) (h : List Event) (s : State) (p : Option ℕ) (path : List Move) → Placed m n h s p
-    → IsPathFrom (alone m) s path → IsPathFrom (alone n) s path
-    → state_from (alone n) s path ≡ state_from (alone m) s path
-    → Placed m n (events_along path ++ h) (state_from (alone m) s path) p
-placed-along m n h s p path x is too same = record {
-  first = short-along m h s path x.first is;
-  second =
-      subst (λ t. Stands (alone n) (events_along path ++ h) t) same (stands-from (alone n) h s path x.second too);
-  first_pending = pending-along m h s path x.first.stands is ∙ x.first_pending;
-  second_pending = pending-along n h s path x.second too ∙ x.second_pending;
+pub placed-start : (m n : MapValue) (p : Option ℕ) → Placed m n p [] start
+placed-start m n p = record {
+  first = short-start m;
+  second = stands-start (alone n);
+  first_pending = rw (resolved-start (between m m)) (pending-start m);
+  second_pending = rw (resolved-start (between n n)) (pending-start n);
+  usable_in = λ on. absurd (false≢true on);
 }
 
--- so does the way from the start
-pub placed-path : (m n : MapValue) (b : ℕ) (path : List Move) → AreCellsClear m n b → IsPath (alone m) path
-    → presses_along path ≤ b → Placed m n (events_along path ++ []) (state_after (alone m) path) None
-placed-path m n b path clear is le =
-    let (too, same) = path-too m n start b clear path is le in
-    placed-along m n [] start None path (placed-start m n) is too same
+-- a move under both that keeps what is pending
+placed-kept : (m n : MapValue) (p : Option ℕ) (h : List Event) (s : State) (move : Move) → Placed m n p h s
+    → IsMove (alone m) s move → IsMove (alone n) s move → moved (alone n) s move ≡ moved (alone m) s move
+    → (moved (alone m) s move).is_pending ≡ s.is_pending
+    → Placed m n p (events_of_move move ++ h) (moved (alone m) s move)
+placed-kept m n p h s move x is too same still = record {
+  first =
+      subst (λ es. IsShort m (es ++ h) (moved (alone m) s move)) (append-nil (events_of_move move))
+      (short-along m h s (move ∷ []) x.first (is, tt));
+  second = subst (λ t. Stands (alone n) (events_of_move move ++ h) t) same (stands-move (alone n) h s move too x.second);
+  first_pending = pending-move m h s move is x.first.stands ∙ x.first_pending
+      ∙ ap (λ b. if b then p else None) (sym still);
+  second_pending = pending-move n h s move too x.second ∙ x.second_pending
+      ∙ ap (λ b. if b then p else None) (sym still);
+  usable_in = λ on. x.usable_in (sym still ∙ on);
+}
+
+-- an idle key that shows nothing looks up the dead key under both, which can be used under both
+dead-too : (m n : MapValue) (s : State) (d i : ℕ) → ShowsNothing m n None s d → IsIdle s d
+    → look_in (alone m) s d ≡ Act (act.DeadKey i) → usable m i ≡ true
+    → (look_in (alone n) s d ≡ Act (act.DeadKey i)) × (usable n i ≡ true)
+dead-too m n s d i (inl (same, usably)) idle seen can = search (rules, look-in)
+dead-too m n s d i (inr (j, holds, u, v)) idle seen can = absurd (idle j holds)
+
+-- a tap of the dead key that is minded
+placed-tapped : (m n : MapValue) (h : List Event) (s : State) (d i : ℕ) → Placed m n (Some i) h s
+    → IsMove (alone_minding m (Some i)) s (Tap d) → IsMove (alone_minding n (Some i)) s (Tap d)
+    → Placed m n (Some i) (Release d ∷ Press d ∷ h) (with_accent s)
+placed-tapped m n h s d i x is too = record {
+  first = record {
+    stands = minded-stands m i h s (Tap d ∷ []) x.first.stands (is, tt);
+    plain = (short-tap m h s d is.0 x.first is.3.0 is.3.1 is.3.2.0).plain;
+  };
+  second = minded-stands n i h s (Tap d ∷ []) x.second (too, tt);
+  first_pending = minded-along m i h s (Tap d ∷ []) x.first.stands (is, tt) x.first_pending;
+  second_pending = minded-along n i h s (Tap d ∷ []) x.second (too, tt) x.second_pending;
+  usable_in = λ on. (
+    subst (λ z. usable m z ≡ true) (sym (same_Some i is.0 is.1)) is.2,
+    subst (λ z. usable n z ≡ true) (sym (same_Some i too.0 too.1)) too.2,
+  );
+}
+
+-- A move that minds the accent, where nothing shows while none is.
+placed-moved : (m n : MapValue) (p : Option ℕ) (h : List Event) (s : State) (move : Move) → Placed m n p h s
+    → IsMove (alone_minding m p) s move → (presses_of move ≡ 1 → NoneShows m n None s)
+    → Placed m n p (events_of_move move ++ h) (moved (alone_minding m p) s move)
+placed-moved m n p h s (Hold k i) x is none =
+    let ((lt, idle, (seen, may)), free) = is in
+    placed-kept m n p h s (Hold k i) x is ((lt, idle, (idle-look m n s k _ idle (none refl k lt) seen, refl)), free) refl
+    refl
+placed-moved m n p h s (Turn k l) x is none =
+    let ((lt, idle, (seen, may)), other) = is in
+    placed-kept m n p h s (Turn k l) x is ((lt, idle, (idle-look m n s k _ idle (none refl k lt) seen, refl)), other)
+    refl refl
+placed-moved m n p h s (LetGo k i) x is none = placed-kept m n p h s (LetGo k i) x is is refl refl
+placed-moved m n p h s (Tap k) x (i, minds, can, (lt, idle, (seen, may)), off) none =
+    let (seen_too, can_too) = dead-too m n s k i (none refl k lt) idle seen can in
+    subst (λ o. Placed m n o (Release k ∷ Press k ∷ h) (with_accent s)) (sym minds)
+    (placed-tapped m n h s k i (subst (λ o. Placed m n o h s) minds x)
+    (i, refl, can, (lt, idle, (seen, may)), off) (i, refl, can_too, (lt, idle, (seen_too, refl)), off))
+placed-moved m n p h s Exchange x is none = absurd (false≢true is.1)
+
+-- So do the consoles along a path.
+pub placed-path : (m n : MapValue) (p : Option ℕ) (b : ℕ)
+    → HoldsNearer (alone_minding m p) start (NoneShows m n None) b → (path : List Move)
+    → IsPath (alone_minding m p) path → presses_along path ≤ b
+    → Placed m n p (events_along path ++ []) (state_after (alone_minding m p) path)
+placed-path m n p b clear [] is le = placed-start m n p
+placed-path m n p b clear (move ∷ path) is le =
+    subst (λ h. Placed m n p h (state_after (alone_minding m p) (move ∷ path)))
+    (sym (append_assoc (events_of_move move) (events_along path) []))
+    (placed-moved m n p (events_along path ++ []) (state_after (alone_minding m p) path) move
+    (placed-path m n p b clear path is.1 (omega (arith, le))) is.0 (λ one. clear path is.1 (omega (arith, le, one))))

@@ -1,13 +1,13 @@
 //! What a press of a key shows of the difference of two keymaps.
-ghost use Rattle.std.specs.Prelude.{◌≡◌, ◌<◌, ◌^◌, ℕ, None, Some, true, false, IfOk, IfSome, MatchOption};
+ghost use Rattle.std.specs.Prelude.{◌≡◌, ◌<◌, ℕ, None, Some, true, false, IfOk, MatchOption};
 ghost use Rattle.keymap_core.specs.Maps.{accent_at};
 ghost use Rattle.keymap_core.specs.Numbers.{key_count};
 ghost use Rattle.console_core.specs.Answers.{composed_by};
-ghost use Rattle.console_states.specs.Moves.{Holds, IsIdle, State, alone};
+ghost use Rattle.console_states.specs.Moves.{Holds, IsIdle, State};
 ghost use Rattle.console_states.specs.Searching.{state_of, under_of};
 ghost use Rattle.keymap_diff.specs.Inner.Showing.{AreCellsAlike, IsFirstShown, IsUnnoticed, MakesSame, NoneShows};
 ghost use Rattle.keymap_diff.specs.Inner.Showing.{AreShowing, IsClear, IsSlotClear, Shows};
-ghost use Rattle.keymap_diff.specs.Inner.Showing.{ShowsNothing};
+ghost use Rattle.keymap_diff.specs.Inner.Showing.{ShowsNothing, alone_minding};
 
 use crate::compared::have_same_results;
 use console_core::is_usable;
@@ -69,12 +69,17 @@ fn made(map: &KeyMap, accent: u8, c: char) -> Option<char>
 }
 
 impl<'a> Both<'a> {
-    /// The keymaps of the searches: states and moves are those of the old keymap alone.
-    pub(crate) fn maps(&self) -> Keymaps<'a>
-        ensures alone { under_of result ≡ alone self.now.old.now }
-        ensures first { result.first.now ≡ self.now.old.now }
+    /// The keymaps of a search that minds the accent or none: states and moves are those of the old keymap alone.
+    pub(crate) fn maps(&self, minded: Option<u8>) -> Keymaps<'a>
+        ensures { under_of result ≡ alone_minding self.now.old.now minded }
     {
-        Keymaps::alone(self.old)
+        Keymaps {
+            first: self.old,
+            second: self.old,
+            has_loads: false,
+            presses: None,
+            minded,
+        }
     }
 
     /// Whether the cells are the same, and a dead key can be used under both keymaps or under neither.
@@ -112,7 +117,7 @@ impl<'a> Both<'a> {
         self.makes_alike(accent, ' ') && have_same_results(old.pairs(), new.pairs())
     }
 
-    /// Whether the cells that the key looks up show the difference, where no accent is pending.
+    /// Whether the cells that the key looks up show the difference, where no accent is minded.
     fn shows_cells(&self, held: &Held, key: KeyCode) -> bool
         ensures shown { result ≡ true → Shows self.now.old.now self.now.new.now None (state_of held.now) key }
         ensures nothing { result ≡ false → ShowsNothing self.now.old.now self.now.new.now None (state_of held.now) key }
@@ -129,12 +134,15 @@ impl<'a> Both<'a> {
         }
     }
 
-    /// Whether what the pending accent makes shows it.
+    /// Whether what the accent makes shows it, if that is pending, which is minded.
     fn shows_accent(&self, held: &Held, accent: u8, key: KeyCode) -> bool
         ensures shown { result ≡ true → Shows self.now.old.now self.now.new.now (Some accent) (state_of held.now) key }
         ensures nothing { result ≡ false
             → ShowsNothing self.now.old.now self.now.new.now (Some accent) (state_of held.now) key }
     {
+        if !held.is_accent_pending() {
+            return false;
+        }
         match &held.selection().look(self.old, key) {
             Cell::Char(c) => !self.makes_alike(accent, *c),
             Cell::Act(Action::DeadKey(other)) => {
@@ -145,22 +153,22 @@ impl<'a> Both<'a> {
     }
 
     /// Whether a press of the key or its release shows it.
-    fn shows(&self, held: &Held, pending: Option<u8>, key: KeyCode) -> bool
-        ensures shown { result ≡ true → Shows self.now.old.now self.now.new.now pending (state_of held.now) key }
+    fn shows(&self, held: &Held, minded: Option<u8>, key: KeyCode) -> bool
+        ensures shown { result ≡ true → Shows self.now.old.now self.now.new.now minded (state_of held.now) key }
         ensures nothing { result ≡ false
-            → ShowsNothing self.now.old.now self.now.new.now pending (state_of held.now) key }
+            → ShowsNothing self.now.old.now self.now.new.now minded (state_of held.now) key }
     {
-        match pending {
+        match minded {
             None => self.shows_cells(held, key),
             Some(accent) => self.shows_accent(held, accent, key),
         }
     }
 
     /// Whether a press that looks up the cells can show it in some state.
-    fn can_show(&self, pending: Option<u8>, old: &Cell, new: &Cell) -> bool
-        ensures { result ≡ false → IsClear self.now.old.now self.now.new.now pending old.now new.now }
+    fn can_show(&self, minded: Option<u8>, old: &Cell, new: &Cell) -> bool
+        ensures { result ≡ false → IsClear self.now.old.now self.now.new.now minded old.now new.now }
     {
-        match pending {
+        match minded {
             None => !self.are_alike(old, new),
             Some(accent) => match old {
                 Cell::Char(c) => !self.makes_alike(accent, *c),
@@ -173,8 +181,8 @@ impl<'a> Both<'a> {
     }
 
     /// Whether a press that looks up the slot can.
-    fn can_show_in_slot(&self, pending: Option<u8>, slot: u8) -> bool
-        ensures { result ≡ false → IsSlotClear self.now.old.now self.now.new.now pending slot }
+    fn can_show_in_slot(&self, minded: Option<u8>, slot: u8) -> bool
+        ensures { result ≡ false → IsSlotClear self.now.old.now self.now.new.now minded slot }
     {
         let old = self.old.entry(slot);
         let new = self.new.entry(slot);
@@ -182,7 +190,7 @@ impl<'a> Both<'a> {
             return true;
         }
         for column in 0..COLUMN_COUNT {
-            if self.can_show(pending, &old.cells[column], &new.cells[column]) {
+            if self.can_show(minded, &old.cells[column], &new.cells[column]) {
                 return true;
             }
         }
@@ -190,26 +198,26 @@ impl<'a> Both<'a> {
     }
 
     /// Whether a press of the key can.
-    fn can_key_show(&self, pending: Option<u8>, key: KeyCode) -> bool
+    fn can_key_show(&self, minded: Option<u8>, key: KeyCode) -> bool
         ensures { result ≡ false
-            → (s : State) → ShowsNothing self.now.old.now self.now.new.now pending s key }
+            → (s : State) → ShowsNothing self.now.old.now self.now.new.now minded s key }
     {
-        self.can_show_in_slot(pending, key.get())
-            || self.can_show_in_slot(pending, key.get() + KEY_COUNT as u8)
+        self.can_show_in_slot(minded, key.get())
+            || self.can_show_in_slot(minded, key.get() + KEY_COUNT as u8)
     }
 
     /// The keys whose presses can show it in some state, in their order.
     pub(crate) fn keys_showing(
         &self,
         alloc: Global,
-        pending: Option<u8>,
+        minded: Option<u8>,
     ) -> Result<Vec<KeyCode>, AllocError>
-        ensures { IfOk result (λ keys. AreShowing self.now.old.now self.now.new.now pending keys.items key_count) }
+        ensures { IfOk result (λ keys. AreShowing self.now.old.now self.now.new.now minded keys.items key_count) }
     {
         let mut keys = Vec::new(alloc);
         for code in 0..KEY_COUNT as u8 {
             let key = key_with(code);
-            if self.can_key_show(pending, key) {
+            if self.can_key_show(minded, key) {
                 keys.push(key)?;
             }
         }
@@ -226,16 +234,16 @@ impl<'a> Both<'a> {
     pub(crate) fn key_showing(
         &self,
         held: &Held,
-        pending: Option<u8>,
+        minded: Option<u8>,
         keys: &[KeyCode],
     ) -> Option<KeyCode>
-        requires { AreShowing self.now.old.now self.now.new.now pending keys.now key_count }
-        ensures { MatchOption result (NoneShows self.now.old.now self.now.new.now pending (state_of held.now))
-            (λ k. (k < key_count) × Shows self.now.old.now self.now.new.now pending (state_of held.now) k) }
+        requires { AreShowing self.now.old.now self.now.new.now minded keys.now key_count }
+        ensures { MatchOption result (NoneShows self.now.old.now self.now.new.now minded (state_of held.now))
+            (λ k. (k < key_count) × Shows self.now.old.now self.now.new.now minded (state_of held.now) k) }
     {
         let mut found = None;
         for key in keys {
-            if self.shows(held, pending, *key) {
+            if self.shows(held, minded, *key) {
                 if self.looks_plain(held, *key) {
                     return Some(*key);
                 }
@@ -250,13 +258,12 @@ impl<'a> Both<'a> {
     pub(crate) fn first_showing(
         &self,
         met: &Met,
-        pending: Option<u8>,
+        minded: Option<u8>,
         keys: &[KeyCode],
     ) -> Option<KeyAt>
-        requires { AreShowing self.now.old.now self.now.new.now pending keys.now key_count }
-        ensures small { IfSome result (λ at. at.place < 2 ^ 63) }
-        ensures first { IsFirstShown self.now.old.now self.now.new.now pending met.now.entries result }
+        requires { AreShowing self.now.old.now self.now.new.now minded keys.now key_count }
+        ensures { IsFirstShown self.now.old.now self.now.new.now minded met.now.entries result }
     {
-        first_where(met, |held| self.key_showing(&held, pending, keys))
+        first_where(met, |held| self.key_showing(&held, minded, keys))
     }
 }

@@ -1,5 +1,5 @@
 -- What a press of a key and its release show of the difference of two keymaps. Mirrors src/showing.rt.
-use Rattle.std.specs.Prelude.{◌≡◌, ◌≢◌, ◌⊎◌, ℕ, ◌+◌, ◌<◌, List, Option, Some, None}
+use Rattle.std.specs.Prelude.{◌≡◌, ◌≢◌, ◌⊎◌, ℕ, ◌<◌, true, List, Option, Some, None}
 use Rattle.std.specs.List.{Contains}
 use Rattle.keymap_core.specs.declared.action.Action.TheVariants as act
 use Rattle.keymap_core.specs.declared.action.Modifier.{Modifier}
@@ -8,12 +8,10 @@ use Rattle.keymap_core.specs.declared.entry.Cell.TheVariants.{Char, Act}
 use Rattle.keymap_core.specs.Maps.{MapValue, accent_at, cell_at, entry_at}
 use Rattle.keymap_core.specs.Numbers.{key_count, column_count}
 use Rattle.console_core.specs.Answers.{composed_by, usable}
-use Rattle.console_states.specs.Moves.{State, alone, start, Holds, IsIdle, IsPath, IsPathFrom, state_after, state_from}
-use Rattle.console_states.specs.Moves.{presses_along}
-use Rattle.console_states.specs.Sights.{look_selected, selection_of, IsOfferedIn}
+use Rattle.console_states.specs.Moves.{State, Under, alone, start, Holds, IsIdle}
+use Rattle.console_states.specs.Sights.{look_selected, selection_of}
 use Rattle.console_states.specs.Searching.{state_of, Entries}
 use Rattle.console_states.specs.Looks.{IsLook, HoldsNearer}
-use Rattle.console_states.specs.declared.held.Move.{Move}
 use Rattle.console_states.specs.declared.look.KeyAt.{KeyAt}
 
 -- what the key looks up in the state
@@ -39,13 +37,13 @@ Gives m i s k c =
 abbrev pub MakesSame : MapValue → MapValue → ℕ → ℕ → Type 0
 MakesSame m n i c = composed_by (accent_at m i) c ≡ composed_by (accent_at n i) c
 
--- A press of the key and its release show nothing. Where no accent is pending the key looks up cells that are alike, or
--- holds a modifier and takes nothing by either; where one is, that makes the same of what it is put on.
+-- A press of the key and its release show nothing. Where no accent is minded the key looks up cells that are alike, or
+-- holds a modifier and takes nothing by either; where one is and is pending, that makes the same of what it is put on.
 abbrev pub ShowsNothing : MapValue → MapValue → Option ℕ → State → ℕ → Type 0
 ShowsNothing m n None s k =
     AreCellsAlike m n (looked_up m s k) (looked_up n s k)
     ⊎ ((i : Modifier) × Holds s k i × IsUnnoticed i (looked_up m s k) × IsUnnoticed i (looked_up n s k))
-ShowsNothing m n (Some i) s k = (c : ℕ) → Gives m i s k c → MakesSame m n i c
+ShowsNothing m n (Some i) s k = s.is_pending ≡ true → (c : ℕ) → Gives m i s k c → MakesSame m n i c
 
 -- They show something.
 abbrev pub Shows : MapValue → MapValue → Option ℕ → State → ℕ → Type 0
@@ -53,7 +51,7 @@ Shows m n None s k =
     (AreCellsAlike m n (looked_up m s k) (looked_up n s k) → ⊥)
     × (IsIdle s k
     ⊎ ((i : Modifier) × Holds s k i × (IsUnnoticed i (looked_up m s k) → IsUnnoticed i (looked_up n s k) → ⊥)))
-Shows m n (Some i) s k = (c : ℕ) × Gives m i s k c × (MakesSame m n i c → ⊥)
+Shows m n (Some i) s k = (s.is_pending ≡ true) × ((c : ℕ) × Gives m i s k c × (MakesSame m n i c → ⊥))
 
 -- The accent is put on the character by a press that looks up the cell, which is that or the accent's dead key.
 abbrev pub GivesBy : ℕ → Cell → ℕ → Type 0
@@ -89,14 +87,10 @@ abbrev pub IsFirstShown : MapValue → MapValue → Option ℕ → Entries → O
 IsFirstShown m n p es o =
     IsLook (λ h. NoneShows m n p (state_of h)) (λ h k. (k < key_count) × Shows m n p (state_of h) k) es o
 
--- no key shows anything where fewer than b presses lead, and no accent is pending
-abbrev pub AreCellsClear : MapValue → MapValue → ℕ → Type 0
-AreCellsClear m n b = HoldsNearer (alone m) start (NoneShows m n None) b
+-- a map alone, of which a search minds the accent or none
+abbrev pub alone_minding : MapValue → Option ℕ → Under
+alone_minding m p = record (alone m) { minded = p }
 
--- nor where they lead by a tap of the accent's dead key
-abbrev pub IsAccentClear : MapValue → MapValue → ℕ → ℕ → Type 0
-IsAccentClear m n i b =
-    (before later : List Move) → IsPath (alone m) before → IsOfferedIn (alone m) (state_after (alone m) before) i
-    → IsPathFrom (alone m) (state_after (alone m) before) later
-    → presses_along before + 1 + presses_along later < b
-    → NoneShows m n (Some i) (state_from (alone m) (state_after (alone m) before) later)
+-- no key shows anything where fewer than b presses lead
+abbrev pub AreClear : MapValue → MapValue → Option ℕ → ℕ → Type 0
+AreClear m n p b = HoldsNearer (alone_minding m p) start (NoneShows m n p) b

@@ -1,4 +1,4 @@
-use Rattle.std.proofs.Common.{arith, rules}
+use Rattle.std.proofs.Common.{rules}
 use Rattle.keymap_diff.proofs.Pushing.{places-both}
 use Rattle.keymap_diff.proofs.compared.push_accents.Goals as goal
 

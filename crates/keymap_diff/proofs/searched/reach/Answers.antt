@@ -1,9 +1,5 @@
-use Rattle.std.proofs.Common.{rules}
 use Rattle.keymap_diff.proofs.Common.{refl}
 use Rattle.keymap_diff.proofs.searched.reach.Goals as goal
 
-pub returns-in-Some-clause-reach : goal.returns-in-Some-clause-reach
-returns-in-Some-clause-reach c = rw c.in-Some.is (c.presses_to.result, refl, c.presses_to.ensures.value)
-
-pub returns-in-TooMany-clause-reach : goal.returns-in-TooMany-clause-reach
-returns-in-TooMany-clause-reach c = search rules
+pub returns-in-Some : goal.returns-in-Some
+returns-in-Some c = rw c.in-Some.is (c.presses_to.result, refl, c.presses_to.ensures)

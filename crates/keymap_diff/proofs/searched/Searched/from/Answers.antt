@@ -1,8 +1,14 @@
 use Rattle.keymap_diff.proofs.Common.{subst, sym}
 use Rattle.keymap_diff.specs.Inner.Showing.{AreShowing}
+use Rattle.keymap_diff.proofs.Clearing.{searched-from}
 use Rattle.keymap_diff.proofs.searched.Searched.from.Goals as goal
 
 pub first_showing-shown-requires : goal.first_showing-shown-requires
 first_showing-shown-requires c =
-    subst (λ z. AreShowing c.args.both.now.old.now c.args.both.now.new.now c.args.pending z 128)
+    subst (λ z. AreShowing c.args.both.now.old.now c.args.both.now.new.now c.args.minded z 128)
     (sym c.as_slice.ensures.value) c.in_ok-keys.ensures
+
+pub returns-clause-searched : goal.returns-clause-searched
+returns-clause-searched c =
+    searched-from _ _ _ _ _ c.maps.ensures c.start.ensures c.in_ok-met.end c.in_ok-met.ensures c.reach-reach.ensures
+    c.first_showing-shown.ensures

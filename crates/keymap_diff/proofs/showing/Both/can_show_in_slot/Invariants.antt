@@ -7,5 +7,5 @@ use Rattle.keymap_diff.proofs.showing.Both.can_show_in_slot.Given as goal
 abbrev pub invariant-loop-column : goal.invariant-loop-column
 invariant-loop-column l =
     (column : ℕ) → column < l.column
-    → IsClear l.self.old.now l.self.new.now l.pending (cell_at l.self.old.now l.slot column)
+    → IsClear l.self.old.now l.self.new.now l.minded (cell_at l.self.old.now l.slot column)
     (cell_at l.self.new.now l.slot column)

@@ -22,7 +22,7 @@ pub loop-key-preserved : goal.loop-key-preserved
 loop-key-preserved c =
     let m = c.args.self.now.old.now in
     let n = c.args.self.now.new.now in
-    let p = c.args.pending in
+    let p = c.args.minded in
     let keys = c.args.keys.now in
     let s = state_of c.args.held.now in
     let i = c.loop-key.key-index in
@@ -51,15 +51,15 @@ returns c =
     let n = c.args.self.now.new.now in
     let keys = c.args.keys.now in
     let s = state_of c.args.held.now in
-    more-none (λ (k : ℕ). (k < 128) × Shows m n c.args.pending s k)
-    ((j : ℕ) → j < c.loop-key.key-index → ShowsNothing m n c.args.pending s (get_or keys j 0))
-    (NoneShows m n c.args.pending s) c.loop-key.found
-    (λ none. none-of m n c.args.pending keys s c.requires (λ j lt. none j (omega (arith, lt, c.loop-key-test.false))))
+    more-none (λ (k : ℕ). (k < 128) × Shows m n c.args.minded s k)
+    ((j : ℕ) → j < c.loop-key.key-index → ShowsNothing m n c.args.minded s (get_or keys j 0))
+    (NoneShows m n c.args.minded s) c.loop-key.found
+    (λ none. none-of m n c.args.minded keys s c.requires (λ j lt. none j (omega (arith, lt, c.loop-key-test.false))))
     c.loop-key.invariant
 
 pub returns-then-looks_plain : goal.returns-then-looks_plain
 returns-then-looks_plain c = (
-  key-within c.args.self.now.old.now c.args.self.now.new.now c.args.pending c.args.keys.now c.loop-key.key-index
+  key-within c.args.self.now.old.now c.args.self.now.new.now c.args.minded c.args.keys.now c.loop-key.key-index
       c.key-item.result c.requires c.loop-key-test.true c.key-item.is,
   c.if-shows.ensures.shown refl,
 )

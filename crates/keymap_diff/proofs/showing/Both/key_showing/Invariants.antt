@@ -9,5 +9,5 @@ abbrev pub invariant-loop-key : goal.invariant-loop-key
 invariant-loop-key l =
     MatchOption l.found
     ((j : ℕ) → j < l.key-index
-    → ShowsNothing l.self.old.now l.self.new.now l.pending (state_of l.held) (get_or l.keys j 0))
-    (λ k. (k < key_count) × Shows l.self.old.now l.self.new.now l.pending (state_of l.held) k)
+    → ShowsNothing l.self.old.now l.self.new.now l.minded (state_of l.held) (get_or l.keys j 0))
+    (λ k. (k < key_count) × Shows l.self.old.now l.self.new.now l.minded (state_of l.held) k)

@@ -11,7 +11,7 @@ pub loop-code-preserved : goal.loop-code-preserved
 loop-code-preserved c =
     let m = c.args.self.now.old.now in
     let n = c.args.self.now.new.now in
-    let p = c.args.pending in
+    let p = c.args.minded in
     let nothing = λ (k : ℕ). (s : State) → ShowsNothing m n p s k in
     let keys = c.loop-code.keys.items in
     let code = c.loop-code.code in

@@ -13,3 +13,5 @@ pub mod Quoting
 pub mod Separate
 pub mod Comments
 pub mod Words
+pub mod Lines
+pub mod Shared

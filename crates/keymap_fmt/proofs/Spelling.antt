@@ -47,7 +47,7 @@ unfolding tokens_after list_of
 unfinished_front q c bytes h = rw (h, tokens_after, list_of) refl
 
 -- the end of a line is no token
-line_passed : (q : ℕ) (bytes : List ℕ) → tokens_after (leading stays_on_line bytes) q bytes
+pub line_passed : (q : ℕ) (bytes : List ℕ) → tokens_after (leading stays_on_line bytes) q bytes
     ≡ tokens_after (suc (leading stays_on_line bytes)) q bytes
 line_passed q [] = split_nil _ q ∙ sym (split_nil _ q)
 line_passed q (c ∷ bytes) = go (stays_on_line c) refl (line_passed (q + 1) bytes)

@@ -17,5 +17,8 @@ pub mod Pairs
 pub mod SameTokens
 pub mod SameOrder
 pub mod OneFindings
-pub mod SameTexts
 pub mod SameKept
+pub mod SamePlaces
+pub mod SameTexts
+pub mod SameAnswers
+pub mod Shared

@@ -1,6 +1,7 @@
 -- Lists that are related element by element.
 use Rattle.keymap_lint.proofs.Common.{◌≡◌, ◌+◌, ◌<◌, ℕ, Bool, true, false, List, [], ◌∷◌, ◌++◌, refl, sym, length}
-use Rattle.keymap_lint.proofs.Common.{arith, cond, map, not, Option, Some, None, find, flat_map, gathered, true≢false}
+use Rattle.keymap_lint.proofs.Common.{arith, cond, get_or, map, not, Option, Some, None, find, flat_map, gathered}
+use Rattle.keymap_lint.proofs.Common.{true≢false}
 use Prim.Native.Nat.{zero, suc}
 use Rattle.std.specs.Option.{option_to_list}
 use Rattle.std.proofs.Common.{All, ◌||◌, nat_lt}
@@ -101,6 +102,28 @@ module _ {A B : Type 0} (R : A → B → Type 0) where
   pub pairs_heads : {x : A} {y : B} {xs : List A} {ys : List B} → Pairwise R (x ∷ xs) (y ∷ ys)
       → R x y × Pairwise R xs ys
   pairs_heads (one_pair r rest) = (r, rest)
+
+  -- the elements of one place
+  pub pairs_at : {xs : List A} {ys : List B} → Pairwise R xs ys → (n : ℕ) (d : A) (e : B) → n < length xs
+      → R (get_or xs n d) (get_or ys n e)
+  pairs_at no_pair n d e low = absurd (omega (arith, low))
+  pairs_at (one_pair r rest) zero d e low = r
+  pairs_at (one_pair r rest) (suc n) d e low = pairs_at rest n d e (omega (arith, low))
+
+  pub pairs_from : (d : A) (e : B) (xs : List A) (ys : List B) → length xs ≡ length ys
+      → ((n : ℕ) → n < length xs → R (get_or xs n d) (get_or ys n e)) → Pairwise R xs ys
+  pairs_from d e [] [] same h = no_pair
+  pairs_from d e (x ∷ xs) [] same h = absurd (omega (arith, same))
+  pairs_from d e [] (y ∷ ys) same h = absurd (omega (arith, same))
+  pairs_from d e (x ∷ xs) (y ∷ ys) same h =
+      one_pair (h 0 (omega arith))
+      (pairs_from d e xs ys (omega (arith, same)) (λ n low. h (suc n) (omega (arith, low))))
+
+  -- what is equal of related elements
+  pub pairs_equal : {X : Type 0} (f : A → X) (g : B → X) → ((x : A) (y : B) → R x y → f x ≡ g y)
+      → {xs : List A} {ys : List B} → Pairwise R xs ys → map f xs ≡ map g ys
+  pairs_equal f g same no_pair = refl
+  pairs_equal f g same (one_pair {x = x} {y = y} r rest) = λ i. same x y r i ∷ pairs_equal f g same rest i
 
   -- those that pass a test, which related elements pass alike
   pub pairs_filter : (p : A → Bool) (q : B → Bool) → ((x : A) (y : B) → R x y → p x ≡ q y) → {xs : List A} {ys : List B}

@@ -1,7 +1,7 @@
 -- Lists that are related element by element stay so where both are put in order.
 use Rattle.keymap_lint.proofs.Common.{◌≡◌, ℕ, ◌+◌, ◌<◌, ◌≤◌, Bool, true, false, ◌&&◌, not, cond, List, [], ◌∷◌}
 use Rattle.keymap_lint.proofs.Common.{length, get_or}
-use Rattle.keymap_lint.proofs.Common.{refl, sym, ◌∙◌, ap, subst, arith, Option, Some, None, true≢false, Diagnostic}
+use Rattle.keymap_lint.proofs.Common.{refl, sym, ◌∙◌, subst, arith, Option, Some, None, true≢false, Diagnostic}
 use Prim.Native.Nat.{suc}
 use Rattle.std.proofs.Common.{◌⊎◌, inl, inr, All, ◌==◌, nat_lt}
 use Rattle.std.specs.List.{filter}
@@ -11,8 +11,7 @@ use Rattle.std.specs.Ordering.{is_lt, nat_cmp}
 use Rattle.std.specs.declared.cmp.Ordering.TheVariants.{Less, Equal, Greater}
 use Rattle.std.proofs.lemmas.Bool.{cases_lt, eqb-true, lt-ltb}
 use Rattle.std.proofs.lemmas.Bool.Decides.{nat_tests}
-use Rattle.std.proofs.lemmas.List.Elements.{All-cons, All-head, All-nil, All-tail}
-use Rattle.std.proofs.lemmas.List.Kept.{AllPairs-filter}
+use Rattle.std.proofs.lemmas.List.Elements.{All-head, All-tail}
 use Rattle.std.proofs.lemmas.List.Sorted.{All-permutation, IsNonDecreasingBy-from_sort}
 use Rattle.keymap_lint.specs.Lists.{AreOrdered}
 use Rattle.keymap_lint.specs.Same.{IsSame, Pairwise, no_pair, one_pair}
@@ -207,74 +206,17 @@ place_pair P (Some p) (Some q) k = inr (p, q, refl, refl, (pairs_heads P k).0)
 place_pair P None (Some q) k = absurd (omega (arith, pairs_length P k))
 place_pair P (Some p) None k = absurd (omega (arith, pairs_length P k))
 
--- ---- those that pass a test
-
-module _ {X : Type 0} (p : X → Bool) where
-  kept_in_order : (f : X → ℕ) (xs : List X) → IsNonDecreasingBy f xs → IsNonDecreasingBy f (filter p xs)
-  kept_in_order f xs up i j d before low = elim (cases_lt i j) [
-    | inl l ↦
-        AllPairs-filter (λ x y. f x ≤ f y) p xs (λ i j d l few. up i j d (omega (arith, l)) few) i j d l low
-    | inr k ↦
-        let e : i ≡ j = omega (arith, before, k) in
-        subst (λ k. f (get_or (filter p xs) i d) ≤ f (get_or (filter p xs) k d)) e (omega arith)
-  ]
-
-  -- what holds of those that are kept
-  if_kept : (T : X → Type 0) (xs : List X) → All T (filter p xs) → All (λ x. p x ≡ true → T x) xs
-  if_kept T [] all = All-nil (λ x. p x ≡ true → T x)
-  if_kept T (x ∷ xs) all = go (p x) refl (if_kept T xs) all
-    where
-      U : X → Type 0
-      U x = p x ≡ true → T x
-
-      go : (b : Bool) → p x ≡ b → (All T (filter p xs) → All U xs)
-          → All T (cond b (x ∷ filter p xs) (filter p xs)) → All U (x ∷ xs)
-      go true e rest all =
-          All-cons U x xs (λ passes. All-head T x (filter p xs) all) (rest (All-tail T x (filter p xs) all))
-      go false e rest all = All-cons U x xs (λ passes. absurd (true≢false (sym passes ∙ e))) (rest all)
-
-  of_kept : (T : X → Type 0) (xs : List X) → All (λ x. p x ≡ true → T x) xs → All T (filter p xs)
-  of_kept T [] all = All-nil T
-  of_kept T (x ∷ xs) all =
-      go (p x) refl (of_kept T xs (All-tail (λ x. p x ≡ true → T x) x xs all))
-    where
-      go : (b : Bool) → p x ≡ b → All T (filter p xs) → All T (cond b (x ∷ filter p xs) (filter p xs))
-      go true e rest = All-cons T x (filter p xs) (All-head (λ x. p x ≡ true → T x) x xs all e) rest
-      go false e rest = rest
-
-  -- two tests, in either order
-  both_tests : (q : X → Bool) (xs : List X) → filter q (filter p xs) ≡ filter p (filter q xs)
-  both_tests q [] = refl
-  both_tests q (x ∷ xs) = go (p x) (q x) refl refl (both_tests q xs)
-    where
-      go : (a b : Bool) → p x ≡ a → q x ≡ b → filter q (filter p xs) ≡ filter p (filter q xs)
-          → filter q (cond a (x ∷ filter p xs) (filter p xs)) ≡ filter p (cond b (x ∷ filter q xs) (filter q xs))
-      go true true e f rest =
-          ap (λ c. cond c (x ∷ filter q (filter p xs)) (filter q (filter p xs))) f ∙ ap (λ xs. x ∷ xs) rest
-          ∙ sym (ap (λ c. cond c (x ∷ filter p (filter q xs)) (filter p (filter q xs))) e)
-      go true false e f rest =
-          ap (λ c. cond c (x ∷ filter q (filter p xs)) (filter q (filter p xs))) f ∙ rest
-      go false true e f rest =
-          rest ∙ sym (ap (λ c. cond c (x ∷ filter p (filter q xs)) (filter p (filter q xs))) e)
-      go false false e f rest = rest
-
--- ---- both
-
--- Of two lists those that pass a test stay the same but for places when both are put in order, where places are related
--- in order.
-pub kept_same : (P : ℕ → ℕ → Type 0)
-    → ((p k q l : ℕ) → P p q → P k l → (p < k → q < l) × (q < l → p < k)) → (test : Diagnostic → Bool)
-    → (found others ordered theirs : List Diagnostic) → Pairwise (IsSame P) (filter test found) (filter test others)
-    → AreOrdered found ordered → AreOrdered others theirs
-    → Pairwise (IsSame P) (filter test ordered) (filter test theirs)
-kept_same P along test found others ordered theirs same is are =
-    merged (IsSame P) rank_of rank_of rises (filter test ordered) (filter test theirs)
-    (kept_in_order test rank_of ordered (in_order found ordered is))
-    (kept_in_order test rank_of theirs (in_order others theirs are))
-    (among (λ d. (e : Diagnostic) × IsSame P d e) found ordered is (pairs_left (IsSame P) same))
-    (among (λ e. (d : Diagnostic) × IsSame P d e) others theirs are (pairs_right (IsSame P) same))
+-- Two lists that are the same but for places stay so when both are put in order, where places are related in order.
+pub ordered_same : (P : ℕ → ℕ → Type 0)
+    → ((p k q l : ℕ) → P p q → P k l → (p < k → q < l) × (q < l → p < k))
+    → (found others ordered theirs : List Diagnostic) → Pairwise (IsSame P) found others → AreOrdered found ordered
+    → AreOrdered others theirs → Pairwise (IsSame P) ordered theirs
+ordered_same P along found others ordered theirs same is are =
+    merged (IsSame P) rank_of rank_of rises ordered theirs (in_order found ordered is) (in_order others theirs are)
+    (All-permutation (λ d. (e : Diagnostic) × IsSame P d e) found ordered is.same (pairs_left (IsSame P) same))
+    (All-permutation (λ e. (d : Diagnostic) × IsSame P d e) others theirs are.same (pairs_right (IsSame P) same))
     (λ d e r. subst (λ (sides : List Diagnostic × List Diagnostic). Pairwise (IsSame P) sides.0 sides.1)
-    (λ i. (sym (of_rank found ordered is d) i, sym (of_rank others theirs are e) i))
+    (λ i. (sym (of_place found ordered is d) i, sym (of_place others theirs are e) i))
     (pairs_filter (IsSame P) (λ (x : Diagnostic). rank_of d == rank_of x) (λ (x : Diagnostic). rank_of e == rank_of x)
     (λ x y s. tests_alike (IsSame P) rank_of rank_of rises d x e y r s) same))
   where
@@ -296,32 +238,3 @@ kept_same P along test found others ordered theirs same is are =
             )
       ]
     ]
-
-    among : (T : Diagnostic → Type 0) (found ordered : List Diagnostic) → AreOrdered found ordered
-        → All T (filter test found) → All T (filter test ordered)
-    among T found ordered is all =
-        of_kept test T ordered
-        (All-permutation (λ d. test d ≡ true → T d) found ordered is.same (if_kept test T found all))
-
-    of_rank : (found ordered : List Diagnostic) → AreOrdered found ordered → (d : Diagnostic)
-        → filter (λ (e : Diagnostic). rank_of d == rank_of e) (filter test ordered)
-        ≡ filter (λ (e : Diagnostic). rank_of d == rank_of e) (filter test found)
-    of_rank found ordered is d =
-        both_tests test (λ (e : Diagnostic). rank_of d == rank_of e) ordered
-        ∙ ap (filter test) (of_place found ordered is d)
-        ∙ sym (both_tests test (λ (e : Diagnostic). rank_of d == rank_of e) found)
-
-filter_true : {X : Type 0} (xs : List X) → filter (λ x. true) xs ≡ xs
-filter_true [] = refl
-filter_true (x ∷ xs) = ap (λ xs. x ∷ xs) (filter_true xs)
-
-pub ordered_same : (P : ℕ → ℕ → Type 0)
-    → ((p k q l : ℕ) → P p q → P k l → (p < k → q < l) × (q < l → p < k))
-    → (found others ordered theirs : List Diagnostic) → Pairwise (IsSame P) found others → AreOrdered found ordered
-    → AreOrdered others theirs → Pairwise (IsSame P) ordered theirs
-ordered_same P along found others ordered theirs same is are =
-    subst (λ (sides : List Diagnostic × List Diagnostic). Pairwise (IsSame P) sides.0 sides.1)
-    (λ i. (filter_true ordered i, filter_true theirs i))
-    (kept_same P along (λ d. true) found others ordered theirs
-    (subst (λ (sides : List Diagnostic × List Diagnostic). Pairwise (IsSame P) sides.0 sides.1)
-    (λ i. (sym (filter_true found) i, sym (filter_true others) i)) same) is are)

@@ -2,15 +2,11 @@
 use Rattle.keymap_lint.proofs.Common.{◌≡◌, ℕ, ◌+◌, ◌<◌, Bool, true, false, ◌&&◌, not, List, [], ◌∷◌, length, map}
 use Rattle.keymap_lint.proofs.Common.{get_or}
 use Rattle.keymap_lint.proofs.Common.{take, refl, sym, ◌∙◌, ap, subst, arith, true≢false, Diagnostic, MapValue, Placed}
-use Rattle.keymap_lint.proofs.Common.{Spelled, gathered, ◌≤◌}
-use Rattle.std.proofs.Common.{◌-◌, ◌++◌, drop, inl, inr, All, ◌||◌}
-use Rattle.std.specs.List.{filter, flat_map, list_all, list_any}
+use Rattle.keymap_lint.proofs.Common.{◌≤◌}
+use Rattle.std.proofs.Common.{◌-◌, drop, inl, inr, All, ◌||◌}
+use Rattle.std.specs.List.{list_all, list_any}
 use Rattle.std.proofs.lemmas.Bool.{cases_lt}
-use Rattle.std.proofs.lemmas.Bool.Decides.{nat_tests}
-use Rattle.std.proofs.lemmas.List.Elements.{All-head, All-tail, All-weaker}
-use Rattle.std.proofs.lemmas.List.Sums.{sum_by-cons}
-use Rattle.std.proofs.Common.{cond, count_by, nat_le}
-use Rattle.std.proofs.lemmas.List.{append-nil, get_or-map, get_or_past, length-map}
+use Rattle.std.proofs.lemmas.List.{get_or-map, get_or_past, length-map}
 use Rattle.keymap_text.specs.Lexical.{TokenValue}
 use Rattle.keymap_text.specs.Meaning.{Spells, item_of, items, tokens}
 use Rattle.keymap_text.specs.Rows.{IsRow}
@@ -22,27 +18,27 @@ use Rattle.keymap_places.specs.Types.{TokenKind}
 use Rattle.keymap_places.specs.Unicode.{is_lone, is_unicode, is_wide}
 use Rattle.keymap_places.proofs.Shared.{same_places, tokens_are_in_order}
 use Rattle.keymap_check.specs.Findings.{AreFindings}
-use Rattle.keymap_lint.specs.Types.{Finding, Span}
+use Rattle.keymap_lint.specs.Types.{Diagnostics, Finding, Span, Spelled as OfSpelled}
+use Rattle.keymap_lint.specs.Alphabets.{lost_letters}
 use Rattle.keymap_lint.specs.Capitals.{has_wide}
-use Rattle.keymap_lint.specs.Directives.{HasNoMark, is_told, told, told_with, words_of}
-use Rattle.keymap_lint.specs.Directives.{definition_at, words}
-use Rattle.keymap_lint.specs.Spelled.{offset_at}
-use Rattle.keymap_lint.specs.Lists.{AreOrdered, all_of, spelled_by, spelled_with}
+use Rattle.keymap_lint.specs.Directives.{comment_at, directive_at, directives, is_between, stands_at, told}
+use Rattle.keymap_lint.specs.Kinds.{missing_accents, missing_slots, nul_keys, unused_slots}
+use Rattle.keymap_lint.specs.Letters.{gaps as all_gaps}
+use Rattle.keymap_lint.specs.Lists.{IsLint, all_of, spelled_by, spelled_with}
 use Rattle.keymap_lint.specs.Octal.{looks_octal}
-use Rattle.keymap_lint.specs.Same.{IsSame, IsSameToken, Pairwise, SameTokensSameDiagnostics}
-use Rattle.keymap_lint.specs.Same.{IsSameWord, SameDirectivesKeepTheSame, of_keymap}
+use Rattle.keymap_lint.specs.Same.{AnswerTheSame, IsSame, IsSameToken, Pairwise, SameTokensSameDiagnostics}
+use Rattle.keymap_lint.specs.Same.{SameTokensTellOfTheSame, no_pair}
 use Rattle.keymap_lint.specs.Severities.{never_sticks}
-use Rattle.keymap_lint.specs.Spelled.{bytes_at, cells_in_force, span_at}
+use Rattle.keymap_lint.specs.Shifted.{small_slots}
+use Rattle.keymap_lint.specs.Spelled.{Spelled, bytes_at, cells_in_force, span_at}
+use Rattle.keymap_lint.specs.declared.directives.Directive.{Directive}
 use Rattle.keymap_lint.proofs.Begun.{accent_there, definitions_there}
 use Rattle.keymap_lint.proofs.InForce.{nothing, placed_at, slot_there, span_is}
 use Rattle.keymap_lint.proofs.OneFindings.{one_list_of_findings}
-use Rattle.keymap_lint.proofs.SameKept.{all_of_keymap, told_of_keymap, told_same}
-use Rattle.keymap_lint.proofs.SameOrder.{kept_same, ordered_same}
-use Rattle.keymap_lint.specs.Alphabets.{lost_letters}
-use Rattle.keymap_lint.specs.Kinds.{missing_accents, missing_slots, nul_keys, unused_slots}
-use Rattle.keymap_lint.specs.Letters.{gaps as all_gaps}
-use Rattle.keymap_lint.specs.Same.{SameTokensTellOfTheSame}
-use Rattle.keymap_lint.specs.Shifted.{small_slots}
+use Rattle.keymap_lint.proofs.Pairs.{pairs_at, pairs_from}
+use Rattle.keymap_lint.proofs.SameKept.{IsSameDirective, told_same}
+use Rattle.keymap_lint.proofs.SameOrder.{ordered_same}
+use Rattle.keymap_lint.proofs.SamePlaces.{AreInOrder, BeginAlike, definition_same, directive_same}
 use Rattle.keymap_lint.proofs.SameTokens.{Match, all_of_same, missing_accents_same, small_slots_same}
 use Rattle.keymap_lint.proofs.Told.{no_directives}
 
@@ -143,11 +139,15 @@ one_map_of_both text other m n same by is =
 
 -- ---- all that is said
 
-matched : (text other : List ℕ) (m : MapValue) (rows : List Row) → HaveSameTokens text other → IsSpelledBy text m rows
-    → Match (IsSameToken text other) text other (places_of rows) (map span_of (tokens text))
-    (map span_of (tokens other)) m
-matched text other m rows same by = record {
-  place = λ n low. (n, low, refl, refl);
+-- tokens with the same number begin at places that are related
+abbrev Begins : (ℕ → ℕ → Type 0) → List ℕ → List ℕ → Type 0
+Begins P text other = Pairwise (BeginAlike P) (map span_of (tokens text)) (map span_of (tokens other))
+
+matched : (P : ℕ → ℕ → Type 0) (text other : List ℕ) (m : MapValue) (rows : List Row) → HaveSameTokens text other
+    → Begins P text other → IsSpelledBy text m rows
+    → Match P text other (places_of rows) (map span_of (tokens text)) (map span_of (tokens other)) m
+matched P text other m rows same begins by = record {
+  place = λ n low. pairs_at (BeginAlike P) begins n (record { start = 0; end = 0 }) (record { start = 0; end = 0 }) low;
   octal = octal_there text (map span_of (tokens text));
   bytes = λ n. bytes_are text n ∙ ap (λ token. token.1) (same_token text other same n) ∙ sym (bytes_are other n);
   width = λ n.
@@ -163,20 +163,21 @@ matched text other m rows same by = record {
     many = length-map (tokens text) span_of
 
 -- what is said of either before directives
-pub said_same : (text other : List ℕ) (m : MapValue) (rows others : List Row) → HaveSameTokens text other
-    → IsSpelledBy text m rows → IsSpelledBy other m others → (fs : List Finding) → AreFindings m fs
-    → (untyped : List ℕ)
-    → Pairwise (IsSame (IsSameToken text other))
-    (all_of (spelled_by text m rows) (cells_in_force (spelled_by text m rows)) fs untyped)
-    (all_of (spelled_by other m others) (cells_in_force (spelled_by other m others)) fs untyped)
-said_same text other m rows others same by is fs are untyped =
-    subst (λ definitions. Pairwise (IsSame (IsSameToken text other))
-    (all_of (spelled_by text m rows) (cells_in_force (spelled_by text m rows)) fs untyped)
+abbrev said_of : List ℕ → MapValue → List Row → List Finding → List ℕ → List Diagnostic
+said_of text m rows fs untyped =
+    all_of (spelled_by text m rows) (cells_in_force (spelled_by text m rows)) fs untyped
+
+said_same : (P : ℕ → ℕ → Type 0) (text other : List ℕ) (m : MapValue) (rows others : List Row)
+    → HaveSameTokens text other → Begins P text other → IsSpelledBy text m rows → IsSpelledBy other m others
+    → (fs : List Finding) → AreFindings m fs → (untyped : List ℕ)
+    → Pairwise (IsSame P) (said_of text m rows fs untyped) (said_of other m others fs untyped)
+said_same P text other m rows others same begins by is fs are untyped =
+    subst (λ definitions. Pairwise (IsSame P) (said_of text m rows fs untyped)
     (all_of (spelled_with other definitions (map span_of (tokens other)) m)
     (cells_in_force (spelled_with other definitions (map span_of (tokens other)) m)) fs untyped))
     (same_places text other m m rows others same by is)
-    (all_of_same (IsSameToken text other) text other (places_of rows) (map span_of (tokens text))
-    (map span_of (tokens other)) m (matched text other m rows same by) fs are.each untyped)
+    (all_of_same P text other (places_of rows) (map span_of (tokens text)) (map span_of (tokens other)) m
+    (matched P text other m rows same begins by) fs are.each untyped)
 
 -- ---- in order
 
@@ -218,96 +219,16 @@ in_order text other same p k q l (n, low, e, f) (i, few, g, h) =
           omega (arith, e, g, begins_later text n i sooner there),
     )
 
--- nothing is kept back, and nothing said of directives, where there are none
-all_kept : (t : Spelled) (never : Bool) (ds : List Diagnostic)
-    → filter (is_told t.text t never []) ds ≡ ds
-all_kept t never [] = refl
-all_kept t never (d ∷ ds) = ap (λ ds. d ∷ ds) (all_kept t never ds)
-
-told_all : (t : Spelled) (never : Bool) (ds : List Diagnostic) → HasNoMark t.text → told t.text t never ds ≡ ds
-unfolding gathered
-told_all t never ds none =
-    ap (λ all. told_with t.text t never all (flat_map (words_of t.text) all) ds) (no_directives t.text t none)
-    ∙ append-nil (filter (is_told t.text t never []) ds ++ [])
-    ∙ append-nil (filter (is_told t.text t never []) ds) ∙ all_kept t never ds
-
--- ---- definitions
-
-count_alike : {X : Type 0} (p q : X → Bool) (xs : List X) → All (λ x. p x ≡ q x) xs → count_by p xs ≡ count_by q xs
-count_alike p q [] all = refl
-count_alike p q (x ∷ xs) all =
-    let first : p x ≡ q x = All-head (λ x. p x ≡ q x) x xs all in
-    let rest = count_alike p q xs (All-tail (λ x. p x ≡ q x) x xs all) in
-    sum_by-cons (λ x. cond (p x) 1 0) x xs ∙ (λ i. cond (first i) 1 0 + rest i)
-    ∙ sym (sum_by-cons (λ x. cond (q x) 1 0) x xs)
-
-le_alike : (a b k n : ℕ) → (n < k → b < a) → (k ≤ n → a ≤ b) → nat_le a b ≡ nat_le k n
-le_alike a b k n later sooner = go (nat_le a b) (nat_le k n) refl refl
-  where
-    go : (x y : Bool) → nat_le a b ≡ x → nat_le k n ≡ y → x ≡ y
-    go true true e f = refl
-    go false false e f = refl
-    go true false e f =
-        let low : a ≤ b = grind (arith, nat_tests, e) in
-        let less : n < k = grind (arith, nat_tests, f) in absurd (omega (arith, low, later less))
-    go false true e f =
-        let more : b < a = grind (arith, nat_tests, e) in
-        let few : k ≤ n = grind (arith, nat_tests, f) in absurd (omega (arith, more, sooner few))
-
--- a token begins up to another one exactly if its number isn't greater
-not_after : (text : List ℕ) (k n : ℕ) → k < length (tokens text) → n < length (tokens text)
-    → nat_le (span_at (map span_of (tokens text)) k).start (span_at (map span_of (tokens text)) n).start ≡ nat_le k n
-not_after text k n low few =
-    le_alike (start k) (start n) k n (λ l. begins_later text n k l low) (λ up. elim (cases_lt k n) [
-      | inl l ↦ let less = begins_later text k n l few in omega (arith, less)
-      | inr same ↦
-          let e : k ≡ n = omega (arith, up, same) in
-          let its : start k ≡ start n = ap start e in omega (arith, its)
-    ])
-  where
-    start : ℕ → ℕ
-    start i = (span_at (map span_of (tokens text)) i).start
-
--- tokens with the same number are in the same definition
-same_definition : (text other : List ℕ) (m n : MapValue) (rows others : List Row) → HaveSameTokens text other
-    → IsSpelledBy text m rows → IsSpelledBy other n others → (p q : ℕ) → IsSameToken text other p q
-    → definition_at (spelled_by text m rows) p ≡ definition_at (spelled_by other n others) q
-same_definition text other m n rows others same by is p q (i, low, e, f) =
-    count_alike (λ (d : Placed). nat_le (offset_at (spelled_by text m rows) d.first) p)
-    (λ (d : Placed). nat_le (offset_at (spelled_by other n others) d.first) q) (places_of rows)
-    (All-weaker (λ (d : Placed). d.first < length (tokens text))
-    (λ (d : Placed). nat_le (offset_at (spelled_by text m rows) d.first) p
-    ≡ nat_le (offset_at (spelled_by other n others) d.first) q) (λ d there.
-    ap (nat_le (offset_at (spelled_by text m rows) d.first)) e
-    ∙ not_after text d.first i there (omega (arith, many, low))
-    ∙ sym (not_after other d.first i (omega (arith, there, both)) (omega (arith, many, low, both)))
-    ∙ ap (nat_le (offset_at (spelled_by other n others) d.first)) (sym f)) (places_of rows)
-    (definitions_there text m rows by))
-    ∙ ap (count_by (λ (d : Placed). nat_le (offset_at (spelled_by other n others) d.first) q))
-    (same_places text other m n rows others same by is)
-  where
-    many : length (map span_of (tokens text)) ≡ length (tokens text)
-    many = length-map (tokens text) span_of
-
-    both : length (tokens text) ≡ length (tokens other)
-    both = as_many text other same
-
 -- ---- the laws
 
-abbrev said_of : List ℕ → MapValue → List Row → List Finding → List ℕ → List Diagnostic
-said_of text m rows fs untyped =
-    all_of (spelled_by text m rows) (cells_in_force (spelled_by text m rows)) fs untyped
-
-said_of_both : (text other : List ℕ) (m n : MapValue) (rows others : List Row) → HaveSameTokens text other → n ≡ m
-    → IsSpelledBy text m rows → IsSpelledBy other n others → (fs gs : List Finding) → AreFindings m fs
-    → AreFindings n gs → (untyped theirs : List ℕ) → untyped ≡ theirs
-    → Pairwise (IsSame (IsSameToken text other)) (said_of text m rows fs untyped) (said_of other n others gs theirs)
-said_of_both text other m n rows others same one by is fs gs are its untyped theirs answer =
-    let other_map : m ≡ n = sym one in
-    let lists : fs ≡ gs = one_list_of_findings m fs gs are (subst (λ v. AreFindings v gs) one its) in
-    subst (Pairwise (IsSame (IsSameToken text other)) (said_of text m rows fs untyped))
-    (λ i. said_of other (other_map i) others (lists i) (answer i))
-    (said_same text other m rows others same by (subst (λ v. IsSpelledBy other v others) one is) fs are untyped)
+same_token_begins : (text other : List ℕ) → HaveSameTokens text other → Begins (IsSameToken text other) text other
+same_token_begins text other same =
+    pairs_from (BeginAlike (IsSameToken text other)) none none (map span_of (tokens text)) (map span_of (tokens other))
+    (length-map (tokens text) span_of ∙ as_many text other same ∙ sym (length-map (tokens other) span_of))
+    (λ n low. (n, low, refl, refl))
+  where
+    none : Span
+    none = record { start = 0; end = 0 }
 
 pub same_tokens_tell_of_the_same : SameTokensTellOfTheSame
 same_tokens_tell_of_the_same text other same l k
@@ -332,7 +253,7 @@ same_tokens_tell_of_the_same text other same l k
     theirs = map span_of (tokens other)
 
     match : Match (IsSameToken text other) text other (places_of rows) spans theirs m
-    match = matched text other m rows same by
+    match = matched (IsSameToken text other) text other m rows same (same_token_begins text other same) by
 
     one : n ≡ m
     one = one_map_of_both text other m n same spells spelled
@@ -344,70 +265,76 @@ same_tokens_tell_of_the_same text other same l k
     both : spelled_with other (places_of rows) theirs m ≡ spelled_by other n others
     both = λ i. spelled_with other (same_places text other m n rows others same by its i) theirs (sym one i)
 
+module _ (P : ℕ → ℕ → Type 0) (order : AreInOrder P) (text other : List ℕ) (same : HaveSameTokens text other)
+    (begins : Begins P text other) where
+  low : (m : MapValue) (rows : List Row) → IsSpelledBy text m rows
+      → All (λ (d : Placed). d.first < length (map span_of (tokens text))) (places_of rows)
+  low m rows by =
+      subst (λ n. All (λ (d : Placed). d.first < n) (places_of rows)) (sym (length-map (tokens text) span_of))
+      (definitions_there text m rows by)
+
+  -- Comments that begin at related places, and whose words do, are directives that are the same but for places.
+  pub same_directive : (m n : MapValue) (rows others : List Row) → IsSpelledBy text m rows → IsSpelledBy other n others
+      → (p q : ℕ) → P p q
+      → stands_at text (spelled_by text m rows) p ≡ stands_at other (spelled_by other n others) q
+      → comment_at text p ≡ comment_at other q
+      → ((k : ℕ) → k < length (comment_at text p) → is_between (get_or (comment_at text p) k 0) ≡ false
+      → P (p + k) (q + k))
+      → Pairwise (IsSameDirective P text other) (directive_at text (spelled_by text m rows) p)
+      (directive_at other (spelled_by other n others) q)
+  same_directive m n rows others by is =
+      directive_same P order text other (spelled_by text m rows) (spelled_by other n others) begins
+      (same_places text other m n rows others same by is) (low m rows by)
+
+  -- Of texts with such directives all diagnostics are the same but for places, which are related.
+  pub same_diagnostics : ((m n : MapValue) (rows others : List Row) → Spells text m → Spells other n
+      → IsSpelledBy text m rows → IsSpelledBy other n others
+      → Pairwise (IsSameDirective P text other) (directives text (spelled_by text m rows))
+      (directives other (spelled_by other n others)))
+      → (l k : Diagnostics) → IsLint text (OfSpelled l) → IsLint other (OfSpelled k) → AnswerTheSame l k
+      → Pairwise (IsSame P) l.list.items k.list.items
+  same_diagnostics named l k (m, spells, (rows, by, (fs, are, is))) (n, spelled, (others, its, (gs, findings, of)))
+      answers =
+      ordered_same P order (told text t (never_sticks l.sticking) said) (told other u (never_sticks k.sticking) theirs)
+      l.list.items k.list.items
+      (subst (λ never. Pairwise (IsSame P) (told text t (never_sticks l.sticking) said) (told other u never theirs))
+      answers.never
+      (told_same P text other t u
+      (definition_same P order text other t u begins (same_places text other m n rows others same by its)
+      (low m rows by)) (never_sticks l.sticking) both (named m n rows others spells spelled by its)))
+      is.list of.list
+    where
+      t : Spelled
+      t = spelled_by text m rows
+
+      u : Spelled
+      u = spelled_by other n others
+
+      one : m ≡ n
+      one = sym (one_map_of_both text other m n same spells spelled)
+
+      lists : fs ≡ gs
+      lists = one_list_of_findings m fs gs are (subst (λ v. AreFindings v gs) (sym one) findings)
+
+      said : List Diagnostic
+      said = said_of text m rows fs l.untyped.items
+
+      theirs : List Diagnostic
+      theirs = said_of other n others gs k.untyped.items
+
+      both : Pairwise (IsSame P) said theirs
+      both =
+          subst (Pairwise (IsSame P) said) (λ i. said_of other (one i) others (lists i) (answers.untyped i))
+          (said_same P text other m rows others same begins by
+          (subst (λ v. IsSpelledBy other v others) (sym one) its) fs are l.untyped.items)
+
 pub same_tokens_same_diagnostics : SameTokensSameDiagnostics
-same_tokens_same_diagnostics text other same none neither l k
-    (m, spells, (rows, by, (fs, are, is))) (n, spelled, (others, its, (gs, findings, of))) answers =
-    ordered_same (IsSameToken text other) (in_order text other same) said theirs l.list.items k.list.items
-    (said_of_both text other m n rows others same (one_map_of_both text other m n same spells spelled) by its fs gs are
-    findings l.untyped.items k.untyped.items answers.untyped)
-    (subst (λ ds. AreOrdered ds l.list.items)
-    (told_all (spelled_by text m rows) (never_sticks l.sticking) said none) is.list)
-    (subst (λ ds. AreOrdered ds k.list.items)
-    (told_all (spelled_by other n others) (never_sticks k.sticking) theirs neither) of.list)
-  where
-    said : List Diagnostic
-    said = said_of text m rows fs l.untyped.items
-
-    theirs : List Diagnostic
-    theirs = said_of other n others gs k.untyped.items
-
-pub same_directives_keep_the_same : SameDirectivesKeepTheSame
-same_directives_keep_the_same text other same named l k
-    (m, spells, (rows, by, (fs, are, is))) (n, spelled, (others, its, (gs, findings, of))) answers =
-    kept_same (IsSameToken text other) (in_order text other same) of_keymap (told text t never said)
-    (told other u theirs_never theirs) l.list.items k.list.items
-    (subst (λ (sides : List Diagnostic × List Diagnostic).
-    Pairwise (IsSame (IsSameToken text other)) sides.0 sides.1) (λ i. (sym kept i, sym theirs_kept i))
-    (told_same (IsSameToken text other) text other t u
-    (same_definition text other m n rows others same by its) never both words_same)) is.list of.list
-  where
-    t : Spelled
-    t = spelled_by text m rows
-
-    u : Spelled
-    u = spelled_by other n others
-
-    one : n ≡ m
-    one = one_map_of_both text other m n same spells spelled
-
-    never : Bool
-    never = never_sticks l.sticking
-
-    theirs_never : Bool
-    theirs_never = never_sticks k.sticking
-
-    said : List Diagnostic
-    said = said_of text m rows fs l.untyped.items
-
-    theirs : List Diagnostic
-    theirs = said_of other n others gs k.untyped.items
-
-    both : Pairwise (IsSame (IsSameToken text other)) said theirs
-    both =
-        said_of_both text other m n rows others same one by its fs gs are findings l.untyped.items k.untyped.items
-        answers.untyped
-
-    words_same : Pairwise (IsSameWord text other) (words text t) (words other u)
-    words_same =
-        let other_map : m ≡ n = sym one in
-        subst (λ v. Pairwise (IsSameWord text other) (words text t) (words other (spelled_by other v others))) other_map
-        (named m rows others by (subst (λ v. IsSpelledBy other v others) one its))
-
-    kept : filter of_keymap (told text t never said) ≡ filter (is_told text t never (words text t)) said
-    kept = told_of_keymap text t never said (all_of_keymap t (cells_in_force t) fs l.untyped.items)
-
-    theirs_kept : filter of_keymap (told other u theirs_never theirs)
-        ≡ filter (is_told other u never (words other u)) theirs
-    theirs_kept =
-        told_of_keymap other u theirs_never theirs (all_of_keymap u (cells_in_force u) gs k.untyped.items)
-        ∙ ap (λ b. filter (is_told other u b (words other u)) theirs) (sym answers.never)
+same_tokens_same_diagnostics text other same none neither =
+    same_diagnostics (IsSameToken text other) (in_order text other same) text other same
+    (same_token_begins text other same) (λ m n rows others spells spelled by is.
+    subst (λ (sides : List Directive × List Directive).
+    Pairwise (IsSameDirective (IsSameToken text other) text other) sides.0 sides.1)
+    (λ i. (
+      sym (no_directives text (spelled_by text m rows) none) i,
+      sym (no_directives other (spelled_by other n others) neither) i,
+    )) no_pair)

@@ -46,7 +46,7 @@ passing_has test (suc n) c low e = elim (cases_lt c n) [
     here true e = (0, omega arith, refl)
     here false e = absurd (true≢false (sym e))
 
-rising_tail : (x : ℕ) (xs : List ℕ) → IsStrictlyIncreasing (x ∷ xs) → IsStrictlyIncreasing xs
+pub rising_tail : (x : ℕ) (xs : List ℕ) → IsStrictlyIncreasing (x ∷ xs) → IsStrictlyIncreasing xs
 rising_tail x xs h k low =
     subst (λ (n : ℕ). get_or xs k 0 < get_or (x ∷ xs) n 0) (sym (suc_more k)) (h (suc k) (omega (arith, low)))
 

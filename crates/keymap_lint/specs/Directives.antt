@@ -3,7 +3,7 @@
 use Rattle.std.specs.Prelude.{ℕ, ◌+◌, ◌-◌, ◌==◌, Bool, true, false, ◌&&◌, ◌||◌, not, if◌then◌else◌, nat_lt, nat_le}
 use Rattle.std.specs.Prelude.{List, [], ◌∷◌, ◌++◌, length, map, take, drop, reverse, find, count_by, codes, slice_index}
 use Rattle.std.specs.Prelude.{slice_index_or, Option, Some, None, nat_eq}
-use Rattle.std.specs.List.{filter, flat_map, list_any, position, starts_with}
+use Rattle.std.specs.List.{filter, flat_map, list_any, position, starts_with, suffix_len}
 use Rattle.std.specs.Option.{is_none, option_map, option_to_list, unwrap_or}
 use Rattle.std.specs.Str.{bytes_eq}
 use Rattle.bstr.specs.Find.{FindsNeedle}
@@ -25,6 +25,14 @@ use Rattle.keymap_lint.specs.Severities.{severity_of, is_error}
 use Rattle.keymap_lint.specs.Spelled.{Spelled, bytes_at, offset_at, span_at}
 
 -- ---- what a comment says
+
+-- the bytes without the spaces at their end
+unfoldable pub trimmed : List ℕ → List ℕ
+trimmed bytes = take (length bytes - suffix_len is_space bytes) bytes
+
+-- the bytes of the line from a place on, without the spaces at its end
+abbrev pub comment_at : List ℕ → ℕ → List ℕ
+comment_at text place = trimmed (rest_of_line text place)
 
 -- what stands between words
 abbrev pub is_between : ℕ → Bool
@@ -139,7 +147,7 @@ directive_behind text t place comment None = None
 unfoldable pub directive_at : List ℕ → Spelled → ℕ → List Directive
 directive_at text t place =
     option_to_list
-    (directive_behind text t place (rest_of_line text place) (said_from (rest_of_line text place)))
+    (directive_behind text t place (comment_at text place) (said_from (comment_at text place)))
 
 abbrev pub directives : List ℕ → Spelled → List Directive
 directives text t = gathered (directive_at text t) (length text)

@@ -1,49 +1,46 @@
 -- Which diagnostics of two texts are the same but for places.
-use Rattle.std.specs.Prelude.{◌≡◌, ℕ, ◌<◌, Bool, true, false, not, List, [], ◌∷◌, length, map}
-use Rattle.std.specs.List.{filter}
+use Rattle.std.specs.Prelude.{◌≡◌, ℕ, ◌-◌, ◌<◌, List, [], ◌∷◌, length, map}
 use Rattle.std.specs.Option.{option_to_list}
-use Rattle.keymap_text.specs.Meaning.{tokens}
 use Rattle.keymap_core.specs.Maps.{MapValue}
-use Rattle.keymap_places.specs.Placed.{IsSpelledBy, Row, span_of}
+use Rattle.keymap_text.specs.Meaning.{Spells, tokens}
+use Rattle.keymap_places.specs.Placed.{span_of}
 use Rattle.keymap_places.specs.Same.{HaveSameTokens}
+use Rattle.console_states.specs.Moves.{alone}
+use Rattle.console_states.specs.Sticking.{ReachesMoreThan, state_limit}
 use Rattle.keymap_lint.specs.Types.{Kind, Diagnostic, Diagnostics, Span, Spelled as OfSpelled}
 use Rattle.keymap_lint.specs.declared.diagnostic.BadIgnore.TheVariants as bad
 use Rattle.keymap_lint.specs.declared.diagnostic.Kind.TheVariants as kinds
-use Rattle.keymap_lint.specs.declared.directives.Ignored.{Ignored}
-use Rattle.keymap_lint.specs.Directives.{HasNoMark, words}
-use Rattle.keymap_lint.specs.Lists.{IsLint, spelled_by}
+use Rattle.keymap_lint.specs.Directives.{HasNoMark}
+use Rattle.keymap_lint.specs.Lists.{IsLint}
 use Rattle.keymap_lint.specs.Severities.{never_sticks}
-use Rattle.keymap_lint.specs.Spelled.{bytes_at, span_at}
+use Rattle.keymap_lint.specs.Spelled.{span_at}
 
 -- The lists have as many elements, and each of the one is related to that of the other in its place.
 pub data Pairwise {A B : Type 0} (R : A → B → Type 0) : List A → List B → Type 0 where
   no_pair : Pairwise R [] []
   one_pair : {x : A} {y : B} {xs : List A} {ys : List B} → R x y → Pairwise R xs ys → Pairwise R (x ∷ xs) (y ∷ ys)
 
--- the kind, with no places
-abbrev pub nothing : Span
-nothing = record { start = 0; end = 0 }
+-- the kind, with no places: of a word how many bytes it has
+abbrev pub sized : Span → Span
+sized word = record { start = 0; end = word.end - word.start }
 
 abbrev pub unplaced : Kind → Kind
 unplaced (kinds.DefinedAgain what last) = kinds.DefinedAgain what 0
 unplaced (kinds.OctalLike character start octal) = kinds.OctalLike character 0 octal
 unplaced (kinds.PairAgain accent base first) = kinds.PairAgain accent base 0
-unplaced (kinds.UnusedIgnore word) = kinds.UnusedIgnore nothing
-unplaced (kinds.BadIgnore (bad.NoKind word)) = kinds.BadIgnore (bad.NoKind nothing)
-unplaced (kinds.BadIgnore (bad.NotIgnored word)) = kinds.BadIgnore (bad.NotIgnored nothing)
+unplaced (kinds.UnusedIgnore word) = kinds.UnusedIgnore (sized word)
+unplaced (kinds.BadIgnore (bad.NoKind word)) = kinds.BadIgnore (bad.NoKind (sized word))
+unplaced (kinds.BadIgnore (bad.NotIgnored word)) = kinds.BadIgnore (bad.NotIgnored (sized word))
 unplaced kind = kind
 
 -- the places that it tells
-abbrev pub places_of_word : Span → List ℕ
-places_of_word word = word.start ∷ word.end ∷ []
-
 abbrev pub places_within : Kind → List ℕ
 places_within (kinds.DefinedAgain what last) = last ∷ []
 places_within (kinds.OctalLike character start octal) = start ∷ []
 places_within (kinds.PairAgain accent base first) = first ∷ []
-places_within (kinds.UnusedIgnore word) = places_of_word word
-places_within (kinds.BadIgnore (bad.NoKind word)) = places_of_word word
-places_within (kinds.BadIgnore (bad.NotIgnored word)) = places_of_word word
+places_within (kinds.UnusedIgnore word) = word.start ∷ []
+places_within (kinds.BadIgnore (bad.NoKind word)) = word.start ∷ []
+places_within (kinds.BadIgnore (bad.NotIgnored word)) = word.start ∷ []
 places_within kind = []
 
 -- The diagnostics are the same but for places, and each place of the one is that of the other in its place.
@@ -64,6 +61,16 @@ IsSameToken text other = BeginsIn (map span_of (tokens text)) (map span_of (toke
 pub record AnswerTheSame (l k : Diagnostics) : Type 0 where
   pub untyped : l.untyped.items ≡ k.untyped.items
   pub never : never_sticks l.sticking ≡ never_sticks k.sticking
+
+-- No presses lead a keymap to more states than a search goes over, so none gives up.
+abbrev pub HasFewStates : MapValue → Type 0
+HasFewStates m = (p : ℕ) → ReachesMoreThan (alone m) state_limit p → ⊥
+
+-- Of two texts with the same tokens the searches answer the same, where none gives up.
+abbrev pub SameTokensSameAnswers : Type 0
+SameTokensSameAnswers =
+    (text other : List ℕ) → HaveSameTokens text other → (m : MapValue) → Spells text m → HasFewStates m
+    → (l k : Diagnostics) → IsLint text (OfSpelled l) → IsLint other (OfSpelled k) → AnswerTheSame l k
 
 -- Of two texts with the same tokens, and without directives, the diagnostics are the same but for places, in one order:
 -- each stands at the same token, and tells of the same tokens.
@@ -87,31 +94,3 @@ abbrev pub SameTokensTellOfTheSame : Type 0
 SameTokensTellOfTheSame =
     (text other : List ℕ) → HaveSameTokens text other → (l k : Diagnostics) → IsLint text (OfSpelled l)
     → IsLint other (OfSpelled k) → TellOfTheSame l k
-
--- The words of directives have the same bytes, and are for the same definition or the whole text.
-pub record IsSameWord (text other : List ℕ) (w v : Ignored) : Type 0 where
-  pub scope : w.scope ≡ v.scope
-  pub bytes : bytes_at text w.word ≡ bytes_at other v.word
-
--- The directives of the one text name the same as those of the other.
-abbrev pub NameTheSame : List ℕ → List ℕ → Type 0
-NameTheSame text other =
-    (m : MapValue) (rows others : List Row) → IsSpelledBy text m rows → IsSpelledBy other m others
-    → Pairwise (IsSameWord text other) (words text (spelled_by text m rows)) (words other (spelled_by other m others))
-
--- the diagnostics that tell of the keymap: all but those that tell of directives
-abbrev pub is_of_directives : Kind → Bool
-is_of_directives (kinds.UnusedIgnore word) = true
-is_of_directives (kinds.BadIgnore wrong) = true
-is_of_directives kind = false
-
-abbrev pub of_keymap : Diagnostic → Bool
-of_keymap d = not (is_of_directives d.kind)
-
--- Of two texts with the same tokens, and with directives that name the same, what is told of the keymap is the same but
--- for places, in one order.
-abbrev pub SameDirectivesKeepTheSame : Type 0
-SameDirectivesKeepTheSame =
-    (text other : List ℕ) → HaveSameTokens text other → NameTheSame text other → (l k : Diagnostics)
-    → IsLint text (OfSpelled l) → IsLint other (OfSpelled k) → AnswerTheSame l k
-    → Pairwise (IsSame (IsSameToken text other)) (filter of_keymap l.list.items) (filter of_keymap k.list.items)

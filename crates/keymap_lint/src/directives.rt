@@ -67,6 +67,18 @@ fn word_length(bytes: &[u8]) -> usize
     first_between(bytes).unwrap_or(bytes.len())
 }
 
+/// The bytes without the spaces at their end.
+fn trim(bytes: &[u8]) -> &[u8]
+    ensures value { result.now ≡ spec.trimmed bytes.now }
+    ensures bound { length result.now ≤ length bytes.now }
+{
+    let mut end = bytes.len();
+    while end > 0 && is_space_byte(bytes[end - 1]) {
+        end -= 1;
+    }
+    &bytes[..end]
+}
+
 /// How many bytes a comment has up to what it says behind `kmap:`, if it begins so.
 fn said_from(comment: &[u8]) -> Option<usize>
     ensures value { result ≡ spec.said_from comment.now }
@@ -252,7 +264,7 @@ fn directive_at(bytes: &[u8], text: &SpelledText, place: usize) -> Option<Direct
     if bytes[place] != b'#' {
         return None;
     }
-    let comment = &bytes[place..line_end(bytes, place)];
+    let comment = trim(&bytes[place..line_end(bytes, place)]);
     let from = said_from(comment)?;
     let said = before_dashes(&comment[from..]);
     directive_by(

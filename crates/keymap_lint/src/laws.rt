@@ -1,8 +1,7 @@
 //! Laws of the diagnostics: what they promise of the keymap that a text spells, and of its faults. No function here
 //! does anything.
 ghost use Rattle.keymap_lint.specs.Positions.{CellsInForceAreSpelled, DiagnosticsStandInTheText};
-ghost use Rattle.keymap_lint.specs.Same.{SameDirectivesKeepTheSame, SameTokensSameDiagnostics};
-ghost use Rattle.keymap_lint.specs.Same.{SameTokensTellOfTheSame};
+ghost use Rattle.keymap_lint.specs.Same.{SameTokensSameAnswers, SameTokensSameDiagnostics, SameTokensTellOfTheSame};
 ghost use Rattle.keymap_lint.specs.Promises.{FaultsAreInOrder, KeysAreNamedExactlyIfRefused, WellTextsNeverStick};
 
 /// Where no diagnostic of a text is an error, the text spells a keymap, and after each list of presses and releases a
@@ -39,18 +38,17 @@ pub fn same_tokens_tell_of_the_same()
     ensures { SameTokensTellOfTheSame }
 {}
 
+/// Of two texts with the same tokens the searches answer the same: what no keys type, and whether a modifier may stay
+/// on. So it is where no more than 65,536 states can be reached, for else a search may give up.
+pub fn same_tokens_same_answers()
+    ensures { SameTokensSameAnswers }
+{}
+
 /// Of two texts with the same tokens, and without directives, the diagnostics are the same but for places, in the same
 /// order: each stands at the same token, and tells of the same tokens.
 #[tactic(auto, using(crate::proofs::SameTexts::same_tokens_same_diagnostics))]
 pub fn same_tokens_same_diagnostics()
     ensures { SameTokensSameDiagnostics }
-{}
-
-/// Of two texts with the same tokens, whose directives name the same kinds for the same definitions, what is told of
-/// the keymap is the same but for places, in the same order: each stands at the same token, and tells of the same ones.
-#[tactic(auto, using(crate::proofs::SameTexts::same_directives_keep_the_same))]
-pub fn same_directives_keep_the_same()
-    ensures { SameDirectivesKeepTheSame }
 {}
 
 /// Of a text with a fault there are 21 faults at most. The first one is the fault of the text, and each other one

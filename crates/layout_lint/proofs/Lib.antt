@@ -1,0 +1,5 @@
+pub mod Common
+pub mod Gaps
+pub mod Walk
+pub mod Bytes
+pub mod Layouts

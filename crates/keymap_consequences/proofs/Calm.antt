@@ -1,6 +1,6 @@
 -- A press that changes nothing: what comes behind it is answered as by a new console.
-use Rattle.keymap_consequences.proofs.Common.{◌≡◌, ◌<◌, ◌∷◌, [], ◌∙◌, ◌⊎◌, ◌||◌, ℕ, Bool, true, false, List, None, Some, Option}
-use Rattle.keymap_consequences.proofs.Common.{refl, ap, sym, subst, inl, inr, cases_Bool, rules, if◌then◌else◌, ◌==◌}
+use Rattle.keymap_consequences.proofs.Common.{◌≡◌, ◌<◌, ◌∷◌, [], ◌∙◌, ◌⊎◌, ◌||◌, ℕ, Bool, true, false, List, None, Some}
+use Rattle.keymap_consequences.proofs.Common.{refl, ap, sym, subst, inl, inr, cases_Bool, if◌then◌else◌, ◌==◌}
 use Rattle.std.proofs.Common.{ne_eqb}
 use Rattle.std.proofs.lemmas.Bool.{cases_eq, eq-eqb, true≢false}
 use mathlib.Core.Path.{fun_ext}
@@ -25,18 +25,17 @@ use Rattle.console_core.specs.Inner.Kept.{next_pending, pending_after_dead_key}
 use Rattle.console_core.specs.Columns.{flips_shift, look_with}
 use Rattle.console_core.specs.History.{accent_pending_after, answer_to, between, in_force, is_on_after}
 use Rattle.console_core.specs.History.{is_second_in_force, resolved}
-use Rattle.console_core.specs.Reading.{answer_to_look, look_after, remembered_after}
+use Rattle.console_core.specs.Reading.{answer_to_look, remembered_after}
 use Rattle.console_core.specs.Resolved.{ResolvedEvent, held, locked, look, on, pending, remembered, resolve_press}
 use Rattle.console_core.specs.Resolved.{taken_over}
-use Rattle.console_core.specs.Resolved.ResolvedEvent.{PressedAction, PressedCharacter, ReleasedKey}
+use Rattle.console_core.specs.Resolved.ResolvedEvent.{PressedAction, ReleasedKey}
 use Rattle.console_core.proofs.Shared.{answers_by_cases, held-action, held-character, held-release, held-start}
 use Rattle.console_core.proofs.Shared.{locked-action, locked-character, locked-release, locked-start, one_map}
 use Rattle.console_core.proofs.Shared.{pending-action, pending-character, pending-release, pending-start}
 use Rattle.console_core.proofs.Shared.{remembered-action, remembered-character, remembered-release}
 use Rattle.console_core.proofs.Shared.{remembered-start, resolved-more, resolved-start}
 use Rattle.console_states.proofs.Shared.{not_holding}
-use Rattle.console_scripts.specs.Typing.{plainly}
-use Rattle.keymap_consequences.specs.Consequences.{IsTypedByOne, before_second}
+use Rattle.keymap_consequences.specs.Consequences.{before_second}
 use Rattle.keymap_consequences.specs.Inner.Near.{Changes, ChangesBy}
 
 -- no modifier and no lock is on, and no accent is pending

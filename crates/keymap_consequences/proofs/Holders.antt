@@ -59,14 +59,6 @@ quiet-set P xs n i b e within before here k lt none = elim (place_last k n lt) [
       ∙ subst (λ z. get_or (set xs i b) z false ≡ false) (same ∙ sym e) none))
 ]
 
--- both bear it or neither
-pub alike-true : (m n : MapValue) (k : ℕ) (a : Holding) → Bears m k a → Bears n k a → Bears m k a ↔ Bears n k a
-alike-true m n k a old new = ((λ _. new), (λ _. old))
-
-pub alike-false : (m n : MapValue) (k : ℕ) (a : Holding) → (Bears m k a → ⊥) → (Bears n k a → ⊥)
-    → Bears m k a ↔ Bears n k a
-alike-false m n k a old new = ((λ b. absurd (old b)), (λ b. absurd (new b)))
-
 -- ---- modifiers and locks by their places
 
 abbrev at_index : ℕ → Holding

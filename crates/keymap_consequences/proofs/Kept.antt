@@ -1,5 +1,5 @@
 -- The characters of a sorted list that stay, one after another.
-use Rattle.keymap_consequences.proofs.Common.{◌≡◌, ◌<◌, ◌≤◌, ◌+◌, ◌++◌, ◌∷◌, ◌∙◌, [], ◌⊎◌, ℕ, List, length, inl, inr, refl, sym}
+use Rattle.keymap_consequences.proofs.Common.{◌≡◌, ◌<◌, ◌≤◌, ◌+◌, ◌++◌, ◌∷◌, ◌∙◌, [], ◌⊎◌, ℕ, List, length, inl, inr, sym}
 use Rattle.keymap_consequences.proofs.Common.{AllPairs, Contains, Contains-push, Contains-push_cases, all_pairs_push}
 use Rattle.keymap_consequences.proofs.Common.{arith, place_last, subst, ap}
 use Rattle.std.specs.Prelude.{◌↔◌}

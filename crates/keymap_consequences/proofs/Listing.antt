@@ -1,7 +1,7 @@
 -- Lists to which one is added number by number, and lists of which some stay.
-use Rattle.keymap_consequences.proofs.Common.{◌≡◌, ◌<◌, ◌+◌, ◌++◌, ◌∷◌, [], ◌⊎◌, ℕ, Bool, true, List, length, inl, inr}
-use Rattle.keymap_consequences.proofs.Common.{All, Any, AllPairs, Contains, arith, refl, subst, sym, ap, ◌∙◌, filter}
-use Rattle.keymap_consequences.proofs.Common.{All-nil, All-push, Any-push, all_pairs_push, place_last, rules}
+use Rattle.keymap_consequences.proofs.Common.{◌≡◌, ◌<◌, ◌+◌, ◌++◌, ◌∷◌, [], ◌⊎◌, ℕ, List, inl, inr}
+use Rattle.keymap_consequences.proofs.Common.{All, Any, AllPairs, Contains, arith, subst, sym, ◌∙◌}
+use Rattle.keymap_consequences.proofs.Common.{All-nil, All-push, Any-push, all_pairs_push, place_last}
 use Rattle.keymap_consequences.specs.Lists.{ListsInOrder, StandForEach}
 use Rattle.std.proofs.Common.{length-append}
 use Rattle.std.proofs.lemmas.List.{get_or_append_left}

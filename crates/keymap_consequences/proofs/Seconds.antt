@@ -1,5 +1,5 @@
 -- The characters that the second of two presses types are those behind a press that changes something.
-use Rattle.keymap_consequences.proofs.Common.{◌≡◌, ◌<◌, ◌⊎◌, ◌∙◌, ◌∷◌, [], ℕ, true, false, List, inl, inr, sym, subst}
+use Rattle.keymap_consequences.proofs.Common.{◌≡◌, ◌<◌, ◌⊎◌, ◌∙◌, ◌∷◌, [], ℕ, inl, inr, sym}
 use Rattle.std.specs.Prelude.{◌↔◌}
 use Rattle.std.specs.BTreeSet.{BTreeSet}
 use Rattle.keymap_core.specs.Maps.{MapValue, cell_at}

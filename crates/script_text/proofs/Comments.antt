@@ -4,7 +4,6 @@ use Rattle.script_text.proofs.Common.{subst, arith, append-nil, append_assoc, de
 use Rattle.script_text.proofs.Common.{ne_eqb, not-true, get_or, get_or_default, All, All-head, All-tail}
 use Rattle.script_text.proofs.Common.{EachPasses, filled_all, Sent, IsScript, script-nil, line-script, comment, name_of}
 use Rattle.std.specs.Prelude.{◌≢◌, encode_utf8}
-use Rattle.std.specs.List.{list_all}
 use Rattle.std.proofs.lemmas.Bool.{false≢true}
 use Rattle.std.proofs.lemmas.List.Folds.{list_any_none}
 use Rattle.std.proofs.lemmas.List.Sums.{AllPass-from_list_all, list_all-from_AllPass}

@@ -1,7 +1,7 @@
 -- What is told of a difference between two keymaps stays in its line.
 use Rattle.script_text.proofs.Common.{◌≡◌, ℕ, ◌+◌, ◌-◌, ◌==◌, Bool, true, false, not, List, [], ◌∷◌, ◌++◌, Option, Some}
 use Rattle.script_text.proofs.Common.{None, refl, subst, arith, decimal, if◌then◌else◌, ne_eqb, codes, length, take}
-use Rattle.script_text.proofs.Common.{flat_map, range_with_len, name_of, filled_all}
+use Rattle.script_text.proofs.Common.{range_with_len, name_of, filled_all}
 use Rattle.std.specs.Prelude.{◌≢◌, ◌/◌, ◌%◌, ◌||◌, ◌&&◌, nat_lt, slice_index, slice_index_or, encode_utf8}
 use Rattle.std.specs.List.{list_all, list_any}
 use Rattle.std.proofs.lemmas.Bool.{cond_both, true≢false}
@@ -25,7 +25,6 @@ use Rattle.keymap_diff.specs.declared.change.Change.TheVariants.{Slots, Cell, Le
 use Rattle.keymap_diff.specs.declared.change.Change.TheVariants.{ListedOtherwise}
 use Rattle.keymap_diff.specs.declared.telling.Telling.{Telling}
 use Rattle.keymap_diff.specs.declared.telling.Telling.TheVariants.{Told, Never, Undecided}
-use Rattle.messages.specs.Filled.{filled}
 use Rattle.script_text.proofs.Comments.{IsInLine, append-line, decimal-line, encoded-line, flat-line, if-line, in-line}
 use Rattle.script_text.proofs.Comments.{is_in_line, name-line}
 use Rattle.script_text.specs.Diff.{answer_told, are_alike, cell_told, change_at, changed_text, columns_like}

@@ -4,7 +4,7 @@ use Rattle.script_text.proofs.Common.{◌≡◌, ℕ, ◌<◌, true, false, List
 use Rattle.script_text.proofs.Common.{append-nil, length, lit<, range_with_len, reverse, codes, flat_map}
 use Rattle.script_text.proofs.Common.{reverse-reverse, All}
 use Rattle.script_text.proofs.Common.{All-head, All-tail, All-reversed, MapValue, HasKey, HasKeys, Event, Sent}
-use Rattle.script_text.proofs.Common.{IsScript, comment, sends, line-script, one_list}
+use Rattle.script_text.proofs.Common.{IsScript, sends, line-script, one_list}
 use Rattle.std.specs.Prelude.{◌≢◌}
 use Rattle.std.proofs.Common.{arith}
 use Rattle.std.specs.Prelude.{Bool, cond, not, suc, take, ◌+◌}

@@ -1,4 +1,4 @@
-use Rattle.keymap_consequences.proofs.Common.{◌≡◌, ◌∙◌, ap, arith, subst, sym, ℕ}
+use Rattle.keymap_consequences.proofs.Common.{◌≡◌, ◌∙◌, ap, arith, subst, sym}
 use Rattle.keymap_core.specs.Actions.{holding_index}
 use Rattle.keymap_core.specs.declared.action.Holding.{Holding}
 use Rattle.keymap_consequences.proofs.Holders.{index-same, index-small}

@@ -1,5 +1,5 @@
 -- the bearers of the modifiers and locks before this one are listed
-use Rattle.keymap_consequences.proofs.Common.{ℕ, ◌≡◌}
+use Rattle.keymap_consequences.proofs.Common.{◌≡◌}
 use Rattle.keymap_core.specs.Actions.{holding_index}
 use Rattle.keymap_core.specs.declared.action.Holding.{Holding}
 use Rattle.keymap_consequences.proofs.Listing.{StandBelow}

@@ -1,4 +1,4 @@
-use Rattle.keymap_consequences.proofs.Common.{◌≡◌, ◌∙◌, ap, arith, subst, sym}
+use Rattle.keymap_consequences.proofs.Common.{◌≡◌, ◌∙◌, ap, arith}
 use Rattle.std.proofs.Common.{get_or}
 use Rattle.keymap_core.specs.declared.entry.Cell.TheVariants.{Char}
 use Rattle.keymap_consequences.proofs.bearing.has_holding.Goals as goal

@@ -1,4 +1,4 @@
-use Rattle.keymap_consequences.proofs.Common.{◌≡◌, ◌∙◌, ℕ, arith, subst, sym, Contains}
+use Rattle.keymap_consequences.proofs.Common.{◌≡◌, ◌∙◌, arith, subst, sym, Contains}
 use Rattle.std.proofs.Common.{get_or}
 use Rattle.std.proofs.lemmas.Option.{same_Some, slice_get-get_or, slice_get_within}
 use Rattle.console_scripts.specs.Typing.{CanType}

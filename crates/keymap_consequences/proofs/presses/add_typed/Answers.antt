@@ -1,4 +1,4 @@
-use Rattle.keymap_consequences.proofs.Common.{◌≡◌, ◌∙◌, ℕ, ap, subst, sym}
+use Rattle.keymap_consequences.proofs.Common.{◌≡◌, ◌∙◌, ℕ, ap, sym}
 use Rattle.console_core.specs.declared.event.Answer.{Answer}
 use Rattle.console_core.specs.declared.event.Answer.TheVariants as answer
 use Rattle.console_scripts.specs.Typing.{plainly}

@@ -1,6 +1,6 @@
 use Rattle.std.proofs.Common.{ne_eqb}
 use Rattle.std.proofs.lemmas.Bool.{eq-eqb}
-use Rattle.keymap_consequences.proofs.Common.{◌∙◌, ◌≡◌, ◌∷◌, [], ap, sym, subst}
+use Rattle.keymap_consequences.proofs.Common.{◌∙◌, ◌≡◌, ◌∷◌, [], sym, subst}
 use Rattle.console_core.specs.History.{answer_to, between}
 use Rattle.console_core.specs.declared.event.Event.TheVariants.{Press, Release}
 use Rattle.keymap_consequences.proofs.presses.second_answer.Goals as goal

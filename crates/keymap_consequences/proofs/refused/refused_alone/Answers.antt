@@ -1,5 +1,5 @@
 use Rattle.keymap_consequences.proofs.Common.{◌≡◌, ◌∙◌, arith, subst, sym}
-use Rattle.keymap_consequences.proofs.Listing.{StandBelow, stand-all, stand-none, stand-push, stand-skip}
+use Rattle.keymap_consequences.proofs.Listing.{stand-all, stand-none, stand-push, stand-skip}
 use Rattle.keymap_consequences.proofs.Refusals.{found-finding, unsafe-alone, unsafe-both}
 use Rattle.keymap_consequences.specs.Consequences.{IsRefused, IsUnsafeAlone}
 use Rattle.keymap_consequences.specs.declared.refused.Refused.{Refused}

@@ -1,5 +1,4 @@
 -- the keys below this one that are refused alone are named
-use Rattle.keymap_consequences.proofs.Common.{ℕ, All}
 use Rattle.keymap_core.specs.Maps.{MapValue}
 use Rattle.keymap_check.specs.Findings.{AreFindings}
 use Rattle.keymap_consequences.proofs.Listing.{StandBelow}

@@ -3,9 +3,7 @@ use Rattle.keymap_consequences.proofs.Common.{◌≡◌, false}
 use Rattle.std.specs.BTreeSet.{contains}
 use Rattle.std.specs.Ordering.{nat_cmp}
 use Rattle.keymap_core.specs.Maps.{MapValue}
-use Rattle.console_scripts.specs.Typing.{CanType}
 use Rattle.keymap_consequences.proofs.Kept.{KeptBelow}
-use Rattle.keymap_consequences.specs.Consequences.{TakesMore}
 use Rattle.keymap_consequences.specs.Inner.Near.{AreTapsOf}
 use Rattle.keymap_consequences.proofs.taps.alone.Given as goal
 

@@ -1,10 +1,7 @@
-use Rattle.keymap_consequences.proofs.Common.{◌≡◌, ◌<◌, ◌∙◌, ℕ, List, AllPairs, ap, arith, false, length, subst, sym, true≢false}
-use Rattle.std.proofs.Common.{get_or}
-use Rattle.std.specs.BTreeSet.{contains}
-use Rattle.std.specs.Ordering.{nat_cmp}
+use Rattle.keymap_consequences.proofs.Common.{◌≡◌, ◌<◌, ◌∙◌, AllPairs, false, subst, sym, true≢false}
 use Rattle.console_scripts.specs.Typing.{CanType}
 use Rattle.keymap_consequences.proofs.Kept.{kept-all, kept-none, kept-push, kept-skip, sorted-pairs, typed-farther}
-use Rattle.keymap_consequences.specs.Consequences.{IsFarther, IsTypedAlone, TakesMore}
+use Rattle.keymap_consequences.specs.Consequences.{IsFarther, TakesMore}
 use Rattle.keymap_consequences.proofs.taps.farther.Goals.{then-is_farther+in_ok-push, else-is_farther}
 use Rattle.keymap_consequences.proofs.taps.farther.Goals as goal
 

@@ -1,7 +1,5 @@
 -- the characters before this one that stay are listed
-use Rattle.keymap_consequences.proofs.Common.{◌≡◌, false}
-use Rattle.std.specs.BTreeSet.{contains}
-use Rattle.std.specs.Ordering.{nat_cmp}
+use Rattle.keymap_consequences.proofs.Common.{◌≡◌}
 use Rattle.keymap_core.specs.Maps.{MapValue}
 use Rattle.console_scripts.specs.Typing.{CanType}
 use Rattle.keymap_consequences.proofs.Kept.{KeptBelow}

@@ -1,7 +1,6 @@
-use Rattle.keymap_consequences.proofs.Common.{◌≡◌, ◌<◌, ◌∙◌, ℕ, arith, refl, subst, sym}
+use Rattle.keymap_consequences.proofs.Common.{◌≡◌, ◌<◌, ◌∙◌, arith, refl}
 use Rattle.keymap_core.specs.Actions.{code_of}
-use Rattle.keymap_consequences.proofs.Codes.{IsCodeAlone, code-same, code-small, given-here, given-none, given-push}
-use Rattle.keymap_consequences.proofs.Codes.{given-there}
+use Rattle.keymap_consequences.proofs.Codes.{IsCodeAlone, code-same, code-small}
 use Rattle.keymap_consequences.proofs.Listing.{stand-all, stand-lists, stand-none, stand-push, stand-skip}
 use Rattle.keymap_consequences.specs.Consequences.{IsGivenAlone}
 use Rattle.keymap_consequences.proofs.taps.given_alone.Goals.{in-Some+in_ok-push, in_default}

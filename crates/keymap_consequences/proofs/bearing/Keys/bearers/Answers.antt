@@ -1,4 +1,4 @@
-use Rattle.keymap_consequences.proofs.Common.{◌≡◌, ◌<◌, ◌∙◌, ℕ, arith, subst, sym}
+use Rattle.keymap_consequences.proofs.Common.{◌≡◌, ◌<◌, ◌∙◌, arith, subst, sym}
 use Rattle.keymap_core.specs.Bearers.{Bears}
 use Rattle.keymap_consequences.proofs.Holders.{IsHolder}
 use Rattle.keymap_consequences.proofs.Listing.{stand-all, stand-lists, stand-none, stand-push, stand-skip}

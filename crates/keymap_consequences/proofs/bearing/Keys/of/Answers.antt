@@ -1,7 +1,7 @@
-use Rattle.keymap_consequences.proofs.Common.{◌≡◌, ◌<◌, ◌∙◌, arith, refl, subst, sym}
+use Rattle.keymap_consequences.proofs.Common.{◌≡◌, ◌<◌, ◌∙◌, arith, refl, subst}
 use Rattle.std.proofs.lemmas.List.{length-set}
 use Rattle.keymap_consequences.proofs.Holders.{quiet-set}
-use Rattle.keymap_consequences.specs.Inner.Keys.{AreQuiet, BearsNothing}
+use Rattle.keymap_consequences.specs.Inner.Keys.{BearsNothing}
 use Rattle.keymap_consequences.proofs.bearing.Keys.of.Goals as goal
 
 pub loop-code-preserved : goal.loop-code-preserved

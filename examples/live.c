@@ -71,6 +71,17 @@ static void put_utf8(uint32_t c)
 	}
 }
 
+static void put_answer(uint32_t answer)
+{
+	if (KMAP_IS_CHAR(answer)) {
+		if (answer & KMAP_MKEY)
+			putchar(0x1b);
+		put_utf8(KMAP_CHAR(answer));
+	} else if ((answer & (KMAP_SPCLKEY | KMAP_BKEY)) == (KMAP_SPCLKEY | KMAP_BKEY)) {
+		fputs("\033[Z", stdout);
+	}
+}
+
 /*
  * The event of the console: a release, or a press or its repeat, of a key that the console has. What a device lost is
  * lost to the console too, which is told so by a reset.
@@ -100,9 +111,8 @@ int main(int argc, char **argv)
 	setvbuf(stdout, NULL, _IONBF, 0);
 	kmap_start(&console);
 	while (fread(&input, sizeof input, 1, stdin) == 1) {
-		if (kmap_step(tables.bytes, sizeof tables.bytes, &console, event_of(&input), &answer) == KMAP_OK
-		    && KMAP_IS_CHAR(answer))
-			put_utf8(KMAP_CHAR(answer));
+		if (kmap_step(tables.bytes, sizeof tables.bytes, &console, event_of(&input), &answer) == KMAP_OK)
+			put_answer(answer);
 	}
 	if (ferror(stdin)) {
 		fputs("live: cannot read\n", stderr);

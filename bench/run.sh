@@ -307,6 +307,11 @@ echo "differences of us.kbd and itself: $same $unit; of us.kbd and de.kbd: $diff
 echo "  $(transfers diff "$keymap" "$examples/de.kbd")"
 measured diff-same "$same"
 measured diff "$differing"
+sed "s/( 'a' 'á' )/( 'a' 'x' )/" "$examples/de.kbd" > de.pair
+paired=$(cost diff "$examples/de.kbd" de.pair)
+echo "differences of de.kbd and itself with one pair changed: $paired $unit;" \
+    "$("$program" diff "$examples/de.kbd" de.pair | head -n 1)"
+measured diff-pair "$paired"
 # as many states as the search goes over, and an accent that no key has
 make_states 8 > states
 { cat states; echo "dacu 180 ( 'a' 0xe1 )"; } > states.accent

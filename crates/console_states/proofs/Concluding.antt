@@ -6,13 +6,18 @@ use Rattle.console_states.proofs.Common.{IsForgetful, HolderForgets, script_of_p
 use Rattle.console_states.proofs.Common.{IsReached, AreDone, AreSafe, IsStuck, HasEnded, presses}
 use Rattle.console_states.proofs.Common.{NeverSticksUnder, ReleasesPressedKeys, Complete}
 use Rattle.console_states.specs.Searching.{IsScriptTo}
-use Rattle.console_states.specs.Sticking.{NoneSticksUnderBy, LeavesOnUnder, HasFewestUnder}
+use Rattle.console_states.specs.Sticking.{HasFewStates, NoneSticksUnderBy, LeavesOnUnder, HasFewestUnder}
 use Rattle.console_states.proofs.Deciding.{under-self, never-under, sticks_if_reached}
 use Rattle.console_states.proofs.Scripts.{presses-script, releases-script}
 use Rattle.console_states.proofs.Beginning.{reached-one, start-one}
 use Rattle.console_states.proofs.Searching.{met-up, all-done}
 use Rattle.console_states.proofs.Sparing.{IsKeptBelow, IsSafeBelow, never-sticks, sticks-late}
-use Rattle.console_states.proofs.Nearest.{met-moved, below-fewer, done-before}
+use Rattle.console_states.proofs.Nearest.{IsMet, all-met, met-moved, below-fewer, done-before}
+use Rattle.console_states.proofs.Common.{Searched, ReachesMoreThanFrom, cases_lt, inl, inr, ◌⊎◌, ◌≤◌, None}
+use Rattle.std.specs.Prelude.{if◌then◌else◌, ◌+◌}
+use Rattle.std.specs.Option.{is_some}
+use Rattle.console_states.proofs.Searching.{same_entry}
+use Rattle.indexmap.proofs.IndexTableLemmas.Probe.{pigeonhole}
 
 -- the moves keep the states that were met
 pub kept-below : (u : Under) (es : Entries) (n : ℕ) → IsMetBy es 0 start → AreDone u es n → IsKeptBelow u n (IsMetBy es)
@@ -43,6 +48,46 @@ complete-never u es ended safe =
     (λ n.
     safe-below u es n (start-one ended.searched) (all-done u es ended.is.0 n)
     (λ j x at lt. safe j x at (slice_get_within es j x at))))
+
+-- where all states were met, and they are no more than the limit, paths lead to no more
+pub all-few : (u : Under) (met : Entries) (p : ℕ) → Searched u (start ∷ []) met (length met) (length met)
+    → length met ≤ 65536 → ReachesMoreThanFrom u start 65536 p → ⊥
+all-few u met p searched few (states, leads, apart) =
+    let less = pigeonhole 65537 (length met) place into one in omega (arith, less, few)
+  where
+    found : (j : ℕ) → j < 65537 → IsMet met (states j)
+    found j lt =
+        let (path, is, short, to) = leads j (omega (arith, lt)) in
+        subst (λ s. IsMet met s) to (all-met u met searched path is)
+
+    place-by : (j : ℕ) → (j < 65537) ⊎ (65537 ≤ j) → ℕ
+    place-by j (inl lt) = (found j lt).0
+    place-by j (inr le) = 0
+
+    place : ℕ → ℕ
+    place j = place-by j (cases_lt j 65537)
+
+    at-by : (j : ℕ) (o : (j < 65537) ⊎ (65537 ≤ j)) → j < 65537
+        → (x : Entry) × (slice_get met (place-by j o) ≡ Some x) × (state_of x.0 ≡ states j)
+    at-by j (inl lt) below = let (i, x, at, same) = found j lt in (x, at, same)
+    at-by j (inr le) below = absurd (omega (arith, le, below))
+
+    into : (j : ℕ) → j < 65537 → place j < length met
+    into j lt =
+        let (x, at, same) = at-by j (cases_lt j 65537) lt in slice_get_within met (place j) x at
+
+    one : (i j : ℕ) → i < 65537 → j < 65537 → place i ≡ place j → i ≡ j
+    one i j lt_i lt_j e =
+        let (x, at, same) = at-by i (cases_lt i 65537) lt_i in
+        let (y, there, is) = at-by j (cases_lt j 65537) lt_j in
+        apart i j (omega (arith, lt_i)) (omega (arith, lt_j))
+        (sym same ∙ ap (λ z. state_of z.0) (same_entry met (place j) (place i) y x (sym e) there at) ∙ is)
+
+-- where a search that minds no accent met all states, they are no more than it goes over
+pub complete-few : (u : Under) (es : Entries) → HasEnded u (start ∷ []) es Complete → u.minded ≡ None → HasFewStates u
+complete-few u es ended none p =
+    all-few u es p ended.is.0
+    (subst (λ o. length es ≤ (if is_some o then 65536 + 65536 else 65536)) none ended.is.1)
 
 -- where too many were, none does by the presses that are told
 pub none-late : (u : Under) (es : Entries) (p : ℕ) → HasEnded u (start ∷ []) es (TooMany p) → AreSafe u es (length es)

@@ -1,64 +1,28 @@
 -- The selections of the states where an accent is pending, as searches find them.
-use Rattle.console_states.proofs.Common.{zero, suc, ◌≡◌, ℕ, ◌<◌, ◌≤◌, true, false, inl, inr, List, [], ◌∷◌, ◌++◌}
+use Rattle.console_states.proofs.Common.{zero, suc, ◌≡◌, ℕ, true, false, inl, inr, List, [], ◌∷◌, ◌++◌}
 use Rattle.console_states.proofs.Common.{length, refl, slice_get, Some, ap, subst, sym, ◌∙◌, arith}
-use Rattle.console_states.proofs.Common.{Contains, cases_lt}
+use Rattle.console_states.proofs.Common.{Contains}
 use Rattle.console_states.proofs.Common.{Contains-push_cases, slice_get_within, MapValue, Move, LetGo, Selection, Offer}
 use Rattle.console_states.proofs.Common.{Sights, usable, Under, alone, State, start, IsPath, IsStep, Step}
 use Rattle.console_states.proofs.Common.{state_after, IsForgetful, IsOfferedIn, AreSightsOf, selection_of}
 use Rattle.console_states.proofs.Common.{state_of, Entry, Entries, Searched, AreSafe, IsStuck}
-use Rattle.console_states.proofs.Common.{AreMinded, Tap, with_accent, minding, presses_along, ReachesMoreThanFrom, ◌⊎◌}
+use Rattle.console_states.proofs.Common.{AreMinded, Tap, with_accent, minding, presses_along}
 use Rattle.console_states.proofs.Common.{IsOfferedUnlocked, AreSelectionsOf, AreOffersOf}
 use Rattle.console_states.proofs.Common.{IsInSome, AreComposed, Lists, IsLedTo, OffersUnlocked}
-use Rattle.indexmap.proofs.IndexTableLemmas.Probe.{pigeonhole}
 use Rattle.std.proofs.lemmas.Bool.{true_from_ne_false}
 use Rattle.console_states.specs.Sights.{CanCompose, CanOffer, CanSelect, accents_in}
 use Rattle.console_states.specs.Inner.Adding.{AreAccentsOf}
 use Rattle.console_states.proofs.Paths.{path-split}
-use Rattle.console_states.proofs.Nearest.{IsMet, is-nowhere, all-met}
+use Rattle.console_states.proofs.Nearest.{is-nowhere, all-met}
 use Rattle.console_states.proofs.SameStates.{home-start}
 use Rattle.console_states.proofs.Beginning.{reached-one}
 use Rattle.console_states.proofs.Minding.{minded_are_offers, offers_are_minded, pending-leads, tap-moves}
 use Rattle.console_states.proofs.Scripts.{reached-more}
 use Rattle.console_states.proofs.Standing.{minded-path}
-use Rattle.console_states.proofs.Searching.{same_entry}
 use Rattle.console_states.proofs.Staying.{emptied, emptied-kept, emptied-none}
 use Rattle.console_states.proofs.Visits.{path-first, path-none}
 
 -- ---- the states of a search that minds the accent
-
--- where all states were met, and they are no more than the limit, paths lead to no more
-pub all-few : (u : Under) (met : Entries) (p : ℕ) → Searched u (start ∷ []) met (length met) (length met)
-    → length met ≤ 65536 → ReachesMoreThanFrom u start 65536 p → ⊥
-all-few u met p searched few (states, leads, apart) =
-    let less = pigeonhole 65537 (length met) place into one in omega (arith, less, few)
-  where
-    found : (j : ℕ) → j < 65537 → IsMet met (states j)
-    found j lt =
-        let (path, is, short, to) = leads j (omega (arith, lt)) in
-        subst (λ s. IsMet met s) to (all-met u met searched path is)
-
-    place-by : (j : ℕ) → (j < 65537) ⊎ (65537 ≤ j) → ℕ
-    place-by j (inl lt) = (found j lt).0
-    place-by j (inr le) = 0
-
-    place : ℕ → ℕ
-    place j = place-by j (cases_lt j 65537)
-
-    at-by : (j : ℕ) (o : (j < 65537) ⊎ (65537 ≤ j)) → j < 65537
-        → (x : Entry) × (slice_get met (place-by j o) ≡ Some x) × (state_of x.0 ≡ states j)
-    at-by j (inl lt) below = let (i, x, at, same) = found j lt in (x, at, same)
-    at-by j (inr le) below = absurd (omega (arith, le, below))
-
-    into : (j : ℕ) → j < 65537 → place j < length met
-    into j lt =
-        let (x, at, same) = at-by j (cases_lt j 65537) lt in slice_get_within met (place j) x at
-
-    one : (i j : ℕ) → i < 65537 → j < 65537 → place i ≡ place j → i ≡ j
-    one i j lt_i lt_j e =
-        let (x, at, same) = at-by i (cases_lt i 65537) lt_i in
-        let (y, there, is) = at-by j (cases_lt j 65537) lt_j in
-        apart i j (omega (arith, lt_i)) (omega (arith, lt_j))
-        (sym same ∙ ap (λ z. state_of z.0) (same_entry met (place j) (place i) y x (sym e) there at) ∙ is)
 
 -- what was met
 led-met : (u : Under) (met : Entries) {a b : ℕ} → Searched u (start ∷ []) met a b → (j : ℕ) (x : Entry)

@@ -1,6 +1,7 @@
 -- What the crates above may cite of these proofs. All else stands for this crate alone.
 pub use Rattle.console_states.proofs.Adding.{adds-both, adds-none, adds-one, empty-none}
 pub use Rattle.console_states.proofs.Beginning.{reached-one, start-one}
+pub use Rattle.console_states.proofs.Concluding.{all-few}
 pub use Rattle.console_states.proofs.Paths.{path-split, presses-append}
 pub use Rattle.console_states.proofs.Common.{Char, get_or_read_under}
 pub use Rattle.console_states.proofs.Deciding.{safe_never_sticks_between}

@@ -112,13 +112,17 @@ AreOnAfter ms h on = on ≡ filter (λ i. is_on_after ms i h) modifiers
 abbrev pub state_limit : ℕ
 state_limit = 65536
 
+-- paths lead to no more states than that
+abbrev pub HasFewStates : Under → Type 0
+HasFewStates u = (p : ℕ) → ReachesMoreThan u state_limit p → ⊥
+
 -- what each answer of a search says
 abbrev pub IsAnswerUnder : Under → Sticking → Type 0
 IsAnswerUnder u (Sticks events on) =
     LeavesOnUnder u (reverse events.items) × HasFewestUnder u (reverse events.items)
     × ReleasesPressedKeys (reverse events.items)
     × ((ms : Maps) → AreUnder u ms → AreOnAfter ms (reverse events.items) on.items)
-IsAnswerUnder u Never = NeverSticksUnder u
+IsAnswerUnder u Never = NeverSticksUnder u × HasFewStates u
 IsAnswerUnder u (Undecided p) = ReachesMoreThan u state_limit p × NoneSticksUnderBy u p
 
 -- of one keymap, without loads, and of two that loads exchange, of which the first is in force before any

@@ -1,6 +1,6 @@
 //! The search for sticking modifiers over the states that presses, releases and loads lead to, by the number of
 //! presses.
-ghost use Rattle.std.specs.Prelude.{◌≡◌, ◌+◌, ◌<◌, ◌≤◌, ◌∷◌, ◌++◌, ℕ, List, [], None, Some, length, reverse};
+ghost use Rattle.std.specs.Prelude.{◌≡◌, ◌+◌, ◌<◌, ◌≤◌, ◌∷◌, ◌++◌, ℕ, true, false, List, [], None, Some, length, reverse};
 ghost use Rattle.std.specs.Prelude.{slice_get, OnOk, IfOk, IfSome};
 ghost use Rattle.keymap_core.specs.Numbers.{key_count};
 ghost use Rattle.keymap_core.specs.declared.action.Modifier.{Modifier as ModifierValue};
@@ -12,8 +12,9 @@ ghost use Rattle.console_states.specs.Searching.{HasEnded, GoBack, IsScriptTo};
 ghost use Rattle.console_states.specs.Looks.{IsFirstStuck};
 ghost use Rattle.console_states.specs.AllowedSights.{IsFirstAllowed};
 ghost use Rattle.console_core.specs.History.{between};
-ghost use Rattle.console_states.specs.Moves.{Under, State, Holds, start, with_holder};
-ghost use Rattle.console_states.specs.Sticking.{IsAnswer, IsAnswerBetween, IsAnswerUnder};
+ghost use Rattle.console_states.specs.Moves.{Under, State, Holds, alone, start, with_holder};
+ghost use Rattle.console_states.specs.Sticking.{HasFewStates, IsAnswer, IsAnswerBetween, IsAnswerUnder};
+ghost use Rattle.console_states.specs.Sticking.{ReachesMoreThan, state_limit};
 
 use crate::held::{Held, Keymaps, Move, Step};
 use crate::key_lists::moving_keys;
@@ -317,7 +318,8 @@ pub fn first_allowed(met: &Met, maps: &Keymaps, sight: Sight) -> Option<KeyAt>
 
 /// What the states that a search met tell of whether a modifier can be left on while no key is pressed.
 fn conclude(alloc: Global, maps: &Keymaps, met: &Met, end: End) -> Result<Sticking, AllocError>
-    requires { HasEnded (under_of maps.now) (start ∷ []) met.now.entries end }
+    requires ended { HasEnded (under_of maps.now) (start ∷ []) met.now.entries end }
+    requires unminded { maps.now.minded ≡ None }
     ensures { IfOk result (λ answer. IsAnswerUnder (under_of maps.now) answer) }
 {
     if let Some(stuck) = first_stuck(met, maps) {
@@ -333,10 +335,23 @@ fn conclude(alloc: Global, maps: &Keymaps, met: &Met, end: End) -> Result<Sticki
 
 /// Decides whether presses, releases and, where there are any, loads can leave a modifier on while no key is pressed.
 fn decide(alloc: Global, maps: &Keymaps) -> Result<Sticking, AllocError>
+    requires { maps.now.minded ≡ None }
     ensures { IfOk result (λ answer. IsAnswerUnder (under_of maps.now) answer) }
 {
     let (met, end) = meet_all(alloc, maps, &Held::start())?;
     conclude(alloc, maps, &met, end)
+}
+
+/// Whether presses and releases lead to no more states than a search goes over.
+pub fn has_few_states(alloc: Global, map: &KeyMap) -> Result<bool, AllocError>
+    ensures few { IfOk result (λ few. few ≡ true → HasFewStates (alone map.now)) }
+    ensures many { IfOk result (λ few. few ≡ false → (p : ℕ) × ReachesMoreThan (alone map.now) state_limit p) }
+{
+    let (_, end) = meet_all(alloc, &Keymaps::alone(map), &Held::start())?;
+    match end {
+        End::Complete => Ok(true),
+        End::TooMany(_) => Ok(false),
+    }
 }
 
 /// Decides whether a keymap can leave a modifier on while no key is pressed.

@@ -1,4 +1,4 @@
--- The searches of two texts with the same tokens answer the same where none gives up.
+-- The searches of two texts with the same tokens answer the same, so the diagnostics are the same but for places.
 use Rattle.keymap_lint.proofs.Common.{◌≡◌, ℕ, ◌+◌, ◌<◌, ◌≤◌, Bool, true, false, List, [], ◌∷◌, length, refl, sym}
 use Rattle.keymap_lint.proofs.Common.{◌∙◌, ap, subst, arith, cond, true≢false, Option, Some, None, MapValue}
 use Prim.Native.Nat.{suc}
@@ -22,11 +22,15 @@ use Rattle.console_scripts.specs.Typing.{CanType}
 use Rattle.keymap_check.specs.Findings.{AreFindings}
 use Rattle.keymap_lint.specs.Types.{Finding, Sticking}
 use Rattle.keymap_lint.specs.Lists.{IsSearched}
-use Rattle.keymap_lint.specs.Same.{HasFewStates, SameTokensSameAnswers}
+use Rattle.keymap_lint.specs.Same.{IsSameToken, Pairwise, SameTokensSameAnswers, SameTokensSameDiagnostics, no_pair}
 use Rattle.keymap_lint.specs.Severities.{never_sticks}
-use Rattle.keymap_lint.specs.Typed.{AreTold, AreUntyped, LacksLetters, has_most_letters, is_letter, is_seen}
+use Rattle.keymap_lint.specs.Typed.{AreTold, AreToldOfFew, AreUntyped, LacksLetters, has_most_letters, is_letter, is_seen}
 use Rattle.keymap_lint.proofs.OneFindings.{one_list_of_findings}
-use Rattle.keymap_lint.proofs.SameTexts.{one_map_of_both}
+use Rattle.keymap_lint.proofs.SameTexts.{in_order, one_map_of_both, same_diagnostics, same_token_begins}
+use Rattle.keymap_lint.proofs.SameKept.{IsSameDirective}
+use Rattle.keymap_lint.proofs.Told.{no_directives}
+use Rattle.keymap_lint.specs.declared.directives.Directive.{Directive}
+use Rattle.keymap_lint.specs.Lists.{spelled_by}
 use Rattle.keymap_lint.proofs.Untyped.{rising_tail}
 
 -- ---- lists in ascending order
@@ -119,15 +123,19 @@ not_lacking m cs are most lacks =
         there true more = tail_there x (filter is_letter xs) c more
         there false more = more
 
-one_told : (m : MapValue) (cs ds : List ℕ) → HasFewStates m → AreTold m cs → AreTold m ds → cs ≡ ds
-one_told m cs ds few (inl (are, most)) (inl (its, also)) =
+one_of_few : (m : MapValue) (cs ds : List ℕ) → AreToldOfFew m cs → AreToldOfFew m ds → cs ≡ ds
+one_of_few m cs ds (inl (are, most)) (inl (its, also)) =
     one_list cs ds are.ascending its.ascending (λ c has. (its.exactly c).1 ((are.exactly c).0 has))
     (λ c has. (are.exactly c).1 ((its.exactly c).0 has))
-one_told m cs ds few (inr (none, silent)) (inr (neither, quiet)) = none ∙ sym neither
-one_told m cs ds few (inl (are, most)) (inr (none, inl lacks)) = absurd (not_lacking m cs are most lacks)
-one_told m cs ds few (inl (are, most)) (inr (none, inr (p, many))) = absurd (few p many)
-one_told m cs ds few (inr (none, inl lacks)) (inl (are, most)) = absurd (not_lacking m ds are most lacks)
-one_told m cs ds few (inr (none, inr (p, many))) (inl (are, most)) = absurd (few p many)
+one_of_few m cs ds (inr (none, lacks)) (inr (neither, also)) = none ∙ sym neither
+one_of_few m cs ds (inl (are, most)) (inr (none, lacks)) = absurd (not_lacking m cs are most lacks)
+one_of_few m cs ds (inr (none, lacks)) (inl (are, most)) = absurd (not_lacking m ds are most lacks)
+
+one_told : (m : MapValue) (cs ds : List ℕ) → AreTold m cs → AreTold m ds → cs ≡ ds
+one_told m cs ds (inl (are, beyond)) (inl (its, too)) = one_of_few m cs ds are its
+one_told m cs ds (inl (are, beyond)) (inr (none, many)) = beyond many ∙ sym none
+one_told m cs ds (inr (none, many)) (inl (are, beyond)) = none ∙ sym (beyond many)
+one_told m cs ds (inr (none, many)) (inr (neither, more)) = none ∙ sym neither
 
 -- ---- whether a modifier may stay on
 
@@ -147,40 +155,49 @@ not_both m h (keys, sent, (i, (quiet, on))) never =
     let off = (never u.maps h (refl, λ loads. refl) keys (λ e. no_loads h sent, λ later before k e. refl)).1 quiet i in
     true≢false (sym (on u.maps (refl, λ loads. refl)) ∙ off)
 
-one_answer : (m : MapValue) (fs : List Finding) → HasFewStates m → (o p : Option Sticking) → IsSearched m fs o
-    → IsSearched m fs p → never_sticks o ≡ never_sticks p
-one_answer m fs few None None is its = refl
-one_answer m fs few None (Some b) is its = absurd (omega (arith, is, its.0))
-one_answer m fs few (Some a) None is its = absurd (omega (arith, is.0, its))
-one_answer m fs few (Some a) (Some b) is its = go a b is.1 its.1
+one_answer : (m : MapValue) (fs : List Finding) → (o p : Option Sticking) → IsSearched m fs o → IsSearched m fs p
+    → never_sticks o ≡ never_sticks p
+one_answer m fs None None is its = refl
+one_answer m fs None (Some b) is its = absurd (omega (arith, is, its.0))
+one_answer m fs (Some a) None is its = absurd (omega (arith, is.0, its))
+one_answer m fs (Some a) (Some b) is its = go a b is.1 its.1
   where
     go : (a b : Sticking) → IsAnswer m a → IsAnswer m b → never_sticks (Some a) ≡ never_sticks (Some b)
     go Never Never is its = refl
     go (Sticks events on) (Sticks others off) is its = refl
-    go (Sticks events on) Never is its = absurd (not_both m _ is.0 its)
-    go Never (Sticks events on) is its = absurd (not_both m _ its.0 is)
-    go (Undecided p) b is its = absurd (few p is.0)
-    go a (Undecided p) is its = absurd (few p its.0)
+    go (Sticks events on) (Undecided p) is its = refl
+    go (Undecided p) (Sticks events on) is its = refl
+    go (Undecided p) (Undecided q) is its = refl
+    go (Sticks events on) Never is its = absurd (not_both m _ is.0 its.0)
+    go Never (Sticks events on) is its = absurd (not_both m _ its.0 is.0)
+    go Never (Undecided p) is its = absurd (is.1 p its.0)
+    go (Undecided p) Never is its = absurd (its.1 p is.0)
 
 pub same_tokens_same_answers : SameTokensSameAnswers
-same_tokens_same_answers text other same m spells few l k (v, by, (rows, are_rows, (fs, are, is)))
+same_tokens_same_answers text other same l k (m, spells, (rows, by, (fs, are, is)))
     (n, spelled, (others, its, (gs, findings, of))) = record {
       untyped =
-          one_told m l.untyped.items k.untyped.items few (subst (λ v. AreTold v l.untyped.items) first is.untyped)
-          (subst (λ v. AreTold v k.untyped.items) second of.untyped);
+          one_told m l.untyped.items k.untyped.items is.untyped (subst (λ v. AreTold v k.untyped.items) one of.untyped);
       never =
-          one_answer m fs few l.sticking k.sticking (subst (λ v. IsSearched v fs l.sticking) first is.sticking)
-          (subst (λ (x : MapValue × List Finding). IsSearched x.0 x.1 k.sticking) (λ i. (second i, lists i))
-          of.sticking);
+          one_answer m fs l.sticking k.sticking is.sticking
+          (subst (λ (x : MapValue × List Finding). IsSearched x.0 x.1 k.sticking) (λ i. (one i, lists i)) of.sticking);
     }
   where
-    first : v ≡ m
-    first = one_map_of_both text text m v refl spells by
-
-    second : n ≡ m
-    second = one_map_of_both text other m n same spells spelled
+    one : n ≡ m
+    one = one_map_of_both text other m n same spells spelled
 
     lists : gs ≡ fs
-    lists =
-        one_list_of_findings m gs fs (subst (λ v. AreFindings v gs) second findings)
-        (subst (λ v. AreFindings v fs) first are)
+    lists = one_list_of_findings m gs fs (subst (λ v. AreFindings v gs) one findings) are
+
+-- ---- their diagnostics
+
+pub same_tokens_same_diagnostics : SameTokensSameDiagnostics
+same_tokens_same_diagnostics text other same none neither l k is of =
+    same_diagnostics (IsSameToken text other) (in_order text other same) text other same
+    (same_token_begins text other same) (λ m n rows others spells spelled by its.
+    subst (λ (sides : List Directive × List Directive).
+    Pairwise (IsSameDirective (IsSameToken text other) text other) sides.0 sides.1)
+    (λ i. (
+      sym (no_directives text (spelled_by text m rows) none) i,
+      sym (no_directives other (spelled_by other n others) neither) i,
+    )) no_pair) l k is of (same_tokens_same_answers text other same l k is of)

@@ -204,7 +204,7 @@ begins_first text n k low l = elim (cases_lt n k) [
   ]
 ]
 
-in_order : (text other : List ℕ) → HaveSameTokens text other → (p k q l : ℕ) → IsSameToken text other p q
+pub in_order : (text other : List ℕ) → HaveSameTokens text other → (p k q l : ℕ) → IsSameToken text other p q
     → IsSameToken text other k l → (p < k → q < l) × (q < l → p < k)
 in_order text other same p k q l (n, low, e, f) (i, few, g, h) =
     let many = length-map (tokens text) span_of in
@@ -221,7 +221,7 @@ in_order text other same p k q l (n, low, e, f) (i, few, g, h) =
 
 -- ---- the laws
 
-same_token_begins : (text other : List ℕ) → HaveSameTokens text other → Begins (IsSameToken text other) text other
+pub same_token_begins : (text other : List ℕ) → HaveSameTokens text other → Begins (IsSameToken text other) text other
 same_token_begins text other same =
     pairs_from (BeginAlike (IsSameToken text other)) none none (map span_of (tokens text)) (map span_of (tokens other))
     (length-map (tokens text) span_of ∙ as_many text other same ∙ sym (length-map (tokens other) span_of))
@@ -327,14 +327,3 @@ module _ (P : ℕ → ℕ → Type 0) (order : AreInOrder P) (text other : List 
           subst (Pairwise (IsSame P) said) (λ i. said_of other (one i) others (lists i) (answers.untyped i))
           (said_same P text other m rows others same begins by
           (subst (λ v. IsSpelledBy other v others) (sym one) its) fs are l.untyped.items)
-
-pub same_tokens_same_diagnostics : SameTokensSameDiagnostics
-same_tokens_same_diagnostics text other same none neither =
-    same_diagnostics (IsSameToken text other) (in_order text other same) text other same
-    (same_token_begins text other same) (λ m n rows others spells spelled by is.
-    subst (λ (sides : List Directive × List Directive).
-    Pairwise (IsSameDirective (IsSameToken text other) text other) sides.0 sides.1)
-    (λ i. (
-      sym (no_directives text (spelled_by text m rows) none) i,
-      sym (no_directives other (spelled_by other n others) neither) i,
-    )) no_pair)

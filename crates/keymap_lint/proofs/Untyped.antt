@@ -23,7 +23,7 @@ use Rattle.std.specs.Prelude.{Contains}
 use Rattle.keymap_core.specs.Below.{passed}
 use Rattle.console_scripts.specs.Typing.{CanType}
 use Rattle.console_states.specs.Sights.{Lists}
-use Rattle.keymap_lint.specs.Typed.{AreTold, AreUntyped, LacksLetters, has_most_letters, is_letter, is_seen}
+use Rattle.keymap_lint.specs.Typed.{AreTold, AreToldOfFew, AreUntyped, LacksLetters, has_most_letters, is_letter, is_seen}
 use Rattle.keymap_lint.specs.Ways.{AreSure, untyped_character}
 use Rattle.keymap_lint.proofs.FaultOrder.{rises, suc_more}
 use Rattle.keymap_lint.proofs.Lists.{all_passing}
@@ -84,11 +84,14 @@ marked m sure n are can c e = elim (cases_eq c n) [
 -- where all are typed, nothing is told
 pub all_typed : (m : MapValue) → ((c : ℕ) → 0x20 ≤ c → c ≤ 0x7e → CanType m c) → AreTold m []
 all_typed m can = inl (
-  record {
-    ascending = λ k low. absurd (omega (arith, low));
-    exactly = λ c. ((λ has. absurd (omega (arith, has.1))), (λ both. absurd (both.1 (seen c both.0))));
-  },
-  refl,
+  inl (
+    record {
+      ascending = λ k low. absurd (omega (arith, low));
+      exactly = λ c. ((λ has. absurd (omega (arith, has.1))), (λ both. absurd (both.1 (seen c both.0))));
+    },
+    refl,
+  ),
+  λ many. refl,
 )
   where
     seen : (c : ℕ) → is_seen c ≡ true → CanType m c
@@ -159,10 +162,10 @@ lacks m cs are e = record {
 
 -- where these are the ones, they are told or too many letters are among them
 pub told_yes : (m : MapValue) (set : BTreeSet ℕ) (cs : List ℕ) → cs ≡ gathered (untyped_character set) 127
-    → has_most_letters cs ≡ true → Lists (λ c. CanType m c) set.keys → AreTold m cs
+    → has_most_letters cs ≡ true → Lists (λ c. CanType m c) set.keys → AreToldOfFew m cs
 told_yes m set cs same e are = inl (subst (AreUntyped m) (sym same) (untyped_by m set are), e)
 
 pub told_no : (m : MapValue) (set : BTreeSet ℕ) (cs : List ℕ) → cs ≡ gathered (untyped_character set) 127
-    → has_most_letters cs ≡ false → Lists (λ c. CanType m c) set.keys → AreTold m []
+    → has_most_letters cs ≡ false → Lists (λ c. CanType m c) set.keys → AreToldOfFew m []
 told_no m set cs same e are =
-    inr (refl, inl (lacks m cs (subst (AreUntyped m) (sym same) (untyped_by m set are)) e))
+    inr (refl, lacks m cs (subst (AreUntyped m) (sym same) (untyped_by m set are)) e)

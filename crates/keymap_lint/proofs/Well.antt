@@ -48,7 +48,7 @@ well_texts_never_stick text (Spelled l) (m, spells, (rows, by, (fs, are, is))) w
 
     go : (o : Option Sticking) → l.sticking ≡ o → IsSearched m fs o → NeverSticks m
     go None e s = quietly (ap never_sticks e)
-    go (Some Never) e s = s.1
+    go (Some Never) e s = s.1.0
     go (Some (Sticks events on)) e s = quietly (ap never_sticks e)
     go (Some (Undecided p)) e s = quietly (ap never_sticks e)
 well_texts_never_stick text (Faulty faults) is well = absurd (true≢false well)

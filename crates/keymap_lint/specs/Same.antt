@@ -1,12 +1,9 @@
 -- Which diagnostics of two texts are the same but for places.
 use Rattle.std.specs.Prelude.{◌≡◌, ℕ, ◌-◌, ◌<◌, List, [], ◌∷◌, length, map}
 use Rattle.std.specs.Option.{option_to_list}
-use Rattle.keymap_core.specs.Maps.{MapValue}
-use Rattle.keymap_text.specs.Meaning.{Spells, tokens}
+use Rattle.keymap_text.specs.Meaning.{tokens}
 use Rattle.keymap_places.specs.Placed.{span_of}
 use Rattle.keymap_places.specs.Same.{HaveSameTokens}
-use Rattle.console_states.specs.Moves.{alone}
-use Rattle.console_states.specs.Sticking.{ReachesMoreThan, state_limit}
 use Rattle.keymap_lint.specs.Types.{Kind, Diagnostic, Diagnostics, Span, Spelled as OfSpelled}
 use Rattle.keymap_lint.specs.declared.diagnostic.BadIgnore.TheVariants as bad
 use Rattle.keymap_lint.specs.declared.diagnostic.Kind.TheVariants as kinds
@@ -62,22 +59,18 @@ pub record AnswerTheSame (l k : Diagnostics) : Type 0 where
   pub untyped : l.untyped.items ≡ k.untyped.items
   pub never : never_sticks l.sticking ≡ never_sticks k.sticking
 
--- No presses lead a keymap to more states than a search goes over, so none gives up.
-abbrev pub HasFewStates : MapValue → Type 0
-HasFewStates m = (p : ℕ) → ReachesMoreThan (alone m) state_limit p → ⊥
-
--- Of two texts with the same tokens the searches answer the same, where none gives up.
+-- of two texts with the same tokens they do
 abbrev pub SameTokensSameAnswers : Type 0
 SameTokensSameAnswers =
-    (text other : List ℕ) → HaveSameTokens text other → (m : MapValue) → Spells text m → HasFewStates m
-    → (l k : Diagnostics) → IsLint text (OfSpelled l) → IsLint other (OfSpelled k) → AnswerTheSame l k
+    (text other : List ℕ) → HaveSameTokens text other → (l k : Diagnostics) → IsLint text (OfSpelled l)
+    → IsLint other (OfSpelled k) → AnswerTheSame l k
 
 -- Of two texts with the same tokens, and without directives, the diagnostics are the same but for places, in one order:
 -- each stands at the same token, and tells of the same tokens.
 abbrev pub SameTokensSameDiagnostics : Type 0
 SameTokensSameDiagnostics =
     (text other : List ℕ) → HaveSameTokens text other → HasNoMark text → HasNoMark other → (l k : Diagnostics)
-    → IsLint text (OfSpelled l) → IsLint other (OfSpelled k) → AnswerTheSame l k
+    → IsLint text (OfSpelled l) → IsLint other (OfSpelled k)
     → Pairwise (IsSame (IsSameToken text other)) l.list.items k.list.items
 
 -- The slots, keys, letters and accents that diagnostics tell of are the same.

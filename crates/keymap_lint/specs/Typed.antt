@@ -35,12 +35,18 @@ pub record LacksLetters (m : MapValue) : Type 0 where
   pub untyped : All (λ c. (is_letter c ≡ true) × (CanType m c → ⊥)) letters
   pub many : 12 < length letters
 
--- CANNOT TYPE: these are told, or nothing is, where so many letters have no keys or the search gives up
-abbrev pub IsSilent : MapValue → Type 0
-IsSilent m = LacksLetters m ⊎ ((p : ℕ) × ReachesMoreThan (alone m) state_limit p)
+-- CANNOT TYPE, where no more states can be reached than a search goes over: these are told, or nothing is, where so many
+-- letters have no keys
+abbrev pub AreToldOfFew : MapValue → List ℕ → Type 0
+AreToldOfFew m cs = (AreUntyped m cs × (has_most_letters cs ≡ true)) ⊎ ((cs ≡ []) × LacksLetters m)
 
+-- more can be reached
+abbrev pub HasManyStates : MapValue → Type 0
+HasManyStates m = (p : ℕ) × ReachesMoreThan (alone m) state_limit p
+
+-- and nothing is told where more can be
 abbrev pub AreTold : MapValue → List ℕ → Type 0
-AreTold m cs = (AreUntyped m cs × (has_most_letters cs ≡ true)) ⊎ ((cs ≡ []) × IsSilent m)
+AreTold m cs = (AreToldOfFew m cs × (HasManyStates m → cs ≡ [])) ⊎ ((cs ≡ []) × HasManyStates m)
 
 abbrev pub cannot_type : List ℕ → List Diagnostic
 cannot_type cs = if is_some_in cs then nowhere kinds.CannotType ∷ [] else []

@@ -39,14 +39,14 @@ pub fn same_tokens_tell_of_the_same()
 {}
 
 /// Of two texts with the same tokens the searches answer the same: what no keys type, and whether a modifier may stay
-/// on. So it is where no more than 65,536 states can be reached, for else a search may give up.
+/// on.
 pub fn same_tokens_same_answers()
     ensures { SameTokensSameAnswers }
 {}
 
 /// Of two texts with the same tokens, and without directives, the diagnostics are the same but for places, in the same
 /// order: each stands at the same token, and tells of the same tokens.
-#[tactic(auto, using(crate::proofs::SameTexts::same_tokens_same_diagnostics))]
+#[tactic(auto, using(crate::proofs::SameAnswers::same_tokens_same_diagnostics))]
 pub fn same_tokens_same_diagnostics()
     ensures { SameTokensSameDiagnostics }
 {}

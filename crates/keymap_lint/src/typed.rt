@@ -15,13 +15,14 @@ ghost use Rattle.keymap_core.specs.declared.entry.Cell.TheVariants.{Act};
 ghost use Rattle.console_scripts.specs.Typing.{CanType};
 ghost use Rattle.console_states.specs.Sights.{Lists};
 ghost use Rattle.keymap_lint.specs.Typed as spec;
-ghost use Rattle.keymap_lint.specs.Typed.{AreTold};
+ghost use Rattle.keymap_lint.specs.Typed.{AreTold, AreToldOfFew};
 ghost use Rattle.keymap_lint.specs.Ways.{AreSure, IsWay, Selects, IsTypedBy, untyped_character};
 
 use crate::diagnostic::{Diagnostic, Kind};
 use crate::spelled::cell_in;
 use arrayvec::ArrayVec;
 use console_scripts::yield_of;
+use console_states::has_few_states;
 use keymap_core::{Action, Cell, KEY_COUNT, KeyMap, Modifier, push_if};
 use std::alloc::{AllocError, Global};
 use std::collections::BTreeSet;
@@ -218,9 +219,9 @@ fn has_most_letters(characters: &[u8]) -> bool
     characters.iter().filter(|c| is_letter(**c)).count() <= 12
 }
 
-/// What is told where keys type these characters.
+/// What is told where keys type these characters and the search doesn't give up.
 fn told(typed: &BTreeSet<char>) -> ArrayVec<u8, KEY_COUNT>
-    ensures { (m : MapValue) → Lists (λ c. CanType m c) typed.now.keys → AreTold m result.items }
+    ensures { (m : MapValue) → Lists (λ c. CanType m c) typed.now.keys → AreToldOfFew m result.items }
 {
     let characters = untyped(typed);
     if has_most_letters(characters.as_slice()) {
@@ -245,15 +246,24 @@ pub(crate) fn cannot_type(untyped: &[u8]) -> Option<Diagnostic>
 }
 
 /// The characters from 0x20 to 0x7e that no keys type, in ascending order; none where so do more than 12 letters, or
-/// where the search gives up.
+/// where more states can be reached than a search goes over: that is asked again where there are such characters, since
+/// a few states can tell what all of more do.
 pub(crate) fn untyped_of(alloc: Global, map: &KeyMap) -> Result<ArrayVec<u8, KEY_COUNT>, AllocError>
     ensures { IfOk result (λ cs. AreTold map.now cs.items) }
 {
     if are_all(&sure_of(map)) {
         return Ok(ArrayVec::new());
     }
-    match yield_of(alloc, map)? {
-        Some(found) => Ok(told(&found.typed)),
-        None => Ok(ArrayVec::new()),
+    let Some(found) = yield_of(alloc, map)? else {
+        return Ok(ArrayVec::new());
+    };
+    let characters = told(&found.typed);
+    if characters.is_empty() {
+        return Ok(characters);
+    }
+    if has_few_states(alloc, map)? {
+        Ok(characters)
+    } else {
+        Ok(ArrayVec::new())
     }
 }

@@ -1,12 +1,11 @@
 -- The diagnostics of a text and of its layout are the same but for places.
 use Rattle.std.specs.Prelude.{◌≡◌, ℕ, ◌<◌, Bool, false, not, List, length, map, take, count_by, slice_index}
-use Rattle.keymap_core.specs.Maps.{MapValue}
 use Rattle.keymap_fmt.specs.Formatted.{formatted}
 use Rattle.keymap_places.specs.Placed.{span_of}
 use Rattle.keymap_text.specs.Lexical.{is_blank}
-use Rattle.keymap_text.specs.Meaning.{Spells, tokens}
+use Rattle.keymap_text.specs.Meaning.{tokens}
 use Rattle.keymap_lint.specs.Lists.{IsLint}
-use Rattle.keymap_lint.specs.Same.{AnswerTheSame, HasFewStates, IsSame, Pairwise, TellOfTheSame}
+use Rattle.keymap_lint.specs.Same.{AnswerTheSame, IsSame, Pairwise, TellOfTheSame}
 use Rattle.keymap_lint.specs.Spelled.{span_at}
 use Rattle.keymap_lint.specs.declared.diagnostic.Diagnostics.{Diagnostics}
 use Rattle.keymap_lint.specs.declared.diagnostic.Lint.TheVariants.{Spelled}
@@ -39,13 +38,13 @@ pub record IsSamePlace (text other : List ℕ) (p q : ℕ) : Type 0 where
 abbrev pub LayoutsKeepDiagnostics : Type 0
 LayoutsKeepDiagnostics =
     (text : List ℕ) (l k : Diagnostics) → IsLint text (Spelled l) → IsLint (formatted text) (Spelled k)
-    → AnswerTheSame l k → Pairwise (IsSame (IsSamePlace text (formatted text))) l.list.items k.list.items
+    → Pairwise (IsSame (IsSamePlace text (formatted text))) l.list.items k.list.items
 
--- and where no search gives up, they answer the same
+-- and the searches answer the same
 abbrev pub LayoutsAnswerTheSame : Type 0
 LayoutsAnswerTheSame =
-    (text : List ℕ) (m : MapValue) → Spells text m → HasFewStates m → (l k : Diagnostics) → IsLint text (Spelled l)
-    → IsLint (formatted text) (Spelled k) → AnswerTheSame l k
+    (text : List ℕ) (l k : Diagnostics) → IsLint text (Spelled l) → IsLint (formatted text) (Spelled k)
+    → AnswerTheSame l k
 
 -- and they tell of the same slots, keys, letters and accents
 abbrev pub LayoutsTellOfTheSame : Type 0

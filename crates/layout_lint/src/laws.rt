@@ -6,8 +6,8 @@ use keymap_lint::laws::{same_tokens_same_answers, same_tokens_tell_of_the_same};
 
 /// The diagnostics of a text and of its layout are the same but for places, in the same order, whatever directives
 /// stand there: each stands at the same byte, where blanks and line ends don't count, and at the same token if at one.
-/// They tell of the same slots, keys, letters and accents. That is so where the searches answer the same: they do where
-/// no more than 65,536 states can be reached, for else one may give up.
+/// They tell of the same slots, keys, letters and accents, and what no keys type and whether a modifier may stay on is
+/// answered alike.
 pub fn layouts_keep_diagnostics()
     ensures diagnostics { LayoutsKeepDiagnostics }
     ensures answers { LayoutsAnswerTheSame }

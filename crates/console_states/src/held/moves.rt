@@ -15,6 +15,7 @@ ghost use Rattle.console_states.specs.Moves.{look_in, IsIdle, Takes, key_of as k
 ghost use Rattle.console_states.specs.Moves.{number_of as number_of_key};
 ghost use Rattle.console_states.specs.Moves.{map_in, next_map, exchanged as exchanged_in, IsFree, free_with};
 ghost use Rattle.console_states.specs.Moves.{with_holder as with_holder_in, with_lock_turned, HolderForgets};
+ghost use Rattle.console_states.specs.Minding.{without_accent};
 ghost use Rattle.console_states.specs.Moves.{with_accent as with_accent_in};
 ghost use Rattle.console_core.specs.Answers.{usable};
 ghost use Rattle.console_states.specs.Moves.{IsForgetful, IsRepeated, IsSteady};
@@ -190,6 +191,15 @@ impl Held {
     {
         let mut next = *self;
         next.is_pending = true;
+        next
+    }
+
+    /// The same, but that the accent that is minded isn't pending.
+    pub fn without_accent(&self) -> Held
+        ensures { state_of result ≡ without_accent (state_of self.now) }
+    {
+        let mut next = *self;
+        next.is_pending = false;
         next
     }
 

@@ -1,5 +1,5 @@
 use Rattle.console_states.proofs.Common.{refl, minding, alone, start, TooMany, Complete}
-use Rattle.console_states.proofs.Offering.{all-few}
+use Rattle.console_states.proofs.Concluding.{all-few}
 use Rattle.console_states.proofs.Minding.{minded_reaches_more}
 use Rattle.console_states.proofs.Reaching.{ended-under}
 use Rattle.console_states.proofs.offers.minded.Goals as goal

@@ -1,5 +1,5 @@
-use Rattle.console_states.proofs.Common.{[], ◌∷◌, reverse, subst, slice_get_within, TooMany, start, under_of, HasEnded}
-use Rattle.console_states.proofs.Concluding.{complete-never, none-late, stuck-sticks}
+use Rattle.console_states.proofs.Common.{[], ◌∷◌, reverse, subst, slice_get_within, Complete, TooMany, start, under_of, HasEnded}
+use Rattle.console_states.proofs.Concluding.{complete-few, complete-never, none-late, stuck-sticks}
 use Rattle.console_states.proofs.Deciding.{sent-loads, are-on-under}
 use Rattle.console_states.proofs.GoingBack.{searched-back}
 use Rattle.console_states.proofs.Reaching.{reaches-more}
@@ -11,7 +11,7 @@ script-requires-clause-place c =
 
 pub script-requires-clause-back : goal.script-requires-clause-back
 script-requires-clause-back c =
-    searched-back (under_of c.args.maps.now) c.args.met.now.entries 0 0 c.requires.searched
+    searched-back (under_of c.args.maps.now) c.args.met.now.entries 0 0 c.requires.ended.searched
 
 pub returns-in-Some : goal.returns-in-Some
 returns-in-Some c =
@@ -19,7 +19,7 @@ returns-in-Some c =
     let stuck = c.in-Some.ensures.is in
     let h = reverse c.in_ok-events.events.items in
     let left =
-    stuck-sticks u c.args.met.now.entries _ c.in-Some.stuck.place c.in-Some.stuck.key c.requires stuck.0 stuck.1 h
+    stuck-sticks u c.args.met.now.entries _ c.in-Some.stuck.place c.in-Some.stuck.key c.requires.ended stuck.0 stuck.1 h
     (c.in_ok-events.ensures u) in (
       left.0,
       left.1,
@@ -32,12 +32,14 @@ pub returns-in-Complete : goal.returns-in-Complete
 returns-in-Complete c =
     let u = under_of c.args.maps.now in
     let es = c.args.met.now.entries in
-    complete-never u es (subst (λ o. HasEnded u (start ∷ []) es o) c.in-Complete.is c.requires) c.in_default.ensures.is
+    let told : HasEnded u (start ∷ []) es Complete =
+    subst (λ o. HasEnded u (start ∷ []) es o) c.in-Complete.is c.requires.ended in
+    (complete-never u es told c.in_default.ensures.is, complete-few u es told c.requires.unminded)
 
 pub returns-in-TooMany : goal.returns-in-TooMany
 returns-in-TooMany c =
     let u = under_of c.args.maps.now in
     let es = c.args.met.now.entries in
     let told : HasEnded u (start ∷ []) es (TooMany c.in-TooMany.presses) =
-    subst (λ o. HasEnded u (start ∷ []) es o) c.in-TooMany.is c.requires in
+    subst (λ o. HasEnded u (start ∷ []) es o) c.in-TooMany.is c.requires.ended in
     (reaches-more u es c.in-TooMany.presses told, none-late u es c.in-TooMany.presses told c.in_default.ensures.is)

@@ -2,7 +2,7 @@ use Rattle.console_states.proofs.Common.{[], ◌∷◌, subst, under_of, HasEnde
 use Rattle.console_states.proofs.search.decide.Goals as goal
 
 -- the search begins at the start
-pub conclude-requires : goal.conclude-requires
-conclude-requires c =
+pub conclude-requires-clause-ended : goal.conclude-requires-clause-ended
+conclude-requires-clause-ended c =
     subst (λ s. HasEnded (under_of c.args.maps.now) (s ∷ []) c.in_ok-met.met.entries c.in_ok-met.end) c.start.ensures
     c.in_ok-met.ensures

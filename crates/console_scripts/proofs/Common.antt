@@ -13,9 +13,9 @@ pub use Rattle.console_core.specs.Reading.{look_after, remembered_after}
 pub use Rattle.console_core.specs.Resolved.{ResolvedEvent, is_this_action, pending, resolve_press, taken_over}
 unfoldable pub use Rattle.console_core.specs.Resolved.{held, locked, look, remembered}
 pub use Rattle.console_core.specs.Resolved.ResolvedEvent.{PressedAction, PressedCharacter, ReleasedKey}
-pub use Rattle.console_scripts.specs.Inner.Exploring.{AreExplorations, AreKnown, CanAccent, CanReturn, GoesAndTaps}
+pub use Rattle.console_scripts.specs.Inner.Exploring.{AreExplorations, AreKnown, CanAccent, CanReturn}
 pub use Rattle.console_scripts.specs.Inner.Exploring.{HasTap, HasTyped, IsBase, IsExplored, IsExploredFrom, IsTapAt}
-pub use Rattle.console_scripts.specs.Inner.Exploring.{LeadsByTap, LetsGo, TypesOne, dead_tap, kept_if, map_of_explored}
+pub use Rattle.console_scripts.specs.Inner.Exploring.{Leaves, LetsGo, TypesOne, dead_tap, kept_if, map_of_explored}
 pub use Rattle.console_scripts.specs.Inner.Exploring.{origin_in, typed_along}
 pub use Rattle.console_scripts.specs.Inner.Routes.{AllLeadHome, AreSettled, HasRoute, IsAstray, LeadsHome, NoPressLeads}
 pub use Rattle.console_scripts.specs.Inner.Routes.{Routes}

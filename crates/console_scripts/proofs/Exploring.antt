@@ -1,19 +1,17 @@
 -- What an exploration met, and which taps can be made.
-use Rattle.console_states.proofs.Shared.{none-along}
-use Rattle.console_scripts.proofs.Common.{◌≡◌, ◌⊎◌, ℕ, true, false, List, [], ◌∷◌, ◌++◌, length, slice_get, Some}
-use Rattle.console_scripts.proofs.Common.{None, refl, ap, subst, sym, ◌∙◌, inl, inr, reverse, append_assoc, rules}
-use Rattle.console_scripts.proofs.Common.{cases_Bool, Held, MapValue, Event, Press, Release, Move, Explored, Symbol}
-use Rattle.console_scripts.proofs.Common.{Tap, usable, Under, alone, State, start, state_after, IsPathFrom, state_from}
-use Rattle.console_scripts.proofs.Common.{events_along, ComesHome, IsTapOf, CanTap, CanType, composed_of}
+use Rattle.console_scripts.proofs.Common.{◌≡◌, ◌⊎◌, ℕ, true, List, [], ◌∷◌, ◌++◌, length, slice_get, Some}
+use Rattle.console_scripts.proofs.Common.{refl, ap, subst, sym, ◌∙◌, inl, inr, reverse, rules}
+use Rattle.console_scripts.proofs.Common.{cases_Bool, Held, MapValue, Event, Move, Explored}
+use Rattle.console_scripts.proofs.Common.{Tap, Under, alone, State, start, state_after, IsPathFrom, state_from}
+use Rattle.console_scripts.proofs.Common.{events_along, ComesHome, IsTapOf, CanTap}
 use Rattle.console_scripts.proofs.Common.{map_of_explored, origin_in, IsExplored, CanReturn, HasTap, LetsGo}
-use Rattle.console_scripts.proofs.Common.{GoesAndTaps, HasTyped, TypesOne, LeadsHome, Routes, AllLeadHome, HasRoute}
-use Rattle.console_scripts.proofs.Common.{AreSettled, freed, state_of, Entry, Entries, IsTrail, IsReached, Searched}
+use Rattle.console_scripts.proofs.Common.{LeadsHome, Routes, AllLeadHome, HasRoute}
+use Rattle.console_scripts.proofs.Common.{AreSettled, freed, state_of, Entry, Entries, IsReached, Searched}
 use Rattle.console_scripts.proofs.Common.{is-nothing, are_same, home-start, all-met, path-first, reached-one, IsHome}
+use Rattle.console_states.proofs.Shared.{none-along}
 use Rattle.console_scripts.proofs.Entries.{none-found, found-has}
-use Rattle.console_scripts.specs.Inner.Exploring.{IsOrigin}
+use Rattle.console_scripts.specs.Inner.Exploring.{IsOrigin, Leaves}
 use Rattle.console_scripts.proofs.Astray.{strays-on, StraysTo, is-astray}
-use Rattle.console_scripts.proofs.Taps.{added-by, adds, tap-types, tap-direct, tap-dead, tap-composed}
-use Rattle.console_scripts.specs.declared.explored.Symbol.TheVariants as symbol
 
 -- a route that begins at a state leads home
 pub has-leads : (u : Under) (routes : Routes) (s : State) → AllLeadHome u routes → HasRoute routes s
@@ -32,57 +30,35 @@ pub path-append : (u : Under) (s : State) (path later : List Move) → IsPathFro
 path-append u s path [] is more = (is, refl)
 path-append u s path (move ∷ later) is more = search (rules, path-append u s path later is more.1)
 
--- ---- a tap and the moves around it
+-- ---- from a state where nothing is held, or home
 
--- a tap at a place, and all holders let go, where a route begins then
-pub tap-freed : (u : Under) (o : State) (es : Entries) (routes : Routes) (j : ℕ) (x : Entry) (k : ℕ)
-    → (h h1 h2 now : List Event) (next : State) → IsReached u o es j x → AllLeadHome u routes
-    → ((path : List Move) → IsTrail es j path → h1 ≡ events_along path ++ h) → h2 ≡ Release k ∷ Press k ∷ h1
-    → LetsGo (state_of x.0) h2 now next → HasRoute routes (freed (state_of x.0))
-    → GoesAndTaps u o (state_of x.0) k h now next
-tap-freed u o es routes j x k h h1 h2 now next r all e1 e2 go has = record {
-  out = r.0;
+-- all holders let go, where a route begins then
+pub leaves-freed : (u : Under) (routes : Routes) (s : State) (h now : List Event) (next : State)
+    → AllLeadHome u routes → LetsGo s h now next → HasRoute routes (freed s) → Leaves u s h now next
+leaves-freed u routes s h now next all go has = record {
   back = go.path;
-  goes = r.2;
-  there = r.3;
   returns = go.is u;
   leads = go.leads u;
-  events = go.events ∙ ap (λ z. events_along go.path ++ z) (e2 ∙ ap (λ z. Release k ∷ Press k ∷ z) (e1 r.0 r.1));
+  events = go.events;
   free = λ i. ap (λ t. t.holder i) go.freed;
-  home = subst (λ t. ComesHome u t) (sym go.freed) (has-home u routes (freed (state_of x.0)) all has);
+  home = subst (λ t. ComesHome u t) (sym go.freed) (has-home u routes (freed s) all has);
 }
 
--- a tap at a place, and the route home from there
-pub tap-home : (m : MapValue) (o : State) (es : Entries) (j : ℕ) (x : Entry) (k : ℕ) → (h h1 h2 now : List Event)
-    → (moves : List Move) (next : State) → IsOrigin o → IsReached (alone m) o es j x
-    → ((path : List Move) → IsTrail es j path → h1 ≡ events_along path ++ h) → h2 ≡ Release k ∷ Press k ∷ h1
-    → LeadsHome (alone m) (state_of x.0) moves → now ≡ events_along (reverse moves) ++ h2 → next ≡ start
-    → GoesAndTaps (alone m) o (state_of x.0) k h now next
-tap-home m o es j x k h h1 h2 now moves next origin r e1 e2 home e is =
-    let s : State = state_of x.0 in
-    let first : s.is_second ≡ false = ap (λ t. t.is_second) (sym r.3) ∙ path-first m o r.0 r.2 ∙ origin.0 in
-    let none : s.is_pending ≡ false =
-    ap (λ t. t.is_pending) (sym r.3) ∙ none-along (alone m) refl o r.0 r.2 origin.1 in
-    record {
-      out = r.0;
-      back = reverse moves;
-      goes = r.2;
-      there = r.3;
-      returns = home.0;
-      leads =
-          home-start (state_from (alone m) s (reverse moves)) home.1
-          (path-first m s (reverse moves) home.0 ∙ first)
-          (none-along (alone m) refl s (reverse moves) home.0 none) ∙ sym is;
-      events = e ∙ ap (λ z. events_along (reverse moves) ++ z) (e2 ∙ ap (λ z. Release k ∷ Press k ∷ z) (e1 r.0 r.1));
-      free = λ i. ap (λ t. t.holder i) is;
-      home = subst (λ t. ComesHome (alone m) t) (sym is) ([], tt, ((λ i. refl), (λ l. refl)));
-    }
-
--- from a state that can return, moves and a tap lead to another one that can
-pub returns-next : (m : MapValue) (o s : State) (k : ℕ) (h now : List Event) (next : State) → CanReturn m o
-    → GoesAndTaps (alone m) o s k h now next
-    → CanReturn m next
-returns-next m o s k h now next st x = search (rules, path-append)
+-- the route home
+pub leaves-home : (m : MapValue) (s : State) (h now : List Event) (moves : List Move) (next : State) → IsOrigin s
+    → LeadsHome (alone m) s moves → now ≡ events_along (reverse moves) ++ h → next ≡ start
+    → Leaves (alone m) s h now next
+leaves-home m s h now moves next origin home e is = record {
+  back = reverse moves;
+  returns = home.0;
+  leads =
+      home-start (state_from (alone m) s (reverse moves)) home.1
+      (path-first m s (reverse moves) home.0 ∙ origin.0)
+      (none-along (alone m) refl s (reverse moves) home.0 origin.1) ∙ sym is;
+  events = e;
+  free = λ i. ap (λ t. t.holder i) is;
+  home = subst (λ t. ComesHome (alone m) t) (sym is) ([], tt, ((λ i. refl), (λ l. refl)));
+}
 
 -- a state that can return is an origin
 pub returns-origin : (m : MapValue) (s : State) → CanReturn m s → IsOrigin s
@@ -185,37 +161,3 @@ tap-can e x st t (j, k, (y, at, has, tap)) =
     let (path, is, comes, there) =
     so-can e x st (λ s. IsTapOf (alone (map_of_explored e)) s t.is_plain t.symbol k) j y at has tap in
     (path, is, comes, (k, there))
-
--- ---- one character
-
--- a character typed by one tap
-pub types-direct : (m : MapValue) (o s : State) (c k : ℕ) (h now : List Event) (next : State) → CanReturn m o
-    → GoesAndTaps (alone m) o s k h now next → IsTapOf (alone m) s true (symbol.Character c) k → CanType m c
-    → TypesOne m c o h now next
-types-direct m o s c k h now next st x tap can = record {
-  can = can;
-  can_return = returns-next m o s k h now next st x;
-  added = added-by x;
-  events = adds x;
-  types = λ g cs before.
-      tap-types m o s k h now next None None cs (cs ++ c ∷ []) x (λ g t. tap-direct m g s cs c k t tap) g before;
-}
-
--- by a dead key and a tap behind it
-pub types-composed : (m : MapValue) (o s mid t : State) (i : ℕ) (y : Symbol) (c k n : ℕ) (h between now : List Event)
-    → (next : State) → CanReturn m o → GoesAndTaps (alone m) o s k h between mid
-    → IsTapOf (alone m) s false (symbol.DeadKey i) k → usable m i ≡ true
-    → GoesAndTaps (alone m) mid t n between now next → IsTapOf (alone m) t true y n → composed_of m i y ≡ Some c
-    → CanType m c → TypesOne m c o h now next
-types-composed m o s mid t i y c k n h between now next st x dead can_use z tap made can = record {
-  can = can;
-  can_return = returns-next m mid t n between now next (returns-next m o s k h between mid st x) z;
-  added = added-by z ++ added-by x;
-  events = adds z ∙ ap (λ w. added-by z ++ w) (adds x) ∙ sym (append_assoc (added-by z) (added-by x) h);
-  types = λ g cs before.
-      subst (λ w. HasTyped m w next None (cs ++ c ∷ [])) (sym (append_assoc (added-by z) (added-by x) g))
-      (tap-types m mid t n between now next (Some i) None cs (cs ++ c ∷ []) z
-      (λ g b. tap-composed m g t cs i y c n b tap can_use made) (added-by x ++ g)
-      (tap-types m o s k h between mid None (Some i) cs cs x (λ g b. tap-dead m g s cs i k b dead can_use) g
-      before));
-}

@@ -1,8 +1,9 @@
 -- The states that few presses lead to, and that the upper half is looked at only where it is live.
+use Rattle.console_scripts.specs.Types.{Tap}
 use Rattle.console_scripts.proofs.Common.{none-some}
-use Rattle.console_states.specs.declared.held.Move.TheVariants as variants
 use Rattle.console_scripts.proofs.Common.{◌≡◌, ◌<◌, ◌+◌, ◌∷◌, [], ◌∙◌, ℕ, Bool, true, false, List, None, refl, ap, sym}
-use Rattle.console_scripts.proofs.Common.{subst, inl, inr, cases_Bool, true≢false, arith, ◌⊎◌, MapValue, State, Move, Cell}
+use Rattle.console_scripts.proofs.Common.{subst, inl, inr, cases_Bool, true≢false, arith, ◌⊎◌, MapValue, State, Move}
+use Rattle.console_scripts.proofs.Common.{Cell}
 use Rattle.console_scripts.proofs.Common.{Hold, Turn, LetGo, Exchange, alone, IsPath, state_after, IsMove}
 use Rattle.console_scripts.proofs.Common.{look_in, look_selected, selection_of, key_count, is_held, IsHome, Meta}
 use Rattle.console_scripts.proofs.Common.{AltShift, Alt, ComesHome, moved, one_map}
@@ -63,9 +64,9 @@ never-upper m dead (Turn k Alt ∷ path) (((lt, idle, (looks, may)), other), is)
     let (held, locked) = never-upper m dead path is in
     absurd (dead (k, lt, inr (looks-own m (state_after (alone m) path) k _ held locked looks)))
 never-upper m dead (Turn k l ∷ path) (move, is) = never-upper m dead path is
-never-upper m dead (variants.Tap k ∷ path) (move, is) = absurd (none-some move.0 move.1)
 never-upper m dead (LetGo k AltShift ∷ path) (move, is) = (refl, (never-upper m dead path is).1)
 never-upper m dead (LetGo k i ∷ path) (move, is) = never-upper m dead path is
+never-upper m dead (Tap k ∷ path) (move, is) = absurd (none-some move.0 move.1)
 never-upper m dead (Exchange ∷ path) (move, is) = absurd (true≢false (sym move.1))
 
 low-place : (k c : ℕ) (u : Bool) → u ≡ false → k < 128 → c < 8 → slot_of k u * 8 + c < 1024

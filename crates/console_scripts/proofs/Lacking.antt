@@ -27,3 +27,21 @@ marked P marks n within before =
     below_more _ _
     (λ k lt no. before k lt (sym (get_or-set_other marks n k true false (λ e. omega (arith, lt, e))) ∙ no))
     (λ no. absurd (true≢false (sym (get_or-set_same marks n true false within) ∙ no)))
+
+-- What is told of each number below the place, and of the place, is told of each up to there.
+pub told-more : (P : ℕ → Type 0) (t : Bool) (marks : List Bool) (n : ℕ) (v : Bool) → n < length marks → (v ≡ t → P n)
+    → ((k : ℕ) → k < n → get_or marks k false ≡ t → P k)
+    → (k : ℕ) → k < n + 1 → get_or (set marks n v) k false ≡ t → P k
+told-more P t marks n v within here before =
+    below_more _ _
+    (λ k lt is. before k lt (sym (get_or-set_other marks n k v false (λ e. omega (arith, lt, e))) ∙ is))
+    (λ is. here (sym (get_or-set_same marks n v false within) ∙ is))
+
+-- where none below the place is marked, nor it, none up to there is
+pub told-none : (marks : List Bool) (n : ℕ) (v : Bool) → n < length marks → v ≡ false
+    → ((k : ℕ) → k < n → get_or marks k false ≡ false)
+    → (k : ℕ) → k < n + 1 → get_or (set marks n v) k false ≡ false
+told-none marks n v within here before =
+    below_more _ _
+    (λ k lt. get_or-set_other marks n k v false (λ e. omega (arith, lt, e)) ∙ before k lt)
+    (get_or-set_same marks n v false within ∙ here)

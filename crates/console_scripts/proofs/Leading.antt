@@ -1,7 +1,7 @@
 -- Events lead a console from state to state: along moves and by taps.
-use Rattle.console_scripts.proofs.Common.{none-some}
-use Rattle.console_states.specs.declared.held.Move.TheVariants as variants
 use Rattle.console_states.proofs.Shared.{none-along}
+use Rattle.console_scripts.specs.Types.{Tap}
+use Rattle.console_scripts.proofs.Common.{none-some}
 use Rattle.console_scripts.specs.Inner.Exploring.{IsOrigin}
 use Rattle.console_scripts.proofs.Common.{◌≡◌, ◌<◌, ℕ, false, List, [], ◌∷◌, ◌++◌, reverse, slice_get}
 use Rattle.console_scripts.proofs.Common.{Option, Some, None, refl, ap, subst, sym, ◌∙◌, inl, inr, append_assoc}
@@ -60,8 +60,8 @@ at-move m s h l move is a = (
     taken : (by : Move) → IsMove (alone m) a.at by → AreTaken h (events_of_move by ++ l)
     taken (Hold k i) can = (refl, tt, a.taken)
     taken (Turn k j) can = (refl, press-presses k (l ++ h), (refl, tt, a.taken))
-    taken (variants.Tap k) can = absurd (none-some can.0 can.1)
     taken (LetGo k i) can = (refl, holder-pressed (alone m) (l ++ h) a.at i k a.stands can, a.taken)
+    taken (Tap k) can = absurd (none-some can.0 can.1)
     taken Exchange (free, loads) = absurd (false≢true loads)
 
 at-path : (m : MapValue) (s : State) (h l : List Event) (path : List Move) → IsPathFrom (alone m) s path → IsAt m s h l

@@ -11,7 +11,7 @@ use Rattle.console_scripts.proofs.Common.{resolve_press, next_pending, between, 
 use Rattle.console_scripts.proofs.Common.{accent_pending_after, is_on_after, remembered_after, look_after, Under, alone}
 use Rattle.console_scripts.proofs.Common.{State, Holds, IsIdle, IsMove, look_in, is_held, with_holder, IsPathFrom}
 use Rattle.console_scripts.proofs.Common.{state_from, events_along, events_of_move, IsTapOf, composed_of}
-use Rattle.console_scripts.proofs.Common.{types_something, plainly, LetsGo, GoesAndTaps, HasTyped, typed_along, kept_if}
+use Rattle.console_scripts.proofs.Common.{types_something, plainly, LetsGo, HasTyped, typed_along, kept_if}
 use Rattle.console_scripts.proofs.Common.{HoldsSome, Stands, rules, place_last, same_states, stands-from}
 use Rattle.console_scripts.proofs.Common.{answers_by_cases, one_map, pending-action, pending-character, pending-release}
 use Rattle.console_scripts.proofs.Common.{pressed-press, resolved-more}
@@ -317,30 +317,3 @@ tap-composed m h s cs i (symbol.DeadKey j) c k x is can made =
               (rw (meta-off m h s x.stands (is.3 refl)) (own-given m i c can own)))
               ∙ ap (λ z. plainly c ∷ z) x.typed ∙ one-more cs c;
         }
-
--- ---- a tap and the moves around it
-
--- the events of the moves and the tap
-abbrev pub added-by : {u : Under} {o s : State} {k : ℕ} {h now : List Event} {next : State}
-    → GoesAndTaps u o s k h now next
-    → List Event
-added-by {k = k} x = events_along x.back ++ (Release k ∷ Press k ∷ events_along x.out)
-
-pub adds : {u : Under} {o s : State} {k : ℕ} {h now : List Event} {next : State} (x : GoesAndTaps u o s k h now next)
-    → now ≡ added-by x ++ h
-adds {k = k} {h = h} x =
-    x.events ∙ sym (append_assoc (events_along x.back) (Release k ∷ Press k ∷ events_along x.out) h)
-
--- Moves and a tap type what the tap does.
-pub tap-types : (m : MapValue) (o s : State) (k : ℕ) (h now : List Event) (next : State) (p q : Option ℕ)
-    → (cs ds : List ℕ) (x : GoesAndTaps (alone m) o s k h now next)
-    → ((g : List Event) → HasTyped m g s p cs → HasTyped m (Release k ∷ Press k ∷ g) s q ds)
-    → (g : List Event) → HasTyped m g o p cs
-    → HasTyped m (added-by x ++ g) next q ds
-tap-types m o s k h now next p q cs ds x tap g before =
-    let there : HasTyped m (events_along x.out ++ g) s p cs =
-    subst (λ t. HasTyped m (events_along x.out ++ g) t p cs) x.there (walked m g o p cs x.out before x.goes) in
-    let tapped : HasTyped m (Release k ∷ Press k ∷ (events_along x.out ++ g)) s q ds =
-    tap (events_along x.out ++ g) there in
-    rw (append_assoc (events_along x.back) (Release k ∷ Press k ∷ events_along x.out) g, ← x.leads)
-    (walked m (Release k ∷ Press k ∷ (events_along x.out ++ g)) s q ds x.back tapped x.returns)

@@ -17,7 +17,11 @@ use Rattle.std.proofs.lemmas.List.Elements.{All-push}
 use Rattle.console_scripts.specs.declared.typing.Keyed.{Keyed}
 use Rattle.console_scripts.specs.declared.typing.Typing.{Typing}
 use Rattle.keymap_core.proofs.Shared.{All-reversed}
+use Rattle.keyboard.specs.declared.board.Board.{Board}
 use Rattle.console_scripts.specs.Typing.{AreEnds, AreParts, AreTyped, Types, characters_of}
+use Rattle.console_scripts.specs.Ways.{GoWaysFrom, GoesWay, TakesWay}
+use Rattle.console_states.proofs.Shared.{none-along, path-off}
+use Rattle.console_scripts.proofs.Common.{resting_after, same_states}
 use Rattle.console_core.proofs.Shared.{reverse-cons}
 use Rattle.console_scripts.proofs.Exploring.{returns-origin, start-returns}
 use Rattle.console_scripts.proofs.Common.{Alt, Caps, Num, Scroll, is_locked_after, resolved}
@@ -65,26 +69,35 @@ typed-answers m es cs e =
 
 -- ---- one after another
 
+-- where the last character ends
+abbrev pub last_end : ℕ → List Keyed → ℕ
+last_end from [] = from
+last_end from (k ∷ ks) = last_end k.end ks
+
 -- the characters up to the place were typed
-pub record HaveBeenTyped (m : MapValue) (cs : List ℕ) (place : ℕ) (keyed : List Keyed) (es : List Event)
+pub record HaveBeenTyped (b : Board) (m : MapValue) (cs : List ℕ) (place : ℕ) (keyed : List Keyed) (es : List Event)
     (s : State) : Type 0
   where
     pub can_return : CanReturn m s
     pub characters : characters_of keyed ≡ take place cs
     pub ends : AreEnds 0 keyed (length es)
     pub parts : AreParts m cs keyed es
+    pub last : last_end 0 keyed ≡ length es
+    pub ways : GoWaysFrom b m es 0 keyed
     pub can : All (λ c. CanType m c) (take place cs)
     pub typed : HasTyped m (reverse es) s None (take place cs)
     pub below : place ≤ length cs
 
-pub typed-none : (m : MapValue) (cs : List ℕ) (keyed : List Keyed) (es : List Event) (s : State) → keyed ≡ [] → es ≡ []
-    → s ≡ start
-    → HaveBeenTyped m cs 0 keyed es s
-typed-none m cs keyed es s none nothing is = record {
+pub typed-none : (b : Board) (m : MapValue) (cs : List ℕ) (keyed : List Keyed) (es : List Event) (s : State)
+    → keyed ≡ [] → es ≡ [] → s ≡ start
+    → HaveBeenTyped b m cs 0 keyed es s
+typed-none b m cs keyed es s none nothing is = record {
   can_return = subst (λ t. CanReturn m t) (sym is) (start-returns m);
   characters = ap characters_of none;
   ends = subst (λ z. AreEnds 0 z (length es)) (sym none) (omega arith);
   parts = subst (λ z. AreParts m cs z es) (sym none) (λ i k at. absurd (none-some k at));
+  last = subst (λ z. last_end 0 z ≡ length es) (sym none) (ap length (sym nothing));
+  ways = subst (λ z. GoWaysFrom b m es 0 z) (sym none) tt;
   can = All-nil (λ c. CanType m c);
   typed = record {
     stands = rw (nothing, is) (stands-start (alone m));
@@ -127,47 +140,108 @@ parts-later m cs ks es more parts i k at =
     )
 
 -- the events that a way adds stand behind the old ones
-added-behind : (m : MapValue) (c : ℕ) (s next : State) (old now : List Event)
-    → (types : TypesOne m c s (reverse old) (reverse now) next) → now ≡ old ++ reverse types.added
-added-behind m c s next old now types =
+added-behind : (b : Board) (m : MapValue) (c : ℕ) (s next : State) (old now : List Event)
+    → (types : TypesOne b m c s (reverse old) (reverse now) next) → now ≡ old ++ reverse types.added
+added-behind b m c s next old now types =
     cc (reverse-reverse now, types.events, reverse-append types.added (reverse old), reverse-reverse old)
 
-pub fits-behind : (m : MapValue) (c : ℕ) (s next : State) (old now : List Event)
-    → TypesOne m c s (reverse old) (reverse now) next → length old ≤ length now
-fits-behind m c s next old now types =
-    omega (arith, ap length (added-behind m c s next old now types), length-append old (reverse types.added))
+pub fits-behind : (b : Board) (m : MapValue) (c : ℕ) (s next : State) (old now : List Event)
+    → TypesOne b m c s (reverse old) (reverse now) next → length old ≤ length now
+fits-behind b m c s next old now types =
+    omega (arith, ap length (added-behind b m c s next old now types), length-append old (reverse types.added))
 
 -- the events that are added to others are a way by themselves
-pub types-alone : (m : MapValue) (c : ℕ) (s next : State) (old now : List Event)
-    → TypesOne m c s (reverse old) (reverse now) next → TypesOne m c s [] (reverse (drop (length old) now)) next
-types-alone m c s next old now types = record {
+pub types-alone : (b : Board) (m : MapValue) (c : ℕ) (s next : State) (old now : List Event)
+    → TypesOne b m c s (reverse old) (reverse now) next → TypesOne b m c s [] (reverse (drop (length old) now)) next
+types-alone b m c s next old now types = record {
   can = types.can;
   can_return = types.can_return;
   added = types.added;
-  events = ap (λ z. reverse (drop (length old) z)) (added-behind m c s next old now types)
+  events = ap (λ z. reverse (drop (length old) z)) (added-behind b m c s next old now types)
       ∙ ap (λ z. reverse z) (drop-append_seam old (reverse types.added)) ∙ reverse-reverse types.added
       ∙ sym (append-nil types.added);
+  way = types.way;
   types = types.types;
 }
 
 -- events that type a character, behind others
-pub types-behind : (m : MapValue) (c : ℕ) (s next : State) (old es now : List Event)
-    → TypesOne m c s [] (reverse es) next → now ≡ old ++ es → TypesOne m c s (reverse old) (reverse now) next
-types-behind m c s next old es now types e = search (rules, reverse-append, append-nil)
+pub types-behind : (b : Board) (m : MapValue) (c : ℕ) (s next : State) (old es now : List Event)
+    → TypesOne b m c s [] (reverse es) next → now ≡ old ++ es → TypesOne b m c s (reverse old) (reverse now) next
+types-behind b m c s next old es now types e = search (rules, reverse-append, append-nil)
 
-pub typed-one : (m : MapValue) (cs : List ℕ) (place : ℕ) (keyed after : List Keyed) (es now : List Event) (s : State)
-    → (k : Keyed) (next : State) → HaveBeenTyped m cs place keyed es s → place < length cs
+-- a console rests where it stands with nothing held
+rests : (m : MapValue) (h : List Event) (s : State) → Stands (alone m) h s → CanReturn m s → resting_after m h ≡ s
+rests m h s st can =
+    same_states (resting_after m h) s (λ i. sym (can.free i))
+    (each-lock (λ l. (resting_after m h).is_locked l ≡ s.is_locked l) (st.exact.follows.locked Caps (λ e. cc))
+    (st.exact.follows.locked Num (λ e. cc))
+    (sym (subst (λ z. z.is_locked Scroll ≡ false) can.leads (path-off m start can.path can.is refl)))
+    (st.exact.follows.locked Alt (λ e. cc)))
+    (sym (ap (λ t. t.is_second) (sym can.leads) ∙ path-first m start can.path can.is))
+    (sym (subst (λ z. z.is_pending ≡ false) can.leads (none-along (alone m) refl start can.path can.is refl)))
+
+ends-within : (from last : ℕ) (ks : List Keyed) → AreEnds from ks last → from ≤ last
+ends-within from last [] ends = ends
+ends-within from last (k ∷ ks) ends =
+    let le : k.end ≤ last = ends-within k.end last ks ends.1 in omega (arith, le, ends.0)
+
+-- what ways events go stays so when events are added
+ways-later : (b : Board) (m : MapValue) (es more : List Event) (from : ℕ) (ks : List Keyed)
+    → AreEnds from ks (length es) → GoWaysFrom b m es from ks → GoWaysFrom b m (es ++ more) from ks
+ways-later b m es more from [] ends go = tt
+ways-later b m es more from (k ∷ ks) ends (goes, go) =
+    let le : k.end ≤ length es = ends-within k.end (length es) ks ends.1 in
+    let before : take from es ≡ take from (es ++ more) =
+    sym (take-append-le from es more (omega (arith, le, ends.0))) in
+    let behind : take k.end es ≡ take k.end (es ++ more) = sym (take-append-le k.end es more le) in (
+      subst (λ z. GoesWay b m (reverse z) k.character (reverse (drop from (take k.end (es ++ more))))) before
+          (subst (λ z. GoesWay b m (reverse (take from es)) k.character (reverse (drop from z))) behind goes),
+      ways-later b m es more k.end ks ends.1 go,
+    )
+
+-- a further character
+ways-more : (b : Board) (m : MapValue) (es : List Event) (from : ℕ) (ks : List Keyed) (k : Keyed)
+    → GoWaysFrom b m es from ks
+    → GoesWay b m (reverse (take (last_end from ks) es)) k.character
+    (reverse (drop (last_end from ks) (take k.end es)))
+    → GoWaysFrom b m es from (ks ++ k ∷ [])
+ways-more b m es from [] k go goes = (goes, tt)
+ways-more b m es from (j ∷ ks) k go goes = (go.0, ways-more b m es j.end ks k go.1 goes)
+
+last-more : (from : ℕ) (ks : List Keyed) (k : Keyed) → last_end from (ks ++ k ∷ []) ≡ k.end
+last-more from [] k = refl
+last-more from (j ∷ ks) k = last-more j.end ks k
+
+-- the events that were added go the way of their character
+goes-added : (b : Board) (m : MapValue) (s : State) (c : ℕ) (es added : List Event) (last : ℕ)
+    → resting_after m (reverse es) ≡ s → last ≡ length (es ++ reverse added) → TakesWay b m s c added
+    → GoesWay b m (reverse (take (length es) (es ++ reverse added))) c
+    (reverse (drop (length es) (take last (es ++ reverse added))))
+goes-added b m s c es added last rest ends takes =
+    let all : take last (es ++ reverse added) ≡ es ++ reverse added =
+    take_all last (es ++ reverse added) (omega (arith, ends)) in
+    let before : take (length es) (es ++ reverse added) ≡ es =
+    take-append-le (length es) es (reverse added) (omega arith) ∙ take_all (length es) es (omega arith) in
+    let behind : reverse (drop (length es) (take last (es ++ reverse added))) ≡ added =
+    ap (λ z. reverse (drop (length es) z)) all
+    ∙ ap (λ z. reverse z) (drop-append_seam es (reverse added)) ∙ reverse-reverse added in
+    subst (λ z. TakesWay b m (resting_after m (reverse (take (length es) (es ++ reverse added)))) c z) (sym behind)
+    (subst (λ z. TakesWay b m (resting_after m (reverse z)) c added) (sym before)
+    (subst (λ z. TakesWay b m z c added) (sym rest) takes))
+
+pub typed-one : (b : Board) (m : MapValue) (cs : List ℕ) (place : ℕ) (keyed after : List Keyed)
+    → (es now : List Event) (s : State) (k : Keyed) (next : State) → HaveBeenTyped b m cs place keyed es s → place < length cs
     → k.character ≡ get_or cs place k.character → k.end ≡ length now
-    → TypesOne m k.character s (reverse es) (reverse now) next → after ≡ keyed ++ k ∷ []
-    → HaveBeenTyped m cs (place + 1) after now next
-typed-one m cs place keyed after es now s k next x lt is ends types e =
+    → TypesOne b m k.character s (reverse es) (reverse now) next → after ≡ keyed ++ k ∷ []
+    → HaveBeenTyped b m cs (place + 1) after now next
+typed-one b m cs place keyed after es now s k next x lt is ends types e =
     let c : ℕ = k.character in
     let more : take (place + 1) cs ≡ take place cs ++ c ∷ [] =
     take_more cs place c lt ∙ ap (λ z. take place cs ++ z ∷ []) (sym is) in
     let typed : HasTyped m (reverse now) next None (take (place + 1) cs) =
     rw (more, types.events) (types.types (reverse es) (take place cs) x.typed) in
-    let behind : now ≡ es ++ reverse types.added = added-behind m c s next es now types in
-    let le : length es ≤ length now = fits-behind m c s next es now types in
+    let behind : now ≡ es ++ reverse types.added = added-behind b m c s next es now types in
+    let le : length es ≤ length now = fits-behind b m c s next es now types in
     let count : length keyed ≡ place =
     sym (length-map keyed (λ (k : Keyed). k.character)) ∙ ap length x.characters
     ∙ length-take-le place cs x.below in
@@ -186,17 +260,22 @@ typed-one m cs place keyed after es now s k next x lt is ends types e =
               rw (here ∙ count, all) (typed-answers m now (take (place + 1) cs) typed.typed),
             )
       ];
+      last = ap (λ z. last_end 0 z) e ∙ last-more 0 keyed k ∙ ends;
+      ways = rw (e) (ways-more b m now 0 keyed k
+          (rw behind (ways-later b m es (reverse types.added) 0 keyed x.ends x.ways))
+          (rw (x.last, behind) (goes-added b m s c es types.added k.end
+          (rests m (reverse es) s x.typed.stands x.can_return) (ends ∙ ap length behind) types.way)));
       can = rw more (All-push (λ c. CanType m c) (take place cs) c x.can types.can);
       typed = typed;
       below = omega (arith, lt);
     }
 
 -- all were typed, and the console is home
-pub typed-all : (m : MapValue) (cs : List ℕ) (place : ℕ) (x : Typing) (es : List Event) (s : State)
-    → HaveBeenTyped m cs place x.keyed.items es s → take place cs ≡ cs
+pub typed-all : (b : Board) (m : MapValue) (cs : List ℕ) (place : ℕ) (x : Typing) (es : List Event) (s : State)
+    → HaveBeenTyped b m cs place x.keyed.items es s → take place cs ≡ cs
     → GoesHome (alone m) s (reverse es) (reverse x.events.items) → (cs ≡ [] → x.events.items ≡ [])
     → AreTyped m cs x
-typed-all m cs place x es s typed all (back, is, home, e) none =
+typed-all b m cs place x es s typed all (back, is, home, e) none =
     let now : List Event = x.events.items in
     let there : State = state_from (alone m) s back in
     let first : there.is_second ≡ false =
@@ -219,9 +298,18 @@ typed-all m cs place x es s typed all (back, is, home, e) none =
       new = as-new m (reverse now) end.stands end.pending end.scroll;
     }
 
+-- so are the ways, with the events home behind them
+pub ways-all : (b : Board) (m : MapValue) (cs : List ℕ) (place : ℕ) (x : Typing) (es : List Event) (s : State)
+    → HaveBeenTyped b m cs place x.keyed.items es s → GoesHome (alone m) s (reverse es) (reverse x.events.items)
+    → GoWaysFrom b m x.events.items 0 x.keyed.items
+ways-all b m cs place x es s typed (back, is, home, e) =
+    let behind : x.events.items ≡ es ++ reverse (events_along back) =
+    cc (reverse-reverse x.events.items, e, reverse-append (events_along back) (reverse es), reverse-reverse es) in
+    rw behind (ways-later b m es (reverse (events_along back)) 0 x.keyed.items typed.ends typed.ways)
+
 -- nothing is typed where there was nothing to type
-pub typed-nothing : (m : MapValue) (cs : List ℕ) (x : Typing) → cs ≡ [] → x.keyed.items ≡ [] → x.events.items ≡ []
-    → AreTyped m cs x
-typed-nothing m cs x empty keyed events =
-    typed-all m cs 0 x [] start (typed-none m cs x.keyed.items [] start keyed refl refl) (sym empty)
+pub typed-nothing : (b : Board) (m : MapValue) (cs : List ℕ) (x : Typing) → cs ≡ [] → x.keyed.items ≡ []
+    → x.events.items ≡ [] → AreTyped m cs x
+typed-nothing b m cs x empty keyed events =
+    typed-all b m cs 0 x [] start (typed-none b m cs x.keyed.items [] start keyed refl refl) (sym empty)
     ([], tt, ((λ i. refl), (λ l. refl)), ap (λ z. reverse z) events) (λ e. events)

@@ -2,3 +2,4 @@ pub mod Inner
 pub mod Types
 pub mod Typing
 pub mod Visiting
+pub mod Ways

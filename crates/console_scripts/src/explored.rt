@@ -1,20 +1,20 @@
 //! The states that presses lead to from one where no key holds a modifier, the taps that can be made in them, and the
 //! events of those.
-ghost use Rattle.std.specs.Prelude.{◌≡◌, true, false, reverse, slice_get, Some, IfOk, MatchOption, ℕ};
+ghost use Rattle.std.specs.Prelude.{◌≡◌, true, false, reverse, Some, IfOk, MatchOption, ℕ};
 ghost use Rattle.console_states.specs.Moves.{Under, alone, map_in};
 ghost use Rattle.console_scripts.specs.Typing.{IsTapOf, cell_of};
 ghost use Rattle.console_scripts.specs.Inner.Exploring.{map_of_explored, origin_in, IsExplored, IsTapAt, HasTap};
-ghost use Rattle.console_scripts.specs.Inner.Exploring.{GoesAndTaps, IsOrigin, LetsGo, IsExploredFrom, GoesHome};
-ghost use Rattle.console_scripts.specs.Inner.Exploring.{CanTapIn, IsMetAt};
+ghost use Rattle.console_scripts.specs.Inner.Exploring.{IsOrigin, LetsGo, IsExploredFrom, GoesHome};
+ghost use Rattle.console_scripts.specs.Inner.Exploring.{CanTapIn, Leaves};
 ghost use Rattle.console_scripts.specs.Inner.Routes.{HasRoute};
 ghost use Rattle.console_scripts.specs.Inner.Symbols.{AreKeysWith};
-ghost use Rattle.console_states.specs.Searching.{state_of, Entry};
+ghost use Rattle.console_states.specs.Searching.{state_of};
 
 use crate::routes::{Routes, has_route, routes_home};
 use crate::showing::{come_home, tap};
 use crate::symbols::keys_with;
 use console_core::Event;
-use console_states::{End, Held, KeyAt, Keymaps, Met, first_where, go_out, meet_all, state_at};
+use console_states::{End, Held, KeyAt, Keymaps, Met, first_where, meet_all};
 use keymap_core::{Action, Cell, KEY_COUNT, KeyCode, KeyMap, MODIFIERS, key_with};
 use std::alloc::{AllocError, Global};
 
@@ -171,40 +171,20 @@ impl<'m> Explored<'m> {
         first_where(&self.met, |held| self.key_in(&held, tap, &have, is_near))
     }
 
-    /// A place from which a route leads home and where a key can be tapped so, and that key: with the locks of the
-    /// origin, if there is one, and by the fewest presses.
-    pub fn place_tapping(&self, tap: &Tap) -> Option<KeyAt>
-        requires { IsExplored self.now }
-        ensures { MatchOption result (HasTap self.now tap.now → ⊥) (λ at. IsTapAt self.now tap.now at.place at.key) }
-    {
-        match self.first_place(tap, true) {
-            Some(at) => Some(at),
-            None => self.first_place(tap, false),
-        }
-    }
-
-    /// Adds the events from the origin to the place, a tap of the key there, and those behind it to a state where no
-    /// key holds a modifier, from which a route leads home. Answers that state.
-    pub fn go_and_tap(
-        &self,
-        alloc: Global,
-        events: &mut Vec<Event>,
-        at: KeyAt,
-    ) -> Result<Held, AllocError>
+    /// Adds the events from the state, which was met and from which a route leads home, to one where no key holds a
+    /// modifier and from which a route leads home.
+    pub fn leave(&self, events: &mut Vec<Event>, held: &Held) -> Result<Held, AllocError>
         requires explored { IsExplored self.now }
-        requires route { IsMetAt self.now at.place }
-        ensures { IfOk result (λ next. (x : Entry) → slice_get self.now.met.entries at.place ≡ Some x
-            → GoesAndTaps (alone (map_of_explored self.now)) (origin_in self.now) (state_of x.0) at.key
-            (reverse events.old.items) (reverse events.new.items) (state_of next)) }
+        requires route { HasRoute self.now.routes.entries (state_of held.now) }
+        ensures { IfOk result (λ next. IsOrigin (state_of held.now)
+            → Leaves (alone (map_of_explored self.now)) (state_of held.now) (reverse events.old.items)
+            (reverse events.new.items) (state_of next)) }
     {
-        go_out(events, alloc, &self.met, at.place)?;
-        tap(events, at.key)?;
-        let held = state_at(&self.met, at.place);
         if has_route(&self.routes, &held.freed()) {
-            let next = let_all_go(&held, events)?;
+            let next = let_all_go(held, events)?;
             Ok(next)
         } else {
-            come_home(events, &self.routes, &held)?;
+            come_home(events, &self.routes, held)?;
             Ok(Held::start())
         }
     }

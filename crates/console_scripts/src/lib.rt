@@ -14,13 +14,17 @@
 //! than 65,536 states can be reached, and no other call fails.
 #![tactic(auto)]
 
+mod classes;
+mod courses;
 mod explored;
 mod explorer;
 mod few;
 pub mod laws;
+mod making;
 mod onward;
 mod places;
 mod routes;
+mod seeking;
 mod showing;
 mod symbols;
 mod typed;
@@ -28,6 +32,7 @@ mod typing;
 mod typist;
 mod ways;
 
+pub use classes::Class;
 pub use explorer::Explorer;
 pub use onward::{find_onward, scroll_off};
 pub use typed::{Yield, yield_of};

@@ -52,7 +52,7 @@ struct Places {
 }
 
 /// The symbol that the cell is.
-fn symbol_of(cell: &Cell) -> Option<Symbol>
+pub(crate) fn symbol_of(cell: &Cell) -> Option<Symbol>
     ensures { result ≡ symbol_in cell.now }
 {
     match cell {

@@ -4,16 +4,27 @@ ghost use Rattle.std.specs.Prelude.{◌≡◌, ◌++◌, ◌∷◌, [], None, So
 ghost use Rattle.keymap_core.specs.Maps.{MapValue};
 ghost use Rattle.console_scripts.specs.Typing.{AreTyped, IsTypingError};
 ghost use Rattle.console_scripts.specs.Inner.Exploring.{AreKnown, AreExplorations, IsExplored, IsOrigin, CanReturn};
-ghost use Rattle.console_scripts.specs.Inner.Exploring.{IsExploredFrom, Leads, LeadsByTap, TypesOne};
+ghost use Rattle.console_scripts.specs.Inner.Exploring.{IsExplored, IsExploredFrom, Leads, Leaves, TypesOne};
+ghost use Rattle.console_scripts.specs.Inner.Exploring.{map_of_explored};
 ghost use Rattle.console_scripts.specs.Inner.Routes.{HasEntry};
+ghost use Rattle.console_states.specs.Moves.{alone};
 ghost use Rattle.console_states.specs.Searching.{state_of};
+ghost use Rattle.console_scripts.specs.Ways.{GoWaysFrom};
+ghost use Rattle.console_scripts.specs.Inner.Seeking.{AreReached};
+ghost use Rattle.console_core.specs.declared.event.Event.TheVariants as event;
+ghost use Rattle.keymap_core.specs.Bounds.{IsMap};
+ghost use Rattle.keyboard.specs.declared.board.Board.{Board as BoardValue};
 
-use crate::explored::{Explored, Tap, explore};
-use crate::ways::{Way, plain, way_for};
+use crate::courses::Found;
+use crate::explored::{Explored, explore};
+use crate::seeking::Seeker;
+use crate::showing::tap;
 use console_core::Event;
 use console_states::Held;
 use indexmap::IndexMap;
+use keyboard::Board;
 use keymap_core::KeyMap;
+use keymap_core::laws::every_keymap_is_within_the_bounds;
 use std::alloc::{AllocError, Global};
 
 /// A character, and how many events there are up to the last of those that type it, behind which no key is pressed.
@@ -95,29 +106,6 @@ fn explored_from<'t, 'm>(explorations: &'t Explorations<'m>, from: &Held) -> &'t
     }
 }
 
-/// Adds the events of a tap, if it was found that it can be made.
-fn tap_from(
-    explored: &Explored,
-    alloc: Global,
-    events: &mut Vec<Event>,
-    tap: &Tap,
-) -> Result<Typed, AllocError>
-    requires { IsExplored explored.now }
-    ensures { IfOk result (λ r. LeadsByTap explored.now tap.now (reverse events.old.items)
-        (reverse events.new.items) r) }
-{
-    match explored.place_tapping(tap) {
-        Some(at) => Ok(Typed::To(explored.go_and_tap(alloc, events, at)?)),
-        None => {
-            if explored.is_complete {
-                Ok(Typed::NoWay)
-            } else {
-                Ok(Typed::TooManyStates)
-            }
-        }
-    }
-}
-
 /// A character, and the state from which it is to be typed.
 #[derive(Clone, Copy, Debug, PartialEq, Eq, Hash)]
 struct Sought {
@@ -127,13 +115,13 @@ struct Sought {
 
 /// The events that type it, and the state behind them.
 #[derive(Debug, Drop)]
-struct Found {
+struct Kept {
     events: Vec<Event>,
     next: Held,
 }
 
 /// What was typed before.
-type Known = IndexMap<Sought, Found>;
+type Known = IndexMap<Sought, Kept>;
 
 /// Adds the events that typed the character from the state before, and answers the state behind them, if it was.
 fn recall(
@@ -142,8 +130,8 @@ fn recall(
     sought: &Sought,
 ) -> Result<Option<Held>, AllocError>
     ensures { IfOk result (λ r. MatchOption r (events.new.items ≡ events.old.items)
-        (λ next. (m : MapValue) → AreKnown m known.now.entries
-        → TypesOne m sought.now.character (state_of sought.now.from) (reverse events.old.items)
+        (λ next. (b : BoardValue) (m : MapValue) → AreKnown b m known.now.entries
+        → TypesOne b m sought.now.character (state_of sought.now.from) (reverse events.old.items)
         (reverse events.new.items) (state_of next))) }
 {
     match known.get(sought) {
@@ -163,13 +151,13 @@ fn keep(
     events: &[Event],
     next: &Held,
 ) -> Result<(), AllocError>
-    ensures { OnOk result ((m : MapValue) → AreKnown m known.old.entries
-        → TypesOne m sought.now.character (state_of sought.now.from) [] (reverse events.now) (state_of next.now)
-        → AreKnown m known.new.entries) }
+    ensures { OnOk result ((b : BoardValue) (m : MapValue) → AreKnown b m known.old.entries
+        → TypesOne b m sought.now.character (state_of sought.now.from) [] (reverse events.now) (state_of next.now)
+        → AreKnown b m known.new.entries) }
 {
     let mut kept = Vec::new(alloc);
     kept.extend_from_slice(events)?;
-    let found = Found {
+    let found = Kept {
         events: kept,
         next: *next,
     };
@@ -184,41 +172,55 @@ fn push_keyed(keyed: &mut Vec<Keyed>, one: Keyed) -> Result<(), AllocError>
     Ok(())
 }
 
+/// Adds the events of the way, and those behind it to where no key holds a modifier.
+fn go(explored: &Explored, events: &mut Vec<Event>, found: &Found) -> Result<Held, AllocError>
+    requires explored { IsExplored explored.now }
+    requires route { HasEntry explored.now.routes.entries (state_of found.now.held) }
+    ensures { IfOk result (λ next. IsOrigin (state_of found.now.held)
+        → Leaves (alone (map_of_explored explored.now)) (state_of found.now.held)
+        (event.Release found.now.key ∷ event.Press found.now.key
+        ∷ (reverse found.now.events.items ++ reverse events.old.items)) (reverse events.new.items) (state_of next)) }
+{
+    events.extend_from_slice(&found.events)?;
+    tap(events, found.key)?;
+    let next = explored.leave(events, &found.held)?;
+    Ok(next)
+}
+
 /// What was explored and typed before, and the events so far.
 #[derive(Drop)]
 struct Scribe<'m> {
     alloc: Global,
     explorations: Explorations<'m>,
+    seeker: Seeker,
     known: Known,
     events: Vec<Event>,
 }
 
 impl<'m> Scribe<'m> {
-    /// Adds the events that type the character from the state.
+    /// Adds the events that type the character from the state, by a way of the first class that has one.
     fn type_from(&mut self, map: &'m KeyMap, from: &Held, c: char) -> Result<Typed, AllocError>
+        requires bounds { IsMap map.now }
         requires explorations { AreExplorations map.now self.old.explorations.entries }
+        requires reached { AreReached self.old.seeker.board map.now self.old.seeker.courses.entries }
         requires can_return { CanReturn map.now (state_of from.now) }
         ensures explorations { OnOk result (AreExplorations map.now self.new.explorations.entries) }
+        ensures board { OnOk result (self.new.seeker.board ≡ self.old.seeker.board) }
+        ensures reached { OnOk result (AreReached self.new.seeker.board map.now self.new.seeker.courses.entries) }
         ensures known { OnOk result (self.new.known ≡ self.old.known) }
-        ensures leads { IfOk result (λ r. Leads map.now c (state_of from.now) (reverse self.old.events.items)
-            (reverse self.new.events.items) r) }
+        ensures leads { IfOk result (λ r. Leads self.old.seeker.board map.now c (state_of from.now)
+            (reverse self.old.events.items) (reverse self.new.events.items) r) }
     {
         see(&mut self.explorations, self.alloc, map, from)?;
         let explored = explored_from(&self.explorations, from);
-        match way_for(explored, map, c) {
-            Some(Way::Direct(at)) => {
-                let next = explored.go_and_tap(self.alloc, &mut self.events, at)?;
+        let looked = self.seeker.choose(explored, c)?;
+        match &looked.found {
+            Some(found) => {
+                let next = go(explored, &mut self.events, found)?;
                 Ok(Typed::To(next))
             }
-            Some(Way::Composed(found)) => {
-                let middle = explored.go_and_tap(self.alloc, &mut self.events, found.dead)?;
-                see(&mut self.explorations, self.alloc, map, &middle)?;
-                let behind = explored_from(&self.explorations, &middle);
-                let last = tap_from(behind, self.alloc, &mut self.events, &plain(found.then))?;
-                Ok(last)
-            }
             None => {
-                if explored.is_complete {
+                if looked.has_met_all {
                     Ok(Typed::NoWay)
                 } else {
                     Ok(Typed::TooManyStates)
@@ -229,13 +231,17 @@ impl<'m> Scribe<'m> {
 
     /// Adds the events that type the character from the state, and keeps them for the next time.
     fn type_next(&mut self, map: &'m KeyMap, sought: &Sought) -> Result<Typed, AllocError>
+        requires bounds { IsMap map.now }
         requires explorations { AreExplorations map.now self.old.explorations.entries }
-        requires known { AreKnown map.now self.old.known.entries }
+        requires reached { AreReached self.old.seeker.board map.now self.old.seeker.courses.entries }
+        requires known { AreKnown self.old.seeker.board map.now self.old.known.entries }
         requires can_return { CanReturn map.now (state_of sought.now.from) }
         ensures explorations { OnOk result (AreExplorations map.now self.new.explorations.entries) }
-        ensures known { OnOk result (AreKnown map.now self.new.known.entries) }
-        ensures leads { IfOk result (λ r. Leads map.now sought.now.character (state_of sought.now.from)
-            (reverse self.old.events.items) (reverse self.new.events.items) r) }
+        ensures board { OnOk result (self.new.seeker.board ≡ self.old.seeker.board) }
+        ensures reached { OnOk result (AreReached self.new.seeker.board map.now self.new.seeker.courses.entries) }
+        ensures known { OnOk result (AreKnown self.new.seeker.board map.now self.new.known.entries) }
+        ensures leads { IfOk result (λ r. Leads self.old.seeker.board map.now sought.now.character
+            (state_of sought.now.from) (reverse self.old.events.items) (reverse self.new.events.items) r) }
     {
         if let Some(next) = recall(&self.known, &mut self.events, sought)? {
             return Ok(Typed::To(next));
@@ -262,16 +268,20 @@ impl<'m> Scribe<'m> {
         keyed: &mut Vec<Keyed>,
     ) -> Result<(), TypingError>
         requires explorations { AreExplorations map.now self.old.explorations.entries }
-        requires known { AreKnown map.now self.old.known.entries }
+        requires reached { AreReached self.old.seeker.board map.now self.old.seeker.courses.entries }
+        requires known { AreKnown self.old.seeker.board map.now self.old.known.entries }
         requires keyed { keyed.old.items ≡ [] }
         requires events { self.old.events.items ≡ [] }
         ensures typed { OnOk result
             (AreTyped map.now characters.now (record { keyed = keyed.new; events = self.new.events })) }
+        ensures ways { OnOk result
+            (GoWaysFrom self.old.seeker.board map.now self.new.events.items 0 keyed.new.items) }
         ensures error { IfErr result (λ error. IsTypingError map.now characters.now error) }
     {
         if characters.is_empty() {
             return Ok(());
         }
+        every_keymap_is_within_the_bounds(map);
         let mut from = Held::start();
         let mut place = 0;
         while place < characters.len() {
@@ -298,14 +308,18 @@ impl<'m> Scribe<'m> {
 pub fn type_characters(
     alloc: Global,
     map: &KeyMap,
+    board: Board,
     characters: &[char],
 ) -> Result<Typing, TypingError>
     ensures typed { IfOk result (λ typing. AreTyped map.now characters.now typing) }
+    ensures ways { IfOk result (λ typing. GoWaysFrom board map.now typing.events.items 0 typing.keyed.items) }
     ensures error { IfErr result (λ error. IsTypingError map.now characters.now error) }
 {
+    let seeker = Seeker::new(alloc, board);
     let mut scribe = Scribe {
         alloc,
         explorations: IndexMap::new(alloc),
+        seeker,
         known: IndexMap::new(alloc),
         events: Vec::new(alloc),
     };

@@ -10,4 +10,4 @@ pub mod Showing
 pub mod Telling
 pub mod Scripts
 pub mod Walking
-mod Verdicts
+mod Counting

@@ -26,6 +26,7 @@ use Rattle.console_states.specs.Sticking.{NeverForgets}
 use Rattle.keymap_cover.specs.Covering.{IsAtRest}
 use Rattle.keymap_cover.proofs.Marking.{set-cases}
 use Rattle.keymap_cover.specs.Inner.Scripts.{IsWith, AddsSights}
+use Rattle.keymap_cover.specs.SeenSights.{Gains, SeesWith}
 use Rattle.keymap_core.specs.declared.action.Holding.TheVariants as holding
 use Rattle.console_core.specs.declared.event.Event.TheVariants as event
 use Rattle.console_states.specs.declared.selection.Sight.TheVariants as sight
@@ -49,24 +50,38 @@ selection-stands : (on : Modifier → Bool) (off : Lock → Bool) (m : MapValue)
 selection-stands on off m h e f = grind (arith)
 
 -- what a press sees was added
-sights-added : (m : MapValue) (h : List Event) (k : ℕ) (pending : Option ℕ) (old a b now : Sight → Bool)
-    → accent_pending_after (between m m) h ≡ pending
-    → (let y = selection_after m h in
-    IsWith (sight.Cell (slot_in y k) (column_in m y k)) old a
-    → IsWith (sight.Locks (slot_in y k) y.caps y.num) a b
-    → AddsPair m y k pending b now → AddsSights m h k old now)
-sights-added m h k pending old a b now is v w pair x = grind (arith)
-
--- what a press sees, by what a console shows, was added
-pub shown-added : (m : MapValue) (h : List Event) (k slot column : ℕ) (pending : Option ℕ) (y : Selection)
-    (old a b now : Sight → Bool) (on : Modifier → Bool) (off : Lock → Bool)
-    → y ≡ selection_with on off → ((i : Modifier) → on i ≡ is_on_after (between m m) i h)
-    → ((l : Lock) → off l ≡ is_locked_after (between m m) l h) → accent_pending_after (between m m) h ≡ pending
+pub press-added : (m : MapValue) (k slot column : ℕ) (pending : Option ℕ) (y : Selection) (old a b now : Sight → Bool)
     → slot ≡ slot_in y k → column ≡ column_in m y k
     → IsWith (sight.Cell slot column) old a → IsWith (sight.Locks slot y.caps y.num) a b
-    → AddsPair m y k pending b now → AddsSights m h k old now
-shown-added m h k slot column pending y old a b now on off is_on e f is s d v w pair =
-    grind (arith, selection-stands, sights-added, slot_in)
+    → AddsPair m y k pending b now → Gains (SeesWith m y k pending) old now
+press-added m k slot column pending y old a b now s d v w pair (sight.Cell i c) = grind (arith)
+press-added m k slot column pending y old a b now s d v w pair (sight.Locks i e f) = grind (arith)
+press-added m k slot column pending y old a b now s d v w pair (sight.Pair i c) = grind (arith)
+
+-- what a press sees, by what a console shows, was added
+pub shown-added : (m : MapValue) (h : List Event) (k : ℕ) (pending : Option ℕ) (y : Selection) (old now : Sight → Bool)
+    (on : Modifier → Bool) (off : Lock → Bool)
+    → y ≡ selection_with on off → ((i : Modifier) → on i ≡ is_on_after (between m m) i h)
+    → ((l : Lock) → off l ≡ is_locked_after (between m m) l h) → accent_pending_after (between m m) h ≡ pending
+    → Gains (SeesWith m y k pending) old now → AddsSights m h k old now
+shown-added m h k pending y old now on off is_on e f is gains x =
+    let at : y ≡ selection_after m h = is_on ∙ selection-stands on off m h e f in
+    let (kept, added, only) =
+    subst (λ z. Gains (SeesWith m z k (accent_pending_after (between m m) h)) old now) at
+    (subst (λ p. Gains (SeesWith m y k p) old now) (sym is) gains) x in
+    (kept, (λ sees. added (to x sees)), (λ has. from x (only has)))
+  where
+    to : (z : Sight) → SeesNext m h k z → SeesWith m (selection_after m h) k (accent_pending_after (between m m) h) z
+    to (sight.Cell i c) sees = sees
+    to (sight.Locks i a b) sees = sees
+    to (sight.Pair i c) sees = sees
+
+    from : (z : Sight)
+        → (old z ≡ true) ⊎ SeesWith m (selection_after m h) k (accent_pending_after (between m m) h) z
+        → (old z ≡ true) ⊎ SeesNext m h k z
+    from (sight.Cell i c) has = has
+    from (sight.Locks i a b) has = has
+    from (sight.Pair i c) has = has
 
 -- what is seen along one more event
 sees-old : (m : MapValue) (e : Event) (h : List Event) (x : Sight) → SeesAlong m h x → SeesAlong m (e ∷ h) x

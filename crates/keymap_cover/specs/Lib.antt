@@ -5,3 +5,4 @@ pub mod SightLists
 pub mod SeenSights
 pub mod Told
 pub mod Parts
+pub mod Verdicts

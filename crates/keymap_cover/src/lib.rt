@@ -32,9 +32,11 @@ mod sight_lists;
 mod told;
 mod trials;
 mod tried;
+mod verdicts;
 
 pub use cover::cover_of;
 pub use parts::{Counts, Cover, Part, Start, Verdict};
 pub use script_event::ScriptEvent;
-pub use seen::Seen;
+pub use seen::{Seen, selection};
 pub use sight_lists::{cells, lock_settings};
+pub use verdicts::{Can, Verdicts};

@@ -1,9 +1,12 @@
 //! What is told of a keymap.
 ghost use Rattle.std.specs.Prelude.{◌≡◌};
-ghost use Rattle.keymap_cover.specs.Covering.{Covers, IsVerdict, verdict_of, counts_of};
+ghost use Rattle.keymap_core.specs.Maps.{MapValue};
+ghost use Rattle.keymap_cover.specs.Covering.{Covers, IsVerdict, verdict_of};
+ghost use Rattle.keymap_cover.specs.Verdicts.{verdict_in};
 
 use crate::script_event::ScriptEvent;
 use crate::seen::Seen;
+use crate::verdicts::{Can, Verdicts};
 use console_states::{Sight, Sights};
 use keymap_core::KeyMap;
 
@@ -58,36 +61,21 @@ pub struct Start {
 }
 
 impl Cover {
+    /// The verdicts on sights.
+    pub fn verdicts<'a>(&'a self) -> Verdicts<'a>
+        ensures { (m : MapValue) → verdict_in m result ≡ verdict_of m self.now }
+    {
+        Verdicts {
+            seen: &self.seen,
+            can: Can::Searched(&self.sights),
+        }
+    }
+
     /// What is told of a sight: seen, left out, or never seen.
     pub fn verdict(&self, map: &KeyMap, sight: Sight) -> Verdict
         ensures told { Covers map.now self.now → IsVerdict map.now self.now sight result }
         ensures value { result ≡ verdict_of map.now self.now sight }
     {
-        if self.seen.has(sight) {
-            Verdict::Seen
-        } else if self.sights.can_see(map, sight) {
-            Verdict::LeftOut
-        } else {
-            Verdict::Never
-        }
-    }
-
-    /// How many of the sights are seen, left out, and never seen.
-    pub fn count(&self, map: &KeyMap, sights: &[Sight]) -> Counts
-        ensures { result ≡ counts_of (verdict_of map.now self.now) sights.now }
-    {
-        let mut counts = Counts {
-            seen: 0,
-            left_out: 0,
-            rest: 0,
-        };
-        for sight in sights {
-            match self.verdict(map, *sight) {
-                Verdict::Seen => counts.seen += 1,
-                Verdict::LeftOut => counts.left_out += 1,
-                Verdict::Never => counts.rest += 1,
-            }
-        }
-        counts
+        self.verdicts().verdict(map, sight)
     }
 }

@@ -70,7 +70,7 @@ fn has_pair(pairs: &[Sight], accent: u8, character: char) -> bool
 }
 
 /// What of the console picks the cell that a key looks up.
-fn selection<T: Translator>(console: &T) -> Selection
+pub fn selection<T: Translator>(console: &T) -> Selection
     ensures { result ≡ selection_with (T.shows_on console.now) (T.shows_locked console.now) }
 {
     Selection {
@@ -88,8 +88,8 @@ impl Seen {
     ghost use Rattle.console_core.specs.declared.event.Event.{Event};
     ghost use Rattle.console_core.specs.History.{between};
     ghost use Rattle.console_states.specs.declared.selection.Sight.{Sight as SightValue};
-    ghost use Rattle.keymap_cover.specs.SeenSights.{has_seen};
-    ghost use Rattle.keymap_cover.specs.Inner.Scripts.{AddsPair, AddsSights, IsWith};
+    ghost use Rattle.keymap_cover.specs.SeenSights.{AddsSights, Gains, SeesWith, has_seen};
+    ghost use Rattle.keymap_cover.specs.Inner.Scripts.{AddsPair, IsWith};
 
     /// Nothing was seen.
     pub fn new(alloc: Global) -> Result<Seen, AllocError>
@@ -163,8 +163,26 @@ impl Seen {
         Ok(())
     }
 
+    /// Adds what a press of the key sees under the selection, while the accent is pending that is told, if one is.
+    pub fn add_press(
+        &mut self,
+        map: &KeyMap,
+        selection: Selection,
+        key: KeyCode,
+        pending: Option<u8>,
+    ) -> Result<(), AllocError>
+        ensures { OnOk result (Gains (SeesWith map.now selection key pending) (has_seen self.old) (has_seen self.new)) }
+    {
+        let slot = selection.slot(key);
+        let column = selection.column(map, key);
+        self.add_cell(slot, column);
+        self.add_lock_setting(slot, selection.caps, selection.num);
+        self.add_composed(map, selection, key, pending)?;
+        Ok(())
+    }
+
     /// Adds what a press of the key sees.
-    pub(crate) fn add_sights<T: Translator>(
+    pub fn add_sights<T: Translator>(
         &mut self,
         console: &T,
         map: &KeyMap,
@@ -173,12 +191,7 @@ impl Seen {
         ensures { OnOk result ((h : List Event) → T.stands console.now (between map.now map.now) h
             → AddsSights map.now h key (has_seen self.old) (has_seen self.new)) }
     {
-        let selection = selection(console);
-        let slot = selection.slot(key);
-        let column = selection.column(map, key);
-        self.add_cell(slot, column);
-        self.add_lock_setting(slot, selection.caps, selection.num);
-        self.add_composed(map, selection, key, console.pending())?;
+        self.add_press(map, selection(console), key, console.pending())?;
         Ok(())
     }
 }

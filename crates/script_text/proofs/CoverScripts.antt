@@ -132,9 +132,9 @@ quiet-all_counts : (told : Sight → Verdict) (m : MapValue) (c : Cover) → Add
 quiet-all_counts told m c =
     let line : IsInLine (rest_word c) = rest-line c.sights.forgets in
     quiet-comment (codes " for a console in a program: on a machine it restarts, stops or sleeps") [] refl tt
-    ⊳ quiet-counts (rest_word c) (codes "cells") (counts_of told all_cells) line refl
+    ⊳ (quiet-counts (rest_word c) (codes "cells") (counts_of told all_cells) line refl
     ⊳ quiet-counts (rest_word c) (codes "lock settings") (counts_of told all_lock_settings) line refl
-    ⊳ quiet-counts (rest_word c) (codes "pairs") (counts_of told (all_pairs m)) line refl
+    ⊳ quiet-counts (rest_word c) (codes "pairs") (counts_of told (all_pairs m)) line refl)
 
 quiet-lists : (told : Sight → Verdict) (m : MapValue) (c : Cover) (old new : List ℕ) → Adds old []
     → AddsLists told m c old new → Adds new []

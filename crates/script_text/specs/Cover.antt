@@ -178,12 +178,16 @@ counts_line rest name n =
 abbrev pub purpose_line : List ℕ
 purpose_line = comment (codes " for a console in a program: on a machine it restarts, stops or sleeps") []
 
--- this, and how many of the cells, lock settings and pairs have each verdict
+-- how many of the cells, lock settings and pairs have each verdict
+abbrev pub all_counts : List ℕ → (Sight → Verdict) → MapValue → List ℕ
+all_counts rest told m =
+    counts_line rest (codes "cells") (counts_of told all_cells)
+    ++ counts_line rest (codes "lock settings") (counts_of told all_lock_settings)
+    ++ counts_line rest (codes "pairs") (counts_of told (all_pairs m))
+
+-- what the script is for, and these numbers
 abbrev pub counts_text : (Sight → Verdict) → MapValue → Cover → List ℕ
-counts_text told m c =
-    purpose_line ++ counts_line (rest_word c) (codes "cells") (counts_of told all_cells)
-    ++ counts_line (rest_word c) (codes "lock settings") (counts_of told all_lock_settings)
-    ++ counts_line (rest_word c) (codes "pairs") (counts_of told (all_pairs m))
+counts_text told m c = purpose_line ++ all_counts (rest_word c) told m
 
 -- Behind a text stand the slots with what is left out of them and then with the rest, and the pairs in the same way.
 pub record AddsLists (told : Sight → Verdict) (m : MapValue) (c : Cover) (old new : List ℕ) : Type 0 where

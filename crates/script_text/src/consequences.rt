@@ -20,7 +20,7 @@ type Added = Result<(), AllocError>;
 type Lines = Vec<Vec<u8>>;
 
 /// Adds a piece behind others.
-fn push_piece(text: &mut Vec<u8>, between: &[u8], piece: &[u8]) -> Added {
+pub(crate) fn push_piece(text: &mut Vec<u8>, between: &[u8], piece: &[u8]) -> Added {
     if !text.is_empty() {
         text.extend_from_slice(between)?;
     }

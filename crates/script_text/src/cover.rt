@@ -5,6 +5,7 @@ ghost use Rattle.std.specs.List.{flat_map};
 ghost use Rattle.keymap_core.specs.Numbers.{slot_limit, accent_limit};
 ghost use Rattle.console_states.specs.declared.selection.Sight.TheVariants as SightValue;
 ghost use Rattle.keymap_cover.specs.Covering.{verdict_of, counts_of};
+ghost use Rattle.keymap_cover.specs.Verdicts.{verdict_in};
 ghost use Rattle.messages.specs.Filled.{has_places};
 ghost use Rattle.script_text.specs.Cover as spec;
 ghost use Rattle.script_text.specs.Inner.Listed.{is_in};
@@ -19,18 +20,18 @@ use console_core::Event;
 use console_states::Sight;
 use keymap_core::{ACCENT_LIMIT, Accent, AccentIndex, Action, COLUMN_COUNT, KeyMap, SLOT_LIMIT};
 use keymap_cover::laws::counts_are_of_verdicts;
-use keymap_cover::{Cover, Part, ScriptEvent, Start, Verdict, cells, lock_settings};
+use keymap_cover::{Cover, Part, ScriptEvent, Start, Verdict, Verdicts, cells, lock_settings};
 use keymap_names::readable;
 use messages::{either, fill, number, small};
 use std::alloc::{AllocError, Global};
 
-/// A script of a keymap, and which sights are listed, under which word.
+/// The verdicts on sights of a keymap, and which sights are listed, under which word.
 #[derive(Clone, Copy)]
-struct Listing<'a> {
-    cover: &'a Cover,
-    map: &'a KeyMap,
-    listed: Verdict,
-    word: &'a [u8],
+pub(crate) struct Listing<'a> {
+    pub verdicts: Verdicts<'a>,
+    pub map: &'a KeyMap,
+    pub listed: Verdict,
+    pub word: &'a [u8],
 }
 
 impl<'a> Listing<'a> {
@@ -38,7 +39,7 @@ impl<'a> Listing<'a> {
     fn has(&self, sight: Sight) -> bool
         ensures { result ≡ is_in self.now sight }
     {
-        self.cover.verdict(self.map, sight) == self.listed
+        self.verdicts.verdict(self.map, sight) == self.listed
     }
 }
 
@@ -187,7 +188,7 @@ fn push_run(
 }
 
 /// The lines of the slots of which something is listed.
-fn slots(alloc: Global, listing: &Listing) -> Result<Vec<u8>, AllocError>
+pub(crate) fn slots(alloc: Global, listing: &Listing) -> Result<Vec<u8>, AllocError>
     ensures { IfOk result (λ text.
         spec.ListsSlots (is_in listing.now) listing.now.word.now slot_limit text.items) }
 {
@@ -299,7 +300,11 @@ fn push_accent(
 }
 
 /// Adds a line for each accent with pairs that are listed.
-fn push_accents(text: &mut Vec<u8>, alloc: Global, listing: &Listing) -> Result<(), AllocError>
+pub(crate) fn push_accents(
+    text: &mut Vec<u8>,
+    alloc: Global,
+    listing: &Listing,
+) -> Result<(), AllocError>
     ensures { OnOk result (text.new.items ≡ text.old.items
         ++ spec.accent_lines (is_in listing.now) listing.now.word.now listing.now.map.now) }
 {
@@ -338,14 +343,15 @@ fn pairs(alloc: Global, map: &KeyMap) -> Result<Vec<Sight>, AllocError>
 fn push_counts(
     text: &mut Vec<u8>,
     map: &KeyMap,
-    cover: &Cover,
+    verdicts: &Verdicts,
+    rest: &[u8],
     name: &[u8],
     sights: &[Sight],
 ) -> Result<(), AllocError>
     ensures { OnOk result (text.new.items ≡ text.old.items
-        ++ spec.counts_line (spec.rest_word cover.now) name.now (counts_of (verdict_of map.now cover.now) sights.now)) }
+        ++ spec.counts_line rest.now name.now (counts_of (verdict_in map.now verdicts.now) sights.now)) }
 {
-    let counts = cover.count(map, sights);
+    let counts = verdicts.count(map, sights);
     push_comment(
         text,
         COUNTS,
@@ -353,10 +359,37 @@ fn push_counts(
             name,
             number(counts.seen as u64).as_slice(),
             number(counts.left_out as u64).as_slice(),
-            either(cover.sights.forgets, UNSTUCK, NEVER),
+            rest,
             number(counts.rest as u64).as_slice(),
         ],
     )
+}
+
+/// Adds how many of the cells, lock settings and pairs are seen, left out, and neither.
+pub(crate) fn push_all_counts(
+    text: &mut Vec<u8>,
+    alloc: Global,
+    map: &KeyMap,
+    verdicts: &Verdicts,
+    rest: &[u8],
+) -> Result<(), AllocError>
+    ensures { OnOk result (text.new.items
+        ≡ text.old.items ++ spec.all_counts rest.now (verdict_in map.now verdicts.now) map.now) }
+{
+    let cells = cells(alloc)?;
+    let settings = lock_settings(alloc)?;
+    let pairs = pairs(alloc, map)?;
+    push_counts(text, map, verdicts, rest, CELLS, cells.as_slice())?;
+    push_counts(
+        text,
+        map,
+        verdicts,
+        rest,
+        LOCK_SETTINGS,
+        settings.as_slice(),
+    )?;
+    push_counts(text, map, verdicts, rest, ALL_PAIRS, pairs.as_slice())?;
+    Ok(())
 }
 
 /// What the script is for, and how much it sees.
@@ -365,21 +398,8 @@ fn counts(alloc: Global, map: &KeyMap, cover: &Cover) -> Result<Vec<u8>, AllocEr
 {
     let mut text = Vec::new(alloc);
     push_comment(&mut text, PURPOSE, &[])?;
-    push_counts(&mut text, map, cover, CELLS, cells(alloc)?.as_slice())?;
-    push_counts(
-        &mut text,
-        map,
-        cover,
-        LOCK_SETTINGS,
-        lock_settings(alloc)?.as_slice(),
-    )?;
-    push_counts(
-        &mut text,
-        map,
-        cover,
-        ALL_PAIRS,
-        pairs(alloc, map)?.as_slice(),
-    )?;
+    let verdicts = cover.verdicts();
+    push_all_counts(&mut text, alloc, map, &verdicts, rest_word(cover))?;
     Ok(text)
 }
 
@@ -391,23 +411,24 @@ fn rest_word(cover: &Cover) -> &'static [u8]
 }
 
 /// Adds what the script doesn't see.
-fn push_lists(
+fn push_lists<'a>(
     text: &mut Vec<u8>,
     alloc: Global,
-    map: &KeyMap,
-    cover: &Cover,
+    map: &'a KeyMap,
+    cover: &'a Cover,
 ) -> Result<(), AllocError>
     ensures { OnOk result
         (spec.AddsLists (verdict_of map.now cover.now) map.now cover.now text.old.items text.new.items) }
 {
+    let verdicts = cover.verdicts();
     let left_out = Listing {
-        cover,
+        verdicts,
         map,
         listed: Verdict::LeftOut,
         word: LEFT_OUT,
     };
     let rest = Listing {
-        cover,
+        verdicts,
         map,
         listed: Verdict::Never,
         word: rest_word(cover),
@@ -457,7 +478,10 @@ fn push_starts(text: &mut Vec<u8>, place: usize, starts: &[Start]) -> Result<(),
 
 /// Adds the line of an event.
 #[tactic(auto, unfolding(messages::specs::Filled::filled))]
-fn push_script_event(text: &mut Vec<u8>, script_event: &ScriptEvent) -> Result<(), AllocError>
+pub(crate) fn push_script_event(
+    text: &mut Vec<u8>,
+    script_event: &ScriptEvent,
+) -> Result<(), AllocError>
     ensures { OnOk result (text.new.items ≡ text.old.items ++ spec.script_event_line script_event.now) }
 {
     let event = match script_event {

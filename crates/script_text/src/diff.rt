@@ -439,7 +439,7 @@ fn line_feed(text: &[u8]) -> Option<usize>
 }
 
 /// What of a text stands in its first line.
-fn first_line(text: &[u8]) -> &[u8]
+pub(crate) fn first_line(text: &[u8]) -> &[u8]
     ensures { result.now ≡ first_line_of text.now }
 {
     let end = line_feed(text).unwrap_or(text.len());
@@ -447,7 +447,7 @@ fn first_line(text: &[u8]) -> &[u8]
 }
 
 /// Adds lines as comments.
-fn push_said(text: &mut Vec<u8>, lines: &[Vec<u8>]) -> Added
+pub(crate) fn push_said(text: &mut Vec<u8>, lines: &[Vec<u8>]) -> Added
     ensures { OnOk result (text.new.items ≡ text.old.items ++ said_lines lines.now) }
 {
     for line in lines {

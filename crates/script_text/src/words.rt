@@ -155,3 +155,38 @@ pub(crate) const TYPES_UNDECIDED: &[u8] = b"types: undecided";
 
 // What stands between characters and between actions in a list.
 pub(crate) const BLANK: &[u8] = b" ";
+
+// The head of the script that tests a console by its keyboard: the board, and what isn't pressed, by slots and columns.
+pub(crate) const KEYBOARD: &[u8] = b"keyboard: {} keys";
+
+pub(crate) const NOT_PRESSED: &[u8] = b"not pressed: {}: {}";
+
+pub(crate) const SLOT_COLUMNS: &[u8] = b"slot {} columns{}";
+
+pub(crate) const SLOTS_COLUMNS: &[u8] = b"slots {} to {} columns{}";
+
+pub(crate) const SEMICOLON: &[u8] = b"; ";
+
+// What no admitted list sees.
+pub(crate) const ELSE: &[u8] = b"else";
+
+// Where a case begins, and what it is about.
+pub(crate) const CASE: &[u8] = b"case {}: {}{}";
+
+pub(crate) const NOT_SENT: &[u8] = b": not sent: repeat";
+
+pub(crate) const TOGETHER: &[u8] = b"together {} {}";
+
+pub(crate) const ALONE: &[u8] = b"alone {}";
+
+pub(crate) const ACROSS: &[u8] = b"across {} {} {}";
+
+pub(crate) const BETWEEN: &[u8] = b"between {} and {}";
+
+pub(crate) const PAIRS_CASE: &[u8] = b"pairs {}";
+
+pub(crate) const CELLS_CASE: &[u8] = b"cells {}";
+
+pub(crate) const RISKY_CELLS: &[u8] = b"risky cells {}";
+
+pub(crate) const RISKY_BETWEEN: &[u8] = b"risky between {} and nop of {}";

@@ -3,7 +3,7 @@
 use Rattle.std.specs.Prelude.{◌≡◌, ◌≤◌, ℕ, Bool, true, false, List, [], ◌∷◌, ◌++◌, length, reverse, None, Some}
 use Rattle.std.specs.Prelude.{slice_get, Option, map}
 use Rattle.keymap_core.specs.Maps.{MapValue}
-use Rattle.console_scripts.specs.Types.{Event, Press, Release, Move, Answer, Scroll}
+use Rattle.console_scripts.specs.Types.{Event, Move, Answer, Scroll}
 use Rattle.console_scripts.specs.declared.explored.Explored.{Explored}
 use Rattle.console_scripts.specs.declared.explored.Tap.{Tap}
 use Rattle.console_states.specs.declared.held.Held.{Held}
@@ -17,12 +17,14 @@ use Rattle.console_core.specs.Answers.{usable}
 use Rattle.console_scripts.specs.declared.explored.Symbol.{Symbol}
 use Rattle.console_scripts.specs.declared.explored.Symbol.TheVariants as symbol
 use Rattle.console_scripts.specs.declared.ways.Accented.{Accented}
-use Rattle.console_scripts.specs.declared.typing.Found.{Found}
+use Rattle.console_scripts.specs.declared.typing.Kept.{Kept}
 use Rattle.console_scripts.specs.declared.typing.Sought.{Sought}
 use Rattle.console_scripts.specs.declared.typing.Typed.{Typed}
 use Rattle.console_scripts.specs.declared.typing.Typed.TheVariants as typed
 use Rattle.console_scripts.specs.declared.ways.Way.{Way}
 use Rattle.console_scripts.specs.declared.ways.Way.TheVariants as way
+use Rattle.keyboard.specs.declared.board.Board.{Board}
+use Rattle.console_scripts.specs.Ways.{TakesWay}
 use Rattle.console_scripts.specs.Inner.Routes.{AllEntries, AllLeadHome, HasRoute, AreSettled}
 use Rattle.console_states.specs.Searching.{state_of, under_of, Entry, Searched}
 use Rattle.console_states.specs.Inner.Standing.{Stands}
@@ -87,16 +89,12 @@ pub record LetsGo (s : State) (h now : List Event) (next : State) : Type 0 where
   pub freed : next ≡ freed s
   pub events : now ≡ events_along path ++ h
 
--- After h came moves from the first state to the second, a tap of the key, and moves on to the last state, where
--- nothing is held, and from which moves lead home.
-pub record GoesAndTaps (u : Under) (o s : State) (k : ℕ) (h now : List Event) (next : State) : Type 0 where
-  pub out : List Move
+-- After h came moves from the state to one where nothing is held, and from which moves lead home.
+pub record Leaves (u : Under) (s : State) (h now : List Event) (next : State) : Type 0 where
   pub back : List Move
-  pub goes : IsPathFrom u o out
-  pub there : state_from u o out ≡ s
   pub returns : IsPathFrom u s back
   pub leads : state_from u s back ≡ next
-  pub events : now ≡ events_along back ++ (Release k ∷ Press k ∷ (events_along out ++ h))
+  pub events : now ≡ events_along back ++ h
   pub free : IsFree next
   pub home : ComesHome u next
 
@@ -163,32 +161,24 @@ abbrev pub HasNoWay : MapValue → Explored → ℕ → Type 0
 HasNoWay m e c =
     (HasTap e (plain_tap (symbol.Character c)) → ⊥) × ((i : ℕ) (x : Symbol) → CanAccent m e c i x → ⊥)
 
--- what a search for a tap answers
-abbrev pub LeadsByTap : Explored → Tap → List Event → List Event → Typed → Type 0
-LeadsByTap e t h now (typed.To next) =
-    (j k : ℕ) × (x : Entry) × (slice_get e.met.entries j ≡ Some x) × HasRoute e.routes.entries (state_of x.0)
-    × IsTapOf (alone (map_of_explored e)) (state_of x.0) t.is_plain t.symbol k
-    × GoesAndTaps (alone (map_of_explored e)) (origin_in e) (state_of x.0) k h now (state_of next)
-LeadsByTap e t h now typed.NoWay = (e.is_complete ≡ true) × (HasTap e t → ⊥) × (now ≡ h)
-LeadsByTap e t h now typed.TooManyStates = (e.is_complete ≡ false) × (HasTap e t → ⊥) × (now ≡ h)
-
--- The events that came after h type the character from the state, and lead to the next one.
-pub record TypesOne (m : MapValue) (c : ℕ) (s : State) (h now : List Event) (next : State) : Type 0 where
+-- The events that came after h type the character from the state, by a way that is taken, and lead to the next one.
+pub record TypesOne (b : Board) (m : MapValue) (c : ℕ) (s : State) (h now : List Event) (next : State) : Type 0 where
   pub can : CanType m c
   pub can_return : CanReturn m next
   pub added : List Event
   pub events : now ≡ added ++ h
+  pub way : TakesWay b m s c added
   pub types : (g : List Event) (cs : List ℕ) → HasTyped m g s None cs → HasTyped m (added ++ g) next None (cs ++ c ∷ [])
 
 -- what was typed before, by the character and the state where it began
-abbrev pub IsKnown : MapValue → Sought → Found → Type 0
-IsKnown m k v =
-    TypesOne m k.character (state_of k.from) [] (reverse v.events.items) (state_of v.next)
+abbrev pub IsKnown : Board → MapValue → Sought → Kept → Type 0
+IsKnown b m k v =
+    TypesOne b m k.character (state_of k.from) [] (reverse v.events.items) (state_of v.next)
 
-abbrev pub AreKnown : MapValue → List (Sought × Found) → Type 0
-AreKnown m known = AllEntries (IsKnown m) known
+abbrev pub AreKnown : Board → MapValue → List (Sought × Kept) → Type 0
+AreKnown b m known = AllEntries (IsKnown b m) known
 
-abbrev pub Leads : MapValue → ℕ → State → List Event → List Event → Typed → Type 0
-Leads m c s h now (typed.To next) = TypesOne m c s h now (state_of next)
-Leads m c s h now typed.NoWay = CanType m c → ⊥
-Leads m c s h now typed.TooManyStates = (p : ℕ) × ReachesMoreThan (alone m) state_limit p
+abbrev pub Leads : Board → MapValue → ℕ → State → List Event → List Event → Typed → Type 0
+Leads b m c s h now (typed.To next) = TypesOne b m c s h now (state_of next)
+Leads b m c s h now typed.NoWay = CanType m c → ⊥
+Leads b m c s h now typed.TooManyStates = (p : ℕ) × ReachesMoreThan (alone m) state_limit p

@@ -14,11 +14,12 @@ use Rattle.console_states.specs.declared.selection.Selection.{Selection}
 use Rattle.console_states.specs.declared.selection.Sight.TheVariants as sight
 use Rattle.console_core.specs.History.{Maps, between, is_locked_after, pressed, HasKeys}
 use Rattle.console_scripts.specs.Visiting.{AreTaken, CanVisit, CannotSee, IsNearHome, IsPair}
-use Rattle.console_states.specs.Sights.{look_selected, IsReachable, SeesNext, SeesAlong}
+use Rattle.console_states.specs.Sights.{look_selected, IsReachable, SeesAlong}
 use Rattle.keymap_cover.specs.declared.script_event.ScriptEvent.{ScriptEvent}
 use Rattle.keymap_cover.specs.declared.script.Script.{Script}
 use Rattle.keymap_cover.specs.ScriptEvents.{events_of, is_down, ArePossible}
 use Rattle.keymap_cover.specs.SeenSights.{has_seen}
+pub use Rattle.keymap_cover.specs.SeenSights.{AddsSights}
 use Rattle.keymap_cover.specs.Told.{IsTold}
 use Rattle.keymap_cover.specs.Covering.{IsAtRest, IsScrollOff, SeesKeysBy, SeesToldBy, ShowsPair}
 
@@ -37,12 +38,6 @@ abbrev pub AddsPair : MapValue → Selection → ℕ → Option ℕ → (Sight �
 AddsPair m y k pending old now =
     (x : Sight) → (old x ≡ true → now x ≡ true) × (IsPairOf m y k pending x → now x ≡ true)
     × (now x ≡ true → (old x ≡ true) ⊎ IsPairOf m y k pending x)
-
--- what a press of the key sees after the list was added, and nothing else
-abbrev pub AddsSights : MapValue → List Event → ℕ → (Sight → Bool) → (Sight → Bool) → Type 0
-AddsSights m h k old now =
-    (x : Sight) → (old x ≡ true → now x ≡ true) × (SeesNext m h k x → now x ≡ true)
-    × (now x ≡ true → (old x ≡ true) ⊎ SeesNext m h k x)
 
 -- the events of a script made this history, after which these keys are pressed, and this was seen
 pub record IsScript (m : MapValue) (h : List Event) (events : List ScriptEvent) (down : List Bool) (saw : Sight → Bool)

@@ -5,12 +5,12 @@ use Rattle.console_scripts.proofs.typing.recall.Goals as goal
 
 pub returns-in_ok-extend_from_slice-in-Some : goal.returns-in_ok-extend_from_slice-in-Some
 returns-in_ok-extend_from_slice-in-Some c =
-    λ m all.
+    λ b m all.
     let k = c.args.sought.now in
     let v = c.in-Some.found.now in
     let old = c.args.events.now.items in
-    types-behind m k.character (state_of k.from) (state_of v.next) old v.events.items
+    types-behind b m k.character (state_of k.from) (state_of v.next) old v.events.items
     c.extend_from_slice.new.self.items
-    (found-known are_same_sought tells-sought m c.args.known.now.entries k v all
+    (found-known are_same_sought tells-sought b m c.args.known.now.entries k v all
     (sym c.get.ensures.value ∙ ap option_copied c.in-Some.is))
     (c.in_ok-extend_from_slice-in-Some.ensures.items ∙ ap (λ z. old ++ z) c.deref.ensures.value)

@@ -1,4 +1,4 @@
-use Rattle.keymap_cover.proofs.Verdicts.{counts_are_of_verdicts, nothing_is_left_out}
+use Rattle.keymap_cover.proofs.Counting.{counts_are_of_verdicts, nothing_is_left_out}
 use Rattle.keymap_cover.proofs.laws.counts_are_of_verdicts.Goals as goal
 
 pub returns-clause-verdicts : goal.returns-clause-verdicts

@@ -9,7 +9,6 @@ returns c =
       c.number.ensures,
       c.as_slice-2.ensures.value,
       c.number-2.ensures,
-      c.either.ensures,
       c.as_slice-3.ensures.value,
       c.number-3.ensures,
       c.count-counts.ensures,

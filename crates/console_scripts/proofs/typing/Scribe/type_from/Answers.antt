@@ -1,81 +1,80 @@
-use Rattle.console_scripts.proofs.Common.{subst, reverse, LeadsByTap, state_of}
-use Rattle.console_scripts.proofs.Choosing.{no-way, too-many, leads-direct, behind-dead, composed-leads}
+use Rattle.console_scripts.proofs.Common.{CanReturn, origin_in, reverse, state_of, subst, sym}
+use Rattle.keymap_core.specs.Bounds.{IsMap}
+use Rattle.console_scripts.specs.Inner.Seeking.{AreReached}
 use Rattle.console_scripts.proofs.Exploring.{returns-origin}
+use Rattle.console_scripts.proofs.Taking.{chosen-found, leads-found, leads-many, leads-none}
 use Rattle.console_scripts.proofs.typing.Scribe.type_from.Goals as goal
 
 pub see-requires-clause-origin : goal.see-requires-clause-origin
 see-requires-clause-origin c = returns-origin c.args.map.now (state_of c.args.from.now) c.requires.can_return
 
-pub way_for-requires : goal.way_for-requires
-way_for-requires c = (c.explored_from-explored.ensures c.args.map.now c.in_ok-see.ensures.explorations).0
+pub choose-requires-clause-known : goal.choose-requires-clause-known
+choose-requires-clause-known c =
+    let v = c.explored_from-explored.ensures c.args.map.now c.in_ok-see.ensures.explorations in
+    subst IsMap (sym v.1) c.requires.bounds
 
-pub go_and_tap-requires : goal.go_and_tap-requires
-go_and_tap-requires c =
-    let (x, at, has, tap) = rw c.in-Some-Direct.field-0-is at c.in-Some-Direct.ensures in
-    record {
-      explored = (c.explored_from-explored.ensures c.args.map.now c.in_ok-see.ensures.explorations).0;
-      route = (x, at, has);
-    }
+pub choose-requires-clause-explored : goal.choose-requires-clause-explored
+choose-requires-clause-explored c = (c.explored_from-explored.ensures c.args.map.now c.in_ok-see.ensures.explorations).0
 
-pub returns-in_ok-next-in-Some-Direct-clause-leads : goal.returns-in_ok-next-in-Some-Direct-clause-leads
-returns-in_ok-next-in-Some-Direct-clause-leads c =
+pub choose-requires-clause-can_return : goal.choose-requires-clause-can_return
+choose-requires-clause-can_return c =
+    let v = c.explored_from-explored.ensures c.args.map.now c.in_ok-see.ensures.explorations in
+    let e = c.explored_from-explored.result.now in
+    subst (λ n. CanReturn n (origin_in e)) (sym v.1)
+    (subst (λ t. CanReturn c.args.map.now t) (sym v.2) c.requires.can_return)
+
+pub choose-requires-clause-courses : goal.choose-requires-clause-courses
+choose-requires-clause-courses c =
+    let v = c.explored_from-explored.ensures c.args.map.now c.in_ok-see.ensures.explorations in
+    let seeker = c.args.self.now.seeker in
+    subst (λ n. AreReached seeker.board n seeker.courses.entries) (sym v.1) c.requires.reached
+
+pub go-requires-clause-explored : goal.go-requires-clause-explored
+go-requires-clause-explored c = (c.explored_from-explored.ensures c.args.map.now c.in_ok-see.ensures.explorations).0
+
+pub go-requires-clause-route : goal.go-requires-clause-route
+go-requires-clause-route c =
     let m = c.args.map.now in
-    let at = c.in-Some-Direct.at in
-    let (x, there, has, tap) = rw c.in-Some-Direct.field-0-is at c.in-Some-Direct.ensures in
-    leads-direct m (state_of c.args.from.now) c.explored_from-explored.result.now c.args.c
-    (reverse c.args.self.now.events.items) (reverse c.go_and_tap.new.events.items) c.in_ok-next-in-Some-Direct.next
-    (c.explored_from-explored.ensures m c.in_ok-see.ensures.explorations) c.requires.can_return
-    (at.place, at.key, x, there, has, tap, c.in_ok-next-in-Some-Direct.ensures x there)
+    (chosen-found c.args.self.now.seeker.board m (state_of c.args.from.now) c.args.c c.explored_from-explored.result.now
+    c.in_ok-looked.looked c.in-Some.found (c.explored_from-explored.ensures m c.in_ok-see.ensures.explorations)
+    c.in_ok-looked.ensures.chosen c.in-Some.is).1.route
 
-pub go_and_tap-requires-in-Some-Composed : goal.go_and_tap-requires-in-Some-Composed
-go_and_tap-requires-in-Some-Composed c =
-    let (i, accented) = rw c.in-Some-Composed.field-0-is at c.in-Some-Composed.ensures in
-    let (x, at, has, tap) = accented.1 in
-    record {
-      explored = (c.explored_from-explored.ensures c.args.map.now c.in_ok-see.ensures.explorations).0;
-      route = (x, at, has);
-    }
-
-pub see-requires-in-Some-Composed-clause-origin : goal.see-requires-in-Some-Composed-clause-origin
-see-requires-in-Some-Composed-clause-origin c =
+pub returns-in-Some-clause-leads : goal.returns-in-Some-clause-leads
+returns-in-Some-clause-leads c =
     let m = c.args.map.now in
-    let middle = state_of c.in_ok-middle-in-Some-Composed.middle in
-    let (i, accented) = rw c.in-Some-Composed.field-0-is at c.in-Some-Composed.ensures in
-    returns-origin m middle
-    (behind-dead m (state_of c.args.from.now) c.explored_from-explored.result.now i c.args.c c.in-Some-Composed.found
-    (reverse c.args.self.now.events.items) (reverse c.go_and_tap-in-Some-Composed.new.events.items) middle
-    (c.explored_from-explored.ensures m c.in_ok-see.ensures.explorations) c.requires.can_return accented
-    c.in_ok-middle-in-Some-Composed.ensures)
+    leads-found c.args.self.now.seeker.board m (state_of c.args.from.now) c.args.c c.explored_from-explored.result.now
+    c.in_ok-looked.looked c.in-Some.found (c.explored_from-explored.ensures m c.in_ok-see.ensures.explorations)
+    c.requires.can_return c.in_ok-looked.ensures.chosen c.in-Some.is (reverse c.args.self.now.events.items) _
+    (state_of c.in_ok-next-in-Some.next) c.in_ok-next-in-Some.ensures
 
-pub tap_from-requires : goal.tap_from-requires
-tap_from-requires c =
-    (c.explored_from-behind.ensures c.args.map.now c.in_ok-see-in-Some-Composed.ensures.explorations).0
-
-pub returns-in_ok-last-in-Some-Composed-clause-leads : goal.returns-in_ok-last-in-Some-Composed-clause-leads
-returns-in_ok-last-in-Some-Composed-clause-leads c =
+pub returns-then-looked-clause-leads : goal.returns-then-looked-clause-leads
+returns-then-looked-clause-leads c =
     let m = c.args.map.now in
-    let f = c.explored_from-behind.result.now in
-    let between = reverse c.go_and_tap-in-Some-Composed.new.events.items in
-    let now = reverse c.tap_from.new.events.items in
-    let last = c.in_ok-last-in-Some-Composed.last in
-    let (i, accented) = rw c.in-Some-Composed.field-0-is at c.in-Some-Composed.ensures in
-    composed-leads m (state_of c.args.from.now) c.explored_from-explored.result.now f i c.args.c
-    c.in-Some-Composed.found (reverse c.args.self.now.events.items) between now
-    (state_of c.in_ok-middle-in-Some-Composed.middle) last
-    (c.explored_from-explored.ensures m c.in_ok-see.ensures.explorations) c.requires.can_return accented
-    c.in_ok-middle-in-Some-Composed.ensures
-    (c.explored_from-behind.ensures m c.in_ok-see-in-Some-Composed.ensures.explorations)
-    (subst (λ t. LeadsByTap f t between now last) c.plain.ensures c.in_ok-last-in-Some-Composed.ensures)
+    leads-none c.args.self.now.seeker.board m (state_of c.args.from.now) c.args.c c.explored_from-explored.result.now
+    c.in_ok-looked.looked (c.explored_from-explored.ensures m c.in_ok-see.ensures.explorations) c.requires.can_return
+    c.in_ok-looked.ensures.chosen c.in-None.is c.if-looked.true
 
-pub returns-then-explored-clause-leads : goal.returns-then-explored-clause-leads
-returns-then-explored-clause-leads c =
+pub returns-clause-leads : goal.returns-clause-leads
+returns-clause-leads c =
     let m = c.args.map.now in
-    no-way m (state_of c.args.from.now) c.explored_from-explored.result.now c.args.c
-    (c.explored_from-explored.ensures m c.in_ok-see.ensures.explorations) c.requires.can_return c.if-explored.true
-    c.in-None.ensures.0 c.in-None.ensures.1
+    leads-many c.args.self.now.seeker.board m (state_of c.args.from.now) c.args.c c.explored_from-explored.result.now
+    c.in_ok-looked.looked (c.explored_from-explored.ensures m c.in_ok-see.ensures.explorations) c.requires.can_return
+    c.in_ok-looked.ensures.chosen c.if-looked.false
 
-pub returns-else-explored-clause-leads : goal.returns-else-explored-clause-leads
-returns-else-explored-clause-leads c =
-    let m = c.args.map.now in
-    too-many m (state_of c.args.from.now) c.explored_from-explored.result.now
-    (c.explored_from-explored.ensures m c.in_ok-see.ensures.explorations) c.requires.can_return c.if-explored.false
+pub returns-in-Some-clause-reached : goal.returns-in-Some-clause-reached
+returns-in-Some-clause-reached c =
+    let v = c.explored_from-explored.ensures c.args.map.now c.in_ok-see.ensures.explorations in
+    let seeker = c.choose.new.self in
+    subst (λ n. AreReached seeker.board n seeker.courses.entries) v.1 c.in_ok-looked.ensures.courses
+
+pub returns-then-looked-clause-reached : goal.returns-then-looked-clause-reached
+returns-then-looked-clause-reached c =
+    let v = c.explored_from-explored.ensures c.args.map.now c.in_ok-see.ensures.explorations in
+    let seeker = c.choose.new.self in
+    subst (λ n. AreReached seeker.board n seeker.courses.entries) v.1 c.in_ok-looked.ensures.courses
+
+pub returns-clause-reached : goal.returns-clause-reached
+returns-clause-reached c =
+    let v = c.explored_from-explored.ensures c.args.map.now c.in_ok-see.ensures.explorations in
+    let seeker = c.choose.new.self in
+    subst (λ n. AreReached seeker.board n seeker.courses.entries) v.1 c.in_ok-looked.ensures.courses

@@ -1,20 +1,16 @@
-use Rattle.keymap_cover.proofs.Common.{refl, sym, ◌∙◌, true, false}
-use Rattle.keymap_cover.proofs.Verdicts.{told-so}
+use Rattle.keymap_cover.proofs.Common.{ap, subst, sym, ◌∙◌, ◌≡◌}
+use Rattle.keymap_cover.specs.Covering.{IsVerdict, verdict_of}
+use Rattle.keymap_cover.proofs.Counting.{counts_are_of_verdicts}
 use Rattle.keymap_cover.proofs.parts.Cover.verdict.Goals as goal
 
-pub returns-then-has-clause-told : goal.returns-then-has-clause-told
-returns-then-has-clause-told c = λ covers. covers.seen c.args.sight (sym c.has.ensures ∙ c.if-has.true)
+is-value : (c : goal.After-verdict) → c.verdict.result ≡ verdict_of c.args.map.now c.args.self.now c.args.sight
+is-value c = c.verdict.ensures ∙ ap (λ f. f c.args.sight) (c.verdicts.ensures c.args.map.now)
 
-pub returns-then-can_see-clause-told : goal.returns-then-can_see-clause-told
-returns-then-can_see-clause-told c =
-    told-so c.args.map.now c.args.self.now c.args.sight false true (sym c.if-has.false ∙ c.has.ensures)
-    (sym c.if-can_see.true ∙ c.can_see.ensures.value)
+pub returns-clause-told : goal.returns-clause-told
+returns-clause-told c =
+    λ covers.
+    subst (λ v. IsVerdict c.args.map.now c.args.self.now c.args.sight v) (sym (is-value c))
+    (counts_are_of_verdicts c.args.map.now c.args.self.now covers c.args.sight)
 
-pub returns-then-can_see-clause-value : goal.returns-then-can_see-clause-value
-returns-then-can_see-clause-value c =
-    rw (sym c.has.ensures ∙ c.if-has.false, sym c.can_see.ensures.value ∙ c.if-can_see.true) refl
-
-pub returns-else-can_see-clause-told : goal.returns-else-can_see-clause-told
-returns-else-can_see-clause-told c =
-    told-so c.args.map.now c.args.self.now c.args.sight false false (sym c.if-has.false ∙ c.has.ensures)
-    (sym c.if-can_see.false ∙ c.can_see.ensures.value)
+pub returns-clause-value : goal.returns-clause-value
+returns-clause-value c = is-value c

@@ -1,0 +1,5 @@
+pub mod Runs
+pub mod Covering
+pub mod Collecting
+pub mod Pressed
+pub mod Verdicts

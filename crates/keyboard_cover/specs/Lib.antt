@@ -1,0 +1,5 @@
+pub mod Allowed
+pub mod Runs
+pub mod Covering
+pub mod Inner
+pub mod Sights

@@ -31,8 +31,8 @@ RT = rt
 CC = cc
 INSTALL = install
 # What commands of README leave in examples/ is not installed.
-EXAMPLE_FILES = accents.kbd de.kbd de.script line.numbers line.script live.c load.c test_keymap.py trap.kbd type.c type.py \
-    us.kbd
+EXAMPLE_FILES = accents.kbd console_ends.py console_test.py de.kbd de.script line.numbers line.script live.c load.c \
+    test_keymap.py trap.kbd type.c type.py us.kbd
 PYTHON_FILES = pyproject.toml kmap/__init__.py kmap/py.typed
 # The documents for users; ARCHITECTURE and DECISIONS are for those who work on the repository.
 DOCUMENTS = docs/FORMATS.md docs/GUIDE.md docs/PROOFS.md docs/TRANSLATION.md docs/de.svg
@@ -128,6 +128,7 @@ scripts:
 	sh tests/files.sh $(PROGRAM)
 	sh tests/cover.sh $(PROGRAM)
 	sh tests/forms.sh $(PROGRAM)
+	sh tests/console_test.sh $(PROGRAM) $(LIBRARY)
 	sh tests/swapped_names.sh $(PROGRAM)
 	sh tests/stopped.sh $(PROGRAM)
 	sh tests/c_library.sh $(PROGRAM) $(LIBRARY)

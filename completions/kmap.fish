@@ -54,9 +54,13 @@ complete -c kmap -n '__kmap_after play' -s h -l help -d 'Print help'
 
 complete -c kmap -n '__kmap_after type' -l text -x -d 'The sentence itself'
 complete -c kmap -n '__kmap_after type' -l missing -d 'Prints the characters that no keys were found for instead'
+complete -c kmap -n '__kmap_after type' -l words -d 'Prints in words by which keys each character is typed instead'
 complete -c kmap -n '__kmap_after type' -l as -x -a 'script evdev set1 qmp x11' -d 'The form of the script: script, evdev, set1, qmp or x11'
+complete -c kmap -n '__kmap_after type' -l board -x -a '105 104' -d 'The board whose keys are taken: 105 or 104'
 complete -c kmap -n '__kmap_after type' -s h -l help -d 'Print help'
 
+complete -c kmap -n '__kmap_after cover' -l keyboard -d 'Tests by a board of 105 or 104 keys, in cases from rest to rest'
+complete -c kmap -n '__kmap_after cover' -l press -x -d 'Actions that are pressed too, as boot,screens'
 complete -c kmap -n '__kmap_after cover' -l as -x -a 'script evdev set1 qmp x11' -d 'The form of the script: script, evdev, set1, qmp or x11'
 complete -c kmap -n '__kmap_after cover' -s h -l help -d 'Print help'
 

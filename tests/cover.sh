@@ -27,25 +27,30 @@ END
 
 # Memory that is refused, one allocation a run: of the later ones not each is tried. What is refused room to grow may do
 # with less, and then prints the same.
-if is_there "${CC:-cc}"; then
-    "${CC:-cc}" -shared -fPIC -O1 -o refuse.so "$top/tests/refuse.c" -ldl || exit 1
-    ALLOCATIONS=count LD_PRELOAD=./refuse.so "$program" cover accent > wanted
-    echo 'kmap: out of memory' > said
+refuses() {
+    ALLOCATIONS=count LD_PRELOAD=./refuse.so "$program" cover "$@" > wanted
     number=1
     told=0
     while [ $number -le "$(cat count)" ]; do
-        REFUSE=$number LD_PRELOAD=./refuse.so "$program" cover accent > stdout 2> stderr
+        REFUSE=$number LD_PRELOAD=./refuse.so "$program" cover "$@" > stdout 2> stderr
         status=$?
         if [ $status -eq 1 ] && [ ! -s stdout ] && cmp -s said stderr; then
             told=$((told + 1))
         else
-            holds "allocation $number is refused: status $status" [ $status -eq 0 ]
-            holds "allocation $number is refused: what is printed" cmp -s wanted stdout
-            holds "allocation $number is refused: nothing is told" [ ! -s stderr ]
+            holds "cover $*: allocation $number is refused: status $status" [ $status -eq 0 ]
+            holds "cover $*: allocation $number is refused: what is printed" cmp -s wanted stdout
+            holds "cover $*: allocation $number is refused: nothing is told" [ ! -s stderr ]
         fi
         number=$((number + 1 + number / 20))
     done
-    holds 'memory is refused' [ $told -gt 0 ]
+    holds "cover $*: memory is refused" [ $told -gt 0 ]
+}
+
+if is_there "${CC:-cc}"; then
+    "${CC:-cc}" -shared -fPIC -O1 -o refuse.so "$top/tests/refuse.c" -ldl || exit 1
+    echo 'kmap: out of memory' > said
+    refuses accent
+    refuses --keyboard accent
 fi
 
 # Consoles with mistakes.

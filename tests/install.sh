@@ -39,6 +39,8 @@ share/doc/kmap/docs/PROOFS.md
 share/doc/kmap/docs/TRANSLATION.md
 share/doc/kmap/docs/de.svg
 share/examples/kmap/accents.kbd
+share/examples/kmap/console_ends.py
+share/examples/kmap/console_test.py
 share/examples/kmap/de.kbd
 share/examples/kmap/de.script
 share/examples/kmap/line.numbers

@@ -20,7 +20,8 @@ cd "$top" || exit 1
 # words_in_help FILE: the arguments and long options that a help explains, one a line
 words_in_help() {
     sed -n -e 's/^  [[<]\([A-Z0-9]*\)[]>]\(\.*\) .*/\1\2/p' -e 's/^  [[<]\([A-Z0-9]*\)[]>]\(\.*\)$/\1\2/p' \
-        -e 's/^  .*\(--[a-z]*\) <\([A-Z0-9]*\)>.*/\1 \2/p' -e 's/^  .*\(--[a-z]*\)  .*/\1/p' "$1" | grep -vx -e --help
+        -e 's/^  .*\(--[a-z]*\) <\([A-Z0-9]*\)>.*/\1 \2/p' -e 's/^  .*\(--[a-z]*\)\[=<\([A-Z]*\)>\] .*/\1 \2/p' \
+        -e 's/^  .*\(--[a-z]*\)  .*/\1/p' "$1" | grep -vx -e --help
 }
 
 # words_in_synopsis COMMAND PAGE: those of the command in the SYNOPSIS of the page, likewise
@@ -31,7 +32,9 @@ words_in_synopsis() {
             /^\.Cm / { inside = $2 == command; next }
             inside {
                 for (i = 1; i <= NF; i++) {
-                    if ($i == "Fl" && $(i + 1) == "Fl")
+                    if ($i == "Fl" && $(i + 3) == "Ns")
+                        print "--" $(i + 2) " " toupper($(i += 8))
+                    else if ($i == "Fl" && $(i + 1) == "Fl")
                         print "--" $(i += 2) ($(i + 1) == "Ar" ? " " toupper($(i += 2)) : "")
                     else if ($i ~ /^[a-z0-9]+$/)
                         print toupper($i) ($(i + 1) == "..." ? "..." : "")
@@ -65,7 +68,7 @@ for command in '' $commands; do
     grep -o "\`kmap $command [^\`]*\`" README.md > "$folder/words"
     holds "README has the command $command" [ -s "$folder/words" ]
     for option in $(options_in "$folder/help" | grep '^--' | grep -vxE -e '--help|--version'); do
-        holds "README has the option $option of: $command" grep -q -e "[[ (]${option}[] )]" "$folder/words"
+        holds "README has the option $option of: $command" grep -q -e "[[ (]${option}[][ )]" "$folder/words"
     done
 done
 

@@ -114,6 +114,7 @@ refuses replay-plain
 refuses replay-word
 refuses sticking
 refuses sticking_between
+refuses has_few_states
 refuses sights_of
 yields some_sights
 refuses meet_all
@@ -133,6 +134,8 @@ yields cover_of
 refuses Seen::new
 refuses cells
 refuses lock_settings
+refuses allowed_sights
+yields keyboard_cover_of
 yields differences
 refuses telling_apart
 yields consequences_of
@@ -155,6 +158,7 @@ yields first_shown
 yields all_chars
 yields same_text
 yields cover_text
+yields keyboard_text
 yields diff_text
 yields brief_text
 yields verdict_words
@@ -189,8 +193,11 @@ yields lint_run
 refuses fmt_run
 refuses fmt_print_run
 yields type_run
+yields type_words_run
+yields type_sheet_run
 yields missing_run
 yields cover_run
+yields keyboard_cover_run
 yields file_error_line
 
 # The calls that the module knows are those above; between its marks it calls what they are named by, and that is each

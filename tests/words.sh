@@ -163,7 +163,8 @@ tells() {
     case $words in
         "$lint") set -- "$1" Diagnostics ;;
         *) set -- "$1" 'The report of check' 'What the search found' 'What differs between two keymaps' \
-            'The script that types a sentence' 'The script that tests a console' ;;
+            'The script that types a sentence' 'The script that tests a console' \
+            'The script that tests a console by its keyboard' ;;
     esac
     file=$1
     shift
@@ -206,7 +207,7 @@ if [ "$passed" -gt 0 ] && [ "$failed" -eq 0 ]; then
     holds 'another word of what differs is seen' misses "$runs" LISTED_OTHERWISE '; listed' ', listed'
     holds 'another word at a place is seen' misses "$runs" LOCK_SETTINGS '"lock settings"' '"settings"'
     holds 'another word of a list is seen' misses "$runs" BOTH_LOCKS 'clock+nlock' 'clock nlock'
-    holds 'another word of a run of slots is seen' misses "$runs" SLOTS 'slots {} to {}' 'slots {} - {}'
+    holds 'another word of a run of slots is seen' misses "$runs" SLOTS ': slots {} to {}' ': slots {} - {}'
     holds 'another name of a part is seen' misses "$runs" ONE_WAY_PART 'one-way' 'oneway'
     holds 'another word in that line is seen' lacks_line "$checked" FINDING 'character at slot' 'character in slot'
     holds 'another word of a fault line is seen' lacks_faults "$faults" 'read fault at' 'fault at'

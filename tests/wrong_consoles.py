@@ -8,7 +8,10 @@ answers. A console whose mistake is not found gets events drawn at random as wel
 is missed; if not, nothing here tells the two apart under this keymap. A line for each keymap tells how many are found,
 and which are missed. The status is 1 where fewer are found than FLOORS says or fewer than nine of ten of those that are
 told apart, where one is missed that MISSED doesn't name, where a keymap of SHORT has a longer script, or where some
-mistake is told apart under no keymap. Where no text is given, docs/GUIDE.md has to have the counts of GUIDED.
+mistake is told apart under no keymap. Where no text is given, docs/GUIDE.md has to have the counts of GUIDED, and the
+scripts of `cover --keyboard` are tried too: each case is delivered to new consoles, and a mistake is found if what is
+typed differs. The status is 1 where fewer are found than TYPED says, or a case doesn't leave a right console like a new
+one.
 
 The console is written from docs/TRANSLATION.md and docs/FORMATS.md and shares nothing with the program: with no mistake
 it must give each line that `play` gives.
@@ -46,6 +49,10 @@ FLOORS = {
     "tests/pictures/fr-dvorak.kbd": 113,
     "tests/consoles/all.kbd": 128,
 }
+
+# How many mistakes the script by a keyboard finds at least, by what it types alone: all that were told so by events drawn
+# at random of those that a keyboard sends, and a planner's.
+TYPED = {"examples/us.kbd": 81, "examples/de.kbd": 82}
 
 # The keymap of which the guide tells what its script finds.
 GUIDED = "examples/us.kbd"
@@ -753,6 +760,37 @@ class Measured:
             yield f"missed without a reason: {mistake}"
 
 
+def cases_of(script):
+    """The events of each case of a script by a keyboard."""
+    return [events_of(case.partition("\n")[2]) for case in script.split("\n# case ")[1:]]
+
+
+def is_new(console):
+    """Whether a console is like a new one."""
+    return not (console.remembered or console.on or console.locked or console.marked or console.pending)
+
+
+def by_keyboard(program, name, text):
+    """A line on what the script by a keyboard finds, and what is not as it is to be."""
+    with tempfile.TemporaryDirectory() as folder:
+        tables = Path(folder, "tables")
+        run(program, "compile", text, str(tables))
+        keymap = Keymap(tables.read_bytes())
+    cases, restless, found = cases_of(run(program, "cover", "--keyboard", text).decode()), 0, set()
+    for case in cases:
+        right = Console(keymap)
+        wanted = typed(right, case)
+        restless += not is_new(right)
+        others = [mistake for mistake in MISTAKES if mistake not in found]
+        found |= {mistake for mistake in others if typed(Console(keymap, mistake), case) != wanted}
+    counts = len(found), len(cases), sum(map(len, cases))
+    print("{}: {} wrong consoles found by what {} cases of {} events type".format(name, *counts))
+    if len(found) < TYPED[name]:
+        yield f"fewer than {TYPED[name]} are found by what is typed"
+    if restless:
+        yield f"{restless} cases don't end at rest"
+
+
 def guided(measured, found, apart, events):
     """The words of the guide on the script of GUIDED and what it finds."""
     typing = found_by_typing(measured.keymap, measured.events)
@@ -780,6 +818,10 @@ def main():
             print(f"    missed: {mistake}: {MISSED.get(mistake, 'no reason is known')}")
         lacking = [words for words in guided(measured, *counts) if words not in guide] if name == GUIDED else []
         for complaint in (*measured.complaints(name), *(f"docs/GUIDE.md lacks: {words}" for words in lacking)):
+            failed = True
+            print(f"failed: {name}: {complaint}")
+    for name in [] if texts else TYPED:
+        for complaint in by_keyboard(program, name, str(top / name)):
             failed = True
             print(f"failed: {name}: {complaint}")
     for mistake in [] if texts else [mistake for mistake in MISTAKES if mistake not in told]:

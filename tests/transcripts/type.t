@@ -62,6 +62,37 @@ What a script is printed for comes back from it, and stands in its comment:
   $ grep '^#' script
   # Grüße, café: 5^€ÖY+
 
+The way to an accented letter is one key of the board before a dead key and another one, and these before a key that
+the board lacks. The full stop is typed in the main block and not on the pad.
+  $ cat > ways << 'END'
+  > 018 'e' 'E' soh soh 'e' 'E' soh soh C
+  > 040 dacu dacu dacu dacu dacu dacu dacu dacu O
+  > 052 nop '.' nop nop nop nop nop nop O
+  > 083 '.' '.' '.' '.' '.' '.' '.' '.' O
+  > 042 lshift lshift lshift lshift lshift lshift lshift lshift O
+  > 086 0xe9 0xe9 0xe9 0xe9 0xe9 0xe9 0xe9 0xe9 O
+  > dacu 180 ( 'e' 0xe9 )
+  > END
+  $ kmap type ways --text é.
+  # é.
+  down 86
+  up 86
+  down 42
+  down 52
+  up 52
+  up 42
+  $ kmap type --board 104 ways --text é
+  # é
+  down 40
+  up 40
+  down 18
+  up 18
+  $ kmap type --board 105 ways --text é | sed -n 2p
+  down 86
+  $ kmap type --board 103 ways --text é
+  ! kmap: no board 103: 105 104
+  [2]
+
 Carriage returns, which are shown as ~ here:
   $ printf 'a\r\rb\r' > sentence
   $ kmap type "$examples/us.kbd" sentence > script
@@ -238,8 +269,8 @@ A character that only presses type by which the console forgets a modifier: they
   $ kmap play --typed forgets script
   x (no-eol)
 
-Of more than 65,536 states what is found among those that were met is typed, and of nothing else it is said that no keys
-were found:
+Of more than 65,536 states what is found among those that were met is typed, and a character that stands in no cell is
+told as one that no keys type:
   $ awk 'BEGIN {
   >     split("lshift rshift lctrl rctrl lalt ralt", name, " ")
   >     for (key = 0; key < 48; key++) {
@@ -254,5 +285,21 @@ were found:
   Aa (no-eol)
   $ printf ab > sentence
   $ kmap type more sentence
+  ! kmap: sentence offset 1: no keys found for U+0062
+  [1]
+
+Of a character that may be typed in a state that wasn't met it isn't said. Here up to three presses lead to more than
+65,536 states, and four to where b is typed: control, alt, the caps lock and the alt lock.
+  $ awk 'BEGIN {
+  >     split("lctrl rctrl lalt ralt", name, " ")
+  >     for (key = 0; key < 100; key++) {
+  >         cell = name[key % 4 + 1]
+  >         print key, cell, cell, cell, cell, cell, cell, cell, cell, "O"
+  >     }
+  > }' > far
+  $ echo '120 nop nop nop nop nop nop clock nop O' >> far
+  $ echo '121 nop alock nop nop nop nop nop nop C' >> far
+  $ echo "250 'b' 'b' nop nop nop nop nop nop O" >> far
+  $ kmap type far --text b
   ! kmap: more than 65536 states
   [1]

@@ -19,18 +19,30 @@ enum Word {
     Flag(&'static str, &'static str),
     /// A flag that isn't taken beside another one, whose name stands last.
     FlagWithout(&'static str, &'static str, &'static str),
+    /// A flag that isn't taken beside either of two others, whose names stand last.
+    FlagAlone(&'static str, &'static str, &'static str, &'static str),
     /// An option, with the name of the file or the text that it takes in between.
     FileOption(&'static str, &'static str, &'static str),
     /// A file that stands unless an option does, whose name stands last.
     FileUnless(&'static str, &'static str, &'static str),
+    /// A file that stands unless an option does or a flag, whose names stand last.
+    FileUnlessAny(&'static str, &'static str, &'static [&'static str]),
     /// An option that takes a text, with the name of the text in between, and that of the file in whose place it stands
     /// last.
     TextOption(&'static str, &'static str, &'static str, &'static str),
+    /// An option that may have a value behind `=`, whose name stands in between; without one it has the value that stands
+    /// last.
+    OptionalValue(&'static str, &'static str, &'static str, &'static str),
+    /// An option that isn't taken without another one, whose name stands last.
+    OptionBeside(&'static str, &'static str, &'static str, &'static str),
     /// An option that takes one of the words that stand last, with what it takes in between.
     Choice(&'static str, &'static str, &'static str, &'static [&'static str]),
 }
 
-use Word::{Choice, File, FileOption, FileUnless, Files, Flag, FlagWithout, TextOption};
+use Word::{
+    Choice, File, FileOption, FileUnless, FileUnlessAny, Files, Flag, FlagAlone, FlagWithout,
+    OptionBeside, OptionalValue, TextOption,
+};
 
 /// What the help says of a subcommand, and the words that it takes.
 struct Described {
@@ -166,10 +178,10 @@ static SUBCOMMANDS: [Described; 11] = [
             kmap(1) tells which keys are taken.",
         words: &[
             STREAM,
-            FileUnless(
+            FileUnlessAny(
                 "SENTENCE",
                 "A file with the sentence, in UTF-8, or -",
-                "text",
+                &["text", "words"],
             ),
             TextOption("text", "STRING", "The sentence itself", "SENTENCE"),
             FlagWithout(
@@ -177,7 +189,18 @@ static SUBCOMMANDS: [Described; 11] = [
                 "Prints the characters that no keys were found for instead",
                 "as",
             ),
+            FlagAlone(
+                "words",
+                "Prints in words by which keys each character is typed instead",
+                "missing",
+                "as",
+            ),
             AS,
+            FileOption(
+                "board",
+                "BOARD",
+                "The board whose keys are taken: 105 or 104",
+            ),
         ],
     },
     Described {
@@ -186,7 +209,22 @@ static SUBCOMMANDS: [Described; 11] = [
         example: "Example: kmap cover us.kbd > us.script{n}{n}\
             Status: 0 done, 1 a fault, 2 wrong words.{n}{n}\
             kmap(1) tells what the script tries.",
-        words: &[STREAM, AS],
+        words: &[
+            STREAM,
+            OptionalValue(
+                "keyboard",
+                "BOARD",
+                "Tests by a board of 105 or 104 keys, in cases from rest to rest",
+                "105",
+            ),
+            OptionBeside(
+                "press",
+                "NAMES",
+                "Actions that are pressed too, as boot,screens",
+                "keyboard",
+            ),
+            AS,
+        ],
     },
     Described {
         name: "compile",
@@ -250,6 +288,9 @@ fn argument<'a>(alloc: Global, word: Word) -> Result<Arg<'a>, AllocError> {
         }
         Flag(name, help) => flag(alloc, name, help),
         FlagWithout(name, help, other) => flag(alloc, name, help)?.conflicts_with(other),
+        FlagAlone(name, help, first, second) => flag(alloc, name, help)?
+            .conflicts_with(first)?
+            .conflicts_with(second),
         FileOption(name, value, help) => {
             let option = named(alloc, name, help, ArgAction::Set).long(name);
             Ok(option.value_name(value))
@@ -257,9 +298,21 @@ fn argument<'a>(alloc: Global, word: Word) -> Result<Arg<'a>, AllocError> {
         FileUnless(name, help, option) => {
             named(alloc, name, help, ArgAction::Set).required_unless_present(option)
         }
+        FileUnlessAny(name, help, others) => {
+            named(alloc, name, help, ArgAction::Set).required_unless_present_any(others)
+        }
         TextOption(name, value, help, file) => {
             let option = named(alloc, name, help, ArgAction::Set).long(name);
             option.value_name(value).conflicts_with(file)
+        }
+        OptionalValue(name, value, help, missing) => {
+            let option = named(alloc, name, help, ArgAction::Set).long(name);
+            let optional = option.num_args(0..=1).require_equals(true);
+            Ok(optional.value_name(value).default_missing_value(missing))
+        }
+        OptionBeside(name, value, help, other) => {
+            let option = named(alloc, name, help, ArgAction::Set).long(name);
+            option.value_name(value).requires_arg(other)
         }
         Choice(name, value, help, choices) => {
             let option = named(alloc, name, help, ArgAction::Set).long(name);
@@ -435,9 +488,20 @@ pub(crate) enum Request<'m, 'a> {
         missing: bool,
         /// The form of the script, where one is named.
         form: Option<&'a str>,
+        /// The board whose keys are taken, where one is named.
+        board: Option<&'a str>,
+    },
+    /// By which keys characters are typed, those of a sentence, where one is given.
+    Words {
+        text: &'a str,
+        sentence: Option<Sentence<'a>>,
+        board: Option<&'a str>,
     },
     Cover {
         text: &'a str,
+        /// The board, where the test is one by a keyboard, and the names of the actions that it presses too.
+        keyboard: Option<&'a str>,
+        press: Option<&'a str>,
         form: Option<&'a str>,
     },
     Draw {
@@ -556,21 +620,32 @@ fn play_request<'m, 'a>(words: &'m ArgMatches<'a>) -> Option<Request<'m, 'a>> {
 }
 
 fn type_request<'m, 'a>(words: &'m ArgMatches<'a>) -> Option<Request<'m, 'a>> {
-    let sentence = match words.get_str("text") {
-        Some(text) => Sentence::Text(text),
-        None => Sentence::File(words.get_str("SENTENCE")?),
+    let sentence = match (words.get_str("text"), words.get_str("SENTENCE")) {
+        (Some(text), _) => Some(Sentence::Text(text)),
+        (None, Some(name)) => Some(Sentence::File(name)),
+        (None, None) => None,
     };
+    if words.get_flag("words") {
+        return Some(Request::Words {
+            text: words.get_str("TEXT")?,
+            sentence,
+            board: words.get_str("board"),
+        });
+    }
     Some(Request::Type {
         text: words.get_str("TEXT")?,
-        sentence,
+        sentence: sentence?,
         missing: words.get_flag("missing"),
         form: words.get_str("as"),
+        board: words.get_str("board"),
     })
 }
 
 fn cover_request<'m, 'a>(words: &'m ArgMatches<'a>) -> Option<Request<'m, 'a>> {
     Some(Request::Cover {
         text: words.get_str("TEXT")?,
+        keyboard: words.get_str("keyboard"),
+        press: words.get_str("press"),
         form: words.get_str("as"),
     })
 }
@@ -636,6 +711,11 @@ fn reads_twice(request: &Request<'_, '_>) -> bool {
         | Request::Type {
             text,
             sentence: Sentence::File(other),
+            ..
+        }
+        | Request::Words {
+            text,
+            sentence: Some(Sentence::File(other)),
             ..
         } => { is_standard_input(text) && is_standard_input(other) }
         _ => false,

@@ -9,6 +9,7 @@ mod compile;
 mod format;
 mod forms;
 mod inputs;
+mod keyboards;
 mod lint;
 mod output;
 mod program;

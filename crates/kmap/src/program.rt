@@ -4,16 +4,20 @@ use crate::compile::compile;
 use crate::format::format_texts;
 use crate::forms::{form_of, tell_script, unknown_form};
 use crate::inputs::{Text, given, opened, opened_if_named, text_given};
+use crate::keyboards::{board_of, keyboard_of, unknown_keyboard};
 use crate::lint::lint;
 use crate::output::{Faults, Output};
 use crate::refusal::{WRONG_WORDS, contradicted, not_text, refused};
 use crate::texts::{check, draw, search};
 use clap::ArgMatches;
-use keymap_core::{FromStd, Read, ToStd, write_text};
+use keyboard::Board;
+use keyboard_cover::Keyboard;
+use keymap_core::{FromStd, Read, ToStd, Write, write_text};
 use keymap_names::shown_name;
 use kmap_runs::{
-    CommandError, RunError, cover_run, diff_run, dump_narrow_run, dump_run, file_error_line,
-    lint_run, missing_run, type_run, write_command_error, write_run_error,
+    CommandError, RunError, TypeError, cover_run, diff_run, dump_narrow_run, dump_run,
+    file_error_line, keyboard_cover_run, lint_run, missing_run, type_run, type_sheet_run,
+    type_words_run, write_command_error, write_run_error,
 };
 use lint_formats::Format;
 use play_core::{Show, play_next};
@@ -159,6 +163,16 @@ fn matched_run(
     };
     if let Some(word) = unknown_form(&request) {
         report_name(rt.alloc(), NO_FORM, word, FORMS, faults);
+        return Ok(ExitCode::from(WRONG_WORDS));
+    }
+    if let Some(unknown) = unknown_keyboard(&request) {
+        report_name(
+            rt.alloc(),
+            unknown.front,
+            unknown.word,
+            unknown.known,
+            faults,
+        );
         return Ok(ExitCode::from(WRONG_WORDS));
     }
     match contradiction(&request) {
@@ -389,8 +403,29 @@ fn answer<'a>(
             sentence,
             missing,
             form,
-        } => type_sentence(rt, text, sentence, missing, form_of(form), faults),
-        Request::Cover { text, form } => well(cover(rt, text, form_of(form), faults)),
+            board,
+        } => {
+            let typed_as = TypedAs {
+                missing,
+                form: form_of(form),
+                board: board_of(board),
+            };
+            type_sentence(rt, text, sentence, typed_as, faults)
+        }
+        Request::Words {
+            text,
+            sentence,
+            board,
+        } => well(tell_words(rt, text, sentence, board_of(board), faults)),
+        Request::Cover {
+            text,
+            keyboard,
+            press,
+            form,
+        } => {
+            let keyboard = keyboard_of(keyboard, press);
+            well(cover(rt, text, keyboard, form_of(form), faults))
+        }
         Request::Draw {
             texts,
             ansi,
@@ -506,16 +541,24 @@ fn play_in<'a, S: Read>(
     }
 }
 
+/// How a sentence is typed.
+#[derive(Clone, Copy)]
+struct TypedAs {
+    /// The characters that no keys type are told instead.
+    missing: bool,
+    form: Option<Form>,
+    board: Board,
+}
+
 fn type_sentence<'a>(
     rt: &HostRuntime,
     text: &'a str,
     sentence: Sentence<'a>,
-    missing: bool,
-    form: Option<Form>,
+    typed_as: TypedAs,
     faults: &mut Faults,
 ) -> Result<bool, Failure<'a>> {
     let text = text_given(rt, text)?;
-    let missing_of = if missing {
+    let missing_of = if typed_as.missing {
         Some(name_of(&sentence))
     } else {
         None
@@ -523,11 +566,11 @@ fn type_sentence<'a>(
     let outcome = match sentence {
         Sentence::File(name) => {
             let mut sentence = given(rt, name)?;
-            type_in(rt, missing_of, form, &mut text.reader(), &mut sentence)
+            type_in(rt, missing_of, typed_as, &mut text.reader(), &mut sentence)
         }
         Sentence::Text(words) => {
             let mut words = FromStd::new(words.as_bytes());
-            type_in(rt, missing_of, form, &mut text.reader(), &mut words)
+            type_in(rt, missing_of, typed_as, &mut text.reader(), &mut words)
         }
     };
     explained(rt, outcome, &text, None, faults)
@@ -545,51 +588,125 @@ fn name_of<'a>(sentence: &Sentence<'a>) -> &'a str {
 fn type_in<'a, S: Read, T: Read>(
     rt: &HostRuntime,
     missing_of: Option<&str>,
-    form: Option<Form>,
+    typed_as: TypedAs,
     text: &mut S,
     sentence: &mut T,
 ) -> Result<bool, Failure<'a>> {
     let mut out = Output::new(rt);
-    match (missing_of, form) {
+    match (missing_of, typed_as.form) {
         (Some(name), _) => {
             let outcome = missing_run(rt.alloc(), name.as_bytes(), text, sentence, &mut out);
             out.outcome(outcome)
         }
         (None, None) => {
-            let outcome = type_run(rt.alloc(), text, sentence, &mut out);
+            let outcome = type_run(rt.alloc(), typed_as.board, text, sentence, &mut out);
             well(out.outcome(outcome))
         }
         (None, Some(form)) => {
             let mut script = Vec::new(rt.alloc());
             let mut device = ToStd::new(&mut script);
-            let outcome = type_run(rt.alloc(), text, sentence, &mut device);
+            let outcome = type_run(rt.alloc(), typed_as.board, text, sentence, &mut device);
             well(tell_script(rt, form, script.as_slice(), outcome))
         }
+    }
+}
+
+/// Tells by which keys characters are typed, those of the sentence, if there is one.
+fn tell_words<'a>(
+    rt: &HostRuntime,
+    text: &'a str,
+    sentence: Option<Sentence<'a>>,
+    board: Board,
+    faults: &mut Faults,
+) -> Result<(), Failure<'a>> {
+    let text = text_given(rt, text)?;
+    let outcome = match sentence {
+        Some(Sentence::File(name)) => {
+            let mut sentence = given(rt, name)?;
+            words_in(rt, board, &mut text.reader(), &mut sentence)
+        }
+        Some(Sentence::Text(words)) => {
+            let mut words = FromStd::new(words.as_bytes());
+            words_in(rt, board, &mut text.reader(), &mut words)
+        }
+        None => {
+            let mut out = Output::new(rt);
+            let outcome = type_sheet_run(rt.alloc(), board, &mut text.reader(), &mut out);
+            out.outcome(outcome)
+        }
+    };
+    explained(rt, outcome, &text, None, faults)
+}
+
+/// Tells so of the characters of the sentence. Where one isn't typed, that is told behind the lines of those before it.
+fn words_in<'a, S: Read, T: Read>(
+    rt: &HostRuntime,
+    board: Board,
+    text: &mut S,
+    sentence: &mut T,
+) -> Result<(), Failure<'a>> {
+    let mut out = Output::new(rt);
+    let outcome = type_words_run(rt.alloc(), board, text, sentence, &mut out);
+    match out.outcome(outcome)? {
+        None => Ok(()),
+        Some(error) => Err(Failure::Command(None, stop_error(error))),
+    }
+}
+
+fn stop_error(error: TypeError) -> CommandError {
+    match error {
+        TypeError::Memory => CommandError::Run(RunError::Memory),
+        TypeError::NotText { offset } => CommandError::NotText { offset },
+        TypeError::NoWay { offset, c } => CommandError::NoWay { offset, c },
+        TypeError::TooManyStates => CommandError::TooManyStates,
     }
 }
 
 fn cover<'a>(
     rt: &HostRuntime,
     text: &'a str,
+    keyboard: Option<Keyboard>,
     form: Option<Form>,
     faults: &mut Faults,
 ) -> Result<(), Failure<'a>> {
     let text = text_given(rt, text)?;
-    let outcome = cover_in(rt, form, &mut text.reader());
+    let outcome = cover_in(rt, keyboard, form, &mut text.reader());
     explained(rt, outcome, &text, None, faults)
 }
 
 fn cover_in<'a, S: Read>(
     rt: &HostRuntime,
+    keyboard: Option<Keyboard>,
     form: Option<Form>,
     text: &mut S,
 ) -> Result<(), Failure<'a>> {
     let Some(form) = form else {
         let mut out = Output::new(rt);
-        let outcome = cover_run(rt.alloc(), text, &mut out);
+        let outcome = run_cover(rt, keyboard, true, text, &mut out);
         return out.outcome(outcome);
     };
     let mut script = Vec::new(rt.alloc());
-    let outcome = cover_run(rt.alloc(), text, &mut ToStd::new(&mut script));
+    let sends_repeats = form != Form::X11;
+    let outcome = run_cover(
+        rt,
+        keyboard,
+        sends_repeats,
+        text,
+        &mut ToStd::new(&mut script),
+    );
     tell_script(rt, form, script.as_slice(), outcome)
+}
+
+/// Prints the script by the keyboard, if there is one.
+fn run_cover<S: Read, W: Write>(
+    rt: &HostRuntime,
+    keyboard: Option<Keyboard>,
+    sends_repeats: bool,
+    text: &mut S,
+    out: &mut W,
+) -> Result<(), CommandError> {
+    match keyboard {
+        Some(keyboard) => keyboard_cover_run(rt.alloc(), &keyboard, sends_repeats, text, out),
+        None => cover_run(rt.alloc(), text, out),
+    }
 }

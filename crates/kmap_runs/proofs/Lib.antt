@@ -8,5 +8,6 @@ mod PlainScripts
 mod Replayed
 mod Scripts
 mod Sentences
+mod Spellings
 mod Untyped
 mod Written

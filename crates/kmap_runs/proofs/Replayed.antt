@@ -19,7 +19,7 @@ use Rattle.console_core.specs.History.{Maps, answers_to}
 use Rattle.console_states.specs.declared.outcome.Sticking.{Sticking}
 use Rattle.console_scripts.specs.Typing.{AreTyped}
 use Rattle.console_states.specs.declared.outcome.Sticking.TheVariants.{Sticks, Never, Undecided}
-use Rattle.console_states.specs.Sticking.{IsAnswer, IsAnswerBetween}
+use Rattle.console_states.specs.Moves.{alone as alone-moves, with_loads}
 use Rattle.keymap_check.specs.Report.{report_of}
 use Rattle.keymap_check.specs.Scripts.{demonstration_of}
 use Rattle.keymap_check.proofs.Shared.{demonstrations_leave_modifiers_on}
@@ -29,7 +29,8 @@ use Rattle.play_core.specs.Written.{typed_text, text_after}
 use Rattle.play_core.proofs.Shared.{delivers, events-script}
 use Rattle.kmap_runs.specs.Report.{check_text, demonstration_text, report}
 use Rattle.kmap_runs.specs.Search.{script_text, found_text}
-use Rattle.kmap_runs.specs.Runs.{TypesSentence}
+use Rattle.kmap_runs.specs.Runs.{IsFoundUnder, TypesSentence}
+use Rattle.keyboard.specs.declared.board.Board.{Board}
 use Rattle.kmap_runs.specs.Replayed.{ScriptTypes, Delivers, AnswerReplays, AnswerReplaysBetween, ShowsDemonstration}
 use Rattle.kmap_runs.specs.Replayed.{ShowsScript}
 use Rattle.keymap_names.proofs.Shared.{code_text_line}
@@ -150,13 +151,15 @@ said-undecided : (p : ℕ) → IsScript (found_text (Undecided p)) []
 said-undecided p =
     comment-alone (codes " undecided: no list of up to {} presses sticks") (decimal p ∷ []) refl (decimal-line p, tt)
 
-pub answer-replays : (m : MapValue) (found : Sticking) → IsAnswer m found → AnswerReplays m found
+pub answer-replays : (m : MapValue) (found : Sticking) → IsFoundUnder (alone-moves m) found
+    → AnswerReplays m found
 answer-replays m (Sticks events on) answer =
     (script-delivers on.items events.items answer.0.0, (answer.0, answer.1))
 answer-replays m Never answer = said-never
 answer-replays m (Undecided p) answer = said-undecided p
 
-pub answer-replays-between : (ms : Maps) (found : Sticking) → IsAnswerBetween ms found → AnswerReplaysBetween ms found
+pub answer-replays-between : (ms : Maps) (found : Sticking) → IsFoundUnder (with_loads ms) found
+    → AnswerReplaysBetween ms found
 answer-replays-between ms (Sticks events on) answer =
     (script-delivers on.items events.items answer.0.0, (answer.0, answer.1))
 answer-replays-between ms Never answer = said-never
@@ -183,11 +186,12 @@ typed-once m x bytes sent t h =
     let same = one_list (typing_script x) sent (map sent_of x.events.items) h (typing-sends x t.are.keys) in
     cc (typed-back m x.events.items bytes t.typed)
 
-pub comes-back : (text sentence script typed : List ℕ) (t s u v : Option (List ℕ))
-    → TypesSentence (moves (Some text) t) (moves (Some sentence) s) (moves (Some []) (Some script)) (Ok tt)
+pub comes-back : (b : Board) (text sentence script typed : List ℕ) (t s u v : Option (List ℕ))
+    → TypesSentence b (moves (Some text) t) (moves (Some sentence) s) (moves (Some []) (Some script)) (Ok tt)
     → Plays show.Typed (moves (Some text) u) (moves (Some script) v) (moves (Some []) (Some typed)) (Ok tt)
     → typed ≡ sentence
-comes-back text sentence script typed t s u v ((m, bytes), told, (read, whole), (x, is_typed, same_told), appends)
+comes-back b text sentence script typed t s u v
+    ((m, bytes), told, (read, whole), (x, is_typed, ways, same_told), appends)
     ((n, events), played, (read_again, taken), (sent, is_script, same_shown), appended) =
     let script_is : script ≡ typing_script x = appends ∙ same_told in
     let events_are : events ≡ typing_script x = sym (taken-whole script events v taken) ∙ script_is in

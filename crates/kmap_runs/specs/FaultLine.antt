@@ -85,6 +85,7 @@ command_fault_line (command.NoWay offset c) =
     filled (codes "kmap: sentence offset {}: no keys found for {}\n") (decimal offset ∷ code_text c ∷ [])
 command_fault_line command.TooLong = codes "kmap: text: more than 1048576 bytes when formatted\n"
 command_fault_line command.TooManyStates = codes "kmap: more than 65536 states\n"
+command_fault_line command.NoKeyTypes = codes "kmap: no key of the board types\n"
 
 -- the line with the name of a file, as it is shown, behind `kmap: `
 abbrev pub file_fault_line : List ℕ → CommandError → List ℕ

@@ -8,4 +8,5 @@ pub mod Report
 pub mod Runs
 pub mod Search
 pub mod Sentences
+pub mod Spelling
 pub mod Typing

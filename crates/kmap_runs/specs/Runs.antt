@@ -19,10 +19,17 @@ use Rattle.console_scripts.specs.declared.typing.Typing.{Typing}
 use Rattle.console_core.specs.Headline.{IsSafe}
 use Rattle.keymap_check.specs.Promises.{KeepsPromise}
 use Rattle.console_core.specs.History.{between}
-use Rattle.console_states.specs.Moves.{alone}
-use Rattle.console_states.specs.Sticking.{IsAnswer, IsAnswerBetween, NeverSticks, ReachesMoreThan, state_limit}
+use Rattle.console_states.specs.Moves.{Under, alone, with_loads}
+use Rattle.console_states.specs.Sticking.{IsAnswerUnder, NeverSticks, NeverSticksUnder, ReachesMoreThan, state_limit}
 use Rattle.keymap_cover.specs.declared.parts.Cover.{Cover}
 use Rattle.keymap_cover.specs.Covering.{Covers}
+use Rattle.console_states.specs.declared.allowed.Presses.{Presses}
+use Rattle.keyboard_cover.specs.Allowed.{ArePresses}
+use Rattle.keyboard_cover.specs.Covering as keyboard
+use Rattle.keyboard_cover.specs.Covering.{CanType}
+use Rattle.keyboard_cover.specs.Sights.{under}
+use Rattle.keyboard_cover.specs.declared.keyboards.Keyboard.{Keyboard}
+use Rattle.keyboard_cover.specs.declared.cover.KeyboardCover.{KeyboardCover}
 use Rattle.keymap_diff.specs.Changes.{AreDifferences}
 use Rattle.keymap_diff.specs.Telling.{IsTelling}
 use Rattle.keymap_diff.specs.declared.change.Change.{Change}
@@ -31,6 +38,7 @@ use Rattle.kmap_runs.specs.declared.type_error.TypeError.TheVariants as type
 use Rattle.lint_formats.specs.declared.format.Format.{Format}
 use Rattle.play_core.specs.Runs.{Moves, moves, ReadsBoth, Runs, Stays}
 use Rattle.kmap_runs.specs.Sentences.{IsTyped, IsTypeError}
+use Rattle.console_scripts.specs.Ways.{GoWaysFrom}
 use Rattle.keymap_names.specs.Shown.{shown_name}
 use Rattle.keymap_text.specs.Meaning.{Spells}
 use Rattle.keymap_text.specs.Sources.{TakesWhole}
@@ -39,6 +47,7 @@ use Rattle.kmap_runs.specs.declared.fault_line.RunError.TheVariants as error
 use Rattle.kmap_runs.specs.declared.fault_line.CommandError.{CommandError}
 use Rattle.kmap_runs.specs.declared.fault_line.CommandError.TheVariants as command
 use Rattle.script_text.specs.Cover.{IsCoverText}
+use Rattle.script_text.specs.Keyboard.{IsKeyboardText}
 use Rattle.script_text.specs.Diff.{brief_text, diff_text, same_text}
 use Rattle.kmap_runs.specs.Inputs.{of_command_writer, of_writer, ReadsBytes, ReadsFile, ReadsForCommand, ReadsKeymaps}
 use Rattle.kmap_runs.specs.Inputs.{ReadsOther, ReadsSentence, ReadsText}
@@ -49,6 +58,10 @@ use Rattle.kmap_runs.specs.declared.missing.Missing.{Missing}
 use Rattle.script_text.specs.Replayed.{ShowsCover}
 use Rattle.kmap_runs.specs.Report.{brief_line, report}
 use Rattle.kmap_runs.specs.Search.{found_text, is_never}
+use Rattle.kmap_runs.specs.Spelling.{AreSpelledIn, IsSheet}
+use Rattle.kmap_runs.specs.declared.spelling.Spelled.{Spelled}
+use Rattle.kmap_runs.specs.declared.spelling.Spelling.{Spelling}
+use Rattle.kmap_runs.specs.declared.type_error.TypeError.{TypeError}
 use Rattle.kmap_runs.specs.Typing.{typing_script}
 
 abbrev pub LacksNothing : {V : Type 0} → V → RunError → Type 0
@@ -124,10 +137,16 @@ DrawsChange board name old_name text next out r =
 abbrev pub LintsText : Format → List ℕ → Moves → Moves → Result Linted RunError → Type 0
 LintsText format file text out r = Runs of_writer (ReadsBytes text) LacksMemory (IsLinted format file) out r
 
--- the answer of the search to the maps of one text, or of two
+-- What is said of an answer is what the search says of it, but that maps under which no modifier sticks may have more
+-- states than it goes over.
+abbrev pub IsFoundUnder : Under → Sticking → Type 0
+IsFoundUnder u Never = NeverSticksUnder u
+IsFoundUnder u found = IsAnswerUnder u found
+
+-- the answer to the maps of one text, or of two
 abbrev pub IsFound : MapValue × Option MapValue → Sticking → Type 0
-IsFound (m, None) found = IsAnswer m found
-IsFound (m, Some n) found = IsAnswerBetween (between m n) found
+IsFound (m, None) found = IsFoundUnder (alone m) found
+IsFound (m, Some n) found = IsFoundUnder (with_loads (between m n)) found
 
 -- the map of one text is safe, or those of two are
 abbrev pub AreSafe : MapValue × Option MapValue → Type 0
@@ -173,6 +192,27 @@ IsCovered m _ told = (c : Cover) × Covers m c × IsCoverText m c told
 abbrev pub CoversText : Moves → Moves → Result (Unit {0}) CommandError → Type 0
 CoversText text out r = Runs of_command_writer (ReadsForCommand (ReadsText text)) LacksCover IsCovered out r
 
+-- the presses of the keyboard, and the cover of the keymap by these
+abbrev pub IsCoverBy : Keyboard → MapValue → KeyboardCover → Type 0
+IsCoverBy x m c = (p : Presses) × ArePresses x p × keyboard.Covers p m c
+
+-- why no script by a keyboard is printed for a map: among others since no allowed press types
+abbrev pub LacksKeyboardCover : Keyboard → MapValue → CommandError → Type 0
+LacksKeyboardCover x m (command.Run error.Memory) = ⊤
+LacksKeyboardCover x m command.TooManyStates =
+    (p : Presses) × (n : ℕ) × ArePresses x p × ReachesMoreThan (under p m) state_limit n
+LacksKeyboardCover x m command.NoKeyTypes = (c : KeyboardCover) × IsCoverBy x m c × (CanType m c → ⊥)
+LacksKeyboardCover x m _ = ⊥
+
+-- the script by the keyboard, with what it sees and leaves out
+abbrev pub IsCoveredBy : Keyboard → Bool → MapValue → Unit {0} → List ℕ → Type 0
+IsCoveredBy x sends_repeats m _ told =
+    (c : KeyboardCover) × IsCoverBy x m c × CanType m c × IsKeyboardText m c sends_repeats told
+
+abbrev pub CoversByKeyboard : Keyboard → Bool → Moves → Moves → Result (Unit {0}) CommandError → Type 0
+CoversByKeyboard x sends_repeats text out r =
+    Runs of_command_writer (ReadsForCommand (ReadsText text)) (LacksKeyboardCover x) (IsCoveredBy x sends_repeats) out r
+
 -- why the bytes of a sentence aren't typed
 abbrev pub LacksScript : MapValue → List ℕ → CommandError → Type 0
 LacksScript m bytes (command.Run error.Memory) = ⊤
@@ -181,15 +221,16 @@ LacksScript m bytes (command.NoWay offset c) = IsTypeError m bytes (type.NoWay o
 LacksScript m bytes command.TooManyStates = IsTypeError m bytes type.TooManyStates
 LacksScript m bytes _ = ⊥
 
--- the script of events that type the sentence
-abbrev pub Types : MapValue → List ℕ → List ℕ → Type 0
-Types m bytes told = (x : Typing) × IsTyped m bytes x × (told ≡ typing_script x)
+-- the script of events that type the sentence, by ways on the board
+abbrev pub Types : Board → MapValue → List ℕ → List ℕ → Type 0
+Types b m bytes told =
+    (x : Typing) × IsTyped m bytes x × GoWaysFrom b m x.events.items 0 x.keyed.items × (told ≡ typing_script x)
 
-abbrev pub TypesSentence : Moves → Moves → Moves → Result (Unit {0}) CommandError → Type 0
-TypesSentence text sentence out r =
+abbrev pub TypesSentence : Board → Moves → Moves → Moves → Result (Unit {0}) CommandError → Type 0
+TypesSentence b text sentence out r =
     Runs of_command_writer
     (ReadsBoth (ReadsForCommand (ReadsText text)) (ReadsSentence sentence) (Stays sentence))
-    (λ v e. LacksScript v.0 v.1 e) (λ v _ told. Types v.0 v.1 told) out r
+    (λ v e. LacksScript v.0 v.1 e) (λ v _ told. Types b v.0 v.1 told) out r
 
 -- why it isn't told which characters of a sentence keys can't type
 abbrev pub LacksDecision : MapValue → List ℕ → CommandError → Type 0
@@ -209,6 +250,27 @@ TellsMissing name text sentence out r =
     Runs of_command_writer
     (ReadsBoth (ReadsForCommand (ReadsText text)) (ReadsSentence sentence) (Stays sentence))
     (λ v e. LacksDecision v.0 v.1 e) (λ v all told. MissingAreTold name v.0 v.1 all told) out r
+
+-- how characters of the sentence are typed, each by itself, and why no more of them are, if something ended them
+abbrev pub AreToldInWords : Board → MapValue → List ℕ → Option TypeError → Type 0
+AreToldInWords b m bytes stopped = (x : Spelling) × AreSpelledIn b m bytes x × (stopped ≡ x.stopped)
+
+-- The lines tell that in words, which are not spoken of.
+abbrev pub TellsInWords : Board → Moves → Moves → Moves → Result (Option TypeError) CommandError → Type 0
+TellsInWords b text sentence out r =
+    Runs of_command_writer
+    (ReadsBoth (ReadsForCommand (ReadsText text)) (ReadsSentence sentence) (Stays sentence))
+    (λ v e. LacksDecision v.0 v.1 e) (λ v stopped told. AreToldInWords b v.0 v.1 stopped) out r
+
+-- why it isn't told how characters are typed
+abbrev pub LacksSheet : MapValue → CommandError → Type 0
+LacksSheet m (command.Run error.Memory) = ⊤
+LacksSheet m command.TooManyStates = (p : ℕ) × ReachesMoreThan (alone m) state_limit p
+LacksSheet m _ = ⊥
+
+abbrev pub TellsAllInWords : Board → Moves → Moves → Result (Unit {0}) CommandError → Type 0
+TellsAllInWords b text out r =
+    Runs of_command_writer (ReadsForCommand (ReadsText text)) LacksSheet (λ m _ told. (xs : List Spelled) × IsSheet b m xs) out r
 
 -- ---- laws
 

@@ -56,6 +56,8 @@ pub enum CommandError {
     TooLong,
     #[error("the keymap has more states than a search goes over")]
     TooManyStates,
+    #[error("no key of the board types")]
+    NoKeyTypes,
 }
 
 impl From<RunError> for CommandError {
@@ -115,6 +117,8 @@ pub(crate) const WIDE_ACCENT: &[u8] = b"kmap: accent too wide at accent {} numbe
 pub(crate) const TOO_LONG: &[u8] = b"kmap: text: more than 1048576 bytes when formatted\n";
 
 pub(crate) const TOO_MANY_STATES: &[u8] = b"kmap: more than 65536 states\n";
+
+pub(crate) const NO_KEY_TYPES: &[u8] = b"kmap: no key of the board types\n";
 
 pub(crate) const WRITE: &[u8] = b"kmap: write fault after {} bytes\n";
 
@@ -232,6 +236,7 @@ fn line_of(error: &CommandError) -> Line
         CommandError::NoWay { offset, c } => no_way(*offset, *c),
         CommandError::TooLong => line(TOO_LONG, &[]),
         CommandError::TooManyStates => line(TOO_MANY_STATES, &[]),
+        CommandError::NoKeyTypes => line(NO_KEY_TYPES, &[]),
     }
 }
 

@@ -5,12 +5,13 @@ ghost use Rattle.keymap_core.specs.Maps.{MapValue};
 ghost use Rattle.console_states.specs.declared.outcome.Sticking.{Sticking as StickingValue};
 ghost use Rattle.console_scripts.specs.declared.typing.Typing.{Typing as TypingValue};
 ghost use Rattle.console_core.specs.History.{Maps};
-ghost use Rattle.console_states.specs.Sticking.{IsAnswer, IsAnswerBetween};
+ghost use Rattle.console_states.specs.Moves.{alone, with_loads};
 ghost use Rattle.console_scripts.specs.Typing.{AreTyped, characters_of};
 ghost use Rattle.play_core.specs.Playing.{Plays};
 ghost use Rattle.play_core.specs.Runs.{moves};
 ghost use Rattle.play_core.specs.declared.show.Show.{Show as ShowValue};
 ghost use Rattle.play_core.specs.declared.show.Show.TheVariants as show;
+ghost use Rattle.keyboard.specs.declared.board.Board.{Board as BoardValue};
 ghost use Rattle.kmap_runs.specs.Sentences.{IsTyped};
 ghost use Rattle.kmap_runs.specs.Report.{report};
 ghost use Rattle.kmap_runs.specs.Replayed.{Delivers, ScriptTypes, AnswerReplays, AnswerReplaysBetween, ShowsScript};
@@ -18,7 +19,7 @@ ghost use Rattle.kmap_runs.specs.Replayed.{PlaysCover};
 ghost use Rattle.kmap_runs.specs.FmtRuns.{ChangedTextsSpellTheSame, PrintedLayoutsSpellTheSame};
 ghost use Rattle.keymap_tables.specs.Sources.{ReadsNarrow, ReadsTables};
 ghost use Rattle.kmap_runs.specs.Runs.{AcceptedKeepTheirPromise, AreDumped, CompilesNarrowly, CompilesText};
-ghost use Rattle.kmap_runs.specs.Runs.{CoversText, DrawnAreWellFormed};
+ghost use Rattle.kmap_runs.specs.Runs.{CoversText, DrawnAreWellFormed, IsFoundUnder};
 ghost use Rattle.kmap_runs.specs.Runs.{PrintedCoversAreScripts, TypesSentence, WellLintedNeverStick};
 ghost use Rattle.kmap_runs.specs.Typing.{typing_script};
 ghost use Rattle.keymap_names.specs.Shown.{IsPlainText};
@@ -55,14 +56,15 @@ pub fn typing_scripts_are_plain()
 /// which nothing is lost, and which leaves a modifier on while no key is pressed, by the fewest presses, between the
 /// same two keymaps where it has loads; and else one of no events.
 pub fn found_scripts_deliver_the_answer()
-    ensures alone { (m : MapValue) (found : StickingValue) → IsAnswer m found → AnswerReplays m found }
-    ensures between { (ms : Maps) (found : StickingValue) → IsAnswerBetween ms found → AnswerReplaysBetween ms found }
+    ensures alone { (m : MapValue) (found : StickingValue) → IsFoundUnder (alone m) found → AnswerReplays m found }
+    ensures between { (ms : Maps) (found : StickingValue) → IsFoundUnder (with_loads ms) found
+        → AnswerReplaysBetween ms found }
 {}
 
 /// What `play` types of the script that `type_run` printed for a sentence, over the same text, is that sentence.
 pub fn typed_sentences_come_back()
-    ensures { (text sentence script typed : List ℕ) (t s u v : Option (List ℕ))
-        → TypesSentence (moves (Some text) t) (moves (Some sentence) s) (moves (Some []) (Some script)) (Ok tt)
+    ensures { (board : BoardValue) (text sentence script typed : List ℕ) (t s u v : Option (List ℕ))
+        → TypesSentence board (moves (Some text) t) (moves (Some sentence) s) (moves (Some []) (Some script)) (Ok tt)
         → Plays show.Typed (moves (Some text) u) (moves (Some script) v) (moves (Some []) (Some typed)) (Ok tt)
         → typed ≡ sentence }
 {}

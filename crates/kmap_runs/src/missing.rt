@@ -84,7 +84,7 @@ fn missing_among(
 }
 
 /// The characters of a sentence, if all of it is text.
-fn characters_of(alloc: Global, sentence: &[u8]) -> Result<Vec<char>, TypeError>
+pub(crate) fn characters_of(alloc: Global, sentence: &[u8]) -> Result<Vec<char>, TypeError>
     ensures ok { IfOk result (λ cs. IsUtf8 sentence.now × (encode_utf8_all cs.items ≡ sentence.now)) }
     ensures err { (m : MapValue) → IfErr result (IsMissingError m sentence.now) }
 {
@@ -113,7 +113,7 @@ pub(crate) fn missing_in(
 
 /// The number of a character, and behind it the character, where a terminal shows it.
 #[tactic(auto, unfolding(crate::specs::Missing::character_told, messages::specs::Filled::filled))]
-fn character_told(alloc: Global, c: char) -> Result<Vec<u8>, AllocError>
+pub(crate) fn character_told(alloc: Global, c: char) -> Result<Vec<u8>, AllocError>
     ensures { IfOk result (λ text. text.items ≡ spec.character_told c) }
 {
     let number = code_text(c);

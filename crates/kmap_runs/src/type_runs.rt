@@ -10,15 +10,21 @@ use crate::runs::command_once_written;
 use crate::sentence::type_sentence;
 use crate::type_error::TypeError;
 use crate::typing::typing_script;
+use keyboard::Board;
 use keymap_core::{KeyMap, Read, Write};
 use std::alloc::{AllocError, Global};
 
 /// The script that types the sentence on the map.
-fn script_for(alloc: Global, map: &KeyMap, sentence: &[u8]) -> Result<Vec<u8>, CommandError>
-    ensures ok { IfOk result (λ script. Types map.now sentence.now script.items) }
+fn script_for(
+    alloc: Global,
+    map: &KeyMap,
+    board: Board,
+    sentence: &[u8],
+) -> Result<Vec<u8>, CommandError>
+    ensures ok { IfOk result (λ script. Types board map.now sentence.now script.items) }
     ensures err { IfErr result (LacksScript map.now sentence.now) }
 {
-    let typing = match type_sentence(alloc, map, sentence) {
+    let typing = match type_sentence(alloc, map, board, sentence) {
         Ok(typing) => typing,
         Err(TypeError::Memory) => return Err(CommandError::Run(RunError::Memory)),
         Err(TypeError::NotText { offset }) => return Err(CommandError::NotText { offset }),
@@ -35,11 +41,12 @@ fn script_for(alloc: Global, map: &KeyMap, sentence: &[u8]) -> Result<Vec<u8>, C
 /// the events of each character, and before those of each line of the sentence a comment that shows it.
 pub fn type_run<R: Read, S: Read, W: Write>(
     alloc: Global,
+    board: Board,
     text: &mut R,
     sentence: &mut S,
     writer: &mut W,
 ) -> Result<(), CommandError>
-    ensures run { TypesSentence (moves (R.remaining text.old) (R.remaining text.new))
+    ensures run { TypesSentence board (moves (R.remaining text.old) (R.remaining text.new))
         (moves (S.remaining sentence.old) (S.remaining sentence.new))
         (moves (W.contents writer.old) (W.contents writer.new)) result }
     ensures text_failed { R.has_failed text.new ≡ (blames_text (run_of result) || R.has_failed text.old) }
@@ -48,6 +55,6 @@ pub fn type_run<R: Read, S: Read, W: Write>(
 {
     let map = read_text(alloc, text)?;
     let bytes = read_sentence(alloc, sentence)?;
-    let script = script_for(alloc, &map, bytes.as_slice())?;
+    let script = script_for(alloc, &map, board, bytes.as_slice())?;
     command_once_written(writer, script.as_slice(), ())
 }

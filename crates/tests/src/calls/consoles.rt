@@ -1,11 +1,15 @@
-//! The calls of console_core, console_states and console_scripts, and of keymap_cover, keymap_diff and
+//! The calls of console_core, console_states and console_scripts, and of keymap_cover, keyboard_cover, keymap_diff and
 //! keymap_consequences, which stand on them.
 use crate::calls::devices::mark;
 use crate::calls::inputs::{Call, Lent};
 use crate::calls::outcome::{Outcome, ended, ended_keeping};
 use console_core::{Event, PlainConsole, Translator, WordConsole, replay};
 use console_scripts::{Explorer, Typist, find_onward, scroll_off, type_characters, yield_of};
-use console_states::{Sight, Sticking, sights_of, some_sights, sticking, sticking_between};
+use console_states::{
+    Presses, Sight, Sticking, has_few_states, sights_of, some_sights, sticking, sticking_between,
+};
+use keyboard::Board;
+use keyboard_cover::{GROUP_COUNT, Keyboard, allowed_sights, keyboard_cover_of, presses_of};
 use keymap_consequences::consequences_of;
 use keymap_core::{KeyCode, Lock, Modifier, Write};
 use keymap_cover::{Seen, cells, cover_of, lock_settings};
@@ -25,6 +29,7 @@ pub(crate) fn of_keymaps<W: Write>(call: &Call<'_>, marks: &mut W) -> Option<Out
         "replay-word" => replays_in_a_word(alloc, sample, marks),
         "sticking" => searches(alloc, trap, marks),
         "sticking_between" => searches_between(alloc, trap, sample, marks),
+        "has_few_states" => asks_for_states(alloc, sample, marks),
         "sights_of" => finds_sights(alloc, sample, marks),
         "some_sights" => finds_some_sights(alloc, sample, marks),
         "Explorer::new" => explores(alloc, sample, marks),
@@ -37,6 +42,8 @@ pub(crate) fn of_keymaps<W: Write>(call: &Call<'_>, marks: &mut W) -> Option<Out
         "Seen::new" => sees_nothing(alloc, marks),
         "cells" => lists_cells(alloc, marks),
         "lock_settings" => lists_lock_settings(alloc, marks),
+        "allowed_sights" => finds_allowed_sights(alloc, sample, marks),
+        "keyboard_cover_of" => covers_by_keyboard(alloc, sample, marks),
         "differences" => compares(alloc, trap, sample, marks),
         "consequences_of" => tells_consequences(alloc, trap, sample, marks),
         "telling_apart" => tells_apart(alloc, trap, sample, marks),
@@ -125,6 +132,13 @@ fn sticks(given: &Result<Sticking, AllocError>) -> bool {
     matches!(given, Ok(Sticking::Sticks { events, .. }) if !events.is_empty())
 }
 
+fn asks_for_states<W: Write>(alloc: Global, lent: &Lent, marks: &mut W) -> Outcome {
+    mark(marks);
+    let given = has_few_states(alloc, &lent.map);
+    mark(marks);
+    ended_keeping(&given, given == Ok(true), lent.is_kept())
+}
+
 fn searches<W: Write>(alloc: Global, lent: &Lent, marks: &mut W) -> Outcome {
     mark(marks);
     let given = sticking(alloc, &lent.map);
@@ -156,7 +170,7 @@ fn finds_some_sights<W: Write>(alloc: Global, lent: &Lent, marks: &mut W) -> Out
 
 fn types_characters<W: Write>(alloc: Global, lent: &Lent, marks: &mut W) -> Outcome {
     mark(marks);
-    let given = type_characters(alloc, &lent.map, &['a', 'é', 'a', 'A', 'é']);
+    let given = type_characters(alloc, &lent.map, Board::Iso, &['a', 'é', 'a', 'A', 'é']);
     mark(marks);
     let is_right = matches!(&given, Ok(typing) if typing.keyed.len() == 5);
     ended_keeping(&given, is_right, lent.is_kept())
@@ -266,6 +280,30 @@ fn turns_scroll_off<W: Write>(alloc: Global, lent: &Lent, marks: &mut W) -> Outc
 fn covers<W: Write>(alloc: Global, lent: &Lent, marks: &mut W) -> Outcome {
     mark(marks);
     let given = cover_of(alloc, &lent.map);
+    mark(marks);
+    ended_keeping(&given, matches!(&given, Ok(Some(_))), lent.is_kept())
+}
+
+/// All presses of a board but those of actions that end or leave the console, or type what no keymap says.
+fn presses() -> Presses {
+    presses_of(&Keyboard {
+        board: Board::Iso,
+        groups: [false; GROUP_COUNT],
+    })
+}
+
+fn finds_allowed_sights<W: Write>(alloc: Global, lent: &Lent, marks: &mut W) -> Outcome {
+    let presses = presses();
+    mark(marks);
+    let given = allowed_sights(alloc, &lent.map, &presses);
+    mark(marks);
+    ended_keeping(&given, matches!(&given, Ok(Some(_))), lent.is_kept())
+}
+
+fn covers_by_keyboard<W: Write>(alloc: Global, lent: &Lent, marks: &mut W) -> Outcome {
+    let presses = presses();
+    mark(marks);
+    let given = keyboard_cover_of(alloc, &lent.map, &presses);
     mark(marks);
     ended_keeping(&given, matches!(&given, Ok(Some(_))), lent.is_kept())
 }

@@ -2,13 +2,16 @@
 use crate::calls::devices::mark;
 use crate::calls::inputs::{Call, Lent};
 use crate::calls::outcome::{Outcome, ended, ended_keeping, is_text};
+use keyboard::Board;
+use keyboard_cover::{GROUP_COUNT, Keyboard, keyboard_cover_of, presses_of};
 use keymap_consequences::consequences_of;
 use keymap_core::Write;
 use keymap_cover::cover_of;
 use keymap_diff::{differences, telling_apart};
 use keymap_names::{accents, all_chars, first_shown, ranges, shown_name, word};
 use script_text::{
-    brief_text, change_lines, consequence_lines, cover_text, diff_text, same_text, verdict_words,
+    brief_text, change_lines, consequence_lines, cover_text, diff_text, keyboard_text, same_text,
+    verdict_words,
 };
 use std::alloc::{AllocError, Global};
 
@@ -35,6 +38,7 @@ pub(crate) fn of_printing<W: Write>(
 ) -> Result<Option<Outcome>, AllocError> {
     match call.name {
         "cover_text" => prints_cover(call.alloc, call.sample, marks),
+        "keyboard_text" => prints_by_keyboard(call.alloc, call.sample, marks),
         "diff_text" => prints_differences(call.alloc, call.trap, call.sample, marks),
         "brief_text" => prints_in_brief(call.alloc, call.trap, call.sample, marks),
         "verdict_words" => tells_verdict(call.alloc, call.trap, call.sample, marks),
@@ -105,6 +109,25 @@ fn prints_cover<W: Write>(
     let given = cover_text(alloc, &lent.map, &cover);
     mark(marks);
     let is_right = matches!(&given, Ok(text) if text.as_slice().starts_with(b"# "));
+    Ok(Some(ended_keeping(&given, is_right, lent.is_kept())))
+}
+
+fn prints_by_keyboard<W: Write>(
+    alloc: Global,
+    lent: &Lent,
+    marks: &mut W,
+) -> Result<Option<Outcome>, AllocError> {
+    let keyboard = Keyboard {
+        board: Board::Ansi,
+        groups: [false; GROUP_COUNT],
+    };
+    let Some(cover) = keyboard_cover_of(alloc, &lent.map, &presses_of(&keyboard))? else {
+        return Ok(None);
+    };
+    mark(marks);
+    let given = keyboard_text(alloc, &lent.map, &keyboard, &cover, false);
+    mark(marks);
+    let is_right = matches!(&given, Ok(text) if text.as_slice().starts_with(b"# keyboard: 104"));
     Ok(Some(ended_keeping(&given, is_right, lent.is_kept())))
 }
 

@@ -2,13 +2,15 @@
 use crate::calls::devices::{Given, mark, reader_of, writer};
 use crate::calls::inputs::{CHANGED, Call, LACKING, SENTENCE, TEXT, TRAP};
 use crate::calls::outcome::{Outcome, ended, ended_untouched, is_text};
+use keyboard_cover::{GROUP_COUNT, Keyboard};
 use keymap_core::Write;
 use keymap_draw::Board;
 use keymap_fmt::Characters;
 use kmap_runs::{
     RunError, check_brief_run, check_run, compile_narrow_run, compile_run, cover_run, diff_run,
     draw_change_run, draw_run, dump_narrow_run, dump_run, file_error_line, fmt_print_run, fmt_run,
-    lint_run, missing_run, search_run, type_run,
+    keyboard_cover_run, lint_run, missing_run, search_run, type_run, type_sheet_run,
+    type_words_run,
 };
 use lint_formats::Format;
 use std::alloc::Global;
@@ -29,8 +31,11 @@ pub(crate) fn of_texts<W: Write>(call: &Call<'_>, marks: &mut W) -> Option<Outco
         "fmt_run" => formats(alloc, marks),
         "fmt_print_run" => prints_formatted(alloc, marks),
         "type_run" => types(alloc, marks),
+        "type_words_run" => types_in_words(alloc, marks),
+        "type_sheet_run" => types_all_in_words(alloc, marks),
         "missing_run" => tells_missing(alloc, marks),
         "cover_run" => covers(alloc, marks),
+        "keyboard_cover_run" => covers_by_keyboard(alloc, marks),
         "file_error_line" => tells_of_a_file(alloc, marks),
         _ => return None,
     };
@@ -184,7 +189,24 @@ fn types<W: Write>(alloc: Global, marks: &mut W) -> Outcome {
     let (mut reader, mut out) = (reader_of(TEXT), writer());
     let mut sentence = reader_of(SENTENCE);
     mark(marks);
-    let given = type_run(alloc, &mut reader, &mut sentence, &mut out);
+    let given = type_run(alloc, Board::Iso, &mut reader, &mut sentence, &mut out);
+    mark(marks);
+    ended_untouched(&given, true, out.writes)
+}
+
+fn types_in_words<W: Write>(alloc: Global, marks: &mut W) -> Outcome {
+    let (mut reader, mut out) = (reader_of(TEXT), writer());
+    let mut sentence = reader_of(SENTENCE);
+    mark(marks);
+    let given = type_words_run(alloc, Board::Iso, &mut reader, &mut sentence, &mut out);
+    mark(marks);
+    ended_untouched(&given, matches!(&given, Ok(None)), out.writes)
+}
+
+fn types_all_in_words<W: Write>(alloc: Global, marks: &mut W) -> Outcome {
+    let (mut reader, mut out) = (reader_of(TEXT), writer());
+    mark(marks);
+    let given = type_sheet_run(alloc, Board::Iso, &mut reader, &mut out);
     mark(marks);
     ended_untouched(&given, true, out.writes)
 }
@@ -202,6 +224,18 @@ fn covers<W: Write>(alloc: Global, marks: &mut W) -> Outcome {
     let (mut reader, mut out) = (reader_of(TEXT), writer());
     mark(marks);
     let given = cover_run(alloc, &mut reader, &mut out);
+    mark(marks);
+    ended_untouched(&given, true, out.writes)
+}
+
+fn covers_by_keyboard<W: Write>(alloc: Global, marks: &mut W) -> Outcome {
+    let (mut reader, mut out) = (reader_of(TEXT), writer());
+    let keyboard = Keyboard {
+        board: Board::Iso,
+        groups: [true; GROUP_COUNT],
+    };
+    mark(marks);
+    let given = keyboard_cover_run(alloc, &keyboard, true, &mut reader, &mut out);
     mark(marks);
     ended_untouched(&given, true, out.writes)
 }

@@ -218,7 +218,7 @@ fn plays_next<W: Write>(alloc: Global, show: Show, marks: &mut W) -> Outcome {
 
 fn types_sentence<W: Write>(alloc: Global, lent: &Lent, marks: &mut W) -> Outcome {
     mark(marks);
-    let given = type_sentence(alloc, &lent.map, SENTENCE);
+    let given = type_sentence(alloc, &lent.map, Board::Iso, SENTENCE);
     mark(marks);
     let is_right = matches!(&given, Ok(typing) if typing.keyed.len() == 16);
     ended_keeping(&given, is_right, lent.is_kept())

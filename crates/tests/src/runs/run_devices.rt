@@ -45,7 +45,7 @@ pub(crate) fn perform(
         Run::Show => of_run(check_run(alloc, first, true, writer)),
         Run::Search => of_run(search_run(alloc, first, &mut None::<Tape<'_>>, writer)),
         Run::SearchNext => of_run(search_between(alloc, first, second, writer)),
-        Run::Type => type_run(alloc, first, second, writer).and(Ok(true)),
+        Run::Type => type_run(alloc, Board::Iso, first, second, writer).and(Ok(true)),
         Run::Dump => of_run(dump_run(alloc, first, writer).and(Ok(true))),
         Run::DumpNarrow => of_run(dump_narrow_run(alloc, first, writer).and(Ok(true))),
         Run::Compile => of_run(compile_run(alloc, first, writer).and(Ok(true))),

@@ -4,6 +4,7 @@ use crate::asserts::expect_equal_at;
 use crate::support::keymaps::{ACCENTS, LETTER_AND_SHIFT, TWO_DEAD_KEYS};
 use console_core::Event;
 use console_scripts::Keyed;
+use keymap_draw::Board;
 use keymap_text::read_map;
 use kmap_runs::{TypeError, type_sentence};
 use play_core::read_script;
@@ -52,10 +53,11 @@ static TYPED: [(&[u8], &[u8], &[u8]); 14] = [
     ),
     (LOCK_BEFORE_SHIFT, b"A", b"down 42\ndown 30\nup 30\nup 42\n"),
     (ACCENTS, b"\t", b"down 15\nup 15\n"),
+    // of the dead key and the blank the dead key has the lower number
     (
         ACCENTS,
         b"\xc3\x89\xc2\xb4",
-        b"down 26\nup 26\ndown 42\ndown 18\nup 18\nup 42\ndown 26\nup 26\ndown 57\nup 57\n",
+        b"down 26\nup 26\ndown 42\ndown 18\nup 18\nup 42\ndown 26\nup 26\ndown 26\nup 26\n",
     ),
     (
         DEAD_KEY_ALONE,
@@ -75,7 +77,7 @@ static TYPED: [(&[u8], &[u8], &[u8]); 14] = [
     (
         TWO_DEAD_KEYS,
         b"`",
-        b"down 42\ndown 40\nup 40\nup 42\ndown 57\nup 57\n",
+        b"down 42\ndown 40\nup 40\ndown 40\nup 40\nup 42\n",
     ),
     // the lock is turned once, and back at the end
     (
@@ -152,7 +154,7 @@ fn events_of(rt: &impl Abort, alloc: Global, script: &[u8]) -> Vec<Event> {
 fn expect_typed(rt: &impl Abort, alloc: Global, text: &[u8], sentence: &[u8], script: &[u8]) {
     let map = read_map(alloc, text).expect(rt, "a keymap");
     let wanted = events_of(rt, alloc, script);
-    match type_sentence(alloc, &map, sentence) {
+    match type_sentence(alloc, &map, Board::Iso, sentence) {
         Ok(typing) => {
             expect_equal_at(rt, sentence, typing.events.as_slice(), wanted.as_slice());
         }
@@ -171,7 +173,7 @@ fn sentences_are_typed_by_the_nearest_keys(rt: HostRuntime) {
 #[test]
 fn each_character_tells_where_its_events_end(rt: HostRuntime) {
     let map = read_map(rt.alloc(), TWO_LAYOUTS).expect(&rt, "a keymap");
-    let typing = type_sentence(rt.alloc(), &map, b"a\xce\xb1").expect(&rt, "events");
+    let typing = type_sentence(rt.alloc(), &map, Board::Iso, b"a\xce\xb1").expect(&rt, "events");
     let wanted = [
         Keyed {
             character: 'a',
@@ -190,7 +192,7 @@ fn each_character_tells_where_its_events_end(rt: HostRuntime) {
 fn what_no_keys_type_is_refused(rt: HostRuntime) {
     for &(text, sentence, error) in &REFUSED {
         let map = read_map(rt.alloc(), text).expect(&rt, "a keymap");
-        let answer = type_sentence(rt.alloc(), &map, sentence);
+        let answer = type_sentence(rt.alloc(), &map, Board::Iso, sentence);
         expect_equal_at(&rt, sentence, answer.err(), Some(error));
     }
 }

@@ -29,7 +29,7 @@ pub returns-clause-run : goal.returns-clause-run
 returns-clause-run g c =
     once_written of_command_writer
     (ReadsBoth (ReadsForCommand (ReadsText (moves _ _))) (ReadsSentence (moves _ _)) (Stays (moves _ _)))
-    (λ v e. LacksScript v.0 v.1 e) (λ v _ told. Types v.0 v.1 told) (moves _ _)
+    (λ v e. LacksScript v.0 v.1 e) (λ v _ told. Types c.args.board v.0 v.1 told) (moves _ _)
     (c.in_ok-map.map, c.in_ok-bytes.bytes.items) tt c.in_ok-script.script.items _
     (c.in_ok-map.ensures.reads, c.in_ok-bytes.ensures.reads) (rw c.as_slice.ensures.value at c.in_ok-script.ensures.ok)
     (rw c.as_slice-2.ensures.value at c.command_once_written.ensures.bytes)

@@ -10,7 +10,7 @@ _kmap_words() {
     lint) echo '--strict --name --format --quiet --color -h --help' ;;
     fmt) echo '--check --print --quote -h --help' ;;
     play) echo '--typed --next -h --help' ;;
-    type) echo '--text --missing --words --as --board -h --help' ;;
+    type) echo '--text --missing --words --all --as --board -h --help' ;;
     cover) echo '--keyboard --press --as -h --help' ;;
     compile) echo '--narrow -h --help' ;;
     dump) echo '--narrow -h --help' ;;

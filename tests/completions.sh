@@ -105,7 +105,7 @@ if is_there bash; then
     in_bash 'fmt' kmap f
     in_bash '--check' kmap fmt --c
     in_bash '--quote' kmap fmt --check --q
-    in_bash '--text --missing --words --as --board --help -h' kmap type letter -
+    in_bash '--text --missing --words --all --as --board --help -h' kmap type letter -
     in_bash 'compile check cover' kmap help c
     in_bash '--help --version' kmap --
 fi
@@ -130,7 +130,7 @@ if is_there fish; then
     in_fish 'fmt' 'kmap f'
     in_fish '--check' 'kmap fmt --c'
     in_fish '--quote' 'kmap fmt --check --q'
-    in_fish '--text --missing --words --as --board --help -h' 'kmap type letter -'
+    in_fish '--text --missing --words --all --as --board --help -h' 'kmap type letter -'
     in_fish 'evdev' 'kmap cover --as e'
     in_fish '' 'kmap type letter --text le'
     in_fish 'compile check cover' 'kmap help c'

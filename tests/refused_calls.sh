@@ -115,6 +115,7 @@ refuses replay-word
 refuses sticking
 refuses sticking_between
 refuses has_few_states
+yields few_states
 refuses sights_of
 yields some_sights
 refuses meet_all
@@ -128,6 +129,7 @@ refuses Explorer::events_home
 refuses find_onward
 refuses scroll_off
 yields type_characters
+yields ways_of
 refuses Typist::new
 yields yield_of
 yields cover_of

@@ -59,7 +59,7 @@ commands_of_source() {
 # options_of_source TOP: the long options that this source gives its commands, and those of each program, one a line
 options_of_source() {
     tr -d ' \n' < "$1/crates/kmap/src/command_line.rt" |
-        grep -oE '(Flag|FlagWithout|FlagAlone|FileOption|TextOption|OptionalValue|OptionBeside|Choice)\("[a-z]+"' |
+        grep -oE '(Flag(Without|Alone|Beside)?|FileOption|TextOption|OptionalValue|OptionBeside|Choice)\("[a-z]+"' |
         sed 's/.*"\([a-z]*\)"/--\1/'
     echo --help
     echo --version

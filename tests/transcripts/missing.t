@@ -73,7 +73,8 @@ So has a keymap with a fault, and a sentence that can't be read:
   ! kmap: cannot open none: No such file or directory
   [1]
 
-Of more than 65,536 states it is told what keys type among those that were met, and else that there are too many:
+Where a few states look up all that a keymap has, it is told, however many there are; of more than 65,536 others it is
+told what keys type among those that were met, and else that there are too many:
   $ awk 'BEGIN {
   >     split("lshift rshift lctrl rctrl lalt ralt", name, " ")
   >     for (key = 0; key < 48; key++) {
@@ -83,6 +84,13 @@ Of more than 65,536 states it is told what keys type among those that were met, 
   > }' > more
   $ echo "120 'a' 'A' soh soh 'a' 'A' soh soh C" >> more
   $ kmap type --missing more --text Aa
+  $ kmap type --missing more --text ab
+  sentence:1:2: U+0062 'b'
+  [1]
+  $ echo "121 nop alock nop nop nop alock nop nop O" >> more
+  $ echo "248 0x3b1 0x391 soh soh 0x3b1 0x391 soh soh C" >> more
+  $ echo "249 alock alock alock alock alock alock alock alock O" >> more
+  $ kmap type --missing more --text Aaα
   $ kmap type --missing more --text ab
   ! kmap: more than 65536 states
   [1]

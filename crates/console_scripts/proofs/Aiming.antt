@@ -1,13 +1,14 @@
 -- Where nothing is aimed at no visit can be made.
+use Rattle.std.proofs.Common.{rules}
 use Rattle.console_scripts.proofs.Common.{◌≡◌, ◌<◌, ℕ, Bool, true, false, List, [], ◌∷◌, ◌++◌, slice_get, Option}
 use Rattle.console_scripts.proofs.Common.{MatchOption, Some, None, refl, ap, subst, sym, ◌∙◌, inl, inr, arith}
-use Rattle.console_scripts.proofs.Common.{false≢true, MapValue, Caps, Num, Scroll, Alt, Char, Act, Move, Turn}
+use Rattle.console_scripts.proofs.Common.{false≢true, MapValue, Caps, Num, Scroll, Alt, Char, Move, Turn}
 use Rattle.console_scripts.proofs.Common.{LetGo, Sight, Explored, Under, alone, State, start, IsFree, IsIdle, look_in}
 use Rattle.console_scripts.proofs.Common.{IsPath, state_after, IsPathFrom, state_from, with_holder}
 use Rattle.console_scripts.proofs.Common.{with_lock_turned, IsHome, SeesBy, look_selected, selection_of, slot_of}
-use Rattle.console_scripts.proofs.Common.{ComesHome, map_of_explored, origin_in, HasTap, dead_tap, HasRoute, freed}
-use Rattle.console_scripts.proofs.Common.{state_of, Entry, IsReached, IsWhole, IsAfter, IsDeadFor, IsAim, ShowsNot}
-use Rattle.console_scripts.proofs.Common.{Searched, length, KeyAt, CanVisit, slice_get_within}
+use Rattle.console_scripts.proofs.Common.{ComesHome, map_of_explored, HasTap, HasRoute, freed}
+use Rattle.console_scripts.proofs.Common.{state_of, Entry, IsWhole, IsAfter, IsDeadFor, IsAim, ShowsNot}
+use Rattle.console_scripts.proofs.Common.{length, KeyAt, CanVisit, slice_get_within}
 use Rattle.console_scripts.proofs.Common.{all-met, path-split, reached-one}
 use Rattle.console_scripts.proofs.Common.{same_states, one_map}
 use Rattle.console_scripts.specs.declared.explorer.Aim.{Aim}
@@ -17,7 +18,7 @@ use Rattle.console_states.specs.Looks.{HoldsAt, HoldsBelow, IsLook}
 use Rattle.console_states.specs.Searching.{HasMetAll}
 use Rattle.console_states.proofs.Shared.{Reached, emptied, emptied-kept, emptied-none, reached-more}
 use Rattle.console_scripts.proofs.Exploring.{comes-route, path-append}
-use Rattle.keymap_core.specs.declared.action.Action.TheVariants as act
+use Rattle.console_scripts.specs.declared.explored.Symbol.TheVariants as symbol
 use Rattle.console_states.specs.declared.selection.Sight.TheVariants as sight
 
 -- ---- where nothing is to be aimed at
@@ -50,12 +51,7 @@ after-rest u s k t first off (inr (none, is)) = rw is ((λ i. refl), first, off)
 
 -- a complete exploration from the start met all states
 pub whole-met : (e : Explored) → IsWhole e → HasMetAll e.maps e.met.entries
-whole-met e (x, begins, complete) = (
-  x.under,
-  subst (λ o. Searched (alone (map_of_explored e)) (o ∷ []) e.met.entries (length e.met.entries)
-      (length e.met.entries)) begins (x.whole complete).0,
-  x.few complete,
-)
+whole-met e (x, begins, complete) = search rules
 
 -- a complete exploration met each state that is reached
 pub met-whole : (e : Explored) → IsWhole e → (s : State) → Reached (alone (map_of_explored e)) s
@@ -70,21 +66,12 @@ met-whole e (x, begins, complete) s (path, is, leads) =
 -- what was met is reached
 pub met-reached : (e : Explored) → IsWhole e → (j : ℕ) (y : Entry) → slice_get e.met.entries j ≡ Some y
     → Reached (alone (map_of_explored e)) (state_of y.0)
-met-reached e whole j y at =
-    let u : Under = alone (map_of_explored e) in
-    let r : IsReached u (origin_in e) e.met.entries j y = reached-one whole.0.searched j y at in (
-      r.0,
-      subst (λ o. IsPathFrom u o r.0) whole.1 r.2,
-      ap (λ o. state_from u o r.0) (sym whole.1) ∙ r.3,
-    )
+met-reached e whole j y at = search (rules, reached-one)
 
 -- a route begins at a state that was met, if moves lead home from it
 pub route-met : (e : Explored) → IsWhole e → (j : ℕ) (y : Entry) → slice_get e.met.entries j ≡ Some y → (s : State)
     → state_of y.0 ≡ s → ComesHome (alone (map_of_explored e)) s → HasRoute e.routes.entries (state_of y.0)
-route-met e (x, begins, complete) j y at s same home =
-    let (searched, settled) = x.whole complete in
-    comes-route (map_of_explored e) e.met.entries e.routes.entries searched settled j y at
-    (subst (λ t. ComesHome (alone (map_of_explored e)) t) (sym same) home)
+route-met e (x, begins, complete) j y at s same home = search (rules, comes-route)
 
 -- a route begins at a state that is reached, if moves lead home from it
 pub route-reached : (e : Explored) → IsWhole e → (s : State) → Reached (alone (map_of_explored e)) s
@@ -111,11 +98,7 @@ one-after m s k after (inr (none, is)) before (inr (other, was)) = is ∙ sym wa
 -- a press that looks up a character turns no lock
 char-after : (m : MapValue) (s : State) (k c : ℕ) (after : State) → look_selected m (selection_of s) k ≡ Char c
     → IsAfter (alone m) s k after → after ≡ freed s
-char-after m s k c after e (inl (l, ((lt, idle, (seen, may)), other), is)) =
-    let look : look_in (alone m) s k ≡ look_selected m (selection_of s) k =
-    ap (λ n. look_selected n (selection_of s) k) (one_map m s.is_second) in
-    let f : Act (act.Lock l) ≡ Char c = sym seen ∙ look ∙ e in
-    cc
+char-after m s k c after e (inl (l, ((lt, idle, (seen, may)), other), is)) = search (rules, one_map)
 char-after m s k c after e (inr (none, is)) = is
 
 -- Presses that see one sight lead alike: of a cell or a lock setting only one key can see it, and a key that sees a
@@ -174,7 +157,7 @@ shows-not e whole x none (path, is, can, (k, lt, sees, (before, was, home))) =
     ]
 
 -- a pair whose dead key can't be tapped can't be visited
-pub dead-not : (e : Explored) → IsWhole e → (accent c : ℕ) → (HasTap e (dead_tap accent) → ⊥)
+pub dead-not : (e : Explored) → IsWhole e → (accent c : ℕ) → (HasTap e (symbol.DeadKey accent) → ⊥)
     → CanVisit (map_of_explored e) (sight.Pair accent c) → ⊥
 dead-not e whole accent c none
     (path, is, (later, before, at, (can, (k, lt, (idle, (seen, may))))), (n, key, sees, (after, was, home))) =

@@ -2,7 +2,7 @@
 use Rattle.console_scripts.proofs.Common.{◌≡◌, ◌≢◌, ◌<◌, ℕ, false, List, [], ◌∷◌, ◌++◌, None, refl, ap}
 use Rattle.console_scripts.proofs.Common.{subst, sym, ◌∙◌, inl, inr, MapValue, Lock, Caps, Num, Scroll, Alt, Event}
 use Rattle.console_scripts.proofs.Common.{Press, Reset, Sight, between, is_locked_after, HasKeys, key_count}
-use Rattle.console_scripts.proofs.Common.{HasNoLoads, alone, State, IsFree, IsIdle, look_in, with_lock_turned}
+use Rattle.console_scripts.proofs.Common.{HasNoLoads, alone, State, IsFree, IsIdle, look_in}
 use Rattle.console_scripts.proofs.Common.{IsPendingFor, SeesBy, selection_of, resting_after}
 use Rattle.console_scripts.proofs.Common.{IsAfter, IsAt, but_scroll, rules}
 use Rattle.console_scripts.proofs.Common.{press-turns, same_states, stands-reset, pending-reset, resolved-more}
@@ -23,9 +23,7 @@ press-rests m s h l k after lt a is (free, first, off) =
     lock : IsAfter (alone m) s k after → (n : Lock) → n ≢ Scroll
         → is_locked_after (between m m) n (Press k ∷ (l ++ h)) ≡ after.is_locked n
     lock (inl (j, ((below, idle, (seen, may)), turns), turned)) n other =
-        press-turns m (l ++ h) a.at k j a.stands (subst (λ x. IsIdle x k) (sym a.near) idle)
-        (ap (λ x. look_in (alone m) x k) a.near ∙ seen) n other
-        ∙ ap (λ x. (with_lock_turned x j).is_locked n) a.near ∙ ap (λ x. x.is_locked n) (sym turned)
+        search (rules, press-turns)
     lock (inr (none, same)) n other =
         press-turns_none m (l ++ h) a.at k a.stands n
         (λ idle seen.
@@ -49,13 +47,7 @@ press-rests m s h l k after lt a is (free, first, off) =
 -- the press at the end sees the sight
 pub press-sees : (m : MapValue) (s : State) (h l : List Event) (k : ℕ) (x : Sight) → IsAt m s h l
     → SeesBy m (selection_of s) k x → IsPendingFor m (l ++ h) x → EndsSeeing m h (Press k ∷ l) x
-press-sees m s h l k x a sees waits = (
-  l,
-  k,
-  refl,
-  going-sees m (l ++ h) a.at [] k x a.stands tt
-      (subst (λ z. SeesBy m z k x) (sym (ap (λ z. selection_of z) a.near)) sees) waits,
-)
+press-sees m s h l k x a sees waits = search (rules, going-sees)
 
 -- behind a reset a console is where it rests
 pub at-reset : (m : MapValue) (h : List Event) → HasKeys h → HasNoLoads h → IsAt m (resting_after m h) h (Reset ∷ [])

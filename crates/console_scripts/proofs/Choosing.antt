@@ -1,14 +1,11 @@
--- Which keys a character is typed with, by what was explored.
-use Rattle.console_scripts.proofs.Common.{◌≡◌, ◌+◌, ℕ, true, false, List, [], ◌∷◌, ◌++◌, ap, subst}
+-- An exploration of a state from which moves lead home: where it met no more than some of the states, there are many.
+use Rattle.console_scripts.proofs.Common.{◌≡◌, ◌+◌, ℕ, false, List, [], ◌∷◌, ◌++◌, ap, subst}
 use Rattle.console_scripts.proofs.Common.{sym, ◌∙◌, inl, inr, arith, cases_Bool, MapValue, Move, Explored}
-use Rattle.console_scripts.proofs.Common.{Symbol, Tap, Under, alone, State, start, IsPath, state_after}
-use Rattle.console_scripts.proofs.Common.{IsPathFrom, state_from, presses_along, ReachesMoreThanFrom, CanTap, CanType}
-use Rattle.console_scripts.proofs.Common.{ComesHome, HasRoute, map_of_explored, origin_in, CanReturn, HasTap}
-use Rattle.console_scripts.proofs.Common.{IsExploredFrom, CanAccent, dead_tap}
-use Rattle.console_scripts.proofs.Common.{rules, ReachesMoreThan, state_limit, start-one}
-use Rattle.console_scripts.specs.Inner.Exploring.{plain_tap}
-use Rattle.console_scripts.proofs.Exploring.{comes-route, path-append, can-tap-met, tap-can}
-use Rattle.console_scripts.specs.declared.explored.Symbol.TheVariants as symbol
+use Rattle.console_scripts.proofs.Common.{Under, alone, State, start, IsPath, state_after}
+use Rattle.console_scripts.proofs.Common.{IsPathFrom, state_from, presses_along, ReachesMoreThanFrom}
+use Rattle.console_scripts.proofs.Common.{ComesHome, HasRoute, map_of_explored, origin_in, CanReturn, IsExploredFrom}
+use Rattle.console_scripts.proofs.Common.{ReachesMoreThan, state_limit, start-one}
+use Rattle.console_scripts.proofs.Exploring.{comes-route, path-append}
 
 -- ---- an exploration of a state from which moves lead home
 
@@ -16,30 +13,6 @@ pub explored-returns : (m : MapValue) (s : State) (e : Explored) → IsExploredF
     → CanReturn (map_of_explored e) (origin_in e)
 explored-returns m s e v st =
     subst (λ n. CanReturn n (origin_in e)) (sym v.1) (subst (λ t. CanReturn m t) (sym v.2) st)
-
--- what can be tapped at all is found where all states were met
-pub explored-met : (m : MapValue) (s : State) (e : Explored) → IsExploredFrom m s e → CanReturn m s
-    → e.is_complete ≡ true → (t : Tap) → CanTap m t.is_plain t.symbol → HasTap e t
-explored-met m s e v st complete t can = search (rules, can-tap-met, explored-returns)
-
-pub explored-can : (m : MapValue) (s : State) (e : Explored) → IsExploredFrom m s e → CanReturn m s → (t : Tap)
-    → HasTap e t → CanTap m t.is_plain t.symbol
-explored-can m s e v st t has =
-    subst (λ n. CanTap n t.is_plain t.symbol) v.1 (tap-can e v.0 (explored-returns m s e v st) t has)
-
--- ---- no keys
-
-pub no-way : (m : MapValue) (s : State) (e : Explored) (c : ℕ) → IsExploredFrom m s e → CanReturn m s
-    → e.is_complete ≡ true → (HasTap e (plain_tap (symbol.Character c)) → ⊥)
-    → ((i : ℕ) (x : Symbol) → CanAccent m e c i x → ⊥) → CanType m c → ⊥
-no-way m s e c v st complete direct composed (inl can) =
-    direct (explored-met m s e v st complete (plain_tap (symbol.Character c)) can)
-no-way m s e c v st complete direct composed (inr (i, x, can_use, made, dead, tap)) =
-    composed i x (
-      can_use,
-      explored-met m s e v st complete (dead_tap i) dead,
-      (made, explored-met m s e v st complete (plain_tap x) tap),
-    )
 
 -- ---- too many states
 

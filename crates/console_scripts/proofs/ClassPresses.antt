@@ -1,7 +1,8 @@
 -- The presses that ways of a class are made of, by their tables.
+use Rattle.std.proofs.Common.{rules}
 use Rattle.console_scripts.proofs.Common.{◌≡◌, ◌≢◌, ◌<◌, ◌+◌, ◌==◌, ℕ, Bool, true, false, ◌&&◌, not, List, length}
 use Rattle.console_scripts.proofs.Common.{get_or}
-use Rattle.console_scripts.proofs.Common.{refl, ap, ◌∙◌, arith, inl, inr, eqb-true, false_from_ne_true, key_count}
+use Rattle.console_scripts.proofs.Common.{refl, arith, eqb-true, false_from_ne_true, key_count}
 use Rattle.console_scripts.proofs.Common.{Action}
 use Rattle.console_scripts.proofs.Common.{Char, Act, place_last, Modifier, Meta, AltShift, LeftAlt, LeftControl}
 use Rattle.console_scripts.proofs.Common.{LeftShift, RightAlt, RightControl, RightShift, Caps, Num, Scroll, Alt}
@@ -16,18 +17,16 @@ use Rattle.console_states.specs.declared.allowed.Presses.{Presses}
 use Rattle.console_scripts.specs.Types.{Selection}
 use Rattle.console_scripts.specs.declared.classes.Class.{Class}
 use Rattle.console_scripts.specs.declared.classes.Spared.{Spared}
-use Rattle.console_scripts.specs.Ways.{is_lock, presses_key}
-use Rattle.console_scripts.specs.Inner.Courses.{ArePresses, has_lock_code, is_spared, presses_always, presses_code_in}
+use Rattle.console_scripts.specs.Ways.{is_lock}
+use Rattle.console_scripts.specs.Inner.Courses.{ArePresses, has_lock_code, presses_always, presses_code_in}
 use Rattle.console_scripts.specs.Inner.Courses.{takes_key}
 
 -- an array is filled up to one place more
 pub filled-below : {X : Type 0} (f : ℕ → X) (xs : List X) (d : X) (n : ℕ) (v : X) → v ≡ f n → n < length xs
     → ((k : ℕ) → k < n → get_or xs k d ≡ f k)
     → (k : ℕ) → k < n + 1 → get_or (set xs n v) k d ≡ f k
-filled-below f xs d n v is within below k lt = elim (place_last k n lt) [
-  | inl less ↦ get_or-set_other xs n k v d (λ e. omega (arith, e, less)) ∙ below k less
-  | inr e ↦ rw e (get_or-set_same xs n v d within ∙ is)
-]
+filled-below f xs d n v is within below k lt =
+    search (rules, place_last, get_or-set_other, get_or-set_same)
 
 -- ---- codes
 
@@ -39,15 +38,9 @@ other-code n a b c d = rw (differs n 4 a, differs n 5 b, differs n 6 c, differs 
 
 -- locks have the codes of locks, and no other action of the table has one
 pub lock-code : (a : Action) → IsAction a → has_lock_code (code_of a) ≡ is_lock (Act a)
-lock-code (act.Screen n) is =
-    other-code (10 + n) (λ e. omega (arith, e, is)) (λ e. omega (arith, e, is)) (λ e. omega (arith, e, is))
-    (λ e. omega (arith, e, is))
-lock-code (act.Function n) is =
-    other-code (26 + n) (λ e. omega (arith, e, is)) (λ e. omega (arith, e, is)) (λ e. omega (arith, e, is))
-    (λ e. omega (arith, e, is))
-lock-code (act.DeadKey i) is =
-    other-code (137 + i) (λ e. omega (arith, e, is)) (λ e. omega (arith, e, is)) (λ e. omega (arith, e, is))
-    (λ e. omega (arith, e, is))
+lock-code (act.Screen n) is = search (rules, other-code)
+lock-code (act.Function n) is = search (rules, other-code)
+lock-code (act.DeadKey i) is = search (rules, other-code)
 lock-code (act.Mod LeftShift) is = refl
 lock-code (act.Mod RightShift) is = refl
 lock-code (act.Mod LeftControl) is = refl
@@ -98,14 +91,6 @@ pub presses-are : (b : Board) (w : Class) (sp : Spared) (p : Presses)
     → ((k : ℕ) → k < key_count → slice_index_or p.keys k Never ≡ presses_always (takes_key b w sp k))
     → ((c : ℕ) → c < 256 → slice_index_or p.actions c false ≡ presses_code_in w c)
     → ArePresses b w sp p
-presses-are b w sp p keys actions y k (Char c) lt is =
-    ap (λ z. is_key_pressed z y) (keys k lt) ∙ pressed-as (takes_key b w sp k) y
-    ∙ character-as (presses_key b w k) (not w.keeps_locks) (is_spared sp k)
+presses-are b w sp p keys actions y k (Char c) lt is = search (rules, pressed-as, character-as)
 presses-are b w sp p keys actions y k (Act a) lt is =
-    let pressed : is_key_pressed (slice_index_or p.keys k Never) y ≡ takes_key b w sp k =
-    ap (λ z. is_key_pressed z y) (keys k lt) ∙ pressed-as (takes_key b w sp k) y in
-    let told : slice_index_or p.actions (code_of a) false ≡ (not w.keeps_locks || not (is_lock (Act a))) =
-    actions (code_of a) (code-below a is) ∙ ap (λ z. not w.keeps_locks || not z) (lock-code a is) in
-    ap (λ z. z && is_key_pressed (slice_index_or p.keys k Never) y) told
-    ∙ ap (λ z. (not w.keeps_locks || not (is_lock (Act a))) && z) pressed
-    ∙ action-as (presses_key b w k) (not w.keeps_locks || not (is_lock (Act a))) (is_spared sp k)
+    search (rules, pressed-as, code-below, lock-code, action-as)

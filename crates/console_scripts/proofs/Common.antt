@@ -13,9 +13,9 @@ pub use Rattle.console_core.specs.Reading.{look_after, remembered_after}
 pub use Rattle.console_core.specs.Resolved.{ResolvedEvent, is_this_action, pending, resolve_press, taken_over}
 unfoldable pub use Rattle.console_core.specs.Resolved.{held, locked, look, remembered}
 pub use Rattle.console_core.specs.Resolved.ResolvedEvent.{PressedAction, PressedCharacter, ReleasedKey}
-pub use Rattle.console_scripts.specs.Inner.Exploring.{AreExplorations, AreKnown, CanAccent, CanReturn}
-pub use Rattle.console_scripts.specs.Inner.Exploring.{HasTap, HasTyped, IsBase, IsExplored, IsExploredFrom, IsTapAt}
-pub use Rattle.console_scripts.specs.Inner.Exploring.{Leaves, LetsGo, TypesOne, dead_tap, kept_if, map_of_explored}
+pub use Rattle.console_scripts.specs.Inner.Exploring.{AreExplorations, AreKnown, CanReturn}
+pub use Rattle.console_scripts.specs.Inner.Exploring.{HasTap, HasTyped, IsExplored, IsExploredFrom, IsTapAt}
+pub use Rattle.console_scripts.specs.Inner.Exploring.{Leaves, LetsGo, TypesOne, kept_if, map_of_explored}
 pub use Rattle.console_scripts.specs.Inner.Exploring.{origin_in, typed_along}
 pub use Rattle.console_scripts.specs.Inner.Routes.{AllLeadHome, AreSettled, HasRoute, IsAstray, LeadsHome, NoPressLeads}
 pub use Rattle.console_scripts.specs.Inner.Routes.{Routes}
@@ -30,7 +30,6 @@ pub use Rattle.console_scripts.specs.Visiting.{LeadsBy, TurnsScrollOff, resting_
 pub use Rattle.console_scripts.specs.declared.explored.Explored.{Explored}
 pub use Rattle.console_states.specs.declared.look.KeyAt.{KeyAt}
 pub use Rattle.console_scripts.specs.declared.explored.Symbol.{Symbol}
-pub use Rattle.console_scripts.specs.declared.explored.Tap.{Tap}
 pub use Rattle.console_states.proofs.Shared.{are_same, home-start, all-met}
 pub use Rattle.console_states.proofs.Shared.{on_ok-then, path-first, path-split, place_last, press-turns}
 pub use Rattle.console_states.proofs.Shared.{push-reversed, reached-one, same_entry, same_states, searched-back}

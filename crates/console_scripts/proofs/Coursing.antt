@@ -1,6 +1,7 @@
 -- What was met by the presses of a class tells the ways that are made of them: a place the way to it, and a way its
 -- place. So the first place where a way may end tells the nearest way.
-use Rattle.console_scripts.proofs.Common.{◌≡◌, ◌+◌, ◌<◌, ◌⊎◌, ℕ, Bool, true, false, not, List, [], ◌∷◌}
+use Rattle.std.proofs.Common.{rules}
+use Rattle.console_scripts.proofs.Common.{◌≡◌, ◌+◌, ◌<◌, ◌⊎◌, ℕ, Bool, true, false, List, [], ◌∷◌}
 use Rattle.console_scripts.proofs.Common.{◌++◌, Option, Some, None, refl, ap, subst, sym, ◌∙◌, inl, inr, arith, length}
 use Rattle.console_scripts.proofs.Common.{slice_get, none-some, same_Some, true≢false, cases_Bool}
 use Rattle.console_scripts.proofs.Common.{cases_lt, and_parts, MapValue, cell_at, Cell, Char, Act}
@@ -9,13 +10,11 @@ use Rattle.console_scripts.proofs.Common.{Under, alone, State, look_in, IsIdle, 
 use Rattle.console_scripts.proofs.Common.{state_from, events_along, presses_along, ComesHome, cell_of}
 use Rattle.console_scripts.proofs.Common.{composed_of, is_held, key_count, selection_of, look_selected, one_map}
 use Rattle.console_scripts.proofs.Common.{is_some}
-use Rattle.console_scripts.proofs.Common.{Explored, origin_in, IsExploredFrom, HasRoute}
+use Rattle.console_scripts.proofs.Common.{Explored, IsExploredFrom, HasRoute}
 use Rattle.console_scripts.proofs.Common.{Routes, Entry, Entries, HasEnded, state_of, all-met}
 use Rattle.console_scripts.proofs.Common.{reached-one, same_states, append-nil, All, KeyAt, events_of_move}
 use Rattle.console_scripts.proofs.Common.{ReachesMoreThanFrom, state_limit, append_assoc}
-use Rattle.keymap_core.specs.Bounds.{IsCell, IsEntry, IsMap}
-use Rattle.keymap_core.specs.Maps.{entry_at, undefined}
-use Rattle.keymap_core.specs.declared.entry.Entry.{Entry as KeyEntry}
+use Rattle.keymap_core.specs.Bounds.{IsCell, IsMap}
 use Rattle.std.specs.Prelude.{◌||◌, replicate, slice_index_or}
 use Rattle.std.proofs.lemmas.List.{get_or-replicate}
 use Rattle.keyboard.specs.declared.board.Board.{Board}
@@ -27,11 +26,11 @@ use Rattle.console_states.proofs.Shared.{minded-path, none-along}
 use Rattle.console_scripts.specs.Types.{Selection, Tap}
 use Rattle.std.proofs.lemmas.List.Elements.{All-get_or}
 use Rattle.std.proofs.Math.ListN.{get_or-eq_default}
-use Rattle.console_scripts.specs.Ways.{DeadTap, IsAllowedTap, IsBegun, IsDeadTap, IsWayBy, Makes, Way, events_of_way}
-use Rattle.console_scripts.specs.Ways.{allows_in, is_lock, presses_key, presses_of_way, state_at_end}
-use Rattle.console_scripts.proofs.Common.{AllLeadHome, AreSettled, Searched, reverse}
+use Rattle.console_scripts.specs.Ways.{DeadTap, IsAllowedTap, IsBegun, IsDeadTap, IsLast, IsWayBy, Makes, Way}
+use Rattle.console_scripts.specs.Ways.{events_of_way, presses_of_way, state_at_end}
+use Rattle.console_scripts.proofs.Common.{AllLeadHome, reverse}
 use Rattle.console_scripts.specs.Inner.Courses.{ArePresses, EndsAt, Gives, HasAction, IsEnding, IsFoundAt, IsMade}
-use Rattle.console_scripts.specs.Inner.Courses.{MakesBy, allows_but, is_spared, takes_key, under_by}
+use Rattle.console_scripts.specs.Inner.Courses.{MakesBy, allows_but, takes_key, under_by}
 use Rattle.console_scripts.specs.Inner.Courses.{ReachesMany}
 use Rattle.console_scripts.specs.Inner.Courses.{IsReached as IsCourseReached}
 use Rattle.console_scripts.specs.Inner.Exploring.{IsOrigin}
@@ -40,6 +39,7 @@ use Rattle.console_scripts.specs.declared.courses.Course.{Course}
 use Rattle.console_scripts.specs.declared.courses.Ending.{Ending}
 use Rattle.console_scripts.specs.declared.courses.Found.{Found}
 use Rattle.console_scripts.specs.declared.courses.Reached.{Reached}
+use Rattle.console_scripts.specs.declared.courses.Target.{Target}
 use Rattle.console_states.specs.declared.search.End.TheVariants.{TooMany}
 use Rattle.console_states.proofs.Shared.{minded_reaches_more, reaches-more}
 use Rattle.console_scripts.proofs.Taking.{way-leads}
@@ -60,29 +60,15 @@ cell-has (Act a) is = is
 
 cell-at : (cells : List Cell) (column : ℕ) → length cells ≡ 8 → All IsCell cells
     → HasAction (slice_index_or cells column (Char 0))
-cell-at cells column eight all = elim (cases_lt column 8) [
-  | inl lt ↦
-      cell-has (slice_index_or cells column (Char 0))
-      (All-get_or IsCell cells column (Char 0) (omega (arith, lt, eight)) all)
-  | inr le ↦ subst HasAction (sym (get_or-eq_default cells (Char 0) {n = column} (omega (arith, le, eight)))) tt
-]
+cell-at cells column eight all = search (rules, cases_lt, cell-has, All-get_or, get_or-eq_default)
 
 undefined-has : (column : ℕ) → HasAction (slice_index_or (replicate 8 (Char 0)) column (Char 0))
-undefined-has column = elim (cases_lt column 8) [
-  | inl lt ↦ subst HasAction (sym (get_or-replicate 8 column (Char 0) (Char 0) lt)) tt
-  | inr le ↦ subst HasAction (sym (get_or-eq_default (replicate 8 (Char 0)) (Char 0) {n = column} le)) tt
-]
+undefined-has column = search (rules, cases_lt, get_or-replicate, get_or-eq_default)
 
 -- each action that a keymap has is one of the table
 cell-known : (m : MapValue) → IsMap m → (slot column : ℕ) → HasAction (cell_at m slot column)
-cell-known m known slot column = elim (cases_lt slot (length m.entries)) [
-  | inl lt ↦
-      let entry : IsEntry (entry_at m slot) = All-get_or IsEntry m.entries slot undefined lt known.entries in
-      cell-at (entry_at m slot).cells column entry.eight entry.cells
-  | inr le ↦
-      subst (λ (e : KeyEntry). HasAction (slice_index_or e.cells column (Char 0)))
-      (sym (get_or-eq_default m.entries undefined {n = slot} le)) (undefined-has column)
-]
+cell-known m known slot column =
+    search (rules, cases_lt, All-get_or, cell-at, get_or-eq_default, undefined-has)
 
 -- what a key looks up, by what picks the cell
 look-picked : (m : MapValue) (t : State) (k : ℕ) → look_in (alone m) t k ≡ look_selected m (selection_of t) k
@@ -127,21 +113,9 @@ untapped-more : (m : MapValue) (a : Allows) (i : ℕ) (s : State) (path : List M
     → IsUntapped m a i s path
     → IsMove (under_by a (Some i) m) (state_from (under_by a (Some i) m) s path) move
     → IsUntapped m a i s (move ∷ path) ⊎ IsTapped m a i s (move ∷ path)
-untapped-more m a i s path (Hold k j) (made, same) is =
-    inl (
-      (subst (λ t. IsMove (alone_by a m) t (Hold k j)) (sym same) is, made),
-      ap (λ t. moved (alone_by a m) t (Hold k j)) same,
-    )
-untapped-more m a i s path (Turn k l) (made, same) is =
-    inl (
-      (subst (λ t. IsMove (alone_by a m) t (Turn k l)) (sym same) is, made),
-      ap (λ t. moved (alone_by a m) t (Turn k l)) same,
-    )
-untapped-more m a i s path (LetGo k j) (made, same) is =
-    inl (
-      (subst (λ t. IsMove (alone_by a m) t (LetGo k j)) (sym same) is, made),
-      ap (λ t. moved (alone_by a m) t (LetGo k j)) same,
-    )
+untapped-more m a i s path (Hold k j) (made, same) is = search rules
+untapped-more m a i s path (Turn k l) (made, same) is = search rules
+untapped-more m a i s path (LetGo k j) (made, same) is = search rules
 untapped-more m a i s path Exchange (made, same) is = absurd (true≢false (sym is.1))
 untapped-more m a i s path (Tap k) (made, same) (j, minded, can, (lt, idle, (seen, may)), none) =
     let e : i ≡ j = same_Some i j minded in
@@ -213,10 +187,8 @@ pub tapped-or-not : (m : MapValue) (a : Allows) (i : ℕ) (s : State) (path : Li
     → IsPathFrom (under_by a (Some i) m) s path
     → IsUntapped m a i s path ⊎ IsTapped m a i s path
 tapped-or-not m a i s [] is = inl (tt, refl)
-tapped-or-not m a i s (move ∷ path) is = elim (tapped-or-not m a i s path is.1) [
-  | inl less ↦ untapped-more m a i s path move less is.0
-  | inr has ↦ inr (tapped-more m a i s path move has is.0)
-]
+tapped-or-not m a i s (move ∷ path) is =
+    search (rules, untapped-more, tapped-more, tapped-or-not m a i s path is.1)
 
 -- the moves behind a tap
 pending-path : (m : MapValue) (a : Allows) (i : ℕ) (s : State) (path : List Move) → IsPathFrom (alone_by a m) s path
@@ -224,16 +196,12 @@ pending-path : (m : MapValue) (a : Allows) (i : ℕ) (s : State) (path : List Mo
     × (state_from (under_by a (Some i) m) (with_accent s) path ≡ with_accent (state_from (alone_by a m) s path))
 pending-path m a i s [] is = (tt, refl)
 pending-path m a i s (move ∷ path) is =
-    let (made, same) = pending-path m a i s path is.1 in
-    let (can, to) = plain-pending m a i (state_from (alone_by a m) s path) move is.0 in (
-      (subst (λ t. IsMove (under_by a (Some i) m) t move) (sym same) can, made),
-      ap (λ t. moved (under_by a (Some i) m) t move) same ∙ to,
-    )
+    search (rules, plain-pending, pending-path m a i s path is.1)
 
 -- ---- from places to ways
 
 -- a way to the state and a press of the key there, but for the accent
-pub record WayTo (m : MapValue) (a : Allows) (acc : Option ℕ) (s : State) (c : ℕ) (path : List Move) (t : State)
+pub record WayTo (m : MapValue) (a : Allows) (acc : Option ℕ) (s : State) (c : Target) (path : List Move) (t : State)
     (k : ℕ) : Type 0
   where
     pub way : Way
@@ -247,13 +215,13 @@ pub record WayTo (m : MapValue) (a : Allows) (acc : Option ℕ) (s : State) (c :
 without-same : (t : State) → t.is_pending ≡ false → without_accent t ≡ t
 without-same t off = same_states (without_accent t) t (λ i. refl) (λ l. refl) refl (sym off)
 
-pub way-to : (m : MapValue) (a : Allows) (acc : Option ℕ) (s : State) (c : ℕ) (path : List Move) (t : State) (k : ℕ)
-    (y : Symbol) → s.is_pending ≡ false → IsPathFrom (under_by a acc m) s path
+pub way-to : (m : MapValue) (a : Allows) (acc : Option ℕ) (s : State) (c : Target) (path : List Move) (t : State)
+    (k : ℕ) (y : Symbol) → s.is_pending ≡ false → IsPathFrom (under_by a acc m) s path
     → state_from (under_by a acc m) s path ≡ t → t.is_pending ≡ is_some acc → ComesHome (alone m) (without_accent t)
-    → k < key_count → IsIdle t k → look_selected m (selection_of t) k ≡ cell_of y → MakesBy m acc c y
-    → is_held t Meta ≡ false → a (selection_of t) k (cell_of y) ≡ true
+    → k < key_count → IsIdle t k → look_selected m (selection_of t) k ≡ cell_of y → MakesBy m acc c.character y
+    → IsLast c.last k → is_held t Meta ≡ false → a (selection_of t) k (cell_of y) ≡ true
     → WayTo m a acc s c path t k
-way-to m a None s c path t k y off goes leads pending home lt idle seen makes meta may =
+way-to m a None s c path t k y off goes leads pending home lt idle seen makes last meta may =
     let there : without_accent t ≡ state_from (alone_by a m) s path = without-same t pending ∙ sym leads in
     let look : look_in (alone_by a m) t k ≡ cell_of y = look-picked m t k ∙ seen in
     record {
@@ -263,6 +231,7 @@ way-to m a None s c path t k y off goes leads pending home lt idle seen makes me
         goes = goes;
         tapped = y;
         makes = makes;
+        last = last;
         tap = subst (λ z. IsAllowedTap (alone_by a m) z true y k) (sym leads)
             ((lt, idle, look, (λ e. meta)), subst (λ x. a (selection_of t) k x ≡ true) (sym look) may);
         home = subst (λ z. ComesHome (alone m) z) there home;
@@ -273,7 +242,7 @@ way-to m a None s c path t k y off goes leads pending home lt idle seen makes me
       events = sym (append-nil (Press k ∷ events_along path));
       there = there;
     }
-way-to m a (Some i) s c path t k y off goes leads pending home lt idle seen makes meta may =
+way-to m a (Some i) s c path t k y off goes leads pending home lt idle seen makes last meta may =
     elim (tapped-or-not m a i s path goes) [
       | inl (made, same) ↦
           absurd (true≢false (sym pending ∙ ap (λ z. z.is_pending) (sym (same ∙ leads))
@@ -281,15 +250,15 @@ way-to m a (Some i) s c path t k y off goes leads pending home lt idle seen make
       | inr x ↦
           let d : DeadTap = x.dead in
           let first : State = state_from (alone_by a m) s d.moves in
-          let last : State = state_from (alone_by a m) first x.later in
-          let ends : with_accent last ≡ t = x.ends ∙ leads in
-          let none : last.is_pending ≡ false =
+          let end : State = state_from (alone_by a m) first x.later in
+          let ends : with_accent end ≡ t = x.ends ∙ leads in
+          let none : end.is_pending ≡ false =
           none-along (alone_by a m) refl first x.later x.goes
           (none-along (alone_by a m) refl s d.moves x.begun.1 off) in
-          let there : without_accent t ≡ last =
-          ap (λ z. without_accent z) (sym ends) ∙ without-same last none in
-          let look : look_in (alone_by a m) last k ≡ cell_of y =
-          look-picked m last k ∙ subst (λ z. look_selected m (selection_of z) k ≡ cell_of y) (sym ends) seen in
+          let there : without_accent t ≡ end =
+          ap (λ z. without_accent z) (sym ends) ∙ without-same end none in
+          let look : look_in (alone_by a m) end k ≡ cell_of y =
+          look-picked m end k ∙ subst (λ z. look_selected m (selection_of z) k ≡ cell_of y) (sym ends) seen in
           let count : presses_along path ≡ presses_along x.later + (presses_along d.moves + 1) = x.count in
           record {
             way = record { dead = Some d; moves = x.later; key = k };
@@ -297,7 +266,8 @@ way-to m a (Some i) s c path t k y off goes leads pending home lt idle seen make
               begun = x.begun;
               goes = x.goes;
               tapped = y;
-              makes = subst (λ n. composed_of m n y ≡ Some c) (sym x.accent) makes.1;
+              makes = subst (λ n. composed_of m n y ≡ Some c.character) (sym x.accent) makes.1;
+              last = last;
               tap = (
                 (
                   lt,
@@ -305,7 +275,7 @@ way-to m a (Some i) s c path t k y off goes leads pending home lt idle seen make
                   look,
                   (λ e. subst (λ z. is_held z Meta ≡ false) (sym ends) meta),
                 ),
-                subst (λ x. a (selection_of last) k x ≡ true) (sym look)
+                subst (λ x. a (selection_of end) k x ≡ true) (sym look)
                     (subst (λ z. a (selection_of z) k (cell_of y) ≡ true) (sym ends) may),
               );
               home = subst (λ z. ComesHome (alone m) z) there home;
@@ -351,7 +321,7 @@ dead-path m a s d off (can, goes, ((lt, idle, seen, meta), may)) =
       ap (λ z. with_accent z) same,
     )
 
-way-path : (m : MapValue) (a : Allows) (s : State) (c : ℕ) (dead : Option DeadTap) (moves : List Move) (key : ℕ)
+way-path : (m : MapValue) (a : Allows) (s : State) (c : Target) (dead : Option DeadTap) (moves : List Move) (key : ℕ)
     → s.is_pending ≡ false → IsWayBy a m s c (record { dead = dead; moves = moves; key = key })
     → HasPath m a (accent_in dead) s (record { dead = dead; moves = moves; key = key })
 way-path m a s c None moves key off is = (moves, is.goes, refl, omega arith)
@@ -368,7 +338,7 @@ way-path m a s c (Some d) moves key off is =
       omega (arith, count),
     )
 
-pub has-path : (m : MapValue) (a : Allows) (acc : Option ℕ) (s : State) (c : ℕ) (y : Way) → s.is_pending ≡ false
+pub has-path : (m : MapValue) (a : Allows) (acc : Option ℕ) (s : State) (c : Target) (y : Way) → s.is_pending ≡ false
     → HasAccent acc y → IsWayBy a m s c y → HasPath m a acc s y
 has-path m a acc s c y off e is =
     subst (λ o. HasPath m a o s y) e (way-path m a s c y.dead y.moves y.key off is)
@@ -382,22 +352,15 @@ or-true false = refl
 -- a key that is taken is allowed where it looks up what is tapped
 allowed-made : (b : Board) (w : Class) (sp : Spared) (z : Selection) (k : ℕ) (y : Symbol) → takes_key b w sp k ≡ true
     → allows_but b w sp z k (cell_of y) ≡ true
-allowed-made b w sp z k (symbol.Character c) taken =
-    let parts = and_parts (presses_key b w k) (not (is_spared sp k)) taken in
-    rw (parts.0, parts.1, or-true (not w.keeps_locks)) refl
-allowed-made b w sp z k (symbol.DeadKey i) taken =
-    let parts = and_parts (presses_key b w k) (not (is_spared sp k)) taken in
-    rw (parts.0, parts.1, or-true (not w.keeps_locks)) refl
+allowed-made b w sp z k (symbol.Character c) taken = search (rules, and_parts, or-true)
+allowed-made b w sp z k (symbol.DeadKey i) taken = search (rules, and_parts, or-true)
 
 pub taken-allowed : (b : Board) (w : Class) (sp : Spared) (z : Selection) (k : ℕ) (x : Cell)
     → allows_but b w sp z k x ≡ true → takes_key b w sp k ≡ true
-taken-allowed b w sp z k x may =
-    let parts = and_parts (allows_in b w z k x) (not (is_spared sp k)) may in
-    let key = and_parts (presses_key b w k) (not w.keeps_locks || not (is_lock x)) parts.0 in
-    rw (key.0, parts.1) refl
+taken-allowed b w sp z k x may = search (rules, and_parts)
 
 -- what the place of an ending tells is a way
-pub place-found : (b : Board) (m : MapValue) (o : Course) (c : ℕ) (e : Ending) (r : Reached) (routes : Routes)
+pub place-found : (b : Board) (m : MapValue) (o : Course) (c : Target) (e : Ending) (r : Reached) (routes : Routes)
     (at : KeyAt) (x : Entry) (f : Found) → IsCourseReached b m o r → IsEnding b m o c e → AllLeadHome (alone m) routes
     → slice_get r.met.entries at.place ≡ Some x → EndsAt m e routes (state_of x.0) at.key
     → IsFoundAt r.met.entries at f
@@ -410,14 +373,14 @@ place-found b m o c e r routes at x f got ends home here (gives, route) found =
     let also = pressed-also b o.class o.spared got.presses m got.known got.are in
     let (y, seen, makes) = gives.given.1 in
     let same : found.entry ≡ x = same_Some found.entry x (sym found.there ∙ here) in
+    let may = ends.taken at.key gives.below gives.taken in
     let w : WayTo m a o.accent s c path t at.key =
     way-to m a o.accent s c path t at.key y got.source.1 (path-also m (is_pressed got.presses) a o.accent also s path is)
     (sym (state-by m (is_pressed got.presses) a o.accent s path) ∙ to)
     (gives.pending ∙ ap is_some ends.same) (has-home (alone m) routes (without_accent t) home route) gives.below
     gives.given.0 seen
     (subst (λ n. MakesBy m o.accent n y) ends.types (subst (λ i. MakesBy m i e.character y) ends.same makes))
-    gives.meta
-    (allowed-made b o.class o.spared (selection_of t) at.key y (ends.taken at.key gives.below gives.taken)) in
+    may.1 gives.meta (allowed-made b o.class o.spared (selection_of t) at.key y may.0) in
     let state : state_of f.held ≡ without_accent t =
     found.state ∙ ap (λ (z : Entry). without_accent (state_of z.0)) same in
     record {
@@ -458,31 +421,16 @@ without-pend (Some i) t off = without-same t off
 route-there : (m : MapValue) (s t : State) (v : Explored) → IsExploredFrom m s v → v.is_complete ≡ true
     → (path : List Move) → IsPathFrom (alone m) s path → state_from (alone m) s path ≡ t → ComesHome (alone m) t
     → HasRoute v.routes.entries t
-route-there m s t v (x, map, from) complete path is to home =
-    let (searched, settled) =
-    subst (λ n. Searched (alone n) (origin_in v ∷ []) v.met.entries (length v.met.entries) (length v.met.entries)
-    × AreSettled (alone n) v.met.entries v.routes.entries) map (x.whole complete) in
-    let (j, y, at, same) =
-    all-met (alone m) v.met.entries searched path (subst (λ z. IsPathFrom (alone m) z path) (sym from) is) in
-    let there : state_of y.0 ≡ t = same ∙ ap (λ z. state_from (alone m) z path) from ∙ to in
-    subst (λ z. HasRoute v.routes.entries z) there
-    (comes-route m v.met.entries v.routes.entries searched settled j y at
-    (subst (λ z. ComesHome (alone m) z) (sym there) home))
+route-there m s t v (x, map, from) complete path is to home = search (rules, all-met, comes-route)
 
 -- what the key of a way looks up types the character
-pub way-made : (a : Allows) (m : MapValue) (s : State) (c : ℕ) (acc : Option ℕ) (y : Way) → HasAccent acc y
+pub way-made : (a : Allows) (m : MapValue) (s : State) (c : Target) (acc : Option ℕ) (y : Way) → HasAccent acc y
     → IsWayBy a m s c y
-    → IsMade m acc c (look_selected m (selection_of (state_at_end (alone_by a m) s y)) y.key)
-way-made a m s c acc y has is =
-    let ((lt, idle, look, meta), may) = is.tap in (
-      is.tapped,
-      sym (look-picked m (state_at_end (alone_by a m) s y) y.key) ∙ look,
-      subst (λ i. MakesBy m i c is.tapped) has
-          (makes-by m y.dead (alone_by a m) s c is.tapped refl is.begun is.makes),
-    )
+    → IsMade m acc c.character (look_selected m (selection_of (state_at_end (alone_by a m) s y)) y.key)
+way-made a m s c acc y has is = search (rules, look-picked, makes-by)
 
 -- the end of a way is where an ending is looked for
-pub way-ends : (b : Board) (m : MapValue) (o : Course) (c : ℕ) (e : Ending) (r : Reached) (v : Explored) (y : Way)
+pub way-ends : (b : Board) (m : MapValue) (o : Course) (c : Target) (e : Ending) (r : Reached) (v : Explored) (y : Way)
     → (got : IsCourseReached b m o r) → IsEnding b m o c e → IsExploredFrom m (state_of o.from) v → v.is_complete ≡ true
     → HasAccent o.accent y → IsWayBy (allows_but b o.class o.spared) m (state_of o.from) c y
     → (path : List Move) × IsPathFrom (under_by (is_pressed got.presses) o.accent m) (state_of o.from) path
@@ -500,14 +448,14 @@ way-ends b m o c e r v y got ends explored complete acc is =
     let ((lt, idle, look, meta), may) = is.tap in
     let seen : look_selected m (selection_of end) y.key ≡ cell_of is.tapped =
     sym (look-picked m end y.key) ∙ look in
-    let makes : MakesBy m o.accent c is.tapped =
-    subst (λ i. MakesBy m i c is.tapped) acc
-    (makes-by m y.dead (alone_by a m) s c is.tapped refl is.begun is.makes) in
+    let makes : MakesBy m o.accent c.character is.tapped =
+    subst (λ i. MakesBy m i c.character is.tapped) acc
+    (makes-by m y.dead (alone_by a m) s c.character is.tapped refl is.begun is.makes) in
     let taken : takes_key b o.class o.spared y.key ≡ true =
     taken-allowed b o.class o.spared (selection_of end) y.key (look_in (alone_by a m) end y.key) may in
     let has : slice_index_or e.keys y.key false ≡ true = elim (cases_Bool (slice_index_or e.keys y.key false)) [
       | inl t ↦ t
-      | inr f ↦ absurd (ends.other y.key lt f taken (selection_of end) (is.tapped, seen, makes))
+      | inr f ↦ absurd (ends.other y.key lt f (taken, is.last) (selection_of end) (is.tapped, seen, makes))
     ] in
     let (way, leads, at_end) =
     way-leads m s c y.dead y.moves y.key (way-also m a all_allowed (λ t k lt may. refl) s c y is) in

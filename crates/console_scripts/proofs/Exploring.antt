@@ -2,9 +2,9 @@
 use Rattle.console_scripts.proofs.Common.{◌≡◌, ◌⊎◌, ℕ, true, List, [], ◌∷◌, ◌++◌, length, slice_get, Some}
 use Rattle.console_scripts.proofs.Common.{refl, ap, subst, sym, ◌∙◌, inl, inr, reverse, rules}
 use Rattle.console_scripts.proofs.Common.{cases_Bool, Held, MapValue, Event, Move, Explored}
-use Rattle.console_scripts.proofs.Common.{Tap, Under, alone, State, start, state_after, IsPathFrom, state_from}
-use Rattle.console_scripts.proofs.Common.{events_along, ComesHome, IsTapOf, CanTap}
-use Rattle.console_scripts.proofs.Common.{map_of_explored, origin_in, IsExplored, CanReturn, HasTap, LetsGo}
+use Rattle.console_scripts.proofs.Common.{Under, alone, State, start, state_after, IsPathFrom, state_from}
+use Rattle.console_scripts.proofs.Common.{events_along, ComesHome}
+use Rattle.console_scripts.proofs.Common.{map_of_explored, origin_in, IsExplored, CanReturn, LetsGo}
 use Rattle.console_scripts.proofs.Common.{LeadsHome, Routes, AllLeadHome, HasRoute}
 use Rattle.console_scripts.proofs.Common.{AreSettled, freed, state_of, Entry, Entries, IsReached, Searched}
 use Rattle.console_scripts.proofs.Common.{is-nothing, are_same, home-start, all-met, path-first, reached-one, IsHome}
@@ -48,24 +48,12 @@ leaves-freed u routes s h now next all go has = record {
 pub leaves-home : (m : MapValue) (s : State) (h now : List Event) (moves : List Move) (next : State) → IsOrigin s
     → LeadsHome (alone m) s moves → now ≡ events_along (reverse moves) ++ h → next ≡ start
     → Leaves (alone m) s h now next
-leaves-home m s h now moves next origin home e is = record {
-  back = reverse moves;
-  returns = home.0;
-  leads =
-      home-start (state_from (alone m) s (reverse moves)) home.1
-      (path-first m s (reverse moves) home.0 ∙ origin.0)
-      (none-along (alone m) refl s (reverse moves) home.0 origin.1) ∙ sym is;
-  events = e;
-  free = λ i. ap (λ t. t.holder i) is;
-  home = subst (λ t. ComesHome (alone m) t) (sym is) ([], tt, ((λ i. refl), (λ l. refl)));
-}
+leaves-home m s h now moves next origin home e is =
+    search (rules, home-start, path-first, none-along)
 
 -- a state that can return is an origin
 pub returns-origin : (m : MapValue) (s : State) → CanReturn m s → IsOrigin s
-returns-origin m s st = (
-  ap (λ t. t.is_second) (sym st.leads) ∙ path-first m start st.path st.is,
-  ap (λ t. t.is_pending) (sym st.leads) ∙ none-along (alone m) refl start st.path st.is refl,
-)
+returns-origin m s st = search (rules, path-first, none-along)
 
 pub start-returns : (m : MapValue) → CanReturn m start
 start-returns m = search rules
@@ -124,16 +112,6 @@ so-met e x complete st P path is comes so =
     comes-route m es e.routes.entries searched settled j y at (subst (λ z. ComesHome u z) (sym same) comes) in
     (j, y, at, route, subst P (sym same) so)
 
--- what can be tapped at all can be tapped in a complete exploration
-pub can-tap-met : (e : Explored) → IsExplored e → e.is_complete ≡ true → CanReturn (map_of_explored e) (origin_in e)
-    → (t : Tap) → CanTap (map_of_explored e) t.is_plain t.symbol
-    → HasTap e t
-can-tap-met e x complete st t (path, is, comes, (k, tap)) =
-    let u : Under = alone (map_of_explored e) in
-    let (j, y, at, route, there) =
-    so-met e x complete st (λ s. IsTapOf u s t.is_plain t.symbol k) path is comes tap in
-    (j, k, (y, at, route, there))
-
 -- What is so at a place from which a route leads home is so where moves lead to and from which more lead home.
 pub so-can : (e : Explored) → IsExplored e → CanReturn (map_of_explored e) (origin_in e) → (P : State → Type 0)
     → (j : ℕ) (y : Entry) → slice_get e.met.entries j ≡ Some y → HasRoute e.routes.entries (state_of y.0)
@@ -153,11 +131,3 @@ so-can e x st P j y at has so =
       subst (λ s. ComesHome u s) (sym there) (has-home u e.routes.entries (state_of y.0) x.home has),
       subst P (sym there) so,
     )
-
--- what an exploration finds can be tapped
-pub tap-can : (e : Explored) → IsExplored e → CanReturn (map_of_explored e) (origin_in e) → (t : Tap) → HasTap e t
-    → CanTap (map_of_explored e) t.is_plain t.symbol
-tap-can e x st t (j, k, (y, at, has, tap)) =
-    let (path, is, comes, there) =
-    so-can e x st (λ s. IsTapOf (alone (map_of_explored e)) s t.is_plain t.symbol k) j y at has tap in
-    (path, is, comes, (k, there))

@@ -1,14 +1,14 @@
 -- The states that few presses lead to, and that the upper half is looked at only where it is live.
+use Rattle.std.proofs.Common.{rules}
 use Rattle.console_scripts.specs.Types.{Tap}
-use Rattle.console_scripts.proofs.Common.{none-some}
 use Rattle.console_scripts.proofs.Common.{◌≡◌, ◌<◌, ◌+◌, ◌∷◌, [], ◌∙◌, ℕ, Bool, true, false, List, None, refl, ap, sym}
 use Rattle.console_scripts.proofs.Common.{subst, inl, inr, cases_Bool, true≢false, arith, ◌⊎◌, MapValue, State, Move}
-use Rattle.console_scripts.proofs.Common.{Cell}
-use Rattle.console_scripts.proofs.Common.{Hold, Turn, LetGo, Exchange, alone, IsPath, state_after, IsMove}
+use Rattle.console_scripts.proofs.Common.{Hold, Turn, LetGo, Exchange, alone, IsPath, state_after}
 use Rattle.console_scripts.proofs.Common.{look_in, look_selected, selection_of, key_count, is_held, IsHome, Meta}
-use Rattle.console_scripts.proofs.Common.{AltShift, Alt, ComesHome, moved, one_map}
-use Rattle.console_scripts.proofs.Common.{cell_at, slot_of, Step, IsStep, state_of}
+use Rattle.console_scripts.proofs.Common.{AltShift, Alt, ComesHome, one_map}
+use Rattle.console_scripts.proofs.Common.{cell_at, slot_of, none-some, Cell}
 use Rattle.console_states.specs.Returning.{IsUnlocked}
+use Rattle.console_states.specs.Searching.{IsLedTo}
 use Rattle.std.specs.Prelude.{◌*◌}
 use Rattle.keymap_core.specs.Bearers.{IsUpperLive, StandsIn}
 use Rattle.keymap_core.specs.Borne.{is_upper_live}
@@ -18,16 +18,8 @@ use Rattle.console_states.specs.Sights.{column_in}
 use Rattle.console_states.specs.declared.selection.Selection.{Selection}
 use Rattle.console_scripts.proofs.Aiming.{lets-go}
 use Rattle.console_scripts.proofs.Marking.{looked-place}
-use Rattle.console_scripts.specs.Inner.Places.{ArePlaces, CanLookUp, Gains, IsLedTo, IsLookedUp, IsMarked, IsTapOn}
+use Rattle.console_scripts.specs.Inner.Places.{ArePlaces, CanLookUp, Gains, IsLookedUp, IsMarked}
 use Rattle.console_scripts.specs.Inner.Places.{cell_of_place, gives_cell, live_count}
-
--- one step more
-pub led-on : (m : MapValue) (s : State) (n : ℕ) (x : Step) → IsLedTo m s → IsStep (alone m) s n x → IsLedTo m (state_of x.to)
-led-on m s n x (path, is, leads) (move, next, count) = (
-  x.by ∷ path,
-  (subst (λ t. IsMove (alone m) t x.by) (sym leads) move, is),
-  ap (λ t. moved (alone m) t x.by) leads ∙ sym next,
-)
 
 -- where no lock is on, letting go of all leads home
 pub comes-free : (m : MapValue) (s : State) → IsUnlocked s → ComesHome (alone m) s
@@ -48,9 +40,7 @@ own-slot m y k x off e =
 looks-own : (m : MapValue) (s : State) (k : ℕ) (x : Cell) → s.holder AltShift ≡ None → s.is_locked Alt ≡ false
     → look_in (alone m) s k ≡ x
     → StandsIn m k x
-looks-own m s k x held locked e =
-    own-slot m (selection_of s) k x (upper-off s held locked)
-    (sym (ap (λ n. look_selected n (selection_of s) k) (one_map m s.is_second)) ∙ e)
+looks-own m s k x held locked e = search (rules, own-slot, upper-off, one_map)
 
 -- While it isn't live, no path turns it on.
 never-upper : (m : MapValue) → (IsUpperLive m → ⊥) → (path : List Move) → IsPath (alone m) path
@@ -93,12 +83,12 @@ looked-live m plain p (path, is, comes, (k, (below, idle, (place, gives), off)))
 -- plain taps look them up, and nothing live is left of which something comes: so these are all that taps look up
 pub few-all : (m : MapValue) (plain : Bool) (marks : List Bool) → ((p : ℕ) → IsMarked marks p → CanLookUp m true p)
     → ((p : ℕ) → p < live_count m → gives_cell (cell_of_place m p) ≡ true → IsMarked marks p)
-    → ArePlaces m plain marks
+    → ArePlaces m plain true marks
 few-all m plain marks only all p = (
   (λ has.
       let (path, is, comes, (k, (below, idle, shows, off))) = only p has in
       (path, is, comes, (k, (below, idle, shows, (λ e. off refl))))),
-  λ can.
+  λ done can.
       let (path, is, comes, (k, (below, idle, (place, gives), off))) = can in
       let y = selection_of (state_after (alone m) path) in
       all p (looked-live m plain p can)
@@ -106,18 +96,8 @@ few-all m plain marks only all p = (
 )
 
 -- what is looked up in a state that moves lead to, where no lock is on and meta isn't held
-pub marked-plainly : (m : MapValue) (s : State) (old now : List Bool) → IsLedTo m s → IsUnlocked s
+pub marked-plainly : (m : MapValue) (s : State) (old now : List Bool) → IsLedTo (alone m) s → IsUnlocked s
     → is_held s Meta ≡ false
     → Gains (IsMarked old) (IsMarked now) (λ p. (k : ℕ) × (k < key_count) × IsLookedUp m s k p)
     → (p : ℕ) → IsMarked now p → IsMarked old p ⊎ CanLookUp m true p
-marked-plainly m s old now (path, is, leads) off meta more p has = elim ((more p).0 has) [
-  | inl before ↦ inl before
-  | inr there ↦
-      let (k, lt, (idle, shows)) = there in
-      inr (
-        path,
-        is,
-        subst (λ t. ComesHome (alone m) t) (sym leads) (comes-free m s off),
-        (k, subst (λ t. IsTapOn m t true p k) (sym leads) (lt, idle, shows, (λ e. meta))),
-      )
-]
+marked-plainly m s old now (path, is, leads) off meta more p has = search (rules, comes-free)

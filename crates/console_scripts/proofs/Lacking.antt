@@ -1,6 +1,7 @@
 -- The keys that have a symbol in some cell: where neither of its slots has it, a key looks it up by no selection.
-use Rattle.console_scripts.proofs.Common.{◌≡◌, ℕ, ◌+◌, ◌<◌, Bool, true, false, List, length, get_or, subst, sym, ◌∙◌}
-use Rattle.console_scripts.proofs.Common.{arith, below_more, true≢false, MapValue, slot_of, cell_of, Symbol, cell_at}
+use Rattle.std.proofs.Common.{rules}
+use Rattle.console_scripts.proofs.Common.{◌≡◌, ℕ, ◌+◌, ◌<◌, Bool, true, false, List, length, get_or, subst}
+use Rattle.console_scripts.proofs.Common.{below_more, MapValue, slot_of, cell_of, Symbol, cell_at}
 use Rattle.console_scripts.proofs.Common.{LacksSymbol}
 use Rattle.std.specs.Prelude.{set}
 use Rattle.std.proofs.lemmas.List.{get_or-set_same, get_or-set_other}
@@ -23,25 +24,18 @@ lacks m symbol k a b e f low high y = in-half m symbol k a b e f low high y.uppe
 pub marked : (P : ℕ → Type 0) (marks : List Bool) (n : ℕ) → n < length marks
     → ((k : ℕ) → k < n → get_or marks k false ≡ false → P k)
     → (k : ℕ) → k < n + 1 → get_or (set marks n true) k false ≡ false → P k
-marked P marks n within before =
-    below_more _ _
-    (λ k lt no. before k lt (sym (get_or-set_other marks n k true false (λ e. omega (arith, lt, e))) ∙ no))
-    (λ no. absurd (true≢false (sym (get_or-set_same marks n true false within) ∙ no)))
+marked P marks n within before = search (rules, below_more, get_or-set_other, get_or-set_same)
 
 -- What is told of each number below the place, and of the place, is told of each up to there.
 pub told-more : (P : ℕ → Type 0) (t : Bool) (marks : List Bool) (n : ℕ) (v : Bool) → n < length marks → (v ≡ t → P n)
     → ((k : ℕ) → k < n → get_or marks k false ≡ t → P k)
     → (k : ℕ) → k < n + 1 → get_or (set marks n v) k false ≡ t → P k
 told-more P t marks n v within here before =
-    below_more _ _
-    (λ k lt is. before k lt (sym (get_or-set_other marks n k v false (λ e. omega (arith, lt, e))) ∙ is))
-    (λ is. here (sym (get_or-set_same marks n v false within) ∙ is))
+    search (rules, below_more, get_or-set_other, get_or-set_same)
 
 -- where none below the place is marked, nor it, none up to there is
 pub told-none : (marks : List Bool) (n : ℕ) (v : Bool) → n < length marks → v ≡ false
     → ((k : ℕ) → k < n → get_or marks k false ≡ false)
     → (k : ℕ) → k < n + 1 → get_or (set marks n v) k false ≡ false
 told-none marks n v within here before =
-    below_more _ _
-    (λ k lt. get_or-set_other marks n k v false (λ e. omega (arith, lt, e)) ∙ before k lt)
-    (get_or-set_same marks n v false within ∙ here)
+    search (rules, below_more, get_or-set_other, get_or-set_same)

@@ -12,7 +12,7 @@ use Rattle.console_scripts.proofs.Common.{Explored, between, resolved, accent_pe
 use Rattle.console_scripts.proofs.Common.{resolve_press, ReleasedKey}
 use Rattle.console_scripts.proofs.Common.{Under, alone, State, start, IsIdle, look_in, IsMove, moved, IsPathFrom}
 use Rattle.console_scripts.proofs.Common.{state_from, events_of_move, events_along, with_holder}
-use Rattle.console_scripts.proofs.Common.{map_of_explored, origin_in, IsExplored, IsTapAt, dead_tap, LeadsHome}
+use Rattle.console_scripts.proofs.Common.{map_of_explored, origin_in, IsExplored, IsTapAt, LeadsHome}
 use Rattle.console_scripts.proofs.Common.{state_of, Entry, IsTrail, IsReached, IsAt, Leads, IsDeadFor}
 use Rattle.console_scripts.proofs.Common.{Exact, Stands, rules, KeyAt, LeadsToSee, LeadsOn}
 use Rattle.console_scripts.proofs.Common.{home-start, path-first, reached-one, same_states}
@@ -100,12 +100,7 @@ home-leads m s moves origin home old now is h a =
 -- the first map is in force in each state that was met, and no accent is pending
 pub met-first : (e : Explored) → IsExplored e → (place : ℕ) (y : Entry) → slice_get e.met.entries place ≡ Some y
     → IsOrigin (state_of y.0)
-met-first e x place y at =
-    let m : MapValue = map_of_explored e in
-    let r : IsReached (alone m) (origin_in e) e.met.entries place y = reached-one x.searched place y at in (
-      ap (λ z. z.is_second) (sym r.3) ∙ path-first m (origin_in e) r.0 r.2 ∙ x.origin.0,
-      ap (λ z. z.is_pending) (sym r.3) ∙ none-along (alone m) refl (origin_in e) r.0 r.2 x.origin.1,
-    )
+met-first e x place y at = search (rules, reached-one, path-first, none-along)
 
 -- ---- taps
 
@@ -191,7 +186,7 @@ sees-at e (sight.Locks slot caps num) m s t old now none f h a = (f h a, (λ p c
 -- what is aimed at behind a dead key is a pair of its accent
 pub sees-behind : (e : Explored) (x : Sight) (d : KeyAt) (m : MapValue) (s t : State) (old now : List Event)
     → IsDeadFor e x (Some d)
-    → ((accent : ℕ) → IsTapAt e (dead_tap accent) d.place d.key → LeadsComposing m accent s t old now)
+    → ((accent : ℕ) → IsTapAt e (symbol.DeadKey accent) d.place d.key → LeadsComposing m accent s t old now)
     → LeadsToSee m x s t old now
 sees-behind e (sight.Pair accent c) d m s t old now dead f h a =
     let b = f accent dead h a in

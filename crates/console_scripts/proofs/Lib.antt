@@ -9,6 +9,7 @@ pub mod Coursing
 pub mod Entries
 pub mod Exploring
 pub mod FewPlaces
+pub mod KeyWays
 pub mod Known
 pub mod Lacking
 pub mod Leading
@@ -25,6 +26,5 @@ pub mod Taking
 pub mod Tapping
 pub mod Taps
 pub mod Typings
-pub mod Typists
 pub mod Visitable
 pub mod WayLaws

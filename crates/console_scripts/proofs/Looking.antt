@@ -22,6 +22,7 @@ use Rattle.console_scripts.specs.declared.courses.Course.{Course}
 use Rattle.console_scripts.specs.declared.courses.Ending.{Ending}
 use Rattle.console_scripts.specs.declared.courses.Found.{Found}
 use Rattle.console_scripts.specs.declared.courses.Reached.{Reached}
+use Rattle.console_scripts.specs.declared.courses.Target.{Target}
 use Rattle.console_scripts.proofs.Coursing.{place-found, taken-allowed, way-ends, way-made}
 
 -- no key ends a way in the state
@@ -29,7 +30,7 @@ abbrev EndsNone : MapValue → Ending → Explored → State → Type 0
 EndsNone m e v s = (k : ℕ) → EndsAt m e v.routes.entries s k → ⊥
 
 -- each way has as many presses as the first place that ends one
-pub first-nearest : (b : Board) (m : MapValue) (o : Course) (c : ℕ) (e : Ending) (r : Reached) (v : Explored)
+pub first-nearest : (b : Board) (m : MapValue) (o : Course) (c : Target) (e : Ending) (r : Reached) (v : Explored)
     (at : KeyAt) (x : Entry) (y : Way) → IsReached b m o r → IsEnding b m o c e → IsExploredFrom m (state_of o.from) v
     → v.is_complete ≡ true → slice_get r.met.entries at.place ≡ Some x
     → HoldsBelow (λ h. EndsNone m e v (state_of h)) r.met.entries at.place → HasAccent o.accent y
@@ -47,8 +48,8 @@ first-nearest b m o c e r v at x y got ends explored complete here below acc is 
     ]
 
 -- where no place ends one there is none, if all states were met
-pub nowhere-none : (b : Board) (m : MapValue) (o : Course) (c : ℕ) (e : Ending) (r : Reached) (v : Explored) (y : Way)
-    → IsReached b m o r → IsEnding b m o c e → IsExploredFrom m (state_of o.from) v → v.is_complete ≡ true
+pub nowhere-none : (b : Board) (m : MapValue) (o : Course) (c : Target) (e : Ending) (r : Reached) (v : Explored)
+    (y : Way) → IsReached b m o r → IsEnding b m o c e → IsExploredFrom m (state_of o.from) v → v.is_complete ≡ true
     → r.is_complete ≡ true → HoldsBelow (λ h. EndsNone m e v (state_of h)) r.met.entries (length r.met.entries)
     → HasAccent o.accent y → IsWayBy (allows_but b o.class o.spared) m (state_of o.from) c y → ⊥
 nowhere-none b m o c e r v y got ends explored complete all none acc is =
@@ -73,7 +74,7 @@ are-many b m o r v got (x, map, from) t = elim (cases_Bool r.is_complete) [
   | inr some ↦ got.partial some
 ]
 
-pub looked-in : (b : Board) (m : MapValue) (o : Course) (c : ℕ) (e : Ending) (r : Reached) (v : Explored)
+pub looked-in : (b : Board) (m : MapValue) (o : Course) (c : Target) (e : Ending) (r : Reached) (v : Explored)
     (f : Option Found) → IsReached b m o r → IsExploredFrom m (state_of o.from) v → CanReturn m (state_of o.from)
     → IsEnding b m o c e → IsNearestAt m e v.routes.entries r.met.entries f
     → IsLooked (allows_but b o.class o.spared) m (state_of o.from) c (is_none o.accent) (HasAccent o.accent)
@@ -105,17 +106,19 @@ looked-in b m o c e r v (Some f) got explored st ends (o2, look, (at, is, found)
 -- ---- where no key has such a cell
 
 -- there is no way
-lacks-way : (b : Board) (m : MapValue) (o : Course) (c : ℕ) (y : Way) → LackAll b m o c → HasAccent o.accent y
+lacks-way : (b : Board) (m : MapValue) (o : Course) (c : Target) (y : Way) → LackAll b m o c → HasAccent o.accent y
     → IsWayBy (allows_but b o.class o.spared) m (state_of o.from) c y → ⊥
 lacks-way b m o c y lack acc is =
     let a : Allows = allows_but b o.class o.spared in
     let end : State = state_at_end (alone_by a m) (state_of o.from) y in
     let ((lt, idle, look, meta), may) = is.tap in
-    lack y.key lt (taken-allowed b o.class o.spared (selection_of end) y.key (look_in (alone_by a m) end y.key) may)
-    (selection_of end) (way-made a m (state_of o.from) c o.accent y acc is)
+    lack y.key lt (
+      taken-allowed b o.class o.spared (selection_of end) y.key (look_in (alone_by a m) end y.key) may,
+      is.last,
+    ) (selection_of end) (way-made a m (state_of o.from) c o.accent y acc is)
 
-pub looked-nothing : (b : Board) (m : MapValue) (o : Course) (c : ℕ) (routes : Routes) (r : Looked) → LackAll b m o c
-    → r.found ≡ None → r.has_met_all ≡ true
+pub looked-nothing : (b : Board) (m : MapValue) (o : Course) (c : Target) (routes : Routes) (r : Looked)
+    → LackAll b m o c → r.found ≡ None → r.has_met_all ≡ true
     → IsLooked (allows_but b o.class o.spared) m (state_of o.from) c (is_none o.accent) (HasAccent o.accent) routes r
 looked-nothing b m o c routes r lack none all = record {
   found =

@@ -1,8 +1,9 @@
 -- Which cells type a character, and which keys have none that does.
+use Rattle.std.proofs.Common.{rules}
 use Rattle.console_scripts.proofs.Common.{cases_Bool, suc, ◌≡◌, ◌+◌, ◌<◌, ◌==◌, ℕ, Bool, true, false, List, []}
-use Rattle.console_scripts.proofs.Common.{◌∷◌, Option, Some, refl, ap, subst, sym, ◌∙◌, arith, inl, inr}
-use Rattle.console_scripts.proofs.Common.{if◌then◌else◌, length, get_or, none-some, same_Some, own_of, MapValue}
-use Rattle.console_scripts.proofs.Common.{accent_at, cell_at, slot_of, Symbol, composed_by, composed_of}
+use Rattle.console_scripts.proofs.Common.{◌∷◌, Option, Some, subst, arith, inl, inr}
+use Rattle.console_scripts.proofs.Common.{length, get_or, none-some, same_Some, MapValue}
+use Rattle.console_scripts.proofs.Common.{accent_at, cell_at, slot_of, Symbol, composed_of}
 use Rattle.console_core.proofs.Shared.{column_of-lt}
 use Rattle.keymap_core.specs.Accents.{AccentValue, first_result}
 use Rattle.console_scripts.proofs.Taps.{same-dead}
@@ -23,15 +24,8 @@ pub no-maker : (m : MapValue) (i c : ℕ) (a : AccentValue) → accent_at m i �
     → ((n : ℕ) → n < length a.pairs → (get_or a.pairs n (0, 0)).1 ≡ c → ⊥) → (a.own ≡ c → ⊥)
     → (x : Symbol) → composed_of m i x ≡ Some c → ⊥
 no-maker m i c a is pairs own (symbol.Character b) base =
-    let made : (if b == 32 then Some a.own else first_result a.pairs b) ≡ Some c =
-    sym (ap (λ o. composed_by o b) is) ∙ base in
-    elim (cases_Bool (b == 32)) [
-      | inl f ↦ own (same_Some a.own c (rw f at made))
-      | inr f ↦ let (n, lt, at) = first-has a.pairs b c (rw f at made) in pairs n lt at
-    ]
-no-maker m i c a is pairs own (symbol.DeadKey j) base =
-    let q = same-dead i j (own_of (accent_at m i)) c (j == i) refl base in
-    own (same_Some a.own c (sym (ap own_of is) ∙ q.1))
+    search (rules, cases_Bool, same_Some, first-has)
+no-maker m i c a is pairs own (symbol.DeadKey j) base = search (rules, same-dead, same_Some)
 
 -- ---- keys
 

@@ -1,6 +1,7 @@
 -- The places that are marked since taps look them up, key by key and state by state.
+use Rattle.std.proofs.Common.{rules}
 use Rattle.console_scripts.proofs.Common.{◌≡◌, ◌⊎◌, ◌<◌, ◌+◌, ◌++◌, ◌∷◌, [], ℕ, Bool, true, false, List, Some, inl, inr}
-use Rattle.console_scripts.proofs.Common.{slice_get, subst, sym, ◌∙◌, ap, true≢false, Contains, place_last}
+use Rattle.console_scripts.proofs.Common.{slice_get, subst, sym, ◌∙◌, ap, Contains, place_last}
 use Rattle.console_scripts.proofs.Common.{same_Some, length, ◌≤◌, MapValue, Explored, State, Meta}
 use Rattle.console_scripts.proofs.Common.{start, is_held, Entry, map_of_explored, state_of, key_count, HasRoute, arith}
 use Rattle.console_scripts.proofs.Common.{IsExploredFrom, Contains-push_cases, slice_get_within, IsIdle, selection_of}
@@ -14,104 +15,38 @@ use Rattle.console_states.specs.declared.selection.Selection.{Selection}
 use Rattle.console_scripts.proofs.Choosing.{explored-returns}
 use Rattle.console_scripts.proofs.Exploring.{so-can, so-met, start-returns}
 use Rattle.console_scripts.specs.Inner.Places.{ArePlaces, Gains, IsGathered, IsLookedUp, IsMarked, IsSelected}
-use Rattle.console_scripts.specs.Inner.Places.{IsTapOn, IsTapOnAt, IsWithKey, IsWithKeys, Shows, cell_of_place, gives_cell, place_count}
-use Rattle.console_scripts.specs.Inner.Places.{place_in}
+use Rattle.console_scripts.specs.Inner.Places.{IsTapOn, IsTapOnAt, IsWithKey, IsWithKeys, Shows, cell_of_place}
+use Rattle.console_scripts.specs.Inner.Places.{gives_cell, place_count, place_in}
 
 -- ---- more in a set
 
 pub gains-none : {K : Type 0} (A P : K → Type 0) → ((x : K) → P x → ⊥) → Gains A A P
-gains-none A P none x = (
-  (λ a. inl a),
-  λ s. elim s [
-    | inl a ↦ a
-    | inr p ↦ absurd (none x p)
-  ],
-)
+gains-none A P none x = search rules
 
 pub gains-same : {K : Type 0} (A B P Q : K → Type 0) → ((x : K) → P x ↔ Q x) → Gains A B P → Gains A B Q
-gains-same A B P Q same more x = (
-  (λ b. elim ((more x).0 b) [
-    | inl a ↦ inl a
-    | inr p ↦ inr ((same x).0 p)
-  ]),
-  λ s. elim s [
-    | inl a ↦ (more x).1 (inl a)
-    | inr q ↦ (more x).1 (inr ((same x).1 q))
-  ],
-)
+gains-same A B P Q same more x = search rules
 
 pub gains-next : {K : Type 0} (A B C P Q : K → Type 0) → Gains A B P → Gains B C Q → Gains A C (λ x. P x ⊎ Q x)
-gains-next A B C P Q first next x = (
-  (λ c. elim ((next x).0 c) [
-    | inl b ↦ elim ((first x).0 b) [
-      | inl a ↦ inl a
-      | inr p ↦ inr (inl p)
-    ]
-    | inr q ↦ inr (inr q)
-  ]),
-  λ s. elim s [
-    | inl a ↦ (next x).1 (inl ((first x).1 (inl a)))
-    | inr t ↦ elim t [
-      | inl p ↦ (next x).1 (inl ((first x).1 (inr p)))
-      | inr q ↦ (next x).1 (inr q)
-    ]
-  ],
-)
+gains-next A B C P Q first next x = search rules
 
 -- one more step of a loop, whose number is below
 pub gains-more : {K : Type 0} (A B C : K → Type 0) (P : ℕ → K → Type 0) (n : ℕ)
     → Gains A B (λ x. (k : ℕ) × (k < n) × P k x) → Gains B C (P n)
     → Gains A C (λ x. (k : ℕ) × (k < n + 1) × P k x)
-gains-more A B C P n first next =
-    gains-same A C (λ x. ((k : ℕ) × (k < n) × P k x) ⊎ P n x) (λ x. (k : ℕ) × (k < n + 1) × P k x)
-    (λ x. (
-      (λ s. elim s [
-        | inl t ↦ let (k, lt, p) = t in (k, omega (arith, lt), p)
-        | inr p ↦ (n, omega arith, p)
-      ]),
-      λ t. let (k, lt, p) = t in elim (place_last k n lt) [
-        | inl below ↦ inl (k, below, p)
-        | inr f ↦ inr (subst (λ i. P i x) f p)
-      ],
-    ))
-    (gains-next A B C (λ x. (k : ℕ) × (k < n) × P k x) (P n) first next)
+gains-more A B C P n first next = search (rules, gains-same, place_last, gains-next)
 
 -- nothing at first, and the whole in the end
 pub gains-first : {K : Type 0} (A : K → Type 0) (P : ℕ → K → Type 0) → ((x : K) → A x → ⊥)
     → Gains (λ x. ⊥) A (λ x. (k : ℕ) × (k < 0) × P k x)
-gains-first A P lacks x = (
-  (λ a. absurd (lacks x a)),
-  λ s. elim s [
-    | inl none ↦ absurd none
-    | inr t ↦ let lt = t.1 in absurd (omega (arith, lt))
-  ],
-)
+gains-first A P lacks x = search rules
 
 pub gains-whole : {K : Type 0} (A P : K → Type 0) → Gains (λ x. ⊥) A P → (x : K) → A x ↔ P x
-gains-whole A P more x = (
-  (λ a. elim ((more x).0 a) [
-    | inl none ↦ absurd none
-    | inr p ↦ p
-  ]),
-  λ p. (more x).1 (inr p),
-)
+gains-whole A P more x = search rules
 
 -- one more mark
 pub gains-mark : (marks : List Bool) (p : ℕ) → p < length marks
     → Gains (IsMarked marks) (IsMarked (set marks p true)) (λ q. q ≡ p)
-gains-mark marks p lt q = elim (cases_eq q p) [
-  | inl is ↦ (
-    (λ has. inr is),
-    λ s. subst (λ z. IsMarked (set marks p true) z) (sym is) (get_or-set_same marks p true false lt),
-  )
-  | inr other ↦ (
-    (λ has. inl (sym (get_or-set_other marks p q true false other) ∙ has)),
-    λ s. elim s [
-      | inl has ↦ get_or-set_other marks p q true false other ∙ has
-      | inr is ↦ absurd (other is)
-    ],
-  )
-]
+gains-mark marks p lt q = search (rules, cases_eq, get_or-set_same, get_or-set_other)
 
 -- ---- places
 
@@ -138,43 +73,22 @@ looked-place m y k lt =
 pub key-none : (m : MapValue) (s : State) (k : ℕ) (were : Bool) (t : List Bool)
     → gives_cell (look_selected m (selection_of s) k) ≡ false
     → IsWithKey m s k were t t were
-key-none m s k were t none = record {
-  gains = gains-none (IsMarked t) (IsLookedUp m s k) (λ p looks. true≢false (sym looks.1.1 ∙ none));
-  all = λ is. (is, λ p shows. absurd (true≢false (sym shows.1 ∙ none)));
-}
+key-none m s k were t none = search (rules, gains-none)
 
 pub key-known : (m : MapValue) (s : State) (k : ℕ) (were : Bool) (t : List Bool)
     → IsMarked t (place_in m (selection_of s) k)
     → IsWithKey m s k were t t were
-key-known m s k were t marked = record {
-  gains = λ p. (
-    (λ has. inl has),
-    λ o. elim o [
-      | inl has ↦ has
-      | inr looks ↦ subst (IsMarked t) looks.1.0 marked
-    ],
-  );
-  all = λ is. (is, λ p shows. subst (IsMarked t) shows.0 marked);
-}
+key-known m s k were t marked = search rules
 
 pub key-busy : (m : MapValue) (s : State) (k : ℕ) (were : Bool) (t : List Bool) → (IsIdle s k → ⊥)
     → IsWithKey m s k were t t false
-key-busy m s k were t busy = record {
-  gains = gains-none (IsMarked t) (IsLookedUp m s k) (λ p looks. busy looks.0);
-  all = λ is. absurd (true≢false (sym is));
-}
+key-busy m s k were t busy = search (rules, gains-none)
 
 pub key-idle : (m : MapValue) (s : State) (k : ℕ) (were : Bool) (t u : List Bool)
     → gives_cell (look_selected m (selection_of s) k) ≡ true → IsIdle s k
     → Gains (IsMarked t) (IsMarked u) (λ p. p ≡ place_in m (selection_of s) k)
     → IsWithKey m s k were t u were
-key-idle m s k were t u gives idle more = record {
-  gains =
-      gains-same (IsMarked t) (IsMarked u) (λ p. p ≡ place_in m (selection_of s) k) (IsLookedUp m s k)
-      (λ p. ((λ e. (idle, (sym e, gives))), λ looks. sym looks.1.0))
-      more;
-  all = λ is. (is, λ p shows. (more p).1 (inr (sym shows.0)));
-}
+key-idle m s k were t u gives idle more = search (rules, gains-same)
 
 pub keys-more : (m : MapValue) (s : State) (n : ℕ) (t u v : List Bool) (were are : Bool) → IsWithKeys m s n t u were
     → IsWithKey m s n were u v are
@@ -191,12 +105,7 @@ keys-more m s n t u v were are before now = record {
 }
 
 pub keys-none : (m : MapValue) (s : State) (t : List Bool) (are : Bool) → IsWithKeys m s 0 t t are
-keys-none m s t are = record {
-  gains =
-      gains-none (IsMarked t) (λ x. (k : ℕ) × (k < 0) × IsLookedUp m s k x)
-      (λ x looks. let lt = looks.1 in omega (arith, lt));
-  all = λ is x k lt. absurd (omega (arith, lt));
-}
+keys-none m s t are = search (rules, gains-none)
 
 -- ---- what is gathered place by place
 
@@ -204,9 +113,7 @@ keys-none m s t are = record {
 pub taps-there : (e : Explored) (plain : Bool) (p j k : ℕ) (y : Entry) → slice_get e.met.entries j ≡ Some y
     → IsTapOnAt e plain p j k
     → HasRoute e.routes.entries (state_of y.0) × IsTapOn (map_of_explored e) (state_of y.0) plain p k
-taps-there e plain p j k y at (z, there, has, tap) =
-    subst (λ (w : Entry). HasRoute e.routes.entries (state_of w.0)
-    × IsTapOn (map_of_explored e) (state_of w.0) plain p k) (sym (same_Some y z (sym at ∙ there))) (has, tap)
+taps-there e plain p j k y at (z, there, has, tap) = search (rules, same_Some)
 
 -- nothing more at the place
 pub gathered-next : (e : Explored) (plain : Bool) (n : ℕ) (t : List Bool) (selections : List Selection)
@@ -238,10 +145,7 @@ pub gathered-none : (e : Explored) (plain : Bool) (n : ℕ) (t : List Bool) (sel
     → (HasRoute e.routes.entries (state_of y.0) → (plain ≡ true → is_held (state_of y.0) Meta ≡ false) → ⊥)
     → IsGathered e plain n t selections
     → IsGathered e plain (n + 1) t selections
-gathered-none e plain n t selections y at none g =
-    gathered-next e plain n t selections g
-    (λ x k tap.
-    let (route, (lt, idle, looks, off)) = taps-there e plain x n k y at tap in absurd (none route off))
+gathered-none e plain n t selections y at none g = search (rules, gathered-next, taps-there)
 
 -- what keys look up in the state of the place
 pub gathered-there : (e : Explored) (plain : Bool) (n : ℕ) (t u : List Bool) (selections : List Selection) (y : Entry)
@@ -286,26 +190,20 @@ gathered-selected e plain n t selections now y is all g = record {
 pub gathered-first : (e : Explored) (plain : Bool) (t : List Bool) (selections : List Selection)
     → ((x : ℕ) → IsMarked t x → ⊥) → selections ≡ []
     → IsGathered e plain 0 t selections
-gathered-first e plain t selections none empty = record {
-  only = λ x has. absurd (none x has);
-  all = λ x j k lt. absurd (omega (arith, lt));
-  known = λ y has.
-      let (i, lt, at) = subst (λ ys. Contains ys y) empty has in absurd (omega (arith, lt));
-}
+gathered-first e plain t selections none empty = search rules
 
--- where all states were met, those that taps look up at all
+-- taps look these up, and where all states were met no others
 pub gathered-all : (e : Explored) (plain : Bool) (n : ℕ) (t : List Bool) (selections : List Selection)
-    → IsExploredFrom (map_of_explored e) start e → e.is_complete ≡ true → length e.met.entries ≤ n
-    → IsGathered e plain n t selections
-    → ArePlaces (map_of_explored e) plain t
-gathered-all e plain n t selections v complete le g p =
+    → IsExploredFrom (map_of_explored e) start e → length e.met.entries ≤ n → IsGathered e plain n t selections
+    → ArePlaces (map_of_explored e) plain e.is_complete t
+gathered-all e plain n t selections v le g p =
     let m : MapValue = map_of_explored e in
     let st = explored-returns m start e v (start-returns m) in (
       (λ has.
           let (j, k, (y, at, route, tap)) = g.only p has in
           let (path, is, comes, there) = so-can e v.0 st (λ s. IsTapOn m s plain p k) j y at route tap in
           (path, is, comes, (k, there))),
-      λ can.
+      λ complete can.
           let (path, is, comes, (k, tap)) = can in
           let (j, y, at, route, there) =
           so-met e v.0 complete st (λ s. IsTapOn m s plain p k) path is comes tap in

@@ -1,7 +1,7 @@
 -- Which of the ways that were looked for is picked: the nearer of two, one of a dead key's accents, one that spares keys,
 -- and one of the first class that has one.
 use Rattle.console_scripts.proofs.Common.{◌≡◌, ◌+◌, ◌<◌, ◌≤◌, ◌⊎◌, ℕ, Bool, true, false, ◌&&◌, not, Option, Some, None}
-use Rattle.console_scripts.proofs.Common.{refl, ap, subst, sym, ◌∙◌, inl, inr, arith, slice_get, and_parts}
+use Rattle.console_scripts.proofs.Common.{refl, subst, sym, ◌∙◌, inl, inr, arith, slice_get, and_parts}
 use Rattle.console_scripts.proofs.Common.{none-some, true≢false, place_last, IfSome, MapValue, State}
 use Rattle.console_scripts.proofs.Common.{Routes, rules}
 use Rattle.console_states.specs.Allowed.{Allows}
@@ -15,6 +15,7 @@ use Rattle.console_scripts.specs.Inner.Seeking.{IsFound, IsLooked, IsNearerOf, a
 use Rattle.console_scripts.specs.declared.classes.Class.{Class}
 use Rattle.console_scripts.specs.declared.classes.Spared.{Spared}
 use Rattle.console_scripts.specs.declared.courses.Found.{Found}
+use Rattle.console_scripts.specs.declared.courses.Target.{Target}
 use Rattle.console_scripts.specs.declared.seeking.Looked.{Looked}
 use Rattle.console_scripts.proofs.Bases.{usable-below}
 use Rattle.console_scripts.proofs.WayLaws.{IsAllowedAlso, way-also}
@@ -22,30 +23,21 @@ use Rattle.console_scripts.proofs.WayLaws.{IsAllowedAlso, way-also}
 -- ---- what was looked for, told otherwise
 
 -- of what was found, and whether all states were met
-pub looked-as : (a : Allows) (m : MapValue) (s : State) (c : ℕ) (one : Bool) (P : Way → Type 0) (routes : Routes)
+pub looked-as : (a : Allows) (m : MapValue) (s : State) (c : Target) (one : Bool) (P : Way → Type 0) (routes : Routes)
     (r : Looked) (o : Option Found) → r.found ≡ o → IsLooked a m s c one P routes r
     → IsLooked a m s c one P routes (record { found = o; has_met_all = r.has_met_all })
-looked-as a m s c one P routes r o e x = record {
-  found = subst (λ z. IfSome z (IsFound a m s c one routes)) e x.found;
-  all = λ t y p is. subst (λ z. IsAsNear z y) e (x.all t y p is);
-  many = x.many;
-}
+looked-as a m s c one P routes r o e x = search rules
 
 -- another way of as many presses
-pub looked-spared : (a : Allows) (m : MapValue) (s : State) (c : ℕ) (one : Bool) (P : Way → Type 0) (routes : Routes)
+pub looked-spared : (a : Allows) (m : MapValue) (s : State) (c : Target) (one : Bool) (P : Way → Type 0)
+    (routes : Routes)
     (r : Looked) (f g : Found) → r.found ≡ Some f → g.presses ≡ f.presses → IsFound a m s c one routes g
     → IsLooked a m s c one P routes r
     → IsLooked a m s c one P routes (record { found = Some g; has_met_all = r.has_met_all })
-looked-spared a m s c one P routes r f g e same is x = record {
-  found = is;
-  all = λ t y p way.
-      let near : f.presses + 1 ≤ presses_of_way y = subst (λ z. IsAsNear z y) e (x.all t y p way) in
-      omega (arith, near, same);
-  many = x.many;
-}
+looked-spared a m s c one P routes r f g e same is x = search rules
 
 -- of the ways of which Q holds, where P holds of them too
-looked-for : (a : Allows) (m : MapValue) (s : State) (c : ℕ) (one : Bool) (P Q : Way → Type 0) (routes : Routes)
+looked-for : (a : Allows) (m : MapValue) (s : State) (c : Target) (one : Bool) (P Q : Way → Type 0) (routes : Routes)
     (r : Looked) → ((y : Way) → Q y → IsWayBy a m s c y → P y) → IsLooked a m s c one P routes r
     → IsLooked a m s c one Q routes r
 looked-for a m s c one P Q routes r also x =
@@ -63,23 +55,16 @@ nearer-first : (o p r : Option Found) (y : Way) → IsNearerOf o p r → IsAsNea
 nearer-first None p r y e near = absurd near
 nearer-first (Some f) None r y e near = subst (λ z. IsAsNear z y) (sym e) near
 nearer-first (Some f) (Some g) r y (inl (le, e)) near = subst (λ z. IsAsNear z y) (sym e) near
-nearer-first (Some f) (Some g) r y (inr (le, e)) near =
-    let less : g.presses + 1 ≤ presses_of_way y = omega (arith, le, near) in
-    subst (λ z. IsAsNear z y) (sym e) less
+nearer-first (Some f) (Some g) r y (inr (le, e)) near = search rules
 
 nearer-second : (o p r : Option Found) (y : Way) → IsNearerOf o p r → IsAsNear p y → IsAsNear r y
 nearer-second None p r y e near = subst (λ z. IsAsNear z y) (sym e) near
 nearer-second (Some f) None r y e near = absurd near
-nearer-second (Some f) (Some g) r y (inl (le, e)) near =
-    let less : f.presses + 1 ≤ presses_of_way y = omega (arith, le, near) in
-    subst (λ z. IsAsNear z y) (sym e) less
+nearer-second (Some f) (Some g) r y (inl (le, e)) near = search rules
 nearer-second (Some f) (Some g) r y (inr (le, e)) near = subst (λ z. IsAsNear z y) (sym e) near
 
 accent-cases : (n : ℕ) (y : Way) → HasAccentBelow (n + 1) y → HasAccentBelow n y ⊎ HasAccent (Some n) y
-accent-cases n y (i, has, lt) = elim (place_last i n lt) [
-  | inl less ↦ inl (i, has, less)
-  | inr e ↦ inr (has ∙ ap (λ j. Some j) e)
-]
+accent-cases n y (i, has, lt) = search (rules, place_last)
 
 -- there are many states, unless both met all
 pub many-both : (m : MapValue) (s : State) (p q r : Bool) → r ≡ (p && q) → (p ≡ false → ReachesMany m s)
@@ -87,7 +72,7 @@ pub many-both : (m : MapValue) (s : State) (p q r : Bool) → r ≡ (p && q) →
 many-both m s true q r e first second t = second (sym e ∙ t)
 many-both m s false q r e first second t = first refl
 
-pub looked-nearer : (a : Allows) (m : MapValue) (s : State) (c : ℕ) (one : Bool) (routes : Routes) (n : ℕ)
+pub looked-nearer : (a : Allows) (m : MapValue) (s : State) (c : Target) (one : Bool) (routes : Routes) (n : ℕ)
     (p q r : Looked) → IsNearerOf p.found q.found r.found → r.has_met_all ≡ (p.has_met_all && q.has_met_all)
     → IsLooked a m s c one (HasAccentBelow n) routes p → IsLooked a m s c one (HasAccent (Some n)) routes q
     → IsLooked a m s c one (HasAccentBelow (n + 1)) routes r
@@ -105,13 +90,9 @@ looked-nearer a m s c one routes n p q r near both x y = record {
 -- ---- of one tap, or behind a dead key
 
 -- nothing was looked for yet
-pub looked-none : (a : Allows) (m : MapValue) (s : State) (c : ℕ) (one : Bool) (routes : Routes) (r : Looked)
+pub looked-none : (a : Allows) (m : MapValue) (s : State) (c : Target) (one : Bool) (routes : Routes) (r : Looked)
     → r.found ≡ None → r.has_met_all ≡ true → IsLooked a m s c one (HasAccentBelow 0) routes r
-looked-none a m s c one routes r none all = record {
-  found = subst (λ z. IfSome z (IsFound a m s c one routes)) (sym none) tt;
-  all = λ t y has is. absurd (omega (arith, has.2));
-  many = λ t. absurd (true≢false (sym all ∙ t));
-}
+looked-none a m s c one routes r none all = search rules
 
 below-accents : (m : MapValue) (a : Allows) (s : State) (n : ℕ) (dead : Option DeadTap) → slice_get m.accents n ≡ None
     → is_one_tap dead ≡ false → IsBegun (alone_by a m) s dead
@@ -120,42 +101,29 @@ below-accents m a s n None none taps begun = absurd (true≢false taps)
 below-accents m a s n (Some d) none taps begun = (d.accent, refl, usable-below m d.accent n begun.0 none)
 
 -- each dead key that can be tapped has one of the accents
-pub looked-composed : (a : Allows) (m : MapValue) (s : State) (c : ℕ) (routes : Routes) (n : ℕ) (r : Looked)
+pub looked-composed : (a : Allows) (m : MapValue) (s : State) (c : Target) (routes : Routes) (n : ℕ) (r : Looked)
     → slice_get m.accents n ≡ None → IsLooked a m s c false (HasAccentBelow n) routes r
     → IsLooked a m s c false (HasTaps false) routes r
-looked-composed a m s c routes n r none x =
-    looked-for a m s c false (HasAccentBelow n) (HasTaps false) routes r
-    (λ y taps is. below-accents m a s n y.dead none taps is.begun) x
+looked-composed a m s c routes n r none x = search (rules, looked-for, below-accents)
 
 none-dead : (dead : Option DeadTap) → is_one_tap dead ≡ true → accent_in dead ≡ None
 none-dead None taps = refl
 none-dead (Some d) taps = absurd (true≢false (sym taps))
 
-pub looked-one : (a : Allows) (m : MapValue) (s : State) (c : ℕ) (one : Bool) (routes : Routes) (r : Looked)
+pub looked-one : (a : Allows) (m : MapValue) (s : State) (c : Target) (one : Bool) (routes : Routes) (r : Looked)
     → one ≡ true → IsLooked a m s c true (HasAccent None) routes r → IsLooked a m s c one (HasTaps one) routes r
-looked-one a m s c one routes r is x =
-    subst (λ t. IsLooked a m s c t (HasTaps t) routes r) (sym is)
-    (looked-for a m s c true (HasAccent None) (HasTaps true) routes r (λ y taps way. none-dead y.dead taps) x)
+looked-one a m s c one routes r is x = search (rules, looked-for, none-dead)
 
-pub looked-two : (a : Allows) (m : MapValue) (s : State) (c : ℕ) (one : Bool) (routes : Routes) (r : Looked)
+pub looked-two : (a : Allows) (m : MapValue) (s : State) (c : Target) (one : Bool) (routes : Routes) (r : Looked)
     → one ≡ false → IsLooked a m s c false (HasTaps false) routes r → IsLooked a m s c one (HasTaps one) routes r
 looked-two a m s c one routes r is x = subst (λ t. IsLooked a m s c t (HasTaps t) routes r) (sym is) x
 
 -- ---- spared keys
 
 -- what was found by fewer presses was found by more
-pub found-also : (m : MapValue) (a b : Allows) → IsAllowedAlso m a b → (s : State) (c : ℕ) (one : Bool)
+pub found-also : (m : MapValue) (a b : Allows) → IsAllowedAlso m a b → (s : State) (c : Target) (one : Bool)
     (routes : Routes) (f : Found) → IsFound a m s c one routes f → IsFound b m s c one routes f
-found-also m a b also s c one routes f x = record {
-  way = x.way;
-  is = way-also m a b also s c x.way x.is;
-  taps = x.taps;
-  count = x.count;
-  key = x.key;
-  events = x.events;
-  there = x.there;
-  route = x.route;
-}
+found-also m a b also s c one routes f x = search (rules, way-also)
 
 pub but-in : (b : Board) (w : Class) (sp : Spared) (m : MapValue) → IsAllowedAlso m (allows_but b w sp) (allows_in b w)
 but-in b w sp m t k lt may = (and_parts _ _ may).0
@@ -174,17 +142,14 @@ some-also P Q None also x = tt
 some-also P Q (Some f) also x = also f x
 
 -- what spares keys is a way of the class
-pub found-sparing : (b other : Board) (w : Class) (sp : Spared) (m : MapValue) (s : State) (c : ℕ) (one : Bool)
+pub found-sparing : (b other : Board) (w : Class) (sp : Spared) (m : MapValue) (s : State) (c : Target) (one : Bool)
     (P : Way → Type 0) (routes : Routes) (r : Looked) (f : Found) → other ≡ b → r.found ≡ Some f
     → IsLooked (allows_but other w sp) m s c one P routes r
     → IsFound (allows_in b w) m s c one routes f
-found-sparing b other w sp m s c one P routes r f same is x =
-    subst (λ z. IsFound (allows_in z w) m s c one routes f) same
-    (found-also m (allows_but other w sp) (allows_in other w) (but-in other w sp m) s c one routes f
-    (subst (λ z. IfSome z (IsFound (allows_but other w sp) m s c one routes)) is x.found))
+found-sparing b other w sp m s c one P routes r f same is x = search (rules, found-also, but-in)
 
 -- where no key is spared, all presses of the class are allowed
-pub looked-unspared : (b : Board) (w : Class) (sp : Spared) (m : MapValue) (s : State) (c : ℕ) (one : Bool)
+pub looked-unspared : (b : Board) (w : Class) (sp : Spared) (m : MapValue) (s : State) (c : Target) (one : Bool)
     (P : Way → Type 0) (routes : Routes) (r : Looked) → ((k : ℕ) → is_spared sp k ≡ false)
     → IsLooked (allows_but b w sp) m s c one P routes r
     → IsLooked (allows_in b w) m s c one P routes r
@@ -247,14 +212,10 @@ abbrev low_4 : Class → ℕ
 low_4 w = weight w.avoids_pad 2 + weight w.avoids_86 1
 
 low-16 : (w : Class) → low_16 w < 16
-low-16 w =
-    below-16 (weight w.keeps_locks 8) (weight w.is_one_tap 4) (weight w.avoids_pad 2) (weight w.avoids_86 1)
-    (weight-le w.keeps_locks 8) (weight-le w.is_one_tap 4) (weight-le w.avoids_pad 2) (weight-le w.avoids_86 1)
+low-16 w = search (rules, below-16, weight-le)
 
 low-8 : (w : Class) → low_8 w < 8
-low-8 w =
-    below-8 (weight w.is_one_tap 4) (weight w.avoids_pad 2) (weight w.avoids_86 1)
-    (weight-le w.is_one_tap 4) (weight-le w.avoids_pad 2) (weight-le w.avoids_86 1)
+low-8 w = search (rules, below-8, weight-le)
 
 low-4 : (w : Class) → low_4 w < 4
 low-4 w =
@@ -264,9 +225,7 @@ low-2 : (w : Class) → weight w.avoids_86 1 < 2
 low-2 w = below-2 (weight w.avoids_86 1) (weight-le w.avoids_86 1)
 
 rank-low : (w : Class) → rank w ≡ weight w.keeps_to_board 16 + low_16 w
-rank-low w =
-    from-right (weight w.keeps_to_board 16) (weight w.keeps_locks 8) (weight w.is_one_tap 4) (weight w.avoids_pad 2)
-    (weight w.avoids_86 1)
+rank-low w = search (rules, from-right)
 
 -- as many classes come before one class alone
 pub rank-one : (w v : Class) → rank w ≡ rank v → w ≡ v
@@ -281,10 +240,14 @@ rank-one w v e =
     bit 2 w.avoids_pad v.avoids_pad (weight w.avoids_86 1) (weight v.avoids_86 1) (low-2 w) (low-2 v) e3 in
     same-class w v board locks one pad (last-bit w.avoids_86 v.avoids_86 e4)
 
+pub rank-below : (w : Class) → rank w < 32
+rank-below w =
+    omega (arith, rank-low w, weight-le w.keeps_to_board 16, low-16 w)
+
 -- ---- the first class that has a way
 
 -- no way of the class was found
-pub none-more : (b : Board) (m : MapValue) (s : State) (c : ℕ) (routes : Routes) (n : ℕ) (w : Class) (p : Looked)
+pub none-more : (b : Board) (m : MapValue) (s : State) (c : Target) (routes : Routes) (n : ℕ) (w : Class) (p : Looked)
     (old all : Bool) → rank w ≡ n → IsLooked (allows_in b w) m s c w.is_one_tap (HasTaps w.is_one_tap) routes p
     → p.found ≡ None → (old ≡ true → HasNoWayBelow b m s c n) → all ≡ (old && p.has_met_all) → all ≡ true
     → HasNoWayBelow b m s c (n + 1)
@@ -298,22 +261,20 @@ none-more b m s c routes n w p old all place x none before both t v y lt is =
     ]
 
 -- a way of the class was found
-pub chosen-first : (b : Board) (m : MapValue) (s : State) (c : ℕ) (routes : Routes) (n : ℕ) (w : Class) (p : Looked)
-    (f : Found) (old all : Bool) → rank w ≡ n
+pub chosen-first : (b : Board) (m : MapValue) (s : State) (c : Target) (routes : Routes) (n : ℕ) (w : Class)
+    (p : Looked) (f : Found) (old all : Bool) → rank w ≡ n
     → IsLooked (allows_in b w) m s c w.is_one_tap (HasTaps w.is_one_tap) routes p → p.found ≡ Some f
     → (old ≡ true → HasNoWayBelow b m s c n) → (old ≡ false → ReachesMany m s) → all ≡ (old && p.has_met_all)
-    → IsChosen b m s c routes (record { found = Some f; has_met_all = all })
+    → IsChosen b m s c routes (record { chosen = Some (record { class = w; found = f }); has_met_all = all })
 chosen-first b m s c routes n w p f old all place x is before many both =
     let found : IsFound (allows_in b w) m s c w.is_one_tap routes f =
     subst (λ z. IfSome z (IsFound (allows_in b w) m s c w.is_one_tap routes)) is x.found in
     record {
       found = (
-        w,
         found,
         (λ t.
             let met = and_parts old p.has_met_all (sym both ∙ t) in
             record {
-              class = w;
               is = (found.taps, found.is);
               first = λ v y lt way. before met.0 v y (omega (arith, lt, place)) way;
               fewest = λ y way.
@@ -323,6 +284,6 @@ chosen-first b m s c routes n w p f old all place x is before many both =
                   omega (arith, near, count);
             }),
       );
-      none = λ none t. absurd (none-some f (sym none));
+      none = λ none t. absurd (none-some (record { class = w; found = f }) (sym none));
       many = many-both m s old p.has_met_all all both many x.many;
     }

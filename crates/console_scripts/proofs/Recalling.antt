@@ -5,7 +5,6 @@ use Rattle.console_scripts.proofs.Common.{HasEnded}
 use Rattle.console_scripts.proofs.Common.{[], ◌∷◌, ℕ, None, ap, eqb, refl, rules, subst, true≢false}
 use mathlib.Core.Bool.{beq}
 use Rattle.std.specs.Option.{option_eq}
-use Rattle.std.specs.Cmp.{booleans_Decides}
 use Rattle.console_scripts.proofs.Picking.{same-class}
 use Rattle.console_scripts.specs.declared.classes.Class.{Class}
 use Rattle.console_scripts.specs.declared.classes.Spared.{Spared}
@@ -41,23 +40,13 @@ are_same_courses a b =
     && (are_same_classes a.class b.class && (are_same_spared a.spared b.spared && option_eq eqb a.accent b.accent))
 
 tells-class : (a b : Class) → are_same_classes a b ≡ true → a ≡ b
-tells-class a b t =
-    let p = and_parts _ _ t in
-    let q = and_parts _ _ p.1 in
-    let r = and_parts _ _ q.1 in
-    let s = and_parts _ _ r.1 in
-    same-class a b ((booleans_Decides a.keeps_to_board b.keeps_to_board).0 p.0)
-    ((booleans_Decides a.keeps_locks b.keeps_locks).0 q.0) ((booleans_Decides a.is_one_tap b.is_one_tap).0 r.0)
-    ((booleans_Decides a.avoids_pad b.avoids_pad).0 s.0) ((booleans_Decides a.avoids_86 b.avoids_86).0 s.1)
+tells-class a b t = search (rules, and_parts, same-class)
 
 same-spared : (a b : Spared) → a.left_alt ≡ b.left_alt → a.right_shift ≡ b.right_shift → a ≡ b
 same-spared a b e f = search rules
 
 tells-spared : (a b : Spared) → are_same_spared a b ≡ true → a ≡ b
-tells-spared a b t =
-    let p = and_parts _ _ t in
-    same-spared a b ((booleans_Decides a.left_alt b.left_alt).0 p.0)
-    ((booleans_Decides a.right_shift b.right_shift).0 p.1)
+tells-spared a b t = search (rules, and_parts, same-spared)
 
 tells-accent : (a b : Option ℕ) → option_eq eqb a b ≡ true → a ≡ b
 tells-accent None None t = refl
@@ -66,15 +55,7 @@ tells-accent (Some x) None t = absurd (true≢false (sym t))
 tells-accent (Some x) (Some y) t = ap (λ z. Some z) (eqb-true x y t)
 
 pub tells-course : TellsCourse are_same_courses
-tells-course a b t =
-    let p = and_parts _ _ t in
-    let q = and_parts _ _ p.1 in
-    let r = and_parts _ _ q.1 in (
-      tells-same a.from b.from p.0,
-      tells-class a.class b.class q.0,
-      tells-spared a.spared b.spared r.0,
-      tells-accent a.accent b.accent r.1,
-    )
+tells-course a b t = search (rules, and_parts, tells-same, tells-class, tells-spared, tells-accent)
 
 -- what a course leads to the same course leads to
 same-reached : (b : Board) (m : MapValue) (x y : Course) (v : Reached) → state_of x.from ≡ state_of y.from

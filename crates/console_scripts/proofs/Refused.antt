@@ -15,7 +15,7 @@ use Rattle.console_scripts.proofs.Common.{pending-start, resolved-more, resolved
 use Rattle.console_core.specs.Answers.{is_pending, char_or_error}
 use Rattle.console_scripts.specs.Typing.{TypedCanBeTyped}
 use Rattle.console_scripts.proofs.Exploring.{path-append}
-use Rattle.console_scripts.proofs.Common.{◌≢◌, Alt, Caps, Lock, Num, Scroll}
+use Rattle.console_scripts.proofs.Common.{Scroll}
 use Rattle.console_states.proofs.Shared.{each-lock, path-off}
 use Rattle.console_states.proofs.Shared.{KeepsHeld, Reached, Stays, admitted-before, admitted-spared, follows-look}
 use Rattle.console_states.proofs.Shared.{keeps-held, pending-is, stands-in, stays-on, taken-dead, takes-pending}
@@ -61,13 +61,7 @@ onward m forgets s before never there f is later admitted =
 -- a console that is as a new one stands at home
 new-home : (m : MapValue) (h : List Event) (t : State) → Follows (resolved (between m m) h) t → IsAsNew m h
     → t.is_locked Scroll ≡ false → IsHome t
-new-home m h t f new off = (
-  (λ i. is-nothing (t.holder i) (sym (f.on i) ∙ new.on i)),
-  each-lock (λ l. t.is_locked l ≡ false) (locked Caps (λ e. cc)) (locked Num (λ e. cc)) off (locked Alt (λ e. cc)),
-)
-  where
-    locked : (l : Lock) → l ≢ Scroll → t.is_locked l ≡ false
-    locked l other = sym (f.locked l other) ∙ new.locked l
+new-home m h t f new off = search (rules, is-nothing, each-lock)
 
 -- the first events of a list that is spoken of are one
 admitted-from : (m : MapValue) (forgets : Bool) (later h : List Event) → IsAdmitted m forgets (later ++ h)

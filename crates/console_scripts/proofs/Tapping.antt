@@ -1,20 +1,17 @@
 -- Sets of symbols, characters and codes to which more are added, and what they are in the end: all that can be tapped
 -- or typed, or that a tap gives.
+use Rattle.std.proofs.Common.{rules}
 use Rattle.console_scripts.proofs.Common.{◌≡◌, ◌⊎◌, ◌<◌, ◌+◌, ◌++◌, ◌∷◌, [], ℕ, Bool, true, false, List, Some, inl, inr}
-use Rattle.console_scripts.proofs.Common.{slice_get, subst, sym, ◌∙◌, ap, cases_Bool, true≢false, Contains}
-use Rattle.console_scripts.proofs.Common.{same_Some, none-some, refl, length, take, take_more, get_or, Cell, Char}
-use Rattle.console_scripts.proofs.Common.{Act, Action, None, MapValue, Symbol, State, alone, state_after}
-use Rattle.console_scripts.proofs.Common.{look_in, look_selected, selection_of}
-use Rattle.console_scripts.proofs.Common.{CanType}
-use Rattle.console_scripts.proofs.Common.{accent_at, one_map, Contains-push_cases, arith}
-use Rattle.console_scripts.proofs.Common.{Contains-append_left, Contains-push, cell_of}
-use Rattle.console_scripts.proofs.Common.{composed_of, usable}
+use Rattle.console_scripts.proofs.Common.{slice_get, subst, sym, ◌∙◌, ap, cases_Bool, true≢false, Contains, arith}
+use Rattle.console_scripts.proofs.Common.{same_Some, refl, length, take, take_more, get_or, Act, Action, Cell, Meta}
+use Rattle.console_scripts.proofs.Common.{Move, None, MapValue, Symbol, State, alone, state_after, key_count, is_held}
+use Rattle.console_scripts.proofs.Common.{look_in, look_selected, selection_of, IsIdle, IsPath, ComesHome, CanType}
+use Rattle.console_scripts.proofs.Common.{ReachesMoreThan, state_limit, accent_at, one_map, Contains-push_cases}
+use Rattle.console_scripts.proofs.Common.{Contains-append_left, Contains-push, cell_of, composed_of, usable}
 use Rattle.keymap_core.specs.declared.action.Action.TheVariants as act
 use Rattle.std.specs.Prelude.{◌↔◌}
 use Rattle.console_scripts.specs.declared.typed.Tapped.{Tapped}
 use Rattle.std.specs.BTreeSet.{BTreeSet, contains, Updates}
-use Rattle.std.specs.BTreeMap.{is_at}
-use Rattle.std.specs.List.{list_any}
 use Rattle.std.proofs.lemmas.Cmp.{nat_cmp_total}
 use Rattle.std.specs.Ordering.{nat_cmp}
 use Rattle.std.proofs.lemmas.Map.Lookups.{exact_unsigned}
@@ -23,10 +20,10 @@ use Rattle.keymap_core.specs.Accents.{AccentValue}
 use Rattle.console_states.specs.Sights.{Lists}
 use Rattle.console_scripts.proofs.Bases.{no-base, usable-below}
 use Rattle.console_scripts.proofs.Marking.{gains-none, gains-same, gains-next, looked-place}
-use Rattle.console_scripts.specs.Inner.Places.{ArePlaces, Gains, IsMarked, gives_cell}
-use Rattle.console_scripts.specs.Inner.Places.{cell_of_place, place_count, place_in}
+use Rattle.console_scripts.specs.Inner.Places.{ArePlaces, Gains, IsMarked, cell_of_place, gives_cell}
+use Rattle.console_scripts.specs.Inner.Places.{place_count, place_in}
 use Rattle.console_scripts.specs.Inner.Tapped.{AreMarkedSymbols, AreTapped, Composes, GivesAt, HasCharacter, HasCode}
-use Rattle.console_scripts.specs.Inner.Tapped.{HasSymbol, IsComposed, IsSymbolAt, symbol_in}
+use Rattle.console_scripts.specs.Inner.Tapped.{HasSymbol, IsComposed, TellsTyped}
 use Rattle.console_scripts.specs.Typing.{AreGiven, is_giving}
 use Rattle.console_scripts.specs.declared.explored.Symbol.TheVariants as symbol
 
@@ -34,45 +31,16 @@ use Rattle.console_scripts.specs.declared.explored.Symbol.TheVariants as symbol
 
 pub gains-insert : (s n : BTreeSet ℕ) (k : ℕ) → Updates nat_cmp s n k true
     → Gains (HasCharacter s) (HasCharacter n) (λ x. x ≡ k)
-gains-insert s n k (at, here, others, kept) x = (
-  (λ has. elim (cases_Bool (is_at (nat_cmp k) x)) [
-    | inl is ↦ inr (sym (tells_apart exact_unsigned k x is))
-    | inr other ↦ inl (sym (others x other) ∙ has)
-  ]),
-  λ t. elim t [
-    | inl has ↦ elim (cases_Bool (is_at (nat_cmp k) x)) [
-      | inl is ↦ subst (λ z. HasCharacter n z) (tells_apart exact_unsigned k x is) here
-      | inr other ↦ others x other ∙ has
-    ]
-    | inr is ↦ subst (λ z. HasCharacter n z) (sym is) here
-  ],
-)
+gains-insert s n k (at, here, others, kept) x =
+    search (rules, cases_Bool, tells_apart, exact_unsigned)
 
 -- the same of a set with the same keys
 pub gains-from : (s n set : BTreeSet ℕ) (P : ℕ → Type 0) → n.keys ≡ s.keys
     → Gains (HasCharacter n) (HasCharacter set) P
     → Gains (HasCharacter s) (HasCharacter set) P
-gains-from s n set P e more x = (
-  (λ h. elim ((more x).0 h) [
-    | inl a ↦ inl (subst (λ ks. list_any (is_at (nat_cmp x)) ks ≡ true) e a)
-    | inr p ↦ inr p
-  ]),
-  λ t. elim t [
-    | inl a ↦ (more x).1 (inl (subst (λ ks. list_any (is_at (nat_cmp x)) ks ≡ true) (sym e) a))
-    | inr p ↦ (more x).1 (inr p)
-  ],
-)
+gains-from s n set P e more x = search rules
 
 -- ---- symbols
-
-symbol-in : (x : Symbol) → symbol_in (cell_of x) ≡ Some x
-symbol-in (symbol.Character c) = refl
-symbol-in (symbol.DeadKey i) = refl
-
-in-symbol : (y : Cell) (x : Symbol) → symbol_in y ≡ Some x → y ≡ cell_of x
-in-symbol (Char c) x e = ap cell_of (same_Some (symbol.Character c) x e)
-in-symbol (Act (act.DeadKey i)) x e = ap cell_of (same_Some (symbol.DeadKey i) x e)
-in-symbol y x e = absurd (none-some x e)
 
 abbrev is_dead : Symbol → Bool
 is_dead (symbol.Character c) = false
@@ -83,53 +51,20 @@ number_in (symbol.Character c) = c
 number_in (symbol.DeadKey i) = i
 
 pub gains-character : (s n d : BTreeSet ℕ) (c : ℕ) → Updates nat_cmp s n c true
-    → Gains (HasSymbol (record { characters = s; dead_keys = d })) (HasSymbol (record { characters = n; dead_keys = d }))
+    → Gains (HasSymbol (record { characters = s; dead_keys = d }))
+    (HasSymbol (record { characters = n; dead_keys = d }))
     (λ x. x ≡ symbol.Character c)
-gains-character s n d c up (symbol.Character b) =
-    gains-same (HasCharacter s) (HasCharacter n) (λ x. x ≡ c) (λ x. symbol.Character x ≡ symbol.Character c)
-    (λ x. ((λ e. ap (λ z. symbol.Character z) e), λ e. ap number_in e)) (gains-insert s n c up) b
-gains-character s n d c up (symbol.DeadKey i) = (
-  (λ h. inl h),
-  λ t. elim t [
-    | inl h ↦ h
-    | inr e ↦ absurd (true≢false (ap is_dead e))
-  ],
-)
+gains-character s n d c up (symbol.Character b) = search (rules, gains-same, gains-insert)
+gains-character s n d c up (symbol.DeadKey i) = search rules
 
 pub gains-dead : (s n d : BTreeSet ℕ) (i : ℕ) → Updates nat_cmp s n i true
-    → Gains (HasSymbol (record { characters = d; dead_keys = s })) (HasSymbol (record { characters = d; dead_keys = n }))
+    → Gains (HasSymbol (record { characters = d; dead_keys = s }))
+    (HasSymbol (record { characters = d; dead_keys = n }))
     (λ x. x ≡ symbol.DeadKey i)
-gains-dead s n d i up (symbol.Character c) = (
-  (λ h. inl h),
-  λ t. elim t [
-    | inl h ↦ h
-    | inr e ↦ absurd (true≢false (sym (ap is_dead e)))
-  ],
-)
-gains-dead s n d i up (symbol.DeadKey j) =
-    gains-same (HasCharacter s) (HasCharacter n) (λ x. x ≡ i) (λ x. symbol.DeadKey x ≡ symbol.DeadKey i)
-    (λ x. ((λ e. ap (λ z. symbol.DeadKey z) e), λ e. ap number_in e)) (gains-insert s n i up) j
+gains-dead s n d i up (symbol.Character c) = search rules
+gains-dead s n d i up (symbol.DeadKey j) = search (rules, gains-same, gains-insert)
 
 -- ---- what stands at marked places
-
--- no symbol at the place, or one
-pub symbol-none : (m : MapValue) (marks : List Bool) (p : ℕ) (t : Tapped) → ((x : Symbol) → IsSymbolAt m marks p x → ⊥)
-    → Gains (HasSymbol t) (HasSymbol t) (λ x. IsSymbolAt m marks p x)
-symbol-none m marks p t none = gains-none (HasSymbol t) (λ x. IsSymbolAt m marks p x) none
-
-pub symbol-other : (y : Cell) (x : Symbol) → symbol_in y ≡ None → y ≡ cell_of x → ⊥
-symbol-other y x none is = none-some x (sym none ∙ ap symbol_in is ∙ symbol-in x)
-
-pub symbol-one : (m : MapValue) (marks : List Bool) (p : ℕ) (t u : Tapped) (x : Symbol) → IsMarked marks p
-    → symbol_in (cell_of_place m p) ≡ Some x → Gains (HasSymbol t) (HasSymbol u) (λ z. z ≡ x)
-    → Gains (HasSymbol t) (HasSymbol u) (λ z. IsSymbolAt m marks p z)
-symbol-one m marks p t u x marked some more =
-    gains-same (HasSymbol t) (HasSymbol u) (λ z. z ≡ x) (λ z. IsSymbolAt m marks p z)
-    (λ z. (
-      (λ e. (marked, in-symbol (cell_of_place m p) z (some ∙ ap (λ w. Some w) (sym e)))),
-      λ at. same_Some z x (sym (symbol-in z) ∙ ap symbol_in (sym at.1) ∙ some),
-    ))
-    more
 
 -- what a key looks up in a state is what is selected
 looks-selected : (m : MapValue) (s : State) (k : ℕ) → look_in (alone m) s k ≡ look_selected m (selection_of s) k
@@ -139,44 +74,47 @@ gives-symbol : (x : Symbol) → gives_cell (cell_of x) ≡ true
 gives-symbol (symbol.Character c) = refl
 gives-symbol (symbol.DeadKey i) = refl
 
--- the symbols at the places that taps look up are those that can be tapped
-pub marked-tapped : (m : MapValue) (plain : Bool) (marks : List Bool) (t : Tapped) → ArePlaces m plain marks
-    → AreMarkedSymbols m marks t
-    → AreTapped m plain t
-marked-tapped m plain marks t are symbols x = (
-  (λ has.
-      let (p, lt, (marked, at)) = (symbols x).0 has in
-      let (path, is, comes, (k, (below, idle, (place, gives), off))) = (are p).0 marked in
-      let s : State = state_after (alone m) path in (
-        path,
-        is,
-        comes,
-        (
-          k,
-          (
-            below,
-            idle,
-            looks-selected m s k ∙ sym (looked-place m (selection_of s) k below).1
-                ∙ ap (λ z. cell_of_place m z) place ∙ at,
-            off,
-          ),
-        ),
-      )),
-  λ can.
-      let (path, is, comes, (k, (below, idle, looks, off))) = can in
+-- a marked place has the cell
+abbrev HasMarked : MapValue → List Bool → Cell → Type 0
+HasMarked m marks x = (p : ℕ) × (p < place_count) × IsMarked marks p × (cell_of_place m p ≡ x)
+
+-- moves from the start lead to where a tap of some key looks up the cell, and more of them lead home
+abbrev CanTapCell : MapValue → Bool → Cell → Type 0
+CanTapCell m plain x =
+    (path : List Move) × IsPath (alone m) path × ComesHome (alone m) (state_after (alone m) path)
+    × ((k : ℕ) × ((k < key_count) × IsIdle (state_after (alone m) path) k
+    × (look_in (alone m) (state_after (alone m) path) k ≡ x)
+    × (plain ≡ true → is_held (state_after (alone m) path) Meta ≡ false)))
+
+-- what stands at places that taps look up can be tapped, and is all that can if the places are
+marked-cells : (m : MapValue) (plain complete : Bool) (marks : List Bool) → ArePlaces m plain complete marks
+    → (x : Cell) → gives_cell x ≡ true
+    → (HasMarked m marks x → CanTapCell m plain x) × (complete ≡ true → CanTapCell m plain x → HasMarked m marks x)
+marked-cells m plain complete marks are x gives = (
+  (λ (p, lt, marked, at).
+      let (path, is, comes, (k, (below, idle, (place, shows), off))) = (are p).0 marked in
       let s : State = state_after (alone m) path in
-      let seen : look_selected m (selection_of s) k ≡ cell_of x = sym (looks-selected m s k) ∙ looks in
+      let looks =
+      looks-selected m s k ∙ sym (looked-place m (selection_of s) k below).1 ∙ ap (λ z. cell_of_place m z) place
+      ∙ at in
+      (path, is, comes, (k, (below, idle, looks, off)))),
+  λ done (path, is, comes, (k, (below, idle, looks, off))).
+      let s : State = state_after (alone m) path in
+      let seen : look_selected m (selection_of s) k ≡ x = sym (looks-selected m s k) ∙ looks in
       let p = place_in m (selection_of s) k in
       let (lt, at) = looked-place m (selection_of s) k below in
-      (symbols x).1 (
-        p,
-        lt,
-        (
-          (are p).1 (path, is, comes, (k, (below, idle, (refl, ap gives_cell seen ∙ gives-symbol x), off))),
-          at ∙ seen,
-        ),
-      ),
+      (p, lt, (are p).1 done (path, is, comes, (k, (below, idle, (refl, ap gives_cell seen ∙ gives), off))), at ∙ seen),
 )
+
+-- so are the symbols there
+pub marked-tapped : (m : MapValue) (plain complete : Bool) (marks : List Bool) (t : Tapped)
+    → ArePlaces m plain complete marks → AreMarkedSymbols m marks t
+    → AreTapped m plain complete t
+marked-tapped m plain complete marks t are symbols x =
+    let cells = marked-cells m plain complete marks are (cell_of x) (gives-symbol x) in (
+      (λ has. let (p, lt, (marked, at)) = (symbols x).0 has in cells.0 (p, lt, marked, at)),
+      λ done can. let (p, lt, marked, at) = cells.1 done can in (symbols x).1 (p, lt, (marked, at)),
+    )
 
 gives-action : (m : MapValue) (a : Action) → is_giving m a ≡ true → gives_cell (Act a) ≡ true
 gives-action m act.Nop is = absurd (true≢false (sym is))
@@ -185,49 +123,25 @@ gives-action m (act.Lock l) is = absurd (true≢false (sym is))
 gives-action m _ is = refl
 
 -- the codes at the places that taps look up are those of the actions that a tap gives
-pub marked-given : (m : MapValue) (marks given : List Bool) → ArePlaces m false marks
+pub marked-given : (m : MapValue) (marks given : List Bool) → ArePlaces m false true marks
     → ((c : ℕ) → HasCode given c ↔ ((p : ℕ) × (p < place_count) × GivesAt m marks p c))
     → AreGiven m given
 marked-given m marks given are codes c = (
   (λ has.
       let (p, lt, (marked, (a, at, known, giving, code))) = (codes c).0 has in
-      let (path, is, comes, (k, (below, idle, (place, gives), off))) = (are p).0 marked in
-      let s : State = state_after (alone m) path in (
-        a,
-        known,
-        code,
-        (
-          giving,
-          (
-            path,
-            is,
-            comes,
-            (
-              k,
-              below,
-              idle,
-              looks-selected m s k ∙ sym (looked-place m (selection_of s) k below).1
-                  ∙ ap (λ z. cell_of_place m z) place ∙ at,
-            ),
-          ),
-        ),
-      )),
-  λ x.
-      let (a, known, code, (giving, (path, is, comes, (k, below, idle, looks)))) = x in
-      let s : State = state_after (alone m) path in
-      let seen : look_selected m (selection_of s) k ≡ Act a = sym (looks-selected m s k) ∙ looks in
-      let p = place_in m (selection_of s) k in
-      let (lt, at) = looked-place m (selection_of s) k below in
-      (codes c).1 (
-        p,
-        lt,
-        (
-          (are p).1
-              (path, is, comes, (k, (below, idle, (refl, ap gives_cell seen ∙ gives-action m a giving), (λ no. absurd (true≢false (sym no)))))),
-          (a, at ∙ seen, known, giving, code),
-        ),
-      ),
+      let (path, is, comes, (k, (below, idle, looks, off))) = (cells a giving).0 (p, lt, marked, at) in
+      (a, known, code, (giving, (path, is, comes, (k, below, idle, looks))))),
+  λ (a, known, code, (giving, (path, is, comes, (k, below, idle, looks)))).
+      let off : false ≡ true → is_held (state_after (alone m) path) Meta ≡ false =
+      λ no. absurd (true≢false (sym no)) in
+      let (p, lt, marked, at) = (cells a giving).1 refl (path, is, comes, (k, (below, idle, looks, off))) in
+      (codes c).1 (p, lt, (marked, (a, at, known, giving, code))),
 )
+  where
+    cells : (a : Action) → is_giving m a ≡ true
+        → (HasMarked m marks (Act a) → CanTapCell m false (Act a))
+        × (true ≡ true → CanTapCell m false (Act a) → HasMarked m marks (Act a))
+    cells a giving = marked-cells m false true marks are (Act a) (gives-action m a giving)
 
 -- ---- what an accent makes
 
@@ -277,14 +191,7 @@ accents-none m t plain old =
 pub accents-all : (m : MapValue) (t plain : Tapped) (n : ℕ) (old set : BTreeSet ℕ) → slice_get m.accents n ≡ None
     → Gains (HasCharacter old) (HasCharacter set) (MadeBelow m t plain n)
     → Gains (HasCharacter old) (HasCharacter set) (λ c. (i : ℕ) × (x : Symbol) × IsComposed m t plain i c x)
-accents-all m t plain n old set end more =
-    gains-same (HasCharacter old) (HasCharacter set) (MadeBelow m t plain n)
-    (λ c. (i : ℕ) × (x : Symbol) × IsComposed m t plain i c x)
-    (λ c. (
-      (λ made. let (i, lt, (x, is)) = made in (i, x, is)),
-      λ made. let (i, x, is) = made in (i, usable-below m i n is.0 end, (x, is)),
-    ))
-    more
+accents-all m t plain n old set end more = search (rules, gains-same, usable-below)
 
 -- what a tap of the symbol makes
 pub made-none : (m : MapValue) (t : Tapped) (i : ℕ) (x : Symbol) (old : BTreeSet ℕ)
@@ -295,10 +202,7 @@ made-none m t i x old none = gains-none (HasCharacter old) (λ c. Composes m t i
 pub made-one : (m : MapValue) (t : Tapped) (i : ℕ) (x : Symbol) (made : ℕ) (old set : BTreeSet ℕ)
     → composed_of m i x ≡ Some made → HasSymbol t x → Updates nat_cmp old set made true
     → Gains (HasCharacter old) (HasCharacter set) (λ c. Composes m t i c x)
-made-one m t i x made old set is has up =
-    gains-same (HasCharacter old) (HasCharacter set) (λ c. c ≡ made) (λ c. Composes m t i c x)
-    (λ c. ((λ e. (is ∙ ap (λ z. Some z) (sym e), has)), λ y. same_Some c made (sym y.0 ∙ is)))
-    (gains-insert old set made up)
+made-one m t i x made old set is has up = search (rules, gains-same, same_Some, gains-insert)
 
 -- one more pair
 abbrev pub MadeByPairs : MapValue → Tapped → ℕ → List (ℕ × ℕ) → ℕ → Type 0
@@ -349,30 +253,37 @@ pairs-more m t i n pairs old mid set lt first next =
 
 pub pairs-none : (m : MapValue) (t : Tapped) (i : ℕ) (pairs : List (ℕ × ℕ)) (old : BTreeSet ℕ)
     → Gains (HasCharacter old) (HasCharacter old) (MadeByPairs m t i (take 0 pairs))
-pairs-none m t i pairs old =
-    gains-none (HasCharacter old) (MadeByPairs m t i (take 0 pairs))
-    (λ c made. let (j, lt, at) = made.1 in omega (arith, lt))
+pairs-none m t i pairs old = search (rules, gains-none)
 
 -- ---- all that are typed
 
--- those that can be tapped plainly, and those behind a dead key, are all that keys can type
-pub all-typed : (m : MapValue) (t plain : Tapped) (set : BTreeSet ℕ) → AreTapped m false t → AreTapped m true plain
+-- those that can be tapped plainly, and those behind a dead key, are what keys can type
+pub all-typed : (m : MapValue) (complete : Bool) (t plain : Tapped) (set : BTreeSet ℕ) → AreTapped m false complete t
+    → AreTapped m true complete plain
     → Gains (HasCharacter plain.characters) (HasCharacter set)
     (λ c. (i : ℕ) × (x : Symbol) × IsComposed m t plain i c x)
-    → Lists (CanType m) set.keys
-all-typed m t plain set are are_plain more = record {
-  all = λ c can. (btree_set_contains_iff nat_cmp_total exact_unsigned set c).0 ((more c).1 (found c can));
-  only = λ c has. types c ((more c).0 ((btree_set_contains_iff nat_cmp_total exact_unsigned set c).1 has));
+    → (complete ≡ false → (p : ℕ) × ReachesMoreThan (alone m) state_limit p)
+    → TellsTyped m complete set
+all-typed m complete t plain set are are_plain more many = record {
+  found = λ c. ((λ has. types c ((more c).0 has)), λ done can. (more c).1 (found done c can));
+  many = many;
 }
   where
-    found : (c : ℕ) → CanType m c
+    found : complete ≡ true → (c : ℕ) → CanType m c
         → HasCharacter plain.characters c ⊎ ((i : ℕ) × (x : Symbol) × IsComposed m t plain i c x)
-    found c (inl can) = inl ((are_plain (symbol.Character c)).1 can)
-    found c (inr (i, x, can_use, made, dead, tap)) =
-        inr (i, x, (can_use, (are (symbol.DeadKey i)).1 dead, (made, (are_plain x).1 tap)))
+    found done c (inl can) = inl ((are_plain (symbol.Character c)).1 done can)
+    found done c (inr (i, x, can_use, made, dead, tap)) =
+        inr (i, x, (can_use, (are (symbol.DeadKey i)).1 done dead, (made, (are_plain x).1 done tap)))
 
     types : (c : ℕ) → HasCharacter plain.characters c ⊎ ((i : ℕ) × (x : Symbol) × IsComposed m t plain i c x)
         → CanType m c
     types c (inl has) = inl ((are_plain (symbol.Character c)).0 has)
     types c (inr (i, x, (can_use, dead, (made, tap)))) =
         inr (i, x, can_use, made, (are (symbol.DeadKey i)).0 dead, (are_plain x).0 tap)
+
+-- where they are complete, the set is their list
+pub lists-typed : (m : MapValue) (set : BTreeSet ℕ) → TellsTyped m true set → Lists (CanType m) set.keys
+lists-typed m set tells = record {
+  all = λ c can. (btree_set_contains_iff nat_cmp_total exact_unsigned set c).0 ((tells.found c).1 refl can);
+  only = λ c has. (tells.found c).0 ((btree_set_contains_iff nat_cmp_total exact_unsigned set c).1 has);
+}

@@ -1,13 +1,15 @@
 -- Characters typed one after another, and that a console is as new behind them.
 use Rattle.console_states.proofs.Shared.{none-along}
+use Rattle.console_scripts.proofs.Common.{◌==◌, true≢false}
 use Rattle.console_scripts.proofs.Common.{zero, suc, ◌≡◌, ◌+◌, ◌<◌, ◌≤◌, ◌⊎◌, ℕ, Bool, inl, inr, true, false, List, []}
-use Rattle.console_scripts.proofs.Common.{◌∷◌, ◌++◌, All, Some, None, refl, ap, subst, sym, ◌∙◌, arith, append_assoc}
+use Rattle.console_scripts.proofs.Common.{◌∷◌, ◌++◌, All, Option, Some, None, refl, ap, subst, sym, ◌∙◌, arith}
+use Rattle.console_scripts.proofs.Common.{append_assoc}
 use Rattle.console_scripts.proofs.Common.{map, reverse, take, length, get_or, slice_get, if◌then◌else◌, filter, rules}
 use Rattle.console_scripts.proofs.Common.{reverse-append, reverse-reverse, take_more, take_all}
 use Rattle.console_scripts.proofs.Common.{All-nil, none-some, same_Some, MapValue, Event, Answer, between}
 use Rattle.console_scripts.proofs.Common.{accent_pending_after, HasKey, HasKeys, alone, State, start, state_from}
 use Rattle.console_scripts.proofs.Common.{events_along, CanType, IsAsNew, plainly, types_something, HasTyped, CanReturn}
-use Rattle.console_scripts.proofs.Common.{TypesOne, kept_if, typed_along, IsQuiet, Stands, append-nil, drop}
+use Rattle.console_scripts.proofs.Common.{TypesOne, state_of, kept_if, typed_along, IsQuiet, Stands, append-nil, drop}
 use Rattle.console_scripts.proofs.Common.{pending-start, resolved-start, home-start, path-first}
 use Rattle.console_scripts.specs.Inner.Exploring.{GoesHome}
 use Rattle.console_core.specs.History.{answers_to}
@@ -18,13 +20,20 @@ use Rattle.console_scripts.specs.declared.typing.Keyed.{Keyed}
 use Rattle.console_scripts.specs.declared.typing.Typing.{Typing}
 use Rattle.keymap_core.proofs.Shared.{All-reversed}
 use Rattle.keyboard.specs.declared.board.Board.{Board}
-use Rattle.console_scripts.specs.Typing.{AreEnds, AreParts, AreTyped, Types, characters_of}
-use Rattle.console_scripts.specs.Ways.{GoWaysFrom, GoesWay, TakesWay}
+use Rattle.console_scripts.specs.Typing.{AreEnds, AreParts, AreTyped, IsSearchError, IsTypingError, Types}
+use Rattle.console_scripts.specs.Typing.{characters_of}
+use Rattle.console_scripts.specs.declared.typing.TypingError.{TypingError}
+use Rattle.console_scripts.specs.declared.typing.TypingError.TheVariants.{Memory, NoWay, TooManyStates}
+use Rattle.console_scripts.specs.Ways.{GoWaysFrom, GoesWay, IsTypedAlone, TakesWay, TakesWayOf, ending_with}
+use Rattle.console_scripts.specs.Ways.{events_of_way}
+use Rattle.console_scripts.specs.declared.classes.Class.{Class}
+use Rattle.console_scripts.specs.declared.typing.Step.{Step}
+use Rattle.console_scripts.specs.declared.courses.Target.{Target}
 use Rattle.console_states.proofs.Shared.{none-along, path-off}
 use Rattle.console_scripts.proofs.Common.{resting_after, same_states}
 use Rattle.console_core.proofs.Shared.{reverse-cons}
 use Rattle.console_scripts.proofs.Exploring.{returns-origin, start-returns}
-use Rattle.console_scripts.proofs.Common.{Alt, Caps, Num, Scroll, is_locked_after, resolved}
+use Rattle.console_scripts.proofs.Common.{Scroll, is_locked_after}
 use Rattle.console_core.proofs.Shared.{locked-start}
 use Rattle.console_states.proofs.Shared.{each-lock, idle-none, pending-is, stands-start}
 use Rattle.console_scripts.proofs.Taps.{quiet-free, walked}
@@ -32,15 +41,7 @@ use Rattle.console_scripts.proofs.Taps.{quiet-free, walked}
 -- a console that stands at the start, with nothing pending, is as a new one
 pub as-new : (m : MapValue) (h : List Event) → Stands (alone m) h start → accent_pending_after (between m m) h ≡ None
     → is_locked_after (between m m) Scroll h ≡ false → IsAsNew m h
-as-new m h st none scroll = record {
-  quiet = quiet-free (alone m) h start st (λ i. refl);
-  remembered = λ k. idle-none (resolved (between m m) h) start k st.exact (λ i holds. none-some k holds);
-  on = st.exact.follows.on;
-  down = st.exact.up;
-  locked = each-lock (λ l. is_locked_after (between m m) l h ≡ false) (st.exact.follows.locked Caps (λ e. cc))
-      (st.exact.follows.locked Num (λ e. cc)) scroll (st.exact.follows.locked Alt (λ e. cc));
-  pending = none;
-}
+as-new m h st none scroll = search (rules, quiet-free, idle-none, none-some, each-lock)
 
 -- the answers that type something, in their order
 kept-filter : (t : Bool) (a : Answer) (xs ys : List Answer)
@@ -74,30 +75,30 @@ abbrev pub last_end : ℕ → List Keyed → ℕ
 last_end from [] = from
 last_end from (k ∷ ks) = last_end k.end ks
 
--- the characters up to the place were typed
-pub record HaveBeenTyped (b : Board) (m : MapValue) (cs : List ℕ) (place : ℕ) (keyed : List Keyed) (es : List Event)
-    (s : State) : Type 0
+-- the characters up to the place were typed, each with a press of the key at the end, if one is told
+pub record HaveBeenTyped (key : Option ℕ) (b : Board) (m : MapValue) (cs : List ℕ) (place : ℕ) (keyed : List Keyed)
+    (es : List Event) (s : State) : Type 0
   where
     pub can_return : CanReturn m s
     pub characters : characters_of keyed ≡ take place cs
     pub ends : AreEnds 0 keyed (length es)
     pub parts : AreParts m cs keyed es
     pub last : last_end 0 keyed ≡ length es
-    pub ways : GoWaysFrom b m es 0 keyed
+    pub ways : key ≡ None → GoWaysFrom b m es 0 keyed
     pub can : All (λ c. CanType m c) (take place cs)
     pub typed : HasTyped m (reverse es) s None (take place cs)
     pub below : place ≤ length cs
 
-pub typed-none : (b : Board) (m : MapValue) (cs : List ℕ) (keyed : List Keyed) (es : List Event) (s : State)
-    → keyed ≡ [] → es ≡ [] → s ≡ start
-    → HaveBeenTyped b m cs 0 keyed es s
-typed-none b m cs keyed es s none nothing is = record {
+pub typed-none : (key : Option ℕ) (b : Board) (m : MapValue) (cs : List ℕ) (keyed : List Keyed) (es : List Event)
+    (s : State) → keyed ≡ [] → es ≡ [] → s ≡ start
+    → HaveBeenTyped key b m cs 0 keyed es s
+typed-none key b m cs keyed es s none nothing is = record {
   can_return = subst (λ t. CanReturn m t) (sym is) (start-returns m);
   characters = ap characters_of none;
   ends = subst (λ z. AreEnds 0 z (length es)) (sym none) (omega arith);
   parts = subst (λ z. AreParts m cs z es) (sym none) (λ i k at. absurd (none-some k at));
   last = subst (λ z. last_end 0 z ≡ length es) (sym none) (ap length (sym nothing));
-  ways = subst (λ z. GoWaysFrom b m es 0 z) (sym none) tt;
+  ways = λ any. subst (λ z. GoWaysFrom b m es 0 z) (sym none) tt;
   can = All-nil (λ c. CanType m c);
   typed = record {
     stands = rw (nothing, is) (stands-start (alone m));
@@ -140,24 +141,24 @@ parts-later m cs ks es more parts i k at =
     )
 
 -- the events that a way adds stand behind the old ones
-added-behind : (b : Board) (m : MapValue) (c : ℕ) (s next : State) (old now : List Event)
-    → (types : TypesOne b m c s (reverse old) (reverse now) next) → now ≡ old ++ reverse types.added
-added-behind b m c s next old now types =
+added-behind : (b : Board) (m : MapValue) (c : Target) (s : State) (step : Step) (old now : List Event)
+    → (types : TypesOne b m c s (reverse old) (reverse now) step) → now ≡ old ++ reverse types.added
+added-behind b m c s step old now types =
     cc (reverse-reverse now, types.events, reverse-append types.added (reverse old), reverse-reverse old)
 
-pub fits-behind : (b : Board) (m : MapValue) (c : ℕ) (s next : State) (old now : List Event)
-    → TypesOne b m c s (reverse old) (reverse now) next → length old ≤ length now
-fits-behind b m c s next old now types =
-    omega (arith, ap length (added-behind b m c s next old now types), length-append old (reverse types.added))
+pub fits-behind : (b : Board) (m : MapValue) (c : Target) (s : State) (step : Step) (old now : List Event)
+    → TypesOne b m c s (reverse old) (reverse now) step → length old ≤ length now
+fits-behind b m c s step old now types =
+    omega (arith, ap length (added-behind b m c s step old now types), length-append old (reverse types.added))
 
 -- the events that are added to others are a way by themselves
-pub types-alone : (b : Board) (m : MapValue) (c : ℕ) (s next : State) (old now : List Event)
-    → TypesOne b m c s (reverse old) (reverse now) next → TypesOne b m c s [] (reverse (drop (length old) now)) next
-types-alone b m c s next old now types = record {
+pub types-alone : (b : Board) (m : MapValue) (c : Target) (s : State) (step : Step) (old now : List Event)
+    → TypesOne b m c s (reverse old) (reverse now) step → TypesOne b m c s [] (reverse (drop (length old) now)) step
+types-alone b m c s step old now types = record {
   can = types.can;
   can_return = types.can_return;
   added = types.added;
-  events = ap (λ z. reverse (drop (length old) z)) (added-behind b m c s next old now types)
+  events = ap (λ z. reverse (drop (length old) z)) (added-behind b m c s step old now types)
       ∙ ap (λ z. reverse z) (drop-append_seam old (reverse types.added)) ∙ reverse-reverse types.added
       ∙ sym (append-nil types.added);
   way = types.way;
@@ -165,20 +166,13 @@ types-alone b m c s next old now types = record {
 }
 
 -- events that type a character, behind others
-pub types-behind : (b : Board) (m : MapValue) (c : ℕ) (s next : State) (old es now : List Event)
-    → TypesOne b m c s [] (reverse es) next → now ≡ old ++ es → TypesOne b m c s (reverse old) (reverse now) next
-types-behind b m c s next old es now types e = search (rules, reverse-append, append-nil)
+pub types-behind : (b : Board) (m : MapValue) (c : Target) (s : State) (step : Step) (old es now : List Event)
+    → TypesOne b m c s [] (reverse es) step → now ≡ old ++ es → TypesOne b m c s (reverse old) (reverse now) step
+types-behind b m c s step old es now types e = search (rules, reverse-append, append-nil)
 
 -- a console rests where it stands with nothing held
 rests : (m : MapValue) (h : List Event) (s : State) → Stands (alone m) h s → CanReturn m s → resting_after m h ≡ s
-rests m h s st can =
-    same_states (resting_after m h) s (λ i. sym (can.free i))
-    (each-lock (λ l. (resting_after m h).is_locked l ≡ s.is_locked l) (st.exact.follows.locked Caps (λ e. cc))
-    (st.exact.follows.locked Num (λ e. cc))
-    (sym (subst (λ z. z.is_locked Scroll ≡ false) can.leads (path-off m start can.path can.is refl)))
-    (st.exact.follows.locked Alt (λ e. cc)))
-    (sym (ap (λ t. t.is_second) (sym can.leads) ∙ path-first m start can.path can.is))
-    (sym (subst (λ z. z.is_pending ≡ false) can.leads (none-along (alone m) refl start can.path can.is refl)))
+rests m h s st can = search (rules, same_states, each-lock, path-off, path-first, none-along)
 
 ends-within : (from last : ℕ) (ks : List Keyed) → AreEnds from ks last → from ≤ last
 ends-within from last [] ends = ends
@@ -229,19 +223,21 @@ goes-added b m s c es added last rest ends takes =
     (subst (λ z. TakesWay b m (resting_after m (reverse z)) c added) (sym before)
     (subst (λ z. TakesWay b m z c added) (sym rest) takes))
 
-pub typed-one : (b : Board) (m : MapValue) (cs : List ℕ) (place : ℕ) (keyed after : List Keyed)
-    → (es now : List Event) (s : State) (k : Keyed) (next : State) → HaveBeenTyped b m cs place keyed es s → place < length cs
-    → k.character ≡ get_or cs place k.character → k.end ≡ length now
-    → TypesOne b m k.character s (reverse es) (reverse now) next → after ≡ keyed ++ k ∷ []
-    → HaveBeenTyped b m cs (place + 1) after now next
-typed-one b m cs place keyed after es now s k next x lt is ends types e =
+pub typed-one : (key : Option ℕ) (b : Board) (m : MapValue) (cs : List ℕ) (place : ℕ) (keyed after : List Keyed)
+    → (es now : List Event) (s : State) (k : Keyed) (step : Step) → HaveBeenTyped key b m cs place keyed es s
+    → place < length cs → k.character ≡ get_or cs place k.character → k.end ≡ length now
+    → TypesOne b m (ending_with key k.character) s (reverse es) (reverse now) step → after ≡ keyed ++ k ∷ []
+    → HaveBeenTyped key b m cs (place + 1) after now (state_of step.next)
+typed-one key b m cs place keyed after es now s k step x lt is ends types e =
+    let next : State = state_of step.next in
     let c : ℕ = k.character in
+    let t : Target = ending_with key c in
     let more : take (place + 1) cs ≡ take place cs ++ c ∷ [] =
     take_more cs place c lt ∙ ap (λ z. take place cs ++ z ∷ []) (sym is) in
     let typed : HasTyped m (reverse now) next None (take (place + 1) cs) =
     rw (more, types.events) (types.types (reverse es) (take place cs) x.typed) in
-    let behind : now ≡ es ++ reverse types.added = added-behind b m c s next es now types in
-    let le : length es ≤ length now = fits-behind b m c s next es now types in
+    let behind : now ≡ es ++ reverse types.added = added-behind b m t s step es now types in
+    let le : length es ≤ length now = fits-behind b m t s step es now types in
     let count : length keyed ≡ place =
     sym (length-map keyed (λ (k : Keyed). k.character)) ∙ ap length x.characters
     ∙ length-take-le place cs x.below in
@@ -261,21 +257,26 @@ typed-one b m cs place keyed after es now s k next x lt is ends types e =
             )
       ];
       last = ap (λ z. last_end 0 z) e ∙ last-more 0 keyed k ∙ ends;
-      ways = rw (e) (ways-more b m now 0 keyed k
-          (rw behind (ways-later b m es (reverse types.added) 0 keyed x.ends x.ways))
+      ways = λ none. rw (e) (ways-more b m now 0 keyed k
+          (rw behind (ways-later b m es (reverse types.added) 0 keyed x.ends (x.ways none)))
           (rw (x.last, behind) (goes-added b m s c es types.added k.end
-          (rests m (reverse es) s x.typed.stands x.can_return) (ends ∙ ap length behind) types.way)));
+          (rests m (reverse es) s x.typed.stands x.can_return) (ends ∙ ap length behind) (
+            step.class,
+            step.before,
+            subst (λ z. TakesWayOf step.class step.before b m s (ending_with z c) types.added)
+                none types.way,
+          ))));
       can = rw more (All-push (λ c. CanType m c) (take place cs) c x.can types.can);
       typed = typed;
       below = omega (arith, lt);
     }
 
 -- all were typed, and the console is home
-pub typed-all : (b : Board) (m : MapValue) (cs : List ℕ) (place : ℕ) (x : Typing) (es : List Event) (s : State)
-    → HaveBeenTyped b m cs place x.keyed.items es s → take place cs ≡ cs
+pub typed-all : (key : Option ℕ) (b : Board) (m : MapValue) (cs : List ℕ) (place : ℕ) (x : Typing) (es : List Event)
+    (s : State) → HaveBeenTyped key b m cs place x.keyed.items es s → take place cs ≡ cs
     → GoesHome (alone m) s (reverse es) (reverse x.events.items) → (cs ≡ [] → x.events.items ≡ [])
     → AreTyped m cs x
-typed-all b m cs place x es s typed all (back, is, home, e) none =
+typed-all key b m cs place x es s typed all (back, is, home, e) none =
     let now : List Event = x.events.items in
     let there : State = state_from (alone m) s back in
     let first : there.is_second ≡ false =
@@ -300,16 +301,48 @@ typed-all b m cs place x es s typed all (back, is, home, e) none =
 
 -- so are the ways, with the events home behind them
 pub ways-all : (b : Board) (m : MapValue) (cs : List ℕ) (place : ℕ) (x : Typing) (es : List Event) (s : State)
-    → HaveBeenTyped b m cs place x.keyed.items es s → GoesHome (alone m) s (reverse es) (reverse x.events.items)
+    → HaveBeenTyped None b m cs place x.keyed.items es s → GoesHome (alone m) s (reverse es) (reverse x.events.items)
     → GoWaysFrom b m x.events.items 0 x.keyed.items
 ways-all b m cs place x es s typed (back, is, home, e) =
     let behind : x.events.items ≡ es ++ reverse (events_along back) =
     cc (reverse-reverse x.events.items, e, reverse-append (events_along back) (reverse es), reverse-reverse es) in
-    rw behind (ways-later b m es (reverse (events_along back)) 0 x.keyed.items typed.ends typed.ways)
+    rw behind (ways-later b m es (reverse (events_along back)) 0 x.keyed.items typed.ends (typed.ways refl))
 
 -- nothing is typed where there was nothing to type
 pub typed-nothing : (b : Board) (m : MapValue) (cs : List ℕ) (x : Typing) → cs ≡ [] → x.keyed.items ≡ []
     → x.events.items ≡ [] → AreTyped m cs x
 typed-nothing b m cs x empty keyed events =
-    typed-all b m cs 0 x [] start (typed-none b m cs x.keyed.items [] start keyed refl refl) (sym empty)
+    typed-all None b m cs 0 x [] start (typed-none None b m cs x.keyed.items [] start keyed refl refl) (sym empty)
     ([], tt, ((λ i. refl), (λ l. refl)), ap (λ z. reverse z) events) (λ e. events)
+
+-- events go the way also with more behind it
+goes-on : (w : Class) (n : ℕ) (b : Board) (m : MapValue) (s : State) (c : Target) (es more : List Event)
+    → TakesWayOf w n b m s c es → TakesWayOf w n b m s c (more ++ es)
+goes-on w n b m s c es more (inl (x, later, taken, count, e)) =
+    inl (x, more ++ later, taken, count, ap (λ z. more ++ z) e ∙ sym (append_assoc more later (events_of_way x)))
+goes-on w n b m s c es more (inr many) = inr many
+
+-- a character by itself, and the events home
+pub typed-alone : (b : Board) (m : MapValue) (c : Target) (x : Typing) (es : List Event) (step : Step) (k : Keyed)
+    → TypesOne b m c start [] (reverse es) step → k.character ≡ c.character → k.end ≡ length es
+    → x.keyed.items ≡ k ∷ [] → GoesHome (alone m) (state_of step.next) (reverse es) (reverse x.events.items)
+    → IsTypedAlone step.class step.before b m c x
+typed-alone b m c x es step k types is ends keyed (back, goes, home, e) =
+    let cs : List ℕ = c.character ∷ [] in
+    let s : State = state_of step.next in
+    let typed : HaveBeenTyped c.last b m cs 1 x.keyed.items es s =
+    typed-one c.last b m cs 0 [] x.keyed.items [] es start k step (typed-none c.last b m cs [] [] start refl refl refl)
+    (omega arith) is ends (subst (λ z. TypesOne b m (ending_with c.last z) start [] (reverse es) step) (sym is) types)
+    keyed in (
+      typed-all c.last b m cs 1 x es s typed refl (back, goes, home, e)
+          (λ e. absurd (true≢false (ap (λ z. length z == 0) (sym e)))),
+      subst (λ z. TakesWayOf step.class step.before b m start c z)
+          (sym (e ∙ ap (λ z. events_along back ++ z) (types.events ∙ append-nil types.added)))
+          (goes-on step.class step.before b m start c types.added (events_along back) types.way),
+    )
+
+-- why a search gives up characters aren't typed
+pub gives-up : (m : MapValue) (cs : List ℕ) (e : TypingError) → IsSearchError m e → IsTypingError m cs e
+gives-up m cs Memory is = is
+gives-up m cs (NoWay n) is = absurd is
+gives-up m cs TooManyStates is = is

@@ -1,7 +1,8 @@
 -- What can be visited, and what an explorer tells of the states that moves lead to.
+use Rattle.std.proofs.Common.{rules}
 use Rattle.console_scripts.proofs.Common.{◌≡◌, ◌⊎◌, ◌<◌, ◌≤◌, ℕ, false, List, [], ◌∷◌, ◌++◌, reverse, length, slice_get}
 use Rattle.console_scripts.proofs.Common.{Option, Some, None, suc, zero, refl, ap, subst, sym, ◌∙◌, inl, inr, arith}
-use Rattle.console_scripts.proofs.Common.{◌==◌, append-nil, cases_Bool, eqb-true, eq-eqb, true≢false, same_Some}
+use Rattle.console_scripts.proofs.Common.{append-nil, cases_Bool, eqb-true, eq-eqb, same_Some}
 use Rattle.console_scripts.proofs.Common.{none-some, slice_get_within, MapValue, Move, LeftShift, RightShift}
 use Rattle.console_scripts.proofs.Common.{LeftControl, RightControl, LeftAlt, RightAlt, AltShift, Meta, Modifier, Lock}
 use Rattle.console_scripts.proofs.Common.{Scroll, Cell, Char, Act, Event, Sight, Held, Explored, Under}
@@ -11,9 +12,9 @@ use Rattle.console_scripts.proofs.Common.{SeesBy, selection_of, keys_of, map_of_
 use Rattle.console_scripts.proofs.Common.{IsWhole, HasRoute, LeadsHome, state_of, Entry, Entries, IsTrail}
 use Rattle.console_scripts.proofs.Common.{AreStatesOf, CanReach, IsAim, IsAt, IsWayHome, KeyAt, Leads, LeadsBy}
 use Rattle.console_scripts.proofs.Common.{LeadsOn, LeadsToSee, Sees, ShowsNot, HasKeys, HasNoLoads, IsPathFrom, Press}
-use Rattle.console_scripts.proofs.Common.{Reset, ReachesMoreThanFrom, state_limit, IsPendingFor, between, but_scroll}
-use Rattle.console_scripts.proofs.Common.{is_locked_after, locked, resting_after, same_states, false≢true}
-use Rattle.console_scripts.proofs.Common.{resolved-start, Caps, Num, Alt}
+use Rattle.console_scripts.proofs.Common.{Reset, ReachesMoreThanFrom, state_limit, IsPendingFor}
+use Rattle.console_scripts.proofs.Common.{resting_after, same_states}
+use Rattle.console_scripts.proofs.Common.{resolved-start}
 use Rattle.console_scripts.proofs.Common.{path-split, reached-one}
 use Rattle.console_scripts.proofs.Common.{key_count}
 use Rattle.console_core.proofs.Shared.{locked-start}
@@ -37,10 +38,7 @@ use Rattle.console_states.specs.declared.selection.Sight.TheVariants as sight
 -- a key holds a modifier, or none
 holder-or : (o : Option ℕ) (k : ℕ) → (o ≡ Some k) ⊎ (o ≡ Some k → ⊥)
 holder-or None k = inr (λ e. cc)
-holder-or (Some j) k = elim (cases_Bool (j == k)) [
-  | inl t ↦ inl (ap Some (eqb-true j k t))
-  | inr f ↦ inr (λ e. true≢false (sym (eq-eqb j k (same_Some j k e)) ∙ f))
-]
+holder-or (Some j) k = search (rules, cases_Bool, eqb-true, eq-eqb, same_Some)
 
 all-idle : (s : State) (k : ℕ) → (Holds s k LeftShift → ⊥) → (Holds s k RightShift → ⊥) → (Holds s k LeftControl → ⊥)
     → (Holds s k RightControl → ⊥) → (Holds s k LeftAlt → ⊥) → (Holds s k RightAlt → ⊥) → (Holds s k AltShift → ⊥)
@@ -133,11 +131,7 @@ pub key-within : (es : Entries) (n : ℕ) (x : Held) → slice_get (keys_of es) 
 key-within es n x at = let (y, there, e) = key-at es n x at in slice_get_within es n y there
 
 pub no-key : (es : Entries) (n : ℕ) → length es ≤ n → slice_get (keys_of es) n ≡ None
-no-key es n le = by (slice_get (keys_of es) n) refl
-  where
-    by : (o : Option Held) → slice_get (keys_of es) n ≡ o → o ≡ None
-    by None e = refl
-    by (Some x) e = let lt = key-within es n x e in absurd (omega (arith, le, lt))
+no-key es n le = search (rules, key-within)
 
 -- the states of a whole exploration are all
 pub states-of : (e : Explored) → IsWhole e → AreStatesOf (map_of_explored e) (keys_of e.met.entries)
@@ -157,9 +151,7 @@ pub leads-by : (e : Explored) → IsExplored e → (place : ℕ) (y : Entry) →
     → (old now : List Event) → old ≡ []
     → ((path : List Move) → IsTrail e.met.entries place path → now ≡ events_along path ++ reverse old)
     → LeadsBy (map_of_explored e) (origin_in e) (state_of y.0) now
-leads-by e x place y at old now none is =
-    let r = reached-one x.searched place y at in
-    (r.0, r.2, r.3, is r.0 r.1 ∙ ap (λ z. events_along r.0 ++ reverse z) none ∙ append-nil (events_along r.0))
+leads-by e x place y at old now none is = search (rules, reached-one, append-nil)
 
 -- the events of a route home
 pub way-home : (m : MapValue) (s : State) (moves : List Move)
@@ -201,11 +193,7 @@ unseen-from e x h rests y none (path, is, (k, lt, sees)) =
 -- what is to be seen, whether moves lead back or not
 pub shows-none : (e : Explored) (x : Sight) → IsLook (ShowsNot e x false) (Shows e x false) e.met.entries None
     → IsNowhere (Sees e x) e.met.entries
-shows-none e x look j y at lt = by (look.is j y at lt)
-  where
-    by : ShowsNot e x false y.0 → (k : ℕ) → Sees e x y.0 k → ⊥
-    by (inl unseen) = unseen
-    by (inr (back, n, t, seen, after, astray)) = absurd (false≢true back)
+shows-none e x look j y at lt = search rules
 
 pub shows-some : (e : Explored) (x : Sight) (at : KeyAt)
     → IsLook (ShowsNot e x false) (Shows e x false) e.met.entries (Some at) → HoldsAt (Sees e x) e.met.entries at
@@ -226,18 +214,7 @@ place-some (x ∷ es) (suc n) lt e = place-some es n (omega (arith, lt)) e
 
 -- moves lead to the start, and from there home
 pub start-near : (m : MapValue) → IsNearHome m []
-start-near m =
-    subst (λ s. CanReach m s × ComesHome (alone m) s) (same_states start (resting_after m []) (λ i. refl) lock refl refl)
-    (([], tt, refl), ([], tt, ((λ i. refl), (λ l. refl))))
-  where
-    off : (l : Lock) → is_locked_after (between m m) l [] ≡ false
-    off l = ap (λ r. locked l r) (resolved-start (between m m)) ∙ locked-start l
-
-    lock : (l : Lock) → false ≡ but_scroll (λ j. is_locked_after (between m m) j []) l
-    lock Caps = sym (off Caps)
-    lock Num = sym (off Num)
-    lock Scroll = refl
-    lock Alt = sym (off Alt)
+start-near m = search (rules, same_states, resolved-start, locked-start)
 
 -- A reset, the way home, on to the place, and the press there.
 pub visits : (e : Explored) → IsWhole e → (a : Aim) → IsAim e a → (s : State) (old home there now : List Event)

@@ -1,4 +1,5 @@
 -- Ways to type a character: which presses they are made of, what their events type, and that keys can type what has one.
+use Rattle.std.proofs.Common.{rules}
 use Rattle.console_scripts.proofs.Common.{◌≡◌, ◌<◌, ℕ, Bool, true, false, List, [], ◌∷◌, ◌++◌, Option, Some, None, refl}
 use Rattle.console_scripts.proofs.Common.{ap, subst, sym, ◌∙◌, inl, inr, append-nil, append_assoc, MapValue, Event}
 use Rattle.console_scripts.proofs.Common.{Press}
@@ -13,11 +14,12 @@ use Rattle.console_states.specs.Moves.{alone_by}
 use Rattle.console_scripts.proofs.Exploring.{path-append, returns-origin}
 use Rattle.console_scripts.proofs.Taps.{walked, tap-direct, tap-dead, tap-composed}
 use Rattle.console_scripts.specs.Ways.{DeadTap, IsAllowedTap, IsBegun, IsWayBy, Way}
-use Rattle.console_scripts.specs.Ways.{events_of_way, state_at_end, state_behind}
+use Rattle.console_scripts.specs.Ways.{ending_with, events_of_way, state_at_end, state_behind}
 use Rattle.console_states.proofs.Shared.{none-along}
 use Rattle.console_scripts.specs.Inner.Courses.{under_by}
 use Rattle.console_scripts.specs.Inner.Exploring.{IsOrigin}
 use Rattle.console_scripts.specs.Types.{Tap}
+use Rattle.console_scripts.specs.declared.courses.Target.{Target}
 use Rattle.console_scripts.specs.declared.explored.Symbol.TheVariants as symbol
 
 -- ---- allowed presses
@@ -30,9 +32,7 @@ IsAllowedAlso m a b =
 
 made-also : (m : MapValue) (a b : Allows) → IsAllowedAlso m a b → (s : State) (k : ℕ) (x : Cell) → k < key_count
     → look_in (alone m) s k ≡ x → a (selection_of s) k x ≡ true → b (selection_of s) k x ≡ true
-made-also m a b also s k x lt seen may =
-    subst (λ x. b (selection_of s) k x ≡ true) seen
-    (also s k lt (subst (λ x. a (selection_of s) k x ≡ true) (sym seen) may))
+made-also m a b also s k x lt seen may = search rules
 
 move-also : (m : MapValue) (a b : Allows) (i : Option ℕ) → IsAllowedAlso m a b → (s : State) (move : Move)
     → IsMove (under_by a i m) s move → IsMove (under_by b i m) s move
@@ -56,18 +56,13 @@ moved-by m a b i s Exchange = refl
 pub state-by : (m : MapValue) (a b : Allows) (i : Option ℕ) (s : State) (path : List Move)
     → state_from (under_by a i m) s path ≡ state_from (under_by b i m) s path
 state-by m a b i s [] = refl
-state-by m a b i s (move ∷ path) =
-    ap (λ t. moved (under_by a i m) t move) (state-by m a b i s path)
-    ∙ moved-by m a b i (state_from (under_by b i m) s path) move
+state-by m a b i s (move ∷ path) = search (rules, moved-by, state-by m a b i s path)
 
 pub path-also : (m : MapValue) (a b : Allows) (i : Option ℕ) → IsAllowedAlso m a b → (s : State) (path : List Move)
     → IsPathFrom (under_by a i m) s path → IsPathFrom (under_by b i m) s path
 path-also m a b i also s [] is = tt
-path-also m a b i also s (move ∷ path) is = (
-  subst (λ t. IsMove (under_by b i m) t move) (state-by m a b i s path)
-      (move-also m a b i also (state_from (under_by a i m) s path) move is.0),
-  path-also m a b i also s path is.1,
-)
+path-also m a b i also s (move ∷ path) is =
+    search (rules, state-by, move-also, path-also m a b i also s path is.1)
 
 tap-also : (m : MapValue) (a b : Allows) → IsAllowedAlso m a b → (s t : State) (plain : Bool) (x : Symbol) (k : ℕ)
     → s ≡ t → IsAllowedTap (alone_by a m) s plain x k → IsAllowedTap (alone_by b m) t plain x k
@@ -81,44 +76,32 @@ behind-by m a b s (Some d) = state-by m a b None s d.moves
 
 pub end-by : (m : MapValue) (a b : Allows) (s : State) (x : Way)
     → state_at_end (alone_by a m) s x ≡ state_at_end (alone_by b m) s x
-end-by m a b s x =
-    ap (λ t. state_from (alone_by a m) t x.moves) (behind-by m a b s x.dead)
-    ∙ state-by m a b None (state_behind (alone_by b m) s x.dead) x.moves
+end-by m a b s x = cc
 
 begun-also : (m : MapValue) (a b : Allows) → IsAllowedAlso m a b → (s : State) (dead : Option DeadTap)
     → IsBegun (alone_by a m) s dead → IsBegun (alone_by b m) s dead
 begun-also m a b also s None begun = tt
-begun-also m a b also s (Some d) (can, goes, tap) = (
-  can,
-  path-also m a b None also s d.moves goes,
-  tap-also m a b also _ _ false (symbol.DeadKey d.accent) d.key (state-by m a b None s d.moves) tap,
-)
+begun-also m a b also s (Some d) (can, goes, tap) = search (rules, path-also, tap-also, state-by)
 
 -- a way by the one is a way by the other
-pub way-also : (m : MapValue) (a b : Allows) → IsAllowedAlso m a b → (s : State) (c : ℕ) (x : Way)
+pub way-also : (m : MapValue) (a b : Allows) → IsAllowedAlso m a b → (s : State) (c : Target) (x : Way)
     → IsWayBy a m s c x → IsWayBy b m s c x
-way-also m a b also s c x is = record {
-  begun = begun-also m a b also s x.dead is.begun;
-  goes = subst (λ t. IsPathFrom (alone_by b m) t x.moves) (behind-by m a b s x.dead)
-      (path-also m a b None also (state_behind (alone_by a m) s x.dead) x.moves is.goes);
-  tapped = is.tapped;
-  makes = is.makes;
-  tap = tap-also m a b also _ _ true is.tapped x.key (end-by m a b s x) is.tap;
-  home = subst (λ t. ComesHome (alone m) t) (end-by m a b s x) is.home;
-}
+way-also m a b also s c x is = search (rules, begun-also, behind-by, path-also, tap-also, end-by)
 
 -- ---- what ways type
 
 -- with the release of its key a way types the character
-pub way-types : (m : MapValue) (s : State) (c : ℕ) (dead : Option DeadTap) (moves : List Move) (key : ℕ)
+pub way-types : (m : MapValue) (s : State) (c : Target) (dead : Option DeadTap) (moves : List Move) (key : ℕ)
     → (h : List Event) (cs : List ℕ)
     → IsWayBy all_allowed m s c (record { dead = dead; moves = moves; key = key }) → HasTyped m h s None cs
     → HasTyped m (Release key ∷ (events_of_way (record { dead = dead; moves = moves; key = key }) ++ h))
-    (state_at_end (alone m) s (record { dead = dead; moves = moves; key = key })) None (cs ++ c ∷ [])
+    (state_at_end (alone m) s (record { dead = dead; moves = moves; key = key })) None
+    (cs ++ c.character ∷ [])
 way-types m s c None moves key h cs is typed =
-    subst (λ z. HasTyped m (Release key ∷ Press key ∷ (z ++ h)) (state_from (alone m) s moves) None (cs ++ c ∷ []))
+    subst (λ z. HasTyped m (Release key ∷ Press key ∷ (z ++ h)) (state_from (alone m) s moves) None
+    (cs ++ c.character ∷ []))
     (sym (append-nil (events_along moves)))
-    (tap-direct m (events_along moves ++ h) (state_from (alone m) s moves) cs c key
+    (tap-direct m (events_along moves ++ h) (state_from (alone m) s moves) cs c.character key
     (walked m h s None cs moves typed is.goes)
     (subst (λ x. IsTapOf (alone m) (state_from (alone m) s moves) true x key) is.makes is.tap.0))
 way-types m s c (Some d) moves key h cs is typed =
@@ -129,7 +112,7 @@ way-types m s c (Some d) moves key h cs is typed =
     (walked m h s None cs d.moves typed goes) tap.0 can in
     rw (append_assoc (events_along moves) (Release d.key ∷ Press d.key ∷ events_along d.moves) h)
     (tap-composed m (events_along moves ++ (Release d.key ∷ Press d.key ∷ (events_along d.moves ++ h)))
-    (state_from (alone m) (state_from (alone m) s d.moves) moves) cs d.accent is.tapped c key
+    (state_from (alone m) (state_from (alone m) s d.moves) moves) cs d.accent is.tapped c.character key
     (walked m (Release d.key ∷ Press d.key ∷ (events_along d.moves ++ h)) (state_from (alone m) s d.moves)
     (Some d.accent) cs moves dead is.goes) is.tap.0 can is.makes)
 
@@ -160,10 +143,10 @@ comes-before m s path is (later, more, home) =
     (later ++ path, all.0, subst IsHome (sym all.1) home)
 
 -- keys can type what has a way
-pub way-can : (m : MapValue) (o : State) → CanReturn m o → (c : ℕ) (dead : Option DeadTap) (moves : List Move) (key : ℕ)
-    → IsWayBy all_allowed m o c (record { dead = dead; moves = moves; key = key }) → CanType m c
+pub way-can : (m : MapValue) (o : State) → CanReturn m o → (c : Target) (dead : Option DeadTap) (moves : List Move)
+    (key : ℕ) → IsWayBy all_allowed m o c (record { dead = dead; moves = moves; key = key }) → CanType m c.character
 way-can m o st c None moves key is =
-    inl (can-tap-from m o st moves is.goes is.home true (symbol.Character c) key
+    inl (can-tap-from m o st moves is.goes is.home true (symbol.Character c.character) key
     (subst (λ x. IsTapOf (alone m) (state_from (alone m) o moves) true x key) is.makes is.tap.0))
 way-can m o st c (Some d) moves key is =
     let (can, goes, tap) = is.begun in
@@ -195,7 +178,7 @@ from-home m o origin (back, returns, home) path is =
 
 -- what keys can type has a way from a state that can return
 pub can-way : (m : MapValue) (o : State) → CanReturn m o → (c : ℕ) → CanType m c
-    → (x : Way) × IsWayBy all_allowed m o c x
+    → (x : Way) × IsWayBy all_allowed m o (ending_with None c) x
 can-way m o st c (inl (path, is, home, (k, tap))) =
     let (out, goes, there) = from-home m o (returns-origin m o st) st.home path is in (
       record { dead = None; moves = out; key = k },
@@ -204,6 +187,7 @@ can-way m o st c (inl (path, is, home, (k, tap))) =
         goes = goes;
         tapped = symbol.Character c;
         makes = refl;
+        last = tt;
         tap = (subst (λ z. IsTapOf (alone m) z true (symbol.Character c) k) (sym there) tap, refl);
         home = subst (λ z. ComesHome (alone m) z) (sym there) home;
       },
@@ -221,6 +205,7 @@ can-way m o st c (inr (i, x, can, made, (path, is, home, (j, dead)), (path2, is2
         goes = more;
         tapped = x;
         makes = made;
+        last = tt;
         tap = (subst (λ z. IsTapOf (alone m) z true x k) (sym end) tap, refl);
         home = subst (λ z. ComesHome (alone m) z) (sym end) home2;
       },

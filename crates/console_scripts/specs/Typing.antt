@@ -1,6 +1,7 @@
 -- What keys can type, and the events that type characters.
 use Rattle.std.specs.Prelude.{◌≡◌, ◌==◌, ℕ, ◌+◌, ◌<◌, ◌≤◌, Bool, true, false, ◌⊎◌, List, [], ◌∷◌, ◌++◌, All, Option}
-use Rattle.std.specs.Prelude.{◌↔◌, slice_index_or, None, Some, ⊤, if◌then◌else◌, filter, map, reverse, slice_get, take, length}
+use Rattle.std.specs.Prelude.{◌↔◌, slice_index_or, None, Some, ⊤, if◌then◌else◌, filter, map, reverse, slice_get}
+use Rattle.std.specs.Prelude.{take, length}
 use Rattle.console_scripts.specs.Types.{Action, Modifier, Lock, Meta, Cell, Char, Act, Event, Press, Release, Answer}
 use Rattle.console_scripts.specs.Types.{Move}
 use Rattle.keymap_core.specs.Actions.{IsAction, code_of}
@@ -160,6 +161,12 @@ TypedCanBeTyped =
     (m : MapValue) (forgets : Bool) (h : List Event) (c : ℕ) → (forgets ≡ false → NeverForgets (alone m))
     → IsAdmitted m forgets h → IsAsNew m h → TypesAlong m h c
     → CanType m c
+
+-- why a search gives up: for want of memory, or more states can be reached than are gone over
+abbrev pub IsSearchError : MapValue → TypingError → Type 0
+IsSearchError m Memory = ⊤
+IsSearchError m (NoWay n) = ⊥
+IsSearchError m TooManyStates = (p : ℕ) × ReachesMoreThan (alone m) state_limit p
 
 -- why characters aren't typed: keys can type those before the place, and not the one there
 abbrev pub IsTypingError : MapValue → List ℕ → TypingError → Type 0

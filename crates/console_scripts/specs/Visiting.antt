@@ -1,4 +1,5 @@
--- What the events of a visit do: they lead a console to where a press sees something. Which sights can be visited, and what is told of the states that moves lead to.
+-- What the events of a visit do: they lead a console to where a press sees something. Which sights can be visited, and
+-- what is told of the states that moves lead to.
 use Rattle.std.specs.Prelude.{◌≡◌, ◌⊎◌, ℕ, ◌<◌, false, List, [], ◌∷◌, ◌++◌}
 use Rattle.std.specs.List.{Contains}
 use Rattle.keymap_core.specs.Maps.{MapValue}

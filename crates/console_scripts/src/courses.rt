@@ -5,8 +5,9 @@ ghost use Rattle.console_states.specs.Looks.{IsFirst};
 ghost use Rattle.console_states.specs.Allowed.{is_pressed};
 ghost use Rattle.console_states.specs.Searching.{GoBack, state_of, under_of};
 ghost use Rattle.console_scripts.specs.Inner.Courses.{EndsAt, Gives, IsEnding, IsFoundAt, IsGiven, IsNearestAt};
-ghost use Rattle.console_scripts.specs.Inner.Courses.{IsReached, LackAll, Lacks, takes_key, under_by};
+ghost use Rattle.console_scripts.specs.Inner.Courses.{IsReached, LackAll, Lacks, MayEnd, under_by};
 ghost use Rattle.console_scripts.specs.Inner.Exploring.{IsOrigin};
+ghost use Rattle.console_scripts.specs.Ways.{IsLast};
 
 use crate::classes::{Class, Spared, presses_of, takes};
 use crate::making::{can_make, has_made, is_made};
@@ -26,6 +27,13 @@ pub struct Course {
     pub class: Class,
     pub spared: Spared,
     pub accent: Option<u8>,
+}
+
+/// What ways are looked for: those that type the character, and end with a press of the key, if one is told.
+#[derive(Clone, Copy, Debug, PartialEq, Eq, Hash)]
+pub struct Target {
+    pub character: char,
+    pub last: Option<u8>,
 }
 
 /// The states that its presses lead to, in the order of the fewest presses, and whether they are all.
@@ -79,34 +87,47 @@ pub struct Ending {
     pub keys: [bool; KEY_COUNT],
 }
 
-/// Whether ways of the course may end with a press of the key.
-fn may_end(map: &KeyMap, board: Board, course: &Course, character: char, key: KeyCode) -> bool
-    ensures taken { result ≡ true → takes_key board course.now.class course.now.spared key ≡ true }
-    ensures other { result ≡ false → takes_key board course.now.class course.now.spared key ≡ true
-        → Lacks map.now course.now.accent character key }
+/// Whether the key is the one that is told, if one is.
+fn is_last(last: Option<u8>, key: KeyCode) -> bool
+    ensures is { result ≡ true → IsLast last key }
+    ensures other { result ≡ false → IsLast last key → ⊥ }
 {
-    takes(board, course.class, course.spared, key) && has_made(map, course.accent, character, key)
+    match last {
+        Some(code) => key.get() == code,
+        None => true,
+    }
 }
 
-/// The ending of the course's ways that type the character, if some key may be pressed for it.
-pub fn ending_of(map: &KeyMap, board: Board, course: &Course, character: char) -> Option<Ending>
-    ensures { MatchOption result (LackAll board map.now course.now character)
-        (IsEnding board map.now course.now character) }
+/// Whether ways of the course may end with a press of the key.
+fn may_end(map: &KeyMap, board: Board, course: &Course, target: Target, key: KeyCode) -> bool
+    ensures may { result ≡ true → MayEnd board course.now target key }
+    ensures other { result ≡ false → MayEnd board course.now target key
+        → Lacks map.now course.now.accent target.character key }
 {
-    if !can_make(map, course.accent, character) {
+    is_last(target.last, key)
+        && takes(board, course.class, course.spared, key)
+        && has_made(map, course.accent, target.character, key)
+}
+
+/// The ending of the course's ways that are looked for, if some key may be pressed for it.
+pub fn ending_of(map: &KeyMap, board: Board, course: &Course, target: Target) -> Option<Ending>
+    ensures { MatchOption result (LackAll board map.now course.now target)
+        (IsEnding board map.now course.now target) }
+{
+    if !can_make(map, course.accent, target.character) {
         return None;
     }
     let mut keys = [false; KEY_COUNT];
     let mut has_any = false;
     for code in 0..KEY_COUNT as u8 {
-        let ends = may_end(map, board, course, character, key_with(code));
+        let ends = may_end(map, board, course, target, key_with(code));
         keys[code as usize] = ends;
         has_any = has_any || ends;
     }
     if has_any {
         Some(Ending {
             accent: course.accent,
-            character,
+            character: target.character,
             keys,
         })
     } else {

@@ -11,7 +11,7 @@ ghost use Rattle.console_scripts.specs.Inner.Symbols.{AreKeysWith};
 ghost use Rattle.console_states.specs.Searching.{state_of};
 
 use crate::routes::{Routes, has_route, routes_home};
-use crate::showing::{come_home, tap};
+use crate::showing::come_home;
 use crate::symbols::keys_with;
 use console_core::Event;
 use console_states::{End, Held, KeyAt, Keymaps, Met, first_where, meet_all};
@@ -24,13 +24,6 @@ pub enum Symbol {
     Character(char),
     /// The dead key of the accent.
     DeadKey(u8),
-}
-
-/// What is to be tapped. Where it is to be plain, meta is off.
-#[derive(Clone, Copy, Debug)]
-pub struct Tap {
-    pub symbol: Symbol,
-    pub is_plain: bool,
 }
 
 /// The states that presses lead to from the origin, which is one of them, in the order of the fewest presses, and
@@ -94,20 +87,22 @@ pub fn is_symbol(cell: &Cell, symbol: Symbol) -> bool
 }
 
 /// A key that holds nothing in the state and looks up the cell, of those that have the symbol.
-fn key_tapping(held: &Held, map: &KeyMap, tap: &Tap, have: &[bool; KEY_COUNT]) -> Option<KeyCode>
-    requires { AreKeysWith map.now tap.now.symbol have.now }
+fn key_tapping(
+    held: &Held,
+    map: &KeyMap,
+    symbol: Symbol,
+    have: &[bool; KEY_COUNT],
+) -> Option<KeyCode>
+    requires { AreKeysWith map.now symbol have.now }
     ensures { (u : Under) → map_in u (state_of held.now) ≡ map.now
-        → MatchOption result ((k : ℕ) → IsTapOf u (state_of held.now) tap.now.is_plain tap.now.symbol k → ⊥)
-        (λ k. IsTapOf u (state_of held.now) tap.now.is_plain tap.now.symbol k) }
+        → MatchOption result ((k : ℕ) → IsTapOf u (state_of held.now) false symbol k → ⊥)
+        (λ k. IsTapOf u (state_of held.now) false symbol k) }
 {
-    if tap.is_plain && held.is_meta_held() {
-        return None;
-    }
     let selection = held.selection();
     for code in 0..KEY_COUNT as u8 {
         if have[code as usize] {
             let key = key_with(code);
-            if is_symbol(&selection.look(map, key), tap.symbol) && !held.holds(key) {
+            if is_symbol(&selection.look(map, key), symbol) && !held.holds(key) {
                 return Some(key);
             }
         }
@@ -131,24 +126,14 @@ fn let_all_go(from: &Held, events: &mut Vec<Event>) -> Result<Held, AllocError>
 }
 
 impl<'m> Explored<'m> {
-    /// A key that can be tapped so in the state, if a route leads home from there. Near states have the locks of the
-    /// origin.
+    /// A key that can be tapped for the symbol in the state, if a route leads home from there.
     #[inline(always)]
-    fn key_in(
-        &self,
-        held: &Held,
-        tap: &Tap,
-        have: &[bool; KEY_COUNT],
-        is_near: bool,
-    ) -> Option<KeyCode>
-        requires { AreKeysWith (map_of_explored self.now) tap.now.symbol have.now }
-        ensures { MatchOption result (is_near ≡ false → (k : ℕ) → CanTapIn self.now tap.now held.now k → ⊥)
-            (λ k. CanTapIn self.now tap.now held.now k) }
+    fn key_in(&self, held: &Held, symbol: Symbol, have: &[bool; KEY_COUNT]) -> Option<KeyCode>
+        requires { AreKeysWith (map_of_explored self.now) symbol have.now }
+        ensures { MatchOption result ((k : ℕ) → CanTapIn self.now symbol held.now k → ⊥)
+            (λ k. CanTapIn self.now symbol held.now k) }
     {
-        if is_near && !held.has_locks_of(&self.origin) {
-            return None;
-        }
-        match key_tapping(held, self.maps.first, tap, have) {
+        match key_tapping(held, self.maps.first, symbol, have) {
             Some(key) => {
                 if has_route(&self.routes, held) {
                     Some(key)
@@ -160,15 +145,14 @@ impl<'m> Explored<'m> {
         }
     }
 
-    /// The first place from which a route leads home and where a key can be tapped so, and that key. Near places have
-    /// the locks of the origin.
-    pub fn first_place(&self, tap: &Tap, is_near: bool) -> Option<KeyAt>
+    /// The first place from which a route leads home and where a key can be tapped for the symbol, and that key.
+    pub fn first_place(&self, symbol: Symbol) -> Option<KeyAt>
         requires { IsExplored self.now }
-        ensures { MatchOption result (is_near ≡ false → HasTap self.now tap.now → ⊥)
-            (λ at. IsTapAt self.now tap.now at.place at.key) }
+        ensures { MatchOption result (HasTap self.now symbol → ⊥)
+            (λ at. IsTapAt self.now symbol at.place at.key) }
     {
-        let have = keys_with(self.maps.first, tap.symbol);
-        first_where(&self.met, |held| self.key_in(&held, tap, &have, is_near))
+        let have = keys_with(self.maps.first, symbol);
+        first_where(&self.met, |held| self.key_in(&held, symbol, &have))
     }
 
     /// Adds the events from the state, which was met and from which a route leads home, to one where no key holds a

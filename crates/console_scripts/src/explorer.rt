@@ -12,17 +12,17 @@ ghost use Rattle.console_states.specs.Returning.{IsAfter, but_scroll};
 ghost use Rattle.console_states.specs.Sights.{AreSightsOf};
 ghost use Rattle.console_scripts.specs.Types.{Event as EventValue, Scroll};
 ghost use Rattle.console_scripts.specs.Typing.{ComesHome};
-ghost use Rattle.console_scripts.specs.Visiting.{AreStatesOf, CanReach, CanVisit, IsNearHome, IsVisit, IsWayHome, LeadsBy};
-ghost use Rattle.console_scripts.specs.Visiting.{resting_after};
+ghost use Rattle.console_scripts.specs.Visiting.{AreStatesOf, CanReach, CanVisit, IsNearHome, IsVisit, IsWayHome};
+ghost use Rattle.console_scripts.specs.Visiting.{LeadsBy, resting_after};
 ghost use Rattle.console_states.specs.Sticking.{ReachesMoreThan, state_limit};
 ghost use Rattle.console_scripts.specs.Inner.Exploring.{map_of_explored, origin_in, IsExplored, IsMetAt, IsTapAt};
-ghost use Rattle.console_scripts.specs.Inner.Exploring.{dead_tap};
+ghost use Rattle.console_scripts.specs.declared.explored.Symbol.TheVariants as symbol;
 ghost use Rattle.console_scripts.specs.Inner.Routes.{HasRoute};
 ghost use Rattle.console_states.specs.Searching.{under_of, Entry};
 ghost use Rattle.console_scripts.specs.Inner.Showing.{IsAim, IsWhole, Leads, LeadsComposing, LeadsToSee, Sees, Shows};
 ghost use Rattle.console_scripts.specs.Inner.Showing.{ShowsNot};
 
-use crate::explored::{Explored, Symbol, Tap, explore};
+use crate::explored::{Explored, Symbol, explore};
 use crate::routes::has_route;
 use crate::showing::{come_home, tap};
 use console_core::{Event, Translator};
@@ -72,8 +72,8 @@ fn after(held: &Held, maps: &Keymaps, key: KeyCode) -> Held
     }
 }
 
-/// Adds a tap of the key, if it is wanted and keeps the state, and one more of a dead key, so that no accent of it stays
-/// pending.
+/// Adds a tap of the key, if it is wanted and keeps the state, and one more of a dead key, so that no accent of it
+/// stays pending.
 fn tap_if(
     events: &mut Vec<Event>,
     maps: &Keymaps,
@@ -176,11 +176,7 @@ impl<'m> Explored<'m> {
     {
         match sight {
             Sight::Pair { accent, .. } => {
-                let tap = Tap {
-                    symbol: Symbol::DeadKey(accent),
-                    is_plain: false,
-                };
-                match self.first_place(&tap, false) {
+                match self.first_place(Symbol::DeadKey(accent)) {
                     Some(dead) => self.aim_behind(Some(dead), sight),
                     None => None,
                 }
@@ -221,7 +217,7 @@ impl<'m> Explored<'m> {
         requires dead { IsMetAt self.now dead.place }
         requires place { place < length self.now.met.entries }
         ensures { OnOk result ((y : Entry) (accent : ℕ) → slice_get self.now.met.entries place ≡ Some y
-            → IsTapAt self.now (dead_tap accent) dead.place dead.key
+            → IsTapAt self.now (symbol.DeadKey accent) dead.place dead.key
             → LeadsComposing (map_of_explored self.now) accent start (state_of y.0)
             (reverse events.old.items) (reverse events.new.items)) }
     {
@@ -301,8 +297,8 @@ impl<'m> Explorer<'m> {
 
     /// The events of a visit from where the console stands while no key holds a modifier, if that is near home: a
     /// reset, moves, and a press that sees it; nothing where it can't be visited. Keys that are wanted are tapped
-    /// before that press, if they keep the state; not where it is behind a dead key. Which keys are tapped on the way is
-    /// in no clause: a visit without them sees what it is to see, too.
+    /// before that press, if they keep the state; not where it is behind a dead key. Which keys are tapped on the way
+    /// is in no clause: a visit without them sees what it is to see, too.
     pub fn visit<T: Translator, F: Fn(Selection, KeyCode) -> bool>(
         &self,
         alloc: Global,

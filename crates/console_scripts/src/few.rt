@@ -1,13 +1,14 @@
 //! The places of cells that taps look up in a few states: mostly these are all of which something comes, and no search
 //! is needed.
-ghost use Rattle.std.specs.Prelude.{◌≡◌, ◌<◌, ◌⊎◌, true, ℕ, IfOk, OnOk};
-ghost use Rattle.console_states.specs.Searching.{state_of};
-ghost use Rattle.console_scripts.specs.Inner.Places.{AreLedTo, CanLookUp, IsLedTo, IsMarked, cell_of_place, gives_cell};
+ghost use Rattle.std.specs.Prelude.{◌≡◌, ◌<◌, ◌⊎◌, true, ℕ, IfOk};
+ghost use Rattle.console_states.specs.Moves.{alone};
+ghost use Rattle.console_states.specs.Searching.{IsLedTo, state_of};
+ghost use Rattle.console_scripts.specs.Inner.Places.{CanLookUp, IsMarked, cell_of_place, gives_cell};
 ghost use Rattle.console_scripts.specs.Inner.Places.{live_count, place_count};
 
 use crate::places::{Marks, gives, mark_in, no_marks};
-use console_states::{Held, Keymaps};
-use keymap_core::{COLUMN_COUNT, Cell, KEY_COUNT, KeyCode, KeyMap, SLOT_LIMIT, key_with};
+use console_states::{Held, Keymaps, few_states};
+use keymap_core::{COLUMN_COUNT, Cell, KEY_COUNT, KeyMap, SLOT_LIMIT};
 use std::alloc::{AllocError, Global};
 
 /// The cell at the place.
@@ -18,49 +19,9 @@ pub(crate) fn cell_at(map: &KeyMap, place: usize) -> Cell
     map.entry((place / COLUMN_COUNT) as u8).cells[place % COLUMN_COUNT]
 }
 
-/// Whether one of the states has the selection of this one.
-fn has_selection_of(states: &[Held], held: &Held) -> bool {
-    states
-        .iter()
-        .any(|state| state.selection() == held.selection())
-}
-
-/// Adds where a press of the key leads from each of the states.
-fn push_pressed(states: &mut Vec<Held>, map: &KeyMap, key: KeyCode) -> Result<(), AllocError>
-    requires { AreLedTo map.now states.old.items }
-    ensures { OnOk result (AreLedTo map.now states.new.items) }
-{
-    let maps = Keymaps::alone(map);
-    for place in 0..states.len() {
-        if let Some(step) = states[place].pressed(&maps, key) {
-            states.push(step.to)?;
-        }
-    }
-    Ok(())
-}
-
-/// Some states that presses lead to: for each of shift, control, alt and the upper half that one press at the start turns
-/// on, a key that does, and these keys together.
-fn few_states(alloc: Global, map: &KeyMap) -> Result<Vec<Held>, AllocError>
-    ensures { IfOk result (λ states. AreLedTo map.now states.items) }
-{
-    let maps = Keymaps::alone(map);
-    let mut states = Vec::new(alloc);
-    states.push(Held::start())?;
-    for code in 0..KEY_COUNT as u8 {
-        let key = key_with(code);
-        if let Some(step) = Held::start().pressed(&maps, key) {
-            if !step.to.is_any_locked() && !has_selection_of(states.as_slice(), &step.to) {
-                push_pressed(&mut states, map, key)?;
-            }
-        }
-    }
-    Ok(states)
-}
-
 /// Marks the places that keys look up in the state, if no lock is on and meta isn't held.
 fn mark_plainly(marks: &mut Marks, map: &KeyMap, held: &Held)
-    requires { IsLedTo map.now (state_of held.now) }
+    requires { IsLedTo (alone map.now) (state_of held.now) }
     ensures { (p : ℕ) → IsMarked marks.new p → IsMarked marks.old p ⊎ CanLookUp map.now true p }
 {
     if held.is_any_locked() || held.is_meta_held() {
@@ -73,9 +34,9 @@ fn mark_plainly(marks: &mut Marks, map: &KeyMap, held: &Held)
 pub(crate) fn few_places(alloc: Global, map: &KeyMap) -> Result<Marks, AllocError>
     ensures { IfOk result (λ marks. (p : ℕ) → IsMarked marks p → CanLookUp map.now true p) }
 {
-    let states = few_states(alloc, map)?;
+    let states = few_states(alloc, &Keymaps::alone(map))?;
     let mut marks = no_marks();
-    for held in states.as_slice() {
+    for held in &states {
         mark_plainly(&mut marks, map, held);
     }
     Ok(marks)

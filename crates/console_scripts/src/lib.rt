@@ -6,14 +6,16 @@
 //! An `Explorer` makes the events of visits to what presses can see, where moves lead back; `find_onward` those to what
 //! lies behind a turn of a lock that none takes back, and `scroll_off` those that turn the scroll lock off.
 //! `type_characters` makes the events that type characters, in whatever layout a lock selects them, or names the first
-//! character that no keys can type. A `Typist` tells of each character whether keys can type it, and `yield_of` makes
-//! the set of all that they can, with the actions that taps give.
+//! character that no keys can type; `ways_of` makes those that type one character, by each key that can. A `Typist`
+//! tells of each character whether keys can type it, and `yield_of` makes the set of all that they can, with the actions
+//! that taps give.
 //!
-//! No call takes memory but `find_onward`, `scroll_off`, those of an `Explorer`, `Typist::new`, `yield_of` and
-//! `type_characters`. These fail for want of memory, `type_characters` besides where a character can't be typed or more
-//! than 65,536 states can be reached, and no other call fails.
+//! No call takes memory but `find_onward`, `scroll_off`, those of an `Explorer`, `Typist::new`, `yield_of`, `ways_of`
+//! and `type_characters`. These fail for want of memory, the last two besides where more than 65,536 states can be
+//! reached, `type_characters` also where a character can't be typed, and no other call fails.
 #![tactic(auto)]
 
+mod by_key;
 mod classes;
 mod courses;
 mod explored;
@@ -30,8 +32,8 @@ mod symbols;
 mod typed;
 mod typing;
 mod typist;
-mod ways;
 
+pub use by_key::{WayBy, ways_of};
 pub use classes::Class;
 pub use explorer::Explorer;
 pub use onward::{find_onward, scroll_off};

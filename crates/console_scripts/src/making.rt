@@ -7,8 +7,7 @@ ghost use Rattle.console_scripts.specs.Typing.{composed_of};
 ghost use Rattle.console_scripts.specs.Inner.Courses.{IsMade, Lacks, MakesBy};
 
 use crate::explored::{Symbol, is_symbol};
-use crate::typed::symbol_of;
-use crate::ways::composed;
+use crate::typed::{composed, symbol_of};
 use console_core::is_usable;
 use keymap_core::{Accent, Cell, KEY_COUNT, KeyCode, KeyMap};
 

@@ -58,8 +58,8 @@ impl<'m> Explored<'m> {
     }
 }
 
-/// The events that see one of these from where the console stands while no key holds a modifier, whether moves lead back
-/// or not: a reset, moves, taps of keys that are wanted, and a press.
+/// The events that see one of these from where the console stands while no key holds a modifier, whether moves lead
+/// back or not: a reset, moves, taps of keys that are wanted, and a press.
 pub fn find_onward<T: Translator, F: Fn(Selection, KeyCode) -> bool>(
     alloc: Global,
     map: &KeyMap,

@@ -1,4 +1,5 @@
-//! The cells that taps of keys look up, by their places: those of which something comes, by one exploration of a keymap.
+//! The cells that taps of keys look up, by their places: those of which something comes, by one exploration of a
+//! keymap.
 //!
 //! What a key looks up depends on the selection of a state alone. So keys are asked in each selection once, where those
 //! that hold a modifier there look up nothing of which something comes.
@@ -88,8 +89,8 @@ fn mark_of_key(
     are_all
 }
 
-/// Marks the places that keys look up which hold no modifier in the state. Answers whether these are all that are looked
-/// up where the same is selected.
+/// Marks the places that keys look up which hold no modifier in the state. Answers whether these are all that are
+/// looked up where the same is selected.
 pub(crate) fn mark_in(marks: &mut Marks, map: &KeyMap, held: &Held) -> bool
     ensures { IsWithKeys map.now (state_of held.now) key_count marks.old marks.new result }
 {
@@ -143,11 +144,11 @@ impl<'m> Explored<'m> {
         Ok(())
     }
 
-    /// The places that taps look up; where the taps are to be plain, those that they do while meta is off.
+    /// The places that taps look up in the states that were met; where the taps are to be plain, those that they do
+    /// while meta is off.
     pub(crate) fn places(&self, alloc: Global, is_plain: bool) -> Result<Marks, AllocError>
-        requires explored { IsExploredFrom (map_of_explored self.now) start self.now }
-        requires complete { self.now.is_complete ≡ true }
-        ensures { IfOk result (λ marks. ArePlaces (map_of_explored self.now) is_plain marks) }
+        requires { IsExploredFrom (map_of_explored self.now) start self.now }
+        ensures { IfOk result (λ marks. ArePlaces (map_of_explored self.now) is_plain self.now.is_complete marks) }
     {
         let mut marks = no_marks();
         let mut known = Vec::new(alloc);

@@ -8,6 +8,7 @@ ghost use Rattle.console_states.specs.Allowed.{Allows};
 ghost use Rattle.console_states.specs.Moves.{State};
 ghost use Rattle.console_states.specs.Searching.{GoBack, state_of};
 ghost use Rattle.console_scripts.specs.Ways.{allows_in};
+ghost use Rattle.console_scripts.specs.declared.courses.Target.{Target as TargetValue};
 ghost use Rattle.console_scripts.specs.Inner.Courses.{IsEnding, IsReached, allows_but};
 ghost use Rattle.console_scripts.specs.Inner.Exploring.{CanReturn, map_of_explored, origin_in, IsExplored};
 ghost use Rattle.console_scripts.specs.Inner.Exploring.{IsExploredFrom};
@@ -17,7 +18,7 @@ ghost use Rattle.console_scripts.specs.Inner.Seeking.{IsFound};
 ghost use Rattle.console_scripts.specs.Inner.Seeking.{IsLooked, IsNearerOf};
 
 use crate::classes::{CLASSES, Class, LEFT_ALT, RIGHT_SHIFT, SPARED, Spared, class_at};
-use crate::courses::{Course, Ending, Found, Reached, ending_of, reach};
+use crate::courses::{Course, Ending, Found, Reached, Target, ending_of, reach};
 use crate::explored::Explored;
 use console_core::Event;
 use indexmap::IndexMap;
@@ -58,7 +59,7 @@ impl Looked {
 
     /// The one of fewer presses, and of as many the first.
     fn or_nearer(self, other: Looked) -> Looked
-        ensures { (a : Allows) (m : MapValue) (s : State) (c : ℕ) (one : Bool) (routes : Routes) (n : ℕ)
+        ensures { (a : Allows) (m : MapValue) (s : State) (c : TargetValue) (one : Bool) (routes : Routes) (n : ℕ)
             → IsLooked a m s c one (HasAccentBelow n) routes self
             → IsLooked a m s c one (HasAccent (Some n)) routes other
             → IsLooked a m s c one (HasAccentBelow (n + 1)) routes result }
@@ -68,6 +69,20 @@ impl Looked {
             has_met_all: are_both(self.has_met_all, other.has_met_all),
         }
     }
+}
+
+/// The way that is taken, and its class.
+#[derive(Debug, Drop)]
+pub struct Chosen {
+    pub class: Class,
+    pub found: Found,
+}
+
+/// The way that is taken, if there is one, and whether all states were met that were looked for.
+#[derive(Debug, Drop)]
+pub struct Choice {
+    pub chosen: Option<Chosen>,
+    pub has_met_all: bool,
 }
 
 /// The one of fewer presses, and of as many the first.
@@ -112,7 +127,7 @@ fn look_in(
     ending: &Ending,
 ) -> Result<Looked, AllocError>
     requires back { GoBack reached.now.met.entries }
-    ensures { IfOk result (λ r. (b : Board) (m : MapValue) (o : Course) (c : ℕ) → IsReached b m o reached.now
+    ensures { IfOk result (λ r. (b : Board) (m : MapValue) (o : Course) (c : TargetValue) → IsReached b m o reached.now
         → IsExploredFrom m (state_of o.from) explored.now → CanReturn m (state_of o.from)
         → IsEnding b m o c ending.now
         → IsLooked (allows_but b o.class o.spared) m (state_of o.from) c (is_none o.accent) (HasAccent o.accent)
@@ -145,12 +160,12 @@ impl Seeker {
         }
     }
 
-    /// The nearest way of the course that types the character.
+    /// The nearest way of the course that is looked for.
     fn find(
         &mut self,
         explored: &Explored,
         course: &Course,
-        character: char,
+        target: Target,
     ) -> Result<Looked, AllocError>
         requires known { IsMap (map_of_explored explored.now) }
         requires explored { IsExploredFrom (map_of_explored explored.now) (state_of course.now.from) explored.now }
@@ -160,11 +175,11 @@ impl Seeker {
         ensures courses { OnOk result (AreReached self.new.board (map_of_explored explored.now)
             self.new.courses.entries) }
         ensures looked { IfOk result (IsLooked (allows_but self.old.board course.now.class course.now.spared)
-            (map_of_explored explored.now) (state_of course.now.from) character (is_none course.now.accent)
+            (map_of_explored explored.now) (state_of course.now.from) target (is_none course.now.accent)
             (HasAccent course.now.accent) explored.now.routes.entries) }
     {
         let map: &KeyMap = explored.maps.first;
-        let Some(ending) = ending_of(map, self.board, course, character) else {
+        let Some(ending) = ending_of(map, self.board, course, target) else {
             return Ok(Looked::nothing());
         };
         if let Some(reached) = self.courses.get(course) {
@@ -181,7 +196,7 @@ impl Seeker {
         &mut self,
         explored: &Explored,
         course: &Course,
-        character: char,
+        target: Target,
     ) -> Result<Looked, AllocError>
         requires known { IsMap (map_of_explored explored.now) }
         requires explored { IsExploredFrom (map_of_explored explored.now) (state_of course.now.from) explored.now }
@@ -191,7 +206,7 @@ impl Seeker {
         ensures courses { OnOk result (AreReached self.new.board (map_of_explored explored.now)
             self.new.courses.entries) }
         ensures looked { IfOk result (IsLooked (allows_but self.old.board course.now.class course.now.spared)
-            (map_of_explored explored.now) (state_of course.now.from) character false (HasTaps false)
+            (map_of_explored explored.now) (state_of course.now.from) target false (HasTaps false)
             explored.now.routes.entries) }
     {
         let map: &KeyMap = explored.maps.first;
@@ -200,7 +215,7 @@ impl Seeker {
         while let Some(_) = map.accent(index) {
             let mut by = *course;
             by.accent = Some(index);
-            let looked = self.find(explored, &by, character)?;
+            let looked = self.find(explored, &by, target)?;
             nearest = nearest.or_nearer(looked);
             index += 1;
         }
@@ -213,7 +228,7 @@ impl Seeker {
         explored: &Explored,
         class: Class,
         spared: Spared,
-        character: char,
+        target: Target,
     ) -> Result<Looked, AllocError>
         requires known { IsMap (map_of_explored explored.now) }
         requires explored { IsExplored explored.now }
@@ -223,7 +238,7 @@ impl Seeker {
         ensures courses { OnOk result (AreReached self.new.board (map_of_explored explored.now)
             self.new.courses.entries) }
         ensures looked { IfOk result (IsLooked (allows_but self.old.board class spared) (map_of_explored explored.now)
-            (origin_in explored.now) character class.is_one_tap (HasTaps class.is_one_tap)
+            (origin_in explored.now) target class.is_one_tap (HasTaps class.is_one_tap)
             explored.now.routes.entries) }
     {
         let course = Course {
@@ -233,9 +248,9 @@ impl Seeker {
             accent: None,
         };
         if class.is_one_tap {
-            self.find(explored, &course, character)
+            self.find(explored, &course, target)
         } else {
-            self.find_composed(explored, &course, character)
+            self.find_composed(explored, &course, target)
         }
     }
 
@@ -245,23 +260,23 @@ impl Seeker {
         explored: &Explored,
         class: Class,
         found: Found,
-        character: char,
+        target: Target,
     ) -> Result<Found, AllocError>
         requires known { IsMap (map_of_explored explored.now) }
         requires explored { IsExplored explored.now }
         requires can_return { CanReturn (map_of_explored explored.now) (origin_in explored.now) }
         requires courses { AreReached self.old.board (map_of_explored explored.now) self.old.courses.entries }
         requires found { IsFound (allows_in self.old.board class) (map_of_explored explored.now)
-            (origin_in explored.now) character class.is_one_tap explored.now.routes.entries found }
+            (origin_in explored.now) target class.is_one_tap explored.now.routes.entries found }
         ensures board { OnOk result (self.new.board ≡ self.old.board) }
         ensures courses { OnOk result (AreReached self.new.board (map_of_explored explored.now)
             self.new.courses.entries) }
         ensures found { IfOk result (IsFound (allows_in self.old.board class) (map_of_explored explored.now)
-            (origin_in explored.now) character class.is_one_tap explored.now.routes.entries) }
+            (origin_in explored.now) target class.is_one_tap explored.now.routes.entries) }
         ensures presses { IfOk result (λ f. f.presses ≡ found.presses) }
     {
         for spared in SPARED {
-            let looked = self.find_sparing(explored, class, spared, character)?;
+            let looked = self.find_sparing(explored, class, spared, target)?;
             if let Some(other) = looked.into_found() {
                 if other.presses == found.presses {
                     return Ok(other);
@@ -276,7 +291,7 @@ impl Seeker {
         &mut self,
         explored: &Explored,
         class: Class,
-        character: char,
+        target: Target,
     ) -> Result<Looked, AllocError>
         requires known { IsMap (map_of_explored explored.now) }
         requires explored { IsExplored explored.now }
@@ -286,10 +301,10 @@ impl Seeker {
         ensures courses { OnOk result (AreReached self.new.board (map_of_explored explored.now)
             self.new.courses.entries) }
         ensures looked { IfOk result (IsLooked (allows_in self.old.board class) (map_of_explored explored.now)
-            (origin_in explored.now) character class.is_one_tap (HasTaps class.is_one_tap)
+            (origin_in explored.now) target class.is_one_tap (HasTaps class.is_one_tap)
             explored.now.routes.entries) }
     {
-        let looked = self.find_sparing(explored, class, Spared::none(), character)?;
+        let looked = self.find_sparing(explored, class, Spared::none(), target)?;
         let has_met_all = looked.has_met_all;
         let Some(found) = looked.into_found() else {
             return Ok(Looked {
@@ -303,7 +318,7 @@ impl Seeker {
                 has_met_all,
             });
         }
-        let found = self.spare(explored, class, found, character)?;
+        let found = self.spare(explored, class, found, target)?;
         Ok(Looked {
             found: Some(found),
             has_met_all,
@@ -311,7 +326,7 @@ impl Seeker {
     }
 
     /// The way that is taken from where the exploration began.
-    pub fn choose(&mut self, explored: &Explored, character: char) -> Result<Looked, AllocError>
+    pub fn choose(&mut self, explored: &Explored, target: Target) -> Result<Choice, AllocError>
         requires known { IsMap (map_of_explored explored.now) }
         requires explored { IsExplored explored.now }
         requires can_return { CanReturn (map_of_explored explored.now) (origin_in explored.now) }
@@ -320,21 +335,22 @@ impl Seeker {
         ensures courses { OnOk result (AreReached self.new.board (map_of_explored explored.now)
             self.new.courses.entries) }
         ensures chosen { IfOk result (IsChosen self.old.board (map_of_explored explored.now) (origin_in explored.now)
-            character explored.now.routes.entries) }
+            target explored.now.routes.entries) }
     {
         let mut has_met_all = true;
         for place in 0..CLASSES {
-            let looked = self.find_best(explored, class_at(place), character)?;
+            let class = class_at(place);
+            let looked = self.find_best(explored, class, target)?;
             has_met_all = are_both(has_met_all, looked.has_met_all);
             if let Some(found) = looked.into_found() {
-                return Ok(Looked {
-                    found: Some(found),
+                return Ok(Choice {
+                    chosen: Some(Chosen { class, found }),
                     has_met_all,
                 });
             }
         }
-        Ok(Looked {
-            found: None,
+        Ok(Choice {
+            chosen: None,
             has_met_all,
         })
     }

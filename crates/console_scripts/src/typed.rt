@@ -4,25 +4,23 @@ ghost use Rattle.std.specs.List.{Contains};
 ghost use Rattle.console_core.specs.Answers.{usable};
 ghost use Rattle.keymap_core.specs.Maps.{MapValue, accent_at};
 ghost use Rattle.console_states.specs.Moves.{alone};
-ghost use Rattle.console_states.specs.Sights.{Lists};
 ghost use Rattle.console_states.specs.Sticking.{ReachesMoreThan, state_limit};
 ghost use Rattle.keymap_core.specs.Actions.{IsAction, code_of};
 ghost use Rattle.console_scripts.specs.Types.{Act, Action as ActionValue};
 ghost use Rattle.console_scripts.specs.declared.explored.Symbol.{Symbol as SymbolValue};
 ghost use Rattle.console_scripts.specs.declared.explored.Symbol.TheVariants as symbol;
-ghost use Rattle.console_scripts.specs.Typing.{AreGiven, IsYield, CanType, is_giving as is_giving_in};
+ghost use Rattle.console_scripts.specs.Typing.{AreGiven, IsYield, composed_of, is_giving as is_giving_in};
 ghost use Rattle.console_scripts.specs.Inner.Places.{ArePlaces, Gains, place_count};
 ghost use Rattle.console_scripts.specs.Inner.Tapped.{ArePlacesOf, AreMarkedSymbols, GivesAt, HasCode, HasSymbol};
 ghost use Rattle.console_scripts.specs.Inner.Tapped.{HasCharacter, IsSymbolAt, has_symbol, symbol_in};
-ghost use Rattle.console_scripts.specs.Inner.Tapped.{Composes, IsComposed};
+ghost use Rattle.console_scripts.specs.Inner.Tapped.{Composes, IsComposed, TellsTyped};
 
 use crate::explored::{Symbol, explore};
 use crate::few::{are_all_marked, cell_at, few_places};
 use crate::places::Marks;
-use crate::ways::{base_of, composed};
 use console_core::is_usable;
 use console_states::Held;
-use keymap_core::{Accent, Action, COLUMN_COUNT, Cell, KeyMap, SLOT_LIMIT};
+use keymap_core::{Accent, Action, COLUMN_COUNT, Cell, KeyMap, Keymap, SLOT_LIMIT};
 use std::alloc::{AllocError, Global};
 use std::collections::BTreeSet;
 
@@ -43,12 +41,14 @@ struct Tapped {
     dead_keys: BTreeSet<u8>,
 }
 
-/// The places that taps look up, those that they do while meta is off, and whether it is known that these are the same.
+/// Places that taps look up, those that they do while meta is off, and whether it is known that these are the same.
 #[derive(Drop)]
-struct Places {
+pub(crate) struct Places {
     all: Marks,
     plain: Marks,
     are_alike: bool,
+    /// Whether they are all that taps look up. Else there are more than 65,536 states.
+    pub(crate) is_complete: bool,
 }
 
 /// The symbol that the cell is.
@@ -60,6 +60,29 @@ pub(crate) fn symbol_of(cell: &Cell) -> Option<Symbol>
         Cell::Act(Action::DeadKey(accent)) => Some(Symbol::DeadKey(accent.get())),
         Cell::Act(_) => None,
     }
+}
+
+/// What a tap of the symbol types while the accent is pending.
+pub(crate) fn composed(map: &KeyMap, index: u8, then: Symbol) -> Option<char>
+    ensures { result ≡ composed_of map.now index then }
+{
+    match then {
+        Symbol::Character(c) => {
+            if c == ' ' {
+                map.own(index)
+            } else {
+                map.composed(index, c)
+            }
+        }
+        Symbol::DeadKey(dead) => { if dead == index { map.own(index) } else { None } }
+    }
+}
+
+/// The base of the pair.
+fn base_of(pair: &(char, char)) -> Symbol
+    ensures { result ≡ symbol.Character pair.now.0 }
+{
+    Symbol::Character(pair.0)
 }
 
 impl Tapped {
@@ -214,10 +237,14 @@ fn add_composed(
     Ok(())
 }
 
-/// The characters that keys can type.
-fn typed_by(alloc: Global, map: &KeyMap, places: &Places) -> Result<BTreeSet<char>, AllocError>
+/// Characters that keys can type, by what stands at the places: all of them, if the places are complete.
+pub(crate) fn typed_by(
+    alloc: Global,
+    map: &KeyMap,
+    places: &Places,
+) -> Result<BTreeSet<char>, AllocError>
     requires { ArePlacesOf map.now places.now }
-    ensures { IfOk result (λ set. Lists (λ c. CanType map.now c) set.keys) }
+    ensures { IfOk result (λ set. TellsTyped map.now places.now.is_complete set) }
 {
     let plain = Tapped::of(alloc, map, &places.plain)?;
     let mut typed = plain.characters.clone()?;
@@ -281,7 +308,7 @@ fn no_codes() -> [bool; 256]
 
 /// Which actions a tap gives.
 fn given_by(map: &KeyMap, marks: &Marks) -> [bool; 256]
-    requires { ArePlaces map.now false marks.now }
+    requires { ArePlaces map.now false true marks.now }
     ensures { AreGiven map.now result }
 {
     let mut given = no_codes();
@@ -291,30 +318,35 @@ fn given_by(map: &KeyMap, marks: &Marks) -> [bool; 256]
     given
 }
 
-/// The places that taps look up, or nothing where there are more than 65,536 states.
-fn places_of(alloc: Global, map: &KeyMap) -> Result<Option<Places>, AllocError>
-    ensures { IfOk result (λ r. MatchOption r ((p : ℕ) × ReachesMoreThan (alone map.now) state_limit p)
-        (ArePlacesOf map.now)) }
+/// The places that taps look up in the states that presses lead to, of which 65,536 are met at most.
+fn places_met(alloc: Global, map: &KeyMap) -> Result<Places, AllocError>
+    ensures { IfOk result (ArePlacesOf map.now) }
 {
-    let few = few_places(alloc, map)?;
-    if are_all_marked(map, &few) {
-        return Ok(Some(Places {
-            all: few,
-            plain: few,
-            are_alike: true,
-        }));
-    }
     let explored = explore(alloc, map, &Held::start())?;
-    if !explored.is_complete {
-        return Ok(None);
-    }
     let all = explored.places(alloc, false)?;
     let plain = explored.places(alloc, true)?;
-    Ok(Some(Places {
+    Ok(Places {
         all,
         plain,
         are_alike: false,
-    }))
+        is_complete: explored.is_complete,
+    })
+}
+
+/// The places that taps look up, without a search where those of a few states are all.
+pub(crate) fn places_of(alloc: Global, map: &KeyMap) -> Result<Places, AllocError>
+    ensures { IfOk result (ArePlacesOf map.now) }
+{
+    let few = few_places(alloc, map)?;
+    if !are_all_marked(map, &few) {
+        return places_met(alloc, map);
+    }
+    Ok(Places {
+        all: few,
+        plain: few,
+        are_alike: true,
+        is_complete: true,
+    })
 }
 
 /// What comes of taps, or nothing where there are more than 65,536 states.
@@ -322,9 +354,10 @@ pub fn yield_of(alloc: Global, map: &KeyMap) -> Result<Option<Yield>, AllocError
     ensures { IfOk result (λ r. MatchOption r ((p : ℕ) × ReachesMoreThan (alone map.now) state_limit p)
         (IsYield map.now)) }
 {
-    let Some(places) = places_of(alloc, map)? else {
+    let places = places_of(alloc, map)?;
+    if !places.is_complete {
         return Ok(None);
-    };
+    }
     let typed = typed_by(alloc, map, &places)?;
     let given = given_by(map, &places.all);
     Ok(Some(Yield { typed, given }))

@@ -2,20 +2,21 @@
 //! left the locks, if there is one there.
 ghost use Rattle.std.specs.Prelude.{◌≡◌, ◌++◌, ◌∷◌, [], None, Some, reverse, OnOk, IfOk, IfErr, MatchOption};
 ghost use Rattle.keymap_core.specs.Maps.{MapValue};
-ghost use Rattle.console_scripts.specs.Typing.{AreTyped, IsTypingError};
+ghost use Rattle.console_scripts.specs.Typing.{AreTyped, IsSearchError, IsTypingError};
 ghost use Rattle.console_scripts.specs.Inner.Exploring.{AreKnown, AreExplorations, IsExplored, IsOrigin, CanReturn};
 ghost use Rattle.console_scripts.specs.Inner.Exploring.{IsExplored, IsExploredFrom, Leads, Leaves, TypesOne};
-ghost use Rattle.console_scripts.specs.Inner.Exploring.{map_of_explored};
+ghost use Rattle.console_scripts.specs.Inner.Exploring.{GoesHome, map_of_explored};
 ghost use Rattle.console_scripts.specs.Inner.Routes.{HasEntry};
-ghost use Rattle.console_states.specs.Moves.{alone};
+ghost use Rattle.console_states.specs.Moves.{alone, start};
 ghost use Rattle.console_states.specs.Searching.{state_of};
-ghost use Rattle.console_scripts.specs.Ways.{GoWaysFrom};
+ghost use Rattle.console_scripts.specs.Ways.{GoWaysFrom, HasNoWayFrom, IsTypedAlone, ending_with};
 ghost use Rattle.console_scripts.specs.Inner.Seeking.{AreReached};
 ghost use Rattle.console_core.specs.declared.event.Event.TheVariants as event;
 ghost use Rattle.keymap_core.specs.Bounds.{IsMap};
 ghost use Rattle.keyboard.specs.declared.board.Board.{Board as BoardValue};
 
-use crate::courses::Found;
+use crate::classes::Class;
+use crate::courses::{Found, Target};
 use crate::explored::{Explored, explore};
 use crate::seeking::Seeker;
 use crate::showing::tap;
@@ -26,6 +27,7 @@ use keyboard::Board;
 use keymap_core::KeyMap;
 use keymap_core::laws::every_keymap_is_within_the_bounds;
 use std::alloc::{AllocError, Global};
+use std::mem::replace;
 
 /// A character, and how many events there are up to the last of those that type it, behind which no key is pressed.
 #[derive(Clone, Copy, Debug, PartialEq, Eq)]
@@ -63,11 +65,20 @@ impl From<AllocError> for TypingError {
     }
 }
 
+/// The state behind events that type a character, the class of the way that they go, and how many presses it has before
+/// the last.
+#[derive(Clone, Copy, Debug)]
+pub struct Step {
+    pub next: Held,
+    pub class: Class,
+    pub before: usize,
+}
+
 /// How something is typed.
 #[derive(Clone, Copy)]
 pub enum Typed {
-    /// By events that lead to this state.
-    To(Held),
+    /// By events that lead there.
+    To(Step),
     NoWay,
     TooManyStates,
 }
@@ -113,31 +124,31 @@ struct Sought {
     character: char,
 }
 
-/// The events that type it, and the state behind them.
+/// The events that type it, and what they come to.
 #[derive(Debug, Drop)]
 struct Kept {
     events: Vec<Event>,
-    next: Held,
+    step: Step,
 }
 
 /// What was typed before.
 type Known = IndexMap<Sought, Kept>;
 
-/// Adds the events that typed the character from the state before, and answers the state behind them, if it was.
+/// Adds the events that typed the character from the state before, and answers what they come to, if it was.
 fn recall(
     known: &Known,
     events: &mut Vec<Event>,
     sought: &Sought,
-) -> Result<Option<Held>, AllocError>
+) -> Result<Option<Step>, AllocError>
     ensures { IfOk result (λ r. MatchOption r (events.new.items ≡ events.old.items)
-        (λ next. (b : BoardValue) (m : MapValue) → AreKnown b m known.now.entries
-        → TypesOne b m sought.now.character (state_of sought.now.from) (reverse events.old.items)
-        (reverse events.new.items) (state_of next))) }
+        (λ step. (b : BoardValue) (m : MapValue) → AreKnown b m known.now.entries
+        → TypesOne b m (ending_with None sought.now.character) (state_of sought.now.from) (reverse events.old.items)
+        (reverse events.new.items) step)) }
 {
     match known.get(sought) {
         Some(found) => {
             events.extend_from_slice(&found.events)?;
-            Ok(Some(found.next))
+            Ok(Some(found.step))
         }
         None => Ok(None),
     }
@@ -149,18 +160,15 @@ fn keep(
     alloc: Global,
     sought: &Sought,
     events: &[Event],
-    next: &Held,
+    step: Step,
 ) -> Result<(), AllocError>
     ensures { OnOk result ((b : BoardValue) (m : MapValue) → AreKnown b m known.old.entries
-        → TypesOne b m sought.now.character (state_of sought.now.from) [] (reverse events.now) (state_of next.now)
+        → TypesOne b m (ending_with None sought.now.character) (state_of sought.now.from) [] (reverse events.now) step
         → AreKnown b m known.new.entries) }
 {
     let mut kept = Vec::new(alloc);
     kept.extend_from_slice(events)?;
-    let found = Kept {
-        events: kept,
-        next: *next,
-    };
+    let found = Kept { events: kept, step };
     known.insert(*sought, found)?;
     Ok(())
 }
@@ -189,7 +197,7 @@ fn go(explored: &Explored, events: &mut Vec<Event>, found: &Found) -> Result<Hel
 
 /// What was explored and typed before, and the events so far.
 #[derive(Drop)]
-struct Scribe<'m> {
+pub struct Scribe<'m> {
     alloc: Global,
     explorations: Explorations<'m>,
     seeker: Seeker,
@@ -198,8 +206,31 @@ struct Scribe<'m> {
 }
 
 impl<'m> Scribe<'m> {
+    /// Nothing was explored or typed.
+    pub fn new(alloc: Global, board: Board) -> Scribe<'m>
+        ensures explorations { (m : MapValue) → AreExplorations m result.explorations.entries }
+        ensures board { result.seeker.board ≡ board }
+        ensures reached { (m : MapValue) → AreReached board m result.seeker.courses.entries }
+        ensures known { (m : MapValue) → AreKnown board m result.known.entries }
+        ensures events { result.events.items ≡ [] }
+    {
+        let seeker = Seeker::new(alloc, board);
+        Scribe {
+            alloc,
+            explorations: IndexMap::new(alloc),
+            seeker,
+            known: IndexMap::new(alloc),
+            events: Vec::new(alloc),
+        }
+    }
+
     /// Adds the events that type the character from the state, by a way of the first class that has one.
-    fn type_from(&mut self, map: &'m KeyMap, from: &Held, c: char) -> Result<Typed, AllocError>
+    fn type_from(
+        &mut self,
+        map: &'m KeyMap,
+        from: &Held,
+        target: Target,
+    ) -> Result<Typed, AllocError>
         requires bounds { IsMap map.now }
         requires explorations { AreExplorations map.now self.old.explorations.entries }
         requires reached { AreReached self.old.seeker.board map.now self.old.seeker.courses.entries }
@@ -208,19 +239,23 @@ impl<'m> Scribe<'m> {
         ensures board { OnOk result (self.new.seeker.board ≡ self.old.seeker.board) }
         ensures reached { OnOk result (AreReached self.new.seeker.board map.now self.new.seeker.courses.entries) }
         ensures known { OnOk result (self.new.known ≡ self.old.known) }
-        ensures leads { IfOk result (λ r. Leads self.old.seeker.board map.now c (state_of from.now)
+        ensures leads { IfOk result (λ r. Leads self.old.seeker.board map.now target (state_of from.now)
             (reverse self.old.events.items) (reverse self.new.events.items) r) }
     {
         see(&mut self.explorations, self.alloc, map, from)?;
         let explored = explored_from(&self.explorations, from);
-        let looked = self.seeker.choose(explored, c)?;
-        match &looked.found {
-            Some(found) => {
-                let next = go(explored, &mut self.events, found)?;
-                Ok(Typed::To(next))
+        let choice = self.seeker.choose(explored, target)?;
+        match &choice.chosen {
+            Some(chosen) => {
+                let next = go(explored, &mut self.events, &chosen.found)?;
+                Ok(Typed::To(Step {
+                    next,
+                    class: chosen.class,
+                    before: chosen.found.presses,
+                }))
             }
             None => {
-                if looked.has_met_all {
+                if choice.has_met_all {
                     Ok(Typed::NoWay)
                 } else {
                     Ok(Typed::TooManyStates)
@@ -240,24 +275,45 @@ impl<'m> Scribe<'m> {
         ensures board { OnOk result (self.new.seeker.board ≡ self.old.seeker.board) }
         ensures reached { OnOk result (AreReached self.new.seeker.board map.now self.new.seeker.courses.entries) }
         ensures known { OnOk result (AreKnown self.new.seeker.board map.now self.new.known.entries) }
-        ensures leads { IfOk result (λ r. Leads self.old.seeker.board map.now sought.now.character
+        ensures leads { IfOk result (λ r. Leads self.old.seeker.board map.now (ending_with None sought.now.character)
             (state_of sought.now.from) (reverse self.old.events.items) (reverse self.new.events.items) r) }
     {
-        if let Some(next) = recall(&self.known, &mut self.events, sought)? {
-            return Ok(Typed::To(next));
+        if let Some(step) = recall(&self.known, &mut self.events, sought)? {
+            return Ok(Typed::To(step));
         }
         let start = self.events.len();
-        let typed = self.type_from(map, &sought.from, sought.character)?;
-        if let Typed::To(next) = &typed {
+        let target = Target {
+            character: sought.character,
+            last: None,
+        };
+        let typed = self.type_from(map, &sought.from, target)?;
+        if let Typed::To(step) = &typed {
             keep(
                 &mut self.known,
                 self.alloc,
                 sought,
                 &self.events[start..],
-                next,
+                *step,
             )?;
         }
         Ok(typed)
+    }
+
+    /// Adds the events home from the state.
+    fn go_home(&mut self, map: &'m KeyMap, from: &Held) -> Result<(), TypingError>
+        requires explorations { AreExplorations map.now self.old.explorations.entries }
+        requires can_return { CanReturn map.now (state_of from.now) }
+        ensures explorations { OnOk result (AreExplorations map.now self.new.explorations.entries) }
+        ensures seeker { OnOk result (self.new.seeker ≡ self.old.seeker) }
+        ensures home { OnOk result (GoesHome (alone map.now) (state_of from.now) (reverse self.old.events.items)
+            (reverse self.new.events.items)) }
+        ensures error { IfErr result (λ error. IsSearchError map.now error) }
+    {
+        see(&mut self.explorations, self.alloc, map, from)?;
+        if !explored_from(&self.explorations, from).go_home(&mut self.events)? {
+            return Err(TypingError::TooManyStates);
+        }
+        Ok(())
     }
 
     /// Adds the characters and the events that type them, one after another from no key pressed, and those home.
@@ -288,7 +344,7 @@ impl<'m> Scribe<'m> {
             let character = characters[place];
             let sought = Sought { from, character };
             match self.type_next(map, &sought)? {
-                Typed::To(next) => from = next,
+                Typed::To(step) => from = step.next,
                 Typed::NoWay => return Err(TypingError::NoWay(place)),
                 Typed::TooManyStates => return Err(TypingError::TooManyStates),
             }
@@ -296,11 +352,38 @@ impl<'m> Scribe<'m> {
             push_keyed(keyed, Keyed { character, end })?;
             place += 1;
         }
-        see(&mut self.explorations, self.alloc, map, &from)?;
-        if !explored_from(&self.explorations, &from).go_home(&mut self.events)? {
-            return Err(TypingError::TooManyStates);
-        }
-        Ok(())
+        self.go_home(map, &from)
+    }
+
+    /// Types the character by itself from no key pressed, by a way that is looked for, if there is one, and goes home.
+    pub fn type_alone(
+        &mut self,
+        map: &'m KeyMap,
+        target: Target,
+    ) -> Result<Option<(Step, Typing)>, TypingError>
+        requires explorations { AreExplorations map.now self.old.explorations.entries }
+        requires reached { AreReached self.old.seeker.board map.now self.old.seeker.courses.entries }
+        ensures explorations { OnOk result (AreExplorations map.now self.new.explorations.entries) }
+        ensures board { OnOk result (self.new.seeker.board ≡ self.old.seeker.board) }
+        ensures reached { OnOk result (AreReached self.new.seeker.board map.now self.new.seeker.courses.entries) }
+        ensures typed { IfOk result (λ r. MatchOption r (HasNoWayFrom self.old.seeker.board map.now start target)
+            (λ r. IsTypedAlone r.0.class r.0.before self.old.seeker.board map.now target r.1)) }
+        ensures error { IfErr result (λ error. IsSearchError map.now error) }
+    {
+        every_keymap_is_within_the_bounds(map);
+        self.events = Vec::new(self.alloc);
+        let step = match self.type_from(map, &Held::start(), target)? {
+            Typed::To(step) => step,
+            Typed::NoWay => return Ok(None),
+            Typed::TooManyStates => return Err(TypingError::TooManyStates),
+        };
+        let character = target.character;
+        let end = self.events.len();
+        let mut keyed = Vec::new(self.alloc);
+        push_keyed(&mut keyed, Keyed { character, end })?;
+        self.go_home(map, &step.next)?;
+        let events = replace(&mut self.events, Vec::new(self.alloc));
+        Ok(Some((step, Typing { keyed, events })))
     }
 }
 
@@ -315,14 +398,7 @@ pub fn type_characters(
     ensures ways { IfOk result (λ typing. GoWaysFrom board map.now typing.events.items 0 typing.keyed.items) }
     ensures error { IfErr result (λ error. IsTypingError map.now characters.now error) }
 {
-    let seeker = Seeker::new(alloc, board);
-    let mut scribe = Scribe {
-        alloc,
-        explorations: IndexMap::new(alloc),
-        seeker,
-        known: IndexMap::new(alloc),
-        events: Vec::new(alloc),
-    };
+    let mut scribe = Scribe::new(alloc, board);
     let mut keyed = Vec::new(alloc);
     scribe.type_all(map, characters, &mut keyed)?;
     Ok(Typing {

@@ -16,9 +16,9 @@ pub use Rattle.console_core.specs.Resolved.{ResolvedEvent, is_this_action, on, p
 pub use Rattle.console_core.specs.Resolved.{unless_nop}
 unfoldable pub use Rattle.console_core.specs.Resolved.{held, locked, look, remembered}
 pub use Rattle.console_core.specs.Resolved.ResolvedEvent.{PressedAction, PressedCharacter, ReleasedKey, WasLoaded}
-pub use Rattle.console_states.specs.Inner.Adding.{Adds, AddsOffer, AddsOffers, AreLedTo, AreMinded, HasSelection}
+pub use Rattle.console_states.specs.Inner.Adding.{Adds, AddsOffer, AddsOffers, AreMinded, HasSelection}
 pub use Rattle.console_states.specs.Inner.Adding.{AreOffersOf, AreSelectionsOf, CanSelectEach, IsInSome}
-pub use Rattle.console_states.specs.Inner.Adding.{IsLedTo, IsOfferedUnlocked, IsWith, OffersUnlocked}
+pub use Rattle.console_states.specs.Inner.Adding.{IsOfferedUnlocked, IsWith, OffersUnlocked}
 pub use Rattle.console_states.specs.Inner.KeyLists.{AreKeysOf, IsOther}
 pub use Rattle.console_states.specs.Inner.Standing.{Exact, Follows, HoldsSome, Stands}
 pub use Rattle.console_states.specs.Moves.{HolderForgets, Holds, IsForgetful, IsFree, IsIdle, IsMade, IsMove, IsPath}
@@ -27,6 +27,7 @@ pub use Rattle.console_states.specs.Moves.{is_held, look_in, map_in, map_of, mov
 pub use Rattle.console_states.specs.Moves.{release_of, releases, script_of_path, start, state_after, state_from}
 pub use Rattle.console_states.specs.Moves.{minding, with_accent, with_holder, with_loads, with_lock_turned}
 pub use Rattle.console_states.specs.Returning.{IsHome, but_scroll}
+pub use Rattle.console_states.specs.Searching.{IsLedTo, AreLedTo}
 pub use Rattle.console_states.specs.Searching.{AreAdded, AreDone, AreInOrder, AreMet, AreMetOnce, AreSafe, AreWithin}
 pub use Rattle.console_states.specs.Searching.{Entries, Entry, Grows, HasEnded, HasMovingKeys, IsBegun, IsFrom, IsMetBy}
 pub use Rattle.console_states.specs.Searching.{IsReached, IsStep, IsStuck, IsTrail, IsUnmoving}

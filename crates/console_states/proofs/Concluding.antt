@@ -1,4 +1,5 @@
 -- What the search concludes of all paths from what it met.
+use Rattle.std.proofs.Common.{rules}
 use Rattle.console_states.proofs.Common.{suc, ◌≡◌, ℕ, ◌<◌, List, [], ◌∷◌, length, slice_get, Some}
 use Rattle.console_states.proofs.Common.{ap, subst, sym, ◌∙◌, arith, slice_get_within, Modifier, Event}
 use Rattle.console_states.proofs.Common.{End, TooMany, Under, start}
@@ -77,11 +78,7 @@ all-few u met p searched few (states, leads, apart) =
         let (x, at, same) = at-by j (cases_lt j 65537) lt in slice_get_within met (place j) x at
 
     one : (i j : ℕ) → i < 65537 → j < 65537 → place i ≡ place j → i ≡ j
-    one i j lt_i lt_j e =
-        let (x, at, same) = at-by i (cases_lt i 65537) lt_i in
-        let (y, there, is) = at-by j (cases_lt j 65537) lt_j in
-        apart i j (omega (arith, lt_i)) (omega (arith, lt_j))
-        (sym same ∙ ap (λ z. state_of z.0) (same_entry met (place j) (place i) y x (sym e) there at) ∙ is)
+    one i j lt_i lt_j e = search (rules, at-by, cases_lt, same_entry, place)
 
 -- where a search that minds no accent met all states, they are no more than it goes over
 pub complete-few : (u : Under) (es : Entries) → HasEnded u (start ∷ []) es Complete → u.minded ≡ None → HasFewStates u

@@ -1,4 +1,5 @@
 -- A console stands in the states that its presses, releases, resets and loads lead to.
+use Rattle.std.proofs.Common.{rules}
 use Rattle.console_states.proofs.Common.{◌≡◌, ℕ, ◌⊎◌, Bool, true, false, ◌&&◌, ◌||◌, not, List, none-some, ◌∷◌, Option}
 use Rattle.console_states.proofs.Common.{Some, None, refl, ap, subst, sym, ◌∙◌, inl, inr, if◌then◌else◌, ◌==◌, eqb-true}
 use Rattle.console_states.proofs.Common.{eq-eqb, cases_Bool, true≢false, same_action, same_modifier, same_lock}
@@ -26,10 +27,7 @@ selected-alike is_on a b same = cc (same Caps (λ e. cc), same Num (λ e. cc), s
 -- the selection after events is that of the state that they follow
 pub follows-selection : (r : List ResolvedEvent) (s : State) → Follows r s
     → selection_with (λ i. on i r) (λ l. locked l r) ≡ selection_of s
-follows-selection r s f =
-    let e : (λ (i : Modifier). on i r) ≡ (λ i. is_held s i) = fun_ext (λ i. f.on i) in
-    ap (λ x. selection_with x (λ l. locked l r)) e
-    ∙ selected-alike (λ i. is_held s i) (λ l. locked l r) s.is_locked f.locked
+follows-selection r s f = search (rules, fun_ext, selected-alike)
 
 -- a look of the events is one in the state that they follow
 pub follows-look : (u : Under) (r : List ResolvedEvent) (s : State) (k : ℕ) → Follows r s

@@ -1,4 +1,5 @@
 -- The keys that have a cell of a kind. A search that presses those with cells that can be moves presses all.
+use Rattle.std.proofs.Common.{rules}
 use Rattle.console_states.proofs.Common.{◌≡◌, ℕ, ◌+◌, ◌<◌, Bool, true, false, inl, inr, List, [], ◌∷◌, ◌++◌, subst, sym}
 use Rattle.console_states.proofs.Common.{below_more, get_or, length, ◌∙◌, ◌⊎◌, get_or_default, Contains, Contains-push}
 use Rattle.console_states.proofs.Common.{Contains-append_left, Contains-push_cases, MapValue, cell_at, slot_of, arith}
@@ -68,11 +69,7 @@ read-below P keys n j (has, below) lt =
 -- a press of a key that looks up what is no move leads nowhere
 pressed-unmoving : (P : State → Type 0) (u : Under) (s : State) (k : ℕ) → IsUnmoving u.minded (look_in u s k)
     → PressesLead u s k P
-pressed-unmoving P u s k (no_mod, no_lock, no_accent) idle = (
-  (λ i made free. absurd (no_mod i made.0)),
-  (λ l other made. absurd (no_lock l other made.0)),
-  (λ accent minded can made none. absurd (no_accent accent minded made.0)),
-)
+pressed-unmoving P u s k (no_mod, no_lock, no_accent) idle = search rules
 
 -- where the presses of these keys lead it is so, so where those of all keys lead it is
 pub all-pressed : (P : State → Type 0) (u : Under) (s : State) (keys : List ℕ) (n : ℕ) → HasMovingKeys u keys n

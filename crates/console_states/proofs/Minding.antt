@@ -1,5 +1,6 @@
 -- A search that minds an accent goes over the states of one that minds none, and over those behind where the accent is
 -- offered.
+use Rattle.std.proofs.Common.{rules}
 use Rattle.console_states.proofs.Common.{suc, ◌≡◌, ℕ, ◌+◌, ◌<◌, ◌≤◌, Bool, true, false, not, List, [], ◌∷◌, ◌++◌, All}
 use Rattle.console_states.proofs.Common.{Option, Some, None, refl, ap, subst, sym, ◌∙◌, inl, inr, ◌⊎◌, arith}
 use Rattle.console_states.proofs.Common.{if◌then◌else◌, filter, length, get_or, slice_get, cases_lt, cases_Bool}
@@ -100,12 +101,7 @@ plain-or_tap u accent b s (Turn k l) loads is = inl (is, refl)
 plain-or_tap u accent b s (LetGo k i) loads is = inl (is, refl)
 plain-or_tap u accent b s Exchange loads is = absurd (true≢false (sym is.1 ∙ loads))
 plain-or_tap u accent b s (Tap k) loads (i, minded, can, (lt, idle, looks), off) =
-    inr (
-      off,
-      subst (λ j. IsOfferedIn u s j) (sym (same_Some accent i minded)) (can, (k, lt, (idle, looks))),
-      refl,
-      refl,
-    )
+    search (rules, same_Some)
 
 -- a path without the tap leads to the same state, whether the accent is pending apart
 abbrev IsAsPlain : Under → State → ℕ → List Move → Type 0
@@ -118,14 +114,7 @@ IsAsPlain u s accent taps =
 
 as-plain : (u : Under) (s : State) (accent : ℕ) (taps : List Move) → IsPlain u s
     → IsPathFrom (minding u accent) s taps → IsAsPlain u s accent taps
-as-plain u s accent [] plain is = (
-  false,
-  [],
-  tt,
-  same_states (with_pending false s) s (λ i. refl) (λ l. refl) refl (sym plain.2),
-  (λ e. refl),
-  (λ e. absurd (true≢false (sym e))),
-)
+as-plain u s accent [] plain is = search (rules, same_states)
 as-plain u s accent (move ∷ taps) plain is =
     let (b, path, made, same, off, on) = as-plain u s accent taps plain is.1 in
     elim (plain-or_tap u accent b (state_from u s path) move plain.1
@@ -157,33 +146,7 @@ pub minded_are_offers : (u : Under) (s : State) (accent n : ℕ) (t : State) →
     → (t.is_pending ≡ false → LeadsBy u s n t)
     × (t.is_pending ≡ true → (b : ℕ) × (n ≡ suc b) × OffersBy u s accent b (without_accent t))
 minded_are_offers u s accent n t plain (taps, is, leads, count) =
-    let (b, path, made, same, off, on) = as-plain u s accent taps plain is in
-    let e : with_pending b (state_from u s path) ≡ t = same ∙ leads in
-    let bit : b ≡ t.is_pending = ap (λ z. z.is_pending) e in
-    let none = none-along u plain.0 s path made plain.2 in
-    let to : state_from u s path ≡ without_accent t =
-    same_states (state_from u s path) (without_accent t) (λ i. ap (λ z. z.holder i) e) (λ l. ap (λ z. z.is_locked l) e)
-    (ap (λ z. z.is_second) e) none in (
-      (λ clear. (
-        path,
-        made,
-        to ∙ same_states (without_accent t) t (λ i. refl) (λ l. refl) refl (sym clear),
-        sym (off (bit ∙ clear)) ∙ count,
-      )),
-      (λ pends.
-          let (later, before, at, offered, more) = on (bit ∙ pends) in (
-            presses_along path,
-            sym count ∙ more,
-            (
-              later,
-              before,
-              subst (λ p. IsPathFrom u s p) at made,
-              offered,
-              subst (λ p. state_from u s p ≡ without_accent t) at to,
-              ap (λ p. presses_along p) (sym at),
-            ),
-          )),
-    )
+    search (rules, as-plain, none-along, same_states)
 
 -- ---- which accent is pending
 
@@ -201,8 +164,7 @@ minded-move m accent h s (Turn k l) is x e = pending-move m h s (Turn k l) is x 
 minded-move m accent h s (LetGo k i) is x e = pending-move m h s (LetGo k i) is x ∙ e
 minded-move m accent h s Exchange is x e = absurd (true≢false (sym is.1))
 minded-move m accent h s (Tap k) (i, minded, can, (lt, idle, (looks, may)), none) x e =
-    sym (pending-is m (events_of_move (Tap k) ++ h))
-    ∙ tap-pending m h s k i x idle looks can (e ∙ ap (λ b. if b then Some accent else None) none) ∙ sym minded
+    search (rules, pending-is, tap-pending)
 
 pub minded-along : (m : MapValue) (accent : ℕ) (h : List Event) (s : State) (path : List Move) → Stands (alone m) h s
     → IsPathFrom (minding (alone m) accent) s path → pending m (resolved (between m m) h) ≡ pending_in accent s

@@ -54,9 +54,7 @@ below-fewer es P ordered j x at below i y there lt = search (rules, cases_lt)
 pub done-before : {os : List State} (u : Under) (es : Entries) (end : End) → HasEnded u os es end → (j : ℕ) (x : Entry)
     → slice_get es j ≡ Some x → AreDone u es x.1.presses
 done-before u es Complete ended j x at = all-done u es ended.is.0 x.1.presses
-done-before u es (TooMany p) ended j x at =
-    let (more, within, done) = ended.is in
-    λ i y there move is lt. done i y there move is (omega (arith, lt, within j x at))
+done-before u es (TooMany p) ended j x at = search rules
 
 -- what holds of what was met by fewer than n presses holds wherever fewer lead, where that is done
 pub holds-nearer : (u : Under) (es : Entries) (n : ℕ) → AreDone u es n → (P : State → Type 0)

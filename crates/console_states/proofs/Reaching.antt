@@ -1,6 +1,6 @@
 -- What was met is distinct, so many entries are many states that paths lead to.
 use Rattle.console_states.proofs.Common.{zero, suc, ◌≡◌, ℕ, ◌<◌, ◌≤◌, false, inl, inr, [], ◌∷◌, length, get_or}
-use Rattle.console_states.proofs.Common.{slice_get, Option, Some, None, if◌then◌else◌, is_some, limit_of, subst, sym}
+use Rattle.console_states.proofs.Common.{slice_get, Some, limit_of, subst, sym}
 use Rattle.console_states.proofs.Common.{◌∙◌, arith, IsDistinct, keys_of, cases_lt}
 use Rattle.console_states.proofs.Common.{true≢false, slice_get-get_or, none-some, same_Some, Held, state_of, Entry}
 use Rattle.console_states.proofs.Common.{Entries, HasEnded, TooMany, Under, State, ReachesMoreThanFrom, End}
@@ -39,19 +39,13 @@ met-once es distinct i j x y lt at_i at_j e =
 
 -- more than the limit is more than where no accent is minded
 pub over-limit : (u : Under) (n : ℕ) → limit_of u < n → 65536 < n
-over-limit u n lt = by u.minded lt
-  where
-    by : (o : Option ℕ) → (if is_some o then 131072 else 65536) < n → 65536 < n
-    by None lt = lt
-    by (Some accent) lt = omega (arith, lt)
+over-limit u n lt = search rules
 
 abbrev pub AreApart : Entry → Entry → Type 0
 AreApart x y = state_of x.0 ≡ state_of y.0 → ⊥
 
 pub all-apart : (es : Entries) → AreMetOnce es → AllPairs AreApart es
-all-apart es once i j d lt below =
-    once i j (get_or es i d) (get_or es j d) lt (slice_get-get_or es i d (omega (arith, lt, below)))
-    (slice_get-get_or es j d below)
+all-apart es once i j d lt below = search (rules, slice_get-get_or)
 
 -- many entries that paths of at most p presses lead to, to distinct states that are made of them
 pub reaches-apart : (u : Under) (s : State) (p : ℕ) (ys : Entries) (to : Entry → State) → Entry → 65536 < length ys

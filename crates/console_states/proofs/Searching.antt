@@ -48,12 +48,7 @@ searched-grows {os} u es now place n p a b y here e added le_a le_b s =
 -- fewer of them are asked for
 pub searched-fewer : {os : List State} (u : Under) (es : Entries) (a b c d : ℕ) → c ≤ a → d ≤ b → Searched u os es a b
     → Searched u os es c d
-searched-fewer u es a b c d le_c le_d s = record {
-  start = s.start;
-  reached = s.reached;
-  pressed = λ j x at lt. s.pressed j x at (omega (arith, lt, le_c));
-  closed = λ j x at lt. s.closed j x at (omega (arith, lt, le_d));
-}
+searched-fewer u es a b c d le_c le_d s = search rules
 
 -- fewer of them, and what is asked for unless too many were met
 pub searched-both : {os : List State} (u : Under) (es : Entries) (a b c d e f : ℕ) → c ≤ a → d ≤ b
@@ -101,11 +96,7 @@ searched-pressed u es n b y here pressed s = record {
 
 -- entries in order are within the number of presses
 pub order-within : (es : Entries) (level p : ℕ) → AreInOrder es level p → AreWithin es p
-order-within es level p (order, ordered) j x at =
-    elim (cases_lt j level) [
-      | inl below ↦ let lt : x.1.presses < p = (order j x at).0 below in omega (arith, lt)
-      | inr le ↦ let e : x.1.presses ≡ p = (order j x at).1 le in omega (arith, e)
-    ]
+order-within es level p (order, ordered) j x at = search (rules, cases_lt)
 
 -- entries that no fewer presses lead to are added in order
 pub order-grows : (u : Under) (s : State) (place n p level : ℕ) (es now : Entries) → AreAdded u s place n p es now
@@ -135,23 +126,12 @@ order-grows u s place n p level es now added le order = (
 
 -- entries in order begin the next level
 pub order-next : (es : Entries) (level p : ℕ) → AreInOrder es level p → AreInOrder es (length es) (p + 1)
-order-next es level p order = (
-  (λ j x at.
-      let lt : j < length es = slice_get_within es j x at in (
-        (λ below. let le : x.1.presses ≤ p = order-within es level p order j x at in omega (arith, le)),
-        (λ le. absurd (omega (arith, lt, le))),
-      )),
-  order.1,
-)
+order-next es level p order = search (rules, slice_get_within, order-within)
 
 -- entries met by fewer presses than the level stand below it
 pub below_level : (es : Entries) (level p : ℕ) → AreInOrder es level p → (j : ℕ) (x : Entry) → slice_get es j ≡ Some x
     → x.1.presses < p → j < level
-below_level es level p order j x at lt =
-    elim (cases_lt j level) [
-      | inl less ↦ less
-      | inr le ↦ let e : x.1.presses ≡ p = (order.0 j x at).1 le in absurd (omega (arith, e, lt))
-    ]
+below_level es level p order j x at lt = search (rules, cases_lt)
 
 -- what a press of a key that looks up a modifier, or a lock, leads to
 pub pressed-mod : (u : Under) (s : State) (k : ℕ) (i : Modifier) (step : Option Step)

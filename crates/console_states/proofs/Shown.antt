@@ -104,10 +104,8 @@ short-along m h s path x is = search (rules, stands-from, plain-along)
 
 pub short-tap : (m : MapValue) (h : List Event) (s : State) (k accent : ℕ) → IsShort m h s → k < 128 → IsIdle s k
     → look_in (alone m) s k ≡ Act (act.DeadKey accent) → IsShort m (Release k ∷ Press k ∷ h) s
-short-tap m h s k accent x lt idle seen = record {
-  stands = dead-tapped (alone m) h s accent k lt x.stands idle seen;
-  plain = plain-release m (Press k ∷ h) k (press-presses k h) (plain-idle m h s k x.stands idle x.plain);
-}
+short-tap m h s k accent x lt idle seen =
+    search (rules, dead-tapped, plain-release, press-presses, plain-idle)
 
 pub short-admitted : (m : MapValue) (h : List Event) (s : State) → IsShort m h s
     → All IsPressOrRelease h × ReleasesPressedKeys h × IsAdmitted m true h

@@ -15,7 +15,7 @@ use Rattle.console_states.proofs.Common.{Press}
 use Rattle.console_states.proofs.Common.{Release, Reset, Load, Move, Hold, Turn, LetGo, Exchange, rules, held-action}
 use Rattle.console_states.proofs.Common.{held-release, pressed-press, remembered-action, resolved-more, resolved-start}
 use Rattle.keymap_core.proofs.Shared.{option_or-none}
-use Rattle.console_states.proofs.Common.{◌≢◌, Scroll, IsNoLoad, is_some}
+use Rattle.console_states.proofs.Common.{◌≢◌, Scroll}
 use Rattle.console_core.proofs.Shared.{held-load, held-reset, held-start, locked-reset, no_loads-first, pressed-load}
 use Rattle.console_core.proofs.Shared.{pressed-release, pressed-reset, pressed-start, remembered-load}
 use Rattle.console_core.proofs.Shared.{remembered-release, remembered-reset, remembered-start}
@@ -157,17 +157,7 @@ dead-tapped u h s j k lt st idle seen = search (rules, stands-tapped, exact-acti
 
 -- the state says nothing of what is remembered of an accent
 stands-accent : (u : Under) (h : List Event) (s : State) → Stands u h s → Stands u h (with_accent s)
-stands-accent u h s x = record {
-  exact = record {
-    follows = record { on = x.exact.follows.on; locked = x.exact.follows.locked; holds = x.exact.follows.holds };
-    only = x.exact.only;
-    up = x.exact.up;
-  };
-  second = x.second;
-  key = x.key;
-  pressed = x.pressed;
-  keys = x.keys;
-}
+stands-accent u h s x = search rules
 
 -- the events of a move lead from a state to the next
 pub stands-move : (u : Under) (h : List Event) (s : State) (move : Move) → IsMove u s move → Stands u h s
@@ -265,11 +255,7 @@ pub minded-path : (u : Under) (accent : ℕ) (s : State) (path : List Move) → 
     → IsPathFrom (minding u accent) s path × (state_from (minding u accent) s path ≡ state_from u s path)
 minded-path u accent s [] none is = (tt, refl)
 minded-path u accent s (move ∷ path) none is =
-    let (made, same) = minded-path u accent s path none is.1 in
-    let (can, to) = plain-minded u accent (state_from u s path) move none is.0 in (
-      (subst (λ t. IsMove (minding u accent) t move) (sym same) can, made),
-      ap (λ t. moved (minding u accent) t move) same ∙ to,
-    )
+    search (rules, plain-minded, minded-path u accent s path none is.1)
 
 -- how a console stands says nothing of accents
 pub stands-minded : (u : Under) (accent : ℕ) (h : List Event) (s : State) → Stands u h s → Stands (minding u accent) h s
@@ -292,21 +278,15 @@ minded-stands m accent h s path x is =
 pub stands-reset : (m : MapValue) (h : List Event) (s : State) → IsFree s → s.is_second ≡ false
     → ((l : Lock) → l ≢ Scroll → is_locked_after (between m m) l h ≡ s.is_locked l) → HasKeys h → HasNoLoads h
     → Stands (alone m) (Reset ∷ h) s
-stands-reset m h s free first locks keys none = record {
-  exact = rw (resolved-more (between m m) h Reset) (record {
-    follows = record {
-      on = λ i. held-reset (holding.Mod i) r ∙ ap (λ o. is_some o) (sym (free i));
-      locked = λ l other. locked-reset l r ∙ locks l other;
-      holds = λ i k e. absurd (none-some k (sym (free i) ∙ e));
-    };
-    only = λ k a e. absurd (none-some a (sym (remembered-reset k r) ∙ e));
-    up = λ l. held-reset (holding.Lock l) r;
-  });
-  second = first ∙ sym (no_loads-first (Reset ∷ h) (All-cons IsNoLoad Reset h refl none));
-  key = λ i k e. absurd (none-some k (sym (free i) ∙ e));
-  pressed = λ k e. absurd (true≢false (sym e ∙ pressed-reset k h));
-  keys = All-cons HasKey Reset h tt keys;
-}
-  where
-    r : List ResolvedEvent
-    r = resolved (between m m) h
+stands-reset m h s free first locks keys none =
+    search (
+      rules,
+      resolved-more,
+      held-reset,
+      locked-reset,
+      none-some,
+      remembered-reset,
+      no_loads-first,
+      All-cons,
+      pressed-reset,
+    )

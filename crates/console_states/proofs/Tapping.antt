@@ -1,4 +1,5 @@
 -- A tap of a key that looks up a character, or an action that nothing holds, leaves the console in its state.
+use Rattle.std.proofs.Common.{rules}
 use Rattle.console_states.proofs.Common.{◌≡◌, ◌<◌, ◌∙◌, ℕ, List, ◌∷◌, None, refl, ap}
 use Rattle.console_states.proofs.Common.{eq-eqb, key_count}
 use Rattle.console_states.proofs.Common.{Act, Event, Press, Release, ResolvedEvent, remembered}
@@ -43,9 +44,7 @@ exact-scroll r s k x idle =
     }
   where
     still : (l : Lock) → l ≢ Scroll → (with_lock_turned s Scroll).is_locked l ≡ s.is_locked l
-    still l =
-        each-lock (λ j. j ≢ Scroll → (with_lock_turned s Scroll).is_locked j ≡ s.is_locked j) (λ e. refl) (λ e. refl)
-        (λ e. absurd (e refl)) (λ e. refl) l
+    still l = search (rules, each-lock)
 
 pub scroll-tapped : (u : Under) (h : List Event) (s : State) (k : ℕ) → k < key_count → Stands u h s → IsIdle s k
     → look_in u s k ≡ Act (act.Lock Scroll) → Stands u (Release k ∷ Press k ∷ h) s

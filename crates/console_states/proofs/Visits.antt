@@ -1,4 +1,5 @@
 -- Which map is in force along a path, and which locks a press turns.
+use Rattle.std.proofs.Common.{rules}
 use Rattle.console_states.proofs.Common.{cases_Bool, inl, inr, ◌≡◌, ℕ, true, false, List, [], ◌∷◌, Option, Some, None}
 use Rattle.console_states.proofs.Common.{refl, ap, sym, ◌∙◌, true≢false, false_from_ne_true, eq-eqb, none-some}
 use Rattle.console_states.proofs.Common.{same_action, MapValue, same_action-true, ResolvedEvent, locked, remembered}
@@ -46,9 +47,7 @@ path-none m s path is off = none-along (alone m) refl s path is off
 -- a release turns no lock
 scroll-release : (m : MapValue) (h : List Event) (k : ℕ)
     → is_locked_after (between m m) Scroll (Release k ∷ h) ≡ is_locked_after (between m m) Scroll h
-scroll-release m h k =
-    ap (λ z. locked Scroll z) (resolved-more (between m m) h (Release k))
-    ∙ locked-release Scroll k (resolved (between m m) h)
+scroll-release m h k = search (rules, resolved-more, locked-release)
 
 -- an action that is no lock
 not-lock : (b : Action) (l : Lock) → (b ≡ act.Lock l → ⊥) → same_action b (act.Lock l) ≡ false
@@ -120,9 +119,7 @@ press-turns_none m h s k x j none = by (look_in (alone m) s k) refl
 pub scroll-tap : (m : MapValue) (h : List Event) (s : State) (k : ℕ) (c : Cell) → Stands (alone m) h s
     → look_in (alone m) s k ≡ c → (c ≡ Act (act.Lock Scroll) → ⊥)
     → is_locked_after (between m m) Scroll (Release k ∷ Press k ∷ h) ≡ is_locked_after (between m m) Scroll h
-scroll-tap m h s k c x seen other =
-    scroll-release m (Press k ∷ h) k
-    ∙ press-turns_none m h s k x Scroll (λ idle looked. other (sym seen ∙ looked))
+scroll-tap m h s k c x seen other = search (rules, scroll-release, press-turns_none)
 
 -- so do moves, and taps of an accent that is minded
 scroll-move : (m : MapValue) (accent : ℕ) (h : List Event) (s : State) (move : Move)
@@ -131,8 +128,7 @@ scroll-move : (m : MapValue) (accent : ℕ) (h : List Event) (s : State) (move :
 scroll-move m accent h s (Hold k i) ((lt, idle, (seen, may)), free) x =
     press-turns_none m h s k x Scroll (λ still looked. cc (seen, looked))
 scroll-move m accent h s (Turn k l) ((lt, idle, (seen, may)), other) x =
-    scroll-release m (Press k ∷ h) k
-    ∙ press-turns_none m h s k x Scroll (λ still looked. other (let e : l ≡ Scroll = cc in e))
+    search (rules, scroll-release, press-turns_none)
 scroll-move m accent h s (Tap k) (i, minded, can, (lt, idle, (seen, may)), off) x =
     scroll-tap m h s k (Act (act.DeadKey i)) x seen (λ e. cc)
 scroll-move m accent h s (LetGo k i) holds x = scroll-release m h k

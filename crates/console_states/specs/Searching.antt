@@ -1,5 +1,5 @@
 -- What the search keeps: the states that it has met, in their order, each with how it was come to, and which of them
--- are done. Mirrors `Held` and `Keymaps` of src/held.rt and the functions of src/search.rt.
+-- are done. Mirrors `Held` and `Keymaps` of src/held.rt and the functions of src/search.rt and src/few.rt.
 use Rattle.std.specs.Prelude.{◌≡◌, ◌≢◌, ℕ, ◌+◌, ◌<◌, ◌≤◌, ◌⊎◌, length, List, [], ◌∷◌, ◌++◌, All, Option, None}
 use Rattle.std.specs.Prelude.{Some, slice_get, true, false, if◌then◌else◌}
 use Rattle.std.specs.Option.{is_some}
@@ -20,7 +20,7 @@ use Rattle.console_states.specs.declared.search.End.{End}
 use Rattle.console_states.specs.declared.search.End.TheVariants as end
 use Rattle.console_core.specs.History.{between}
 use Rattle.console_states.specs.Moves.{Under, alone, State, start, look_in, IsMade, IsIdle, HolderForgets}
-use Rattle.console_states.specs.Moves.{IsForgetful, IsMove}
+use Rattle.console_states.specs.Moves.{IsForgetful, IsMove, IsPath}
 use Rattle.console_states.specs.Moves.{moved, presses_of, presses_along, state_from, IsPathFrom}
 use Rattle.console_states.specs.Moves.{state_after, script_of_path, with_holder, with_lock_turned, with_accent}
 use Rattle.console_core.specs.Answers.{usable}
@@ -47,6 +47,13 @@ Entry = Held × Origin
 
 abbrev pub Entries : Type 0
 Entries = List Entry
+
+-- a path of moves leads to the state
+abbrev pub IsLedTo : Under → State → Type 0
+IsLedTo u s = (path : List Move) × IsPath u path × (state_after u path ≡ s)
+
+abbrev pub AreLedTo : Under → List Held → Type 0
+AreLedTo u states = All (λ h. IsLedTo u (state_of h)) states
 
 -- the step is a move from the state, by so many presses
 abbrev pub IsStep : Under → State → ℕ → Step → Type 0

@@ -1,17 +1,17 @@
 //! A few of the states that presses lead to, for who can do with some of what presses see.
 ghost use Rattle.std.specs.Prelude.{OnOk, IfOk};
-ghost use Rattle.console_states.specs.Searching.{under_of};
-ghost use Rattle.console_states.specs.Inner.Adding.{AreLedTo};
+ghost use Rattle.console_states.specs.Searching.{AreLedTo, under_of};
 
 use crate::held::{Held, Keymaps};
 use keymap_core::{KEY_COUNT, KeyCode, key_with};
 use std::alloc::{AllocError, Global};
 
-/// Whether one of the states has the selection of this one.
-fn has_selection_of(states: &[Held], held: &Held) -> bool {
+/// Whether one of the states has the selection of this one, and like it some lock on or none.
+fn has_like(states: &[Held], held: &Held) -> bool {
     let selection = held.selection();
+    let is_locked = held.is_any_locked();
     for state in states {
-        if state.selection() == selection {
+        if state.selection() == selection && state.is_any_locked() == is_locked {
             return true;
         }
     }
@@ -32,8 +32,9 @@ fn push_pressed(states: &mut Vec<Held>, maps: &Keymaps, key: KeyCode) -> Result<
 }
 
 /// Some states that presses lead to: for each of shift, control, alt, the upper half and the locks that flip shift that
-/// one press at the start turns on, a key that does, and these keys together. So they are at most 64.
-pub(crate) fn few_states(alloc: Global, maps: &Keymaps) -> Result<Vec<Held>, AllocError>
+/// one press at the start turns on, a key that does, and these keys together. The upper half counts twice, as what a
+/// key holds and as what a lock turns on. So they are at most 128.
+pub fn few_states(alloc: Global, maps: &Keymaps) -> Result<Vec<Held>, AllocError>
     ensures { IfOk result (λ states. AreLedTo (under_of maps.now) states.items) }
 {
     let mut states = Vec::new(alloc);
@@ -41,7 +42,7 @@ pub(crate) fn few_states(alloc: Global, maps: &Keymaps) -> Result<Vec<Held>, All
     for code in 0..KEY_COUNT as u8 {
         let key = key_with(code);
         if let Some(step) = Held::start().pressed(maps, key) {
-            if !has_selection_of(&states, &step.to) {
+            if !has_like(&states, &step.to) {
                 push_pressed(&mut states, maps, key)?;
             }
         }

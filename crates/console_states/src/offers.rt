@@ -5,10 +5,10 @@ ghost use Rattle.keymap_core.specs.Numbers.{key_count};
 ghost use Rattle.console_core.specs.Answers.{usable};
 ghost use Rattle.console_states.specs.Moves.{alone};
 ghost use Rattle.console_states.specs.Sights.{AreComposed, CanCompose, Lists};
-ghost use Rattle.console_states.specs.Searching.{state_of, under_of, HasMetAll};
+ghost use Rattle.console_states.specs.Searching.{state_of, under_of, AreLedTo, HasMetAll};
 ghost use Rattle.console_states.specs.Inner.Adding.{IsWith, AddsOffer, AddsOffers, AreAccentsOf, AreSelectionsOf};
 ghost use Rattle.console_states.specs.Inner.Adding.{IsOfferedUnlocked, AreUnlocked, AreMinded};
-ghost use Rattle.console_states.specs.Inner.Adding.{AreLedTo, AreOffersOf, CanSelectEach};
+ghost use Rattle.console_states.specs.Inner.Adding.{AreOffersOf, CanSelectEach};
 ghost use Rattle.console_states.specs.Inner.KeyLists.{AreKeysOf};
 ghost use Rattle.console_states.specs.declared.key_lists.CellKind.TheVariants.{DeadKey};
 

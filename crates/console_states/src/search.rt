@@ -1,7 +1,7 @@
 //! The search for sticking modifiers over the states that presses, releases and loads lead to, by the number of
 //! presses.
-ghost use Rattle.std.specs.Prelude.{◌≡◌, ◌+◌, ◌<◌, ◌≤◌, ◌∷◌, ◌++◌, ℕ, true, false, List, [], None, Some, length, reverse};
-ghost use Rattle.std.specs.Prelude.{slice_get, OnOk, IfOk, IfSome};
+ghost use Rattle.std.specs.Prelude.{◌≡◌, ◌+◌, ◌<◌, ◌≤◌, ◌∷◌, ◌++◌, ℕ, true, false, List, [], None, Some, length};
+ghost use Rattle.std.specs.Prelude.{reverse, slice_get, OnOk, IfOk, IfSome};
 ghost use Rattle.keymap_core.specs.Numbers.{key_count};
 ghost use Rattle.keymap_core.specs.declared.action.Modifier.{Modifier as ModifierValue};
 ghost use Rattle.console_states.specs.declared.held.Held.{Held as HeldValue};

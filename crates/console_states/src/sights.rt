@@ -6,8 +6,8 @@ ghost use Rattle.console_states.specs.Moves.{alone};
 ghost use Rattle.console_states.specs.Sticking.{ReachesMoreThan, state_limit};
 ghost use Rattle.console_states.specs.Sights.{AreSightsOf, AreSomeSights, IsReachable, can_see, is_selected};
 ghost use Rattle.console_states.specs.Sights.{is_composed};
-ghost use Rattle.console_states.specs.Searching.{HasMetAll};
-ghost use Rattle.console_states.specs.Inner.Adding.{AreLedTo, AreSelectionsOf, CanSelectEach, IsWith};
+ghost use Rattle.console_states.specs.Searching.{AreLedTo, HasMetAll};
+ghost use Rattle.console_states.specs.Inner.Adding.{AreSelectionsOf, CanSelectEach, IsWith};
 
 use crate::few::few_states;
 use crate::held::{Held, Keymaps};

@@ -36,22 +36,11 @@ gains-none old none x = ((λ was. was), (λ is. absurd (none x is)), (λ was. in
 
 pub gains-as : {P Q : Sight → Type 0} (old now : Sight → Bool) → Gains P old now → ((x : Sight) → P x → Q x)
     → ((x : Sight) → Q x → P x) → Gains Q old now
-gains-as old now g to from x =
-    let (kept, added, only) = g x in
-    (kept, (λ is. added (from x is)), (λ has. elim (only has) [ inl was ↦ inl was | inr is ↦ inr (to x is) ]))
+gains-as old now g to from x = search rules
 
 pub gains-more : {P Q R : Sight → Type 0} (a b c : Sight → Bool) → Gains P a b → Gains Q b c
     → ((x : Sight) → P x → R x) → ((x : Sight) → Q x → R x) → ((x : Sight) → R x → P x ⊎ Q x) → Gains R a c
-gains-more a b c g f first second either x =
-    let (kept, added, only) = g x in
-    let (later, more, just) = f x in (
-      (λ was. later (kept was)),
-      (λ is. elim (either x is) [ inl p ↦ later (added p) | inr q ↦ more q ]),
-      (λ has. elim (just has) [
-        | inl b_has ↦ elim (only b_has) [ inl was ↦ inl was | inr p ↦ inr (first x p) ]
-        | inr q ↦ inr (second x q)
-      ]),
-    )
+gains-more a b c g f first second either x = search rules
 
 -- a further key
 pub keys-more : (p : Presses) (m : MapValue) (pending : Option ℕ) (n : ℕ) (y : Selection) (a b c : Sight → Bool)
@@ -68,9 +57,7 @@ keys-more p m pending n y a b c g f =
 pub state-sees : (p : Presses) (m : MapValue) (pending : Option ℕ) (s : State) (y : Selection) (a b : Sight → Bool)
     → y ≡ selection_of s → s.is_pending ≡ is_some pending → Gains (SeesUnder p m pending key_count y) a b
     → Gains (SeesIn p m pending s) a b
-state-sees p m pending s y a b is same g =
-    gains-as a b g (λ x sees. (same, subst (λ z. SeesUnder p m pending key_count z x) is sees))
-    (λ x (e, sees). subst (λ z. SeesUnder p m pending key_count z x) (sym is) sees)
+state-sees p m pending s y a b is same g = search (rules, gains-as)
 
 -- a further state
 pub met-more : (p : Presses) (m : MapValue) (pending : Option ℕ) (es : Entries) (n : ℕ) (e : Entry)
@@ -166,20 +153,8 @@ usable-within m i (Some a) e can = slice_get_within m.accents i a (sym e)
 -- what was gained can be seen, and what can be seen was gained
 reach : (p : Presses) (m : MapValue) (x : Sight)
     → (SeesPlainly p m x ⊎ SeesBehindSome p m (length m.accents) x) ↔ IsReachableUnder (under p m) x
-reach p m (sight.Cell slot column) = (
-  (λ either. elim either [
-    | inl (path, is, (k, lt, ((sees, x), made))) ↦ (path, is, tt, (k, lt, (sees, made)))
-    | inr (i, below, (path, is, offered, (k, lt, ((sees, x), made)))) ↦ (path, is, tt, (k, lt, (sees, made)))
-  ]),
-  (λ (path, is, x, (k, lt, (sees, made))). inl (path, is, (k, lt, ((sees, tt), made)))),
-)
-reach p m (sight.Locks slot caps num) = (
-  (λ either. elim either [
-    | inl (path, is, (k, lt, ((sees, x), made))) ↦ (path, is, tt, (k, lt, (sees, made)))
-    | inr (i, below, (path, is, offered, (k, lt, ((sees, x), made)))) ↦ (path, is, tt, (k, lt, (sees, made)))
-  ]),
-  (λ (path, is, x, (k, lt, (sees, made))). inl (path, is, (k, lt, ((sees, tt), made)))),
-)
+reach p m (sight.Cell slot column) = search rules
+reach p m (sight.Locks slot caps num) = search rules
 reach p m (sight.Pair accent c) = (
   (λ either. elim either [
     | inl (path, is, (k, lt, ((sees, none), made))) ↦ absurd (let e : None ≡ Some accent = none in cc)

@@ -15,10 +15,9 @@ use Rattle.keymap_cover.specs.ScriptEvents.{event_of, events_of}
 use Rattle.keymap_cover.specs.declared.script_event.ScriptEvent.{ScriptEvent}
 use Rattle.keymap_cover.specs.declared.seen.Seen.{Seen}
 use Rattle.keymap_cover.specs.declared.script_event.ScriptEvent.TheVariants as script_event
-use Rattle.keymap_cover.specs.ScriptEvents.{ArePossible, CanFollow, is_down}
+use Rattle.keymap_cover.specs.ScriptEvents.{ArePossible, is_down}
 use Rattle.keymap_core.specs.Numbers.{key_count}
-use Rattle.console_core.specs.History.{pressed, resolved, HasKey, IsNoLoad}
-use Rattle.console_core.specs.Resolved.{held, locked, pending, remembered}
+use Rattle.console_core.specs.History.{pressed}
 use Rattle.console_core.proofs.Shared.{pressed-press, pressed-release, pressed-start, held-start, locked-start}
 use Rattle.console_core.proofs.Shared.{pending-start, remembered-start, resolved-start}
 use Rattle.keymap_core.specs.declared.action.Holding.TheVariants as holding
@@ -110,9 +109,12 @@ down-pressed a m (script_event.Reset ∷ l) (may, all) k = absurd may
 pressed-key : (a : Presses) (m : MapValue) (l : List ScriptEvent) → AllMayCome a m [] (events_of l) → (k : ℕ)
     → is_down k l ≡ true → k < key_count
 pressed-key a m [] all k is = absurd (true≢false (sym is))
-pressed-key a m (script_event.Down j ∷ l) (may, all) k is = search (rules, cases_Bool, eqb-true, pressed-key a m l all k)
-pressed-key a m (script_event.Repeat j ∷ l) (may, all) k is = search (rules, cases_Bool, eqb-true, pressed-key a m l all k)
-pressed-key a m (script_event.Up j ∷ l) (may, all) k is = search (rules, cases_Bool, true≢false, pressed-key a m l all k)
+pressed-key a m (script_event.Down j ∷ l) (may, all) k is =
+    search (rules, cases_Bool, eqb-true, pressed-key a m l all k)
+pressed-key a m (script_event.Repeat j ∷ l) (may, all) k is =
+    search (rules, cases_Bool, eqb-true, pressed-key a m l all k)
+pressed-key a m (script_event.Up j ∷ l) (may, all) k is =
+    search (rules, cases_Bool, true≢false, pressed-key a m l all k)
 pressed-key a m (script_event.Reset ∷ l) (may, all) k is = absurd may
 
 -- at rest no key is down
@@ -132,21 +134,13 @@ down-behind (script_event.Reset ∷ a) b up k = down-behind a b up k
 possible-join : (a b : List ScriptEvent) → ArePossible a → ArePossible b → ((k : ℕ) → is_down k b ≡ false)
     → ArePossible (a ++ b)
 possible-join [] b can before up = before
-possible-join (x ∷ a) b (can, all) before up = (follow x can, possible-join a b all before up)
-  where
-    follow : (y : ScriptEvent) → CanFollow a y → CanFollow (a ++ b) y
-    follow (script_event.Down k) p = down-behind a b up k ∙ p
-    follow (script_event.Repeat k) p = down-behind a b up k ∙ p
-    follow (script_event.Up k) p = down-behind a b up k ∙ p
-    follow script_event.Reset p = tt
+possible-join (x ∷ a) b (can, all) before up =
+    search (rules, down-behind, possible-join a b all before up)
 
 -- a case that begins within a script begins so within a longer one
 begins-still : (m : MapValue) (xs ys : List ScriptEvent) (x : Case) → BeginsAtRest m xs x
     → BeginsAtRest m (xs ++ ys) x
-begins-still m xs ys x (le, rest) = (
-  omega (arith, le, length-append xs ys),
-  subst (λ z. IsRest m (run_events z)) (sym (take-append-le x.at xs ys le)) rest,
-)
+begins-still m xs ys x (le, rest) = search (rules, length-append, take-append-le)
 
 -- a further case
 pub further : (m : MapValue) (a : Presses) (old now : KeyboardScript) (ys : List ScriptEvent) (what : What)
@@ -167,7 +161,8 @@ further m a old now ys what s longer more comes possible rest knows = record {
       (subst (λ z. All (BeginsAtRest m (xs ++ ys)) z) (sym more)
       (All-append (BeginsAtRest m (xs ++ ys)) old.cases.items (record { what = what; at = length xs } ∷ [])
       (λ k d lt. begins-still m xs ys (get_or old.cases.items k d) (s.cases k d lt))
-      (All-cons (BeginsAtRest m (xs ++ ys)) (record { what = what; at = length xs }) [] begins (All-nil (BeginsAtRest m (xs ++ ys))))));
+      (All-cons (BeginsAtRest m (xs ++ ys)) (record { what = what; at = length xs }) [] begins
+      (All-nil (BeginsAtRest m (xs ++ ys))))));
   seen = subst (λ z. Knows m now.seen z) (sym made) knows;
 }
   where
@@ -175,29 +170,24 @@ further m a old now ys what s longer more comes possible rest knows = record {
     xs = old.events.items
 
     begins : BeginsAtRest m (xs ++ ys) (record { what = what; at = length xs })
-    begins = begins-still m xs ys (record { what = what; at = length xs }) (
-      omega arith,
-      subst (λ z. IsRest m (run_events z)) (sym (take_all (length xs) xs (omega arith))) s.rest,
-    )
+    begins = search (rules, begins-still, xs, take_all)
 
     made : run_events now.events.items ≡ run_events ys ++ run_events xs
     made = ap run_events longer ∙ run-append xs ys
 
 -- no cases are a script
 rest-start : (m : MapValue) → IsRest m []
-rest-start m = record {
-  keys = All-nil HasKey;
-  loads = All-nil IsNoLoad;
-  quiet = λ k lt. pressed-start k;
-  remembered = λ k lt. ap (remembered k) none ∙ remembered-start k;
-  on = λ i. ap (held (holding.Mod i)) none ∙ held-start (holding.Mod i);
-  locked = λ l. ap (locked l) none ∙ locked-start l;
-  down = λ l. ap (held (holding.Lock l)) none ∙ held-start (holding.Lock l);
-  pending = ap (pending m) none ∙ pending-start m;
-}
-  where
-    none : resolved (between m m) [] ≡ []
-    none = resolved-start (between m m)
+rest-start m =
+    search (
+      rules,
+      All-nil,
+      pressed-start,
+      remembered-start,
+      held-start,
+      locked-start,
+      pending-start,
+      resolved-start,
+    )
 
 nothing-seen : (m : MapValue) (x : Sight) → SeesAlong m [] x → ⊥
 nothing-seen m x ([], before, k, at, sees) = cc

@@ -1,5 +1,6 @@
 -- What a further event does to a run, and when a run is at rest.
-use Rattle.std.proofs.Common.{arith, ◌≡◌, ℕ, ◌<◌, Bool, true, false, List, [], ◌∷◌, ◌++◌, Option, None, refl, ap, subst, sym}
+use Rattle.std.proofs.Common.{arith, ◌≡◌, ℕ, ◌<◌, Bool, true, false, List, [], ◌∷◌, ◌++◌, Option, None, refl, ap}
+use Rattle.std.proofs.Common.{sym}
 use Rattle.std.proofs.Common.{◌∙◌, length, reverse, if◌then◌else◌, ◌==◌, slice_set, slice_index_or, rules}
 use Rattle.std.proofs.lemmas.List.{reverse-append}
 use Rattle.std.proofs.lemmas.List.Elements.{All-cons}
@@ -12,7 +13,8 @@ use Rattle.keymap_core.specs.declared.action.Modifier.{Modifier}
 use Rattle.keymap_core.specs.declared.entry.Cell.{Cell}
 use Rattle.console_core.specs.declared.event.Event.{Event}
 use Rattle.console_core.specs.declared.event.Event.TheVariants as event
-use Rattle.console_core.specs.History.{Maps, between, pressed, resolved, IsQuiet, is_on_after, accent_pending_after, HasKeys}
+use Rattle.console_core.specs.History.{Maps, between, pressed, resolved, IsQuiet, is_on_after, accent_pending_after}
+use Rattle.console_core.specs.History.{HasKeys}
 use Rattle.console_core.specs.History.{HasNoLoads, IsNoLoad, is_any_on_after}
 use Rattle.console_core.proofs.Shared.{pressed-press, pressed-release}
 use Rattle.console_core.proofs.Shared.{no_loads-first, remembered-pressed, held-start, locked-start}
@@ -25,21 +27,22 @@ use Rattle.keymap_core.specs.declared.action.Holding.TheVariants as holding
 use Rattle.keymap_core.proofs.Shared.{no-modifier}
 use Rattle.keymap_cover.specs.declared.script_event.ScriptEvent.{ScriptEvent}
 use Rattle.keymap_cover.specs.declared.script_event.ScriptEvent.TheVariants as script_event
-use Rattle.keymap_cover.specs.ScriptEvents.{event_of, events_of, is_down, ArePossible, CanFollow}
+use Rattle.keymap_cover.specs.ScriptEvents.{event_of, events_of, is_down, CanFollow}
 use Rattle.keymap_cover.proofs.Shared.{set-cases}
 use Rattle.console_states.specs.Sights.{LooksAreSelected, look_selected, selection_with, selection_after}
 use Rattle.console_core.specs.History.{is_locked_after}
 use Rattle.console_core.specs.Reading.{look_after}
 use Rattle.console_states.specs.declared.allowed.Presses.{Presses}
 use Rattle.console_states.specs.declared.selection.Selection.{Selection}
-use Rattle.keyboard_cover.specs.Allowed.{may_press, may_press_after, must_wait, AllMayCome}
+use Rattle.keyboard_cover.specs.Allowed.{may_press, may_press_after, must_wait}
 use Rattle.keyboard_cover.specs.Runs.{IsRest, IsRun, IsUnlocked, Standing, run_events}
 
 -- a further event stands in front where the newest stands first
 pub newest : (events : List ScriptEvent) (x : ScriptEvent) → reverse (events ++ x ∷ []) ≡ x ∷ reverse events
 newest events x = reverse-append events (x ∷ [])
 
-pub run-more : (events : List ScriptEvent) (x : ScriptEvent) → run_events (events ++ x ∷ []) ≡ event_of x ∷ run_events events
+pub run-more : (events : List ScriptEvent) (x : ScriptEvent)
+    → run_events (events ++ x ∷ []) ≡ event_of x ∷ run_events events
 run-more events x = ap events_of (newest events x)
 
 -- which keys are down behind one more
@@ -58,52 +61,18 @@ pub press-run : {T : Type 0} (stands : Standing T) (m : MapValue) (a : Presses) 
     → ((h : List Event) → IsRest m h → may_press_after a m (run_events events ++ h) k ≡ true)
     → ((ms : Maps) (h : List Event) → stands old ms h → stands now ms (event.Press k ∷ h))
     → IsRun stands m a now (slice_set down place true) more
-press-run stands m a old now down events more k place x at grown t lt below is can may next = subst (λ j. IsRun stands m a now (slice_set down j true) more) (sym at) (record {
-  console = λ h rest. subst (λ g. stands now (between m m) (g ++ h)) (sym made) (next (between m m) _ (t.console h rest));
-  comes = λ h rest. subst (λ g. AllMayCome a m h g) (sym made) ((below, may h rest), t.comes h rest);
-  pressed = λ h rest j under.
-      set-cases down k j true lt (k == j) refl ∙ ap (λ b. if k == j then true else b) (t.pressed h rest j under)
-      ∙ sym (pressed-press j k (run_events events ++ h)) ∙ sym (ap (λ g. pressed j (g ++ h)) made);
-  table = λ j under.
-      set-cases down k j true lt (k == j) refl ∙ ap (λ b. if k == j then true else b) (t.table j under)
-      ∙ sym (down-press x k j (reverse events) is) ∙ sym (ap (is_down j) newer);
-  possible = subst ArePossible (sym newer) (can, t.possible);
-})
-  where
-    newer : reverse more ≡ x ∷ reverse events
-    newer = ap reverse grown ∙ newest events x
-
-    made : run_events more ≡ event.Press k ∷ run_events events
-    made = ap run_events grown ∙ run-more events x ∙ ap (λ e. e ∷ run_events events) is
+press-run stands m a old now down events more k place x at grown t lt below is can may next =
+    search (rules, set-cases, pressed-press, down-press, newest, run-more)
 
 -- a release of a key that is pressed
 pub up-run : {T : Type 0} (stands : Standing T) (m : MapValue) (a : Presses) (old now : T) (down : List Bool)
     (events more : List ScriptEvent) (k place : ℕ)
-    → place ≡ k → more ≡ events ++ script_event.Up k ∷ [] → IsRun stands m a old down events → k < length down → k < key_count
-    → slice_index_or down k false ≡ true → must_wait (λ j. slice_index_or down j false) k ≡ false
+    → place ≡ k → more ≡ events ++ script_event.Up k ∷ [] → IsRun stands m a old down events → k < length down
+    → k < key_count → slice_index_or down k false ≡ true → must_wait (λ j. slice_index_or down j false) k ≡ false
     → ((ms : Maps) (h : List Event) → stands old ms h → stands now ms (event.Release k ∷ h))
     → IsRun stands m a now (slice_set down place false) more
-up-run stands m a old now down events more k place at grown t lt below is wait next = subst (λ j. IsRun stands m a now (slice_set down j false) more) (sym at) (record {
-  console = λ h rest. subst (λ g. stands now (between m m) (g ++ h)) (sym made) (next (between m m) _ (t.console h rest));
-  comes = λ h rest.
-      subst (λ g. AllMayCome a m h g) (sym made) (
-        (sym (t.pressed h rest k below) ∙ is, rw (t.pressed h rest 104 (omega arith)) at wait),
-        t.comes h rest,
-      );
-  pressed = λ h rest j under.
-      set-cases down k j false lt (k == j) refl ∙ ap (λ b. if k == j then false else b) (t.pressed h rest j under)
-      ∙ sym (pressed-release j k (run_events events ++ h)) ∙ sym (ap (λ g. pressed j (g ++ h)) made);
-  table = λ j under.
-      set-cases down k j false lt (k == j) refl ∙ ap (λ b. if k == j then false else b) (t.table j under)
-      ∙ sym (ap (is_down j) newer);
-  possible = subst ArePossible (sym newer) (sym (t.table k below) ∙ is, t.possible);
-})
-  where
-    newer : reverse more ≡ script_event.Up k ∷ reverse events
-    newer = ap reverse grown ∙ newest events (script_event.Up k)
-
-    made : run_events more ≡ event.Release k ∷ run_events events
-    made = ap run_events grown ∙ run-more events (script_event.Up k)
+up-run stands m a old now down events more k place at grown t lt below is wait next =
+    search (rules, set-cases, pressed-release, newest, run-more)
 
 -- what may be pressed depends on what a console shows
 pub same-press : (p : Presses) (y y' : Selection) (down down' : ℕ → Bool) (pending pending' : Option ℕ) (k : ℕ)
@@ -138,16 +107,8 @@ pub rests : (m : MapValue) (events : List ScriptEvent) (h : List Event) → IsRe
     → ((l : Lock) → IsUnlocked m l (run_events events ++ h))
     → accent_pending_after (between m m) (run_events events ++ h) ≡ None
     → IsRest m (run_events events ++ h)
-rests m events h rest keys quiet off locks none = record {
-  keys = keys;
-  loads = no-loads (reverse events) h rest.loads;
-  quiet = quiet;
-  remembered = λ k lt. remembered-none m _ k (quiet k lt);
-  on = λ i. search (rules, no-modifier);
-  locked = λ l. (locks l).0;
-  down = λ l. (locks l).1;
-  pending = none;
-}
+rests m events h rest keys quiet off locks none =
+    search (rules, no-loads, remembered-none, no-modifier)
 
 -- a console that keeps nothing stands behind each rest
 pub stands-rest : (m : MapValue) (k : Kept) (h : List Event) → StandsAt (between m m) [] k → IsRest m h
@@ -157,7 +118,8 @@ stands-rest m k h at rest = record {
   agrees = record {
     marks = λ a. marks a;
     locks = λ l. at.agrees.locks l ∙ ap (locked l) none ∙ locked-start l ∙ sym (rest.locked l);
-    memories = λ j lt. at.agrees.memories j lt ∙ ap (remembered j) none ∙ remembered-start j ∙ sym (rest.remembered j lt);
+    memories = λ j lt.
+        at.agrees.memories j lt ∙ ap (remembered j) none ∙ remembered-start j ∙ sym (rest.remembered j lt);
     pending = at.agrees.pending ∙ ap (pending m) none ∙ pending-start m ∙ sym rest.pending;
   };
 }
@@ -166,8 +128,10 @@ stands-rest m k h at rest = record {
     none = resolved-start (between m m)
 
     marks : (a : Holding) → k.mark a ≡ held a (resolved (between m m) h)
-    marks (holding.Mod i) = at.agrees.marks (holding.Mod i) ∙ ap (held (holding.Mod i)) none ∙ held-start (holding.Mod i) ∙ sym (rest.on i)
-    marks (holding.Lock l) = at.agrees.marks (holding.Lock l) ∙ ap (held (holding.Lock l)) none ∙ held-start (holding.Lock l) ∙ sym (rest.down l)
+    marks (holding.Mod i) =
+        at.agrees.marks (holding.Mod i) ∙ ap (held (holding.Mod i)) none ∙ held-start (holding.Mod i) ∙ sym (rest.on i)
+    marks (holding.Lock l) =
+        at.agrees.marks (holding.Lock l) ∙ ap (held (holding.Lock l)) none ∙ held-start (holding.Lock l) ∙ sym (rest.down l)
 
 -- no events
 pub new-run : {T : Type 0} (stands : Standing T) (m : MapValue) (a : Presses) (now : T) (down : List Bool)
@@ -175,14 +139,7 @@ pub new-run : {T : Type 0} (stands : Standing T) (m : MapValue) (a : Presses) (n
     → ((k : ℕ) → k < key_count → slice_index_or down k false ≡ false)
     → ((h : List Event) → IsRest m h → stands now (between m m) h)
     → IsRun stands m a now down events
-new-run stands m a now down events none off there = record {
-  console = λ h rest. subst (λ es. stands now (between m m) (run_events es ++ h)) (sym none) (there h rest);
-  comes = λ h rest. subst (λ es. AllMayCome a m h (run_events es)) (sym none) tt;
-  pressed = λ h rest k lt.
-      off k lt ∙ sym (rest.quiet k lt) ∙ sym (ap (λ es. pressed k (run_events es ++ h)) none);
-  table = λ k lt. off k lt ∙ sym (ap (λ es. is_down k (reverse es)) none);
-  possible = subst (λ es. ArePossible (reverse es)) (sym none) tt;
-}
+new-run stands m a now down events none off there = search rules
 
 selection-stands : (on : Modifier → Bool) (off : Lock → Bool) (m : MapValue) (h : List Event)
     → ((i : Modifier) → on i ≡ is_on_after (between m m) i h)
@@ -200,7 +157,8 @@ same-look looks m on off h k e f =
 
 -- a press may be made behind the run where it may by what the console shows
 pub may-after : {T : Type 0} (looks : LooksAreSelected) (stands : Standing T) (m : MapValue) (a : Presses) (now : T)
-    (down : List Bool) (events : List ScriptEvent) (on : Modifier → Bool) (off : Lock → Bool) (pending : Option ℕ) (k : ℕ) (x : Cell)
+    (down : List Bool) (events : List ScriptEvent) (on : Modifier → Bool) (off : Lock → Bool) (pending : Option ℕ) (k : ℕ)
+    (x : Cell)
     (h : List Event) → IsRun stands m a now down events → IsRest m h
     → ((i : Modifier) → on i ≡ is_on_after (between m m) i (run_events events ++ h))
     → ((l : Lock) → off l ≡ is_locked_after (between m m) l (run_events events ++ h))
@@ -209,6 +167,4 @@ pub may-after : {T : Type 0} (looks : LooksAreSelected) (stands : Standing T) (m
     → may_press a (selection_with on off) (λ j. slice_index_or down j false) (is_some pending) k x
     ≡ may_press_after a m (run_events events ++ h) k
 may-after looks stands m a now down events on off pending k x h t rest e f p at =
-    same-press a (selection_with on off) _ (λ j. slice_index_or down j false) _ pending _ k x _
-    (selection-stands on off m (run_events events ++ h) e f) (λ j lt. t.pressed h rest j lt) p
-    (at ∙ same-look looks m on off (run_events events ++ h) k e f)
+    search (rules, same-press, selection-stands, same-look)

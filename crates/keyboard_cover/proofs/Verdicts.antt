@@ -1,7 +1,7 @@
 -- What is told of each sight is so.
+use Rattle.std.proofs.Common.{rules}
 use Rattle.std.proofs.Common.{◌≡◌, Bool, true, false, refl, sym, ◌∙◌, if◌then◌else◌}
 use Rattle.std.proofs.lemmas.Bool.{true≢false}
-use Rattle.console_states.specs.Allowed.{is_pressed}
 use Rattle.console_states.specs.AllowedSights.{AllowedSightsAreReachable, IsReachableUnder}
 use Rattle.console_states.specs.Sights.{SeesAlong}
 use Rattle.keymap_cover.specs.SeenSights.{has_seen}
@@ -21,12 +21,7 @@ verdicts_are_so reachable p m c covers x = by (has_seen c.script.seen x) refl
     otherwise : has_seen c.script.seen x ≡ false → (t : Bool) → has_seen c.sights.can x ≡ t
         → IsVerdict p m c x (if t then LeftOut else Never)
     otherwise e true f = (unseen e, (covers.sights.can x).0 f)
-    otherwise e false f = (
-      unseen e,
-      hidden f,
-      (λ h k admitted may lt sees. hidden f (reachable (is_pressed p) m c.sights.forgets h k x
-          covers.sights.forgets.0 admitted may lt sees)),
-    )
+    otherwise e false f = search (rules, unseen, hidden)
 
     by : (t : Bool) → has_seen c.script.seen x ≡ t
         → IsVerdict p m c x (if t then SeenVerdict else (if has_seen c.sights.can x then LeftOut else Never))

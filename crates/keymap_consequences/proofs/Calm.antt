@@ -48,12 +48,14 @@ calm-start : (m : MapValue) → IsCalm m []
 calm-start m = record { on = held-start; locked = locked-start; pending = pending-start m }
 
 -- an action that changes nothing is no modifier or lock, and keeps no accent pending
-plain : (m : MapValue) (a : Action) → (ChangesBy m (Act a) → ⊥) → (h : Holding) → same_action a (holding_action h) ≡ false
+plain : (m : MapValue) (a : Action) → (ChangesBy m (Act a) → ⊥) → (h : Holding)
+    → same_action a (holding_action h) ≡ false
 plain m (act.Mod i) still h = absurd (still tt)
 plain m (act.Lock l) still h = absurd (still tt)
 plain m a still h = not_holding a h refl
 
-calm-action : (m : MapValue) (j : ℕ) (a : Action) → (ChangesBy m (Act a) → ⊥) → pending m (PressedAction j a ∷ []) ≡ None
+calm-action : (m : MapValue) (j : ℕ) (a : Action) → (ChangesBy m (Act a) → ⊥)
+    → pending m (PressedAction j a ∷ []) ≡ None
     → IsCalm m (PressedAction j a ∷ [])
 calm-action m j a still none = record {
   on = λ h. rw (held-action h j a [], remembered-start j, plain m a still h, held-start h) refl;

@@ -1,5 +1,6 @@
 -- Behind a list that is spoken of a console stands where moves lead from the start, so moves from there lead to nothing
 -- that can't be seen.
+use Rattle.std.proofs.Common.{rules}
 use Rattle.keymap_cover.proofs.Common.{◌≡◌, Bool, false, List, ◌++◌, ap, refl, subst, sym, ◌∙◌, reverse}
 use Rattle.keymap_cover.proofs.Common.{MapValue, Event, Sight, IsPair, IsReachable, alone, between, resolved}
 use Rattle.keymap_core.specs.declared.action.Modifier.{Modifier}
@@ -11,7 +12,7 @@ use Rattle.console_states.specs.Moves.{IsPathFrom, State, start, state_from}
 use Rattle.console_states.specs.Sights.{CanPend, IsAdmitted, SeesBy, selection_of}
 use Rattle.console_states.specs.Sticking.{NeverForgets}
 use Rattle.console_states.proofs.Shared.{each-lock, path-first, path-none, path-off, same_states, stands-in}
-use Rattle.keymap_core.specs.declared.action.Lock.TheVariants.{Alt, Caps, Num, Scroll}
+use Rattle.keymap_core.specs.declared.action.Lock.TheVariants.{Scroll}
 use Rattle.console_scripts.specs.Visiting.{SeesFrom, resting_after}
 use Rattle.console_scripts.proofs.Shared.{path-append}
 use Rattle.keymap_cover.specs.Covering.{IsAtRest, NothingIsAhead, history}
@@ -22,10 +23,7 @@ use Rattle.keymap_cover.proofs.Showing.{events-loads}
 at-resting : (m : MapValue) (h : List Event) (s : State) → Follows (resolved (between m m) h) s
     → ((i : Modifier) → is_on_after (between m m) i h ≡ false) → s.is_second ≡ false → s.is_locked Scroll ≡ false
     → s.is_pending ≡ false → resting_after m h ≡ s
-at-resting m h s f off first scroll none =
-    same_states (resting_after m h) s (λ i. sym (not-some (s.holder i) (sym (f.on i) ∙ off i)))
-    (each-lock (λ l. (resting_after m h).is_locked l ≡ s.is_locked l) (f.locked Caps (λ e. cc))
-    (f.locked Num (λ e. cc)) (sym scroll) (f.locked Alt (λ e. cc))) (sym first) (sym none)
+at-resting m h s f off first scroll none = search (rules, same_states, not-some, each-lock)
 
 -- a cell or a lock setting needs no accent
 needs-none : (m : MapValue) (path : List Move) (x : Sight) → (IsPair x → ⊥) → CanPend m path x

@@ -1,4 +1,5 @@
 -- The verdicts that are counted are those that are told.
+use Rattle.std.proofs.Common.{rules}
 use Rattle.keymap_cover.proofs.Common.{◌≡◌, Bool, true, false, [], ◌∷◌, refl, sym, ◌∙◌, true≢false, IsTold}
 use Rattle.keymap_cover.proofs.Common.{if◌then◌else◌, MapValue, Sight, SeesAlong, IsReachable, has_seen}
 use Rattle.std.proofs.lemmas.List.Elements.{All-head, All-tail}
@@ -26,12 +27,7 @@ counts_are_of_verdicts m c covers x = by (has_seen c.seen x) refl
         → IsVerdict m c x (if t then LeftOut else Never)
     otherwise e true f =
         (unseen e, sees-all m c.sights covers.sights x f, (λ told can. unseen e (covers.complete x told can)))
-    otherwise e false f = (
-      unseen e,
-      hidden f,
-      (λ h k admitted lt sees. hidden f (sights_are_reachable m c.sights.forgets h k x
-          (never-forgets m c.sights covers.sights) admitted lt sees)),
-    )
+    otherwise e false f = search (rules, unseen, hidden, sights_are_reachable, never-forgets)
 
     by : (t : Bool) → has_seen c.seen x ≡ t
         → IsVerdict m c x (if t then Seen else (if can_see m c.sights x then LeftOut else Never))

@@ -1,7 +1,7 @@
 -- What is left of a list of sights: those that pass a test. None of the cells and lock settings is a pair.
 use Rattle.std.proofs.Common.{rules}
 use Rattle.keymap_cover.proofs.Common.{zero, suc, ◌≡◌, ℕ, ◌+◌, ◌≤◌, Bool, true, false, List, [], ◌∷◌, ◌++◌, refl}
-use Rattle.keymap_cover.proofs.Common.{ap, ◌∙◌, subst, sym, arith, filter, inl, inr, length, map, Contains}
+use Rattle.keymap_cover.proofs.Common.{subst, sym, arith, filter, inl, inr, length, map, Contains}
 use Rattle.keymap_cover.proofs.Common.{range_with_len}
 use Rattle.keymap_cover.proofs.Common.{Contains-append_cases, Sight, all_cells, all_lock_settings, cell_at_place}
 use Rattle.keymap_cover.proofs.Common.{lock_setting_at_place, IsPair}
@@ -34,11 +34,7 @@ filter-of p (y ∷ xs) x has = filter-cases p y xs x (λ there. filter-of p xs x
 filter-true : (p : Sight → Bool) (y : Sight) (xs : List Sight) (x : Sight) → (Contains (filter p xs) x → p x ≡ true)
     → Contains (filter p (y ∷ xs)) x → (t : Bool) → p y ≡ t → p x ≡ true
 filter-true p y xs x rest has false e = rest (rw e at has)
-filter-true p y xs x rest has true e = by (rw e at has)
-  where
-    by : Contains (y ∷ filter p xs) x → p x ≡ true
-    by (zero, lt, at) = ap p (sym at) ∙ e
-    by (suc n, lt, at) = rest (n, omega (arith, lt), at)
+filter-true p y xs x rest has true e = search rules
 
 pub filter-passes : (p : Sight → Bool) (xs : List Sight) (x : Sight) → Contains (filter p xs) x → p x ≡ true
 filter-passes p [] x (n, lt, at) = absurd (omega (arith, lt))

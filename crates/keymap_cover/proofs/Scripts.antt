@@ -1,4 +1,5 @@
 -- What a further event does to a script.
+use Rattle.std.proofs.Common.{rules}
 use Rattle.std.proofs.Common.{arith}
 use Rattle.keymap_cover.proofs.Common.{◌≡◌, ℕ, ◌<◌, ◌⊎◌, inl, inr, Bool, true, false, List, [], ◌∷◌, ◌++◌, Option, None}
 use Rattle.keymap_cover.proofs.Common.{Some, refl, ap, subst, sym, ◌∙◌, length, reverse, if◌then◌else◌, not, ◌==◌}
@@ -64,24 +65,7 @@ pub shown-added : (m : MapValue) (h : List Event) (k : ℕ) (pending : Option �
     → y ≡ selection_with on off → ((i : Modifier) → on i ≡ is_on_after (between m m) i h)
     → ((l : Lock) → off l ≡ is_locked_after (between m m) l h) → accent_pending_after (between m m) h ≡ pending
     → Gains (SeesWith m y k pending) old now → AddsSights m h k old now
-shown-added m h k pending y old now on off is_on e f is gains x =
-    let at : y ≡ selection_after m h = is_on ∙ selection-stands on off m h e f in
-    let (kept, added, only) =
-    subst (λ z. Gains (SeesWith m z k (accent_pending_after (between m m) h)) old now) at
-    (subst (λ p. Gains (SeesWith m y k p) old now) (sym is) gains) x in
-    (kept, (λ sees. added (to x sees)), (λ has. from x (only has)))
-  where
-    to : (z : Sight) → SeesNext m h k z → SeesWith m (selection_after m h) k (accent_pending_after (between m m) h) z
-    to (sight.Cell i c) sees = sees
-    to (sight.Locks i a b) sees = sees
-    to (sight.Pair i c) sees = sees
-
-    from : (z : Sight)
-        → (old z ≡ true) ⊎ SeesWith m (selection_after m h) k (accent_pending_after (between m m) h) z
-        → (old z ≡ true) ⊎ SeesNext m h k z
-    from (sight.Cell i c) has = has
-    from (sight.Locks i a b) has = has
-    from (sight.Pair i c) has = has
+shown-added m h k pending y old now on off is_on e f is gains x = search (rules, selection-stands)
 
 -- what is seen along one more event
 sees-old : (m : MapValue) (e : Event) (h : List Event) (x : Sight) → SeesAlong m h x → SeesAlong m (e ∷ h) x

@@ -51,7 +51,8 @@ sees-longer m h g x (more, is) (later, before, k, at, sees) =
     (more ++ later, before, k, ap (λ z. more ++ z) at ∙ sym (append_assoc more later _), sees)
 
 -- what the press sees that ends the events of a visit is seen along
-pub sees-ending : (m : MapValue) (h later : List Event) (x : Sight) → EndsSeeing m h later x → SeesAlong m (later ++ h) x
+pub sees-ending : (m : MapValue) (h later : List Event) (x : Sight) → EndsSeeing m h later x
+    → SeesAlong m (later ++ h) x
 sees-ending m h later x (before, k, is, sees) =
     subst (λ z. SeesAlong m (z ++ h) x) (sym is) ([], before ++ h, k, refl, sees)
 
@@ -97,12 +98,8 @@ shows-more : {T : Type 0} (xs : List Sight) (y : Sight) (a b c : Script T) → C
     → ShowsNew (Contains xs) a c
 shows-more xs y a b c has first next (inr (x, among, unseen, saw)) later = inr (x, among, unseen, next x saw)
 shows-more xs y a b c has first next (inl e) (inl f) = inl (f ∙ e)
-shows-more xs y a b c has first next (inl e) (inr (x, is, unseen, saw)) = inr (
-  x,
-  subst (λ z. Contains xs z) is has,
-  false_from_ne_true (has_seen a.seen x) (λ was. true≢false (sym (first x was) ∙ unseen)),
-  saw,
-)
+shows-more xs y a b c has first next (inl e) (inr (x, is, unseen, saw)) =
+    search (rules, false_from_ne_true)
 
 -- what holds of the sights before a place, and of that at the place, as the script goes on
 pub all-more : {T : Type 0} (s : Standing T) (m : MapValue) (a b c : Script T) (xs : List Sight) (i : ℕ) (d : Sight)
@@ -221,10 +218,7 @@ seen-by m h t x script has = search (rules, take_all)
 -- and that alone
 by-seen : {T : Type 0} (m : MapValue) (h : List Event) (t : Script T) (x : Sight) → IsScriptOf m h t
     → IsSeenBy m t.events.items (length t.events.items) x → has_seen t.seen x ≡ true
-by-seen m h t x script sees =
-    script.all_seen x (subst (λ z. SeesAlong m z x)
-    (ap (λ z. events_of (reverse z)) (take_all (length t.events.items) t.events.items (omega arith)) ∙ script.history)
-    sees)
+by-seen m h t x script sees = search (rules, take_all)
 
 -- what a script that goes on sees by as many events is what was seen
 seen-first : {T : Type 0} (m : MapValue) (h g : List Event) (a b : Script T) (x : Sight) → IsScriptOf m h a
@@ -314,7 +308,8 @@ walks-off s m later h a b at walk up (taken, off) = search rules
 
 -- what is told of is seen, and then the script goes further, and onward
 pub script-whole : {T : Type 0} (s : Standing T) (m : MapValue) (a b d e : Script T) (starts : List Start)
-    (first second third last : ℕ) → IsUnderWay m s [] a → GoesUnderWay m s a b (ShowsTold m first b) → GoesScrollOff m s b d → GoesToEnd m s d e
+    (first second third last : ℕ) → IsUnderWay m s [] a → GoesUnderWay m s a b (ShowsTold m first b) → GoesScrollOff m s b d
+    → GoesToEnd m s d e
     → second ≡ length b.events.items → third ≡ length d.events.items → last ≡ length e.events.items
     → starts ≡ starts_at first second third last
     → EndsAtRest m e × HoldParts m e.events.items starts first second third

@@ -95,11 +95,7 @@ below m n forgets b never clear (Load ∷ h) given =
 
 -- what the consoles keep is the same
 pub kept-alike : (m n : MapValue) (h : List Event) → AlikeAfter m n h → IsKeptAlike m n h
-kept-alike m n h alike = record {
-  on = λ i. alike.held (holding.Mod i);
-  locked = alike.locked;
-  pending = rw (one_in_force m h, one_in_force n h) alike.pending;
-}
+kept-alike m n h alike = search (rules, one_in_force)
 
 -- where no list tells them apart, the answers to each are the same
 pub answers_are_same : AnswersAreSame

@@ -16,20 +16,13 @@ use Rattle.console_states.proofs.Shared.{all-done, below-fewer, holds-nearer, pl
 -- the place where something shows
 pub shown-place : (m n : MapValue) (p : Option ℕ) (es : Entries) (shown : Option KeyAt) → IsFirstShown m n p es shown
     → (at : KeyAt) → shown ≡ Some at → at.place < length es
-shown-place m n p es shown s at e =
-    let look = subst (λ o. IsFirstShown m n p es o) e s in
-    let (y, there, k) = look.is.0 in slice_get_within es at.place y there
+shown-place m n p es shown s at e = search (rules, slice_get_within)
 
 -- what a search from the start found
 pub searched-from : (m n : MapValue) (u : Under) (s : State) (x : Searched) → u ≡ alone_minding m x.minded → s ≡ start
     → (end : End) → HasEnded u (s ∷ []) x.met.entries end → IsReach x.met.entries end x.shown x.reach
     → IsFirstShown m n x.minded x.met.entries x.shown → IsSearched m n x
-searched-from m n u s x is from end ended reach shown = record {
-  end = end;
-  ended = rw (← is, ← from) ended;
-  reach = reach;
-  shown = shown;
-}
+searched-from m n u s x is from end ended reach shown = search rules
 
 -- within the reach all is done
 pub reach-done : (m : MapValue) (p : Option ℕ) (es : Entries) (end : End) (shown : Option KeyAt) (reach : Option ℕ)
@@ -45,9 +38,7 @@ reach-none : (m n : MapValue) (p : Option ℕ) (es : Entries) (end : End) (shown
     (x : Entry) → slice_get es j ≡ Some x → x.1.presses < b → NoneShows m n p (state_of x.0)
 reach-none m n p es end None reach ordered is look b within j x at lt = look.is j x at (slice_get_within es j x at)
 reach-none m n p es end (Some shown) reach ordered (q, same, (y, there, e)) look b within j x at lt =
-    let le : b ≤ q = subst (λ o. IsWithin b o) same within in
-    below-fewer es (λ h. NoneShows m n p (state_of h)) ordered shown.place y there look.is.1 j x at
-    (omega (arith, lt, le, e))
+    search (rules, below-fewer)
 
 -- so none does where fewer presses lead
 pub searched-clear : (m n : MapValue) (x : Searched) → IsSearched m n x → (b : ℕ) → IsWithin b x.reach
@@ -62,11 +53,7 @@ searched-clear m n x s b within =
 
 -- the search that minds no accent, before others are counted in
 pub nearest-first : (m n : MapValue) (x : Searched) → IsSearched m n x → x.minded ≡ None → IsNearestBelow m n 0 x
-nearest-first m n x s none = (s, by)
-  where
-    by : (p : Option ℕ) → IfSome p (λ i. i < 0) → (b : ℕ) → IsWithin b x.reach → AreClear m n p b
-    by None below b within = subst (λ o. AreClear m n o b) none (searched-clear m n x s b within)
-    by (Some i) below b within = absurd (omega (arith, below))
+nearest-first m n x s none = search (rules, searched-clear)
 
 -- one accent more
 pub nearest-more : (m n : MapValue) (i : ℕ) (x y : Searched) → IsNearestBelow m n i x → IsSearched m n y

@@ -1,11 +1,11 @@
 -- A list that tells two keymaps apart by the fewest presses is answered alike up to its last event.
+use Rattle.std.proofs.Common.{rules}
 use Rattle.keymap_diff.proofs.Common.{◌≡◌, ◌<◌, true, inl, inr, List, [], ◌∷◌, ◌++◌, refl, ap, subst, sym, ◌∙◌}
 use Rattle.keymap_diff.proofs.Common.{arith, reverse, append-nil, MapValue, Event, Press, Release, Answer}
 use Rattle.keymap_diff.proofs.Common.{between, answer_to, answers_to, presses, IsAdmitted, true≢false}
 use Rattle.std.proofs.lemmas.List.{reverse-append, reverse-reverse}
 use Rattle.std.specs.Bool.{Decides}
-use Rattle.std.specs.Cmp.{booleans_Decides}
-use Rattle.std.proofs.lemmas.Bool.Decides.{Decides-and, Decides-eqb}
+use Rattle.std.proofs.lemmas.Bool.Decides.{Decides-and}
 use Rattle.console_core.proofs.Shared.{answers_to-push}
 use Rattle.console_core.specs.History.{Maps}
 use Rattle.console_core.specs.contracts.event.AnswerPartialEq.TheImpl as answer
@@ -20,9 +20,7 @@ answer-same (variant.Special a) (variant.Special b) =
     let d = action-same a b in (λ e. ap (λ z. variant.Special z) (d.0 e), λ e. d.1 (cc))
 answer-same (variant.Released a) (variant.Released b) =
     let d = action-same a b in (λ e. ap (λ z. variant.Released z) (d.0 e), λ e. d.1 (cc))
-answer-same (variant.Char c m) (variant.Char d n) =
-    let both = Decides-and _ _ (Decides-eqb c d) (booleans_Decides m n) in
-    (λ e. let p = both.0 e in cc (p.0, p.1), λ e. both.1 (cc, cc))
+answer-same (variant.Char c m) (variant.Char d n) = search (rules, Decides-and)
 answer-same variant.None variant.None = (λ e. refl, λ e. refl)
 answer-same variant.Error variant.Error = (λ e. refl, λ e. refl)
 answer-same variant.BackTab variant.BackTab = (λ e. refl, λ e. refl)

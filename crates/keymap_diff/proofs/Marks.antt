@@ -7,7 +7,6 @@ use Rattle.std.specs.Prelude.{is_some}
 use Rattle.keymap_core.specs.Maps.{MapValue, entry_at, cell_at}
 use Rattle.keymap_core.specs.Numbers.{slot_limit, column_count, accent_limit}
 use Rattle.keymap_core.specs.declared.entry.Cell.{Cell as CellValue}
-use Rattle.keymap_core.specs.declared.entry.Cell.TheVariants.{Char}
 use Rattle.keymap_core.specs.declared.entry.Entry.{Entry}
 use Rattle.keymap_diff.specs.Changes.{IsMark, MeetsCell, MeetsLetters, MeetsSetting, MeetsDeadKey}
 use Rattle.keymap_diff.specs.Changes.{MeetsDeadKeyAt, place_of, pairs_of, HaveSameResults}
@@ -87,9 +86,7 @@ letter_one v slot f g w few old new ne mark = search (rules, letter-only)
 -- what is read of an entry's cells is the cell
 pub reads_cell : (m : MapValue) (e : Entry) (slot column : ℕ) (x : CellValue) → e ≡ entry_at m slot
     → column < length e.cells → x ≡ get_or e.cells column x → cell_at m slot column ≡ x
-reads_cell m e slot column x same lt is =
-    ap (λ (z : Entry). get_or z.cells column (Char 0)) (sym same)
-    ∙ sym (get_or_read_under e.cells column (length e.cells) x (Char 0) is lt refl)
+reads_cell m e slot column x same lt is = search (rules, get_or_read_under)
 
 pub cell_one : (v : Versions) (slot column place : ℕ) (a b : CellValue) (w : Bool) → column < column_count
     → slot < slot_limit → place ≡ slot * 9 + column → cell_at v.old.now slot column ≡ a
@@ -103,10 +100,7 @@ pub cell_none : (v : Versions) (slot column place : ℕ) (a b : CellValue) → c
     → slot < slot_limit → place ≡ slot * 9 + column → cell_at v.old.now slot column ≡ a
     → cell_at v.new.now slot column ≡ b → a ≡ b → IsOne (IsAt v (2 + place)) None
 cell_none v slot column place a b eight few split was is same (Cell s d x y w) ((low, below, old, new, ne, mark), at) =
-    let e : s ≡ slot = omega (arith, at, eight, below, split) in
-    let f : d ≡ column = omega (arith, at, eight, below, split) in
-    ne (sym old ∙ subst (λ z. cell_at v.old.now z d ≡ cell_at v.new.now z d) (sym e)
-    (subst (λ z. cell_at v.old.now slot z ≡ cell_at v.new.now slot z) (sym f) (was ∙ same ∙ sym is)) ∙ new)
+    search rules
 cell_none v slot column place a b eight few split was is same x (of, at) = absurd (omega (arith, at, eight, few, split))
 
 pub order_one : (v : Versions) (i : ℕ) → i < accent_limit

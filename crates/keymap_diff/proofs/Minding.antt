@@ -1,4 +1,5 @@
 -- Paths that mind an accent beside paths that mind none: these are of those, and those are these but for the tap.
+use Rattle.std.proofs.Common.{rules}
 use Rattle.keymap_diff.proofs.Common.{◌≡◌, ℕ, ◌<◌, ◌≤◌, true, inl, inr, List, ◌++◌, Option, Some, None, refl, ap}
 use Rattle.keymap_diff.proofs.Common.{subst, sym, ◌∙◌, arith, cases_Bool, true≢false, MapValue, usable, alone}
 use Rattle.keymap_diff.proofs.Common.{alone_minding, State, start, IsPath, state_after, presses_along, Move, HoldsNearer}
@@ -18,10 +19,7 @@ pub without-tap : (m : MapValue) (p : Option ℕ) (path : List Move) → IsPath 
     × (state_after (alone m) plain ≡ without_accent (state_after (alone_minding m p) path))
     × (presses_along plain ≤ presses_along path)
     × ((state_after (alone_minding m p) path).is_pending ≡ true → presses_along plain < presses_along path)
-without-tap m None path is =
-    let t : State = state_after (alone m) path in
-    let off = path-none m start path is refl in
-    (path, is, ap (λ b. record t { is_pending = b }) off, omega arith, λ on. absurd (true≢false (sym on ∙ off)))
+without-tap m None path is = search (rules, path-none)
 without-tap m (Some i) path is =
     let t : State = state_after (alone_minding m (Some i)) path in
     let (free, pends) =

@@ -2,7 +2,7 @@
 -- shows a difference.
 use Rattle.std.proofs.Common.{rules}
 use Rattle.keymap_diff.proofs.Common.{◌≡◌, ◌≢◌, ℕ, ◌⊎◌, Bool, true, List, [], ◌∷◌, Option, Some, None, refl, ap}
-use Rattle.keymap_diff.proofs.Common.{subst, sym, ◌∙◌, inl, inr, cases_Bool, true≢false, ◌==◌, option_or, fun_ext}
+use Rattle.keymap_diff.proofs.Common.{subst, sym, ◌∙◌, inl, inr, cases_Bool, true≢false, option_or, fun_ext}
 use Rattle.keymap_diff.proofs.Common.{eqb-true, same_action-true, Action, Lock, Modifier, Meta, Holding, Cell, Char}
 use Rattle.keymap_diff.proofs.Common.{Act, Event, Press, MapValue, accent_at, own_of, usable, composed_by, is_pending}
 use Rattle.keymap_diff.proofs.Common.{char_or_error, answer_char, answer_action, answer_dead_key, next_pending}
@@ -69,22 +69,16 @@ alike-action : (m n : MapValue) (r q : List ResolvedEvent) (k : ℕ) (a b : Acti
     → AreUsableAlike m n (taken_over (remembered k r) a)
     → Alike m n (PressedAction k a ∷ r) (PressedAction k b ∷ q)
 alike-action m n r q k a b x taken kept same =
-    let t : taken_over (remembered k q) b ≡ taken_over (remembered k r) a =
-    ap (λ o. taken_over o b) (sym (x.remembered k)) ∙ sym taken in
-    record {
-      held = λ h. rw (held-action h k a r, held-action h k b q, t, x.held h) refl;
-      locked = λ l. rw (locked-action l k a r, locked-action l k b q, t, x.held (holding.Lock l), x.locked l) refl;
-      remembered = λ j. rw (remembered-action j k a r, remembered-action j k b q, ← x.remembered j)
-          (elim (cases_Bool (k == j)) [
-            | inl e ↦
-                rw e
-                (subst (λ z. option_or (remembered z r) (unless_nop a) ≡ option_or (remembered z r) (unless_nop b))
-                (eqb-true k j e) kept)
-            | inr e ↦ rw e refl
-          ]);
-      pending = rw (pending-action m k a r, pending-action n k b q, t, ← x.pending)
-          (next-same m n (pending m r) (taken_over (remembered k r) a) same);
-    }
+    search (
+      rules,
+      held-action,
+      locked-action,
+      remembered-action,
+      cases_Bool,
+      eqb-true,
+      pending-action,
+      next-same,
+    )
 
 pub alike-release : (m n : MapValue) (r q : List ResolvedEvent) (k : ℕ) → Alike m n r q
     → Alike m n (ReleasedKey k ∷ r) (ReleasedKey k ∷ q)

@@ -1,8 +1,8 @@
 -- The states in which a console stands, by the presses that lead there, also where an accent is pending.
+use Rattle.std.proofs.Common.{rules}
 use Rattle.console_states.proofs.Shared.{AreSpared, IsKeptBelow, KeepsHeld, PendsIn, admitted-before, keeps-held}
 use Rattle.console_states.proofs.Shared.{minded_are_offers, pends-in, stays}
 use Rattle.console_states.specs.Allowed.{all_allowed}
-use Rattle.console_states.specs.Moves.{IsForgetful}
 use Rattle.keymap_diff.proofs.Common.{suc, ◌≡◌, ℕ, ◌<◌, ◌≤◌, Bool, true, false, List, [], ◌∷◌, Some, refl, ap}
 use Rattle.keymap_diff.proofs.Common.{subst, sym, arith, true≢false, Event, Press, Release, Reset, Load, Move}
 use Rattle.keymap_diff.proofs.Common.{MapValue, ResolvedEvent, pending, between, resolved, is_second_in_force, alone}
@@ -54,10 +54,7 @@ reached-spared m forgets b n S reached never = record {
     keeps : (forgets : Bool) → (forgets ≡ false → NeverForgetsBelow m b) → (h : List Event) (k : ℕ)
         → IsWithinReach m forgets b (Press k ∷ h) → presses h < n → (s : State) → S (presses h) s
         → Follows (resolved (between m m) h) s → s.is_second ≡ is_second_in_force h → KeepsHeld (alone m) s k
-    keeps false never h k (given, few) lt s there f second i forgetful =
-        let (path, is, le, leads) = reached (presses h) s there in
-        never refl path is (omega (arith, le, few))
-        (subst (λ x. IsForgetful (alone m) x) (sym leads) (i, k, forgetful))
+    keeps false never h k (given, few) lt s there f second i forgetful = search rules
     keeps true never h k (given, few) lt s there f second i forgetful =
         let (path, is, le, leads) = reached (presses h) s there in
         keeps-held m true k h (λ e. absurd (true≢false e)) given s (path, is, leads) f second i forgetful

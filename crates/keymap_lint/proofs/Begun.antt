@@ -1,10 +1,10 @@
 -- Where definitions and their parts stand in a text.
+use Rattle.std.proofs.Common.{rules}
 use Rattle.keymap_lint.proofs.Common.{◌≡◌, ℕ, ◌+◌, ◌<◌, ◌≤◌, true, false, not, List, [], ◌∷◌, ◌++◌, length, map}
 use Rattle.keymap_lint.proofs.Common.{take, get_or, refl, sym, ◌∙◌, ap, subst, arith, Option, Some, None, find}
 use Rattle.keymap_lint.proofs.Common.{true≢false, Slot, Placed, MapValue, last_of, is_above_in_force, Spelled}
 use Prim.Native.Nat.{zero, suc}
 use Rattle.std.proofs.Common.{drop, All, ◌-◌, ◌*◌, ◌==◌, nat_lt}
-use Rattle.std.specs.Prelude.{if◌then◌else◌}
 use Rattle.std.proofs.lemmas.Bool.{and_parts, eqb-true, lt-ltb}
 use Rattle.std.proofs.lemmas.Bool.Decides.{nat_tests}
 use Rattle.std.proofs.Common.{drop-drop}
@@ -44,10 +44,7 @@ heads x y xs ys e = cc
 first_begins : {us : _} {d : Definition} → Defines us d → (ts : List TokenValue) → map item_of ts ≡ us
     → (0 < length ts) × (begins (item_of (get_or ts 0 nothing)) ≡ Some (defined d))
 first_begins (of_key l eight cells) [] e = absurd (cc)
-first_begins (of_key {slot = slot} l eight cells) (t ∷ ts) e = (
-  omega arith,
-  ap begins (heads _ _ _ _ e) ∙ ap (λ b. if b then Some (Slot slot) else None) (lt-ltb slot 256 l),
-)
+first_begins (of_key {slot = slot} l eight cells) (t ∷ ts) e = search (rules, heads, lt-ltb)
 first_begins (of_accent name index own few pairs) [] e = absurd (cc)
 first_begins (of_accent name index own few pairs) (t ∷ ts) e =
     (omega arith, ap begins (heads _ _ _ _ e) ∙ rw (index, begins) refl)
@@ -202,12 +199,7 @@ small_there text m rows by p passes =
         → is_last p o ≡ true
         → (slot : ℕ) × (is_small t slot ≡ true)
         × HasToken text (offset_at t (p.first + 9)) (IsLockLetter (entry_at m slot).flag)
-    go (Slot slot) small (Some q) f same = (
-      slot,
-      small,
-      subst (λ (n : ℕ). HasToken text (offset_at t (n + 9)) (IsLockLetter (entry_at m slot).flag))
-          (eqb-true q.first p.first same) (lock_there text m rows by slot q f),
-    )
+    go (Slot slot) small (Some q) f same = search (rules, t, eqb-true, lock_there)
     go (Slot slot) small None f same = absurd (true≢false (sym same))
     go (Accent i) small o f same = absurd (true≢false (sym small))
 

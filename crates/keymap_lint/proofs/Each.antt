@@ -3,7 +3,7 @@ use Rattle.keymap_lint.proofs.Common.{◌≡◌, ℕ, ◌+◌, Bool, true, false
 use Rattle.keymap_lint.proofs.Common.{refl, Option, Some, None, find, flat_map, Slot, Placed, Diagnostic, gathered}
 use Rattle.keymap_lint.proofs.Common.{last_of, mixed_key, selects, again, is_missing, rules, is_defined, zero_accent}
 use Rattle.keymap_lint.proofs.Common.{pair_again, accent_pairs, has_base, is_above_in_force, digit, Spelled}
-use Rattle.std.proofs.Common.{◌-◌, ◌*◌, ◌<◌, All, ◌==◌}
+use Rattle.std.proofs.Common.{◌-◌, ◌<◌, All, ◌==◌}
 use Rattle.std.specs.Option.{option_to_list}
 use Rattle.std.proofs.lemmas.Bool.{and_parts, eqb-true}
 use Rattle.std.proofs.lemmas.List.Elements.{All-nil, All-cons, All-head, All-tail, All-append, Contains-get_or}
@@ -18,20 +18,20 @@ use Rattle.keymap_lint.proofs.Lists.{all_gathered}
 use Rattle.keymap_lint.specs.Kinds.{at, nowhere, no_key, no_shift, has_keys, has_shift, mixed_keys, character_of}
 use Rattle.keymap_lint.specs.Kinds.{half_at, half_defined, selector, is_some_in, missing_slots, nul_keys, defined_again}
 use Rattle.keymap_lint.specs.Kinds.{dead_key, dead_key_by, zero_accents, pair_by, pairs_by, pairs_again, base_at, paren}
-use Rattle.keymap_lint.specs.Kinds.{again_by, bare_digits, digit_by, is_given, is_zero, unused_by, unused_half, zero_by}
-use Rattle.keymap_lint.specs.Alphabets.{all_twice, column_of, first_of, holders, is_above, is_concerned, later, letters}
-use Rattle.keymap_lint.specs.Alphabets.{lost_letters, no_control, no_control_by, standing, twice, twice_at, twice_by}
+use Rattle.keymap_lint.specs.Kinds.{bare_digits, digit_by, is_zero, unused_by, unused_half}
+use Rattle.keymap_lint.specs.Alphabets.{all_twice, column_of, first_of, holders, is_above, is_concerned, later}
+use Rattle.keymap_lint.specs.Alphabets.{lost_letters, no_control, no_control_by, twice, twice_at}
 use Rattle.keymap_lint.specs.Alphabets.{twice_in, twice_of}
 use Rattle.keymap_lint.specs.declared.alphabet.Alphabet.{Alphabet}
 use Rattle.keymap_lint.specs.declared.alphabet.Alphabet.TheVariants.{Small, Capital}
 use Rattle.keymap_lint.specs.Typed.{cannot_type}
 use Rattle.keymap_lint.specs.Octal.{all_octal, looks_octal, octal_accent, octal_at, octal_by, octal_cell}
-use Rattle.keymap_lint.specs.Octal.{octal_in, octal_of, octal_own, octal_pair, result_at}
-use Rattle.keymap_lint.specs.Letters.{is_whole, gap, gap_before, gap_by, gaps, is_behind}
+use Rattle.keymap_lint.specs.Octal.{octal_in, octal_of, octal_pair}
+use Rattle.keymap_lint.specs.Letters.{gap, gap_before, gap_by, gaps, is_behind}
 use Rattle.keymap_lint.specs.Lists.{all_of, of_keys, of_letters, of_definitions, of_rest}
 use Rattle.keymap_lint.specs.Shifted.{all_exchanged, exchanged, exchanged_by, is_exchanged, is_small_in_force, no_caps}
 use Rattle.keymap_lint.specs.Shifted.{no_caps_by, small_slots}
-use Rattle.keymap_lint.specs.Spelled.{bytes_at, offset_at, content, span_at}
+use Rattle.keymap_lint.specs.Spelled.{bytes_at, offset_at, content}
 use Rattle.keymap_lint.specs.declared.diagnostic.Kind.TheVariants as kinds
 
 -- ---- lists
@@ -158,9 +158,7 @@ of_all P t cells fs untyped h =
     halves = search (rules, all_some, none, all_one)
 
     againby : (p : Placed) → Contains t.definitions p → All P (again t p)
-    againby p among =
-        all_some P (λ o. option_to_list (again_by t p o)) (last_of p.what t.definitions) none
-        (λ q e. all_unless P (q.first == p.first) _ (λ ne. h.again p q among e ne))
+    againby p among = search (rules, all_some, none, all_unless)
 
     gapped : (slots : List ℕ) → All P (gap_before t slots)
     gapped [] = none
@@ -189,10 +187,7 @@ of_all P t cells fs untyped h =
     of_two a _ _ = none
 
     twices : (a : Alphabet) → All P (twice t a)
-    twices a =
-        all_either (All P) (is_whole t) (option_to_list (twice_by t a (letters t a))) []
-        (all_either (λ o. All P (option_to_list o)) (length (standing (letters t a) 1) == 24)
-        (twice_of t a (standing (letters t a) 2) (standing (letters t a) 0)) None (of_two a _ _) none) none
+    twices a = search (rules, all_either, of_two, none)
 
     octal : (s : Span) (c : ℕ) → All P (octal_at t s c)
     octal s c = all_if_so P (looks_octal (bytes_at t.text s)) _ (h.octal s c)
@@ -202,17 +197,10 @@ of_all P t cells fs untyped h =
     octal_cells c (Act a) = none
 
     pair : (first : ℕ) (xs : List (ℕ × ℕ)) (j : ℕ) → j < length xs → All P (octal_pair t first xs j)
-    pair first xs j low =
-        let base = span_at t.spans (first + (4 * j + 3)) in
-        let result = span_at t.spans (first + (4 * j + 4)) in
-        join (octal_at t base (base_at xs j)) (octal_at t result (result_at xs j)) (octal base (base_at xs j))
-        (octal result (result_at xs j))
+    pair first xs j low = search (rules, join, octal)
 
     octals : (o : Option Placed) (a : Option AccentValue) → All P (octal_in t o a)
-    octals (Some p) (Some a) =
-        join (octal_own t p.first a) (gathered (octal_pair t p.first a.pairs) (length a.pairs))
-        (octal (span_at t.spans (p.first + 1)) a.own)
-        (all_gathered P (octal_pair t p.first a.pairs) (length a.pairs) (pair p.first a.pairs))
+    octals (Some p) (Some a) = search (rules, join, octal, all_gathered, pair)
     octals _ _ = none
 
     lettered : All P (of_letters t cells)
@@ -235,10 +223,7 @@ of_all P t cells fs untyped h =
         (all_gathered P (octal_accent t) 15 (λ i low. octals (last_of (Accent i) t.definitions) (accent_at t.map i))))
 
     zero : (i : ℕ) → i < 15 → All P (zero_accent t cells i)
-    zero i low =
-        all_some P (λ o. option_to_list (zero_by t cells i o)) (last_of (Accent i) t.definitions) none
-        (λ p e. all_if_so P (is_zero (own_of (accent_at t.map i)) && is_given t cells i) _
-        (λ both. h.zero i p e (and_parts _ _ both).0))
+    zero i low = search (rules, all_some, none, all_if_so, and_parts)
 
     pairs : (i : ℕ) → i < 15 → All P (accent_pairs t i)
     pairs i low =

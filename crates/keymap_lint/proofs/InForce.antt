@@ -13,7 +13,7 @@ use Rattle.std.specs.Option.{option_or}
 use Rattle.std.specs.List.{range_with_len}
 use Rattle.std.proofs.lemmas.Bool.Decides.{nat_tests}
 use Rattle.std.proofs.lemmas.List.FromFn.{length-map-range_with_len}
-use Rattle.keymap_lint.specs.Types.{Char, Defined, Accent, Span, CellInForce}
+use Rattle.keymap_lint.specs.Types.{Char, Defined, Accent, CellInForce}
 use Rattle.keymap_core.specs.Maps.{cell_at, entry_at}
 use Rattle.keymap_text.specs.declared.token.TokenKind.TheVariants.{Word}
 use Rattle.keymap_text.specs.Items.{cell}
@@ -64,12 +64,7 @@ within text m rows n = search (rules, nothing, span_is, placed_at)
 pub token_at : (text : List ℕ) (m : MapValue) (rows : List Row) (n : ℕ)
     (IsSuch : TokenValue → Type 0) → n < length (tokens text) → IsSuch (get_or (tokens text) n nothing)
     → HasToken text (offset_at (spelled_by text m rows) n) IsSuch
-token_at text m rows n IsSuch there such = record {
-  token = get_or (tokens text) n nothing;
-  among = Contains-get_or (tokens text) n nothing there;
-  start = ap (λ (s : Span). s.start) (sym (span_is (tokens text) n));
-  such = such;
-}
+token_at text m rows n IsSuch there such = search (rules, nothing, Contains-get_or, span_is)
 
 -- the tokens of the definition in force of a slot
 abbrev row_of_slot : List ℕ → Placed → List TokenValue

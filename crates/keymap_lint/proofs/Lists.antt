@@ -1,5 +1,6 @@
 -- Loops that put one list together, element by element.
-use Rattle.keymap_lint.proofs.Common.{◌≡◌, ◌∙◌, ◌+◌, ◌<◌, ℕ, List, [], ◌∷◌, ◌++◌, ap, sym, length, get_or, take, map}
+use Rattle.std.proofs.Common.{rules}
+use Rattle.keymap_lint.proofs.Common.{◌≡◌, ◌+◌, ◌<◌, ℕ, List, [], ◌∷◌, ◌++◌, length, get_or, take, map}
 use Rattle.keymap_lint.proofs.Common.{arith, range_with_len, flat_map, gathered}
 use Prim.Native.Nat.{zero, suc}
 use Rattle.keymap_lint.proofs.Common.{Bool, true, false, refl}
@@ -23,10 +24,7 @@ pub flat_step : {X Y : Type 0} (f : X → List Y) (xs zs : List X) (i : ℕ) (x 
     → zs ≡ xs → i < length zs → x ≡ get_or zs i d → old ≡ front ++ flat_map f (take i xs) → more ≡ f x
     → new ≡ old ++ more → new ≡ front ++ flat_map f (take (i + 1) xs)
 flat_step f xs zs i x d front old new more same l is so_far gives push =
-    let one = is ∙ ap (λ t. get_or t i d) same in
-    let all = ap (λ y. take i xs ++ y ∷ []) one ∙ sym (take_more xs i d (rw same at l)) in
-    push ∙ ap (λ t. t ++ more) so_far ∙ ap (λ t. front ++ flat_map f (take i xs) ++ t) gives
-    ∙ flat_map_more f front (take i xs) x ∙ ap (λ ys. front ++ flat_map f ys) all
+    search (rules, take_more, flat_map_more)
 
 -- what a number gives, behind what is gathered below it
 pub gathered_step : {Y : Type 0} (f : ℕ → List Y) (n : ℕ) (front old new more : List Y) → old ≡ front ++ gathered f n

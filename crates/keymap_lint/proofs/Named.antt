@@ -225,14 +225,7 @@ none_names t cells untyped =
 -- no name comes with what is said of directives
 none_told : (text : List ℕ) (t : Spelled) (never : Bool) (said : List Diagnostic) → All (λ d. names d ≡ false) said
     → list_any names (told text t never said) ≡ false
-none_told text t never said all =
-    list_any_none names (told text t never said) (of_told (λ d. names d ≡ false) text t never said (record {
-      no_word = λ p l e. refl;
-      no_kinds = λ p l e. refl;
-      unused = λ w l r e. refl;
-      not_ignored = λ w l r e. refl;
-      no_kind = λ w l r e. refl;
-    }) all)
+none_told text t never said all = search (rules, list_any_none, of_told)
 
 -- what names a key is an error, unless the search answers that no modifier sticks
 pub named_is_error : (k : Kind) → names_a_key k ≡ true → is_error (severity_of false k) ≡ true
@@ -263,24 +256,13 @@ named_is_told text t never ws (inl e) d h =
 any_filter : {X : Type 0} (p q : X → Bool) → ((x : X) → p x ≡ true → q x ≡ true) → (xs : List X)
     → list_any p xs ≡ true → list_any p (filter q xs) ≡ true
 any_filter p q h [] e = e
-any_filter {X} p q h (x ∷ xs) e =
-    go (q x) refl (or_cases (p x) (list_any p xs) e) (any_filter p q h xs)
-  where
-    go : (b : Bool) → q x ≡ b → (p x ≡ true) ⊎ (list_any p xs ≡ true)
-        → (list_any p xs ≡ true → list_any p (filter q xs) ≡ true)
-        → list_any p (cond b (x ∷ filter q xs) (filter q xs)) ≡ true
-    go true g (inl s) later = or_left (p x) (list_any p (filter q xs)) s
-    go true g (inr s) later = or_right (p x) (list_any p (filter q xs)) (later s)
-    go false g (inl s) later = absurd (true≢false (sym (h x s) ∙ g))
-    go false g (inr s) later = later s
+any_filter {X} p q h (x ∷ xs) e = search (rules, or_cases, or_left, or_right, any_filter p q h xs)
 
 some_told : (text : List ℕ) (t : Spelled) (never : Bool) (said : List Diagnostic)
     → (never ≡ false) ⊎ (words text t ≡ []) → list_any names said ≡ true
     → list_any names (told text t never said) ≡ true
 some_told text t never said keeps_none some =
-    let kept = any_filter names (is_told text t never (words text t))
-    (named_is_told text t never (words text t) keeps_none) said some in
-    simp (list_any-append, kept)
+    search (rules, any_filter, named_is_told, list_any-append)
 
 -- ---- a text
 

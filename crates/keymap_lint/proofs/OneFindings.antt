@@ -1,4 +1,5 @@
 -- A keymap has one list of findings.
+use Rattle.std.proofs.Common.{rules}
 use Rattle.keymap_lint.proofs.Common.{◌≡◌, ℕ, ◌<◌, List, [], ◌∷◌, get_or, refl, sym, ◌∙◌, ap, subst}
 use Rattle.keymap_lint.proofs.Common.{arith, MapValue}
 use Prim.Native.Nat.{zero, suc}
@@ -16,10 +17,7 @@ use Rattle.keymap_lint.specs.Types.{Cell, Act, Finding, Holding}
 -- ---- of a key
 
 one_place : (p q : Place) → NotAfter p q → NotAfter q p → p ≡ q
-one_place p q (inr e) (inr f) =
-    let slot : p.slot ≡ q.slot = e.0 in
-    let column : p.column ≡ q.column = omega (arith, e, f) in
-    λ i. record { slot = slot i; column = column i }
+one_place p q (inr e) (inr f) = search rules
 one_place p q (inl l) (inl k) = absurd (omega (arith, l, k))
 one_place p q (inl l) (inr f) = absurd (omega (arith, l, f))
 one_place p q (inr e) (inl k) = absurd (omega (arith, e, k))
@@ -55,14 +53,7 @@ cell_of m k p x (few, inr (live, e)) is =
     inr (live, (p.column, few, subst (λ s. cell_at m s p.column ≡ x) e is))
 
 unsafe_key : (m : MapValue) (f : Finding) → IsFinding m f → IsUnsafeKey m f.key
-unsafe_key m f is = (
-  f.holding,
-  cell_of m f.key f.holding_at (Act (holding_action f.holding)) is.first_holding.0 is.holding,
-  (
-    is.first_character.1.0,
-    cell_of m f.key f.character_at _ is.first_character.0 is.first_character.1.1,
-  ),
-)
+unsafe_key m f is = search (rules, cell_of)
 
 -- ---- lists
 
@@ -134,10 +125,7 @@ among m fs gs are its f (k, l, e) =
     go (its.complete f.key is.key (unsafe_key m f is)) is
   where
     go : Any (λ (g : Finding). g.key ≡ f.key) gs → IsFinding m f → Contains gs f
-    go (j, g, few, at, same) is =
-        let its_is : IsFinding m g = subst (IsFinding m) at (its.each j g few) in
-        let one : g ≡ f = one_finding m g f its_is is same in
-        subst (Contains gs) one (j, few, at)
+    go (j, g, few, at, same) is = search (rules, one_finding)
 
 pub one_list_of_findings : (m : MapValue) (fs gs : List Finding) → AreFindings m fs → AreFindings m gs → fs ≡ gs
 one_list_of_findings m fs gs are its =

@@ -1,10 +1,11 @@
 -- Lists that are related element by element.
+use Rattle.std.proofs.Common.{rules}
 use Rattle.keymap_lint.proofs.Common.{◌≡◌, ◌+◌, ◌<◌, ℕ, Bool, true, false, List, [], ◌∷◌, ◌++◌, refl, sym, length}
 use Rattle.keymap_lint.proofs.Common.{arith, cond, get_or, map, not, Option, Some, None, find, flat_map, gathered}
 use Rattle.keymap_lint.proofs.Common.{true≢false}
 use Prim.Native.Nat.{zero, suc}
 use Rattle.std.specs.Option.{option_to_list}
-use Rattle.std.proofs.Common.{All, ◌||◌, nat_lt}
+use Rattle.std.proofs.Common.{All, nat_lt}
 use Rattle.std.specs.List.{filter, list_any, position, prefix_len}
 use Rattle.std.proofs.lemmas.List.Elements.{All-cons, All-head, All-nil, All-tail}
 use Rattle.keymap_lint.specs.Same.{Pairwise, no_pair, one_pair}
@@ -169,7 +170,4 @@ pub pairs_any : {A B : Type 0} (R : A → B → Type 0) (p : A → Bool) (q : B 
     → ((x : A) (y : B) → R x y → p x ≡ q y) → {xs : List A} {ys : List B} → Pairwise R xs ys
     → list_any p xs ≡ list_any q ys
 pairs_any R p q same no_pair = refl
-pairs_any R p q same (one_pair {x = x} {y = y} r rest) = ap_or (same x y r) (pairs_any R p q same rest)
-  where
-    ap_or : {a b c d : Bool} → a ≡ b → c ≡ d → (a || c) ≡ (b || d)
-    ap_or e f = λ i. e i || f i
+pairs_any R p q same (one_pair {x = x} {y = y} r rest) = search (rules, pairs_any R p q same rest)

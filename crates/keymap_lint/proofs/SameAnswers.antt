@@ -1,4 +1,5 @@
 -- The searches of two texts with the same tokens answer the same, so the diagnostics are the same but for places.
+use Rattle.std.proofs.Common.{rules}
 use Rattle.keymap_lint.proofs.Common.{◌≡◌, ℕ, ◌+◌, ◌<◌, ◌≤◌, Bool, true, false, List, [], ◌∷◌, length, refl, sym}
 use Rattle.keymap_lint.proofs.Common.{◌∙◌, ap, subst, arith, cond, true≢false, Option, Some, None, MapValue}
 use Prim.Native.Nat.{suc}
@@ -13,8 +14,7 @@ use Rattle.std.proofs.lemmas.List.Kept.{IsStrictlyIncreasing-filter}
 use Rattle.std.proofs.lemmas.List.Sums.{length-filter}
 use Rattle.std.proofs.lemmas.Map.Made.{Contains-tail}
 use Rattle.console_core.specs.declared.event.Event.{Event}
-use Rattle.console_core.specs.declared.event.Event.TheVariants.{Press, Release, Reset, Load}
-use Rattle.console_core.specs.History.{HasNoLoads, IsNoLoad}
+use Rattle.console_core.specs.History.{HasNoLoads}
 use Rattle.console_states.specs.Moves.{alone}
 use Rattle.console_states.specs.Sticking.{IsAnswer, IsSent, LeavesOn, NeverSticks}
 use Rattle.console_states.specs.declared.outcome.Sticking.TheVariants.{Sticks, Never, Undecided}
@@ -140,13 +140,7 @@ one_told m cs ds (inr (none, many)) (inr (neither, more)) = none ∙ sym neither
 -- ---- whether a modifier may stay on
 
 no_loads : (h : List Event) → All (IsSent false) h → HasNoLoads h
-no_loads h all = All-weaker (IsSent false) IsNoLoad none h all
-  where
-    none : (e : Event) → IsSent false e → IsNoLoad e
-    none (Press k) sent = refl
-    none (Release k) sent = refl
-    none Reset sent = refl
-    none Load sent = absurd (true≢false (sym sent))
+no_loads h all = search (rules, All-weaker)
 
 -- a modifier that sticks doesn't never do so
 not_both : (m : MapValue) (h : List Event) → LeavesOn m h → NeverSticks m → ⊥

@@ -1,4 +1,5 @@
 -- Lists that are related element by element stay so where both are put in order.
+use Rattle.std.proofs.Common.{rules}
 use Rattle.keymap_lint.proofs.Common.{◌≡◌, ℕ, ◌+◌, ◌<◌, ◌≤◌, Bool, true, false, ◌&&◌, not, cond, List, [], ◌∷◌}
 use Rattle.keymap_lint.proofs.Common.{length, get_or}
 use Rattle.keymap_lint.proofs.Common.{refl, sym, ◌∙◌, subst, arith, Option, Some, None, true≢false, Diagnostic}
@@ -8,7 +9,6 @@ use Rattle.std.specs.List.{filter}
 use Rattle.std.specs.List.Sorted.{IsNonDecreasingBy}
 use Rattle.std.specs.Option.{option_cmp, option_to_list}
 use Rattle.std.specs.Ordering.{is_lt, nat_cmp}
-use Rattle.std.specs.declared.cmp.Ordering.TheVariants.{Less, Equal, Greater}
 use Rattle.std.proofs.lemmas.Bool.{cases_lt, eqb-true, lt-ltb}
 use Rattle.std.proofs.lemmas.Bool.Decides.{nat_tests}
 use Rattle.std.proofs.lemmas.List.Elements.{All-head, All-tail}
@@ -24,25 +24,11 @@ equal a b e = grind (arith, nat_tests, e)
 
 -- numbers are equal exactly if others are
 equal_alike : (a b c d : ℕ) → (a ≡ b → c ≡ d) → (c ≡ d → a ≡ b) → (a == b) ≡ (c == d)
-equal_alike a b c d f g = go (a == b) (c == d) refl refl
-  where
-    go : (p q : Bool) → (a == b) ≡ p → (c == d) ≡ q → p ≡ q
-    go true true e k = refl
-    go false false e k = refl
-    go true false e k = absurd (true≢false (sym (equal c d (f (eqb-true a b e))) ∙ k))
-    go false true e k = absurd (true≢false (sym (equal a b (g (eqb-true c d k))) ∙ e))
+equal_alike a b c d f g = search (rules, equal, eqb-true)
 
 -- neither is less
 tie_nat : (a b : ℕ) → (not (nat_lt a b) && not (nat_lt b a)) ≡ (a == b)
-tie_nat a b = go (nat_lt a b) (nat_lt b a) (a == b) refl refl refl
-  where
-    go : (p q r : Bool) → nat_lt a b ≡ p → nat_lt b a ≡ q → (a == b) ≡ r → (not p && not q) ≡ r
-    go false false true e f g = refl
-    go true q false e f g = refl
-    go false true false e f g = refl
-    go false false false e f g = grind (arith, nat_tests, e, f, g)
-    go true q true e f g = grind (arith, nat_tests, e, f, g)
-    go false true true e f g = grind (arith, nat_tests, e, f, g)
+tie_nat a b = search (rules, nat_tests)
 
 -- ---- lists in order
 
@@ -61,9 +47,7 @@ lowest {X} f r low (z ∷ zs) all some =
 
 -- the first element is among those that are equal to it
 first_among : {X : Type 0} (f : X → ℕ) (x : X) (xs : List X) → 0 < length (filter (λ z. f x == f z) (x ∷ xs))
-first_among f x xs =
-    subst (λ (b : Bool). 0 < length (cond b (x ∷ filter (λ z. f x == f z) xs) (filter (λ z. f x == f z) xs)))
-    (sym (equal (f x) (f x) refl)) (omega arith)
+first_among f x xs = search (rules, equal)
 
 module _ {A B : Type 0} (R : A → B → Type 0) (m : A → ℕ) (n : B → ℕ)
     (rises : (x u : A) (y v : B) → R x y → R u v → (m x < m u → n y < n v) × (n y < n v → m x < m u)) where
@@ -159,21 +143,10 @@ abbrev pub rank_of : Diagnostic → ℕ
 rank_of d = rank d.place
 
 below_is : (a b : ℕ) → nat_lt a b ≡ nat_lt (suc a) (suc b)
-below_is a b = go (nat_lt a b) (nat_lt (suc a) (suc b)) refl refl
-  where
-    go : (p q : Bool) → nat_lt a b ≡ p → nat_lt (suc a) (suc b) ≡ q → p ≡ q
-    go true true e f = refl
-    go false false e f = refl
-    go true false e f = grind (arith, nat_tests, e, f)
-    go false true e f = grind (arith, nat_tests, e, f)
+below_is a b = search (rules, nat_tests)
 
 lt_nat : (a b : ℕ) → is_lt (nat_cmp a b) ≡ nat_lt a b
-lt_nat a b = go (nat_lt a b) (a == b)
-  where
-    go : (p q : Bool) → is_lt (cond p Less (cond q Equal Greater)) ≡ p
-    go true q = refl
-    go false true = refl
-    go false false = refl
+lt_nat a b = search rules
 
 lt_is : (o p : Option ℕ) → is_lt (option_cmp nat_cmp o p) ≡ nat_lt (rank o) (rank p)
 lt_is None None = refl
@@ -222,19 +195,4 @@ ordered_same P along found others ordered theirs same is are =
   where
     rises : (x u y v : Diagnostic) → IsSame P x y → IsSame P u v
         → (rank_of x < rank_of u → rank_of y < rank_of v) × (rank_of y < rank_of v → rank_of x < rank_of u)
-    rises x u y v r s = elim (place_pair P x.place y.place r.place) [
-      | inl none ↦ elim (place_pair P u.place v.place s.place) [
-        | inl neither ↦ (λ l. omega (arith, none, neither, l), λ l. omega (arith, none, neither, l))
-        | inr some ↦ (λ l. omega (arith, none.1, some.3), λ l. omega (arith, none.0, some.2))
-      ]
-      | inr some ↦ elim (place_pair P u.place v.place s.place) [
-        | inl none ↦ (λ l. omega (arith, none, l), λ l. omega (arith, none, l))
-        | inr more ↦
-            let both = along some.0 more.0 some.1 more.1 some.4 more.4 in (
-              λ l. let less : some.0 < more.0 = omega (arith, some.2, more.2, l) in
-                  omega (arith, some.3, more.3, both.0 less),
-              λ l. let less : some.1 < more.1 = omega (arith, some.3, more.3, l) in
-                  omega (arith, some.2, more.2, both.1 less),
-            )
-      ]
-    ]
+    rises x u y v r s = search (rules, place_pair)

@@ -1,5 +1,6 @@
 -- Where places of two texts are related in order, and tokens begin at related ones, directives at related ones are for
 -- the same definitions.
+use Rattle.std.proofs.Common.{rules}
 use Rattle.keymap_lint.proofs.Common.{◌≡◌, ℕ, ◌+◌, ◌<◌, ◌≤◌, Bool, true, false, cond, List, [], ◌∷◌, length, refl, sym}
 use Rattle.keymap_lint.proofs.Common.{◌∙◌, ap, subst, arith, Option, Some, None, Placed, Spelled, get_or}
 use Rattle.keymap_lint.proofs.Common.{take}
@@ -34,14 +35,10 @@ same_truth false true f g = g refl
 same_truth false false f g = refl
 
 lt_same : (a b k n : ℕ) → (a < b → k < n) → (k < n → a < b) → nat_lt a b ≡ nat_lt k n
-lt_same a b k n f g = same_truth (nat_lt a b) (nat_lt k n)
-    (λ e. let l : k < n = f (grind (arith, nat_tests, e)) in grind (arith, nat_tests, l))
-    (λ e. let l : a < b = g (grind (arith, nat_tests, e)) in grind (arith, nat_tests, l))
+lt_same a b k n f g = search (rules, same_truth, nat_tests)
 
 le_same : (a b k n : ℕ) → (a ≤ b → k ≤ n) → (k ≤ n → a ≤ b) → nat_le a b ≡ nat_le k n
-le_same a b k n f g = same_truth (nat_le a b) (nat_le k n)
-    (λ e. let l : k ≤ n = f (grind (arith, nat_tests, e)) in grind (arith, nat_tests, l))
-    (λ e. let l : a ≤ b = g (grind (arith, nat_tests, e)) in grind (arith, nat_tests, l))
+le_same a b k n f g = search (rules, same_truth, nat_le, nat_tests)
 
 count_same : {X : Type 0} (p q : X → Bool) (xs : List X) → All (λ x. p x ≡ q x) xs → count_by p xs ≡ count_by q xs
 count_same p q [] all = refl

@@ -1,9 +1,9 @@
 -- Two texts with the same tokens have the same diagnostics but for places.
+use Rattle.std.proofs.Common.{rules}
 use Rattle.keymap_lint.proofs.Common.{◌≡◌, ℕ, ◌+◌, ◌<◌, Bool, true, false, ◌&&◌, not, List, [], ◌∷◌, length, map}
 use Rattle.keymap_lint.proofs.Common.{get_or}
-use Rattle.keymap_lint.proofs.Common.{take, refl, sym, ◌∙◌, ap, subst, arith, true≢false, Diagnostic, MapValue, Placed}
-use Rattle.keymap_lint.proofs.Common.{◌≤◌}
-use Rattle.std.proofs.Common.{◌-◌, drop, inl, inr, All, ◌||◌}
+use Rattle.keymap_lint.proofs.Common.{refl, sym, ◌∙◌, ap, subst, Diagnostic, MapValue, Placed}
+use Rattle.std.proofs.Common.{◌-◌, All, ◌||◌}
 use Rattle.std.specs.List.{list_all, list_any}
 use Rattle.std.proofs.lemmas.Bool.{cases_lt}
 use Rattle.std.proofs.lemmas.List.{get_or-map, get_or_past, length-map}
@@ -46,13 +46,7 @@ use Rattle.keymap_lint.proofs.Told.{no_directives}
 
 image : (ts : List TokenValue) (n : ℕ)
     → get_or (map kind_and_bytes ts) n (kind_and_bytes nothing) ≡ kind_and_bytes (get_or ts n nothing)
-image ts n = elim (cases_lt n (length ts)) [
-  | inl l ↦ get_or-map kind_and_bytes ts n nothing (kind_and_bytes nothing) l
-  | inr l ↦
-      let e : length (map kind_and_bytes ts) ≤ n = omega (arith, l, length-map ts kind_and_bytes) in
-      get_or_past (map kind_and_bytes ts) n (kind_and_bytes nothing) e
-      ∙ ap kind_and_bytes (sym (get_or_past ts n nothing l))
-]
+image ts n = search (rules, cases_lt, get_or-map, nothing, length-map, get_or_past)
 
 module _ (text other : List ℕ) (same : HaveSameTokens text other) where
   same_token : (n : ℕ)
@@ -67,30 +61,17 @@ module _ (text other : List ℕ) (same : HaveSameTokens text other) where
 -- the bytes of the token with a number, and how many
 bytes_are : (text : List ℕ) (n : ℕ)
     → bytes_at text (span_at (map span_of (tokens text)) n) ≡ (get_or (tokens text) n nothing).bytes
-bytes_are text n =
-    let t : TokenValue = get_or (tokens text) n nothing in
-    let size : t.start + length t.bytes - t.start ≡ length t.bytes = omega arith in
-    ap (bytes_at text) (span_is (tokens text) n) ∙ ap (λ k. take k (drop t.start text)) size ∙ (placed_at text n).bytes
+bytes_are text n = search (rules, nothing, span_is, placed_at)
 
 width_is : (text : List ℕ) (n : ℕ)
     → (span_at (map span_of (tokens text)) n).end - (span_at (map span_of (tokens text)) n).start
     ≡ length (get_or (tokens text) n nothing).bytes
-width_is text n =
-    let t : TokenValue = get_or (tokens text) n nothing in
-    let size : t.start + length t.bytes - t.start ≡ length t.bytes = omega arith in
-    ap (λ (s : Span). s.end - s.start) (span_is (tokens text) n) ∙ size
+width_is text n = search (rules, nothing, span_is)
 
 -- where no token is, nothing looks octal
 octal_there : (text : List ℕ) (spans : List Span) (n : ℕ) → looks_octal (bytes_at text (span_at spans n)) ≡ true
     → n < length spans
-octal_there text spans n e = elim (cases_lt n (length spans)) [
-  | inl l ↦ l
-  | inr l ↦
-      let none : false ≡ true =
-      subst (λ (s : Span). looks_octal (bytes_at text s) ≡ true)
-      (get_or_past spans n (record { start = 0; end = 0 }) l) e in
-      absurd (true≢false (sym none))
-]
+octal_there text spans n e = search (rules, cases_lt, get_or_past)
 
 -- ---- what is said of kinds and bytes alone
 
@@ -184,40 +165,17 @@ said_same P text other m rows others same begins by is fs are untyped =
 -- a token with a greater number begins later
 begins_later : (text : List ℕ) (n k : ℕ) → n < k → k < length (tokens text)
     → (span_at (map span_of (tokens text)) n).start < (span_at (map span_of (tokens text)) k).start
-begins_later text n k l low =
-    let e : (span_at (map span_of (tokens text)) n).start ≡ (get_or (tokens text) n nothing).start =
-    ap (λ (s : Span). s.start) (span_is (tokens text) n) in
-    let f : (span_at (map span_of (tokens text)) k).start ≡ (get_or (tokens text) k nothing).start =
-    ap (λ (s : Span). s.start) (span_is (tokens text) k) in
-    omega (arith, e, f, tokens_are_in_order text n k nothing l low)
+begins_later text n k l low = search (rules, nothing, span_is, tokens_are_in_order)
 
 -- a token that begins before another one has a lesser number
 begins_first : (text : List ℕ) (n k : ℕ) → n < length (tokens text)
     → (span_at (map span_of (tokens text)) n).start < (span_at (map span_of (tokens text)) k).start → n < k
-begins_first text n k low l = elim (cases_lt n k) [
-  | inl less ↦ less
-  | inr more ↦ elim (cases_lt k n) [
-    | inl less ↦ absurd (omega (arith, l, begins_later text k n less low))
-    | inr none ↦
-        let e : n ≡ k = omega (arith, more, none) in
-        let its = ap (λ i. (span_at (map span_of (tokens text)) i).start) e in absurd (omega (arith, l, its))
-  ]
-]
+begins_first text n k low l = search (rules, cases_lt, begins_later)
 
 pub in_order : (text other : List ℕ) → HaveSameTokens text other → (p k q l : ℕ) → IsSameToken text other p q
     → IsSameToken text other k l → (p < k → q < l) × (q < l → p < k)
 in_order text other same p k q l (n, low, e, f) (i, few, g, h) =
-    let many = length-map (tokens text) span_of in
-    let here : n < length (tokens text) = omega (arith, many, low) in
-    let there : i < length (tokens text) = omega (arith, many, few) in
-    let both = as_many text other same in (
-      λ less.
-          let sooner : n < i = begins_first text n i here (omega (arith, e, g, less)) in
-          omega (arith, f, h, begins_later other n i sooner (omega (arith, there, both))),
-      λ less.
-          let sooner : n < i = begins_first other n i (omega (arith, here, both)) (omega (arith, f, h, less)) in
-          omega (arith, e, g, begins_later text n i sooner there),
-    )
+    search (rules, length-map, begins_first, begins_later)
 
 -- ---- the laws
 

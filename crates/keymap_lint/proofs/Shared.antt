@@ -5,3 +5,4 @@ pub use Rattle.keymap_lint.proofs.SamePlaces.{AreInOrder, BeginAlike}
 pub use Rattle.keymap_lint.proofs.SameTexts.{same_diagnostics, same_directive}
 pub use Rattle.keymap_lint.proofs.Told.{comment_on_line, comment_there, inside_no_directive, no_hash_no_directive}
 pub use Rattle.keymap_lint.proofs.Told.{stands_inside, stands_so, take_take}
+pub use Rattle.keymap_lint.proofs.Untyped.{rising_last}

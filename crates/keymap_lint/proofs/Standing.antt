@@ -7,9 +7,8 @@ use Rattle.std.proofs.Common.{◌-◌, drop, length-drop}
 use Rattle.std.proofs.lemmas.List.{length-take}
 use Rattle.keymap_lint.proofs.Common.{[], ◌∷◌, subst, take}
 use Rattle.keymap_lint.proofs.Lists.{all_passing}
-use Rattle.keymap_core.specs.Actions.{within as is_within}
 use Rattle.keymap_lint.specs.Kinds.{is_the}
-use Rattle.keymap_lint.specs.Alphabets.{column_of, first_of, has_slot, holders, is_above, is_concerned, later}
+use Rattle.keymap_lint.specs.Alphabets.{column_of, first_of, holders, is_above, is_concerned, later}
 use Rattle.keymap_lint.specs.Alphabets.{letter_at, letter_of, lost_letters}
 use Rattle.keymap_lint.specs.declared.alphabet.Alphabet.{Alphabet}
 use Rattle.keymap_lint.specs.declared.alphabet.Alphabet.TheVariants.{Small, Capital, Control, UpperControl}
@@ -23,7 +22,7 @@ use Rattle.std.proofs.lemmas.List.Folds.{find_at}
 use Rattle.std.proofs.lemmas.Option.{get_or_from_slice_get, slice_get_within}
 use Rattle.keymap_core.proofs.Shared.{find-true}
 use Rattle.std.proofs.lemmas.List.Sorted.{All-permutation}
-use Rattle.keymap_lint.specs.Types.{Holding, Cell, Char, Act, Finding, Accent, CellInForce, Lint, Spelled as OfSpelled}
+use Rattle.keymap_lint.specs.Types.{Holding, Cell, Char, Act, Finding, CellInForce, Lint, Spelled as OfSpelled}
 use Rattle.keymap_core.specs.Actions.{holding_action}
 use Rattle.keymap_core.specs.Maps.{cell_at}
 use Rattle.keymap_check.specs.Findings.{IsFinding}
@@ -45,7 +44,6 @@ use Rattle.keymap_lint.proofs.Begun.{again_there, behind_there, replaced, small_
 use Rattle.keymap_lint.proofs.Each.{of_all}
 use Rattle.keymap_lint.proofs.Told.{OfDirectives, of_told}
 use Rattle.keymap_lint.specs.Directives.{told}
-use Rattle.keymap_lint.specs.Severities.{never_sticks}
 use Rattle.keymap_lint.specs.Types.{Diagnostic}
 use Rattle.keymap_lint.proofs.FaultPlaces.{all_lie_within}
 use Rattle.keymap_lint.proofs.InForce.{cells_in_force_are_spelled, in_force_there, spelled_at, within}
@@ -72,22 +70,12 @@ pair_characters t _ _ e = absurd (true≢false (sym e))
 
 -- a letter's cell is its character
 letter_is : (first i : ℕ) (x : Cell) → is_the i (letter_of first x) ≡ true → x ≡ Char (i + first)
-letter_is first i (Char c) e = go (is_within first (first + 25) c) refl e
-  where
-    go : (b : Bool) → is_within first (first + 25) c ≡ b → is_the i (cond b (Some (c - first)) None) ≡ true
-        → Char c ≡ Char (i + first)
-    go true f e = ap Char (grind (arith, nat_tests, f, e))
-    go false f e = absurd (true≢false (sym e))
+letter_is first i (Char c) e = search (rules, nat_tests)
 letter_is first i (Act a) e = absurd (true≢false (sym e))
 
 letter_there : (t : Spelled) (a : Alphabet) (i slot : ℕ) → is_the i (letter_at t a slot) ≡ true
     → cell_at t.map slot (column_of a) ≡ Char (i + first_of a)
-letter_there t a i slot e = go (has_slot a slot) e
-  where
-    go : (b : Bool) → is_the i (cond b (letter_of (first_of a) (cell_at t.map slot (column_of a))) None) ≡ true
-        → cell_at t.map slot (column_of a) ≡ Char (i + first_of a)
-    go true e = letter_is (first_of a) i (cell_at t.map slot (column_of a)) e
-    go false e = absurd (true≢false (sym e))
+letter_there t a i slot e = search (rules, letter_is)
 
 both_there : (t : Spelled) (a : Alphabet) (i one other : ℕ) → holders t a i ≡ one ∷ other ∷ []
     → (cell_at t.map one (column_of a) ≡ Char (i + first_of a))
@@ -114,10 +102,7 @@ control_in t ls above c e =
 -- where digits stand, there is a text
 digits_within : (text : List ℕ) (n place : ℕ) → looks_octal (take n (drop place text)) ≡ true → place ≤ length text
 digits_within text n place e =
-    let bytes = take n (drop place text) in
-    let some : nat_le 2 (length bytes) ≡ true = (and_parts (nat_le 2 (length bytes)) _ e).0 in
-    let few : length bytes ≤ length (drop place text) = rw length-take (omega arith) in
-    grind (arith, nat_tests, some, few, length-drop place text)
+    search (rules, nat_le, and_parts, length-take, nat_tests, length-drop)
 
 -- what holds of all elements holds of the one that is found
 found_has : {X : Type 0} (P : X → Type 0) (p : X → Bool) (xs : List X) → All P xs → (x : X) → find p xs ≡ Some x → P x
@@ -300,23 +285,12 @@ all_of_text text m rows by fs are untyped =
 
     dead_key_there : (c : CellInForce) (o : Option ℕ) → live_accent t c ≡ o → is_missing_of t o ≡ true
         → IsMissingDeadKey t c
-    dead_key_there c (Some i) g h = (
-      i,
-      passed (is_live t c.slot) (dead_key_of (content t c)) i g,
-      holds_dead_key (is_live t c.slot) (content t c) i g,
-      not_some (last_of (Accent i) t.definitions) h,
-    )
+    dead_key_there c (Some i) g h = search (rules, passed, t, holds_dead_key, not_some)
     dead_key_there c None g h = absurd (true≢false (sym h))
 
 -- what is said of directives stands at a `#` or at a word of the text
 of_directives_there : (text : List ℕ) (t : Spelled) → OfDirectives (StandsWithin text t) text
-of_directives_there text t = record {
-  no_word = λ p l e. ((omega (arith, l), tt), e);
-  no_kinds = λ p l e. ((omega (arith, l), tt), e);
-  unused = λ w l r e. ((omega (arith, l, r), tt), (refl, l, r, e));
-  not_ignored = λ w l r e. ((omega (arith, l, r), tt), (refl, l, r, e));
-  no_kind = λ w l r e. ((omega (arith, l, r), tt), (refl, l, r, e));
-}
+of_directives_there text t = search rules
 
 pub diagnostics_stand_in_the_text : DiagnosticsStandInTheText
 diagnostics_stand_in_the_text text (OfSpelled l) (m, spells, (rows, by, (fs, are, is))) =
@@ -329,10 +303,7 @@ diagnostics_stand_in_the_text text (OfSpelled l) (m, spells, (rows, by, (fs, are
     said = all_of t (cells_in_force t) fs l.untyped.items
 
     go : All (StandsWithin text t) l.list.items
-    go =
-        All-permutation (StandsWithin text t) (told text t (never_sticks l.sticking) said) l.list.items is.list.same
-        (of_told (StandsWithin text t) text t (never_sticks l.sticking) said (of_directives_there text t)
-        (all_of_text text m rows by fs are.each l.untyped.items))
+    go = search (rules, All-permutation, t, said, of_told, of_directives_there, all_of_text)
 diagnostics_stand_in_the_text text (Faulty faults) (some, are) = all_lie_within 21 text 0 faults.items are
 
 -- what lies within a text

@@ -1,9 +1,10 @@
 -- What holds of all that would be said, and of what may be said of directives, holds of all that is told.
+use Rattle.std.proofs.Common.{rules}
 use Rattle.keymap_lint.proofs.Common.{◌≡◌, ℕ, ◌+◌, ◌<◌, ◌≤◌, Bool, true, false, not, cond, List, [], ◌∷◌, ◌++◌}
-use Rattle.keymap_lint.proofs.Common.{length, map, get_or, take, refl, sym, ◌∙◌, ap, arith, subst, Option, Some, None}
+use Rattle.keymap_lint.proofs.Common.{length, map, get_or, take, refl, sym, ◌∙◌, ap, arith, Option, Some, None}
 use Rattle.keymap_lint.proofs.Common.{Diagnostic, Spelled, gathered, flat_map, true≢false, ◌&&◌}
 use Prim.Native.Nat.{zero, suc}
-use Rattle.std.proofs.Common.{◌-◌, ◌==◌, All, drop, inl, inr, nat_eq, codes}
+use Rattle.std.proofs.Common.{◌-◌, ◌==◌, All, drop, nat_eq, codes}
 use Rattle.std.specs.Prelude.{slice_index_or}
 use Rattle.std.specs.List.{filter, list_any, starts_with, suffix_len}
 use Rattle.std.proofs.lemmas.Bool.Decides.{nat_tests}
@@ -18,13 +19,13 @@ use Rattle.std.proofs.lemmas.List.Elements.{All-nil, All-append, All-filter}
 use Rattle.keymap_lint.specs.Types.{Span}
 use Rattle.keymap_places.specs.LineOf.{rest_of_line}
 use Rattle.keymap_text.specs.Lexical.{is_space, leading, stays_on_line}
-use Rattle.keymap_lint.specs.Directives.{HasNoMark, before_dashes, begins_word, comment_at, lead, trimmed}
+use Rattle.keymap_lint.specs.Directives.{HasNoMark, before_dashes, comment_at, lead, trimmed}
 use Rattle.keymap_lint.specs.Directives.{directive_at, directive_behind, directive_by, directive_saying, directives}
 use Rattle.keymap_lint.specs.Directives.{is_between, word_in}
-use Rattle.keymap_lint.specs.Directives.{is_marked, is_told, keeper, of_number, of_word, of_words, said_from, told}
+use Rattle.keymap_lint.specs.Directives.{is_told, keeper, of_number, of_word, of_words, said_from, told}
 use Rattle.keymap_lint.specs.Directives.{word_at, word_length, word_span, words, words_by, words_in}
 use Rattle.keymap_lint.specs.Directives.{words_of}
-use Rattle.keymap_lint.specs.Directives.{wrong, wrong_by, stands_at}
+use Rattle.keymap_lint.specs.Directives.{wrong, stands_at}
 use Rattle.keymap_lint.specs.KindNames.{is_never_ignored, may_be_ignored}
 use Rattle.keymap_lint.specs.Kinds.{at, is_the}
 use Rattle.keymap_lint.specs.Positions.{is_no_kind}
@@ -65,12 +66,7 @@ take_take (suc i) (suc j) (x ∷ xs) low = ap (λ ys. x ∷ ys) (take_take i j x
 
 front_of_front : {X : Type 0} (n : ℕ) (w xs : List X) → take (length w) xs ≡ w
     → take (length (take n w)) xs ≡ take n w
-front_of_front n w xs e = elim (cases_lt n (length w)) [
-  | inl low ↦
-      ap (λ k. take k xs) (length-take-le n w (omega (arith, low)))
-      ∙ sym (take_take n (length w) xs (omega (arith, low))) ∙ ap (take n) e
-  | inr all ↦ subst (λ v. take (length v) xs ≡ v) (sym (take_all n w all)) e
-]
+front_of_front n w xs e = search (rules, cases_lt, length-take-le, take_take, take_all)
 
 pub front_there : {X : Type 0} (n : ℕ) (xs : List X) → take (length (take n xs)) xs ≡ take n xs
 front_there n xs = ap (λ k. take k xs) (length-take n xs) ∙ take_min n xs
@@ -122,12 +118,7 @@ some_hash (x ∷ xs) h = omega arith
 
 hash_there : (text : List ℕ) (p : ℕ) → get_or (comment_at text p) 0 0 ≡ 35
     → (p < length text) × (get_or text p 0 ≡ 35)
-hash_there text p e =
-    let some = some_hash (comment_at text p) e in
-    let z : p + 0 ≡ p = omega arith in (
-      omega (arith, some, comment_fits text p),
-      sym (ap (λ i. get_or text i 0) z) ∙ sym (comment_reads text p 0 some) ∙ e,
-    )
+hash_there text p e = search (rules, some_hash, comment_fits, comment_reads)
 
 -- a comment of which something is said is marked
 marked : (b : Bool) (n m : ℕ) → cond b (Some m) None ≡ Some n → b ≡ true
@@ -137,9 +128,7 @@ marked false n m e = absurd (cc)
 is_marked_by : (comment : List ℕ) (n : ℕ) → said_from comment ≡ Some n
     → ((get_or comment 0 0 == 35) ≡ true)
     × (starts_with nat_eq (drop (lead comment) comment) (codes "kmap:") ≡ true)
-is_marked_by comment n e =
-    and_parts (get_or comment 0 0 == 35) (starts_with nat_eq (drop (lead comment) comment) (codes "kmap:"))
-    (marked (is_marked comment) n (lead comment + 5) e)
+is_marked_by comment n e = search (rules, and_parts, nat_eq, marked)
 
 of_directive : (text : List ℕ) (t : Spelled) (p : ℕ) → All (IsHash text) (directive_at text t p)
 unfolding directive_at
@@ -214,21 +203,10 @@ of_words_in text s scope = all_gathered (IsWord text) (word_at bytes scope s.sta
     bytes = bytes_at text s
 
     is_word : (k : ℕ) → k < length bytes → IsWord text (word_in bytes scope s.start k)
-    is_word k low = (
-      omega arith,
-      omega (
-        arith,
-        length-take (s.end - s.start) (drop s.start text),
-        length-drop s.start text,
-        length-drop k bytes,
-        word_fits (drop k bytes),
-      ),
-    )
+    is_word k low = search (rules, length-take, length-drop, bytes, word_fits)
 
     here : (k : ℕ) → k < length bytes → All (IsWord text) (word_at bytes scope s.start k)
-    here k low =
-        all_either (All (IsWord text)) (begins_word bytes k) (word_in bytes scope s.start k ∷ []) []
-        (all_one (IsWord text) (word_in bytes scope s.start k) (is_word k low)) (All-nil (IsWord text))
+    here k low = search (rules, all_either, bytes, all_one, is_word, All-nil)
 
 of_words_of : (text : List ℕ) (d : Directive) → All (IsWord text) (words_of text d)
 unfolding words_of
@@ -265,13 +243,7 @@ of_told P text t never said h all =
     ks = map (keeper text t never ws) said
 
     wrongs : (d : Directive) → IsHash text d → All P (wrong text d)
-    wrongs d (low, e) = go d.scope
-      where
-        go : (o : Option Scope) → All P (option_to_list (wrong_by (bytes_at text d.kinds) d.place o))
-        go None = all_one P _ (h.no_word d.place low e)
-        go (Some s) =
-            all_either (λ o. All P (option_to_list o)) (list_any (λ c. not (is_between c)) (bytes_at text d.kinds)) None
-            (Some (at d.place (kinds.BadIgnore bad.NoKinds))) (All-nil P) (all_one P _ (h.no_kinds d.place low e))
+    wrongs d (low, e) = search (rules, all_one, all_either, All-nil)
 
     here : (j : ℕ) → j < length ws → IsWord text (slice_index_or ws j nowhere)
     here j low =
@@ -279,16 +251,7 @@ of_told P text t never said h all =
 
     judged : (w : Span) → (w.start ≤ w.end) × (w.end ≤ length text) → (b : Bool)
         → All P (option_to_list (of_word w (bytes_at text w) b))
-    judged w (l, r) = go (may_be_ignored (bytes_at text w)) (is_never_ignored (bytes_at text w)) refl refl
-      where
-        go : (m n : Bool) → may_be_ignored (bytes_at text w) ≡ m → is_never_ignored (bytes_at text w) ≡ n → (b : Bool)
-            → All P (option_to_list (cond m (cond b None (Some (at w.start (kinds.UnusedIgnore w))))
-            (cond n (Some (at w.start (kinds.BadIgnore (bad.NotIgnored w))))
-            (Some (at w.start (kinds.BadIgnore (bad.NoKind w)))))))
-        go true n e f true = All-nil P
-        go true n e f false = all_one P _ (h.unused w l r e)
-        go false true e f b = all_one P _ (h.not_ignored w l r f)
-        go false false e f b = all_one P _ (h.no_kind w l r (rw (e, f) refl))
+    judged w (l, r) = search (rules, All-nil, all_one)
 
 -- ---- a text in which `kmap:` stands nowhere
 

@@ -1,4 +1,5 @@
 -- What no keys type, by what a search finds, and by what is typed for sure.
+use Rattle.std.proofs.Common.{rules}
 use Rattle.keymap_lint.proofs.Common.{◌≡◌, ◌∙◌, ℕ, ◌<◌, ◌≤◌, Bool, true, false, not, ◌&&◌, cond, List, [], ◌∷◌}
 use Rattle.keymap_lint.proofs.Common.{◌++◌}
 use Rattle.keymap_lint.proofs.Common.{MapValue, get_or, refl, sym, subst, arith, gathered, true≢false}
@@ -50,12 +51,10 @@ pub rising_tail : (x : ℕ) (xs : List ℕ) → IsStrictlyIncreasing (x ∷ xs) 
 rising_tail x xs h k low =
     subst (λ (n : ℕ). get_or xs k 0 < get_or (x ∷ xs) n 0) (sym (suc_more k)) (h (suc k) (omega (arith, low)))
 
-rising_last : (n : ℕ) (xs : List ℕ) → All (λ i. i < n) xs → IsStrictlyIncreasing xs
+pub rising_last : (n : ℕ) (xs : List ℕ) → All (λ i. i < n) xs → IsStrictlyIncreasing xs
     → IsStrictlyIncreasing (xs ++ n ∷ [])
 rising_last n [] all rise = λ k low. absurd (omega (arith, low))
-rising_last n (x ∷ []) all rise =
-    rises x (n ∷ []) (λ low. All-head (λ i. i < n) x [] all)
-    (rising_last n [] (All-nil (λ i. i < n)) (λ k low. absurd (omega (arith, low))))
+rising_last n (x ∷ []) all rise = search (rules, rises, All-head, All-nil)
 rising_last n (x ∷ y ∷ ys) all rise =
     rises x (y ∷ (ys ++ n ∷ [])) (λ low. rise 0 (omega arith))
     (rising_last n (y ∷ ys) (All-tail (λ i. i < n) x (y ∷ ys) all) (rising_tail x (y ∷ ys) rise))
@@ -125,9 +124,7 @@ untyped_by m set are = record {
     without c false f e can = true≢false (sym (among c can) ∙ f)
 
     untyped : (c : ℕ) → test c ≡ true → IsUntyped c
-    untyped c e =
-        let both = and_parts (is_seen c) (not (contains nat_cmp set c)) e in
-        (both.0, without c (contains nat_cmp set c) refl both.1)
+    untyped c e = search (rules, and_parts, without)
 
     lacking : (c : ℕ) (b : Bool) → contains nat_cmp set c ≡ b → (CanType m c → ⊥) → not b ≡ true
     lacking c true f cannot =
@@ -155,9 +152,7 @@ lacks m cs are e = record {
         go : (b : Bool) → is_letter x ≡ b → All (λ c. (is_letter c ≡ true) × (CanType m c → ⊥)) (filter is_letter xs)
             → All (λ c. (is_letter c ≡ true) × (CanType m c → ⊥))
             (cond b (x ∷ filter is_letter xs) (filter is_letter xs))
-        go true f more =
-            All-cons (λ c. (is_letter c ≡ true) × (CanType m c → ⊥)) x (filter is_letter xs)
-            (f, All-head (λ c. CanType m c → ⊥) x xs all) more
+        go true f more = search (rules, All-cons, All-head)
         go false f more = more
 
 -- where these are the ones, they are told or too many letters are among them

@@ -1,4 +1,5 @@
 -- What stands where one key looks while another one is held can be typed.
+use Rattle.std.proofs.Common.{rules}
 use Rattle.keymap_lint.proofs.Common.{◌≡◌, ◌∙◌, ℕ, ◌<◌, Bool, true, false, cond, [], ◌∷◌, Option, Some, None, ap}
 use Rattle.keymap_lint.proofs.Common.{MapValue, refl, subst}
 use Rattle.std.specs.Prelude.{IfSome}
@@ -49,12 +50,7 @@ nothing_held k i e = absurd (cc)
 
 -- each key can be tapped for what stands in its column 0
 pub base_way : (m : MapValue) → IsWay m (record { holder = None; column = 0 })
-base_way m k x plain low ne is = (
-  [],
-  tt,
-  ([], tt, ((λ i. refl), λ l. refl)),
-  (k, (low, nothing_held k, looks_flipped m k false false ∙ is, λ e. refl)),
-)
+base_way m k x plain low ne is = search (rules, nothing_held, looks_flipped)
 
 -- and beside one that is held for what stands in the column of its modifier
 pub held_way : (m : MapValue) (i : Modifier) (column h : ℕ) → Selects i column → h < 128

@@ -3,6 +3,7 @@ use crate::inputs::is_standard_input;
 use clap::error::{Error, ErrorKind};
 use clap::{Arg, ArgAction, ArgMatches, Command};
 use keymap_fmt::Characters;
+use kmap_runs::WaysTold;
 use lint_formats::Format;
 use std::alloc::{AllocError, Global};
 use std::convert::AsStr;
@@ -21,6 +22,8 @@ enum Word {
     FlagWithout(&'static str, &'static str, &'static str),
     /// A flag that isn't taken beside either of two others, whose names stand last.
     FlagAlone(&'static str, &'static str, &'static str, &'static str),
+    /// A flag that isn't taken without another one, whose name stands last.
+    FlagBeside(&'static str, &'static str, &'static str),
     /// An option, with the name of the file or the text that it takes in between.
     FileOption(&'static str, &'static str, &'static str),
     /// A file that stands unless an option does, whose name stands last.
@@ -40,8 +43,8 @@ enum Word {
 }
 
 use Word::{
-    Choice, File, FileOption, FileUnless, FileUnlessAny, Files, Flag, FlagAlone, FlagWithout,
-    OptionBeside, OptionalValue, TextOption,
+    Choice, File, FileOption, FileUnless, FileUnlessAny, Files, Flag, FlagAlone, FlagBeside,
+    FlagWithout, OptionBeside, OptionalValue, TextOption,
 };
 
 /// What the help says of a subcommand, and the words that it takes.
@@ -195,6 +198,11 @@ static SUBCOMMANDS: [Described; 11] = [
                 "missing",
                 "as",
             ),
+            FlagBeside(
+                "all",
+                "Prints a way by each key that types it, not only the one taken",
+                "words",
+            ),
             AS,
             FileOption(
                 "board",
@@ -291,6 +299,7 @@ fn argument<'a>(alloc: Global, word: Word) -> Result<Arg<'a>, AllocError> {
         FlagAlone(name, help, first, second) => flag(alloc, name, help)?
             .conflicts_with(first)?
             .conflicts_with(second),
+        FlagBeside(name, help, other) => flag(alloc, name, help)?.requires_arg(other),
         FileOption(name, value, help) => {
             let option = named(alloc, name, help, ArgAction::Set).long(name);
             Ok(option.value_name(value))
@@ -495,6 +504,7 @@ pub(crate) enum Request<'m, 'a> {
     Words {
         text: &'a str,
         sentence: Option<Sentence<'a>>,
+        told: WaysTold,
         board: Option<&'a str>,
     },
     Cover {
@@ -619,6 +629,15 @@ fn play_request<'m, 'a>(words: &'m ArgMatches<'a>) -> Option<Request<'m, 'a>> {
     })
 }
 
+/// Which ways are told of each character.
+fn ways_told(words: &ArgMatches<'_>) -> WaysTold {
+    if words.get_flag("all") {
+        WaysTold::ByEachKey
+    } else {
+        WaysTold::Taken
+    }
+}
+
 fn type_request<'m, 'a>(words: &'m ArgMatches<'a>) -> Option<Request<'m, 'a>> {
     let sentence = match (words.get_str("text"), words.get_str("SENTENCE")) {
         (Some(text), _) => Some(Sentence::Text(text)),
@@ -629,6 +648,7 @@ fn type_request<'m, 'a>(words: &'m ArgMatches<'a>) -> Option<Request<'m, 'a>> {
         return Some(Request::Words {
             text: words.get_str("TEXT")?,
             sentence,
+            told: ways_told(words),
             board: words.get_str("board"),
         });
     }

@@ -15,7 +15,7 @@ use keyboard_cover::Keyboard;
 use keymap_core::{FromStd, Read, ToStd, Write, write_text};
 use keymap_names::shown_name;
 use kmap_runs::{
-    CommandError, RunError, TypeError, cover_run, diff_run, dump_narrow_run, dump_run,
+    CommandError, RunError, TypeError, WaysTold, cover_run, diff_run, dump_narrow_run, dump_run,
     file_error_line, keyboard_cover_run, lint_run, missing_run, type_run, type_sheet_run,
     type_words_run, write_command_error, write_run_error,
 };
@@ -415,8 +415,12 @@ fn answer<'a>(
         Request::Words {
             text,
             sentence,
+            told,
             board,
-        } => well(tell_words(rt, text, sentence, board_of(board), faults)),
+        } => {
+            let board = board_of(board);
+            well(tell_words(rt, text, sentence, told, board, faults))
+        }
         Request::Cover {
             text,
             keyboard,
@@ -616,6 +620,7 @@ fn tell_words<'a>(
     rt: &HostRuntime,
     text: &'a str,
     sentence: Option<Sentence<'a>>,
+    told: WaysTold,
     board: Board,
     faults: &mut Faults,
 ) -> Result<(), Failure<'a>> {
@@ -623,15 +628,15 @@ fn tell_words<'a>(
     let outcome = match sentence {
         Some(Sentence::File(name)) => {
             let mut sentence = given(rt, name)?;
-            words_in(rt, board, &mut text.reader(), &mut sentence)
+            words_in(rt, told, board, &mut text.reader(), &mut sentence)
         }
         Some(Sentence::Text(words)) => {
             let mut words = FromStd::new(words.as_bytes());
-            words_in(rt, board, &mut text.reader(), &mut words)
+            words_in(rt, told, board, &mut text.reader(), &mut words)
         }
         None => {
             let mut out = Output::new(rt);
-            let outcome = type_sheet_run(rt.alloc(), board, &mut text.reader(), &mut out);
+            let outcome = type_sheet_run(rt.alloc(), board, told, &mut text.reader(), &mut out);
             out.outcome(outcome)
         }
     };
@@ -641,12 +646,13 @@ fn tell_words<'a>(
 /// Tells so of the characters of the sentence. Where one isn't typed, that is told behind the lines of those before it.
 fn words_in<'a, S: Read, T: Read>(
     rt: &HostRuntime,
+    told: WaysTold,
     board: Board,
     text: &mut S,
     sentence: &mut T,
 ) -> Result<(), Failure<'a>> {
     let mut out = Output::new(rt);
-    let outcome = type_words_run(rt.alloc(), board, text, sentence, &mut out);
+    let outcome = type_words_run(rt.alloc(), board, told, text, sentence, &mut out);
     match out.outcome(outcome)? {
         None => Ok(()),
         Some(error) => Err(Failure::Command(None, stop_error(error))),

@@ -55,7 +55,7 @@ use Rattle.kmap_runs.specs.LintRuns.{IsLinted}
 use Rattle.kmap_runs.specs.declared.lint_runs.Linted.{Linted}
 use Rattle.kmap_runs.specs.Missing.{AreMissingIn, missing_text}
 use Rattle.kmap_runs.specs.declared.missing.Missing.{Missing}
-use Rattle.script_text.specs.Replayed.{ShowsCover}
+use Rattle.script_text.specs.Replayed.{ShowsCover, ShowsKeyboardCover}
 use Rattle.kmap_runs.specs.Report.{brief_line, report}
 use Rattle.kmap_runs.specs.Search.{found_text, is_never}
 use Rattle.kmap_runs.specs.Spelling.{AreSpelledIn, IsSheet}
@@ -270,7 +270,8 @@ LacksSheet m _ = ⊥
 
 abbrev pub TellsAllInWords : Board → Moves → Moves → Result (Unit {0}) CommandError → Type 0
 TellsAllInWords b text out r =
-    Runs of_command_writer (ReadsForCommand (ReadsText text)) LacksSheet (λ m _ told. (xs : List Spelled) × IsSheet b m xs) out r
+    Runs of_command_writer (ReadsForCommand (ReadsText text)) LacksSheet
+    (λ m _ told. (xs : List Spelled) × IsSheet b m xs) out r
 
 -- ---- laws
 
@@ -308,3 +309,10 @@ PrintedCoversAreScripts =
     (text out : Moves) → CoversText text out (Ok (tt {0}))
     → (m : MapValue) × (script : List ℕ) × ReadsText text (Ok m) × Appends out.old out.new script
     × ShowsCover m script
+
+-- So is what is printed to test it by its keyboard, where no repeat is left out.
+abbrev pub PrintedKeyboardCoversAreScripts : Type 0
+PrintedKeyboardCoversAreScripts =
+    (x : Keyboard) (text out : Moves) → CoversByKeyboard x true text out (Ok (tt {0}))
+    → (m : MapValue) × (script : List ℕ) × (c : KeyboardCover) × ReadsText text (Ok m) × Appends out.old out.new script
+    × IsCoverBy x m c × ShowsKeyboardCover c script

@@ -1,7 +1,9 @@
 -- Characters that are typed each by itself.
-use Rattle.std.specs.Prelude.{◌≡◌, ◌⊎◌, ℕ, true, false, List, [], ◌∷◌, ◌++◌, All, ⊤, length, map, slice_get, take, None, Some}
+use Rattle.std.specs.Prelude.{◌≡◌, ◌⊎◌, ℕ, true, false, List, [], ◌∷◌, ◌++◌, All, ⊤, length, map, slice_get, take}
+use Rattle.std.specs.Prelude.{None, Some}
 use Rattle.std.specs.Prelude.{if◌then◌else◌, nat_eq, IfSome}
 use Rattle.std.specs.List.{Contains, list_any}
+use Rattle.std.specs.List.Sorted.{IsStrictlyIncreasing}
 use Rattle.std.specs.Str.{all_scalars, encode_utf8_all}
 use Rattle.keymap_core.specs.Maps.{MapValue}
 use Rattle.keyboard.specs.declared.board.Board.{Board}
@@ -76,10 +78,11 @@ LeavesBoard b m c = (x : Spelled) × (x.character ≡ c) × IsSpelled b m x × P
 abbrev pub AddsOnBoard : Board → MapValue → ℕ → List Spelled → List Spelled → Type 0
 AddsOnBoard b m c old new = Adds b m c old new ⊎ ((new ≡ old) × (CanType m c → LeavesBoard b m c))
 
--- These are typed each by itself, and they are all that keys of the board type so.
+-- These are typed each by itself, and they are all that keys of the board type so, by their numbers.
 pub record IsSheet (b : Board) (m : MapValue) (xs : List Spelled) : Type 0 where
   pub each : All (IsSpelled b m) xs
   pub all : (c : ℕ) → CanType m c → Contains (spelled_of xs) c ⊎ LeavesBoard b m c
+  pub order : IsStrictlyIncreasing (spelled_of xs)
 
 abbrev pub IsSheetError : MapValue → TypeError → Type 0
 IsSheetError m type.Memory = ⊤

@@ -20,7 +20,8 @@ ghost use Rattle.kmap_runs.specs.FmtRuns.{ChangedTextsSpellTheSame, PrintedLayou
 ghost use Rattle.keymap_tables.specs.Sources.{ReadsNarrow, ReadsTables};
 ghost use Rattle.kmap_runs.specs.Runs.{AcceptedKeepTheirPromise, AreDumped, CompilesNarrowly, CompilesText};
 ghost use Rattle.kmap_runs.specs.Runs.{CoversText, DrawnAreWellFormed, IsFoundUnder};
-ghost use Rattle.kmap_runs.specs.Runs.{PrintedCoversAreScripts, TypesSentence, WellLintedNeverStick};
+ghost use Rattle.kmap_runs.specs.Runs.{PrintedCoversAreScripts, PrintedKeyboardCoversAreScripts, TypesSentence};
+ghost use Rattle.kmap_runs.specs.Runs.{WellLintedNeverStick};
 ghost use Rattle.kmap_runs.specs.Typing.{typing_script};
 ghost use Rattle.keymap_names.specs.Shown.{IsPlainText};
 ghost use Rattle.std.specs.Char.{IsScalar};
@@ -79,6 +80,11 @@ pub fn printed_demonstrations_leave_a_modifier_on()
 /// spells, and of nothing else.
 pub fn printed_covers_are_scripts()
     ensures { PrintedCoversAreScripts }
+{}
+
+/// So is what the run wrote that prints a script by the keyboard, where no repeat is left out.
+pub fn printed_keyboard_covers_are_scripts()
+    ensures { PrintedKeyboardCoversAreScripts }
 {}
 
 /// What `play` writes of the script that `cover_run` printed, over the same text, is what is played of the events of

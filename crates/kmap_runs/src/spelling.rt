@@ -1,5 +1,7 @@
 //! How characters are typed, each by itself.
 ghost use Rattle.std.specs.HashSet.{contains};
+ghost use Rattle.std.specs.List.Sorted.{IsStrictlySortedBy};
+ghost use Rattle.std.specs.Ordering.{nat_cmp};
 ghost use Rattle.std.specs.Prelude.{◌≡◌, ◌^◌, ◌<◌, ◌∷◌, ◌++◌, [], ℕ, None, Ok, true, false, length, nat_eq};
 ghost use Rattle.std.specs.Prelude.{if◌then◌else◌, IfOk, IfErr, IfSome, OnOk};
 ghost use Rattle.std.specs.Str.{encode_utf8_all};
@@ -132,7 +134,7 @@ pub(crate) fn spelled_in(
 }
 
 /// Whether the events press keys of the board alone.
-fn are_on(board: Board, events: &[Event]) -> bool
+pub(crate) fn are_on(board: Board, events: &[Event]) -> bool
     ensures { result ≡ false → PressesOff board events.now }
 {
     for event in events {
@@ -171,7 +173,8 @@ fn add_on_board(
 
 /// The characters of a set, by their numbers.
 fn listed(alloc: Global, set: &BTreeSet<char>) -> Result<Vec<char>, AllocError>
-    ensures { IfOk result (λ cs. cs.items ≡ set.now.keys) }
+    ensures all { IfOk result (λ cs. cs.items ≡ set.now.keys) }
+    ensures order { IfOk result (λ cs. IsStrictlySortedBy nat_cmp cs.items) }
 {
     set.iter().copied().collect(alloc)
 }

@@ -1,13 +1,26 @@
-//! The lines that tell in words how characters are typed: the taps of a way, each by the names of its keys. They are plain
-//! printings.
+//! The lines that tell in words how characters are typed: the taps of a way, each by the names of its keys. They are
+//! plain printings.
+ghost use Rattle.std.specs.Prelude.{IfErr};
+ghost use Rattle.kmap_runs.specs.Spelling.{IsSheetError};
 
 use crate::missing::character_told;
-use crate::spelling::Spelled;
+use crate::spelling::{Spelled, are_on};
+use crate::type_error::TypeError;
+use crate::way_order::ways_in_order;
 use console_core::Event;
 use keyboard::{Board, is_on_pad, name_of};
 use keymap_core::{Action, Cell, KeyCode, KeyMap, Keymap, is_unseen};
 use messages::number;
 use std::alloc::{AllocError, Global};
+
+/// Which ways are told of a character.
+#[derive(Clone, Copy, Debug, PartialEq, Eq)]
+pub enum WaysTold {
+    /// The one that is taken.
+    Taken,
+    /// For each key by whose press the character comes, the one that is taken of those that end with it.
+    ByEachKey,
+}
 
 /// A key of a tap: one that is down meanwhile, or, the last one, the one that is tapped.
 #[derive(Clone, Copy, Debug)]
@@ -141,33 +154,78 @@ fn push_codes(text: &mut Vec<u8>, touches: &[Touch]) -> Result<(), AllocError> {
     Ok(())
 }
 
-/// Adds the line of a character.
+/// Adds the line of a character that these events type.
 fn push_line(
     text: &mut Vec<u8>,
     alloc: Global,
     map: &KeyMap,
     board: Board,
-    one: &Spelled,
+    character: char,
+    events: &[Event],
 ) -> Result<(), AllocError> {
-    let touches = touches_of(alloc, one.typing.events.as_slice())?;
-    text.extend_from_slice(character_told(alloc, one.character)?.as_slice())?;
+    let touches = touches_of(alloc, events)?;
+    text.extend_from_slice(character_told(alloc, character)?.as_slice())?;
     text.extend_from_slice(b": ")?;
     push_names(text, map, board, touches.as_slice())?;
     text.extend_from_slice(b" (")?;
     push_codes(text, touches.as_slice())?;
-    text.extend_from_slice(b")\n")
+    text.extend_from_slice(if are_on(board, events) {
+        b")\n"
+    } else {
+        b") off the board\n"
+    })
 }
 
-/// A line for each character.
+/// Adds a line for each of its ways.
+fn push_ways(
+    text: &mut Vec<u8>,
+    alloc: Global,
+    map: &KeyMap,
+    board: Board,
+    character: char,
+) -> Result<(), TypeError>
+    ensures { IfErr result (IsSheetError map.now) }
+{
+    let ways = ways_in_order(alloc, map, board, character)?;
+    for way in ways.as_slice() {
+        push_line(text, alloc, map, board, character, way.events.as_slice())?;
+    }
+    Ok(())
+}
+
+/// Adds the lines of a character.
+fn push_lines(
+    text: &mut Vec<u8>,
+    alloc: Global,
+    map: &KeyMap,
+    board: Board,
+    told: WaysTold,
+    one: &Spelled,
+) -> Result<(), TypeError>
+    ensures { IfErr result (IsSheetError map.now) }
+{
+    match told {
+        WaysTold::Taken => {
+            let events = one.typing.events.as_slice();
+            Ok(push_line(text, alloc, map, board, one.character, events)?)
+        }
+        WaysTold::ByEachKey => push_ways(text, alloc, map, board, one.character),
+    }
+}
+
+/// The lines of the characters.
 pub(crate) fn word_lines(
     alloc: Global,
     map: &KeyMap,
     board: Board,
+    told: WaysTold,
     each: &[Spelled],
-) -> Result<Vec<u8>, AllocError> {
+) -> Result<Vec<u8>, TypeError>
+    ensures { IfErr result (IsSheetError map.now) }
+{
     let mut text = Vec::new(alloc);
     for one in each {
-        push_line(&mut text, alloc, map, board, one)?;
+        push_lines(&mut text, alloc, map, board, told, one)?;
     }
     Ok(text)
 }

@@ -12,16 +12,17 @@ use crate::inputs::{read_sentence, read_text};
 use crate::runs::command_once_written;
 use crate::spelling::{spelled_all, spelled_in};
 use crate::type_error::TypeError;
-use crate::word_lines::word_lines;
+use crate::word_lines::{WaysTold, word_lines};
 use keyboard::Board;
 use keymap_core::{KeyMap, Read, Write};
-use std::alloc::{AllocError, Global};
+use std::alloc::Global;
 
 /// Why no more characters are told, if something ended them, and the lines of those before.
 fn told_of(
     alloc: Global,
     map: &KeyMap,
     board: Board,
+    told: WaysTold,
     sentence: &[u8],
 ) -> Result<(Option<TypeError>, Vec<u8>), CommandError>
     ensures ok { IfOk result (λ r. AreToldInWords board map.now sentence.now r.0) }
@@ -33,17 +34,19 @@ fn told_of(
         Err(TypeError::TooManyStates) => return Err(CommandError::TooManyStates),
         Err(_) => return Err(CommandError::Run(RunError::Memory)),
     };
-    match word_lines(alloc, map, board, spelling.each.as_slice()) {
+    match word_lines(alloc, map, board, told, spelling.each.as_slice()) {
         Ok(text) => Ok((spelling.stopped, text)),
-        Err(AllocError) => Err(CommandError::Run(RunError::Memory)),
+        Err(TypeError::TooManyStates) => Err(CommandError::TooManyStates),
+        Err(_) => Err(CommandError::Run(RunError::Memory)),
     }
 }
 
-/// Reads a text and then a sentence, and writes a line for each different character of the sentence, by which keys it is
+/// Reads a text and then a sentence, and writes lines for each different character of the sentence, by which keys it is
 /// typed on the map of the text, up to the first one that isn't. Answers why that one isn't, if there is one.
 pub fn type_words_run<R: Read, S: Read, W: Write>(
     alloc: Global,
     board: Board,
+    told: WaysTold,
     text: &mut R,
     sentence: &mut S,
     writer: &mut W,
@@ -57,13 +60,18 @@ pub fn type_words_run<R: Read, S: Read, W: Write>(
 {
     let map = read_text(alloc, text)?;
     let bytes = read_sentence(alloc, sentence)?;
-    let (stopped, told) = told_of(alloc, &map, board, bytes.as_slice())?;
-    command_once_written(writer, told.as_slice(), stopped)
+    let (stopped, lines) = told_of(alloc, &map, board, told, bytes.as_slice())?;
+    command_once_written(writer, lines.as_slice(), stopped)
 }
 
 /// The lines of the characters that keys of the board type.
-fn sheet_of(alloc: Global, map: &KeyMap, board: Board) -> Result<Vec<u8>, CommandError>
-    ensures ok { IfOk result (λ told. (xs : List SpelledValue) × IsSheet board map.now xs) }
+fn sheet_of(
+    alloc: Global,
+    map: &KeyMap,
+    board: Board,
+    told: WaysTold,
+) -> Result<Vec<u8>, CommandError>
+    ensures ok { IfOk result (λ lines. (xs : List SpelledValue) × IsSheet board map.now xs) }
     ensures err { IfErr result (LacksSheet map.now) }
 {
     let each = match spelled_all(alloc, map, board) {
@@ -71,16 +79,18 @@ fn sheet_of(alloc: Global, map: &KeyMap, board: Board) -> Result<Vec<u8>, Comman
         Err(TypeError::TooManyStates) => return Err(CommandError::TooManyStates),
         Err(_) => return Err(CommandError::Run(RunError::Memory)),
     };
-    match word_lines(alloc, map, board, each.as_slice()) {
+    match word_lines(alloc, map, board, told, each.as_slice()) {
         Ok(text) => Ok(text),
-        Err(AllocError) => Err(CommandError::Run(RunError::Memory)),
+        Err(TypeError::TooManyStates) => Err(CommandError::TooManyStates),
+        Err(_) => Err(CommandError::Run(RunError::Memory)),
     }
 }
 
-/// Reads a text, and writes such a line for each character that keys of the board type on its map.
+/// Reads a text, and writes such lines for each character that keys of the board type on its map.
 pub fn type_sheet_run<R: Read, W: Write>(
     alloc: Global,
     board: Board,
+    told: WaysTold,
     text: &mut R,
     writer: &mut W,
 ) -> Result<(), CommandError>
@@ -90,6 +100,6 @@ pub fn type_sheet_run<R: Read, W: Write>(
     ensures writer_failed { W.has_failed writer.new ≡ (blames_writer (run_of result) || W.has_failed writer.old) }
 {
     let map = read_text(alloc, text)?;
-    let told = sheet_of(alloc, &map, board)?;
-    command_once_written(writer, told.as_slice(), ())
+    let lines = sheet_of(alloc, &map, board, told)?;
+    command_once_written(writer, lines.as_slice(), ())
 }

@@ -28,7 +28,8 @@ use Rattle.play_core.specs.Scripts.{key_of}
 use Rattle.keymap_names.specs.Characters.{readable}
 use Rattle.script_text.specs.Cover.{number_text, headed, columns_text, setting_text, settings_text, IsCoverText}
 use Rattle.script_text.specs.Cover.{readable_text}
-use Rattle.script_text.specs.Cover.{line_of_characters, counts_line, counts_text, all_pairs, part_words, what_of_event}
+use Rattle.script_text.specs.Cover.{line_of_characters, all_counts, counts_line, counts_text, all_pairs, part_words}
+use Rattle.script_text.specs.Cover.{what_of_event}
 use Rattle.script_text.specs.Cover.{left_out_word, never_word, unstuck_word, sent_of_event}
 use Rattle.script_text.specs.Replayed.{ShowsCover, events_sent}
 use Rattle.script_text.proofs.DiffLines.{readable-line}
@@ -102,7 +103,7 @@ quiet-row : (word : List ℕ) (first end : ℕ) (row : List ℕ) → IsInLine wo
 quiet-row word first end [] f g = adds-nil
 quiet-row word first end (x ∷ row) f g = quiet-slots (end == first + 1) word first end (x ∷ row) f g
 
-quiet-listed : {is_listed : Sight → Bool} {word : List ℕ} {end : ℕ} {text : List ℕ} → IsInLine word
+pub quiet-listed : {is_listed : Sight → Bool} {word : List ℕ} {end : ℕ} {text : List ℕ} → IsInLine word
     → ListsSlots is_listed word end text → Adds text []
 quiet-listed f ListsSlots.no_slot = adds-nil
 quiet-listed {is_listed} {word} f (ListsSlots.more_slots first end text before below alike ends) =
@@ -114,7 +115,7 @@ quiet-characters word i [] f g = adds-nil
 quiet-characters word i (x ∷ xs) f g = search (rules, quiet-comment, name-line)
 
 -- a line for each accent
-quiet-accents : (is_listed : Sight → Bool) (word : List ℕ) (m : MapValue) → IsInLine word
+pub quiet-accents : (is_listed : Sight → Bool) (word : List ℕ) (m : MapValue) → IsInLine word
     → Adds (accent_lines is_listed word m) []
 quiet-accents is_listed word m f =
     quiet-flat (accent_line is_listed word m)
@@ -128,13 +129,17 @@ rest-line : (t : Bool) → IsInLine (if t then unstuck_word else never_word)
 rest-line true = refl
 rest-line false = refl
 
-quiet-all_counts : (told : Sight → Verdict) (m : MapValue) (c : Cover) → Adds (counts_text told m c) []
-quiet-all_counts told m c =
-    let line : IsInLine (rest_word c) = rest-line c.sights.forgets in
+pub quiet-all_counts : (rest : List ℕ) (told : Sight → Verdict) (m : MapValue) → IsInLine rest
+    → Adds (all_counts rest told m) []
+quiet-all_counts rest told m line =
+    quiet-counts rest (codes "cells") (counts_of told all_cells) line refl
+    ⊳ quiet-counts rest (codes "lock settings") (counts_of told all_lock_settings) line refl
+    ⊳ quiet-counts rest (codes "pairs") (counts_of told (all_pairs m)) line refl
+
+quiet-counts_text : (told : Sight → Verdict) (m : MapValue) (c : Cover) → Adds (counts_text told m c) []
+quiet-counts_text told m c =
     quiet-comment (codes " for a console in a program: on a machine it restarts, stops or sleeps") [] refl tt
-    ⊳ (quiet-counts (rest_word c) (codes "cells") (counts_of told all_cells) line refl
-    ⊳ quiet-counts (rest_word c) (codes "lock settings") (counts_of told all_lock_settings) line refl
-    ⊳ quiet-counts (rest_word c) (codes "pairs") (counts_of told (all_pairs m)) line refl)
+    ⊳ quiet-all_counts (rest_word c) told m (rest-line c.sights.forgets)
 
 quiet-lists : (told : Sight → Verdict) (m : MapValue) (c : Cover) (old new : List ℕ) → Adds old []
     → AddsLists told m c old new → Adds new []
@@ -156,7 +161,7 @@ quiet-part OneWay = quiet-comment (codes " one-way") [] refl tt
 quiet-start : (place : ℕ) (s : Start) → Adds (start_line place s) []
 quiet-start place s = quiet-if (s.at == place) (comment (part_words s.part) []) (quiet-part s.part)
 
-abbrev IsOfKey : ScriptEvent → Type 0
+abbrev pub IsOfKey : ScriptEvent → Type 0
 IsOfKey s = key_of (what_of_event s) < key_count
 
 event-adds : (s : ScriptEvent) → IsOfKey s → Adds (script_event_line s) (sent_of_event s ∷ [])
@@ -170,18 +175,20 @@ drop_is [] (suc n) x d rest e = cc
 drop_is (y ∷ ys) zero x d rest e = (cc, cc)
 drop_is (y ∷ ys) (suc n) x d rest e = drop_is ys n x d rest e
 
--- the events from a place on, with the comments of the parts that begin there
-events-add : (starts : List Start) (all events : List ScriptEvent) (place : ℕ) → drop place all ≡ events
-    → All IsOfKey events
-    → Adds (flat_map (event_lines starts all) (range_with_len place (length events))) (map sent_of_event events)
-events-add starts all [] place e keys = adds-nil
-events-add starts all (s ∷ events) place e keys =
+-- the event at a place behind the text for that place
+abbrev pub event_behind : (ℕ → List ℕ) → List ScriptEvent → ℕ → List ℕ
+event_behind head all place = head place ++ script_event_line (get_or all place Reset)
+
+-- the events from a place on, each behind a text that sends nothing
+pub events-add : (head : ℕ → List ℕ) → ((place : ℕ) → Adds (head place) []) → (all events : List ScriptEvent)
+    (place : ℕ) → drop place all ≡ events → All IsOfKey events
+    → Adds (flat_map (event_behind head all) (range_with_len place (length events))) (map sent_of_event events)
+events-add head quiet all [] place e keys = adds-nil
+events-add head quiet all (s ∷ events) place e keys =
     let at = drop_is all place s Reset events e in
-    let line : Adds (event_lines starts all place) (sent_of_event s ∷ []) =
-    rw (sym at.0)
-    (quiet-flat (start_line place) (quiet-start place) starts
-    ⊳ event-adds s (All-head IsOfKey s events keys)) in
-    line ⊳ events-add starts all events (place + 1) (rw add-one at.1) (All-tail IsOfKey s events keys)
+    let line : Adds (event_behind head all place) (sent_of_event s ∷ []) =
+    rw (sym at.0) (quiet place ⊳ event-adds s (All-head IsOfKey s events keys)) in
+    line ⊳ events-add head quiet all events (place + 1) (rw add-one at.1) (All-tail IsOfKey s events keys)
 
 -- the events of a script that are on keys are of keys
 events-keys : (events : List ScriptEvent) → HasKeys (events_of events) → All IsOfKey events
@@ -195,10 +202,10 @@ events-keys (Up k ∷ events) keys =
 events-keys (Reset ∷ events) keys =
     All-cons IsOfKey Reset events (lit< tt) (events-keys events (All-tail HasKey _ _ keys))
 
-keys-of : (c : Cover) → HasKeys (history c) → All IsOfKey c.events.items
-keys-of c keys =
-    subst (All IsOfKey) (reverse-reverse c.events.items)
-    (All-reversed IsOfKey (reverse c.events.items) (events-keys (reverse c.events.items) keys))
+pub keys-of : (events : List ScriptEvent) → HasKeys (events_of (reverse events)) → All IsOfKey events
+keys-of events keys =
+    subst (All IsOfKey) (reverse-reverse events)
+    (All-reversed IsOfKey (reverse events) (events-keys (reverse events) keys))
 
 -- ---- the whole text
 
@@ -206,8 +213,10 @@ pub cover-sends : (m : MapValue) (c : Cover) (text : List ℕ) → IsCoverText m
     → IsScript text (events_sent c)
 cover-sends m c text is keys =
     adds-script text (events_sent c) (subst (λ t. Adds t (events_sent c)) (sym is.spelled)
-    (quiet-lists is.told m c (counts_text is.told m c) is.comments (quiet-all_counts is.told m c) is.adds_lists
-    ⊳ events-add c.starts.items c.events.items c.events.items 0 refl (keys-of c keys)))
+    (quiet-lists is.told m c (counts_text is.told m c) is.comments (quiet-counts_text is.told m c) is.adds_lists
+    ⊳ events-add (λ n. flat_map (start_line n) c.starts.items)
+    (λ n. quiet-flat (start_line n) (quiet-start n) c.starts.items) c.events.items c.events.items 0 refl
+    (keys-of c.events.items keys)))
 
 -- ---- what it delivers
 
@@ -215,14 +224,14 @@ events-append : (xs ys : List ScriptEvent) → events_of (xs ++ ys) ≡ events_o
 events-append [] ys = refl
 events-append (x ∷ xs) ys = ap (λ l. event_of x ∷ l) (events-append xs ys)
 
-events-reverse : (xs : List ScriptEvent) → events_of (reverse xs) ≡ reverse (events_of xs)
+pub events-reverse : (xs : List ScriptEvent) → events_of (reverse xs) ≡ reverse (events_of xs)
 events-reverse [] = refl
 events-reverse (x ∷ xs) =
     let last = events-append (reverse xs) (x ∷ []) in
     cc (reverse-append (x ∷ []) xs, events-reverse xs, reverse-append (event_of x ∷ []) (events_of xs))
 
 -- what is sent for the events of a script delivers them
-events-deliver : (xs : List ScriptEvent) → delivered (map sent_of_event xs) ≡ events_of xs
+pub events-deliver : (xs : List ScriptEvent) → delivered (map sent_of_event xs) ≡ events_of xs
 events-deliver [] = refl
 events-deliver (Down k ∷ xs) = ap (λ l. event_of (Down k) ∷ l) (events-deliver xs)
 events-deliver (Repeat k ∷ xs) = ap (λ l. event_of (Repeat k) ∷ l) (events-deliver xs)

@@ -38,7 +38,7 @@ use Rattle.std.specs.Global.{Vec}
 
 -- ---- the comments before the events
 
-quiet-said : (words : List ℕ) → IsInLine words → Adds (said_line words) []
+pub quiet-said : (words : List ℕ) → IsInLine words → Adds (said_line words) []
 quiet-said words h = quiet-comment (codes " {}") (words ∷ []) refl (h, tt)
 
 one-more-in-line : (n b : ℕ) (text : List ℕ) → is_in_line b ≡ true → IsInLine (take n text)
@@ -48,7 +48,7 @@ one-more-in-line n b text is rest =
     let first : IsInLine (b ∷ take n text) = rw is rest in
     subst (λ k. IsInLine (take k (b ∷ text))) e first
 
-first-in-line : (text : List ℕ) → IsInLine (first_line text)
+pub first-in-line : (text : List ℕ) → IsInLine (first_line text)
 first-in-line [] = refl
 first-in-line (b ∷ text) = go (b == 10) refl (first-in-line text)
   where
@@ -58,7 +58,7 @@ first-in-line (b ∷ text) = go (b == 10) refl (first-in-line text)
     go false none rest =
         one-more-in-line (prefix_len (λ x. not (x == 10)) text) b text (rw none refl) rest
 
-quiet-told : (told : List (Vec ℕ)) → Adds (said_lines told) []
+pub quiet-told : (told : List (Vec ℕ)) → Adds (said_lines told) []
 quiet-told told =
     quiet-flat (λ (l : Vec ℕ). said_line (first_line l.items))
     (λ l. quiet-said (first_line l.items) (first-in-line l.items)) told

@@ -2,6 +2,7 @@ mod Comments
 mod Common
 mod Counted
 mod CoverScripts
+mod KeyboardScripts
 mod Covered
 mod DiffLines
 mod DiffScripts

@@ -6,6 +6,8 @@ use Rattle.console_core.specs.declared.event.Event.{Event}
 use Rattle.console_core.specs.History.{pressed}
 use Rattle.keymap_cover.specs.declared.parts.Cover.{Cover}
 use Rattle.keymap_cover.specs.Covering.{Covers, history}
+use Rattle.keyboard_cover.specs.Covering as keyboard
+use Rattle.keyboard_cover.specs.declared.cover.KeyboardCover.{KeyboardCover}
 use Rattle.keymap_diff.specs.Telling.{DifferAtLast}
 use Rattle.keymap_diff.specs.declared.telling.Telling.{Telling}
 use Rattle.keymap_diff.specs.declared.telling.Telling.TheVariants as telling
@@ -30,6 +32,13 @@ pub record ShowsCover (m : MapValue) (script : List ℕ) : Type 0 where
   pub is : IsScript script (events_sent cover)
   pub nothing_else : (sent : List Sent) → IsScript script sent → sent ≡ events_sent cover
   pub delivers : reverse (delivered (events_sent cover)) ≡ history cover
+
+-- The text is a script of the events of a cover by a keyboard, and of nothing else. It delivers the events that this
+-- cover speaks of.
+pub record ShowsKeyboardCover (c : KeyboardCover) (script : List ℕ) : Type 0 where
+  pub is : IsScript script (map sent_of_event c.script.events.items)
+  pub nothing_else : (sent : List Sent) → IsScript script sent → sent ≡ map sent_of_event c.script.events.items
+  pub delivers : reverse (delivered (map sent_of_event c.script.events.items)) ≡ keyboard.history c
 
 -- ---- a script that tells two keymaps apart
 

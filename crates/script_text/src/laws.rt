@@ -1,8 +1,11 @@
 //! Laws of the scripts of `cover` and `diff`: what is printed is a script, and what it sends when it is played. No
 //! function here does anything.
-ghost use Rattle.std.specs.Prelude.{List, [], ℕ};
+ghost use Rattle.std.specs.Prelude.{List, [], ℕ, true};
 ghost use Rattle.console_core.specs.History.{HasKeys};
 ghost use Rattle.keymap_core.specs.Maps.{MapValue};
+ghost use Rattle.console_states.specs.declared.allowed.Presses.{Presses};
+ghost use Rattle.keyboard_cover.specs.Covering as keyboard;
+ghost use Rattle.keyboard_cover.specs.declared.cover.KeyboardCover.{KeyboardCover as KeyboardCoverValue};
 ghost use Rattle.keymap_cover.specs.Covering.{history};
 ghost use Rattle.keymap_cover.specs.declared.parts.Cover.{Cover as CoverValue};
 ghost use Rattle.keymap_diff.specs.Telling.{IsTelling};
@@ -11,7 +14,8 @@ ghost use Rattle.keymap_diff.specs.declared.telling.Telling.{Telling as TellingV
 ghost use Rattle.play_core.specs.Scripts.{IsScript};
 ghost use Rattle.script_text.specs.Cover.{CountedAreTold, IsCoverText, LeftOutCannotBeVisited};
 ghost use Rattle.script_text.specs.Diff.{IsDiffText, LinesTellChanges, same_text};
-ghost use Rattle.script_text.specs.Replayed.{TellingReplays, events_sent};
+ghost use Rattle.script_text.specs.Keyboard.{IsKeyboardText};
+ghost use Rattle.script_text.specs.Replayed.{ShowsKeyboardCover, TellingReplays, events_sent};
 
 /// The numbers of cells, lock settings and pairs that are printed of a cover count what is told of, each pair once.
 /// What is counted as left out can be seen by presses, but not visited: no moves lead to a press that sees it from
@@ -26,6 +30,13 @@ pub fn counted_sights_are_told()
 pub fn cover_scripts_send_the_events()
     ensures { (m : MapValue) (c : CoverValue) (text : List ℕ) → IsCoverText m c text → HasKeys (history c)
         → IsScript text (events_sent c) }
+{}
+
+/// What is printed of a cover by a keyboard, with its repeats, its comments and a line for each event, is a script of
+/// exactly these events, and delivers them.
+pub fn keyboard_scripts_send_the_events()
+    ensures { (p : Presses) (m : MapValue) (c : KeyboardCoverValue) (text : List ℕ) → keyboard.Covers p m c
+        → IsKeyboardText m c true text → ShowsKeyboardCover c text }
 {}
 
 /// The line of a change tells what is so in the old keymap before what is so in the new one, and `unseen` exactly where

@@ -31,8 +31,9 @@ use Rattle.console_scripts.specs.declared.courses.Course.{Course}
 use Rattle.console_scripts.specs.declared.courses.Ending.{Ending}
 use Rattle.console_scripts.specs.declared.courses.Found.{Found}
 use Rattle.console_scripts.specs.declared.courses.Reached.{Reached}
+use Rattle.console_scripts.specs.declared.courses.Target.{Target}
 use Rattle.console_scripts.specs.Typing.{cell_of, composed_of}
-use Rattle.console_scripts.specs.Ways.{allows_in, presses_key}
+use Rattle.console_scripts.specs.Ways.{IsLast, allows_in, presses_key}
 use Rattle.console_scripts.specs.declared.classes.Class.{Class}
 use Rattle.console_scripts.specs.declared.classes.Spared.{Spared}
 use Rattle.console_scripts.specs.declared.explored.Symbol.{Symbol}
@@ -108,18 +109,21 @@ pub record IsReached (b : Board) (m : MapValue) (o : Course) (r : Reached) : Typ
 
 -- ---- what ends ways
 
--- no key that the course presses has a cell whose tap types the character
-abbrev pub LackAll : Board → MapValue → Course → ℕ → Type 0
-LackAll b m o c = (k : ℕ) → k < key_count → takes_key b o.class o.spared k ≡ true → Lacks m o.accent c k
+-- the course presses the key, and it is the one that is told, if one is
+abbrev pub MayEnd : Board → Course → Target → ℕ → Type 0
+MayEnd b o c k = (takes_key b o.class o.spared k ≡ true) × IsLast c.last k
 
--- the keys are those that the course presses, but for some that have no such cell
-pub record IsEnding (b : Board) (m : MapValue) (o : Course) (c : ℕ) (e : Ending) : Type 0 where
+-- no such key has a cell whose tap types the character
+abbrev pub LackAll : Board → MapValue → Course → Target → Type 0
+LackAll b m o c = (k : ℕ) → k < key_count → MayEnd b o c k → Lacks m o.accent c.character k
+
+-- the keys are such, but for some that have no such cell
+pub record IsEnding (b : Board) (m : MapValue) (o : Course) (c : Target) (e : Ending) : Type 0 where
   pub same : e.accent ≡ o.accent
-  pub types : e.character ≡ c
-  pub taken : (k : ℕ) → k < key_count → slice_index_or e.keys k false ≡ true
-      → takes_key b o.class o.spared k ≡ true
-  pub other : (k : ℕ) → k < key_count → slice_index_or e.keys k false ≡ false
-      → takes_key b o.class o.spared k ≡ true → Lacks m o.accent c k
+  pub types : e.character ≡ c.character
+  pub taken : (k : ℕ) → k < key_count → slice_index_or e.keys k false ≡ true → MayEnd b o c k
+  pub other : (k : ℕ) → k < key_count → slice_index_or e.keys k false ≡ false → MayEnd b o c k
+      → Lacks m o.accent c.character k
 
 -- the key holds nothing, and looks up a cell whose tap types the character
 abbrev pub IsGiven : MapValue → Ending → State → ℕ → Type 0

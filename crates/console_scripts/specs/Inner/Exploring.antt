@@ -1,30 +1,26 @@
--- What an exploration keeps, and the events of one tap of a key. Mirrors `Explored` of src/explored.rt, src/ways.rt and
+-- What an exploration keeps, and the events of one tap of a key. Mirrors `Explored` of src/explored.rt, and
 -- src/typing.rt.
 use Rattle.std.specs.Prelude.{◌≡◌, ◌≤◌, ℕ, Bool, true, false, List, [], ◌∷◌, ◌++◌, length, reverse, None, Some}
 use Rattle.std.specs.Prelude.{slice_get, Option, map}
 use Rattle.keymap_core.specs.Maps.{MapValue}
 use Rattle.console_scripts.specs.Types.{Event, Move, Answer, Scroll}
 use Rattle.console_scripts.specs.declared.explored.Explored.{Explored}
-use Rattle.console_scripts.specs.declared.explored.Tap.{Tap}
+use Rattle.console_scripts.specs.declared.explored.Symbol.{Symbol}
 use Rattle.console_states.specs.declared.held.Held.{Held}
 use Rattle.console_states.specs.Moves.{Under, alone, State, IsFree, IsPath, state_after, IsPathFrom, state_from}
 use Rattle.console_states.specs.Moves.{events_along}
 use Rattle.console_states.specs.Returning.{IsHome, freed}
 use Rattle.console_states.specs.Sticking.{ReachesMoreThanFrom, ReachesMoreThan, state_limit}
 use Rattle.console_core.specs.History.{answer_to, between, accent_pending_after, is_locked_after}
-use Rattle.console_scripts.specs.Typing.{ComesHome, IsTapOf, types_something, plainly, composed_of, CanType, ChangeKeys}
-use Rattle.console_core.specs.Answers.{usable}
-use Rattle.console_scripts.specs.declared.explored.Symbol.{Symbol}
-use Rattle.console_scripts.specs.declared.explored.Symbol.TheVariants as symbol
-use Rattle.console_scripts.specs.declared.ways.Accented.{Accented}
+use Rattle.console_scripts.specs.Typing.{ComesHome, IsTapOf, types_something, plainly, CanType, ChangeKeys}
 use Rattle.console_scripts.specs.declared.typing.Kept.{Kept}
 use Rattle.console_scripts.specs.declared.typing.Sought.{Sought}
 use Rattle.console_scripts.specs.declared.typing.Typed.{Typed}
 use Rattle.console_scripts.specs.declared.typing.Typed.TheVariants as typed
-use Rattle.console_scripts.specs.declared.ways.Way.{Way}
-use Rattle.console_scripts.specs.declared.ways.Way.TheVariants as way
 use Rattle.keyboard.specs.declared.board.Board.{Board}
-use Rattle.console_scripts.specs.Ways.{TakesWay}
+use Rattle.console_scripts.specs.Ways.{HasNoWayFrom, TakesWayOf, ending_with}
+use Rattle.console_scripts.specs.declared.typing.Step.{Step}
+use Rattle.console_scripts.specs.declared.courses.Target.{Target}
 use Rattle.console_scripts.specs.Inner.Routes.{AllEntries, AllLeadHome, HasRoute, AreSettled}
 use Rattle.console_states.specs.Searching.{state_of, under_of, Entry, Searched}
 use Rattle.console_states.specs.Inner.Standing.{Stands}
@@ -62,20 +58,20 @@ pub record CanReturn (m : MapValue) (s : State) : Type 0 where
   pub leads : state_after (alone m) path ≡ s
   pub home : ComesHome (alone m) s
 
--- a route leads home from the state, and there a tap of the key is so
-abbrev pub CanTapIn : Explored → Tap → Held → ℕ → Type 0
-CanTapIn e t h k =
+-- a route leads home from the state, and there the key can be tapped for the symbol
+abbrev pub CanTapIn : Explored → Symbol → Held → ℕ → Type 0
+CanTapIn e x h k =
     HasRoute e.routes.entries (state_of h)
-    × IsTapOf (alone (map_of_explored e)) (state_of h) t.is_plain t.symbol k
+    × IsTapOf (alone (map_of_explored e)) (state_of h) false x k
 
 -- that is so at the place
-abbrev pub IsTapAt : Explored → Tap → ℕ → ℕ → Type 0
-IsTapAt e t j k =
-    (x : Entry) × (slice_get e.met.entries j ≡ Some x) × HasRoute e.routes.entries (state_of x.0)
-    × IsTapOf (alone (map_of_explored e)) (state_of x.0) t.is_plain t.symbol k
+abbrev pub IsTapAt : Explored → Symbol → ℕ → ℕ → Type 0
+IsTapAt e x j k =
+    (y : Entry) × (slice_get e.met.entries j ≡ Some y) × HasRoute e.routes.entries (state_of y.0)
+    × IsTapOf (alone (map_of_explored e)) (state_of y.0) false x k
 
-abbrev pub HasTap : Explored → Tap → Type 0
-HasTap e t = (j k : ℕ) × IsTapAt e t j k
+abbrev pub HasTap : Explored → Symbol → Type 0
+HasTap e x = (j k : ℕ) × IsTapAt e x j k
 
 -- the place has a state from which a route leads home
 abbrev pub IsMetAt : Explored → ℕ → Type 0
@@ -132,53 +128,25 @@ IsExploredFrom m s e = IsExplored e × (map_of_explored e ≡ m) × (origin_in e
 abbrev pub AreExplorations : MapValue → Explorations → Type 0
 AreExplorations m explorations = AllEntries (λ k e. IsExploredFrom m (state_of k) e) explorations
 
--- the taps of a character or of what comes behind a dead key, and of the dead key of an accent
-abbrev pub plain_tap : Symbol → Tap
-plain_tap x = record { symbol = x; is_plain = true }
-
-abbrev pub dead_tap : ℕ → Tap
-dead_tap i = record { symbol = symbol.DeadKey i; is_plain = false }
-
--- the cell can be tapped, and types the character while the accent is pending
-abbrev pub IsBase : MapValue → Explored → ℕ → ℕ → Symbol → Type 0
-IsBase m e i c x = (composed_of m i x ≡ Some c) × HasTap e (plain_tap x)
-
--- a base of the accent can be tapped, and its dead key
-abbrev pub CanAccent : MapValue → Explored → ℕ → ℕ → Symbol → Type 0
-CanAccent m e c i x = (usable m i ≡ true) × HasTap e (dead_tap i) × IsBase m e i c x
-
-abbrev pub IsAccented : MapValue → Explored → ℕ → ℕ → Accented → Type 0
-IsAccented m e c i a =
-    (usable m i ≡ true) × IsTapAt e (dead_tap i) a.dead.place a.dead.key × IsBase m e i c a.then
-
--- the taps of a way to type the character can be made
-abbrev pub IsWay : MapValue → Explored → ℕ → Way → Type 0
-IsWay m e c (way.Direct at) = IsTapAt e (plain_tap (symbol.Character c)) at.place at.key
-IsWay m e c (way.Composed a) = (i : ℕ) × IsAccented m e c i a
-
--- no way types the character
-abbrev pub HasNoWay : MapValue → Explored → ℕ → Type 0
-HasNoWay m e c =
-    (HasTap e (plain_tap (symbol.Character c)) → ⊥) × ((i : ℕ) (x : Symbol) → CanAccent m e c i x → ⊥)
-
 -- The events that came after h type the character from the state, by a way that is taken, and lead to the next one.
-pub record TypesOne (b : Board) (m : MapValue) (c : ℕ) (s : State) (h now : List Event) (next : State) : Type 0 where
-  pub can : CanType m c
-  pub can_return : CanReturn m next
+pub record TypesOne (b : Board) (m : MapValue) (c : Target) (s : State) (h now : List Event) (to : Step) : Type 0 where
+  pub can : CanType m c.character
+  pub can_return : CanReturn m (state_of to.next)
   pub added : List Event
   pub events : now ≡ added ++ h
-  pub way : TakesWay b m s c added
-  pub types : (g : List Event) (cs : List ℕ) → HasTyped m g s None cs → HasTyped m (added ++ g) next None (cs ++ c ∷ [])
+  pub way : TakesWayOf to.class to.before b m s c added
+  pub types : (g : List Event) (cs : List ℕ) → HasTyped m g s None cs
+      → HasTyped m (added ++ g) (state_of to.next) None (cs ++ c.character ∷ [])
 
 -- what was typed before, by the character and the state where it began
 abbrev pub IsKnown : Board → MapValue → Sought → Kept → Type 0
 IsKnown b m k v =
-    TypesOne b m k.character (state_of k.from) [] (reverse v.events.items) (state_of v.next)
+    TypesOne b m (ending_with None k.character) (state_of k.from) [] (reverse v.events.items) v.step
 
 abbrev pub AreKnown : Board → MapValue → List (Sought × Kept) → Type 0
 AreKnown b m known = AllEntries (IsKnown b m) known
 
-abbrev pub Leads : Board → MapValue → ℕ → State → List Event → List Event → Typed → Type 0
-Leads b m c s h now (typed.To next) = TypesOne b m c s h now (state_of next)
-Leads b m c s h now typed.NoWay = CanType m c → ⊥
+abbrev pub Leads : Board → MapValue → Target → State → List Event → List Event → Typed → Type 0
+Leads b m c s h now (typed.To step) = TypesOne b m c s h now step
+Leads b m c s h now typed.NoWay = HasNoWayFrom b m s c
 Leads b m c s h now typed.TooManyStates = (p : ℕ) × ReachesMoreThan (alone m) state_limit p

@@ -1,6 +1,7 @@
 -- The places of the cells that taps look up, where something comes of them. Mirrors src/places.rt.
-use Rattle.std.specs.Prelude.{◌≡◌, ◌⊎◌, ◌↔◌, ◌<◌, ◌+◌, ◌*◌, ◌/◌, ◌%◌, if◌then◌else◌, ℕ, Bool, true, false, List, Some, slice_get, slice_index_or}
-use Rattle.std.specs.List.{All, Contains}
+use Rattle.std.specs.Prelude.{◌≡◌, ◌⊎◌, ◌↔◌, ◌<◌, ◌+◌, ◌*◌, ◌/◌, ◌%◌, if◌then◌else◌, ℕ, Bool, true, false, List, Some}
+use Rattle.std.specs.Prelude.{slice_get, slice_index_or}
+use Rattle.std.specs.List.{Contains}
 use Rattle.keymap_core.specs.Borne.{is_upper_live}
 use Rattle.keymap_core.specs.Maps.{MapValue, cell_at}
 use Rattle.keymap_core.specs.Numbers.{key_count, column_count}
@@ -14,11 +15,14 @@ use Rattle.console_scripts.specs.Typing.{ComesHome}
 use Rattle.console_scripts.specs.Inner.Exploring.{map_of_explored}
 use Rattle.console_scripts.specs.Inner.Routes.{HasRoute}
 use Rattle.console_scripts.specs.declared.explored.Explored.{Explored}
-use Rattle.console_states.specs.declared.held.Held.{Held}
 
 -- the one holds exactly where the old one or the new one does
 abbrev pub Gains : {K : Type 0} → (K → Type 0) → (K → Type 0) → (K → Type 0) → Type 0
 Gains {K} old now new = (x : K) → now x ↔ (old x ⊎ new x)
+
+-- P holds of each that was found, and if they are complete each of which P holds was found
+abbrev pub AreFound : {K : Type 0} → Bool → (K → Type 0) → (K → Type 0) → Type 0
+AreFound {K} complete found P = (x : K) → (found x → P x) × (complete ≡ true → P x → found x)
 
 -- something comes of a tap that looks up the cell: a character, or an action that is no modifier or lock
 abbrev pub gives_cell : Cell → Bool
@@ -90,13 +94,6 @@ CanLookUp m plain p =
     (path : List Move) × IsPath (alone m) path × ComesHome (alone m) (state_after (alone m) path)
     × ((k : ℕ) × IsTapOn m (state_after (alone m) path) plain p k)
 
--- these are the places that can be looked up
-abbrev pub ArePlaces : MapValue → Bool → List Bool → Type 0
-ArePlaces m plain t = (p : ℕ) → IsMarked t p ↔ CanLookUp m plain p
-
--- moves lead to each of the states
-abbrev pub IsLedTo : MapValue → State → Type 0
-IsLedTo m s = (path : List Move) × IsPath (alone m) path × (state_after (alone m) path ≡ s)
-
-abbrev pub AreLedTo : MapValue → List Held → Type 0
-AreLedTo m states = All (λ h. IsLedTo m (state_of h)) states
+-- these are places that can be looked up, and if they are complete all of them
+abbrev pub ArePlaces : MapValue → Bool → Bool → List Bool → Type 0
+ArePlaces m plain complete t = AreFound complete (IsMarked t) (CanLookUp m plain)

@@ -14,6 +14,9 @@ use Rattle.console_scripts.specs.declared.classes.Class.{Class}
 use Rattle.console_scripts.specs.declared.courses.Course.{Course}
 use Rattle.console_scripts.specs.declared.courses.Found.{Found}
 use Rattle.console_scripts.specs.declared.courses.Reached.{Reached}
+use Rattle.console_scripts.specs.declared.courses.Target.{Target}
+use Rattle.console_scripts.specs.declared.seeking.Choice.{Choice}
+use Rattle.console_scripts.specs.declared.seeking.Chosen.{Chosen}
 use Rattle.console_scripts.specs.declared.seeking.Looked.{Looked}
 
 abbrev pub AreReached : Board → MapValue → List (Course × Reached) → Type 0
@@ -25,7 +28,8 @@ accent_in None = None
 accent_in (Some d) = Some d.accent
 
 -- What was found is a way of allowed presses, of one tap or not, and a route leads home from its end.
-pub record IsFound (a : Allows) (m : MapValue) (s : State) (c : ℕ) (one : Bool) (routes : Routes) (f : Found) : Type 0
+pub record IsFound (a : Allows) (m : MapValue) (s : State) (c : Target) (one : Bool) (routes : Routes)
+    (f : Found) : Type 0
   where
     pub way : Way
     pub is : IsWayBy a m s c way
@@ -49,8 +53,8 @@ IsNearerOf (Some x) (Some y) r = ((x.presses ≤ y.presses) × (r ≡ Some x)) �
 
 -- Something was found that is as near as each way of which P holds, or nothing and there is no such way, if all states
 -- were met. Else there are many states.
-pub record IsLooked (a : Allows) (m : MapValue) (s : State) (c : ℕ) (one : Bool) (P : Way → Type 0) (routes : Routes)
-    (r : Looked) : Type 0
+pub record IsLooked (a : Allows) (m : MapValue) (s : State) (c : Target) (one : Bool) (P : Way → Type 0)
+    (routes : Routes) (r : Looked) : Type 0
   where
     pub found : IfSome r.found (IsFound a m s c one routes)
     pub all : r.has_met_all ≡ true → (y : Way) → P y → IsWayBy a m s c y → IsAsNear r.found y
@@ -68,15 +72,16 @@ abbrev pub HasAccentBelow : ℕ → Way → Type 0
 HasAccentBelow n y = (i : ℕ) × (accent_in y.dead ≡ Some i) × (i < n)
 
 -- what was found of the class is a way of it, and if all states were met the one that is taken
-abbrev pub IsChosenOf : Board → MapValue → State → ℕ → Routes → Bool → Found → Type 0
-IsChosenOf b m s c routes met_all f =
-    (w : Class) × (x : IsFound (allows_in b w) m s c w.is_one_tap routes f) × (met_all ≡ true → IsTaken b m s c x.way)
+abbrev pub IsChosenOf : Board → MapValue → State → Target → Routes → Bool → Chosen → Type 0
+IsChosenOf b m s c routes met_all o =
+    (x : IsFound (allows_in b o.class) m s c o.class.is_one_tap routes o.found)
+    × (met_all ≡ true → IsTaken b o.class m s c x.way)
 
 -- no class that fewer than n come before has a way
-abbrev pub HasNoWayBelow : Board → MapValue → State → ℕ → ℕ → Type 0
+abbrev pub HasNoWayBelow : Board → MapValue → State → Target → ℕ → Type 0
 HasNoWayBelow b m s c n = (w : Class) (y : Way) → rank w < n → IsWay b w m s c y → ⊥
 
-pub record IsChosen (b : Board) (m : MapValue) (s : State) (c : ℕ) (routes : Routes) (r : Looked) : Type 0 where
-  pub found : IfSome r.found (IsChosenOf b m s c routes r.has_met_all)
-  pub none : r.found ≡ None → r.has_met_all ≡ true → HasNoWayBelow b m s c 32
+pub record IsChosen (b : Board) (m : MapValue) (s : State) (c : Target) (routes : Routes) (r : Choice) : Type 0 where
+  pub found : IfSome r.chosen (IsChosenOf b m s c routes r.has_met_all)
+  pub none : r.chosen ≡ None → r.has_met_all ≡ true → HasNoWayBelow b m s c 32
   pub many : r.has_met_all ≡ false → ReachesMany m s

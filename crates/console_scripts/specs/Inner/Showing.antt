@@ -9,6 +9,7 @@ use Rattle.console_states.specs.declared.look.KeyAt.{KeyAt}
 use Rattle.console_scripts.specs.declared.explorer.Aim.{Aim}
 use Rattle.console_states.specs.Looks.{HoldsAt}
 use Rattle.console_states.specs.declared.held.Held.{Held}
+use Rattle.console_scripts.specs.declared.explored.Symbol.TheVariants as symbol
 use Rattle.console_states.specs.declared.selection.Sight.TheVariants as sight
 use Rattle.console_core.specs.Answers.{usable}
 use Rattle.console_core.specs.History.{between, accent_pending_after}
@@ -17,7 +18,7 @@ use Rattle.console_states.specs.Moves.{alone, State, start, Takes}
 use Rattle.console_states.specs.Returning.{IsAfter}
 use Rattle.console_scripts.specs.Visiting.{AreTaken}
 use Rattle.console_states.specs.Sights.{IsPendingFor, IsReachable, SeesBy, selection_of}
-use Rattle.console_scripts.specs.Inner.Exploring.{map_of_explored, origin_in, IsExplored, IsTapAt, dead_tap}
+use Rattle.console_scripts.specs.Inner.Exploring.{map_of_explored, origin_in, IsExplored, IsTapAt}
 use Rattle.console_scripts.specs.Inner.Routes.{HasRoute}
 use Rattle.console_states.specs.Searching.{state_of, under_of, Entries}
 use Rattle.console_states.specs.Inner.Standing.{Stands}
@@ -82,7 +83,7 @@ TurnsScroll e h k = Takes (under_of e.maps) (state_of h) k (Act (act.Lock Scroll
 
 -- before a pair the dead key of its accent is tapped, and before nothing else
 abbrev pub IsDeadFor : Explored → Sight → Option KeyAt → Type 0
-IsDeadFor e (sight.Pair accent c) (Some at) = IsTapAt e (dead_tap accent) at.place at.key
+IsDeadFor e (sight.Pair accent c) (Some at) = IsTapAt e (symbol.DeadKey accent) at.place at.key
 IsDeadFor e (sight.Pair accent c) None = ⊥
 IsDeadFor e (sight.Cell slot column) (Some at) = ⊥
 IsDeadFor e (sight.Cell slot column) None = Unit {0}

@@ -6,9 +6,11 @@ use Rattle.keymap_core.specs.Actions.{IsAction, code_of}
 use Rattle.keymap_core.specs.Maps.{MapValue}
 use Rattle.keymap_core.specs.declared.action.Action.TheVariants as act
 use Rattle.console_core.specs.Answers.{usable}
+use Rattle.console_states.specs.Moves.{alone}
+use Rattle.console_states.specs.Sticking.{ReachesMoreThan, state_limit}
 use Rattle.console_scripts.specs.Types.{Action, Cell, Char, Act}
-use Rattle.console_scripts.specs.Typing.{CanTap, cell_of, composed_of, is_giving}
-use Rattle.console_scripts.specs.Inner.Places.{ArePlaces, IsMarked, cell_of_place, place_count}
+use Rattle.console_scripts.specs.Typing.{CanTap, CanType, cell_of, composed_of, is_giving}
+use Rattle.console_scripts.specs.Inner.Places.{AreFound, ArePlaces, IsMarked, cell_of_place, place_count}
 use Rattle.console_scripts.specs.declared.explored.Symbol.{Symbol}
 use Rattle.console_scripts.specs.declared.explored.Symbol.TheVariants as symbol
 use Rattle.console_scripts.specs.declared.typed.Places.{Places}
@@ -47,10 +49,12 @@ GivesAt m marks p c =
     IsMarked marks p
     × ((a : Action) × (cell_of_place m p ≡ Act a) × IsAction a × (is_giving m a ≡ true) × (code_of a ≡ c))
 
--- these are the places that taps look up, and those that plain ones do
-abbrev pub ArePlacesOf : MapValue → Places → Type 0
-ArePlacesOf m x =
-    ArePlaces m false x.all × ArePlaces m true x.plain × (x.are_alike ≡ true → ArePlaces m false x.plain)
+-- These are places that taps look up, and those that plain ones do: all of them, unless there are many states.
+pub record ArePlacesOf (m : MapValue) (x : Places) : Type 0 where
+  pub all : ArePlaces m false x.is_complete x.all
+  pub plain : ArePlaces m true x.is_complete x.plain
+  pub alike : x.are_alike ≡ true → ArePlaces m false x.is_complete x.plain
+  pub many : x.is_complete ≡ false → (p : ℕ) × ReachesMoreThan (alone m) state_limit p
 
 -- the symbol is among these, and types the character while the accent is pending
 abbrev pub Composes : MapValue → Tapped → ℕ → ℕ → Symbol → Type 0
@@ -60,6 +64,11 @@ Composes m t i c x = (composed_of m i x ≡ Some c) × HasSymbol t x
 abbrev pub IsComposed : MapValue → Tapped → Tapped → ℕ → ℕ → Symbol → Type 0
 IsComposed m t plain i c x = (usable m i ≡ true) × HasSymbol t (symbol.DeadKey i) × Composes m plain i c x
 
--- these are the symbols that can be tapped
-abbrev pub AreTapped : MapValue → Bool → Tapped → Type 0
-AreTapped m plain t = (x : Symbol) → HasSymbol t x ↔ CanTap m plain x
+-- these are symbols that can be tapped, and if they are complete all of them
+abbrev pub AreTapped : MapValue → Bool → Bool → Tapped → Type 0
+AreTapped m plain complete t = AreFound complete (HasSymbol t) (CanTap m plain)
+
+-- Keys can type the characters, and no others, unless there are many states.
+pub record TellsTyped (m : MapValue) (complete : Bool) (set : BTreeSet ℕ) : Type 0 where
+  pub found : AreFound complete (HasCharacter set) (CanType m)
+  pub many : complete ≡ false → (p : ℕ) × ReachesMoreThan (alone m) state_limit p

@@ -1,12 +1,12 @@
--- What is added of the states that a search met, or of a few. Mirrors src/sights.rt, src/offers.rt and src/few.rt.
-use Rattle.std.specs.Prelude.{◌≡◌, ◌<◌, ◌⊎◌, ℕ, Bool, true, List, length, [], ◌∷◌, ◌++◌, Some, slice_get, All}
+-- What is added of the states that a search met, or of a few. Mirrors src/sights.rt and src/offers.rt.
+use Rattle.std.specs.Prelude.{◌≡◌, ◌<◌, ◌⊎◌, ℕ, Bool, true, List, length, [], ◌∷◌, ◌++◌, Some, slice_get}
 use Rattle.std.specs.List.{Contains}
 use Rattle.keymap_core.specs.Maps.{MapValue}
 use Rattle.keymap_core.specs.Numbers.{key_count}
-use Rattle.console_states.specs.Types.{Move, Selection, Sight, Offer}
+use Rattle.console_states.specs.Types.{Selection, Sight, Offer}
 use Rattle.console_states.specs.declared.held.Held.{Held}
 use Rattle.console_core.specs.Answers.{usable}
-use Rattle.console_states.specs.Moves.{Under, State, IsPath, state_after, alone, minding, start}
+use Rattle.console_states.specs.Moves.{Under, State, alone, minding, start}
 use Rattle.console_states.specs.Returning.{IsUnlocked}
 use Rattle.console_states.specs.Sights.{CanCompose, CanSelect, Offers, IsOfferedIn, Lists}
 use Rattle.console_states.specs.Sights.{accents_in, selection_of, SeesBy}
@@ -55,13 +55,6 @@ OffersUnlocked u s accent = IsUnlocked s × ((k : ℕ) × (k < key_count) × Off
 abbrev pub IsOfferedUnlocked : Under → Entries → ℕ → Type 0
 IsOfferedUnlocked u es accent =
     (j : ℕ) × (x : Entry) × (slice_get es j ≡ Some x) × OffersUnlocked u (state_of x.0) accent
-
--- a path of moves leads to the state
-abbrev pub IsLedTo : Under → State → Type 0
-IsLedTo u s = (path : List Move) × IsPath u path × (state_after u path ≡ s)
-
-abbrev pub AreLedTo : Under → List Held → Type 0
-AreLedTo u states = All (λ h. IsLedTo u (state_of h)) states
 
 -- moves lead to each of the selections
 abbrev pub CanSelectEach : MapValue → List Selection → Type 0

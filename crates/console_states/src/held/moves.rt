@@ -240,21 +240,6 @@ impl Held {
         self.is_held(Modifier::Meta)
     }
 
-    /// Whether the same locks are on.
-    pub fn has_locks_of(&self, other: &Held) -> bool
-        ensures same { result ≡ true → (l : LockValue)
-            → (state_of self.now).is_locked l ≡ (state_of other.now).is_locked l }
-        ensures other { result ≡ false → (state_of self.now).is_locked Caps ≡ (state_of other.now).is_locked Caps
-            → (state_of self.now).is_locked Num ≡ (state_of other.now).is_locked Num
-            → (state_of self.now).is_locked Scroll ≡ (state_of other.now).is_locked Scroll
-            → (state_of self.now).is_locked Alt ≡ (state_of other.now).is_locked Alt → ⊥ }
-    {
-        self.is_locked(Lock::Caps) == other.is_locked(Lock::Caps)
-            && self.is_locked(Lock::Num) == other.is_locked(Lock::Num)
-            && self.is_locked(Lock::Scroll) == other.is_locked(Lock::Scroll)
-            && self.is_locked(Lock::Alt) == other.is_locked(Lock::Alt)
-    }
-
     /// What of the state picks the cell that a key looks up.
     pub fn selection(&self) -> Selection
         ensures { result ≡ selection_of (state_of self.now) }

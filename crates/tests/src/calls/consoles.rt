@@ -4,9 +4,12 @@ use crate::calls::devices::mark;
 use crate::calls::inputs::{Call, Lent};
 use crate::calls::outcome::{Outcome, ended, ended_keeping};
 use console_core::{Event, PlainConsole, Translator, WordConsole, replay};
-use console_scripts::{Explorer, Typist, find_onward, scroll_off, type_characters, yield_of};
+use console_scripts::{
+    Explorer, Typist, find_onward, scroll_off, type_characters, ways_of, yield_of,
+};
 use console_states::{
-    Presses, Sight, Sticking, has_few_states, sights_of, some_sights, sticking, sticking_between,
+    Keymaps, Presses, Sight, Sticking, few_states, has_few_states, sights_of, some_sights,
+    sticking, sticking_between,
 };
 use keyboard::Board;
 use keyboard_cover::{GROUP_COUNT, Keyboard, allowed_sights, keyboard_cover_of, presses_of};
@@ -30,12 +33,14 @@ pub(crate) fn of_keymaps<W: Write>(call: &Call<'_>, marks: &mut W) -> Option<Out
         "sticking" => searches(alloc, trap, marks),
         "sticking_between" => searches_between(alloc, trap, sample, marks),
         "has_few_states" => asks_for_states(alloc, sample, marks),
+        "few_states" => finds_few_states(alloc, sample, marks),
         "sights_of" => finds_sights(alloc, sample, marks),
         "some_sights" => finds_some_sights(alloc, sample, marks),
         "Explorer::new" => explores(alloc, sample, marks),
         "find_onward" => goes_onward(alloc, sample, marks),
         "scroll_off" => turns_scroll_off(alloc, sample, marks),
         "type_characters" => types_characters(alloc, sample, marks),
+        "ways_of" => tells_ways(alloc, sample, marks),
         "Typist::new" => tells_typing(alloc, sample, marks),
         "yield_of" => tells_yield(alloc, sample, marks),
         "cover_of" => covers(alloc, sample, marks),
@@ -139,6 +144,14 @@ fn asks_for_states<W: Write>(alloc: Global, lent: &Lent, marks: &mut W) -> Outco
     ended_keeping(&given, given == Ok(true), lent.is_kept())
 }
 
+fn finds_few_states<W: Write>(alloc: Global, lent: &Lent, marks: &mut W) -> Outcome {
+    mark(marks);
+    let given = few_states(alloc, &Keymaps::alone(&lent.map));
+    mark(marks);
+    let is_right = matches!(&given, Ok(states) if states.len() > 1);
+    ended_keeping(&given, is_right, lent.is_kept())
+}
+
 fn searches<W: Write>(alloc: Global, lent: &Lent, marks: &mut W) -> Outcome {
     mark(marks);
     let given = sticking(alloc, &lent.map);
@@ -173,6 +186,14 @@ fn types_characters<W: Write>(alloc: Global, lent: &Lent, marks: &mut W) -> Outc
     let given = type_characters(alloc, &lent.map, Board::Iso, &['a', 'é', 'a', 'A', 'é']);
     mark(marks);
     let is_right = matches!(&given, Ok(typing) if typing.keyed.len() == 5);
+    ended_keeping(&given, is_right, lent.is_kept())
+}
+
+fn tells_ways<W: Write>(alloc: Global, lent: &Lent, marks: &mut W) -> Outcome {
+    mark(marks);
+    let given = ways_of(alloc, &lent.map, Board::Iso, 'é');
+    mark(marks);
+    let is_right = matches!(&given, Ok(ways) if !ways.is_empty());
     ended_keeping(&given, is_right, lent.is_kept())
 }
 

@@ -7,9 +7,9 @@ use keymap_core::Write;
 use keymap_draw::Board;
 use keymap_fmt::Characters;
 use kmap_runs::{
-    RunError, check_brief_run, check_run, compile_narrow_run, compile_run, cover_run, diff_run,
-    draw_change_run, draw_run, dump_narrow_run, dump_run, file_error_line, fmt_print_run, fmt_run,
-    keyboard_cover_run, lint_run, missing_run, search_run, type_run, type_sheet_run,
+    RunError, WaysTold, check_brief_run, check_run, compile_narrow_run, compile_run, cover_run,
+    diff_run, draw_change_run, draw_run, dump_narrow_run, dump_run, file_error_line, fmt_print_run,
+    fmt_run, keyboard_cover_run, lint_run, missing_run, search_run, type_run, type_sheet_run,
     type_words_run,
 };
 use lint_formats::Format;
@@ -197,8 +197,16 @@ fn types<W: Write>(alloc: Global, marks: &mut W) -> Outcome {
 fn types_in_words<W: Write>(alloc: Global, marks: &mut W) -> Outcome {
     let (mut reader, mut out) = (reader_of(TEXT), writer());
     let mut sentence = reader_of(SENTENCE);
+    let told = WaysTold::ByEachKey;
     mark(marks);
-    let given = type_words_run(alloc, Board::Iso, &mut reader, &mut sentence, &mut out);
+    let given = type_words_run(
+        alloc,
+        Board::Iso,
+        told,
+        &mut reader,
+        &mut sentence,
+        &mut out,
+    );
     mark(marks);
     ended_untouched(&given, matches!(&given, Ok(None)), out.writes)
 }
@@ -206,7 +214,7 @@ fn types_in_words<W: Write>(alloc: Global, marks: &mut W) -> Outcome {
 fn types_all_in_words<W: Write>(alloc: Global, marks: &mut W) -> Outcome {
     let (mut reader, mut out) = (reader_of(TEXT), writer());
     mark(marks);
-    let given = type_sheet_run(alloc, Board::Iso, &mut reader, &mut out);
+    let given = type_sheet_run(alloc, Board::Iso, WaysTold::Taken, &mut reader, &mut out);
     mark(marks);
     ended_untouched(&given, true, out.writes)
 }

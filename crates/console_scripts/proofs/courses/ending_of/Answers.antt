@@ -1,6 +1,6 @@
-use Rattle.console_scripts.proofs.Common.{false, true, refl, subst, sym, ◌∙◌, ◌≡◌, ◌<◌, arith, length, true≢false}
+use Rattle.console_scripts.proofs.Common.{false, true, refl, subst, sym, ◌∙◌, ◌<◌, arith, length, true≢false}
 use Rattle.std.proofs.lemmas.List.{length-set}
-use Rattle.console_scripts.specs.Inner.Courses.{Lacks, takes_key}
+use Rattle.console_scripts.specs.Inner.Courses.{Lacks, MayEnd}
 use Rattle.console_scripts.proofs.Lacking.{told-more, told-none}
 use Rattle.console_scripts.proofs.courses.ending_of.Goals.{then-has_any, else-has_any}
 use Rattle.console_scripts.proofs.courses.ending_of.Goals as goal
@@ -8,20 +8,20 @@ use Rattle.console_scripts.proofs.courses.ending_of.Goals as goal
 pub loop-code-preserved : goal.loop-code-preserved
 loop-code-preserved c =
     let o = c.args.course.now in
-    let taken = takes_key c.args.board o.class o.spared in
-    let lacks = Lacks c.args.map.now o.accent c.args.character in
+    let may = MayEnd c.args.board o c.args.target in
+    let lacks = Lacks c.args.map.now o.accent c.args.target.character in
     let n = c.loop-code.code in
     let keys = c.loop-code.keys in
     let ends = c.may_end-ends.result in
     let within : n < length keys = omega (arith, c.loop-code-test.true, c.loop-code.invariant.size) in
     record {
       taken =
-          told-more (λ k. taken k ≡ true) true keys n ends within
-          (λ t. subst (λ k. taken k ≡ true) c.key_with.ensures (c.may_end-ends.ensures.taken t))
+          told-more may true keys n ends within
+          (λ t. subst may c.key_with.ensures (c.may_end-ends.ensures.may t))
           c.loop-code.invariant.taken;
       other =
-          told-more (λ k. taken k ≡ true → lacks k) false keys n ends within
-          (λ t. subst (λ k. taken k ≡ true → lacks k) c.key_with.ensures (c.may_end-ends.ensures.other t))
+          told-more (λ k. may k → lacks k) false keys n ends within
+          (λ t. subst (λ k. may k → lacks k) c.key_with.ensures (c.may_end-ends.ensures.other t))
           c.loop-code.invariant.other;
       none = elim c.if-has_any.branch [
         | then-has_any w ↦ λ t. absurd (true≢false (sym w.if-has_any.true ∙ (sym w.has_any-is ∙ t)))

@@ -15,11 +15,11 @@ loop-code-preserved c =
     let n = c.loop-code.code in
     below_more _ _ (c.loop-code.invariant u is)
     (λ tapped.
-    let seen : look_selected c.args.map.now (selection_of s) n ≡ cell_of c.args.tap.now.symbol =
+    let seen : look_selected c.args.map.now (selection_of s) n ≡ cell_of c.args.symbol =
     ap (λ m. look_selected m (selection_of s) n) (sym is) ∙ tapped.2 in
     elim c.if-have-code.branch [
       | then-have-code+else-is_symbol w ↦
-          let looked : w.look.result ≡ cell_of c.args.tap.now.symbol =
+          let looked : w.look.result ≡ cell_of c.args.symbol =
           w.look.ensures ∙ ap (λ y. look_selected c.args.map.now y w.key_with-key.result) c.selection-selection.ensures
           ∙ ap (λ k. look_selected c.args.map.now (selection_of s) k) w.key_with-key.ensures ∙ seen in
           elim w.else-is_symbol.branch [

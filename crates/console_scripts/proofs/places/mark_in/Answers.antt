@@ -1,6 +1,7 @@
-use Rattle.console_scripts.proofs.Common.{◌≡◌, subst, arith, true, state_of}
+use Rattle.std.proofs.Common.{rules}
+use Rattle.console_scripts.proofs.Common.{subst, true, state_of}
 use Rattle.console_scripts.proofs.Marking.{keys-none, keys-more}
-use Rattle.console_scripts.specs.Inner.Places.{IsWithKey, IsWithKeys}
+use Rattle.console_scripts.specs.Inner.Places.{IsWithKey}
 use Rattle.console_scripts.proofs.places.mark_in.Goals as goal
 
 pub loop-code-init : goal.loop-code-init
@@ -15,7 +16,4 @@ loop-code-preserved c =
     c.key_with.ensures c.mark_of_key-are_all.ensures)
 
 pub returns : goal.returns
-returns c =
-    let e : c.loop-code.code ≡ 128 = omega (arith, c.loop-code-test.false, c.loop-code.auto.code-end) in
-    subst (λ n. IsWithKeys c.args.map.now (state_of c.args.held.now) n c.args.marks.now c.loop-code.marks
-    c.loop-code.are_all) e c.loop-code.invariant
+returns c = search rules

@@ -1,14 +1,10 @@
-use Rattle.console_scripts.proofs.Common.{none_unless, below_more, subst, IfSome, LeadsHome, state_of, under_of}
+use Rattle.std.proofs.Common.{rules}
+use Rattle.console_scripts.proofs.Common.{none_unless, below_more, state_of, under_of}
 use Rattle.console_scripts.proofs.RoutesHome.{press-astray}
 use Rattle.console_scripts.proofs.routes.route_by_press.Goals as goal
 
 pub returns-in-Some-clause-home : goal.returns-in-Some-clause-home
-returns-in-Some-clause-home c =
-    λ all.
-    let u = under_of c.args.maps.now in
-    let s = state_of c.args.held.now in
-    subst (λ o. IfSome o (λ x. LeadsHome u s x.moves.items)) c.in-Some.is
-    (c.in_ok-route.ensures.home u s 1 all c.pressed.ensures.step)
+returns-in-Some-clause-home c = search rules
 
 pub loop-code-preserved : goal.loop-code-preserved
 loop-code-preserved c =

@@ -1,5 +1,6 @@
+use Rattle.std.proofs.Common.{rules}
 use Rattle.console_scripts.proofs.Common.{◌≡◌, ◌∷◌, ◌++◌, ◌∙◌, [], Some, Contains, Contains-append_left, Contains-push}
-use Rattle.console_scripts.proofs.Common.{Entry, ap, arith, inl, inr, same_Some, slice_get, slice_get_within, subst}
+use Rattle.console_scripts.proofs.Common.{Entry, ap, inl, inr, same_Some, slice_get, slice_get_within, subst}
 use Rattle.console_scripts.proofs.Common.{place_last}
 use Rattle.console_scripts.proofs.routes.states_of.Goals as goal
 
@@ -16,8 +17,4 @@ loop-place-preserved c =
     ])
 
 pub returns : goal.returns
-returns c =
-    λ j x at.
-    let within = slice_get_within c.args.met.now.entries j x at in
-    c.loop-place.invariant j x
-    (omega (arith, within, c.loop-place-test.false, c.loop-place.auto.place-end, c.len-place-end.ensures.len)) at
+returns c = search (rules, slice_get_within)

@@ -1,21 +1,10 @@
-use Rattle.console_scripts.proofs.Common.{◌≡◌, length, get_or, ap, subst, ◌∙◌, refl, below_more, arith, cell_of}
-use Rattle.console_states.proofs.Shared.{Char, get_or_read_under}
-use Rattle.keymap_core.specs.Maps.{entry_at}
+use Rattle.std.proofs.Common.{rules}
+use Rattle.console_scripts.proofs.Common.{below_more}
+use Rattle.console_states.proofs.Shared.{get_or_read_under}
 use Rattle.console_scripts.proofs.symbols.is_in_slot.Goals as goal
 
 pub loop-cell-preserved : goal.loop-cell-preserved
-loop-cell-preserved c =
-    let cells = c.cells-cell-items.result.now in
-    let n = c.loop-cell.cell-index in
-    let read : c.cell-item.result ≡ get_or cells n (Char 0) =
-    get_or_read_under cells n (length cells) c.cell-item.result (Char 0) c.cell-item.is c.loop-cell-test.true refl in
-    let same : cells ≡ (entry_at c.args.map.now c.args.slot).cells =
-    c.cells-cell-items.ensures.cells ∙ ap (λ x. x.cells) c.entry.ensures in
-    below_more _ _ c.loop-cell.invariant
-    (subst (λ x. x ≡ cell_of c.args.symbol → ⊥) (read ∙ ap (λ xs. get_or xs n (Char 0)) same)
-    (c.is_symbol.ensures.other c.if-is_symbol.false))
+loop-cell-preserved c = search (rules, get_or_read_under, below_more)
 
 pub returns : goal.returns
-returns c =
-    λ no column lt.
-    c.loop-cell.invariant column (omega (arith, lt, c.loop-cell-test.false, c.cells-cell-items.ensures.eight))
+returns c = search rules

@@ -1,13 +1,11 @@
+use Rattle.std.proofs.Common.{rules}
 use Rattle.console_scripts.proofs.Marking.{gains-none, gains-next}
 use Rattle.console_scripts.proofs.Tapping.{all-bases}
 use Rattle.console_scripts.specs.Inner.Tapped.{HasCharacter}
 use Rattle.console_scripts.proofs.typed.add_accent.Goals as goal
 
 pub returns-then-not-is_offered : goal.returns-then-not-is_offered
-returns-then-not-is_offered c =
-    gains-none (HasCharacter c.args.typed.now) _
-    (λ z made. let (x, (can_use, dead, base)) = made in
-    c.is_offered.ensures.none c.if-not-is_offered.true c.args.map.now c.requires can_use dead)
+returns-then-not-is_offered c = search (rules, gains-none)
 
 pub returns : goal.returns
 returns c =

@@ -9,7 +9,8 @@ pub loop-place-init : goal.loop-place-init
 loop-place-init c = gains-first (HasCode c.no_codes-given.result) _ c.no_codes-given.ensures
 
 pub loop-place-preserved : goal.loop-place-preserved
-loop-place-preserved c = gains-more (λ z. ⊥) (HasCode c.loop-place.given) _ _ c.loop-place.place c.loop-place.invariant c.give_at.ensures
+loop-place-preserved c =
+    gains-more (λ z. ⊥) (HasCode c.loop-place.given) _ _ c.loop-place.place c.loop-place.invariant c.give_at.ensures
 
 pub returns : goal.returns
 returns c =

@@ -1,5 +1,4 @@
-use Rattle.console_states.proofs.Common.{length, arith, ◌≡◌, refl, subst, state_of, under_of, get_or_read_under, rules}
-use Rattle.console_states.proofs.Common.{AddsOffer}
+use Rattle.console_states.proofs.Common.{length, arith, ◌≡◌, subst, state_of, under_of, get_or_read_under, rules}
 use Rattle.console_states.proofs.Adding.{AddsOffersOf, adds-none, offers-all, offers-more}
 use Rattle.console_states.proofs.offers.add_offers.Goals as goal
 
@@ -7,15 +6,7 @@ pub loop-key-init : goal.loop-key-init
 loop-key-init c = search (rules, adds-none)
 
 pub loop-key-preserved : goal.loop-key-preserved
-loop-key-preserved c =
-    let u = under_of c.args.maps.now in
-    let s = state_of c.args.held.now in
-    let keys = c.args.keys.now in
-    offers-more u s keys c.loop-key.key-index c.args.accents.now.items c.loop-key.accents.items
-    c.add_offer.new.accents.items c.loop-key.invariant
-    (subst (λ k. AddsOffer u s k c.loop-key.accents.items c.add_offer.new.accents.items)
-    (get_or_read_under keys c.loop-key.key-index (length keys) c.key-item.result 0 c.key-item.is c.loop-key-test.true
-    refl) c.in_ok-add_offer.ensures)
+loop-key-preserved c = search (rules, offers-more, get_or_read_under)
 
 pub returns : goal.returns
 returns c =

@@ -1,13 +1,12 @@
-use Rattle.console_states.proofs.Common.{refl, minding, alone, start, TooMany, Complete}
+use Rattle.std.proofs.Common.{rules}
+use Rattle.console_states.proofs.Common.{refl, minding, alone, start, TooMany}
 use Rattle.console_states.proofs.Concluding.{all-few}
 use Rattle.console_states.proofs.Minding.{minded_reaches_more}
 use Rattle.console_states.proofs.Reaching.{ended-under}
 use Rattle.console_states.proofs.offers.minded.Goals as goal
 
 pub returns : goal.returns
-returns c =
-    (ended-under _ (minding (alone c.args.maps.now.first.now) c.args.accent) c.in_ok-states.states.entries _ start _
-    Complete c.minding.ensures.minding c.start.ensures c.in-Complete.is c.in_ok-states.ensures).is.0
+returns c = search (rules, ended-under)
 
 pub unreachable-requires : goal.unreachable-requires
 unreachable-requires c =

@@ -1,3 +1,4 @@
+use Rattle.std.proofs.Common.{rules}
 use Rattle.console_states.proofs.Common.{refl, subst, sym, IsOfferedUnlocked, false, AreSelectionsOf}
 use Rattle.console_states.proofs.Offering.{composing-all, composing-pending}
 use Rattle.console_states.proofs.Results.{ok-then}
@@ -14,7 +15,4 @@ returns-then-is_offered_unlocked c =
     (subst (λ z. AreSelectionsOf false met z) (sym same) c.requires.all)) c.copied.ensures
 
 pub returns-in_ok-states : goal.returns-in_ok-states
-returns-in_ok-states c =
-    ok-then c.selections_of.result
-    (λ v are. composing-pending c.args.maps.now.first.now c.args.accent c.in_ok-states.states.entries v.items
-    c.in_ok-states.ensures are) c.selections_of.ensures
+returns-in_ok-states c = search (rules, ok-then, composing-pending)

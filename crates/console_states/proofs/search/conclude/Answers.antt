@@ -1,4 +1,5 @@
-use Rattle.console_states.proofs.Common.{[], ◌∷◌, reverse, subst, slice_get_within, Complete, TooMany, start, under_of, HasEnded}
+use Rattle.console_states.proofs.Common.{[], ◌∷◌, reverse, subst, slice_get_within, Complete, TooMany}
+use Rattle.console_states.proofs.Common.{start, under_of, HasEnded}
 use Rattle.console_states.proofs.Concluding.{complete-few, complete-never, none-late, stuck-sticks}
 use Rattle.console_states.proofs.Deciding.{sent-loads, are-on-under}
 use Rattle.console_states.proofs.GoingBack.{searched-back}

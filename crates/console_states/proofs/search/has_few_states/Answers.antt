@@ -9,7 +9,8 @@ returns-in-Complete-clause-few c few =
     let es = c.in_ok-end.field-0-0.entries in
     let told : HasEnded u (start ∷ []) es c.in_ok-end.end =
     subst (λ s. HasEnded u (s ∷ []) es c.in_ok-end.end) c.start.ensures
-    (subst (λ u. HasEnded u (state_of c.start.result ∷ []) es c.in_ok-end.end) c.alone.ensures.alone c.in_ok-end.ensures)
+    (subst (λ u. HasEnded u (state_of c.start.result ∷ []) es c.in_ok-end.end) c.alone.ensures.alone
+    c.in_ok-end.ensures)
     in
     complete-few u es (subst (λ o. HasEnded u (start ∷ []) es o) c.in-Complete.is told) refl
 
@@ -19,7 +20,8 @@ returns-in-TooMany-clause-many c many =
     let es = c.in_ok-end.field-0-0.entries in
     let told : HasEnded u (start ∷ []) es c.in_ok-end.end =
     subst (λ s. HasEnded u (s ∷ []) es c.in_ok-end.end) c.start.ensures
-    (subst (λ u. HasEnded u (state_of c.start.result ∷ []) es c.in_ok-end.end) c.alone.ensures.alone c.in_ok-end.ensures)
+    (subst (λ u. HasEnded u (state_of c.start.result ∷ []) es c.in_ok-end.end) c.alone.ensures.alone
+    c.in_ok-end.ensures)
     in (
       c.in-TooMany.field-0,
       reaches-more u es c.in-TooMany.field-0 (subst (λ o. HasEnded u (start ∷ []) es o) c.in-TooMany.is told),

@@ -1,3 +1,4 @@
+use Rattle.std.proofs.Common.{rules}
 use Rattle.console_states.proofs.Common.{◌≡◌, ◌≤◌, ◌+◌, length, arith, under_of, limit_of}
 use Rattle.console_states.proofs.Growing.{added-longer}
 use Rattle.console_states.proofs.Searching.{order-within, searched-fewer, level-done, closed-done}
@@ -5,13 +6,7 @@ use Rattle.console_states.proofs.Reaching.{met-once}
 use Rattle.console_states.proofs.search.meet_levels.Goals as goal
 
 pub loop-level-init : goal.loop-level-init
-loop-level-init c = record {
-  searched = λ origins s. s;
-  order = c.requires.order;
-  below = omega arith;
-  levels = omega arith;
-  few = omega arith;
-}
+loop-level-init c = search rules
 
 pub returns : goal.returns
 returns c =
@@ -74,22 +69,4 @@ returns-then-len-bound-2 c =
     }
 
 pub loop-level-preserved : goal.loop-level-preserved
-loop-level-preserved c =
-    let mid = c.close.new.met.entries in
-    let es = c.press.new.met.entries in
-    let few : length mid ≤ limit_of (under_of c.args.maps.now) =
-    omega (arith, c.if-len-bound.false, c.len-in-loop-level.ensures.len, c.limit-bound.ensures.value) in
-    let longer : length mid ≤ length es = added-longer mid es c.in_ok-press.ensures.grown in
-    let is : c.len-end.result ≡ length mid = c.len-end.ensures.len in
-    let before = c.loop-level.invariant in
-    let grown : length c.loop-level.met.entries ≤ length mid = added-longer _ mid c.in_ok-close.ensures.grown in
-    record {
-      searched = λ origins begun.
-          rw is ((c.in_ok-press.ensures.searched origins
-          ((c.in_ok-close.ensures.searched origins (before.searched origins begun)).1 few)).1
-          (omega (arith, c.if-len-bound-2.false, c.len-in-loop-level-2.ensures.len, c.limit-bound.ensures.value)));
-      order = rw is c.in_ok-press.ensures.order;
-      below = omega (arith, is, longer);
-      levels = omega (arith, is, grown, before.levels, c.loop-level-test.true, c.len.ensures.len);
-      few = omega (arith, is, few);
-    }
+loop-level-preserved c = search (rules, added-longer)

@@ -1,14 +1,10 @@
-use Rattle.console_states.proofs.Common.{alone, start, TooMany, Complete}
+use Rattle.std.proofs.Common.{rules}
+use Rattle.console_states.proofs.Common.{alone, start, TooMany}
 use Rattle.console_states.proofs.Reaching.{ended-alone, met-alone, reaches-more}
 use Rattle.console_states.proofs.sights.sights_of.Goals as goal
 
 pub sights_in-requires : goal.sights_in-requires
-sights_in-requires c =
-    let map = c.alone-maps.ensures in
-    let m = c.args.map.now in
-    let es = c.in_ok-met.met.entries in
-    let ended = ended-alone m _ es _ start _ Complete map.alone c.start.ensures c.in-Complete.is c.in_ok-met.ensures in
-    met-alone c.alone-maps.result m es map.alone map.first ended.is.0 ended.is.1
+sights_in-requires c = search (rules, ended-alone, met-alone)
 
 pub returns : goal.returns
 returns c =

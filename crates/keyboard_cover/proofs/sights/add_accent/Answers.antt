@@ -1,4 +1,4 @@
-use Rattle.std.proofs.Common.{refl, sym, ◌∙◌}
+use Rattle.std.proofs.Common.{rules}
 use Rattle.keymap_cover.specs.SeenSights.{has_seen}
 use Rattle.keyboard_cover.proofs.Collecting.{behind-sees, gains-none, unusable-none}
 use Rattle.keyboard_cover.proofs.sights.add_accent.Goals as goal
@@ -9,7 +9,4 @@ returns-in_ok-add_met c =
     (has_seen c.args.can.now) (has_seen c.add_met.new.can) c.in_ok-states.ensures c.in_ok-add_met.ensures
 
 pub returns-else-is_usable : goal.returns-else-is_usable
-returns-else-is_usable c =
-    gains-none (has_seen c.args.can.now)
-    (unusable-none c.args.presses.now c.args.map.now c.args.accent
-    (sym (c.is_usable.ensures c.args.map.now refl) ∙ c.if-is_usable.false))
+returns-else-is_usable c = search (rules, gains-none, unusable-none)

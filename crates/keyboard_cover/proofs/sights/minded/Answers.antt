@@ -1,16 +1,14 @@
+use Rattle.std.proofs.Common.{rules}
 use Rattle.std.proofs.Common.{refl}
 use Rattle.console_states.specs.Moves.{start, minding}
-use Rattle.console_states.specs.declared.search.End.TheVariants.{Complete, TooMany}
+use Rattle.console_states.specs.declared.search.End.TheVariants.{TooMany}
 use Rattle.console_states.proofs.Shared.{all-few, minded_reaches_more}
 use Rattle.keyboard_cover.specs.Sights.{under}
 use Rattle.keyboard_cover.proofs.Collecting.{ended-by}
 use Rattle.keyboard_cover.proofs.sights.minded.Goals as goal
 
 pub returns : goal.returns
-returns c =
-    let u = under c.args.presses.now c.args.map.now in
-    (ended-by (minding u c.args.accent) _ c.in_ok-states.states.entries _ start _ Complete
-    c.keymaps_of-maps.ensures.under c.start.ensures c.in-Complete.is c.in_ok-states.ensures).is.0
+returns c = search (rules, ended-by)
 
 pub unreachable-requires : goal.unreachable-requires
 unreachable-requires c =

@@ -1,3 +1,4 @@
+use Rattle.std.proofs.Common.{rules}
 use Rattle.keymap_cover.proofs.Common.{reverse}
 use Rattle.keymap_cover.proofs.Showing.{rests-behind, rests-more, rests-off}
 use Rattle.keymap_cover.proofs.Walking.{on-ok}
@@ -18,8 +19,4 @@ loop-trial-preserved g c =
     c.in_ok-go_home-2.ensures
 
 pub returns : goal.returns
-returns g c =
-    on-ok c.turn_scroll_off.result
-    (rests-off g.T.Translator.stands c.args.map.now c.args.script.now c.loop-trial.script
-    c.turn_scroll_off.new.script c.loop-trial.invariant)
-    c.turn_scroll_off.ensures
+returns g c = search (rules, on-ok, rests-off)

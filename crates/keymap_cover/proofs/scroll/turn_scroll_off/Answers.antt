@@ -1,4 +1,5 @@
-use Rattle.keymap_cover.proofs.Common.{[], refl, inl, inr, sym, reverse, subst, ◌∙◌, between, GoesAlongToRest}
+use Rattle.std.proofs.Common.{rules}
+use Rattle.keymap_cover.proofs.Common.{[], refl, inr, sym, reverse, subst, ◌∙◌, between, GoesAlongToRest}
 use Rattle.std.proofs.Common.{MatchOption}
 use Rattle.keymap_core.specs.declared.action.Lock.TheVariants.{Scroll}
 use Rattle.console_scripts.specs.Visiting.{CannotScroll, TurnsScrollOff}
@@ -6,11 +7,7 @@ use Rattle.keymap_cover.proofs.Showing.{script-loads, walks-off}
 use Rattle.keymap_cover.proofs.scroll.turn_scroll_off.Goals as goal
 
 pub returns-then-not-locked : goal.returns-then-not-locked
-returns-then-not-locked g c =
-    λ h w.
-    let m = c.args.map.now in
-    let shown = g.met.T.Translator.locked_where_it_stands c.args.script.now.console (between m m) h w.0.0 Scroll in
-    (h, w, ([], refl), inl (sym shown ∙ sym c.locked.ensures ∙ c.if-not-locked.true))
+returns-then-not-locked g c = search rules
 
 pub returns-in_default : goal.returns-in_default
 returns-in_default g c =

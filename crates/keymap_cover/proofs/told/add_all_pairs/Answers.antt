@@ -1,4 +1,4 @@
-use Rattle.std.proofs.Common.{arith, length, ◌≡◌}
+use Rattle.std.proofs.Common.{rules}
 use Rattle.keymap_cover.proofs.Common.{pairs_at}
 use Rattle.keymap_cover.proofs.Telling.{piece-behind}
 use Rattle.keymap_cover.proofs.told.add_all_pairs.Goals as goal
@@ -8,6 +8,4 @@ loop-index-preserved c =
     piece-behind (pairs_at c.args.map.now) c.loop-index.index _ _ _ c.loop-index.invariant c.in_ok-add_pairs.ensures
 
 pub returns : goal.returns
-returns c =
-    let end : c.loop-index.index ≡ length c.args.map.now.accents = omega arith in
-    rw (← end) c.loop-index.invariant
+returns c = search rules

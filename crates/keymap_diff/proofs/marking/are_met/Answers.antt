@@ -1,7 +1,7 @@
-use Rattle.std.proofs.Common.{◌≡◌, ◌∙◌, false, length, refl, subst, sym, arith, below_more}
+use Rattle.std.proofs.Common.{rules}
+use Rattle.std.proofs.Common.{◌≡◌, ◌∙◌, false, length, refl, sym, arith, below_more}
 use Rattle.std.proofs.lemmas.Bool.{eqb-true}
 use Rattle.std.proofs.lemmas.List.{get_or_read_under}
-use Rattle.keymap_diff.specs.Inner.Versions.{IsMet}
 use Rattle.keymap_diff.proofs.Known.{known-met, has-accent}
 use Rattle.keymap_diff.proofs.marking.are_met.Goals as goal
 
@@ -24,12 +24,7 @@ returns-then-is_empty c e =
     (λ x (k, lt, at). absurd (omega (arith, lt, none)))
 
 pub loop-change-preserved : goal.loop-change-preserved
-loop-change-preserved c =
-    let found = c.args.found.now in
-    below_more _ _ c.loop-change.invariant
-    (λ x e. subst (IsMet c.args.old.now c.args.new.now)
-    (get_or_read_under found _ (length found) c.change-item.result x c.change-item.is c.loop-change-test.true refl ∙ e)
-    (c.is_met.ensures c.if-not-is_met.false))
+loop-change-preserved c = search (rules, below_more, get_or_read_under)
 
 pub returns : goal.returns
 returns c e =

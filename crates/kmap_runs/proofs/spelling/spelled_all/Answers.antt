@@ -2,7 +2,9 @@ use Rattle.kmap_runs.proofs.Common.{◌≡◌, ◌∙◌, ◌+◌, ◌<◌, ◌�
 use Rattle.std.proofs.lemmas.List.{take_all, take_more}
 use Rattle.std.proofs.lemmas.List.Elements.{All-contains}
 use Rattle.std.specs.List.{Contains}
-use Rattle.kmap_runs.proofs.Spellings.{IsSheetSo, IsTold, sheet-more}
+use Rattle.std.specs.List.Sorted.{IsStrictlySortedBy}
+use Rattle.std.specs.Ordering.{nat_cmp}
+use Rattle.kmap_runs.proofs.Spellings.{IsSheetSo, IsTold, before-smaller, sheet-more}
 use Rattle.kmap_runs.proofs.spelling.spelled_all.Goals as goal
 
 pub loop-c-preserved : goal.loop-c-preserved
@@ -15,6 +17,9 @@ loop-c-preserved c =
     take_more cs k x lt ∙ ap (λ y. take k cs ++ y ∷ []) (sym c.c-item.is) in
     subst (λ z. IsSheetSo c.args.board c.args.map.now z c.add_on_board.new.each.items) (sym more)
     (sheet-more c.args.board c.args.map.now (take k cs) x c.loop-c.each.items c.add_on_board.new.each.items
+    (before-smaller cs k x
+    (subst (IsStrictlySortedBy nat_cmp) (sym c.as_slice-c-items.ensures.value) c.in_ok-characters.ensures.order) lt
+    c.c-item.is)
     c.loop-c.invariant c.in_ok-add_on_board.ensures.ok)
 
 pub returns-clause-ok : goal.returns-clause-ok
@@ -29,6 +34,7 @@ returns-clause-ok c =
     record {
       each = c.loop-c.invariant.each;
       all = λ d can. All-contains (IsTold b m xs) cs d told
-          (subst (λ z. Contains z d) (sym (c.as_slice-c-items.ensures.value ∙ c.in_ok-characters.ensures))
+          (subst (λ z. Contains z d) (sym (c.as_slice-c-items.ensures.value ∙ c.in_ok-characters.ensures.all))
           (given.0.all d can)) can;
+      order = c.loop-c.invariant.order;
     }

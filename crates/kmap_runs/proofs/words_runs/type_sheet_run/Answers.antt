@@ -9,12 +9,12 @@ use Rattle.kmap_runs.proofs.words_runs.type_sheet_run.Goals as goal
 pub returns-in_err-map-clause-run : goal.returns-in_err-map-clause-run
 returns-in_err-map-clause-run g c = search (rules, err_from_is_err_and, Keeps-refl)
 
-pub returns-in_err-told-clause-run : goal.returns-in_err-told-clause-run
-returns-in_err-told-clause-run g c = search (rules, err_from_is_err_and, Keeps-refl)
+pub returns-in_err-lines-clause-run : goal.returns-in_err-lines-clause-run
+returns-in_err-lines-clause-run g c = search (rules, err_from_is_err_and, Keeps-refl)
 
 pub returns-clause-run : goal.returns-clause-run
 returns-clause-run g c =
     once_written of_command_writer (ReadsForCommand (ReadsText (moves _ _))) LacksSheet
     (λ m _ told. (xs : List Spelled) × IsSheet c.args.board m xs) (moves _ _)
-    c.in_ok-map.map tt c.in_ok-told.told.items _ c.in_ok-map.ensures.reads c.in_ok-told.ensures.ok
+    c.in_ok-map.map tt c.in_ok-lines.lines.items _ c.in_ok-map.ensures.reads c.in_ok-lines.ensures.ok
     (rw c.as_slice.ensures.value at c.command_once_written.ensures.bytes)

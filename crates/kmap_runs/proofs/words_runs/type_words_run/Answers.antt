@@ -31,7 +31,7 @@ returns-clause-run g c =
     once_written of_command_writer
     (ReadsBoth (ReadsForCommand (ReadsText (moves _ _))) (ReadsSentence (moves _ _)) (Stays (moves _ _)))
     (λ v e. LacksDecision v.0 v.1 e) (λ v stopped told. AreToldInWords c.args.board v.0 v.1 stopped) (moves _ _)
-    (c.in_ok-map.map, c.in_ok-bytes.bytes.items) c.in_ok-stopped.stopped c.in_ok-stopped.told.items _
+    (c.in_ok-map.map, c.in_ok-bytes.bytes.items) c.in_ok-stopped.stopped c.in_ok-stopped.lines.items _
     (c.in_ok-map.ensures.reads, c.in_ok-bytes.ensures.reads)
     (rw c.as_slice.ensures.value at c.in_ok-stopped.ensures.ok)
     (rw c.as_slice-2.ensures.value at c.command_once_written.ensures.bytes)

@@ -1,4 +1,4 @@
-use Rattle.console_scripts.proofs.Common.{◌≡◌, MatchOption, Some, refl, subst, sym, map_of_explored, IsAim, rules}
+use Rattle.console_scripts.proofs.Common.{◌≡◌, MatchOption, Some, subst, sym, map_of_explored, IsAim, rules}
 use Rattle.console_scripts.proofs.Common.{CanVisit}
 use Rattle.console_scripts.proofs.Aiming.{aims-at, dead-not, found-aim}
 use Rattle.console_states.specs.declared.selection.Sight.TheVariants as sight
@@ -16,7 +16,7 @@ returns-in-Some c =
 pub returns-in-None : goal.returns-in-None
 returns-in-None c =
     subst (λ x. CanVisit (map_of_explored c.args.self.now) x → ⊥) (sym c.in-Pair.is)
-    (dead-not c.args.self.now c.requires c.in-Pair.accent c.in-Pair.character (c.in-None.ensures refl))
+    (dead-not c.args.self.now c.requires c.in-Pair.accent c.in-Pair.character c.in-None.ensures)
 
 pub returns-in_default : goal.returns-in_default
 returns-in_default c = search (rules, aims-at)

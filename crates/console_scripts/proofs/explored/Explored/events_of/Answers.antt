@@ -24,4 +24,5 @@ returns g c =
     ap reverse c.in_ok-push-2.ensures.items ∙ push-reversed c.approach.new.events.items (Press aim.at.key) in
     λ h rests.
     visits e c.requires.explored aim c.requires.aim s a b there now begun
-    (home-leads m s moves (ap (λ z. z.is_second) rests, ap (λ z. z.is_pending) rests) home a b events) c.in_ok-approach.ensures last h rests
+    (home-leads m s moves (ap (λ z. z.is_second) rests, ap (λ z. z.is_pending) rests) home a b events)
+    c.in_ok-approach.ensures last h rests

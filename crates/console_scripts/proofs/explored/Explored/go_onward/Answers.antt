@@ -1,4 +1,5 @@
-use Rattle.console_scripts.proofs.Common.{◌∷◌, ◌++◌, [], ap, ◌∙◌, reverse, slice_get_within, Press, Reset, push-reversed}
+use Rattle.console_scripts.proofs.Common.{◌∷◌, ◌++◌, [], ap, ◌∙◌, reverse, slice_get_within, Press, Reset}
+use Rattle.console_scripts.proofs.Common.{push-reversed}
 use Rattle.console_scripts.proofs.Visitable.{goes-onward, unseen-from}
 use Rattle.console_scripts.proofs.explored.Explored.go_onward.Goals as goal
 

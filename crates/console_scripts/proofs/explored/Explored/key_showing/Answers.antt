@@ -1,4 +1,5 @@
-use Rattle.console_scripts.proofs.Common.{inl, inr, sym, ◌∙◌, state_of, true≢false}
+use Rattle.std.proofs.Common.{rules}
+use Rattle.console_scripts.proofs.Common.{inl, sym, ◌∙◌, true≢false}
 use Rattle.console_scripts.proofs.explored.Explored.key_showing.Goals as goal
 
 pub returns-in_default : goal.returns-in_default
@@ -9,18 +10,7 @@ returns-then-not-leads_back c =
     (c.in-Some.ensures, (λ back. absurd (true≢false (sym back ∙ c.if-not-leads_back.true))))
 
 pub returns-then-has_route : goal.returns-then-has_route
-returns-then-has_route c = (
-  c.in-Some.ensures,
-  (λ back. (state_of c.after.result, c.after.ensures.value, c.has_route.ensures.has c.if-has_route.true)),
-)
+returns-then-has_route c = search rules
 
 pub returns-else-has_route : goal.returns-else-has_route
-returns-else-has_route c =
-    inr (
-      c.if-not-leads_back.false,
-      c.in-Some.key,
-      state_of c.after.result,
-      c.in-Some.ensures,
-      c.after.ensures.value,
-      c.has_route.ensures.none c.if-has_route.false,
-    )
+returns-else-has_route c = search rules

@@ -1,14 +1,10 @@
+use Rattle.std.proofs.Common.{rules}
 use Rattle.console_scripts.proofs.Common.{alone, map_of_explored, reverse, state_of}
 use Rattle.console_scripts.proofs.Exploring.{leaves-freed, leaves-home}
 use Rattle.console_scripts.proofs.explored.Explored.leave.Goals as goal
 
 pub returns-in_ok-next : goal.returns-in_ok-next
-returns-in_ok-next c =
-    λ origin.
-    let e = c.args.self.now in
-    leaves-freed (alone (map_of_explored e)) e.routes.entries (state_of c.args.held.now)
-    (reverse c.args.events.now.items) _ _ c.requires.explored.home c.in_ok-next.ensures
-    (rw (← c.freed.ensures) (c.has_route.ensures.has c.if-has_route.true))
+returns-in_ok-next c = search (rules, leaves-freed)
 
 pub come_home-requires : goal.come_home-requires
 come_home-requires c = c.requires.route

@@ -1,3 +1,4 @@
+use Rattle.std.proofs.Common.{rules}
 use Rattle.console_scripts.proofs.Common.{◌+◌, subst, Contains, map_of_explored}
 use Rattle.console_scripts.proofs.Marking.{gathered-known, gathered-none, gathered-there, gathered-selected}
 use Rattle.console_scripts.specs.Inner.Places.{IsSelected}
@@ -12,9 +13,7 @@ returns-then-is_among c =
     (c.is_among.ensures c.if-is_among.true))) c.requires.gathered
 
 pub returns-then-not-has_taps : goal.returns-then-not-has_taps
-returns-then-not-has_taps c =
-    gathered-none c.args.self.now c.args.is_plain c.args.place c.args.marks.now c.args.known.now.items
-    c.entry.result c.entry.ensures (c.has_taps.ensures.none c.if-not-has_taps.true) c.requires.gathered
+returns-then-not-has_taps c = search (rules, gathered-none)
 
 pub returns-then-are_all : goal.returns-then-are_all
 returns-then-are_all c =
@@ -29,7 +28,4 @@ returns-then-are_all c =
     (c.has_taps.ensures.plain c.if-not-has_taps.false) c.mark_in-are_all.ensures.gains c.requires.gathered)
 
 pub returns : goal.returns
-returns c =
-    gathered-there c.args.self.now c.args.is_plain c.args.place c.args.marks.now _ c.args.known.now.items
-    c.entry.result c.entry.ensures (c.has_taps.ensures.route c.if-not-has_taps.false)
-    (c.has_taps.ensures.plain c.if-not-has_taps.false) c.mark_in-are_all.ensures.gains c.requires.gathered
+returns c = search (rules, gathered-there)

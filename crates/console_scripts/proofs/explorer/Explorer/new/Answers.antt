@@ -1,5 +1,5 @@
-use Rattle.console_scripts.proofs.Common.{ap, subst, ◌∙◌, IsWhole, AreStatesOf}
-use Rattle.console_scripts.specs.Inner.Showing.{states_in}
+use Rattle.std.proofs.Common.{rules}
+use Rattle.console_scripts.proofs.Common.{ap, ◌∙◌}
 use Rattle.console_scripts.proofs.Visitable.{states-of}
 use Rattle.console_scripts.proofs.explorer.Explorer.new.Goals as goal
 
@@ -7,9 +7,7 @@ pub explore-requires : goal.explore-requires
 explore-requires c = (ap (λ s. s.is_second) c.start.ensures, ap (λ s. s.is_pending) c.start.ensures)
 
 pub invariant_of-result : goal.invariant_of-result
-invariant_of-result c =
-    let (x, same, from) = c.in_ok-explored.ensures in
-    (x, from ∙ c.start.ensures, c.if-explored.true)
+invariant_of-result c = search rules
 
 pub returns-then-explored-clause-explorer : goal.returns-then-explored-clause-explorer
 returns-then-explored-clause-explorer c = c.in_ok-explored.ensures.1
@@ -21,8 +19,4 @@ returns-clause-explorer c =
     rw (← (from ∙ c.start.ensures), ← same) (x.more c.if-explored.false)
 
 pub returns-then-explored-clause-states : goal.returns-then-explored-clause-states
-returns-then-explored-clause-states c =
-    let (x, same, from) = c.in_ok-explored.ensures in
-    let e = c.in_ok-explored.explored in
-    let whole : IsWhole e = (x, from ∙ c.start.ensures, c.if-explored.true) in
-    subst (λ m. AreStatesOf m (states_in e.met.entries)) same (states-of e whole)
+returns-then-explored-clause-states c = search (rules, states-of)

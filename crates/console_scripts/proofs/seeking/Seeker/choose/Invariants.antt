@@ -9,6 +9,6 @@ invariant-loop-place l = record {
   board : l.self.board ≡ l.fn.self.board;
   courses : AreReached l.self.board (map_of_explored l.explored) l.self.courses.entries;
   none : l.has_met_all ≡ true
-      → HasNoWayBelow l.fn.self.board (map_of_explored l.explored) (origin_in l.explored) l.character l.place;
+      → HasNoWayBelow l.fn.self.board (map_of_explored l.explored) (origin_in l.explored) l.target l.place;
   many : l.has_met_all ≡ false → ReachesMany (map_of_explored l.explored) (origin_in l.explored);
 }

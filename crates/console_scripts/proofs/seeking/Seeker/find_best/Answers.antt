@@ -11,9 +11,9 @@ returns-in_default-clause-looked c =
     let b = c.args.self.now.board in
     let w = c.args.class in
     let one = w.is_one_tap in
-    looked-as (allows_in b w) m (origin_in e) c.args.character one (HasTaps one) e.routes.entries c.in_ok-looked.looked
+    looked-as (allows_in b w) m (origin_in e) c.args.target one (HasTaps one) e.routes.entries c.in_ok-looked.looked
     None (sym c.into_found.ensures ∙ c.in_default.is)
-    (looked-unspared b w c.none.result m (origin_in e) c.args.character one (HasTaps one) e.routes.entries
+    (looked-unspared b w c.none.result m (origin_in e) c.args.target one (HasTaps one) e.routes.entries
     c.in_ok-looked.looked c.none.ensures c.in_ok-looked.ensures.looked)
 
 pub spare-requires-clause-found : goal.spare-requires-clause-found
@@ -23,11 +23,11 @@ spare-requires-clause-found c =
     let b = c.args.self.now.board in
     let w = c.args.class in
     let one = w.is_one_tap in
-    subst (λ z. IsFound (allows_in z w) m (origin_in e) c.args.character one e.routes.entries c.in-Some.found)
+    subst (λ z. IsFound (allows_in z w) m (origin_in e) c.args.target one e.routes.entries c.in-Some.found)
     (sym c.in_ok-looked.ensures.board)
-    (subst (λ z. IfSome z (IsFound (allows_in b w) m (origin_in e) c.args.character one e.routes.entries))
+    (subst (λ z. IfSome z (IsFound (allows_in b w) m (origin_in e) c.args.target one e.routes.entries))
     (sym c.into_found.ensures ∙ c.in-Some.is)
-    (looked-unspared b w c.none.result m (origin_in e) c.args.character one (HasTaps one) e.routes.entries
+    (looked-unspared b w c.none.result m (origin_in e) c.args.target one (HasTaps one) e.routes.entries
     c.in_ok-looked.looked c.none.ensures c.in_ok-looked.ensures.looked).found)
 
 pub returns-then-spares_both-clause-looked : goal.returns-then-spares_both-clause-looked
@@ -37,9 +37,9 @@ returns-then-spares_both-clause-looked c =
     let b = c.args.self.now.board in
     let w = c.args.class in
     let one = w.is_one_tap in
-    looked-as (allows_in b w) m (origin_in e) c.args.character one (HasTaps one) e.routes.entries c.in_ok-looked.looked
+    looked-as (allows_in b w) m (origin_in e) c.args.target one (HasTaps one) e.routes.entries c.in_ok-looked.looked
     (Some c.in-Some.found) (sym c.into_found.ensures ∙ c.in-Some.is)
-    (looked-unspared b w c.none.result m (origin_in e) c.args.character one (HasTaps one) e.routes.entries
+    (looked-unspared b w c.none.result m (origin_in e) c.args.target one (HasTaps one) e.routes.entries
     c.in_ok-looked.looked c.none.ensures c.in_ok-looked.ensures.looked)
 
 pub returns-clause-looked : goal.returns-clause-looked
@@ -49,10 +49,10 @@ returns-clause-looked c =
     let b = c.args.self.now.board in
     let w = c.args.class in
     let one = w.is_one_tap in
-    looked-spared (allows_in b w) m (origin_in e) c.args.character one (HasTaps one) e.routes.entries
+    looked-spared (allows_in b w) m (origin_in e) c.args.target one (HasTaps one) e.routes.entries
     c.in_ok-looked.looked c.in-Some.found c.in_ok-found.found (sym c.into_found.ensures ∙ c.in-Some.is)
     c.in_ok-found.ensures.presses
-    (subst (λ z. IsFound (allows_in z w) m (origin_in e) c.args.character one e.routes.entries c.in_ok-found.found)
+    (subst (λ z. IsFound (allows_in z w) m (origin_in e) c.args.target one e.routes.entries c.in_ok-found.found)
     c.in_ok-looked.ensures.board c.in_ok-found.ensures.found)
-    (looked-unspared b w c.none.result m (origin_in e) c.args.character one (HasTaps one) e.routes.entries
+    (looked-unspared b w c.none.result m (origin_in e) c.args.target one (HasTaps one) e.routes.entries
     c.in_ok-looked.looked c.none.ensures c.in_ok-looked.ensures.looked)

@@ -1,5 +1,6 @@
-use Rattle.console_scripts.proofs.Common.{ap, arith, false, map_of_explored, option_copied, refl, state_of, subst}
-use Rattle.console_scripts.proofs.Common.{sym, ◌∙◌}
+use Rattle.std.proofs.Common.{rules}
+use Rattle.console_scripts.proofs.Common.{arith, false, map_of_explored, state_of, subst}
+use Rattle.console_scripts.proofs.Common.{◌∙◌}
 use Rattle.std.specs.Prelude.{Some}
 use Rattle.console_scripts.specs.Inner.Courses.{allows_but}
 use Rattle.console_scripts.specs.Inner.Seeking.{HasAccent, IsLooked}
@@ -7,24 +8,14 @@ use Rattle.console_scripts.proofs.Picking.{looked-composed, looked-none}
 use Rattle.console_scripts.proofs.seeking.Seeker.find_composed.Goals as goal
 
 pub loop-by-init : goal.loop-by-init
-loop-by-init c =
-    let o = c.args.course.now in
-    record {
-      below = omega arith;
-      board = refl;
-      courses = c.requires.courses;
-      looked =
-          looked-none (allows_but c.args.self.now.board o.class o.spared) (map_of_explored c.args.explored.now)
-          (state_of o.from) c.args.character false c.args.explored.now.routes.entries c.nothing-nearest.result
-          c.nothing-nearest.ensures.none c.nothing-nearest.ensures.all;
-    }
+loop-by-init c = search (rules, looked-none)
 
 pub loop-by-preserved : goal.loop-by-preserved
 loop-by-preserved c =
     let o = c.args.course.now in
     let m = map_of_explored c.args.explored.now in
     let s = state_of o.from in
-    let k = c.args.character in
+    let k = c.args.target in
     let routes = c.args.explored.now.routes.entries in
     let n = c.loop-by.index in
     record {
@@ -39,8 +30,4 @@ loop-by-preserved c =
     }
 
 pub returns-clause-looked : goal.returns-clause-looked
-returns-clause-looked c =
-    let o = c.args.course.now in
-    looked-composed (allows_but c.args.self.now.board o.class o.spared) (map_of_explored c.args.explored.now)
-    (state_of o.from) c.args.character c.args.explored.now.routes.entries c.loop-by.index c.loop-by.nearest
-    (sym c.accent.ensures.value ∙ ap option_copied c.in_default.is) c.loop-by.invariant.looked
+returns-clause-looked c = search (rules, looked-composed)

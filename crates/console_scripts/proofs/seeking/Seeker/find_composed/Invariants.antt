@@ -10,7 +10,7 @@ invariant-loop-by l = record {
   board : l.self.board ≡ l.fn.self.board;
   courses : AreReached l.self.board (map_of_explored l.explored) l.self.courses.entries;
   looked : IsLooked (allows_but l.fn.self.board l.course.class l.course.spared) (map_of_explored l.explored)
-      (state_of l.course.from) l.character false (HasAccentBelow l.index) l.explored.routes.entries l.nearest;
+      (state_of l.course.from) l.target false (HasAccentBelow l.index) l.explored.routes.entries l.nearest;
 }
 
 abbrev pub decreases-loop-by : goal.decreases-loop-by

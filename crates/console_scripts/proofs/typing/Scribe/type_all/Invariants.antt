@@ -1,5 +1,5 @@
 -- the characters before the place were typed
-use Rattle.console_scripts.proofs.Common.{◌≡◌, length, ◌-◌, AreKnown, AreExplorations, state_of}
+use Rattle.console_scripts.proofs.Common.{◌≡◌, None, length, ◌-◌, AreKnown, AreExplorations, state_of}
 use Rattle.console_scripts.specs.Inner.Seeking.{AreReached}
 use Rattle.console_scripts.proofs.Typings.{HaveBeenTyped}
 use Rattle.console_scripts.proofs.typing.Scribe.type_all.Given as goal
@@ -10,7 +10,7 @@ invariant-loop-place l = record {
   board : l.self.seeker.board ≡ l.fn.self.seeker.board;
   reached : AreReached l.self.seeker.board l.map l.self.seeker.courses.entries;
   known : AreKnown l.self.seeker.board l.map l.self.known.entries;
-  typed : HaveBeenTyped l.fn.self.seeker.board l.map l.characters l.place l.keyed.items l.self.events.items
+  typed : HaveBeenTyped None l.fn.self.seeker.board l.map l.characters l.place l.keyed.items l.self.events.items
       (state_of l.from);
 }
 

@@ -1,3 +1,4 @@
+use Rattle.std.proofs.Common.{rules}
 use Rattle.console_scripts.proofs.Common.{CanReturn, origin_in, reverse, state_of, subst, sym}
 use Rattle.keymap_core.specs.Bounds.{IsMap}
 use Rattle.console_scripts.specs.Inner.Seeking.{AreReached}
@@ -33,48 +34,47 @@ pub go-requires-clause-explored : goal.go-requires-clause-explored
 go-requires-clause-explored c = (c.explored_from-explored.ensures c.args.map.now c.in_ok-see.ensures.explorations).0
 
 pub go-requires-clause-route : goal.go-requires-clause-route
-go-requires-clause-route c =
-    let m = c.args.map.now in
-    (chosen-found c.args.self.now.seeker.board m (state_of c.args.from.now) c.args.c c.explored_from-explored.result.now
-    c.in_ok-looked.looked c.in-Some.found (c.explored_from-explored.ensures m c.in_ok-see.ensures.explorations)
-    c.in_ok-looked.ensures.chosen c.in-Some.is).1.route
+go-requires-clause-route c = search (rules, chosen-found)
 
 pub returns-in-Some-clause-leads : goal.returns-in-Some-clause-leads
 returns-in-Some-clause-leads c =
     let m = c.args.map.now in
-    leads-found c.args.self.now.seeker.board m (state_of c.args.from.now) c.args.c c.explored_from-explored.result.now
-    c.in_ok-looked.looked c.in-Some.found (c.explored_from-explored.ensures m c.in_ok-see.ensures.explorations)
-    c.requires.can_return c.in_ok-looked.ensures.chosen c.in-Some.is (reverse c.args.self.now.events.items) _
-    (state_of c.in_ok-next-in-Some.next) c.in_ok-next-in-Some.ensures
+    leads-found c.args.self.now.seeker.board m
+    (state_of c.args.from.now) c.args.target c.explored_from-explored.result.now
+    c.in_ok-choice.choice c.in-Some.chosen (c.explored_from-explored.ensures m c.in_ok-see.ensures.explorations)
+    c.requires.can_return c.in_ok-choice.ensures.chosen c.in-Some.is (reverse c.args.self.now.events.items) _
+    c.in_ok-next-in-Some.next c.in_ok-next-in-Some.ensures
 
-pub returns-then-looked-clause-leads : goal.returns-then-looked-clause-leads
-returns-then-looked-clause-leads c =
+pub returns-then-choice-clause-leads : goal.returns-then-choice-clause-leads
+returns-then-choice-clause-leads c =
     let m = c.args.map.now in
-    leads-none c.args.self.now.seeker.board m (state_of c.args.from.now) c.args.c c.explored_from-explored.result.now
-    c.in_ok-looked.looked (c.explored_from-explored.ensures m c.in_ok-see.ensures.explorations) c.requires.can_return
-    c.in_ok-looked.ensures.chosen c.in-None.is c.if-looked.true
+    leads-none c.args.self.now.seeker.board m
+    (state_of c.args.from.now) c.args.target c.explored_from-explored.result.now
+    c.in_ok-choice.choice (c.explored_from-explored.ensures m c.in_ok-see.ensures.explorations) c.requires.can_return
+    c.in_ok-choice.ensures.chosen c.in-None.is c.if-choice.true
 
 pub returns-clause-leads : goal.returns-clause-leads
 returns-clause-leads c =
     let m = c.args.map.now in
-    leads-many c.args.self.now.seeker.board m (state_of c.args.from.now) c.args.c c.explored_from-explored.result.now
-    c.in_ok-looked.looked (c.explored_from-explored.ensures m c.in_ok-see.ensures.explorations) c.requires.can_return
-    c.in_ok-looked.ensures.chosen c.if-looked.false
+    leads-many c.args.self.now.seeker.board m
+    (state_of c.args.from.now) c.args.target c.explored_from-explored.result.now
+    c.in_ok-choice.choice (c.explored_from-explored.ensures m c.in_ok-see.ensures.explorations) c.requires.can_return
+    c.in_ok-choice.ensures.chosen c.if-choice.false
 
 pub returns-in-Some-clause-reached : goal.returns-in-Some-clause-reached
 returns-in-Some-clause-reached c =
     let v = c.explored_from-explored.ensures c.args.map.now c.in_ok-see.ensures.explorations in
     let seeker = c.choose.new.self in
-    subst (λ n. AreReached seeker.board n seeker.courses.entries) v.1 c.in_ok-looked.ensures.courses
+    subst (λ n. AreReached seeker.board n seeker.courses.entries) v.1 c.in_ok-choice.ensures.courses
 
-pub returns-then-looked-clause-reached : goal.returns-then-looked-clause-reached
-returns-then-looked-clause-reached c =
+pub returns-then-choice-clause-reached : goal.returns-then-choice-clause-reached
+returns-then-choice-clause-reached c =
     let v = c.explored_from-explored.ensures c.args.map.now c.in_ok-see.ensures.explorations in
     let seeker = c.choose.new.self in
-    subst (λ n. AreReached seeker.board n seeker.courses.entries) v.1 c.in_ok-looked.ensures.courses
+    subst (λ n. AreReached seeker.board n seeker.courses.entries) v.1 c.in_ok-choice.ensures.courses
 
 pub returns-clause-reached : goal.returns-clause-reached
 returns-clause-reached c =
     let v = c.explored_from-explored.ensures c.args.map.now c.in_ok-see.ensures.explorations in
     let seeker = c.choose.new.self in
-    subst (λ n. AreReached seeker.board n seeker.courses.entries) v.1 c.in_ok-looked.ensures.courses
+    subst (λ n. AreReached seeker.board n seeker.courses.entries) v.1 c.in_ok-choice.ensures.courses

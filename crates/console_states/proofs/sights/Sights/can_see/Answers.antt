@@ -14,9 +14,7 @@ returns-in-Pair-clause-reachable c =
     λ are e. sees-all c.args.map.now c.args.self.now are c.args.sight (sym (pair-value c) ∙ e)
 
 pub returns-in-Pair-clause-unreachable : goal.returns-in-Pair-clause-unreachable
-returns-in-Pair-clause-unreachable c =
-    λ are e can.
-    true≢false (sym (all-seen c.args.map.now c.args.self.now are c.args.sight can) ∙ sym (pair-value c) ∙ e)
+returns-in-Pair-clause-unreachable c = search (rules, all-seen, pair-value)
 
 pub returns-in_default : goal.returns-in_default
 returns-in_default c =

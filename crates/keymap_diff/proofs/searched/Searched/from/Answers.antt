@@ -1,3 +1,4 @@
+use Rattle.std.proofs.Common.{rules}
 use Rattle.keymap_diff.proofs.Common.{subst, sym}
 use Rattle.keymap_diff.specs.Inner.Showing.{AreShowing}
 use Rattle.keymap_diff.proofs.Clearing.{searched-from}
@@ -9,6 +10,4 @@ first_showing-shown-requires c =
     (sym c.as_slice.ensures.value) c.in_ok-keys.ensures
 
 pub returns-clause-searched : goal.returns-clause-searched
-returns-clause-searched c =
-    searched-from _ _ _ _ _ c.maps.ensures c.start.ensures c.in_ok-met.end c.in_ok-met.ensures c.reach-reach.ensures
-    c.first_showing-shown.ensures
+returns-clause-searched c = search (rules, searched-from)

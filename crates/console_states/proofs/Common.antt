@@ -27,7 +27,7 @@ pub use Rattle.console_states.specs.Moves.{is_held, look_in, map_in, map_of, mov
 pub use Rattle.console_states.specs.Moves.{release_of, releases, script_of_path, start, state_after, state_from}
 pub use Rattle.console_states.specs.Moves.{minding, with_accent, with_holder, with_loads, with_lock_turned}
 pub use Rattle.console_states.specs.Returning.{IsHome, but_scroll}
-pub use Rattle.console_states.specs.Searching.{IsLedTo, AreLedTo}
+pub use Rattle.console_states.specs.Searching.{IsAmong, IsLedTo, AreLedTo, HasLike}
 pub use Rattle.console_states.specs.Searching.{AreAdded, AreDone, AreInOrder, AreMet, AreMetOnce, AreSafe, AreWithin}
 pub use Rattle.console_states.specs.Searching.{Entries, Entry, Grows, HasEnded, HasMovingKeys, IsBegun, IsFrom, IsMetBy}
 pub use Rattle.console_states.specs.Searching.{IsReached, IsStep, IsStuck, IsTrail, IsUnmoving}

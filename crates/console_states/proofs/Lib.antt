@@ -8,6 +8,7 @@ pub mod Going
 pub mod GoingBack
 pub mod Growing
 pub mod KeyLists
+pub mod Likes
 pub mod Looks
 pub mod Minding
 pub mod Nearest

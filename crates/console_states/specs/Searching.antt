@@ -23,8 +23,10 @@ use Rattle.console_states.specs.Moves.{Under, alone, State, start, look_in, IsMa
 use Rattle.console_states.specs.Moves.{IsForgetful, IsMove, IsPath}
 use Rattle.console_states.specs.Moves.{moved, presses_of, presses_along, state_from, IsPathFrom}
 use Rattle.console_states.specs.Moves.{state_after, script_of_path, with_holder, with_lock_turned, with_accent}
+use Rattle.console_states.specs.Moves.{selection_of}
 use Rattle.console_core.specs.Answers.{usable}
 pub use Rattle.console_states.specs.Moves.{state_of}
+use Rattle.console_states.specs.Returning.{IsUnlocked}
 use Rattle.console_states.specs.Sticking.{state_limit}
 use Rattle.console_states.specs.Allowed.{allowed_by}
 
@@ -54,6 +56,16 @@ IsLedTo u s = (path : List Move) × IsPath u path × (state_after u path ≡ s)
 
 abbrev pub AreLedTo : Under → List Held → Type 0
 AreLedTo u states = All (λ h. IsLedTo u (state_of h)) states
+
+-- the state is among these
+abbrev pub IsAmong : List Held → State → Type 0
+IsAmong states s = (h : Held) × Contains states h × (state_of h ≡ s)
+
+-- one of the states has the selection of the state, and like it some lock on or none
+abbrev pub HasLike : List Held → State → Type 0
+HasLike states s =
+    (h : Held) × Contains states h × (selection_of (state_of h) ≡ selection_of s)
+    × (IsUnlocked (state_of h) → IsUnlocked s) × (IsUnlocked s → IsUnlocked (state_of h))
 
 -- the step is a move from the state, by so many presses
 abbrev pub IsStep : Under → State → ℕ → Step → Type 0

@@ -1,7 +1,13 @@
--- moves lead to each of the states, of which there are more and more
-use Rattle.console_states.proofs.Common.{◌≤◌, length, under_of, AreLedTo}
+-- Moves lead to each of the states, which were added to those of before; presses of those that are done lead to states
+-- that are like some of them.
+use Rattle.console_states.proofs.Common.{◌≡◌, ◌<◌, ◌++◌, ℕ, List, get_or, under_of, state_of, AreLedTo, HasLike}
+use Rattle.console_states.proofs.Common.{Held, PressesLead}
 use Rattle.console_states.proofs.few.push_pressed.Given as goal
 
 abbrev pub invariant-loop-place : goal.invariant-loop-place
-invariant-loop-place l =
-    AreLedTo (under_of l.maps) l.states.items × (length l.fn.states.items ≤ length l.states.items)
+invariant-loop-place l = record {
+  led : AreLedTo (under_of l.maps) l.states.items;
+  added : (more : List Held) × (l.states.items ≡ l.fn.states.items ++ more);
+  pressed : (j : ℕ) → j < l.place → (h : Held) → get_or l.fn.states.items j h ≡ h
+      → PressesLead (under_of l.maps) (state_of h) l.key (HasLike l.states.items);
+}

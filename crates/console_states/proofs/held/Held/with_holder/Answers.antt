@@ -8,7 +8,6 @@ use Rattle.console_core.proofs.Shared.{modifier_index-lt}
 use Rattle.console_states.specs.Moves.{key_of, number_of}
 use Rattle.console_states.proofs.Following.{same_mods}
 use Rattle.console_states.proofs.SameStates.{same_states}
-use Rattle.keymap_core.specs.declared.action.Action.TheVariants as act
 use Rattle.console_states.proofs.held.Held.with_holder.Goals as goal
 
 key-back : (o : Option ℕ) → key_of (number_of o) ≡ o

@@ -70,6 +70,7 @@ class End:
 
     def __init__(self, options: argparse.Namespace):
         self.options = options
+        self.down: List[int] = []
 
     def restart(self) -> None:
         """Brings the console to rest, if there is a way, and drops what it typed before."""
@@ -79,10 +80,22 @@ class End:
 
     def send(self, event: Event) -> None:
         """Sends an event, unless the console is no longer there."""
+        word, key = event
+        if word != "repeat":
+            (self.down.append if word == "down" else self.down.remove)(key)
         try:
             self.put(event)
         except OSError:
             self.ended = True
+
+    def let_go(self) -> None:
+        """Releases the keys that are down, and waits until that is sent on: where a program is ended before, they stay
+        down in X."""
+        if self.down and not self.ended:
+            for key in self.down[::-1]:
+                self.send(("up", key))
+            self.typed(b"", SETTLES)
+        self.down.clear()
 
     def put(self, event: Event) -> None:
         raise NotImplementedError

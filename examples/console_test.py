@@ -132,8 +132,7 @@ class Tester:
         if typed == due and not self.end.ended:
             return None
         found = Difference(number, typed, due, self.end.ended)
-        for event in [] if found.ended else sendable(events[:number])[number:]:
-            self.end.send(event)
+        self.end.let_go()
         return found
 
     def test(self, cases: Sequence[Case]) -> int:
@@ -228,6 +227,10 @@ def main() -> int:
     except (Bad, OSError, subprocess.CalledProcessError) as error:
         print(f"console_test: {error}", file=sys.stderr)
         return 2
+    except KeyboardInterrupt:
+        if end:
+            end.let_go()
+        return 130
     finally:
         if end:
             end.stop()

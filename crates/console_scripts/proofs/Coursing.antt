@@ -375,7 +375,8 @@ place-found b m o c e r routes at x f got ends home here (gives, route) found =
     let same : found.entry ≡ x = same_Some found.entry x (sym found.there ∙ here) in
     let may = ends.taken at.key gives.below gives.taken in
     let w : WayTo m a o.accent s c path t at.key =
-    way-to m a o.accent s c path t at.key y got.source.1 (path-also m (is_pressed got.presses) a o.accent also s path is)
+    way-to m a o.accent s c path t at.key y got.source.1
+    (path-also m (is_pressed got.presses) a o.accent also s path is)
     (sym (state-by m (is_pressed got.presses) a o.accent s path) ∙ to)
     (gives.pending ∙ ap is_some ends.same) (has-home (alone m) routes (without_accent t) home route) gives.below
     gives.given.0 seen

@@ -1,5 +1,5 @@
--- Which of the ways that were looked for is picked: the nearer of two, one of a dead key's accents, one that spares keys,
--- and one of the first class that has one.
+-- Which of the ways that were looked for is picked: the nearer of two, one of a dead key's accents, one that spares
+-- keys, and one of the first class that has one.
 use Rattle.console_scripts.proofs.Common.{◌≡◌, ◌+◌, ◌<◌, ◌≤◌, ◌⊎◌, ℕ, Bool, true, false, ◌&&◌, not, Option, Some, None}
 use Rattle.console_scripts.proofs.Common.{refl, subst, sym, ◌∙◌, inl, inr, arith, slice_get, and_parts}
 use Rattle.console_scripts.proofs.Common.{none-some, true≢false, place_last, IfSome, MapValue, State}

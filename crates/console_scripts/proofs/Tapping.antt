@@ -42,14 +42,6 @@ gains-from s n set P e more x = search rules
 
 -- ---- symbols
 
-abbrev is_dead : Symbol → Bool
-is_dead (symbol.Character c) = false
-is_dead (symbol.DeadKey i) = true
-
-abbrev number_in : Symbol → ℕ
-number_in (symbol.Character c) = c
-number_in (symbol.DeadKey i) = i
-
 pub gains-character : (s n d : BTreeSet ℕ) (c : ℕ) → Updates nat_cmp s n c true
     → Gains (HasSymbol (record { characters = s; dead_keys = d }))
     (HasSymbol (record { characters = n; dead_keys = d }))

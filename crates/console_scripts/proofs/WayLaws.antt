@@ -1,4 +1,5 @@
--- Ways to type a character: which presses they are made of, what their events type, and that keys can type what has one.
+-- Ways to type a character: which presses they are made of, what their events type, and that keys can type what has
+-- one.
 use Rattle.std.proofs.Common.{rules}
 use Rattle.console_scripts.proofs.Common.{◌≡◌, ◌<◌, ℕ, Bool, true, false, List, [], ◌∷◌, ◌++◌, Option, Some, None, refl}
 use Rattle.console_scripts.proofs.Common.{ap, subst, sym, ◌∙◌, inl, inr, append-nil, append_assoc, MapValue, Event}

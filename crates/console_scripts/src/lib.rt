@@ -7,8 +7,8 @@
 //! lies behind a turn of a lock that none takes back, and `scroll_off` those that turn the scroll lock off.
 //! `type_characters` makes the events that type characters, in whatever layout a lock selects them, or names the first
 //! character that no keys can type; `ways_of` makes those that type one character, by each key that can. A `Typist`
-//! tells of each character whether keys can type it, and `yield_of` makes the set of all that they can, with the actions
-//! that taps give.
+//! tells of each character whether keys can type it, and `yield_of` makes the set of all that they can, with the
+//! actions that taps give.
 //!
 //! No call takes memory but `find_onward`, `scroll_off`, those of an `Explorer`, `Typist::new`, `yield_of`, `ways_of`
 //! and `type_characters`. These fail for want of memory, the last two besides where more than 65,536 states can be

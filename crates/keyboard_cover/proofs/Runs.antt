@@ -131,7 +131,8 @@ stands-rest m k h at rest = record {
     marks (holding.Mod i) =
         at.agrees.marks (holding.Mod i) ∙ ap (held (holding.Mod i)) none ∙ held-start (holding.Mod i) ∙ sym (rest.on i)
     marks (holding.Lock l) =
-        at.agrees.marks (holding.Lock l) ∙ ap (held (holding.Lock l)) none ∙ held-start (holding.Lock l) ∙ sym (rest.down l)
+        at.agrees.marks (holding.Lock l) ∙ ap (held (holding.Lock l)) none ∙ held-start (holding.Lock l)
+        ∙ sym (rest.down l)
 
 -- no events
 pub new-run : {T : Type 0} (stands : Standing T) (m : MapValue) (a : Presses) (now : T) (down : List Bool)
@@ -157,8 +158,8 @@ same-look looks m on off h k e f =
 
 -- a press may be made behind the run where it may by what the console shows
 pub may-after : {T : Type 0} (looks : LooksAreSelected) (stands : Standing T) (m : MapValue) (a : Presses) (now : T)
-    (down : List Bool) (events : List ScriptEvent) (on : Modifier → Bool) (off : Lock → Bool) (pending : Option ℕ) (k : ℕ)
-    (x : Cell)
+    (down : List Bool) (events : List ScriptEvent) (on : Modifier → Bool) (off : Lock → Bool) (pending : Option ℕ)
+    (k : ℕ) (x : Cell)
     (h : List Event) → IsRun stands m a now down events → IsRest m h
     → ((i : Modifier) → on i ≡ is_on_after (between m m) i (run_events events ++ h))
     → ((l : Lock) → off l ≡ is_locked_after (between m m) l (run_events events ++ h))

@@ -1,5 +1,4 @@
 //! The cases so far, and what each is made with.
-use crate::drafts::Drafts;
 use crate::kind::KeyTable;
 use crate::probes::{Probe, probes_of, tap_probe};
 use crate::run::{Run, Stop};
@@ -7,7 +6,7 @@ use crate::spots::{Spot, go, holding_of, holdings, let_go, spots_of, tap};
 use console_core::Translator;
 use console_states::Presses;
 use keymap_core::{Cell, Holding, KEY_COUNT, KeyCode, KeyMap, Keymap, LOCKS, Lock, key_with};
-use std::alloc::{AllocError, Global};
+use std::alloc::Global;
 
 /// How often a run may try to come to rest.
 const REST_LIMIT: usize = 8;

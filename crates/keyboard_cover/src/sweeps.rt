@@ -10,7 +10,7 @@ use console_core::Translator;
 use console_states::Sight;
 use keymap_core::{ACCENT_LIMIT, Cell, Holding, KEY_COUNT, KeyCode, Keymap, Modifier, key_with};
 use keymap_cover::{Seen, selection};
-use std::alloc::{AllocError, Global};
+use std::alloc::AllocError;
 
 /// The blank and the bases of the accent that weren't seen.
 fn bases_left(plan: &Plan, seen: &Seen, accent: u8) -> Result<Vec<char>, AllocError> {

@@ -308,8 +308,8 @@ walks-off s m later h a b at walk up (taken, off) = search rules
 
 -- what is told of is seen, and then the script goes further, and onward
 pub script-whole : {T : Type 0} (s : Standing T) (m : MapValue) (a b d e : Script T) (starts : List Start)
-    (first second third last : ℕ) → IsUnderWay m s [] a → GoesUnderWay m s a b (ShowsTold m first b) → GoesScrollOff m s b d
-    → GoesToEnd m s d e
+    (first second third last : ℕ) → IsUnderWay m s [] a → GoesUnderWay m s a b (ShowsTold m first b)
+    → GoesScrollOff m s b d → GoesToEnd m s d e
     → second ≡ length b.events.items → third ≡ length d.events.items → last ≡ length e.events.items
     → starts ≡ starts_at first second third last
     → EndsAtRest m e × HoldParts m e.events.items starts first second third

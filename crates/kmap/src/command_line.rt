@@ -33,8 +33,8 @@ enum Word {
     /// An option that takes a text, with the name of the text in between, and that of the file in whose place it stands
     /// last.
     TextOption(&'static str, &'static str, &'static str, &'static str),
-    /// An option that may have a value behind `=`, whose name stands in between; without one it has the value that stands
-    /// last.
+    /// An option that may have a value behind `=`, whose name stands in between; without one it has the value that
+    /// stands last.
     OptionalValue(&'static str, &'static str, &'static str, &'static str),
     /// An option that isn't taken without another one, whose name stands last.
     OptionBeside(&'static str, &'static str, &'static str, &'static str),

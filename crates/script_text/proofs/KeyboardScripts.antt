@@ -1,6 +1,6 @@
 -- What is printed to test a console by its keyboard is a script of its events.
-use Rattle.script_text.proofs.Common.{◌≡◌, ℕ, ◌==◌, true, List, [], ◌++◌, length, map, refl, sym, ap, subst, ◌∙◌, append-nil}
-use Rattle.script_text.proofs.Common.{All, flat_map, reverse, MapValue, LeftOut, IsScript, one_list, has_verdict, codes}
+use Rattle.script_text.proofs.Common.{◌≡◌, ℕ, ◌==◌, true, List, [], ◌++◌, length, map, refl, sym, ap, subst, ◌∙◌}
+use Rattle.script_text.proofs.Common.{append-nil, All, flat_map, reverse, MapValue, LeftOut, IsScript, one_list, has_verdict, codes}
 use Rattle.keyboard_cover.specs.Covering.{Covers, history, verdict_of}
 use Rattle.keyboard_cover.specs.declared.cover.KeyboardCover.{KeyboardCover}
 use Rattle.keymap_cover.specs.ScriptEvents.{events_of}

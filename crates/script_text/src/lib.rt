@@ -10,8 +10,8 @@
 //! same lines.
 //!
 //! Contracts say that each text is the one that is defined for its value (`specs/Cover.antt`, `specs/Keyboard.antt`,
-//! `specs/Diff.antt`). The module `laws` says that it is a script, of exactly these events and of nothing else, whatever its comments tell,
-//! and of that of `diff` what two consoles answer that play it.
+//! `specs/Diff.antt`). The module `laws` says that it is a script, of exactly these events and of nothing else, whatever
+//! its comments tell, and of that of `diff` what two consoles answer that play it.
 #![tactic(auto)]
 
 mod changes;

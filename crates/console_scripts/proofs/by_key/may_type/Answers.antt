@@ -18,4 +18,5 @@ loop-index-preserved c = record {
 pub returns : goal.returns
 returns c =
     λ no. lacks-all c.args.map.now c.args.character c.args.key c.loop-index.index
-    (sym c.accent.ensures.value ∙ ap option_copied c.in_default.is) c.loop-index.invariant.lacks (c.has_made-2.ensures no)
+    (sym c.accent.ensures.value ∙ ap option_copied c.in_default.is) c.loop-index.invariant.lacks
+    (c.has_made-2.ensures no)

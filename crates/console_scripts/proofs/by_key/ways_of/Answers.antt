@@ -44,8 +44,8 @@ loop-code-preserved c =
             subst (λ v. AreWaysBelow b m k (n + 1) v.items) (sym w.ways-is)
             (ways-skip b m k n ways c.loop-code.invariant.ways
             (subst (λ z. HasNoWayFrom z m start (ending_with (Some n) k)) c.loop-code.invariant.board
-            (subst (λ i. HasNoWayFrom c.loop-code.scribe.seeker.board m start (ending_with (Some i) k)) c.key_with-key.ensures
-            none)))
+            (subst (λ i. HasNoWayFrom c.loop-code.scribe.seeker.board m start (ending_with (Some i) k))
+            c.key_with-key.ensures none)))
       ];
     }
 

@@ -123,9 +123,14 @@ class End:
         """Reads up to the words that tell that the console takes keys, if there are some."""
         ready, got, end = (self.options.ready or "").encode(), b"", time.monotonic() + BEGINS
         while ready not in got:
-            if self.ended or time.monotonic() > end:
-                raise Bad(f"it doesn't say {ready!r}, but {got!r}")
+            is_over = self.is_over() or time.monotonic() > end
             got += self.typed(ready)
+            if is_over and ready not in got:
+                raise Bad(f"it doesn't say {ready!r}, but {got!r}")
+
+    def is_over(self) -> bool:
+        """Whether the console takes no more keys."""
+        return self.ended
 
 
 class Program(End):
@@ -144,6 +149,10 @@ class Program(End):
 
     def put(self, event: Event) -> None:
         os.write(self.line, bytes_of(self.options.form, event))
+
+    def is_over(self) -> bool:
+        # What it began may still have the terminal.
+        return self.ended or self.process is not None and self.process.poll() is not None
 
     def stop(self) -> None:
         if self.process:

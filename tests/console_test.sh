@@ -380,6 +380,7 @@ if is_there python3 && is_there "${CC:-cc}"; then
     says 'bad: no case' bad -- ./console script "$keymap"
     says "[Errno 2] No such file or directory: 'none'" none -- ./console script "$keymap"
     says "[Errno 2] No such file or directory: './none'" cases -- ./none
+    says "it doesn't say b'ready', but b''" --wait 1 --ready ready cases -- sh -c 'sleep 60 &'
     says "[Errno 2] No such file or directory" --qmp none --line none cases
     for words in '' '--qmp qmp' '--line typed' '--uinput' '--qmp qmp --line typed --as set1' \
         '--uinput --line typed -- cat' '--restart true -- ./console'; do
